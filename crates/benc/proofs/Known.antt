@@ -1,0 +1,56 @@
+-- Known bytes over several calls.
+use Rattle.std.proofs.Common.{◌≡◌, ◌++◌, ℕ, List, [], refl, ap, sym, ◌∙◌, Option, Some, None, subst, length, ◌≤◌, arith, Result, Ok, Err, OnErr}
+use Rattle.std.proofs.lemmas.List.{append_assoc, append-nil, length-append}
+use Rattle.std.proofs.Math.Seq.{take-length}
+use Rattle.benc.specs.Device.{AppendsBeginning}
+use Rattle.std.specs.Io.KnownBytes.{Appends, Consumes, Keeps, IsAtEnd}
+
+pub Appends-append : (a b c : Option (List ℕ)) (xs ys : List ℕ) → Appends a b xs → Appends b c ys → Appends a c (xs ++ ys)
+Appends-append None b c xs ys p q = tt
+Appends-append (Some a) None c xs ys p q = absurd p
+Appends-append (Some a) (Some b) None xs ys p q = absurd q
+Appends-append (Some a) (Some b) (Some c) xs ys p q = q ∙ ap (λ t. t ++ ys) p ∙ append_assoc a xs ys
+
+pub Appends-keeps : (a b c : Option (List ℕ)) (xs : List ℕ) → Appends a b xs → Keeps b c → Appends a c xs
+Appends-keeps None b c xs p q = tt
+Appends-keeps (Some a) None c xs p q = absurd p
+Appends-keeps (Some a) (Some b) None xs p q = absurd q
+Appends-keeps (Some a) (Some b) (Some c) xs p q = q ∙ p
+
+pub Appends_nothing : (a : Option (List ℕ)) → Appends a a []
+Appends_nothing None = tt
+Appends_nothing (Some a) = sym (append-nil a)
+
+pub Consumes-append : (a b c : Option (List ℕ)) (xs ys : List ℕ) → Consumes a b xs → Consumes b c ys → Consumes a c (xs ++ ys)
+Consumes-append None b c xs ys p q = tt
+Consumes-append (Some a) None c xs ys p q = absurd p
+Consumes-append (Some a) (Some b) None xs ys p q = absurd q
+Consumes-append (Some a) (Some b) (Some c) xs ys p q = p ∙ ap (λ t. xs ++ t) q ∙ sym (append_assoc xs ys c)
+
+pub Consumes_nothing : (a : Option (List ℕ)) → Consumes a a []
+Consumes_nothing None = tt
+Consumes_nothing (Some a) = refl
+
+-- what a reader whose bytes are known gave before it ended is all of them
+pub Consumes_all : (a b : Option (List ℕ)) (xs : List ℕ) (file : List ℕ) → a ≡ Some file → Consumes a b xs → IsAtEnd b → file ≡ xs
+Consumes_all None b xs file e p q = let no : ⊥ = cc in absurd no
+Consumes_all (Some a) None xs file e p q = absurd p
+Consumes_all (Some a) (Some b) xs file e p q =
+    let is : a ≡ file = cc in sym is ∙ p ∙ ap (λ t. xs ++ t) q ∙ append-nil xs
+
+-- and it is no longer than they are
+pub Consumes_part : (a b : Option (List ℕ)) (xs : List ℕ) (file : List ℕ) → a ≡ Some file → Consumes a b xs → length xs ≤ length file
+Consumes_part None b xs file e p = let no : ⊥ = cc in absurd no
+Consumes_part (Some a) None xs file e p = absurd p
+Consumes_part (Some a) (Some b) xs file e p =
+    let is : a ≡ file = cc in
+    let len : length file ≡ length (xs ++ b) = ap length (sym is ∙ p) in omega (arith, len, length-append xs b)
+
+-- all the bytes are a beginning of them
+pub Appends_whole : (a b c : Option (List ℕ)) (xs : List ℕ) → Appends a b xs → Keeps b c → AppendsBeginning a c xs
+Appends_whole a b c xs p q = (length xs, subst (Appends a c) (sym (take-length xs)) (Appends-keeps a b c xs p q))
+
+-- a fact that holds anyway
+pub OnErr_anyway : {A E : Type 0} (P : Type 0) (r : Result A E) → P → OnErr r P
+OnErr_anyway P (Ok x) p = tt
+OnErr_anyway P (Err e) p = p

@@ -1,0 +1,2 @@
+-- What contracts of devices and of bencoding cite.
+pub mod Device

@@ -1,0 +1,4 @@
+-- What contracts of torrents cite.
+pub mod Description
+pub mod Seen
+pub mod Sound

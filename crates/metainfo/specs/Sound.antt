@@ -1,0 +1,31 @@
+-- What holds of each opened torrent, and what sessions stand on.
+use Rattle.std.specs.Prelude.{◌≡◌, ℕ, ◌+◌, ◌-◌, ◌^◌, ◌<◌, ◌≤◌, List, [], ◌++◌, length, replicate, Some, slice_get, ◌/◌}
+use Rattle.hashtree.specs.Tree.{block_count, height, tree, zero_hash}
+use Rattle.metainfo.specs.Description.{Description, FileEntry, TreeEntry}
+
+-- the layer in which one hash covers this many bytes, a power of two of blocks
+abbrev pub piece_layer : ℕ → ℕ
+piece_layer piece_length = height (block_count piece_length)
+
+-- the root over a layer, filled up with the zero hash of that layer
+abbrev pub root_over : ℕ → ℕ → List (List ℕ) → List ℕ
+root_over h layer xs = tree (h - layer) (xs ++ replicate (2 ^ (h - layer) - length xs) (zero_hash layer))
+
+-- a tree's length and root are in range, and its piece layer leads to its root
+pub record IsSoundTree (piece_length : ℕ) (t : TreeEntry) : Type 0 where
+  pub some : 0 < t.length
+  pub bound : t.length ≤ 2 ^ 46
+  pub root_length : length t.root ≡ 32
+  pub hash_lengths : (i : ℕ) (h : List ℕ) → slice_get t.layer i ≡ Some h → length h ≡ 32
+  pub no_layer : t.length ≤ piece_length → t.layer ≡ []
+  pub layer_length : piece_length < t.length → length t.layer ≡ (t.length + (piece_length - 1)) / piece_length
+  pub layer_root : piece_length < t.length → root_over (height (block_count t.length)) (piece_layer piece_length) t.layer ≡ t.root
+
+-- a file that is not empty has a tree of its length, an empty one has none
+pub record IsSoundFile (t : Description) (f : FileEntry) : Type 0 where
+  pub tree_there : (n : ℕ) → f.tree ≡ Some n → (e : TreeEntry) × (slice_get t.trees n ≡ Some e) × (e.length ≡ f.length)
+
+pub record IsSound (t : Description) : Type 0 where
+  pub roots_differ : (n k : ℕ) (a b : TreeEntry) → slice_get t.trees n ≡ Some a → slice_get t.trees k ≡ Some b → a.root ≡ b.root → n ≡ k
+  pub trees : (n : ℕ) (e : TreeEntry) → slice_get t.trees n ≡ Some e → IsSoundTree t.piece_length e
+  pub files : (n : ℕ) (f : FileEntry) → slice_get t.files n ≡ Some f → IsSoundFile t f

@@ -1,0 +1,8 @@
+//! Torrents of version 2 and hybrids (BEP 52, BEP 3, BEP 47).
+#![tactic(auto)]
+
+mod path;
+mod torrent;
+
+pub use path::Path;
+pub use torrent::{File, Torrent, TreeInfo, V1};

@@ -1,0 +1,37 @@
+//! The path of a file: its components.
+
+ghost use Rattle.std.specs.Prelude.{◌≡◌, ℕ, List, map};
+
+use std::marker::Model;
+
+#[derive(Drop)]
+pub struct Path<'a> {
+    parts: Vec<&'a str>,
+}
+
+impl<'a> Model for Path<'a> {
+    ghost Value = { List (List ℕ) };
+
+    ghost view = { λ p. map (λ s. s.now) p.parts.items };
+}
+
+impl<'a> Path<'a> {
+    pub fn from_parts(parts: Vec<&'a str>) -> Path<'a>
+        ensures { result ≡ map (λ s. s.now) parts.entry.items }
+    {
+        Path { parts }
+    }
+
+    pub fn parts(&self) -> &[&'a str]
+        ensures { map (λ s. s.now) result.now ≡ self.now }
+    {
+        &self.parts
+    }
+
+    pub fn into_parts(self) -> Vec<&'a str>
+        ensures { map (λ s. s.now) result.items ≡ self.entry }
+    {
+        let Path { parts } = self;
+        parts
+    }
+}

@@ -1,0 +1,1 @@
+-- What contracts of frames and messages cite.
