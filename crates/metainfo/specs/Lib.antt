@@ -1,4 +1,5 @@
 -- What contracts of torrents cite.
 pub mod Description
+pub mod Names
 pub mod Seen
 pub mod Sound

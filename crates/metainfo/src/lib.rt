@@ -2,7 +2,9 @@
 #![tactic(auto)]
 
 mod path;
+mod refusal;
 mod torrent;
 
 pub use path::Path;
+pub use refusal::{Key, Refusal};
 pub use torrent::{File, Torrent, TreeInfo, V1};
