@@ -1,1 +1,4 @@
 -- What contracts of frames and messages cite.
+pub mod Frames
+pub mod Meaning
+pub mod Reading

@@ -1,0 +1,4 @@
+pub mod FourBytes
+pub mod Giving
+pub mod Partial
+pub mod Stopping
