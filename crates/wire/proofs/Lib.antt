@@ -1,3 +1,6 @@
+pub mod Bodies
+pub mod Chunks
+pub mod Fields
 pub mod FourBytes
 pub mod Giving
 pub mod Partial

@@ -4,8 +4,11 @@
 mod bytes;
 mod fault;
 mod frame;
+mod hashes;
+mod kind;
 mod message;
 mod number;
+mod parse;
 
 pub use fault::FrameFault;
 pub use frame::Frame;

@@ -1,5 +1,4 @@
-use Rattle.std.proofs.Common.{◌≤◌, ◌-◌, ◌+◌, length, take, arith, subst, sym, ◌∙◌, ap, ◌≡◌}
-use Rattle.std.proofs.lemmas.List.{length-drop}
+use Rattle.std.proofs.Common.{◌≤◌, length, subst, sym, ◌∙◌}
 use Rattle.wire.specs.Reading.{Gave}
 use Rattle.wire.proofs.Giving.{Gave-trans, Gave-take, take-put_more, le-length-put}
 use Rattle.wire.proofs.bytes.read_exact.Goals as goal
