@@ -1,5 +1,13 @@
 -- What contracts of torrents cite.
 pub mod Description
+pub mod Describes
+pub mod Dictionary
+pub mod FileTree
 pub mod Names
+pub mod PieceLayers
+pub mod Places
+pub mod Refusals
 pub mod Seen
 pub mod Sound
+pub mod Stream
+pub mod Trees
