@@ -2,3 +2,5 @@
 pub mod Description
 pub mod Seen
 pub mod Sound
+pub mod Cuts
+pub mod Feeding

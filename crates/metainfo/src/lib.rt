@@ -3,6 +3,8 @@
 
 mod path;
 mod torrent;
+mod v1_feed;
 
 pub use path::Path;
 pub use torrent::{File, Torrent, TreeInfo, V1};
+pub use v1_feed::V1Feed;
