@@ -1,5 +1,6 @@
 -- What contracts of torrents cite.
 pub mod Description
+pub mod Names
 pub mod Seen
 pub mod Sound
 pub mod Cuts

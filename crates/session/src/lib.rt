@@ -1,0 +1,11 @@
+//! What a client knows of the hash trees of a torrent (BEP 52), and what it makes of the messages that peers send.
+#![tactic(auto)]
+
+mod claims;
+pub mod laws;
+pub mod node_map;
+mod refusal;
+mod verdict;
+
+pub use refusal::{BlockRefusal, HashRefusal};
+pub use verdict::Verdict;
