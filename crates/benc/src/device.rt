@@ -2,12 +2,46 @@
 ghost use Rattle.std.specs.Prelude.{◌≡◌, ℕ, ◌+◌, ◌-◌, ◌%◌, ◌^◌, ◌<◌, ◌≤◌, List, length, take, Option, None, MatchResult, IfOk, OnOk, OnErr, Bool, true};
 ghost use Rattle.std.specs.Io.KnownBytes.{Appends, Keeps, ReadConsumes, WriteAppends};
 ghost use Rattle.benc.specs.Device.{AppendsBeginning, CountsFault};
+ghost use Rattle.benc.specs.declared.device.WriteFault.TheVariants.{Write};
 
+use std::error::Error;
+use std::fmt;
 use std::io::{Read, Write};
 
 /// A device failed.
-#[derive(Debug, Drop)]
+#[derive(Clone, Copy, Debug, PartialEq, Eq)]
 pub struct DeviceFault;
+
+impl fmt::Display for DeviceFault {
+    fn fmt<W: fmt::Write>(&self, f: &mut fmt::Formatter<W>) -> fmt::Result {
+        write!(f, "the device failed")
+    }
+}
+
+impl Error for DeviceFault {}
+
+/// A text did not go out whole.
+#[derive(Clone, Copy, Debug, PartialEq, Eq)]
+pub enum WriteFault {
+    /// The sink failed.
+    Write,
+}
+
+impl fmt::Display for WriteFault {
+    fn fmt<W: fmt::Write>(&self, f: &mut fmt::Formatter<W>) -> fmt::Result {
+        write!(f, "cannot write")
+    }
+}
+
+impl Error for WriteFault {}
+
+impl From<DeviceFault> for WriteFault {
+    ghost from_gives = { λ _ e. e ≡ Write };
+
+    fn from(_fault: DeviceFault) -> WriteFault {
+        WriteFault::Write
+    }
+}
 
 /// A device that bytes come from.
 pub trait Source {
