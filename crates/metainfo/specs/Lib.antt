@@ -1,7 +1,9 @@
 -- What contracts of torrents cite.
-pub mod Description
+pub mod Cuts
 pub mod Describes
+pub mod Description
 pub mod Dictionary
+pub mod Feeding
 pub mod FileTree
 pub mod Names
 pub mod PieceLayers
