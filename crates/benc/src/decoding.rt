@@ -1,11 +1,11 @@
 //! Decoding: the value that bytes spell, or their first fault.
 ghost use Rattle.std.specs.Prelude.{◌≡◌, ◌≢◌, ◌≤◌, ◌++◌, List, ℕ, length, take, IfOk, IfErr, IfSome, MatchResult};
 ghost use Rattle.benc.specs.declared.fault.FaultKind.{FaultKind};
-ghost use Rattle.benc.specs.Fails.{Stops, Fails};
+ghost use Rattle.benc.specs.Fails.{Stops, Fails, Opens};
 ghost use Rattle.std.specs.Option.{option_copied, option_map};
-ghost use Rattle.benc.specs.Lookup.{get};
+ghost use Rattle.benc.specs.Lookup.{get, StandsUnder};
 ghost use Rattle.benc.specs.Spelling.{Spells};
-ghost use Rattle.benc.specs.Text.{spelling};
+ghost use Rattle.benc.specs.Text.{spelling, IsCanonical};
 ghost use Rattle.benc.specs.Value.{Bencode};
 ghost use Rattle.benc.specs.View.{view};
 
@@ -22,6 +22,7 @@ pub fn decode_front<'a>(alloc: Global, input: &'a [u8]) -> Result<(Value<'a>, us
     ensures used { IfOk result (λ x. x.1 ≤ length input.now) }
     ensures found { IfOk result (λ x. Spells (view x.0) (take x.1 input.now)) }
     ensures fault { IfErr result (λ f. f.kind ≢ FaultKind.NoMemory → Stops input.now f.kind f.offset) }
+    ensures memory { IfErr result (λ f. f.kind ≡ FaultKind.NoMemory → Opens input.now f.offset) }
     ensures only { (v : Bencode) (front rest : List ℕ) → input.now ≡ front ++ rest → Spells v front
         → MatchResult result (λ x. (view x.0 ≡ v) × (x.1 ≡ length front)) (λ f. f.kind ≡ FaultKind.NoMemory) }
 {
@@ -33,7 +34,13 @@ pub fn decode_front<'a>(alloc: Global, input: &'a [u8]) -> Result<(Value<'a>, us
 pub fn decode<'a>(alloc: Global, input: &'a [u8]) -> Result<Value<'a>, Fault>
     ensures found { IfOk result (λ v. Spells (view v) input.now) }
     ensures fault { IfErr result (λ f. f.kind ≢ FaultKind.NoMemory → Fails input.now f.kind f.offset) }
+    ensures memory { IfErr result (λ f. f.kind ≡ FaultKind.NoMemory → Opens input.now f.offset) }
     ensures only { (v : Bencode) → Spells v input.now → MatchResult result (λ w. view w ≡ v) (λ f. f.kind ≡ FaultKind.NoMemory) }
+    // It answers the one fault that the input has.
+    ensures first { (kind : FaultKind) (offset : ℕ) → Fails input.now kind offset
+        → MatchResult result (λ _. ⊥) (λ f. f.kind ≢ FaultKind.NoMemory → (f.kind ≡ kind) × (f.offset ≡ offset)) }
+    // What `encode` writes of a value gives that value.
+    ensures encoded { (v : Bencode) → IsCanonical v → input.now ≡ spelling v → MatchResult result (λ w. view w ≡ v) (λ f. f.kind ≡ FaultKind.NoMemory) }
 {
     let (v, _) = read_whole(alloc, input, None)?;
     Ok(v)
@@ -48,7 +55,10 @@ pub fn decode_with_span<'a>(
 ) -> Result<(Value<'a>, Option<&'a [u8]>), Fault>
     ensures found { IfOk result (λ x. Spells (view x.0) input.now) }
     ensures span { IfOk result (λ x. option_copied x.1 ≡ option_map spelling (get key.now (view x.0))) }
+    // The bytes stand in the input, behind the key.
+    ensures stands { IfOk result (λ x. IfSome (option_copied x.1) (StandsUnder input.now key.now)) }
     ensures fault { IfErr result (λ f. f.kind ≢ FaultKind.NoMemory → Fails input.now f.kind f.offset) }
+    ensures memory { IfErr result (λ f. f.kind ≡ FaultKind.NoMemory → Opens input.now f.offset) }
     ensures only { (v : Bencode) → Spells v input.now → MatchResult result (λ x. view x.0 ≡ v) (λ f. f.kind ≡ FaultKind.NoMemory) }
 {
     read_whole(alloc, input, Some(key))
@@ -58,7 +68,10 @@ pub fn decode_with_span<'a>(
 /// spells no dictionary, or one that lacks the key. The faults are those of `decode`.
 pub fn span<'a>(alloc: Global, input: &'a [u8], key: &[u8]) -> Result<Option<&'a [u8]>, Fault>
     ensures found { IfOk result (λ s. (v : Bencode) × Spells v input.now × (option_copied s ≡ option_map spelling (get key.now v))) }
+    // The bytes stand in the input, behind the key.
+    ensures stands { IfOk result (λ s. IfSome (option_copied s) (StandsUnder input.now key.now)) }
     ensures fault { IfErr result (λ f. f.kind ≢ FaultKind.NoMemory → Fails input.now f.kind f.offset) }
+    ensures memory { IfErr result (λ f. f.kind ≡ FaultKind.NoMemory → Opens input.now f.offset) }
     ensures only { (v : Bencode) → Spells v input.now
         → MatchResult result (λ s. option_copied s ≡ option_map spelling (get key.now v)) (λ f. f.kind ≡ FaultKind.NoMemory) }
 {
@@ -73,7 +86,9 @@ fn read_whole<'a>(
 ) -> Result<(Value<'a>, Option<&'a [u8]>), Fault>
     ensures found { IfOk result (λ x. Spells (view x.0) input.now) }
     ensures span { IfOk result (λ x. IfSome (option_copied asked.entry) (λ key. option_copied x.1 ≡ option_map spelling (get key (view x.0)))) }
+    ensures stands { IfOk result (λ x. IfSome (option_copied asked.entry) (λ key. IfSome (option_copied x.1) (StandsUnder input.now key))) }
     ensures fault { IfErr result (λ f. f.kind ≢ FaultKind.NoMemory → Fails input.now f.kind f.offset) }
+    ensures memory { IfErr result (λ f. f.kind ≡ FaultKind.NoMemory → Opens input.now f.offset) }
     ensures only { (v : Bencode) → Spells v input.now → MatchResult result (λ x. view x.0 ≡ v) (λ f. f.kind ≡ FaultKind.NoMemory) }
 {
     let (v, span, used) = read_front(alloc, input, asked)?;
@@ -95,6 +110,7 @@ fn read_front<'a>(
     ensures found { IfOk result (λ x. Spells (view x.0) (take x.2 input.now)) }
     ensures span { IfOk result (λ x. IfSome (option_copied asked.entry) (λ key. option_copied x.1 ≡ option_map spelling (get key (view x.0)))) }
     ensures fault { IfErr result (λ f. f.kind ≢ FaultKind.NoMemory → Stops input.now f.kind f.offset) }
+    ensures memory { IfErr result (λ f. f.kind ≡ FaultKind.NoMemory → Opens input.now f.offset) }
     ensures only { (v : Bencode) (front rest : List ℕ) → input.now ≡ front ++ rest → Spells v front
         → MatchResult result (λ x. (view x.0 ≡ v) × (x.2 ≡ length front)) (λ f. f.kind ≡ FaultKind.NoMemory) }
 {
