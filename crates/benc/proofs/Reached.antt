@@ -25,9 +25,15 @@ pairs_grow room before [] x k v done front seen s small above t =
     (front, [], ap (λ d. d ++ (string k ++ front)) s ∙ ap (λ b. string k ++ b) (sym (append-nil front)), small, above, t, refl)
 pairs_grow room before (p ∷ ps) x k v done front seen s small above t =
     let name = string (pair_view p).0 in
-    let more = string k ++ front in
-    (s.0, s.1 ++ more, ap (λ d. d ++ more) s.2 ∙ append_assoc name (s.0 ++ s.1) more ∙ ap (λ b. name ++ b) (append_assoc s.0 s.1 more), s.3, s.4, s.5,
-      pairs_grow room (Some (pair_view p).0) ps x k v s.1 front seen s.6 small above t)
+    let more = string k ++ front in (
+      s.0,
+      s.1 ++ more,
+      ap (λ d. d ++ more) s.2 ∙ append_assoc name (s.0 ++ s.1) more ∙ ap (λ b. name ++ b) (append_assoc s.0 s.1 more),
+      s.3,
+      s.4,
+      s.5,
+      pairs_grow room (Some (pair_view p).0) ps x k v s.1 front seen s.6 small above t,
+    )
 
 pub last_grows : (before : Option (List ℕ)) (ps : List Pair) (x : Pair) → last_key before (pairs_view (ps ++ x ∷ [])) ≡ Some (pair_view x).0
 last_grows before [] x = refl
@@ -45,34 +51,65 @@ reaches_here room bytes start some mark e = ([], a_value, room, [], sym e, (refl
 pub reaches_item : (room : ℕ) (bytes rest start : List ℕ) → 0 < room → bytes ≡ 108 ∷ rest → ReachesItem (room - 1) rest start → Reaches room bytes start
 reaches_item room bytes rest start some e (vs, inner, behind, parts, spelled, (levels, due, left, front, more, begun, takes, free, mark)) =
     by_level levels begun
-    where
-      full : room ≡ suc (room - 1)
-      full = omega arith
+  where
+    full : room ≡ suc (room - 1)
+    full = omega arith
 
-      by_level : (ls : List Level) → Begun (room - 1) ls front due left → Reaches room bytes start
-      by_level [] b =
-          (in_list vs ∷ [], a_value_or_end, room - 1, 108 ∷ inner,
-            e ∙ ap (λ t. 108 ∷ t) (parts ∙ ap (λ t. inner ++ t) (more ∙ ap (λ t. t ++ start) b.0)), (room - 1, full, (inner, refl, spelled), refl, refl), tt, subst (λ n. 0 < n) b.2 free, mark)
-      by_level (l ∷ ls) b =
-          (in_list vs ∷ l ∷ ls, due, left, (108 ∷ inner) ++ front,
-            e ∙ ap (λ t. 108 ∷ t) (parts ∙ ap (λ t. inner ++ t) more ∙ sym (append_assoc inner front start)), (room - 1, 108 ∷ inner, front, full, refl, (inner, refl, spelled), tt, b), takes, free, mark)
+    by_level : (ls : List Level) → Begun (room - 1) ls front due left → Reaches room bytes start
+    by_level [] b = (
+      in_list vs ∷ [],
+      a_value_or_end,
+      room - 1,
+      108 ∷ inner,
+      e ∙ ap (λ t. 108 ∷ t) (parts ∙ ap (λ t. inner ++ t) (more ∙ ap (λ t. t ++ start) b.0)),
+      (room - 1, full, (inner, refl, spelled), refl, refl),
+      tt,
+      subst (λ n. 0 < n) b.2 free,
+      mark,
+    )
+    by_level (l ∷ ls) b = (
+      in_list vs ∷ l ∷ ls,
+      due,
+      left,
+      (108 ∷ inner) ++ front,
+      e ∙ ap (λ t. 108 ∷ t) (parts ∙ ap (λ t. inner ++ t) more ∙ sym (append_assoc inner front start)),
+      (room - 1, 108 ∷ inner, front, full, refl, (inner, refl, spelled), tt, b),
+      takes,
+      free,
+      mark,
+    )
 
 -- one in a dictionary
 pub reaches_pair : (room : ℕ) (bytes rest start : List ℕ) → 0 < room → bytes ≡ 100 ∷ rest → ReachesPair (room - 1) rest start → Reaches room bytes start
 reaches_pair room bytes rest start some e (ps, k, inner, behind, parts, spelled, small, above, (levels, due, left, front, more, begun, takes, free, mark)) =
     by_level levels begun
-    where
-      full : room ≡ suc (room - 1)
-      full = omega arith
+  where
+    full : room ≡ suc (room - 1)
+    full = omega arith
 
-      whole : (t : List ℕ) → rest ≡ inner ++ (string k ++ t) → bytes ≡ (100 ∷ (inner ++ string k)) ++ t
-      whole t p = e ∙ ap (λ b. 100 ∷ b) (p ∙ sym (append_assoc inner (string k) t))
+    whole : (t : List ℕ) → rest ≡ inner ++ (string k ++ t) → bytes ≡ (100 ∷ (inner ++ string k)) ++ t
+    whole t p = e ∙ ap (λ b. 100 ∷ b) (p ∙ sym (append_assoc inner (string k) t))
 
-      by_level : (ls : List Level) → Begun (room - 1) ls front due left → Reaches room bytes start
-      by_level [] b =
-          (at_value ps k ∷ [], a_value, room - 1, 100 ∷ (inner ++ string k),
-            whole start (parts ∙ ap (λ t. inner ++ (string k ++ t)) (more ∙ ap (λ t. t ++ start) b.0)), (room - 1, full, (inner, refl, spelled, small, above), refl, refl), tt, subst (λ n. 0 < n) b.2 free, mark)
-      by_level (l ∷ ls) b =
-          (at_value ps k ∷ l ∷ ls, due, left, (100 ∷ (inner ++ string k)) ++ front,
-            whole (front ++ start) (parts ∙ ap (λ t. inner ++ (string k ++ t)) more) ∙ sym (append_assoc (100 ∷ (inner ++ string k)) front start),
-            (room - 1, 100 ∷ (inner ++ string k), front, full, refl, (inner, refl, spelled, small, above), tt, b), takes, free, mark)
+    by_level : (ls : List Level) → Begun (room - 1) ls front due left → Reaches room bytes start
+    by_level [] b = (
+      at_value ps k ∷ [],
+      a_value,
+      room - 1,
+      100 ∷ (inner ++ string k),
+      whole start (parts ∙ ap (λ t. inner ++ (string k ++ t)) (more ∙ ap (λ t. t ++ start) b.0)),
+      (room - 1, full, (inner, refl, spelled, small, above), refl, refl),
+      tt,
+      subst (λ n. 0 < n) b.2 free,
+      mark,
+    )
+    by_level (l ∷ ls) b = (
+      at_value ps k ∷ l ∷ ls,
+      due,
+      left,
+      (100 ∷ (inner ++ string k)) ++ front,
+      whole (front ++ start) (parts ∙ ap (λ t. inner ++ (string k ++ t)) more) ∙ sym (append_assoc (100 ∷ (inner ++ string k)) front start),
+      (room - 1, 100 ∷ (inner ++ string k), front, full, refl, (inner, refl, spelled, small, above), tt, b),
+      takes,
+      free,
+      mark,
+    )

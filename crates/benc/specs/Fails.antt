@@ -1,4 +1,4 @@
--- The first fault of an input: which, and where.
+-- The first fault of an input: which, and where (this project's profile of BEP 3).
 use Rattle.std.specs.Prelude.{◌≡◌, ℕ, suc, ◌-◌, ◌<◌, ◌^◌, ◌==◌, ◌||◌, if◌then◌else◌, List, [], ◌∷◌, ◌++◌, length, Option, Some, None, Result, Ok, Err, ◌⊎◌}
 use Rattle.benc.specs.Value.{Bencode, Items, Pairs, no_pairs, pair}
 use Rattle.benc.specs.Spelling.{max_open, string, IsAbove, SpelledItems, SpelledPairs, Spells}

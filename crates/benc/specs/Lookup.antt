@@ -1,4 +1,4 @@
--- Looking into dictionaries.
+-- Looking into dictionaries (BEP 3, "bencoding").
 use Rattle.std.specs.Prelude.{◌≡◌, ℕ, List, ◌++◌, Option, Some, None, if◌then◌else◌}
 use Rattle.std.specs.Str.{bytes_eq}
 use Rattle.benc.specs.Spelling.{string}

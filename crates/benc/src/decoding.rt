@@ -1,5 +1,5 @@
-//! Decoding: the value that bytes spell, or their first fault.
-ghost use Rattle.std.specs.Prelude.{◌≡◌, ◌≢◌, ◌≤◌, ◌++◌, List, ℕ, length, take, IfOk, IfErr, IfSome, MatchResult};
+//! Decoding: the value that bytes spell, or their first fault (BEP 3, "bencoding", canonical form alone).
+ghost use Rattle.std.specs.Prelude.{◌≡◌, ◌≢◌, ◌≤◌, ◌++◌, ◌⊎◌, List, ℕ, length, take, IfOk, IfErr, IfSome, MatchResult};
 ghost use Rattle.benc.specs.declared.fault.FaultKind.{FaultKind};
 ghost use Rattle.benc.specs.Fails.{Stops, Fails, Opens};
 ghost use Rattle.std.specs.Option.{option_copied, option_map};
@@ -30,7 +30,11 @@ pub fn decode_front<'a>(alloc: Global, input: &'a [u8]) -> Result<(Value<'a>, us
     Ok((v, used))
 }
 
-/// The value that the whole input spells.
+/// The value that the whole input spells, over the input's own bytes.
+///
+/// Items are read from left to right and the first fault is told, with the offset in bytes at which the failing item
+/// starts; `FaultKind` says when each comes. `NoMemory` comes only where a list or dictionary could not grow, and tells
+/// where that one starts. After a fault there is no value. The time is linear in the input's length.
 pub fn decode<'a>(alloc: Global, input: &'a [u8]) -> Result<Value<'a>, Fault>
     ensures found { IfOk result (λ v. Spells (view v) input.now) }
     ensures fault { IfErr result (λ f. f.kind ≢ FaultKind.NoMemory → Fails input.now f.kind f.offset) }
@@ -126,3 +130,18 @@ fn read_front<'a>(
         }),
     }
 }
+
+/// Each input spells a value, or has a fault.
+pub fn spells_or_fails()
+    ensures { (b : List ℕ) → ((v : Bencode) × Spells v b) ⊎ ((kind : FaultKind) × (offset : ℕ) × Fails b kind offset) }
+{}
+
+/// None does both.
+pub fn spelling_has_no_fault()
+    ensures { (b : List ℕ) (v : Bencode) (kind : FaultKind) (offset : ℕ) → Spells v b → Fails b kind offset → ⊥ }
+{}
+
+/// And none has two faults.
+pub fn fault_is_one()
+    ensures { (b : List ℕ) (kind other : FaultKind) (offset place : ℕ) → Fails b kind offset → Fails b other place → (kind ≡ other) × (offset ≡ place) }
+{}

@@ -182,7 +182,7 @@ pairs-pairs-preserved t c =
         done.0 ++ mine,
         done.1 ∙ ap (λ x. done.0 ++ x) (name.2 ∙ ap (λ x. string k.0.now ++ x) took.1 ∙ sym (append_assoc (string k.0.now) took.0 after)) ∙ sym (append_assoc done.0 mine after),
         subst (λ ps. SpelledPairs c.args.room None (pairs_view ps) (done.0 ++ mine)) (sym pushed)
-        (pairs_grow c.args.room None l.found.items x k.0.now (view v) done.0 took.0 (view-Pair k.0 v) done.2 name.0 (subst (λ b. IsAbove k.0.now b) done.3 name.1) took.2),
+            (pairs_grow c.args.room None l.found.items x k.0.now (view v) done.0 took.0 (view-Pair k.0 v) done.2 name.0 (subst (λ b. IsAbove k.0.now b) done.3 name.1) took.2),
         sym (ap (λ ps. last_key None (pairs_view ps)) pushed ∙ last_grows None l.found.items x ∙ ap (λ (y : Seen). Some y.0) (view-Pair k.0 v)),
       );
       span = span_push (option_copied c.args.asked) l.span c.if_asked.result c.or-span.result l.found.items c.push.new.self.items x k.0.now (view v) given pushed (view-Pair k.0 v) l.invariant.span c.if_asked.ensures whole c.or-span.ensures;
