@@ -65,7 +65,6 @@ fn is_in_range(n: i64) -> bool
     ensures always { IsTrue result }
     ensures range { FitsSigned w64 n }
 {
-    let _number = n;
     true
 }
 
