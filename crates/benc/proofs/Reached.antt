@@ -1,9 +1,9 @@
 -- Where a list or dictionary that may be opened is reached.
-use Rattle.std.proofs.Common.{◌≡◌, ℕ, suc, ◌-◌, ◌<◌, ◌^◌, List, [], ◌∷◌, ◌++◌, length, Option, Some, None, ◌⊎◌, refl, sym, ap, ◌∙◌, subst, inl, inr, append_assoc, arith}
+use Rattle.std.proofs.Common.{◌≡◌, ℕ, suc, ◌-◌, ◌<◌, ◌^◌, List, [], ◌∷◌, ◌++◌, length, Option, Some, refl, sym, ap, ◌∙◌, subst, append_assoc, arith}
 use Rattle.std.proofs.lemmas.List.{append-nil}
-use Rattle.benc.specs.Value.{Bencode, Items, no_items, item, Pairs, no_pairs, pair}
+use Rattle.benc.specs.Value.{Bencode, no_pairs, pair}
 use Rattle.benc.specs.Spelling.{string, IsAbove, Spelled, SpelledItems, SpelledPairs}
-use Rattle.benc.specs.Fails.{Due, a_value, a_value_or_end, Level, in_list, at_value, last_key, Begun, TakesOne, StartsContainer, Reaches}
+use Rattle.benc.specs.Fails.{a_value, a_value_or_end, Level, in_list, at_value, last_key, Begun, StartsContainer, Reaches}
 use Rattle.benc.specs.Reading.{IfMemory, ReachesItem, ReachesPair}
 use Rattle.benc.specs.declared.stop.Stop.{Stop}
 use Rattle.benc.specs.declared.stop.Stop.TheVariants as stops

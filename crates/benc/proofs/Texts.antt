@@ -1,5 +1,5 @@
 -- A canonical value has one spelling, and what has one is canonical.
-use Rattle.std.proofs.Common.{◌≡◌, ℕ, ◌-◌, ◌<◌, List, [], ◌∷◌, ◌++◌, Option, Some, None, refl, sym, ap, ap₂, ◌∙◌}
+use Rattle.std.proofs.Common.{◌≡◌, ℕ, ◌-◌, List, [], ◌∷◌, ◌++◌, Option, Some, None, refl, ap, ap₂, ◌∙◌}
 use Rattle.benc.specs.Value.{Bencode, int, text, list, dict, Items, no_items, item, Pairs, no_pairs, pair}
 use Rattle.benc.specs.Spelling.{string, Spelled, SpelledItems, SpelledPairs}
 use Rattle.benc.specs.Text.{spelling, items_spelling, pairs_spelling, Fits, ItemsFit, PairsFit}

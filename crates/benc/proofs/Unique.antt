@@ -1,15 +1,15 @@
 -- No input has two faults, and none that spells a value has one.
-use Rattle.std.proofs.Common.{◌≡◌, ◌≢◌, ℕ, zero, suc, ◌+◌, ◌-◌, ◌<◌, ◌≤◌, ◌^◌, Bool, true, false, ◌||◌, cond, eqb, List, [], ◌∷◌, ◌++◌, length, Option, Some, None, Result, Ok, Err, ◌⊎◌, refl, sym, ap, ◌∙◌, subst, inl, inr, append_assoc, arith}
+use Rattle.std.proofs.Common.{◌≡◌, ◌≢◌, ℕ, zero, suc, ◌+◌, ◌-◌, ◌<◌, ◌≤◌, ◌^◌, Bool, true, false, ◌||◌, cond, eqb, List, [], ◌∷◌, ◌++◌, length, Option, Some, None, Result, Ok, Err, refl, sym, ap, ◌∙◌, subst, inl, inr, append_assoc, arith}
 use Rattle.std.specs.Fmt.{decimal}
 use Rattle.std.proofs.lemmas.Fmt.{decimal_is_IsNumeral}
 use Rattle.std.proofs.lemmas.List.{append-nil, length-append}
 use Rattle.benc.specs.declared.fault.FaultKind.{FaultKind}
-use Rattle.benc.specs.declared.fault.FaultKind.TheVariants.{Truncated, BadStart, Trailing, TooDeep}
+use Rattle.benc.specs.declared.fault.FaultKind.TheVariants.{Truncated, BadStart, TooDeep}
 use Rattle.benc.specs.Value.{Bencode, int, text, list, dict, Items, no_items, item, Pairs, no_pairs, pair}
-use Rattle.benc.specs.Spelling.{string, IsAbove, Spells, Spelled, SpelledItems, SpelledPairs}
+use Rattle.benc.specs.Spelling.{string, Spells, SpelledItems, SpelledPairs}
 use Rattle.benc.specs.Table.{is_digit, integer_at, string_at, key_at}
-use Rattle.benc.specs.Fails.{Due, a_value, a_value_or_end, a_key_or_end, Level, in_list, in_dict, at_value, last_key, IsLevel, due_in, TakesValue, Begun, fault_of, value_fault, unless_end, item_fault, Stops, Trails, Fails}
-use Rattle.benc.specs.Reading.{◌>>=◌, Reads, Failed, begun_at, items_at, pairs_at, value_with, value_at}
+use Rattle.benc.specs.Fails.{Due, Level, in_list, in_dict, at_value, last_key, IsLevel, Begun, fault_of, value_fault, unless_end, item_fault, Stops, Trails, Fails}
+use Rattle.benc.specs.Reading.{◌>>=◌, Reads, Failed, begun_at, items_at, pairs_at, value_at}
 use Rattle.benc.proofs.Turns.{is_other}
 use Rattle.benc.proofs.Values.{lists, dicts, value_is, value_items, value_pairs}
 use Rattle.benc.proofs.Sound.{fine, ok_of}

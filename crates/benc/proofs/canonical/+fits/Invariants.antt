@@ -1,4 +1,4 @@
-use Rattle.std.proofs.Common.{◌≡◌, None, drop}
+use Rattle.std.proofs.Common.{None, drop}
 use Rattle.std.specs.Option.{option_copied}
 use Rattle.benc.specs.Text.{ItemsFit, PairsFit}
 use Rattle.benc.specs.View.{items_view, pairs_view}
