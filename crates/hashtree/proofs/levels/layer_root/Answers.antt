@@ -1,6 +1,6 @@
-use Rattle.std.proofs.Common.{arith, rules, ◌≡◌, ◌+◌, ◌-◌, ◌^◌, ◌<◌, ◌≤◌, ◌∷◌, ◌++◌, ◌∙◌, [], ap, sym, subst, length, take, replicate, get_or}
+use Rattle.std.proofs.Common.{arith, rules, ◌+◌, ◌-◌, ◌^◌, ◌<◌, ◌≤◌, ◌∷◌, ◌++◌, ◌∙◌, [], ap, subst, length, take, replicate, get_or}
 use Rattle.std.proofs.lemmas.List.{length-take, take_all}
-use Rattle.hashtree.specs.Tree.{block_count, first_pad, height, root_over, tree}
+use Rattle.hashtree.specs.Tree.{block_count, first_pad, root_over, tree}
 use Rattle.hashtree.specs.Climb.{HoldsLeaves}
 use Rattle.hashtree.proofs.Heights.{first_pad-fits, first_pad-place}
 use Rattle.hashtree.proofs.Layers.{tree_of_row}
