@@ -10,7 +10,8 @@ use Rattle.hashtree.specs.Tree.{filled, first_pad, height, level_over, node_over
 use Rattle.hashtree.proofs.Pairs.{two-pow}
 use Rattle.hashtree.proofs.Heights.{first_pad-fits, first_pad-place, height_enough}
 use Rattle.hashtree.proofs.Nodes.{leaf_at, node_over-suc, part_of_pads}
-use Rattle.hashtree.proofs.Zeros.{copies, copies-suc}
+use Rattle.hashtree.specs.Climb.{copies}
+use Rattle.hashtree.proofs.Zeros.{copies-suc}
 
 -- a node that lies in the pads after a row
 pub node_over-pads : (xs : List (List ℕ)) (m : ℕ) (z : List ℕ) (k i : ℕ) → length xs ≤ i * 2 ^ k → i * 2 ^ k + 2 ^ k ≤ length xs + m

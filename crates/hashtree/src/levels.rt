@@ -23,9 +23,9 @@ pub fn layer_root(shape: Shape, layer: u32, hashes: &[Hash]) -> Hash
     let last = hashes.len() - 1;
     let mut peaks = Peaks::new();
     for hash in &hashes[..last] {
-        peaks.push(*hash);
+        peaks.push(*hash, 0);
     }
-    peaks.root(hashes[last], zero(layer), height - layer)
+    peaks.last_node(hashes[last], zero(layer), height - layer)
 }
 
 /// The layers of the tree over a layer, from that one to the root, each without its pads. The first

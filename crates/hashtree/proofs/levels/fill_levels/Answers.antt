@@ -2,7 +2,8 @@ use Rattle.std.proofs.Common.{arith, rules, ◌≡◌, ◌+◌, ◌-◌, ◌≤�
 use Rattle.std.specs.List.{range_with_len}
 use Rattle.std.proofs.lemmas.List.{map_push}
 use Rattle.hashtree.specs.Tree.{block_count, height, level_over, zero_hash}
-use Rattle.hashtree.proofs.Zeros.{copies, copies-zero}
+use Rattle.hashtree.specs.Climb.{copies}
+use Rattle.hashtree.proofs.Zeros.{copies-zero}
 use Rattle.hashtree.proofs.Above.{first_level, more_levels, next_level, next_pad}
 use Rattle.hashtree.proofs.levels.fill_levels.Goals as goal
 

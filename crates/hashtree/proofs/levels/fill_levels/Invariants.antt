@@ -1,7 +1,7 @@
 use Rattle.std.proofs.Common.{◌≡◌, ◌-◌, map}
 use Rattle.std.specs.List.{range_with_len}
 use Rattle.hashtree.specs.Tree.{block_count, level_over, zero_hash}
-use Rattle.hashtree.proofs.Zeros.{copies}
+use Rattle.hashtree.specs.Climb.{copies}
 use Rattle.hashtree.proofs.levels.fill_levels.Given as goal
 
 abbrev pub invariant-layers : goal.invariant-layers

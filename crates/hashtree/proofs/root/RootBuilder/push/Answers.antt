@@ -8,7 +8,7 @@ pub parts-preserved : goal.parts-preserved
 parts-preserved c =
     let bytes = c.args.bytes.now in
     let start = c.parts.start in
-    let taken = c.take_part-taken.result in
+    let taken = c.take_part-taken.result.0 in
     record {
       within = omega (arith, c.take_part-taken.ensures.bound, ap length (take_rest bytes start), length-drop start bytes);
       count = omega (arith, c.take_part-taken.ensures.count, c.parts.invariant.count);
