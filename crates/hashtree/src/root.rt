@@ -1,7 +1,7 @@
 //! The root of a file's tree, from its bytes.
 
 ghost use Rattle.std.specs.Prelude.{◌≡◌, ℕ, ◌+◌, ◌*◌, ◌^◌, ◌<◌, ◌≤◌, ◌++◌, [], List, length, take};
-ghost use Rattle.hashtree.specs.Tree.{root_of};
+ghost use Rattle.hashtree.specs.Tree.{layer_of, root_of};
 
 use crate::node::{Hash, PAD_LEAF};
 use crate::peaks::Peaks;
@@ -58,10 +58,28 @@ impl RootBuilder {
         ensures length { result.0 ≡ byte_count self }
         ensures tree { (file : List ℕ) → IsFed self file → (result.0 ≡ length file) × (result.1 ≡ root_of file) }
     {
+        let (length, root, _) = self.finish_layer(0);
+        (length, root)
+    }
+
+    /// As `finish`; also the last node of `layer` that covers a block, if the tree has that layer.
+    pub(crate) fn finish_layer(self, layer: u32) -> (u64, Hash, Option<Hash>)
+        requires { 0 < byte_count self }
+        ensures length { result.0 ≡ byte_count self }
+        ensures tree { (file : List ℕ) → IsFed self file → (result.0 ≡ length file) × (result.1 ≡ root_of file) }
+        ensures nodes { (file : List ℕ) → IsFed self file
+            → complete_nodes self file layer ++ some_of result.2 ≡ layer_of file layer }
+    {
         let length = BLOCK_LENGTH * self.peaks.count + self.filled as u64;
         let last = self.hasher.finalize();
-        let shape = Shape::of(length).unwrap();
-        (length, self.peaks.last_node(last, PAD_LEAF, shape.height()))
+        let height = Shape::of(length).unwrap().height();
+        let root = self.peaks.last_node(last, PAD_LEAF, height);
+        let node = if layer <= height {
+            Some(self.peaks.last_node(last, PAD_LEAF, layer))
+        } else {
+            None
+        };
+        (length, root, node)
     }
 
     /// Takes the first of these bytes, at most as many as there is room for in the last block. Tells
