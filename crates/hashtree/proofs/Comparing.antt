@@ -40,8 +40,13 @@ room_for_nodes b content len layer fed some in_block le =
     let n : ℕ = b.peaks.count in
     let filled : 0 < b.filled = fed.started (omega (arith, fed.at.length_is)) in
     let few : n + 1 ≤ block_count len = omega (arith, filled, le) in
-    omega (arith, length-climb layer (block_hashes content n), length-block_hashes content n,
-    ap (λ k. first_pad (k + 1) layer) (length-block_hashes content n), first_pad-mono (n + 1) (block_count len) layer few)
+    omega (
+      arith,
+      length-climb layer (block_hashes content n),
+      length-block_hashes content n,
+      ap (λ k. first_pad (k + 1) layer) (length-block_hashes content n),
+      first_pad-mono (n + 1) (block_count len) layer few,
+    )
 
 -- a layer of a file of this length
 pub length-layer_of : (file : List ℕ) (len layer : ℕ) → length file ≡ len → layer ≤ height (block_count len) → length (layer_of file layer) ≡ first_pad (block_count len) layer

@@ -22,5 +22,5 @@ returns c = λ file at.
       tree.0,
       tree.1,
       subst (λ t. IsFirstOther t hashes c.compare.new.self.other) whole
-      (subst (λ hs. IsFirstOther (xs ++ some_of node) hs c.compare.new.self.other) (take_all (length (xs ++ some_of node)) hashes (omega (arith, all))) found.1),
+          (subst (λ hs. IsFirstOther (xs ++ some_of node) hs c.compare.new.self.other) (take_all (length (xs ++ some_of node)) hashes (omega (arith, all))) found.1),
     )

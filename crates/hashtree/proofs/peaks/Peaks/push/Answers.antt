@@ -19,10 +19,10 @@ layers-preserved c = record {
   carries = λ xs held. carries_step c.args.self.now xs c.args.leaf c.layers.level c.layers.width c.layers.node c.parent-node.result
       held c.layers-test.true (omega arith) (c.parent-node.ensures ∙ ap (λ t. sha256 (get_or t c.layers.level [] ++ c.layers.node)) c.layers.invariant.levels_same) (c.layers.invariant.carries xs held);
   completed = λ xs held. elim c.if-level-layer.branch [
-      | then-level-layer w ↦ subst (Completed xs c.args.leaf c.args.layer (c.layers.level + 1)) (sym w.completed-is)
-          (completed_here xs c.args.leaf c.args.layer c.layers.level c.layers.width c.layers.node w.if-level-layer.true (c.layers.invariant.carries xs held))
-      | else-level-layer w ↦ subst (Completed xs c.args.leaf c.args.layer (c.layers.level + 1)) (sym w.completed-is)
-          (completed_elsewhere xs c.args.leaf c.args.layer c.layers.level c.layers.completed w.if-level-layer.false (c.layers.invariant.completed xs held))
+    | then-level-layer w ↦ subst (Completed xs c.args.leaf c.args.layer (c.layers.level + 1)) (sym w.completed-is)
+        (completed_here xs c.args.leaf c.args.layer c.layers.level c.layers.width c.layers.node w.if-level-layer.true (c.layers.invariant.carries xs held))
+    | else-level-layer w ↦ subst (Completed xs c.args.leaf c.args.layer (c.layers.level + 1)) (sym w.completed-is)
+        (completed_elsewhere xs c.args.leaf c.args.layer c.layers.level c.layers.completed w.if-level-layer.false (c.layers.invariant.completed xs held))
   ];
 }
 
@@ -34,10 +34,10 @@ returns-then-width-eq0-clause-leaves c = λ xs held.
 pub returns-then-width-eq0-clause-completed : goal.returns-then-width-eq0-clause-completed
 returns-then-width-eq0-clause-completed c = λ xs held.
     let told : Completed xs c.args.leaf c.args.layer (c.layers.level + 1) c.if-level-layer.completed = elim c.if-level-layer.branch [
-        | then-level-layer w ↦ subst (Completed xs c.args.leaf c.args.layer (c.layers.level + 1)) (sym w.completed-is)
-            (completed_here xs c.args.leaf c.args.layer c.layers.level c.layers.width c.layers.node w.if-level-layer.true (c.layers.invariant.carries xs held))
-        | else-level-layer w ↦ subst (Completed xs c.args.leaf c.args.layer (c.layers.level + 1)) (sym w.completed-is)
-            (completed_elsewhere xs c.args.leaf c.args.layer c.layers.level c.layers.completed w.if-level-layer.false (c.layers.invariant.completed xs held))
+      | then-level-layer w ↦ subst (Completed xs c.args.leaf c.args.layer (c.layers.level + 1)) (sym w.completed-is)
+          (completed_here xs c.args.leaf c.args.layer c.layers.level c.layers.width c.layers.node w.if-level-layer.true (c.layers.invariant.carries xs held))
+      | else-level-layer w ↦ subst (Completed xs c.args.leaf c.args.layer (c.layers.level + 1)) (sym w.completed-is)
+          (completed_elsewhere xs c.args.leaf c.args.layer c.layers.level c.layers.completed w.if-level-layer.false (c.layers.invariant.completed xs held))
     ] in
     completed_end xs c.args.leaf c.args.layer c.layers.level c.layers.width c.layers.node c.if-level-layer.completed c.if-width-eq0.true
     (c.layers.invariant.carries xs held) told
