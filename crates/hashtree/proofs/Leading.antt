@@ -59,6 +59,7 @@ layer_filled file layer low =
   where
     length-layer_count : (file : List ℕ) (layer : ℕ) → length (layer_of file layer) ≡ layer_count (block_count (length file)) layer
     length-layer_count file layer = length-map-range_with_len (node file layer) 0 (layer_count (block_count (length file)) layer)
+
     beyond : (n layer i : ℕ) → first_pad n layer ≤ i → n ≤ i * 2 ^ layer
     beyond n layer i le = elim (cases_lt (i * 2 ^ layer) n) [ inl less ↦ absurd (omega (arith, (first_pad-place n layer i).1 less)) | inr ge ↦ ge ]
 

@@ -32,5 +32,4 @@ pub fn top_is_root()
 pub fn layers_lead_to_root()
     ensures { (file : List ℕ) (layer : ℕ) → layer ≤ height (block_count (length file))
         → root_over (height (block_count (length file))) layer (layer_of file layer) ≡ root_of file }
-{
-}
+{}
