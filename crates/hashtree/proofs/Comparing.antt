@@ -58,9 +58,9 @@ length-layer_of file len layer is low =
 -- the node that comes next, if there is one, is compared
 pub checked : (b q : PieceCheck) (file more : List ℕ) (node : Option (List ℕ)) → IsFedCheck b file → IsFed q.builder more
     → complete_nodes q.builder more b.layer ≡ complete_nodes b.builder file b.layer ++ some_of node
-    → q.layer ≡ b.layer → q.shape ≡ b.shape → q.comparison.hashes.now ≡ b.comparison.hashes.now
-    → length (complete_nodes b.builder file b.layer ++ some_of node) ≡ q.comparison.place
-    → IsFirstOther (complete_nodes b.builder file b.layer ++ some_of node) (take (length (complete_nodes b.builder file b.layer ++ some_of node)) b.comparison.hashes.now) q.comparison.other
+    → q.layer ≡ b.layer → q.shape ≡ b.shape → q.hashes.now ≡ b.hashes.now
+    → length (complete_nodes b.builder file b.layer ++ some_of node) ≡ q.place
+    → IsFirstOther (complete_nodes b.builder file b.layer ++ some_of node) (take (length (complete_nodes b.builder file b.layer ++ some_of node)) b.hashes.now) q.other
     → IsFedCheck q more
 checked b q file more node at fed completed layer shape hashes place compared =
     let now : complete_nodes q.builder more q.layer ≡ complete_nodes b.builder file b.layer ++ some_of node = ap (complete_nodes q.builder more) layer ∙ completed in
@@ -69,6 +69,6 @@ checked b q file more node at fed completed layer shape hashes place compared =
       in_tree = subst (λ l. l ≤ height (block_count q.shape)) (sym layer) (subst (λ s. b.layer ≤ height (block_count s)) (sym shape) at.in_tree);
       whole = ap length hashes ∙ at.whole ∙ ap (λ s. first_pad (block_count s) b.layer) (sym shape) ∙ ap (first_pad (block_count q.shape)) (sym layer);
       place_is = ap length now ∙ place;
-      compared = subst (λ t. IsFirstOther t (take (length t) q.comparison.hashes.now) q.comparison.other) (sym now)
-          (subst (λ hs. IsFirstOther (complete_nodes b.builder file b.layer ++ some_of node) (take (length (complete_nodes b.builder file b.layer ++ some_of node)) hs) q.comparison.other) (sym hashes) compared);
+      compared = subst (λ t. IsFirstOther t (take (length t) q.hashes.now) q.other) (sym now)
+          (subst (λ hs. IsFirstOther (complete_nodes b.builder file b.layer ++ some_of node) (take (length (complete_nodes b.builder file b.layer ++ some_of node)) hs) q.other) (sym hashes) compared);
     }

@@ -21,12 +21,12 @@ chosen_layer c = c.layer
 
 -- the hashes that the layer is to have
 abbrev pub given_hashes : PieceCheck → List (List ℕ)
-given_hashes c = c.comparison.hashes.now
+given_hashes c = c.hashes.now
 
 -- the check was given this content, and has compared the nodes of its layer that are complete
 pub record IsFedCheck (c : PieceCheck) (content : List ℕ) : Type 0 where
   pub fed : IsFed c.builder content
   pub in_tree : c.layer ≤ height (block_count c.shape)
-  pub whole : length c.comparison.hashes.now ≡ first_pad (block_count c.shape) c.layer
-  pub place_is : length (complete_nodes c.builder content c.layer) ≡ c.comparison.place
-  pub compared : IsFirstOther (complete_nodes c.builder content c.layer) (take (length (complete_nodes c.builder content c.layer)) c.comparison.hashes.now) c.comparison.other
+  pub whole : length c.hashes.now ≡ first_pad (block_count c.shape) c.layer
+  pub place_is : length (complete_nodes c.builder content c.layer) ≡ c.place
+  pub compared : IsFirstOther (complete_nodes c.builder content c.layer) (take (length (complete_nodes c.builder content c.layer)) c.hashes.now) c.other

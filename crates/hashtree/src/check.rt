@@ -17,16 +17,10 @@ pub struct PieceCheck<'a> {
     builder: RootBuilder,
     shape: Shape,
     layer: u32,
-    comparison: Comparison<'a>,
-    ghost in_file: { shape ≤ 2 ^ 46 },
-}
-
-// A row of nodes, compared with the given hashes one by one.
-#[derive(Drop)]
-struct Comparison<'a> {
     hashes: &'a [Hash],
     place: usize,
     other: Option<u64>,
+    ghost in_file: { shape ≤ 2 ^ 46 },
 }
 
 impl<'a> PieceCheck<'a> {
@@ -48,11 +42,9 @@ impl<'a> PieceCheck<'a> {
             builder: RootBuilder::new(),
             shape,
             layer,
-            comparison: Comparison {
-                hashes,
-                place: 0,
-                other: None,
-            },
+            hashes,
+            place: 0,
+            other: None,
         }
     }
 
@@ -68,7 +60,7 @@ impl<'a> PieceCheck<'a> {
         let mut start = 0;
         'parts: while start < bytes.len() {
             let (taken, node) = self.builder.take_part(&bytes[start..], self.layer);
-            self.comparison.compare(node);
+            (self.place, self.other) = compare(self.hashes, self.place, self.other, node);
             start += taken;
         }
     }
@@ -82,29 +74,31 @@ impl<'a> PieceCheck<'a> {
             × IsFirstOther (layer_of file (chosen_layer self.entry)) (given_hashes self.entry) result.2 }
     {
         let (length, root, node) = self.builder.finish_layer(self.layer);
-        let mut comparison = self.comparison;
-        comparison.compare(node);
-        (length, root, comparison.other)
+        let (_, other) = compare(self.hashes, self.place, self.other, node);
+        (length, root, other)
     }
 }
 
-impl<'a> Comparison<'a> {
-    // Compares the next node of the row, if it is complete. No row is longer than the hashes.
-    fn compare(&mut self, node: Option<Hash>)
-        ensures hashes { self.new.hashes.now ≡ self.old.hashes.now }
-        ensures compared { (xs : List (List ℕ)) → length xs ≡ self.old.place
-            → length (xs ++ some_of node) ≤ length self.old.hashes.now
-            → IsFirstOther xs (take (length xs) self.old.hashes.now) self.old.other
-            → (length (xs ++ some_of node) ≡ self.new.place)
-            × IsFirstOther (xs ++ some_of node) (take (length (xs ++ some_of node)) self.old.hashes.now) self.new.other }
-    {
-        if let Some(node) = node {
-            if let Some(given) = self.hashes.get(self.place) {
-                self.other = first_other(self.other, self.place as u64, &node, given);
-                self.place += 1;
-            }
+// Compares the next node of a row with the given hashes, if it is complete. No row is longer than
+// these.
+fn compare(
+    hashes: &[Hash],
+    place: usize,
+    other: Option<u64>,
+    node: Option<Hash>,
+) -> (usize, Option<u64>)
+    ensures { (xs : List (List ℕ)) → length xs ≡ place
+        → length (xs ++ some_of node) ≤ length hashes.now
+        → IsFirstOther xs (take (length xs) hashes.now) other
+        → (length (xs ++ some_of node) ≡ result.0)
+        × IsFirstOther (xs ++ some_of node) (take (length (xs ++ some_of node)) hashes.now) result.1 }
+{
+    if let Some(node) = node {
+        if let Some(given) = hashes.get(place) {
+            return (place + 1, first_other(other, place as u64, &node, given));
         }
     }
+    (place, other)
 }
 
 // The first place where two rows differ, with one hash more in both.

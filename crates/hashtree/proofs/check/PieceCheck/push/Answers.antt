@@ -19,7 +19,7 @@ parts-preserved c =
       count = omega (arith, c.take_part-taken.ensures.count, c.parts.invariant.count);
       shape = c.parts.invariant.shape;
       layer = c.parts.invariant.layer;
-      hashes = c.compare.ensures.hashes ∙ c.parts.invariant.hashes;
+      hashes = c.parts.invariant.hashes;
       content = λ file fed.
           let part = take taken (take (length bytes - start) (drop start bytes)) in
           let at = c.parts.invariant.content file fed in
@@ -29,10 +29,10 @@ parts-preserved c =
           let len : byte_count mid ≤ c.parts.self.shape = omega (arith, c.take_part-taken.ensures.count, c.take_part-taken.ensures.bound, ap length (take_rest bytes start), length-drop start bytes, c.parts.invariant.count, c.parts.invariant.shape, c.requires) in
           let room : length (complete_nodes mid ((file ++ take start bytes) ++ part) layer) ≤ first_pad (block_count c.parts.self.shape) layer =
           room_for_nodes mid ((file ++ take start bytes) ++ part) c.parts.self.shape layer more (omega (arith, c.take_part-taken.ensures.count, c.take_part-taken.ensures.some)) mid.in_block len in
-          let found = c.compare.ensures.compared xs at.place_is (omega (arith, ap length done, at.whole, room)) at.compared in
+          let found = c.compare.ensures xs at.place_is (omega (arith, ap length done, at.whole, room)) at.compared in
           subst (IsFedCheck _) (next_part file bytes start taken)
           (checked c.parts.self _ (file ++ take start bytes) ((file ++ take start bytes) ++ part) c.take_part-taken.result.1 at more done refl refl
-          c.compare.ensures.hashes found.0 found.1);
+          refl found.0 found.1);
     }
 
 pub returns-clause-content : goal.returns-clause-content

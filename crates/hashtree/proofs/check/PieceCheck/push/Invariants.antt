@@ -8,7 +8,7 @@ invariant-parts l = record {
   count : byte_count l.self ≡ byte_count l.fn.self + l.start;
   shape : l.self.shape ≡ l.fn.self.shape;
   layer : l.self.layer ≡ l.fn.self.layer;
-  hashes : l.self.comparison.hashes.now ≡ l.fn.self.comparison.hashes.now;
+  hashes : l.self.hashes.now ≡ l.fn.self.hashes.now;
   content : (file : List ℕ) → IsFedCheck l.fn.self file → IsFedCheck l.self (file ++ take l.start l.bytes);
 }
 
