@@ -2,7 +2,7 @@
 
 ghost use Rattle.std.specs.Prelude.{◌≡◌, ℕ, suc, ◌+◌, ◌*◌, ◌^◌, ◌<◌, ◌≤◌, ◌++◌, List, length};
 ghost use Rattle.sha2.specs.Sha256.{sha256};
-ghost use Rattle.hashtree.specs.Tree.{IsPlace, block, block_count, height, node, root_of, zero_hash};
+ghost use Rattle.hashtree.specs.Tree.{IsPlace, block, block_count, height, layer_of, node, root_of, root_over, zero_hash};
 
 /// The leaf of a block is the block's digest.
 pub fn leaves_are_digests()
@@ -26,4 +26,10 @@ pub fn pads_are_zero_hashes()
 /// The node at the top is the root.
 pub fn top_is_root()
     ensures { (file : List ℕ) → node file (height (block_count (length file))) 0 ≡ root_of file }
+{}
+
+/// The root over each layer of a file's tree, given without its pads, is the file's root.
+pub fn layers_lead_to_root()
+    ensures { (file : List ℕ) (layer : ℕ) → layer ≤ height (block_count (length file))
+        → root_over (height (block_count (length file))) layer (layer_of file layer) ≡ root_of file }
 {}
