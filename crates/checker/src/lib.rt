@@ -3,6 +3,7 @@
 
 mod line;
 mod root;
+mod text;
 
 pub use root::{RootFault, root_line};
 
