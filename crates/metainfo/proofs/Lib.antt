@@ -1,0 +1,2 @@
+-- Lemmas on torrents.
+pub mod Placing
