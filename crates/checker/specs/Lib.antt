@@ -2,3 +2,5 @@
 pub mod Root
 pub mod Reading
 pub mod Text
+pub mod Refused
+pub mod Show

@@ -2,10 +2,14 @@
 #![tactic(auto)]
 
 mod line;
+mod refused;
 mod root;
+mod listing;
 mod text;
 
+pub use refused::refusal_line;
 pub use root::{RootFault, root_line};
+pub use listing::show;
 
 #[cfg(test)]
 mod tests;
