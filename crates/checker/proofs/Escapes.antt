@@ -1,5 +1,5 @@
 -- A text that is escaped part by part, and a path that is written component by component.
-use Rattle.std.proofs.Common.{◌≡◌, ◌++◌, ◌+◌, ◌-◌, ◌<◌, ◌≤◌, ℕ, List, [], ◌∷◌, length, take, drop, codes, slice_index, true, false, if◌then◌else◌, refl, sym, ap, ◌∙◌, arith, append_assoc}
+use Rattle.std.proofs.Common.{◌≡◌, ◌++◌, ◌+◌, ◌-◌, ◌<◌, ◌≤◌, ℕ, List, [], ◌∷◌, length, take, drop, codes, slice_index, false, if◌then◌else◌, sym, ap, ◌∙◌, arith, append_assoc}
 use Rattle.std.proofs.lemmas.List.{take-append-drop, take_more, drop_more, get_or-drop, length-drop, append-nil}
 use Rattle.std.proofs.Math.Seq.{take-length}
 use Rattle.std.proofs.lemmas.Grind.{flat_map-append}
@@ -70,7 +70,6 @@ tail_text parts = flat_map (λ part. 47 ∷ escaped part) parts
 
 -- a path is its first component and those behind it
 pub path_text-cons : (first : List ℕ) (others : List (List ℕ)) → path_text (first ∷ others) ≡ escaped first ++ tail_text others
-
 path_text-cons first [] = sym (append-nil (escaped first))
 path_text-cons first (next ∷ others) =
     flat_map-append escape_of first (47 ∷ join_with_byte 47 (next ∷ others))

@@ -2,14 +2,14 @@
 #![tactic(auto)]
 
 mod line;
+mod listing;
 mod refused;
 mod root;
-mod listing;
 mod text;
 
+pub use listing::show;
 pub use refused::refusal_line;
 pub use root::{RootFault, root_line};
-pub use listing::show;
 
 #[cfg(test)]
 mod tests;

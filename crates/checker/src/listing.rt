@@ -65,7 +65,11 @@ fn put_hybrid(line: &mut Line, t: &Torrent<'_>)
     }
 }
 
-fn write_files<W: Sink>(files: &[File<'_>], trees: &[TreeInfo<'_>], out: &mut W) -> Result<(), DeviceFault>
+fn write_files<W: Sink>(
+    files: &[File<'_>],
+    trees: &[TreeInfo<'_>],
+    out: &mut W,
+) -> Result<(), DeviceFault>
     ensures { Wrote result (W.written out.old) (W.written out.new) (W.faults out.old) (W.faults out.new)
         (files_text (map tree_entry trees.now) (map file_entry files.now)) }
 {
@@ -75,11 +79,18 @@ fn write_files<W: Sink>(files: &[File<'_>], trees: &[TreeInfo<'_>], out: &mut W)
     Ok(())
 }
 
-fn write_file<W: Sink>(file: &File<'_>, trees: &[TreeInfo<'_>], out: &mut W) -> Result<(), DeviceFault>
+fn write_file<W: Sink>(
+    file: &File<'_>,
+    trees: &[TreeInfo<'_>],
+    out: &mut W,
+) -> Result<(), DeviceFault>
     ensures { Wrote result (W.written out.old) (W.written out.new) (W.faults out.old) (W.faults out.new)
         (file_text (map tree_entry trees.now) (file_entry file.now)) }
 {
-    write_text(out, length_and_root(file.length, file.tree, trees).as_slice())?;
+    write_text(
+        out,
+        length_and_root(file.length, file.tree, trees).as_slice(),
+    )?;
     write_path(out, file.path.parts())?;
     write_text(out, b"\n")
 }

@@ -1,7 +1,6 @@
 use Rattle.std.proofs.Common.{◌≡◌, ◌++◌, ◌∙◌, List, ℕ, Option, Some, None, is_some, option_map, true, codes, append_assoc, ap, sym, refl}
 use Rattle.hex.specs.Hex.{encode_lower}
 use Rattle.metainfo.specs.Description.{Version1}
-use Rattle.metainfo.specs.Seen.{version1}
 use Rattle.checker.specs.Show.{hybrid_text}
 use Rattle.checker.proofs.listing.put_hybrid.Goals as goal
 

@@ -1,6 +1,5 @@
-use Rattle.std.proofs.Common.{◌≡◌, ◌+◌, ◌++◌, ◌∷◌, ◌≤◌, ◌<◌, ◌∙◌, List, ℕ, drop, length, map, ap, sym, refl, arith, append_assoc}
-use Rattle.std.proofs.lemmas.List.{drop_more, append-nil}
-use Rattle.std.proofs.Math.ListN.{drop_of_length-le}
+use Rattle.std.proofs.Common.{◌≡◌, ◌+◌, ◌++◌, ◌∷◌, ◌∙◌, List, ℕ, drop, map, ap, sym, refl, arith, append_assoc}
+use Rattle.std.proofs.lemmas.List.{drop_more}
 use Rattle.std.proofs.lemmas.Result.{err_from_is_err_and}
 use Rattle.benc.proofs.Known.{Appends-append}
 use Rattle.benc.proofs.Out.{wrote_then, wrote_part}

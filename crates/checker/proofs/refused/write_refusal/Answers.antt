@@ -1,4 +1,4 @@
-use Rattle.std.proofs.Common.{◌≡◌, ◌++◌, ◌∙◌, List, ℕ, codes, map, ap, sym, refl, string_bytes}
+use Rattle.std.proofs.Common.{◌++◌, ◌∙◌, codes, map, ap, sym, refl, string_bytes}
 use Rattle.std.proofs.lemmas.Result.{err_from_is_err_and}
 use Rattle.benc.proofs.Out.{wrote_then, wrote_part}
 use Rattle.checker.specs.Refused.{path_part}

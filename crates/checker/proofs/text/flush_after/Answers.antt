@@ -1,4 +1,4 @@
-use Rattle.std.proofs.Common.{ℕ, List, Option, Result, Ok, Err, ap, sym, ◌∙◌, ◌≡◌}
+use Rattle.std.proofs.Common.{ℕ, List, Option, Result, Ok, Err, ap, ◌∙◌, ◌≡◌}
 use Rattle.std.specs.Io.KnownBytes.{Appends, Keeps}
 use Rattle.std.proofs.lemmas.Result.{err_from_is_err_and}
 use Rattle.benc.specs.Device.{Wrote, one_more}

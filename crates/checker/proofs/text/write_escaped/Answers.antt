@@ -1,8 +1,8 @@
-use Rattle.std.proofs.Common.{◌≡◌, ℕ, List, length, ◌+◌, ◌-◌, ◌<◌, ◌≤◌, ◌++◌, take, drop, slice_index, refl, sym, ap, ◌∙◌, arith}
+use Rattle.std.proofs.Common.{length, ◌+◌, ◌-◌, ◌++◌, take, drop, refl, sym, ◌∙◌, arith}
 use Rattle.std.proofs.lemmas.Result.{err_from_is_err_and}
 use Rattle.benc.proofs.Known.{Appends-append}
 use Rattle.benc.proofs.Out.{wrote_then, wrote_part}
-use Rattle.checker.specs.Text.{escape_of, escaped}
+use Rattle.checker.specs.Text.{escaped}
 use Rattle.checker.proofs.Escapes.{cut_at, cut_round, after_escape, after_plain, at_end}
 use Rattle.checker.proofs.text.write_escaped.Goals as goal
 use Rattle.checker.proofs.text.write_escaped.Goals.{then-is_special+in_ok-write_text+in_ok-write_text-2, else-is_special}
@@ -50,12 +50,12 @@ bytes-preserved g c =
             w.in_ok-write_text-2.ensures.1 ∙ w.in_ok-write_text.ensures.1 ∙ l.invariant.4,
           )
       | else-is_special w ↦ rw (w.out-is, w.start-is) (
-          sent,
-          omega (arith, l.invariant.1),
-          after_plain text l.i l.start sent (omega arith) l.invariant.1 l.invariant.2 (sym c.is_special.ensures ∙ w.if-is_special.false),
-          l.invariant.3,
-          l.invariant.4,
-        )
+        sent,
+        omega (arith, l.invariant.1),
+        after_plain text l.i l.start sent (omega arith) l.invariant.1 l.invariant.2 (sym c.is_special.ensures ∙ w.if-is_special.false),
+        l.invariant.3,
+        l.invariant.4,
+      )
     ]
 
 pub returns : goal.returns

@@ -1,4 +1,4 @@
-use Rattle.std.proofs.Common.{◌≡◌, ℕ, List, length, ◌+◌, ◌<◌, ◌≤◌, [], ◌∷◌, ◌++◌, drop, map, refl, sym, ap, ◌∙◌, arith, append_assoc}
+use Rattle.std.proofs.Common.{◌≡◌, ℕ, List, ◌+◌, [], ◌∷◌, ◌++◌, drop, map, refl, sym, ap, ◌∙◌, arith, append_assoc}
 use Rattle.std.proofs.lemmas.List.{drop_more}
 use Rattle.std.proofs.lemmas.Result.{err_from_is_err_and}
 use Rattle.benc.proofs.Known.{Appends-append}
@@ -58,7 +58,7 @@ returns-in_err-write_escaped-2 g c =
     drop_more others l.part-index part (omega arith) ∙ ap (λ y. y ∷ drop (l.part-index + 1) others) (sym c.part-item.is) in
     let rest = tail_text (map g.S.AsStr.text (drop (l.part-index + 1) others)) in
     let all = l.invariant.1 ∙ ap (λ t. l.invariant.0 ++ t)
-        (next_part g.S.AsStr.text others l.part-index part text here (c.as_bytes-in-parts.ensures.value ∙ c.as_str-in-parts.ensures)) in
+    (next_part g.S.AsStr.text others l.part-index part text here (c.as_bytes-in-parts.ensures.value ∙ c.as_str-in-parts.ensures)) in
     let p = err_from_is_err_and c.from_residual-in_err-write_escaped-2.result c.from_residual-in_err-write_escaped-2.ensures.1 in
     wrote_then _ _ _ _ _ _ _ l.invariant.0 ((47 ∷ []) ++ (escaped text ++ rest)) _ all (l.invariant.2, l.invariant.3)
     (wrote_then _ _ _ _ _ _ _ (47 ∷ []) (escaped text ++ rest) _ refl c.in_ok-write_text.ensures
@@ -77,7 +77,7 @@ parts-preserved g c =
       sent ++ (47 ∷ escaped text),
       l.invariant.1 ∙ ap (λ t. sent ++ t)
           (next_part g.S.AsStr.text others l.part-index part text here (c.as_bytes-in-parts.ensures.value ∙ c.as_str-in-parts.ensures))
-      ∙ sym (append_assoc sent (47 ∷ escaped text) rest),
+          ∙ sym (append_assoc sent (47 ∷ escaped text) rest),
       Appends-append _ _ _ sent (47 ∷ escaped text) l.invariant.2
           (Appends-append _ _ _ (47 ∷ []) (escaped text) c.in_ok-write_text.ensures.0 c.in_ok-write_escaped-2.ensures.0),
       c.in_ok-write_escaped-2.ensures.1 ∙ c.in_ok-write_text.ensures.1 ∙ l.invariant.3,
