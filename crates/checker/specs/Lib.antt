@@ -1,3 +1,6 @@
 -- What contracts of the printed lines cite.
 pub mod Root
 pub mod Reading
+pub mod Text
+pub mod Refused
+pub mod Show

@@ -2,8 +2,13 @@
 #![tactic(auto)]
 
 mod line;
+mod listing;
+mod refused;
 mod root;
+mod text;
 
+pub use listing::show;
+pub use refused::refusal_line;
 pub use root::{RootFault, root_line};
 
 #[cfg(test)]
