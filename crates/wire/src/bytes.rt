@@ -32,7 +32,7 @@ pub fn read_length<R: Source>(source: &mut R) -> Result<Option<u32>, FrameFault>
     ensures bytes { MatchResult result
         (λ found. MatchOption found
         (Gave R.left R.limit source.old source.new [] × IsAtEnd (R.left source.new))
-        (λ len. Gave R.left R.limit source.old source.new (four_bytes len)))
+        (λ len. Gave R.left R.limit source.old source.new (four_bytes len) × (len < 2 ^ 32)))
         (StopsInFrame R.left R.limit source.old source.new) }
     ensures counts { MatchResult result
         (λ _. R.faults source.new ≡ R.faults source.old)

@@ -5,10 +5,12 @@ mod bytes;
 mod fault;
 mod frame;
 mod hashes;
+mod head;
 mod kind;
 mod message;
 mod number;
 mod parse;
+mod read;
 
 pub use fault::FrameFault;
 pub use frame::Frame;
