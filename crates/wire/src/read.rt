@@ -1,5 +1,5 @@
 //! One frame from a source.
-ghost use Rattle.std.specs.Prelude.{◌≡◌, ◌≤◌, ◌<◌, ◌-◌, ℕ, [], List, length, take, MatchResult, MatchOption, OnOk, vec_len, vec_capacity};
+ghost use Rattle.std.specs.Prelude.{◌≡◌, ◌≤◌, ◌<◌, ◌-◌, ℕ, [], List, length, take, MatchResult, MatchOption, OnOk, IsErrOf, vec_capacity};
 ghost use Rattle.std.specs.Io.KnownBytes.{IsAtEnd};
 ghost use Rattle.wire.specs.Frames.{IsBody, frame};
 ghost use Rattle.wire.specs.Head.{Holds};
@@ -27,6 +27,7 @@ fn read_front<R: Source>(
     ensures counts { MatchResult result
         (λ _. R.faults source.new ≡ R.faults source.old)
         (CountsRead (R.faults source.old) (R.faults source.new)) }
+    ensures device { ¬ IsErrOf result FrameFault.NoMemory }
 {
     read_exact(source, &mut room[..count])
 }
@@ -42,6 +43,9 @@ fn keep<R: Source>(source: &mut R, kept: &mut Vec<u8>, count: u32) -> Result<(),
     ensures counts { MatchResult result
         (λ _. R.faults source.new ≡ R.faults source.old)
         (CountsRead (R.faults source.old) (R.faults source.new)) }
+    ensures bounded { length kept.old.items ≤ 263216 → length kept.new.items ≤ 263216 }
+    ensures capacity { vec_capacity kept.old ≤ vec_capacity kept.new }
+    ensures memory { IsErrOf result FrameFault.NoMemory → vec_capacity kept.old < 263216 }
 {
     kept.resize(MAX_KEPT, 0)?;
     read_front(source, kept.as_mut_slice(), count as usize)
@@ -56,6 +60,9 @@ fn read_body<R: Source>(source: &mut R, kept: &mut Vec<u8>, len: u32) -> Result<
     ensures counts { MatchResult result
         (λ _. R.faults source.new ≡ R.faults source.old)
         (CountsRead (R.faults source.old) (R.faults source.new)) }
+    ensures bounded { length kept.old.items ≤ 263216 → length kept.new.items ≤ 263216 }
+    ensures capacity { vec_capacity kept.old ≤ vec_capacity kept.new }
+    ensures memory { IsErrOf result FrameFault.NoMemory → vec_capacity kept.old < 263216 }
 {
     let mut id = [0u8; 1];
     read_exact(source, &mut id)?;
@@ -77,6 +84,9 @@ pub fn read_frame<R: Source>(source: &mut R, kept: &mut Vec<u8>) -> Result<Optio
     ensures counts { MatchResult result
         (λ _. R.faults source.new ≡ R.faults source.old)
         (CountsRead (R.faults source.old) (R.faults source.new)) }
+    ensures bounded { length kept.old.items ≤ 263216 → length kept.new.items ≤ 263216 }
+    ensures capacity { vec_capacity kept.old ≤ vec_capacity kept.new }
+    ensures memory { IsErrOf result FrameFault.NoMemory → vec_capacity kept.old < 263216 }
 {
     match read_length(source)? {
         None => Ok(None),
