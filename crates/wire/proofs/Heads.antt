@@ -21,9 +21,10 @@ length-kept id len items buf e some room =
 pub Holds-kept : (id len n : ℕ) (kind : Kind) (items buf : List ℕ) → buf ≡ id ∷ [] → IsHead id len (Kept kind n) → 0 < len → len - 1 ≤ length items
     → Holds (Kept kind n) items (buf ++ take (len - 1) items)
 Holds-kept id len n kind items buf e h some room = (
-    subst (λ k. IsRightSize (id_of kind) k) (sym h.1) (subst (λ i. IsRightSize i len) h.0 h.2),
-    h.1 ∙ sym (length-kept id len items buf e some room),
-    rw (e, h.1) (ap (λ i. i ∷ take (len - 1) items) h.0))
+  subst (λ k. IsRightSize (id_of kind) k) (sym h.1) (subst (λ i. IsRightSize i len) h.0 h.2),
+  h.1 ∙ sym (length-kept id len items buf e some room),
+  rw (e, h.1) (ap (λ i. i ∷ take (len - 1) items) h.0),
+)
 
 -- an id was read, and the rest was skipped
 pub Holds-skipped : (id len : ℕ) (head : Head) (items buf rest : List ℕ) → buf ≡ id ∷ [] → IsHead id len head → ((kind : Kind) (n : ℕ) → head ≡ Kept kind n → ⊥) → length rest + 1 ≡ len

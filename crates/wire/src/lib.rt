@@ -11,7 +11,9 @@ mod message;
 mod number;
 mod parse;
 mod read;
+mod reader;
 
 pub use fault::FrameFault;
 pub use frame::Frame;
 pub use message::{Ask, Hash, Message};
+pub use reader::FrameReader;

@@ -15,11 +15,7 @@ use benc::Source;
 const MAX_KEPT: usize = MAX_BODY as usize - 1;
 
 /// Reads so many bytes to the front of the room.
-fn read_front<R: Source>(
-    source: &mut R,
-    room: &mut [u8],
-    count: usize,
-) -> Result<(), FrameFault>
+fn read_front<R: Source>(source: &mut R, room: &mut [u8], count: usize) -> Result<(), FrameFault>
     requires { count ≤ length room.old }
     ensures bytes { MatchResult result
         (λ _. Gave R.left R.limit source.old source.new (take count room.new))

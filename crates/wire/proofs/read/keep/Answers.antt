@@ -19,5 +19,5 @@ returns-clause-bytes g c =
     let size : grown.len ≡ 263216 = c.in_ok-resize.ensures.len in
     let same : length new ≡ 263216 = c.read_front.auto.room ∙ c.as_mut_slice.ensures.len ∙ c.in_ok-resize.ensures.len in
     MatchResult-weaker c.read_front.result c.read_front.ensures.bytes
-      (λ _ gave. subst (Gave S.left S.limit c.args.source.now c.read_front.new.source) (sym (take-written c.args.count grown.len new grown.items (omega (arith, c.requires.bounded)) (omega (arith, c.requires.bounded)))) gave)
-      (λ _ s. s)
+    (λ _ gave. subst (Gave S.left S.limit c.args.source.now c.read_front.new.source) (sym (take-written c.args.count grown.len new grown.items (omega (arith, c.requires.bounded)) (omega (arith, c.requires.bounded)))) gave)
+    (λ _ s. s)

@@ -27,6 +27,9 @@ unfolding frame
 returns-in_ok-read_body-in-Some-clause-bytes g c =
     let S = g.R.Source in
     let front = rw c.in-Some.is at c.in_ok-read_length.ensures.bytes in
-    let rest = c.in_ok-read_body-in-Some.ensures.bytes in
-    (rest.0, rw rest.2 front.1,
-      rw rest.2 (Gave-trans S.left S.limit c.args.source.now c.read_length.new.source c.read_body.new.source (four_bytes c.in-Some.len) rest.0 front.0 rest.1), rest.3)
+    let rest = c.in_ok-read_body-in-Some.ensures.bytes in (
+      rest.0,
+      rw rest.2 front.1,
+      rw rest.2 (Gave-trans S.left S.limit c.args.source.now c.read_length.new.source c.read_body.new.source (four_bytes c.in-Some.len) rest.0 front.0 rest.1),
+      rest.3,
+    )
