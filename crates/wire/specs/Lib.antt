@@ -4,3 +4,4 @@ pub mod Head
 pub mod Kind
 pub mod Meaning
 pub mod Reading
+pub mod Rows

@@ -1,6 +1,11 @@
 //! A reader of frames that lends its own buffer.
-ghost use Rattle.std.specs.Prelude.{◌≡◌, ◌≤◌, ◌<◌, ℕ, List, [], true, false, length, Ok, Err, IfOk, IfErr, IsErrOf, MatchResult, MatchBool, vec_capacity};
+ghost use Rattle.std.specs.Prelude.{◌≡◌, ◌≤◌, ◌<◌, ℕ, List, [], true, false, length, Ok, Err, IfOk, IfErr, IsErrOf, MatchResult, MatchBool, MatchOption, vec_capacity};
 ghost use Rattle.std.specs.Bool.{OnTrue, OnFalse};
+ghost use mir.Syntax.{named};
+ghost use Rattle.std.specs.Borrow.{sem};
+ghost use Rattle.std.specs.Io.BufRead.{Rests};
+ghost use Rattle.wire.specs.contracts.reader.FrameReader.{the_row};
+ghost use Rattle.wire.specs.Rows.{bytes_row};
 ghost use Rattle.std.specs.Io.KnownBytes.{IsAtEnd};
 ghost use Rattle.wire.specs.Frames.{IsBody, frame};
 ghost use Rattle.wire.specs.Head.{Holds};
@@ -89,6 +94,24 @@ impl<'r, R: Source> FrameReader<'r, R> {
                 self.state = State::Failed(fault);
                 Err(fault)
             }
+        }
+    }
+
+    /// The next frame, or `None` at the end of the source.
+    pub fn next(&mut self) -> Result<Option<Frame<'_>>, FrameFault>
+        ensures* after_loan { sem 𝓛 (Rests (the_row (record { mir = named 1; lft = [] }) R.row bytes_row) self.entry (λ new.
+            (new.source.ghost_name ≡ self.entry.now.source.ghost_name)
+            × (self.entry.now.state ≡ state.Open → MatchResult result
+                (λ found. MatchOption found
+                    (Gave R.left R.limit self.entry.now.source.now new.source.now [] × IsAtEnd (R.left new.source.now))
+                    (λ f. (body : List ℕ) × IsBody body × Gave R.left R.limit self.entry.now.source.now new.source.now (frame body) × Means body f))
+                (StopsInFrame R.left R.limit self.entry.now.source.now new.source.now))
+            )) }
+    {
+        if self.advance()? {
+            Ok(Some(self.frame()))
+        } else {
+            Ok(None)
         }
     }
 
