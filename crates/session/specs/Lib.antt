@@ -1,0 +1,11 @@
+-- Partial hash trees, what messages claim of them, and sessions.
+pub mod Digest
+pub mod TreeRoot
+pub mod Partial
+pub mod Claims
+pub mod Fill
+pub mod Gaps
+pub mod Known
+pub mod Flat
+pub mod Kept
+pub mod Session

@@ -1,0 +1,26 @@
+//! What a session says of one message.
+
+use crate::refusal::{BlockRefusal, HashRefusal};
+
+/// What a session says of one message.
+#[derive(Clone, Copy, Debug, PartialEq, Eq)]
+pub enum Verdict {
+    /// Hashes were taken: so many places are newly known, those past the file's end counted.
+    Stored(u64),
+    /// Hashes were refused, and nothing has changed.
+    HashRefused(HashRefusal),
+    /// The block of the file is the one that its leaf tells, and is marked. Both are numbered from 0.
+    Verified { file: usize, block: u64 },
+    /// A block was refused, and nothing has changed.
+    BlockRefused(BlockRefusal),
+    /// The hashes that are asked for are known.
+    Answered,
+    /// They are not, or there are none such.
+    Rejected,
+    /// A peer rejects an ask.
+    RejectNoted,
+    /// Keeps the connection alive.
+    KeepAlive,
+    /// A message of another id.
+    Skipped(u8),
+}
