@@ -6,3 +6,4 @@ pub mod Giving
 pub mod Heads
 pub mod Partial
 pub mod Stopping
+pub mod Written

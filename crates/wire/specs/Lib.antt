@@ -5,3 +5,4 @@ pub mod Kind
 pub mod Meaning
 pub mod Reading
 pub mod Rows
+pub mod Writable

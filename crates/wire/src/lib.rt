@@ -6,14 +6,18 @@ mod fault;
 mod frame;
 mod hashes;
 mod head;
+mod header;
 mod kind;
 mod message;
 mod number;
 mod parse;
 mod read;
 mod reader;
+mod writing;
 
+pub use benc::WriteFault;
 pub use fault::FrameFault;
 pub use frame::Frame;
 pub use message::{Ask, Hash, Message};
 pub use reader::FrameReader;
+pub use writing::write;

@@ -102,10 +102,10 @@ impl<'r, R: Source> FrameReader<'r, R> {
         ensures* after_loan { sem 𝓛 (Rests (the_row (record { mir = named 1; lft = [] }) R.row bytes_row) self.entry (λ new.
             (new.source.ghost_name ≡ self.entry.now.source.ghost_name)
             × (self.entry.now.state ≡ state.Open → MatchResult result
-                (λ found. MatchOption found
-                    (Gave R.left R.limit self.entry.now.source.now new.source.now [] × IsAtEnd (R.left new.source.now))
-                    (λ f. (body : List ℕ) × IsBody body × Gave R.left R.limit self.entry.now.source.now new.source.now (frame body) × Means body f))
-                (StopsInFrame R.left R.limit self.entry.now.source.now new.source.now))
+            (λ found. MatchOption found
+            (Gave R.left R.limit self.entry.now.source.now new.source.now [] × IsAtEnd (R.left new.source.now))
+            (λ f. (body : List ℕ) × IsBody body × Gave R.left R.limit self.entry.now.source.now new.source.now (frame body) × Means body f))
+            (StopsInFrame R.left R.limit self.entry.now.source.now new.source.now))
             )) }
     {
         if self.advance()? {
