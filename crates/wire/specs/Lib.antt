@@ -4,5 +4,6 @@ pub mod Head
 pub mod Kind
 pub mod Meaning
 pub mod Reading
+pub mod Reader
 pub mod Rows
 pub mod Writable

@@ -1,9 +1,7 @@
 //! One frame from a source.
-ghost use Rattle.std.specs.Prelude.{◌≡◌, ◌≤◌, ◌<◌, ◌-◌, ℕ, [], List, length, take, MatchResult, MatchOption, OnOk, IsErrOf, vec_capacity};
-ghost use Rattle.std.specs.Io.KnownBytes.{IsAtEnd};
-ghost use Rattle.wire.specs.Frames.{IsBody, frame};
+ghost use Rattle.std.specs.Prelude.{◌≡◌, ◌≤◌, ◌<◌, ◌-◌, ℕ, [], List, length, take, MatchResult, OnOk, IsErrOf, vec_capacity};
 ghost use Rattle.wire.specs.Head.{Holds};
-ghost use Rattle.wire.specs.Reading.{Gave, StopsShort, StopsInFrame, CountsRead};
+ghost use Rattle.wire.specs.Reading.{Gave, StopsShort, Gives, CountsRead};
 
 use crate::bytes::{read_exact, read_length, skip};
 use crate::fault::FrameFault;
@@ -72,11 +70,7 @@ fn read_body<R: Source>(source: &mut R, kept: &mut Vec<u8>, len: u32) -> Result<
 
 /// Reads the next frame, or `None` at the end of the source.
 pub fn read_frame<R: Source>(source: &mut R, kept: &mut Vec<u8>) -> Result<Option<Head>, FrameFault>
-    ensures bytes { MatchResult result
-        (λ found. MatchOption found
-        (Gave R.left R.limit source.old source.new [] × IsAtEnd (R.left source.new))
-        (λ head. (body : List ℕ) × IsBody body × Gave R.left R.limit source.old source.new (frame body) × Holds head kept.new.items body))
-        (StopsInFrame R.left R.limit source.old source.new) }
+    ensures bytes { Gives R.left R.limit source.old source.new (λ body head. Holds head kept.new.items body) result }
     ensures counts { MatchResult result
         (λ _. R.faults source.new ≡ R.faults source.old)
         (CountsRead (R.faults source.old) (R.faults source.new)) }

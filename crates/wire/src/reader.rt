@@ -1,17 +1,15 @@
 //! A reader of frames that lends its own buffer.
-ghost use Rattle.std.specs.Prelude.{◌≡◌, ◌≤◌, ◌<◌, ℕ, List, [], true, false, length, Ok, Err, IfOk, IfErr, IsErrOf, MatchResult, MatchBool, MatchOption, vec_capacity};
-ghost use Rattle.std.specs.Bool.{OnTrue, OnFalse};
 ghost use mir.Syntax.{named};
+ghost use Rattle.std.specs.Prelude.{◌≡◌, ◌≤◌, ℕ, List, [], true, false, Ok, Err, IfOk, IfErr, IfSome, IsErrOf, MatchResult, MatchBool};
+ghost use Rattle.std.specs.Bool.{OnTrue, OnFalse};
 ghost use Rattle.std.specs.Borrow.{sem};
 ghost use Rattle.std.specs.Io.BufRead.{Rests};
-ghost use Rattle.wire.specs.contracts.reader.FrameReader.{the_row};
-ghost use Rattle.wire.specs.Rows.{bytes_row};
 ghost use Rattle.std.specs.Io.KnownBytes.{IsAtEnd};
 ghost use Rattle.wire.specs.Frames.{IsBody, frame};
-ghost use Rattle.wire.specs.Head.{Holds};
 ghost use Rattle.wire.specs.Meaning.{Means};
 ghost use Rattle.wire.specs.Reading.{Gave, StopsInFrame, CountsRead};
-ghost use Rattle.wire.specs.declared.reader.State.TheVariants as state;
+ghost use Rattle.wire.specs.Rows.{bytes_row};
+ghost use Rattle.wire.specs.contracts.reader.FrameReader.{the_row};
 
 use crate::fault::FrameFault;
 use crate::frame::Frame;
@@ -40,12 +38,14 @@ pub struct FrameReader<'r, R: Source, B: Drop = Vec<u8>> {
 }
 
 impl<'r, R: Source> FrameReader<'r, R> {
+    ghost use Rattle.wire.specs.Reader.{AsksNext, HasEnded, HasFailed, HasRoom, HoldsBody, IsOpen, kept_len};
+
     /// A reader of what the source gives from here on. It takes no memory yet.
     pub fn new(alloc: Global, source: &'r mut R) -> FrameReader<'r, R>
         ensures same_reference { result.source.ghost_name ≡ source.entry.ghost_name }
         ensures source { result.source.now ≡ source.old }
-        ensures open { result.state ≡ state.Open }
-        ensures kept { result.kept.items ≡ [] }
+        ensures open { IsOpen result }
+        ensures kept { kept_len result ≡ 0 }
     {
         FrameReader {
             source,
@@ -55,26 +55,46 @@ impl<'r, R: Source> FrameReader<'r, R> {
         }
     }
 
-    /// Reads the next frame.
+    /// The next frame, or `None` at the end of the source. After `None` and after a fault each later
+    /// call answers the same. `NoMemory` comes only from the first growth of the reader's buffer.
+    pub fn next(&mut self) -> Result<Option<Frame<'_>>, FrameFault>
+        ensures means { IfOk result (λ found. IfSome found (λ f. (body : List ℕ) × Means body f)) }
+        ensures* after_loan { sem 𝓛 (Rests (the_row (record { mir = named 1; lft = [] }) R.row bytes_row) self.entry
+            (λ new. AsksNext R.left R.limit R.faults self.entry.now new Means result)) }
+    {
+        if self.advance()? {
+            Ok(Some(self.frame()))
+        } else {
+            Ok(None)
+        }
+    }
+
+    /// Reads the next frame, if there is one: `next` in two steps, the loan apart.
     pub fn advance(&mut self) -> Result<bool, FrameFault>
         ensures same_reference { self.new.source.ghost_name ≡ self.old.source.ghost_name }
-        ensures frame { self.old.state ≡ state.Open → IfOk result (λ more. OnTrue more
-            ((body : List ℕ) × IsBody body × Gave R.left R.limit self.old.source.now self.new.source.now (frame body) × Holds self.new.head self.new.kept.items body)) }
-        ensures end { self.old.state ≡ state.Open → IfOk result (λ more. OnFalse more
+
+        // The frame that stands next, whole, and its body.
+        ensures frame { IsOpen self.old → IfOk result (λ more. OnTrue more ((body : List ℕ) × IsBody body
+            × Gave R.left R.limit self.old.source.now self.new.source.now (frame body) × HoldsBody self.new body)) }
+
+        // Nothing stands next.
+        ensures end { IsOpen self.old → IfOk result (λ more. OnFalse more
             (Gave R.left R.limit self.old.source.now self.new.source.now [] × IsAtEnd (R.left self.new.source.now))) }
-        ensures fault { self.old.state ≡ state.Open → IfErr result
+
+        // No whole frame was lost.
+        ensures fault { IsOpen self.old → IfErr result
             (StopsInFrame R.left R.limit self.old.source.now self.new.source.now) }
-        ensures counts { self.old.state ≡ state.Open → MatchResult result
+        ensures counts { IsOpen self.old → MatchResult result
             (λ _. R.faults self.new.source.now ≡ R.faults self.old.source.now)
             (CountsRead (R.faults self.old.source.now) (R.faults self.new.source.now)) }
-        ensures state { MatchResult result
-            (λ more. MatchBool more (self.new.state ≡ state.Open) (self.new.state ≡ state.Ended))
-            (λ why. self.new.state ≡ state.Failed why) }
-        ensures ended_again { self.old.state ≡ state.Ended → (result ≡ Ok false) × (self.new ≡ self.old) }
-        ensures failed_again { (why : FrameFault) → self.old.state ≡ state.Failed why → (result ≡ Err why) × (self.new ≡ self.old) }
-        ensures bounded { length self.old.kept.items ≤ 263216 → length self.new.kept.items ≤ 263216 }
-        ensures memory { self.old.state ≡ state.Open → IsErrOf result FrameFault.NoMemory → vec_capacity self.old.kept < 263216 }
-        ensures capacity { vec_capacity self.old.kept ≤ vec_capacity self.new.kept }
+        ensures stands { MatchResult result
+            (λ more. MatchBool more (IsOpen self.new) (HasEnded self.new))
+            (HasFailed self.new) }
+        ensures ended_again { HasEnded self.old → (result ≡ Ok false) × (self.new ≡ self.old) }
+        ensures failed_again { (why : FrameFault) → HasFailed self.old why → (result ≡ Err why) × (self.new ≡ self.old) }
+        ensures bounded { kept_len self.old ≤ 263216 → kept_len self.new ≤ 263216 }
+        ensures memory { IsOpen self.old → IsErrOf result FrameFault.NoMemory → ¬ HasRoom self.old }
+        ensures room { HasRoom self.old → HasRoom self.new }
     {
         match self.state {
             State::Open => {}
@@ -97,28 +117,10 @@ impl<'r, R: Source> FrameReader<'r, R> {
         }
     }
 
-    /// The next frame, or `None` at the end of the source.
-    pub fn next(&mut self) -> Result<Option<Frame<'_>>, FrameFault>
-        ensures* after_loan { sem 𝓛 (Rests (the_row (record { mir = named 1; lft = [] }) R.row bytes_row) self.entry (λ new.
-            (new.source.ghost_name ≡ self.entry.now.source.ghost_name)
-            × (self.entry.now.state ≡ state.Open → MatchResult result
-            (λ found. MatchOption found
-            (Gave R.left R.limit self.entry.now.source.now new.source.now [] × IsAtEnd (R.left new.source.now))
-            (λ f. (body : List ℕ) × IsBody body × Gave R.left R.limit self.entry.now.source.now new.source.now (frame body) × Means body f))
-            (StopsInFrame R.left R.limit self.entry.now.source.now new.source.now))
-            )) }
-    {
-        if self.advance()? {
-            Ok(Some(self.frame()))
-        } else {
-            Ok(None)
-        }
-    }
-
-    /// The frame that was read last.
+    /// The frame that `advance` read last. It borrows the reader's own buffer.
     pub fn frame(&self) -> Frame<'_>
-        requires held { (body : List ℕ) × Holds self.now.head self.now.kept.items body }
-        ensures { (body : List ℕ) → Holds self.now.head self.now.kept.items body → Means body result }
+        requires held { (body : List ℕ) × HoldsBody self.now body }
+        ensures { (body : List ℕ) → HoldsBody self.now body → Means body result }
     {
         frame_of(self.head, &self.kept)
     }
