@@ -21,3 +21,6 @@ pub use frame::Frame;
 pub use message::{Ask, Hash, Message};
 pub use reader::FrameReader;
 pub use writing::write;
+
+#[cfg(test)]
+mod tests;
