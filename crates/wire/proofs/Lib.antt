@@ -4,6 +4,7 @@ pub mod Fields
 pub mod FourBytes
 pub mod Giving
 pub mod Heads
+pub mod OneReading
 pub mod Partial
 pub mod Stopping
 pub mod Written

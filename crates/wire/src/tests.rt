@@ -1,15 +1,12 @@
 use super::*;
-use benc::{MemSink, MemSource};
+use benc::{MemSink, MemSource, Source};
 use std::alloc::{AllocError, Global};
 use std::process::Abort;
 use std::test::*;
 
-// The answers of eight calls, from a source that gives at most so many bytes a call and fails after some calls.
-fn told(alloc: Global, record: &[u8], at_most: usize, calls: u64) -> Result<String, AllocError>
-    requires { 0 < at_most }
-{
-    let mut source = MemSource::new(record).at_most(at_most).fails_after(calls);
-    let mut reader = FrameReader::new(alloc, &mut source);
+// The answers of eight calls.
+fn told<R: Source>(alloc: Global, source: &mut R) -> Result<String, AllocError> {
+    let mut reader = FrameReader::new(alloc, source);
     let mut text = String::new(alloc);
     for _ in 0..8u8 {
         let answer = match reader.next() {
@@ -26,7 +23,8 @@ fn told(alloc: Global, record: &[u8], at_most: usize, calls: u64) -> Result<Stri
 // The same however the record is cut.
 fn expect(rt: &impl Abort, alloc: Global, record: &[u8], answers: &str) {
     for at_most in [1, 7, usize::MAX] {
-        let text = told(alloc, record, at_most, u64::MAX).expect(rt, "memory");
+        let mut source = MemSource::new(record).at_most(at_most);
+        let text = told(alloc, &mut source).expect(rt, "memory");
         assert!(rt; text.starts_with(answers), "{text}");
     }
 }
@@ -78,7 +76,8 @@ fn a_record_is_read_however_it_is_cut(rt: HostRuntime) {
     ] {
         expect(&rt, rt.alloc(), bytes, "Truncated;Truncated;");
     }
-    let text = told(rt.alloc(), &RECORD, usize::MAX, 1).expect(&rt, "memory");
+    let mut source = MemSource::new(&RECORD).fails_after(1);
+    let text = told(rt.alloc(), &mut source).expect(&rt, "memory");
     assert!(rt;
         text.as_str() == "KeepAlive;Read;Read;Read;Read;Read;Read;Read;",
         "{text}"
@@ -104,6 +103,12 @@ fn frames_of_a_wrong_size_are_skipped(rt: HostRuntime) {
     );
 }
 
+// Whether the first frame has a message.
+fn has_message<R: Source>(alloc: Global, source: &mut R) -> bool {
+    let mut reader = FrameReader::new(alloc, source);
+    matches!(reader.next(), Ok(Some(Frame::Message(_))))
+}
+
 #[test]
 fn each_size_is_right_or_wrong(rt: HostRuntime) {
     for (id, len, right) in [
@@ -127,12 +132,7 @@ fn each_size_is_right_or_wrong(rt: HostRuntime) {
     ] {
         let bytes = frame(rt.alloc(), id, len).expect(&rt, "memory");
         let mut source = MemSource::new(&bytes);
-        let mut reader = FrameReader::new(rt.alloc(), &mut source);
-        let is_message = match reader.next() {
-            Ok(Some(Frame::Message(_))) => true,
-            Ok(Some(Frame::BadSize { .. })) => false,
-            _ => panic!(&rt; "no frame"),
-        };
+        let is_message = has_message(rt.alloc(), &mut source);
         assert!(rt; is_message == right, "id {id}, {len} bytes");
     }
 }

@@ -1,0 +1,13 @@
+//! Laws of frames and of what they mean.
+ghost use Rattle.std.specs.Prelude.{◌≡◌, ℕ, ◌<◌, List, All};
+ghost use Rattle.wire.specs.Frames.{Frames};
+
+/// A stream has one list of frames and one rest.
+pub fn one_list_of_frames()
+    ensures { (bytes : List ℕ) (bs cs : List (List ℕ)) (r s : List ℕ) → Frames bytes bs r → Frames bytes cs s → (bs ≡ cs) × (r ≡ s) }
+{}
+
+/// Each list of bytes is the frames of a stream, and a rest.
+pub fn each_stream_has_frames()
+    ensures { (bytes : List ℕ) → All (λ b. b < 256) bytes → (bodies : List (List ℕ)) × (rest : List ℕ) × Frames bytes bodies rest }
+{}
