@@ -6,5 +6,6 @@ pub mod Giving
 pub mod Heads
 pub mod OneReading
 pub mod Partial
+pub mod Runs
 pub mod Stopping
 pub mod Written

@@ -3,7 +3,8 @@ use Rattle.std.proofs.Common.{◌≡◌, ℕ, zero, suc, ◌+◌, ◌-◌, ◌^�
 use Rattle.std.specs.List.{flat_map, AllByRecursion}
 use Rattle.std.proofs.lemmas.Bool.{cases_lt}
 use Rattle.std.proofs.lemmas.List.{append_assoc, take_at, drop_at, take-append-drop, length-take-le, length-drop, get_or-drop, get_or_past}
-use Rattle.std.proofs.lemmas.List.Elements.{All-nil, All-cons, recursion_from_All}
+use Rattle.std.proofs.lemmas.List.Elements.{All-append, All-cons, All-nil, recursion_from_All}
+use Rattle.std.proofs.lemmas.List.Concat.{flat_map-append}
 use Rattle.byteorder.specs.Endian.{big_number}
 use Rattle.wire.specs.Frames.{IsBody, IsPartial, Frames, four_bytes, frame}
 use Rattle.wire.proofs.FourBytes.{same_from_four_bytes, four_bytes-big_number_at, big_number-fits}
@@ -91,3 +92,11 @@ frames_within (suc fuel) bytes enough are =
 
 pub Frames-of_bytes : (bytes : List ℕ) → All (λ b. b < 256) bytes → (bodies : List (List ℕ)) × (rest : List ℕ) × Frames bytes bodies rest
 Frames-of_bytes bytes are = frames_within (suc (length bytes)) bytes (omega arith) (λ i. ⊎_elim (λ lt. are i 0 lt) (λ past. rw (get_or_past bytes i 0 past) (omega arith)) (cases_lt i (length bytes)))
+
+-- frames after frames
+pub Frames-append : (bytes rest : List ℕ) (bodies more : List (List ℕ)) → All IsBody bodies → Frames bytes more rest → Frames (flat_map frame bodies ++ bytes) (bodies ++ more) rest
+Frames-append bytes rest bodies more each f = record {
+  whole = ap (λ t. flat_map frame bodies ++ t) f.whole ∙ sym (ap (λ t. t ++ rest) (flat_map-append frame bodies more) ∙ append_assoc (flat_map frame bodies) (flat_map frame more) rest);
+  each = All-append IsBody bodies more each f.each;
+  partial = f.partial;
+}

@@ -1,6 +1,7 @@
 //! Laws of frames and of what they mean.
-ghost use Rattle.std.specs.Prelude.{◌≡◌, ℕ, ◌<◌, List, All};
-ghost use Rattle.wire.specs.Frames.{Frames};
+ghost use Rattle.std.specs.Prelude.{◌≡◌, ℕ, ◌<◌, ◌++◌, List, All};
+ghost use Rattle.std.specs.List.{flat_map};
+ghost use Rattle.wire.specs.Frames.{Frames, IsBody, frame};
 
 /// A stream has one list of frames and one rest.
 pub fn one_list_of_frames()
@@ -10,4 +11,10 @@ pub fn one_list_of_frames()
 /// Each list of bytes is the frames of a stream, and a rest.
 pub fn each_stream_has_frames()
     ensures { (bytes : List ℕ) → All (λ b. b < 256) bytes → (bodies : List (List ℕ)) × (rest : List ℕ) × Frames bytes bodies rest }
+{}
+
+/// Frames that were written, one after the other, are the first frames of the stream, whatever follows them.
+pub fn frames_after_frames()
+    ensures { (bytes rest : List ℕ) (bodies more : List (List ℕ)) → All IsBody bodies → Frames bytes more rest
+        → Frames (flat_map frame bodies ++ bytes) (bodies ++ more) rest }
 {}

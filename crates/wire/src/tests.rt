@@ -1,3 +1,6 @@
+ghost use Rattle.std.specs.Prelude.{◌≡◌, ℕ, ◌<◌, [], List, length, Some, IfOk};
+ghost use Rattle.wire.specs.Frames.{Frames};
+
 use super::*;
 use benc::{MemSink, MemSource, Source};
 use std::alloc::{AllocError, Global};
@@ -18,6 +21,19 @@ fn told<R: Source>(alloc: Global, source: &mut R) -> Result<String, AllocError> 
         text.push_str(&answer)?;
     }
     Ok(text)
+}
+
+// A loop over `advance` knows that what it met are the frames of the record.
+fn count_frames<R: Source>(alloc: Global, source: &mut R) -> Result<u64, FrameFault>
+    ensures { IfOk result (λ n. (bytes : List ℕ) → R.left source.old ≡ Some bytes → (bodies : List (List ℕ)) × Frames bytes bodies [] × (length bodies ≡ n)) }
+{
+    let mut reader = FrameReader::new(alloc, source);
+    let mut n = 0u64;
+    'frames: while reader.advance()? {
+        let _ = reader.frame();
+        n += 1;
+    }
+    Ok(n)
 }
 
 // The same however the record is cut.
@@ -82,6 +98,14 @@ fn a_record_is_read_however_it_is_cut(rt: HostRuntime) {
         text.as_str() == "KeepAlive;Read;Read;Read;Read;Read;Read;Read;",
         "{text}"
     );
+}
+
+#[test]
+fn a_record_has_so_many_frames(rt: HostRuntime) {
+    for (end, count) in [(0, Ok(0)), (29, Ok(3)), (30, Err(FrameFault::Truncated))] {
+        let mut source = MemSource::new(&RECORD[..end]);
+        assert!(rt; count_frames(rt.alloc(), &mut source) == count);
+    }
 }
 
 #[test]
