@@ -4,6 +4,7 @@ pub mod Fields
 pub mod FourBytes
 pub mod Giving
 pub mod Heads
+pub mod Meanings
 pub mod OneReading
 pub mod Partial
 pub mod Runs

@@ -2,6 +2,8 @@
 ghost use Rattle.std.specs.Prelude.{◌≡◌, ℕ, ◌<◌, ◌++◌, List, All};
 ghost use Rattle.std.specs.List.{flat_map};
 ghost use Rattle.wire.specs.Frames.{Frames, IsBody, frame};
+ghost use Rattle.wire.specs.Meaning.{Means, SameFrame};
+ghost use Rattle.wire.specs.declared.frame.Frame.{Frame as Told};
 
 /// A stream has one list of frames and one rest.
 pub fn one_list_of_frames()
@@ -17,4 +19,9 @@ pub fn each_stream_has_frames()
 pub fn frames_after_frames()
     ensures { (bytes rest : List ℕ) (bodies more : List (List ℕ)) → All IsBody bodies → Frames bytes more rest
         → Frames (flat_map frame bodies ++ bytes) (bodies ++ more) rest }
+{}
+
+/// A body means one frame, so what was written is read again as the same message.
+pub fn one_meaning()
+    ensures { (body : List ℕ) (f g : Told) → Means body f → Means body g → SameFrame f g }
 {}

@@ -19,7 +19,7 @@ mod writing;
 pub use benc::WriteFault;
 pub use fault::FrameFault;
 pub use frame::Frame;
-pub use laws::{each_stream_has_frames, frames_after_frames, one_list_of_frames};
+pub use laws::{each_stream_has_frames, frames_after_frames, one_list_of_frames, one_meaning};
 pub use message::{Ask, Hash, Message};
 pub use reader::FrameReader;
 pub use writing::write;
