@@ -1,4 +1,4 @@
-ghost use Rattle.std.specs.Prelude.{◌≡◌, ℕ, ◌<◌, [], List, length, Some, IfOk};
+ghost use Rattle.std.specs.Prelude.{◌≡◌, ℕ, [], List, length, Some, IfOk};
 ghost use Rattle.wire.specs.Frames.{Frames};
 
 use super::*;
@@ -46,9 +46,7 @@ fn expect(rt: &impl Abort, alloc: Global, record: &[u8], answers: &str) {
 }
 
 // A frame of zeros after its id.
-fn frame(alloc: Global, id: u8, len: u32) -> Result<Vec<u8>, AllocError>
-    requires { 0 < len }
-{
+fn frame(alloc: Global, id: u8, len: u32) -> Result<Vec<u8>, AllocError> {
     let mut bytes = Vec::from_slice(alloc, &len.to_be_bytes())?;
     bytes.push(id)?;
     bytes.resize(len as usize + 4, 0)?;
