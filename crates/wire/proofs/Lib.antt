@@ -3,5 +3,10 @@ pub mod Chunks
 pub mod Fields
 pub mod FourBytes
 pub mod Giving
+pub mod Heads
+pub mod Meanings
+pub mod OneReading
 pub mod Partial
+pub mod Runs
 pub mod Stopping
+pub mod Written

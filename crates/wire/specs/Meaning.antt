@@ -80,3 +80,19 @@ MeansMessage body (message.Other id len) = IsOf body id len × ¬ IsRead id
 abbrev pub Means : List ℕ → Frame → Type 0
 Means body (frame.Message m) = MeansMessage body m
 Means body (frame.BadSize id len) = IsOf body id len × IsRead id × ¬ IsRightSize id len
+
+-- the same message, wherever its block or its hashes lie
+abbrev pub SameMessage : Message → Message → Type 0
+SameMessage message.KeepAlive message.KeepAlive = Unit {0}
+SameMessage (message.Piece i b x) (message.Piece j c y) = (i ≡ j) × (b ≡ c) × (x.now ≡ y.now)
+SameMessage (message.Request a) (message.Request b) = a ≡ b
+SameMessage (message.Hashes a xs) (message.Hashes b ys) = (a ≡ b) × (xs.now ≡ ys.now)
+SameMessage (message.Reject a) (message.Reject b) = a ≡ b
+SameMessage (message.Other i m) (message.Other j n) = (i ≡ j) × (m ≡ n)
+SameMessage _ _ = ⊥
+
+-- the same frame, in that sense
+abbrev pub SameFrame : Frame → Frame → Type 0
+SameFrame (frame.Message m) (frame.Message n) = SameMessage m n
+SameFrame (frame.BadSize i m) (frame.BadSize j n) = (i ≡ j) × (m ≡ n)
+SameFrame _ _ = ⊥

@@ -1,8 +1,8 @@
 -- What a source gave on the way to an answer. `left` and `limit` are those of the source's type.
-use Rattle.std.specs.Prelude.{◌≡◌, ◌≢◌, ℕ, ◌+◌, ◌<◌, List, [], length, Option}
+use Rattle.std.specs.Prelude.{◌≡◌, ◌≢◌, ℕ, ◌+◌, ◌<◌, List, [], length, Option, Result, MatchResult, MatchOption}
 use Rattle.std.specs.Io.KnownBytes.{Consumes, IsAtEnd}
 use Rattle.benc.specs.Device.{one_more}
-use Rattle.wire.specs.Frames.{IsPartial}
+use Rattle.wire.specs.Frames.{IsBody, IsPartial, frame}
 use Rattle.wire.specs.declared.fault.FrameFault.{FrameFault}
 use Rattle.wire.specs.declared.fault.FrameFault.TheVariants as fault
 
@@ -25,6 +25,14 @@ pub record StopsInFrame {S : Type 0} (left : S → Option (List ℕ)) (limit : S
   pub partial : IsPartial bytes
   pub begun : why ≡ fault.Truncated → bytes ≢ []
   pub ended : why ≡ fault.Truncated → IsAtEnd (left new)
+
+-- one call gives the next frame, with an answer that fits its body, or the end of the source, or a fault before a whole frame
+abbrev pub Gives : {S X : Type 0} → (S → Option (List ℕ)) → (S → ℕ) → S → S → (List ℕ → X → Type 0) → Result (Option X) FrameFault → Type 0
+Gives left limit old new Fits result = MatchResult result
+    (λ found. MatchOption found
+    (Gave left limit old new [] × IsAtEnd (left new))
+    (λ x. (body : List ℕ) × IsBody body × Gave left limit old new (frame body) × Fits body x))
+    (StopsInFrame left limit old new)
 
 -- the count of a source's faults grows by one at `Read`, and else stays
 abbrev pub CountsRead : ℕ → ℕ → FrameFault → Type 0

@@ -1,0 +1,45 @@
+-- How far a reader of frames has come, what it holds, and what a call that asks it for the next frame says.
+use Rattle.std.specs.Prelude.{◌≡◌, ℕ, ◌≤◌, List, length, Option, Some, None, Result, Ok, Err, MatchResult, MatchOption, IsErrOf, vec_capacity}
+use Rattle.std.specs.Global.{Vec}
+use Rattle.wire.specs.Head.{Holds}
+use Rattle.wire.specs.Reading.{Gives, CountsRead}
+use Rattle.wire.specs.declared.fault.FrameFault.{FrameFault}
+use Rattle.wire.specs.declared.fault.FrameFault.TheVariants as fault
+use Rattle.wire.specs.declared.reader.FrameReader.{FrameReader}
+use Rattle.wire.specs.declared.reader.State.TheVariants.{Open, Ended, Failed}
+
+-- it has met neither the end of its source nor a fault
+abbrev pub IsOpen : {S B : Type 0} → FrameReader S B → Type 0
+IsOpen reader = reader.state ≡ Open
+
+-- its source ended between two frames
+abbrev pub HasEnded : {S B : Type 0} → FrameReader S B → Type 0
+HasEnded reader = reader.state ≡ Ended
+
+-- it met this fault
+abbrev pub HasFailed : {S B : Type 0} → FrameReader S B → FrameFault → Type 0
+HasFailed reader why = reader.state ≡ Failed why
+
+-- the frame that it read last has this body
+abbrev pub HoldsBody : {S : Type 0} → FrameReader S (Vec ℕ) → List ℕ → Type 0
+HoldsBody reader body = Holds reader.head reader.kept.items body
+
+-- how many bytes of bodies it keeps, beside an id
+abbrev pub kept_len : {S : Type 0} → FrameReader S (Vec ℕ) → ℕ
+kept_len reader = length reader.kept.items
+
+-- its room holds the longest body that is kept, its id aside
+abbrev pub HasRoom : {S : Type 0} → FrameReader S (Vec ℕ) → Type 0
+HasRoom reader = 263216 ≤ vec_capacity reader.kept
+
+-- what a call that asks for the next frame answers, and what it leaves
+pub record AsksNext {S X : Type 0} (left : S → Option (List ℕ)) (limit faults : S → ℕ) (old new : FrameReader S (Vec ℕ)) (Fits : List ℕ → X → Type 0) (result : Result (Option X) FrameFault) : Type 0 where
+  pub same_reference : new.source.ghost_name ≡ old.source.ghost_name
+  pub gives : IsOpen old → Gives left limit old.source.now new.source.now Fits result
+  pub counts : IsOpen old → MatchResult result (λ _. faults new.source.now ≡ faults old.source.now) (CountsRead (faults old.source.now) (faults new.source.now))
+  pub stands : MatchResult result (λ found. MatchOption found (HasEnded new) (λ _. IsOpen new)) (HasFailed new)
+  pub ended_again : HasEnded old → (result ≡ Ok None) × (new.source.now ≡ old.source.now)
+  pub failed_again : (why : FrameFault) → HasFailed old why → (result ≡ Err why) × (new.source.now ≡ old.source.now)
+  pub bounded : kept_len old ≤ 263216 → kept_len new ≤ 263216
+  pub memory : IsOpen old → IsErrOf result fault.NoMemory → ¬ HasRoom old
+  pub room : HasRoom old → HasRoom new
