@@ -1,8 +1,9 @@
 //! What a client knows of the hash trees of a torrent (BEP 52), and what it makes of the messages that peers send.
 #![tactic(auto)]
 
-mod claims;
+mod evidence;
 mod flat;
+mod found;
 pub mod laws;
 pub mod node_map;
 mod refusal;
