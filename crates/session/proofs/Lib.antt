@@ -19,3 +19,4 @@ pub mod Filling
 pub mod Cells
 pub mod Noting
 pub mod Given
+pub mod Tracing

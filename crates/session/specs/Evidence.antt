@@ -1,5 +1,5 @@
 -- Hashes as evidence of the nodes of a tree, and what was found in them that is not known yet.
-use Rattle.std.specs.Prelude.{◌≡◌, ◌⊎◌, ℕ, ◌+◌, ◌-◌, ◌*◌, ◌/◌, ◌^◌, ◌≤◌, suc, true, List, [], ◌∷◌, ◌++◌, length, replicate, Option, Some, None}
+use Rattle.std.specs.Prelude.{◌≡◌, ◌≢◌, ◌⊎◌, ℕ, ◌+◌, ◌-◌, ◌*◌, ◌/◌, ◌^◌, ◌<◌, ◌≤◌, suc, true, List, [], ◌∷◌, ◌++◌, length, replicate, Option, Some, None}
 use Rattle.std.specs.List.{All}
 use Rattle.wire.specs.declared.message.Ask.{Ask}
 use Rattle.session.specs.declared.evidence.Evidence.{Evidence}
@@ -9,7 +9,14 @@ use Rattle.session.specs.declared.refusal.HashRefusal.{HashRefusal}
 use Rattle.session.specs.declared.refusal.HashRefusal.TheVariants.{Mismatch, NoMemory}
 use Rattle.session.specs.Digest.{Hash}
 use Rattle.session.specs.Partial.{PartialTree, IsKnown, IsPlace}
+use Rattle.session.specs.Known.{Known, look}
 use Rattle.session.specs.Claims.{given, claims, IsAgreed, IsMismatch}
+
+-- the fields are small
+pub record IsInside (e : Evidence) : Type 0 where
+  pub base : e.base ≤ 32
+  pub index : e.index < 2 ^ 32
+  pub span : e.span ≤ 32
 
 -- the base range as an ask
 abbrev pub range_of : Evidence → Ask
@@ -29,10 +36,9 @@ claimed_by e = claims (range_of e) (hashes_of e)
 abbrev pub LiesUnder : ℕ → ℕ → ℕ → ℕ → Type 0
 LiesUnder layer index l i = (l ≤ layer) × (i / 2 ^ (layer - l) ≡ index)
 
--- nothing is claimed directly below a given hash
+-- nothing is claimed below a given hash
 pub record IsPruned (e : Evidence) : Type 0 where
-  pub left : (l i : ℕ) (v w : Hash) → given_by e (suc l) i ≡ Some v → claimed_by e l (2 * i) ≡ Some w → ⊥
-  pub right : (l i : ℕ) (v w : Hash) → given_by e (suc l) i ≡ Some v → claimed_by e l (2 * i + 1) ≡ Some w → ⊥
+  pub below : (layer index l i : ℕ) (v w : Hash) → given_by e layer index ≡ Some v → LiesUnder layer index l i → l < layer → claimed_by e l i ≡ Some w → ⊥
 
 -- all that is claimed leads to one place
 pub record LeadsTo (e : Evidence) (layer index : ℕ) : Type 0 where
@@ -65,6 +71,18 @@ IsHandled C K found l i = (v : Hash) → C l i ≡ Some v → (K l i ≡ Some v)
 -- so it is at each place from (layer, index) down
 pub record AllHandled (C K : PartialTree) (found : Found) (layer index : ℕ) : Type 0 where
   pub at : (l i : ℕ) → LiesUnder layer index l i → IsHandled C K found l i
+
+-- and at each place below it
+pub record BelowHandled (C K : PartialTree) (found : Found) (layer index : ℕ) : Type 0 where
+  pub at : (l i : ℕ) → LiesUnder layer index l i → l < layer → IsHandled C K found l i
+
+-- the claim is known, or is noted and not known
+abbrev pub IsHandledClaim : Known → Found → Claim → Type 0
+IsHandledClaim m found c = (look m c.layer c.index ≡ Some c.hash) ⊎ ((look m c.layer c.index ≡ None) × IsNoted found c.layer c.index c.hash)
+
+-- another hash is known at its place
+abbrev pub DiffersFrom : Known → Claim → Type 0
+DiffersFrom m c = (v : Hash) × (look m c.layer c.index ≡ Some v) × (v ≢ c.hash)
 
 -- why claims are not stored
 abbrev pub StoreFault : PartialTree → PartialTree → HashRefusal → Type 0

@@ -1,14 +1,15 @@
 -- A partial tree as a value: a finite map from places to hashes. The laws are about `look`, the function that it is.
-use Rattle.std.specs.Prelude.{ℕ, zero, suc, ◌-◌, ◌^◌, leb, ltb, cond, ◌&&◌, List, [], ◌∷◌, Option, Some, None}
+use Rattle.std.specs.Prelude.{◌≡◌, ℕ, zero, suc, ◌+◌, ◌-◌, ◌^◌, leb, ltb, cond, ◌&&◌, List, [], ◌∷◌, Option, Some, None}
 use Rattle.std.specs.Coded.{Coded, coded×, coded_list, coded_ℕ}
 use Rattle.std.specs.Ordering.{nat_cmp, ordering_then}
 use Rattle.std.specs.declared.cmp.Ordering.{Ordering}
-use Rattle.std.specs.FinMap.{FinMap, get, insert, empty}
+use Rattle.std.specs.FinMap.{FinMap, get, insert, empty, len}
 use Rattle.std.specs.FinMap as map
 use Rattle.std.specs.FinSet as set
 use Rattle.session.specs.declared.found.Claim.{Claim}
 use Rattle.session.specs.Digest.{Hash}
 use Rattle.session.specs.Partial.{PartialTree}
+use Rattle.session.specs.Claims.{joined, IsAgreed}
 
 -- by layer, and then by index
 abbrev pub place_cmp : ℕ × ℕ → ℕ × ℕ → Ordering
@@ -68,3 +69,9 @@ with_new m c = insert_absent m (c.layer, c.index) c.hash (look m c.layer c.index
 abbrev pub insert_new : Known → List Claim → Known
 insert_new m [] = m
 insert_new m (c ∷ cs) = insert_new (with_new m c) cs
+
+-- C joined to what was known, with c more places
+pub record Joins (C : PartialTree) (before after : Known) (c : ℕ) : Type 0 where
+  pub agreed : IsAgreed (look before) C
+  pub joined_is : (l i : ℕ) → look after l i ≡ joined (look before) C l i
+  pub gained : len after ≡ len before + c

@@ -7,6 +7,7 @@ mod found;
 pub mod laws;
 pub mod node_map;
 mod refusal;
+mod storing;
 mod verdict;
 
 pub use flat::Flat;
