@@ -1,0 +1,45 @@
+//! Checks the hash trees of BitTorrent version 2.
+#![tactic(auto)]
+
+mod command;
+mod fault;
+mod perform;
+mod words;
+
+use fault::Fault;
+use std::process::ExitCode;
+use std::{env, io};
+
+// All words of the command line, the program's name first.
+fn all_words(rt: &HostRuntime) -> Result<Vec<String>, Fault<'static>> {
+    match env::args(rt) {
+        Ok(words) => Ok(words.collect(rt.alloc())?),
+        Err(error) if error.kind() == io::ErrorKind::OutOfMemory => Err(Fault::NoMemory),
+        Err(_) => Err(Fault::NotUtf8),
+    }
+}
+
+fn run(rt: &HostRuntime, words: &[&str]) -> ExitCode {
+    match words::action(rt.alloc(), words) {
+        Ok(action) => match perform::perform(rt, &action) {
+            Ok(status) => ExitCode::from(status),
+            Err(fault) => fault.report(rt),
+        },
+        Err(error) => words::explain(rt, &error),
+    }
+}
+
+fn main(rt: HostRuntime) -> ExitCode {
+    let words = match all_words(&rt) {
+        Ok(words) => words,
+        Err(fault) => return fault.report(&rt),
+    };
+    match words
+        .iter()
+        .map(|word| word.as_str())
+        .collect::<Vec<&str>>(rt.alloc())
+    {
+        Ok(texts) => run(&rt, texts.as_slice()),
+        Err(_) => Fault::NoMemory.report(&rt),
+    }
+}

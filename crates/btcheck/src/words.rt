@@ -1,0 +1,61 @@
+//! The words of the command line, by `clap`.
+use crate::command::Action;
+use crate::fault::Fault;
+use clap::error::ErrorKind;
+use clap::{Arg, ArgAction, Command, Error};
+use std::alloc::Global;
+use std::process::ExitCode;
+
+const ABOUT: &str = "Checks the hash trees of BitTorrent version 2";
+
+const STATUSES: &str =
+    "Exit status: 0 yes or done, 1 no or refused, 2 a fault of the words, of files or of memory.";
+
+// A word that has to be there, with what it means.
+fn required<'a>(alloc: Global, name: &'a str, help: &'a str) -> Arg<'a> {
+    Arg::new(alloc, name)
+        .required(true)
+        .action(ArgAction::Set)
+        .help(help)
+}
+
+fn root_command<'a>(alloc: Global) -> Result<Command<'a>, Error> {
+    let command = Command::new(alloc, "root")
+        .about("Prints the length and the pieces root of a file")
+        .after_help("Prints `LENGTH ROOT`, or `0 -` for an empty file.")
+        .arg(required(alloc, "FILE", "The file to hash"))?;
+    Ok(command)
+}
+
+// The program's command, with its subcommands.
+fn command<'a>(alloc: Global) -> Result<Command<'a>, Error> {
+    let command = Command::new(alloc, "btcheck")
+        .about(ABOUT)
+        .after_help(STATUSES)
+        .subcommand(root_command(alloc)?)?;
+    Ok(command.subcommand_required(true))
+}
+
+/// Reads the words of the command line, the program's name first.
+pub(crate) fn action<'a>(alloc: Global, words: &'a [&'a str]) -> Result<Action<'a>, Error> {
+    let matches = command(alloc)?.try_get_matches_from(words)?;
+    let found = match matches.subcommand() {
+        Some(("root", found)) => found.get_str("FILE").map(|file| Action::Root { file }),
+        _ => None,
+    };
+    match found {
+        Some(action) => Ok(action),
+        None => Err(command(alloc)?.error(ErrorKind::MissingSubcommand, "a command is missing")?),
+    }
+}
+
+/// Prints why the words were refused, or the help that they ask for, and tells the exit status.
+pub(crate) fn explain(rt: &HostRuntime, error: &Error) -> ExitCode {
+    if error.kind() == ErrorKind::OutOfMemory {
+        return Fault::NoMemory.report(rt);
+    }
+    match error.print(rt) {
+        Err(_) if !error.use_stderr() => Fault::Write("-").report(rt),
+        _ => ExitCode::from(if error.use_stderr() { 2 } else { 0 }),
+    }
+}

@@ -1,0 +1,3 @@
+-- What contracts of the printed lines cite.
+pub mod Root
+pub mod Reading
