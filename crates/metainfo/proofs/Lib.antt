@@ -1,3 +1,5 @@
 pub mod Cutting
 pub mod Comparing
 pub mod Fed
+-- Lemmas on torrents.
+pub mod Placing
