@@ -18,7 +18,7 @@ module _ (e : Evidence) where
   cover_is = ap (λ k. e.base + k) span_is
 
   -- how many hashes there are, pads counted
-  hashes-length : length (hashes_of e) ≡ length e.hashes.now + (2 ^ e.span - length e.hashes.now)
+  pub hashes-length : length (hashes_of e) ≡ length e.hashes.now + (2 ^ e.span - length e.hashes.now)
   hashes-length = length-append e.hashes.now (replicate (2 ^ e.span - length e.hashes.now) e.pad) ∙ ap (λ k. length e.hashes.now + k) (length-replicate (2 ^ e.span - length e.hashes.now) e.pad)
 
   -- a hash that is there

@@ -20,3 +20,7 @@ pub mod Cells
 pub mod Noting
 pub mod Given
 pub mod Tracing
+pub mod Leading
+pub mod Ranges
+pub mod Messages
+pub mod Counting

@@ -14,11 +14,9 @@
 //! The hashes of the base range and the uncles are given. What lies between them and the top, the nodes `c`, is computed.
 
 ghost use Rattle.std.specs.Prelude.{◌≡◌, ℕ, ◌+◌, ◌-◌, ◌*◌, ◌/◌, ◌%◌, ◌^◌, ◌<◌, ◌≤◌, ◌++◌};
-ghost use Rattle.session.specs.Digest.{join};
 ghost use Rattle.session.specs.Claims.{sibling, base_hash, uncle_hash, given, claims};
 
 use hashtree::Hash;
-use sha2::{Digest, Sha256};
 
 /// Hashes as evidence: a base range of `2 ^ span` places, whose hashes may stop early, and then the uncles.
 #[derive(Clone, Copy)]
@@ -33,16 +31,6 @@ pub struct Evidence<'a> {
     pub hashes: &'a [Hash],
     /// Stands for the hashes that the base range lacks at its end.
     pub pad: Hash,
-}
-
-/// SHA-256 of two hashes joined.
-pub fn join_hashes(left: &Hash, right: &Hash) -> Hash
-    ensures { result ≡ join left.now right.now }
-{
-    let mut hasher = Sha256::new();
-    hasher.update(left.as_slice());
-    hasher.update(right.as_slice());
-    hasher.finalize()
 }
 
 /// The other child of a place's parent.

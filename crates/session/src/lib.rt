@@ -1,6 +1,7 @@
 //! What a client knows of the hash trees of a torrent (BEP 52), and what it makes of the messages that peers send.
 #![tactic(auto)]
 
+mod checks;
 mod evidence;
 mod flat;
 mod found;
@@ -8,6 +9,7 @@ pub mod laws;
 pub mod node_map;
 mod refusal;
 mod storing;
+pub mod tree;
 mod verdict;
 
 pub use flat::Flat;

@@ -9,11 +9,11 @@ ghost use Rattle.session.specs.Claims.{joined, IsAgreed, IsMismatch};
 ghost use Rattle.session.specs.Known.{look, Joins};
 ghost use Rattle.session.specs.Evidence.{claimed_by, given_by, IsPruned, LeadsTo, AllHandled, BelowHandled, Grows, IsSoundList, IsInside, IsHandledClaim, DiffersFrom, StoreFault};
 
-use crate::evidence::{Evidence, join_hashes};
+use crate::evidence::Evidence;
 use crate::found::{Claim, Found};
 use crate::node_map::{NodeMap, put_new, reserve_all};
 use crate::refusal::HashRefusal;
-use hashtree::Hash;
+use hashtree::{Hash, parent};
 use std::alloc::Global;
 
 /// Compares the hash that is claimed for a place with the known one, or notes the claim. False where the two differ.
@@ -60,7 +60,7 @@ fn derive<N: NodeMap>(
         None => {
             let left = trace(map, evidence, found, layer - 1, 2 * index)?;
             let right = trace(map, evidence, found, layer - 1, 2 * index + 1)?;
-            Some(join_hashes(&left, &right))
+            Some(parent(&left, &right))
         }
     }
 }

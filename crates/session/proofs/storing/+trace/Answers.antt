@@ -31,7 +31,7 @@ pub derive-returns-in_ok-right-in-None-clause-value : goal.derive-returns-in_ok-
 derive-returns-in_ok-right-in-None-clause-value g t c =
     let o : Opened c.args.evidence.now c.args.layer c.args.index = opened c.args.evidence.now c.args.layer c.args.index c.requires.claimed (sym c.in-None.ensures) in
     join_claimed c.args.evidence.now c.args.layer c.args.index _ _ o.above_leaves (sym c.in-None.ensures) c.in_ok-left-in-None.ensures.value c.in_ok-right-in-None.ensures.value
-    ∙ ap Some (sym c.join_hashes.ensures)
+    ∙ ap Some (sym c.parent.ensures)
 
 pub trace-returns-then-not-compare-clause-sound : goal.trace-returns-then-not-compare-clause-sound
 trace-returns-then-not-compare-clause-sound g t c =
