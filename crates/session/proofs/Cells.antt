@@ -117,7 +117,7 @@ pub no_marks : (marks : List Bool) → marks ≡ [] → marked_leaves marks ≡ 
 unfolding marks_below
 no_marks marks none = ap marked_leaves none
 
-contains-marks_below : (marks : List Bool) (n i : ℕ) → set.contains (marks_below marks n) i ≡ (ltb i n && get_or marks i false)
+pub contains-marks_below : (marks : List Bool) (n i : ℕ) → set.contains (marks_below marks n) i ≡ (ltb i n && get_or marks i false)
 unfolding marks_below
 contains-marks_below marks zero i = contains-empty nat_cmp i ∙ sym (and_left (ltb i 0) (get_or marks i false) (le-ltb i 0 (omega arith)))
 contains-marks_below marks (suc n) i = by_mark (contains-marks_below marks n i) (get_or marks n false) refl (cases_eq i n)

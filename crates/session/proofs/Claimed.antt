@@ -180,7 +180,7 @@ module _ (ask : Ask) (hashes : List Hash) (spans : 1 ≤ span ask) (power : 2 ^ 
   ]
 
   -- the parent of a claimed place below the top lies under the cover, or is on the path
-  data IsParent (l j : ℕ) : Type 0 where
+  pub data IsParent (l j : ℕ) : Type 0 where
     still_under : ask.base ≤ l → suc l < cover ask → j / 2 ^ (cover ask - suc l) ≡ ask.index / 2 ^ span ask → IsParent l j
     the_path : ask.base ≤ l → cover ask ≤ suc l → j ≡ above ask (suc l) → IsParent l j
 
@@ -192,7 +192,7 @@ module _ (ask : Ask) (hashes : List Hash) (spans : 1 ≤ span ask) (power : 2 ^ 
       the_path u.from_base high
       (sym (div-one (i / 2)) ∙ sym (ap (λ k. i / 2 / 2 ^ k) e) ∙ sym (under-half l i u.below_cover) ∙ u.under ∙ sym above-cover ∙ sym (ap (above ask) at_cover))
 
-  parent-of : (l i : ℕ) → IsClaimed ask hashes l i → IsParent l (i / 2)
+  pub parent-of : (l i : ℕ) → IsClaimed ask hashes l i → IsParent l (i / 2)
   parent-of l i (under u) = parent-of_under l i u (cases_lt (suc l) (cover ask))
   parent-of l i (on_path p) = the_path (omega (arith, p.from_cover)) (omega (arith, p.from_cover))
       (ap (λ k. k / 2) p.is_above ∙ sym (above-suc l p.from_cover))
@@ -206,7 +206,7 @@ module _ (ask : Ask) (hashes : List Hash) (spans : 1 ≤ span ask) (power : 2 ^ 
   no_uncle : (l j : ℕ) → (leb (cover ask) (suc l) && eqb j (sibling (above ask (suc l)))) ≡ false → uncle_hash ask hashes (suc l) j ≡ None
   no_uncle l j e = cond-false _ _ _ e
 
-  parent-not_given : (l j : ℕ) → IsParent l j → given ask hashes (suc l) j ≡ None
+  pub parent-not_given : (l j : ℕ) → IsParent l j → given ask hashes (suc l) j ≡ None
   parent-not_given l j (still_under from low e) =
       second_of_two _ _ (no_base l j from) ∙ no_uncle l j (and_left _ _ (lt-leb (cover ask) (suc l) low))
   parent-not_given l j (the_path from high e) =

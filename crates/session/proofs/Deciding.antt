@@ -78,7 +78,7 @@ module _ (len : ℕ) (ask : Ask) (hashes : List Hash) where
     ]
   ]
 
-  pads_or_not : ((l i : ℕ) (v : Hash) → given ask hashes l i ≡ Some v → block_count len ≤ i * 2 ^ l → v ≡ zero_hash l) ⊎ IsBadPad len ask hashes
+  pub pads_or_not : ((l i : ℕ) (v : Hash) → given ask hashes l i ≡ Some v → block_count len ≤ i * 2 ^ l → v ≡ zero_hash l) ⊎ IsBadPad len ask hashes
   unfolding RightPad
   pads_or_not =
       elim (each_below (IsBadPad len ask hashes) (λ l. (i : ℕ) → i < ask.index + ask.length + 2 → RightPad l i) (suc (top_layer ask hashes))
@@ -114,11 +114,10 @@ module _ (h : ℕ) (K C : PartialTree) (inside : (l i : ℕ) (v : Hash) → K l 
       ]
 
 module _ (t : TreeRoot) (K : PartialTree) (ask : Ask) (hashes : List Hash) where
-  Before : HashRefusal → Type 0
+  abbrev pub Before : HashRefusal → Type 0
   Before r = (s : HashRefusal) → rank s < rank r → ¬ Fault t K ask hashes s
 
-  first_range : Before BadRange
-  unfolding Before
+  pub first_range : Before BadRange
   first_range UnknownRoot low f = f
   first_range NoMemory low f = f
   first_range BadRange low f = omega arith
@@ -127,8 +126,7 @@ module _ (t : TreeRoot) (K : PartialTree) (ask : Ask) (hashes : List Hash) where
   first_range Unanchored low f = omega arith
   first_range Mismatch low f = omega arith
 
-  first_count : GoodRange (tree_height t.length) ask → Before BadCount
-  unfolding Before
+  pub first_count : GoodRange (tree_height t.length) ask → Before BadCount
   first_count range UnknownRoot low f = f
   first_count range BadRange low f = f range
   first_count range NoMemory low f = f
@@ -137,8 +135,7 @@ module _ (t : TreeRoot) (K : PartialTree) (ask : Ask) (hashes : List Hash) where
   first_count range Unanchored low f = omega arith
   first_count range Mismatch low f = omega arith
 
-  first_pad : GoodRange (tree_height t.length) ask → GoodCount (tree_height t.length) ask hashes → Before BadPad
-  unfolding Before
+  pub first_pad : GoodRange (tree_height t.length) ask → GoodCount (tree_height t.length) ask hashes → Before BadPad
   first_pad range count UnknownRoot low f = f
   first_pad range count BadRange low f = f range
   first_pad range count BadCount low f = f count
@@ -147,11 +144,10 @@ module _ (t : TreeRoot) (K : PartialTree) (ask : Ask) (hashes : List Hash) where
   first_pad range count Unanchored low f = omega arith
   first_pad range count Mismatch low f = omega arith
 
-  Pads : Type 0
+  abbrev pub Pads : Type 0
   Pads = (l i : ℕ) (v : Hash) → given ask hashes l i ≡ Some v → block_count t.length ≤ i * 2 ^ l → v ≡ zero_hash l
 
-  first_anchor : GoodRange (tree_height t.length) ask → GoodCount (tree_height t.length) ask hashes → Pads → Before Unanchored
-  unfolding Before Pads
+  pub first_anchor : GoodRange (tree_height t.length) ask → GoodCount (tree_height t.length) ask hashes → Pads → Before Unanchored
   first_anchor range count pads UnknownRoot low f = f
   first_anchor range count pads BadRange low f = f range
   first_anchor range count pads BadCount low f = f count
@@ -160,8 +156,7 @@ module _ (t : TreeRoot) (K : PartialTree) (ask : Ask) (hashes : List Hash) where
   first_anchor range count pads Unanchored low f = omega arith
   first_anchor range count pads Mismatch low f = omega arith
 
-  first_mismatch : GoodRange (tree_height t.length) ask → GoodCount (tree_height t.length) ask hashes → Pads → IsKnown K (top_layer ask hashes) (top_index ask hashes) → Before Mismatch
-  unfolding Before Pads
+  pub first_mismatch : GoodRange (tree_height t.length) ask → GoodCount (tree_height t.length) ask hashes → Pads → IsKnown K (top_layer ask hashes) (top_index ask hashes) → Before Mismatch
   first_mismatch range count pads top UnknownRoot low f = f
   first_mismatch range count pads top BadRange low f = f range
   first_mismatch range count pads top BadCount low f = f count
@@ -172,7 +167,6 @@ module _ (t : TreeRoot) (K : PartialTree) (ask : Ask) (hashes : List Hash) where
 
   -- a message for a tree whose known places are finite is accepted, or one refusal is the first
   pub accepted_or_refused : ((l i : ℕ) (v : Hash) → K l i ≡ Some v → IsPlace (tree_height t.length) l i) → IsAccepted t K ask hashes ⊎ ((r : HashRefusal) × Refuses t K ask hashes r)
-  unfolding Before Pads
   accepted_or_refused inside = elim (range_or_not (tree_height t.length) ask) [
     | inr no_range ↦ inr (BadRange, record { fault = no_range; first = first_range })
     | inl range ↦ elim (count_or_not (tree_height t.length) ask hashes) [

@@ -1,31 +1,13 @@
 -- A digest is a hash, and equality of lists of numbers is decided.
 use Rattle.std.proofs.Common.{◌≡◌, ◌≢◌, ◌⊎◌, ℕ, zero, suc, ◌<◌, List, [], ◌∷◌, ◌++◌, length, take, drop, inl, inr, refl, sym, ap, ap₂, ◌∙◌, arith, take_at, drop_at}
-use Rattle.std.specs.List.{All}
-use Rattle.std.specs.Int.{to_be_bytes, w32}
-use Rattle.std.specs.Prelude.{slice_index}
 use Rattle.std.proofs.lemmas.Bool.{cases_eq}
-use Rattle.std.proofs.lemmas.List.Elements.{All-append}
-use Rattle.sha2.specs.Sha256.{sha256, digest_bytes}
+use Rattle.sha2.specs.Sha256.{sha256}
 use Rattle.sha2.proofs.Facts256.{length-sha256}
 use Rattle.session.specs.Digest.{IsHash}
 
-word_bytes : (x : ℕ) → All (λ b. b < 256) (to_be_bytes w32 x)
-word_bytes x zero d h = omega arith
-word_bytes x (suc zero) d h = omega arith
-word_bytes x (suc (suc zero)) d h = omega arith
-word_bytes x (suc (suc (suc zero))) d h = omega arith
-word_bytes x (suc (suc (suc (suc k)))) d h = absurd (omega arith)
-
-digest_bytes-bytes : (h : List ℕ) (n : ℕ) → All (λ b. b < 256) (digest_bytes h n)
-unfolding digest_bytes
-digest_bytes-bytes h zero = λ k d h. absurd (omega arith)
-digest_bytes-bytes h (suc n) = All-append (λ b. b < 256) (digest_bytes h n) (to_be_bytes w32 (slice_index h n)) (digest_bytes-bytes h n)
-    (word_bytes (slice_index h n))
-
 -- a digest is a hash
 pub is_hash : (m : List ℕ) → IsHash (sha256 m)
-unfolding sha256
-is_hash m = record { size = length-sha256 m; bytes = digest_bytes-bytes _ 8 }
+is_hash m = record { size = length-sha256 m }
 
 -- two lists of numbers are equal or not
 pub same_or_not : (xs ys : List ℕ) → (xs ≡ ys) ⊎ (xs ≢ ys)

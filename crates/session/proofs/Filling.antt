@@ -10,8 +10,8 @@ use Rattle.session.specs.TreeRoot.{TreeRoot, tree_height}
 use Rattle.session.specs.Digest.{Hash, IsHash}
 use Rattle.hashtree.specs.Tree.{pad_leaf, block_count, zero_hash}
 use Rattle.session.specs.Partial.{PartialTree, IsClosed}
-use Rattle.session.specs.Claims.{span, cover, given, base_hash, uncle_hash, joined, top_layer}
-use Rattle.session.specs.Fill.{fill_ask, fill_hashes, fill_claims, IsFillAccepted}
+use Rattle.session.specs.Claims.{span, cover, given, base_hash, uncle_hash, joined, top_layer, IsAgreed}
+use Rattle.session.specs.Fill.{fill_ask, fill_hashes, fill_claims, pad_from}
 use Rattle.hashtree.proofs.Heights.{height_enough}
 use Rattle.session.proofs.Powers.{height_pow, div_small, pow_split}
 use Rattle.hashtree.proofs.Zeros.{zero_hash-zero, zero_hash-suc}
@@ -24,7 +24,7 @@ pub zero_hash-is_hash : (m : ℕ) → IsHash (zero_hash m)
 zero_hash-is_hash zero = subst IsHash (sym zero_hash-zero) pad-is_hash
 zero_hash-is_hash (suc m) = subst IsHash (sym (zero_hash-suc m)) (is_hash (zero_hash m ++ zero_hash m))
 
-module _ (t : TreeRoot) (K : PartialTree) (l : ℕ) (hashes : List Hash) (closed : IsClosed t K) (all : All IsHash hashes) (ok : IsFillAccepted t K l hashes) where
+module _ (t : TreeRoot) (K : PartialTree) (l : ℕ) (hashes : List Hash) (closed : IsClosed t K) (all : All IsHash hashes) (layer_inside : l ≤ tree_height t.length) (right_count : length hashes ≡ pad_from t.length l) where
   n : ℕ
   n = block_count t.length
 
@@ -32,25 +32,25 @@ module _ (t : TreeRoot) (K : PartialTree) (l : ℕ) (hashes : List Hash) (closed
   short : length hashes ≤ 2 ^ (tree_height t.length - l)
   short =
       let enough : block_count t.length ≤ 2 ^ tree_height t.length = height_enough (block_count t.length) in
-      let split : 2 ^ (tree_height t.length - l) * 2 ^ l ≡ 2 ^ tree_height t.length = pow_split l (tree_height t.length) ok.layer_inside in
+      let split : 2 ^ (tree_height t.length - l) * 2 ^ l ≡ 2 ^ tree_height t.length = pow_split l (tree_height t.length) layer_inside in
       let some' : 0 < 2 ^ l = pow_pos l in
       let low : (block_count t.length + 2 ^ l - 1) / 2 ^ l < suc (2 ^ (tree_height t.length - l)) =
       div_below (block_count t.length + 2 ^ l - 1) (2 ^ l) (suc (2 ^ (tree_height t.length - l))) some' (omega arith) in
-      omega (arith, ok.right_count)
+      omega (arith, right_count)
 
   -- a place past the file's end has no hash of its own
   past-end : (i : ℕ) → block_count t.length ≤ i * 2 ^ l → length hashes ≤ i
   past-end i past =
       let some' : 0 < 2 ^ l = pow_pos l in
       let low : (block_count t.length + 2 ^ l - 1) / 2 ^ l < suc i = div_below (block_count t.length + 2 ^ l - 1) (2 ^ l) (suc i) some' (omega arith) in
-      omega (arith, ok.right_count)
+      omega (arith, right_count)
 
-  full : length (fill_hashes t l hashes) ≡ 2 ^ (tree_height t.length - l)
+  pub full : length (fill_hashes t l hashes) ≡ 2 ^ (tree_height t.length - l)
   full =
       let le : length hashes ≤ 2 ^ (tree_height t.length - l) = short in
       length-append hashes (replicate (2 ^ (tree_height t.length - l) - length hashes) (zero_hash l)) ∙ ap (λ k. length hashes + k) (length-replicate (2 ^ (tree_height t.length - l) - length hashes) (zero_hash l)) ∙ omega arith
 
-  spanned : span (fill_ask t l) ≡ tree_height t.length - l
+  pub spanned : span (fill_ask t l) ≡ tree_height t.length - l
   spanned = height_pow (tree_height t.length - l)
 
   right_pads : (k i : ℕ) (v : Hash) → given (fill_ask t l) (fill_hashes t l hashes) k i ≡ Some v → block_count t.length ≤ i * 2 ^ k → v ≡ zero_hash k
@@ -73,20 +73,20 @@ module _ (t : TreeRoot) (K : PartialTree) (l : ℕ) (hashes : List Hash) (closed
   ]
 
   -- the top is the root
-  at_root : top_layer (fill_ask t l) (fill_hashes t l hashes) ≡ tree_height t.length
+  pub at_root : top_layer (fill_ask t l) (fill_hashes t l hashes) ≡ tree_height t.length
   at_root =
       let len : length (fill_hashes t l hashes) ≡ 2 ^ (tree_height t.length - l) = full in
       let k : span (fill_ask t l) ≡ tree_height t.length - l = spanned in
-      omega (arith, ok.layer_inside)
+      omega (arith, layer_inside)
 
-  pub filled-closed : l < tree_height t.length → IsClosed t (joined K (fill_claims t l hashes))
-  filled-closed below =
+  pub filled-closed : IsAgreed K (fill_claims t l hashes) → l < tree_height t.length → IsClosed t (joined K (fill_claims t l hashes))
+  filled-closed agrees below =
       joined-closed_by_parts t K (fill_ask t l) (fill_hashes t l hashes) closed
       (All-append IsHash hashes _ all (All-replicate IsHash (2 ^ (tree_height t.length - l) - length hashes) (zero_hash l) (zero_hash-is_hash l)))
       (subst (λ k. 1 ≤ k) (sym spanned) (omega arith)) (ap (λ k. 2 ^ k) spanned) (mod-eq_of_lt (pow_pos (tree_height t.length - l))) (subst (λ k. 2 ^ (tree_height t.length - l) ≤ k) (sym full) (omega arith))
       (subst (λ k. k ≤ tree_height t.length) (sym at_root) (omega arith)) right_pads t.root
       (ap₂ K at_root (div_small 0 (2 ^ (top_layer (fill_ask t l) (fill_hashes t l hashes) - l)) (pow_pos (top_layer (fill_ask t l) (fill_hashes t l hashes) - l))) ∙ closed.root_known)
-      ok.agrees
+      agrees
 
   -- the layer of the root says nothing but the root
   given-root : l ≡ tree_height t.length → (k i : ℕ) (v : Hash) → given (fill_ask t l) (fill_hashes t l hashes) k i ≡ Some v → (k ≡ tree_height t.length) × (i ≡ 0)
@@ -104,7 +104,7 @@ module _ (t : TreeRoot) (K : PartialTree) (l : ℕ) (hashes : List Hash) (closed
             absurd (omega arith)
       ]
 
-  claims-root : l ≡ tree_height t.length → (k i : ℕ) (v : Hash) → fill_claims t l hashes k i ≡ Some v → (k ≡ tree_height t.length) × (i ≡ 0)
+  pub claims-root : l ≡ tree_height t.length → (k i : ℕ) (v : Hash) → fill_claims t l hashes k i ≡ Some v → (k ≡ tree_height t.length) × (i ≡ 0)
   claims-root root zero i v e = given-root root zero i v (sym (claims-zero (fill_ask t l) (fill_hashes t l hashes) i) ∙ e)
   claims-root root (suc k) i v e = elim (claims-read (fill_ask t l) (fill_hashes t l hashes) k i v e) [
     | inl g ↦ given-root root (suc k) i v g
@@ -115,9 +115,9 @@ module _ (t : TreeRoot) (K : PartialTree) (l : ℕ) (hashes : List Hash) (closed
   ]
 
   -- each layer of the tree keeps it closed
-  pub fill-closed : IsClosed t (joined K (fill_claims t l hashes))
-  fill-closed = elim (eq-or-lt_of_le ok.layer_inside) [
-    | inr below ↦ filled-closed below
+  pub fill-closed : IsAgreed K (fill_claims t l hashes) → IsClosed t (joined K (fill_claims t l hashes))
+  fill-closed agrees = elim (eq-or-lt_of_le layer_inside) [
+    | inr below ↦ filled-closed agrees below
     | inl root ↦ subst (IsClosed t) (λ j k i. same root k i j) closed
   ]
     where

@@ -14,7 +14,13 @@ pub mod Wanted
 pub mod Known
 pub mod Runs
 pub mod Rounds
-pub mod Storing
 pub mod Deciding
 pub mod Filling
 pub mod Cells
+pub mod Noting
+pub mod Given
+pub mod Tracing
+pub mod Leading
+pub mod Ranges
+pub mod Messages
+pub mod Counting

@@ -3,7 +3,6 @@ use Rattle.std.proofs.Common.{◌≡◌, ℕ, zero, suc, ◌+◌, ◌-◌, ◌*�
 use Rattle.std.proofs.lemmas.Option.{cond_some}
 use Rattle.std.proofs.lemmas.Bool.{cases_lt, and_parts, and_from, leb-true, ltb-true, le-leb, lt-ltb, cond-true}
 use Rattle.std.proofs.lemmas.List.{length-replicate, drop-take, get_or-take}
-use Rattle.std.proofs.lemmas.List.Elements.{All-replicate}
 use Rattle.session.specs.TreeRoot.{TreeRoot, tree_height, Fits}
 use Rattle.session.specs.Digest.{Hash, IsHash, join}
 use Rattle.hashtree.specs.Tree.{pad_leaf, block, block_count, leaves, tree, node}
@@ -26,7 +25,7 @@ whole-inside f l i v e =
     ((leb-true _ _ tests.0, ltb-true _ _ tests.1), both.1)
 
 pub pad-is_hash : IsHash pad_leaf
-pad-is_hash = record { size = length-replicate {A = ℕ} 32 0; bytes = All-replicate (λ b. b < 256) 32 0 (omega arith) }
+pad-is_hash = record { size = length-replicate {A = ℕ} 32 0 }
 
 -- each node is a hash
 pub node-is_hash : (f : List ℕ) (l i : ℕ) → IsPlace (tree_height (length f)) l i → IsHash (node f l i)

@@ -87,6 +87,10 @@ pub record IsBadPad (len : ℕ) (ask : Ask) (hashes : List Hash) : Type 0 where
   pub past : block_count len ≤ index * 2 ^ layer
   pub differ : value ≢ zero_hash layer
 
+-- each given hash wholly past the file's end is that over pads
+abbrev pub ArePadsRight : ℕ → Ask → List Hash → Type 0
+ArePadsRight len ask hashes = (l i : ℕ) (v : Hash) → given ask hashes l i ≡ Some v → block_count len ≤ i * 2 ^ l → v ≡ zero_hash l
+
 -- J and K have one value wherever both have one
 abbrev pub IsAgreed : PartialTree → PartialTree → Type 0
 IsAgreed J K = (l i : ℕ) (u v : Hash) → J l i ≡ Some u → K l i ≡ Some v → u ≡ v
@@ -133,6 +137,11 @@ pub record IsAccepted (t : TreeRoot) (K : PartialTree) (ask : Ask) (hashes : Lis
   pub pads : (l i : ℕ) (v : Hash) → given ask hashes l i ≡ Some v → block_count t.length ≤ i * 2 ^ l → v ≡ zero_hash l
   pub top_known : IsKnown K (top_layer ask hashes) (top_index ask hashes)
   pub agrees : IsAgreed K (claims ask hashes)
+
+-- what refuses a message for the tree t: the first test that fails, or want of memory where none does
+abbrev pub TreeRefuses : TreeRoot → PartialTree → Ask → List Hash → HashRefusal → Type 0
+TreeRefuses t K ask hashes NoMemory = IsAccepted t K ask hashes
+TreeRefuses t K ask hashes r = Refuses t K ask hashes r
 
 -- K and what is claimed beside it
 abbrev pub joined : PartialTree → PartialTree → PartialTree

@@ -1,5 +1,5 @@
 -- A whole layer of a tree, given without the pads at its end.
-use Rattle.std.specs.Prelude.{◌≡◌, ℕ, ◌+◌, ◌-◌, ◌/◌, ◌^◌, ◌≤◌, List, ◌++◌, length, replicate}
+use Rattle.std.specs.Prelude.{◌≡◌, ℕ, ◌+◌, ◌-◌, ◌/◌, ◌^◌, ◌≤◌, List, [], ◌++◌, length, replicate}
 use Rattle.wire.specs.declared.message.Ask.{Ask}
 use Rattle.session.specs.TreeRoot.{TreeRoot, tree_height}
 use Rattle.session.specs.Digest.{Hash}
@@ -13,7 +13,7 @@ pad_from len l = (block_count len + 2 ^ l - 1) / 2 ^ l
 
 -- the ask for a whole layer
 abbrev pub fill_ask : TreeRoot → ℕ → Ask
-fill_ask t l = record { root = t.root; base = l; index = 0; length = 2 ^ (tree_height t.length - l); proof = 0 }
+fill_ask t l = record { root = []; base = l; index = 0; length = 2 ^ (tree_height t.length - l); proof = 0 }
 
 -- the hashes of a whole layer, the pads supplied
 abbrev pub fill_hashes : TreeRoot → ℕ → List Hash → List Hash

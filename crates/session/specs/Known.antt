@@ -1,14 +1,15 @@
 -- A partial tree as a value: a finite map from places to hashes. The laws are about `look`, the function that it is.
-use Rattle.std.specs.Prelude.{ℕ, zero, suc, ◌-◌, ◌^◌, leb, ltb, cond, ◌&&◌, List, [], ◌∷◌, Option, Some, None}
+use Rattle.std.specs.Prelude.{◌≡◌, ℕ, zero, suc, ◌+◌, ◌-◌, ◌^◌, leb, ltb, cond, ◌&&◌, List, [], ◌∷◌, Option, Some, None}
 use Rattle.std.specs.Coded.{Coded, coded×, coded_list, coded_ℕ}
 use Rattle.std.specs.Ordering.{nat_cmp, ordering_then}
 use Rattle.std.specs.declared.cmp.Ordering.{Ordering}
-use Rattle.std.specs.FinMap.{FinMap, get, insert, empty}
+use Rattle.std.specs.FinMap.{FinMap, get, insert, empty, len}
 use Rattle.std.specs.FinMap as map
 use Rattle.std.specs.FinSet as set
-use Rattle.session.specs.declared.claims.Claim.{Claim}
+use Rattle.session.specs.declared.found.Claim.{Claim}
 use Rattle.session.specs.Digest.{Hash}
 use Rattle.session.specs.Partial.{PartialTree}
+use Rattle.session.specs.Claims.{joined, IsAgreed}
 
 -- by layer, and then by index
 abbrev pub place_cmp : ℕ × ℕ → ℕ × ℕ → Ordering
@@ -55,7 +56,22 @@ within h f l i = cond (leb l h && ltb i (2 ^ (h - l))) (f l i) None
 unfoldable pub tabulate : ℕ → PartialTree → Known
 tabulate h f = with_layers f h (suc h)
 
--- a claim of a message: a place and its hash
-abbrev pub insert_all : Known → List Claim → Known
-insert_all m [] = m
-insert_all m (c ∷ cs) = insert_all (insert m (c.layer, c.index) c.hash) cs
+-- with a hash at a place where there is none
+abbrev pub insert_absent : Known → ℕ × ℕ → Hash → Option Hash → Known
+insert_absent m place h None = insert m place h
+insert_absent m place h (Some old) = m
+
+-- with a claim, where its place is not known
+abbrev pub with_new : Known → Claim → Known
+with_new m c = insert_absent m (c.layer, c.index) c.hash (look m c.layer c.index)
+
+-- with claims, one after the other
+abbrev pub insert_new : Known → List Claim → Known
+insert_new m [] = m
+insert_new m (c ∷ cs) = insert_new (with_new m c) cs
+
+-- C joined to what was known, with c more places
+pub record Joins (C : PartialTree) (before after : Known) (c : ℕ) : Type 0 where
+  pub agreed : IsAgreed (look before) C
+  pub joined_is : (l i : ℕ) → look after l i ≡ joined (look before) C l i
+  pub gained : len after ≡ len before + c

@@ -7,5 +7,6 @@ pub mod Fill
 pub mod Gaps
 pub mod Known
 pub mod Flat
+pub mod Evidence
 pub mod Kept
 pub mod Session

@@ -1,11 +1,15 @@
 //! What a client knows of the hash trees of a torrent (BEP 52), and what it makes of the messages that peers send.
 #![tactic(auto)]
 
-mod claims;
+mod checks;
+mod evidence;
 mod flat;
+mod found;
 pub mod laws;
 pub mod node_map;
 mod refusal;
+mod storing;
+pub mod tree;
 mod verdict;
 
 pub use flat::Flat;

@@ -2,13 +2,14 @@
 
 ghost use Rattle.std.specs.Prelude.{◌≡◌, ℕ, ◌+◌, ◌-◌, ◌^◌, ◌<◌, ◌≤◌, List, OnOk};
 ghost use Rattle.std.specs.List.{All};
-ghost use Rattle.std.specs.FinMap as map;
+ghost use Rattle.std.specs.FinMap as finite;
 ghost use Rattle.std.specs.FinSet as set;
 ghost use Rattle.session.specs.TreeRoot.{tree_height};
-ghost use Rattle.session.specs.Partial.{IsKnown};
-ghost use Rattle.session.specs.Known.{Known, Marked, look, insert_all};
+ghost use Rattle.session.specs.Partial.{IsKnown, IsPlace};
+ghost use Rattle.session.specs.declared.found.Claim.{Claim as Claimed};
+ghost use Rattle.session.specs.Known.{Known, Marked, look, with_new, insert_new};
 
-use crate::claims::Claim;
+use crate::found::Claim;
 use hashtree::{Hash, Shape};
 use std::alloc::{AllocError, Global};
 
@@ -31,7 +32,7 @@ pub trait NodeMap: Drop {
     where
         Self: Sized,
         ensures length { length result ≡ shape }
-        ensures known { known result ≡ map.empty }
+        ensures known { known result ≡ finite.empty }
         ensures marked { marked result ≡ set.empty };
 
     /// The hash at a place, if it is known.
@@ -52,7 +53,7 @@ pub trait NodeMap: Drop {
     fn put(&mut self, layer: u32, index: u64, hash: Hash)
         requires { has_room self.old layer index }
         ensures length { length self.new ≡ length self.old }
-        ensures known { known self.new ≡ map.insert (known self.old) (layer, index) hash }
+        ensures known { known self.new ≡ finite.insert (known self.old) (layer, index) hash }
         ensures marked { marked self.new ≡ marked self.old }
         ensures keeps { (l i : ℕ) → has_room self.old l i → has_room self.new l i };
 
@@ -69,14 +70,49 @@ pub trait NodeMap: Drop {
         ensures { result ≡ set.contains (marked self.now) index };
 }
 
-/// Sets the hashes of claims at places that have room.
-pub fn put_all<N: NodeMap>(map: &mut N, claims: &[Claim])
-    requires { All (λ c. N.has_room map.old c.layer c.index) claims.now }
+/// Makes room for the places of claims.
+pub fn reserve_all<N: NodeMap>(map: &mut N, claims: &[Claim]) -> Result<(), AllocError>
+    requires low { tree_height (N.length map.old) ≤ 32 }
+    requires places { All (λ (c : Claimed). IsPlace (tree_height (N.length map.old)) c.layer c.index) claims.now }
     ensures length { N.length map.new ≡ N.length map.old }
-    ensures known { N.known map.new ≡ insert_all (N.known map.old) claims.now }
+    ensures known { N.known map.new ≡ N.known map.old }
     ensures marked { N.marked map.new ≡ N.marked map.old }
+    ensures ok { OnOk result (All (λ (c : Claimed). N.has_room map.new c.layer c.index) claims.now) }
 {
     for claim in claims {
-        map.put(claim.layer, claim.index, claim.hash);
+        map.reserve(claim.layer, claim.index, 1)?;
     }
+    Ok(())
+}
+
+/// Sets the hash of a claim, unless its place is known, and tells how many places are new.
+fn put_absent<N: NodeMap>(map: &mut N, claim: &Claim) -> u64
+    requires { N.has_room map.old claim.now.layer claim.now.index }
+    ensures length { N.length map.new ≡ N.length map.old }
+    ensures known { N.known map.new ≡ with_new (N.known map.old) claim.now }
+    ensures marked { N.marked map.new ≡ N.marked map.old }
+    ensures gained { finite.len (N.known map.new) ≡ finite.len (N.known map.old) + result }
+    ensures one { result ≤ 1 }
+    ensures keeps { (l i : ℕ) → N.has_room map.old l i → N.has_room map.new l i }
+{
+    if map.get(claim.layer, claim.index).is_some() {
+        return 0;
+    }
+    map.put(claim.layer, claim.index, claim.hash);
+    1
+}
+
+/// Sets the hashes of claims at places that are not known, and tells how many are new.
+pub fn put_new<N: NodeMap>(map: &mut N, claims: &[Claim]) -> u64
+    requires { All (λ (c : Claimed). N.has_room map.old c.layer c.index) claims.now }
+    ensures length { N.length map.new ≡ N.length map.old }
+    ensures known { N.known map.new ≡ insert_new (N.known map.old) claims.now }
+    ensures marked { N.marked map.new ≡ N.marked map.old }
+    ensures gained { finite.len (N.known map.new) ≡ finite.len (N.known map.old) + result }
+{
+    let mut gained = 0;
+    for claim in claims {
+        gained += put_absent(map, claim);
+    }
+    gained
 }

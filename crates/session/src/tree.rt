@@ -1,0 +1,237 @@
+//! One tree of a torrent: what is known and marked of it.
+
+ghost use Rattle.std.specs.Prelude.{◌≡◌, ◌≢◌, ℕ, ◌+◌, ◌-◌, ◌*◌, ◌/◌, ◌^◌, ◌<◌, ◌≤◌, ◌↔◌, IfOk, IfErr, MatchResult, IsTrue, List, min, length, Some, None};
+ghost use Rattle.std.specs.List.{All};
+ghost use Rattle.std.specs.FinMap as finite;
+ghost use Rattle.std.specs.FinSet as set;
+ghost use Rattle.sha2.specs.Sha256.{sha256};
+ghost use Rattle.hashtree.specs.Tree.{block_count};
+ghost use Rattle.session.specs.TreeRoot.{tree_height};
+ghost use Rattle.session.specs.Partial.{IsKnown, IsPlace};
+ghost use Rattle.session.specs.Claims.{claims, TreeRefuses, IsAccepted, IsBadPad, ArePadsRight, GoodRange, GoodCount, CanAnswer};
+ghost use Rattle.session.specs.Known.{look, Joins};
+ghost use Rattle.session.specs.Digest.{Hash as Digested};
+ghost use Rattle.std.specs.Bool.{OnTrue, OnFalse};
+ghost use Rattle.session.specs.Kept.{info_of, root_alone, IsGoodTree, IsMarked, TreeRefusesBlock};
+
+use crate::checks::{base_pads_fit, check_count, check_range, uncle_pads_fit};
+use crate::evidence::Evidence;
+use crate::node_map::NodeMap;
+use crate::refusal::{BlockRefusal, HashRefusal};
+use crate::storing::store;
+use hashtree::{Hash, Shape, leaf};
+use std::alloc::{AllocError, Global};
+use std::marker::Model;
+use wire::Ask;
+
+/// A tree, by its root and the length of its files, with its known nodes and marked leaves.
+#[derive(Drop)]
+pub struct Tree<N: NodeMap> {
+    alloc: Global,
+    root: Hash,
+    shape: Shape,
+    height: u32,
+    nodes: N,
+    known: u64,
+    marked: u64,
+}
+
+impl<N: NodeMap> Model for Tree<N> {
+    ghost use Rattle.std.specs.Prelude.{◌≡◌};
+    ghost use Rattle.session.specs.Kept.{KeptTree, kept_tree_code, IsCounted};
+
+    ghost Value = { KeptTree };
+
+    ghost coded = { kept_tree_code };
+
+    ghost view = { λ t. record { root = t.root; length = t.shape; state = record { known = N.known t.nodes; marked = N.marked t.nodes } } };
+
+    ghost invariant = { λ t. (N.length t.nodes ≡ t.shape) × IsCounted t.height t.known t.marked t.shape (N.known t.nodes) (N.marked t.nodes) };
+}
+
+impl<N: NodeMap> Tree<N> {
+    /// A tree of which the root alone is known.
+    pub fn new(alloc: Global, root: Hash, shape: Shape) -> Result<Tree<N>, AllocError>
+        ensures root { IfOk result (λ t. t.root ≡ root) }
+        ensures length { IfOk result (λ t. t.length ≡ shape) }
+        ensures known { IfOk result (λ t. t.state.known ≡ root_alone t) }
+        ensures marked { IfOk result (λ t. t.state.marked ≡ set.empty) }
+    {
+        let height = shape.height();
+        let mut nodes = N::empty(alloc, shape);
+        nodes.reserve(height, 0, 1)?;
+        nodes.put(height, 0, root);
+        Ok(Tree {
+            alloc,
+            root,
+            shape,
+            height,
+            nodes,
+            known: 1,
+            marked: 0,
+        })
+    }
+
+    /// The root.
+    pub fn root(&self) -> &Hash
+        ensures { result.now ≡ self.now.root }
+    {
+        &self.root
+    }
+
+    /// How many places are known.
+    pub fn known(&self) -> u64
+        ensures { result ≡ finite.len self.now.state.known }
+    {
+        self.known
+    }
+
+    /// How many leaves are marked.
+    pub fn marked(&self) -> u64
+        ensures { result ≡ set.len self.now.state.marked }
+    {
+        self.marked
+    }
+
+    /// Takes a hashes message that names this tree's root, and tells how many places are newly known. A refusal leaves
+    /// the tree unchanged.
+    pub fn take(&mut self, ask: &Ask, hashes: &[Hash]) -> Result<u64, HashRefusal>
+        requires { IsGoodTree self.old }
+        ensures root { self.new.root ≡ self.old.root }
+        ensures length { self.new.length ≡ self.old.length }
+        ensures marked { self.new.state.marked ≡ self.old.state.marked }
+        ensures taken { IfOk result (λ c. IsAccepted (info_of self.old) (look self.old.state.known) ask.now hashes.now
+            × Joins (claims ask.now hashes.now) self.old.state.known self.new.state.known c) }
+        ensures refused { IfErr result (λ r. TreeRefuses (info_of self.old) (look self.old.state.known) ask.now hashes.now r × (self.new.state.known ≡ self.old.state.known)) }
+    {
+        are_hashes(hashes);
+        let gained = take_message(self.alloc, self.shape, self.height, &mut self.nodes, ask, hashes)?;
+        self.known += gained;
+        Ok(gained)
+    }
+
+    /// Whether the hashes that are asked for are known.
+    pub fn can_answer(&self, ask: &Ask) -> bool
+        ensures { IsTrue result ↔ CanAnswer (tree_height self.now.length) (look self.now.state.known) ask.now }
+    {
+        match check_range(self.height, ask) {
+            Err(_) => false,
+            Ok(_) => all_known(&self.nodes, ask.base, u64::from(ask.index), u64::from(ask.length)),
+        }
+    }
+
+    /// Marks a block whose digest is its known leaf. A refusal leaves the tree unchanged.
+    pub fn take_block(&mut self, block: u64, bytes: &[u8]) -> Result<(), BlockRefusal>
+        requires good { IsGoodTree self.old }
+        requires inside { block < block_count self.old.length }
+        ensures root { self.new.root ≡ self.old.root }
+        ensures length { self.new.length ≡ self.old.length }
+        ensures known { self.new.state.known ≡ self.old.state.known }
+        ensures taken { IfOk result (λ _. IsMarked self.old.length self.old.state block bytes.now self.new.state) }
+        ensures refused { IfErr result (λ r. TreeRefusesBlock self.old.length (look self.old.state.known) block bytes.now r × (self.new.state.marked ≡ self.old.state.marked)) }
+    {
+        if bytes.len() as u64 != self.shape.block_len(block) {
+            return Err(BlockRefusal::BadSize);
+        }
+        match self.nodes.get(0, block) {
+            None => return Err(BlockRefusal::Unproved),
+            Some(known) => {
+                if leaf(bytes) != known {
+                    return Err(BlockRefusal::BadBlock);
+                }
+            }
+        }
+        self.marked += mark_leaf(&mut self.nodes, block);
+        Ok(())
+    }
+}
+
+/// Whether so many places of a layer are known, from one on.
+fn all_known<N: NodeMap>(nodes: &N, layer: u32, from: u64, count: u64) -> bool
+    requires { from + count < 2 ^ 64 }
+    ensures { IsTrue result ↔ ((j : ℕ) → j < count → IsKnown (look (N.known nodes.now)) layer (from + j)) }
+{
+    for j in 0..count {
+        if nodes.get(layer, from + j).is_none() {
+            return false;
+        }
+    }
+    true
+}
+
+/// Each hash has 32 bytes, as its type says.
+fn are_hashes(hashes: &[Hash])
+    ensures { All (λ h. length h ≡ 32) hashes.now }
+{
+}
+
+/// Marks a known leaf, and tells how many more are marked.
+fn mark_leaf<N: NodeMap>(nodes: &mut N, block: u64) -> u64
+    requires { IsKnown (look (N.known nodes.old)) 0 block }
+    ensures length { N.length nodes.new ≡ N.length nodes.old }
+    ensures known { N.known nodes.new ≡ N.known nodes.old }
+    ensures marked { N.marked nodes.new ≡ set.insert (N.marked nodes.old) block }
+    ensures one { result ≤ 1 }
+    ensures count { set.len (N.marked nodes.new) ≡ set.len (N.marked nodes.old) + result }
+{
+    let before = nodes.is_marked(block);
+    nodes.mark(block);
+    if before { 0 } else { 1 }
+}
+
+/// Takes a hashes message into the nodes of a tree, and tells how many places are newly known.
+fn take_message<N: NodeMap>(
+    alloc: Global,
+    shape: Shape,
+    height: u32,
+    nodes: &mut N,
+    ask: &Ask,
+    hashes: &[Hash],
+) -> Result<u64, HashRefusal>
+    requires shape { N.length nodes.old ≡ shape }
+    requires height { height ≡ tree_height shape }
+    requires low { height ≤ 32 }
+    requires places { (l i : ℕ) → IsKnown (look (N.known nodes.old)) l i → IsPlace height l i }
+    ensures length { N.length nodes.new ≡ N.length nodes.old }
+    ensures marked { N.marked nodes.new ≡ N.marked nodes.old }
+    ensures taken { (root : Digested) → IfOk result (λ c. IsAccepted (record { root = root; length = shape }) (look (N.known nodes.old)) ask.now hashes.now
+        × Joins (claims ask.now hashes.now) (N.known nodes.old) (N.known nodes.new) c) }
+    ensures refused { (root : Digested) → IfErr result (λ r. TreeRefuses (record { root = root; length = shape }) (look (N.known nodes.old)) ask.now hashes.now r × (N.known nodes.new ≡ N.known nodes.old)) }
+{
+    let span = check_range(height, ask)?;
+    let top = check_count(height, ask, span, hashes)?;
+    if !pads_fit(shape, ask, span, hashes) {
+        return Err(HashRefusal::BadPad);
+    }
+    let index = u64::from(ask.index) >> (top - ask.base);
+    if nodes.get(top, index).is_none() {
+        return Err(HashRefusal::Unanchored);
+    }
+    let evidence = Evidence {
+        base: ask.base,
+        index: u64::from(ask.index),
+        span,
+        hashes,
+        pad: [0; 32],
+    };
+    store(alloc, nodes, &evidence, top, index)
+}
+
+/// Whether each given hash wholly past the file's end is that over pads.
+fn pads_fit(shape: Shape, ask: &Ask, span: u32, hashes: &[Hash]) -> bool
+    requires range { GoodRange (tree_height shape) ask.now }
+    requires low { tree_height shape ≤ 32 }
+    requires span { 2 ^ span ≡ ask.now.length }
+    requires some { 1 ≤ span }
+    requires small { span ≤ 13 }
+    requires count { GoodCount (tree_height shape) ask.now hashes.now }
+    ensures fit { OnTrue result (ArePadsRight shape ask.now hashes.now) }
+    ensures not { OnFalse result (IsBadPad shape ask.now hashes.now) }
+{
+    let blocks = shape.blocks();
+    let (base, uncles) = hashes.split_at(ask.length as usize);
+    if !base_pads_fit(blocks, ask.base, u64::from(ask.index), base) {
+        return false;
+    }
+    uncle_pads_fit(blocks, ask.base + span, u64::from(ask.index) >> span, uncles)
+}
