@@ -1,5 +1,7 @@
 -- Lemmas on torrents.
 pub mod Keys
 pub mod Placing
+pub mod Rooting
+pub mod Searching
 pub mod Views
 pub mod Walking

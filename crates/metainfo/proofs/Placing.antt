@@ -59,11 +59,11 @@ sum_grows p j i fs f e lt =
     let less_here : sum_by F (take (j + 1) fs) ≤ sum_by F (take i fs) = subst (λ ys. sum_by F ys ≤ sum_by F (take i fs)) cut less in
     let same : F (get_or fs j f) ≡ F f = ap F here in omega (arith, next, less_here, same)
 
-true_or_false : (b : Bool) → (b ≡ true) ⊎ (b ≡ false)
+pub true_or_false : (b : Bool) → (b ≡ true) ⊎ (b ≡ false)
 true_or_false true = inl refl
 true_or_false false = inr refl
 
-false_or_true : (b : Bool) → (b ≡ true → ⊥) → b ≡ false
+pub false_or_true : (b : Bool) → (b ≡ true → ⊥) → b ≡ false
 false_or_true true h = absurd (h refl)
 false_or_true false h = refl
 

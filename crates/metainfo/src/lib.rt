@@ -3,11 +3,13 @@
 
 mod files;
 mod info;
+mod layers;
 mod path;
 mod place;
 mod refusal;
 mod torrent;
 mod tree;
+mod trees;
 
 pub use path::Path;
 pub use refusal::{Key, Refusal};

@@ -1,0 +1,45 @@
+//! Piece layers (BEP 52, "piece layers").
+
+ghost use Rattle.std.specs.Prelude.{◌≡◌, ◌≢◌, ◌+◌, ◌-◌, ◌*◌, ◌/◌, ◌%◌, ◌<◌, ◌≤◌, ◌^◌, ℕ, List, [], Bool, true, false, map, length, Option, Some, None, option_map, Result, Ok, Err, MatchResult, slice_get};
+ghost use Rattle.std.specs.List.{list_any};
+ghost use Rattle.std.specs.Simd.{first_chunks};
+ghost use Rattle.benc.specs.View.{view, pairs_view};
+ghost use Rattle.hashtree.specs.Tree.{block_count, height, first_pad};
+ghost use Rattle.metainfo.specs.Dictionary.{under};
+ghost use Rattle.metainfo.specs.PieceLayers.{as_digests, layer_at, lacks_layer, lacks_size, mismatches, leads_to, needs_layer, piece_layer};
+ghost use Rattle.metainfo.specs.Refusals.{layer_rows, IsPieceLength};
+ghost use Rattle.metainfo.specs.Rooted.{rooted};
+ghost use Rattle.metainfo.specs.Steps.{Passes, Ascends};
+
+use crate::refusal::Refusal;
+use crate::trees::{Rooted, pieces_of};
+use benc::{Pair, Value};
+use hashtree::Hash;
+use std::cmp::Ordering;
+
+/// The value under a root, by halves: keys ascend.
+fn entry<'v, 'a>(layers: &'v [Pair<'a>], root: &Hash) -> Option<&'v Value<'a>>
+    ensures { Ascends (pairs_view layers.now) → option_map (λ w. view w.now) result ≡ under root.now (pairs_view layers.now) }
+{
+    let mut low = 0;
+    let mut high = layers.len();
+    'halves: while low < high {
+        let middle = low + (high - low) / 2;
+        match layers[middle].key.cmp(root.as_slice()) {
+            Ordering::Equal => return Some(&layers[middle].value),
+            Ordering::Less => low = middle + 1,
+            Ordering::Greater => high = middle,
+        }
+    }
+    None
+}
+
+/// The digests of a byte string of this many, joined.
+fn digests<'a>(value: &Value<'a>, count: u64) -> Option<&'a [Hash]>
+    ensures { option_map (λ hs. hs.now) result ≡ as_digests 32 count (view value.now) }
+{
+    match value {
+        Value::Bytes(bytes) if bytes.len() % 32 == 0 && (bytes.len() / 32) as u64 == count => Some(bytes.as_chunks::<32>().0),
+        _ => None,
+    }
+}
