@@ -70,12 +70,12 @@ not_greater x y more same =
     let tied : slice_cmp nat_cmp x y ≡ Equal = subst (λ k. slice_cmp nat_cmp x k ≡ Equal) same (tied_itself nat_list_cmp_total x) in cc
 
 pub first_at : (xs : List Pair) (i : ℕ) (d : Pair) (k : List ℕ) → Ascends (pairs_view xs) → i < length xs → (get_or xs i d).key.now ≡ k → under k (pairs_view xs) ≡ Some (view (get_or xs i d).value)
-first_at xs i d k up lt is = under_some xs i d k lt is (λ j less same. not_less _ _ (rising xs j i d up less lt) (same ∙ sym is))
+first_at xs i d k up lt is = under_some xs i d k lt is (λ j less same. not_less (get_or xs j d).key.now (get_or xs i d).key.now (rising xs j i d up less lt) (same ∙ sym is))
 
 pub below_middle : (xs : List Pair) (i j : ℕ) (d : Pair) (k : List ℕ) → Ascends (pairs_view xs) → i ≤ j → j < length xs → slice_cmp nat_cmp (get_or xs j d).key.now k ≡ Less → slice_cmp nat_cmp (get_or xs i d).key.now k ≡ Less
 below_middle xs i j d k up le lt less =
     elim (cases_lt i j) [
-    | inl before ↦ nat_list_cmp_total.trans _ _ _ (rising xs i j d up before lt) less
+    | inl before ↦ nat_list_cmp_total.trans (get_or xs i d).key.now (get_or xs j d).key.now k (rising xs i j d up before lt) less
     | inr same ↦ let one : j ≡ i = omega (arith, le, same) in subst (λ n. slice_cmp nat_cmp (get_or xs n d).key.now k ≡ Less) one less
     ]
 
@@ -88,6 +88,6 @@ turned x y e = nat_list_cmp_total.antisymm y x ∙ ap ordering_reverse e
 pub above_middle : (xs : List Pair) (i j : ℕ) (d : Pair) (k : List ℕ) → Ascends (pairs_view xs) → i ≤ j → j < length xs → slice_cmp nat_cmp (get_or xs i d).key.now k ≡ Greater → slice_cmp nat_cmp (get_or xs j d).key.now k ≡ Greater
 above_middle xs i j d k up le lt more =
     elim (cases_lt i j) [
-    | inl before ↦ turned _ _ (nat_list_cmp_total.trans _ _ _ (reversed _ _ more) (rising xs i j d up before lt))
+    | inl before ↦ turned k (get_or xs j d).key.now (nat_list_cmp_total.trans k (get_or xs i d).key.now (get_or xs j d).key.now (reversed (get_or xs i d).key.now k more) (rising xs i j d up before lt))
     | inr same ↦ let one : i ≡ j = omega (arith, le, same) in subst (λ n. slice_cmp nat_cmp (get_or xs n d).key.now k ≡ Greater) one more
     ]

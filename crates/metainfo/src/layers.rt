@@ -43,3 +43,37 @@ fn digests<'a>(value: &Value<'a>, count: u64) -> Option<&'a [Hash]>
         _ => None,
     }
 }
+
+fn test_missing(trees: &[Rooted], layers: &[Pair<'_>], piece_length: u64) -> Result<(), Refusal>
+    ensures { Ascends (pairs_view layers.now) → MatchResult result (λ _. list_any (lacks_layer piece_length (pairs_view layers.now)) (map rooted trees.now) ≡ false) (λ r. (r ≡ Refusal.LayerMissing) × (list_any (lacks_layer piece_length (pairs_view layers.now)) (map rooted trees.now) ≡ true)) }
+{
+    'trees: for tree in trees {
+        if tree.length > piece_length && entry(layers, &tree.root).is_none() {
+            return Err(Refusal::LayerMissing);
+        }
+    }
+    Ok(())
+}
+
+/// The layer of a tree, where it has one hash for each piece.
+fn layer_of<'a>(layers: &[Pair<'a>], tree: &Rooted, piece_length: u64) -> Option<&'a [Hash]>
+    requires { 0 < piece_length }
+    ensures { Ascends (pairs_view layers.now) → option_map (λ hs. hs.now) result ≡ layer_at piece_length (pairs_view layers.now) (rooted tree.now) }
+{
+    match entry(layers, &tree.root) {
+        Some(value) => digests(value, pieces_of(tree.length, piece_length)),
+        None => None,
+    }
+}
+
+fn test_sizes(trees: &[Rooted], layers: &[Pair<'_>], piece_length: u64) -> Result<(), Refusal>
+    requires { 0 < piece_length }
+    ensures { Ascends (pairs_view layers.now) → MatchResult result (λ _. list_any (lacks_size piece_length (pairs_view layers.now)) (map rooted trees.now) ≡ false) (λ r. (r ≡ Refusal.LayerSize) × (list_any (lacks_size piece_length (pairs_view layers.now)) (map rooted trees.now) ≡ true)) }
+{
+    'trees: for tree in trees {
+        if tree.length > piece_length && layer_of(layers, tree, piece_length).is_none() {
+            return Err(Refusal::LayerSize);
+        }
+    }
+    Ok(())
+}
