@@ -1,5 +1,6 @@
 -- Lemmas on torrents.
 pub mod Keys
+pub mod Layering
 pub mod Placing
 pub mod Rooting
 pub mod Searching

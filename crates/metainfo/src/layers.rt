@@ -1,12 +1,14 @@
 //! Piece layers (BEP 52, "piece layers").
 
-ghost use Rattle.std.specs.Prelude.{◌≡◌, ◌≢◌, ◌+◌, ◌-◌, ◌*◌, ◌/◌, ◌%◌, ◌<◌, ◌≤◌, ◌^◌, ℕ, List, [], Bool, true, false, map, length, Option, Some, None, option_map, Result, Ok, Err, MatchResult, slice_get};
+ghost use Rattle.std.specs.Prelude.{◌≡◌, ◌≢◌, ◌+◌, ◌-◌, ◌*◌, ◌/◌, ◌%◌, ◌<◌, ◌≤◌, ◌^◌, ℕ, List, [], Bool, true, false, map, length, Option, Some, None, option_map, Result, Ok, Err, MatchResult, IfSome, All, slice_get};
 ghost use Rattle.std.specs.List.{list_any};
+ghost use Rattle.std.specs.Str.{bytes_eq};
 ghost use Rattle.std.specs.Simd.{first_chunks};
 ghost use Rattle.benc.specs.View.{view, pairs_view};
-ghost use Rattle.hashtree.specs.Tree.{block_count, height, first_pad};
+ghost use Rattle.hashtree.specs.Tree.{block_count, height, first_pad, root_over};
 ghost use Rattle.metainfo.specs.Dictionary.{under};
 ghost use Rattle.metainfo.specs.PieceLayers.{as_digests, layer_at, lacks_layer, lacks_size, mismatches, leads_to, needs_layer, piece_layer};
+ghost use Rattle.metainfo.specs.Trees.{pieces_of};
 ghost use Rattle.metainfo.specs.Refusals.{layer_rows, IsPieceLength};
 ghost use Rattle.metainfo.specs.Rooted.{rooted};
 ghost use Rattle.metainfo.specs.Steps.{Passes, Ascends};
@@ -14,7 +16,7 @@ ghost use Rattle.metainfo.specs.Steps.{Passes, Ascends};
 use crate::refusal::Refusal;
 use crate::trees::{Rooted, pieces_of};
 use benc::{Pair, Value};
-use hashtree::Hash;
+use hashtree::{Hash, Shape, layer_root};
 use std::cmp::Ordering;
 
 /// The value under a root, by halves: keys ascend.
@@ -36,7 +38,8 @@ fn entry<'v, 'a>(layers: &'v [Pair<'a>], root: &Hash) -> Option<&'v Value<'a>>
 
 /// The digests of a byte string of this many, joined.
 fn digests<'a>(value: &Value<'a>, count: u64) -> Option<&'a [Hash]>
-    ensures { option_map (λ hs. hs.now) result ≡ as_digests 32 count (view value.now) }
+    ensures value { option_map (λ hs. hs.now) result ≡ as_digests 32 count (view value.now) }
+    ensures count { IfSome result (λ hs. length hs.now ≡ count) }
 {
     match value {
         Value::Bytes(bytes) if bytes.len() % 32 == 0 && (bytes.len() / 32) as u64 == count => Some(bytes.as_chunks::<32>().0),
@@ -58,7 +61,8 @@ fn test_missing(trees: &[Rooted], layers: &[Pair<'_>], piece_length: u64) -> Res
 /// The layer of a tree, where it has one hash for each piece.
 fn layer_of<'a>(layers: &[Pair<'a>], tree: &Rooted, piece_length: u64) -> Option<&'a [Hash]>
     requires { 0 < piece_length }
-    ensures { Ascends (pairs_view layers.now) → option_map (λ hs. hs.now) result ≡ layer_at piece_length (pairs_view layers.now) (rooted tree.now) }
+    ensures count { IfSome result (λ hs. length hs.now ≡ pieces_of piece_length tree.now.length) }
+    ensures value { Ascends (pairs_view layers.now) → option_map (λ hs. hs.now) result ≡ layer_at piece_length (pairs_view layers.now) (rooted tree.now) }
 {
     match entry(layers, &tree.root) {
         Some(value) => digests(value, pieces_of(tree.length, piece_length)),
@@ -76,4 +80,63 @@ fn test_sizes(trees: &[Rooted], layers: &[Pair<'_>], piece_length: u64) -> Resul
         }
     }
     Ok(())
+}
+
+/// The tree over a layer has the tree's root.
+fn leads(tree: &Rooted, hashes: &[Hash], piece_length: u64) -> bool
+    requires legal { IsPieceLength piece_length }
+    requires longer { piece_length < tree.now.length }
+    requires bound { tree.now.length ≤ 2 ^ 46 }
+    requires whole { length hashes.now ≡ pieces_of piece_length tree.now.length }
+    ensures { result ≡ bytes_eq (leads_to piece_length (rooted tree.now) hashes.now) tree.now.root }
+{
+    let (Some(shape), Some(piece)) = (Shape::of(tree.length), Shape::of(piece_length)) else {
+        return false;
+    };
+    let layer = piece.height();
+    let height = shape.height();
+    prove!(layer <= height);
+    layer_root(shape, layer, hashes) == tree.root
+}
+
+/// A tree needs a layer, and has one that leads to another root.
+fn mismatches(tree: &Rooted, layers: &[Pair<'_>], piece_length: u64) -> bool
+    requires legal { IsPieceLength piece_length }
+    requires some { 0 < piece_length }
+    requires bound { tree.now.length ≤ 2 ^ 46 }
+    ensures { Ascends (pairs_view layers.now) → result ≡ mismatches piece_length (pairs_view layers.now) (rooted tree.now) }
+{
+    if tree.length <= piece_length {
+        return false;
+    }
+    match layer_of(layers, tree, piece_length) {
+        Some(hashes) => !leads(tree, hashes, piece_length),
+        None => false,
+    }
+}
+
+fn test_roots(trees: &[Rooted], layers: &[Pair<'_>], piece_length: u64) -> Result<(), Refusal>
+    requires legal { IsPieceLength piece_length }
+    requires some { 0 < piece_length }
+    requires bound { All (λ t. t.length ≤ 2 ^ 46) trees.now }
+    ensures { Ascends (pairs_view layers.now) → MatchResult result (λ _. list_any (mismatches piece_length (pairs_view layers.now)) (map rooted trees.now) ≡ false) (λ r. (r ≡ Refusal.LayerMismatch) × (list_any (mismatches piece_length (pairs_view layers.now)) (map rooted trees.now) ≡ true)) }
+{
+    'trees: for tree in trees {
+        if mismatches(tree, layers, piece_length) {
+            return Err(Refusal::LayerMismatch);
+        }
+    }
+    Ok(())
+}
+
+/// Tests the layers: each that is needed is there, has its size, and leads to its root.
+pub(crate) fn test(trees: &[Rooted], layers: &[Pair<'_>], piece_length: u64) -> Result<(), Refusal>
+    requires legal { IsPieceLength piece_length }
+    requires some { 0 < piece_length }
+    requires bound { All (λ t. t.length ≤ 2 ^ 46) trees.now }
+    ensures { Ascends (pairs_view layers.now) → Passes (layer_rows piece_length (pairs_view layers.now) (map rooted trees.now)) (λ _. Unit {0}) result }
+{
+    test_missing(trees, layers, piece_length)?;
+    test_sizes(trees, layers, piece_length)?;
+    test_roots(trees, layers, piece_length)
 }
