@@ -1,12 +1,11 @@
 -- The layer in which one hash covers a piece.
-use Rattle.std.proofs.Common.{◌≡◌, ℕ, zero, suc, ◌+◌, ◌-◌, ◌*◌, ◌/◌, ◌^◌, ◌<◌, ◌≤◌, inl, inr, refl, sym, ap, subst, ◌∙◌, arith, pow_mono}
-use Rattle.std.proofs.Math.Nat.{div-div-eq-div-mul, add-mul-div_left, le_of_mul-le-mul_right}
+use Rattle.std.proofs.Common.{◌≡◌, ℕ, ◌+◌, ◌-◌, ◌*◌, ◌/◌, ◌^◌, ◌<◌, ◌≤◌, inl, inr, sym, ap, ◌∙◌, arith, pow_mono}
+use Rattle.std.proofs.Math.Nat.{div-div-eq-div-mul}
 use Rattle.std.proofs.lemmas.Nat.{pow-add}
 use Rattle.std.proofs.lemmas.Bool.{cases_lt}
 use Rattle.std.proofs.lemmas.Nat.{pow_below}
-use Rattle.hashtree.specs.Tree.{block_count, height, first_pad}
+use Rattle.hashtree.specs.Tree.{block_count, first_pad}
 use Rattle.metainfo.specs.Trees.{pieces_of}
-use Rattle.metainfo.specs.PieceLayers.{piece_layer}
 
 -- a piece of 2 ^ (14 + m) bytes has 2 ^ m blocks
 pub piece_is : (p m : ℕ) → p ≡ 2 ^ (14 + m) → p ≡ 16384 * 2 ^ m
@@ -21,8 +20,8 @@ layer_is p m h e enough least =
     let count : block_count p ≡ 2 ^ m = blocks_are p (2 ^ m) e in
     let low : h ≤ m = least m (omega (arith, count)) in
     elim (cases_lt h m) [
-    | inl less ↦ let below = pow_below h m less in absurd (omega (arith, below, enough, count))
-    | inr high ↦ omega (arith, low, high)
+      | inl less ↦ let below = pow_below h m less in absurd (omega (arith, below, enough, count))
+      | inr high ↦ omega (arith, low, high)
     ]
 
 -- rounding up twice is rounding up once
@@ -36,8 +35,8 @@ pads_are p q n some e =
 pub layer_within : (p m n h : ℕ) → p ≡ 16384 * 2 ^ m → p < n → block_count n ≤ 2 ^ h → m ≤ h
 layer_within p m n h e longer enough =
     elim (cases_lt h m) [
-    | inl less ↦ let below = pow_below h m less in absurd (omega (arith, below, enough, e, longer))
-    | inr high ↦ high
+      | inl less ↦ let below = pow_below h m less in absurd (omega (arith, below, enough, e, longer))
+      | inr high ↦ high
     ]
 
 pub whole_layer : (p k n piece shape layer len : ℕ) → 14 ≤ k → p ≡ 2 ^ k → piece ≡ p → shape ≡ n → block_count piece ≤ 2 ^ layer → ((i : ℕ) → block_count piece ≤ 2 ^ i → layer ≤ i) → len ≡ pieces_of p n → len ≡ first_pad (block_count shape) layer

@@ -1,6 +1,6 @@
 -- Roots in the order of first use.
-use Rattle.std.proofs.Common.{◌≡◌, ◌≢◌, ℕ, zero, suc, ◌+◌, ◌<◌, ◌≤◌, drop, get_or, Bool, true, false, cond, List, [], ◌∷◌, ◌++◌, length, map, Option, Some, None, option_map, ◌⊎◌, inl, inr, refl, sym, ap, subst, ◌∙◌, arith}
-use Rattle.std.specs.Prelude.{◌==◌, slice_get, fold, take, is_some, if◌then◌else◌}
+use Rattle.std.proofs.Common.{◌≡◌, ◌≢◌, ℕ, zero, suc, ◌+◌, ◌<◌, ◌≤◌, drop, get_or, Bool, true, false, cond, List, [], ◌∷◌, ◌++◌, length, map, Option, Some, None, option_map, ◌⊎◌, inl, inr, refl, sym, ap, subst, ◌∙◌}
+use Rattle.std.specs.Prelude.{◌==◌, slice_get, fold, take, if◌then◌else◌}
 use Rattle.std.specs.Cmp.Lexicographic.{slice_cmp}
 use Rattle.std.specs.Ordering.{nat_cmp, is_eq}
 use Rattle.std.specs.declared.cmp.Ordering.{Ordering}
@@ -33,13 +33,13 @@ pub place_at : (ts : List Root) (s : List ℕ) (n : ℕ) → place_in ts s ≡ S
 place_at [] s n e = cc
 place_at (t ∷ ts) s n e =
     elim (true_or_false (bytes_eq t.root s)) [
-    | inl same ↦
-      let is : Some 0 ≡ Some n = rw same at e in
-      let first : 0 ≡ n = cc in (t, rw (← first) refl, same_bytes t.root s same)
-    | inr other ↦
-      let is : option_map suc (place_in ts s) ≡ Some n = rw other at e in
-      let later = behind_one (place_in ts s) n is in
-      let rest = place_at ts s later.0 later.1 in (rest.0, subst (λ m. slice_get (t ∷ ts) m ≡ Some rest.0) (sym later.2) rest.1, rest.2)
+      | inl same ↦
+          let is : Some 0 ≡ Some n = rw same at e in
+          let first : 0 ≡ n = cc in (t, rw (← first) refl, same_bytes t.root s same)
+      | inr other ↦
+          let is : option_map suc (place_in ts s) ≡ Some n = rw other at e in
+          let later = behind_one (place_in ts s) n is in
+          let rest = place_at ts s later.0 later.1 in (rest.0, subst (λ m. slice_get (t ∷ ts) m ≡ Some rest.0) (sym later.2) rest.1, rest.2)
     ]
 
 pub place_below : (ts : List Root) (s : List ℕ) (n : ℕ) → place_in ts s ≡ Some n → n < length ts
@@ -49,10 +49,10 @@ pub place_push_new : (ts : List Root) (t : Root) (s : List ℕ) → place_in ts 
 place_push_new [] t s e same = rw (equal_bytes t.root s same) refl
 place_push_new (u ∷ ts) t s e same =
     elim (true_or_false (bytes_eq u.root s)) [
-    | inl here ↦ let is : Some 0 ≡ None = rw here at e in cc
-    | inr other ↦
-      let none : option_map suc (place_in ts s) ≡ None = rw other at e in
-      rw other (ap (option_map suc) (place_push_new ts t s (no_more (place_in ts s) none) same))
+      | inl here ↦ let is : Some 0 ≡ None = rw here at e in cc
+      | inr other ↦
+          let none : option_map suc (place_in ts s) ≡ None = rw other at e in
+          rw other (ap (option_map suc) (place_push_new ts t s (no_more (place_in ts s) none) same))
     ]
   where
     no_more : (o : Option ℕ) → option_map suc o ≡ None → o ≡ None
@@ -68,11 +68,11 @@ pub place_push_there : (ts : List Root) (t : Root) (s : List ℕ) (n : ℕ) → 
 place_push_there [] t s n e = cc
 place_push_there (u ∷ ts) t s n e =
     elim (true_or_false (bytes_eq u.root s)) [
-    | inl here ↦ let is : Some 0 ≡ Some n = rw here at e in rw here is
-    | inr other ↦
-      let is : option_map suc (place_in ts s) ≡ Some n = rw other at e in
-      let later = behind_one (place_in ts s) n is in
-      rw other (ap (option_map suc) (place_push_there ts t s later.0 later.1) ∙ ap Some (sym later.2))
+      | inl here ↦ let is : Some 0 ≡ Some n = rw here at e in rw here is
+      | inr other ↦
+          let is : option_map suc (place_in ts s) ≡ Some n = rw other at e in
+          let later = behind_one (place_in ts s) n is in
+          rw other (ap (option_map suc) (place_push_there ts t s later.0 later.1) ∙ ap Some (sym later.2))
     ]
 
 is_equal : (o : Ordering) → is_eq o ≡ true → o ≡ Equal
@@ -85,12 +85,12 @@ pub numbered_push : (g h : List ℕ → Option ℕ) (ts : List Root) (t : Root) 
     → ((q : List ℕ) → h q ≡ cond (is_eq (slice_cmp nat_cmp t.root q)) (Some (length ts)) (g q)) → (q : List ℕ) → h q ≡ place_in (ts ++ t ∷ []) q
 numbered_push g h ts t none places more q =
     elim (true_or_false (is_eq (slice_cmp nat_cmp t.root q))) [
-    | inl here ↦
-      let same : t.root ≡ q = exact_bytes t.root q (is_equal (slice_cmp nat_cmp t.root q) here) in
-      more q ∙ rw here (sym (place_push_new ts t q (subst (λ k. place_in ts k ≡ None) same none) same))
-    | inr other ↦
-      more q ∙ rw other (places q ∙ sym (place_push_other ts t q (λ same.
-        let tied : is_eq (slice_cmp nat_cmp t.root q) ≡ true = subst (λ k. is_eq (slice_cmp nat_cmp t.root k) ≡ true) same (ap is_eq (tied_itself nat_list_cmp_total t.root)) in cc)))
+      | inl here ↦
+          let same : t.root ≡ q = exact_bytes t.root q (is_equal (slice_cmp nat_cmp t.root q) here) in
+          more q ∙ rw here (sym (place_push_new ts t q (subst (λ k. place_in ts k ≡ None) same none) same))
+      | inr other ↦
+          more q ∙ rw other (places q ∙ sym (place_push_other ts t q (λ same.
+          let tied : is_eq (slice_cmp nat_cmp t.root q) ≡ true = subst (λ k. is_eq (slice_cmp nat_cmp t.root k) ≡ true) same (ap is_eq (tied_itself nat_list_cmp_total t.root)) in cc)))
     ]
 
 pub root_at : (ts : List Root) (s : List ℕ) (n size : ℕ) (t : Root) → place_in ts s ≡ Some n → slice_get ts n ≡ Some t → t.size ≡ size → IsRootAt ts s size
@@ -142,8 +142,8 @@ some_or_none (Some n) = inl (n, refl)
 with_cases : (ts : List Root) (size : ℕ) (s : List ℕ) → (with_root ts size (Some s) ≡ ts) ⊎ ((place_in ts s ≡ None) × (with_root ts size (Some s) ≡ ts ++ record { root = s; size = size } ∷ []))
 with_cases ts size s =
     elim (some_or_none (place_in ts s)) [
-    | inl there ↦ inl (rw there.1 refl)
-    | inr none ↦ inr (none, rw none refl)
+      | inl there ↦ inl (rw there.1 refl)
+      | inr none ↦ inr (none, rw none refl)
     ]
 
 keeps_root : (ts : List Root) (t : Root) (s : List ℕ) (size : ℕ) → IsRootAt ts s size → IsRootAt (ts ++ t ∷ []) s size
@@ -168,21 +168,21 @@ roots_some fs ts us f s is after here h = record {
   each = λ g q there is_g. elim (in_cases fs f g there) [
     | inl old ↦ kept q g.size (h.each g q old is_g)
     | inr new ↦ let same : Some s ≡ Some q = sym is ∙ ap (λ (l : Listed). l.root) new ∙ is_g in let one : s ≡ q = cc in subst (λ (k : List ℕ). IsRootAt us k g.size) one (subst (λ (n : ℕ). IsRootAt us s n) (ap (λ (l : Listed). l.size) new) here)
-    ];
+  ];
   used = λ n t e. elim (with_cases ts f.size s) [
     | inl same ↦ let old = h.used n t (subst (λ vs. slice_get vs n ≡ Some t) (after ∙ same) e) in (old.0, in_front fs f old.0 old.1, old.2, old.3)
     | inr new ↦ elim (push_cases ts (record { root = s; size = f.size }) n t (subst (λ vs. slice_get vs n ≡ Some t) (after ∙ new.1) e)) [
       | inl before ↦ let old = h.used n t before in (old.0, in_front fs f old.0 old.1, old.2, old.3)
       | inr last ↦ (f, in_last fs f, is ∙ ap (λ (r : Root). Some r.root) last, ap (λ (r : Root). r.size) last)
-      ]
-    ];
+    ]
+  ];
 }
   where
     kept : (q : List ℕ) (n : ℕ) → IsRootAt ts q n → IsRootAt us q n
     kept q n at = elim (with_cases ts f.size s) [
       | inl same ↦ subst (λ vs. IsRootAt vs q n) (sym (after ∙ same)) at
       | inr new ↦ subst (λ vs. IsRootAt vs q n) (sym (after ∙ new.1)) (keeps_root ts (record { root = s; size = f.size }) q n at)
-      ]
+    ]
 
 -- a file with another length than its root
 pub reused : (all fs : List Listed) (ts : List Root) (f : Listed) (s : List ℕ) (n : ℕ) (t : Root) → ((g : Listed) → IsIn fs g → IsIn all g) → IsIn all f → f.root ≡ Some s → AreRoots fs ts

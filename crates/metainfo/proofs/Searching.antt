@@ -1,17 +1,12 @@
 -- A key among ascending keys.
-use Rattle.std.proofs.Common.{◌≡◌, ℕ, zero, suc, ◌<◌, ◌≤◌, Bool, true, false, List, [], ◌∷◌, length, map, get_or, Option, Some, None, inl, inr, refl, sym, ap, subst, ◌∙◌, arith}
-use Rattle.std.specs.Prelude.{if◌then◌else◌}
+use Rattle.std.proofs.Common.{◌≡◌, ℕ, zero, suc, ◌<◌, ◌≤◌, true, List, [], ◌∷◌, length, get_or, Some, None, inl, inr, refl, sym, ap, subst, ◌∙◌, arith}
 use Rattle.std.specs.Cmp.Lexicographic.{slice_cmp}
 use Rattle.std.specs.Ordering.{nat_cmp, ordering_reverse}
 use Rattle.std.proofs.lemmas.Bool.{cases_lt}
 use Rattle.std.specs.declared.cmp.Ordering.TheVariants.{Less, Equal, Greater}
 use Rattle.std.specs.Str.{bytes_eq}
-use Rattle.std.specs.List.{AllWithin}
-use Rattle.std.specs.List.Sorted.{IsStrictlySortedBy}
 use Rattle.std.proofs.lemmas.Cmp.{nat_list_cmp_total, tied_itself}
 use Rattle.std.proofs.lemmas.Map.Keys.{Less-from_sorted}
-use Rattle.std.proofs.lemmas.List.{length-map}
-use Rattle.benc.specs.Value.{Bencode, Pairs}
 use Rattle.benc.specs.View.{Seen, view, pair_view, pairs_view}
 use Rattle.benc.specs.declared.value.Pair.{Pair}
 use Rattle.metainfo.specs.Dictionary.{under}
@@ -19,7 +14,6 @@ use Rattle.metainfo.specs.Steps.{Ascends, keys_in}
 use Rattle.metainfo.proofs.Placing.{true_or_false}
 use Rattle.metainfo.proofs.Rooting.{same_bytes, equal_bytes}
 use Rattle.metainfo.proofs.Views.{view-Pair}
-
 
 seen_key : (x : Pair) → (pair_view x).0 ≡ x.key.now
 seen_key x = ap (λ (s : Seen). s.0) (view-Pair x.key x.value)
@@ -33,16 +27,16 @@ under_some (x ∷ xs) zero d k lt is before =
     let here : bytes_eq (pair_view x).0 k ≡ true = equal_bytes (pair_view x).0 k (seen_key x ∙ is) in rw here (ap Some (seen_value x))
 under_some (x ∷ xs) (suc i) d k lt is before =
     elim (true_or_false (bytes_eq (pair_view x).0 k)) [
-    | inl same ↦ absurd (before 0 (omega arith) (sym (seen_key x) ∙ same_bytes (pair_view x).0 k same))
-    | inr other ↦ rw other (under_some xs i d k (omega arith) is (λ j lt'. before (suc j) (omega arith)))
+      | inl same ↦ absurd (before 0 (omega arith) (sym (seen_key x) ∙ same_bytes (pair_view x).0 k same))
+      | inr other ↦ rw other (under_some xs i d k (omega arith) is (λ j lt'. before (suc j) (omega arith)))
     ]
 
 pub under_none : (xs : List Pair) (k : List ℕ) → ((j : ℕ) (d : Pair) → j < length xs → (get_or xs j d).key.now ≡ k → ⊥) → under k (pairs_view xs) ≡ None
 under_none [] k none = refl
 under_none (x ∷ xs) k none =
     elim (true_or_false (bytes_eq (pair_view x).0 k)) [
-    | inl same ↦ absurd (none 0 x (omega arith) (sym (seen_key x) ∙ same_bytes (pair_view x).0 k same))
-    | inr other ↦ rw other (under_none xs k (λ j d lt. none (suc j) d (omega arith)))
+      | inl same ↦ absurd (none 0 x (omega arith) (sym (seen_key x) ∙ same_bytes (pair_view x).0 k same))
+      | inr other ↦ rw other (under_none xs k (λ j d lt. none (suc j) d (omega arith)))
     ]
 
 -- ---- ascending keys
@@ -75,8 +69,8 @@ first_at xs i d k up lt is = under_some xs i d k lt is (λ j less same. not_less
 pub below_middle : (xs : List Pair) (i j : ℕ) (d : Pair) (k : List ℕ) → Ascends (pairs_view xs) → i ≤ j → j < length xs → slice_cmp nat_cmp (get_or xs j d).key.now k ≡ Less → slice_cmp nat_cmp (get_or xs i d).key.now k ≡ Less
 below_middle xs i j d k up le lt less =
     elim (cases_lt i j) [
-    | inl before ↦ nat_list_cmp_total.trans (get_or xs i d).key.now (get_or xs j d).key.now k (rising xs i j d up before lt) less
-    | inr same ↦ let one : j ≡ i = omega (arith, le, same) in subst (λ n. slice_cmp nat_cmp (get_or xs n d).key.now k ≡ Less) one less
+      | inl before ↦ nat_list_cmp_total.trans (get_or xs i d).key.now (get_or xs j d).key.now k (rising xs i j d up before lt) less
+      | inr same ↦ let one : j ≡ i = omega (arith, le, same) in subst (λ n. slice_cmp nat_cmp (get_or xs n d).key.now k ≡ Less) one less
     ]
 
 reversed : (x y : List ℕ) → slice_cmp nat_cmp x y ≡ Greater → slice_cmp nat_cmp y x ≡ Less
@@ -88,6 +82,6 @@ turned x y e = nat_list_cmp_total.antisymm y x ∙ ap ordering_reverse e
 pub above_middle : (xs : List Pair) (i j : ℕ) (d : Pair) (k : List ℕ) → Ascends (pairs_view xs) → i ≤ j → j < length xs → slice_cmp nat_cmp (get_or xs i d).key.now k ≡ Greater → slice_cmp nat_cmp (get_or xs j d).key.now k ≡ Greater
 above_middle xs i j d k up le lt more =
     elim (cases_lt i j) [
-    | inl before ↦ turned k (get_or xs j d).key.now (nat_list_cmp_total.trans k (get_or xs i d).key.now (get_or xs j d).key.now (reversed (get_or xs i d).key.now k more) (rising xs i j d up before lt))
-    | inr same ↦ let one : i ≡ j = omega (arith, le, same) in subst (λ n. slice_cmp nat_cmp (get_or xs n d).key.now k ≡ Greater) one more
+      | inl before ↦ turned k (get_or xs j d).key.now (nat_list_cmp_total.trans k (get_or xs i d).key.now (get_or xs j d).key.now (reversed (get_or xs i d).key.now k more) (rising xs i j d up before lt))
+      | inr same ↦ let one : i ≡ j = omega (arith, le, same) in subst (λ n. slice_cmp nat_cmp (get_or xs n d).key.now k ≡ Greater) one more
     ]

@@ -1,10 +1,10 @@
 -- What torrent a torrent file describes.
-use Rattle.std.specs.Prelude.{◌≡◌, ℕ, ◌≤◌, Bool, true, List, length, map, Option, Some, None, if◌then◌else◌}
+use Rattle.std.specs.Prelude.{◌≡◌, ℕ, ◌≤◌, List, length, map, Some, None, if◌then◌else◌}
 use Rattle.sha1.specs.Sha1.{sha1}
 use Rattle.sha2.specs.Sha256.{sha256}
 use Rattle.benc.specs.Value.{Bencode}
 use Rattle.benc.specs.Spelling.{Spells}
-use Rattle.benc.specs.Canonical.{spelling}
+use Rattle.benc.specs.Text.{spelling}
 use Rattle.metainfo.specs.Description.{Description}
 use Rattle.metainfo.specs.Refusals.{NoneHolds, table, max_torrent, info_in, files_of, layers_in, piece_length_in, name_in, parts_of_torrent}
 use Rattle.metainfo.specs.Trees.{AreFiles, roots_in}

@@ -7,16 +7,19 @@ ghost use Rattle.std.specs.Simd.{first_chunks};
 ghost use Rattle.benc.specs.View.{view, pairs_view};
 ghost use Rattle.hashtree.specs.Tree.{block_count, height, first_pad, root_over};
 ghost use Rattle.metainfo.specs.Dictionary.{under};
-ghost use Rattle.metainfo.specs.PieceLayers.{as_digests, layer_at, lacks_layer, lacks_size, mismatches, leads_to, needs_layer, piece_layer};
+ghost use Rattle.metainfo.specs.PieceLayers.{as_digests, layer_at, lacks_layer, lacks_size, mismatches, leads_to, needs_layer, piece_layer, tree_at};
 ghost use Rattle.metainfo.specs.Trees.{pieces_of};
 ghost use Rattle.metainfo.specs.Refusals.{layer_rows, IsPieceLength};
 ghost use Rattle.metainfo.specs.Rooted.{rooted};
+ghost use Rattle.metainfo.specs.Seen.{tree_entry};
 ghost use Rattle.metainfo.specs.Steps.{Passes, Ascends};
 
 use crate::refusal::Refusal;
+use crate::torrent::TreeInfo;
 use crate::trees::{Rooted, pieces_of};
 use benc::{Pair, Value};
 use hashtree::{Hash, Shape, layer_root};
+use std::alloc::Global;
 use std::cmp::Ordering;
 
 /// The value under a root, by halves: keys ascend.
@@ -42,7 +45,9 @@ fn digests<'a>(value: &Value<'a>, count: u64) -> Option<&'a [Hash]>
     ensures count { IfSome result (λ hs. length hs.now ≡ count) }
 {
     match value {
-        Value::Bytes(bytes) if bytes.len() % 32 == 0 && (bytes.len() / 32) as u64 == count => Some(bytes.as_chunks::<32>().0),
+        Value::Bytes(bytes) if bytes.len() % 32 == 0 && (bytes.len() / 32) as u64 == count => Some(
+            bytes.as_chunks::<32>().0,
+        ),
         _ => None,
     }
 }
@@ -139,4 +144,44 @@ pub(crate) fn test(trees: &[Rooted], layers: &[Pair<'_>], piece_length: u64) -> 
     test_missing(trees, layers, piece_length)?;
     test_sizes(trees, layers, piece_length)?;
     test_roots(trees, layers, piece_length)
+}
+
+fn info<'a>(tree: &Rooted, layers: &[Pair<'a>], piece_length: u64) -> TreeInfo<'a>
+    requires { 0 < piece_length }
+    ensures { Ascends (pairs_view layers.now) → tree_entry result ≡ tree_at piece_length (pairs_view layers.now) (rooted tree.now) }
+{
+    let layer = if tree.length > piece_length {
+        layer_of(layers, tree, piece_length)
+    } else {
+        None
+    };
+    match layer {
+        Some(layer) => TreeInfo {
+            root: tree.root,
+            length: tree.length,
+            layer,
+        },
+        None => TreeInfo {
+            root: tree.root,
+            length: tree.length,
+            layer: &[],
+        },
+    }
+}
+
+/// The trees with their layers.
+pub(crate) fn infos<'a>(
+    alloc: Global,
+    trees: &[Rooted],
+    layers: &[Pair<'a>],
+    piece_length: u64,
+) -> Result<Vec<TreeInfo<'a>>, Refusal>
+    requires { 0 < piece_length }
+    ensures { Ascends (pairs_view layers.now) → MatchResult result (λ ts. map tree_entry ts.items ≡ map (tree_at piece_length (pairs_view layers.now)) (map rooted trees.now)) (λ r. r ≡ Refusal.NoMemory) }
+{
+    let mut infos = Vec::with_capacity(alloc, trees.len())?;
+    'trees: for tree in trees {
+        infos.push(info(tree, layers, piece_length))?;
+    }
+    Ok(infos)
 }

@@ -90,7 +90,11 @@ fn test_pieces(leaves: &[Leaf<'_>], piece_length: u64) -> Result<(), Refusal>
 }
 
 /// The trees of the files, which have one length each; tests how many files and pieces there are.
-pub(crate) fn roots_of(alloc: Global, leaves: &[Leaf<'_>], piece_length: u64) -> Result<Roots, Refusal>
+pub(crate) fn roots_of(
+    alloc: Global,
+    leaves: &[Leaf<'_>],
+    piece_length: u64,
+) -> Result<Roots, Refusal>
     requires { 0 < piece_length }
     ensures { Passes (count_rows piece_length (map leaf leaves.now)) (AreTrees piece_length (map leaf leaves.now)) result }
 {

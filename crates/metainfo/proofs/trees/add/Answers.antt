@@ -1,12 +1,12 @@
-use Rattle.std.proofs.Common.{◌≡◌, ◌≢◌, ℕ, ◌<◌, List, [], ◌∷◌, ◌++◌, length, map, Option, Some, None, option_map, cond, refl, sym, ap, subst, ◌∙◌, arith, rules}
+use Rattle.std.proofs.Common.{◌≡◌, [], ◌∷◌, ◌++◌, length, map, Some, None, option_map, cond, refl, sym, ap, subst, ◌∙◌, arith}
 use Rattle.std.specs.Prelude.{slice_get}
 use Rattle.std.specs.BTreeMap as tree
 use Rattle.std.specs.Cmp.Lexicographic.{slice_cmp}
 use Rattle.std.specs.Ordering.{nat_cmp, is_eq}
 use Rattle.std.proofs.lemmas.List.{length-map, map-append}
 use Rattle.std.proofs.lemmas.Option.{slice_get-map, slice_get_read}
-use Rattle.metainfo.specs.Rooted.{rooted, roots_seen, IsRootAt}
-use Rattle.metainfo.specs.Trees.{Root, place_in}
+use Rattle.metainfo.specs.Rooted.{rooted, IsRootAt}
+use Rattle.metainfo.specs.Trees.{place_in}
 use Rattle.metainfo.specs.declared.trees.Rooted.{Rooted}
 use Rattle.metainfo.proofs.Rooting.{place_below, root_at, place_push_new, numbered_push, last_of}
 use Rattle.metainfo.proofs.trees.add.Goals as goal
