@@ -1,11 +1,16 @@
 //! Torrents of version 2 and hybrids (BEP 52, BEP 3, BEP 47).
 #![tactic(auto)]
 
+mod files;
+mod info;
+mod layers;
 mod path;
 mod place;
 mod refusal;
 mod torrent;
 mod v1_feed;
+mod tree;
+mod trees;
 
 pub use path::Path;
 pub use refusal::{Key, Refusal};
