@@ -9,5 +9,7 @@ pub mod Places
 pub mod Refusals
 pub mod Seen
 pub mod Sound
+pub mod Steps
 pub mod Stream
 pub mod Trees
+pub mod Walked

@@ -1,10 +1,13 @@
 //! Torrents of version 2 and hybrids (BEP 52, BEP 3, BEP 47).
 #![tactic(auto)]
 
+mod files;
+mod info;
 mod path;
 mod place;
 mod refusal;
 mod torrent;
+mod tree;
 
 pub use path::Path;
 pub use refusal::{Key, Refusal};
