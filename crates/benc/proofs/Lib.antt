@@ -10,3 +10,4 @@ pub mod Lookups
 pub mod Again
 pub mod Either
 pub mod Unique
+pub mod Reached

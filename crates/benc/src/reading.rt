@@ -1,12 +1,13 @@
 //! From bytes to a value.
 
-ghost use Rattle.std.specs.Prelude.{◌≡◌, ℕ, suc, ◌<◌, ◌≤◌, length, OnOk, IfOk, IfSome, Some, None, if◌then◌else◌};
+ghost use Rattle.std.specs.Prelude.{◌≡◌, ℕ, suc, ◌<◌, ◌≤◌, length, ◌⊎◌, OnOk, IfOk, IfErr, IfSome, Some, None, if◌then◌else◌};
 ghost use Rattle.std.specs.Option.{option_copied, option_map};
 ghost use Rattle.std.specs.Str.{bytes_eq};
 ghost use Rattle.benc.specs.Lookup.{get, under};
 ghost use Rattle.benc.specs.Text.{spelling};
 ghost use Rattle.benc.specs.View.{view, items_view, pairs_view};
-ghost use Rattle.benc.specs.Reading.{Gives, value_at, items_at, pairs_at};
+ghost use Rattle.benc.specs.Fails.{Reaches};
+ghost use Rattle.benc.specs.Reading.{Gives, IfMemory, ReachesItem, ReachesPair, value_at, items_at, pairs_at};
 
 use crate::fault::FaultKind;
 use crate::scan::{integer, key, split_front, string};
@@ -25,6 +26,7 @@ pub(crate) fn value<'a>(
 ) -> Result<(Value<'a>, Option<&'a [u8]>, &'a [u8]), Stop<'a>>
     ensures read { Gives (λ x. (view x.0, x.2.now)) result (value_at room bytes.now) }
     ensures shorter { IfOk result (λ x. length x.2.now < length bytes.now) }
+    ensures memory { IfErr result (λ e. IfMemory e (Reaches room bytes.now)) }
     ensures span { IfOk result (λ x. IfSome (option_copied asked.entry) (λ key. option_copied x.1 ≡ option_map spelling (get key (view x.0)))) }
 {
     let Some((first, rest)) = split_front(bytes) else {
@@ -67,6 +69,7 @@ fn items<'a>(
 ) -> Result<(Vec<Value<'a>>, &'a [u8]), Stop<'a>>
     ensures read { Gives (λ x. (items_view x.0.items, x.1.now)) result (items_at (value_at room) (length bytes.now) bytes.now) }
     ensures shorter { IfOk result (λ x. length x.1.now < length bytes.now) }
+    ensures memory { IfErr result (λ e. IfMemory e (λ there. (there ≡ start.now) ⊎ ReachesItem room bytes.now there)) }
 {
     let mut found = Vec::new(alloc);
     let mut rest = bytes;
@@ -97,6 +100,7 @@ fn pairs<'a>(
 ) -> Result<(Vec<Pair<'a>>, Option<&'a [u8]>, &'a [u8]), Stop<'a>>
     ensures read { Gives (λ x. (pairs_view x.0.items, x.2.now)) result (pairs_at (value_at room) (length bytes.now) None bytes.now) }
     ensures shorter { IfOk result (λ x. length x.2.now < length bytes.now) }
+    ensures memory { IfErr result (λ e. IfMemory e (λ there. (there ≡ start.now) ⊎ ReachesPair room bytes.now there)) }
     ensures span { IfOk result (λ x. IfSome (option_copied asked.entry) (λ key. option_copied x.1 ≡ option_map spelling (under key (pairs_view x.0.items)))) }
 {
     let mut found = Vec::new(alloc);

@@ -1,7 +1,10 @@
-use Rattle.std.proofs.Common.{[], take, drop, refl, sym, inr, arith}
-use Rattle.std.proofs.lemmas.List.{append-nil, take-append-drop, length-take, length-drop}
+use Rattle.std.proofs.Common.{[], take, drop, refl, subst, sym, inr, arith}
+use Rattle.std.proofs.lemmas.List.{append-nil, take_all, take-append-drop, length-take, length-drop}
 use Rattle.std.proofs.lemmas.Result.{err_from_is_err_and}
+use Rattle.benc.specs.Spelling.{Spells}
 use Rattle.benc.specs.View.{view}
+use Rattle.std.specs.Option.{option_copied}
+use Rattle.benc.proofs.Lookups.{spans_stand}
 use Rattle.benc.proofs.decoding.read_whole.Goals as goal
 
 pub returns-then-used-input-clause-fault : goal.returns-then-used-input-clause-fault
@@ -22,3 +25,6 @@ returns-then-used-input-clause-only c v s =
 
 pub returns-clause-only : goal.returns-clause-only
 returns-clause-only c v s = (c.in_ok-v.ensures.only v c.args.input.now [] (sym (append-nil c.args.input.now)) s).0
+
+pub returns-clause-stands : goal.returns-clause-stands
+returns-clause-stands c = spans_stand (option_copied c.args.asked) c.args.input.now (view c.in_ok-v.v) (option_copied c.in_ok-v.span) (subst (Spells (view c.in_ok-v.v)) (take_all c.in_ok-v.used c.args.input.now (omega arith)) c.in_ok-v.ensures.found) c.in_ok-v.ensures.span
