@@ -1,4 +1,6 @@
 -- Lemmas on torrents.
+pub mod Entries
+pub mod Hybrids
 pub mod Keys
 pub mod Placing
 pub mod Views

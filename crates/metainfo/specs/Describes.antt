@@ -4,7 +4,7 @@ use Rattle.sha1.specs.Sha1.{sha1}
 use Rattle.sha2.specs.Sha256.{sha256}
 use Rattle.benc.specs.Value.{Bencode}
 use Rattle.benc.specs.Spelling.{Spells}
-use Rattle.benc.specs.Canonical.{spelling}
+use Rattle.benc.specs.Text.{spelling}
 use Rattle.metainfo.specs.Description.{Description}
 use Rattle.metainfo.specs.Refusals.{NoneHolds, table, max_torrent, info_in, files_of, layers_in, piece_length_in, name_in, parts_of_torrent}
 use Rattle.metainfo.specs.Trees.{AreFiles, roots_in}

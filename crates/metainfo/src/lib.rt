@@ -8,6 +8,7 @@ mod place;
 mod refusal;
 mod torrent;
 mod tree;
+mod version1;
 
 pub use path::Path;
 pub use refusal::{Key, Refusal};
