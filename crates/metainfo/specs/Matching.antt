@@ -5,10 +5,15 @@ use Rattle.benc.specs.Value.{Bencode, int, text, list, dict, Items, no_items, it
 use Rattle.metainfo.specs.Description.{FileEntry}
 use Rattle.metainfo.specs.Dictionary.{get}
 use Rattle.metainfo.specs.FileTree.{has_attribute, length_at, is_dict}
+use Rattle.metainfo.specs.Stream.{Named}
 use Rattle.metainfo.specs.Trees.{pieces_of}
 use Rattle.metainfo.specs.declared.refusal.Refusal.{Refusal}
 use Rattle.metainfo.specs.declared.refusal.Refusal.TheVariants as refusals
 use Rattle.metainfo.specs.declared.version1.Ends.{Ends}
+
+-- the path and the length of a file
+abbrev pub named_entry : FileEntry → Named
+named_entry e = record { path = e.path; size = e.length }
 
 -- a byte string of these bytes
 abbrev pub is_text : Bencode → List ℕ → Bool

@@ -103,3 +103,7 @@ cuts_in piece_length ps info = option_and_then (as_digests 20 (pieces_of piece_l
 
 abbrev pub version1_of : ℕ → List Part → Bencode → Version1
 version1_of piece_length ps info = record { pieces = unwrap_or (cuts_in piece_length ps info) []; total = stream_length ps }
+
+-- the version 1 part of a hybrid; another torrent has none
+abbrev pub IsVersion1 : ℕ → Bencode → List ℕ → Option Version1 → Type 0
+IsVersion1 piece_length info name v = v ≡ (if is_hybrid info then Some (version1_of piece_length (the_parts (parts_in info name)) info) else None)

@@ -1,12 +1,16 @@
 //! The version 1 part of a hybrid (BEP 3, "info dictionary"; BEP 47, "Padding Files"; BEP 52, "Upgrade Path"): its list of
 //! files and pads, how these lie in the stream that their contents join to, and the digests of the stream's cuts.
 
-ghost use Rattle.std.specs.Prelude.{◌≡◌, ◌≢◌, ◌⊎◌, ◌+◌, ◌*◌, ◌^◌, ◌<◌, ◌≤◌, ℕ, List, length, map, Option, Some, None, option_map, MatchOption, MatchResult, IsTrue, if◌then◌else◌};
+ghost use Rattle.std.specs.Prelude.{◌≡◌, ◌≢◌, ◌⊎◌, ◌+◌, ◌*◌, ◌^◌, ◌<◌, ◌≤◌, ℕ, List, length, map, sum_by, Option, Some, None, option_map, MatchOption, MatchResult, IsTrue, if◌then◌else◌};
 ghost use Rattle.benc.specs.View.{view, items_view};
 ghost use Rattle.metainfo.specs.Dictionary.{get};
-ghost use Rattle.metainfo.specs.Matching.{after_entry, aligned_length, are_same, are_texts, ends_of, entry_length, is_named, many_lengths, one_length, stream_at, is_entry_of, is_misplaced, is_path, is_sized, is_text, nowhere};
+ghost use Rattle.metainfo.specs.Matching.{after_entry, aligned_length, are_same, are_texts, ends_of, entry_length, is_named, many_lengths, named_entry, one_length, stream_at, is_entry_of, is_misplaced, is_path, is_sized, is_text, nowhere};
 ghost use Rattle.metainfo.specs.PieceLayers.{as_digests};
-ghost use Rattle.metainfo.specs.Seen.{file_entry};
+ghost use Rattle.metainfo.specs.FileTree.{Listed};
+ghost use Rattle.metainfo.specs.Refusals.{hybrid_rows};
+ghost use Rattle.metainfo.specs.Seen.{file_entry, version1};
+ghost use Rattle.metainfo.specs.Steps.{Passes};
+ghost use Rattle.metainfo.specs.Stream.{IsVersion1, named};
 ghost use Rattle.metainfo.specs.Trees.{pieces_of};
 
 use crate::files::{has_attribute, length};
@@ -229,15 +233,44 @@ fn stream(
 
 /// The digests of the stream's cuts: 20 bytes for each.
 fn cuts<'a>(pieces: &Value<'a>, total: u64, piece_length: u64) -> Option<&'a [[u8; 20]]>
-    requires some { 0 < piece_length }
-    requires bound { total + piece_length < 2 ^ 64 }
+    requires { 0 < piece_length }
     ensures { option_map (λ h. h.now) result ≡ as_digests 20 (pieces_of piece_length total) (view pieces.now) }
 {
-    let count = (total + (piece_length - 1)) / piece_length;
+    let count = (u128::from(total) + u128::from(piece_length - 1)) / u128::from(piece_length);
     match pieces {
-        Value::Bytes(bytes) if bytes.len() % 20 == 0 && (bytes.len() / 20) as u64 == count => {
+        Value::Bytes(bytes) if bytes.len() % 20 == 0 && (bytes.len() / 20) as u128 == count => {
             Some(bytes.as_chunks::<20>().0)
         }
         _ => None,
+    }
+}
+
+/// The version 1 part of an info dictionary whose file tree has these files; `None` where it has no `pieces`.
+///
+/// Refuses `HybridFiles` where the version 1 list is malformed or, without its pads, not that of the file tree, then
+/// `HybridAlign` where a file that is not empty begins elsewhere than at its first piece or the stream goes on after the
+/// last piece, then `HybridPieces` where `pieces` is not one SHA-1 digest for each cut. Takes no memory.
+pub(crate) fn version1<'a>(
+    info: &Value<'a>,
+    name: &str,
+    files: &[File<'_>],
+    piece_length: u64,
+) -> Result<Option<V1<'a>>, Refusal>
+    requires some { 0 < piece_length }
+    requires bound { piece_length ≤ 2 ^ 30 }
+    ensures { (fs : List Listed) → map named_entry (map file_entry files.now) ≡ map named fs
+        → sum_by (λ f. pieces_of piece_length f.size) (map named fs) * piece_length < 2 ^ 64
+        → Passes (hybrid_rows piece_length (view info.now) name.now fs) (λ v. IsVersion1 piece_length (view info.now) name.now (option_map version1 v)) result }
+{
+    let Some(pieces) = get(info, b"pieces") else {
+        return Ok(None);
+    };
+    let total = match stream(info, name, files, piece_length) {
+        Ok(total) => total,
+        Err(refusal) => return Err(refusal),
+    };
+    match cuts(pieces, total, piece_length) {
+        Some(pieces) => Ok(Some(V1 { pieces, total })),
+        None => Err(Refusal::HybridPieces),
     }
 }
