@@ -1,12 +1,11 @@
 -- Rows on keys that do not hold.
-use Rattle.std.proofs.Common.{◌≡◌, ◌≢◌, ℕ, List, Option, Some, None, ◌⊎◌, inl, inr, refl, sym, ap, subst, ◌∙◌}
+use Rattle.std.proofs.Common.{◌≡◌, ℕ, List, Option, Some, None, inl, inr, refl, ap, ◌∙◌}
 use Rattle.std.specs.Prelude.{codes}
 use Rattle.std.specs.Str.{IsUtf8}
 use Rattle.benc.specs.Value.{Bencode, Pairs}
 use Rattle.metainfo.specs.Dictionary.{get, as_dict, as_int, as_text}
 use Rattle.metainfo.specs.Refusals.{First, kind_rows, IsOther, IsName}
 use Rattle.metainfo.specs.declared.refusal.Key.TheVariants as keys
-use Rattle.metainfo.specs.declared.refusal.Refusal.{Refusal}
 use Rattle.metainfo.specs.declared.refusal.Refusal.TheVariants as refusals
 
 of_kind : {A : Type 0} (kind : Bencode → Option A) (o : Option Bencode) (w : Bencode) (x : A) → o ≡ Some w → kind w ≡ Some x → IsOther kind o → ⊥

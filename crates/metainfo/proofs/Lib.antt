@@ -3,7 +3,10 @@ pub mod Aligned
 pub mod Entries
 pub mod Hybrids
 pub mod Keys
+pub mod Layering
 pub mod Placing
+pub mod Rooting
+pub mod Searching
 pub mod Streams
 pub mod Views
 pub mod Walking

@@ -1,9 +1,9 @@
 -- A list of pairs by its first pair, and a value by its kind.
-use Rattle.std.proofs.Common.{◌≡◌, ℕ, ◌+◌, ◌<◌, ◌≤◌, List, [], ◌∷◌, length, drop, get_or, ℤ, refl, sym, ap, ◌∙◌, arith, rules, Vec, Global}
+use Rattle.std.proofs.Common.{◌≡◌, ℕ, ◌+◌, ◌<◌, ◌≤◌, List, ◌∷◌, length, drop, get_or, ℤ, sym, ap, ◌∙◌, rules, Vec, Global}
 use Rattle.std.specs.Borrow.{Bor}
 use Rattle.std.proofs.lemmas.List.{drop_more, drop_all}
-use Rattle.benc.specs.Value.{Bencode, int, text, list, dict, Pairs, no_pairs, pair}
-use Rattle.benc.specs.View.{Seen, view, pair_view, items_view, pairs_view, pairs_of}
+use Rattle.benc.specs.Value.{int, text, list, dict, no_pairs, pair}
+use Rattle.benc.specs.View.{Seen, view, pair_view, items_view, pairs_view}
 use Rattle.benc.specs.declared.value.Value.{Value, Int, Bytes, List as ListOf, Dict, the_lemmas}
 use Rattle.benc.specs.declared.value.Pair.{Pair}
 

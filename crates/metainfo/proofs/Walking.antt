@@ -1,12 +1,11 @@
 -- Walks of the pairs of a directory, one pair after the other.
-use Rattle.std.proofs.Common.{◌≡◌, ◌≢◌, ℕ, Bool, true, false, cond, List, [], ◌∷◌, ◌++◌, map, Result, Ok, Err, ◌⊎◌, inl, inr, refl, sym, ap, subst, ◌∙◌, append_assoc}
+use Rattle.std.proofs.Common.{◌≡◌, ℕ, false, List, [], ◌∷◌, ◌++◌, map, Result, Ok, Err, inl, inr, refl, sym, ap, subst, ◌∙◌, append_assoc}
 use Rattle.std.proofs.lemmas.List.{map-append}
 use Rattle.benc.specs.Value.{Bencode, dict, Pairs, pair}
 use Rattle.benc.specs.View.{Seen}
-use Rattle.metainfo.specs.FileTree.{Walk, walks, walks_in, below, is_nil, IsBadComponent, HasBadPath, HasBadPathIn}
+use Rattle.metainfo.specs.FileTree.{Walk, walks, below, is_nil, IsBadComponent, HasBadPath, HasBadPathIn}
 use Rattle.metainfo.specs.Walked.{behind, Adds, HasBadPathAt, walks_at, IsOnWay}
 use Rattle.metainfo.specs.declared.refusal.Refusal.{Refusal}
-use Rattle.metainfo.specs.declared.refusal.Refusal.TheVariants as refusals
 
 pub walked_err : (path : List (List ℕ)) (all rest : Pairs) (p : Seen) (old mid new last : List Walk) (r : Refusal)
     → IsOnWay path all (pair p.0 p.1 rest) old mid → Adds (HasBadPathAt p) path (walks_at p) mid new (Err r) → Adds (HasBadPath all) path (walks all) old last (Err r)
@@ -30,7 +29,8 @@ behind_below path k (w ∷ ws) =
 pub walked_inner : (path longer : List (List ℕ)) (k : List ℕ) (ps : Pairs) (v : Bencode) (old new : List Walk) (r : Result Unit Refusal)
     → is_nil k ≡ false → longer ≡ path ++ k ∷ [] → v ≡ dict ps → (IsBadComponent k → ⊥) → Adds (HasBadPath ps) longer (walks ps) old new r → Adds (HasBadPathAt (k, v)) path (walks_at (k, v)) old new r
 walked_inner path longer k ps v old new (Ok x) some e is good adds =
-    let here : walks_at (k, v) ≡ map (below k) (walks ps) = rw (some, is) refl in
-    (adds.0 ∙ ap (λ ws. old ++ ws) (ap (λ p. map (behind p) (walks ps)) e ∙ behind_below path k (walks ps) ∙ ap (map (behind path)) (sym here)),
-    λ bad. elim bad.1 [ inl one ↦ good one | inr more ↦ adds.1 (subst HasBadPathIn is more) ])
+    let here : walks_at (k, v) ≡ map (below k) (walks ps) = rw (some, is) refl in (
+      adds.0 ∙ ap (λ ws. old ++ ws) (ap (λ p. map (behind p) (walks ps)) e ∙ behind_below path k (walks ps) ∙ ap (map (behind path)) (sym here)),
+      λ bad. elim bad.1 [ inl one ↦ good one | inr more ↦ adds.1 (subst HasBadPathIn is more) ],
+    )
 walked_inner path longer k ps v old new (Err r) some e is good adds = λ ne. let told = adds ne in (told.0, (some, inr (subst HasBadPathIn (sym is) told.1)))

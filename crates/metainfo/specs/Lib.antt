@@ -8,6 +8,7 @@ pub mod Names
 pub mod PieceLayers
 pub mod Places
 pub mod Refusals
+pub mod Rooted
 pub mod Seen
 pub mod Sound
 pub mod Steps

@@ -1,12 +1,11 @@
 -- Piece layers (BEP 52, "piece layers"): for each file longer than the piece length the hashes of the layer in which
 -- one hash covers a piece.
-use Rattle.std.specs.Prelude.{◌≡◌, ℕ, ◌+◌, ◌-◌, ◌*◌, ◌^◌, Bool, false, not, ◌&&◌, ◌==◌, nat_lt, if◌then◌else◌, List, [], ◌++◌, length, replicate, Option, Some, None, is_none, option_and_then, map}
-use Rattle.std.specs.List.{list_any}
+use Rattle.std.specs.Prelude.{ℕ, ◌*◌, Bool, false, not, ◌&&◌, ◌==◌, nat_lt, if◌then◌else◌, List, [], length, Option, Some, None, is_none, option_and_then}
 use Rattle.std.specs.Str.{bytes_eq}
 use Rattle.std.specs.Simd.{first_chunks}
 use Rattle.hashtree.specs.Tree.{block_count, height}
 pub use Rattle.hashtree.specs.Tree.{root_over}
-use Rattle.benc.specs.Value.{Bencode, int, text, list, dict, Items, Pairs}
+use Rattle.benc.specs.Value.{Bencode, int, text, list, dict, Pairs}
 use Rattle.metainfo.specs.Description.{TreeEntry}
 use Rattle.metainfo.specs.Dictionary.{under}
 use Rattle.metainfo.specs.Trees.{Root, pieces_of}

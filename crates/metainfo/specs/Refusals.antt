@@ -1,9 +1,9 @@
 -- The tests of a torrent file in their order, each with its answer, and the first that holds. BEP 52 wants the version
 -- told before other faults of the info dictionary.
-use Rattle.std.specs.Prelude.{◌≡◌, ◌≢◌, ℕ, ◌-◌, ◌^◌, ◌<◌, ◌≤◌, ◌⊎◌, ℤ, pos, negsuc, Bool, true, false, not, ◌&&◌, nat_lt, List, [], ◌∷◌, ◌++◌, length, map, Option, Some, None, is_some, is_none, IsTrue, codes, Result, Ok, Err}
+use Rattle.std.specs.Prelude.{◌≡◌, ◌≢◌, ℕ, ◌^◌, ◌<◌, ◌≤◌, ◌⊎◌, pos, negsuc, true, false, List, [], ◌∷◌, ◌++◌, length, map, Option, Some, None, is_none, IsTrue, codes}
 use Rattle.std.specs.List.{list_any}
 use Rattle.std.specs.Str.{IsUtf8}
-use Rattle.benc.specs.Value.{Bencode, int, text, list, dict, Pairs, no_pairs}
+use Rattle.benc.specs.Value.{Bencode, int, text, list, dict, Pairs}
 use Rattle.benc.specs.Spelling.{Spells}
 use Rattle.benc.specs.Fails as benc
 use Rattle.benc.specs.declared.fault.Fault.{Fault}
@@ -11,7 +11,7 @@ use Rattle.metainfo.specs.Dictionary.{get, value_at, pairs_in, as_int, as_text, 
 use Rattle.metainfo.specs.FileTree.{Walk, Listed, walks, listed, is_directory, HasBadPath, is_symlink, length_at, lacks_root}
 use Rattle.metainfo.specs.Trees.{Root, roots_in, pieces_in, IsReused}
 use Rattle.metainfo.specs.PieceLayers.{lacks_layer, lacks_size, mismatches}
-use Rattle.metainfo.specs.Stream.{Part, has_key, is_hybrid, parts_in, the_parts, DiffersFrom, IsMisplaced, IsTooLong, cuts_in}
+use Rattle.metainfo.specs.Stream.{Part, is_hybrid, parts_in, the_parts, DiffersFrom, IsMisplaced, IsTooLong, cuts_in}
 use Rattle.metainfo.specs.Names.{key_text}
 use Rattle.metainfo.specs.declared.refusal.Key.{Key}
 use Rattle.metainfo.specs.declared.refusal.Key.TheVariants as keys

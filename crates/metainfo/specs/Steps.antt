@@ -1,10 +1,13 @@
 -- What a group of steps of opening answers.
-use Rattle.std.specs.Prelude.{◌≡◌, ◌≢◌, ℕ, List, Option, Some, None, Result, Ok, Err, codes}
+use Rattle.std.specs.Prelude.{◌≡◌, ◌≢◌, ℕ, List, [], ◌∷◌, Option, Some, None, Result, Ok, Err, codes}
 use Rattle.std.specs.Prelude.{Vec}
 use Rattle.std.specs.Borrow.{Bor}
 use Rattle.std.specs.declared.alloc.Global.{Global}
 use Rattle.benc.specs.declared.value.Pair.{Pair}
-use Rattle.benc.specs.Value.{Bencode, int, text, dict, Pairs, no_pairs}
+use Rattle.benc.specs.Value.{Bencode, int, text, dict, Pairs, no_pairs, pair}
+use Rattle.std.specs.List.Sorted.{IsStrictlySortedBy}
+use Rattle.std.specs.Cmp.Lexicographic.{slice_cmp}
+use Rattle.std.specs.Ordering.{nat_cmp}
 use Rattle.benc.specs.View.{view, pairs_view}
 use Rattle.metainfo.specs.Refusals.{Row, First, NoneHolds}
 use Rattle.metainfo.specs.declared.refusal.Refusal.{Refusal}
@@ -34,3 +37,12 @@ pub record AreOfKind (info : Bencode) (t : Told) : Type 0 where
 abbrev pub pairs_seen : Option (Bor (Vec Pair Global)) → Pairs
 pairs_seen None = no_pairs
 pairs_seen (Some ps) = pairs_view ps.now.items
+
+-- the keys of a dictionary
+abbrev pub keys_in : Pairs → List (List ℕ)
+keys_in no_pairs = []
+keys_in (pair k v ps) = k ∷ keys_in ps
+
+-- each key is below those after it
+abbrev pub Ascends : Pairs → Type 0
+Ascends ps = IsStrictlySortedBy (slice_cmp nat_cmp) (keys_in ps)

@@ -1,8 +1,8 @@
 -- What was found on the walk of the file tree, without where it lies in memory.
-use Rattle.std.specs.Prelude.{◌≡◌, ◌≢◌, ℕ, Bool, nat_lt, false, List, [], ◌∷◌, ◌++◌, map, Option, Some, None, Result, Ok, Err, ◌⊎◌, if◌then◌else◌}
+use Rattle.std.specs.Prelude.{◌≡◌, ◌≢◌, ℕ, false, List, [], ◌∷◌, ◌++◌, map, Result, Ok, Err, ◌⊎◌, if◌then◌else◌}
 use Rattle.benc.specs.Value.{Bencode, Pairs}
 use Rattle.benc.specs.View.{view}
-use Rattle.metainfo.specs.FileTree.{Walk, Listed, walks, walks_in, below, is_nil, IsBadComponent, HasBadPath, HasBadPathIn}
+use Rattle.metainfo.specs.FileTree.{Walk, walks, walks_in, below, is_nil, IsBadComponent, HasBadPath, HasBadPathIn}
 use Rattle.metainfo.specs.declared.refusal.Refusal.{Refusal}
 use Rattle.metainfo.specs.declared.refusal.Refusal.TheVariants as refusals
 use Rattle.metainfo.specs.declared.tree.Found.{Found}

@@ -3,9 +3,10 @@
 ghost use Rattle.std.specs.Prelude.{◌≡◌, ◌≢◌, ◌≤◌, ◌<◌, ◌^◌, ℕ, List, [], ◌∷◌, Bool, true, false, map, length, Option, Some, None, option_map, Result, Ok, Err, MatchResult, is_none};
 ghost use Rattle.std.specs.List.{list_any};
 ghost use Rattle.benc.specs.View.{view};
-ghost use Rattle.metainfo.specs.FileTree.{has_attribute, is_symlink, length_at, lacks_root, root_at, length_of};
+ghost use Rattle.metainfo.specs.FileTree.{has_attribute, is_symlink, length_at, lacks_root, root_at, length_of, listed};
 ghost use Rattle.metainfo.specs.Refusals.{file_rows};
 ghost use Rattle.metainfo.specs.Steps.{Passes};
+ghost use Rattle.metainfo.specs.Rooted.{leaf};
 ghost use Rattle.metainfo.specs.Walked.{found};
 
 use crate::info::get;
@@ -103,4 +104,24 @@ pub(crate) fn test(files: &[Found<'_, '_>]) -> Result<(), Refusal>
     test_symlinks(files)?;
     test_lengths(files)?;
     test_roots(files)
+}
+
+fn made<'a>(file: Found<'_, 'a>) -> Leaf<'a>
+    ensures { leaf result ≡ listed (found file.entry) }
+{
+    let Found { path, file } = file;
+    let length = length(file).unwrap_or(0);
+    let root = if length > 0 { root(file) } else { None };
+    Leaf { path, length, root }
+}
+
+/// The files with their lengths and roots.
+pub(crate) fn leaves<'a>(alloc: Global, files: Vec<Found<'_, 'a>>) -> Result<Vec<Leaf<'a>>, Refusal>
+    ensures { MatchResult result (λ ls. map leaf ls.items ≡ map listed (map found files.entry.items)) (λ r. r ≡ Refusal.NoMemory) }
+{
+    let mut leaves = Vec::with_capacity(alloc, files.len())?;
+    'files: for file in files {
+        leaves.push(made(file))?;
+    }
+    Ok(leaves)
 }

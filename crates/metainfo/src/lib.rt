@@ -3,11 +3,13 @@
 
 mod files;
 mod info;
+mod layers;
 mod path;
 mod place;
 mod refusal;
 mod torrent;
 mod tree;
+mod trees;
 mod version1;
 
 pub use path::Path;

@@ -56,7 +56,11 @@ fn is_file(pairs: &[Pair<'_>]) -> bool
 fn component(key: &[u8]) -> Result<&str, Refusal>
     ensures { MatchResult result (λ s. (s.now ≡ key.now) × (IsBadComponent key.now → ⊥)) (λ r. (r ≡ Refusal.Path) × IsBadComponent key.now) }
 {
-    if key == b".".as_slice() || key == b"..".as_slice() || key.contains(&b'/') || key.contains(&0) {
+    if key == b".".as_slice()
+        || key == b"..".as_slice()
+        || key.contains(&b'/')
+        || key.contains(&0)
+    {
         return Err(Refusal::Path);
     }
     match str::from_utf8(key) {

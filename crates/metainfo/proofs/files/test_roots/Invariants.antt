@@ -1,5 +1,4 @@
 use Rattle.std.proofs.Common.{◌≡◌, drop, map}
-use Rattle.std.specs.Prelude.{is_none}
 use Rattle.std.specs.List.{list_any}
 use Rattle.metainfo.specs.FileTree.{lacks_root}
 use Rattle.metainfo.specs.Walked.{found}

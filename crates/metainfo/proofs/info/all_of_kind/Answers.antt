@@ -1,4 +1,3 @@
-use Rattle.benc.specs.View.{view, pairs_view}
 use Rattle.metainfo.proofs.Keys.{third_kind}
 use Rattle.metainfo.proofs.info.all_of_kind.Goals as goal
 

@@ -1,11 +1,9 @@
-use Rattle.std.proofs.Common.{◌≡◌, ℕ, ◌∷◌, [], ◌++◌, ◌+◌, List, map, drop, false, ap, subst, sym, ◌∙◌, rules, arith, Result, Ok, Err, refl}
+use Rattle.std.proofs.Common.{◌≡◌, ℕ, ◌∷◌, [], ◌++◌, ◌+◌, List, map, drop, false, ap, subst, sym, ◌∙◌, rules, arith}
 use Rattle.std.specs.Borrow.{Bor}
 use Rattle.std.proofs.lemmas.Result.{err_from_is_err_and}
-use Rattle.benc.specs.Value.{dict}
 use Rattle.benc.specs.View.{view, pairs_view, pair_view, Seen}
-use Rattle.metainfo.specs.FileTree.{is_nil, walks, HasBadPath}
+use Rattle.metainfo.specs.FileTree.{is_nil}
 use Rattle.metainfo.specs.Walked.{found, IsOnWay, Adds, HasBadPathAt, walks_at}
-use Rattle.metainfo.specs.declared.refusal.Refusal.{Refusal}
 use Rattle.metainfo.proofs.Views.{pairs_next, view-Pair, view-Dict}
 use Rattle.metainfo.proofs.Walking.{walked_err, walked_ok, walked_inner}
 use Rattle.metainfo.proofs.tree.+walk.Goals as goal

@@ -1,6 +1,5 @@
-use Rattle.std.proofs.Common.{◌≡◌, ◌++◌, drop, map}
+use Rattle.std.proofs.Common.{drop, map}
 use Rattle.benc.specs.View.{pairs_view}
-use Rattle.metainfo.specs.FileTree.{walks, HasBadPath}
 use Rattle.metainfo.specs.Walked.{found, IsOnWay}
 use Rattle.metainfo.proofs.tree.+walk.Given as goal
 

@@ -1,4 +1,4 @@
-use Rattle.std.proofs.Common.{◌≡◌, ◌≤◌, ◌<◌, List, [], ◌∷◌, length, false, refl, arith}
+use Rattle.std.proofs.Common.{◌≡◌, ◌≤◌, List, [], ◌∷◌, length, false, refl, arith}
 use Rattle.benc.specs.View.{pairs_view}
 use Rattle.benc.specs.declared.value.Pair.{Pair}
 use Rattle.metainfo.specs.FileTree.{is_file}
