@@ -118,10 +118,10 @@ part_back v vs true (Some qs) ps is at e = let same : ps ≡ part_of v ∷ qs = 
 pub parts_back : (v : Bencode) (vs : Items) (ps : List Part) → parts_of (item v vs) ≡ Some ps → Begins v vs ps
 parts_back v vs ps e = part_back v vs (is_dict v) (parts_of vs) ps refl refl e
 
-files_pad : (p : Part) (ps : List Part) → p.is_pad ≡ true → files_in (p ∷ ps) ≡ files_in ps
+pub files_pad : (p : Part) (ps : List Part) → p.is_pad ≡ true → files_in (p ∷ ps) ≡ files_in ps
 files_pad p ps pad = ap (λ t. map named_part (cond (not t) (p ∷ filter (λ (q : Part). not q.is_pad) ps) (filter (λ (q : Part). not q.is_pad) ps))) pad
 
-files_file : (p : Part) (ps : List Part) → p.is_pad ≡ false → files_in (p ∷ ps) ≡ named_part p ∷ files_in ps
+pub files_file : (p : Part) (ps : List Part) → p.is_pad ≡ false → files_in (p ∷ ps) ≡ named_part p ∷ files_in ps
 files_file p ps file = ap (λ t. map named_part (cond (not t) (p ∷ filter (λ (q : Part). not q.is_pad) ps) (filter (λ (q : Part). not q.is_pad) ps))) file
 
 is_none_at : (o : Option ℕ) → is_some o ≡ true → is_none o ≡ false

@@ -2,6 +2,7 @@
 pub mod Aligned
 pub mod Entries
 pub mod Hybrids
+pub mod InStream
 pub mod Keys
 pub mod Layering
 pub mod Placing
