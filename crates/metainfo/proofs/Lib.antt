@@ -2,10 +2,15 @@
 pub mod Cutting
 pub mod Comparing
 pub mod Fed
+pub mod Aligned
+pub mod Entries
+pub mod Hybrids
+pub mod InStream
 pub mod Keys
 pub mod Layering
 pub mod Placing
 pub mod Rooting
 pub mod Searching
+pub mod Streams
 pub mod Views
 pub mod Walking

@@ -5,6 +5,7 @@ pub mod Description
 pub mod Dictionary
 pub mod Feeding
 pub mod FileTree
+pub mod Matching
 pub mod Names
 pub mod PieceLayers
 pub mod Places

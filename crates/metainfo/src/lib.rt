@@ -11,6 +11,7 @@ mod torrent;
 mod v1_feed;
 mod tree;
 mod trees;
+mod version1;
 
 pub use path::Path;
 pub use refusal::{Key, Refusal};
