@@ -1,3 +1,6 @@
 -- What contracts of the printed lines cite.
 pub mod Root
 pub mod Reading
+pub mod Shelf
+pub mod Folder
+pub mod Verdicts

@@ -2,9 +2,13 @@
 #![tactic(auto)]
 
 mod line;
+mod report;
 mod root;
+mod shelf;
 
+pub use report::{FileVerdict, Report, V1Verdict};
 pub use root::{RootFault, root_line};
+pub use shelf::Shelf;
 
 #[cfg(test)]
 mod tests;
