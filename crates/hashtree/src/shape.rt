@@ -43,15 +43,6 @@ impl Shape {
         }
     }
 
-    /// The file's length in bytes.
-    pub fn length(self) -> u64
-        ensures value { result ≡ self }
-        ensures some { 0 < result }
-        ensures bound { result ≤ 2 ^ 46 }
-    {
-        self.length
-    }
-
     /// How many blocks the file has.
     pub fn blocks(self) -> u64
         ensures value { result ≡ block_count self }

@@ -1,3 +1,5 @@
-pub mod Cutting
+-- Lemmas on torrents.
 pub mod Comparing
+pub mod Cutting
 pub mod Fed
+pub mod Placing
