@@ -1,5 +1,5 @@
 -- The nodes of a file's tree.
-use Rattle.std.proofs.Common.{◌≡◌, ℕ, zero, suc, ◌+◌, ◌-◌, ◌*◌, ◌/◌, ◌^◌, ◌<◌, ◌≤◌, List, [], ◌∷◌, ◌++◌, length, take, drop, replicate, map, get_or, refl, ap, sym, ◌∙◌, arith, take-take, pow-add}
+use Rattle.std.proofs.Common.{◌≡◌, ℕ, zero, suc, ◌+◌, ◌-◌, ◌*◌, ◌/◌, ◌^◌, ◌<◌, ◌≤◌, List, [], ◌∷◌, ◌++◌, length, take, drop, replicate, map, get_or, refl, ap, sym, ◌∙◌, arith, take-take}
 use Rattle.std.proofs.lemmas.Nat.{mul-le}
 use Rattle.std.proofs.lemmas.List.{length-append, length-replicate, take-replicate, drop-replicate, take_all, drop-drop, drop-take, get_or_append_left, get_or-drop, get_or-take}
 use Rattle.std.proofs.lemmas.List.FromFn.{get_or-map-range_with_len}
@@ -7,7 +7,7 @@ use Rattle.std.proofs.Math.Seq.{drop-append-add}
 use Rattle.sha2.specs.Sha256.{sha256}
 use Rattle.hashtree.specs.Tree.{IsPlace, block, block_count, block_hashes, height, leaves, node, pad_leaf, root_of, tree, zero_hash}
 use Rattle.hashtree.proofs.Pairs.{two-pow}
-use Rattle.hashtree.proofs.Heights.{height_enough}
+use Rattle.hashtree.proofs.Heights.{height_enough, pow_split}
 use Rattle.hashtree.proofs.Blocks.{length-block_hashes}
 
 -- there are as many leaves as the height allows
@@ -63,10 +63,8 @@ part_of_pads w from m xs z past within =
 -- the part that a node covers lies in its row
 pub part_within : (h layer i : ℕ) → layer ≤ h → i < 2 ^ (h - layer) → i * 2 ^ layer + 2 ^ layer ≤ 2 ^ h
 part_within h layer i low lt =
-    let e : h ≡ (h - layer) + layer = omega arith in
-    let p : 2 ^ h ≡ 2 ^ (h - layer) * 2 ^ layer = ap (λ k. 2 ^ k) e ∙ pow-add 2 (h - layer) layer in
     let m : (i + 1) * 2 ^ layer ≤ 2 ^ (h - layer) * 2 ^ layer = mul-le (i + 1) (2 ^ layer) (2 ^ (h - layer)) (2 ^ layer) (omega arith) (omega arith) in
-    omega (arith, p, m)
+    omega (arith, pow_split h layer low, m)
 
 pub pads_are_zero_hashes : (file : List ℕ) (layer i : ℕ) → IsPlace (length file) layer i → block_count (length file) ≤ i * 2 ^ layer
     → node file layer i ≡ zero_hash layer

@@ -16,10 +16,11 @@ pub fn layer_root(shape: Shape, layer: u32, hashes: &[Hash]) -> Hash
     requires whole { length hashes.now ≡ first_pad (block_count shape) layer }
     ensures { result ≡ root_over (height (block_count shape)) layer hashes.now }
 {
+    let height = shape.height();
     let last = hashes.len() - 1;
     let mut peaks = Peaks::new();
     for hash in &hashes[..last] {
         peaks.push(*hash);
     }
-    peaks.root(hashes[last], zero(layer), shape.height() - layer)
+    peaks.root(hashes[last], zero(layer), height - layer)
 }
