@@ -1,2 +1,4 @@
 pub mod Taking
 pub mod Lines
+pub mod Streams
+pub mod Contents

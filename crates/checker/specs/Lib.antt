@@ -4,3 +4,6 @@ pub mod Reading
 pub mod Shelf
 pub mod Folder
 pub mod Verdicts
+pub mod Compared
+pub mod Streaming
+pub mod Content

@@ -1,10 +1,12 @@
 //! What `btcheck` does and prints, over devices that a caller gives.
 #![tactic(auto)]
 
+pub mod check;
 mod line;
 mod report;
 mod root;
 mod shelf;
+mod stream;
 
 pub use report::{FileVerdict, Report, V1Verdict};
 pub use root::{RootFault, root_line};
