@@ -17,7 +17,7 @@ pub(crate) struct Peaks {
 }
 
 impl Peaks {
-    ghost use Rattle.hashtree.specs.Climb.{HoldsLeaves};
+    ghost use Rattle.hashtree.specs.Climb.{HoldsLeaves, climb, layer_with, padded, some_of};
 
     pub(crate) fn new() -> Peaks
         ensures { HoldsLeaves result [] }
@@ -29,34 +29,44 @@ impl Peaks {
     }
 
     /// Takes the next leaf: a carry of a binary counter, which joins two nodes at each odd layer.
-    pub(crate) fn push(&mut self, leaf: Hash)
-        requires { self.old.count < 2 ^ 63 }
+    /// Tells the node of `layer` that this leaf completes, if it does.
+    pub(crate) fn push(&mut self, leaf: Hash, layer: u32) -> Option<Hash>
+        requires { self.old.count + 1 < 2 ^ 33 }
         ensures count { self.new.count ≡ self.old.count + 1 }
         ensures leaves { (xs : List (List ℕ)) → HoldsLeaves self.old xs → HoldsLeaves self.new (xs ++ leaf ∷ []) }
+        ensures completed { (xs : List (List ℕ)) → HoldsLeaves self.old xs
+            → climb layer (xs ++ leaf ∷ []) ≡ climb layer xs ++ some_of result }
     {
         let mut node = leaf;
+        let mut completed = None;
         let mut width = self.count;
         self.count += 1;
         'layers: for level in 0..LAYERS {
+            if level == layer as usize {
+                completed = Some(node);
+            }
             if width % 2 == 0 {
                 self.levels[level] = node;
-                return;
+                return completed;
             }
             node = parent(&self.levels[level], &node);
             width /= 2;
         }
+        completed
     }
 
-    /// The root of the tree of this height over the leaves, `last`, and copies of `pad`.
-    pub(crate) fn root(&self, last: Hash, pad: Hash, height: u32) -> Hash
-        requires { height ≤ 32 }
-        ensures { (xs : List (List ℕ)) → HoldsLeaves self.now xs → length xs < 2 ^ height
-            → result ≡ tree height (xs ++ last ∷ replicate (2 ^ height - (length xs + 1)) pad) }
+    /// The node of this layer over the leaves and `last`, where copies of `pad` come after these.
+    pub(crate) fn last_node(&self, last: Hash, pad: Hash, layer: u32) -> Hash
+        requires { layer ≤ 32 }
+        ensures root { (xs : List (List ℕ)) → HoldsLeaves self.now xs → length xs < 2 ^ layer
+            → result ≡ tree layer (xs ++ last ∷ replicate (2 ^ layer - (length xs + 1)) pad) }
+        ensures layer { (xs : List (List ℕ)) (height : ℕ) → HoldsLeaves self.now xs → layer ≤ height → length xs < 2 ^ height
+            → climb layer (padded height xs last pad) ≡ layer_with height layer (climb layer xs) result pad }
     {
         let mut node = last;
         let mut pad = pad;
         let mut width = self.count;
-        'layers: for level in 0..height as usize {
+        'layers: for level in 0..layer as usize {
             node = if width % 2 == 1 {
                 parent(&self.levels[level], &node)
             } else {

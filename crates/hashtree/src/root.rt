@@ -1,7 +1,7 @@
 //! The root of a file's tree, from its bytes.
 
 ghost use Rattle.std.specs.Prelude.{◌≡◌, ℕ, ◌+◌, ◌*◌, ◌^◌, ◌<◌, ◌≤◌, ◌++◌, [], List, length, take};
-ghost use Rattle.hashtree.specs.Tree.{root_of};
+ghost use Rattle.hashtree.specs.Tree.{layer_of, root_of};
 
 use crate::node::{Hash, PAD_LEAF};
 use crate::peaks::Peaks;
@@ -25,7 +25,7 @@ pub struct RootBuilder {
 }
 
 impl RootBuilder {
-    ghost use Rattle.hashtree.specs.Climb.{IsAt, IsFed, byte_count};
+    ghost use Rattle.hashtree.specs.Climb.{IsAt, IsFed, byte_count, complete_nodes, some_of};
 
     /// A builder that was given nothing.
     pub fn new() -> RootBuilder
@@ -47,7 +47,7 @@ impl RootBuilder {
     {
         let mut start = 0;
         'parts: while start < bytes.len() {
-            let taken = self.take_part(&bytes[start..]);
+            let (taken, _) = self.take_part(&bytes[start..], 0);
             start += taken;
         }
     }
@@ -58,39 +58,64 @@ impl RootBuilder {
         ensures length { result.0 ≡ byte_count self }
         ensures tree { (file : List ℕ) → IsFed self file → (result.0 ≡ length file) × (result.1 ≡ root_of file) }
     {
-        let length = BLOCK_LENGTH * self.peaks.count + self.filled as u64;
-        let last = self.hasher.finalize();
-        let shape = Shape::of(length).unwrap();
-        (length, self.peaks.root(last, PAD_LEAF, shape.height()))
+        let (length, root, _) = self.finish_layer(0);
+        (length, root)
     }
 
-    // Takes the first of these bytes, at most as many as there is room for in the last block.
-    fn take_part(&mut self, bytes: &[u8]) -> usize
+    /// As `finish`; also the last node of `layer` that covers a block, if the tree has that layer.
+    pub(crate) fn finish_layer(self, layer: u32) -> (u64, Hash, Option<Hash>)
+        requires { 0 < byte_count self }
+        ensures length { result.0 ≡ byte_count self }
+        ensures tree { (file : List ℕ) → IsFed self file → (result.0 ≡ length file) × (result.1 ≡ root_of file) }
+        ensures nodes { (file : List ℕ) → IsFed self file
+            → complete_nodes self file layer ++ some_of result.2 ≡ layer_of file layer }
+    {
+        let length = BLOCK_LENGTH * self.peaks.count + self.filled as u64;
+        let last = self.hasher.finalize();
+        let height = Shape::of(length).unwrap().height();
+        let root = self.peaks.last_node(last, PAD_LEAF, height);
+        let node = if layer <= height {
+            Some(self.peaks.last_node(last, PAD_LEAF, layer))
+        } else {
+            None
+        };
+        (length, root, node)
+    }
+
+    /// Takes the first of these bytes, at most as many as there is room for in the last block. Tells
+    /// how many, and the node of `layer` that the blocks before them complete, if they do.
+    pub(crate) fn take_part(&mut self, bytes: &[u8], layer: u32) -> (usize, Option<Hash>)
         requires some { 0 < length bytes.now }
         requires room { byte_count self.old + length bytes.now ≤ 2 ^ 46 }
-        ensures some { 0 < result }
-        ensures bound { result ≤ length bytes.now }
-        ensures count { byte_count self.new ≡ byte_count self.old + result }
-        ensures content { (file : List ℕ) → IsFed self.old file → IsFed self.new (file ++ take result bytes.now) }
+        ensures some { 0 < result.0 }
+        ensures bound { result.0 ≤ length bytes.now }
+        ensures count { byte_count self.new ≡ byte_count self.old + result.0 }
+        ensures content { (file : List ℕ) → IsFed self.old file → IsFed self.new (file ++ take result.0 bytes.now) }
+        ensures completed { (file : List ℕ) → IsFed self.old file
+            → complete_nodes self.new (file ++ take result.0 bytes.now) layer ≡ complete_nodes self.old file layer ++ some_of result.1 }
     {
-        if self.filled == BLOCK {
-            self.close_block();
-        }
+        let completed = if self.filled == BLOCK {
+            self.close_block(layer)
+        } else {
+            None
+        };
         let taken = bytes.len().min(BLOCK - self.filled);
         self.hasher.update(&bytes[..taken]);
         self.filled += taken;
-        taken
+        (taken, completed)
     }
 
-    // Makes a leaf of the last block, which is full.
-    fn close_block(&mut self)
+    // Makes a leaf of the last block, which is full. Tells the node of `layer` that it completes.
+    fn close_block(&mut self, layer: u32) -> Option<Hash>
         requires { self.old.filled ≡ 16384 }
         ensures empty { self.new.filled ≡ 0 }
         ensures count { byte_count self.new ≡ byte_count self.old }
         ensures content { (file : List ℕ) → IsAt self.old file → IsAt self.new file }
+        ensures completed { (file : List ℕ) → IsAt self.old file
+            → complete_nodes self.new file layer ≡ complete_nodes self.old file layer ++ some_of result }
     {
         let leaf = self.hasher.finalize_reset();
-        self.peaks.push(leaf);
         self.filled = 0;
+        self.peaks.push(leaf, layer)
     }
 }

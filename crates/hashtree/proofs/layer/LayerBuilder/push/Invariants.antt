@@ -1,0 +1,14 @@
+use Rattle.std.proofs.Common.{◌≡◌, ◌≤◌, ◌-◌, ◌+◌, ◌++◌, ℕ, List, length, take, false}
+use Rattle.hashtree.specs.Fed.{IsFedLayer, byte_count}
+use Rattle.hashtree.proofs.layer.LayerBuilder.push.Given as goal
+
+abbrev pub invariant-parts : goal.invariant-parts
+invariant-parts l = record {
+  within : l.start ≤ length l.bytes;
+  count : byte_count l.self ≡ byte_count l.fn.self + l.start;
+  layer : l.self.layer ≡ l.fn.self.layer;
+  content : (file : List ℕ) → IsFedLayer l.fn.self file → IsFedLayer l.self (file ++ take l.start l.bytes);
+}
+
+abbrev pub decreases-parts : goal.decreases-parts
+decreases-parts l = length l.initial.bytes - l.start
