@@ -1,5 +1,5 @@
 -- What it means that a folder holds a torrent's files (BEP 52; for a hybrid BEP 3 and BEP 47 too).
-use Rattle.std.specs.Prelude.{◌≡◌, ◌≢◌, ℕ, ◌+◌, ◌*◌, ◌<◌, ◌≤◌, List, [], length, take, drop, get_or, slice_get, Option, Some, option_and_then}
+use Rattle.std.specs.Prelude.{◌≡◌, ◌≢◌, ℕ, ◌+◌, ◌*◌, ◌^◌, ◌<◌, ◌≤◌, List, [], length, take, drop, get_or, slice_get, Option, Some, option_and_then}
 use Rattle.hashtree.specs.Tree.{root_of, node}
 use Rattle.metainfo.specs.Description.{Description, FileEntry, TreeEntry, Version1}
 use Rattle.metainfo.specs.Sound.{piece_layer}
@@ -52,3 +52,11 @@ V1Good t v contents = (stream : List ℕ) × IsStream t contents v.total stream 
 pub record GoodFolder (t : Description) (contents : Contents) : Type 0 where
   pub files : (n : ℕ) (f : FileEntry) → slice_get t.files n ≡ Some f → (bytes : List ℕ) × (contents f.path ≡ Some bytes) × IsGood t f bytes
   pub version1 : (v : Version1) → t.v1 ≡ Some v → V1Good t v contents
+
+-- each file of a hybrid that is not empty lies in the version 1 stream
+pub record IsInStream (t : Description) : Type 0 where
+  pub in_stream : (v : Version1) → t.v1 ≡ Some v → (n : ℕ) (f : FileEntry) → slice_get t.files n ≡ Some f → 0 < f.length → start_of t f + f.length ≤ v.total
+
+-- a piece length is a power of two, from 16384 to 2 ^ 30
+abbrev pub IsLegal : ℕ → Type 0
+IsLegal piece_length = (k : ℕ) × (14 ≤ k) × (k ≤ 30) × (piece_length ≡ 2 ^ k)

@@ -7,3 +7,4 @@ pub mod Verdicts
 pub mod Compared
 pub mod Streaming
 pub mod Content
+pub mod Pass

@@ -1,5 +1,5 @@
 -- What a shelf of files tells, where it tells it.
-use Rattle.std.specs.Prelude.{◌≡◌, ℕ, ◌+◌, ◌%◌, ◌^◌, List, [], Bool, false, true, Option, Some, None, option_map, ⊤, Result, IsPermutation, Contains, MatchResult}
+use Rattle.std.specs.Prelude.{◌≡◌, ℕ, zero, suc, List, Bool, Option, Some, None, option_map, ⊤}
 use Rattle.benc.specs.Device.{one_more}
 
 -- what stands below a folder: the paths of its files, whether some name is not UTF-8, and the paths of what is neither
@@ -14,11 +14,12 @@ abbrev pub IsFound : Option (Option (List ℕ)) → Option (Option (List ℕ)) �
 IsFound None found = ⊤
 IsFound (Some there) found = found ≡ option_map Some there
 
--- a known count grows by n, modulo 2 ^ 64
+-- a count of faults or calls, modulo 2 ^ 64, after n more
+abbrev pub more : ℕ → ℕ → ℕ
+more count zero = count
+more count (suc n) = one_more (more count n)
+
+-- a count that is known grows by n
 abbrev pub GrowsBy : Option ℕ → Option ℕ → ℕ → Type 0
 GrowsBy None new n = new ≡ None
-GrowsBy (Some old) new n = new ≡ Some ((old + n) % 2 ^ 64)
-
--- the count of faults after these many more
-abbrev pub more_faults : ℕ → ℕ → ℕ
-more_faults old n = (old + n) % 2 ^ 64
+GrowsBy (Some old) new n = new ≡ Some (more old n)

@@ -1,5 +1,5 @@
 -- What the verdicts of a report say of the folder's contents.
-use Rattle.std.specs.Prelude.{◌≡◌, ◌≢◌, ℕ, ◌+◌, ◌<◌, ◌≤◌, Bool, true, false, ◌&&◌, List, length, slice_get, Option, Some, None, is_some, ⊤, MatchOption, count_by}
+use Rattle.std.specs.Prelude.{◌≡◌, ◌≢◌, ℕ, ◌+◌, ◌<◌, ◌≤◌, Bool, true, false, ◌&&◌, List, length, slice_get, Option, Some, None, is_some, ⊤, count_by, cond}
 use Rattle.std.specs.List.{list_all}
 use Rattle.hashtree.specs.Tree.{root_of, node}
 use Rattle.metainfo.specs.Description.{Description, FileEntry, TreeEntry, Version1}
@@ -95,3 +95,11 @@ pub record TellsContents (t : Description) (contents : Contents) (files : List F
 -- how many files could not be read
 abbrev pub unreadable_count : List FileVerdict → ℕ
 unreadable_count files = count_by is_unreadable files
+
+-- one fault for a file that could not be read
+abbrev pub fault_count : FileVerdict → ℕ
+fault_count v = cond (is_unreadable v) 1 0
+
+-- a file of the torrent
+abbrev pub IsFileOf : Description → FileEntry → Type 0
+IsFileOf t f = (n : ℕ) × (slice_get t.files n ≡ Some f)

@@ -1,7 +1,7 @@
 //! Shelves: where a torrent's files lie, each under its path.
 ghost use Rattle.std.specs.Prelude.{◌≡◌, ℕ, ◌+◌, List, map, Option, option_map, IfOk, IfSome};
 ghost use Rattle.benc.specs.Device.{CountsFault};
-ghost use Rattle.checker.specs.Shelf.{GrowsBy, IsFound, more_faults};
+ghost use Rattle.checker.specs.Shelf.{GrowsBy, IsFound, more};
 
 use benc::{DeviceFault, Source};
 
@@ -29,7 +29,7 @@ pub trait Shelf {
 
     /// Takes a file back, and adds its count of faults.
     fn close(&mut self, file: Self::File)
-        ensures counts { faults self.new ≡ more_faults (faults self.old) (Self.File.faults file) }
+        ensures counts { faults self.new ≡ more (faults self.old) (Self.File.faults file) }
         ensures openings { openings self.new ≡ openings self.old }
         ensures kept { (p : List (List ℕ)) → under self.new p ≡ under self.old p };
 
