@@ -1,5 +1,5 @@
--- The first fault of an input: which, and where.
-use Rattle.std.specs.Prelude.{◌≡◌, ℕ, suc, ◌<◌, ◌^◌, ◌==◌, ◌||◌, if◌then◌else◌, List, [], ◌∷◌, ◌++◌, length, Option, Some, None, Result, Ok, Err, ◌⊎◌}
+-- The first fault of an input: which, and where (this project's profile of BEP 3).
+use Rattle.std.specs.Prelude.{◌≡◌, ℕ, suc, ◌-◌, ◌<◌, ◌^◌, ◌==◌, ◌||◌, if◌then◌else◌, List, [], ◌∷◌, ◌++◌, length, Option, Some, None, Result, Ok, Err, ◌⊎◌}
 use Rattle.benc.specs.Value.{Bencode, Items, Pairs, no_pairs, pair}
 use Rattle.benc.specs.Spelling.{max_open, string, IsAbove, SpelledItems, SpelledPairs, Spells}
 use Rattle.benc.specs.Table.{is_digit, integer_at, string_at, key_at}
@@ -96,3 +96,22 @@ pub record Trails (b : List ℕ) (kind : FaultKind) (offset : ℕ) : Type 0 wher
 
 abbrev pub Fails : List ℕ → FaultKind → ℕ → Type 0
 Fails b kind offset = Stops b kind offset ⊎ Trails b kind offset
+
+-- a value may be what is due
+abbrev pub TakesOne : Due → Type 0
+TakesOne a_value = Unit {0}
+TakesOne a_value_or_end = Unit {0}
+TakesOne (a_key_or_end before) = ⊥
+
+-- the mark of a list or of a dictionary is at the front
+abbrev pub StartsContainer : List ℕ → Type 0
+StartsContainer bytes = (inner : List ℕ) × ((bytes ≡ 108 ∷ inner) ⊎ (bytes ≡ 100 ∷ inner))
+
+-- `Reaches room bytes start`: at `start` a list or dictionary begins that may be opened
+abbrev pub Reaches : ℕ → List ℕ → List ℕ → Type 0
+Reaches room bytes start =
+    (levels : List Level) × (due : Due) × (left : ℕ) × (front : List ℕ) × (bytes ≡ front ++ start) × Begun room levels front due left × TakesOne due × (0 < left) × StartsContainer start
+
+-- The bytes before `offset` are begun, and a list or dictionary begins there that may be opened.
+abbrev pub Opens : List ℕ → ℕ → Type 0
+Opens b offset = (start : List ℕ) × (offset ≡ length b - length start) × Reaches max_open b start

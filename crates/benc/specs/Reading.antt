@@ -1,7 +1,9 @@
 -- Reading from left to right: the value at the front and what follows it, or the first fault and what is left
 -- from the failing item on.
-use Rattle.std.specs.Prelude.{◌≡◌, ℕ, zero, suc, ◌==◌, if◌then◌else◌, List, [], ◌∷◌, length, Option, Some, None, Result, Ok, Err}
+use Rattle.std.specs.Prelude.{◌≡◌, ℕ, zero, suc, ◌<◌, ◌^◌, ◌==◌, if◌then◌else◌, List, [], ◌∷◌, ◌++◌, length, Option, Some, None, Result, Ok, Err}
 use Rattle.benc.specs.Value.{Bencode, int, text, list, dict, Items, no_items, item, Pairs, no_pairs, pair}
+use Rattle.benc.specs.Spelling.{string, IsAbove, SpelledItems, SpelledPairs}
+use Rattle.benc.specs.Fails.{last_key, Reaches}
 use Rattle.benc.specs.Table.{is_digit, integer_at, string_at, key_at}
 use Rattle.benc.specs.declared.fault.FaultKind.{FaultKind}
 use Rattle.benc.specs.declared.fault.FaultKind.TheVariants.{Truncated, BadStart, TooDeep}
@@ -61,3 +63,17 @@ Fails (stops.Fault f rest) read = read ≡ Err (f, rest.now)
 abbrev pub Gives : {X Y : Type 0} → (X → Y) → Result X Stop → Result Y Failed → Type 0
 Gives view (Ok x) read = read ≡ Ok (view x)
 Gives view (Err e) read = Fails e read
+
+-- where memory ran out, the fact holds of what is left from there on
+abbrev pub IfMemory : Stop → (List ℕ → Type 0) → Type 0
+IfMemory (stops.Memory rest) P = P rest.now
+IfMemory (stops.Fault f rest) P = Unit {0}
+
+-- behind some finished items a container is reached
+abbrev pub ReachesItem : ℕ → List ℕ → List ℕ → Type 0
+ReachesItem room bytes start = (vs : Items) × (inner rest : List ℕ) × (bytes ≡ inner ++ rest) × SpelledItems room vs inner × Reaches room rest start
+
+-- behind some finished pairs and a key one is reached
+abbrev pub ReachesPair : ℕ → List ℕ → List ℕ → Type 0
+ReachesPair room bytes start =
+    (ps : Pairs) × (k inner rest : List ℕ) × (bytes ≡ inner ++ (string k ++ rest)) × SpelledPairs room None ps inner × (length k < 10 ^ 10) × IsAbove k (last_key None ps) × Reaches room rest start

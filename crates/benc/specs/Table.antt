@@ -1,4 +1,4 @@
--- Items, from left to right: what stands at the front, or the first line of the table of faults that holds.
+-- Items of bencoding (BEP 3; the order of the faults is this project's profile), from left to right: what stands at the front, or the first line of the table of faults that holds.
 use Rattle.std.specs.Prelude.{◌≡◌, ◌<◌, IsTrue, ℕ, zero, suc, ◌^◌, ℤ, pos, negsuc, Bool, true, false, not, ◌&&◌, ◌||◌, ◌==◌, nat_lt, nat_le, if◌then◌else◌, List, [], ◌∷◌, length, take, drop, slice_index, Option, Some, None, Result, Ok, Err}
 use Rattle.std.specs.List.{prefix_len}
 use Rattle.std.specs.Str.Parse.{digits_value}

@@ -1,6 +1,7 @@
 //! Devices that bytes come from and go to, and canonical bencoding (BEP 3).
 #![tactic(auto)]
 
+mod canonical;
 mod decoding;
 mod device;
 mod encoding;
@@ -13,7 +14,11 @@ mod standard;
 mod stop;
 mod value;
 
-pub use decoding::{decode, decode_front, one_spelling, value_or_fault};
+pub use canonical::{canonical_has_spelling, no_spelling_begins_another, spelling_is_of_canonical};
+pub use decoding::{
+    decode, decode_front, decode_with_span, fault_is_one, span, spelling_has_no_fault,
+    spells_or_fails,
+};
 pub use device::{DeviceFault, Sink, Source, WriteFault, write_all};
 pub use encoding::encode;
 pub use fault::{Fault, FaultKind};

@@ -1,8 +1,8 @@
 -- Files that are laid out one after the other: at an address there is one candidate.
-use Rattle.std.proofs.Common.{◌≡◌, ◌≢◌, ℕ, zero, suc, ◌+◌, ◌-◌, ◌*◌, ◌/◌, ◌%◌, ◌^◌, ◌<◌, ◌≤◌, ◌⊎◌, Bool, true, false, leb, ltb, List, [], ◌∷◌, length, map, take, get_or, Option, Some, None, option_map, refl, sym, ap, subst, ◌∙◌, arith, rules, inl, inr, pow_mono}
+use Rattle.std.proofs.Common.{◌≡◌, ℕ, zero, suc, ◌+◌, ◌-◌, ◌*◌, ◌/◌, ◌%◌, ◌^◌, ◌<◌, ◌≤◌, ◌⊎◌, Bool, true, false, List, [], ◌∷◌, length, map, take, get_or, Option, Some, None, option_map, refl, sym, ap, subst, ◌∙◌, arith, inl, inr, pow_mono}
 use Rattle.std.specs.Prelude.{sum_by, slice_get, IfSome, nat_le, nat_lt, if◌then◌else◌, ◌&&◌, ◌==◌}
 use Rattle.std.proofs.lemmas.Bool.Decides.{nat_tests}
-use Rattle.std.proofs.lemmas.List.Sums.{sum_by-cons, sum_by-take-le, sum_by_more, sum_by-append}
+use Rattle.std.proofs.lemmas.List.Sums.{sum_by-take-le, sum_by_more}
 use Rattle.std.proofs.lemmas.List.{take-take, length-map}
 use Rattle.std.proofs.lemmas.Option.{slice_get-map, slice_get_within, get_or_from_slice_get, slice_get-get_or}
 use Rattle.std.proofs.Math.Nat.{mul-le-mul_right}
@@ -59,11 +59,11 @@ sum_grows p j i fs f e lt =
     let less_here : sum_by F (take (j + 1) fs) ≤ sum_by F (take i fs) = subst (λ ys. sum_by F ys ≤ sum_by F (take i fs)) cut less in
     let same : F (get_or fs j f) ≡ F f = ap F here in omega (arith, next, less_here, same)
 
-true_or_false : (b : Bool) → (b ≡ true) ⊎ (b ≡ false)
+pub true_or_false : (b : Bool) → (b ≡ true) ⊎ (b ≡ false)
 true_or_false true = inl refl
 true_or_false false = inr refl
 
-false_or_true : (b : Bool) → (b ≡ true → ⊥) → b ≡ false
+pub false_or_true : (b : Bool) → (b ≡ true → ⊥) → b ≡ false
 false_or_true true h = absurd (h refl)
 false_or_true false h = refl
 
@@ -99,17 +99,17 @@ candidate p a c j fs f h laid within low high e begins =
     let inside = slice_get_within fs j f e in
     let below : j < c = elim (cases_lt j c) as (λ _. j < c) [ inl lt ↦ lt | inr le ↦ let above : a / p < f.first_piece = high j f le e in absurd (omega (arith, above, from)) ] in
     elim (cases_lt (suc j) c) as (λ _. suc j ≡ c) [
-    | inl lt ↦
-      let last = get_or fs (c - 1) f in
-      let there : slice_get fs (c - 1) ≡ Some last = slice_get-get_or fs (c - 1) f (omega (arith, lt, within)) in
-      let last_low : last.first_piece ≤ a / p = low (c - 1) last (omega (arith, lt)) there in
-      let grows = sum_grows p j (c - 1) fs f e (omega (arith, lt)) in
-      let first = laid.first_pieces j f e in
-      let last_first = laid.first_pieces (c - 1) last there in
-      let ends : f.first_piece + pieces_of p f.length ≤ a / p = omega (arith, grows, first, last_first, last_low) in
-      let product : (f.first_piece + pieces_of p f.length) * p ≤ a / p * p = mul-le-mul_right p ends in
-      absurd (omega (arith, product, cover.1, all))
-    | inr le ↦ omega (arith, below, le)
+      | inl lt ↦
+          let last = get_or fs (c - 1) f in
+          let there : slice_get fs (c - 1) ≡ Some last = slice_get-get_or fs (c - 1) f (omega (arith, lt, within)) in
+          let last_low : last.first_piece ≤ a / p = low (c - 1) last (omega (arith, lt)) there in
+          let grows = sum_grows p j (c - 1) fs f e (omega (arith, lt)) in
+          let first = laid.first_pieces j f e in
+          let last_first = laid.first_pieces (c - 1) last there in
+          let ends : f.first_piece + pieces_of p f.length ≤ a / p = omega (arith, grows, first, last_first, last_low) in
+          let product : (f.first_piece + pieces_of p f.length) * p ≤ a / p * p = mul-le-mul_right p ends in
+          absurd (omega (arith, product, cover.1, all))
+      | inr le ↦ omega (arith, below, le)
     ]
 
 -- a block that begins at the address does so in the sense of the test
@@ -153,12 +153,12 @@ place_at_some p a n fs f h laid low high e =
     let inside = slice_get_within fs n f e in
     let only : (j : ℕ) (g : FileEntry) → slice_get fs j ≡ Some g → begins_in p a g ≡ true → suc j ≡ suc n = λ j g e' begins. candidate p a (suc n) j fs g h laid (omega (arith, inside)) low high e' begins in
     elim (true_or_false (begins_in p a f)) [
-    | inl begun ↦ rw begun (let number : 0 + n ≡ n = omega arith in subst (λ x. place_from p a 0 fs ≡ Some (x, (a - f.first_piece * p) / 16384)) number (place_some p a 0 n fs f e begun (λ i g lt e'. false_or_true _ (λ begins. let same = only i g e' begins in absurd (omega (arith, same))))))
-    | inr not ↦ rw not (place_none p a 0 fs (λ j g e'. false_or_true _ (λ begins.
-        let same : j ≡ n = let s = only j g e' begins in omega (arith, s) in
-        let here : slice_get fs n ≡ Some g = rw (← same) e' in
-        let one : g ≡ f = cc in
-        let begun : begins_in p a f ≡ true = rw (← one) begins in cc)))
+      | inl begun ↦ rw begun (let number : 0 + n ≡ n = omega arith in subst (λ x. place_from p a 0 fs ≡ Some (x, (a - f.first_piece * p) / 16384)) number (place_some p a 0 n fs f e begun (λ i g lt e'. false_or_true _ (λ begins. let same = only i g e' begins in absurd (omega (arith, same))))))
+      | inr not ↦ rw not (place_none p a 0 fs (λ j g e'. false_or_true _ (λ begins.
+          let same : j ≡ n = let s = only j g e' begins in omega (arith, s) in
+          let here : slice_get fs n ≡ Some g = rw (← same) e' in
+          let one : g ≡ f = cc in
+          let begun : begins_in p a f ≡ true = rw (← one) begins in cc)))
     ]
 
 -- ---- the function and the relation
@@ -173,16 +173,16 @@ pub found_in : (p a k : ℕ) (fs : List FileEntry) (j b : ℕ) → place_from p 
 found_in p a k [] j b e = cc
 found_in p a k (f ∷ fs) j b e =
     elim (true_or_false (begins_in p a f)) [
-    | inl begun ↦
-      let is : numbered k ((a - f.first_piece * p) / 16384) ≡ numbered j b = rw begun at e in
-      let pairs = some_pair _ _ is in
-      let same : k ≡ j = ap (λ (q : ℕ × ℕ). q.0) pairs in
-      let block : (a - f.first_piece * p) / 16384 ≡ b = ap (λ (q : ℕ × ℕ). q.1) pairs in
-      let zero_off : j - k ≡ 0 = omega (arith, same) in (f, omega (arith, same), rw zero_off refl, begun, sym block)
-    | inr not ↦
-      let is : place_from p a (suc k) fs ≡ numbered j b = rw not at e in
-      let rest = found_in p a (suc k) fs j b is in
-      let off : j - k ≡ suc (j - suc k) = omega (arith, rest.1) in (rest.0, omega (arith, rest.1), rw off rest.2, rest.3, rest.4)
+      | inl begun ↦
+          let is : numbered k ((a - f.first_piece * p) / 16384) ≡ numbered j b = rw begun at e in
+          let pairs = some_pair _ _ is in
+          let same : k ≡ j = ap (λ (q : ℕ × ℕ). q.0) pairs in
+          let block : (a - f.first_piece * p) / 16384 ≡ b = ap (λ (q : ℕ × ℕ). q.1) pairs in
+          let zero_off : j - k ≡ 0 = omega (arith, same) in (f, omega (arith, same), rw zero_off refl, begun, sym block)
+      | inr not ↦
+          let is : place_from p a (suc k) fs ≡ numbered j b = rw not at e in
+          let rest = found_in p a (suc k) fs j b is in
+          let off : j - k ≡ suc (j - suc k) = omega (arith, rest.1) in (rest.0, omega (arith, rest.1), rw off rest.2, rest.3, rest.4)
     ]
 
 pub place_is_found : (t : Description) (i b f n : ℕ) → place_of t i b ≡ Some (f, n) → IsPlace t i b f n
@@ -203,7 +203,7 @@ place_is_only t i b f n h laid place =
     let a = i * t.piece_length + b in
     let here = place_begins p a place.file n place.in_file place.address in
     let some : place_from p a 0 t.files ≡ Some (0 + f, (a - place.file.first_piece * p) / 16384)
-        = place_some p a 0 f t.files place.file place.there here.0 (λ j g lt e. false_or_true _ (λ begins. one_covers p a j f t.files g place.file laid e place.there lt (covers p a g h begins) (covers p a place.file h here.0))) in
+    = place_some p a 0 f t.files place.file place.there here.0 (λ j g lt e. false_or_true _ (λ begins. one_covers p a j f t.files g place.file laid e place.there lt (covers p a g h begins) (covers p a place.file h here.0))) in
     let number : 0 + f ≡ f = omega arith in
     some ∙ rw (number, here.1) refl
 

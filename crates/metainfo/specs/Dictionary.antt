@@ -1,7 +1,7 @@
 -- Looking into bencoded values (BEP 3, "bencoding").
-use Rattle.std.specs.Prelude.{ℕ, ℤ, pos, Bool, true, false, List, [], Option, Some, None, is_some, if◌then◌else◌}
+use Rattle.std.specs.Prelude.{ℕ, ℤ, List, Option, Some, None, if◌then◌else◌}
 use Rattle.std.specs.Str.{bytes_eq}
-use Rattle.benc.specs.Value.{Bencode, int, text, list, dict, Items, no_items, item, Pairs, no_pairs, pair}
+use Rattle.benc.specs.Value.{Bencode, int, text, list, dict, Items, Pairs, no_pairs, pair}
 
 -- the value under a key; a value that has a spelling has no key twice
 abbrev pub under : List ℕ → Pairs → Option Bencode

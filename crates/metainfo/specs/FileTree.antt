@@ -1,13 +1,12 @@
 -- The file tree (BEP 52, "info dictionary", "file tree"): directories, files, and the walks that lead to them.
-use Rattle.std.specs.Prelude.{◌≡◌, ℕ, ◌^◌, ℤ, pos, negsuc, Bool, true, false, not, ◌&&◌, ◌||◌, ◌==◌, nat_le, nat_lt, if◌then◌else◌, List, [], ◌∷◌, ◌++◌, length, map, Option, Some, None, is_some, option_and_then, unwrap_or, ◌⊎◌, codes, Contains}
+use Rattle.std.specs.Prelude.{◌≡◌, ℕ, ◌^◌, pos, negsuc, Bool, true, false, not, ◌&&◌, ◌||◌, ◌==◌, nat_le, nat_lt, if◌then◌else◌, List, [], ◌∷◌, ◌++◌, length, map, Option, Some, None, is_none, option_and_then, unwrap_or, ◌⊎◌, codes, Contains}
 use Rattle.std.specs.Str.{IsUtf8}
 use Rattle.std.specs.List.{list_any}
-use Rattle.benc.specs.Value.{Bencode, int, text, list, dict, Items, no_items, item, Pairs, no_pairs, pair}
+use Rattle.benc.specs.Value.{Bencode, int, text, list, dict, Pairs, no_pairs, pair}
 use Rattle.metainfo.specs.Dictionary.{get, as_text}
 
 abbrev pub is_nil : List ℕ → Bool
-is_nil [] = true
-is_nil (x ∷ xs) = false
+is_nil key = length key == 0
 
 abbrev pub is_dict : Bencode → Bool
 is_dict (int z) = false
@@ -106,6 +105,10 @@ as_root (dict ps) = None
 
 abbrev pub root_at : Bencode → Option (List ℕ)
 root_at file = option_and_then as_root (get (codes "pieces root") file)
+
+-- a file that is not empty has no root
+abbrev pub lacks_root : Bencode → Bool
+lacks_root file = nat_lt 0 (length_of file) && is_none (root_at file)
 
 -- a file: its path, its length, and its root where it is not empty
 pub record Listed : Type 0 where

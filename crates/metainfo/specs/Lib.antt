@@ -9,7 +9,10 @@ pub mod Names
 pub mod PieceLayers
 pub mod Places
 pub mod Refusals
+pub mod Rooted
 pub mod Seen
 pub mod Sound
+pub mod Steps
 pub mod Stream
 pub mod Trees
+pub mod Walked

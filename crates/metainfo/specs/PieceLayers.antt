@@ -1,11 +1,11 @@
 -- Piece layers (BEP 52, "piece layers"): for each file longer than the piece length the hashes of the layer in which
 -- one hash covers a piece.
-use Rattle.std.specs.Prelude.{◌≡◌, ℕ, ◌+◌, ◌-◌, ◌*◌, ◌^◌, Bool, false, not, ◌&&◌, ◌==◌, nat_lt, if◌then◌else◌, List, [], ◌++◌, length, replicate, Option, Some, None, is_none, option_and_then, map}
-use Rattle.std.specs.List.{list_any}
+use Rattle.std.specs.Prelude.{ℕ, ◌*◌, Bool, false, not, ◌&&◌, ◌==◌, nat_lt, if◌then◌else◌, List, [], length, Option, Some, None, is_none, option_and_then}
 use Rattle.std.specs.Str.{bytes_eq}
 use Rattle.std.specs.Simd.{first_chunks}
-use Rattle.hashtree.specs.Tree.{block_count, height, tree, zero_hash}
-use Rattle.benc.specs.Value.{Bencode, int, text, list, dict, Items, Pairs}
+use Rattle.hashtree.specs.Tree.{block_count, height}
+pub use Rattle.hashtree.specs.Tree.{root_over}
+use Rattle.benc.specs.Value.{Bencode, int, text, list, dict, Pairs}
 use Rattle.metainfo.specs.Description.{TreeEntry}
 use Rattle.metainfo.specs.Dictionary.{under}
 use Rattle.metainfo.specs.Trees.{Root, pieces_of}
@@ -13,10 +13,6 @@ use Rattle.metainfo.specs.Trees.{Root, pieces_of}
 -- the layer in which one hash covers this many bytes, a power of two of blocks
 abbrev pub piece_layer : ℕ → ℕ
 piece_layer piece_length = height (block_count piece_length)
-
--- the root over a layer, filled up with the zero hash of that layer
-abbrev pub root_over : ℕ → ℕ → List (List ℕ) → List ℕ
-root_over h layer xs = tree (h - layer) (xs ++ replicate (2 ^ (h - layer) - length xs) (zero_hash layer))
 
 -- a byte string of n joined digests of this many bytes, cut into them
 abbrev pub as_digests : ℕ → ℕ → Bencode → Option (List (List ℕ))

@@ -1,6 +1,6 @@
 -- The place of a block (BEP 52, "piece length" and the piece message of BEP 3): files begin at piece boundaries of one
 -- address space.
-use Rattle.std.specs.Prelude.{◌≡◌, ℕ, suc, ◌+◌, ◌-◌, ◌*◌, ◌/◌, ◌%◌, ◌^◌, ◌<◌, ◌≤◌, Bool, ◌==◌, ◌&&◌, nat_le, nat_lt, if◌then◌else◌, List, [], ◌∷◌, length, take, sum_by, Option, Some, None, slice_get}
+use Rattle.std.specs.Prelude.{◌≡◌, ℕ, suc, ◌+◌, ◌-◌, ◌*◌, ◌/◌, ◌%◌, ◌^◌, ◌<◌, Bool, ◌==◌, ◌&&◌, nat_le, nat_lt, if◌then◌else◌, List, [], ◌∷◌, take, sum_by, Option, Some, None, slice_get}
 use Rattle.hashtree.specs.Tree.{block_count}
 use Rattle.metainfo.specs.Description.{Description, FileEntry}
 use Rattle.metainfo.specs.Trees.{pieces_of}
@@ -31,4 +31,3 @@ place_of t index begin = place_from t.piece_length (index * t.piece_length + beg
 pub record AreLaidOut (piece_length : ℕ) (files : List FileEntry) : Type 0 where
   pub first_pieces : (k : ℕ) (f : FileEntry) → slice_get files k ≡ Some f → f.first_piece ≡ sum_by (λ g. pieces_of piece_length g.length) (take k files)
   pub pieces : sum_by (λ g. pieces_of piece_length g.length) files < 2 ^ 32
-

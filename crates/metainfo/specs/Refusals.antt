@@ -1,17 +1,17 @@
 -- The tests of a torrent file in their order, each with its answer, and the first that holds. BEP 52 wants the version
 -- told before other faults of the info dictionary.
-use Rattle.std.specs.Prelude.{◌≡◌, ◌≢◌, ℕ, ◌-◌, ◌^◌, ◌<◌, ◌≤◌, ◌⊎◌, ℤ, pos, negsuc, Bool, true, false, not, ◌&&◌, nat_lt, List, [], ◌∷◌, ◌++◌, length, map, Option, Some, None, is_some, is_none, IsTrue, codes, Result, Ok, Err}
+use Rattle.std.specs.Prelude.{◌≡◌, ◌≢◌, ℕ, ◌^◌, ◌<◌, ◌≤◌, ◌⊎◌, pos, negsuc, true, false, List, [], ◌∷◌, ◌++◌, length, map, Option, Some, None, is_none, IsTrue, codes}
 use Rattle.std.specs.List.{list_any}
 use Rattle.std.specs.Str.{IsUtf8}
-use Rattle.benc.specs.Value.{Bencode, int, text, list, dict, Pairs, no_pairs}
+use Rattle.benc.specs.Value.{Bencode, int, text, list, dict, Pairs}
 use Rattle.benc.specs.Spelling.{Spells}
 use Rattle.benc.specs.Fails as benc
 use Rattle.benc.specs.declared.fault.Fault.{Fault}
 use Rattle.metainfo.specs.Dictionary.{get, value_at, pairs_in, as_int, as_text, as_dict}
-use Rattle.metainfo.specs.FileTree.{Walk, Listed, walks, listed, is_directory, HasBadPath, is_symlink, length_at, length_of, root_at}
+use Rattle.metainfo.specs.FileTree.{Walk, Listed, walks, listed, is_directory, HasBadPath, is_symlink, length_at, lacks_root}
 use Rattle.metainfo.specs.Trees.{Root, roots_in, pieces_in, IsReused}
 use Rattle.metainfo.specs.PieceLayers.{lacks_layer, lacks_size, mismatches}
-use Rattle.metainfo.specs.Stream.{Part, has_key, is_hybrid, parts_in, the_parts, DiffersFrom, IsMisplaced, IsTooLong, cuts_in}
+use Rattle.metainfo.specs.Stream.{Part, is_hybrid, parts_in, the_parts, DiffersFrom, IsMisplaced, IsTooLong, cuts_in}
 use Rattle.metainfo.specs.Names.{key_text}
 use Rattle.metainfo.specs.declared.refusal.Key.{Key}
 use Rattle.metainfo.specs.declared.refusal.Key.TheVariants as keys
@@ -80,12 +80,12 @@ abbrev pub lacks : Key → Bencode → Type 0
 lacks key v = get (key_text key) v ≡ None
 
 -- the value under a key, where there is one, is of another kind
+abbrev pub IsOther : {A : Type 0} → (Bencode → Option A) → Option Bencode → Type 0
+IsOther kind None = ⊥
+IsOther kind (Some w) = kind w ≡ None
+
 abbrev pub Other : {A : Type 0} → (Bencode → Option A) → Key → Bencode → Type 0
-Other kind key v = IsOther (get (key_text key) v)
-  where
-    IsOther : Option Bencode → Type 0
-    IsOther None = ⊥
-    IsOther (Some w) = kind w ≡ None
+Other kind key v = IsOther kind (get (key_text key) v)
 
 -- a byte string that is UTF-8
 abbrev pub IsName : Option Bencode → Type 0
@@ -105,70 +105,86 @@ missing key v = record { holds = lacks key v; answer = refusals.Missing key }
 abbrev pub wrong : {A : Type 0} → (Bencode → Option A) → Key → Bencode → Row
 wrong kind key v = record { holds = Other kind key v; answer = refusals.WrongType key }
 
--- the steps on keys, up to the version and behind it
-abbrev pub version_rows : Bencode → List Row
-version_rows v =
+-- the steps on keys: the info dictionary, the version, the other keys of the info dictionary, the piece layers and the
+-- piece length
+abbrev pub top_rows : Bencode → List Row
+top_rows v =
     record { holds = as_dict v ≡ None; answer = refusals.WrongType keys.Top }
     ∷ missing keys.Info v
     ∷ wrong as_dict keys.Info v
-    ∷ missing keys.MetaVersion (info_in v)
-    ∷ wrong as_int keys.MetaVersion (info_in v)
-    ∷ record { holds = as_int (value_at (codes "meta version") (info_in v)) ≢ Some (pos 2); answer = refusals.Version }
     ∷ []
 
-abbrev pub key_rows : Bencode → List Row
-key_rows v =
-    missing keys.FileTree (info_in v)
-    ∷ missing keys.Name (info_in v)
-    ∷ missing keys.PieceLength (info_in v)
-    ∷ wrong as_dict keys.FileTree (info_in v)
-    ∷ record { holds = IsName (get (codes "name") (info_in v)) → ⊥; answer = refusals.WrongType keys.Name }
-    ∷ wrong as_int keys.PieceLength (info_in v)
-    ∷ wrong as_dict keys.PieceLayers v
-    ∷ record { holds = IsPieceLength (piece_length_in v) → ⊥; answer = refusals.PieceLength }
+abbrev pub version_rows : Bencode → List Row
+version_rows info =
+    missing keys.MetaVersion info
+    ∷ wrong as_int keys.MetaVersion info
+    ∷ record { holds = get (codes "meta version") info ≢ Some (int (pos 2)); answer = refusals.Version }
     ∷ []
+
+abbrev pub present_rows : Bencode → List Row
+present_rows info =
+    missing keys.FileTree info
+    ∷ missing keys.Name info
+    ∷ missing keys.PieceLength info
+    ∷ []
+
+abbrev pub kind_rows : Bencode → List Row
+kind_rows info =
+    wrong as_dict keys.FileTree info
+    ∷ record { holds = IsName (get (codes "name") info) → ⊥; answer = refusals.WrongType keys.Name }
+    ∷ wrong as_int keys.PieceLength info
+    ∷ []
+
+abbrev pub layers_rows : Bencode → List Row
+layers_rows v = wrong as_dict keys.PieceLayers v ∷ []
+
+abbrev pub piece_length_rows : ℕ → List Row
+piece_length_rows n = record { holds = IsPieceLength n → ⊥; answer = refusals.PieceLength } ∷ []
 
 -- the steps on the file tree
-abbrev pub shape_rows : Bencode → List Row
-shape_rows v =
-    record { holds = is_directory (file_tree_in v) ≡ false; answer = refusals.Shape }
-    ∷ record { holds = HasBadPath (file_tree_in v); answer = refusals.Path }
+abbrev pub shape_rows : Pairs → List Row
+shape_rows tree =
+    record { holds = is_directory tree ≡ false; answer = refusals.Shape }
+    ∷ record { holds = HasBadPath tree; answer = refusals.Path }
     ∷ []
 
--- the steps on files
-abbrev pub file_rows : Bencode → List Row
-file_rows v =
-    record { holds = IsTrue (list_any (λ w. is_symlink w.file) (walks_of v)); answer = refusals.Symlink }
-    ∷ record { holds = IsTrue (list_any (λ w. is_none (length_at w.file)) (walks_of v)); answer = refusals.Length }
-    ∷ record { holds = IsTrue (list_any (λ w. nat_lt 0 (length_of w.file) && is_none (root_at w.file)) (walks_of v)); answer = refusals.Root }
+-- the steps on files, each of any one of them
+abbrev pub file_rows : List Walk → List Row
+file_rows ws =
+    record { holds = list_any (λ w. is_symlink w.file) ws ≡ true; answer = refusals.Symlink }
+    ∷ record { holds = list_any (λ w. is_none (length_at w.file)) ws ≡ true; answer = refusals.Length }
+    ∷ record { holds = list_any (λ w. lacks_root w.file) ws ≡ true; answer = refusals.Root }
     ∷ []
 
-abbrev pub count_rows : Bencode → List Row
-count_rows v =
-    record { holds = IsReused (files_of v); answer = refusals.RootReused }
-    ∷ record { holds = files_of v ≡ []; answer = refusals.NoFiles }
-    ∷ record { holds = 2 ^ 32 ≤ pieces_in (piece_length_in v) (files_of v); answer = refusals.TooManyPieces }
+abbrev pub count_rows : ℕ → List Listed → List Row
+count_rows piece_length fs =
+    record { holds = IsReused fs; answer = refusals.RootReused }
+    ∷ record { holds = fs ≡ []; answer = refusals.NoFiles }
+    ∷ record { holds = 2 ^ 32 ≤ pieces_in piece_length fs; answer = refusals.TooManyPieces }
     ∷ []
 
--- the steps on piece layers
-abbrev pub layer_rows : Bencode → List Row
-layer_rows v =
-    record { holds = IsTrue (list_any (lacks_layer (piece_length_in v) (layers_in v)) (roots_in (files_of v))); answer = refusals.LayerMissing }
-    ∷ record { holds = IsTrue (list_any (lacks_size (piece_length_in v) (layers_in v)) (roots_in (files_of v))); answer = refusals.LayerSize }
-    ∷ record { holds = IsTrue (list_any (mismatches (piece_length_in v) (layers_in v)) (roots_in (files_of v))); answer = refusals.LayerMismatch }
+-- the steps on piece layers, each of any one tree
+abbrev pub layer_rows : ℕ → Pairs → List Root → List Row
+layer_rows piece_length layers ts =
+    record { holds = list_any (lacks_layer piece_length layers) ts ≡ true; answer = refusals.LayerMissing }
+    ∷ record { holds = list_any (lacks_size piece_length layers) ts ≡ true; answer = refusals.LayerSize }
+    ∷ record { holds = list_any (mismatches piece_length layers) ts ≡ true; answer = refusals.LayerMismatch }
     ∷ []
 
 -- the steps on the version 1 part, of hybrids alone
-abbrev pub hybrid_rows : Bencode → List Row
-hybrid_rows v =
-    record { holds = IsTrue (is_hybrid (info_in v)) × DiffersFrom (files_of v) (parts_in (info_in v) (name_in v)); answer = refusals.HybridFiles }
-    ∷ record { holds = IsTrue (is_hybrid (info_in v)) × (IsMisplaced (piece_length_in v) (parts_of_torrent v) ⊎ IsTooLong (piece_length_in v) (parts_of_torrent v)); answer = refusals.HybridAlign }
-    ∷ record { holds = IsTrue (is_hybrid (info_in v)) × (cuts_in (piece_length_in v) (parts_of_torrent v) (info_in v) ≡ None); answer = refusals.HybridPieces }
+abbrev pub hybrid_rows : ℕ → Bencode → List ℕ → List Listed → List Row
+hybrid_rows piece_length info name fs =
+    record { holds = IsTrue (is_hybrid info) × DiffersFrom fs (parts_in info name); answer = refusals.HybridFiles }
+    ∷ record { holds = IsTrue (is_hybrid info) × (IsMisplaced piece_length (the_parts (parts_in info name)) ⊎ IsTooLong piece_length (the_parts (parts_in info name))); answer = refusals.HybridAlign }
+    ∷ record { holds = IsTrue (is_hybrid info) × (cuts_in piece_length (the_parts (parts_in info name)) info ≡ None); answer = refusals.HybridPieces }
     ∷ []
 
 -- the tests of a value, in their order
 abbrev pub table : Bencode → List Row
-table v = version_rows v ++ (key_rows v ++ (shape_rows v ++ (file_rows v ++ (count_rows v ++ (layer_rows v ++ hybrid_rows v)))))
+table v =
+    top_rows v ++ (version_rows (info_in v) ++ (present_rows (info_in v) ++ (kind_rows (info_in v)
+    ++ (layers_rows v ++ (piece_length_rows (piece_length_in v) ++ (shape_rows (file_tree_in v) ++ (file_rows (walks_of v)
+    ++ (count_rows (piece_length_in v) (files_of v) ++ (layer_rows (piece_length_in v) (layers_in v) (roots_in (files_of v)) ++ hybrid_rows (piece_length_in v) (info_in v) (name_in v) (files_of v))))))))))
 
 abbrev pub max_torrent : ℕ
 max_torrent = 2 ^ 26

@@ -1,7 +1,7 @@
 -- What holds of each opened torrent, and what sessions stand on.
-use Rattle.std.specs.Prelude.{◌≡◌, ℕ, ◌+◌, ◌-◌, ◌^◌, ◌<◌, ◌≤◌, List, [], length, Some, None, slice_get, ◌/◌}
+use Rattle.std.specs.Prelude.{◌≡◌, ℕ, ◌+◌, ◌-◌, ◌*◌, ◌^◌, ◌<◌, ◌≤◌, List, [], length, Some, None, slice_get, ◌/◌}
 use Rattle.hashtree.specs.Tree.{block_count, height}
-use Rattle.metainfo.specs.Description.{Description, FileEntry, TreeEntry}
+use Rattle.metainfo.specs.Description.{Description, FileEntry, TreeEntry, Version1}
 use Rattle.metainfo.specs.Places.{AreLaidOut}
 pub use Rattle.metainfo.specs.PieceLayers.{piece_layer, root_over}
 
@@ -27,3 +27,5 @@ pub record IsSound (t : Description) : Type 0 where
   pub trees : (n : ℕ) (e : TreeEntry) → slice_get t.trees n ≡ Some e → IsSoundTree t.piece_length e
   pub files : (n : ℕ) (f : FileEntry) → slice_get t.files n ≡ Some f → IsSoundFile t f
   pub laid_out : AreLaidOut t.piece_length t.files
+  pub cuts : (v : Version1) → t.v1 ≡ Some v → length v.pieces ≡ (v.total + (t.piece_length - 1)) / t.piece_length
+  pub in_stream : (v : Version1) (n : ℕ) (f : FileEntry) → t.v1 ≡ Some v → slice_get t.files n ≡ Some f → 0 < f.length → f.first_piece * t.piece_length + f.length ≤ v.total

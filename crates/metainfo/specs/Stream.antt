@@ -1,13 +1,13 @@
 -- The version 1 part of a hybrid: the list of files and pads whose contents are joined to one stream (BEP 3, "info
 -- dictionary"; BEP 47, "Padding Files"; BEP 52, "Upgrade Path").
-use Rattle.std.specs.Prelude.{◌≡◌, ◌≢◌, ℕ, ◌+◌, ◌*◌, ◌<◌, Bool, true, false, not, ◌&&◌, ◌||◌, nat_lt, if◌then◌else◌, List, [], ◌∷◌, length, map, take, filter, sum_by, Option, Some, None, is_some, is_none, option_and_then, unwrap_or, ◌⊎◌, codes, slice_get, IsTrue}
+use Rattle.std.specs.Prelude.{◌≡◌, ◌≢◌, ℕ, ◌*◌, ◌<◌, Bool, false, not, ◌&&◌, ◌||◌, if◌then◌else◌, List, [], ◌∷◌, map, take, filter, sum_by, Option, Some, None, is_some, is_none, option_and_then, unwrap_or, ◌⊎◌, codes, slice_get, IsTrue}
 use Rattle.std.specs.List.{list_any}
-use Rattle.benc.specs.Value.{Bencode, int, text, list, dict, Items, no_items, item, Pairs}
+use Rattle.benc.specs.Value.{Bencode, Items, no_items, item}
 use Rattle.metainfo.specs.Description.{Version1}
-use Rattle.metainfo.specs.Dictionary.{get, as_list, as_text, value_at}
-use Rattle.metainfo.specs.FileTree.{Listed, as_length, has_attribute, length_at, is_dict}
+use Rattle.metainfo.specs.Dictionary.{get, as_list, as_text}
+use Rattle.metainfo.specs.FileTree.{Listed, has_attribute, length_at, is_dict}
 use Rattle.metainfo.specs.PieceLayers.{as_digests}
-use Rattle.metainfo.specs.Trees.{pieces_of, pieces_in}
+use Rattle.metainfo.specs.Trees.{pieces_of}
 
 -- an entry of the list: a pad or a file, its length, and its path; None stands for what is absent or of another kind
 pub record Part : Type 0 where

@@ -1,6 +1,6 @@
 -- The trees of a torrent: the distinct roots of files that are not empty, in the order of first use
 -- (BEP 52, "pieces root"), and the pieces of files (BEP 52, "piece length").
-use Rattle.std.specs.Prelude.{◌≡◌, ◌≢◌, ℕ, ◌+◌, ◌-◌, ◌/◌, Bool, is_some, if◌then◌else◌, List, [], ◌∷◌, ◌++◌, length, take, fold, sum_by, position, Contains, Option, Some, None, option_and_then, slice_get}
+use Rattle.std.specs.Prelude.{◌≡◌, ◌≢◌, ℕ, ◌+◌, ◌-◌, ◌/◌, is_some, if◌then◌else◌, List, [], ◌∷◌, ◌++◌, length, take, fold, sum_by, Option, Some, None, suc, option_map, option_and_then, slice_get}
 use Rattle.std.specs.Str.{bytes_eq}
 use Rattle.metainfo.specs.FileTree.{Listed}
 use Rattle.metainfo.specs.Description.{FileEntry}
@@ -20,27 +20,32 @@ pub record Root : Type 0 where
 
 -- the place of a root in a list of roots
 abbrev pub place_in : List Root → List ℕ → Option ℕ
-place_in ts s = position (λ t. bytes_eq t.root s) ts
+place_in [] s = None
+place_in (t ∷ ts) s = if bytes_eq t.root s then Some 0 else option_map suc (place_in ts s)
 
--- the roots so far, and that of this file unless it is there
+-- the roots so far, and this one unless it is there
+abbrev pub with_root : List Root → ℕ → Option (List ℕ) → List Root
+with_root ts n None = ts
+with_root ts n (Some s) = if is_some (place_in ts s) then ts else ts ++ record { root = s; size = n } ∷ []
+
 abbrev pub with_file : List Root → Listed → List Root
 with_file ts f = with_root ts f.size f.root
-  where
-    with_root : List Root → ℕ → Option (List ℕ) → List Root
-    with_root ts n None = ts
-    with_root ts n (Some s) = if is_some (place_in ts s) then ts else ts ++ record { root = s; size = n } ∷ []
 
 -- the distinct roots, in the order of first use
 abbrev pub roots_in : List Listed → List Root
 roots_in fs = fold with_file [] fs
+
+-- f is one of the files
+abbrev pub IsIn : List Listed → Listed → Type 0
+IsIn fs f = (k : ℕ) × (slice_get fs k ≡ Some f)
 
 -- two files have one root and different lengths
 pub record IsReused (fs : List Listed) : Type 0 where
   pub one : Listed
   pub other : Listed
   pub root : List ℕ
-  pub one_there : Contains fs one
-  pub other_there : Contains fs other
+  pub one_there : IsIn fs one
+  pub other_there : IsIn fs other
   pub one_root : one.root ≡ Some root
   pub other_root : other.root ≡ Some root
   pub differ : one.size ≢ other.size

@@ -1,10 +1,15 @@
 //! Torrents of version 2 and hybrids (BEP 52, BEP 3, BEP 47).
 #![tactic(auto)]
 
+mod files;
+mod info;
+mod layers;
 mod path;
 mod place;
 mod refusal;
 mod torrent;
+mod tree;
+mod trees;
 mod v1_feed;
 
 pub use path::Path;

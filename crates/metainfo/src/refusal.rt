@@ -3,6 +3,7 @@
 ghost use Rattle.std.specs.Prelude.{◌≡◌};
 
 use benc::Fault;
+use std::alloc::{AllocError, AllocFailed};
 
 /// A key of a torrent file; `Top` stands for the file's top value itself.
 #[derive(Clone, Copy, Debug, PartialEq, Eq)]
@@ -149,5 +150,25 @@ impl Refusal {
             Refusal::PathClash => "PathClash",
             Refusal::Write => "Write",
         }
+    }
+}
+
+impl From<AllocError> for Refusal {
+    ghost use Rattle.metainfo.specs.declared.refusal.Refusal.TheVariants.{NoMemory};
+
+    ghost from_gives = { λ _ r. r ≡ NoMemory };
+
+    fn from(_error: AllocError) -> Refusal {
+        Refusal::NoMemory
+    }
+}
+
+impl<T: Drop> From<AllocFailed<T>> for Refusal {
+    ghost use Rattle.metainfo.specs.declared.refusal.Refusal.TheVariants.{NoMemory};
+
+    ghost from_gives = { λ _ r. r ≡ NoMemory };
+
+    fn from(_error: AllocFailed<T>) -> Refusal {
+        Refusal::NoMemory
     }
 }

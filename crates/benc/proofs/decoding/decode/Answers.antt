@@ -1,24 +1,24 @@
-use Rattle.std.proofs.Common.{[], take, drop, refl, sym, inr, arith}
-use Rattle.std.proofs.lemmas.List.{append-nil, take-append-drop, length-take, length-drop}
+use Rattle.std.proofs.Common.{sym, subst}
 use Rattle.std.proofs.lemmas.Result.{err_from_is_err_and}
+use Rattle.benc.specs.Spelling.{Spells}
 use Rattle.benc.specs.View.{view}
+use Rattle.benc.proofs.Texts.{fits_spelled}
+use Rattle.benc.proofs.Unique.{no_fault, one_fault}
 use Rattle.benc.proofs.decoding.decode.Goals as goal
 
-pub returns-then-used-input-clause-fault : goal.returns-then-used-input-clause-fault
-returns-then-used-input-clause-fault c known =
-    let input = c.args.input.now in
-    let used = c.in_ok-v.used in
-    inr (record { value = view c.in_ok-v.v; front = take used input; rest = drop used input; parts = sym (take-append-drop used input); place = omega (arith, length-take used input); spells = c.in_ok-v.ensures.found; more = omega (arith, length-drop used input); is = refl })
+pub returns-clause-first : goal.returns-clause-first
+returns-clause-first c kind offset f = no_fault c.args.input.now (view c.in_ok-v.v) kind offset c.in_ok-v.ensures.found f
 
-pub returns-in_err-v-clause-only : goal.returns-in_err-v-clause-only
-returns-in_err-v-clause-only c v s =
+pub returns-in_err-v-clause-first : goal.returns-in_err-v-clause-first
+returns-in_err-v-clause-first c kind offset f =
+    let e = c.in_err-v.field-0.0 in
     let p = err_from_is_err_and c.from_residual.result c.from_residual.ensures.1 in
-    rw (p.1, p.2) (c.in_err-v.ensures.only v c.args.input.now [] (sym (append-nil c.args.input.now)) s)
+    rw (p.1, p.2) (λ known. one_fault c.args.input.now e.kind kind e.offset offset (c.in_err-v.ensures.fault known) f)
 
-pub returns-then-used-input-clause-only : goal.returns-then-used-input-clause-only
-returns-then-used-input-clause-only c v s =
-    let known = c.in_ok-v.ensures.only v c.args.input.now [] (sym (append-nil c.args.input.now)) s in
-    absurd (omega (arith, known.1))
+pub returns-clause-encoded : goal.returns-clause-encoded
+returns-clause-encoded c v canonical is = c.in_ok-v.ensures.only v (subst (Spells v) (sym is) (fits_spelled 128 v canonical))
 
-pub returns-clause-only : goal.returns-clause-only
-returns-clause-only c v s = (c.in_ok-v.ensures.only v c.args.input.now [] (sym (append-nil c.args.input.now)) s).0
+pub returns-in_err-v-clause-encoded : goal.returns-in_err-v-clause-encoded
+returns-in_err-v-clause-encoded c v canonical is =
+    let p = err_from_is_err_and c.from_residual.result c.from_residual.ensures.1 in
+    rw (p.1, p.2) (c.in_err-v.ensures.only v (subst (Spells v) (sym is) (fits_spelled 128 v canonical)))

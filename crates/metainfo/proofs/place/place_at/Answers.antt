@@ -1,6 +1,4 @@
-use Rattle.std.proofs.Common.{◌≡◌, ◌+◌, ◌-◌, ◌<◌, ◌≤◌, ℕ, suc, length, sym, subst, arith}
-use Rattle.std.specs.List.{AllWithin}
-use Rattle.metainfo.specs.declared.torrent.File.{File}
+use Rattle.std.proofs.Common.{◌-◌, sym, arith}
 use Rattle.metainfo.proofs.Placing.{first_pieces_rise, search_none, search_some, some_place, no_place, start_fits}
 use Rattle.metainfo.proofs.place.place_at.Goals as goal
 

@@ -3,9 +3,9 @@ use Rattle.benc.specs.View.{view}
 use Rattle.benc.proofs.Sound.{taken, value_takes}
 use Rattle.std.proofs.Common.{refl, subst}
 use Rattle.benc.specs.Reading.{Failed, Fails, value_at}
-use Rattle.benc.proofs.Faults.{value_stops, stops_from}
+use Rattle.benc.proofs.Faults.{stops_named, value_stops, stops_from}
 use Rattle.benc.proofs.Again.{only_reading, never_fails}
-use Rattle.benc.proofs.decoding.decode_front.Goals as goal
+use Rattle.benc.proofs.decoding.read_front.Goals as goal
 
 pub returns-in-Ok-clause-found : goal.returns-in-Ok-clause-found
 returns-in-Ok-clause-found c =
@@ -26,3 +26,9 @@ returns-in-Err-Fault-clause-only c v front rest e s =
     let d : Failed = (c.in-Err-Fault.kind, c.in-Err-Fault.rest.now) in
     let read = subst (λ z. Fails z (value_at 128 c.args.input.now)) c.in-Err-Fault.field-0-is c.in-Err-Fault.ensures.read in
     absurd (never_fails 128 v front rest c.args.input.now d e s read)
+
+pub returns-in-Err-Fault-clause-memory : goal.returns-in-Err-Fault-clause-memory
+returns-in-Err-Fault-clause-memory c same =
+    let e : Failed = (c.in-Err-Fault.kind, c.in-Err-Fault.rest.now) in
+    let read = subst (λ s. Fails s (value_at 128 c.args.input.now)) c.in-Err-Fault.field-0-is c.in-Err-Fault.ensures.read in
+    absurd (stops_named 128 c.args.input.now e (value_stops 128 c.args.input.now e read) same)

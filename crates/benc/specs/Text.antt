@@ -1,4 +1,4 @@
--- The spelling of a value as a function, and which values have one.
+-- The spelling of a value as a function, and which values have one (BEP 3, "bencoding").
 use Rattle.std.specs.Prelude.{ℕ, ◌-◌, ◌<◌, ◌^◌, List, [], ◌∷◌, ◌++◌, length, Option, Some, None, FitsSigned}
 use Rattle.std.specs.Int.{w64}
 use Rattle.benc.specs.Value.{Bencode, int, text, list, dict, Items, no_items, item, Pairs, no_pairs, pair}

@@ -1,0 +1,186 @@
+//! The keys of a torrent file (BEP 52, "metainfo files" and "info dictionary"), up to the piece length.
+
+ghost use Rattle.std.specs.Prelude.{◌≡◌, ◌≢◌, ◌≤◌, ◌^◌, ℕ, ℤ, pos, length, map, List, [], ◌∷◌, codes, Option, Some, None, option_map, Result, Ok, Err, MatchResult, MatchBool, IfOk, FitsSigned};
+ghost use Rattle.std.specs.Str.{IsUtf8};
+ghost use Rattle.std.specs.Int.{w64};
+ghost use Rattle.benc.specs.View.{view, pairs_view};
+ghost use Rattle.benc.specs.Value.{Bencode, int};
+ghost use Rattle.metainfo.specs.Dictionary.{get, under, as_dict, as_int, as_text, value_at, pairs_in};
+ghost use Rattle.metainfo.specs.Names.{key_text};
+ghost use Rattle.metainfo.specs.Refusals.{IsPieceLength, top_rows, version_rows, present_rows, kind_rows, layers_rows, piece_length_rows, info_in, layers_in, number_in, text_in};
+ghost use Rattle.metainfo.specs.Steps.{Passes, ArePresent, AreOfKind, pairs_seen};
+
+use crate::refusal::{Key, Refusal};
+use benc::{Pair, Value};
+use std::str;
+
+/// The value under a key of a dictionary.
+pub(crate) fn under<'v, 'a>(pairs: &'v [Pair<'a>], key: &[u8]) -> Option<&'v Value<'a>>
+    ensures { option_map (λ w. view w.now) result ≡ under key.now (pairs_view pairs.now) }
+{
+    'pairs: for pair in pairs {
+        if pair.key == key {
+            return Some(&pair.value);
+        }
+    }
+    None
+}
+
+/// The value under a key; only dictionaries have keys.
+pub(crate) fn get<'v, 'a>(v: &'v Value<'a>, key: &[u8]) -> Option<&'v Value<'a>>
+    ensures { option_map (λ w. view w.now) result ≡ get key.now (view v.now) }
+{
+    match v {
+        Value::Dict(pairs) => under(pairs, key),
+        _ => None,
+    }
+}
+
+/// The pairs of a dictionary.
+pub(crate) fn dictionary<'v, 'a>(v: &'v Value<'a>, key: Key) -> Result<&'v Vec<Pair<'a>>, Refusal>
+    ensures { MatchResult result (λ ps. as_dict (view v.now) ≡ Some (pairs_view ps.now.items)) (λ r. (as_dict (view v.now) ≡ None) × (r ≡ Refusal.WrongType key)) }
+{
+    match v {
+        Value::Dict(pairs) => Ok(pairs),
+        _ => Err(Refusal::WrongType(key)),
+    }
+}
+
+fn integer(v: &Value<'_>, key: Key) -> Result<i64, Refusal>
+    ensures { MatchResult result (λ z. as_int (view v.now) ≡ Some z) (λ r. (as_int (view v.now) ≡ None) × (r ≡ Refusal.WrongType key)) }
+{
+    match v {
+        Value::Int(number) => Ok(*number),
+        _ => Err(Refusal::WrongType(key)),
+    }
+}
+
+/// A byte string that is UTF-8.
+fn text<'a>(v: &Value<'a>, key: Key) -> Result<&'a str, Refusal>
+    ensures { MatchResult result (λ s. (as_text (view v.now) ≡ Some s.now) × IsUtf8 s.now) (λ r. ((s : List ℕ) → as_text (view v.now) ≡ Some s → IsUtf8 s → ⊥) × (r ≡ Refusal.WrongType key)) }
+{
+    match v {
+        Value::Bytes(bytes) => match str::from_utf8(bytes) {
+            Ok(name) => Ok(name),
+            Err(_) => Err(Refusal::WrongType(key)),
+        },
+        _ => Err(Refusal::WrongType(key)),
+    }
+}
+
+/// The value under a key that has to be there.
+fn required<'v, 'a>(v: &'v Value<'a>, key: Key) -> Result<&'v Value<'a>, Refusal>
+    ensures { MatchResult result (λ w. get (key_text key) (view v.now) ≡ Some (view w.now)) (λ r. (get (key_text key) (view v.now) ≡ None) × (r ≡ Refusal.Missing key)) }
+{
+    match get(v, key.text().as_bytes()) {
+        Some(value) => Ok(value),
+        None => Err(Refusal::Missing(key)),
+    }
+}
+
+/// The info dictionary.
+pub(crate) fn info<'v, 'a>(top: &'v Value<'a>) -> Result<&'v Value<'a>, Refusal>
+    ensures { Passes (top_rows (view top.now)) (λ i. get (codes "info") (view top.now) ≡ Some (view i.now)) result }
+{
+    dictionary(top, Key::Top)?;
+    let info = required(top, Key::Info)?;
+    dictionary(info, Key::Info)?;
+    Ok(info)
+}
+
+/// Tests the version before all other keys of the info dictionary.
+pub(crate) fn version(info: &Value<'_>) -> Result<(), Refusal>
+    ensures { Passes (version_rows (view info.now)) (λ _. Unit {0}) result }
+{
+    let version = required(info, Key::MetaVersion)?;
+    if integer(version, Key::MetaVersion)? != 2 {
+        return Err(Refusal::Version);
+    }
+    Ok(())
+}
+
+/// The values of the other keys that have to be there.
+struct Present<'v, 'a> {
+    tree: &'v Value<'a>,
+    name: &'v Value<'a>,
+    piece_length: &'v Value<'a>,
+}
+
+fn all_present<'v, 'a>(info: &'v Value<'a>) -> Result<Present<'v, 'a>, Refusal>
+    ensures { Passes (present_rows (view info.now)) (ArePresent (view info.now)) result }
+{
+    let tree = required(info, Key::FileTree)?;
+    let name = required(info, Key::Name)?;
+    let piece_length = required(info, Key::PieceLength)?;
+    Ok(Present {
+        tree,
+        name,
+        piece_length,
+    })
+}
+
+/// What the info dictionary tells beside the version.
+pub(crate) struct Told<'v, 'a> {
+    pub(crate) tree: &'v Vec<Pair<'a>>,
+    pub(crate) name: &'a str,
+    pub(crate) piece_length: i64,
+}
+
+fn all_of_kind<'v, 'a>(values: Present<'v, 'a>) -> Result<Told<'v, 'a>, Refusal>
+    ensures { (info : Bencode) → ArePresent info values.entry → Passes (kind_rows info) (AreOfKind info) result }
+{
+    let Present {
+        tree,
+        name,
+        piece_length,
+    } = values;
+    let tree = dictionary(tree, Key::FileTree)?;
+    let name = text(name, Key::Name)?;
+    let Ok(piece_length) = integer(piece_length, Key::PieceLength) else {
+        return Err(Refusal::WrongType(Key::PieceLength));
+    };
+    Ok(Told {
+        tree,
+        name,
+        piece_length,
+    })
+}
+
+/// The pairs of `piece layers`, where the key is there.
+pub(crate) fn layers<'v, 'a>(top: &'v Value<'a>) -> Result<Option<&'v Vec<Pair<'a>>>, Refusal>
+    ensures { Passes (layers_rows (view top.now)) (λ ps. pairs_seen ps ≡ layers_in (view top.now)) result }
+{
+    match get(top, Key::PieceLayers.text().as_bytes()) {
+        Some(value) => match dictionary(value, Key::PieceLayers) {
+            Ok(pairs) => Ok(Some(pairs)),
+            Err(refusal) => Err(refusal),
+        },
+        None => Ok(None),
+    }
+}
+
+/// A power of two from 16,384 to 2^30.
+fn is_legal(n: u64) -> bool
+    ensures { MatchBool result (IsPieceLength n) (IsPieceLength n → ⊥) }
+{
+    'powers: for exponent in 14..31u32 {
+        if n == 1u64 << exponent {
+            return true;
+        }
+    }
+    false
+}
+
+/// Tests the piece length.
+pub(crate) fn piece_length(number: i64) -> Result<u64, Refusal>
+    ensures { Passes (piece_length_rows (number_in (int number))) (λ n. (n ≡ number_in (int number)) × IsPieceLength n) result }
+{
+    if number < 0 {
+        return Err(Refusal::PieceLength);
+    }
+    let n = number as u64;
+    if !is_legal(n) {
+        return Err(Refusal::PieceLength);
+    }
+    Ok(n)
+}
