@@ -41,6 +41,6 @@ install: build/btcheck
 	install -D -m 755 build/btcheck $(DESTDIR)$(PREFIX)/bin/btcheck
 
 clean:
-	rm -rf build crates/*/out bench/programs/crates/*/out
+	rm -rf build crates/*/out
 
 .PHONY: all check test bench install clean

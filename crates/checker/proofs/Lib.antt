@@ -10,3 +10,4 @@ pub mod Streaming
 pub mod Reports
 pub mod Layers
 pub mod Pieces
+pub mod Escapes

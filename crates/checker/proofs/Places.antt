@@ -9,7 +9,7 @@ use Rattle.metainfo.specs.Seen.{file_entry}
 use Rattle.metainfo.specs.Description.{Description, FileEntry}
 use Rattle.metainfo.specs.Sound.{IsSound}
 use Rattle.metainfo.specs.Trees.{pieces_of}
-use Rattle.checker.specs.Folder.{start_of}
+use Rattle.checker.specs.Folder.{IsInStream, start_of}
 
 -- how many pieces the first n files have
 abbrev pub pieces_before : Description → ℕ → ℕ
@@ -61,3 +61,6 @@ start_fits t n f sound is =
     let short : t.piece_length ≤ 2 ^ 30 = subst (λ p. p ≤ 2 ^ 30) (sym sound.legal.3) (let le : 2 ^ sound.legal.0 ≤ 2 ^ 30 = pow-le-pow_right (let o : 0 < 2 = omega arith in o) sound.legal.2 in le) in
     let most : f.first_piece * t.piece_length ≤ 2 ^ 32 * 2 ^ 30 = mul-le-mul (let a : f.first_piece ≤ 2 ^ 32 = omega arith in a) short in
     (few, omega (arith, most))
+
+pub all_in_stream : (t : Description) → IsSound t → IsInStream t
+all_in_stream t sound = record { in_stream = λ v hybrid n f there some. sound.in_stream v n f hybrid there some }

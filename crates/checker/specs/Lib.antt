@@ -8,3 +8,6 @@ pub mod Compared
 pub mod Streaming
 pub mod Content
 pub mod Pass
+pub mod Text
+pub mod Refused
+pub mod Show

@@ -1,43 +1,11 @@
-//! The lines of worked files, and devices that fail.
-ghost use Rattle.std.specs.Prelude.{◌-◌, ◌^◌, None};
+//! The lines of worked files and refusals, and devices that fail.
+ghost use Rattle.std.specs.Prelude.{◌≢◌};
+ghost use Rattle.metainfo.specs.Names.{refusal_number};
 
-use crate::{RootFault, root_line};
-use benc::{DeviceFault, FromRead, FromWrite, Source};
-
-// A source of sevens that fails at its third read.
-#[derive(Drop)]
-struct Failing {
-    reads: u64,
-    given: u64,
-    faults: u64,
-}
-
-impl Source for Failing {
-    ghost left = { λ _. None };
-
-    ghost limit = { λ s. 2 ^ 64 - 1 - s.given };
-
-    ghost faults = { λ s. s.faults };
-
-    fn read(&mut self, buf: &mut [u8]) -> Result<usize, DeviceFault> {
-        if self.reads >= 2 || self.given == u64::MAX || buf.is_empty() {
-            self.faults = self.faults.wrapping_add(1);
-            return Err(DeviceFault);
-        }
-        buf[0] = 7;
-        self.reads += 1;
-        self.given += 1;
-        Ok(1)
-    }
-
-    fn failures(&self) -> u64 {
-        self.faults
-    }
-
-    ghost use Rattle.std.proofs.Common.{arith};
-
-    ghost finite = { λ s. Prim.omega arith };
-}
+use crate::{RootFault, refusal_line, root_line};
+use benc::{Fault, FaultKind, MemSink, MemSource, Sink, Source};
+use metainfo::{Key, Refusal};
+use std::alloc::AllocError;
 
 const Z1: [u8; 32] = [
     0xf5, 0xa5, 0xfd, 0x42, 0xd1, 0x6a, 0x20, 0x30, 0x27, 0x98, 0xef, 0x6e, 0xd3, 0x09, 0x97, 0x9b,
@@ -45,7 +13,7 @@ const Z1: [u8; 32] = [
 ];
 
 #[test]
-fn lines_of_worked_files(rt: HostRuntime) {
+fn lines_of_worked_files(rt: HostRuntime) -> Result<(), AllocError> {
     let mut twice = [0u8; 64];
     twice[..32].copy_from_slice(&Z1);
     twice[32..].copy_from_slice(&Z1);
@@ -65,35 +33,95 @@ fn lines_of_worked_files(rt: HostRuntime) {
         ),
     ];
     for (content, line) in cases {
-        let mut room = [0u8; 128];
-        let mut out = FromWrite::new(room.as_mut_slice());
-        let answer = root_line(&mut FromRead::new(content), &mut out);
+        let mut out = MemSink::with_room(rt.alloc(), 200)?.at_most(3);
+        let answer = root_line(&mut MemSource::new(content).at_most(5), &mut out);
         assert!(rt; matches!(answer, Ok(true)));
-        assert_eq!(rt; &room[..line.len()], line.as_bytes());
-        assert!(rt; room[line.len()..].iter().all(|&byte| byte == 0));
+        assert_eq!(rt; out.written(), line.as_bytes());
+        assert!(rt; out.is_flushed());
     }
+    Ok(())
 }
 
 #[test]
-fn no_room(rt: HostRuntime) {
-    let mut room = [0u8; 2];
-    let mut out = FromWrite::new(room.as_mut_slice());
-    let answer = root_line(&mut FromRead::new(b"abc".as_slice()), &mut out);
-    assert!(rt; matches!(answer, Err(RootFault::Write)));
-    assert!(rt; room == *b"3 ");
+fn devices_fail_at_each_call(rt: HostRuntime) -> Result<(), AllocError> {
+    let line = b"3 ba7816bf8f01cfea414140de5dae2223b00361a396177a9cb410ff61f20015ad\n";
+    for calls in 0..2 {
+        let mut source = MemSource::new(b"abc").fails_after(calls);
+        let mut out = MemSink::with_room(rt.alloc(), 200)?;
+        let answer = root_line(&mut source, &mut out);
+        assert!(rt; matches!(answer, Err(RootFault::Read)));
+        assert_eq!(rt; (source.failures(), out.failures()), (1, 0));
+        assert!(rt; out.written().is_empty());
+    }
+    for calls in 0..8u64 {
+        let mut out = MemSink::with_room(rt.alloc(), 200)?
+            .at_most(10)
+            .fails_after(calls);
+        let answer = root_line(&mut MemSource::new(b"abc"), &mut out);
+        assert!(rt; matches!(answer, Err(RootFault::Write)));
+        assert_eq!(rt; out.failures(), 1);
+        assert_eq!(rt; out.written(), &line[..line.len().min(10 * calls as usize)]);
+    }
+    Ok(())
+}
+
+// The line of this refusal, with a path of these components.
+fn is_line(
+    rt: &HostRuntime,
+    refusal: Refusal,
+    path: &[&str],
+    line: &str,
+) -> Result<bool, AllocError>
+    requires memory { refusal_number refusal ≢ 21 }
+    requires sink { refusal_number refusal ≢ 23 }
+{
+    let mut parts = Vec::new(rt.alloc());
+    for part in path {
+        parts.push(String::from_str(rt.alloc(), part)?)?;
+    }
+    let mut out = MemSink::with_room(rt.alloc(), 200)?;
+    let answer = refusal_line(&refusal, &parts, &mut out);
+    Ok(answer.is_ok() && out.written() == line.as_bytes() && out.is_flushed())
 }
 
 #[test]
-fn a_read_fails(rt: HostRuntime) {
-    let mut source = Failing {
-        reads: 0,
-        given: 0,
-        faults: 0,
+fn lines_of_refusals(rt: HostRuntime) -> Result<(), AllocError> {
+    let trailing = Fault {
+        kind: FaultKind::Trailing,
+        offset: 166,
     };
-    let mut room = [0u8; 128];
-    let mut out = FromWrite::new(room.as_mut_slice());
-    let answer = root_line(&mut source, &mut out);
-    assert!(rt; matches!(answer, Err(RootFault::Read)));
-    assert_eq!(rt; source.failures(), 1);
-    assert!(rt; room == [0; 128]);
+    assert!(rt;
+        is_line(
+            &rt,
+            Refusal::NotBencode(trailing),
+            &[],
+            "refused 2 NotBencode Trailing 166\n"
+        )?
+    );
+    assert!(rt;
+        is_line(
+            &rt,
+            Refusal::Missing(Key::MetaVersion),
+            &[],
+            "refused 3 Missing meta version\n"
+        )?
+    );
+    assert!(rt;
+        is_line(
+            &rt,
+            Refusal::WrongType(Key::Top),
+            &[],
+            "refused 4 WrongType top\n"
+        )?
+    );
+    assert!(rt; is_line(&rt, Refusal::NoFiles, &[], "refused 13 NoFiles\n")?);
+    assert!(rt;
+        is_line(
+            &rt,
+            Refusal::RootReused,
+            &["a", "b\\\n\u{7f}é"],
+            "refused 12 RootReused a/b\\x5c\\x0a\\x7fé\n"
+        )?
+    );
+    Ok(())
 }
