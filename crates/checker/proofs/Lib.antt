@@ -1,3 +1,13 @@
 pub mod Taking
 pub mod Lines
+pub mod Streams
+pub mod Contents
+pub mod Places
+pub mod Beginnings
+pub mod Passes
+pub mod Counts
+pub mod Streaming
+pub mod Reports
+pub mod Layers
+pub mod Pieces
 pub mod Escapes

@@ -1,6 +1,6 @@
 -- Lemmas on torrents.
-pub mod Cutting
 pub mod Comparing
+pub mod Cutting
 pub mod Fed
 pub mod Aligned
 pub mod Entries

@@ -1,7 +1,7 @@
 -- What contracts of torrents cite.
 pub mod Cuts
-pub mod Describes
 pub mod Description
+pub mod Describes
 pub mod Dictionary
 pub mod Feeding
 pub mod FileTree

@@ -8,10 +8,10 @@ mod path;
 mod place;
 mod refusal;
 mod torrent;
-mod v1_feed;
 mod tree;
 mod trees;
 mod version1;
+mod v1_feed;
 
 pub use path::Path;
 pub use refusal::{Key, Refusal};

@@ -1,0 +1,62 @@
+-- What it means that a folder holds a torrent's files (BEP 52; for a hybrid BEP 3 and BEP 47 too).
+use Rattle.std.specs.Prelude.{◌≡◌, ◌≢◌, ℕ, ◌+◌, ◌*◌, ◌^◌, ◌<◌, ◌≤◌, List, [], length, take, drop, get_or, slice_get, Option, Some, option_and_then}
+use Rattle.hashtree.specs.Tree.{root_of, node}
+use Rattle.metainfo.specs.Description.{Description, FileEntry, TreeEntry, Version1}
+use Rattle.metainfo.specs.Sound.{piece_layer}
+use Rattle.metainfo.specs.Cuts.{cut_digests}
+
+-- the content of each path of a folder: its bytes, or that nothing has that name
+abbrev pub Contents : Type 0
+Contents = List (List ℕ) → Option (List ℕ)
+
+-- the tree of a file; an empty file has none
+abbrev pub tree_of : Description → FileEntry → Option TreeEntry
+tree_of t f = option_and_then (slice_get t.trees) f.tree
+
+-- these bytes fit the tree: they have its length, and the tree over their leaves has its root
+pub record Fits (e : TreeEntry) (bytes : List ℕ) : Type 0 where
+  pub length_is : length bytes ≡ e.length
+  pub root_is : root_of bytes ≡ e.root
+
+-- these bytes are the file: none where its length is 0, else bytes that fit its tree
+pub record IsGood (t : Description) (f : FileEntry) (bytes : List ℕ) : Type 0 where
+  pub empty : f.length ≡ 0 → bytes ≡ []
+  pub fits : 0 < f.length → (e : TreeEntry) × (tree_of t f ≡ Some e) × Fits e bytes
+
+-- where the file begins in the version 1 stream: at its first piece
+abbrev pub start_of : Description → FileEntry → ℕ
+start_of t f = f.first_piece * t.piece_length
+
+-- a file with this content covers this byte of the version 1 stream
+pub record Covers (t : Description) (contents : Contents) (i : ℕ) : Type 0 where
+  pub number : ℕ
+  pub file : FileEntry
+  pub bytes : List ℕ
+  pub there : slice_get t.files number ≡ Some file
+  pub content : contents file.path ≡ Some bytes
+  pub from : start_of t file ≤ i
+  pub to : i < start_of t file + length bytes
+
+-- the version 1 stream: as long as stated, each file that is not empty at its start, and zeros elsewhere
+pub record IsStream (t : Description) (contents : Contents) (total : ℕ) (stream : List ℕ) : Type 0 where
+  pub length_is : length stream ≡ total
+  pub file_at : (n : ℕ) (f : FileEntry) (bytes : List ℕ) → slice_get t.files n ≡ Some f → contents f.path ≡ Some bytes → 0 < length bytes
+      → take (length bytes) (drop (start_of t f) stream) ≡ bytes
+  pub zeros : (i : ℕ) → i < total → (Covers t contents i → ⊥) → get_or stream i 0 ≡ 0
+
+-- the version 1 pieces are good: the SHA-1 digests of the stream's cuts are those of `pieces`
+abbrev pub V1Good : Description → Version1 → Contents → Type 0
+V1Good t v contents = (stream : List ℕ) × IsStream t contents v.total stream × (cut_digests t.piece_length stream ≡ v.pieces)
+
+-- the folder is good: each file has a content, which is the file; and for a hybrid the version 1 pieces are good
+pub record GoodFolder (t : Description) (contents : Contents) : Type 0 where
+  pub files : (n : ℕ) (f : FileEntry) → slice_get t.files n ≡ Some f → (bytes : List ℕ) × (contents f.path ≡ Some bytes) × IsGood t f bytes
+  pub version1 : (v : Version1) → t.v1 ≡ Some v → V1Good t v contents
+
+-- each file of a hybrid that is not empty lies in the version 1 stream
+pub record IsInStream (t : Description) : Type 0 where
+  pub in_stream : (v : Version1) → t.v1 ≡ Some v → (n : ℕ) (f : FileEntry) → slice_get t.files n ≡ Some f → 0 < f.length → start_of t f + f.length ≤ v.total
+
+-- a piece length is a power of two, from 16384 to 2 ^ 30
+abbrev pub IsLegal : ℕ → Type 0
+IsLegal piece_length = (k : ℕ) × (14 ≤ k) × (k ≤ 30) × (piece_length ≡ 2 ^ k)
