@@ -1,3 +1,4 @@
 -- What contracts of the printed lines cite.
 pub mod Root
 pub mod Reading
+pub mod ReplayLines

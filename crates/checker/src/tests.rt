@@ -1,8 +1,8 @@
 //! The lines of worked files, and a source that fails.
-use benc::{DeviceFault, FromRead, FromWrite, Source};
-use crate::root::{RootFault, root_line};
-
 ghost use Rattle.std.specs.Prelude.{◌-◌, ◌^◌, None};
+
+use crate::root::{RootFault, root_line};
+use benc::{DeviceFault, FromRead, FromWrite, Source};
 
 // A source of sevens that fails at its third read.
 #[derive(Drop)]
@@ -35,6 +35,7 @@ impl Source for Failing {
     }
 
     ghost use Rattle.std.proofs.Common.{arith};
+
     ghost finite = { λ s. Prim.omega arith };
 }
 
