@@ -1,1 +1,9 @@
 pub mod Known
+pub mod Digits
+pub mod Turns
+pub mod Values
+pub mod Out
+pub mod Sound
+pub mod Faults
+pub mod Again
+pub mod Either

@@ -1,2 +1,9 @@
 -- What contracts of devices and of bencoding cite.
 pub mod Device
+pub mod Value
+pub mod View
+pub mod Spelling
+pub mod Table
+pub mod Fails
+pub mod Reading
+pub mod Canonical

@@ -5,7 +5,7 @@ use std::process::ExitCode;
 
 /// Why the program could not do what it was asked for.
 #[derive(Drop)]
-pub enum Fault<'a> {
+pub(crate) enum Fault<'a> {
     /// This path could not be opened, or not read to its end.
     Read(&'a str),
     /// This path could not be written to; `-` is standard output.
@@ -18,7 +18,7 @@ pub enum Fault<'a> {
 
 impl<'a> Fault<'a> {
     /// Prints the fault's line on standard error, and tells the exit status of a fault.
-    pub fn report(&self, rt: &HostRuntime) -> ExitCode {
+    pub(crate) fn report(&self, rt: &HostRuntime) -> ExitCode {
         let _ = eprintln!(rt; "fault: {self}");
         ExitCode::from(2)
     }

@@ -7,9 +7,8 @@ mod perform;
 mod words;
 
 use fault::Fault;
-use std::env;
-use std::io;
 use std::process::ExitCode;
+use std::{env, io};
 
 // All words of the command line, the program's name first.
 fn all_words(rt: &HostRuntime) -> Result<Vec<String>, Fault<'static>> {
@@ -35,7 +34,11 @@ fn main(rt: HostRuntime) -> ExitCode {
         Ok(words) => words,
         Err(fault) => return fault.report(&rt),
     };
-    match words.iter().map(|word| word.as_str()).collect::<Vec<&str>>(rt.alloc()) {
+    match words
+        .iter()
+        .map(|word| word.as_str())
+        .collect::<Vec<&str>>(rt.alloc())
+    {
         Ok(texts) => run(&rt, texts.as_slice()),
         Err(_) => Fault::NoMemory.report(&rt),
     }

@@ -1,4 +1,6 @@
 //! What each command does, on real files.
+ghost use Rattle.std.specs.Prelude.{◌≡◌, if◌then◌else◌};
+
 use crate::command::Action;
 use crate::fault::Fault;
 use benc::{FromRead, FromWrite};
@@ -6,14 +8,15 @@ use checker::{RootFault, root_line};
 use std::fs::File;
 use std::io;
 
-/// The exit status of yes, or of what is done.
-const YES: u8 = 0;
-
-/// The exit status of no, or of a refusal.
-const NO: u8 = 1;
+// The exit status of an answer: 0 for yes or done, 1 for no or a refusal.
+fn status(yes: bool) -> u8
+    ensures { result ≡ (if yes then 0 else 1) }
+{
+    if yes { 0 } else { 1 }
+}
 
 /// Does what was asked for, and tells the exit status.
-pub fn perform<'a>(rt: &HostRuntime, action: &Action<'a>) -> Result<u8, Fault<'a>> {
+pub(crate) fn perform<'a>(rt: &HostRuntime, action: &Action<'a>) -> Result<u8, Fault<'a>> {
     match action {
         Action::Root { file } => root(rt, file),
     }
@@ -26,7 +29,7 @@ fn root<'a>(rt: &HostRuntime, path: &'a str) -> Result<u8, Fault<'a>> {
     let mut source = FromRead::new(file);
     let mut out = FromWrite::new(io::writer(rt));
     match root_line(&mut source, &mut out) {
-        Ok(within) => Ok(if within { YES } else { NO }),
+        Ok(within) => Ok(status(within)),
         Err(RootFault::Read) => Err(Fault::Read(path)),
         Err(RootFault::Write) => Err(Fault::Write("-")),
     }

@@ -8,7 +8,8 @@ use std::process::ExitCode;
 
 const ABOUT: &str = "Checks the hash trees of BitTorrent version 2";
 
-const STATUSES: &str = "Exit status: 0 yes or done, 1 no or refused, 2 a fault of the words, of files or of memory.";
+const STATUSES: &str =
+    "Exit status: 0 yes or done, 1 no or refused, 2 a fault of the words, of files or of memory.";
 
 // A word that has to be there, with what it means.
 fn required<'a>(alloc: Global, name: &'a str, help: &'a str) -> Arg<'a> {
@@ -36,7 +37,7 @@ fn command<'a>(alloc: Global) -> Result<Command<'a>, Error> {
 }
 
 /// Reads the words of the command line, the program's name first.
-pub fn action<'a>(alloc: Global, words: &'a [&'a str]) -> Result<Action<'a>, Error> {
+pub(crate) fn action<'a>(alloc: Global, words: &'a [&'a str]) -> Result<Action<'a>, Error> {
     let matches = command(alloc)?.try_get_matches_from(words)?;
     let found = match matches.subcommand() {
         Some(("root", found)) => found.get_str("FILE").map(|file| Action::Root { file }),
@@ -49,7 +50,7 @@ pub fn action<'a>(alloc: Global, words: &'a [&'a str]) -> Result<Action<'a>, Err
 }
 
 /// Prints why the words were refused, or the help that they ask for, and tells the exit status.
-pub fn explain(rt: &HostRuntime, error: &Error) -> ExitCode {
+pub(crate) fn explain(rt: &HostRuntime, error: &Error) -> ExitCode {
     if error.kind() == ErrorKind::OutOfMemory {
         return Fault::NoMemory.report(rt);
     }

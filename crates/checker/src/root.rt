@@ -11,9 +11,8 @@ use benc::{DeviceFault, Sink, Source, write_all};
 use hashtree::{Hash, RootBuilder};
 use thiserror::Error;
 
+// The greatest length of a file: 2^46 bytes.
 const MAX_LENGTH: u64 = 70368744177664;
-
-const PART: usize = 16384;
 
 /// Why no line was written whole.
 #[derive(Debug, Drop, Error)]
@@ -34,16 +33,24 @@ enum Reading {
     TooLong,
 }
 
-/// Writes the line of what the source gives, and tells whether that is at most 2^46 bytes.
+/// Reads a file's content from the source, writes the line that tells its length in bytes and its pieces root
+/// (BEP 52), and flushes. It takes no memory.
+///
+/// The line is `LENGTH ROOT`, the root in hexadecimal, or `0 -` for an empty file, and the answer is true. Above
+/// 2^46 bytes it is `refused 10 Length`, the answer is false, and no byte after number 2^46 + 1 was read.
+///
+/// The first fault of a device ends it: `Read` where the source failed, and then nothing was written or flushed,
+/// and `Write` where the sink failed, and then a beginning of the line went out.
 pub fn root_line<R: Source, W: Sink>(source: &mut R, out: &mut W) -> Result<bool, RootFault>
     ensures line { (file : List ℕ) → R.left source.old ≡ Some file → OnOk result
         (Appends (W.written out.old) (W.written out.new) (root_line_of file)) }
-    ensures answer { (file : List ℕ) → R.left source.old ≡ Some file → IfOk result
+    ensures within { (file : List ℕ) → R.left source.old ≡ Some file → IfOk result
         (λ within. IsTrue within ↔ (length file ≤ 2 ^ 46)) }
+    ensures flushed { OnOk result (W.is_flushed out.new ≡ true) }
     ensures no_further { R.limit source.old ≤ R.limit source.new + (2 ^ 46 + 1) }
 
-    ensures flushed { OnOk result (W.is_flushed out.new ≡ true) }
-    ensures ok { OnOk result ((R.faults source.new ≡ R.faults source.old) × (W.faults out.new ≡ W.faults out.old)) }
+    // A fault is answered where that device had one, and no other.
+    ensures no_fault { OnOk result ((R.faults source.new ≡ R.faults source.old) × (W.faults out.new ≡ W.faults out.old)) }
     ensures read { result ≡ Err RootFault.Read → (R.faults source.new ≡ one_more (R.faults source.old))
         × (W.faults out.new ≡ W.faults out.old) × Keeps (W.written out.old) (W.written out.new) }
     ensures write { result ≡ Err RootFault.Write → (R.faults source.new ≡ R.faults source.old)
@@ -51,13 +58,11 @@ pub fn root_line<R: Source, W: Sink>(source: &mut R, out: &mut W) -> Result<bool
     ensures beginning { (file : List ℕ) → R.left source.old ≡ Some file → result ≡ Err RootFault.Write
         → AppendsBeginning (W.written out.old) (W.written out.new) (root_line_of file) }
 {
-    let reading = match read_content(source) {
-        Ok(reading) => reading,
-        Err(_) => return Err(RootFault::Read),
+    let Ok(reading) = read_content(source) else {
+        return Err(RootFault::Read);
     };
     let within = !matches!(reading, Reading::TooLong);
-    let line = reading_line(&reading);
-    match write_line(out, line.as_slice()) {
+    match write_line(out, reading_line(&reading).as_slice()) {
         Ok(()) => Ok(within),
         Err(_) => Err(RootFault::Write),
     }
@@ -99,11 +104,11 @@ fn read_content<R: Source>(source: &mut R) -> Result<Reading, DeviceFault>
     ensures counts { CountsFault (R.faults source.old) (R.faults source.new) result }
     ensures no_further { R.limit source.old ≤ R.limit source.new + (2 ^ 46 + 1) }
 {
-    let mut buffer = [0u8; 16384];
+    let mut buffer = [0u8; 65536];
     let mut builder = RootBuilder::new();
     let mut count = 0;
     'parts: while count <= MAX_LENGTH {
-        let room = (MAX_LENGTH + 1 - count).min(16384) as usize;
+        let room = (MAX_LENGTH + 1 - count).min(65536) as usize;
         let taken = source.read(&mut buffer[..room])?;
         if taken == 0 {
             return Ok(finish(builder, count));

@@ -1,0 +1,30 @@
+use Rattle.std.proofs.Common.{◌≡◌, ℕ, ◌≤◌, ◌+◌, ◌*◌, length, None}
+use Rattle.std.specs.Option.{option_copied}
+use Rattle.benc.specs.Reading.{value_at, items_at, pairs_at}
+use Rattle.benc.proofs.Turns.{with_items, with_pairs}
+use Rattle.benc.proofs.reading.+read.Given as goal
+
+abbrev pub decreases-value : goal.decreases-value
+decreases-value l = 2 * l.room
+
+abbrev pub decreases-items : goal.decreases-items
+decreases-items l = 2 * l.room + 1
+
+abbrev pub decreases-pairs : goal.decreases-pairs
+decreases-pairs l = 2 * l.room + 1
+
+-- what is read so far, and then what is left, is the whole
+abbrev pub invariant-items-items : goal.invariant-items-items
+invariant-items-items l =
+    (n : ℕ) × (length l.rest ≤ n) × (length l.rest ≤ length l.bytes) × (with_items l.found.items (items_at (value_at l.room) n l.rest) ≡ items_at (value_at l.room) (length l.bytes) l.bytes)
+
+abbrev pub decreases-items-items : goal.decreases-items-items
+decreases-items-items l = length l.rest
+
+abbrev pub invariant-pairs-pairs : goal.invariant-pairs-pairs
+invariant-pairs-pairs l =
+    (n : ℕ) × (length l.rest ≤ n) × (length l.rest ≤ length l.bytes)
+    × (with_pairs l.found.items (pairs_at (value_at l.room) n (option_copied l.before) l.rest) ≡ pairs_at (value_at l.room) (length l.bytes) None l.bytes)
+
+abbrev pub decreases-pairs-pairs : goal.decreases-pairs-pairs
+decreases-pairs-pairs l = length l.rest

@@ -1,0 +1,98 @@
+-- The first fault of an input: which, and where.
+use Rattle.std.specs.Prelude.{◌≡◌, ℕ, suc, ◌<◌, ◌^◌, ◌==◌, ◌||◌, if◌then◌else◌, List, [], ◌∷◌, ◌++◌, length, Option, Some, None, Result, Ok, Err, ◌⊎◌}
+use Rattle.benc.specs.Value.{Bencode, Items, Pairs, no_pairs, pair}
+use Rattle.benc.specs.Spelling.{max_open, string, IsAbove, SpelledItems, SpelledPairs, Spells}
+use Rattle.benc.specs.Table.{is_digit, integer_at, string_at, key_at}
+use Rattle.benc.specs.declared.fault.FaultKind.{FaultKind}
+use Rattle.benc.specs.declared.fault.FaultKind.TheVariants.{Truncated, BadStart, Trailing, TooDeep}
+
+-- what may stand next
+pub data Due : Type 0 where
+  a_value : Due
+  a_value_or_end : Due
+  a_key_or_end : Option (List ℕ) → Due
+
+-- a container that is open, with what of it is finished
+pub data Level : Type 0 where
+  in_list : Items → Level
+  in_dict : Pairs → Level
+  at_value : Pairs → List ℕ → Level
+
+-- the last key of the pairs, or else the key before them
+abbrev pub last_key : Option (List ℕ) → Pairs → Option (List ℕ)
+last_key before no_pairs = before
+last_key before (pair k v ps) = last_key (Some k) ps
+
+-- `IsLevel room l b`: b is the mark that opens l and the spelling of what of it is finished
+abbrev pub IsLevel : ℕ → Level → List ℕ → Type 0
+IsLevel room (in_list vs) b = (inner : List ℕ) × (b ≡ 108 ∷ inner) × SpelledItems room vs inner
+IsLevel room (in_dict ps) b = (inner : List ℕ) × (b ≡ 100 ∷ inner) × SpelledPairs room None ps inner
+IsLevel room (at_value ps k) b = (inner : List ℕ) × (b ≡ 100 ∷ (inner ++ string k)) × SpelledPairs room None ps inner × (length k < 10 ^ 10) × IsAbove k (last_key None ps)
+
+-- what is due behind a level, which is the innermost
+abbrev pub due_in : Level → Due
+due_in (in_list vs) = a_value_or_end
+due_in (in_dict ps) = a_key_or_end (last_key None ps)
+due_in (at_value ps k) = a_value
+
+-- a value may stand there, and so another container may be open in it
+abbrev pub TakesValue : Level → Type 0
+TakesValue (in_list vs) = Unit {0}
+TakesValue (in_dict ps) = ⊥
+TakesValue (at_value ps k) = Unit {0}
+
+-- `Begun room due open p`: p stops between two items of a spelling that is not finished. `due` may stand there,
+-- and `open` more containers may be opened
+abbrev pub Begun : ℕ → List Level → List ℕ → Due → ℕ → Type 0
+Begun room [] p due left = (p ≡ []) × (due ≡ a_value) × (left ≡ room)
+Begun room (l ∷ []) p due left = (below : ℕ) × (room ≡ suc below) × IsLevel below l p × (due ≡ due_in l) × (left ≡ below)
+Begun room (l ∷ m ∷ ls) p due left =
+    (below : ℕ) × (first rest : List ℕ) × (room ≡ suc below) × (p ≡ first ++ rest) × IsLevel below l first × TakesValue l × Begun below (m ∷ ls) rest due left
+
+-- the first line of the table that holds for a value
+abbrev pub fault_of : {A : Type 0} → Result A FaultKind → Option FaultKind
+fault_of (Ok x) = None
+fault_of (Err f) = Some f
+
+abbrev pub value_fault : ℕ → List ℕ → Option FaultKind
+value_fault left [] = Some Truncated
+value_fault left (c ∷ rest) =
+    if c == 105 then fault_of (integer_at rest)
+    else (if (c == 108) || (c == 100) then (if left == 0 then Some TooDeep else None)
+    else (if is_digit c then fault_of (string_at (c ∷ rest)) else Some BadStart))
+
+abbrev pub unless_end : List ℕ → Option FaultKind → Option FaultKind
+unless_end [] f = f
+unless_end (c ∷ rest) f = if c == 101 then None else f
+
+-- the first line of the table that holds for what is due
+abbrev pub item_fault : Due → ℕ → List ℕ → Option FaultKind
+item_fault a_value left bytes = value_fault left bytes
+item_fault a_value_or_end left bytes = unless_end bytes (value_fault left bytes)
+item_fault (a_key_or_end before) left bytes = unless_end bytes (fault_of (key_at before bytes))
+
+-- The bytes before `offset` are begun, and the item that is due there fails.
+pub record Stops (b : List ℕ) (kind : FaultKind) (offset : ℕ) : Type 0 where
+  pub levels : List Level
+  pub due : Due
+  pub left : ℕ
+  pub front : List ℕ
+  pub rest : List ℕ
+  pub parts : b ≡ front ++ rest
+  pub place : offset ≡ length front
+  pub begun : Begun max_open levels front due left
+  pub fails : item_fault due left rest ≡ Some kind
+
+-- The bytes before `offset` are a spelling, and bytes follow.
+pub record Trails (b : List ℕ) (kind : FaultKind) (offset : ℕ) : Type 0 where
+  pub value : Bencode
+  pub front : List ℕ
+  pub rest : List ℕ
+  pub parts : b ≡ front ++ rest
+  pub place : offset ≡ length front
+  pub spells : Spells value front
+  pub more : 0 < length rest
+  pub is : kind ≡ Trailing
+
+abbrev pub Fails : List ℕ → FaultKind → ℕ → Type 0
+Fails b kind offset = Stops b kind offset ⊎ Trails b kind offset

@@ -1,0 +1,213 @@
+//! Devices over memory, for tests: they take or give a set number of bytes a call, and fail at a set call.
+ghost use Rattle.std.specs.Prelude.{◌≡◌, ◌≢◌, ℕ, ◌+◌, ◌-◌, ◌<◌, ◌≤◌, ◌^◌, min, List, [], ◌++◌, length, take, drop, Option, Some, None, IfOk, IfNone, OnOk, OnErr, MatchResult, Bool, true, vec_len, vec_capacity};
+ghost use Rattle.std.specs.Io.KnownBytes.{Keeps, ReadConsumes, WriteAppends};
+ghost use Rattle.benc.specs.Device.{CountsFault, one_more};
+
+use crate::device::{DeviceFault, Sink, Source};
+use std::alloc::{AllocError, Global};
+
+/// How many calls have failed, and which one is to.
+#[derive(Drop)]
+struct Calls {
+    before_fault: Option<u64>,
+    faults: u64,
+}
+
+impl Calls {
+    /// Every call succeeds.
+    fn that_succeed() -> Calls
+        ensures { result.faults ≡ 0 }
+    {
+        Calls {
+            before_fault: None,
+            faults: 0,
+        }
+    }
+
+    /// Counts a call, and fails where it is the one that is to.
+    fn next(&mut self) -> Result<(), DeviceFault>
+        ensures counts { CountsFault self.old.faults self.new.faults result }
+    {
+        match self.before_fault {
+            Some(0) => {
+                self.before_fault = None;
+                Err(self.fault())
+            }
+            Some(calls) => {
+                self.before_fault = Some(calls - 1);
+                Ok(())
+            }
+            None => Ok(()),
+        }
+    }
+
+    fn fault(&mut self) -> DeviceFault
+        ensures counts { self.new.faults ≡ one_more self.old.faults }
+    {
+        self.faults = self.faults.wrapping_add(1);
+        DeviceFault
+    }
+}
+
+/// A source that gives these bytes.
+#[derive(Drop)]
+pub struct MemSource<'a> {
+    rest: &'a [u8],
+    at_most: usize,
+    calls: Calls,
+    ghost some: { 0 < at_most },
+    ghost finite: { length rest.now < 2 ^ 64 },
+}
+
+impl<'a> MemSource<'a> {
+    /// A source whose calls give as many bytes as there is room for, and never fail.
+    pub fn new(bytes: &'a [u8]) -> MemSource<'a>
+        ensures left { ⟦<MemSource<'a> as Source>⟧.left result ≡ Some bytes.entry.now }
+        ensures faults { ⟦<MemSource<'a> as Source>⟧.faults result ≡ 0 }
+    {
+        MemSource {
+            rest: bytes,
+            at_most: usize::MAX,
+            calls: Calls::that_succeed(),
+        }
+    }
+
+    /// From here on a call gives at most so many bytes.
+    pub fn at_most(mut self, count: usize) -> MemSource<'a>
+        requires { 0 < count }
+        ensures left { ⟦<MemSource<'a> as Source>⟧.left result ≡ ⟦<MemSource<'a> as Source>⟧.left self.entry }
+        ensures faults { ⟦<MemSource<'a> as Source>⟧.faults result ≡ ⟦<MemSource<'a> as Source>⟧.faults self.entry }
+    {
+        self.at_most = count;
+        self
+    }
+
+    /// So many further calls succeed, and the one after them fails and gives nothing. Later ones succeed.
+    pub fn fails_after(self, calls: u64) -> MemSource<'a>
+        ensures left { ⟦<MemSource<'a> as Source>⟧.left result ≡ ⟦<MemSource<'a> as Source>⟧.left self.entry }
+        ensures faults { ⟦<MemSource<'a> as Source>⟧.faults result ≡ ⟦<MemSource<'a> as Source>⟧.faults self.entry }
+    {
+        MemSource {
+            rest: self.rest,
+            at_most: self.at_most,
+            calls: Calls {
+                before_fault: Some(calls),
+                faults: self.calls.faults,
+            },
+        }
+    }
+}
+
+impl<'a> Source for MemSource<'a> {
+    ghost left = { λ s. Some s.rest.now };
+
+    ghost limit = { λ s. length s.rest.now };
+
+    ghost faults = { λ s. s.calls.faults };
+
+    fn read(&mut self, buf: &mut [u8]) -> Result<usize, DeviceFault> {
+        self.calls.next()?;
+        let count = buf.len().min(self.at_most).min(self.rest.len());
+        let (given, rest) = self.rest.split_at(count);
+        buf[..count].copy_from_slice(given);
+        self.rest = rest;
+        Ok(count)
+    }
+
+    fn failures(&self) -> u64 {
+        self.calls.faults
+    }
+
+    ghost finite = { λ s. s.finite };
+}
+
+/// A sink that keeps what was written, in room that was taken when it was made. A full one fails.
+#[derive(Drop)]
+pub struct MemSink {
+    bytes: Vec<u8>,
+    at_most: usize,
+    calls: Calls,
+    flushed: bool,
+    ghost some: { 0 < at_most },
+}
+
+impl MemSink {
+    /// A sink with room for so many bytes, whose calls take as many bytes as there is room for.
+    pub fn with_room(alloc: Global, room: usize) -> Result<MemSink, AllocError>
+        ensures written { IfOk result (λ s. ⟦<MemSink as Sink>⟧.written s ≡ Some []) }
+        ensures faults { IfOk result (λ s. ⟦<MemSink as Sink>⟧.faults s ≡ 0) }
+    {
+        Ok(MemSink {
+            bytes: Vec::with_capacity(alloc, room)?,
+            at_most: usize::MAX,
+            calls: Calls::that_succeed(),
+            flushed: true,
+        })
+    }
+
+    /// From here on a call takes at most so many bytes.
+    pub fn at_most(mut self, count: usize) -> MemSink
+        requires { 0 < count }
+        ensures written { ⟦<MemSink as Sink>⟧.written result ≡ ⟦<MemSink as Sink>⟧.written self }
+        ensures faults { ⟦<MemSink as Sink>⟧.faults result ≡ ⟦<MemSink as Sink>⟧.faults self }
+    {
+        self.at_most = count;
+        self
+    }
+
+    /// So many further calls succeed, flushes among them, and the one after them fails and takes nothing. Later ones
+    /// succeed.
+    pub fn fails_after(mut self, calls: u64) -> MemSink
+        ensures written { ⟦<MemSink as Sink>⟧.written result ≡ ⟦<MemSink as Sink>⟧.written self }
+        ensures faults { ⟦<MemSink as Sink>⟧.faults result ≡ ⟦<MemSink as Sink>⟧.faults self }
+    {
+        self.calls.before_fault = Some(calls);
+        self
+    }
+
+    /// The bytes that were written.
+    pub fn written(&self) -> &[u8]
+        ensures { ⟦<MemSink as Sink>⟧.written self.now ≡ Some result.now }
+    {
+        &self.bytes
+    }
+
+    /// Nothing was written after the last flush.
+    pub fn is_flushed(&self) -> bool
+        ensures { result ≡ ⟦<MemSink as Sink>⟧.is_flushed self.now }
+    {
+        self.flushed
+    }
+}
+
+impl Sink for MemSink {
+    ghost written = { λ s. Some s.bytes.items };
+
+    ghost faults = { λ s. s.calls.faults };
+
+    ghost is_flushed = { λ s. s.flushed };
+
+    fn write(&mut self, buf: &[u8]) -> Result<usize, DeviceFault> {
+        self.calls.next()?;
+        let room = self.bytes.capacity() - self.bytes.len();
+        let count = buf.len().min(self.at_most).min(room);
+        if count == 0 && !buf.is_empty() {
+            return Err(self.calls.fault());
+        }
+        if self.bytes.extend_from_slice(&buf[..count]).is_err() {
+            return Err(self.calls.fault());
+        }
+        self.flushed = false;
+        Ok(count)
+    }
+
+    fn flush(&mut self) -> Result<(), DeviceFault> {
+        self.calls.next()?;
+        self.flushed = true;
+        Ok(())
+    }
+
+    fn failures(&self) -> u64 {
+        self.calls.faults
+    }
+}

@@ -1,0 +1,73 @@
+"""What the tests share: a run of the program, and BEP 52's tree written out plainly with hashlib."""
+import hashlib
+import os
+import subprocess
+import tempfile
+
+TOP = os.path.dirname(os.path.dirname(os.path.abspath(__file__)))
+BTCHECK = os.path.abspath(os.environ.get("BTCHECK", os.path.join(TOP, "build", "btcheck")))
+
+BLOCK = 16384
+
+
+def run(*words, **options):
+    """Runs the program on these words, as bytes or text; options are those of subprocess.run."""
+    options.setdefault("stdout", subprocess.PIPE)
+    options.setdefault("stderr", subprocess.PIPE)
+    options.setdefault("timeout", 600)
+    if "input" not in options:
+        options.setdefault("stdin", subprocess.DEVNULL)
+    return subprocess.run([BTCHECK, *words], **options)
+
+
+def expect(done, status, stdout=b"", stderr=b""):
+    """The run ended so. Text is taken as UTF-8; None for a stream leaves it open."""
+    wanted = [text.encode() if isinstance(text, str) else text for text in (stdout, stderr)]
+    seen = (done.returncode, done.stdout, done.stderr)
+    assert done.returncode == status, f"status {status} is wanted: {seen}"
+    assert wanted[0] is None or done.stdout == wanted[0], f"standard output {wanted[0]} is wanted: {seen}"
+    assert wanted[1] is None or done.stderr == wanted[1], f"standard error {wanted[1]} is wanted: {seen}"
+
+
+def folder():
+    """A temporary folder, for a `with`."""
+    return tempfile.TemporaryDirectory(prefix="btcheck-test-")
+
+
+def write(path, content):
+    with open(path, "wb") as out:
+        out.write(content)
+    return path
+
+
+def sha256(content):
+    return hashlib.sha256(content).digest()
+
+
+def root_of_leaves(leaves):
+    """The root over the digests of blocks: pad leaves up to a power of two, then pairs, layer by layer."""
+    layer = list(leaves)
+    while len(layer) & (len(layer) - 1):
+        layer.append(bytes(32))
+    while len(layer) > 1:
+        layer = [sha256(layer[i] + layer[i + 1]) for i in range(0, len(layer), 2)]
+    return layer[0]
+
+
+def blocks_of_file(path):
+    with open(path, "rb") as content:
+        while block := content.read(BLOCK):
+            yield block
+
+
+def root_of_file(path):
+    return root_of_leaves(map(sha256, blocks_of_file(path)))
+
+
+def root_of(content):
+    return root_of_leaves(sha256(content[i:i + BLOCK]) for i in range(0, len(content), BLOCK))
+
+
+def root_line(content):
+    """The line that `root` is to print for this content."""
+    return f"{len(content)} {root_of(content).hex()}\n" if content else "0 -\n"
