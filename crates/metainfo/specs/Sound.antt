@@ -2,14 +2,8 @@
 use Rattle.std.specs.Prelude.{◌≡◌, ℕ, ◌+◌, ◌-◌, ◌^◌, ◌<◌, ◌≤◌, List, [], ◌++◌, length, replicate, Some, slice_get, ◌/◌}
 use Rattle.hashtree.specs.Tree.{block_count, height, tree, zero_hash}
 use Rattle.metainfo.specs.Description.{Description, FileEntry, TreeEntry}
+pub use Rattle.metainfo.specs.PieceLayers.{piece_layer, root_over}
 
--- the layer in which one hash covers this many bytes, a power of two of blocks
-abbrev pub piece_layer : ℕ → ℕ
-piece_layer piece_length = height (block_count piece_length)
-
--- the root over a layer, filled up with the zero hash of that layer
-abbrev pub root_over : ℕ → ℕ → List (List ℕ) → List ℕ
-root_over h layer xs = tree (h - layer) (xs ++ replicate (2 ^ (h - layer) - length xs) (zero_hash layer))
 
 -- a tree's length and root are in range, and its piece layer leads to its root
 pub record IsSoundTree (piece_length : ℕ) (t : TreeEntry) : Type 0 where

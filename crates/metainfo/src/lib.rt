@@ -4,7 +4,9 @@
 mod path;
 mod refusal;
 mod torrent;
+mod v1_feed;
 
 pub use path::Path;
 pub use refusal::{Key, Refusal};
 pub use torrent::{File, Torrent, TreeInfo, V1};
+pub use v1_feed::V1Feed;

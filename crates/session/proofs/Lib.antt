@@ -17,3 +17,4 @@ pub mod Rounds
 pub mod Storing
 pub mod Deciding
 pub mod Filling
+pub mod Cells

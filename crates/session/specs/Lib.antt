@@ -6,5 +6,6 @@ pub mod Claims
 pub mod Fill
 pub mod Gaps
 pub mod Known
+pub mod Flat
 pub mod Kept
 pub mod Session

@@ -2,10 +2,12 @@
 #![tactic(auto)]
 
 mod claims;
+mod flat;
 pub mod laws;
 pub mod node_map;
 mod refusal;
 mod verdict;
 
+pub use flat::Flat;
 pub use refusal::{BlockRefusal, HashRefusal};
 pub use verdict::Verdict;

@@ -1,0 +1,13 @@
+use Rattle.std.proofs.Common.{◌≡◌, ◌≤◌, ◌-◌, ◌+◌, ◌++◌, ℕ, List, length, take}
+use Rattle.hashtree.specs.Climb.{IsFed, byte_count}
+use Rattle.hashtree.proofs.root.RootBuilder.push.Given as goal
+
+abbrev pub invariant-parts : goal.invariant-parts
+invariant-parts l = record {
+  within : l.start ≤ length l.bytes;
+  count : byte_count l.self ≡ byte_count l.fn.self + l.start;
+  content : (file : List ℕ) → IsFed l.fn.self file → IsFed l.self (file ++ take l.start l.bytes);
+}
+
+abbrev pub decreases-parts : goal.decreases-parts
+decreases-parts l = length l.initial.bytes - l.start

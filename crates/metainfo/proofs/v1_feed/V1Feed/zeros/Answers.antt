@@ -1,0 +1,17 @@
+use Rattle.std.proofs.Common.{arith, ◌≤◌, replicate, subst, ◌++◌}
+use Rattle.metainfo.specs.Feeding.{IsFed}
+use Rattle.metainfo.proofs.Fed.{zeros_more, length-zeros}
+use Rattle.metainfo.proofs.v1_feed.V1Feed.zeros.Goals as goal
+
+pub parts-preserved : goal.parts-preserved
+parts-preserved c =
+    let done = c.parts.done in
+    let part = c.min-part.result in
+    let bound : part ≤ 16384 = omega (arith, c.min-part.ensures) in
+    record {
+      within = omega (arith, c.min-part.ensures);
+      room = omega (arith, c.push.ensures.room, c.parts.invariant.room, length-zeros part 16384 bound);
+      content = λ pieces n content fed.
+          subst (IsFed c.push.new.self pieces n) (zeros_more content done part 16384 bound)
+          (c.push.ensures.content pieces n (content ++ replicate done 0) (c.parts.invariant.content pieces n content fed));
+    }

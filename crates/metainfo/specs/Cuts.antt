@@ -1,0 +1,34 @@
+-- The cuts of the version 1 stream (BEP 3): pieces of one length, the last of which may be shorter.
+use Rattle.std.specs.Prelude.{◌≡◌, ◌≢◌, ℕ, ◌+◌, ◌-◌, ◌*◌, ◌/◌, ◌<◌, ◌⊎◌, List, map, length, take, drop, slice_get, Option, Some, None, MatchOption}
+use Rattle.std.specs.List.{range_with_len}
+use Rattle.sha1.specs.Sha1.{sha1}
+
+-- the cut of the stream with this number
+abbrev pub cut : ℕ → List ℕ → ℕ → List ℕ
+cut piece_length stream i = take piece_length (drop (piece_length * i) stream)
+
+-- how many cuts a stream of this length has: its pieces, rounded up
+abbrev pub cut_count : ℕ → ℕ → ℕ
+cut_count piece_length n = (n + (piece_length - 1)) / piece_length
+
+-- the stream, cut at the piece length
+abbrev pub cuts : ℕ → List ℕ → List (List ℕ)
+cuts piece_length stream = map (cut piece_length stream) (range_with_len 0 (cut_count piece_length (length stream)))
+
+-- the SHA-1 digests of the stream's cuts, which a hybrid lists under `pieces`
+abbrev pub cut_digests : ℕ → List ℕ → List (List ℕ)
+cut_digests piece_length stream = map sha1 (cuts piece_length stream)
+
+-- the first place at which two lists differ, where one of them may have ended
+pub record IsFirstDifference (xs ys : List (List ℕ)) (i : ℕ) : Type 0 where
+  pub same_before : (k : ℕ) → k < i → slice_get xs k ≡ slice_get ys k
+  pub differs : slice_get xs i ≢ slice_get ys i
+
+-- no place at which two lists differ, or the first one
+abbrev pub IsComparison : List (List ℕ) → List (List ℕ) → Option ℕ → Type 0
+IsComparison xs ys r = MatchOption r (xs ≡ ys) (IsFirstDifference xs ys)
+
+-- the first bad cut, before and after the digest of one more cut was compared with the one that is listed
+pub record IsNext (pieces : List (List ℕ)) (c : ℕ) (digest : List ℕ) (bad next : Option ℕ) : Type 0 where
+  pub kept : (i : ℕ) → bad ≡ Some i → next ≡ Some i
+  pub compared : bad ≡ None → ((next ≡ None) × (slice_get pieces c ≡ Some digest)) ⊎ ((next ≡ Some c) × (slice_get pieces c ≢ Some digest))

@@ -1,0 +1,7 @@
+pub mod Bodies
+pub mod Chunks
+pub mod Fields
+pub mod FourBytes
+pub mod Giving
+pub mod Partial
+pub mod Stopping

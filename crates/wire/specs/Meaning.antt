@@ -1,0 +1,82 @@
+-- What a body means, field by field (BEP 3, "peer messages"; BEP 52, "new messages"). Numbers are big-endian.
+use Rattle.std.specs.Prelude.{◌≡◌, ℕ, ◌-◌, ◌%◌, ◌^◌, ◌<◌, ◌≤◌, ◌⊎◌, List, [], ◌∷◌, ◌++◌, length, All}
+use Rattle.std.specs.List.{flat_map}
+use Rattle.wire.specs.Frames.{four_bytes}
+use Rattle.wire.specs.declared.message.Ask.{Ask}
+use Rattle.wire.specs.declared.message.Message.{Message}
+use Rattle.wire.specs.declared.message.Message.TheVariants as message
+use Rattle.wire.specs.declared.frame.Frame.{Frame}
+use Rattle.wire.specs.declared.frame.Frame.TheVariants as frame
+
+-- the longest body that is kept: 8192 hashes and 32 uncles, with the fields before them
+abbrev pub max_body : ℕ
+max_body = 263217
+
+-- the ids of the messages that are read: piece (BEP 3), hash request, hashes, hash reject (BEP 52)
+abbrev pub IsRead : ℕ → Type 0
+IsRead id = (id ≡ 7) ⊎ (id ≡ 21) ⊎ (id ≡ 22) ⊎ (id ≡ 23)
+
+-- the id, the two fields, and a block that may be empty
+abbrev pub IsPieceSize : ℕ → Type 0
+IsPieceSize size = (9 ≤ size) × (size ≤ max_body)
+
+-- the id, the five fields, and whole hashes
+abbrev pub IsHashesSize : ℕ → Type 0
+IsHashesSize size = (49 ≤ size) × (size ≤ max_body) × ((size - 49) % 32 ≡ 0)
+
+-- the right sizes of a body, by its id
+abbrev pub IsRightSize : ℕ → ℕ → Type 0
+IsRightSize id size =
+    ((id ≡ 7) × IsPieceSize size) ⊎ ((id ≡ 21) × (size ≡ 49)) ⊎ ((id ≡ 22) × IsHashesSize size) ⊎ ((id ≡ 23) × (size ≡ 49))
+
+abbrev pub IsHash : List ℕ → Type 0
+IsHash hash = length hash ≡ 32
+
+-- the five fields of a hash request: pieces root, base layer, index, length, proof layers
+unfoldable pub ask_bytes : Ask → List ℕ
+ask_bytes ask =
+    ask.root ++ (four_bytes ask.base ++ (four_bytes ask.index ++ (four_bytes ask.length ++ four_bytes ask.proof)))
+
+-- each field fits its bytes
+pub record IsAsk (ask : Ask) : Type 0 where
+  pub root : IsHash ask.root
+  pub base : ask.base < 2 ^ 32
+  pub index : ask.index < 2 ^ 32
+  pub count : ask.length < 2 ^ 32
+  pub proof : ask.proof < 2 ^ 32
+
+-- a body of this id with the five fields alone
+pub record IsAskBody (id : ℕ) (body : List ℕ) (ask : Ask) : Type 0 where
+  pub fields : IsAsk ask
+  pub bytes : body ≡ id ∷ ask_bytes ask
+
+pub record IsPieceBody (body : List ℕ) (index begin : ℕ) (block : List ℕ) : Type 0 where
+  pub index_fits : index < 2 ^ 32
+  pub begin_fits : begin < 2 ^ 32
+  pub size : IsPieceSize (length body)
+  pub bytes : body ≡ 7 ∷ (four_bytes index ++ (four_bytes begin ++ block))
+
+pub record IsHashesBody (body : List ℕ) (ask : Ask) (hashes : List (List ℕ)) : Type 0 where
+  pub fields : IsAsk ask
+  pub each : All IsHash hashes
+  pub size : IsHashesSize (length body)
+  pub bytes : body ≡ 22 ∷ (ask_bytes ask ++ flat_map (λ hash. hash) hashes)
+
+-- a body that begins with this id, and its length
+pub record IsOf (body : List ℕ) (id len : ℕ) : Type 0 where
+  pub rest : List ℕ
+  pub bytes : body ≡ id ∷ rest
+  pub size : len ≡ length body
+
+abbrev pub MeansMessage : List ℕ → Message → Type 0
+MeansMessage body message.KeepAlive = body ≡ []
+MeansMessage body (message.Piece index begin block) = IsPieceBody body index begin block.now
+MeansMessage body (message.Request ask) = IsAskBody 21 body ask
+MeansMessage body (message.Hashes ask hashes) = IsHashesBody body ask hashes.now
+MeansMessage body (message.Reject ask) = IsAskBody 23 body ask
+MeansMessage body (message.Other id len) = IsOf body id len × ¬ IsRead id
+
+-- what a body means: one message, or a wrong size of a message that is read
+abbrev pub Means : List ℕ → Frame → Type 0
+Means body (frame.Message m) = MeansMessage body m
+Means body (frame.BadSize id len) = IsOf body id len × IsRead id × ¬ IsRightSize id len
