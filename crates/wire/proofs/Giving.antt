@@ -1,6 +1,6 @@
 -- What a source gave in several calls.
 use Rattle.std.proofs.Common.{◌≡◌, ℕ, ◌+◌, ◌-◌, ◌<◌, ◌≤◌, List, [], ◌++◌, length, take, drop, Option, Some, arith, ap, sym, ◌∙◌}
-use Rattle.std.proofs.lemmas.List.{length-append, length-take-le, take-append-le, take_all}
+use Rattle.std.proofs.lemmas.List.{length-append, length-take-le, take-append-le, take_all, take-take}
 use Rattle.std.proofs.Math.Seq.{take-append-add}
 use borrow.Rule.Slice.PartMut.{put_mid}
 use Rattle.std.specs.Io.KnownBytes.{Consumes, Keeps}
@@ -48,3 +48,8 @@ take-put_all at whole old new size within len =
     let is : at + (whole - at) ≡ whole = omega (arith, within) in
     let more = take-put_more at (whole - at) old new (omega arith) fits in
     ap (λ k. take k (put_mid at (whole - at) old new)) (sym is) ∙ ap (λ k. take (at + (whole - at)) (put_mid at (k - at) old new)) (sym size) ∙ more ∙ ap (λ t. take at old ++ t) (take_all (whole - at) new (omega arith))
+
+-- the front of a vector whose elements were all written
+pub take-written : {X : Type 0} (count n : ℕ) (new items : List X) → count ≤ n → count ≤ length new → take count (take n (new ++ drop (length new) items)) ≡ take count new
+take-written count n new items within fits =
+    take-take count n (new ++ drop (length new) items) within ∙ take-append-le count new (drop (length new) items) fits

@@ -3,5 +3,6 @@ pub mod Chunks
 pub mod Fields
 pub mod FourBytes
 pub mod Giving
+pub mod Heads
 pub mod Partial
 pub mod Stopping

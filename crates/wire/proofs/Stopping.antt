@@ -40,3 +40,21 @@ module _ {S : Type 0} (left : S → Option (List ℕ)) (limit : S → ℕ) where
     begun = λ t e. omega (arith, ap length e, length-append (four_bytes len) s.bytes, length-four_bytes len);
     ended = s.ended;
   }
+
+  -- before anything was read
+  pub StopsShort-at_once : (a : S) (wanted : ℕ) (why : FrameFault) → 0 < wanted → why ≡ fault.NoMemory → StopsShort left limit a a wanted why
+  StopsShort-at_once a wanted why some e = record {
+    bytes = [];
+    gave = Gave-nil left limit a;
+    short = some;
+    ended = λ t. let no : ⊥ = cc in absurd no;
+  }
+
+  -- after bytes that were read
+  pub StopsShort-after : (a b c : S) (xs : List ℕ) (wanted whole : ℕ) (why : FrameFault) → length xs + wanted ≡ whole → Gave left limit a b xs → StopsShort left limit b c wanted why → StopsShort left limit a c whole why
+  StopsShort-after a b c xs wanted whole why e p s = record {
+    bytes = xs ++ s.bytes;
+    gave = Gave-trans left limit a b c xs s.bytes p s.gave;
+    short = omega (arith, s.short, e, length-append xs s.bytes);
+    ended = s.ended;
+  }

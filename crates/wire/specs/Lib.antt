@@ -1,5 +1,7 @@
 -- What contracts of frames and messages cite.
 pub mod Frames
+pub mod Head
 pub mod Kind
 pub mod Meaning
 pub mod Reading
+pub mod Rows

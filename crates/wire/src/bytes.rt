@@ -1,5 +1,5 @@
 //! Bytes from a source, as many as are wanted or none.
-ghost use Rattle.std.specs.Prelude.{◌≡◌, ◌≢◌, ℕ, ◌^◌, ◌<◌, [], List, length, MatchResult, MatchOption, IfOk, IfErr};
+ghost use Rattle.std.specs.Prelude.{◌≡◌, ◌≢◌, ℕ, ◌^◌, ◌<◌, [], List, length, MatchResult, MatchOption, IsErrOf};
 ghost use Rattle.std.specs.Io.KnownBytes.{IsAtEnd};
 ghost use Rattle.wire.specs.Frames.{four_bytes};
 ghost use Rattle.wire.specs.Reading.{Gave, StopsShort, StopsInFrame, CountsRead};
@@ -16,6 +16,7 @@ pub fn read_exact<R: Source>(source: &mut R, buf: &mut [u8]) -> Result<(), Frame
     ensures counts { MatchResult result
         (λ _. R.faults source.new ≡ R.faults source.old)
         (CountsRead (R.faults source.old) (R.faults source.new)) }
+    ensures device { ¬ IsErrOf result FrameFault.NoMemory }
 {
     let mut filled = 0;
     'reads: while filled < buf.len() {
@@ -32,11 +33,12 @@ pub fn read_length<R: Source>(source: &mut R) -> Result<Option<u32>, FrameFault>
     ensures bytes { MatchResult result
         (λ found. MatchOption found
         (Gave R.left R.limit source.old source.new [] × IsAtEnd (R.left source.new))
-        (λ len. Gave R.left R.limit source.old source.new (four_bytes len)))
+        (λ len. Gave R.left R.limit source.old source.new (four_bytes len) × (len < 2 ^ 32)))
         (StopsInFrame R.left R.limit source.old source.new) }
     ensures counts { MatchResult result
         (λ _. R.faults source.new ≡ R.faults source.old)
         (CountsRead (R.faults source.old) (R.faults source.new)) }
+    ensures device { ¬ IsErrOf result FrameFault.NoMemory }
 {
     let mut bytes = [0u8; 4];
     let first = source.read(&mut bytes)?;
@@ -57,6 +59,7 @@ pub fn skip<R: Source>(source: &mut R, count: u32) -> Result<(), FrameFault>
     ensures counts { MatchResult result
         (λ _. R.faults source.new ≡ R.faults source.old)
         (CountsRead (R.faults source.old) (R.faults source.new)) }
+    ensures device { ¬ IsErrOf result FrameFault.NoMemory }
 {
     let mut scratch = [0u8; SCRATCH];
     let mut left = count as usize;

@@ -5,11 +5,15 @@ mod bytes;
 mod fault;
 mod frame;
 mod hashes;
+mod head;
 mod kind;
 mod message;
 mod number;
 mod parse;
+mod read;
+mod reader;
 
 pub use fault::FrameFault;
 pub use frame::Frame;
 pub use message::{Ask, Hash, Message};
+pub use reader::FrameReader;

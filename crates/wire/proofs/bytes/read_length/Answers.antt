@@ -34,7 +34,9 @@ returns-clause-bytes g c =
     let four : length buf ≡ 4 = c.read.auto.buf in
     let fits : first ≤ length buf = e.bound in
     let len : length new ≡ 4 - first = omega (arith, c.read_exact.auto.buf, length-take (4 - first) (drop first buf), length-drop first buf) in
-    let joined : four_bytes c.number_at.result ≡ take first buf ++ new = c.number_at.ensures ∙ take-put_all first 4 buf new four (omega arith) len in
-    subst (Gave S.left S.limit c.args.source.now c.read_exact.new.source) (sym joined)
-    (Gave-trans S.left S.limit c.args.source.now c.read.new.self c.read_exact.new.source (take first buf) new
-    (Gave-take S.left S.limit c.args.source.now c.read.new.self first buf fits e.bytes.0 e.falls) c.in_ok-read_exact.ensures.bytes)
+    let joined : four_bytes c.number_at.result ≡ take first buf ++ new = c.number_at.ensures ∙ take-put_all first 4 buf new four (omega arith) len in (
+      subst (Gave S.left S.limit c.args.source.now c.read_exact.new.source) (sym joined)
+          (Gave-trans S.left S.limit c.args.source.now c.read.new.self c.read_exact.new.source (take first buf) new
+          (Gave-take S.left S.limit c.args.source.now c.read.new.self first buf fits e.bytes.0 e.falls) c.in_ok-read_exact.ensures.bytes),
+      omega (arith, c.number_at.type_inv),
+    )

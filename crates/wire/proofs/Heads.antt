@@ -1,0 +1,37 @@
+-- How a body goes with its head.
+use Rattle.std.proofs.Common.{◌≡◌, ℕ, ◌+◌, ◌-◌, ◌<◌, ◌≤◌, List, [], ◌∷◌, ◌++◌, length, take, get_or, refl, sym, ap, ◌∙◌, arith, subst}
+use Rattle.std.proofs.lemmas.List.{length-take-le}
+use Rattle.wire.specs.declared.kind.Kind.{Kind}
+use Rattle.wire.specs.declared.head.Head.{Head}
+use Rattle.wire.specs.declared.head.Head.TheVariants.{KeepAlive, Kept, BadSize, Other}
+use Rattle.wire.specs.Kind.{id_of}
+use Rattle.wire.specs.Meaning.{IsRightSize, IsOf}
+use Rattle.wire.specs.Head.{IsHead, Holds}
+
+pub single : (xs : List ℕ) → length xs ≡ 1 → xs ≡ get_or xs 0 0 ∷ []
+single [] e = absurd (omega arith)
+single (x ∷ []) e = refl
+single (x ∷ y ∷ xs) e = absurd (omega arith)
+
+-- an id was read, and the rest was kept
+pub length-kept : (id len : ℕ) (items buf : List ℕ) → buf ≡ id ∷ [] → 0 < len → len - 1 ≤ length items → length (buf ++ take (len - 1) items) ≡ len
+length-kept id len items buf e some room =
+    rw e (omega (arith, length-take-le (len - 1) items room))
+
+pub Holds-kept : (id len n : ℕ) (kind : Kind) (items buf : List ℕ) → buf ≡ id ∷ [] → IsHead id len (Kept kind n) → 0 < len → len - 1 ≤ length items
+    → Holds (Kept kind n) items (buf ++ take (len - 1) items)
+Holds-kept id len n kind items buf e h some room = (
+  subst (λ k. IsRightSize (id_of kind) k) (sym h.1) (subst (λ i. IsRightSize i len) h.0 h.2),
+  h.1 ∙ sym (length-kept id len items buf e some room),
+  rw (e, h.1) (ap (λ i. i ∷ take (len - 1) items) h.0),
+)
+
+-- an id was read, and the rest was skipped
+pub Holds-skipped : (id len : ℕ) (head : Head) (items buf rest : List ℕ) → buf ≡ id ∷ [] → IsHead id len head → ((kind : Kind) (n : ℕ) → head ≡ Kept kind n → ⊥) → length rest + 1 ≡ len
+    → Holds head items (buf ++ rest)
+Holds-skipped id len KeepAlive items buf rest e h not size = absurd h
+Holds-skipped id len (Kept kind n) items buf rest e h not size = absurd (not kind n refl)
+Holds-skipped id len (BadSize i n) items buf rest e h not size =
+    (record { rest = rest; bytes = rw (e, h.0) refl; size = rw e (omega (arith, h.1, size)) }, rw h.0 h.2, rw (h.0, h.1) h.3)
+Holds-skipped id len (Other i n) items buf rest e h not size =
+    (record { rest = rest; bytes = rw (e, h.0) refl; size = rw e (omega (arith, h.1, size)) }, rw h.0 h.2)

@@ -1,0 +1,47 @@
+use Rattle.std.proofs.Common.{◌≡◌, ◌≤◌, ◌+◌, ◌-◌, ◌++◌, length, take, arith}
+use Rattle.std.proofs.lemmas.List.{length-append}
+use Rattle.std.proofs.lemmas.Result.{err_from_is_err_and}
+use Rattle.wire.proofs.Heads.{single, length-kept, Holds-kept, Holds-skipped}
+use Rattle.wire.proofs.Giving.{Gave-trans}
+use Rattle.wire.proofs.Stopping.{StopsShort-after}
+use Rattle.wire.proofs.read.read_body.Goals as goal
+
+pub returns-in_err-keep-in-Kept-clause-bytes : goal.returns-in_err-keep-in-Kept-clause-bytes
+returns-in_err-keep-in-Kept-clause-bytes g c =
+    let S = g.R.Source in
+    let p = err_from_is_err_and c.from_residual-in_err-keep-in-Kept.result c.from_residual-in_err-keep-in-Kept.ensures.1 in
+    rw (p.1, p.2) (StopsShort-after S.left S.limit c.args.source.now c.read_exact.new.source c.keep.new.source c.read_exact.new.buf _ c.args.len _ (omega (arith, c.read_exact.auto.buf, c.requires))
+    c.in_ok-read_exact.ensures.bytes c.in_err-keep-in-Kept.ensures.bytes)
+
+pub returns-in_err-skip-in_default-clause-bytes : goal.returns-in_err-skip-in_default-clause-bytes
+returns-in_err-skip-in_default-clause-bytes g c =
+    let S = g.R.Source in
+    let p = err_from_is_err_and c.from_residual-in_err-skip-in_default.result c.from_residual-in_err-skip-in_default.ensures.1 in
+    rw (p.1, p.2) (StopsShort-after S.left S.limit c.args.source.now c.read_exact.new.source c.skip.new.source c.read_exact.new.buf _ c.args.len _ (omega (arith, c.read_exact.auto.buf, c.requires))
+    c.in_ok-read_exact.ensures.bytes c.in_err-skip-in_default.ensures.bytes)
+
+pub returns-in_ok-keep-in-Kept-clause-bytes : goal.returns-in_ok-keep-in-Kept-clause-bytes
+returns-in_ok-keep-in-Kept-clause-bytes g c =
+    let S = g.R.Source in
+    let id = c.read_exact.new.buf in
+    let items = c.keep.new.kept.items in
+    let one = single id c.read_exact.auto.buf in
+    let room : c.args.len - 1 ≤ length items = c.in_ok-keep-in-Kept.ensures.room in (
+      id ++ take (c.args.len - 1) items,
+      Gave-trans S.left S.limit c.args.source.now c.read_exact.new.source c.keep.new.source id (take (c.args.len - 1) items) c.in_ok-read_exact.ensures.bytes c.in_ok-keep-in-Kept.ensures.bytes,
+      length-kept _ c.args.len items id one c.requires room,
+      rw c.in-Kept.is (Holds-kept _ c.args.len c.in-Kept.len c.in-Kept.kind items id one c.in-Kept.ensures c.requires room),
+    )
+
+pub returns-in_ok-skip-in_default-clause-bytes : goal.returns-in_ok-skip-in_default-clause-bytes
+returns-in_ok-skip-in_default-clause-bytes g c =
+    let S = g.R.Source in
+    let id = c.read_exact.new.buf in
+    let one = single id c.read_exact.auto.buf in
+    let rest = c.in_ok-skip-in_default.ensures.bytes in
+    let size : length rest.0 + 1 ≡ c.args.len = omega (arith, rest.2, c.requires) in (
+      id ++ rest.0,
+      Gave-trans S.left S.limit c.args.source.now c.read_exact.new.source c.skip.new.source id rest.0 c.in_ok-read_exact.ensures.bytes rest.1,
+      omega (arith, size, length-append id rest.0, c.read_exact.auto.buf),
+      Holds-skipped _ c.args.len c.of-head.result c.args.kept.now.items id rest.0 one c.of-head.ensures c.in_default.not-Kept size,
+    )

@@ -1,0 +1,63 @@
+//! What is remembered of a frame beside the bytes that are kept.
+ghost use Rattle.std.specs.Prelude.{ℕ, List};
+ghost use Rattle.wire.specs.Head.{Holds, IsHead};
+ghost use Rattle.wire.specs.Meaning.{Means};
+
+use crate::frame::Frame;
+use crate::kind::Kind;
+use crate::message::Message;
+use crate::parse::message_of;
+
+/// The head of a frame. A length counts the id.
+#[derive(Clone, Copy, Debug)]
+pub enum Head {
+    /// No body.
+    KeepAlive,
+    /// A message that is read.
+    Kept {
+        /// Which one.
+        kind: Kind,
+        /// The length of its body.
+        len: u32,
+    },
+    /// A message that is read elsewhere, of a wrong size here.
+    BadSize {
+        /// Its id.
+        id: u8,
+        /// The length of its body.
+        len: u32,
+    },
+    /// A message of another id.
+    Other {
+        /// Its id.
+        id: u8,
+        /// The length of its body.
+        len: u32,
+    },
+}
+
+impl Head {
+    /// The head of a body with this id and this length.
+    pub fn of(id: u8, len: u32) -> Head
+        ensures { IsHead id len result }
+    {
+        match Kind::of(id) {
+            None => Head::Other { id, len },
+            Some(kind) if kind.takes(len) => Head::Kept { kind, len },
+            Some(_) => Head::BadSize { id, len },
+        }
+    }
+}
+
+/// The frame of a head, out of the bytes that are kept of its body after the id.
+pub fn frame_of(head: Head, kept: &[u8]) -> Frame<'_>
+    requires held { (body : List ℕ) × Holds head kept.now body }
+    ensures { (body : List ℕ) → Holds head kept.now body → Means body result }
+{
+    match head {
+        Head::KeepAlive => Frame::Message(Message::KeepAlive),
+        Head::Kept { kind, len } => Frame::Message(message_of(kind, &kept[..len as usize - 1])),
+        Head::BadSize { id, len } => Frame::BadSize { id, len },
+        Head::Other { id, len } => Frame::Message(Message::Other { id, len }),
+    }
+}
