@@ -1,13 +1,13 @@
 -- The nodes of a file's tree.
-use Rattle.std.proofs.Common.{◌≡◌, ℕ, zero, suc, ◌+◌, ◌-◌, ◌*◌, ◌/◌, ◌^◌, ◌<◌, ◌≤◌, List, [], ◌∷◌, ◌++◌, length, take, drop, replicate, map, get_or, refl, ap, sym, ◌∙◌, arith, take-take, pow-add}
+use Rattle.std.proofs.Common.{◌≡◌, ℕ, suc, ◌+◌, ◌-◌, ◌*◌, ◌^◌, ◌<◌, ◌≤◌, List, [], ◌++◌, length, take, drop, replicate, get_or, ap, ◌∙◌, arith, take-take}
 use Rattle.std.proofs.lemmas.Nat.{mul-le}
 use Rattle.std.proofs.lemmas.List.{length-append, length-replicate, take-replicate, drop-replicate, take_all, drop-drop, drop-take, get_or_append_left, get_or-drop, get_or-take}
 use Rattle.std.proofs.lemmas.List.FromFn.{get_or-map-range_with_len}
 use Rattle.std.proofs.Math.Seq.{drop-append-add}
 use Rattle.sha2.specs.Sha256.{sha256}
-use Rattle.hashtree.specs.Tree.{IsPlace, block, block_count, block_hashes, height, leaves, node, pad_leaf, root_of, tree, zero_hash}
+use Rattle.hashtree.specs.Tree.{IsPlace, block, block_count, block_hashes, height, leaves, node, node_over, pad_leaf, root_of, tree, zero_hash}
 use Rattle.hashtree.proofs.Pairs.{two-pow}
-use Rattle.hashtree.proofs.Heights.{height_enough}
+use Rattle.hashtree.proofs.Heights.{height_enough, pow_split}
 use Rattle.hashtree.proofs.Blocks.{length-block_hashes}
 
 -- there are as many leaves as the height allows
@@ -27,16 +27,20 @@ right_half w i xs =
     let from : i * (w + w) + w ≡ (2 * i + 1) * w = omega arith in
     drop-take w w (drop (i * (w + w)) xs) ∙ ap (take w) (drop-drop w (i * (w + w)) xs) ∙ ap (λ k. take w (drop k xs)) from
 
-pub nodes_join_children : (file : List ℕ) (layer i : ℕ) → node file (suc layer) i ≡ sha256 (node file layer (2 * i) ++ node file layer (2 * i + 1))
+-- a node above a row is the digest of its two children
+pub node_over-suc : (xs : List (List ℕ)) (layer i : ℕ) → node_over xs (suc layer) i ≡ sha256 (node_over xs layer (2 * i) ++ node_over xs layer (2 * i + 1))
 unfolding tree
-nodes_join_children file layer i =
+node_over-suc xs layer i =
     let w : 2 ^ suc layer ≡ 2 ^ layer + 2 ^ layer = two-pow layer in
-    ap (λ k. sha256 (tree layer (take (2 ^ layer) (take k (drop (i * k) (leaves file)))) ++ tree layer (drop (2 ^ layer) (take k (drop (i * k) (leaves file)))))) w
-    ∙ ap (λ t. sha256 (tree layer t ++ tree layer (drop (2 ^ layer) (take (2 ^ layer + 2 ^ layer) (drop (i * (2 ^ layer + 2 ^ layer)) (leaves file)))))) (left_half (2 ^ layer) i (leaves file))
-    ∙ ap (λ t. sha256 (node file layer (2 * i) ++ tree layer t)) (right_half (2 ^ layer) i (leaves file))
+    ap (λ k. sha256 (tree layer (take (2 ^ layer) (take k (drop (i * k) xs))) ++ tree layer (drop (2 ^ layer) (take k (drop (i * k) xs))))) w
+    ∙ ap (λ t. sha256 (tree layer t ++ tree layer (drop (2 ^ layer) (take (2 ^ layer + 2 ^ layer) (drop (i * (2 ^ layer + 2 ^ layer)) xs))))) (left_half (2 ^ layer) i xs)
+    ∙ ap (λ t. sha256 (node_over xs layer (2 * i) ++ tree layer t)) (right_half (2 ^ layer) i xs)
+
+pub nodes_join_children : (file : List ℕ) (layer i : ℕ) → node file (suc layer) i ≡ sha256 (node file layer (2 * i) ++ node file layer (2 * i + 1))
+nodes_join_children file layer i = node_over-suc (leaves file) layer i
 
 -- a leaf of a row with pads after it
-leaf_at : (xs ys : List (List ℕ)) (i : ℕ) → i < length xs → tree 0 (take (2 ^ 0) (drop (i * 2 ^ 0) (xs ++ ys))) ≡ get_or xs i []
+pub leaf_at : (xs ys : List (List ℕ)) (i : ℕ) → i < length xs → tree 0 (take (2 ^ 0) (drop (i * 2 ^ 0) (xs ++ ys))) ≡ get_or xs i []
 unfolding tree
 leaf_at xs ys i lt =
     let at : i * 1 + 0 ≡ i = omega arith in
@@ -63,10 +67,8 @@ part_of_pads w from m xs z past within =
 -- the part that a node covers lies in its row
 pub part_within : (h layer i : ℕ) → layer ≤ h → i < 2 ^ (h - layer) → i * 2 ^ layer + 2 ^ layer ≤ 2 ^ h
 part_within h layer i low lt =
-    let e : h ≡ (h - layer) + layer = omega arith in
-    let p : 2 ^ h ≡ 2 ^ (h - layer) * 2 ^ layer = ap (λ k. 2 ^ k) e ∙ pow-add 2 (h - layer) layer in
     let m : (i + 1) * 2 ^ layer ≤ 2 ^ (h - layer) * 2 ^ layer = mul-le (i + 1) (2 ^ layer) (2 ^ (h - layer)) (2 ^ layer) (omega arith) (omega arith) in
-    omega (arith, p, m)
+    omega (arith, pow_split h layer low, m)
 
 pub pads_are_zero_hashes : (file : List ℕ) (layer i : ℕ) → IsPlace (length file) layer i → block_count (length file) ≤ i * 2 ^ layer
     → node file layer i ≡ zero_hash layer

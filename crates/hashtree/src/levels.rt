@@ -1,11 +1,14 @@
 //! The layers above a given one, and the root over it.
 
-ghost use Rattle.std.specs.Prelude.{◌≡◌, ◌≤◌, length};
-ghost use Rattle.hashtree.specs.Tree.{block_count, first_pad, height, root_over};
+ghost use Rattle.std.specs.Prelude.{◌≡◌, ◌+◌, ◌*◌, ◌/◌, ◌<◌, ◌≤◌, ◌++◌, [], length, map, get_or, IfOk};
+ghost use Rattle.std.specs.List.{range_with_len};
+ghost use Rattle.sha2.specs.Sha256.{sha256};
+ghost use Rattle.hashtree.specs.Tree.{block_count, first_pad, height, levels_over, root_over};
 
-use crate::node::{Hash, zero};
+use crate::node::{Hash, parent, zero};
 use crate::peaks::Peaks;
 use crate::shape::Shape;
+use std::alloc::{AllocError, Global};
 
 /// The root of the tree over a layer, which is given without its pads. It takes no memory.
 ///
@@ -16,10 +19,56 @@ pub fn layer_root(shape: Shape, layer: u32, hashes: &[Hash]) -> Hash
     requires whole { length hashes.now ≡ first_pad (block_count shape) layer }
     ensures { result ≡ root_over (height (block_count shape)) layer hashes.now }
 {
+    let height = shape.height();
     let last = hashes.len() - 1;
     let mut peaks = Peaks::new();
     for hash in &hashes[..last] {
         peaks.push(*hash);
     }
-    peaks.root(hashes[last], zero(layer), shape.height() - layer)
+    peaks.root(hashes[last], zero(layer), height - layer)
+}
+
+/// The layers of the tree over a layer, from that one to the root, each without its pads. The first
+/// list is `hashes`, and the last one holds the root alone.
+///
+/// The layer is one of the tree's, so at most its height, and has as many hashes as
+/// [`Shape::pad_from`] says. It fails only where memory for a layer was refused.
+pub fn fill_levels(
+    alloc: Global,
+    shape: Shape,
+    layer: u32,
+    hashes: &[Hash],
+) -> Result<Vec<Vec<Hash>>, AllocError>
+    requires in_tree { layer ≤ height (block_count shape) }
+    requires whole { length hashes.now ≡ first_pad (block_count shape) layer }
+    ensures { IfOk result
+        (λ levels. map (λ level. level.items) levels.items ≡ levels_over (block_count shape) layer hashes.now) }
+{
+    let height = shape.height();
+    let mut levels = Vec::with_capacity(alloc, (height - layer) as usize + 1)?;
+    let mut level = Vec::from_slice(alloc, hashes)?;
+    let mut pad = zero(layer);
+    'layers: for _at in layer..height {
+        let above = level_above(alloc, &level, &pad)?;
+        levels.push(level)?;
+        level = above;
+        pad = parent(&pad, &pad);
+    }
+    levels.push(level)?;
+    Ok(levels)
+}
+
+// The nodes above a layer's nodes. Where the last one has no sibling, its sibling is the pad.
+fn level_above(alloc: Global, level: &[Hash], pad: &Hash) -> Result<Vec<Hash>, AllocError>
+    ensures { IfOk result
+        (λ above. above.items
+        ≡ map (λ i. sha256 (get_or level.now (2 * i) [] ++ get_or level.now (2 * i + 1) pad.now))
+        (range_with_len 0 ((length level.now + 1) / 2))) }
+{
+    let mut above = Vec::with_capacity(alloc, level.len().div_ceil(2))?;
+    for i in 0..level.len().div_ceil(2) {
+        let right = level.get(2 * i + 1).copied().unwrap_or(*pad);
+        above.push(parent(&level[2 * i], &right))?;
+    }
+    Ok(above)
 }

@@ -1,4 +1,4 @@
-use Rattle.std.proofs.Common.{◌≡◌, ℕ, List, take}
+use Rattle.std.proofs.Common.{◌≡◌, take}
 use Rattle.hashtree.specs.Climb.{HoldsLeaves}
 use Rattle.hashtree.proofs.levels.layer_root.Given as goal
 
