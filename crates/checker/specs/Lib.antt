@@ -2,3 +2,5 @@
 pub mod Root
 pub mod Reading
 pub mod ReplayLines
+pub mod Outcome
+pub mod Replay

@@ -6,6 +6,9 @@ use Rattle.session.specs.declared.refusal.BlockRefusal.{BlockRefusal}
 use Rattle.session.specs.declared.refusal.BlockRefusal.TheVariants as block
 use Rattle.session.specs.declared.verdict.Verdict.{Verdict}
 use Rattle.session.specs.declared.verdict.Verdict.TheVariants as verdict
+use Rattle.wire.specs.declared.fault.FrameFault.TheVariants as fault
+use Rattle.checker.specs.declared.ending.Ending.{Ending}
+use Rattle.checker.specs.declared.ending.Ending.TheVariants as ending
 use Rattle.checker.specs.declared.told.Told.{Told}
 use Rattle.checker.specs.declared.told.Told.TheVariants as told
 
@@ -48,6 +51,13 @@ unfoldable pub frame_line_of : ℕ → Told → List ℕ
 frame_line_of n t = decimal n ++ codes " " ++ told_text t ++ codes "\n"
 
 -- the lines of the frames from number n on
-unfoldable pub frame_lines_from : ℕ → List Told → List ℕ
+abbrev pub frame_lines_from : ℕ → List Told → List (List ℕ)
 frame_lines_from n [] = []
-frame_lines_from n (t ∷ ts) = frame_line_of n t ++ frame_lines_from (n + 1) ts
+frame_lines_from n (t ∷ ts) = frame_line_of n t ∷ frame_lines_from (n + 1) ts
+
+-- the last line
+abbrev pub ending_line_of : Ending → List ℕ
+ending_line_of ending.End = codes "end\n"
+ending_line_of (ending.Fault fault.Truncated) = codes "fault Truncated\n"
+ending_line_of (ending.Fault fault.Read) = codes "fault Read\n"
+ending_line_of (ending.Fault fault.NoMemory) = codes "fault NoMemory\n"
