@@ -1,3 +1,4 @@
 pub mod Taking
 pub mod Lines
 pub mod Replaying
+pub mod SafeSteps

@@ -20,13 +20,14 @@ use Rattle.wire.specs.Frames as stream
 use Rattle.wire.specs.Meaning.{Means}
 use Rattle.wire.specs.Reading.{Gave, StopsInFrame, CountsRead}
 use Rattle.session.specs.declared.verdict.Verdict.{Verdict}
-use Rattle.session.specs.Session.{Layout, State, Step, IsTrueVerdict, IsTrueRun}
+use Rattle.session.specs.Session.{Layout, State}
 use Rattle.checker.specs.declared.told.Told.{Told}
 use Rattle.checker.specs.declared.told.Told.TheVariants as told
 use Rattle.checker.specs.declared.ending.Ending.{Ending}
 use Rattle.checker.specs.declared.ending.Ending.TheVariants as ending
 use Rattle.checker.specs.declared.outcome.Outcome.{Outcome}
 use Rattle.checker.specs.Outcome.{is_refusal, is_no_memory, is_fault, outcome_of}
+use Rattle.checker.specs.SafeStep.{IsSafeStep, IsSafeRun}
 use Rattle.checker.specs.ReplayLines.{frame_line_of, frame_lines_from, ending_line_of}
 use Rattle.checker.specs.Replay.{messages, told_of, FrameStep, TellsFrame, TellsEnding, IsEnding, CountsEnding, Replayed, AppendsShort, report_lines, IsReport, IsCutReport}
 
@@ -40,10 +41,10 @@ All-one body fits = All-cons IsBody body [] fits (All-nil IsBody)
 
 -- a run of one more frame's message, and what is told of it
 pub run_more : (t : Layout) (frames : List Frame) (vs : List Verdict) (S S' S'' : State) (f : Frame) (d : Told)
-    → IsTrueRun t S (messages frames) vs S' → FrameStep t S' f d S''
-    → (ws : List Verdict) × IsTrueRun t S (messages (frames ++ f ∷ [])) ws S'' × (told_of (frames ++ f ∷ []) ws ≡ told_of frames vs ++ d ∷ [])
+    → IsSafeRun t S (messages frames) vs S' → FrameStep t S' f d S''
+    → (ws : List Verdict) × IsSafeRun t S (messages (frames ++ f ∷ [])) ws S'' × (told_of (frames ++ f ∷ []) ws ≡ told_of frames vs ++ d ∷ [])
 run_more t [] [] S S' S'' (frame.Message m) (told.Verdict v) run step =
-    (v ∷ [], (subst (λ s. IsTrueVerdict t s m v) run step.0, (S'', subst (λ s. Step t s m v S'') run step.1, refl)), refl)
+    (v ∷ [], (S'', subst (λ s. IsSafeStep t s m v S'') run step, refl), refl)
 run_more t [] [] S S' S'' (frame.BadSize id len) (told.BadFrame id' len') run step =
     ([], step.2 ∙ run, cc)
 run_more t [] [] S S' S'' (frame.Message m) (told.BadFrame id' len') run step = absurd step
@@ -53,9 +54,9 @@ run_more t (frame.BadSize id len ∷ fs) vs S S' S'' f d run step =
     let (ws, more, same) = run_more t fs vs S S' S'' f d run step in (ws, more, ap (λ ts. told.BadFrame id len ∷ ts) same)
 run_more t (frame.Message m ∷ fs) [] S S' S'' f d run step = absurd run
 run_more t (frame.Message m ∷ fs) (v ∷ vs) S S' S'' f d run step =
-    let (true', (M, one, rest)) = run in
+    let (M, one, rest) = run in
     let (ws, more, same) = run_more t fs vs M S' S'' f d rest step in
-    (v ∷ ws, (true', (M, one, more)), ap (λ ts. told.Verdict v ∷ ts) same)
+    (v ∷ ws, (M, one, more), ap (λ ts. told.Verdict v ∷ ts) same)
 
 each_more : {A B : Type 0} (R : A → B → Type 0) (xs : List A) (ys : List B) (x : A) (y : B) → AllZip R xs ys → R x y → AllZip R (xs ++ x ∷ []) (ys ++ y ∷ [])
 each_more R [] [] x y all one = (one, tt)
@@ -164,7 +165,7 @@ module _ {R : Type 0} (left : R → Option (List ℕ)) (limit faults : R → ℕ
     frames = r.frames;
     means = r.means;
     verdicts = r.verdicts;
-    run = subst (IsTrueRun t S (messages r.frames) r.verdicts) (sym stays) r.run;
+    run = subst (IsSafeRun t S (messages r.frames) r.verdicts) (sym stays) r.run;
     tolds_are = r.tolds_are;
     ended = next.ended;
     counted = subst (λ n. CountsEnding n (faults new) (Some e)) r.counted next.counted;

@@ -4,3 +4,4 @@ pub mod Reading
 pub mod ReplayLines
 pub mod Outcome
 pub mod Replay
+pub mod SafeStep

@@ -13,13 +13,14 @@ use Rattle.wire.specs.Frames as stream
 use Rattle.wire.specs.Meaning.{Means}
 use Rattle.wire.specs.Reading.{Gave, CountsRead}
 use Rattle.session.specs.declared.verdict.Verdict.{Verdict}
-use Rattle.session.specs.Session.{Layout, State, Step, IsTrueVerdict, IsTrueRun}
+use Rattle.session.specs.Session.{Layout, State}
 use Rattle.checker.specs.declared.told.Told.{Told}
 use Rattle.checker.specs.declared.told.Told.TheVariants as told
 use Rattle.checker.specs.declared.ending.Ending.{Ending}
 use Rattle.checker.specs.declared.ending.Ending.TheVariants as ending
 use Rattle.checker.specs.declared.outcome.Outcome.{Outcome}
 use Rattle.checker.specs.Outcome.{outcome_of}
+use Rattle.checker.specs.SafeStep.{IsSafeStep, IsSafeRun}
 use Rattle.checker.specs.ReplayLines.{frame_lines_from, ending_line_of}
 
 -- the messages among frames: a frame of a wrong size holds none
@@ -45,7 +46,7 @@ report_lines tolds e = frame_lines_from 1 tolds ++ last_lines e
 
 -- what is told of one frame, and the session's step for it
 abbrev pub FrameStep : Layout → State → Frame → Told → State → Type 0
-FrameStep t S (frame.Message m) (told.Verdict v) S' = IsTrueVerdict t S m v × Step t S m v S'
+FrameStep t S (frame.Message m) (told.Verdict v) S' = IsSafeStep t S m v S'
 FrameStep t S (frame.BadSize id len) (told.BadFrame id' len') S' = (id' ≡ id) × (len' ≡ len) × (S' ≡ S)
 FrameStep t S f told' S' = ⊥
 
@@ -93,7 +94,7 @@ pub record Replayed {R : Type 0} (left : R → Option (List ℕ)) (limit faults 
   pub frames : List Frame
   pub means : AllZip Means bodies frames
   pub verdicts : List Verdict
-  pub run : IsTrueRun t S (messages frames) verdicts S'
+  pub run : IsSafeRun t S (messages frames) verdicts S'
   pub tolds_are : tolds ≡ told_of frames verdicts
   pub ended : IsEnding (left new) rest e
   pub counted : CountsEnding (faults old) (faults new) e

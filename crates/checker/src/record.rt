@@ -2,7 +2,7 @@
 ghost use Rattle.std.specs.Prelude.{◌≡◌, true, IfOk, IfErr, OnOk, OnErr};
 ghost use Rattle.std.specs.Io.KnownBytes.{Appends};
 ghost use Rattle.benc.specs.Device.{AppendsBeginning, CountsFault};
-ghost use Rattle.session.specs.Session.{Layout, State, Step, IsTrueVerdict};
+ghost use Rattle.session.specs.Session.{Layout, State, IsGood, HasDistinctRoots, Step};
 ghost use Rattle.checker.specs.ReplayLines.{frame_line_of, ending_line_of};
 ghost use Rattle.checker.specs.Replay.{FrameStep, TellsFrame, TellsEnding, IsReport, IsCutReport};
 ghost use Rattle.wire.specs.declared.reader.State.TheVariants as state;
@@ -24,8 +24,11 @@ pub trait Stepper {
 
     fn step(&mut self, m: &Message<'_>) -> Verdict
         ensures layout { layout self.new ≡ layout self.old }
-        ensures step { Step (layout self.old) (state self.old) m.now result (state self.new) }
-        ensures truth { IsTrueVerdict (layout self.old) (state self.old) m.now result };
+        ensures step { Step (layout self.old) (state self.old) m.now result (state self.new) };
+
+    ghost good: { (s : Self) → IsGood (layout s) (state s) };
+
+    ghost distinct: { (s : Self) → HasDistinctRoots (layout s) };
 }
 
 /// Reads frames from the source to its end or to a fault, and gives each message to the session. Writes one line for
