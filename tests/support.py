@@ -1,7 +1,9 @@
 """What the tests share: a run of the program, and BEP 52's tree written out plainly with hashlib."""
 import hashlib
+import json
 import os
 import subprocess
+import sys
 import tempfile
 
 TOP = os.path.dirname(os.path.dirname(os.path.abspath(__file__)))
@@ -71,3 +73,18 @@ def root_of(content):
 def root_line(content):
     """The line that `root` is to print for this content."""
     return f"{len(content)} {root_of(content).hex()}\n" if content else "0 -\n"
+
+
+def escaped(text):
+    """A name or a path as it is printed."""
+    return "".join(f"\\x{ord(c):02x}" if ord(c) < 0x20 or c in "\x7f\\" else c for c in text)
+
+
+def made_by_libtorrent(orders):
+    """What libtorrent tells of the torrents that it makes by these orders (maker.py)."""
+    maker = os.path.join(os.path.dirname(os.path.abspath(__file__)), "maker.py")
+    for python in [sys.executable, "/usr/bin/python3"]:
+        if subprocess.run([python, "-c", "import libtorrent"], stderr=subprocess.DEVNULL).returncode == 0:
+            done = subprocess.run([python, maker], input=json.dumps(orders), stdout=subprocess.PIPE, text=True, check=True)
+            return json.loads(done.stdout)
+    raise RuntimeError("no Python here has libtorrent: install the Debian package python3-libtorrent")

@@ -86,7 +86,7 @@ integer_again (pos n) rest fits =
     unsigned_at (decimal n) (101 ∷ rest) numeral.0.1 numeral.0.0 ∙ plus_again n rest small
 integer_again (negsuc n) rest fits = minus_again n rest (omega (arith, fits.sfits))
 
-digits_head : (run x : List ℕ) → AllDigits 10 run → 0 < length run → (c : ℕ) × (t : List ℕ) × (run ++ x ≡ c ∷ t) × (48 ≤ c) × (c ≤ 57)
+pub digits_head : (run x : List ℕ) → AllDigits 10 run → 0 < length run → (c : ℕ) × (t : List ℕ) × (run ++ x ≡ c ∷ t) × (48 ≤ c) × (c ≤ 57)
 digits_head [] x h long = absurd (omega arith)
 digits_head (d ∷ run) x h long = (d, run ++ x, refl, grind (arith, nat_tests, h.0), grind (arith, nat_tests, h.0))
 
@@ -98,7 +98,7 @@ above_is : (k : List ℕ) (before : Option (List ℕ)) → IsAbove k before → 
 above_is k None h = refl
 above_is k (Some last) h = grind (arith, nat_tests, h)
 
-key_again : (before : Option (List ℕ)) (k rest : List ℕ) → length k < 10 ^ 10 → IsAbove k before → key_at before (string k ++ rest) ≡ Ok (k, rest)
+pub key_again : (before : Option (List ℕ)) (k rest : List ℕ) → length k < 10 ^ 10 → IsAbove k before → key_at before (string k ++ rest) ≡ Ok (k, rest)
 key_again before k rest small above =
     let run = decimal (length k) in
     let numeral = decimal_is_IsNumeral (length k) (omega arith) in
@@ -106,7 +106,7 @@ key_again before k rest small above =
     ap (key_at before) regrouped ∙ key_cons before run (58 ∷ (k ++ rest)) numeral.0.1 numeral.0.0 ∙ ap (λ b. in_order before (string_at b)) (sym regrouped) ∙ ap (in_order before) (string_again k rest small)
     ∙ ap (λ b. cond b (Ok (k, rest)) (Err KeyOrder)) (above_is k before above)
 
-spelled_head : (room : ℕ) (v : Bencode) (b : List ℕ) → Spelled room v b → (c : ℕ) × (t : List ℕ) × (b ≡ c ∷ t) × (c ≢ 101)
+pub spelled_head : (room : ℕ) (v : Bencode) (b : List ℕ) → Spelled room v b → (c : ℕ) × (t : List ℕ) × (b ≡ c ∷ t) × (c ≢ 101)
 spelled_head room (int z) b s = (105, signed_decimal z ++ 101 ∷ [], s.1, λ e. omega arith)
 spelled_head room (list vs) b s = (108, s.1 ++ 101 ∷ [], s.2, λ e. omega arith)
 spelled_head room (dict ps) b s = (100, s.1 ++ 101 ∷ [], s.2, λ e. omega arith)

@@ -5,5 +5,8 @@ pub mod Values
 pub mod Out
 pub mod Sound
 pub mod Faults
+pub mod Texts
+pub mod Lookups
 pub mod Again
 pub mod Either
+pub mod Unique

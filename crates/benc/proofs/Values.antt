@@ -21,7 +21,7 @@ abbrev pub dicts : ℕ → List ℕ → List ℕ → Reads Pairs
 dicts zero start rest = Err (TooDeep, start)
 dicts (suc room) start rest = pairs_at (value_at room) (length rest) None rest
 
-value_is : (room : ℕ) (bytes : List ℕ) → value_at room bytes ≡ value_with (lists room) (dicts room) bytes
+pub value_is : (room : ℕ) (bytes : List ℕ) → value_at room bytes ≡ value_with (lists room) (dicts room) bytes
 unfolding value_at
 value_is zero bytes = refl
 value_is (suc room) bytes = refl

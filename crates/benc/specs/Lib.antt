@@ -6,4 +6,5 @@ pub mod Spelling
 pub mod Table
 pub mod Fails
 pub mod Reading
-pub mod Canonical
+pub mod Text
+pub mod Lookup

@@ -1,21 +1,23 @@
-//! The public calls that read.
-
-ghost use Rattle.std.specs.Prelude.{◌≡◌, ◌≢◌, ◌≤◌, ◌++◌, ◌⊎◌, List, ℕ, length, take, IfOk, IfErr, MatchResult};
+//! Decoding: the value that bytes spell, or their first fault.
+ghost use Rattle.std.specs.Prelude.{◌≡◌, ◌≢◌, ◌≤◌, ◌++◌, List, ℕ, length, take, IfOk, IfErr, IfSome, MatchResult};
 ghost use Rattle.benc.specs.declared.fault.FaultKind.{FaultKind};
 ghost use Rattle.benc.specs.Fails.{Stops, Fails};
+ghost use Rattle.std.specs.Option.{option_copied, option_map};
+ghost use Rattle.benc.specs.Lookup.{get};
 ghost use Rattle.benc.specs.Spelling.{Spells};
+ghost use Rattle.benc.specs.Text.{spelling};
 ghost use Rattle.benc.specs.Value.{Bencode};
 ghost use Rattle.benc.specs.View.{view};
 
+use crate::canonical::MAX_OPEN;
 use crate::fault::{Fault, FaultKind};
 use crate::reading::value;
 use crate::stop::Stop;
 use crate::value::Value;
 use std::alloc::Global;
 
-const MAX_OPEN: u32 = 128;
-
-/// The value at the front, and how many bytes it takes.
+/// The value at the front of the input, and how many bytes it takes. The faults are those of `decode`, but for
+/// `Trailing`.
 pub fn decode_front<'a>(alloc: Global, input: &'a [u8]) -> Result<(Value<'a>, usize), Fault>
     ensures used { IfOk result (λ x. x.1 ≤ length input.now) }
     ensures found { IfOk result (λ x. Spells (view x.0) (take x.1 input.now)) }
@@ -23,8 +25,81 @@ pub fn decode_front<'a>(alloc: Global, input: &'a [u8]) -> Result<(Value<'a>, us
     ensures only { (v : Bencode) (front rest : List ℕ) → input.now ≡ front ++ rest → Spells v front
         → MatchResult result (λ x. (view x.0 ≡ v) × (x.1 ≡ length front)) (λ f. f.kind ≡ FaultKind.NoMemory) }
 {
-    match value(alloc, input, MAX_OPEN) {
-        Ok((v, rest)) => Ok((v, input.len() - rest.len())),
+    let (v, _, used) = read_front(alloc, input, None)?;
+    Ok((v, used))
+}
+
+/// The value that the whole input spells.
+pub fn decode<'a>(alloc: Global, input: &'a [u8]) -> Result<Value<'a>, Fault>
+    ensures found { IfOk result (λ v. Spells (view v) input.now) }
+    ensures fault { IfErr result (λ f. f.kind ≢ FaultKind.NoMemory → Fails input.now f.kind f.offset) }
+    ensures only { (v : Bencode) → Spells v input.now → MatchResult result (λ w. view w ≡ v) (λ f. f.kind ≡ FaultKind.NoMemory) }
+{
+    let (v, _) = read_whole(alloc, input, None)?;
+    Ok(v)
+}
+
+/// The value that the whole input spells, and the bytes of the value under `key` in it, as `span` gives them. It reads
+/// the input once. The faults are those of `decode`.
+pub fn decode_with_span<'a>(
+    alloc: Global,
+    input: &'a [u8],
+    key: &[u8],
+) -> Result<(Value<'a>, Option<&'a [u8]>), Fault>
+    ensures found { IfOk result (λ x. Spells (view x.0) input.now) }
+    ensures span { IfOk result (λ x. option_copied x.1 ≡ option_map spelling (get key.now (view x.0))) }
+    ensures fault { IfErr result (λ f. f.kind ≢ FaultKind.NoMemory → Fails input.now f.kind f.offset) }
+    ensures only { (v : Bencode) → Spells v input.now → MatchResult result (λ x. view x.0 ≡ v) (λ f. f.kind ≡ FaultKind.NoMemory) }
+{
+    read_whole(alloc, input, Some(key))
+}
+
+/// The bytes, as found, of the value under `key` in the dictionary that the input spells. There are none where the input
+/// spells no dictionary, or one that lacks the key. The faults are those of `decode`.
+pub fn span<'a>(alloc: Global, input: &'a [u8], key: &[u8]) -> Result<Option<&'a [u8]>, Fault>
+    ensures found { IfOk result (λ s. (v : Bencode) × Spells v input.now × (option_copied s ≡ option_map spelling (get key.now v))) }
+    ensures fault { IfErr result (λ f. f.kind ≢ FaultKind.NoMemory → Fails input.now f.kind f.offset) }
+    ensures only { (v : Bencode) → Spells v input.now
+        → MatchResult result (λ s. option_copied s ≡ option_map spelling (get key.now v)) (λ f. f.kind ≡ FaultKind.NoMemory) }
+{
+    let (_, span) = read_whole(alloc, input, Some(key))?;
+    Ok(span)
+}
+
+fn read_whole<'a>(
+    alloc: Global,
+    input: &'a [u8],
+    asked: Option<&[u8]>,
+) -> Result<(Value<'a>, Option<&'a [u8]>), Fault>
+    ensures found { IfOk result (λ x. Spells (view x.0) input.now) }
+    ensures span { IfOk result (λ x. IfSome (option_copied asked.entry) (λ key. option_copied x.1 ≡ option_map spelling (get key (view x.0)))) }
+    ensures fault { IfErr result (λ f. f.kind ≢ FaultKind.NoMemory → Fails input.now f.kind f.offset) }
+    ensures only { (v : Bencode) → Spells v input.now → MatchResult result (λ x. view x.0 ≡ v) (λ f. f.kind ≡ FaultKind.NoMemory) }
+{
+    let (v, span, used) = read_front(alloc, input, asked)?;
+    if used < input.len() {
+        return Err(Fault {
+            kind: FaultKind::Trailing,
+            offset: used,
+        });
+    }
+    Ok((v, span))
+}
+
+fn read_front<'a>(
+    alloc: Global,
+    input: &'a [u8],
+    asked: Option<&[u8]>,
+) -> Result<(Value<'a>, Option<&'a [u8]>, usize), Fault>
+    ensures used { IfOk result (λ x. x.2 ≤ length input.now) }
+    ensures found { IfOk result (λ x. Spells (view x.0) (take x.2 input.now)) }
+    ensures span { IfOk result (λ x. IfSome (option_copied asked.entry) (λ key. option_copied x.1 ≡ option_map spelling (get key (view x.0)))) }
+    ensures fault { IfErr result (λ f. f.kind ≢ FaultKind.NoMemory → Stops input.now f.kind f.offset) }
+    ensures only { (v : Bencode) (front rest : List ℕ) → input.now ≡ front ++ rest → Spells v front
+        → MatchResult result (λ x. (view x.0 ≡ v) × (x.2 ≡ length front)) (λ f. f.kind ≡ FaultKind.NoMemory) }
+{
+    match value(alloc, input, MAX_OPEN, asked) {
+        Ok((v, span, rest)) => Ok((v, span, input.len() - rest.len())),
         Err(Stop::Memory(rest)) => Err(Fault {
             kind: FaultKind::NoMemory,
             offset: input.len().saturating_sub(rest.len()),
@@ -35,29 +110,3 @@ pub fn decode_front<'a>(alloc: Global, input: &'a [u8]) -> Result<(Value<'a>, us
         }),
     }
 }
-
-/// The value that the whole input spells.
-pub fn decode<'a>(alloc: Global, input: &'a [u8]) -> Result<Value<'a>, Fault>
-    ensures found { IfOk result (λ v. Spells (view v) input.now) }
-    ensures fault { IfErr result (λ f. f.kind ≢ FaultKind.NoMemory → Fails input.now f.kind f.offset) }
-    ensures only { (v : Bencode) → Spells v input.now → MatchResult result (λ w. view w ≡ v) (λ f. f.kind ≡ FaultKind.NoMemory) }
-{
-    let (v, used) = decode_front(alloc, input)?;
-    if used < input.len() {
-        return Err(Fault {
-            kind: FaultKind::Trailing,
-            offset: used,
-        });
-    }
-    Ok(v)
-}
-
-/// No spelling begins another, and each spelling is of one value.
-pub fn one_spelling()
-    ensures { (v w : Bencode) (a b x y : List ℕ) → Spells v a → Spells w b → a ++ x ≡ b ++ y → (v ≡ w) × (a ≡ b) }
-{}
-
-/// Each list of bytes spells a value, or has a fault.
-pub fn value_or_fault()
-    ensures { (b : List ℕ) → ((v : Bencode) × Spells v b) ⊎ ((kind : FaultKind) × (offset : ℕ) × Fails b kind offset) }
-{}

@@ -3,7 +3,7 @@ ghost use Rattle.std.specs.Prelude.{◌≡◌, ℕ, List, [], ◌∷◌, ◌++�
 ghost use Rattle.std.specs.Io.KnownBytes.{Appends};
 ghost use Rattle.benc.specs.Device.{AppendsBeginning, CountsFault, Wrote};
 ghost use Rattle.benc.specs.Spelling.{string, integer};
-ghost use Rattle.benc.specs.Canonical.{spelling, items_spelling, pairs_spelling, IsCanonical};
+ghost use Rattle.benc.specs.Text.{spelling, items_spelling, pairs_spelling, IsCanonical};
 ghost use Rattle.benc.specs.View.{view, items_view, pairs_view};
 
 use crate::device::{DeviceFault, Sink, WriteFault, write_all};

@@ -1,7 +1,10 @@
 //! From bytes to a value.
 
-ghost use Rattle.std.specs.Prelude.{◌≡◌, ℕ, suc, ◌<◌, ◌≤◌, length, OnOk, IfOk, None};
-ghost use Rattle.std.specs.Option.{option_copied};
+ghost use Rattle.std.specs.Prelude.{◌≡◌, ℕ, suc, ◌<◌, ◌≤◌, length, OnOk, IfOk, IfSome, Some, None, if◌then◌else◌};
+ghost use Rattle.std.specs.Option.{option_copied, option_map};
+ghost use Rattle.std.specs.Str.{bytes_eq};
+ghost use Rattle.benc.specs.Lookup.{get, under};
+ghost use Rattle.benc.specs.Text.{spelling};
 ghost use Rattle.benc.specs.View.{view, items_view, pairs_view};
 ghost use Rattle.benc.specs.Reading.{Gives, value_at, items_at, pairs_at};
 
@@ -11,22 +14,25 @@ use crate::stop::Stop;
 use crate::value::{Pair, Value};
 use std::alloc::Global;
 
-/// The value at the front and what follows it. At most `room` lists and dictionaries are open at once.
+/// The value at the front, the bytes of the value under the key that is asked for where it is a dictionary that has it,
+/// and what follows. At most `room` lists and dictionaries are open at once.
 #[cycle(read)]
 pub(crate) fn value<'a>(
     alloc: Global,
     bytes: &'a [u8],
     room: u32,
-) -> Result<(Value<'a>, &'a [u8]), Stop<'a>>
-    ensures read { Gives (λ x. (view x.0, x.1.now)) result (value_at room bytes.now) }
-    ensures shorter { IfOk result (λ x. length x.1.now < length bytes.now) }
+    asked: Option<&[u8]>,
+) -> Result<(Value<'a>, Option<&'a [u8]>, &'a [u8]), Stop<'a>>
+    ensures read { Gives (λ x. (view x.0, x.2.now)) result (value_at room bytes.now) }
+    ensures shorter { IfOk result (λ x. length x.2.now < length bytes.now) }
+    ensures span { IfOk result (λ x. IfSome (option_copied asked.entry) (λ key. option_copied x.1 ≡ option_map spelling (get key (view x.0)))) }
 {
     let Some((first, rest)) = split_front(bytes) else {
         return Err(Stop::Fault(FaultKind::Truncated, bytes));
     };
     match first {
         b'i' => match integer(rest) {
-            Ok((n, after)) => Ok((Value::Int(n), after)),
+            Ok((n, after)) => Ok((Value::Int(n), None, after)),
             Err(kind) => Err(Stop::Fault(kind, bytes)),
         },
         b'l' => {
@@ -34,17 +40,17 @@ pub(crate) fn value<'a>(
                 return Err(Stop::Fault(FaultKind::TooDeep, bytes));
             }
             let (found, after) = items(alloc, bytes, rest, room - 1)?;
-            Ok((Value::List(found), after))
+            Ok((Value::List(found), None, after))
         }
         b'd' => {
             if room == 0 {
                 return Err(Stop::Fault(FaultKind::TooDeep, bytes));
             }
-            let (found, after) = pairs(alloc, bytes, rest, room - 1)?;
-            Ok((Value::Dict(found), after))
+            let (found, span, after) = pairs(alloc, bytes, rest, room - 1, asked)?;
+            Ok((Value::Dict(found), span, after))
         }
         b'0'..=b'9' => match string(bytes) {
-            Ok((text, after)) => Ok((Value::Bytes(text), after)),
+            Ok((text, after)) => Ok((Value::Bytes(text), None, after)),
             Err(kind) => Err(Stop::Fault(kind, bytes)),
         },
         _ => Err(Stop::Fault(FaultKind::BadStart, bytes)),
@@ -72,7 +78,7 @@ fn items<'a>(
         if first == b'e' {
             return Ok((found, after));
         }
-        let (item, after) = value(alloc, here, room)?;
+        let (item, _, after) = value(alloc, here, room, None)?;
         if found.push(item).is_err() {
             return Err(Stop::Memory(start));
         }
@@ -80,18 +86,21 @@ fn items<'a>(
     }
 }
 
-/// The pairs up to the end mark, and what follows that.
+/// The pairs up to the end mark, the bytes of the value under a key that is asked for, and what follows the mark.
 #[cycle(read)]
 fn pairs<'a>(
     alloc: Global,
     start: &'a [u8],
     bytes: &'a [u8],
     room: u32,
-) -> Result<(Vec<Pair<'a>>, &'a [u8]), Stop<'a>>
-    ensures read { Gives (λ x. (pairs_view x.0.items, x.1.now)) result (pairs_at (value_at room) (length bytes.now) None bytes.now) }
-    ensures shorter { IfOk result (λ x. length x.1.now < length bytes.now) }
+    asked: Option<&[u8]>,
+) -> Result<(Vec<Pair<'a>>, Option<&'a [u8]>, &'a [u8]), Stop<'a>>
+    ensures read { Gives (λ x. (pairs_view x.0.items, x.2.now)) result (pairs_at (value_at room) (length bytes.now) None bytes.now) }
+    ensures shorter { IfOk result (λ x. length x.2.now < length bytes.now) }
+    ensures span { IfOk result (λ x. IfSome (option_copied asked.entry) (λ key. option_copied x.1 ≡ option_map spelling (under key (pairs_view x.0.items)))) }
 {
     let mut found = Vec::new(alloc);
+    let mut span = None;
     let mut rest = bytes;
     let mut before = None;
     'pairs: loop {
@@ -100,13 +109,14 @@ fn pairs<'a>(
             return Err(Stop::Fault(FaultKind::Truncated, here));
         };
         if first == b'e' {
-            return Ok((found, after));
+            return Ok((found, span, after));
         }
         let (name, behind) = match key(before, here) {
             Ok(x) => x,
             Err(kind) => return Err(Stop::Fault(kind, here)),
         };
-        let (item, after) = value(alloc, behind, room)?;
+        let (item, _, after) = value(alloc, behind, room, None)?;
+        span = span.or(if_asked(asked, name, &behind[..behind.len() - after.len()]));
         if found
             .push(Pair {
                 key: name,
@@ -118,5 +128,15 @@ fn pairs<'a>(
         }
         before = Some(name);
         rest = after;
+    }
+}
+
+/// The bytes of a value, where its key is the one that is asked for.
+fn if_asked<'a>(asked: Option<&[u8]>, name: &[u8], value: &'a [u8]) -> Option<&'a [u8]>
+    ensures { IfSome (option_copied asked.entry) (λ key. option_copied result ≡ (if bytes_eq name.now key then Some value.entry.now else None)) }
+{
+    match asked {
+        Some(key) if name == key => Some(value),
+        _ => None,
     }
 }

@@ -146,7 +146,7 @@ pub(crate) fn key<'a>(
                 return Err(FaultKind::BadStart);
             }
             let (key, rest) = string(bytes)?;
-            if !is_above_last(key, before) {
+            if !is_above(key, before) {
                 return Err(FaultKind::KeyOrder);
             }
             Ok((key, rest))
@@ -154,7 +154,7 @@ pub(crate) fn key<'a>(
     }
 }
 
-fn is_above_last(key: &[u8], before: Option<&[u8]>) -> bool
+pub(crate) fn is_above(key: &[u8], before: Option<&[u8]>) -> bool
     ensures { result ≡ is_above key.now (option_copied before.entry) }
 {
     match before {

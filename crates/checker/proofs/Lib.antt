@@ -1,4 +1,5 @@
 pub mod Taking
 pub mod Lines
+pub mod Escapes
 pub mod Replaying
 pub mod SafeSteps

@@ -1,14 +1,14 @@
 //! A short line that is put together before it goes out.
-ghost use Rattle.std.specs.Prelude.{◌≡◌, ℕ, ◌+◌, ◌≤◌, ◌++◌, [], List, length, decimal};
+ghost use Rattle.std.specs.Prelude.{◌≡◌, ℕ, ◌+◌, ◌*◌, ◌≤◌, ◌++◌, [], List, length, decimal};
 ghost use Rattle.hex.specs.Hex.{encode_lower};
 
 use itoa::Buffer;
 use std::marker::Model;
 
-/// A line of at most 128 bytes, put together in place.
+/// A line of at most 256 bytes, put together in place.
 #[derive(Drop)]
 pub struct Line {
-    bytes: [u8; 128],
+    bytes: [u8; 256],
     used: usize,
 }
 
@@ -19,7 +19,7 @@ impl Model for Line {
 
     ghost view = { λ l. take l.used l.bytes };
 
-    ghost invariant = { λ l. l.used ≤ 128 };
+    ghost invariant = { λ l. l.used ≤ 256 };
 }
 
 impl Line {
@@ -28,7 +28,7 @@ impl Line {
         ensures { result ≡ [] }
     {
         Line {
-            bytes: [0; 128],
+            bytes: [0; 256],
             used: 0,
         }
     }
@@ -42,7 +42,7 @@ impl Line {
 
     /// Puts these bytes at the end.
     pub fn put(&mut self, text: &[u8])
-        requires { length self.old + length text.now ≤ 128 }
+        requires { length self.old + length text.now ≤ 256 }
         ensures text { self.new ≡ self.old ++ text.now }
         ensures len { length self.new ≡ length self.old + length text.now }
     {
@@ -53,7 +53,7 @@ impl Line {
 
     /// Puts a number at the end, in decimal.
     pub fn put_number(&mut self, number: u64)
-        requires { length self.old + 20 ≤ 128 }
+        requires { length self.old + 20 ≤ 256 }
         ensures text { self.new ≡ self.old ++ decimal number }
         ensures bound { length self.new ≤ length self.old + 20 }
     {
@@ -61,14 +61,16 @@ impl Line {
         self.put(buffer.format(number).as_bytes());
     }
 
-    /// Puts a digest at the end, in lower case hexadecimal.
-    pub fn put_hash(&mut self, hash: &[u8; 32])
-        requires { length self.old + 64 ≤ 128 }
-        ensures text { self.new ≡ self.old ++ encode_lower hash.now }
-        ensures len { length self.new ≡ length self.old + 64 }
+    /// Puts a digest of at most 32 bytes at the end, in lower case hexadecimal.
+    pub fn put_digest(&mut self, digest: &[u8])
+        requires bound { length digest.now ≤ 32 }
+        requires room { length self.old + 64 ≤ 256 }
+        ensures text { self.new ≡ self.old ++ encode_lower digest.now }
+        ensures len { length self.new ≡ length self.old + 2 * length digest.now }
     {
         let mut text = [0u8; 64];
-        let _ = hex::encode_to_slice(hash, &mut text);
-        self.put(&text);
+        let text = &mut text[..2 * digest.len()];
+        let _ = hex::encode_to_slice(digest, text);
+        self.put(text);
     }
 }

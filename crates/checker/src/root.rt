@@ -8,11 +8,8 @@ ghost use Rattle.checker.specs.Root.{root_line_of};
 
 use crate::line::Line;
 use benc::{DeviceFault, Sink, Source, write_all};
-use hashtree::{Hash, RootBuilder};
+use hashtree::{Hash, MAX_LENGTH, RootBuilder};
 use thiserror::Error;
-
-// The greatest length of a file: 2^46 bytes.
-const MAX_LENGTH: u64 = 70368744177664;
 
 /// Why no line was written whole.
 #[derive(Debug, Drop, Error)]
@@ -90,7 +87,7 @@ fn reading_line(reading: &Reading) -> Line
         Reading::Root(length, root) => {
             line.put_number(*length);
             line.put(b" ");
-            line.put_hash(root);
+            line.put_digest(root);
             line.put(b"\n");
         }
         Reading::TooLong => line.put(b"refused 10 Length\n"),

@@ -1,9 +1,9 @@
 -- What holds of each opened torrent, and what sessions stand on.
-use Rattle.std.specs.Prelude.{◌≡◌, ℕ, ◌+◌, ◌-◌, ◌^◌, ◌<◌, ◌≤◌, List, [], ◌++◌, length, replicate, Some, slice_get, ◌/◌}
-use Rattle.hashtree.specs.Tree.{block_count, height, tree, zero_hash}
+use Rattle.std.specs.Prelude.{◌≡◌, ℕ, ◌+◌, ◌-◌, ◌^◌, ◌<◌, ◌≤◌, List, [], length, Some, None, slice_get, ◌/◌}
+use Rattle.hashtree.specs.Tree.{block_count, height}
 use Rattle.metainfo.specs.Description.{Description, FileEntry, TreeEntry}
+use Rattle.metainfo.specs.Places.{AreLaidOut}
 pub use Rattle.metainfo.specs.PieceLayers.{piece_layer, root_over}
-
 
 -- a tree's length and root are in range, and its piece layer leads to its root
 pub record IsSoundTree (piece_length : ℕ) (t : TreeEntry) : Type 0 where
@@ -17,9 +17,13 @@ pub record IsSoundTree (piece_length : ℕ) (t : TreeEntry) : Type 0 where
 
 -- a file that is not empty has a tree of its length, an empty one has none
 pub record IsSoundFile (t : Description) (f : FileEntry) : Type 0 where
+  pub bound : f.length ≤ 2 ^ 46
   pub tree_there : (n : ℕ) → f.tree ≡ Some n → (e : TreeEntry) × (slice_get t.trees n ≡ Some e) × (e.length ≡ f.length)
+  pub no_tree : f.tree ≡ None → f.length ≡ 0
 
 pub record IsSound (t : Description) : Type 0 where
+  pub legal : (k : ℕ) × (14 ≤ k) × (k ≤ 30) × (t.piece_length ≡ 2 ^ k)
   pub roots_differ : (n k : ℕ) (a b : TreeEntry) → slice_get t.trees n ≡ Some a → slice_get t.trees k ≡ Some b → a.root ≡ b.root → n ≡ k
   pub trees : (n : ℕ) (e : TreeEntry) → slice_get t.trees n ≡ Some e → IsSoundTree t.piece_length e
   pub files : (n : ℕ) (f : FileEntry) → slice_get t.files n ≡ Some f → IsSoundFile t f
+  pub laid_out : AreLaidOut t.piece_length t.files

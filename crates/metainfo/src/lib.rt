@@ -2,6 +2,7 @@
 #![tactic(auto)]
 
 mod path;
+mod place;
 mod refusal;
 mod torrent;
 mod v1_feed;

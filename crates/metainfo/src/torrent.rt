@@ -70,11 +70,25 @@ impl<'a> Model for Torrent<'a> {
       info_hash_v1 = t.info_hash_v1;
       v1 = option_map version1 t.v1;
     } };
+
+    ghost use Rattle.metainfo.specs.Sound.{IsSound};
+
+    ghost invariant = { λ t. IsSound (record {
+      name = t.name.now;
+      piece_length = t.piece_length;
+      files = map file_entry t.files.items;
+      trees = map tree_entry t.trees.items;
+      info_hash_v2 = t.info_hash_v2;
+      info_hash_v1 = t.info_hash_v1;
+      v1 = option_map version1 t.v1;
+    }) };
 }
 
 impl<'a> Torrent<'a> {
-    ghost use Rattle.std.specs.Prelude.{◌≡◌, ℕ, List, map};
-    ghost use Rattle.metainfo.specs.Seen.{file_entry, tree_entry};
+    ghost use Rattle.std.specs.Prelude.{◌≡◌, ◌<◌, ℕ, List, length, map, option_map, slice_get, IfSome, Some, None};
+    ghost use Rattle.metainfo.specs.Description.{FileEntry};
+    ghost use Rattle.metainfo.specs.Seen.{file_entry, tree_entry, version1};
+    ghost use Rattle.metainfo.specs.Sound.{IsSound};
 
     /// The display name.
     pub fn name(&self) -> &'a str
@@ -102,5 +116,41 @@ impl<'a> Torrent<'a> {
         ensures { map tree_entry result.now ≡ self.now.trees }
     {
         &self.trees
+    }
+
+    /// The SHA-256 digest of the info dictionary's bytes as found (BEP 52, "infohash").
+    pub fn info_hash_v2(&self) -> Hash
+        ensures { result ≡ self.now.info_hash_v2 }
+    {
+        self.info_hash_v2
+    }
+
+    /// The SHA-1 digest of the info dictionary's bytes as found (BEP 3), computed for every torrent.
+    pub fn info_hash_v1(&self) -> [u8; 20]
+        ensures { result ≡ self.now.info_hash_v1 }
+    {
+        self.info_hash_v1
+    }
+
+    /// The version 1 part; `None` where the torrent is no hybrid.
+    pub fn v1(&self) -> Option<&V1<'a>>
+        ensures { option_map (λ v. version1 v.now) result ≡ self.now.v1 }
+    {
+        self.v1.as_ref()
+    }
+
+    /// The number of the file's tree; `None` for an empty file alone.
+    pub fn tree_of(&self, file: usize) -> Option<usize>
+        requires { file < length self.now.files }
+        ensures { (f : FileEntry) → slice_get self.now.files file ≡ Some f → result ≡ f.tree }
+    {
+        self.files[file].tree
+    }
+
+    /// What holds of every torrent.
+    pub fn sound(&self)
+        ensures { IsSound self.now }
+    {
+        let _ = &self.name;
     }
 }

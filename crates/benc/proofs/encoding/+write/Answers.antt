@@ -3,7 +3,7 @@ use Rattle.std.proofs.lemmas.List.{drop_more, append-nil}
 use Rattle.std.proofs.Math.ListN.{drop_of_length-le}
 use Rattle.std.proofs.lemmas.Result.{err_from_is_err_and}
 use Rattle.benc.specs.Spelling.{string}
-use Rattle.benc.specs.Canonical.{spelling, items_spelling, pairs_spelling}
+use Rattle.benc.specs.Text.{spelling, items_spelling, pairs_spelling}
 use Rattle.benc.specs.View.{Seen, view, items_view, pairs_view}
 use Rattle.benc.specs.declared.value.Value.{Value}
 use Rattle.benc.specs.declared.value.Pair.{Pair}

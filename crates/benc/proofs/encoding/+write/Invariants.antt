@@ -1,6 +1,6 @@
 use Rattle.std.proofs.Common.{◌≡◌, ℕ, List, ◌++◌, ◌∷◌, drop}
 use Rattle.std.specs.Io.KnownBytes.{Appends}
-use Rattle.benc.specs.Canonical.{items_spelling, pairs_spelling}
+use Rattle.benc.specs.Text.{items_spelling, pairs_spelling}
 use Rattle.benc.specs.View.{items_view, pairs_view}
 use Rattle.benc.proofs.encoding.+write.Given as goal
 

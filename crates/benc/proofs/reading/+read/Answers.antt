@@ -1,4 +1,4 @@
-use Rattle.std.proofs.Common.{◌≡◌, ◌-◌, length, [], ◌∷◌, ◌++◌, None, Ok, Err, option_copied, sym, ap, subst, ◌∙◌, arith, rules}
+use Rattle.std.proofs.Common.{◌≡◌, ◌-◌, length, take, [], ◌∷◌, ◌++◌, None, Ok, Err, option_copied, sym, ap, subst, ◌∙◌, arith, rules}
 use Rattle.std.specs.Int.{w64}
 use Rattle.std.proofs.lemmas.Int.{to_z-of_z}
 use Rattle.std.proofs.lemmas.Result.{err_from_is_err_and}
@@ -6,6 +6,11 @@ use Rattle.benc.specs.Value.{int, text, list, dict}
 use Rattle.benc.specs.View.{view}
 use Rattle.benc.specs.Table.{key_at}
 use Rattle.benc.specs.Reading.{◌>>=◌, begun_at, value_at, items_at, pairs_at}
+use Rattle.benc.specs.Text.{spelling}
+use Rattle.benc.specs.Spelling.{Spelled}
+use Rattle.benc.proofs.Sound.{taken, value_takes}
+use Rattle.benc.proofs.Texts.{spelled_is}
+use Rattle.benc.proofs.Lookups.{span_push}
 use Rattle.benc.proofs.Turns.{with_items, with_pairs, items_short, items_end, items_more, items_fail, pairs_short, pairs_end, pairs_more, pairs_no_key, pairs_fail}
 use Rattle.benc.proofs.Values.{value_none, value_integer, value_items, value_pairs, list_too_deep, dict_too_deep, value_text, value_other, view-Int, view-Bytes, view-List, view-Dict, view-Pair, fails_on}
 use Rattle.benc.specs.declared.value.Pair.{Pair}
@@ -111,23 +116,23 @@ items-returns-in_err-item-clause-read t c =
 pub pairs-returns-in_default-clause-read : goal.pairs-returns-in_default-clause-read
 pairs-returns-in_default-clause-read t c =
     let l = c.pairs in
-    sym l.invariant.3 ∙ pairs_short (value_at c.args.room) l.invariant.0 (option_copied l.before) l.rest.now l.found.items c.in_default.ensures
+    sym l.invariant.read.3 ∙ pairs_short (value_at c.args.room) l.invariant.read.0 (option_copied l.before) l.rest.now l.found.items c.in_default.ensures
 
 pub pairs-returns-then-first-eq101-clause-read : goal.pairs-returns-then-first-eq101-clause-read
 pairs-returns-then-first-eq101-clause-read t c =
     let l = c.pairs in
     let p = value_at c.args.room in
     let rest = c.in-Some.after.now in
-    sym l.invariant.3 ∙ ap (λ b. with_pairs l.found.items (pairs_at p l.invariant.0 (option_copied l.before) b)) c.in-Some.ensures
-    ∙ pairs_end p l.invariant.0 c.in-Some.first (option_copied l.before) rest l.found.items (omega (arith, l.invariant.1, ap length c.in-Some.ensures)) (omega arith)
+    sym l.invariant.read.3 ∙ ap (λ b. with_pairs l.found.items (pairs_at p l.invariant.read.0 (option_copied l.before) b)) c.in-Some.ensures
+    ∙ pairs_end p l.invariant.read.0 c.in-Some.first (option_copied l.before) rest l.found.items (omega (arith, l.invariant.read.1, ap length c.in-Some.ensures)) (omega arith)
 
 pub pairs-returns-in-Err-clause-read : goal.pairs-returns-in-Err-clause-read
 pairs-returns-in-Err-clause-read t c =
     let l = c.pairs in
     let p = value_at c.args.room in
     let rest = c.in-Some.after.now in
-    sym l.invariant.3 ∙ ap (λ b. with_pairs l.found.items (pairs_at p l.invariant.0 (option_copied l.before) b)) c.in-Some.ensures
-    ∙ pairs_no_key p l.invariant.0 c.in-Some.first (option_copied l.before) rest l.found.items c.in-Err.kind (omega (arith, l.invariant.1, ap length c.in-Some.ensures)) c.if-first-eq101.false
+    sym l.invariant.read.3 ∙ ap (λ b. with_pairs l.found.items (pairs_at p l.invariant.read.0 (option_copied l.before) b)) c.in-Some.ensures
+    ∙ pairs_no_key p l.invariant.read.0 c.in-Some.first (option_copied l.before) rest l.found.items c.in-Err.kind (omega (arith, l.invariant.read.1, ap length c.in-Some.ensures)) c.if-first-eq101.false
     (subst (λ b. key_at (option_copied l.before) b ≡ Err c.in-Err.kind) c.in-Some.ensures c.in-Err.ensures.read) ∙ ap (λ b. Err (c.in-Err.kind, b)) (sym c.in-Some.ensures)
 
 pub pairs-returns-in_err-item-clause-read : goal.pairs-returns-in_err-item-clause-read
@@ -139,15 +144,15 @@ pairs-returns-in_err-item-clause-read t c =
     let p = err_from_is_err_and c.from_residual.result c.from_residual.ensures.1 in
     let key = subst (λ b. key_at (option_copied l.before) b ≡ Ok (k.0.now, k.1.now)) c.in-Some.ensures c.in-Ok.ensures.read in
     rw (p.1, p.2) (fails_on e (value_at room k.1.now) (pairs_at (value_at room) (length c.args.bytes.now) None c.args.bytes.now)
-    (λ f h. sym l.invariant.3 ∙ ap (λ b. with_pairs l.found.items (pairs_at (value_at room) l.invariant.0 (option_copied l.before) b)) c.in-Some.ensures
-    ∙ pairs_fail (value_at room) l.invariant.0 c.in-Some.first (option_copied l.before) c.in-Some.after.now k.1.now k.0.now l.found.items f (omega (arith, l.invariant.1, ap length c.in-Some.ensures)) c.if-first-eq101.false key h)
+    (λ f h. sym l.invariant.read.3 ∙ ap (λ b. with_pairs l.found.items (pairs_at (value_at room) l.invariant.read.0 (option_copied l.before) b)) c.in-Some.ensures
+    ∙ pairs_fail (value_at room) l.invariant.read.0 c.in-Some.first (option_copied l.before) c.in-Some.after.now k.1.now k.0.now l.found.items f (omega (arith, l.invariant.read.1, ap length c.in-Some.ensures)) c.if-first-eq101.false key h)
     c.in_err-item.ensures.read)
 
 pub pairs-pairs-preserved : goal.pairs-pairs-preserved
 pairs-pairs-preserved t c =
     let l = c.pairs in
     let p = value_at c.args.room in
-    let n = l.invariant.0 in
+    let n = l.invariant.read.0 in
     let rest = c.in-Some.after.now in
     let k = c.in-Ok.x in
     let size = ap length c.in-Some.ensures in
@@ -155,12 +160,20 @@ pairs-pairs-preserved t c =
     let v = c.in_ok-item.item in
     let x : Pair = record { key = k.0; value = v } in
     let pushed : c.push.new.self.items ≡ l.found.items ++ x ∷ [] = search rules in
-    let more = pairs_more p n c.in-Some.first (option_copied l.before) rest k.1.now c.in_ok-item.after.now k.0.now (view v) l.found.items x (view-Pair k.0 v) (omega (arith, l.invariant.1)) c.if-first-eq101.false key c.in_ok-item.ensures.read in (
-      n - 1,
-      omega (arith, l.invariant.1, c.in_ok-item.ensures.shorter, c.in-Ok.ensures.shorter),
-      omega (arith, l.invariant.2, c.in_ok-item.ensures.shorter, c.in-Ok.ensures.shorter),
-      rw (pushed, ← more, ← c.in-Some.ensures) l.invariant.3,
-    )
+    let more = pairs_more p n c.in-Some.first (option_copied l.before) rest k.1.now c.in_ok-item.after.now k.0.now (view v) l.found.items x (view-Pair k.0 v) (omega (arith, l.invariant.read.1)) c.if-first-eq101.false key c.in_ok-item.ensures.read in
+    let behind = k.1.now in
+    let after = c.in_ok-item.after.now in
+    let given = take (length behind - length after) behind in
+    let whole : given ≡ spelling (view v) = spelled_is c.args.room (view v) given (taken (Spelled c.args.room) behind (view v) after (value_takes c.args.room behind (view v, after) c.in_ok-item.ensures.read)) in
+    record {
+      read = (
+        n - 1,
+        omega (arith, l.invariant.read.1, c.in_ok-item.ensures.shorter, c.in-Ok.ensures.shorter),
+        omega (arith, l.invariant.read.2, c.in_ok-item.ensures.shorter, c.in-Ok.ensures.shorter),
+        rw (pushed, ← more, ← c.in-Some.ensures) l.invariant.read.3,
+      );
+      span = span_push (option_copied c.args.asked) l.span c.if_asked.result c.or-span.result l.found.items c.push.new.self.items x k.0.now (view v) given pushed (view-Pair k.0 v) l.invariant.span c.if_asked.ensures whole c.or-span.ensures;
+    }
 
 pub items-returns-then-first-eq101-clause-read : goal.items-returns-then-first-eq101-clause-read
 items-returns-then-first-eq101-clause-read t c =

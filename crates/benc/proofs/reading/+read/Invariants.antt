@@ -1,5 +1,9 @@
 use Rattle.std.proofs.Common.{◌≡◌, ℕ, ◌≤◌, ◌+◌, ◌*◌, length, None}
-use Rattle.std.specs.Option.{option_copied}
+use Rattle.std.specs.Prelude.{IfSome}
+use Rattle.std.specs.Option.{option_copied, option_map}
+use Rattle.benc.specs.Lookup.{under}
+use Rattle.benc.specs.Text.{spelling}
+use Rattle.benc.specs.View.{pairs_view}
 use Rattle.benc.specs.Reading.{value_at, items_at, pairs_at}
 use Rattle.benc.proofs.Turns.{with_items, with_pairs}
 use Rattle.benc.proofs.reading.+read.Given as goal
@@ -22,9 +26,11 @@ abbrev pub decreases-items-items : goal.decreases-items-items
 decreases-items-items l = length l.rest
 
 abbrev pub invariant-pairs-pairs : goal.invariant-pairs-pairs
-invariant-pairs-pairs l =
-    (n : ℕ) × (length l.rest ≤ n) × (length l.rest ≤ length l.bytes)
-    × (with_pairs l.found.items (pairs_at (value_at l.room) n (option_copied l.before) l.rest) ≡ pairs_at (value_at l.room) (length l.bytes) None l.bytes)
+invariant-pairs-pairs l = record {
+  read : (n : ℕ) × (length l.rest ≤ n) × (length l.rest ≤ length l.bytes)
+      × (with_pairs l.found.items (pairs_at (value_at l.room) n (option_copied l.before) l.rest) ≡ pairs_at (value_at l.room) (length l.bytes) None l.bytes);
+  span : IfSome (option_copied l.asked) (λ key. option_copied l.span ≡ option_map spelling (under key (pairs_view l.found.items)));
+}
 
 abbrev pub decreases-pairs-pairs : goal.decreases-pairs-pairs
 decreases-pairs-pairs l = length l.rest

@@ -12,7 +12,7 @@ returns-in-Empty c = λ file is.
 pub returns-in-Root : goal.returns-in-Root
 returns-in-Root c = λ file is.
     c.put-in-Root-2.ensures.text
-    ∙ ap (λ t. t ++ codes "\n") (c.put_hash.ensures.text
+    ∙ ap (λ t. t ++ codes "\n") (c.put_digest.ensures.text
     ∙ ap (λ t. t ++ encode_lower c.in-Root.root) (c.put-in-Root.ensures.text
     ∙ ap (λ t. t ++ codes " ") (c.put_number.ensures.text ∙ ap (λ t. t ++ decimal c.in-Root.length) c.new-line.ensures)))
     ∙ sym (line_root file c.in-Root.length c.in-Root.root (subst (IsReadingOf file) c.in-Root.is is))

@@ -5,7 +5,7 @@ use Rattle.std.proofs.Common.{refl, subst}
 use Rattle.benc.specs.Reading.{Failed, Fails, value_at}
 use Rattle.benc.proofs.Faults.{value_stops, stops_from}
 use Rattle.benc.proofs.Again.{only_reading, never_fails}
-use Rattle.benc.proofs.decoding.decode_front.Goals as goal
+use Rattle.benc.proofs.decoding.read_front.Goals as goal
 
 pub returns-in-Ok-clause-found : goal.returns-in-Ok-clause-found
 returns-in-Ok-clause-found c =

@@ -2,7 +2,7 @@ use Rattle.std.proofs.Common.{[], take, drop, refl, sym, inr, arith}
 use Rattle.std.proofs.lemmas.List.{append-nil, take-append-drop, length-take, length-drop}
 use Rattle.std.proofs.lemmas.Result.{err_from_is_err_and}
 use Rattle.benc.specs.View.{view}
-use Rattle.benc.proofs.decoding.decode.Goals as goal
+use Rattle.benc.proofs.decoding.read_whole.Goals as goal
 
 pub returns-then-used-input-clause-fault : goal.returns-then-used-input-clause-fault
 returns-then-used-input-clause-fault c known =

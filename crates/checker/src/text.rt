@@ -1,0 +1,73 @@
+//! Names and paths as they are printed, and how a text goes out.
+ghost use Rattle.std.specs.Prelude.{◌≡◌, ℕ, List, length, map, Option, OnOk, true};
+ghost use Rattle.benc.specs.Device.{Wrote};
+ghost use Rattle.checker.specs.Text.{escape_of, escaped, is_special, path_text};
+
+use benc::{DeviceFault, Sink, WriteFault, write_all};
+use std::convert::AsStr;
+
+/// Writes a text as it is.
+pub fn write_text<W: Sink>(out: &mut W, text: &[u8]) -> Result<(), DeviceFault>
+    ensures { Wrote result (W.written out.old) (W.written out.new) (W.faults out.old) (W.faults out.new) text.now }
+{
+    write_all(out, text)
+}
+
+// Whether a byte is not printed as it stands.
+fn is_special(byte: u8) -> bool
+    ensures { result ≡ is_special byte }
+{
+    byte < 0x20 || byte == 0x7f || byte == b'\\'
+}
+
+// `\x` and two digits.
+fn escape(byte: u8) -> [u8; 4]
+    requires { is_special byte ≡ true }
+    ensures { result ≡ escape_of byte }
+{
+    let mut digits = [0u8; 2];
+    let _ = hex::encode_to_slice(&[byte], &mut digits);
+    [b'\\', b'x', digits[0], digits[1]]
+}
+
+/// Writes a text as it is printed: the bytes below 0x20, 0x7F and the backslash as `\x` and two hexadecimal digits,
+/// and between these all bytes as they are.
+pub fn write_escaped<W: Sink>(out: &mut W, text: &[u8]) -> Result<(), DeviceFault>
+    ensures { Wrote result (W.written out.old) (W.written out.new) (W.faults out.old) (W.faults out.new) (escaped text.now) }
+{
+    let mut start = 0;
+    'bytes: for i in 0..text.len() {
+        if is_special(text[i]) {
+            write_text(out, &text[start..i])?;
+            write_text(out, &escape(text[i]))?;
+            start = i + 1;
+        }
+    }
+    write_text(out, &text[start..])
+}
+
+/// Writes a path as it is printed: its components, joined by `/`.
+pub fn write_path<W: Sink, S: AsStr>(out: &mut W, path: &[S]) -> Result<(), DeviceFault>
+    ensures { Wrote result (W.written out.old) (W.written out.new) (W.faults out.old) (W.faults out.new) (path_text (map S.text path.now)) }
+{
+    let Some((first, others)) = path.split_first() else {
+        return Ok(());
+    };
+    write_escaped(out, first.as_str().as_bytes())?;
+    'parts: for part in others {
+        write_text(out, b"/")?;
+        write_escaped(out, part.as_str().as_bytes())?;
+    }
+    Ok(())
+}
+
+/// Flushes where all was written.
+pub fn flush_after<W: Sink>(out: &mut W, written: Result<(), DeviceFault>) -> Result<(), WriteFault>
+    ensures wrote { (start : Option (List ℕ)) (count : ℕ) (text : List ℕ) → Wrote written start (W.written out.old) count (W.faults out.old) text
+        → Wrote result start (W.written out.new) count (W.faults out.new) text }
+    ensures flushed { OnOk result (W.is_flushed out.new ≡ true) }
+{
+    written?;
+    out.flush()?;
+    Ok(())
+}
