@@ -11,3 +11,5 @@ pub mod Reports
 pub mod Layers
 pub mod Pieces
 pub mod Escapes
+pub mod Replaying
+pub mod SafeSteps

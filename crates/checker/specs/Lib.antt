@@ -11,3 +11,7 @@ pub mod Pass
 pub mod Text
 pub mod Refused
 pub mod Show
+pub mod ReplayLines
+pub mod Outcome
+pub mod SafeStep
+pub mod Replay

@@ -9,7 +9,16 @@ mod report;
 mod root;
 mod shelf;
 mod stream;
+mod ending;
+mod frame_line;
+mod line;
+mod listing;
+mod outcome;
+mod record;
+mod refused;
+mod root;
 mod text;
+mod told;
 
 pub use checking::check;
 pub use listing::show;
@@ -17,6 +26,13 @@ pub use refused::refusal_line;
 pub use report::{FileVerdict, Report, V1Verdict};
 pub use root::{RootFault, root_line};
 pub use shelf::Shelf;
+pub use ending::Ending;
+pub use listing::show;
+pub use outcome::Outcome;
+pub use record::replay;
+pub use refused::refusal_line;
+pub use root::{RootFault, root_line};
+pub use told::Told;
 
 #[cfg(test)]
 mod tests;

@@ -66,7 +66,7 @@ pub fn root_line<R: Source, W: Sink>(source: &mut R, out: &mut W) -> Result<bool
 }
 
 // Writes these bytes and flushes.
-fn write_line<W: Sink>(out: &mut W, bytes: &[u8]) -> Result<(), DeviceFault>
+pub fn write_line<W: Sink>(out: &mut W, bytes: &[u8]) -> Result<(), DeviceFault>
     ensures ok { OnOk result (Appends (W.written out.old) (W.written out.new) bytes.now) }
     ensures flushed { OnOk result (W.is_flushed out.new ≡ true) }
     ensures err { OnErr result (AppendsBeginning (W.written out.old) (W.written out.new) bytes.now) }

@@ -1,0 +1,18 @@
+use Rattle.std.proofs.Common.{◌≡◌}
+use Rattle.wire.specs.declared.reader.State.TheVariants as state
+use Rattle.checker.proofs.Replaying.{InReplay}
+use Rattle.checker.proofs.record.replay_frames.Given as goal
+
+abbrev pub invariant-frames : goal.invariant-frames
+invariant-frames g l = record {
+  same_source : l.reader.source.ghost_name ≡ l.fn.reader.source.ghost_name;
+  going : l.reader.state ≡ state.Open;
+  layout : g.N.Stepper.layout l.session ≡ g.N.Stepper.layout l.fn.session;
+  counted : g.W.Sink.faults l.report ≡ g.W.Sink.faults l.fn.report;
+  so_far : InReplay g.R.Source.left g.R.Source.limit g.R.Source.faults l.fn.reader.source.now l.reader.source.now
+      (g.N.Stepper.layout l.fn.session) (g.N.Stepper.state l.fn.session) (g.N.Stepper.state l.session)
+      (g.W.Sink.written l.fn.report) (g.W.Sink.written l.report) l.number l.outcome;
+}
+
+abbrev pub decreases-frames : goal.decreases-frames
+decreases-frames g l = g.R.Source.limit l.reader.source.now

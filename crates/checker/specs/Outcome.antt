@@ -1,0 +1,37 @@
+-- What the lines of a replay's report amount to.
+use Rattle.std.specs.Prelude.{Bool, true, false, List}
+use Rattle.std.specs.List.{list_any}
+use Rattle.session.specs.declared.refusal.HashRefusal.{HashRefusal}
+use Rattle.session.specs.declared.refusal.HashRefusal.TheVariants.{NoMemory}
+use Rattle.session.specs.declared.verdict.Verdict.{Verdict}
+use Rattle.session.specs.declared.verdict.Verdict.TheVariants as verdict
+use Rattle.checker.specs.declared.told.Told.{Told}
+use Rattle.checker.specs.declared.told.Told.TheVariants as told
+use Rattle.checker.specs.declared.ending.Ending.{Ending}
+use Rattle.checker.specs.declared.ending.Ending.TheVariants as ending
+use Rattle.checker.specs.declared.outcome.Outcome.{Outcome}
+
+-- the line has `refused` or `bad frame`
+abbrev pub is_refusal : Told → Bool
+is_refusal (told.Verdict (verdict.HashRefused r)) = true
+is_refusal (told.Verdict (verdict.BlockRefused r)) = true
+is_refusal (told.BadFrame id len) = true
+is_refusal t = false
+
+-- the line has `refused H7`
+abbrev pub is_no_memory : Told → Bool
+is_no_memory (told.Verdict (verdict.HashRefused NoMemory)) = true
+is_no_memory t = false
+
+-- the last line has `fault`
+abbrev pub is_fault : Ending → Bool
+is_fault ending.End = false
+is_fault (ending.Fault why) = true
+
+-- what all the lines amount to
+abbrev pub outcome_of : List Told → Ending → Outcome
+outcome_of lines last = record {
+  refused = list_any is_refusal lines;
+  no_memory = list_any is_no_memory lines;
+  fault = is_fault last;
+}

@@ -1,0 +1,36 @@
+//! What the lines of a replay's report amount to.
+ghost use Rattle.std.specs.Prelude.{◌≡◌, ◌||◌, Bool};
+ghost use Rattle.checker.specs.Outcome.{is_refusal, is_no_memory};
+
+use crate::told::Told;
+use session::{HashRefusal, Verdict};
+
+/// What the lines of a replay's report amount to.
+#[derive(Clone, Copy, Debug, Default, PartialEq, Eq)]
+pub struct Outcome {
+    /// A line tells of a refusal, one for want of memory too, or of a bad frame.
+    pub refused: bool,
+    /// A line tells that hashes were refused for want of memory.
+    pub no_memory: bool,
+    /// The last line tells of a fault.
+    pub fault: bool,
+}
+
+impl Outcome {
+    /// With the line of one more frame.
+    pub fn note(&mut self, told: &Told)
+        ensures refused { self.new.refused ≡ (self.old.refused || is_refusal told.now) }
+        ensures no_memory { self.new.no_memory ≡ (self.old.no_memory || is_no_memory told.now) }
+        ensures fault { self.new.fault ≡ self.old.fault }
+    {
+        match told {
+            Told::Verdict(Verdict::HashRefused(HashRefusal::NoMemory)) => {
+                self.refused = true;
+                self.no_memory = true;
+            }
+            Told::Verdict(Verdict::HashRefused(_) | Verdict::BlockRefused(_))
+            | Told::BadFrame { .. } => self.refused = true,
+            Told::Verdict(_) => {}
+        }
+    }
+}

@@ -1,0 +1,16 @@
+//! What a replay tells of one frame of a record.
+use session::Verdict;
+
+/// What a replay tells of one frame of a record.
+#[derive(Clone, Copy, Debug, PartialEq, Eq)]
+pub enum Told {
+    /// The session's verdict on the frame's message.
+    Verdict(Verdict),
+    /// The frame has the id of a message that is read, and another size: it holds no message.
+    BadFrame {
+        /// The id, the body's first byte.
+        id: u8,
+        /// The length of the body in bytes, its id counted.
+        len: u32,
+    },
+}
