@@ -2,13 +2,6 @@
 #![tactic(auto)]
 
 mod checking;
-mod line;
-mod listing;
-mod refused;
-mod report;
-mod root;
-mod shelf;
-mod stream;
 mod ending;
 mod frame_line;
 mod line;
@@ -16,22 +9,22 @@ mod listing;
 mod outcome;
 mod record;
 mod refused;
+mod report;
 mod root;
+mod shelf;
+mod stream;
 mod text;
 mod told;
 
 pub use checking::check;
-pub use listing::show;
-pub use refused::refusal_line;
-pub use report::{FileVerdict, Report, V1Verdict};
-pub use root::{RootFault, root_line};
-pub use shelf::Shelf;
 pub use ending::Ending;
 pub use listing::show;
 pub use outcome::Outcome;
 pub use record::replay;
 pub use refused::refusal_line;
+pub use report::{FileVerdict, Report, V1Verdict};
 pub use root::{RootFault, root_line};
+pub use shelf::Shelf;
 pub use told::Told;
 
 #[cfg(test)]
