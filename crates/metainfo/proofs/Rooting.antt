@@ -12,7 +12,10 @@ use Rattle.std.proofs.lemmas.Option.{slice_get_within, slice_get-map, slice_get_
 use Rattle.std.proofs.lemmas.Slice.Eq.{bytes_eq-Decides}
 use Rattle.metainfo.specs.FileTree.{Listed}
 use Rattle.metainfo.specs.Trees.{Root, IsIn, place_in, with_root, with_file, roots_in, IsReused, pieces_of, pieces_in}
-use Rattle.metainfo.specs.Rooted.{IsRootAt, AreRoots, leaf}
+use Rattle.metainfo.specs.Rooted.{IsRootAt, AreRoots, leaf, entries_from}
+use Rattle.metainfo.specs.Description.{FileEntry}
+use Rattle.std.specs.Prelude.{option_and_then}
+use Rattle.std.proofs.Common.{append_assoc}
 use Rattle.metainfo.specs.declared.files.Leaf.{Leaf}
 use Rattle.std.proofs.lemmas.List.{drop_more, drop_all, take_more, map-append, take-append-drop}
 use Rattle.std.proofs.lemmas.List.Sums.{sum_by-cons}
@@ -233,3 +236,10 @@ none_left (Some s) h = absurd (h s refl)
 pub some_files : (xs : List Leaf) (b : Bool) → b ≡ (length xs == 0) → b ≡ false → map leaf xs ≡ [] → ⊥
 some_files [] b is no_file e = cc
 some_files (x ∷ xs) b is no_file e = cc
+
+-- one file more in the list
+pub files_step : (p : ℕ) (ts : List Root) (all rest : List Listed) (es : List FileEntry) (first next : ℕ) (f : Listed) (e : FileEntry)
+    → record { path = f.path; length = f.size; tree = option_and_then (place_in ts) f.root; first_piece = first } ≡ e → first + pieces_of p f.size ≡ next
+    → entries_from p ts 0 all ≡ es ++ entries_from p ts first (f ∷ rest) → entries_from p ts 0 all ≡ (es ++ e ∷ []) ++ entries_from p ts next rest
+files_step p ts all rest es first next f e is more h =
+    h ∙ ap (λ (x : FileEntry). es ++ x ∷ entries_from p ts (first + pieces_of p f.size) rest) is ∙ ap (λ n. es ++ e ∷ entries_from p ts n rest) more ∙ sym (append_assoc es (e ∷ []) (entries_from p ts next rest))

@@ -4,7 +4,9 @@ use Rattle.std.specs.BTreeMap as tree
 use Rattle.std.specs.Cmp.Lexicographic.{slice_cmp}
 use Rattle.std.specs.Ordering.{nat_cmp}
 use Rattle.metainfo.specs.FileTree.{Listed}
-use Rattle.metainfo.specs.Trees.{Root, IsIn, place_in, roots_in, pieces_in}
+use Rattle.metainfo.specs.Description.{FileEntry}
+use Rattle.std.specs.Prelude.{◌+◌, [], ◌∷◌, option_and_then}
+use Rattle.metainfo.specs.Trees.{pieces_of, Root, IsIn, place_in, roots_in, pieces_in}
 use Rattle.metainfo.specs.declared.files.Leaf.{Leaf}
 use Rattle.metainfo.specs.declared.trees.Rooted.{Rooted}
 use Rattle.metainfo.specs.declared.trees.Roots.{Roots}
@@ -41,3 +43,10 @@ pub record AreTrees (piece_length : ℕ) (fs : List Listed) (r : Roots) : Type 0
   pub numbered : IsNumbered r
   pub roots : AreRoots fs (roots_seen r)
   pub pieces : pieces_in piece_length fs < 2 ^ 32
+
+-- the files from this piece on, one after the other
+abbrev pub entries_from : ℕ → List Root → ℕ → List Listed → List FileEntry
+entries_from piece_length ts first [] = []
+entries_from piece_length ts first (f ∷ fs) =
+    record { path = f.path; length = f.size; tree = option_and_then (place_in ts) f.root; first_piece = first }
+    ∷ entries_from piece_length ts (first + pieces_of piece_length f.size) fs

@@ -3,12 +3,14 @@
 ghost use Rattle.std.specs.Prelude.{◌≡◌, ◌≢◌, ◌<◌, ◌≤◌, ◌^◌, ℕ, List, [], map, length, Option, Some, None, Result, Ok, Err, MatchResult, slice_get};
 ghost use Rattle.metainfo.specs.FileTree.{Listed};
 ghost use Rattle.metainfo.specs.Refusals.{count_rows};
-ghost use Rattle.metainfo.specs.Rooted.{leaf, roots_seen, IsNumbered, IsRootAt, AreRoots, AreTrees};
+ghost use Rattle.metainfo.specs.Rooted.{leaf, roots_seen, IsNumbered, IsRootAt, AreRoots, AreTrees, entries_from};
+ghost use Rattle.metainfo.specs.Seen.{file_entry};
 ghost use Rattle.metainfo.specs.Steps.{Passes};
 ghost use Rattle.metainfo.specs.Trees.{Root, place_in, with_root, roots_in, IsReused, pieces_in, pieces_of};
 
 use crate::files::Leaf;
 use crate::refusal::Refusal;
+use crate::torrent::File;
 use hashtree::Hash;
 use std::alloc::Global;
 use std::collections::BTreeMap;
@@ -104,4 +106,34 @@ pub(crate) fn roots_of(
     }
     test_pieces(leaves, piece_length)?;
     Ok(roots)
+}
+
+/// The files, each with the place of its tree and its first piece.
+pub(crate) fn files<'a>(
+    alloc: Global,
+    leaves: Vec<Leaf<'a>>,
+    roots: &Roots,
+    piece_length: u64,
+) -> Result<Vec<File<'a>>, Refusal>
+    requires some { 0 < piece_length }
+    requires pieces { pieces_in piece_length (map leaf leaves.items) < 2 ^ 32 }
+    ensures { IsNumbered roots.now → MatchResult result (λ fs. map file_entry fs.items ≡ entries_from piece_length (roots_seen roots.now) 0 (map leaf leaves.entry.items)) (λ r. r ≡ Refusal.NoMemory) }
+{
+    let mut files = Vec::with_capacity(alloc, leaves.len())?;
+    let mut first_piece = 0u64;
+    'leaves: for leaf in leaves {
+        let Leaf { path, length, root } = leaf;
+        let tree = match root {
+            Some(root) => roots.numbers.get(&root).copied(),
+            None => None,
+        };
+        files.push(File {
+            path,
+            length,
+            tree,
+            first_piece,
+        })?;
+        first_piece = first_piece.saturating_add(pieces_of(length, piece_length));
+    }
+    Ok(files)
 }
