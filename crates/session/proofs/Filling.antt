@@ -120,10 +120,12 @@ module _ (t : TreeRoot) (K : PartialTree) (l : ℕ) (hashes : List Hash) (layer_
   root-claimed root =
       let none_above : tree_height t.length - l ≡ 0 = omega arith in
       let one : 2 ^ (tree_height t.length - l) ≡ 1 = ap (λ j. 2 ^ j) none_above in
-      let count : length (fill_hashes t l hashes) ≡ 2 ^ (tree_height t.length - l) = full in
-      (get_or (fill_hashes t l hashes) 0 [], claims-given (fill_ask t l) (fill_hashes t l hashes) (tree_height t.length) 0 _
-      (first_of_two _ _ _ (cond-true _ _ _ (and_from _ _ (eq-eqb (tree_height t.length) l (sym root)) (and_from _ _ (le-leb 0 0 (omega arith)) (lt-ltb 0 (0 + 2 ^ (tree_height t.length - l)) (omega arith))))
-      ∙ slice_get-get_or (fill_hashes t l hashes) 0 [] (omega arith))))
+      let count : length (fill_hashes t l hashes) ≡ 2 ^ (tree_height t.length - l) = full in (
+        get_or (fill_hashes t l hashes) 0 [],
+        claims-given (fill_ask t l) (fill_hashes t l hashes) (tree_height t.length) 0 _
+            (first_of_two _ _ _ (cond-true _ _ _ (and_from _ _ (eq-eqb (tree_height t.length) l (sym root)) (and_from _ _ (le-leb 0 0 (omega arith)) (lt-ltb 0 (0 + 2 ^ (tree_height t.length - l)) (omega arith))))
+            ∙ slice_get-get_or (fill_hashes t l hashes) 0 [] (omega arith))),
+      )
 
   -- each layer of the tree keeps it closed
   pub fill-closed : IsClosed t K → All IsHash hashes → IsAgreed K (fill_claims t l hashes) → IsClosed t (joined K (fill_claims t l hashes))

@@ -1,10 +1,9 @@
 -- What a body that takes a whole layer stands on.
-use Rattle.std.proofs.Common.{◌≡◌, ◌≢◌, ◌⊎◌, ℕ, zero, suc, ◌+◌, ◌-◌, ◌*◌, ◌/◌, ◌%◌, ◌^◌, ◌<◌, ◌≤◌, List, [], ◌++◌, length, replicate, Option, Some, None, Result, Ok, Err, inl, inr, refl, sym, ap, ap₂, ◌∙◌, subst, arith, pow_pos, div-one, eq-or-lt_of_le, mod-eq_of_lt}
+use Rattle.std.proofs.Common.{◌≡◌, ℕ, suc, ◌+◌, ◌-◌, ◌/◌, ◌^◌, ◌<◌, ◌≤◌, List, length, Result, Ok, Err, inl, inr, sym, ap, ◌∙◌, subst, arith, pow_pos, div-one, eq-or-lt_of_le, mod-eq_of_lt}
 use Rattle.std.specs.Result.{IfOk, IfErr}
 use Rattle.std.specs.Borrow.{Bor}
 use Rattle.std.specs.FinMap.{len}
 use Rattle.std.specs.List.{All}
-use Rattle.std.proofs.lemmas.Option.{slice_get-get_or}
 use Rattle.hashtree.specs.Tree.{zero_hash}
 use Rattle.session.specs.declared.evidence.Evidence.{Evidence}
 use Rattle.session.specs.declared.refusal.HashRefusal.{HashRefusal}
@@ -12,10 +11,10 @@ use Rattle.session.specs.declared.refusal.HashRefusal.TheVariants.{UnknownRoot, 
 use Rattle.session.specs.Digest.{Hash, IsHash}
 use Rattle.session.specs.TreeRoot.{TreeRoot, tree_height}
 use Rattle.session.specs.Partial.{PartialTree, IsClosed}
-use Rattle.session.specs.Claims.{claims, top_layer, top_index}
+use Rattle.session.specs.Claims.{top_layer, top_index}
 use Rattle.session.specs.Fill.{fill_ask, fill_hashes, fill_claims, pad_from, IsFillAccepted, FillRefuses}
 use Rattle.session.specs.Known.{Known, look, Joins}
-use Rattle.session.specs.Evidence.{range_of, hashes_of, given_by, claimed_by, LiesUnder, IsPruned, LeadsTo, StoreFault}
+use Rattle.session.specs.Evidence.{LeadsTo, StoreFault}
 use Rattle.session.proofs.Known.{len-known}
 use Rattle.session.proofs.Powers.{div_small}
 use Rattle.session.proofs.Leading.{message-leads}
@@ -54,7 +53,7 @@ module _ (t : TreeRoot) (K : PartialTree) (l : ℕ) (given_hashes : Bor (List Ha
 
   -- it leads to the root
   pub layer-leads : LeadsTo layer_evidence (tree_height t.length) 0
-  layer-leads = elim (eq-or-lt_of_le layer_inside) [ | inl root ↦ of-root root | inr below ↦ below-root below ]
+  layer-leads = elim (eq-or-lt_of_le layer_inside) [ inl root ↦ of-root root | inr below ↦ below-root below ]
 
 pub filled_by : (t : TreeRoot) (l : ℕ) (hashes : List Hash) (before after : Known) (r : Result ℕ HashRefusal) → l ≤ tree_height t.length → length hashes ≡ pad_from t.length l
     → IfOk r (λ c. Joins (fill_claims t l hashes) before after c) → IfOk r (λ c. IsFillAccepted t (look before) l hashes × Joins (fill_claims t l hashes) before after c)

@@ -1,5 +1,5 @@
 -- A whole layer of a tree, given without the pads at its end.
-use Rattle.std.specs.Prelude.{◌≡◌, ◌≢◌, ℕ, ◌+◌, ◌-◌, ◌/◌, ◌^◌, ◌<◌, ◌≤◌, List, [], ◌++◌, length, replicate}
+use Rattle.std.specs.Prelude.{◌≡◌, ◌≢◌, ℕ, ◌-◌, ◌^◌, ◌<◌, ◌≤◌, List, [], ◌++◌, length, replicate}
 use Rattle.wire.specs.declared.message.Ask.{Ask}
 use Rattle.session.specs.TreeRoot.{TreeRoot, tree_height}
 use Rattle.session.specs.declared.refusal.HashRefusal.{HashRefusal}

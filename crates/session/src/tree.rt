@@ -106,7 +106,14 @@ impl<N: NodeMap> Tree<N> {
         ensures refused { IfErr result (λ r. TreeRefuses (info_of self.old) (look self.old.state.known) ask.now hashes.now r × (self.new.state.known ≡ self.old.state.known)) }
     {
         are_hashes(hashes);
-        let gained = take_message(self.alloc, self.shape, self.height, &mut self.nodes, ask, hashes)?;
+        let gained = take_message(
+            self.alloc,
+            self.shape,
+            self.height,
+            &mut self.nodes,
+            ask,
+            hashes,
+        )?;
         self.known += gained;
         Ok(gained)
     }
@@ -123,7 +130,14 @@ impl<N: NodeMap> Tree<N> {
         ensures refused { IfErr result (λ r. FillRefuses (info_of self.old) (look self.old.state.known) layer hashes.now r × (self.new.state.known ≡ self.old.state.known)) }
     {
         are_hashes(hashes);
-        let gained = fill_layer(self.alloc, self.shape, self.height, &mut self.nodes, layer, hashes)?;
+        let gained = fill_layer(
+            self.alloc,
+            self.shape,
+            self.height,
+            &mut self.nodes,
+            layer,
+            hashes,
+        )?;
         self.known += gained;
         Ok(gained)
     }
@@ -134,7 +148,12 @@ impl<N: NodeMap> Tree<N> {
     {
         match check_range(self.height, ask) {
             Err(_) => false,
-            Ok(_) => all_known(&self.nodes, ask.base, u64::from(ask.index), u64::from(ask.length)),
+            Ok(_) => all_known(
+                &self.nodes,
+                ask.base,
+                u64::from(ask.index),
+                u64::from(ask.length),
+            ),
         }
     }
 
@@ -180,8 +199,7 @@ fn all_known<N: NodeMap>(nodes: &N, layer: u32, from: u64, count: u64) -> bool
 /// Each hash has 32 bytes, as its type says.
 fn are_hashes(hashes: &[Hash])
     ensures { All (λ h. length h ≡ 32) hashes.now }
-{
-}
+{}
 
 /// Marks a known leaf, and tells how many more are marked.
 fn mark_leaf<N: NodeMap>(nodes: &mut N, block: u64) -> u64
@@ -251,7 +269,12 @@ fn pads_fit(shape: Shape, ask: &Ask, span: u32, hashes: &[Hash]) -> bool
     if !base_pads_fit(blocks, ask.base, u64::from(ask.index), base) {
         return false;
     }
-    uncle_pads_fit(blocks, ask.base + span, u64::from(ask.index) >> span, uncles)
+    uncle_pads_fit(
+        blocks,
+        ask.base + span,
+        u64::from(ask.index) >> span,
+        uncles,
+    )
 }
 
 /// Takes a whole layer into the nodes of a tree, and tells how many places are newly known.

@@ -1,7 +1,7 @@
-use Rattle.std.proofs.Common.{◌≡◌, ℕ, suc, ◌+◌, ◌^◌, ◌<◌, ◌≤◌, List, length, ◌∙◌, sym, ap, subst, arith}
+use Rattle.std.proofs.Common.{◌≡◌, ℕ, suc, ◌+◌, ◌^◌, ◌<◌, ◌≤◌, List, length, ◌∙◌, sym, subst, arith}
 use Rattle.std.specs.List.{All}
 use Rattle.std.specs.FinMap.{len}
-use Rattle.session.specs.Digest.{Hash, IsHash}
+use Rattle.session.specs.Digest.{IsHash}
 use Rattle.session.specs.TreeRoot.{TreeRoot, tree_height}
 use Rattle.session.specs.Fill.{fill_claims, IsFillAccepted}
 use Rattle.session.specs.Known.{look, Joins}
@@ -16,7 +16,7 @@ invariant_of-self g c =
     let old = c.self.inside in (
       c.fill_layer.ensures.length ∙ c.self.invariant.0,
       counted_same old.height old.known old.marked old.shape (g.N.NodeMap.known old.nodes) (g.N.NodeMap.known c.fill_layer.new.nodes) (g.N.NodeMap.marked old.nodes) (g.N.NodeMap.marked c.fill_layer.new.nodes)
-      c.self.invariant.1 (c.in_err-gained.ensures.refused old.root).1 c.fill_layer.ensures.marked,
+          c.self.invariant.1 (c.in_err-gained.ensures.refused old.root).1 c.fill_layer.ensures.marked,
     )
 
 pub overflow_add-self : goal.overflow_add-self
@@ -39,7 +39,7 @@ invariant_of-self-2 g c =
     let old = c.self.inside in (
       c.fill_layer.ensures.length ∙ c.self.invariant.0,
       counted_more old.height old.known old.marked old.shape c.in_ok-gained.gained (g.N.NodeMap.known old.nodes) (g.N.NodeMap.known c.fill_layer.new.nodes) (g.N.NodeMap.marked old.nodes) (g.N.NodeMap.marked c.fill_layer.new.nodes)
-      c.self.invariant.1 (c.in_ok-gained.ensures.filled old.root).1.gained c.fill_layer.ensures.marked,
+          c.self.invariant.1 (c.in_ok-gained.ensures.filled old.root).1.gained c.fill_layer.ensures.marked,
     )
 
 pub returns-clause-filled : goal.returns-clause-filled
