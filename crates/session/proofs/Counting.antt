@@ -1,21 +1,21 @@
 -- The counts that a tree keeps beside its nodes.
-use Rattle.std.proofs.Common.{◌≡◌, ℕ, zero, suc, ◌+◌, ◌-◌, ◌^◌, ◌<◌, ◌≤◌, Bool, true, false, cond, ltb, ◌&&◌, ◌||◌, List, length, map, get_or, is_some, Some, None, inl, inr, refl, sym, ap, ap₂, ◌∙◌, subst, arith}
+use Rattle.std.proofs.Common.{◌≡◌, ℕ, zero, suc, ◌+◌, ◌-◌, ◌^◌, ◌<◌, ◌≤◌, Bool, true, false, cond, ltb, ◌&&◌, List, map, get_or, is_some, inl, inr, refl, sym, ap, ◌∙◌, subst, arith}
 use Rattle.std.specs.List.{range_with_len}
 use Rattle.std.specs.FinMap as map
 use Rattle.std.specs.FinMap.{insert, empty, len-insert, len-empty, get-empty}
 use Rattle.std.specs.FinSet as set
-use Rattle.std.specs.FinSet.{same_set, contains-insert, nat_cmp-IsAntisymmetric}
-use Rattle.std.specs.Ordering.{nat_cmp, eq_by_cmp}
+use Rattle.std.specs.FinSet.{same_set, nat_cmp-IsAntisymmetric}
+use Rattle.std.specs.Ordering.{nat_cmp}
 use Rattle.std.specs.Cmp.{nat_cmp_total}
-use Rattle.std.proofs.lemmas.Bool.{cases_lt, cases_eq, cases_Bool, or_left, and_left, lt-ltb, le-ltb, eqb-true, eq-eqb}
+use Rattle.std.proofs.lemmas.Bool.{cases_lt, and_left, lt-ltb, le-ltb}
 use Rattle.std.proofs.lemmas.List.FromFn.{get_or-map-range_with_len}
 use Rattle.session.specs.Digest.{Hash}
 use Rattle.session.specs.TreeRoot.{tree_height}
 use Rattle.session.specs.Partial.{IsPlace}
 use Rattle.session.specs.Known.{Known, Marked, place_cmp}
-use Rattle.session.specs.Kept.{KeptTree, IsCounted, IsGoodTree, info_of}
+use Rattle.session.specs.Kept.{KeptTree, IsCounted, IsGoodTree}
 use Rattle.session.specs.Flat.{marks_below}
-use Rattle.session.proofs.Known.{place_total, nat_equal}
+use Rattle.session.proofs.Known.{place_total}
 use Rattle.session.proofs.Ranges.{pow_more}
 use Rattle.session.proofs.Cells.{contains-marks_below}
 
@@ -101,6 +101,6 @@ marks_fit t good low =
     let leaves : tree_height t.length - 0 ≤ 32 = omega arith in
     let wide : 2 ^ (tree_height t.length - 0) ≤ 2 ^ 32 = pow_more (tree_height t.length - 0) 32 leaves in
     len-marked (2 ^ 32) t.state.marked (λ i m.
-        let known = good.marks i m in
-        let at : IsPlace (tree_height t.length) 0 i = good.closed.in_tree 0 i known.0 known.1 in
-        omega (arith, at.1))
+    let known = good.marks i m in
+    let at : IsPlace (tree_height t.length) 0 i = good.closed.in_tree 0 i known.0 known.1 in
+    omega (arith, at.1))

@@ -1,8 +1,9 @@
 -- A closed partial tree stays closed when a whole layer is joined to it.
-use Rattle.std.proofs.Common.{◌≡◌, ℕ, zero, suc, ◌+◌, ◌-◌, ◌*◌, ◌/◌, ◌^◌, ◌<◌, ◌≤◌, List, ◌++◌, length, replicate, Some, inl, inr, refl, sym, ap, ap₂, ◌∙◌, subst, arith, eq-or-lt_of_le, length-append, pow_pos, mod-eq_of_lt}
+use Rattle.std.proofs.Common.{◌≡◌, ℕ, zero, suc, ◌+◌, ◌-◌, ◌*◌, ◌/◌, ◌^◌, ◌<◌, ◌≤◌, List, [], ◌++◌, length, get_or, replicate, Some, inl, inr, refl, sym, ap, ap₂, ◌∙◌, subst, arith, eq-or-lt_of_le, length-append, pow_pos, mod-eq_of_lt}
 use Rattle.std.specs.List.{All}
 use Rattle.std.specs.Prelude.{slice_get}
-use Rattle.std.proofs.lemmas.Option.{none-some, slice_get_within, get_or_from_slice_get}
+use Rattle.std.proofs.lemmas.Option.{none-some, slice_get_within, slice_get-get_or, get_or_from_slice_get}
+use Rattle.std.proofs.lemmas.Bool.{and_from, eq-eqb, le-leb, lt-ltb, cond-true}
 use Rattle.std.proofs.lemmas.List.{length-replicate, get_or-append_right, get_or-replicate}
 use Rattle.std.proofs.lemmas.List.Elements.{All-append, All-replicate}
 use Rattle.std.proofs.lemmas.Nat.{div_below}
@@ -17,14 +18,14 @@ use Rattle.session.proofs.Powers.{height_pow, div_small, pow_split}
 use Rattle.hashtree.proofs.Zeros.{zero_hash-zero, zero_hash-suc}
 use Rattle.session.proofs.Digests.{is_hash}
 use Rattle.session.proofs.Whole.{pad-is_hash}
-use Rattle.session.proofs.Claimed.{either, there_or_not, first_of_two, second_of_two, base-read, uncle-read, claims-read, claims-zero}
+use Rattle.session.proofs.Claimed.{either, there_or_not, first_of_two, second_of_two, base-read, uncle-read, claims-read, claims-zero, claims-given}
 use Rattle.session.proofs.Joining.{joined-closed_by_parts}
 
 pub zero_hash-is_hash : (m : ℕ) → IsHash (zero_hash m)
 zero_hash-is_hash zero = subst IsHash (sym zero_hash-zero) pad-is_hash
 zero_hash-is_hash (suc m) = subst IsHash (sym (zero_hash-suc m)) (is_hash (zero_hash m ++ zero_hash m))
 
-module _ (t : TreeRoot) (K : PartialTree) (l : ℕ) (hashes : List Hash) (closed : IsClosed t K) (all : All IsHash hashes) (layer_inside : l ≤ tree_height t.length) (right_count : length hashes ≡ pad_from t.length l) where
+module _ (t : TreeRoot) (K : PartialTree) (l : ℕ) (hashes : List Hash) (layer_inside : l ≤ tree_height t.length) (right_count : length hashes ≡ pad_from t.length l) where
   n : ℕ
   n = block_count t.length
 
@@ -34,15 +35,15 @@ module _ (t : TreeRoot) (K : PartialTree) (l : ℕ) (hashes : List Hash) (closed
       let enough : block_count t.length ≤ 2 ^ tree_height t.length = height_enough (block_count t.length) in
       let split : 2 ^ (tree_height t.length - l) * 2 ^ l ≡ 2 ^ tree_height t.length = pow_split l (tree_height t.length) layer_inside in
       let some' : 0 < 2 ^ l = pow_pos l in
-      let low : (block_count t.length + 2 ^ l - 1) / 2 ^ l < suc (2 ^ (tree_height t.length - l)) =
-      div_below (block_count t.length + 2 ^ l - 1) (2 ^ l) (suc (2 ^ (tree_height t.length - l))) some' (omega arith) in
+      let low : (block_count t.length + (2 ^ l - 1)) / 2 ^ l < suc (2 ^ (tree_height t.length - l)) =
+      div_below (block_count t.length + (2 ^ l - 1)) (2 ^ l) (suc (2 ^ (tree_height t.length - l))) some' (omega arith) in
       omega (arith, right_count)
 
   -- a place past the file's end has no hash of its own
   past-end : (i : ℕ) → block_count t.length ≤ i * 2 ^ l → length hashes ≤ i
   past-end i past =
       let some' : 0 < 2 ^ l = pow_pos l in
-      let low : (block_count t.length + 2 ^ l - 1) / 2 ^ l < suc i = div_below (block_count t.length + 2 ^ l - 1) (2 ^ l) (suc i) some' (omega arith) in
+      let low : (block_count t.length + (2 ^ l - 1)) / 2 ^ l < suc i = div_below (block_count t.length + (2 ^ l - 1)) (2 ^ l) (suc i) some' (omega arith) in
       omega (arith, right_count)
 
   pub full : length (fill_hashes t l hashes) ≡ 2 ^ (tree_height t.length - l)
@@ -79,8 +80,8 @@ module _ (t : TreeRoot) (K : PartialTree) (l : ℕ) (hashes : List Hash) (closed
       let k : span (fill_ask t l) ≡ tree_height t.length - l = spanned in
       omega (arith, layer_inside)
 
-  pub filled-closed : IsAgreed K (fill_claims t l hashes) → l < tree_height t.length → IsClosed t (joined K (fill_claims t l hashes))
-  filled-closed agrees below =
+  pub filled-closed : IsClosed t K → All IsHash hashes → IsAgreed K (fill_claims t l hashes) → l < tree_height t.length → IsClosed t (joined K (fill_claims t l hashes))
+  filled-closed closed all agrees below =
       joined-closed_by_parts t K (fill_ask t l) (fill_hashes t l hashes) closed
       (All-append IsHash hashes _ all (All-replicate IsHash (2 ^ (tree_height t.length - l) - length hashes) (zero_hash l) (zero_hash-is_hash l)))
       (subst (λ k. 1 ≤ k) (sym spanned) (omega arith)) (ap (λ k. 2 ^ k) spanned) (mod-eq_of_lt (pow_pos (tree_height t.length - l))) (subst (λ k. 2 ^ (tree_height t.length - l) ≤ k) (sym full) (omega arith))
@@ -114,10 +115,22 @@ module _ (t : TreeRoot) (K : PartialTree) (l : ℕ) (hashes : List Hash) (closed
         absurd (omega (arith, right.1))
   ]
 
+  -- and the root is claimed there
+  pub root-claimed : l ≡ tree_height t.length → (v : Hash) × (fill_claims t l hashes (tree_height t.length) 0 ≡ Some v)
+  root-claimed root =
+      let none_above : tree_height t.length - l ≡ 0 = omega arith in
+      let one : 2 ^ (tree_height t.length - l) ≡ 1 = ap (λ j. 2 ^ j) none_above in
+      let count : length (fill_hashes t l hashes) ≡ 2 ^ (tree_height t.length - l) = full in (
+        get_or (fill_hashes t l hashes) 0 [],
+        claims-given (fill_ask t l) (fill_hashes t l hashes) (tree_height t.length) 0 _
+            (first_of_two _ _ _ (cond-true _ _ _ (and_from _ _ (eq-eqb (tree_height t.length) l (sym root)) (and_from _ _ (le-leb 0 0 (omega arith)) (lt-ltb 0 (0 + 2 ^ (tree_height t.length - l)) (omega arith))))
+            ∙ slice_get-get_or (fill_hashes t l hashes) 0 [] (omega arith))),
+      )
+
   -- each layer of the tree keeps it closed
-  pub fill-closed : IsAgreed K (fill_claims t l hashes) → IsClosed t (joined K (fill_claims t l hashes))
-  fill-closed agrees = elim (eq-or-lt_of_le layer_inside) [
-    | inr below ↦ filled-closed agrees below
+  pub fill-closed : IsClosed t K → All IsHash hashes → IsAgreed K (fill_claims t l hashes) → IsClosed t (joined K (fill_claims t l hashes))
+  fill-closed closed all agrees = elim (eq-or-lt_of_le layer_inside) [
+    | inr below ↦ filled-closed closed all agrees below
     | inl root ↦ subst (IsClosed t) (λ j k i. same root k i j) closed
   ]
     where

@@ -1,16 +1,15 @@
 -- What a message claims, and what a whole layer claims, leads to one place.
-use Rattle.std.proofs.Common.{◌≡◌, ◌⊎◌, ℕ, zero, suc, ◌+◌, ◌-◌, ◌*◌, ◌/◌, ◌%◌, ◌^◌, ◌<◌, ◌≤◌, List, [], length, Option, Some, None, inl, inr, refl, sym, ap, ap₂, ◌∙◌, subst, arith, shr-shr, div-one, eq-or-lt_of_le}
+use Rattle.std.proofs.Common.{◌≡◌, ℕ, zero, suc, ◌+◌, ◌-◌, ◌*◌, ◌/◌, ◌%◌, ◌^◌, ◌<◌, ◌≤◌, List, [], length, Some, refl, sym, ap, ap₂, ◌∙◌, subst, arith, shr-shr, div-one}
 use Rattle.std.specs.Option.{option_or}
 use Rattle.std.proofs.lemmas.Option.{none-some}
 use Rattle.wire.specs.declared.message.Ask.{Ask}
 use Rattle.session.specs.declared.evidence.Evidence.{Evidence}
 use Rattle.session.specs.Digest.{Hash, join}
 use Rattle.session.specs.Partial.{IsFamily}
-use Rattle.session.specs.Claims.{span, cover, given, claims, join_both, top_layer, top_index}
-use Rattle.session.specs.Evidence.{range_of, hashes_of, given_by, claimed_by, LiesUnder, IsPruned, LeadsTo}
+use Rattle.session.specs.Claims.{span, given, claims, join_both, top_layer, top_index}
+use Rattle.session.specs.Evidence.{range_of, hashes_of, given_by, claimed_by, LeadsTo}
 use Rattle.session.proofs.Given.{span_is, hashes-length}
-use Rattle.session.proofs.Powers.{height_pow}
-use Rattle.session.proofs.Claimed.{claims-given, claimed-at, claimed-family, claimed-to_top, claimed-top, claimed-value, parent-of, parent-not_given, IsAbove, IsClaimed, on_path}
+use Rattle.session.proofs.Claimed.{claims-given, claimed-at, claimed-family, claimed-to_top, claimed-top, claimed-value, parent-of, parent-not_given, on_path}
 
 abbrev core : ℕ → ℕ → ℕ → Ask
 core base index length = record { root = []; base = base; index = index; length = length; proof = 0 }

@@ -24,3 +24,4 @@ pub mod Leading
 pub mod Ranges
 pub mod Messages
 pub mod Counting
+pub mod Layers

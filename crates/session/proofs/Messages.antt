@@ -1,5 +1,5 @@
 -- What a body that takes a message stands on: where its hashes lie, and what its evidence claims.
-use Rattle.std.proofs.Common.{◌≡◌, ◌≢◌, ◌⊎◌, ℕ, suc, ◌+◌, ◌-◌, ◌*◌, ◌/◌, ◌%◌, ◌^◌, ◌<◌, ◌≤◌, Bool, true, false, min, leb, eqb, ltb, List, [], ◌++◌, length, get_or, take, drop, replicate, Option, is_some, Some, None, Result, Ok, Err, inl, inr, refl, sym, ap, ap₂, ◌∙◌, subst, arith, shr-shr, length-take, length-drop, pow-add, pow_pos, div-add-mod'}
+use Rattle.std.proofs.Common.{◌≡◌, ◌≢◌, ℕ, suc, ◌+◌, ◌-◌, ◌*◌, ◌/◌, ◌%◌, ◌^◌, ◌<◌, ◌≤◌, Bool, true, false, eqb, List, [], ◌++◌, length, get_or, take, drop, replicate, Option, is_some, Some, None, Result, Ok, Err, inl, inr, refl, sym, ap, ap₂, ◌∙◌, subst, arith, shr-shr, length-take, length-drop, pow-add, pow_pos, div-add-mod'}
 use Rattle.std.specs.Prelude.{slice_get}
 use Rattle.std.specs.List.{All}
 use Rattle.std.specs.Result.{IfOk, IfErr}
@@ -15,11 +15,11 @@ use Rattle.session.specs.declared.refusal.HashRefusal.{HashRefusal}
 use Rattle.session.specs.declared.refusal.HashRefusal.TheVariants.{UnknownRoot, BadRange, BadCount, BadPad, Unanchored, Mismatch, NoMemory}
 use Rattle.session.specs.Digest.{Hash, IsHash}
 use Rattle.session.specs.TreeRoot.{TreeRoot, tree_height}
-use Rattle.session.specs.Partial.{PartialTree, IsKnown, IsPlace, IsClosed}
-use Rattle.session.specs.Claims.{span, cover, above, sibling, given, base_hash, uncle_hash, claims, joined, top_layer, top_index, GoodRange, GoodCount, ArePadsRight, IsBadPad, IsAgreed, IsAccepted, Refuses, TreeRefuses}
+use Rattle.session.specs.Partial.{PartialTree, IsKnown, IsClosed}
+use Rattle.session.specs.Claims.{cover, above, sibling, base_hash, uncle_hash, claims, top_layer, top_index, GoodRange, GoodCount, ArePadsRight, IsBadPad, IsAgreed, IsAccepted, TreeRefuses}
 use Rattle.session.specs.Known.{Known, look, Joins}
 use Rattle.session.specs.Evidence.{range_of, hashes_of, claimed_by, LeadsTo, StoreFault}
-use Rattle.session.proofs.Ranges.{span_at, top_at, pow_more}
+use Rattle.session.proofs.Ranges.{span_at, pow_more}
 use Rattle.session.proofs.Known.{len-known}
 use Rattle.session.proofs.Joining.{joined-closed}
 use Rattle.session.proofs.Leading.{claims-same, message-leads}

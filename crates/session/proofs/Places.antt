@@ -1,7 +1,5 @@
 -- Places of a tree, and the least power of two.
-use Rattle.std.proofs.Common.{◌≡◌, ◌⊎◌, ℕ, zero, suc, ◌+◌, ◌-◌, ◌*◌, ◌/◌, ◌^◌, ◌<◌, ◌≤◌, Bool, true, false, leb, inl, inr, refl, sym, ap, ◌∙◌, subst, arith, pow-suc, eq-or-lt_of_le}
-use Rattle.std.proofs.lemmas.Bool.{leb-true, leb-false}
-use Rattle.hashtree.specs.Tree.{height}
+use Rattle.std.proofs.Common.{◌≡◌, ℕ, suc, ◌+◌, ◌-◌, ◌*◌, ◌/◌, ◌^◌, ◌<◌, ap, ◌∙◌, arith, pow-suc}
 use Rattle.session.specs.Partial.{IsPlace}
 
 -- 2 ^ (m + 1) is two halves

@@ -1,11 +1,11 @@
 -- Base ranges and counts, from the numbers that a body tests.
-use Rattle.std.proofs.Common.{◌≡◌, ◌≢◌, ℕ, suc, ◌+◌, ◌-◌, ◌*◌, ◌/◌, ◌%◌, ◌^◌, ◌<◌, ◌≤◌, List, length, sym, ap, ap₂, ◌∙◌, subst, arith, shr-shr, pow-add, pow_pos, div-add-mod', div-le_self}
+use Rattle.std.proofs.Common.{◌≡◌, ◌≢◌, ℕ, ◌+◌, ◌-◌, ◌*◌, ◌/◌, ◌%◌, ◌^◌, ◌<◌, ◌≤◌, List, length, sym, ap, ◌∙◌, arith, pow-add, pow_pos, div-add-mod', div-le_self}
 use Rattle.std.proofs.lemmas.Nat.{mul-le}
 use Rattle.std.proofs.Math.Nat.{pow-le-pow_right}
 use Rattle.wire.specs.declared.message.Ask.{Ask}
 use Rattle.hashtree.specs.Tree.{height}
 use Rattle.session.specs.Digest.{Hash}
-use Rattle.session.specs.Claims.{span, sibling, top_layer, GoodRange, GoodCount}
+use Rattle.session.specs.Claims.{span, sibling, top_layer, GoodRange}
 use Rattle.session.proofs.Powers.{exponent_le, height_pow, spans-some}
 
 pub pow_more : (j k : ℕ) → j ≤ k → 2 ^ j ≤ 2 ^ k

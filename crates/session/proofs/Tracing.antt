@@ -1,11 +1,10 @@
 -- How the claims of evidence follow from one another, from a place down.
-use Rattle.std.proofs.Common.{◌≡◌, ◌⊎◌, ℕ, zero, suc, ◌+◌, ◌-◌, ◌*◌, ◌/◌, ◌^◌, ◌<◌, ◌≤◌, Bool, true, false, List, Option, is_some, Some, None, inl, inr, refl, sym, ap, ap₂, ◌∙◌, subst, arith, shr-shr, div-one, eq-or-lt_of_le}
+use Rattle.std.proofs.Common.{◌≡◌, ◌⊎◌, ℕ, zero, suc, ◌+◌, ◌-◌, ◌*◌, ◌/◌, ◌^◌, ◌<◌, ◌≤◌, true, false, Option, is_some, Some, None, inl, inr, sym, ap, ap₂, ◌∙◌, subst, arith, shr-shr, div-one, eq-or-lt_of_le}
 use Rattle.std.specs.Option.{OnSome}
 use Rattle.std.specs.FinMap.{len}
 use Rattle.std.proofs.lemmas.Bool.{false≢true}
 use Rattle.std.proofs.lemmas.Option.{same_Some, none-some}
 use Rattle.session.specs.declared.evidence.Evidence.{Evidence}
-use Rattle.session.specs.declared.found.Claim.{Claim}
 use Rattle.session.specs.declared.found.Found.{Found}
 use Rattle.session.specs.Digest.{Hash, join}
 use Rattle.session.specs.Partial.{PartialTree, IsKnown, IsPlace}

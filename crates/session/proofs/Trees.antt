@@ -1,8 +1,7 @@
 -- The laws of the tree that follow from the definition by halves.
-use Rattle.std.proofs.Common.{◌≡◌, ℕ, zero, suc, ◌+◌, ◌-◌, ◌*◌, ◌^◌, ◌<◌, ◌≤◌, List, [], ◌++◌, map, length, get_or, take, drop, replicate, inl, inr, refl, sym, ap, ap₂, ◌∙◌, subst, arith, take-take, drop-drop}
+use Rattle.std.proofs.Common.{◌≡◌, ℕ, zero, suc, ◌+◌, ◌-◌, ◌*◌, ◌^◌, ◌<◌, ◌≤◌, List, [], ◌++◌, map, length, get_or, take, drop, replicate, sym, ap, ap₂, ◌∙◌, subst, arith, take-take, drop-drop}
 use Rattle.std.specs.List.{range_with_len}
-use Rattle.std.proofs.lemmas.List.{length-replicate, drop-take, take-replicate, drop-replicate, get_or-replicate, get_or-append_right, get_or_append_left, get_or-take, get_or-drop}
-use Rattle.std.proofs.lemmas.Bool.{cases_lt}
+use Rattle.std.proofs.lemmas.List.{drop-take, get_or-replicate, get_or-append_right, get_or_append_left, get_or-take, get_or-drop}
 use Rattle.std.proofs.lemmas.List.FromFn.{length-map-range_with_len, get_or-map-range_with_len}
 use Rattle.sha2.specs.Sha256.{sha256}
 use Rattle.session.specs.Digest.{Hash, join}

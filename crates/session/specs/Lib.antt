@@ -10,3 +10,4 @@ pub mod Flat
 pub mod Evidence
 pub mod Kept
 pub mod Session
+pub mod Names

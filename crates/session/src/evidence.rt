@@ -69,7 +69,11 @@ impl<'a> Evidence<'a> {
             return None;
         }
         let place = (index - self.index) as usize;
-        Some(if place < self.hashes.len() { self.hashes[place] } else { self.pad })
+        Some(if place < self.hashes.len() {
+            self.hashes[place]
+        } else {
+            self.pad
+        })
     }
 
     /// The hash of an uncle's place.
@@ -88,6 +92,10 @@ impl<'a> Evidence<'a> {
             return None;
         }
         let place = (1usize << self.span) + (layer - cover) as usize;
-        if place < self.hashes.len() { Some(self.hashes[place]) } else { None }
+        if place < self.hashes.len() {
+            Some(self.hashes[place])
+        } else {
+            None
+        }
     }
 }

@@ -51,7 +51,11 @@ fn put_cell(rows: &mut Vec<Vec<Option<Hash>>>, layer: u32, index: u64, hash: Has
 }
 
 /// Makes rows up to that of a layer.
-fn add_rows(alloc: Global, rows: &mut Vec<Vec<Option<Hash>>>, layer: usize) -> Result<(), AllocError>
+fn add_rows(
+    alloc: Global,
+    rows: &mut Vec<Vec<Option<Hash>>>,
+    layer: usize,
+) -> Result<(), AllocError>
     ensures cells { (l i : ℕ) → cells rows.new.items l i ≡ cells rows.old.items l i }
     ensures same { (l : ℕ) → row_cells rows.new.items l ≡ row_cells rows.old.items l }
     ensures ok { OnOk result (layer < vec_len rows.new) }

@@ -31,3 +31,68 @@ pub enum BlockRefusal {
     /// The digest differs from the leaf.
     BadBlock,
 }
+
+impl HashRefusal {
+    ghost use Rattle.std.specs.Prelude.{◌≡◌};
+    ghost use Rattle.session.specs.Claims.{rank};
+    ghost use Rattle.session.specs.Names.{hash_refusal_name};
+
+    /// Its number, from 1 to 7.
+    pub fn number(self) -> u32
+        ensures { result ≡ rank self }
+    {
+        match self {
+            HashRefusal::UnknownRoot => 1,
+            HashRefusal::BadRange => 2,
+            HashRefusal::BadCount => 3,
+            HashRefusal::BadPad => 4,
+            HashRefusal::Unanchored => 5,
+            HashRefusal::Mismatch => 6,
+            HashRefusal::NoMemory => 7,
+        }
+    }
+
+    /// Its name, as it is printed.
+    pub fn name(self) -> &'static str
+        ensures { result.now ≡ hash_refusal_name self }
+    {
+        match self {
+            HashRefusal::UnknownRoot => "UnknownRoot",
+            HashRefusal::BadRange => "BadRange",
+            HashRefusal::BadCount => "BadCount",
+            HashRefusal::BadPad => "BadPad",
+            HashRefusal::Unanchored => "Unanchored",
+            HashRefusal::Mismatch => "Mismatch",
+            HashRefusal::NoMemory => "NoMemory",
+        }
+    }
+}
+
+impl BlockRefusal {
+    ghost use Rattle.std.specs.Prelude.{◌≡◌};
+    ghost use Rattle.session.specs.Names.{block_refusal_number, block_refusal_name};
+
+    /// Its number, from 1 to 4.
+    pub fn number(self) -> u32
+        ensures { result ≡ block_refusal_number self }
+    {
+        match self {
+            BlockRefusal::BadPlace => 1,
+            BlockRefusal::BadSize => 2,
+            BlockRefusal::Unproved => 3,
+            BlockRefusal::BadBlock => 4,
+        }
+    }
+
+    /// Its name, as it is printed.
+    pub fn name(self) -> &'static str
+        ensures { result.now ≡ block_refusal_name self }
+    {
+        match self {
+            BlockRefusal::BadPlace => "BadPlace",
+            BlockRefusal::BadSize => "BadSize",
+            BlockRefusal::Unproved => "Unproved",
+            BlockRefusal::BadBlock => "BadBlock",
+        }
+    }
+}

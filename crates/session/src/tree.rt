@@ -9,6 +9,7 @@ ghost use Rattle.hashtree.specs.Tree.{block_count};
 ghost use Rattle.session.specs.TreeRoot.{tree_height};
 ghost use Rattle.session.specs.Partial.{IsKnown, IsPlace};
 ghost use Rattle.session.specs.Claims.{claims, TreeRefuses, IsAccepted, IsBadPad, ArePadsRight, GoodRange, GoodCount, CanAnswer};
+ghost use Rattle.session.specs.Fill.{fill_claims, IsFillAccepted, FillRefuses};
 ghost use Rattle.session.specs.Known.{look, Joins};
 ghost use Rattle.session.specs.Digest.{Hash as Digested};
 ghost use Rattle.std.specs.Bool.{OnTrue, OnFalse};
@@ -19,7 +20,7 @@ use crate::evidence::Evidence;
 use crate::node_map::NodeMap;
 use crate::refusal::{BlockRefusal, HashRefusal};
 use crate::storing::store;
-use hashtree::{Hash, Shape, leaf};
+use hashtree::{Hash, Shape, leaf, zero};
 use std::alloc::{AllocError, Global};
 use std::marker::Model;
 use wire::Ask;
@@ -105,7 +106,38 @@ impl<N: NodeMap> Tree<N> {
         ensures refused { IfErr result (λ r. TreeRefuses (info_of self.old) (look self.old.state.known) ask.now hashes.now r × (self.new.state.known ≡ self.old.state.known)) }
     {
         are_hashes(hashes);
-        let gained = take_message(self.alloc, self.shape, self.height, &mut self.nodes, ask, hashes)?;
+        let gained = take_message(
+            self.alloc,
+            self.shape,
+            self.height,
+            &mut self.nodes,
+            ask,
+            hashes,
+        )?;
+        self.known += gained;
+        Ok(gained)
+    }
+
+    /// Takes a whole layer, given without the pads at its end, and tells how many places are newly known. A refusal
+    /// leaves the tree unchanged.
+    pub fn fill(&mut self, layer: u32, hashes: &[Hash]) -> Result<u64, HashRefusal>
+        requires { IsGoodTree self.old }
+        ensures root { self.new.root ≡ self.old.root }
+        ensures length { self.new.length ≡ self.old.length }
+        ensures marked { self.new.state.marked ≡ self.old.state.marked }
+        ensures filled { IfOk result (λ c. IsFillAccepted (info_of self.old) (look self.old.state.known) layer hashes.now
+            × Joins (fill_claims (info_of self.old) layer hashes.now) self.old.state.known self.new.state.known c) }
+        ensures refused { IfErr result (λ r. FillRefuses (info_of self.old) (look self.old.state.known) layer hashes.now r × (self.new.state.known ≡ self.old.state.known)) }
+    {
+        are_hashes(hashes);
+        let gained = fill_layer(
+            self.alloc,
+            self.shape,
+            self.height,
+            &mut self.nodes,
+            layer,
+            hashes,
+        )?;
         self.known += gained;
         Ok(gained)
     }
@@ -116,7 +148,12 @@ impl<N: NodeMap> Tree<N> {
     {
         match check_range(self.height, ask) {
             Err(_) => false,
-            Ok(_) => all_known(&self.nodes, ask.base, u64::from(ask.index), u64::from(ask.length)),
+            Ok(_) => all_known(
+                &self.nodes,
+                ask.base,
+                u64::from(ask.index),
+                u64::from(ask.length),
+            ),
         }
     }
 
@@ -162,8 +199,7 @@ fn all_known<N: NodeMap>(nodes: &N, layer: u32, from: u64, count: u64) -> bool
 /// Each hash has 32 bytes, as its type says.
 fn are_hashes(hashes: &[Hash])
     ensures { All (λ h. length h ≡ 32) hashes.now }
-{
-}
+{}
 
 /// Marks a known leaf, and tells how many more are marked.
 fn mark_leaf<N: NodeMap>(nodes: &mut N, block: u64) -> u64
@@ -233,5 +269,44 @@ fn pads_fit(shape: Shape, ask: &Ask, span: u32, hashes: &[Hash]) -> bool
     if !base_pads_fit(blocks, ask.base, u64::from(ask.index), base) {
         return false;
     }
-    uncle_pads_fit(blocks, ask.base + span, u64::from(ask.index) >> span, uncles)
+    uncle_pads_fit(
+        blocks,
+        ask.base + span,
+        u64::from(ask.index) >> span,
+        uncles,
+    )
+}
+
+/// Takes a whole layer into the nodes of a tree, and tells how many places are newly known.
+fn fill_layer<N: NodeMap>(
+    alloc: Global,
+    shape: Shape,
+    height: u32,
+    nodes: &mut N,
+    layer: u32,
+    hashes: &[Hash],
+) -> Result<u64, HashRefusal>
+    requires shape { N.length nodes.old ≡ shape }
+    requires height { height ≡ tree_height shape }
+    requires low { height ≤ 32 }
+    ensures length { N.length nodes.new ≡ N.length nodes.old }
+    ensures marked { N.marked nodes.new ≡ N.marked nodes.old }
+    ensures filled { (root : Digested) → IfOk result (λ c. IsFillAccepted (record { root = root; length = shape }) (look (N.known nodes.old)) layer hashes.now
+        × Joins (fill_claims (record { root = root; length = shape }) layer hashes.now) (N.known nodes.old) (N.known nodes.new) c) }
+    ensures refused { (root : Digested) → IfErr result (λ r. FillRefuses (record { root = root; length = shape }) (look (N.known nodes.old)) layer hashes.now r × (N.known nodes.new ≡ N.known nodes.old)) }
+{
+    if layer > height {
+        return Err(HashRefusal::BadRange);
+    }
+    if hashes.len() as u64 != shape.pad_from(layer) {
+        return Err(HashRefusal::BadCount);
+    }
+    let evidence = Evidence {
+        base: layer,
+        index: 0,
+        span: height - layer,
+        hashes,
+        pad: zero(layer),
+    };
+    store(alloc, nodes, &evidence, height, 0)
 }

@@ -1,4 +1,4 @@
-use Rattle.std.proofs.Common.{◌≡◌, ℕ, suc, ◌+◌, ◌*◌, ◌/◌, ◌^◌, ◌<◌, ◌≤◌, ◌++◌, [], length, get_or, refl, ap, ap₂, sym, ◌∙◌, arith, below_more, shr-shr, pow-suc}
+use Rattle.std.proofs.Common.{◌≡◌, suc, ◌+◌, ◌*◌, ◌/◌, ◌^◌, ◌<◌, ◌++◌, refl, ap, ap₂, sym, ◌∙◌, arith, below_more, shr-shr, pow-suc}
 use Rattle.sha2.specs.Sha256.{sha256}
 use Rattle.hashtree.specs.Tree.{zero_hash}
 use Rattle.hashtree.proofs.Zeros.{zero_hash-suc}

@@ -1,4 +1,4 @@
-use Rattle.std.proofs.Common.{◌≡◌, ◌+◌, [], sym, ap, ◌∙◌, drop, arith}
+use Rattle.std.proofs.Common.{◌+◌, [], ap, ◌∙◌, drop, arith}
 use Rattle.session.specs.declared.found.Claim.{Claim}
 use Rattle.session.specs.Known.{insert_new}
 use Rattle.session.proofs.Noting.{insert_new-step}

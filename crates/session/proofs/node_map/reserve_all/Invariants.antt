@@ -1,4 +1,4 @@
-use Rattle.std.proofs.Common.{◌≡◌, ℕ, ◌<◌, take, All}
+use Rattle.std.proofs.Common.{◌≡◌, take, All}
 use Rattle.session.specs.declared.found.Claim.{Claim}
 use Rattle.session.proofs.node_map.reserve_all.Given as goal
 

@@ -1,8 +1,8 @@
-use Rattle.std.proofs.Common.{arith, rules, sym, ap, ◌∙◌, Some, ◌*◌, ◌-◌, ◌+◌}
+use Rattle.std.proofs.Common.{arith, rules, sym, ap, ◌∙◌, Some}
 use Rattle.session.specs.TreeRoot.{tree_height}
 use Rattle.session.specs.Known.{look}
-use Rattle.session.specs.Evidence.{given_by, claimed_by}
-use Rattle.session.proofs.Tracing.{Opened, opened, child_left, child_right, given_claimed, join_claimed, below-children, below-given, all-handled, mismatch}
+use Rattle.session.specs.Evidence.{claimed_by}
+use Rattle.session.proofs.Tracing.{Opened, opened, child_left, child_right, given_claimed, join_claimed, below-children}
 use Rattle.session.proofs.storing.+trace.Goals as goal
 
 pub derive-returns-in-Some-clause-value : goal.derive-returns-in-Some-clause-value

@@ -1,21 +1,21 @@
-use Rattle.std.proofs.Common.{sym, ◌∙◌, refl, ap, ap₂, ◌+◌, not}
+use Rattle.std.proofs.Common.{◌∙◌, refl, ap, ap₂, ◌+◌, not}
 use Rattle.std.specs.FinMap.{len}
 use Rattle.session.specs.TreeRoot.{tree_height}
-use Rattle.session.specs.Known.{look, insert_new}
+use Rattle.session.specs.Known.{insert_new}
 use Rattle.session.proofs.Tracing.{on_some, handled-agreed, handled-joins}
 use Rattle.session.proofs.storing.store.Goals as goal
 
 pub returns-then-found-clause-refused : goal.returns-then-found-clause-refused
 returns-then-found-clause-refused g c = (
   handled-agreed c.args.evidence.now (g.N.NodeMap.known c.args.map.now) c.trace.new.found c.args.layer c.args.index c.requires.leads
-  (on_some c.trace.result _ c.trace.ensures.handled (c.is_none.ensures ∙ ap not c.if-is_none.false)),
+      (on_some c.trace.result _ c.trace.ensures.handled (c.is_none.ensures ∙ ap not c.if-is_none.false)),
   refl,
 )
 
 pub returns-then-is_err-clause-refused : goal.returns-then-is_err-clause-refused
 returns-then-is_err-clause-refused g c = (
   handled-agreed c.args.evidence.now (g.N.NodeMap.known c.args.map.now) c.trace.new.found c.args.layer c.args.index c.requires.leads
-  (on_some c.trace.result _ c.trace.ensures.handled (c.is_none.ensures ∙ ap not c.if-is_none.false)),
+      (on_some c.trace.result _ c.trace.ensures.handled (c.is_none.ensures ∙ ap not c.if-is_none.false)),
   c.reserve_all.ensures.known,
 )
 

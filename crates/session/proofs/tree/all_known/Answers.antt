@@ -1,6 +1,5 @@
-use Rattle.std.proofs.Common.{◌≡◌, Option, is_some, Some, None, true, false, not, sym, ap, ◌∙◌, arith, below_more}
+use Rattle.std.proofs.Common.{◌≡◌, Option, is_some, Some, false, not, sym, ap, ◌∙◌, arith, below_more}
 use Rattle.std.proofs.lemmas.Bool.{false≢true}
-use Rattle.std.proofs.lemmas.Option.{none-some}
 use Rattle.session.specs.Digest.{Hash}
 use Rattle.session.proofs.Messages.{known_of}
 use Rattle.session.proofs.tree.all_known.Goals as goal

@@ -1,10 +1,9 @@
-use Rattle.std.proofs.Common.{◌≡◌, ℕ, ◌+◌, ◌-◌, ◌*◌, ◌/◌, ◌^◌, ◌<◌, ◌≤◌, length, take, drop, true, false, refl, sym, ap, ap₂, ◌∙◌, subst, arith, length-take, length-drop}
+use Rattle.std.proofs.Common.{◌+◌, ◌*◌, ◌/◌, ◌^◌, ◌<◌, ◌≤◌, length, take, drop, sym, ap, subst, arith}
 use Rattle.std.proofs.lemmas.Bool.{OnTrue_from, OnFalse_from}
 use Rattle.hashtree.specs.Tree.{block_count}
 use Rattle.session.specs.TreeRoot.{tree_height}
-use Rattle.session.specs.Claims.{top_layer}
 use Rattle.session.proofs.Ranges.{top_at}
-use Rattle.session.proofs.Messages.{BaseFits, UnclesFit, PadsFrom, PadsAbove, from_moved, above_moved, not_of, fit-right, unfit-base, unfit-uncles, range-wide, cover-wide}
+use Rattle.session.proofs.Messages.{PadsFrom, PadsAbove, from_moved, above_moved, not_of, fit-right, unfit-base, unfit-uncles, range-wide, cover-wide}
 use Rattle.session.proofs.tree.pads_fit.Goals as goal
 
 pub base_pads_fit-requires-clause-inside : goal.base_pads_fit-requires-clause-inside

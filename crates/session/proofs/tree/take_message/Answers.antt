@@ -1,11 +1,10 @@
-use Rattle.std.proofs.Common.{◌≡◌, ℕ, ◌-◌, ◌/◌, ◌^◌, not, Some, refl, sym, ap, ap₂, ◌∙◌, subst, arith, replicate}
+use Rattle.std.proofs.Common.{◌-◌, ◌/◌, ◌^◌, not, refl, sym, ap, ap₂, ◌∙◌, subst, replicate}
 use Rattle.session.specs.declared.evidence.Evidence.{Evidence}
-use Rattle.session.specs.Digest.{Hash}
 use Rattle.session.specs.TreeRoot.{TreeRoot, tree_height}
 use Rattle.session.specs.Partial.{IsPlace, IsKnown}
 use Rattle.session.specs.Known.{look}
-use Rattle.session.specs.Claims.{claims, top_layer, top_index, GoodRange, GoodCount, ArePadsRight}
-use Rattle.session.specs.Evidence.{claimed_by, LeadsTo}
+use Rattle.session.specs.Claims.{top_layer, top_index, GoodRange, GoodCount}
+use Rattle.session.specs.Evidence.{LeadsTo}
 use Rattle.session.proofs.Messages.{known_of, same_claims, leads, taken_by, refused_by}
 use Rattle.session.proofs.tree.take_message.Goals as goal
 

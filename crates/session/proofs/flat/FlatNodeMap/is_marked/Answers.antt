@@ -1,4 +1,4 @@
-use Rattle.std.proofs.Common.{◌≡◌, ◌<◌, ◌≤◌, false, length, get_or, arith, vec_len, sym, ◌∙◌}
+use Rattle.std.proofs.Common.{◌<◌, ◌≤◌, false, length, arith, sym, ◌∙◌}
 use Rattle.std.proofs.lemmas.List.{get_or_past, get_or_read}
 use Rattle.std.proofs.lemmas.Bool.{le-ltb}
 use Rattle.session.proofs.Cells.{contains-marked}

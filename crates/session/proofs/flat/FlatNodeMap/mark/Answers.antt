@@ -1,5 +1,5 @@
 use Rattle.std.proofs.Common.{◌≤◌, ◌<◌, arith, sym, ◌∙◌, vec_len}
-use Rattle.session.specs.Flat.{HasCell, row_cells}
+use Rattle.session.specs.Flat.{row_cells}
 use Rattle.session.proofs.Cells.{cell_there, look-cells, marked-set}
 use Rattle.session.proofs.flat.FlatNodeMap.mark.Goals as goal
 

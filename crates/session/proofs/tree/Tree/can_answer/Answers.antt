@@ -1,8 +1,8 @@
-use Rattle.std.proofs.Common.{◌≡◌, ℕ, ◌+◌, ◌<◌, sym, ap, ap₂, ◌∙◌, subst, arith}
+use Rattle.std.proofs.Common.{◌≡◌, ◌+◌, ◌<◌, sym, ap, ◌∙◌, subst, arith}
 use Rattle.session.specs.TreeRoot.{tree_height}
 use Rattle.session.specs.Partial.{IsKnown}
 use Rattle.session.specs.Known.{look}
-use Rattle.session.specs.Claims.{GoodRange, CanAnswer}
+use Rattle.session.specs.Claims.{GoodRange}
 use Rattle.session.specs.Kept.{KeptTree}
 use Rattle.session.proofs.tree.Tree.can_answer.Goals as goal
 

@@ -1,5 +1,4 @@
-use Rattle.std.proofs.Common.{◌∙◌, sym, ap}
-use Rattle.std.specs.FinMap.{insert}
+use Rattle.std.proofs.Common.{◌∙◌}
 use Rattle.session.proofs.Counting.{counted_root}
 use Rattle.session.proofs.tree.Tree.new.Goals as goal
 
@@ -7,6 +6,6 @@ pub invariant_of-result : goal.invariant_of-result
 invariant_of-result g c = (
   c.put.ensures.length ∙ c.reserve.ensures.length ∙ c.empty-nodes.ensures.length,
   counted_root c.height-height.result c.args.shape c.args.root (g.N.NodeMap.known c.reserve.new.self) (g.N.NodeMap.known c.put.new.self) (g.N.NodeMap.marked c.put.new.self)
-  (c.reserve.ensures.known ∙ c.empty-nodes.ensures.known) c.put.ensures.known (c.put.ensures.marked ∙ c.reserve.ensures.marked ∙ c.empty-nodes.ensures.marked)
-  c.height-height.ensures.value c.height-height.ensures.bound,
+      (c.reserve.ensures.known ∙ c.empty-nodes.ensures.known) c.put.ensures.known (c.put.ensures.marked ∙ c.reserve.ensures.marked ∙ c.empty-nodes.ensures.marked)
+      c.height-height.ensures.value c.height-height.ensures.bound,
 )

@@ -1,7 +1,7 @@
-use Rattle.std.proofs.Common.{◌≡◌, ℕ, suc, ◌+◌, ◌^◌, ◌<◌, ◌≤◌, List, length, ◌∙◌, sym, ap, subst, arith}
+use Rattle.std.proofs.Common.{◌≡◌, ℕ, suc, ◌+◌, ◌^◌, ◌<◌, ◌≤◌, List, length, ◌∙◌, sym, subst, arith}
 use Rattle.std.specs.List.{All}
 use Rattle.std.specs.FinMap.{len}
-use Rattle.session.specs.Digest.{Hash, IsHash}
+use Rattle.session.specs.Digest.{IsHash}
 use Rattle.session.specs.TreeRoot.{TreeRoot, tree_height}
 use Rattle.session.specs.Claims.{claims, IsAccepted}
 use Rattle.session.specs.Known.{look, Joins}
@@ -16,7 +16,7 @@ invariant_of-self g c =
     let old = c.self.inside in (
       c.take_message.ensures.length ∙ c.self.invariant.0,
       counted_same old.height old.known old.marked old.shape (g.N.NodeMap.known old.nodes) (g.N.NodeMap.known c.take_message.new.nodes) (g.N.NodeMap.marked old.nodes) (g.N.NodeMap.marked c.take_message.new.nodes)
-      c.self.invariant.1 (c.in_err-gained.ensures.refused old.root).1 c.take_message.ensures.marked,
+          c.self.invariant.1 (c.in_err-gained.ensures.refused old.root).1 c.take_message.ensures.marked,
     )
 
 pub overflow_add-self : goal.overflow_add-self
@@ -39,7 +39,7 @@ invariant_of-self-2 g c =
     let old = c.self.inside in (
       c.take_message.ensures.length ∙ c.self.invariant.0,
       counted_more old.height old.known old.marked old.shape c.in_ok-gained.gained (g.N.NodeMap.known old.nodes) (g.N.NodeMap.known c.take_message.new.nodes) (g.N.NodeMap.marked old.nodes) (g.N.NodeMap.marked c.take_message.new.nodes)
-      c.self.invariant.1 (c.in_ok-gained.ensures.taken old.root).1.gained c.take_message.ensures.marked,
+          c.self.invariant.1 (c.in_ok-gained.ensures.taken old.root).1.gained c.take_message.ensures.marked,
     )
 
 pub returns-clause-taken : goal.returns-clause-taken

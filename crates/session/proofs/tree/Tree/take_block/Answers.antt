@@ -1,4 +1,4 @@
-use Rattle.std.proofs.Common.{◌≡◌, ℕ, ◌+◌, ◌^◌, ◌≤◌, ◌∙◌, sym, ap, subst, arith}
+use Rattle.std.proofs.Common.{◌^◌, ◌≤◌, ◌∙◌, sym, subst, arith}
 use Rattle.std.specs.FinSet as set
 use Rattle.session.specs.TreeRoot.{tree_height}
 use Rattle.session.specs.Kept.{KeptTree, IsGoodTree}
@@ -19,5 +19,5 @@ invariant_of-self g c =
     let old = c.self.inside in (
       c.mark_leaf.ensures.length ∙ c.self.invariant.0,
       counted_mark old.height old.known old.marked old.shape c.mark_leaf.result (g.N.NodeMap.known old.nodes) (g.N.NodeMap.known c.mark_leaf.new.nodes) (g.N.NodeMap.marked old.nodes) (g.N.NodeMap.marked c.mark_leaf.new.nodes)
-      c.self.invariant.1 c.mark_leaf.ensures.known c.mark_leaf.ensures.count,
+          c.self.invariant.1 c.mark_leaf.ensures.known c.mark_leaf.ensures.count,
     )
