@@ -8,3 +8,4 @@ pub mod ReplayLines
 pub mod Outcome
 pub mod SafeStep
 pub mod Replay
+pub mod Bare

@@ -15,7 +15,7 @@ mod told;
 pub use ending::Ending;
 pub use listing::show;
 pub use outcome::Outcome;
-pub use record::replay;
+pub use record::{Stepper, replay};
 pub use refused::refusal_line;
 pub use root::{RootFault, root_line};
 pub use told::Told;

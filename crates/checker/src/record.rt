@@ -7,6 +7,9 @@ ghost use Rattle.checker.specs.ReplayLines.{frame_line_of, ending_line_of};
 ghost use Rattle.checker.specs.Replay.{FrameStep, TellsFrame, TellsEnding, IsReport, IsCutReport};
 ghost use Rattle.wire.specs.declared.reader.State.TheVariants as state;
 
+#[cfg(test)]
+mod tests;
+
 use crate::ending::Ending;
 use crate::frame_line::frame_line;
 use crate::outcome::Outcome;
@@ -17,14 +20,18 @@ use session::Verdict;
 use std::alloc::Global;
 use wire::{Frame, FrameFault, FrameReader, Message};
 
+/// What the messages of a record go to: a session of a torrent, whose trees are closed and have distinct roots.
 pub trait Stepper {
+    // The torrent's trees and places, which no step changes.
     ghost layout: { Self → Layout };
 
+    // What is known and marked of each tree.
     ghost state: { Self → State };
 
-    fn step(&mut self, m: &Message<'_>) -> Verdict
+    /// Takes one message, and tells the verdict on it.
+    fn step(&mut self, message: &Message<'_>) -> Verdict
         ensures layout { layout self.new ≡ layout self.old }
-        ensures step { Step (layout self.old) (state self.old) m.now result (state self.new) };
+        ensures step { Step (layout self.old) (state self.old) message.now result (state self.new) };
 
     ghost good: { (s : Self) → IsGood (layout s) (state s) };
 
