@@ -1,20 +1,19 @@
 -- The loop of a replay: one more frame, and the end.
-use Rattle.std.proofs.Common.{◌≡◌, ◌≢◌, ◌<◌, ◌≤◌, ◌+◌, ◌++◌, ◌||◌, ℕ, suc, Bool, true, false, List, [], ◌∷◌, length, take, Option, Some, None, Result, Ok, Err, IsOk, refl, sym, ap, ◌∙◌, subst, arith}
+use Rattle.std.proofs.Common.{◌≡◌, ◌≢◌, ◌≤◌, ◌+◌, ◌++◌, ◌||◌, ℕ, suc, Bool, false, List, [], ◌∷◌, length, take, Option, Some, None, refl, sym, ap, ◌∙◌, subst, arith}
 use Rattle.std.specs.List.{AllZip, concat, flat_map, list_any, All}
-use Rattle.std.proofs.lemmas.List.{append_assoc, append-nil, length-append}
+use Rattle.std.proofs.lemmas.List.{append-nil, length-append}
 use Rattle.std.proofs.lemmas.List.Elements.{All-nil, All-cons, All-append}
 use Rattle.std.proofs.lemmas.List.Folds.{concat-append, list_any-append}
 use Rattle.std.proofs.Math.Bool.{or-false}
 use Rattle.std.proofs.lemmas.Grind.{flat_map-append}
 use Rattle.wire.proofs.Partial.{length-frame, IsPartial-from_short}
-use Rattle.std.specs.Io.KnownBytes.{Appends, Consumes, IsAtEnd}
+use Rattle.std.specs.Io.KnownBytes.{Appends, IsAtEnd}
 use Rattle.benc.specs.Device.{AppendsBeginning}
 use Rattle.benc.proofs.Known.{Appends-append, Appends_nothing, Consumes-append, Consumes_nothing}
 use Rattle.wire.specs.declared.fault.FrameFault.{FrameFault}
 use Rattle.wire.specs.declared.fault.FrameFault.TheVariants as fault
 use Rattle.wire.specs.declared.frame.Frame.{Frame}
 use Rattle.wire.specs.declared.frame.Frame.TheVariants as frame
-use Rattle.wire.specs.declared.message.Message.{Message}
 use Rattle.wire.specs.Frames.{Frames, IsBody, IsPartial}
 use Rattle.wire.specs.Frames as stream
 use Rattle.wire.specs.Meaning.{Means}
@@ -26,10 +25,10 @@ use Rattle.checker.specs.declared.told.Told.TheVariants as told
 use Rattle.checker.specs.declared.ending.Ending.{Ending}
 use Rattle.checker.specs.declared.ending.Ending.TheVariants as ending
 use Rattle.checker.specs.declared.outcome.Outcome.{Outcome}
-use Rattle.checker.specs.Outcome.{is_refusal, is_no_memory, is_fault, outcome_of}
+use Rattle.checker.specs.Outcome.{is_refusal, is_no_memory, is_fault}
 use Rattle.checker.specs.SafeStep.{IsSafeStep, IsSafeRun}
 use Rattle.checker.specs.ReplayLines.{frame_line_of, frame_lines_from, ending_line_of}
-use Rattle.checker.specs.Replay.{messages, told_of, FrameStep, TellsFrame, TellsEnding, IsEnding, CountsEnding, Replayed, AppendsShort, report_lines, IsReport, IsCutReport}
+use Rattle.checker.specs.Replay.{messages, told_of, FrameStep, TellsFrame, TellsEnding, IsEnding, CountsEnding, Replayed, IsReport, IsCutReport}
 
 nothing_partial : IsPartial []
 nothing_partial = IsPartial-from_short [] (omega arith)

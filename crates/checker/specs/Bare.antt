@@ -1,5 +1,5 @@
 -- A session of no trees, for tests.
-use Rattle.std.proofs.Common.{◌≡◌, ℕ, List, [], Some, None}
+use Rattle.std.proofs.Common.{[], None}
 use Rattle.std.proofs.lemmas.Option.{none-some}
 use Rattle.session.specs.Session.{Layout, IsGood, HasDistinctRoots}
 

@@ -1,9 +1,7 @@
 -- What the lines of a replay's report amount to.
 use Rattle.std.specs.Prelude.{ℕ, Bool, true, false, ◌||◌, if◌then◌else◌, List}
 use Rattle.std.specs.List.{list_any}
-use Rattle.session.specs.declared.refusal.HashRefusal.{HashRefusal}
 use Rattle.session.specs.declared.refusal.HashRefusal.TheVariants.{NoMemory}
-use Rattle.session.specs.declared.verdict.Verdict.{Verdict}
 use Rattle.session.specs.declared.verdict.Verdict.TheVariants as verdict
 use Rattle.checker.specs.declared.told.Told.{Told}
 use Rattle.checker.specs.declared.told.Told.TheVariants as told

@@ -109,14 +109,14 @@ fn next_told<N: Stepper, R: Source>(
     ensures stays { OnErr result (N.state session.new ≡ N.state session.old) }
 {
     match reader.advance() {
-        Ok(true) => Ok(told_of(session, reader.frame())),
+        Ok(true) => Ok(take_frame(session, reader.frame())),
         Ok(false) => Err(Ending::End),
         Err(fault) => Err(Ending::Fault(fault)),
     }
 }
 
-// What is told of a frame.
-fn told_of<N: Stepper>(session: &mut N, frame: Frame<'_>) -> Told
+// Gives the frame's message to the session, and tells what is told of the frame.
+fn take_frame<N: Stepper>(session: &mut N, frame: Frame<'_>) -> Told
     ensures layout { N.layout session.new ≡ N.layout session.old }
     ensures step { FrameStep (N.layout session.old) (N.state session.old) frame.entry result (N.state session.new) }
 {

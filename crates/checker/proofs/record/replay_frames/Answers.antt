@@ -1,4 +1,4 @@
-use Rattle.std.proofs.Common.{◌≡◌, ◌+◌, ◌≤◌, ◌<◌, ◌^◌, Ok, Err, subst, sym, refl, ◌∙◌, ap, arith}
+use Rattle.std.proofs.Common.{◌<◌, ◌^◌, subst, refl, ◌∙◌, arith}
 use Rattle.benc.proofs.Known.{OnErr_anyway}
 use Rattle.checker.specs.Replay.{TellsFrame}
 use Rattle.checker.proofs.Replaying.{in_replay_none, in_replay_more, report_ends, cut_at_end, cut_in_line, frame_falls}
