@@ -116,10 +116,10 @@ const WRONG_SIZES: &str =
     "1 bad frame 21 2\n2 bad frame 7 1\n3 bad frame 22 80\n4 bad frame 7 263218\nend\n";
 
 // Whether the report is that of four frames of a wrong size, from a source that gives so many bytes a call.
-fn tells_wrong_sizes(rt: &HostRuntime, record: &[u8], at_most: usize) -> Result<bool, Fail>
+fn tells_wrong_sizes(rt: &HostRuntime, frames: &[u8], at_most: usize) -> Result<bool, Fail>
     requires { 0 < at_most }
 {
-    let mut source = MemSource::new(record).at_most(at_most);
+    let mut source = MemSource::new(frames).at_most(at_most);
     let mut out = MemSink::with_room(rt.alloc(), 128)?;
     let outcome = replay(rt.alloc(), &mut Bare, &mut source, &mut out)?;
     Ok(out.written() == WRONG_SIZES.as_bytes() && outcome.status() == 1)
@@ -127,12 +127,12 @@ fn tells_wrong_sizes(rt: &HostRuntime, record: &[u8], at_most: usize) -> Result<
 
 #[test]
 fn frames_of_a_wrong_size(rt: HostRuntime) -> Result<(), Fail> {
-    let mut record = b"\0\0\0\x02\x15\0\0\0\0\x01\x07\0\0\0\x50\x16".to_vec(rt.alloc())?;
-    record.resize(95, 0)?;
-    record.extend_from_slice(b"\0\x04\x04\x32\x07")?;
-    record.resize(263317, 0)?;
-    assert!(rt; tells_wrong_sizes(&rt, &record, 1)?);
-    assert!(rt; tells_wrong_sizes(&rt, &record, 7)?);
-    assert!(rt; tells_wrong_sizes(&rt, &record, 263317)?);
+    let mut frames = b"\0\0\0\x02\x15\0\0\0\0\x01\x07\0\0\0\x50\x16".to_vec(rt.alloc())?;
+    frames.resize(95, 0)?;
+    frames.extend_from_slice(b"\0\x04\x04\x32\x07")?;
+    frames.resize(263317, 0)?;
+    assert!(rt; tells_wrong_sizes(&rt, &frames, 1)?);
+    assert!(rt; tells_wrong_sizes(&rt, &frames, 7)?);
+    assert!(rt; tells_wrong_sizes(&rt, &frames, 263317)?);
     Ok(())
 }
