@@ -1,20 +1,19 @@
 -- The loop of a replay: one more frame, and the end.
-use Rattle.std.proofs.Common.{◌≡◌, ◌≢◌, ◌<◌, ◌≤◌, ◌+◌, ◌++◌, ◌||◌, ℕ, suc, Bool, true, false, List, [], ◌∷◌, length, take, Option, Some, None, Result, Ok, Err, IsOk, refl, sym, ap, ◌∙◌, subst, arith}
+use Rattle.std.proofs.Common.{◌≡◌, ◌≢◌, ◌≤◌, ◌+◌, ◌++◌, ◌||◌, ℕ, suc, Bool, false, List, [], ◌∷◌, length, take, Option, Some, None, refl, sym, ap, ◌∙◌, subst, arith}
 use Rattle.std.specs.List.{AllZip, concat, flat_map, list_any, All}
-use Rattle.std.proofs.lemmas.List.{append_assoc, append-nil, length-append}
+use Rattle.std.proofs.lemmas.List.{append-nil, length-append}
 use Rattle.std.proofs.lemmas.List.Elements.{All-nil, All-cons, All-append}
 use Rattle.std.proofs.lemmas.List.Folds.{concat-append, list_any-append}
 use Rattle.std.proofs.Math.Bool.{or-false}
 use Rattle.std.proofs.lemmas.Grind.{flat_map-append}
 use Rattle.wire.proofs.Partial.{length-frame, IsPartial-from_short}
-use Rattle.std.specs.Io.KnownBytes.{Appends, Consumes, IsAtEnd}
+use Rattle.std.specs.Io.KnownBytes.{Appends, IsAtEnd}
 use Rattle.benc.specs.Device.{AppendsBeginning}
 use Rattle.benc.proofs.Known.{Appends-append, Appends_nothing, Consumes-append, Consumes_nothing}
 use Rattle.wire.specs.declared.fault.FrameFault.{FrameFault}
 use Rattle.wire.specs.declared.fault.FrameFault.TheVariants as fault
 use Rattle.wire.specs.declared.frame.Frame.{Frame}
 use Rattle.wire.specs.declared.frame.Frame.TheVariants as frame
-use Rattle.wire.specs.declared.message.Message.{Message}
 use Rattle.wire.specs.Frames.{Frames, IsBody, IsPartial}
 use Rattle.wire.specs.Frames as stream
 use Rattle.wire.specs.Meaning.{Means}
@@ -26,10 +25,10 @@ use Rattle.checker.specs.declared.told.Told.TheVariants as told
 use Rattle.checker.specs.declared.ending.Ending.{Ending}
 use Rattle.checker.specs.declared.ending.Ending.TheVariants as ending
 use Rattle.checker.specs.declared.outcome.Outcome.{Outcome}
-use Rattle.checker.specs.Outcome.{is_refusal, is_no_memory, is_fault, outcome_of}
+use Rattle.checker.specs.Outcome.{is_refusal, is_no_memory, is_fault}
 use Rattle.checker.specs.SafeStep.{IsSafeStep, IsSafeRun}
 use Rattle.checker.specs.ReplayLines.{frame_line_of, frame_lines_from, ending_line_of}
-use Rattle.checker.specs.Replay.{messages, told_of, FrameStep, TellsFrame, TellsEnding, IsEnding, CountsEnding, Replayed, AppendsShort, report_lines, IsReport, IsCutReport}
+use Rattle.checker.specs.Replay.{messages, told_of, FrameStep, TellsFrame, TellsEnding, IsEnding, CountsEnding, Replayed, IsReport, IsCutReport}
 
 nothing_partial : IsPartial []
 nothing_partial = IsPartial-from_short [] (omega arith)
@@ -171,10 +170,6 @@ module _ {R : Type 0} (left : R → Option (List ℕ)) (limit faults : R → ℕ
     counted = subst (λ n. CountsEnding n (faults new) (Some e)) r.counted next.counted;
   }
 
-  -- a frame takes a byte at least
-  pub frame_falls : (mid new : R) (t : Layout) (S S' : State) (d : Told) → TellsFrame left limit faults mid new t S S' d → limit new + 1 ≤ limit mid
-  frame_falls mid new t S S' d next = omega (arith, next.gave.falls, length-frame next.body)
-
   -- the end of the source between two frames
   pub tells_end : (old new : R) → Gave left limit old new [] → IsAtEnd (left new) → faults new ≡ faults old → TellsEnding left limit faults old new ending.End
   tells_end old new gave at_end counted = record {
@@ -215,26 +210,32 @@ pub record InReplay {R : Type 0} (left : R → Option (List ℕ)) (limit faults 
   pub no_memory_is : outcome.no_memory ≡ list_any is_no_memory tolds
   pub no_fault : outcome.fault ≡ false
 
-module _ {R : Type 0} (left : R → Option (List ℕ)) (limit faults : R → ℕ) where
-  pub in_replay_none : (s s' : R) → s' ≡ s → (t : Layout) (S : State) (w : Option (List ℕ)) (o : Outcome)
-      → o.refused ≡ false → o.no_memory ≡ false → o.fault ≡ false → InReplay left limit faults s s' t S S w w 0 o
-  in_replay_none s s' same t S w o refused no_memory no_fault = record {
+module _ {R : Type 0} {left : R → Option (List ℕ)} {limit faults : R → ℕ} where
+  -- a frame takes a byte at least
+  pub frame_falls : {mid new : R} {t : Layout} {S S' : State} {d : Told} → TellsFrame left limit faults mid new t S S' d → limit new + 1 ≤ limit mid
+  frame_falls {mid} {new} {t} {S} {S'} {d} next = omega (arith, next.gave.falls, length-frame next.body)
+
+  -- before the first frame
+  pub in_replay_none : (s : R) (t : Layout) (S : State) (w : Option (List ℕ)) (o : Outcome)
+      → o.refused ≡ false → o.no_memory ≡ false → o.fault ≡ false → InReplay left limit faults s s t S S w w 0 o
+  in_replay_none s t S w o refused no_memory no_fault = record {
     tolds = [];
-    replayed = subst (λ x. Replayed left limit faults s x t S S [] None) (sym same) (replayed_none left limit faults s t S);
+    replayed = replayed_none left limit faults s t S;
     number_is = refl;
-    room = let fewer : limit s' ≡ limit s = ap limit same in omega arith;
+    room = omega arith;
     wrote = Appends_nothing w;
     refused_is = refused;
     no_memory_is = no_memory;
     no_fault = no_fault;
   }
 
-  pub in_replay_more : (old mid new : R) (t : Layout) (S S' S'' : State) (w w' w'' : Option (List ℕ)) (n : ℕ) (o o' : Outcome)
-      (d : Told) → InReplay left limit faults old mid t S S' w w' n o → TellsFrame left limit faults mid new t S' S'' d
+  -- after one more
+  pub in_replay_more : {old mid new : R} {t : Layout} {S S' S'' : State} {w w' : Option (List ℕ)} {n : ℕ} {o : Outcome} {d : Told}
+      (w'' : Option (List ℕ)) (o' : Outcome) → InReplay left limit faults old mid t S S' w w' n o → TellsFrame left limit faults mid new t S' S'' d
       → Appends w' w'' (frame_line_of (n + 1) d)
       → o'.refused ≡ (o.refused || is_refusal d) → o'.no_memory ≡ (o.no_memory || is_no_memory d) → o'.fault ≡ o.fault
       → InReplay left limit faults old new t S S'' w w'' (n + 1) o'
-  in_replay_more old mid new t S S' S'' w w' w'' n o o' d r next wrote refused no_memory no_fault = record {
+  in_replay_more {old} {mid} {new} {t} {S} {S'} {S''} {w} {w'} {n} {o} {d} w'' o' r next wrote refused no_memory no_fault = record {
     tolds = r.tolds ++ d ∷ [];
     replayed = replayed_more left limit faults old mid new t S S' S'' r.tolds d r.replayed next;
     number_is = omega (arith, r.number_is, length-append r.tolds (d ∷ []));
@@ -247,15 +248,14 @@ module _ {R : Type 0} (left : R → Option (List ℕ)) (limit faults : R → ℕ
   }
 
   -- the last line did not go out whole
-  pub cut_at_end : (old mid new out : R) → out ≡ new → (t : Layout) (S S' S'' : State) (w w' w'' : Option (List ℕ)) (n : ℕ) (o : Outcome)
-      (e : Ending) → InReplay left limit faults old mid t S S' w w' n o → TellsEnding left limit faults mid new e → S'' ≡ S'
+  pub cut_at_end : {old mid new : R} {t : Layout} {S S' S'' : State} {w w' : Option (List ℕ)} {n : ℕ} {o : Outcome} {e : Ending}
+      (w'' : Option (List ℕ)) → InReplay left limit faults old mid t S S' w w' n o → TellsEnding left limit faults mid new e → S'' ≡ S'
       → AppendsBeginning w' w'' (ending_line_of e)
-      → IsCutReport left limit faults old out t S S'' w w''
-  cut_at_end old mid new out same t S S' S'' w w' w'' n o e r next stays wrote = record {
+      → IsCutReport left limit faults old new t S S'' w w''
+  cut_at_end {old} {mid} {new} {t} {S} {S'} {S''} {w} {w'} {n} {o} {e} w'' r next stays wrote = record {
     tolds = r.tolds;
     ending = Some e;
-    replayed = subst (λ x. Replayed left limit faults old x t S S'' r.tolds (Some e)) (sym same)
-        (replayed_ends left limit faults old mid new t S S' S'' r.tolds e r.replayed next stays);
+    replayed = replayed_ends left limit faults old mid new t S S' S'' r.tolds e r.replayed next stays;
     wrote = record {
       earlier = frame_lines_from 1 r.tolds;
       last = ending_line_of e;
@@ -266,15 +266,14 @@ module _ {R : Type 0} (left : R → Option (List ℕ)) (limit faults : R → ℕ
   }
 
   -- the whole report
-  pub report_ends : (old mid new out : R) → out ≡ new → (t : Layout) (S S' S'' : State) (w w' w'' : Option (List ℕ)) (n : ℕ) (o o' : Outcome)
-      (e : Ending) → InReplay left limit faults old mid t S S' w w' n o → TellsEnding left limit faults mid new e → S'' ≡ S'
+  pub report_ends : {old mid new : R} {t : Layout} {S S' S'' : State} {w w' : Option (List ℕ)} {n : ℕ} {o : Outcome} {e : Ending}
+      (w'' : Option (List ℕ)) (o' : Outcome) → InReplay left limit faults old mid t S S' w w' n o → TellsEnding left limit faults mid new e → S'' ≡ S'
       → Appends w' w'' (ending_line_of e) → o'.refused ≡ o.refused → o'.no_memory ≡ o.no_memory → o'.fault ≡ is_fault e
-      → IsReport left limit faults old out t S S'' w w'' o'
-  report_ends old mid new out same t S S' S'' w w' w'' n o o' e r next stays wrote refused no_memory ended = record {
+      → IsReport left limit faults old new t S S'' w w'' o'
+  report_ends {old} {mid} {new} {t} {S} {S'} {S''} {w} {w'} {n} {o} {e} w'' o' r next stays wrote refused no_memory ended = record {
     tolds = r.tolds;
     ending = e;
-    replayed = subst (λ x. Replayed left limit faults old x t S S'' r.tolds (Some e)) (sym same)
-        (replayed_ends left limit faults old mid new t S S' S'' r.tolds e r.replayed next stays);
+    replayed = replayed_ends left limit faults old mid new t S S' S'' r.tolds e r.replayed next stays;
     wrote = subst (Appends w w'') (sym (text_more (frame_lines_from 1 r.tolds) (ending_line_of e)))
         (Appends-append w w' w'' (concat (frame_lines_from 1 r.tolds)) (ending_line_of e) r.wrote wrote);
     outcome_is = outcome_same o' (list_any is_refusal r.tolds) (list_any is_no_memory r.tolds) (is_fault e)
@@ -282,15 +281,14 @@ module _ {R : Type 0} (left : R → Option (List ℕ)) (limit faults : R → ℕ
   }
 
   -- the line of a frame did not go out whole
-  pub cut_in_line : (old mid new out : R) → out ≡ new → (t : Layout) (S S' S'' : State) (w w' w'' : Option (List ℕ)) (n : ℕ) (o : Outcome)
-      (d : Told) → InReplay left limit faults old mid t S S' w w' n o → TellsFrame left limit faults mid new t S' S'' d
+  pub cut_in_line : {old mid new : R} {t : Layout} {S S' S'' : State} {w w' : Option (List ℕ)} {n : ℕ} {o : Outcome} {d : Told}
+      (w'' : Option (List ℕ)) → InReplay left limit faults old mid t S S' w w' n o → TellsFrame left limit faults mid new t S' S'' d
       → AppendsBeginning w' w'' (frame_line_of (n + 1) d)
-      → IsCutReport left limit faults old out t S S'' w w''
-  cut_in_line old mid new out same t S S' S'' w w' w'' n o d r next wrote = record {
+      → IsCutReport left limit faults old new t S S'' w w''
+  cut_in_line {old} {mid} {new} {t} {S} {S'} {S''} {w} {w'} {n} {o} {d} w'' r next wrote = record {
     tolds = r.tolds ++ d ∷ [];
     ending = None;
-    replayed = subst (λ x. Replayed left limit faults old x t S S'' (r.tolds ++ d ∷ []) None) (sym same)
-        (replayed_more left limit faults old mid new t S S' S'' r.tolds d r.replayed next);
+    replayed = replayed_more left limit faults old mid new t S S' S'' r.tolds d r.replayed next;
     wrote = record {
       earlier = frame_lines_from 1 r.tolds;
       last = frame_line_of (n + 1) d;

@@ -1,5 +1,5 @@
 -- Each step of a good state is safe.
-use Rattle.std.proofs.Common.{◌≡◌, ◌≢◌, ◌⊎◌, ℕ, ◌<◌, ◌-◌, ◌*◌, min, List, [], ◌∷◌, length, Some, None, inl, inr, refl, sym, ap, ap₂, ◌∙◌, subst, subst₂}
+use Rattle.std.proofs.Common.{◌≡◌, ◌⊎◌, ℕ, ◌<◌, ◌-◌, ◌*◌, min, List, [], ◌∷◌, length, inl, inr, refl, sym, ap, ap₂, ◌∙◌, subst₂}
 use Rattle.std.specs.Prelude.{slice_get}
 use Rattle.std.proofs.lemmas.Option.{same_Some, none-some}
 use Rattle.std.proofs.lemmas.List.Elements.{All-nil, All-cons}
@@ -15,7 +15,7 @@ use Rattle.session.specs.declared.verdict.Verdict.TheVariants as verdict
 use Rattle.hashtree.specs.Tree.{block, block_count}
 use Rattle.session.specs.TreeRoot.{TreeRoot, Fits}
 use Rattle.session.specs.Digest.{Hash}
-use Rattle.session.specs.Partial.{IsKnown, IsClosed, Collision, whole}
+use Rattle.session.specs.Partial.{IsKnown, Collision, whole}
 use Rattle.session.specs.Claims.{IsAccepted, Refuses}
 use Rattle.session.specs.Known.{look}
 use Rattle.session.specs.Session.{Layout, TreeState, State, IsTree, IsGood, IsAsked, IsPlaced, IsVerified, IsHashRefused, IsBlockRefused, HasSize, HasDistinctRoots, HasHashes, Step, IsTrueVerdict}

@@ -15,3 +15,4 @@ pub mod ReplayLines
 pub mod Outcome
 pub mod SafeStep
 pub mod Replay
+pub mod Bare

@@ -1,9 +1,7 @@
 -- What the lines of a replay's report amount to.
-use Rattle.std.specs.Prelude.{Bool, true, false, List}
+use Rattle.std.specs.Prelude.{ℕ, Bool, true, false, ◌||◌, if◌then◌else◌, List}
 use Rattle.std.specs.List.{list_any}
-use Rattle.session.specs.declared.refusal.HashRefusal.{HashRefusal}
 use Rattle.session.specs.declared.refusal.HashRefusal.TheVariants.{NoMemory}
-use Rattle.session.specs.declared.verdict.Verdict.{Verdict}
 use Rattle.session.specs.declared.verdict.Verdict.TheVariants as verdict
 use Rattle.checker.specs.declared.told.Told.{Told}
 use Rattle.checker.specs.declared.told.Told.TheVariants as told
@@ -35,3 +33,7 @@ outcome_of lines last = record {
   no_memory = list_any is_no_memory lines;
   fault = is_fault last;
 }
+
+-- the exit status: 2 for a fault or `refused H7`, else 1 for `refused` or `bad frame`, else 0
+abbrev pub status_of : Outcome → ℕ
+status_of o = if o.fault || o.no_memory then 2 else (if o.refused then 1 else 0)

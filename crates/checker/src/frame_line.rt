@@ -2,6 +2,9 @@
 ghost use Rattle.std.specs.Prelude.{◌≡◌, ◌≤◌, ◌++◌, length, codes, decimal};
 ghost use Rattle.checker.specs.ReplayLines.{hash_refusal_text, block_refusal_text, verdict_text, told_text, frame_line_of};
 
+#[cfg(test)]
+mod tests;
+
 use crate::line::Line;
 use crate::told::Told;
 use session::{BlockRefusal, HashRefusal, Verdict};

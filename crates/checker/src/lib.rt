@@ -20,7 +20,7 @@ pub use checking::check;
 pub use ending::Ending;
 pub use listing::show;
 pub use outcome::Outcome;
-pub use record::replay;
+pub use record::{Stepper, replay};
 pub use refused::refusal_line;
 pub use report::{FileVerdict, Report, V1Verdict};
 pub use root::{RootFault, root_line};

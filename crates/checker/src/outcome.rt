@@ -1,6 +1,6 @@
 //! What the lines of a replay's report amount to.
 ghost use Rattle.std.specs.Prelude.{◌≡◌, ◌||◌, Bool};
-ghost use Rattle.checker.specs.Outcome.{is_refusal, is_no_memory};
+ghost use Rattle.checker.specs.Outcome.{is_refusal, is_no_memory, status_of};
 
 use crate::told::Told;
 use session::{HashRefusal, Verdict};
@@ -31,6 +31,19 @@ impl Outcome {
             Told::Verdict(Verdict::HashRefused(_) | Verdict::BlockRefused(_))
             | Told::BadFrame { .. } => self.refused = true,
             Told::Verdict(_) => {}
+        }
+    }
+
+    /// The exit status: 2 where a fault or a want of memory is told, else 1 where a refusal or a bad frame is, else 0.
+    pub fn status(&self) -> u8
+        ensures { result ≡ status_of self.now }
+    {
+        if self.fault || self.no_memory {
+            2
+        } else if self.refused {
+            1
+        } else {
+            0
         }
     }
 }

@@ -7,6 +7,9 @@ ghost use Rattle.checker.specs.ReplayLines.{frame_line_of, ending_line_of};
 ghost use Rattle.checker.specs.Replay.{FrameStep, TellsFrame, TellsEnding, IsReport, IsCutReport};
 ghost use Rattle.wire.specs.declared.reader.State.TheVariants as state;
 
+#[cfg(test)]
+mod tests;
+
 use crate::ending::Ending;
 use crate::frame_line::frame_line;
 use crate::outcome::Outcome;
@@ -17,14 +20,18 @@ use session::Verdict;
 use std::alloc::Global;
 use wire::{Frame, FrameFault, FrameReader, Message};
 
+/// What the messages of a record go to: a session of a torrent, whose trees are closed and have distinct roots.
 pub trait Stepper {
+    // The torrent's trees and places, which no step changes.
     ghost layout: { Self → Layout };
 
+    // What is known and marked of each tree.
     ghost state: { Self → State };
 
-    fn step(&mut self, m: &Message<'_>) -> Verdict
+    /// Takes one message, and tells the verdict on it.
+    fn step(&mut self, message: &Message<'_>) -> Verdict
         ensures layout { layout self.new ≡ layout self.old }
-        ensures step { Step (layout self.old) (state self.old) m.now result (state self.new) };
+        ensures step { Step (layout self.old) (state self.old) message.now result (state self.new) };
 
     ghost good: { (s : Self) → IsGood (layout s) (state s) };
 
@@ -102,14 +109,14 @@ fn next_told<N: Stepper, R: Source>(
     ensures stays { OnErr result (N.state session.new ≡ N.state session.old) }
 {
     match reader.advance() {
-        Ok(true) => Ok(told_of(session, reader.frame())),
+        Ok(true) => Ok(take_frame(session, reader.frame())),
         Ok(false) => Err(Ending::End),
         Err(fault) => Err(Ending::Fault(fault)),
     }
 }
 
-// What is told of a frame.
-fn told_of<N: Stepper>(session: &mut N, frame: Frame<'_>) -> Told
+// Gives the frame's message to the session, and tells what is told of the frame.
+fn take_frame<N: Stepper>(session: &mut N, frame: Frame<'_>) -> Told
     ensures layout { N.layout session.new ≡ N.layout session.old }
     ensures step { FrameStep (N.layout session.old) (N.state session.old) frame.entry result (N.state session.new) }
 {

@@ -2,7 +2,7 @@ use Rattle.std.proofs.Common.{subst, sym}
 use Rattle.checker.specs.declared.told.Told.TheVariants as told
 use Rattle.checker.specs.Replay.{FrameStep}
 use Rattle.checker.proofs.SafeSteps.{safe_step}
-use Rattle.checker.proofs.record.told_of.Goals as goal
+use Rattle.checker.proofs.record.take_frame.Goals as goal
 
 pub returns-in-Message-clause-step : goal.returns-in-Message-clause-step
 returns-in-Message-clause-step g c =
