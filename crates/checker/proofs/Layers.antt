@@ -49,7 +49,7 @@ climb_over (suc k) m l i xs rows le lt len is =
     let d : m - k ≡ suc (m - suc k) = omega arith in
     let w : 2 ^ (m - k) ≡ 2 ^ (m - suc k) + 2 ^ (m - suc k) = ap (λ e. 2 ^ e) d ∙ two-pow (m - suc k) in
     let top : node_over rows (suc k) i ≡ node_over xs (suc (k + l)) i =
-        same_join rows xs k (k + l) i (climb_over k m l (2 * i) xs rows (omega arith) (omega arith) len is) (climb_over k m l (2 * i + 1) xs rows (omega arith) (omega arith) len is) in
+    same_join rows xs k (k + l) i (climb_over k m l (2 * i) xs rows (omega arith) (omega arith) len is) (climb_over k m l (2 * i + 1) xs rows (omega arith) (omega arith) len is) in
     top ∙ ap (λ e. node_over xs e i) (sym s)
 
 pads_fit : (n l h : ℕ) → l ≤ h → n ≤ 2 ^ h → first_pad n l ≤ 2 ^ (h - l)

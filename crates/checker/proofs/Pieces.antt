@@ -195,13 +195,16 @@ good_tree t f e bytes root place found some end is =
 
 pub bad_tree : (t : Description) (f : FileEntry) (e : TreeEntry) (bytes root : List ℕ) (k : ℕ) → IsSound t → tree_of t f ≡ Some e → e.length ≡ f.length
     → IsSoundTree t.piece_length e → IsFinished t.piece_length e bytes root (Some k) → (root ≡ e.root → ⊥) → IsVerdict t f (Some bytes) (file.Bad (f.first_piece + k))
-bad_tree t f e bytes root k sound found same tree end differs =
-    (bytes, refl, record {
-      tree = e;
-      tree_is = found;
-      length_is = end.length_is ∙ same;
-      root_differs = λ is. differs (end.root_is ∙ is);
-      place = k;
-      place_is = refl;
-      first = first_bad t.piece_length e end.layer end.hashes bytes k end.of tree sound.legal end.length_is end.other;
-    })
+bad_tree t f e bytes root k sound found same tree end differs = (
+  bytes,
+  refl,
+  record {
+    tree = e;
+    tree_is = found;
+    length_is = end.length_is ∙ same;
+    root_differs = λ is. differs (end.root_is ∙ is);
+    place = k;
+    place_is = refl;
+    first = first_bad t.piece_length e end.layer end.hashes bytes k end.of tree sound.legal end.length_is end.other;
+  },
+)

@@ -161,9 +161,9 @@ pub good_is_enough : (t : Description) (contents : Contents) (files : List FileV
     → TellsContents t contents files v1 → GoodFolder t contents → unreadable_count files ≡ 0 → is_yes files v1 ≡ true
 good_is_enough t contents files v1 sound has tells good none =
     let all : list_all is_good files ≡ true = all_from is_good files (λ n v is.
-        let file = at_length t.files n (omega (arith, slice_get_within files n v is, has.count)) in
-        let there = good.files n file.0 file.1 in
-        no_other t n file.0 (contents file.0.path) there.0 v sound file.1 there.1 there.2 (none_unreadable files n v none is) (tells.each n file.0 v file.1 is)) in
+    let file = at_length t.files n (omega (arith, slice_get_within files n v is, has.count)) in
+    let there = good.files n file.0 file.1 in
+    no_other t n file.0 (contents file.0.path) there.0 v sound file.1 there.1 there.2 (none_unreadable files n v none is) (tells.each n file.0 v file.1 is)) in
     let whole : list_all is_whole files ≡ true = all_from is_whole files (λ n v is. good_is_whole v (all_at is_good files n v all is)) in
     ap (λ b. b && stream_is_good v1) all ∙ by_stream v1 refl whole
   where

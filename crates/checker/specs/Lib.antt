@@ -11,3 +11,4 @@ pub mod Pass
 pub mod Text
 pub mod Refused
 pub mod Show
+pub mod Printed

@@ -4,6 +4,7 @@
 mod checking;
 mod line;
 mod listing;
+mod printing;
 mod refused;
 mod report;
 mod root;
@@ -13,6 +14,7 @@ mod text;
 
 pub use checking::check;
 pub use listing::show;
+pub use printing::print_report;
 pub use refused::refusal_line;
 pub use report::{FileVerdict, Report, V1Verdict};
 pub use root::{RootFault, root_line};
