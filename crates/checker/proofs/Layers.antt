@@ -1,13 +1,12 @@
 -- The piece layer of a tree: how many hashes it has, and the root over it.
-use Rattle.std.proofs.Common.{◌≡◌, ◌≢◌, ◌⊎◌, inl, inr, ℕ, zero, suc, ◌+◌, ◌-◌, ◌*◌, ◌/◌, ◌^◌, ◌<◌, ◌≤◌, leb, if◌then◌else◌, List, [], ◌∷◌, ◌++◌, length, take, drop, map, replicate, get_or, Option, Some, IfSome, refl, ap, sym, ◌∙◌, subst, append-nil, arith}
-use Rattle.std.specs.List.{range_with_len}
+use Rattle.std.proofs.Common.{◌≡◌, ◌⊎◌, inl, inr, ℕ, zero, suc, ◌+◌, ◌-◌, ◌*◌, ◌/◌, ◌^◌, ◌<◌, ◌≤◌, leb, if◌then◌else◌, List, [], length, take, drop, replicate, get_or, Option, Some, IfSome, refl, ap, sym, ◌∙◌, subst, append-nil, arith}
 use Rattle.std.proofs.Math.Nat.{div-eq_of_lt-le, lt-div-mul-add, mul-le-mul_right, div-mul-le_self, div-lt_iff_lt-mul}
 use Rattle.std.proofs.lemmas.Bool.Decides.{nat_tests}
 use Rattle.std.proofs.lemmas.Nat.{pow_pos}
 use Rattle.std.proofs.Common.{pow-add}
-use Rattle.std.proofs.lemmas.List.{length-append, length-replicate, length-map, take_all, get_or_append_left, get_or-append_right, get_or-replicate}
+use Rattle.std.proofs.lemmas.List.{length-append, length-replicate, take_all, get_or_append_left, get_or-append_right, get_or-replicate}
 use Rattle.std.proofs.lemmas.List.FromFn.{length-map-range_with_len, get_or-map-range_with_len}
-use Rattle.hashtree.specs.Tree.{IsPlace, block_count, filled, first_pad, height, layer_count, layer_of, leaves, node, node_over, root_of, root_over, tree, zero_hash}
+use Rattle.hashtree.specs.Tree.{block_count, filled, first_pad, height, layer_count, layer_of, leaves, node, node_over, root_of, root_over, tree, zero_hash}
 use Rattle.hashtree.proofs.Heights.{height_enough, height_is, height_least}
 use Rattle.hashtree.proofs.Nodes.{leaf_at, node_over-suc, pads_are_zero_hashes, top_is_root}
 use Rattle.hashtree.proofs.Pairs.{two-pow}

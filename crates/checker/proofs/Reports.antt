@@ -1,5 +1,5 @@
 -- What a report's yes means.
-use Rattle.std.proofs.Common.{◌≡◌, ◌≢◌, ◌⊎◌, inl, inr, ℕ, zero, suc, ◌+◌, ◌-◌, ◌*◌, ◌<◌, ◌≤◌, ◌&&◌, Bool, true, false, is_some, List, [], ◌∷◌, ◌++◌, length, replicate, slice_get, cond, Option, Some, None, option_and_then, refl, ap, sym, ◌∙◌, subst, arith}
+use Rattle.std.proofs.Common.{◌≡◌, ℕ, zero, suc, ◌-◌, ◌<◌, ◌≤◌, ◌&&◌, Bool, true, false, is_some, List, [], ◌∷◌, ◌++◌, length, replicate, slice_get, cond, Option, Some, None, option_and_then, refl, ap, sym, ◌∙◌, subst, arith}
 use Rattle.std.specs.List.{list_all}
 use Rattle.std.proofs.lemmas.List.Sums.{sum_by-cons}
 use Rattle.std.proofs.lemmas.Option.{same_Some, slice_get_within, none-some}
@@ -12,7 +12,7 @@ use Rattle.checker.specs.declared.report.V1Verdict.{V1Verdict}
 use Rattle.checker.specs.declared.report.V1Verdict.TheVariants as version1
 use Rattle.checker.specs.declared.stream.Running.{Running}
 use Rattle.checker.specs.Compared.{IsChecked}
-use Rattle.checker.specs.Folder.{Contents, Fits, GoodFolder, IsGood, V1Good, tree_of}
+use Rattle.checker.specs.Folder.{Contents, GoodFolder, IsGood, V1Good, tree_of}
 use Rattle.checker.specs.Streaming.{EndsAt, IsGiven, StandsAt}
 use Rattle.checker.specs.Verdicts.{HasVerdicts, IsBad, IsV1Verdict, IsVerdict, TellsContents, fault_count, is_checked, is_good, is_unreadable, is_whole, is_yes, stream_is_good, unreadable_count}
 use Rattle.checker.proofs.Beginnings.{beginning_all, IsBeginning}

@@ -1,5 +1,5 @@
 -- What `print_report` prints of a report.
-use Rattle.std.specs.Prelude.{ℕ, Bool, true, false, List, [], ◌∷◌, ◌++◌, map, codes, decimal, Option, Some, None}
+use Rattle.std.specs.Prelude.{ℕ, Bool, true, false, List, [], ◌∷◌, ◌++◌, codes, decimal, Option, Some, None}
 use Rattle.metainfo.specs.Description.{FileEntry}
 use Rattle.checker.specs.Text.{path_text}
 use Rattle.checker.specs.Verdicts.{is_yes}
