@@ -1,13 +1,12 @@
 -- The piece layer of a tree: how many hashes it has, and the root over it.
-use Rattle.std.proofs.Common.{◌≡◌, ◌≢◌, ◌⊎◌, inl, inr, ℕ, zero, suc, ◌+◌, ◌-◌, ◌*◌, ◌/◌, ◌^◌, ◌<◌, ◌≤◌, leb, if◌then◌else◌, List, [], ◌∷◌, ◌++◌, length, take, drop, map, replicate, get_or, Option, Some, IfSome, refl, ap, sym, ◌∙◌, subst, append-nil, arith}
-use Rattle.std.specs.List.{range_with_len}
+use Rattle.std.proofs.Common.{◌≡◌, ◌⊎◌, inl, inr, ℕ, zero, suc, ◌+◌, ◌-◌, ◌*◌, ◌/◌, ◌^◌, ◌<◌, ◌≤◌, leb, if◌then◌else◌, List, [], length, take, drop, replicate, get_or, Option, Some, IfSome, refl, ap, sym, ◌∙◌, subst, append-nil, arith}
 use Rattle.std.proofs.Math.Nat.{div-eq_of_lt-le, lt-div-mul-add, mul-le-mul_right, div-mul-le_self, div-lt_iff_lt-mul}
 use Rattle.std.proofs.lemmas.Bool.Decides.{nat_tests}
 use Rattle.std.proofs.lemmas.Nat.{pow_pos}
 use Rattle.std.proofs.Common.{pow-add}
-use Rattle.std.proofs.lemmas.List.{length-append, length-replicate, length-map, take_all, get_or_append_left, get_or-append_right, get_or-replicate}
+use Rattle.std.proofs.lemmas.List.{length-append, length-replicate, take_all, get_or_append_left, get_or-append_right, get_or-replicate}
 use Rattle.std.proofs.lemmas.List.FromFn.{length-map-range_with_len, get_or-map-range_with_len}
-use Rattle.hashtree.specs.Tree.{IsPlace, block_count, filled, first_pad, height, layer_count, layer_of, leaves, node, node_over, root_of, root_over, tree, zero_hash}
+use Rattle.hashtree.specs.Tree.{block_count, filled, first_pad, height, layer_count, layer_of, leaves, node, node_over, root_of, root_over, tree, zero_hash}
 use Rattle.hashtree.proofs.Heights.{height_enough, height_is, height_least}
 use Rattle.hashtree.proofs.Nodes.{leaf_at, node_over-suc, pads_are_zero_hashes, top_is_root}
 use Rattle.hashtree.proofs.Pairs.{two-pow}
@@ -49,7 +48,7 @@ climb_over (suc k) m l i xs rows le lt len is =
     let d : m - k ≡ suc (m - suc k) = omega arith in
     let w : 2 ^ (m - k) ≡ 2 ^ (m - suc k) + 2 ^ (m - suc k) = ap (λ e. 2 ^ e) d ∙ two-pow (m - suc k) in
     let top : node_over rows (suc k) i ≡ node_over xs (suc (k + l)) i =
-        same_join rows xs k (k + l) i (climb_over k m l (2 * i) xs rows (omega arith) (omega arith) len is) (climb_over k m l (2 * i + 1) xs rows (omega arith) (omega arith) len is) in
+    same_join rows xs k (k + l) i (climb_over k m l (2 * i) xs rows (omega arith) (omega arith) len is) (climb_over k m l (2 * i + 1) xs rows (omega arith) (omega arith) len is) in
     top ∙ ap (λ e. node_over xs e i) (sym s)
 
 pads_fit : (n l h : ℕ) → l ≤ h → n ≤ 2 ^ h → first_pad n l ≤ 2 ^ (h - l)

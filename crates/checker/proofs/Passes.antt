@@ -1,5 +1,5 @@
 -- A check, as far as its first files.
-use Rattle.std.proofs.Common.{◌≡◌, ◌⊎◌, inl, inr, ℕ, zero, suc, ◌+◌, ◌-◌, ◌*◌, ◌<◌, ◌≤◌, ◌&&◌, Bool, true, false, is_some, List, [], ◌∷◌, ◌++◌, length, replicate, slice_get, Option, Some, None, refl, ap, sym, ◌∙◌, subst, append_assoc, append-nil, arith}
+use Rattle.std.proofs.Common.{◌≡◌, ◌⊎◌, inl, inr, ℕ, ◌+◌, ◌-◌, ◌<◌, ◌≤◌, ◌&&◌, Bool, true, false, is_some, List, [], ◌∷◌, ◌++◌, length, replicate, slice_get, Option, Some, None, refl, ap, sym, ◌∙◌, subst, append_assoc, append-nil, arith}
 use Rattle.std.specs.List.{list_all}
 use Rattle.std.proofs.lemmas.List.{length-append, length-replicate, length_push, get_or_push, get_or_append_left}
 use Rattle.std.proofs.lemmas.List.Folds.{list_all-append}
@@ -14,7 +14,7 @@ use Rattle.checker.specs.Pass.{IsPart}
 use Rattle.checker.specs.Streaming.{EndsAt, IsGiven, StandsAt, Takes}
 use Rattle.checker.specs.Verdicts.{IsVerdict, is_whole}
 use Rattle.checker.proofs.Beginnings.{IsBeginning, beginning_zeros, beginning_file, beginning_empty}
-use Rattle.checker.proofs.Places.{place_before, start_is, ends_before_next, starts_before_next, pieces_are_positive}
+use Rattle.checker.proofs.Places.{place_before, start_is, ends_before_next, pieces_are_positive}
 
 -- where the stream goes on, it has not passed this place
 abbrev pub IsNotPast : Option Running → ℕ → Type 0

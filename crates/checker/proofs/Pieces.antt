@@ -1,5 +1,5 @@
 -- What a check against a layer tells of a file.
-use Rattle.std.proofs.Common.{◌≡◌, ◌≢◌, ◌⊎◌, inl, inr, ℕ, zero, suc, ◌+◌, ◌-◌, ◌*◌, ◌/◌, ◌^◌, ◌<◌, ◌≤◌, Bool, true, false, leb, if◌then◌else◌, List, [], ◌∷◌, ◌++◌, length, take, drop, map, replicate, get_or, slice_get, Option, Some, None, refl, ap, sym, ◌∙◌, subst, arith}
+use Rattle.std.proofs.Common.{◌≡◌, ◌⊎◌, inl, inr, ℕ, ◌+◌, ◌-◌, ◌*◌, ◌/◌, ◌^◌, ◌<◌, ◌≤◌, Bool, true, false, leb, if◌then◌else◌, List, [], ◌∷◌, ◌++◌, length, replicate, get_or, Option, Some, None, refl, ap, sym, ◌∙◌, subst, arith}
 use Rattle.std.proofs.Math.Nat.{div-mul-le_self, mul-le-mul_left}
 use Rattle.std.proofs.lemmas.Bool.Decides.{nat_tests}
 use Rattle.std.proofs.lemmas.Nat.{pow_pos}
@@ -195,13 +195,16 @@ good_tree t f e bytes root place found some end is =
 
 pub bad_tree : (t : Description) (f : FileEntry) (e : TreeEntry) (bytes root : List ℕ) (k : ℕ) → IsSound t → tree_of t f ≡ Some e → e.length ≡ f.length
     → IsSoundTree t.piece_length e → IsFinished t.piece_length e bytes root (Some k) → (root ≡ e.root → ⊥) → IsVerdict t f (Some bytes) (file.Bad (f.first_piece + k))
-bad_tree t f e bytes root k sound found same tree end differs =
-    (bytes, refl, record {
-      tree = e;
-      tree_is = found;
-      length_is = end.length_is ∙ same;
-      root_differs = λ is. differs (end.root_is ∙ is);
-      place = k;
-      place_is = refl;
-      first = first_bad t.piece_length e end.layer end.hashes bytes k end.of tree sound.legal end.length_is end.other;
-    })
+bad_tree t f e bytes root k sound found same tree end differs = (
+  bytes,
+  refl,
+  record {
+    tree = e;
+    tree_is = found;
+    length_is = end.length_is ∙ same;
+    root_differs = λ is. differs (end.root_is ∙ is);
+    place = k;
+    place_is = refl;
+    first = first_bad t.piece_length e end.layer end.hashes bytes k end.of tree sound.legal end.length_is end.other;
+  },
+)

@@ -1,5 +1,5 @@
 -- Where the files of a torrent stand in the version 1 stream.
-use Rattle.std.proofs.Common.{◌≡◌, ℕ, ◌+◌, ◌-◌, ◌*◌, ◌/◌, ◌<◌, ◌≤◌, List, length, take, map, get_or, slice_get, sum_by, option_map, Some, refl, ap, sym, subst, ◌^◌, ◌∙◌, arith}
+use Rattle.std.proofs.Common.{◌≡◌, ℕ, ◌+◌, ◌-◌, ◌*◌, ◌<◌, ◌≤◌, List, length, take, map, get_or, slice_get, sum_by, option_map, Some, refl, ap, sym, subst, ◌^◌, ◌∙◌, arith}
 use Rattle.std.proofs.Math.Nat.{lt-div-mul-add, mul-le-mul, pow-le-pow_right}
 use Rattle.std.proofs.lemmas.Nat.{pow_pos}
 use Rattle.std.proofs.lemmas.List.Sums.{sum_by_more, sum_by-take-le}

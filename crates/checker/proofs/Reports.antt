@@ -1,5 +1,5 @@
 -- What a report's yes means.
-use Rattle.std.proofs.Common.{◌≡◌, ◌≢◌, ◌⊎◌, inl, inr, ℕ, zero, suc, ◌+◌, ◌-◌, ◌*◌, ◌<◌, ◌≤◌, ◌&&◌, Bool, true, false, is_some, List, [], ◌∷◌, ◌++◌, length, replicate, slice_get, cond, Option, Some, None, option_and_then, refl, ap, sym, ◌∙◌, subst, arith}
+use Rattle.std.proofs.Common.{◌≡◌, ℕ, zero, suc, ◌-◌, ◌<◌, ◌≤◌, ◌&&◌, Bool, true, false, is_some, List, [], ◌∷◌, ◌++◌, length, replicate, slice_get, cond, Option, Some, None, option_and_then, refl, ap, sym, ◌∙◌, subst, arith}
 use Rattle.std.specs.List.{list_all}
 use Rattle.std.proofs.lemmas.List.Sums.{sum_by-cons}
 use Rattle.std.proofs.lemmas.Option.{same_Some, slice_get_within, none-some}
@@ -12,7 +12,7 @@ use Rattle.checker.specs.declared.report.V1Verdict.{V1Verdict}
 use Rattle.checker.specs.declared.report.V1Verdict.TheVariants as version1
 use Rattle.checker.specs.declared.stream.Running.{Running}
 use Rattle.checker.specs.Compared.{IsChecked}
-use Rattle.checker.specs.Folder.{Contents, Fits, GoodFolder, IsGood, V1Good, tree_of}
+use Rattle.checker.specs.Folder.{Contents, GoodFolder, IsGood, V1Good, tree_of}
 use Rattle.checker.specs.Streaming.{EndsAt, IsGiven, StandsAt}
 use Rattle.checker.specs.Verdicts.{HasVerdicts, IsBad, IsV1Verdict, IsVerdict, TellsContents, fault_count, is_checked, is_good, is_unreadable, is_whole, is_yes, stream_is_good, unreadable_count}
 use Rattle.checker.proofs.Beginnings.{beginning_all, IsBeginning}
@@ -161,9 +161,9 @@ pub good_is_enough : (t : Description) (contents : Contents) (files : List FileV
     → TellsContents t contents files v1 → GoodFolder t contents → unreadable_count files ≡ 0 → is_yes files v1 ≡ true
 good_is_enough t contents files v1 sound has tells good none =
     let all : list_all is_good files ≡ true = all_from is_good files (λ n v is.
-        let file = at_length t.files n (omega (arith, slice_get_within files n v is, has.count)) in
-        let there = good.files n file.0 file.1 in
-        no_other t n file.0 (contents file.0.path) there.0 v sound file.1 there.1 there.2 (none_unreadable files n v none is) (tells.each n file.0 v file.1 is)) in
+    let file = at_length t.files n (omega (arith, slice_get_within files n v is, has.count)) in
+    let there = good.files n file.0 file.1 in
+    no_other t n file.0 (contents file.0.path) there.0 v sound file.1 there.1 there.2 (none_unreadable files n v none is) (tells.each n file.0 v file.1 is)) in
     let whole : list_all is_whole files ≡ true = all_from is_whole files (λ n v is. good_is_whole v (all_at is_good files n v all is)) in
     ap (λ b. b && stream_is_good v1) all ∙ by_stream v1 refl whole
   where

@@ -1,8 +1,7 @@
 -- What it means that a folder holds a torrent's files (BEP 52; for a hybrid BEP 3 and BEP 47 too).
-use Rattle.std.specs.Prelude.{◌≡◌, ◌≢◌, ℕ, ◌+◌, ◌*◌, ◌^◌, ◌<◌, ◌≤◌, List, [], length, take, drop, get_or, slice_get, Option, Some, option_and_then}
-use Rattle.hashtree.specs.Tree.{root_of, node}
+use Rattle.std.specs.Prelude.{◌≡◌, ℕ, ◌+◌, ◌*◌, ◌^◌, ◌<◌, ◌≤◌, List, [], length, take, drop, get_or, slice_get, Option, Some, option_and_then}
+use Rattle.hashtree.specs.Tree.{root_of}
 use Rattle.metainfo.specs.Description.{Description, FileEntry, TreeEntry, Version1}
-use Rattle.metainfo.specs.Sound.{piece_layer}
 use Rattle.metainfo.specs.Cuts.{cut_digests}
 
 -- the content of each path of a folder: its bytes, or that nothing has that name

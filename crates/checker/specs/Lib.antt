@@ -16,3 +16,4 @@ pub mod Outcome
 pub mod SafeStep
 pub mod Replay
 pub mod Bare
+pub mod Printed

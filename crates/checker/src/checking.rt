@@ -11,10 +11,10 @@ ghost use Rattle.checker.specs.Shelf.{GrowsBy, more};
 ghost use Rattle.checker.specs.Streaming.{HasRoom};
 ghost use Rattle.checker.specs.Verdicts.{HasVerdicts, IsFileOf, IsVerdict, TellsContents, fault_count, is_whole, is_yes, unreadable_count};
 
-use benc::{DeviceFault, Source};
 use crate::report::{FileVerdict, Report};
 use crate::shelf::Shelf;
 use crate::stream::Stream;
+use benc::{DeviceFault, Source};
 use hashtree::{PieceCheck, Shape};
 use metainfo::{File, Torrent, TreeInfo};
 use std::alloc::{AllocError, Global};
@@ -24,7 +24,12 @@ use std::slice;
 const PART: u64 = 16384;
 
 // Checks one file of the torrent, and feeds it to the version 1 stream.
-fn check_file<S: Shelf>(shelf: &mut S, torrent: &Torrent<'_>, file: &File<'_>, stream: &mut Stream<'_>) -> FileVerdict
+fn check_file<S: Shelf>(
+    shelf: &mut S,
+    torrent: &Torrent<'_>,
+    file: &File<'_>,
+    stream: &mut Stream<'_>,
+) -> FileVerdict
     requires file { IsFileOf torrent.now (file_entry file.now) }
     requires place { 0 < file.now.length → HasPlaceFor stream.old.running (start_of torrent.now (file_entry file.now)) file.now.length }
     ensures counts { S.faults shelf.new ≡ more (S.faults shelf.old) (fault_count result) }
@@ -42,7 +47,12 @@ fn check_file<S: Shelf>(shelf: &mut S, torrent: &Torrent<'_>, file: &File<'_>, s
 }
 
 // Opens one file of the torrent, checks it, and hands it back.
-fn open_and_check<S: Shelf>(shelf: &mut S, torrent: &Torrent<'_>, file: &File<'_>, stream: &mut Stream<'_>) -> FileVerdict
+fn open_and_check<S: Shelf>(
+    shelf: &mut S,
+    torrent: &Torrent<'_>,
+    file: &File<'_>,
+    stream: &mut Stream<'_>,
+) -> FileVerdict
     requires file { IsFileOf torrent.now (file_entry file.now) }
     requires place { 0 < file.now.length → HasPlaceFor stream.old.running (start_of torrent.now (file_entry file.now)) file.now.length }
     ensures counts { S.faults shelf.new ≡ more (S.faults shelf.old) (fault_count result) }
@@ -53,7 +63,9 @@ fn open_and_check<S: Shelf>(shelf: &mut S, torrent: &Torrent<'_>, file: &File<'_
 {
     match shelf.open(file.path.parts()) {
         Ok(Some(mut source)) => {
-            let verdict = check_content(&mut source, torrent, file, stream).unwrap_or(FileVerdict::Unreadable);
+            let verdict = check_content(&mut source, torrent, file, stream).unwrap_or(
+                FileVerdict::Unreadable,
+            );
             shelf.close(source);
             verdict
         }
@@ -63,7 +75,12 @@ fn open_and_check<S: Shelf>(shelf: &mut S, torrent: &Torrent<'_>, file: &File<'_
 }
 
 // Checks an opened file.
-fn check_content<F: Source>(source: &mut F, torrent: &Torrent<'_>, file: &File<'_>, stream: &mut Stream<'_>) -> Result<FileVerdict, DeviceFault>
+fn check_content<F: Source>(
+    source: &mut F,
+    torrent: &Torrent<'_>,
+    file: &File<'_>,
+    stream: &mut Stream<'_>,
+) -> Result<FileVerdict, DeviceFault>
     requires file { IsFileOf torrent.now (file_entry file.now) }
     requires place { 0 < file.now.length → HasPlaceFor stream.old.running (start_of torrent.now (file_entry file.now)) file.now.length }
     ensures counts { CountsFault (F.faults source.old) (F.faults source.new) result }
@@ -77,7 +94,12 @@ fn check_content<F: Source>(source: &mut F, torrent: &Torrent<'_>, file: &File<'
 }
 
 // Checks an opened file that is to be empty.
-fn check_empty<F: Source>(source: &mut F, torrent: &Torrent<'_>, file: &File<'_>, stream: &mut Stream<'_>) -> Result<FileVerdict, DeviceFault>
+fn check_empty<F: Source>(
+    source: &mut F,
+    torrent: &Torrent<'_>,
+    file: &File<'_>,
+    stream: &mut Stream<'_>,
+) -> Result<FileVerdict, DeviceFault>
     requires { file.now.length ≡ 0 }
     ensures counts { CountsFault (F.faults source.old) (F.faults source.new) result }
     ensures verdict { IfOk result (IsOpenedVerdict torrent.now (file_entry file.now) (F.left source.old) (F.left source.new) stream.old.running stream.new.running) }
@@ -90,7 +112,13 @@ fn check_empty<F: Source>(source: &mut F, torrent: &Torrent<'_>, file: &File<'_>
 }
 
 // Checks an opened file that has a tree.
-fn check_tree<F: Source>(source: &mut F, torrent: &Torrent<'_>, file: &File<'_>, tree: &TreeInfo<'_>, stream: &mut Stream<'_>) -> Result<FileVerdict, DeviceFault>
+fn check_tree<F: Source>(
+    source: &mut F,
+    torrent: &Torrent<'_>,
+    file: &File<'_>,
+    tree: &TreeInfo<'_>,
+    stream: &mut Stream<'_>,
+) -> Result<FileVerdict, DeviceFault>
     requires file { IsFileOf torrent.now (file_entry file.now) }
     requires tree { tree_of torrent.now (file_entry file.now) ≡ Some (tree_entry tree.now) }
     requires place { HasPlaceFor stream.old.running (start_of torrent.now (file_entry file.now)) file.now.length }
@@ -133,7 +161,12 @@ fn piece_check<'t>(tree: &'t TreeInfo<'_>, piece_length: u64) -> PieceCheck<'t>
 }
 
 // Reads a file to its end, or to one byte past its stated length, and tells whether it has that length.
-fn read_content<F: Source>(source: &mut F, len: u64, pieces: &mut PieceCheck<'_>, stream: &mut Stream<'_>) -> Result<bool, DeviceFault>
+fn read_content<F: Source>(
+    source: &mut F,
+    len: u64,
+    pieces: &mut PieceCheck<'_>,
+    stream: &mut Stream<'_>,
+) -> Result<bool, DeviceFault>
     requires shape { chosen_shape pieces.old ≡ len }
     requires bound { len ≤ 2 ^ 46 }
     requires fresh { byte_count pieces.old ≡ 0 }
@@ -160,7 +193,11 @@ fn read_content<F: Source>(source: &mut F, len: u64, pieces: &mut PieceCheck<'_>
 ///
 /// It takes memory for the report alone, before the first path is opened: where that is refused, the shelf stays as it
 /// is. The shelf's count of failures grows by the number of files that are unreadable.
-pub fn check<S: Shelf>(alloc: Global, torrent: &Torrent<'_>, shelf: &mut S) -> Result<Report, AllocError>
+pub fn check<S: Shelf>(
+    alloc: Global,
+    torrent: &Torrent<'_>,
+    shelf: &mut S,
+) -> Result<Report, AllocError>
     ensures verdicts { IfOk result (λ r. HasVerdicts torrent.now r.files.items r.v1) }
     ensures contents { (contents : Contents) → ((path : List (List ℕ)) → S.under shelf.old path ≡ Some (contents path))
         → IfOk result (λ r. TellsContents torrent.now contents r.files.items r.v1) }

@@ -1,8 +1,8 @@
 //! The version 1 stream of a hybrid, fed file by file.
 ghost use Rattle.std.specs.Prelude.{◌≡◌, ℕ, ◌+◌, ◌-◌, ◌<◌, ◌≤◌, ◌++◌, [], List, length, replicate, Option, option_map, is_some, IfSome, None, true};
 
-use metainfo::{V1, V1Feed};
 use crate::report::V1Verdict;
+use metainfo::{V1, V1Feed};
 
 // The stream as far as it has come.
 #[derive(Drop)]
@@ -61,7 +61,11 @@ impl<'a> Running<'a> {
         ensures compared { (pieces : List (List ℕ)) (piece_length : ℕ) (content : List ℕ) → IsFed self.entry.feed pieces piece_length content
             → IsChecked (cut_digests piece_length (content ++ replicate (self.entry.total - self.entry.at) 0)) pieces result }
     {
-        let Running { mut feed, at, total } = self;
+        let Running {
+            mut feed,
+            at,
+            total,
+        } = self;
         feed.zeros(total - at);
         match feed.finish() {
             None => V1Verdict::Good,

@@ -36,7 +36,7 @@ files-preserved g c =
     let there = file_there t c.files-entries.result.now n c.file-item.result c.files-entries.ensures c.files-test.true c.file-item.is in
     let pushed = sym c.push_reserved.ensures.items in
     let is_there : (contents : Contents) → ((p : List (List ℕ)) → g.S.Shelf.under c.args.shelf.now p ≡ Some (contents p))
-        → g.S.Shelf.under c.files.shelf f.path ≡ Some (contents f.path) = λ contents tells. c.files.invariant.kept f.path ∙ tells f.path in
+    → g.S.Shelf.under c.files.shelf f.path ≡ Some (contents f.path) = λ contents tells. c.files.invariant.kept f.path ∙ tells f.path in
     record {
       room = omega (arith, c.files.invariant.room, c.push_reserved.ensures.capacity);
       counted = subst (λ xs. g.S.Shelf.faults c.check_file.new.shelf ≡ more (g.S.Shelf.faults c.args.shelf.now) (unreadable_count xs)) pushed

@@ -1,6 +1,5 @@
 use Rattle.std.proofs.Common.{◌≡◌, ◌<◌, ℕ, arith}
 use Rattle.metainfo.specs.Seen.{file_entry}
-use Rattle.checker.proofs.Pieces.{takes_file}
 use Rattle.checker.proofs.checking.check_content.Goals as goal
 
 longer : (a b : ℕ) → 0 < a → a ≡ b → 0 < b

@@ -1,10 +1,9 @@
-use Rattle.std.proofs.Common.{◌≡◌, ◌≤◌, ◌<◌, ◌+◌, ◌-◌, ◌*◌, ◌^◌, ◌∙◌, ℕ, refl, true≢false, replicate, ap, sym, subst, arith}
+use Rattle.std.proofs.Common.{◌≡◌, ◌≤◌, ◌-◌, ◌*◌, ◌∙◌, ℕ, refl, true≢false, replicate, ap, sym, subst, arith}
 use Rattle.std.proofs.lemmas.Slice.Eq.{bytes_eq-Decides}
 use Rattle.metainfo.specs.Description.{TreeEntry}
 use Rattle.metainfo.specs.Seen.{file_entry, tree_entry}
 use Rattle.metainfo.specs.Sound.{IsSoundTree}
-use Rattle.checker.specs.Content.{HasRead}
-use Rattle.checker.specs.Streaming.{HasRoom, StandsAt, Takes}
+use Rattle.checker.specs.Streaming.{StandsAt, Takes}
 use Rattle.checker.proofs.Places.{start_fits}
 use Rattle.checker.proofs.Pieces.{IsFinished, bad_tree, filled_room, finished, given_all, good_tree, opened, place_is_small, read_is, root_or_place}
 use Rattle.checker.proofs.Reports.{has_tree, sound_tree}

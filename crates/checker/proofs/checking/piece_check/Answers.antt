@@ -9,8 +9,13 @@ new-requires-else-tree-piece_length-clause-in_tree c =
     let shape : c.unwrap-shape.result ≡ len = unwrapped c.of.result c.unwrap-shape.result len c.unwrap-shape.ensures c.of.ensures.value in
     let piece : c.unwrap.result ≡ c.args.piece_length =
     unwrapped c.of-else-tree-piece_length.result c.unwrap.result c.args.piece_length c.unwrap.ensures c.of-else-tree-piece_length.ensures.value in
-    omega (arith, c.height-else-tree-piece_length.ensures.value, ap (λ n. height (block_count n)) piece, ap (λ n. height (block_count n)) shape,
-    layer_is_low c.args.piece_length len (omega (arith, c.if-tree-piece_length.false)))
+    omega (
+      arith,
+      c.height-else-tree-piece_length.ensures.value,
+      ap (λ n. height (block_count n)) piece,
+      ap (λ n. height (block_count n)) shape,
+      layer_is_low c.args.piece_length len (omega (arith, c.if-tree-piece_length.false)),
+    )
 
 pub new-requires-else-tree-piece_length-clause-whole : goal.new-requires-else-tree-piece_length-clause-whole
 new-requires-else-tree-piece_length-clause-whole c =
