@@ -1,7 +1,7 @@
 -- Rows that are compared one hash after the other.
-use Rattle.std.proofs.Common.{◌≡◌, ◌≢◌, ℕ, ◌+◌, ◌*◌, ◌^◌, ◌<◌, ◌≤◌, Option, Some, None, List, [], ◌∷◌, ◌++◌, length, take, get_or, refl, ap, sym, ◌∙◌, subst, arith, leb, if◌then◌else◌, inl, inr}
+use Rattle.std.proofs.Common.{◌≡◌, ℕ, ◌+◌, ◌<◌, ◌≤◌, Option, Some, None, List, [], ◌∷◌, ◌++◌, length, take, ap, sym, ◌∙◌, subst, arith, if◌then◌else◌, inl, inr}
 use Rattle.std.proofs.lemmas.Bool.{cases_lt, le-leb}
-use Rattle.std.proofs.lemmas.List.{length_push, get_or_push, take-append-le, take_all}
+use Rattle.std.proofs.lemmas.List.{length_push, get_or_push, take-append-le}
 use Rattle.std.proofs.lemmas.List.FromFn.{length-map-range_with_len}
 use Rattle.hashtree.specs.declared.root.RootBuilder.{RootBuilder}
 use Rattle.hashtree.specs.declared.check.PieceCheck.{PieceCheck}
@@ -10,7 +10,7 @@ use Rattle.hashtree.specs.Climb.{IsFed, byte_count, complete_nodes, some_of}
 use Rattle.hashtree.specs.Other.{IsFirstOther}
 use Rattle.hashtree.specs.Checked.{IsFedCheck}
 use Rattle.hashtree.proofs.Heights.{first_pad-place}
-use Rattle.hashtree.proofs.Blocks.{block_count_is, length-block_hashes}
+use Rattle.hashtree.proofs.Blocks.{length-block_hashes}
 use Rattle.hashtree.proofs.Rows.{length-climb}
 
 -- two rows that are one so far, and differ in the next hash

@@ -1,10 +1,10 @@
 -- Each layer of a file's tree leads to the root.
-use Rattle.std.proofs.Common.{◌≡◌, ℕ, zero, suc, ◌+◌, ◌-◌, ◌*◌, ◌/◌, ◌^◌, ◌<◌, ◌≤◌, List, [], ◌++◌, length, replicate, map, get_or, refl, ap, sym, ◌∙◌, arith, inl, inr}
-use Rattle.std.proofs.lemmas.Bool.{cases_lt, le-leb}
+use Rattle.std.proofs.Common.{◌≡◌, ℕ, zero, suc, ◌+◌, ◌-◌, ◌*◌, ◌^◌, ◌≤◌, List, [], length, replicate, map, get_or, refl, ap, sym, ◌∙◌, arith, inl, inr}
+use Rattle.std.proofs.lemmas.Bool.{cases_lt}
 use Rattle.std.proofs.lemmas.List.{length-append, length-replicate, get_or_append_left, get_or-append_right, get_or-replicate}
 use Rattle.std.proofs.lemmas.List.FromFn.{fill_by_all, get_or-map-range_with_len, length-map-range_with_len}
 use Rattle.std.specs.List.{range_with_len}
-use Rattle.hashtree.specs.Tree.{IsPlace, block_count, filled, first_pad, height, layer_count, layer_of, leaves, node, root_of, root_over, tree, zero_hash}
+use Rattle.hashtree.specs.Tree.{block_count, filled, first_pad, height, layer_count, layer_of, leaves, node, root_of, root_over, tree, zero_hash}
 use Rattle.hashtree.specs.Climb.{climb, pairs}
 use Rattle.hashtree.proofs.Pairs.{length-pairs, tree-climb, two-pow}
 use Rattle.hashtree.proofs.Heights.{first_pad-fits, first_pad-place, height_enough, pow_split}

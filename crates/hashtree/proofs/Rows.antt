@@ -1,12 +1,11 @@
 -- A layer of a file's tree, as the peaks have it: its complete nodes, and the last one.
-use Rattle.std.proofs.Common.{◌≡◌, ℕ, zero, suc, ◌+◌, ◌-◌, ◌*◌, ◌/◌, ◌^◌, ◌<◌, ◌≤◌, List, [], ◌∷◌, ◌++◌, length, take, drop, replicate, map, get_or, leb, if◌then◌else◌, refl, ap, sym, ◌∙◌, subst, arith}
-use Rattle.std.proofs.lemmas.Nat.{pow_pos}
+use Rattle.std.proofs.Common.{◌≡◌, ℕ, zero, suc, ◌+◌, ◌-◌, ◌*◌, ◌/◌, ◌^◌, ◌<◌, ◌≤◌, List, [], ◌∷◌, ◌++◌, length, take, drop, replicate, map, get_or, if◌then◌else◌, ap, sym, ◌∙◌, subst, arith}
 use Rattle.std.proofs.lemmas.Bool.{le-leb, lt-leb}
-use Rattle.std.proofs.lemmas.List.{append_assoc, length-append, length-replicate, length-take, length-drop, length_push, get_or_append_left, get_or-drop, get_or-take, nil_from_length}
+use Rattle.std.proofs.lemmas.List.{append_assoc, length-take, length-drop, length_push, get_or_append_left, get_or-drop, get_or-take, nil_from_length}
 use Rattle.std.proofs.lemmas.List.FromFn.{fill_by_all}
 use Rattle.std.specs.List.{range_with_len}
 use Rattle.sha2.specs.Sha256.{sha256}
-use Rattle.hashtree.specs.Tree.{block_count, block_hashes, first_pad, height, layer_count, layer_of, leaves, leaves_of, node, node_over, pad_leaf, root_of, tree}
+use Rattle.hashtree.specs.Tree.{block_count, block_hashes, first_pad, height, layer_count, layer_of, leaves, node, node_over, pad_leaf, root_of, tree}
 use Rattle.hashtree.specs.declared.root.RootBuilder.{RootBuilder}
 use Rattle.hashtree.specs.Climb.{IsFed, byte_count, climb, copies, layer_with, padded, pairs}
 use Rattle.hashtree.proofs.Pairs.{two-pow, length-pairs, take-pairs, drop-pairs, tree-climb, climb-lt}

@@ -1,9 +1,8 @@
-use Rattle.std.proofs.Common.{arith, rules, refl, ap, sym, subst, ◌∙◌, ◌≡◌, ◌≤◌, ◌+◌, ◌-◌, ◌++◌, length, take, drop}
+use Rattle.std.proofs.Common.{arith, ap, sym, subst, ◌∙◌, ◌≡◌, ◌++◌, length}
 use Rattle.std.proofs.lemmas.List.{take_all}
-use Rattle.hashtree.specs.Tree.{block_count, first_pad, layer_of}
-use Rattle.hashtree.specs.Climb.{byte_count, complete_nodes, some_of}
+use Rattle.hashtree.specs.Tree.{layer_of}
+use Rattle.hashtree.specs.Climb.{complete_nodes, some_of}
 use Rattle.hashtree.specs.Other.{IsFirstOther}
-use Rattle.hashtree.specs.Checked.{IsFedCheck}
 use Rattle.hashtree.proofs.Comparing.{length-layer_of}
 use Rattle.hashtree.proofs.check.PieceCheck.finish.Goals as goal
 

@@ -1,4 +1,4 @@
-use Rattle.std.proofs.Common.{arith, ◌≡◌, ◌∙◌, [], None, ap, sym, subst, refl, take, length}
+use Rattle.std.proofs.Common.{arith, ◌≡◌, [], None, ap, sym, subst, refl, take, length}
 use Rattle.hashtree.specs.Climb.{complete_nodes}
 use Rattle.hashtree.specs.Other.{IsFirstOther}
 use Rattle.hashtree.proofs.Keeping.{none_complete}

@@ -1,7 +1,7 @@
-use Rattle.std.proofs.Common.{arith, rules, refl, ap, sym, subst, ◌∙◌, ◌≡◌, ◌≤◌, ◌+◌, ◌-◌, ◌++◌, length, take, drop}
+use Rattle.std.proofs.Common.{arith, refl, ap, subst, ◌≤◌, ◌-◌, ◌++◌, length, take, drop}
 use Rattle.std.proofs.lemmas.List.{take_all, take_rest, length-drop}
 use Rattle.hashtree.specs.Tree.{block_count, first_pad}
-use Rattle.hashtree.specs.Climb.{byte_count, complete_nodes, some_of}
+use Rattle.hashtree.specs.Climb.{byte_count, complete_nodes}
 use Rattle.hashtree.specs.Checked.{IsFedCheck}
 use Rattle.hashtree.proofs.Feeding.{next_part}
 use Rattle.hashtree.proofs.Comparing.{checked, room_for_nodes}

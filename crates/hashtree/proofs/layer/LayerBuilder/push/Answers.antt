@@ -1,4 +1,4 @@
-use Rattle.std.proofs.Common.{arith, rules, ap, sym, subst, ◌∙◌, ◌≡◌, ◌+◌, ◌-◌, ◌++◌, length, take, drop}
+use Rattle.std.proofs.Common.{arith, ap, subst, ◌∙◌, ◌++◌, length, take}
 use Rattle.std.proofs.lemmas.List.{take_rest, length-drop}
 use Rattle.hashtree.specs.Climb as root
 use Rattle.hashtree.specs.Fed.{IsFedLayer}

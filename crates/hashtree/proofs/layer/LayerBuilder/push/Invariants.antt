@@ -1,4 +1,4 @@
-use Rattle.std.proofs.Common.{◌≡◌, ◌≤◌, ◌-◌, ◌+◌, ◌++◌, ℕ, List, length, take, false}
+use Rattle.std.proofs.Common.{◌≡◌, ◌≤◌, ◌-◌, ◌+◌, ◌++◌, ℕ, List, length, take}
 use Rattle.hashtree.specs.Fed.{IsFedLayer, byte_count}
 use Rattle.hashtree.proofs.layer.LayerBuilder.push.Given as goal
 

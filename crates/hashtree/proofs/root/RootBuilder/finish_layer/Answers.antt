@@ -1,4 +1,4 @@
-use Rattle.std.proofs.Common.{arith, rules, drop, ◌+◌, ◌*◌, ◌^◌, ◌∙◌, ◌≡◌, ◌<◌, ◌≤◌, ◌++◌, [], ap, subst, length}
+use Rattle.std.proofs.Common.{arith, rules, drop, ◌+◌, ◌*◌, ◌^◌, ◌∙◌, ◌≡◌, ◌<◌, ◌≤◌, ap, subst, length}
 use Rattle.std.proofs.lemmas.List.{append-nil}
 use Rattle.hashtree.specs.Tree.{block_count, block_hashes, height}
 use Rattle.hashtree.specs.Climb.{climb}

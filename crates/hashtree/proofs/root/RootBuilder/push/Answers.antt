@@ -1,4 +1,4 @@
-use Rattle.std.proofs.Common.{arith, drop, take, ◌+◌, ◌-◌, ◌∙◌, ◌≡◌, ap, sym, length, subst, ◌++◌}
+use Rattle.std.proofs.Common.{arith, take, ap, length, subst, ◌++◌}
 use Rattle.std.proofs.lemmas.List.{take_rest, length-drop}
 use Rattle.hashtree.specs.Climb.{IsFed}
 use Rattle.hashtree.proofs.Feeding.{next_part}
