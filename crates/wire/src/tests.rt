@@ -167,6 +167,30 @@ const ASK: Ask = Ask {
     proof: 9,
 };
 
+// The ask of a source's one frame, and how many hashes came with it, all of sevens.
+fn read_back<R: Source>(alloc: Global, source: &mut R) -> Option<(Ask, usize)> {
+    let mut reader = FrameReader::new(alloc, source);
+    let told = match reader.next() {
+        Ok(Some(Frame::Message(Message::Request(ask)))) => (ask, 0),
+        Ok(Some(Frame::Message(Message::Hashes { ask, hashes })))
+            if hashes.iter().all(|hash| { hash.iter().all(|b| *b == 7) }) => (ask, hashes.len()),
+        _ => return None,
+    };
+    match reader.next() {
+        Ok(None) => Some(told),
+        _ => None,
+    }
+}
+
+// The ask is read back, however the frame is cut.
+fn expect_ask(rt: &impl Abort, alloc: Global, frame: &[u8], hashes: usize) {
+    for at_most in [1, 7, usize::MAX] {
+        let mut source = MemSource::new(frame).at_most(at_most);
+        let told = read_back(alloc, &mut source);
+        assert!(rt; told == Some((ASK, hashes)), "{at_most} bytes a call");
+    }
+}
+
 #[test]
 fn a_request_and_its_answer_to_the_byte(rt: HostRuntime) {
     let fields = [0, 0, 0, 0, 0, 0, 2, 0, 0, 0, 2, 0, 0, 0, 0, 9];
@@ -177,6 +201,7 @@ fn a_request_and_its_answer_to_the_byte(rt: HostRuntime) {
     assert!(rt; sink.written().starts_with(&[0, 0, 0, 0x31, 0x15]));
     assert!(rt; sink.written().iter().skip(5).take(32).all(|b| *b == 9));
     assert!(rt; sink.written().ends_with(&fields));
+    expect_ask(&rt, rt.alloc(), sink.written(), 0);
 
     let hashes = vec![in rt.alloc(); [7u8; 32]; 513].expect(&rt, "memory");
     let answer = Message::Hashes {
@@ -196,6 +221,7 @@ fn a_request_and_its_answer_to_the_byte(rt: HostRuntime) {
             .all(|(a, b)| a == b)
     );
     assert!(rt; sink.written().iter().skip(53).all(|b| *b == 7));
+    expect_ask(&rt, rt.alloc(), sink.written(), 513);
 }
 
 #[test]
