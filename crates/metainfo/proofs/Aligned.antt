@@ -95,11 +95,11 @@ one_more k all i e v right here before h = record {
   placed = λ j p lt at file some. elim (lt_or_same j i lt) [
     | inl below ↦ h.placed j p below at file some
     | inr is ↦ (
-      let same : Some p ≡ Some (part_of v) = sym at ∙ ap (slice_get all) is ∙ here in
-      let part : p ≡ part_of v = cc in
-      let of_file : has_attribute 112 v ≡ false = ap (λ (q : Part). q.is_pad) (sym part) ∙ file in
-      let positive : 0 < entry_length v = subst (λ (q : Part). 0 < length_in q) part some in
-      ap (λ n. stream_length (take n all)) is ∙ sym h.stream_is ∙ placed_here v e right of_file positive ∙ h.pieces_is ∙ ap (λ n. pieces_end k (take n all)) (sym is))
+        let same : Some p ≡ Some (part_of v) = sym at ∙ ap (slice_get all) is ∙ here in
+        let part : p ≡ part_of v = cc in
+        let of_file : has_attribute 112 v ≡ false = ap (λ (q : Part). q.is_pad) (sym part) ∙ file in
+        let positive : 0 < entry_length v = subst (λ (q : Part). 0 < length_in q) part some in
+        ap (λ n. stream_length (take n all)) is ∙ sym h.stream_is ∙ placed_here v e right of_file positive ∙ h.pieces_is ∙ ap (λ n. pieces_end k (take n all)) (sym is))
   ];
 }
   where
@@ -145,4 +145,4 @@ ends_are k (item v vs) all i e left h =
     let b = parts_back v vs (drop i all) left in
     let at = at_index all i (part_of v) b.rest b.parts in
     ends_by k vs v all i e (is_misplaced v e) refl at.here at.before h
-      (λ more. ends_are k vs all (suc i) (after_entry k v e) (b.behind ∙ ap Some (sym at.behind)) more)
+    (λ more. ends_are k vs all (suc i) (after_entry k v e) (b.behind ∙ ap Some (sym at.behind)) more)

@@ -83,7 +83,7 @@ texts_end xs i ts j end le =
 same_more : (xs : List Value) (i : ℕ) (x : Value) (fs : List FileEntry) (sized pad : Bool) → i < length xs → x ≡ get_or xs i x
     → sized ≡ is_sized (view x) → pad ≡ has_attribute 112 (view x)
     → are_same (items_view (drop i xs)) fs
-        ≡ (if sized then (if pad then are_same (items_view (drop (i + 1) xs)) fs else begins (view x) (are_same (items_view (drop (i + 1) xs))) fs) else false)
+    ≡ (if sized then (if pad then are_same (items_view (drop (i + 1) xs)) fs else begins (view x) (are_same (items_view (drop (i + 1) xs))) fs) else false)
 same_more xs i x fs sized pad lt is is_sized is_pad =
     let rest = are_same (items_view (drop (i + 1) xs)) in
     ap (λ t. are_same t fs) (items_more xs i x lt is)
@@ -128,7 +128,7 @@ same_next : (xs : List Value) (i : ℕ) (x : Value) (fs : List File) (j : ℕ) (
     → sized ≡ is_sized (view x) → sized ≡ true → pad ≡ has_attribute 112 (view x) → pad ≡ false → j < length fs → f ≡ get_or fs j f
     → b ≡ is_entry_of (view x) (file_entry f)
     → are_same (items_view (drop i xs)) (drop j (map file_entry fs))
-        ≡ b && are_same (items_view (drop (i + 1) xs)) (drop (j + 1) (map file_entry fs))
+    ≡ b && are_same (items_view (drop (i + 1) xs)) (drop (j + 1) (map file_entry fs))
 same_next xs i x fs j f sized pad b lt is is_sized has_size is_pad unpadded in_fs is_f is_b =
     let es = map file_entry fs in
     let rest = are_same (items_view (drop (i + 1) xs)) in

@@ -94,7 +94,7 @@ entry_is v f e =
 entry_back : (v : Bencode) (f : FileEntry) → length_at v ≡ Some f.length → (part_of v).path ≡ Some f.path → is_entry_of v f ≡ true
 entry_back v f size path =
     and_from (is_length f.length (length_at v)) (is_path f.path (get (codes "path") v))
-      (length_back f.length (length_at v) size) (path_back f.path (get (codes "path") v) path)
+    (length_back f.length (length_at v) size) (path_back f.path (get (codes "path") v) path)
 
 -- the list behind its first entry
 parts_more : (v : Bencode) (vs : Items) (ps : List Part) → is_dict v ≡ true → parts_of vs ≡ Some ps → parts_of (item v vs) ≡ Some (part_of v ∷ ps)
@@ -161,8 +161,8 @@ file_added : (v : Bencode) (vs : Items) (f : FileEntry) (fs : List FileEntry) �
 file_added v vs f fs sized file is h =
     let at = entry_is v f is in
     let named : named_part (part_of v) ≡ named_entry f =
-      ap (λ (o : Option (List (List ℕ))). let r : Named = record { path = unwrap_or o []; size = unwrap_or (length_at v) 0 } in r) at.1
-      ∙ ap (λ (o : Option ℕ). let r : Named = record { path = f.path; size = unwrap_or o 0 } in r) at.0 in
+    ap (λ (o : Option (List (List ℕ))). let r : Named = record { path = unwrap_or o []; size = unwrap_or (length_at v) 0 } in r) at.1
+    ∙ ap (λ (o : Option ℕ). let r : Named = record { path = f.path; size = unwrap_or o 0 } in r) at.0 in
     record {
       parts = part_of v ∷ h.parts;
       listed = parts_more v vs h.parts (and_true _ _ sized).0 h.listed;
@@ -235,8 +235,8 @@ other_step v vs (f ∷ fs) true false s p e rest ps listed whole same =
     let head : named_part (part_of v) ≡ named_entry f = cc in
     let tail : files_in b.rest ≡ map named_entry fs = cc in
     elim (and_cases (is_entry_of v f) (are_same vs fs) e) [
-    | inl other ↦ (let bad : true ≡ false = sym (head_is v f s p (or_false (is_broken (part_of v)) _ unbroken).0 head) ∙ other in let no_way : ⊥ = cc in no_way)
-    | inr other ↦ rest fs other b.rest b.behind (or_false (is_broken (part_of v)) _ unbroken).1 tail
+      | inl other ↦ (let bad : true ≡ false = sym (head_is v f s p (or_false (is_broken (part_of v)) _ unbroken).0 head) ∙ other in let no_way : ⊥ = cc in no_way)
+      | inr other ↦ rest fs other b.rest b.behind (or_false (is_broken (part_of v)) _ unbroken).1 tail
     ]
 
 pub other_parts : (vs : Items) (fs : List FileEntry) → are_same vs fs ≡ false → AreOther vs fs

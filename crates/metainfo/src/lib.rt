@@ -10,8 +10,8 @@ mod refusal;
 mod torrent;
 mod tree;
 mod trees;
-mod version1;
 mod v1_feed;
+mod version1;
 
 pub use path::Path;
 pub use refusal::{Key, Refusal};
