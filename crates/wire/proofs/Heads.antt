@@ -5,7 +5,7 @@ use Rattle.wire.specs.declared.kind.Kind.{Kind}
 use Rattle.wire.specs.declared.head.Head.{Head}
 use Rattle.wire.specs.declared.head.Head.TheVariants.{KeepAlive, Kept, BadSize, Other}
 use Rattle.wire.specs.Kind.{id_of}
-use Rattle.wire.specs.Meaning.{IsRightSize, IsOf}
+use Rattle.wire.specs.Meaning.{IsRightSize}
 use Rattle.wire.specs.Head.{IsHead, Holds}
 
 pub single : (xs : List ℕ) → length xs ≡ 1 → xs ≡ get_or xs 0 0 ∷ []

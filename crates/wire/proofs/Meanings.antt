@@ -1,15 +1,14 @@
 -- A body means one frame.
-use Rattle.std.proofs.Common.{◌≡◌, ℕ, ◌^◌, ◌<◌, List, [], ◌∷◌, ◌++◌, length, take, drop, All, inl, inr, refl, sym, ap, ◌∙◌, subst, arith}
+use Rattle.std.proofs.Common.{◌≡◌, ℕ, List, [], ◌∷◌, ◌++◌, length, take, drop, inl, inr, refl, sym, ap, ◌∙◌, subst, arith}
 use Rattle.std.specs.List.{flat_map, AllByRecursion}
 use Rattle.std.proofs.lemmas.List.{append_assoc, append-nil, length-append, take_at, drop_at}
 use Rattle.std.proofs.lemmas.List.Elements.{recursion_from_All}
 use Rattle.wire.specs.declared.message.Ask.{Ask}
 use Rattle.wire.specs.declared.frame.Frame.{Frame}
 use Rattle.wire.specs.declared.frame.Frame.TheVariants as frame
-use Rattle.wire.specs.declared.message.Message.{Message}
 use Rattle.wire.specs.declared.message.Message.TheVariants as message
 use Rattle.wire.specs.Frames.{four_bytes}
-use Rattle.wire.specs.Meaning.{IsAsk, IsHash, IsAskBody, IsPieceBody, IsHashesBody, IsOf, IsRead, IsRightSize, IsPieceSize, IsHashesSize, Means, SameFrame, ask_bytes}
+use Rattle.wire.specs.Meaning.{IsAsk, IsHash, IsAskBody, IsPieceBody, IsHashesBody, IsRead, IsPieceSize, IsHashesSize, Means, SameFrame, ask_bytes}
 use Rattle.wire.proofs.FourBytes.{same_from_four_bytes}
 use Rattle.wire.proofs.Written.{length-ask_bytes}
 

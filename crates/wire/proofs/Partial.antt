@@ -1,5 +1,5 @@
 -- What is less than a whole frame.
-use Rattle.std.proofs.Common.{◌≡◌, ℕ, ◌+◌, ◌^◌, ◌<◌, List, [], ◌++◌, length, ap, ◌∙◌, arith}
+use Rattle.std.proofs.Common.{◌≡◌, ℕ, ◌+◌, ◌^◌, ◌<◌, List, ◌++◌, length, ap, ◌∙◌, arith}
 use Rattle.std.proofs.lemmas.List.{append_assoc, length-append}
 use Rattle.wire.specs.Frames.{four_bytes, frame, IsPartial}
 use Rattle.wire.proofs.FourBytes.{length-four_bytes, same_from_four_bytes}

@@ -12,7 +12,7 @@ use Rattle.wire.specs.declared.message.Ask.{Ask}
 use Rattle.wire.specs.declared.message.Message.{Message}
 use Rattle.wire.specs.declared.message.Message.TheVariants as message
 use Rattle.wire.specs.Frames.{IsBody, four_bytes, frame}
-use Rattle.wire.specs.Meaning.{IsAsk, IsHash, IsAskBody, MeansMessage, ask_bytes}
+use Rattle.wire.specs.Meaning.{IsAsk, IsHash, MeansMessage, ask_bytes}
 use Rattle.wire.proofs.FourBytes.{length-four_bytes}
 
 -- a beginning of the first part is one of both

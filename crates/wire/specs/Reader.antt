@@ -1,5 +1,5 @@
 -- How far a reader of frames has come, what it holds, and what a call that asks it for the next frame says.
-use Rattle.std.specs.Prelude.{◌≡◌, ℕ, ◌≤◌, List, length, Option, Some, None, Result, Ok, Err, MatchResult, MatchOption, IsErrOf, vec_capacity}
+use Rattle.std.specs.Prelude.{◌≡◌, ℕ, ◌≤◌, List, length, Option, None, Result, Ok, Err, MatchResult, MatchOption, IsErrOf, vec_capacity}
 use Rattle.std.specs.Global.{Vec}
 use Rattle.wire.specs.Head.{Holds}
 use Rattle.wire.specs.Reading.{Gives, CountsRead}

@@ -1,4 +1,4 @@
-use Rattle.std.proofs.Common.{◌+◌, ◌≡◌, length, subst, arith}
+use Rattle.std.proofs.Common.{◌+◌, ◌≡◌, length, subst}
 use Rattle.wire.specs.Kind.{id_of}
 use Rattle.wire.specs.Meaning.{IsRightSize, IsHashesSize}
 use Rattle.wire.proofs.Bodies.{size_of_request, size_of_hashes, size_of_reject, IsAskBody-from_fields, IsHashesBody-from_fields}

@@ -1,4 +1,4 @@
-use Rattle.std.proofs.Common.{◌≡◌, length, take, arith, ◌∙◌, subst, sym}
+use Rattle.std.proofs.Common.{◌≡◌, length, arith, ◌∙◌, subst, sym}
 use Rattle.std.proofs.lemmas.Result.{err_from_is_err_and, MatchResult-weaker}
 use Rattle.wire.specs.Reading.{Gave}
 use Rattle.wire.proofs.Giving.{take-written}

@@ -1,7 +1,7 @@
-use Rattle.std.proofs.Common.{◌≡◌, ◌<◌, ◌^◌, ◌∷◌, [], ◌++◌, length, refl, arith, ◌∙◌}
-use Rattle.std.proofs.lemmas.List.{length_push, length-append}
+use Rattle.std.proofs.Common.{◌<◌, ◌^◌, ◌∷◌, [], ◌++◌, refl, arith, ◌∙◌}
+use Rattle.std.proofs.lemmas.List.{length_push}
 use Rattle.std.proofs.lemmas.List.Elements.{All-nil}
-use Rattle.wire.specs.Frames.{IsBody, frame}
+use Rattle.wire.specs.Frames.{IsBody}
 use Rattle.wire.proofs.Partial.{length-frame, IsPartial-from_short}
 use Rattle.wire.proofs.Runs.{All-push, Gave-no_frame, Gave-one_more, Frames-from_run, length-frames}
 use Rattle.wire.proofs.tests.count_frames.Goals as goal

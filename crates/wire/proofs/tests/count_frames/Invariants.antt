@@ -1,4 +1,4 @@
-use Rattle.std.proofs.Common.{◌≡◌, ◌*◌, ◌+◌, ℕ, ◌≤◌, List, length, All}
+use Rattle.std.proofs.Common.{◌≡◌, ℕ, List, length, All}
 use Rattle.std.specs.List.{flat_map}
 use Rattle.wire.specs.Frames.{IsBody, frame}
 use Rattle.wire.specs.Reader.{IsOpen}
