@@ -1,8 +1,13 @@
 -- Lemmas on torrents.
+pub mod Aligned
+pub mod Entries
+pub mod Hybrids
+pub mod InStream
 pub mod Keys
 pub mod Layering
 pub mod Placing
 pub mod Rooting
 pub mod Searching
+pub mod Streams
 pub mod Views
 pub mod Walking

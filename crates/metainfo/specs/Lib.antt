@@ -3,6 +3,7 @@ pub mod Description
 pub mod Describes
 pub mod Dictionary
 pub mod FileTree
+pub mod Matching
 pub mod Names
 pub mod PieceLayers
 pub mod Places

@@ -26,13 +26,14 @@ abbrev pub texts_in : Items → Option (List (List ℕ))
 texts_in no_items = Some []
 texts_in (item v vs) = option_and_then (λ s. option_and_then (λ ss. Some (s ∷ ss)) (texts_in vs)) (as_text v)
 
+-- at least one byte string
+abbrev pub some_texts : List (List ℕ) → Option (List (List ℕ))
+some_texts [] = None
+some_texts (s ∷ ss) = Some (s ∷ ss)
+
 -- a list of at least one byte string
 abbrev pub as_path : Bencode → Option (List (List ℕ))
 as_path v = option_and_then some_texts (option_and_then texts_in (as_list v))
-  where
-    some_texts : List (List ℕ) → Option (List (List ℕ))
-    some_texts [] = None
-    some_texts (s ∷ ss) = Some (s ∷ ss)
 
 -- an entry of `files`: a dictionary, a pad where `attr` has the letter `p`
 abbrev pub part_of : Bencode → Part
@@ -61,8 +62,11 @@ pub record Named : Type 0 where
   pub path : List (List ℕ)
   pub size : ℕ
 
+abbrev pub named_part : Part → Named
+named_part p = record { path = unwrap_or p.path []; size = length_in p }
+
 abbrev pub files_in : List Part → List Named
-files_in ps = map (λ p. record { path = unwrap_or p.path []; size = length_in p }) (filter (λ p. not p.is_pad) ps)
+files_in ps = map named_part (filter (λ p. not p.is_pad) ps)
 
 abbrev pub named : Listed → Named
 named f = record { path = f.path; size = f.size }
@@ -99,3 +103,7 @@ cuts_in piece_length ps info = option_and_then (as_digests 20 (pieces_of piece_l
 
 abbrev pub version1_of : ℕ → List Part → Bencode → Version1
 version1_of piece_length ps info = record { pieces = unwrap_or (cuts_in piece_length ps info) []; total = stream_length ps }
+
+-- the version 1 part of a hybrid; another torrent has none
+abbrev pub IsVersion1 : ℕ → Bencode → List ℕ → Option Version1 → Type 0
+IsVersion1 piece_length info name v = v ≡ (if is_hybrid info then Some (version1_of piece_length (the_parts (parts_in info name)) info) else None)

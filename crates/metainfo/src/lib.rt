@@ -10,6 +10,7 @@ mod refusal;
 mod torrent;
 mod tree;
 mod trees;
+mod version1;
 
 pub use path::Path;
 pub use refusal::{Key, Refusal};
