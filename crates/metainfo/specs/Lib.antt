@@ -5,6 +5,7 @@ pub mod Dictionary
 pub mod FileTree
 pub mod Matching
 pub mod Names
+pub mod Opening
 pub mod PieceLayers
 pub mod Places
 pub mod Refusals
