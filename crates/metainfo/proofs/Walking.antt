@@ -34,3 +34,7 @@ walked_inner path longer k ps v old new (Ok x) some e is good adds =
       λ bad. elim bad.1 [ inl one ↦ good one | inr more ↦ adds.1 (subst HasBadPathIn is more) ],
     )
 walked_inner path longer k ps v old new (Err r) some e is good adds = λ ne. let told = adds ne in (told.0, (some, inr (subst HasBadPathIn (sym is) told.1)))
+
+pub behind_none : (ws : List Walk) → map (behind []) ws ≡ ws
+behind_none [] = refl
+behind_none (w ∷ ws) = ap (λ us. w ∷ us) (behind_none ws)

@@ -7,6 +7,7 @@ pub mod Feeding
 pub mod FileTree
 pub mod Matching
 pub mod Names
+pub mod Opening
 pub mod PieceLayers
 pub mod Places
 pub mod Refusals

@@ -7,6 +7,7 @@ ghost use Rattle.benc.specs.View.{view, pairs_view};
 ghost use Rattle.benc.specs.Value.{Bencode, int};
 ghost use Rattle.metainfo.specs.Dictionary.{get, under, as_dict, as_int, as_text, value_at, pairs_in};
 ghost use Rattle.metainfo.specs.Names.{key_text};
+ghost use Rattle.metainfo.specs.Opening.{AreKeys, key_rows, told_rows};
 ghost use Rattle.metainfo.specs.Refusals.{IsPieceLength, top_rows, version_rows, present_rows, kind_rows, layers_rows, piece_length_rows, info_in, layers_in, number_in, text_in};
 ghost use Rattle.metainfo.specs.Steps.{Passes, ArePresent, AreOfKind, pairs_seen};
 
@@ -183,4 +184,42 @@ pub(crate) fn piece_length(number: i64) -> Result<u64, Refusal>
         return Err(Refusal::PieceLength);
     }
     Ok(n)
+}
+
+fn read_info<'v, 'a>(info: &'v Value<'a>) -> Result<Told<'v, 'a>, Refusal>
+    ensures { Passes (told_rows (view info.now)) (AreOfKind (view info.now)) result }
+{
+    version(info)?;
+    let present = all_present(info)?;
+    all_of_kind(present)
+}
+
+/// What the keys of a torrent file tell.
+pub(crate) struct Keys<'v, 'a> {
+    pub(crate) info: &'v Value<'a>,
+    pub(crate) tree: &'v Vec<Pair<'a>>,
+    pub(crate) name: &'a str,
+    pub(crate) layers: Option<&'v Vec<Pair<'a>>>,
+    pub(crate) piece_length: u64,
+}
+
+/// Tests the keys, up to the piece length.
+pub(crate) fn read_keys<'v, 'a>(top: &'v Value<'a>) -> Result<Keys<'v, 'a>, Refusal>
+    ensures { Passes (key_rows (view top.now)) (AreKeys (view top.now)) result }
+{
+    let info = info(top)?;
+    let Told {
+        tree,
+        name,
+        piece_length: number,
+    } = read_info(info)?;
+    let layers = layers(top)?;
+    let piece_length = piece_length(number)?;
+    Ok(Keys {
+        info,
+        tree,
+        name,
+        layers,
+        piece_length,
+    })
 }

@@ -4,6 +4,7 @@
 mod files;
 mod info;
 mod layers;
+mod open;
 mod path;
 mod place;
 mod refusal;
