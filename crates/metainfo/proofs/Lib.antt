@@ -1,6 +1,7 @@
 -- Lemmas on torrents.
 pub mod Aligned
 pub mod Ascending
+pub mod Assembling
 pub mod Entries
 pub mod Hybrids
 pub mod InStream
@@ -10,6 +11,7 @@ pub mod Listing
 pub mod Placing
 pub mod Rooting
 pub mod Searching
+pub mod Sounding
 pub mod Streams
 pub mod Tables
 pub mod Told
