@@ -68,7 +68,7 @@ listed_at [] n lt = absurd (omega arith)
 listed_at (x ∷ xs) zero lt = (x, refl)
 listed_at (x ∷ xs) (suc n) lt = listed_at xs n (omega arith)
 
-sum_named : (k : ℕ) (fs : List Listed) → sum_by (λ (x : Named). pieces_of k x.size) (map named fs) ≡ pieces_in k fs
+pub sum_named : (k : ℕ) (fs : List Listed) → sum_by (λ (x : Named). pieces_of k x.size) (map named fs) ≡ pieces_in k fs
 sum_named k [] = refl
 sum_named k (f ∷ fs) =
     sum_by-cons (λ (x : Named). pieces_of k x.size) (named f) (map named fs) ∙ ap (λ t. pieces_of k f.size + t) (sum_named k fs)

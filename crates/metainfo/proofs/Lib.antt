@@ -4,6 +4,7 @@ pub mod Cutting
 pub mod Fed
 pub mod Aligned
 pub mod Ascending
+pub mod Assembling
 pub mod Entries
 pub mod Hybrids
 pub mod InStream
@@ -13,6 +14,7 @@ pub mod Listing
 pub mod Placing
 pub mod Rooting
 pub mod Searching
+pub mod Sounding
 pub mod Streams
 pub mod Tables
 pub mod Told

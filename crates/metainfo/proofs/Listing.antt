@@ -14,7 +14,7 @@ entries_count : (p : ℕ) (ts : List Root) (first : ℕ) (fs : List Listed) → 
 entries_count p ts first [] = refl
 entries_count p ts first (f ∷ fs) = ap suc (entries_count p ts (first + pieces_of p f.size) fs)
 
-abbrev entry : List Root → ℕ → Listed → FileEntry
+abbrev pub entry : List Root → ℕ → Listed → FileEntry
 entry ts first f = record { path = f.path; length = f.size; tree = option_and_then (place_in ts) f.root; first_piece = first }
 
 entries_at : (p : ℕ) (ts : List Root) (first : ℕ) (fs : List Listed) (k : ℕ) (f : Listed) → slice_get fs k ≡ Some f
@@ -63,6 +63,12 @@ entries_first p ts first (f ∷ fs) zero e at =
 entries_first p ts first (f ∷ fs) (suc k) e at =
     let later = entries_first p ts (first + pieces_of p f.size) fs k e at in
     omega (arith, later, sum_by-cons (λ (h : Listed). pieces_of p h.size) f (take k fs))
+
+pub entries_back : (p : ℕ) (ts : List Root) (first : ℕ) (fs : List Listed) (k : ℕ) (e : FileEntry) → slice_get (entries_from p ts first fs) k ≡ Some e
+    → (f : Listed) × (n : ℕ) × (slice_get fs k ≡ Some f) × (entry ts n f ≡ e)
+entries_back p ts first [] k e at = cc
+entries_back p ts first (f ∷ fs) zero e at = let same : entry ts first f ≡ e = cc in (f, first, refl, same)
+entries_back p ts first (f ∷ fs) (suc k) e at = entries_back p ts (first + pieces_of p f.size) fs k e at
 
 pub laid_out : (p : ℕ) (ts : List Root) (fs : List Listed) → pieces_in p fs < 2 ^ 32 → AreLaidOut p (entries_from p ts 0 fs)
 laid_out p ts fs few = record {

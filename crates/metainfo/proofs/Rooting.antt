@@ -142,7 +142,7 @@ some_or_none None = inr refl
 some_or_none (Some n) = inl (n, refl)
 
 -- a root is there already, or is put behind the others
-with_cases : (ts : List Root) (size : ℕ) (s : List ℕ) → (with_root ts size (Some s) ≡ ts) ⊎ ((place_in ts s ≡ None) × (with_root ts size (Some s) ≡ ts ++ record { root = s; size = size } ∷ []))
+pub with_cases : (ts : List Root) (size : ℕ) (s : List ℕ) → (with_root ts size (Some s) ≡ ts) ⊎ ((place_in ts s ≡ None) × (with_root ts size (Some s) ≡ ts ++ record { root = s; size = size } ∷ []))
 with_cases ts size s =
     elim (some_or_none (place_in ts s)) [
       | inl there ↦ inl (rw there.1 refl)

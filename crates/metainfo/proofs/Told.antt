@@ -1,5 +1,8 @@
 -- What the keys of a torrent file tell.
-use Rattle.std.proofs.Common.{◌≡◌, ℕ, ℤ, List, Some, refl, sym, ap, ◌∙◌, codes}
+use Rattle.std.proofs.Common.{◌≡◌, ℕ, ℤ, List, [], Option, Some, None, refl, ap, unwrap_or, Bor, Vec, Global}
+use Rattle.benc.specs.declared.value.Pair.{Pair}
+use Rattle.benc.specs.View.{pairs_view}
+use Rattle.metainfo.specs.Steps.{pairs_seen}
 use Rattle.benc.specs.Value.{Bencode, int, text, dict, Pairs}
 use Rattle.metainfo.specs.Dictionary.{get, value_at, pairs_in}
 use Rattle.metainfo.specs.Refusals.{number_in, text_in}
@@ -15,3 +18,8 @@ text_found key v s is = ap text_in (value_found key v (text s) is)
 
 pub number_found : (key : List ℕ) (v : Bencode) (z : ℤ) → get key v ≡ Some (int z) → number_in (value_at key v) ≡ number_in (int z)
 number_found key v z is = ap number_in (value_found key v (int z) is)
+
+-- the pairs where there may be none
+pub seen_or : (o : Option (Bor (Vec Pair Global))) (d : Bor (Vec Pair Global)) → d.now.items ≡ [] → pairs_view (unwrap_or o d).now.items ≡ pairs_seen o
+seen_or None d none = ap pairs_view none
+seen_or (Some ps) d none = refl

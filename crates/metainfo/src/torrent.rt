@@ -89,6 +89,30 @@ impl<'a> Torrent<'a> {
     ghost use Rattle.metainfo.specs.Description.{FileEntry};
     ghost use Rattle.metainfo.specs.Seen.{file_entry, tree_entry, version1};
     ghost use Rattle.metainfo.specs.Sound.{IsSound};
+    ghost use Rattle.metainfo.specs.Seen.{described};
+
+    pub(crate) fn new(
+        name: &'a str,
+        piece_length: u64,
+        files: Vec<File<'a>>,
+        trees: Vec<TreeInfo<'a>>,
+        info_hash_v2: Hash,
+        info_hash_v1: [u8; 20],
+        v1: Option<V1<'a>>,
+    ) -> Torrent<'a>
+        requires { IsSound (described name.now piece_length files.items trees.items info_hash_v2 info_hash_v1 v1) }
+        ensures { result ≡ described name.now piece_length files.entry.items trees.entry.items info_hash_v2 info_hash_v1 v1.entry }
+    {
+        Torrent {
+            name,
+            piece_length,
+            files,
+            trees,
+            info_hash_v2,
+            info_hash_v1,
+            v1,
+        }
+    }
 
     /// The display name.
     pub fn name(&self) -> &'a str
