@@ -25,3 +25,5 @@ pub mod Ranges
 pub mod Messages
 pub mod Counting
 pub mod Layers
+pub mod Keeping
+pub mod Sessions

@@ -69,10 +69,10 @@ set-other S n k a s other e =
 
 -- ---- steps keep the trees closed
 
-closed-same : (t : TreeRoot) (K L : PartialTree) → ((l i : ℕ) → K l i ≡ L l i) → IsClosed t K → IsClosed t L
+pub closed-same : (t : TreeRoot) (K L : PartialTree) → ((l i : ℕ) → K l i ≡ L l i) → IsClosed t K → IsClosed t L
 closed-same t K L same closed = subst (IsClosed t) (λ i l j. same l j i) closed
 
-marked-known : (s : TreeState) (b i : ℕ) (leaf : Hash) → look s.known 0 b ≡ Some leaf → (leaves.contains s.marked i ≡ true → IsKnown (look s.known) 0 i)
+pub marked-known : (s : TreeState) (b i : ℕ) (leaf : Hash) → look s.known 0 b ≡ Some leaf → (leaves.contains s.marked i ≡ true → IsKnown (look s.known) 0 i)
     → leaves.contains (leaves.insert s.marked b) i ≡ true → IsKnown (look s.known) 0 i
 marked-known s b i leaf known old e =
     elim (or_cases (eq_by_cmp nat_cmp i b) (leaves.contains s.marked i) (sym (leaves.contains-insert nat_cmp_total s.marked b i) ∙ e)) [
@@ -190,7 +190,7 @@ step-learns t S m S' (verified index begin bytes file b h) n tree s at = elim (c
   }
 ]
 
-verdict-true : (t : Layout) (S : State) (m : Message) (v : Verdict) (S' : State) → IsGood t S → Step t S m v S' → IsTrueVerdict t S m v
+pub verdict-true : (t : Layout) (S : State) (m : Message) (v : Verdict) (S' : State) → IsGood t S → Step t S m v S' → IsTrueVerdict t S m v
 verdict-true t S (message.Piece index begin bytes) (verdict.Verified file b) S' good h = verified-block t S good index begin bytes.now file b S' h
 verdict-true t S m v S' good h = tt
 

@@ -10,4 +10,5 @@ pub mod Flat
 pub mod Evidence
 pub mod Kept
 pub mod Session
+pub mod Layouts
 pub mod Names

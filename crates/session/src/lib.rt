@@ -8,10 +8,12 @@ mod found;
 pub mod laws;
 pub mod node_map;
 mod refusal;
+mod session;
 mod storing;
 pub mod tree;
 mod verdict;
 
 pub use flat::Flat;
 pub use refusal::{BlockRefusal, HashRefusal};
+pub use session::Session;
 pub use verdict::Verdict;

@@ -80,6 +80,14 @@ impl<N: NodeMap> Tree<N> {
         &self.root
     }
 
+    /// Whether this is the root.
+    pub fn has_root(&self, root: &Hash) -> bool
+        ensures yes { OnTrue result (self.now.root ≡ root.now) }
+        ensures no { OnFalse result (self.now.root ≢ root.now) }
+    {
+        self.root == *root
+    }
+
     /// How many places are known.
     pub fn known(&self) -> u64
         ensures { result ≡ finite.len self.now.state.known }
@@ -197,7 +205,7 @@ fn all_known<N: NodeMap>(nodes: &N, layer: u32, from: u64, count: u64) -> bool
 }
 
 /// Each hash has 32 bytes, as its type says.
-fn are_hashes(hashes: &[Hash])
+pub(crate) fn are_hashes(hashes: &[Hash])
     ensures { All (λ h. length h ≡ 32) hashes.now }
 {}
 

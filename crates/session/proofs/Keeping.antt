@@ -1,0 +1,78 @@
+-- The calls of one tree keep it good.
+use Rattle.std.proofs.Common.{◌≡◌, Result, Ok, Err, IfOk, IfErr, ℕ, ◌+◌, ◌*◌, ◌/◌, ◌^◌, ◌<◌, ◌≤◌, Bool, true, false, cond, eqb, ◌&&◌, List, length, Option, Some, None, inl, inr, refl, sym, ap, ap₂, ◌∙◌, subst, arith}
+use Rattle.std.specs.List.{All}
+use Rattle.std.specs.FinMap.{insert, empty}
+use Rattle.std.specs.FinSet as set
+use Rattle.std.specs.Ordering.{nat_cmp}
+use Rattle.sha2.specs.Sha256.{sha256}
+use Rattle.wire.specs.declared.message.Ask.{Ask}
+use Rattle.hashtree.specs.Tree.{block_count}
+use Rattle.session.specs.Digest.{Hash, IsHash}
+use Rattle.session.specs.TreeRoot.{TreeRoot, tree_height}
+use Rattle.session.specs.Partial.{PartialTree, IsPlace, IsKnown, IsClosed}
+use Rattle.session.specs.declared.refusal.HashRefusal.{HashRefusal}
+use Rattle.session.specs.Claims.{claims, joined, IsAccepted, TreeRefuses}
+use Rattle.session.specs.Fill.{fill_claims, IsFillAccepted}
+use Rattle.session.specs.Known.{Known, Marked, look, Joins}
+use Rattle.session.specs.Kept.{TreeState, KeptTree, info_of, root_alone, IsGoodTree, IsMarked}
+use Rattle.session.proofs.Joining.{joined-closed, joined-keeps}
+use Rattle.session.proofs.Filling.{fill-closed}
+use Rattle.session.proofs.Runs.{closed-same, marked-known}
+
+abbrev made : Hash → ℕ → Known → Marked → KeptTree
+made r l k m = record { root = r; length = l; state = record { known = k; marked = m } }
+
+pub same_tree : (a b : KeptTree) → b.root ≡ a.root → b.length ≡ a.length → b.state.known ≡ a.state.known → b.state.marked ≡ a.state.marked → b ≡ a
+same_tree a b r l k m =
+    ap (λ x. made x b.length b.state.known b.state.marked) r ∙ ap (λ x. made a.root x b.state.known b.state.marked) l
+    ∙ ap (λ x. made a.root a.length x b.state.marked) k ∙ ap (λ x. made a.root a.length a.state.known x) m
+
+pub good_same : (a b : KeptTree) → b.root ≡ a.root → b.length ≡ a.length → b.state.known ≡ a.state.known → b.state.marked ≡ a.state.marked → IsGoodTree a → IsGoodTree b
+good_same a b r l k m good = subst IsGoodTree (sym (same_tree a b r l k m)) good
+
+pub same_info : (a b : KeptTree) → b.root ≡ a.root → b.length ≡ a.length → info_of b ≡ info_of a
+same_info a b r l =
+    let info : Hash → ℕ → TreeRoot = λ x y. record { root = x; length = y } in
+    ap (λ x. info x b.length) r ∙ ap (λ y. info a.root y) l
+
+pub good_joined : (a b : KeptTree) (C : PartialTree) (c : ℕ) → IsGoodTree a → b.root ≡ a.root → b.length ≡ a.length → b.state.marked ≡ a.state.marked
+    → IsClosed (info_of a) (joined (look a.state.known) C) → Joins C a.state.known b.state.known c → IsGoodTree b
+good_joined a b C c good r l m closed joins = record {
+  closed = subst (λ t. IsClosed t (look b.state.known)) (sym (same_info a b r l))
+      (closed-same (info_of a) (joined (look a.state.known) C) (look b.state.known) (λ y i. sym (joins.joined_is y i)) closed);
+  marks = λ i e.
+      let known : IsKnown (look a.state.known) 0 i = good.marks i (ap (λ s. set.contains s i) (sym m) ∙ e) in
+      (known.0, joins.joined_is 0 i ∙ joined-keeps (look a.state.known) C 0 i known.0 known.1);
+}
+
+pub are_hashes : (hashes : List Hash) → All (λ (h : List ℕ). length h ≡ 32) hashes → All IsHash hashes
+are_hashes hashes sizes = λ k d in'. record { size = sizes k d in' }
+
+pub good_taken : (a b : KeptTree) (ask : Ask) (hashes : List Hash) (c : ℕ) → IsGoodTree a → All (λ (h : List ℕ). length h ≡ 32) hashes
+    → b.root ≡ a.root → b.length ≡ a.length → b.state.marked ≡ a.state.marked
+    → IsAccepted (info_of a) (look a.state.known) ask hashes → Joins (claims ask hashes) a.state.known b.state.known c → IsGoodTree b
+good_taken a b ask hashes c good sizes r l m ok joins =
+    good_joined a b (claims ask hashes) c good r l m (joined-closed (info_of a) (look a.state.known) ask hashes good.closed (are_hashes hashes sizes) ok) joins
+
+pub good_filled : (a b : KeptTree) (layer : ℕ) (hashes : List Hash) (c : ℕ) → IsGoodTree a → All (λ (h : List ℕ). length h ≡ 32) hashes
+    → b.root ≡ a.root → b.length ≡ a.length → b.state.marked ≡ a.state.marked
+    → IsFillAccepted (info_of a) (look a.state.known) layer hashes → Joins (fill_claims (info_of a) layer hashes) a.state.known b.state.known c → IsGoodTree b
+good_filled a b layer hashes c good sizes r l m ok joins =
+    good_joined a b (fill_claims (info_of a) layer hashes) c good r l m
+    (fill-closed (info_of a) (look a.state.known) layer hashes ok.layer_inside ok.right_count good.closed (are_hashes hashes sizes) ok.agrees) joins
+
+pub good_marked : (a b : KeptTree) (i : ℕ) (bytes : List ℕ) → IsGoodTree a → b.root ≡ a.root → b.length ≡ a.length → b.state.known ≡ a.state.known
+    → IsMarked a.length a.state i bytes b.state → IsGoodTree b
+good_marked a b i bytes good r l k ok = record {
+  closed = subst (λ t. IsClosed t (look b.state.known)) (sym (same_info a b r l)) (subst (λ m. IsClosed (info_of a) (look m)) (sym k) good.closed);
+  marks = λ j e.
+      let known : IsKnown (look a.state.known) 0 j = marked-known a.state i j (sha256 bytes) ok.leaf_known (good.marks j) (ap (λ s. set.contains s j) (sym ok.marks) ∙ e) in
+      (known.0, ap (λ m. look m 0 j) k ∙ known.1);
+}
+
+pub good_after_take : (a b : KeptTree) (ask : Ask) (hashes : List Hash) (r : Result ℕ HashRefusal) → IsGoodTree a → All (λ (h : List ℕ). length h ≡ 32) hashes
+    → b.root ≡ a.root → b.length ≡ a.length → b.state.marked ≡ a.state.marked
+    → IfOk r (λ c. IsAccepted (info_of a) (look a.state.known) ask hashes × Joins (claims ask hashes) a.state.known b.state.known c)
+    → IfErr r (λ x. TreeRefuses (info_of a) (look a.state.known) ask hashes x × (b.state.known ≡ a.state.known)) → IsGoodTree b
+good_after_take a b ask hashes (Ok c) good sizes r l m taken refused = good_taken a b ask hashes c good sizes r l m taken.0 taken.1
+good_after_take a b ask hashes (Err x) good sizes r l m taken refused = subst IsGoodTree (sym (same_tree a b r l refused.1 m)) good

@@ -1,0 +1,220 @@
+-- The trees of a session beside the state that contracts see.
+use Rattle.std.proofs.Common.{◌≡◌, ◌≢◌, ℕ, ◌+◌, ◌<◌, ◌≤◌, true, List, [], ◌∷◌, ◌++◌, map, take, length, set, get_or, Option, Some, None, option_map, Result, Ok, Err, IfOk, IfErr, inl, inr, refl, sym, ap, ◌∙◌, subst, subst₂, add-one, arith, eq-or-lt_of_le}
+use Rattle.std.specs.Prelude.{slice_get}
+use Rattle.std.specs.List.{All}
+use Rattle.std.specs.FinSet as leaves
+use Rattle.std.proofs.lemmas.Option.{none-some, same_Some, slice_get_within, slice_get-get_or, get_or_from_slice_get, slice_get-map}
+use Rattle.std.proofs.lemmas.List.{map-set, length-set}
+use Rattle.std.proofs.lemmas.List.Elements.{All-get_or, All-set}
+use Rattle.std.proofs.Math.Seq.{map-set_same, take-suc}
+use Rattle.hashtree.specs.Tree.{block_count}
+use Rattle.metainfo.specs.Description.{Description, FileEntry}
+use Rattle.metainfo.specs.Places.{IsPlace, place_of}
+use Rattle.metainfo.specs.Sound.{IsSound}
+use Rattle.wire.specs.declared.message.Ask.{Ask}
+use Rattle.session.specs.declared.refusal.HashRefusal.{HashRefusal}
+use Rattle.session.specs.declared.refusal.HashRefusal.TheVariants.{UnknownRoot, BadRange, BadCount, BadPad, Unanchored, Mismatch, NoMemory}
+use Rattle.session.specs.declared.refusal.BlockRefusal.{BlockRefusal}
+use Rattle.session.specs.declared.refusal.BlockRefusal.TheVariants.{BadPlace, BadSize, Unproved, BadBlock}
+use Rattle.wire.specs.declared.message.Message.{Message}
+use Rattle.session.specs.declared.verdict.Verdict.{Verdict}
+use Rattle.session.specs.Digest.{Hash}
+use Rattle.session.specs.TreeRoot.{TreeRoot, tree_height}
+use Rattle.session.specs.Partial.{IsKnown, IsClosed}
+use Rattle.session.specs.Claims.{claims, IsAccepted, TreeRefuses, CanAnswer}
+use Rattle.session.specs.Known.{Known, Marked, look, Joins}
+use Rattle.session.specs.Kept.{TreeState, State, KeptTree, info_of, IsGoodTree, IsMarked, TreeRefusesBlock}
+use Rattle.session.specs.Session.{Layout, IsTree, IsGood, IsAsked, IsStored, IsHashRefused, IsAnswered, IsPlaced, IsVerified, IsBlockRefused, IsTrueVerdict, Step, IsTrueRun}
+use Rattle.session.specs.Layouts.{root_of_entry, layout_of, tree_number, state_of, AreKept}
+use Rattle.session.proofs.Keeping.{same_info}
+
+pub found_at : (ts : List KeptTree) (n : ℕ) (a : KeptTree) → n < length ts → a ≡ get_or ts n a → slice_get ts n ≡ Some a
+found_at ts n a inside e = slice_get-get_or ts n a inside ∙ ap Some (sym e)
+
+mapped : {A B : Type 0} (f : A → B) (o : Option A) (y : B) → option_map f o ≡ Some y → (x : A) × (o ≡ Some x) × (f x ≡ y)
+mapped f None y e = absurd (none-some y e)
+mapped f (Some x) y e = (x, refl, same_Some (f x) y e)
+
+module _ (d : Description) (ts : List KeptTree) (kept : AreKept d ts) where
+  pub good_at : (n : ℕ) (a : KeptTree) → slice_get ts n ≡ Some a → IsGoodTree a
+  good_at n a e = subst IsGoodTree (get_or_from_slice_get ts n a a e) (All-get_or IsGoodTree ts n a (slice_get_within ts n a e) kept.good)
+
+  pub tree_at : (n : ℕ) (a : KeptTree) → slice_get ts n ≡ Some a → IsTree (layout_of d) (map state_of ts) n (info_of a) a.state
+  tree_at n a e = record {
+    tree_is = ap (λ l. slice_get l n) (sym kept.same) ∙ slice_get-map info_of ts n ∙ ap (option_map info_of) e;
+    state_is = slice_get-map state_of ts n ∙ ap (option_map state_of) e;
+  }
+
+  -- each tree of the state is a kept one
+  pub kept_at : (n : ℕ) (tree : TreeRoot) (s : TreeState) → IsTree (layout_of d) (map state_of ts) n tree s
+      → (a : KeptTree) × (slice_get ts n ≡ Some a) × (info_of a ≡ tree) × (a.state ≡ s)
+  kept_at n tree s at =
+      let x = mapped state_of (slice_get ts n) s (sym (slice_get-map state_of ts n) ∙ at.state_is) in
+      let same : info_of x.0 ≡ tree = same_Some (info_of x.0) tree (sym ((tree_at n x.0 x.1).tree_is) ∙ at.tree_is) in
+      (x.0, x.1, same, x.2)
+
+  pub kept-good : IsGood (layout_of d) (map state_of ts)
+  kept-good = record {
+    closed = λ n tree s at.
+        let x = kept_at n tree s at in
+        subst₂ (λ r st. IsClosed r (look st.known)) x.2 x.3 ((good_at n x.0 x.1).closed);
+    marks = λ n tree s at.
+        let x = kept_at n tree s at in
+        subst (λ st. (i : ℕ) → leaves.contains st.marked i ≡ true → IsKnown (look st.known) 0 i) x.3 ((good_at n x.0 x.1).marks);
+  }
+
+  pub kept-after : (n : ℕ) (a b : KeptTree) → slice_get ts n ≡ Some a → b.root ≡ a.root → b.length ≡ a.length → IsGoodTree b → AreKept d (set ts n b)
+  kept-after n a b e r l good = record {
+    same = map-set_same info_of ts n b a (same_info a b r l ∙ ap info_of (sym (get_or_from_slice_get ts n a a e))) ∙ kept.same;
+    good = All-set IsGoodTree ts n b good kept.good;
+  }
+
+  pub stored_in : (n : ℕ) (a b : KeptTree) (ask : Ask) (hashes : List Hash) (c : ℕ) → slice_get ts n ≡ Some a → a.root ≡ ask.root
+      → b.state.marked ≡ a.state.marked → IsAccepted (info_of a) (look a.state.known) ask hashes → Joins (claims ask hashes) a.state.known b.state.known c
+      → IsStored (layout_of d) (map state_of ts) ask hashes c (map state_of (set ts n b))
+  stored_in n a b ask hashes c e root m ok joins = record {
+    asked = record { number = n; tree = info_of a; state = a.state; is_tree = tree_at n a e; has_root = root };
+    accepted = ok;
+    after = b.state;
+    known_after = joins.joined_is;
+    marks_stay = m;
+    gained = joins.gained;
+    state_after = map-set state_of ts n b;
+  }
+
+  pub refused_in : (n : ℕ) (a : KeptTree) (ask : Ask) (hashes : List Hash) (r : HashRefusal) → slice_get ts n ≡ Some a → a.root ≡ ask.root
+      → TreeRefuses (info_of a) (look a.state.known) ask hashes r → IsHashRefused (layout_of d) (map state_of ts) ask hashes r
+  refused_in n a ask hashes UnknownRoot e root refused = absurd refused.fault
+  refused_in n a ask hashes BadRange e root refused = (record { number = n; tree = info_of a; state = a.state; is_tree = tree_at n a e; has_root = root }, refused)
+  refused_in n a ask hashes BadCount e root refused = (record { number = n; tree = info_of a; state = a.state; is_tree = tree_at n a e; has_root = root }, refused)
+  refused_in n a ask hashes BadPad e root refused = (record { number = n; tree = info_of a; state = a.state; is_tree = tree_at n a e; has_root = root }, refused)
+  refused_in n a ask hashes Unanchored e root refused = (record { number = n; tree = info_of a; state = a.state; is_tree = tree_at n a e; has_root = root }, refused)
+  refused_in n a ask hashes Mismatch e root refused = (record { number = n; tree = info_of a; state = a.state; is_tree = tree_at n a e; has_root = root }, refused)
+  refused_in n a ask hashes NoMemory e root refused = (record { number = n; tree = info_of a; state = a.state; is_tree = tree_at n a e; has_root = root }, refused)
+
+  -- no kept tree has the root
+  pub unknown_in : (ask : Ask) (hashes : List Hash) → ((n : ℕ) (a : KeptTree) → slice_get ts n ≡ Some a → a.root ≢ ask.root)
+      → IsHashRefused (layout_of d) (map state_of ts) ask hashes UnknownRoot
+  unknown_in ask hashes none = λ n tree e root.
+      let x = mapped info_of (slice_get ts n) tree (sym (slice_get-map info_of ts n) ∙ ap (λ l. slice_get l n) kept.same ∙ e) in
+      none n x.0 x.1 (ap (λ t. t.root) x.2 ∙ root)
+
+-- a tree that stays leaves the state
+pub state_stays : (ts : List KeptTree) (n : ℕ) (a b : KeptTree) → slice_get ts n ≡ Some a → b.state.known ≡ a.state.known → b.state.marked ≡ a.state.marked
+    → map state_of (set ts n b) ≡ map state_of ts
+state_stays ts n a b e k m =
+    let state : Known → Marked → TreeState = λ x y. record { known = x; marked = y } in
+    let same : b.state ≡ a.state = ap (λ x. state x b.state.marked) k ∙ ap (λ y. state a.state.known y) m in
+    map-set_same state_of ts n b a (same ∙ ap state_of (sym (get_or_from_slice_get ts n a a e)))
+
+pub none_more : (ts : List KeptTree) (r : Hash) (n : ℕ) (a : KeptTree) → n < length ts → a ≡ get_or ts n a
+    → ((j : ℕ) (k : KeptTree) → j < n → slice_get ts j ≡ Some k → k.root ≢ r) → a.root ≢ r
+    → (j : ℕ) (k : KeptTree) → j < n + 1 → slice_get ts j ≡ Some k → k.root ≢ r
+none_more ts r n a inside is before other j k low e root =
+    let le : j ≤ n = omega arith in
+    elim (eq-or-lt_of_le le) [
+      | inl same ↦ other (ap (λ t. t.root) (same_Some a k (sym (found_at ts n a inside is) ∙ ap (slice_get ts) (sym same) ∙ e)) ∙ root)
+      | inr less ↦ before j k less e root
+    ]
+
+pub one_of : (ts : List KeptTree) (n : ℕ) (a k : KeptTree) → n < length ts → a ≡ get_or ts n a → slice_get ts n ≡ Some k → k ≡ a
+one_of ts n a k inside is e = same_Some k a (sym e ∙ found_at ts n a inside is)
+
+module _ (d : Description) (ts : List KeptTree) (kept : AreKept d ts) where
+  pub stored_all : (n : ℕ) (a b : KeptTree) (ask : Ask) (hashes : List Hash) (r : Result ℕ HashRefusal) → slice_get ts n ≡ Some a → a.root ≡ ask.root
+      → b.state.marked ≡ a.state.marked → IfOk r (λ c. IsAccepted (info_of a) (look a.state.known) ask hashes × Joins (claims ask hashes) a.state.known b.state.known c)
+      → IfOk r (λ c. IsStored (layout_of d) (map state_of ts) ask hashes c (map state_of (set ts n b)))
+  stored_all n a b ask hashes (Ok c) e root m h = stored_in d ts kept n a b ask hashes c e root m h.0 h.1
+  stored_all n a b ask hashes (Err x) e root m h = tt
+
+  pub refused_all : (n : ℕ) (a b : KeptTree) (ask : Ask) (hashes : List Hash) (r : Result ℕ HashRefusal) → slice_get ts n ≡ Some a → a.root ≡ ask.root
+      → b.state.marked ≡ a.state.marked → IfErr r (λ x. TreeRefuses (info_of a) (look a.state.known) ask hashes x × (b.state.known ≡ a.state.known))
+      → IfErr r (λ x. IsHashRefused (layout_of d) (map state_of ts) ask hashes x × (map state_of (set ts n b) ≡ map state_of ts))
+  refused_all n a b ask hashes (Ok c) e root m h = tt
+  refused_all n a b ask hashes (Err x) e root m h = (refused_in d ts kept n a ask hashes x e root h.0, state_stays ts n a b e h.1 m)
+
+  pub asked_in : (n : ℕ) (a : KeptTree) (ask : Ask) → slice_get ts n ≡ Some a → a.root ≡ ask.root
+      → CanAnswer (tree_height a.length) (look a.state.known) ask → IsAnswered (layout_of d) (map state_of ts) ask
+  asked_in n a ask e root can = (record { number = n; tree = info_of a; state = a.state; is_tree = tree_at d ts kept n a e; has_root = root }, can)
+
+  module _ (sound : IsSound d) where
+    distinct : (n k : ℕ) (a b : TreeRoot) → slice_get (map root_of_entry d.trees) n ≡ Some a → slice_get (map root_of_entry d.trees) k ≡ Some b → a.root ≡ b.root → n ≡ k
+    distinct n k a b p q e =
+        let x = mapped root_of_entry (slice_get d.trees n) a (sym (slice_get-map root_of_entry d.trees n) ∙ p) in
+        let y = mapped root_of_entry (slice_get d.trees k) b (sym (slice_get-map root_of_entry d.trees k) ∙ q) in
+        sound.roots_differ n k x.0 y.0 x.1 y.1 (ap (λ t. t.root) x.2 ∙ e ∙ sym (ap (λ t. t.root) y.2))
+
+    pub answered_in : (n : ℕ) (a : KeptTree) (ask : Ask) → slice_get ts n ≡ Some a → a.root ≡ ask.root
+        → IsAnswered (layout_of d) (map state_of ts) ask → CanAnswer (tree_height a.length) (look a.state.known) ask
+    answered_in n a ask e root (x, can) =
+        let here = tree_at d ts kept n a e in
+        let same : x.number ≡ n = distinct x.number n x.tree (info_of a) x.is_tree.tree_is here.tree_is (x.has_root ∙ sym root) in
+        let tree : x.tree ≡ info_of a = same_Some x.tree (info_of a) (sym x.is_tree.tree_is ∙ ap (slice_get (map root_of_entry d.trees)) same ∙ here.tree_is) in
+        let state : x.state ≡ a.state = same_Some x.state a.state (sym x.is_tree.state_is ∙ ap (slice_get (map state_of ts)) same ∙ here.state_is) in
+        subst₂ (λ r s. CanAnswer (tree_height r.length) (look s.known) ask) tree state can
+
+    -- the tree of a file
+    pub tree_for : (file tr : ℕ) (f : FileEntry) → slice_get d.files file ≡ Some f → f.tree ≡ Some tr → (a : KeptTree) × (slice_get ts tr ≡ Some a) × (a.length ≡ f.length)
+    tree_for file tr f there is =
+        let e = (sound.files file f there).tree_there tr is in
+        let x = mapped info_of (slice_get ts tr) (root_of_entry e.0)
+        (sym (slice_get-map info_of ts tr) ∙ ap (λ l. slice_get l tr) kept.same ∙ slice_get-map root_of_entry d.trees tr ∙ ap (option_map root_of_entry) e.1) in
+        (x.0, x.1, ap (λ t. t.length) x.2 ∙ e.2)
+
+    pub block_inside : (index begin file b tr : ℕ) (p : IsPlace d index begin file b) (a : KeptTree) → p.file.tree ≡ Some tr → slice_get ts tr ≡ Some a → b < block_count a.length
+    block_inside index begin file b tr p a is e =
+        let x = tree_for file tr p.file p.there is in
+        let len : a.length ≡ p.file.length = ap (λ t. t.length) (same_Some a x.0 (sym e ∙ x.1)) ∙ x.2 in
+        subst (λ n. b < block_count n) (sym len) p.in_file
+
+  module _ (index begin file b tr : ℕ) (f : FileEntry) (a : KeptTree) (there : slice_get d.files file ≡ Some f) (is : f.tree ≡ Some tr)
+      (at : place_of d index begin ≡ Some (file, b)) (e : slice_get ts tr ≡ Some a) where
+    abbrev placed : IsPlaced (layout_of d) (map state_of ts) index begin
+    placed = record {
+      file = file;
+      number = b;
+      tree_number = tr;
+      tree = info_of a;
+      state = a.state;
+      at = at;
+      of_file = ap tree_number there ∙ is;
+      is_tree = tree_at d ts kept tr a e;
+    }
+
+    pub verified_in : (next : KeptTree) (bytes : List ℕ) → next.state.known ≡ a.state.known → IsMarked a.length a.state b bytes next.state
+        → IsVerified (layout_of d) (map state_of ts) index begin bytes file b (map state_of (set ts tr next))
+    verified_in next bytes k ok =
+        let state : Known → Marked → TreeState = λ x y. record { known = x; marked = y } in
+        let after : next.state ≡ state a.state.known (leaves.insert a.state.marked b) = ap (λ x. state x next.state.marked) k ∙ ap (λ y. state a.state.known y) ok.marks in
+        record {
+          placed = placed;
+          same_file = refl;
+          same_block = refl;
+          size = ok.size;
+          leaf_known = ok.leaf_known;
+          state_after = map-set state_of ts tr next ∙ ap (set (map state_of ts) tr) after;
+        }
+
+    pub block_refused_in : (bytes : List ℕ) (r : BlockRefusal) → TreeRefusesBlock a.length (look a.state.known) b bytes r
+        → IsBlockRefused (layout_of d) (map state_of ts) index begin bytes r
+    block_refused_in bytes BadPlace h = absurd h
+    block_refused_in bytes BadSize h = (placed, h)
+    block_refused_in bytes Unproved h = (placed, h.0, h.1)
+    block_refused_in bytes BadBlock h = (placed, h.0, h.1.0, h.1.1, h.1.2)
+
+-- ---- runs
+
+pub run-more : (t : Layout) (S : State) (ms : List Message) (vs : List Verdict) (M : State) (m : Message) (v : Verdict) (S' : State)
+    → IsTrueRun t S ms vs M → IsTrueVerdict t M m v → Step t M m v S' → IsTrueRun t S (ms ++ m ∷ []) (vs ++ v ∷ []) S'
+run-more t S [] [] M m v S' e right step = (subst (λ x. IsTrueVerdict t x m v) e right, (S', subst (λ x. Step t x m v S') e step, refl))
+run-more t S [] (w ∷ vs) M m v S' e right step = absurd e
+run-more t S (n ∷ ms) [] M m v S' e right step = absurd e
+run-more t S (n ∷ ms) (w ∷ vs) M m v S' (told, (L, first, rest)) right step = (told, (L, first, run-more t L ms vs M m v S' rest right step))
+
+pub run-next : (a b : Description) (S M S' : State) (ms : List Message) (i : ℕ) (vs : List Verdict) (d : Message) (v : Verdict) → a ≡ b → i < length ms
+    → IsTrueRun (layout_of b) S (take i ms) vs M → IsTrueVerdict (layout_of a) M (get_or ms i d) v → Step (layout_of a) M (get_or ms i d) v S'
+    → IsTrueRun (layout_of b) S (take (i + 1) ms) (vs ++ v ∷ []) S'
+run-next a b S M S' ms i vs d v same inside before right step =
+    subst (λ xs. IsTrueRun (layout_of b) S xs (vs ++ v ∷ []) S') (sym (ap (λ j. take j ms) (add-one i) ∙ take-suc ms i d inside))
+    (run-more (layout_of b) S (take i ms) vs M (get_or ms i d) v S' before
+    (subst (λ x. IsTrueVerdict (layout_of x) M (get_or ms i d) v) same right) (subst (λ x. Step (layout_of x) M (get_or ms i d) v S') same step))
