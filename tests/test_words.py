@@ -3,7 +3,7 @@ import os
 
 from support import expect, run
 
-COMMANDS = ["root"]
+COMMANDS = ["root", "show"]
 
 REFUSED = [
     [],
@@ -16,6 +16,8 @@ REFUSED = [
     ["--unknown", "root", "a"],
     ["--version"],
     ["ROOT", "a"],
+    ["show"],
+    ["show", "a", "b"],
 ]
 
 

@@ -3,10 +3,14 @@ ghost use Rattle.std.specs.Prelude.{◌≡◌, if◌then◌else◌};
 
 use crate::command::Action;
 use crate::fault::Fault;
-use benc::{FromRead, FromWrite};
-use checker::{RootFault, root_line};
+use benc::{FromRead, FromWrite, Sink};
+use checker::{RootFault, refusal_line, root_line};
+use metainfo::{Refusal, Torrent};
 use std::fs::File;
-use std::io;
+use std::io::{self, BufWriter, Read};
+
+// One byte more than a torrent may have: a longer one is refused by its length, whatever follows.
+const TORRENT_ROOM: u64 = 67108865;
 
 // The exit status of an answer: 0 for yes or done, 1 for no or a refusal.
 fn status(yes: bool) -> u8
@@ -19,6 +23,7 @@ fn status(yes: bool) -> u8
 pub(crate) fn perform<'a>(rt: &HostRuntime, action: &Action<'a>) -> Result<u8, Fault<'a>> {
     match action {
         Action::Root { file } => root(rt, file),
+        Action::Show { torrent } => show(rt, torrent),
     }
 }
 
@@ -32,5 +37,42 @@ fn root<'a>(rt: &HostRuntime, path: &'a str) -> Result<u8, Fault<'a>> {
         Ok(within) => Ok(status(within)),
         Err(RootFault::Read) => Err(Fault::Read(path)),
         Err(RootFault::Write) => Err(Fault::Write("-")),
+    }
+}
+
+fn show<'a>(rt: &HostRuntime, path: &'a str) -> Result<u8, Fault<'a>> {
+    let bytes = read_torrent(rt, path)?;
+    let mut out = FromWrite::new(BufWriter::new(rt.alloc(), io::writer(rt)).map_err(|_| Fault::NoMemory)?);
+    match Torrent::open(rt.alloc(), bytes.as_slice()) {
+        Ok(torrent) => match checker::show(&torrent, &mut out) {
+            Ok(()) => Ok(status(true)),
+            Err(_) => Err(Fault::Write("-")),
+        },
+        Err(refusal) => refuse(&refusal, &mut out),
+    }
+}
+
+// Prints why a torrent was refused, and tells the exit status.
+fn refuse<'a, W: Sink>(refusal: &Refusal, out: &mut W) -> Result<u8, Fault<'a>> {
+    match refusal {
+        Refusal::NoMemory => Err(Fault::NoMemory),
+        Refusal::Write => Err(Fault::Write("-")),
+        _ => match refusal_line(refusal, &[], out) {
+            Ok(()) => Ok(status(false)),
+            Err(_) => Err(Fault::Write("-")),
+        },
+    }
+}
+
+// The bytes of a torrent file, or the first of them where they are too many.
+fn read_torrent<'a>(rt: &HostRuntime, path: &'a str) -> Result<Vec<u8>, Fault<'a>> {
+    let Ok(file) = File::open(rt, path) else {
+        return Err(Fault::Read(path));
+    };
+    let mut bytes = Vec::new(rt.alloc());
+    match file.take(TORRENT_ROOM).read_to_end(&mut bytes) {
+        Ok(_) => Ok(bytes),
+        Err(error) if error.kind() == io::ErrorKind::OutOfMemory => Err(Fault::NoMemory),
+        Err(_) => Err(Fault::Read(path)),
     }
 }

@@ -27,12 +27,21 @@ fn root_command<'a>(alloc: Global) -> Result<Command<'a>, Error> {
     Ok(command)
 }
 
+fn show_command<'a>(alloc: Global) -> Result<Command<'a>, Error> {
+    let command = Command::new(alloc, "show")
+        .about("Prints what a torrent holds: name, info-hashes, files and their roots")
+        .after_help("Prints `refused NUMBER NAME`, status 1, where the file is no torrent of version 2.")
+        .arg(required(alloc, "TORRENT", "The torrent file"))?;
+    Ok(command)
+}
+
 // The program's command, with its subcommands.
 fn command<'a>(alloc: Global) -> Result<Command<'a>, Error> {
     let command = Command::new(alloc, "btcheck")
         .about(ABOUT)
         .after_help(STATUSES)
-        .subcommand(root_command(alloc)?)?;
+        .subcommand(root_command(alloc)?)?
+        .subcommand(show_command(alloc)?)?;
     Ok(command.subcommand_required(true))
 }
 
@@ -41,6 +50,9 @@ pub(crate) fn action<'a>(alloc: Global, words: &'a [&'a str]) -> Result<Action<'
     let matches = command(alloc)?.try_get_matches_from(words)?;
     let found = match matches.subcommand() {
         Some(("root", found)) => found.get_str("FILE").map(|file| Action::Root { file }),
+        Some(("show", found)) => found
+            .get_str("TORRENT")
+            .map(|torrent| Action::Show { torrent }),
         _ => None,
     };
     match found {
