@@ -62,7 +62,7 @@ part_within (q ∷ qs) (suc j) p at =
     let rest = part_within qs j p at in
     omega (arith, sum_by-cons length_in q qs, sum_by-cons length_in q (take j qs))
 
-listed_at : {X : Type 0} (xs : List X) (n : ℕ) → n < length xs → (x : X) × (slice_get xs n ≡ Some x)
+pub listed_at : {X : Type 0} (xs : List X) (n : ℕ) → n < length xs → (x : X) × (slice_get xs n ≡ Some x)
 listed_at [] n lt = absurd (omega arith)
 listed_at (x ∷ xs) zero lt = (x, refl)
 listed_at (x ∷ xs) (suc n) lt = listed_at xs n (omega arith)

@@ -1,5 +1,6 @@
 -- Lemmas on torrents.
 pub mod Aligned
+pub mod Answering
 pub mod Ascending
 pub mod Assembling
 pub mod Entries

@@ -3,6 +3,7 @@
 
 mod files;
 mod info;
+mod laws;
 mod layers;
 mod open;
 mod path;
@@ -13,6 +14,7 @@ mod tree;
 mod trees;
 mod version1;
 
+pub use laws::{refusal_is_one, torrent_is_not_refused, torrent_is_one};
 pub use path::Path;
 pub use refusal::{Key, Refusal};
 pub use torrent::{File, Torrent, TreeInfo, V1};
