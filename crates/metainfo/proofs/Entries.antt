@@ -1,14 +1,14 @@
 -- The version 1 list of a hybrid, entry by entry.
-use Rattle.std.proofs.Common.{inl, inr, ◌≡◌, ℕ, ◌+◌, ◌<◌, ◌≤◌, Bool, true, false, ◌&&◌, if◌then◌else◌, nat_eq, is_some, List, [], ◌∷◌, length, drop, get_or, map, refl, sym, ap, ◌∙◌, arith, Bor}
+use Rattle.std.proofs.Common.{inl, inr, ◌≡◌, ℕ, ◌+◌, ◌<◌, ◌≤◌, Bool, true, false, ◌&&◌, if◌then◌else◌, nat_eq, List, [], ◌∷◌, length, drop, get_or, map, refl, sym, ap, ◌∙◌, arith, Bor}
 use Rattle.std.proofs.lemmas.List.{drop_more, drop_all, get_or-map, length-drop, length-map}
 use Rattle.std.proofs.lemmas.Bool.Decides.{eqb_tells}
-use Rattle.benc.specs.Value.{Items, no_items, item}
+use Rattle.benc.specs.Value.{no_items, item}
 use Rattle.benc.specs.View.{view, items_view}
 use Rattle.benc.specs.declared.value.Value.{Value}
 use Rattle.metainfo.specs.Description.{FileEntry}
 use Rattle.metainfo.specs.Seen.{file_entry}
 use Rattle.metainfo.specs.declared.torrent.File.{File}
-use Rattle.metainfo.specs.FileTree.{has_attribute, is_dict, length_at}
+use Rattle.metainfo.specs.FileTree.{has_attribute}
 use Rattle.metainfo.specs.Matching.{is_text, are_texts, is_sized, is_entry_of, begins, are_same}
 
 pub items_more : (xs : List Value) (i : ℕ) (x : Value) → i < length xs → x ≡ get_or xs i x → items_view (drop i xs) ≡ item (view x) (items_view (drop (i + 1) xs))
@@ -83,7 +83,7 @@ texts_end xs i ts j end le =
 same_more : (xs : List Value) (i : ℕ) (x : Value) (fs : List FileEntry) (sized pad : Bool) → i < length xs → x ≡ get_or xs i x
     → sized ≡ is_sized (view x) → pad ≡ has_attribute 112 (view x)
     → are_same (items_view (drop i xs)) fs
-        ≡ (if sized then (if pad then are_same (items_view (drop (i + 1) xs)) fs else begins (view x) (are_same (items_view (drop (i + 1) xs))) fs) else false)
+    ≡ (if sized then (if pad then are_same (items_view (drop (i + 1) xs)) fs else begins (view x) (are_same (items_view (drop (i + 1) xs))) fs) else false)
 same_more xs i x fs sized pad lt is is_sized is_pad =
     let rest = are_same (items_view (drop (i + 1) xs)) in
     ap (λ t. are_same t fs) (items_more xs i x lt is)
@@ -128,7 +128,7 @@ same_next : (xs : List Value) (i : ℕ) (x : Value) (fs : List File) (j : ℕ) (
     → sized ≡ is_sized (view x) → sized ≡ true → pad ≡ has_attribute 112 (view x) → pad ≡ false → j < length fs → f ≡ get_or fs j f
     → b ≡ is_entry_of (view x) (file_entry f)
     → are_same (items_view (drop i xs)) (drop j (map file_entry fs))
-        ≡ b && are_same (items_view (drop (i + 1) xs)) (drop (j + 1) (map file_entry fs))
+    ≡ b && are_same (items_view (drop (i + 1) xs)) (drop (j + 1) (map file_entry fs))
 same_next xs i x fs j f sized pad b lt is is_sized has_size is_pad unpadded in_fs is_f is_b =
     let es = map file_entry fs in
     let rest = are_same (items_view (drop (i + 1) xs)) in

@@ -1,12 +1,12 @@
 -- Reading the version 1 list of a hybrid entry by entry is reading it whole.
-use Rattle.std.proofs.Common.{inl, inr, ◌⊎◌, ◌≡◌, ◌≢◌, ℕ, zero, suc, ◌+◌, ◌*◌, ◌<◌, ◌≤◌, ◌^◌, Bool, true, false, not, cond, ◌&&◌, ◌||◌, if◌then◌else◌, nat_eq, nat_lt, is_some, is_none, List, [], ◌∷◌, ◌++◌, length, take, drop, map, filter, Option, Some, None, option_and_then, unwrap_or, Result, Ok, Err, refl, sym, ap, ◌∙◌, subst, arith, codes, slice_get, sum_by, IsTrue, T}
+use Rattle.std.proofs.Common.{inl, inr, ◌≡◌, ℕ, Bool, true, false, not, cond, ◌&&◌, ◌||◌, if◌then◌else◌, nat_eq, is_some, is_none, List, [], ◌∷◌, map, filter, Option, Some, None, option_and_then, unwrap_or, refl, sym, ap, ◌∙◌, arith, codes}
 use Rattle.std.specs.List.{list_any}
 use Rattle.std.specs.Str.{bytes_eq}
 use Rattle.std.proofs.lemmas.Slice.Eq.{bytes_eq-Decides}
 use Rattle.std.proofs.lemmas.Bool.{eqb-true, and_from, and_cases}
 use Rattle.benc.specs.Value.{Bencode, int, text, list, dict, Items, no_items, item}
 use Rattle.metainfo.specs.Description.{FileEntry}
-use Rattle.metainfo.specs.Dictionary.{get, as_list, as_text}
+use Rattle.metainfo.specs.Dictionary.{get, as_text}
 use Rattle.metainfo.specs.FileTree.{has_attribute, is_dict, length_at}
 use Rattle.metainfo.specs.Matching.{is_text, are_texts, is_path, is_length, is_entry_of, is_sized, begins, are_same, named_entry}
 use Rattle.metainfo.specs.Stream.{Part, Named, texts_in, some_texts, as_path, part_of, parts_of, is_broken, named_part, files_in}
@@ -94,7 +94,7 @@ entry_is v f e =
 entry_back : (v : Bencode) (f : FileEntry) → length_at v ≡ Some f.length → (part_of v).path ≡ Some f.path → is_entry_of v f ≡ true
 entry_back v f size path =
     and_from (is_length f.length (length_at v)) (is_path f.path (get (codes "path") v))
-      (length_back f.length (length_at v) size) (path_back f.path (get (codes "path") v) path)
+    (length_back f.length (length_at v) size) (path_back f.path (get (codes "path") v) path)
 
 -- the list behind its first entry
 parts_more : (v : Bencode) (vs : Items) (ps : List Part) → is_dict v ≡ true → parts_of vs ≡ Some ps → parts_of (item v vs) ≡ Some (part_of v ∷ ps)
@@ -161,8 +161,8 @@ file_added : (v : Bencode) (vs : Items) (f : FileEntry) (fs : List FileEntry) �
 file_added v vs f fs sized file is h =
     let at = entry_is v f is in
     let named : named_part (part_of v) ≡ named_entry f =
-      ap (λ (o : Option (List (List ℕ))). let r : Named = record { path = unwrap_or o []; size = unwrap_or (length_at v) 0 } in r) at.1
-      ∙ ap (λ (o : Option ℕ). let r : Named = record { path = f.path; size = unwrap_or o 0 } in r) at.0 in
+    ap (λ (o : Option (List (List ℕ))). let r : Named = record { path = unwrap_or o []; size = unwrap_or (length_at v) 0 } in r) at.1
+    ∙ ap (λ (o : Option ℕ). let r : Named = record { path = f.path; size = unwrap_or o 0 } in r) at.0 in
     record {
       parts = part_of v ∷ h.parts;
       listed = parts_more v vs h.parts (and_true _ _ sized).0 h.listed;
@@ -235,8 +235,8 @@ other_step v vs (f ∷ fs) true false s p e rest ps listed whole same =
     let head : named_part (part_of v) ≡ named_entry f = cc in
     let tail : files_in b.rest ≡ map named_entry fs = cc in
     elim (and_cases (is_entry_of v f) (are_same vs fs) e) [
-    | inl other ↦ (let bad : true ≡ false = sym (head_is v f s p (or_false (is_broken (part_of v)) _ unbroken).0 head) ∙ other in let no_way : ⊥ = cc in no_way)
-    | inr other ↦ rest fs other b.rest b.behind (or_false (is_broken (part_of v)) _ unbroken).1 tail
+      | inl other ↦ (let bad : true ≡ false = sym (head_is v f s p (or_false (is_broken (part_of v)) _ unbroken).0 head) ∙ other in let no_way : ⊥ = cc in no_way)
+      | inr other ↦ rest fs other b.rest b.behind (or_false (is_broken (part_of v)) _ unbroken).1 tail
     ]
 
 pub other_parts : (vs : Items) (fs : List FileEntry) → are_same vs fs ≡ false → AreOther vs fs

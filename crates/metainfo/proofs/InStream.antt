@@ -1,14 +1,13 @@
 -- Each file of a hybrid lies in the version 1 stream, from its first piece on.
-use Rattle.std.proofs.Common.{inl, inr, ◌⊎◌, ◌≡◌, ◌≢◌, ℕ, zero, suc, ◌+◌, ◌*◌, ◌<◌, ◌≤◌, Bool, true, false, not, nat_le, is_some, List, [], ◌∷◌, length, take, map, Option, Some, None, option_map, refl, sym, ap, ◌∙◌, subst, arith, slice_get, sum_by, codes, unwrap_or, if◌then◌else◌, IsTrue}
-use Rattle.std.proofs.lemmas.List.{take-map, length-map}
+use Rattle.std.proofs.Common.{inl, inr, ◌≡◌, ◌≢◌, ℕ, zero, suc, ◌+◌, ◌*◌, ◌<◌, ◌≤◌, Bool, true, false, nat_le, List, [], ◌∷◌, length, take, map, Option, Some, None, option_map, refl, sym, ap, ◌∙◌, arith, slice_get, sum_by, if◌then◌else◌}
+use Rattle.std.proofs.lemmas.List.{take-map}
 use Rattle.std.proofs.lemmas.List.Sums.{sum_by-cons}
 use Rattle.std.proofs.lemmas.Option.{slice_get_within, slice_get-map}
 use Rattle.benc.specs.Value.{Bencode}
 use Rattle.metainfo.specs.Description.{FileEntry, Version1}
-use Rattle.metainfo.specs.Dictionary.{get}
 use Rattle.metainfo.specs.FileTree.{Listed}
 use Rattle.metainfo.specs.Refusals.{NoneHolds, hybrid_rows}
-use Rattle.metainfo.specs.Stream.{Part, Named, DiffersFrom, IsMisplaced, IsTooLong, IsVersion1, files_in, is_hybrid, length_in, named, named_part, parts_in, stream_length, the_parts, version1_of}
+use Rattle.metainfo.specs.Stream.{Part, Named, DiffersFrom, IsMisplaced, IsVersion1, files_in, is_hybrid, length_in, named, named_part, parts_in, stream_length, the_parts, version1_of}
 use Rattle.metainfo.specs.Trees.{AreFiles, entry_at, pieces_in, pieces_of}
 use Rattle.metainfo.proofs.Aligned.{pieces_end}
 use Rattle.metainfo.proofs.Hybrids.{files_pad, files_file}
@@ -48,6 +47,7 @@ located_by p ps (suc n) x false file at rest =
       named = h.named;
       before = files_file p (take h.number ps) file ∙ ap (λ t. named_part p ∷ t) h.before ∙ ap (take (suc n)) (sym (files_file p ps file));
     }
+
 located : (ps : List Part) (n : ℕ) (x : Named) → slice_get (files_in ps) n ≡ Some x → Located ps n x
 located [] n x at = let bad : ⊥ = cc in absurd bad
 located (p ∷ ps) n x at = located_by p ps n x p.is_pad refl at (λ m. located ps m x)
@@ -85,8 +85,8 @@ in_stream k fs es ps files same placed n f at some out =
     let h = located ps n (named g.0) (ap (λ t. slice_get t n) same ∙ slice_get-map named fs n ∙ ap (option_map named) g.1) in
     let long : length_in h.part ≡ f.length = ap (λ (x : Named). x.size) h.named ∙ size in
     let pieces : pieces_end k (take h.number ps) ≡ f.first_piece * k =
-      ap (λ t. sum_by (λ (x : Named). pieces_of k x.size) t * k) (h.before ∙ ap (take n) same ∙ take-map named n fs)
-      ∙ ap (λ t. t * k) (sum_named k (take n fs) ∙ first) in
+    ap (λ t. sum_by (λ (x : Named). pieces_of k x.size) t * k) (h.before ∙ ap (take n) same ∙ take-map named n fs)
+    ∙ ap (λ t. t * k) (sum_named k (take n fs) ∙ first) in
     let end = part_within ps h.number h.part h.there in
     let starts_there : stream_length (take h.number ps) ≢ pieces_end k (take h.number ps) = λ aligned. absurd (omega (arith, aligned, pieces, end, long)) in
     placed (record { number = h.number; part = h.part; there = h.there; no_pad = h.no_pad; some = omega (arith, long); elsewhere = starts_there })
@@ -102,9 +102,11 @@ hybrid_in_stream k info name fs es v rows is files n f at some =
         → (is_hybrid info ≡ true) × (v.total ≡ stream_length (the_parts (parts_in info name)))
     the_version true e same = let part : v ≡ version1_of k (the_parts (parts_in info name)) info = cc in (e, ap (λ (w : Version1). w.total) part)
     the_version false e same = let bad : ⊥ = cc in absurd bad
+
     differs : (o : Option (List Part)) → (IsMisplaced k (the_parts o) → ⊥) → stream_length (the_parts o) < f.first_piece * k + f.length → DiffersFrom fs o
     differs None placed out = tt
     differs (Some ps) placed out = inr (λ same. in_stream k fs es ps files same placed n f at some out)
+
     by_order : (b : Bool) → nat_le (f.first_piece * k + f.length) v.total ≡ b → is_hybrid info ≡ true → v.total ≡ stream_length (the_parts (parts_in info name))
         → f.first_piece * k + f.length ≤ v.total
     by_order true e hybrid total = grind (arith, e)

@@ -1,18 +1,17 @@
 -- The three tests of a hybrid's version 1 part, by the stream's length as it is read.
-use Rattle.std.proofs.Common.{zero-add, add-zero, zero-mul, inl, inr, ◌⊎◌, ◌≡◌, ◌≢◌, ℕ, zero, suc, ◌+◌, ◌-◌, ◌*◌, ◌/◌, ◌<◌, ◌≤◌, ◌^◌, Bool, true, false, not, cond, ◌&&◌, ◌||◌, if◌then◌else◌, nat_eq, nat_lt, is_some, is_none, List, [], ◌∷◌, length, take, drop, map, Option, Some, None, option_and_then, option_map, unwrap_or, Result, Ok, Err, refl, sym, ap, ◌∙◌, subst, arith, codes, slice_get, sum_by, IsTrue}
+use Rattle.std.proofs.Common.{zero-add, zero-mul, inl, inr, ◌⊎◌, ◌≡◌, ◌≢◌, ℕ, zero, suc, ◌+◌, ◌-◌, ◌*◌, ◌<◌, ◌≤◌, ◌^◌, Bool, true, false, ◌&&◌, ◌||◌, if◌then◌else◌, nat_lt, is_some, is_none, List, [], ◌∷◌, take, map, Option, Some, None, option_and_then, unwrap_or, Result, Ok, Err, refl, sym, ap, ◌∙◌, subst, arith, codes, slice_get, sum_by, IsTrue}
 use Rattle.std.specs.List.{list_any}
-use Rattle.std.specs.Str.{bytes_eq}
 use Rattle.std.proofs.lemmas.Slice.Eq.{bytes_eq-Decides}
-use Rattle.std.proofs.lemmas.Bool.{and_from, and_cases}
+use Rattle.std.proofs.lemmas.Bool.{and_from}
 use borrow.Author.Tests.{ltb-true}
 use Rattle.std.proofs.Math.Nat.{lt-div-mul-add}
-use Rattle.benc.specs.Value.{Bencode, int, text, list, dict, Items, no_items, item}
+use Rattle.benc.specs.Value.{Bencode, int, text, list, dict, Items}
 use Rattle.metainfo.specs.Description.{FileEntry, Version1}
 use Rattle.metainfo.specs.Dictionary.{get, as_list}
 use Rattle.metainfo.specs.FileTree.{Listed, length_at}
 use Rattle.metainfo.specs.Matching.{aligned_length, are_same, ends_of, is_length, is_named, many_lengths, named_entry, nowhere, one_length, or_else, stream_under}
 use Rattle.metainfo.specs.PieceLayers.{as_digests}
-use Rattle.metainfo.specs.Refusals.{Row, First, NoneHolds, hybrid_rows}
+use Rattle.metainfo.specs.Refusals.{First, NoneHolds, hybrid_rows}
 use Rattle.metainfo.specs.Stream.{Part, Named, DiffersFrom, IsMisplaced, IsTooLong, IsVersion1, cuts_in, files_in, is_broken, is_hybrid, named, named_part, parts_in, parts_of, stream_length, the_parts, version1_of}
 use Rattle.metainfo.specs.Trees.{pieces_of}
 use Rattle.metainfo.specs.declared.refusal.Refusal.{Refusal}
@@ -59,7 +58,7 @@ by_ends k fs ps (Some e) same fits h = by_order (nat_lt e.pieces e.stream) (nat_
     by_order false true early is =
         let order : e.stream ≤ e.pieces = grind (arith, early) in
         let not_long : (pieces_end k ps < stream_length ps) → ⊥ = λ long. absurd (omega (arith, h.0, h.1)) in
-        (same, (λ wrong. elim wrong [ | inl m ↦ h.2 m | inr long ↦ not_long long ]), h.0)
+        (same, (λ wrong. elim wrong [ inl m ↦ h.2 m | inr long ↦ not_long long ]), h.0)
     by_order false false early is =
         let order : e.stream ≤ e.pieces = grind (arith, early) in
         let large : 2 ^ 64 ≤ e.stream = grind (arith, is) in
@@ -78,7 +77,7 @@ many k fs es vs names fits = by_test (are_same vs es) refl
         let end : pieces_end k ps ≡ sum_by (λ (f : Named). pieces_of k f.size) (map named fs) * k = ap (λ t. sum_by (λ (f : Named). pieces_of k f.size) t * k) (h.same ∙ names) in
         let start : IsEnd k ps 0 nowhere = record { stream_is = refl; pieces_is = sym (zero-mul k); placed = λ j p lt at file some. absurd (omega arith) } in
         subst (λ (o : Option (List Part)). Streamed k fs o (or_else (aligned_length (ends_of k vs nowhere)) refusals.HybridAlign)) (sym h.listed)
-          (by_ends k fs ps (ends_of k vs nowhere) (is_same_list fs es vs names h) (omega (arith, end)) (ends_are k vs ps 0 nowhere h.listed start))
+        (by_ends k fs ps (ends_of k vs nowhere) (is_same_list fs es vs names h) (omega (arith, end)) (ends_are k vs ps 0 nowhere h.listed start))
 
 -- ---- the one file of `length`
 
@@ -100,22 +99,25 @@ whole_length k n some = let t = lt-div-mul-add {a = n + (k - 1)} {b = k} some in
 one_fits : (k : ℕ) (fs : List Listed) (f : FileEntry) (info : Bencode) (name : List ℕ) → 0 < k → map named_entry (f ∷ []) ≡ map named fs
     → length_at info ≡ Some f.length → f.path ≡ name ∷ [] → Streamed k fs (Some (one_part info name ∷ [])) (Ok f.length)
 one_fits k fs f info name some names size path = (
-    (λ differs. elim differs [
-      | inl broken ↦ (let whole : list_any is_broken (one_part info name ∷ []) ≡ false = ap (λ (o : Option ℕ). (is_none o || false) || false) size in
-          let bad : true ≡ false = sym broken ∙ whole in let no_way : ⊥ = cc in no_way)
-      | inr differ ↦ differ (ap (λ (t : Named). t ∷ []) same ∙ names)
-    ]),
-    (λ wrong. elim wrong [ | inl m ↦ misplaced m.number m.there m.elsewhere | inr long ↦ absurd (omega (arith, long, whole_length k f.length some, length_is_one, pieces_are)) ]),
-    sym length_is_one,
-  )
+  (λ differs. elim differs [
+    | inl broken ↦ (let whole : list_any is_broken (one_part info name ∷ []) ≡ false = ap (λ (o : Option ℕ). (is_none o || false) || false) size in
+        let bad : true ≡ false = sym broken ∙ whole in let no_way : ⊥ = cc in no_way)
+    | inr differ ↦ differ (ap (λ (t : Named). t ∷ []) same ∙ names)
+  ]),
+  (λ wrong. elim wrong [ inl m ↦ misplaced m.number m.there m.elsewhere | inr long ↦ absurd (omega (arith, long, whole_length k f.length some, length_is_one, pieces_are)) ]),
+  sym length_is_one,
+)
   where
     same : named_part (one_part info name) ≡ named_entry f
     same = ap (λ (o : Option ℕ). let r : Named = record { path = name ∷ []; size = unwrap_or o 0 } in r) size
         ∙ ap (λ p. let r : Named = record { path = p; size = f.length } in r) (sym path)
+
     length_is_one : stream_length (one_part info name ∷ []) ≡ f.length
     length_is_one = zero-add (unwrap_or (length_at info) 0) ∙ ap (λ (o : Option ℕ). unwrap_or o 0) size
+
     pieces_are : pieces_end k (one_part info name ∷ []) ≡ pieces_of k f.length * k
     pieces_are = ap (λ t. t * k) (zero-add (pieces_of k (unwrap_or (length_at info) 0))) ∙ ap (λ (o : Option ℕ). pieces_of k (unwrap_or o 0) * k) size
+
     misplaced : (number : ℕ) {p : Part} → slice_get (one_part info name ∷ []) number ≡ Some p
         → stream_length (take number (one_part info name ∷ [])) ≢ pieces_end k (take number (one_part info name ∷ [])) → ⊥
     misplaced zero there elsewhere = elsewhere (sym (zero-mul k))
@@ -179,9 +181,9 @@ streamed k fs es info name some names fits = under k fs es info name some names 
 pub no_hybrid : (k : ℕ) (info : Bencode) (name : List ℕ) (fs : List Listed) → get (codes "pieces") info ≡ None
     → NoneHolds (hybrid_rows k info name fs) × IsVersion1 k info name None
 no_hybrid k info name fs absent = (
-    ((λ h. never h.0), ((λ h. never h.0), ((λ h. never h.0), tt))),
-    sym (ap (λ (o : Option Bencode). if is_some o then Some (version1_of k (the_parts (parts_in info name)) info) else None) absent),
-  )
+  ((λ h. never h.0), ((λ h. never h.0), ((λ h. never h.0), tt))),
+  sym (ap (λ (o : Option Bencode). if is_some o then Some (version1_of k (the_parts (parts_in info name)) info) else None) absent),
+)
   where
     never : IsTrue (is_hybrid info) → ⊥
     never h = let bad : true ≡ false = sym h ∙ ap is_some absent in let no_way : ⊥ = cc in no_way
@@ -204,13 +206,14 @@ pub hybrid_read : (k : ℕ) (info pieces : Bencode) (name : List ℕ) (fs : List
     → Streamed k fs (parts_in info name) (Ok n) → as_digests 20 (pieces_of k n) pieces ≡ Some ds
     → NoneHolds (hybrid_rows k info name fs) × IsVersion1 k info name (Some (record { pieces = ds; total = n }))
 hybrid_read k info pieces name fs n ds there told some = (
-    ((λ h. told.0 h.1), ((λ h. told.1 h.1), ((λ h. let bad : None ≡ Some ds = sym h.1 ∙ cuts in let no_way : ⊥ = cc in no_way), tt))),
-    ap Some part ∙ sym (ap (λ (o : Option Bencode). if is_some o then Some (version1_of k (the_parts (parts_in info name)) info) else None) there),
-  )
+  ((λ h. told.0 h.1), ((λ h. told.1 h.1), ((λ h. let bad : None ≡ Some ds = sym h.1 ∙ cuts in let no_way : ⊥ = cc in no_way), tt))),
+  ap Some part ∙ sym (ap (λ (o : Option Bencode). if is_some o then Some (version1_of k (the_parts (parts_in info name)) info) else None) there),
+)
   where
     cuts : cuts_in k (the_parts (parts_in info name)) info ≡ Some ds
     cuts = ap (option_and_then (as_digests 20 (pieces_of k (stream_length (the_parts (parts_in info name)))))) there
         ∙ ap (λ m. as_digests 20 (pieces_of k m) pieces) (sym told.2) ∙ some
+
     part : record { pieces = ds; total = n } ≡ version1_of k (the_parts (parts_in info name)) info
     part = ap (λ m. let r : Version1 = record { pieces = ds; total = m } in r) told.2
         ∙ ap (λ (o : Option (List (List ℕ))). let r : Version1 = record { pieces = unwrap_or o []; total = stream_length (the_parts (parts_in info name)) } in r) (sym cuts)
