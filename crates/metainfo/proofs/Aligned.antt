@@ -1,5 +1,5 @@
 -- Where the files of a version 1 list begin in the stream, entry by entry and by the whole list.
-use Rattle.std.proofs.Common.{zero-add, add-zero, zero-mul, inl, inr, ◌⊎◌, ◌≡◌, ◌≢◌, ℕ, zero, suc, ◌+◌, ◌*◌, ◌<◌, ◌≤◌, Bool, true, false, not, cond, ◌&&◌, if◌then◌else◌, nat_eq, nat_lt, List, [], ◌∷◌, ◌++◌, length, take, drop, map, filter, Option, Some, None, option_and_then, unwrap_or, refl, sym, ap, ◌∙◌, subst, arith, slice_get, sum_by}
+use Rattle.std.proofs.Common.{zero-add, add-zero, zero-mul, inl, inr, ◌⊎◌, ◌≡◌, ℕ, zero, suc, ◌+◌, ◌*◌, ◌<◌, ◌≤◌, Bool, true, false, not, cond, ◌&&◌, if◌then◌else◌, nat_eq, nat_lt, List, [], ◌∷◌, ◌++◌, length, take, drop, map, filter, Option, Some, None, refl, sym, ap, ◌∙◌, subst, arith, slice_get, sum_by}
 use Rattle.std.proofs.Math.Nat.{add-mul}
 use Rattle.std.proofs.lemmas.Option.{slice_get_within}
 use Rattle.std.proofs.lemmas.Bool.{eqb-true, eqb-false, and_cases}
@@ -8,12 +8,12 @@ use Rattle.std.proofs.lemmas.List.{length-drop, map-append}
 use Rattle.std.proofs.lemmas.List.Elements.{filter-append}
 use Rattle.std.proofs.lemmas.List.Sums.{sum_by-append}
 use Rattle.benc.specs.Value.{Bencode, Items, no_items, item}
-use Rattle.metainfo.specs.FileTree.{has_attribute, length_at}
+use Rattle.metainfo.specs.FileTree.{has_attribute}
 use Rattle.metainfo.specs.Matching.{after_entry, ends_of, entry_length, is_misplaced}
 use Rattle.metainfo.specs.Stream.{Part, Named, part_of, parts_of, named_part, files_in, length_in, stream_length, IsMisplaced}
 use Rattle.metainfo.specs.Trees.{pieces_of}
 use Rattle.metainfo.specs.declared.version1.Ends.{Ends}
-use Rattle.metainfo.proofs.Hybrids.{Begins, parts_back, and_true}
+use Rattle.metainfo.proofs.Hybrids.{parts_back, and_true}
 
 -- where the last piece of the files of a list ends
 abbrev pub pieces_end : ℕ → List Part → ℕ

@@ -1,5 +1,5 @@
 -- The groups of tests one behind the other, and the torrent that is described where none holds.
-use Rattle.std.proofs.Common.{◌≡◌, ℕ, ◌+◌, ◌*◌, ◌^◌, ◌<◌, ◌≤◌, List, [], ◌∷◌, ◌++◌, map, Option, Some, None, refl, sym, ap, subst, ◌∙◌, arith, sum_by}
+use Rattle.std.proofs.Common.{◌≡◌, ℕ, ◌*◌, ◌^◌, ◌<◌, ◌≤◌, List, ◌++◌, map, sym, ap, subst, ◌∙◌, arith, sum_by}
 use Rattle.std.specs.List.{list_any}
 use Rattle.std.proofs.Math.Nat.{mul-le-mul_right}
 use Rattle.sha1.specs.Sha1.{sha1}
@@ -7,12 +7,12 @@ use Rattle.sha2.specs.Sha256.{sha256}
 use Rattle.benc.specs.Text.{spelling}
 use Rattle.benc.specs.Value.{Bencode, Pairs}
 use Rattle.metainfo.specs.Describes.{IsDescribed}
-use Rattle.metainfo.specs.Description.{Description, FileEntry, TreeEntry}
+use Rattle.metainfo.specs.Description.{Description, FileEntry}
 use Rattle.metainfo.specs.FileTree.{Listed, Walk, lacks_root, listed, walks}
 use Rattle.metainfo.specs.Matching.{named_entry}
 use Rattle.metainfo.specs.Opening.{content_rows, key_rows, tree_rows}
 use Rattle.metainfo.specs.PieceLayers.{tree_at}
-use Rattle.metainfo.specs.Refusals.{First, NoneHolds, IsPieceLength, files_of, file_tree_in, hybrid_rows, info_in, layers_in, name_in, piece_length_in, table}
+use Rattle.metainfo.specs.Refusals.{First, NoneHolds, files_of, file_tree_in, hybrid_rows, info_in, layers_in, name_in, piece_length_in, table}
 use Rattle.metainfo.specs.Rooted.{entries_from}
 use Rattle.metainfo.specs.Stream.{IsVersion1, Named, named}
 use Rattle.metainfo.specs.Trees.{IsIn, pieces_in, pieces_of, roots_in}
@@ -61,22 +61,22 @@ files_refused v k info name tree layers fs r h first =
     let content = content_rows (piece_length_in v) (layers_in v) (files_of v) in
     let hybrid = hybrid_rows (piece_length_in v) (info_in v) (name_in v) (files_of v) in
     let moved = subst (λ n. First (content_rows n (layers_in v) (files_of v)) r) h.length_is
-      (subst (λ ls. First (content_rows k ls (files_of v)) r) h.layers_is (subst (λ gs. First (content_rows k layers gs) r) (all_files v tree fs h.tree_is h.files_are) first)) in
+    (subst (λ ls. First (content_rows k ls (files_of v)) r) h.layers_is (subst (λ gs. First (content_rows k layers gs) r) (all_files v tree fs h.tree_is h.files_are) first)) in
     first_behind (key_rows v ++ tree_rows (file_tree_in v)) (content ++ hybrid) r (front_none v tree h.keys h.tree_is h.trees) (first_front content hybrid r moved)
 
 content_none : (v : Bencode) (k : ℕ) (info : Bencode) (name : List ℕ) (tree layers : Pairs) (fs : List Listed) → IsRead v k info name tree layers fs
     → NoneHolds (content_rows k layers fs) → NoneHolds ((key_rows v ++ tree_rows (file_tree_in v)) ++ content_rows (piece_length_in v) (layers_in v) (files_of v))
 content_none v k info name tree layers fs h rows =
     let moved = subst (λ n. NoneHolds (content_rows n (layers_in v) (files_of v))) h.length_is
-      (subst (λ ls. NoneHolds (content_rows k ls (files_of v))) h.layers_is (subst (λ gs. NoneHolds (content_rows k layers gs)) (all_files v tree fs h.tree_is h.files_are) rows)) in
+    (subst (λ ls. NoneHolds (content_rows k ls (files_of v))) h.layers_is (subst (λ gs. NoneHolds (content_rows k layers gs)) (all_files v tree fs h.tree_is h.files_are) rows)) in
     none_both (key_rows v ++ tree_rows (file_tree_in v)) (content_rows (piece_length_in v) (layers_in v) (files_of v)) (front_none v tree h.keys h.tree_is h.trees) moved
 
 pub hybrid_refused : (v : Bencode) (k : ℕ) (info : Bencode) (name : List ℕ) (tree layers : Pairs) (fs : List Listed) (r : Refusal) → IsRead v k info name tree layers fs
     → NoneHolds (content_rows k layers fs) → First (hybrid_rows k info name fs) r → First (table v) r
 hybrid_refused v k info name tree layers fs r h rows first =
     let moved = subst (λ n. First (hybrid_rows n (info_in v) (name_in v) (files_of v)) r) h.length_is
-      (subst (λ i. First (hybrid_rows k i (name_in v) (files_of v)) r) h.info_is
-      (subst (λ s. First (hybrid_rows k info s (files_of v)) r) h.name_is (subst (λ gs. First (hybrid_rows k info name gs) r) (all_files v tree fs h.tree_is h.files_are) first))) in
+    (subst (λ i. First (hybrid_rows k i (name_in v) (files_of v)) r) h.info_is
+    (subst (λ s. First (hybrid_rows k info s (files_of v)) r) h.name_is (subst (λ gs. First (hybrid_rows k info name gs) r) (all_files v tree fs h.tree_is h.files_are) first))) in
     first_behind ((key_rows v ++ tree_rows (file_tree_in v)) ++ content_rows (piece_length_in v) (layers_in v) (files_of v)) (hybrid_rows (piece_length_in v) (info_in v) (name_in v) (files_of v)) r
     (content_none v k info name tree layers fs h rows) moved
 
@@ -84,8 +84,8 @@ pub none_holds : (v : Bencode) (k : ℕ) (info : Bencode) (name : List ℕ) (tre
     → NoneHolds (content_rows k layers fs) → NoneHolds (hybrid_rows k info name fs) → NoneHolds (table v)
 none_holds v k info name tree layers fs h rows last =
     let moved = subst (λ n. NoneHolds (hybrid_rows n (info_in v) (name_in v) (files_of v))) h.length_is
-      (subst (λ i. NoneHolds (hybrid_rows k i (name_in v) (files_of v))) h.info_is
-      (subst (λ s. NoneHolds (hybrid_rows k info s (files_of v))) h.name_is (subst (λ gs. NoneHolds (hybrid_rows k info name gs)) (all_files v tree fs h.tree_is h.files_are) last))) in
+    (subst (λ i. NoneHolds (hybrid_rows k i (name_in v) (files_of v))) h.info_is
+    (subst (λ s. NoneHolds (hybrid_rows k info s (files_of v))) h.name_is (subst (λ gs. NoneHolds (hybrid_rows k info name gs)) (all_files v tree fs h.tree_is h.files_are) last))) in
     none_both ((key_rows v ++ tree_rows (file_tree_in v)) ++ content_rows (piece_length_in v) (layers_in v) (files_of v)) (hybrid_rows (piece_length_in v) (info_in v) (name_in v) (files_of v))
     (content_none v k info name tree layers fs h rows) moved
 

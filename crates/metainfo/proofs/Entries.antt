@@ -1,14 +1,14 @@
 -- The version 1 list of a hybrid, entry by entry.
-use Rattle.std.proofs.Common.{inl, inr, ◌≡◌, ℕ, ◌+◌, ◌<◌, ◌≤◌, Bool, true, false, ◌&&◌, if◌then◌else◌, nat_eq, is_some, List, [], ◌∷◌, length, drop, get_or, map, refl, sym, ap, ◌∙◌, arith, Bor}
+use Rattle.std.proofs.Common.{inl, inr, ◌≡◌, ℕ, ◌+◌, ◌<◌, ◌≤◌, Bool, true, false, ◌&&◌, if◌then◌else◌, nat_eq, List, [], ◌∷◌, length, drop, get_or, map, refl, sym, ap, ◌∙◌, arith, Bor}
 use Rattle.std.proofs.lemmas.List.{drop_more, drop_all, get_or-map, length-drop, length-map}
 use Rattle.std.proofs.lemmas.Bool.Decides.{eqb_tells}
-use Rattle.benc.specs.Value.{Items, no_items, item}
+use Rattle.benc.specs.Value.{no_items, item}
 use Rattle.benc.specs.View.{view, items_view}
 use Rattle.benc.specs.declared.value.Value.{Value}
 use Rattle.metainfo.specs.Description.{FileEntry}
 use Rattle.metainfo.specs.Seen.{file_entry}
 use Rattle.metainfo.specs.declared.torrent.File.{File}
-use Rattle.metainfo.specs.FileTree.{has_attribute, is_dict, length_at}
+use Rattle.metainfo.specs.FileTree.{has_attribute}
 use Rattle.metainfo.specs.Matching.{is_text, are_texts, is_sized, is_entry_of, begins, are_same}
 
 pub items_more : (xs : List Value) (i : ℕ) (x : Value) → i < length xs → x ≡ get_or xs i x → items_view (drop i xs) ≡ item (view x) (items_view (drop (i + 1) xs))

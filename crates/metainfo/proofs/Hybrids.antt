@@ -1,12 +1,12 @@
 -- Reading the version 1 list of a hybrid entry by entry is reading it whole.
-use Rattle.std.proofs.Common.{inl, inr, ◌⊎◌, ◌≡◌, ◌≢◌, ℕ, zero, suc, ◌+◌, ◌*◌, ◌<◌, ◌≤◌, ◌^◌, Bool, true, false, not, cond, ◌&&◌, ◌||◌, if◌then◌else◌, nat_eq, nat_lt, is_some, is_none, List, [], ◌∷◌, ◌++◌, length, take, drop, map, filter, Option, Some, None, option_and_then, unwrap_or, Result, Ok, Err, refl, sym, ap, ◌∙◌, subst, arith, codes, slice_get, sum_by, IsTrue, T}
+use Rattle.std.proofs.Common.{inl, inr, ◌≡◌, ℕ, Bool, true, false, not, cond, ◌&&◌, ◌||◌, if◌then◌else◌, nat_eq, is_some, is_none, List, [], ◌∷◌, map, filter, Option, Some, None, option_and_then, unwrap_or, refl, sym, ap, ◌∙◌, arith, codes}
 use Rattle.std.specs.List.{list_any}
 use Rattle.std.specs.Str.{bytes_eq}
 use Rattle.std.proofs.lemmas.Slice.Eq.{bytes_eq-Decides}
 use Rattle.std.proofs.lemmas.Bool.{eqb-true, and_from, and_cases}
 use Rattle.benc.specs.Value.{Bencode, int, text, list, dict, Items, no_items, item}
 use Rattle.metainfo.specs.Description.{FileEntry}
-use Rattle.metainfo.specs.Dictionary.{get, as_list, as_text}
+use Rattle.metainfo.specs.Dictionary.{get, as_text}
 use Rattle.metainfo.specs.FileTree.{has_attribute, is_dict, length_at}
 use Rattle.metainfo.specs.Matching.{is_text, are_texts, is_path, is_length, is_entry_of, is_sized, begins, are_same, named_entry}
 use Rattle.metainfo.specs.Stream.{Part, Named, texts_in, some_texts, as_path, part_of, parts_of, is_broken, named_part, files_in}

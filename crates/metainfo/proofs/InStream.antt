@@ -1,14 +1,13 @@
 -- Each file of a hybrid lies in the version 1 stream, from its first piece on.
-use Rattle.std.proofs.Common.{inl, inr, ◌⊎◌, ◌≡◌, ◌≢◌, ℕ, zero, suc, ◌+◌, ◌*◌, ◌<◌, ◌≤◌, Bool, true, false, not, nat_le, is_some, List, [], ◌∷◌, length, take, map, Option, Some, None, option_map, refl, sym, ap, ◌∙◌, subst, arith, slice_get, sum_by, codes, unwrap_or, if◌then◌else◌, IsTrue}
-use Rattle.std.proofs.lemmas.List.{take-map, length-map}
+use Rattle.std.proofs.Common.{inl, inr, ◌≡◌, ◌≢◌, ℕ, zero, suc, ◌+◌, ◌*◌, ◌<◌, ◌≤◌, Bool, true, false, nat_le, List, [], ◌∷◌, length, take, map, Option, Some, None, option_map, refl, sym, ap, ◌∙◌, arith, slice_get, sum_by, if◌then◌else◌}
+use Rattle.std.proofs.lemmas.List.{take-map}
 use Rattle.std.proofs.lemmas.List.Sums.{sum_by-cons}
 use Rattle.std.proofs.lemmas.Option.{slice_get_within, slice_get-map}
 use Rattle.benc.specs.Value.{Bencode}
 use Rattle.metainfo.specs.Description.{FileEntry, Version1}
-use Rattle.metainfo.specs.Dictionary.{get}
 use Rattle.metainfo.specs.FileTree.{Listed}
 use Rattle.metainfo.specs.Refusals.{NoneHolds, hybrid_rows}
-use Rattle.metainfo.specs.Stream.{Part, Named, DiffersFrom, IsMisplaced, IsTooLong, IsVersion1, files_in, is_hybrid, length_in, named, named_part, parts_in, stream_length, the_parts, version1_of}
+use Rattle.metainfo.specs.Stream.{Part, Named, DiffersFrom, IsMisplaced, IsVersion1, files_in, is_hybrid, length_in, named, named_part, parts_in, stream_length, the_parts, version1_of}
 use Rattle.metainfo.specs.Trees.{AreFiles, entry_at, pieces_in, pieces_of}
 use Rattle.metainfo.proofs.Aligned.{pieces_end}
 use Rattle.metainfo.proofs.Hybrids.{files_pad, files_file}
@@ -63,7 +62,7 @@ part_within (q ∷ qs) (suc j) p at =
     let rest = part_within qs j p at in
     omega (arith, sum_by-cons length_in q qs, sum_by-cons length_in q (take j qs))
 
-listed_at : {X : Type 0} (xs : List X) (n : ℕ) → n < length xs → (x : X) × (slice_get xs n ≡ Some x)
+pub listed_at : {X : Type 0} (xs : List X) (n : ℕ) → n < length xs → (x : X) × (slice_get xs n ≡ Some x)
 listed_at [] n lt = absurd (omega arith)
 listed_at (x ∷ xs) zero lt = (x, refl)
 listed_at (x ∷ xs) (suc n) lt = listed_at xs n (omega arith)

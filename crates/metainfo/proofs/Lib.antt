@@ -3,6 +3,7 @@ pub mod Comparing
 pub mod Cutting
 pub mod Fed
 pub mod Aligned
+pub mod Answering
 pub mod Ascending
 pub mod Assembling
 pub mod Entries

@@ -1,5 +1,5 @@
 -- The list of files: one entry for each, where its first piece is the number of pieces before it.
-use Rattle.std.proofs.Common.{◌≡◌, ℕ, zero, suc, ◌+◌, ◌*◌, ◌^◌, ◌<◌, ◌≤◌, List, [], ◌∷◌, length, take, map, Option, Some, None, refl, sym, ap, subst, ◌∙◌, arith, slice_get, sum_by, add_assoc, add-zero, zero-add}
+use Rattle.std.proofs.Common.{◌≡◌, ℕ, zero, suc, ◌+◌, ◌^◌, ◌<◌, List, [], ◌∷◌, length, take, map, Some, refl, sym, ap, subst, ◌∙◌, arith, slice_get, sum_by, add-zero, zero-add}
 use Rattle.std.specs.Prelude.{option_and_then}
 use Rattle.std.proofs.lemmas.List.Sums.{sum_by-cons}
 use Rattle.metainfo.specs.Description.{FileEntry}
@@ -8,7 +8,7 @@ use Rattle.metainfo.specs.Matching.{named_entry}
 use Rattle.metainfo.specs.Places.{AreLaidOut}
 use Rattle.metainfo.specs.Rooted.{entries_from}
 use Rattle.metainfo.specs.Stream.{named}
-use Rattle.metainfo.specs.Trees.{Root, AreFiles, entry_at, place_in, pieces_in, pieces_of, roots_in}
+use Rattle.metainfo.specs.Trees.{Root, AreFiles, place_in, pieces_in, pieces_of, roots_in}
 
 entries_count : (p : ℕ) (ts : List Root) (first : ℕ) (fs : List Listed) → length (entries_from p ts first fs) ≡ length fs
 entries_count p ts first [] = refl
@@ -26,7 +26,7 @@ entries_at p ts first (g ∷ fs) zero f at =
 entries_at p ts first (g ∷ fs) (suc k) f at =
     let later = entries_at p ts (first + pieces_of p g.size) fs k f at in
     let sum : (first + pieces_of p g.size) + pieces_in p (take k fs) ≡ first + pieces_in p (g ∷ take k fs) =
-      omega (arith, sum_by-cons (λ (h : Listed). pieces_of p h.size) g (take k fs)) in
+    omega (arith, sum_by-cons (λ (h : Listed). pieces_of p h.size) g (take k fs)) in
     later ∙ ap (λ n. Some (entry ts n f)) sum
 
 pub are_files : (p : ℕ) (fs : List Listed) (es : List FileEntry) → es ≡ entries_from p (roots_in fs) 0 fs → AreFiles p fs es

@@ -1,6 +1,6 @@
 -- What sessions stand on, of the files and trees for which no test holds.
-use Rattle.std.proofs.Common.{◌≡◌, ℕ, zero, suc, ◌+◌, ◌-◌, ◌*◌, ◌/◌, ◌^◌, ◌<◌, ◌≤◌, Bool, true, false, not, ◌&&◌, ◌||◌, nat_lt, nat_le, is_none, List, [], ◌∷◌, ◌++◌, length, take, drop, map, Option, Some, None, option_map, inl, inr, ◌⊎◌, refl, sym, ap, subst, ◌∙◌, arith, slice_get, codes}
-use Rattle.std.specs.Prelude.{◌==◌, fold, option_and_then, unwrap_or, if◌then◌else◌, pos, negsuc}
+use Rattle.std.proofs.Common.{◌≡◌, ℕ, zero, suc, ◌+◌, ◌*◌, ◌^◌, ◌<◌, ◌≤◌, Bool, true, false, not, nat_lt, nat_le, is_none, List, [], ◌∷◌, ◌++◌, length, take, drop, map, Option, Some, None, option_map, inl, inr, ◌⊎◌, refl, sym, ap, subst, ◌∙◌, arith, slice_get, codes}
+use Rattle.std.specs.Prelude.{fold, option_and_then, unwrap_or, if◌then◌else◌, pos, negsuc}
 use Rattle.std.specs.List.{list_any}
 use Rattle.std.specs.Simd.{first_chunks}
 use Rattle.std.specs.Str.{bytes_eq}
@@ -8,12 +8,11 @@ use Rattle.std.proofs.lemmas.Bool.Decides.{eqb_tells}
 use Rattle.std.proofs.Math.Nat.{mul-suc}
 use Rattle.std.proofs.lemmas.List.{length-drop, length-take-le}
 use Rattle.std.proofs.lemmas.Option.{slice_get-map}
-use borrow.Author.Tests.{ltb-true}
 use Rattle.benc.specs.Value.{Bencode, int, text, list, dict, Pairs}
 use Rattle.metainfo.specs.Description.{Description, FileEntry, TreeEntry, Version1}
 use Rattle.metainfo.specs.Dictionary.{get, under}
-use Rattle.metainfo.specs.FileTree.{Walk, Listed, as_length, as_root, length_at, length_of, listed, lacks_root, root_at, root_of}
-use Rattle.metainfo.specs.PieceLayers.{as_digests, layer_at, leads_to, lacks_size, mismatches, needs_layer, tree_at}
+use Rattle.metainfo.specs.FileTree.{Walk, Listed, as_length, as_root, length_of, listed, lacks_root, root_at}
+use Rattle.metainfo.specs.PieceLayers.{as_digests, layer_at, leads_to, lacks_size, mismatches, tree_at}
 use Rattle.metainfo.specs.Places.{AreLaidOut}
 use Rattle.metainfo.specs.Refusals.{IsPieceLength, NoneHolds, hybrid_rows, layer_rows}
 use Rattle.metainfo.specs.Rooted.{AreRoots, entries_from}
@@ -319,7 +318,7 @@ sound k info name layers fs t legal length_is sizes roots pieces files trees lay
   laid_out = subst (λ p. AreLaidOut p t.files) (sym length_is) (subst (AreLaidOut k) (sym files) (laid_out k (roots_in fs) fs pieces));
   cuts = λ v is. subst (λ p. length v.pieces ≡ pieces_of p v.total) (sym length_is) (cuts_of k info name fs v hybrid (subst (IsVersion1 k info name) is version));
   in_stream = λ v n f is at some. subst (λ p. f.first_piece * p + f.length ≤ v.total) (sym length_is)
-    (hybrid_in_stream k info name fs t.files v hybrid (subst (IsVersion1 k info name) is version) (are_files k fs t.files files) n f at some);
+      (hybrid_in_stream k info name fs t.files v hybrid (subst (IsVersion1 k info name) is version) (are_files k fs t.files files) n f at some);
 }
   where
     in_trees : (n : ℕ) (e : TreeEntry) → slice_get t.trees n ≡ Some e → slice_get (map (tree_at k layers) (roots_in fs)) n ≡ Some e

@@ -1,18 +1,17 @@
 -- The three tests of a hybrid's version 1 part, by the stream's length as it is read.
-use Rattle.std.proofs.Common.{zero-add, add-zero, zero-mul, inl, inr, ◌⊎◌, ◌≡◌, ◌≢◌, ℕ, zero, suc, ◌+◌, ◌-◌, ◌*◌, ◌/◌, ◌<◌, ◌≤◌, ◌^◌, Bool, true, false, not, cond, ◌&&◌, ◌||◌, if◌then◌else◌, nat_eq, nat_lt, is_some, is_none, List, [], ◌∷◌, length, take, drop, map, Option, Some, None, option_and_then, option_map, unwrap_or, Result, Ok, Err, refl, sym, ap, ◌∙◌, subst, arith, codes, slice_get, sum_by, IsTrue}
+use Rattle.std.proofs.Common.{zero-add, zero-mul, inl, inr, ◌⊎◌, ◌≡◌, ◌≢◌, ℕ, zero, suc, ◌+◌, ◌-◌, ◌*◌, ◌<◌, ◌≤◌, ◌^◌, Bool, true, false, ◌&&◌, ◌||◌, if◌then◌else◌, nat_lt, is_some, is_none, List, [], ◌∷◌, take, map, Option, Some, None, option_and_then, unwrap_or, Result, Ok, Err, refl, sym, ap, ◌∙◌, subst, arith, codes, slice_get, sum_by, IsTrue}
 use Rattle.std.specs.List.{list_any}
-use Rattle.std.specs.Str.{bytes_eq}
 use Rattle.std.proofs.lemmas.Slice.Eq.{bytes_eq-Decides}
-use Rattle.std.proofs.lemmas.Bool.{and_from, and_cases}
+use Rattle.std.proofs.lemmas.Bool.{and_from}
 use borrow.Author.Tests.{ltb-true}
 use Rattle.std.proofs.Math.Nat.{lt-div-mul-add}
-use Rattle.benc.specs.Value.{Bencode, int, text, list, dict, Items, no_items, item}
+use Rattle.benc.specs.Value.{Bencode, int, text, list, dict, Items}
 use Rattle.metainfo.specs.Description.{FileEntry, Version1}
 use Rattle.metainfo.specs.Dictionary.{get, as_list}
 use Rattle.metainfo.specs.FileTree.{Listed, length_at}
 use Rattle.metainfo.specs.Matching.{aligned_length, are_same, ends_of, is_length, is_named, many_lengths, named_entry, nowhere, one_length, or_else, stream_under}
 use Rattle.metainfo.specs.PieceLayers.{as_digests}
-use Rattle.metainfo.specs.Refusals.{Row, First, NoneHolds, hybrid_rows}
+use Rattle.metainfo.specs.Refusals.{First, NoneHolds, hybrid_rows}
 use Rattle.metainfo.specs.Stream.{Part, Named, DiffersFrom, IsMisplaced, IsTooLong, IsVersion1, cuts_in, files_in, is_broken, is_hybrid, named, named_part, parts_in, parts_of, stream_length, the_parts, version1_of}
 use Rattle.metainfo.specs.Trees.{pieces_of}
 use Rattle.metainfo.specs.declared.refusal.Refusal.{Refusal}

@@ -1,7 +1,7 @@
 -- The version 1 list of a hybrid beside the files of the file tree, entry by entry. Public clauses do not name these.
 use Rattle.std.specs.Prelude.{ℕ, ◌+◌, ◌*◌, Bool, true, false, not, ◌&&◌, ◌==◌, nat_lt, if◌then◌else◌, List, [], ◌∷◌, Option, Some, None, is_some, codes, unwrap_or, ◌^◌, Result, Ok, Err}
 use Rattle.std.specs.Str.{bytes_eq}
-use Rattle.benc.specs.Value.{Bencode, int, text, list, dict, Items, no_items, item, Pairs}
+use Rattle.benc.specs.Value.{Bencode, int, text, list, dict, Items, no_items, item}
 use Rattle.metainfo.specs.Description.{FileEntry}
 use Rattle.metainfo.specs.Dictionary.{get}
 use Rattle.metainfo.specs.FileTree.{has_attribute, length_at, is_dict}

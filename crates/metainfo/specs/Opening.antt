@@ -10,7 +10,7 @@ use Rattle.metainfo.specs.Refusals.{Row, IsPieceLength, count_rows, file_rows, f
 use Rattle.metainfo.specs.Rooted.{AreRoots, entries_from}
 use Rattle.metainfo.specs.Seen.{file_entry, tree_entry}
 use Rattle.metainfo.specs.Steps.{pairs_seen}
-use Rattle.metainfo.specs.Trees.{Root, pieces_in, roots_in}
+use Rattle.metainfo.specs.Trees.{pieces_in, roots_in}
 use Rattle.metainfo.specs.declared.info.Keys.{Keys}
 use Rattle.metainfo.specs.declared.open.Contents.{Contents}
 

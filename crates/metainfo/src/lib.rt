@@ -3,6 +3,7 @@
 
 mod files;
 mod info;
+mod laws;
 mod layers;
 mod open;
 mod path;
@@ -14,6 +15,7 @@ mod trees;
 mod v1_feed;
 mod version1;
 
+pub use laws::{refusal_is_one, torrent_is_not_refused, torrent_is_one};
 pub use path::Path;
 pub use refusal::{Key, Refusal};
 pub use torrent::{File, Torrent, TreeInfo, V1};

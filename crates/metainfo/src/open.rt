@@ -15,15 +15,12 @@ ghost use Rattle.metainfo.specs.Rooted.{leaf};
 ghost use Rattle.metainfo.specs.Steps.{Ascends, Passes, pairs_seen};
 ghost use Rattle.metainfo.specs.Trees.{IsIn};
 
-use crate::files;
 use crate::files::Leaf;
 use crate::info::{Keys, read_keys};
-use crate::layers;
 use crate::refusal::Refusal;
 use crate::torrent::{File, Torrent, TreeInfo};
-use crate::tree;
-use crate::trees;
 use crate::version1::version1;
+use crate::{files, layers, tree, trees};
 use benc::{Fault, FaultKind, Pair, Value, decode_with_span};
 use hashtree::Hash;
 use sha1::Sha1;
@@ -114,15 +111,7 @@ fn read<'a>(alloc: Global, top: &Value<'a>, info_bytes: &[u8]) -> Result<Torrent
     let v1 = version1(info, name, &files, piece_length)?;
     let hash = info_hash_v2(info_bytes);
     let hash_v1 = Sha1::digest(info_bytes);
-    Ok(Torrent::new(
-        name,
-        piece_length,
-        files,
-        trees,
-        hash,
-        hash_v1,
-        v1,
-    ))
+    Ok(Torrent::new(name, piece_length, files, trees, hash, hash_v1, v1))
 }
 
 fn refused(fault: Fault) -> Refusal

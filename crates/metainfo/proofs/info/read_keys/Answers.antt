@@ -1,4 +1,4 @@
-use Rattle.std.proofs.Common.{◌≡◌, ◌≢◌, ◌++◌, ℤ, Some, sym, ap, ◌∙◌, subst, codes, rules}
+use Rattle.std.proofs.Common.{◌≡◌, ◌≢◌, ◌++◌, Some, sym, ap, ◌∙◌, subst, codes, rules}
 use Rattle.metainfo.specs.Dictionary.{get}
 use Rattle.metainfo.specs.declared.refusal.Refusal.TheVariants as refusals
 use Rattle.std.proofs.lemmas.Result.{err_from_is_err_and}
@@ -38,7 +38,7 @@ returns-in_err-piece_length c =
     let is : view c.in_ok-info.info.now ≡ info_in v = sym (value_found (codes "info") v (view c.in_ok-info.info.now) c.in_ok-info.ensures.1) in
     let told : NoneHolds (told_rows (info_in v)) = subst (λ (i : Bencode). NoneHolds (told_rows i)) is c.in_ok-tree.ensures.0 in
     let number : number_in (int c.in_ok-tree.number) ≡ piece_length_in v = ap (λ z. number_in (int z)) (sym c.in_ok-tree.number-is) ∙ sym (number_found (codes "piece length") (info_in v) c.in_ok-tree.field-0.piece_length
-      (subst (λ (i : Bencode). get (codes "piece length") i ≡ Some (int c.in_ok-tree.field-0.piece_length)) is c.in_ok-tree.ensures.1.piece_length)) in
+    (subst (λ (i : Bencode). get (codes "piece length") i ≡ Some (int c.in_ok-tree.field-0.piece_length)) is c.in_ok-tree.ensures.1.piece_length)) in
     let first : r ≢ refusals.NoMemory → First (piece_length_rows (number_in (int c.in_ok-tree.number))) r = search rules in
     rw (p.1, p.2) (λ memory. first_behind (top_rows v ++ (told_rows (info_in v) ++ layers_rows v)) (piece_length_rows (piece_length_in v)) r
     (none_both (top_rows v) (told_rows (info_in v) ++ layers_rows v) c.in_ok-info.ensures.0 (none_both (told_rows (info_in v)) (layers_rows v) told c.in_ok-layers.ensures.0))

@@ -1,17 +1,16 @@
-use Rattle.std.proofs.Common.{◌≡◌, ◌≢◌, ◌≤◌, ◌^◌, ◌∷◌, map, List, Option, Some, None, option_map, refl, sym, ap, subst, ◌∙◌, codes}
+use Rattle.std.proofs.Common.{◌≡◌, map, List, refl, sym, ap, subst, ◌∙◌}
 use Rattle.std.proofs.lemmas.Result.{err_from_is_err_and}
 use Rattle.sha1.specs.Sha1.{sha1}
 use Rattle.sha2.specs.Sha256.{sha256}
 use Rattle.metainfo.specs.Describes.{IsDescribed}
-use Rattle.benc.specs.Value.{Bencode, Pairs}
+use Rattle.benc.specs.Value.{Bencode}
 use Rattle.benc.specs.View.{view, pairs_view}
 use Rattle.metainfo.specs.FileTree.{Listed, listed, walks}
-use Rattle.metainfo.specs.Opening.{AreKeys, content_rows, key_rows, tree_rows}
-use Rattle.metainfo.specs.Refusals.{First, NoneHolds, hybrid_rows, layers_in}
+use Rattle.metainfo.specs.Opening.{AreKeys, key_rows, tree_rows}
+use Rattle.metainfo.specs.Refusals.{NoneHolds}
 use Rattle.metainfo.specs.Rooted.{leaf}
-use Rattle.metainfo.specs.Seen.{described, file_entry, tree_entry, version1}
-use Rattle.metainfo.specs.Steps.{Passes, pairs_seen}
-use Rattle.metainfo.specs.Stream.{IsVersion1}
+use Rattle.metainfo.specs.Seen.{described, file_entry}
+use Rattle.metainfo.specs.Steps.{pairs_seen}
 use Rattle.metainfo.specs.declared.info.Keys.{Keys}
 use Rattle.metainfo.proofs.Assembling.{IsRead, files_refused, fits, hybrid_refused, is_described, keys_refused, names_are, none_holds, sizes_of, tree_refused}
 use Rattle.metainfo.proofs.Placing.{legal_bounds}
@@ -103,6 +102,6 @@ returns c =
     let bytes = c.requires.info (view keys.info.now) c.in_ok-info.ensures.1.found in (
       none_holds v k (view keys.info.now) keys.name.now (pairs_view keys.tree.now.items) (pairs_seen keys.layers) fs h content.0 told.0,
       subst (IsDescribed v) (sym c.new.ensures)
-      (is_described v k (view keys.info.now) keys.name.now (pairs_view keys.tree.now.items) (pairs_seen keys.layers) fs t h refl refl content.1.files content.1.trees
-      (c.info_hash_v2-hash.ensures ∙ ap sha256 bytes) (c.digest-hash_v1.ensures ∙ ap sha1 bytes) told.1),
+          (is_described v k (view keys.info.now) keys.name.now (pairs_view keys.tree.now.items) (pairs_seen keys.layers) fs t h refl refl content.1.files content.1.trees
+          (c.info_hash_v2-hash.ensures ∙ ap sha256 bytes) (c.digest-hash_v1.ensures ∙ ap sha1 bytes) told.1),
     )

@@ -1,6 +1,5 @@
-use Rattle.std.proofs.Common.{◌≡◌, ◌<◌, ◌≤◌, ℕ, zero, suc, List, [], ◌∷◌, map, length, Some, option_map, refl, sym, ap, ◌∙◌, subst, arith, slice_get, slice_index_or}
+use Rattle.std.proofs.Common.{◌≡◌, ◌<◌, ◌≤◌, ℕ, zero, suc, List, [], ◌∷◌, map, length, Some, option_map, refl, ap, ◌∙◌, subst, arith, slice_get, slice_index_or}
 use Rattle.std.proofs.lemmas.Option.{slice_get-map}
-use Rattle.metainfo.specs.FileTree.{Listed}
 use Rattle.metainfo.specs.Rooted.{leaf, rooted}
 use Rattle.metainfo.specs.Trees.{IsIn}
 use Rattle.metainfo.specs.declared.trees.Rooted.{Rooted}

@@ -1,11 +1,11 @@
-use Rattle.std.proofs.Common.{◌≡◌, ◌+◌, ◌++◌, ◌∷◌, [], ℕ, List, map, Option, Some, None, refl, sym, ap, subst, ◌∙◌, arith, rules}
+use Rattle.std.proofs.Common.{◌≡◌, ◌+◌, ◌++◌, ◌∷◌, [], ℕ, map, Option, sym, ap, ◌∙◌, arith}
 use Rattle.std.specs.Prelude.{option_and_then}
 use Rattle.std.specs.Vec.Iter.{into_iter_items}
 use Rattle.std.proofs.lemmas.List.{map-append}
 use Rattle.std.proofs.lemmas.List.Sums.{sum_by-cons}
 use Rattle.metainfo.specs.Description.{FileEntry}
 use Rattle.metainfo.specs.FileTree.{Listed}
-use Rattle.metainfo.specs.Rooted.{leaf, roots_seen, entries_from, IsNumbered}
+use Rattle.metainfo.specs.Rooted.{leaf, roots_seen, entries_from}
 use Rattle.metainfo.specs.Seen.{file_entry}
 use Rattle.metainfo.specs.Trees.{place_in, pieces_of, pieces_in}
 use Rattle.metainfo.specs.declared.torrent.File.{File}

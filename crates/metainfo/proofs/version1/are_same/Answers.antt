@@ -1,4 +1,4 @@
-use Rattle.std.proofs.Common.{◌≡◌, ◌+◌, ◌∙◌, sym, ap, arith, drop, map}
+use Rattle.std.proofs.Common.{◌+◌, ◌∙◌, sym, ap, arith, drop, map}
 use Rattle.benc.specs.View.{items_view}
 use Rattle.metainfo.specs.Matching.{are_same}
 use Rattle.metainfo.specs.Seen.{file_entry}

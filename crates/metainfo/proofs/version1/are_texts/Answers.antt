@@ -1,4 +1,4 @@
-use Rattle.std.proofs.Common.{◌≡◌, ◌∙◌, sym, arith}
+use Rattle.std.proofs.Common.{◌∙◌, sym, arith}
 use Rattle.metainfo.proofs.Entries.{texts_yes, texts_no, texts_short, texts_end}
 use Rattle.metainfo.proofs.version1.are_texts.Goals as goal
 

@@ -1,4 +1,4 @@
-use Rattle.std.proofs.Common.{◌≡◌, ◌∙◌, ap, sym, map, Some, None, Ok, Err, option_map, refl, subst}
+use Rattle.std.proofs.Common.{sym, map, subst}
 use Rattle.benc.specs.View.{view}
 use Rattle.metainfo.specs.Seen.{file_entry}
 use Rattle.metainfo.specs.Stream.{parts_in}
