@@ -1,20 +1,17 @@
 -- The calls of one tree keep it good.
-use Rattle.std.proofs.Common.{◌≡◌, Result, Ok, Err, IfOk, IfErr, ℕ, ◌+◌, ◌*◌, ◌/◌, ◌^◌, ◌<◌, ◌≤◌, Bool, true, false, cond, eqb, ◌&&◌, List, length, Option, Some, None, inl, inr, refl, sym, ap, ap₂, ◌∙◌, subst, arith}
+use Rattle.std.proofs.Common.{◌≡◌, Result, Ok, Err, IfOk, IfErr, ℕ, List, length, sym, ap, ◌∙◌, subst}
 use Rattle.std.specs.List.{All}
-use Rattle.std.specs.FinMap.{insert, empty}
 use Rattle.std.specs.FinSet as set
-use Rattle.std.specs.Ordering.{nat_cmp}
 use Rattle.sha2.specs.Sha256.{sha256}
 use Rattle.wire.specs.declared.message.Ask.{Ask}
-use Rattle.hashtree.specs.Tree.{block_count}
 use Rattle.session.specs.Digest.{Hash, IsHash}
-use Rattle.session.specs.TreeRoot.{TreeRoot, tree_height}
-use Rattle.session.specs.Partial.{PartialTree, IsPlace, IsKnown, IsClosed}
+use Rattle.session.specs.TreeRoot.{TreeRoot}
+use Rattle.session.specs.Partial.{PartialTree, IsKnown, IsClosed}
 use Rattle.session.specs.declared.refusal.HashRefusal.{HashRefusal}
 use Rattle.session.specs.Claims.{claims, joined, IsAccepted, TreeRefuses}
 use Rattle.session.specs.Fill.{fill_claims, IsFillAccepted}
 use Rattle.session.specs.Known.{Known, Marked, look, Joins}
-use Rattle.session.specs.Kept.{TreeState, KeptTree, info_of, root_alone, IsGoodTree, IsMarked}
+use Rattle.session.specs.Kept.{KeptTree, info_of, IsGoodTree, IsMarked}
 use Rattle.session.proofs.Joining.{joined-closed, joined-keeps}
 use Rattle.session.proofs.Filling.{fill-closed}
 use Rattle.session.proofs.Runs.{closed-same, marked-known}

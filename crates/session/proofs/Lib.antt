@@ -27,3 +27,4 @@ pub mod Counting
 pub mod Layers
 pub mod Keeping
 pub mod Sessions
+pub mod Planting

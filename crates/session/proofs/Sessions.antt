@@ -1,10 +1,9 @@
 -- The trees of a session beside the state that contracts see.
 use Rattle.std.proofs.Common.{◌≡◌, ◌≢◌, ℕ, ◌+◌, ◌<◌, ◌≤◌, true, List, [], ◌∷◌, ◌++◌, map, take, length, set, get_or, Option, Some, None, option_map, Result, Ok, Err, IfOk, IfErr, inl, inr, refl, sym, ap, ◌∙◌, subst, subst₂, add-one, arith, eq-or-lt_of_le}
 use Rattle.std.specs.Prelude.{slice_get}
-use Rattle.std.specs.List.{All}
 use Rattle.std.specs.FinSet as leaves
 use Rattle.std.proofs.lemmas.Option.{none-some, same_Some, slice_get_within, slice_get-get_or, get_or_from_slice_get, slice_get-map}
-use Rattle.std.proofs.lemmas.List.{map-set, length-set}
+use Rattle.std.proofs.lemmas.List.{map-set}
 use Rattle.std.proofs.lemmas.List.Elements.{All-get_or, All-set}
 use Rattle.std.proofs.Math.Seq.{map-set_same, take-suc}
 use Rattle.hashtree.specs.Tree.{block_count}
@@ -24,7 +23,7 @@ use Rattle.session.specs.Partial.{IsKnown, IsClosed}
 use Rattle.session.specs.Claims.{claims, IsAccepted, TreeRefuses, CanAnswer}
 use Rattle.session.specs.Known.{Known, Marked, look, Joins}
 use Rattle.session.specs.Kept.{TreeState, State, KeptTree, info_of, IsGoodTree, IsMarked, TreeRefusesBlock}
-use Rattle.session.specs.Session.{Layout, IsTree, IsGood, IsAsked, IsStored, IsHashRefused, IsAnswered, IsPlaced, IsVerified, IsBlockRefused, IsTrueVerdict, Step, IsTrueRun}
+use Rattle.session.specs.Session.{Layout, IsTree, IsGood, IsStored, IsHashRefused, IsAnswered, IsPlaced, IsVerified, IsBlockRefused, IsTrueVerdict, Step, IsTrueRun}
 use Rattle.session.specs.Layouts.{root_of_entry, layout_of, tree_number, state_of, AreKept}
 use Rattle.session.proofs.Keeping.{same_info}
 

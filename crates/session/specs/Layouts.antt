@@ -11,7 +11,7 @@ use Rattle.session.specs.Digest.{Hash}
 use Rattle.session.specs.TreeRoot.{TreeRoot, tree_height}
 use Rattle.session.specs.Fill.{fill_claims, IsFillAccepted, FillRefuses}
 use Rattle.session.specs.Known.{look, Joins}
-use Rattle.session.specs.Kept.{TreeState, State, KeptTree, info_of, state_code, IsGoodTree}
+use Rattle.session.specs.Kept.{TreeState, State, KeptTree, info_of, state_code, root_alone, IsGoodTree}
 use Rattle.session.specs.Session.{Layout, IsTree}
 
 -- a tree's root and the length of its files
@@ -83,3 +83,9 @@ pub record IsFillRefused (t : Layout) (S : State) (n layer : ℕ) (hashes : List
   pub before : TreeState
   pub is_tree : IsTree t S n tree before
   pub refuses : FillRefuses tree (look before.known) layer hashes r
+
+-- a good tree of which the root alone is known, and no leaf is marked
+pub record IsPlanted (t : KeptTree) : Type 0 where
+  pub good : IsGoodTree t
+  pub known : t.state.known ≡ root_alone t
+  pub marked : t.state.marked ≡ leaves.empty

@@ -1,9 +1,9 @@
 //! A session of a torrent: what is known and marked of each of its trees.
 
-ghost use Rattle.std.specs.Prelude.{◌≡◌, ◌≢◌, ℕ, ◌<◌, ◌↔◌, IfOk, IfErr, IfSome, IfNone, OnErr, IsTrue, List, length, slice_get, Some};
+ghost use Rattle.std.specs.Prelude.{◌≡◌, ◌≢◌, ℕ, ◌^◌, ◌<◌, ◌≤◌, ◌↔◌, IfOk, IfErr, IfSome, IfNone, OnErr, IsTrue, List, length, slice_get, Some};
 ghost use Rattle.std.specs.FinMap as finite;
 ghost use Rattle.std.specs.FinSet as set;
-ghost use Rattle.session.specs.Kept.{KeptTree, TreeState};
+ghost use Rattle.session.specs.Kept.{KeptTree, TreeState, root_alone};
 ghost use Rattle.session.specs.Session.{IsGood, IsStored, IsHashRefused, IsVerified, IsBlockRefused, IsAnswered, Step, IsTrueVerdict, IsTrueRun};
 ghost use Rattle.session.specs.Layouts.{layout_of, IsFresh};
 
@@ -12,7 +12,7 @@ use crate::refusal::{BlockRefusal, HashRefusal};
 use crate::tree::{Tree, are_hashes};
 use crate::verdict::Verdict;
 use hashtree::{Hash, Shape};
-use metainfo::Torrent;
+use metainfo::{Torrent, TreeInfo};
 use std::alloc::{AllocError, Global};
 use std::marker::Model;
 use wire::{Ask, Message};
@@ -40,6 +40,24 @@ impl<'t, N: NodeMap> Model for Session<'t, N> {
 }
 
 impl<'t, N: NodeMap> Session<'t, N> {
+    /// A session that knows the root of each tree of the torrent alone.
+    pub fn new(alloc: Global, torrent: &'t Torrent<'t>) -> Result<Session<'t, N>, AllocError>
+        ensures torrent { IfOk result (λ s. s.torrent ≡ torrent.now) }
+        ensures fresh { IfOk result (λ s. IsFresh torrent.now s.state) }
+    {
+        torrent.sound();
+        let infos = torrent.trees();
+        let mut trees = Vec::with_capacity(alloc, infos.len())?;
+        'infos: for info in infos {
+            trees.push_reserved(planted(alloc, info)?);
+        }
+        Ok(Session {
+            alloc,
+            torrent,
+            trees,
+        })
+    }
+
     /// The torrent.
     pub fn torrent(&self) -> &'t Torrent<'t>
         ensures { result.now ≡ self.now.torrent }
@@ -103,6 +121,22 @@ impl<'t, N: NodeMap> Session<'t, N> {
         }
     }
 
+    /// How many places of a tree are known.
+    pub fn known(&self, tree: usize) -> u64
+        requires { tree < length self.now.torrent.trees }
+        ensures { (s : TreeState) → slice_get self.now.state tree ≡ Some s → result ≡ finite.len s.known }
+    {
+        self.trees[tree].known()
+    }
+
+    /// How many leaves of a tree are marked.
+    pub fn marked(&self, tree: usize) -> u64
+        requires { tree < length self.now.torrent.trees }
+        ensures { (s : TreeState) → slice_get self.now.state tree ≡ Some s → result ≡ set.len s.marked }
+    {
+        self.trees[tree].marked()
+    }
+
     /// Takes one message, and tells what it makes of it. A message that is refused leaves the session unchanged.
     pub fn step(&mut self, message: &Message<'_>) -> Verdict
         ensures torrent { self.new.torrent ≡ self.old.torrent }
@@ -148,6 +182,21 @@ impl<'t, N: NodeMap> Session<'t, N> {
             verdicts.push_reserved(self.step(message));
         }
         Ok(verdicts)
+    }
+}
+
+/// A tree of which the root alone is known.
+fn planted<N: NodeMap>(alloc: Global, info: &TreeInfo<'_>) -> Result<Tree<N>, AllocError>
+    requires some { 0 < info.now.length }
+    requires bound { info.now.length ≤ 2 ^ 46 }
+    ensures root { IfOk result (λ t. t.root ≡ info.now.root) }
+    ensures length { IfOk result (λ t. t.length ≡ info.now.length) }
+    ensures known { IfOk result (λ t. t.state.known ≡ root_alone t) }
+    ensures marked { IfOk result (λ t. t.state.marked ≡ set.empty) }
+{
+    match Shape::of(info.length) {
+        None => Err(AllocError),
+        Some(shape) => Tree::new(alloc, info.root, shape),
     }
 }
 

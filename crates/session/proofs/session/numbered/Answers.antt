@@ -1,4 +1,4 @@
-use Rattle.std.proofs.Common.{◌<◌, ap, ◌∙◌, arith}
+use Rattle.std.proofs.Common.{ap, ◌∙◌, arith}
 use Rattle.std.proofs.lemmas.Option.{slice_get_within}
 use Rattle.session.proofs.Sessions.{none_more, one_of}
 use Rattle.session.proofs.session.numbered.Goals as goal

@@ -1,4 +1,4 @@
-use Rattle.std.proofs.Common.{◌≡◌, ℕ, ◌<◌, List, map, set, Some, Result, Err, IfErr, sym, ap, ◌∙◌, subst}
+use Rattle.std.proofs.Common.{◌≡◌, ℕ, List, map, set, Some, Result, Err, IfErr, sym, ap, ◌∙◌, subst}
 use Rattle.std.specs.Prelude.{slice_get}
 use Rattle.std.proofs.lemmas.Option.{slice_get_within}
 use Rattle.std.proofs.lemmas.Result.{err_from_is_err_and}
@@ -8,7 +8,7 @@ use Rattle.session.specs.declared.refusal.BlockRefusal.{BlockRefusal}
 use Rattle.session.specs.Kept.{KeptTree}
 use Rattle.session.specs.Session.{IsVerified, IsBlockRefused}
 use Rattle.session.specs.Layouts.{KeptSession, layout_of, state_of}
-use Rattle.session.proofs.Keeping.{same_tree, good_marked, good_same}
+use Rattle.session.proofs.Keeping.{good_marked, good_same}
 use Rattle.session.proofs.Sessions.{found_at, good_at, kept-after, tree_for, block_inside, verified_in, block_refused_in, state_stays}
 use Rattle.session.proofs.session.Session.take_block.Goals as goal
 
