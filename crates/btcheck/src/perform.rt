@@ -42,7 +42,9 @@ fn root<'a>(rt: &HostRuntime, path: &'a str) -> Result<u8, Fault<'a>> {
 
 fn show<'a>(rt: &HostRuntime, path: &'a str) -> Result<u8, Fault<'a>> {
     let bytes = read_torrent(rt, path)?;
-    let mut out = FromWrite::new(BufWriter::new(rt.alloc(), io::writer(rt)).map_err(|_| Fault::NoMemory)?);
+    let mut out = FromWrite::new(BufWriter::new(rt.alloc(), io::writer(rt)).map_err(
+        |_| Fault::NoMemory,
+    )?);
     match Torrent::open(rt.alloc(), bytes.as_slice()) {
         Ok(torrent) => match checker::show(&torrent, &mut out) {
             Ok(()) => Ok(status(true)),

@@ -30,7 +30,9 @@ fn root_command<'a>(alloc: Global) -> Result<Command<'a>, Error> {
 fn show_command<'a>(alloc: Global) -> Result<Command<'a>, Error> {
     let command = Command::new(alloc, "show")
         .about("Prints what a torrent holds: name, info-hashes, files and their roots")
-        .after_help("Prints `refused NUMBER NAME`, status 1, where the file is no torrent of version 2.")
+        .after_help(
+            "Prints `refused NUMBER NAME`, status 1, where the file is no torrent of version 2.",
+        )
         .arg(required(alloc, "TORRENT", "The torrent file"))?;
     Ok(command)
 }
