@@ -9,7 +9,7 @@ use Rattle.session.specs.TreeRoot.{TreeRoot}
 use Rattle.session.specs.Partial.{PartialTree, IsKnown, IsClosed}
 use Rattle.session.specs.declared.refusal.HashRefusal.{HashRefusal}
 use Rattle.session.specs.Claims.{claims, joined, IsAccepted, TreeRefuses}
-use Rattle.session.specs.Fill.{fill_claims, IsFillAccepted}
+use Rattle.session.specs.Fill.{fill_claims, IsFillAccepted, FillRefuses}
 use Rattle.session.specs.Known.{Known, Marked, look, Joins}
 use Rattle.session.specs.Kept.{KeptTree, info_of, IsGoodTree, IsMarked}
 use Rattle.session.proofs.Joining.{joined-closed, joined-keeps}
@@ -73,3 +73,10 @@ pub good_after_take : (a b : KeptTree) (ask : Ask) (hashes : List Hash) (r : Res
     → IfErr r (λ x. TreeRefuses (info_of a) (look a.state.known) ask hashes x × (b.state.known ≡ a.state.known)) → IsGoodTree b
 good_after_take a b ask hashes (Ok c) good sizes r l m taken refused = good_taken a b ask hashes c good sizes r l m taken.0 taken.1
 good_after_take a b ask hashes (Err x) good sizes r l m taken refused = subst IsGoodTree (sym (same_tree a b r l refused.1 m)) good
+
+pub good_after_fill : (a b : KeptTree) (layer : ℕ) (hashes : List Hash) (r : Result ℕ HashRefusal) → IsGoodTree a → All (λ (h : List ℕ). length h ≡ 32) hashes
+    → b.root ≡ a.root → b.length ≡ a.length → b.state.marked ≡ a.state.marked
+    → IfOk r (λ c. IsFillAccepted (info_of a) (look a.state.known) layer hashes × Joins (fill_claims (info_of a) layer hashes) a.state.known b.state.known c)
+    → IfErr r (λ x. FillRefuses (info_of a) (look a.state.known) layer hashes x × (b.state.known ≡ a.state.known)) → IsGoodTree b
+good_after_fill a b layer hashes (Ok c) good sizes r l m filled refused = good_filled a b layer hashes c good sizes r l m filled.0 filled.1
+good_after_fill a b layer hashes (Err x) good sizes r l m filled refused = good_same a b r l refused.1 m good

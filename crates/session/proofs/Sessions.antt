@@ -3,7 +3,7 @@ use Rattle.std.proofs.Common.{◌≡◌, ◌≢◌, ℕ, ◌+◌, ◌<◌, ◌�
 use Rattle.std.specs.Prelude.{slice_get}
 use Rattle.std.specs.FinSet as leaves
 use Rattle.std.proofs.lemmas.Option.{none-some, same_Some, slice_get_within, slice_get-get_or, get_or_from_slice_get, slice_get-map}
-use Rattle.std.proofs.lemmas.List.{map-set}
+use Rattle.std.proofs.lemmas.List.{length-map, map-set}
 use Rattle.std.proofs.lemmas.List.Elements.{All-get_or, All-set}
 use Rattle.std.proofs.Math.Seq.{map-set_same, take-suc}
 use Rattle.hashtree.specs.Tree.{block_count}
@@ -24,7 +24,8 @@ use Rattle.session.specs.Claims.{claims, IsAccepted, TreeRefuses, CanAnswer}
 use Rattle.session.specs.Known.{Known, Marked, look, Joins}
 use Rattle.session.specs.Kept.{TreeState, State, KeptTree, info_of, IsGoodTree, IsMarked, TreeRefusesBlock}
 use Rattle.session.specs.Session.{Layout, IsTree, IsGood, IsStored, IsHashRefused, IsAnswered, IsPlaced, IsVerified, IsBlockRefused, IsTrueVerdict, Step, IsTrueRun}
-use Rattle.session.specs.Layouts.{root_of_entry, layout_of, tree_number, state_of, AreKept}
+use Rattle.session.specs.Layouts.{root_of_entry, layout_of, tree_number, state_of, AreKept, IsFilled, IsFillRefused}
+use Rattle.session.specs.Fill.{fill_claims, IsFillAccepted, FillRefuses}
 use Rattle.session.proofs.Keeping.{same_info}
 
 pub found_at : (ts : List KeptTree) (n : ℕ) (a : KeptTree) → n < length ts → a ≡ get_or ts n a → slice_get ts n ≡ Some a
@@ -217,3 +218,29 @@ run-next a b S M S' ms i vs d v same inside before right step =
     subst (λ xs. IsTrueRun (layout_of b) S xs (vs ++ v ∷ []) S') (sym (ap (λ j. take j ms) (add-one i) ∙ take-suc ms i d inside))
     (run-more (layout_of b) S (take i ms) vs M (get_or ms i d) v S' before
     (subst (λ x. IsTrueVerdict (layout_of x) M (get_or ms i d) v) same right) (subst (λ x. Step (layout_of x) M (get_or ms i d) v S') same step))
+
+module _ (d : Description) (ts : List KeptTree) (kept : AreKept d ts) where
+  pub filled_all : (n : ℕ) (a b : KeptTree) (layer : ℕ) (hashes : List Hash) (r : Result ℕ HashRefusal) → slice_get ts n ≡ Some a → b.state.marked ≡ a.state.marked
+      → IfOk r (λ c. IsFillAccepted (info_of a) (look a.state.known) layer hashes × Joins (fill_claims (info_of a) layer hashes) a.state.known b.state.known c)
+      → IfOk r (λ c. IsFilled (layout_of d) (map state_of ts) n layer hashes c (map state_of (set ts n b)))
+  filled_all n a b layer hashes (Ok c) e m h = record {
+    tree = info_of a;
+    before = a.state;
+    after = b.state;
+    is_tree = tree_at d ts kept n a e;
+    accepted = h.0;
+    joins = h.1;
+    marks_stay = m;
+    state_after = map-set state_of ts n b;
+  }
+  filled_all n a b layer hashes (Err x) e m h = tt
+
+  pub fill_refused_all : (n : ℕ) (a b : KeptTree) (layer : ℕ) (hashes : List Hash) (r : Result ℕ HashRefusal) → slice_get ts n ≡ Some a → b.state.marked ≡ a.state.marked
+      → IfErr r (λ x. FillRefuses (info_of a) (look a.state.known) layer hashes x × (b.state.known ≡ a.state.known))
+      → IfErr r (λ x. IsFillRefused (layout_of d) (map state_of ts) n layer hashes x × (map state_of (set ts n b) ≡ map state_of ts))
+  fill_refused_all n a b layer hashes (Ok c) e m h = tt
+  fill_refused_all n a b layer hashes (Err x) e m h =
+      (record { tree = info_of a; before = a.state; is_tree = tree_at d ts kept n a e; refuses = h.0 }, state_stays ts n a b e h.1 m)
+
+  pub inside_kept : (n : ℕ) → n < length d.trees → n < length ts
+  inside_kept n low = omega (arith, length-map ts info_of, length-map d.trees root_of_entry, ap length kept.same)

@@ -5,7 +5,7 @@ ghost use Rattle.std.specs.FinMap as finite;
 ghost use Rattle.std.specs.FinSet as set;
 ghost use Rattle.session.specs.Kept.{KeptTree, TreeState, root_alone};
 ghost use Rattle.session.specs.Session.{IsGood, IsStored, IsHashRefused, IsVerified, IsBlockRefused, IsAnswered, Step, IsTrueVerdict, IsTrueRun};
-ghost use Rattle.session.specs.Layouts.{layout_of, IsFresh};
+ghost use Rattle.session.specs.Layouts.{layout_of, IsFresh, IsFilled, IsFillRefused};
 
 use crate::node_map::NodeMap;
 use crate::refusal::{BlockRefusal, HashRefusal};
@@ -85,6 +85,18 @@ impl<'t, N: NodeMap> Session<'t, N> {
             None => Err(HashRefusal::UnknownRoot),
             Some(number) => self.trees[number].take(ask, hashes),
         }
+    }
+
+    /// Takes a whole layer of a tree, given without the pads at its end, and tells how many places are newly known. A
+    /// refusal leaves the session unchanged.
+    pub fn fill(&mut self, tree: usize, layer: u32, hashes: &[Hash]) -> Result<u64, HashRefusal>
+        requires { tree < length self.old.torrent.trees }
+        ensures torrent { self.new.torrent ≡ self.old.torrent }
+        ensures filled { IfOk result (λ c. IsFilled (layout_of self.old.torrent) self.old.state tree layer hashes.now c self.new.state) }
+        ensures refused { IfErr result (λ r. IsFillRefused (layout_of self.old.torrent) self.old.state tree layer hashes.now r × (self.new.state ≡ self.old.state)) }
+    {
+        are_hashes(hashes);
+        self.trees[tree].fill(layer, hashes)
     }
 
     /// Takes a block of a piece message, marks its leaf, and tells the file and the block. A refusal leaves the session
