@@ -17,13 +17,17 @@ def make(order):
     kind = 0 if order["hybrid"] else lt.create_torrent.v2_only
     torrent = lt.create_torrent(storage, order["piece_length"], kind)
     lt.set_piece_hashes(torrent, os.path.dirname(order["content"]))
+    made = torrent.generate()
     with open(order["torrent"], "wb") as out:
-        out.write(lt.bencode(torrent.generate()))
-    return told(lt.torrent_info(order["torrent"]))
+        out.write(lt.bencode(made))
+    return told(made[b"info"][b"name"].decode(), lt.torrent_info(order["torrent"]))
 
 
-def told(info):
-    """Name, piece length, info-hashes, and each file's length, root and path, in the torrent's order."""
+def told(name, info):
+    """Name, piece length, info-hashes, and each file's length, root and path, in the torrent's order.
+
+    The name is the one that was written: read back, libtorrent tells the file's name where a folder has one file.
+    """
     files = info.files()
     listed = []
     for number in range(files.num_files()):
@@ -33,7 +37,7 @@ def told(info):
         listed.append([files.file_size(number), root, files.file_path(number)])
     hashes = info.info_hashes()
     return {
-        "name": info.name(),
+        "name": name,
         "piece_length": info.piece_length(),
         "v2": hashes.v2.to_bytes().hex(),
         "v1": hashes.v1.to_bytes().hex() if hashes.has_v1() else None,

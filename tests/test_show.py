@@ -43,8 +43,14 @@ def lines_of(told):
 
 
 def real_path(content, path):
-    """Where the file lies that stands under this path in libtorrent's list, which begins with the folder's name."""
-    return content if os.path.isfile(content) else os.path.join(os.path.dirname(content), path)
+    """Where the file lies that stands under this path in libtorrent's list.
+
+    A path there begins with the folder's name, but where the folder has one file.
+    """
+    if os.path.isfile(content):
+        return content
+    beside, below = os.path.join(os.path.dirname(content), path), os.path.join(content, path)
+    return beside if os.path.exists(beside) else below
 
 
 def test_worked_torrent():
