@@ -28,5 +28,6 @@ pub mod Counting
 pub mod Layers
 pub mod Keeping
 pub mod Sessions
+pub mod Numbering
 pub mod FirstTrees
 pub mod FirstLayers

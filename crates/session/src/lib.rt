@@ -9,6 +9,7 @@ pub mod laws;
 pub mod node_map;
 mod planting;
 mod refusal;
+mod roots;
 mod session;
 mod storing;
 pub mod tree;

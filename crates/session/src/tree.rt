@@ -80,14 +80,6 @@ impl<N: NodeMap> Tree<N> {
         &self.root
     }
 
-    /// Whether this is the root.
-    pub fn has_root(&self, root: &Hash) -> bool
-        ensures yes { OnTrue result (self.now.root ≡ root.now) }
-        ensures no { OnFalse result (self.now.root ≢ root.now) }
-    {
-        self.root == *root
-    }
-
     /// How many places are known.
     pub fn known(&self) -> u64
         ensures { result ≡ finite.len self.now.state.known }
