@@ -15,7 +15,7 @@ pub mod Known
 pub mod Runs
 pub mod Rounds
 pub mod Deciding
-pub mod Filling
+pub mod WholeLayers
 pub mod Over
 pub mod Cells
 pub mod Noting

@@ -3,6 +3,7 @@
 
 mod checks;
 mod evidence;
+mod filling;
 mod flat;
 mod found;
 pub mod laws;
@@ -12,6 +13,7 @@ mod refusal;
 mod roots;
 mod session;
 mod storing;
+mod taking;
 pub mod tree;
 mod verdict;
 

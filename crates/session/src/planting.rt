@@ -1,7 +1,6 @@
 //! The trees of a new session.
 
-ghost use Rattle.std.specs.Prelude.{◌≡◌, ◌<◌, ℕ, true, false, IfOk, OnOk};
-ghost use Rattle.metainfo.specs.Description.{TreeEntry};
+ghost use Rattle.std.specs.Prelude.{◌<◌, true, false, IfOk, OnOk};
 ghost use Rattle.metainfo.specs.Refusals.{IsPieceLength};
 ghost use Rattle.metainfo.specs.Seen.{tree_entry};
 ghost use Rattle.metainfo.specs.Sound.{IsSoundTree};
