@@ -4,6 +4,7 @@
 mod command;
 mod fault;
 mod perform;
+mod replaying;
 mod words;
 
 use fault::Fault;

@@ -3,6 +3,7 @@ ghost use Rattle.std.specs.Prelude.{◌≡◌, if◌then◌else◌};
 
 use crate::command::Action;
 use crate::fault::Fault;
+use crate::replaying::replay;
 use benc::{FromRead, FromWrite, Sink};
 use checker::{RootFault, refusal_line, root_line};
 use metainfo::{Refusal, Torrent};
@@ -24,6 +25,11 @@ pub(crate) fn perform<'a>(rt: &HostRuntime, action: &Action<'a>) -> Result<u8, F
     match action {
         Action::Root { file } => root(rt, file),
         Action::Show { torrent } => show(rt, torrent),
+        Action::Replay {
+            torrent,
+            record,
+            info_only,
+        } => replay(rt, torrent, record, *info_only),
     }
 }
 
@@ -54,8 +60,8 @@ fn show<'a>(rt: &HostRuntime, path: &'a str) -> Result<u8, Fault<'a>> {
     }
 }
 
-// Prints why a torrent was refused, and tells the exit status.
-fn refuse<'a, W: Sink>(refusal: &Refusal, out: &mut W) -> Result<u8, Fault<'a>> {
+/// Prints why a torrent was refused, and tells the exit status.
+pub(crate) fn refuse<'a, W: Sink>(refusal: &Refusal, out: &mut W) -> Result<u8, Fault<'a>> {
     match refusal {
         Refusal::NoMemory => Err(Fault::NoMemory),
         Refusal::Write => Err(Fault::Write("-")),
@@ -66,8 +72,8 @@ fn refuse<'a, W: Sink>(refusal: &Refusal, out: &mut W) -> Result<u8, Fault<'a>> 
     }
 }
 
-// The bytes of a torrent file, or the first of them where they are too many.
-fn read_torrent<'a>(rt: &HostRuntime, path: &'a str) -> Result<Vec<u8>, Fault<'a>> {
+/// The bytes of a torrent file, or the first of them where they are too many.
+pub(crate) fn read_torrent<'a>(rt: &HostRuntime, path: &'a str) -> Result<Vec<u8>, Fault<'a>> {
     let Ok(file) = File::open(rt, path) else {
         return Err(Fault::Read(path));
     };

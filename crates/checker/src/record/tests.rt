@@ -1,38 +1,17 @@
-//! Reports of records that are cut, and of devices that fail, over a session of no trees.
-ghost use Rattle.std.specs.Prelude.{[], None, ◌<◌};
+//! Reports of records over the torrent of one file, whose block is `abc`: whole, cut, and with devices that fail.
+ghost use Rattle.std.specs.Prelude.{◌<◌};
 
-use crate::record::{Stepper, replay};
+use crate::record::replay;
 use benc::{MemSink, MemSource, WriteFault, write_all};
-use session::{BlockRefusal, HashRefusal, Verdict};
+use metainfo::Torrent;
+use session::{Flat, Session};
 use std::test::Fail;
-use wire::Message;
 
-// A session of a torrent without files: no root and no place is known.
-#[derive(Drop)]
-struct Bare;
-
-impl Stepper for Bare {
-    ghost layout = { λ _. record { trees = []; place = λ _ _. None; tree_of = λ _. None } };
-
-    ghost state = { λ _. [] };
-
-    fn step(&mut self, message: &Message<'_>) -> Verdict {
-        match message {
-            Message::Piece { .. } => Verdict::BlockRefused(BlockRefusal::BadPlace),
-            Message::Request(_) => Verdict::Rejected,
-            Message::Hashes { .. } => Verdict::HashRefused(HashRefusal::UnknownRoot),
-            Message::Reject(_) => Verdict::RejectNoted,
-            Message::KeepAlive => Verdict::KeepAlive,
-            Message::Other { id, .. } => Verdict::Skipped(*id),
-        }
-    }
-
-    ghost use Rattle.checker.specs.Bare.{bare_good, bare_distinct};
-
-    ghost good = { λ _. bare_good };
-
-    ghost distinct = { λ _. bare_distinct };
-}
+// The file `abc.txt` with the content `abc`, in pieces of 16,384 bytes.
+const TORRENT: &[u8; 166] = b"d4:infod9:file treed7:abc.txtd0:d6:lengthi3e11:pieces root32:\
+    \xba\x78\x16\xbf\x8f\x01\xcf\xea\x41\x41\x40\xde\x5d\xae\x22\x23\
+    \xb0\x03\x61\xa3\x96\x17\x7a\x9c\xb4\x10\xff\x61\xf2\x00\x15\xad\
+    eee12:meta versioni2e4:name3:abc12:piece lengthi16384ee12:piece layersdee";
 
 // A keep-alive, a piece message with the block `abc`, a message of id 4, and two bytes of a length.
 const RECORD: &[u8; 31] = b"\0\0\0\0\0\0\0\x0c\x07\0\0\0\0\0\0\0\0abc\0\0\0\x05\x04\0\0\0\0\0\0";
@@ -40,7 +19,7 @@ const RECORD: &[u8; 31] = b"\0\0\0\0\0\0\0\x0c\x07\0\0\0\0\0\0\0\0abc\0\0\0\x05\
 // Where each of its frames ends, and the frame's line.
 const LINES: [(u64, &str); 3] = [
     (4, "1 keep-alive\n"),
-    (20, "2 refused P1 BadPlace\n"),
+    (20, "2 verified 0 0\n"),
     (29, "3 skipped 4\n"),
 ];
 
@@ -58,6 +37,7 @@ fn report_within(rt: &HostRuntime, bytes: u64, last: &str) -> Result<MemSink, Fa
 
 #[test]
 fn a_record_cut_anywhere(rt: HostRuntime) -> Result<(), Fail> {
+    let torrent = Torrent::open(rt.alloc(), TORRENT)?;
     for count in 0..=RECORD.len() {
         for at_most in [1, 7, 64] {
             let last = if matches!(count, 0 | 4 | 20 | 29) {
@@ -65,32 +45,51 @@ fn a_record_cut_anywhere(rt: HostRuntime) -> Result<(), Fail> {
             } else {
                 "fault Truncated\n"
             };
+            let mut session: Session<'_, Flat> = Session::new(rt.alloc(), &torrent)?;
             let mut source = MemSource::new(&RECORD[..count]).at_most(at_most.max(1));
             let mut out = MemSink::with_room(rt.alloc(), 128)?;
-            let outcome = replay(rt.alloc(), &mut Bare, &mut source, &mut out)?;
+            let outcome = replay(rt.alloc(), &mut session, &mut source, &mut out)?;
             assert_eq!(rt;
                 out.written(),
                 report_within(&rt, count as u64, last)?.written()
             );
             assert!(rt; out.is_flushed());
-            assert_eq!(rt; outcome.fault, last != "end\n");
-            assert_eq!(rt; outcome.refused, count >= 20);
+            assert_eq!(rt; outcome.status(), if last == "end\n" { 0 } else { 2 });
         }
     }
     Ok(())
 }
 
 #[test]
+fn a_block_with_a_bit_turned(rt: HostRuntime) -> Result<(), Fail> {
+    let torrent = Torrent::open(rt.alloc(), TORRENT)?;
+    let mut session: Session<'_, Flat> = Session::new(rt.alloc(), &torrent)?;
+    let mut record = *RECORD;
+    record[19] = b'd';
+    let mut out = MemSink::with_room(rt.alloc(), 128)?;
+    let mut source = MemSource::new(&record[..29]);
+    let outcome = replay(rt.alloc(), &mut session, &mut source, &mut out)?;
+    assert_eq!(rt;
+        out.written(),
+        "1 keep-alive\n2 refused P4 BadBlock\n3 skipped 4\nend\n".as_bytes()
+    );
+    assert_eq!(rt; outcome.status(), 1);
+    Ok(())
+}
+
+#[test]
 fn a_source_that_fails_at_each_call(rt: HostRuntime) -> Result<(), Fail> {
+    let torrent = Torrent::open(rt.alloc(), TORRENT)?;
     for calls in 0..33 {
         let last = if calls < 32 {
             "fault Read\n"
         } else {
             "fault Truncated\n"
         };
+        let mut session: Session<'_, Flat> = Session::new(rt.alloc(), &torrent)?;
         let mut source = MemSource::new(RECORD).at_most(1).fails_after(calls);
         let mut out = MemSink::with_room(rt.alloc(), 128)?;
-        let outcome = replay(rt.alloc(), &mut Bare, &mut source, &mut out)?;
+        let outcome = replay(rt.alloc(), &mut session, &mut source, &mut out)?;
         assert_eq!(rt; out.written(), report_within(&rt, calls, last)?.written());
         assert_eq!(rt; outcome.status(), 2);
     }
@@ -99,15 +98,22 @@ fn a_source_that_fails_at_each_call(rt: HostRuntime) -> Result<(), Fail> {
 
 #[test]
 fn a_sink_that_fails_at_each_call(rt: HostRuntime) -> Result<(), Fail> {
+    let torrent = Torrent::open(rt.alloc(), TORRENT)?;
     let report = report_within(&rt, 29, "fault Truncated\n")?;
+    let first = LINES[0].1.len() as u64;
     for calls in 0..report.written().len() {
+        let mut session: Session<'_, Flat> = Session::new(rt.alloc(), &torrent)?;
         let mut source = MemSource::new(RECORD);
         let mut out = MemSink::with_room(rt.alloc(), 128)?
             .at_most(1)
             .fails_after(calls as u64);
-        let answer = replay(rt.alloc(), &mut Bare, &mut source, &mut out);
+        let answer = replay(rt.alloc(), &mut session, &mut source, &mut out);
         assert!(rt; matches!(answer, Err(WriteFault::Write)));
         assert!(rt; out.written() == &report.written()[..calls]);
+        let handled = if calls as u64 >= first { 1 } else { 0 };
+        for tree in 0..torrent.trees().len() {
+            assert_eq!(rt; session.marked(tree), handled);
+        }
     }
     Ok(())
 }
@@ -115,14 +121,16 @@ fn a_sink_that_fails_at_each_call(rt: HostRuntime) -> Result<(), Fail> {
 const WRONG_SIZES: &str =
     "1 bad frame 21 2\n2 bad frame 7 1\n3 bad frame 22 80\n4 bad frame 7 263218\nend\n";
 
-// Whether the report is that of four frames of a wrong size, from a source that gives so many bytes a call.
-fn tells_wrong_sizes(rt: &HostRuntime, frames: &[u8], at_most: usize) -> Result<bool, Fail>
+// The report of a record, from a source that gives so many bytes a call.
+fn report_of(rt: &HostRuntime, record: &[u8], at_most: usize) -> Result<MemSink, Fail>
     requires { 0 < at_most }
 {
-    let mut source = MemSource::new(frames).at_most(at_most);
+    let torrent = Torrent::open(rt.alloc(), TORRENT)?;
+    let mut session: Session<'_, Flat> = Session::new(rt.alloc(), &torrent)?;
+    let mut source = MemSource::new(record).at_most(at_most);
     let mut out = MemSink::with_room(rt.alloc(), 128)?;
-    let outcome = replay(rt.alloc(), &mut Bare, &mut source, &mut out)?;
-    Ok(out.written() == WRONG_SIZES.as_bytes() && outcome.status() == 1)
+    replay(rt.alloc(), &mut session, &mut source, &mut out)?;
+    Ok(out)
 }
 
 #[test]
@@ -131,8 +139,9 @@ fn frames_of_a_wrong_size(rt: HostRuntime) -> Result<(), Fail> {
     frames.resize(95, 0)?;
     frames.extend_from_slice(b"\0\x04\x04\x32\x07")?;
     frames.resize(263317, 0)?;
-    assert!(rt; tells_wrong_sizes(&rt, &frames, 1)?);
-    assert!(rt; tells_wrong_sizes(&rt, &frames, 7)?);
-    assert!(rt; tells_wrong_sizes(&rt, &frames, 263317)?);
+    for at_most in [1, 7, 263317] {
+        let out = report_of(&rt, &frames, at_most.max(1))?;
+        assert_eq!(rt; out.written(), WRONG_SIZES.as_bytes());
+    }
     Ok(())
 }
