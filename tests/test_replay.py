@@ -1,6 +1,7 @@
 """`btcheck replay TORRENT RECORD [--info-only]`, against a plain model of sessions with hashlib."""
 import os
 import random
+import resource
 import subprocess
 
 from messages import KEEP_ALIVE, frame, hashes, piece, reject, request, torrent_of
@@ -263,3 +264,24 @@ def test_records_that_come_from_pipes():
         out, _ = program.communicate(timeout=60)
         assert (program.returncode, out) == (0, b"1 keep-alive\n2 verified 0 0\nend\n"), (program.returncode, out)
         expect(run("replay", f"{place}/torrent", "/dev/stdin", input=record), 0, lines("1 keep-alive", "2 verified 0 0", "end"))
+
+
+def test_memory_is_that_of_the_session():
+    """Records of 64 MiB, in 32 MiB of memory in all: nothing is kept of a frame once its line is written."""
+    tree = Tree.of(FIVE)
+    torrent = torrent_of([("five", FIVE)], 32768)
+    leaves = hashes(tree.root, 0, 0, 8, 2, given=tree.hashes(0, 0, 8, 0))
+    block = piece(0, 0, FIVE[:BLOCK])
+    skipped = frame(b"\x05" + bytes((1 << 20) - 5))
+    with folder() as place:
+        for parts, count, last in [(KEEP_ALIVE, 1 << 18, b"%d keep-alive"), (skipped, 64, b"%d skipped 5"),
+                                   (leaves + block * 4095, 1, b"%d verified 0 0"), (leaves, 1 << 17, b"%d stored 0"),
+                                   (frame(b"\x16" + bytes((1 << 20) - 5)), 64, b"%d bad frame 22 1048572")]:
+            done = replay(place, torrent, parts * count, "--info-only", preexec_fn=limit_memory)
+            told = done.stdout.split(b"\n")
+            assert done.returncode in (0, 1), done.stderr
+            assert told[-3:] == [last % (len(told) - 2), b"end", b""], told[-3:]
+
+
+def limit_memory():
+    resource.setrlimit(resource.RLIMIT_AS, (32 << 20, 32 << 20))
