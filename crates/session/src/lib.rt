@@ -7,6 +7,7 @@ mod flat;
 mod found;
 pub mod laws;
 pub mod node_map;
+mod planting;
 mod refusal;
 mod session;
 mod storing;

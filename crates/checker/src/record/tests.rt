@@ -1,6 +1,7 @@
 //! Reports of records over the torrent of one file, whose block is `abc`: whole, cut, and with devices that fail.
 ghost use Rattle.std.specs.Prelude.{◌<◌};
 
+use crate::outcome::Outcome;
 use crate::record::replay;
 use benc::{MemSink, MemSource, WriteFault, write_all};
 use metainfo::Torrent;
@@ -35,26 +36,60 @@ fn report_within(rt: &HostRuntime, bytes: u64, last: &str) -> Result<MemSink, Fa
     Ok(report)
 }
 
+// How a replay over a new session ended, and how many blocks are marked then.
+struct Replay {
+    ended: Result<Outcome, WriteFault>,
+    marked: u64,
+}
+
+fn replay_torrent(
+    rt: &HostRuntime,
+    torrent: &Torrent<'_>,
+    source: &mut MemSource<'_>,
+    out: &mut MemSink,
+) -> Result<Replay, Fail> {
+    let mut session: Session<'_, Flat> = Session::new(rt.alloc(), torrent, true)?;
+    let ended = replay(rt.alloc(), &mut session, source, out);
+    let mut marked = 0u64;
+    for tree in 0..torrent.trees().len() {
+        marked = marked.wrapping_add(session.marked(tree));
+    }
+    Ok(Replay { ended, marked })
+}
+
+fn replay_over(
+    rt: &HostRuntime,
+    source: &mut MemSource<'_>,
+    out: &mut MemSink,
+) -> Result<Replay, Fail> {
+    match Torrent::open(rt.alloc(), TORRENT) {
+        Ok(torrent) => replay_torrent(rt, &torrent, source, out),
+        Err(refusal) => Err(Fail::from(refusal)),
+    }
+}
+
+// The report of a record, from a source that gives so many bytes a call, and the exit status.
+fn report_of(rt: &HostRuntime, record: &[u8], at_most: usize) -> Result<(MemSink, u8), Fail>
+    requires { 0 < at_most }
+{
+    let mut out = MemSink::with_room(rt.alloc(), 128)?;
+    let done = replay_over(rt, &mut MemSource::new(record).at_most(at_most), &mut out)?;
+    Ok((out, done.ended?.status()))
+}
+
 #[test]
 fn a_record_cut_anywhere(rt: HostRuntime) -> Result<(), Fail> {
-    let torrent = Torrent::open(rt.alloc(), TORRENT)?;
     for count in 0..=RECORD.len() {
+        let (last, status) = match count {
+            0 | 4 | 20 | 29 => ("end\n", 0),
+            _ => ("fault Truncated\n", 2),
+        };
+        let wanted = report_within(&rt, count as u64, last)?;
         for at_most in [1, 7, 64] {
-            let last = if matches!(count, 0 | 4 | 20 | 29) {
-                "end\n"
-            } else {
-                "fault Truncated\n"
-            };
-            let mut session: Session<'_, Flat> = Session::new(rt.alloc(), &torrent)?;
-            let mut source = MemSource::new(&RECORD[..count]).at_most(at_most.max(1));
-            let mut out = MemSink::with_room(rt.alloc(), 128)?;
-            let outcome = replay(rt.alloc(), &mut session, &mut source, &mut out)?;
-            assert_eq!(rt;
-                out.written(),
-                report_within(&rt, count as u64, last)?.written()
-            );
+            let (out, ended) = report_of(&rt, &RECORD[..count], at_most.max(1))?;
+            assert_eq!(rt; out.written(), wanted.written());
             assert!(rt; out.is_flushed());
-            assert_eq!(rt; outcome.status(), if last == "end\n" { 0 } else { 2 });
+            assert_eq!(rt; ended, status);
         }
     }
     Ok(())
@@ -62,76 +97,52 @@ fn a_record_cut_anywhere(rt: HostRuntime) -> Result<(), Fail> {
 
 #[test]
 fn a_block_with_a_bit_turned(rt: HostRuntime) -> Result<(), Fail> {
-    let torrent = Torrent::open(rt.alloc(), TORRENT)?;
-    let mut session: Session<'_, Flat> = Session::new(rt.alloc(), &torrent)?;
     let mut record = *RECORD;
     record[19] = b'd';
-    let mut out = MemSink::with_room(rt.alloc(), 128)?;
-    let mut source = MemSource::new(&record[..29]);
-    let outcome = replay(rt.alloc(), &mut session, &mut source, &mut out)?;
+    let (out, status) = report_of(&rt, &record[..29], 64)?;
     assert_eq!(rt;
         out.written(),
         "1 keep-alive\n2 refused P4 BadBlock\n3 skipped 4\nend\n".as_bytes()
     );
-    assert_eq!(rt; outcome.status(), 1);
+    assert_eq!(rt; status, 1);
     Ok(())
 }
 
 #[test]
 fn a_source_that_fails_at_each_call(rt: HostRuntime) -> Result<(), Fail> {
-    let torrent = Torrent::open(rt.alloc(), TORRENT)?;
     for calls in 0..33 {
         let last = if calls < 32 {
             "fault Read\n"
         } else {
             "fault Truncated\n"
         };
-        let mut session: Session<'_, Flat> = Session::new(rt.alloc(), &torrent)?;
         let mut source = MemSource::new(RECORD).at_most(1).fails_after(calls);
         let mut out = MemSink::with_room(rt.alloc(), 128)?;
-        let outcome = replay(rt.alloc(), &mut session, &mut source, &mut out)?;
+        let done = replay_over(&rt, &mut source, &mut out)?;
         assert_eq!(rt; out.written(), report_within(&rt, calls, last)?.written());
-        assert_eq!(rt; outcome.status(), 2);
+        assert_eq!(rt; done.ended?.status(), 2);
     }
     Ok(())
 }
 
 #[test]
 fn a_sink_that_fails_at_each_call(rt: HostRuntime) -> Result<(), Fail> {
-    let torrent = Torrent::open(rt.alloc(), TORRENT)?;
     let report = report_within(&rt, 29, "fault Truncated\n")?;
-    let first = LINES[0].1.len() as u64;
     for calls in 0..report.written().len() {
-        let mut session: Session<'_, Flat> = Session::new(rt.alloc(), &torrent)?;
-        let mut source = MemSource::new(RECORD);
         let mut out = MemSink::with_room(rt.alloc(), 128)?
             .at_most(1)
             .fails_after(calls as u64);
-        let answer = replay(rt.alloc(), &mut session, &mut source, &mut out);
-        assert!(rt; matches!(answer, Err(WriteFault::Write)));
+        let done = replay_over(&rt, &mut MemSource::new(RECORD), &mut out)?;
+        assert!(rt; matches!(done.ended, Err(WriteFault::Write)));
         assert!(rt; out.written() == &report.written()[..calls]);
-        let handled = if calls as u64 >= first { 1 } else { 0 };
-        for tree in 0..torrent.trees().len() {
-            assert_eq!(rt; session.marked(tree), handled);
-        }
+        let handled = if calls >= LINES[0].1.len() { 1 } else { 0 };
+        assert_eq!(rt; done.marked, handled);
     }
     Ok(())
 }
 
 const WRONG_SIZES: &str =
     "1 bad frame 21 2\n2 bad frame 7 1\n3 bad frame 22 80\n4 bad frame 7 263218\nend\n";
-
-// The report of a record, from a source that gives so many bytes a call.
-fn report_of(rt: &HostRuntime, record: &[u8], at_most: usize) -> Result<MemSink, Fail>
-    requires { 0 < at_most }
-{
-    let torrent = Torrent::open(rt.alloc(), TORRENT)?;
-    let mut session: Session<'_, Flat> = Session::new(rt.alloc(), &torrent)?;
-    let mut source = MemSource::new(record).at_most(at_most);
-    let mut out = MemSink::with_room(rt.alloc(), 128)?;
-    replay(rt.alloc(), &mut session, &mut source, &mut out)?;
-    Ok(out)
-}
 
 #[test]
 fn frames_of_a_wrong_size(rt: HostRuntime) -> Result<(), Fail> {
@@ -140,8 +151,9 @@ fn frames_of_a_wrong_size(rt: HostRuntime) -> Result<(), Fail> {
     frames.extend_from_slice(b"\0\x04\x04\x32\x07")?;
     frames.resize(263317, 0)?;
     for at_most in [1, 7, 263317] {
-        let out = report_of(&rt, &frames, at_most.max(1))?;
+        let (out, status) = report_of(&rt, &frames, at_most.max(1))?;
         assert_eq!(rt; out.written(), WRONG_SIZES.as_bytes());
+        assert_eq!(rt; status, 1);
     }
     Ok(())
 }
