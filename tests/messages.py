@@ -19,7 +19,7 @@ def bencode(value):
 
 
 def torrent_of(files, piece_length, **changes):
-    """The torrent of these files, a list of (name, content) in order, as bytes."""
+    """The torrent of these files, a list of (name, content) in the order of their names, as bytes."""
     tree, layers = {}, {}
     for name, content in files:
         entry = {"length": len(content)}

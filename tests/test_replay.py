@@ -191,7 +191,7 @@ def test_poison_between_true_answers():
     chance = random.Random(20)
     worlds = [
         [("a", chance.randbytes(16385)), ("b", b""), ("c", b"abc")],
-        [("five", FIVE), ("same", FIVE), ("one", b"1")],
+        [("five", FIVE), ("same", FIVE), ("unit", b"1")],
         [("large", chance.randbytes(600 * BLOCK + 77)), ("nine", chance.randbytes(9 * BLOCK))],
     ]
     compared = 0

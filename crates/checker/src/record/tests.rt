@@ -37,6 +37,7 @@ fn report_within(rt: &HostRuntime, bytes: u64, last: &str) -> Result<MemSink, Fa
 }
 
 // How a replay over a new session ended, and how many blocks are marked then.
+#[derive(Drop)]
 struct Replay {
     ended: Result<Outcome, WriteFault>,
     marked: u64,
