@@ -1,6 +1,4 @@
 //! Reports of records over the torrent of one file, whose block is `abc`: whole, cut, and with devices that fail.
-ghost use Rattle.std.specs.Prelude.{◌<◌};
-
 use crate::outcome::Outcome;
 use crate::record::replay;
 use benc::{MemSink, MemSource, WriteFault, write_all};
@@ -70,11 +68,13 @@ fn replay_over(
 }
 
 // The report of a record, from a source that gives so many bytes a call, and the exit status.
-fn report_of(rt: &HostRuntime, record: &[u8], at_most: usize) -> Result<(MemSink, u8), Fail>
-    requires { 0 < at_most }
-{
+fn report_of(rt: &HostRuntime, record: &[u8], at_most: usize) -> Result<(MemSink, u8), Fail> {
     let mut out = MemSink::with_room(rt.alloc(), 128)?;
-    let done = replay_over(rt, &mut MemSource::new(record).at_most(at_most), &mut out)?;
+    let done = replay_over(
+        rt,
+        &mut MemSource::new(record).at_most(at_most.max(1)),
+        &mut out,
+    )?;
     Ok((out, done.ended?.status()))
 }
 
@@ -87,7 +87,7 @@ fn a_record_cut_anywhere(rt: HostRuntime) -> Result<(), Fail> {
         };
         let wanted = report_within(&rt, count as u64, last)?;
         for at_most in [1, 7, 64] {
-            let (out, ended) = report_of(&rt, &RECORD[..count], at_most.max(1))?;
+            let (out, ended) = report_of(&rt, &RECORD[..count], at_most)?;
             assert_eq!(rt; out.written(), wanted.written());
             assert!(rt; out.is_flushed());
             assert_eq!(rt; ended, status);
@@ -152,7 +152,7 @@ fn frames_of_a_wrong_size(rt: HostRuntime) -> Result<(), Fail> {
     frames.extend_from_slice(b"\0\x04\x04\x32\x07")?;
     frames.resize(263317, 0)?;
     for at_most in [1, 7, 263317] {
-        let (out, status) = report_of(&rt, &frames, at_most.max(1))?;
+        let (out, status) = report_of(&rt, &frames, at_most)?;
         assert_eq!(rt; out.written(), WRONG_SIZES.as_bytes());
         assert_eq!(rt; status, 1);
     }
