@@ -1,7 +1,7 @@
 //! The replay of a record: its frames go to a session, and a line tells of each.
 ghost use Rattle.std.specs.Prelude.{◌≡◌, true, IfOk, IfErr, OnOk, OnErr};
 ghost use Rattle.std.specs.Io.KnownBytes.{Appends};
-ghost use Rattle.benc.specs.Device.{AppendsBeginning, CountsFault};
+ghost use Rattle.benc.specs.Device.{AppendsBeginning, CountsFault, FlushesOnce};
 ghost use Rattle.session.specs.Session.{Layout, State, IsGood, HasDistinctRoots, Step};
 ghost use Rattle.checker.specs.ReplayLines.{frame_line_of, ending_line_of};
 ghost use Rattle.checker.specs.Replay.{FrameStep, TellsFrame, TellsEnding, IsReport, IsCutReport};
@@ -55,6 +55,7 @@ pub fn replay<N: Stepper, R: Source, W: Sink>(
     ensures err { OnErr result (IsCutReport R.left R.limit R.faults source.old source.new (N.layout session.old) (N.state session.old) (N.state session.new)
         (W.written report.old) (W.written report.new)) }
     ensures flushed { OnOk result (W.is_flushed report.new ≡ true) }
+    ensures flushes { FlushesOnce (W.flushes report.old) (W.flushes report.new) result }
     ensures counts { CountsFault (W.faults report.old) (W.faults report.new) result }
 {
     let mut reader = FrameReader::new(alloc, source);
@@ -75,6 +76,7 @@ fn replay_frames<N: Stepper, R: Source, W: Sink>(
     ensures err { OnErr result (IsCutReport R.left R.limit R.faults reader.old.source.now reader.new.source.now (N.layout session.old) (N.state session.old) (N.state session.new)
         (W.written report.old) (W.written report.new)) }
     ensures flushed { OnOk result (W.is_flushed report.new ≡ true) }
+    ensures flushes { FlushesOnce (W.flushes report.old) (W.flushes report.new) result }
     ensures counts { CountsFault (W.faults report.old) (W.faults report.new) result }
 {
     let mut outcome = Outcome::default();
@@ -131,6 +133,7 @@ fn write_frame<W: Sink>(report: &mut W, number: u64, told: &Told) -> Result<(), 
     ensures ok { OnOk result (Appends (W.written report.old) (W.written report.new) (frame_line_of number told.now)) }
     ensures err { OnErr result (AppendsBeginning (W.written report.old) (W.written report.new) (frame_line_of number told.now)) }
     ensures counts { CountsFault (W.faults report.old) (W.faults report.new) result }
+    ensures flushes { W.flushes report.new ≡ W.flushes report.old }
 {
     write_all(report, frame_line(number, told).as_slice())
 }
@@ -139,6 +142,7 @@ fn write_frame<W: Sink>(report: &mut W, number: u64, told: &Told) -> Result<(), 
 fn write_ending<W: Sink>(report: &mut W, ending: Ending) -> Result<(), DeviceFault>
     ensures ok { OnOk result (Appends (W.written report.old) (W.written report.new) (ending_line_of ending)) }
     ensures flushed { OnOk result (W.is_flushed report.new ≡ true) }
+    ensures flushes { FlushesOnce (W.flushes report.old) (W.flushes report.new) result }
     ensures err { OnErr result (AppendsBeginning (W.written report.old) (W.written report.new) (ending_line_of ending)) }
     ensures counts { CountsFault (W.faults report.old) (W.faults report.new) result }
 {

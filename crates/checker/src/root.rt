@@ -2,7 +2,7 @@
 ghost use Rattle.std.specs.Prelude.{◌≡◌, ◌↔◌, ℕ, ◌+◌, ◌^◌, ◌≤◌, List, length, Some, Err, IfOk, OnErr, OnOk, IsTrue, true};
 ghost use Rattle.std.specs.Io.KnownBytes.{Appends, Keeps};
 ghost use Rattle.hashtree.specs.Climb.{IsFed, byte_count};
-ghost use Rattle.benc.specs.Device.{AppendsBeginning, CountsFault, one_more};
+ghost use Rattle.benc.specs.Device.{AppendsBeginning, CountsFault, FlushedLast, FlushesOnce, one_more};
 ghost use Rattle.checker.specs.Reading.{IsReadingOf};
 ghost use Rattle.checker.specs.Root.{root_line_of};
 
@@ -44,16 +44,17 @@ pub fn root_line<R: Source, W: Sink>(source: &mut R, out: &mut W) -> Result<bool
     ensures within { (file : List ℕ) → R.left source.old ≡ Some file → IfOk result
         (λ within. IsTrue within ↔ (length file ≤ 2 ^ 46)) }
     ensures flushed { OnOk result (W.is_flushed out.new ≡ true) }
+    ensures flushes { FlushesOnce (W.flushes out.old) (W.flushes out.new) result }
     ensures no_further { R.limit source.old ≤ R.limit source.new + (2 ^ 46 + 1) }
 
     // A fault is answered where that device had one, and no other.
     ensures no_fault { OnOk result ((R.faults source.new ≡ R.faults source.old) × (W.faults out.new ≡ W.faults out.old)) }
     ensures read { result ≡ Err RootFault.Read → (R.faults source.new ≡ one_more (R.faults source.old))
-        × (W.faults out.new ≡ W.faults out.old) × Keeps (W.written out.old) (W.written out.new) }
+        × (W.faults out.new ≡ W.faults out.old) × Keeps (W.written out.old) (W.written out.new) × (W.flushes out.new ≡ W.flushes out.old) }
     ensures write { result ≡ Err RootFault.Write → (R.faults source.new ≡ R.faults source.old)
         × (W.faults out.new ≡ one_more (W.faults out.old)) }
     ensures beginning { (file : List ℕ) → R.left source.old ≡ Some file → result ≡ Err RootFault.Write
-        → AppendsBeginning (W.written out.old) (W.written out.new) (root_line_of file) }
+        → AppendsBeginning (W.written out.old) (W.written out.new) (root_line_of file) × FlushedLast W.written W.flushes out.old out.new (root_line_of file) }
 {
     let Ok(reading) = read_content(source) else {
         return Err(RootFault::Read);
@@ -69,6 +70,8 @@ pub fn root_line<R: Source, W: Sink>(source: &mut R, out: &mut W) -> Result<bool
 pub fn write_line<W: Sink>(out: &mut W, bytes: &[u8]) -> Result<(), DeviceFault>
     ensures ok { OnOk result (Appends (W.written out.old) (W.written out.new) bytes.now) }
     ensures flushed { OnOk result (W.is_flushed out.new ≡ true) }
+    ensures flushes { FlushesOnce (W.flushes out.old) (W.flushes out.new) result }
+    ensures last { OnErr result (FlushedLast W.written W.flushes out.old out.new bytes.now) }
     ensures err { OnErr result (AppendsBeginning (W.written out.old) (W.written out.new) bytes.now) }
     ensures counts { CountsFault (W.faults out.old) (W.faults out.new) result }
 {

@@ -12,6 +12,7 @@ frames-init g c =
       going = c.requires;
       layout = refl;
       counted = refl;
+      unflushed = refl;
       so_far = in_replay_none c.args.reader.now.source.now (g.N.Stepper.layout before) (g.N.Stepper.state before)
           (g.W.Sink.written c.args.report.now) c.default-outcome.result
           c.default-outcome.ensures.0 c.default-outcome.ensures.1.0 c.default-outcome.ensures.1.1;
@@ -41,6 +42,7 @@ frames-preserved g c = record {
   going = c.in-Ok.ensures.open;
   layout = c.in-Ok.ensures.layout ∙ c.frames.invariant.layout;
   counted = c.in_ok-write_frame.ensures.counts ∙ c.frames.invariant.counted;
+  unflushed = c.in_ok-write_frame.ensures.flushes ∙ c.frames.invariant.unflushed;
   so_far = in_replay_more (g.W.Sink.written c.write_frame.new.report) c.note.new.self c.frames.invariant.so_far
       (subst (λ t. TellsFrame g.R.Source.left g.R.Source.limit g.R.Source.faults c.frames.reader.source.now c.next_told.new.reader.source.now t
       (g.N.Stepper.state c.frames.session) (g.N.Stepper.state c.next_told.new.session) c.in-Ok.told) c.frames.invariant.layout c.in-Ok.ensures.frame)

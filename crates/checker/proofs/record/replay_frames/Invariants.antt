@@ -9,6 +9,7 @@ invariant-frames g l = record {
   going : l.reader.state ≡ state.Open;
   layout : g.N.Stepper.layout l.session ≡ g.N.Stepper.layout l.fn.session;
   counted : g.W.Sink.faults l.report ≡ g.W.Sink.faults l.fn.report;
+  unflushed : g.W.Sink.flushes l.report ≡ g.W.Sink.flushes l.fn.report;
   so_far : InReplay g.R.Source.left g.R.Source.limit g.R.Source.faults l.fn.reader.source.now l.reader.source.now
       (g.N.Stepper.layout l.fn.session) (g.N.Stepper.state l.fn.session) (g.N.Stepper.state l.session)
       (g.W.Sink.written l.fn.report) (g.W.Sink.written l.report) l.number l.outcome;
