@@ -89,6 +89,7 @@ pub trait Sink {
         ensures counts { CountsFault (faults self.old) (faults self.new) result }
         ensures flushes { flushes self.new ≡ flushes self.old };
 
+    /// Hands on what was written, and is counted whether it fails or not. Nothing is written by it.
     fn flush(&mut self) -> Result<(), DeviceFault>
         ensures bytes { Keeps (written self.old) (written self.new) }
         ensures flushed { OnOk result (is_flushed self.new ≡ true) }

@@ -70,6 +70,7 @@ impl<R: Read> Source for FromRead<R> {
 pub struct FromWrite<W: Write> {
     writer: W,
     faults: u64,
+    // Contracts alone read it.
     flushes: u64,
 }
 

@@ -31,13 +31,13 @@ enum Reading {
 }
 
 /// Reads a file's content from the source, writes the line that tells its length in bytes and its pieces root
-/// (BEP 52), and flushes. It takes no memory.
+/// (BEP 52), and flushes once. It takes no memory.
 ///
 /// The line is `LENGTH ROOT`, the root in hexadecimal, or `0 -` for an empty file, and the answer is true. Above
 /// 2^46 bytes it is `refused 10 Length`, the answer is false, and no byte after number 2^46 + 1 was read.
 ///
 /// The first fault of a device ends it: `Read` where the source failed, and then nothing was written or flushed,
-/// and `Write` where the sink failed, and then a beginning of the line went out.
+/// and `Write` where the sink failed, and then a beginning of the line went out. No flush comes before all of it did.
 pub fn root_line<R: Source, W: Sink>(source: &mut R, out: &mut W) -> Result<bool, RootFault>
     ensures line { (file : List ℕ) → R.left source.old ≡ Some file → OnOk result
         (Appends (W.written out.old) (W.written out.new) (root_line_of file)) }
@@ -50,11 +50,13 @@ pub fn root_line<R: Source, W: Sink>(source: &mut R, out: &mut W) -> Result<bool
     // A fault is answered where that device had one, and no other.
     ensures no_fault { OnOk result ((R.faults source.new ≡ R.faults source.old) × (W.faults out.new ≡ W.faults out.old)) }
     ensures read { result ≡ Err RootFault.Read → (R.faults source.new ≡ one_more (R.faults source.old))
-        × (W.faults out.new ≡ W.faults out.old) × Keeps (W.written out.old) (W.written out.new) × (W.flushes out.new ≡ W.flushes out.old) }
+        × (W.faults out.new ≡ W.faults out.old) × Keeps (W.written out.old) (W.written out.new)
+        × (W.flushes out.new ≡ W.flushes out.old) }
     ensures write { result ≡ Err RootFault.Write → (R.faults source.new ≡ R.faults source.old)
         × (W.faults out.new ≡ one_more (W.faults out.old)) }
     ensures beginning { (file : List ℕ) → R.left source.old ≡ Some file → result ≡ Err RootFault.Write
-        → AppendsBeginning (W.written out.old) (W.written out.new) (root_line_of file) × FlushedLast W.written W.flushes out.old out.new (root_line_of file) }
+        → AppendsBeginning (W.written out.old) (W.written out.new) (root_line_of file)
+        × FlushedLast W.written W.flushes out.old out.new (root_line_of file) }
 {
     let Ok(reading) = read_content(source) else {
         return Err(RootFault::Read);
@@ -66,7 +68,7 @@ pub fn root_line<R: Source, W: Sink>(source: &mut R, out: &mut W) -> Result<bool
     }
 }
 
-// Writes these bytes and flushes.
+// Writes these bytes and flushes once. After a fault a beginning of them went out.
 pub fn write_line<W: Sink>(out: &mut W, bytes: &[u8]) -> Result<(), DeviceFault>
     ensures ok { OnOk result (Appends (W.written out.old) (W.written out.new) bytes.now) }
     ensures flushed { OnOk result (W.is_flushed out.new ≡ true) }

@@ -61,7 +61,7 @@ pub fn write_path<W: Sink, S: AsStr>(out: &mut W, path: &[S]) -> Result<(), Devi
     Ok(())
 }
 
-/// Flushes where all was written.
+/// Flushes once where all was written, and not after a fault.
 pub fn flush_after<W: Sink>(out: &mut W, written: Result<(), DeviceFault>) -> Result<(), WriteFault>
     ensures wrote { (start : W) (text : List ℕ) → Wrote W.written W.faults W.flushes start out.old written text
         → WroteAndFlushed W.written W.faults W.flushes start out.new result text }
