@@ -1,7 +1,7 @@
 //! The replay of a record: its frames go to a session, and a line tells of each.
 ghost use Rattle.std.specs.Prelude.{◌≡◌, true, IfOk, IfErr, OnOk, OnErr};
 ghost use Rattle.std.specs.Io.KnownBytes.{Appends};
-ghost use Rattle.benc.specs.Device.{AppendsBeginning, CountsFault};
+ghost use Rattle.benc.specs.Device.{AppendsBeginning, CountsFault, FlushesOnce};
 ghost use Rattle.session.specs.Layouts.{layout_of};
 ghost use Rattle.checker.specs.ReplayLines.{frame_line_of, ending_line_of};
 ghost use Rattle.checker.specs.Replay.{FrameStep, TellsFrame, TellsEnding, IsReport, IsCutReport};
@@ -38,6 +38,7 @@ pub fn replay<N: NodeMap, R: Source, W: Sink>(
     ensures err { OnErr result (IsCutReport R.left R.limit R.faults source.old source.new (layout_of session.old.torrent) session.old.state session.new.state
         (W.written report.old) (W.written report.new)) }
     ensures flushed { OnOk result (W.is_flushed report.new ≡ true) }
+    ensures flushes { FlushesOnce (W.flushes report.old) (W.flushes report.new) result }
     ensures counts { CountsFault (W.faults report.old) (W.faults report.new) result }
 {
     let mut reader = FrameReader::new(alloc, source);
@@ -58,6 +59,7 @@ fn replay_frames<N: NodeMap, R: Source, W: Sink>(
     ensures err { OnErr result (IsCutReport R.left R.limit R.faults reader.old.source.now reader.new.source.now (layout_of session.old.torrent) session.old.state session.new.state
         (W.written report.old) (W.written report.new)) }
     ensures flushed { OnOk result (W.is_flushed report.new ≡ true) }
+    ensures flushes { FlushesOnce (W.flushes report.old) (W.flushes report.new) result }
     ensures counts { CountsFault (W.faults report.old) (W.faults report.new) result }
 {
     let mut outcome = Outcome::default();
@@ -116,6 +118,7 @@ fn write_frame<W: Sink>(report: &mut W, number: u64, told: &Told) -> Result<(), 
     ensures ok { OnOk result (Appends (W.written report.old) (W.written report.new) (frame_line_of number told.now)) }
     ensures err { OnErr result (AppendsBeginning (W.written report.old) (W.written report.new) (frame_line_of number told.now)) }
     ensures counts { CountsFault (W.faults report.old) (W.faults report.new) result }
+    ensures flushes { W.flushes report.new ≡ W.flushes report.old }
 {
     write_all(report, frame_line(number, told).as_slice())
 }
@@ -124,6 +127,7 @@ fn write_frame<W: Sink>(report: &mut W, number: u64, told: &Told) -> Result<(), 
 fn write_ending<W: Sink>(report: &mut W, ending: Ending) -> Result<(), DeviceFault>
     ensures ok { OnOk result (Appends (W.written report.old) (W.written report.new) (ending_line_of ending)) }
     ensures flushed { OnOk result (W.is_flushed report.new ≡ true) }
+    ensures flushes { FlushesOnce (W.flushes report.old) (W.flushes report.new) result }
     ensures err { OnErr result (AppendsBeginning (W.written report.old) (W.written report.new) (ending_line_of ending)) }
     ensures counts { CountsFault (W.faults report.old) (W.faults report.new) result }
 {

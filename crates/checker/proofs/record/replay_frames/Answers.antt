@@ -14,7 +14,12 @@ frames-init g c =
       going = c.requires;
       torrent = refl;
       counted = refl;
+<<<<<<< HEAD
       so_far = in_replay_none c.args.reader.now.source.now (layout_of before.torrent) before.state
+=======
+      unflushed = refl;
+      so_far = in_replay_none c.args.reader.now.source.now (g.N.Stepper.layout before) (g.N.Stepper.state before)
+>>>>>>> ground
           (g.W.Sink.written c.args.report.now) c.default-outcome.result
           c.default-outcome.ensures.0 c.default-outcome.ensures.1.0 c.default-outcome.ensures.1.1;
     }
@@ -43,6 +48,7 @@ frames-preserved g c = record {
   going = c.in-Ok.ensures.open;
   torrent = c.in-Ok.ensures.torrent ∙ c.frames.invariant.torrent;
   counted = c.in_ok-write_frame.ensures.counts ∙ c.frames.invariant.counted;
+  unflushed = c.in_ok-write_frame.ensures.flushes ∙ c.frames.invariant.unflushed;
   so_far = in_replay_more (g.W.Sink.written c.write_frame.new.report) c.note.new.self c.frames.invariant.so_far
       (subst (λ (d : Description). TellsFrame g.R.Source.left g.R.Source.limit g.R.Source.faults c.frames.reader.source.now c.next_told.new.reader.source.now (layout_of d)
       c.frames.session.state c.next_told.new.session.state c.in-Ok.told) c.frames.invariant.torrent c.in-Ok.ensures.frame)

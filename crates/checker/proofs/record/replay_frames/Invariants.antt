@@ -10,6 +10,7 @@ invariant-frames g l = record {
   going : l.reader.state ≡ state.Open;
   torrent : l.session.torrent ≡ l.fn.session.torrent;
   counted : g.W.Sink.faults l.report ≡ g.W.Sink.faults l.fn.report;
+  unflushed : g.W.Sink.flushes l.report ≡ g.W.Sink.flushes l.fn.report;
   so_far : InReplay g.R.Source.left g.R.Source.limit g.R.Source.faults l.fn.reader.source.now l.reader.source.now
       (layout_of l.fn.session.torrent) l.fn.session.state l.session.state
       (g.W.Sink.written l.fn.report) (g.W.Sink.written l.report) l.number l.outcome;
