@@ -14,12 +14,8 @@ frames-init g c =
       going = c.requires;
       torrent = refl;
       counted = refl;
-<<<<<<< HEAD
-      so_far = in_replay_none c.args.reader.now.source.now (layout_of before.torrent) before.state
-=======
       unflushed = refl;
-      so_far = in_replay_none c.args.reader.now.source.now (g.N.Stepper.layout before) (g.N.Stepper.state before)
->>>>>>> ground
+      so_far = in_replay_none c.args.reader.now.source.now (layout_of before.torrent) before.state
           (g.W.Sink.written c.args.report.now) c.default-outcome.result
           c.default-outcome.ensures.0 c.default-outcome.ensures.1.0 c.default-outcome.ensures.1.1;
     }
