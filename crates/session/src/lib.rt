@@ -18,3 +18,6 @@ pub use flat::Flat;
 pub use refusal::{BlockRefusal, HashRefusal};
 pub use session::Session;
 pub use verdict::Verdict;
+
+#[cfg(test)]
+mod tests;
