@@ -8,6 +8,7 @@ from measuring import BARE, BLOCK, BTCHECK, TOP, best_of, build_bare, missed_mar
 
 sys.path.insert(0, os.path.join(TOP, "tests"))
 import messages  # noqa: E402
+from torrents import bencoded  # noqa: E402
 from trees import Tree  # noqa: E402
 
 # What each record may cost at most: (of what, ratio of processor time).
@@ -22,7 +23,7 @@ def torrent_over(tree, length):
     layers = {}
     if length > piece_length:
         layers[tree.root] = b"".join(tree.whole_layer(16))
-    return messages.bencode({
+    return bencoded({
         "info": {"file tree": {"file": {b"": {"length": length, "pieces root": tree.root}}}, "meta version": 2,
                  "name": "file", "piece length": piece_length},
         "piece layers": layers,

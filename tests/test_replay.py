@@ -4,12 +4,11 @@ import random
 import resource
 import subprocess
 
-from messages import KEEP_ALIVE, frame, hashes, piece, reject, request, torrent_of
+from messages import KEEP_ALIVE, frame, hashes, piece, reject, request
 from session_model import Session
 from support import BLOCK, BTCHECK, expect, folder, run, sha256, write
+from torrents import ABC, torrent_of
 from trees import Tree, blocks_of
-
-ABC = torrent_of([("abc.txt", b"abc")], BLOCK)
 
 
 def replay(place, torrent, record, *flags, **options):
