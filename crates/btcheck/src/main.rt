@@ -3,6 +3,7 @@
 
 mod command;
 mod fault;
+mod folder;
 mod perform;
 mod words;
 

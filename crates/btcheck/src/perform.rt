@@ -3,8 +3,9 @@ ghost use Rattle.std.specs.Prelude.{◌≡◌, if◌then◌else◌};
 
 use crate::command::Action;
 use crate::fault::Fault;
+use crate::folder::Folder;
 use benc::{FromRead, FromWrite, Sink};
-use checker::{RootFault, refusal_line, root_line};
+use checker::{RootFault, print_report, refusal_line, root_line};
 use metainfo::{Refusal, Torrent};
 use std::fs::File;
 use std::io::{self, BufWriter, Read};
@@ -24,6 +25,7 @@ pub(crate) fn perform<'a>(rt: &HostRuntime, action: &Action<'a>) -> Result<u8, F
     match action {
         Action::Root { file } => root(rt, file),
         Action::Show { torrent } => show(rt, torrent),
+        Action::Check { torrent, dir } => check(rt, torrent, dir),
     }
 }
 
@@ -51,6 +53,31 @@ fn show<'a>(rt: &HostRuntime, path: &'a str) -> Result<u8, Fault<'a>> {
             Err(_) => Err(Fault::Write("-")),
         },
         Err(refusal) => refuse(&refusal, &mut out),
+    }
+}
+
+fn check<'a>(rt: &HostRuntime, path: &'a str, dir: &str) -> Result<u8, Fault<'a>> {
+    let bytes = read_torrent(rt, path)?;
+    let mut out = FromWrite::new(BufWriter::new(rt.alloc(), io::writer(rt)).map_err(
+        |_| Fault::NoMemory,
+    )?);
+    match Torrent::open(rt.alloc(), bytes.as_slice()) {
+        Ok(torrent) => check_folder(rt, &torrent, dir, &mut out),
+        Err(refusal) => refuse(&refusal, &mut out),
+    }
+}
+
+// Checks a folder, prints what was found, and tells the exit status.
+fn check_folder<'a, W: Sink>(
+    rt: &HostRuntime,
+    torrent: &Torrent<'_>,
+    dir: &str,
+    out: &mut W,
+) -> Result<u8, Fault<'a>> {
+    let report = checker::check(rt.alloc(), torrent, &mut Folder::new(rt, dir))?;
+    match print_report(&report, torrent, out) {
+        Ok(()) => Ok(status(report.yes())),
+        Err(_) => Err(Fault::Write("-")),
     }
 }
 

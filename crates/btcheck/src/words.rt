@@ -2,7 +2,7 @@
 use crate::command::Action;
 use crate::fault::Fault;
 use clap::error::ErrorKind;
-use clap::{Arg, ArgAction, Command, Error};
+use clap::{Arg, ArgAction, ArgMatches, Command, Error};
 use std::alloc::Global;
 use std::process::ExitCode;
 
@@ -37,14 +37,33 @@ fn show_command<'a>(alloc: Global) -> Result<Command<'a>, Error> {
     Ok(command)
 }
 
+fn check_command<'a>(alloc: Global) -> Result<Command<'a>, Error> {
+    let command = Command::new(alloc, "check")
+        .about("Checks that a folder holds a torrent's files")
+        .after_help(
+            "Prints a verdict for each file, and `yes`, status 0, or `no`, status 1. The files are looked for at their \
+             paths directly below DIR.",
+        )
+        .arg(required(alloc, "TORRENT", "The torrent file"))?
+        .arg(required(alloc, "DIR", "The folder that holds the files"))?;
+    Ok(command)
+}
+
 // The program's command, with its subcommands.
 fn command<'a>(alloc: Global) -> Result<Command<'a>, Error> {
     let command = Command::new(alloc, "btcheck")
         .about(ABOUT)
         .after_help(STATUSES)
         .subcommand(root_command(alloc)?)?
-        .subcommand(show_command(alloc)?)?;
+        .subcommand(show_command(alloc)?)?
+        .subcommand(check_command(alloc)?)?;
     Ok(command.subcommand_required(true))
+}
+
+fn check_action<'a>(found: &ArgMatches<'a>) -> Option<Action<'a>> {
+    let torrent = found.get_str("TORRENT")?;
+    let dir = found.get_str("DIR")?;
+    Some(Action::Check { torrent, dir })
 }
 
 /// Reads the words of the command line, the program's name first.
@@ -55,6 +74,7 @@ pub(crate) fn action<'a>(alloc: Global, words: &'a [&'a str]) -> Result<Action<'
         Some(("show", found)) => found
             .get_str("TORRENT")
             .map(|torrent| Action::Show { torrent }),
+        Some(("check", found)) => check_action(found),
         _ => None,
     };
     match found {
