@@ -3,7 +3,7 @@ import os
 
 from support import expect, run
 
-COMMANDS = ["root", "show"]
+COMMANDS = ["root", "show", "check"]
 
 REFUSED = [
     [],
@@ -18,6 +18,9 @@ REFUSED = [
     ["ROOT", "a"],
     ["show"],
     ["show", "a", "b"],
+    ["check"],
+    ["check", "a"],
+    ["check", "a", "b", "c"],
 ]
 
 
