@@ -3,8 +3,9 @@
 
 mod command;
 mod fault;
+mod folder;
 mod perform;
-mod replaying;
+mod torrent_file;
 mod words;
 
 use fault::Fault;

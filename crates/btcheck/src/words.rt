@@ -37,6 +37,18 @@ fn show_command<'a>(alloc: Global) -> Result<Command<'a>, Error> {
     Ok(command)
 }
 
+fn check_command<'a>(alloc: Global) -> Result<Command<'a>, Error> {
+    let command = Command::new(alloc, "check")
+        .about("Checks that a folder holds a torrent's files")
+        .after_help(
+            "Prints a verdict for each file, and `yes`, status 0, or `no`, status 1. The files are looked for at their \
+             paths directly below DIR.",
+        )
+        .arg(required(alloc, "TORRENT", "The torrent file"))?
+        .arg(required(alloc, "DIR", "The folder that holds the files"))?;
+    Ok(command)
+}
+
 fn replay_command<'a>(alloc: Global) -> Result<Command<'a>, Error> {
     let command = Command::new(alloc, "replay")
         .about("Replays the recorded messages of peers, and prints a verdict on each")
@@ -62,8 +74,16 @@ fn command<'a>(alloc: Global) -> Result<Command<'a>, Error> {
         .after_help(STATUSES)
         .subcommand(root_command(alloc)?)?
         .subcommand(show_command(alloc)?)?
+        .subcommand(check_command(alloc)?)?
         .subcommand(replay_command(alloc)?)?;
     Ok(command.subcommand_required(true))
+}
+
+// What the words after `check` ask for.
+fn check_of<'a>(found: &ArgMatches<'a>) -> Option<Action<'a>> {
+    let torrent = found.get_str("TORRENT")?;
+    let dir = found.get_str("DIR")?;
+    Some(Action::Check { torrent, dir })
 }
 
 // What the words after `replay` ask for.
@@ -85,6 +105,7 @@ pub(crate) fn action<'a>(alloc: Global, words: &'a [&'a str]) -> Result<Action<'
         Some(("show", found)) => found
             .get_str("TORRENT")
             .map(|torrent| Action::Show { torrent }),
+        Some(("check", found)) => check_of(found),
         Some(("replay", found)) => replay_of(found),
         _ => None,
     };

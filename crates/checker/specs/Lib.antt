@@ -2,6 +2,7 @@
 pub mod Root
 pub mod Reading
 pub mod Shelf
+pub mod MemShelf
 pub mod Folder
 pub mod Verdicts
 pub mod Compared
