@@ -7,7 +7,7 @@ import subprocess
 from messages import KEEP_ALIVE, frame, hashes, piece, reject, request
 from session_model import Session
 from support import BLOCK, BTCHECK, expect, folder, run, sha256, write
-from torrents import ABC, torrent_of
+from torrents import ABC, info, torrent, torrent_of
 from trees import Tree, blocks_of
 
 
@@ -280,6 +280,20 @@ def test_memory_is_that_of_the_session():
             told = done.stdout.split(b"\n")
             assert done.returncode in (0, 1), done.stderr
             assert told[-3:] == [last % (len(told) - 2), b"end", b""], told[-3:]
+
+
+def test_a_growth_that_is_refused():
+    """The last two leaves of a file of 2^46 bytes, whose hashes are right, in 32 MiB of memory: the session goes on."""
+    zeros = [bytes(32)]
+    for _ in range(32):
+        zeros.append(sha256(zeros[-1] * 2))
+    value = info({"file": {"": {"length": 1 << 46, "pieces root": zeros[32]}}}, 1 << 30)
+    far = hashes(zeros[32], 0, 2 ** 32 - 2, 2, 31, given=[zeros[0], *zeros[:32]])
+    near = hashes(zeros[32], 31, 0, 2, 0, given=[zeros[31], zeros[31]])
+    with folder() as place:
+        done = replay(place, torrent(value, {zeros[32]: zeros[16] * 65536}), far + near + far, "--info-only",
+                      preexec_fn=limit_memory)
+        expect(done, 2, lines("1 refused H7 NoMemory", "2 stored 2", "3 refused H7 NoMemory", "end"))
 
 
 def limit_memory():
