@@ -3,7 +3,7 @@ import os
 
 from support import expect, run
 
-COMMANDS = ["root", "show"]
+COMMANDS = ["root", "show", "check", "replay"]
 
 REFUSED = [
     [],
@@ -18,6 +18,14 @@ REFUSED = [
     ["ROOT", "a"],
     ["show"],
     ["show", "a", "b"],
+    ["check"],
+    ["check", "a"],
+    ["check", "a", "b", "c"],
+    ["replay", "a"],
+    ["replay", "a", "b", "c"],
+    ["replay", "a", "b", "--info-only", "--info-only"],
+    ["replay", "a", "b", "--info-only=yes"],
+    ["replay", "a", "b", "--seed", "c"],
 ]
 
 

@@ -3,7 +3,9 @@
 
 mod command;
 mod fault;
+mod folder;
 mod perform;
+mod torrent_file;
 mod words;
 
 use fault::Fault;

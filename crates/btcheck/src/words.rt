@@ -2,7 +2,7 @@
 use crate::command::Action;
 use crate::fault::Fault;
 use clap::error::ErrorKind;
-use clap::{Arg, ArgAction, Command, Error};
+use clap::{Arg, ArgAction, ArgMatches, Command, Error};
 use std::alloc::Global;
 use std::process::ExitCode;
 
@@ -37,14 +37,64 @@ fn show_command<'a>(alloc: Global) -> Result<Command<'a>, Error> {
     Ok(command)
 }
 
+fn check_command<'a>(alloc: Global) -> Result<Command<'a>, Error> {
+    let command = Command::new(alloc, "check")
+        .about("Checks that a folder holds a torrent's files")
+        .after_help(
+            "Prints a verdict for each file, and `yes`, status 0, or `no`, status 1. The files are looked for at their \
+             paths directly below DIR.",
+        )
+        .arg(required(alloc, "TORRENT", "The torrent file"))?
+        .arg(required(alloc, "DIR", "The folder that holds the files"))?;
+    Ok(command)
+}
+
+fn replay_command<'a>(alloc: Global) -> Result<Command<'a>, Error> {
+    let command = Command::new(alloc, "replay")
+        .about("Replays the recorded messages of peers, and prints a verdict on each")
+        .after_help(
+            "A record is the frames that came in, one after the other, without a handshake. \
+             Prints a line for each frame as it comes, and at last `end` or how the record failed.",
+        )
+        .arg(required(alloc, "TORRENT", "The torrent file"))?
+        .arg(required(alloc, "RECORD", "The record, a file or a pipe"))?
+        .arg(
+            Arg::new(alloc, "info-only")
+                .long("info-only")
+                .action(ArgAction::SetTrue)
+                .help("Start from the roots alone, without the torrent's piece layers"),
+        )?;
+    Ok(command)
+}
+
 // The program's command, with its subcommands.
 fn command<'a>(alloc: Global) -> Result<Command<'a>, Error> {
     let command = Command::new(alloc, "btcheck")
         .about(ABOUT)
         .after_help(STATUSES)
         .subcommand(root_command(alloc)?)?
-        .subcommand(show_command(alloc)?)?;
+        .subcommand(show_command(alloc)?)?
+        .subcommand(check_command(alloc)?)?
+        .subcommand(replay_command(alloc)?)?;
     Ok(command.subcommand_required(true))
+}
+
+// What the words after `check` ask for.
+fn check_of<'a>(found: &ArgMatches<'a>) -> Option<Action<'a>> {
+    let torrent = found.get_str("TORRENT")?;
+    let dir = found.get_str("DIR")?;
+    Some(Action::Check { torrent, dir })
+}
+
+// What the words after `replay` ask for.
+fn replay_of<'a>(found: &ArgMatches<'a>) -> Option<Action<'a>> {
+    let torrent = found.get_str("TORRENT")?;
+    let record = found.get_str("RECORD")?;
+    Some(Action::Replay {
+        torrent,
+        record,
+        info_only: found.get_flag("info-only"),
+    })
 }
 
 /// Reads the words of the command line, the program's name first.
@@ -55,6 +105,8 @@ pub(crate) fn action<'a>(alloc: Global, words: &'a [&'a str]) -> Result<Action<'
         Some(("show", found)) => found
             .get_str("TORRENT")
             .map(|torrent| Action::Show { torrent }),
+        Some(("check", found)) => check_of(found),
+        Some(("replay", found)) => replay_of(found),
         _ => None,
     };
     match found {

@@ -29,7 +29,7 @@ grows_one (Some a) b c n before one =
     at ∙ ap Some (more-more a n 1)
 
 -- the count after n more, where it fits before
-more_is : (count n : ℕ) → count < 2 ^ 64 → more count n ≡ (count + n) % 2 ^ 64
+pub more_is : (count n : ℕ) → count < 2 ^ 64 → more count n ≡ (count + n) % 2 ^ 64
 more_is count zero fits = let e : count ≡ (count + 0) % 2 ^ 64 = omega arith in e
 more_is count (suc n) fits =
     let e : count + n + 1 ≡ count + suc n = omega arith in

@@ -6,6 +6,7 @@ pub mod Places
 pub mod Beginnings
 pub mod Passes
 pub mod Counts
+pub mod Shelves
 pub mod Streaming
 pub mod Reports
 pub mod Layers

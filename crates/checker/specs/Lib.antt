@@ -2,6 +2,7 @@
 pub mod Root
 pub mod Reading
 pub mod Shelf
+pub mod MemShelf
 pub mod Folder
 pub mod Verdicts
 pub mod Compared
@@ -15,5 +16,4 @@ pub mod ReplayLines
 pub mod Outcome
 pub mod SafeStep
 pub mod Replay
-pub mod Bare
 pub mod Printed

@@ -1,6 +1,12 @@
 -- What a shelf of files tells, where it tells it.
-use Rattle.std.specs.Prelude.{◌≡◌, ℕ, zero, suc, List, Bool, Option, Some, None, option_map, ⊤}
+use Rattle.std.specs.Prelude.{◌≡◌, ℕ, zero, suc, List, [], map, Bool, true, false, cond, count_by, Option, Some, None, option_map, Result, Ok, Err, String, string_bytes, ⊤}
+use Rattle.std.specs.Global.{Global, Vec}
+use Rattle.std.specs.List.{list_any}
+use Rattle.std.specs.Str.{bytes_eq}
+use Rattle.std.specs.Cmp.Lexicographic.{pointwise}
 use Rattle.benc.specs.Device.{one_more}
+use Rattle.checker.specs.declared.shelf_fault.ShelfFault.{ShelfFault}
+use Rattle.checker.specs.declared.shelf_fault.ShelfFault.TheVariants as fault
 
 -- what stands below a folder: the paths of its files, whether some name is not UTF-8, and the paths of what is neither
 -- a regular file nor a folder
@@ -23,3 +29,37 @@ more count (suc n) = one_more (more count n)
 abbrev pub GrowsBy : Option ℕ → Option ℕ → ℕ → Type 0
 GrowsBy None new n = new ≡ None
 GrowsBy (Some old) new n = new ≡ Some (more old n)
+
+-- the bytes of a path's components
+abbrev pub path_bytes : Vec (String Global) → List (List ℕ)
+path_bytes path = map string_bytes path.items
+
+-- whether two paths are one
+abbrev pub is_path : List (List ℕ) → List (List ℕ) → Bool
+is_path = pointwise bytes_eq
+
+-- each listed path stands once among these, in any order, and no other does
+abbrev pub IsEachOnce : List (List (List ℕ)) → List (List (List ℕ)) → Type 0
+IsEachOnce listed paths = (p : List (List ℕ)) → count_by (is_path p) paths ≡ cond (list_any (is_path p) listed) 1 0
+
+-- what was answered of a shelf on which this stands: each path once, where each name is UTF-8 and all are regular files
+-- and folders, or what of these is not so
+abbrev pub IsListingOf : Listing → Result (Vec (Vec (String Global))) ShelfFault → Type 0
+IsListingOf there (Ok paths) = (there.has_odd_name ≡ false) × (there.specials ≡ []) × IsEachOnce there.files (map path_bytes paths.items)
+IsListingOf there (Err fault.Device) = ⊤
+IsListingOf there (Err fault.Name) = there.has_odd_name ≡ true
+IsListingOf there (Err (fault.Special path)) = list_any (is_path (path_bytes path)) there.specials ≡ true
+IsListingOf there (Err fault.NoMemory) = ⊤
+
+-- what was answered of a shelf that may tell what stands on it
+abbrev pub IsListed : Option Listing → Result (Vec (Vec (String Global))) ShelfFault → Type 0
+IsListed None result = ⊤
+IsListed (Some there) result = IsListingOf there result
+
+-- a listing that the device failed in adds a fault, and no other does
+abbrev pub CountsListing : ℕ → ℕ → Result (Vec (Vec (String Global))) ShelfFault → Type 0
+CountsListing old new (Ok paths) = new ≡ old
+CountsListing old new (Err fault.Device) = new ≡ one_more old
+CountsListing old new (Err fault.Name) = new ≡ old
+CountsListing old new (Err (fault.Special path)) = new ≡ old
+CountsListing old new (Err fault.NoMemory) = new ≡ old

@@ -223,3 +223,6 @@ pub fn check<S: Shelf>(
     };
     Ok(Report { files, v1 })
 }
+
+#[cfg(test)]
+mod tests;

@@ -23,7 +23,7 @@ use Rattle.session.specs.Partial.{IsKnown, IsClosed}
 use Rattle.session.specs.Claims.{claims, IsAccepted, TreeRefuses, CanAnswer}
 use Rattle.session.specs.Known.{Known, Marked, look, Joins}
 use Rattle.session.specs.Kept.{TreeState, State, KeptTree, info_of, IsGoodTree, IsMarked, TreeRefusesBlock}
-use Rattle.session.specs.Session.{Layout, IsTree, IsGood, IsStored, IsHashRefused, IsAnswered, IsPlaced, IsVerified, IsBlockRefused, IsTrueVerdict, Step, IsTrueRun}
+use Rattle.session.specs.Session.{Layout, IsTree, IsGood, HasDistinctRoots, IsStored, IsHashRefused, IsAnswered, IsPlaced, IsVerified, IsBlockRefused, IsTrueVerdict, Step, IsTrueRun}
 use Rattle.session.specs.Layouts.{root_of_entry, layout_of, tree_number, state_of, AreKept, IsFilled, IsFillRefused}
 use Rattle.session.specs.Fill.{fill_claims, IsFillAccepted, FillRefuses}
 use Rattle.session.proofs.Keeping.{same_info}
@@ -125,7 +125,7 @@ module _ (d : Description) (ts : List KeptTree) (kept : AreKept d ts) where
   asked_in n a ask e root can = (record { number = n; tree = info_of a; state = a.state; is_tree = tree_at d ts kept n a e; has_root = root }, can)
 
   module _ (sound : IsSound d) where
-    distinct : (n k : ℕ) (a b : TreeRoot) → slice_get (map root_of_entry d.trees) n ≡ Some a → slice_get (map root_of_entry d.trees) k ≡ Some b → a.root ≡ b.root → n ≡ k
+    pub distinct : HasDistinctRoots (layout_of d)
     distinct n k a b p q e =
         let x = mapped root_of_entry (slice_get d.trees n) a (sym (slice_get-map root_of_entry d.trees n) ∙ p) in
         let y = mapped root_of_entry (slice_get d.trees k) b (sym (slice_get-map root_of_entry d.trees k) ∙ q) in

@@ -4,7 +4,7 @@ ghost use Rattle.std.specs.Prelude.{◌≡◌, ◌≢◌, ℕ, ◌^◌, ◌<◌,
 ghost use Rattle.std.specs.FinMap as finite;
 ghost use Rattle.std.specs.FinSet as set;
 ghost use Rattle.session.specs.Kept.{KeptTree, TreeState};
-ghost use Rattle.session.specs.Session.{IsGood, IsStored, IsHashRefused, IsVerified, IsBlockRefused, IsAnswered, Step, IsTrueVerdict, IsTrueRun};
+ghost use Rattle.session.specs.Session.{IsGood, HasDistinctRoots, IsStored, IsHashRefused, IsVerified, IsBlockRefused, IsAnswered, Step, IsTrueVerdict, IsTrueRun};
 ghost use Rattle.session.specs.Layouts.{layout_of, IsFilled, IsFillRefused};
 ghost use Rattle.session.specs.Fresh.{IsFresh};
 
@@ -86,6 +86,13 @@ impl<'t, N: NodeMap> Session<'t, N> {
         ensures { IsGood (layout_of self.now.torrent) self.now.state }
     {
         let _ = &self.trees;
+    }
+
+    /// What holds of every session: no two of its trees have one root.
+    pub fn distinct_roots(&self)
+        ensures { HasDistinctRoots (layout_of self.now.torrent) }
+    {
+        self.torrent.sound();
     }
 
     /// Takes a hashes message, and tells how many places are newly known, those past the file's end counted. A refusal

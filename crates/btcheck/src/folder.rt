@@ -1,0 +1,171 @@
+//! A folder of the file system as a shelf.
+ghost use Rattle.std.specs.Prelude.{◌≡◌, None};
+ghost use Rattle.benc.specs.Device.{one_more};
+
+use benc::{DeviceFault, FromRead, Source};
+use checker::{Shelf, ShelfFault};
+use std::alloc::{AllocError, Global};
+use std::fs::{self, DirEntry, File};
+use std::io::{self, ErrorKind};
+
+/// The files below a folder.
+#[derive(Drop)]
+pub(crate) struct Folder<'a> {
+    rt: &'a HostRuntime,
+    dir: &'a str,
+    faults: u64,
+}
+
+impl<'a> Folder<'a> {
+    /// The folder with this path. It need not be there.
+    pub(crate) fn new(rt: &'a HostRuntime, dir: &'a str) -> Folder<'a>
+        ensures { result.faults ≡ 0 }
+    {
+        Folder { rt, dir, faults: 0 }
+    }
+
+    fn fault(&mut self) -> DeviceFault
+        ensures { self.new.faults ≡ one_more self.old.faults }
+    {
+        self.faults = self.faults.wrapping_add(1);
+        DeviceFault
+    }
+
+    // The file system's path of what has these path components here.
+    fn place_of(&self, path: &[&str]) -> Result<String, AllocError> {
+        let mut place = String::from_str(self.rt.alloc(), self.dir)?;
+        for part in path {
+            place.push('/')?;
+            place.push_str(part)?;
+        }
+        Ok(place)
+    }
+
+    // Opens the file with these path components, or answers that the system finds no such name. The empty name is none.
+    fn open_file(&self, path: &[&str]) -> io::Result<Option<File>> {
+        if self.dir.is_empty() {
+            return Ok(None);
+        }
+        match File::open(self.rt, self.place_of(path)?) {
+            Ok(file) => Ok(Some(file)),
+            Err(error) if error.kind() == ErrorKind::NotFound => Ok(None),
+            Err(error) => Err(error),
+        }
+    }
+
+    // Lists all files, folder by folder.
+    fn list_files(&self) -> Result<Vec<Vec<String>>, ShelfFault> {
+        let alloc = self.rt.alloc();
+        let mut walk = Walk::from_top(alloc)?;
+        for _ in 0..u64::MAX {
+            let Some(folder) = walk.folders.pop() else {
+                return Ok(walk.files);
+            };
+            self.list_folder(folder.as_slice(), &mut walk)?;
+        }
+        Err(ShelfFault::Device)
+    }
+
+    // Lists one folder.
+    fn list_folder(&self, folder: &[String], walk: &mut Walk) -> Result<(), ShelfFault> {
+        let alloc = self.rt.alloc();
+        let parts = folder
+            .iter()
+            .map(|part| part.as_str())
+            .collect::<Vec<&str>>(alloc)?;
+        let place = self.place_of(parts.as_slice())?;
+        for entry in fs::read_dir(self.rt, place).map_err(listing_fault)? {
+            let entry = entry.map_err(listing_fault)?;
+            let path = path_in(alloc, folder, entry.file_name())?;
+            walk.note(path, &entry)?;
+        }
+        Ok(())
+    }
+}
+
+// The path of what has this name in a folder.
+fn path_in(alloc: Global, folder: &[String], name: &str) -> Result<Vec<String>, AllocError> {
+    let mut path = Vec::new(alloc);
+    for part in folder {
+        path.push(part.clone()?)?;
+    }
+    path.push(String::from_str(alloc, name)?)?;
+    Ok(path)
+}
+
+// Why a folder was not listed. An error without a number is not the system's: a name that is no text, or no memory.
+fn listing_fault(error: io::Error) -> ShelfFault {
+    match (error.raw_os_error(), error.kind()) {
+        (None, ErrorKind::InvalidFilename) => ShelfFault::Name,
+        (None, ErrorKind::OutOfMemory) => ShelfFault::NoMemory,
+        _ => ShelfFault::Device,
+    }
+}
+
+// The files that were found, and the folders that are still to be listed, each by its path.
+#[derive(Drop)]
+struct Walk {
+    files: Vec<Vec<String>>,
+    folders: Vec<Vec<String>>,
+}
+
+impl Walk {
+    // Only the folder itself is to be listed.
+    fn from_top(alloc: Global) -> Result<Walk, AllocError> {
+        let mut folders = Vec::new(alloc);
+        folders.push(Vec::new(alloc))?;
+        Ok(Walk {
+            files: Vec::new(alloc),
+            folders,
+        })
+    }
+
+    // Takes up what has this path. Symlinks are not followed.
+    fn note(&mut self, path: Vec<String>, entry: &DirEntry) -> Result<(), ShelfFault> {
+        let kind = entry.file_type().map_err(listing_fault)?;
+        if kind.is_file() {
+            self.files.push(path).map_err(AllocError::from)?;
+        } else if kind.is_dir() {
+            self.folders.push(path).map_err(AllocError::from)?;
+        } else {
+            return Err(ShelfFault::Special(path));
+        }
+        Ok(())
+    }
+}
+
+impl<'a> Shelf for Folder<'a> {
+    type File = FromRead<File>;
+
+    // What the file system holds is not known.
+    ghost under = { λ _ _. None };
+
+    ghost listing = { λ _. None };
+
+    ghost openings = { λ _. None };
+
+    ghost faults = { λ s. s.faults };
+
+    fn list(&mut self) -> Result<Vec<Vec<String>>, ShelfFault> {
+        let listed = self.list_files();
+        if matches!(listed, Err(ShelfFault::Device)) {
+            self.fault();
+        }
+        listed
+    }
+
+    fn open(&mut self, path: &[&str]) -> Result<Option<FromRead<File>>, DeviceFault> {
+        match self.open_file(path) {
+            Ok(file) => Ok(file.map(|file| FromRead::new(file))),
+            Err(_) => Err(self.fault()),
+        }
+    }
+
+    fn close(&mut self, file: FromRead<File>) {
+        self.faults = self.faults.wrapping_add(file.failures());
+    }
+
+    fn failures(&self) -> u64 {
+        self.faults
+    }
+}

@@ -1,0 +1,239 @@
+//! A shelf over memory, for tests: it counts its openings, and fails at a set call.
+ghost use Rattle.std.specs.Prelude.{◌≡◌, ℕ, ◌<◌, List, [], map, Some, option_map, IfOk, false};
+ghost use Rattle.benc.specs.Device.{CountsFault};
+ghost use Rattle.checker.specs.MemShelf.{first_with, path_of};
+ghost use Rattle.checker.specs.Shelf.{IsEachOnce, is_path, path_bytes};
+
+use crate::shelf::Shelf;
+use crate::shelf_fault::ShelfFault;
+use benc::{DeviceFault, MemSource, Source};
+use std::alloc::{AllocError, Global};
+
+/// A file of a shelf in memory.
+#[derive(Clone, Copy, Drop)]
+pub struct MemFile<'a> {
+    path: &'a [&'a str],
+    content: &'a [u8],
+    before_fault: Option<u64>,
+}
+
+impl<'a> MemFile<'a> {
+    /// A file with these path components and these bytes, whose reads never fail.
+    pub fn new(path: &'a [&'a str], content: &'a [u8]) -> MemFile<'a>
+        ensures path { path_of result ≡ map (λ s. s.now) path.entry.now }
+        ensures content { result.content.now ≡ content.entry.now }
+    {
+        MemFile {
+            path,
+            content,
+            before_fault: None,
+        }
+    }
+
+    /// Whenever it is opened, so many reads succeed, and the one after them fails and gives nothing. Later ones
+    /// succeed.
+    pub fn fails_after(mut self, calls: u64) -> MemFile<'a>
+        ensures path { path_of result ≡ path_of self.entry }
+        ensures content { result.content.now ≡ self.entry.content.now }
+    {
+        self.before_fault = Some(calls);
+        self
+    }
+
+    fn has_path(&self, path: &[&str]) -> bool
+        ensures { result ≡ is_path (map (λ s. s.now) path.now) (path_of self.now) }
+    {
+        path == self.path
+    }
+
+    // The file opened, whose reads give at most so many bytes.
+    fn source(&self, at_most: usize) -> MemSource<'a>
+        requires { 0 < at_most }
+        ensures left { ⟦<MemSource<'a> as Source>⟧.left result ≡ Some self.now.content.now }
+        ensures faults { ⟦<MemSource<'a> as Source>⟧.faults result ≡ 0 }
+    {
+        let source = MemSource::new(self.content).at_most(at_most);
+        match self.before_fault {
+            Some(calls) => source.fails_after(calls),
+            None => source,
+        }
+    }
+}
+
+// The first of the files that has this path.
+fn find<'f, 'a>(files: &'f [MemFile<'a>], path: &[&str]) -> Option<&'f MemFile<'a>>
+    ensures { option_map (λ f. f.now) result ≡ first_with (map (λ s. s.now) path.now) files.now }
+{
+    files.iter().find(|file| file.has_path(path))
+}
+
+// A path of one's own.
+fn owned(alloc: Global, path: &[&str]) -> Result<Vec<String>, AllocError>
+    ensures { IfOk result (λ owned. path_bytes owned ≡ map (λ s. s.now) path.now) }
+{
+    let mut owned = Vec::new(alloc);
+    'parts: for part in path {
+        owned.push(String::from_str(alloc, part)?)?;
+    }
+    Ok(owned)
+}
+
+// Each path that one of the files has, once.
+fn paths_of(alloc: Global, files: &[MemFile<'_>]) -> Result<Vec<Vec<String>>, AllocError>
+    ensures { IfOk result (λ paths. IsEachOnce (map path_of files.now) (map path_bytes paths.items)) }
+{
+    let mut paths = Vec::new(alloc);
+    'files: for i in 0..files.len() {
+        if find(&files[..i], files[i].path).is_none() {
+            paths.push(owned(alloc, files[i].path)?)?;
+        }
+    }
+    Ok(paths)
+}
+
+/// A shelf that holds these files. Of two with one path it holds the first.
+#[derive(Drop)]
+pub struct MemShelf<'a> {
+    alloc: Global,
+    files: &'a [MemFile<'a>],
+    has_odd_name: bool,
+    specials: &'a [&'a [&'a str]],
+    at_most: usize,
+    before_fault: Option<u64>,
+    opened: u64,
+    faults: u64,
+    ghost some: { 0 < at_most },
+}
+
+impl<'a> MemShelf<'a> {
+    ghost use Rattle.checker.specs.MemShelf.{content_under, listing_of};
+
+    /// A shelf whose calls never fail, and whose files give as many bytes a call as there is room for.
+    pub fn new(alloc: Global, files: &'a [MemFile<'a>]) -> MemShelf<'a>
+        ensures contents { (p : List (List ℕ)) → ⟦<MemShelf<'a> as Shelf>⟧.under result p ≡ Some (content_under files.entry.now p) }
+        ensures listing { ⟦<MemShelf<'a> as Shelf>⟧.listing result ≡ Some (listing_of files.entry.now false []) }
+        ensures openings { ⟦<MemShelf<'a> as Shelf>⟧.openings result ≡ Some 0 }
+        ensures faults { ⟦<MemShelf<'a> as Shelf>⟧.faults result ≡ 0 }
+    {
+        MemShelf {
+            alloc,
+            files,
+            has_odd_name: false,
+            specials: &[],
+            at_most: usize::MAX,
+            before_fault: None,
+            opened: 0,
+            faults: 0,
+        }
+    }
+
+    /// There is a name too that is not UTF-8.
+    pub fn with_odd_name(mut self) -> MemShelf<'a> {
+        self.has_odd_name = true;
+        self
+    }
+
+    /// Under these paths stands what is neither a regular file nor a folder.
+    pub fn with_specials(self, paths: &'a [&'a [&'a str]]) -> MemShelf<'a> {
+        MemShelf {
+            alloc: self.alloc,
+            files: self.files,
+            has_odd_name: self.has_odd_name,
+            specials: paths,
+            at_most: self.at_most,
+            before_fault: self.before_fault,
+            opened: self.opened,
+            faults: self.faults,
+        }
+    }
+
+    /// From here on a read of a file gives at most so many bytes.
+    pub fn at_most(mut self, count: usize) -> MemShelf<'a>
+        requires { 0 < count }
+    {
+        self.at_most = count;
+        self
+    }
+
+    /// So many further calls of `list` and `open` succeed, and the one after them fails. Later ones succeed.
+    pub fn fails_after(mut self, calls: u64) -> MemShelf<'a> {
+        self.before_fault = Some(calls);
+        self
+    }
+
+    /// How often `open` was called, modulo 2^64.
+    pub fn openings(&self) -> u64
+        ensures { ⟦<MemShelf<'a> as Shelf>⟧.openings self.now ≡ Some result }
+    {
+        self.opened
+    }
+
+    // Counts a call, and fails where it is the one that is to.
+    fn next_call(&mut self) -> Result<(), DeviceFault>
+        ensures counts { CountsFault self.old.faults self.new.faults result }
+        ensures files { self.new.files ≡ self.old.files }
+        ensures has_odd_name { self.new.has_odd_name ≡ self.old.has_odd_name }
+        ensures specials { self.new.specials ≡ self.old.specials }
+        ensures opened { self.new.opened ≡ self.old.opened }
+    {
+        match self.before_fault {
+            Some(0) => {
+                self.before_fault = None;
+                self.faults = self.faults.wrapping_add(1);
+                Err(DeviceFault)
+            }
+            Some(calls) => {
+                self.before_fault = Some(calls - 1);
+                Ok(())
+            }
+            None => Ok(()),
+        }
+    }
+}
+
+impl<'a> Shelf for MemShelf<'a> {
+    type File = MemSource<'a>;
+
+    ghost use Rattle.checker.specs.MemShelf.{content_under, listing_of};
+
+    ghost under = { λ s p. Some (content_under s.files.now p) };
+
+    ghost listing = { λ s. Some (listing_of s.files.now s.has_odd_name (map (λ p. map (λ c. c.now) p.now) s.specials.now)) };
+
+    ghost openings = { λ s. Some s.opened };
+
+    ghost faults = { λ s. s.faults };
+
+    fn list(&mut self) -> Result<Vec<Vec<String>>, ShelfFault> {
+        if self.next_call().is_err() {
+            return Err(ShelfFault::Device);
+        }
+        if self.has_odd_name {
+            return Err(ShelfFault::Name);
+        }
+        match self.specials.first() {
+            Some(path) => Err(ShelfFault::Special(owned(self.alloc, path)?)),
+            None => Ok(paths_of(self.alloc, self.files)?),
+        }
+    }
+
+    fn open(&mut self, path: &[&str]) -> Result<Option<MemSource<'a>>, DeviceFault> {
+        self.opened = self.opened.wrapping_add(1);
+        self.next_call()?;
+        match find(self.files, path) {
+            Some(file) => Ok(Some(file.source(self.at_most))),
+            None => Ok(None),
+        }
+    }
+
+    fn close(&mut self, file: MemSource<'a>) {
+        self.faults = self.faults.wrapping_add(file.failures());
+    }
+
+    fn failures(&self) -> u64 {
+        self.faults
+    }
+}
+
+#[cfg(test)]
+mod tests;
