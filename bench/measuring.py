@@ -46,7 +46,7 @@ def build(program, crates, lines):
 
 
 def build_bare():
-    build(BARE, [], ["bare: sha2"])
+    build(BARE, [], ["bare: sha1 sha2"])
 
 
 def build_readers():

@@ -87,11 +87,19 @@ def escaped(text):
     return "".join(f"\\x{ord(c):02x}" if ord(c) < 0x20 or c in "\x7f\\" else c for c in text)
 
 
-def made_by_libtorrent(orders):
-    """What libtorrent tells of the torrents that it makes by these orders (maker.py)."""
-    maker = os.path.join(os.path.dirname(os.path.abspath(__file__)), "maker.py")
+def python_with_libtorrent():
+    """A Python that has libtorrent, or None."""
     for python in [sys.executable, "/usr/bin/python3"]:
         if subprocess.run([python, "-c", "import libtorrent"], stderr=subprocess.DEVNULL).returncode == 0:
-            done = subprocess.run([python, maker], input=json.dumps(orders), stdout=subprocess.PIPE, text=True, check=True)
-            return json.loads(done.stdout)
-    raise RuntimeError("no Python here has libtorrent: install the Debian package python3-libtorrent")
+            return python
+    return None
+
+
+def made_by_libtorrent(orders):
+    """What libtorrent tells of the torrents that it makes by these orders (maker.py)."""
+    python = python_with_libtorrent()
+    if python is None:
+        raise RuntimeError("no Python here has libtorrent: install the Debian package python3-libtorrent")
+    maker = os.path.join(os.path.dirname(os.path.abspath(__file__)), "maker.py")
+    done = subprocess.run([python, maker], input=json.dumps(orders), stdout=subprocess.PIPE, text=True, check=True)
+    return json.loads(done.stdout)

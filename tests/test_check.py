@@ -1,4 +1,5 @@
 """`btcheck check TORRENT DIR`, on folders and torrents that libtorrent made, whole and with each kind of damage."""
+import hashlib
 import os
 import random
 import shutil
@@ -257,6 +258,8 @@ def encode(value):
         return b"i%de" % value
     if isinstance(value, bytes):
         return b"%d:%s" % (len(value), value)
+    if isinstance(value, list):
+        return b"l%se" % b"".join(map(encode, value))
     return b"d%se" % b"".join(encode(key) + encode(value[key]) for key in sorted(value))
 
 
@@ -266,6 +269,53 @@ def torrent_of(path):
     for component in reversed(path):
         tree = {component.encode(): tree}
     return encode({b"info": {b"file tree": tree, b"meta version": 2, b"name": b"x", b"piece length": 16384}})
+
+
+def sha1(content):
+    return hashlib.sha1(content).digest()
+
+
+def hybrid_of(first, second, piece_length, tail):
+    """A hybrid of two files, `a` and `c`, of one piece each, and so many zeros behind them (BEP 47)."""
+    pad = piece_length - len(first)
+    stream = first + bytes(pad) + second + bytes(tail)
+    cuts = [stream[i:i + piece_length] for i in range(0, len(stream), piece_length)]
+    files = [
+        {b"length": len(first), b"path": [b"a"]},
+        {b"attr": b"p", b"length": pad, b"path": [b".pad", b"%d" % pad]},
+        {b"length": len(second), b"path": [b"c"]},
+        {b"attr": b"p", b"length": tail, b"path": [b".pad", b"%d" % tail]},
+    ]
+    tree = {name: {b"": {b"length": len(content), b"pieces root": root_of(content)}}
+            for name, content in [(b"a", first), (b"c", second)]}
+    return encode({b"info": {b"file tree": tree, b"files": files if tail else files[:3], b"meta version": 2, b"name": b"x",
+                             b"piece length": piece_length, b"pieces": b"".join(map(sha1, cuts))}})
+
+
+def test_zeros_behind_the_last_file():
+    first, second = FILES["a.txt"], b"abc"
+    with folder() as place:
+        content = make_folder(f"{place}/content", {"a": first, "c": second})
+        for tail in [0, 1, 32764, 32765]:
+            path = write(f"{place}/t", hybrid_of(first, second, 32768, tail))
+            torrent = Torrent([("a", first), ("c", second)], 32768, True)
+            expect_report(path, torrent, content, {})
+            for name, was in [("a", first), ("c", second)]:
+                expect_report(path, torrent, content, {name: changed(-1)(f"{content}/{name}", was)})
+                write(f"{content}/{name}", was)
+
+
+def test_wrong_version_1_pieces():
+    first, second = FILES["a.txt"], b"abc"
+    with folder() as place:
+        content = make_folder(f"{place}/content", {"a": first, "c": second})
+        good = hybrid_of(first, second, 32768, 0)
+        digests = good.index(b"6:pieces40:") + len(b"6:pieces40:")
+        for place_in, piece in [(0, 0), (19, 0), (20, 1), (39, 1)]:
+            found = bytearray(good)
+            found[digests + place_in] ^= 1
+            path = write(f"{place}/t", found)
+            expect(run("check", path, content), 1, f"good a\ngood c\nv1 bad {piece}\nno\n")
 
 
 def test_names():

@@ -1,5 +1,5 @@
 //! A shelf over memory, for tests: it counts its openings, and fails at a set call.
-ghost use Rattle.std.specs.Prelude.{◌≡◌, ℕ, ◌<◌, List, [], map, Some, option_map, IfOk, false};
+ghost use Rattle.std.specs.Prelude.{◌≡◌, ℕ, ◌<◌, List, [], map, Some, option_map, IfOk, true, false};
 ghost use Rattle.benc.specs.Device.{CountsFault};
 ghost use Rattle.checker.specs.MemShelf.{first_with, path_of};
 ghost use Rattle.checker.specs.Shelf.{IsEachOnce, is_path, path_bytes};
@@ -107,6 +107,7 @@ pub struct MemShelf<'a> {
 
 impl<'a> MemShelf<'a> {
     ghost use Rattle.checker.specs.MemShelf.{content_under, listing_of};
+    ghost use Rattle.checker.specs.Shelf.{Listing};
 
     /// A shelf whose calls never fail, and whose files give as many bytes a call as there is room for.
     pub fn new(alloc: Global, files: &'a [MemFile<'a>]) -> MemShelf<'a>
@@ -128,13 +129,23 @@ impl<'a> MemShelf<'a> {
     }
 
     /// There is a name too that is not UTF-8.
-    pub fn with_odd_name(mut self) -> MemShelf<'a> {
+    pub fn with_odd_name(mut self) -> MemShelf<'a>
+        ensures contents { (p : List (List ℕ)) → ⟦<MemShelf<'a> as Shelf>⟧.under result p ≡ ⟦<MemShelf<'a> as Shelf>⟧.under self.entry p }
+        ensures listing { ⟦<MemShelf<'a> as Shelf>⟧.listing result ≡ option_map {T = Listing} (λ l. record l { has_odd_name = true }) (⟦<MemShelf<'a> as Shelf>⟧.listing self.entry) }
+        ensures openings { ⟦<MemShelf<'a> as Shelf>⟧.openings result ≡ ⟦<MemShelf<'a> as Shelf>⟧.openings self.entry }
+        ensures faults { ⟦<MemShelf<'a> as Shelf>⟧.faults result ≡ ⟦<MemShelf<'a> as Shelf>⟧.faults self.entry }
+    {
         self.has_odd_name = true;
         self
     }
 
     /// Under these paths stands what is neither a regular file nor a folder.
-    pub fn with_specials(self, paths: &'a [&'a [&'a str]]) -> MemShelf<'a> {
+    pub fn with_specials(self, paths: &'a [&'a [&'a str]]) -> MemShelf<'a>
+        ensures contents { (p : List (List ℕ)) → ⟦<MemShelf<'a> as Shelf>⟧.under result p ≡ ⟦<MemShelf<'a> as Shelf>⟧.under self.entry p }
+        ensures listing { ⟦<MemShelf<'a> as Shelf>⟧.listing result ≡ option_map {T = Listing} (λ l. record l { specials = map (λ p. map (λ c. c.now) p.now) paths.entry.now }) (⟦<MemShelf<'a> as Shelf>⟧.listing self.entry) }
+        ensures openings { ⟦<MemShelf<'a> as Shelf>⟧.openings result ≡ ⟦<MemShelf<'a> as Shelf>⟧.openings self.entry }
+        ensures faults { ⟦<MemShelf<'a> as Shelf>⟧.faults result ≡ ⟦<MemShelf<'a> as Shelf>⟧.faults self.entry }
+    {
         MemShelf {
             alloc: self.alloc,
             files: self.files,
@@ -150,13 +161,22 @@ impl<'a> MemShelf<'a> {
     /// From here on a read of a file gives at most so many bytes.
     pub fn at_most(mut self, count: usize) -> MemShelf<'a>
         requires { 0 < count }
+        ensures contents { (p : List (List ℕ)) → ⟦<MemShelf<'a> as Shelf>⟧.under result p ≡ ⟦<MemShelf<'a> as Shelf>⟧.under self.entry p }
+        ensures listing { ⟦<MemShelf<'a> as Shelf>⟧.listing result ≡ ⟦<MemShelf<'a> as Shelf>⟧.listing self.entry }
+        ensures openings { ⟦<MemShelf<'a> as Shelf>⟧.openings result ≡ ⟦<MemShelf<'a> as Shelf>⟧.openings self.entry }
+        ensures faults { ⟦<MemShelf<'a> as Shelf>⟧.faults result ≡ ⟦<MemShelf<'a> as Shelf>⟧.faults self.entry }
     {
         self.at_most = count;
         self
     }
 
     /// So many further calls of `list` and `open` succeed, and the one after them fails. Later ones succeed.
-    pub fn fails_after(mut self, calls: u64) -> MemShelf<'a> {
+    pub fn fails_after(mut self, calls: u64) -> MemShelf<'a>
+        ensures contents { (p : List (List ℕ)) → ⟦<MemShelf<'a> as Shelf>⟧.under result p ≡ ⟦<MemShelf<'a> as Shelf>⟧.under self.entry p }
+        ensures listing { ⟦<MemShelf<'a> as Shelf>⟧.listing result ≡ ⟦<MemShelf<'a> as Shelf>⟧.listing self.entry }
+        ensures openings { ⟦<MemShelf<'a> as Shelf>⟧.openings result ≡ ⟦<MemShelf<'a> as Shelf>⟧.openings self.entry }
+        ensures faults { ⟦<MemShelf<'a> as Shelf>⟧.faults result ≡ ⟦<MemShelf<'a> as Shelf>⟧.faults self.entry }
+    {
         self.before_fault = Some(calls);
         self
     }

@@ -23,8 +23,8 @@ pub trait Shelf {
     // How many faults the shelf and the files that were handed back had, modulo 2^64.
     ghost faults: { Self → ℕ };
 
-    /// Lists the files: the path of each, once, in any order. It refuses a shelf with a name that is not UTF-8, and one
-    /// with what is neither a regular file nor a folder.
+    /// Lists the files, those in folders too: the path of each, once, in any order. It refuses with `Name` where a name
+    /// is not UTF-8, and with `Special` where something is neither a regular file nor a folder. The shelf stays as it is.
     fn list(&mut self) -> Result<Vec<Vec<String>>, ShelfFault>
         ensures listed { IsListed (listing self.old) result }
         ensures counts { CountsListing (faults self.old) (faults self.new) result }
