@@ -27,8 +27,15 @@ def expect(done, status, stdout=b"", stderr=b""):
     wanted = [text.encode() if isinstance(text, str) else text for text in (stdout, stderr)]
     seen = (done.returncode, done.stdout, done.stderr)
     assert done.returncode == status, f"status {status} is wanted: {seen}"
-    assert wanted[0] is None or done.stdout == wanted[0], f"standard output {wanted[0]} is wanted: {seen}"
-    assert wanted[1] is None or done.stderr == wanted[1], f"standard error {wanted[1]} is wanted: {seen}"
+    for stream, want, got in (("output", wanted[0], done.stdout), ("error", wanted[1], done.stderr)):
+        assert want is None or got == want, f"on standard {stream}: {first_difference(want, got)}"
+
+
+def first_difference(wanted, seen):
+    """The first line in which two texts differ, and the line of each."""
+    texts = [text.split(b"\n") for text in (wanted, seen)]
+    number = next((at for at, (one, other) in enumerate(zip(*texts)) if one != other), min(map(len, texts)) - 1)
+    return f"line {number + 1}, wanted {texts[0][number:number + 1]}, seen {texts[1][number:number + 1]}"
 
 
 def folder():

@@ -3,13 +3,12 @@ import hashlib
 import os
 import random
 
-from support import escaped, expect, folder, made_by_libtorrent, root_of_file, run, write
+from support import escaped, expect, folder, made_by_libtorrent, root_of, root_of_file, run, write
+from torrents import ABC, LIST, TWO, bencoded, file, hybrid, info, layer, pad, torrent
 
 A = "ba7816bf8f01cfea414140de5dae2223b00361a396177a9cb410ff61f20015ad"
 
-# The torrent of the one file `abc.txt` with content `abc`, in its parts.
-HEAD = b"d4:infod9:file treed7:abc.txtd0:d6:lengthi3e11:pieces root32:" + bytes.fromhex(A)
-ABC = HEAD + b"eee12:meta versioni2e4:name3:abc12:piece lengthi16384ee12:piece layersdee"
+# The info dictionary of the torrent of `abc.txt`, as it stands there.
 INFO = ABC[7:148]
 
 # Folders as lists of a path and a length; the content is random.
@@ -65,47 +64,49 @@ def test_worked_torrent():
         expect(run("show", "/dev/stdin", input=ABC), 0, text)
 
 
+def shown(place, content, lines):
+    """`show` of this torrent file prints these lines."""
+    expect(run("show", write(f"{place}/t", content)), 0, "".join(f"{line}\n" for line in lines))
+
+
+def hashes(value):
+    """The lines of the info-hashes of this info dictionary."""
+    spelled = bencoded(value)
+    return [f"info hash v2: {hashlib.sha256(spelled).hexdigest()}", f"info hash v1: {hashlib.sha1(spelled).hexdigest()}"]
+
+
+def test_hybrids_have_two_info_hashes():
+    last = ["files: 2", f"16385 {root_of(TWO).hex()} a", f"3 {A} c"]
+    with folder() as place:
+        for value in [hybrid(), hybrid(LIST + [pad(32765)])]:
+            shown(place, torrent(value), ["name: x", "piece length: 32768", *hashes(value), *last])
+        single = info({"c": file(b"abc")}, name="c", length=3, pieces=hashlib.sha1(b"abc").digest())
+        shown(place, torrent(single), ["name: c", "piece length: 16384", *hashes(single), "files: 1", f"3 {A} c"])
+
+
+def test_files_in_the_order_of_their_components():
+    tree = {"a": {"b": file(b"abc"), "empty": {}, "none": file(b"")}, "a.txt": file(b"abc"), "b": file(b"", mtime=1)}
+    value = info(tree)
+    with folder() as place:
+        shown(place, torrent(value), ["name: x", "piece length: 16384", hashes(value)[0], "files: 4",
+                                      f"3 {A} a/b", "0 - a/none", f"3 {A} a.txt", "0 - b"])
+
+
+def test_piece_layers():
+    content = bytes(i % 251 for i in range(65636))
+    root, value = root_of(content), info({"five": file(content)}, 32768)
+    with folder() as place:
+        shown(place, torrent(value, {root: layer(content, 2), bytes(32): b"x"}),
+              ["name: x", "piece length: 32768", hashes(value)[0], "files: 1", f"65636 {root.hex()} five"])
+
+
 def test_escapes():
-    content = ABC.replace(b"7:abc.txt", b"8:a\\\x01\x1f\x7f \xc3\xa9").replace(b"4:name3:abc", b"4:name4:\na\tb")
+    odd = "".join(map(chr, range(1, 0x20))) + " !\x7f\\é文\U0001f600"
+    seen = "".join(f"\\x{byte:02x}" for byte in range(1, 0x20)) + " !\\x7f\\x5cé文\U0001f600"
+    value = info({odd: {odd: file(b"abc")}}, name="\0/" + odd)
     with folder() as place:
-        done = run("show", write(f"{place}/t", content))
-        expect(done, 0, None)
-        lines = done.stdout.split(b"\n")
-        assert lines[0] == rb"name: \x0aa\x09b", lines
-        assert lines[4] == b"3 " + A.encode() + rb" a\x5c\x01\x1f\x7f " + "é".encode(), lines
-
-
-def test_refused_torrents():
-    cases = [
-        (ABC + b"x", "2 NotBencode Trailing 166"),
-        (b"", "2 NotBencode Truncated 0"),
-        (b"i1e", "4 WrongType top"),
-        (b"de", "3 Missing info"),
-        (b"d4:infoi1ee", "4 WrongType info"),
-        (ABC.replace(b"12:meta versioni2e", b""), "3 Missing meta version"),
-        (ABC.replace(b"12:meta versioni2e", b"12:meta versioni3e"), "5 Version"),
-        (ABC.replace(b"i16384e", b"i16385e"), "6 PieceLength"),
-        (ABC.replace(b"7:abc.txt", b"3:a/b"), "8 Path"),
-        (ABC.replace(b"7:abc.txt", b"2:.."), "8 Path"),
-        (ABC.replace(b"6:lengthi3e", b"4:attr1:l6:lengthi3e"), "9 Symlink"),
-        (ABC.replace(b"6:lengthi3e", b"6:lengthi-1e"), "10 Length"),
-        (ABC.replace(b"6:lengthi3e", b"6:lengthi70368744177664e"), "14 TooManyPieces"),
-        (ABC.replace(b"6:lengthi3e", b"6:lengthi16385e"), "15 LayerMissing"),
-    ]
-    with folder() as place:
-        for content, refusal in cases:
-            expect(run("show", write(f"{place}/t", content)), 1, f"refused {refusal}\n")
-
-
-def test_a_torrent_is_read_with_a_bound():
-    with folder() as place:
-        with open(f"{place}/t", "wb") as out:
-            out.truncate(67108865)
-        expect(run("show", f"{place}/t"), 1, "refused 1 TooLarge\n")
-        with open(f"{place}/t", "wb") as out:
-            out.truncate(1 << 40)
-        expect(run("show", f"{place}/t"), 1, "refused 1 TooLarge\n")
-    expect(run("show", "/dev/zero"), 1, "refused 1 TooLarge\n")
+        shown(place, torrent(value), [f"name: \\x00/{seen}", "piece length: 16384", hashes(value)[0], "files: 1",
+                                      f"3 {A} {seen}/{seen}"])
 
 
 def test_torrents_of_libtorrent():

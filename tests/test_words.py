@@ -3,7 +3,7 @@ import os
 
 from support import expect, run
 
-COMMANDS = ["root", "show", "check"]
+COMMANDS = ["root", "show", "check", "replay"]
 
 REFUSED = [
     [],
@@ -21,6 +21,11 @@ REFUSED = [
     ["check"],
     ["check", "a"],
     ["check", "a", "b", "c"],
+    ["replay", "a"],
+    ["replay", "a", "b", "c"],
+    ["replay", "a", "b", "--info-only", "--info-only"],
+    ["replay", "a", "b", "--info-only=yes"],
+    ["replay", "a", "b", "--seed", "c"],
 ]
 
 

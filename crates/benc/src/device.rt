@@ -1,7 +1,7 @@
 //! Devices that bytes come from and go to. Each counts the calls that it answered with a fault.
 ghost use Rattle.std.specs.Prelude.{◌≡◌, ℕ, ◌+◌, ◌-◌, ◌%◌, ◌^◌, ◌<◌, ◌≤◌, List, length, take, Option, None, MatchResult, IfOk, OnOk, OnErr, Bool, true};
 ghost use Rattle.std.specs.Io.KnownBytes.{Appends, Keeps, ReadConsumes, WriteAppends};
-ghost use Rattle.benc.specs.Device.{AppendsBeginning, CountsFault};
+ghost use Rattle.benc.specs.Device.{AppendsBeginning, CountsFault, one_more};
 ghost use Rattle.benc.specs.declared.device.WriteFault.TheVariants.{Write};
 
 use std::error::Error;
@@ -75,6 +75,9 @@ pub trait Sink {
     // How many calls were answered with a fault, modulo 2^64.
     ghost faults: { Self → ℕ };
 
+    // How often `flush` was called, modulo 2^64.
+    ghost flushes: { Self → ℕ };
+
     // Nothing was written after the last flush. No clause of `write` speaks of it.
     ghost is_flushed: { Self → Bool };
 
@@ -83,23 +86,27 @@ pub trait Sink {
         ensures bound { IfOk result (λ n. n ≤ length buf.now) }
         ensures some { IfOk result (λ n. 0 < length buf.now → 0 < n) }
         ensures bytes { WriteAppends (written self.old) (written self.new) result buf.now }
-        ensures counts { CountsFault (faults self.old) (faults self.new) result };
+        ensures counts { CountsFault (faults self.old) (faults self.new) result }
+        ensures flushes { flushes self.new ≡ flushes self.old };
 
+    /// Hands on what was written, and is counted whether it fails or not. Nothing is written by it.
     fn flush(&mut self) -> Result<(), DeviceFault>
         ensures bytes { Keeps (written self.old) (written self.new) }
         ensures flushed { OnOk result (is_flushed self.new ≡ true) }
-        ensures counts { CountsFault (faults self.old) (faults self.new) result };
+        ensures counts { CountsFault (faults self.old) (faults self.new) result }
+        ensures flushes { flushes self.new ≡ one_more (flushes self.old) };
 
     /// How many calls were answered with a fault, modulo 2^64.
     fn failures(&self) -> u64
         ensures { result ≡ faults self.now };
 }
 
-/// Writes all these bytes. After a fault a beginning of them went out.
+/// Writes all these bytes, and does not flush. After a fault a beginning of them went out.
 pub fn write_all<W: Sink>(out: &mut W, bytes: &[u8]) -> Result<(), DeviceFault>
     ensures ok { OnOk result (Appends (W.written out.old) (W.written out.new) bytes.now) }
     ensures err { OnErr result (AppendsBeginning (W.written out.old) (W.written out.new) bytes.now) }
     ensures counts { CountsFault (W.faults out.old) (W.faults out.new) result }
+    ensures flushes { W.flushes out.new ≡ W.flushes out.old }
 {
     let mut start = 0;
     'parts: while start < bytes.len() {

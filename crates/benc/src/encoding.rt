@@ -10,12 +10,14 @@ use crate::device::{DeviceFault, Sink, WriteFault, write_all};
 use crate::numeral::Numeral;
 use crate::value::{Pair, Value};
 
-/// Writes the one spelling of a value, and takes no memory. After a fault a beginning of the spelling went out.
+/// Writes the one spelling of a value. It takes no memory and does not flush. After a fault a beginning of the spelling
+/// went out.
 pub fn encode<W: Sink>(v: &Value<'_>, w: &mut W) -> Result<(), WriteFault>
     requires { IsCanonical (view v.now) }
     ensures ok { OnOk result (Appends (W.written w.old) (W.written w.new) (spelling (view v.now))) }
     ensures err { OnErr result (AppendsBeginning (W.written w.old) (W.written w.new) (spelling (view v.now))) }
     ensures counts { CountsFault (W.faults w.old) (W.faults w.new) result }
+    ensures flushes { W.flushes w.new ≡ W.flushes w.old }
 {
     write_value(v, w)?;
     Ok(())
@@ -23,7 +25,7 @@ pub fn encode<W: Sink>(v: &Value<'_>, w: &mut W) -> Result<(), WriteFault>
 
 #[cycle(write)]
 fn write_value<W: Sink>(v: &Value<'_>, w: &mut W) -> Result<(), DeviceFault>
-    ensures { Wrote result (W.written w.old) (W.written w.new) (W.faults w.old) (W.faults w.new) (spelling (view v.now)) }
+    ensures { Wrote W.written W.faults W.flushes w.old w.new result (spelling (view v.now)) }
 {
     match v {
         Value::Int(n) => write_text(Numeral::of_integer(*n).as_slice(), w),
@@ -35,7 +37,7 @@ fn write_value<W: Sink>(v: &Value<'_>, w: &mut W) -> Result<(), DeviceFault>
 
 #[cycle(write)]
 fn write_list<W: Sink>(items: &Vec<Value<'_>>, w: &mut W) -> Result<(), DeviceFault>
-    ensures { Wrote result (W.written w.old) (W.written w.new) (W.faults w.old) (W.faults w.new) (108 ∷ (items_spelling (items_view items.now.items) ++ 101 ∷ [])) }
+    ensures { Wrote W.written W.faults W.flushes w.old w.new result (108 ∷ (items_spelling (items_view items.now.items) ++ 101 ∷ [])) }
 {
     write_text(b"l", w)?;
     'items: for item in items {
@@ -46,7 +48,7 @@ fn write_list<W: Sink>(items: &Vec<Value<'_>>, w: &mut W) -> Result<(), DeviceFa
 
 #[cycle(write)]
 fn write_dict<W: Sink>(pairs: &Vec<Pair<'_>>, w: &mut W) -> Result<(), DeviceFault>
-    ensures { Wrote result (W.written w.old) (W.written w.new) (W.faults w.old) (W.faults w.new) (100 ∷ (pairs_spelling (pairs_view pairs.now.items) ++ 101 ∷ [])) }
+    ensures { Wrote W.written W.faults W.flushes w.old w.new result (100 ∷ (pairs_spelling (pairs_view pairs.now.items) ++ 101 ∷ [])) }
 {
     write_text(b"d", w)?;
     'pairs: for pair in pairs {
@@ -57,14 +59,14 @@ fn write_dict<W: Sink>(pairs: &Vec<Pair<'_>>, w: &mut W) -> Result<(), DeviceFau
 }
 
 fn write_string<W: Sink>(text: &[u8], w: &mut W) -> Result<(), DeviceFault>
-    ensures { Wrote result (W.written w.old) (W.written w.new) (W.faults w.old) (W.faults w.new) (string text.now) }
+    ensures { Wrote W.written W.faults W.flushes w.old w.new result (string text.now) }
 {
     write_text(Numeral::of_length(text.len()).as_slice(), w)?;
     write_text(text, w)
 }
 
 fn write_text<W: Sink>(text: &[u8], w: &mut W) -> Result<(), DeviceFault>
-    ensures { Wrote result (W.written w.old) (W.written w.new) (W.faults w.old) (W.faults w.new) text.now }
+    ensures { Wrote W.written W.faults W.flushes w.old w.new result text.now }
 {
     write_all(w, text)
 }

@@ -127,6 +127,7 @@ pub struct MemSink {
     bytes: Vec<u8>,
     at_most: usize,
     calls: Calls,
+    flushes: u64,
     flushed: bool,
     ghost some: { 0 < at_most },
 }
@@ -136,11 +137,13 @@ impl MemSink {
     pub fn with_room(alloc: Global, room: usize) -> Result<MemSink, AllocError>
         ensures written { IfOk result (λ s. ⟦<MemSink as Sink>⟧.written s ≡ Some []) }
         ensures faults { IfOk result (λ s. ⟦<MemSink as Sink>⟧.faults s ≡ 0) }
+        ensures flushes { IfOk result (λ s. ⟦<MemSink as Sink>⟧.flushes s ≡ 0) }
     {
         Ok(MemSink {
             bytes: Vec::with_capacity(alloc, room)?,
             at_most: usize::MAX,
             calls: Calls::that_succeed(),
+            flushes: 0,
             flushed: true,
         })
     }
@@ -150,6 +153,7 @@ impl MemSink {
         requires { 0 < count }
         ensures written { ⟦<MemSink as Sink>⟧.written result ≡ ⟦<MemSink as Sink>⟧.written self }
         ensures faults { ⟦<MemSink as Sink>⟧.faults result ≡ ⟦<MemSink as Sink>⟧.faults self }
+        ensures flushes { ⟦<MemSink as Sink>⟧.flushes result ≡ ⟦<MemSink as Sink>⟧.flushes self }
     {
         self.at_most = count;
         self
@@ -160,6 +164,7 @@ impl MemSink {
     pub fn fails_after(mut self, calls: u64) -> MemSink
         ensures written { ⟦<MemSink as Sink>⟧.written result ≡ ⟦<MemSink as Sink>⟧.written self }
         ensures faults { ⟦<MemSink as Sink>⟧.faults result ≡ ⟦<MemSink as Sink>⟧.faults self }
+        ensures flushes { ⟦<MemSink as Sink>⟧.flushes result ≡ ⟦<MemSink as Sink>⟧.flushes self }
     {
         self.calls.before_fault = Some(calls);
         self
@@ -170,6 +175,13 @@ impl MemSink {
         ensures { ⟦<MemSink as Sink>⟧.written self.now ≡ Some result.now }
     {
         &self.bytes
+    }
+
+    /// How often `flush` was called, modulo 2^64.
+    pub fn flushes(&self) -> u64
+        ensures { result ≡ ⟦<MemSink as Sink>⟧.flushes self.now }
+    {
+        self.flushes
     }
 
     /// Nothing was written after the last flush.
@@ -184,6 +196,8 @@ impl Sink for MemSink {
     ghost written = { λ s. Some s.bytes.items };
 
     ghost faults = { λ s. s.calls.faults };
+
+    ghost flushes = { λ s. s.flushes };
 
     ghost is_flushed = { λ s. s.flushed };
 
@@ -202,6 +216,7 @@ impl Sink for MemSink {
     }
 
     fn flush(&mut self) -> Result<(), DeviceFault> {
+        self.flushes = self.flushes.wrapping_add(1);
         self.calls.next()?;
         self.flushed = true;
         Ok(())

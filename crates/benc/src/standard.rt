@@ -70,19 +70,27 @@ impl<R: Read> Source for FromRead<R> {
 pub struct FromWrite<W: Write> {
     writer: W,
     faults: u64,
+    // Contracts alone read it.
+    flushes: u64,
 }
 
 impl<W: Write> FromWrite<W> {
     pub fn new(writer: W) -> FromWrite<W>
         ensures written { ⟦<FromWrite<W> as Sink>⟧.written result ≡ W.contents writer }
         ensures faults { ⟦<FromWrite<W> as Sink>⟧.faults result ≡ 0 }
+        ensures flushes { ⟦<FromWrite<W> as Sink>⟧.flushes result ≡ 0 }
     {
-        FromWrite { writer, faults: 0 }
+        FromWrite {
+            writer,
+            faults: 0,
+            flushes: 0,
+        }
     }
 
     fn fault(&mut self) -> DeviceFault
         ensures counts { self.new.faults ≡ (self.old.faults + 1) % 2 ^ 64 }
         ensures writer { self.new.writer ≡ self.old.writer }
+        ensures flushes { self.new.flushes ≡ self.old.flushes }
     {
         self.faults = self.faults.wrapping_add(1);
         DeviceFault
@@ -92,10 +100,12 @@ impl<W: Write> FromWrite<W> {
 impl<W: Write> Sink for FromWrite<W> {
     ghost written = { λ s. W.contents s.writer };
 
+    ghost faults = { λ s. s.faults };
+
+    ghost flushes = { λ s. s.flushes };
+
     // std says nothing of what a flush does.
     ghost is_flushed = { λ _. true };
-
-    ghost faults = { λ s. s.faults };
 
     fn write(&mut self, buf: &[u8]) -> Result<usize, DeviceFault> {
         match self.writer.write(buf) {
@@ -106,6 +116,7 @@ impl<W: Write> Sink for FromWrite<W> {
     }
 
     fn flush(&mut self) -> Result<(), DeviceFault> {
+        self.flushes = self.flushes.wrapping_add(1);
         match self.writer.flush() {
             Ok(()) => Ok(()),
             Err(_) => Err(self.fault()),

@@ -5,6 +5,7 @@ mod command;
 mod fault;
 mod folder;
 mod perform;
+mod torrent_file;
 mod words;
 
 use fault::Fault;

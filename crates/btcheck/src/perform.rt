@@ -4,14 +4,13 @@ ghost use Rattle.std.specs.Prelude.{◌≡◌, if◌then◌else◌};
 use crate::command::Action;
 use crate::fault::Fault;
 use crate::folder::Folder;
+use crate::torrent_file::{read_torrent, refuse};
 use benc::{FromRead, FromWrite, Sink};
-use checker::{RootFault, print_report, refusal_line, root_line};
-use metainfo::{Refusal, Torrent};
+use checker::{RootFault, print_report, root_line};
+use metainfo::Torrent;
+use session::{Flat, Session};
 use std::fs::File;
-use std::io::{self, BufWriter, Read};
-
-// One byte more than a torrent may have: a longer one is refused by its length, whatever follows.
-const TORRENT_ROOM: u64 = 67108865;
+use std::io::{self, BufWriter};
 
 // The exit status of an answer: 0 for yes or done, 1 for no or a refusal.
 fn status(yes: bool) -> u8
@@ -26,6 +25,11 @@ pub(crate) fn perform<'a>(rt: &HostRuntime, action: &Action<'a>) -> Result<u8, F
         Action::Root { file } => root(rt, file),
         Action::Show { torrent } => show(rt, torrent),
         Action::Check { torrent, dir } => check(rt, torrent, dir),
+        Action::Replay {
+            torrent,
+            record,
+            info_only,
+        } => replay(rt, torrent, record, *info_only),
     }
 }
 
@@ -81,27 +85,35 @@ fn check_folder<'a, W: Sink>(
     }
 }
 
-// Prints why a torrent was refused, and tells the exit status.
-fn refuse<'a, W: Sink>(refusal: &Refusal, out: &mut W) -> Result<u8, Fault<'a>> {
-    match refusal {
-        Refusal::NoMemory => Err(Fault::NoMemory),
-        Refusal::Write => Err(Fault::Write("-")),
-        _ => match refusal_line(refusal, &[], out) {
-            Ok(()) => Ok(status(false)),
-            Err(_) => Err(Fault::Write("-")),
-        },
+// The torrent is read and its refusal is told before the record is opened.
+fn replay<'a>(
+    rt: &HostRuntime,
+    torrent: &'a str,
+    record: &'a str,
+    info_only: bool,
+) -> Result<u8, Fault<'a>> {
+    let bytes = read_torrent(rt, torrent)?;
+    match Torrent::open(rt.alloc(), bytes.as_slice()) {
+        Ok(torrent) => replay_record(rt, &torrent, record, info_only),
+        Err(refusal) => refuse(&refusal, &mut FromWrite::new(io::writer(rt))),
     }
 }
 
-// The bytes of a torrent file, or the first of them where they are too many.
-fn read_torrent<'a>(rt: &HostRuntime, path: &'a str) -> Result<Vec<u8>, Fault<'a>> {
+// Replays a record over a session of an opened torrent. Each line goes out as its frame comes.
+fn replay_record<'a>(
+    rt: &HostRuntime,
+    torrent: &Torrent<'_>,
+    path: &'a str,
+    info_only: bool,
+) -> Result<u8, Fault<'a>> {
     let Ok(file) = File::open(rt, path) else {
         return Err(Fault::Read(path));
     };
-    let mut bytes = Vec::new(rt.alloc());
-    match file.take(TORRENT_ROOM).read_to_end(&mut bytes) {
-        Ok(_) => Ok(bytes),
-        Err(error) if error.kind() == io::ErrorKind::OutOfMemory => Err(Fault::NoMemory),
-        Err(_) => Err(Fault::Read(path)),
+    let mut session: Session<'_, Flat> = Session::new(rt.alloc(), torrent, !info_only)?;
+    let mut record = FromRead::new(file);
+    let mut report = FromWrite::new(io::writer(rt));
+    match checker::replay(rt.alloc(), &mut session, &mut record, &mut report) {
+        Ok(outcome) => Ok(outcome.status()),
+        Err(_) => Err(Fault::Write("-")),
     }
 }

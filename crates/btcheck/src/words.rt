@@ -49,6 +49,24 @@ fn check_command<'a>(alloc: Global) -> Result<Command<'a>, Error> {
     Ok(command)
 }
 
+fn replay_command<'a>(alloc: Global) -> Result<Command<'a>, Error> {
+    let command = Command::new(alloc, "replay")
+        .about("Replays the recorded messages of peers, and prints a verdict on each")
+        .after_help(
+            "A record is the frames that came in, one after the other, without a handshake. \
+             Prints a line for each frame as it comes, and at last `end` or how the record failed.",
+        )
+        .arg(required(alloc, "TORRENT", "The torrent file"))?
+        .arg(required(alloc, "RECORD", "The record, a file or a pipe"))?
+        .arg(
+            Arg::new(alloc, "info-only")
+                .long("info-only")
+                .action(ArgAction::SetTrue)
+                .help("Start from the roots alone, without the torrent's piece layers"),
+        )?;
+    Ok(command)
+}
+
 // The program's command, with its subcommands.
 fn command<'a>(alloc: Global) -> Result<Command<'a>, Error> {
     let command = Command::new(alloc, "btcheck")
@@ -56,14 +74,27 @@ fn command<'a>(alloc: Global) -> Result<Command<'a>, Error> {
         .after_help(STATUSES)
         .subcommand(root_command(alloc)?)?
         .subcommand(show_command(alloc)?)?
-        .subcommand(check_command(alloc)?)?;
+        .subcommand(check_command(alloc)?)?
+        .subcommand(replay_command(alloc)?)?;
     Ok(command.subcommand_required(true))
 }
 
-fn check_action<'a>(found: &ArgMatches<'a>) -> Option<Action<'a>> {
+// What the words after `check` ask for.
+fn check_of<'a>(found: &ArgMatches<'a>) -> Option<Action<'a>> {
     let torrent = found.get_str("TORRENT")?;
     let dir = found.get_str("DIR")?;
     Some(Action::Check { torrent, dir })
+}
+
+// What the words after `replay` ask for.
+fn replay_of<'a>(found: &ArgMatches<'a>) -> Option<Action<'a>> {
+    let torrent = found.get_str("TORRENT")?;
+    let record = found.get_str("RECORD")?;
+    Some(Action::Replay {
+        torrent,
+        record,
+        info_only: found.get_flag("info-only"),
+    })
 }
 
 /// Reads the words of the command line, the program's name first.
@@ -74,7 +105,8 @@ pub(crate) fn action<'a>(alloc: Global, words: &'a [&'a str]) -> Result<Action<'
         Some(("show", found)) => found
             .get_str("TORRENT")
             .map(|torrent| Action::Show { torrent }),
-        Some(("check", found)) => check_action(found),
+        Some(("check", found)) => check_of(found),
+        Some(("replay", found)) => replay_of(found),
         _ => None,
     };
     match found {

@@ -16,5 +16,4 @@ pub mod ReplayLines
 pub mod Outcome
 pub mod SafeStep
 pub mod Replay
-pub mod Bare
 pub mod Printed

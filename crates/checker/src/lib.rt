@@ -25,7 +25,7 @@ pub use listing::show;
 pub use mem_shelf::{MemFile, MemShelf};
 pub use outcome::Outcome;
 pub use printing::print_report;
-pub use record::{Stepper, replay};
+pub use record::replay;
 pub use refused::refusal_line;
 pub use report::{FileVerdict, Report, V1Verdict};
 pub use root::{RootFault, root_line};

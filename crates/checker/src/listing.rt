@@ -1,6 +1,6 @@
 //! What a torrent holds, line by line.
 ghost use Rattle.std.specs.Prelude.{◌≡◌, ◌+◌, ◌++◌, ◌≤◌, length, map, OnOk, true};
-ghost use Rattle.benc.specs.Device.{Wrote};
+ghost use Rattle.benc.specs.Device.{Wrote, WroteAndFlushed};
 ghost use Rattle.metainfo.specs.Seen.{file_entry, tree_entry};
 ghost use Rattle.checker.specs.Show.{file_head, file_text, files_text, header_text, hybrid_text, name_text, show_text};
 
@@ -12,7 +12,7 @@ use metainfo::{File, Torrent, TreeInfo};
 /// Writes what a torrent holds, and flushes: its name, piece length and info-hashes, how many files it has, and for
 /// each file its length, root and path. It takes no memory. After `WriteFault` a beginning of these lines went out.
 pub fn show<W: Sink>(t: &Torrent<'_>, out: &mut W) -> Result<(), WriteFault>
-    ensures text { Wrote result (W.written out.old) (W.written out.new) (W.faults out.old) (W.faults out.new) (show_text t.now) }
+    ensures text { WroteAndFlushed W.written W.faults W.flushes out.old out.new result (show_text t.now) }
     ensures flushed { OnOk result (W.is_flushed out.new ≡ true) }
 {
     let written = write_torrent(t, out);
@@ -20,7 +20,7 @@ pub fn show<W: Sink>(t: &Torrent<'_>, out: &mut W) -> Result<(), WriteFault>
 }
 
 fn write_torrent<W: Sink>(t: &Torrent<'_>, out: &mut W) -> Result<(), DeviceFault>
-    ensures { Wrote result (W.written out.old) (W.written out.new) (W.faults out.old) (W.faults out.new) (show_text t.now) }
+    ensures { Wrote W.written W.faults W.flushes out.old out.new result (show_text t.now) }
 {
     write_name(t.name(), out)?;
     write_text(out, header(t).as_slice())?;
@@ -28,7 +28,7 @@ fn write_torrent<W: Sink>(t: &Torrent<'_>, out: &mut W) -> Result<(), DeviceFaul
 }
 
 fn write_name<W: Sink>(name: &str, out: &mut W) -> Result<(), DeviceFault>
-    ensures { Wrote result (W.written out.old) (W.written out.new) (W.faults out.old) (W.faults out.new) (name_text name.now) }
+    ensures { Wrote W.written W.faults W.flushes out.old out.new result (name_text name.now) }
 {
     write_text(out, b"name: ")?;
     write_escaped(out, name.as_bytes())?;
@@ -70,7 +70,7 @@ fn write_files<W: Sink>(
     trees: &[TreeInfo<'_>],
     out: &mut W,
 ) -> Result<(), DeviceFault>
-    ensures { Wrote result (W.written out.old) (W.written out.new) (W.faults out.old) (W.faults out.new)
+    ensures { Wrote W.written W.faults W.flushes out.old out.new result
         (files_text (map tree_entry trees.now) (map file_entry files.now)) }
 {
     'files: for file in files {
@@ -84,7 +84,7 @@ fn write_file<W: Sink>(
     trees: &[TreeInfo<'_>],
     out: &mut W,
 ) -> Result<(), DeviceFault>
-    ensures { Wrote result (W.written out.old) (W.written out.new) (W.faults out.old) (W.faults out.new)
+    ensures { Wrote W.written W.faults W.flushes out.old out.new result
         (file_text (map tree_entry trees.now) (file_entry file.now)) }
 {
     write_text(

@@ -1,6 +1,6 @@
 //! The lines of a report.
 ghost use Rattle.std.specs.Prelude.{◌≡◌, length, map, is_some, OnOk, true};
-ghost use Rattle.benc.specs.Device.{Wrote};
+ghost use Rattle.benc.specs.Device.{Wrote, WroteAndFlushed};
 ghost use Rattle.metainfo.specs.Seen.{file_entry};
 ghost use Rattle.checker.specs.Printed.{answer_text, report_text, stream_text, verdict_text, verdict_words, verdicts_text};
 
@@ -20,7 +20,7 @@ pub fn print_report<W: Sink>(
 ) -> Result<(), WriteFault>
     requires files { length report.now.files.items ≡ length torrent.now.files }
     requires hybrid { is_some report.now.v1 ≡ is_some torrent.now.v1 }
-    ensures text { Wrote result (W.written out.old) (W.written out.new) (W.faults out.old) (W.faults out.new)
+    ensures text { WroteAndFlushed W.written W.faults W.flushes out.old out.new result
         (report_text torrent.now.files report.now.files.items report.now.v1) }
     ensures flushed { OnOk result (W.is_flushed out.new ≡ true) }
 {
@@ -34,7 +34,7 @@ fn write_report<W: Sink>(
     out: &mut W,
 ) -> Result<(), DeviceFault>
     requires { length report.now.files.items ≡ length files.now }
-    ensures { Wrote result (W.written out.old) (W.written out.new) (W.faults out.old) (W.faults out.new)
+    ensures { Wrote W.written W.faults W.flushes out.old out.new result
         (report_text (map file_entry files.now) report.now.files.items report.now.v1) }
 {
     write_verdicts(&report.files, files, out)?;
@@ -48,7 +48,7 @@ fn write_verdicts<W: Sink>(
     out: &mut W,
 ) -> Result<(), DeviceFault>
     requires { length verdicts.now ≡ length files.now }
-    ensures { Wrote result (W.written out.old) (W.written out.new) (W.faults out.old) (W.faults out.new)
+    ensures { Wrote W.written W.faults W.flushes out.old out.new result
         (verdicts_text verdicts.now (map file_entry files.now)) }
 {
     'files: for i in 0..files.len() {
@@ -62,7 +62,7 @@ fn write_verdict<W: Sink>(
     file: &File<'_>,
     out: &mut W,
 ) -> Result<(), DeviceFault>
-    ensures { Wrote result (W.written out.old) (W.written out.new) (W.faults out.old) (W.faults out.new)
+    ensures { Wrote W.written W.faults W.flushes out.old out.new result
         (verdict_text verdict (file_entry file.now)) }
 {
     write_text(out, words(verdict).as_slice())?;

@@ -1,6 +1,6 @@
 //! The line of a refusal.
 ghost use Rattle.std.specs.Prelude.{◌≡◌, ◌≢◌, ◌+◌, ◌++◌, ◌∷◌, ◌≤◌, length, map, OnOk, string_bytes, true};
-ghost use Rattle.benc.specs.Device.{Wrote};
+ghost use Rattle.benc.specs.Device.{Wrote, WroteAndFlushed};
 ghost use Rattle.metainfo.specs.Names.{refusal_number};
 ghost use Rattle.checker.specs.Refused.{detail_text, kind_name, path_part, refusal_head, refusal_text};
 
@@ -16,7 +16,7 @@ use metainfo::Refusal;
 pub fn refusal_line<W: Sink>(r: &Refusal, path: &[String], out: &mut W) -> Result<(), WriteFault>
     requires memory { refusal_number r.now ≢ 21 }
     requires sink { refusal_number r.now ≢ 23 }
-    ensures text { Wrote result (W.written out.old) (W.written out.new) (W.faults out.old) (W.faults out.new)
+    ensures text { WroteAndFlushed W.written W.faults W.flushes out.old out.new result
         (refusal_text r.now (map string_bytes path.now)) }
     ensures flushed { OnOk result (W.is_flushed out.new ≡ true) }
 {
@@ -25,7 +25,7 @@ pub fn refusal_line<W: Sink>(r: &Refusal, path: &[String], out: &mut W) -> Resul
 }
 
 fn write_refusal<W: Sink>(r: &Refusal, path: &[String], out: &mut W) -> Result<(), DeviceFault>
-    ensures { Wrote result (W.written out.old) (W.written out.new) (W.faults out.old) (W.faults out.new)
+    ensures { Wrote W.written W.faults W.flushes out.old out.new result
         (refusal_text r.now (map string_bytes path.now)) }
 {
     write_text(out, told(r).as_slice())?;
@@ -35,7 +35,7 @@ fn write_refusal<W: Sink>(r: &Refusal, path: &[String], out: &mut W) -> Result<(
 
 // Writes the path behind a space, where there is one.
 fn write_path_part<W: Sink>(path: &[String], out: &mut W) -> Result<(), DeviceFault>
-    ensures { Wrote result (W.written out.old) (W.written out.new) (W.faults out.old) (W.faults out.new)
+    ensures { Wrote W.written W.faults W.flushes out.old out.new result
         (path_part (map string_bytes path.now)) }
 {
     if path.is_empty() {

@@ -2,7 +2,7 @@
 ghost use Rattle.std.specs.Prelude.{◌≡◌, ◌↔◌, ℕ, ◌+◌, ◌^◌, ◌≤◌, List, length, Some, Err, IfOk, OnErr, OnOk, IsTrue, true};
 ghost use Rattle.std.specs.Io.KnownBytes.{Appends, Keeps};
 ghost use Rattle.hashtree.specs.Climb.{IsFed, byte_count};
-ghost use Rattle.benc.specs.Device.{AppendsBeginning, CountsFault, one_more};
+ghost use Rattle.benc.specs.Device.{AppendsBeginning, CountsFault, FlushedLast, FlushesOnce, one_more};
 ghost use Rattle.checker.specs.Reading.{IsReadingOf};
 ghost use Rattle.checker.specs.Root.{root_line_of};
 
@@ -31,29 +31,32 @@ enum Reading {
 }
 
 /// Reads a file's content from the source, writes the line that tells its length in bytes and its pieces root
-/// (BEP 52), and flushes. It takes no memory.
+/// (BEP 52), and flushes once. It takes no memory.
 ///
 /// The line is `LENGTH ROOT`, the root in hexadecimal, or `0 -` for an empty file, and the answer is true. Above
 /// 2^46 bytes it is `refused 10 Length`, the answer is false, and no byte after number 2^46 + 1 was read.
 ///
 /// The first fault of a device ends it: `Read` where the source failed, and then nothing was written or flushed,
-/// and `Write` where the sink failed, and then a beginning of the line went out.
+/// and `Write` where the sink failed, and then a beginning of the line went out. No flush comes before all of it did.
 pub fn root_line<R: Source, W: Sink>(source: &mut R, out: &mut W) -> Result<bool, RootFault>
     ensures line { (file : List ℕ) → R.left source.old ≡ Some file → OnOk result
         (Appends (W.written out.old) (W.written out.new) (root_line_of file)) }
     ensures within { (file : List ℕ) → R.left source.old ≡ Some file → IfOk result
         (λ within. IsTrue within ↔ (length file ≤ 2 ^ 46)) }
     ensures flushed { OnOk result (W.is_flushed out.new ≡ true) }
+    ensures flushes { FlushesOnce (W.flushes out.old) (W.flushes out.new) result }
     ensures no_further { R.limit source.old ≤ R.limit source.new + (2 ^ 46 + 1) }
 
     // A fault is answered where that device had one, and no other.
     ensures no_fault { OnOk result ((R.faults source.new ≡ R.faults source.old) × (W.faults out.new ≡ W.faults out.old)) }
     ensures read { result ≡ Err RootFault.Read → (R.faults source.new ≡ one_more (R.faults source.old))
-        × (W.faults out.new ≡ W.faults out.old) × Keeps (W.written out.old) (W.written out.new) }
+        × (W.faults out.new ≡ W.faults out.old) × Keeps (W.written out.old) (W.written out.new)
+        × (W.flushes out.new ≡ W.flushes out.old) }
     ensures write { result ≡ Err RootFault.Write → (R.faults source.new ≡ R.faults source.old)
         × (W.faults out.new ≡ one_more (W.faults out.old)) }
     ensures beginning { (file : List ℕ) → R.left source.old ≡ Some file → result ≡ Err RootFault.Write
-        → AppendsBeginning (W.written out.old) (W.written out.new) (root_line_of file) }
+        → AppendsBeginning (W.written out.old) (W.written out.new) (root_line_of file)
+        × FlushedLast W.written W.flushes out.old out.new (root_line_of file) }
 {
     let Ok(reading) = read_content(source) else {
         return Err(RootFault::Read);
@@ -65,10 +68,12 @@ pub fn root_line<R: Source, W: Sink>(source: &mut R, out: &mut W) -> Result<bool
     }
 }
 
-// Writes these bytes and flushes.
+// Writes these bytes and flushes once. After a fault a beginning of them went out.
 pub fn write_line<W: Sink>(out: &mut W, bytes: &[u8]) -> Result<(), DeviceFault>
     ensures ok { OnOk result (Appends (W.written out.old) (W.written out.new) bytes.now) }
     ensures flushed { OnOk result (W.is_flushed out.new ≡ true) }
+    ensures flushes { FlushesOnce (W.flushes out.old) (W.flushes out.new) result }
+    ensures last { OnErr result (FlushedLast W.written W.flushes out.old out.new bytes.now) }
     ensures err { OnErr result (AppendsBeginning (W.written out.old) (W.written out.new) bytes.now) }
     ensures counts { CountsFault (W.faults out.old) (W.faults out.new) result }
 {

@@ -37,7 +37,7 @@ fn lines_of_worked_files(rt: HostRuntime) -> Result<(), AllocError> {
         let answer = root_line(&mut MemSource::new(content).at_most(5), &mut out);
         assert!(rt; matches!(answer, Ok(true)));
         assert_eq!(rt; out.written(), line.as_bytes());
-        assert!(rt; out.is_flushed());
+        assert!(rt; out.is_flushed() && out.flushes() == 1);
     }
     Ok(())
 }
@@ -50,7 +50,10 @@ fn devices_fail_at_each_call(rt: HostRuntime) -> Result<(), AllocError> {
         let mut out = MemSink::with_room(rt.alloc(), 200)?;
         let answer = root_line(&mut source, &mut out);
         assert!(rt; matches!(answer, Err(RootFault::Read)));
-        assert_eq!(rt; (source.failures(), out.failures()), (1, 0));
+        assert_eq!(rt;
+            (source.failures(), out.failures(), out.flushes()),
+            (1, 0, 0)
+        );
         assert!(rt; out.written().is_empty());
     }
     for calls in 0..8u64 {
@@ -59,7 +62,7 @@ fn devices_fail_at_each_call(rt: HostRuntime) -> Result<(), AllocError> {
             .fails_after(calls);
         let answer = root_line(&mut MemSource::new(b"abc"), &mut out);
         assert!(rt; matches!(answer, Err(RootFault::Write)));
-        assert_eq!(rt; out.failures(), 1);
+        assert_eq!(rt; (out.failures(), out.flushes()), (1, u64::from(calls == 7)));
         assert_eq!(rt; out.written(), &line[..line.len().min(10 * calls as usize)]);
     }
     Ok(())
@@ -81,7 +84,7 @@ fn is_line(
     }
     let mut out = MemSink::with_room(rt.alloc(), 200)?;
     let answer = refusal_line(&refusal, &parts, &mut out);
-    Ok(answer.is_ok() && out.written() == line.as_bytes() && out.is_flushed())
+    Ok(answer.is_ok() && out.written() == line.as_bytes() && out.is_flushed() && out.flushes() == 1)
 }
 
 #[test]

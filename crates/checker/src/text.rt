@@ -1,6 +1,6 @@
 //! Names and paths as they are printed, and how a text goes out.
 ghost use Rattle.std.specs.Prelude.{◌≡◌, ℕ, List, length, map, Option, OnOk, true};
-ghost use Rattle.benc.specs.Device.{Wrote};
+ghost use Rattle.benc.specs.Device.{Wrote, WroteAndFlushed};
 ghost use Rattle.checker.specs.Text.{escape_of, escaped, is_special, path_text};
 
 use benc::{DeviceFault, Sink, WriteFault, write_all};
@@ -8,7 +8,7 @@ use std::convert::AsStr;
 
 /// Writes a text as it is.
 pub fn write_text<W: Sink>(out: &mut W, text: &[u8]) -> Result<(), DeviceFault>
-    ensures { Wrote result (W.written out.old) (W.written out.new) (W.faults out.old) (W.faults out.new) text.now }
+    ensures { Wrote W.written W.faults W.flushes out.old out.new result text.now }
 {
     write_all(out, text)
 }
@@ -33,7 +33,7 @@ fn escape(byte: u8) -> [u8; 4]
 /// Writes a text as it is printed: the bytes below 0x20, 0x7F and the backslash as `\x` and two hexadecimal digits,
 /// and between these all bytes as they are.
 pub fn write_escaped<W: Sink>(out: &mut W, text: &[u8]) -> Result<(), DeviceFault>
-    ensures { Wrote result (W.written out.old) (W.written out.new) (W.faults out.old) (W.faults out.new) (escaped text.now) }
+    ensures { Wrote W.written W.faults W.flushes out.old out.new result (escaped text.now) }
 {
     let mut start = 0;
     'bytes: for i in 0..text.len() {
@@ -48,7 +48,7 @@ pub fn write_escaped<W: Sink>(out: &mut W, text: &[u8]) -> Result<(), DeviceFaul
 
 /// Writes a path as it is printed: its components, joined by `/`.
 pub fn write_path<W: Sink, S: AsStr>(out: &mut W, path: &[S]) -> Result<(), DeviceFault>
-    ensures { Wrote result (W.written out.old) (W.written out.new) (W.faults out.old) (W.faults out.new) (path_text (map S.text path.now)) }
+    ensures { Wrote W.written W.faults W.flushes out.old out.new result (path_text (map S.text path.now)) }
 {
     let Some((first, others)) = path.split_first() else {
         return Ok(());
@@ -61,10 +61,10 @@ pub fn write_path<W: Sink, S: AsStr>(out: &mut W, path: &[S]) -> Result<(), Devi
     Ok(())
 }
 
-/// Flushes where all was written.
+/// Flushes once where all was written, and not after a fault.
 pub fn flush_after<W: Sink>(out: &mut W, written: Result<(), DeviceFault>) -> Result<(), WriteFault>
-    ensures wrote { (start : Option (List ℕ)) (count : ℕ) (text : List ℕ) → Wrote written start (W.written out.old) count (W.faults out.old) text
-        → Wrote result start (W.written out.new) count (W.faults out.new) text }
+    ensures wrote { (start : W) (text : List ℕ) → Wrote W.written W.faults W.flushes start out.old written text
+        → WroteAndFlushed W.written W.faults W.flushes start out.new result text }
     ensures flushed { OnOk result (W.is_flushed out.new ≡ true) }
 {
     written?;

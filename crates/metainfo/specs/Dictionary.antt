@@ -1,19 +1,7 @@
 -- Looking into bencoded values (BEP 3, "bencoding").
-use Rattle.std.specs.Prelude.{ℕ, ℤ, List, Option, Some, None, if◌then◌else◌}
-use Rattle.std.specs.Str.{bytes_eq}
-use Rattle.benc.specs.Value.{Bencode, int, text, list, dict, Items, Pairs, no_pairs, pair}
-
--- the value under a key; a value that has a spelling has no key twice
-abbrev pub under : List ℕ → Pairs → Option Bencode
-under key no_pairs = None
-under key (pair k v ps) = if bytes_eq k key then Some v else under key ps
-
--- the value under a key of a dictionary; no other value has keys
-abbrev pub get : List ℕ → Bencode → Option Bencode
-get key (int z) = None
-get key (text s) = None
-get key (list vs) = None
-get key (dict ps) = under key ps
+use Rattle.std.specs.Prelude.{ℕ, ℤ, List, Option, Some, None}
+use Rattle.benc.specs.Value.{Bencode, int, text, list, dict, Items, Pairs, no_pairs}
+pub use Rattle.benc.specs.Lookup.{get, under}
 
 abbrev pub as_int : Bencode → Option ℤ
 as_int (int z) = Some z

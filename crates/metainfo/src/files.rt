@@ -9,7 +9,6 @@ ghost use Rattle.metainfo.specs.Steps.{Passes};
 ghost use Rattle.metainfo.specs.Rooted.{leaf};
 ghost use Rattle.metainfo.specs.Walked.{found};
 
-use crate::info::get;
 use crate::path::Path;
 use crate::refusal::Refusal;
 use crate::tree::Found;
@@ -31,7 +30,7 @@ pub(crate) struct Leaf<'a> {
 pub(crate) fn has_attribute(file: &Value<'_>, letter: u8) -> bool
     ensures { result ≡ has_attribute letter (view file.now) }
 {
-    match get(file, b"attr") {
+    match file.get(b"attr") {
         Some(Value::Bytes(letters)) => letters.contains(&letter),
         _ => false,
     }
@@ -41,7 +40,7 @@ pub(crate) fn has_attribute(file: &Value<'_>, letter: u8) -> bool
 pub(crate) fn length(file: &Value<'_>) -> Option<u64>
     ensures { result ≡ length_at (view file.now) }
 {
-    match get(file, b"length") {
+    match file.get(b"length") {
         Some(Value::Int(number)) if *number >= 0 && *number <= MAX_LENGTH => Some(*number as u64),
         _ => None,
     }
@@ -51,7 +50,7 @@ pub(crate) fn length(file: &Value<'_>) -> Option<u64>
 fn root(file: &Value<'_>) -> Option<Hash>
     ensures { result ≡ root_at (view file.now) }
 {
-    match get(file, b"pieces root") {
+    match file.get(b"pieces root") {
         Some(Value::Bytes(bytes)) => Hash::try_from(*bytes).ok(),
         _ => None,
     }

@@ -5,7 +5,7 @@ ghost use Rattle.std.specs.Str.{IsUtf8};
 ghost use Rattle.std.specs.Int.{w64};
 ghost use Rattle.benc.specs.View.{view, pairs_view};
 ghost use Rattle.benc.specs.Value.{Bencode, int};
-ghost use Rattle.metainfo.specs.Dictionary.{get, under, as_dict, as_int, as_text, value_at, pairs_in};
+ghost use Rattle.metainfo.specs.Dictionary.{get, as_dict, as_int, as_text, value_at, pairs_in};
 ghost use Rattle.metainfo.specs.Names.{key_text};
 ghost use Rattle.metainfo.specs.Opening.{AreKeys, key_rows, told_rows};
 ghost use Rattle.metainfo.specs.Refusals.{IsPieceLength, top_rows, version_rows, present_rows, kind_rows, layers_rows, piece_length_rows, info_in, layers_in, number_in, text_in};
@@ -14,28 +14,6 @@ ghost use Rattle.metainfo.specs.Steps.{Passes, ArePresent, AreOfKind, pairs_seen
 use crate::refusal::{Key, Refusal};
 use benc::{Pair, Value};
 use std::str;
-
-/// The value under a key of a dictionary.
-pub(crate) fn under<'v, 'a>(pairs: &'v [Pair<'a>], key: &[u8]) -> Option<&'v Value<'a>>
-    ensures { option_map (λ w. view w.now) result ≡ under key.now (pairs_view pairs.now) }
-{
-    'pairs: for pair in pairs {
-        if pair.key == key {
-            return Some(&pair.value);
-        }
-    }
-    None
-}
-
-/// The value under a key; only dictionaries have keys.
-pub(crate) fn get<'v, 'a>(v: &'v Value<'a>, key: &[u8]) -> Option<&'v Value<'a>>
-    ensures { option_map (λ w. view w.now) result ≡ get key.now (view v.now) }
-{
-    match v {
-        Value::Dict(pairs) => under(pairs, key),
-        _ => None,
-    }
-}
 
 /// The pairs of a dictionary.
 pub(crate) fn dictionary<'v, 'a>(v: &'v Value<'a>, key: Key) -> Result<&'v Vec<Pair<'a>>, Refusal>
@@ -73,7 +51,7 @@ fn text<'a>(v: &Value<'a>, key: Key) -> Result<&'a str, Refusal>
 fn required<'v, 'a>(v: &'v Value<'a>, key: Key) -> Result<&'v Value<'a>, Refusal>
     ensures { MatchResult result (λ w. get (key_text key) (view v.now) ≡ Some (view w.now)) (λ r. (get (key_text key) (view v.now) ≡ None) × (r ≡ Refusal.Missing key)) }
 {
-    match get(v, key.text().as_bytes()) {
+    match v.get(key.text().as_bytes()) {
         Some(value) => Ok(value),
         None => Err(Refusal::Missing(key)),
     }
@@ -151,7 +129,7 @@ fn all_of_kind<'v, 'a>(values: Present<'v, 'a>) -> Result<Told<'v, 'a>, Refusal>
 pub(crate) fn layers<'v, 'a>(top: &'v Value<'a>) -> Result<Option<&'v Vec<Pair<'a>>>, Refusal>
     ensures { Passes (layers_rows (view top.now)) (λ ps. pairs_seen ps ≡ layers_in (view top.now)) result }
 {
-    match get(top, Key::PieceLayers.text().as_bytes()) {
+    match top.get(Key::PieceLayers.text().as_bytes()) {
         Some(value) => match dictionary(value, Key::PieceLayers) {
             Ok(pairs) => Ok(Some(pairs)),
             Err(refusal) => Err(refusal),

@@ -9,6 +9,8 @@ mod open;
 mod path;
 mod place;
 mod refusal;
+#[cfg(test)]
+mod tests;
 mod torrent;
 mod tree;
 mod trees;

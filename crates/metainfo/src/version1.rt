@@ -14,7 +14,6 @@ ghost use Rattle.metainfo.specs.Stream.{IsVersion1, named};
 ghost use Rattle.metainfo.specs.Trees.{pieces_of};
 
 use crate::files::{has_attribute, length};
-use crate::info::get;
 use crate::refusal::Refusal;
 use crate::torrent::{File, V1};
 use benc::Value;
@@ -69,7 +68,7 @@ fn is_path(value: Option<&Value<'_>>, path: &[&str]) -> bool
 fn is_entry_of(entry: &Value<'_>, file: &File<'_>) -> bool
     ensures { result ≡ is_entry_of (view entry.now) (file_entry file.now) }
 {
-    length(entry) == Some(file.length) && is_path(get(entry, b"path"), file.path.parts())
+    length(entry) == Some(file.length) && is_path(entry.get(b"path"), file.path.parts())
 }
 
 /// Whether the entries are dictionaries with a length, and those that are no pads just these files in their order.
@@ -224,7 +223,7 @@ fn stream(
     requires bound { piece_length ≤ 2 ^ 30 }
     ensures { result ≡ stream_at piece_length (view info.now) name.now (map file_entry files.now) }
 {
-    match (get(info, b"length"), get(info, b"files")) {
+    match (info.get(b"length"), info.get(b"files")) {
         (Some(_), None) => one_file(info, name, files).ok_or(Refusal::HybridFiles),
         (None, Some(Value::List(entries))) => many_files(entries, files, piece_length),
         _ => Err(Refusal::HybridFiles),
@@ -262,7 +261,7 @@ pub(crate) fn version1<'a>(
         → sum_by (λ f. pieces_of piece_length f.size) (map named fs) * piece_length < 2 ^ 64
         → Passes (hybrid_rows piece_length (view info.now) name.now fs) (λ v. IsVersion1 piece_length (view info.now) name.now (option_map version1 v)) result }
 {
-    let Some(pieces) = get(info, b"pieces") else {
+    let Some(pieces) = info.get(b"pieces") else {
         return Ok(None);
     };
     let total = match stream(info, name, files, piece_length) {

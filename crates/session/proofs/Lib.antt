@@ -16,6 +16,7 @@ pub mod Runs
 pub mod Rounds
 pub mod Deciding
 pub mod Filling
+pub mod Over
 pub mod Cells
 pub mod Noting
 pub mod Given
@@ -27,4 +28,5 @@ pub mod Counting
 pub mod Layers
 pub mod Keeping
 pub mod Sessions
-pub mod Planting
+pub mod FirstTrees
+pub mod FirstLayers

@@ -23,7 +23,7 @@ use Rattle.session.specs.Partial.{IsKnown, IsClosed}
 use Rattle.session.specs.Claims.{claims, IsAccepted, TreeRefuses, CanAnswer}
 use Rattle.session.specs.Known.{Known, Marked, look, Joins}
 use Rattle.session.specs.Kept.{TreeState, State, KeptTree, info_of, IsGoodTree, IsMarked, TreeRefusesBlock}
-use Rattle.session.specs.Session.{Layout, IsTree, IsGood, IsStored, IsHashRefused, IsAnswered, IsPlaced, IsVerified, IsBlockRefused, IsTrueVerdict, Step, IsTrueRun}
+use Rattle.session.specs.Session.{Layout, IsTree, IsGood, HasDistinctRoots, IsStored, IsHashRefused, IsAnswered, IsPlaced, IsVerified, IsBlockRefused, IsTrueVerdict, Step, IsTrueRun}
 use Rattle.session.specs.Layouts.{root_of_entry, layout_of, tree_number, state_of, AreKept, IsFilled, IsFillRefused}
 use Rattle.session.specs.Fill.{fill_claims, IsFillAccepted, FillRefuses}
 use Rattle.session.proofs.Keeping.{same_info}
@@ -31,7 +31,7 @@ use Rattle.session.proofs.Keeping.{same_info}
 pub found_at : (ts : List KeptTree) (n : ℕ) (a : KeptTree) → n < length ts → a ≡ get_or ts n a → slice_get ts n ≡ Some a
 found_at ts n a inside e = slice_get-get_or ts n a inside ∙ ap Some (sym e)
 
-mapped : {A B : Type 0} (f : A → B) (o : Option A) (y : B) → option_map f o ≡ Some y → (x : A) × (o ≡ Some x) × (f x ≡ y)
+pub mapped : {A B : Type 0} (f : A → B) (o : Option A) (y : B) → option_map f o ≡ Some y → (x : A) × (o ≡ Some x) × (f x ≡ y)
 mapped f None y e = absurd (none-some y e)
 mapped f (Some x) y e = (x, refl, same_Some (f x) y e)
 
@@ -138,7 +138,7 @@ module _ (d : Description) (ts : List KeptTree) (kept : AreKept d ts) where
   asked_in n a ask e root can = (record { number = n; tree = info_of a; state = a.state; is_tree = tree_at d ts kept n a e; has_root = root }, can)
 
   module _ (sound : IsSound d) where
-    distinct : (n k : ℕ) (a b : TreeRoot) → slice_get (map root_of_entry d.trees) n ≡ Some a → slice_get (map root_of_entry d.trees) k ≡ Some b → a.root ≡ b.root → n ≡ k
+    pub distinct : HasDistinctRoots (layout_of d)
     distinct n k a b p q e =
         let x = mapped root_of_entry (slice_get d.trees n) a (sym (slice_get-map root_of_entry d.trees n) ∙ p) in
         let y = mapped root_of_entry (slice_get d.trees k) b (sym (slice_get-map root_of_entry d.trees k) ∙ q) in

@@ -2,16 +2,14 @@
 use Rattle.std.specs.Prelude.{◌≡◌, ℕ, List, map, set, slice_get, Option, Some, None, refl}
 use Rattle.std.specs.Coded.{Coded, code_by, coded×, coded_list, coded_option, coded_ℕ}
 use Rattle.std.specs.List.{All}
-use Rattle.std.specs.FinMap.{insert, empty}
-use Rattle.std.specs.FinSet as leaves
 use Rattle.metainfo.specs.Description.{Description, FileEntry, TreeEntry, Version1}
 use Rattle.metainfo.specs.Places.{place_of}
 use Rattle.session.specs.declared.refusal.HashRefusal.{HashRefusal}
 use Rattle.session.specs.Digest.{Hash}
-use Rattle.session.specs.TreeRoot.{TreeRoot, tree_height}
+use Rattle.session.specs.TreeRoot.{TreeRoot}
 use Rattle.session.specs.Fill.{fill_claims, IsFillAccepted, FillRefuses}
 use Rattle.session.specs.Known.{look, Joins}
-use Rattle.session.specs.Kept.{TreeState, State, KeptTree, info_of, state_code, root_alone, IsGoodTree}
+use Rattle.session.specs.Kept.{TreeState, State, KeptTree, info_of, state_code, IsGoodTree}
 use Rattle.session.specs.Session.{Layout, IsTree}
 
 -- a tree's root and the length of its files
@@ -61,11 +59,6 @@ pub record AreKept (d : Description) (trees : List KeptTree) : Type 0 where
   pub same : map info_of trees ≡ map root_of_entry d.trees
   pub good : All IsGoodTree trees
 
--- of each tree the root alone is known, and no leaf is marked
-pub record IsFresh (d : Description) (S : State) : Type 0 where
-  pub known : (n : ℕ) (tree : TreeRoot) (s : TreeState) → IsTree (layout_of d) S n tree s → s.known ≡ insert empty (tree_height tree.length, 0) tree.root
-  pub marked : (n : ℕ) (tree : TreeRoot) (s : TreeState) → IsTree (layout_of d) S n tree s → s.marked ≡ leaves.empty
-
 -- a whole layer is accepted, and what follows from it is joined to tree n, with c more places
 pub record IsFilled (t : Layout) (S : State) (n layer : ℕ) (hashes : List Hash) (c : ℕ) (S' : State) : Type 0 where
   pub tree : TreeRoot
@@ -83,9 +76,3 @@ pub record IsFillRefused (t : Layout) (S : State) (n layer : ℕ) (hashes : List
   pub before : TreeState
   pub is_tree : IsTree t S n tree before
   pub refuses : FillRefuses tree (look before.known) layer hashes r
-
--- a good tree of which the root alone is known, and no leaf is marked
-pub record IsPlanted (t : KeptTree) : Type 0 where
-  pub good : IsGoodTree t
-  pub known : t.state.known ≡ root_alone t
-  pub marked : t.state.marked ≡ leaves.empty

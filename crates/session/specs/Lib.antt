@@ -11,4 +11,5 @@ pub mod Evidence
 pub mod Kept
 pub mod Session
 pub mod Layouts
+pub mod Fresh
 pub mod Names

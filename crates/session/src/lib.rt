@@ -7,6 +7,7 @@ mod flat;
 mod found;
 pub mod laws;
 pub mod node_map;
+mod planting;
 mod refusal;
 mod session;
 mod storing;
@@ -17,3 +18,6 @@ pub use flat::Flat;
 pub use refusal::{BlockRefusal, HashRefusal};
 pub use session::Session;
 pub use verdict::Verdict;
+
+#[cfg(test)]
+mod tests;

@@ -3,16 +3,18 @@
 ghost use Rattle.std.specs.Prelude.{◌≡◌, ◌≢◌, ℕ, ◌^◌, ◌<◌, ◌≤◌, ◌↔◌, IfOk, IfErr, IfSome, IfNone, OnErr, IsTrue, List, length, slice_get, Some};
 ghost use Rattle.std.specs.FinMap as finite;
 ghost use Rattle.std.specs.FinSet as set;
-ghost use Rattle.session.specs.Kept.{KeptTree, TreeState, root_alone};
-ghost use Rattle.session.specs.Session.{IsGood, IsStored, IsHashRefused, IsVerified, IsBlockRefused, IsAnswered, Step, IsTrueVerdict, IsTrueRun};
-ghost use Rattle.session.specs.Layouts.{layout_of, IsFresh, IsFilled, IsFillRefused};
+ghost use Rattle.session.specs.Kept.{KeptTree, TreeState};
+ghost use Rattle.session.specs.Session.{IsGood, HasDistinctRoots, IsStored, IsHashRefused, IsVerified, IsBlockRefused, IsAnswered, Step, IsTrueVerdict, IsTrueRun};
+ghost use Rattle.session.specs.Layouts.{layout_of, IsFilled, IsFillRefused};
+ghost use Rattle.session.specs.Fresh.{IsFresh};
 
 use crate::node_map::NodeMap;
+use crate::planting::planted;
 use crate::refusal::{BlockRefusal, HashRefusal};
 use crate::tree::{Tree, are_hashes};
 use crate::verdict::Verdict;
-use hashtree::{Hash, Shape};
-use metainfo::{Torrent, TreeInfo};
+use hashtree::Hash;
+use metainfo::Torrent;
 use std::alloc::{AllocError, Global};
 use std::marker::Model;
 use wire::{Ask, Message};
@@ -40,16 +42,23 @@ impl<'t, N: NodeMap> Model for Session<'t, N> {
 }
 
 impl<'t, N: NodeMap> Session<'t, N> {
-    /// A session that knows the root of each tree of the torrent alone.
-    pub fn new(alloc: Global, torrent: &'t Torrent<'t>) -> Result<Session<'t, N>, AllocError>
+    /// A session that knows the root of each tree of the torrent. With layers it also knows what lies from each piece
+    /// layer up, the pads past a file's end among it; a file that is no longer than a piece has no piece layer. Nothing
+    /// is marked. Fails only where memory was refused.
+    pub fn new(
+        alloc: Global,
+        torrent: &'t Torrent<'t>,
+        with_layers: bool,
+    ) -> Result<Session<'t, N>, AllocError>
         ensures torrent { IfOk result (λ s. s.torrent ≡ torrent.now) }
-        ensures fresh { IfOk result (λ s. IsFresh torrent.now s.state) }
+        ensures fresh { IfOk result (λ s. IsFresh torrent.now with_layers s.state) }
     {
         torrent.sound();
         let infos = torrent.trees();
+        let piece_length = torrent.piece_length();
         let mut trees = Vec::with_capacity(alloc, infos.len())?;
         'infos: for info in infos {
-            trees.push_reserved(planted(alloc, info)?);
+            trees.push_reserved(planted(alloc, info, piece_length, with_layers)?);
         }
         Ok(Session {
             alloc,
@@ -71,6 +80,13 @@ impl<'t, N: NodeMap> Session<'t, N> {
         ensures { IsGood (layout_of self.now.torrent) self.now.state }
     {
         let _ = &self.trees;
+    }
+
+    /// What holds of every session: no two of its trees have one root.
+    pub fn distinct_roots(&self)
+        ensures { HasDistinctRoots (layout_of self.now.torrent) }
+    {
+        self.torrent.sound();
     }
 
     /// Takes a hashes message, and tells how many places are newly known, those past the file's end counted. A refusal
@@ -194,21 +210,6 @@ impl<'t, N: NodeMap> Session<'t, N> {
             verdicts.push_reserved(self.step(message));
         }
         Ok(verdicts)
-    }
-}
-
-/// A tree of which the root alone is known.
-fn planted<N: NodeMap>(alloc: Global, info: &TreeInfo<'_>) -> Result<Tree<N>, AllocError>
-    requires some { 0 < info.now.length }
-    requires bound { info.now.length ≤ 2 ^ 46 }
-    ensures root { IfOk result (λ t. t.root ≡ info.now.root) }
-    ensures length { IfOk result (λ t. t.length ≡ info.now.length) }
-    ensures known { IfOk result (λ t. t.state.known ≡ root_alone t) }
-    ensures marked { IfOk result (λ t. t.state.marked ≡ set.empty) }
-{
-    match Shape::of(info.length) {
-        None => Err(AllocError),
-        Some(shape) => Tree::new(alloc, info.root, shape),
     }
 }
 

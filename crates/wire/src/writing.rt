@@ -35,13 +35,14 @@ fn put<W: Sink>(out: &mut W, first: &[u8], rest: &[u8]) -> Result<(), WriteFault
     ensures ok { OnOk result (Appends (W.written out.old) (W.written out.new) (first.now ++ rest.now)) }
     ensures err { OnErr result (AppendsBeginning (W.written out.old) (W.written out.new) (first.now ++ rest.now)) }
     ensures counts { CountsFault (W.faults out.old) (W.faults out.new) result }
+    ensures flushes { W.flushes out.new ≡ W.flushes out.old }
 {
     write_all(out, first)?;
     write_all(out, rest)?;
     Ok(())
 }
 
-/// Writes the frame of a message. It takes no memory. After a fault a beginning of the frame went out.
+/// Writes the frame of a message. It takes no memory and does not flush. After a fault a beginning of the frame went out.
 pub fn write<W: Sink>(m: &Message<'_>, w: &mut W) -> Result<(), WriteFault>
     requires { IsWritable m.now }
     ensures ok { OnOk result ((body : List ℕ) × IsBody body × MeansMessage body m.now
@@ -49,6 +50,7 @@ pub fn write<W: Sink>(m: &Message<'_>, w: &mut W) -> Result<(), WriteFault>
     ensures err { OnErr result ((body : List ℕ) × IsBody body × MeansMessage body m.now
         × AppendsBeginning (W.written w.old) (W.written w.new) (frame body)) }
     ensures counts { CountsFault (W.faults w.old) (W.faults w.new) result }
+    ensures flushes { W.flushes w.new ≡ W.flushes w.old }
 {
     match m {
         Message::KeepAlive => put(w, &[0; 4], &[]),

@@ -1,38 +1,16 @@
-//! Reports of records that are cut, and of devices that fail, over a session of no trees.
-ghost use Rattle.std.specs.Prelude.{[], None, ◌<◌};
-
-use crate::record::{Stepper, replay};
+//! Reports of records over the torrent of one file, whose block is `abc`: whole, cut, and with devices that fail.
+use crate::outcome::Outcome;
+use crate::record::replay;
 use benc::{MemSink, MemSource, WriteFault, write_all};
-use session::{BlockRefusal, HashRefusal, Verdict};
+use metainfo::Torrent;
+use session::{Flat, Session};
 use std::test::Fail;
-use wire::Message;
 
-// A session of a torrent without files: no root and no place is known.
-#[derive(Drop)]
-struct Bare;
-
-impl Stepper for Bare {
-    ghost layout = { λ _. record { trees = []; place = λ _ _. None; tree_of = λ _. None } };
-
-    ghost state = { λ _. [] };
-
-    fn step(&mut self, message: &Message<'_>) -> Verdict {
-        match message {
-            Message::Piece { .. } => Verdict::BlockRefused(BlockRefusal::BadPlace),
-            Message::Request(_) => Verdict::Rejected,
-            Message::Hashes { .. } => Verdict::HashRefused(HashRefusal::UnknownRoot),
-            Message::Reject(_) => Verdict::RejectNoted,
-            Message::KeepAlive => Verdict::KeepAlive,
-            Message::Other { id, .. } => Verdict::Skipped(*id),
-        }
-    }
-
-    ghost use Rattle.checker.specs.Bare.{bare_good, bare_distinct};
-
-    ghost good = { λ _. bare_good };
-
-    ghost distinct = { λ _. bare_distinct };
-}
+// The file `abc.txt` with the content `abc`, in pieces of 16,384 bytes.
+const TORRENT: &[u8; 166] = b"d4:infod9:file treed7:abc.txtd0:d6:lengthi3e11:pieces root32:\
+    \xba\x78\x16\xbf\x8f\x01\xcf\xea\x41\x41\x40\xde\x5d\xae\x22\x23\
+    \xb0\x03\x61\xa3\x96\x17\x7a\x9c\xb4\x10\xff\x61\xf2\x00\x15\xad\
+    eee12:meta versioni2e4:name3:abc12:piece lengthi16384ee12:piece layersdee";
 
 // A keep-alive, a piece message with the block `abc`, a message of id 4, and two bytes of a length.
 const RECORD: &[u8; 31] = b"\0\0\0\0\0\0\0\x0c\x07\0\0\0\0\0\0\0\0abc\0\0\0\x05\x04\0\0\0\0\0\0";
@@ -40,7 +18,7 @@ const RECORD: &[u8; 31] = b"\0\0\0\0\0\0\0\x0c\x07\0\0\0\0\0\0\0\0abc\0\0\0\x05\
 // Where each of its frames ends, and the frame's line.
 const LINES: [(u64, &str); 3] = [
     (4, "1 keep-alive\n"),
-    (20, "2 refused P1 BadPlace\n"),
+    (20, "2 verified 0 0\n"),
     (29, "3 skipped 4\n"),
 ];
 
@@ -56,27 +34,78 @@ fn report_within(rt: &HostRuntime, bytes: u64, last: &str) -> Result<MemSink, Fa
     Ok(report)
 }
 
+// How a replay over a new session ended, and how many blocks are marked then.
+#[derive(Drop)]
+struct Replay {
+    ended: Result<Outcome, WriteFault>,
+    marked: u64,
+}
+
+fn replay_torrent(
+    rt: &HostRuntime,
+    torrent: &Torrent<'_>,
+    source: &mut MemSource<'_>,
+    out: &mut MemSink,
+) -> Result<Replay, Fail> {
+    let mut session: Session<'_, Flat> = Session::new(rt.alloc(), torrent, true)?;
+    let ended = replay(rt.alloc(), &mut session, source, out);
+    let mut marked = 0u64;
+    for tree in 0..torrent.trees().len() {
+        marked = marked.wrapping_add(session.marked(tree));
+    }
+    Ok(Replay { ended, marked })
+}
+
+fn replay_over(
+    rt: &HostRuntime,
+    source: &mut MemSource<'_>,
+    out: &mut MemSink,
+) -> Result<Replay, Fail> {
+    match Torrent::open(rt.alloc(), TORRENT) {
+        Ok(torrent) => replay_torrent(rt, &torrent, source, out),
+        Err(refusal) => Err(Fail::from(refusal)),
+    }
+}
+
+// The report of a record, from a source that gives so many bytes a call, and the exit status.
+fn report_of(rt: &HostRuntime, record: &[u8], at_most: usize) -> Result<(MemSink, u8), Fail> {
+    let mut out = MemSink::with_room(rt.alloc(), 128)?;
+    let done = replay_over(
+        rt,
+        &mut MemSource::new(record).at_most(at_most.max(1)),
+        &mut out,
+    )?;
+    Ok((out, done.ended?.status()))
+}
+
 #[test]
 fn a_record_cut_anywhere(rt: HostRuntime) -> Result<(), Fail> {
     for count in 0..=RECORD.len() {
+        let (last, status) = match count {
+            0 | 4 | 20 | 29 => ("end\n", 0),
+            _ => ("fault Truncated\n", 2),
+        };
+        let wanted = report_within(&rt, count as u64, last)?;
         for at_most in [1, 7, 64] {
-            let last = if matches!(count, 0 | 4 | 20 | 29) {
-                "end\n"
-            } else {
-                "fault Truncated\n"
-            };
-            let mut source = MemSource::new(&RECORD[..count]).at_most(at_most.max(1));
-            let mut out = MemSink::with_room(rt.alloc(), 128)?;
-            let outcome = replay(rt.alloc(), &mut Bare, &mut source, &mut out)?;
-            assert_eq!(rt;
-                out.written(),
-                report_within(&rt, count as u64, last)?.written()
-            );
+            let (out, ended) = report_of(&rt, &RECORD[..count], at_most)?;
+            assert_eq!(rt; out.written(), wanted.written());
             assert!(rt; out.is_flushed());
-            assert_eq!(rt; outcome.fault, last != "end\n");
-            assert_eq!(rt; outcome.refused, count >= 20);
+            assert_eq!(rt; ended, status);
         }
     }
+    Ok(())
+}
+
+#[test]
+fn a_block_with_a_bit_turned(rt: HostRuntime) -> Result<(), Fail> {
+    let mut record = *RECORD;
+    record[19] = b'd';
+    let (out, status) = report_of(&rt, &record[..29], 64)?;
+    assert_eq!(rt;
+        out.written(),
+        "1 keep-alive\n2 refused P4 BadBlock\n3 skipped 4\nend\n".as_bytes()
+    );
+    assert_eq!(rt; status, 1);
     Ok(())
 }
 
@@ -90,9 +119,9 @@ fn a_source_that_fails_at_each_call(rt: HostRuntime) -> Result<(), Fail> {
         };
         let mut source = MemSource::new(RECORD).at_most(1).fails_after(calls);
         let mut out = MemSink::with_room(rt.alloc(), 128)?;
-        let outcome = replay(rt.alloc(), &mut Bare, &mut source, &mut out)?;
+        let done = replay_over(&rt, &mut source, &mut out)?;
         assert_eq!(rt; out.written(), report_within(&rt, calls, last)?.written());
-        assert_eq!(rt; outcome.status(), 2);
+        assert_eq!(rt; done.ended?.status(), 2);
     }
     Ok(())
 }
@@ -101,13 +130,14 @@ fn a_source_that_fails_at_each_call(rt: HostRuntime) -> Result<(), Fail> {
 fn a_sink_that_fails_at_each_call(rt: HostRuntime) -> Result<(), Fail> {
     let report = report_within(&rt, 29, "fault Truncated\n")?;
     for calls in 0..report.written().len() {
-        let mut source = MemSource::new(RECORD);
         let mut out = MemSink::with_room(rt.alloc(), 128)?
             .at_most(1)
             .fails_after(calls as u64);
-        let answer = replay(rt.alloc(), &mut Bare, &mut source, &mut out);
-        assert!(rt; matches!(answer, Err(WriteFault::Write)));
+        let done = replay_over(&rt, &mut MemSource::new(RECORD), &mut out)?;
+        assert!(rt; matches!(done.ended, Err(WriteFault::Write)));
         assert!(rt; out.written() == &report.written()[..calls]);
+        let handled = if calls >= LINES[0].1.len() { 1 } else { 0 };
+        assert_eq!(rt; done.marked, handled);
     }
     Ok(())
 }
@@ -115,24 +145,16 @@ fn a_sink_that_fails_at_each_call(rt: HostRuntime) -> Result<(), Fail> {
 const WRONG_SIZES: &str =
     "1 bad frame 21 2\n2 bad frame 7 1\n3 bad frame 22 80\n4 bad frame 7 263218\nend\n";
 
-// Whether the report is that of four frames of a wrong size, from a source that gives so many bytes a call.
-fn tells_wrong_sizes(rt: &HostRuntime, frames: &[u8], at_most: usize) -> Result<bool, Fail>
-    requires { 0 < at_most }
-{
-    let mut source = MemSource::new(frames).at_most(at_most);
-    let mut out = MemSink::with_room(rt.alloc(), 128)?;
-    let outcome = replay(rt.alloc(), &mut Bare, &mut source, &mut out)?;
-    Ok(out.written() == WRONG_SIZES.as_bytes() && outcome.status() == 1)
-}
-
 #[test]
 fn frames_of_a_wrong_size(rt: HostRuntime) -> Result<(), Fail> {
     let mut frames = b"\0\0\0\x02\x15\0\0\0\0\x01\x07\0\0\0\x50\x16".to_vec(rt.alloc())?;
     frames.resize(95, 0)?;
     frames.extend_from_slice(b"\0\x04\x04\x32\x07")?;
     frames.resize(263317, 0)?;
-    assert!(rt; tells_wrong_sizes(&rt, &frames, 1)?);
-    assert!(rt; tells_wrong_sizes(&rt, &frames, 7)?);
-    assert!(rt; tells_wrong_sizes(&rt, &frames, 263317)?);
+    for at_most in [1, 7, 263317] {
+        let (out, status) = report_of(&rt, &frames, at_most)?;
+        assert_eq!(rt; out.written(), WRONG_SIZES.as_bytes());
+        assert_eq!(rt; status, 1);
+    }
     Ok(())
 }

@@ -20,4 +20,5 @@ parts-preserved g c =
           (Appends-append before (g.W.Sink.written c.parts.out) after (take start bytes) (take taken (take (length bytes - start) (drop start bytes)))
           c.parts.invariant.wrote c.in_ok-start.ensures.bytes);
       counted = c.in_ok-start.ensures.counts ∙ c.parts.invariant.counted;
+      unflushed = c.in_ok-start.ensures.flushes ∙ c.parts.invariant.unflushed;
     }

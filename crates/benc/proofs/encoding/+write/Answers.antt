@@ -35,12 +35,12 @@ all_pairs ps i done end e = e ∙ ap (λ ys. done ++ pairs_spelling (pairs_view 
 pub write_list-returns-in_err-write_text : goal.write_list-returns-in_err-write_text
 write_list-returns-in_err-write_text g t c =
     let p = err_from_is_err_and c.from_residual.result c.from_residual.ensures.1 in
-    wrote_part _ p.0 _ _ _ _ (108 ∷ []) (items_spelling (items_view c.args.items.now.items) ++ 101 ∷ []) _ refl p.1 c.in_err-write_text.ensures
+    wrote_part _ p.0 _ _ _ _ _ _ (108 ∷ []) (items_spelling (items_view c.args.items.now.items) ++ 101 ∷ []) _ refl p.1 c.in_err-write_text.ensures
 
 pub write_dict-returns-in_err-write_text : goal.write_dict-returns-in_err-write_text
 write_dict-returns-in_err-write_text g t c =
     let p = err_from_is_err_and c.from_residual.result c.from_residual.ensures.1 in
-    wrote_part _ p.0 _ _ _ _ (100 ∷ []) (pairs_spelling (pairs_view c.args.pairs.now.items) ++ 101 ∷ []) _ refl p.1 c.in_err-write_text.ensures
+    wrote_part _ p.0 _ _ _ _ _ _ (100 ∷ []) (pairs_spelling (pairs_view c.args.pairs.now.items) ++ 101 ∷ []) _ refl p.1 c.in_err-write_text.ensures
 
 pub write_list-items-preserved : goal.write_list-items-preserved
 write_list-items-preserved g t c =
@@ -55,6 +55,7 @@ write_list-items-preserved g t c =
       l.invariant.1 ∙ ap (λ t. done ++ t) (next_item vs l.item-index v here) ∙ sym (append_assoc done mine later),
       Appends-append _ _ _ (108 ∷ done) mine l.invariant.2 c.in_ok-write_value.ensures.0,
       c.in_ok-write_value.ensures.1 ∙ l.invariant.3,
+      c.in_ok-write_value.ensures.2 ∙ l.invariant.4,
     )
 
 pub write_list-returns-in_err-write_value : goal.write_list-returns-in_err-write_value
@@ -69,8 +70,8 @@ write_list-returns-in_err-write_value g t c =
     let inner = l.invariant.1 ∙ ap (λ t. done ++ t) (next_item vs l.item-index v here) in
     let all = ap (λ ys. 108 ∷ (items_spelling (items_view ys) ++ 101 ∷ [])) (sym c.deref-item-items.ensures.value) ∙ cut 108 (items_spelling (items_view vs)) done mine later inner in
     let p = err_from_is_err_and c.from_residual-in_err-write_value.result c.from_residual-in_err-write_value.ensures.1 in
-    wrote_then _ _ _ _ _ _ _ (108 ∷ done) (mine ++ (later ++ 101 ∷ [])) _ all (l.invariant.2, l.invariant.3)
-    (wrote_part _ p.0 _ _ _ _ mine (later ++ 101 ∷ []) _ refl p.1 c.in_err-write_value.ensures)
+    wrote_then _ _ _ _ _ _ _ _ _ _ (108 ∷ done) (mine ++ (later ++ 101 ∷ [])) _ all (l.invariant.2, l.invariant.3, l.invariant.4)
+    (wrote_part _ p.0 _ _ _ _ _ _ mine (later ++ 101 ∷ []) _ refl p.1 c.in_err-write_value.ensures)
 
 pub write_list-returns : goal.write_list-returns
 write_list-returns g t c =
@@ -78,7 +79,7 @@ write_list-returns g t c =
     let vs = c.deref-item-items.result.now in
     let done = l.invariant.0 in
     let all = ap (λ ys. 108 ∷ (items_spelling (items_view ys) ++ 101 ∷ [])) (sym c.deref-item-items.ensures.value) ∙ ap (λ t. 108 ∷ (t ++ 101 ∷ [])) (all_items vs l.item-index done (omega arith) l.invariant.1) in
-    wrote_then _ _ _ _ _ _ _ (108 ∷ done) (101 ∷ []) _ all (l.invariant.2, l.invariant.3) c.write_text-2.ensures
+    wrote_then _ _ _ _ _ _ _ _ _ _ (108 ∷ done) (101 ∷ []) _ all (l.invariant.2, l.invariant.3, l.invariant.4) c.write_text-2.ensures
 
 pub write_dict-pairs-preserved : goal.write_dict-pairs-preserved
 write_dict-pairs-preserved g t c =
@@ -94,6 +95,7 @@ write_dict-pairs-preserved g t c =
       l.invariant.1 ∙ ap (λ t. done ++ t) (next_pair ps l.pair-index x here ∙ sym (append_assoc name mine later)) ∙ sym (append_assoc done (name ++ mine) later),
       Appends-append _ _ _ (100 ∷ done) (name ++ mine) l.invariant.2 (Appends-append _ _ _ name mine c.in_ok-write_string.ensures.0 c.in_ok-write_value.ensures.0),
       c.in_ok-write_value.ensures.1 ∙ c.in_ok-write_string.ensures.1 ∙ l.invariant.3,
+      c.in_ok-write_value.ensures.2 ∙ c.in_ok-write_string.ensures.2 ∙ l.invariant.4,
     )
 
 pub write_dict-returns-in_err-write_string : goal.write_dict-returns-in_err-write_string
@@ -109,8 +111,8 @@ write_dict-returns-in_err-write_string g t c =
     let inner = l.invariant.1 ∙ ap (λ t. done ++ t) (next_pair ps l.pair-index x here) in
     let all = ap (λ ys. 100 ∷ (pairs_spelling (pairs_view ys) ++ 101 ∷ [])) (sym c.deref-pair-items.ensures.value) ∙ cut 100 (pairs_spelling (pairs_view ps)) done name (mine ++ later) inner in
     let p = err_from_is_err_and c.from_residual-in_err-write_string.result c.from_residual-in_err-write_string.ensures.1 in
-    wrote_then _ _ _ _ _ _ _ (100 ∷ done) (name ++ ((mine ++ later) ++ 101 ∷ [])) _ all (l.invariant.2, l.invariant.3)
-    (wrote_part _ p.0 _ _ _ _ name ((mine ++ later) ++ 101 ∷ []) _ refl p.1 c.in_err-write_string.ensures)
+    wrote_then _ _ _ _ _ _ _ _ _ _ (100 ∷ done) (name ++ ((mine ++ later) ++ 101 ∷ [])) _ all (l.invariant.2, l.invariant.3, l.invariant.4)
+    (wrote_part _ p.0 _ _ _ _ _ _ name ((mine ++ later) ++ 101 ∷ []) _ refl p.1 c.in_err-write_string.ensures)
 
 pub write_dict-returns-in_err-write_value : goal.write_dict-returns-in_err-write_value
 write_dict-returns-in_err-write_value g t c =
@@ -125,9 +127,9 @@ write_dict-returns-in_err-write_value g t c =
     let inner = l.invariant.1 ∙ ap (λ t. done ++ t) (next_pair ps l.pair-index x here) in
     let all = ap (λ ys. 100 ∷ (pairs_spelling (pairs_view ys) ++ 101 ∷ [])) (sym c.deref-pair-items.ensures.value) ∙ cut 100 (pairs_spelling (pairs_view ps)) done name (mine ++ later) inner in
     let p = err_from_is_err_and c.from_residual-in_err-write_value.result c.from_residual-in_err-write_value.ensures.1 in
-    wrote_then _ _ _ _ _ _ _ (100 ∷ done) (name ++ ((mine ++ later) ++ 101 ∷ [])) _ all (l.invariant.2, l.invariant.3)
-    (wrote_then _ _ _ _ _ _ _ name ((mine ++ later) ++ 101 ∷ []) _ refl c.in_ok-write_string.ensures
-    (wrote_part _ p.0 _ _ _ _ mine (later ++ 101 ∷ []) _ (append_assoc mine later (101 ∷ [])) p.1 c.in_err-write_value.ensures))
+    wrote_then _ _ _ _ _ _ _ _ _ _ (100 ∷ done) (name ++ ((mine ++ later) ++ 101 ∷ [])) _ all (l.invariant.2, l.invariant.3, l.invariant.4)
+    (wrote_then _ _ _ _ _ _ _ _ _ _ name ((mine ++ later) ++ 101 ∷ []) _ refl c.in_ok-write_string.ensures
+    (wrote_part _ p.0 _ _ _ _ _ _ mine (later ++ 101 ∷ []) _ (append_assoc mine later (101 ∷ [])) p.1 c.in_err-write_value.ensures))
 
 pub write_dict-returns : goal.write_dict-returns
 write_dict-returns g t c =
@@ -135,4 +137,4 @@ write_dict-returns g t c =
     let ps = c.deref-pair-items.result.now in
     let done = l.invariant.0 in
     let all = ap (λ ys. 100 ∷ (pairs_spelling (pairs_view ys) ++ 101 ∷ [])) (sym c.deref-pair-items.ensures.value) ∙ ap (λ t. 100 ∷ (t ++ 101 ∷ [])) (all_pairs ps l.pair-index done (omega arith) l.invariant.1) in
-    wrote_then _ _ _ _ _ _ _ (100 ∷ done) (101 ∷ []) _ all (l.invariant.2, l.invariant.3) c.write_text-2.ensures
+    wrote_then _ _ _ _ _ _ _ _ _ _ (100 ∷ done) (101 ∷ []) _ all (l.invariant.2, l.invariant.3, l.invariant.4) c.write_text-2.ensures

@@ -11,7 +11,7 @@ parts text front e = sym (ap (λ t. t ++ text) e ∙ append_assoc (decimal (leng
 pub returns-in_err-write_text : goal.returns-in_err-write_text
 returns-in_err-write_text g c =
     let p = err_from_is_err_and c.from_residual.result c.from_residual.ensures.1 in
-    wrote_part _ p.0 _ _ _ _ c.as_slice.result.now c.args.text.now _ (parts c.args.text.now c.as_slice.result.now (c.as_slice.ensures ∙ c.of_length.ensures)) p.1 c.in_err-write_text.ensures
+    wrote_part _ p.0 _ _ _ _ _ _ c.as_slice.result.now c.args.text.now _ (parts c.args.text.now c.as_slice.result.now (c.as_slice.ensures ∙ c.of_length.ensures)) p.1 c.in_err-write_text.ensures
 
 pub returns : goal.returns
-returns g c = wrote_then _ _ _ _ _ _ _ c.as_slice.result.now c.args.text.now _ (parts c.args.text.now c.as_slice.result.now (c.as_slice.ensures ∙ c.of_length.ensures)) c.in_ok-write_text.ensures c.write_text-2.ensures
+returns g c = wrote_then _ _ _ _ _ _ _ _ _ _ c.as_slice.result.now c.args.text.now _ (parts c.args.text.now c.as_slice.result.now (c.as_slice.ensures ∙ c.of_length.ensures)) c.in_ok-write_text.ensures c.write_text-2.ensures

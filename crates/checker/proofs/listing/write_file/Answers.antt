@@ -18,7 +18,7 @@ returns-in_err-write_text g c =
     let path = file.path in
     let head = c.as_slice.result.now in
     let p = err_from_is_err_and c.from_residual.result c.from_residual.ensures.1 in
-    wrote_part _ p.0 _ _ _ _ head (path_text path ++ codes "\n") _
+    wrote_part _ p.0 _ _ _ _ _ _ head (path_text path ++ codes "\n") _
     (parts (map tree_entry c.args.trees.now) file.length file.tree path path head (c.as_slice.ensures ∙ c.length_and_root.ensures) refl) p.1 c.in_err-write_text.ensures
 
 pub returns-in_err-write_path : goal.returns-in_err-write_path
@@ -27,15 +27,15 @@ returns-in_err-write_path g c =
     let path = map (λ s. s.now) c.parts.result.now in
     let head = c.as_slice.result.now in
     let p = err_from_is_err_and c.from_residual-in_err-write_path.result c.from_residual-in_err-write_path.ensures.1 in
-    wrote_then _ _ _ _ _ _ _ head (path_text path ++ codes "\n") _
+    wrote_then _ _ _ _ _ _ _ _ _ _ head (path_text path ++ codes "\n") _
     (parts (map tree_entry c.args.trees.now) file.length file.tree file.path path head (c.as_slice.ensures ∙ c.length_and_root.ensures) c.parts.ensures) c.in_ok-write_text.ensures
-    (wrote_part _ p.0 _ _ _ _ (path_text path) (codes "\n") _ refl p.1 c.in_err-write_path.ensures)
+    (wrote_part _ p.0 _ _ _ _ _ _ (path_text path) (codes "\n") _ refl p.1 c.in_err-write_path.ensures)
 
 pub returns : goal.returns
 returns g c =
     let file = c.args.file.now in
     let path = map (λ s. s.now) c.parts.result.now in
     let head = c.as_slice.result.now in
-    wrote_then _ _ _ _ _ _ _ head (path_text path ++ codes "\n") _
+    wrote_then _ _ _ _ _ _ _ _ _ _ head (path_text path ++ codes "\n") _
     (parts (map tree_entry c.args.trees.now) file.length file.tree file.path path head (c.as_slice.ensures ∙ c.length_and_root.ensures) c.parts.ensures) c.in_ok-write_text.ensures
-    (wrote_then _ _ _ _ _ _ _ (path_text path) (codes "\n") _ refl c.in_ok-write_path.ensures c.write_text-2.ensures)
+    (wrote_then _ _ _ _ _ _ _ _ _ _ (path_text path) (codes "\n") _ refl c.in_ok-write_path.ensures c.write_text-2.ensures)

@@ -25,9 +25,9 @@ returns-in_err-write_file g c =
     let mine = file_text trees (file_entry file) in
     let rest = files_text trees (map file_entry (drop (l.file-index + 1) files)) in
     let p = err_from_is_err_and c.from_residual.result c.from_residual.ensures.1 in
-    wrote_then _ _ _ _ _ _ _ l.invariant.0 (mine ++ rest) _ (l.invariant.1 ∙ ap (λ t. l.invariant.0 ++ t) (next_file trees files l.file-index file here))
-    (l.invariant.2, l.invariant.3)
-    (wrote_part _ p.0 _ _ _ _ mine rest _ refl p.1 c.in_err-write_file.ensures)
+    wrote_then _ _ _ _ _ _ _ _ _ _ l.invariant.0 (mine ++ rest) _ (l.invariant.1 ∙ ap (λ t. l.invariant.0 ++ t) (next_file trees files l.file-index file here))
+    (l.invariant.2, l.invariant.3, l.invariant.4)
+    (wrote_part _ p.0 _ _ _ _ _ _ mine rest _ refl p.1 c.in_err-write_file.ensures)
 
 pub files-preserved : goal.files-preserved
 files-preserved g c =
@@ -44,4 +44,5 @@ files-preserved g c =
       l.invariant.1 ∙ ap (λ t. sent ++ t) (next_file trees files l.file-index file here) ∙ sym (append_assoc sent mine rest),
       Appends-append _ _ _ sent mine l.invariant.2 c.in_ok-write_file.ensures.0,
       c.in_ok-write_file.ensures.1 ∙ l.invariant.3,
+      c.in_ok-write_file.ensures.2 ∙ l.invariant.4,
     )

@@ -9,3 +9,4 @@ abbrev pub invariant-files : goal.invariant-files
 invariant-files g l =
     (sent : List ℕ) × (files_text (map tree_entry l.trees) (map file_entry l.files) ≡ sent ++ files_text (map tree_entry l.trees) (map file_entry (drop l.file-index l.files)))
     × Appends (g.W.Sink.written l.fn.out) (g.W.Sink.written l.out) sent × (g.W.Sink.faults l.out ≡ g.W.Sink.faults l.fn.out)
+    × (g.W.Sink.flushes l.out ≡ g.W.Sink.flushes l.fn.out)

@@ -18,7 +18,7 @@ returns-in_err-write_name g c =
     let t = c.args.t.now in
     let name = c.name.result.now in
     let p = err_from_is_err_and c.from_residual.result c.from_residual.ensures.1 in
-    wrote_part _ p.0 _ _ _ _ (name_text name) (header_text t ++ files_text t.trees t.files) _ (parts t name (header_text t) t.files t.trees c.name.ensures refl refl refl) p.1
+    wrote_part _ p.0 _ _ _ _ _ _ (name_text name) (header_text t ++ files_text t.trees t.files) _ (parts t name (header_text t) t.files t.trees c.name.ensures refl refl refl) p.1
     c.in_err-write_name.ensures
 
 pub returns-in_err-write_text : goal.returns-in_err-write_text
@@ -27,9 +27,9 @@ returns-in_err-write_text g c =
     let name = c.name.result.now in
     let head = c.as_slice.result.now in
     let p = err_from_is_err_and c.from_residual-in_err-write_text.result c.from_residual-in_err-write_text.ensures.1 in
-    wrote_then _ _ _ _ _ _ _ (name_text name) (head ++ files_text t.trees t.files) _ (parts t name head t.files t.trees c.name.ensures (c.as_slice.ensures ∙ c.header.ensures) refl refl)
+    wrote_then _ _ _ _ _ _ _ _ _ _ (name_text name) (head ++ files_text t.trees t.files) _ (parts t name head t.files t.trees c.name.ensures (c.as_slice.ensures ∙ c.header.ensures) refl refl)
     c.in_ok-write_name.ensures
-    (wrote_part _ p.0 _ _ _ _ head (files_text t.trees t.files) _ refl p.1 c.in_err-write_text.ensures)
+    (wrote_part _ p.0 _ _ _ _ _ _ head (files_text t.trees t.files) _ refl p.1 c.in_err-write_text.ensures)
 
 pub returns : goal.returns
 returns g c =
@@ -38,6 +38,6 @@ returns g c =
     let head = c.as_slice.result.now in
     let files = map file_entry c.files.result.now in
     let trees = map tree_entry c.trees.result.now in
-    wrote_then _ _ _ _ _ _ _ (name_text name) (head ++ files_text trees files) _ (parts t name head files trees c.name.ensures (c.as_slice.ensures ∙ c.header.ensures) c.files.ensures c.trees.ensures)
+    wrote_then _ _ _ _ _ _ _ _ _ _ (name_text name) (head ++ files_text trees files) _ (parts t name head files trees c.name.ensures (c.as_slice.ensures ∙ c.header.ensures) c.files.ensures c.trees.ensures)
     c.in_ok-write_name.ensures
-    (wrote_then _ _ _ _ _ _ _ head (files_text trees files) _ refl c.in_ok-write_text.ensures c.write_files.ensures)
+    (wrote_then _ _ _ _ _ _ _ _ _ _ head (files_text trees files) _ refl c.in_ok-write_text.ensures c.write_files.ensures)

@@ -21,7 +21,7 @@ returns-in_err-write_verdicts g c =
     let r = c.args.report.now in
     let entries = map file_entry c.args.files.now in
     let p = err_from_is_err_and c.from_residual.result c.from_residual.ensures.1 in
-    wrote_part _ p.0 _ _ _ _ (verdicts_text c.deref.result.now entries) (stream_text r.v1 ++ answer_text (is_yes r.files.items r.v1)) _
+    wrote_part _ p.0 _ _ _ _ _ _ (verdicts_text c.deref.result.now entries) (stream_text r.v1 ++ answer_text (is_yes r.files.items r.v1)) _
     (parts entries r.files.items c.deref.result.now r.v1 (stream_text r.v1) (answer_text (is_yes r.files.items r.v1)) c.deref.ensures.value refl refl) p.1
     c.in_err-write_verdicts.ensures
 
@@ -31,10 +31,10 @@ returns-in_err-write_text g c =
     let entries = map file_entry c.args.files.now in
     let stream = c.as_slice.result.now in
     let p = err_from_is_err_and c.from_residual-in_err-write_text.result c.from_residual-in_err-write_text.ensures.1 in
-    wrote_then _ _ _ _ _ _ _ (verdicts_text c.deref.result.now entries) (stream ++ answer_text (is_yes r.files.items r.v1)) _
+    wrote_then _ _ _ _ _ _ _ _ _ _ (verdicts_text c.deref.result.now entries) (stream ++ answer_text (is_yes r.files.items r.v1)) _
     (parts entries r.files.items c.deref.result.now r.v1 stream (answer_text (is_yes r.files.items r.v1)) c.deref.ensures.value (c.as_slice.ensures ∙ c.stream_line.ensures) refl)
     c.in_ok-write_verdicts.ensures
-    (wrote_part _ p.0 _ _ _ _ stream (answer_text (is_yes r.files.items r.v1)) _ refl p.1 c.in_err-write_text.ensures)
+    (wrote_part _ p.0 _ _ _ _ _ _ stream (answer_text (is_yes r.files.items r.v1)) _ refl p.1 c.in_err-write_text.ensures)
 
 pub returns : goal.returns
 returns g c =
@@ -42,7 +42,7 @@ returns g c =
     let entries = map file_entry c.args.files.now in
     let stream = c.as_slice.result.now in
     let last = c.as_slice-2.result.now in
-    wrote_then _ _ _ _ _ _ _ (verdicts_text c.deref.result.now entries) (stream ++ last) _
+    wrote_then _ _ _ _ _ _ _ _ _ _ (verdicts_text c.deref.result.now entries) (stream ++ last) _
     (parts entries r.files.items c.deref.result.now r.v1 stream last c.deref.ensures.value (c.as_slice.ensures ∙ c.stream_line.ensures)
     (c.as_slice-2.ensures ∙ c.answer.ensures ∙ ap answer_text c.yes.ensures)) c.in_ok-write_verdicts.ensures
-    (wrote_then _ _ _ _ _ _ _ stream last _ refl c.in_ok-write_text.ensures c.write_text-2.ensures)
+    (wrote_then _ _ _ _ _ _ _ _ _ _ stream last _ refl c.in_ok-write_text.ensures c.write_text-2.ensures)

@@ -16,7 +16,7 @@ returns-in_err-write_text g c =
     let path = c.args.file.now.path in
     let head = c.as_slice.result.now in
     let p = err_from_is_err_and c.from_residual.result c.from_residual.ensures.1 in
-    wrote_part _ p.0 _ _ _ _ head (path_text path ++ codes "\n") _
+    wrote_part _ p.0 _ _ _ _ _ _ head (path_text path ++ codes "\n") _
     (parts c.args.verdict path path head (c.as_slice.ensures ∙ c.words.ensures) refl) p.1 c.in_err-write_text.ensures
 
 pub returns-in_err-write_path : goal.returns-in_err-write_path
@@ -24,14 +24,14 @@ returns-in_err-write_path g c =
     let path = map (λ s. s.now) c.parts.result.now in
     let head = c.as_slice.result.now in
     let p = err_from_is_err_and c.from_residual-in_err-write_path.result c.from_residual-in_err-write_path.ensures.1 in
-    wrote_then _ _ _ _ _ _ _ head (path_text path ++ codes "\n") _
+    wrote_then _ _ _ _ _ _ _ _ _ _ head (path_text path ++ codes "\n") _
     (parts c.args.verdict c.args.file.now.path path head (c.as_slice.ensures ∙ c.words.ensures) c.parts.ensures) c.in_ok-write_text.ensures
-    (wrote_part _ p.0 _ _ _ _ (path_text path) (codes "\n") _ refl p.1 c.in_err-write_path.ensures)
+    (wrote_part _ p.0 _ _ _ _ _ _ (path_text path) (codes "\n") _ refl p.1 c.in_err-write_path.ensures)
 
 pub returns : goal.returns
 returns g c =
     let path = map (λ s. s.now) c.parts.result.now in
     let head = c.as_slice.result.now in
-    wrote_then _ _ _ _ _ _ _ head (path_text path ++ codes "\n") _
+    wrote_then _ _ _ _ _ _ _ _ _ _ head (path_text path ++ codes "\n") _
     (parts c.args.verdict c.args.file.now.path path head (c.as_slice.ensures ∙ c.words.ensures) c.parts.ensures) c.in_ok-write_text.ensures
-    (wrote_then _ _ _ _ _ _ _ (path_text path) (codes "\n") _ refl c.in_ok-write_path.ensures c.write_text-2.ensures)
+    (wrote_then _ _ _ _ _ _ _ _ _ _ (path_text path) (codes "\n") _ refl c.in_ok-write_path.ensures c.write_text-2.ensures)

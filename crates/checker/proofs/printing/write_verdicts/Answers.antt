@@ -27,10 +27,10 @@ returns-in_err-write_verdict g c =
     let mine = verdict_text (get_or verdicts l.i Good) (file_entry file) in
     let rest = verdicts_text (drop (l.i + 1) verdicts) (map file_entry (drop (l.i + 1) files)) in
     let p = err_from_is_err_and c.from_residual.result c.from_residual.ensures.1 in
-    wrote_then _ _ _ _ _ _ _ l.invariant.0 (mine ++ rest) _
+    wrote_then _ _ _ _ _ _ _ _ _ _ l.invariant.0 (mine ++ rest) _
     (l.invariant.1 ∙ ap (λ t. l.invariant.0 ++ t) (next_line verdicts files l.i file (omega (arith, c.files-test.true, c.requires)) (omega (arith, c.files-test.true)) c.index-files-i.is))
-    (l.invariant.2, l.invariant.3)
-    (wrote_part _ p.0 _ _ _ _ mine rest _ refl p.1 c.in_err-write_verdict.ensures)
+    (l.invariant.2, l.invariant.3, l.invariant.4)
+    (wrote_part _ p.0 _ _ _ _ _ _ mine rest _ refl p.1 c.in_err-write_verdict.ensures)
 
 pub files-preserved : goal.files-preserved
 files-preserved g c =
@@ -47,4 +47,5 @@ files-preserved g c =
           ∙ sym (append_assoc sent mine rest),
       Appends-append _ _ _ sent mine l.invariant.2 c.in_ok-write_verdict.ensures.0,
       c.in_ok-write_verdict.ensures.1 ∙ l.invariant.3,
+      c.in_ok-write_verdict.ensures.2 ∙ l.invariant.4,
     )

@@ -9,3 +9,4 @@ abbrev pub invariant-files : goal.invariant-files
 invariant-files g l =
     (sent : List ℕ) × (verdicts_text l.verdicts (map file_entry l.files) ≡ sent ++ verdicts_text (drop l.i l.verdicts) (map file_entry (drop l.i l.files)))
     × Appends (g.W.Sink.written l.fn.out) (g.W.Sink.written l.out) sent × (g.W.Sink.faults l.out ≡ g.W.Sink.faults l.fn.out)
+    × (g.W.Sink.flushes l.out ≡ g.W.Sink.flushes l.fn.out)

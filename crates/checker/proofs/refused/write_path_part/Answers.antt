@@ -23,9 +23,9 @@ pub returns-in_err-write_text : goal.returns-in_err-write_text
 returns-in_err-write_text g c =
     let path = map string_bytes c.args.path.now in
     let p = err_from_is_err_and c.from_residual.result c.from_residual.ensures.1 in
-    wrote_part _ p.0 _ _ _ _ (32 ∷ []) (path_text path) _ (part_is path (some_parts string_bytes c.args.path.now (sym c.is_empty.ensures ∙ c.if-is_empty.false))) p.1 c.in_err-write_text.ensures
+    wrote_part _ p.0 _ _ _ _ _ _ (32 ∷ []) (path_text path) _ (part_is path (some_parts string_bytes c.args.path.now (sym c.is_empty.ensures ∙ c.if-is_empty.false))) p.1 c.in_err-write_text.ensures
 
 pub returns : goal.returns
 returns g c =
     let path = map string_bytes c.args.path.now in
-    wrote_then _ _ _ _ _ _ _ (32 ∷ []) (path_text path) _ (part_is path (some_parts string_bytes c.args.path.now (sym c.is_empty.ensures ∙ c.if-is_empty.false))) c.in_ok-write_text.ensures c.write_path.ensures
+    wrote_then _ _ _ _ _ _ _ _ _ _ (32 ∷ []) (path_text path) _ (part_is path (some_parts string_bytes c.args.path.now (sym c.is_empty.ensures ∙ c.if-is_empty.false))) c.in_ok-write_text.ensures c.write_path.ensures

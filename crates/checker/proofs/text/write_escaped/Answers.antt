@@ -15,8 +15,8 @@ returns-in_err-write_text g c =
     let rest = escaped (drop l.i text) in
     let sent = l.invariant.0 in
     let p = err_from_is_err_and c.from_residual.result c.from_residual.ensures.1 in
-    wrote_then _ _ _ _ _ _ _ sent (part ++ rest) _ (cut_at text l.i sent part l.invariant.2) (l.invariant.3, l.invariant.4)
-    (wrote_part _ p.0 _ _ _ _ part rest _ refl p.1 c.in_err-write_text.ensures)
+    wrote_then _ _ _ _ _ _ _ _ _ _ sent (part ++ rest) _ (cut_at text l.i sent part l.invariant.2) (l.invariant.3, l.invariant.4, l.invariant.5)
+    (wrote_part _ p.0 _ _ _ _ _ _ part rest _ refl p.1 c.in_err-write_text.ensures)
 
 pub returns-in_err-write_text-2 : goal.returns-in_err-write_text-2
 returns-in_err-write_text-2 g c =
@@ -27,10 +27,10 @@ returns-in_err-write_text-2 g c =
     let rest = escaped (drop (l.i + 1) text) in
     let sent = l.invariant.0 in
     let p = err_from_is_err_and c.from_residual-in_err-write_text-2.result c.from_residual-in_err-write_text-2.ensures.1 in
-    wrote_then _ _ _ _ _ _ _ sent (part ++ (escape ++ rest)) _ (cut_round text l.i sent part escape (omega arith) l.invariant.2 c.escape.ensures)
-    (l.invariant.3, l.invariant.4)
-    (wrote_then _ _ _ _ _ _ _ part (escape ++ rest) _ refl c.in_ok-write_text.ensures
-    (wrote_part _ p.0 _ _ _ _ escape rest _ refl p.1 c.in_err-write_text-2.ensures))
+    wrote_then _ _ _ _ _ _ _ _ _ _ sent (part ++ (escape ++ rest)) _ (cut_round text l.i sent part escape (omega arith) l.invariant.2 c.escape.ensures)
+    (l.invariant.3, l.invariant.4, l.invariant.5)
+    (wrote_then _ _ _ _ _ _ _ _ _ _ part (escape ++ rest) _ refl c.in_ok-write_text.ensures
+    (wrote_part _ p.0 _ _ _ _ _ _ escape rest _ refl p.1 c.in_err-write_text-2.ensures))
 
 pub bytes-preserved : goal.bytes-preserved
 bytes-preserved g c =
@@ -48,6 +48,7 @@ bytes-preserved g c =
             Appends-append _ _ _ sent (part ++ escape) l.invariant.3
                 (Appends-append _ _ _ part escape w.in_ok-write_text.ensures.0 w.in_ok-write_text-2.ensures.0),
             w.in_ok-write_text-2.ensures.1 ∙ w.in_ok-write_text.ensures.1 ∙ l.invariant.4,
+            w.in_ok-write_text-2.ensures.2 ∙ w.in_ok-write_text.ensures.2 ∙ l.invariant.5,
           )
       | else-is_special w ↦ rw (w.out-is, w.start-is) (
         sent,
@@ -55,6 +56,7 @@ bytes-preserved g c =
         after_plain text l.i l.start sent (omega arith) l.invariant.1 l.invariant.2 (sym c.is_special.ensures ∙ w.if-is_special.false),
         l.invariant.3,
         l.invariant.4,
+        l.invariant.5,
       )
     ]
 
@@ -63,5 +65,5 @@ returns g c =
     let text = c.args.text.now in
     let l = c.bytes in
     let sent = l.invariant.0 in
-    wrote_then _ _ _ _ _ _ _ sent (take (length text - l.start) (drop l.start text)) _ (at_end text l.i l.start sent (omega arith) l.invariant.2)
-    (l.invariant.3, l.invariant.4) c.write_text-2.ensures
+    wrote_then _ _ _ _ _ _ _ _ _ _ sent (take (length text - l.start) (drop l.start text)) _ (at_end text l.i l.start sent (omega arith) l.invariant.2)
+    (l.invariant.3, l.invariant.4, l.invariant.5) c.write_text-2.ensures

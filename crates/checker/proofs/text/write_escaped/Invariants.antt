@@ -8,3 +8,4 @@ abbrev pub invariant-bytes : goal.invariant-bytes
 invariant-bytes g l =
     (sent : List ℕ) × (l.start ≤ l.i) × (escaped (take l.i l.text) ≡ sent ++ take (l.i - l.start) (drop l.start l.text))
     × Appends (g.W.Sink.written l.fn.out) (g.W.Sink.written l.out) sent × (g.W.Sink.faults l.out ≡ g.W.Sink.faults l.fn.out)
+    × (g.W.Sink.flushes l.out ≡ g.W.Sink.flushes l.fn.out)

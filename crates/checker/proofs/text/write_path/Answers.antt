@@ -24,7 +24,7 @@ returns-in_err-write_escaped g c =
     let text = c.as_bytes.result.now in
     let all = from_first g.S.AsStr.text c.args.path.now c.in-Some.first.now c.in-Some.others.now text c.in-Some.ensures.cases.0 (c.as_bytes.ensures.value ∙ c.as_str.ensures) in
     let p = err_from_is_err_and c.from_residual.result c.from_residual.ensures.1 in
-    wrote_part _ p.0 _ _ _ _ (escaped text) (tail_text (map g.S.AsStr.text c.in-Some.others.now)) _ all p.1 c.in_err-write_escaped.ensures
+    wrote_part _ p.0 _ _ _ _ _ _ (escaped text) (tail_text (map g.S.AsStr.text c.in-Some.others.now)) _ all p.1 c.in_err-write_escaped.ensures
 
 pub parts-init : goal.parts-init
 parts-init g c =
@@ -33,6 +33,7 @@ parts-init g c =
       from_first g.S.AsStr.text c.args.path.now c.in-Some.first.now c.in-Some.others.now text c.in-Some.ensures.cases.0 (c.as_bytes.ensures.value ∙ c.as_str.ensures),
       c.in_ok-write_escaped.ensures.0,
       c.in_ok-write_escaped.ensures.1,
+      c.in_ok-write_escaped.ensures.2,
     )
 
 pub returns-in_err-write_text : goal.returns-in_err-write_text
@@ -45,8 +46,8 @@ returns-in_err-write_text g c =
     let rest = escaped (g.S.AsStr.text part) ++ tail_text (map g.S.AsStr.text (drop (l.part-index + 1) others)) in
     let all = l.invariant.1 ∙ ap (λ t. l.invariant.0 ++ t) (next_part g.S.AsStr.text others l.part-index part (g.S.AsStr.text part) here refl) in
     let p = err_from_is_err_and c.from_residual-in_err-write_text.result c.from_residual-in_err-write_text.ensures.1 in
-    wrote_then _ _ _ _ _ _ _ l.invariant.0 ((47 ∷ []) ++ rest) _ all (l.invariant.2, l.invariant.3)
-    (wrote_part _ p.0 _ _ _ _ (47 ∷ []) rest _ refl p.1 c.in_err-write_text.ensures)
+    wrote_then _ _ _ _ _ _ _ _ _ _ l.invariant.0 ((47 ∷ []) ++ rest) _ all (l.invariant.2, l.invariant.3, l.invariant.4)
+    (wrote_part _ p.0 _ _ _ _ _ _ (47 ∷ []) rest _ refl p.1 c.in_err-write_text.ensures)
 
 pub returns-in_err-write_escaped-2 : goal.returns-in_err-write_escaped-2
 returns-in_err-write_escaped-2 g c =
@@ -60,9 +61,9 @@ returns-in_err-write_escaped-2 g c =
     let all = l.invariant.1 ∙ ap (λ t. l.invariant.0 ++ t)
     (next_part g.S.AsStr.text others l.part-index part text here (c.as_bytes-in-parts.ensures.value ∙ c.as_str-in-parts.ensures)) in
     let p = err_from_is_err_and c.from_residual-in_err-write_escaped-2.result c.from_residual-in_err-write_escaped-2.ensures.1 in
-    wrote_then _ _ _ _ _ _ _ l.invariant.0 ((47 ∷ []) ++ (escaped text ++ rest)) _ all (l.invariant.2, l.invariant.3)
-    (wrote_then _ _ _ _ _ _ _ (47 ∷ []) (escaped text ++ rest) _ refl c.in_ok-write_text.ensures
-    (wrote_part _ p.0 _ _ _ _ (escaped text) rest _ refl p.1 c.in_err-write_escaped-2.ensures))
+    wrote_then _ _ _ _ _ _ _ _ _ _ l.invariant.0 ((47 ∷ []) ++ (escaped text ++ rest)) _ all (l.invariant.2, l.invariant.3, l.invariant.4)
+    (wrote_then _ _ _ _ _ _ _ _ _ _ (47 ∷ []) (escaped text ++ rest) _ refl c.in_ok-write_text.ensures
+    (wrote_part _ p.0 _ _ _ _ _ _ (escaped text) rest _ refl p.1 c.in_err-write_escaped-2.ensures))
 
 pub parts-preserved : goal.parts-preserved
 parts-preserved g c =
@@ -81,4 +82,5 @@ parts-preserved g c =
       Appends-append _ _ _ sent (47 ∷ escaped text) l.invariant.2
           (Appends-append _ _ _ (47 ∷ []) (escaped text) c.in_ok-write_text.ensures.0 c.in_ok-write_escaped-2.ensures.0),
       c.in_ok-write_escaped-2.ensures.1 ∙ c.in_ok-write_text.ensures.1 ∙ l.invariant.3,
+      c.in_ok-write_escaped-2.ensures.2 ∙ c.in_ok-write_text.ensures.2 ∙ l.invariant.4,
     )

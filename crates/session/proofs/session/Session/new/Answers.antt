@@ -1,44 +1,48 @@
-use Rattle.std.proofs.Common.{◌≡◌, ◌+◌, List, map, take, ap, sym, subst, arith}
-use Rattle.std.specs.List.{All}
+use Rattle.std.proofs.Common.{◌≡◌, ◌+◌, List, map, take, length, ap, sym, subst, subst₂, arith}
+use Rattle.metainfo.specs.Refusals.{IsPieceLength}
 use Rattle.metainfo.specs.Seen.{tree_entry}
 use Rattle.session.specs.Kept.{KeptTree, info_of}
-use Rattle.session.specs.Layouts.{root_of_entry, IsPlanted}
-use Rattle.session.proofs.Planting.{info_some, info_bound, planted_at, same_more, kept_all, all_more, no_trees, fresh}
+use Rattle.session.specs.Layouts.{root_of_entry}
+use Rattle.session.proofs.FirstTrees.{ArePlanted, sound_at, same_more, kept_all, one_more, no_trees, fresh}
 use Rattle.session.proofs.session.Session.new.Goals as goal
 
 pub infos-init : goal.infos-init
 infos-init g c = record {
   same = ap (map info_of) c.in_ok-trees.ensures.items;
-  planted = no_trees c.in_ok-trees.trees.items c.in_ok-trees.ensures.items;
+  planted = no_trees c.piece_length-piece_length.result c.args.with_layers (map tree_entry c.trees-infos.result.now) c.in_ok-trees.trees.items c.in_ok-trees.ensures.items;
   told = c.in_ok-trees.ensures.len;
   room = c.in_ok-trees.ensures.capacity;
 }
 
-pub planted-requires-clause-some : goal.planted-requires-clause-some
-planted-requires-clause-some g c = info_some c.args.torrent.now c.sound.ensures c.trees-infos.result.now c.trees-infos.ensures c.infos.info-index _ c.infos-test.true
+pub planted-requires-clause-legal : goal.planted-requires-clause-legal
+planted-requires-clause-legal g c = subst IsPieceLength (sym c.piece_length-piece_length.ensures) c.sound.ensures.legal
 
-pub planted-requires-clause-bound : goal.planted-requires-clause-bound
-planted-requires-clause-bound g c = info_bound c.args.torrent.now c.sound.ensures c.trees-infos.result.now c.trees-infos.ensures c.infos.info-index _ c.infos-test.true
+pub planted-requires-clause-sound : goal.planted-requires-clause-sound
+planted-requires-clause-sound g c =
+    sound_at c.args.torrent.now c.sound.ensures c.trees-infos.result.now c.trees-infos.ensures c.piece_length-piece_length.result c.piece_length-piece_length.ensures c.infos.info-index _ c.infos-test.true
 
 pub infos-preserved : goal.infos-preserved
 infos-preserved g c =
     let b : KeptTree = c.in_ok-planted.field-0 in
+    let count : length c.infos.trees.items ≡ c.infos.info-index = omega (arith, c.infos.trees.ok, c.infos.invariant.told) in
     record {
       same = subst (λ (ts : List KeptTree). map info_of ts ≡ take (c.infos.info-index + 1) (map root_of_entry (map tree_entry c.trees-infos.result.now))) (sym c.push_reserved.ensures.items)
-          (same_more c.args.torrent.now c.sound.ensures c.trees-infos.result.now c.trees-infos.ensures c.infos.info-index _ c.infos.trees.items b c.infos-test.true c.in_ok-planted.ensures.root c.in_ok-planted.ensures.length c.infos.invariant.same);
-      planted = subst (λ (ts : List KeptTree). All IsPlanted ts) (sym c.push_reserved.ensures.items)
-          (all_more c.infos.trees.items b c.infos.invariant.planted
-          (planted_at c.args.torrent.now c.sound.ensures c.trees-infos.result.now c.trees-infos.ensures c.infos.info-index _ b c.infos-test.true c.in_ok-planted.ensures.root c.in_ok-planted.ensures.length c.in_ok-planted.ensures.known c.in_ok-planted.ensures.marked));
+          (same_more c.args.torrent.now c.sound.ensures c.trees-infos.result.now c.trees-infos.ensures c.infos.info-index _ c.infos.trees.items b c.infos-test.true c.in_ok-planted.ensures.root_is c.in_ok-planted.ensures.length_is c.infos.invariant.same);
+      planted = subst (λ (ts : List KeptTree). ArePlanted c.piece_length-piece_length.result c.args.with_layers (map tree_entry c.trees-infos.result.now) ts) (sym c.push_reserved.ensures.items)
+          (one_more c.piece_length-piece_length.result c.args.with_layers c.trees-infos.result.now c.infos.trees.items c.infos.info-index _ b c.infos-test.true count c.in_ok-planted.ensures c.infos.invariant.planted);
       told = omega (arith, c.push_reserved.ensures.len, c.infos.invariant.told);
       room = omega (arith, c.push_reserved.ensures.capacity, c.infos.invariant.room);
     }
 
 pub invariant_of-result : goal.invariant_of-result
 invariant_of-result g c =
-    kept_all c.args.torrent.now c.sound.ensures c.trees-infos.result.now c.trees-infos.ensures c.infos.info-index c.infos.trees.items c.infos-test.false c.infos.invariant.same c.infos.invariant.planted
+    let planted : ArePlanted c.args.torrent.now.piece_length c.args.with_layers c.args.torrent.now.trees c.infos.trees.items =
+    subst₂ (λ p es. ArePlanted p c.args.with_layers es c.infos.trees.items) c.piece_length-piece_length.ensures c.trees-infos.ensures c.infos.invariant.planted in
+    kept_all c.args.torrent.now c.sound.ensures c.trees-infos.result.now c.trees-infos.ensures c.args.with_layers c.infos.info-index c.infos.trees.items c.infos-test.false c.infos.invariant.same planted
 
 pub returns-clause-fresh : goal.returns-clause-fresh
 returns-clause-fresh g c =
-    fresh c.args.torrent.now c.infos.trees.items
-    (kept_all c.args.torrent.now c.sound.ensures c.trees-infos.result.now c.trees-infos.ensures c.infos.info-index c.infos.trees.items c.infos-test.false c.infos.invariant.same c.infos.invariant.planted)
-    c.infos.invariant.planted
+    let planted : ArePlanted c.args.torrent.now.piece_length c.args.with_layers c.args.torrent.now.trees c.infos.trees.items =
+    subst₂ (λ p es. ArePlanted p c.args.with_layers es c.infos.trees.items) c.piece_length-piece_length.ensures c.trees-infos.ensures c.infos.invariant.planted in
+    fresh c.args.torrent.now c.sound.ensures c.trees-infos.result.now c.trees-infos.ensures c.args.with_layers c.infos.trees.items
+    (kept_all c.args.torrent.now c.sound.ensures c.trees-infos.result.now c.trees-infos.ensures c.args.with_layers c.infos.info-index c.infos.trees.items c.infos-test.false c.infos.invariant.same planted) planted

@@ -1,0 +1,95 @@
+"""`btcheck replay` on two records. One has 16,384 piece messages of one block each and the hashes of their leaves before
+them, beside the bare digests of the same blocks. The other has 2,048 answers of 512 leaves with their uncles over a
+tree of 2^20 leaves, beside the bare digests of the pairs that lead to the root."""
+import os
+import sys
+
+from measuring import BARE, BLOCK, BTCHECK, TOP, best_of, build_bare, missed_marks, need_program, report
+
+sys.path.insert(0, os.path.join(TOP, "tests"))
+import messages  # noqa: E402
+from torrents import bencoded  # noqa: E402
+from trees import Tree  # noqa: E402
+
+# What each record may cost at most: (of what, ratio of processor time).
+PIECES_MARKS = [("bare digests", 1.1)]
+ANSWERS_MARKS = [("bare digests", 1.28)]
+SPAN = 512
+
+
+def torrent_over(tree, length):
+    """A torrent of one file, which lies in one piece or in pieces of 2^30 bytes."""
+    piece_length = min(1 << 30, BLOCK << tree.height)
+    layers = {}
+    if length > piece_length:
+        layers[tree.root] = b"".join(tree.whole_layer(16))
+    return bencoded({
+        "info": {"file tree": {"file": {b"": {"length": length, "pieces root": tree.root}}}, "meta version": 2,
+                 "name": "file", "piece length": piece_length},
+        "piece layers": layers,
+    })
+
+
+def answer(tree, index, span):
+    """A hashes message with the leaves from `index` on, and each uncle up to the root."""
+    uncles = tree.height - (span.bit_length() - 1)
+    return messages.hashes(tree.root, 0, index, span, tree.height, given=tree.hashes(0, index, span, uncles))
+
+
+def pairs_of(tree, index, span):
+    """The pairs that are hashed for such a message, one after the other."""
+    found, count = [], span
+    for layer in range(tree.height):
+        at = index >> layer
+        found += tree.layers[layer][at & ~1:(at & ~1) + max(count, 2)]
+        count //= 2
+    return b"".join(found)
+
+
+def write(path, parts):
+    with open(path, "wb") as out:
+        out.writelines(parts)
+    return path
+
+
+def replay_pieces(folder, words):
+    count = 16384
+    blocks = [os.urandom(BLOCK) for _ in range(count)]
+    tree = Tree.of_blocks(blocks)
+    torrent = write(os.path.join(folder, "torrent"), [torrent_over(tree, count * BLOCK)])
+    record = write(os.path.join(folder, "record"),
+                   [answer(tree, index, SPAN) for index in range(0, count, SPAN)]
+                   + [messages.piece(0, index * BLOCK, block) for index, block in enumerate(blocks)])
+    bare = write(os.path.join(folder, "blocks"), blocks)
+    best = best_of({
+        "btcheck replay": [BTCHECK, "replay", torrent, record, "--info-only"],
+        "bare digests": [BARE, "digests", bare],
+        "reading alone": [BARE, "read", record],
+    }, words.rounds)
+    print(f"a record of {count} pieces and their hashes: ", end="")
+    report(best, count * BLOCK >> 20, "btcheck replay")
+    return missed_marks(best, "btcheck replay", PIECES_MARKS)
+
+
+def replay_answers(folder, words):
+    leaves = 1 << 20
+    tree = Tree([os.urandom(32) for _ in range(leaves)])
+    torrent = write(os.path.join(folder, "torrent"), [torrent_over(tree, leaves * BLOCK)])
+    starts = range(0, leaves, SPAN)
+    record = write(os.path.join(folder, "record"), (answer(tree, index, SPAN) for index in starts))
+    bare = write(os.path.join(folder, "pairs"), (pairs_of(tree, index, SPAN) for index in starts))
+    best = best_of({
+        "btcheck replay": [BTCHECK, "replay", torrent, record, "--info-only"],
+        "bare digests": [BARE, "pairs", bare],
+        "reading alone": [BARE, "read", record],
+    }, words.rounds)
+    print(f"a record of {len(starts)} answers of {SPAN} leaves: ", end="")
+    report(best, os.path.getsize(bare) >> 20, "btcheck replay")
+    return missed_marks(best, "btcheck replay", ANSWERS_MARKS)
+
+
+def run(folder, words):
+    """Measures `replay`, and gives the marks that it misses, in words."""
+    need_program()
+    build_bare()
+    return replay_pieces(folder, words) + replay_answers(folder, words)

@@ -1,0 +1,36 @@
+"""`btcheck root` on one file of random bytes, beside the bare digests of its blocks."""
+import os
+import shutil
+
+from measuring import BARE, BTCHECK, best_of, build_bare, missed_marks, need_program, report, write_random
+
+# What `root` may cost at most: (of what, ratio of processor time), and the resident set in MiB.
+MARKS = [("bare digests", 1.05), ("sha256sum", 1.0)]
+MEMORY_MARK = 8
+
+
+def commands_on(path):
+    commands = {
+        "btcheck root": [BTCHECK, "root", path],
+        "bare digests": [BARE, "digests", path],
+        "reading alone": [BARE, "read", path],
+    }
+    if shutil.which("sha256sum"):
+        commands["sha256sum"] = ["sha256sum", path]
+    if shutil.which("openssl"):
+        commands["openssl"] = ["openssl", "dgst", "-sha256", path]
+    return commands
+
+
+def run(folder, words):
+    """Measures `root`, and gives the marks that it misses, in words."""
+    need_program()
+    build_bare()
+    path = os.path.join(folder, "content")
+    write_random(path, words.size)
+    best = best_of(commands_on(path), words.rounds)
+    report(best, words.size, "btcheck root")
+    missed = missed_marks(best, "btcheck root", MARKS)
+    if best["btcheck root"][2] > MEMORY_MARK * 1024:
+        missed.append(f"btcheck root takes more than {MEMORY_MARK} MiB")
+    return missed

@@ -1,0 +1,140 @@
+"""`btcheck show` on torrents of 25,000, 50,000 and 100,000 files, so that a cost that is not proportional to the files
+shows, with names, roots and layers as an enemy would choose them; and on one with a piece layer of 250,000 hashes, beside
+the bare digests of the same pairs."""
+import os
+import sys
+
+from measuring import BARE, BLOCK, BTCHECK, TOP, best_of, build_bare, missed_marks, need_program, report
+
+sys.path.insert(0, os.path.join(TOP, "tests"))
+from support import sha256  # noqa: E402
+from torrents import bencoded  # noqa: E402
+
+# What showing 100,000 files of the plain torrent may take at most in seconds, what a file of 100,000 may cost beside one
+# of 25,000, and what a piece layer may cost beside the digests of its pairs.
+SHOW_MARK = 0.7
+FILE_MARK = 1.5
+LAYER_MARKS = [("bare digests", 1.25)]
+
+
+def file_of(length, root):
+    return {b"": {b"length": length, b"pieces root": root}}
+
+
+def plain(number):
+    """A folder for each 1,000 files, each file with a root of its own."""
+    return [b"folder %03d" % (number // 1000), b"file %06d" % number], 16384, sha256(b"%d" % number)
+
+
+def one_root(number):
+    path, length, _ = plain(number)
+    return path, length, sha256(b"")
+
+
+def like_roots(number):
+    """Roots that differ in their last bytes alone."""
+    path, length, _ = plain(number)
+    return path, length, bytes(28) + number.to_bytes(4, "big")
+
+
+def like_names(number):
+    """Names that differ in their last bytes alone."""
+    return [b"name " * 40 + b"%06d" % number], 16384, sha256(b"%d" % number)
+
+
+def deep_paths(number):
+    """All files below a hundred folders."""
+    return [b"folder"] * 100 + [b"file %06d" % number], 16384, sha256(b"%d" % number)
+
+
+def own_folders(number):
+    """Each file in a folder of its own."""
+    return [b"folder %06d" % number, b"file"], 16384, sha256(b"%d" % number)
+
+
+def layers_each(number):
+    """Each file of two pieces, so with a piece layer."""
+    path, _, _ = plain(number)
+    return path, 32768, sha256(layer_of_two(number))
+
+
+def layer_of_two(number):
+    return sha256(b"%d" % number) + bytes(32)
+
+
+def write_torrent(path, tree, layers):
+    info = {"file tree": tree, "meta version": 2, "name": "bench", "piece length": BLOCK}
+    with open(path, "wb") as out:
+        out.write(bencoded({"info": info, "piece layers": layers}))
+
+
+def write_files(path, kind, count):
+    """The torrent of so many files of this kind."""
+    tree, layers = {}, {}
+    for number in range(count):
+        components, length, root = kind(number)
+        folder = tree
+        for component in components[:-1]:
+            folder = folder.setdefault(component, {})
+        folder[components[-1]] = file_of(length, root)
+        if length > 16384:
+            layers[root] = layer_of_two(number)
+    write_torrent(path, tree, layers)
+
+
+def write_layer(path, pairs_path, count):
+    """The torrent of one file with so many pieces, and the pairs that its root is the digest over."""
+    layer = [sha256(b"%d" % number) for number in range(count)]
+    level, pad = layer, bytes(32)
+    with open(pairs_path, "wb") as pairs:
+        while len(level) > 1:
+            level = level + [pad] * (len(level) % 2)
+            joined = [level[i] + level[i + 1] for i in range(0, len(level), 2)]
+            pairs.write(b"".join(joined))
+            level, pad = [sha256(pair) for pair in joined], sha256(pad + pad)
+    write_torrent(path, {b"file": file_of(count * BLOCK, level[0])}, {level[0]: b"".join(layer)})
+
+
+KINDS = [plain, one_root, like_roots, like_names, deep_paths, own_folders, layers_each]
+COUNTS = [25_000, 50_000, 100_000]
+
+
+def show_files(folder, words):
+    """Measures torrents of many files, and gives the marks that they miss, in words."""
+    commands = {}
+    for kind in KINDS:
+        for count in COUNTS:
+            path = os.path.join(folder, f"{kind.__name__}-{count}")
+            write_files(path, kind, count)
+            commands[kind.__name__, count] = [BTCHECK, "show", path]
+    best = best_of(commands, words.rounds)
+    print("show, best of interleaved rounds; microseconds of processor time a file")
+    print(f"{'':14}" + "".join(f"{count:>10}" for count in COUNTS) + f"{'whole, s':>10} {'peak KiB':>9}")
+    missed = []
+    for kind in KINDS:
+        costs = [best[kind.__name__, count][1] / count * 1e6 for count in COUNTS]
+        _, whole, peak = best[kind.__name__, COUNTS[-1]]
+        print(f"{kind.__name__.replace('_', ' '):14}" + "".join(f"{cost:10.2f}" for cost in costs) + f"{whole:10.3f} {peak:9}")
+        if costs[-1] > FILE_MARK * costs[0]:
+            missed.append(f"{kind.__name__}: a file of {COUNTS[-1]} takes more than {FILE_MARK} x one of {COUNTS[0]}")
+    if best["plain", COUNTS[-1]][1] > SHOW_MARK:
+        missed.append(f"show of {COUNTS[-1]} files takes more than {SHOW_MARK} s")
+    return missed
+
+
+def show_layer(folder, words):
+    """Measures a long piece layer, and gives the mark if it misses it, in words."""
+    build_bare()
+    count = 250_000
+    path, pairs = os.path.join(folder, "layer"), os.path.join(folder, "pairs")
+    write_layer(path, pairs, count)
+    best = best_of({"btcheck show": [BTCHECK, "show", path], "bare digests": [BARE, "pairs", pairs]}, words.rounds)
+    print(f"a piece layer of {count} hashes: ", end="")
+    report(best, os.path.getsize(pairs) >> 20, "btcheck show")
+    return missed_marks(best, "btcheck show", LAYER_MARKS)
+
+
+def run(folder, words):
+    """Measures `show`, and gives the marks that it misses, in words."""
+    need_program()
+    return show_files(folder, words) + show_layer(folder, words)

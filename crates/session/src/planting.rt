@@ -1,0 +1,54 @@
+//! The trees of a new session.
+
+ghost use Rattle.std.specs.Prelude.{◌≡◌, ◌<◌, ℕ, true, false, IfOk, OnOk};
+ghost use Rattle.metainfo.specs.Description.{TreeEntry};
+ghost use Rattle.metainfo.specs.Refusals.{IsPieceLength};
+ghost use Rattle.metainfo.specs.Seen.{tree_entry};
+ghost use Rattle.metainfo.specs.Sound.{IsSoundTree};
+ghost use Rattle.session.specs.Fresh.{IsPlanted};
+
+use crate::node_map::NodeMap;
+use crate::refusal::HashRefusal;
+use crate::tree::Tree;
+use hashtree::Shape;
+use metainfo::TreeInfo;
+use std::alloc::{AllocError, Global};
+
+/// A tree as a new session knows it: by its root alone, or with layers also from its piece layer up, where its files are
+/// longer than a piece. Fails only where memory was refused.
+pub fn planted<N: NodeMap>(
+    alloc: Global,
+    info: &TreeInfo<'_>,
+    piece_length: u64,
+    with_layers: bool,
+) -> Result<Tree<N>, AllocError>
+    requires legal { IsPieceLength piece_length }
+    requires sound { IsSoundTree piece_length (tree_entry info.now) }
+    ensures { IfOk result (λ t. IsPlanted piece_length with_layers (tree_entry info.now) t) }
+{
+    let mut tree = Tree::new(alloc, info.root, Shape::of(info.length).unwrap())?;
+    if with_layers && info.length > piece_length {
+        add_layers(&mut tree, info, piece_length)?;
+    }
+    Ok(tree)
+}
+
+/// Adds what lies from the piece layer up to a tree of which the root alone is known.
+fn add_layers<N: NodeMap>(
+    tree: &mut Tree<N>,
+    info: &TreeInfo<'_>,
+    piece_length: u64,
+) -> Result<(), AllocError>
+    requires legal { IsPieceLength piece_length }
+    requires sound { IsSoundTree piece_length (tree_entry info.now) }
+    requires longer { piece_length < info.now.length }
+    requires planted { IsPlanted piece_length false (tree_entry info.now) tree.old }
+    ensures { OnOk result (IsPlanted piece_length true (tree_entry info.now) tree.new) }
+{
+    let layer = Shape::of(piece_length).unwrap().height();
+    if let Err(refusal) = tree.fill(layer, info.layer) {
+        prove!(matches!(&refusal, HashRefusal::NoMemory));
+        return Err(AllocError);
+    }
+    Ok(())
+}

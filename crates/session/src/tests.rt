@@ -1,0 +1,7 @@
+//! Sessions of worked torrents, with ample memory.
+
+mod blocks;
+mod fills;
+mod hashes;
+mod made;
+mod runs;

@@ -1,0 +1,78 @@
+"""A plain model of sessions: what is known of each tree is a map from places."""
+from support import BLOCK, sha256
+from trees import Tree, blocks_of
+
+
+class Session:
+    """What is known of each tree, as a plain map from places; all checks are made on a copy."""
+
+    def __init__(self, files, piece_length, with_layers):
+        self.piece_length = piece_length
+        self.files, self.trees, first = [], {}, 0
+        for number, (_, content) in enumerate(files):
+            if content:
+                whole = Tree.of(content)
+                tree = self.trees.setdefault(whole.root, {"whole": whole, "blocks": blocks_of(content), "known": {}})
+                self.files.append((number, content, tree, first))
+                first += -(-len(content) // piece_length)
+        for tree in self.trees.values():
+            whole = tree["whole"]
+            tree["known"][(whole.height, 0)] = whole.root
+            if with_layers and sum(map(len, tree["blocks"])) > piece_length:
+                for layer in range((piece_length // BLOCK).bit_length() - 1, whole.height):
+                    for at, value in enumerate(whole.layers[layer]):
+                        tree["known"][(layer, at)] = value
+
+    def in_range(self, whole, base, index, length):
+        return (2 <= length <= 8192 and length & (length - 1) == 0 and index % length == 0
+                and base <= whole.height and index + length <= 2 ** (whole.height - base))
+
+    def take(self, root, base, index, length, proof, given):
+        tree = self.trees.get(root)
+        if tree is None:
+            return "refused H1 UnknownRoot"
+        whole, known = tree["whole"], tree["known"]
+        if not self.in_range(whole, base, index, length):
+            return "refused H2 BadRange"
+        span, uncles = length.bit_length() - 1, len(given) - length
+        if uncles < 0 or uncles > proof or base + span + uncles > whole.height:
+            return "refused H3 BadCount"
+        claims = {(base, index + at): given[at] for at in range(length)}
+        layer, at = base + span, index // length
+        for value in given[length:]:
+            claims[(layer, at ^ 1)] = value
+            layer, at = layer + 1, at // 2
+        for (level, place), value in claims.items():
+            if place * 2 ** level >= whole.leaf_count and value != whole.layers[level][place]:
+                return "refused H4 BadPad"
+        if (layer, at) not in known:
+            return "refused H5 Unanchored"
+        for level in range(base, layer):
+            for (row, place) in sorted(key for key in claims if key[0] == level and key[1] % 2 == 0):
+                claims[(level + 1, place // 2)] = sha256(claims[(level, place)] + claims[(level, place + 1)])
+        if any(known.get(key, value) != value for key, value in claims.items()):
+            return "refused H6 Mismatch"
+        gained = len(claims.keys() - known.keys())
+        known.update(claims)
+        return f"stored {gained}"
+
+    def block(self, index, begin, block):
+        for number, content, tree, first in self.files:
+            at = index * self.piece_length + begin - first * self.piece_length
+            if at % BLOCK == 0 and 0 <= at < len(content):
+                right = content[at:at + BLOCK]
+                leaf = tree["known"].get((0, at // BLOCK))
+                if len(block) != len(right):
+                    return "refused P2 BadSize"
+                if leaf is None:
+                    return "refused P3 Unproved"
+                if sha256(block) != leaf:
+                    return "refused P4 BadBlock"
+                return f"verified {number} {at // BLOCK}"
+        return "refused P1 BadPlace"
+
+    def answer(self, root, base, index, length, proof):
+        tree = self.trees.get(root)
+        if tree is None or not self.in_range(tree["whole"], base, index, length):
+            return "rejected"
+        return "answered" if all((base, index + at) in tree["known"] for at in range(length)) else "rejected"

@@ -1,0 +1,300 @@
+"""`btcheck replay TORRENT RECORD [--info-only]`, against a plain model of sessions with hashlib."""
+import os
+import random
+import resource
+import subprocess
+
+from messages import KEEP_ALIVE, frame, hashes, piece, reject, request
+from session_model import Session
+from support import BLOCK, BTCHECK, expect, folder, run, sha256, write
+from torrents import ABC, info, torrent, torrent_of
+from trees import Tree, blocks_of
+
+
+def replay(place, torrent, record, *flags, **options):
+    write(f"{place}/torrent", torrent)
+    write(f"{place}/record", record)
+    return run("replay", f"{place}/torrent", f"{place}/record", *flags, **options)
+
+
+def lines(*texts):
+    return "".join(f"{text}\n" for text in texts)
+
+
+def test_worked_records():
+    record = KEEP_ALIVE + piece(0, 0, b"abc") + frame(b"\x04" + bytes(4))
+    poisoned = KEEP_ALIVE + piece(0, 0, b"abd") + frame(b"\x04" + bytes(4))
+    with folder() as place:
+        expect(replay(place, ABC, record + bytes(2)), 2,
+               lines("1 keep-alive", "2 verified 0 0", "3 skipped 4", "fault Truncated"))
+        expect(replay(place, ABC, poisoned), 1, lines("1 keep-alive", "2 refused P4 BadBlock", "3 skipped 4", "end"))
+        expect(replay(place, ABC, b""), 0, lines("end"))
+        for start in (b"\xff\xff\xff\xff\x04", b"\xff\xff\xff\xff\x07"):
+            expect(replay(place, ABC, start), 2, lines("fault Truncated"))
+
+
+def test_a_record_cut_anywhere():
+    record = KEEP_ALIVE + piece(0, 0, b"abc") + frame(b"\x04" + bytes(4)) + bytes(2)
+    assert len(record) == 31
+    with folder() as place:
+        for count in range(32):
+            whole = [text for end, text in [(4, "1 keep-alive"), (20, "2 verified 0 0"), (29, "3 skipped 4")] if end <= count]
+            ended = count in (0, 4, 20, 29)
+            expect(replay(place, ABC, record[:count]), 0 if ended else 2, lines(*whole, "end" if ended else "fault Truncated"))
+
+
+def test_frames_of_a_wrong_size():
+    record = (frame(b"\x15\x00") + frame(b"\x07") + frame(b"\x16" + bytes(79)) + frame(b"\x07" + bytes(263217)))
+    report = lines("1 bad frame 21 2", "2 bad frame 7 1", "3 bad frame 22 80", "4 bad frame 7 263218", "end")
+    with folder() as place:
+        expect(replay(place, ABC, record), 1, report)
+        expect(replay(place, ABC, record, "--info-only"), 1, report)
+        write(f"{place}/torrent", ABC)
+        for size in (1, 7, 65536):
+            expect(through_a_pipe(f"{place}/torrent", record[:400], size), 2,
+                   lines("1 bad frame 21 2", "2 bad frame 7 1", "3 bad frame 22 80", "fault Truncated"))
+
+
+def through_a_pipe(torrent, record, size, *flags):
+    """Runs over a record that comes from a pipe in parts of this size."""
+    program = subprocess.Popen([BTCHECK, "replay", torrent, "/dev/stdin", *flags],
+                               stdin=subprocess.PIPE, stdout=subprocess.PIPE, stderr=subprocess.PIPE, bufsize=0)
+    for at in range(0, len(record), size):
+        program.stdin.write(record[at:at + size])
+    out, err = program.communicate(timeout=600)
+    return subprocess.CompletedProcess(program.args, program.returncode, out, err)
+
+
+def test_lines_appear_as_frames_come():
+    with folder() as place:
+        write(f"{place}/torrent", ABC)
+        program = subprocess.Popen([BTCHECK, "replay", f"{place}/torrent", "/dev/stdin"],
+                                   stdin=subprocess.PIPE, stdout=subprocess.PIPE, bufsize=0)
+        for part, line in [(KEEP_ALIVE, b"1 keep-alive\n"), (piece(0, 0, b"abd"), b"2 refused P4 BadBlock\n"),
+                           (piece(0, 0, b"abc"), b"3 verified 0 0\n")]:
+            program.stdin.write(part)
+            assert program.stdout.readline() == line
+        program.stdin.close()
+        assert program.stdout.read() == b"end\n"
+        assert program.wait(timeout=60) == 1
+        program.stdout.close()
+
+
+FIVE = bytes(range(256)) * 256 + bytes(100)  # 65,636 bytes: five blocks, the last of 100 bytes
+
+
+def test_five_blocks():
+    tree = Tree.of(FIVE)
+    torrent = torrent_of([("five", FIVE)], 32768)
+    eight = hashes(tree.root, 0, 0, 8, 2, given=tree.hashes(0, 0, 8, 0))
+    four = tree.hashes(0, 0, 4, 1)
+    bent = four[:4] + [bytes([four[4][0] ^ 1]) + four[4][1:]]
+    pad = tree.hashes(0, 0, 8, 0)
+    pad[6] = tree.root
+    blocks = blocks_of(FIVE)
+    flipped = bytes([blocks[0][0] ^ 1]) + blocks[0][1:]
+    with folder() as place:
+        cases = [
+            (eight, ["1 stored 14"]),
+            (hashes(tree.root, 0, 0, 8, 2, given=pad), ["1 refused H4 BadPad"]),
+            (hashes(tree.root, 0, 0, 4, 2, given=four), ["1 stored 8"]),
+            (hashes(tree.root, 0, 0, 4, 2, given=bent), ["1 refused H6 Mismatch"]),
+            (hashes(tree.root, 0, 4, 2, 2, given=tree.hashes(0, 4, 2, 2)), ["1 stored 6"]),
+            (hashes(tree.root, 4294967295, 4294967294, 2, 2, given=four[:2]), ["1 refused H2 BadRange"]),
+            (hashes(tree.root, 0, 4294967288, 8, 2, given=pad), ["1 refused H2 BadRange"]),
+            (hashes(tree.root, 0, 0, 8, 4294967295, given=tree.hashes(0, 0, 8, 0)), ["1 stored 14"]),
+            (hashes(sha256(b"none"), 0, 0, 3, 2, given=four), ["1 refused H1 UnknownRoot"]),
+            (piece(1, 0, blocks[2]), ["1 refused P3 Unproved"]),
+            (eight + piece(1, 0, blocks[2]) + piece(1, 0, blocks[2]), ["1 stored 14", "2 verified 0 2", "3 verified 0 2"]),
+            (eight + piece(2, 0, blocks[4]), ["1 stored 14", "2 verified 0 4"]),
+            (eight + piece(2, 0, blocks[4] + b"x"), ["1 stored 14", "2 refused P2 BadSize"]),
+            (eight + piece(2, 0, blocks[4][:99]), ["1 stored 14", "2 refused P2 BadSize"]),
+            (eight + piece(0, 1, blocks[0]), ["1 stored 14", "2 refused P1 BadPlace"]),
+            (eight + piece(2, 16384, blocks[4]), ["1 stored 14", "2 refused P1 BadPlace"]),
+            (eight + piece(0, 0, flipped), ["1 stored 14", "2 refused P4 BadBlock"]),
+            (eight + reject(tree.root, 0, 0, 8, 2) + request(tree.root, 0, 0, 8, 2) + request(tree.root, 0, 0, 16, 2),
+             ["1 stored 14", "2 reject noted", "3 answered", "4 rejected"]),
+        ]
+        for record, report in cases:
+            status = 1 if any("refused" in line for line in report) else 0
+            expect(replay(place, torrent, record, "--info-only"), status, lines(*report, "end"))
+        expect(replay(place, torrent, eight), 0, lines("1 stored 8", "end"))
+
+
+def poisoned_records(files, piece_length, with_layers, seed, count):
+    """Messages of every kind, true and false, with the lines that the model tells of them."""
+    chance = random.Random(seed)
+    model = Session(files, piece_length, with_layers)
+    trees = [tree["whole"] for tree in model.trees.values()]
+    record, report = [], []
+    for _ in range(count):
+        tree = chance.choice(trees)
+        root = tree.root if chance.random() < 0.95 else chance.randbytes(32)
+        kind = chance.choice(["hashes", "hashes", "hashes", "piece", "piece", "request", "reject", "other", "bad"])
+        base = chance.randint(0, max(0, tree.height - 1))
+        length = 2 ** chance.randint(1, max(1, min(4, tree.height - base)))
+        index = chance.randrange(max(1, 2 ** (tree.height - base) // length)) * length
+        if chance.random() < 0.1:
+            base, index, length = chance.choice([
+                (tree.height + 1, index, length), (base, index + 1, length), (base, 2 ** tree.height, length),
+                (base, index, length + 1), (base, 0, 1), (base, 0, 16384), (2 ** 32 - 1, 2 ** 32 - length, length)])
+        ask = (root, base, index, length, chance.choice([0, 1, tree.height, 40]))
+        if kind == "hashes":
+            room = max(0, tree.height - base - (length.bit_length() - 1))
+            room = chance.randint(0, room) if chance.random() < 0.3 else room
+            ask = (*ask[:4], chance.choice([room, tree.height, 40, 2 ** 32 - 1, 0]))
+            try:
+                given = tree.hashes(base, index, length, room)
+            except IndexError:
+                given = [chance.randbytes(32) for _ in range(length)]
+            for at in range(len(given)):
+                if chance.random() < 0.01:
+                    given[at] = chance.choice([bytes(32), chance.randbytes(32), given[0]])
+            if chance.random() < 0.05:
+                given = given[:-1] if chance.random() < 0.5 else given + [chance.randbytes(32)]
+            given = given[:8224]  # as many as a frame may carry
+            record.append(hashes(*ask, given=given))
+            report.append(model.take(*ask, given))
+        elif kind == "piece":
+            number, content, kept, first = chance.choice(model.files)
+            at = chance.randrange(len(kept["blocks"]))
+            block = kept["blocks"][at]
+            if chance.random() < 0.3:
+                block = bytes([block[0] ^ 1]) + block[1:]
+            if chance.random() < 0.1:
+                block = block + b"x" if chance.random() < 0.5 else block[:-1]
+            begin = at * BLOCK + (chance.random() < 0.05)
+            place = (first, begin) if chance.random() < 0.5 else (first + begin // piece_length, begin % piece_length)
+            if chance.random() < 0.05:
+                place = (chance.randrange(2 ** 32), chance.randrange(2 ** 32))
+            record.append(piece(*place, block))
+            report.append(model.block(*place, block))
+        elif kind == "request":
+            record.append(request(*ask))
+            report.append(model.answer(*ask))
+        elif kind == "reject":
+            record.append(reject(*ask))
+            report.append("reject noted")
+        elif kind == "other":
+            ident = chance.choice([0, 4, 5, 6, 8, 20, 24, 255])
+            record.append(frame(bytes([ident]) + bytes(chance.randint(0, 40))) if chance.random() < 0.8 else KEEP_ALIVE)
+            report.append(f"skipped {ident}" if record[-1] != KEEP_ALIVE else "keep-alive")
+        else:
+            ident, size = chance.choice([(7, 8), (7, 263218), (21, 50), (21, 1), (22, 48), (22, 80), (23, 48), (22, 263218)])
+            record.append(frame(bytes([ident]) + bytes(size - 1)))
+            report.append(f"bad frame {ident} {size}")
+    return record, [f"{number} {text}" for number, text in enumerate(report, 1)]
+
+
+def test_poison_between_true_answers():
+    chance = random.Random(20)
+    worlds = [
+        [("a", chance.randbytes(16385)), ("b", b""), ("c", b"abc")],
+        [("five", FIVE), ("same", FIVE), ("unit", b"1")],
+        [("large", chance.randbytes(600 * BLOCK + 77)), ("nine", chance.randbytes(9 * BLOCK))],
+    ]
+    compared = 0
+    with folder() as place:
+        for files in worlds:
+            for piece_length in (16384, 32768, 262144):
+                torrent = torrent_of(files, piece_length)
+                for flags in ([], ["--info-only"]):
+                    record, report = poisoned_records(files, piece_length, not flags, compared, 300)
+                    status = 1 if any(" refused " in line or " bad frame " in line for line in report) else 0
+                    done = replay(place, torrent, b"".join(record), *flags)
+                    expect(done, status, lines(*report, "end"))
+                    compared += len(report)
+    print(f"{compared} messages compared")
+
+
+def test_a_true_answer_after_poison():
+    chance = random.Random(7)
+    content = chance.randbytes(1024 * BLOCK)
+    tree = Tree.of(content)
+    torrent = torrent_of([("file", content)], len(content))
+    upper = (tree.root, 0, 512, 512, 9)
+    lower = (tree.root, 0, 0, 512, 9)
+    record = (hashes(*upper, given=tree.hashes(0, 512, 512, 0)) + hashes(*upper, given=tree.hashes(0, 512, 512, 1))
+              + hashes(*upper, given=tree.hashes(0, 512, 512, 1)) + hashes(*lower, given=[bytes(32)] * 513)
+              + hashes(*lower, given=tree.hashes(0, 0, 512, 1))
+              + b"".join(piece(0, at * BLOCK, block) for at, block in enumerate(blocks_of(content))))
+    report = ["1 refused H5 Unanchored", "2 stored 1024", "3 stored 0", "4 refused H6 Mismatch", "5 stored 1022",
+              *(f"{at + 6} verified 0 {at}" for at in range(1024))]
+    with folder() as place:
+        expect(replay(place, torrent, record), 1, lines(*report, "end"))
+        write(f"{place}/torrent", torrent)
+        expect(through_a_pipe(f"{place}/torrent", record, 70001), 1, lines(*report, "end"))
+
+
+def test_faults_of_files():
+    with folder() as place:
+        torrent, record = write(f"{place}/torrent", ABC), write(f"{place}/record", b"")
+        missing = f"{place}/missing"
+        expect(run("replay", missing, record), 2, "", f"fault: cannot read {missing}\n")
+        expect(run("replay", torrent, missing), 2, "", f"fault: cannot read {missing}\n")
+        expect(run("replay", torrent, place), 2, "fault Read\n")
+        expect(run("replay", torrent, f"{place}/new\nline"), 2, "", f"fault: cannot read {place}/new\\x0aline\n")
+        expect(run("replay", place, record), 2, "", f"fault: cannot read {place}\n")
+        # the torrent is told first, whatever the record is
+        bad = write(f"{place}/bad", torrent_of([("..", b"abc")], BLOCK))
+        expect(run("replay", bad, missing), 1, "refused 8 Path\n")
+        expect(run("replay", missing, missing), 2, "", f"fault: cannot read {missing}\n")
+        short = write(f"{place}/short", ABC[:-1])
+        expect(run("replay", short, record), 1, f"refused 2 NotBencode Truncated {len(ABC) - 1}\n")
+
+
+def test_standard_output_that_fails():
+    with folder() as place:
+        torrent, record = write(f"{place}/torrent", ABC), write(f"{place}/record", KEEP_ALIVE)
+        for words in ([torrent, record], [torrent, "/dev/null"]):
+            with open("/dev/full", "wb") as full:
+                done = run("replay", *words, stdout=full)
+            assert (done.returncode, done.stderr) == (2, b"fault: cannot write -\n"), done
+
+
+def test_records_that_come_from_pipes():
+    record = KEEP_ALIVE + piece(0, 0, b"abc")
+    with folder() as place:
+        write(f"{place}/torrent", ABC)
+        fifo = f"{place}/fifo"
+        os.mkfifo(fifo)
+        program = subprocess.Popen([BTCHECK, "replay", f"{place}/torrent", fifo], stdout=subprocess.PIPE)
+        write(fifo, record)
+        out, _ = program.communicate(timeout=60)
+        assert (program.returncode, out) == (0, b"1 keep-alive\n2 verified 0 0\nend\n"), (program.returncode, out)
+        expect(run("replay", f"{place}/torrent", "/dev/stdin", input=record), 0, lines("1 keep-alive", "2 verified 0 0", "end"))
+
+
+def test_memory_is_that_of_the_session():
+    """Records of 64 MiB, in 32 MiB of memory in all: nothing is kept of a frame once its line is written."""
+    tree = Tree.of(FIVE)
+    torrent = torrent_of([("five", FIVE)], 32768)
+    leaves = hashes(tree.root, 0, 0, 8, 2, given=tree.hashes(0, 0, 8, 0))
+    block = piece(0, 0, FIVE[:BLOCK])
+    skipped = frame(b"\x05" + bytes((1 << 20) - 5))
+    with folder() as place:
+        for parts, count, last in [(KEEP_ALIVE, 1 << 18, b"%d keep-alive"), (skipped, 64, b"%d skipped 5"),
+                                   (leaves + block * 4095, 1, b"%d verified 0 0"), (leaves, 1 << 17, b"%d stored 0"),
+                                   (frame(b"\x16" + bytes((1 << 20) - 5)), 64, b"%d bad frame 22 1048572")]:
+            done = replay(place, torrent, parts * count, "--info-only", preexec_fn=limit_memory)
+            told = done.stdout.split(b"\n")
+            assert done.returncode in (0, 1), done.stderr
+            assert told[-3:] == [last % (len(told) - 2), b"end", b""], told[-3:]
+
+
+def test_a_growth_that_is_refused():
+    """The last two leaves of a file of 2^46 bytes, whose hashes are right, in 32 MiB of memory: the session goes on."""
+    zeros = [bytes(32)]
+    for _ in range(32):
+        zeros.append(sha256(zeros[-1] * 2))
+    value = info({"file": {"": {"length": 1 << 46, "pieces root": zeros[32]}}}, 1 << 30)
+    far = hashes(zeros[32], 0, 2 ** 32 - 2, 2, 31, given=[zeros[0], *zeros[:32]])
+    near = hashes(zeros[32], 31, 0, 2, 0, given=[zeros[31], zeros[31]])
+    with folder() as place:
+        done = replay(place, torrent(value, {zeros[32]: zeros[16] * 65536}), far + near + far, "--info-only",
+                      preexec_fn=limit_memory)
+        expect(done, 2, lines("1 refused H7 NoMemory", "2 stored 2", "3 refused H7 NoMemory", "end"))
+
+
+def limit_memory():
+    resource.setrlimit(resource.RLIMIT_AS, (32 << 20, 32 << 20))
