@@ -108,6 +108,12 @@ def report(best, mib, first):
         print(f"{name:14} {wall:8.2f} {processor:12.3f} {mib / max(processor, 0.001):7.0f} {peak:9} {ratio:>19}")
 
 
+def write_random(path, mib):
+    with open(path, "wb") as out:
+        for _ in range(mib):
+            out.write(os.urandom(1 << 20))
+
+
 def need_program():
     if not os.path.exists(BTCHECK):
         sys.exit("build/btcheck is missing: run make first")

@@ -2,17 +2,11 @@
 import os
 import shutil
 
-from measuring import BARE, BTCHECK, best_of, build_bare, missed_marks, need_program, report
+from measuring import BARE, BTCHECK, best_of, build_bare, missed_marks, need_program, report, write_random
 
 # What `root` may cost at most: (of what, ratio of processor time), and the resident set in MiB.
 MARKS = [("bare digests", 1.05), ("sha256sum", 1.0)]
 MEMORY_MARK = 8
-
-
-def write_random(path, mib):
-    with open(path, "wb") as out:
-        for _ in range(mib):
-            out.write(os.urandom(1 << 20))
 
 
 def commands_on(path):

@@ -4,7 +4,8 @@ import os
 import random
 import shutil
 
-from support import BTCHECK, escaped, expect, folder, made_by_libtorrent, root_of, run, write
+import torrents
+from support import BTCHECK, escaped, expect, folder, made_by_libtorrent, run, write
 
 # The files of a folder: the content of each path. `n` and `o` are one content, and `p` ends with zeros.
 FILES = {
@@ -252,23 +253,12 @@ def test_torrents_of_one_file():
                 write(f"{content}/only", FILES["l"])
 
 
-def encode(value):
-    """Canonical bencoding (BEP 3)."""
-    if isinstance(value, int):
-        return b"i%de" % value
-    if isinstance(value, bytes):
-        return b"%d:%s" % (len(value), value)
-    if isinstance(value, list):
-        return b"l%se" % b"".join(map(encode, value))
-    return b"d%se" % b"".join(encode(key) + encode(value[key]) for key in sorted(value))
-
-
 def torrent_of(path):
     """A torrent of version 2 of one file, `abc`, with these components."""
-    tree = {b"": {b"length": 3, b"pieces root": root_of(b"abc")}}
+    tree = torrents.file(b"abc")
     for component in reversed(path):
-        tree = {component.encode(): tree}
-    return encode({b"info": {b"file tree": tree, b"meta version": 2, b"name": b"x", b"piece length": 16384}})
+        tree = {component: tree}
+    return torrents.torrent(torrents.info(tree))
 
 
 def sha1(content):
@@ -280,16 +270,10 @@ def hybrid_of(first, second, piece_length, tail):
     pad = piece_length - len(first)
     stream = first + bytes(pad) + second + bytes(tail)
     cuts = [stream[i:i + piece_length] for i in range(0, len(stream), piece_length)]
-    files = [
-        {b"length": len(first), b"path": [b"a"]},
-        {b"attr": b"p", b"length": pad, b"path": [b".pad", b"%d" % pad]},
-        {b"length": len(second), b"path": [b"c"]},
-        {b"attr": b"p", b"length": tail, b"path": [b".pad", b"%d" % tail]},
-    ]
-    tree = {name: {b"": {b"length": len(content), b"pieces root": root_of(content)}}
-            for name, content in [(b"a", first), (b"c", second)]}
-    return encode({b"info": {b"file tree": tree, b"files": files if tail else files[:3], b"meta version": 2, b"name": b"x",
-                             b"piece length": piece_length, b"pieces": b"".join(map(sha1, cuts))}})
+    files = [torrents.entry(len(first), "a"), torrents.pad(pad), torrents.entry(len(second), "c"), torrents.pad(tail)]
+    tree = {"a": torrents.file(first), "c": torrents.file(second)}
+    return torrents.torrent(torrents.info(tree, piece_length, files=files if tail else files[:3],
+                                          pieces=b"".join(map(sha1, cuts))))
 
 
 def test_zeros_behind_the_last_file():
@@ -343,10 +327,10 @@ def test_files_without_leave_to_read():
         program = f"{place}/btcheck"
         shutil.copy(BTCHECK, program)
         content = make_folder(f"{place}/content", FILES)
-        torrents = list(made_torrents(place, content, [32768]))
+        made = list(made_torrents(place, content, [32768]))
         os.chmod(f"{content}/l", 0)
         os.chmod(f"{content}/a", 0o600)
-        for path, torrent in torrents:
+        for path, torrent in made:
             done = run("check", path, content, executable=program, **nobody)
             expect(done, *torrent.report(dict.fromkeys(["l", "a/b", "a/c/d"], UNREADABLE)))
 
