@@ -1,9 +1,9 @@
 //! A session of a torrent: what is known and marked of each of its trees.
 
-ghost use Rattle.std.specs.Prelude.{◌≡◌, ◌≢◌, ℕ, ◌^◌, ◌<◌, ◌≤◌, ◌↔◌, IfOk, IfErr, IfSome, IfNone, OnErr, IsTrue, List, length, slice_get, Some};
+ghost use Rattle.std.specs.Prelude.{◌≡◌, ◌<◌, ◌↔◌, IfOk, IfErr, OnErr, IsTrue, length, slice_get, Some};
 ghost use Rattle.std.specs.FinMap as finite;
 ghost use Rattle.std.specs.FinSet as set;
-ghost use Rattle.session.specs.Kept.{KeptTree, TreeState};
+ghost use Rattle.session.specs.Kept.{TreeState};
 ghost use Rattle.session.specs.Session.{IsGood, HasDistinctRoots, IsStored, IsHashRefused, IsVerified, IsBlockRefused, IsAnswered, Step, IsTrueVerdict, IsTrueRun};
 ghost use Rattle.session.specs.Layouts.{layout_of, IsFilled, IsFillRefused};
 ghost use Rattle.session.specs.Fresh.{IsFresh};
