@@ -158,42 +158,16 @@ fn take_parts_of_five(
     let [four, end] = five.fours;
     let mut turned = end;
     turned[31] ^= 1;
+    let bad_pad = Err(HashRefusal::BadPad);
+    let mismatch = Err(HashRefusal::Mismatch);
     // index, length, hashes and how many they are, places gained or the refusal, places known
     let cases = [
         (0, 8, [l0, l1, l2, l3, l4, Z0, Z0, Z0], 8, Ok(14), 15),
-        (
-            0,
-            8,
-            [l0, l1, l2, l3, l4, Z0, Z1, Z0],
-            8,
-            Err(HashRefusal::BadPad),
-            1,
-        ),
-        (
-            0,
-            8,
-            [l0, l1, l2, l3, l4, Z0, l4, Z0],
-            8,
-            Err(HashRefusal::BadPad),
-            1,
-        ),
+        (0, 8, [l0, l1, l2, l3, l4, Z0, Z1, Z0], 8, bad_pad, 1),
+        (0, 8, [l0, l1, l2, l3, l4, Z0, l4, Z0], 8, bad_pad, 1),
         (0, 4, [l0, l1, l2, l3, end, Z0, Z0, Z0], 5, Ok(8), 9),
-        (
-            0,
-            4,
-            [l0, l1, l2, l3, turned, Z0, Z0, Z0],
-            5,
-            Err(HashRefusal::Mismatch),
-            1,
-        ),
-        (
-            0,
-            4,
-            [l0, l1, l3, l2, end, Z0, Z0, Z0],
-            5,
-            Err(HashRefusal::Mismatch),
-            1,
-        ),
+        (0, 4, [l0, l1, l2, l3, turned, Z0, Z0, Z0], 5, mismatch, 1),
+        (0, 4, [l0, l1, l3, l2, end, Z0, Z0, Z0], 5, mismatch, 1),
         (4, 2, [l4, Z0, Z1, four, Z0, Z0, Z0, Z0], 4, Ok(6), 7),
     ];
     for (index, length, hashes, count, told, known) in cases {
