@@ -52,6 +52,18 @@ def write(path, parts):
     return path
 
 
+def replay_beside(words, title, torrent, record, kind, bare, marks):
+    """Measures one record beside the bare digests of a file's blocks or pairs, and gives the marks that it misses."""
+    best = best_of({
+        "btcheck replay": [BTCHECK, "replay", torrent, record, "--info-only"],
+        "bare digests": [BARE, kind, bare],
+        "reading alone": [BARE, "read", record],
+    }, words.rounds)
+    print(title, end=": ")
+    report(best, os.path.getsize(bare) >> 20, "btcheck replay")
+    return missed_marks(best, "btcheck replay", marks)
+
+
 def replay_pieces(folder, words):
     count = 16384
     blocks = [os.urandom(BLOCK) for _ in range(count)]
@@ -61,14 +73,8 @@ def replay_pieces(folder, words):
                    [answer(tree, index, SPAN) for index in range(0, count, SPAN)]
                    + [messages.piece(0, index * BLOCK, block) for index, block in enumerate(blocks)])
     bare = write(os.path.join(folder, "blocks"), blocks)
-    best = best_of({
-        "btcheck replay": [BTCHECK, "replay", torrent, record, "--info-only"],
-        "bare digests": [BARE, "digests", bare],
-        "reading alone": [BARE, "read", record],
-    }, words.rounds)
-    print(f"a record of {count} pieces and their hashes: ", end="")
-    report(best, count * BLOCK >> 20, "btcheck replay")
-    return missed_marks(best, "btcheck replay", PIECES_MARKS)
+    title = f"a record of {count} pieces and their hashes"
+    return replay_beside(words, title, torrent, record, "digests", bare, PIECES_MARKS)
 
 
 def replay_answers(folder, words):
@@ -78,14 +84,8 @@ def replay_answers(folder, words):
     starts = range(0, leaves, SPAN)
     record = write(os.path.join(folder, "record"), (answer(tree, index, SPAN) for index in starts))
     bare = write(os.path.join(folder, "pairs"), (pairs_of(tree, index, SPAN) for index in starts))
-    best = best_of({
-        "btcheck replay": [BTCHECK, "replay", torrent, record, "--info-only"],
-        "bare digests": [BARE, "pairs", bare],
-        "reading alone": [BARE, "read", record],
-    }, words.rounds)
-    print(f"a record of {len(starts)} answers of {SPAN} leaves: ", end="")
-    report(best, os.path.getsize(bare) >> 20, "btcheck replay")
-    return missed_marks(best, "btcheck replay", ANSWERS_MARKS)
+    title = f"a record of {len(starts)} answers of {SPAN} leaves"
+    return replay_beside(words, title, torrent, record, "pairs", bare, ANSWERS_MARKS)
 
 
 def run(folder, words):

@@ -1,6 +1,7 @@
 """`btcheck show` on torrents of 25,000, 50,000 and 100,000 files, so that a cost that is not proportional to the files
 shows, with names, roots and layers as an enemy would choose them; and on one with a piece layer of 250,000 hashes, beside
 the bare digests of the same pairs."""
+import functools
 import os
 import sys
 
@@ -62,10 +63,20 @@ def layer_of_two(number):
     return sha256(b"%d" % number) + bytes(32)
 
 
-def write_torrent(path, tree, layers):
-    info = {"file tree": tree, "meta version": 2, "name": "bench", "piece length": BLOCK}
+def write_torrent(path, tree, layers, version1=None):
+    info = {b"file tree": tree, b"meta version": 2, b"name": b"bench", b"piece length": 16384, **(version1 or {})}
     with open(path, "wb") as out:
-        out.write(bencoded({"info": info, "piece layers": layers}))
+        out.write(bencoded({b"info": info, b"piece layers": layers}))
+
+
+def write_hybrid(path, count):
+    """A hybrid of so many files, each with a pad behind it but the last."""
+    tree, files = {}, []
+    for number in range(count):
+        name = b"file %06d" % number
+        tree[name] = file_of(16000, sha256(name))
+        files += [{b"length": 16000, b"path": [name]}, {b"attr": b"p", b"length": 384, b"path": [b".pad", b"384"]}]
+    write_torrent(path, tree, {}, {b"files": files[:-1], b"pieces": bytes(20 * count)})
 
 
 def write_files(path, kind, count):
@@ -96,27 +107,29 @@ def write_layer(path, pairs_path, count):
 
 
 KINDS = [plain, one_root, like_roots, like_names, deep_paths, own_folders, layers_each]
+WRITERS = {kind.__name__.replace("_", " "): functools.partial(write_files, kind=kind) for kind in KINDS}
+WRITERS["hybrid"] = write_hybrid
 COUNTS = [25_000, 50_000, 100_000]
 
 
 def show_files(folder, words):
     """Measures torrents of many files, and gives the marks that they miss, in words."""
     commands = {}
-    for kind in KINDS:
+    for name, write in WRITERS.items():
         for count in COUNTS:
-            path = os.path.join(folder, f"{kind.__name__}-{count}")
-            write_files(path, kind, count)
-            commands[kind.__name__, count] = [BTCHECK, "show", path]
+            path = os.path.join(folder, f"{name} {count}")
+            write(path, count=count)
+            commands[name, count] = [BTCHECK, "show", path]
     best = best_of(commands, words.rounds)
     print("show, best of interleaved rounds; microseconds of processor time a file")
-    print(f"{'':14}" + "".join(f"{count:>10}" for count in COUNTS) + f"{'whole, s':>10} {'peak KiB':>9}")
+    print(f"{'files':14}" + "".join(f"{count:>10}" for count in COUNTS) + f"{'whole, s':>10} {'peak KiB':>9}")
     missed = []
-    for kind in KINDS:
-        costs = [best[kind.__name__, count][1] / count * 1e6 for count in COUNTS]
-        _, whole, peak = best[kind.__name__, COUNTS[-1]]
-        print(f"{kind.__name__.replace('_', ' '):14}" + "".join(f"{cost:10.2f}" for cost in costs) + f"{whole:10.3f} {peak:9}")
+    for name in WRITERS:
+        costs = [best[name, count][1] / count * 1e6 for count in COUNTS]
+        _, whole, peak = best[name, COUNTS[-1]]
+        print(f"{name:14}" + "".join(f"{cost:10.2f}" for cost in costs) + f"{whole:10.3f} {peak:9}")
         if costs[-1] > FILE_MARK * costs[0]:
-            missed.append(f"{kind.__name__}: a file of {COUNTS[-1]} takes more than {FILE_MARK} x one of {COUNTS[0]}")
+            missed.append(f"{name}: a file of {COUNTS[-1]} takes more than {FILE_MARK} x one of {COUNTS[0]}")
     if best["plain", COUNTS[-1]][1] > SHOW_MARK:
         missed.append(f"show of {COUNTS[-1]} files takes more than {SHOW_MARK} s")
     return missed

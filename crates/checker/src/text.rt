@@ -1,5 +1,5 @@
 //! Names and paths as they are printed, and how a text goes out.
-ghost use Rattle.std.specs.Prelude.{◌≡◌, ℕ, List, length, map, Option, OnOk, true};
+ghost use Rattle.std.specs.Prelude.{◌≡◌, ℕ, List, length, map, OnOk, true};
 ghost use Rattle.benc.specs.Device.{Wrote, WroteAndFlushed};
 ghost use Rattle.checker.specs.Text.{escape_of, escaped, is_special, path_text};
 

@@ -2,6 +2,7 @@
 
 mod depth;
 mod digests;
+mod feed;
 mod files;
 mod hashes;
 mod hybrids;

@@ -13,7 +13,7 @@ use Rattle.session.specs.Fill.{fill_claims, IsFillAccepted, FillRefuses}
 use Rattle.session.specs.Known.{Known, Marked, look, Joins}
 use Rattle.session.specs.Kept.{KeptTree, info_of, IsGoodTree, IsMarked}
 use Rattle.session.proofs.Joining.{joined-closed, joined-keeps}
-use Rattle.session.proofs.Filling.{fill-closed}
+use Rattle.session.proofs.WholeLayers.{fill-closed}
 use Rattle.session.proofs.Runs.{closed-same, marked-known}
 
 abbrev made : Hash → ℕ → Known → Marked → KeptTree

@@ -18,7 +18,7 @@ use Rattle.session.specs.Evidence.{LeadsTo, StoreFault}
 use Rattle.session.proofs.Known.{len-known}
 use Rattle.session.proofs.Powers.{div_small}
 use Rattle.session.proofs.Leading.{message-leads}
-use Rattle.session.proofs.Filling.{at_root, claims-root, fill-closed, root-claimed}
+use Rattle.session.proofs.WholeLayers.{at_root, claims-root, fill-closed, root-claimed}
 use Rattle.session.proofs.Claimed.{claims-given}
 
 module _ (t : TreeRoot) (K : PartialTree) (l : ℕ) (given_hashes : Bor (List Hash)) (layer_inside : l ≤ tree_height t.length) (right_count : length given_hashes.now ≡ pad_from t.length l) where

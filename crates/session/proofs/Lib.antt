@@ -15,7 +15,7 @@ pub mod Known
 pub mod Runs
 pub mod Rounds
 pub mod Deciding
-pub mod Filling
+pub mod WholeLayers
 pub mod Over
 pub mod Cells
 pub mod Noting
@@ -28,5 +28,6 @@ pub mod Counting
 pub mod Layers
 pub mod Keeping
 pub mod Sessions
+pub mod Numbering
 pub mod FirstTrees
 pub mod FirstLayers

@@ -1,5 +1,5 @@
 -- The trees of a session beside the state that contracts see.
-use Rattle.std.proofs.Common.{◌≡◌, ◌≢◌, ℕ, ◌+◌, ◌<◌, ◌≤◌, true, List, [], ◌∷◌, ◌++◌, map, take, length, set, get_or, Option, Some, None, option_map, Result, Ok, Err, IfOk, IfErr, inl, inr, refl, sym, ap, ◌∙◌, subst, subst₂, add-one, arith, eq-or-lt_of_le}
+use Rattle.std.proofs.Common.{◌≡◌, ◌≢◌, ℕ, ◌+◌, ◌<◌, true, List, [], ◌∷◌, ◌++◌, map, take, length, set, get_or, Option, Some, None, option_map, Result, Ok, Err, IfOk, IfErr, refl, sym, ap, ◌∙◌, subst, subst₂, add-one, arith}
 use Rattle.std.specs.Prelude.{slice_get}
 use Rattle.std.specs.FinSet as leaves
 use Rattle.std.proofs.lemmas.Option.{none-some, same_Some, slice_get_within, slice_get-get_or, get_or_from_slice_get, slice_get-map}
@@ -106,19 +106,6 @@ state_stays ts n a b e k m =
     let state : Known → Marked → TreeState = λ x y. record { known = x; marked = y } in
     let same : b.state ≡ a.state = ap (λ x. state x b.state.marked) k ∙ ap (λ y. state a.state.known y) m in
     map-set_same state_of ts n b a (same ∙ ap state_of (sym (get_or_from_slice_get ts n a a e)))
-
-pub none_more : (ts : List KeptTree) (r : Hash) (n : ℕ) (a : KeptTree) → n < length ts → a ≡ get_or ts n a
-    → ((j : ℕ) (k : KeptTree) → j < n → slice_get ts j ≡ Some k → k.root ≢ r) → a.root ≢ r
-    → (j : ℕ) (k : KeptTree) → j < n + 1 → slice_get ts j ≡ Some k → k.root ≢ r
-none_more ts r n a inside is before other j k low e root =
-    let le : j ≤ n = omega arith in
-    elim (eq-or-lt_of_le le) [
-      | inl same ↦ other (ap (λ t. t.root) (same_Some a k (sym (found_at ts n a inside is) ∙ ap (slice_get ts) (sym same) ∙ e)) ∙ root)
-      | inr less ↦ before j k less e root
-    ]
-
-pub one_of : (ts : List KeptTree) (n : ℕ) (a k : KeptTree) → n < length ts → a ≡ get_or ts n a → slice_get ts n ≡ Some k → k ≡ a
-one_of ts n a k inside is e = same_Some k a (sym e ∙ found_at ts n a inside is)
 
 module _ (d : Description) (ts : List KeptTree) (kept : AreKept d ts) where
   pub stored_all : (n : ℕ) (a b : KeptTree) (ask : Ask) (hashes : List Hash) (r : Result ℕ HashRefusal) → slice_get ts n ≡ Some a → a.root ≡ ask.root

@@ -3,14 +3,17 @@
 
 mod checks;
 mod evidence;
+mod filling;
 mod flat;
 mod found;
 pub mod laws;
 pub mod node_map;
 mod planting;
 mod refusal;
+mod roots;
 mod session;
 mod storing;
+mod taking;
 pub mod tree;
 mod verdict;
 

@@ -1,7 +1,6 @@
 //! The trees of a new session.
 
-ghost use Rattle.std.specs.Prelude.{◌≡◌, ◌<◌, ℕ, true, false, IfOk, OnOk};
-ghost use Rattle.metainfo.specs.Description.{TreeEntry};
+ghost use Rattle.std.specs.Prelude.{◌<◌, true, false, IfOk, OnOk};
 ghost use Rattle.metainfo.specs.Refusals.{IsPieceLength};
 ghost use Rattle.metainfo.specs.Seen.{tree_entry};
 ghost use Rattle.metainfo.specs.Sound.{IsSoundTree};
@@ -33,7 +32,8 @@ pub fn planted<N: NodeMap>(
     Ok(tree)
 }
 
-/// Adds what lies from the piece layer up to a tree of which the root alone is known.
+/// Adds what lies from the piece layer up to a tree of which the root alone is known. The layer of an opened torrent
+/// leads to its root, so nothing but want of memory refuses it.
 fn add_layers<N: NodeMap>(
     tree: &mut Tree<N>,
     info: &TreeInfo<'_>,

@@ -1,9 +1,9 @@
 //! A session of a torrent: what is known and marked of each of its trees.
 
-ghost use Rattle.std.specs.Prelude.{◌≡◌, ◌≢◌, ℕ, ◌^◌, ◌<◌, ◌≤◌, ◌↔◌, IfOk, IfErr, IfSome, IfNone, OnErr, IsTrue, List, length, slice_get, Some};
+ghost use Rattle.std.specs.Prelude.{◌≡◌, ◌<◌, ◌↔◌, IfOk, IfErr, OnErr, IsTrue, length, slice_get, Some};
 ghost use Rattle.std.specs.FinMap as finite;
 ghost use Rattle.std.specs.FinSet as set;
-ghost use Rattle.session.specs.Kept.{KeptTree, TreeState};
+ghost use Rattle.session.specs.Kept.{TreeState};
 ghost use Rattle.session.specs.Session.{IsGood, HasDistinctRoots, IsStored, IsHashRefused, IsVerified, IsBlockRefused, IsAnswered, Step, IsTrueVerdict, IsTrueRun};
 ghost use Rattle.session.specs.Layouts.{layout_of, IsFilled, IsFillRefused};
 ghost use Rattle.session.specs.Fresh.{IsFresh};
@@ -11,6 +11,7 @@ ghost use Rattle.session.specs.Fresh.{IsFresh};
 use crate::node_map::NodeMap;
 use crate::planting::planted;
 use crate::refusal::{BlockRefusal, HashRefusal};
+use crate::roots::Roots;
 use crate::tree::{Tree, are_hashes};
 use crate::verdict::Verdict;
 use hashtree::Hash;
@@ -26,11 +27,14 @@ pub struct Session<'t, N: NodeMap> {
     alloc: Global,
     torrent: &'t Torrent<'t>,
     trees: Vec<Tree<N>>,
+    roots: Roots,
 }
 
 impl<'t, N: NodeMap> Model for Session<'t, N> {
     ghost use Rattle.std.specs.Prelude.{map};
+    ghost use Rattle.metainfo.specs.Description.{TreeEntry};
     ghost use Rattle.session.specs.Layouts.{KeptSession, kept_session_code, state_of, AreKept};
+    ghost use Rattle.session.specs.Roots.{AreNumbered};
 
     ghost Value = { KeptSession };
 
@@ -38,7 +42,7 @@ impl<'t, N: NodeMap> Model for Session<'t, N> {
 
     ghost view = { λ s. record { torrent = s.torrent.now; state = map state_of s.trees.items } };
 
-    ghost invariant = { λ s. AreKept s.torrent.now s.trees.items };
+    ghost invariant = { λ s. AreKept s.torrent.now s.trees.items × AreNumbered s.roots (map (λ (e : TreeEntry). e.root) s.torrent.now.trees) };
 }
 
 impl<'t, N: NodeMap> Session<'t, N> {
@@ -56,6 +60,7 @@ impl<'t, N: NodeMap> Session<'t, N> {
         torrent.sound();
         let infos = torrent.trees();
         let piece_length = torrent.piece_length();
+        let roots = Roots::of(alloc, infos)?;
         let mut trees = Vec::with_capacity(alloc, infos.len())?;
         'infos: for info in infos {
             trees.push_reserved(planted(alloc, info, piece_length, with_layers)?);
@@ -64,6 +69,7 @@ impl<'t, N: NodeMap> Session<'t, N> {
             alloc,
             torrent,
             trees,
+            roots,
         })
     }
 
@@ -97,7 +103,7 @@ impl<'t, N: NodeMap> Session<'t, N> {
         ensures refused { IfErr result (λ r. IsHashRefused (layout_of self.old.torrent) self.old.state ask.now hashes.now r × (self.new.state ≡ self.old.state)) }
     {
         are_hashes(hashes);
-        match numbered(&self.trees, &ask.root) {
+        match self.roots.number(&ask.root) {
             None => Err(HashRefusal::UnknownRoot),
             Some(number) => self.trees[number].take(ask, hashes),
         }
@@ -143,7 +149,7 @@ impl<'t, N: NodeMap> Session<'t, N> {
         ensures { IsTrue result ↔ IsAnswered (layout_of self.now.torrent) self.now.state ask.now }
     {
         self.torrent.sound();
-        match numbered(&self.trees, &ask.root) {
+        match self.roots.number(&ask.root) {
             None => false,
             Some(number) => self.trees[number].can_answer(ask),
         }
@@ -211,17 +217,4 @@ impl<'t, N: NodeMap> Session<'t, N> {
         }
         Ok(verdicts)
     }
-}
-
-/// The number of the tree that has this root.
-fn numbered<N: NodeMap>(trees: &[Tree<N>], root: &Hash) -> Option<usize>
-    ensures some { IfSome result (λ n. (n < length trees.now) × ((k : KeptTree) → slice_get trees.now n ≡ Some k → k.root ≡ root.now)) }
-    ensures none { IfNone result ((n : ℕ) (k : KeptTree) → slice_get trees.now n ≡ Some k → k.root ≢ root.now) }
-{
-    'trees: for number in 0..trees.len() {
-        if trees[number].has_root(root) {
-            return Some(number);
-        }
-    }
-    None
 }

@@ -1,26 +1,23 @@
 //! One tree of a torrent: what is known and marked of it.
 
-ghost use Rattle.std.specs.Prelude.{◌≡◌, ◌≢◌, ℕ, ◌+◌, ◌-◌, ◌*◌, ◌/◌, ◌^◌, ◌<◌, ◌≤◌, ◌↔◌, IfOk, IfErr, MatchResult, IsTrue, List, min, length, Some, None};
+ghost use Rattle.std.specs.Prelude.{◌≡◌, ℕ, ◌+◌, ◌-◌, ◌/◌, ◌^◌, ◌<◌, ◌≤◌, ◌↔◌, IfOk, IfErr, IsTrue, length, Some, None};
 ghost use Rattle.std.specs.List.{All};
 ghost use Rattle.std.specs.FinMap as finite;
 ghost use Rattle.std.specs.FinSet as set;
-ghost use Rattle.sha2.specs.Sha256.{sha256};
 ghost use Rattle.hashtree.specs.Tree.{block_count};
 ghost use Rattle.session.specs.TreeRoot.{tree_height};
-ghost use Rattle.session.specs.Partial.{IsKnown, IsPlace};
-ghost use Rattle.session.specs.Claims.{claims, TreeRefuses, IsAccepted, IsBadPad, ArePadsRight, GoodRange, GoodCount, CanAnswer};
+ghost use Rattle.session.specs.Partial.{IsKnown};
+ghost use Rattle.session.specs.Claims.{claims, TreeRefuses, IsAccepted, CanAnswer};
 ghost use Rattle.session.specs.Fill.{fill_claims, IsFillAccepted, FillRefuses};
 ghost use Rattle.session.specs.Known.{look, Joins};
-ghost use Rattle.session.specs.Digest.{Hash as Digested};
-ghost use Rattle.std.specs.Bool.{OnTrue, OnFalse};
 ghost use Rattle.session.specs.Kept.{info_of, root_alone, IsGoodTree, IsMarked, TreeRefusesBlock};
 
-use crate::checks::{base_pads_fit, check_count, check_range, uncle_pads_fit};
-use crate::evidence::Evidence;
+use crate::checks::check_range;
+use crate::filling::fill_layer;
 use crate::node_map::NodeMap;
 use crate::refusal::{BlockRefusal, HashRefusal};
-use crate::storing::store;
-use hashtree::{Hash, Shape, leaf, zero};
+use crate::taking::take_message;
+use hashtree::{Hash, Shape, leaf};
 use std::alloc::{AllocError, Global};
 use std::marker::Model;
 use wire::Ask;
@@ -78,14 +75,6 @@ impl<N: NodeMap> Tree<N> {
         ensures { result.now ≡ self.now.root }
     {
         &self.root
-    }
-
-    /// Whether this is the root.
-    pub fn has_root(&self, root: &Hash) -> bool
-        ensures yes { OnTrue result (self.now.root ≡ root.now) }
-        ensures no { OnFalse result (self.now.root ≢ root.now) }
-    {
-        self.root == *root
     }
 
     /// How many places are known.
@@ -221,100 +210,4 @@ fn mark_leaf<N: NodeMap>(nodes: &mut N, block: u64) -> u64
     let before = nodes.is_marked(block);
     nodes.mark(block);
     if before { 0 } else { 1 }
-}
-
-/// Takes a hashes message into the nodes of a tree, and tells how many places are newly known.
-fn take_message<N: NodeMap>(
-    alloc: Global,
-    shape: Shape,
-    height: u32,
-    nodes: &mut N,
-    ask: &Ask,
-    hashes: &[Hash],
-) -> Result<u64, HashRefusal>
-    requires shape { N.length nodes.old ≡ shape }
-    requires height { height ≡ tree_height shape }
-    requires low { height ≤ 32 }
-    requires places { (l i : ℕ) → IsKnown (look (N.known nodes.old)) l i → IsPlace height l i }
-    ensures length { N.length nodes.new ≡ N.length nodes.old }
-    ensures marked { N.marked nodes.new ≡ N.marked nodes.old }
-    ensures taken { (root : Digested) → IfOk result (λ c. IsAccepted (record { root = root; length = shape }) (look (N.known nodes.old)) ask.now hashes.now
-        × Joins (claims ask.now hashes.now) (N.known nodes.old) (N.known nodes.new) c) }
-    ensures refused { (root : Digested) → IfErr result (λ r. TreeRefuses (record { root = root; length = shape }) (look (N.known nodes.old)) ask.now hashes.now r × (N.known nodes.new ≡ N.known nodes.old)) }
-{
-    let span = check_range(height, ask)?;
-    let top = check_count(height, ask, span, hashes)?;
-    if !pads_fit(shape, ask, span, hashes) {
-        return Err(HashRefusal::BadPad);
-    }
-    let index = u64::from(ask.index) >> (top - ask.base);
-    if nodes.get(top, index).is_none() {
-        return Err(HashRefusal::Unanchored);
-    }
-    let evidence = Evidence {
-        base: ask.base,
-        index: u64::from(ask.index),
-        span,
-        hashes,
-        pad: [0; 32],
-    };
-    store(alloc, nodes, &evidence, top, index)
-}
-
-/// Whether each given hash wholly past the file's end is that over pads.
-fn pads_fit(shape: Shape, ask: &Ask, span: u32, hashes: &[Hash]) -> bool
-    requires range { GoodRange (tree_height shape) ask.now }
-    requires low { tree_height shape ≤ 32 }
-    requires span { 2 ^ span ≡ ask.now.length }
-    requires some { 1 ≤ span }
-    requires small { span ≤ 13 }
-    requires count { GoodCount (tree_height shape) ask.now hashes.now }
-    ensures fit { OnTrue result (ArePadsRight shape ask.now hashes.now) }
-    ensures not { OnFalse result (IsBadPad shape ask.now hashes.now) }
-{
-    let blocks = shape.blocks();
-    let (base, uncles) = hashes.split_at(ask.length as usize);
-    if !base_pads_fit(blocks, ask.base, u64::from(ask.index), base) {
-        return false;
-    }
-    uncle_pads_fit(
-        blocks,
-        ask.base + span,
-        u64::from(ask.index) >> span,
-        uncles,
-    )
-}
-
-/// Takes a whole layer into the nodes of a tree, and tells how many places are newly known.
-fn fill_layer<N: NodeMap>(
-    alloc: Global,
-    shape: Shape,
-    height: u32,
-    nodes: &mut N,
-    layer: u32,
-    hashes: &[Hash],
-) -> Result<u64, HashRefusal>
-    requires shape { N.length nodes.old ≡ shape }
-    requires height { height ≡ tree_height shape }
-    requires low { height ≤ 32 }
-    ensures length { N.length nodes.new ≡ N.length nodes.old }
-    ensures marked { N.marked nodes.new ≡ N.marked nodes.old }
-    ensures filled { (root : Digested) → IfOk result (λ c. IsFillAccepted (record { root = root; length = shape }) (look (N.known nodes.old)) layer hashes.now
-        × Joins (fill_claims (record { root = root; length = shape }) layer hashes.now) (N.known nodes.old) (N.known nodes.new) c) }
-    ensures refused { (root : Digested) → IfErr result (λ r. FillRefuses (record { root = root; length = shape }) (look (N.known nodes.old)) layer hashes.now r × (N.known nodes.new ≡ N.known nodes.old)) }
-{
-    if layer > height {
-        return Err(HashRefusal::BadRange);
-    }
-    if hashes.len() as u64 != shape.pad_from(layer) {
-        return Err(HashRefusal::BadCount);
-    }
-    let evidence = Evidence {
-        base: layer,
-        index: 0,
-        span: height - layer,
-        hashes,
-        pad: zero(layer),
-    };
-    store(alloc, nodes, &evidence, height, 0)
 }

@@ -6,18 +6,18 @@ use std::alloc::{AllocError, Global};
 use std::process::Abort;
 
 /// The file tree's one file in `ABC`.
-pub const FILE: &str = "7:abc.txtd0:d6:lengthi3e11:pieces root32:<abc>ee";
+pub(super) const FILE: &str = "7:abc.txtd0:d6:lengthi3e11:pieces root32:<abc>ee";
 
 /// The torrent of the one file `abc.txt` with content `abc`.
-pub const ABC: &str =
+pub(super) const ABC: &str =
     "d4:infod9:file treed7:abc.txtd0:d6:lengthi3e11:pieces root32:<abc>eee12:meta versioni2e4:name3:abc12:piece lengthi16384ee12:piece layersdee";
 
 /// The torrent of one file of five blocks, whose piece length is two.
-pub const FIVE: &str =
+pub(super) const FIVE: &str =
     "d4:infod9:file treed4:fived0:d6:lengthi65636e11:pieces root32:<five>eee12:meta versioni2e4:name4:five12:piece lengthi32768ee12:piece layersd32:<five>96:<pair><next><end>ee";
 
 /// The hybrid of a file `a` of 16,385 bytes and a file `c` of 3, with a pad between them.
-pub const HYBRID: &str =
+pub(super) const HYBRID: &str =
     "d4:infod9:file treed1:ad0:d6:lengthi16385e11:pieces root32:<two>ee1:cd0:d6:lengthi3e11:pieces root32:<abc>eee5:filesld6:lengthi16385e4:pathl1:aeed4:attr1:p6:lengthi16383e4:pathl4:.pad5:16383eed6:lengthi3e4:pathl1:ceee12:meta versioni2e4:name1:x12:piece lengthi32768e6:pieces40:<cut><abc cut>e12:piece layersdee";
 
 /// What stands between `<` and `>`, and the bytes that it stands for.
@@ -49,7 +49,7 @@ fn named(name: &str) -> &'static [u8] {
 }
 
 /// The bytes of a text.
-pub fn bytes(alloc: Global, text: &str) -> Result<Vec<u8>, AllocError> {
+pub(super) fn bytes(alloc: Global, text: &str) -> Result<Vec<u8>, AllocError> {
     let mut bytes = Vec::new(alloc);
     for part in text.split('<') {
         match part.split_once('>') {
@@ -64,10 +64,10 @@ pub fn bytes(alloc: Global, text: &str) -> Result<Vec<u8>, AllocError> {
 }
 
 /// The changes of a text: each first text, which has to be there, becomes the second.
-pub type Edits = &'static [(&'static str, &'static str)];
+pub(super) type Edits = &'static [(&'static str, &'static str)];
 
 /// The bytes of a text after its changes.
-pub fn edited(
+pub(super) fn edited(
     rt: &impl Abort,
     alloc: Global,
     text: &str,
@@ -82,10 +82,10 @@ pub fn edited(
 }
 
 /// What a torrent shows, how it is made of another, and why it is turned away.
-pub type Refused = (&'static str, Edits, Refusal);
+pub(super) type Refused = (&'static str, Edits, Refusal);
 
 /// Each of these is refused so.
-pub fn are_refused(
+pub(super) fn are_refused(
     rt: &impl Abort,
     alloc: Global,
     text: &str,

@@ -9,10 +9,10 @@ use std::alloc::{AllocError, Global};
 use wire::Ask;
 
 /// The leaf past a file's end.
-pub const Z0: Hash = [0; 32];
+pub(super) const Z0: Hash = [0; 32];
 
 /// SHA-256 of 64 zero bytes.
-pub const Z1: Hash = [
+pub(super) const Z1: Hash = [
     0xf5, 0xa5, 0xfd, 0x42, 0xd1, 0x6a, 0x20, 0x30, 0x27, 0x98, 0xef, 0x6e, 0xd3, 0x09, 0x97, 0x9b,
     0x43, 0x00, 0x3d, 0x23, 0x20, 0xd9, 0xf0, 0xe8, 0xea, 0x98, 0x31, 0xa9, 0x27, 0x59, 0xfb, 0x4b,
 ];
@@ -22,7 +22,7 @@ fn digest(bytes: &[u8]) -> Hash {
 }
 
 /// SHA-256 of two hashes joined.
-pub fn join(left: &Hash, right: &Hash) -> Hash {
+pub(super) fn join(left: &Hash, right: &Hash) -> Hash {
     let mut hasher = Sha256::new();
     hasher.update(left);
     hasher.update(right);
@@ -31,14 +31,14 @@ pub fn join(left: &Hash, right: &Hash) -> Hash {
 
 /// The tree of a file of 65,636 bytes: four blocks of ones, twos, threes and fours, and 100 bytes of fives.
 #[derive(Clone, Copy)]
-pub struct FiveBlocks {
-    pub leaves: [Hash; 8],
-    pub pairs: [Hash; 4],
-    pub fours: [Hash; 2],
-    pub root: Hash,
+pub(super) struct FiveBlocks {
+    pub(super) leaves: [Hash; 8],
+    pub(super) pairs: [Hash; 4],
+    pub(super) fours: [Hash; 2],
+    pub(super) root: Hash,
 }
 
-pub fn five_blocks() -> FiveBlocks {
+pub(super) fn five_blocks() -> FiveBlocks {
     let [l0, l1] = [digest(&[1; 16384]), digest(&[2; 16384])];
     let [l2, l3] = [digest(&[3; 16384]), digest(&[4; 16384])];
     let l4 = digest(&[5; 100]);
@@ -54,13 +54,13 @@ pub fn five_blocks() -> FiveBlocks {
 
 /// The two answers that tell the leaves of a file of 1024 blocks: 512 leaves each, and the node beside them.
 #[derive(Drop)]
-pub struct TwoAnswers {
-    pub first: Vec<Hash>,
-    pub second: Vec<Hash>,
-    pub root: Hash,
+pub(super) struct TwoAnswers {
+    pub(super) first: Vec<Hash>,
+    pub(super) second: Vec<Hash>,
+    pub(super) root: Hash,
 }
 
-pub fn two_answers(alloc: Global) -> Result<TwoAnswers, AllocError> {
+pub(super) fn two_answers(alloc: Global) -> Result<TwoAnswers, AllocError> {
     let mut first = leaves(alloc, 1)?;
     let mut second = leaves(alloc, 2)?;
     let [left, right] = [top(alloc, &first)?, top(alloc, &second)?];
@@ -101,7 +101,7 @@ fn joined(alloc: Global, row: &[Hash]) -> Result<Vec<Hash>, AllocError> {
 }
 
 /// The bytes of a torrent of files of one length and one root; a piece layer of no hashes is left out.
-pub fn torrent(
+pub(super) fn torrent(
     alloc: Global,
     names: &[&str],
     length: u64,
@@ -154,7 +154,7 @@ fn add_layer(
 }
 
 /// An ask for leaves.
-pub fn ask(root: Hash, index: u32, length: u32, proof: u32) -> Ask {
+pub(super) fn ask(root: Hash, index: u32, length: u32, proof: u32) -> Ask {
     Ask {
         root,
         base: 0,
@@ -165,7 +165,7 @@ pub fn ask(root: Hash, index: u32, length: u32, proof: u32) -> Ask {
 }
 
 /// How many places are known, and how many leaves marked, of a torrent's only tree.
-pub fn counts(session: &Session<'_, Flat>) -> Option<(u64, u64)> {
+pub(super) fn counts(session: &Session<'_, Flat>) -> Option<(u64, u64)> {
     if session.torrent().trees().len() == 1 {
         Some((session.known(0), session.marked(0)))
     } else {

@@ -1,4 +1,4 @@
-use Rattle.session.proofs.Filling.{fill-closed}
+use Rattle.session.proofs.WholeLayers.{fill-closed}
 use Rattle.session.proofs.laws.filled_stays_closed.Goals as goal
 
 pub returns : goal.returns

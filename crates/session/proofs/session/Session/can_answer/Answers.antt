@@ -1,4 +1,4 @@
-use Rattle.std.proofs.Common.{◌≡◌, ◌≢◌, ℕ, ◌<◌, List, [], length, Some, sym, subst}
+use Rattle.std.proofs.Common.{◌≡◌, ◌≢◌, ℕ, ◌<◌, List, [], length, Some, sym, ◌∙◌, subst, arith}
 use Rattle.std.specs.Prelude.{slice_get}
 use Rattle.std.proofs.lemmas.Bool.{false≢true}
 use Rattle.session.specs.declared.refusal.HashRefusal.TheVariants.{UnknownRoot}
@@ -8,17 +8,24 @@ use Rattle.session.specs.Claims.{CanAnswer}
 use Rattle.session.specs.Kept.{KeptTree}
 use Rattle.session.specs.Session.{IsHashRefused, IsAnswered}
 use Rattle.session.specs.Layouts.{KeptSession, layout_of}
+use Rattle.session.proofs.Numbering.{some_number, no_number}
 use Rattle.session.proofs.Sessions.{found_at, unknown_in, asked_in, answered_in}
 use Rattle.session.proofs.session.Session.can_answer.Goals as goal
+
+pub index-requires : goal.index-requires
+index-requires g c =
+    let ts : List KeptTree = c.self.inside.trees.items in
+    let inside : c.in-Some.number < length ts = (some_number c.self.inside.torrent.now ts c.self.invariant.0 c.self.inside.roots c.self.invariant.1 c.args.ask.now.root c.in-Some.number (sym c.number.ensures ∙ c.in-Some.is)).0 in
+    omega (arith, inside, c.self.inside.trees.ok)
 
 pub returns-in-None : goal.returns-in-None
 returns-in-None g c =
     let ts : List KeptTree = c.self.inside.trees.items in
     let none : (n : ℕ) (k : KeptTree) → slice_get ts n ≡ Some k → k.root ≢ c.args.ask.now.root =
-    subst (λ (l : List KeptTree). (n : ℕ) (k : KeptTree) → slice_get l n ≡ Some k → k.root ≢ c.args.ask.now.root) c.deref.ensures.value c.in-None.ensures.none in
+    no_number c.self.inside.torrent.now ts c.self.invariant.0 c.self.inside.roots c.self.invariant.1 c.args.ask.now.root (sym c.number.ensures ∙ c.in-None.is) in
     let unknown : IsHashRefused (layout_of c.args.self.now.torrent) c.args.self.now.state c.args.ask.now [] UnknownRoot =
     subst (λ (v : KeptSession). IsHashRefused (layout_of v.torrent) v.state c.args.ask.now [] UnknownRoot) c.self.view_is
-    (unknown_in c.self.inside.torrent.now ts c.self.invariant c.args.ask.now [] none) in (
+    (unknown_in c.self.inside.torrent.now ts c.self.invariant.0 c.args.ask.now [] none) in (
       λ e. absurd (false≢true e),
       λ answered. absurd (unknown answered.0.number answered.0.tree answered.0.is_tree.tree_is answered.0.has_root),
     )
@@ -28,15 +35,15 @@ returns-in-Some g c =
     let ts : List KeptTree = c.self.inside.trees.items in
     let a : KeptTree = c.index.result.now in
     let n : ℕ = c.in-Some.number in
-    let inside : n < length ts = subst (λ (l : List KeptTree). n < length l) c.deref.ensures.value c.in-Some.ensures.some.0 in
+    let inside : n < length ts = (some_number c.self.inside.torrent.now ts c.self.invariant.0 c.self.inside.roots c.self.invariant.1 c.args.ask.now.root n (sym c.number.ensures ∙ c.in-Some.is)).0 in
     let at : slice_get ts n ≡ Some a = found_at ts n a inside c.index.ensures in
-    let root : a.root ≡ c.args.ask.now.root = c.in-Some.ensures.some.1 a (subst (λ (l : List KeptTree). slice_get l n ≡ Some a) (sym c.deref.ensures.value) at) in
+    let root : a.root ≡ c.args.ask.now.root = (some_number c.self.inside.torrent.now ts c.self.invariant.0 c.self.inside.roots c.self.invariant.1 c.args.ask.now.root n (sym c.number.ensures ∙ c.in-Some.is)).1 a at in
     let back : IsAnswered (layout_of c.args.self.now.torrent) c.args.self.now.state c.args.ask.now → CanAnswer (tree_height a.length) (look a.state.known) c.args.ask.now =
     subst (λ (v : KeptSession). IsAnswered (layout_of v.torrent) v.state c.args.ask.now → CanAnswer (tree_height a.length) (look a.state.known) c.args.ask.now) c.self.view_is
-    (answered_in c.self.inside.torrent.now ts c.self.invariant c.sound.ensures n a c.args.ask.now at root) in
+    (answered_in c.self.inside.torrent.now ts c.self.invariant.0 c.sound.ensures n a c.args.ask.now at root) in
     let forth : CanAnswer (tree_height a.length) (look a.state.known) c.args.ask.now → IsAnswered (layout_of c.args.self.now.torrent) c.args.self.now.state c.args.ask.now =
     subst (λ (v : KeptSession). CanAnswer (tree_height a.length) (look a.state.known) c.args.ask.now → IsAnswered (layout_of v.torrent) v.state c.args.ask.now) c.self.view_is
-    (asked_in c.self.inside.torrent.now ts c.self.invariant n a c.args.ask.now at root) in (
+    (asked_in c.self.inside.torrent.now ts c.self.invariant.0 n a c.args.ask.now at root) in (
       λ e. forth (c.can_answer.ensures.0 e),
       λ answered. c.can_answer.ensures.1 (back answered),
     )

@@ -6,4 +6,4 @@ use Rattle.session.proofs.session.Session.good.Goals as goal
 
 pub returns : goal.returns
 returns g c =
-    subst (λ (v : KeptSession). IsGood (layout_of v.torrent) v.state) c.self.view_is (kept-good c.self.inside.torrent.now c.self.inside.trees.items c.self.invariant)
+    subst (λ (v : KeptSession). IsGood (layout_of v.torrent) v.state) c.self.view_is (kept-good c.self.inside.torrent.now c.self.inside.trees.items c.self.invariant.0)

@@ -20,9 +20,9 @@ take_block-requires-clause-good g c =
     let tr : ℕ = c.in-Some-tree_of.tree in
     let p : IsPlace d c.args.index c.args.begin c.in-Some.file c.in-Some.number = c.in-Some.ensures.found in
     let is : p.file.tree ≡ Some tr = sym (c.tree_of.ensures p.file p.there) ∙ c.in-Some-tree_of.is in
-    let x = tree_for d ts c.self.invariant c.sound.ensures c.in-Some.file tr p.file p.there is in
+    let x = tree_for d ts c.self.invariant.0 c.sound.ensures c.in-Some.file tr p.file p.there is in
     let e : slice_get ts tr ≡ Some a = found_at ts tr a (slice_get_within ts tr x.0 x.1) c.index_mut.ensures.value in
-    good_at d ts c.self.invariant tr a e
+    good_at d ts c.self.invariant.0 tr a e
 
 pub take_block-requires-clause-inside : goal.take_block-requires-clause-inside
 take_block-requires-clause-inside g c =
@@ -32,9 +32,9 @@ take_block-requires-clause-inside g c =
     let tr : ℕ = c.in-Some-tree_of.tree in
     let p : IsPlace d c.args.index c.args.begin c.in-Some.file c.in-Some.number = c.in-Some.ensures.found in
     let is : p.file.tree ≡ Some tr = sym (c.tree_of.ensures p.file p.there) ∙ c.in-Some-tree_of.is in
-    let x = tree_for d ts c.self.invariant c.sound.ensures c.in-Some.file tr p.file p.there is in
+    let x = tree_for d ts c.self.invariant.0 c.sound.ensures c.in-Some.file tr p.file p.there is in
     let e : slice_get ts tr ≡ Some a = found_at ts tr a (slice_get_within ts tr x.0 x.1) c.index_mut.ensures.value in
-    block_inside d ts c.self.invariant c.sound.ensures c.args.index c.args.begin c.in-Some.file c.in-Some.number tr p a is e
+    block_inside d ts c.self.invariant.0 c.sound.ensures c.args.index c.args.begin c.in-Some.file c.in-Some.number tr p a is e
 
 pub invariant_of-self : goal.invariant_of-self
 invariant_of-self g c =
@@ -44,11 +44,13 @@ invariant_of-self g c =
     let tr : ℕ = c.in-Some-tree_of.tree in
     let p : IsPlace d c.args.index c.args.begin c.in-Some.file c.in-Some.number = c.in-Some.ensures.found in
     let is : p.file.tree ≡ Some tr = sym (c.tree_of.ensures p.file p.there) ∙ c.in-Some-tree_of.is in
-    let x = tree_for d ts c.self.invariant c.sound.ensures c.in-Some.file tr p.file p.there is in
+    let x = tree_for d ts c.self.invariant.0 c.sound.ensures c.in-Some.file tr p.file p.there is in
     let e : slice_get ts tr ≡ Some a = found_at ts tr a (slice_get_within ts tr x.0 x.1) c.index_mut.ensures.value in
-    let b : KeptTree = c.take_block.new.self in
-    kept-after d ts c.self.invariant tr a b e c.take_block.ensures.root c.take_block.ensures.length
-    (good_same a b c.take_block.ensures.root c.take_block.ensures.length c.take_block.ensures.known c.in_err-take_block.ensures.refused.1 (good_at d ts c.self.invariant tr a e))
+    let b : KeptTree = c.take_block.new.self in (
+      kept-after d ts c.self.invariant.0 tr a b e c.take_block.ensures.root c.take_block.ensures.length
+          (good_same a b c.take_block.ensures.root c.take_block.ensures.length c.take_block.ensures.known c.in_err-take_block.ensures.refused.1 (good_at d ts c.self.invariant.0 tr a e)),
+      c.self.invariant.1,
+    )
 
 pub returns-in_err-take_block-clause-refused : goal.returns-in_err-take_block-clause-refused
 returns-in_err-take_block-clause-refused g c =
@@ -58,7 +60,7 @@ returns-in_err-take_block-clause-refused g c =
     let tr : ℕ = c.in-Some-tree_of.tree in
     let p : IsPlace d c.args.index c.args.begin c.in-Some.file c.in-Some.number = c.in-Some.ensures.found in
     let is : p.file.tree ≡ Some tr = sym (c.tree_of.ensures p.file p.there) ∙ c.in-Some-tree_of.is in
-    let x = tree_for d ts c.self.invariant c.sound.ensures c.in-Some.file tr p.file p.there is in
+    let x = tree_for d ts c.self.invariant.0 c.sound.ensures c.in-Some.file tr p.file p.there is in
     let e : slice_get ts tr ≡ Some a = found_at ts tr a (slice_get_within ts tr x.0 x.1) c.index_mut.ensures.value in
     let at : place_of d c.args.index c.args.begin ≡ Some (c.in-Some.file, c.in-Some.number) = sym c.place.ensures.value ∙ c.in-Some.is in
     let b : KeptTree = c.take_block.new.self in
@@ -66,7 +68,7 @@ returns-in_err-take_block-clause-refused g c =
     subst (λ (r : Result (ℕ × ℕ) BlockRefusal). IfErr r (λ x. IsBlockRefused (layout_of c.args.self.now.torrent) c.args.self.now.state c.args.index c.args.begin c.args.block.now x × (map state_of (set ts tr b) ≡ c.args.self.now.state)))
     (sym (left.1 ∙ ap Err left.2))
     (subst (λ (v : KeptSession). IsBlockRefused (layout_of v.torrent) v.state c.args.index c.args.begin c.args.block.now c.in_err-take_block.field-0.0 × (map state_of (set ts tr b) ≡ v.state)) c.self.view_is (
-      block_refused_in d ts c.self.invariant c.args.index c.args.begin c.in-Some.file c.in-Some.number tr p.file a p.there is at e c.args.block.now c.in_err-take_block.field-0.0 c.in_err-take_block.ensures.refused.0,
+      block_refused_in d ts c.self.invariant.0 c.args.index c.args.begin c.in-Some.file c.in-Some.number tr p.file a p.there is at e c.args.block.now c.in_err-take_block.field-0.0 c.in_err-take_block.ensures.refused.0,
       state_stays ts tr a b e c.take_block.ensures.known c.in_err-take_block.ensures.refused.1,
     ))
 
@@ -78,11 +80,13 @@ invariant_of-self-2 g c =
     let tr : ℕ = c.in-Some-tree_of.tree in
     let p : IsPlace d c.args.index c.args.begin c.in-Some.file c.in-Some.number = c.in-Some.ensures.found in
     let is : p.file.tree ≡ Some tr = sym (c.tree_of.ensures p.file p.there) ∙ c.in-Some-tree_of.is in
-    let x = tree_for d ts c.self.invariant c.sound.ensures c.in-Some.file tr p.file p.there is in
+    let x = tree_for d ts c.self.invariant.0 c.sound.ensures c.in-Some.file tr p.file p.there is in
     let e : slice_get ts tr ≡ Some a = found_at ts tr a (slice_get_within ts tr x.0 x.1) c.index_mut.ensures.value in
-    let b : KeptTree = c.take_block.new.self in
-    kept-after d ts c.self.invariant tr a b e c.take_block.ensures.root c.take_block.ensures.length
-    (good_marked a b c.in-Some.number c.args.block.now (good_at d ts c.self.invariant tr a e) c.take_block.ensures.root c.take_block.ensures.length c.take_block.ensures.known c.in_ok-take_block.ensures.taken)
+    let b : KeptTree = c.take_block.new.self in (
+      kept-after d ts c.self.invariant.0 tr a b e c.take_block.ensures.root c.take_block.ensures.length
+          (good_marked a b c.in-Some.number c.args.block.now (good_at d ts c.self.invariant.0 tr a e) c.take_block.ensures.root c.take_block.ensures.length c.take_block.ensures.known c.in_ok-take_block.ensures.taken),
+      c.self.invariant.1,
+    )
 
 pub returns-clause-verified : goal.returns-clause-verified
 returns-clause-verified g c =
@@ -92,9 +96,9 @@ returns-clause-verified g c =
     let tr : ℕ = c.in-Some-tree_of.tree in
     let p : IsPlace d c.args.index c.args.begin c.in-Some.file c.in-Some.number = c.in-Some.ensures.found in
     let is : p.file.tree ≡ Some tr = sym (c.tree_of.ensures p.file p.there) ∙ c.in-Some-tree_of.is in
-    let x = tree_for d ts c.self.invariant c.sound.ensures c.in-Some.file tr p.file p.there is in
+    let x = tree_for d ts c.self.invariant.0 c.sound.ensures c.in-Some.file tr p.file p.there is in
     let e : slice_get ts tr ≡ Some a = found_at ts tr a (slice_get_within ts tr x.0 x.1) c.index_mut.ensures.value in
     let at : place_of d c.args.index c.args.begin ≡ Some (c.in-Some.file, c.in-Some.number) = sym c.place.ensures.value ∙ c.in-Some.is in
     let b : KeptTree = c.take_block.new.self in
     subst (λ (v : KeptSession). IsVerified (layout_of v.torrent) v.state c.args.index c.args.begin c.args.block.now c.in-Some.file c.in-Some.number (map state_of (set ts tr b))) c.self.view_is
-    (verified_in d ts c.self.invariant c.args.index c.args.begin c.in-Some.file c.in-Some.number tr p.file a p.there is at e b c.args.block.now c.take_block.ensures.known c.in_ok-take_block.ensures.taken)
+    (verified_in d ts c.self.invariant.0 c.args.index c.args.begin c.in-Some.file c.in-Some.number tr p.file a p.there is at e b c.args.block.now c.take_block.ensures.known c.in_ok-take_block.ensures.taken)

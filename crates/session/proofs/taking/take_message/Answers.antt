@@ -6,7 +6,7 @@ use Rattle.session.specs.Known.{look}
 use Rattle.session.specs.Claims.{top_layer, top_index, GoodRange, GoodCount}
 use Rattle.session.specs.Evidence.{LeadsTo}
 use Rattle.session.proofs.Messages.{known_of, same_claims, leads, taken_by, refused_by}
-use Rattle.session.proofs.tree.take_message.Goals as goal
+use Rattle.session.proofs.taking.take_message.Goals as goal
 
 pub store-requires-clause-place : goal.store-requires-clause-place
 store-requires-clause-place g c =

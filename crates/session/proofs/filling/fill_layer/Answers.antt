@@ -5,7 +5,7 @@ use Rattle.session.specs.Evidence.{LeadsTo}
 use Rattle.session.specs.Fill.{pad_from}
 use Rattle.session.specs.Known.{look}
 use Rattle.session.proofs.Layers.{layer_evidence, layer-leads}
-use Rattle.session.proofs.tree.fill_layer.Goals as goal
+use Rattle.session.proofs.filling.fill_layer.Goals as goal
 
 pub store-requires-clause-leads : goal.store-requires-clause-leads
 store-requires-clause-leads g c =

@@ -4,7 +4,7 @@ use Rattle.hashtree.specs.Tree.{block_count}
 use Rattle.session.specs.TreeRoot.{tree_height}
 use Rattle.session.proofs.Ranges.{top_at}
 use Rattle.session.proofs.Messages.{PadsFrom, PadsAbove, from_moved, above_moved, not_of, fit-right, unfit-base, unfit-uncles, range-wide, cover-wide}
-use Rattle.session.proofs.tree.pads_fit.Goals as goal
+use Rattle.session.proofs.taking.pads_fit.Goals as goal
 
 pub base_pads_fit-requires-clause-inside : goal.base_pads_fit-requires-clause-inside
 base_pads_fit-requires-clause-inside c =
