@@ -8,3 +8,4 @@ pub mod Fails
 pub mod Reading
 pub mod Text
 pub mod Lookup
+pub mod Laws

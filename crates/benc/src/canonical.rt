@@ -1,4 +1,4 @@
-//! Which values have a spelling, and the laws of spellings.
+//! Which values have a spelling.
 ghost use Rattle.std.specs.Prelude.{◌≡◌, ◌<◌, ◌^◌, ◌++◌, ◌↔◌, IsTrue, FitsSigned, List, ℕ, None, length};
 ghost use Rattle.std.specs.Int.{w64};
 ghost use Rattle.benc.specs.Spelling.{Spells};
@@ -74,18 +74,3 @@ fn is_short(text: &[u8]) -> bool
 {
     (text.len() as u64) < 10_000_000_000
 }
-
-/// Each canonical value has a spelling.
-pub fn canonical_has_spelling()
-    ensures { (v : Bencode) → IsCanonical v → Spells v (spelling v) }
-{}
-
-/// It has no other, and what has a spelling is canonical.
-pub fn spelling_is_of_canonical()
-    ensures { (v : Bencode) (b : List ℕ) → Spells v b → IsCanonical v × (b ≡ spelling v) }
-{}
-
-/// Each spelling is of one value, and none is a proper beginning of another.
-pub fn no_spelling_begins_another()
-    ensures { (v w : Bencode) (a b x y : List ℕ) → Spells v a → Spells w b → a ++ x ≡ b ++ y → (v ≡ w) × (a ≡ b) }
-{}

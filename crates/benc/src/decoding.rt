@@ -130,18 +130,3 @@ fn read_front<'a>(
         }),
     }
 }
-
-/// Each input spells a value, or has a fault.
-pub fn spells_or_fails()
-    ensures { (b : List ℕ) → ((v : Bencode) × Spells v b) ⊎ ((kind : FaultKind) × (offset : ℕ) × Fails b kind offset) }
-{}
-
-/// None does both.
-pub fn spelling_has_no_fault()
-    ensures { (b : List ℕ) (v : Bencode) (kind : FaultKind) (offset : ℕ) → Spells v b → Fails b kind offset → ⊥ }
-{}
-
-/// And none has two faults.
-pub fn fault_is_one()
-    ensures { (b : List ℕ) (kind other : FaultKind) (offset place : ℕ) → Fails b kind offset → Fails b other place → (kind ≡ other) × (offset ≡ place) }
-{}

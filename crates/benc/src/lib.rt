@@ -6,6 +6,7 @@ mod decoding;
 mod device;
 mod encoding;
 mod fault;
+mod laws;
 mod memory;
 mod numeral;
 mod reading;
@@ -14,14 +15,14 @@ mod standard;
 mod stop;
 mod value;
 
-pub use canonical::{canonical_has_spelling, no_spelling_begins_another, spelling_is_of_canonical};
-pub use decoding::{
-    decode, decode_front, decode_with_span, fault_is_one, span, spelling_has_no_fault,
-    spells_or_fails,
-};
+pub use decoding::{decode, decode_front, decode_with_span, span};
 pub use device::{DeviceFault, Sink, Source, WriteFault, write_all};
 pub use encoding::encode;
 pub use fault::{Fault, FaultKind};
+pub use laws::{
+    canonical_has_spelling, fault_is_one, no_spelling_begins_another, spelling_has_no_fault,
+    spelling_is_of_canonical, spells_or_fails,
+};
 pub use memory::{MemSink, MemSource};
 pub use standard::{FromRead, FromWrite};
 pub use value::{Pair, Value};

@@ -18,3 +18,4 @@ pub mod Steps
 pub mod Stream
 pub mod Trees
 pub mod Walked
+pub mod Laws

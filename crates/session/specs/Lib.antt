@@ -14,3 +14,4 @@ pub mod Roots
 pub mod Layouts
 pub mod Fresh
 pub mod Names
+pub mod Laws

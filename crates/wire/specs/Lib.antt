@@ -7,3 +7,4 @@ pub mod Reading
 pub mod Reader
 pub mod Rows
 pub mod Writable
+pub mod Laws

@@ -1,0 +1,18 @@
+-- The laws of torrent files: what their bytes describe, and why they are refused.
+use Rattle.std.specs.Prelude.{◌≡◌, ℕ, List}
+use Rattle.metainfo.specs.Describes.{Describes}
+use Rattle.metainfo.specs.Description.{Description}
+use Rattle.metainfo.specs.Refusals.{Refuses}
+use Rattle.metainfo.specs.declared.refusal.Refusal.{Refusal}
+
+-- bytes that describe a torrent describe no other
+abbrev pub TorrentIsOne : Type 0
+TorrentIsOne = (b : List ℕ) (t u : Description) → Describes b t → Describes b u → t ≡ u
+
+-- bytes that describe a torrent are not refused
+abbrev pub TorrentIsNotRefused : Type 0
+TorrentIsNotRefused = (b : List ℕ) (t : Description) (r : Refusal) → Describes b t → Refuses b r → ⊥
+
+-- bytes that are refused are refused with one answer
+abbrev pub RefusalIsOne : Type 0
+RefusalIsOne = (b : List ℕ) (r s : Refusal) → Refuses b r → Refuses b s → r ≡ s
