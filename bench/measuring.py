@@ -10,6 +10,7 @@ TOP = os.path.dirname(os.path.dirname(os.path.abspath(__file__)))
 BTCHECK = os.path.join(TOP, "build", "btcheck")
 BARE = os.path.join(TOP, "build", "bare")
 READERS = os.path.join(TOP, "build", "readers")
+SESSIONS = os.path.join(TOP, "build", "sessions")
 BLOCK = 16384
 
 
@@ -51,6 +52,12 @@ def build_bare():
 
 def build_readers():
     build(READERS, ["benc", "wire"], ["benc:", "wire: benc byteorder", "readers: benc wire"])
+
+
+def build_sessions():
+    build(SESSIONS, ["benc", "hashtree", "wire", "metainfo", "session"],
+          ["benc:", "hashtree: sha2", "wire: benc byteorder", "metainfo: benc hashtree sha1 sha2",
+           "session: hashtree metainfo wire sha2", "sessions: hashtree metainfo session wire"])
 
 
 def resident_peak(pid):

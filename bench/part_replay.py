@@ -30,10 +30,15 @@ def torrent_over(tree, length):
     })
 
 
+def uncles_of(tree, span):
+    """How many uncles lead from a range of so many leaves to the root."""
+    return tree.height - (span.bit_length() - 1)
+
+
 def answer(tree, index, span):
     """A hashes message with the leaves from `index` on, and each uncle up to the root."""
-    uncles = tree.height - (span.bit_length() - 1)
-    return messages.hashes(tree.root, 0, index, span, tree.height, given=tree.hashes(0, index, span, uncles))
+    given = tree.hashes(0, index, span, uncles_of(tree, span))
+    return messages.hashes(tree.root, 0, index, span, tree.height, given=given)
 
 
 def pairs_of(tree, index, span):

@@ -1,0 +1,30 @@
+"""2,048 answers of 512 leaves with their uncles, over a tree of 2^20 leaves, given to a session by value: without a frame
+and without a line. Beside it stand the bare digests of the pairs that lead to the root."""
+import os
+
+from measuring import BARE, BLOCK, SESSIONS, best_of, build_bare, build_sessions, missed_marks, report, see_answer
+from part_replay import SPAN, pairs_of, torrent_over, uncles_of, write
+from trees import Tree
+
+# What the session may cost at most: (of what, ratio of processor time).
+MARKS = [("bare digests", 1.3)]
+
+
+def run(folder, words):
+    """Measures a session, and gives the marks that it misses, in words."""
+    build_bare()
+    build_sessions()
+    leaves = 1 << 20
+    tree = Tree([os.urandom(32) for _ in range(leaves)])
+    torrent = write(os.path.join(folder, "torrent"), [torrent_over(tree, leaves * BLOCK)])
+    starts = range(0, leaves, SPAN)
+    uncles = uncles_of(tree, SPAN)
+    hashes = write(os.path.join(folder, "hashes"),
+                   (b"".join(tree.hashes(0, index, SPAN, uncles)) for index in starts))
+    bare = write(os.path.join(folder, "pairs"), (pairs_of(tree, index, SPAN) for index in starts))
+    command = [SESSIONS, torrent, hashes, str(SPAN + uncles)]
+    see_answer(command, 2 * leaves - 2)  # every place but the root is new
+    best = best_of({"session": command, "bare digests": [BARE, "pairs", bare]}, words.rounds)
+    print(f"{len(starts)} answers of {SPAN} leaves, by value: ", end="")
+    report(best, os.path.getsize(bare) >> 20, "session")
+    return missed_marks(best, "session", MARKS)
