@@ -23,9 +23,9 @@ def sources(text, crates):
             yield from (os.path.join(folder, name) for name in names)
 
 
-def build(program, crates, lines):
+def build(program, crates, lines, words=("read", "/dev/null", "1")):
     """Builds a program of this folder, where it is not there or older than what it is made of, for the CPU of the
-    Makefile. It takes along what is already proved of the repository's crates."""
+    Makefile, and runs it once on these words. It takes along what is already proved of the repository's crates."""
     name = os.path.basename(program)
     text = os.path.join(TOP, "bench", f"{name}.txt")
     if os.path.exists(program) and os.path.getmtime(program) > max(map(os.path.getmtime, sources(text, crates))):
@@ -40,7 +40,7 @@ def build(program, crates, lines):
         shutil.copyfile(text, os.path.join(own, "src", "main.rt"))
         with open(os.path.join(folder, "crates.txt"), "w", encoding="ascii") as file:
             file.write("".join(f"{line}\n" for line in lines))
-        subprocess.run([os.environ.get("RT", "rt"), "run", *cpu, "--", "read", "/dev/null", "1"], cwd=own, check=True,
+        subprocess.run([os.environ.get("RT", "rt"), "run", *cpu, "--", *words], cwd=own, check=True,
                        stdout=subprocess.DEVNULL)
         os.makedirs(os.path.dirname(program), exist_ok=True)
         shutil.copy(os.path.join(own, "out", name), program)
@@ -57,7 +57,8 @@ def build_readers():
 def build_sessions():
     build(SESSIONS, ["benc", "hashtree", "wire", "metainfo", "session"],
           ["benc:", "hashtree: sha2", "wire: benc byteorder", "metainfo: benc hashtree sha1 sha2",
-           "session: hashtree metainfo wire sha2", "sessions: hashtree metainfo session wire"])
+           "session: hashtree metainfo wire sha2", "sessions: hashtree metainfo session wire"],
+          ("/dev/null", "/dev/null", "1"))
 
 
 def resident_peak(pid):
