@@ -27,6 +27,8 @@ impl Calls {
     /// Counts a call, and fails where it is the one that is to.
     fn next(&mut self) -> Result<(), DeviceFault>
         ensures counts { CountsFault self.old.faults self.new.faults result }
+        ensures succeeds { OnOk result (self.old.before_fault ≢ Some 0) }
+        ensures fails { OnErr result (self.old.before_fault ≡ Some 0) }
     {
         match self.before_fault {
             Some(0) => {
@@ -75,6 +77,7 @@ impl<'a> MemSource<'a> {
     /// From here on a call gives at most so many bytes.
     pub fn at_most(mut self, count: usize) -> MemSource<'a>
         requires { 0 < count }
+        ensures bound { result.at_most ≡ count }
         ensures left { ⟦<MemSource<'a> as Source>⟧.left result ≡ ⟦<MemSource<'a> as Source>⟧.left self.entry }
         ensures faults { ⟦<MemSource<'a> as Source>⟧.faults result ≡ ⟦<MemSource<'a> as Source>⟧.faults self.entry }
     {
@@ -84,6 +87,7 @@ impl<'a> MemSource<'a> {
 
     /// So many further calls succeed, and the one after them fails and gives nothing. Later ones succeed.
     pub fn fails_after(self, calls: u64) -> MemSource<'a>
+        ensures fails { result.calls.before_fault ≡ Some calls }
         ensures left { ⟦<MemSource<'a> as Source>⟧.left result ≡ ⟦<MemSource<'a> as Source>⟧.left self.entry }
         ensures faults { ⟦<MemSource<'a> as Source>⟧.faults result ≡ ⟦<MemSource<'a> as Source>⟧.faults self.entry }
     {
@@ -151,6 +155,7 @@ impl MemSink {
     /// From here on a call takes at most so many bytes.
     pub fn at_most(mut self, count: usize) -> MemSink
         requires { 0 < count }
+        ensures bound { result.at_most ≡ count }
         ensures written { ⟦<MemSink as Sink>⟧.written result ≡ ⟦<MemSink as Sink>⟧.written self }
         ensures faults { ⟦<MemSink as Sink>⟧.faults result ≡ ⟦<MemSink as Sink>⟧.faults self }
         ensures flushes { ⟦<MemSink as Sink>⟧.flushes result ≡ ⟦<MemSink as Sink>⟧.flushes self }
@@ -162,6 +167,7 @@ impl MemSink {
     /// So many further calls succeed, flushes among them, and the one after them fails and takes nothing. Later ones
     /// succeed.
     pub fn fails_after(mut self, calls: u64) -> MemSink
+        ensures fails { result.calls.before_fault ≡ Some calls }
         ensures written { ⟦<MemSink as Sink>⟧.written result ≡ ⟦<MemSink as Sink>⟧.written self }
         ensures faults { ⟦<MemSink as Sink>⟧.faults result ≡ ⟦<MemSink as Sink>⟧.faults self }
         ensures flushes { ⟦<MemSink as Sink>⟧.flushes result ≡ ⟦<MemSink as Sink>⟧.flushes self }

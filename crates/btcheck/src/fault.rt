@@ -1,4 +1,7 @@
 //! What ends the program with status 2, and its line on standard error.
+ghost use Rattle.std.specs.Prelude.{◌≡◌};
+ghost use Rattle.btcheck.specs.declared.fault.Fault.TheVariants.{NoMemory};
+
 use std::alloc::AllocError;
 use std::fmt::{self, Display, Formatter};
 use std::process::ExitCode;
@@ -36,6 +39,8 @@ impl<'a> Display for Fault<'a> {
 }
 
 impl<'a> From<AllocError> for Fault<'a> {
+    ghost from_gives = { λ _ e. e ≡ NoMemory };
+
     fn from(_error: AllocError) -> Fault<'a> {
         Fault::NoMemory
     }

@@ -8,7 +8,7 @@ ghost use Rattle.session.specs.Claims.{sibling, top_layer, GoodRange, GoodCount}
 
 use crate::evidence::sibling;
 use crate::refusal::HashRefusal;
-use hashtree::{Hash, parent, zero};
+use hashtree::{Hash, zero};
 use wire::Ask;
 
 /// The power of two that a length from 2 to 8192 is, if it is one.
@@ -89,10 +89,11 @@ pub fn base_pads_fit(blocks: u64, base: u32, index: u64, hashes: &[Hash]) -> boo
 }
 
 /// Whether a hash that covers the leaves from `start` on is that over pads, where these cover nothing of the file.
-fn pad_fits(blocks: u64, start: u64, hash: &Hash, pad: &Hash) -> bool
-    ensures { IsTrue result ↔ (blocks ≤ start → hash.now ≡ pad.now) }
+fn pad_fits(blocks: u64, start: u64, hash: &Hash, layer: u32) -> bool
+    requires { layer ≤ 32 }
+    ensures { IsTrue result ↔ (blocks ≤ start → hash.now ≡ zero_hash layer) }
 {
-    start < blocks || hash == pad
+    start < blocks || *hash == zero(layer)
 }
 
 /// Whether each uncle above a node that covers nothing of the file is the hash over pads.
@@ -101,14 +102,14 @@ pub fn uncle_pads_fit(blocks: u64, cover: u32, node: u64, uncles: &[Hash]) -> bo
     requires node { node * 2 ^ cover < 2 ^ 32 }
     ensures { IsTrue result ↔ ((j : ℕ) → j < length uncles.now → blocks ≤ sibling (node / 2 ^ j) * 2 ^ (cover + j) → get_or uncles.now j [] ≡ zero_hash (cover + j)) }
 {
-    let mut pad = zero(cover);
+    let mut layer = cover;
     let mut width = 1u64 << cover;
     let mut above = node;
     for uncle in uncles {
-        if !pad_fits(blocks, sibling(above) * width, uncle, &pad) {
+        if !pad_fits(blocks, sibling(above) * width, uncle, layer) {
             return false;
         }
-        pad = parent(&pad, &pad);
+        layer += 1;
         width *= 2;
         above /= 2;
     }

@@ -1,7 +1,5 @@
-use Rattle.std.proofs.Common.{◌≡◌, suc, ◌+◌, ◌*◌, ◌/◌, ◌^◌, ◌<◌, ◌++◌, refl, ap, ap₂, sym, ◌∙◌, arith, below_more, shr-shr, pow-suc}
-use Rattle.sha2.specs.Sha256.{sha256}
+use Rattle.std.proofs.Common.{◌≡◌, suc, ◌+◌, ◌*◌, ◌/◌, ◌^◌, ◌<◌, refl, ap, ap₂, ◌∙◌, arith, below_more, shr-shr, pow-suc}
 use Rattle.hashtree.specs.Tree.{zero_hash}
-use Rattle.hashtree.proofs.Zeros.{zero_hash-suc}
 use Rattle.session.specs.Claims.{sibling}
 use Rattle.session.proofs.Ranges.{above-small, sibling-wide}
 use Rattle.session.proofs.checks.uncle_pads_fit.Goals as goal
@@ -26,8 +24,8 @@ loop-uncle-preserved c =
     let same : c.sibling.result * i.width ≡ sibling (c.args.node / 2 ^ i.uncle-index) * 2 ^ (c.args.cover + i.uncle-index) =
     ap (λ a. a * i.width) c.sibling.ensures ∙ ap₂ (λ a b. sibling a * b) i.invariant.above i.invariant.width in
     record {
-      pad = c.parent-pad.ensures ∙ ap₂ (λ a b. sha256 (a ++ b)) i.invariant.pad i.invariant.pad ∙ sym (zero_hash-suc (c.args.cover + i.uncle-index)) ∙ ap zero_hash (sym next);
+      layer = omega (arith, i.invariant.layer);
       width = omega (arith, i.invariant.width, ap (λ k. 2 ^ k) next, pow-suc 2 (c.args.cover + i.uncle-index));
       above = ap (λ a. a / 2) i.invariant.above ∙ shr-shr c.args.node i.uncle-index 1;
-      fit = below_more _ _ i.invariant.fit (λ past. c.if-not-pad_fits.ensures.0 refl (omega arith) ∙ i.invariant.pad);
+      fit = below_more _ _ i.invariant.fit (λ past. c.if-not-pad_fits.ensures.0 refl (omega arith) ∙ ap zero_hash i.invariant.layer);
     }

@@ -6,7 +6,7 @@ use Rattle.session.proofs.checks.uncle_pads_fit.Given as goal
 -- the uncles so far fit
 abbrev pub invariant-loop-uncle : goal.invariant-loop-uncle
 invariant-loop-uncle l = record {
-  pad : l.pad ≡ zero_hash (l.cover + l.uncle-index);
+  layer : l.layer ≡ l.cover + l.uncle-index;
   width : l.width ≡ 2 ^ (l.cover + l.uncle-index);
   above : l.above ≡ l.node / 2 ^ l.uncle-index;
   fit : (k : ℕ) → k < l.uncle-index → l.blocks ≤ sibling (l.node / 2 ^ k) * 2 ^ (l.cover + k) → get_or l.uncles k [] ≡ zero_hash (l.cover + k);
