@@ -22,7 +22,7 @@ def run(folder, words):
     hashes = write(os.path.join(folder, "hashes"),
                    (b"".join(tree.hashes(0, index, SPAN, uncles)) for index in starts))
     bare = write(os.path.join(folder, "pairs"), (pairs_of(tree, index, SPAN) for index in starts))
-    command = [SESSIONS, torrent, hashes, str(SPAN + uncles)]
+    command = [SESSIONS, torrent, hashes, str(32 * (SPAN + uncles))]
     see_answer(command, 2 * leaves - 2)  # every place but the root is new
     best = best_of({"session": command, "bare digests": [BARE, "pairs", bare]}, words.rounds)
     print(f"{len(starts)} answers of {SPAN} leaves, by value: ", end="")
