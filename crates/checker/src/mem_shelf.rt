@@ -33,6 +33,7 @@ impl<'a> MemFile<'a> {
     /// Whenever it is opened, so many reads succeed, and the one after them fails and gives nothing. Later ones
     /// succeed.
     pub fn fails_after(mut self, calls: u64) -> MemFile<'a>
+        ensures fails { result.before_fault ≡ Some calls }
         ensures path { path_of result ≡ path_of self.entry }
         ensures content { result.content.now ≡ self.entry.content.now }
     {
@@ -161,6 +162,7 @@ impl<'a> MemShelf<'a> {
     /// From here on a read of a file gives at most so many bytes.
     pub fn at_most(mut self, count: usize) -> MemShelf<'a>
         requires { 0 < count }
+        ensures bound { result.at_most ≡ count }
         ensures contents { (p : List (List ℕ)) → ⟦<MemShelf<'a> as Shelf>⟧.under result p ≡ ⟦<MemShelf<'a> as Shelf>⟧.under self.entry p }
         ensures listing { ⟦<MemShelf<'a> as Shelf>⟧.listing result ≡ ⟦<MemShelf<'a> as Shelf>⟧.listing self.entry }
         ensures openings { ⟦<MemShelf<'a> as Shelf>⟧.openings result ≡ ⟦<MemShelf<'a> as Shelf>⟧.openings self.entry }
@@ -172,6 +174,7 @@ impl<'a> MemShelf<'a> {
 
     /// So many further calls of `list` and `open` succeed, and the one after them fails. Later ones succeed.
     pub fn fails_after(mut self, calls: u64) -> MemShelf<'a>
+        ensures fails { result.before_fault ≡ Some calls }
         ensures contents { (p : List (List ℕ)) → ⟦<MemShelf<'a> as Shelf>⟧.under result p ≡ ⟦<MemShelf<'a> as Shelf>⟧.under self.entry p }
         ensures listing { ⟦<MemShelf<'a> as Shelf>⟧.listing result ≡ ⟦<MemShelf<'a> as Shelf>⟧.listing self.entry }
         ensures openings { ⟦<MemShelf<'a> as Shelf>⟧.openings result ≡ ⟦<MemShelf<'a> as Shelf>⟧.openings self.entry }
