@@ -1,6 +1,8 @@
 """What the parts of the measurement share: the programs to measure with, and how commands are measured."""
+import math
 import os
 import shutil
+import statistics
 import subprocess
 import sys
 import tempfile
@@ -94,26 +96,55 @@ def see_answer(command, answer):
         sys.exit(f"{' '.join(command)} printed {told} and not {answer}")
 
 
-def best_of(commands, rounds):
-    """The least of each time over all rounds and the greatest peak, by command; one round before them warms the
-    cache."""
-    best = {}
+class Rounds:
+    """What was measured of one command: seconds and KiB of each round, in order."""
+
+    def __init__(self):
+        self.walls, self.processors, self.peaks = [], [], []
+
+    def note(self, wall, processor, peak):
+        self.walls.append(wall)
+        self.processors.append(processor)
+        self.peaks.append(peak)
+
+    @property
+    def wall(self):
+        return min(self.walls)
+
+    @property
+    def processor(self):
+        return min(self.processors)
+
+    @property
+    def peak(self):
+        return max(self.peaks)
+
+    def takes(self, other):
+        """How often the other's processor time goes into this one's: the median of the rounds. In a round both run one
+        after the other, so that a machine that is slower for a while is slower for both."""
+        pairs = zip(self.processors, other.processors)
+        return statistics.median(mine / theirs if theirs > 0 else math.inf for mine, theirs in pairs)
+
+
+def measured(commands, rounds):
+    """Each command's rounds, by its name: the commands run in turn, and one round before them warms the cache."""
+    found = {name: Rounds() for name in commands}
     for count in range(rounds + 1):
         for name, command in commands.items():
-            wall, processor, peak = measure(command)
+            run = measure(command)
             if count > 0:
-                least = best.get(name, (wall, processor, peak))
-                best[name] = (min(wall, least[0]), min(processor, least[1]), max(peak, least[2]))
-    return best
+                found[name].note(*run)
+    return found
 
 
-def report(best, mib, first):
-    """One line a command, and how often the processor time of each goes into that of the first."""
-    print(f"{mib} MiB, best of interleaved rounds")
+def report(found, mib, first):
+    """One line a command with its best times, and how often the processor time of each goes into that of the first."""
+    print(f"{mib} MiB, interleaved rounds: the best of each command, and the median of the rounds' ratios")
     print(f"{'':14} {'wall s':>8} {'processor s':>12} {'MiB/s':>7} {'peak KiB':>9} {first + ' takes':>19}")
-    for name, (wall, processor, peak) in best.items():
-        ratio = f"{best[first][1] / processor:.3f} x" if processor > 0 else "-"
-        print(f"{name:14} {wall:8.2f} {processor:12.3f} {mib / max(processor, 0.001):7.0f} {peak:9} {ratio:>19}")
+    for name, rounds in found.items():
+        ratio = f"{found[first].takes(rounds):.3f} x"
+        speed = mib / max(rounds.processor, 0.001)
+        print(f"{name:14} {rounds.wall:8.2f} {rounds.processor:12.3f} {speed:7.0f} {rounds.peak:9} {ratio:>19}")
 
 
 def write_random(path, mib):
@@ -127,7 +158,7 @@ def need_program():
         sys.exit("build/btcheck is missing: run make first")
 
 
-def missed_marks(best, first, marks):
+def missed_marks(found, first, marks):
     """The marks that a command misses, in words: (of what, ratio of processor time at most) each."""
     return [f"{first} takes more than {mark} x the processor time of {name}"
-            for name, mark in marks if name in best and best[first][1] > mark * best[name][1]]
+            for name, mark in marks if name in found and found[first].takes(found[name]) > mark]

@@ -6,7 +6,7 @@ import os
 import shutil
 import sys
 
-from measuring import (BARE, BLOCK, BTCHECK, TOP, best_of, build_bare, measure, missed_marks, need_program, report,
+from measuring import (BARE, BLOCK, BTCHECK, TOP, measured, build_bare, measure, missed_marks, need_program, report,
                        write_random)
 
 sys.path.insert(0, os.path.join(TOP, "tests"))
@@ -61,12 +61,12 @@ def check(folder, words, make):
     for hybrid in (False, True):
         support.made_by_libtorrent([{"content": content, "torrent": torrent, "piece_length": piece_length,
                                      "hybrid": hybrid}])
-        best = best_of(commands_of(files, content, joined, torrent, hybrid), words.rounds)
+        found = measured(commands_of(files, content, joined, torrent, hybrid), words.rounds)
         print(f"{make.__name__.replace('_', ' ')}, {'hybrid' if hybrid else 'version 2'}: ", end="")
-        report(best, mib, "btcheck check")
+        report(found, mib, "btcheck check")
         if make is one_file:
-            missed += missed_marks(best, "btcheck check", MARKS)
-        if best["btcheck check"][2] > measure([BTCHECK, "show", torrent])[2] + MEMORY_MARK * 1024:
+            missed += missed_marks(found, "btcheck check", MARKS)
+        if found["btcheck check"].peak > measure([BTCHECK, "show", torrent])[2] + MEMORY_MARK * 1024:
             missed.append(f"btcheck check takes more than {MEMORY_MARK} MiB beside the torrent")
     shutil.rmtree(files)
     return missed

@@ -3,7 +3,7 @@ bytes shows: a dictionary of 100,000 keys, one long byte string in a dictionary,
 Beside it stands reading the same file into memory and summing its bytes, as often."""
 import os
 
-from measuring import READERS, best_of, build_readers, see_answer
+from measuring import READERS, measured, build_readers, see_answer
 
 # What a byte of a whole input may cost at most, beside a byte of its half.
 MARK = 1.25
@@ -46,16 +46,16 @@ def run(folder, words):
     inputs = decode_inputs(folder, words.part)
     for path, _, times in inputs.values():
         see_answer([READERS, "decode", path, str(times)], times)
-    best = best_of({(what, *key): [READERS, what, path, str(times)] for key, (path, _, times) in inputs.items()
-                    for what in ("decode", "read")}, words.rounds)
+    found = measured({(what, *key): [READERS, what, path, str(times)] for key, (path, _, times) in inputs.items()
+                      for what in ("decode", "read")}, words.rounds)
     print("decode, best of interleaved rounds; nanoseconds of processor time a byte, with the reading of the file")
     print(f"{'':14} {'bytes':>9} {'times':>6} {'decode ns':>10} {'read ns':>8} {'decode takes':>13} {'peak KiB':>9}")
     cost = {}
     for (name, share), (_, size, times) in inputs.items():
-        _, processor, peak = best["decode", name, share]
-        cost[name, share] = processor / (size * times) * 1e9
-        read = best["read", name, share][1] / (size * times) * 1e9
+        decoding = found["decode", name, share]
+        cost[name, share] = decoding.processor / (size * times) * 1e9
+        read = found["read", name, share].processor / (size * times) * 1e9
         print(f"{name + ', ' + share:14} {size:9} {times:6} {cost[name, share]:10.3f} {read:8.3f} "
-              f"{cost[name, share] / read:11.2f} x {peak:9}")
+              f"{cost[name, share] / read:11.2f} x {decoding.peak:9}")
     return [f"a byte of the whole of {name} takes more than {MARK} x a byte of its half"
             for name in ("keys", "string", "items") if cost[name, "whole"] > MARK * cost[name, "half"]]

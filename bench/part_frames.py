@@ -1,7 +1,7 @@
 """16,384 piece messages of one block each out of a file, beside the bare digests of the same blocks."""
 import os
 
-from measuring import BARE, BLOCK, READERS, best_of, build_bare, build_readers, missed_marks, report, see_answer
+from measuring import BARE, BLOCK, READERS, measured, build_bare, build_readers, missed_marks, report, see_answer
 
 # What reading frames may cost at most, beside the digests of their blocks.
 MARKS = [("bare digests", 0.1)]
@@ -24,11 +24,11 @@ def run(folder, words):
     blocks_path, frames_path = os.path.join(folder, "blocks"), os.path.join(folder, "frames")
     write_frames(blocks_path, frames_path, count)
     see_answer([READERS, "frames", frames_path, "1"], count * BLOCK)
-    best = best_of({
+    found = measured({
         "frames": [READERS, "frames", frames_path, "1"],
         "bare digests": [BARE, "digests", blocks_path],
         "reading alone": [BARE, "read", blocks_path],
     }, words.rounds)
     print(f"{count} frames of one block: ", end="")
-    report(best, count * BLOCK >> 20, "frames")
-    return missed_marks(best, "frames", MARKS)
+    report(found, count * BLOCK >> 20, "frames")
+    return missed_marks(found, "frames", MARKS)

@@ -4,7 +4,7 @@ tree of 2^20 leaves, beside the bare digests of the pairs that lead to the root.
 import os
 import sys
 
-from measuring import BARE, BLOCK, BTCHECK, TOP, best_of, build_bare, missed_marks, need_program, report
+from measuring import BARE, BLOCK, BTCHECK, TOP, measured, build_bare, missed_marks, need_program, report
 
 sys.path.insert(0, os.path.join(TOP, "tests"))
 import messages  # noqa: E402
@@ -59,14 +59,14 @@ def write(path, parts):
 
 def replay_beside(words, title, torrent, record, kind, bare, marks):
     """Measures one record beside the bare digests of a file's blocks or pairs, and gives the marks that it misses."""
-    best = best_of({
+    found = measured({
         "btcheck replay": [BTCHECK, "replay", torrent, record, "--info-only"],
         "bare digests": [BARE, kind, bare],
         "reading alone": [BARE, "read", record],
     }, words.rounds)
     print(title, end=": ")
-    report(best, os.path.getsize(bare) >> 20, "btcheck replay")
-    return missed_marks(best, "btcheck replay", marks)
+    report(found, os.path.getsize(bare) >> 20, "btcheck replay")
+    return missed_marks(found, "btcheck replay", marks)
 
 
 def replay_pieces(folder, words):

@@ -2,7 +2,7 @@
 import os
 import shutil
 
-from measuring import BARE, BTCHECK, best_of, build_bare, missed_marks, need_program, report, write_random
+from measuring import BARE, BTCHECK, measured, build_bare, missed_marks, need_program, report, write_random
 
 # What `root` may cost at most: (of what, ratio of processor time), and the resident set in MiB.
 MARKS = [("bare digests", 1.05), ("sha256sum", 1.0)]
@@ -28,9 +28,9 @@ def run(folder, words):
     build_bare()
     path = os.path.join(folder, "content")
     write_random(path, words.size)
-    best = best_of(commands_on(path), words.rounds)
-    report(best, words.size, "btcheck root")
-    missed = missed_marks(best, "btcheck root", MARKS)
-    if best["btcheck root"][2] > MEMORY_MARK * 1024:
+    found = measured(commands_on(path), words.rounds)
+    report(found, words.size, "btcheck root")
+    missed = missed_marks(found, "btcheck root", MARKS)
+    if found["btcheck root"].peak > MEMORY_MARK * 1024:
         missed.append(f"btcheck root takes more than {MEMORY_MARK} MiB")
     return missed

@@ -2,7 +2,7 @@
 and without a line. Beside it stand the bare digests of the pairs that lead to the root."""
 import os
 
-from measuring import BARE, BLOCK, SESSIONS, best_of, build_bare, build_sessions, missed_marks, report, see_answer
+from measuring import BARE, BLOCK, SESSIONS, measured, build_bare, build_sessions, missed_marks, report, see_answer
 from part_replay import SPAN, pairs_of, torrent_over, uncles_of, write
 from trees import Tree
 
@@ -24,7 +24,7 @@ def run(folder, words):
     bare = write(os.path.join(folder, "pairs"), (pairs_of(tree, index, SPAN) for index in starts))
     command = [SESSIONS, torrent, hashes, str(32 * (SPAN + uncles))]
     see_answer(command, 2 * leaves - 2)  # every place but the root is new
-    best = best_of({"session": command, "bare digests": [BARE, "pairs", bare]}, words.rounds)
+    found = measured({"session": command, "bare digests": [BARE, "pairs", bare]}, words.rounds)
     print(f"{len(starts)} answers of {SPAN} leaves, by value: ", end="")
-    report(best, os.path.getsize(bare) >> 20, "session")
-    return missed_marks(best, "session", MARKS)
+    report(found, os.path.getsize(bare) >> 20, "session")
+    return missed_marks(found, "session", MARKS)

@@ -5,7 +5,7 @@ import functools
 import os
 import sys
 
-from measuring import BARE, BLOCK, BTCHECK, TOP, best_of, build_bare, missed_marks, need_program, report
+from measuring import BARE, BLOCK, BTCHECK, TOP, measured, build_bare, missed_marks, need_program, report
 
 sys.path.insert(0, os.path.join(TOP, "tests"))
 from support import sha256  # noqa: E402
@@ -120,17 +120,17 @@ def show_files(folder, words):
             path = os.path.join(folder, f"{name} {count}")
             write(path, count=count)
             commands[name, count] = [BTCHECK, "show", path]
-    best = best_of(commands, words.rounds)
+    found = measured(commands, words.rounds)
     print("show, best of interleaved rounds; microseconds of processor time a file")
     print(f"{'files':14}" + "".join(f"{count:>10}" for count in COUNTS) + f"{'whole, s':>10} {'peak KiB':>9}")
     missed = []
     for name in WRITERS:
-        costs = [best[name, count][1] / count * 1e6 for count in COUNTS]
-        _, whole, peak = best[name, COUNTS[-1]]
-        print(f"{name:14}" + "".join(f"{cost:10.2f}" for cost in costs) + f"{whole:10.3f} {peak:9}")
+        costs = [found[name, count].processor / count * 1e6 for count in COUNTS]
+        whole = found[name, COUNTS[-1]]
+        print(f"{name:14}" + "".join(f"{cost:10.2f}" for cost in costs) + f"{whole.processor:10.3f} {whole.peak:9}")
         if costs[-1] > FILE_MARK * costs[0]:
             missed.append(f"{name}: a file of {COUNTS[-1]} takes more than {FILE_MARK} x one of {COUNTS[0]}")
-    if best["plain", COUNTS[-1]][1] > SHOW_MARK:
+    if found["plain", COUNTS[-1]].processor > SHOW_MARK:
         missed.append(f"show of {COUNTS[-1]} files takes more than {SHOW_MARK} s")
     return missed
 
@@ -141,10 +141,10 @@ def show_layer(folder, words):
     count = 250_000
     path, pairs = os.path.join(folder, "layer"), os.path.join(folder, "pairs")
     write_layer(path, pairs, count)
-    best = best_of({"btcheck show": [BTCHECK, "show", path], "bare digests": [BARE, "pairs", pairs]}, words.rounds)
+    found = measured({"btcheck show": [BTCHECK, "show", path], "bare digests": [BARE, "pairs", pairs]}, words.rounds)
     print(f"a piece layer of {count} hashes: ", end="")
-    report(best, os.path.getsize(pairs) >> 20, "btcheck show")
-    return missed_marks(best, "btcheck show", LAYER_MARKS)
+    report(found, os.path.getsize(pairs) >> 20, "btcheck show")
+    return missed_marks(found, "btcheck show", LAYER_MARKS)
 
 
 def run(folder, words):
