@@ -1,7 +1,7 @@
 # make                 proves every crate that the program needs and builds build/btcheck
 # make check           runs what the merge gate runs: proofs, must-fail edits, all tests
 # make test            runs the built program on real files
-# make bench           measures `btcheck root` and `show`, decoding, and the reading of frames
+# make bench           measures the commands and what they stand on, beside what they cannot do without
 # make install         puts the program below PREFIX (and DESTDIR)
 # make clean           removes all that was built, kept proofs too
 # make CPU=x86-64-v3   builds for a newer processor (after make clean)
