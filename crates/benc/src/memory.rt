@@ -1,55 +1,9 @@
 //! Devices over memory, for tests: they take or give a set number of bytes a call, and fail at a set call.
-ghost use Rattle.std.specs.Prelude.{◌≡◌, ◌≢◌, ℕ, ◌+◌, ◌-◌, ◌<◌, ◌≤◌, ◌^◌, min, List, [], ◌++◌, length, take, drop, Option, Some, None, IfOk, IfNone, OnOk, OnErr, MatchResult, Bool, true, vec_len, vec_capacity};
-ghost use Rattle.std.specs.Io.KnownBytes.{Keeps, ReadConsumes, WriteAppends};
-ghost use Rattle.benc.specs.Device.{CountsFault, one_more};
+ghost use Rattle.std.specs.Prelude.{◌≡◌, ◌<◌, ◌^◌, [], length, Some, IfOk};
 
+use crate::calls::Calls;
 use crate::device::{DeviceFault, Sink, Source};
 use std::alloc::{AllocError, Global};
-
-/// How many calls have failed, and which one is to.
-#[derive(Drop)]
-struct Calls {
-    before_fault: Option<u64>,
-    faults: u64,
-}
-
-impl Calls {
-    /// Every call succeeds.
-    fn that_succeed() -> Calls
-        ensures { result.faults ≡ 0 }
-    {
-        Calls {
-            before_fault: None,
-            faults: 0,
-        }
-    }
-
-    /// Counts a call, and fails where it is the one that is to.
-    fn next(&mut self) -> Result<(), DeviceFault>
-        ensures counts { CountsFault self.old.faults self.new.faults result }
-        ensures succeeds { OnOk result (self.old.before_fault ≢ Some 0) }
-        ensures fails { OnErr result (self.old.before_fault ≡ Some 0) }
-    {
-        match self.before_fault {
-            Some(0) => {
-                self.before_fault = None;
-                Err(self.fault())
-            }
-            Some(calls) => {
-                self.before_fault = Some(calls - 1);
-                Ok(())
-            }
-            None => Ok(()),
-        }
-    }
-
-    fn fault(&mut self) -> DeviceFault
-        ensures counts { self.new.faults ≡ one_more self.old.faults }
-    {
-        self.faults = self.faults.wrapping_add(1);
-        DeviceFault
-    }
-}
 
 /// A source that gives these bytes.
 #[derive(Drop)]
