@@ -1,6 +1,7 @@
 -- What contracts of devices and of bencoding cite.
 pub mod Device
 pub mod Calls
+pub mod MemDevices
 pub mod Value
 pub mod View
 pub mod Spelling

@@ -1,6 +1,5 @@
 //! The calls of a device over memory, one of which may be to fail.
-ghost use Rattle.std.specs.Prelude.{◌≡◌, ◌≢◌, Some, None, OnOk, OnErr};
-ghost use Rattle.benc.specs.Calls.{after_call};
+ghost use Rattle.std.specs.Prelude.{◌≡◌, None};
 ghost use Rattle.benc.specs.Device.{CountsFault, one_more};
 
 use crate::device::DeviceFault;
@@ -15,6 +14,8 @@ pub struct Calls {
 }
 
 impl Calls {
+    ghost use Rattle.benc.specs.Calls.{FailsInTurn, after_call};
+
     /// All calls succeed, and none has failed.
     pub fn that_succeed() -> Calls
         ensures succeed { result.before_fault ≡ None }
@@ -28,8 +29,7 @@ impl Calls {
 
     /// Counts a call, and fails where it is the one that is to. The calls after that one succeed.
     pub fn next(&mut self) -> Result<(), DeviceFault>
-        ensures succeeds { OnOk result (self.old.before_fault ≢ Some 0) }
-        ensures fails { OnErr result (self.old.before_fault ≡ Some 0) }
+        ensures fails { FailsInTurn self.old result }
         ensures later { self.new.before_fault ≡ after_call self.old.before_fault }
         ensures counts { CountsFault self.old.faults self.new.faults result }
     {
