@@ -67,7 +67,7 @@ impl<'a> MemSource<'a> {
 }
 
 impl<'a> Source for MemSource<'a> {
-    ghost use Rattle.benc.specs.MemDevices.{bytes_left, most_given, source_calls};
+    ghost use Rattle.benc.specs.MemDevices.{FallsBy, bytes_left, most_given, source_calls};
 
     ghost left = { λ s. Some (bytes_left s) };
 
@@ -76,10 +76,11 @@ impl<'a> Source for MemSource<'a> {
     ghost faults = { λ s. (source_calls s).faults };
 
     fn read(&mut self, buf: &mut [u8]) -> Result<usize, DeviceFault>
-        ensures gives { IfOk result (λ n. n ≡ min (min (length buf.new) (most_given self.old)) (length (bytes_left self.old))) }
+        ensures gives { IfOk result (λ n.
+            n ≡ min (min (length buf.new) (most_given self.old)) (length (bytes_left self.old))) }
         ensures bound { IfOk result (λ n. n ≤ length buf.new) }
         ensures bytes { ReadConsumes (Some (bytes_left self.old)) (Some (bytes_left self.new)) result buf.new }
-        ensures falls { MatchResult result (λ n. length (bytes_left self.new) + n ≡ length (bytes_left self.old)) (λ _. length (bytes_left self.new) ≡ length (bytes_left self.old)) }
+        ensures falls { FallsBy (length (bytes_left self.old)) (length (bytes_left self.new)) result }
         ensures fails { FailsInTurn (source_calls self.old) result }
         ensures later { (source_calls self.new).before_fault ≡ after_call (source_calls self.old).before_fault }
         ensures counts { CountsFault (source_calls self.old).faults (source_calls self.new).faults result }
@@ -114,7 +115,7 @@ pub struct MemSink {
 }
 
 impl MemSink {
-    ghost use Rattle.benc.specs.MemDevices.{bytes_taken, has_flushed, most_taken, room_left, sink_calls};
+    ghost use Rattle.benc.specs.MemDevices.{most_taken, room_left, sink_calls};
 
     /// A sink with room for so many bytes, whose calls take as many bytes as there is room for.
     pub fn with_room(alloc: Global, room: usize) -> Result<MemSink, AllocError>
@@ -189,7 +190,7 @@ impl MemSink {
 }
 
 impl Sink for MemSink {
-    ghost use Rattle.benc.specs.MemDevices.{bytes_taken, flush_count, has_flushed, most_taken, room_left, sink_calls};
+    ghost use Rattle.benc.specs.MemDevices.{FallsBy, bytes_taken, flush_count, has_flushed, most_taken, room_left, sink_calls};
 
     ghost written = { λ s. Some (bytes_taken s) };
 
@@ -204,14 +205,15 @@ impl Sink for MemSink {
         ensures bound { IfOk result (λ n. n ≤ length buf.now) }
         ensures some { IfOk result (λ n. 0 < length buf.now → 0 < n) }
         ensures bytes { WriteAppends (Some (bytes_taken self.old)) (Some (bytes_taken self.new)) result buf.now }
-        ensures room { MatchResult result (λ n. room_left self.new + n ≡ room_left self.old) (λ _. room_left self.new ≡ room_left self.old) }
+        ensures room { FallsBy (room_left self.old) (room_left self.new) result }
         ensures full { OnErr result (((sink_calls self.old).before_fault ≡ Some 0) ⊎ (room_left self.old ≡ 0)) }
         ensures succeeds { OnOk result ((sink_calls self.old).before_fault ≢ Some 0) }
         ensures later { (sink_calls self.new).before_fault ≡ after_call (sink_calls self.old).before_fault }
         ensures counts { CountsFault (sink_calls self.old).faults (sink_calls self.new).faults result }
         ensures bounded { most_taken self.new ≡ most_taken self.old }
         ensures flushes { flush_count self.new ≡ flush_count self.old }
-        ensures flushed { MatchResult result (λ _. has_flushed self.new ≡ false) (λ _. has_flushed self.new ≡ has_flushed self.old) }
+        ensures flushed { MatchResult result (λ _. has_flushed self.new ≡ false)
+            (λ _. has_flushed self.new ≡ has_flushed self.old) }
     {
         self.calls.next()?;
         let count = buf.len().min(self.at_most).min(self.room);
@@ -234,7 +236,8 @@ impl Sink for MemSink {
         ensures counts { CountsFault (sink_calls self.old).faults (sink_calls self.new).faults result }
         ensures bounded { most_taken self.new ≡ most_taken self.old }
         ensures flushes { flush_count self.new ≡ one_more (flush_count self.old) }
-        ensures flushed { MatchResult result (λ _. has_flushed self.new ≡ true) (λ _. has_flushed self.new ≡ has_flushed self.old) }
+        ensures flushed { MatchResult result (λ _. has_flushed self.new ≡ true)
+            (λ _. has_flushed self.new ≡ has_flushed self.old) }
     {
         self.flushes = self.flushes.wrapping_add(1);
         self.calls.next()?;
