@@ -1,5 +1,5 @@
 //! The calls of a device over memory, one of which may be to fail.
-ghost use Rattle.std.specs.Prelude.{◌≡◌, None};
+ghost use Rattle.std.specs.Prelude.{◌≡◌, Some, None};
 ghost use Rattle.benc.specs.Device.{CountsFault, one_more};
 
 use crate::device::DeviceFault;
@@ -25,6 +25,14 @@ impl Calls {
             before_fault: None,
             faults: 0,
         }
+    }
+
+    /// So many further calls succeed, and the one after them fails. Later ones succeed.
+    pub fn fail_after(&mut self, calls: u64)
+        ensures fails { self.new.before_fault ≡ Some calls }
+        ensures faults { self.new.faults ≡ self.old.faults }
+    {
+        self.before_fault = Some(calls);
     }
 
     /// Counts a call, and fails where it is the one that is to. The calls after that one succeed.

@@ -49,20 +49,14 @@ impl<'a> MemSource<'a> {
     }
 
     /// So many further calls succeed, and the one after them fails and gives nothing. Later ones succeed.
-    pub fn fails_after(self, calls: u64) -> MemSource<'a>
+    pub fn fails_after(mut self, calls: u64) -> MemSource<'a>
         ensures fails { (source_calls result).before_fault ≡ Some calls }
         ensures bound { most_given result ≡ most_given self.entry }
         ensures left { ⟦<MemSource<'a> as Source>⟧.left result ≡ ⟦<MemSource<'a> as Source>⟧.left self.entry }
         ensures faults { ⟦<MemSource<'a> as Source>⟧.faults result ≡ ⟦<MemSource<'a> as Source>⟧.faults self.entry }
     {
-        MemSource {
-            rest: self.rest,
-            at_most: self.at_most,
-            calls: Calls {
-                before_fault: Some(calls),
-                faults: self.calls.faults,
-            },
-        }
+        self.calls.fail_after(calls);
+        self
     }
 }
 
@@ -163,7 +157,7 @@ impl MemSink {
         ensures flushes { ⟦<MemSink as Sink>⟧.flushes result ≡ ⟦<MemSink as Sink>⟧.flushes self }
         ensures flushed { ⟦<MemSink as Sink>⟧.is_flushed result ≡ ⟦<MemSink as Sink>⟧.is_flushed self }
     {
-        self.calls.before_fault = Some(calls);
+        self.calls.fail_after(calls);
         self
     }
 
