@@ -12,8 +12,13 @@ use std::fmt;
 pub struct DeviceFault;
 
 impl fmt::Display for DeviceFault {
+    ghost use Rattle.std.specs.Prelude.{Some};
+    ghost use Rattle.benc.specs.Messages.{device_fault_text};
+
+    ghost output = { λ fault. Some (device_fault_text fault) };
+
     fn fmt<W: fmt::Write>(&self, f: &mut fmt::Formatter<W>) -> fmt::Result {
-        write!(f, "the device failed")
+        f.write_str("the device failed")
     }
 }
 
@@ -27,8 +32,15 @@ pub enum WriteFault {
 }
 
 impl fmt::Display for WriteFault {
+    ghost use Rattle.std.specs.Prelude.{Some};
+    ghost use Rattle.benc.specs.Messages.{write_fault_text};
+
+    ghost output = { λ fault. Some (write_fault_text fault) };
+
     fn fmt<W: fmt::Write>(&self, f: &mut fmt::Formatter<W>) -> fmt::Result {
-        write!(f, "cannot write")
+        match self {
+            WriteFault::Write => f.write_str("cannot write"),
+        }
     }
 }
 

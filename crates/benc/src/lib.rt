@@ -1,6 +1,7 @@
 //! Devices that bytes come from and go to, and canonical bencoding (BEP 3).
 #![tactic(auto)]
 
+mod calls;
 mod canonical;
 mod decoding;
 mod device;
@@ -15,6 +16,7 @@ mod standard;
 mod stop;
 mod value;
 
+pub use calls::Calls;
 pub use decoding::{decode, decode_front, decode_with_span, span};
 pub use device::{DeviceFault, Sink, Source, WriteFault, write_all};
 pub use encoding::encode;

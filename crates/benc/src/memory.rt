@@ -1,55 +1,12 @@
 //! Devices over memory, for tests: they take or give a set number of bytes a call, and fail at a set call.
-ghost use Rattle.std.specs.Prelude.{◌≡◌, ◌≢◌, ℕ, ◌+◌, ◌-◌, ◌<◌, ◌≤◌, ◌^◌, min, List, [], ◌++◌, length, take, drop, Option, Some, None, IfOk, IfNone, OnOk, OnErr, MatchResult, Bool, true, vec_len, vec_capacity};
+ghost use Rattle.std.specs.Prelude.{◌≡◌, ◌≢◌, ◌+◌, ◌-◌, ◌<◌, ◌≤◌, ◌^◌, ◌⊎◌, [], length, min, Some, None, IfOk, OnOk, OnErr, MatchResult, true, false, vec_len, vec_capacity};
 ghost use Rattle.std.specs.Io.KnownBytes.{Keeps, ReadConsumes, WriteAppends};
+ghost use Rattle.benc.specs.Calls.{FailsInTurn, after_call};
 ghost use Rattle.benc.specs.Device.{CountsFault, one_more};
 
+use crate::calls::Calls;
 use crate::device::{DeviceFault, Sink, Source};
 use std::alloc::{AllocError, Global};
-
-/// How many calls have failed, and which one is to.
-#[derive(Drop)]
-struct Calls {
-    before_fault: Option<u64>,
-    faults: u64,
-}
-
-impl Calls {
-    /// Every call succeeds.
-    fn that_succeed() -> Calls
-        ensures { result.faults ≡ 0 }
-    {
-        Calls {
-            before_fault: None,
-            faults: 0,
-        }
-    }
-
-    /// Counts a call, and fails where it is the one that is to.
-    fn next(&mut self) -> Result<(), DeviceFault>
-        ensures counts { CountsFault self.old.faults self.new.faults result }
-        ensures succeeds { OnOk result (self.old.before_fault ≢ Some 0) }
-        ensures fails { OnErr result (self.old.before_fault ≡ Some 0) }
-    {
-        match self.before_fault {
-            Some(0) => {
-                self.before_fault = None;
-                Err(self.fault())
-            }
-            Some(calls) => {
-                self.before_fault = Some(calls - 1);
-                Ok(())
-            }
-            None => Ok(()),
-        }
-    }
-
-    fn fault(&mut self) -> DeviceFault
-        ensures counts { self.new.faults ≡ one_more self.old.faults }
-    {
-        self.faults = self.faults.wrapping_add(1);
-        DeviceFault
-    }
-}
 
 /// A source that gives these bytes.
 #[derive(Drop)]
@@ -62,8 +19,13 @@ pub struct MemSource<'a> {
 }
 
 impl<'a> MemSource<'a> {
+    ghost use Rattle.benc.specs.MemDevices.{bytes_left, most_given, source_calls};
+
     /// A source whose calls give as many bytes as there is room for, and never fail.
     pub fn new(bytes: &'a [u8]) -> MemSource<'a>
+        ensures bytes { bytes_left result ≡ bytes.entry.now }
+        ensures bound { most_given result ≡ 2 ^ 64 - 1 }
+        ensures succeeds { (source_calls result).before_fault ≡ None }
         ensures left { ⟦<MemSource<'a> as Source>⟧.left result ≡ Some bytes.entry.now }
         ensures faults { ⟦<MemSource<'a> as Source>⟧.faults result ≡ 0 }
     {
@@ -77,7 +39,8 @@ impl<'a> MemSource<'a> {
     /// From here on a call gives at most so many bytes.
     pub fn at_most(mut self, count: usize) -> MemSource<'a>
         requires { 0 < count }
-        ensures bound { result.at_most ≡ count }
+        ensures bound { most_given result ≡ count }
+        ensures calls { source_calls result ≡ source_calls self.entry }
         ensures left { ⟦<MemSource<'a> as Source>⟧.left result ≡ ⟦<MemSource<'a> as Source>⟧.left self.entry }
         ensures faults { ⟦<MemSource<'a> as Source>⟧.faults result ≡ ⟦<MemSource<'a> as Source>⟧.faults self.entry }
     {
@@ -86,30 +49,37 @@ impl<'a> MemSource<'a> {
     }
 
     /// So many further calls succeed, and the one after them fails and gives nothing. Later ones succeed.
-    pub fn fails_after(self, calls: u64) -> MemSource<'a>
-        ensures fails { result.calls.before_fault ≡ Some calls }
+    pub fn fails_after(mut self, calls: u64) -> MemSource<'a>
+        ensures fails { (source_calls result).before_fault ≡ Some calls }
+        ensures bound { most_given result ≡ most_given self.entry }
         ensures left { ⟦<MemSource<'a> as Source>⟧.left result ≡ ⟦<MemSource<'a> as Source>⟧.left self.entry }
         ensures faults { ⟦<MemSource<'a> as Source>⟧.faults result ≡ ⟦<MemSource<'a> as Source>⟧.faults self.entry }
     {
-        MemSource {
-            rest: self.rest,
-            at_most: self.at_most,
-            calls: Calls {
-                before_fault: Some(calls),
-                faults: self.calls.faults,
-            },
-        }
+        self.calls.fail_after(calls);
+        self
     }
 }
 
 impl<'a> Source for MemSource<'a> {
-    ghost left = { λ s. Some s.rest.now };
+    ghost use Rattle.benc.specs.MemDevices.{FallsBy, bytes_left, most_given, source_calls};
 
-    ghost limit = { λ s. length s.rest.now };
+    ghost left = { λ s. Some (bytes_left s) };
 
-    ghost faults = { λ s. s.calls.faults };
+    ghost limit = { λ s. length (bytes_left s) };
 
-    fn read(&mut self, buf: &mut [u8]) -> Result<usize, DeviceFault> {
+    ghost faults = { λ s. (source_calls s).faults };
+
+    fn read(&mut self, buf: &mut [u8]) -> Result<usize, DeviceFault>
+        ensures gives { IfOk result (λ n.
+            n ≡ min (min (length buf.new) (most_given self.old)) (length (bytes_left self.old))) }
+        ensures bound { IfOk result (λ n. n ≤ length buf.new) }
+        ensures bytes { ReadConsumes (Some (bytes_left self.old)) (Some (bytes_left self.new)) result buf.new }
+        ensures falls { FallsBy (length (bytes_left self.old)) (length (bytes_left self.new)) result }
+        ensures fails { FailsInTurn (source_calls self.old) result }
+        ensures later { (source_calls self.new).before_fault ≡ after_call (source_calls self.old).before_fault }
+        ensures counts { CountsFault (source_calls self.old).faults (source_calls self.new).faults result }
+        ensures bounded { most_given self.new ≡ most_given self.old }
+    {
         self.calls.next()?;
         let count = buf.len().min(self.at_most).min(self.rest.len());
         let (given, rest) = self.rest.split_at(count);
@@ -129,22 +99,31 @@ impl<'a> Source for MemSource<'a> {
 #[derive(Drop)]
 pub struct MemSink {
     bytes: Vec<u8>,
+    room: usize,
     at_most: usize,
     calls: Calls,
     flushes: u64,
     flushed: bool,
     ghost some: { 0 < at_most },
+    ghost fits: { vec_len bytes + room ≤ vec_capacity bytes },
 }
 
 impl MemSink {
+    ghost use Rattle.benc.specs.MemDevices.{most_taken, room_left, sink_calls};
+
     /// A sink with room for so many bytes, whose calls take as many bytes as there is room for.
     pub fn with_room(alloc: Global, room: usize) -> Result<MemSink, AllocError>
+        ensures room { IfOk result (λ s. room_left s ≡ room) }
+        ensures bound { IfOk result (λ s. most_taken s ≡ 2 ^ 64 - 1) }
+        ensures succeeds { IfOk result (λ s. (sink_calls s).before_fault ≡ None) }
         ensures written { IfOk result (λ s. ⟦<MemSink as Sink>⟧.written s ≡ Some []) }
         ensures faults { IfOk result (λ s. ⟦<MemSink as Sink>⟧.faults s ≡ 0) }
         ensures flushes { IfOk result (λ s. ⟦<MemSink as Sink>⟧.flushes s ≡ 0) }
+        ensures flushed { IfOk result (λ s. ⟦<MemSink as Sink>⟧.is_flushed s ≡ true) }
     {
         Ok(MemSink {
             bytes: Vec::with_capacity(alloc, room)?,
+            room,
             at_most: usize::MAX,
             calls: Calls::that_succeed(),
             flushes: 0,
@@ -155,10 +134,13 @@ impl MemSink {
     /// From here on a call takes at most so many bytes.
     pub fn at_most(mut self, count: usize) -> MemSink
         requires { 0 < count }
-        ensures bound { result.at_most ≡ count }
+        ensures bound { most_taken result ≡ count }
+        ensures room { room_left result ≡ room_left self }
+        ensures calls { sink_calls result ≡ sink_calls self }
         ensures written { ⟦<MemSink as Sink>⟧.written result ≡ ⟦<MemSink as Sink>⟧.written self }
         ensures faults { ⟦<MemSink as Sink>⟧.faults result ≡ ⟦<MemSink as Sink>⟧.faults self }
         ensures flushes { ⟦<MemSink as Sink>⟧.flushes result ≡ ⟦<MemSink as Sink>⟧.flushes self }
+        ensures flushed { ⟦<MemSink as Sink>⟧.is_flushed result ≡ ⟦<MemSink as Sink>⟧.is_flushed self }
     {
         self.at_most = count;
         self
@@ -167,12 +149,15 @@ impl MemSink {
     /// So many further calls succeed, flushes among them, and the one after them fails and takes nothing. Later ones
     /// succeed.
     pub fn fails_after(mut self, calls: u64) -> MemSink
-        ensures fails { result.calls.before_fault ≡ Some calls }
+        ensures fails { (sink_calls result).before_fault ≡ Some calls }
+        ensures bound { most_taken result ≡ most_taken self }
+        ensures room { room_left result ≡ room_left self }
         ensures written { ⟦<MemSink as Sink>⟧.written result ≡ ⟦<MemSink as Sink>⟧.written self }
         ensures faults { ⟦<MemSink as Sink>⟧.faults result ≡ ⟦<MemSink as Sink>⟧.faults self }
         ensures flushes { ⟦<MemSink as Sink>⟧.flushes result ≡ ⟦<MemSink as Sink>⟧.flushes self }
+        ensures flushed { ⟦<MemSink as Sink>⟧.is_flushed result ≡ ⟦<MemSink as Sink>⟧.is_flushed self }
     {
-        self.calls.before_fault = Some(calls);
+        self.calls.fail_after(calls);
         self
     }
 
@@ -199,29 +184,55 @@ impl MemSink {
 }
 
 impl Sink for MemSink {
-    ghost written = { λ s. Some s.bytes.items };
+    ghost use Rattle.benc.specs.MemDevices.{FallsBy, bytes_taken, flush_count, has_flushed, most_taken, room_left, sink_calls};
 
-    ghost faults = { λ s. s.calls.faults };
+    ghost written = { λ s. Some (bytes_taken s) };
 
-    ghost flushes = { λ s. s.flushes };
+    ghost faults = { λ s. (sink_calls s).faults };
 
-    ghost is_flushed = { λ s. s.flushed };
+    ghost flushes = { flush_count };
 
-    fn write(&mut self, buf: &[u8]) -> Result<usize, DeviceFault> {
+    ghost is_flushed = { has_flushed };
+
+    fn write(&mut self, buf: &[u8]) -> Result<usize, DeviceFault>
+        ensures takes { IfOk result (λ n. n ≡ min (min (length buf.now) (most_taken self.old)) (room_left self.old)) }
+        ensures bound { IfOk result (λ n. n ≤ length buf.now) }
+        ensures some { IfOk result (λ n. 0 < length buf.now → 0 < n) }
+        ensures bytes { WriteAppends (Some (bytes_taken self.old)) (Some (bytes_taken self.new)) result buf.now }
+        ensures room { FallsBy (room_left self.old) (room_left self.new) result }
+        ensures full { OnErr result (((sink_calls self.old).before_fault ≡ Some 0) ⊎ (room_left self.old ≡ 0)) }
+        ensures succeeds { OnOk result ((sink_calls self.old).before_fault ≢ Some 0) }
+        ensures later { (sink_calls self.new).before_fault ≡ after_call (sink_calls self.old).before_fault }
+        ensures counts { CountsFault (sink_calls self.old).faults (sink_calls self.new).faults result }
+        ensures bounded { most_taken self.new ≡ most_taken self.old }
+        ensures flushes { flush_count self.new ≡ flush_count self.old }
+        ensures flushed { MatchResult result (λ _. has_flushed self.new ≡ false)
+            (λ _. has_flushed self.new ≡ has_flushed self.old) }
+    {
         self.calls.next()?;
-        let room = self.bytes.capacity() - self.bytes.len();
-        let count = buf.len().min(self.at_most).min(room);
+        let count = buf.len().min(self.at_most).min(self.room);
         if count == 0 && !buf.is_empty() {
             return Err(self.calls.fault());
         }
         if self.bytes.extend_from_slice(&buf[..count]).is_err() {
             return Err(self.calls.fault());
         }
+        self.room -= count;
         self.flushed = false;
         Ok(count)
     }
 
-    fn flush(&mut self) -> Result<(), DeviceFault> {
+    fn flush(&mut self) -> Result<(), DeviceFault>
+        ensures bytes { Keeps (Some (bytes_taken self.old)) (Some (bytes_taken self.new)) }
+        ensures room { room_left self.new ≡ room_left self.old }
+        ensures fails { FailsInTurn (sink_calls self.old) result }
+        ensures later { (sink_calls self.new).before_fault ≡ after_call (sink_calls self.old).before_fault }
+        ensures counts { CountsFault (sink_calls self.old).faults (sink_calls self.new).faults result }
+        ensures bounded { most_taken self.new ≡ most_taken self.old }
+        ensures flushes { flush_count self.new ≡ one_more (flush_count self.old) }
+        ensures flushed { MatchResult result (λ _. has_flushed self.new ≡ true)
+            (λ _. has_flushed self.new ≡ has_flushed self.old) }
+    {
         self.flushes = self.flushes.wrapping_add(1);
         self.calls.next()?;
         self.flushed = true;

@@ -1,0 +1,40 @@
+-- What devices over memory hold: their bytes, the calls that they count, and at most how many bytes a call moves.
+use Rattle.std.specs.Prelude.{◌≡◌, ℕ, ◌+◌, List, Bool, Result, MatchResult}
+use Rattle.benc.specs.declared.calls.Calls.{Calls}
+use Rattle.benc.specs.declared.memory.MemSink.{MemSink}
+use Rattle.benc.specs.declared.memory.MemSource.{MemSource}
+
+-- the bytes that a source has still to give
+abbrev pub bytes_left : MemSource → List ℕ
+bytes_left source = source.rest.now
+
+abbrev pub source_calls : MemSource → Calls
+source_calls source = source.calls
+
+abbrev pub most_given : MemSource → ℕ
+most_given source = source.at_most
+
+-- the bytes that a sink has taken
+abbrev pub bytes_taken : MemSink → List ℕ
+bytes_taken sink = sink.bytes.items
+
+-- how many bytes it can still take
+abbrev pub room_left : MemSink → ℕ
+room_left sink = sink.room
+
+abbrev pub sink_calls : MemSink → Calls
+sink_calls sink = sink.calls
+
+abbrev pub most_taken : MemSink → ℕ
+most_taken sink = sink.at_most
+
+abbrev pub flush_count : MemSink → ℕ
+flush_count sink = sink.flushes
+
+-- nothing was taken after the last flush that succeeded
+abbrev pub has_flushed : MemSink → Bool
+has_flushed sink = sink.flushed
+
+-- a number of bytes falls by as many as the call moved, and not at all where it failed
+abbrev pub FallsBy : {E : Type 0} → ℕ → ℕ → Result ℕ E → Type 0
+FallsBy old new r = MatchResult r (λ n. new + n ≡ old) (λ _. new ≡ old)
