@@ -14,6 +14,7 @@ pub mod Wanted
 pub mod Known
 pub mod Runs
 pub mod Rounds
+pub mod Rows
 pub mod Deciding
 pub mod WholeLayers
 pub mod Over
