@@ -8,6 +8,7 @@ mod flat;
 mod found;
 pub mod laws;
 pub mod node_map;
+mod pads;
 mod planting;
 mod refusal;
 mod roots;
