@@ -105,8 +105,6 @@ fn take_frame<N: NodeMap>(session: &mut Session<'_, N>, frame: Frame<'_>) -> Tol
     ensures torrent { session.new.torrent ≡ session.old.torrent }
     ensures step { FrameStep (layout_of session.old.torrent) session.old.state frame.entry result session.new.state }
 {
-    session.good();
-    session.distinct_roots();
     match frame {
         Frame::Message(message) => Told::Verdict(session.step(&message)),
         Frame::BadSize { id, len } => Told::BadFrame { id, len },

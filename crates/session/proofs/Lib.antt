@@ -29,6 +29,7 @@ pub mod Counting
 pub mod Layers
 pub mod Keeping
 pub mod Sessions
+pub mod SafeSteps
 pub mod Numbering
 pub mod FirstTrees
 pub mod FirstLayers

@@ -10,6 +10,7 @@ use Rattle.std.proofs.lemmas.Bool.{cases_eq, or_cases, eqb-true}
 use Rattle.std.specs.Ordering.{nat_cmp, eq_by_cmp}
 use Rattle.std.specs.Cmp.{nat_cmp_total}
 use Rattle.std.proofs.lemmas.List.Elements.{All-head, All-tail}
+use Rattle.hashtree.specs.Tree.{block_count}
 use Rattle.session.specs.TreeRoot.{TreeRoot}
 use Rattle.wire.specs.declared.message.Ask.{Ask}
 use Rattle.wire.specs.declared.message.Message.{Message}
@@ -135,8 +136,9 @@ module _ (t : Layout) (S : State) (good : IsGood t S) where
     placed = h.placed;
     same_file = h.same_file;
     same_block = h.same_block;
-    is_block = λ f fits inside. block_or_collision h.placed.tree (look h.placed.state.known) f
-        (good.closed h.placed.tree_number h.placed.tree h.placed.state h.placed.is_tree) fits b inside (sha256 bytes) bytes h.leaf_known refl;
+    is_block = λ f fits. block_or_collision h.placed.tree (look h.placed.state.known) f
+        (good.closed h.placed.tree_number h.placed.tree h.placed.state h.placed.is_tree) fits b
+        (subst (λ i. i < block_count h.placed.tree.length) h.same_block h.placed.inside) (sha256 bytes) bytes h.leaf_known refl;
   }
 
 -- ---- whole runs

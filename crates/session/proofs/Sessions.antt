@@ -155,7 +155,7 @@ module _ (d : Description) (ts : List KeptTree) (kept : AreKept d ts) where
         subst (λ n. b < block_count n) (sym len) p.in_file
 
   module _ (index begin file b tr : ℕ) (f : FileEntry) (a : KeptTree) (there : slice_get d.files file ≡ Some f) (is : f.tree ≡ Some tr)
-      (at : place_of d index begin ≡ Some (file, b)) (e : slice_get ts tr ≡ Some a) where
+      (at : place_of d index begin ≡ Some (file, b)) (e : slice_get ts tr ≡ Some a) (low : b < block_count a.length) where
     abbrev placed : IsPlaced (layout_of d) (map state_of ts) index begin
     placed = record {
       file = file;
@@ -166,6 +166,7 @@ module _ (d : Description) (ts : List KeptTree) (kept : AreKept d ts) where
       at = at;
       of_file = ap tree_number there ∙ is;
       is_tree = tree_at d ts kept tr a e;
+      inside = low;
     }
 
     pub verified_in : (next : KeptTree) (bytes : List ℕ) → next.state.known ≡ a.state.known → IsMarked a.length a.state b bytes next.state
@@ -189,22 +190,7 @@ module _ (d : Description) (ts : List KeptTree) (kept : AreKept d ts) where
     block_refused_in bytes Unproved h = (placed, h.0, h.1)
     block_refused_in bytes BadBlock h = (placed, h.0, h.1.0, h.1.1, h.1.2)
 
--- ---- runs
-
-pub run-more : (t : Layout) (S : State) (ms : List Message) (vs : List Verdict) (M : State) (m : Message) (v : Verdict) (S' : State)
-    → IsTrueRun t S ms vs M → IsTrueVerdict t M m v → Step t M m v S' → IsTrueRun t S (ms ++ m ∷ []) (vs ++ v ∷ []) S'
-run-more t S [] [] M m v S' e right step = (subst (λ x. IsTrueVerdict t x m v) e right, (S', subst (λ x. Step t x m v S') e step, refl))
-run-more t S [] (w ∷ vs) M m v S' e right step = absurd e
-run-more t S (n ∷ ms) [] M m v S' e right step = absurd e
-run-more t S (n ∷ ms) (w ∷ vs) M m v S' (told, (L, first, rest)) right step = (told, (L, first, run-more t L ms vs M m v S' rest right step))
-
-pub run-next : (a b : Description) (S M S' : State) (ms : List Message) (i : ℕ) (vs : List Verdict) (d : Message) (v : Verdict) → a ≡ b → i < length ms
-    → IsTrueRun (layout_of b) S (take i ms) vs M → IsTrueVerdict (layout_of a) M (get_or ms i d) v → Step (layout_of a) M (get_or ms i d) v S'
-    → IsTrueRun (layout_of b) S (take (i + 1) ms) (vs ++ v ∷ []) S'
-run-next a b S M S' ms i vs d v same inside before right step =
-    subst (λ xs. IsTrueRun (layout_of b) S xs (vs ++ v ∷ []) S') (sym (ap (λ j. take j ms) (add-one i) ∙ take-suc ms i d inside))
-    (run-more (layout_of b) S (take i ms) vs M (get_or ms i d) v S' before
-    (subst (λ x. IsTrueVerdict (layout_of x) M (get_or ms i d) v) same right) (subst (λ x. Step (layout_of x) M (get_or ms i d) v S') same step))
+-- ---- whole layers
 
 module _ (d : Description) (ts : List KeptTree) (kept : AreKept d ts) where
   pub filled_all : (n : ℕ) (a b : KeptTree) (layer : ℕ) (hashes : List Hash) (r : Result ℕ HashRefusal) → slice_get ts n ≡ Some a → b.state.marked ≡ a.state.marked

@@ -65,7 +65,7 @@ IsHashRefused t S ask hashes UnknownRoot = (n : ℕ) (tree : TreeRoot) → slice
 IsHashRefused t S ask hashes NoMemory = (a : IsAsked t S ask) × IsAccepted a.tree (look a.state.known) ask hashes
 IsHashRefused t S ask hashes r = (a : IsAsked t S ask) × Refuses a.tree (look a.state.known) ask hashes r
 
--- ---- block_count
+-- ---- blocks
 
 -- the file, the block and the tree at which a piece message stands
 pub record IsPlaced (t : Layout) (S : State) (index begin : ℕ) : Type 0 where
@@ -77,6 +77,7 @@ pub record IsPlaced (t : Layout) (S : State) (index begin : ℕ) : Type 0 where
   pub at : t.place index begin ≡ Some (file, number)
   pub of_file : t.tree_of file ≡ Some tree_number
   pub is_tree : IsTree t S tree_number tree state
+  pub inside : number < block_count tree.length
 
 -- the bytes have that block's length
 abbrev pub HasSize : TreeRoot → ℕ → List ℕ → Type 0
@@ -148,7 +149,7 @@ pub record IsBlock (t : Layout) (S : State) (index begin : ℕ) (bytes : List �
   pub placed : IsPlaced t S index begin
   pub same_file : placed.file ≡ file
   pub same_block : placed.number ≡ b
-  pub is_block : (f : List ℕ) → Fits f placed.tree → b < block_count placed.tree.length
+  pub is_block : (f : List ℕ) → Fits f placed.tree
       → (bytes ≡ block f b) ⊎ (Collision (whole f) (look placed.state.known) ⊎ BlockCollision f b bytes)
 
 -- what a verdict in a run promises, in the state at its step
