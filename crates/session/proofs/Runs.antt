@@ -98,6 +98,7 @@ module _ (t : Layout) (S : State) (good : IsGood t S) where
 
   good-stored : (ask : Ask) (hashes : List Hash) (c : ℕ) (S' : State) → All IsHash hashes → IsStored t S ask hashes c S' → IsGood t S'
   good-stored ask hashes c S' all h = record {
+    count = ap length h.state_after ∙ length-set S h.asked.number h.after ∙ good.count;
     closed = λ k tree s at. elim (set-read S h.asked.number k h.after s (ap (λ U. slice_get U k) (sym h.state_after) ∙ at.state_is)) [
       | inl (same, is) ↦ subst₂ (λ tr st. IsClosed tr (look st.known)) (sym (one_tree h.asked.number k tree h.asked.tree same at.tree_is h.asked.is_tree.tree_is)) (sym is) (stored-closed ask hashes c S' all h)
       | inr (other, old) ↦ good.closed k tree s (record { tree_is = at.tree_is; state_is = old })
@@ -115,6 +116,7 @@ module _ (t : Layout) (S : State) (good : IsGood t S) where
       let n : ℕ = h.placed.tree_number in
       let a : TreeState = record h.placed.state { marked = leaves.insert h.placed.state.marked b } in
       record {
+        count = ap length h.state_after ∙ length-set S n a ∙ good.count;
         closed = λ k tree s at. elim (set-read S n k a s (ap (λ U. slice_get U k) (sym h.state_after) ∙ at.state_is)) [
           | inl (same, is) ↦ subst₂ (λ tr st. IsClosed tr (look st.known)) (sym (one_tree n k tree h.placed.tree same at.tree_is h.placed.is_tree.tree_is)) (sym is)
               (good.closed n h.placed.tree h.placed.state h.placed.is_tree)

@@ -55,6 +55,7 @@ module _ (d : Description) (ts : List KeptTree) (kept : AreKept d ts) where
 
   pub kept-good : IsGood (layout_of d) (map state_of ts)
   kept-good = record {
+    count = length-map ts state_of ∙ sym (length-map ts info_of) ∙ ap length kept.same;
     closed = λ n tree s at.
         let x = kept_at n tree s at in
         subst₂ (λ r st. IsClosed r (look st.known)) x.2 x.3 ((good_at n x.0 x.1).closed);
@@ -217,3 +218,7 @@ module _ (d : Description) (ts : List KeptTree) (kept : AreKept d ts) where
 
   pub inside_kept : (n : ℕ) → n < length d.trees → n < length ts
   inside_kept n low = omega (arith, length-map ts info_of, length-map d.trees root_of_entry, ap length kept.same)
+
+  -- the state of a tree that stands in the torrent
+  pub state_there : (n : ℕ) (a : KeptTree) → n < length d.trees → a ≡ get_or ts n a → slice_get (map state_of ts) n ≡ Some a.state
+  state_there n a low e = (tree_at d ts kept n a (found_at ts n a (inside_kept n low) e)).state_is

@@ -34,8 +34,9 @@ pub record IsTree (t : Layout) (S : State) (n : ℕ) (tree : TreeRoot) (s : Tree
   pub tree_is : slice_get t.trees n ≡ Some tree
   pub state_is : slice_get S n ≡ Some s
 
--- each tree is closed, and each marked leaf is known
+-- each tree has a state, is closed, and knows each marked leaf
 pub record IsGood (t : Layout) (S : State) : Type 0 where
+  pub count : length S ≡ length t.trees
   pub closed : (n : ℕ) (tree : TreeRoot) (s : TreeState) → IsTree t S n tree s → IsClosed tree (look s.known)
   pub marks : (n : ℕ) (tree : TreeRoot) (s : TreeState) → IsTree t S n tree s → (i : ℕ) → leaves.contains s.marked i ≡ true → IsKnown (look s.known) 0 i
 

@@ -159,7 +159,7 @@ impl<'t, N: NodeMap> Session<'t, N> {
     /// How many places of a tree are known.
     pub fn known(&self, tree: usize) -> u64
         requires { tree < length self.now.torrent.trees }
-        ensures { (s : TreeState) → slice_get self.now.state tree ≡ Some s → result ≡ finite.len s.known }
+        ensures { (s : TreeState) × (slice_get self.now.state tree ≡ Some s) × (result ≡ finite.len s.known) }
     {
         self.trees[tree].known()
     }
@@ -167,7 +167,7 @@ impl<'t, N: NodeMap> Session<'t, N> {
     /// How many leaves of a tree are marked.
     pub fn marked(&self, tree: usize) -> u64
         requires { tree < length self.now.torrent.trees }
-        ensures { (s : TreeState) → slice_get self.now.state tree ≡ Some s → result ≡ set.len s.marked }
+        ensures { (s : TreeState) × (slice_get self.now.state tree ≡ Some s) × (result ≡ set.len s.marked) }
     {
         self.trees[tree].marked()
     }
