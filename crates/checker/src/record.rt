@@ -16,8 +16,7 @@ use crate::outcome::Outcome;
 use crate::root::write_line;
 use crate::told::Told;
 use benc::{DeviceFault, Sink, Source, WriteFault, write_all};
-use session::Session;
-use session::node_map::NodeMap;
+use session::{NodeMap, Session};
 use std::alloc::Global;
 use wire::{Frame, FrameFault, FrameReader};
 

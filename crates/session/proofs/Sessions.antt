@@ -1,11 +1,11 @@
 -- The trees of a session beside the state that contracts see.
-use Rattle.std.proofs.Common.{◌≡◌, ◌≢◌, ℕ, ◌+◌, ◌<◌, true, List, [], ◌∷◌, ◌++◌, map, take, length, set, get_or, Option, Some, None, option_map, Result, Ok, Err, IfOk, IfErr, refl, sym, ap, ◌∙◌, subst, subst₂, add-one, arith}
+use Rattle.std.proofs.Common.{◌≡◌, ◌≢◌, ℕ, ◌<◌, true, List, map, length, set, get_or, Option, Some, None, option_map, Result, Ok, Err, IfOk, IfErr, refl, sym, ap, ◌∙◌, subst, subst₂, arith}
 use Rattle.std.specs.Prelude.{slice_get}
 use Rattle.std.specs.FinSet as leaves
 use Rattle.std.proofs.lemmas.Option.{none-some, same_Some, slice_get_within, slice_get-get_or, get_or_from_slice_get, slice_get-map}
 use Rattle.std.proofs.lemmas.List.{length-map, map-set}
 use Rattle.std.proofs.lemmas.List.Elements.{All-get_or, All-set}
-use Rattle.std.proofs.Math.Seq.{map-set_same, take-suc}
+use Rattle.std.proofs.Math.Seq.{map-set_same}
 use Rattle.hashtree.specs.Tree.{block_count}
 use Rattle.metainfo.specs.Description.{Description, FileEntry}
 use Rattle.metainfo.specs.Places.{IsPlace, place_of}
@@ -15,15 +15,13 @@ use Rattle.session.specs.declared.refusal.HashRefusal.{HashRefusal}
 use Rattle.session.specs.declared.refusal.HashRefusal.TheVariants.{UnknownRoot, BadRange, BadCount, BadPad, Unanchored, Mismatch, NoMemory}
 use Rattle.session.specs.declared.refusal.BlockRefusal.{BlockRefusal}
 use Rattle.session.specs.declared.refusal.BlockRefusal.TheVariants.{BadPlace, BadSize, Unproved, BadBlock}
-use Rattle.wire.specs.declared.message.Message.{Message}
-use Rattle.session.specs.declared.verdict.Verdict.{Verdict}
 use Rattle.session.specs.Digest.{Hash}
 use Rattle.session.specs.TreeRoot.{TreeRoot, tree_height}
 use Rattle.session.specs.Partial.{IsKnown, IsClosed}
 use Rattle.session.specs.Claims.{claims, IsAccepted, TreeRefuses, CanAnswer}
 use Rattle.session.specs.Known.{Known, Marked, look, Joins}
-use Rattle.session.specs.Kept.{TreeState, State, KeptTree, info_of, IsGoodTree, IsMarked, TreeRefusesBlock}
-use Rattle.session.specs.Session.{Layout, IsTree, IsGood, HasDistinctRoots, IsStored, IsHashRefused, IsAnswered, IsPlaced, IsVerified, IsBlockRefused, IsTrueVerdict, Step, IsTrueRun}
+use Rattle.session.specs.Kept.{TreeState, KeptTree, info_of, IsGoodTree, IsMarked, TreeRefusesBlock}
+use Rattle.session.specs.Session.{IsTree, IsGood, HasDistinctRoots, IsStored, IsHashRefused, IsAnswered, IsPlaced, IsVerified, IsBlockRefused}
 use Rattle.session.specs.Layouts.{root_of_entry, layout_of, tree_number, state_of, AreKept, IsFilled, IsFillRefused}
 use Rattle.session.specs.Fill.{fill_claims, IsFillAccepted, FillRefuses}
 use Rattle.session.proofs.Keeping.{same_info}

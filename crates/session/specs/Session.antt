@@ -1,5 +1,5 @@
 -- A session: a closed partial tree and marked leaves for each tree of a torrent, and its steps.
-use Rattle.std.specs.Prelude.{◌≡◌, ◌≢◌, ◌⊎◌, ℕ, ◌+◌, ◌-◌, ◌*◌, ◌<◌, min, List, [], ◌∷◌, length, set, slice_get, true, Option, Some, None}
+use Rattle.std.specs.Prelude.{◌≡◌, ◌≢◌, ◌⊎◌, ℕ, ◌+◌, ◌<◌, List, [], ◌∷◌, length, set, slice_get, true, Option, Some, None}
 use Rattle.std.specs.FinMap.{len}
 use Rattle.std.specs.FinSet as leaves
 use Rattle.sha2.specs.Sha256.{sha256}
@@ -20,6 +20,7 @@ use Rattle.session.specs.Partial.{PartialTree, IsKnown, IsClosed, Collision, Blo
 use Rattle.session.specs.Claims.{claims, joined, IsAccepted, Refuses, CanAnswer}
 use Rattle.session.specs.Gaps.{gaps}
 use Rattle.session.specs.Known.{look}
+use Rattle.session.specs.Kept.{HasBlockSize}
 pub use Rattle.session.specs.Kept.{TreeState, State}
 
 -- what the steps read of a torrent: its distinct trees, the file and block of a piece message's index
@@ -82,7 +83,7 @@ pub record IsPlaced (t : Layout) (S : State) (index begin : ℕ) : Type 0 where
 
 -- the bytes have that block's length
 abbrev pub HasSize : TreeRoot → ℕ → List ℕ → Type 0
-HasSize tree b bytes = length bytes ≡ min 16384 (tree.length - 16384 * b)
+HasSize tree b bytes = HasBlockSize tree.length b bytes
 
 -- the bytes have that block's length, and their digest is its known leaf, which is marked
 pub record IsVerified (t : Layout) (S : State) (index begin : ℕ) (bytes : List ℕ) (file b : ℕ) (S' : State) : Type 0 where

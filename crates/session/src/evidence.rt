@@ -3,11 +3,11 @@
 //! ```text
 //!   layer
 //!     3                    T                      T   the top: it must be known
-//!                     /         \\
+//!                     /         \
 //!     2             c            u1               u1  the second uncle, nearest the root
-//!                /     \\
+//!                /     \
 //!     1        c        u0                        u0  the first uncle, beside the node that covers the base range
-//!            /   \\
+//!            /   \
 //!     0     b     b     .     Z                   b   the base range, Z  a place past the file's end: a pad
 //! ```
 //!

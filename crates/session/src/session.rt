@@ -86,6 +86,7 @@ impl<'t, N: NodeMap> Session<'t, N> {
     pub fn good(&self)
         ensures { IsGood (layout_of self.now.torrent) self.now.state }
     {
+        // Looking at the trees tells what holds of each.
         let _ = &self.trees;
     }
 

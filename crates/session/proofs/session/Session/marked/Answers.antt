@@ -1,8 +1,7 @@
 use Rattle.std.proofs.Common.{◌≡◌, ◌<◌, List, length, Some, sym, subst}
 use Rattle.std.specs.Prelude.{slice_get}
-use Rattle.std.specs.FinSet as set
 use Rattle.metainfo.specs.Description.{Description}
-use Rattle.session.specs.Kept.{KeptTree, TreeState}
+use Rattle.session.specs.Kept.{KeptTree}
 use Rattle.session.specs.Layouts.{KeptSession}
 use Rattle.session.proofs.Sessions.{state_there}
 use Rattle.session.proofs.session.Session.marked.Goals as goal
