@@ -121,6 +121,25 @@ def test_five_blocks():
         expect(replay(place, torrent, eight), 0, lines("1 stored 8", "end"))
 
 
+def test_the_greatest_length():
+    tree = Tree([sha256(number.to_bytes(4, "big")) for number in range(32768)])
+    entry = {b"": {"length": 32768 * BLOCK, "pieces root": tree.root}}
+    one_piece = torrent(info({"a": entry}, 32768 * BLOCK), {})
+    row = tree.hashes(0, 8192, 8192, 2)
+    most = row + 30 * [bytes(32)]  # as many hashes as a frame may have
+    cases = [
+        (hashes(tree.root, 0, 8192, 8192, 14, given=row), "1 stored 16386"),
+        (hashes(tree.root, 0, 8192, 8192, 14, given=row[:-1]), "1 refused H5 Unanchored"),
+        (hashes(tree.root, 0, 8192, 8192, 32, given=most), "1 refused H3 BadCount"),
+        (hashes(tree.root, 0, 8192, 8192, 32, given=most + [bytes(32)]), "1 bad frame 22 263249"),
+        (hashes(tree.root, 0, 0, 16384, 1, given=row), "1 refused H2 BadRange"),
+    ]
+    with folder() as place:
+        for record, line in cases:
+            status = 0 if "stored" in line else 1
+            expect(replay(place, one_piece, record, "--info-only"), status, lines(line, "end"))
+
+
 def poisoned_records(files, piece_length, with_layers, seed, count):
     """Messages of every kind, true and false, with the lines that the model tells of them."""
     chance = random.Random(seed)

@@ -13,4 +13,3 @@ pub mod Layers
 pub mod Pieces
 pub mod Escapes
 pub mod Replaying
-pub mod SafeSteps

@@ -26,7 +26,7 @@ use Rattle.checker.specs.declared.ending.Ending.{Ending}
 use Rattle.checker.specs.declared.ending.Ending.TheVariants as ending
 use Rattle.checker.specs.declared.outcome.Outcome.{Outcome}
 use Rattle.checker.specs.Outcome.{is_refusal, is_no_memory, is_fault}
-use Rattle.checker.specs.SafeStep.{IsSafeStep, IsSafeRun}
+use Rattle.session.specs.SafeStep.{IsSafeStep, IsSafeRun}
 use Rattle.checker.specs.ReplayLines.{frame_line_of, frame_lines_from, ending_line_of}
 use Rattle.checker.specs.Replay.{messages, told_of, FrameStep, TellsFrame, TellsEnding, IsEnding, CountsEnding, Replayed, IsReport, IsCutReport}
 

@@ -14,6 +14,5 @@ pub mod Refused
 pub mod Show
 pub mod ReplayLines
 pub mod Outcome
-pub mod SafeStep
 pub mod Replay
 pub mod Printed

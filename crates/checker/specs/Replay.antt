@@ -18,7 +18,7 @@ use Rattle.checker.specs.declared.ending.Ending.{Ending}
 use Rattle.checker.specs.declared.ending.Ending.TheVariants as ending
 use Rattle.checker.specs.declared.outcome.Outcome.{Outcome}
 use Rattle.checker.specs.Outcome.{outcome_of}
-use Rattle.checker.specs.SafeStep.{IsSafeStep, IsSafeRun}
+use Rattle.session.specs.SafeStep.{IsSafeStep, IsSafeRun}
 use Rattle.checker.specs.ReplayLines.{frame_lines_from, ending_line_of}
 
 -- the messages among frames: a frame of a wrong size holds none

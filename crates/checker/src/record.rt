@@ -16,8 +16,7 @@ use crate::outcome::Outcome;
 use crate::root::write_line;
 use crate::told::Told;
 use benc::{DeviceFault, Sink, Source, WriteFault, write_all};
-use session::Session;
-use session::node_map::NodeMap;
+use session::{NodeMap, Session};
 use std::alloc::Global;
 use wire::{Frame, FrameFault, FrameReader};
 
@@ -105,8 +104,6 @@ fn take_frame<N: NodeMap>(session: &mut Session<'_, N>, frame: Frame<'_>) -> Tol
     ensures torrent { session.new.torrent ≡ session.old.torrent }
     ensures step { FrameStep (layout_of session.old.torrent) session.old.state frame.entry result session.new.state }
 {
-    session.good();
-    session.distinct_roots();
     match frame {
         Frame::Message(message) => Told::Verdict(session.step(&message)),
         Frame::BadSize { id, len } => Told::BadFrame { id, len },

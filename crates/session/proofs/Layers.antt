@@ -37,6 +37,11 @@ module _ (t : TreeRoot) (K : PartialTree) (l : ℕ) (given_hashes : Bor (List Ha
 
   of-root : l ≡ tree_height t.length → LeadsTo layer_evidence (tree_height t.length) 0
   of-root root = record {
+    is_over = record {
+      aligned = mod-eq_of_lt (pow_pos (tree_height t.length - l));
+      covers = omega arith;
+      over = div_small 0 (2 ^ (tree_height t.length - l)) (pow_pos (tree_height t.length - l));
+    };
     pruned = record {
       below = λ layer index k i v x given' under less claim.
           let high = claims-root t K l given_hashes.now layer_inside right_count root layer index v (claims-given (fill_ask t l) (fill_hashes t l given_hashes.now) layer index v given') in

@@ -8,7 +8,7 @@ use Rattle.session.specs.Digest.{Hash, join}
 use Rattle.session.specs.Partial.{IsFamily}
 use Rattle.session.specs.Claims.{span, given, claims, join_both, top_layer, top_index}
 use Rattle.session.specs.Evidence.{range_of, hashes_of, given_by, claimed_by, LeadsTo}
-use Rattle.session.proofs.Given.{span_is, hashes-length}
+use Rattle.session.proofs.Given.{span_is, cover_is, hashes-length}
 use Rattle.session.proofs.Claimed.{claims-given, claimed-at, claimed-family, claimed-to_top, claimed-top, claimed-value, parent-of, parent-not_given, on_path}
 
 abbrev core : ℕ → ℕ → ℕ → Ask
@@ -73,6 +73,7 @@ module _ (e : Evidence) (some : 1 ≤ e.span) (aligned : e.index % 2 ^ e.span �
 
   pub message-leads : LeadsTo e (top_layer (range_of e) (hashes_of e)) (top_index (range_of e) (hashes_of e))
   message-leads = record {
+    is_over = record { aligned = aligned; covers = omega (arith, cover_is e); over = refl };
     pruned = record {
       below = λ layer index l i v w given' under less claim.
           none-below (layer - suc l) layer index l i v w (omega arith) (claimed-to_top (range_of e) (hashes_of e) spans power aligned enough layer index v (claims-given (range_of e) (hashes_of e) layer index v given')) given' under.1 claim;

@@ -14,6 +14,7 @@ pub mod Wanted
 pub mod Known
 pub mod Runs
 pub mod Rounds
+pub mod Rows
 pub mod Deciding
 pub mod WholeLayers
 pub mod Over
@@ -28,6 +29,7 @@ pub mod Counting
 pub mod Layers
 pub mod Keeping
 pub mod Sessions
+pub mod SafeSteps
 pub mod Numbering
 pub mod FirstTrees
 pub mod FirstLayers

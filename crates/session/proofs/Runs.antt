@@ -10,6 +10,7 @@ use Rattle.std.proofs.lemmas.Bool.{cases_eq, or_cases, eqb-true}
 use Rattle.std.specs.Ordering.{nat_cmp, eq_by_cmp}
 use Rattle.std.specs.Cmp.{nat_cmp_total}
 use Rattle.std.proofs.lemmas.List.Elements.{All-head, All-tail}
+use Rattle.hashtree.specs.Tree.{block_count}
 use Rattle.session.specs.TreeRoot.{TreeRoot}
 use Rattle.wire.specs.declared.message.Ask.{Ask}
 use Rattle.wire.specs.declared.message.Message.{Message}
@@ -97,6 +98,7 @@ module _ (t : Layout) (S : State) (good : IsGood t S) where
 
   good-stored : (ask : Ask) (hashes : List Hash) (c : ℕ) (S' : State) → All IsHash hashes → IsStored t S ask hashes c S' → IsGood t S'
   good-stored ask hashes c S' all h = record {
+    count = ap length h.state_after ∙ length-set S h.asked.number h.after ∙ good.count;
     closed = λ k tree s at. elim (set-read S h.asked.number k h.after s (ap (λ U. slice_get U k) (sym h.state_after) ∙ at.state_is)) [
       | inl (same, is) ↦ subst₂ (λ tr st. IsClosed tr (look st.known)) (sym (one_tree h.asked.number k tree h.asked.tree same at.tree_is h.asked.is_tree.tree_is)) (sym is) (stored-closed ask hashes c S' all h)
       | inr (other, old) ↦ good.closed k tree s (record { tree_is = at.tree_is; state_is = old })
@@ -114,6 +116,7 @@ module _ (t : Layout) (S : State) (good : IsGood t S) where
       let n : ℕ = h.placed.tree_number in
       let a : TreeState = record h.placed.state { marked = leaves.insert h.placed.state.marked b } in
       record {
+        count = ap length h.state_after ∙ length-set S n a ∙ good.count;
         closed = λ k tree s at. elim (set-read S n k a s (ap (λ U. slice_get U k) (sym h.state_after) ∙ at.state_is)) [
           | inl (same, is) ↦ subst₂ (λ tr st. IsClosed tr (look st.known)) (sym (one_tree n k tree h.placed.tree same at.tree_is h.placed.is_tree.tree_is)) (sym is)
               (good.closed n h.placed.tree h.placed.state h.placed.is_tree)
@@ -135,8 +138,9 @@ module _ (t : Layout) (S : State) (good : IsGood t S) where
     placed = h.placed;
     same_file = h.same_file;
     same_block = h.same_block;
-    is_block = λ f fits inside. block_or_collision h.placed.tree (look h.placed.state.known) f
-        (good.closed h.placed.tree_number h.placed.tree h.placed.state h.placed.is_tree) fits b inside (sha256 bytes) bytes h.leaf_known refl;
+    is_block = λ f fits. block_or_collision h.placed.tree (look h.placed.state.known) f
+        (good.closed h.placed.tree_number h.placed.tree h.placed.state h.placed.is_tree) fits b
+        (subst (λ i. i < block_count h.placed.tree.length) h.same_block h.placed.inside) (sha256 bytes) bytes h.leaf_known refl;
   }
 
 -- ---- whole runs

@@ -1,11 +1,11 @@
 -- The trees of a session beside the state that contracts see.
-use Rattle.std.proofs.Common.{◌≡◌, ◌≢◌, ℕ, ◌+◌, ◌<◌, true, List, [], ◌∷◌, ◌++◌, map, take, length, set, get_or, Option, Some, None, option_map, Result, Ok, Err, IfOk, IfErr, refl, sym, ap, ◌∙◌, subst, subst₂, add-one, arith}
+use Rattle.std.proofs.Common.{◌≡◌, ◌≢◌, ℕ, ◌<◌, true, List, map, length, set, get_or, Option, Some, None, option_map, Result, Ok, Err, IfOk, IfErr, refl, sym, ap, ◌∙◌, subst, subst₂, arith}
 use Rattle.std.specs.Prelude.{slice_get}
 use Rattle.std.specs.FinSet as leaves
 use Rattle.std.proofs.lemmas.Option.{none-some, same_Some, slice_get_within, slice_get-get_or, get_or_from_slice_get, slice_get-map}
 use Rattle.std.proofs.lemmas.List.{length-map, map-set}
 use Rattle.std.proofs.lemmas.List.Elements.{All-get_or, All-set}
-use Rattle.std.proofs.Math.Seq.{map-set_same, take-suc}
+use Rattle.std.proofs.Math.Seq.{map-set_same}
 use Rattle.hashtree.specs.Tree.{block_count}
 use Rattle.metainfo.specs.Description.{Description, FileEntry}
 use Rattle.metainfo.specs.Places.{IsPlace, place_of}
@@ -15,15 +15,13 @@ use Rattle.session.specs.declared.refusal.HashRefusal.{HashRefusal}
 use Rattle.session.specs.declared.refusal.HashRefusal.TheVariants.{UnknownRoot, BadRange, BadCount, BadPad, Unanchored, Mismatch, NoMemory}
 use Rattle.session.specs.declared.refusal.BlockRefusal.{BlockRefusal}
 use Rattle.session.specs.declared.refusal.BlockRefusal.TheVariants.{BadPlace, BadSize, Unproved, BadBlock}
-use Rattle.wire.specs.declared.message.Message.{Message}
-use Rattle.session.specs.declared.verdict.Verdict.{Verdict}
 use Rattle.session.specs.Digest.{Hash}
 use Rattle.session.specs.TreeRoot.{TreeRoot, tree_height}
 use Rattle.session.specs.Partial.{IsKnown, IsClosed}
 use Rattle.session.specs.Claims.{claims, IsAccepted, TreeRefuses, CanAnswer}
 use Rattle.session.specs.Known.{Known, Marked, look, Joins}
-use Rattle.session.specs.Kept.{TreeState, State, KeptTree, info_of, IsGoodTree, IsMarked, TreeRefusesBlock}
-use Rattle.session.specs.Session.{Layout, IsTree, IsGood, HasDistinctRoots, IsStored, IsHashRefused, IsAnswered, IsPlaced, IsVerified, IsBlockRefused, IsTrueVerdict, Step, IsTrueRun}
+use Rattle.session.specs.Kept.{TreeState, KeptTree, info_of, IsGoodTree, IsMarked, TreeRefusesBlock}
+use Rattle.session.specs.Session.{IsTree, IsGood, HasDistinctRoots, IsStored, IsHashRefused, IsAnswered, IsPlaced, IsVerified, IsBlockRefused}
 use Rattle.session.specs.Layouts.{root_of_entry, layout_of, tree_number, state_of, AreKept, IsFilled, IsFillRefused}
 use Rattle.session.specs.Fill.{fill_claims, IsFillAccepted, FillRefuses}
 use Rattle.session.proofs.Keeping.{same_info}
@@ -55,6 +53,7 @@ module _ (d : Description) (ts : List KeptTree) (kept : AreKept d ts) where
 
   pub kept-good : IsGood (layout_of d) (map state_of ts)
   kept-good = record {
+    count = length-map ts state_of ∙ sym (length-map ts info_of) ∙ ap length kept.same;
     closed = λ n tree s at.
         let x = kept_at n tree s at in
         subst₂ (λ r st. IsClosed r (look st.known)) x.2 x.3 ((good_at n x.0 x.1).closed);
@@ -155,7 +154,7 @@ module _ (d : Description) (ts : List KeptTree) (kept : AreKept d ts) where
         subst (λ n. b < block_count n) (sym len) p.in_file
 
   module _ (index begin file b tr : ℕ) (f : FileEntry) (a : KeptTree) (there : slice_get d.files file ≡ Some f) (is : f.tree ≡ Some tr)
-      (at : place_of d index begin ≡ Some (file, b)) (e : slice_get ts tr ≡ Some a) where
+      (at : place_of d index begin ≡ Some (file, b)) (e : slice_get ts tr ≡ Some a) (low : b < block_count a.length) where
     abbrev placed : IsPlaced (layout_of d) (map state_of ts) index begin
     placed = record {
       file = file;
@@ -166,6 +165,7 @@ module _ (d : Description) (ts : List KeptTree) (kept : AreKept d ts) where
       at = at;
       of_file = ap tree_number there ∙ is;
       is_tree = tree_at d ts kept tr a e;
+      inside = low;
     }
 
     pub verified_in : (next : KeptTree) (bytes : List ℕ) → next.state.known ≡ a.state.known → IsMarked a.length a.state b bytes next.state
@@ -189,22 +189,7 @@ module _ (d : Description) (ts : List KeptTree) (kept : AreKept d ts) where
     block_refused_in bytes Unproved h = (placed, h.0, h.1)
     block_refused_in bytes BadBlock h = (placed, h.0, h.1.0, h.1.1, h.1.2)
 
--- ---- runs
-
-pub run-more : (t : Layout) (S : State) (ms : List Message) (vs : List Verdict) (M : State) (m : Message) (v : Verdict) (S' : State)
-    → IsTrueRun t S ms vs M → IsTrueVerdict t M m v → Step t M m v S' → IsTrueRun t S (ms ++ m ∷ []) (vs ++ v ∷ []) S'
-run-more t S [] [] M m v S' e right step = (subst (λ x. IsTrueVerdict t x m v) e right, (S', subst (λ x. Step t x m v S') e step, refl))
-run-more t S [] (w ∷ vs) M m v S' e right step = absurd e
-run-more t S (n ∷ ms) [] M m v S' e right step = absurd e
-run-more t S (n ∷ ms) (w ∷ vs) M m v S' (told, (L, first, rest)) right step = (told, (L, first, run-more t L ms vs M m v S' rest right step))
-
-pub run-next : (a b : Description) (S M S' : State) (ms : List Message) (i : ℕ) (vs : List Verdict) (d : Message) (v : Verdict) → a ≡ b → i < length ms
-    → IsTrueRun (layout_of b) S (take i ms) vs M → IsTrueVerdict (layout_of a) M (get_or ms i d) v → Step (layout_of a) M (get_or ms i d) v S'
-    → IsTrueRun (layout_of b) S (take (i + 1) ms) (vs ++ v ∷ []) S'
-run-next a b S M S' ms i vs d v same inside before right step =
-    subst (λ xs. IsTrueRun (layout_of b) S xs (vs ++ v ∷ []) S') (sym (ap (λ j. take j ms) (add-one i) ∙ take-suc ms i d inside))
-    (run-more (layout_of b) S (take i ms) vs M (get_or ms i d) v S' before
-    (subst (λ x. IsTrueVerdict (layout_of x) M (get_or ms i d) v) same right) (subst (λ x. Step (layout_of x) M (get_or ms i d) v S') same step))
+-- ---- whole layers
 
 module _ (d : Description) (ts : List KeptTree) (kept : AreKept d ts) where
   pub filled_all : (n : ℕ) (a b : KeptTree) (layer : ℕ) (hashes : List Hash) (r : Result ℕ HashRefusal) → slice_get ts n ≡ Some a → b.state.marked ≡ a.state.marked
@@ -231,3 +216,7 @@ module _ (d : Description) (ts : List KeptTree) (kept : AreKept d ts) where
 
   pub inside_kept : (n : ℕ) → n < length d.trees → n < length ts
   inside_kept n low = omega (arith, length-map ts info_of, length-map d.trees root_of_entry, ap length kept.same)
+
+  -- the state of a tree that stands in the torrent
+  pub state_there : (n : ℕ) (a : KeptTree) → n < length d.trees → a ≡ get_or ts n a → slice_get (map state_of ts) n ≡ Some a.state
+  state_there n a low e = (tree_at d ts kept n a (found_at ts n a (inside_kept n low) e)).state_is

@@ -1,6 +1,7 @@
 -- How the claims of evidence follow from one another, from a place down.
-use Rattle.std.proofs.Common.{◌≡◌, ◌⊎◌, ℕ, zero, suc, ◌+◌, ◌-◌, ◌*◌, ◌/◌, ◌^◌, ◌<◌, ◌≤◌, true, false, Option, is_some, Some, None, inl, inr, sym, ap, ap₂, ◌∙◌, subst, arith, shr-shr, div-one, eq-or-lt_of_le}
+use Rattle.std.proofs.Common.{◌≡◌, ◌⊎◌, ℕ, zero, suc, ◌+◌, ◌-◌, ◌*◌, ◌/◌, ◌^◌, ◌<◌, ◌≤◌, true, false, Option, is_some, Some, None, Result, Ok, Err, inl, inr, sym, ap, ap₂, ◌∙◌, subst, arith, shr-shr, div-one, eq-or-lt_of_le}
 use Rattle.std.specs.Option.{OnSome}
+use Rattle.std.specs.Result.{OnOk, is_err}
 use Rattle.std.specs.FinMap.{len}
 use Rattle.std.proofs.lemmas.Bool.{false≢true}
 use Rattle.std.proofs.lemmas.Option.{same_Some, none-some}
@@ -10,7 +11,7 @@ use Rattle.session.specs.Digest.{Hash, join}
 use Rattle.session.specs.Partial.{PartialTree, IsKnown, IsPlace}
 use Rattle.session.specs.Known.{Known, look, insert_new, Joins}
 use Rattle.session.specs.Claims.{IsMismatch, IsAgreed}
-use Rattle.session.specs.Evidence.{range_of, hashes_of, given_by, claimed_by, LiesUnder, IsNoted, Grows, IsHandled, AllHandled, BelowHandled, IsPruned, IsHandledClaim, DiffersFrom, LeadsTo, IsSoundList, HasClaim}
+use Rattle.session.specs.Evidence.{range_of, hashes_of, given_by, claimed_by, LiesUnder, IsNoted, Grows, IsHandled, AllHandled, BelowHandled, IsPruned, IsHandledClaim, DiffersFrom, LeadsTo, AreClaims, HasClaim}
 use Rattle.session.proofs.Noting.{insert_new-joined}
 use Rattle.session.proofs.Agree.{left_or_right}
 use Rattle.session.proofs.Places.{place_left, place_right}
@@ -117,17 +118,21 @@ pub on_some : (o : Option Hash) (P : Type 0) → OnSome o P → is_some o ≡ tr
 on_some None P h e = absurd (false≢true e)
 on_some (Some x) P h e = h
 
+pub on_ok : {T E : Type 0} (r : Result T E) (P : Type 0) → OnOk r P → is_err r ≡ false → P
+on_ok (Ok x) P h e = h
+on_ok (Err x) P h e = absurd (false≢true (sym e))
+
 pub handled-agreed : (e : Evidence) (m : Known) (found : Found) (layer index : ℕ) → LeadsTo e layer index → AllHandled (claimed_by e) (look m) found layer index → IsAgreed (look m) (claimed_by e)
 handled-agreed e m found layer index leads handled l i u v known claim = elim (handled.at l i (leads.under_top l i v claim) v claim) [
   | inl same ↦ same_Some u v (sym known ∙ same)
   | inr (none, noted) ↦ absurd (none-some u (sym none ∙ known))
 ]
 
-pub handled-joins : (e : Evidence) (m : Known) (found : Found) (layer index h c : ℕ) (after : Known) → LeadsTo e layer index → AllHandled (claimed_by e) (look m) found layer index
-    → found.refused ≡ false → IsSoundList (claimed_by e) h found.claims.items → after ≡ insert_new m found.claims.items → len after ≡ len m + c → Joins (claimed_by e) m after c
-handled-joins e m found layer index h c after leads handled ok sound is gained = record {
+pub handled-joins : (e : Evidence) (m : Known) (found : Found) (layer index c : ℕ) (after : Known) → LeadsTo e layer index → AllHandled (claimed_by e) (look m) found layer index
+    → found.refused ≡ false → AreClaims (claimed_by e) found.claims.items → after ≡ insert_new m found.claims.items → len after ≡ len m + c → Joins (claimed_by e) m after c
+handled-joins e m found layer index c after leads handled ok sound is gained = record {
   agreed = handled-agreed e m found layer index leads handled;
-  joined_is = λ l i. ap (λ k. look k l i) is ∙ insert_new-joined (claimed_by e) found.claims.items m sound.claimed complete l i;
+  joined_is = λ l i. ap (λ k. look k l i) is ∙ insert_new-joined (claimed_by e) found.claims.items m sound complete l i;
   gained = gained;
 }
   where

@@ -63,7 +63,7 @@ top_layer ask hashes = cover ask + uncles ask hashes
 abbrev pub top_index : Ask → List Hash → ℕ
 top_index ask hashes = above ask (top_layer ask hashes)
 
--- the base range lies in a tree of tree_height h, at a multiple of its length, a power of two from 2 to 8192
+-- the base range lies in a tree of height h, at a multiple of its length, a power of two from 2 to 8192
 pub record GoodRange (h : ℕ) (ask : Ask) : Type 0 where
   pub power_of_two : 2 ^ span ask ≡ ask.length
   pub least : 2 ≤ ask.length
@@ -134,7 +134,7 @@ pub record Refuses (t : TreeRoot) (K : PartialTree) (ask : Ask) (hashes : List H
 pub record IsAccepted (t : TreeRoot) (K : PartialTree) (ask : Ask) (hashes : List Hash) : Type 0 where
   pub range : GoodRange (tree_height t.length) ask
   pub count : GoodCount (tree_height t.length) ask hashes
-  pub pads : (l i : ℕ) (v : Hash) → given ask hashes l i ≡ Some v → block_count t.length ≤ i * 2 ^ l → v ≡ zero_hash l
+  pub pads : ArePadsRight t.length ask hashes
   pub top_known : IsKnown K (top_layer ask hashes) (top_index ask hashes)
   pub agrees : IsAgreed K (claims ask hashes)
 
@@ -147,7 +147,7 @@ TreeRefuses t K ask hashes r = Refuses t K ask hashes r
 abbrev pub joined : PartialTree → PartialTree → PartialTree
 joined K C l i = option_or (K l i) (C l i)
 
--- the value at a place; a pad_leaf where there is none
+-- the value at a place; the pad leaf where there is none
 abbrev pub value_at : PartialTree → ℕ → ℕ → Hash
 value_at K l i = unwrap_or (K l i) pad_leaf
 

@@ -1,5 +1,5 @@
 -- Hashes as evidence of the nodes of a tree, and what was found in them that is not known yet.
-use Rattle.std.specs.Prelude.{◌≡◌, ◌≢◌, ◌⊎◌, ℕ, ◌-◌, ◌/◌, ◌^◌, ◌<◌, ◌≤◌, true, List, [], ◌∷◌, ◌++◌, length, replicate, Some, None}
+use Rattle.std.specs.Prelude.{◌≡◌, ◌≢◌, ◌⊎◌, ℕ, suc, ◌+◌, ◌-◌, ◌*◌, ◌/◌, ◌%◌, ◌^◌, ◌<◌, ◌≤◌, true, List, [], ◌∷◌, ◌++◌, length, replicate, Some, None}
 use Rattle.std.specs.List.{All}
 use Rattle.wire.specs.declared.message.Ask.{Ask}
 use Rattle.session.specs.declared.evidence.Evidence.{Evidence}
@@ -8,7 +8,7 @@ use Rattle.session.specs.declared.found.Found.{Found}
 use Rattle.session.specs.declared.refusal.HashRefusal.{HashRefusal}
 use Rattle.session.specs.declared.refusal.HashRefusal.TheVariants.{Mismatch, NoMemory}
 use Rattle.session.specs.Digest.{Hash}
-use Rattle.session.specs.Partial.{PartialTree, IsKnown, IsPlace}
+use Rattle.session.specs.Partial.{PartialTree, IsKnown}
 use Rattle.session.specs.Known.{Known, look}
 use Rattle.session.specs.Claims.{given, claims, IsAgreed, IsMismatch}
 
@@ -40,8 +40,23 @@ LiesUnder layer index l i = (l ≤ layer) × (i / 2 ^ (layer - l) ≡ index)
 pub record IsPruned (e : Evidence) : Type 0 where
   pub below : (layer index l i : ℕ) (v w : Hash) → given_by e layer index ≡ Some v → LiesUnder layer index l i → l < layer → claimed_by e l i ≡ Some w → ⊥
 
+-- how far above a layer stands the node under which all claims of that layer lie
+abbrev pub row_height : Evidence → ℕ → ℕ
+row_height e l = 1 + (e.base + e.span - suc l)
+
+-- the first place of the layer under that node, of 2 ^ row_height many
+abbrev pub row_first : Evidence → ℕ → ℕ
+row_first e l = e.index / 2 ^ (l - e.base) / 2 ^ row_height e l * 2 ^ row_height e l
+
+-- the place stands over the whole base range, which begins at a multiple of its length
+pub record IsOver (e : Evidence) (layer index : ℕ) : Type 0 where
+  pub aligned : e.index % 2 ^ e.span ≡ 0
+  pub covers : e.base + e.span ≤ layer
+  pub over : e.index / 2 ^ (layer - e.base) ≡ index
+
 -- all that is claimed leads to one place
 pub record LeadsTo (e : Evidence) (layer index : ℕ) : Type 0 where
+  pub is_over : IsOver e layer index
   pub pruned : IsPruned e
   pub at_top : IsKnown (claimed_by e) layer index
   pub under_top : (l i : ℕ) (v : Hash) → claimed_by e l i ≡ Some v → LiesUnder layer index l i
@@ -59,10 +74,9 @@ IsNoted found l i v = (found.refused ≡ true) ⊎ HasClaim found.claims.items l
 pub record Grows (before after : Found) : Type 0 where
   pub keeps : (l i : ℕ) (v : Hash) → IsNoted before l i v → IsNoted after l i v
 
--- each claim is one of C, at a place of a tree of height h
-pub record IsSoundList (C : PartialTree) (h : ℕ) (cs : List Claim) : Type 0 where
-  pub claimed : All (λ (c : Claim). C c.layer c.index ≡ Some c.hash) cs
-  pub placed : All (λ (c : Claim). IsPlace h c.layer c.index) cs
+-- each claim is one of C
+abbrev pub AreClaims : PartialTree → List Claim → Type 0
+AreClaims C cs = All (λ (c : Claim). C c.layer c.index ≡ Some c.hash) cs
 
 -- what C claims at the place is known in K, or is noted and not known
 abbrev pub IsHandled : PartialTree → PartialTree → Found → ℕ → ℕ → Type 0

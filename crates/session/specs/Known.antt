@@ -43,16 +43,16 @@ abbrev pub with_row : PartialTree → ℕ → ℕ → Known → Known
 with_row f l zero m = m
 with_row f l (suc n) m = insert_some (with_row f l n m) (l, n) (f l n)
 
--- what f has on the layers below `top` of a tree of tree_height h
+-- what f has on the layers below `top` of a tree of height h
 abbrev pub with_layers : PartialTree → ℕ → ℕ → Known
 with_layers f h zero = empty
 with_layers f h (suc l) = with_row f l (2 ^ (h - l)) (with_layers f h l)
 
--- f at the places of a tree of tree_height h, and nothing elsewhere
+-- f at the places of a tree of height h, and nothing elsewhere
 abbrev pub within : ℕ → PartialTree → PartialTree
 within h f l i = cond (leb l h && ltb i (2 ^ (h - l))) (f l i) None
 
--- the finite map of what f has at the places of a tree of tree_height h
+-- the finite map of what f has at the places of a tree of height h
 unfoldable pub tabulate : ℕ → PartialTree → Known
 tabulate h f = with_layers f h (suc h)
 

@@ -10,6 +10,7 @@ pub mod Flat
 pub mod Evidence
 pub mod Kept
 pub mod Session
+pub mod SafeStep
 pub mod Roots
 pub mod Layouts
 pub mod Fresh

@@ -9,7 +9,7 @@ use Rattle.hashtree.specs.Tree.{block, block_count, node, zero_hash}
 abbrev pub PartialTree : Type 0
 PartialTree = ℕ → ℕ → Option Hash
 
--- (l, i) is a place of a tree of tree_height h: layer 0 has the 2 ^ h leaves, and (h, 0) is the root
+-- (l, i) is a place of a tree of height h: layer 0 has the 2 ^ h leaves, and (h, 0) is the root
 abbrev pub IsPlace : ℕ → ℕ → ℕ → Type 0
 IsPlace h l i = (l ≤ h) × (i < 2 ^ (h - l))
 

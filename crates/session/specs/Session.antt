@@ -1,5 +1,5 @@
 -- A session: a closed partial tree and marked leaves for each tree of a torrent, and its steps.
-use Rattle.std.specs.Prelude.{◌≡◌, ◌≢◌, ◌⊎◌, ℕ, ◌+◌, ◌-◌, ◌*◌, ◌<◌, min, List, [], ◌∷◌, length, set, slice_get, true, Option, Some, None}
+use Rattle.std.specs.Prelude.{◌≡◌, ◌≢◌, ◌⊎◌, ℕ, ◌+◌, ◌<◌, List, [], ◌∷◌, length, set, slice_get, true, Option, Some, None}
 use Rattle.std.specs.FinMap.{len}
 use Rattle.std.specs.FinSet as leaves
 use Rattle.sha2.specs.Sha256.{sha256}
@@ -20,6 +20,7 @@ use Rattle.session.specs.Partial.{PartialTree, IsKnown, IsClosed, Collision, Blo
 use Rattle.session.specs.Claims.{claims, joined, IsAccepted, Refuses, CanAnswer}
 use Rattle.session.specs.Gaps.{gaps}
 use Rattle.session.specs.Known.{look}
+use Rattle.session.specs.Kept.{HasBlockSize}
 pub use Rattle.session.specs.Kept.{TreeState, State}
 
 -- what the steps read of a torrent: its distinct trees, the file and block of a piece message's index
@@ -34,8 +35,9 @@ pub record IsTree (t : Layout) (S : State) (n : ℕ) (tree : TreeRoot) (s : Tree
   pub tree_is : slice_get t.trees n ≡ Some tree
   pub state_is : slice_get S n ≡ Some s
 
--- each tree is closed, and each marked leaf is known
+-- each tree has a state, is closed, and knows each marked leaf
 pub record IsGood (t : Layout) (S : State) : Type 0 where
+  pub count : length S ≡ length t.trees
   pub closed : (n : ℕ) (tree : TreeRoot) (s : TreeState) → IsTree t S n tree s → IsClosed tree (look s.known)
   pub marks : (n : ℕ) (tree : TreeRoot) (s : TreeState) → IsTree t S n tree s → (i : ℕ) → leaves.contains s.marked i ≡ true → IsKnown (look s.known) 0 i
 
@@ -65,7 +67,7 @@ IsHashRefused t S ask hashes UnknownRoot = (n : ℕ) (tree : TreeRoot) → slice
 IsHashRefused t S ask hashes NoMemory = (a : IsAsked t S ask) × IsAccepted a.tree (look a.state.known) ask hashes
 IsHashRefused t S ask hashes r = (a : IsAsked t S ask) × Refuses a.tree (look a.state.known) ask hashes r
 
--- ---- block_count
+-- ---- blocks
 
 -- the file, the block and the tree at which a piece message stands
 pub record IsPlaced (t : Layout) (S : State) (index begin : ℕ) : Type 0 where
@@ -77,10 +79,11 @@ pub record IsPlaced (t : Layout) (S : State) (index begin : ℕ) : Type 0 where
   pub at : t.place index begin ≡ Some (file, number)
   pub of_file : t.tree_of file ≡ Some tree_number
   pub is_tree : IsTree t S tree_number tree state
+  pub inside : number < block_count tree.length
 
 -- the bytes have that block's length
 abbrev pub HasSize : TreeRoot → ℕ → List ℕ → Type 0
-HasSize tree b bytes = length bytes ≡ min 16384 (tree.length - 16384 * b)
+HasSize tree b bytes = HasBlockSize tree.length b bytes
 
 -- the bytes have that block's length, and their digest is its known leaf, which is marked
 pub record IsVerified (t : Layout) (S : State) (index begin : ℕ) (bytes : List ℕ) (file b : ℕ) (S' : State) : Type 0 where
@@ -148,7 +151,7 @@ pub record IsBlock (t : Layout) (S : State) (index begin : ℕ) (bytes : List �
   pub placed : IsPlaced t S index begin
   pub same_file : placed.file ≡ file
   pub same_block : placed.number ≡ b
-  pub is_block : (f : List ℕ) → Fits f placed.tree → b < block_count placed.tree.length
+  pub is_block : (f : List ℕ) → Fits f placed.tree
       → (bytes ≡ block f b) ⊎ (Collision (whole f) (look placed.state.known) ⊎ BlockCollision f b bytes)
 
 -- what a verdict in a run promises, in the state at its step

@@ -7,8 +7,9 @@ ghost use Rattle.hashtree.specs.Tree.{zero_hash};
 ghost use Rattle.session.specs.Claims.{sibling, top_layer, GoodRange, GoodCount};
 
 use crate::evidence::sibling;
+use crate::pads::Pads;
 use crate::refusal::HashRefusal;
-use hashtree::{Hash, zero};
+use hashtree::Hash;
 use wire::Ask;
 
 /// The power of two that a length from 2 to 8192 is, if it is one.
@@ -73,15 +74,16 @@ pub fn check_count(height: u32, ask: &Ask, span: u32, hashes: &[Hash]) -> Result
 }
 
 /// Whether each hash of a layer from a place on that covers nothing of the file is that over pads.
-pub fn base_pads_fit(blocks: u64, base: u32, index: u64, hashes: &[Hash]) -> bool
+pub fn base_pads_fit(blocks: u64, base: u32, index: u64, hashes: &[Hash], pads: &mut Pads) -> bool
     requires base { base ≤ 32 }
     requires inside { (index + length hashes.now) * 2 ^ base ≤ 2 ^ 32 }
-    ensures { IsTrue result ↔ ((j : ℕ) → j < length hashes.now → blocks ≤ (index + j) * 2 ^ base → get_or hashes.now j [] ≡ zero_hash base) }
+    requires upward { pads.old.layer ≤ base }
+    ensures fit { IsTrue result ↔ ((j : ℕ) → j < length hashes.now → blocks ≤ (index + j) * 2 ^ base → get_or hashes.now j [] ≡ zero_hash base) }
+    ensures upward { pads.new.layer ≤ base }
 {
-    let pad = zero(base);
     let width = 1u64 << base;
     for (j, hash) in hashes.iter().enumerate() {
-        if (index + j as u64) * width >= blocks && *hash != pad {
+        if !pad_fits(blocks, (index + j as u64) * width, hash, base, pads) {
             return false;
         }
     }
@@ -89,24 +91,27 @@ pub fn base_pads_fit(blocks: u64, base: u32, index: u64, hashes: &[Hash]) -> boo
 }
 
 /// Whether a hash that covers the leaves from `start` on is that over pads, where these cover nothing of the file.
-fn pad_fits(blocks: u64, start: u64, hash: &Hash, layer: u32) -> bool
-    requires { layer ≤ 32 }
-    ensures { IsTrue result ↔ (blocks ≤ start → hash.now ≡ zero_hash layer) }
+fn pad_fits(blocks: u64, start: u64, hash: &Hash, layer: u32, pads: &mut Pads) -> bool
+    requires low { layer ≤ 32 }
+    requires upward { pads.old.layer ≤ layer }
+    ensures fits { IsTrue result ↔ (blocks ≤ start → hash.now ≡ zero_hash layer) }
+    ensures upward { pads.new.layer ≤ layer }
 {
-    start < blocks || *hash == zero(layer)
+    start < blocks || *hash == pads.at(layer)
 }
 
 /// Whether each uncle above a node that covers nothing of the file is the hash over pads.
-pub fn uncle_pads_fit(blocks: u64, cover: u32, node: u64, uncles: &[Hash]) -> bool
+pub fn uncle_pads_fit(blocks: u64, cover: u32, node: u64, uncles: &[Hash], pads: &mut Pads) -> bool
     requires layers { cover + length uncles.now ≤ 32 }
     requires node { node * 2 ^ cover < 2 ^ 32 }
+    requires upward { pads.old.layer ≤ cover }
     ensures { IsTrue result ↔ ((j : ℕ) → j < length uncles.now → blocks ≤ sibling (node / 2 ^ j) * 2 ^ (cover + j) → get_or uncles.now j [] ≡ zero_hash (cover + j)) }
 {
     let mut layer = cover;
     let mut width = 1u64 << cover;
     let mut above = node;
     for uncle in uncles {
-        if !pad_fits(blocks, sibling(above) * width, uncle, layer) {
+        if !pad_fits(blocks, sibling(above) * width, uncle, layer, pads) {
             return false;
         }
         layer += 1;

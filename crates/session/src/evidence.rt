@@ -3,11 +3,11 @@
 //! ```text
 //!   layer
 //!     3                    T                      T   the top: it must be known
-//!                     /         \\
+//!                     /         \
 //!     2             c            u1               u1  the second uncle, nearest the root
-//!                /     \\
+//!                /     \
 //!     1        c        u0                        u0  the first uncle, beside the node that covers the base range
-//!            /   \\
+//!            /   \
 //!     0     b     b     .     Z                   b   the base range, Z  a place past the file's end: a pad
 //! ```
 //!
@@ -42,7 +42,7 @@ pub fn sibling(index: u64) -> u64
 }
 
 impl<'a> Evidence<'a> {
-    ghost use Rattle.session.specs.Evidence.{range_of, hashes_of, given_by};
+    ghost use Rattle.session.specs.Evidence.{range_of, hashes_of, given_by, row_first, row_height};
 
     /// The hash that is given for a place, if there is one.
     pub fn given(&self, layer: u32, index: u64) -> Option<Hash>
@@ -58,6 +58,22 @@ impl<'a> Evidence<'a> {
             }
         }
         self.uncle(layer, index)
+    }
+
+    /// The row of places, as the first and their count, that holds all claims of a layer: what lies under the node that
+    /// covers the base range, and from that node's layer up the node over the range beside its sibling.
+    pub fn row(&self, layer: u32) -> (u64, u64)
+        requires from_base { self.now.base ≤ layer }
+        requires index { self.now.index < 2 ^ 32 }
+        requires base { self.now.base ≤ 32 }
+        requires span { self.now.span ≤ 32 }
+        requires layer { layer ≤ 32 }
+        ensures first { result.0 ≡ row_first self.now layer }
+        ensures count { result.1 ≡ 2 ^ row_height self.now layer }
+    {
+        let height = 1 + (self.base + self.span).saturating_sub(layer + 1);
+        let node = self.index >> (layer - self.base);
+        ((node >> height) << height, 1 << height)
     }
 
     /// The hash of a place of the base layer.

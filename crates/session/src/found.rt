@@ -21,8 +21,8 @@ pub struct Found {
 }
 
 impl Found {
-    ghost use Rattle.session.specs.Evidence.{IsNoted, Grows, IsSoundList};
-    ghost use Rattle.session.specs.Partial.{PartialTree, IsPlace};
+    ghost use Rattle.session.specs.Evidence.{IsNoted, Grows, AreClaims};
+    ghost use Rattle.session.specs.Partial.{PartialTree};
 
     /// Nothing yet.
     pub fn new(alloc: Global) -> Found
@@ -39,8 +39,7 @@ impl Found {
     pub fn note(&mut self, claim: Claim)
         ensures noted { IsNoted self.new claim.layer claim.index claim.hash }
         ensures grows { Grows self.old self.new }
-        ensures sound { (C : PartialTree) (h : ℕ) → C claim.layer claim.index ≡ Some claim.hash → IsPlace h claim.layer claim.index
-            → IsSoundList C h self.old.claims.items → IsSoundList C h self.new.claims.items }
+        ensures sound { (C : PartialTree) → C claim.layer claim.index ≡ Some claim.hash → AreClaims C self.old.claims.items → AreClaims C self.new.claims.items }
     {
         if self.claims.push(claim).is_err() {
             self.refused = true;

@@ -5,7 +5,7 @@ ghost use Rattle.std.specs.List.{All};
 ghost use Rattle.std.specs.FinMap as finite;
 ghost use Rattle.std.specs.FinSet as set;
 ghost use Rattle.session.specs.TreeRoot.{tree_height};
-ghost use Rattle.session.specs.Partial.{IsKnown, IsPlace};
+ghost use Rattle.session.specs.Partial.{IsKnown};
 ghost use Rattle.session.specs.declared.found.Claim.{Claim as Claimed};
 ghost use Rattle.session.specs.Known.{Known, Marked, look, with_new, insert_new};
 
@@ -68,21 +68,6 @@ pub trait NodeMap: Drop {
     /// Whether a leaf is marked.
     fn is_marked(&self, index: u64) -> bool
         ensures { result ≡ set.contains (marked self.now) index };
-}
-
-/// Makes room for the places of claims.
-pub fn reserve_all<N: NodeMap>(map: &mut N, claims: &[Claim]) -> Result<(), AllocError>
-    requires low { tree_height (N.length map.old) ≤ 32 }
-    requires places { All (λ (c : Claimed). IsPlace (tree_height (N.length map.old)) c.layer c.index) claims.now }
-    ensures length { N.length map.new ≡ N.length map.old }
-    ensures known { N.known map.new ≡ N.known map.old }
-    ensures marked { N.marked map.new ≡ N.marked map.old }
-    ensures ok { OnOk result (All (λ (c : Claimed). N.has_room map.new c.layer c.index) claims.now) }
-{
-    for claim in claims {
-        map.reserve(claim.layer, claim.index, 1)?;
-    }
-    Ok(())
 }
 
 /// Sets the hash of a claim, unless its place is known, and tells how many places are new.

@@ -7,6 +7,7 @@ ghost use Rattle.session.specs.Kept.{TreeState};
 ghost use Rattle.session.specs.Session.{IsGood, HasDistinctRoots, IsStored, IsHashRefused, IsVerified, IsBlockRefused, IsAnswered, Step, IsTrueVerdict, IsTrueRun};
 ghost use Rattle.session.specs.Layouts.{layout_of, IsFilled, IsFillRefused};
 ghost use Rattle.session.specs.Fresh.{IsFresh};
+ghost use Rattle.session.specs.SafeStep.{IsSafeStep, IsSafeRun};
 
 use crate::node_map::NodeMap;
 use crate::planting::planted;
@@ -85,6 +86,7 @@ impl<'t, N: NodeMap> Session<'t, N> {
     pub fn good(&self)
         ensures { IsGood (layout_of self.now.torrent) self.now.state }
     {
+        // Looking at the trees tells what holds of each.
         let _ = &self.trees;
     }
 
@@ -158,7 +160,7 @@ impl<'t, N: NodeMap> Session<'t, N> {
     /// How many places of a tree are known.
     pub fn known(&self, tree: usize) -> u64
         requires { tree < length self.now.torrent.trees }
-        ensures { (s : TreeState) → slice_get self.now.state tree ≡ Some s → result ≡ finite.len s.known }
+        ensures { (s : TreeState) × (slice_get self.now.state tree ≡ Some s) × (result ≡ finite.len s.known) }
     {
         self.trees[tree].known()
     }
@@ -166,7 +168,7 @@ impl<'t, N: NodeMap> Session<'t, N> {
     /// How many leaves of a tree are marked.
     pub fn marked(&self, tree: usize) -> u64
         requires { tree < length self.now.torrent.trees }
-        ensures { (s : TreeState) → slice_get self.now.state tree ≡ Some s → result ≡ set.len s.marked }
+        ensures { (s : TreeState) × (slice_get self.now.state tree ≡ Some s) × (result ≡ set.len s.marked) }
     {
         self.trees[tree].marked()
     }
@@ -176,8 +178,18 @@ impl<'t, N: NodeMap> Session<'t, N> {
         ensures torrent { self.new.torrent ≡ self.old.torrent }
         ensures step { Step (layout_of self.old.torrent) self.old.state message.now result self.new.state }
         ensures is_true { IsTrueVerdict (layout_of self.old.torrent) self.old.state message.now result }
+        ensures no_harm { IsSafeStep (layout_of self.old.torrent) self.old.state message.now result self.new.state }
     {
         self.good();
+        self.distinct_roots();
+        self.take(message)
+    }
+
+    // The step of a message, by its kind.
+    fn take(&mut self, message: &Message<'_>) -> Verdict
+        ensures torrent { self.new.torrent ≡ self.old.torrent }
+        ensures step { Step (layout_of self.old.torrent) self.old.state message.now result self.new.state }
+    {
         match *message {
             Message::Piece {
                 index,
@@ -209,6 +221,7 @@ impl<'t, N: NodeMap> Session<'t, N> {
     pub fn run(&mut self, messages: &[Message<'_>]) -> Result<Vec<Verdict>, AllocError>
         ensures torrent { self.new.torrent ≡ self.old.torrent }
         ensures verdicts { IfOk result (λ vs. IsTrueRun (layout_of self.old.torrent) self.old.state messages.now vs.items self.new.state) }
+        ensures no_harm { IfOk result (λ vs. IsSafeRun (layout_of self.old.torrent) self.old.state messages.now vs.items self.new.state) }
         ensures no_memory { OnErr result (self.new.state ≡ self.old.state) }
     {
         let mut verdicts = Vec::with_capacity(self.alloc, messages.len())?;

@@ -1,28 +1,27 @@
 //! Storing what hashes claim: all of it is computed and compared, then room is made, and only then is it written.
 
-ghost use Rattle.std.specs.Prelude.{◌≡◌, ◌⊎◌, ℕ, ◌+◌, ◌-◌, ◌*◌, ◌^◌, ◌<◌, ◌≤◌, Some, IfSome, IfNone, OnSome, IfOk, IfErr};
+ghost use Rattle.std.specs.Prelude.{◌≡◌, ◌⊎◌, ℕ, ◌+◌, ◌-◌, ◌*◌, ◌^◌, ◌<◌, ◌≤◌, Some, IfSome, IfNone, OnSome, OnOk, IfOk, IfErr};
 ghost use Rattle.std.specs.Bool.{OnTrue, OnFalse};
 ghost use Rattle.std.specs.FinMap as finite;
 ghost use Rattle.session.specs.TreeRoot.{tree_height};
 ghost use Rattle.session.specs.Partial.{PartialTree, IsPlace, IsKnown};
 ghost use Rattle.session.specs.Claims.{joined, IsAgreed, IsMismatch};
 ghost use Rattle.session.specs.Known.{look, Joins};
-ghost use Rattle.session.specs.Evidence.{claimed_by, given_by, IsPruned, LeadsTo, AllHandled, BelowHandled, Grows, IsSoundList, IsInside, IsHandledClaim, DiffersFrom, StoreFault};
+ghost use Rattle.session.specs.Evidence.{claimed_by, given_by, IsPruned, LeadsTo, AllHandled, BelowHandled, Grows, AreClaims, IsInside, IsHandledClaim, DiffersFrom, StoreFault};
 
 use crate::evidence::Evidence;
 use crate::found::{Claim, Found};
-use crate::node_map::{NodeMap, put_new, reserve_all};
+use crate::node_map::{NodeMap, put_new};
 use crate::refusal::HashRefusal;
 use hashtree::{Hash, parent};
-use std::alloc::Global;
+use std::alloc::{AllocError, Global};
 
 /// Compares the hash that is claimed for a place with the known one, or notes the claim. False where the two differ.
 fn compare<N: NodeMap>(map: &N, found: &mut Found, claim: Claim) -> bool
     ensures same { OnTrue result (IsHandledClaim (N.known map.now) found.new claim) }
     ensures differs { OnFalse result (DiffersFrom (N.known map.now) claim) }
     ensures grows { Grows found.old found.new }
-    ensures sound { (C : PartialTree) (h : ℕ) → C claim.layer claim.index ≡ Some claim.hash → IsPlace h claim.layer claim.index
-        → IsSoundList C h found.old.claims.items → IsSoundList C h found.new.claims.items }
+    ensures sound { (C : PartialTree) → C claim.layer claim.index ≡ Some claim.hash → AreClaims C found.old.claims.items → AreClaims C found.new.claims.items }
 {
     match map.get(claim.layer, claim.index) {
         Some(known) => known == claim.hash,
@@ -48,12 +47,12 @@ fn derive<N: NodeMap>(
     requires place { IsPlace (tree_height (N.length map.now)) layer index }
     requires pruned { IsPruned evidence.now }
     requires claimed { IsKnown (claimed_by evidence.now) layer index }
-    requires sound { IsSoundList (claimed_by evidence.now) (tree_height (N.length map.now)) found.old.claims.items }
+    requires sound { AreClaims (claimed_by evidence.now) found.old.claims.items }
     ensures value { IfSome result (λ v. claimed_by evidence.now layer index ≡ Some v) }
     ensures handled { OnSome result (BelowHandled (claimed_by evidence.now) (look (N.known map.now)) found.new layer index) }
     ensures differs { IfNone result (IsMismatch (look (N.known map.now)) (claimed_by evidence.now)) }
     ensures grows { Grows found.old found.new }
-    ensures sound { IsSoundList (claimed_by evidence.now) (tree_height (N.length map.now)) found.new.claims.items }
+    ensures sound { AreClaims (claimed_by evidence.now) found.new.claims.items }
 {
     match evidence.given(layer, index) {
         Some(hash) => Some(hash),
@@ -80,18 +79,41 @@ fn trace<N: NodeMap>(
     requires place { IsPlace (tree_height (N.length map.now)) layer index }
     requires pruned { IsPruned evidence.now }
     requires claimed { IsKnown (claimed_by evidence.now) layer index }
-    requires sound { IsSoundList (claimed_by evidence.now) (tree_height (N.length map.now)) found.old.claims.items }
+    requires sound { AreClaims (claimed_by evidence.now) found.old.claims.items }
     ensures value { IfSome result (λ v. claimed_by evidence.now layer index ≡ Some v) }
     ensures handled { OnSome result (AllHandled (claimed_by evidence.now) (look (N.known map.now)) found.new layer index) }
     ensures differs { IfNone result (IsMismatch (look (N.known map.now)) (claimed_by evidence.now)) }
     ensures grows { Grows found.old found.new }
-    ensures sound { IsSoundList (claimed_by evidence.now) (tree_height (N.length map.now)) found.new.claims.items }
+    ensures sound { AreClaims (claimed_by evidence.now) found.new.claims.items }
 {
     let hash = derive(map, evidence, found, layer, index)?;
     if !compare(map, found, Claim { layer, index, hash }) {
         return None;
     }
     Some(hash)
+}
+
+/// Makes room for all that the evidence claims, which leads to the place: for each layer in one go.
+fn reserve_claimed<N: NodeMap>(
+    map: &mut N,
+    evidence: &Evidence,
+    layer: u32,
+    index: u64,
+) -> Result<(), AllocError>
+    requires low { tree_height (N.length map.old) ≤ 32 }
+    requires inside { IsInside evidence.now }
+    requires place { IsPlace (tree_height (N.length map.old)) layer index }
+    requires leads { LeadsTo evidence.now layer index }
+    ensures length { N.length map.new ≡ N.length map.old }
+    ensures known { N.known map.new ≡ N.known map.old }
+    ensures marked { N.marked map.new ≡ N.marked map.old }
+    ensures ok { OnOk result ((l i : ℕ) → IsKnown (claimed_by evidence.now) l i → N.has_room map.new l i) }
+{
+    'rows: for below in evidence.base..layer {
+        let (first, count) = evidence.row(below);
+        map.reserve(below, first, count)?;
+    }
+    map.reserve(layer, index, 1)
 }
 
 /// Stores what the evidence claims, which leads to the place, and tells how many places are newly known.
@@ -118,7 +140,7 @@ pub fn store<N: NodeMap>(
     if found.refused {
         return Err(HashRefusal::NoMemory);
     }
-    if reserve_all(map, &found.claims).is_err() {
+    if reserve_claimed(map, evidence, layer, index).is_err() {
         return Err(HashRefusal::NoMemory);
     }
     Ok(put_new(map, &found.claims))

@@ -11,6 +11,7 @@ ghost use Rattle.session.specs.Digest.{Hash as Digested};
 use crate::checks::{base_pads_fit, check_count, check_range, uncle_pads_fit};
 use crate::evidence::Evidence;
 use crate::node_map::NodeMap;
+use crate::pads::Pads;
 use crate::refusal::HashRefusal;
 use crate::storing::store;
 use hashtree::{Hash, Shape};
@@ -68,7 +69,8 @@ fn pads_fit(shape: Shape, ask: &Ask, span: u32, hashes: &[Hash]) -> bool
 {
     let blocks = shape.blocks();
     let (base, uncles) = hashes.split_at(ask.length as usize);
-    if !base_pads_fit(blocks, ask.base, u64::from(ask.index), base) {
+    let mut pads = Pads::new();
+    if !base_pads_fit(blocks, ask.base, u64::from(ask.index), base, &mut pads) {
         return false;
     }
     uncle_pads_fit(
@@ -76,5 +78,6 @@ fn pads_fit(shape: Shape, ask: &Ask, span: u32, hashes: &[Hash]) -> bool
         ask.base + span,
         u64::from(ask.index) >> span,
         uncles,
+        &mut pads,
     )
 }

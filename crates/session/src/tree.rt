@@ -70,13 +70,6 @@ impl<N: NodeMap> Tree<N> {
         })
     }
 
-    /// The root.
-    pub fn root(&self) -> &Hash
-        ensures { result.now ≡ self.now.root }
-    {
-        &self.root
-    }
-
     /// How many places are known.
     pub fn known(&self) -> u64
         ensures { result ≡ finite.len self.now.state.known }

@@ -1,7 +1,7 @@
 //! Hashes messages, and what is known after them.
 
 use crate::tests::made::{
-    FiveBlocks, TwoAnswers, Z0, Z1, ask, counts, five_blocks, torrent, two_answers,
+    FiveBlocks, TwoAnswers, Z0, Z1, ask, counts, five_blocks, leaves, over, torrent, two_answers,
 };
 use crate::{Flat, HashRefusal, Session};
 use hashtree::Hash;
@@ -45,6 +45,30 @@ fn two_answers_tell_a_file_of_1024_blocks(rt: HostRuntime) -> Result<(), Fail> {
     let bytes = torrent(rt.alloc(), &["a"], 1 << 24, &answers.root, 1 << 24, &[])?;
     match Torrent::open(rt.alloc(), &bytes) {
         Ok(torrent) => Ok(take_two_answers(&rt, rt.alloc(), &torrent, &answers)?),
+        Err(refusal) => Err(Fail::from(refusal)),
+    }
+}
+
+fn take_whole_row(
+    rt: &impl Abort,
+    alloc: Global,
+    torrent: &Torrent<'_>,
+    root: Hash,
+    leaves: &[Hash],
+) -> Result<(), AllocError> {
+    let mut session: Session<'_, Flat> = Session::new(alloc, torrent, false)?;
+    let ask = ask(root, 0, 8192, 0);
+    take(rt, &mut session, &ask, leaves, Ok(16382), 16383);
+    Ok(())
+}
+
+#[test]
+fn the_greatest_length_tells_a_file_of_8192_blocks(rt: HostRuntime) -> Result<(), Fail> {
+    let row = leaves(rt.alloc(), 3, 8192)?;
+    let root = over(rt.alloc(), &row, 13)?;
+    let bytes = torrent(rt.alloc(), &["a"], 1 << 27, &root, 1 << 27, &[])?;
+    match Torrent::open(rt.alloc(), &bytes) {
+        Ok(torrent) => Ok(take_whole_row(&rt, rt.alloc(), &torrent, root, &row)?),
         Err(refusal) => Err(Fail::from(refusal)),
     }
 }

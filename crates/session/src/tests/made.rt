@@ -61,9 +61,9 @@ pub(super) struct TwoAnswers {
 }
 
 pub(super) fn two_answers(alloc: Global) -> Result<TwoAnswers, AllocError> {
-    let mut first = leaves(alloc, 1)?;
-    let mut second = leaves(alloc, 2)?;
-    let [left, right] = [top(alloc, &first)?, top(alloc, &second)?];
+    let mut first = leaves(alloc, 1, 512)?;
+    let mut second = leaves(alloc, 2, 512)?;
+    let [left, right] = [over(alloc, &first, 9)?, over(alloc, &second, 9)?];
     first.push(right)?;
     second.push(left)?;
     Ok(TwoAnswers {
@@ -73,20 +73,20 @@ pub(super) fn two_answers(alloc: Global) -> Result<TwoAnswers, AllocError> {
     })
 }
 
-/// 512 different leaves.
-fn leaves(alloc: Global, half: u8) -> Result<Vec<Hash>, AllocError> {
+/// So many different leaves, others for another seed.
+pub(super) fn leaves(alloc: Global, seed: u8, count: u32) -> Result<Vec<Hash>, AllocError> {
     let mut leaves = Vec::new(alloc);
-    for number in 0..512u32 {
+    for number in 0..count {
         let [a, b, c, d] = number.to_be_bytes();
-        leaves.push(digest(&[half, a, b, c, d]))?;
+        leaves.push(digest(&[seed, a, b, c, d]))?;
     }
     Ok(leaves)
 }
 
-/// The node over 512 leaves.
-fn top(alloc: Global, leaves: &[Hash]) -> Result<Hash, AllocError> {
+/// The node over two to the power `height` leaves.
+pub(super) fn over(alloc: Global, leaves: &[Hash], height: u32) -> Result<Hash, AllocError> {
     let mut row = Vec::from_slice(alloc, leaves)?;
-    for _layer in 0..9 {
+    for _layer in 0..height {
         row = joined(alloc, &row)?;
     }
     Ok(row.first().copied().unwrap_or(Z0))

@@ -4,4 +4,7 @@ use Rattle.session.proofs.checks.base_pads_fit.Given as goal
 
 -- the hashes so far fit
 abbrev pub invariant-loop-j : goal.invariant-loop-j
-invariant-loop-j l = (k : ℕ) → k < l.j → l.blocks ≤ (l.index + k) * 2 ^ l.base → get_or l.hashes k [] ≡ zero_hash l.base
+invariant-loop-j l = record {
+  fit : (k : ℕ) → k < l.j → l.blocks ≤ (l.index + k) * 2 ^ l.base → get_or l.hashes k [] ≡ zero_hash l.base;
+  upward : l.pads.layer ≤ l.base;
+}

@@ -26,6 +26,7 @@ loop-uncle-preserved c =
     record {
       layer = omega (arith, i.invariant.layer);
       width = omega (arith, i.invariant.width, ap (λ k. 2 ^ k) next, pow-suc 2 (c.args.cover + i.uncle-index));
+      upward = omega (arith, c.pad_fits.ensures.upward);
       above = ap (λ a. a / 2) i.invariant.above ∙ shr-shr c.args.node i.uncle-index 1;
-      fit = below_more _ _ i.invariant.fit (λ past. c.if-not-pad_fits.ensures.0 refl (omega arith) ∙ ap zero_hash i.invariant.layer);
+      fit = below_more _ _ i.invariant.fit (λ past. c.if-not-pad_fits.ensures.fits.0 refl (omega arith) ∙ ap zero_hash i.invariant.layer);
     }

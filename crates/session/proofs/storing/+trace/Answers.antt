@@ -35,11 +35,11 @@ derive-returns-in_ok-right-in-None-clause-value g t c =
 
 pub trace-returns-then-not-compare-clause-sound : goal.trace-returns-then-not-compare-clause-sound
 trace-returns-then-not-compare-clause-sound g t c =
-    c.compare.ensures.sound (claimed_by c.args.evidence.now) (tree_height (g.N.NodeMap.length c.args.map.now)) c.in_ok-hash.ensures.value c.requires.place c.derive.ensures.sound
+    c.compare.ensures.sound (claimed_by c.args.evidence.now) c.in_ok-hash.ensures.value c.derive.ensures.sound
 
 pub trace-returns-clause-sound : goal.trace-returns-clause-sound
 trace-returns-clause-sound g t c =
-    c.compare.ensures.sound (claimed_by c.args.evidence.now) (tree_height (g.N.NodeMap.length c.args.map.now)) c.in_ok-hash.ensures.value c.requires.place c.derive.ensures.sound
+    c.compare.ensures.sound (claimed_by c.args.evidence.now) c.in_ok-hash.ensures.value c.derive.ensures.sound
 
 pub derive-returns-in_ok-right-in-None-clause-handled : goal.derive-returns-in_ok-right-in-None-clause-handled
 derive-returns-in_ok-right-in-None-clause-handled g t c =

@@ -1,20 +1,11 @@
-use Rattle.std.proofs.Common.{sym, subst}
-use Rattle.wire.specs.declared.message.Message.{Message}
-use Rattle.session.specs.declared.verdict.Verdict.TheVariants.{Verified, BlockRefused, HashRefused}
-use Rattle.session.specs.Session.{Step}
 use Rattle.session.specs.Layouts.{layout_of}
-use Rattle.session.proofs.Runs.{verdict-true}
+use Rattle.session.proofs.SafeSteps.{safe_step}
 use Rattle.session.proofs.session.Session.step.Goals as goal
 
-pub returns-in-Ok-clause-is_true : goal.returns-in-Ok-clause-is_true
-returns-in-Ok-clause-is_true g c =
-    verdict-true (layout_of c.args.self.now.torrent) c.args.self.now.state c.args.message.now (Verified c.in-Ok.file c.in-Ok.block) c.take_block.new.self.state c.good.ensures
-    (subst (λ (m : Message). Step (layout_of c.args.self.now.torrent) c.args.self.now.state m (Verified c.in-Ok.file c.in-Ok.block) c.take_block.new.self.state) (sym c.in-Piece.is) c.in-Ok.ensures.verified)
+pub returns-clause-is_true : goal.returns-clause-is_true
+returns-clause-is_true g c =
+    (safe_step (layout_of c.args.self.now.torrent) c.args.self.now.state c.good.ensures c.distinct_roots.ensures c.args.message.now c.take.result c.take.new.self.state c.take.ensures.step).is_true
 
-pub returns-in-Err-clause-step : goal.returns-in-Err-clause-step
-returns-in-Err-clause-step g c =
-    subst (λ (m : Message). Step (layout_of c.args.self.now.torrent) c.args.self.now.state m (BlockRefused c.in-Err.refusal) c.take_block.new.self.state) (sym c.in-Piece.is) c.in-Err.ensures.refused
-
-pub returns-in-Err-take_hashes-clause-step : goal.returns-in-Err-take_hashes-clause-step
-returns-in-Err-take_hashes-clause-step g c =
-    subst (λ (m : Message). Step (layout_of c.args.self.now.torrent) c.args.self.now.state m (HashRefused c.in-Err-take_hashes.refusal) c.take_hashes.new.self.state) (sym c.in-Hashes.is) c.in-Err-take_hashes.ensures.refused
+pub returns-clause-no_harm : goal.returns-clause-no_harm
+returns-clause-no_harm g c =
+    safe_step (layout_of c.args.self.now.torrent) c.args.self.now.state c.good.ensures c.distinct_roots.ensures c.args.message.now c.take.result c.take.new.self.state c.take.ensures.step

@@ -68,7 +68,7 @@ returns-in_err-take_block-clause-refused g c =
     subst (λ (r : Result (ℕ × ℕ) BlockRefusal). IfErr r (λ x. IsBlockRefused (layout_of c.args.self.now.torrent) c.args.self.now.state c.args.index c.args.begin c.args.block.now x × (map state_of (set ts tr b) ≡ c.args.self.now.state)))
     (sym (left.1 ∙ ap Err left.2))
     (subst (λ (v : KeptSession). IsBlockRefused (layout_of v.torrent) v.state c.args.index c.args.begin c.args.block.now c.in_err-take_block.field-0.0 × (map state_of (set ts tr b) ≡ v.state)) c.self.view_is (
-      block_refused_in d ts c.self.invariant.0 c.args.index c.args.begin c.in-Some.file c.in-Some.number tr p.file a p.there is at e c.args.block.now c.in_err-take_block.field-0.0 c.in_err-take_block.ensures.refused.0,
+      block_refused_in d ts c.self.invariant.0 c.args.index c.args.begin c.in-Some.file c.in-Some.number tr p.file a p.there is at e (block_inside d ts c.self.invariant.0 c.sound.ensures c.args.index c.args.begin c.in-Some.file c.in-Some.number tr p a is e) c.args.block.now c.in_err-take_block.field-0.0 c.in_err-take_block.ensures.refused.0,
       state_stays ts tr a b e c.take_block.ensures.known c.in_err-take_block.ensures.refused.1,
     ))
 
@@ -101,4 +101,4 @@ returns-clause-verified g c =
     let at : place_of d c.args.index c.args.begin ≡ Some (c.in-Some.file, c.in-Some.number) = sym c.place.ensures.value ∙ c.in-Some.is in
     let b : KeptTree = c.take_block.new.self in
     subst (λ (v : KeptSession). IsVerified (layout_of v.torrent) v.state c.args.index c.args.begin c.args.block.now c.in-Some.file c.in-Some.number (map state_of (set ts tr b))) c.self.view_is
-    (verified_in d ts c.self.invariant.0 c.args.index c.args.begin c.in-Some.file c.in-Some.number tr p.file a p.there is at e b c.args.block.now c.take_block.ensures.known c.in_ok-take_block.ensures.taken)
+    (verified_in d ts c.self.invariant.0 c.args.index c.args.begin c.in-Some.file c.in-Some.number tr p.file a p.there is at e (block_inside d ts c.self.invariant.0 c.sound.ensures c.args.index c.args.begin c.in-Some.file c.in-Some.number tr p a is e) b c.args.block.now c.take_block.ensures.known c.in_ok-take_block.ensures.taken)

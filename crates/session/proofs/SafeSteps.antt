@@ -1,8 +1,9 @@
--- Each step of a good state is safe.
-use Rattle.std.proofs.Common.{◌≡◌, ◌⊎◌, ℕ, ◌<◌, ◌-◌, ◌*◌, min, List, [], ◌∷◌, length, inl, inr, refl, sym, ap, ap₂, ◌∙◌, subst₂}
+-- Each step of a good state does no harm, and so does a run of steps.
+use Rattle.std.proofs.Common.{◌≡◌, ◌⊎◌, ℕ, ◌+◌, ◌<◌, ◌-◌, ◌*◌, min, List, [], ◌∷◌, ◌++◌, take, get_or, length, inl, inr, refl, sym, ap, ap₂, ◌∙◌, subst, subst₂, add-one}
 use Rattle.std.specs.Prelude.{slice_get}
 use Rattle.std.proofs.lemmas.Option.{same_Some, none-some}
-use Rattle.std.proofs.lemmas.List.Elements.{All-nil, All-cons}
+use Rattle.std.proofs.Math.Seq.{take-suc}
+use Rattle.metainfo.specs.Description.{Description}
 use Rattle.wire.specs.declared.message.Ask.{Ask}
 use Rattle.wire.specs.declared.message.Message.{Message}
 use Rattle.wire.specs.declared.message.Message.TheVariants as message
@@ -12,19 +13,20 @@ use Rattle.session.specs.declared.refusal.BlockRefusal.{BlockRefusal}
 use Rattle.session.specs.declared.refusal.BlockRefusal.TheVariants.{BadPlace, BadSize, Unproved, BadBlock}
 use Rattle.session.specs.declared.verdict.Verdict.{Verdict}
 use Rattle.session.specs.declared.verdict.Verdict.TheVariants as verdict
-use Rattle.hashtree.specs.Tree.{block, block_count}
+use Rattle.hashtree.specs.Tree.{block}
 use Rattle.session.specs.TreeRoot.{TreeRoot, Fits}
 use Rattle.session.specs.Digest.{Hash}
 use Rattle.session.specs.Partial.{IsKnown, Collision, whole}
 use Rattle.session.specs.Claims.{IsAccepted, Refuses}
 use Rattle.session.specs.Known.{look}
-use Rattle.session.specs.Session.{Layout, TreeState, State, IsTree, IsGood, IsAsked, IsPlaced, IsVerified, IsHashRefused, IsBlockRefused, HasSize, HasDistinctRoots, HasHashes, Step, IsTrueVerdict}
+use Rattle.session.specs.Session.{Layout, TreeState, State, IsTree, IsGood, IsAsked, IsPlaced, IsVerified, IsHashRefused, IsBlockRefused, HasSize, HasDistinctRoots, Step, IsTrueRun}
+use Rattle.session.specs.Layouts.{layout_of}
 use Rattle.session.proofs.Whole.{whole-closed}
 use Rattle.session.proofs.Stored.{stored_or_collision}
 use Rattle.session.proofs.Joining.{accepted-no_fault}
 use Rattle.session.proofs.Headline.{block-size, leaf_or_collision}
-use Rattle.session.proofs.Runs.{run-learns, run-true}
-use Rattle.checker.specs.SafeStep.{KeepsKnown, AreTrueHashes, StoresTrueHashes, VerifiesTrueBlock, IsSafeStep}
+use Rattle.session.proofs.Runs.{run-learns, verdict-true}
+use Rattle.session.specs.SafeStep.{KeepsKnown, AreTrueHashes, StoresTrueHashes, VerifiesTrueBlock, IsSafeStep, IsSafeRun}
 
 keeps_known : (t : Layout) (S : State) (m : Message) (v : Verdict) (S' : State) → Step t S m v S' → KeepsKnown t S S'
 keeps_known t S m v S' step n tree s at =
@@ -93,7 +95,7 @@ module _ (t : Layout) (S : State) (index begin : ℕ) (p q : IsPlaced t S index 
       }
 
 module _ (t : Layout) (S : State) (good : IsGood t S) (index begin : ℕ) (bytes : List ℕ) (p : IsPlaced t S index begin) (f : List ℕ)
-    (fits : Fits f p.tree) (inside : p.number < block_count p.tree.length) (is_block : bytes ≡ block f p.number) (known : IsKnown (look p.state.known) 0 p.number) where
+    (fits : Fits f p.tree) (is_block : bytes ≡ block f p.number) (known : IsKnown (look p.state.known) 0 p.number) where
   has_size : HasSize p.tree p.number bytes
   has_size = ap length is_block ∙ block-size f p.number ∙ ap (λ n. min 16384 (n - 16384 * p.number)) fits.same_length
 
@@ -117,32 +119,49 @@ module _ (t : Layout) (S : State) (good : IsGood t S) (index begin : ℕ) (bytes
   block_refused BadSize (q, wrong) = absurd (wrong (size_fits q))
   block_refused Unproved (q, size, none) = absurd (none-some known.0 (sym none ∙ leaf_at q ∙ known.1))
   block_refused BadBlock (q, size, leaf, is_leaf, differ) =
-      elim (leaf_or_collision p.tree (look p.state.known) f (good.closed p.tree_number p.tree p.state p.is_tree) fits p.number inside leaf (sym (leaf_at q) ∙ is_leaf)) [
+      elim (leaf_or_collision p.tree (look p.state.known) f (good.closed p.tree_number p.tree p.state p.is_tree) fits p.number p.inside leaf (sym (leaf_at q) ∙ is_leaf)) [
         | inl same ↦ absurd (differ (cc))
         | inr collision ↦ collision
       ]
 
 verifies_true : (t : Layout) (S : State) → IsGood t S → (m : Message) (v : Verdict) (S' : State) → Step t S m v S' → VerifiesTrueBlock t S m v
 verifies_true t S good (message.Piece index begin bytes) (verdict.Verified file b) S' step =
-    λ p f fits inside is_block known. inl (block_verified t S good index begin bytes.now p f fits inside is_block known file b S' step)
+    λ p f fits is_block known. inl (block_verified t S good index begin bytes.now p f fits is_block known file b S' step)
 verifies_true t S good (message.Piece index begin bytes) (verdict.BlockRefused r) S' step =
-    λ p f fits inside is_block known. inr (block_refused t S good index begin bytes.now p f fits inside is_block known r step.0)
+    λ p f fits is_block known. inr (block_refused t S good index begin bytes.now p f fits is_block known r step.0)
 verifies_true t S good (message.Piece index begin bytes) v S' step = absurd step
 verifies_true t S good m v S' step = tt
 
 -- ---- steps
 
-verdict_true : (t : Layout) (S : State) → IsGood t S → (m : Message) (v : Verdict) (S' : State) → Step t S m v S' → IsTrueVerdict t S m v
-verdict_true t S good (message.Piece index begin bytes) (verdict.Verified file b) S' step =
-    let m : Message = message.Piece index begin bytes in
-    (run-true t S (m ∷ []) (verdict.Verified file b ∷ []) S' good (All-cons HasHashes m [] tt (All-nil HasHashes)) (S', step, refl)).0.0
-verdict_true t S good m v S' step = tt
-
 pub safe_step : (t : Layout) (S : State) → IsGood t S → HasDistinctRoots t → (m : Message) (v : Verdict) (S' : State) → Step t S m v S' → IsSafeStep t S m v S'
 safe_step t S good distinct m v S' step = record {
   step = step;
-  is_true = verdict_true t S good m v S' step;
+  is_true = verdict-true t S m v S' good step;
   keeps = keeps_known t S m v S' step;
   stores = stores_true t S good distinct m v S' step;
   verifies = verifies_true t S good m v S' step;
 }
+
+-- ---- runs
+
+-- one more step
+safe_run-more : (t : Layout) (S : State) (ms : List Message) (vs : List Verdict) (M : State) (m : Message) (v : Verdict) (S' : State)
+    → IsSafeRun t S ms vs M → IsSafeStep t M m v S' → IsSafeRun t S (ms ++ m ∷ []) (vs ++ v ∷ []) S'
+safe_run-more t S [] [] M m v S' e step = (S', subst (λ x. IsSafeStep t x m v S') e step, refl)
+safe_run-more t S [] (w ∷ vs) M m v S' e step = absurd e
+safe_run-more t S (n ∷ ms) [] M m v S' e step = absurd e
+safe_run-more t S (n ∷ ms) (w ∷ vs) M m v S' (L, first, rest) step = (L, first, safe_run-more t L ms vs M m v S' rest step)
+
+pub safe_run-next : (a b : Description) (S M S' : State) (ms : List Message) (i : ℕ) (vs : List Verdict) (d : Message) (v : Verdict) → a ≡ b → i < length ms
+    → IsSafeRun (layout_of b) S (take i ms) vs M → IsSafeStep (layout_of a) M (get_or ms i d) v S' → IsSafeRun (layout_of b) S (take (i + 1) ms) (vs ++ v ∷ []) S'
+safe_run-next a b S M S' ms i vs d v same inside before step =
+    subst (λ xs. IsSafeRun (layout_of b) S xs (vs ++ v ∷ []) S') (sym (ap (λ j. take j ms) (add-one i) ∙ take-suc ms i d inside))
+    (safe_run-more (layout_of b) S (take i ms) vs M (get_or ms i d) v S' before (subst (λ x. IsSafeStep (layout_of x) M (get_or ms i d) v S') same step))
+
+-- each verdict of such a run keeps its promise
+pub safe_run-true : (t : Layout) (S : State) (ms : List Message) (vs : List Verdict) (S' : State) → IsSafeRun t S ms vs S' → IsTrueRun t S ms vs S'
+safe_run-true t S [] [] S' e = e
+safe_run-true t S [] (v ∷ vs) S' e = absurd e
+safe_run-true t S (m ∷ ms) [] S' e = absurd e
+safe_run-true t S (m ∷ ms) (v ∷ vs) S' (M, step, rest) = (step.is_true, (M, step.step, safe_run-true t M ms vs S' rest))

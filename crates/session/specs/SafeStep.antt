@@ -1,12 +1,12 @@
 -- What holds of each step of a session beside that it is allowed: what it verifies is the block, and poison does no harm.
-use Rattle.std.specs.Prelude.{◌≡◌, ◌⊎◌, ℕ, ◌<◌, List, [], ◌∷◌}
+use Rattle.std.specs.Prelude.{◌≡◌, ◌⊎◌, ℕ, List, [], ◌∷◌}
 use Rattle.wire.specs.declared.message.Ask.{Ask}
 use Rattle.wire.specs.declared.message.Message.{Message}
 use Rattle.wire.specs.declared.message.Message.TheVariants as message
 use Rattle.session.specs.declared.refusal.HashRefusal.TheVariants.{NoMemory}
 use Rattle.session.specs.declared.verdict.Verdict.{Verdict}
 use Rattle.session.specs.declared.verdict.Verdict.TheVariants as verdict
-use Rattle.hashtree.specs.Tree.{block, block_count}
+use Rattle.hashtree.specs.Tree.{block}
 use Rattle.session.specs.TreeRoot.{TreeRoot, tree_height, Fits}
 use Rattle.session.specs.Partial.{IsKnown, Keeps, Collision, whole}
 use Rattle.session.specs.Digest.{Hash}
@@ -38,8 +38,7 @@ StoresTrueHashes t S m v = Unit {0}
 -- the true block of a known leaf is verified, or a collision is named
 abbrev pub VerifiesTrueBlock : Layout → State → Message → Verdict → Type 0
 VerifiesTrueBlock t S (message.Piece index begin bytes) v =
-    (p : IsPlaced t S index begin) (f : List ℕ) → Fits f p.tree → p.number < block_count p.tree.length
-    → bytes.now ≡ block f p.number → IsKnown (look p.state.known) 0 p.number
+    (p : IsPlaced t S index begin) (f : List ℕ) → Fits f p.tree → bytes.now ≡ block f p.number → IsKnown (look p.state.known) 0 p.number
     → (v ≡ verdict.Verified p.file p.number) ⊎ Collision (whole f) (look p.state.known)
 VerifiesTrueBlock t S m v = Unit {0}
 

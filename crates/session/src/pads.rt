@@ -1,0 +1,43 @@
+//! The hashes of places that cover pads alone, layer by layer.
+
+ghost use Rattle.std.specs.Prelude.{◌≡◌, ◌≤◌};
+ghost use Rattle.hashtree.specs.Tree.{zero_hash};
+
+use hashtree::{Hash, parent};
+
+/// The hash over pads on the layer that was asked for last; each layer above costs one digest.
+#[derive(Drop)]
+pub struct Pads {
+    layer: u32,
+    hash: Hash,
+    ghost low: { layer ≤ 32 },
+    ghost is_zero_hash: { hash ≡ zero_hash layer },
+}
+
+impl Pads {
+    /// The pad leaf.
+    pub fn new() -> Pads
+        ensures { result.layer ≡ 0 }
+    {
+        Pads {
+            layer: 0,
+            hash: [0; 32],
+        }
+    }
+
+    /// The hash over pads on a layer that is no lower than the one before.
+    pub fn at(&mut self, layer: u32) -> Hash
+        requires low { layer ≤ 32 }
+        requires upward { self.old.layer ≤ layer }
+        ensures value { result ≡ zero_hash layer }
+        ensures layer { self.new.layer ≡ layer }
+    {
+        for below in self.layer..layer {
+            *self = Pads {
+                layer: below + 1,
+                hash: parent(&self.hash, &self.hash),
+            };
+        }
+        self.hash
+    }
+}
