@@ -1,5 +1,5 @@
 -- One answer for all bytes.
-use Rattle.std.proofs.Common.{◌≡◌, ℕ, suc, List, [], ◌∷◌, ◌++◌, length, Option, Some, None, inl, inr, refl, sym, ap, subst, ◌∙◌, arith, slice_get}
+use Rattle.std.proofs.Common.{◌≡◌, ◌≢◌, ◌⊎◌, Result, Ok, Err, IfOk, IfErr, MatchResult, ℕ, suc, List, [], ◌∷◌, ◌++◌, length, Option, Some, None, inl, inr, refl, sym, ap, subst, ◌∙◌, arith, slice_get}
 use Rattle.std.proofs.lemmas.Bool.{cases_lt}
 use Rattle.std.proofs.lemmas.Option.{slice_get_past}
 use Rattle.benc.specs.Fails as benc
@@ -111,3 +111,43 @@ refusal_is_one value fault one_fault b r s one other = elim one [
     ]
   ]
 ]
+
+-- a refusal is want of memory, or another one
+memory_or_not : (r : Refusal) → (r ≡ refusals.NoMemory) ⊎ (r ≢ refusals.NoMemory)
+memory_or_not refusals.TooLarge = inr (λ is. cc)
+memory_or_not (refusals.NotBencode f) = inr (λ is. cc)
+memory_or_not (refusals.Missing k) = inr (λ is. cc)
+memory_or_not (refusals.WrongType k) = inr (λ is. cc)
+memory_or_not refusals.Version = inr (λ is. cc)
+memory_or_not refusals.PieceLength = inr (λ is. cc)
+memory_or_not refusals.Shape = inr (λ is. cc)
+memory_or_not refusals.Path = inr (λ is. cc)
+memory_or_not refusals.Symlink = inr (λ is. cc)
+memory_or_not refusals.Length = inr (λ is. cc)
+memory_or_not refusals.Root = inr (λ is. cc)
+memory_or_not refusals.RootReused = inr (λ is. cc)
+memory_or_not refusals.NoFiles = inr (λ is. cc)
+memory_or_not refusals.TooManyPieces = inr (λ is. cc)
+memory_or_not refusals.LayerMissing = inr (λ is. cc)
+memory_or_not refusals.LayerSize = inr (λ is. cc)
+memory_or_not refusals.LayerMismatch = inr (λ is. cc)
+memory_or_not refusals.HybridFiles = inr (λ is. cc)
+memory_or_not refusals.HybridAlign = inr (λ is. cc)
+memory_or_not refusals.HybridPieces = inr (λ is. cc)
+memory_or_not refusals.NoMemory = inl refl
+memory_or_not refusals.PathClash = inr (λ is. cc)
+memory_or_not refusals.Write = inr (λ is. cc)
+
+-- what is opened is what the bytes describe
+pub opens_only : ((b : List ℕ) (t u : Description) → Describes b t → Describes b u → t ≡ u) → ((b : List ℕ) (t : Description) (r : Refusal) → Describes b t → Refuses b r → ⊥)
+    → (b : List ℕ) (t : Description) (result : Result Description Refusal) → IfOk result (λ u. Describes b u) → IfErr result (λ r. r ≢ refusals.NoMemory → Refuses b r)
+    → Describes b t → MatchResult result (λ u. u ≡ t) (λ r. r ≡ refusals.NoMemory)
+opens_only one none b t (Ok u) told why described = one b u t told described
+opens_only one none b t (Err r) told why described = elim (memory_or_not r) [ inl is ↦ is | inr other ↦ absurd (none b t r described (why other)) ]
+
+-- what is refused is refused with the one answer
+pub answers_first : ((b : List ℕ) (t : Description) (r : Refusal) → Describes b t → Refuses b r → ⊥) → ((b : List ℕ) (r s : Refusal) → Refuses b r → Refuses b s → r ≡ s)
+    → (b : List ℕ) (r : Refusal) (result : Result Description Refusal) → IfOk result (λ u. Describes b u) → IfErr result (λ s. s ≢ refusals.NoMemory → Refuses b s)
+    → Refuses b r → MatchResult result (λ _. ⊥) (λ s. s ≢ refusals.NoMemory → s ≡ r)
+answers_first none one b r (Ok u) told why refused = none b u r told refused
+answers_first none one b r (Err s) told why refused = λ other. one b s r (why other) refused

@@ -1,0 +1,13 @@
+use Rattle.std.proofs.Common.{inl, inr, arith}
+use Rattle.benc.specs.View.{view}
+use Rattle.metainfo.proofs.Ascending.{layers_ascend}
+use Rattle.metainfo.proofs.open.opened.Goals as goal
+
+pub read-requires-clause-ascends : goal.read-requires-clause-ascends
+read-requires-clause-ascends c = layers_ascend (view c.in-Ok.decoded.0) c.args.input.now c.in-Ok.ensures.found
+
+pub returns-in-Err-clause-refused : goal.returns-in-Err-clause-refused
+returns-in-Err-clause-refused c = λ memory. inr (
+  omega arith,
+  inl (c.in-Err.fault, c.in-Err.ensures.fault (λ is. memory (c.refused.ensures.memory is)), c.refused.ensures.other (λ is. memory (c.refused.ensures.memory is))),
+)
