@@ -1,6 +1,7 @@
 -- Lemmas on torrents.
 pub mod Comparing
 pub mod Cutting
+pub mod Deciding
 pub mod Fed
 pub mod Aligned
 pub mod Answering
@@ -18,6 +19,7 @@ pub mod Searching
 pub mod Sounding
 pub mod Streams
 pub mod Tables
+pub mod Telling
 pub mod Told
 pub mod Views
 pub mod Walking
