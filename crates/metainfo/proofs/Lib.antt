@@ -3,6 +3,7 @@ pub mod Comparing
 pub mod Cutting
 pub mod Deciding
 pub mod Fed
+pub mod Growing
 pub mod Aligned
 pub mod Answering
 pub mod Ascending
