@@ -27,6 +27,7 @@ impl LayerBuilder {
         ensures count { byte_count result ≡ 0 }
         ensures layer { chosen_layer result ≡ layer }
         ensures content { IsFedLayer result [] }
+        ensures works { HasRefused result → ⊥ }
     {
         LayerBuilder {
             builder: RootBuilder::new(),
@@ -45,6 +46,7 @@ impl LayerBuilder {
         ensures content { OnOk result ((file : List ℕ) → IsFedLayer self.old file → IsFedLayer self.new (file ++ bytes.now)) }
         ensures refused { OnErr result (HasRefused self.new) }
         ensures again { HasRefused self.old → IsErr result }
+        ensures works { OnOk result (HasRefused self.new → ⊥) }
         // After a refusal too a caller may go on, and finish.
         ensures at_most { byte_count self.new ≤ byte_count self.old + length bytes.now }
         ensures at_least { byte_count self.old ≤ byte_count self.new }

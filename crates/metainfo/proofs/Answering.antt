@@ -1,8 +1,11 @@
 -- One answer for all bytes.
-use Rattle.std.proofs.Common.{◌≡◌, ℕ, suc, List, [], ◌∷◌, ◌++◌, length, Option, Some, None, inl, inr, refl, sym, ap, subst, ◌∙◌, arith, slice_get}
+use Rattle.std.proofs.Common.{◌≡◌, ◌≢◌, ◌⊎◌, Result, Ok, Err, IfOk, IfErr, MatchResult, ℕ, suc, List, [], ◌∷◌, ◌++◌, length, map, ◌≤◌, if◌then◌else◌, Option, Some, None, inl, inr, refl, sym, ap, subst, ◌∙◌, arith, slice_get}
 use Rattle.std.proofs.lemmas.Bool.{cases_lt}
 use Rattle.std.proofs.lemmas.Option.{slice_get_past}
+use Rattle.sha1.specs.Sha1.{sha1}
+use Rattle.sha2.specs.Sha256.{sha256}
 use Rattle.benc.specs.Fails as benc
+use Rattle.benc.specs.Text.{spelling}
 use Rattle.benc.specs.Spelling.{Spells}
 use Rattle.benc.specs.Value.{Bencode}
 use Rattle.benc.specs.declared.fault.Fault.{Fault}
@@ -10,11 +13,16 @@ use Rattle.benc.specs.declared.fault.FaultKind.{FaultKind}
 use Rattle.metainfo.specs.Describes.{Describes, IsDescribed}
 use Rattle.metainfo.specs.Description.{Description, FileEntry, TreeEntry, Version1}
 use Rattle.metainfo.specs.FileTree.{Listed}
-use Rattle.metainfo.specs.Refusals.{First, NoneHolds, Refuses, Row, table}
-use Rattle.metainfo.specs.Trees.{AreFiles}
+use Rattle.metainfo.specs.PieceLayers.{tree_at}
+use Rattle.metainfo.specs.Refusals.{First, NoneHolds, Refuses, Row, files_of, info_in, layers_in, max_torrent, name_in, parts_of_torrent, piece_length_in, table}
+use Rattle.metainfo.specs.Rooted.{entries_from}
+use Rattle.metainfo.specs.Stream.{is_hybrid, version1_of}
+use Rattle.metainfo.specs.Trees.{AreFiles, roots_in}
 use Rattle.metainfo.specs.declared.refusal.Refusal.{Refusal}
 use Rattle.metainfo.specs.declared.refusal.Refusal.TheVariants as refusals
 use Rattle.metainfo.proofs.InStream.{listed_at}
+use Rattle.metainfo.proofs.Listing.{are_files}
+use Rattle.metainfo.proofs.Telling.{table_told}
 
 none_first : (rows : List Row) (r : Refusal) → NoneHolds rows → First rows r → ⊥
 none_first [] r none first = first
@@ -109,5 +117,91 @@ refusal_is_one value fault one_fault b r s one other = elim one [
             first_one (table held.0) r s held.2 (subst (λ (v : Bencode). First (table v) s) same again.2)
       ]
     ]
+  ]
+]
+
+-- a refusal is want of memory, or another one
+memory_or_not : (r : Refusal) → (r ≡ refusals.NoMemory) ⊎ (r ≢ refusals.NoMemory)
+memory_or_not refusals.TooLarge = inr (λ is. cc)
+memory_or_not (refusals.NotBencode f) = inr (λ is. cc)
+memory_or_not (refusals.Missing k) = inr (λ is. cc)
+memory_or_not (refusals.WrongType k) = inr (λ is. cc)
+memory_or_not refusals.Version = inr (λ is. cc)
+memory_or_not refusals.PieceLength = inr (λ is. cc)
+memory_or_not refusals.Shape = inr (λ is. cc)
+memory_or_not refusals.Path = inr (λ is. cc)
+memory_or_not refusals.Symlink = inr (λ is. cc)
+memory_or_not refusals.Length = inr (λ is. cc)
+memory_or_not refusals.Root = inr (λ is. cc)
+memory_or_not refusals.RootReused = inr (λ is. cc)
+memory_or_not refusals.NoFiles = inr (λ is. cc)
+memory_or_not refusals.TooManyPieces = inr (λ is. cc)
+memory_or_not refusals.LayerMissing = inr (λ is. cc)
+memory_or_not refusals.LayerSize = inr (λ is. cc)
+memory_or_not refusals.LayerMismatch = inr (λ is. cc)
+memory_or_not refusals.HybridFiles = inr (λ is. cc)
+memory_or_not refusals.HybridAlign = inr (λ is. cc)
+memory_or_not refusals.HybridPieces = inr (λ is. cc)
+memory_or_not refusals.NoMemory = inl refl
+memory_or_not refusals.PathClash = inr (λ is. cc)
+memory_or_not refusals.Write = inr (λ is. cc)
+
+-- what is opened is what the bytes describe
+pub opens_only : ((b : List ℕ) (t u : Description) → Describes b t → Describes b u → t ≡ u) → ((b : List ℕ) (t : Description) (r : Refusal) → Describes b t → Refuses b r → ⊥)
+    → (b : List ℕ) (t : Description) (result : Result Description Refusal) → IfOk result (λ u. Describes b u) → IfErr result (λ r. r ≢ refusals.NoMemory → Refuses b r)
+    → Describes b t → MatchResult result (λ u. u ≡ t) (λ r. r ≡ refusals.NoMemory)
+opens_only one none b t (Ok u) told why described = one b u t told described
+opens_only one none b t (Err r) told why described = elim (memory_or_not r) [ inl is ↦ is | inr other ↦ absurd (none b t r described (why other)) ]
+
+-- what is refused is refused with the one answer
+pub answers_first : ((b : List ℕ) (t : Description) (r : Refusal) → Describes b t → Refuses b r → ⊥) → ((b : List ℕ) (r s : Refusal) → Refuses b r → Refuses b s → r ≡ s)
+    → (b : List ℕ) (r : Refusal) (result : Result Description Refusal) → IfOk result (λ u. Describes b u) → IfErr result (λ s. s ≢ refusals.NoMemory → Refuses b s)
+    → Refuses b r → MatchResult result (λ _. ⊥) (λ s. s ≢ refusals.NoMemory → s ≡ r)
+answers_first none one b r (Ok u) told why refused = none b u r told refused
+answers_first none one b r (Err s) told why refused = λ other. one b s r (why other) refused
+
+-- the description that a value says
+described_by : (v : Bencode) → (t : Description) × IsDescribed v t
+described_by v =
+    let p = piece_length_in v in
+    let fs = files_of v in
+    let info = info_in v in
+    let t : Description = record {
+      name = name_in v;
+      piece_length = p;
+      files = entries_from p (roots_in fs) 0 fs;
+      trees = map (tree_at p (layers_in v)) (roots_in fs);
+      info_hash_v2 = sha256 (spelling info);
+      info_hash_v1 = sha1 (spelling info);
+      v1 = if is_hybrid info then Some (version1_of p (parts_of_torrent v) info) else None;
+    } in
+    (t, record {
+      name = refl;
+      piece_length = refl;
+      files = are_files p fs _ refl;
+      trees = refl;
+      info_hash_v2 = refl;
+      info_hash_v1 = refl;
+      v1 = refl;
+    })
+
+-- bytes that spell a value describe a torrent, or are refused
+value_told : (b : List ℕ) (v : Bencode) → length b ≤ max_torrent → Spells v b → ((r : Refusal) × First (table v) r) ⊎ NoneHolds (table v) → ((t : Description) × Describes b t) ⊎ ((r : Refusal) × Refuses b r)
+value_told b v small spelled (inl first) = inr (first.0, inr (small, inr (v, spelled, first.1)))
+value_told b v small spelled (inr none) =
+    let told = described_by v in
+    inl (told.0, record { small = small; value = v; spelled = spelled; accepted = none; described = told.1 })
+
+abbrev ValueOrFault : Type 0
+ValueOrFault = (b : List ℕ) → ((v : Bencode) × Spells v b) ⊎ ((kind : FaultKind) × (offset : ℕ) × benc.Fails b kind offset)
+
+pub torrent_or_refusal : ValueOrFault → (b : List ℕ) → ((t : Description) × Describes b t) ⊎ ((r : Refusal) × Refuses b r)
+torrent_or_refusal read b = elim (cases_lt max_torrent (length b)) [
+  | inl large ↦ inr (refusals.TooLarge, inl (large, refl))
+  | inr small ↦ elim (read b) [
+    | inl spelled ↦ value_told b spelled.0 small spelled.1 (table_told spelled.0).which
+    | inr failed ↦
+        let f : Fault = record { kind = failed.0; offset = failed.1 } in
+        inr (refusals.NotBencode f, inr (small, inl (f, failed.2, refl)))
   ]
 ]

@@ -3,7 +3,8 @@ use Rattle.std.proofs.Common.{◌≡◌, ◌≢◌, ◌⊎◌, inl, inr, ℕ, ze
 use Rattle.std.proofs.lemmas.List.{same_lists}
 use Rattle.std.proofs.lemmas.Option.{slice_get_within, slice_get_past, get_or_from_slice_get, none-some, same_Some}
 use Rattle.sha1.specs.Sha1.{sha1}
-use Rattle.metainfo.specs.Cuts.{cut, cut_count, cut_digests, IsComparison, IsFirstDifference, IsNext}
+use Rattle.metainfo.specs.Trees.{pieces_of}
+use Rattle.metainfo.specs.Cuts.{cut, cut_digests, IsComparison, IsFirstDifference, IsNext}
 use Rattle.metainfo.specs.Feeding.{IsListed, IsFirstBad}
 use Rattle.metainfo.proofs.Cutting.{cut_append, cut_ends, length-cut_digests, digest_of_cut}
 
@@ -15,7 +16,8 @@ pub some_from : (o : Option ℕ) → is_some o ≡ true → o ≡ None → ⊥
 some_from None h e = cc
 some_from (Some i) h e = cc
 
-there_or_not : (o : Option ℕ) → (o ≡ None) ⊎ ((i : ℕ) × (o ≡ Some i))
+-- there is a number, or there is none
+pub there_or_not : (o : Option ℕ) → (o ≡ None) ⊎ ((i : ℕ) × (o ≡ Some i))
 there_or_not None = inl refl
 there_or_not (Some i) = inr (i, refl)
 
@@ -79,8 +81,8 @@ first_bad_next n pieces content c digest bad next is step first = elim (there_or
   }
 ]
 
--- all cuts were compared, and one was bad
-pub difference_found : (n : ℕ) (pieces : List (List ℕ)) (content : List ℕ) (c : ℕ) (bad : Option ℕ) (i : ℕ) → c ≡ cut_count n (length content)
+-- the cuts were compared up to a bad one
+pub difference_found : (n : ℕ) (pieces : List (List ℕ)) (content : List ℕ) (c : ℕ) (bad : Option ℕ) (i : ℕ) → c ≤ pieces_of n (length content)
     → IsFirstBad n pieces content c bad → bad ≡ Some i → IsFirstDifference (cut_digests n content) pieces i
 difference_found n pieces content c bad i all first is = record {
   same_before = λ k lt. digest_of_cut n content k (omega (arith, first.within i is)) ∙ sym (first.before i is k lt);
@@ -93,7 +95,7 @@ there (x ∷ xs) zero lt = refl
 there (x ∷ xs) (suc k) lt = there xs k (omega arith)
 
 -- none was bad, and more digests are listed than there are cuts
-pub difference_past : (n : ℕ) (pieces : List (List ℕ)) (content : List ℕ) (c : ℕ) (bad : Option ℕ) → c ≡ cut_count n (length content)
+pub difference_past : (n : ℕ) (pieces : List (List ℕ)) (content : List ℕ) (c : ℕ) (bad : Option ℕ) → c ≡ pieces_of n (length content)
     → IsFirstBad n pieces content c bad → bad ≡ None → c < length pieces → IsFirstDifference (cut_digests n content) pieces c
 difference_past n pieces content c bad all first is more = record {
   same_before = λ k lt. digest_of_cut n content k (omega arith) ∙ sym (first.none is k lt);
@@ -108,7 +110,7 @@ enough xs zero h = omega arith
 enough xs (suc c) h = omega (arith, h c (omega arith))
 
 -- none was bad, and no more are listed
-pub digests_are_listed : (n : ℕ) (pieces : List (List ℕ)) (content : List ℕ) (c : ℕ) (bad : Option ℕ) → c ≡ cut_count n (length content)
+pub digests_are_listed : (n : ℕ) (pieces : List (List ℕ)) (content : List ℕ) (c : ℕ) (bad : Option ℕ) → c ≡ pieces_of n (length content)
     → IsFirstBad n pieces content c bad → bad ≡ None → length pieces ≤ c → cut_digests n content ≡ pieces
 digests_are_listed n pieces content c bad all first is no_more =
     same_lists (cut_digests n content) pieces
@@ -118,8 +120,9 @@ digests_are_listed n pieces content c bad all first is no_more =
     get_or_from_slice_get (cut_digests n content) k (sha1 (cut n content k)) d (digest_of_cut n content k (omega arith))
     ∙ sym (get_or_from_slice_get pieces k (sha1 (cut n content k)) d (first.none is k below)))
 
--- all were compared, and no more are listed where none was bad
-pub comparison : (n : ℕ) (pieces : List (List ℕ)) (content : List ℕ) (c : ℕ) (bad : Option ℕ) → c ≡ cut_count n (length content)
-    → IsFirstBad n pieces content c bad → (bad ≡ None → length pieces ≤ c) → IsComparison (cut_digests n content) pieces bad
-comparison n pieces content c None all first no_more = digests_are_listed n pieces content c None all first refl (no_more refl)
-comparison n pieces content c (Some i) all first no_more = difference_found n pieces content c (Some i) i all first refl
+-- the cuts were compared up to a bad one, or all of them, and no more are listed
+pub comparison : (n : ℕ) (pieces : List (List ℕ)) (content : List ℕ) (c : ℕ) (bad : Option ℕ) → c ≤ pieces_of n (length content)
+    → (bad ≡ None → c ≡ pieces_of n (length content)) → IsFirstBad n pieces content c bad → (bad ≡ None → length pieces ≤ c)
+    → IsComparison (cut_digests n content) pieces bad
+comparison n pieces content c None within all first no_more = digests_are_listed n pieces content c None (all refl) first refl (no_more refl)
+comparison n pieces content c (Some i) within all first no_more = difference_found n pieces content c (Some i) i within first refl

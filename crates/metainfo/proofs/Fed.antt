@@ -1,62 +1,101 @@
 -- What a version 1 feed holds, as it takes bytes.
-use Rattle.std.proofs.Common.{◌≡◌, ℕ, zero, suc, ◌+◌, ◌*◌, ◌<◌, ◌≤◌, List, [], ◌++◌, length, take, drop, replicate, refl, ap, sym, ◌∙◌, subst, arith}
+use Rattle.std.proofs.Common.{◌≡◌, ℕ, zero, suc, ◌+◌, ◌-◌, ◌*◌, ◌<◌, ◌≤◌, List, [], ◌++◌, length, take, drop, replicate, Option, None, is_some, true, inl, inr, refl, ap, sym, ◌∙◌, subst, arith}
+use Rattle.std.proofs.lemmas.Option.{none-some}
 use Rattle.std.proofs.lemmas.List.{append_assoc, length-append, length-replicate, drop-append-le, drop_all, take-replicate, replicate-append-replicate}
 use Rattle.sha1.specs.Sha1.{Holds, sha1}
-use Rattle.metainfo.specs.Cuts.{cut_count, cut}
+use Rattle.metainfo.specs.Cuts.{cut}
+use Rattle.metainfo.specs.Trees.{pieces_of}
 use Rattle.metainfo.specs.declared.v1_feed.V1Feed.{V1Feed}
-use Rattle.metainfo.specs.Feeding.{IsAt, IsFed, IsFirstBad}
-use Rattle.metainfo.proofs.Cutting.{last_cut, cut_count_is, cut_count_none}
-use Rattle.metainfo.proofs.Comparing.{first_bad_append}
+use Rattle.metainfo.specs.Feeding.{IsAt, IsFed, IsFirstBad, IsRunning}
+use Rattle.metainfo.proofs.Cutting.{last_cut, cut_count_is, cut_count_least, cut_count_none}
+use Rattle.metainfo.proofs.Comparing.{first_bad_append, some_from, there_or_not}
+
+-- nothing runs after a bad cut, so a running cut comes before one
+pub no_bad : (f : V1Feed) (pieces : List (List ℕ)) (n : ℕ) (content : List ℕ) → IsAt f pieces n content → 0 < f.filled → f.bad ≡ None
+no_bad f pieces n content at some = elim (there_or_not f.bad) [
+  | inl none ↦ none
+  | inr bad ↦ absurd (omega (arith, at.stopped (λ none. none-some bad.0 (sym none ∙ bad.1))))
+]
+
+runs : (f : V1Feed) (pieces : List (List ℕ)) (n : ℕ) (content : List ℕ) → IsAt f pieces n content → 0 < f.filled → IsRunning f n content
+runs f pieces n content at some = at.running (no_bad f pieces n content at some)
 
 -- the running cut was full, and is closed
-pub at_closed : (f g : V1Feed) (pieces : List (List ℕ)) (n : ℕ) (content : List ℕ) → IsAt f pieces n content → f.filled ≡ f.piece_length
+pub at_closed : (f g : V1Feed) (pieces : List (List ℕ)) (n : ℕ) (content : List ℕ) → IsAt f pieces n content → 0 < f.filled → f.filled ≡ f.piece_length
     → g.pieces ≡ f.pieces → g.piece_length ≡ f.piece_length → g.cut ≡ f.cut + 1 → g.filled ≡ 0 → Holds g.hasher []
     → IsFirstBad n pieces content g.cut g.bad → IsAt g pieces n content
-at_closed f g pieces n content at full same_pieces same_length next empty hasher bad =
+at_closed f g pieces n content at some full same_pieces same_length next empty hasher bad =
     let count : n * g.cut ≡ n * f.cut + n = ap (λ k. n * k) next ∙ omega arith in
-    let whole : length content ≡ n * g.cut = omega (arith, at.length_is, at.piece_length_is) in
+    let all : length content ≡ n * g.cut = omega (arith, (runs f pieces n content at some).length_is, at.piece_length_is) in
     let none : drop (n * g.cut) content ≡ [] = drop_all (n * g.cut) content (omega arith) in
     record {
       pieces_are = ap (λ p. p.now) same_pieces ∙ at.pieces_are;
       piece_length_is = same_length ∙ at.piece_length_is;
-      length_is = omega arith;
-      cut_held = subst (Holds g.hasher) (sym none) hasher;
+      whole = omega arith;
       bad_is = bad;
+      running = λ _. record { length_is = omega arith; cut_held = subst (Holds g.hasher) (sym none) hasher };
+      stopped = λ _. empty;
     }
 
+-- what is known of the cuts before stays known, as more comes
+bad_more : (f g : V1Feed) (pieces : List (List ℕ)) (n : ℕ) (content part : List ℕ) → IsAt f pieces n content → g.cut ≡ f.cut → g.bad ≡ f.bad
+    → IsFirstBad n pieces (content ++ part) g.cut g.bad
+bad_more f g pieces n content part at same_cut same_bad =
+    subst (λ k. IsFirstBad n pieces (content ++ part) k g.bad) (sym same_cut)
+    (subst (IsFirstBad n pieces (content ++ part) f.cut) (sym same_bad) (first_bad_append n pieces content part f.cut f.bad at.whole at.bad_is))
+
 -- some bytes go into the running cut
-pub fed_more : (f g : V1Feed) (pieces : List (List ℕ)) (n : ℕ) (content part : List ℕ) → IsAt f pieces n content → 0 < length part
+pub fed_more : (f g : V1Feed) (pieces : List (List ℕ)) (n : ℕ) (content part : List ℕ) → IsAt f pieces n content → f.bad ≡ None → 0 < length part
     → g.pieces ≡ f.pieces → g.piece_length ≡ f.piece_length → g.cut ≡ f.cut → g.filled ≡ f.filled + length part → g.bad ≡ f.bad
     → Holds g.hasher (drop (n * f.cut) content ++ part) → IsFed g pieces n (content ++ part)
-fed_more f g pieces n content part at some same_pieces same_length same_cut filled same_bad hasher =
+fed_more f g pieces n content part at good some same_pieces same_length same_cut filled same_bad hasher =
     let count : n * g.cut ≡ n * f.cut = ap (λ k. n * k) same_cut in
-    let whole : n * f.cut ≤ length content = omega (arith, at.length_is) in
     let rest : drop (n * f.cut) content ++ part ≡ drop (n * g.cut) (content ++ part) =
-    sym (drop-append-le (n * f.cut) content part whole) ∙ ap (λ k. drop k (content ++ part)) (sym count) in
+    sym (drop-append-le (n * f.cut) content part at.whole) ∙ ap (λ k. drop k (content ++ part)) (sym count) in
     record {
       at = record {
         pieces_are = ap (λ p. p.now) same_pieces ∙ at.pieces_are;
         piece_length_is = same_length ∙ at.piece_length_is;
-        length_is = omega (arith, at.length_is, length-append content part);
-        cut_held = subst (Holds g.hasher) rest hasher;
-        bad_is =
-            subst (λ k. IsFirstBad n pieces (content ++ part) k g.bad) (sym same_cut)
-            (subst (IsFirstBad n pieces (content ++ part) f.cut) (sym same_bad) (first_bad_append n pieces content part f.cut f.bad whole at.bad_is));
+        whole = omega (arith, at.whole, length-append content part);
+        bad_is = bad_more f g pieces n content part at same_cut same_bad;
+        running = λ _. record {
+          length_is = omega (arith, (at.running good).length_is, length-append content part);
+          cut_held = subst (Holds g.hasher) rest hasher;
+        };
+        stopped = λ bad. absurd (bad (same_bad ∙ good));
       };
-      started = λ _. omega arith;
+      started = λ _ _. omega arith;
+    }
+
+-- some bytes are counted, after a bad cut
+pub fed_skipped : (f g : V1Feed) (pieces : List (List ℕ)) (n : ℕ) (content more : List ℕ) → IsAt f pieces n content → is_some f.bad ≡ true
+    → g.pieces ≡ f.pieces → g.piece_length ≡ f.piece_length → g.cut ≡ f.cut → g.filled ≡ f.filled → g.bad ≡ f.bad → IsFed g pieces n (content ++ more)
+fed_skipped f g pieces n content more at bad same_pieces same_length same_cut same_filled same_bad =
+    let count : n * g.cut ≡ n * f.cut = ap (λ k. n * k) same_cut in
+    let no : g.bad ≡ None → ⊥ = λ none. some_from f.bad bad (sym same_bad ∙ none) in
+    record {
+      at = record {
+        pieces_are = ap (λ p. p.now) same_pieces ∙ at.pieces_are;
+        piece_length_is = same_length ∙ at.piece_length_is;
+        whole = omega (arith, at.whole, length-append content more);
+        bad_is = bad_more f g pieces n content more at same_cut same_bad;
+        running = λ none. absurd (no none);
+        stopped = λ _. same_filled ∙ at.stopped (some_from f.bad bad);
+      };
+      started = λ none. absurd (no none);
     }
 
 -- the digest of the running cut
-pub digest_of_last : (f : V1Feed) (pieces : List (List ℕ)) (n : ℕ) (content digest : List ℕ) → IsAt f pieces n content → f.filled ≤ f.piece_length
+pub digest_of_last : (f : V1Feed) (pieces : List (List ℕ)) (n : ℕ) (content digest : List ℕ) → IsAt f pieces n content → f.bad ≡ None → f.filled ≤ f.piece_length
     → digest ≡ sha1 (drop (n * f.cut) content) → digest ≡ sha1 (cut n content f.cut)
-digest_of_last f pieces n content digest at bound is =
-    is ∙ ap sha1 (sym (last_cut n content f.cut (omega (arith, at.length_is, at.piece_length_is))))
+digest_of_last f pieces n content digest at good bound is =
+    is ∙ ap sha1 (sym (last_cut n content f.cut (omega (arith, (at.running good).length_is, at.piece_length_is))))
 
 -- every cut is closed, once the running one is
-pub all_closed : (f : V1Feed) (pieces : List (List ℕ)) (n : ℕ) (content : List ℕ) → IsFed f pieces n content → 0 < f.filled → f.filled ≤ f.piece_length
-    → f.cut + 1 ≡ cut_count n (length content)
-all_closed f pieces n content fed some bound =
-    sym (ap (cut_count n) fed.at.length_is ∙ cut_count_is n f.cut f.filled some (omega (arith, fed.at.piece_length_is)))
+pub all_closed : (f : V1Feed) (pieces : List (List ℕ)) (n : ℕ) (content : List ℕ) → IsAt f pieces n content → 0 < f.filled → f.filled ≤ f.piece_length
+    → f.cut + 1 ≡ pieces_of n (length content)
+all_closed f pieces n content at some bound =
+    sym (ap (pieces_of n) (runs f pieces n content at some).length_is ∙ cut_count_is n f.cut f.filled some (omega (arith, at.piece_length_is)))
 
 none_of : (k : ℕ) → (0 < k → ⊥) → k ≡ 0
 none_of zero h = refl
@@ -68,32 +107,37 @@ zero_factor (suc n) (suc c) pos h = absurd (omega arith)
 zero_factor zero (suc c) pos h = absurd (omega arith)
 
 -- there is none where nothing was given
-pub none_open : (f : V1Feed) (pieces : List (List ℕ)) (n : ℕ) (content : List ℕ) → IsFed f pieces n content → f.filled ≡ 0 → 0 < f.piece_length
-    → f.cut ≡ cut_count n (length content)
-none_open f pieces n content fed empty some =
+none_open : (f : V1Feed) (pieces : List (List ℕ)) (n : ℕ) (content : List ℕ) → IsFed f pieces n content → f.bad ≡ None → f.filled ≡ 0 → 0 < f.piece_length
+    → f.cut ≡ pieces_of n (length content)
+none_open f pieces n content fed good empty some =
     let pos : 0 < n = omega (arith, fed.at.piece_length_is) in
-    let nothing : length content ≡ 0 = none_of (length content) (λ lt. omega (arith, fed.started lt)) in
-    zero_factor n f.cut pos (omega (arith, fed.at.length_is)) ∙ sym (ap (cut_count n) nothing ∙ cut_count_none n pos)
+    let nothing : length content ≡ 0 = none_of (length content) (λ lt. omega (arith, fed.started good lt)) in
+    zero_factor n f.cut pos (omega (arith, (fed.at.running good).length_is)) ∙ sym (ap (pieces_of n) nothing ∙ cut_count_none n pos)
 
--- every cut was compared
+-- every cut was compared, up to a bad one
 pub record IsWhole (f : V1Feed) (pieces : List (List ℕ)) (n : ℕ) (content : List ℕ) : Type 0 where
   pub pieces_are : f.pieces.now ≡ pieces
-  pub all : f.cut ≡ cut_count n (length content)
+  pub within : f.cut ≤ pieces_of n (length content)
+  pub all : f.bad ≡ None → f.cut ≡ pieces_of n (length content)
   pub bad_is : IsFirstBad n pieces content f.cut f.bad
 
 pub whole_closed : (f g : V1Feed) (pieces : List (List ℕ)) (n : ℕ) (content : List ℕ) → IsFed f pieces n content → 0 < f.filled → f.filled ≤ f.piece_length
-    → g.pieces ≡ f.pieces → g.cut ≡ f.cut + 1 → IsFirstBad n pieces content g.cut g.bad → IsWhole g pieces n content
-whole_closed f g pieces n content fed some bound same next bad = record {
-  pieces_are = ap (λ p. p.now) same ∙ fed.at.pieces_are;
-  all = next ∙ all_closed f pieces n content fed some bound;
-  bad_is = bad;
-}
+    → g.pieces ≡ f.pieces → g.cut ≡ f.cut + 1 → (f.bad ≡ None → IsFirstBad n pieces content g.cut g.bad) → IsWhole g pieces n content
+whole_closed f g pieces n content fed some bound same next bad =
+    let all : g.cut ≡ pieces_of n (length content) = next ∙ all_closed f pieces n content fed.at some bound in
+    record {
+      pieces_are = ap (λ p. p.now) same ∙ fed.at.pieces_are;
+      within = omega arith;
+      all = λ _. all;
+      bad_is = bad (no_bad f pieces n content fed.at some);
+    }
 
 pub whole_none : (f : V1Feed) (pieces : List (List ℕ)) (n : ℕ) (content : List ℕ) → IsFed f pieces n content → f.filled ≡ 0 → 0 < f.piece_length
     → IsWhole f pieces n content
 whole_none f pieces n content fed empty some = record {
   pieces_are = fed.at.pieces_are;
-  all = none_open f pieces n content fed empty some;
+  within = cut_count_least n f.cut (length content) (omega (arith, fed.at.piece_length_is)) fed.at.whole;
+  all = λ good. none_open f pieces n content fed good empty some;
   bad_is = fed.at.bad_is;
 }
 
@@ -106,3 +150,11 @@ zeros_more content done part n h =
 
 pub length-zeros : (part n : ℕ) → part ≤ n → length {A = ℕ} (take part (replicate n 0)) ≡ part
 length-zeros part n h = ap (length {A = ℕ}) (take-replicate part n 0 h) ∙ length-replicate {A = ℕ} part 0
+
+-- the rest of the zeros
+pub zeros_rest : (content : List ℕ) (done n : ℕ) → done ≤ n → (content ++ replicate done 0) ++ replicate (n - done) 0 ≡ content ++ replicate n 0
+zeros_rest content done n h =
+    let all : done + (n - done) ≡ n = omega arith in
+    append_assoc content (replicate done 0) (replicate (n - done) 0)
+    ∙ ap (λ t. content ++ t) (replicate-append-replicate done (n - done) 0)
+    ∙ ap (λ k. content ++ replicate k 0) all

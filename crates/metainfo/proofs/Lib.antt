@@ -1,7 +1,9 @@
 -- Lemmas on torrents.
 pub mod Comparing
 pub mod Cutting
+pub mod Deciding
 pub mod Fed
+pub mod Growing
 pub mod Aligned
 pub mod Answering
 pub mod Ascending
@@ -18,6 +20,7 @@ pub mod Searching
 pub mod Sounding
 pub mod Streams
 pub mod Tables
+pub mod Telling
 pub mod Told
 pub mod Views
 pub mod Walking

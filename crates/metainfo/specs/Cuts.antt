@@ -1,19 +1,16 @@
 -- The cuts of the version 1 stream (BEP 3): pieces of one length, the last of which may be shorter.
-use Rattle.std.specs.Prelude.{◌≡◌, ◌≢◌, ℕ, ◌+◌, ◌-◌, ◌*◌, ◌/◌, ◌<◌, ◌⊎◌, List, map, length, take, drop, slice_get, Option, Some, None, MatchOption}
+use Rattle.std.specs.Prelude.{◌≡◌, ◌≢◌, ℕ, ◌*◌, ◌<◌, ◌⊎◌, List, map, length, take, drop, slice_get, Option, Some, None, MatchOption}
 use Rattle.std.specs.List.{range_with_len}
 use Rattle.sha1.specs.Sha1.{sha1}
+use Rattle.metainfo.specs.Trees.{pieces_of}
 
 -- the cut of the stream with this number
 abbrev pub cut : ℕ → List ℕ → ℕ → List ℕ
 cut piece_length stream i = take piece_length (drop (piece_length * i) stream)
 
--- how many cuts a stream of this length has: its pieces, rounded up
-abbrev pub cut_count : ℕ → ℕ → ℕ
-cut_count piece_length n = (n + (piece_length - 1)) / piece_length
-
 -- the stream, cut at the piece length
 abbrev pub cuts : ℕ → List ℕ → List (List ℕ)
-cuts piece_length stream = map (cut piece_length stream) (range_with_len 0 (cut_count piece_length (length stream)))
+cuts piece_length stream = map (cut piece_length stream) (range_with_len 0 (pieces_of piece_length (length stream)))
 
 -- the SHA-1 digests of the stream's cuts, which a hybrid lists under `pieces`
 abbrev pub cut_digests : ℕ → List ℕ → List (List ℕ)

@@ -1,6 +1,6 @@
 -- What a version 1 feed holds. Contracts of users cite `IsFed` and `room` alone, and need nothing of
 -- how they are defined.
-use Rattle.std.specs.Prelude.{◌≡◌, ◌≢◌, ℕ, ◌+◌, ◌*◌, ◌<◌, List, length, drop, slice_get, Option, Some, None}
+use Rattle.std.specs.Prelude.{◌≡◌, ◌≢◌, ℕ, ◌+◌, ◌*◌, ◌<◌, ◌≤◌, List, length, drop, slice_get, Option, Some, None}
 use Rattle.sha1.specs.Sha1.{sha1, Holds}
 use Rattle.metainfo.specs.Cuts.{cut}
 use Rattle.metainfo.specs.declared.v1_feed.V1Feed.{V1Feed}
@@ -20,15 +20,22 @@ pub record IsFirstBad (piece_length : ℕ) (pieces : List (List ℕ)) (content :
   pub within : (i : ℕ) → bad ≡ Some i → i < n
   pub differs : (i : ℕ) → bad ≡ Some i → slice_get pieces i ≢ Some (sha1 (cut piece_length content i))
 
--- the feed compares with these pieces at this piece length, and holds this content
+-- the running cut holds what follows the cuts before it
+pub record IsRunning (f : V1Feed) (piece_length : ℕ) (content : List ℕ) : Type 0 where
+  pub length_is : length content ≡ piece_length * f.cut + f.filled
+  pub cut_held : Holds f.hasher (drop (piece_length * f.cut) content)
+
+-- the feed compares with these pieces at this piece length, knows of all cuts before the running one, and holds that,
+-- unless one was bad
 pub record IsAt (f : V1Feed) (pieces : List (List ℕ)) (piece_length : ℕ) (content : List ℕ) : Type 0 where
   pub pieces_are : f.pieces.now ≡ pieces
   pub piece_length_is : f.piece_length ≡ piece_length
-  pub length_is : length content ≡ piece_length * f.cut + f.filled
-  pub cut_held : Holds f.hasher (drop (piece_length * f.cut) content)
+  pub whole : piece_length * f.cut ≤ length content
   pub bad_is : IsFirstBad piece_length pieces content f.cut f.bad
+  pub running : f.bad ≡ None → IsRunning f piece_length content
+  pub stopped : f.bad ≢ None → f.filled ≡ 0
 
 -- the feed compares with these pieces at this piece length, and was given this content
 pub record IsFed (f : V1Feed) (pieces : List (List ℕ)) (piece_length : ℕ) (content : List ℕ) : Type 0 where
   pub at : IsAt f pieces piece_length content
-  pub started : 0 < length content → 0 < f.filled
+  pub started : f.bad ≡ None → 0 < length content → 0 < f.filled

@@ -1,5 +1,5 @@
 -- The laws of torrent files: what their bytes describe, and why they are refused.
-use Rattle.std.specs.Prelude.{◌≡◌, ℕ, List}
+use Rattle.std.specs.Prelude.{◌≡◌, ◌⊎◌, ℕ, List}
 use Rattle.metainfo.specs.Describes.{Describes}
 use Rattle.metainfo.specs.Description.{Description}
 use Rattle.metainfo.specs.Refusals.{Refuses}
@@ -16,3 +16,7 @@ TorrentIsNotRefused = (b : List ℕ) (t : Description) (r : Refusal) → Describ
 -- bytes that are refused are refused with one answer
 abbrev pub RefusalIsOne : Type 0
 RefusalIsOne = (b : List ℕ) (r s : Refusal) → Refuses b r → Refuses b s → r ≡ s
+
+-- bytes describe a torrent, or are refused
+abbrev pub TorrentOrRefusal : Type 0
+TorrentOrRefusal = (b : List ℕ) → ((t : Description) × Describes b t) ⊎ ((r : Refusal) × Refuses b r)

@@ -194,3 +194,9 @@ abbrev pub Refuses : List ℕ → Refusal → Type 0
 Refuses b r = ((max_torrent < length b) × (r ≡ refusals.TooLarge))
     ⊎ ((length b ≤ max_torrent) × (((f : Fault) × benc.Fails b f.kind f.offset × (r ≡ refusals.NotBencode f))
     ⊎ ((v : Bencode) × Spells v b × First (table v) r)))
+
+-- opening these bytes may take memory: they are not too many, and a list or dictionary begins in them that may be opened
+pub record TakesMemory (b : List ℕ) : Type 0 where
+  pub small : length b ≤ max_torrent
+  pub offset : ℕ
+  pub opens : benc.Opens b offset

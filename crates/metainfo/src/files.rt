@@ -13,10 +13,8 @@ use crate::path::Path;
 use crate::refusal::Refusal;
 use crate::tree::Found;
 use benc::Value;
-use hashtree::Hash;
+use hashtree::{Hash, MAX_LENGTH};
 use std::alloc::Global;
-
-const MAX_LENGTH: i64 = 70_368_744_177_664;
 
 /// A file: its path, its length in bytes, and its root where it is not empty.
 #[derive(Drop)]
@@ -41,7 +39,9 @@ pub(crate) fn length(file: &Value<'_>) -> Option<u64>
     ensures { result ≡ length_at (view file.now) }
 {
     match file.get(b"length") {
-        Some(Value::Int(number)) if *number >= 0 && *number <= MAX_LENGTH => Some(*number as u64),
+        Some(Value::Int(number)) if *number >= 0 && *number as u64 <= MAX_LENGTH => {
+            Some(*number as u64)
+        }
         _ => None,
     }
 }

@@ -1,11 +1,12 @@
 //! The keys of a torrent file (BEP 52, "metainfo files" and "info dictionary"), up to the piece length.
 
-ghost use Rattle.std.specs.Prelude.{◌≡◌, ◌≢◌, ◌≤◌, ◌^◌, ℕ, ℤ, pos, length, map, List, [], ◌∷◌, codes, Option, Some, None, option_map, Result, Ok, Err, MatchResult, MatchBool, IfOk, FitsSigned};
+ghost use Rattle.std.specs.Prelude.{◌≡◌, ◌≢◌, ◌≤◌, ◌^◌, ℕ, ℤ, pos, length, map, List, [], ◌∷◌, codes, Option, Some, None, option_map, Result, Ok, Err, MatchResult, MatchBool, IfOk, IfErr, FitsSigned, true};
 ghost use Rattle.std.specs.Str.{IsUtf8};
 ghost use Rattle.std.specs.Int.{w64};
 ghost use Rattle.benc.specs.View.{view, pairs_view};
 ghost use Rattle.benc.specs.Value.{Bencode, int};
 ghost use Rattle.metainfo.specs.Dictionary.{get, as_dict, as_int, as_text, value_at, pairs_in};
+ghost use Rattle.metainfo.specs.FileTree.{is_dict};
 ghost use Rattle.metainfo.specs.Names.{key_text};
 ghost use Rattle.metainfo.specs.Opening.{AreKeys, key_rows, told_rows};
 ghost use Rattle.metainfo.specs.Refusals.{IsPieceLength, top_rows, version_rows, present_rows, kind_rows, layers_rows, piece_length_rows, info_in, layers_in, number_in, text_in};
@@ -59,7 +60,8 @@ fn required<'v, 'a>(v: &'v Value<'a>, key: Key) -> Result<&'v Value<'a>, Refusal
 
 /// The info dictionary.
 pub(crate) fn info<'v, 'a>(top: &'v Value<'a>) -> Result<&'v Value<'a>, Refusal>
-    ensures { Passes (top_rows (view top.now)) (λ i. get (codes "info") (view top.now) ≡ Some (view i.now)) result }
+    ensures passes { Passes (top_rows (view top.now)) (λ i. get (codes "info") (view top.now) ≡ Some (view i.now)) result }
+    ensures no_memory { IfErr result (λ r. r ≢ Refusal.NoMemory) }
 {
     dictionary(top, Key::Top)?;
     let info = required(top, Key::Info)?;
@@ -183,7 +185,8 @@ pub(crate) struct Keys<'v, 'a> {
 
 /// Tests the keys, up to the piece length.
 pub(crate) fn read_keys<'v, 'a>(top: &'v Value<'a>) -> Result<Keys<'v, 'a>, Refusal>
-    ensures { Passes (key_rows (view top.now)) (AreKeys (view top.now)) result }
+    ensures passes { Passes (key_rows (view top.now)) (AreKeys (view top.now)) result }
+    ensures memory { IfErr result (λ r. r ≡ Refusal.NoMemory → is_dict (view top.now) ≡ true) }
 {
     let info = info(top)?;
     let Told {

@@ -1,8 +1,8 @@
 //! What holds of each torrent file. A proof that calls one of these has its law.
 
-ghost use Rattle.metainfo.specs.Laws.{TorrentIsOne, TorrentIsNotRefused, RefusalIsOne};
+ghost use Rattle.metainfo.specs.Laws.{TorrentIsOne, TorrentIsNotRefused, RefusalIsOne, TorrentOrRefusal};
 
-use benc::{fault_is_one, no_spelling_begins_another, spelling_has_no_fault};
+use benc::{fault_is_one, no_spelling_begins_another, spelling_has_no_fault, spells_or_fails};
 
 /// Bytes that describe a torrent describe no other.
 pub fn torrent_is_one()
@@ -26,4 +26,11 @@ pub fn refusal_is_one()
     no_spelling_begins_another();
     spelling_has_no_fault();
     fault_is_one();
+}
+
+/// All bytes describe a torrent, or are refused.
+pub fn torrent_or_refusal()
+    ensures { TorrentOrRefusal }
+{
+    spells_or_fails();
 }

@@ -17,7 +17,7 @@ mod trees;
 mod v1_feed;
 mod version1;
 
-pub use laws::{refusal_is_one, torrent_is_not_refused, torrent_is_one};
+pub use laws::{refusal_is_one, torrent_is_not_refused, torrent_is_one, torrent_or_refusal};
 pub use path::Path;
 pub use refusal::{Key, Refusal};
 pub use torrent::{File, Torrent, TreeInfo, V1};

@@ -1,22 +1,23 @@
 //! Opening a torrent file: its tests in their order, and the torrent that it describes (BEP 52, "metainfo files").
 
-ghost use Rattle.std.specs.Prelude.{◌≡◌, ◌≢◌, ◌≤◌, ◌<◌, ◌^◌, ℕ, List, length, map, Option, Some, None, option_map, Result, Ok, Err, MatchResult, IfOk, IfErr, codes};
+ghost use Rattle.std.specs.Prelude.{◌≡◌, ◌≢◌, ◌≤◌, ◌<◌, ◌^◌, ℕ, List, length, map, Option, Some, None, option_map, Result, Ok, Err, MatchResult, IfOk, IfErr, codes, true};
 ghost use Rattle.sha2.specs.Sha256.{sha256};
 ghost use Rattle.benc.specs.Text.{spelling};
 ghost use Rattle.benc.specs.Value.{Bencode};
 ghost use Rattle.benc.specs.View.{view, pairs_view};
 ghost use Rattle.benc.specs.declared.fault.FaultKind.{FaultKind};
-ghost use Rattle.metainfo.specs.Describes.{IsDescribed};
+ghost use Rattle.metainfo.specs.Describes.{Describes, IsDescribed};
 ghost use Rattle.metainfo.specs.Dictionary.{get};
-ghost use Rattle.metainfo.specs.FileTree.{Listed, listed, walks};
+ghost use Rattle.metainfo.specs.FileTree.{Listed, is_dict, listed, walks};
 ghost use Rattle.metainfo.specs.Opening.{AreContents, content_rows, tree_rows};
-ghost use Rattle.metainfo.specs.Refusals.{IsPieceLength, layers_in, table};
+ghost use Rattle.metainfo.specs.Refusals.{IsPieceLength, Refuses, TakesMemory, layers_in, table};
 ghost use Rattle.metainfo.specs.Rooted.{leaf};
 ghost use Rattle.metainfo.specs.Steps.{Ascends, Passes, pairs_seen};
 ghost use Rattle.metainfo.specs.Trees.{IsIn};
 
 use crate::files::Leaf;
 use crate::info::{Keys, read_keys};
+use crate::laws::{refusal_is_one, torrent_is_not_refused, torrent_is_one};
 use crate::refusal::Refusal;
 use crate::torrent::{File, Torrent, TreeInfo};
 use crate::version1::version1;
@@ -97,7 +98,8 @@ fn info_hash_v2(info: &[u8]) -> Hash
 fn read<'a>(alloc: Global, top: &Value<'a>, info_bytes: &[u8]) -> Result<Torrent<'a>, Refusal>
     requires ascends { Ascends (layers_in (view top.now)) }
     requires info { (i : Bencode) → get (codes "info") (view top.now) ≡ Some i → info_bytes.now ≡ spelling i }
-    ensures { Passes (table (view top.now)) (IsDescribed (view top.now)) result }
+    ensures passes { Passes (table (view top.now)) (IsDescribed (view top.now)) result }
+    ensures memory { IfErr result (λ r. r ≡ Refusal.NoMemory → is_dict (view top.now) ≡ true) }
 {
     let Keys {
         info,
@@ -116,6 +118,7 @@ fn read<'a>(alloc: Global, top: &Value<'a>, info_bytes: &[u8]) -> Result<Torrent
 
 fn refused(fault: Fault) -> Refusal
     ensures memory { fault.kind ≡ FaultKind.NoMemory → result ≡ Refusal.NoMemory }
+    ensures memory_only { result ≡ Refusal.NoMemory → fault.kind ≡ FaultKind.NoMemory }
     ensures other { fault.kind ≢ FaultKind.NoMemory → result ≡ Refusal.NotBencode fault }
 {
     match fault.kind {
@@ -124,9 +127,26 @@ fn refused(fault: Fault) -> Refusal
     }
 }
 
+/// The torrent that bytes describe, or why they describe none.
+fn opened<'a>(alloc: Global, input: &'a [u8]) -> Result<Torrent<'a>, Refusal>
+    ensures described { IfOk result (λ t. Describes input.now t) }
+    ensures refused { IfErr result (λ r. r ≢ Refusal.NoMemory → Refuses input.now r) }
+    ensures memory { IfErr result (λ r. r ≡ Refusal.NoMemory → TakesMemory input.now) }
+{
+    if input.len() > MAX_TORRENT {
+        return Err(Refusal::TooLarge);
+    }
+    let (top, span) = match decode_with_span(alloc, input, b"info") {
+        Ok(decoded) => decoded,
+        Err(fault) => return Err(refused(fault)),
+    };
+    read(alloc, &top, span.unwrap_or(b""))
+}
+
 impl<'a> Torrent<'a> {
     ghost use Rattle.metainfo.specs.Describes.{Describes};
-    ghost use Rattle.metainfo.specs.Refusals.{Refuses};
+    ghost use Rattle.metainfo.specs.Description.{Description};
+    ghost use Rattle.metainfo.specs.Refusals.{Refuses, TakesMemory};
 
     /// Opens a torrent file, and borrows its bytes.
     ///
@@ -139,14 +159,16 @@ impl<'a> Torrent<'a> {
     pub fn open(alloc: Global, input: &'a [u8]) -> Result<Torrent<'a>, Refusal>
         ensures described { IfOk result (λ t. Describes input.now t) }
         ensures refused { IfErr result (λ r. r ≢ Refusal.NoMemory → Refuses input.now r) }
+        // Bytes that describe a torrent open as that one.
+        ensures only { (t : Description) → Describes input.now t → MatchResult result (λ u. u ≡ t) (λ r. r ≡ Refusal.NoMemory) }
+        // Bytes that are refused are refused with that answer.
+        ensures first { (r : Refusal) → Refuses input.now r → MatchResult result (λ _. ⊥) (λ s. s ≢ Refusal.NoMemory → s ≡ r) }
+        // No more bytes than that are decoded, and no memory is taken before a list or a dictionary.
+        ensures memory { IfErr result (λ r. r ≡ Refusal.NoMemory → TakesMemory input.now) }
     {
-        if input.len() > MAX_TORRENT {
-            return Err(Refusal::TooLarge);
-        }
-        let (top, span) = match decode_with_span(alloc, input, b"info") {
-            Ok(decoded) => decoded,
-            Err(fault) => return Err(refused(fault)),
-        };
-        read(alloc, &top, span.unwrap_or(b""))
+        torrent_is_one();
+        torrent_is_not_refused();
+        refusal_is_one();
+        opened(alloc, input)
     }
 }

@@ -4,6 +4,7 @@ ghost use Rattle.std.specs.Prelude.{◌≡◌, ℕ, List, map};
 
 use std::marker::Model;
 
+/// The components of a file's path, from the torrent's root down. Callers see it as this list.
 #[derive(Drop)]
 pub struct Path<'a> {
     parts: Vec<&'a str>,
@@ -16,18 +17,21 @@ impl<'a> Model for Path<'a> {
 }
 
 impl<'a> Path<'a> {
+    /// The path of these components.
     pub fn from_parts(parts: Vec<&'a str>) -> Path<'a>
         ensures { result ≡ map (λ s. s.now) parts.entry.items }
     {
         Path { parts }
     }
 
+    /// The components.
     pub fn parts(&self) -> &[&'a str]
         ensures { map (λ s. s.now) result.now ≡ self.now }
     {
         &self.parts
     }
 
+    /// The components, with the memory that holds them.
     pub fn into_parts(self) -> Vec<&'a str>
         ensures { map (λ s. s.now) result.items ≡ self.entry }
     {

@@ -8,8 +8,7 @@ ghost use Rattle.metainfo.specs.Places.{AreLaidOut, begins_in, place_from};
 ghost use Rattle.metainfo.specs.Seen.{file_entry};
 
 use crate::torrent::{File, Torrent};
-
-const BLOCK: u64 = 16384;
+use hashtree::BLOCK_LENGTH;
 
 /// How many files begin at this piece or before it, where first pieces ascend.
 fn begun(files: &[File<'_>], piece: u64) -> usize
@@ -37,11 +36,11 @@ fn block_at(file: &File<'_>, piece_length: u64, address: u64) -> Option<u64>
         then Some ((address - file.now.first_piece * piece_length) / 16384) else None) }
 {
     let start = file.first_piece * piece_length;
-    if address < start || (address - start) % BLOCK != 0 {
+    if address < start || (address - start) % BLOCK_LENGTH != 0 {
         return None;
     }
-    let block = (address - start) / BLOCK;
-    (block < file.length.div_ceil(BLOCK)).then_some(block)
+    let block = (address - start) / BLOCK_LENGTH;
+    (block < file.length.div_ceil(BLOCK_LENGTH)).then_some(block)
 }
 
 /// The file and block at this address.

@@ -5,15 +5,22 @@ ghost use Rattle.std.specs.Prelude.{◌≡◌};
 use benc::Fault;
 use std::alloc::{AllocError, AllocFailed};
 
-/// A key of a torrent file; `Top` stands for the file's top value itself.
+/// A key of a torrent file, which a refusal is about.
 #[derive(Clone, Copy, Debug, PartialEq, Eq)]
 pub enum Key {
+    /// No key: the file's top value itself.
     Top,
+    /// `info`, of the top value.
     Info,
+    /// `meta version`, of the info dictionary.
     MetaVersion,
+    /// `file tree`, of the info dictionary.
     FileTree,
+    /// `name`, of the info dictionary.
     Name,
+    /// `piece length`, of the info dictionary.
     PieceLength,
+    /// `piece layers`, of the top value.
     PieceLayers,
 }
 
@@ -81,9 +88,10 @@ pub enum Refusal {
     HybridPieces,
     /// Memory was refused.
     NoMemory,
-    /// The path is there already, or one of two paths is the beginning of the other.
+    /// The path is there already, or one of two paths is the beginning of the other. It is a draft's answer, and no call
+    /// gives it yet.
     PathClash,
-    /// The sink failed.
+    /// The sink failed. It is a draft's answer, and no call gives it yet.
     Write,
 }
 

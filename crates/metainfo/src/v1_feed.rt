@@ -1,6 +1,6 @@
 //! The version 1 stream of a hybrid, compared with its digests as its bytes come.
 
-ghost use Rattle.std.specs.Prelude.{◌≡◌, ℕ, ◌+◌, ◌-◌, ◌*◌, ◌^◌, ◌<◌, ◌≤◌, ◌++◌, [], List, length, take, replicate, slice_get, Some, IsTrue, ◌↔◌};
+ghost use Rattle.std.specs.Prelude.{◌≡◌, ℕ, ◌+◌, ◌-◌, ◌*◌, ◌^◌, ◌<◌, ◌≤◌, ◌++◌, [], List, length, take, replicate, slice_get, Some, None, is_some, true, IsTrue, ◌↔◌};
 ghost use Rattle.sha1.specs.Sha1.{Holds};
 ghost use Rattle.metainfo.specs.Cuts.{IsComparison, IsNext, cut_digests};
 
@@ -11,14 +11,15 @@ use std::mem;
 // How many zeros go into the stream at once.
 const ZEROS: usize = 16384;
 
-/// Compares the version 1 stream with the digests of its pieces, while the stream comes part by part.
+/// Compares the version 1 stream with the digests of its pieces, while the stream comes part by part. After the first bad
+/// cut it digests nothing more.
 #[derive(Drop)]
 pub struct V1Feed<'a> {
     pieces: &'a [[u8; 20]],
     piece_length: u64,
     // How many bytes of the stream are still to come.
     left: u64,
-    // The number of the running cut, and what it holds so far.
+    // The number of the running cut, and what it holds so far; nothing after a bad cut.
     cut: u64,
     filled: u64,
     hasher: Sha1,
@@ -72,6 +73,9 @@ impl<'a> V1Feed<'a> {
         let zeros = [0u8; ZEROS];
         let mut done = 0;
         'parts: while done < n {
+            if self.bad.is_some() {
+                return self.skip(n - done);
+            }
             let part = (n - done).min(ZEROS as u64);
             self.push(&zeros[..part as usize]);
             done += part;
@@ -102,15 +106,54 @@ impl<'a> V1Feed<'a> {
         ensures content { (pieces : List (List ℕ)) (piece_length : ℕ) (content : List ℕ) → IsFed self.old pieces piece_length content
             → IsFed self.new pieces piece_length (content ++ take result bytes.now) }
     {
+        self.make_room();
+        if self.bad.is_some() {
+            self.skip(bytes.len() as u64);
+            return bytes.len();
+        }
+        self.fill(bytes)
+    }
+
+    // Closes the running cut if it is full.
+    fn make_room(&mut self)
+        ensures room { room self.new ≡ room self.old }
+        ensures open { self.new.filled < self.new.piece_length }
+        ensures content { (pieces : List (List ℕ)) (piece_length : ℕ) (content : List ℕ) → IsFed self.old pieces piece_length content
+            → IsAt self.new pieces piece_length content }
+    {
         if self.filled == self.piece_length {
             self.close_cut();
         }
+    }
+
+    // Takes the first of these bytes into the running cut, as many as there is room for in it.
+    fn fill(&mut self, bytes: &[u8]) -> usize
+        requires some { 0 < length bytes.now }
+        requires room { length bytes.now ≤ room self.old }
+        requires open { self.old.filled < self.old.piece_length }
+        ensures some { 0 < result }
+        ensures bound { result ≤ length bytes.now }
+        ensures room { room self.new + result ≡ room self.old }
+        ensures content { (pieces : List (List ℕ)) (piece_length : ℕ) (content : List ℕ) → IsAt self.old pieces piece_length content
+            → self.old.bad ≡ None → IsFed self.new pieces piece_length (content ++ take result bytes.now) }
+    {
         let room = self.piece_length - self.filled;
         let taken = room.min(bytes.len() as u64);
         self.hasher.update(&bytes[..taken as usize]);
         self.left -= taken;
         self.filled += taken;
         taken as usize
+    }
+
+    // Counts this many bytes, after a bad cut.
+    fn skip(&mut self, n: u64)
+        requires bad { is_some self.old.bad ≡ true }
+        requires room { n ≤ room self.old }
+        ensures room { room self.new + n ≡ room self.old }
+        ensures content { (pieces : List (List ℕ)) (piece_length : ℕ) (content more : List ℕ) → IsAt self.old pieces piece_length content
+            → length more ≡ n → IsFed self.new pieces piece_length (content ++ more) }
+    {
+        self.left -= n;
     }
 
     // Compares the running cut with its digest, and begins the next.
@@ -123,7 +166,7 @@ impl<'a> V1Feed<'a> {
         ensures piece_length { self.new.piece_length ≡ self.old.piece_length }
         ensures hasher { Holds self.new.hasher [] }
         ensures bad { (pieces : List (List ℕ)) (piece_length : ℕ) (content : List ℕ) → IsAt self.old pieces piece_length content
-            → IsFirstBad piece_length pieces content self.new.cut self.new.bad }
+            → self.old.bad ≡ None → IsFirstBad piece_length pieces content self.new.cut self.new.bad }
     {
         let digest = mem::replace(&mut self.hasher, Sha1::new()).finalize();
         self.bad = first_bad(self.bad, self.pieces, self.cut, &digest);

@@ -1,4 +1,4 @@
-use Rattle.std.proofs.Common.{arith, ap, subst, ◌∙◌, ◌++◌, length, take}
+use Rattle.std.proofs.Common.{arith, ap, sym, subst, ◌∙◌, ◌++◌, length, take}
 use Rattle.std.proofs.lemmas.List.{take_rest, length-drop}
 use Rattle.hashtree.specs.Climb as root
 use Rattle.hashtree.specs.Fed.{IsFedLayer}
@@ -23,4 +23,5 @@ parts-preserved c =
           (c.take_part-taken.ensures.content (file ++ take start bytes) at.fed)
           (c.take_part-taken.ensures.completed (file ++ take start bytes) at.fed)
           c.in_ok-keep.ensures.builder c.in_ok-keep.ensures.layer c.in_ok-keep.ensures.ok);
+      works = λ refused. c.parts.invariant.works (sym c.in_ok-keep.ensures.again ∙ refused);
     }

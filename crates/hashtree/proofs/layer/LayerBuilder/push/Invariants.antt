@@ -1,5 +1,5 @@
 use Rattle.std.proofs.Common.{◌≡◌, ◌≤◌, ◌-◌, ◌+◌, ◌++◌, ℕ, List, length, take}
-use Rattle.hashtree.specs.Fed.{IsFedLayer, byte_count}
+use Rattle.hashtree.specs.Fed.{HasRefused, IsFedLayer, byte_count}
 use Rattle.hashtree.proofs.layer.LayerBuilder.push.Given as goal
 
 abbrev pub invariant-parts : goal.invariant-parts
@@ -8,6 +8,7 @@ invariant-parts l = record {
   count : byte_count l.self ≡ byte_count l.fn.self + l.start;
   layer : l.self.layer ≡ l.fn.self.layer;
   content : (file : List ℕ) → IsFedLayer l.fn.self file → IsFedLayer l.self (file ++ take l.start l.bytes);
+  works : HasRefused l.self → ⊥;
 }
 
 abbrev pub decreases-parts : goal.decreases-parts

@@ -1,13 +1,8 @@
-use Rattle.std.proofs.Common.{inl, inr, arith}
-use Rattle.benc.specs.View.{view}
-use Rattle.metainfo.proofs.Ascending.{layers_ascend}
+use Rattle.metainfo.proofs.Answering.{answers_first, opens_only}
 use Rattle.metainfo.proofs.torrent.Torrent.open.Goals as goal
 
-pub read-requires-clause-ascends : goal.read-requires-clause-ascends
-read-requires-clause-ascends c = layers_ascend (view c.in-Ok.decoded.0) c.args.input.now c.in-Ok.ensures.found
+pub returns-clause-only : goal.returns-clause-only
+returns-clause-only c = λ t. opens_only c.torrent_is_one.ensures c.torrent_is_not_refused.ensures c.args.input.now t c.opened.result c.opened.ensures.described c.opened.ensures.refused
 
-pub returns-in-Err-clause-refused : goal.returns-in-Err-clause-refused
-returns-in-Err-clause-refused c = λ memory. inr (
-  omega arith,
-  inl (c.in-Err.fault, c.in-Err.ensures.fault (λ is. memory (c.refused.ensures.memory is)), c.refused.ensures.other (λ is. memory (c.refused.ensures.memory is))),
-)
+pub returns-clause-first : goal.returns-clause-first
+returns-clause-first c = λ r. answers_first c.torrent_is_not_refused.ensures c.refusal_is_one.ensures c.args.input.now r c.opened.result c.opened.ensures.described c.opened.ensures.refused

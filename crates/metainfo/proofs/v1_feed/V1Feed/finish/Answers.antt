@@ -14,7 +14,8 @@ returns-then-self c = λ pieces n content fed.
       | else-self-gt0 w ↦ subst (λ s. IsWhole s pieces n content) (sym w.self-is)
           (whole_none c.args.self pieces n content fed (omega (arith, w.if-self-gt0.false)) c.args.self.some)
     ] in
-    difference_past n pieces content g.cut g.bad whole.all whole.bad_is (none_from g.bad c.if-is_none.ensures)
+    let none : g.bad ≡ None = none_from g.bad c.if-is_none.ensures in
+    difference_past n pieces content g.cut g.bad (whole.all none) whole.bad_is none
     (omega (arith, c.if-self.true, ap length whole.pieces_are))
 
 pub returns : goal.returns
@@ -31,4 +32,4 @@ returns c = λ pieces n content fed.
       | else-is_none-via-then-is_none+else-self w ↦ omega (arith, w.if-self.false, ap length whole.pieces_are)
       | else-is_none-via-else-is_none w ↦ absurd (some_from g.bad w.if-is_none.ensures none)
     ] in
-    comparison n pieces content g.cut g.bad whole.all whole.bad_is no_more
+    comparison n pieces content g.cut g.bad whole.within whole.all whole.bad_is no_more

@@ -1,20 +1,15 @@
-use Rattle.std.proofs.Common.{arith, rules, refl, drop, take, ◌*◌, ◌≡◌, ◌<◌, sym, subst, length}
-use Rattle.std.proofs.lemmas.List.{length-take}
-use Rattle.metainfo.specs.Feeding.{IsAt}
-use Rattle.metainfo.proofs.Fed.{at_closed, fed_more}
+use Rattle.std.proofs.Common.{refl, subst, sym, ◌++◌, length, arith}
+use Rattle.std.proofs.lemmas.List.{take_all}
+use Rattle.metainfo.specs.Feeding.{IsFed}
+use Rattle.metainfo.proofs.Comparing.{none_from}
 use Rattle.metainfo.proofs.v1_feed.V1Feed.take_part.Goals as goal
-use Rattle.metainfo.proofs.v1_feed.V1Feed.take_part.Goals.{then-self, else-self}
+
+pub returns-then-is_some-clause-content : goal.returns-then-is_some-clause-content
+returns-then-is_some-clause-content c = λ pieces n content fed.
+    let bytes = c.args.bytes.now in
+    subst (λ more. IsFed c.skip.new.self pieces n (content ++ more)) (sym (take_all (length bytes) bytes (omega arith)))
+    (c.skip.ensures.content pieces n content bytes (c.make_room.ensures.content pieces n content fed) refl)
 
 pub returns-clause-content : goal.returns-clause-content
 returns-clause-content c = λ pieces n content fed.
-    let f = c.args.self.now in
-    let at : IsAt c.if-self.self pieces n content = elim c.if-self.branch [
-      | then-self w ↦ subst (λ s. IsAt s pieces n content) (sym w.self-is)
-          (at_closed f w.close_cut.new.self pieces n content fed.at w.if-self.true w.close_cut.ensures.pieces w.close_cut.ensures.piece_length
-          w.close_cut.ensures.cut w.close_cut.ensures.empty w.close_cut.ensures.hasher (w.close_cut.ensures.bad pieces n content fed.at))
-      | else-self w ↦ subst (λ s. IsAt s pieces n content) (sym w.self-is) fed.at
-    ] in
-    let some : 0 < c.min-taken.result = search rules in
-    let all : length (take c.min-taken.result c.args.bytes.now) ≡ c.min-taken.result = omega (arith, length-take c.min-taken.result c.args.bytes.now, c.min-taken.ensures) in
-    fed_more c.if-self.self _ pieces n content (take c.min-taken.result c.args.bytes.now) at (omega arith) refl refl refl (omega arith) refl
-    (c.update.ensures (drop (n * c.if-self.self.cut) content) at.cut_held)
+    c.fill.ensures.content pieces n content (c.make_room.ensures.content pieces n content fed) (none_from c.make_room.new.self.bad (sym c.if-is_some.ensures))

@@ -1,6 +1,7 @@
-use Rattle.std.proofs.Common.{arith, ◌≤◌, replicate, subst, ◌++◌}
+use Rattle.std.proofs.Common.{arith, ◌≤◌, ◌-◌, ℕ, replicate, subst, ◌++◌}
+use Rattle.std.proofs.lemmas.List.{length-replicate}
 use Rattle.metainfo.specs.Feeding.{IsFed}
-use Rattle.metainfo.proofs.Fed.{zeros_more, length-zeros}
+use Rattle.metainfo.proofs.Fed.{length-zeros, zeros_more, zeros_rest}
 use Rattle.metainfo.proofs.v1_feed.V1Feed.zeros.Goals as goal
 
 pub parts-preserved : goal.parts-preserved
@@ -15,3 +16,11 @@ parts-preserved c =
           subst (IsFed c.push.new.self pieces n) (zeros_more content done part 16384 bound)
           (c.push.ensures.content pieces n (content ++ replicate done 0) (c.parts.invariant.content pieces n content fed));
     }
+
+pub returns-then-is_some-clause-content : goal.returns-then-is_some-clause-content
+returns-then-is_some-clause-content c = λ pieces n content fed.
+    let done = c.parts.done in
+    let rest = c.args.n - done in
+    subst (IsFed c.skip.new.self pieces n) (zeros_rest content done c.args.n c.parts.invariant.within)
+    (c.skip.ensures.content pieces n (content ++ replicate done 0) (replicate rest 0)
+    (c.parts.invariant.content pieces n content fed).at (length-replicate {A = ℕ} rest 0))
