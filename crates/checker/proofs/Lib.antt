@@ -12,5 +12,6 @@ pub mod Reports
 pub mod Layers
 pub mod Pieces
 pub mod Escapes
+pub mod Parts
 pub mod Replaying
 pub mod SafeSteps
