@@ -1,8 +1,8 @@
-use Rattle.std.proofs.Common.{◌≡◌, ◌∙◌, [], ◌∷◌, ◌++◌, map, not, take_all, ap, subst}
+use Rattle.std.proofs.Common.{◌∙◌, [], ◌∷◌, ◌++◌, map, not, take_all, ap, subst}
 use Rattle.std.proofs.lemmas.List.{map-append}
 use Rattle.checker.specs.MemShelf.{path_of}
 use Rattle.checker.specs.Shelf.{IsEachOnce, path_bytes}
-use Rattle.checker.proofs.Shelves.{each_once_none, listed_again, listed_push}
+use Rattle.checker.proofs.Shelves.{listed_again, listed_push}
 use Rattle.checker.proofs.mem_shelf.paths_of.Goals as goal
 use Rattle.checker.proofs.mem_shelf.paths_of.Goals.{then-is_none+in_ok-owned+in_ok-push, else-is_none}
 

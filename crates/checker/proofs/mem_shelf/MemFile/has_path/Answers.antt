@@ -1,4 +1,4 @@
-use Rattle.std.proofs.Common.{◌∙◌, ap, sym}
+use Rattle.std.proofs.Common.{◌∙◌}
 use Rattle.std.specs.Str.{bytes_eq}
 use Rattle.checker.proofs.Shelves.{pointwise_map}
 use Rattle.checker.proofs.mem_shelf.MemFile.has_path.Goals as goal
