@@ -180,7 +180,13 @@ def link_to_a_device(device):
 
 
 # Files that are no regular ones: to open a pipe waits for its other end, and one of these devices has no end.
-ODD_FILES = [replaced_by_a_pipe, replaced_by_a_socket, link_to_a_pipe, link_to_a_device("/dev/zero"), link_to_a_device("/dev/null")]
+ODD_FILES = [
+    replaced_by_a_pipe,
+    replaced_by_a_socket,
+    link_to_a_pipe,
+    link_to_a_device("/dev/zero"),
+    link_to_a_device("/dev/null"),
+]
 
 DAMAGES = [
     removed,

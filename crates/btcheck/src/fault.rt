@@ -6,7 +6,8 @@ use benc::FromWrite;
 use checker::{Fault, fault_line};
 use std::process::ExitCode;
 
-/// Prints the fault's line on standard error, and tells the exit status of a fault. A line that cannot be written is lost.
+/// Prints the fault's line on standard error, and tells the exit status of a fault. A line that cannot be written is
+/// lost.
 pub(crate) fn report(rt: &HostRuntime, fault: &Fault<'_>) -> ExitCode
     ensures { exit_status result ≡ 2 }
 {

@@ -6,7 +6,7 @@ use Rattle.benc.specs.Device.{AppendsBeginning, one_more}
 use Rattle.benc.proofs.Known.{Appends-append}
 use Rattle.benc.proofs.Out.{wrote_part, wrote_then}
 
--- all of a text but what is left of it went out, with no fault and no flush; a sink's members stand here by their values
+-- all of a text but what is left of it went out, with no fault and no flush; of a sink's members stand here the values
 abbrev pub Sent : Option (List ℕ) → Option (List ℕ) → ℕ → ℕ → ℕ → ℕ → List ℕ → List ℕ → Type 0
 Sent a b k m h i whole left = (sent : List ℕ) × (whole ≡ sent ++ left) × Appends a b sent × (m ≡ k) × (i ≡ h)
 

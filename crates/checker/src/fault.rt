@@ -33,8 +33,8 @@ impl<'a> From<AllocError> for Fault<'a> {
     }
 }
 
-/// Writes the line of a fault, with the path that it is about where there is one, and flushes. It takes no memory. After
-/// `WriteFault` a beginning of the line went out.
+/// Writes the line of a fault, with the path that it is about where there is one, and flushes. It takes no memory.
+/// After `WriteFault` a beginning of the line went out.
 pub fn fault_line<W: Sink>(fault: &Fault<'_>, out: &mut W) -> Result<(), WriteFault>
     ensures text { WroteAndFlushed W.written W.faults W.flushes out.old out.new result (fault_text fault.now) }
     ensures flushed { OnOk result (W.is_flushed out.new ≡ true) }
