@@ -32,8 +32,8 @@ pub record IsLayerOf (piece_length : ℕ) (e : TreeEntry) (layer : ℕ) (hashes 
   pub at_root : e.length ≤ piece_length → (layer ≡ height (block_count e.length)) × (hashes ≡ e.root ∷ [])
   pub at_pieces : piece_length < e.length → (layer ≡ piece_layer piece_length) × (hashes ≡ e.layer)
 
--- what a check of a file told of this content, which has the stated length: its root, and the first place of the compared
--- layer whose node is not the given hash
+-- what a check of a file told of this content, which has the stated length: its root, and the first place of the
+-- compared layer whose node is not the given hash
 pub record IsToldOf (piece_length : ℕ) (e : TreeEntry) (bytes : List ℕ) (root : List ℕ) (place : Option ℕ) : Type 0 where
   pub layer : ℕ
   pub hashes : List (List ℕ)
