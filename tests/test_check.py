@@ -3,6 +3,7 @@ import hashlib
 import os
 import random
 import shutil
+import stat
 
 import torrents
 from support import BTCHECK, escaped, expect, folder, made_by_libtorrent, run, write
@@ -92,8 +93,8 @@ def made_torrents(place, content, piece_lengths):
         yield order["torrent"], Torrent(files, order["piece_length"], order["hybrid"])
 
 
-def expect_report(path, torrent, place, states):
-    expect(run("check", path, place), *torrent.report(states))
+def expect_report(path, torrent, place, states, **options):
+    expect(run("check", path, place, **options), *torrent.report(states))
 
 
 def changed(*places):
@@ -151,6 +152,42 @@ def loop_of_links(path, content):
     return UNREADABLE
 
 
+def replaced_by_a_pipe(path, content):
+    os.remove(path)
+    os.mkfifo(path)
+    return UNREADABLE
+
+
+def replaced_by_a_socket(path, content):
+    os.remove(path)
+    os.mknod(path, stat.S_IFSOCK | 0o600)
+    return UNREADABLE
+
+
+def link_to_a_pipe(path, content):
+    os.remove(path)
+    os.mkfifo(f"{path}.copy")
+    os.symlink(f"{os.path.basename(path)}.copy", path)
+    return UNREADABLE
+
+
+def link_to_a_device(device):
+    def link(path, content):
+        os.remove(path)
+        os.symlink(device, path)
+        return UNREADABLE
+    return link
+
+
+# Files that are no regular ones: to open a pipe waits for its other end, and one of these devices has no end.
+ODD_FILES = [
+    replaced_by_a_pipe,
+    replaced_by_a_socket,
+    link_to_a_pipe,
+    link_to_a_device("/dev/zero"),
+    link_to_a_device("/dev/null"),
+]
+
 DAMAGES = [
     removed,
     rewritten(lambda content: content + b"\0"),
@@ -204,6 +241,20 @@ def test_several_damages():
                     clear(f"{content}/{name}")
                     clear(f"{content}/{name}.copy")
                     write(f"{content}/{name}", FILES[name])
+
+
+def test_what_is_no_regular_file():
+    with folder() as place:
+        content = make_folder(f"{place}/content", FILES)
+        for path, torrent in made_torrents(place, content, [32768]):
+            for odd in ODD_FILES:
+                for names in [[name] for name in FILES] + [FILES]:
+                    states = {name: odd(f"{content}/{name}", FILES[name]) for name in names}
+                    expect_report(path, torrent, content, states, timeout=10)
+                    for name in names:
+                        clear(f"{content}/{name}")
+                        clear(f"{content}/{name}.copy")
+                        write(f"{content}/{name}", FILES[name])
 
 
 def test_folders_on_the_way():

@@ -8,7 +8,10 @@ use std::alloc::{AllocError, Global};
 use std::fs::{self, DirEntry, File};
 use std::io::{self, ErrorKind};
 
-/// The files below a folder.
+/// The files below a folder. Opening follows symlinks, and fails at what is then no regular file.
+///
+/// It looks at what stands there before it opens it, so that it waits at no named pipe and reads no device. One that
+/// takes a file's place between the look and the opening is opened.
 #[derive(Drop)]
 pub(crate) struct Folder<'a> {
     rt: &'a HostRuntime,
@@ -46,11 +49,19 @@ impl<'a> Folder<'a> {
         if self.dir.is_empty() {
             return Ok(None);
         }
-        match File::open(self.rt, self.place_of(path)?) {
+        match self.open_regular(self.place_of(path)?.as_str()) {
             Ok(file) => Ok(Some(file)),
             Err(error) if error.kind() == ErrorKind::NotFound => Ok(None),
             Err(error) => Err(error),
         }
+    }
+
+    // Opens a regular file, and fails without opening where another kind stands there.
+    fn open_regular(&self, place: &str) -> io::Result<File> {
+        if !fs::metadata(self.rt, place)?.is_file() {
+            return Err(io::Error::from(ErrorKind::InvalidInput));
+        }
+        File::open(self.rt, place)
     }
 
     // Lists all files, folder by folder.

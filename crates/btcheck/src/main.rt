@@ -8,7 +8,8 @@ mod perform;
 mod torrent_file;
 mod words;
 
-use fault::Fault;
+use checker::Fault;
+use fault::report;
 use std::process::ExitCode;
 use std::{env, io};
 
@@ -25,7 +26,7 @@ fn run(rt: &HostRuntime, words: &[&str]) -> ExitCode {
     match words::action(rt.alloc(), words) {
         Ok(action) => match perform::perform(rt, &action) {
             Ok(status) => ExitCode::from(status),
-            Err(fault) => fault.report(rt),
+            Err(fault) => report(rt, &fault),
         },
         Err(error) => words::explain(rt, &error),
     }
@@ -34,7 +35,7 @@ fn run(rt: &HostRuntime, words: &[&str]) -> ExitCode {
 fn main(rt: HostRuntime) -> ExitCode {
     let words = match all_words(&rt) {
         Ok(words) => words,
-        Err(fault) => return fault.report(&rt),
+        Err(fault) => return report(&rt, &fault),
     };
     match words
         .iter()
@@ -42,6 +43,6 @@ fn main(rt: HostRuntime) -> ExitCode {
         .collect::<Vec<&str>>(rt.alloc())
     {
         Ok(texts) => run(&rt, texts.as_slice()),
-        Err(_) => Fault::NoMemory.report(&rt),
+        Err(_) => report(&rt, &Fault::NoMemory),
     }
 }

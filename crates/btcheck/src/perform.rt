@@ -2,11 +2,10 @@
 ghost use Rattle.std.specs.Prelude.{◌≡◌, if◌then◌else◌};
 
 use crate::command::Action;
-use crate::fault::Fault;
 use crate::folder::Folder;
 use crate::torrent_file::{read_torrent, refuse};
 use benc::{FromRead, FromWrite, Sink};
-use checker::{RootFault, print_report, root_line};
+use checker::{Fault, RootFault, print_report, root_line};
 use metainfo::Torrent;
 use session::{Flat, Session};
 use std::fs::File;

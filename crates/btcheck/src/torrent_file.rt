@@ -1,7 +1,6 @@
 //! A torrent file: its bytes, and what is printed where they are refused.
-use crate::fault::Fault;
 use benc::Sink;
-use checker::refusal_line;
+use checker::{Fault, refusal_line};
 use metainfo::Refusal;
 use std::fs::File;
 use std::io::{self, Read};

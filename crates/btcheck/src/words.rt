@@ -1,6 +1,7 @@
 //! The words of the command line, by `clap`.
 use crate::command::Action;
-use crate::fault::Fault;
+use crate::fault::report;
+use checker::Fault;
 use clap::error::ErrorKind;
 use clap::{Arg, ArgAction, ArgMatches, Command, Error};
 use std::alloc::Global;
@@ -118,10 +119,10 @@ pub(crate) fn action<'a>(alloc: Global, words: &'a [&'a str]) -> Result<Action<'
 /// Prints why the words were refused, or the help that they ask for, and tells the exit status.
 pub(crate) fn explain(rt: &HostRuntime, error: &Error) -> ExitCode {
     if error.kind() == ErrorKind::OutOfMemory {
-        return Fault::NoMemory.report(rt);
+        return report(rt, &Fault::NoMemory);
     }
     match error.print(rt) {
-        Err(_) if !error.use_stderr() => Fault::Write("-").report(rt),
+        Err(_) if !error.use_stderr() => report(rt, &Fault::Write("-")),
         _ => ExitCode::from(if error.use_stderr() { 2 } else { 0 }),
     }
 }

@@ -12,4 +12,5 @@ pub mod Reports
 pub mod Layers
 pub mod Pieces
 pub mod Escapes
+pub mod Parts
 pub mod Replaying

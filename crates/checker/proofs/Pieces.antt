@@ -16,7 +16,7 @@ use Rattle.hashtree.specs.declared.check.PieceCheck.{PieceCheck}
 use Rattle.metainfo.specs.Description.{Description, FileEntry, TreeEntry}
 use Rattle.metainfo.specs.Sound.{IsSound, IsSoundTree, piece_layer}
 use Rattle.checker.specs.declared.stream.Running.{Running}
-use Rattle.checker.specs.Content.{HasPlaceFor, HasRead, IsLayerOf, IsRead, part_of}
+use Rattle.checker.specs.Content.{HasPlaceFor, HasRead, IsLayerOf, IsRead, IsToldOf, part_of}
 use Rattle.checker.specs.Folder.{IsLegal, start_of, tree_of}
 use Rattle.checker.specs.Pass.{IsOpenedVerdict}
 use Rattle.checker.specs.Streaming.{HasRoom, StandsAt, Takes}
@@ -105,6 +105,13 @@ few_nodes bytes layer =
           absurd (omega (arith, low, big, over, some))
     ]
 
+-- the stream is filled up to the start of a file
+pub filled_to : (first pl actual : ℕ) (old new : Option Running) → pl ≡ actual
+    → ((from : ℕ) → StandsAt old from → from ≤ first * pl → Takes old new (replicate (first * pl - from) 0))
+    → (from : ℕ) → StandsAt old from → from ≤ first * actual → Takes old new (replicate (first * actual - from) 0)
+filled_to first pl actual old new is fill =
+    subst (λ p. (from : ℕ) → StandsAt old from → from ≤ first * p → Takes old new (replicate (first * p - from) 0)) is fill
+
 -- there is room for the file, once the stream is at its start
 pub filled_room : (old new : Option Running) (start len : ℕ) → HasPlaceFor old start len
     → ((from : ℕ) → StandsAt old from → from ≤ start → Takes old new (replicate (start - from) 0)) → HasRoom new len
@@ -153,20 +160,12 @@ opened t f left_old left_new old mid new before after v read ended some fill rea
   };
 }
 
--- what the check was given, and what it told at the end
-pub record IsFinished (pl : ℕ) (e : TreeEntry) (bytes : List ℕ) (root : List ℕ) (place : Option ℕ) : Type 0 where
-  pub layer : ℕ
-  pub hashes : List (List ℕ)
-  pub of : IsLayerOf pl e layer hashes
-  pub length_is : length bytes ≡ e.length
-  pub root_is : root ≡ root_of bytes
-  pub other : IsFirstOther (layer_of bytes layer) hashes place
-
+-- what the check told at the end
 pub finished : (pl actual len : ℕ) (e : TreeEntry) (left_old left_new : Option (List ℕ)) (stream_old stream_new : Option Running) (old new : PieceCheck) (told : ℕ) (root : List ℕ) (place : Option ℕ)
     → (read : HasRead left_old left_new len old new stream_old stream_new) → e.length ≡ len → pl ≡ actual
     → IsLayerOf pl e (chosen_layer old) (given_hashes old) → IsFedCheck old []
     → ((file : List ℕ) → IsFedCheck new file → (told ≡ length file) × (root ≡ root_of file) × IsFirstOther (layer_of file (chosen_layer new)) (given_hashes new) place)
-    → IsFinished actual e read.bytes root place
+    → IsToldOf actual e read.bytes root place
 finished pl actual len e left_old left_new stream_old stream_new old new told root place read same is of fresh finish =
     let end = finish read.bytes (read.fed [] fresh) in
     record {
@@ -182,19 +181,19 @@ finished pl actual len e left_old left_new stream_old stream_new old new told ro
     }
 
 -- a place was told, or the root is the tree's
-pub root_or_place : (pl : ℕ) (e : TreeEntry) (bytes root : List ℕ) → IsFinished pl e bytes root None → IsSoundTree pl e → root ≡ e.root
+pub root_or_place : (pl : ℕ) (e : TreeEntry) (bytes root : List ℕ) → IsToldOf pl e bytes root None → IsSoundTree pl e → root ≡ e.root
 root_or_place pl e bytes root end sound = end.root_is ∙ same_root pl e end.layer end.hashes bytes end.of sound end.length_is end.other
 
-pub place_is_small : (pl : ℕ) (e : TreeEntry) (bytes root : List ℕ) (k : ℕ) → IsFinished pl e bytes root (Some k) → e.length ≤ 2 ^ 46 → k < 2 ^ 33
+pub place_is_small : (pl : ℕ) (e : TreeEntry) (bytes root : List ℕ) (k : ℕ) → IsToldOf pl e bytes root (Some k) → e.length ≤ 2 ^ 46 → k < 2 ^ 33
 place_is_small pl e bytes root k end bound = omega (arith, end.other.0, few_nodes bytes end.layer, end.length_is)
 
 pub good_tree : (t : Description) (f : FileEntry) (e : TreeEntry) (bytes root : List ℕ) (place : Option ℕ) → tree_of t f ≡ Some e → 0 < f.length
-    → IsFinished t.piece_length e bytes root place → root ≡ e.root → IsVerdict t f (Some bytes) file.Good
+    → IsToldOf t.piece_length e bytes root place → root ≡ e.root → IsVerdict t f (Some bytes) file.Good
 good_tree t f e bytes root place found some end is =
     (bytes, refl, record { empty = λ none. absurd (omega arith); fits = λ _. (e, found, record { length_is = end.length_is; root_is = sym end.root_is ∙ is }) })
 
 pub bad_tree : (t : Description) (f : FileEntry) (e : TreeEntry) (bytes root : List ℕ) (k : ℕ) → IsSound t → tree_of t f ≡ Some e → e.length ≡ f.length
-    → IsSoundTree t.piece_length e → IsFinished t.piece_length e bytes root (Some k) → (root ≡ e.root → ⊥) → IsVerdict t f (Some bytes) (file.Bad (f.first_piece + k))
+    → IsSoundTree t.piece_length e → IsToldOf t.piece_length e bytes root (Some k) → (root ≡ e.root → ⊥) → IsVerdict t f (Some bytes) (file.Bad (f.first_piece + k))
 bad_tree t f e bytes root k sound found same tree end differs = (
   bytes,
   refl,

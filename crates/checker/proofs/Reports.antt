@@ -12,7 +12,7 @@ use Rattle.checker.specs.declared.report.V1Verdict.{V1Verdict}
 use Rattle.checker.specs.declared.report.V1Verdict.TheVariants as version1
 use Rattle.checker.specs.declared.stream.Running.{Running}
 use Rattle.checker.specs.Compared.{IsChecked}
-use Rattle.checker.specs.Folder.{Contents, GoodFolder, IsGood, V1Good, tree_of}
+use Rattle.checker.specs.Folder.{Contents, GoodFolder, IsGood, IsStream, V1Good, tree_of}
 use Rattle.checker.specs.Streaming.{EndsAt, IsGiven, StandsAt}
 use Rattle.checker.specs.Verdicts.{HasVerdicts, IsBad, IsV1Verdict, IsVerdict, TellsContents, fault_count, is_checked, is_good, is_unreadable, is_whole, is_yes, stream_is_good, unreadable_count}
 use Rattle.checker.proofs.Beginnings.{beginning_all, IsBeginning}
@@ -175,24 +175,30 @@ good_is_enough t contents files v1 sound has tells good none =
 
 -- ---- at the end of a check
 
+-- comparing the stream, filled up with zeros to its end, told this
+abbrev IsCompared : Option Running → V1Verdict → Type 0
+IsCompared running verdict =
+    (from total : ℕ) (pieces : List (List ℕ)) (piece_length : ℕ) (content : List ℕ) → StandsAt running from → EndsAt running total
+    → IsGiven running pieces piece_length content → IsChecked (cut_digests piece_length (content ++ replicate (total - from) 0)) pieces verdict
+
+-- the stream, once all files have passed whole, and what comparing it told
+compared_stream : (t : Description) (contents : Contents) (n : ℕ) (files : List FileVerdict) (running : Option Running) (v : Version1) (verdict : V1Verdict)
+    → n ≡ length t.files → IsPassed t n files running → IsTold t contents n files running → t.v1 ≡ Some v → is_some running ≡ true → IsCompared running verdict
+    → (stream : List ℕ) × IsStream t contents v.total stream × IsChecked (cut_digests t.piece_length stream) v.pieces verdict
+compared_stream t contents n files running v verdict all passed told hybrid on compared =
+    let given = told.stream v hybrid on in (
+      given.0 ++ replicate (v.total - length given.0) 0,
+      beginning_all t contents given.0 v.total (subst (λ k. IsBeginning t contents k given.0) all given.3)
+          (stands_within running (length given.0) v.total on given.1 (passed.ends v hybrid)),
+      compared (length given.0) v.total v.pieces t.piece_length given.0 given.1 (passed.ends v hybrid) given.2,
+    )
+
 -- the verdict on the version 1 stream, once all files have passed
 pub stream_told : (t : Description) (contents : Contents) (n : ℕ) (files : List FileVerdict) (running : Option Running) (v : Version1) (verdict : V1Verdict)
     → n ≡ length t.files → IsPassed t n files running → IsTold t contents n files running → t.v1 ≡ Some v → is_checked verdict ≡ is_some running
-    → ((from total : ℕ) (pieces : List (List ℕ)) (piece_length : ℕ) (content : List ℕ) → StandsAt running from → EndsAt running total
-    → IsGiven running pieces piece_length content → IsChecked (cut_digests piece_length (content ++ replicate (total - from) 0)) pieces verdict)
-    → IsV1Verdict t v contents verdict
+    → IsCompared running verdict → IsV1Verdict t v contents verdict
 stream_told t contents n files running v version1.NotChecked all passed told hybrid checked compared = tt
 stream_told t contents n files running v version1.Good all passed told hybrid checked compared =
-    let given = told.stream v hybrid (sym checked) in (
-      given.0 ++ replicate (v.total - length given.0) 0,
-      beginning_all t contents given.0 v.total (subst (λ k. IsBeginning t contents k given.0) all given.3)
-          (stands_within running (length given.0) v.total (sym checked) given.1 (passed.ends v hybrid)),
-      compared (length given.0) v.total v.pieces t.piece_length given.0 given.1 (passed.ends v hybrid) given.2,
-    )
+    compared_stream t contents n files running v version1.Good all passed told hybrid (sym checked) compared
 stream_told t contents n files running v (version1.Bad i) all passed told hybrid checked compared =
-    let given = told.stream v hybrid (sym checked) in (
-      given.0 ++ replicate (v.total - length given.0) 0,
-      beginning_all t contents given.0 v.total (subst (λ k. IsBeginning t contents k given.0) all given.3)
-          (stands_within running (length given.0) v.total (sym checked) given.1 (passed.ends v hybrid)),
-      compared (length given.0) v.total v.pieces t.piece_length given.0 given.1 (passed.ends v hybrid) given.2,
-    )
+    compared_stream t contents n files running v (version1.Bad i) all passed told hybrid (sym checked) compared

@@ -1,7 +1,8 @@
 -- What reading a file's content told.
 use Rattle.std.specs.Prelude.{◌≡◌, ◌≢◌, ℕ, ◌+◌, ◌-◌, ◌<◌, ◌≤◌, List, [], ◌∷◌, ◌++◌, length, replicate, Bool, true, false, Option, Some, None, ⊤}
 use Rattle.std.specs.Io.KnownBytes.{Consumes, IsAtEnd}
-use Rattle.hashtree.specs.Tree.{block_count, height}
+use Rattle.hashtree.specs.Tree.{block_count, height, layer_of, root_of}
+use Rattle.hashtree.specs.Other.{IsFirstOther}
 use Rattle.hashtree.specs.Checked.{IsFedCheck, byte_count, chosen_layer, chosen_shape, given_hashes}
 use Rattle.hashtree.specs.declared.check.PieceCheck.{PieceCheck}
 use Rattle.metainfo.specs.Description.{TreeEntry}
@@ -30,6 +31,16 @@ IsRead left_old left_new len old new stream_old stream_new false = (file : List 
 pub record IsLayerOf (piece_length : ℕ) (e : TreeEntry) (layer : ℕ) (hashes : List (List ℕ)) : Type 0 where
   pub at_root : e.length ≤ piece_length → (layer ≡ height (block_count e.length)) × (hashes ≡ e.root ∷ [])
   pub at_pieces : piece_length < e.length → (layer ≡ piece_layer piece_length) × (hashes ≡ e.layer)
+
+-- what a check of a file told of this content, which has the stated length: its root, and the first place of the
+-- compared layer whose node is not the given hash
+pub record IsToldOf (piece_length : ℕ) (e : TreeEntry) (bytes : List ℕ) (root : List ℕ) (place : Option ℕ) : Type 0 where
+  pub layer : ℕ
+  pub hashes : List (List ℕ)
+  pub of : IsLayerOf piece_length e layer hashes
+  pub length_is : length bytes ≡ e.length
+  pub root_is : root ≡ root_of bytes
+  pub other : IsFirstOther (layer_of bytes layer) hashes place
 
 -- the part of the version 1 stream from one place on that ends with a file which starts at another: zeros up to there
 -- and the file; an empty file has no part

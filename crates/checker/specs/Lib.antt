@@ -11,6 +11,7 @@ pub mod Content
 pub mod Pass
 pub mod Text
 pub mod Refused
+pub mod Fault
 pub mod Show
 pub mod ReplayLines
 pub mod Outcome

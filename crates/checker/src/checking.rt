@@ -4,18 +4,18 @@ ghost use Rattle.benc.specs.Device.{CountsFault};
 ghost use Rattle.hashtree.specs.Checked.{IsFedCheck, byte_count, chosen_layer, chosen_shape, given_hashes};
 ghost use Rattle.metainfo.specs.Seen.{file_entry, tree_entry};
 ghost use Rattle.metainfo.specs.Sound.{IsSoundTree};
-ghost use Rattle.checker.specs.Content.{HasPlaceFor, IsLayerOf, IsRead};
+ghost use Rattle.checker.specs.Content.{HasPlaceFor, IsLayerOf, IsRead, IsToldOf};
 ghost use Rattle.checker.specs.Folder.{Contents, GoodFolder, IsLegal, start_of, tree_of};
 ghost use Rattle.checker.specs.Pass.{IsOpenedVerdict, IsPart};
 ghost use Rattle.checker.specs.Shelf.{GrowsBy, more};
 ghost use Rattle.checker.specs.Streaming.{HasRoom};
-ghost use Rattle.checker.specs.Verdicts.{HasVerdicts, IsFileOf, IsVerdict, TellsContents, fault_count, is_whole, is_yes, unreadable_count};
+ghost use Rattle.checker.specs.Verdicts.{HasVerdicts, IsFileOf, IsVerdict, TellsContents, fault_count, is_unreadable, is_whole, is_yes, unreadable_count};
 
 use crate::report::{FileVerdict, Report};
 use crate::shelf::Shelf;
 use crate::stream::Stream;
 use benc::{DeviceFault, Source};
-use hashtree::{PieceCheck, Shape};
+use hashtree::{Hash, PieceCheck, Shape};
 use metainfo::{File, Torrent, TreeInfo};
 use std::alloc::{AllocError, Global};
 use std::slice;
@@ -134,11 +134,30 @@ fn check_tree<F: Source>(
         return Ok(FileVerdict::WrongLength);
     }
     let (_, root, place) = pieces.finish();
-    if root == tree.root {
-        return Ok(FileVerdict::Good);
+    Ok(tree_verdict(&root, place, torrent, file, tree))
+}
+
+// The verdict on a content of the stated length, of which a check told this root and this first place.
+fn tree_verdict(
+    root: &Hash,
+    place: Option<u64>,
+    torrent: &Torrent<'_>,
+    file: &File<'_>,
+    tree: &TreeInfo<'_>,
+) -> FileVerdict
+    requires file { IsFileOf torrent.now (file_entry file.now) }
+    requires tree { tree_of torrent.now (file_entry file.now) ≡ Some (tree_entry tree.now) }
+    requires told { (bytes : List ℕ) × IsToldOf torrent.now.piece_length (tree_entry tree.now) bytes root.now place }
+    ensures readable { is_unreadable result ≡ false }
+    ensures verdict { (bytes : List ℕ) → IsToldOf torrent.now.piece_length (tree_entry tree.now) bytes root.now place
+        → IsVerdict torrent.now (file_entry file.now) (Some bytes) result }
+{
+    torrent.sound();
+    if *root == tree.root {
+        return FileVerdict::Good;
     }
     match place {
-        Some(place) => Ok(FileVerdict::Bad(file.first_piece + place)),
+        Some(place) => FileVerdict::Bad(file.first_piece + place),
         None => unreachable!(),
     }
 }

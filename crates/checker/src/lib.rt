@@ -3,6 +3,7 @@
 
 mod checking;
 mod ending;
+mod fault;
 mod frame_line;
 mod line;
 mod listing;
@@ -21,6 +22,7 @@ mod told;
 
 pub use checking::check;
 pub use ending::Ending;
+pub use fault::{Fault, fault_line};
 pub use listing::show;
 pub use mem_shelf::{MemFile, MemShelf};
 pub use outcome::Outcome;

@@ -1,4 +1,4 @@
-use Rattle.std.proofs.Common.{◌≡◌, ◌+◌, ◌%◌, ◌^◌, ◌<◌, ◌∙◌, ap, sym, arith}
+use Rattle.std.proofs.Common.{◌+◌, ◌%◌, ◌^◌, ◌<◌, ◌∙◌, ap, sym, arith}
 use Rattle.checker.proofs.Counts.{more_is}
 use Rattle.btcheck.proofs.folder.FolderShelf.close.Goals as goal
 
