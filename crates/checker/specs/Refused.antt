@@ -1,23 +1,10 @@
 -- The line of a refusal; 32 is a space.
 use Rattle.std.specs.Prelude.{ℕ, List, [], ◌∷◌, ◌++◌, codes, decimal}
-use Rattle.benc.specs.declared.fault.FaultKind.{FaultKind}
-use Rattle.benc.specs.declared.fault.FaultKind.TheVariants as kinds
+use Rattle.benc.specs.Messages.{kind_name}
 use Rattle.metainfo.specs.declared.refusal.Refusal.{Refusal}
 use Rattle.metainfo.specs.declared.refusal.Refusal.TheVariants as refusals
 use Rattle.metainfo.specs.Names.{key_text, refusal_name, refusal_number}
 use Rattle.checker.specs.Text.{path_text}
-
--- the name under which a fault of bencoding is printed
-abbrev pub kind_name : FaultKind → List ℕ
-kind_name kinds.Truncated = codes "Truncated"
-kind_name kinds.BadStart = codes "BadStart"
-kind_name kinds.BadInteger = codes "BadInteger"
-kind_name kinds.IntegerRange = codes "IntegerRange"
-kind_name kinds.BadLength = codes "BadLength"
-kind_name kinds.KeyOrder = codes "KeyOrder"
-kind_name kinds.Trailing = codes "Trailing"
-kind_name kinds.TooDeep = codes "TooDeep"
-kind_name kinds.NoMemory = codes "NoMemory"
 
 -- what is told beside the name: of bytes that spell no value the first fault and its offset, of a key the key
 abbrev pub detail_text : Refusal → List ℕ

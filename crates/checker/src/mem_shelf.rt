@@ -1,12 +1,11 @@
 //! A shelf over memory, for tests: it counts its openings, and fails at a set call.
 ghost use Rattle.std.specs.Prelude.{◌≡◌, ℕ, ◌<◌, List, [], map, Some, option_map, IfOk, true, false};
-ghost use Rattle.benc.specs.Device.{CountsFault};
 ghost use Rattle.checker.specs.MemShelf.{first_with, path_of};
 ghost use Rattle.checker.specs.Shelf.{IsEachOnce, is_path, path_bytes};
 
 use crate::shelf::Shelf;
 use crate::shelf_fault::ShelfFault;
-use benc::{DeviceFault, MemSource, Source};
+use benc::{Calls, DeviceFault, MemSource, Source};
 use std::alloc::{AllocError, Global};
 
 /// A file of a shelf in memory.
@@ -100,9 +99,8 @@ pub struct MemShelf<'a> {
     has_odd_name: bool,
     specials: &'a [&'a [&'a str]],
     at_most: usize,
-    before_fault: Option<u64>,
+    calls: Calls,
     opened: u64,
-    faults: u64,
     ghost some: { 0 < at_most },
 }
 
@@ -123,9 +121,8 @@ impl<'a> MemShelf<'a> {
             has_odd_name: false,
             specials: &[],
             at_most: usize::MAX,
-            before_fault: None,
+            calls: Calls::that_succeed(),
             opened: 0,
-            faults: 0,
         }
     }
 
@@ -153,9 +150,8 @@ impl<'a> MemShelf<'a> {
             has_odd_name: self.has_odd_name,
             specials: paths,
             at_most: self.at_most,
-            before_fault: self.before_fault,
+            calls: self.calls,
             opened: self.opened,
-            faults: self.faults,
         }
     }
 
@@ -174,13 +170,13 @@ impl<'a> MemShelf<'a> {
 
     /// So many further calls of `list` and `open` succeed, and the one after them fails. Later ones succeed.
     pub fn fails_after(mut self, calls: u64) -> MemShelf<'a>
-        ensures fails { result.before_fault ≡ Some calls }
+        ensures fails { result.calls.before_fault ≡ Some calls }
         ensures contents { (p : List (List ℕ)) → ⟦<MemShelf<'a> as Shelf>⟧.under result p ≡ ⟦<MemShelf<'a> as Shelf>⟧.under self.entry p }
         ensures listing { ⟦<MemShelf<'a> as Shelf>⟧.listing result ≡ ⟦<MemShelf<'a> as Shelf>⟧.listing self.entry }
         ensures openings { ⟦<MemShelf<'a> as Shelf>⟧.openings result ≡ ⟦<MemShelf<'a> as Shelf>⟧.openings self.entry }
         ensures faults { ⟦<MemShelf<'a> as Shelf>⟧.faults result ≡ ⟦<MemShelf<'a> as Shelf>⟧.faults self.entry }
     {
-        self.before_fault = Some(calls);
+        self.calls.fail_after(calls);
         self
     }
 
@@ -189,28 +185,6 @@ impl<'a> MemShelf<'a> {
         ensures { ⟦<MemShelf<'a> as Shelf>⟧.openings self.now ≡ Some result }
     {
         self.opened
-    }
-
-    // Counts a call, and fails where it is the one that is to.
-    fn next_call(&mut self) -> Result<(), DeviceFault>
-        ensures counts { CountsFault self.old.faults self.new.faults result }
-        ensures files { self.new.files ≡ self.old.files }
-        ensures has_odd_name { self.new.has_odd_name ≡ self.old.has_odd_name }
-        ensures specials { self.new.specials ≡ self.old.specials }
-        ensures opened { self.new.opened ≡ self.old.opened }
-    {
-        match self.before_fault {
-            Some(0) => {
-                self.before_fault = None;
-                self.faults = self.faults.wrapping_add(1);
-                Err(DeviceFault)
-            }
-            Some(calls) => {
-                self.before_fault = Some(calls - 1);
-                Ok(())
-            }
-            None => Ok(()),
-        }
     }
 }
 
@@ -225,10 +199,10 @@ impl<'a> Shelf for MemShelf<'a> {
 
     ghost openings = { λ s. Some s.opened };
 
-    ghost faults = { λ s. s.faults };
+    ghost faults = { λ s. s.calls.faults };
 
     fn list(&mut self) -> Result<Vec<Vec<String>>, ShelfFault> {
-        if self.next_call().is_err() {
+        if self.calls.next().is_err() {
             return Err(ShelfFault::Device);
         }
         if self.has_odd_name {
@@ -242,7 +216,7 @@ impl<'a> Shelf for MemShelf<'a> {
 
     fn open(&mut self, path: &[&str]) -> Result<Option<MemSource<'a>>, DeviceFault> {
         self.opened = self.opened.wrapping_add(1);
-        self.next_call()?;
+        self.calls.next()?;
         match find(self.files, path) {
             Some(file) => Ok(Some(file.source(self.at_most))),
             None => Ok(None),
@@ -250,11 +224,11 @@ impl<'a> Shelf for MemShelf<'a> {
     }
 
     fn close(&mut self, file: MemSource<'a>) {
-        self.faults = self.faults.wrapping_add(file.failures());
+        self.calls.faults = self.calls.faults.wrapping_add(file.failures());
     }
 
     fn failures(&self) -> u64 {
-        self.faults
+        self.calls.faults
     }
 }
 

@@ -2,11 +2,11 @@
 ghost use Rattle.std.specs.Prelude.{◌≡◌, ◌≢◌, ◌+◌, ◌++◌, ◌∷◌, ◌≤◌, length, map, OnOk, string_bytes, true};
 ghost use Rattle.benc.specs.Device.{Wrote, WroteAndFlushed};
 ghost use Rattle.metainfo.specs.Names.{refusal_number};
-ghost use Rattle.checker.specs.Refused.{detail_text, kind_name, path_part, refusal_head, refusal_text};
+ghost use Rattle.checker.specs.Refused.{detail_text, path_part, refusal_head, refusal_text};
 
 use crate::line::Line;
 use crate::text::{flush_after, write_path, write_text};
-use benc::{DeviceFault, FaultKind, Sink, WriteFault};
+use benc::{DeviceFault, Sink, WriteFault};
 use metainfo::Refusal;
 
 /// Writes the line of a refusal, with the path of the file that it is about where there is one, and flushes. It takes no
@@ -52,7 +52,7 @@ fn told(r: &Refusal) -> Line
     let mut line = head(r);
     match r {
         Refusal::NotBencode(fault) => {
-            put_word(&mut line, kind_text(fault.kind));
+            put_word(&mut line, fault.kind.name());
             line.put(b" ");
             line.put_number(fault.offset as u64);
         }
@@ -82,21 +82,4 @@ fn put_word(line: &mut Line, word: &str)
 {
     line.put(b" ");
     line.put(word.as_bytes());
-}
-
-// The name under which a fault of bencoding is printed.
-fn kind_text(kind: FaultKind) -> &'static str
-    ensures { result.now ≡ kind_name kind }
-{
-    match kind {
-        FaultKind::Truncated => "Truncated",
-        FaultKind::BadStart => "BadStart",
-        FaultKind::BadInteger => "BadInteger",
-        FaultKind::IntegerRange => "IntegerRange",
-        FaultKind::BadLength => "BadLength",
-        FaultKind::KeyOrder => "KeyOrder",
-        FaultKind::Trailing => "Trailing",
-        FaultKind::TooDeep => "TooDeep",
-        FaultKind::NoMemory => "NoMemory",
-    }
 }

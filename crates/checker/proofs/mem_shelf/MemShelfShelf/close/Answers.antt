@@ -4,6 +4,6 @@ use Rattle.checker.proofs.mem_shelf.MemShelfShelf.close.Goals as goal
 
 pub returns-clause-counts : goal.returns-clause-counts
 returns-clause-counts c =
-    let fits : c.args.self.now.faults < 2 ^ 64 = omega arith in
-    ap (λ n. (c.args.self.now.faults + n) % 2 ^ 64) c.failures.ensures
-    ∙ sym (more_is c.args.self.now.faults c.args.file.calls.faults fits)
+    let fits : c.args.self.now.calls.faults < 2 ^ 64 = omega arith in
+    ap (λ n. (c.args.self.now.calls.faults + n) % 2 ^ 64) c.failures.ensures
+    ∙ sym (more_is c.args.self.now.calls.faults c.args.file.calls.faults fits)

@@ -7,14 +7,12 @@ use Rattle.checker.proofs.mem_shelf.MemShelfShelf.list.Goals as goal
 
 pub returns-in_ok-owned-in-Some-clause-listed : goal.returns-in_ok-owned-in-Some-clause-listed
 returns-in_ok-owned-in-Some-clause-listed c =
-    subst (λ s. list_any (is_path (path_bytes c.in_ok-owned-in-Some.field-0)) (map (λ p. map (λ part. part.now) p.now) s.now) ≡ true) c.next_call.ensures.specials
-    (first_is_there (λ p. map (λ part. part.now) p.now) c.next_call.new.self.specials.now c.in-Some.path.now (path_bytes c.in_ok-owned-in-Some.field-0)
-    c.in-Some.ensures.value c.in_ok-owned-in-Some.ensures)
+    first_is_there (λ p. map (λ part. part.now) p.now) c.args.self.now.specials.now c.in-Some.path.now (path_bytes c.in_ok-owned-in-Some.field-0)
+    c.in-Some.ensures.value c.in_ok-owned-in-Some.ensures
 
 pub returns-in_ok-paths_of-in-None-clause-listed : goal.returns-in_ok-paths_of-in-None-clause-listed
 returns-in_ok-paths_of-in-None-clause-listed c = (
-  sym c.next_call.ensures.has_odd_name ∙ c.if-self.false,
-  subst (λ s. map (λ p. map (λ part. part.now) p.now) s.now ≡ []) c.next_call.ensures.specials
-      (none_without_first (λ p. map (λ part. part.now) p.now) c.next_call.new.self.specials.now c.in-None.ensures.value),
-  subst (λ f. IsEachOnce (map path_of f.now) (map path_bytes c.in_ok-paths_of-in-None.field-0.items)) c.next_call.ensures.files c.in_ok-paths_of-in-None.ensures,
+  c.if-self.false,
+  none_without_first (λ p. map (λ part. part.now) p.now) c.args.self.now.specials.now c.in-None.ensures.value,
+  c.in_ok-paths_of-in-None.ensures,
 )
