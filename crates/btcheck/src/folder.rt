@@ -22,7 +22,8 @@ pub(crate) struct Folder<'a> {
 impl<'a> Folder<'a> {
     /// The folder with this path. It need not be there.
     pub(crate) fn new(rt: &'a HostRuntime, dir: &'a str) -> Folder<'a>
-        ensures { result.faults ≡ 0 }
+        ensures dir { result.dir.now ≡ dir.entry.now }
+        ensures faults { result.faults ≡ 0 }
     {
         Folder { rt, dir, faults: 0 }
     }
