@@ -76,7 +76,7 @@ def measure(command):
     """Wall seconds, processor seconds and the largest resident set in KiB of one run."""
     start = time.monotonic()
     child = subprocess.Popen(command, stdout=subprocess.DEVNULL)
-    peak = 0
+    peak = resident_peak(child.pid)
     while True:
         pid, status, usage = os.wait4(child.pid, os.WNOHANG)
         if pid:
