@@ -174,16 +174,18 @@ described_by v =
       info_hash_v2 = sha256 (spelling info);
       info_hash_v1 = sha1 (spelling info);
       v1 = if is_hybrid info then Some (version1_of p (parts_of_torrent v) info) else None;
-    } in
-    (t, record {
-      name = refl;
-      piece_length = refl;
-      files = are_files p fs _ refl;
-      trees = refl;
-      info_hash_v2 = refl;
-      info_hash_v1 = refl;
-      v1 = refl;
-    })
+    } in (
+      t,
+      record {
+        name = refl;
+        piece_length = refl;
+        files = are_files p fs _ refl;
+        trees = refl;
+        info_hash_v2 = refl;
+        info_hash_v1 = refl;
+        v1 = refl;
+      },
+    )
 
 -- bytes that spell a value describe a torrent, or are refused
 value_told : (b : List ℕ) (v : Bencode) → length b ≤ max_torrent → Spells v b → ((r : Refusal) × First (table v) r) ⊎ NoneHolds (table v) → ((t : Description) × Describes b t) ⊎ ((r : Refusal) × Refuses b r)

@@ -1,7 +1,7 @@
 -- Where memory is taken.
-use Rattle.std.proofs.Common.{◌≡◌, ℕ, ◌-◌, ◌<◌, ◌≤◌, Bool, true, false, List, [], ◌∷◌, ◌++◌, length, Option, Some, None, Result, Ok, Err, IfErr, inl, inr, refl, sym, ap, ◌∙◌, arith}
+use Rattle.std.proofs.Common.{◌≡◌, ℕ, ◌≤◌, true, List, [], ◌∷◌, ◌++◌, length, Some, Result, Ok, Err, IfErr, inr, refl, arith}
 use Rattle.std.proofs.lemmas.Option.{none-some}
-use Rattle.benc.specs.Fails.{Begun, Opens, Reaches, StartsContainer, a_value}
+use Rattle.benc.specs.Fails.{Opens, StartsContainer, a_value}
 use Rattle.benc.specs.Spelling.{Spells}
 use Rattle.benc.specs.Value.{Bencode, int, text, list, dict}
 use Rattle.metainfo.specs.Description.{Description}

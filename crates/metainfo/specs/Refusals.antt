@@ -195,7 +195,8 @@ Refuses b r = ((max_torrent < length b) × (r ≡ refusals.TooLarge))
     ⊎ ((length b ≤ max_torrent) × (((f : Fault) × benc.Fails b f.kind f.offset × (r ≡ refusals.NotBencode f))
     ⊎ ((v : Bencode) × Spells v b × First (table v) r)))
 
--- opening these bytes may take memory: they are not too many, and a list or dictionary begins in them that may be opened
+-- opening these bytes may take memory: they are not too many, and a list or dictionary that may be opened begins in
+-- them
 pub record TakesMemory (b : List ℕ) : Type 0 where
   pub small : length b ≤ max_torrent
   pub offset : ℕ

@@ -88,8 +88,8 @@ pub enum Refusal {
     HybridPieces,
     /// Memory was refused.
     NoMemory,
-    /// The path is there already, or one of two paths is the beginning of the other. It is a draft's answer, and no call
-    /// gives it yet.
+    /// The path is there already, or one of two paths is the beginning of the other. It is a draft's answer, and no
+    /// call gives it yet.
     PathClash,
     /// The sink failed. It is a draft's answer, and no call gives it yet.
     Write,

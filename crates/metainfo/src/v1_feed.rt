@@ -11,8 +11,8 @@ use std::mem;
 // How many zeros go into the stream at once.
 const ZEROS: usize = 16384;
 
-/// Compares the version 1 stream with the digests of its pieces, while the stream comes part by part. After the first bad
-/// cut it digests nothing more.
+/// Compares the version 1 stream with the digests of its pieces, while the stream comes part by part. After the first
+/// bad cut it digests nothing more.
 #[derive(Drop)]
 pub struct V1Feed<'a> {
     pieces: &'a [[u8; 20]],
