@@ -1,7 +1,5 @@
-use Rattle.std.proofs.Common.{◌≡◌, ◌∙◌, [], map, true, sym, subst}
-use Rattle.std.specs.List.{list_any}
-use Rattle.checker.specs.MemShelf.{path_of}
-use Rattle.checker.specs.Shelf.{IsEachOnce, is_path, path_bytes}
+use Rattle.std.proofs.Common.{map}
+use Rattle.checker.specs.Shelf.{path_bytes}
 use Rattle.checker.proofs.Shelves.{first_is_there, none_without_first}
 use Rattle.checker.proofs.mem_shelf.MemShelfShelf.list.Goals as goal
 
