@@ -1,5 +1,6 @@
 //! A folder of the file system as a shelf.
-ghost use Rattle.std.specs.Prelude.{◌≡◌, None};
+ghost use Rattle.std.specs.Prelude.{◌≡◌, [], ◌∷◌, ◌++◌, None, IfOk, map, string_bytes};
+ghost use Rattle.btcheck.specs.Places.{place_below};
 ghost use Rattle.benc.specs.Device.{one_more};
 
 use benc::{DeviceFault, FromRead, Source};
@@ -36,9 +37,11 @@ impl<'a> Folder<'a> {
     }
 
     // The file system's path of what has these path components here.
-    fn place_of(&self, path: &[&str]) -> Result<String, AllocError> {
+    fn place_of(&self, path: &[&str]) -> Result<String, AllocError>
+        ensures { IfOk result (λ place. string_bytes place ≡ place_below self.now.dir.now (map (λ s. s.now) path.now)) }
+    {
         let mut place = String::from_str(self.rt.alloc(), self.dir)?;
-        for part in path {
+        'parts: for part in path {
             place.push('/')?;
             place.push_str(part)?;
         }
@@ -96,9 +99,11 @@ impl<'a> Folder<'a> {
 }
 
 // The path of what has this name in a folder.
-fn path_in(alloc: Global, folder: &[String], name: &str) -> Result<Vec<String>, AllocError> {
+fn path_in(alloc: Global, folder: &[String], name: &str) -> Result<Vec<String>, AllocError>
+    ensures { IfOk result (λ path. map string_bytes path.items ≡ map string_bytes folder.now ++ name.now ∷ []) }
+{
     let mut path = Vec::new(alloc);
-    for part in folder {
+    'parts: for part in folder {
         path.push(part.clone()?)?;
     }
     path.push(String::from_str(alloc, name)?)?;

@@ -1,4 +1,9 @@
 //! A torrent file: its bytes, and what is printed where they are refused.
+ghost use Rattle.std.specs.Prelude.{◌≡◌, [], IfOk, OnOk};
+ghost use Rattle.std.specs.Io.KnownBytes.{Appends};
+ghost use Rattle.benc.specs.Device.{one_more};
+ghost use Rattle.checker.specs.Refused.{refusal_text};
+
 use benc::Sink;
 use checker::{Fault, refusal_line};
 use metainfo::Refusal;
@@ -9,7 +14,11 @@ use std::io::{self, Read};
 const TORRENT_ROOM: u64 = 67108865;
 
 /// Prints why a torrent was refused, and tells the exit status of a refusal.
-pub(crate) fn refuse<'a, W: Sink>(refusal: &Refusal, out: &mut W) -> Result<u8, Fault<'a>> {
+pub(crate) fn refuse<'a, W: Sink>(refusal: &Refusal, out: &mut W) -> Result<u8, Fault<'a>>
+    ensures status { IfOk result (λ s. s ≡ 1) }
+    ensures line { OnOk result (Appends (W.written out.old) (W.written out.new) (refusal_text refusal.now [])) }
+    ensures flushed { OnOk result (W.flushes out.new ≡ one_more (W.flushes out.old)) }
+{
     match refusal {
         Refusal::NoMemory => Err(Fault::NoMemory),
         Refusal::Write => Err(Fault::Write("-")),
