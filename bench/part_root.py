@@ -1,13 +1,12 @@
 """`btcheck root` on one file of random bytes, beside the bare digests of its blocks; and on a file of 16 MiB in many short
-rounds, whose ratio hardly sees the other work on the machine: that one is held against the mark of the bare digests."""
+rounds, whose ratio hardly sees the other work on the machine."""
 import os
 import shutil
 
 from measuring import BARE, BTCHECK, measured, build_bare, missed_marks, need_program, report, write_random
 
 # What `root` may cost at most: (of what, ratio of processor time), and the resident set in MiB.
-MARKS = [("sha256sum", 1.0)]
-SHORT_MARKS = [("bare digests", 1.05)]
+MARKS = [("bare digests", 1.05), ("sha256sum", 1.0)]
 MEMORY_MARK = 8
 SHORT_SIZE = 16  # MiB
 SHORT_ROUNDS = 16  # for each round that was asked for
@@ -33,7 +32,7 @@ def short_rounds(folder, words):
     commands = {name: command for name, command in commands_on(path).items() if name in ("btcheck root", "bare digests")}
     found = measured(commands, SHORT_ROUNDS * words.rounds)
     report(found, SHORT_SIZE, "btcheck root")
-    return missed_marks(found, "btcheck root", SHORT_MARKS)
+    return missed_marks(found, "btcheck root", MARKS)
 
 
 def run(folder, words):
