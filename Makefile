@@ -2,7 +2,10 @@
 # make check           runs what the merge gate runs: proofs, must-fail edits, all tests
 # make test            runs the built program on real files
 # make bench           measures the commands and what they stand on, beside what they cannot do without
-# make install         puts the program below PREFIX (and DESTDIR)
+# make install         puts the program, its manual page and its completions below PREFIX (and DESTDIR)
+# make uninstall       removes them
+# make static          links what was proved with a static C library: build/static/btcheck, one file that runs anywhere
+# make dist            packs that program with manual, completions and licences, and a list of SHA-256 digests
 # make clean           removes all that was built, kept proofs too
 # make CPU=x86-64-v3   builds for a newer processor (after make clean)
 
@@ -37,10 +40,55 @@ test: build/btcheck
 bench: build/btcheck
 	bench/run
 
+# Where each file is installed: BELOW is DESTDIR and PREFIX, which may have spaces.
+BELOW = "$(DESTDIR)$(PREFIX)
+PROGRAM = $(BELOW)/bin/btcheck"
+MANUAL = $(BELOW)/share/man/man1/btcheck.1"
+FOR_BASH = $(BELOW)/share/bash-completion/completions/btcheck"
+FOR_ZSH = $(BELOW)/share/zsh/site-functions/_btcheck"
+FOR_FISH = $(BELOW)/share/fish/vendor_completions.d/btcheck.fish"
+
+# The program that is installed.
+BUILT := build/btcheck
+
 install: build/btcheck
-	install -D -m 755 build/btcheck $(DESTDIR)$(PREFIX)/bin/btcheck
+	install -D -m 755 $(BUILT) $(PROGRAM)
+	install -D -m 644 man/btcheck.1 $(MANUAL)
+	install -D -m 644 completions/btcheck.bash $(FOR_BASH)
+	install -D -m 644 completions/_btcheck $(FOR_ZSH)
+	install -D -m 644 completions/btcheck.fish $(FOR_FISH)
+
+uninstall:
+	rm -f $(PROGRAM) $(MANUAL) $(FOR_BASH) $(FOR_ZSH) $(FOR_FISH)
+
+# The kit's archives of C code, which a program is linked with.
+KIT_C = $(dir $(realpath $(shell command -v $(RT))))../c
+OBJECT := crates/btcheck/out/btcheck.o
+
+static: build/static/btcheck
+
+build/static/btcheck: build/btcheck
+	$(need_toolchain)
+	@test -e $(OBJECT) || { echo "$(OBJECT) is missing: remove build/btcheck and run make" >&2; exit 1; }
+	mkdir -p build/static
+	$(CC) -static-pie -o $@ $(OBJECT) $(KIT_C)/libos_c.a $(KIT_C)/liblibc_c.a
+
+# The same bytes for the same program and files, whenever and wherever it is packed.
+RELEASE = btcheck-$(word 2,$(shell build/static/btcheck --version))-linux-x86_64
+PACKED = build/dist/$(RELEASE)
+
+dist: build/static/btcheck
+	rm -rf build/dist
+	$(MAKE) -s -o build/btcheck install BUILT=build/static/btcheck DESTDIR=build/dist/tree PREFIX=
+	install -D -m 644 -t build/dist/tree/share/doc/btcheck README.md docs/MANY.md LICENSE-MIT LICENSE-APACHE
+	cd build/dist/tree && find . -type f | LC_ALL=C sort | xargs sha256sum > ../SHA256SUMS && mv ../SHA256SUMS .
+	mv build/dist/tree $(PACKED)
+	tar --sort=name --owner=0 --group=0 --numeric-owner --mode=go=rX --mtime=@0 \
+	  -C build/dist -cf $(PACKED).tar $(RELEASE)
+	gzip -9n $(PACKED).tar
+	sha256sum $(PACKED).tar.gz
 
 clean:
 	rm -rf build crates/*/out
 
-.PHONY: all check test bench install clean
+.PHONY: all check test bench install uninstall static dist clean

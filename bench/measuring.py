@@ -25,10 +25,24 @@ def sources(text, crates):
             yield from (os.path.join(folder, name) for name in names)
 
 
-def build(program, crates, lines, words=("read", "/dev/null", "1")):
-    """Builds a program of this folder, where it is not there or older than what it is made of, for the CPU of the
-    Makefile, and runs it once on these words. It takes along what is already proved of the repository's crates."""
-    name = os.path.basename(program)
+def crates_below(uses):
+    """The lines of crates.txt of these crates and of all of the repository's that they stand on, by name."""
+    with open(os.path.join(TOP, "crates.txt"), encoding="ascii") as file:
+        lines = dict(line.split("#")[0].strip().split(":", 1) for line in file if ":" in line.split("#")[0])
+    below, left = {}, list(uses)
+    while left:
+        name = left.pop()
+        if name in lines and name not in below:
+            below[name] = f"{name}:{lines[name]}"
+            left += lines[name].split()
+    return below
+
+
+def build(program, uses, words=("read", "/dev/null", "1")):
+    """Builds a program of this folder over these crates, where it is not there or older than what it is made of, for
+    the CPU of the Makefile, and runs it once on these words. It takes along what is already proved of the repository's
+    crates."""
+    name, crates = os.path.basename(program), crates_below(uses)
     text = os.path.join(TOP, "bench", f"{name}.txt")
     if os.path.exists(program) and os.path.getmtime(program) > max(map(os.path.getmtime, sources(text, crates))):
         return
@@ -41,7 +55,7 @@ def build(program, crates, lines, words=("read", "/dev/null", "1")):
         os.makedirs(os.path.join(own, "src"))
         shutil.copyfile(text, os.path.join(own, "src", "main.rt"))
         with open(os.path.join(folder, "crates.txt"), "w", encoding="ascii") as file:
-            file.write("".join(f"{line}\n" for line in lines))
+            file.write("".join(f"{line}\n" for line in [*crates.values(), f"{name}: {' '.join(uses)}"]))
         subprocess.run([os.environ.get("RT", "rt"), "run", *cpu, "--", *words], cwd=own, check=True,
                        stdout=subprocess.DEVNULL)
         os.makedirs(os.path.dirname(program), exist_ok=True)
@@ -49,18 +63,15 @@ def build(program, crates, lines, words=("read", "/dev/null", "1")):
 
 
 def build_bare():
-    build(BARE, [], ["bare: sha1 sha2"])
+    build(BARE, ["sha1", "sha2"])
 
 
 def build_readers():
-    build(READERS, ["benc", "wire"], ["benc:", "wire: benc byteorder", "readers: benc wire"])
+    build(READERS, ["benc", "wire"])
 
 
 def build_sessions():
-    build(SESSIONS, ["benc", "hashtree", "wire", "metainfo", "session"],
-          ["benc:", "hashtree: sha2", "wire: benc byteorder", "metainfo: benc hashtree sha1 sha2",
-           "session: hashtree metainfo wire sha2", "sessions: hashtree metainfo session wire"],
-          ("/dev/null", "/dev/null", "1"))
+    build(SESSIONS, ["hashtree", "metainfo", "node_maps", "session", "wire"], ("/dev/null", "/dev/null", "1", "1"))
 
 
 def resident_peak(pid):
@@ -72,8 +83,8 @@ def resident_peak(pid):
         return 0
 
 
-def measure(command):
-    """Wall seconds, processor seconds and the largest resident set in KiB of one run."""
+def measure(command, statuses=(0,)):
+    """Wall seconds, processor seconds and the largest resident set in KiB of one run, which ends with such a status."""
     start = time.monotonic()
     child = subprocess.Popen(command, stdout=subprocess.DEVNULL)
     peak = resident_peak(child.pid)
@@ -84,7 +95,7 @@ def measure(command):
         time.sleep(0.01)
         peak = resident_peak(child.pid) or peak
     child.returncode = os.waitstatus_to_exitcode(status)
-    if child.returncode != 0:
+    if child.returncode not in statuses:
         sys.exit(f"{command[0]} ended with status {child.returncode}")
     return time.monotonic() - start, usage.ru_utime + usage.ru_stime, peak
 

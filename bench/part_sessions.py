@@ -1,5 +1,6 @@
 """2,048 answers of 512 leaves with their uncles, over a tree of 2^20 leaves, given to a session by value: without a frame
-and without a line. Beside it stand the bare digests of the pairs that lead to the root."""
+and without a line, in the order of their places and in another. Beside it stand the bare digests of the pairs that lead
+to the root."""
 import os
 
 from measuring import BARE, BLOCK, SESSIONS, measured, build_bare, build_sessions, missed_marks, report, see_answer
@@ -8,6 +9,8 @@ from trees import Tree
 
 # What the session may cost at most: (of what, ratio of processor time).
 MARKS = [("bare digests", 1.3)]
+# By how many spans each answer is on from the one before it, in each order.
+ORDERS = {"session": 1, "in any order": 1237}
 
 
 def run(folder, words):
@@ -19,12 +22,14 @@ def run(folder, words):
     torrent = write(os.path.join(folder, "torrent"), [torrent_over(tree, leaves * BLOCK)])
     starts = range(0, leaves, SPAN)
     uncles = uncles_of(tree, SPAN)
-    hashes = write(os.path.join(folder, "hashes"),
-                   (b"".join(tree.hashes(0, index, SPAN, uncles)) for index in starts))
     bare = write(os.path.join(folder, "pairs"), (pairs_of(tree, index, SPAN) for index in starts))
-    command = [SESSIONS, torrent, hashes, str(32 * (SPAN + uncles))]
-    see_answer(command, 2 * leaves - 2)  # every place but the root is new
-    found = measured({"session": command, "bare digests": [BARE, "pairs", bare]}, words.rounds)
+    commands = {"bare digests": [BARE, "pairs", bare]}
+    for name, step in ORDERS.items():
+        hashes = write(os.path.join(folder, f"hashes {step}"),
+                       (b"".join(tree.hashes(0, index * step % leaves, SPAN, uncles)) for index in starts))
+        commands[name] = [SESSIONS, torrent, hashes, str(32 * (SPAN + uncles)), str(step)]
+        see_answer(commands[name], 2 * leaves - 2)  # every place but the root is new
+    found = measured(commands, words.rounds)
     print(f"{len(starts)} answers of {SPAN} leaves, by value: ", end="")
     report(found, os.path.getsize(bare) >> 20, "session")
-    return missed_marks(found, "session", MARKS)
+    return [mark for name in ORDERS for mark in missed_marks(found, name, MARKS)]

@@ -8,8 +8,8 @@ import sys
 from measuring import BARE, BLOCK, BTCHECK, TOP, measured, build_bare, missed_marks, need_program, report
 
 sys.path.insert(0, os.path.join(TOP, "tests"))
-from support import sha256  # noqa: E402
 from torrents import bencoded  # noqa: E402
+from trees import sha256  # noqa: E402
 
 # What showing 100,000 files of the plain torrent may take at most in seconds, what a file of 100,000 may cost beside one
 # of 25,000, and what a piece layer may cost beside the digests of its pairs.

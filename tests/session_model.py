@@ -1,6 +1,5 @@
 """A plain model of sessions: what is known of each tree is a map from places."""
-from support import BLOCK, sha256
-from trees import Tree, blocks_of
+from trees import BLOCK, Tree, blocks_of, sha256
 
 
 class Session:

@@ -1,5 +1,4 @@
-"""What the tests share: a run of the program, and BEP 52's tree written out plainly with hashlib."""
-import hashlib
+"""What the tests share: runs of the program, folders, and torrents that libtorrent makes."""
 import json
 import os
 import subprocess
@@ -9,17 +8,15 @@ import tempfile
 TOP = os.path.dirname(os.path.dirname(os.path.abspath(__file__)))
 BTCHECK = os.path.abspath(os.environ.get("BTCHECK", os.path.join(TOP, "build", "btcheck")))
 
-BLOCK = 16384
 
-
-def run(*words, **options):
-    """Runs the program on these words, as bytes or text; options are those of subprocess.run."""
+def run(*arguments, **options):
+    """Runs the program with these arguments, bytes or text; options are those of subprocess.run."""
     options.setdefault("stdout", subprocess.PIPE)
     options.setdefault("stderr", subprocess.PIPE)
     options.setdefault("timeout", 600)
     if "input" not in options:
         options.setdefault("stdin", subprocess.DEVNULL)
-    return subprocess.run([BTCHECK, *words], **options)
+    return subprocess.run([BTCHECK, *arguments], **options)
 
 
 def expect(done, status, stdout=b"", stderr=b""):
@@ -47,39 +44,6 @@ def write(path, content):
     with open(path, "wb") as out:
         out.write(content)
     return path
-
-
-def sha256(content):
-    return hashlib.sha256(content).digest()
-
-
-def root_of_leaves(leaves):
-    """The root over the digests of blocks: pad leaves up to a power of two, then pairs, layer by layer."""
-    layer = list(leaves)
-    while len(layer) & (len(layer) - 1):
-        layer.append(bytes(32))
-    while len(layer) > 1:
-        layer = [sha256(layer[i] + layer[i + 1]) for i in range(0, len(layer), 2)]
-    return layer[0]
-
-
-def blocks_of_file(path):
-    with open(path, "rb") as content:
-        while block := content.read(BLOCK):
-            yield block
-
-
-def root_of_file(path):
-    return root_of_leaves(map(sha256, blocks_of_file(path)))
-
-
-def root_of(content):
-    return root_of_leaves(sha256(content[i:i + BLOCK]) for i in range(0, len(content), BLOCK))
-
-
-def root_line(content):
-    """The line that `root` is to print for this content."""
-    return f"{len(content)} {root_of(content).hex()}\n" if content else "0 -\n"
 
 
 def escaped(text):

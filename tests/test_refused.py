@@ -1,6 +1,7 @@
 """`btcheck show TORRENT` on what is no torrent that opens: a line for each refusal."""
-from support import expect, folder, root_of, run, sha256, write
-from torrents import ABC, CUTS, LIST, entry, file, hybrid, info, layer, pad, torrent
+from support import expect, folder, run, write
+from torrents import ABC, CUTS, LIST, entry, file, hybrid, info, pad, torrent
+from trees import layer, root_of, sha256
 
 
 def are_refused(cases):

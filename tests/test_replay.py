@@ -5,10 +5,10 @@ import resource
 import subprocess
 
 from messages import KEEP_ALIVE, frame, hashes, piece, reject, request
-from session_model import Session
-from support import BLOCK, BTCHECK, expect, folder, run, sha256, write
+from poison import Peers
+from support import BTCHECK, expect, folder, run, write
 from torrents import ABC, info, torrent, torrent_of
-from trees import Tree, blocks_of
+from trees import BLOCK, Tree, blocks_of, sha256
 
 
 def replay(place, torrent, record, *flags, **options):
@@ -140,71 +140,6 @@ def test_the_greatest_length():
             expect(replay(place, one_piece, record, "--info-only"), status, lines(line, "end"))
 
 
-def poisoned_records(files, piece_length, with_layers, seed, count):
-    """Messages of every kind, true and false, with the lines that the model tells of them."""
-    chance = random.Random(seed)
-    model = Session(files, piece_length, with_layers)
-    trees = [tree["whole"] for tree in model.trees.values()]
-    record, report = [], []
-    for _ in range(count):
-        tree = chance.choice(trees)
-        root = tree.root if chance.random() < 0.95 else chance.randbytes(32)
-        kind = chance.choice(["hashes", "hashes", "hashes", "piece", "piece", "request", "reject", "other", "bad"])
-        base = chance.randint(0, max(0, tree.height - 1))
-        length = 2 ** chance.randint(1, max(1, min(4, tree.height - base)))
-        index = chance.randrange(max(1, 2 ** (tree.height - base) // length)) * length
-        if chance.random() < 0.1:
-            base, index, length = chance.choice([
-                (tree.height + 1, index, length), (base, index + 1, length), (base, 2 ** tree.height, length),
-                (base, index, length + 1), (base, 0, 1), (base, 0, 16384), (2 ** 32 - 1, 2 ** 32 - length, length)])
-        ask = (root, base, index, length, chance.choice([0, 1, tree.height, 40]))
-        if kind == "hashes":
-            room = max(0, tree.height - base - (length.bit_length() - 1))
-            room = chance.randint(0, room) if chance.random() < 0.3 else room
-            ask = (*ask[:4], chance.choice([room, tree.height, 40, 2 ** 32 - 1, 0]))
-            try:
-                given = tree.hashes(base, index, length, room)
-            except IndexError:
-                given = [chance.randbytes(32) for _ in range(length)]
-            for at in range(len(given)):
-                if chance.random() < 0.01:
-                    given[at] = chance.choice([bytes(32), chance.randbytes(32), given[0]])
-            if chance.random() < 0.05:
-                given = given[:-1] if chance.random() < 0.5 else given + [chance.randbytes(32)]
-            given = given[:8224]  # as many as a frame may carry
-            record.append(hashes(*ask, given=given))
-            report.append(model.take(*ask, given))
-        elif kind == "piece":
-            number, content, kept, first = chance.choice(model.files)
-            at = chance.randrange(len(kept["blocks"]))
-            block = kept["blocks"][at]
-            if chance.random() < 0.3:
-                block = bytes([block[0] ^ 1]) + block[1:]
-            if chance.random() < 0.1:
-                block = block + b"x" if chance.random() < 0.5 else block[:-1]
-            begin = at * BLOCK + (chance.random() < 0.05)
-            place = (first, begin) if chance.random() < 0.5 else (first + begin // piece_length, begin % piece_length)
-            if chance.random() < 0.05:
-                place = (chance.randrange(2 ** 32), chance.randrange(2 ** 32))
-            record.append(piece(*place, block))
-            report.append(model.block(*place, block))
-        elif kind == "request":
-            record.append(request(*ask))
-            report.append(model.answer(*ask))
-        elif kind == "reject":
-            record.append(reject(*ask))
-            report.append("reject noted")
-        elif kind == "other":
-            ident = chance.choice([0, 4, 5, 6, 8, 20, 24, 255])
-            record.append(frame(bytes([ident]) + bytes(chance.randint(0, 40))) if chance.random() < 0.8 else KEEP_ALIVE)
-            report.append(f"skipped {ident}" if record[-1] != KEEP_ALIVE else "keep-alive")
-        else:
-            ident, size = chance.choice([(7, 8), (7, 263218), (21, 50), (21, 1), (22, 48), (22, 80), (23, 48), (22, 263218)])
-            record.append(frame(bytes([ident]) + bytes(size - 1)))
-            report.append(f"bad frame {ident} {size}")
-    return record, [f"{number} {text}" for number, text in enumerate(report, 1)]
-
-
 def test_poison_between_true_answers():
     chance = random.Random(20)
     worlds = [
@@ -218,7 +153,7 @@ def test_poison_between_true_answers():
             for piece_length in (16384, 32768, 262144):
                 torrent = torrent_of(files, piece_length)
                 for flags in ([], ["--info-only"]):
-                    record, report = poisoned_records(files, piece_length, not flags, compared, 300)
+                    record, report = Peers(files, piece_length, not flags, compared).messages(300)
                     status = 1 if any(" refused " in line or " bad frame " in line for line in report) else 0
                     done = replay(place, torrent, b"".join(record), *flags)
                     expect(done, status, lines(*report, "end"))
@@ -301,8 +236,8 @@ def test_memory_is_that_of_the_session():
             assert told[-3:] == [last % (len(told) - 2), b"end", b""], told[-3:]
 
 
-def test_a_growth_that_is_refused():
-    """The last two leaves of a file of 2^46 bytes, whose hashes are right, in 32 MiB of memory: the session goes on."""
+def test_the_last_leaves_of_the_longest_file():
+    """The last two leaves of a file of 2^46 bytes, in 32 MiB of memory: what is kept grows with what is known."""
     zeros = [bytes(32)]
     for _ in range(32):
         zeros.append(sha256(zeros[-1] * 2))
@@ -312,7 +247,7 @@ def test_a_growth_that_is_refused():
     with folder() as place:
         done = replay(place, torrent(value, {zeros[32]: zeros[16] * 65536}), far + near + far, "--info-only",
                       preexec_fn=limit_memory)
-        expect(done, 2, lines("1 refused H7 NoMemory", "2 stored 2", "3 refused H7 NoMemory", "end"))
+        expect(done, 0, lines("1 stored 64", "2 stored 0", "3 stored 0", "end"))
 
 
 def limit_memory():

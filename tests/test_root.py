@@ -3,7 +3,8 @@ import os
 import random
 import threading
 
-from support import expect, folder, root_line, root_of_file, run, write
+from support import expect, folder, run, write
+from trees import root_line, root_of_file
 
 A = "ba7816bf8f01cfea414140de5dae2223b00361a396177a9cb410ff61f20015ad"
 Z1 = "f5a5fd42d16a20302798ef6ed309979b43003d2320d9f0e8ea9831a92759fb4b"

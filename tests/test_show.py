@@ -3,8 +3,9 @@ import hashlib
 import os
 import random
 
-from support import escaped, expect, folder, made_by_libtorrent, root_of, root_of_file, run, write
-from torrents import ABC, LIST, TWO, bencoded, file, hybrid, info, layer, pad, torrent
+from support import escaped, expect, folder, made_by_libtorrent, run, write
+from torrents import ABC, LIST, TWO, bencoded, file, hybrid, info, pad, torrent
+from trees import layer, root_of, root_of_file
 
 A = "ba7816bf8f01cfea414140de5dae2223b00361a396177a9cb410ff61f20015ad"
 

@@ -1,7 +1,7 @@
 """Torrents as values of Python, and their spelling (BEP 3, BEP 52, BEP 47)."""
 import hashlib
 
-from support import root_of, sha256
+from trees import BLOCK, layer, root_of, sha256
 
 # The torrent of the one file `abc.txt` with content `abc`, byte for byte.
 ABC = (b"d4:infod9:file treed7:abc.txtd0:d6:lengthi3e11:pieces root32:" + sha256(b"abc") +
@@ -48,19 +48,6 @@ def pad(length):
     return entry(length, ".pad", str(length), attr="p")
 
 
-def layer(content, blocks):
-    """The hashes that cover so many blocks each, a power of two, joined."""
-    size = blocks * 16384
-    hashes = b""
-    for start in range(0, len(content), size):
-        level = [sha256(content[i:i + 16384]) for i in range(start, min(start + size, len(content)), 16384)]
-        level += [bytes(32)] * (blocks - len(level))
-        while len(level) > 1:
-            level = [sha256(level[i] + level[i + 1]) for i in range(0, len(level), 2)]
-        hashes += level[0]
-    return hashes
-
-
 # A file of two blocks and one of three bytes, and the list of version 1 that joins them.
 TWO = bytes(i % 251 for i in range(16385))
 FILES = {"a": file(TWO), "c": file(b"abc")}
@@ -75,5 +62,5 @@ def hybrid(files=LIST, pieces=CUTS, **more):
 
 def torrent_of(files, piece_length):
     """The torrent file of these files, a list of (name, content) in the order of their names."""
-    layers = {root_of(content): layer(content, piece_length // 16384) for _, content in files if len(content) > piece_length}
+    layers = {root_of(content): layer(content, piece_length // BLOCK) for _, content in files if len(content) > piece_length}
     return torrent(info({name: file(content) for name, content in files}, piece_length), layers)

@@ -1,13 +1,19 @@
 """BEP 52's hash trees, written out plainly with hashlib, each layer whole."""
-from support import BLOCK, sha256
+import hashlib
+
+BLOCK = 16384
+
+
+def sha256(content):
+    return hashlib.sha256(content).digest()
 
 
 class Tree:
-    """A whole tree over leaves: layers[0] are these filled with zero hashes, the last layer is the root."""
+    """A whole tree over leaves: layers[0] are these filled up with zero hashes, the last layer is the root."""
 
     def __init__(self, leaves):
-        self.leaf_count = len(leaves)
         leaves = list(leaves)
+        self.leaf_count = len(leaves)
         while len(leaves) & (len(leaves) - 1):
             leaves.append(bytes(32))
         self.layers = [leaves]
@@ -19,7 +25,7 @@ class Tree:
 
     @classmethod
     def of_blocks(cls, blocks):
-        return cls([sha256(block) for block in blocks])
+        return cls(map(sha256, blocks))
 
     @classmethod
     def of(cls, content):
@@ -41,3 +47,22 @@ class Tree:
 
 def blocks_of(content):
     return [content[at:at + BLOCK] for at in range(0, len(content), BLOCK)]
+
+
+def root_of(content):
+    return Tree.of(content).root
+
+
+def root_of_file(path):
+    with open(path, "rb") as content:
+        return Tree.of_blocks(iter(lambda: content.read(BLOCK), b"")).root
+
+
+def root_line(content):
+    """The line that `root` is to print for this content."""
+    return f"{len(content)} {root_of(content).hex()}\n" if content else "0 -\n"
+
+
+def layer(content, blocks):
+    """The hashes that cover so many blocks each, a power of two, joined."""
+    return b"".join(Tree.of(content).whole_layer(blocks.bit_length() - 1))

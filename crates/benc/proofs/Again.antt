@@ -14,10 +14,12 @@ use Rattle.std.proofs.lemmas.Fmt.{decimal_is_IsNumeral, first_decimal, decimal_d
 use Rattle.benc.proofs.Turns.{is_other}
 use Rattle.benc.specs.Value.{Bencode, int, text, list, dict, Items, no_items, item, Pairs, no_pairs, pair}
 use Rattle.benc.specs.Spelling.{string, IsAbove, Spelled, SpelledItems, SpelledPairs}
-use Rattle.benc.specs.Reading.{◌>>=◌, Reads, Failed, begun_at, items_at, pairs_at, value_at}
+use Rattle.benc.specs.Parser.{◌>>=◌, Reads, Failed, begun_at, items_at, pairs_at, value_at}
 use Rattle.benc.specs.declared.fault.FaultKind.TheVariants.{KeyOrder}
 use Rattle.benc.proofs.Values.{value_integer, value_items, value_pairs, value_text}
-use Rattle.benc.specs.Table.{is_digit, digits_of_front, after_digits, is_plain, integer_of, digits_at, integer_at, string_of, string_at, is_above, in_order, key_at}
+use Rattle.benc.specs.Digits.{is_digit, digits_of_front, after_digits}
+use Rattle.benc.specs.Spelling.{is_above}
+use Rattle.benc.specs.Items.{is_plain, integer_of, digits_at, integer_at, string_of, string_at, in_order, key_at}
 
 digit_test : (c : ℕ) → digit_value c < 10 → is_digit c ≡ true
 digit_test c h = grind (arith, nat_tests, h)

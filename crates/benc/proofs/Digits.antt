@@ -10,7 +10,7 @@ use Rattle.std.proofs.lemmas.List.{get_or-take}
 use Rattle.std.proofs.lemmas.List.Folds.{length-prefix_len}
 use Rattle.std.proofs.lemmas.List.Sums.{prefix_len_passes}
 use Rattle.std.proofs.lemmas.Bool.Decides.{nat_tests}
-use Rattle.benc.specs.Table.{is_digit, IsRun, digits_of_front}
+use Rattle.benc.specs.Digits.{is_digit, IsRun, digits_of_front}
 
 pub digit_low : (c : ℕ) → IsTrue (is_digit c) → 48 ≤ c
 digit_low c h = grind (arith, nat_tests)

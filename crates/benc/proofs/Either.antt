@@ -6,7 +6,7 @@ use Rattle.benc.specs.declared.fault.FaultKind.TheVariants.{Trailing}
 use Rattle.benc.specs.Value.{Bencode}
 use Rattle.benc.specs.Spelling.{Spells, Spelled}
 use Rattle.benc.specs.Fails.{Fails}
-use Rattle.benc.specs.Reading.{Reads, value_at}
+use Rattle.benc.specs.Parser.{Reads, value_at}
 use Rattle.benc.proofs.Sound.{value_takes}
 use Rattle.benc.proofs.Faults.{value_stops, stops_from}
 

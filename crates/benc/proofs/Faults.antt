@@ -7,9 +7,11 @@ use Rattle.benc.specs.declared.fault.FaultKind.{FaultKind}
 use Rattle.benc.specs.declared.fault.FaultKind.TheVariants.{Truncated, BadStart, BadInteger, IntegerRange, BadLength, KeyOrder, TooDeep, NoMemory}
 use Rattle.benc.specs.Value.{Bencode, int, text, list, dict, Items, no_items, item, Pairs, no_pairs, pair}
 use Rattle.benc.specs.Spelling.{string, IsAbove, Spelled, SpelledItems, SpelledPairs}
-use Rattle.benc.specs.Table.{is_digit, digits_of_front, after_digits, integer_of, integer_at, string_of, string_at, in_order, key_at}
-use Rattle.benc.specs.Fails.{Due, a_value, a_value_or_end, a_key_or_end, Level, in_list, in_dict, at_value, last_key, Begun, fault_of, value_fault, unless_end, item_fault, Stops}
-use Rattle.benc.specs.Reading.{◌>>=◌, Reads, Failed, begun_at, items_at, pairs_at, value_with, value_at}
+use Rattle.benc.specs.Digits.{is_digit, digits_of_front, after_digits}
+use Rattle.benc.specs.Items.{integer_of, integer_at, string_of, string_at, in_order, key_at}
+use Rattle.benc.specs.Fails.{Due, a_value, a_value_or_end, a_key_or_end, Level, in_list, in_dict, at_value, last_key, Begun, Stops}
+use Rattle.benc.proofs.Scanned.{fault_of, value_fault, unless_end, item_fault, table_is}
+use Rattle.benc.specs.Parser.{◌>>=◌, Reads, Failed, begun_at, items_at, pairs_at, value_with, value_at}
 use Rattle.benc.proofs.Sound.{Takes, began, value_takes, key_takes}
 
 -- at the item that is due, or in a container that is open there
@@ -222,11 +224,16 @@ value_stops (suc room) bytes e h =
     (λ c b d i g. subst (λ y. Further (suc room) a_value (y ∷ b) d) (sym i) (list_stops room b d (items_stop room (value_at room) (λ x y z. value_takes room x y z) (λ x y z. value_shorter room x y z) (λ x y z. value_stops room x y z) (length b) b d (omega arith) g)))
     (λ c b d i g. subst (λ y. Further (suc room) a_value (y ∷ b) d) (sym i) (dict_stops room b d (pairs_stop room (value_at room) (λ x y z. value_takes room x y z) (λ x y z. value_shorter room x y z) (λ x y z. value_stops room x y z) (length b) None b d (omega arith) g))) bytes e h
 
+-- the failing item stands in the input
+pub stopped_within : (room : ℕ) (bytes : List ℕ) (e : Failed) → Further room a_value bytes e → length e.1 ≤ length bytes
+stopped_within room bytes e (inl p) = omega (arith, ap length p.0)
+stopped_within room bytes e (inr (l, ls, due, left, front, parts, begun, fails)) = omega (arith, ap length parts, length-append front e.1)
+
 pub stops_from : (room : ℕ) (bytes : List ℕ) (e : Failed) (offset : ℕ) → room ≡ 128 → offset ≡ length bytes - length e.1 → Further room a_value bytes e → Stops bytes e.0 offset
 stops_from room bytes e offset full place (inl p) =
-    record { levels = []; due = a_value; left = 128; front = []; rest = e.1; parts = p.0; place = omega (arith, ap length p.0); begun = (refl, refl, refl); fails = subst (λ r. item_fault a_value r e.1 ≡ Some e.0) full (subst (λ t. item_fault a_value room t ≡ Some e.0) p.0 p.1) }
+    record { levels = []; due = a_value; left = 128; front = []; rest = e.1; parts = p.0; place = omega (arith, ap length p.0); begun = (refl, refl, refl); fails = sym (table_is a_value 128 e.1) ∙ subst (λ r. item_fault a_value r e.1 ≡ Some e.0) full (subst (λ t. item_fault a_value room t ≡ Some e.0) p.0 p.1) }
 stops_from room bytes e offset full place (inr (l, ls, due, left, front, parts, begun, fails)) =
-    record { levels = l ∷ ls; due = due; left = left; front = front; rest = e.1; parts = parts; place = omega (arith, ap length parts, length-append front e.1); begun = subst (λ r. Begun r (l ∷ ls) front due left) full begun; fails = fails }
+    record { levels = l ∷ ls; due = due; left = left; front = front; rest = e.1; parts = parts; place = omega (arith, ap length parts, length-append front e.1); begun = subst (λ r. Begun r (l ∷ ls) front due left) full begun; fails = sym (table_is due left e.1) ∙ fails }
 
 -- no line of the table says that memory ran out
 abbrev Named : Option FaultKind → Type 0

@@ -27,10 +27,6 @@ Consumes-append (Some a) None c xs ys p q = absurd p
 Consumes-append (Some a) (Some b) None xs ys p q = absurd q
 Consumes-append (Some a) (Some b) (Some c) xs ys p q = p ∙ ap (λ t. xs ++ t) q ∙ sym (append_assoc xs ys c)
 
-pub Consumes_nothing : (a : Option (List ℕ)) → Consumes a a []
-Consumes_nothing None = tt
-Consumes_nothing (Some a) = refl
-
 -- what a reader whose bytes are known gave before it ended is all of them
 pub Consumes_all : (a b : Option (List ℕ)) (xs : List ℕ) (file : List ℕ) → a ≡ Some file → Consumes a b xs → IsAtEnd b → file ≡ xs
 Consumes_all None b xs file e p q = let no : ⊥ = cc in absurd no
@@ -38,15 +34,7 @@ Consumes_all (Some a) None xs file e p q = absurd p
 Consumes_all (Some a) (Some b) xs file e p q =
     let is : a ≡ file = cc in sym is ∙ p ∙ ap (λ t. xs ++ t) q ∙ append-nil xs
 
--- and it is no longer than they are
-pub Consumes_part : (a b : Option (List ℕ)) (xs : List ℕ) (file : List ℕ) → a ≡ Some file → Consumes a b xs → length xs ≤ length file
-Consumes_part None b xs file e p = let no : ⊥ = cc in absurd no
-Consumes_part (Some a) None xs file e p = absurd p
-Consumes_part (Some a) (Some b) xs file e p =
-    let is : a ≡ file = cc in
-    let len : length file ≡ length (xs ++ b) = ap length (sym is ∙ p) in omega (arith, len, length-append xs b)
-
--- all the bytes are a beginning of them
+-- all the bytes are a prefix of them
 pub Appends_whole : (a b c : Option (List ℕ)) (xs : List ℕ) → Appends a b xs → Keeps b c → AppendsBeginning a c xs
 Appends_whole a b c xs p q = (length xs, subst (Appends a c) (sym (take-length xs)) (Appends-keeps a b c xs p q))
 

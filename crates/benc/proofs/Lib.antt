@@ -1,6 +1,7 @@
 pub mod Known
 pub mod Digits
 pub mod Turns
+pub mod Scanned
 pub mod Values
 pub mod Out
 pub mod Sound
@@ -11,3 +12,4 @@ pub mod Again
 pub mod Either
 pub mod Unique
 pub mod Reached
+pub mod Spelled

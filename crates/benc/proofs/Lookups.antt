@@ -21,9 +21,6 @@ choose : (b : Bool) (v : Bencode) (o p : Option Bencode) → cond b (Some v) (op
 choose true v o p = refl
 choose false v o p = refl
 
-none_before : (o : Option Bencode) → o ≡ option_or None o
-none_before o = refl
-
 -- the first value under a key, where a pair comes at the end
 pub under_push : (key : List ℕ) (ps : List Pair) (x : Pair) → under key (pairs_view (ps ++ x ∷ [])) ≡ option_or (under key (pairs_view ps)) (if_key key (pair_view x))
 under_push key [] x = refl

@@ -1,10 +1,11 @@
 -- Where a list or dictionary that may be opened is reached.
-use Rattle.std.proofs.Common.{◌≡◌, ℕ, suc, ◌-◌, ◌<◌, ◌^◌, List, [], ◌∷◌, ◌++◌, length, Option, Some, refl, sym, ap, ◌∙◌, subst, append_assoc, arith}
-use Rattle.std.proofs.lemmas.List.{append-nil}
-use Rattle.benc.specs.Value.{Bencode, no_pairs, pair}
-use Rattle.benc.specs.Spelling.{string, IsAbove, Spelled, SpelledItems, SpelledPairs}
-use Rattle.benc.specs.Fails.{a_value, a_value_or_end, Level, in_list, at_value, last_key, Begun, StartsContainer, Reaches}
-use Rattle.benc.specs.Reading.{IfMemory, ReachesItem, ReachesPair}
+use Rattle.std.proofs.Common.{◌≡◌, ℕ, suc, ◌-◌, ◌<◌, ◌≤◌, ◌^◌, List, [], ◌∷◌, ◌++◌, length, Option, Some, None, inl, inr, refl, sym, ap, ◌∙◌, subst, append_assoc, arith}
+use Rattle.std.proofs.lemmas.List.{append-nil, length-append}
+use Rattle.benc.specs.Lookup.{get}
+use Rattle.benc.specs.Value.{Bencode, int, text, list, dict, no_items, item, no_pairs, pair}
+use Rattle.benc.specs.Spelling.{string, IsAbove, Spelled, SpelledItems, SpelledPairs, Spells}
+use Rattle.benc.specs.Fails.{a_value, a_value_or_end, Level, in_list, at_value, last_key, Begun, StartsGrowing, Reaches, Opens}
+use Rattle.benc.specs.Parser.{GrowsForItem, GrowsForPair, HasItem, HasPair, IfMemory, ReachesItem, ReachesPair}
 use Rattle.benc.specs.declared.stop.Stop.{Stop}
 use Rattle.benc.specs.declared.stop.Stop.TheVariants as stops
 use Rattle.benc.specs.View.{Seen, view, pair_view, items_view, pairs_view}
@@ -43,12 +44,34 @@ pub memory_on : (e : Stop) (P Q : List ℕ → Type 0) → ((t : List ℕ) → P
 memory_on (stops.Memory rest) P Q h x = h rest.now x
 memory_on (stops.Fault f rest) P Q h x = tt
 
+-- the first of some finished items, and of some finished pairs
+pub has_item : (room : ℕ) (vs : List Value) (v : Value) (bytes done front rest : List ℕ) → bytes ≡ done ++ (front ++ rest) → SpelledItems room (items_view vs) done → Spelled room (view v) front → HasItem room bytes
+has_item room [] v bytes done front rest e s t = (view v, front, rest, e ∙ ap (λ d. d ++ (front ++ rest)) s, (front, [], sym (append-nil front), t, refl))
+has_item room (w ∷ vs) v bytes done front rest e s t =
+    let more = front ++ rest in
+    (view w, s.0, s.1 ++ more, e ∙ ap (λ d. d ++ more) s.2 ∙ append_assoc s.0 s.1 more, (s.0, [], sym (append-nil s.0), s.3, refl))
+
+pub has_pair : (room : ℕ) (ps : List Pair) (k : List ℕ) (v : Bencode) (bytes done front rest : List ℕ) → bytes ≡ done ++ (string k ++ (front ++ rest)) → SpelledPairs room None (pairs_view ps) done
+    → length k < 10 ^ 10 → IsAbove k (last_key None (pairs_view ps)) → Spelled room v front → HasPair room bytes
+has_pair room [] k v bytes done front rest e s small above t =
+    (k, v, string k ++ front, rest, e ∙ ap (λ d. d ++ (string k ++ (front ++ rest))) s ∙ sym (append_assoc (string k) front rest), (front, [], ap (λ b. string k ++ b) (sym (append-nil front)), small, above, t, refl))
+has_pair room (p ∷ ps) k v bytes done front rest e s small above t =
+    let more = string k ++ (front ++ rest) in
+    let name = string (pair_view p).0 in (
+      (pair_view p).0,
+      (pair_view p).1,
+      name ++ s.0,
+      s.1 ++ more,
+      e ∙ ap (λ d. d ++ more) s.2 ∙ append_assoc name (s.0 ++ s.1) more ∙ ap (λ b. name ++ b) (append_assoc s.0 s.1 more) ∙ sym (append_assoc name s.0 (s.1 ++ more)),
+      (s.0, [], ap (λ b. name ++ b) (sym (append-nil s.0)), s.3, s.4, s.5, refl),
+    )
+
 -- the container itself
-pub reaches_here : (room : ℕ) (bytes start : List ℕ) → 0 < room → StartsContainer bytes → start ≡ bytes → Reaches room bytes start
-reaches_here room bytes start some mark e = ([], a_value, room, [], sym e, (refl, refl, refl), tt, some, subst StartsContainer (sym e) mark)
+reaches_here : (room : ℕ) (bytes start : List ℕ) → 0 < room → StartsGrowing (room - 1) bytes → start ≡ bytes → Reaches room bytes start
+reaches_here room bytes start some grows e = ([], a_value, room, [], sym e, (refl, refl, refl), tt, some, subst (StartsGrowing (room - 1)) (sym e) grows)
 
 -- one in a list
-pub reaches_item : (room : ℕ) (bytes rest start : List ℕ) → 0 < room → bytes ≡ 108 ∷ rest → ReachesItem (room - 1) rest start → Reaches room bytes start
+reaches_item : (room : ℕ) (bytes rest start : List ℕ) → 0 < room → bytes ≡ 108 ∷ rest → ReachesItem (room - 1) rest start → Reaches room bytes start
 reaches_item room bytes rest start some e (vs, inner, behind, parts, spelled, (levels, due, left, front, more, begun, takes, free, mark)) =
     by_level levels begun
   where
@@ -65,7 +88,7 @@ reaches_item room bytes rest start some e (vs, inner, behind, parts, spelled, (l
       (room - 1, full, (inner, refl, spelled), refl, refl),
       tt,
       subst (λ n. 0 < n) b.2 free,
-      mark,
+      subst (λ n. StartsGrowing (n - 1) start) b.2 mark,
     )
     by_level (l ∷ ls) b = (
       in_list vs ∷ l ∷ ls,
@@ -80,7 +103,7 @@ reaches_item room bytes rest start some e (vs, inner, behind, parts, spelled, (l
     )
 
 -- one in a dictionary
-pub reaches_pair : (room : ℕ) (bytes rest start : List ℕ) → 0 < room → bytes ≡ 100 ∷ rest → ReachesPair (room - 1) rest start → Reaches room bytes start
+reaches_pair : (room : ℕ) (bytes rest start : List ℕ) → 0 < room → bytes ≡ 100 ∷ rest → ReachesPair (room - 1) rest start → Reaches room bytes start
 reaches_pair room bytes rest start some e (ps, k, inner, behind, parts, spelled, small, above, (levels, due, left, front, more, begun, takes, free, mark)) =
     by_level levels begun
   where
@@ -100,7 +123,7 @@ reaches_pair room bytes rest start some e (ps, k, inner, behind, parts, spelled,
       (room - 1, full, (inner, refl, spelled, small, above), refl, refl),
       tt,
       subst (λ n. 0 < n) b.2 free,
-      mark,
+      subst (λ n. StartsGrowing (n - 1) start) b.2 mark,
     )
     by_level (l ∷ ls) b = (
       at_value ps k ∷ l ∷ ls,
@@ -113,3 +136,33 @@ reaches_pair room bytes rest start some e (ps, k, inner, behind, parts, spelled,
       free,
       mark,
     )
+
+-- a list that has to grow: the one whose mark is read, or one in it
+pub list_reaches : (room : ℕ) (bytes rest start : List ℕ) → 0 < room → bytes ≡ 108 ∷ rest → GrowsForItem (room - 1) bytes rest start → Reaches room bytes start
+list_reaches room bytes rest start some e (inl (same, (v, inner, behind, parts, spelled))) =
+    reaches_here room bytes start some (108 ∷ inner, behind, e ∙ ap (λ t. 108 ∷ t) parts, inl (v, (inner, refl, spelled))) same
+list_reaches room bytes rest start some e (inr deeper) = reaches_item room bytes rest start some e deeper
+
+pub dict_reaches : (room : ℕ) (bytes rest start : List ℕ) → 0 < room → bytes ≡ 100 ∷ rest → GrowsForPair (room - 1) bytes rest start → Reaches room bytes start
+dict_reaches room bytes rest start some e (inl (same, (k, v, inner, behind, parts, spelled))) =
+    reaches_here room bytes start some (100 ∷ inner, behind, e ∙ ap (λ t. 100 ∷ t) parts, inr (k, v, (inner, refl, spelled))) same
+dict_reaches room bytes rest start some e (inr deeper) = reaches_pair room bytes rest start some e deeper
+
+-- where it starts, by what is left
+pub reached_within : (room : ℕ) (bytes start : List ℕ) → Reaches room bytes start → length start ≤ length bytes
+reached_within room bytes start r = omega (arith, ap length r.4, length-append r.3 start)
+
+-- what has a key is a dictionary with a pair, which has to grow
+pub found_opens : (key : List ℕ) (v w : Bencode) (b : List ℕ) → get key v ≡ Some w → Spells v b → Opens b 0
+found_opens key (int z) w b found s = absurd cc
+found_opens key (text t) w b found s = absurd cc
+found_opens key (list vs) w b found s = absurd cc
+found_opens key (dict no_pairs) w b found s = absurd cc
+found_opens key (dict (pair k v ps)) w b found s =
+    let first = s.3.0 in
+    let more = s.3.1 ++ 101 ∷ [] in
+    let name = string k in
+    let parts : s.1 ++ 101 ∷ [] ≡ (name ++ first) ++ more =
+    ap (λ t. t ++ 101 ∷ []) s.3.2 ∙ append_assoc name (first ++ s.3.1) (101 ∷ []) ∙ ap (λ t. name ++ t) (append_assoc first s.3.1 (101 ∷ [])) ∙ sym (append_assoc name first more) in
+    let whole : HasPair 127 (s.1 ++ 101 ∷ []) = (k, v, name ++ first, more, parts, (first, [], ap (λ t. name ++ t) (sym (append-nil first)), s.3.3, s.3.4, s.3.5, refl)) in
+    (b, omega arith, dict_reaches 128 b (s.1 ++ 101 ∷ []) b (omega arith) s.2 (inl (refl, whole)))

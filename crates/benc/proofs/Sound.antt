@@ -14,8 +14,10 @@ use Rattle.benc.specs.declared.fault.FaultKind.{FaultKind}
 use Rattle.benc.specs.declared.fault.FaultKind.TheVariants.{Truncated, BadStart, BadInteger, IntegerRange, BadLength, KeyOrder, TooDeep}
 use Rattle.benc.specs.Value.{Bencode, int, text, list, dict, Items, no_items, item, Pairs, no_pairs, pair}
 use Rattle.benc.specs.Spelling.{string, integer, IsAbove, Spelled, SpelledItems, SpelledPairs}
-use Rattle.benc.specs.Table.{is_digit, digits_of_front, after_digits, is_plain, signed, in_range, integer_of, digits_at, integer_at, string_of, string_at, is_above, in_order, key_at, IsRun}
-use Rattle.benc.specs.Reading.{◌>>=◌, Reads, Failed, begun_at, items_at, pairs_at, value_with, value_at}
+use Rattle.benc.specs.Digits.{is_digit, digits_of_front, after_digits, signed, in_range, IsRun}
+use Rattle.benc.specs.Spelling.{is_above}
+use Rattle.benc.specs.Items.{is_plain, integer_of, digits_at, integer_at, string_of, string_at, in_order, key_at}
+use Rattle.benc.specs.Parser.{◌>>=◌, Reads, Failed, begun_at, items_at, pairs_at, value_with, value_at}
 use Rattle.benc.proofs.Digits.{digit_high, digit_low, digit_value_is, front_is_run}
 
 -- tests that did not fail

@@ -3,8 +3,8 @@ use Rattle.std.proofs.Common.{◌≡◌, ◌≢◌, ℕ, zero, suc, ◌-◌, ◌
 use Rattle.std.proofs.lemmas.Bool.Decides.{eqb_tells}
 use Rattle.benc.specs.Value.{Bencode, Items, no_items, item, Pairs, no_pairs, pair}
 use Rattle.benc.specs.View.{Seen, view, pair_view, items_view, pairs_view}
-use Rattle.benc.specs.Table.{key_at}
-use Rattle.benc.specs.Reading.{◌>>=◌, Reads, Failed, items_at, pairs_at}
+use Rattle.benc.specs.Items.{key_at}
+use Rattle.benc.specs.Parser.{◌>>=◌, Reads, Failed, items_at, pairs_at}
 use Rattle.benc.specs.declared.fault.FaultKind.{FaultKind}
 use Rattle.benc.specs.declared.fault.FaultKind.TheVariants.{Truncated}
 use Rattle.benc.specs.declared.value.Value.{Value}
@@ -26,14 +26,6 @@ with_items vs read = read >>= λ x. Ok (items_before vs x.0, x.1)
 
 abbrev pub with_pairs : List Pair → Reads Pairs → Reads Pairs
 with_pairs ps read = read >>= λ x. Ok (pairs_before ps x.0, x.1)
-
-pub with_no_items : (r : Reads Items) → with_items [] r ≡ r
-with_no_items (Ok x) = refl
-with_no_items (Err e) = refl
-
-pub with_no_pairs : (r : Reads Pairs) → with_pairs [] r ≡ r
-with_no_pairs (Ok x) = refl
-with_no_pairs (Err e) = refl
 
 items_done : (vs : List Value) → items_before vs no_items ≡ items_view vs
 items_done [] = refl

@@ -7,9 +7,11 @@ use Rattle.benc.specs.declared.fault.FaultKind.{FaultKind}
 use Rattle.benc.specs.declared.fault.FaultKind.TheVariants.{Truncated, BadStart, TooDeep}
 use Rattle.benc.specs.Value.{Bencode, int, text, list, dict, Items, no_items, item, Pairs, no_pairs, pair}
 use Rattle.benc.specs.Spelling.{string, Spells, SpelledItems, SpelledPairs}
-use Rattle.benc.specs.Table.{is_digit, integer_at, string_at, key_at}
-use Rattle.benc.specs.Fails.{Due, Level, in_list, in_dict, at_value, last_key, IsLevel, Begun, fault_of, value_fault, unless_end, item_fault, Stops, Trails, Fails}
-use Rattle.benc.specs.Reading.{◌>>=◌, Reads, Failed, begun_at, items_at, pairs_at, value_at}
+use Rattle.benc.specs.Digits.{is_digit}
+use Rattle.benc.specs.Items.{integer_at, string_at, key_at}
+use Rattle.benc.specs.Fails.{Due, Level, in_list, in_dict, at_value, last_key, IsLevel, Begun, Stops, Trails, Fails}
+use Rattle.benc.proofs.Scanned.{fault_of, item_fault, table_is, unless_end, value_fault}
+use Rattle.benc.specs.Parser.{◌>>=◌, Reads, Failed, begun_at, items_at, pairs_at, value_at}
 use Rattle.benc.proofs.Turns.{is_other}
 use Rattle.benc.proofs.Values.{lists, dicts, value_is, value_items, value_pairs}
 use Rattle.benc.proofs.Sound.{fine, ok_of}
@@ -189,7 +191,7 @@ begun_reads (at_value ps k ∷ m ∷ ls) room front rest due left kind b f =
 
 -- what reading the input gives, by its fault
 stops_reads : (b : List ℕ) (kind : FaultKind) (offset : ℕ) (s : Stops b kind offset) → value_at 128 b ≡ Err (kind, s.rest)
-stops_reads b kind offset s = ap (value_at 128) s.parts ∙ begun_reads s.levels 128 s.front s.rest s.due s.left kind s.begun s.fails
+stops_reads b kind offset s = ap (value_at 128) s.parts ∙ begun_reads s.levels 128 s.front s.rest s.due s.left kind s.begun (table_is s.due s.left s.rest ∙ s.fails)
 
 trails_reads : (b : List ℕ) (kind : FaultKind) (offset : ℕ) (t : Trails b kind offset) → value_at 128 b ≡ Ok (t.value, t.rest)
 trails_reads b kind offset t = ap (value_at 128) t.parts ∙ value_again t.value 128 t.front t.rest t.spells
@@ -202,6 +204,10 @@ bad_is x y e = cc
 
 not_both : (x : Bencode × List ℕ) (d : Failed) → fine x ≡ bad d → ⊥
 not_both x d e = absurd cc
+
+-- what is read has no fault
+pub read_has_no_fault : (b : List ℕ) (x : Bencode × List ℕ) (kind : FaultKind) (offset : ℕ) → value_at 128 b ≡ Ok x → Stops b kind offset → ⊥
+read_has_no_fault b x kind offset read p = not_both x (kind, p.rest) (sym read ∙ stops_reads b kind offset p)
 
 pub no_fault : (b : List ℕ) (v : Bencode) (kind : FaultKind) (offset : ℕ) → Spells v b → Fails b kind offset → ⊥
 no_fault b v kind offset s f = by_fault f

@@ -3,8 +3,9 @@ use Rattle.std.proofs.Common.{◌≡◌, ◌≢◌, ℕ, zero, suc, ◌-◌, ◌
 use Rattle.std.specs.Borrow.{Bor}
 use Rattle.benc.specs.Value.{int, text, list, dict, Items, Pairs}
 use Rattle.benc.specs.View.{view, pair_view, items_view, pairs_view}
-use Rattle.benc.specs.Table.{is_digit, integer_at, string_at}
-use Rattle.benc.specs.Reading.{◌>>=◌, Reads, Failed, Fails, begun_at, items_at, pairs_at, value_at, value_with}
+use Rattle.benc.specs.Digits.{is_digit}
+use Rattle.benc.specs.Items.{integer_at, string_at}
+use Rattle.benc.specs.Parser.{◌>>=◌, Reads, Failed, Stopped, begun_at, items_at, pairs_at, value_at, value_with}
 use Rattle.benc.specs.declared.fault.FaultKind.TheVariants.{Truncated, BadStart, TooDeep}
 use Rattle.benc.specs.declared.stop.Stop.{Stop}
 use Rattle.benc.specs.declared.stop.Stop.TheVariants as stops
@@ -89,6 +90,6 @@ pub view-Pair : (k : Bor (List ℕ)) (v : Value) → pair_view (record { key = k
 view-Pair k v = search (rules, the_lemmas)
 
 -- an error of a part is one of the whole
-pub fails_on : {Y Z : Type 0} (e : Stop) (r : Result Y Failed) (s : Result Z Failed) → ((f : Failed) → r ≡ Err f → s ≡ Err f) → Fails e r → Fails e s
+pub fails_on : {Y Z : Type 0} (e : Stop) (r : Result Y Failed) (s : Result Z Failed) → ((f : Failed) → r ≡ Err f → s ≡ Err f) → Stopped e r → Stopped e s
 fails_on (stops.Memory rest) r s h x = tt
 fails_on (stops.Fault f rest) r s h x = h (f, rest.now) x

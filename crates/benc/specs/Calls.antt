@@ -1,6 +1,6 @@
 -- Calls that are counted, one of which may be to fail.
 use Rattle.std.specs.Prelude.{◌≡◌, ◌≢◌, ℕ, zero, suc, Option, Some, None, Result, OnOk, OnErr}
-use Rattle.benc.specs.declared.calls.Calls.{Calls}
+use Rattle.benc.specs.declared.memory.calls.Calls.{Calls}
 
 -- how many further calls succeed before the one that is to fail, after one more call
 abbrev pub after_call : Option ℕ → Option ℕ

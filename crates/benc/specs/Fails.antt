@@ -1,10 +1,11 @@
 -- The first fault of an input: which, and where (this project's profile of BEP 3).
 use Rattle.std.specs.Prelude.{◌≡◌, ℕ, suc, ◌-◌, ◌<◌, ◌^◌, ◌==◌, ◌||◌, if◌then◌else◌, List, [], ◌∷◌, ◌++◌, length, Option, Some, None, Result, Ok, Err, ◌⊎◌}
-use Rattle.benc.specs.Value.{Bencode, Items, Pairs, no_pairs, pair}
+use Rattle.benc.specs.Ascii.{dict_mark, list_mark}
+use Rattle.benc.specs.Value.{Bencode, Items, no_items, item, Pairs, no_pairs, pair}
 use Rattle.benc.specs.Spelling.{max_open, string, IsAbove, SpelledItems, SpelledPairs, Spells}
-use Rattle.benc.specs.Table.{is_digit, integer_at, string_at, key_at}
+use Rattle.benc.specs.Table.{first_row, key_rows, unless_end, value_rows}
 use Rattle.benc.specs.declared.fault.FaultKind.{FaultKind}
-use Rattle.benc.specs.declared.fault.FaultKind.TheVariants.{Truncated, BadStart, Trailing, TooDeep}
+use Rattle.benc.specs.declared.fault.FaultKind.TheVariants.{Trailing}
 
 -- what may stand next
 pub data Due : Type 0 where
@@ -25,9 +26,13 @@ last_key before (pair k v ps) = last_key (Some k) ps
 
 -- `IsLevel room l b`: b is the mark that opens l and the spelling of what of it is finished
 abbrev pub IsLevel : ℕ → Level → List ℕ → Type 0
-IsLevel room (in_list vs) b = (inner : List ℕ) × (b ≡ 108 ∷ inner) × SpelledItems room vs inner
-IsLevel room (in_dict ps) b = (inner : List ℕ) × (b ≡ 100 ∷ inner) × SpelledPairs room None ps inner
-IsLevel room (at_value ps k) b = (inner : List ℕ) × (b ≡ 100 ∷ (inner ++ string k)) × SpelledPairs room None ps inner × (length k < 10 ^ 10) × IsAbove k (last_key None ps)
+IsLevel room (in_list vs) b =
+    (inner : List ℕ) × (b ≡ list_mark ∷ inner) × SpelledItems room vs inner
+IsLevel room (in_dict ps) b =
+    (inner : List ℕ) × (b ≡ dict_mark ∷ inner) × SpelledPairs room None ps inner
+IsLevel room (at_value ps k) b =
+    (inner : List ℕ) × (b ≡ dict_mark ∷ (inner ++ string k)) × SpelledPairs room None ps inner
+    × (length k < 10 ^ 10) × IsAbove k (last_key None ps)
 
 -- what is due behind a level, which is the innermost
 abbrev pub due_in : Level → Due
@@ -41,35 +46,21 @@ TakesValue (in_list vs) = Unit {0}
 TakesValue (in_dict ps) = ⊥
 TakesValue (at_value ps k) = Unit {0}
 
--- `Begun room due open p`: p stops between two items of a spelling that is not finished. `due` may stand there,
--- and `open` more containers may be opened
+-- `Begun room due open p`: p stops between two items of a spelling that is not finished. `due` may
+-- stand there, and `open` more containers may be opened
 abbrev pub Begun : ℕ → List Level → List ℕ → Due → ℕ → Type 0
 Begun room [] p due left = (p ≡ []) × (due ≡ a_value) × (left ≡ room)
-Begun room (l ∷ []) p due left = (below : ℕ) × (room ≡ suc below) × IsLevel below l p × (due ≡ due_in l) × (left ≡ below)
+Begun room (l ∷ []) p due left =
+    (below : ℕ) × (room ≡ suc below) × IsLevel below l p × (due ≡ due_in l) × (left ≡ below)
 Begun room (l ∷ m ∷ ls) p due left =
-    (below : ℕ) × (first rest : List ℕ) × (room ≡ suc below) × (p ≡ first ++ rest) × IsLevel below l first × TakesValue l × Begun below (m ∷ ls) rest due left
+    (below : ℕ) × (first rest : List ℕ) × (room ≡ suc below) × (p ≡ first ++ rest)
+    × IsLevel below l first × TakesValue l × Begun below (m ∷ ls) rest due left
 
--- the first line of the table that holds for a value
-abbrev pub fault_of : {A : Type 0} → Result A FaultKind → Option FaultKind
-fault_of (Ok x) = None
-fault_of (Err f) = Some f
-
-abbrev pub value_fault : ℕ → List ℕ → Option FaultKind
-value_fault left [] = Some Truncated
-value_fault left (c ∷ rest) =
-    if c == 105 then fault_of (integer_at rest)
-    else (if (c == 108) || (c == 100) then (if left == 0 then Some TooDeep else None)
-    else (if is_digit c then fault_of (string_at (c ∷ rest)) else Some BadStart))
-
-abbrev pub unless_end : List ℕ → Option FaultKind → Option FaultKind
-unless_end [] f = f
-unless_end (c ∷ rest) f = if c == 101 then None else f
-
--- the first line of the table that holds for what is due
+-- the fault of an item that is due, by the table
 abbrev pub item_fault : Due → ℕ → List ℕ → Option FaultKind
-item_fault a_value left bytes = value_fault left bytes
-item_fault a_value_or_end left bytes = unless_end bytes (value_fault left bytes)
-item_fault (a_key_or_end before) left bytes = unless_end bytes (fault_of (key_at before bytes))
+item_fault a_value left bytes = first_row (value_rows left bytes)
+item_fault a_value_or_end left bytes = first_row (unless_end bytes (value_rows left bytes))
+item_fault (a_key_or_end before) left bytes = first_row (unless_end bytes (key_rows before bytes))
 
 -- The bytes before `offset` are begun, and the item that is due there fails.
 pub record Stops (b : List ℕ) (kind : FaultKind) (offset : ℕ) : Type 0 where
@@ -103,15 +94,26 @@ TakesOne a_value = Unit {0}
 TakesOne a_value_or_end = Unit {0}
 TakesOne (a_key_or_end before) = ⊥
 
--- the mark of a list or of a dictionary is at the front
-abbrev pub StartsContainer : List ℕ → Type 0
-StartsContainer bytes = (inner : List ℕ) × ((bytes ≡ 108 ∷ inner) ⊎ (bytes ≡ 100 ∷ inner))
+-- a list of which one item is finished, or a dictionary of which one pair is
+abbrev pub HoldsOne : ℕ → List ℕ → Type 0
+HoldsOne room b =
+    ((v : Bencode) × IsLevel room (in_list (item v no_items)) b)
+    ⊎ ((k : List ℕ) × (v : Bencode) × IsLevel room (in_dict (pair k v no_pairs)) b)
 
--- `Reaches room bytes start`: at `start` a list or dictionary begins that may be opened
+-- a list begins at the front with a whole item, or a dictionary with a whole pair: so it has to
+-- grow
+abbrev pub StartsGrowing : ℕ → List ℕ → Type 0
+StartsGrowing room bytes = (first rest : List ℕ) × (bytes ≡ first ++ rest) × HoldsOne room first
+
+-- `Reaches room bytes start`: at `start` a list or dictionary begins that may be opened and has to
+-- grow
 abbrev pub Reaches : ℕ → List ℕ → List ℕ → Type 0
 Reaches room bytes start =
-    (levels : List Level) × (due : Due) × (left : ℕ) × (front : List ℕ) × (bytes ≡ front ++ start) × Begun room levels front due left × TakesOne due × (0 < left) × StartsContainer start
+    (levels : List Level) × (due : Due) × (left : ℕ) × (front : List ℕ)
+    × (bytes ≡ front ++ start) × Begun room levels front due left
+    × TakesOne due × (0 < left) × StartsGrowing (left - 1) start
 
--- The bytes before `offset` are begun, and a list or dictionary begins there that may be opened.
+-- The bytes before `offset` are begun, and a list or dictionary begins there that has to grow.
 abbrev pub Opens : List ℕ → ℕ → Type 0
-Opens b offset = (start : List ℕ) × (offset ≡ length b - length start) × Reaches max_open b start
+Opens b offset =
+    (start : List ℕ) × (offset ≡ length b - length start) × Reaches max_open b start

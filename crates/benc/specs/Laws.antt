@@ -14,18 +14,26 @@ CanonicalHasSpelling = (v : Bencode) → IsCanonical v → Spells v (spelling v)
 abbrev pub SpellingIsOfCanonical : Type 0
 SpellingIsOfCanonical = (v : Bencode) (b : List ℕ) → Spells v b → IsCanonical v × (b ≡ spelling v)
 
--- each spelling is of one value, and none is a proper beginning of another
+-- each spelling is of one value, and none is a proper prefix of another
 abbrev pub NoSpellingBeginsAnother : Type 0
-NoSpellingBeginsAnother = (v w : Bencode) (a b x y : List ℕ) → Spells v a → Spells w b → a ++ x ≡ b ++ y → (v ≡ w) × (a ≡ b)
+NoSpellingBeginsAnother =
+    (v w : Bencode) (a b x y : List ℕ) → Spells v a → Spells w b → a ++ x ≡ b ++ y
+    → (v ≡ w) × (a ≡ b)
 
 -- each input spells a value, or has a fault
 abbrev pub SpellsOrFails : Type 0
-SpellsOrFails = (b : List ℕ) → ((v : Bencode) × Spells v b) ⊎ ((kind : FaultKind) × (offset : ℕ) × Fails b kind offset)
+SpellsOrFails =
+    (b : List ℕ)
+    → ((v : Bencode) × Spells v b) ⊎ ((kind : FaultKind) × (offset : ℕ) × Fails b kind offset)
 
 -- what spells a value has no fault
 abbrev pub SpellingHasNoFault : Type 0
-SpellingHasNoFault = (b : List ℕ) (v : Bencode) (kind : FaultKind) (offset : ℕ) → Spells v b → Fails b kind offset → ⊥
+SpellingHasNoFault =
+    (b : List ℕ) (v : Bencode) (kind : FaultKind) (offset : ℕ) → Spells v b
+    → Fails b kind offset → ⊥
 
 -- no input has two faults
 abbrev pub FaultIsOne : Type 0
-FaultIsOne = (b : List ℕ) (kind other : FaultKind) (offset place : ℕ) → Fails b kind offset → Fails b other place → (kind ≡ other) × (offset ≡ place)
+FaultIsOne =
+    (b : List ℕ) (kind other : FaultKind) (offset place : ℕ) → Fails b kind offset
+    → Fails b other place → (kind ≡ other) × (offset ≡ place)

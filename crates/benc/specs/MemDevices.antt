@@ -1,8 +1,9 @@
--- What devices over memory hold: their bytes, the calls that they count, and at most how many bytes a call moves.
-use Rattle.std.specs.Prelude.{◌≡◌, ℕ, ◌+◌, List, Bool, Result, MatchResult}
-use Rattle.benc.specs.declared.calls.Calls.{Calls}
-use Rattle.benc.specs.declared.memory.MemSink.{MemSink}
-use Rattle.benc.specs.declared.memory.MemSource.{MemSource}
+-- What devices over memory hold: their bytes, the calls that they count, and how many bytes a call
+-- moves at most.
+use Rattle.std.specs.Prelude.{ℕ, List, Bool}
+use Rattle.benc.specs.declared.memory.calls.Calls.{Calls}
+use Rattle.benc.specs.declared.memory.sink.MemSink.{MemSink}
+use Rattle.benc.specs.declared.memory.source.MemSource.{MemSource}
 
 -- the bytes that a source has still to give
 abbrev pub bytes_left : MemSource → List ℕ
@@ -34,7 +35,3 @@ flush_count sink = sink.flushes
 -- nothing was taken after the last flush that succeeded
 abbrev pub has_flushed : MemSink → Bool
 has_flushed sink = sink.flushed
-
--- a number of bytes falls by as many as the call moved, and not at all where it failed
-abbrev pub FallsBy : {E : Type 0} → ℕ → ℕ → Result ℕ E → Type 0
-FallsBy old new r = MatchResult r (λ n. new + n ≡ old) (λ _. new ≡ old)

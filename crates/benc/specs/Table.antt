@@ -1,81 +1,95 @@
--- Items of bencoding (BEP 3; the order of the faults is this project's profile), from left to right: what stands at the front, or the first line of the table of faults that holds.
-use Rattle.std.specs.Prelude.{◌≡◌, ◌<◌, IsTrue, ℕ, zero, suc, ◌^◌, ℤ, pos, negsuc, Bool, true, false, not, ◌&&◌, ◌||◌, ◌==◌, nat_lt, nat_le, if◌then◌else◌, List, [], ◌∷◌, length, take, drop, slice_index, Option, Some, None, Result, Ok, Err}
-use Rattle.std.specs.List.{prefix_len}
+-- The table of faults (BEP 3, "bencoding"; the order of the faults is this project's profile). Each
+-- row is a test of the input from the place where an item is due, and the fault that comes if no
+-- row above it holds.
+use Rattle.std.specs.Prelude.{ℕ, Bool, true, false, not, ◌&&◌, ◌||◌, ◌==◌, nat_lt, if◌then◌else◌, List, [], ◌∷◌, ◌++◌, length, take, drop, Option, Some, None}
 use Rattle.std.specs.Str.Parse.{digits_value}
-use Rattle.std.specs.Ordering.{nat_cmp, is_lt}
-use Rattle.std.specs.Cmp.Lexicographic.{slice_cmp}
+use Rattle.benc.specs.Ascii.{minus_sign, digit_zero, colon, dict_mark, integer_mark, list_mark, end_mark}
+use Rattle.benc.specs.Digits.{is_digit, digits_of_front, after_digits, in_range}
+use Rattle.benc.specs.Spelling.{is_above}
 use Rattle.benc.specs.declared.fault.FaultKind.{FaultKind}
-use Rattle.benc.specs.declared.fault.FaultKind.TheVariants.{Truncated, BadStart, BadInteger, IntegerRange, BadLength, KeyOrder}
+use Rattle.benc.specs.declared.fault.FaultKind.TheVariants.{Truncated, BadStart, BadInteger, IntegerRange, BadLength, KeyOrder, TooDeep}
 
--- ASCII '0' to '9'
-abbrev pub is_digit : ℕ → Bool
-is_digit c = nat_le 48 c && nat_le c 57
+abbrev pub Row : Type 0
+Row = Bool × FaultKind
 
--- the longest run of digits at the front, and what follows it
-abbrev pub digits_of_front : List ℕ → List ℕ
-digits_of_front bytes = take (prefix_len is_digit bytes) bytes
+-- the fault of the first row whose test holds
+abbrev pub first_row : List Row → Option FaultKind
+first_row [] = None
+first_row (row ∷ rows) = if row.0 then Some row.1 else first_row rows
 
-abbrev pub after_digits : List ℕ → List ℕ
-after_digits bytes = drop (prefix_len is_digit bytes) bytes
+-- the input has ended
+abbrev pub has_ended : List ℕ → Bool
+has_ended [] = true
+has_ended (c ∷ rest) = false
 
--- digits with no leading zero, but for `0` itself
-abbrev pub is_plain : List ℕ → Bool
-is_plain run = nat_lt 0 (length run) && (not (slice_index run 0 == 48) || (length run == 1))
+abbrev pub starts_with : ℕ → List ℕ → Bool
+starts_with byte [] = false
+starts_with byte (c ∷ rest) = c == byte
 
--- the number that a sign and digits write
-abbrev pub signed : Bool → ℕ → ℤ
-signed false n = pos n
-signed true zero = pos 0
-signed true (suc n) = negsuc n
+abbrev pub starts_with_digit : List ℕ → Bool
+starts_with_digit [] = false
+starts_with_digit (c ∷ rest) = is_digit c
 
--- a signed number of 64 bits
-abbrev pub in_range : Bool → ℕ → Bool
-in_range minus n = if minus then nat_le n (2 ^ 63) else nat_lt n (2 ^ 63)
+-- a run of two digits or more, the first of which is 0
+abbrev pub has_leading_zero : List ℕ → Bool
+has_leading_zero [] = false
+has_leading_zero (d ∷ []) = false
+has_leading_zero (d ∷ e ∷ run) = d == digit_zero
 
--- the digits have been read: what follows them
-abbrev pub integer_of : Bool → List ℕ → List ℕ → Result (ℤ × List ℕ) FaultKind
-integer_of minus run [] = Err Truncated
-integer_of minus run (c ∷ rest) =
-    if not (c == 101) || not (is_plain run) || (minus && (slice_index run 0 == 48)) then Err BadInteger
-    else (if in_range minus (digits_value 10 run) then Ok (signed minus (digits_value 10 run), rest) else Err IntegerRange)
+-- the run `0`
+abbrev pub is_zero : List ℕ → Bool
+is_zero [] = false
+is_zero (d ∷ []) = d == digit_zero
+is_zero (d ∷ e ∷ run) = false
 
-abbrev pub digits_at : Bool → List ℕ → Result (ℤ × List ℕ) FaultKind
-digits_at minus bytes = integer_of minus (digits_of_front bytes) (after_digits bytes)
+-- an integer: behind `i` and an optional `-` the longest run of digits, and what follows it
+abbrev pub digit_rows : Bool → List ℕ → List ℕ → List Row
+digit_rows minus run after =
+    (has_ended after, Truncated)
+    ∷ (
+      not (starts_with end_mark after) || has_ended run || has_leading_zero run
+          || (minus && is_zero run),
+      BadInteger,
+    )
+    ∷ (not (in_range minus (digits_value 10 run)), IntegerRange)
+    ∷ []
 
--- an integer, behind its `i`
-abbrev pub integer_at : List ℕ → Result (ℤ × List ℕ) FaultKind
-integer_at [] = digits_at false []
-integer_at (c ∷ rest) = if c == 45 then digits_at true rest else digits_at false (c ∷ rest)
+abbrev pub integer_rows : List ℕ → List Row
+integer_rows bytes =
+    let minus = starts_with minus_sign bytes in
+    let number = if minus then drop 1 bytes else bytes in
+    digit_rows minus (digits_of_front number) (after_digits number)
 
-abbrev pub string_of : List ℕ → List ℕ → Result (List ℕ × List ℕ) FaultKind
-string_of run [] = Err Truncated
-string_of run (c ∷ rest) =
-    if not (c == 58) || not (is_plain run) || nat_lt 10 (length run) then Err BadLength
-    else (if nat_lt (length rest) (digits_value 10 run) then Err Truncated else Ok (take (digits_value 10 run) rest, drop (digits_value 10 run) rest))
+-- a byte string: the longest run of digits, and what follows it
+abbrev pub length_rows : List ℕ → List ℕ → List Row
+length_rows run after =
+    (has_ended after, Truncated)
+    ∷ (not (starts_with colon after) || has_leading_zero run || nat_lt 10 (length run), BadLength)
+    ∷ (nat_lt (length (drop 1 after)) (digits_value 10 run), Truncated)
+    ∷ []
 
--- a byte string, which begins with a digit
-abbrev pub string_at : List ℕ → Result (List ℕ × List ℕ) FaultKind
-string_at bytes = string_of (digits_of_front bytes) (after_digits bytes)
+abbrev pub string_rows : List ℕ → List Row
+string_rows bytes = length_rows (digits_of_front bytes) (after_digits bytes)
 
--- a key is above the key before it, where there is one
-abbrev pub is_above : List ℕ → Option (List ℕ) → Bool
-is_above key None = true
-is_above key (Some last) = is_lt (slice_cmp nat_cmp last key)
+-- the bytes behind the colon, as many as the run says
+abbrev pub string_bytes : List ℕ → List ℕ
+string_bytes bytes = take (digits_value 10 (digits_of_front bytes)) (drop 1 (after_digits bytes))
 
-abbrev pub in_order : Option (List ℕ) → Result (List ℕ × List ℕ) FaultKind → Result (List ℕ × List ℕ) FaultKind
-in_order before (Ok k) = if is_above k.0 before then Ok k else Err KeyOrder
-in_order before (Err f) = Err f
+-- a value, where `left` more lists and dictionaries may be opened
+abbrev pub value_rows : ℕ → List ℕ → List Row
+value_rows left [] = (true, Truncated) ∷ []
+value_rows left (c ∷ rest) =
+    if c == integer_mark then integer_rows rest
+    else (if is_digit c then string_rows (c ∷ rest)
+    else (not ((c == list_mark) || (c == dict_mark)), BadStart) ∷ (left == 0, TooDeep) ∷ [])
 
--- a key above the one before it
-abbrev pub key_at : Option (List ℕ) → List ℕ → Result (List ℕ × List ℕ) FaultKind
-key_at before [] = Err Truncated
-key_at before (c ∷ rest) = if is_digit c then in_order before (string_at (c ∷ rest)) else Err BadStart
+-- a key, behind the one before it
+abbrev pub key_rows : Option (List ℕ) → List ℕ → List Row
+key_rows before bytes =
+    (has_ended bytes, Truncated)
+    ∷ (not (starts_with_digit bytes), BadStart)
+    ∷ (string_rows bytes ++ (not (is_above (string_bytes bytes) before), KeyOrder) ∷ [])
 
--- a run of digits
-abbrev pub IsRun : List ℕ → Type 0
-IsRun run = (i : ℕ) → i < length run → IsTrue (is_digit (slice_index run i))
-
--- what a function of the code returned, seen by view, is what the table says
-abbrev pub Told : {X Y E : Type 0} → (X → Y) → Result X E → Result Y E → Type 0
-Told view (Ok x) told = told ≡ Ok (view x)
-Told view (Err e) told = told ≡ Err e
+-- the end mark, in the place of a value or a key, is no fault
+abbrev pub unless_end : List ℕ → List Row → List Row
+unless_end bytes rows = if starts_with end_mark bytes then [] else rows

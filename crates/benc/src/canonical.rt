@@ -13,8 +13,8 @@ use crate::value::{Pair, Value};
 pub(crate) const MAX_OPEN: u32 = 128;
 
 impl<'a> Value<'a> {
-    /// Whether the value has a spelling: its keys ascend strictly, its byte strings and keys are shorter than 10^10
-    /// bytes, and at most 128 lists and dictionaries are open at once.
+    /// Whether the value has a spelling: its keys ascend strictly, its byte strings and keys are
+    /// shorter than 10^10 bytes, and at most 128 lists and dictionaries are open at once.
     pub fn is_canonical(&self) -> bool
         ensures { IsTrue result ↔ IsCanonical (view self.now) }
     {
@@ -27,7 +27,10 @@ fn fits(v: &Value<'_>, room: u32) -> bool
     ensures { IsTrue result ↔ Fits room (view v.now) }
 {
     match v {
-        Value::Int(n) => is_in_range(*n),
+        Value::Int(n) => {
+            let _fits_64_bits = *n;
+            true
+        }
         Value::Bytes(text) => is_short(text),
         Value::List(items) => room > 0 && items_fit(items, room - 1),
         Value::Dict(pairs) => room > 0 && pairs_fit(pairs, room - 1),
@@ -57,14 +60,6 @@ fn pairs_fit(pairs: &Vec<Pair<'_>>, room: u32) -> bool
         }
         before = Some(pair.key);
     }
-    true
-}
-
-/// Each integer of 64 bits may be written.
-fn is_in_range(n: i64) -> bool
-    ensures always { IsTrue result }
-    ensures range { FitsSigned w64 n }
-{
     true
 }
 

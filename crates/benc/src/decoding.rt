@@ -1,101 +1,123 @@
-//! Decoding: the value that bytes spell, or their first fault (BEP 3, "bencoding", canonical form alone).
+//! Decoding: the value that bytes spell, or their first fault (BEP 3, "bencoding", canonical form
+//! alone).
 ghost use Rattle.std.specs.Prelude.{◌≡◌, ◌≢◌, ◌≤◌, ◌++◌, ◌⊎◌, List, ℕ, length, take, IfOk, IfErr, IfSome, MatchResult};
-ghost use Rattle.benc.specs.declared.fault.FaultKind.{FaultKind};
-ghost use Rattle.benc.specs.Fails.{Stops, Fails, Opens};
-ghost use Rattle.std.specs.Option.{option_copied, option_map};
-ghost use Rattle.benc.specs.Lookup.{get, StandsUnder};
+ghost use Rattle.std.specs.Option.{option_copied};
+ghost use Rattle.benc.specs.Answers.{AnswersFault, IsAtGrowth, IsFaultOf, UnlessNoMemory};
+ghost use Rattle.benc.specs.Fails.{Stops, Fails};
+ghost use Rattle.benc.specs.Lookup.{StandsUnder, span_of};
+ghost use Rattle.benc.specs.Parser.{IsSpanOf, StandsIn};
 ghost use Rattle.benc.specs.Spelling.{Spells};
 ghost use Rattle.benc.specs.Text.{spelling, IsCanonical};
 ghost use Rattle.benc.specs.Value.{Bencode};
 ghost use Rattle.benc.specs.View.{view};
+ghost use Rattle.benc.specs.declared.fault.FaultKind.{FaultKind};
 
 use crate::canonical::MAX_OPEN;
 use crate::fault::{Fault, FaultKind};
-use crate::reading::value;
+use crate::parser::value;
 use crate::stop::Stop;
 use crate::value::Value;
 use std::alloc::Global;
 
-/// The value at the front of the input, and how many bytes it takes. The faults are those of `decode`, but for
-/// `Trailing`.
-pub fn decode_front<'a>(alloc: Global, input: &'a [u8]) -> Result<(Value<'a>, usize), Fault>
-    ensures used { IfOk result (λ x. x.1 ≤ length input.now) }
-    ensures found { IfOk result (λ x. Spells (view x.0) (take x.1 input.now)) }
-    ensures fault { IfErr result (λ f. f.kind ≢ FaultKind.NoMemory → Stops input.now f.kind f.offset) }
-    ensures memory { IfErr result (λ f. f.kind ≡ FaultKind.NoMemory → Opens input.now f.offset) }
-    ensures only { (v : Bencode) (front rest : List ℕ) → input.now ≡ front ++ rest → Spells v front
-        → MatchResult result (λ x. (view x.0 ≡ v) × (x.1 ≡ length front)) (λ f. f.kind ≡ FaultKind.NoMemory) }
-{
-    let (v, _, used) = read_front(alloc, input, None)?;
-    Ok((v, used))
-}
-
 /// The value that the whole input spells, over the input's own bytes.
 ///
-/// Items are read from left to right and the first fault is told, with the offset in bytes at which the failing item
-/// starts; `FaultKind` says when each comes. `NoMemory` comes only where a list or dictionary could not grow, and tells
-/// where that one starts. After a fault there is no value. The time is linear in the input's length.
+/// Items are read from left to right and the first fault is answered, with the offset in bytes at
+/// which the failing item starts; `FaultKind` says when each comes. `NoMemory` comes only if a list
+/// or dictionary could not grow, and its offset is where that one starts. After a fault there is no
+/// value. The time is linear in the input's length.
 pub fn decode<'a>(alloc: Global, input: &'a [u8]) -> Result<Value<'a>, Fault>
     ensures found { IfOk result (λ v. Spells (view v) input.now) }
-    ensures fault { IfErr result (λ f. f.kind ≢ FaultKind.NoMemory → Fails input.now f.kind f.offset) }
-    ensures memory { IfErr result (λ f. f.kind ≡ FaultKind.NoMemory → Opens input.now f.offset) }
-    ensures only { (v : Bencode) → Spells v input.now → MatchResult result (λ w. view w ≡ v) (λ f. f.kind ≡ FaultKind.NoMemory) }
+    ensures fault { IfErr result (IsFaultOf (Fails input.now)) }
+    ensures memory { IfErr result (IsAtGrowth input.now) }
+    ensures only { (v : Bencode) → Spells v input.now → UnlessNoMemory result (λ w. view w ≡ v) }
     // It answers the one fault that the input has.
     ensures first { (kind : FaultKind) (offset : ℕ) → Fails input.now kind offset
-        → MatchResult result (λ _. ⊥) (λ f. f.kind ≢ FaultKind.NoMemory → (f.kind ≡ kind) × (f.offset ≡ offset)) }
+        → AnswersFault result kind offset }
     // What `encode` writes of a value gives that value.
-    ensures encoded { (v : Bencode) → IsCanonical v → input.now ≡ spelling v → MatchResult result (λ w. view w ≡ v) (λ f. f.kind ≡ FaultKind.NoMemory) }
+    ensures encoded { (v : Bencode) → IsCanonical v → input.now ≡ spelling v
+        → UnlessNoMemory result (λ w. view w ≡ v) }
 {
-    let (v, _) = read_whole(alloc, input, None)?;
+    let (v, _) = parse_whole(alloc, input, None)?;
     Ok(v)
 }
 
-/// The value that the whole input spells, and the bytes of the value under `key` in it, as `span` gives them. It reads
-/// the input once. The faults are those of `decode`.
+/// The value at the front of the input, and how many bytes it takes. The faults are those of
+/// `decode`, except for `Trailing`.
+pub fn decode_front<'a>(alloc: Global, input: &'a [u8]) -> Result<(Value<'a>, usize), Fault>
+    ensures used { IfOk result (λ x. x.1 ≤ length input.now) }
+    ensures found { IfOk result (λ x. Spells (view x.0) (take x.1 input.now)) }
+    ensures fault { IfErr result (IsFaultOf (Stops input.now)) }
+    ensures memory { IfErr result (IsAtGrowth input.now) }
+    ensures only { (v : Bencode) (front rest : List ℕ) → input.now ≡ front ++ rest → Spells v front
+        → UnlessNoMemory result (λ x. (view x.0 ≡ v) × (x.1 ≡ length front)) }
+    // It answers the one fault that the input has.
+    ensures first { (kind : FaultKind) (offset : ℕ) → Stops input.now kind offset
+        → AnswersFault result kind offset }
+{
+    let (v, _, used) = parse_front(alloc, input, None)?;
+    Ok((v, used))
+}
+
+/// The value that the whole input spells, and the bytes of the value under `key` in it, as `span`
+/// gives them. It reads the input once. The faults are those of `decode`.
 pub fn decode_with_span<'a>(
     alloc: Global,
     input: &'a [u8],
     key: &[u8],
 ) -> Result<(Value<'a>, Option<&'a [u8]>), Fault>
     ensures found { IfOk result (λ x. Spells (view x.0) input.now) }
-    ensures span { IfOk result (λ x. option_copied x.1 ≡ option_map spelling (get key.now (view x.0))) }
+    ensures span { IfOk result (λ x. option_copied x.1 ≡ span_of key.now (view x.0)) }
     // The bytes stand in the input, behind the key.
     ensures stands { IfOk result (λ x. IfSome (option_copied x.1) (StandsUnder input.now key.now)) }
-    ensures fault { IfErr result (λ f. f.kind ≢ FaultKind.NoMemory → Fails input.now f.kind f.offset) }
-    ensures memory { IfErr result (λ f. f.kind ≡ FaultKind.NoMemory → Opens input.now f.offset) }
-    ensures only { (v : Bencode) → Spells v input.now → MatchResult result (λ x. view x.0 ≡ v) (λ f. f.kind ≡ FaultKind.NoMemory) }
+    ensures fault { IfErr result (IsFaultOf (Fails input.now)) }
+    ensures memory { IfErr result (IsAtGrowth input.now) }
+    ensures only { (v : Bencode) → Spells v input.now
+        → UnlessNoMemory result (λ x. view x.0 ≡ v) }
+    // It answers the one fault that the input has.
+    ensures first { (kind : FaultKind) (offset : ℕ) → Fails input.now kind offset
+        → AnswersFault result kind offset }
 {
-    read_whole(alloc, input, Some(key))
+    parse_whole(alloc, input, Some(key))
 }
 
-/// The bytes, as found, of the value under `key` in the dictionary that the input spells. There are none where the input
-/// spells no dictionary, or one that lacks the key. The faults are those of `decode`.
+/// The bytes, as found, of the value under `key` in the dictionary that the input spells. There are
+/// none if the input spells no dictionary, or one that lacks the key. The faults are those of
+/// `decode`.
 pub fn span<'a>(alloc: Global, input: &'a [u8], key: &[u8]) -> Result<Option<&'a [u8]>, Fault>
-    ensures found { IfOk result (λ s. (v : Bencode) × Spells v input.now × (option_copied s ≡ option_map spelling (get key.now v))) }
+    ensures found { IfOk result (λ s. (v : Bencode) × Spells v input.now
+        × (option_copied s ≡ span_of key.now v)) }
     // The bytes stand in the input, behind the key.
     ensures stands { IfOk result (λ s. IfSome (option_copied s) (StandsUnder input.now key.now)) }
-    ensures fault { IfErr result (λ f. f.kind ≢ FaultKind.NoMemory → Fails input.now f.kind f.offset) }
-    ensures memory { IfErr result (λ f. f.kind ≡ FaultKind.NoMemory → Opens input.now f.offset) }
+    ensures fault { IfErr result (IsFaultOf (Fails input.now)) }
+    ensures memory { IfErr result (IsAtGrowth input.now) }
     ensures only { (v : Bencode) → Spells v input.now
-        → MatchResult result (λ s. option_copied s ≡ option_map spelling (get key.now v)) (λ f. f.kind ≡ FaultKind.NoMemory) }
+        → UnlessNoMemory result (λ s. option_copied s ≡ span_of key.now v) }
+    // It answers the one fault that the input has.
+    ensures first { (kind : FaultKind) (offset : ℕ) → Fails input.now kind offset
+        → AnswersFault result kind offset }
 {
-    let (_, span) = read_whole(alloc, input, Some(key))?;
+    let (_, span) = parse_whole(alloc, input, Some(key))?;
     Ok(span)
 }
 
-fn read_whole<'a>(
+/// The value that the whole input spells, and the bytes of the value under the key that is asked
+/// for.
+fn parse_whole<'a>(
     alloc: Global,
     input: &'a [u8],
     asked: Option<&[u8]>,
 ) -> Result<(Value<'a>, Option<&'a [u8]>), Fault>
     ensures found { IfOk result (λ x. Spells (view x.0) input.now) }
-    ensures span { IfOk result (λ x. IfSome (option_copied asked.entry) (λ key. option_copied x.1 ≡ option_map spelling (get key (view x.0)))) }
-    ensures stands { IfOk result (λ x. IfSome (option_copied asked.entry) (λ key. IfSome (option_copied x.1) (StandsUnder input.now key))) }
-    ensures fault { IfErr result (λ f. f.kind ≢ FaultKind.NoMemory → Fails input.now f.kind f.offset) }
-    ensures memory { IfErr result (λ f. f.kind ≡ FaultKind.NoMemory → Opens input.now f.offset) }
-    ensures only { (v : Bencode) → Spells v input.now → MatchResult result (λ x. view x.0 ≡ v) (λ f. f.kind ≡ FaultKind.NoMemory) }
+    ensures span { IfOk result (λ x. IsSpanOf asked.entry (view x.0) x.1) }
+    ensures stands { IfOk result (λ x. StandsIn input.now asked.entry x.1) }
+    ensures fault { IfErr result (IsFaultOf (Fails input.now)) }
+    ensures memory { IfErr result (IsAtGrowth input.now) }
+    ensures only { (v : Bencode) → Spells v input.now
+        → UnlessNoMemory result (λ x. view x.0 ≡ v) }
+    ensures first { (kind : FaultKind) (offset : ℕ) → Fails input.now kind offset
+        → AnswersFault result kind offset }
 {
-    let (v, span, used) = read_front(alloc, input, asked)?;
+    let (v, span, used) = parse_front(alloc, input, asked)?;
     if used < input.len() {
         return Err(Fault {
             kind: FaultKind::Trailing,
@@ -105,28 +127,32 @@ fn read_whole<'a>(
     Ok((v, span))
 }
 
-fn read_front<'a>(
+/// The value at the front, the bytes of the value under the key that is asked for, and how many
+/// bytes it takes.
+fn parse_front<'a>(
     alloc: Global,
     input: &'a [u8],
     asked: Option<&[u8]>,
 ) -> Result<(Value<'a>, Option<&'a [u8]>, usize), Fault>
     ensures used { IfOk result (λ x. x.2 ≤ length input.now) }
     ensures found { IfOk result (λ x. Spells (view x.0) (take x.2 input.now)) }
-    ensures span { IfOk result (λ x. IfSome (option_copied asked.entry) (λ key. option_copied x.1 ≡ option_map spelling (get key (view x.0)))) }
-    ensures fault { IfErr result (λ f. f.kind ≢ FaultKind.NoMemory → Stops input.now f.kind f.offset) }
-    ensures memory { IfErr result (λ f. f.kind ≡ FaultKind.NoMemory → Opens input.now f.offset) }
+    ensures span { IfOk result (λ x. IsSpanOf asked.entry (view x.0) x.1) }
+    ensures fault { IfErr result (IsFaultOf (Stops input.now)) }
+    ensures memory { IfErr result (IsAtGrowth input.now) }
     ensures only { (v : Bencode) (front rest : List ℕ) → input.now ≡ front ++ rest → Spells v front
-        → MatchResult result (λ x. (view x.0 ≡ v) × (x.2 ≡ length front)) (λ f. f.kind ≡ FaultKind.NoMemory) }
+        → UnlessNoMemory result (λ x. (view x.0 ≡ v) × (x.2 ≡ length front)) }
+    ensures first { (kind : FaultKind) (offset : ℕ) → Stops input.now kind offset
+        → AnswersFault result kind offset }
 {
     match value(alloc, input, MAX_OPEN, asked) {
         Ok((v, span, rest)) => Ok((v, span, input.len() - rest.len())),
         Err(Stop::Memory(rest)) => Err(Fault {
             kind: FaultKind::NoMemory,
-            offset: input.len().saturating_sub(rest.len()),
+            offset: input.len() - rest.len(),
         }),
         Err(Stop::Fault(kind, rest)) => Err(Fault {
             kind,
-            offset: input.len().saturating_sub(rest.len()),
+            offset: input.len() - rest.len(),
         }),
     }
 }

@@ -1,7 +1,7 @@
 //! Devices that bytes come from and go to. Each counts the calls that it answered with a fault.
-ghost use Rattle.std.specs.Prelude.{◌≡◌, ℕ, ◌+◌, ◌-◌, ◌%◌, ◌^◌, ◌<◌, ◌≤◌, List, length, take, Option, None, MatchResult, IfOk, OnOk, OnErr, Bool, true};
-ghost use Rattle.std.specs.Io.KnownBytes.{Appends, Keeps, ReadConsumes, WriteAppends};
-ghost use Rattle.benc.specs.Device.{AppendsBeginning, CountsFault, one_more};
+ghost use Rattle.std.specs.Prelude.{◌≡◌, ◌+◌, ◌-◌, ◌%◌, ◌^◌, ◌<◌, ◌≤◌, length, IfOk, OnOk, true};
+ghost use Rattle.std.specs.Io.KnownBytes.{Keeps, ReadConsumes, WriteAppends};
+ghost use Rattle.benc.specs.Device.{CountsFault, FallsBy, Wrote, one_more};
 ghost use Rattle.benc.specs.declared.device.WriteFault.TheVariants.{Write};
 
 use std::error::Error;
@@ -56,69 +56,57 @@ impl From<DeviceFault> for WriteFault {
 
 /// A device that bytes come from.
 pub trait Source {
-    // The bytes that reads will give from here on, where they are known.
-    ghost left: { Self → Option (List ℕ) };
+    ghost use Rattle.benc.specs.Device.{SourceSeen};
 
-    // At most how many bytes reads will still give.
-    ghost limit: { Self → ℕ };
+    /// What callers see of it.
+    ghost seen: { Self → SourceSeen };
 
-    // How many calls were answered with a fault, modulo 2^64.
-    ghost faults: { Self → ℕ };
-
-    /// Fills a beginning of `buf`. It answers 0 only at the end, or where `buf` is empty.
+    /// Fills a prefix of `buf` and answers its length, which is 0 only at the end or if `buf` is
+    /// empty.
     fn read(&mut self, buf: &mut [u8]) -> Result<usize, DeviceFault>
         ensures bound { IfOk result (λ n. n ≤ length buf.new) }
-        ensures bytes { ReadConsumes (left self.old) (left self.new) result buf.new }
-        ensures falls { MatchResult result (λ n. limit self.new + n ≡ limit self.old) (λ _. limit self.new ≡ limit self.old) }
-        ensures counts { CountsFault (faults self.old) (faults self.new) result };
+        ensures bytes { ReadConsumes (seen self.old).left (seen self.new).left result buf.new }
+        ensures falls { FallsBy (seen self.old).limit (seen self.new).limit result }
+        ensures counts { CountsFault (seen self.old).faults (seen self.new).faults result };
 
     /// How many calls were answered with a fault, modulo 2^64.
     fn failures(&self) -> u64
-        ensures { result ≡ faults self.now };
+        ensures { result ≡ (seen self.now).faults };
 
-    ghost finite: { (source : Self) → limit source < 2 ^ 64 };
+    ghost finite: { (source : Self) → (seen source).limit < 2 ^ 64 };
 }
 
 /// A device that bytes go to.
 pub trait Sink {
-    // The bytes that were written, where they are known.
-    ghost written: { Self → Option (List ℕ) };
+    ghost use Rattle.benc.specs.Device.{SinkSeen};
 
-    // How many calls were answered with a fault, modulo 2^64.
-    ghost faults: { Self → ℕ };
+    /// What callers see of it. No clause of `write` speaks of `is_flushed`.
+    ghost seen: { Self → SinkSeen };
 
-    // How often `flush` was called, modulo 2^64.
-    ghost flushes: { Self → ℕ };
-
-    // Nothing was written after the last flush. No clause of `write` speaks of it.
-    ghost is_flushed: { Self → Bool };
-
-    /// Takes a beginning of `buf`, and at least one byte where there is one.
+    /// Takes a prefix of `buf` and answers its length, which is 0 only if `buf` is empty.
     fn write(&mut self, buf: &[u8]) -> Result<usize, DeviceFault>
         ensures bound { IfOk result (λ n. n ≤ length buf.now) }
         ensures some { IfOk result (λ n. 0 < length buf.now → 0 < n) }
-        ensures bytes { WriteAppends (written self.old) (written self.new) result buf.now }
-        ensures counts { CountsFault (faults self.old) (faults self.new) result }
-        ensures flushes { flushes self.new ≡ flushes self.old };
+        ensures bytes { WriteAppends (seen self.old).written (seen self.new).written result
+            buf.now }
+        ensures counts { CountsFault (seen self.old).faults (seen self.new).faults result }
+        ensures flushes { (seen self.new).flushes ≡ (seen self.old).flushes };
 
     /// Hands on what was written, and is counted whether it fails or not. Nothing is written by it.
     fn flush(&mut self) -> Result<(), DeviceFault>
-        ensures bytes { Keeps (written self.old) (written self.new) }
-        ensures flushed { OnOk result (is_flushed self.new ≡ true) }
-        ensures counts { CountsFault (faults self.old) (faults self.new) result }
-        ensures flushes { flushes self.new ≡ one_more (flushes self.old) };
+        ensures bytes { Keeps (seen self.old).written (seen self.new).written }
+        ensures flushed { OnOk result ((seen self.new).is_flushed ≡ true) }
+        ensures counts { CountsFault (seen self.old).faults (seen self.new).faults result }
+        ensures flushes { (seen self.new).flushes ≡ one_more (seen self.old).flushes };
 
     /// How many calls were answered with a fault, modulo 2^64.
     fn failures(&self) -> u64
-        ensures { result ≡ faults self.now };
+        ensures { result ≡ (seen self.now).faults };
 }
 
-/// Writes all these bytes, and does not flush. After a fault a beginning of them went out.
+/// Writes all these bytes, and does not flush. After a fault a prefix of them went out.
 pub fn write_all<W: Sink>(out: &mut W, bytes: &[u8]) -> Result<(), DeviceFault>
-    ensures ok { OnOk result (Appends (W.written out.old) (W.written out.new) bytes.now) }
-    ensures err { OnErr result (AppendsBeginning (W.written out.old) (W.written out.new) bytes.now) }
-    ensures counts { CountsFault (W.faults out.old) (W.faults out.new) result }
-    ensures flushes { W.flushes out.new ≡ W.flushes out.old }
+    ensures { Wrote (W.seen out.old) (W.seen out.new) result bytes.now }
 {
     let mut start = 0;
     'parts: while start < bytes.len() {

@@ -1,23 +1,19 @@
 //! From a value to the bytes that spell it.
-ghost use Rattle.std.specs.Prelude.{◌≡◌, ℕ, List, [], ◌∷◌, ◌++◌, Option, OnOk, OnErr};
-ghost use Rattle.std.specs.Io.KnownBytes.{Appends};
-ghost use Rattle.benc.specs.Device.{AppendsBeginning, CountsFault, Wrote};
+ghost use Rattle.benc.specs.Device.{Wrote};
 ghost use Rattle.benc.specs.Spelling.{string, integer};
-ghost use Rattle.benc.specs.Text.{spelling, items_spelling, pairs_spelling, IsCanonical};
+ghost use Rattle.benc.specs.Text.{spelling, IsCanonical};
+ghost use Rattle.benc.specs.Value.{list, dict};
 ghost use Rattle.benc.specs.View.{view, items_view, pairs_view};
 
 use crate::device::{DeviceFault, Sink, WriteFault, write_all};
-use crate::numeral::Numeral;
 use crate::value::{Pair, Value};
+use itoa::Buffer;
 
-/// Writes the one spelling of a value. It takes no memory and does not flush. After a fault a beginning of the spelling
-/// went out.
+/// Writes the one spelling of a canonical value (`Value::is_canonical` tells whether it is one). It
+/// takes no memory and does not flush. After a fault a prefix of the spelling went out.
 pub fn encode<W: Sink>(v: &Value<'_>, w: &mut W) -> Result<(), WriteFault>
     requires { IsCanonical (view v.now) }
-    ensures ok { OnOk result (Appends (W.written w.old) (W.written w.new) (spelling (view v.now))) }
-    ensures err { OnErr result (AppendsBeginning (W.written w.old) (W.written w.new) (spelling (view v.now))) }
-    ensures counts { CountsFault (W.faults w.old) (W.faults w.new) result }
-    ensures flushes { W.flushes w.new ≡ W.flushes w.old }
+    ensures { Wrote (W.seen w.old) (W.seen w.new) result (spelling (view v.now)) }
 {
     write_value(v, w)?;
     Ok(())
@@ -25,10 +21,10 @@ pub fn encode<W: Sink>(v: &Value<'_>, w: &mut W) -> Result<(), WriteFault>
 
 #[cycle(write)]
 fn write_value<W: Sink>(v: &Value<'_>, w: &mut W) -> Result<(), DeviceFault>
-    ensures { Wrote W.written W.faults W.flushes w.old w.new result (spelling (view v.now)) }
+    ensures { Wrote (W.seen w.old) (W.seen w.new) result (spelling (view v.now)) }
 {
     match v {
-        Value::Int(n) => write_text(Numeral::of_integer(*n).as_slice(), w),
+        Value::Int(n) => write_integer(*n, w),
         Value::Bytes(text) => write_string(text, w),
         Value::List(items) => write_list(items, w),
         Value::Dict(pairs) => write_dict(pairs, w),
@@ -37,36 +33,43 @@ fn write_value<W: Sink>(v: &Value<'_>, w: &mut W) -> Result<(), DeviceFault>
 
 #[cycle(write)]
 fn write_list<W: Sink>(items: &Vec<Value<'_>>, w: &mut W) -> Result<(), DeviceFault>
-    ensures { Wrote W.written W.faults W.flushes w.old w.new result (108 ∷ (items_spelling (items_view items.now.items) ++ 101 ∷ [])) }
+    ensures { Wrote (W.seen w.old) (W.seen w.new) result
+        (spelling (list (items_view items.now.items))) }
 {
-    write_text(b"l", w)?;
+    write_all(w, b"l")?;
     'items: for item in items {
         write_value(item, w)?;
     }
-    write_text(b"e", w)
+    write_all(w, b"e")
 }
 
 #[cycle(write)]
 fn write_dict<W: Sink>(pairs: &Vec<Pair<'_>>, w: &mut W) -> Result<(), DeviceFault>
-    ensures { Wrote W.written W.faults W.flushes w.old w.new result (100 ∷ (pairs_spelling (pairs_view pairs.now.items) ++ 101 ∷ [])) }
+    ensures { Wrote (W.seen w.old) (W.seen w.new) result
+        (spelling (dict (pairs_view pairs.now.items))) }
 {
-    write_text(b"d", w)?;
+    write_all(w, b"d")?;
     'pairs: for pair in pairs {
         write_string(pair.key, w)?;
         write_value(&pair.value, w)?;
     }
-    write_text(b"e", w)
+    write_all(w, b"e")
+}
+
+fn write_integer<W: Sink>(n: i64, w: &mut W) -> Result<(), DeviceFault>
+    ensures { Wrote (W.seen w.old) (W.seen w.new) result (integer n) }
+{
+    let mut digits = Buffer::new();
+    write_all(w, b"i")?;
+    write_all(w, digits.format(n).as_bytes())?;
+    write_all(w, b"e")
 }
 
 fn write_string<W: Sink>(text: &[u8], w: &mut W) -> Result<(), DeviceFault>
-    ensures { Wrote W.written W.faults W.flushes w.old w.new result (string text.now) }
+    ensures { Wrote (W.seen w.old) (W.seen w.new) result (string text.now) }
 {
-    write_text(Numeral::of_length(text.len()).as_slice(), w)?;
-    write_text(text, w)
-}
-
-fn write_text<W: Sink>(text: &[u8], w: &mut W) -> Result<(), DeviceFault>
-    ensures { Wrote W.written W.faults W.flushes w.old w.new result text.now }
-{
+    let mut digits = Buffer::new();
+    write_all(w, digits.format(text.len()).as_bytes())?;
+    write_all(w, b":")?;
     write_all(w, text)
 }

@@ -1,4 +1,4 @@
-//! The laws of canonical bencoding (BEP 3). A proof that calls one of these has its law.
+//! The laws of canonical bencoding (BEP 3). A function that calls one of these knows its law.
 
 ghost use Rattle.benc.specs.Laws.{CanonicalHasSpelling, SpellingIsOfCanonical, NoSpellingBeginsAnother, SpellsOrFails, SpellingHasNoFault, FaultIsOne};
 
@@ -12,7 +12,7 @@ pub fn spelling_is_of_canonical()
     ensures { SpellingIsOfCanonical }
 {}
 
-/// Each spelling is of one value, and none is a proper beginning of another.
+/// Each spelling is of one value, and none is a proper prefix of another.
 pub fn no_spelling_begins_another()
     ensures { NoSpellingBeginsAnother }
 {}

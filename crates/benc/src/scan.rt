@@ -6,7 +6,9 @@ ghost use Rattle.std.specs.Option.{SomeIff};
 ghost use Rattle.std.specs.Int.{w64};
 ghost use Rattle.std.specs.List.{prefix_len, list_all};
 ghost use Rattle.std.specs.Str.Parse.{digits_value};
-ghost use Rattle.benc.specs.Table.{is_digit, digits_of_front, after_digits, is_plain, is_above, in_range, signed, integer_at, integer_of, digits_at, string_at, string_of, key_at, IsRun, Told};
+ghost use Rattle.benc.specs.Digits.{is_digit, digits_of_front, after_digits, in_range, signed, IsRun};
+ghost use Rattle.benc.specs.Spelling.{is_above};
+ghost use Rattle.benc.specs.Items.{is_plain, integer_at, integer_of, digits_at, string_at, string_of, key_at, Told};
 
 use crate::fault::FaultKind;
 use std::cmp::Ordering;
@@ -27,7 +29,7 @@ fn digit_count(bytes: &[u8]) -> usize
     ensures bound { result ≤ length bytes.now }
 {
     for (i, c) in bytes.iter().enumerate() {
-        if *c < b'0' || *c > b'9' {
+        if !c.is_ascii_digit() {
             return i;
         }
     }
@@ -43,7 +45,7 @@ fn split_digits(bytes: &[u8]) -> (&[u8], &[u8])
     bytes.split_at(digit_count(bytes))
 }
 
-/// Digits with no leading zero, but for `0` itself.
+/// Digits with no leading zero, except for `0` itself.
 fn is_plain_number(run: &[u8]) -> bool
     ensures { result ≡ is_plain run.now }
 {
@@ -53,7 +55,7 @@ fn is_plain_number(run: &[u8]) -> bool
     }
 }
 
-/// The number that digits write, where it fits 64 bits.
+/// The number that digits write, if it fits 64 bits.
 fn number(run: &[u8]) -> Option<u64>
     requires { IsRun run.now }
     ensures { SomeIff result (digits_value 10 run.now < 2 ^ 64) (digits_value 10 run.now) }
@@ -68,7 +70,8 @@ fn number(run: &[u8]) -> Option<u64>
 /// The signed number of 64 bits with that sign and digits.
 fn signed_number(minus: bool, run: &[u8]) -> Option<i64>
     requires { IsRun run.now }
-    ensures value { SomeIff result (IsTrue (in_range minus (digits_value 10 run.now))) (signed minus (digits_value 10 run.now)) }
+    ensures value { let n = digits_value 10 run.now in
+        SomeIff result (IsTrue (in_range minus n)) (signed minus n) }
     ensures fits { IfSome result (λ n. FitsSigned w64 n) }
 {
     let n = number(run)?;
@@ -95,6 +98,7 @@ pub(crate) fn integer(bytes: &[u8]) -> Result<(i64, &[u8]), FaultKind>
     }
 }
 
+/// An integer, behind its sign.
 fn digits(minus: bool, bytes: &[u8]) -> Result<(i64, &[u8]), FaultKind>
     ensures read { Told (λ x. (x.0, x.1.now)) result (digits_at minus bytes.now) }
     ensures fits { IfOk result (λ x. FitsSigned w64 x.0) }
@@ -136,13 +140,14 @@ pub(crate) fn key<'a>(
     before: Option<&[u8]>,
     bytes: &'a [u8],
 ) -> Result<(&'a [u8], &'a [u8]), FaultKind>
-    ensures read { Told (λ x. (x.0.now, x.1.now)) result (key_at (option_copied before.entry) bytes.now) }
+    ensures read { let last = option_copied before.entry in
+        Told (λ x. (x.0.now, x.1.now)) result (key_at last bytes.now) }
     ensures shorter { IfOk result (λ x. length x.1.now < length bytes.now) }
 {
     match bytes {
         [] => Err(FaultKind::Truncated),
         [first, ..] => {
-            if *first < b'0' || *first > b'9' {
+            if !first.is_ascii_digit() {
                 return Err(FaultKind::BadStart);
             }
             let (key, rest) = string(bytes)?;
@@ -154,6 +159,7 @@ pub(crate) fn key<'a>(
     }
 }
 
+/// Whether a key is above the one before it, if there is one.
 pub(crate) fn is_above(key: &[u8], before: Option<&[u8]>) -> bool
     ensures { result ≡ is_above key.now (option_copied before.entry) }
 {

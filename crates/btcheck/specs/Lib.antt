@@ -1,2 +1,3 @@
--- What the program makes of words and of the file system.
+-- What the program makes of arguments, of the file system, and of the library's answers.
+pub mod Answers
 pub mod Places

@@ -6,9 +6,9 @@ use benc::FromWrite;
 use checker::{Fault, fault_line};
 use std::process::ExitCode;
 
-/// Prints the fault's line on standard error, and tells the exit status of a fault. A line that cannot be written is
-/// lost.
-pub(crate) fn report(rt: &HostRuntime, fault: &Fault<'_>) -> ExitCode
+/// Prints the fault's line on standard error, and gives the exit status of a fault. A line that
+/// cannot be written is lost.
+pub(crate) fn print_fault(rt: &HostRuntime, fault: &Fault<'_>) -> ExitCode
     ensures { exit_status result ≡ 2 }
 {
     let _ = fault_line(fault, &mut FromWrite::new(rt.stderr()));

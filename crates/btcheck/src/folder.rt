@@ -1,5 +1,5 @@
 //! A folder of the file system as a shelf.
-ghost use Rattle.std.specs.Prelude.{◌≡◌, [], ◌∷◌, ◌++◌, None, IfOk, map, string_bytes};
+ghost use Rattle.std.specs.Prelude.{◌≡◌, [], ◌∷◌, ◌++◌, None, IfOk, ⊤, map, string_bytes};
 ghost use Rattle.btcheck.specs.Places.{place_below};
 ghost use Rattle.benc.specs.Device.{one_more};
 
@@ -11,8 +11,8 @@ use std::io::{self, ErrorKind};
 
 /// The files below a folder. Opening follows symlinks, and fails at what is then no regular file.
 ///
-/// It looks at what stands there before it opens it, so that it waits at no named pipe and reads no device. One that
-/// takes a file's place between the look and the opening is opened.
+/// It looks at what stands there before it opens it, so that it waits at no named pipe and reads no
+/// device. One that takes a file's place between the look and the opening is opened.
 #[derive(Drop)]
 pub(crate) struct Folder<'a> {
     rt: &'a HostRuntime,
@@ -38,7 +38,8 @@ impl<'a> Folder<'a> {
 
     // The file system's path of what has these path components here.
     fn place_of(&self, path: &[&str]) -> Result<String, AllocError>
-        ensures { IfOk result (λ place. string_bytes place ≡ place_below self.now.dir.now (map (λ s. s.now) path.now)) }
+        ensures { IfOk result (λ place. string_bytes place
+            ≡ place_below self.now.dir.now (map (λ s. s.now) path.now)) }
     {
         let mut place = String::from_str(self.rt.alloc(), self.dir)?;
         'parts: for part in path {
@@ -48,7 +49,8 @@ impl<'a> Folder<'a> {
         Ok(place)
     }
 
-    // Opens the file with these path components, or answers that the system finds no such name. The empty name is none.
+    // Opens the file with these path components, or answers that the system finds no such name. An
+    // empty folder name is none.
     fn open_file(&self, path: &[&str]) -> io::Result<Option<File>> {
         if self.dir.is_empty() {
             return Ok(None);
@@ -60,7 +62,7 @@ impl<'a> Folder<'a> {
         }
     }
 
-    // Opens a regular file, and fails without opening where another kind stands there.
+    // Opens a regular file, and fails without opening if it is of another kind.
     fn open_regular(&self, place: &str) -> io::Result<File> {
         if !fs::metadata(self.rt, place)?.is_file() {
             return Err(io::Error::from(ErrorKind::InvalidInput));
@@ -68,7 +70,7 @@ impl<'a> Folder<'a> {
         File::open(self.rt, place)
     }
 
-    // Lists all files, folder by folder.
+    // Lists all files, folder by folder. No command lists yet; writing torrents will.
     fn list_files(&self) -> Result<Vec<Vec<String>>, ShelfFault> {
         let alloc = self.rt.alloc();
         let mut walk = Walk::from_top(alloc)?;
@@ -100,7 +102,8 @@ impl<'a> Folder<'a> {
 
 // The path of what has this name in a folder.
 fn path_in(alloc: Global, folder: &[String], name: &str) -> Result<Vec<String>, AllocError>
-    ensures { IfOk result (λ path. map string_bytes path.items ≡ map string_bytes folder.now ++ name.now ∷ []) }
+    ensures { IfOk result (λ path. map string_bytes path.items
+        ≡ map string_bytes folder.now ++ name.now ∷ []) }
 {
     let mut path = Vec::new(alloc);
     'parts: for part in folder {
@@ -110,7 +113,8 @@ fn path_in(alloc: Global, folder: &[String], name: &str) -> Result<Vec<String>, 
     Ok(path)
 }
 
-// Why a folder was not listed. An error without a number is not the system's: a name that is no text, or no memory.
+// Why a folder was not listed. An error without a number is not the system's: a name that is no
+// text, or no memory.
 fn listing_fault(error: io::Error) -> ShelfFault {
     match (error.raw_os_error(), error.kind()) {
         (None, ErrorKind::InvalidFilename) => ShelfFault::Name,
@@ -159,7 +163,9 @@ impl<'a> Shelf for Folder<'a> {
 
     ghost listing = { λ _. None };
 
-    ghost openings = { λ _. None };
+    ghost opens = { λ _ _ _ _. ⊤ };
+
+    ghost closes = { λ _ _ _. ⊤ };
 
     ghost faults = { λ s. s.faults };
 

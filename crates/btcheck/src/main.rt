@@ -1,48 +1,49 @@
 //! Checks the hash trees of BitTorrent version 2.
 #![tactic(auto)]
 
+mod answers;
+mod arguments;
 mod command;
 mod fault;
 mod folder;
 mod perform;
 mod torrent_file;
-mod words;
 
 use checker::Fault;
-use fault::report;
+use fault::print_fault;
 use std::process::ExitCode;
 use std::{env, io};
 
-// All words of the command line, the program's name first.
-fn all_words(rt: &HostRuntime) -> Result<Vec<String>, Fault<'static>> {
+// All arguments of the command line, the program's name first.
+fn all_arguments(rt: &HostRuntime) -> Result<Vec<String>, Fault<'static>> {
     match env::args(rt) {
-        Ok(words) => Ok(words.collect(rt.alloc())?),
+        Ok(arguments) => Ok(arguments.collect(rt.alloc())?),
         Err(error) if error.kind() == io::ErrorKind::OutOfMemory => Err(Fault::NoMemory),
         Err(_) => Err(Fault::NotUtf8),
     }
 }
 
-fn run(rt: &HostRuntime, words: &[&str]) -> ExitCode {
-    match words::action(rt.alloc(), words) {
+fn run(rt: &HostRuntime, line: &[&str]) -> ExitCode {
+    match arguments::action(rt.alloc(), line) {
         Ok(action) => match perform::perform(rt, &action) {
             Ok(status) => ExitCode::from(status),
-            Err(fault) => report(rt, &fault),
+            Err(fault) => print_fault(rt, &fault),
         },
-        Err(error) => words::explain(rt, &error),
+        Err(error) => arguments::explain(rt, &error),
     }
 }
 
 fn main(rt: HostRuntime) -> ExitCode {
-    let words = match all_words(&rt) {
-        Ok(words) => words,
-        Err(fault) => return report(&rt, &fault),
+    let owned = match all_arguments(&rt) {
+        Ok(owned) => owned,
+        Err(fault) => return print_fault(&rt, &fault),
     };
-    match words
+    match owned
         .iter()
-        .map(|word| word.as_str())
+        .map(|argument| argument.as_str())
         .collect::<Vec<&str>>(rt.alloc())
     {
-        Ok(texts) => run(&rt, texts.as_slice()),
-        Err(_) => report(&rt, &Fault::NoMemory),
+        Ok(line) => run(&rt, line.as_slice()),
+        Err(_) => print_fault(&rt, &Fault::NoMemory),
     }
 }

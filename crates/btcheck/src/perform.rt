@@ -1,24 +1,15 @@
 //! What each command does, on real files.
-ghost use Rattle.std.specs.Prelude.{◌≡◌, if◌then◌else◌};
-
+use crate::answers;
 use crate::command::Action;
 use crate::folder::Folder;
-use crate::torrent_file::{read_torrent, refuse};
+use crate::torrent_file::read_torrent;
 use benc::{FromRead, FromWrite, Sink};
-use checker::{Fault, RootFault, print_report, root_line};
+use checker::Fault;
 use metainfo::Torrent;
-use session::{Flat, Session};
 use std::fs::File;
-use std::io::{self, BufWriter};
+use std::io::{self, BufWriter, Printer};
 
-// The exit status of an answer: 0 for yes or done, 1 for no or a refusal.
-fn status(yes: bool) -> u8
-    ensures { result ≡ (if yes then 0 else 1) }
-{
-    if yes { 0 } else { 1 }
-}
-
-/// Does what was asked for, and tells the exit status.
+/// Does what was asked for, and gives the exit status.
 pub(crate) fn perform<'a>(rt: &HostRuntime, action: &Action<'a>) -> Result<u8, Fault<'a>> {
     match action {
         Action::Root { file } => root(rt, file),
@@ -36,83 +27,68 @@ fn root<'a>(rt: &HostRuntime, path: &'a str) -> Result<u8, Fault<'a>> {
     let Ok(file) = File::open(rt, path) else {
         return Err(Fault::Read(path));
     };
-    let mut source = FromRead::new(file);
     let mut out = FromWrite::new(io::writer(rt));
-    match root_line(&mut source, &mut out) {
-        Ok(within) => Ok(status(within)),
-        Err(RootFault::Read) => Err(Fault::Read(path)),
-        Err(RootFault::Write) => Err(Fault::Write("-")),
-    }
+    answers::root(path, &mut FromRead::new(file), &mut out)
 }
 
 fn show<'a>(rt: &HostRuntime, path: &'a str) -> Result<u8, Fault<'a>> {
     let bytes = read_torrent(rt, path)?;
-    let mut out = FromWrite::new(BufWriter::new(rt.alloc(), io::writer(rt)).map_err(
-        |_| Fault::NoMemory,
-    )?);
+    let mut out = buffered_output(rt)?;
     match Torrent::open(rt.alloc(), bytes.as_slice()) {
-        Ok(torrent) => match checker::show(&torrent, &mut out) {
-            Ok(()) => Ok(status(true)),
-            Err(_) => Err(Fault::Write("-")),
-        },
-        Err(refusal) => refuse(&refusal, &mut out),
+        Ok(torrent) => answers::show(&torrent, &mut out),
+        Err(refusal) => answers::refuse(&refusal, &mut out),
     }
 }
 
 fn check<'a>(rt: &HostRuntime, path: &'a str, dir: &str) -> Result<u8, Fault<'a>> {
     let bytes = read_torrent(rt, path)?;
-    let mut out = FromWrite::new(BufWriter::new(rt.alloc(), io::writer(rt)).map_err(
-        |_| Fault::NoMemory,
-    )?);
+    let mut out = buffered_output(rt)?;
     match Torrent::open(rt.alloc(), bytes.as_slice()) {
-        Ok(torrent) => check_folder(rt, &torrent, dir, &mut out),
-        Err(refusal) => refuse(&refusal, &mut out),
+        Ok(torrent) => answers::check(rt.alloc(), &torrent, &mut Folder::new(rt, dir), &mut out),
+        Err(refusal) => answers::refuse(&refusal, &mut out),
     }
 }
 
-// Checks a folder, prints what was found, and tells the exit status.
-fn check_folder<'a, W: Sink>(
-    rt: &HostRuntime,
-    torrent: &Torrent<'_>,
-    dir: &str,
-    out: &mut W,
-) -> Result<u8, Fault<'a>> {
-    let report = checker::check(rt.alloc(), torrent, &mut Folder::new(rt, dir))?;
-    match print_report(&report, torrent, out) {
-        Ok(()) => Ok(status(report.yes())),
-        Err(_) => Err(Fault::Write("-")),
-    }
-}
-
-// The torrent is read and its refusal is told before the record is opened.
+// The torrent is read, and a refusal is printed, before the record is opened.
 fn replay<'a>(
     rt: &HostRuntime,
-    torrent: &'a str,
+    path: &'a str,
     record: &'a str,
     info_only: bool,
 ) -> Result<u8, Fault<'a>> {
-    let bytes = read_torrent(rt, torrent)?;
+    let bytes = read_torrent(rt, path)?;
+    let mut out = FromWrite::new(io::writer(rt));
     match Torrent::open(rt.alloc(), bytes.as_slice()) {
-        Ok(torrent) => replay_record(rt, &torrent, record, info_only),
-        Err(refusal) => refuse(&refusal, &mut FromWrite::new(io::writer(rt))),
+        Ok(torrent) => replay_file(rt, &torrent, record, info_only, &mut out),
+        Err(refusal) => answers::refuse(&refusal, &mut out),
     }
 }
 
-// Replays a record over a session of an opened torrent. Each line goes out as its frame comes.
-fn replay_record<'a>(
+fn replay_file<'a, W: Sink>(
     rt: &HostRuntime,
     torrent: &Torrent<'_>,
     path: &'a str,
     info_only: bool,
+    out: &mut W,
 ) -> Result<u8, Fault<'a>> {
     let Ok(file) = File::open(rt, path) else {
         return Err(Fault::Read(path));
     };
-    let mut session: Session<'_, Flat> = Session::new(rt.alloc(), torrent, !info_only)?;
-    let mut record = FromRead::new(file);
-    let mut report = FromWrite::new(io::writer(rt));
-    match checker::replay(rt.alloc(), &mut session, &mut record, &mut report) {
-        Ok(outcome) => Ok(outcome.status()),
-        Err(_) => Err(Fault::Write("-")),
+    answers::replay(
+        rt.alloc(),
+        torrent,
+        info_only,
+        &mut FromRead::new(file),
+        out,
+    )
+}
+
+// Standard output with a buffer, for text of many small parts.
+fn buffered_output<'r>(
+    rt: &'r HostRuntime,
+) -> Result<FromWrite<BufWriter<Printer<'r, HostRuntime>>>, Fault<'static>> {
+    match BufWriter::new(rt.alloc(), io::writer(rt)) {
+        Ok(buffered) => Ok(FromWrite::new(buffered)),
+        Err(_) => Err(Fault::NoMemory),
     }
 }

@@ -1,16 +1,1 @@
-pub mod Taking
-pub mod Lines
-pub mod Streams
-pub mod Contents
-pub mod Places
-pub mod Beginnings
-pub mod Passes
-pub mod Counts
-pub mod Shelves
-pub mod Streaming
-pub mod Reports
-pub mod Layers
-pub mod Pieces
-pub mod Escapes
-pub mod Parts
-pub mod Replaying
+pub use Rattle.folders.proofs.Counts

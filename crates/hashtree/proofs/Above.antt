@@ -6,7 +6,7 @@ use Rattle.std.proofs.lemmas.Bool.{cases_lt}
 use Rattle.std.proofs.lemmas.List.{get_or_past}
 use Rattle.std.proofs.lemmas.List.FromFn.{get_or-map-range_with_len, length-map-range_with_len, map-range_with_len_more, fill_by_all}
 use Rattle.sha2.specs.Sha256.{sha256}
-use Rattle.hashtree.specs.Tree.{filled, first_pad, height, level_over, node_over, tree, zero_hash}
+use Rattle.hashtree.specs.Tree.{filled, first_pad, height, joined_at, level_over, node_over, tree, zero_hash}
 use Rattle.hashtree.proofs.Pairs.{two-pow}
 use Rattle.hashtree.proofs.Heights.{first_pad-fits, first_pad-place, height_enough}
 use Rattle.hashtree.proofs.Nodes.{leaf_at, node_over-suc, part_of_pads}
@@ -41,10 +41,6 @@ length-level_over n layer xs at = length-map-range_with_len (λ i. node_over (fi
 pub get_or-level_over : (n layer : ℕ) (xs : List (List ℕ)) (at i : ℕ) (d : List ℕ) → i < first_pad n at
     → get_or (level_over n layer xs at) i d ≡ node_over (filled (height n) layer xs) (at - layer) i
 get_or-level_over n layer xs at i d lt = get_or-map-range_with_len (λ i. node_over (filled (height n) layer xs) (at - layer) i) 0 (first_pad n at) i i d lt (omega arith)
-
--- the pairs of a layer, the last one with a pad where it has no sibling
-abbrev pub joined_at : List (List ℕ) → List ℕ → ℕ → List ℕ
-joined_at ys pad i = sha256 (get_or ys (2 * i) [] ++ get_or ys (2 * i + 1) pad)
 
 -- a node's right child, which may be the first pad of its layer
 right_child : (n layer : ℕ) (xs : List (List ℕ)) (at i : ℕ) → layer ≤ at → at < height n → length xs ≡ first_pad n layer → i < first_pad n (suc at)

@@ -1,5 +1,6 @@
 -- A layer of a file's tree, as the peaks have it: its complete nodes, and the last one.
 use Rattle.std.proofs.Common.{◌≡◌, ℕ, zero, suc, ◌+◌, ◌-◌, ◌*◌, ◌/◌, ◌^◌, ◌<◌, ◌≤◌, List, [], ◌∷◌, ◌++◌, length, take, drop, replicate, map, get_or, if◌then◌else◌, ap, sym, ◌∙◌, subst, arith}
+use Rattle.std.proofs.Math.Pow.{pow_mono}
 use Rattle.std.proofs.lemmas.Bool.{le-leb, lt-leb}
 use Rattle.std.proofs.lemmas.List.{append_assoc, length-take, length-drop, length_push, get_or_append_left, get_or-drop, get_or-take, nil_from_length}
 use Rattle.std.proofs.lemmas.List.FromFn.{fill_by_all}
@@ -7,9 +8,10 @@ use Rattle.std.specs.List.{range_with_len}
 use Rattle.sha2.specs.Sha256.{sha256}
 use Rattle.hashtree.specs.Tree.{block_count, block_hashes, first_pad, height, layer_count, layer_of, leaves, node, node_over, pad_leaf, root_of, tree}
 use Rattle.hashtree.specs.declared.root.RootBuilder.{RootBuilder}
-use Rattle.hashtree.specs.Climb.{IsFed, byte_count, climb, copies, layer_with, padded, pairs}
+use Rattle.hashtree.specs.RootBuilder.{IsFed, byte_count}
+use Rattle.hashtree.specs.Climb.{climb, copies, layer_with, padded, pairs}
 use Rattle.hashtree.proofs.Pairs.{two-pow, length-pairs, take-pairs, drop-pairs, tree-climb, climb-lt}
-use Rattle.hashtree.proofs.Heights.{first_pad-fits, height_enough, pow_more}
+use Rattle.hashtree.proofs.Heights.{first_pad-fits, height_enough}
 use Rattle.hashtree.proofs.Blocks.{block_count_is, leaves_split, length-block_hashes, root_split}
 use Rattle.hashtree.proofs.Nodes.{length-leaves, part_within}
 use Rattle.hashtree.proofs.Above.{first_pad-suc}
@@ -81,7 +83,7 @@ pub layer_above : (file : List ℕ) (n layer : ℕ) → 16384 * n < length file 
     → climb layer (block_hashes file n) ≡ layer_of file layer
 layer_above file n layer lo hi high =
     let count : block_count (length file) ≡ n + 1 = omega arith in
-    let few : length (block_hashes file n) < 2 ^ layer = omega (arith, length-block_hashes file n, height_enough (n + 1), pow_more (height (n + 1)) layer (omega arith)) in
+    let few : length (block_hashes file n) < 2 ^ layer = omega (arith, length-block_hashes file n, height_enough (n + 1), pow_mono {i = height (n + 1)} {j = layer} (omega arith)) in
     nil_from_length (climb layer (block_hashes file n)) (climb-lt layer (block_hashes file n) few)
     ∙ ap (λ b. map (node file layer) (range_with_len 0 (if b then first_pad (n + 1) layer else 0))) (sym (lt-leb layer (height (n + 1)) high))
     ∙ ap (λ k. map (node file layer) (range_with_len 0 (layer_count k layer))) (sym count)

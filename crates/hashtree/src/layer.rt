@@ -1,15 +1,17 @@
 //! The root and one layer of a file's tree, from its bytes.
 
-ghost use Rattle.std.specs.Prelude.{◌≡◌, ℕ, ◌+◌, ◌^◌, ◌<◌, ◌≤◌, ◌++◌, [], List, length, true, IsErr, IfOk, OnOk, OnErr, Option};
-ghost use Rattle.hashtree.specs.Tree.{layer_of, root_of};
+ghost use Rattle.std.specs.Prelude.{◌≡◌, ◌⊎◌, ℕ, ◌+◌, ◌^◌, ◌<◌, ◌≤◌, ◌↔◌, ◌++◌, [], List, length, true, IsErr, IsTrue, IfOk, OnOk, OnErr, Option, IsSome, vec_len};
+ghost use Rattle.std.specs.Vec.{vec_capacity};
+ghost use Rattle.std.specs.Option.{option_to_list};
 
+use crate::NoMemory;
 use crate::node::Hash;
 use crate::root::RootBuilder;
-use std::alloc::{AllocError, Global};
+use std::alloc::Global;
 
 /// Computes the length, the root and one layer of a file's tree from its bytes, which come in
-/// pieces of any size. It takes memory for the layer's hashes alone. Once memory was refused, every
-/// later call answers the refusal again.
+/// parts of any size. It takes memory for the layer's hashes alone. Once memory was refused, every
+/// later call fails again.
 #[derive(Drop)]
 pub struct LayerBuilder {
     builder: RootBuilder,
@@ -19,8 +21,7 @@ pub struct LayerBuilder {
 }
 
 impl LayerBuilder {
-    ghost use Rattle.hashtree.specs.Climb.{some_of};
-    ghost use Rattle.hashtree.specs.Fed.{HasRefused, IsFedLayer, byte_count, chosen_layer};
+    ghost use Rattle.hashtree.specs.LayerBuilder.{EndTakesMemory, EndsWithLayer, FeedsLayer, HasRefused, IsFedLayer, TakesMemory, byte_count, chosen_layer, spare};
 
     /// A builder of this layer that was given nothing. It takes no memory.
     pub fn new(alloc: Global, layer: u32) -> LayerBuilder
@@ -28,6 +29,7 @@ impl LayerBuilder {
         ensures layer { chosen_layer result ≡ layer }
         ensures content { IsFedLayer result [] }
         ensures works { HasRefused result → ⊥ }
+        ensures no_memory { spare result ≡ 0 }
     {
         LayerBuilder {
             builder: RootBuilder::new(),
@@ -37,22 +39,43 @@ impl LayerBuilder {
         }
     }
 
-    /// Takes the file's next bytes, at most 2^46 in all. It fails where memory for a hash was
-    /// refused, in this call or an earlier one.
-    pub fn push(&mut self, bytes: &[u8]) -> Result<(), AllocError>
+    /// How many bytes were pushed; after a failure, at least as many as before it.
+    pub fn len(&self) -> u64
+        ensures { result ≡ byte_count self.now }
+    {
+        self.builder.len()
+    }
+
+    /// Whether nothing was pushed yet.
+    pub fn is_empty(&self) -> bool
+        ensures { IsTrue result ↔ (byte_count self.now ≡ 0) }
+    {
+        self.builder.is_empty()
+    }
+
+    /// Takes the file's next bytes. [`LayerBuilder::len`] and their number must be at most 2^46
+    /// together.
+    ///
+    /// # Errors
+    ///
+    /// It fails only if memory for a node that is complete now was refused, in this call or an
+    /// earlier one.
+    pub fn push(&mut self, bytes: &[u8]) -> Result<(), NoMemory>
         requires { byte_count self.old + length bytes.now ≤ 2 ^ 46 }
         ensures layer { chosen_layer self.new ≡ chosen_layer self.old }
         ensures count { OnOk result (byte_count self.new ≡ byte_count self.old + length bytes.now) }
-        ensures content { OnOk result ((file : List ℕ) → IsFedLayer self.old file → IsFedLayer self.new (file ++ bytes.now)) }
+        ensures content { OnOk result (FeedsLayer self.old self.new bytes.now) }
         ensures refused { OnErr result (HasRefused self.new) }
         ensures again { HasRefused self.old → IsErr result }
         ensures works { OnOk result (HasRefused self.new → ⊥) }
+        ensures memory { OnErr result ((file : List ℕ) → IsFedLayer self.old file
+            → HasRefused self.old ⊎ TakesMemory self.old (length bytes.now)) }
         // After a refusal too a caller may go on, and finish.
         ensures at_most { byte_count self.new ≤ byte_count self.old + length bytes.now }
         ensures at_least { byte_count self.old ≤ byte_count self.new }
     {
         if self.is_refused {
-            return Err(AllocError);
+            return Err(NoMemory);
         }
         let mut start = 0;
         'parts: while start < bytes.len() {
@@ -63,17 +86,21 @@ impl LayerBuilder {
         Ok(())
     }
 
-    /// The file's length in bytes, which is not 0, the root of its tree, and the layer's hashes
-    /// without the pads; none where the layer is above the root. It fails where memory for a hash
-    /// was refused, in this call or an earlier one.
-    pub fn finish(self) -> Result<(u64, Hash, Vec<Hash>), AllocError>
+    /// The file's length in bytes, the root of its tree, and the layer's hashes without the pads;
+    /// none if the layer is above the root. At least one byte must have been pushed.
+    ///
+    /// # Errors
+    ///
+    /// It fails only if memory for a hash was refused, for the layer's last node or in an earlier
+    /// call.
+    pub fn finish(self) -> Result<(u64, Hash, Vec<Hash>), NoMemory>
         requires { 0 < byte_count self }
-        ensures ok { IfOk result (λ found. (file : List ℕ) → IsFedLayer self file
-            → (found.0 ≡ length file) × (found.1 ≡ root_of file) × (found.2.items ≡ layer_of file (chosen_layer self))) }
+        ensures ok { IfOk result (λ found. EndsWithLayer self found.0 found.1 found.2.items) }
         ensures again { HasRefused self → IsErr result }
+        ensures memory { OnErr result (HasRefused self ⊎ EndTakesMemory self) }
     {
         if self.is_refused {
-            return Err(AllocError);
+            return Err(NoMemory);
         }
         let (length, root, node) = self.builder.finish_layer(self.layer);
         let mut hashes = self.hashes;
@@ -84,17 +111,21 @@ impl LayerBuilder {
     }
 
     // Keeps the next node of the layer, if it is complete.
-    fn keep(&mut self, node: Option<Hash>) -> Result<(), AllocError>
+    fn keep(&mut self, node: Option<Hash>) -> Result<(), NoMemory>
         ensures builder { self.new.builder ≡ self.old.builder }
         ensures layer { self.new.layer ≡ self.old.layer }
-        ensures ok { OnOk result (self.new.hashes.items ≡ self.old.hashes.items ++ some_of node) }
+        ensures ok { OnOk result
+            (self.new.hashes.items ≡ self.old.hashes.items ++ option_to_list node) }
         ensures refused { OnErr result (self.new.is_refused ≡ true) }
         ensures again { OnOk result (self.new.is_refused ≡ self.old.is_refused) }
+        ensures capacity { vec_capacity self.old.hashes ≤ vec_capacity self.new.hashes }
+        ensures memory { OnErr result (IsSome node) }
+        ensures full { OnErr result (vec_capacity self.old.hashes ≤ vec_len self.old.hashes) }
     {
         if let Some(node) = node {
             if self.hashes.push(node).is_err() {
                 self.is_refused = true;
-                return Err(AllocError);
+                return Err(NoMemory);
             }
         }
         Ok(())

@@ -1,18 +1,18 @@
 //! The layers above a given one, and the root over it.
 
-ghost use Rattle.std.specs.Prelude.{◌≡◌, ◌+◌, ◌*◌, ◌/◌, ◌<◌, ◌≤◌, ◌++◌, [], length, map, get_or, IfOk};
+ghost use Rattle.std.specs.Prelude.{◌≡◌, ◌+◌, ◌*◌, ◌/◌, ◌<◌, ◌≤◌, ◌++◌, [], length, map, slice_index_or, IfOk};
 ghost use Rattle.std.specs.List.{range_with_len};
-ghost use Rattle.sha2.specs.Sha256.{sha256};
-ghost use Rattle.hashtree.specs.Tree.{block_count, first_pad, height, levels_over, root_over};
+ghost use Rattle.hashtree.specs.Tree.{block_count, first_pad, height, joined_at, levels_over, root_over};
 
+use crate::NoMemory;
 use crate::node::{Hash, parent, zero};
 use crate::peaks::Peaks;
 use crate::shape::Shape;
-use std::alloc::{AllocError, Global};
+use std::alloc::Global;
 
 /// The root of the tree over a layer, which is given without its pads. It takes no memory.
 ///
-/// The layer is one of the tree's, so at most its height, and has as many hashes as
+/// The layer must be at most [`Shape::height`], and there must be as many hashes as
 /// [`Shape::pad_from`] says.
 pub fn layer_root(shape: Shape, layer: u32, hashes: &[Hash]) -> Hash
     requires in_tree { layer ≤ height (block_count shape) }
@@ -31,18 +31,23 @@ pub fn layer_root(shape: Shape, layer: u32, hashes: &[Hash]) -> Hash
 /// The layers of the tree over a layer, from that one to the root, each without its pads. The first
 /// list is `hashes`, and the last one holds the root alone.
 ///
-/// The layer is one of the tree's, so at most its height, and has as many hashes as
-/// [`Shape::pad_from`] says. It fails only where memory for a layer was refused.
+/// The layer must be at most [`Shape::height`], and there must be as many hashes as
+/// [`Shape::pad_from`] says.
+///
+/// # Errors
+///
+/// It fails only if memory for the list of layers or for a layer was refused. Each result takes
+/// both.
 pub fn fill_levels(
     alloc: Global,
     shape: Shape,
     layer: u32,
     hashes: &[Hash],
-) -> Result<Vec<Vec<Hash>>, AllocError>
+) -> Result<Vec<Vec<Hash>>, NoMemory>
     requires in_tree { layer ≤ height (block_count shape) }
     requires whole { length hashes.now ≡ first_pad (block_count shape) layer }
-    ensures { IfOk result
-        (λ levels. map (λ level. level.items) levels.items ≡ levels_over (block_count shape) layer hashes.now) }
+    ensures { IfOk result (λ levels. map (λ level. level.items) levels.items
+        ≡ levels_over (block_count shape) layer hashes.now) }
 {
     let height = shape.height();
     let mut levels = Vec::with_capacity(alloc, (height - layer) as usize + 1)?;
@@ -59,11 +64,9 @@ pub fn fill_levels(
 }
 
 // The nodes above a layer's nodes. Where the last one has no sibling, its sibling is the pad.
-fn level_above(alloc: Global, level: &[Hash], pad: &Hash) -> Result<Vec<Hash>, AllocError>
-    ensures { IfOk result
-        (λ above. above.items
-        ≡ map (λ i. sha256 (get_or level.now (2 * i) [] ++ get_or level.now (2 * i + 1) pad.now))
-        (range_with_len 0 ((length level.now + 1) / 2))) }
+fn level_above(alloc: Global, level: &[Hash], pad: &Hash) -> Result<Vec<Hash>, NoMemory>
+    ensures { IfOk result (λ above. above.items
+        ≡ map (joined_at level.now pad.now) (range_with_len 0 ((length level.now + 1) / 2))) }
 {
     let mut above = Vec::with_capacity(alloc, level.len().div_ceil(2))?;
     for i in 0..level.len().div_ceil(2) {

@@ -17,7 +17,8 @@ pub(crate) struct Peaks {
 }
 
 impl Peaks {
-    ghost use Rattle.hashtree.specs.Climb.{HoldsLeaves, climb, layer_with, padded, some_of};
+    ghost use Rattle.std.specs.Option.{option_to_list};
+    ghost use Rattle.hashtree.specs.Climb.{AddsLeaf, HoldsLeaves, LeafCompletes, climb, layer_with, padded};
 
     pub(crate) fn new() -> Peaks
         ensures { HoldsLeaves result [] }
@@ -29,13 +30,12 @@ impl Peaks {
     }
 
     /// Takes the next leaf: a carry of a binary counter, which joins two nodes at each odd layer.
-    /// Tells the node of `layer` that this leaf completes, if it does.
+    /// Returns the node of `layer` that this leaf completes, if it does.
     pub(crate) fn push(&mut self, leaf: Hash, layer: u32) -> Option<Hash>
         requires { self.old.count + 1 < 2 ^ 33 }
         ensures count { self.new.count ≡ self.old.count + 1 }
-        ensures leaves { (xs : List (List ℕ)) → HoldsLeaves self.old xs → HoldsLeaves self.new (xs ++ leaf ∷ []) }
-        ensures completed { (xs : List (List ℕ)) → HoldsLeaves self.old xs
-            → climb layer (xs ++ leaf ∷ []) ≡ climb layer xs ++ some_of result }
+        ensures leaves { AddsLeaf self.old self.new leaf }
+        ensures node { LeafCompletes self.old leaf layer result }
     {
         let mut node = leaf;
         let mut completed = None;
@@ -60,8 +60,9 @@ impl Peaks {
         requires { layer ≤ 32 }
         ensures root { (xs : List (List ℕ)) → HoldsLeaves self.now xs → length xs < 2 ^ layer
             → result ≡ tree layer (xs ++ last ∷ replicate (2 ^ layer - (length xs + 1)) pad) }
-        ensures layer { (xs : List (List ℕ)) (height : ℕ) → HoldsLeaves self.now xs → layer ≤ height → length xs < 2 ^ height
-            → climb layer (padded height xs last pad) ≡ layer_with height layer (climb layer xs) result pad }
+        ensures layer { (xs : List (List ℕ)) (height : ℕ) → HoldsLeaves self.now xs
+            → layer ≤ height → length xs < 2 ^ height → climb layer (padded height xs last pad)
+            ≡ layer_with height layer (climb layer xs) result pad }
     {
         let mut node = last;
         let mut pad = pad;

@@ -1,7 +1,7 @@
 //! The root of a file's tree, from its bytes.
 
-ghost use Rattle.std.specs.Prelude.{◌≡◌, ℕ, ◌+◌, ◌*◌, ◌^◌, ◌<◌, ◌≤◌, ◌++◌, [], List, length, take};
-ghost use Rattle.hashtree.specs.Tree.{layer_of, root_of};
+ghost use Rattle.std.specs.Prelude.{◌≡◌, ℕ, ◌+◌, ◌*◌, ◌^◌, ◌<◌, ◌≤◌, ◌↔◌, ◌++◌, [], IsSome, IsTrue, List, OnSome, length, take};
+ghost use Rattle.hashtree.specs.Tree.{block_count, height, layer_of};
 
 use crate::node::{Hash, PAD_LEAF};
 use crate::peaks::Peaks;
@@ -10,7 +10,7 @@ use sha2::{Digest, Sha256};
 
 const BLOCK: usize = BLOCK_LENGTH as usize;
 
-/// Computes the length and the root of a file's tree from its bytes, which come in pieces of any
+/// Computes the length and the root of a file's tree from its bytes, which come in parts of any
 /// size. It keeps 33 hashes and one running digest, takes no memory and cannot fail.
 ///
 /// A block that is full becomes a leaf only when a further byte comes, so that the last block is
@@ -25,7 +25,8 @@ pub struct RootBuilder {
 }
 
 impl RootBuilder {
-    ghost use Rattle.hashtree.specs.Climb.{IsAt, IsFed, byte_count, complete_nodes, some_of};
+    ghost use Rattle.hashtree.specs.RootBuilder.{Completes, EndsWith, Feeds, IsAt, IsFed, byte_count, complete_nodes};
+    ghost use Rattle.std.specs.Option.{option_to_list};
 
     /// A builder that was given nothing.
     pub fn new() -> RootBuilder
@@ -39,11 +40,26 @@ impl RootBuilder {
         }
     }
 
-    /// Takes the file's next bytes, at most 2^46 in all.
+    /// How many bytes were pushed.
+    pub fn len(&self) -> u64
+        ensures { result ≡ byte_count self.now }
+    {
+        BLOCK_LENGTH * self.peaks.count + self.filled as u64
+    }
+
+    /// Whether nothing was pushed yet.
+    pub fn is_empty(&self) -> bool
+        ensures { IsTrue result ↔ (byte_count self.now ≡ 0) }
+    {
+        self.len() == 0
+    }
+
+    /// Takes the file's next bytes. [`RootBuilder::len`] and their number must be at most 2^46
+    /// together.
     pub fn push(&mut self, bytes: &[u8])
         requires { byte_count self.old + length bytes.now ≤ 2 ^ 46 }
         ensures count { byte_count self.new ≡ byte_count self.old + length bytes.now }
-        ensures content { (file : List ℕ) → IsFed self.old file → IsFed self.new (file ++ bytes.now) }
+        ensures content { Feeds self.old self.new bytes.now }
     {
         let mut start = 0;
         'parts: while start < bytes.len() {
@@ -52,11 +68,12 @@ impl RootBuilder {
         }
     }
 
-    /// The file's length in bytes, which is not 0, and the root of its tree.
+    /// The file's length in bytes and the root of its tree. At least one byte must have been
+    /// pushed, since an empty file has no tree.
     pub fn finish(self) -> (u64, Hash)
         requires { 0 < byte_count self }
         ensures length { result.0 ≡ byte_count self }
-        ensures tree { (file : List ℕ) → IsFed self file → (result.0 ≡ length file) × (result.1 ≡ root_of file) }
+        ensures tree { EndsWith self result.0 result.1 }
     {
         let (length, root, _) = self.finish_layer(0);
         (length, root)
@@ -66,11 +83,12 @@ impl RootBuilder {
     pub(crate) fn finish_layer(self, layer: u32) -> (u64, Hash, Option<Hash>)
         requires { 0 < byte_count self }
         ensures length { result.0 ≡ byte_count self }
-        ensures tree { (file : List ℕ) → IsFed self file → (result.0 ≡ length file) × (result.1 ≡ root_of file) }
+        ensures tree { EndsWith self result.0 result.1 }
         ensures nodes { (file : List ℕ) → IsFed self file
-            → complete_nodes self file layer ++ some_of result.2 ≡ layer_of file layer }
+            → complete_nodes self file layer ++ option_to_list result.2 ≡ layer_of file layer }
+        ensures in_tree { OnSome result.2 (layer ≤ height (block_count (byte_count self))) }
     {
-        let length = BLOCK_LENGTH * self.peaks.count + self.filled as u64;
+        let length = self.len();
         let last = self.hasher.finalize();
         let height = Shape::of(length).unwrap().height();
         let root = self.peaks.last_node(last, PAD_LEAF, height);
@@ -82,17 +100,16 @@ impl RootBuilder {
         (length, root, node)
     }
 
-    /// Takes the first of these bytes, at most as many as there is room for in the last block. Tells
-    /// how many, and the node of `layer` that the blocks before them complete, if they do.
+    /// Takes the first of these bytes, at most as many as the last block still takes. Returns how
+    /// many, and the node of `layer` that the blocks before them complete, if they do.
     pub(crate) fn take_part(&mut self, bytes: &[u8], layer: u32) -> (usize, Option<Hash>)
         requires some { 0 < length bytes.now }
         requires room { byte_count self.old + length bytes.now ≤ 2 ^ 46 }
         ensures some { 0 < result.0 }
         ensures bound { result.0 ≤ length bytes.now }
         ensures count { byte_count self.new ≡ byte_count self.old + result.0 }
-        ensures content { (file : List ℕ) → IsFed self.old file → IsFed self.new (file ++ take result.0 bytes.now) }
-        ensures completed { (file : List ℕ) → IsFed self.old file
-            → complete_nodes self.new (file ++ take result.0 bytes.now) layer ≡ complete_nodes self.old file layer ++ some_of result.1 }
+        ensures content { Feeds self.old self.new (take result.0 bytes.now) }
+        ensures node { Completes self.old self.new (take result.0 bytes.now) layer result.1 }
     {
         let completed = if self.filled == BLOCK {
             self.close_block(layer)
@@ -105,14 +122,15 @@ impl RootBuilder {
         (taken, completed)
     }
 
-    // Makes a leaf of the last block, which is full. Tells the node of `layer` that it completes.
+    // Makes a leaf of the last block, which is full. Returns the node of `layer` that it completes.
     fn close_block(&mut self, layer: u32) -> Option<Hash>
         requires { self.old.filled ≡ 16384 }
         ensures empty { self.new.filled ≡ 0 }
         ensures count { byte_count self.new ≡ byte_count self.old }
         ensures content { (file : List ℕ) → IsAt self.old file → IsAt self.new file }
-        ensures completed { (file : List ℕ) → IsAt self.old file
-            → complete_nodes self.new file layer ≡ complete_nodes self.old file layer ++ some_of result }
+        ensures node { (file : List ℕ) → IsAt self.old file
+            → complete_nodes self.new file layer
+            ≡ complete_nodes self.old file layer ++ option_to_list result }
     {
         let leaf = self.hasher.finalize_reset();
         self.filled = 0;

@@ -12,7 +12,7 @@ pub const BLOCK_LENGTH: u64 = 16384;
 pub const MAX_LENGTH: u64 = 1 << 46;
 
 /// The shape of a file's tree. Contracts see it as the file's length in bytes.
-#[derive(Clone, Copy)]
+#[derive(Clone, Copy, Debug, PartialEq, Eq)]
 pub struct Shape {
     length: u64,
 }
@@ -43,6 +43,15 @@ impl Shape {
         }
     }
 
+    /// The file's length in bytes.
+    pub fn length(self) -> u64
+        ensures value { result ≡ self }
+        ensures some { 0 < result }
+        ensures bound { result ≤ 2 ^ 46 }
+    {
+        self.length
+    }
+
     /// How many blocks the file has.
     pub fn blocks(self) -> u64
         ensures value { result ≡ block_count self }
@@ -69,18 +78,19 @@ impl Shape {
         32
     }
 
-    /// How many bytes the block of this number has.
+    /// How many bytes the block of this number has. The number must be below [`Shape::blocks`].
     pub fn block_len(self, i: u64) -> u64
         requires { i < block_count self }
         ensures value { result ≡ min 16384 (self - 16384 * i) }
         ensures some { 0 < result }
-        ensures of_each_file { (file : List ℕ) → length file ≡ self → result ≡ length (block file i) }
+        ensures of_each_file { (file : List ℕ) → length file ≡ self
+            → result ≡ length (block file i) }
     {
         (self.length - BLOCK_LENGTH * i).min(BLOCK_LENGTH)
     }
 
     /// The first place of a layer that lies wholly past the file's end: how many of the layer's
-    /// nodes cover a block.
+    /// nodes cover a block. The layer must be at most [`Shape::height`].
     pub fn pad_from(self, layer: u32) -> u64
         requires { layer ≤ height (block_count self) }
         ensures value { result ≡ first_pad (block_count self) layer }

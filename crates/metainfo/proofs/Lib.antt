@@ -1,26 +1,2 @@
--- Lemmas on torrents.
-pub mod Comparing
-pub mod Cutting
-pub mod Deciding
-pub mod Fed
-pub mod Growing
-pub mod Aligned
-pub mod Answering
-pub mod Ascending
-pub mod Assembling
-pub mod Entries
-pub mod Hybrids
-pub mod InStream
-pub mod Keys
-pub mod Layering
-pub mod Listing
-pub mod Placing
-pub mod Rooting
-pub mod Searching
-pub mod Sounding
-pub mod Streams
-pub mod Tables
-pub mod Telling
-pub mod Told
-pub mod Views
-pub mod Walking
+-- Lemmas that crates above cite.
+pub use Rattle.opening.proofs.Layering

@@ -1,24 +1,12 @@
-//! Torrents of version 2 and hybrids (BEP 52, BEP 3, BEP 47).
+//! Torrents of version 2 and hybrids (BEP 52, BEP 3, BEP 47): their files, their trees, and the
+//! version 1 stream.
 #![tactic(auto)]
 
-mod files;
-mod info;
-mod laws;
-mod layers;
-mod open;
-mod path;
-mod place;
-mod refusal;
-#[cfg(test)]
-mod tests;
-mod torrent;
-mod tree;
-mod trees;
-mod v1_feed;
-mod version1;
-
-pub use laws::{refusal_is_one, torrent_is_not_refused, torrent_is_one, torrent_or_refusal};
-pub use path::Path;
-pub use refusal::{Key, Refusal};
-pub use torrent::{File, Torrent, TreeInfo, V1};
-pub use v1_feed::V1Feed;
+pub use filetree::{
+    Key, Path, Refusal, order_is_apart, shape_is_told, walks_are_all, walks_are_safe,
+};
+pub use opening::{
+    File, MAX_TORRENT, Torrent, TreeInfo, refusal_is_one, torrent_is_not_refused, torrent_is_one,
+    torrent_or_refusal,
+};
+pub use pieces::{PieceLength, V1, V1Feed};

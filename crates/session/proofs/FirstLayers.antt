@@ -6,35 +6,36 @@ use Rattle.hashtree.specs.Tree.{block_count, root_over}
 use Rattle.hashtree.proofs.Heights.{height_enough, height_least}
 use Rattle.metainfo.specs.Description.{TreeEntry}
 use Rattle.metainfo.specs.PieceLayers.{piece_layer}
-use Rattle.metainfo.specs.Refusals.{IsPieceLength}
+use Rattle.metainfo.specs.Pieces.{IsPieceLength}
 use Rattle.metainfo.specs.Sound.{IsSoundTree}
 use Rattle.metainfo.proofs.Layering.{piece_is, layer_is, layer_within, whole_layer}
-use Rattle.session.specs.declared.refusal.HashRefusal.{HashRefusal}
-use Rattle.session.specs.declared.refusal.HashRefusal.TheVariants.{UnknownRoot, BadRange, BadCount, BadPad, Unanchored, Mismatch, NoMemory}
-use Rattle.session.specs.Digest.{Hash}
-use Rattle.session.specs.TreeRoot.{TreeRoot, tree_height}
-use Rattle.session.specs.Partial.{PartialTree, IsPlace}
-use Rattle.session.specs.Claims.{joined, IsAgreed}
-use Rattle.session.specs.Fill.{fill_claims, pad_from, IsFillAccepted, FillRefuses}
-use Rattle.session.specs.Known.{look, Joins}
-use Rattle.session.specs.Kept.{KeptTree, info_of}
+use Rattle.partial_tree.specs.declared.refusal.HashRefusal.{HashRefusal}
+use Rattle.partial_tree.specs.declared.refusal.HashRefusal.TheVariants.{UnknownRoot, BadRange, BadCount, BadPad, Unanchored, Mismatch, NoMemory}
+use Rattle.node_maps.specs.Digest.{Hash}
+use Rattle.partial_tree.specs.TreeRoot.{TreeRoot}
+use Rattle.node_maps.specs.Places.{tree_height, PartialTree, IsPlace}
+use Rattle.partial_tree.specs.Claims.{joined, IsAgreed}
+use Rattle.partial_tree.specs.Fill.{fill_claims, pad_from, IsFillAccepted, FillRefuses}
+use Rattle.node_maps.specs.Known.{look}
+use Rattle.partial_tree.specs.Joins.{Joins}
+use Rattle.partial_tree.specs.Kept.{KeptTree, info_of}
 use Rattle.session.specs.Layouts.{root_of_entry}
 use Rattle.session.specs.Fresh.{KnowsRoot, KnowsFrom, IsPlanted}
-use Rattle.session.proofs.Claimed.{either, there_or_not, first_of_two, second_of_two}
-use Rattle.session.proofs.Keeping.{good_filled}
-use Rattle.session.proofs.Over.{claims-node, claims-no_more, claims-root_over}
+use Rattle.partial_tree.proofs.Claimed.{either, there_or_not, first_of_two, second_of_two}
+use Rattle.partial_tree.proofs.Keeping.{good_filled}
+use Rattle.partial_tree.proofs.Over.{claims-node, claims-no_more, claims-root_over}
 
 module _ (t : TreeRoot) (K : PartialTree) (l : ℕ) (hashes : List Hash) (layer_inside : l ≤ tree_height t.length) (right_count : length hashes ≡ pad_from t.length l)
     (leads : root_over (tree_height t.length) l hashes ≡ t.root) (alone : KnowsRoot t K) where
   -- what follows from a layer that leads to the root agrees with the root
-  pub agreed : IsAgreed K (fill_claims t l hashes)
+  pub agreed : IsAgreed K (fill_claims t.length l hashes)
   agreed k i u v p q =
       let at = alone.no_more k i u p in
       same_Some u t.root (sym p ∙ ap₂ K at.0 at.1 ∙ alone.root)
-      ∙ sym (same_Some v t.root (sym q ∙ ap₂ (fill_claims t l hashes) at.0 at.1 ∙ claims-root_over t l hashes layer_inside right_count ∙ ap Some leads))
+      ∙ sym (same_Some v t.root (sym q ∙ ap₂ (fill_claims t.length l hashes) at.0 at.1 ∙ claims-root_over t l hashes layer_inside right_count ∙ ap Some leads))
 
   -- so it is refused for want of memory alone
-  pub only_memory : (r : HashRefusal) → FillRefuses t K l hashes r → r ≡ NoMemory
+  pub only_memory : (r : HashRefusal) → FillRefuses t.length K l hashes r → r ≡ NoMemory
   only_memory UnknownRoot f = absurd f
   only_memory BadRange f = absurd (omega (arith, f, layer_inside))
   only_memory BadCount f = absurd (f.1 right_count)
@@ -44,15 +45,15 @@ module _ (t : TreeRoot) (K : PartialTree) (l : ℕ) (hashes : List Hash) (layer_
   only_memory NoMemory f = refl
 
   -- and joined to the root it makes the nodes from the layer up
-  pub joined-knows : (L : PartialTree) → ((k i : ℕ) → L k i ≡ joined K (fill_claims t l hashes) k i) → KnowsFrom t l hashes L
+  pub joined-knows : (L : PartialTree) → ((k i : ℕ) → L k i ≡ joined K (fill_claims t.length l hashes) k i) → KnowsFrom t l hashes L
   joined-knows L is = record {
     nodes = λ k i low at.
         let claim = claims-node t l hashes layer_inside right_count k i low at in
         is k i ∙ elim (there_or_not (K k i)) [
-          | inl (v, p) ↦ first_of_two (K k i) (fill_claims t l hashes k i) v p ∙ ap Some (agreed k i v _ p claim)
-          | inr none ↦ second_of_two (K k i) (fill_claims t l hashes k i) none ∙ claim
+          | inl (v, p) ↦ first_of_two (K k i) (fill_claims t.length l hashes k i) v p ∙ ap Some (agreed k i v _ p claim)
+          | inr none ↦ second_of_two (K k i) (fill_claims t.length l hashes k i) none ∙ claim
         ];
-    no_more = λ k i v e. elim (either (K k i) (fill_claims t l hashes k i) v (sym (is k i) ∙ e)) [
+    no_more = λ k i v e. elim (either (K k i) (fill_claims t.length l hashes k i) v (sym (is k i) ∙ e)) [
       | inl p ↦ at_root k i v p
       | inr (none, p) ↦ claims-no_more t l hashes layer_inside right_count k i v p
     ];
@@ -89,14 +90,14 @@ module _ (p : ℕ) (e : TreeEntry) (legal : IsPieceLength p) (sound : IsSoundTre
         ap (λ x. info x a.length) planted.root_is ∙ ap (λ y. info e.root y) planted.length_is
 
     -- the piece layer is refused for want of memory alone
-    pub refused_for_memory : (r : HashRefusal) → FillRefuses (info_of a) (look a.state.known) l e.layer r → r ≡ NoMemory
+    pub refused_for_memory : (r : HashRefusal) → FillRefuses a.length (look a.state.known) l e.layer r → r ≡ NoMemory
     refused_for_memory r f =
         only_memory (root_of_entry e) (look a.state.known) (piece_layer p) e.layer in_tree right_count (sound.layer_root longer) (planted.known.root_alone (inl refl)) r
-        (subst (λ k. FillRefuses (root_of_entry e) (look a.state.known) k e.layer r) at (subst (λ t. FillRefuses t (look a.state.known) l e.layer r) same f))
+        (subst (λ k. FillRefuses e.length (look a.state.known) k e.layer r) at (subst (λ t. FillRefuses t.length (look a.state.known) l e.layer r) same f))
 
     -- and once it is taken, the tree is as a session with layers begins
     pub planted_layers : (b : KeptTree) (c : ℕ) → b.root ≡ a.root → b.length ≡ a.length → b.state.marked ≡ a.state.marked
-        → IsFillAccepted (info_of a) (look a.state.known) l e.layer → Joins (fill_claims (info_of a) l e.layer) a.state.known b.state.known c → IsPlanted p true e b
+        → IsFillAccepted a.length (look a.state.known) l e.layer → Joins (fill_claims a.length l e.layer) a.state.known b.state.known c → IsPlanted p true e b
     planted_layers b c r n m ok joins = record {
       root_is = r ∙ planted.root_is;
       length_is = n ∙ planted.length_is;
@@ -105,7 +106,7 @@ module _ (p : ℕ) (e : TreeEntry) (legal : IsPieceLength p) (sound : IsSoundTre
         root_alone = λ w. elim w [ inl off ↦ absurd (false≢true (sym off)) | inr short ↦ absurd (omega (arith, short, longer)) ];
         layers = λ on more.
             joined-knows (root_of_entry e) (look a.state.known) (piece_layer p) e.layer in_tree right_count (sound.layer_root longer) (planted.known.root_alone (inl refl)) (look b.state.known)
-            (λ k i. joins.joined_is k i ∙ ap (λ j. joined (look a.state.known) (fill_claims (info_of a) j e.layer) k i) at ∙ ap (λ t. joined (look a.state.known) (fill_claims t (piece_layer p) e.layer) k i) same);
+            (λ k i. joins.joined_is k i ∙ ap (λ j. joined (look a.state.known) (fill_claims a.length j e.layer) k i) at ∙ ap (λ t. joined (look a.state.known) (fill_claims t.length (piece_layer p) e.layer) k i) same);
       };
       marked = m ∙ planted.marked;
     }

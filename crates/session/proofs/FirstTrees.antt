@@ -11,15 +11,16 @@ use Rattle.std.proofs.Math.Seq.{take-suc, get_or-append_seam}
 use Rattle.metainfo.specs.Description.{Description, TreeEntry}
 use Rattle.metainfo.specs.Seen.{tree_entry}
 use Rattle.metainfo.specs.Sound.{IsSound, IsSoundTree}
-use Rattle.metainfo.specs.declared.torrent.TreeInfo.{TreeInfo}
-use Rattle.session.specs.Digest.{Hash}
-use Rattle.session.specs.TreeRoot.{TreeRoot, tree_height}
-use Rattle.session.specs.Partial.{IsClosed}
-use Rattle.session.specs.Known.{Known, look, place_cmp}
-use Rattle.session.specs.Kept.{KeptTree, info_of, root_alone}
-use Rattle.session.specs.Layouts.{root_of_entry, state_of, AreKept}
+use Rattle.metainfo.specs.TreeInfo.{TreeInfo}
+use Rattle.node_maps.specs.Digest.{Hash}
+use Rattle.partial_tree.specs.TreeRoot.{TreeRoot}
+use Rattle.node_maps.specs.Places.{tree_height}
+use Rattle.partial_tree.specs.Closed.{IsClosed}
+use Rattle.node_maps.specs.Known.{Known, look, place_cmp}
+use Rattle.partial_tree.specs.Kept.{KeptTree, info_of, root_alone}
+use Rattle.session.specs.Layouts.{root_of_entry, seen, state_of, AreKept}
 use Rattle.session.specs.Fresh.{KnowsRoot, IsFirstKnown, IsFresh, IsPlanted}
-use Rattle.session.proofs.Known.{look-insert, look-insert_same}
+use Rattle.node_maps.proofs.Known.{look-insert, look-insert_same}
 use Rattle.session.proofs.Sessions.{mapped}
 
 only_root : (h : ℕ) (r : Hash) (l i : ℕ) (v : Hash) → look (insert empty (h, 0) r) l i ≡ Some v → (l ≡ h) × (i ≡ 0) × (v ≡ r)
@@ -137,8 +138,9 @@ module _ (d : Description) (sound : IsSound d) (infos : List TreeInfo) (are : ma
     good = λ k x inside. (planted k nothing x inside).good;
   }
 
-  pub fresh : (w : Bool) (ts : List KeptTree) → AreKept d ts → ArePlanted d.piece_length w d.trees ts → IsFresh d w (map state_of ts)
+  pub fresh : (w : Bool) (ts : List KeptTree) → AreKept d ts → ArePlanted d.piece_length w d.trees ts → IsFresh d w (seen d ts)
   fresh w ts kept planted = record {
+    torrent = refl;
     count = length-map ts state_of ∙ sym (length-map ts info_of) ∙ ap length kept.same ∙ length-map d.trees root_of_entry;
     known = λ n e s at_entry at_state.
         let x = mapped state_of (slice_get ts n) s (sym (slice_get-map state_of ts n) ∙ at_state) in

@@ -10,10 +10,10 @@ use Rattle.std.proofs.lemmas.Option.{none-some, same_Some, slice_get_within, sli
 use Rattle.std.proofs.lemmas.Simd.{map-map}
 use Rattle.metainfo.specs.Description.{Description, TreeEntry}
 use Rattle.metainfo.specs.Seen.{tree_entry}
-use Rattle.metainfo.specs.declared.torrent.TreeInfo.{TreeInfo}
-use Rattle.session.specs.Digest.{Hash}
-use Rattle.session.specs.TreeRoot.{TreeRoot}
-use Rattle.session.specs.Kept.{KeptTree, info_of}
+use Rattle.metainfo.specs.TreeInfo.{TreeInfo}
+use Rattle.node_maps.specs.Digest.{Hash}
+use Rattle.partial_tree.specs.TreeRoot.{TreeRoot}
+use Rattle.partial_tree.specs.Kept.{KeptTree, info_of}
 use Rattle.session.specs.Layouts.{root_of_entry, AreKept}
 use Rattle.session.specs.Roots.{AreNumbered, number_of}
 use Rattle.session.specs.declared.roots.Roots.{Roots}

@@ -1,28 +1,32 @@
 -- A round: whatever the messages before it did, the true answer to what was wanted leaves fewer gaps.
-use Rattle.std.proofs.Common.{◌≡◌, ◌≢◌, ◌⊎◌, ℕ, ◌^◌, ◌<◌, ◌≤◌, List, None, inl, inr, refl, sym, ap, ap₂, ◌∙◌, subst, subst₂, arith, Bor}
+use Rattle.std.proofs.Common.{◌≡◌, ◌≢◌, ◌⊎◌, ℕ, ◌^◌, ◌<◌, ◌≤◌, List, map, None, inl, inr, refl, sym, ap, ap₂, ◌∙◌, subst, subst₂, arith, Bor}
 use Rattle.std.specs.Prelude.{slice_get}
 use Rattle.std.specs.List.{All}
 use Rattle.std.proofs.lemmas.Option.{same_Some, none-some}
 use Rattle.std.proofs.lemmas.Bool.{cases_lt}
-use Rattle.session.specs.TreeRoot.{TreeRoot, tree_height, Fits}
+use Rattle.partial_tree.specs.TreeRoot.{TreeRoot, Fits}
+use Rattle.node_maps.specs.Places.{tree_height, PartialTree}
 use Rattle.wire.specs.declared.message.Ask.{Ask}
-use Rattle.session.specs.declared.refusal.HashRefusal.{HashRefusal}
-use Rattle.session.specs.declared.refusal.HashRefusal.TheVariants.{UnknownRoot, BadRange, BadCount, BadPad, Unanchored, Mismatch, NoMemory}
+use Rattle.partial_tree.specs.declared.refusal.HashRefusal.{HashRefusal}
+use Rattle.partial_tree.specs.declared.refusal.HashRefusal.TheVariants.{UnknownRoot, BadRange, BadCount, BadPad, Unanchored, Mismatch, NoMemory}
 use Rattle.wire.specs.declared.message.Message.{Message}
 use Rattle.wire.specs.declared.message.Message.TheVariants as message
 use Rattle.session.specs.declared.verdict.Verdict.{Verdict}
 use Rattle.session.specs.declared.verdict.Verdict.TheVariants as verdict
-use Rattle.session.specs.Digest.{Hash}
+use Rattle.node_maps.specs.Digest.{Hash}
 use Rattle.hashtree.specs.Tree.{block_count}
-use Rattle.session.specs.Partial.{PartialTree, Keeps, IsClosed, Collision, whole}
-use Rattle.session.specs.Claims.{claims, joined, Refuses, IsAccepted, answer_of}
-use Rattle.session.specs.Gaps.{gaps, want_ask}
-use Rattle.session.specs.Known.{look}
-use Rattle.session.specs.Session.{HasHashes, Layout, TreeState, State, IsTree, IsGood, IsAsked, IsStored, IsHashRefused, HasDistinctRoots, HasFewerGaps, Step, Run}
+use Rattle.partial_tree.specs.Closed.{Keeps, IsClosed, Collision, whole}
+use Rattle.partial_tree.specs.Claims.{claims, joined, Refuses, IsAccepted, answer_of}
+use Rattle.partial_tree.specs.Gaps.{gaps, want_ask}
+use Rattle.node_maps.specs.Known.{look}
+use Rattle.session.specs.Session.{HasHashes, SessionSeen, TreeState, IsTree, IsGood, IsAsked, IsStored, IsHashRefused, HasDistinctRoots, HasFewerGaps, Step}
+use Rattle.metainfo.specs.Description.{Description}
+use Rattle.session.specs.Layouts.{roots, root_of_entry}
+use Rattle.session.specs.Chain.{Chain}
 use Rattle.hashtree.proofs.Heights.{height_enough}
-use Rattle.session.proofs.Joining.{accepted-no_fault}
-use Rattle.session.proofs.Wanted.{true_answer-accepted, want-fewer}
-use Rattle.session.proofs.Runs.{Learns, run-true, run-learns, set-write}
+use Rattle.partial_tree.proofs.Joining.{accepted-no_fault}
+use Rattle.partial_tree.proofs.Wanted.{true_answer-accepted, want-fewer}
+use Rattle.session.proofs.Runs.{Learns, run-true, run-learns, run-torrent, set-write}
 
 -- a leaf that is not known is not the root
 pub want-tall : (t : TreeRoot) (K : PartialTree) (b : ℕ) → IsClosed t K → b < block_count t.length → K 0 b ≡ None → 1 ≤ tree_height t.length
@@ -37,38 +41,38 @@ want-tall t K b closed in' none = elim (cases_lt (tree_height t.length) 1) [
 ]
 
 -- the tree that an ask names is the one tree with its root
-asked-is : (t : Layout) (S : State) (ask : Ask) (n : ℕ) (tree : TreeRoot) (s : TreeState) → HasDistinctRoots t → IsTree t S n tree s → tree.root ≡ ask.root
-    → (a : IsAsked t S ask) → (a.number ≡ n) × (a.tree ≡ tree) × (a.state ≡ s)
-asked-is t S ask n tree s distinct at root a =
+asked-is : (S : SessionSeen) (ask : Ask) (n : ℕ) (tree : TreeRoot) (s : TreeState) → HasDistinctRoots S → IsTree S n tree s → tree.root ≡ ask.root
+    → (a : IsAsked S ask) → (a.number ≡ n) × (a.tree ≡ tree) × (a.state ≡ s)
+asked-is S ask n tree s distinct at root a =
     let same : a.number ≡ n = distinct a.number n a.tree tree a.is_tree.tree_is at.tree_is (a.has_root ∙ sym root) in (
       same,
-      same_Some a.tree tree (sym a.is_tree.tree_is ∙ ap (slice_get t.trees) same ∙ at.tree_is),
-      same_Some a.state s (sym a.is_tree.state_is ∙ ap (slice_get S) same ∙ at.state_is),
+      same_Some a.tree tree (sym a.is_tree.tree_is ∙ ap (slice_get (roots S)) same ∙ at.tree_is),
+      same_Some a.state s (sym a.is_tree.state_is ∙ ap (slice_get S.trees) same ∙ at.state_is),
     )
 
-module _ (t : Layout) (distinct : HasDistinctRoots t) (n : ℕ) (tree : TreeRoot) (b : ℕ) (in' : b < block_count tree.length) (K : PartialTree) where
-  module _ (S S' : State) (s : TreeState) (at : IsTree t S n tree s) (tall : 1 ≤ tree_height tree.length) (keeps : Keeps K (look s.known)) (none : K 0 b ≡ None)
-      (hashes : List Hash) (ok : IsAccepted tree (look s.known) (want_ask tree b) hashes) where
-    stored-fewer : (c : ℕ) → IsStored t S (want_ask tree b) hashes c S' → HasFewerGaps t S' n tree K
+module _ (n : ℕ) (tree : TreeRoot) (b : ℕ) (in' : b < block_count tree.length) (K : PartialTree) where
+  module _ (S S' : SessionSeen) (distinct : HasDistinctRoots S) (s : TreeState) (at : IsTree S n tree s) (tall : 1 ≤ tree_height tree.length) (keeps : Keeps K (look s.known)) (none : K 0 b ≡ None)
+      (hashes : List Hash) (ok : IsAccepted tree.length (look s.known) (want_ask tree b) hashes) where
+    stored-fewer : (c : ℕ) → IsStored S (want_ask tree b) hashes c S' → HasFewerGaps S' n tree K
     stored-fewer c h =
-        let (same, one, state) = asked-is t S (want_ask tree b) n tree s distinct at refl h.asked in
+        let (same, one, state) = asked-is S (want_ask tree b) n tree s distinct at refl h.asked in
         let after : look h.after.known ≡ joined (look s.known) (claims (want_ask tree b) hashes) =
         λ i l j. (h.known_after l j ∙ ap (λ st. joined (look st.known) (claims (want_ask tree b) hashes) l j) state) i in (
           h.after,
           record {
-            tree_is = at.tree_is;
-            state_is = ap₂ slice_get h.state_after (sym same) ∙ set-write S h.asked.number h.after h.asked.state h.asked.is_tree.state_is;
+            tree_is = ap (λ U. slice_get (roots U) n) h.state_after ∙ at.tree_is;
+            state_is = ap₂ (λ U i. slice_get U.trees i) h.state_after (sym same) ∙ set-write S.trees h.asked.number h.after h.asked.state h.asked.is_tree.state_is;
           },
           subst (λ L. gaps tree.length L < gaps tree.length K) (sym after) (want-fewer tree b tall in' (look s.known) hashes ok K keeps none),
         )
 
-    fault-never : (r : HashRefusal) → (a : IsAsked t S (want_ask tree b)) → Refuses a.tree (look a.state.known) (want_ask tree b) hashes r → ⊥
+    fault-never : (r : HashRefusal) → (a : IsAsked S (want_ask tree b)) → Refuses a.tree.length (look a.state.known) (want_ask tree b) hashes r → ⊥
     fault-never r a refused =
-        let (same, one, state) = asked-is t S (want_ask tree b) n tree s distinct at refl a in
+        let (same, one, state) = asked-is S (want_ask tree b) n tree s distinct at refl a in
         accepted-no_fault a.tree (look a.state.known) (want_ask tree b) hashes r
-        (subst₂ (λ tr st. IsAccepted tr (look st.known) (want_ask tree b) hashes) (sym one) (sym state) ok) refused.fault
+        (subst₂ (λ tr st. IsAccepted tr.length (look st.known) (want_ask tree b) hashes) (sym one) (sym state) ok) refused.fault
 
-    refused-never : (r : HashRefusal) → r ≢ NoMemory → IsHashRefused t S (want_ask tree b) hashes r → ⊥
+    refused-never : (r : HashRefusal) → r ≢ NoMemory → IsHashRefused S (want_ask tree b) hashes r → ⊥
     refused-never UnknownRoot memory h = h n tree at.tree_is refl
     refused-never NoMemory memory h = memory refl
     refused-never BadRange memory (a, h) = fault-never BadRange a h
@@ -77,27 +81,30 @@ module _ (t : Layout) (distinct : HasDistinctRoots t) (n : ℕ) (tree : TreeRoot
     refused-never Unanchored memory (a, h) = fault-never Unanchored a h
     refused-never Mismatch memory (a, h) = fault-never Mismatch a h
 
-  answer-fewer : (S S' : State) (s : TreeState) → IsTree t S n tree s → 1 ≤ tree_height tree.length → Keeps K (look s.known) → K 0 b ≡ None
-      → (hs : Bor (List Hash)) → IsAccepted tree (look s.known) (want_ask tree b) hs.now
-      → (v : Verdict) → v ≢ verdict.HashRefused NoMemory → Step t S (message.Hashes (want_ask tree b) hs) v S' → HasFewerGaps t S' n tree K
-  answer-fewer S S' s at tall keeps none hs ok (verdict.Stored c) memory h = stored-fewer S S' s at tall keeps none hs.now ok c h
-  answer-fewer S S' s at tall keeps none hs ok (verdict.HashRefused r) memory h =
-      absurd (refused-never S S' s at tall keeps none hs.now ok r (λ e. memory (ap verdict.HashRefused e)) h.0)
-  answer-fewer S S' s at tall keeps none hs ok v memory h = absurd h
+  answer-fewer : (S S' : SessionSeen) → HasDistinctRoots S → (s : TreeState) → IsTree S n tree s → 1 ≤ tree_height tree.length → Keeps K (look s.known) → K 0 b ≡ None
+      → (hs : Bor (List Hash)) → IsAccepted tree.length (look s.known) (want_ask tree b) hs.now
+      → (v : Verdict) → v ≢ verdict.HashRefused NoMemory → Step S (message.Hashes (want_ask tree b) hs) v S' → HasFewerGaps S' n tree K
+  answer-fewer S S' distinct s at tall keeps none hs ok (verdict.Stored c) memory h = stored-fewer S S' distinct s at tall keeps none hs.now ok c h
+  answer-fewer S S' distinct s at tall keeps none hs ok (verdict.HashRefused r) memory h =
+      absurd (refused-never S S' distinct s at tall keeps none hs.now ok r (λ e. memory (ap verdict.HashRefused e)) h.0)
+  answer-fewer S S' distinct s at tall keeps none hs ok v memory h = absurd h
 
 -- a run of messages that ends with the true answer, not refused for want of memory, leaves fewer gaps, or a collision is named
-pub round : (t : Layout) → HasDistinctRoots t → (S : State) (ms : List Message) (vs : List Verdict) (S₁ S₂ : State) (n : ℕ) (tree : TreeRoot) (s : TreeState) (b : ℕ) (f : List ℕ)
-    → IsGood t S → All HasHashes ms → Run t S ms vs S₁ → IsTree t S n tree s → (in' : b < block_count tree.length) → look s.known 0 b ≡ None → Fits f tree
+pub round : (S : SessionSeen) → HasDistinctRoots S → (ms : List Message) (vs : List Verdict) (S₁ S₂ : SessionSeen) (n : ℕ) (tree : TreeRoot) (s : TreeState) (b : ℕ) (f : List ℕ)
+    → IsGood S → All HasHashes ms → Chain Step S ms vs S₁ → IsTree S n tree s → (in' : b < block_count tree.length) → look s.known 0 b ≡ None → Fits f tree
     → (hs : Bor (List Hash)) → hs.now ≡ answer_of (tree_height tree.length) (whole f) (want_ask tree b)
-    → (v : Verdict) → v ≢ verdict.HashRefused NoMemory → Step t S₁ (message.Hashes (want_ask tree b) hs) v S₂
-    → HasFewerGaps t S₂ n tree (look s.known) ⊎ ((s₁ : TreeState) × IsTree t S₁ n tree s₁ × Collision (whole f) (look s₁.known))
-round t distinct S ms vs S₁ S₂ n tree s b f good all run at in' none fits hs told v memory step =
-    let learnt : Learns t S S₁ n tree s = run-learns t S ms vs S₁ run n tree s at in
+    → (v : Verdict) → v ≢ verdict.HashRefused NoMemory → Step S₁ (message.Hashes (want_ask tree b) hs) v S₂
+    → HasFewerGaps S₂ n tree (look s.known) ⊎ ((s₁ : TreeState) × IsTree S₁ n tree s₁ × Collision (whole f) (look s₁.known))
+round S distinct ms vs S₁ S₂ n tree s b f good all run at in' none fits hs told v memory step =
+    let learnt : Learns S S₁ n tree s = run-learns S ms vs S₁ run n tree s at in
     let closed : IsClosed tree (look s.known) = good.closed n tree s at in
-    let closed₁ : IsClosed tree (look learnt.later.known) = (run-true t S ms vs S₁ good all run).1.closed n tree learnt.later learnt.later_is in
+    let closed₁ : IsClosed tree (look learnt.later.known) = (run-true S ms vs S₁ good all run).1.closed n tree learnt.later learnt.later_is in
+    let distinct₁ : HasDistinctRoots S₁ = λ i k x y p q e. distinct i k x y
+    (ap (λ (d : Description). slice_get (map root_of_entry d.trees) i) (sym (run-torrent S ms vs S₁ run)) ∙ p)
+    (ap (λ (d : Description). slice_get (map root_of_entry d.trees) k) (sym (run-torrent S ms vs S₁ run)) ∙ q) e in
     let tall : 1 ≤ tree_height tree.length = want-tall tree (look s.known) b closed in' none in
     elim (true_answer-accepted tree b tall in' (look learnt.later.known) f closed₁ fits) [
       | inr collision ↦ inr (learnt.later, learnt.later_is, collision)
-      | inl ok ↦ inl (answer-fewer t distinct n tree b in' (look s.known) S₁ S₂ learnt.later learnt.later_is tall learnt.keeps none hs
-          (subst (IsAccepted tree (look learnt.later.known) (want_ask tree b)) (sym told) ok) v memory step)
+      | inl ok ↦ inl (answer-fewer n tree b in' (look s.known) S₁ S₂ distinct₁ learnt.later learnt.later_is tall learnt.keeps none hs
+          (subst (IsAccepted tree.length (look learnt.later.known) (want_ask tree b)) (sym told) ok) v memory step)
     ]

@@ -1,5 +1,5 @@
 -- The trees of a session beside the state that contracts see.
-use Rattle.std.proofs.Common.{◌≡◌, ◌≢◌, ℕ, ◌<◌, true, List, map, length, set, get_or, Option, Some, None, option_map, Result, Ok, Err, IfOk, IfErr, refl, sym, ap, ◌∙◌, subst, subst₂, arith}
+use Rattle.std.proofs.Common.{◌≡◌, ◌≢◌, ◌⊎◌, inl, inr, ℕ, ◌<◌, true, List, map, length, set, get_or, Option, Some, None, option_map, Result, Ok, Err, IfOk, IfErr, refl, sym, ap, ◌∙◌, subst, subst₂, arith}
 use Rattle.std.specs.Prelude.{slice_get}
 use Rattle.std.specs.FinSet as leaves
 use Rattle.std.proofs.lemmas.Option.{none-some, same_Some, slice_get_within, slice_get-get_or, get_or_from_slice_get, slice_get-map}
@@ -11,20 +11,29 @@ use Rattle.metainfo.specs.Description.{Description, FileEntry}
 use Rattle.metainfo.specs.Places.{IsPlace, place_of}
 use Rattle.metainfo.specs.Sound.{IsSound}
 use Rattle.wire.specs.declared.message.Ask.{Ask}
-use Rattle.session.specs.declared.refusal.HashRefusal.{HashRefusal}
-use Rattle.session.specs.declared.refusal.HashRefusal.TheVariants.{UnknownRoot, BadRange, BadCount, BadPad, Unanchored, Mismatch, NoMemory}
-use Rattle.session.specs.declared.refusal.BlockRefusal.{BlockRefusal}
-use Rattle.session.specs.declared.refusal.BlockRefusal.TheVariants.{BadPlace, BadSize, Unproved, BadBlock}
-use Rattle.session.specs.Digest.{Hash}
-use Rattle.session.specs.TreeRoot.{TreeRoot, tree_height}
-use Rattle.session.specs.Partial.{IsKnown, IsClosed}
-use Rattle.session.specs.Claims.{claims, IsAccepted, TreeRefuses, CanAnswer}
-use Rattle.session.specs.Known.{Known, Marked, look, Joins}
-use Rattle.session.specs.Kept.{TreeState, KeptTree, info_of, IsGoodTree, IsMarked, TreeRefusesBlock}
-use Rattle.session.specs.Session.{IsTree, IsGood, HasDistinctRoots, IsStored, IsHashRefused, IsAnswered, IsPlaced, IsVerified, IsBlockRefused}
-use Rattle.session.specs.Layouts.{root_of_entry, layout_of, tree_number, state_of, AreKept, IsFilled, IsFillRefused}
-use Rattle.session.specs.Fill.{fill_claims, IsFillAccepted, FillRefuses}
-use Rattle.session.proofs.Keeping.{same_info}
+use Rattle.partial_tree.specs.declared.refusal.HashRefusal.{HashRefusal}
+use Rattle.partial_tree.specs.declared.refusal.HashRefusal.TheVariants.{UnknownRoot, BadRange, BadCount, BadPad, Unanchored, Mismatch, NoMemory}
+use Rattle.partial_tree.specs.declared.refusal.BlockRefusal.{BlockRefusal}
+use Rattle.partial_tree.specs.declared.refusal.BlockRefusal.TheVariants.{BadPlace, BadSize, Unproved, BadBlock}
+use Rattle.node_maps.specs.Digest.{Hash}
+use Rattle.partial_tree.specs.TreeRoot.{TreeRoot}
+use Rattle.node_maps.specs.Places.{tree_height, IsKnown}
+use Rattle.partial_tree.specs.Closed.{IsClosed}
+use Rattle.partial_tree.specs.Claims.{claims, IsAccepted, TreeRefuses, CanAnswer}
+use Rattle.node_maps.specs.Known.{Known, Marked, look}
+use Rattle.partial_tree.specs.Joins.{Joins}
+use Rattle.partial_tree.specs.Kept.{TreeState, KeptTree, info_of, IsGoodTree, IsMarked, TreeRefusesBlock}
+use Rattle.session.specs.Session.{IsTree, IsGood, HasDistinctRoots, IsStored, IsHashRefused, IsAnswered, IsPlaced, IsVerified, IsBlockRefused, IsFilled, IsFillRefused}
+use Rattle.partial_tree.specs.declared.answer.Answer.{Answer}
+use Rattle.partial_tree.specs.declared.answer.Answer.TheVariants as answer
+use Rattle.partial_tree.specs.Answers.{IsTreeAnswer}
+use Rattle.session.specs.Answers.{IsAnswerTo}
+use Rattle.session.specs.Layouts.{IsBlockOf, SessionSeen, seen, root_of_entry, tree_number, state_of, AreKept}
+use Rattle.partial_tree.specs.Fill.{fill_claims, IsFillAccepted, FillRefuses}
+use Rattle.partial_tree.proofs.Keeping.{same_info}
+
+abbrev pub with_trees : Description → List TreeState → SessionSeen
+with_trees d states = record { torrent = d; trees = states }
 
 pub found_at : (ts : List KeptTree) (n : ℕ) (a : KeptTree) → n < length ts → a ≡ get_or ts n a → slice_get ts n ≡ Some a
 found_at ts n a inside e = slice_get-get_or ts n a inside ∙ ap Some (sym e)
@@ -37,21 +46,21 @@ module _ (d : Description) (ts : List KeptTree) (kept : AreKept d ts) where
   pub good_at : (n : ℕ) (a : KeptTree) → slice_get ts n ≡ Some a → IsGoodTree a
   good_at n a e = subst IsGoodTree (get_or_from_slice_get ts n a a e) (All-get_or IsGoodTree ts n a (slice_get_within ts n a e) kept.good)
 
-  pub tree_at : (n : ℕ) (a : KeptTree) → slice_get ts n ≡ Some a → IsTree (layout_of d) (map state_of ts) n (info_of a) a.state
+  pub tree_at : (n : ℕ) (a : KeptTree) → slice_get ts n ≡ Some a → IsTree (seen d ts) n (info_of a) a.state
   tree_at n a e = record {
     tree_is = ap (λ l. slice_get l n) (sym kept.same) ∙ slice_get-map info_of ts n ∙ ap (option_map info_of) e;
     state_is = slice_get-map state_of ts n ∙ ap (option_map state_of) e;
   }
 
   -- each tree of the state is a kept one
-  pub kept_at : (n : ℕ) (tree : TreeRoot) (s : TreeState) → IsTree (layout_of d) (map state_of ts) n tree s
+  pub kept_at : (n : ℕ) (tree : TreeRoot) (s : TreeState) → IsTree (seen d ts) n tree s
       → (a : KeptTree) × (slice_get ts n ≡ Some a) × (info_of a ≡ tree) × (a.state ≡ s)
   kept_at n tree s at =
       let x = mapped state_of (slice_get ts n) s (sym (slice_get-map state_of ts n) ∙ at.state_is) in
       let same : info_of x.0 ≡ tree = same_Some (info_of x.0) tree (sym ((tree_at n x.0 x.1).tree_is) ∙ at.tree_is) in
       (x.0, x.1, same, x.2)
 
-  pub kept-good : IsGood (layout_of d) (map state_of ts)
+  pub kept-good : IsGood (seen d ts)
   kept-good = record {
     count = length-map ts state_of ∙ sym (length-map ts info_of) ∙ ap length kept.same;
     closed = λ n tree s at.
@@ -69,8 +78,8 @@ module _ (d : Description) (ts : List KeptTree) (kept : AreKept d ts) where
   }
 
   pub stored_in : (n : ℕ) (a b : KeptTree) (ask : Ask) (hashes : List Hash) (c : ℕ) → slice_get ts n ≡ Some a → a.root ≡ ask.root
-      → b.state.marked ≡ a.state.marked → IsAccepted (info_of a) (look a.state.known) ask hashes → Joins (claims ask hashes) a.state.known b.state.known c
-      → IsStored (layout_of d) (map state_of ts) ask hashes c (map state_of (set ts n b))
+      → b.state.marked ≡ a.state.marked → IsAccepted a.length (look a.state.known) ask hashes → Joins (claims ask hashes) a.state.known b.state.known c
+      → IsStored (seen d ts) ask hashes c (seen d (set ts n b))
   stored_in n a b ask hashes c e root m ok joins = record {
     asked = record { number = n; tree = info_of a; state = a.state; is_tree = tree_at n a e; has_root = root };
     accepted = ok;
@@ -78,11 +87,11 @@ module _ (d : Description) (ts : List KeptTree) (kept : AreKept d ts) where
     known_after = joins.joined_is;
     marks_stay = m;
     gained = joins.gained;
-    state_after = map-set state_of ts n b;
+    state_after = ap (with_trees d) (map-set state_of ts n b);
   }
 
   pub refused_in : (n : ℕ) (a : KeptTree) (ask : Ask) (hashes : List Hash) (r : HashRefusal) → slice_get ts n ≡ Some a → a.root ≡ ask.root
-      → TreeRefuses (info_of a) (look a.state.known) ask hashes r → IsHashRefused (layout_of d) (map state_of ts) ask hashes r
+      → TreeRefuses a.length (look a.state.known) ask hashes r → IsHashRefused (seen d ts) ask hashes r
   refused_in n a ask hashes UnknownRoot e root refused = absurd refused.fault
   refused_in n a ask hashes BadRange e root refused = (record { number = n; tree = info_of a; state = a.state; is_tree = tree_at n a e; has_root = root }, refused)
   refused_in n a ask hashes BadCount e root refused = (record { number = n; tree = info_of a; state = a.state; is_tree = tree_at n a e; has_root = root }, refused)
@@ -93,7 +102,7 @@ module _ (d : Description) (ts : List KeptTree) (kept : AreKept d ts) where
 
   -- no kept tree has the root
   pub unknown_in : (ask : Ask) (hashes : List Hash) → ((n : ℕ) (a : KeptTree) → slice_get ts n ≡ Some a → a.root ≢ ask.root)
-      → IsHashRefused (layout_of d) (map state_of ts) ask hashes UnknownRoot
+      → IsHashRefused (seen d ts) ask hashes UnknownRoot
   unknown_in ask hashes none = λ n tree e root.
       let x = mapped info_of (slice_get ts n) tree (sym (slice_get-map info_of ts n) ∙ ap (λ l. slice_get l n) kept.same ∙ e) in
       none n x.0 x.1 (ap (λ t. t.root) x.2 ∙ root)
@@ -108,30 +117,30 @@ state_stays ts n a b e k m =
 
 module _ (d : Description) (ts : List KeptTree) (kept : AreKept d ts) where
   pub stored_all : (n : ℕ) (a b : KeptTree) (ask : Ask) (hashes : List Hash) (r : Result ℕ HashRefusal) → slice_get ts n ≡ Some a → a.root ≡ ask.root
-      → b.state.marked ≡ a.state.marked → IfOk r (λ c. IsAccepted (info_of a) (look a.state.known) ask hashes × Joins (claims ask hashes) a.state.known b.state.known c)
-      → IfOk r (λ c. IsStored (layout_of d) (map state_of ts) ask hashes c (map state_of (set ts n b)))
+      → b.state.marked ≡ a.state.marked → IfOk r (λ c. IsAccepted a.length (look a.state.known) ask hashes × Joins (claims ask hashes) a.state.known b.state.known c)
+      → IfOk r (λ c. IsStored (seen d ts) ask hashes c (seen d (set ts n b)))
   stored_all n a b ask hashes (Ok c) e root m h = stored_in d ts kept n a b ask hashes c e root m h.0 h.1
   stored_all n a b ask hashes (Err x) e root m h = tt
 
   pub refused_all : (n : ℕ) (a b : KeptTree) (ask : Ask) (hashes : List Hash) (r : Result ℕ HashRefusal) → slice_get ts n ≡ Some a → a.root ≡ ask.root
-      → b.state.marked ≡ a.state.marked → IfErr r (λ x. TreeRefuses (info_of a) (look a.state.known) ask hashes x × (b.state.known ≡ a.state.known))
-      → IfErr r (λ x. IsHashRefused (layout_of d) (map state_of ts) ask hashes x × (map state_of (set ts n b) ≡ map state_of ts))
+      → b.state.marked ≡ a.state.marked → IfErr r (λ x. TreeRefuses a.length (look a.state.known) ask hashes x × (b.state.known ≡ a.state.known))
+      → IfErr r (λ x. IsHashRefused (seen d ts) ask hashes x × (seen d (set ts n b) ≡ seen d ts))
   refused_all n a b ask hashes (Ok c) e root m h = tt
-  refused_all n a b ask hashes (Err x) e root m h = (refused_in d ts kept n a ask hashes x e root h.0, state_stays ts n a b e h.1 m)
+  refused_all n a b ask hashes (Err x) e root m h = (refused_in d ts kept n a ask hashes x e root h.0, ap (with_trees d) (state_stays ts n a b e h.1 m))
 
   pub asked_in : (n : ℕ) (a : KeptTree) (ask : Ask) → slice_get ts n ≡ Some a → a.root ≡ ask.root
-      → CanAnswer (tree_height a.length) (look a.state.known) ask → IsAnswered (layout_of d) (map state_of ts) ask
+      → CanAnswer (tree_height a.length) (look a.state.known) ask → IsAnswered (seen d ts) ask
   asked_in n a ask e root can = (record { number = n; tree = info_of a; state = a.state; is_tree = tree_at d ts kept n a e; has_root = root }, can)
 
   module _ (sound : IsSound d) where
-    pub distinct : HasDistinctRoots (layout_of d)
+    pub distinct : HasDistinctRoots (seen d ts)
     distinct n k a b p q e =
         let x = mapped root_of_entry (slice_get d.trees n) a (sym (slice_get-map root_of_entry d.trees n) ∙ p) in
         let y = mapped root_of_entry (slice_get d.trees k) b (sym (slice_get-map root_of_entry d.trees k) ∙ q) in
         sound.roots_differ n k x.0 y.0 x.1 y.1 (ap (λ t. t.root) x.2 ∙ e ∙ sym (ap (λ t. t.root) y.2))
 
     pub answered_in : (n : ℕ) (a : KeptTree) (ask : Ask) → slice_get ts n ≡ Some a → a.root ≡ ask.root
-        → IsAnswered (layout_of d) (map state_of ts) ask → CanAnswer (tree_height a.length) (look a.state.known) ask
+        → IsAnswered (seen d ts) ask → CanAnswer (tree_height a.length) (look a.state.known) ask
     answered_in n a ask e root (x, can) =
         let here = tree_at d ts kept n a e in
         let same : x.number ≡ n = distinct x.number n x.tree (info_of a) x.is_tree.tree_is here.tree_is (x.has_root ∙ sym root) in
@@ -155,7 +164,7 @@ module _ (d : Description) (ts : List KeptTree) (kept : AreKept d ts) where
 
   module _ (index begin file b tr : ℕ) (f : FileEntry) (a : KeptTree) (there : slice_get d.files file ≡ Some f) (is : f.tree ≡ Some tr)
       (at : place_of d index begin ≡ Some (file, b)) (e : slice_get ts tr ≡ Some a) (low : b < block_count a.length) where
-    abbrev placed : IsPlaced (layout_of d) (map state_of ts) index begin
+    abbrev placed : IsPlaced (seen d ts) index begin
     placed = record {
       file = file;
       number = b;
@@ -169,7 +178,7 @@ module _ (d : Description) (ts : List KeptTree) (kept : AreKept d ts) where
     }
 
     pub verified_in : (next : KeptTree) (bytes : List ℕ) → next.state.known ≡ a.state.known → IsMarked a.length a.state b bytes next.state
-        → IsVerified (layout_of d) (map state_of ts) index begin bytes file b (map state_of (set ts tr next))
+        → IsVerified (seen d ts) index begin bytes file b (seen d (set ts tr next))
     verified_in next bytes k ok =
         let state : Known → Marked → TreeState = λ x y. record { known = x; marked = y } in
         let after : next.state ≡ state a.state.known (leaves.insert a.state.marked b) = ap (λ x. state x next.state.marked) k ∙ ap (λ y. state a.state.known y) ok.marks in
@@ -179,22 +188,22 @@ module _ (d : Description) (ts : List KeptTree) (kept : AreKept d ts) where
           same_block = refl;
           size = ok.size;
           leaf_known = ok.leaf_known;
-          state_after = map-set state_of ts tr next ∙ ap (set (map state_of ts) tr) after;
+          state_after = ap (with_trees d) (map-set state_of ts tr next ∙ ap (set (map state_of ts) tr) after);
         }
 
     pub block_refused_in : (bytes : List ℕ) (r : BlockRefusal) → TreeRefusesBlock a.length (look a.state.known) b bytes r
-        → IsBlockRefused (layout_of d) (map state_of ts) index begin bytes r
+        → IsBlockRefused (seen d ts) index begin bytes r
     block_refused_in bytes BadPlace h = absurd h
     block_refused_in bytes BadSize h = (placed, h)
-    block_refused_in bytes Unproved h = (placed, h.0, h.1)
-    block_refused_in bytes BadBlock h = (placed, h.0, h.1.0, h.1.1, h.1.2)
+    block_refused_in bytes Unproved h = (placed, h)
+    block_refused_in bytes BadBlock h = (placed, h)
 
 -- ---- whole layers
 
 module _ (d : Description) (ts : List KeptTree) (kept : AreKept d ts) where
   pub filled_all : (n : ℕ) (a b : KeptTree) (layer : ℕ) (hashes : List Hash) (r : Result ℕ HashRefusal) → slice_get ts n ≡ Some a → b.state.marked ≡ a.state.marked
-      → IfOk r (λ c. IsFillAccepted (info_of a) (look a.state.known) layer hashes × Joins (fill_claims (info_of a) layer hashes) a.state.known b.state.known c)
-      → IfOk r (λ c. IsFilled (layout_of d) (map state_of ts) n layer hashes c (map state_of (set ts n b)))
+      → IfOk r (λ c. IsFillAccepted a.length (look a.state.known) layer hashes × Joins (fill_claims a.length layer hashes) a.state.known b.state.known c)
+      → IfOk r (λ c. IsFilled (seen d ts) n layer hashes c (seen d (set ts n b)))
   filled_all n a b layer hashes (Ok c) e m h = record {
     tree = info_of a;
     before = a.state;
@@ -203,16 +212,16 @@ module _ (d : Description) (ts : List KeptTree) (kept : AreKept d ts) where
     accepted = h.0;
     joins = h.1;
     marks_stay = m;
-    state_after = map-set state_of ts n b;
+    state_after = ap (with_trees d) (map-set state_of ts n b);
   }
   filled_all n a b layer hashes (Err x) e m h = tt
 
   pub fill_refused_all : (n : ℕ) (a b : KeptTree) (layer : ℕ) (hashes : List Hash) (r : Result ℕ HashRefusal) → slice_get ts n ≡ Some a → b.state.marked ≡ a.state.marked
-      → IfErr r (λ x. FillRefuses (info_of a) (look a.state.known) layer hashes x × (b.state.known ≡ a.state.known))
-      → IfErr r (λ x. IsFillRefused (layout_of d) (map state_of ts) n layer hashes x × (map state_of (set ts n b) ≡ map state_of ts))
+      → IfErr r (λ x. FillRefuses a.length (look a.state.known) layer hashes x × (b.state.known ≡ a.state.known))
+      → IfErr r (λ x. IsFillRefused (seen d ts) n layer hashes x × (seen d (set ts n b) ≡ seen d ts))
   fill_refused_all n a b layer hashes (Ok c) e m h = tt
   fill_refused_all n a b layer hashes (Err x) e m h =
-      (record { tree = info_of a; before = a.state; is_tree = tree_at d ts kept n a e; refuses = h.0 }, state_stays ts n a b e h.1 m)
+      (record { tree = info_of a; before = a.state; is_tree = tree_at d ts kept n a e; refuses = h.0 }, ap (with_trees d) (state_stays ts n a b e h.1 m))
 
   pub inside_kept : (n : ℕ) → n < length d.trees → n < length ts
   inside_kept n low = omega (arith, length-map ts info_of, length-map d.trees root_of_entry, ap length kept.same)
@@ -220,3 +229,33 @@ module _ (d : Description) (ts : List KeptTree) (kept : AreKept d ts) where
   -- the state of a tree that stands in the torrent
   pub state_there : (n : ℕ) (a : KeptTree) → n < length d.trees → a ≡ get_or ts n a → slice_get (map state_of ts) n ≡ Some a.state
   state_there n a low e = (tree_at d ts kept n a (found_at ts n a (inside_kept n low) e)).state_is
+
+-- ---- answers and what is wanted
+
+module _ (d : Description) (ts : List KeptTree) (kept : AreKept d ts) where
+  pub answer_all : (sound : IsSound d) {E : Type 0} (n : ℕ) (a : KeptTree) (ask : Ask) (r : Result Answer E) → slice_get ts n ≡ Some a → a.root ≡ ask.root
+      → IfOk r (IsTreeAnswer (tree_height a.length) (look a.state.known) ask) → IfOk r (IsAnswerTo (seen d ts) ask)
+  answer_all sound n a ask (Err x) e root h = tt
+  answer_all sound n a ask (Ok (answer.Hashes hashes)) e root h =
+      (record { number = n; tree = info_of a; state = a.state; is_tree = tree_at d ts kept n a e; has_root = root }, h.0, h.1)
+  answer_all sound n a ask (Ok answer.Reject) e root h = λ answered. h (answered_in d ts kept sound n a ask e root answered)
+
+  pub block_in : (n block : ℕ) (a : KeptTree) → slice_get ts n ≡ Some a → IsBlockOf d n block → block < block_count a.length
+  block_in n block a e is =
+      let x = mapped root_of_entry (slice_get d.trees n) (info_of a)
+      (sym (slice_get-map root_of_entry d.trees n) ∙ ap (λ l. slice_get l n) (sym kept.same) ∙ slice_get-map info_of ts n ∙ ap (option_map info_of) e) in
+      subst (λ len. block < block_count len) (ap (λ t. t.length) x.2) (is x.0 x.1)
+
+-- ---- a placed block has a tree
+
+none_or_some : (o : Option ℕ) → ((n : ℕ) × (o ≡ Some n)) ⊎ (o ≡ None)
+none_or_some None = inr refl
+none_or_some (Some n) = inl (n, refl)
+
+pub placed-has_tree : (d : Description) → IsSound d → (index begin file b : ℕ) (p : IsPlace d index begin file b) → (n : ℕ) × (p.file.tree ≡ Some n)
+placed-has_tree d sound index begin file b p = elim (none_or_some p.file.tree) [
+  | inl there ↦ there
+  | inr none ↦
+      let empty : p.file.length ≡ 0 = (sound.files file p.file p.there).no_tree none in
+      absurd (let low : b < block_count 0 = subst (λ len. b < block_count len) empty p.in_file in omega (arith, low))
+]

@@ -1,18 +1,12 @@
--- Partial hash trees, what messages claim of them, and sessions.
-pub mod Digest
-pub mod TreeRoot
-pub mod Partial
-pub mod Claims
-pub mod Fill
-pub mod Gaps
-pub mod Known
-pub mod Flat
-pub mod Evidence
-pub mod Kept
+-- Sessions of a torrent, their steps and runs.
+pub mod Chain
 pub mod Session
 pub mod SafeStep
+pub mod Answers
+pub mod Rounds
 pub mod Roots
 pub mod Layouts
+pub mod Codes
 pub mod Fresh
-pub mod Names
 pub mod Laws
+pub mod RoundLaws

@@ -4,7 +4,7 @@ use Rattle.std.specs.Ordering.{nat_cmp}
 use Rattle.std.specs.Cmp.Lexicographic.{slice_cmp}
 use Rattle.std.specs.BTreeMap.{get}
 use Rattle.session.specs.declared.roots.Roots.{Roots}
-use Rattle.session.specs.Digest.{Hash}
+use Rattle.node_maps.specs.Digest.{Hash}
 
 -- the number that is kept of a root
 abbrev pub number_of : Roots → Hash → Option ℕ

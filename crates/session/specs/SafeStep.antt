@@ -1,26 +1,32 @@
--- What holds of each step of a session beside that it is allowed: what it verifies is the block, and poison does no harm.
-use Rattle.std.specs.Prelude.{◌≡◌, ◌⊎◌, ℕ, List, [], ◌∷◌}
+-- What each step of a session keeps: what it verifies is the block, and poison does no harm.
+use Rattle.std.specs.Prelude.{◌≡◌, ◌⊎◌, ℕ, ◌-◌, ◌≤◌, List, Result, Ok, Err}
 use Rattle.wire.specs.declared.message.Ask.{Ask}
 use Rattle.wire.specs.declared.message.Message.{Message}
 use Rattle.wire.specs.declared.message.Message.TheVariants as message
-use Rattle.session.specs.declared.refusal.HashRefusal.TheVariants.{NoMemory}
+use Rattle.partial_tree.specs.declared.refusal.HashRefusal.{HashRefusal}
+use Rattle.partial_tree.specs.declared.refusal.HashRefusal.TheVariants.{NoMemory}
+use Rattle.partial_tree.specs.declared.refusal.BlockRefusal.{BlockRefusal}
 use Rattle.session.specs.declared.verdict.Verdict.{Verdict}
 use Rattle.session.specs.declared.verdict.Verdict.TheVariants as verdict
 use Rattle.hashtree.specs.Tree.{block}
-use Rattle.session.specs.TreeRoot.{TreeRoot, tree_height, Fits}
-use Rattle.session.specs.Partial.{IsKnown, Keeps, Collision, whole}
-use Rattle.session.specs.Digest.{Hash}
-use Rattle.session.specs.Claims.{top_layer, top_index, GoodRange, GoodCount, IsToldBy}
-use Rattle.session.specs.Known.{look}
-use Rattle.session.specs.Session.{Layout, TreeState, State, IsTree, IsPlaced, Step, IsTrueVerdict}
+use Rattle.node_maps.specs.Digest.{Hash}
+use Rattle.node_maps.specs.Places.{tree_height, IsKnown}
+use Rattle.node_maps.specs.Known.{look}
+use Rattle.metainfo.specs.Description.{Description}
+use Rattle.partial_tree.specs.TreeRoot.{TreeRoot, Fits}
+use Rattle.partial_tree.specs.Closed.{Keeps, Collision, whole}
+use Rattle.partial_tree.specs.Claims.{top_layer, top_index, GoodRange, GoodCount, IsToldBy, CanAnswer, answer_of}
+use Rattle.session.specs.Session.{SessionSeen, TreeState, IsTree, IsGood, IsAsked, IsPlaced, Step, IsTrueVerdict}
 
 -- each known place of each tree keeps its value
-abbrev pub KeepsKnown : Layout → State → State → Type 0
-KeepsKnown t S S' = (n : ℕ) (tree : TreeRoot) (s : TreeState) → IsTree t S n tree s
-    → (later : TreeState) × IsTree t S' n tree later × Keeps (look s.known) (look later.known)
+abbrev pub KeepsKnown : SessionSeen → SessionSeen → Type 0
+KeepsKnown S S' = (n : ℕ) (tree : TreeRoot) (s : TreeState) → IsTree S n tree s
+    → (later : TreeState) × IsTree S' n tree later × Keeps (look s.known) (look later.known)
 
--- the hashes for a tree are those of a file that fits it, in range and count as asked, and lead to a known node
-pub record AreTrueHashes (f : List ℕ) (tree : TreeRoot) (s : TreeState) (ask : Ask) (hashes : List Hash) : Type 0 where
+-- the hashes for a tree are those of a file that fits it, in range and count as asked, and lead to
+-- a known node
+pub record AreTrueHashes (f : List ℕ) (tree : TreeRoot) (s : TreeState) (ask : Ask)
+    (hashes : List Hash) : Type 0 where
   pub fits : Fits f tree
   pub has_root : tree.root ≡ ask.root
   pub range : GoodRange (tree_height tree.length) ask
@@ -29,29 +35,54 @@ pub record AreTrueHashes (f : List ℕ) (tree : TreeRoot) (s : TreeState) (ask :
   pub top_known : IsKnown (look s.known) (top_layer ask hashes) (top_index ask hashes)
 
 -- true hashes are stored, unless memory is refused for them or a collision is named
-abbrev pub StoresTrueHashes : Layout → State → Message → Verdict → Type 0
-StoresTrueHashes t S (message.Hashes ask hashes) v =
-    (n : ℕ) (tree : TreeRoot) (s : TreeState) (f : List ℕ) → IsTree t S n tree s → AreTrueHashes f tree s ask hashes.now
-    → ((count : ℕ) × (v ≡ verdict.Stored count)) ⊎ ((v ≡ verdict.HashRefused NoMemory) ⊎ Collision (whole f) (look s.known))
-StoresTrueHashes t S m v = Unit {0}
+abbrev pub StoresTrueHashes : SessionSeen → Ask → List Hash → Result ℕ HashRefusal → Type 0
+StoresTrueHashes S ask hashes r =
+    (n : ℕ) (tree : TreeRoot) (s : TreeState) (f : List ℕ) → IsTree S n tree s
+    → AreTrueHashes f tree s ask hashes
+    → ((count : ℕ) × (r ≡ Ok count)) ⊎ ((r ≡ Err NoMemory) ⊎ Collision (whole f) (look s.known))
+
+-- the hashes are what a session in the good state J, of the same torrent, answers to an ask with
+-- enough proof layers
+pub record IsAnswerFrom (torrent : Description) (J : SessionSeen) (ask : Ask) (hashes : List Hash)
+    : Type 0 where
+  pub same : J.torrent ≡ torrent
+  pub good : IsGood J
+  pub asked : IsAsked J ask
+  pub can : CanAnswer (tree_height asked.tree.length) (look asked.state.known) ask
+  pub enough : tree_height asked.tree.length - ask.base - 1 ≤ ask.proof
+  pub hashes_are : hashes ≡ answer_of (tree_height asked.tree.length) (look asked.state.known) ask
+
+-- what another session of the torrent answers is stored, unless memory is refused for it or a
+-- collision of the two trees is named
+abbrev pub StoresAnswers : SessionSeen → Ask → List Hash → Result ℕ HashRefusal → Type 0
+StoresAnswers S ask hashes r = (J : SessionSeen) (from : IsAnswerFrom S.torrent J ask hashes)
+    → ((count : ℕ) × (r ≡ Ok count)) ⊎ ((r ≡ Err NoMemory)
+    ⊎ ((s : TreeState) × IsTree S from.asked.number from.asked.tree s
+    × Collision (look from.asked.state.known) (look s.known)))
 
 -- the true block of a known leaf is verified, or a collision is named
-abbrev pub VerifiesTrueBlock : Layout → State → Message → Verdict → Type 0
-VerifiesTrueBlock t S (message.Piece index begin bytes) v =
-    (p : IsPlaced t S index begin) (f : List ℕ) → Fits f p.tree → bytes.now ≡ block f p.number → IsKnown (look p.state.known) 0 p.number
-    → (v ≡ verdict.Verified p.file p.number) ⊎ Collision (whole f) (look p.state.known)
-VerifiesTrueBlock t S m v = Unit {0}
+abbrev pub VerifiesTrueBlock : SessionSeen → ℕ → ℕ → List ℕ → Result (ℕ × ℕ) BlockRefusal → Type 0
+VerifiesTrueBlock S index begin bytes r =
+    (p : IsPlaced S index begin) (f : List ℕ) → Fits f p.tree → bytes ≡ block f p.number
+    → IsKnown (look p.state.known) 0 p.number → (r ≡ Ok (p.file, p.number))
+    ⊎ Collision (whole f) (look p.state.known)
 
-pub record IsSafeStep (t : Layout) (S : State) (m : Message) (v : Verdict) (S' : State) : Type 0 where
-  pub step : Step t S m v S'
-  pub is_true : IsTrueVerdict t S m v
-  pub keeps : KeepsKnown t S S'
-  pub stores : StoresTrueHashes t S m v
-  pub verifies : VerifiesTrueBlock t S m v
+-- what is true is taken: hashes and answers are stored and blocks verified, with these reservations
+abbrev pub TakesWhatIsTrue : SessionSeen → Message → Verdict → Type 0
+TakesWhatIsTrue S (message.Hashes ask hashes) (verdict.Stored c) =
+    StoresTrueHashes S ask hashes.now (Ok c) × StoresAnswers S ask hashes.now (Ok c)
+TakesWhatIsTrue S (message.Hashes ask hashes) (verdict.HashRefused r) =
+    StoresTrueHashes S ask hashes.now (Err r) × StoresAnswers S ask hashes.now (Err r)
+TakesWhatIsTrue S (message.Piece index begin bytes) (verdict.Verified file b) =
+    VerifiesTrueBlock S index begin bytes.now (Ok (file, b))
+TakesWhatIsTrue S (message.Piece index begin bytes) (verdict.BlockRefused r) =
+    VerifiesTrueBlock S index begin bytes.now (Err r)
+TakesWhatIsTrue S m v = Unit {0}
 
--- a run of such steps, one for each message
-abbrev pub IsSafeRun : Layout → State → List Message → List Verdict → State → Type 0
-IsSafeRun t S [] [] S' = S' ≡ S
-IsSafeRun t S [] (v ∷ vs) S' = ⊥
-IsSafeRun t S (m ∷ ms) [] S' = ⊥
-IsSafeRun t S (m ∷ ms) (v ∷ vs) S' = (M : State) × IsSafeStep t S m v M × IsSafeRun t M ms vs S'
+-- a step that is allowed, verifies nothing but the block itself, and is not harmed by poison
+pub record IsSafeStep (S : SessionSeen) (m : Message) (v : Verdict) (S' : SessionSeen)
+    : Type 0 where
+  pub allowed : Step S m v S'
+  pub verified_is_the_block : IsTrueVerdict S m v
+  pub keeps_known : KeepsKnown S S'
+  pub takes_what_is_true : TakesWhatIsTrue S m v

@@ -1,70 +1,34 @@
-//! The laws of partial trees, each as the contract of a function that does nothing.
+//! The laws of runs of messages, each as the contract of a function that does nothing.
 
-ghost use Rattle.session.specs.Laws.{WholeIsClosed, ClosedTreesAgree, KnownLeafNamesBlock, JoinedStaysClosed, JoinedKeeps, FilledStaysClosed, TrueMessageIsAccepted, AnswerIsAccepted, GapsNeverRise, GapsAreAtMostWindows, NoGapMeansAllKnown, AllKnownMeansNoGap, AnswerClosesOneGap, AnswerLeavesFewerGaps, RunKeepsPromises, RoundLeavesFewerGaps, MessageIsAcceptedOrRefused};
+ghost use Rattle.session.specs.Laws.{RunKeepsPromises, RoundLeavesFewerGaps};
+ghost use Rattle.session.specs.RoundLaws.{NoGapMeansNothingWanted, NothingWantedMeansNoGap, WantedAnswerLeadsToRoot, RunGapsNeverRise, RoundRunLeavesFewerGaps, RoundsAreAtMostGaps, RoundsMakeAllKnown};
 
-/// The whole tree of a file that fits a tree is closed.
-pub fn whole_is_closed()
-    ensures { WholeIsClosed }
-{}
-
-/// Two closed partial trees of one tree agree wherever both have a value, or a collision of them is named.
-pub fn closed_trees_agree()
-    ensures { ClosedTreesAgree }
-{}
-
-/// A block whose digest is a known leaf is that block of every file that fits, or a collision is named.
-pub fn known_leaf_names_block()
-    ensures { KnownLeafNamesBlock }
-{}
-
-/// A partial tree stays closed when an accepted message is joined to it, and keeps what it has.
-pub fn joined_stays_closed()
-    ensures closed { JoinedStaysClosed }
-    ensures keeps { JoinedKeeps }
-{}
-
-/// A partial tree stays closed when an accepted whole layer is joined to it.
-pub fn filled_stays_closed()
-    ensures { FilledStaysClosed }
-{}
-
-/// A message with what a closed tree has is accepted by each closed tree that knows its top, or a collision is named.
-pub fn true_message_is_accepted()
-    ensures { TrueMessageIsAccepted }
-{}
-
-/// What one session answers to an ask with enough proof layers, each other accepts, or a collision is named.
-pub fn answer_is_accepted()
-    ensures { AnswerIsAccepted }
-{}
-
-/// Gaps never rise, are at most the windows that hold a block, and are none exactly where all leaves are known.
-pub fn gaps_fall()
-    ensures falls { GapsNeverRise }
-    ensures at_most { GapsAreAtMostWindows }
-    ensures none { NoGapMeansAllKnown }
-    ensures all { AllKnownMeansNoGap }
-{}
-
-/// An accepted answer to what was wanted closes one gap, and leaves fewer than at the ask.
-pub fn answer_closes_gap()
-    ensures one { AnswerClosesOneGap }
-    ensures fewer { AnswerLeavesFewerGaps }
-{}
-
-/// A run keeps all trees closed, and each block that it verifies is the block of every file that fits,
-/// or a collision is named.
+/// A run keeps all trees closed, and each block that it verifies is the block of every file that
+/// fits, or a collision is named.
 pub fn run_keeps_promises()
     ensures { RunKeepsPromises }
 {}
 
-/// A run that ends with the true answer to what was wanted before it leaves fewer gaps, unless memory was refused
-/// for that answer or a collision is named.
+/// A run that ends with the true answer to what was wanted before it leaves fewer gaps, unless
+/// memory was refused for that answer or a collision is named.
 pub fn round_leaves_fewer_gaps()
     ensures { RoundLeavesFewerGaps }
 {}
 
-/// Each message is accepted, or refused by the first refusal that holds of it.
-pub fn message_is_accepted_or_refused()
-    ensures { MessageIsAcceptedOrRefused }
+/// A round leaves fewer gaps, whatever else it holds, unless memory was refused for its answer or a
+/// collision is named; so with memory there are at most as many rounds as gaps, and after that many
+/// each block's leaf is known.
+pub fn rounds_close_gaps()
+    ensures never_rise { RunGapsNeverRise }
+    ensures round { RoundRunLeavesFewerGaps }
+    ensures all { RoundsAreAtMostGaps }
+    ensures done { RoundsMakeAllKnown }
+{}
+
+/// No gap is left exactly if nothing is wanted, and the true answer to what is wanted leads to the
+/// root.
+pub fn gaps_are_wants()
+    ensures none { NoGapMeansNothingWanted }
+    ensures all { NothingWantedMeansNoGap }
+    ensures root { WantedAnswerLeadsToRoot }
 {}

@@ -1,26 +1,25 @@
 //! The trees of a new session.
 
 ghost use Rattle.std.specs.Prelude.{◌<◌, true, false, IfOk, OnOk};
-ghost use Rattle.metainfo.specs.Refusals.{IsPieceLength};
+ghost use Rattle.metainfo.specs.Pieces.{IsPieceLength};
 ghost use Rattle.metainfo.specs.Seen.{tree_entry};
 ghost use Rattle.metainfo.specs.Sound.{IsSoundTree};
 ghost use Rattle.session.specs.Fresh.{IsPlanted};
 
-use crate::node_map::NodeMap;
-use crate::refusal::HashRefusal;
-use crate::tree::Tree;
-use hashtree::Shape;
+use hashtree::{NoMemory, Shape};
 use metainfo::TreeInfo;
-use std::alloc::{AllocError, Global};
+use node_maps::NodeMap;
+use partial_tree::{HashRefusal, Tree};
+use std::alloc::Global;
 
-/// A tree as a new session knows it: by its root alone, or with layers also from its piece layer up, where its files are
-/// longer than a piece. Fails only where memory was refused.
+/// A tree as a new session knows it: by its root alone, or with layers also from its piece layer
+/// up, where its files are longer than a piece. Fails only where memory was refused.
 pub fn planted<N: NodeMap>(
     alloc: Global,
     info: &TreeInfo<'_>,
     piece_length: u64,
     with_layers: bool,
-) -> Result<Tree<N>, AllocError>
+) -> Result<Tree<N>, NoMemory>
     requires legal { IsPieceLength piece_length }
     requires sound { IsSoundTree piece_length (tree_entry info.now) }
     ensures { IfOk result (λ t. IsPlanted piece_length with_layers (tree_entry info.now) t) }
@@ -32,13 +31,13 @@ pub fn planted<N: NodeMap>(
     Ok(tree)
 }
 
-/// Adds what lies from the piece layer up to a tree of which the root alone is known. The layer of an opened torrent
-/// leads to its root, so nothing but want of memory refuses it.
+/// Adds what lies from the piece layer up to a tree of which the root alone is known. The layer of
+/// an opened torrent leads to its root, so nothing but want of memory refuses it.
 fn add_layers<N: NodeMap>(
     tree: &mut Tree<N>,
     info: &TreeInfo<'_>,
     piece_length: u64,
-) -> Result<(), AllocError>
+) -> Result<(), NoMemory>
     requires legal { IsPieceLength piece_length }
     requires sound { IsSoundTree piece_length (tree_entry info.now) }
     requires longer { piece_length < info.now.length }
@@ -48,7 +47,7 @@ fn add_layers<N: NodeMap>(
     let layer = Shape::of(piece_length).unwrap().height();
     if let Err(refusal) = tree.fill(layer, info.layer) {
         prove!(matches!(&refusal, HashRefusal::NoMemory));
-        return Err(AllocError);
+        return Err(NoMemory);
     }
     Ok(())
 }

@@ -1,28 +1,39 @@
 //! A session of a torrent: what is known and marked of each of its trees.
+//!
+//! What is known of a tree is always *closed*: each known place stands with its sibling and its
+//! parent, up to the root (`IsClosed` in `partial_tree`, with a picture in its `tree.rt`). That is
+//! why a verified block is the block: `IsBlock` in `specs/Session.antt` says what is promised, and
+//! `block_or_collision` in `partial_tree`'s `proofs/Headline.antt` proves it.
 
 ghost use Rattle.std.specs.Prelude.{◌≡◌, ◌<◌, ◌↔◌, IfOk, IfErr, OnErr, IsTrue, length, slice_get, Some};
+ghost use Rattle.std.specs.List.{All};
 ghost use Rattle.std.specs.FinMap as finite;
 ghost use Rattle.std.specs.FinSet as set;
-ghost use Rattle.session.specs.Kept.{TreeState};
-ghost use Rattle.session.specs.Session.{IsGood, HasDistinctRoots, IsStored, IsHashRefused, IsVerified, IsBlockRefused, IsAnswered, Step, IsTrueVerdict, IsTrueRun};
-ghost use Rattle.session.specs.Layouts.{layout_of, IsFilled, IsFillRefused};
+ghost use Rattle.partial_tree.specs.Kept.{TreeState};
+ghost use Rattle.session.specs.Session.{IsTree, IsGood, HasHashes, HasDistinctRoots, IsStored, IsHashRefused, IsVerified, IsBlockRefused, IsBlock, IsAnswered, IsFilled, IsFillRefused, Step};
+ghost use Rattle.node_maps.specs.Known.{look};
+ghost use Rattle.partial_tree.specs.TreeRoot.{TreeRoot};
+ghost use Rattle.partial_tree.specs.Gaps.{want_of};
+ghost use Rattle.session.specs.Layouts.{IsBlockOf};
+ghost use Rattle.session.specs.Answers.{IsAnswerTo};
+ghost use Rattle.session.specs.Rounds.{HasNoMoreGaps, RoundLeavesFewer};
+ghost use Rattle.session.specs.Chain.{Chain};
 ghost use Rattle.session.specs.Fresh.{IsFresh};
-ghost use Rattle.session.specs.SafeStep.{IsSafeStep, IsSafeRun};
+ghost use Rattle.session.specs.SafeStep.{KeepsKnown, StoresTrueHashes, StoresAnswers, VerifiesTrueBlock, IsSafeStep};
 
-use crate::node_map::NodeMap;
 use crate::planting::planted;
-use crate::refusal::{BlockRefusal, HashRefusal};
 use crate::roots::Roots;
-use crate::tree::{Tree, are_hashes};
 use crate::verdict::Verdict;
-use hashtree::Hash;
+use hashtree::{Hash, NoMemory};
 use metainfo::Torrent;
-use std::alloc::{AllocError, Global};
+use node_maps::NodeMap;
+use partial_tree::{Answer, BlockRefusal, HashRefusal, Tree};
+use std::alloc::Global;
 use std::marker::Model;
 use wire::{Ask, Message};
 
-/// What is known and marked of the trees of a torrent. Each place that is known stands with its sibling and its
-/// parent, up to the tree's root, whatever messages came.
+/// What is known and marked of the trees of a torrent. Each place that is known stands with its
+/// sibling and its parent, up to the tree's root, whatever messages came.
 #[derive(Drop)]
 pub struct Session<'t, N: NodeMap> {
     alloc: Global,
@@ -34,29 +45,30 @@ pub struct Session<'t, N: NodeMap> {
 impl<'t, N: NodeMap> Model for Session<'t, N> {
     ghost use Rattle.std.specs.Prelude.{map};
     ghost use Rattle.metainfo.specs.Description.{TreeEntry};
-    ghost use Rattle.session.specs.Layouts.{KeptSession, kept_session_code, state_of, AreKept};
+    ghost use Rattle.session.specs.Layouts.{SessionSeen, seen, AreKept};
+    ghost use Rattle.session.specs.Codes.{session_code};
     ghost use Rattle.session.specs.Roots.{AreNumbered};
 
-    ghost Value = { KeptSession };
+    ghost Value = { SessionSeen };
 
-    ghost coded = { kept_session_code };
+    ghost coded = { session_code };
 
-    ghost view = { λ s. record { torrent = s.torrent.now; state = map state_of s.trees.items } };
+    ghost view = { λ s. seen s.torrent.now s.trees.items };
 
-    ghost invariant = { λ s. AreKept s.torrent.now s.trees.items × AreNumbered s.roots (map (λ (e : TreeEntry). e.root) s.torrent.now.trees) };
+    ghost invariant = { λ s. AreKept s.torrent.now s.trees.items
+        × AreNumbered s.roots (map (λ (e : TreeEntry). e.root) s.torrent.now.trees) };
 }
 
 impl<'t, N: NodeMap> Session<'t, N> {
-    /// A session that knows the root of each tree of the torrent. With layers it also knows what lies from each piece
-    /// layer up, the pads past a file's end among it; a file that is no longer than a piece has no piece layer. Nothing
-    /// is marked. Fails only where memory was refused.
+    /// A session that knows the root of each tree of the torrent. With layers it also knows what
+    /// lies from each piece layer up, the pads past a file's end among it; a file that is no longer
+    /// than a piece has no piece layer. Nothing is marked. Fails only where memory was refused.
     pub fn new(
         alloc: Global,
         torrent: &'t Torrent<'t>,
         with_layers: bool,
-    ) -> Result<Session<'t, N>, AllocError>
-        ensures torrent { IfOk result (λ s. s.torrent ≡ torrent.now) }
-        ensures fresh { IfOk result (λ s. IsFresh torrent.now with_layers s.state) }
+    ) -> Result<Session<'t, N>, NoMemory>
+        ensures { IfOk result (IsFresh torrent.now with_layers) }
     {
         torrent.sound();
         let infos = torrent.trees();
@@ -81,10 +93,10 @@ impl<'t, N: NodeMap> Session<'t, N> {
         self.torrent
     }
 
-    /// What holds of every session: each known place stands with its sibling and its parent, and each marked leaf is
-    /// known.
+    /// What holds of every session: each known place stands with its sibling and its parent, and
+    /// each marked leaf is known.
     pub fn good(&self)
-        ensures { IsGood (layout_of self.now.torrent) self.now.state }
+        ensures { IsGood self.now }
     {
         // Looking at the trees tells what holds of each.
         let _ = &self.trees;
@@ -92,17 +104,32 @@ impl<'t, N: NodeMap> Session<'t, N> {
 
     /// What holds of every session: no two of its trees have one root.
     pub fn distinct_roots(&self)
-        ensures { HasDistinctRoots (layout_of self.now.torrent) }
+        ensures { HasDistinctRoots self.now }
     {
         self.torrent.sound();
     }
 
-    /// Takes a hashes message, and tells how many places are newly known, those past the file's end counted. A refusal
-    /// leaves the session unchanged.
+    /// Takes a hashes message, and tells how many places are newly known, those past the file's end
+    /// counted. A refusal leaves content and marks as they were; room that was made for places may
+    /// stay. What is known stays known, and true hashes that lead to a known node are stored,
+    /// whatever came before.
     pub fn take_hashes(&mut self, ask: &Ask, hashes: &[Hash]) -> Result<u64, HashRefusal>
-        ensures torrent { self.new.torrent ≡ self.old.torrent }
-        ensures stored { IfOk result (λ c. IsStored (layout_of self.old.torrent) self.old.state ask.now hashes.now c self.new.state) }
-        ensures refused { IfErr result (λ r. IsHashRefused (layout_of self.old.torrent) self.old.state ask.now hashes.now r × (self.new.state ≡ self.old.state)) }
+        ensures stored { IfOk result (λ c. IsStored self.old ask.now hashes.now c self.new) }
+        ensures refused { IfErr result (λ r. IsHashRefused self.old ask.now hashes.now r
+            × (self.new ≡ self.old)) }
+        ensures keeps_known { KeepsKnown self.old self.new }
+        ensures stores_true_hashes { StoresTrueHashes self.old ask.now hashes.now result }
+        ensures stores_answers { StoresAnswers self.old ask.now hashes.now result }
+    {
+        self.good();
+        self.distinct_roots();
+        self.join_hashes(ask, hashes)
+    }
+
+    fn join_hashes(&mut self, ask: &Ask, hashes: &[Hash]) -> Result<u64, HashRefusal>
+        ensures stored { IfOk result (λ c. IsStored self.old ask.now hashes.now c self.new) }
+        ensures refused { IfErr result (λ r. IsHashRefused self.old ask.now hashes.now r
+            × (self.new ≡ self.old)) }
     {
         are_hashes(hashes);
         match self.roots.number(&ask.root) {
@@ -111,29 +138,51 @@ impl<'t, N: NodeMap> Session<'t, N> {
         }
     }
 
-    /// Takes a whole layer of a tree, given without the pads at its end, and tells how many places are newly known. A
-    /// refusal leaves the session unchanged.
+    /// Takes a whole layer of a tree, given without the pads at its end, and tells how many places
+    /// are newly known. A refusal leaves content and marks as they were. Condition: there are more
+    /// than `tree` trees.
     pub fn fill(&mut self, tree: usize, layer: u32, hashes: &[Hash]) -> Result<u64, HashRefusal>
         requires { tree < length self.old.torrent.trees }
-        ensures torrent { self.new.torrent ≡ self.old.torrent }
-        ensures filled { IfOk result (λ c. IsFilled (layout_of self.old.torrent) self.old.state tree layer hashes.now c self.new.state) }
-        ensures refused { IfErr result (λ r. IsFillRefused (layout_of self.old.torrent) self.old.state tree layer hashes.now r × (self.new.state ≡ self.old.state)) }
+        ensures filled { IfOk result (λ c. IsFilled self.old tree layer hashes.now c self.new) }
+        ensures refused { IfErr result (λ r. IsFillRefused self.old tree layer hashes.now r
+            × (self.new ≡ self.old)) }
     {
         are_hashes(hashes);
         self.trees[tree].fill(layer, hashes)
     }
 
-    /// Takes a block of a piece message, marks its leaf, and tells the file and the block. A refusal leaves the session
-    /// unchanged.
+    /// Takes a block of a piece message, marks its leaf, and tells the file and the block, both
+    /// numbered from 0. What is told verified is that block of every file that has the tree's
+    /// length and root, or two inputs with one digest are named. A repeat is verified again; a
+    /// refusal leaves the session as it was. Takes no memory.
     pub fn take_block(
         &mut self,
         index: u32,
         begin: u32,
         block: &[u8],
     ) -> Result<(usize, u64), BlockRefusal>
-        ensures torrent { self.new.torrent ≡ self.old.torrent }
-        ensures verified { IfOk result (λ p. IsVerified (layout_of self.old.torrent) self.old.state index begin block.now p.0 p.1 self.new.state) }
-        ensures refused { IfErr result (λ r. IsBlockRefused (layout_of self.old.torrent) self.old.state index begin block.now r × (self.new.state ≡ self.old.state)) }
+        ensures verified { IfOk result
+            (λ p. IsVerified self.old index begin block.now p.0 p.1 self.new) }
+        ensures refused { IfErr result (λ r. IsBlockRefused self.old index begin block.now r
+            × (self.new ≡ self.old)) }
+        ensures verified_is_the_block { IfOk result (λ p. IsBlock self.old index begin block.now p.0 p.1) }
+        ensures keeps_known { KeepsKnown self.old self.new }
+        ensures verifies_true_block { VerifiesTrueBlock self.old index begin block.now result }
+    {
+        self.good();
+        self.mark_block(index, begin, block)
+    }
+
+    fn mark_block(
+        &mut self,
+        index: u32,
+        begin: u32,
+        block: &[u8],
+    ) -> Result<(usize, u64), BlockRefusal>
+        ensures verified { IfOk result
+            (λ p. IsVerified self.old index begin block.now p.0 p.1 self.new) }
+        ensures refused { IfErr result (λ r. IsBlockRefused self.old index begin block.now r
+            × (self.new ≡ self.old)) }
     {
         self.torrent.sound();
         let Some((file, number)) = self.torrent.place(index, begin) else {
@@ -148,7 +197,7 @@ impl<'t, N: NodeMap> Session<'t, N> {
 
     /// Whether the hashes that are asked for are known.
     pub fn can_answer(&self, ask: &Ask) -> bool
-        ensures { IsTrue result ↔ IsAnswered (layout_of self.now.torrent) self.now.state ask.now }
+        ensures { IsTrue result ↔ IsAnswered self.now ask.now }
     {
         self.torrent.sound();
         match self.roots.number(&ask.root) {
@@ -157,38 +206,63 @@ impl<'t, N: NodeMap> Session<'t, N> {
         }
     }
 
-    /// How many places of a tree are known.
+    /// What the session answers to a hash request: the hashes of the base range, pads among them,
+    /// and then the uncles that the range itself does not give, the one nearest the root last; or a
+    /// reject, exactly if `can_answer` is false. Takes memory for the hashes alone, and fails only
+    /// if that is refused.
+    pub fn answer(&self, ask: &Ask) -> Result<Answer, NoMemory>
+        ensures { IfOk result (IsAnswerTo self.now ask.now) }
+    {
+        self.torrent.sound();
+        match self.roots.number(&ask.root) {
+            None => Ok(Answer::Reject),
+            Some(number) => self.trees[number].answer(ask),
+        }
+    }
+
+    /// What to ask for next to learn the leaf of a block: the aligned range of at most 512 leaves
+    /// that holds it, with proof up to the root. `None` exactly if the leaf is known. Takes no
+    /// memory. Conditions: there are more than `tree` trees, and its files have more than `block`
+    /// blocks.
+    pub fn want(&self, tree: usize, block: u64) -> Option<Ask>
+        requires tree { tree < length self.now.torrent.trees }
+        requires block { IsBlockOf self.now.torrent tree block }
+        ensures { (root : TreeRoot) × (s : TreeState) × IsTree self.now tree root s
+            × (result ≡ want_of root (look s.known) block) }
+    {
+        self.trees[tree].want(block)
+    }
+
+    /// How many places of a tree are known. Condition: there are more than `tree` trees.
     pub fn known(&self, tree: usize) -> u64
         requires { tree < length self.now.torrent.trees }
-        ensures { (s : TreeState) × (slice_get self.now.state tree ≡ Some s) × (result ≡ finite.len s.known) }
+        ensures { (s : TreeState) × (slice_get self.now.trees tree ≡ Some s)
+            × (result ≡ finite.len s.known) }
     {
         self.trees[tree].known()
     }
 
-    /// How many leaves of a tree are marked.
+    /// How many leaves of a tree are marked. Condition: there are more than `tree` trees.
     pub fn marked(&self, tree: usize) -> u64
         requires { tree < length self.now.torrent.trees }
-        ensures { (s : TreeState) × (slice_get self.now.state tree ≡ Some s) × (result ≡ set.len s.marked) }
+        ensures { (s : TreeState) × (slice_get self.now.trees tree ≡ Some s)
+            × (result ≡ set.len s.marked) }
     {
         self.trees[tree].marked()
     }
 
-    /// Takes one message, and tells what it makes of it. A message that is refused leaves the session unchanged.
+    /// Takes one message, and tells what it makes of it. A refusal leaves content and marks as they
+    /// were.
     pub fn step(&mut self, message: &Message<'_>) -> Verdict
-        ensures torrent { self.new.torrent ≡ self.old.torrent }
-        ensures step { Step (layout_of self.old.torrent) self.old.state message.now result self.new.state }
-        ensures is_true { IsTrueVerdict (layout_of self.old.torrent) self.old.state message.now result }
-        ensures no_harm { IsSafeStep (layout_of self.old.torrent) self.old.state message.now result self.new.state }
+        ensures verified_is_the_block { IsSafeStep self.old message.now result self.new }
     {
         self.good();
         self.distinct_roots();
         self.take(message)
     }
 
-    // The step of a message, by its kind.
     fn take(&mut self, message: &Message<'_>) -> Verdict
-        ensures torrent { self.new.torrent ≡ self.old.torrent }
-        ensures step { Step (layout_of self.old.torrent) self.old.state message.now result self.new.state }
+        ensures { Step self.old message.now result self.new }
     {
         match *message {
             Message::Piece {
@@ -216,18 +290,40 @@ impl<'t, N: NodeMap> Session<'t, N> {
         }
     }
 
-    /// Takes messages one after the other, and tells what it makes of each. Room for the verdicts is made first; where
+    /// Takes messages one after the other, and tells what it makes of each. No tree has more gaps
+    /// afterwards; and if the messages end with the true answer to what `want` gave before the
+    /// first of them, there are fewer, whatever else they hold, unless memory was refused for that
+    /// answer or two inputs with one digest are named. Room for the verdicts is made first; if
     /// memory is refused for it, the session is unchanged.
-    pub fn run(&mut self, messages: &[Message<'_>]) -> Result<Vec<Verdict>, AllocError>
-        ensures torrent { self.new.torrent ≡ self.old.torrent }
-        ensures verdicts { IfOk result (λ vs. IsTrueRun (layout_of self.old.torrent) self.old.state messages.now vs.items self.new.state) }
-        ensures no_harm { IfOk result (λ vs. IsSafeRun (layout_of self.old.torrent) self.old.state messages.now vs.items self.new.state) }
-        ensures no_memory { OnErr result (self.new.state ≡ self.old.state) }
+    pub fn run(&mut self, messages: &[Message<'_>]) -> Result<Vec<Verdict>, NoMemory>
+        ensures verified_is_the_block { IfOk result (λ vs. Chain IsSafeStep self.old messages.now vs.items self.new) }
+        ensures gaps { IfOk result (λ _. HasNoMoreGaps self.old self.new) }
+        ensures round { IfOk result
+            (λ vs. RoundLeavesFewer self.old messages.now vs.items self.new) }
+        ensures no_memory { OnErr result (self.new ≡ self.old) }
     {
+        self.good();
+        self.distinct_roots();
         let mut verdicts = Vec::with_capacity(self.alloc, messages.len())?;
         'messages: for message in messages {
+            has_hashes(message);
             verdicts.push_reserved(self.step(message));
         }
         Ok(verdicts)
     }
 }
+
+/// The hashes of a message have 32 bytes each, as their type says.
+fn has_hashes(message: &Message<'_>)
+    ensures { HasHashes message.now }
+{
+    match *message {
+        Message::Hashes { hashes, .. } => are_hashes(hashes),
+        _ => {}
+    }
+}
+
+/// Each hash has 32 bytes, as its type says.
+fn are_hashes(hashes: &[Hash])
+    ensures { All (λ h. length h ≡ 32) hashes.now }
+{}

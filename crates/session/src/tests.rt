@@ -1,5 +1,6 @@
 //! Sessions of worked torrents, with ample memory.
 
+mod answers;
 mod blocks;
 mod fills;
 mod hashes;

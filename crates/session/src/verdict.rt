@@ -1,6 +1,6 @@
 //! What a session says of one message.
 
-use crate::refusal::{BlockRefusal, HashRefusal};
+use partial_tree::{BlockRefusal, HashRefusal};
 
 /// What a session says of one message.
 #[derive(Clone, Copy, Debug, PartialEq, Eq)]
@@ -9,7 +9,8 @@ pub enum Verdict {
     Stored(u64),
     /// Hashes were refused, and nothing has changed.
     HashRefused(HashRefusal),
-    /// The block of the file is the one that its leaf tells, and is marked. Both are numbered from 0.
+    /// The block of the file is the one that its leaf tells, and is marked. Both are numbered from
+    /// 0.
     Verified { file: usize, block: u64 },
     /// A block was refused, and nothing has changed.
     BlockRefused(BlockRefusal),

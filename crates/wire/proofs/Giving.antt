@@ -1,32 +1,53 @@
 -- What a source gave in several calls.
-use Rattle.std.proofs.Common.{◌≡◌, ℕ, ◌+◌, ◌-◌, ◌≤◌, List, [], ◌++◌, length, take, drop, Option, arith, ap, sym, ◌∙◌}
+use Rattle.std.proofs.Common.{◌≡◌, ℕ, ◌+◌, ◌-◌, ◌≤◌, List, [], ◌++◌, length, take, drop, Option, arith, ap, refl, subst, sym, ◌∙◌}
 use Rattle.std.proofs.lemmas.List.{length-append, length-take-le, take-append-le, take_all, take-take}
 use Rattle.std.proofs.Math.Seq.{take-append-add}
 use borrow.Rule.Slice.PartMut.{put_mid}
 use Rattle.std.specs.Io.KnownBytes.{Consumes, Keeps}
 use Rattle.std.proofs.KnownBytes.{Consumes-nil, Consumes-trans, Consumes-kept}
-use Rattle.wire.specs.Reading.{Gave}
+use Rattle.benc.specs.Device.{SourceSeen, one_more}
+use Rattle.wire.specs.declared.fault.FrameFault.{FrameFault}
+use Rattle.wire.specs.declared.fault.FrameFault.TheVariants as fault
+use Rattle.wire.specs.Reading.{CountsRead, Gave, GaveFaultless, GaveUntil}
 
-module _ {S : Type 0} (left : S → Option (List ℕ)) (limit : S → ℕ) where
-  pub Gave-nil : (s : S) → Gave left limit s s []
-  Gave-nil s = record { given = Consumes-nil (left s); falls = omega arith }
+pub Gave-nil : (s : SourceSeen) → Gave s s []
+Gave-nil s = record { given = Consumes-nil s.left; falls = omega arith }
 
-  pub Gave-trans : (a b c : S) (xs ys : List ℕ) → Gave left limit a b xs → Gave left limit b c ys → Gave left limit a c (xs ++ ys)
-  Gave-trans a b c xs ys p q = record {
-    given = Consumes-trans (left a) (left b) (left c) xs ys p.given q.given;
-    falls = omega (arith, p.falls, q.falls, length-append xs ys);
-  }
+pub Gave-trans : (a b c : SourceSeen) (xs ys : List ℕ) → Gave a b xs → Gave b c ys → Gave a c (xs ++ ys)
+Gave-trans a b c xs ys p q = record {
+  given = Consumes-trans a.left b.left c.left xs ys p.given q.given;
+  falls = omega (arith, p.falls, q.falls, length-append xs ys);
+}
 
-  -- a call that failed gave nothing
-  pub Gave-kept : (a b c : S) (xs : List ℕ) → Gave left limit a b xs → Keeps (left b) (left c) → limit c ≡ limit b → Gave left limit a c xs
-  Gave-kept a b c xs p q e = record {
-    given = Consumes-kept (left a) (left b) (left c) xs p.given q;
-    falls = omega (arith, p.falls, e);
-  }
+-- some calls, and then others, of which the last may have failed
+pub Gave-until : (a b c : SourceSeen) (xs ys : List ℕ) (why : FrameFault) → GaveFaultless a b xs → GaveUntil b c ys why → GaveUntil a c (xs ++ ys) why
+Gave-until a b c xs ys why p q = record {
+  gave = Gave-trans a b c xs ys p.gave q.gave;
+  faults = subst (λ n. CountsRead n c.faults why) p.faults q.faults;
+  ended = q.ended;
+}
 
-  -- one read
-  pub Gave-take : (a b : S) (n : ℕ) (buf : List ℕ) → n ≤ length buf → Consumes (left a) (left b) (take n buf) → limit b + n ≡ limit a → Gave left limit a b (take n buf)
-  Gave-take a b n buf fits p e = record { given = p; falls = omega (arith, e, length-take-le n buf fits) }
+-- a call that failed gave nothing
+pub Failed-at_once : (b c : SourceSeen) (why : FrameFault) → why ≡ fault.Read → Keeps b.left c.left → c.limit ≡ b.limit → c.faults ≡ one_more b.faults → GaveUntil b c [] why
+Failed-at_once b c why e p q n = record {
+  gave = record { given = Consumes-kept b.left b.left c.left [] (Consumes-nil b.left) p; falls = omega (arith, q) };
+  faults = subst (CountsRead b.faults c.faults) (sym e) n;
+  ended = λ t. let no : ⊥ = cc in absurd no;
+}
+
+-- one read
+pub Gave-take : (a b : SourceSeen) (n : ℕ) (buf : List ℕ) → n ≤ length buf → Consumes a.left b.left (take n buf) → b.limit + n ≡ a.limit → Gave a b (take n buf)
+Gave-take a b n buf fits p e = record { given = p; falls = omega (arith, e, length-take-le n buf fits) }
+
+-- the same with no call that failed
+pub Faultless-nil : (s : SourceSeen) → GaveFaultless s s []
+Faultless-nil s = record { gave = Gave-nil s; faults = refl }
+
+pub Faultless-trans : (a b c : SourceSeen) (xs ys : List ℕ) → GaveFaultless a b xs → GaveFaultless b c ys → GaveFaultless a c (xs ++ ys)
+Faultless-trans a b c xs ys p q = record { gave = Gave-trans a b c xs ys p.gave q.gave; faults = q.faults ∙ p.faults }
+
+pub Faultless-take : (a b : SourceSeen) (n : ℕ) (buf : List ℕ) → n ≤ length buf → Consumes a.left b.left (take n buf) → b.limit + n ≡ a.limit → b.faults ≡ a.faults → GaveFaultless a b (take n buf)
+Faultless-take a b n buf fits p e q = record { gave = Gave-take a b n buf fits p e; faults = q }
 
 -- what stands in a buffer after one more read into its rest
 pub take-put_more : {X : Type 0} (at n : ℕ) (old new : List X) → at ≤ length old → n ≤ length new → take (at + n) (put_mid at (length old - at) old new) ≡ take at old ++ take n new

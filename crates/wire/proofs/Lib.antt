@@ -1,6 +1,6 @@
 pub mod Bodies
 pub mod Chunks
-pub mod Fields
+pub mod AskFields
 pub mod FourBytes
 pub mod Giving
 pub mod Heads

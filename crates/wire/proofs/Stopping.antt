@@ -1,60 +1,78 @@
 -- Why no frame came.
-use Rattle.std.proofs.Common.{◌≡◌, ℕ, ◌+◌, ◌^◌, ◌<◌, List, [], ◌++◌, length, Option, ap, arith}
+use Rattle.std.proofs.Common.{◌≡◌, ◌≢◌, ℕ, ◌+◌, ◌^◌, ◌<◌, List, [], ◌∷◌, ◌++◌, length, Option, Err, IsErrOf, ap, refl, subst, sym, arith, ◌∙◌}
 use Rattle.std.specs.Io.KnownBytes.{Keeps}
-use Rattle.std.proofs.lemmas.List.{length-append}
+use Rattle.std.proofs.lemmas.List.{append-nil, length-append}
 use Rattle.wire.specs.declared.fault.FrameFault.{FrameFault}
 use Rattle.wire.specs.declared.fault.FrameFault.TheVariants as fault
 use Rattle.wire.specs.Frames.{four_bytes}
-use Rattle.wire.specs.Reading.{Gave, StopsShort, StopsInFrame}
+use Rattle.benc.specs.Device.{SourceSeen, one_more}
+use Rattle.wire.specs.Meaning.{IsRightSize}
+use Rattle.wire.specs.Reading.{CountsRead, GaveFaultless, GaveUntil, StopsInBody, StopsInFrame, StopsShort}
 use Rattle.wire.proofs.FourBytes.{length-four_bytes}
-use Rattle.wire.proofs.Giving.{Gave-nil, Gave-trans, Gave-kept}
+use Rattle.wire.proofs.Giving.{Failed-at_once, Gave-nil, Gave-until}
 use Rattle.wire.proofs.Partial.{IsPartial-from_short, IsPartial-from_unfinished}
 
-module _ {S : Type 0} (left : S → Option (List ℕ)) (limit : S → ℕ) where
-  -- before the first byte of a length
-  pub StopsInFrame-at_start : (a b : S) (why : FrameFault) → why ≡ fault.Read → Keeps (left a) (left b) → limit b ≡ limit a → StopsInFrame left limit a b why
-  StopsInFrame-at_start a b why e p q = record {
-    bytes = [];
-    gave = Gave-kept left limit a a b [] (Gave-nil left limit a) p q;
-    partial = IsPartial-from_short [] (omega arith);
-    begun = λ t. let no : ⊥ = cc in absurd no;
+-- before the first byte of a length
+pub StopsInFrame-at_start : (a b : SourceSeen) (why : FrameFault) → why ≡ fault.Read → Keeps a.left b.left → b.limit ≡ a.limit → b.faults ≡ one_more a.faults → StopsInFrame a b why
+StopsInFrame-at_start a b why e p q n = record {
+  bytes = [];
+  gave = Failed-at_once a b why e p q n;
+  partial = IsPartial-from_short [] (omega arith);
+  begun = λ t. absurd (t e);
+  growing = λ t. let no : ⊥ = cc in absurd no;
+}
+
+-- after some bytes of a length
+pub StopsInFrame-in_length : (a b c : SourceSeen) (xs : List ℕ) (wanted : ℕ) (why : FrameFault) → 0 < length xs → length xs + wanted ≡ 4 → why ≢ fault.NoMemory → GaveFaultless a b xs → StopsShort b c wanted why → StopsInFrame a c why
+StopsInFrame-in_length a b c xs wanted why some whole device p s = record {
+  bytes = xs ++ s.bytes;
+  gave = Gave-until a b c xs s.bytes why p s.gave;
+  partial = IsPartial-from_short (xs ++ s.bytes) (omega (arith, s.short, length-append xs s.bytes));
+  begun = λ t e. omega (arith, ap length e, length-append xs s.bytes);
+  growing = λ t. absurd (device t);
+}
+
+-- after a length
+pub StopsInFrame-in_body : (a b c : SourceSeen) (len : ℕ) (why : FrameFault) → len < 2 ^ 32 → GaveFaultless a b (four_bytes len) → StopsInBody b c len why → StopsInFrame a c why
+StopsInFrame-in_body a b c len why bound p s = record {
+  bytes = four_bytes len ++ s.bytes;
+  gave = Gave-until a b c (four_bytes len) s.bytes why p s.gave;
+  partial = IsPartial-from_unfinished len s.bytes bound s.short;
+  begun = λ t e. omega (arith, ap length e, length-append (four_bytes len) s.bytes, length-four_bytes len);
+  growing = λ t. let head = s.growing t in (len, head.0, ap (λ x. four_bytes len ++ x) head.1, head.2);
+}
+
+-- before anything was read
+pub StopsShort-at_once : (a : SourceSeen) (wanted : ℕ) (why : FrameFault) → 0 < wanted → why ≡ fault.NoMemory → StopsShort a a wanted why
+StopsShort-at_once a wanted why some e = record {
+  bytes = [];
+  gave = record {
+    gave = Gave-nil a;
+    faults = subst (CountsRead a.faults a.faults) (sym e) refl;
     ended = λ t. let no : ⊥ = cc in absurd no;
-  }
+  };
+  short = some;
+  untouched = λ _. refl;
+}
 
-  -- after some bytes of a length
-  pub StopsInFrame-in_length : (a b c : S) (xs : List ℕ) (wanted : ℕ) (why : FrameFault) → 0 < length xs → length xs + wanted ≡ 4 → Gave left limit a b xs → StopsShort left limit b c wanted why → StopsInFrame left limit a c why
-  StopsInFrame-in_length a b c xs wanted why some whole p s = record {
-    bytes = xs ++ s.bytes;
-    gave = Gave-trans left limit a b c xs s.bytes p s.gave;
-    partial = IsPartial-from_short (xs ++ s.bytes) (omega (arith, s.short, length-append xs s.bytes));
-    begun = λ t e. omega (arith, ap length e, length-append xs s.bytes);
-    ended = s.ended;
-  }
+-- before the id of a body
+pub StopsInBody-at_start : (a b : SourceSeen) (wanted len : ℕ) (why : FrameFault) → wanted ≡ 1 → 0 < len → why ≢ fault.NoMemory → StopsShort a b wanted why → StopsInBody a b len why
+StopsInBody-at_start a b wanted len why one some device s = record {
+  bytes = s.bytes;
+  gave = s.gave;
+  short = omega (arith, s.short, one);
+  growing = λ t. absurd (device t);
+}
 
-  -- after a length
-  pub StopsInFrame-in_body : (a b c : S) (len : ℕ) (why : FrameFault) → len < 2 ^ 32 → Gave left limit a b (four_bytes len) → StopsShort left limit b c len why → StopsInFrame left limit a c why
-  StopsInFrame-in_body a b c len why bound p s = record {
-    bytes = four_bytes len ++ s.bytes;
-    gave = Gave-trans left limit a b c (four_bytes len) s.bytes p s.gave;
-    partial = IsPartial-from_unfinished len s.bytes bound s.short;
-    begun = λ t e. omega (arith, ap length e, length-append (four_bytes len) s.bytes, length-four_bytes len);
-    ended = s.ended;
-  }
+-- behind the id
+pub StopsInBody-after : (a b c : SourceSeen) (id : ℕ) (xs : List ℕ) (wanted len : ℕ) (why : FrameFault) → xs ≡ id ∷ [] → 1 + wanted ≡ len → (why ≡ fault.NoMemory → IsRightSize id len) → GaveFaultless a b xs → StopsShort b c wanted why → StopsInBody a c len why
+StopsInBody-after a b c id xs wanted len why one e right p s = record {
+  bytes = xs ++ s.bytes;
+  gave = Gave-until a b c xs s.bytes why p s.gave;
+  short = omega (arith, s.short, e, ap length one, length-append xs s.bytes);
+  growing = λ t. (id, ap (λ x. xs ++ x) (s.untouched t) ∙ append-nil xs ∙ one, right t);
+}
 
-  -- before anything was read
-  pub StopsShort-at_once : (a : S) (wanted : ℕ) (why : FrameFault) → 0 < wanted → why ≡ fault.NoMemory → StopsShort left limit a a wanted why
-  StopsShort-at_once a wanted why some e = record {
-    bytes = [];
-    gave = Gave-nil left limit a;
-    short = some;
-    ended = λ t. let no : ⊥ = cc in absurd no;
-  }
-
-  -- after bytes that were read
-  pub StopsShort-after : (a b c : S) (xs : List ℕ) (wanted whole : ℕ) (why : FrameFault) → length xs + wanted ≡ whole → Gave left limit a b xs → StopsShort left limit b c wanted why → StopsShort left limit a c whole why
-  StopsShort-after a b c xs wanted whole why e p s = record {
-    bytes = xs ++ s.bytes;
-    gave = Gave-trans left limit a b c xs s.bytes p s.gave;
-    short = omega (arith, s.short, e, length-append xs s.bytes);
-    ended = s.ended;
-  }
+-- another fault than out of memory
+pub device : {A : Type 0} (why : FrameFault) → (IsErrOf {T = A} {E = FrameFault} (Err why) fault.NoMemory → ⊥) → why ≢ fault.NoMemory
+device why told e = told (ap (λ x. Err x) e)

@@ -15,6 +15,7 @@ IsHead id len (Other i n) = (i ≡ id) × (n ≡ len) × ¬ IsRead id
 -- the body has this head, and what follows its id is kept, if its message is read
 abbrev pub Holds : Head → List ℕ → List ℕ → Type 0
 Holds KeepAlive kept body = body ≡ []
-Holds (Kept kind n) kept body = IsRightSize (id_of kind) n × (n ≡ length body) × (body ≡ id_of kind ∷ take (n - 1) kept)
+Holds (Kept kind n) kept body =
+    IsRightSize (id_of kind) n × (n ≡ length body) × (body ≡ id_of kind ∷ take (n - 1) kept)
 Holds (BadSize id n) kept body = IsOf body id n × IsRead id × ¬ IsRightSize id n
 Holds (Other id n) kept body = IsOf body id n × ¬ IsRead id

@@ -1,4 +1,5 @@
--- What a body means, field by field (BEP 3, "peer messages"; BEP 52, "new messages"). Numbers are big-endian.
+-- What a body means, field by field (BEP 3, "peer messages"; BEP 52, "new messages"). Numbers are
+-- big-endian.
 use Rattle.std.specs.Prelude.{◌≡◌, ℕ, ◌-◌, ◌%◌, ◌^◌, ◌<◌, ◌≤◌, ◌⊎◌, List, [], ◌∷◌, ◌++◌, length, All}
 use Rattle.std.specs.List.{flat_map}
 use Rattle.wire.specs.Frames.{four_bytes}
@@ -27,7 +28,8 @@ IsHashesSize size = (49 ≤ size) × (size ≤ max_body) × ((size - 49) % 32 �
 -- the right sizes of a body, by its id
 abbrev pub IsRightSize : ℕ → ℕ → Type 0
 IsRightSize id size =
-    ((id ≡ 7) × IsPieceSize size) ⊎ ((id ≡ 21) × (size ≡ 49)) ⊎ ((id ≡ 22) × IsHashesSize size) ⊎ ((id ≡ 23) × (size ≡ 49))
+    ((id ≡ 7) × IsPieceSize size) ⊎ ((id ≡ 21) × (size ≡ 49))
+    ⊎ ((id ≡ 22) × IsHashesSize size) ⊎ ((id ≡ 23) × (size ≡ 49))
 
 abbrev pub IsHash : List ℕ → Type 0
 IsHash hash = length hash ≡ 32
@@ -35,7 +37,8 @@ IsHash hash = length hash ≡ 32
 -- the five fields of a hash request: pieces root, base layer, index, length, proof layers
 unfoldable pub ask_bytes : Ask → List ℕ
 ask_bytes ask =
-    ask.root ++ (four_bytes ask.base ++ (four_bytes ask.index ++ (four_bytes ask.length ++ four_bytes ask.proof)))
+    ask.root ++ (four_bytes ask.base ++ (four_bytes ask.index
+    ++ (four_bytes ask.length ++ four_bytes ask.proof)))
 
 -- each field fits its bytes
 pub record IsAsk (ask : Ask) : Type 0 where

@@ -1,8 +1,10 @@
--- How far a reader of frames has come, what it holds, and what a call that asks it for the next frame says.
+-- How far a reader of frames has come, what it holds, and what a call that asks it for the next
+-- frame says.
 use Rattle.std.specs.Prelude.{◌≡◌, ℕ, ◌≤◌, List, length, Option, None, Result, Ok, Err, MatchResult, MatchOption, IsErrOf, vec_capacity}
 use Rattle.std.specs.Global.{Vec}
+use Rattle.benc.specs.Device.{SourceSeen}
 use Rattle.wire.specs.Head.{Holds}
-use Rattle.wire.specs.Reading.{Gives, CountsRead}
+use Rattle.wire.specs.Reading.{Gives}
 use Rattle.wire.specs.declared.fault.FrameFault.{FrameFault}
 use Rattle.wire.specs.declared.fault.FrameFault.TheVariants as fault
 use Rattle.wire.specs.declared.reader.FrameReader.{FrameReader}
@@ -28,18 +30,31 @@ HoldsBody reader body = Holds reader.head reader.kept.items body
 abbrev pub kept_len : {S : Type 0} → FrameReader S (Vec ℕ) → ℕ
 kept_len reader = length reader.kept.items
 
+-- how many bytes it has taken room for
+abbrev pub room : {S : Type 0} → FrameReader S (Vec ℕ) → ℕ
+room reader = vec_capacity reader.kept
+
 -- its room holds the longest body that is kept, its id aside
 abbrev pub HasRoom : {S : Type 0} → FrameReader S (Vec ℕ) → Type 0
-HasRoom reader = 263216 ≤ vec_capacity reader.kept
+HasRoom reader = 263216 ≤ room reader
+
+-- nothing has changed but the room
+pub record IsSameButRoom {S : Type 0} (old new : FrameReader S (Vec ℕ)) : Type 0 where
+  pub source : new.source ≡ old.source
+  pub state : new.state ≡ old.state
+  pub head : new.head ≡ old.head
+  pub kept : new.kept.items ≡ old.kept.items
 
 -- what a call that asks for the next frame answers, and what it leaves
-pub record AsksNext {S X : Type 0} (left : S → Option (List ℕ)) (limit faults : S → ℕ) (old new : FrameReader S (Vec ℕ)) (Fits : List ℕ → X → Type 0) (result : Result (Option X) FrameFault) : Type 0 where
+pub record AsksNext {S X : Type 0} (seen : S → SourceSeen) (old new : FrameReader S (Vec ℕ))
+    (Fits : List ℕ → X → Type 0) (result : Result (Option X) FrameFault) : Type 0 where
   pub same_reference : new.source.ghost_name ≡ old.source.ghost_name
-  pub gives : IsOpen old → Gives left limit old.source.now new.source.now Fits result
-  pub counts : IsOpen old → MatchResult result (λ _. faults new.source.now ≡ faults old.source.now) (CountsRead (faults old.source.now) (faults new.source.now))
-  pub stands : MatchResult result (λ found. MatchOption found (HasEnded new) (λ _. IsOpen new)) (HasFailed new)
+  pub gives : IsOpen old → Gives (seen old.source.now) (seen new.source.now) Fits result
+  pub stands :
+      MatchResult result (λ found. MatchOption found (HasEnded new) (λ _. IsOpen new)) (HasFailed new)
   pub ended_again : HasEnded old → (result ≡ Ok None) × (new.source.now ≡ old.source.now)
-  pub failed_again : (why : FrameFault) → HasFailed old why → (result ≡ Err why) × (new.source.now ≡ old.source.now)
+  pub failed_again :
+      (why : FrameFault) → HasFailed old why → (result ≡ Err why) × (new.source.now ≡ old.source.now)
   pub bounded : kept_len old ≤ 263216 → kept_len new ≤ 263216
   pub memory : IsOpen old → IsErrOf result fault.NoMemory → ¬ HasRoom old
-  pub room : HasRoom old → HasRoom new
+  pub has_room : HasRoom old → HasRoom new

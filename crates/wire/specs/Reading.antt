@@ -1,41 +1,73 @@
--- What a source gave on the way to an answer. `left` and `limit` are those of the source's type.
-use Rattle.std.specs.Prelude.{◌≡◌, ◌≢◌, ℕ, ◌+◌, ◌<◌, List, [], length, Option, Result, MatchResult, MatchOption}
+-- What a source gave on the way to an answer.
+use Rattle.std.specs.Prelude.{◌≡◌, ◌≢◌, ℕ, ◌+◌, ◌<◌, List, [], ◌∷◌, ◌++◌, length, Option, Result, MatchResult, MatchOption}
 use Rattle.std.specs.Io.KnownBytes.{Consumes, IsAtEnd}
-use Rattle.benc.specs.Device.{one_more}
-use Rattle.wire.specs.Frames.{IsBody, IsPartial, frame}
+use Rattle.benc.specs.Device.{SourceSeen, one_more}
+use Rattle.wire.specs.Frames.{IsBody, IsPartial, four_bytes, frame}
+use Rattle.wire.specs.Meaning.{IsRightSize}
 use Rattle.wire.specs.declared.fault.FrameFault.{FrameFault}
 use Rattle.wire.specs.declared.fault.FrameFault.TheVariants as fault
 
 -- from old to new the source gave these bytes
-pub record Gave {S : Type 0} (left : S → Option (List ℕ)) (limit : S → ℕ) (old new : S) (bytes : List ℕ) : Type 0 where
-  pub given : Consumes (left old) (left new) bytes
-  pub falls : limit new + length bytes ≡ limit old
+pub record Gave (old new : SourceSeen) (bytes : List ℕ) : Type 0 where
+  pub given : Consumes old.left new.left bytes
+  pub falls : new.limit + length bytes ≡ old.limit
 
--- so many bytes were wanted, and a fault came before the last of them: `Truncated` at the source's end
-pub record StopsShort {S : Type 0} (left : S → Option (List ℕ)) (limit : S → ℕ) (old new : S) (wanted : ℕ) (why : FrameFault) : Type 0 where
-  pub bytes : List ℕ
-  pub gave : Gave left limit old new bytes
-  pub short : length bytes < wanted
-  pub ended : why ≡ fault.Truncated → IsAtEnd (left new)
-
--- no whole frame came, and this is why: `Truncated` is the end of the source inside a length or a body
-pub record StopsInFrame {S : Type 0} (left : S → Option (List ℕ)) (limit : S → ℕ) (old new : S) (why : FrameFault) : Type 0 where
-  pub bytes : List ℕ
-  pub gave : Gave left limit old new bytes
-  pub partial : IsPartial bytes
-  pub begun : why ≡ fault.Truncated → bytes ≢ []
-  pub ended : why ≡ fault.Truncated → IsAtEnd (left new)
-
--- one call gives the next frame, with an answer that fits its body, or the end of the source, or a fault before a whole frame
-abbrev pub Gives : {S X : Type 0} → (S → Option (List ℕ)) → (S → ℕ) → S → S → (List ℕ → X → Type 0) → Result (Option X) FrameFault → Type 0
-Gives left limit old new Fits result = MatchResult result
-    (λ found. MatchOption found
-    (Gave left limit old new [] × IsAtEnd (left new))
-    (λ x. (body : List ℕ) × IsBody body × Gave left limit old new (frame body) × Fits body x))
-    (StopsInFrame left limit old new)
+-- and no call failed
+pub record GaveFaultless (old new : SourceSeen) (bytes : List ℕ) : Type 0 where
+  pub gave : Gave old new bytes
+  pub faults : new.faults ≡ old.faults
 
 -- the count of a source's faults grows by one at `Read`, and else stays
 abbrev pub CountsRead : ℕ → ℕ → FrameFault → Type 0
 CountsRead old new fault.Read = new ≡ one_more old
 CountsRead old new fault.Truncated = new ≡ old
 CountsRead old new fault.NoMemory = new ≡ old
+
+-- from old to new the source gave these bytes, and then this came: `Truncated` at the source's end,
+-- `Read` if a call failed
+pub record GaveUntil (old new : SourceSeen) (bytes : List ℕ) (why : FrameFault) : Type 0 where
+  pub gave : Gave old new bytes
+  pub faults : CountsRead old.faults new.faults why
+  pub ended : why ≡ fault.Truncated → IsAtEnd new.left
+
+-- so many bytes were wanted, and this came before the last of them. Out of memory comes before the
+-- first
+pub record StopsShort (old new : SourceSeen) (wanted : ℕ) (why : FrameFault) : Type 0 where
+  pub bytes : List ℕ
+  pub gave : GaveUntil old new bytes why
+  pub short : length bytes < wanted
+  pub untouched : why ≡ fault.NoMemory → bytes ≡ []
+
+-- these bytes came, or stopped short
+abbrev pub GivesAll : {A : Type 0} → SourceSeen → SourceSeen → List ℕ → ℕ → Result A FrameFault
+    → Type 0
+GivesAll old new bytes wanted result =
+    MatchResult result (λ _. GaveFaultless old new bytes) (StopsShort old new wanted)
+
+-- a body of this length stopped short. Out of memory comes behind the id of a message that is read,
+-- if its body may have this length
+pub record StopsInBody (old new : SourceSeen) (len : ℕ) (why : FrameFault) : Type 0 where
+  pub bytes : List ℕ
+  pub gave : GaveUntil old new bytes why
+  pub short : length bytes < len
+  pub growing : why ≡ fault.NoMemory → (id : ℕ) × (bytes ≡ id ∷ []) × IsRightSize id len
+
+-- no whole frame came, and this is why. Out of memory comes behind the length and the id of a frame
+-- whose body is to be kept
+pub record StopsInFrame (old new : SourceSeen) (why : FrameFault) : Type 0 where
+  pub bytes : List ℕ
+  pub gave : GaveUntil old new bytes why
+  pub partial : IsPartial bytes
+  pub begun : why ≢ fault.Read → bytes ≢ []
+  pub growing : why ≡ fault.NoMemory
+      → (len id : ℕ) × (bytes ≡ four_bytes len ++ id ∷ []) × IsRightSize id len
+
+-- one call gives the next frame, with an answer that fits its body, or the end of the source, or a
+-- fault before a whole frame
+abbrev pub Gives : {X : Type 0} → SourceSeen → SourceSeen → (List ℕ → X → Type 0)
+    → Result (Option X) FrameFault → Type 0
+Gives old new Fits result = MatchResult result
+    (λ found. MatchOption found
+    (GaveFaultless old new [] × IsAtEnd new.left)
+    (λ x. (body : List ℕ) × IsBody body × GaveFaultless old new (frame body) × Fits body x))
+    (StopsInFrame old new)

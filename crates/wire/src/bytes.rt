@@ -2,21 +2,17 @@
 ghost use Rattle.std.specs.Prelude.{◌≡◌, ◌≢◌, ℕ, ◌^◌, ◌<◌, [], List, length, MatchResult, MatchOption, IsErrOf};
 ghost use Rattle.std.specs.Io.KnownBytes.{IsAtEnd};
 ghost use Rattle.wire.specs.Frames.{four_bytes};
-ghost use Rattle.wire.specs.Reading.{Gave, StopsShort, StopsInFrame, CountsRead};
+ghost use Rattle.wire.specs.Reading.{GaveFaultless, GivesAll, StopsShort, StopsInFrame};
 
 use crate::fault::FrameFault;
 use crate::number::number_at;
 use benc::Source;
 
 /// Fills the buffer.
-pub fn read_exact<R: Source>(source: &mut R, buf: &mut [u8]) -> Result<(), FrameFault>
-    ensures bytes { MatchResult result
-        (λ _. Gave R.left R.limit source.old source.new buf.new)
-        (StopsShort R.left R.limit source.old source.new (length buf.old)) }
-    ensures counts { MatchResult result
-        (λ _. R.faults source.new ≡ R.faults source.old)
-        (CountsRead (R.faults source.old) (R.faults source.new)) }
-    ensures device { ¬ IsErrOf result FrameFault.NoMemory }
+pub(crate) fn read_exact<R: Source>(source: &mut R, buf: &mut [u8]) -> Result<(), FrameFault>
+    ensures bytes { GivesAll (R.seen source.old) (R.seen source.new) buf.new (length buf.old)
+        result }
+    ensures no_memory { ¬ IsErrOf result FrameFault.NoMemory }
 {
     let mut filled = 0;
     'reads: while filled < buf.len() {
@@ -29,16 +25,15 @@ pub fn read_exact<R: Source>(source: &mut R, buf: &mut [u8]) -> Result<(), Frame
 }
 
 /// The length of the next frame, or `None` at the end of the source.
-pub fn read_length<R: Source>(source: &mut R) -> Result<Option<u32>, FrameFault>
+pub(crate) fn read_length<R: Source>(source: &mut R) -> Result<Option<u32>, FrameFault>
     ensures bytes { MatchResult result
         (λ found. MatchOption found
-        (Gave R.left R.limit source.old source.new [] × IsAtEnd (R.left source.new))
-        (λ len. Gave R.left R.limit source.old source.new (four_bytes len) × (len < 2 ^ 32)))
-        (StopsInFrame R.left R.limit source.old source.new) }
-    ensures counts { MatchResult result
-        (λ _. R.faults source.new ≡ R.faults source.old)
-        (CountsRead (R.faults source.old) (R.faults source.new)) }
-    ensures device { ¬ IsErrOf result FrameFault.NoMemory }
+        (GaveFaultless (R.seen source.old) (R.seen source.new) []
+        × IsAtEnd (R.seen source.new).left)
+        (λ len. GaveFaultless (R.seen source.old) (R.seen source.new) (four_bytes len)
+        × (len < 2 ^ 32)))
+        (StopsInFrame (R.seen source.old) (R.seen source.new)) }
+    ensures no_memory { ¬ IsErrOf result FrameFault.NoMemory }
 {
     let mut bytes = [0u8; 4];
     let first = source.read(&mut bytes)?;
@@ -52,14 +47,12 @@ pub fn read_length<R: Source>(source: &mut R) -> Result<Option<u32>, FrameFault>
 const SCRATCH: usize = 4096;
 
 /// Reads so many bytes and forgets them.
-pub fn skip<R: Source>(source: &mut R, count: u32) -> Result<(), FrameFault>
+pub(crate) fn skip<R: Source>(source: &mut R, count: u32) -> Result<(), FrameFault>
     ensures bytes { MatchResult result
-        (λ _. (bytes : List ℕ) × Gave R.left R.limit source.old source.new bytes × (length bytes ≡ count))
-        (StopsShort R.left R.limit source.old source.new count) }
-    ensures counts { MatchResult result
-        (λ _. R.faults source.new ≡ R.faults source.old)
-        (CountsRead (R.faults source.old) (R.faults source.new)) }
-    ensures device { ¬ IsErrOf result FrameFault.NoMemory }
+        (λ _. (bytes : List ℕ) × GaveFaultless (R.seen source.old) (R.seen source.new) bytes
+        × (length bytes ≡ count))
+        (StopsShort (R.seen source.old) (R.seen source.new) count) }
+    ensures no_memory { ¬ IsErrOf result FrameFault.NoMemory }
 {
     let mut scratch = [0u8; SCRATCH];
     let mut left = count as usize;

@@ -1,15 +1,19 @@
 //! Why no frame could be read.
 use benc::DeviceFault;
-use std::alloc::AllocError;
+use std::alloc::AllocError as NoMemory;
+use thiserror::Error;
 
 /// Why a frame could not be read.
-#[derive(Clone, Copy, Debug, PartialEq, Eq)]
+#[derive(Clone, Copy, Debug, PartialEq, Eq, Error)]
 pub enum FrameFault {
     /// The input ended inside a length or a body.
+    #[error("the input ends inside a frame")]
     Truncated,
     /// The source answered a fault.
+    #[error("the source failed")]
     Read,
-    /// Memory for a body was refused.
+    /// Memory for the body of a message that is read was refused.
+    #[error("out of memory")]
     NoMemory,
 }
 
@@ -24,13 +28,13 @@ impl From<DeviceFault> for FrameFault {
     }
 }
 
-impl From<AllocError> for FrameFault {
+impl From<NoMemory> for FrameFault {
     ghost use Rattle.std.specs.Prelude.{◌≡◌};
     ghost use Rattle.wire.specs.declared.fault.FrameFault.TheVariants.{NoMemory};
 
     ghost from_gives = { λ _ fault. fault ≡ NoMemory };
 
-    fn from(_: AllocError) -> FrameFault {
+    fn from(_: NoMemory) -> FrameFault {
         FrameFault::NoMemory
     }
 }

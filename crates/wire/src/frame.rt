@@ -1,8 +1,8 @@
 //! A frame of the stream, as far as it is kept.
 use crate::message::Message;
 
-/// A frame: the message that its body means, or word of a wrong size.
-#[derive(Clone, Copy, Debug)]
+/// A frame: the message that its body means, or a body of a wrong size.
+#[derive(Clone, Copy, Debug, PartialEq)]
 pub enum Frame<'a> {
     /// The message.
     Message(Message<'a>),

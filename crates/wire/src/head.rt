@@ -10,7 +10,7 @@ use crate::parse::message_of;
 
 /// The head of a frame. A length counts the id.
 #[derive(Clone, Copy, Debug)]
-pub enum Head {
+pub(crate) enum Head {
     /// No body.
     KeepAlive,
     /// A message that is read.
@@ -38,7 +38,7 @@ pub enum Head {
 
 impl Head {
     /// The head of a body with this id and this length.
-    pub fn of(id: u8, len: u32) -> Head
+    pub(crate) fn of(id: u8, len: u32) -> Head
         ensures { IsHead id len result }
     {
         match Kind::of(id) {
@@ -50,7 +50,7 @@ impl Head {
 }
 
 /// The frame of a head, out of the bytes that are kept of its body after the id.
-pub fn frame_of(head: Head, kept: &[u8]) -> Frame<'_>
+pub(crate) fn frame_of(head: Head, kept: &[u8]) -> Frame<'_>
     requires held { (body : List ℕ) × Holds head kept.now body }
     ensures { (body : List ℕ) → Holds head kept.now body → Means body result }
 {

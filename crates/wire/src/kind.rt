@@ -3,11 +3,11 @@ ghost use Rattle.std.specs.Prelude.{◌≡◌, ◌↔◌, IsTrue, MatchOption};
 ghost use Rattle.wire.specs.Meaning.{IsRead, IsRightSize};
 
 /// The longest body that is kept, in bytes.
-pub const MAX_BODY: u32 = 263_217;
+pub(crate) const MAX_BODY: u32 = 263_217;
 
 /// A message that is read.
 #[derive(Clone, Copy, Debug, PartialEq, Eq)]
-pub enum Kind {
+pub(crate) enum Kind {
     /// A block of a piece.
     Piece,
     /// A hash request.
@@ -22,7 +22,7 @@ impl Kind {
     ghost use Rattle.wire.specs.Kind.{id_of};
 
     /// The message of an id, if it is read.
-    pub fn of(id: u8) -> Option<Kind>
+    pub(crate) fn of(id: u8) -> Option<Kind>
         ensures { MatchOption result (¬ IsRead id) (λ kind. id ≡ id_of kind) }
     {
         match id {
@@ -35,7 +35,7 @@ impl Kind {
     }
 
     /// The first byte of its body.
-    pub fn id(self) -> u8
+    pub(crate) fn id(self) -> u8
         ensures { result ≡ id_of self }
     {
         match self {
@@ -47,7 +47,7 @@ impl Kind {
     }
 
     /// Whether its body may have this length, its id counted.
-    pub fn takes(self, len: u32) -> bool
+    pub(crate) fn takes(self, len: u32) -> bool
         ensures { IsTrue result ↔ IsRightSize (id_of self) len }
     {
         match self {

@@ -3,23 +3,22 @@
 
 mod bytes;
 mod fault;
+mod fields;
 mod frame;
+mod framing;
 mod hashes;
 mod head;
-mod header;
 mod kind;
-mod laws;
+pub mod laws;
 mod message;
 mod number;
 mod parse;
-mod read;
 mod reader;
 mod writing;
 
 pub use benc::WriteFault;
 pub use fault::FrameFault;
 pub use frame::Frame;
-pub use laws::{each_stream_has_frames, frames_after_frames, one_list_of_frames, one_meaning};
 pub use message::{Ask, Hash, Message};
 pub use reader::FrameReader;
 pub use writing::write;

@@ -3,7 +3,8 @@
 /// A SHA-256 digest.
 pub type Hash = [u8; 32];
 
-/// The five fields of a hash request, and of the hashes message or the reject that answers it (BEP 52).
+/// The five fields of a hash request, and of the hashes message or the reject that answers it (BEP
+/// 52).
 #[derive(Clone, Copy, Debug, PartialEq, Eq)]
 pub struct Ask {
     /// The root of the tree.
@@ -14,14 +15,16 @@ pub struct Ask {
     pub index: u32,
     /// How many hashes are wanted.
     pub length: u32,
-    /// How many layers above the base layer the proof may reach.
+    /// How many layers above the base layer the proof may reach: a bound on the number of uncles,
+    /// of which fewer come if the proof meets the root or the wanted hashes span layers themselves.
     pub proof: u32,
 }
 
 /// A message. Blocks and hashes are lent.
-#[derive(Clone, Copy, Debug)]
+#[derive(Clone, Copy, Debug, PartialEq)]
 pub enum Message<'a> {
-    /// A block of a piece (BEP 3): the piece's number, the block's first byte in the piece, the bytes.
+    /// A block of a piece (BEP 3): the piece's number, the block's first byte in the piece, the
+    /// bytes.
     Piece {
         /// The piece's number.
         index: u32,

@@ -26,7 +26,7 @@ fn ask_at(bytes: &[u8]) -> Ask
 }
 
 /// The message of a body of the right size, from the bytes after its id.
-pub fn message_of(kind: Kind, fields: &[u8]) -> Message<'_>
+pub(crate) fn message_of(kind: Kind, fields: &[u8]) -> Message<'_>
     requires { IsRightSize (id_of kind) (length fields.now + 1) }
     ensures { MeansMessage (id_of kind ∷ fields.now) result }
 {

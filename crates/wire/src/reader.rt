@@ -1,26 +1,26 @@
 //! A reader of frames that lends its own buffer.
 ghost use mir.Syntax.{named};
-ghost use Rattle.std.specs.Prelude.{◌≡◌, ◌≤◌, ℕ, List, [], true, false, Ok, Err, IfOk, IfErr, IfSome, IsErrOf, MatchResult, MatchBool};
+ghost use Rattle.std.specs.Prelude.{◌≡◌, ◌≤◌, ◌⊎◌, OnOk, OnErr, ℕ, List, [], true, false, Ok, Err, IfOk, IfErr, IfSome, IsErrOf, MatchResult, MatchBool};
 ghost use Rattle.std.specs.Bool.{OnTrue, OnFalse};
 ghost use Rattle.std.specs.Borrow.{sem};
 ghost use Rattle.std.specs.Io.BufRead.{Rests};
 ghost use Rattle.std.specs.Io.KnownBytes.{IsAtEnd};
 ghost use Rattle.wire.specs.Frames.{IsBody, frame};
 ghost use Rattle.wire.specs.Meaning.{Means};
-ghost use Rattle.wire.specs.Reading.{Gave, StopsInFrame, CountsRead};
+ghost use Rattle.wire.specs.Reading.{GaveFaultless, StopsInFrame};
 ghost use Rattle.wire.specs.Rows.{bytes_row};
 ghost use Rattle.wire.specs.contracts.reader.FrameReader.{the_row};
 
 use crate::fault::FrameFault;
 use crate::frame::Frame;
+use crate::framing::{MAX_KEPT, read_frame};
 use crate::head::{Head, frame_of};
-use crate::read::read_frame;
 use benc::Source;
-use std::alloc::Global;
+use std::alloc::{AllocError as NoMemory, Global};
 
 /// How far a reader has come.
 #[derive(Clone, Copy, Debug)]
-pub enum State {
+pub(crate) enum State {
     /// More may come.
     Open,
     /// The source ended between two frames.
@@ -29,7 +29,8 @@ pub enum State {
     Failed(FrameFault),
 }
 
-/// Reads the frames of a source, one after the other. It keeps at most one body, of 263,217 bytes at most.
+/// Reads the frames of a source, one after the other. It keeps at most one body, of 263,217 bytes
+/// at most.
 pub struct FrameReader<'r, R: Source, B: Drop = Vec<u8>> {
     source: &'r mut R,
     state: State,
@@ -38,7 +39,7 @@ pub struct FrameReader<'r, R: Source, B: Drop = Vec<u8>> {
 }
 
 impl<'r, R: Source> FrameReader<'r, R> {
-    ghost use Rattle.wire.specs.Reader.{AsksNext, HasEnded, HasFailed, HasRoom, HoldsBody, IsOpen, kept_len};
+    ghost use Rattle.wire.specs.Reader.{AsksNext, HasEnded, HasFailed, HasRoom, HoldsBody, IsOpen, IsSameButRoom, kept_len, room};
 
     /// A reader of what the source gives from here on. It takes no memory yet.
     pub fn new(alloc: Global, source: &'r mut R) -> FrameReader<'r, R>
@@ -46,6 +47,7 @@ impl<'r, R: Source> FrameReader<'r, R> {
         ensures source { result.source.now ≡ source.old }
         ensures open { IsOpen result }
         ensures kept { kept_len result ≡ 0 }
+        ensures no_memory { room result ≡ 0 }
     {
         FrameReader {
             source,
@@ -55,12 +57,32 @@ impl<'r, R: Source> FrameReader<'r, R> {
         }
     }
 
-    /// The next frame, or `None` at the end of the source. After `None` and after a fault each later
-    /// call answers the same. `NoMemory` comes only from the first growth of the reader's buffer.
+    /// Takes all the room that the reader will need: after `Ok` no call answers `NoMemory`. A reader
+    /// that has answered `NoMemory` answers it again. After a refusal the reader is unchanged.
+    pub fn reserve(&mut self) -> Result<(), NoMemory>
+        ensures room { OnOk result (HasRoom self.new × ¬ HasFailed self.old FrameFault.NoMemory) }
+        ensures refused { OnErr result (room self.new ≡ room self.old) }
+        ensures memory { OnErr result
+            (HasFailed self.old FrameFault.NoMemory ⊎ ¬ HasRoom self.old) }
+        ensures unchanged { IsSameButRoom self.old self.new }
+    {
+        if let State::Failed(FrameFault::NoMemory) = self.state {
+            return Err(NoMemory);
+        }
+        if self.kept.capacity() < MAX_KEPT {
+            self.kept.reserve(MAX_KEPT)?;
+        }
+        Ok(())
+    }
+
+    /// The next frame, or `None` at the end of the source. After `None` and after a fault each
+    /// later call answers the same and reads nothing. `NoMemory` comes only from the first growth
+    /// of the reader's buffer, behind the length and the id of a message that is read.
     pub fn next(&mut self) -> Result<Option<Frame<'_>>, FrameFault>
         ensures means { IfOk result (λ found. IfSome found (λ f. (body : List ℕ) × Means body f)) }
-        ensures* after_loan { sem 𝓛 (Rests (the_row (record { mir = named 1; lft = [] }) R.row bytes_row) self.entry
-            (λ new. AsksNext R.left R.limit R.faults self.entry.now new Means result)) }
+        ensures* after_loan { sem 𝓛 (Rests
+            (the_row (record { mir = named 1; lft = [] }) R.row bytes_row) self.entry
+            (λ new. AsksNext R.seen self.entry.now new Means result)) }
     {
         if self.advance()? {
             Ok(Some(self.frame()))
@@ -69,32 +91,35 @@ impl<'r, R: Source> FrameReader<'r, R> {
         }
     }
 
-    /// Reads the next frame, if there is one: `next` in two steps, the loan apart.
+    /// Reads the next frame, and answers whether there is one: `false` is the end of the source.
+    /// The frame is then `frame()`. It is `next` in two steps, of which only the second borrows.
     pub fn advance(&mut self) -> Result<bool, FrameFault>
         ensures same_reference { self.new.source.ghost_name ≡ self.old.source.ghost_name }
 
         // The frame that stands next, whole, and its body.
-        ensures frame { IsOpen self.old → IfOk result (λ more. OnTrue more ((body : List ℕ) × IsBody body
-            × Gave R.left R.limit self.old.source.now self.new.source.now (frame body) × HoldsBody self.new body)) }
+        ensures frame { IsOpen self.old → IfOk result (λ more. OnTrue more
+            ((body : List ℕ) × IsBody body
+            × GaveFaultless (R.seen self.old.source.now) (R.seen self.new.source.now) (frame body)
+            × HoldsBody self.new body)) }
 
         // Nothing stands next.
         ensures end { IsOpen self.old → IfOk result (λ more. OnFalse more
-            (Gave R.left R.limit self.old.source.now self.new.source.now [] × IsAtEnd (R.left self.new.source.now))) }
+            (GaveFaultless (R.seen self.old.source.now) (R.seen self.new.source.now) []
+            × IsAtEnd (R.seen self.new.source.now).left)) }
 
         // No whole frame was lost.
         ensures fault { IsOpen self.old → IfErr result
-            (StopsInFrame R.left R.limit self.old.source.now self.new.source.now) }
-        ensures counts { IsOpen self.old → MatchResult result
-            (λ _. R.faults self.new.source.now ≡ R.faults self.old.source.now)
-            (CountsRead (R.faults self.old.source.now) (R.faults self.new.source.now)) }
+            (StopsInFrame (R.seen self.old.source.now) (R.seen self.new.source.now)) }
         ensures stands { MatchResult result
             (λ more. MatchBool more (IsOpen self.new) (HasEnded self.new))
             (HasFailed self.new) }
         ensures ended_again { HasEnded self.old → (result ≡ Ok false) × (self.new ≡ self.old) }
-        ensures failed_again { (why : FrameFault) → HasFailed self.old why → (result ≡ Err why) × (self.new ≡ self.old) }
+        ensures failed_again { (why : FrameFault) → HasFailed self.old why
+            → (result ≡ Err why) × (self.new ≡ self.old) }
         ensures bounded { kept_len self.old ≤ 263216 → kept_len self.new ≤ 263216 }
-        ensures memory { IsOpen self.old → IsErrOf result FrameFault.NoMemory → ¬ HasRoom self.old }
-        ensures room { HasRoom self.old → HasRoom self.new }
+        ensures memory { IsOpen self.old → IsErrOf result FrameFault.NoMemory
+            → ¬ HasRoom self.old }
+        ensures has_room { HasRoom self.old → HasRoom self.new }
     {
         match self.state {
             State::Open => {}
@@ -117,7 +142,8 @@ impl<'r, R: Source> FrameReader<'r, R> {
         }
     }
 
-    /// The frame that `advance` read last. It borrows the reader's own buffer.
+    /// The frame that `advance` read last, which must have answered `true`. It borrows the reader's
+    /// own buffer.
     pub fn frame(&self) -> Frame<'_>
         requires held { (body : List ℕ) × HoldsBody self.now body }
         ensures { (body : List ℕ) → HoldsBody self.now body → Means body result }

@@ -2,12 +2,13 @@ ghost use Rattle.std.specs.Prelude.{◌≡◌, ℕ, [], List, length, Some, IfOk
 ghost use Rattle.wire.specs.Frames.{Frames};
 
 use super::*;
-use benc::{MemSink, MemSource, Source};
+use benc::Source;
+use benc::memory::{MemSink, MemSource};
 use std::alloc::{AllocError, Global};
 use std::process::Abort;
 use std::test::*;
 
-// The answers of eight calls.
+// The answers of eight calls, printed.
 fn told<R: Source>(alloc: Global, source: &mut R) -> Result<String, AllocError> {
     let mut reader = FrameReader::new(alloc, source);
     let mut text = String::new(alloc);
@@ -25,7 +26,8 @@ fn told<R: Source>(alloc: Global, source: &mut R) -> Result<String, AllocError> 
 
 // A loop over `advance` knows that what it met are the frames of the record.
 fn count_frames<R: Source>(alloc: Global, source: &mut R) -> Result<u64, FrameFault>
-    ensures { IfOk result (λ n. (bytes : List ℕ) → R.left source.old ≡ Some bytes → (bodies : List (List ℕ)) × Frames bytes bodies [] × (length bodies ≡ n)) }
+    ensures { IfOk result (λ n. (bytes : List ℕ) → (R.seen source.old).left ≡ Some bytes
+        → (bodies : List (List ℕ)) × Frames bytes bodies [] × (length bodies ≡ n)) }
 {
     let mut reader = FrameReader::new(alloc, source);
     let mut n = 0u64;
@@ -121,7 +123,8 @@ fn frames_of_a_wrong_size_are_skipped(rt: HostRuntime) {
         &rt,
         rt.alloc(),
         &record,
-        "BadSize { id: 21, len: 2 };BadSize { id: 7, len: 1 };BadSize { id: 22, len: 80 };BadSize { id: 7, len: 263218 };end;end;",
+        "BadSize { id: 21, len: 2 };BadSize { id: 7, len: 1 };BadSize { id: 22, len: 80 };\
+         BadSize { id: 7, len: 263218 };end;end;",
     );
 }
 
@@ -167,70 +170,114 @@ const ASK: Ask = Ask {
     proof: 9,
 };
 
-// The ask of a source's one frame, and how many hashes came with it, all of sevens.
-fn read_back<R: Source>(alloc: Global, source: &mut R) -> Option<(Ask, usize)> {
-    let mut reader = FrameReader::new(alloc, source);
-    let told = match reader.next() {
-        Ok(Some(Frame::Message(Message::Request(ask)))) => (ask, 0),
-        Ok(Some(Frame::Message(Message::Hashes { ask, hashes })))
-            if hashes.iter().all(|hash| { hash.iter().all(|b| *b == 7) }) => (ask, hashes.len()),
-        _ => return None,
-    };
-    match reader.next() {
-        Ok(None) => Some(told),
-        _ => None,
+// Whether a message is written and read back as it was, however the frame is cut.
+fn comes_back(rt: &impl Abort, alloc: Global, m: Message<'_>, room: usize) -> bool {
+    let mut sink = MemSink::with_room(alloc, room)
+        .expect(rt, "memory")
+        .at_most(7);
+    if !m.is_writable() || write(&m, &mut sink).is_err() || sink.written().len() != room {
+        return false;
     }
+    for at_most in [1, 7, usize::MAX] {
+        let mut source = MemSource::new(sink.written()).at_most(at_most);
+        if !gives(alloc, &mut source, &m) {
+            return false;
+        }
+    }
+    true
 }
 
-// The ask is read back, however the frame is cut.
-fn expect_ask(rt: &impl Abort, alloc: Global, frame: &[u8], hashes: usize) {
-    for at_most in [1, 7, usize::MAX] {
-        let mut source = MemSource::new(frame).at_most(at_most);
-        let told = read_back(alloc, &mut source);
-        assert!(rt; told == Some((ASK, hashes)), "{at_most} bytes a call");
-    }
+// Whether the source's one frame has this message.
+fn gives<R: Source>(alloc: Global, source: &mut R, m: &Message<'_>) -> bool {
+    let mut reader = FrameReader::new(alloc, source);
+    let is_first = match reader.next() {
+        Ok(Some(Frame::Message(found))) => found == *m,
+        _ => false,
+    };
+    is_first && matches!(reader.next(), Ok(None))
 }
 
 #[test]
-fn a_request_and_its_answer_to_the_byte(rt: HostRuntime) {
-    let fields = [0, 0, 0, 0, 0, 0, 2, 0, 0, 0, 2, 0, 0, 0, 0, 9];
-    let mut sink = MemSink::with_room(rt.alloc(), 53)
-        .expect(&rt, "memory")
-        .at_most(7);
-    assert!(rt; write(&Message::Request(ASK), &mut sink).is_ok());
-    assert!(rt; sink.written().starts_with(&[0, 0, 0, 0x31, 0x15]));
-    assert!(rt; sink.written().iter().skip(5).take(32).all(|b| *b == 9));
-    assert!(rt; sink.written().ends_with(&fields));
-    expect_ask(&rt, rt.alloc(), sink.written(), 0);
-
+fn what_is_written_is_read(rt: HostRuntime) {
     let hashes = vec![in rt.alloc(); [7u8; 32]; 513].expect(&rt, "memory");
+    let block = vec![in rt.alloc(); 5u8; 100].expect(&rt, "memory");
+    let piece = Message::Piece {
+        index: 3,
+        begin: 16_384,
+        block: &block,
+    };
     let answer = Message::Hashes {
         ask: ASK,
         hashes: &hashes,
     };
-    assert!(rt; answer.is_writable());
-    let mut sink = MemSink::with_room(rt.alloc(), 16_469).expect(&rt, "memory");
-    assert!(rt; write(&answer, &mut sink).is_ok());
-    assert!(rt; sink.written().len() == 16_469);
-    assert!(rt; sink.written().starts_with(&[0, 0, 0x40, 0x51, 0x16]));
-    assert!(rt;
-        sink.written()
-            .iter()
-            .skip(37)
-            .zip(&fields)
-            .all(|(a, b)| a == b)
-    );
-    assert!(rt; sink.written().iter().skip(53).all(|b| *b == 7));
-    expect_ask(&rt, rt.alloc(), sink.written(), 513);
+    assert!(rt; comes_back(&rt, rt.alloc(), Message::KeepAlive, 4));
+    assert!(rt; comes_back(&rt, rt.alloc(), piece, 113));
+    assert!(rt; comes_back(&rt, rt.alloc(), Message::Request(ASK), 53));
+    assert!(rt; comes_back(&rt, rt.alloc(), answer, 16_469));
+    assert!(rt; comes_back(&rt, rt.alloc(), Message::Reject(ASK), 53));
+    assert!(rt; !Message::Other { id: 4, len: 5 }.is_writable());
+}
+
+// Whether a source's one frame is read by a reader that takes its room before and after.
+fn reads_with_room<R: Source>(alloc: Global, source: &mut R) -> bool {
+    let mut reader = FrameReader::new(alloc, source);
+    let is_taken = reader.reserve().is_ok();
+    let is_read = matches!(reader.next(), Ok(Some(Frame::Message(_))));
+    is_taken && is_read && reader.reserve().is_ok() && matches!(reader.next(), Ok(None))
 }
 
 #[test]
-fn a_sink_that_fails_has_a_beginning(rt: HostRuntime) {
+fn room_is_taken_once(rt: HostRuntime) {
+    let bytes = frame(rt.alloc(), 7, 10).expect(&rt, "memory");
+    let mut source = MemSource::new(&bytes);
+    let is_read = reads_with_room(rt.alloc(), &mut source);
+    assert!(rt; is_read);
+}
+
+// A frame that is skipped, and then one that is kept.
+#[test]
+fn a_skipped_frame_first(rt: HostRuntime) {
+    let mut record = frame(rt.alloc(), 20, 900).expect(&rt, "memory");
+    record
+        .extend_from_slice(&frame(rt.alloc(), 7, 10).expect(&rt, "memory"))
+        .expect(&rt, "memory");
+    expect(
+        &rt,
+        rt.alloc(),
+        &record,
+        "Other { id: 20, len: 900 };Piece { index: 0, begin: 0, block: [0] };end;",
+    );
+}
+
+#[test]
+fn a_request_to_the_byte(rt: HostRuntime) -> Result<(), AllocError> {
+    let fields = [0, 0, 0, 0, 0, 0, 2, 0, 0, 0, 2, 0, 0, 0, 0, 9];
+    let mut sink = MemSink::with_room(rt.alloc(), 53)?;
+    assert!(rt; write(&Message::Request(ASK), &mut sink).is_ok());
+    assert!(rt; sink.written().starts_with(&[0, 0, 0, 0x31, 0x15]));
+    assert!(rt; sink.written().iter().skip(5).take(32).all(|b| *b == 9));
+    assert!(rt; sink.written().ends_with(&fields));
+    Ok(())
+}
+
+#[test]
+fn printed_faults(rt: HostRuntime) -> Result<(), AllocError> {
+    for (fault, text) in [
+        (FrameFault::Truncated, "the input ends inside a frame"),
+        (FrameFault::Read, "the source failed"),
+        (FrameFault::NoMemory, "out of memory"),
+    ] {
+        assert!(rt; format!(in rt.alloc(); "{fault}")?.as_str() == text);
+    }
+    Ok(())
+}
+
+#[test]
+fn a_sink_that_fails_has_a_prefix(rt: HostRuntime) {
     let mut sink = MemSink::with_room(rt.alloc(), 53)
         .expect(&rt, "memory")
         .at_most(4)
         .fails_after(1);
     assert!(rt; write(&Message::Reject(ASK), &mut sink).is_err());
     assert!(rt; sink.written() == [0, 0, 0, 0x31].as_slice());
-    assert!(rt; !Message::Other { id: 4, len: 5 }.is_writable());
 }

@@ -1,13 +1,12 @@
 //! Frames to a sink.
-ghost use Rattle.std.specs.Prelude.{◌≡◌, ◌↔◌, ◌≤◌, ◌<◌, ◌++◌, ℕ, List, length, take, IsTrue, OnOk, OnErr};
-ghost use Rattle.std.specs.Io.KnownBytes.{Appends};
-ghost use Rattle.benc.specs.Device.{AppendsBeginning, CountsFault};
+ghost use Rattle.std.specs.Prelude.{◌≡◌, ◌↔◌, ◌≤◌, ◌<◌, ◌++◌, ℕ, List, length, take, IsTrue};
+ghost use Rattle.benc.specs.Device.{Wrote};
 ghost use Rattle.wire.specs.Frames.{IsBody, frame};
 ghost use Rattle.wire.specs.Meaning.{MeansMessage};
 ghost use Rattle.wire.specs.Writable.{IsWritable};
 
+use crate::fields::{ask_fields, piece_fields};
 use crate::hashes::bytes_of;
-use crate::header::{ask_header, piece_header};
 use crate::kind::Kind;
 use crate::message::Message;
 use benc::{Sink, WriteFault, write_all};
@@ -17,7 +16,8 @@ const MAX_BLOCK: usize = 263_208;
 const MAX_HASHES: usize = 8_224;
 
 impl Message<'_> {
-    /// Whether it may be written: not of another id, with a block of at most 263,208 bytes, or with at most 8,224 hashes.
+    /// Whether `write` takes it: not a message of another id, nor a block of more than 263,208
+    /// bytes, nor more than 8,224 hashes.
     pub fn is_writable(&self) -> bool
         ensures { IsTrue result ↔ IsWritable self.now }
     {
@@ -32,25 +32,19 @@ impl Message<'_> {
 
 /// Writes bytes and then more.
 fn put<W: Sink>(out: &mut W, first: &[u8], rest: &[u8]) -> Result<(), WriteFault>
-    ensures ok { OnOk result (Appends (W.written out.old) (W.written out.new) (first.now ++ rest.now)) }
-    ensures err { OnErr result (AppendsBeginning (W.written out.old) (W.written out.new) (first.now ++ rest.now)) }
-    ensures counts { CountsFault (W.faults out.old) (W.faults out.new) result }
-    ensures flushes { W.flushes out.new ≡ W.flushes out.old }
+    ensures { Wrote (W.seen out.old) (W.seen out.new) result (first.now ++ rest.now) }
 {
     write_all(out, first)?;
     write_all(out, rest)?;
     Ok(())
 }
 
-/// Writes the frame of a message. It takes no memory and does not flush. After a fault a beginning of the frame went out.
+/// Writes the frame of a message, for which `is_writable` holds. It takes no memory and does not
+/// flush. After a fault a prefix of the frame went out.
 pub fn write<W: Sink>(m: &Message<'_>, w: &mut W) -> Result<(), WriteFault>
     requires { IsWritable m.now }
-    ensures ok { OnOk result ((body : List ℕ) × IsBody body × MeansMessage body m.now
-        × Appends (W.written w.old) (W.written w.new) (frame body)) }
-    ensures err { OnErr result ((body : List ℕ) × IsBody body × MeansMessage body m.now
-        × AppendsBeginning (W.written w.old) (W.written w.new) (frame body)) }
-    ensures counts { CountsFault (W.faults w.old) (W.faults w.new) result }
-    ensures flushes { W.flushes w.new ≡ W.flushes w.old }
+    ensures { (body : List ℕ) × IsBody body × MeansMessage body m.now
+        × Wrote (W.seen w.old) (W.seen w.new) result (frame body) }
 {
     match m {
         Message::KeepAlive => put(w, &[0; 4], &[]),
@@ -60,16 +54,16 @@ pub fn write<W: Sink>(m: &Message<'_>, w: &mut W) -> Result<(), WriteFault>
             block,
         } => put(
             w,
-            piece_header(*index, *begin, block.len() as u32).as_slice(),
+            piece_fields(*index, *begin, block.len() as u32).as_slice(),
             block,
         ),
-        Message::Request(ask) => put(w, ask_header(Kind::Request, ask, 0).as_slice(), &[]),
+        Message::Request(ask) => put(w, ask_fields(Kind::Request, ask, 0).as_slice(), &[]),
         Message::Hashes { ask, hashes } => put(
             w,
-            ask_header(Kind::Hashes, ask, hashes.len() as u32).as_slice(),
+            ask_fields(Kind::Hashes, ask, hashes.len() as u32).as_slice(),
             bytes_of(hashes),
         ),
-        Message::Reject(ask) => put(w, ask_header(Kind::Reject, ask, 0).as_slice(), &[]),
+        Message::Reject(ask) => put(w, ask_fields(Kind::Reject, ask, 0).as_slice(), &[]),
         Message::Other { .. } => unreachable!(),
     }
 }

@@ -1,6 +1,6 @@
 //! Whole layers.
 
-use crate::tests::made::{FiveBlocks, Z0, counts, five_blocks, torrent};
+use crate::tests::made::{FiveBlocks, Z0, counts, five_blocks, leaves, over, torrent};
 use crate::{Flat, HashRefusal, Session};
 use hashtree::Hash;
 use metainfo::Torrent;
@@ -62,6 +62,30 @@ fn layers_of_a_file_of_five_blocks(rt: HostRuntime) -> Result<(), Fail> {
     let bytes = torrent(rt.alloc(), &["a"], 65636, &five.root, 131072, &[])?;
     match Torrent::open(rt.alloc(), &bytes) {
         Ok(torrent) => Ok(fill_layers_of_five(&rt, rt.alloc(), &torrent, &five)?),
+        Err(refusal) => Err(Fail::from(refusal)),
+    }
+}
+
+fn fill_past_the_list(
+    rt: &impl Abort,
+    alloc: Global,
+    torrent: &Torrent<'_>,
+    leaves: &[Hash],
+) -> Result<(), AllocError> {
+    assert_eq!(rt;
+        fill_new(alloc, torrent, 0, leaves)?,
+        Some((Ok(32766), Some((32767, 0))))
+    );
+    Ok(())
+}
+
+#[test]
+fn a_layer_of_16384_leaves_is_written_whole(rt: HostRuntime) -> Result<(), Fail> {
+    let row = leaves(rt.alloc(), 5, 16384)?;
+    let root = over(rt.alloc(), &row, 14)?;
+    let bytes = torrent(rt.alloc(), &["a"], 1 << 28, &root, 1 << 28, &[])?;
+    match Torrent::open(rt.alloc(), &bytes) {
+        Ok(torrent) => Ok(fill_past_the_list(&rt, rt.alloc(), &torrent, &row)?),
         Err(refusal) => Err(Fail::from(refusal)),
     }
 }

@@ -1,19 +1,15 @@
 use Rattle.std.proofs.Common.{sym, subst}
 use Rattle.std.proofs.lemmas.Result.{err_from_is_err_and}
 use Rattle.benc.specs.Spelling.{Spells}
-use Rattle.benc.specs.View.{view}
 use Rattle.benc.proofs.Texts.{fits_spelled}
-use Rattle.benc.proofs.Unique.{no_fault, one_fault}
 use Rattle.benc.proofs.decoding.decode.Goals as goal
 
 pub returns-clause-first : goal.returns-clause-first
-returns-clause-first c kind offset f = no_fault c.args.input.now (view c.in_ok-v.v) kind offset c.in_ok-v.ensures.found f
+returns-clause-first c kind offset f = c.in_ok-v.ensures.first kind offset f
 
 pub returns-in_err-v-clause-first : goal.returns-in_err-v-clause-first
 returns-in_err-v-clause-first c kind offset f =
-    let e = c.in_err-v.field-0.0 in
-    let p = err_from_is_err_and c.from_residual.result c.from_residual.ensures.1 in
-    rw (p.1, p.2) (λ known. one_fault c.args.input.now e.kind kind e.offset offset (c.in_err-v.ensures.fault known) f)
+    let p = err_from_is_err_and c.from_residual.result c.from_residual.ensures.1 in rw (p.1, p.2) (c.in_err-v.ensures.first kind offset f)
 
 pub returns-clause-encoded : goal.returns-clause-encoded
 returns-clause-encoded c v canonical is = c.in_ok-v.ensures.only v (subst (Spells v) (sym is) (fits_spelled 128 v canonical))

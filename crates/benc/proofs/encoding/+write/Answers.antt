@@ -7,40 +7,23 @@ use Rattle.benc.specs.Text.{spelling, items_spelling, pairs_spelling}
 use Rattle.benc.specs.View.{Seen, view, items_view, pairs_view}
 use Rattle.benc.specs.declared.value.Value.{Value}
 use Rattle.benc.specs.declared.value.Pair.{Pair}
-use Rattle.benc.proofs.Known.{Appends-append}
-use Rattle.benc.proofs.Out.{wrote_then, wrote_part}
-use Rattle.benc.proofs.Values.{view-Pair}
+use Rattle.benc.proofs.Out.{Sent-append, Wrote-then, Wrote-part}
+use Rattle.benc.proofs.Spelled.{all_items, all_pairs, next_item, next_pair}
 use Rattle.benc.proofs.encoding.+write.Goals as goal
 
 -- the text between two marks, cut behind a first part of it
 cut : (mark : ℕ) (inner done next later : List ℕ) → inner ≡ done ++ (next ++ later) → mark ∷ (inner ++ 101 ∷ []) ≡ (mark ∷ done) ++ (next ++ (later ++ 101 ∷ []))
 cut mark inner done next later e = ap (λ t. mark ∷ (t ++ 101 ∷ [])) e ∙ ap (λ t. mark ∷ t) (append_assoc done (next ++ later) (101 ∷ []) ∙ ap (λ t. done ++ t) (append_assoc next later (101 ∷ [])))
 
--- the item at an index, and those behind it
-next_item : (vs : List Value) (i : ℕ) (v : Value) → drop i vs ≡ v ∷ drop (i + 1) vs → items_spelling (items_view (drop i vs)) ≡ spelling (view v) ++ items_spelling (items_view (drop (i + 1) vs))
-next_item vs i v e = ap (λ ys. items_spelling (items_view ys)) e
-
-next_pair : (ps : List Pair) (i : ℕ) (p : Pair) → drop i ps ≡ p ∷ drop (i + 1) ps
-    → pairs_spelling (pairs_view (drop i ps)) ≡ string p.key.now ++ (spelling (view p.value) ++ pairs_spelling (pairs_view (drop (i + 1) ps)))
-next_pair ps i p e =
-    ap (λ ys. pairs_spelling (pairs_view ys)) e ∙ ap (λ (s : Seen). string s.0 ++ (spelling s.1 ++ pairs_spelling (pairs_view (drop (i + 1) ps)))) (view-Pair p.key p.value)
-
--- nothing is left
-all_items : (vs : List Value) (i : ℕ) (done : List ℕ) → length vs ≤ i → items_spelling (items_view vs) ≡ done ++ items_spelling (items_view (drop i vs)) → items_spelling (items_view vs) ≡ done
-all_items vs i done end e = e ∙ ap (λ ys. done ++ items_spelling (items_view ys)) (drop_of_length-le vs end) ∙ append-nil done
-
-all_pairs : (ps : List Pair) (i : ℕ) (done : List ℕ) → length ps ≤ i → pairs_spelling (pairs_view ps) ≡ done ++ pairs_spelling (pairs_view (drop i ps)) → pairs_spelling (pairs_view ps) ≡ done
-all_pairs ps i done end e = e ∙ ap (λ ys. done ++ pairs_spelling (pairs_view ys)) (drop_of_length-le ps end) ∙ append-nil done
-
-pub write_list-returns-in_err-write_text : goal.write_list-returns-in_err-write_text
-write_list-returns-in_err-write_text g t c =
+pub write_list-returns-in_err-write_all : goal.write_list-returns-in_err-write_all
+write_list-returns-in_err-write_all g t c =
     let p = err_from_is_err_and c.from_residual.result c.from_residual.ensures.1 in
-    wrote_part _ p.0 _ _ _ _ _ _ (108 ∷ []) (items_spelling (items_view c.args.items.now.items) ++ 101 ∷ []) _ refl p.1 c.in_err-write_text.ensures
+    Wrote-part _ p.0 _ _ (108 ∷ []) (items_spelling (items_view c.args.items.now.items) ++ 101 ∷ []) _ refl p.1 c.in_err-write_all.ensures
 
-pub write_dict-returns-in_err-write_text : goal.write_dict-returns-in_err-write_text
-write_dict-returns-in_err-write_text g t c =
+pub write_dict-returns-in_err-write_all : goal.write_dict-returns-in_err-write_all
+write_dict-returns-in_err-write_all g t c =
     let p = err_from_is_err_and c.from_residual.result c.from_residual.ensures.1 in
-    wrote_part _ p.0 _ _ _ _ _ _ (100 ∷ []) (pairs_spelling (pairs_view c.args.pairs.now.items) ++ 101 ∷ []) _ refl p.1 c.in_err-write_text.ensures
+    Wrote-part _ p.0 _ _ (100 ∷ []) (pairs_spelling (pairs_view c.args.pairs.now.items) ++ 101 ∷ []) _ refl p.1 c.in_err-write_all.ensures
 
 pub write_list-items-preserved : goal.write_list-items-preserved
 write_list-items-preserved g t c =
@@ -53,9 +36,7 @@ write_list-items-preserved g t c =
     let mine = spelling (view v) in (
       done ++ mine,
       l.invariant.1 ∙ ap (λ t. done ++ t) (next_item vs l.item-index v here) ∙ sym (append_assoc done mine later),
-      Appends-append _ _ _ (108 ∷ done) mine l.invariant.2 c.in_ok-write_value.ensures.0,
-      c.in_ok-write_value.ensures.1 ∙ l.invariant.3,
-      c.in_ok-write_value.ensures.2 ∙ l.invariant.4,
+      Sent-append _ _ _ (108 ∷ done) mine l.invariant.2 c.in_ok-write_value.ensures,
     )
 
 pub write_list-returns-in_err-write_value : goal.write_list-returns-in_err-write_value
@@ -70,8 +51,8 @@ write_list-returns-in_err-write_value g t c =
     let inner = l.invariant.1 ∙ ap (λ t. done ++ t) (next_item vs l.item-index v here) in
     let all = ap (λ ys. 108 ∷ (items_spelling (items_view ys) ++ 101 ∷ [])) (sym c.deref-item-items.ensures.value) ∙ cut 108 (items_spelling (items_view vs)) done mine later inner in
     let p = err_from_is_err_and c.from_residual-in_err-write_value.result c.from_residual-in_err-write_value.ensures.1 in
-    wrote_then _ _ _ _ _ _ _ _ _ _ (108 ∷ done) (mine ++ (later ++ 101 ∷ [])) _ all (l.invariant.2, l.invariant.3, l.invariant.4)
-    (wrote_part _ p.0 _ _ _ _ _ _ mine (later ++ 101 ∷ []) _ refl p.1 c.in_err-write_value.ensures)
+    Wrote-then _ _ _ _ (108 ∷ done) (mine ++ (later ++ 101 ∷ [])) _ all l.invariant.2
+    (Wrote-part _ p.0 _ _ mine (later ++ 101 ∷ []) _ refl p.1 c.in_err-write_value.ensures)
 
 pub write_list-returns : goal.write_list-returns
 write_list-returns g t c =
@@ -79,7 +60,7 @@ write_list-returns g t c =
     let vs = c.deref-item-items.result.now in
     let done = l.invariant.0 in
     let all = ap (λ ys. 108 ∷ (items_spelling (items_view ys) ++ 101 ∷ [])) (sym c.deref-item-items.ensures.value) ∙ ap (λ t. 108 ∷ (t ++ 101 ∷ [])) (all_items vs l.item-index done (omega arith) l.invariant.1) in
-    wrote_then _ _ _ _ _ _ _ _ _ _ (108 ∷ done) (101 ∷ []) _ all (l.invariant.2, l.invariant.3, l.invariant.4) c.write_text-2.ensures
+    Wrote-then _ _ _ _ (108 ∷ done) (101 ∷ []) _ all l.invariant.2 c.write_all-2.ensures
 
 pub write_dict-pairs-preserved : goal.write_dict-pairs-preserved
 write_dict-pairs-preserved g t c =
@@ -93,9 +74,7 @@ write_dict-pairs-preserved g t c =
     let mine = spelling (view x.value) in (
       done ++ (name ++ mine),
       l.invariant.1 ∙ ap (λ t. done ++ t) (next_pair ps l.pair-index x here ∙ sym (append_assoc name mine later)) ∙ sym (append_assoc done (name ++ mine) later),
-      Appends-append _ _ _ (100 ∷ done) (name ++ mine) l.invariant.2 (Appends-append _ _ _ name mine c.in_ok-write_string.ensures.0 c.in_ok-write_value.ensures.0),
-      c.in_ok-write_value.ensures.1 ∙ c.in_ok-write_string.ensures.1 ∙ l.invariant.3,
-      c.in_ok-write_value.ensures.2 ∙ c.in_ok-write_string.ensures.2 ∙ l.invariant.4,
+      Sent-append _ _ _ (100 ∷ done) (name ++ mine) l.invariant.2 (Sent-append _ _ _ name mine c.in_ok-write_string.ensures c.in_ok-write_value.ensures),
     )
 
 pub write_dict-returns-in_err-write_string : goal.write_dict-returns-in_err-write_string
@@ -111,8 +90,8 @@ write_dict-returns-in_err-write_string g t c =
     let inner = l.invariant.1 ∙ ap (λ t. done ++ t) (next_pair ps l.pair-index x here) in
     let all = ap (λ ys. 100 ∷ (pairs_spelling (pairs_view ys) ++ 101 ∷ [])) (sym c.deref-pair-items.ensures.value) ∙ cut 100 (pairs_spelling (pairs_view ps)) done name (mine ++ later) inner in
     let p = err_from_is_err_and c.from_residual-in_err-write_string.result c.from_residual-in_err-write_string.ensures.1 in
-    wrote_then _ _ _ _ _ _ _ _ _ _ (100 ∷ done) (name ++ ((mine ++ later) ++ 101 ∷ [])) _ all (l.invariant.2, l.invariant.3, l.invariant.4)
-    (wrote_part _ p.0 _ _ _ _ _ _ name ((mine ++ later) ++ 101 ∷ []) _ refl p.1 c.in_err-write_string.ensures)
+    Wrote-then _ _ _ _ (100 ∷ done) (name ++ ((mine ++ later) ++ 101 ∷ [])) _ all l.invariant.2
+    (Wrote-part _ p.0 _ _ name ((mine ++ later) ++ 101 ∷ []) _ refl p.1 c.in_err-write_string.ensures)
 
 pub write_dict-returns-in_err-write_value : goal.write_dict-returns-in_err-write_value
 write_dict-returns-in_err-write_value g t c =
@@ -127,9 +106,9 @@ write_dict-returns-in_err-write_value g t c =
     let inner = l.invariant.1 ∙ ap (λ t. done ++ t) (next_pair ps l.pair-index x here) in
     let all = ap (λ ys. 100 ∷ (pairs_spelling (pairs_view ys) ++ 101 ∷ [])) (sym c.deref-pair-items.ensures.value) ∙ cut 100 (pairs_spelling (pairs_view ps)) done name (mine ++ later) inner in
     let p = err_from_is_err_and c.from_residual-in_err-write_value.result c.from_residual-in_err-write_value.ensures.1 in
-    wrote_then _ _ _ _ _ _ _ _ _ _ (100 ∷ done) (name ++ ((mine ++ later) ++ 101 ∷ [])) _ all (l.invariant.2, l.invariant.3, l.invariant.4)
-    (wrote_then _ _ _ _ _ _ _ _ _ _ name ((mine ++ later) ++ 101 ∷ []) _ refl c.in_ok-write_string.ensures
-    (wrote_part _ p.0 _ _ _ _ _ _ mine (later ++ 101 ∷ []) _ (append_assoc mine later (101 ∷ [])) p.1 c.in_err-write_value.ensures))
+    Wrote-then _ _ _ _ (100 ∷ done) (name ++ ((mine ++ later) ++ 101 ∷ [])) _ all l.invariant.2
+    (Wrote-then _ _ _ _ name ((mine ++ later) ++ 101 ∷ []) _ refl c.in_ok-write_string.ensures
+    (Wrote-part _ p.0 _ _ mine (later ++ 101 ∷ []) _ (append_assoc mine later (101 ∷ [])) p.1 c.in_err-write_value.ensures))
 
 pub write_dict-returns : goal.write_dict-returns
 write_dict-returns g t c =
@@ -137,4 +116,4 @@ write_dict-returns g t c =
     let ps = c.deref-pair-items.result.now in
     let done = l.invariant.0 in
     let all = ap (λ ys. 100 ∷ (pairs_spelling (pairs_view ys) ++ 101 ∷ [])) (sym c.deref-pair-items.ensures.value) ∙ ap (λ t. 100 ∷ (t ++ 101 ∷ [])) (all_pairs ps l.pair-index done (omega arith) l.invariant.1) in
-    wrote_then _ _ _ _ _ _ _ _ _ _ (100 ∷ done) (101 ∷ []) _ all (l.invariant.2, l.invariant.3, l.invariant.4) c.write_text-2.ensures
+    Wrote-then _ _ _ _ (100 ∷ done) (101 ∷ []) _ all l.invariant.2 c.write_all-2.ensures

@@ -1,6 +1,6 @@
 use Rattle.std.proofs.Common.{◌≡◌, ◌+◌, drop}
 use Rattle.std.specs.List.{prefix_len}
-use Rattle.benc.specs.Table.{is_digit}
+use Rattle.benc.specs.Digits.{is_digit}
 use Rattle.benc.proofs.scan.digit_count.Given as goal
 
 abbrev pub invariant-loop-i : goal.invariant-loop-i

@@ -2,7 +2,7 @@ use Rattle.std.proofs.Common.{arith, rules, ◌≡◌, ◌+◌, ◌*◌, ◌∷�
 use Rattle.std.specs.List.{range_with_len}
 use Rattle.sha2.specs.Sha256.{sha256}
 use Rattle.std.proofs.lemmas.List.FromFn.{map-range_with_len_more}
-use Rattle.hashtree.proofs.Above.{joined_at}
+use Rattle.hashtree.specs.Tree.{joined_at}
 use Rattle.hashtree.proofs.levels.level_above.Goals as goal
 
 pub loop-i-preserved : goal.loop-i-preserved

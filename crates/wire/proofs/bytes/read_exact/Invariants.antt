@@ -1,12 +1,11 @@
 use Rattle.std.proofs.Common.{◌≡◌, ◌≤◌, ◌-◌, length, take}
-use Rattle.wire.specs.Reading.{Gave}
+use Rattle.wire.specs.Reading.{GaveFaultless}
 use Rattle.wire.proofs.bytes.read_exact.Given as goal
 
 abbrev pub invariant-reads : goal.invariant-reads
 invariant-reads g l = record {
   within : l.filled ≤ length l.buf;
-  gave : Gave g.R.Source.left g.R.Source.limit l.fn.source l.source (take l.filled l.buf);
-  counted : g.R.Source.faults l.source ≡ g.R.Source.faults l.fn.source;
+  gave : GaveFaultless (g.R.Source.seen l.fn.source) (g.R.Source.seen l.source) (take l.filled l.buf);
 }
 
 abbrev pub decreases-reads : goal.decreases-reads

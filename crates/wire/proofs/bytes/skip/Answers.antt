@@ -1,6 +1,6 @@
 use Rattle.std.proofs.Common.{ℕ, ◌≤◌, ◌++◌, length, take, arith, ◌∙◌}
 use Rattle.std.proofs.lemmas.List.{length-append, length-take, length-take-le}
-use Rattle.wire.proofs.Giving.{Gave-take, Gave-trans}
+use Rattle.wire.proofs.Giving.{Faultless-take, Faultless-trans}
 use Rattle.wire.proofs.bytes.skip.Goals as goal
 
 pub parts-preserved : goal.parts-preserved
@@ -14,9 +14,8 @@ parts-preserved g c =
     record {
       gave = (
         before.0 ++ take taken c.read.new.buf,
-        Gave-trans S.left S.limit c.args.source.now c.parts.source c.read.new.self before.0 (take taken c.read.new.buf) before.1
-            (Gave-take S.left S.limit c.parts.source c.read.new.self taken c.read.new.buf fits e.bytes.0 e.falls),
+        Faultless-trans (S.seen c.args.source.now) (S.seen c.parts.source) (S.seen c.read.new.self) before.0 (take taken c.read.new.buf) before.1
+            (Faultless-take (S.seen c.parts.source) (S.seen c.read.new.self) taken c.read.new.buf fits e.bytes.0 e.falls e.counts),
         omega (arith, before.2, small, length-append before.0 (take taken c.read.new.buf), length-take-le taken c.read.new.buf fits),
       );
-      counted = e.counts ∙ c.parts.invariant.counted;
     }

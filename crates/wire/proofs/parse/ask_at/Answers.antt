@@ -1,7 +1,7 @@
 use Rattle.std.proofs.Common.{sym, arith}
 use Rattle.std.proofs.lemmas.List.{length-take-le}
 use Rattle.wire.specs.Meaning.{ask_bytes}
-use Rattle.wire.proofs.Fields.{drop-number, five_fields}
+use Rattle.wire.proofs.AskFields.{drop-number, five_fields}
 use Rattle.wire.proofs.parse.ask_at.Goals as goal
 
 pub slice_bounds-copy_from_slice-end-2 : goal.slice_bounds-copy_from_slice-end-2

@@ -1,9 +1,9 @@
-use Rattle.std.proofs.Common.{arith, ◌∙◌, sym}
+use Rattle.std.proofs.Common.{◌≡◌, [], arith}
+use Rattle.hashtree.specs.RootBuilder.{complete_nodes}
 use Rattle.hashtree.proofs.Keeping.{none_complete}
 use Rattle.hashtree.proofs.layer.LayerBuilder.new.Goals as goal
 
 pub returns-clause-content : goal.returns-clause-content
-returns-clause-content c = record {
-  fed = c.new.ensures.content;
-  hashes_are = c.new-2.ensures.items ∙ sym (none_complete c.new.result c.args.layer (omega (arith, c.new.ensures.count)));
-}
+returns-clause-content c =
+    let none : complete_nodes c.new.result [] c.args.layer ≡ [] = none_complete c.new.result c.args.layer (omega (arith, c.new.ensures.count)) in
+    record { fed = c.new.ensures.content; hashes_are = cc none }

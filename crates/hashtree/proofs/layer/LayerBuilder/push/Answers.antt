@@ -1,8 +1,8 @@
-use Rattle.std.proofs.Common.{arith, ap, sym, subst, ◌∙◌, ◌++◌, length, take}
+use Rattle.std.proofs.Common.{arith, inr, Result, Ok, Err, OnErr, ap, sym, subst, ◌∙◌, ◌++◌, length, take}
 use Rattle.std.proofs.lemmas.List.{take_rest, length-drop}
-use Rattle.hashtree.specs.Climb as root
-use Rattle.hashtree.specs.Fed.{IsFedLayer}
-use Rattle.hashtree.proofs.Keeping.{kept}
+use Rattle.hashtree.specs.RootBuilder as root
+use Rattle.hashtree.specs.LayerBuilder.{IsFedLayer}
+use Rattle.hashtree.proofs.Keeping.{kept, node_takes_memory}
 use Rattle.hashtree.proofs.Feeding.{next_part}
 use Rattle.hashtree.proofs.layer.LayerBuilder.push.Goals as goal
 
@@ -21,7 +21,26 @@ parts-preserved c =
           subst (IsFedLayer c.keep.new.self) (next_part file bytes start taken)
           (kept c.parts.self c.keep.new.self mid (file ++ take start bytes) _ c.take_part-taken.result.1 at
           (c.take_part-taken.ensures.content (file ++ take start bytes) at.fed)
-          (c.take_part-taken.ensures.completed (file ++ take start bytes) at.fed)
+          (c.take_part-taken.ensures.node (file ++ take start bytes) at.fed)
           c.in_ok-keep.ensures.builder c.in_ok-keep.ensures.layer c.in_ok-keep.ensures.ok);
+      capacity = omega (arith, c.in_ok-keep.ensures.capacity, c.parts.invariant.capacity);
       works = λ refused. c.parts.invariant.works (sym c.in_ok-keep.ensures.again ∙ refused);
     }
+
+on_err : {A E : Type 0} (P : Type 0) (r : Result A E) → P → OnErr r P
+on_err P (Ok x) p = tt
+on_err P (Err e) p = p
+
+pub returns-in_err-keep-clause-memory : goal.returns-in_err-keep-clause-memory
+returns-in_err-keep-clause-memory c = on_err _ c.from_residual.result
+    (λ file fed.
+    let bytes = c.args.bytes.now in
+    let start = c.parts.start in
+    let taken = c.take_part-taken.result.0 in
+    let at = c.parts.invariant.content file fed in
+    inr (node_takes_memory c.args.self.now c.parts.self c.take_part-taken.new.self file (file ++ take start bytes) _ c.take_part-taken.result.1 (length bytes)
+    fed at
+    (c.take_part-taken.ensures.content (file ++ take start bytes) at.fed)
+    (c.take_part-taken.ensures.node (file ++ take start bytes) at.fed)
+    c.in_err-keep.ensures.memory c.parts.invariant.layer c.parts.invariant.capacity c.in_err-keep.ensures.full
+    (omega (arith, c.take_part-taken.ensures.count, c.take_part-taken.ensures.bound, c.parts.invariant.count, ap length (take_rest bytes start), length-drop start bytes))))

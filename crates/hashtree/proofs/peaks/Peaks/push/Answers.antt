@@ -31,8 +31,8 @@ returns-then-width-eq0-clause-leaves c = λ xs held.
     carries_end c.args.self.now _ xs c.args.leaf c.layers.level c.layers.width c.layers.node held (search rules) c.if-width-eq0.true
     c.layers.invariant.count_is (ap (λ t. set t c.layers.level c.layers.node) c.layers.invariant.levels_same) (c.layers.invariant.carries xs held)
 
-pub returns-then-width-eq0-clause-completed : goal.returns-then-width-eq0-clause-completed
-returns-then-width-eq0-clause-completed c = λ xs held.
+pub returns-then-width-eq0-clause-node : goal.returns-then-width-eq0-clause-node
+returns-then-width-eq0-clause-node c = λ xs held.
     let told : Completed xs c.args.leaf c.args.layer (c.layers.level + 1) c.if-level-layer.completed = elim c.if-level-layer.branch [
       | then-level-layer w ↦ subst (Completed xs c.args.leaf c.args.layer (c.layers.level + 1)) (sym w.completed-is)
           (completed_here xs c.args.leaf c.args.layer c.layers.level c.layers.width c.layers.node w.if-level-layer.true (c.layers.invariant.carries xs held))
@@ -42,8 +42,8 @@ returns-then-width-eq0-clause-completed c = λ xs held.
     completed_end xs c.args.leaf c.args.layer c.layers.level c.layers.width c.layers.node c.if-level-layer.completed c.if-width-eq0.true
     (c.layers.invariant.carries xs held) told
 
-pub returns-clause-completed : goal.returns-clause-completed
-returns-clause-completed c = λ xs held.
+pub returns-clause-node : goal.returns-clause-node
+returns-clause-node c = λ xs held.
     let top : c.layers.level ≡ 33 = omega (arith, c.layers-test.false, c.layers.auto.level-end) in
     let few : length xs + 1 < 2 ^ c.layers.level = subst (λ l. length xs + 1 < 2 ^ l) (sym top) (omega (arith, held.count_is, c.requires)) in
     absurd (not_all_odd xs c.args.leaf c.layers.level c.layers.width c.layers.node few (c.layers.invariant.carries xs held))

@@ -10,9 +10,9 @@ returns-clause-content c = λ file at.
     (c.finalize_reset-leaf.ensures.digest (drop (16384 * c.args.self.now.peaks.count) file) at.rest_held)
     (c.push.ensures.leaves (block_hashes file c.args.self.now.peaks.count) at.leaves_held)
 
-pub returns-clause-completed : goal.returns-clause-completed
-returns-clause-completed c = λ file at.
+pub returns-clause-node : goal.returns-clause-node
+returns-clause-node c = λ file at.
     ap (climb c.args.layer) (closed_hashes file c.args.self.now.peaks.count c.push.new.self.count c.finalize_reset-leaf.result c.push.ensures.count
     (omega (arith, at.length_is, c.requires))
     (c.finalize_reset-leaf.ensures.digest (drop (16384 * c.args.self.now.peaks.count) file) at.rest_held))
-    ∙ c.push.ensures.completed (block_hashes file c.args.self.now.peaks.count) at.leaves_held
+    ∙ c.push.ensures.node (block_hashes file c.args.self.now.peaks.count) at.leaves_held

@@ -11,11 +11,12 @@ returns-then-layer-height-clause-tree c = λ file fed.
     let last = c.finalize-last.result in
     let h = c.height-height.result in
     let xs = block_hashes file c.args.self.peaks.count in
-    let shape : c.unwrap.result ≡ 16384 * c.args.self.peaks.count + c.args.self.filled = search rules in
+    let shape : c.unwrap.result ≡ 16384 * c.args.self.peaks.count + c.args.self.filled =
+    let of : c.unwrap.result ≡ c.len-length.result = search rules in of ∙ c.len-length.ensures in
     let fin : Finishing c.args.self file c.finalize-last.result c.height-height.result =
     finishing b file last h c.requires fed b.in_block (c.height-height.ensures.value ∙ ap (λ k. height (block_count k)) shape)
     (c.finalize-last.ensures (drop (16384 * b.peaks.count) file) fed.at.rest_held) in
-    (fed.at.length_is, finished_root b file last h c.last_node-root.result fin (c.last_node-root.ensures.root xs fed.at.leaves_held fin.fits))
+    (c.len-length.ensures ∙ fed.at.length_is, finished_root b file last h c.last_node-root.result fin (c.last_node-root.ensures.root xs fed.at.leaves_held fin.fits))
 
 pub returns-else-layer-height-clause-tree : goal.returns-else-layer-height-clause-tree
 returns-else-layer-height-clause-tree c = λ file fed.
@@ -23,11 +24,12 @@ returns-else-layer-height-clause-tree c = λ file fed.
     let last = c.finalize-last.result in
     let h = c.height-height.result in
     let xs = block_hashes file c.args.self.peaks.count in
-    let shape : c.unwrap.result ≡ 16384 * c.args.self.peaks.count + c.args.self.filled = search rules in
+    let shape : c.unwrap.result ≡ 16384 * c.args.self.peaks.count + c.args.self.filled =
+    let of : c.unwrap.result ≡ c.len-length.result = search rules in of ∙ c.len-length.ensures in
     let fin : Finishing c.args.self file c.finalize-last.result c.height-height.result =
     finishing b file last h c.requires fed b.in_block (c.height-height.ensures.value ∙ ap (λ k. height (block_count k)) shape)
     (c.finalize-last.ensures (drop (16384 * b.peaks.count) file) fed.at.rest_held) in
-    (fed.at.length_is, finished_root b file last h c.last_node-root.result fin (c.last_node-root.ensures.root xs fed.at.leaves_held fin.fits))
+    (c.len-length.ensures ∙ fed.at.length_is, finished_root b file last h c.last_node-root.result fin (c.last_node-root.ensures.root xs fed.at.leaves_held fin.fits))
 
 pub returns-then-layer-height-clause-nodes : goal.returns-then-layer-height-clause-nodes
 returns-then-layer-height-clause-nodes c = λ file fed.
@@ -35,7 +37,8 @@ returns-then-layer-height-clause-nodes c = λ file fed.
     let last = c.finalize-last.result in
     let h = c.height-height.result in
     let xs = block_hashes file c.args.self.peaks.count in
-    let shape : c.unwrap.result ≡ 16384 * c.args.self.peaks.count + c.args.self.filled = search rules in
+    let shape : c.unwrap.result ≡ 16384 * c.args.self.peaks.count + c.args.self.filled =
+    let of : c.unwrap.result ≡ c.len-length.result = search rules in of ∙ c.len-length.ensures in
     let fin : Finishing c.args.self file c.finalize-last.result c.height-height.result =
     finishing b file last h c.requires fed b.in_block (c.height-height.ensures.value ∙ ap (λ k. height (block_count k)) shape)
     (c.finalize-last.ensures (drop (16384 * b.peaks.count) file) fed.at.rest_held) in
@@ -49,7 +52,8 @@ returns-else-layer-height-clause-nodes c = λ file fed.
     let last = c.finalize-last.result in
     let h = c.height-height.result in
     let xs = block_hashes file c.args.self.peaks.count in
-    let shape : c.unwrap.result ≡ 16384 * c.args.self.peaks.count + c.args.self.filled = search rules in
+    let shape : c.unwrap.result ≡ 16384 * c.args.self.peaks.count + c.args.self.filled =
+    let of : c.unwrap.result ≡ c.len-length.result = search rules in of ∙ c.len-length.ensures in
     let fin : Finishing c.args.self file c.finalize-last.result c.height-height.result =
     finishing b file last h c.requires fed b.in_block (c.height-height.ensures.value ∙ ap (λ k. height (block_count k)) shape)
     (c.finalize-last.ensures (drop (16384 * b.peaks.count) file) fed.at.rest_held) in

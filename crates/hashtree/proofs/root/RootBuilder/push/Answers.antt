@@ -1,6 +1,6 @@
 use Rattle.std.proofs.Common.{arith, take, ap, length, subst, ◌++◌}
 use Rattle.std.proofs.lemmas.List.{take_rest, length-drop}
-use Rattle.hashtree.specs.Climb.{IsFed}
+use Rattle.hashtree.specs.RootBuilder.{IsFed}
 use Rattle.hashtree.proofs.Feeding.{next_part}
 use Rattle.hashtree.proofs.root.RootBuilder.push.Goals as goal
 

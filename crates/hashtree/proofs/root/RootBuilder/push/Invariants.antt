@@ -1,5 +1,5 @@
 use Rattle.std.proofs.Common.{◌≡◌, ◌≤◌, ◌-◌, ◌+◌, ◌++◌, ℕ, List, length, take}
-use Rattle.hashtree.specs.Climb.{IsFed, byte_count}
+use Rattle.hashtree.specs.RootBuilder.{IsFed, byte_count}
 use Rattle.hashtree.proofs.root.RootBuilder.push.Given as goal
 
 abbrev pub invariant-parts : goal.invariant-parts

@@ -1,6 +1,8 @@
 use Rattle.std.proofs.Common.{arith, rules, ap, ◌∙◌, ◌++◌, refl, drop, take, ◌*◌, ◌≡◌, ◌<◌, sym, subst, length}
 use Rattle.std.proofs.lemmas.List.{append-nil, length-take}
-use Rattle.hashtree.specs.Climb.{IsAt, climb, complete_nodes, some_of}
+use Rattle.hashtree.specs.RootBuilder.{IsAt, complete_nodes}
+use Rattle.std.specs.Option.{option_to_list}
+use Rattle.hashtree.specs.Climb.{climb}
 use Rattle.hashtree.proofs.Feeding.{fed_more}
 use Rattle.hashtree.proofs.Blocks.{block_hashes_append}
 use Rattle.hashtree.proofs.root.RootBuilder.take_part.Goals as goal
@@ -17,8 +19,8 @@ returns-clause-content c = λ file fed.
     fed_more c.if-self-eq-BLOCK.self _ file (take c.min-taken.result c.args.bytes.now) at (omega arith) (omega arith) refl
     (c.update.ensures (drop (16384 * c.if-self-eq-BLOCK.self.peaks.count) file) at.rest_held)
 
-pub returns-clause-completed : goal.returns-clause-completed
-returns-clause-completed c = λ file fed.
+pub returns-clause-node : goal.returns-clause-node
+returns-clause-node c = λ file fed.
     let mid = c.if-self-eq-BLOCK.self in
     let layer = c.args.layer in
     let at : IsAt c.if-self-eq-BLOCK.self file = elim c.if-self-eq-BLOCK.branch [
@@ -29,10 +31,10 @@ returns-clause-completed c = λ file fed.
     ∙ elim c.if-self-eq-BLOCK.branch [
       | then-self-eq-BLOCK w ↦
           ap (λ s. complete_nodes s file layer) w.self-is
-          ∙ w.close_block-completed.ensures.completed file fed.at
-          ∙ ap (λ o. complete_nodes c.args.self.now file layer ++ some_of o) (sym w.completed-is)
+          ∙ w.close_block-completed.ensures.node file fed.at
+          ∙ ap (λ o. complete_nodes c.args.self.now file layer ++ option_to_list o) (sym w.completed-is)
       | else-self-eq-BLOCK w ↦
           ap (λ s. complete_nodes s file layer) w.self-is
           ∙ sym (append-nil (complete_nodes c.args.self.now file layer))
-          ∙ ap (λ o. complete_nodes c.args.self.now file layer ++ some_of o) (sym w.completed-is)
+          ∙ ap (λ o. complete_nodes c.args.self.now file layer ++ option_to_list o) (sym w.completed-is)
     ]

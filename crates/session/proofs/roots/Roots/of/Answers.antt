@@ -1,6 +1,6 @@
 use Rattle.std.proofs.Common.{◌≤◌, map, length, arith}
 use Rattle.std.proofs.lemmas.List.{length-map}
-use Rattle.metainfo.specs.declared.torrent.TreeInfo.{TreeInfo}
+use Rattle.metainfo.specs.TreeInfo.{TreeInfo}
 use Rattle.session.specs.Roots.{number_of}
 use Rattle.session.proofs.Numbering.{number_more, numbered_all, root_of_info}
 use Rattle.session.proofs.roots.Roots.of.Goals as goal

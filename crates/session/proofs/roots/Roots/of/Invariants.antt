@@ -1,5 +1,5 @@
 use Rattle.std.proofs.Common.{map}
-use Rattle.metainfo.specs.declared.torrent.TreeInfo.{TreeInfo}
+use Rattle.metainfo.specs.TreeInfo.{TreeInfo}
 use Rattle.session.specs.Roots.{number_of}
 use Rattle.session.proofs.Numbering.{AreNumberedBelow}
 use Rattle.session.proofs.roots.Roots.of.Given as goal

@@ -1,13 +1,13 @@
 use Rattle.std.proofs.Common.{◌≡◌, ◌≢◌, ℕ, ◌<◌, List, [], length, Some, sym, ◌∙◌, subst, arith}
 use Rattle.std.specs.Prelude.{slice_get}
 use Rattle.std.proofs.lemmas.Bool.{false≢true}
-use Rattle.session.specs.declared.refusal.HashRefusal.TheVariants.{UnknownRoot}
-use Rattle.session.specs.TreeRoot.{tree_height}
-use Rattle.session.specs.Known.{look}
-use Rattle.session.specs.Claims.{CanAnswer}
-use Rattle.session.specs.Kept.{KeptTree}
+use Rattle.partial_tree.specs.declared.refusal.HashRefusal.TheVariants.{UnknownRoot}
+use Rattle.node_maps.specs.Places.{tree_height}
+use Rattle.node_maps.specs.Known.{look}
+use Rattle.partial_tree.specs.Claims.{CanAnswer}
+use Rattle.partial_tree.specs.Kept.{KeptTree}
 use Rattle.session.specs.Session.{IsHashRefused, IsAnswered}
-use Rattle.session.specs.Layouts.{KeptSession, layout_of}
+use Rattle.session.specs.Layouts.{SessionSeen}
 use Rattle.session.proofs.Numbering.{some_number, no_number}
 use Rattle.session.proofs.Sessions.{found_at, unknown_in, asked_in, answered_in}
 use Rattle.session.proofs.session.Session.can_answer.Goals as goal
@@ -23,8 +23,8 @@ returns-in-None g c =
     let ts : List KeptTree = c.self.inside.trees.items in
     let none : (n : ℕ) (k : KeptTree) → slice_get ts n ≡ Some k → k.root ≢ c.args.ask.now.root =
     no_number c.self.inside.torrent.now ts c.self.invariant.0 c.self.inside.roots c.self.invariant.1 c.args.ask.now.root (sym c.number.ensures ∙ c.in-None.is) in
-    let unknown : IsHashRefused (layout_of c.args.self.now.torrent) c.args.self.now.state c.args.ask.now [] UnknownRoot =
-    subst (λ (v : KeptSession). IsHashRefused (layout_of v.torrent) v.state c.args.ask.now [] UnknownRoot) c.self.view_is
+    let unknown : IsHashRefused c.args.self.now c.args.ask.now [] UnknownRoot =
+    subst (λ (v : SessionSeen). IsHashRefused v c.args.ask.now [] UnknownRoot) c.self.view_is
     (unknown_in c.self.inside.torrent.now ts c.self.invariant.0 c.args.ask.now [] none) in (
       λ e. absurd (false≢true e),
       λ answered. absurd (unknown answered.0.number answered.0.tree answered.0.is_tree.tree_is answered.0.has_root),
@@ -38,11 +38,11 @@ returns-in-Some g c =
     let inside : n < length ts = (some_number c.self.inside.torrent.now ts c.self.invariant.0 c.self.inside.roots c.self.invariant.1 c.args.ask.now.root n (sym c.number.ensures ∙ c.in-Some.is)).0 in
     let at : slice_get ts n ≡ Some a = found_at ts n a inside c.index.ensures in
     let root : a.root ≡ c.args.ask.now.root = (some_number c.self.inside.torrent.now ts c.self.invariant.0 c.self.inside.roots c.self.invariant.1 c.args.ask.now.root n (sym c.number.ensures ∙ c.in-Some.is)).1 a at in
-    let back : IsAnswered (layout_of c.args.self.now.torrent) c.args.self.now.state c.args.ask.now → CanAnswer (tree_height a.length) (look a.state.known) c.args.ask.now =
-    subst (λ (v : KeptSession). IsAnswered (layout_of v.torrent) v.state c.args.ask.now → CanAnswer (tree_height a.length) (look a.state.known) c.args.ask.now) c.self.view_is
+    let back : IsAnswered c.args.self.now c.args.ask.now → CanAnswer (tree_height a.length) (look a.state.known) c.args.ask.now =
+    subst (λ (v : SessionSeen). IsAnswered v c.args.ask.now → CanAnswer (tree_height a.length) (look a.state.known) c.args.ask.now) c.self.view_is
     (answered_in c.self.inside.torrent.now ts c.self.invariant.0 c.sound.ensures n a c.args.ask.now at root) in
-    let forth : CanAnswer (tree_height a.length) (look a.state.known) c.args.ask.now → IsAnswered (layout_of c.args.self.now.torrent) c.args.self.now.state c.args.ask.now =
-    subst (λ (v : KeptSession). CanAnswer (tree_height a.length) (look a.state.known) c.args.ask.now → IsAnswered (layout_of v.torrent) v.state c.args.ask.now) c.self.view_is
+    let forth : CanAnswer (tree_height a.length) (look a.state.known) c.args.ask.now → IsAnswered c.args.self.now c.args.ask.now =
+    subst (λ (v : SessionSeen). CanAnswer (tree_height a.length) (look a.state.known) c.args.ask.now → IsAnswered v c.args.ask.now) c.self.view_is
     (asked_in c.self.inside.torrent.now ts c.self.invariant.0 n a c.args.ask.now at root) in (
       λ e. forth (c.can_answer.ensures.0 e),
       λ answered. c.can_answer.ensures.1 (back answered),

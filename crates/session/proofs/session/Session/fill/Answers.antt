@@ -1,9 +1,10 @@
-use Rattle.std.proofs.Common.{◌≡◌, ◌<◌, List, length, map, set, Some, IfOk, IfErr, sym, subst}
+use Rattle.std.proofs.Common.{◌≡◌, ◌<◌, List, length, set, Some, IfOk, IfErr, sym, subst}
 use Rattle.std.specs.Prelude.{slice_get}
 use Rattle.metainfo.specs.Description.{Description}
-use Rattle.session.specs.Kept.{KeptTree}
-use Rattle.session.specs.Layouts.{KeptSession, layout_of, state_of, IsFilled, IsFillRefused}
-use Rattle.session.proofs.Keeping.{good_after_fill}
+use Rattle.partial_tree.specs.Kept.{KeptTree}
+use Rattle.session.specs.Layouts.{SessionSeen, seen}
+use Rattle.session.specs.Session.{IsFilled, IsFillRefused}
+use Rattle.partial_tree.proofs.Keeping.{good_after_fill}
 use Rattle.session.proofs.Sessions.{found_at, good_at, kept-after, filled_all, fill_refused_all, inside_kept}
 use Rattle.session.proofs.session.Session.fill.Goals as goal
 
@@ -12,7 +13,7 @@ fill-requires g c =
     let d : Description = c.self.inside.torrent.now in
     let ts : List KeptTree = c.self.inside.trees.items in
     let a : KeptTree = c.index_mut.result.now in
-    let low : c.args.tree < length d.trees = subst (λ (v : KeptSession). c.args.tree < length v.torrent.trees) (sym c.self.view_is) c.requires in
+    let low : c.args.tree < length d.trees = subst (λ (v : SessionSeen). c.args.tree < length v.torrent.trees) (sym c.self.view_is) c.requires in
     let at : slice_get ts c.args.tree ≡ Some a = found_at ts c.args.tree a (inside_kept d ts c.self.invariant.0 c.args.tree low) c.index_mut.ensures.value in
     good_at d ts c.self.invariant.0 c.args.tree a at
 
@@ -21,7 +22,7 @@ invariant_of-self g c =
     let d : Description = c.self.inside.torrent.now in
     let ts : List KeptTree = c.self.inside.trees.items in
     let a : KeptTree = c.index_mut.result.now in
-    let low : c.args.tree < length d.trees = subst (λ (v : KeptSession). c.args.tree < length v.torrent.trees) (sym c.self.view_is) c.requires in
+    let low : c.args.tree < length d.trees = subst (λ (v : SessionSeen). c.args.tree < length v.torrent.trees) (sym c.self.view_is) c.requires in
     let at : slice_get ts c.args.tree ≡ Some a = found_at ts c.args.tree a (inside_kept d ts c.self.invariant.0 c.args.tree low) c.index_mut.ensures.value in
     let b : KeptTree = c.fill.new.self in (
       kept-after d ts c.self.invariant.0 c.args.tree a b at c.fill.ensures.root c.fill.ensures.length
@@ -34,9 +35,9 @@ returns-clause-filled g c =
     let d : Description = c.self.inside.torrent.now in
     let ts : List KeptTree = c.self.inside.trees.items in
     let a : KeptTree = c.index_mut.result.now in
-    let low : c.args.tree < length d.trees = subst (λ (v : KeptSession). c.args.tree < length v.torrent.trees) (sym c.self.view_is) c.requires in
+    let low : c.args.tree < length d.trees = subst (λ (v : SessionSeen). c.args.tree < length v.torrent.trees) (sym c.self.view_is) c.requires in
     let at : slice_get ts c.args.tree ≡ Some a = found_at ts c.args.tree a (inside_kept d ts c.self.invariant.0 c.args.tree low) c.index_mut.ensures.value in
-    subst (λ (v : KeptSession). IfOk c.fill.result (λ n. IsFilled (layout_of v.torrent) v.state c.args.tree c.args.layer c.args.hashes.now n (map state_of (set ts c.args.tree c.fill.new.self)))) c.self.view_is
+    subst (λ (v : SessionSeen). IfOk c.fill.result (λ n. IsFilled v c.args.tree c.args.layer c.args.hashes.now n (seen d (set ts c.args.tree c.fill.new.self)))) c.self.view_is
     (filled_all d ts c.self.invariant.0 c.args.tree a c.fill.new.self c.args.layer c.args.hashes.now c.fill.result at c.fill.ensures.marked c.fill.ensures.filled)
 
 pub returns-clause-refused : goal.returns-clause-refused
@@ -44,7 +45,7 @@ returns-clause-refused g c =
     let d : Description = c.self.inside.torrent.now in
     let ts : List KeptTree = c.self.inside.trees.items in
     let a : KeptTree = c.index_mut.result.now in
-    let low : c.args.tree < length d.trees = subst (λ (v : KeptSession). c.args.tree < length v.torrent.trees) (sym c.self.view_is) c.requires in
+    let low : c.args.tree < length d.trees = subst (λ (v : SessionSeen). c.args.tree < length v.torrent.trees) (sym c.self.view_is) c.requires in
     let at : slice_get ts c.args.tree ≡ Some a = found_at ts c.args.tree a (inside_kept d ts c.self.invariant.0 c.args.tree low) c.index_mut.ensures.value in
-    subst (λ (v : KeptSession). IfErr c.fill.result (λ r. IsFillRefused (layout_of v.torrent) v.state c.args.tree c.args.layer c.args.hashes.now r × (map state_of (set ts c.args.tree c.fill.new.self) ≡ v.state))) c.self.view_is
+    subst (λ (v : SessionSeen). IfErr c.fill.result (λ r. IsFillRefused v c.args.tree c.args.layer c.args.hashes.now r × (seen d (set ts c.args.tree c.fill.new.self) ≡ v))) c.self.view_is
     (fill_refused_all d ts c.self.invariant.0 c.args.tree a c.fill.new.self c.args.layer c.args.hashes.now c.fill.result at c.fill.ensures.marked c.fill.ensures.refused)

@@ -1,8 +1,8 @@
 use Rattle.std.proofs.Common.{◌≡◌, ◌<◌, List, length, Some, sym, subst}
 use Rattle.std.specs.Prelude.{slice_get}
 use Rattle.metainfo.specs.Description.{Description}
-use Rattle.session.specs.Kept.{KeptTree}
-use Rattle.session.specs.Layouts.{KeptSession}
+use Rattle.partial_tree.specs.Kept.{KeptTree}
+use Rattle.session.specs.Layouts.{SessionSeen}
 use Rattle.session.proofs.Sessions.{state_there}
 use Rattle.session.proofs.session.Session.marked.Goals as goal
 
@@ -11,6 +11,6 @@ returns g c =
     let d : Description = c.self.inside.torrent.now in
     let ts : List KeptTree = c.self.inside.trees.items in
     let a : KeptTree = c.index.result.now in
-    let low : c.args.tree < length d.trees = subst (λ (v : KeptSession). c.args.tree < length v.torrent.trees) (sym c.self.view_is) c.requires in
+    let low : c.args.tree < length d.trees = subst (λ (v : SessionSeen). c.args.tree < length v.torrent.trees) (sym c.self.view_is) c.requires in
     let state = state_there d ts c.self.invariant.0 c.args.tree a low c.index.ensures in
-    (a.state, subst (λ (v : KeptSession). slice_get v.state c.args.tree ≡ Some a.state) c.self.view_is state, c.marked.ensures)
+    (a.state, subst (λ (v : SessionSeen). slice_get v.trees c.args.tree ≡ Some a.state) c.self.view_is state, c.marked.ensures)

@@ -1,6 +1,6 @@
 use Rattle.std.proofs.Common.{◌≡◌, ◌≤◌, length, map, take, vec_len, vec_capacity}
 use Rattle.metainfo.specs.Seen.{tree_entry}
-use Rattle.session.specs.Kept.{info_of}
+use Rattle.partial_tree.specs.Kept.{info_of}
 use Rattle.session.specs.Layouts.{root_of_entry}
 use Rattle.session.proofs.FirstTrees.{ArePlanted}
 use Rattle.session.proofs.session.Session.new.Given as goal

@@ -1,13 +1,15 @@
 use Rattle.std.proofs.Common.{◌≡◌, ◌≤◌, length, take, vec_len, vec_capacity}
-use Rattle.session.specs.SafeStep.{IsSafeRun}
-use Rattle.session.specs.Layouts.{layout_of}
+use Rattle.std.specs.List.{All}
+use Rattle.session.specs.Session.{HasHashes}
+use Rattle.session.specs.Chain.{Chain}
+use Rattle.session.specs.SafeStep.{IsSafeStep}
 use Rattle.session.proofs.session.Session.run.Given as goal
 
--- the messages so far are a run that does no harm, from the session that the call began with, and the rest has room
+-- the messages so far are a run that does no harm, and the verdicts of the rest have room
 abbrev pub invariant-messages : goal.invariant-messages
 invariant-messages g l = record {
-  torrent : l.self.torrent ≡ l.fn.self.torrent;
-  run : IsSafeRun (layout_of l.fn.self.torrent) l.fn.self.state (take l.message-index l.messages) l.verdicts.items l.self.state;
+  run : Chain IsSafeStep l.fn.self (take l.message-index l.messages) l.verdicts.items l.self;
+  hashes : All HasHashes (take l.message-index l.messages);
   told : vec_len l.verdicts ≡ l.message-index;
   room : length l.messages ≤ vec_capacity l.verdicts;
 }

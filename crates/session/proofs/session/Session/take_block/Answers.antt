@@ -1,104 +1,17 @@
-use Rattle.std.proofs.Common.{◌≡◌, ℕ, List, map, set, Some, Result, Err, IfErr, sym, ap, ◌∙◌, subst}
-use Rattle.std.specs.Prelude.{slice_get}
-use Rattle.std.proofs.lemmas.Option.{slice_get_within}
-use Rattle.std.proofs.lemmas.Result.{err_from_is_err_and}
-use Rattle.metainfo.specs.Description.{Description}
-use Rattle.metainfo.specs.Places.{IsPlace, place_of}
-use Rattle.session.specs.declared.refusal.BlockRefusal.{BlockRefusal}
-use Rattle.session.specs.Kept.{KeptTree}
-use Rattle.session.specs.Session.{IsVerified, IsBlockRefused}
-use Rattle.session.specs.Layouts.{KeptSession, layout_of, state_of}
-use Rattle.session.proofs.Keeping.{good_marked, good_same}
-use Rattle.session.proofs.Sessions.{found_at, good_at, kept-after, tree_for, block_inside, verified_in, block_refused_in, state_stays}
+use Rattle.session.proofs.SafeSteps.{block-is, block-keeps, block-taken}
 use Rattle.session.proofs.session.Session.take_block.Goals as goal
 
-pub take_block-requires-clause-good : goal.take_block-requires-clause-good
-take_block-requires-clause-good g c =
-    let d : Description = c.self.inside.torrent.now in
-    let ts : List KeptTree = c.self.inside.trees.items in
-    let a : KeptTree = c.index_mut.result.now in
-    let tr : ℕ = c.in-Some-tree_of.tree in
-    let p : IsPlace d c.args.index c.args.begin c.in-Some.file c.in-Some.number = c.in-Some.ensures.found in
-    let is : p.file.tree ≡ Some tr = sym (c.tree_of.ensures p.file p.there) ∙ c.in-Some-tree_of.is in
-    let x = tree_for d ts c.self.invariant.0 c.sound.ensures c.in-Some.file tr p.file p.there is in
-    let e : slice_get ts tr ≡ Some a = found_at ts tr a (slice_get_within ts tr x.0 x.1) c.index_mut.ensures.value in
-    good_at d ts c.self.invariant.0 tr a e
+pub returns-clause-verified_is_the_block : goal.returns-clause-verified_is_the_block
+returns-clause-verified_is_the_block g c =
+    block-is c.args.self.now c.good.ensures c.args.index c.args.begin c.args.block c.mark_block.result c.mark_block.new.self
+    c.mark_block.ensures.verified
 
-pub take_block-requires-clause-inside : goal.take_block-requires-clause-inside
-take_block-requires-clause-inside g c =
-    let d : Description = c.self.inside.torrent.now in
-    let ts : List KeptTree = c.self.inside.trees.items in
-    let a : KeptTree = c.index_mut.result.now in
-    let tr : ℕ = c.in-Some-tree_of.tree in
-    let p : IsPlace d c.args.index c.args.begin c.in-Some.file c.in-Some.number = c.in-Some.ensures.found in
-    let is : p.file.tree ≡ Some tr = sym (c.tree_of.ensures p.file p.there) ∙ c.in-Some-tree_of.is in
-    let x = tree_for d ts c.self.invariant.0 c.sound.ensures c.in-Some.file tr p.file p.there is in
-    let e : slice_get ts tr ≡ Some a = found_at ts tr a (slice_get_within ts tr x.0 x.1) c.index_mut.ensures.value in
-    block_inside d ts c.self.invariant.0 c.sound.ensures c.args.index c.args.begin c.in-Some.file c.in-Some.number tr p a is e
+pub returns-clause-keeps_known : goal.returns-clause-keeps_known
+returns-clause-keeps_known g c =
+    block-keeps c.args.self.now c.args.index c.args.begin c.args.block c.mark_block.result c.mark_block.new.self
+    c.mark_block.ensures.verified c.mark_block.ensures.refused
 
-pub invariant_of-self : goal.invariant_of-self
-invariant_of-self g c =
-    let d : Description = c.self.inside.torrent.now in
-    let ts : List KeptTree = c.self.inside.trees.items in
-    let a : KeptTree = c.index_mut.result.now in
-    let tr : ℕ = c.in-Some-tree_of.tree in
-    let p : IsPlace d c.args.index c.args.begin c.in-Some.file c.in-Some.number = c.in-Some.ensures.found in
-    let is : p.file.tree ≡ Some tr = sym (c.tree_of.ensures p.file p.there) ∙ c.in-Some-tree_of.is in
-    let x = tree_for d ts c.self.invariant.0 c.sound.ensures c.in-Some.file tr p.file p.there is in
-    let e : slice_get ts tr ≡ Some a = found_at ts tr a (slice_get_within ts tr x.0 x.1) c.index_mut.ensures.value in
-    let b : KeptTree = c.take_block.new.self in (
-      kept-after d ts c.self.invariant.0 tr a b e c.take_block.ensures.root c.take_block.ensures.length
-          (good_same a b c.take_block.ensures.root c.take_block.ensures.length c.take_block.ensures.known c.in_err-take_block.ensures.refused.1 (good_at d ts c.self.invariant.0 tr a e)),
-      c.self.invariant.1,
-    )
-
-pub returns-in_err-take_block-clause-refused : goal.returns-in_err-take_block-clause-refused
-returns-in_err-take_block-clause-refused g c =
-    let d : Description = c.self.inside.torrent.now in
-    let ts : List KeptTree = c.self.inside.trees.items in
-    let a : KeptTree = c.index_mut.result.now in
-    let tr : ℕ = c.in-Some-tree_of.tree in
-    let p : IsPlace d c.args.index c.args.begin c.in-Some.file c.in-Some.number = c.in-Some.ensures.found in
-    let is : p.file.tree ≡ Some tr = sym (c.tree_of.ensures p.file p.there) ∙ c.in-Some-tree_of.is in
-    let x = tree_for d ts c.self.invariant.0 c.sound.ensures c.in-Some.file tr p.file p.there is in
-    let e : slice_get ts tr ≡ Some a = found_at ts tr a (slice_get_within ts tr x.0 x.1) c.index_mut.ensures.value in
-    let at : place_of d c.args.index c.args.begin ≡ Some (c.in-Some.file, c.in-Some.number) = sym c.place.ensures.value ∙ c.in-Some.is in
-    let b : KeptTree = c.take_block.new.self in
-    let left = err_from_is_err_and c.from_residual.result c.from_residual.ensures.1 in
-    subst (λ (r : Result (ℕ × ℕ) BlockRefusal). IfErr r (λ x. IsBlockRefused (layout_of c.args.self.now.torrent) c.args.self.now.state c.args.index c.args.begin c.args.block.now x × (map state_of (set ts tr b) ≡ c.args.self.now.state)))
-    (sym (left.1 ∙ ap Err left.2))
-    (subst (λ (v : KeptSession). IsBlockRefused (layout_of v.torrent) v.state c.args.index c.args.begin c.args.block.now c.in_err-take_block.field-0.0 × (map state_of (set ts tr b) ≡ v.state)) c.self.view_is (
-      block_refused_in d ts c.self.invariant.0 c.args.index c.args.begin c.in-Some.file c.in-Some.number tr p.file a p.there is at e (block_inside d ts c.self.invariant.0 c.sound.ensures c.args.index c.args.begin c.in-Some.file c.in-Some.number tr p a is e) c.args.block.now c.in_err-take_block.field-0.0 c.in_err-take_block.ensures.refused.0,
-      state_stays ts tr a b e c.take_block.ensures.known c.in_err-take_block.ensures.refused.1,
-    ))
-
-pub invariant_of-self-2 : goal.invariant_of-self-2
-invariant_of-self-2 g c =
-    let d : Description = c.self.inside.torrent.now in
-    let ts : List KeptTree = c.self.inside.trees.items in
-    let a : KeptTree = c.index_mut.result.now in
-    let tr : ℕ = c.in-Some-tree_of.tree in
-    let p : IsPlace d c.args.index c.args.begin c.in-Some.file c.in-Some.number = c.in-Some.ensures.found in
-    let is : p.file.tree ≡ Some tr = sym (c.tree_of.ensures p.file p.there) ∙ c.in-Some-tree_of.is in
-    let x = tree_for d ts c.self.invariant.0 c.sound.ensures c.in-Some.file tr p.file p.there is in
-    let e : slice_get ts tr ≡ Some a = found_at ts tr a (slice_get_within ts tr x.0 x.1) c.index_mut.ensures.value in
-    let b : KeptTree = c.take_block.new.self in (
-      kept-after d ts c.self.invariant.0 tr a b e c.take_block.ensures.root c.take_block.ensures.length
-          (good_marked a b c.in-Some.number c.args.block.now (good_at d ts c.self.invariant.0 tr a e) c.take_block.ensures.root c.take_block.ensures.length c.take_block.ensures.known c.in_ok-take_block.ensures.taken),
-      c.self.invariant.1,
-    )
-
-pub returns-clause-verified : goal.returns-clause-verified
-returns-clause-verified g c =
-    let d : Description = c.self.inside.torrent.now in
-    let ts : List KeptTree = c.self.inside.trees.items in
-    let a : KeptTree = c.index_mut.result.now in
-    let tr : ℕ = c.in-Some-tree_of.tree in
-    let p : IsPlace d c.args.index c.args.begin c.in-Some.file c.in-Some.number = c.in-Some.ensures.found in
-    let is : p.file.tree ≡ Some tr = sym (c.tree_of.ensures p.file p.there) ∙ c.in-Some-tree_of.is in
-    let x = tree_for d ts c.self.invariant.0 c.sound.ensures c.in-Some.file tr p.file p.there is in
-    let e : slice_get ts tr ≡ Some a = found_at ts tr a (slice_get_within ts tr x.0 x.1) c.index_mut.ensures.value in
-    let at : place_of d c.args.index c.args.begin ≡ Some (c.in-Some.file, c.in-Some.number) = sym c.place.ensures.value ∙ c.in-Some.is in
-    let b : KeptTree = c.take_block.new.self in
-    subst (λ (v : KeptSession). IsVerified (layout_of v.torrent) v.state c.args.index c.args.begin c.args.block.now c.in-Some.file c.in-Some.number (map state_of (set ts tr b))) c.self.view_is
-    (verified_in d ts c.self.invariant.0 c.args.index c.args.begin c.in-Some.file c.in-Some.number tr p.file a p.there is at e (block_inside d ts c.self.invariant.0 c.sound.ensures c.args.index c.args.begin c.in-Some.file c.in-Some.number tr p a is e) b c.args.block.now c.take_block.ensures.known c.in_ok-take_block.ensures.taken)
+pub returns-clause-verifies_true_block : goal.returns-clause-verifies_true_block
+returns-clause-verifies_true_block g c =
+    block-taken c.args.self.now c.good.ensures c.args.index c.args.begin c.args.block.now c.mark_block.result c.mark_block.new.self
+    c.mark_block.ensures.verified c.mark_block.ensures.refused

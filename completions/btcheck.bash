@@ -1,0 +1,54 @@
+# Completion of btcheck for bash.
+
+# Sets `options` to what a command takes, and `kinds` to what its arguments are, in order.
+_btcheck_command() {
+    options='-h --help'
+    case $1 in
+        root) kinds=(file) ;;
+        show) kinds=(torrent) ;;
+        check) kinds=(torrent folder) ;;
+        replay) options+=' --info-only' kinds=(torrent file) ;;
+        help) options='' kinds=(command) ;;
+        *) options='' kinds=() ;;
+    esac
+}
+
+# Sets COMPREPLY to what an argument of this kind can be, of those that begin with the text.
+_btcheck_argument() {
+    local text=$2
+    case $1 in
+        command) mapfile -t COMPREPLY < <(compgen -W 'root show check replay help' -- "$text") ;;
+        folder) mapfile -t COMPREPLY < <(compgen -d -- "$text") ;;
+        file) mapfile -t COMPREPLY < <(compgen -f -- "$text") ;;
+        torrent)
+            mapfile -t COMPREPLY < <(compgen -f -X '!*.torrent' -- "$text"; compgen -d -- "$text")
+            [ ${#COMPREPLY[@]} -gt 0 ] || mapfile -t COMPREPLY < <(compgen -f -- "$text")
+            ;;
+    esac
+    [ "$1" = command ] || compopt -o filenames 2>/dev/null
+}
+
+_btcheck() {
+    local text=${COMP_WORDS[COMP_CWORD]} command='' count=0 ended='' word at options kinds
+    COMPREPLY=()
+    for ((at = 1; at < COMP_CWORD; at++)); do
+        word=${COMP_WORDS[at]}
+        if [ -z "$ended" ] && [ "$word" = -- ]; then
+            ended=yes
+        elif [ -n "$ended" ] || [[ $word != -* ]]; then
+            if [ -z "$command" ]; then command=$word; else ((count += 1)); fi
+        fi
+    done
+    if [ -z "$command" ]; then
+        options='-h --help -V --version' kinds=(command)
+    else
+        _btcheck_command "$command"
+    fi
+    if [ -z "$ended" ] && [[ $text == -* ]]; then
+        mapfile -t COMPREPLY < <(compgen -W "$options" -- "$text")
+    elif [ "$count" -lt ${#kinds[@]} ]; then
+        _btcheck_argument "${kinds[count]}" "$text"
+    fi
+}
+
+complete -F _btcheck btcheck

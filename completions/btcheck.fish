@@ -1,0 +1,37 @@
+# Completion of btcheck for fish.
+
+set -l commands root show check replay help
+set -l none "not __fish_seen_subcommand_from $commands"
+
+# How many arguments stand after the command.
+function __btcheck_arguments
+    set -l words (commandline -opc)
+    set -l found (string match -v -- '-*' $words)
+    math (count $found) - 2
+end
+
+complete -c btcheck -f
+complete -c btcheck -s h -l help -d 'Print help'
+complete -c btcheck -n $none -s V -l version -d 'Print the version'
+
+complete -c btcheck -n $none -a root -d 'Print the length and the pieces root of a file'
+complete -c btcheck -n '__fish_seen_subcommand_from root' -F
+
+complete -c btcheck -n $none -a show -d 'Print what a torrent holds'
+complete -c btcheck -n '__fish_seen_subcommand_from show' -k -a '(__fish_complete_suffix .torrent)'
+
+complete -c btcheck -n $none -a check -d 'Check that a folder holds the files of a torrent'
+complete -c btcheck -n '__fish_seen_subcommand_from check; and test (__btcheck_arguments) -eq 0' \
+    -k -a '(__fish_complete_suffix .torrent)'
+complete -c btcheck -n '__fish_seen_subcommand_from check; and test (__btcheck_arguments) -eq 1' \
+    -a '(__fish_complete_directories)'
+
+complete -c btcheck -n $none -a replay -d 'Check recorded messages of peers'
+complete -c btcheck -n '__fish_seen_subcommand_from replay; and test (__btcheck_arguments) -eq 0' \
+    -k -a '(__fish_complete_suffix .torrent)'
+complete -c btcheck -n '__fish_seen_subcommand_from replay; and test (__btcheck_arguments) -eq 1' -F
+complete -c btcheck -n '__fish_seen_subcommand_from replay' -l info-only -d 'Start from the roots alone'
+
+complete -c btcheck -n $none -a help -d 'Print help on a command'
+complete -c btcheck -n "__fish_seen_subcommand_from help; and test (__btcheck_arguments) -eq 0" \
+    -a "$commands"

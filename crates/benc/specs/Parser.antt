@@ -1,0 +1,133 @@
+-- Reading from left to right: the value at the front and what follows it, or the first fault and
+-- what is left from the failing item on.
+use Rattle.std.specs.Prelude.{◌≡◌, ℕ, zero, suc, ◌<◌, ◌^◌, ◌==◌, ◌⊎◌, if◌then◌else◌, List, [], ◌∷◌, ◌++◌, length, Option, Some, None, IfSome, Result, Ok, Err}
+use Rattle.std.specs.Borrow.{Bor}
+use Rattle.std.specs.Option.{option_copied}
+use Rattle.benc.specs.Lookup.{StandsUnder, span_of}
+use Rattle.benc.specs.Ascii.{dict_mark, end_mark, integer_mark, list_mark}
+use Rattle.benc.specs.Value.{Bencode, int, text, list, dict, Items, no_items, item, Pairs, no_pairs, pair}
+use Rattle.benc.specs.Spelling.{string, IsAbove, SpelledItems, SpelledPairs}
+use Rattle.benc.specs.Fails.{last_key, Reaches}
+use Rattle.benc.specs.Digits.{is_digit}
+use Rattle.benc.specs.Items.{integer_at, string_at, key_at}
+use Rattle.benc.specs.declared.fault.FaultKind.{FaultKind}
+use Rattle.benc.specs.declared.fault.FaultKind.TheVariants.{Truncated, BadStart, TooDeep}
+use Rattle.benc.specs.declared.stop.Stop.{Stop}
+use Rattle.benc.specs.declared.stop.Stop.TheVariants as stops
+
+-- a fault, and what is left from the failing item on
+abbrev pub Failed : Type 0
+Failed = FaultKind × List ℕ
+
+abbrev pub Reads : Type 0 → Type 0
+Reads A = Result (A × List ℕ) Failed
+
+infixl 10 ◌>>=◌
+abbrev pub ◌>>=◌ : {A B : Type 0} → Result A Failed → (A → Result B Failed) → Result B Failed
+(Ok x) >>= f = f x
+(Err e) >>= f = Err e
+
+-- what an item of the table gives, which began at these bytes
+abbrev pub begun_at : {A : Type 0} → List ℕ → Result A FaultKind → Result A Failed
+begun_at start (Ok x) = Ok x
+begun_at start (Err f) = Err (f, start)
+
+-- `items_at read n bytes`: items and the end mark, in at most n turns; the bytes' length is enough
+unfoldable pub items_at : (List ℕ → Reads Bencode) → ℕ → List ℕ → Reads Items
+items_at read n [] = Err (Truncated, [])
+items_at read zero (c ∷ rest) = Err (Truncated, [])
+items_at read (suc n) (c ∷ rest) =
+    if c == end_mark then Ok (no_items, rest)
+    else (read (c ∷ rest) >>= λ x. items_at read n x.1 >>= λ y. Ok (item x.0 y.0, y.1))
+
+unfoldable pub pairs_at : (List ℕ → Reads Bencode) → ℕ → Option (List ℕ) → List ℕ → Reads Pairs
+pairs_at read n before [] = Err (Truncated, [])
+pairs_at read zero before (c ∷ rest) = Err (Truncated, [])
+pairs_at read (suc n) before (c ∷ rest) =
+    if c == end_mark then Ok (no_pairs, rest)
+    else (begun_at (c ∷ rest) (key_at before (c ∷ rest)) >>= λ k. read k.1
+    >>= λ x. pairs_at read n (Some k.0) x.1 >>= λ y. Ok (pair k.0 x.0 y.0, y.1))
+
+abbrev pub value_with :
+    (List ℕ → List ℕ → Reads Items) → (List ℕ → List ℕ → Reads Pairs) → List ℕ → Reads Bencode
+value_with items pairs [] = Err (Truncated, [])
+value_with items pairs (c ∷ rest) =
+    if c == integer_mark then (begun_at (c ∷ rest) (integer_at rest) >>= λ x. Ok (int x.0, x.1))
+    else (if c == list_mark then (items (c ∷ rest) rest >>= λ x. Ok (list x.0, x.1))
+    else (if c == dict_mark then (pairs (c ∷ rest) rest >>= λ x. Ok (dict x.0, x.1))
+    else (if is_digit c
+    then (begun_at (c ∷ rest) (string_at (c ∷ rest)) >>= λ x. Ok (text x.0, x.1))
+    else Err (BadStart, c ∷ rest))))
+
+-- a value, in which at most `room` lists and dictionaries may be open at once
+unfoldable pub value_at : ℕ → List ℕ → Reads Bencode
+value_at zero = value_with (λ start rest. Err (TooDeep, start)) (λ start rest. Err (TooDeep, start))
+value_at (suc room) = value_with
+    (λ start rest. items_at (value_at room) (length rest) rest)
+    (λ start rest. pairs_at (value_at room) (length rest) None rest)
+
+-- behind the mark of a list, and behind that of a dictionary
+abbrev pub items_behind : ℕ → List ℕ → Reads Items
+items_behind room bytes = items_at (value_at room) (length bytes) bytes
+
+abbrev pub pairs_behind : ℕ → List ℕ → Reads Pairs
+pairs_behind room bytes = pairs_at (value_at room) (length bytes) None bytes
+
+-- What a function returned, seen by view, is what reading gives, unless memory ran out.
+abbrev pub Stopped : {Y : Type 0} → Stop → Result Y Failed → Type 0
+Stopped (stops.Memory rest) read = Unit {0}
+Stopped (stops.Fault f rest) read = read ≡ Err (f, rest.now)
+
+abbrev pub Gives : {X Y : Type 0} → (X → Y) → Result X Stop → Result Y Failed → Type 0
+Gives view (Ok x) read = read ≡ Ok (view x)
+Gives view (Err e) read = Stopped e read
+
+-- where memory ran out, the fact holds of what is left from there on
+abbrev pub IfMemory : Stop → (List ℕ → Type 0) → Type 0
+IfMemory (stops.Memory rest) P = P rest.now
+IfMemory (stops.Fault f rest) P = Unit {0}
+
+-- a whole item stands at the front
+abbrev pub HasItem : ℕ → List ℕ → Type 0
+HasItem room bytes =
+    (v : Bencode) × (inner rest : List ℕ) × (bytes ≡ inner ++ rest)
+    × SpelledItems room (item v no_items) inner
+
+-- a whole pair stands at the front
+abbrev pub HasPair : ℕ → List ℕ → Type 0
+HasPair room bytes =
+    (k : List ℕ) × (v : Bencode) × (inner rest : List ℕ) × (bytes ≡ inner ++ rest)
+    × SpelledPairs room None (pair k v no_pairs) inner
+
+-- behind some finished items a container is reached
+abbrev pub ReachesItem : ℕ → List ℕ → List ℕ → Type 0
+ReachesItem room bytes start =
+    (vs : Items) × (inner rest : List ℕ) × (bytes ≡ inner ++ rest)
+    × SpelledItems room vs inner × Reaches room rest start
+
+-- behind some finished pairs and a key one is reached
+abbrev pub ReachesPair : ℕ → List ℕ → List ℕ → Type 0
+ReachesPair room bytes start =
+    (ps : Pairs) × (k inner rest : List ℕ) × (bytes ≡ inner ++ (string k ++ rest))
+    × SpelledPairs room None ps inner × (length k < 10 ^ 10) × IsAbove k (last_key None ps)
+    × Reaches room rest start
+
+-- at `there` a list begins that has to grow: the one that begins at `start`, or one behind some
+-- finished items
+abbrev pub GrowsForItem : ℕ → List ℕ → List ℕ → List ℕ → Type 0
+GrowsForItem room start bytes there =
+    ((there ≡ start) × HasItem room bytes) ⊎ ReachesItem room bytes there
+
+-- at `there` a dictionary begins that has to grow
+abbrev pub GrowsForPair : ℕ → List ℕ → List ℕ → List ℕ → Type 0
+GrowsForPair room start bytes there =
+    ((there ≡ start) × HasPair room bytes) ⊎ ReachesPair room bytes there
+
+-- the bytes of the value under the key that is asked for, if one is
+abbrev pub IsSpanOf : Option (Bor (List ℕ)) → Bencode → Option (Bor (List ℕ)) → Type 0
+IsSpanOf asked v span = IfSome (option_copied asked) (λ key. option_copied span ≡ span_of key v)
+
+-- they stand in the input, behind that key
+abbrev pub StandsIn : List ℕ → Option (Bor (List ℕ)) → Option (Bor (List ℕ)) → Type 0
+StandsIn input asked span =
+    IfSome (option_copied asked) (λ key. IfSome (option_copied span) (StandsUnder input key))

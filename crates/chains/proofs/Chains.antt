@@ -1,0 +1,27 @@
+-- Steps one after the other: one more, and weaker ones.
+use Rattle.std.proofs.Common.{◌<◌, ◌+◌, ℕ, List, [], ◌∷◌, ◌++◌, take, get_or, length, refl, sym, ap, ◌∙◌, subst, add-one}
+use Rattle.std.proofs.Math.Seq.{take-suc}
+use Rattle.chains.specs.Chain.{Chain}
+
+module _ {S I O : Type 0} (Step : S → I → O → S → Type 0) where
+  -- one more step
+  pub Chain-more : (s : S) (is : List I) (os : List O) (mid : S) (i : I) (o : O) (s' : S) → Chain Step s is os mid → Step mid i o s' → Chain Step s (is ++ i ∷ []) (os ++ o ∷ []) s'
+  Chain-more s [] [] mid i o s' e step = (s', subst (λ x. Step x i o s') e step, refl)
+  Chain-more s [] (p ∷ os) mid i o s' e step = absurd e
+  Chain-more s (j ∷ is) [] mid i o s' e step = absurd e
+  Chain-more s (j ∷ is) (p ∷ os) mid i o s' (next, first, rest) step = (next, first, Chain-more next is os mid i o s' rest step)
+
+  -- one more of a list's items, where a loop has come to it
+  pub Chain-next : (s mid s' : S) (is : List I) (n : ℕ) (os : List O) (d : I) (o : O) → n < length is
+      → Chain Step s (take n is) os mid → Step mid (get_or is n d) o s' → Chain Step s (take (n + 1) is) (os ++ o ∷ []) s'
+  Chain-next s mid s' is n os d o inside before step =
+      subst (λ xs. Chain Step s xs (os ++ o ∷ []) s') (sym (ap (λ j. take j is) (add-one n) ∙ take-suc is n d inside))
+      (Chain-more s (take n is) os mid (get_or is n d) o s' before step)
+
+-- steps that say more
+pub Chain-weaker : {S I O : Type 0} (P Q : S → I → O → S → Type 0) → ((s : S) (i : I) (o : O) (s' : S) → P s i o s' → Q s i o s')
+    → (s : S) (is : List I) (os : List O) (s' : S) → Chain P s is os s' → Chain Q s is os s'
+Chain-weaker P Q weaker s [] [] s' e = e
+Chain-weaker P Q weaker s [] (o ∷ os) s' e = absurd e
+Chain-weaker P Q weaker s (i ∷ is) [] s' e = absurd e
+Chain-weaker P Q weaker s (i ∷ is) (o ∷ os) s' (mid, step, rest) = (mid, weaker s i o mid step, Chain-weaker P Q weaker mid is os s' rest)

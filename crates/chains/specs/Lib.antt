@@ -1,0 +1,2 @@
+-- What contracts of steps one after the other cite.
+pub mod Chain

@@ -1,9 +1,0 @@
-use Rattle.std.proofs.Common.{◌+◌, ◌%◌, ◌^◌, ◌<◌, ◌∙◌, ap, sym, arith}
-use Rattle.checker.proofs.Counts.{more_is}
-use Rattle.checker.proofs.mem_shelf.MemShelfShelf.close.Goals as goal
-
-pub returns-clause-counts : goal.returns-clause-counts
-returns-clause-counts c =
-    let fits : c.args.self.now.calls.faults < 2 ^ 64 = omega arith in
-    ap (λ n. (c.args.self.now.calls.faults + n) % 2 ^ 64) c.failures.ensures
-    ∙ sym (more_is c.args.self.now.calls.faults c.args.file.calls.faults fits)

@@ -1,7 +1,0 @@
-use Rattle.std.proofs.Common.{map, take}
-use Rattle.checker.specs.MemShelf.{path_of}
-use Rattle.checker.specs.Shelf.{IsEachOnce, path_bytes}
-use Rattle.checker.proofs.mem_shelf.paths_of.Given as goal
-
-abbrev pub invariant-files : goal.invariant-files
-invariant-files l = IsEachOnce (map path_of (take l.i l.files)) (map path_bytes l.paths.items)

@@ -1,0 +1,10 @@
+-- What contracts of file trees cite.
+pub mod Dictionary
+pub mod FileTree
+pub mod Laws
+pub mod Names
+pub mod Paths
+pub mod Shape
+pub mod Tests
+pub mod TreeTests
+pub mod Walked

@@ -1,0 +1,54 @@
+-- What was found on the walk of the file tree, without where it lies in memory.
+use Rattle.std.specs.Prelude.{◌≡◌, ◌≢◌, ℕ, false, List, [], ◌∷◌, ◌++◌, map, Result, Ok, Err, ◌⊎◌, if◌then◌else◌}
+use Rattle.std.specs.Prelude.{Vec}
+use Rattle.std.specs.Borrow.{Bor}
+use Rattle.std.specs.declared.alloc.Global.{Global}
+use Rattle.benc.specs.Value.{Bencode, Pairs}
+use Rattle.benc.specs.View.{view}
+use Rattle.filetree.specs.FileTree.{Walk, walks, walks_in, below, is_nil, IsBadComponent, HasBadPath, HasBadPathIn}
+use Rattle.filetree.specs.declared.refusal.Refusal.{Refusal}
+use Rattle.filetree.specs.declared.refusal.Refusal.TheVariants as refusals
+use Rattle.filetree.specs.declared.walk.Found.{Found}
+
+-- what borrowed texts are
+abbrev pub texts : List (Bor (List ℕ)) → List (List ℕ)
+texts xs = map (λ s. s.now) xs
+
+abbrev pub found : Found → Walk
+found f = record { path = f.path; file = view f.file.now }
+
+-- a walk behind the components that lead to a directory
+abbrev pub behind : List (List ℕ) → Walk → Walk
+behind path w = record { path = path ++ w.path; file = w.file }
+
+-- the walks were added to those before, or some component is bad
+abbrev pub Adds : Type 0 → List (List ℕ) → List Walk → List Walk → List Walk → Result Unit Refusal
+    → Type 0
+Adds bad path ws old new (Ok x) = (new ≡ old ++ map (behind path) ws) × (bad → ⊥)
+Adds bad path ws old new (Err r) = r ≢ refusals.NoMemory → (r ≡ refusals.Path) × bad
+
+-- the walks of a directory were added to the files found before
+abbrev pub AddsWalks : Pairs → List (List ℕ) → Vec Found Global → Vec Found Global
+    → Result Unit Refusal → Type 0
+AddsWalks ps path old new result =
+    Adds (HasBadPath ps) path (walks ps) (map found old.items) (map found new.items) result
+
+-- the walks and the bad components of one pair
+abbrev pub walks_at : List ℕ × Bencode → List Walk
+walks_at p = if is_nil p.0 then record { path = []; file = p.1 }
+    ∷ [] else map (below p.0) (walks_in p.1)
+
+abbrev pub HasBadPathAt : List ℕ × Bencode → Type 0
+HasBadPathAt p = (is_nil p.0 ≡ false) × (IsBadComponent p.0 ⊎ HasBadPathIn p.1)
+
+-- the walks of one pair were added to the files found before
+abbrev pub AddsWalksAt : List ℕ × Bencode → List (List ℕ) → Vec Found Global → Vec Found Global
+    → Result Unit Refusal → Type 0
+AddsWalksAt p path old new result =
+    Adds (HasBadPathAt p) path (walks_at p) (map found old.items) (map found new.items) result
+
+-- some pairs of a directory were walked, and the rest is left
+pub record IsOnWay (path : List (List ℕ)) (all rest : Pairs) (old new : List Walk) : Type 0 where
+  pub adds : old ++ map (behind path) (walks all) ≡ new ++ map (behind path) (walks rest)
+  pub bad_left : HasBadPath all → HasBadPath rest
+  pub bad_all : HasBadPath rest → HasBadPath all

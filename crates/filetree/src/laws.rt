@@ -1,0 +1,26 @@
+//! What holds of each file tree. A proof that calls one of these has its law.
+
+ghost use Rattle.filetree.specs.Laws.{OrderIsApart, ShapeIsTold, WalksAreAll, WalksAreSafe};
+
+/// The walks of a file tree are all that lead to a file, each once and in order.
+pub fn walks_are_all()
+    ensures { WalksAreAll }
+{}
+
+/// Paths in order ascend by their components and none is a prefix of another, and so the other way
+/// round.
+pub fn order_is_apart()
+    ensures { OrderIsApart }
+{}
+
+/// The path of each file has one component at least and 124 at most, and none is bad: no path
+/// leaves the folder in which it is looked up.
+pub fn walks_are_safe()
+    ensures { WalksAreSafe }
+{}
+
+/// The test of the shape is that of the standard: the root has the zero-length key, a component's
+/// value is no dictionary, or a zero-length key has a sibling or a value that is no dictionary.
+pub fn shape_is_told()
+    ensures { ShapeIsTold }
+{}

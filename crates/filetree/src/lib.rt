@@ -1,0 +1,17 @@
+//! The file tree of a torrent (BEP 52, "file tree"): its paths and its files, and why a torrent is
+//! refused.
+#![tactic(auto)]
+
+mod files;
+mod laws;
+mod path;
+mod reading;
+mod refusal;
+mod shape;
+mod walk;
+
+pub use files::{ListedFile, has_attribute, length};
+pub use laws::{order_is_apart, shape_is_told, walks_are_all, walks_are_safe};
+pub use path::Path;
+pub use reading::read_tree;
+pub use refusal::{Key, Refusal};

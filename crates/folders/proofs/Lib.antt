@@ -1,0 +1,12 @@
+pub mod RootLines
+pub mod Places
+pub mod Prefixes
+pub mod Passes
+pub mod Visiting
+pub mod Counts
+pub mod Shelves
+pub mod MemCalls
+pub mod Streaming
+pub mod Reports
+pub mod Layers
+pub mod Pieces

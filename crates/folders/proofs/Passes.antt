@@ -1,0 +1,199 @@
+-- A check, as far as its first files.
+use Rattle.std.proofs.Common.{◌≡◌, ◌⊎◌, inl, inr, ℕ, ◌+◌, ◌-◌, ◌<◌, ◌≤◌, ◌&&◌, Bool, true, false, is_some, List, [], ◌∷◌, ◌++◌, length, replicate, slice_get, Option, Some, None, refl, ap, sym, ◌∙◌, subst, append_assoc, append-nil, arith}
+use Rattle.std.specs.List.{list_all}
+use Rattle.std.proofs.lemmas.List.{length-append, length-replicate, length_push, get_or_push, get_or_append_left}
+use Rattle.std.proofs.lemmas.List.Folds.{list_all-append}
+use Rattle.std.proofs.lemmas.Option.{none-some, same_Some, slice_get_within, slice_get-get_or, get_or_from_slice_get}
+use Rattle.metainfo.specs.Description.{Description, FileEntry, Version1}
+use Rattle.metainfo.specs.Sound.{IsSound}
+use Rattle.folders.specs.declared.report.FileVerdict.{FileVerdict}
+use Rattle.pieces.specs.declared.v1_feed.V1Feed.{V1Feed}
+use Rattle.metainfo.specs.Feeding.{given}
+use Rattle.folders.specs.Content.{HasPlaceFor, part_of}
+use Rattle.folders.specs.Folder.{Contents, start_of}
+use Rattle.folders.specs.Pass.{Finds, IsPart}
+use Rattle.folders.specs.Streaming.{EndsAt, IsGiven, StandsAt, Takes}
+use Rattle.folders.specs.Verdicts.{AreVerdicts, IsVerdict, is_whole}
+use Rattle.folders.proofs.Prefixes.{IsPrefix, prefix_none, prefix_zeros, prefix_file, prefix_empty}
+use Rattle.folders.proofs.Places.{place_before, start_is, ends_before_next, pieces_are_positive}
+
+-- where the stream goes on, it has not passed this place
+abbrev pub IsNotPast : Option V1Feed → ℕ → Type 0
+IsNotPast None n = Unit {0}
+IsNotPast (Some r) n = given r ≤ n
+
+-- the verdicts of the first n files, and where the stream stands after them
+pub record IsPassed (t : Description) (n : ℕ) (files : List FileVerdict) (running : Option V1Feed) : Type 0 where
+  pub count : length files ≡ n
+  pub goes_on : is_some running ≡ (is_some t.v1 && list_all is_whole files)
+  pub not_past : IsNotPast running (place_before t n)
+  pub ends : (v : Version1) → t.v1 ≡ Some v → EndsAt running v.total
+
+-- what the verdicts of the first n files tell of the contents, and what the stream was given of them
+pub record IsTold (t : Description) (contents : Contents) (n : ℕ) (files : List FileVerdict) (running : Option V1Feed) : Type 0 where
+  pub each : AreVerdicts t contents files
+  pub stream : (v : Version1) → t.v1 ≡ Some v → is_some running ≡ true
+      → (front : List ℕ) × StandsAt running (length front) × IsGiven running v.pieces t.piece_length front × IsPrefix t contents n front
+
+there_or_not : {A : Type 0} (o : Option A) → (is_some o ≡ false) ⊎ ((v : A) × (o ≡ Some v))
+there_or_not None = inl refl
+there_or_not (Some v) = inr (v, refl)
+
+-- there is room for the next file
+pub has_place : (t : Description) (n : ℕ) (files : List FileVerdict) (running : Option V1Feed) (f : FileEntry) → IsSound t
+    → IsPassed t n files running → slice_get t.files n ≡ Some f → 0 < f.length → HasPlaceFor running (start_of t f) f.length
+has_place t n files None f sound passed is some = tt
+has_place t n files (Some r) f sound passed is some = elim (there_or_not t.v1) [
+  | inl none ↦ let no : ⊥ = off (is_some t.v1) (list_all is_whole files) none passed.goes_on in absurd no
+  | inr v ↦ (omega (arith, passed.not_past, start_is t n f sound is), omega (arith, sound.in_stream v.0 n f v.1 is some, passed.ends v.0 v.1))
+]
+  where
+    off : (a b : Bool) → a ≡ false → true ≡ (a && b) → ⊥
+    off true b e h = cc
+    off false b e h = cc
+
+-- where the stream stands before the next file, and what it takes of it
+pub takes_part : (t : Description) (n : ℕ) (f : FileEntry) (bytes : List ℕ) (old new : Option V1Feed) → IsSound t
+    → slice_get t.files n ≡ Some f → IsNotPast old (place_before t n) → IsPart t f bytes old new
+    → (from : ℕ) × StandsAt old from × (from ≤ start_of t f) × Takes old new (part_of from (start_of t f) bytes)
+takes_part t n f bytes None new sound is place part = (0, tt, omega arith, part.streamed 0 tt (omega arith))
+takes_part t n f bytes (Some r) new sound is place part =
+    let before : given r ≤ start_of t f = omega (arith, place, start_is t n f sound is) in
+    (given r, refl, before, part.streamed (given r) refl before)
+
+length-part_of : (from start : ℕ) (bytes : List ℕ) → from ≤ start → from + length (part_of from start bytes) ≤ start + length bytes
+length-part_of from start [] le = omega arith
+length-part_of from start (b ∷ bytes) le = omega (arith, length-append (replicate (start - from) 0) (b ∷ bytes), length-replicate {A = ℕ} (start - from) 0)
+
+stays_before : (running : Option V1Feed) (at place : ℕ) → StandsAt running at → at ≤ place → IsNotPast running place
+stays_before None at place stands le = tt
+stays_before (Some r) at place stands le = omega (arith, stands)
+
+list_all_push : (files : List FileVerdict) (v : FileVerdict) → list_all is_whole (files ++ v ∷ []) ≡ (list_all is_whole files && is_whole v)
+list_all_push files v = list_all-append is_whole files (v ∷ []) ∙ ap (λ b. list_all is_whole files && b) (and_true (is_whole v))
+  where
+    and_true : (b : Bool) → (b && true) ≡ b
+    and_true true = refl
+    and_true false = refl
+
+-- the next file is as long as stated
+pub passed_whole : (t : Description) (n : ℕ) (files : List FileVerdict) (v : FileVerdict) (f : FileEntry) (bytes : List ℕ) (old new : Option V1Feed)
+    → IsSound t → slice_get t.files n ≡ Some f → is_whole v ≡ true → IsPart t f bytes old new → IsPassed t n files old → IsPassed t (n + 1) (files ++ v ∷ []) new
+passed_whole t n files v f bytes old new sound is whole part passed =
+    let took = takes_part t n f bytes old new sound is passed.not_past part in
+    let takes : Takes old new (part_of took.0 (start_of t f) bytes) = took.3 in
+    record {
+      count = length_push files v ∙ ap (λ k. k + 1) passed.count;
+      goes_on = takes.goes_on ∙ passed.goes_on ∙ same (is_some t.v1) (list_all is_whole files) (is_whole v) whole ∙ ap (λ b. is_some t.v1 && b) (sym (list_all_push files v));
+      not_past = stays_before new (took.0 + length (part_of took.0 (start_of t f) bytes)) (place_before t (n + 1)) (takes.stands took.0 took.1)
+          (omega (arith, length-part_of took.0 (start_of t f) bytes took.2, part.length_is, ends_before_next t n f sound (pieces_are_positive t sound) is));
+      ends = λ w hybrid. takes.ends w.total (passed.ends w hybrid);
+    }
+  where
+    same : (a b c : Bool) → c ≡ true → (a && b) ≡ (a && (b && c))
+    same true true c h = sym h
+    same true false c h = refl
+    same false b c h = refl
+
+-- the next file is not
+pub passed_broken : (t : Description) (n : ℕ) (files : List FileVerdict) (v : FileVerdict) (old new : Option V1Feed)
+    → is_whole v ≡ false → new ≡ None → IsPassed t n files old → IsPassed t (n + 1) (files ++ v ∷ []) new
+passed_broken t n files v old new broken stopped passed = record {
+  count = length_push files v ∙ ap (λ k. k + 1) passed.count;
+  goes_on = ap is_some stopped ∙ off (is_some t.v1) (list_all is_whole files) (is_whole v) broken ∙ ap (λ b. is_some t.v1 && b) (sym (list_all_push files v));
+  not_past = subst (λ o. IsNotPast o (place_before t (n + 1))) (sym stopped) tt;
+  ends = λ w hybrid. subst (λ o. EndsAt o w.total) (sym stopped) tt;
+}
+  where
+    off : (a b c : Bool) → c ≡ false → false ≡ (a && (b && c))
+    off true true c h = sym h
+    off true false c h = refl
+    off false b c h = refl
+
+pub passed_one : (t : Description) (n : ℕ) (files : List FileVerdict) (v : FileVerdict) (f : FileEntry) (told : Option (Option (List ℕ))) (old new : Option V1Feed)
+    → IsSound t → slice_get t.files n ≡ Some f → Finds t f told old new v → IsPassed t n files old → IsPassed t (n + 1) (files ++ v ∷ []) new
+passed_one t n files v f told old new sound is found passed = elim (true_or_false (is_whole v)) [
+  | inl whole ↦ let part = found.taken whole in passed_whole t n files v f part.0 old new sound is whole part.2 passed
+  | inr broken ↦ passed_broken t n files v old new broken (found.stopped broken) passed
+]
+  where
+    true_or_false : (b : Bool) → (b ≡ true) ⊎ (b ≡ false)
+    true_or_false true = inl refl
+    true_or_false false = inr refl
+
+-- ---- what is told
+
+-- before the first file
+pub told_none : (t : Description) (contents : Contents) (files : List FileVerdict) (running : Option V1Feed) → files ≡ [] → StandsAt running 0
+    → ((v : Version1) → t.v1 ≡ Some v → IsGiven running v.pieces t.piece_length []) → IsTold t contents 0 files running
+told_none t contents files running none stands given = record {
+  each = λ n f v there at. absurd (none-some v (sym (ap (λ xs. slice_get xs n) none) ∙ at));
+  stream = λ v hybrid on. ([], stands, given v hybrid, prefix_none t contents);
+}
+
+each_push : (t : Description) (contents : Contents) (n : ℕ) (files : List FileVerdict) (v : FileVerdict) (f : FileEntry) → length files ≡ n
+    → slice_get t.files n ≡ Some f → IsVerdict t f (contents n) v → AreVerdicts t contents files → AreVerdicts t contents (files ++ v ∷ [])
+each_push t contents n files v f count is verdict each k g w there found =
+    let inside : k < length files + 1 = omega (arith, slice_get_within (files ++ v ∷ []) k w found, length_push files v) in
+    elim (last_or_before k (length files) inside) [
+      | inl before ↦ each k g w there (
+          slice_get-get_or files k w before
+          ∙ ap Some (sym (get_or_append_left files (v ∷ []) w k before) ∙ get_or_from_slice_get (files ++ v ∷ []) k w w found))
+      | inr last ↦
+          let at : k ≡ n = last ∙ count in
+          let same : f ≡ g = same_Some f g (sym is ∙ ap (slice_get t.files) (sym at) ∙ there) in
+          let same_verdict : v ≡ w = sym (get_or_push files v w k (sym last)) ∙ get_or_from_slice_get (files ++ v ∷ []) k w w found in
+          subst (λ j. IsVerdict t g (contents j) w) (sym at)
+          (subst (λ h. IsVerdict t h (contents n) w) same (subst (IsVerdict t f (contents n)) same_verdict verdict))
+    ]
+  where
+    last_or_before : (k c : ℕ) → k < c + 1 → (k < c) ⊎ (k ≡ c)
+    last_or_before k c lt = grind arith
+
+part_begins : (t : Description) (contents : Contents) (n : ℕ) (f : FileEntry) (front bytes : List ℕ) → slice_get t.files n ≡ Some f
+    → contents n ≡ Some bytes → length front ≤ start_of t f → IsPrefix t contents n front
+    → IsPrefix t contents (n + 1) (front ++ part_of (length front) (start_of t f) bytes)
+part_begins t contents n f front [] is content le so_far =
+    subst (IsPrefix t contents (n + 1)) (sym (append-nil front)) (prefix_empty t contents n front f so_far is content)
+part_begins t contents n f front (b ∷ bytes) is content le so_far =
+    let gap : ℕ = start_of t f - length front in
+    subst (IsPrefix t contents (n + 1)) (append_assoc front (replicate gap 0) (b ∷ bytes))
+    (prefix_file t contents n (front ++ replicate gap 0) f (b ∷ bytes) (prefix_zeros t contents n front gap so_far) is content
+    (omega (arith, length-append front (replicate gap 0), length-replicate {A = ℕ} gap 0)))
+
+pub told_one : (t : Description) (contents : Contents) (n : ℕ) (files : List FileVerdict) (v : FileVerdict) (f : FileEntry) (shelf : Option (Option (List ℕ))) (old new : Option V1Feed)
+    → IsSound t → slice_get t.files n ≡ Some f → (found : Finds t f shelf old new v) → contents n ≡ found.content
+    → IsPassed t n files old → IsTold t contents n files old → IsTold t contents (n + 1) (files ++ v ∷ []) new
+told_one t contents n files v f shelf old new sound is found here passed told = record {
+  each = each_push t contents n files v f passed.count is (subst (λ c. IsVerdict t f c v) (sym here) found.verdict) told.each;
+  stream = λ w hybrid on. elim (true_or_false (is_whole v)) [
+    | inr broken ↦ let no : ⊥ = gone new (found.stopped broken) on in absurd no
+    | inl whole ↦
+        let part = found.taken whole in
+        let bytes : List ℕ = part.0 in
+        let before : is_some old ≡ true = sym (went (takes_part t n f bytes old new sound is passed.not_past part.2)) ∙ on in
+        let given = told.stream w hybrid before in
+        let at : length given.0 ≤ start_of t f = front_before old (length given.0) (place_before t n) (start_of t f) before given.1 passed.not_past (start_is t n f sound is) in
+        let takes : Takes old new (part_of (length given.0) (start_of t f) bytes) = part.2.streamed (length given.0) given.1 at in (
+          given.0 ++ part_of (length given.0) (start_of t f) bytes,
+          subst (StandsAt new) (sym (length-append given.0 (part_of (length given.0) (start_of t f) bytes))) (takes.stands (length given.0) given.1),
+          takes.given w.pieces t.piece_length given.0 given.2,
+          part_begins t contents n f given.0 bytes is (here ∙ part.1) at given.3,
+        )
+  ];
+}
+  where
+    true_or_false : (b : Bool) → (b ≡ true) ⊎ (b ≡ false)
+    true_or_false true = inl refl
+    true_or_false false = inr refl
+
+    gone : (o : Option V1Feed) → o ≡ None → is_some o ≡ true → ⊥
+    gone None e h = cc
+    gone (Some r) e h = cc
+
+    went : {old new : Option V1Feed} {P Q : ℕ → Type 0} {part : ℕ → List ℕ} → ((from : ℕ) × P from × Q from × Takes old new (part from)) → is_some new ≡ is_some old
+    went took = took.3.goes_on
+
+    front_before : (o : Option V1Feed) (at place start : ℕ) → is_some o ≡ true → StandsAt o at → IsNotPast o place → start ≡ place → at ≤ start
+    front_before None at place start on stands past is = let no : ⊥ = cc in absurd no
+    front_before (Some r) at place start on stands past is = omega (arith, stands, past)

@@ -1,0 +1,161 @@
+-- What a check found of one file, by how its opening was answered, and of the first files together.
+use Rattle.std.proofs.Common.{◌≡◌, ◌⊎◌, inl, inr, ℕ, zero, suc, ◌+◌, ◌<◌, Bool, true, false, List, [], ◌∷◌, ◌++◌, length, map, slice_get, get_or, Option, Some, None, option_map, Result, Ok, Err, IfOk, refl, ap, sym, ◌∙◌, subst, arith}
+use Rattle.std.specs.Option.{unwrap_or}
+use Rattle.std.specs.Result.{result_unwrap_or}
+use Rattle.benc.specs.declared.device.DeviceFault.{DeviceFault}
+use Rattle.std.proofs.lemmas.List.{length_push, get_or_push, get_or_append_left}
+use Rattle.std.proofs.lemmas.Option.{same_Some, none-some, slice_get_within, slice_get-get_or, get_or_from_slice_get}
+use Rattle.metainfo.specs.Description.{Description, FileEntry}
+use Rattle.metainfo.specs.Sound.{IsSound}
+use Rattle.folders.specs.declared.report.FileVerdict.{FileVerdict}
+use Rattle.folders.specs.declared.report.FileVerdict.TheVariants as file
+use Rattle.pieces.specs.declared.v1_feed.V1Feed.{V1Feed}
+use Rattle.folders.specs.Folder.{Contents}
+use Rattle.folders.specs.Pass.{Finds, IsOpenedVerdict, IsPart}
+use Rattle.folders.specs.Shelf.{IsFound}
+use Rattle.folders.specs.Verdicts.{AgreeWith, Agrees, is_whole}
+use Rattle.folders.proofs.Passes.{IsPassed, IsTold, told_one}
+
+-- ---- one file
+
+-- nothing has the name
+pub finds_missing : (t : Description) (f : FileEntry) (told : Option (Option (List ℕ))) (old new : Option V1Feed)
+    → IsFound told None → new ≡ None → Finds t f told old new file.Missing
+finds_missing t f told old new found stopped = record {
+  content = None;
+  agrees = nothing told found;
+  verdict = refl;
+  taken = λ no. let n : ⊥ = cc in absurd n;
+  stopped = λ _. stopped;
+}
+  where
+    none_of : (there : Option (List ℕ)) → None ≡ option_map Some there → there ≡ None
+    none_of None is = refl
+    none_of (Some bytes) is = let no : ⊥ = cc in absurd no
+
+    nothing : (told : Option (Option (List ℕ))) → IsFound told None → Agrees told None
+    nothing None found there is = let no : ⊥ = cc in absurd no
+    nothing (Some content) found there is = none_of there (found ∙ ap (option_map Some) (same_Some content there is))
+
+-- the file is unreadable, and may have any content
+pub finds_unreadable : (t : Description) (f : FileEntry) (told : Option (Option (List ℕ))) (old new : Option V1Feed)
+    → new ≡ None → Finds t f told old new file.Unreadable
+finds_unreadable t f told old new stopped = record {
+  content = unwrap_or told None;
+  agrees = λ there is. sym (ap (λ o. unwrap_or o None) is);
+  verdict = tt;
+  taken = λ no. let n : ⊥ = cc in absurd n;
+  stopped = λ _. stopped;
+}
+
+-- the file was opened and read without a fault
+pub finds_opened : (t : Description) (f : FileEntry) (told : Option (Option (List ℕ))) (left : Option (List ℕ)) (old new end : Option V1Feed) (v : FileVerdict)
+    → IsFound told (Some left) → IsOpenedVerdict t f left old new v → (is_whole v ≡ true → end ≡ new) → (is_whole v ≡ false → end ≡ None)
+    → Finds t f told old end v
+finds_opened t f told left old new end v found is goes stopped = record {
+  content = Some is.bytes;
+  agrees = there told found;
+  verdict = is.verdict;
+  taken = λ whole. (is.bytes, refl, subst (λ o. IsPart t f is.bytes old o) (sym (goes whole)) (is.taken whole));
+  stopped = stopped;
+}
+  where
+    some_of : (content : Option (List ℕ)) → Some left ≡ option_map Some content → content ≡ Some is.bytes
+    some_of None e = let no : ⊥ = cc in absurd no
+    some_of (Some bytes) e = ap Some (is.agrees bytes (same_Some left (Some bytes) e))
+
+    there : (told : Option (Option (List ℕ))) → IsFound told (Some left) → Agrees told (Some is.bytes)
+    there None found content e = let no : ⊥ = cc in absurd no
+    there (Some stands) found content e = some_of content (found ∙ ap (option_map Some) (same_Some stands content e))
+
+-- the same, of how the reading was answered
+pub finds_read : (t : Description) (f : FileEntry) (told : Option (Option (List ℕ))) (left : Option (List ℕ)) (old new end : Option V1Feed) (r : Result FileVerdict DeviceFault) (v : FileVerdict)
+    → IsFound told (Some left) → IfOk r (IsOpenedVerdict t f left old new) → v ≡ result_unwrap_or r file.Unreadable
+    → (is_whole v ≡ true → end ≡ new) → (is_whole v ≡ false → end ≡ None) → Finds t f told old end v
+finds_read t f told left old new end (Ok w) v found is same goes stopped =
+    finds_opened t f told left old new end v found (subst (IsOpenedVerdict t f left old new) (sym same) is) goes stopped
+finds_read t f told left old new end (Err e) v found is same goes stopped =
+    subst (Finds t f told old end) (sym same) (finds_unreadable t f told old end (stopped (ap is_whole same)))
+
+-- a file that was not read whole was, and the other way round
+pub never_whole : (v : FileVerdict) (b : Bool) (x y : Option V1Feed) → b ≡ is_whole v → b ≡ false → is_whole v ≡ true → x ≡ y
+never_whole v b x y is broken whole = let no : true ≡ false = sym whole ∙ sym is ∙ broken in cc
+
+pub never_broken : (v : FileVerdict) (b : Bool) (x y : Option V1Feed) → b ≡ is_whole v → b ≡ true → is_whole v ≡ false → x ≡ y
+never_broken v b x y is whole broken = let no : true ≡ false = sym whole ∙ is ∙ broken in cc
+
+-- ---- the first files
+
+-- these contents are the ones that were found so far
+abbrev pub Extends : List (Option (List ℕ)) → Contents → Type 0
+Extends seen contents = (k : ℕ) (c : Option (List ℕ)) → slice_get seen k ≡ Some c → contents k ≡ c
+
+-- what was found of the first n files, of a shelf that tells this of its paths
+pub record HasFound (t : Description) (under : List (List ℕ) → Option (Option (List ℕ))) (n : ℕ) (files : List FileVerdict) (running : Option V1Feed) : Type 0 where
+  pub seen : List (Option (List ℕ))
+  pub count : length seen ≡ n
+  pub agree : (k : ℕ) (f : FileEntry) (c : Option (List ℕ)) → slice_get t.files k ≡ Some f → slice_get seen k ≡ Some c → Agrees (under f.path) c
+  pub told : (contents : Contents) → Extends seen contents → IsTold t contents n files running
+
+last_or_before : (k c : ℕ) → k < c + 1 → (k < c) ⊎ (k ≡ c)
+last_or_before k c lt = grind arith
+
+-- an item of a list that one more was pushed to
+pushed_at : {A : Type 0} (xs : List A) (x y : A) (k : ℕ) → slice_get (xs ++ x ∷ []) k ≡ Some y → (slice_get xs k ≡ Some y) ⊎ ((k ≡ length xs) × (x ≡ y))
+pushed_at xs x y k is =
+    let inside : k < length xs + 1 = omega (arith, slice_get_within (xs ++ x ∷ []) k y is, length_push xs x) in
+    elim (last_or_before k (length xs) inside) [
+      | inl before ↦ inl (
+          slice_get-get_or xs k y before
+          ∙ ap Some (sym (get_or_append_left xs (x ∷ []) y k before) ∙ get_or_from_slice_get (xs ++ x ∷ []) k y y is))
+      | inr last ↦ inr (last, sym (get_or_push xs x y k (sym last)) ∙ get_or_from_slice_get (xs ++ x ∷ []) k y y is)
+    ]
+
+-- and the items that it has
+pushed_before : {A : Type 0} (xs : List A) (x y : A) (k : ℕ) → slice_get xs k ≡ Some y → slice_get (xs ++ x ∷ []) k ≡ Some y
+pushed_before xs x y k is =
+    let inside : k < length xs = slice_get_within xs k y is in
+    slice_get-get_or (xs ++ x ∷ []) k y (omega (arith, length_push xs x))
+    ∙ ap Some (get_or_append_left xs (x ∷ []) y k inside ∙ get_or_from_slice_get xs k y y is)
+
+pushed_last : {A : Type 0} (xs : List A) (x : A) (k : ℕ) → k ≡ length xs → slice_get (xs ++ x ∷ []) k ≡ Some x
+pushed_last xs x k at =
+    slice_get-get_or (xs ++ x ∷ []) k x (omega (arith, length_push xs x)) ∙ ap Some (get_or_push xs x x k (sym at))
+
+-- one more file
+pub found_one : (t : Description) (under : List (List ℕ) → Option (Option (List ℕ))) (n : ℕ) (files : List FileVerdict) (v : FileVerdict) (f : FileEntry) (old new : Option V1Feed)
+    → IsSound t → slice_get t.files n ≡ Some f → Finds t f (under f.path) old new v → IsPassed t n files old
+    → HasFound t under n files old → HasFound t under (n + 1) (files ++ v ∷ []) new
+found_one t under n files v f old new sound is found passed so_far = record {
+  seen = so_far.seen ++ found.content ∷ [];
+  count = length_push so_far.seen found.content ∙ ap (λ k. k + 1) so_far.count;
+  agree = λ k g c there at. elim (pushed_at so_far.seen found.content c k at) [
+    | inl before ↦ so_far.agree k g c there before
+    | inr last ↦
+        let same : f ≡ g = same_Some f g (sym is ∙ ap (slice_get t.files) (sym (last.0 ∙ so_far.count)) ∙ there) in
+        subst (λ h. Agrees (under h.path) c) same (subst (Agrees (under f.path)) last.1 found.agrees)
+  ];
+  told = λ contents extends.
+      told_one t contents n files v f (under f.path) old new sound is found
+      (extends n found.content (pushed_last so_far.seen found.content n (sym so_far.count)))
+      passed (so_far.told contents (λ k c at. extends k c (pushed_before so_far.seen found.content c k at)));
+}
+
+-- the contents of all files, by number
+abbrev pub contents_of : List (Option (List ℕ)) → Contents
+contents_of seen k = unwrap_or (slice_get seen k) None
+
+pub contents_extend : (seen : List (Option (List ℕ))) → Extends seen (contents_of seen)
+contents_extend seen k c is = ap (λ o. unwrap_or o None) is
+
+at_length : {A : Type 0} (xs : List A) (n : ℕ) → n < length xs → (x : A) × (slice_get xs n ≡ Some x)
+at_length {A} [] n lt = absurd (omega arith)
+at_length {A} (x ∷ xs) zero lt = (x, refl)
+at_length {A} (x ∷ xs) (suc n) lt = at_length xs n (omega arith)
+
+-- they agree with what the shelf tells
+pub contents_agree : (t : Description) (under : List (List ℕ) → Option (Option (List ℕ))) (n : ℕ) (files : List FileVerdict) (running : Option V1Feed)
+    → n ≡ length t.files → (found : HasFound t under n files running) → AgreeWith t under (contents_of found.seen)
+contents_agree t under n files running all found k f there =
+    let at = at_length found.seen k (omega (arith, slice_get_within t.files k f there, found.count)) in
+    subst (Agrees (under f.path)) (sym (contents_extend found.seen k at.0 at.1)) (found.agree k f at.0 there at.1)

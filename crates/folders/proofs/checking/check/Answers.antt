@@ -1,0 +1,147 @@
+use Rattle.std.proofs.Common.{rules, [], refl, ◌≡◌, ◌∙◌, ◌+◌, ◌≤◌, ◌<◌, ◌^◌, ◌&&◌, ℕ, List, length, map, take, Option, option_map, is_some, ap, sym, subst, Some, None, arith}
+use Rattle.std.specs.List.{list_all}
+use Rattle.std.proofs.lemmas.Option.{same_Some, none-some, slice_get_within, get_or_from_slice_get}
+use Rattle.metainfo.specs.Description.{Description}
+use Rattle.metainfo.specs.File.{File}
+use Rattle.std.proofs.lemmas.List.{length-map, take_all}
+use Rattle.std.proofs.lemmas.List.Sums.{count_by-le-length}
+use Rattle.metainfo.specs.Seen.{file_entry, version1}
+use Rattle.folders.specs.Pass.{Finds}
+use Rattle.chains.specs.Chain.{Chain}
+use Rattle.chains.proofs.Chains.{Chain-next}
+use Rattle.folders.specs.Shelf.{more}
+use Rattle.folders.specs.Visits.{Visits}
+use Rattle.folders.specs.Verdicts.{IsV1Verdict, TellsContents, is_checked, is_unreadable, is_whole, unreadable_count}
+use Rattle.folders.proofs.Counts.{unreadable_push, more_none}
+use Rattle.folders.proofs.Places.{file_there, pieces_are_positive}
+use Rattle.folders.proofs.Passes.{IsPassed, has_place, passed_one, told_none}
+use Rattle.folders.proofs.Visiting.{HasFound, contents_agree, contents_extend, contents_of, found_one}
+use Rattle.folders.proofs.Reports.{good_is_enough, stream_told, yes_is_sure}
+use Rattle.folders.proofs.checking.check.Goals as goal
+use Rattle.folders.proofs.checking.check.Goals.{in-Some, in-None}
+
+pub of-stream-requires : goal.of-stream-requires
+of-stream-requires g c = let p = pieces_are_positive c.args.torrent.now c.sound.ensures in omega (arith, c.piece_length.ensures)
+
+pub check_file-requires-clause-place : goal.check_file-requires-clause-place
+check_file-requires-clause-place g c = λ some.
+    has_place c.args.torrent.now c.files.file-index c.files.files.items c.files.stream.feed (file_entry c.file-item.result) c.sound.ensures
+    c.files.invariant.passed (file_there c.args.torrent.now c.files-entries.result.now c.files.file-index c.file-item.result c.files-entries.ensures c.files-test.true c.file-item.is) some
+
+pub check_file-requires-clause-file : goal.check_file-requires-clause-file
+check_file-requires-clause-file g c = (
+  c.files.file-index,
+  file_there c.args.torrent.now c.files-entries.result.now c.files.file-index c.file-item.result c.files-entries.ensures c.files-test.true c.file-item.is,
+)
+
+pub files-init : goal.files-init
+files-init g c = record {
+  room = search rules;
+  counted = search rules;
+  visited = search rules;
+  kept = λ p. refl;
+  passed = search rules;
+  found = record {
+    seen = [];
+    count = refl;
+    agree = λ k f content there at. absurd (none-some content at);
+    told = λ contents extends.
+        told_none c.args.torrent.now contents c.in_ok-files.files.items c.of-stream.result.feed c.in_ok-files.ensures.items c.of-stream.ensures.stands (λ v hybrid. search rules);
+  };
+}
+
+pub files-preserved : goal.files-preserved
+files-preserved g c =
+    let t = c.args.torrent.now in
+    let n = c.files.file-index in
+    let f = file_entry c.file-item.result in
+    let old = c.files.stream.feed in
+    let new = c.check_file.new.stream.feed in
+    let v = c.check_file.result in
+    let under = g.S.Shelf.under c.args.shelf.now in
+    let there = file_there t c.files-entries.result.now n c.file-item.result c.files-entries.ensures c.files-test.true c.file-item.is in
+    let pushed = sym c.push_reserved.ensures.items in
+    let found : Finds t f (under f.path) old new v = subst (λ told. Finds t f told old new v) (c.files.invariant.kept f.path) c.check_file.ensures.found in
+    record {
+      room = omega (arith, c.files.invariant.room, c.push_reserved.ensures.capacity);
+      counted = subst (λ xs. g.S.Shelf.faults c.check_file.new.shelf ≡ more (g.S.Shelf.faults c.args.shelf.now) (unreadable_count xs)) pushed
+          (unreadable_push (g.S.Shelf.faults c.args.shelf.now) (g.S.Shelf.faults c.files.shelf) (g.S.Shelf.faults c.check_file.new.shelf) c.files.files.items v
+          c.files.invariant.counted c.check_file.ensures.counts);
+      visited = subst (λ vs. Chain (Visits g.S.Shelf.opens g.S.Shelf.closes g.S.File.Source.seen) c.args.shelf.now (take (n + 1) t.files) vs c.check_file.new.shelf) pushed
+          (Chain-next (Visits g.S.Shelf.opens g.S.Shelf.closes g.S.File.Source.seen) c.args.shelf.now c.files.shelf c.check_file.new.shelf t.files n c.files.files.items f v
+          (slice_get_within t.files n f there) c.files.invariant.visited
+          (subst (λ h. Visits g.S.Shelf.opens g.S.Shelf.closes g.S.File.Source.seen c.files.shelf h v c.check_file.new.shelf) (sym (get_or_from_slice_get t.files n f f there)) c.check_file.ensures.visits));
+      kept = λ p. c.check_file.ensures.kept p ∙ c.files.invariant.kept p;
+      passed = subst (λ xs. IsPassed t (n + 1) xs new) pushed
+          (passed_one t n c.files.files.items v f (under f.path) old new c.sound.ensures there found c.files.invariant.passed);
+      found = subst (λ xs. HasFound t under (n + 1) xs new) pushed
+          (found_one t under n c.files.files.items v f old new c.sound.ensures there found c.files.invariant.passed c.files.invariant.found);
+    }
+
+all_passed : (t : Description) (n : ℕ) (files : List File) → map file_entry files ≡ t.files → length files ≤ n → n ≤ length files → n ≡ length t.files
+all_passed t n files is le ge = omega (arith, length-map files file_entry, ap length is)
+
+same_some : {A B : Type 0} (f : A → B) (o : Option A) (p : Option B) → option_map f o ≡ p → is_some p ≡ is_some o
+same_some f None p is = ap is_some (sym is)
+same_some f (Some x) p is = ap is_some (sym is)
+
+pub returns-clause-verdicts : goal.returns-clause-verdicts
+returns-clause-verdicts g c =
+    let t = c.args.torrent.now in
+    let passed = c.files.invariant.passed in
+    let hybrid : is_some t.v1 ≡ is_some c.v1-2.result = same_some (λ v. version1 v.now) c.v1-2.result t.v1 c.v1-2.ensures in
+    record {
+      count = passed.count ∙ all_passed t c.files.file-index c.files-entries.result.now c.files-entries.ensures c.files-test.false c.files.auto.file-index-end;
+      hybrid = elim c.match-v1.branch [
+        | in-Some w ↦ ap is_some w.v1-is ∙ sym (hybrid ∙ ap is_some w.in-Some.is)
+        | in-None w ↦ ap is_some w.v1-is ∙ sym (hybrid ∙ ap is_some w.in-None.is)
+      ];
+      checked = λ v found. elim c.match-v1.branch [
+        | in-Some w ↦
+            ap is_checked (same_Some v w.finish.result (sym found ∙ w.v1-is))
+            ∙ w.finish.ensures.checked ∙ passed.goes_on
+            ∙ ap (λ b. b && list_all is_whole c.files.files.items) (hybrid ∙ ap is_some w.in-Some.is)
+        | in-None w ↦ absurd (none-some v (sym w.v1-is ∙ found))
+      ];
+    }
+
+pub returns-clause-tells : goal.returns-clause-tells
+returns-clause-tells g c =
+    let t = c.args.torrent.now in
+    let files = c.files.files.items in
+    let found = c.files.invariant.found in
+    let contents = contents_of found.seen in
+    let told = found.told contents (contents_extend found.seen) in
+    let all : c.files.file-index ≡ length t.files = all_passed t c.files.file-index c.files-entries.result.now c.files-entries.ensures c.files-test.false c.files.auto.file-index-end in
+    let tells : TellsContents t contents files c.match-v1.v1 = record {
+      each = told.each;
+      version1 = λ v verdict hybrid is. elim c.match-v1.branch [
+        | in-Some w ↦ subst (IsV1Verdict t v contents) (same_Some w.finish.result verdict (sym w.v1-is ∙ is))
+            (stream_told t contents c.files.file-index files c.files.stream.feed v w.finish.result all c.files.invariant.passed told hybrid
+            w.finish.ensures.checked w.finish.ensures.within w.finish.ensures.compared)
+        | in-None w ↦ absurd (none-some verdict (sym w.v1-is ∙ is))
+      ];
+    } in
+    let has = returns-clause-verdicts g c in
+    record {
+      contents = contents;
+      agree = contents_agree t (g.S.Shelf.under c.args.shelf.now) c.files.file-index files c.files.stream.feed all found;
+      tells = tells;
+      sure = yes_is_sure t contents files c.match-v1.v1 has tells;
+      enough = good_is_enough t contents files c.match-v1.v1 c.sound.ensures has tells;
+    }
+
+pub returns-clause-readable : goal.returns-clause-readable
+returns-clause-readable g c = λ same.
+    let files = c.files.files.items in
+    let few : unreadable_count files < 2 ^ 64 =
+    omega (arith, count_by-le-length is_unreadable files, c.files.invariant.passed.count, c.files.auto.file-index-end, c.files.invariant.room, c.files.files.small) in
+    more_none (g.S.Shelf.faults c.args.shelf.now) (unreadable_count files) few (sym c.files.invariant.counted ∙ same)
+
+pub returns-clause-once : goal.returns-clause-once
+returns-clause-once g c =
+    let t = c.args.torrent.now in
+    let n = c.files.file-index in
+    let all : n ≡ length t.files = all_passed t n c.files-entries.result.now c.files-entries.ensures c.files-test.false c.files.auto.file-index-end in
+    subst (λ fs. Chain (Visits g.S.Shelf.opens g.S.Shelf.closes g.S.File.Source.seen) c.args.shelf.now fs c.files.files.items c.files.shelf)
+    (take_all n t.files (omega (arith, all))) c.files.invariant.visited

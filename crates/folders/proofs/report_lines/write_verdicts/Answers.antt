@@ -1,0 +1,29 @@
+use Rattle.std.proofs.Common.{◌≡◌, ◌+◌, ◌<◌, ◌++◌, ◌∷◌, ◌∙◌, List, ℕ, drop, map, length, get_or, ap, arith}
+use Rattle.std.proofs.lemmas.List.{drop_more}
+use Rattle.std.proofs.lemmas.Result.{err_from_is_err_and}
+use Rattle.metainfo.specs.File.{File}
+use Rattle.metainfo.specs.Seen.{file_entry}
+use Rattle.folders.specs.declared.report.FileVerdict.{FileVerdict}
+use Rattle.folders.specs.declared.report.FileVerdict.TheVariants.{Good}
+use Rattle.folders.specs.Printed.{verdict_text, verdicts_text}
+use Rattle.lines.proofs.Parts.{item_next, sent_fault, sent_next}
+use Rattle.folders.proofs.report_lines.write_verdicts.Goals as goal
+
+-- the line at an index, and those behind it
+next_line : (verdicts : List FileVerdict) (files : List File) (i : ℕ) (file : File) → i < length verdicts → i < length files → file ≡ get_or files i file
+    → verdicts_text (drop i verdicts) (map file_entry (drop i files))
+    ≡ verdict_text (get_or verdicts i Good) (file_entry file) ++ verdicts_text (drop (i + 1) verdicts) (map file_entry (drop (i + 1) files))
+next_line verdicts files i file lt within there =
+    ap (λ vs. verdicts_text vs (map file_entry (drop i files))) (drop_more verdicts i Good lt)
+    ∙ ap (λ fs. verdicts_text (get_or verdicts i Good ∷ drop (i + 1) verdicts) (map file_entry fs)) (item_next files i file within there)
+
+pub returns-in_err-write_verdict : goal.returns-in_err-write_verdict
+returns-in_err-write_verdict g c =
+    let next = next_line c.args.verdicts.now c.args.files.now c.files.i c.index-files-i.result (omega (arith, c.files-test.true, c.requires)) (omega (arith, c.files-test.true)) c.index-files-i.is in
+    let p = err_from_is_err_and c.from_residual.result c.from_residual.ensures.1 in
+    sent_fault _ p.0 _ _ _ _ _ _ _ c.files.invariant next p.1 c.in_err-write_verdict.ensures
+
+pub files-preserved : goal.files-preserved
+files-preserved g c =
+    let next = next_line c.args.verdicts.now c.args.files.now c.files.i c.index-files-i.result (omega (arith, c.files-test.true, c.requires)) (omega (arith, c.files-test.true)) c.index-files-i.is in
+    sent_next _ _ _ _ _ _ _ c.files.invariant next c.in_ok-write_verdict.ensures

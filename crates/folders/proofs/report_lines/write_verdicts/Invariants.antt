@@ -1,0 +1,11 @@
+use Rattle.std.proofs.Common.{drop, map}
+use Rattle.metainfo.specs.Seen.{file_entry}
+use Rattle.folders.specs.Printed.{verdicts_text}
+use Rattle.lines.proofs.Parts.{SentBut}
+use Rattle.folders.proofs.report_lines.write_verdicts.Given as goal
+
+-- the lines of some first files went out
+abbrev pub invariant-files : goal.invariant-files
+invariant-files g l =
+    SentBut (g.W.Sink.seen l.fn.out) (g.W.Sink.seen l.out)
+    (verdicts_text l.verdicts (map file_entry l.files)) (verdicts_text (drop l.i l.verdicts) (map file_entry (drop l.i l.files)))

@@ -1,0 +1,17 @@
+use Rattle.std.proofs.Common.{◌≡◌, ◌≤◌, ◌<◌, ◌-◌, ◌+◌, ℕ, List, length}
+use Rattle.wire.specs.Reading.{Gave}
+use Rattle.folders.proofs.take_all.take_all.Given as goal
+
+abbrev pub invariant-parts : goal.invariant-parts
+invariant-parts g l = record {
+  within : l.count ≤ l.bound;
+  some : 0 < length l.buffer;
+  falls : (g.F.Source.seen l.source).limit + l.count ≡ (g.F.Source.seen l.fn.source).limit;
+  counted : (g.F.Source.seen l.source).faults ≡ (g.F.Source.seen l.fn.source).faults;
+  so_far : (bytes : List ℕ) × (length bytes ≡ l.count) × Gave (g.F.Source.seen l.fn.source) (g.F.Source.seen l.source) bytes
+      × g.T.Taker.took l.fn.taker bytes l.taker;
+  room : g.T.Taker.has_room l.taker (l.bound - l.count);
+}
+
+abbrev pub decreases-parts : goal.decreases-parts
+decreases-parts g l = l.bound - l.count

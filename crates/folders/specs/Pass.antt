@@ -1,0 +1,43 @@
+-- One file of a check: its verdict, and what the version 1 stream took of it.
+use Rattle.std.specs.Prelude.{◌≡◌, ℕ, ◌<◌, ◌≤◌, List, [], length, Bool, true, false, Option, Some, None}
+use Rattle.metainfo.specs.Description.{Description, FileEntry}
+use Rattle.folders.specs.Content.{part_of}
+use Rattle.folders.specs.Folder.{start_of}
+use Rattle.folders.specs.Streaming.{StandsAt, Takes}
+use Rattle.folders.specs.Verdicts.{Agrees, IsVerdict, is_unreadable, is_whole}
+use Rattle.folders.specs.declared.report.FileVerdict.{FileVerdict}
+use Rattle.pieces.specs.declared.v1_feed.V1Feed.{V1Feed}
+
+-- the stream took the part of a file that has these bytes
+pub record IsPart (t : Description) (f : FileEntry) (bytes : List ℕ) (old new : Option V1Feed)
+    : Type 0 where
+  pub length_is : length bytes ≡ f.length
+  pub streamed : (from : ℕ) → StandsAt old from → from ≤ start_of t f
+      → Takes old new (part_of from (start_of t f) bytes)
+
+-- the bytes of a source that had this to give: none, or some
+abbrev pub IsEmptyContent : Option (List ℕ) → Bool → Type 0
+IsEmptyContent left true = (file : List ℕ) → left ≡ Some file → file ≡ []
+IsEmptyContent left false =
+    (bytes : List ℕ) × (0 < length bytes) × ((file : List ℕ) → left ≡ Some file → file ≡ bytes)
+
+-- A file that had this to give was read without a fault. It has these bytes, which are the known
+-- ones; the verdict is true of them; and if it is as long as stated the stream took its part.
+pub record IsOpenedVerdict (t : Description) (f : FileEntry) (left : Option (List ℕ))
+    (old new : Option V1Feed) (v : FileVerdict) : Type 0 where
+  pub bytes : List ℕ
+  pub agrees : (file : List ℕ) → left ≡ Some file → file ≡ bytes
+  pub verdict : IsVerdict t f (Some bytes) v
+  pub readable : is_unreadable v ≡ false
+  pub taken : is_whole v ≡ true → IsPart t f bytes old new
+
+-- What a check found of a file of whose path a shelf tells this. It has this content, which is the
+-- known one; the verdict is true of it; and the stream took its part or has ended.
+pub record Finds (t : Description) (f : FileEntry) (told : Option (Option (List ℕ)))
+    (old new : Option V1Feed) (v : FileVerdict) : Type 0 where
+  pub content : Option (List ℕ)
+  pub agrees : Agrees told content
+  pub verdict : IsVerdict t f content v
+  pub taken : is_whole v ≡ true
+      → (bytes : List ℕ) × (content ≡ Some bytes) × IsPart t f bytes old new
+  pub stopped : is_whole v ≡ false → new ≡ None

@@ -1,0 +1,29 @@
+-- What reading a source to its end told, and what took the bytes.
+use Rattle.std.specs.Prelude.{◌≡◌, ℕ, ◌+◌, ◌<◌, ◌≤◌, List, length, Option, Some, None}
+use Rattle.std.specs.Io.KnownBytes.{IsAtEnd}
+use Rattle.benc.specs.Device.{SourceSeen}
+use Rattle.wire.specs.Reading.{Gave}
+
+-- no more bytes than these were read
+abbrev pub IsReadWithin : ℕ → SourceSeen → SourceSeen → Type 0
+IsReadWithin bound old new = old.limit ≤ new.limit + bound
+
+-- all that the source had, and so many bytes, at most as many as the bound, went to the taker
+pub record TookAll {T : Type 0} (took : T → List ℕ → T → Type 0) (old new : SourceSeen) (bound : ℕ)
+    (before after : T) (count : ℕ) : Type 0 where
+  pub bytes : List ℕ
+  pub count_is : length bytes ≡ count
+  pub within : count ≤ bound
+  pub gave : Gave old new bytes
+  pub ended : IsAtEnd new.left
+  pub taken : took before bytes after
+
+-- the source gave more bytes than the bound
+abbrev pub GaveMore : SourceSeen → SourceSeen → ℕ → Type 0
+GaveMore old new bound = (bytes : List ℕ) × Gave old new bytes × (bound < length bytes)
+
+-- the source was taken whole, or it has more bytes than the bound
+abbrev pub ReadAll : {T : Type 0} → (T → List ℕ → T → Type 0) → SourceSeen → SourceSeen → ℕ
+    → T → T → Option ℕ → Type 0
+ReadAll took old new bound before after (Some count) = TookAll took old new bound before after count
+ReadAll took old new bound before after None = GaveMore old new bound

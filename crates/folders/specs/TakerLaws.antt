@@ -1,0 +1,106 @@
+-- The laws of what takes a file's bytes: several parts are one, and leave room for less.
+use Rattle.std.proofs.Common.{◌≡◌, ℕ, ◌+◌, ◌^◌, ◌≤◌, ◌++◌, List, [], length, Option, Some, None, refl, sym, ◌∙◌, subst, append_assoc, append-nil, arith}
+use Rattle.std.proofs.lemmas.List.{length-append}
+use Rattle.hashtree.specs.RootBuilder.{IsFed}
+use Rattle.hashtree.specs.declared.RootBuilder.{RootBuilder}
+use Rattle.hashtree.specs.PieceCheck.{IsFedCheck}
+use Rattle.metainfo.specs.Feeding.{given, total}
+use Rattle.folders.specs.Feeding.{Builds, CanBuild, CanFeed, Feeds}
+use Rattle.folders.specs.declared.file_check.FileCheck.{FileCheck}
+use Rattle.folders.specs.Streaming.{HasRoom, IsGiven, StandsAt, Takes}
+use Rattle.pieces.specs.declared.v1_feed.V1Feed.{V1Feed}
+
+-- ---- the version 1 stream
+
+-- what is left of the room
+pub takes_room : (old new : Option V1Feed) (part : List ℕ) (n m : ℕ)
+    → Takes old new part → HasRoom old m → length part + n ≤ m → HasRoom new n
+takes_room None None part n m takes room fits = tt
+takes_room None (Some s) part n m takes room fits = let no : ⊥ = cc (takes.goes_on) in absurd no
+takes_room (Some r) None part n m takes room fits = tt
+takes_room (Some r) (Some s) part n m takes room fits =
+    omega (arith, takes.stands (given r) refl, takes.ends (total r) refl)
+
+pub takes_append : (a b c : Option V1Feed) (xs ys : List ℕ)
+    → Takes a b xs → Takes b c ys → Takes a c (xs ++ ys)
+takes_append a b c xs ys one two = record {
+  goes_on = two.goes_on ∙ one.goes_on;
+  stands = λ n at.
+      let e : n + length xs + length ys ≡ n + length (xs ++ ys) =
+      omega (arith, length-append xs ys) in
+      subst (StandsAt c) e (two.stands (n + length xs) (one.stands n at));
+  ends = λ n at. two.ends n (one.ends n at);
+  given = λ pieces piece_length content given.
+      subst (IsGiven c pieces piece_length) (append_assoc content xs ys)
+      (two.given pieces piece_length (content ++ xs) (one.given pieces piece_length content given));
+}
+
+pub takes_nothing : (a : Option V1Feed) → Takes a a []
+takes_nothing a = record {
+  goes_on = refl;
+  stands = λ n at. subst (StandsAt a) (let e : n ≡ n + 0 = omega arith in e) at;
+  ends = λ n at. at;
+  given = λ pieces piece_length content given.
+      subst (IsGiven a pieces piece_length) (sym (append-nil content)) given;
+}
+
+-- if there is room, there is room for less
+pub takes_less : (a : Option V1Feed) (m n : ℕ) → HasRoom a n → m ≤ n → HasRoom a m
+takes_less None m n room le = tt
+takes_less (Some r) m n room le = omega (arith, room, le)
+
+-- ---- a builder of a root
+
+pub built_none : (b : RootBuilder) → Builds b [] b
+built_none b = record {
+  count = omega arith;
+  fed = λ file fed. subst (IsFed b) (sym (append-nil file)) fed;
+}
+
+pub built_both : (a b c : RootBuilder) (x y : List ℕ)
+    → Builds a x b → Builds b y c → Builds a (x ++ y) c
+built_both a b c x y one two = record {
+  count = omega (arith, one.count, two.count, length-append x y);
+  fed = λ file fed.
+      subst (IsFed c) (append_assoc file x y) (two.fed (file ++ x) (one.fed file fed));
+}
+
+pub built_room : (a b : RootBuilder) (x : List ℕ) (n : ℕ)
+    → Builds a x b → CanBuild a (length x + n) → CanBuild b n
+built_room a b x n one room = omega (arith, one.count, room)
+
+pub built_less : (b : RootBuilder) (m n : ℕ) → CanBuild b n → m ≤ n → CanBuild b m
+built_less b m n room le = omega (arith, room, le)
+
+-- ---- the check of a tree together with the stream
+
+pub fed_none : (c : FileCheck) → Feeds c [] c
+fed_none c = record {
+  count = omega arith;
+  shape = refl;
+  layer = refl;
+  hashes = refl;
+  fed = λ file fed. subst (IsFedCheck c.pieces) (sym (append-nil file)) fed;
+  streamed = takes_nothing c.stream.feed;
+}
+
+pub fed_both : (a b c : FileCheck) (x y : List ℕ) → Feeds a x b → Feeds b y c → Feeds a (x ++ y) c
+fed_both a b c x y one two = record {
+  count = omega (arith, one.count, two.count, length-append x y);
+  shape = two.shape ∙ one.shape;
+  layer = two.layer ∙ one.layer;
+  hashes = two.hashes ∙ one.hashes;
+  fed = λ file fed.
+      subst (IsFedCheck c.pieces) (append_assoc file x y) (two.fed (file ++ x) (one.fed file fed));
+  streamed = takes_append a.stream.feed b.stream.feed c.stream.feed x y one.streamed two.streamed;
+}
+
+pub fed_room : (a b : FileCheck) (x : List ℕ) (n : ℕ)
+    → Feeds a x b → CanFeed a (length x + n) → CanFeed b n
+fed_room a b x n one room = (
+  omega (arith, one.count, one.shape, room.0),
+  takes_room a.stream.feed b.stream.feed x n (length x + n) one.streamed room.1 (omega arith),
+)
+
+pub fed_less : (c : FileCheck) (m n : ℕ) → CanFeed c n → m ≤ n → CanFeed c m
+fed_less c m n room le = (omega (arith, room.0, le), takes_less c.stream.feed m n room.1 le)

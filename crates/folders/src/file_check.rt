@@ -1,0 +1,37 @@
+//! What takes a file's bytes as they are read: the check of its tree, and the version 1 stream.
+ghost use Rattle.std.specs.Prelude.{◌≡◌};
+
+use crate::stream::Stream;
+use crate::take_all::Taker;
+use hashtree::PieceCheck;
+
+/// The check of a file's tree and the version 1 stream, fed together.
+#[derive(Drop)]
+pub struct FileCheck<'t, 'v> {
+    /// The check of the file's tree.
+    pub pieces: PieceCheck<'t>,
+    /// The stream, filled up to the file's start.
+    pub stream: Stream<'v>,
+}
+
+impl<'t, 'v> Taker for FileCheck<'t, 'v> {
+    ghost use Rattle.folders.specs.Feeding.{CanFeed, Feeds};
+    ghost use Rattle.folders.specs.TakerLaws.{fed_none, fed_both, fed_room, fed_less};
+
+    ghost has_room = { CanFeed };
+
+    ghost took = { Feeds };
+
+    fn take(&mut self, part: &[u8]) {
+        self.pieces.push(part);
+        self.stream.push(part);
+    }
+
+    ghost none = { fed_none };
+
+    ghost joins = { fed_both };
+
+    ghost room_left = { fed_room };
+
+    ghost room_for_less = { fed_less };
+}

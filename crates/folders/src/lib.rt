@@ -1,0 +1,23 @@
+//! Files and folders: the root of a file, shelves, and the check that a shelf holds a torrent's
+//! files.
+#![tactic(auto)]
+
+mod checking;
+mod file_check;
+mod mem_shelf;
+mod report;
+mod report_lines;
+mod root;
+mod shelf;
+mod shelf_fault;
+mod stream;
+mod take_all;
+
+pub use checking::check;
+pub use mem_shelf::{MemFile, MemShelf};
+pub use report::{FileVerdict, Report, V1Verdict};
+pub use report_lines::print_report;
+pub use root::{RootFault, root_line};
+pub use shelf::Shelf;
+pub use shelf_fault::ShelfFault;
+pub use std::alloc::AllocError as NoMemory;

@@ -1,0 +1,255 @@
+//! A shelf over memory, for tests: it counts its openings, and fails at a set call.
+ghost use Rattle.std.specs.Prelude.{◌≡◌, ℕ, ◌-◌, ◌^◌, ◌<◌, List, [], map, Some, None, option_map, IfOk, true, false};
+ghost use Rattle.benc.specs.Calls.{after_call};
+ghost use Rattle.folders.specs.MemShelf.{first_with, path_of};
+ghost use Rattle.folders.specs.Shelf.{IsEachOnce, is_path, path_bytes};
+
+use crate::shelf::Shelf;
+use crate::shelf_fault::ShelfFault;
+use benc::memory::{Calls, MemSource};
+use benc::{DeviceFault, Source};
+use std::alloc::{AllocError, Global};
+
+/// A file of a shelf in memory.
+#[derive(Clone, Copy, Drop)]
+pub struct MemFile<'a> {
+    path: &'a [&'a str],
+    content: &'a [u8],
+    before_fault: Option<u64>,
+}
+
+impl<'a> MemFile<'a> {
+    ghost use Rattle.folders.specs.MemShelfCalls.{IsSourceOf};
+
+    /// A file with these path components and these bytes, whose reads never fail.
+    pub fn new(path: &'a [&'a str], content: &'a [u8]) -> MemFile<'a>
+        ensures path { path_of result ≡ map (λ s. s.now) path.entry.now }
+        ensures content { result.content.now ≡ content.entry.now }
+        ensures succeeds { result.before_fault ≡ None }
+    {
+        MemFile {
+            path,
+            content,
+            before_fault: None,
+        }
+    }
+
+    /// Whenever it is opened, so many reads succeed, and the one after them fails and gives
+    /// nothing. Later ones succeed.
+    pub fn fails_after(mut self, calls: u64) -> MemFile<'a>
+        ensures fails { result.before_fault ≡ Some calls }
+        ensures path { path_of result ≡ path_of self.entry }
+        ensures content { result.content.now ≡ self.entry.content.now }
+    {
+        self.before_fault = Some(calls);
+        self
+    }
+
+    fn has_path(&self, path: &[&str]) -> bool
+        ensures { result ≡ is_path (map (λ s. s.now) path.now) (path_of self.now) }
+    {
+        path == self.path
+    }
+
+    // The file opened, whose reads give at most so many bytes.
+    fn source(&self, at_most: usize) -> MemSource<'a>
+        requires { 0 < at_most }
+        ensures { IsSourceOf self.now at_most result }
+    {
+        let source = MemSource::new(self.content).at_most(at_most);
+        match self.before_fault {
+            Some(calls) => source.fails_after(calls),
+            None => source,
+        }
+    }
+}
+
+// The first of the files that has this path.
+fn find<'f, 'a>(files: &'f [MemFile<'a>], path: &[&str]) -> Option<&'f MemFile<'a>>
+    ensures { option_map (λ f. f.now) result ≡ first_with (map (λ s. s.now) path.now) files.now }
+{
+    files.iter().find(|file| file.has_path(path))
+}
+
+// A path of one's own.
+fn owned(alloc: Global, path: &[&str]) -> Result<Vec<String>, AllocError>
+    ensures { IfOk result (λ owned. path_bytes owned ≡ map (λ s. s.now) path.now) }
+{
+    let mut owned = Vec::new(alloc);
+    'parts: for part in path {
+        owned.push(String::from_str(alloc, part)?)?;
+    }
+    Ok(owned)
+}
+
+// Each path that one of the files has, once.
+fn paths_of(alloc: Global, files: &[MemFile<'_>]) -> Result<Vec<Vec<String>>, AllocError>
+    ensures { IfOk result (λ paths.
+        IsEachOnce (map path_of files.now) (map path_bytes paths.items)) }
+{
+    let mut paths = Vec::new(alloc);
+    'files: for i in 0..files.len() {
+        if find(&files[..i], files[i].path).is_none() {
+            paths.push(owned(alloc, files[i].path)?)?;
+        }
+    }
+    Ok(paths)
+}
+
+/// A shelf that holds these files. Of two with one path it holds the first.
+#[derive(Drop)]
+pub struct MemShelf<'a> {
+    alloc: Global,
+    files: &'a [MemFile<'a>],
+    has_odd_name: bool,
+    specials: &'a [&'a [&'a str]],
+    at_most: usize,
+    calls: Calls,
+    opened: u64,
+    ghost some: { 0 < at_most },
+}
+
+impl<'a> MemShelf<'a> {
+    ghost use Rattle.folders.specs.MemShelfCalls.{seen_of};
+
+    /// A shelf whose calls never fail, and whose files give as many bytes a call as there is room
+    /// for.
+    pub fn new(alloc: Global, files: &'a [MemFile<'a>]) -> MemShelf<'a>
+        ensures { seen_of result ≡ record {
+          files = files.entry.now;
+          has_odd_name = false;
+          specials = [];
+          at_most = 2 ^ 64 - 1;
+          before_fault = None;
+          faults = 0;
+          openings = 0;
+        } }
+    {
+        MemShelf {
+            alloc,
+            files,
+            has_odd_name: false,
+            specials: &[],
+            at_most: usize::MAX,
+            calls: Calls::that_succeed(),
+            opened: 0,
+        }
+    }
+
+    /// There is a name too that is not UTF-8.
+    pub fn with_odd_name(mut self) -> MemShelf<'a>
+        ensures { seen_of result ≡ record (seen_of self.entry) { has_odd_name = true } }
+    {
+        self.has_odd_name = true;
+        self
+    }
+
+    /// Under these paths stands what is neither a regular file nor a folder.
+    pub fn with_specials(self, paths: &'a [&'a [&'a str]]) -> MemShelf<'a>
+        ensures { seen_of result ≡ record (seen_of self.entry) {
+          specials = map (λ p. map (λ c. c.now) p.now) paths.entry.now;
+        } }
+    {
+        MemShelf {
+            alloc: self.alloc,
+            files: self.files,
+            has_odd_name: self.has_odd_name,
+            specials: paths,
+            at_most: self.at_most,
+            calls: self.calls,
+            opened: self.opened,
+        }
+    }
+
+    /// From here on a read of a file gives at most so many bytes.
+    pub fn at_most(mut self, count: usize) -> MemShelf<'a>
+        requires { 0 < count }
+        ensures { seen_of result ≡ record (seen_of self.entry) { at_most = count } }
+    {
+        self.at_most = count;
+        self
+    }
+
+    /// So many further calls of `list` and `open` succeed, and the one after them fails. Later ones
+    /// succeed.
+    pub fn fails_after(mut self, calls: u64) -> MemShelf<'a>
+        ensures { seen_of result ≡ record (seen_of self.entry) { before_fault = Some calls } }
+    {
+        self.calls.fail_after(calls);
+        self
+    }
+
+    /// How often `open` was called, modulo 2^64.
+    pub fn openings(&self) -> u64
+        ensures { result ≡ (seen_of self.now).openings }
+    {
+        self.opened
+    }
+}
+
+impl<'a> Shelf for MemShelf<'a> {
+    type File = MemSource<'a>;
+
+    ghost use Rattle.folders.specs.MemShelf.{content_under, listing_of};
+    ghost use Rattle.folders.specs.MemShelfCalls.{Closes, ListsInTurn, Opens, seen_of};
+    ghost use Rattle.folders.specs.Shelf.{CountsListing, IsListed};
+
+    ghost under = { λ s p. Some (content_under (seen_of s).files p) };
+
+    ghost listing = { λ s. Some (listing_of (seen_of s).files
+        (seen_of s).has_odd_name (seen_of s).specials) };
+
+    ghost opens = { λ s path r t. Opens (seen_of s) path r (seen_of t) };
+
+    ghost closes = { λ s file t. Closes (seen_of s) file (seen_of t) };
+
+    ghost faults = { λ s. (seen_of s).faults };
+
+    fn list(&mut self) -> Result<Vec<Vec<String>>, ShelfFault>
+        ensures listed { IsListed (Some (listing_of (seen_of self.old).files
+            (seen_of self.old).has_odd_name (seen_of self.old).specials)) result }
+        ensures counts { CountsListing (seen_of self.old).faults (seen_of self.new).faults result }
+        ensures listing { Some (listing_of (seen_of self.new).files
+            (seen_of self.new).has_odd_name (seen_of self.new).specials)
+            ≡ Some (listing_of (seen_of self.old).files
+            (seen_of self.old).has_odd_name (seen_of self.old).specials) }
+        ensures kept { (p : List (List ℕ)) → Some (content_under (seen_of self.new).files p)
+            ≡ Some (content_under (seen_of self.old).files p) }
+        ensures fails { ListsInTurn (seen_of self.old).before_fault result }
+        ensures stays { seen_of self.new ≡ record (seen_of self.old) {
+          before_fault = after_call (seen_of self.old).before_fault;
+          faults = (seen_of self.new).faults;
+        } }
+    {
+        if self.calls.next().is_err() {
+            return Err(ShelfFault::Device);
+        }
+        if self.has_odd_name {
+            return Err(ShelfFault::Name);
+        }
+        match self.specials.first() {
+            Some(path) => Err(ShelfFault::Special(owned(self.alloc, path)?)),
+            None => Ok(paths_of(self.alloc, self.files)?),
+        }
+    }
+
+    fn open(&mut self, path: &[&str]) -> Result<Option<MemSource<'a>>, DeviceFault> {
+        self.opened = self.opened.wrapping_add(1);
+        self.calls.next()?;
+        match find(self.files, path) {
+            Some(file) => Ok(Some(file.source(self.at_most))),
+            None => Ok(None),
+        }
+    }
+
+    fn close(&mut self, file: MemSource<'a>) {
+        self.calls.faults = self.calls.faults.wrapping_add(file.failures());
+    }
+
+    fn failures(&self) -> u64 {
+        self.calls.faults
+    }
+}
+
+#[cfg(test)]
+mod tests;

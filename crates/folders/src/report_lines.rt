@@ -1,0 +1,117 @@
+//! The lines of a report.
+ghost use Rattle.std.specs.Prelude.{◌≡◌, length, map, is_some, OnOk, true};
+ghost use Rattle.benc.specs.Device.{Wrote, WroteAndFlushed};
+ghost use Rattle.metainfo.specs.Seen.{file_entry};
+ghost use Rattle.folders.specs.Printed.{answer_text, report_text, stream_text, verdict_text, verdict_words, verdicts_text};
+
+use crate::report::{FileVerdict, Report, V1Verdict};
+use benc::{DeviceFault, Sink, WriteFault, write_all};
+use lines::{Line, flush_after, write_path};
+use metainfo::{File, Torrent};
+
+/// Writes what a check of this torrent's folder found, and flushes: a line for each file, for a
+/// hybrid a line on its version 1 pieces, and `yes` or `no`. The report has a verdict for each
+/// file, and one on the version 1 pieces exactly if the torrent is a hybrid. It takes no memory.
+/// After `WriteFault` a prefix of these lines went out.
+pub fn print_report<W: Sink>(
+    report: &Report,
+    torrent: &Torrent<'_>,
+    out: &mut W,
+) -> Result<(), WriteFault>
+    requires files { length report.now.files.items ≡ length torrent.now.files }
+    requires hybrid { is_some report.now.v1 ≡ is_some torrent.now.v1 }
+    ensures { WroteAndFlushed (W.seen out.old) (W.seen out.new) result
+        (report_text torrent.now.files report.now.files.items report.now.v1) }
+{
+    let written = write_report(report, torrent.files(), out);
+    flush_after(out, written)
+}
+
+fn write_report<W: Sink>(
+    report: &Report,
+    files: &[File<'_>],
+    out: &mut W,
+) -> Result<(), DeviceFault>
+    requires { length report.now.files.items ≡ length files.now }
+    ensures { Wrote (W.seen out.old) (W.seen out.new) result
+        (report_text (map file_entry files.now) report.now.files.items report.now.v1) }
+{
+    write_verdicts(&report.files, files, out)?;
+    write_all(out, stream_line(&report.v1).as_slice())?;
+    write_all(out, answer(report.yes()).as_slice())
+}
+
+fn write_verdicts<W: Sink>(
+    verdicts: &[FileVerdict],
+    files: &[File<'_>],
+    out: &mut W,
+) -> Result<(), DeviceFault>
+    requires { length verdicts.now ≡ length files.now }
+    ensures { Wrote (W.seen out.old) (W.seen out.new) result
+        (verdicts_text verdicts.now (map file_entry files.now)) }
+{
+    'files: for i in 0..files.len() {
+        write_verdict(verdicts[i], &files[i], out)?;
+    }
+    Ok(())
+}
+
+fn write_verdict<W: Sink>(
+    verdict: FileVerdict,
+    file: &File<'_>,
+    out: &mut W,
+) -> Result<(), DeviceFault>
+    ensures { Wrote (W.seen out.old) (W.seen out.new) result
+        (verdict_text verdict (file_entry file.now)) }
+{
+    write_all(out, words(verdict).as_slice())?;
+    write_path(out, file.path.parts())?;
+    write_all(out, b"\n")
+}
+
+fn words(verdict: FileVerdict) -> Line
+    ensures { result ≡ verdict_words verdict }
+{
+    let mut line = Line::new();
+    match verdict {
+        FileVerdict::Good => line.put(b"good "),
+        FileVerdict::Missing => line.put(b"missing "),
+        FileVerdict::Unreadable => line.put(b"unreadable "),
+        FileVerdict::WrongLength => line.put(b"wrong length "),
+        FileVerdict::Bad(piece) => {
+            line.put(b"bad ");
+            line.put_number(piece);
+            line.put(b" ");
+        }
+    }
+    line
+}
+
+fn stream_line(v1: &Option<V1Verdict>) -> Line
+    ensures { result ≡ stream_text v1.now }
+{
+    let mut line = Line::new();
+    match v1 {
+        None => {}
+        Some(V1Verdict::Good) => line.put(b"v1 good\n"),
+        Some(V1Verdict::Bad(piece)) => {
+            line.put(b"v1 bad ");
+            line.put_number(*piece);
+            line.put(b"\n");
+        }
+        Some(V1Verdict::NotChecked) => line.put(b"v1 not checked\n"),
+    }
+    line
+}
+
+fn answer(yes: bool) -> Line
+    ensures { result ≡ answer_text yes }
+{
+    let mut line = Line::new();
+    line.put(if yes {
+        b"yes\n".as_slice()
+    } else {
+        b"no\n".as_slice()
+    });
+    line
+}

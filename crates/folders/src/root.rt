@@ -1,0 +1,126 @@
+//! The line that tells a file's length and its pieces root.
+ghost use Rattle.std.specs.Prelude.{◌≡◌, ◌↔◌, ℕ, ◌+◌, ◌^◌, ◌≤◌, List, length, Some, Err, IfOk, OnErr, OnOk, IsTrue, true};
+ghost use Rattle.benc.specs.Device.{BrokeOrUnflushed, CountsFault, SentAndFlushed};
+ghost use Rattle.folders.specs.Reading.{IsReadingOf};
+ghost use Rattle.folders.specs.Root.{Blames, root_line_of};
+ghost use Rattle.folders.specs.TakeAll.{IsReadWithin};
+
+use crate::take_all::{Taker, take_all};
+use benc::{DeviceFault, Sink, Source};
+use hashtree::{Hash, MAX_LENGTH, RootBuilder};
+use lines::{Line, write_line};
+use thiserror::Error;
+
+/// Why no line was written whole.
+#[derive(Debug, Drop, Error)]
+pub enum RootFault {
+    /// The source failed, and nothing was written.
+    #[error("the source failed")]
+    Read,
+    /// The sink failed, and a prefix of the line went out.
+    #[error("the sink failed")]
+    Write,
+}
+
+// What reading a source told.
+#[derive(Drop)]
+enum Reading {
+    Empty,
+    Root(u64, Hash),
+    TooLong,
+}
+
+/// Reads a file's content from the source, writes the line that tells its length in bytes and its
+/// pieces root (BEP 52), and flushes once. It takes no memory.
+///
+/// The line is `LENGTH ROOT`, the root in hexadecimal, or `0 -` for an empty file, and the answer
+/// is true. Above 2^46 bytes it is `refused 10 Length`, the answer is false, and no byte after
+/// number 2^46 + 1 was read.
+///
+/// The first fault of a device ends it: `Read` if the source failed, and then nothing was
+/// written or flushed, and `Write` if the sink failed, and then a prefix of the line went
+/// out. No flush comes before all of it did.
+pub fn root_line<R: Source, W: Sink>(source: &mut R, out: &mut W) -> Result<bool, RootFault>
+    ensures line { (file : List ℕ) → (R.seen source.old).left ≡ Some file → OnOk result
+        (SentAndFlushed (W.seen out.old) (W.seen out.new) (root_line_of file)) }
+    ensures within { (file : List ℕ) → (R.seen source.old).left ≡ Some file → IfOk result
+        (λ within. IsTrue within ↔ (length file ≤ 2 ^ 46)) }
+    ensures no_further { IsReadWithin (2 ^ 46 + 1) (R.seen source.old) (R.seen source.new) }
+
+    // A fault is answered where that device had one, and no other.
+    ensures faults { Blames (R.seen source.old) (R.seen source.new)
+        (W.seen out.old) (W.seen out.new) result }
+    ensures prefix { (file : List ℕ) → (R.seen source.old).left ≡ Some file
+        → result ≡ Err RootFault.Write
+        → BrokeOrUnflushed (W.seen out.old) (W.seen out.new) (root_line_of file) }
+{
+    let Ok(reading) = read_content(source) else {
+        return Err(RootFault::Read);
+    };
+    let within = !matches!(reading, Reading::TooLong);
+    match write_line(out, reading_line(&reading).as_slice()) {
+        Ok(()) => Ok(within),
+        Err(_) => Err(RootFault::Write),
+    }
+}
+
+// The line that tells this.
+fn reading_line(reading: &Reading) -> Line
+    ensures { (file : List ℕ) → IsReadingOf file reading.now → result ≡ root_line_of file }
+{
+    let mut line = Line::new();
+    match reading {
+        Reading::Empty => line.put(b"0 -\n"),
+        Reading::Root(length, root) => {
+            line.put_number(*length);
+            line.put(b" ");
+            line.put_digest(root);
+            line.put(b"\n");
+        }
+        Reading::TooLong => line.put(b"refused 10 Length\n"),
+    }
+    line
+}
+
+// Reads the source to its end, or to one byte past the greatest length.
+fn read_content<R: Source>(source: &mut R) -> Result<Reading, DeviceFault>
+    ensures content { (file : List ℕ) → (R.seen source.old).left ≡ Some file
+        → IfOk result (IsReadingOf file) }
+    ensures counts { CountsFault (R.seen source.old).faults (R.seen source.new).faults result }
+    ensures no_further { IsReadWithin (2 ^ 46 + 1) (R.seen source.old) (R.seen source.new) }
+{
+    let mut buffer = [0u8; 65536];
+    let mut builder = RootBuilder::new();
+    match take_all(source, MAX_LENGTH, &mut buffer, &mut builder)? {
+        None => Ok(Reading::TooLong),
+        Some(0) => Ok(Reading::Empty),
+        Some(_) => {
+            let (length, root) = builder.finish();
+            Ok(Reading::Root(length, root))
+        }
+    }
+}
+
+impl Taker for RootBuilder {
+    ghost use Rattle.folders.specs.Feeding.{Builds, CanBuild};
+    ghost use Rattle.folders.specs.TakerLaws.{built_none, built_both, built_room, built_less};
+
+    ghost has_room = { CanBuild };
+
+    ghost took = { Builds };
+
+    fn take(&mut self, part: &[u8]) {
+        self.push(part);
+    }
+
+    ghost none = { built_none };
+
+    ghost joins = { built_both };
+
+    ghost room_left = { built_room };
+
+    ghost room_for_less = { built_less };
+}
+
+#[cfg(test)]
+mod tests;

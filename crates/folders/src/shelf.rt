@@ -1,0 +1,62 @@
+//! Shelves: where a torrent's files lie, each under its path.
+ghost use Rattle.std.specs.Prelude.{◌≡◌, ℕ, List, map, Option, option_map, IfOk, IfSome};
+ghost use Rattle.benc.specs.Device.{CountsFault};
+ghost use Rattle.folders.specs.Shelf.{CountsListing, IsFound, IsListed, Listing, more};
+
+use crate::shelf_fault::ShelfFault;
+use benc::{DeviceFault, Source};
+
+/// A place where files lie under paths. A file that it opened is handed back to it.
+pub trait Shelf {
+    ghost use Rattle.std.specs.Prelude.{Result};
+    ghost use Rattle.benc.specs.declared.device.DeviceFault.{DeviceFault};
+
+    /// An opened file.
+    type File: Source;
+
+    // What is under each path, if that is known: nothing, or a file with these bytes.
+    ghost under: { Self → List (List ℕ) → Option (Option (List ℕ)) };
+
+    // What is on the shelf, if that is known.
+    ghost listing: { Self → Option Listing };
+
+    // What a call of `open` with this path may answer, and the shelf after it.
+    ghost opens: { Self → List (List ℕ) → Result (Option Self.File) DeviceFault → Self → Type 0 };
+
+    // The shelf after a call of `close` with this file.
+    ghost closes: { Self → Self.File → Self → Type 0 };
+
+    // How many faults the shelf and the files that were handed back had, modulo 2^64.
+    ghost faults: { Self → ℕ };
+
+    /// Lists the files, those in folders too: the path of each, once, in any order. It refuses with
+    /// `Name` if a name is not UTF-8, and with `Special` if something is neither a regular
+    /// file nor a folder. The shelf stays as it is.
+    fn list(&mut self) -> Result<Vec<Vec<String>>, ShelfFault>
+        ensures listed { IsListed (listing self.old) result }
+        ensures counts { CountsListing (faults self.old) (faults self.new) result }
+        ensures listing { listing self.new ≡ listing self.old }
+        ensures kept { (p : List (List ℕ)) → under self.new p ≡ under self.old p };
+
+    /// Opens the file with these path components. It answers `None` if nothing has that name.
+    fn open(&mut self, path: &[&str]) -> Result<Option<Self::File>, DeviceFault>
+        ensures found { IfOk result (λ found. IsFound (under self.old (map (λ s. s.now) path.now))
+            (option_map (λ f. (Self.File.seen f).left) found)) }
+        ensures fresh { IfOk result (λ found. IfSome found (λ f. (Self.File.seen f).faults ≡ 0)) }
+        ensures counts { CountsFault (faults self.old) (faults self.new) result }
+        ensures opens { opens self.old (map (λ s. s.now) path.now) result self.new }
+        ensures listing { listing self.new ≡ listing self.old }
+        ensures kept { (p : List (List ℕ)) → under self.new p ≡ under self.old p };
+
+    /// Takes a file back, and adds its count of faults.
+    fn close(&mut self, file: Self::File)
+        ensures counts { faults self.new ≡ more (faults self.old) (Self.File.seen file).faults }
+        ensures closes { closes self.old file self.new }
+        ensures listing { listing self.new ≡ listing self.old }
+        ensures kept { (p : List (List ℕ)) → under self.new p ≡ under self.old p };
+
+    /// How many calls were answered with a fault, modulo 2^64, those on files that were handed back
+    /// among them.
+    fn failures(&self) -> u64
+        ensures { result ≡ faults self.now };
+}

@@ -1,0 +1,79 @@
+//! One reading of a source to its end, whatever takes the bytes.
+ghost use Rattle.std.specs.Prelude.{◌≡◌, ℕ, ◌+◌, ◌-◌, ◌^◌, ◌<◌, ◌≤◌, List, [], ◌++◌, length, IfOk};
+ghost use Rattle.benc.specs.Device.{CountsFault};
+ghost use Rattle.folders.specs.TakeAll.{IsReadWithin, ReadAll};
+
+use benc::{DeviceFault, Source};
+
+/// What takes the bytes of a reading, part by part.
+pub trait Taker {
+    // There is room for so many bytes more.
+    ghost has_room: { Self → ℕ → Type 0 };
+
+    // It was given these bytes.
+    ghost took: { Self → List ℕ → Self → Type 0 };
+
+    /// Takes these bytes.
+    fn take(&mut self, part: &[u8])
+        requires { has_room self.old (length part.now) }
+        ensures { took self.old part.now self.new };
+
+    ghost none: { (t : Self) → took t [] t };
+
+    ghost joins: { (a b c : Self) (x y : List ℕ) → took a x b → took b y c → took a (x ++ y) c };
+
+    ghost room_left: { (a b : Self) (x : List ℕ) (n : ℕ) → took a x b
+        → has_room a (length x + n) → has_room b n };
+
+    ghost room_for_less: { (t : Self) (m n : ℕ) → has_room t n → m ≤ n → has_room t m };
+}
+
+// Nothing takes the bytes.
+impl Taker for () {
+    ghost use Rattle.std.specs.Prelude.{⊤};
+
+    ghost has_room = { λ _ _. ⊤ };
+
+    ghost took = { λ _ _ _. ⊤ };
+
+    fn take(&mut self, _part: &[u8]) {}
+
+    ghost none = { λ _. tt };
+
+    ghost joins = { λ _ _ _ _ _ _ _. tt };
+
+    ghost room_left = { λ _ _ _ _ _ _. tt };
+
+    ghost room_for_less = { λ _ _ _ _ _. tt };
+}
+
+/// Reads a source through the buffer to its end, or to one byte past the bound, and hands on what
+/// it reads but the last part of a source that is longer. It tells whether the source ended.
+pub fn take_all<F: Source, T: Taker>(
+    source: &mut F,
+    bound: u64,
+    buffer: &mut [u8],
+    taker: &mut T,
+) -> Result<Option<u64>, DeviceFault>
+    requires some { 0 < length buffer.old }
+    requires room { T.has_room taker.old bound }
+    requires small { bound < 2 ^ 63 }
+    ensures no_further { IsReadWithin (bound + 1) (F.seen source.old) (F.seen source.new) }
+    ensures counts { CountsFault (F.seen source.old).faults (F.seen source.new).faults result }
+    ensures read { IfOk result (ReadAll T.took (F.seen source.old) (F.seen source.new) bound
+        taker.old taker.new) }
+{
+    let mut count = 0;
+    'parts: loop {
+        let room = (bound - count + 1).min(buffer.len() as u64) as usize;
+        let taken = source.read(&mut buffer[..room])?;
+        if taken == 0 {
+            return Ok(Some(count));
+        }
+        count += taken as u64;
+        if count > bound {
+            return Ok(None);
+        }
+        taker.take(&buffer[..taken]);
+    }
+}

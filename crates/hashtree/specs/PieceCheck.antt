@@ -1,0 +1,41 @@
+-- What a check against a layer was given. Contracts of users cite these, and need nothing of how
+-- they are defined.
+use Rattle.std.specs.Prelude.{◌≡◌, ℕ, ◌≤◌, ◌++◌, List, Option, length}
+use Rattle.hashtree.specs.Tree.{block_count, first_pad, height, layer_of}
+use Rattle.hashtree.specs.Difference.{IsCompared, IsComparison}
+use Rattle.hashtree.specs.RootBuilder.{IsFed, complete_nodes}
+use Rattle.hashtree.specs.RootBuilder as root
+use Rattle.hashtree.specs.declared.piece_check.PieceCheck.{PieceCheck}
+
+-- how many bytes the check was given
+abbrev pub byte_count : PieceCheck → ℕ
+byte_count c = root.byte_count c.builder
+
+-- the length of the file that is checked
+abbrev pub chosen_shape : PieceCheck → ℕ
+chosen_shape c = c.shape
+
+-- the layer that is checked
+abbrev pub chosen_layer : PieceCheck → ℕ
+chosen_layer c = c.layer
+
+-- the hashes that the layer is to have
+abbrev pub given_hashes : PieceCheck → List (List ℕ)
+given_hashes c = c.hashes.now
+
+-- the check was given this content, and has compared the nodes of its layer that are complete
+pub record IsFedCheck (c : PieceCheck) (content : List ℕ) : Type 0 where
+  pub fed : IsFed c.builder content
+  pub in_tree : c.layer ≤ height (block_count c.shape)
+  pub whole : length c.hashes.now ≡ first_pad (block_count c.shape) c.layer
+  pub nodes : IsCompared c.hashes.now (complete_nodes c.builder content c.layer) c.place c.other
+
+-- the check was given these further bytes
+abbrev pub FeedsCheck : PieceCheck → PieceCheck → List ℕ → Type 0
+FeedsCheck old new bytes =
+    (file : List ℕ) → IsFedCheck old file → IsFedCheck new (file ++ bytes)
+
+-- the first place of the checked layer of this file whose node is not the given hash, if any
+pub record IsFirstBadNode (c : PieceCheck) (file : List ℕ) (other : Option ℕ) : Type 0 where
+  pub size_is : length (layer_of file c.layer) ≡ length c.hashes.now
+  pub compared : IsComparison (layer_of file c.layer) c.hashes.now other

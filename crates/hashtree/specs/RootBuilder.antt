@@ -1,0 +1,41 @@
+-- What the builder of a root holds of the bytes that it was given. Contracts of users cite `IsFed`
+-- and `byte_count`, and need nothing of how `IsFed` is defined.
+use Rattle.std.specs.Prelude.{◌≡◌, ℕ, ◌+◌, ◌*◌, ◌<◌, ◌++◌, List, Option, length, drop}
+use Rattle.std.specs.Option.{option_to_list}
+use Rattle.sha2.specs.Hashers.{Holds256}
+use Rattle.hashtree.specs.Tree.{block_hashes, root_of}
+use Rattle.hashtree.specs.Climb.{HoldsLeaves, climb}
+use Rattle.hashtree.specs.declared.root.RootBuilder.{RootBuilder}
+
+-- how many bytes the builder was given
+abbrev pub byte_count : RootBuilder → ℕ
+byte_count b = 16384 * b.peaks.count + b.filled
+
+-- the peaks hold the digests of the content's first blocks, and the hasher the bytes after these
+pub record IsAt (b : RootBuilder) (content : List ℕ) : Type 0 where
+  pub length_is : byte_count b ≡ length content
+  pub rest_held : Holds256 b.hasher (drop (16384 * b.peaks.count) content)
+  pub leaves_held : HoldsLeaves b.peaks (block_hashes content b.peaks.count)
+
+-- the builder was given this content
+pub record IsFed (b : RootBuilder) (content : List ℕ) : Type 0 where
+  pub at : IsAt b content
+  pub started : 0 < length content → 0 < b.filled
+
+-- the nodes of a layer that the content's closed blocks complete
+abbrev pub complete_nodes : RootBuilder → List ℕ → ℕ → List (List ℕ)
+complete_nodes b content layer = climb layer (block_hashes content b.peaks.count)
+
+-- the builder was given these further bytes
+abbrev pub Feeds : RootBuilder → RootBuilder → List ℕ → Type 0
+Feeds old new bytes = (file : List ℕ) → IsFed old file → IsFed new (file ++ bytes)
+
+-- the further bytes complete this node of a layer, or none
+abbrev pub Completes : RootBuilder → RootBuilder → List ℕ → ℕ → Option (List ℕ) → Type 0
+Completes old new bytes layer node = (file : List ℕ) → IsFed old file
+    → complete_nodes new (file ++ bytes) layer
+    ≡ complete_nodes old file layer ++ option_to_list node
+
+-- this is the length and the root of the content that the builder was given
+abbrev pub EndsWith : RootBuilder → ℕ → List ℕ → Type 0
+EndsWith b len root = (file : List ℕ) → IsFed b file → (len ≡ length file) × (root ≡ root_of file)

@@ -1,0 +1,16 @@
+-- The line of a fault, which the program prints on standard error.
+use Rattle.std.specs.Prelude.{ℕ, List, ◌++◌, codes}
+use Rattle.lines.specs.declared.fault.Fault.{Fault}
+use Rattle.lines.specs.declared.fault.Fault.TheVariants as faults
+use Rattle.lines.specs.Text.{escaped}
+
+-- what could not be done, with the path as it is printed if it is about one
+abbrev pub fault_reason : Fault → List ℕ
+fault_reason (faults.Read path) = codes "cannot read " ++ escaped path.now
+fault_reason (faults.Write path) = codes "cannot write " ++ escaped path.now
+fault_reason faults.NotUtf8 = codes "name is not UTF-8"
+fault_reason faults.NoMemory = codes "no memory"
+
+-- the line of a fault
+abbrev pub fault_text : Fault → List ℕ
+fault_text fault = codes "fault: " ++ (fault_reason fault ++ codes "\n")

@@ -1,0 +1,5 @@
+-- What contracts of the printed lines cite.
+pub mod Text
+pub mod Refused
+pub mod Fault
+pub mod Show

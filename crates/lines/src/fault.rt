@@ -1,0 +1,76 @@
+//! Why a command could not do what it was asked for, and the line that tells it.
+ghost use Rattle.std.specs.Prelude.{◌≡◌, ◌++◌, OnOk, true};
+ghost use Rattle.benc.specs.Device.{Wrote, WroteAndFlushed};
+ghost use Rattle.lines.specs.declared.fault.Fault.TheVariants.{NoMemory};
+ghost use Rattle.lines.specs.Fault.{fault_reason, fault_text};
+ghost use Rattle.lines.specs.Text.{escaped};
+
+#[cfg(test)]
+mod tests;
+
+use crate::text::{flush_after, write_escaped};
+use benc::{DeviceFault, Sink, WriteFault, write_all};
+use std::alloc::AllocError;
+use thiserror::Error;
+
+/// Why a command could not do what it was asked for.
+#[derive(Debug, Drop, Error)]
+pub enum Fault<'a> {
+    /// This path could not be opened, or not read to its end.
+    #[error("cannot read {0}")]
+    Read(&'a str),
+    /// This path could not be written to; `-` is standard output.
+    #[error("cannot write {0}")]
+    Write(&'a str),
+    /// A name on the command line or in a folder is not UTF-8.
+    #[error("name is not UTF-8")]
+    NotUtf8,
+    /// Out of memory.
+    #[error("no memory")]
+    NoMemory,
+}
+
+impl<'a> From<AllocError> for Fault<'a> {
+    ghost from_gives = { λ _ e. e ≡ NoMemory };
+
+    fn from(_error: AllocError) -> Fault<'a> {
+        Fault::NoMemory
+    }
+}
+
+/// Writes the line of a fault, with the path that it is about, if there is one, and flushes. It
+/// takes no memory. After `WriteFault` a prefix of the line went out.
+pub fn fault_line<W: Sink>(fault: &Fault<'_>, out: &mut W) -> Result<(), WriteFault>
+    ensures { WroteAndFlushed (W.seen out.old) (W.seen out.new) result (fault_text fault.now) }
+{
+    let written = write_fault(fault, out);
+    flush_after(out, written)
+}
+
+fn write_fault<W: Sink>(fault: &Fault<'_>, out: &mut W) -> Result<(), DeviceFault>
+    ensures { Wrote (W.seen out.old) (W.seen out.new) result (fault_text fault.now) }
+{
+    write_all(out, b"fault: ")?;
+    write_reason(fault, out)?;
+    write_all(out, b"\n")
+}
+
+// Writes what could not be done.
+fn write_reason<W: Sink>(fault: &Fault<'_>, out: &mut W) -> Result<(), DeviceFault>
+    ensures { Wrote (W.seen out.old) (W.seen out.new) result (fault_reason fault.now) }
+{
+    match fault {
+        Fault::Read(path) => write_about(b"cannot read ", path, out),
+        Fault::Write(path) => write_about(b"cannot write ", path, out),
+        Fault::NotUtf8 => write_all(out, b"name is not UTF-8"),
+        Fault::NoMemory => write_all(out, b"no memory"),
+    }
+}
+
+// Writes this text, and the path as it is printed.
+fn write_about<W: Sink>(text: &[u8], path: &str, out: &mut W) -> Result<(), DeviceFault>
+    ensures { Wrote (W.seen out.old) (W.seen out.new) result (text.now ++ escaped path.now) }
+{
+    write_all(out, text)?;
+    write_escaped(out, path.as_bytes())
+}

@@ -1,0 +1,15 @@
+//! The lines that `btcheck` prints: texts, paths and numbers, faults, refusals, and what a torrent
+//! holds.
+#![tactic(auto)]
+
+mod fault;
+mod line;
+mod refused;
+mod showing;
+mod text;
+
+pub use fault::{Fault, fault_line};
+pub use line::Line;
+pub use refused::refusal_line;
+pub use showing::show;
+pub use text::{flush_after, write_escaped, write_line, write_path};

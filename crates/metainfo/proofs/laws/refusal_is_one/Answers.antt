@@ -1,5 +1,0 @@
-use Rattle.metainfo.proofs.Answering.{refusal_is_one}
-use Rattle.metainfo.proofs.laws.refusal_is_one.Goals as goal
-
-pub returns : goal.returns
-returns c = refusal_is_one c.no_spelling_begins_another.ensures c.spelling_has_no_fault.ensures c.fault_is_one.ensures

@@ -1,7 +1,0 @@
-use Rattle.std.proofs.Common.{◌≡◌, drop}
-use Rattle.benc.specs.View.{pairs_view}
-use Rattle.metainfo.specs.FileTree.{is_directory}
-use Rattle.metainfo.proofs.tree.+shape.Given as goal
-
-abbrev pub invariant-is_directory-pairs : goal.invariant-is_directory-pairs
-invariant-is_directory-pairs l = is_directory (pairs_view l.pair-items) ≡ is_directory (pairs_view (drop l.pair-index l.pair-items))

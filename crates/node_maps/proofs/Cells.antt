@@ -1,0 +1,148 @@
+-- Rows of cells and lists of marks, when they grow and when one is written.
+use Rattle.std.proofs.Common.{◌≡◌, ◌≢◌, ◌⊎◌, ℕ, zero, suc, ◌-◌, ◌^◌, ◌<◌, ◌≤◌, Bool, true, false, cond, ltb, ◌&&◌, ◌||◌, List, [], ◌++◌, length, get_or, take, replicate, set, Option, Some, None, inl, inr, refl, sym, ap, ap₂, ◌∙◌, subst, arith}
+use Rattle.std.specs.Prelude.{slice_get}
+use Rattle.std.specs.Option.{option_and_then, option_map, unwrap_or}
+use Rattle.std.specs.FinMap.{empty, get-empty}
+use Rattle.std.specs.FinSet as set
+use Rattle.std.specs.FinSet.{same_set, contains-insert, contains-empty, nat_cmp-IsAntisymmetric}
+use Rattle.std.specs.Ordering.{nat_cmp, eq_by_cmp}
+use Rattle.std.specs.Cmp.{nat_cmp_total}
+use Rattle.std.proofs.lemmas.Bool.{cases_lt, cases_eq, and_left, or_left, eq-eqb, ne_eqb, lt-ltb, le-ltb}
+use Rattle.std.proofs.lemmas.Option.{slice_get_past, none-some}
+use Rattle.std.proofs.lemmas.List.{get_or_append_left, get_or-append_right, get_or-replicate, get_or_past, length-replicate, take_all, get_or-set_same, get_or-set_other}
+use Rattle.node_maps.specs.Digest.{Hash}
+use Rattle.node_maps.specs.Places.{IsPlace}
+use Rattle.node_maps.specs.Known.{place_cmp, look, within, tabulate}
+use Rattle.node_maps.specs.Flat.{Row, cells, row_cells, HasCell, HasTreeCells, marks_below, marked_leaves}
+use Rattle.node_maps.proofs.Known.{nat_equal, same_known, look-within, within-at}
+
+-- ---- rows
+
+-- a hash stands in a cell
+pub cell_there : (rows : List Row) (l i : ℕ) (v : Hash) → cells rows l i ≡ Some v → HasCell rows l i
+cell_there rows l i v e = row_there (slice_get rows l) e
+  where
+    row_there : (o : Option Row) → option_and_then (λ (row : Row). option_and_then (λ (o : Option Hash). o) (slice_get row.items i)) o ≡ Some v → i < unwrap_or (option_map (λ (row : Row). length row.items) o) 0
+    row_there None e = absurd (none-some v e)
+    row_there (Some row) e = elim (cases_lt i (length row.items)) [
+      | inl low ↦ low
+      | inr past ↦ absurd (none-some v (sym (ap (option_and_then (λ (o : Option Hash). o)) (slice_get_past row.items i past)) ∙ e))
+    ]
+
+-- what is known of cells that are all in the tree is what they hold
+pub look-cells : (h : ℕ) (rows : List Row) → HasTreeCells h rows → (l i : ℕ) → look (tabulate h (within h (cells rows))) l i ≡ cells rows l i
+look-cells h rows in_tree l i = look-within h (cells rows) l i ∙ by_cell (cells rows l i) refl
+  where
+    none_within : cells rows l i ≡ None → (b : Bool) → cond b (cells rows l i) None ≡ cells rows l i
+    none_within e true = refl
+    none_within e false = sym e
+
+    by_cell : (o : Option Hash) → cells rows l i ≡ o → within h (cells rows) l i ≡ cells rows l i
+    by_cell None e = none_within e _
+    by_cell (Some v) e = within-at h (cells rows) l i (in_tree.place l i (cell_there rows l i v e))
+
+-- rows that are as long as before have cells of the tree alone
+pub same_lengths-in_tree : (h : ℕ) (old new : List Row) → HasTreeCells h old → ((l : ℕ) → row_cells new l ≡ row_cells old l) → HasTreeCells h new
+same_lengths-in_tree h old new in_tree same = record { place = λ l i low. in_tree.place l i (subst (λ n. i < n) (same l) low) }
+
+-- a row that is made as long as `end` at most has cells of the tree alone
+pub lengthened-in_tree : (h layer end : ℕ) (old new : List Row) → HasTreeCells h old → ((l : ℕ) → l ≢ layer → row_cells new l ≡ row_cells old l)
+    → (row_cells new layer ≤ end) ⊎ (row_cells new layer ≡ row_cells old layer) → layer ≤ h → end ≤ 2 ^ (h - layer) → HasTreeCells h new
+lengthened-in_tree h layer end old new in_tree others most le fits = record { place = λ l i low. by_layer l i low (cases_eq l layer) most }
+  where
+    by_layer : (l i : ℕ) → i < row_cells new l → (l ≡ layer) ⊎ (l ≢ layer) → (row_cells new layer ≤ end) ⊎ (row_cells new layer ≡ row_cells old layer) → IsPlace h l i
+    by_layer l i low (inr other) m = in_tree.place l i (subst (λ n. i < n) (others l other) low)
+    by_layer l i low (inl same) (inr as_before) = in_tree.place l i (subst (λ n. i < n) (ap (row_cells new) same ∙ as_before ∙ sym (ap (row_cells old) same)) low)
+    by_layer l i low (inl same) (inl short) =
+        let low' : i < row_cells new layer = subst (λ k. i < row_cells new k) same low in
+        subst (λ k. IsPlace h k i) (sym same) (le, omega arith)
+
+-- and where it is the leaves' row each of its cells has a mark
+pub lengthened-marks : (layer end marks : ℕ) (old new : List Row) → row_cells old 0 ≤ marks → ((l : ℕ) → l ≢ layer → row_cells new l ≡ row_cells old l)
+    → (row_cells new layer ≤ end) ⊎ (row_cells new layer ≡ row_cells old layer) → (layer ≡ 0 → end ≤ marks) → row_cells new 0 ≤ marks
+lengthened-marks layer end marks old new enough others most more = by_layer (cases_eq 0 layer) most
+  where
+    by_layer : (0 ≡ layer) ⊎ (0 ≢ layer) → (row_cells new layer ≤ end) ⊎ (row_cells new layer ≡ row_cells old layer) → row_cells new 0 ≤ marks
+    by_layer (inr other) m = subst (λ n. n ≤ marks) (sym (others 0 other)) enough
+    by_layer (inl same) (inr as_before) = subst (λ n. n ≤ marks) (ap (row_cells old) same ∙ sym as_before ∙ sym (ap (row_cells new) same)) enough
+    by_layer (inl same) (inl short) =
+        let bound : end ≤ marks = more (sym same) in
+        let here : row_cells new 0 ≡ row_cells new layer = ap (row_cells new) same in
+        omega arith
+
+-- no rows have no cells
+pub no_cells : (h : ℕ) (rows : List Row) → rows ≡ [] → tabulate h (within h (cells rows)) ≡ empty
+no_cells h rows none = same_known (tabulate h (within h (cells rows))) empty (λ l i. look-within h (cells rows) l i ∙ nothing l i _ ∙ sym (get-empty place_cmp (l, i)))
+  where
+    nothing : (l i : ℕ) (b : Bool) → cond b (cells rows l i) None ≡ None
+    nothing l i true = ap (λ rs. cells rs l i) none
+    nothing l i false = refl
+
+-- ---- marks
+
+pub no_marks : (marks : List Bool) → marks ≡ [] → marked_leaves marks ≡ set.empty
+unfolding marks_below
+no_marks marks none = ap marked_leaves none
+
+pub contains-marks_below : (marks : List Bool) (n i : ℕ) → set.contains (marks_below marks n) i ≡ (ltb i n && get_or marks i false)
+unfolding marks_below
+contains-marks_below marks zero i = contains-empty nat_cmp i ∙ sym (and_left (ltb i 0) (get_or marks i false) (le-ltb i 0 (omega arith)))
+contains-marks_below marks (suc n) i = by_mark (contains-marks_below marks n i) (get_or marks n false) refl (cases_eq i n)
+  where
+    below : i ≢ n → (ltb i n && get_or marks i false) ≡ (ltb i (suc n) && get_or marks i false)
+    below other = ap (λ b. b && get_or marks i false) (elim (cases_lt i n) [
+      | inl low ↦ lt-ltb i n low ∙ sym (lt-ltb i (suc n) (omega arith))
+      | inr high ↦ le-ltb i n high ∙ sym (le-ltb i (suc n) (omega arith))
+    ])
+
+    here : i ≡ n → (ltb i (suc n) && get_or marks i false) ≡ get_or marks n false
+    here same = ap (λ b. b && get_or marks i false) (lt-ltb i (suc n) (omega arith)) ∙ ap (λ k. get_or marks k false) same
+
+    by_mark : set.contains (marks_below marks n) i ≡ (ltb i n && get_or marks i false) → (b : Bool) → get_or marks n false ≡ b → (i ≡ n) ⊎ (i ≢ n)
+        → set.contains (cond b (set.insert (marks_below marks n) n) (marks_below marks n)) i ≡ (ltb i (suc n) && get_or marks i false)
+    by_mark before true e (inl same) = contains-insert nat_cmp_total (marks_below marks n) n i
+        ∙ or_left (eq_by_cmp nat_cmp i n) (set.contains (marks_below marks n) i) (nat_equal i n ∙ eq-eqb i n same) ∙ sym (here same ∙ e)
+    by_mark before true e (inr other) = contains-insert nat_cmp_total (marks_below marks n) n i
+        ∙ ap (λ b. b || set.contains (marks_below marks n) i) (nat_equal i n ∙ ne_eqb i n other)
+        ∙ before ∙ below other
+    by_mark before false e (inl same) = before
+        ∙ and_left (ltb i n) (get_or marks i false) (le-ltb i n (omega arith)) ∙ sym (here same ∙ e)
+    by_mark before false e (inr other) = before ∙ below other
+
+-- a number is among the marked leaves where its mark is set
+pub contains-marked : (marks : List Bool) (i : ℕ) → set.contains (marked_leaves marks) i ≡ get_or marks i false
+contains-marked marks i = contains-marks_below marks (length marks) i ∙ elim (cases_lt i (length marks)) [
+  | inl low ↦ ap (λ b. b && get_or marks i false) (lt-ltb i (length marks) low)
+  | inr past ↦ and_left (ltb i (length marks)) (get_or marks i false) (le-ltb i (length marks) past) ∙ sym (get_or_past marks i false past)
+]
+
+-- marks that read alike are of the same leaves
+pub marked-same : (old new : List Bool) → ((i : ℕ) → get_or new i false ≡ get_or old i false) → marked_leaves new ≡ marked_leaves old
+marked-same old new same = same_set nat_cmp_total nat_cmp-IsAntisymmetric (marked_leaves new) (marked_leaves old)
+    (λ i. contains-marked new i ∙ same i ∙ sym (contains-marked old i))
+
+-- marks that are added are not set
+pub marked-longer : (old new : List Bool) (n k : ℕ) → k ≡ length old → k ≤ n → new ≡ take n old ++ replicate (n - k) false → marked_leaves new ≡ marked_leaves old
+marked-longer old new n k len le is = marked-same old new (λ i. ap (λ xs. get_or xs i false) (is ∙ ap₂ (λ xs m. xs ++ replicate (n - m) false) (take_all n old (omega arith)) len) ∙ read i (cases_lt i (length old)))
+  where
+    unset : (k i : ℕ) → get_or (replicate k false) i false ≡ false
+    unset k i = elim (cases_lt i k) [
+      | inl low ↦ get_or-replicate k i false false low
+      | inr past ↦ get_or_past (replicate k false) i false (subst (λ m. m ≤ i) (sym (length-replicate k false)) past)
+    ]
+
+    read : (i : ℕ) → (i < length old) ⊎ (length old ≤ i) → get_or (old ++ replicate (n - length old) false) i false ≡ get_or old i false
+    read i (inl low) = get_or_append_left old (replicate (n - length old) false) false i low
+    read i (inr past) = get_or-append_right old (replicate (n - length old) false) (length old) i false refl past
+        ∙ unset (n - length old) (i - length old) ∙ sym (get_or_past old i false past)
+
+-- a mark that is set is one more marked leaf
+pub marked-set : (marks : List Bool) (n : ℕ) → n < length marks → marked_leaves (set marks n true) ≡ set.insert (marked_leaves marks) n
+marked-set marks n in' = same_set nat_cmp_total nat_cmp-IsAntisymmetric (marked_leaves (set marks n true)) (set.insert (marked_leaves marks) n)
+    (λ i. contains-marked (set marks n true) i ∙ read i (cases_eq i n) ∙ sym (contains-insert nat_cmp_total (marked_leaves marks) n i))
+  where
+    read : (i : ℕ) → (i ≡ n) ⊎ (i ≢ n) → get_or (set marks n true) i false ≡ (eq_by_cmp nat_cmp i n || set.contains (marked_leaves marks) i)
+    read i (inl same) = ap (λ k. get_or (set marks n true) k false) same ∙ get_or-set_same marks n true false in'
+        ∙ sym (or_left (eq_by_cmp nat_cmp i n) (set.contains (marked_leaves marks) i) (nat_equal i n ∙ eq-eqb i n same))
+    read i (inr other) = get_or-set_other marks n i true false other ∙ sym (contains-marked marks i)
+        ∙ sym (ap (λ b. b || set.contains (marked_leaves marks) i) (nat_equal i n ∙ ne_eqb i n other))

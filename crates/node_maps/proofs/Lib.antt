@@ -1,0 +1,6 @@
+pub mod Places
+pub mod Known
+pub mod Cells
+pub mod Pages
+pub mod Paging
+pub mod Counted

@@ -1,0 +1,16 @@
+-- Digests, as lists of 32 bytes.
+use Rattle.std.specs.Prelude.{◌≡◌, ℕ, List, ◌++◌, length}
+use Rattle.sha2.specs.Sha256.{sha256}
+
+-- what a hash is written as: 32 bytes, where `IsHash` says so
+abbrev pub Hash : Type 0
+Hash = List ℕ
+
+-- as long as a SHA-256 digest
+pub record IsHash (h : Hash) : Type 0 where
+  pub size : length h ≡ 32
+
+-- SHA-256 of two hashes joined, 64 bytes, the left one first (BEP 52, "pieces root"; FIPS 180-4,
+-- section 6.2)
+abbrev pub join : Hash → Hash → Hash
+join left right = sha256 (left ++ right)

@@ -1,0 +1,49 @@
+-- What rows of cells hold: one row for each layer, and in it a cell for each place that has room;
+-- and what a list of marks holds.
+use Rattle.std.specs.Prelude.{◌≡◌, ◌≢◌, ◌⊎◌, ℕ, zero, suc, ◌<◌, Bool, false, if◌then◌else◌, List, length, slice_index_or, slice_get, Option, Vec}
+use Rattle.std.specs.Option.{option_and_then, option_map, unwrap_or}
+use Rattle.std.specs.declared.alloc.Global.{Global}
+use Rattle.std.specs.FinSet as set
+use Rattle.node_maps.specs.Digest.{Hash}
+use Rattle.node_maps.specs.Places.{PartialTree, IsPlace}
+use Rattle.node_maps.specs.Known.{Marked}
+
+abbrev pub Row : Type 0
+Row = Vec (Option Hash) Global
+
+-- the hash in the cell of a place
+abbrev pub cells : List Row → PartialTree
+cells rows l i =
+    option_and_then (λ row. option_and_then (λ o. o) (slice_get row.items i)) (slice_get rows l)
+
+-- every place has the cell that it had
+abbrev pub AreSameCells : List Row → List Row → Type 0
+AreSameCells old new = (l i : ℕ) → cells new l i ≡ cells old l i
+
+-- every place but this one has the cell that it had
+abbrev pub AreSameCellsBut : ℕ → ℕ → List Row → List Row → Type 0
+AreSameCellsBut layer index old new =
+    (l i : ℕ) → (l ≢ layer) ⊎ (i ≢ index) → cells new l i ≡ cells old l i
+
+-- how many cells the row of a layer has
+abbrev pub row_cells : List Row → ℕ → ℕ
+row_cells rows l = unwrap_or (option_map (λ row. length row.items) (slice_get rows l)) 0
+
+-- the place has a cell
+abbrev pub HasCell : List Row → ℕ → ℕ → Type 0
+HasCell rows l i = i < row_cells rows l
+
+-- each cell is that of a place of a tree of height h
+pub record HasTreeCells (h : ℕ) (rows : List Row) : Type 0 where
+  pub place : (l i : ℕ) → HasCell rows l i → IsPlace h l i
+
+-- the numbers below n whose mark is set
+unfoldable pub marks_below : List Bool → ℕ → Marked
+marks_below marks zero = set.empty
+marks_below marks (suc n) =
+    (if slice_index_or marks n false then set.insert (marks_below marks n) n
+    else marks_below marks n)
+
+-- the numbers whose mark is set
+abbrev pub marked_leaves : List Bool → Marked
+marked_leaves marks = marks_below marks (length marks)

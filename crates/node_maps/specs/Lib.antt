@@ -1,0 +1,11 @@
+-- Places of hash trees, and finite maps from them to hashes.
+pub mod Digest
+pub mod Places
+pub mod Known
+pub mod Flat
+pub mod Cell
+pub mod Pages
+pub mod PagedRow
+pub mod Held
+pub mod Paged
+pub mod Needed

@@ -1,0 +1,97 @@
+//! A partial tree behind an interface, so that sessions are proved once for every way to keep it.
+
+ghost use Rattle.std.specs.Prelude.{◌≡◌, ℕ, ◌+◌, ◌-◌, ◌^◌, ◌<◌, ◌≤◌, IsOk, OnErr, OnOk};
+ghost use Rattle.std.specs.FinMap as finite;
+ghost use Rattle.std.specs.FinSet as set;
+ghost use Rattle.node_maps.specs.Places.{tree_height, IsKnown};
+ghost use Rattle.node_maps.specs.Known.{Known, Marked, look};
+
+use hashtree::{Hash, NoMemory, Shape};
+use std::alloc::Global;
+
+/// The known nodes and the marked leaves of one tree, however they are kept.
+pub trait NodeMap: Drop {
+    /// The length of the tree's files, which fixes its places.
+    ghost length: { Self → ℕ };
+
+    /// The known places, with their hashes.
+    ghost known: { Self → Known };
+
+    /// The marked leaves.
+    ghost marked: { Self → Marked };
+
+    /// How many pages are held.
+    ghost held: { Self → ℕ };
+
+    /// How many pages a content takes, if no page is held that it does not need.
+    ghost needed: { Known → ℕ };
+
+    /// The place has room: a `put` there cannot fail.
+    ghost has_room: { Self → ℕ → ℕ → Type 0 };
+
+    /// Nothing is known or marked. Takes no memory.
+    fn empty(alloc: Global, shape: Shape) -> Self
+    where
+        Self: Sized,
+        ensures length { length result ≡ shape }
+        ensures known { known result ≡ finite.empty }
+        ensures marked { marked result ≡ set.empty }
+        ensures held { held result ≡ needed (known result) };
+
+    /// The hash at a place, if it is known.
+    fn get(&self, layer: u32, index: u64) -> Option<Hash>
+        ensures { result ≡ look (known self.now) layer index };
+
+    /// Makes room for `count` places of a layer. Content, marks and the room that there is stay. A
+    /// refusal gives back the pages that it made. If there is room already, it takes no memory and
+    /// cannot fail.
+    fn reserve(&mut self, layer: u32, from: u64, count: u64) -> Result<(), NoMemory>
+        requires layer { layer ≤ tree_height (length self.old) }
+        requires range { from + count ≤ 2 ^ (tree_height (length self.old) - layer) }
+        ensures length { length self.new ≡ length self.old }
+        ensures known { known self.new ≡ known self.old }
+        ensures marked { marked self.new ≡ marked self.old }
+        ensures keeps { (l i : ℕ) → has_room self.old l i → has_room self.new l i }
+        ensures ok { OnOk result ((i : ℕ) → from ≤ i → i < from + count
+            → has_room self.new layer i) }
+        ensures refused { OnErr result (held self.new ≡ held self.old) }
+        ensures no_memory { ((i : ℕ) → from ≤ i → i < from + count → has_room self.old layer i)
+            → IsOk result };
+
+    /// Sets the hash at a place that has room.
+    fn put(&mut self, layer: u32, index: u64, hash: Hash)
+        requires { has_room self.old layer index }
+        ensures length { length self.new ≡ length self.old }
+        ensures known { known self.new ≡ finite.insert (known self.old) (layer, index) hash }
+        ensures marked { marked self.new ≡ marked self.old }
+        ensures held { held self.new ≡ held self.old }
+        ensures keeps { (l i : ℕ) → has_room self.old l i → has_room self.new l i };
+
+    /// Marks a known leaf.
+    fn mark(&mut self, index: u64)
+        requires { IsKnown (look (known self.old)) 0 index }
+        ensures length { length self.new ≡ length self.old }
+        ensures known { known self.new ≡ known self.old }
+        ensures marked { marked self.new ≡ set.insert (marked self.old) index }
+        ensures held { held self.new ≡ held self.old }
+        ensures keeps { (l i : ℕ) → has_room self.old l i → has_room self.new l i };
+
+    /// Whether a leaf is marked.
+    fn is_marked(&self, index: u64) -> bool
+        ensures { result ≡ set.contains (marked self.now) index };
+
+    /// Gives back the pages that hold no hash. Content and marks stay; room may go. Takes no
+    /// memory.
+    fn trim(&mut self)
+        ensures length { length self.new ≡ length self.old }
+        ensures known { known self.new ≡ known self.old }
+        ensures marked { marked self.new ≡ marked self.old }
+        ensures held { held self.new ≡ needed (known self.new) };
+
+    /// How many pages are held. Takes no memory.
+    fn pages(&self) -> u64
+        ensures { result ≡ held self.now };
+
+    /// A content takes no more pages than it has places.
+    ghost needs_few: { (K : Known) → needed K ≤ finite.len K };
+}

@@ -1,0 +1,19 @@
+-- Lemmas on torrents.
+pub mod Deciding
+pub mod Growing
+pub mod Aligned
+pub mod Answering
+pub mod Assembling
+pub mod Entries
+pub mod Hybrids
+pub mod InStream
+pub mod Keys
+pub mod Layering
+pub mod Listing
+pub mod Placing
+pub mod Rooting
+pub mod Searching
+pub mod Sounding
+pub mod Streams
+pub mod Telling
+pub mod Told

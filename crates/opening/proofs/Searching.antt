@@ -1,0 +1,85 @@
+-- A key among ascending keys.
+use Rattle.std.proofs.Common.{◌≡◌, ℕ, zero, suc, ◌<◌, ◌≤◌, true, List, [], ◌∷◌, length, get_or, Some, None, inl, inr, refl, sym, ap, subst, ◌∙◌, arith}
+use Rattle.std.specs.Cmp.Lexicographic.{slice_cmp}
+use Rattle.std.specs.Ordering.{nat_cmp, ordering_reverse}
+use Rattle.std.proofs.lemmas.Bool.{cases_lt}
+use Rattle.std.specs.declared.cmp.Ordering.TheVariants.{Less, Equal, Greater}
+use Rattle.std.specs.Str.{bytes_eq}
+use Rattle.std.proofs.lemmas.Cmp.{nat_list_cmp_total, tied_itself}
+use Rattle.std.proofs.lemmas.Map.Keys.{Less-from_sorted}
+use Rattle.benc.specs.View.{Seen, view, pair_view, pairs_view}
+use Rattle.benc.specs.declared.value.Pair.{Pair}
+use Rattle.filetree.specs.Dictionary.{Ascends, keys_in, under}
+use Rattle.filetree.proofs.Bytes.{equal_bytes, same_bytes, true_or_false}
+use Rattle.filetree.proofs.Views.{view-Pair}
+
+seen_key : (x : Pair) → (pair_view x).0 ≡ x.key.now
+seen_key x = ap (λ (s : Seen). s.0) (view-Pair x.key x.value)
+
+seen_value : (x : Pair) → (pair_view x).1 ≡ view x.value
+seen_value x = ap (λ (s : Seen). s.1) (view-Pair x.key x.value)
+
+pub under_some : (xs : List Pair) (i : ℕ) (d : Pair) (k : List ℕ) → i < length xs → (get_or xs i d).key.now ≡ k → ((j : ℕ) → j < i → (get_or xs j d).key.now ≡ k → ⊥) → under k (pairs_view xs) ≡ Some (view (get_or xs i d).value)
+under_some [] i d k lt is before = absurd (omega arith)
+under_some (x ∷ xs) zero d k lt is before =
+    let here : bytes_eq (pair_view x).0 k ≡ true = equal_bytes (pair_view x).0 k (seen_key x ∙ is) in rw here (ap Some (seen_value x))
+under_some (x ∷ xs) (suc i) d k lt is before =
+    elim (true_or_false (bytes_eq (pair_view x).0 k)) [
+      | inl same ↦ absurd (before 0 (omega arith) (sym (seen_key x) ∙ same_bytes (pair_view x).0 k same))
+      | inr other ↦ rw other (under_some xs i d k (omega arith) is (λ j lt'. before (suc j) (omega arith)))
+    ]
+
+pub under_none : (xs : List Pair) (k : List ℕ) → ((j : ℕ) (d : Pair) → j < length xs → (get_or xs j d).key.now ≡ k → ⊥) → under k (pairs_view xs) ≡ None
+under_none [] k none = refl
+under_none (x ∷ xs) k none =
+    elim (true_or_false (bytes_eq (pair_view x).0 k)) [
+      | inl same ↦ absurd (none 0 x (omega arith) (sym (seen_key x) ∙ same_bytes (pair_view x).0 k same))
+      | inr other ↦ rw other (under_none xs k (λ j d lt. none (suc j) d (omega arith)))
+    ]
+
+-- ---- ascending keys
+
+key_at : (xs : List Pair) (i : ℕ) (d : Pair) → i < length xs → get_or (keys_in (pairs_view xs)) i (pair_view d).0 ≡ (get_or xs i d).key.now
+key_at [] i d lt = absurd (omega arith)
+key_at (x ∷ xs) zero d lt = seen_key x
+key_at (x ∷ xs) (suc i) d lt = key_at xs i d (omega arith)
+
+key_count : (xs : List Pair) → length (keys_in (pairs_view xs)) ≡ length xs
+key_count [] = refl
+key_count (x ∷ xs) = ap suc (key_count xs)
+
+pub rising : (xs : List Pair) (i j : ℕ) (d : Pair) → Ascends (pairs_view xs) → i < j → j < length xs → slice_cmp nat_cmp (get_or xs i d).key.now (get_or xs j d).key.now ≡ Less
+rising xs i j d up lt in' =
+    let less = Less-from_sorted (slice_cmp nat_cmp) (keys_in (pairs_view xs)) i j (pair_view d).0 up lt (omega (arith, key_count xs)) in
+    subst (λ k. slice_cmp nat_cmp (get_or xs i d).key.now k ≡ Less) (key_at xs j d in') (subst (λ k. slice_cmp nat_cmp k (get_or (keys_in (pairs_view xs)) j (pair_view d).0) ≡ Less) (key_at xs i d (omega arith)) less)
+
+pub not_less : (x y : List ℕ) → slice_cmp nat_cmp x y ≡ Less → x ≡ y → ⊥
+not_less x y less same =
+    let tied : slice_cmp nat_cmp x y ≡ Equal = subst (λ k. slice_cmp nat_cmp x k ≡ Equal) same (tied_itself nat_list_cmp_total x) in cc
+
+pub not_greater : (x y : List ℕ) → slice_cmp nat_cmp x y ≡ Greater → x ≡ y → ⊥
+not_greater x y more same =
+    let tied : slice_cmp nat_cmp x y ≡ Equal = subst (λ k. slice_cmp nat_cmp x k ≡ Equal) same (tied_itself nat_list_cmp_total x) in cc
+
+pub first_at : (xs : List Pair) (i : ℕ) (d : Pair) (k : List ℕ) → Ascends (pairs_view xs) → i < length xs → (get_or xs i d).key.now ≡ k → under k (pairs_view xs) ≡ Some (view (get_or xs i d).value)
+first_at xs i d k up lt is = under_some xs i d k lt is (λ j less same. not_less (get_or xs j d).key.now (get_or xs i d).key.now (rising xs j i d up less lt) (same ∙ sym is))
+
+pub below_middle : (xs : List Pair) (i j : ℕ) (d : Pair) (k : List ℕ) → Ascends (pairs_view xs) → i ≤ j → j < length xs → slice_cmp nat_cmp (get_or xs j d).key.now k ≡ Less → slice_cmp nat_cmp (get_or xs i d).key.now k ≡ Less
+below_middle xs i j d k up le lt less =
+    elim (cases_lt i j) [
+      | inl before ↦ nat_list_cmp_total.trans (get_or xs i d).key.now (get_or xs j d).key.now k (rising xs i j d up before lt) less
+      | inr same ↦ let one : j ≡ i = omega (arith, le, same) in subst (λ n. slice_cmp nat_cmp (get_or xs n d).key.now k ≡ Less) one less
+    ]
+
+reversed : (x y : List ℕ) → slice_cmp nat_cmp x y ≡ Greater → slice_cmp nat_cmp y x ≡ Less
+reversed x y e = nat_list_cmp_total.antisymm y x ∙ ap ordering_reverse e
+
+turned : (x y : List ℕ) → slice_cmp nat_cmp x y ≡ Less → slice_cmp nat_cmp y x ≡ Greater
+turned x y e = nat_list_cmp_total.antisymm y x ∙ ap ordering_reverse e
+
+pub above_middle : (xs : List Pair) (i j : ℕ) (d : Pair) (k : List ℕ) → Ascends (pairs_view xs) → i ≤ j → j < length xs → slice_cmp nat_cmp (get_or xs i d).key.now k ≡ Greater → slice_cmp nat_cmp (get_or xs j d).key.now k ≡ Greater
+above_middle xs i j d k up le lt more =
+    elim (cases_lt i j) [
+      | inl before ↦ turned k (get_or xs j d).key.now (nat_list_cmp_total.trans k (get_or xs i d).key.now (get_or xs j d).key.now (reversed (get_or xs i d).key.now k more) (rising xs i j d up before lt))
+      | inr same ↦ let one : i ≡ j = omega (arith, le, same) in subst (λ n. slice_cmp nat_cmp (get_or xs n d).key.now k ≡ Greater) one more
+    ]

@@ -1,0 +1,35 @@
+use Rattle.std.proofs.Common.{sym, map, subst}
+use Rattle.std.proofs.lemmas.Result.{err_from_is_err_and}
+use Rattle.benc.specs.View.{view}
+use Rattle.opening.specs.Seen.{file_entry}
+use Rattle.opening.specs.Stream.{parts_in}
+use Rattle.opening.proofs.Streams.{Streamed, streamed, no_hybrid, stream_refused, cuts_refused, hybrid_read}
+use Rattle.opening.proofs.version1.version1.Goals as goal
+
+pub returns-in_default : goal.returns-in_default
+returns-in_default c = λ fs fits. no_hybrid c.args.piece_length (view c.args.info.now) c.args.name.now fs (sym c.in_default.ensures)
+
+pub returns-in_err-total : goal.returns-in_err-total
+returns-in_err-total c =
+    let p = err_from_is_err_and c.from_residual.result c.from_residual.ensures.1 in
+    rw (p.1, p.2) (λ fs fits.
+    let at = streamed c.args.piece_length fs (map file_entry c.args.files.now) (view c.args.info.now) c.args.name.now fits.some fits.names fits.short in
+    stream_refused c.args.piece_length (view c.args.info.now) (view c.in-Some.pieces.now) c.args.name.now fs c.in_err-total.field-0.0
+    (sym c.in-Some.ensures)
+    (subst (Streamed c.args.piece_length fs (parts_in (view c.args.info.now) c.args.name.now)) (sym c.in_err-total.ensures) at))
+
+pub returns : goal.returns
+returns c = λ fs fits.
+    let at = streamed c.args.piece_length fs (map file_entry c.args.files.now) (view c.args.info.now) c.args.name.now fits.some fits.names fits.short in
+    hybrid_read c.args.piece_length (view c.args.info.now) (view c.in-Some.pieces.now) c.args.name.now fs c.in_ok-total.total c.in-Some-cuts.pieces.now
+    (sym c.in-Some.ensures)
+    (subst (Streamed c.args.piece_length fs (parts_in (view c.args.info.now) c.args.name.now)) (sym c.in_ok-total.ensures) at)
+    (sym c.in-Some-cuts.ensures)
+
+pub returns-in_default-cuts : goal.returns-in_default-cuts
+returns-in_default-cuts c = λ fs fits.
+    let at = streamed c.args.piece_length fs (map file_entry c.args.files.now) (view c.args.info.now) c.args.name.now fits.some fits.names fits.short in
+    cuts_refused c.args.piece_length (view c.args.info.now) (view c.in-Some.pieces.now) c.args.name.now fs c.in_ok-total.total
+    (sym c.in-Some.ensures)
+    (subst (Streamed c.args.piece_length fs (parts_in (view c.args.info.now) c.args.name.now)) (sym c.in_ok-total.ensures) at)
+    (sym c.in_default-cuts.ensures)

@@ -1,0 +1,16 @@
+-- What contracts of torrents cite.
+pub mod Description
+pub mod Describes
+pub mod Matching
+pub mod Opening
+pub mod PieceLayers
+pub mod Places
+pub mod Refusals
+pub mod Rooted
+pub mod Seen
+pub mod Sound
+pub mod Steps
+pub mod Stream
+pub mod Trees
+pub mod Laws
+pub mod Layered

@@ -1,0 +1,38 @@
+//! What holds of each torrent file. A proof that calls one of these has its law.
+
+ghost use Rattle.opening.specs.Laws.{TorrentIsOne, TorrentIsNotRefused, RefusalIsOne, TorrentOrRefusal};
+
+use benc::laws::{
+    fault_is_one, no_spelling_begins_another, spelling_has_no_fault, spells_or_fails,
+};
+
+/// Bytes that describe a torrent describe no other.
+pub fn torrent_is_one()
+    ensures { TorrentIsOne }
+{
+    no_spelling_begins_another();
+}
+
+/// Bytes that describe a torrent are not refused.
+pub fn torrent_is_not_refused()
+    ensures { TorrentIsNotRefused }
+{
+    no_spelling_begins_another();
+    spelling_has_no_fault();
+}
+
+/// Bytes that are refused are refused with one answer.
+pub fn refusal_is_one()
+    ensures { RefusalIsOne }
+{
+    no_spelling_begins_another();
+    spelling_has_no_fault();
+    fault_is_one();
+}
+
+/// All bytes describe a torrent, or are refused.
+pub fn torrent_or_refusal()
+    ensures { TorrentOrRefusal }
+{
+    spells_or_fails();
+}

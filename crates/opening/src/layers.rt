@@ -1,0 +1,90 @@
+//! The pairs of `piece layers` (BEP 52, "piece layers").
+
+ghost use Rattle.std.specs.Prelude.{◌≡◌, IfSome, length, option_map};
+ghost use Rattle.std.specs.Cmp.Lexicographic.{slice_cmp};
+ghost use Rattle.std.specs.List.Sorted.{IsStrictlySortedBy-prop};
+ghost use Rattle.std.specs.Ordering.{nat_cmp};
+ghost use Rattle.benc.specs.View.{view, pairs_view};
+ghost use Rattle.filetree.specs.Dictionary.{Ascends, keys_in, under};
+ghost use Rattle.opening.specs.PieceLayers.{as_digests, layer_at};
+ghost use Rattle.opening.specs.Steps.{pairs_seen};
+ghost use Rattle.pieces.specs.Pieces.{pieces_of};
+
+use crate::roots::Root;
+use benc::{Pair, Value};
+use hashtree::Hash;
+use pieces::PieceLength;
+use std::cmp::Ordering;
+
+/// The pairs of `piece layers`, whose keys ascend.
+#[derive(Drop)]
+pub(crate) struct Layers<'v, 'a> {
+    pairs: &'v [Pair<'a>],
+    ghost ascend: { Ascends (pairs_view pairs.now) } by { IsStrictlySortedBy-prop (slice_cmp nat_cmp) (keys_in (pairs_view pairs.now)) },
+}
+
+impl<'v, 'a> Layers<'v, 'a> {
+    ghost use Rattle.opening.specs.Layered.{layer_pairs};
+
+    /// The layers of pairs whose keys ascend; there may be none.
+    pub(crate) fn of(pairs: Option<&'v [Pair<'a>]>) -> Layers<'v, 'a>
+        requires { Ascends (pairs_seen pairs) }
+        ensures { layer_pairs result ≡ pairs_seen pairs.entry }
+    {
+        match pairs {
+            Some(pairs) => Layers { pairs },
+            None => Layers { pairs: &[] },
+        }
+    }
+
+    /// The value under a root.
+    pub(crate) fn under(&self, root: &Hash) -> Option<&'v Value<'a>>
+        ensures { option_map (λ w. view w.now) result ≡ under root.now (layer_pairs self.now) }
+    {
+        entry(self.pairs, root)
+    }
+
+    /// The layer of a tree, if it has one hash for each piece.
+    pub(crate) fn layer_of(&self, tree: &Root, piece_length: PieceLength) -> Option<&'a [Hash]>
+        ensures count { IfSome result
+            (λ hs. length hs.now ≡ pieces_of piece_length tree.now.length) }
+        ensures value { option_map (λ hs. hs.now) result
+            ≡ layer_at piece_length (layer_pairs self.now) tree.now }
+    {
+        match self.under(&tree.root) {
+            Some(value) => digests(value, piece_length.pieces(tree.length)),
+            None => None,
+        }
+    }
+}
+
+/// The digests of a byte string of this many, joined.
+fn digests<'a>(value: &Value<'a>, count: u64) -> Option<&'a [Hash]>
+    ensures value { option_map (λ hs. hs.now) result ≡ as_digests 32 count (view value.now) }
+    ensures count { IfSome result (λ hs. length hs.now ≡ count) }
+{
+    match value {
+        Value::Bytes(bytes) if bytes.len() % 32 == 0 && (bytes.len() / 32) as u64 == count => {
+            Some(bytes.as_chunks::<32>().0)
+        }
+        _ => None,
+    }
+}
+
+/// The value under a root, by binary search.
+fn entry<'v, 'a>(layers: &'v [Pair<'a>], root: &Hash) -> Option<&'v Value<'a>>
+    requires { Ascends (pairs_view layers.now) }
+    ensures { option_map (λ w. view w.now) result ≡ under root.now (pairs_view layers.now) }
+{
+    let mut low = 0;
+    let mut high = layers.len();
+    'halves: while low < high {
+        let middle = low + (high - low) / 2;
+        match layers[middle].key.cmp(root.as_slice()) {
+            Ordering::Equal => return Some(&layers[middle].value),
+            Ordering::Less => low = middle + 1,
+            Ordering::Greater => high = middle,
+        }
+    }
+    None
+}

@@ -1,0 +1,157 @@
+//! Opening a torrent file: its tests in their order, and the torrent that it describes (BEP 52,
+//! "metainfo files").
+
+ghost use Rattle.std.specs.Prelude.{◌≡◌, ◌≢◌, ◌≤◌, ◌^◌, ℕ, List, Some, IfErr, IfOk, MatchResult, codes, true};
+ghost use Rattle.sha2.specs.Sha256.{sha256};
+ghost use Rattle.benc.specs.Text.{IsCanonical, spelling};
+ghost use Rattle.benc.specs.Value.{Bencode};
+ghost use Rattle.benc.specs.View.{view};
+ghost use Rattle.benc.specs.declared.fault.FaultKind.{FaultKind};
+ghost use Rattle.filetree.specs.Dictionary.{get};
+ghost use Rattle.filetree.specs.Tests.{NoneHolds, PassesUnlessNoMemory};
+ghost use Rattle.filetree.specs.declared.files.ListedFile.{ListedFile};
+ghost use Rattle.opening.specs.Describes.{Describes, IsDescribed};
+ghost use Rattle.opening.specs.Layered.{layer_pairs};
+ghost use Rattle.opening.specs.Opening.{AreContents, content_rows};
+ghost use Rattle.opening.specs.Refusals.{Refuses, TakesMemory, key_rows, table};
+ghost use Rattle.opening.specs.Trees.{IsIn};
+
+use crate::info::{self, Keys, read_keys};
+use crate::laws::{refusal_is_one, torrent_is_not_refused, torrent_is_one};
+use crate::layer_tests;
+use crate::layers::Layers;
+use crate::roots::{place_files, roots_of};
+use crate::torrent::{File, Torrent, TreeInfo};
+use crate::version1::version1;
+use benc::laws::spelling_is_of_canonical;
+use benc::{Fault, FaultKind, Value, decode_with_span};
+use filetree::{ListedFile, Refusal, read_tree};
+use hashtree::Hash;
+use pieces::PieceLength;
+use sha1::Sha1;
+use sha2::{Digest, Sha256};
+use std::alloc::Global;
+
+/// The most bytes that a torrent file has.
+pub const MAX_TORRENT: usize = 67_108_864;
+
+/// The files and trees of a torrent.
+#[derive(Drop)]
+struct Contents<'a> {
+    files: Vec<File<'a>>,
+    trees: Vec<TreeInfo<'a>>,
+}
+
+/// Tests the files together, and the layers of their trees.
+fn read_contents<'a>(
+    alloc: Global,
+    listed: Vec<ListedFile<'a>>,
+    layers: &Layers<'_, 'a>,
+    piece_length: PieceLength,
+) -> Result<Contents<'a>, Refusal>
+    requires { (f : ListedFile) → IsIn listed.items f → f.length ≤ 2 ^ 46 }
+    ensures { PassesUnlessNoMemory
+        (content_rows piece_length (layer_pairs layers.now) listed.entry.items)
+        (AreContents piece_length (layer_pairs layers.now) listed.entry.items) result }
+{
+    let roots = roots_of(alloc, &listed, piece_length)?;
+    layer_tests::test(roots.as_slice(), layers, piece_length)?;
+    let trees = layer_tests::infos(alloc, roots.as_slice(), layers, piece_length)?;
+    let files = place_files(alloc, listed, &roots, piece_length)?;
+    Ok(Contents { files, trees })
+}
+
+/// The torrent of a canonical value, given the bytes of its info dictionary as found.
+fn read<'a>(alloc: Global, top: &Value<'a>, info_bytes: &[u8]) -> Result<Torrent<'a>, Refusal>
+    requires canonical { IsCanonical (view top.now) }
+    requires info { (i : Bencode) → get (codes "info") (view top.now) ≡ Some i
+        → info_bytes.now ≡ spelling i }
+    ensures passes { PassesUnlessNoMemory (table (view top.now))
+        (IsDescribed (view top.now)) result }
+    ensures memory { IfErr result
+        (λ r. r ≡ Refusal.NoMemory → NoneHolds (key_rows (view top.now))) }
+{
+    let Keys {
+        info,
+        tree,
+        name,
+        layers,
+        piece_length,
+    } = read_keys(top)?;
+    let piece_length = info::piece_length(piece_length)?;
+    let listed = read_tree(alloc, tree)?;
+    let layers = Layers::of(layers);
+    let Contents { files, trees } = read_contents(alloc, listed, &layers, piece_length)?;
+    let v1 = version1(info, name, &files, piece_length)?;
+    let hash_v2 = info_hash_v2(info_bytes);
+    let hash_v1 = Sha1::digest(info_bytes);
+    Ok(Torrent::new(name, piece_length, files, trees, hash_v2, hash_v1, v1))
+}
+
+fn info_hash_v2(info: &[u8]) -> Hash
+    ensures { result ≡ sha256 info.now }
+{
+    Sha256::digest(info)
+}
+
+fn refused(fault: Fault) -> Refusal
+    ensures memory { fault.kind ≡ FaultKind.NoMemory → result ≡ Refusal.NoMemory }
+    ensures memory_only { result ≡ Refusal.NoMemory → fault.kind ≡ FaultKind.NoMemory }
+    ensures other { fault.kind ≢ FaultKind.NoMemory → result ≡ Refusal.NotBencode fault }
+{
+    match fault.kind {
+        FaultKind::NoMemory => Refusal::NoMemory,
+        _ => Refusal::NotBencode(fault),
+    }
+}
+
+/// The torrent that bytes describe, or why they describe none.
+fn opened<'a>(alloc: Global, input: &'a [u8]) -> Result<Torrent<'a>, Refusal>
+    ensures described { IfOk result (λ t. Describes input.now t) }
+    ensures refused { IfErr result (λ r. r ≢ Refusal.NoMemory → Refuses input.now r) }
+    ensures memory { IfErr result (λ r. r ≡ Refusal.NoMemory → TakesMemory input.now) }
+{
+    spelling_is_of_canonical();
+    if input.len() > MAX_TORRENT {
+        return Err(Refusal::TooLarge);
+    }
+    let (top, span) = match decode_with_span(alloc, input, b"info") {
+        Ok(decoded) => decoded,
+        Err(fault) => return Err(refused(fault)),
+    };
+    read(alloc, &top, span.unwrap_or(b""))
+}
+
+impl<'a> Torrent<'a> {
+    ghost use Rattle.opening.specs.Describes.{Describes};
+    ghost use Rattle.opening.specs.Description.{Description};
+    ghost use Rattle.opening.specs.Refusals.{Refuses, TakesMemory};
+
+    /// Opens a torrent file, and borrows its bytes.
+    ///
+    /// The tests come in a fixed order and the first that holds is told: `TooLarge` past 67,108,864
+    /// bytes, `NotBencode` with the first fault, the keys (`Missing`, `WrongType`, `Version` before
+    /// all other keys of the info dictionary, `PieceLength`), the file tree (`Shape`, `Path`), its
+    /// files (`Symlink`, `Length`, `Root`), the files together (`RootReused`, `NoFiles`,
+    /// `TooManyPieces`), the piece layers (`LayerMissing`, `LayerSize`, `LayerMismatch`), and for a
+    /// hybrid its version 1 part (`HybridFiles`, `HybridAlign`, `HybridPieces`). `NoMemory` comes
+    /// only where memory was refused.
+    pub fn open(alloc: Global, input: &'a [u8]) -> Result<Torrent<'a>, Refusal>
+        ensures described { IfOk result (λ t. Describes input.now t) }
+        ensures refused { IfErr result (λ r. r ≢ Refusal.NoMemory → Refuses input.now r) }
+        // Bytes that describe a torrent open as that one.
+        ensures only { (t : Description) → Describes input.now t
+            → MatchResult result (λ u. u ≡ t) (λ r. r ≡ Refusal.NoMemory) }
+        // Bytes that are refused are refused with that answer.
+        ensures first { (r : Refusal) → Refuses input.now r
+            → MatchResult result (λ _. ⊥) (λ s. s ≢ Refusal.NoMemory → s ≡ r) }
+        // Memory is refused only while a list or a dictionary of the bytes grows, or behind all
+        // keys.
+        ensures memory { IfErr result (λ r. r ≡ Refusal.NoMemory → TakesMemory input.now) }
+    {
+        torrent_is_one();
+        torrent_is_not_refused();
+        refusal_is_one();
+        opened(alloc, input)
+    }
+}

@@ -1,0 +1,82 @@
+//! The place of a block: which file and block stand at a piece's index and an offset behind it.
+
+ghost use Rattle.std.specs.Prelude.{◌≡◌, ℕ, ◌+◌, ◌-◌, ◌*◌, ◌/◌, ◌^◌, ◌<◌, ◌≤◌, List, length, map, nat_le, true, false, if◌then◌else◌, Option, Some, None, IfSome};
+ghost use Rattle.std.specs.List.Sorted.{IsNonDecreasingBy, IsPartitionPoint};
+ghost use Rattle.hashtree.specs.Tree.{block_count};
+ghost use Rattle.opening.specs.Description.{FileEntry};
+ghost use Rattle.opening.specs.Places.{AreLaidOut, begins_in, place_from};
+ghost use Rattle.opening.specs.Seen.{file_entry};
+
+use crate::torrent::{File, Torrent};
+use hashtree::BLOCK_LENGTH;
+
+/// How many files begin at this piece or before it, where first pieces ascend.
+fn begun(files: &[File<'_>], piece: u64) -> usize
+    ensures bound { result ≤ length files.now }
+    ensures point { IsNonDecreasingBy (λ f. f.first_piece) files.now
+        → IsPartitionPoint (λ f. f.first_piece ≤ piece)
+        (λ f. piece < f.first_piece) files.now result }
+{
+    let mut low = 0;
+    let mut high = files.len();
+    'halves: while low < high {
+        let middle = low + (high - low) / 2;
+        if files[middle].first_piece <= piece {
+            low = middle + 1;
+        } else {
+            high = middle;
+        }
+    }
+    low
+}
+
+/// The file's block that begins at this address.
+fn block_at(file: &File<'_>, piece_length: u64, address: u64) -> Option<u64>
+    requires { file.now.first_piece * piece_length < 2 ^ 64 }
+    ensures { result ≡ (if begins_in piece_length address (file_entry file.now)
+        then Some ((address - file.now.first_piece * piece_length) / 16384) else None) }
+{
+    let start = file.first_piece * piece_length;
+    if address < start || (address - start) % BLOCK_LENGTH != 0 {
+        return None;
+    }
+    let block = (address - start) / BLOCK_LENGTH;
+    (block < file.length.div_ceil(BLOCK_LENGTH)).then_some(block)
+}
+
+/// The file and block at this address.
+fn place_at(files: &[File<'_>], piece_length: u64, address: u64) -> Option<(usize, u64)>
+    requires some { 0 < piece_length }
+    requires bound { piece_length ≤ 2 ^ 30 }
+    requires laid_out { AreLaidOut piece_length (map file_entry files.now) }
+    ensures { result ≡ place_from piece_length address 0 (map file_entry files.now) }
+{
+    let begun = begun(files, address / piece_length);
+    if begun == 0 {
+        return None;
+    }
+    match block_at(&files[begun - 1], piece_length, address) {
+        None => None,
+        Some(block) => Some((begun - 1, block)),
+    }
+}
+
+impl<'a> Torrent<'a> {
+    ghost use Rattle.opening.specs.Places.{IsPlace, place_of};
+
+    /// The one file and block at the address `index * piece length + begin`, where a file begins at
+    /// its first piece times the piece length, and its block b stands at `16384 * b` after that;
+    /// `None` where no block begins there. Only the sum counts, so `begin` may pass the piece
+    /// length.
+    pub fn place(&self, index: u32, begin: u32) -> Option<(usize, u64)>
+        ensures value { result ≡ place_of self.now index begin }
+        ensures found { IfSome result (λ x. IsPlace self.now index begin x.0 x.1) }
+        ensures only { (f b : ℕ) → IsPlace self.now index begin f b
+            → result ≡ Some (record { 0 = f; 1 = b }) }
+    {
+        self.sound();
+        let piece_length = self.piece_length();
+        let address = u64::from(index) * piece_length + u64::from(begin);
+        place_at(self.files(), piece_length, address)
+    }
+}

@@ -1,0 +1,172 @@
+//! The trees of a torrent: the distinct roots of its files (BEP 52, "pieces root").
+
+ghost use Rattle.std.specs.Prelude.{◌≡◌, ◌≢◌, ◌<◌, ◌^◌, [], map, Some, MatchResult, OnOk, nat_le};
+ghost use Rattle.filetree.specs.Tests.{PassesUnlessNoMemory, Tests, UnlessNoMemory};
+ghost use Rattle.opening.specs.Refusals.{count_rows};
+ghost use Rattle.opening.specs.Rooted.{AreRoots, AreTrees, IsRootAt, IsRootRefused, entries_from};
+ghost use Rattle.opening.specs.Seen.{file_entry};
+ghost use Rattle.opening.specs.Trees.{IsReused, pieces_in, place_in, with_root};
+
+use crate::torrent::File;
+use filetree::{ListedFile, Refusal};
+use hashtree::Hash;
+use pieces::PieceLength;
+use std::alloc::Global;
+use std::collections::BTreeMap;
+use std::marker::Model;
+
+/// The most pieces that the files of a torrent have in all.
+const MAX_PIECES: u64 = 4_294_967_295;
+
+/// A root, and the length of its files in bytes.
+#[derive(Clone, Copy)]
+pub(crate) struct Root {
+    pub(crate) root: Hash,
+    pub(crate) length: u64,
+}
+
+/// The roots in the order of first use, and the number of each. Contracts see them as the list.
+#[derive(Drop)]
+pub(crate) struct Roots {
+    numbers: BTreeMap<Hash, usize>,
+    list: Vec<Root>,
+}
+
+impl Model for Roots {
+    ghost use Rattle.std.specs.Prelude.{◌≡◌, ℕ, List};
+    ghost use Rattle.std.specs.BTreeMap as tree;
+    ghost use Rattle.std.specs.Cmp.Lexicographic.{slice_cmp};
+    ghost use Rattle.std.specs.Ordering.{nat_cmp};
+    ghost use Rattle.opening.specs.Trees.{place_in};
+    ghost use Rattle.opening.specs.declared.roots.Root.{Root};
+
+    ghost Value = { List Root };
+
+    ghost view = { λ r. r.list.items };
+
+    ghost invariant = { λ r. (s : List ℕ) → tree.get (slice_cmp nat_cmp) r.numbers s ≡ place_in r.list.items s };
+}
+
+impl Roots {
+    fn new(alloc: Global) -> Roots
+        ensures { result ≡ [] }
+    {
+        Roots {
+            numbers: BTreeMap::new(alloc),
+            list: Vec::new(alloc),
+        }
+    }
+
+    /// The roots in the order of first use.
+    pub(crate) fn as_slice(&self) -> &[Root]
+        ensures { result.now ≡ self.now }
+    {
+        &self.list
+    }
+
+    /// The number of a root.
+    fn number(&self, root: &Hash) -> Option<usize>
+        ensures { result ≡ place_in self.now root.now }
+    {
+        self.numbers.get(root).copied()
+    }
+
+    /// Adds a root unless it is there with this length.
+    fn add(&mut self, root: Hash, length: u64) -> Result<(), Refusal>
+        ensures added { OnOk result (self.new ≡ with_root self.old length (Some root)) }
+        ensures there { MatchResult result (λ _. IsRootAt self.new root length)
+            (IsRootRefused self.old root length) }
+    {
+        match self.numbers.get(&root) {
+            Some(number) => {
+                if self.list[*number].length != length {
+                    return Err(Refusal::RootReused);
+                }
+                Ok(())
+            }
+            None => {
+                self.list.reserve(1)?;
+                self.numbers.insert(root, self.list.len())?;
+                self.list.push(Root { root, length })?;
+                Ok(())
+            }
+        }
+    }
+}
+
+/// The trees of the files, which have one length each; tests how many files and pieces there are.
+pub(crate) fn roots_of(
+    alloc: Global,
+    files: &[ListedFile<'_>],
+    piece_length: PieceLength,
+) -> Result<Roots, Refusal>
+    ensures { PassesUnlessNoMemory (count_rows piece_length files.now)
+        (AreTrees piece_length files.now) result }
+{
+    let roots = distinct(alloc, files)?;
+    if files.is_empty() {
+        return Err(Refusal::NoFiles);
+    }
+    test_pieces(files, piece_length)?;
+    Ok(roots)
+}
+
+/// The distinct roots of the files, each of one length.
+fn distinct(alloc: Global, files: &[ListedFile<'_>]) -> Result<Roots, Refusal>
+    ensures { MatchResult result (AreRoots files.now)
+        (λ r. r ≢ Refusal.NoMemory → (r ≡ Refusal.RootReused) × IsReused files.now) }
+{
+    let mut roots = Roots::new(alloc);
+    'files: for file in files {
+        if let Some(root) = file.root {
+            roots.add(root, file.length)?;
+        }
+    }
+    Ok(roots)
+}
+
+/// Tests how many pieces the files have in all.
+fn test_pieces(files: &[ListedFile<'_>], piece_length: PieceLength) -> Result<(), Refusal>
+    ensures { Tests (nat_le (2 ^ 32) (pieces_in piece_length files.now))
+        Refusal.TooManyPieces result }
+{
+    let mut pieces = 0;
+    'files: for file in files {
+        let more = piece_length.pieces(file.length);
+        if more > MAX_PIECES - pieces {
+            return Err(Refusal::TooManyPieces);
+        }
+        pieces += more;
+    }
+    Ok(())
+}
+
+/// The files, each with the number of its tree and its first piece.
+pub(crate) fn place_files<'a>(
+    alloc: Global,
+    listed: Vec<ListedFile<'a>>,
+    roots: &Roots,
+    piece_length: PieceLength,
+) -> Result<Vec<File<'a>>, Refusal>
+    requires { pieces_in piece_length listed.items < 2 ^ 32 }
+    ensures { UnlessNoMemory result
+        (λ fs. map file_entry fs.items ≡ entries_from piece_length roots.now 0 listed.entry.items) }
+{
+    let mut files = Vec::with_capacity(alloc, listed.len())?;
+    let mut first_piece = 0;
+    'listed: for file in listed {
+        let ListedFile { path, length, root } = file;
+        let tree = match root {
+            Some(root) => roots.number(&root),
+            None => None,
+        };
+        files.push(File {
+            path,
+            length,
+            tree,
+            first_piece,
+        })?;
+        first_piece += piece_length.pieces(length);
+    }
+    Ok(files)
+}

@@ -1,0 +1,161 @@
+//! An opened torrent.
+
+ghost use Rattle.std.specs.Prelude.{◌≡◌, ℕ, List, map, option_map};
+ghost use Rattle.opening.specs.Description.{Description, FileEntry, TreeEntry};
+
+use filetree::Path;
+use hashtree::Hash;
+use pieces::{PieceLength, V1};
+use std::marker::Model;
+
+/// A file of a torrent.
+#[derive(Debug, Drop)]
+pub struct File<'a> {
+    /// The components of its path: at least one and at most 124, none of them empty, `.` or `..`,
+    /// and none with a `/` or a zero byte. So it leads to no place outside the folder in which it
+    /// is looked up.
+    pub path: Path<'a>,
+    /// Its length in bytes.
+    pub length: u64,
+    /// The number of its tree; `None` for an empty file.
+    pub tree: Option<usize>,
+    /// The piece at which it begins; for an empty file the piece at which the next file that is not
+    /// empty begins, or the number of all pieces if none follows.
+    pub first_piece: u64,
+}
+
+/// A tree of a torrent: a distinct root of its files.
+#[derive(Clone, Copy, Debug, PartialEq)]
+pub struct TreeInfo<'a> {
+    /// The pieces root.
+    pub root: Hash,
+    /// The length of its files in bytes.
+    pub length: u64,
+    /// The piece layer without pads; empty if the length is at most the piece length.
+    pub layer: &'a [Hash],
+}
+
+/// An opened torrent, which borrows the bytes that it was read from.
+#[derive(Drop)]
+pub struct Torrent<'a> {
+    name: &'a str,
+    piece_length: PieceLength,
+    files: Vec<File<'a>>,
+    trees: Vec<TreeInfo<'a>>,
+    info_hash_v2: Hash,
+    info_hash_v1: [u8; 20],
+    v1: Option<V1<'a>>,
+}
+
+impl<'a> Model for Torrent<'a> {
+    ghost use Rattle.opening.specs.Description.{Description};
+    ghost use Rattle.opening.specs.Seen.{described};
+    ghost use Rattle.opening.specs.Sound.{IsSound};
+
+    ghost Value = { Description };
+
+    ghost view = { λ t. described t.name.now t.piece_length t.files.items t.trees.items
+        t.info_hash_v2 t.info_hash_v1 t.v1 };
+
+    ghost invariant = { λ t. IsSound (described t.name.now t.piece_length t.files.items
+        t.trees.items t.info_hash_v2 t.info_hash_v1 t.v1) };
+}
+
+impl<'a> Torrent<'a> {
+    ghost use Rattle.std.specs.Prelude.{◌≡◌, ◌<◌, ℕ, List, length, map, option_map, slice_get, IfSome, Some, None};
+    ghost use Rattle.opening.specs.Description.{FileEntry};
+    ghost use Rattle.opening.specs.Seen.{file_entry, tree_entry, version1};
+    ghost use Rattle.opening.specs.Sound.{IsSound};
+    ghost use Rattle.opening.specs.Seen.{described};
+
+    pub(crate) fn new(
+        name: &'a str,
+        piece_length: PieceLength,
+        files: Vec<File<'a>>,
+        trees: Vec<TreeInfo<'a>>,
+        info_hash_v2: Hash,
+        info_hash_v1: [u8; 20],
+        v1: Option<V1<'a>>,
+    ) -> Torrent<'a>
+        requires { IsSound (described name.now piece_length files.items trees.items info_hash_v2
+            info_hash_v1 v1) }
+        ensures { result
+            ≡ described name.now piece_length files.entry.items trees.entry.items info_hash_v2
+            info_hash_v1 v1.entry }
+    {
+        Torrent {
+            name,
+            piece_length,
+            files,
+            trees,
+            info_hash_v2,
+            info_hash_v1,
+            v1,
+        }
+    }
+
+    /// The display name. It may be `..` or hold a `/`: use it as no path.
+    pub fn name(&self) -> &'a str
+        ensures { result.now ≡ self.now.name }
+    {
+        self.name
+    }
+
+    /// The piece length in bytes.
+    pub fn piece_length(&self) -> u64
+        ensures { result ≡ self.now.piece_length }
+    {
+        self.piece_length.bytes()
+    }
+
+    /// The files, in the order of the file tree.
+    pub fn files(&self) -> &[File<'a>]
+        ensures { map file_entry result.now ≡ self.now.files }
+    {
+        &self.files
+    }
+
+    /// Each distinct root once, in the order of first use.
+    pub fn trees(&self) -> &[TreeInfo<'a>]
+        ensures { map tree_entry result.now ≡ self.now.trees }
+    {
+        &self.trees
+    }
+
+    /// The SHA-256 digest of the info dictionary's bytes as found (BEP 52, "infohash").
+    pub fn info_hash_v2(&self) -> Hash
+        ensures { result ≡ self.now.info_hash_v2 }
+    {
+        self.info_hash_v2
+    }
+
+    /// The SHA-1 digest of the info dictionary's bytes as found (BEP 3), computed for every
+    /// torrent.
+    pub fn info_hash_v1(&self) -> [u8; 20]
+        ensures { result ≡ self.now.info_hash_v1 }
+    {
+        self.info_hash_v1
+    }
+
+    /// The version 1 part; `None` if the torrent is no hybrid.
+    pub fn v1(&self) -> Option<&V1<'a>>
+        ensures { option_map (λ v. version1 v.now) result ≡ self.now.v1 }
+    {
+        self.v1.as_ref()
+    }
+
+    /// The number of the file's tree; `None` for an empty file alone.
+    pub fn tree_of(&self, file: usize) -> Option<usize>
+        requires { file < length self.now.files }
+        ensures { (f : FileEntry) → slice_get self.now.files file ≡ Some f → result ≡ f.tree }
+    {
+        self.files[file].tree
+    }
+
+    /// What holds of every torrent.
+    pub fn sound(&self)
+        ensures { IsSound self.now }
+    {
+        let _ = &self.name;
+    }
+}

@@ -1,0 +1,40 @@
+-- Powers of two, and their logarithm.
+use Rattle.std.proofs.Common.{◌≡◌, ℕ, ◌+◌, ◌-◌, ◌*◌, ◌/◌, ◌^◌, ◌<◌, ◌≤◌, inl, inr, sym, ap, ◌∙◌, arith, pow-add, le_antisymm}
+use Rattle.std.proofs.lemmas.Bool.{cases_lt}
+use Rattle.std.proofs.lemmas.Nat.{pow_below, div-mul-add}
+use Rattle.wire.specs.declared.message.Ask.{Ask}
+use Rattle.hashtree.specs.Tree.{height}
+use Rattle.partial_tree.specs.Claims.{span, GoodRange}
+use Rattle.hashtree.proofs.Heights.{height_enough, height_least}
+
+-- the larger power has the larger exponent
+pub exponent_le : (j k : ℕ) → 2 ^ j ≤ 2 ^ k → j ≤ k
+exponent_le j k h = elim (cases_lt k j) [
+  | inl less ↦ let low : 2 ^ k < 2 ^ j = pow_below k j less in absurd (omega arith)
+  | inr le ↦ le
+]
+
+-- the logarithm of a power
+pub height_pow : (k : ℕ) → height (2 ^ k) ≡ k
+height_pow k = le_antisymm (height_least (2 ^ k) k (le_here (2 ^ k))) (exponent_le k (height (2 ^ k)) (height_enough (2 ^ k)))
+  where
+    le_here : (n : ℕ) → n ≤ n
+    le_here n = omega arith
+
+-- a power splits into a product
+pub pow_split : (j h : ℕ) → j ≤ h → 2 ^ (h - j) * 2 ^ j ≡ 2 ^ h
+pow_split j h le = let e : h ≡ (h - j) + j = omega arith in sym (pow-add 2 (h - j) j) ∙ sym (ap (λ k. 2 ^ k) e)
+
+-- a quotient by a power that is not passed is 0
+pub div_small : (n w : ℕ) → n < w → n / w ≡ 0
+div_small n w h = let e : n ≡ 0 * w + n = omega arith in ap (λ k. k / w) e ∙ div-mul-add 0 w n h
+
+-- a good range spans a layer at least
+pub spans-some : (h : ℕ) (ask : Ask) → GoodRange h ask → 1 ≤ span ask
+spans-some h ask range = elim (cases_lt (span ask) 1) [
+  | inl none ↦
+      let e : span ask ≡ 0 = omega arith in
+      let one : ask.length ≡ 1 = sym range.power_of_two ∙ ap (λ k. 2 ^ k) e in
+      absurd (omega (arith, range.least))
+  | inr some ↦ some
+]

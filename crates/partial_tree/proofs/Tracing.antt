@@ -1,0 +1,148 @@
+-- How the claims of evidence follow from one another, from a place down.
+use Rattle.std.proofs.Common.{◌≡◌, ◌⊎◌, ℕ, zero, suc, ◌+◌, ◌-◌, ◌*◌, ◌/◌, ◌^◌, ◌<◌, ◌≤◌, true, false, Option, is_some, Some, None, Result, Ok, Err, inl, inr, sym, ap, ap₂, ◌∙◌, subst, arith, shr-shr, div-one, eq-or-lt_of_le}
+use Rattle.std.specs.Option.{OnSome}
+use Rattle.std.specs.Result.{OnOk, is_err}
+use Rattle.std.specs.FinMap.{len}
+use Rattle.std.proofs.lemmas.Bool.{false≢true}
+use Rattle.std.proofs.lemmas.Option.{same_Some, none-some}
+use Rattle.partial_tree.specs.declared.evidence.Evidence.{Evidence}
+use Rattle.partial_tree.specs.declared.found.Found.{Found}
+use Rattle.node_maps.specs.Digest.{Hash, join}
+use Rattle.node_maps.specs.Places.{PartialTree, IsKnown, IsPlace}
+use Rattle.node_maps.specs.Known.{Known, look}
+use Rattle.partial_tree.specs.Joins.{insert_new, Joins}
+use Rattle.partial_tree.specs.Claims.{IsMismatch, IsAgreed}
+use Rattle.partial_tree.specs.Evidence.{range_of, hashes_of, given_by, claimed_by, LiesUnder, IsNoted, Grows, IsHandled, AllHandled, BelowHandled, IsPruned, IsHandledClaim, DiffersFrom, LeadsTo, AreClaims, HasClaim}
+use Rattle.partial_tree.proofs.Noting.{insert_new-joined}
+use Rattle.partial_tree.proofs.Agree.{left_or_right}
+use Rattle.node_maps.proofs.Places.{place_left, place_right}
+use Rattle.partial_tree.proofs.Claimed.{claims-read, claims-zero, claims-given, claims-joined}
+
+-- what a claim that is not given rests on
+pub record Opened (e : Evidence) (l i : ℕ) : Type 0 where
+  pub above_leaves : 1 ≤ l
+  pub left : IsKnown (claimed_by e) (l - 1) (2 * i)
+  pub right : IsKnown (claimed_by e) (l - 1) (2 * i + 1)
+
+pub opened : (e : Evidence) (l i : ℕ) → IsKnown (claimed_by e) l i → given_by e l i ≡ None → Opened e l i
+opened e zero i (v, is) none = absurd (none-some v (sym none ∙ sym (claims-zero (range_of e) (hashes_of e) i) ∙ is))
+opened e (suc l) i (v, is) none = elim (claims-read (range_of e) (hashes_of e) l i v is) [
+  | inl g ↦ absurd (none-some v (sym none ∙ g))
+  | inr (n, (a, b, p, q, w)) ↦
+      let down : l ≡ suc l - 1 = omega arith in
+      record {
+        above_leaves = omega arith;
+        left = (a, ap (λ k. claimed_by e k (2 * i)) (sym down) ∙ p);
+        right = (b, ap (λ k. claimed_by e k (2 * i + 1)) (sym down) ∙ q);
+      }
+]
+
+pub child_left : (h l i : ℕ) → 1 ≤ l → IsPlace h l i → IsPlace h (l - 1) (2 * i)
+child_left h zero i some at = absurd (omega arith)
+child_left h (suc l) i some at = let down : l ≡ suc l - 1 = omega arith in subst (λ k. IsPlace h k (2 * i)) down (place_left h l i at.0 at)
+
+pub child_right : (h l i : ℕ) → 1 ≤ l → IsPlace h l i → IsPlace h (l - 1) (2 * i + 1)
+child_right h zero i some at = absurd (omega arith)
+child_right h (suc l) i some at = let down : l ≡ suc l - 1 = omega arith in subst (λ k. IsPlace h k (2 * i + 1)) down (place_right h l i at.0 at)
+
+-- a given hash is claimed
+pub given_claimed : (e : Evidence) (l i : ℕ) (v : Hash) → given_by e l i ≡ Some v → claimed_by e l i ≡ Some v
+given_claimed e l i v is = claims-given (range_of e) (hashes_of e) l i v is
+
+-- and so is the join of two claimed children
+pub join_claimed : (e : Evidence) (l i : ℕ) (a b : Hash) → 1 ≤ l → given_by e l i ≡ None → claimed_by e (l - 1) (2 * i) ≡ Some a → claimed_by e (l - 1) (2 * i + 1) ≡ Some b
+    → claimed_by e l i ≡ Some (join a b)
+join_claimed e zero i a b some none p q = absurd (omega arith)
+join_claimed e (suc l) i a b some none p q =
+    let down : l ≡ suc l - 1 = omega arith in
+    claims-joined (range_of e) (hashes_of e) l i a b none (ap (λ k. claimed_by e k (2 * i)) down ∙ p) (ap (λ k. claimed_by e k (2 * i + 1)) down ∙ q)
+
+-- a place below another lies under one of its children
+pub under_child : (layer index l i : ℕ) → LiesUnder layer index l i → l < layer → LiesUnder (layer - 1) (2 * index) l i ⊎ LiesUnder (layer - 1) (2 * index + 1) l i
+under_child layer index l i at below =
+    let q : ℕ = i / 2 ^ (layer - 1 - l) in
+    let k : layer - l ≡ (layer - 1 - l) + 1 = omega arith in
+    let half : q / 2 ≡ index = shr-shr i (layer - 1 - l) 1 ∙ sym (ap (λ j. i / 2 ^ j) k) ∙ at.1 in
+    elim (left_or_right q) [
+      | inl e ↦ inl (omega arith, e ∙ ap (λ j. 2 * j) half)
+      | inr e ↦ inr (omega arith, e ∙ ap (λ j. 2 * j + 1) half)
+    ]
+
+-- what is handled stays handled
+pub handled-grows : (C K : PartialTree) (old new : Found) → Grows old new → (l i : ℕ) → IsHandled C K old l i → IsHandled C K new l i
+handled-grows C K old new grows l i handled v is = elim (handled v is) [
+  | inl known ↦ inl known
+  | inr (none, noted) ↦ inr (none, grows.keeps l i v noted)
+]
+
+-- both children are handled, one after the other
+pub below-children : (C K : PartialTree) (first second : Found) (layer index : ℕ) → Grows first second
+    → AllHandled C K first (layer - 1) (2 * index) → AllHandled C K second (layer - 1) (2 * index + 1) → BelowHandled C K second layer index
+below-children C K first second layer index grows left right = record {
+  at = λ l i under below. elim (under_child layer index l i under below) [
+    | inl u ↦ handled-grows C K first second grows l i (left.at l i u)
+    | inr u ↦ right.at l i u
+  ];
+}
+
+-- nothing is claimed below a given hash
+pub below-given : (e : Evidence) (K : PartialTree) (found : Found) (layer index : ℕ) (v : Hash) → IsPruned e → given_by e layer index ≡ Some v → BelowHandled (claimed_by e) K found layer index
+below-given e K found layer index v pruned is = record { at = λ l i under below w claim. absurd (pruned.below layer index l i v w is under below claim) }
+
+-- the place itself beside what lies below it
+pub all-handled : (C : PartialTree) (m : Known) (before after : Found) (layer index : ℕ) (h : Hash) → Grows before after → C layer index ≡ Some h
+    → BelowHandled C (look m) before layer index → IsHandledClaim m after (record { layer = layer; index = index; hash = h }) → AllHandled C (look m) after layer index
+all-handled C m before after layer index h grows is below here = record {
+  at = λ l i under. elim (eq-or-lt_of_le under.0) [
+    | inr less ↦ handled-grows C (look m) before after grows l i (below.at l i under less)
+    | inl same ↦ at_place l i same under.1
+  ];
+}
+  where
+    at_place : (l i : ℕ) → l ≡ layer → i / 2 ^ (layer - l) ≡ index → IsHandled C (look m) after l i
+    at_place l i same up v claim =
+        let none_left : layer - l ≡ 0 = omega arith in
+        let here' : i ≡ index = sym (div-one i) ∙ sym (ap (λ k. i / 2 ^ k) none_left) ∙ up in
+        let value : h ≡ v = same_Some h v (sym is ∙ sym (ap₂ C same here') ∙ claim) in
+        elim here [
+          | inl known ↦ inl (ap₂ (look m) same here' ∙ known ∙ ap Some value)
+          | inr (none, noted) ↦ inr (ap₂ (look m) same here' ∙ none, subst (λ x. IsNoted after l i x) value (subst (λ k. IsNoted after k i h) (sym same) (subst (λ j. IsNoted after layer j h) (sym here') noted)))
+        ]
+
+-- a claim that differs from what is known
+pub mismatch : (C : PartialTree) (m : Known) (layer index : ℕ) (h : Hash) → C layer index ≡ Some h → DiffersFrom m (record { layer = layer; index = index; hash = h }) → IsMismatch (look m) C
+mismatch C m layer index h is (v, known, other) = record { layer = layer; index = index; in_J = v; in_K = h; J_known = known; K_known = is; differ = other }
+
+-- ---- what holds where all that leads to a place is handled
+
+pub on_some : (o : Option Hash) (P : Type 0) → OnSome o P → is_some o ≡ true → P
+on_some None P h e = absurd (false≢true e)
+on_some (Some x) P h e = h
+
+pub on_ok : {T E : Type 0} (r : Result T E) (P : Type 0) → OnOk r P → is_err r ≡ false → P
+on_ok (Ok x) P h e = h
+on_ok (Err x) P h e = absurd (false≢true (sym e))
+
+pub handled-agreed : (e : Evidence) (m : Known) (found : Found) (layer index : ℕ) → LeadsTo e layer index → AllHandled (claimed_by e) (look m) found layer index → IsAgreed (look m) (claimed_by e)
+handled-agreed e m found layer index leads handled l i u v known claim = elim (handled.at l i (leads.under_top l i v claim) v claim) [
+  | inl same ↦ same_Some u v (sym known ∙ same)
+  | inr (none, noted) ↦ absurd (none-some u (sym none ∙ known))
+]
+
+pub handled-joins : (e : Evidence) (m : Known) (found : Found) (layer index c : ℕ) (after : Known) → LeadsTo e layer index → AllHandled (claimed_by e) (look m) found layer index
+    → found.incomplete ≡ false → AreClaims (claimed_by e) found.claims.items → after ≡ insert_new m found.claims.items → len after ≡ len m + c → Joins (claimed_by e) m after c
+handled-joins e m found layer index c after leads handled ok sound is gained = record {
+  agreed = handled-agreed e m found layer index leads handled;
+  joined_is = λ l i. ap (λ k. look k l i) is ∙ insert_new-joined (claimed_by e) found.claims.items m sound complete l i;
+  gained = gained;
+}
+  where
+    listed : (l i : ℕ) (v : Hash) → IsNoted found l i v → HasClaim found.claims.items l i v
+    listed l i v (inl refused) = absurd (false≢true (sym ok ∙ refused))
+    listed l i v (inr has) = has
+
+    complete : (l i : ℕ) (v : Hash) → claimed_by e l i ≡ Some v → (look m l i ≡ Some v) ⊎ ((look m l i ≡ None) × HasClaim found.claims.items l i v)
+    complete l i v claim = elim (handled.at l i (leads.under_top l i v claim) v claim) [
+      | inl known ↦ inl known
+      | inr (none, noted) ↦ inr (none, listed l i v noted)
+    ]

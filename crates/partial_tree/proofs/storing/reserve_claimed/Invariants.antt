@@ -1,0 +1,15 @@
+use Rattle.std.proofs.Common.{◌≡◌, ℕ, ◌<◌}
+use Rattle.node_maps.specs.Places.{IsKnown}
+use Rattle.partial_tree.specs.Evidence.{claimed_by}
+use Rattle.partial_tree.proofs.storing.reserve_claimed.Given as goal
+
+-- the claims of the layers so far have room
+abbrev pub invariant-rows : goal.invariant-rows
+invariant-rows g l =
+    let M = g.N.NodeMap in
+    record {
+      length : M.length l.map ≡ M.length l.initial.map;
+      known : M.known l.map ≡ M.known l.initial.map;
+      marked : M.marked l.map ≡ M.marked l.initial.map;
+      room : (k i : ℕ) → IsKnown (claimed_by l.initial.evidence) k i → k < l.below → M.has_room l.map k i;
+    }

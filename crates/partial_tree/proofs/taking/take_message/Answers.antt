@@ -1,0 +1,62 @@
+use Rattle.std.proofs.Common.{[], ◌-◌, ◌/◌, ◌^◌, not, refl, sym, ap, ap₂, ◌∙◌, subst, replicate}
+use Rattle.partial_tree.specs.declared.evidence.Evidence.{Evidence}
+use Rattle.partial_tree.specs.TreeRoot.{TreeRoot}
+use Rattle.node_maps.specs.Places.{tree_height, IsPlace, IsKnown}
+use Rattle.node_maps.specs.Known.{look}
+use Rattle.partial_tree.specs.Claims.{top_layer, top_index, GoodRange, GoodCount}
+use Rattle.partial_tree.specs.Evidence.{LeadsTo}
+use Rattle.partial_tree.proofs.Messages.{known_of, same_claims, leads, taken_by, refused_by}
+use Rattle.partial_tree.proofs.taking.take_message.Goals as goal
+
+pub store-requires-clause-place : goal.store-requires-clause-place
+store-requires-clause-place g c =
+    let K = look (g.N.NodeMap.known c.args.nodes.now) in
+    let index = c.from.result / 2 ^ (c.in_ok-top.top - c.args.ask.now.base) in
+    let v = known_of c.get.result (c.is_none.ensures ∙ ap not c.if-is_none.false) in
+    let at : IsPlace c.args.height c.in_ok-top.top index = c.requires.places c.in_ok-top.top index (v.0, sym c.get.ensures ∙ v.1) in
+    subst (λ h. IsPlace h c.in_ok-top.top index) (c.requires.height ∙ ap tree_height (sym c.requires.shape)) at
+
+pub store-requires-clause-leads : goal.store-requires-clause-leads
+store-requires-clause-leads g c =
+    let ask = c.args.ask.now in
+    let hashes = c.args.hashes.now in
+    let ev : Evidence = record { base = ask.base; index = c.from-2.result; span = c.in_ok-span.span; hashes = c.args.hashes; pad = replicate 32 0 } in
+    let range = c.in_ok-span.ensures.good in
+    let count = c.in_ok-top.ensures.good in
+    let at : LeadsTo ev (top_layer ask hashes) (top_index ask hashes) = leads ev ask hashes refl c.from-2.ensures range.1 refl count.0.enough range.2 range.0.aligned in
+    subst (λ l. LeadsTo ev l (c.from.result / 2 ^ (l - ask.base))) (sym count.1)
+    (subst (λ i. LeadsTo ev (top_layer ask hashes) (i / 2 ^ (top_layer ask hashes - ask.base))) (sym c.from.ensures) at)
+
+pub returns-clause-taken : goal.returns-clause-taken
+returns-clause-taken g c =
+    let ask = c.args.ask.now in
+    let hashes = c.args.hashes.now in
+    let K = look (g.N.NodeMap.known c.args.nodes.now) in
+    let ev : Evidence = record { base = ask.base; index = c.from-2.result; span = c.in_ok-span.span; hashes = c.args.hashes; pad = replicate 32 0 } in
+    let range = c.in_ok-span.ensures.good in
+    let count = c.in_ok-top.ensures.good in
+    let t : TreeRoot = record { root = []; length = c.args.shape } in
+    let v = known_of c.get.result (c.is_none.ensures ∙ ap not c.if-is_none.false) in
+    let top : IsKnown K (top_layer ask hashes) (top_index ask hashes) =
+    (v.0, ap₂ K (sym count.1) (ap₂ (λ i l. i / 2 ^ (l - ask.base)) (sym c.from.ensures) (sym count.1)) ∙ sym c.get.ensures ∙ v.1) in
+    taken_by ev t (g.N.NodeMap.known c.args.nodes.now) (g.N.NodeMap.known c.store.new.map) ask hashes c.store.result
+    (same_claims ev ask hashes refl c.from-2.ensures range.1 refl count.0.enough)
+    (subst (λ h. GoodRange h ask) c.requires.height range.0) (subst (λ h. GoodCount h ask hashes) c.requires.height count.0)
+    (c.if-not-pads_fit.ensures.fit) top c.store.ensures.stored
+
+pub returns-clause-refused : goal.returns-clause-refused
+returns-clause-refused g c =
+    let ask = c.args.ask.now in
+    let hashes = c.args.hashes.now in
+    let K = look (g.N.NodeMap.known c.args.nodes.now) in
+    let ev : Evidence = record { base = ask.base; index = c.from-2.result; span = c.in_ok-span.span; hashes = c.args.hashes; pad = replicate 32 0 } in
+    let range = c.in_ok-span.ensures.good in
+    let count = c.in_ok-top.ensures.good in
+    let t : TreeRoot = record { root = []; length = c.args.shape } in
+    let v = known_of c.get.result (c.is_none.ensures ∙ ap not c.if-is_none.false) in
+    let top : IsKnown K (top_layer ask hashes) (top_index ask hashes) =
+    (v.0, ap₂ K (sym count.1) (ap₂ (λ i l. i / 2 ^ (l - ask.base)) (sym c.from.ensures) (sym count.1)) ∙ sym c.get.ensures ∙ v.1) in
+    refused_by ev t (g.N.NodeMap.known c.args.nodes.now) (g.N.NodeMap.known c.store.new.map) ask hashes c.store.result
+    (same_claims ev ask hashes refl c.from-2.ensures range.1 refl count.0.enough)
+    (subst (λ h. GoodRange h ask) c.requires.height range.0) (subst (λ h. GoodCount h ask hashes) c.requires.height count.0)
+    (c.if-not-pads_fit.ensures.fit) top c.store.ensures.refused

@@ -1,0 +1,123 @@
+-- Hashes as evidence of the nodes of a tree, and what was found in them that is not known yet.
+use Rattle.std.specs.Prelude.{◌≡◌, ◌≢◌, ◌⊎◌, ℕ, suc, ◌+◌, ◌-◌, ◌*◌, ◌/◌, ◌%◌, ◌^◌, ◌<◌, ◌≤◌, true, List, [], ◌∷◌, ◌++◌, length, replicate, Some, None}
+use Rattle.std.specs.List.{All}
+use Rattle.wire.specs.declared.message.Ask.{Ask}
+use Rattle.partial_tree.specs.declared.evidence.Evidence.{Evidence}
+use Rattle.partial_tree.specs.declared.found.Claim.{Claim}
+use Rattle.partial_tree.specs.declared.found.Found.{Found}
+use Rattle.partial_tree.specs.declared.refusal.HashRefusal.{HashRefusal}
+use Rattle.partial_tree.specs.declared.refusal.HashRefusal.TheVariants.{Mismatch, NoMemory}
+use Rattle.node_maps.specs.Digest.{Hash}
+use Rattle.node_maps.specs.Places.{PartialTree, IsKnown}
+use Rattle.node_maps.specs.Known.{Known, look}
+use Rattle.partial_tree.specs.Claims.{given, claims, joined, IsAgreed, IsMismatch}
+
+-- the fields are small
+pub record IsInside (e : Evidence) : Type 0 where
+  pub base : e.base ≤ 32
+  pub index : e.index < 2 ^ 32
+  pub span : e.span ≤ 32
+
+-- the base range as an ask
+abbrev pub range_of : Evidence → Ask
+range_of e = record { root = []; base = e.base; index = e.index; length = 2 ^ e.span; proof = 0 }
+
+-- the hashes, with pads up to the end of the base range
+abbrev pub hashes_of : Evidence → List Hash
+hashes_of e = e.hashes.now ++ replicate (2 ^ e.span - length e.hashes.now) e.pad
+
+abbrev pub given_by : Evidence → PartialTree
+given_by e = given (range_of e) (hashes_of e)
+
+abbrev pub claimed_by : Evidence → PartialTree
+claimed_by e = claims (range_of e) (hashes_of e)
+
+-- (l, i) is the place (layer, index), or lies below it
+abbrev pub LiesUnder : ℕ → ℕ → ℕ → ℕ → Type 0
+LiesUnder layer index l i = (l ≤ layer) × (i / 2 ^ (layer - l) ≡ index)
+
+-- nothing is claimed below a given hash
+pub record IsPruned (e : Evidence) : Type 0 where
+  pub below : (layer index l i : ℕ) (v w : Hash) → given_by e layer index ≡ Some v
+      → LiesUnder layer index l i → l < layer → claimed_by e l i ≡ Some w → ⊥
+
+-- how far above a layer stands the node under which all claims of that layer lie
+abbrev pub row_height : Evidence → ℕ → ℕ
+row_height e l = 1 + (e.base + e.span - suc l)
+
+-- the first place of the layer under that node, of 2 ^ row_height many
+abbrev pub row_first : Evidence → ℕ → ℕ
+row_first e l = e.index / 2 ^ (l - e.base) / 2 ^ row_height e l * 2 ^ row_height e l
+
+-- the place stands over the whole base range, which begins at a multiple of its length
+pub record IsOver (e : Evidence) (layer index : ℕ) : Type 0 where
+  pub aligned : e.index % 2 ^ e.span ≡ 0
+  pub covers : e.base + e.span ≤ layer
+  pub over : e.index / 2 ^ (layer - e.base) ≡ index
+
+-- all that is claimed leads to one place
+pub record LeadsTo (e : Evidence) (layer index : ℕ) : Type 0 where
+  pub is_over : IsOver e layer index
+  pub pruned : IsPruned e
+  pub at_top : IsKnown (claimed_by e) layer index
+  pub under_top : (l i : ℕ) (v : Hash) → claimed_by e l i ≡ Some v → LiesUnder layer index l i
+
+-- the list has the claim of v at (l, i)
+abbrev pub HasClaim : List Claim → ℕ → ℕ → Hash → Type 0
+HasClaim [] l i v = ⊥
+HasClaim (c ∷ cs) l i v = ((c.layer ≡ l) × (c.index ≡ i) × (c.hash ≡ v)) ⊎ HasClaim cs l i v
+
+-- the claim is listed, unless the list is incomplete
+abbrev pub IsNoted : Found → ℕ → ℕ → Hash → Type 0
+IsNoted found l i v = (found.incomplete ≡ true) ⊎ HasClaim found.claims.items l i v
+
+-- what is noted stays noted
+pub record Grows (before after : Found) : Type 0 where
+  pub keeps : (l i : ℕ) (v : Hash) → IsNoted before l i v → IsNoted after l i v
+
+-- each claim is one of C
+abbrev pub AreClaims : PartialTree → List Claim → Type 0
+AreClaims C cs = All (λ (c : Claim). C c.layer c.index ≡ Some c.hash) cs
+
+-- what C claims at the place is known in K, or is noted and not known
+abbrev pub IsHandled : PartialTree → PartialTree → Found → ℕ → ℕ → Type 0
+IsHandled C K found l i = (v : Hash) → C l i ≡ Some v → (K l i ≡ Some v)
+    ⊎ ((K l i ≡ None) × IsNoted found l i v)
+
+-- so it is at each place from (layer, index) down
+pub record AllHandled (C K : PartialTree) (found : Found) (layer index : ℕ) : Type 0 where
+  pub at : (l i : ℕ) → LiesUnder layer index l i → IsHandled C K found l i
+
+-- and at each place below it
+pub record BelowHandled (C K : PartialTree) (found : Found) (layer index : ℕ) : Type 0 where
+  pub at : (l i : ℕ) → LiesUnder layer index l i → l < layer → IsHandled C K found l i
+
+-- the claim is known, or is noted and not known
+abbrev pub IsHandledClaim : Known → Found → Claim → Type 0
+IsHandledClaim m found c = (look m c.layer c.index ≡ Some c.hash)
+    ⊎ ((look m c.layer c.index ≡ None) × IsNoted found c.layer c.index c.hash)
+
+-- another hash is known at its place
+abbrev pub DiffersFrom : Known → Claim → Type 0
+DiffersFrom m c = (v : Hash) × (look m c.layer c.index ≡ Some v) × (v ≢ c.hash)
+
+-- what C claims from a place down is joined to what was known, and elsewhere nothing has changed
+pub record IsWritten (C : PartialTree) (layer index : ℕ) (before after : PartialTree) : Type 0 where
+  pub under : (l i : ℕ) → LiesUnder layer index l i → after l i ≡ joined before C l i
+  pub elsewhere : (l i : ℕ) → ¬ LiesUnder layer index l i → after l i ≡ before l i
+
+-- (l, i) lies below the place (layer, index)
+abbrev pub LiesBelow : ℕ → ℕ → ℕ → ℕ → Type 0
+LiesBelow layer index l i = (l < layer) × LiesUnder layer index l i
+
+-- what C claims below a place is joined to what was known, and elsewhere nothing has changed
+pub record IsWrittenBelow (C : PartialTree) (layer index : ℕ) (before after : PartialTree)
+    : Type 0 where
+  pub below : (l i : ℕ) → LiesBelow layer index l i → after l i ≡ joined before C l i
+  pub elsewhere : (l i : ℕ) → ¬ LiesBelow layer index l i → after l i ≡ before l i
+
+-- why claims are not stored
+abbrev pub StoreFault : PartialTree → PartialTree → HashRefusal → Type 0
+StoreFault K C Mismatch = IsMismatch K C
+StoreFault K C NoMemory = IsAgreed K C
+StoreFault K C r = ⊥

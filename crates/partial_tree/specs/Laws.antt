@@ -1,0 +1,104 @@
+-- The laws of partial trees.
+use Rattle.std.specs.Prelude.{◌≡◌, ℕ, ◌+◌, ◌-◌, ◌/◌, ◌<◌, ◌≤◌, ◌⊎◌, List, None, Some}
+use Rattle.std.specs.List.{All}
+use Rattle.sha2.specs.Sha256.{sha256}
+use Rattle.wire.specs.declared.message.Ask.{Ask as Asked}
+use Rattle.partial_tree.specs.TreeRoot.{TreeRoot as Tree, Fits}
+use Rattle.node_maps.specs.Digest.{Hash, IsHash}
+use Rattle.hashtree.specs.Tree.{block, block_count}
+use Rattle.node_maps.specs.Places.{tree_height, PartialTree, IsKnown, IsPlace}
+use Rattle.partial_tree.specs.Closed.{IsClosed, Keeps, Collision, BlockCollision, whole}
+use Rattle.partial_tree.specs.Claims.{claims, joined, top_layer, top_index, GoodRange, GoodCount, IsAccepted, IsToldBy, CanAnswer, answer_of, Refuses}
+use Rattle.partial_tree.specs.declared.refusal.HashRefusal.{HashRefusal as Refusal}
+use Rattle.partial_tree.specs.Fill.{fill_claims, IsFillAccepted}
+use Rattle.partial_tree.specs.Gaps.{gaps, window, want_ask}
+
+-- the whole tree of a file that fits a tree is closed
+abbrev pub WholeIsClosed : Type 0
+WholeIsClosed = (t : Tree) (f : List ℕ) → Fits f t → IsClosed t (whole f)
+
+-- two closed partial trees of one tree agree wherever both have a value, or a collision of them is
+-- named
+abbrev pub ClosedTreesAgree : Type 0
+ClosedTreesAgree = (t : Tree) (J K : PartialTree) → IsClosed t J → IsClosed t K
+    → (l i : ℕ) (u v : Hash) → J l i ≡ Some u → K l i ≡ Some v → (u ≡ v) ⊎ Collision J K
+
+-- a block whose digest is a known leaf is that block of every file that fits, or a collision is
+-- named
+abbrev pub KnownLeafNamesBlock : Type 0
+KnownLeafNamesBlock = (t : Tree) (K : PartialTree) (f : List ℕ) → IsClosed t K → Fits f t
+    → (i : ℕ) → i < block_count t.length → (leaf b : List ℕ) → K 0 i ≡ Some leaf → sha256 b ≡ leaf
+    → (b ≡ block f i) ⊎ (Collision (whole f) K ⊎ BlockCollision f i b)
+
+-- a partial tree stays closed when an accepted message is joined to it
+abbrev pub JoinedStaysClosed : Type 0
+JoinedStaysClosed = (t : Tree) (K : PartialTree) (ask : Asked) (hashes : List Hash) → IsClosed t K
+    → All IsHash hashes
+    → IsAccepted t.length K ask hashes → IsClosed t (joined K (claims ask hashes))
+
+-- what is joined to a partial tree keeps what it has
+abbrev pub JoinedKeeps : Type 0
+JoinedKeeps = (K C : PartialTree) → Keeps K (joined K C)
+
+-- a partial tree stays closed when an accepted whole layer is joined to it
+abbrev pub FilledStaysClosed : Type 0
+FilledStaysClosed = (t : Tree) (K : PartialTree) (l : ℕ) (hashes : List Hash) → IsClosed t K
+    → All IsHash hashes
+    → IsFillAccepted t.length K l hashes → IsClosed t (joined K (fill_claims t.length l hashes))
+
+-- a message with what a closed tree has is accepted by each closed tree that knows its top, or a
+-- collision is named
+abbrev pub TrueMessageIsAccepted : Type 0
+TrueMessageIsAccepted = (t : Tree) (J K : PartialTree) (ask : Asked) (hashes : List Hash)
+    → IsClosed t J → IsClosed t K
+    → GoodRange (tree_height t.length) ask → GoodCount (tree_height t.length) ask hashes
+    → IsToldBy J ask hashes
+    → IsKnown K (top_layer ask hashes) (top_index ask hashes) → IsAccepted t.length K ask hashes
+    ⊎ Collision J K
+
+-- what one session answers to an ask with enough proof layers, each other accepts, or a collision
+-- is named
+abbrev pub AnswerIsAccepted : Type 0
+AnswerIsAccepted = (t : Tree) (J K : PartialTree) (ask : Asked) → IsClosed t J → IsClosed t K
+    → CanAnswer (tree_height t.length) J ask → tree_height t.length - ask.base - 1 ≤ ask.proof
+    → IsAccepted t.length K ask (answer_of (tree_height t.length) J ask) ⊎ Collision J K
+
+-- gaps never rise
+abbrev pub GapsNeverRise : Type 0
+GapsNeverRise = (len : ℕ) (K L : PartialTree) → Keeps K L → gaps len L ≤ gaps len K
+
+-- gaps are at most the windows that hold a block
+abbrev pub GapsAreAtMostWindows : Type 0
+GapsAreAtMostWindows = (len : ℕ) (K : PartialTree)
+    → gaps len K ≤ (block_count len + window len - 1) / window len
+
+-- where there is no gap all leaves of blocks are known
+abbrev pub NoGapMeansAllKnown : Type 0
+NoGapMeansAllKnown = (len : ℕ) (K : PartialTree) → gaps len K ≡ 0 → (b : ℕ) → b < block_count len
+    → IsKnown K 0 b
+
+-- where all leaves of blocks are known there is no gap
+abbrev pub AllKnownMeansNoGap : Type 0
+AllKnownMeansNoGap = (len : ℕ) (K : PartialTree) → ((b : ℕ) → b < block_count len → IsKnown K 0 b)
+    → gaps len K ≡ 0
+
+-- an accepted answer to what was wanted and is not known yet closes one gap
+abbrev pub AnswerClosesOneGap : Type 0
+AnswerClosesOneGap = (t : Tree) (b : ℕ) → 1 ≤ tree_height t.length → b < block_count t.length
+    → (K : PartialTree) (hashes : List Hash)
+    → IsAccepted t.length K (want_ask t b) hashes → K 0 b ≡ None
+    → gaps t.length (joined K (claims (want_ask t b) hashes)) + 1 ≡ gaps t.length K
+
+-- an accepted answer to what was wanted leaves fewer gaps than there were at the ask
+abbrev pub AnswerLeavesFewerGaps : Type 0
+AnswerLeavesFewerGaps = (t : Tree) (b : ℕ) → 1 ≤ tree_height t.length → b < block_count t.length
+    → (K : PartialTree) (hashes : List Hash)
+    → IsAccepted t.length K (want_ask t b) hashes → (before : PartialTree) → Keeps before K
+    → before 0 b ≡ None
+    → gaps t.length (joined K (claims (want_ask t b) hashes)) < gaps t.length before
+
+-- each message is accepted, or refused by the first refusal that holds of it
+abbrev pub MessageIsAcceptedOrRefused : Type 0
+MessageIsAcceptedOrRefused = (t : Tree) (K : PartialTree) (ask : Asked) (hashes : List Hash)
+    → ((l i : ℕ) (v : Hash) → K l i ≡ Some v → IsPlace (tree_height t.length) l i)
+    → IsAccepted t.length K ask hashes ⊎ ((r : Refusal) × Refuses t.length K ask hashes r)

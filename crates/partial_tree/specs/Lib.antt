@@ -1,0 +1,13 @@
+-- Partial hash trees, and what messages claim of them.
+pub mod TreeRoot
+pub mod Closed
+pub mod Claims
+pub mod Fill
+pub mod Gaps
+pub mod Answers
+pub mod Joins
+pub mod Evidence
+pub mod Kept
+pub mod Codes
+pub mod Names
+pub mod Laws

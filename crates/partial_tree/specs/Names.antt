@@ -1,0 +1,37 @@
+-- The numbers and names of refusals, as they are printed.
+use Rattle.std.specs.Prelude.{ℕ, List, codes}
+use Rattle.partial_tree.specs.declared.refusal.HashRefusal.{HashRefusal}
+use Rattle.partial_tree.specs.declared.refusal.HashRefusal.TheVariants.{UnknownRoot, BadRange, BadCount, BadPad, Unanchored, Mismatch, NoMemory}
+use Rattle.partial_tree.specs.declared.refusal.BlockRefusal.{BlockRefusal}
+use Rattle.partial_tree.specs.declared.refusal.BlockRefusal.TheVariants.{BadPlace, BadSize, Unproved, BadBlock}
+
+-- the number of a refusal of hashes, which is the order of the tests
+abbrev pub hash_refusal_number : HashRefusal → ℕ
+hash_refusal_number UnknownRoot = 1
+hash_refusal_number BadRange = 2
+hash_refusal_number BadCount = 3
+hash_refusal_number BadPad = 4
+hash_refusal_number Unanchored = 5
+hash_refusal_number Mismatch = 6
+hash_refusal_number NoMemory = 7
+
+abbrev pub hash_refusal_name : HashRefusal → List ℕ
+hash_refusal_name UnknownRoot = codes "UnknownRoot"
+hash_refusal_name BadRange = codes "BadRange"
+hash_refusal_name BadCount = codes "BadCount"
+hash_refusal_name BadPad = codes "BadPad"
+hash_refusal_name Unanchored = codes "Unanchored"
+hash_refusal_name Mismatch = codes "Mismatch"
+hash_refusal_name NoMemory = codes "NoMemory"
+
+abbrev pub block_refusal_number : BlockRefusal → ℕ
+block_refusal_number BadPlace = 1
+block_refusal_number BadSize = 2
+block_refusal_number Unproved = 3
+block_refusal_number BadBlock = 4
+
+abbrev pub block_refusal_name : BlockRefusal → List ℕ
+block_refusal_name BadPlace = codes "BadPlace"
+block_refusal_name BadSize = codes "BadSize"
+block_refusal_name Unproved = codes "Unproved"
+block_refusal_name BadBlock = codes "BadBlock"

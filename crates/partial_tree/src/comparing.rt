@@ -1,0 +1,97 @@
+//! The first pass over what hashes claim: all of it is computed and compared with what is known,
+//! and nothing is written.
+
+ghost use Rattle.std.specs.Prelude.{◌≡◌, ◌≤◌, Some, IfSome, IfNone, OnSome};
+ghost use Rattle.std.specs.Bool.{OnTrue, OnFalse};
+ghost use Rattle.node_maps.specs.Places.{tree_height, PartialTree, IsPlace, IsKnown};
+ghost use Rattle.node_maps.specs.Known.{look};
+ghost use Rattle.partial_tree.specs.Claims.{IsMismatch};
+ghost use Rattle.partial_tree.specs.Evidence.{claimed_by, IsPruned, AllHandled, BelowHandled, Grows, AreClaims, IsInside, IsHandledClaim, DiffersFrom};
+
+use crate::evidence::Evidence;
+use crate::found::{Claim, Found};
+use hashtree::{Hash, parent};
+use node_maps::NodeMap;
+
+/// Compares the hash that is claimed for a place with the known one, or notes the claim. False
+/// where the two differ.
+fn compare<N: NodeMap>(map: &N, found: &mut Found, claim: Claim) -> bool
+    ensures same { OnTrue result (IsHandledClaim (N.known map.now) found.new claim) }
+    ensures differs { OnFalse result (DiffersFrom (N.known map.now) claim) }
+    ensures grows { Grows found.old found.new }
+    ensures sound { (C : PartialTree) → C claim.layer claim.index ≡ Some claim.hash
+        → AreClaims C found.old.claims.items → AreClaims C found.new.claims.items }
+{
+    match map.get(claim.layer, claim.index) {
+        Some(known) => known == claim.hash,
+        None => {
+            found.note(claim);
+            true
+        }
+    }
+}
+
+/// The hash that is claimed for a place, given or computed, if what is claimed below it differs
+/// nowhere from what is known. Notes the claims below it of places that are not known.
+#[cycle(trace)]
+fn derive<N: NodeMap>(
+    map: &N,
+    evidence: &Evidence,
+    found: &mut Found,
+    layer: u32,
+    index: u64,
+) -> Option<Hash>
+    requires low { tree_height (N.length map.now) ≤ 32 }
+    requires inside { IsInside evidence.now }
+    requires place { IsPlace (tree_height (N.length map.now)) layer index }
+    requires pruned { IsPruned evidence.now }
+    requires claimed { IsKnown (claimed_by evidence.now) layer index }
+    requires sound { AreClaims (claimed_by evidence.now) found.old.claims.items }
+    ensures value { IfSome result (λ v. claimed_by evidence.now layer index ≡ Some v) }
+    ensures handled { OnSome result (BelowHandled (claimed_by evidence.now)
+        (look (N.known map.now)) found.new layer index) }
+    ensures differs { IfNone result (IsMismatch (look (N.known map.now))
+        (claimed_by evidence.now)) }
+    ensures grows { Grows found.old found.new }
+    ensures sound { AreClaims (claimed_by evidence.now) found.new.claims.items }
+{
+    match evidence.given(layer, index) {
+        Some(hash) => Some(hash),
+        None => {
+            let left = trace(map, evidence, found, layer - 1, 2 * index)?;
+            let right = trace(map, evidence, found, layer - 1, 2 * index + 1)?;
+            Some(parent(&left, &right))
+        }
+    }
+}
+
+/// The hash that is claimed for a place, if what is claimed from there down differs nowhere from
+/// what is known. Notes the claims of places that are not known.
+#[cycle(trace)]
+pub fn trace<N: NodeMap>(
+    map: &N,
+    evidence: &Evidence,
+    found: &mut Found,
+    layer: u32,
+    index: u64,
+) -> Option<Hash>
+    requires low { tree_height (N.length map.now) ≤ 32 }
+    requires inside { IsInside evidence.now }
+    requires place { IsPlace (tree_height (N.length map.now)) layer index }
+    requires pruned { IsPruned evidence.now }
+    requires claimed { IsKnown (claimed_by evidence.now) layer index }
+    requires sound { AreClaims (claimed_by evidence.now) found.old.claims.items }
+    ensures value { IfSome result (λ v. claimed_by evidence.now layer index ≡ Some v) }
+    ensures handled { OnSome result (AllHandled (claimed_by evidence.now)
+        (look (N.known map.now)) found.new layer index) }
+    ensures differs { IfNone result (IsMismatch (look (N.known map.now))
+        (claimed_by evidence.now)) }
+    ensures grows { Grows found.old found.new }
+    ensures sound { AreClaims (claimed_by evidence.now) found.new.claims.items }
+{
+    let hash = derive(map, evidence, found, layer, index)?;
+    if !compare(map, found, Claim { layer, index, hash }) {
+        return None;
+    }
+    Some(hash)
+}

@@ -1,0 +1,47 @@
+//! Taking a whole layer, given without the pads at its end.
+
+ghost use Rattle.std.specs.Prelude.{◌≡◌, ◌≤◌, IfOk, IfErr};
+ghost use Rattle.node_maps.specs.Places.{tree_height};
+ghost use Rattle.partial_tree.specs.Joins.{TakesLayer, RefusesLayer};
+
+use crate::evidence::Evidence;
+use crate::refusal::HashRefusal;
+use crate::storing::store;
+use hashtree::{Hash, Shape, zero};
+use node_maps::NodeMap;
+use std::alloc::Global;
+
+/// Takes a whole layer into the nodes of a tree, and tells how many places are newly known.
+pub fn fill_layer<N: NodeMap>(
+    alloc: Global,
+    shape: Shape,
+    height: u32,
+    nodes: &mut N,
+    layer: u32,
+    hashes: &[Hash],
+) -> Result<u64, HashRefusal>
+    requires shape { N.length nodes.old ≡ shape }
+    requires height { height ≡ tree_height shape }
+    requires low { height ≤ 32 }
+    ensures length { N.length nodes.new ≡ N.length nodes.old }
+    ensures marked { N.marked nodes.new ≡ N.marked nodes.old }
+    ensures filled { IfOk result (λ c. TakesLayer shape layer hashes.now (N.known nodes.old) c
+        (N.known nodes.new)) }
+    ensures refused { IfErr result (λ r. RefusesLayer shape layer hashes.now (N.known nodes.old) r
+        (N.known nodes.new)) }
+{
+    if layer > height {
+        return Err(HashRefusal::BadRange);
+    }
+    if hashes.len() as u64 != shape.pad_from(layer) {
+        return Err(HashRefusal::BadCount);
+    }
+    let evidence = Evidence {
+        base: layer,
+        index: 0,
+        span: height - layer,
+        hashes,
+        pad: zero(layer),
+    };
+    store(alloc, nodes, &evidence, height, 0)
+}

@@ -1,0 +1,56 @@
+//! What hashes claim of a tree and is not known yet.
+
+ghost use Rattle.std.specs.Prelude.{◌≡◌, ◌⊎◌, ℕ, ◌++◌, ◌∷◌, [], true, false};
+
+use hashtree::Hash;
+use std::alloc::Global;
+
+/// A place with its hash.
+#[derive(Clone, Copy)]
+pub struct Claim {
+    pub layer: u32,
+    pub index: u64,
+    pub hash: Hash,
+}
+
+/// The claims of places that are not known, as far as there is room to list them.
+#[derive(Drop)]
+pub struct Found {
+    pub claims: Vec<Claim>,
+    /// A claim is not listed.
+    pub incomplete: bool,
+}
+
+impl Found {
+    ghost use Rattle.partial_tree.specs.Evidence.{IsNoted, Grows, AreClaims};
+    ghost use Rattle.node_maps.specs.Places.{PartialTree};
+
+    /// Nothing yet, with room for so many claims, or for none if memory is refused.
+    pub fn new(alloc: Global, most: usize) -> Found
+        ensures claims { result.claims.items ≡ [] }
+        ensures complete { result.incomplete ≡ false }
+    {
+        let claims = match Vec::with_capacity(alloc, most) {
+            Ok(claims) => claims,
+            Err(_) => Vec::new(alloc),
+        };
+        Found {
+            claims,
+            incomplete: false,
+        }
+    }
+
+    /// Lists a claim, if there is room.
+    pub fn note(&mut self, claim: Claim)
+        ensures noted { IsNoted self.new claim.layer claim.index claim.hash }
+        ensures grows { Grows self.old self.new }
+        ensures sound { (C : PartialTree) → C claim.layer claim.index ≡ Some claim.hash
+            → AreClaims C self.old.claims.items → AreClaims C self.new.claims.items }
+    {
+        if self.claims.len() < self.claims.capacity() {
+            self.claims.push_reserved(claim);
+        } else {
+            self.incomplete = true;
+        }
+    }
+}

@@ -1,0 +1,23 @@
+//! One hash tree of a torrent (BEP 52) of which some nodes are known, and what hashes and blocks
+//! add to it.
+#![tactic(auto)]
+
+mod answer;
+mod answering;
+mod checks;
+mod comparing;
+mod evidence;
+mod filling;
+mod found;
+pub mod laws;
+mod pads;
+mod refusal;
+mod storing;
+mod taking;
+mod tree;
+mod writing;
+
+pub use answer::Answer;
+pub use hashtree::NoMemory;
+pub use refusal::{BlockRefusal, HashRefusal};
+pub use tree::Tree;

@@ -1,0 +1,114 @@
+//! Why a message is refused.
+
+use thiserror::Error;
+
+/// Why hashes are refused. The tests run in the order of the numbers, and the first that fails is
+/// told. A refusal leaves content and marks as they were.
+#[derive(Clone, Copy, Debug, PartialEq, Eq, Error)]
+pub enum HashRefusal {
+    /// No tree has the root.
+    #[error("no tree of the torrent has this root")]
+    UnknownRoot,
+    /// The range is none of the tree's, or its length is no power of two from 2 to 8192; for a
+    /// whole layer: the layer is above the root.
+    #[error("the hashes are for no range of the tree")]
+    BadRange,
+    /// Hashes are missing, or the uncles are more than were asked for or lead past the root; for a
+    /// whole layer: there are not as many hashes as the layer has over the file.
+    #[error("the number of hashes is wrong")]
+    BadCount,
+    /// A hash wholly past the file's end is not the one over pads alone.
+    #[error("a hash past the end of the file is not the one over pads")]
+    BadPad,
+    /// The node to which the hashes lead is not known.
+    #[error("the hashes lead to no known node")]
+    Unanchored,
+    /// A given or computed hash differs from a known one.
+    #[error("a hash differs from a known one")]
+    Mismatch,
+    /// Out of memory, and nothing else is wrong.
+    #[error("out of memory")]
+    NoMemory,
+}
+
+/// Why a block is refused. The tests run in the order of the numbers, and the first that fails is
+/// told. A refusal leaves content and marks as they were.
+#[derive(Clone, Copy, Debug, PartialEq, Eq, Error)]
+pub enum BlockRefusal {
+    /// No block of a file lies there.
+    #[error("there is no block at this place")]
+    BadPlace,
+    /// The bytes are not as many as the block has.
+    #[error("the block has another size")]
+    BadSize,
+    /// The leaf is not known.
+    #[error("the hash of the block is not known yet")]
+    Unproved,
+    /// The digest differs from the leaf.
+    #[error("the block has another hash")]
+    BadBlock,
+}
+
+impl HashRefusal {
+    ghost use Rattle.std.specs.Prelude.{◌≡◌};
+    ghost use Rattle.partial_tree.specs.Names.{hash_refusal_number, hash_refusal_name};
+
+    /// Its number, from 1 to 7.
+    pub fn number(self) -> u32
+        ensures { result ≡ hash_refusal_number self }
+    {
+        match self {
+            HashRefusal::UnknownRoot => 1,
+            HashRefusal::BadRange => 2,
+            HashRefusal::BadCount => 3,
+            HashRefusal::BadPad => 4,
+            HashRefusal::Unanchored => 5,
+            HashRefusal::Mismatch => 6,
+            HashRefusal::NoMemory => 7,
+        }
+    }
+
+    /// Its name, as it is printed.
+    pub fn name(self) -> &'static str
+        ensures { result.now ≡ hash_refusal_name self }
+    {
+        match self {
+            HashRefusal::UnknownRoot => "UnknownRoot",
+            HashRefusal::BadRange => "BadRange",
+            HashRefusal::BadCount => "BadCount",
+            HashRefusal::BadPad => "BadPad",
+            HashRefusal::Unanchored => "Unanchored",
+            HashRefusal::Mismatch => "Mismatch",
+            HashRefusal::NoMemory => "NoMemory",
+        }
+    }
+}
+
+impl BlockRefusal {
+    ghost use Rattle.std.specs.Prelude.{◌≡◌};
+    ghost use Rattle.partial_tree.specs.Names.{block_refusal_number, block_refusal_name};
+
+    /// Its number, from 1 to 4.
+    pub fn number(self) -> u32
+        ensures { result ≡ block_refusal_number self }
+    {
+        match self {
+            BlockRefusal::BadPlace => 1,
+            BlockRefusal::BadSize => 2,
+            BlockRefusal::Unproved => 3,
+            BlockRefusal::BadBlock => 4,
+        }
+    }
+
+    /// Its name, as it is printed.
+    pub fn name(self) -> &'static str
+        ensures { result.now ≡ block_refusal_name self }
+    {
+        match self {
+            BlockRefusal::BadPlace => "BadPlace",
+            BlockRefusal::BadSize => "BadSize",
+            BlockRefusal::Unproved => "Unproved",
+            BlockRefusal::BadBlock => "BadBlock",
+        }
+    }
+}

@@ -1,0 +1,88 @@
+//! Storing what hashes claim: all of it is compared first, then room is made, and only then is it
+//! written.
+
+ghost use Rattle.std.specs.Prelude.{◌≡◌, ◌⊎◌, ℕ, ◌≤◌, OnOk, IfOk, IfErr};
+ghost use Rattle.node_maps.specs.Places.{tree_height, IsPlace, IsKnown};
+ghost use Rattle.node_maps.specs.Known.{look};
+ghost use Rattle.partial_tree.specs.Joins.{Joins};
+ghost use Rattle.partial_tree.specs.Evidence.{claimed_by, LeadsTo, IsInside, StoreFault};
+
+use crate::comparing::trace;
+use crate::evidence::Evidence;
+use crate::found::Found;
+use crate::refusal::HashRefusal;
+use crate::writing::{put_new, write_claimed};
+use hashtree::NoMemory;
+use node_maps::NodeMap;
+use std::alloc::Global;
+
+/// How many claims are listed at most: those of the longest message. They take less than a
+/// mebibyte.
+const MOST_LISTED: usize = 2 * 8192 + 2 * 32;
+
+/// Stores what the evidence claims, which leads to the place, and tells how many places are newly
+/// known. What is new is listed while it is compared, up to what the longest message claims; more
+/// is computed once more to be written.
+pub fn store<N: NodeMap>(
+    alloc: Global,
+    map: &mut N,
+    evidence: &Evidence,
+    layer: u32,
+    index: u64,
+) -> Result<u64, HashRefusal>
+    requires low { tree_height (N.length map.old) ≤ 32 }
+    requires inside { IsInside evidence.now }
+    requires place { IsPlace (tree_height (N.length map.old)) layer index }
+    requires leads { LeadsTo evidence.now layer index }
+    ensures length { N.length map.new ≡ N.length map.old }
+    ensures marked { N.marked map.new ≡ N.marked map.old }
+    ensures stored { IfOk result (λ c. Joins (claimed_by evidence.now) (N.known map.old)
+        (N.known map.new) c) }
+    ensures refused { IfErr result (λ r. StoreFault (look (N.known map.old))
+        (claimed_by evidence.now) r
+        × (N.known map.new ≡ N.known map.old)) }
+{
+    let mut found = Found::new(alloc, room_for(evidence));
+    if trace(map, evidence, &mut found, layer, index).is_none() {
+        return Err(HashRefusal::Mismatch);
+    }
+    if reserve_claimed(map, evidence, layer, index).is_err() {
+        return Err(HashRefusal::NoMemory);
+    }
+    if found.incomplete {
+        return Ok(write_claimed(map, evidence, layer, index).1);
+    }
+    Ok(put_new(map, &found.claims))
+}
+
+/// Room for all that a message claims; none for a layer that claims more.
+fn room_for(evidence: &Evidence) -> usize
+    requires { IsInside evidence.now }
+{
+    let most = (2usize << evidence.span) + 2 * 32;
+    if most <= MOST_LISTED { most } else { 0 }
+}
+
+/// Makes room for all that the evidence claims, which leads to the place: for each layer in one go.
+fn reserve_claimed<N: NodeMap>(
+    map: &mut N,
+    evidence: &Evidence,
+    layer: u32,
+    index: u64,
+) -> Result<(), NoMemory>
+    requires low { tree_height (N.length map.old) ≤ 32 }
+    requires inside { IsInside evidence.now }
+    requires place { IsPlace (tree_height (N.length map.old)) layer index }
+    requires leads { LeadsTo evidence.now layer index }
+    ensures length { N.length map.new ≡ N.length map.old }
+    ensures known { N.known map.new ≡ N.known map.old }
+    ensures marked { N.marked map.new ≡ N.marked map.old }
+    ensures ok { OnOk result ((l i : ℕ) → IsKnown (claimed_by evidence.now) l i
+        → N.has_room map.new l i) }
+{
+    'rows: for below in evidence.base..layer {
+        let (first, count) = evidence.row(below);
+        map.reserve(below, first, count)?;
+    }
+    map.reserve(layer, index, 1)
+}

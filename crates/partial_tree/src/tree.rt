@@ -1,0 +1,269 @@
+//! One tree of a torrent: what is known and marked of it.
+//!
+//! What is known is always *closed*, as `IsClosed` in `specs/Closed.antt` says it: the root is
+//! known, and each other known place stands with its sibling and its parent, whose value is the
+//! digest of the two joined. So each known node is tied to the root.
+//!
+//! ```text
+//!   layer
+//!     2            R              R      the root, known from the start
+//!                /   \
+//!     1        c       d          c, d   known together: R is the digest of c and d joined
+//!             / \     . .
+//!     0      a   b   .   .        a, b   known together, and nothing below d
+//! ```
+
+ghost use Rattle.std.specs.Prelude.{◌≡◌, ℕ, ◌+◌, ◌^◌, ◌<◌, ◌≤◌, ◌↔◌, IfOk, IfErr, IsTrue, length};
+ghost use Rattle.std.specs.List.{All};
+ghost use Rattle.std.specs.FinMap as finite;
+ghost use Rattle.std.specs.FinSet as set;
+ghost use Rattle.hashtree.specs.Tree.{block_count};
+ghost use Rattle.node_maps.specs.Places.{tree_height, IsKnown};
+ghost use Rattle.partial_tree.specs.Claims.{CanAnswer};
+ghost use Rattle.partial_tree.specs.Answers.{IsTreeAnswer};
+ghost use Rattle.partial_tree.specs.Gaps.{want_of};
+ghost use Rattle.node_maps.specs.Known.{look};
+ghost use Rattle.partial_tree.specs.Joins.{TakesHashes, RefusesHashes, TakesLayer, RefusesLayer};
+ghost use Rattle.partial_tree.specs.Kept.{info_of, root_alone, IsGoodTree, IsMarked, TreeRefusesBlock};
+
+use crate::answer::Answer;
+use crate::answering::answer_hashes;
+use crate::checks::check_range;
+use crate::filling::fill_layer;
+use crate::refusal::{BlockRefusal, HashRefusal};
+use crate::taking::take_message;
+use hashtree::{Hash, NoMemory, Shape, leaf};
+use node_maps::NodeMap;
+use std::alloc::Global;
+use std::marker::Model;
+use wire::Ask;
+
+/// A tree, by its root and the length of its files, with its known nodes and marked leaves.
+#[derive(Drop)]
+pub struct Tree<N: NodeMap> {
+    alloc: Global,
+    root: Hash,
+    shape: Shape,
+    height: u32,
+    nodes: N,
+    known: u64,
+    marked: u64,
+}
+
+impl<N: NodeMap> Model for Tree<N> {
+    ghost use Rattle.std.specs.Prelude.{◌≡◌};
+    ghost use Rattle.partial_tree.specs.Kept.{KeptTree, IsCounted, kept};
+    ghost use Rattle.partial_tree.specs.Codes.{kept_tree_code};
+
+    ghost Value = { KeptTree };
+
+    ghost coded = { kept_tree_code };
+
+    ghost view = { λ t. kept t.root t.shape (N.known t.nodes) (N.marked t.nodes) };
+
+    ghost invariant = { λ t. (N.length t.nodes ≡ t.shape)
+        × IsCounted t.height t.known t.marked t.shape (N.known t.nodes) (N.marked t.nodes) };
+}
+
+impl<N: NodeMap> Tree<N> {
+    /// A tree of which the root alone is known.
+    pub fn new(alloc: Global, root: Hash, shape: Shape) -> Result<Tree<N>, NoMemory>
+        ensures root { IfOk result (λ t. t.root ≡ root) }
+        ensures length { IfOk result (λ t. t.length ≡ shape) }
+        ensures known { IfOk result (λ t. t.state.known ≡ root_alone t) }
+        ensures marked { IfOk result (λ t. t.state.marked ≡ set.empty) }
+    {
+        let height = shape.height();
+        let mut nodes = N::empty(alloc, shape);
+        nodes.reserve(height, 0, 1)?;
+        nodes.put(height, 0, root);
+        Ok(Tree {
+            alloc,
+            root,
+            shape,
+            height,
+            nodes,
+            known: 1,
+            marked: 0,
+        })
+    }
+
+    /// How many places are known.
+    pub fn known(&self) -> u64
+        ensures { result ≡ finite.len self.now.state.known }
+    {
+        self.known
+    }
+
+    /// How many leaves are marked.
+    pub fn marked(&self) -> u64
+        ensures { result ≡ set.len self.now.state.marked }
+    {
+        self.marked
+    }
+
+    /// Takes a hashes message that names this tree's root, and tells how many places are newly
+    /// known. A refusal leaves the tree unchanged.
+    pub fn take(&mut self, ask: &Ask, hashes: &[Hash]) -> Result<u64, HashRefusal>
+        requires { IsGoodTree self.old }
+        ensures root { self.new.root ≡ self.old.root }
+        ensures length { self.new.length ≡ self.old.length }
+        ensures marked { self.new.state.marked ≡ self.old.state.marked }
+        ensures taken { IfOk result (λ c. TakesHashes self.old.length ask.now hashes.now
+            self.old.state.known c self.new.state.known) }
+        ensures refused { IfErr result (λ r. RefusesHashes self.old.length ask.now hashes.now
+            self.old.state.known r self.new.state.known) }
+    {
+        are_hashes(hashes);
+        let gained = take_message(
+            self.alloc,
+            self.shape,
+            self.height,
+            &mut self.nodes,
+            ask,
+            hashes,
+        )?;
+        self.known += gained;
+        Ok(gained)
+    }
+
+    /// Takes a whole layer, given without the pads at its end, and tells how many places are newly
+    /// known. A refusal leaves the tree unchanged.
+    pub fn fill(&mut self, layer: u32, hashes: &[Hash]) -> Result<u64, HashRefusal>
+        requires { IsGoodTree self.old }
+        ensures root { self.new.root ≡ self.old.root }
+        ensures length { self.new.length ≡ self.old.length }
+        ensures marked { self.new.state.marked ≡ self.old.state.marked }
+        ensures filled { IfOk result (λ c. TakesLayer self.old.length layer hashes.now
+            self.old.state.known c self.new.state.known) }
+        ensures refused { IfErr result (λ r. RefusesLayer self.old.length layer hashes.now
+            self.old.state.known r self.new.state.known) }
+    {
+        are_hashes(hashes);
+        let gained = fill_layer(
+            self.alloc,
+            self.shape,
+            self.height,
+            &mut self.nodes,
+            layer,
+            hashes,
+        )?;
+        self.known += gained;
+        Ok(gained)
+    }
+
+    /// Whether the hashes that are asked for are known.
+    pub fn can_answer(&self, ask: &Ask) -> bool
+        ensures { IsTrue result ↔ CanAnswer (tree_height self.now.length)
+            (look self.now.state.known) ask.now }
+    {
+        match check_range(self.height, ask) {
+            Err(_) => false,
+            Ok(_) => all_known(
+                &self.nodes,
+                ask.base,
+                u64::from(ask.index),
+                u64::from(ask.length),
+            ),
+        }
+    }
+
+    /// What it answers to a hash request: the hashes if they are known, else a reject. Fails only
+    /// out of memory.
+    pub fn answer(&self, ask: &Ask) -> Result<Answer, NoMemory>
+        ensures { IfOk result (IsTreeAnswer (tree_height self.now.length)
+            (look self.now.state.known) ask.now) }
+    {
+        let Ok(span) = check_range(self.height, ask) else {
+            return Ok(Answer::Reject);
+        };
+        if !self.can_answer(ask) {
+            return Ok(Answer::Reject);
+        }
+        let hashes = answer_hashes(self.alloc, &self.nodes, self.height, ask, span)?;
+        Ok(Answer::Hashes(hashes))
+    }
+
+    /// What to ask for to learn the leaf of a block: the range of at most 512 leaves that holds it,
+    /// with proof up to the root. `None` if the leaf is known. Condition: the file has more than
+    /// `block` blocks.
+    pub fn want(&self, block: u64) -> Option<Ask>
+        requires { block < block_count self.now.length }
+        ensures { result ≡ want_of (info_of self.now) (look self.now.state.known) block }
+    {
+        if self.nodes.get(0, block).is_some() {
+            return None;
+        }
+        let blocks = self.shape.blocks();
+        prove!(block < blocks);
+        let length = 512u64.min(1 << self.height);
+        Some(Ask {
+            root: self.root,
+            base: 0,
+            index: (block / length * length) as u32,
+            length: length as u32,
+            proof: self.height.saturating_sub(1),
+        })
+    }
+
+    /// Marks a block whose digest is its known leaf. A refusal leaves the tree unchanged.
+    pub fn take_block(&mut self, block: u64, bytes: &[u8]) -> Result<(), BlockRefusal>
+        requires good { IsGoodTree self.old }
+        requires inside { block < block_count self.old.length }
+        ensures root { self.new.root ≡ self.old.root }
+        ensures length { self.new.length ≡ self.old.length }
+        ensures known { self.new.state.known ≡ self.old.state.known }
+        ensures taken { IfOk result
+            (λ _. IsMarked self.old.length self.old.state block bytes.now self.new.state) }
+        ensures refused { IfErr result (λ r.
+            TreeRefusesBlock self.old.length (look self.old.state.known) block bytes.now r
+            × (self.new.state.marked ≡ self.old.state.marked)) }
+    {
+        if bytes.len() as u64 != self.shape.block_len(block) {
+            return Err(BlockRefusal::BadSize);
+        }
+        match self.nodes.get(0, block) {
+            None => return Err(BlockRefusal::Unproved),
+            Some(known) => {
+                if leaf(bytes) != known {
+                    return Err(BlockRefusal::BadBlock);
+                }
+            }
+        }
+        self.marked += mark_leaf(&mut self.nodes, block);
+        Ok(())
+    }
+}
+
+/// Whether so many places of a layer are known, from one on.
+fn all_known<N: NodeMap>(nodes: &N, layer: u32, from: u64, count: u64) -> bool
+    requires { from + count < 2 ^ 64 }
+    ensures { IsTrue result ↔ ((j : ℕ) → j < count → IsKnown (look (N.known nodes.now)) layer
+        (from + j)) }
+{
+    for j in 0..count {
+        if nodes.get(layer, from + j).is_none() {
+            return false;
+        }
+    }
+    true
+}
+
+/// Each hash has 32 bytes, as its type says.
+fn are_hashes(hashes: &[Hash])
+    ensures { All (λ h. length h ≡ 32) hashes.now }
+{}
+
+/// Marks a known leaf, and tells how many more are marked.
+fn mark_leaf<N: NodeMap>(nodes: &mut N, block: u64) -> u64
+    requires { IsKnown (look (N.known nodes.old)) 0 block }
+    ensures length { N.length nodes.new ≡ N.length nodes.old }
+    ensures known { N.known nodes.new ≡ N.known nodes.old }
+    ensures marked { N.marked nodes.new ≡ set.insert (N.marked nodes.old) block }
+    ensures one { result ≤ 1 }
+    ensures count { set.len (N.marked nodes.new) ≡ set.len (N.marked nodes.old) + result }
+{
+    let before = nodes.is_marked(block);
+    nodes.mark(block);
+    if before { 0 } else { 1 }
+}

@@ -1,0 +1,105 @@
+//! The second pass over what hashes claim: it is written at the places that are not known.
+
+ghost use Rattle.std.specs.Prelude.{◌≡◌, ℕ, suc, ◌+◌, ◌^◌, ◌<◌, ◌≤◌, Some};
+ghost use Rattle.std.specs.List.{All};
+ghost use Rattle.std.specs.FinMap as finite;
+ghost use Rattle.node_maps.specs.Places.{tree_height, IsPlace, IsKnown};
+ghost use Rattle.node_maps.specs.Known.{look};
+ghost use Rattle.partial_tree.specs.declared.found.Claim.{Claim as Claimed};
+ghost use Rattle.partial_tree.specs.Joins.{with_new, insert_new};
+ghost use Rattle.partial_tree.specs.Evidence.{claimed_by, IsPruned, IsInside, IsWritten, IsWrittenBelow};
+
+use crate::evidence::Evidence;
+use crate::found::Claim;
+use hashtree::{Hash, parent};
+use node_maps::NodeMap;
+
+/// Sets the hash of a claim, unless its place is known, and tells how many places are new.
+fn put_absent<N: NodeMap>(map: &mut N, claim: &Claim) -> u64
+    requires { N.has_room map.old claim.now.layer claim.now.index }
+    ensures length { N.length map.new ≡ N.length map.old }
+    ensures known { N.known map.new ≡ with_new (N.known map.old) claim.now }
+    ensures marked { N.marked map.new ≡ N.marked map.old }
+    ensures gained { finite.len (N.known map.new) ≡ finite.len (N.known map.old) + result }
+    ensures one { result ≤ 1 }
+    ensures keeps { (l i : ℕ) → N.has_room map.old l i → N.has_room map.new l i }
+{
+    if map.get(claim.layer, claim.index).is_some() {
+        return 0;
+    }
+    map.put(claim.layer, claim.index, claim.hash);
+    1
+}
+
+/// Sets the hashes of claims at places that are not known, and tells how many are new.
+pub fn put_new<N: NodeMap>(map: &mut N, claims: &[Claim]) -> u64
+    requires { All (λ (c : Claimed). N.has_room map.old c.layer c.index) claims.now }
+    ensures length { N.length map.new ≡ N.length map.old }
+    ensures known { N.known map.new ≡ insert_new (N.known map.old) claims.now }
+    ensures marked { N.marked map.new ≡ N.marked map.old }
+    ensures gained { finite.len (N.known map.new) ≡ finite.len (N.known map.old) + result }
+{
+    let mut gained = 0;
+    for claim in claims {
+        gained += put_absent(map, claim);
+    }
+    gained
+}
+
+/// Writes what is claimed from a place down, where it is not known, and tells the place's hash and
+/// how many are new.
+#[cycle(write)]
+pub fn write_claimed<N: NodeMap>(
+    map: &mut N,
+    evidence: &Evidence,
+    layer: u32,
+    index: u64,
+) -> (Hash, u64)
+    requires low { tree_height (N.length map.old) ≤ 32 }
+    requires inside { IsInside evidence.now }
+    requires place { IsPlace (tree_height (N.length map.old)) layer index }
+    requires pruned { IsPruned evidence.now }
+    requires claimed { IsKnown (claimed_by evidence.now) layer index }
+    requires room { (l i : ℕ) → IsKnown (claimed_by evidence.now) l i → N.has_room map.old l i }
+    ensures value { claimed_by evidence.now layer index ≡ Some result.0 }
+    ensures length { N.length map.new ≡ N.length map.old }
+    ensures marked { N.marked map.new ≡ N.marked map.old }
+    ensures keeps { (l i : ℕ) → N.has_room map.old l i → N.has_room map.new l i }
+    ensures written { IsWritten (claimed_by evidence.now) layer index (look (N.known map.old))
+        (look (N.known map.new)) }
+    ensures gained { finite.len (N.known map.new) ≡ finite.len (N.known map.old) + result.1 }
+    ensures few { result.1 + 1 ≤ 2 ^ suc layer }
+{
+    let (hash, below) = write_below(map, evidence, layer, index);
+    let here = put_absent(map, &Claim { layer, index, hash });
+    (hash, below + here)
+}
+
+/// Writes what is claimed below a place, where it is not known, and tells the place's hash and how
+/// many are new.
+#[cycle(write)]
+fn write_below<N: NodeMap>(map: &mut N, evidence: &Evidence, layer: u32, index: u64) -> (Hash, u64)
+    requires low { tree_height (N.length map.old) ≤ 32 }
+    requires inside { IsInside evidence.now }
+    requires place { IsPlace (tree_height (N.length map.old)) layer index }
+    requires pruned { IsPruned evidence.now }
+    requires claimed { IsKnown (claimed_by evidence.now) layer index }
+    requires room { (l i : ℕ) → IsKnown (claimed_by evidence.now) l i → N.has_room map.old l i }
+    ensures value { claimed_by evidence.now layer index ≡ Some result.0 }
+    ensures length { N.length map.new ≡ N.length map.old }
+    ensures marked { N.marked map.new ≡ N.marked map.old }
+    ensures keeps { (l i : ℕ) → N.has_room map.old l i → N.has_room map.new l i }
+    ensures written { IsWrittenBelow (claimed_by evidence.now) layer index (look (N.known map.old))
+        (look (N.known map.new)) }
+    ensures gained { finite.len (N.known map.new) ≡ finite.len (N.known map.old) + result.1 }
+    ensures few { result.1 + 2 ≤ 2 ^ suc layer }
+{
+    match evidence.given(layer, index) {
+        Some(hash) => (hash, 0),
+        None => {
+            let (left, before) = write_claimed(map, evidence, layer - 1, 2 * index);
+            let (right, after) = write_claimed(map, evidence, layer - 1, 2 * index + 1);
+            (parent(&left, &right), before + after)
+        }
+    }
+}

@@ -1,0 +1,52 @@
+-- The cuts of a stream as it grows.
+use Rattle.std.proofs.Common.{◌≡◌, ℕ, ◌+◌, ◌-◌, ◌*◌, ◌<◌, ◌≤◌, List, [], ◌++◌, length, take, drop, slice_get, Some, ap, ◌∙◌, arith}
+use Rattle.std.proofs.Math.Nat.{mul-le-mul_left, div-eq_of_lt-le, le-div_iff_mul-le}
+use Rattle.std.proofs.lemmas.List.{length-drop, length-map, take-append-le, drop-append-le, take_all, get_or-map}
+use Rattle.std.proofs.lemmas.List.FromFn.{length-map-range_with_len, get_or-map-range_with_len}
+use Rattle.std.proofs.lemmas.Option.{slice_get-get_or}
+use Rattle.sha1.specs.Sha1.{sha1}
+use Rattle.pieces.specs.Cuts.{cut, cuts, cut_digests}
+use Rattle.pieces.specs.Pieces.{pieces_of}
+
+-- a cut that is full stays as it is
+pub cut_append : (n : ℕ) (content more : List ℕ) (k : ℕ) → n * k + n ≤ length content → cut n (content ++ more) k ≡ cut n content k
+cut_append n content more k h =
+    ap (take n) (drop-append-le (n * k) content more (omega arith))
+    ∙ take-append-le n (drop (n * k) content) more (omega (arith, length-drop (n * k) content))
+
+-- the last cut is what is left after the cuts before it
+pub last_cut : (n : ℕ) (content : List ℕ) (k : ℕ) → length content ≤ n * k + n → cut n content k ≡ drop (n * k) content
+last_cut n content k h = take_all n (drop (n * k) content) (omega (arith, length-drop (n * k) content))
+
+-- a cut before another ends where that begins, or earlier
+pub cut_ends : (n k c : ℕ) → k < c → n * k + n ≤ n * c
+cut_ends n k c lt = let m : n * (k + 1) ≤ n * c = mul-le-mul_left n (let s : k + 1 ≤ c = omega arith in s) in omega (arith, m)
+
+pub cut_count_is : (n c filled : ℕ) → 0 < filled → filled ≤ n → pieces_of n (n * c + filled) ≡ c + 1
+cut_count_is n c filled some bound =
+    div-eq_of_lt-le {k = c + 1} n {m = n * c + filled + (n - 1)}
+    (let a : (c + 1) * n ≤ n * c + filled + (n - 1) = omega arith in a)
+    (let b : n * c + filled + (n - 1) < (c + 1 + 1) * n = omega arith in b)
+
+-- so many whole cuts are there at most
+pub cut_count_least : (n c len : ℕ) → 0 < n → n * c ≤ len → c ≤ pieces_of n len
+cut_count_least n c len some whole = (le-div_iff_mul-le {k = n} {x = c} {y = len + (n - 1)} some).1 (let a : c * n ≤ len + (n - 1) = omega arith in a)
+
+pub cut_count_none : (n : ℕ) → 0 < n → pieces_of n 0 ≡ 0
+cut_count_none n some =
+    div-eq_of_lt-le {k = 0} n {m = 0 + (n - 1)}
+    (let a : 0 * n ≤ 0 + (n - 1) = omega arith in a)
+    (let b : 0 + (n - 1) < (0 + 1) * n = omega arith in b)
+
+pub length-cut_digests : (n : ℕ) (content : List ℕ) → length (cut_digests n content) ≡ pieces_of n (length content)
+length-cut_digests n content =
+    length-map (cuts n content) sha1 ∙ length-map-range_with_len (cut n content) 0 (pieces_of n (length content))
+
+pub digest_of_cut : (n : ℕ) (content : List ℕ) (k : ℕ) → k < pieces_of n (length content)
+    → slice_get (cut_digests n content) k ≡ Some (sha1 (cut n content k))
+digest_of_cut n content k lt =
+    let count : ℕ = pieces_of n (length content) in
+    let within : k < length (cuts n content) = omega (arith, length-map-range_with_len (cut n content) 0 count) in
+    slice_get-get_or (cut_digests n content) k [] (omega (arith, length-cut_digests n content))
+    ∙ ap Some (get_or-map sha1 (cuts n content) k [] [] within
+    ∙ ap sha1 (get_or-map-range_with_len (cut n content) 0 count k k [] lt (omega arith)))

@@ -1,0 +1,168 @@
+-- What a version 1 feed holds, as it takes bytes.
+use Rattle.std.proofs.Common.{◌≡◌, ℕ, zero, suc, ◌+◌, ◌-◌, ◌*◌, ◌<◌, ◌≤◌, List, [], ◌++◌, length, take, drop, replicate, None, is_some, Bool, true, false, inl, inr, refl, ap, sym, ◌∙◌, subst, arith}
+use Rattle.std.proofs.lemmas.Option.{none-some}
+use Rattle.std.proofs.lemmas.List.{append_assoc, length-append, length-replicate, drop-append-le, length-drop, drop_all, take-replicate, replicate-append-replicate}
+use Rattle.sha1.specs.Sha1.{sha1}
+use Rattle.pieces.specs.Cuts.{cut}
+use Rattle.pieces.specs.Pieces.{pieces_of}
+use Rattle.pieces.specs.declared.cutter.Cutter.{Cutter}
+use Rattle.pieces.specs.declared.v1_feed.V1Feed.{V1Feed}
+use Rattle.pieces.specs.Cutting.{IsCutting}
+use Rattle.pieces.specs.Feeding.{IsAt, IsFed, IsFirstBad}
+use Rattle.pieces.proofs.Cutting.{last_cut, cut_count_is, cut_count_least, cut_count_none}
+use Rattle.pieces.proofs.Comparing.{first_bad_append, some_from, there_or_not}
+
+-- a cut that is not empty holds something
+pub some_held : (r : Bool) (k : ℕ) → (r ≡ true → k ≡ 0) × (k ≡ 0 → r ≡ true) → r ≡ false → 0 < k
+some_held r zero tells holds = let never : r ≡ true = tells.1 refl in cc
+some_held r (suc k) tells holds = omega arith
+
+-- nothing runs after a bad cut, so a running cut comes before one
+pub no_bad : (f : V1Feed) (pieces : List (List ℕ)) (n : ℕ) (content : List ℕ) → IsAt f pieces n content → 0 < f.cutter.filled → f.bad ≡ None
+no_bad f pieces n content at some = elim (there_or_not f.bad) [
+  | inl none ↦ none
+  | inr bad ↦ absurd (omega (arith, at.stopped (λ none. none-some bad.0 (sym none ∙ bad.1))))
+]
+
+-- the content ends where the running cut does
+pub ends : (f : V1Feed) (pieces : List (List ℕ)) (n : ℕ) (content : List ℕ) → IsAt f pieces n content → f.bad ≡ None → length content ≡ n * f.cut + f.cutter.filled
+ends f pieces n content at good = omega (arith, at.whole, (at.running good).length_is, length-drop (n * f.cut) content)
+
+-- the running cut was full, and is closed
+pub at_closed : (f g : V1Feed) (pieces : List (List ℕ)) (n : ℕ) (content : List ℕ) → IsAt f pieces n content → 0 < f.cutter.filled → f.cutter.filled ≡ f.cutter.piece_length
+    → g.given ≡ f.given → g.pieces ≡ f.pieces → g.cutter.piece_length ≡ f.cutter.piece_length → g.cut ≡ f.cut + 1 → g.cutter.filled ≡ 0 → IsCutting g.cutter []
+    → IsFirstBad n pieces content g.cut g.bad → IsAt g pieces n content
+at_closed f g pieces n content at some full same_given same_pieces same_length next empty cutting bad =
+    let count : n * g.cut ≡ n * f.cut + n = ap (λ k. n * k) next ∙ omega arith in
+    let all : length content ≡ n * g.cut = omega (arith, ends f pieces n content at (no_bad f pieces n content at some), at.piece_length_is) in
+    let none : drop (n * g.cut) content ≡ [] = drop_all (n * g.cut) content (omega arith) in
+    record {
+      given_is = at.given_is ∙ sym same_given;
+      pieces_are = ap (λ p. p.now) same_pieces ∙ at.pieces_are;
+      piece_length_is = same_length ∙ at.piece_length_is;
+      whole = omega arith;
+      bad_is = bad;
+      running = λ _. subst (IsCutting g.cutter) (sym none) cutting;
+      stopped = λ _. empty;
+    }
+
+-- what is known of the cuts before stays known, as more comes
+bad_more : (f g : V1Feed) (pieces : List (List ℕ)) (n : ℕ) (content part : List ℕ) → IsAt f pieces n content → g.cut ≡ f.cut → g.bad ≡ f.bad
+    → IsFirstBad n pieces (content ++ part) g.cut g.bad
+bad_more f g pieces n content part at same_cut same_bad =
+    subst (λ k. IsFirstBad n pieces (content ++ part) k g.bad) (sym same_cut)
+    (subst (IsFirstBad n pieces (content ++ part) f.cut) (sym same_bad) (first_bad_append n pieces content part f.cut f.bad at.whole at.bad_is))
+
+-- some bytes go into the running cut
+pub fed_more : (f g : V1Feed) (pieces : List (List ℕ)) (n : ℕ) (content part : List ℕ) → IsAt f pieces n content → f.bad ≡ None → 0 < length part
+    → g.given ≡ f.given + length part → g.pieces ≡ f.pieces → g.cutter.piece_length ≡ f.cutter.piece_length → g.cut ≡ f.cut → g.bad ≡ f.bad
+    → g.cutter.filled ≡ f.cutter.filled + length part → IsCutting g.cutter (drop (n * f.cut) content ++ part) → IsFed g pieces n (content ++ part)
+fed_more f g pieces n content part at good some more same_pieces same_length same_cut same_bad filled cutting =
+    let count : n * g.cut ≡ n * f.cut = ap (λ k. n * k) same_cut in
+    let rest : drop (n * f.cut) content ++ part ≡ drop (n * g.cut) (content ++ part) =
+    sym (drop-append-le (n * f.cut) content part at.whole) ∙ ap (λ k. drop k (content ++ part)) (sym count) in
+    record {
+      at = record {
+        given_is = omega (arith, at.given_is, length-append content part);
+        pieces_are = ap (λ p. p.now) same_pieces ∙ at.pieces_are;
+        piece_length_is = same_length ∙ at.piece_length_is;
+        whole = omega (arith, at.whole, length-append content part);
+        bad_is = bad_more f g pieces n content part at same_cut same_bad;
+        running = λ _. subst (IsCutting g.cutter) rest cutting;
+        stopped = λ bad. absurd (bad (same_bad ∙ good));
+      };
+      started = λ _ _. omega arith;
+    }
+
+-- some bytes are counted, after a bad cut
+pub fed_skipped : (f g : V1Feed) (pieces : List (List ℕ)) (n : ℕ) (content more : List ℕ) → IsAt f pieces n content → is_some f.bad ≡ true
+    → g.given ≡ f.given + length more → g.pieces ≡ f.pieces → g.cutter ≡ f.cutter → g.cut ≡ f.cut → g.bad ≡ f.bad → IsFed g pieces n (content ++ more)
+fed_skipped f g pieces n content more at bad counted same_pieces same_cutter same_cut same_bad =
+    let count : n * g.cut ≡ n * f.cut = ap (λ k. n * k) same_cut in
+    let no : g.bad ≡ None → ⊥ = λ none. some_from f.bad bad (sym same_bad ∙ none) in
+    record {
+      at = record {
+        given_is = omega (arith, at.given_is, length-append content more);
+        pieces_are = ap (λ p. p.now) same_pieces ∙ at.pieces_are;
+        piece_length_is = ap (λ (c : Cutter). c.piece_length) same_cutter ∙ at.piece_length_is;
+        whole = omega (arith, at.whole, length-append content more);
+        bad_is = bad_more f g pieces n content more at same_cut same_bad;
+        running = λ none. absurd (no none);
+        stopped = λ _. ap (λ (c : Cutter). c.filled) same_cutter ∙ at.stopped (some_from f.bad bad);
+      };
+      started = λ none. absurd (no none);
+    }
+
+-- the digest of the running cut
+pub digest_of_last : (f : V1Feed) (pieces : List (List ℕ)) (n : ℕ) (content digest : List ℕ) → IsAt f pieces n content → f.bad ≡ None → f.cutter.filled ≤ f.cutter.piece_length
+    → digest ≡ sha1 (drop (n * f.cut) content) → digest ≡ sha1 (cut n content f.cut)
+digest_of_last f pieces n content digest at good bound is =
+    is ∙ ap sha1 (sym (last_cut n content f.cut (omega (arith, ends f pieces n content at good, at.piece_length_is))))
+
+-- every cut is closed, once the running one is
+pub all_closed : (f : V1Feed) (pieces : List (List ℕ)) (n : ℕ) (content : List ℕ) → IsAt f pieces n content → 0 < f.cutter.filled → f.cutter.filled ≤ f.cutter.piece_length
+    → f.cut + 1 ≡ pieces_of n (length content)
+all_closed f pieces n content at some bound =
+    sym (ap (pieces_of n) (ends f pieces n content at (no_bad f pieces n content at some)) ∙ cut_count_is n f.cut f.cutter.filled some (omega (arith, at.piece_length_is)))
+
+none_of : (k : ℕ) → (0 < k → ⊥) → k ≡ 0
+none_of zero h = refl
+none_of (suc k) h = absurd (h (omega arith))
+
+zero_factor : (n c : ℕ) → 0 < n → n * c ≡ 0 → c ≡ 0
+zero_factor n zero pos h = refl
+zero_factor (suc n) (suc c) pos h = absurd (omega arith)
+zero_factor zero (suc c) pos h = absurd (omega arith)
+
+-- there is none where nothing was given
+none_open : (f : V1Feed) (pieces : List (List ℕ)) (n : ℕ) (content : List ℕ) → IsFed f pieces n content → f.bad ≡ None → f.cutter.filled ≡ 0 → 0 < f.cutter.piece_length
+    → f.cut ≡ pieces_of n (length content)
+none_open f pieces n content fed good empty some =
+    let pos : 0 < n = omega (arith, fed.at.piece_length_is) in
+    let nothing : length content ≡ 0 = none_of (length content) (λ lt. omega (arith, fed.started good lt)) in
+    zero_factor n f.cut pos (omega (arith, ends f pieces n content fed.at good)) ∙ sym (ap (pieces_of n) nothing ∙ cut_count_none n pos)
+
+-- every cut was compared, up to a bad one
+pub record IsWhole (f : V1Feed) (pieces : List (List ℕ)) (n : ℕ) (content : List ℕ) : Type 0 where
+  pub pieces_are : f.pieces.now ≡ pieces
+  pub within : f.cut ≤ pieces_of n (length content)
+  pub all : f.bad ≡ None → f.cut ≡ pieces_of n (length content)
+  pub bad_is : IsFirstBad n pieces content f.cut f.bad
+
+pub whole_closed : (f g : V1Feed) (pieces : List (List ℕ)) (n : ℕ) (content : List ℕ) → IsFed f pieces n content → 0 < f.cutter.filled → f.cutter.filled ≤ f.cutter.piece_length
+    → g.pieces ≡ f.pieces → g.cut ≡ f.cut + 1 → (f.bad ≡ None → IsFirstBad n pieces content g.cut g.bad) → IsWhole g pieces n content
+whole_closed f g pieces n content fed some bound same next bad =
+    let all : g.cut ≡ pieces_of n (length content) = next ∙ all_closed f pieces n content fed.at some bound in
+    record {
+      pieces_are = ap (λ p. p.now) same ∙ fed.at.pieces_are;
+      within = omega arith;
+      all = λ _. all;
+      bad_is = bad (no_bad f pieces n content fed.at some);
+    }
+
+pub whole_none : (f : V1Feed) (pieces : List (List ℕ)) (n : ℕ) (content : List ℕ) → IsFed f pieces n content → f.cutter.filled ≡ 0 → 0 < f.cutter.piece_length
+    → IsWhole f pieces n content
+whole_none f pieces n content fed empty some = record {
+  pieces_are = fed.at.pieces_are;
+  within = cut_count_least n f.cut (length content) (omega (arith, fed.at.piece_length_is)) fed.at.whole;
+  all = λ good. none_open f pieces n content fed good empty some;
+  bad_is = fed.at.bad_is;
+}
+
+-- some zeros more
+pub zeros_more : (content : List ℕ) (done part n : ℕ) → part ≤ n → (content ++ replicate done 0) ++ take part (replicate n 0) ≡ content ++ replicate (done + part) 0
+zeros_more content done part n h =
+    ap (λ t. (content ++ replicate done 0) ++ t) (take-replicate part n 0 h)
+    ∙ append_assoc content (replicate done 0) (replicate part 0)
+    ∙ ap (λ t. content ++ t) (replicate-append-replicate done part 0)
+
+pub length-zeros : (part n : ℕ) → part ≤ n → length {A = ℕ} (take part (replicate n 0)) ≡ part
+length-zeros part n h = ap (length {A = ℕ}) (take-replicate part n 0 h) ∙ length-replicate {A = ℕ} part 0
+
+-- the rest of the zeros
+pub zeros_rest : (content : List ℕ) (done n : ℕ) → done ≤ n → (content ++ replicate done 0) ++ replicate (n - done) 0 ≡ content ++ replicate n 0
+zeros_rest content done n h =
+    let all : done + (n - done) ≡ n = omega arith in
+    append_assoc content (replicate done 0) (replicate (n - done) 0)
+    ∙ ap (λ t. content ++ t) (replicate-append-replicate done (n - done) 0)
+    ∙ ap (λ k. content ++ replicate k 0) all

@@ -1,0 +1,15 @@
+use Rattle.std.proofs.Common.{◌≡◌, ◌≤◌, ◌-◌, ◌+◌, ◌++◌, ℕ, List, length, take}
+use Rattle.pieces.specs.Feeding.{IsFed, given, total}
+use Rattle.pieces.proofs.v1_feed.V1Feed.push.Given as goal
+
+abbrev pub invariant-parts : goal.invariant-parts
+invariant-parts l = record {
+  within : l.start ≤ length l.bytes;
+  total : total l.self ≡ total l.fn.self;
+  given : given l.self ≡ given l.fn.self + l.start;
+  content : (pieces : List (List ℕ)) (piece_length : ℕ) (content : List ℕ) → IsFed l.fn.self pieces piece_length content
+      → IsFed l.self pieces piece_length (content ++ take l.start l.bytes);
+}
+
+abbrev pub decreases-parts : goal.decreases-parts
+decreases-parts l = length l.initial.bytes - l.start

@@ -1,0 +1,5 @@
+-- What contracts of pieces cite.
+pub mod Cuts
+pub mod Cutting
+pub mod Feeding
+pub mod Pieces

@@ -1,0 +1,4 @@
+//! A version 1 stream beside its digests.
+
+mod digests;
+mod feed;

@@ -1,0 +1,223 @@
+//! The version 1 stream of a hybrid, compared with its digests as its bytes come (BEP 3, "pieces").
+
+ghost use Rattle.std.specs.Prelude.{◌≡◌, ℕ, ◌+◌, ◌-◌, ◌*◌, ◌^◌, ◌<◌, ◌≤◌, ◌++◌, [], List, length, take, replicate, slice_get, Some, None, is_some, true, IsTrue, ◌↔◌};
+ghost use Rattle.pieces.specs.Cuts.{IsComparison, IsNext, cut_digests};
+
+use crate::cutter::Cutter;
+use crate::v1::V1;
+
+// How many zeros go into the stream at once.
+const ZEROS: usize = 16384;
+
+/// Compares the version 1 stream with the digests of its pieces, while the stream comes part by
+/// part. After the first bad cut it digests nothing more.
+#[derive(Drop)]
+pub struct V1Feed<'a> {
+    pieces: &'a [[u8; 20]],
+    // How many bytes the stream has, and how many of them came.
+    total: u64,
+    given: u64,
+    // The running cut, which is empty after a bad one, and its number.
+    cutter: Cutter,
+    cut: u64,
+    // The first of the cuts before whose digest differs.
+    bad: Option<u64>,
+    ghost in_stream: { given ≤ total },
+    ghost counted: { cut + cutter.filled ≤ given },
+}
+
+impl<'a> V1Feed<'a> {
+    ghost use Rattle.pieces.specs.Cutting.{IsCutting};
+    ghost use Rattle.pieces.specs.Feeding.{IsAt, IsFed, IsFirstBad, given, total};
+
+    /// A feed that was given nothing, for a stream of the length that the hybrid states.
+    pub fn new(v: &V1<'a>, piece_length: u64) -> V1Feed<'a>
+        requires { 0 < piece_length }
+        ensures total { total result ≡ v.now.total }
+        ensures given { given result ≡ 0 }
+        ensures content { IsFed result v.now.pieces.now piece_length [] }
+    {
+        V1Feed {
+            pieces: v.pieces,
+            total: v.total,
+            given: 0,
+            cutter: Cutter::new(piece_length),
+            cut: 0,
+            bad: None,
+        }
+    }
+
+    /// How many bytes the stream has.
+    pub fn total(&self) -> u64
+        ensures { result ≡ total self.now }
+    {
+        self.total
+    }
+
+    /// How many bytes of the stream came so far: the place in the stream at which the next ones
+    /// stand. It is at most `total()`.
+    pub fn given(&self) -> u64
+        ensures value { result ≡ given self.now }
+        ensures bound { result ≤ total self.now }
+        ensures content { (pieces : List (List ℕ)) (piece_length : ℕ) (content : List ℕ)
+            → IsFed self.now pieces piece_length content → result ≡ length content }
+    {
+        self.given
+    }
+
+    /// Takes the stream's next bytes, no more than are still to come.
+    pub fn push(&mut self, bytes: &[u8])
+        requires { given self.old + length bytes.now ≤ total self.old }
+        ensures total { total self.new ≡ total self.old }
+        ensures given { given self.new ≡ given self.old + length bytes.now }
+        ensures content { (pieces : List (List ℕ)) (piece_length : ℕ) (content : List ℕ)
+            → IsFed self.old pieces piece_length content
+            → IsFed self.new pieces piece_length (content ++ bytes.now) }
+    {
+        let mut start = 0;
+        'parts: while start < bytes.len() {
+            start += self.take_part(&bytes[start..]);
+        }
+    }
+
+    /// Takes this many zero bytes, as stand between two files, no more than are still to come.
+    pub fn zeros(&mut self, n: u64)
+        requires { given self.old + n ≤ total self.old }
+        ensures total { total self.new ≡ total self.old }
+        ensures given { given self.new ≡ given self.old + n }
+        ensures content { (pieces : List (List ℕ)) (piece_length : ℕ) (content : List ℕ)
+            → IsFed self.old pieces piece_length content
+            → IsFed self.new pieces piece_length (content ++ replicate n 0) }
+    {
+        let zeros = [0u8; ZEROS];
+        let mut done = 0;
+        'parts: while done < n {
+            if self.bad.is_some() {
+                return self.skip(n - done);
+            }
+            let part = (n - done).min(ZEROS as u64);
+            self.push(&zeros[..part as usize]);
+            done += part;
+        }
+    }
+
+    /// The first cut whose SHA-1 digest is not the one in `pieces`, or `None` if the digests of the
+    /// cuts are `pieces`.
+    pub fn finish(mut self) -> Option<u64>
+        ensures { (pieces : List (List ℕ)) (piece_length : ℕ) (content : List ℕ)
+            → IsFed self.entry pieces piece_length content
+            → IsComparison (cut_digests piece_length content) pieces result }
+    {
+        if !self.cutter.is_empty() {
+            self.close_cut();
+        }
+        if self.bad.is_none() && self.cut < self.pieces.len() as u64 {
+            return Some(self.cut);
+        }
+        self.bad
+    }
+
+    // Takes the first of these bytes, at most as many as there is room for in the running cut.
+    fn take_part(&mut self, bytes: &[u8]) -> usize
+        requires some { 0 < length bytes.now }
+        requires room { given self.old + length bytes.now ≤ total self.old }
+        ensures some { 0 < result }
+        ensures bound { result ≤ length bytes.now }
+        ensures total { total self.new ≡ total self.old }
+        ensures given { given self.new ≡ given self.old + result }
+        ensures content { (pieces : List (List ℕ)) (piece_length : ℕ) (content : List ℕ)
+            → IsFed self.old pieces piece_length content
+            → IsFed self.new pieces piece_length (content ++ take result bytes.now) }
+    {
+        self.make_room();
+        if self.bad.is_some() {
+            self.skip(bytes.len() as u64);
+            return bytes.len();
+        }
+        self.fill(bytes)
+    }
+
+    // Closes the running cut if it is full.
+    fn make_room(&mut self)
+        ensures total { total self.new ≡ total self.old }
+        ensures given { given self.new ≡ given self.old }
+        ensures open { self.new.cutter.filled < self.new.cutter.piece_length }
+        ensures content { (pieces : List (List ℕ)) (piece_length : ℕ) (content : List ℕ)
+            → IsFed self.old pieces piece_length content
+            → IsAt self.new pieces piece_length content }
+    {
+        if self.cutter.is_full() {
+            self.close_cut();
+        }
+    }
+
+    // Takes the first of these bytes into the running cut, as many as there is room for in it.
+    fn fill(&mut self, bytes: &[u8]) -> usize
+        requires some { 0 < length bytes.now }
+        requires room { given self.old + length bytes.now ≤ total self.old }
+        requires open { self.old.cutter.filled < self.old.cutter.piece_length }
+        ensures some { 0 < result }
+        ensures bound { result ≤ length bytes.now }
+        ensures total { total self.new ≡ total self.old }
+        ensures given { given self.new ≡ given self.old + result }
+        ensures content { (pieces : List (List ℕ)) (piece_length : ℕ) (content : List ℕ)
+            → IsAt self.old pieces piece_length content → self.old.bad ≡ None
+            → IsFed self.new pieces piece_length (content ++ take result bytes.now) }
+    {
+        let taken = self.cutter.take(bytes);
+        self.given += taken as u64;
+        taken
+    }
+
+    // Counts this many bytes, after a bad cut.
+    fn skip(&mut self, n: u64)
+        requires bad { is_some self.old.bad ≡ true }
+        requires room { given self.old + n ≤ total self.old }
+        ensures total { total self.new ≡ total self.old }
+        ensures given { given self.new ≡ given self.old + n }
+        ensures content { (pieces : List (List ℕ)) (piece_length : ℕ) (content more : List ℕ)
+            → IsAt self.old pieces piece_length content → length more ≡ n
+            → IsFed self.new pieces piece_length (content ++ more) }
+    {
+        self.given += n;
+    }
+
+    // Compares the running cut with its digest, and begins the next.
+    fn close_cut(&mut self)
+        requires { 0 < self.old.cutter.filled }
+        ensures total { total self.new ≡ total self.old }
+        ensures given { given self.new ≡ given self.old }
+        ensures cut { self.new.cut ≡ self.old.cut + 1 }
+        ensures piece_length { self.new.cutter.piece_length ≡ self.old.cutter.piece_length }
+        ensures empty { self.new.cutter.filled ≡ 0 }
+        ensures running { IsCutting self.new.cutter [] }
+        ensures pieces { self.new.pieces ≡ self.old.pieces }
+        ensures bad { (pieces : List (List ℕ)) (piece_length : ℕ) (content : List ℕ)
+            → IsAt self.old pieces piece_length content → self.old.bad ≡ None
+            → IsFirstBad piece_length pieces content self.new.cut self.new.bad }
+    {
+        let digest = self.cutter.close();
+        self.bad = first_bad(self.bad, self.pieces, self.cut, &digest);
+        self.cut += 1;
+    }
+}
+
+// The first bad cut, after this digest of one more cut was compared.
+fn first_bad(bad: Option<u64>, pieces: &[[u8; 20]], cut: u64, digest: &[u8; 20]) -> Option<u64>
+    ensures { IsNext pieces.now cut digest.now bad result }
+{
+    if bad.is_none() && !is_listed(pieces, cut, digest) {
+        return Some(cut);
+    }
+    bad
+}
+
+// Tells whether this is the digest that is listed for the cut.
+fn is_listed(pieces: &[[u8; 20]], cut: u64, digest: &[u8; 20]) -> bool
+    ensures { IsTrue result ↔ (slice_get pieces.now cut ≡ Some digest.now) }
+{
+    match pieces.get(cut as usize) {
+        Some(listed) => listed == digest,
+        None => false,
+    }
+}

@@ -1,0 +1,4 @@
+-- What contracts of the replay of a record cite.
+pub mod Replay
+pub mod ReplayLines
+pub mod Outcome

@@ -1,0 +1,46 @@
+-- The lines that `replay` prints: those of each frame of a record, numbered from 1, and a last one.
+use Rattle.std.specs.Prelude.{ℕ, ◌++◌, List, codes, decimal}
+use Rattle.partial_tree.specs.Names.{block_refusal_name, block_refusal_number, hash_refusal_name, hash_refusal_number}
+use Rattle.session.specs.declared.verdict.Verdict.{Verdict}
+use Rattle.session.specs.declared.verdict.Verdict.TheVariants as verdict
+use Rattle.wire.specs.declared.fault.FrameFault.TheVariants as fault
+use Rattle.records.specs.declared.ending.Ending.{Ending}
+use Rattle.records.specs.declared.ending.Ending.TheVariants as ending
+use Rattle.records.specs.declared.told.Told.{Told}
+use Rattle.records.specs.declared.told.Told.TheVariants as told
+
+-- a refusal by its number behind a letter, and its name
+abbrev pub refused_text : List ℕ → ℕ → List ℕ → List ℕ
+refused_text letter number name =
+    codes "refused " ++ (letter ++ (decimal number ++ (codes " " ++ name)))
+
+-- what is printed of a message, after the number of its frame; files and blocks are numbered from 0
+abbrev pub verdict_text : Verdict → List ℕ
+verdict_text (verdict.Stored count) = codes "stored " ++ decimal count
+verdict_text (verdict.HashRefused r) =
+    refused_text (codes "H") (hash_refusal_number r) (hash_refusal_name r)
+verdict_text (verdict.Verified file number) =
+    codes "verified " ++ decimal file ++ codes " " ++ decimal number
+verdict_text (verdict.BlockRefused r) =
+    refused_text (codes "P") (block_refusal_number r) (block_refusal_name r)
+verdict_text verdict.Answered = codes "answered"
+verdict_text verdict.Rejected = codes "rejected"
+verdict_text verdict.RejectNoted = codes "reject noted"
+verdict_text verdict.KeepAlive = codes "keep-alive"
+verdict_text (verdict.Skipped id) = codes "skipped " ++ decimal id
+
+-- what is printed of a frame, after its number
+abbrev pub told_text : Told → List ℕ
+told_text (told.Verdict v) = verdict_text v
+told_text (told.BadFrame id len) = codes "bad frame " ++ decimal id ++ codes " " ++ decimal len
+
+-- the lines of frame n, of which this is told
+unfoldable pub lines_of : ℕ → Told → List ℕ
+lines_of n t = decimal n ++ codes " " ++ told_text t ++ codes "\n"
+
+-- the last line
+abbrev pub ending_line_of : Ending → List ℕ
+ending_line_of ending.End = codes "end\n"
+ending_line_of (ending.Fault fault.Truncated) = codes "fault Truncated\n"
+ending_line_of (ending.Fault fault.Read) = codes "fault Read\n"
+ending_line_of (ending.Fault fault.NoMemory) = codes "fault NoMemory\n"

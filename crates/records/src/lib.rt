@@ -1,0 +1,13 @@
+//! Records of messages: their replay over a session, and its report.
+#![tactic(auto)]
+
+mod ending;
+mod line_of_frame;
+mod outcome;
+mod replaying;
+mod told;
+
+pub use ending::Ending;
+pub use outcome::Outcome;
+pub use replaying::replay;
+pub use told::Told;

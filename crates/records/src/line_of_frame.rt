@@ -1,0 +1,103 @@
+//! What a replay prints of one frame.
+ghost use Rattle.std.specs.Prelude.{◌≡◌, ◌+◌, ◌≤◌, ◌++◌, length, codes, decimal};
+ghost use Rattle.records.specs.ReplayLines.{lines_of, refused_text, told_text, verdict_text};
+
+#[cfg(test)]
+mod tests;
+
+use crate::told::Told;
+use lines::Line;
+use session::Verdict;
+
+/// The line of the frame of this number.
+pub fn line_of_frame(number: u64, told: &Told) -> Line
+    ensures { result ≡ lines_of number told.now }
+{
+    let mut line = Line::new();
+    line.put_number(number);
+    line.put(b" ");
+    put_told(&mut line, told);
+    line.put(b"\n");
+    line
+}
+
+fn put_told(line: &mut Line, told: &Told)
+    requires { length line.old ≤ 21 }
+    ensures text { line.new ≡ line.old ++ told_text told.now }
+    ensures bound { length line.new ≤ length line.old + 60 }
+{
+    match told {
+        Told::Verdict(verdict) => put_verdict(line, verdict),
+        Told::BadFrame { id, len } => put_bad_frame(line, *id, *len),
+    }
+}
+
+fn put_bad_frame(line: &mut Line, id: u8, len: u32)
+    requires { length line.old ≤ 21 }
+    ensures text { line.new ≡ line.old ++ told_text (Told.BadFrame id len) }
+    ensures bound { length line.new ≤ length line.old + 60 }
+{
+    line.put(b"bad frame ");
+    line.put_number(u64::from(id));
+    line.put(b" ");
+    line.put_number(u64::from(len));
+}
+
+fn put_verdict(line: &mut Line, verdict: &Verdict)
+    requires { length line.old ≤ 21 }
+    ensures text { line.new ≡ line.old ++ verdict_text verdict.now }
+    ensures bound { length line.new ≤ length line.old + 60 }
+{
+    match verdict {
+        Verdict::Stored(count) => put_counted(line, b"stored ", *count),
+        Verdict::HashRefused(refusal) => {
+            put_refused(line, b"H", refusal.number(), refusal.name());
+        }
+        Verdict::Verified { file, block } => put_verified(line, *file, *block),
+        Verdict::BlockRefused(refusal) => {
+            put_refused(line, b"P", refusal.number(), refusal.name());
+        }
+        Verdict::Answered => line.put(b"answered"),
+        Verdict::Rejected => line.put(b"rejected"),
+        Verdict::RejectNoted => line.put(b"reject noted"),
+        Verdict::KeepAlive => line.put(b"keep-alive"),
+        Verdict::Skipped(id) => put_counted(line, b"skipped ", u64::from(*id)),
+    }
+}
+
+// A word, and a number after it.
+fn put_counted(line: &mut Line, word: &[u8], number: u64)
+    requires line { length line.old ≤ 21 }
+    requires word { length word.now ≤ 8 }
+    ensures text { line.new ≡ line.old ++ (word.now ++ decimal number) }
+    ensures bound { length line.new ≤ length line.old + 60 }
+{
+    line.put(word);
+    line.put_number(number);
+}
+
+fn put_verified(line: &mut Line, file: usize, block: u64)
+    requires { length line.old ≤ 21 }
+    ensures text { line.new ≡ line.old ++ verdict_text (Verdict.Verified file block) }
+    ensures bound { length line.new ≤ length line.old + 60 }
+{
+    line.put(b"verified ");
+    line.put_number(file as u64);
+    line.put(b" ");
+    line.put_number(block);
+}
+
+// A refusal: a letter, its number and its name.
+fn put_refused(line: &mut Line, letter: &[u8], number: u32, name: &str)
+    requires line { length line.old ≤ 21 }
+    requires letter { length letter.now ≤ 1 }
+    requires name { length name.now ≤ 11 }
+    ensures text { line.new ≡ line.old ++ refused_text letter.now number name.now }
+    ensures bound { length line.new ≤ length line.old + 60 }
+{
+    line.put(b"refused ");
+    line.put(letter);
+    line.put_number(u64::from(number));
+    line.put(b" ");
+    line.put(name.as_bytes());
+}

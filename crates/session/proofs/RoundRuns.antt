@@ -1,0 +1,216 @@
+-- Runs over rounds: the gaps fall at each, and so there are at most as many rounds as gaps.
+use Rattle.std.proofs.Common.{length, take, get_or, add-one, ◌≡◌, ◌≢◌, ◌⊎◌, ℕ, zero, suc, ◌+◌, ◌*◌, ◌<◌, ◌≤◌, Bool, true, false, cond, is_none, List, [], ◌∷◌, ◌++◌, Option, Some, None, inl, inr, refl, sym, ap, ◌∙◌, subst, subst₂, arith}
+use Rattle.std.specs.List.{All}
+use Rattle.std.specs.Prelude.{map, slice_get}
+use Rattle.std.proofs.lemmas.Option.{same_Some, none-some}
+use Rattle.std.proofs.lemmas.Bool.{cases_Bool, false≢true}
+use Rattle.std.proofs.lemmas.List.Elements.{All-pop, All-push}
+use Rattle.std.proofs.Math.Seq.{take-suc}
+use Rattle.wire.specs.declared.message.Ask.{Ask}
+use Rattle.wire.specs.declared.message.Message.{Message}
+use Rattle.wire.specs.declared.message.Message.TheVariants as message
+use Rattle.partial_tree.specs.declared.refusal.HashRefusal.TheVariants.{NoMemory}
+use Rattle.session.specs.declared.verdict.Verdict.{Verdict}
+use Rattle.session.specs.declared.verdict.Verdict.TheVariants as verdict
+use Rattle.node_maps.specs.Digest.{Hash}
+use Rattle.hashtree.specs.Tree.{block_count}
+use Rattle.partial_tree.specs.TreeRoot.{TreeRoot, Fits}
+use Rattle.node_maps.specs.Places.{tree_height, PartialTree, IsKnown}
+use Rattle.partial_tree.specs.Closed.{IsClosed, Keeps, Collision, whole}
+use Rattle.partial_tree.specs.Claims.{top_layer, top_index, answer_of, CanAnswer}
+use Rattle.partial_tree.specs.Gaps.{gaps, want_ask, want_of}
+use Rattle.node_maps.specs.Known.{look}
+use Rattle.session.specs.Session.{SessionSeen, TreeState, IsTree, IsGood, HasDistinctRoots, HasFewerGaps, HasHashes, Step}
+use Rattle.session.specs.Chain.{Chain}
+use Rattle.session.specs.Rounds.{IsRoundRun, Rounds, HasNoMoreGaps, RoundLeavesFewer, Collides}
+use Rattle.partial_tree.proofs.Claimed.{there_or_not}
+use Rattle.partial_tree.proofs.Whole.{whole-closed}
+use Rattle.partial_tree.proofs.Answers.{answer-reaches, answer-root}
+use Rattle.partial_tree.proofs.Wanted.{want-range, whole-can_answer, gaps-fall, gaps-none, gaps-all_known}
+use Rattle.session.proofs.Runs.{Learns, run-true, run-learns, run-torrent}
+use Rattle.metainfo.specs.Description.{Description}
+use Rattle.session.specs.Layouts.{root_of_entry}
+use Rattle.session.proofs.Rounds.{want-tall, round}
+
+-- ---- what is wanted
+
+pub wanted-none : (t : TreeRoot) (K : PartialTree) (b : ℕ) → IsKnown K 0 b → want_of t K b ≡ None
+wanted-none t K b (v, known) = ap (λ (o : Option Hash). cond (is_none o) (Some (want_ask t b)) None) known
+
+pub wanted-some : (t : TreeRoot) (K : PartialTree) (b : ℕ) → K 0 b ≡ None → want_of t K b ≡ Some (want_ask t b)
+wanted-some t K b none = ap (λ (o : Option Hash). cond (is_none o) (Some (want_ask t b)) None) none
+
+pub wanted-is : (t : TreeRoot) (K : PartialTree) (b : ℕ) (ask : Ask) → want_of t K b ≡ Some ask → (K 0 b ≡ None) × (ask ≡ want_ask t b)
+wanted-is t K b ask e = elim (there_or_not (K 0 b)) [
+  | inl known ↦ absurd (none-some ask (sym (wanted-none t K b known) ∙ e))
+  | inr none ↦ (none, same_Some ask (want_ask t b) (sym e ∙ wanted-some t K b none))
+]
+
+pub no_gap-nothing_wanted : (t : TreeRoot) (K : PartialTree) → gaps t.length K ≡ 0 → (b : ℕ) → b < block_count t.length → want_of t K b ≡ None
+no_gap-nothing_wanted t K e b inside = wanted-none t K b (gaps-none t.length K e b inside)
+
+pub nothing_wanted-no_gap : (t : TreeRoot) (K : PartialTree) → ((b : ℕ) → b < block_count t.length → want_of t K b ≡ None) → gaps t.length K ≡ 0
+nothing_wanted-no_gap t K all = gaps-all_known t.length K (λ b inside. elim (there_or_not (K 0 b)) [
+  | inl known ↦ known
+  | inr none ↦ absurd (none-some (want_ask t b) (sym (all b inside) ∙ wanted-some t K b none))
+])
+
+pub wanted-root : (t : TreeRoot) (K : PartialTree) (f : List ℕ) (b : ℕ) → IsClosed t K → Fits f t → b < block_count t.length → K 0 b ≡ None
+    → (top_layer (want_ask t b) (answer_of (tree_height t.length) (whole f) (want_ask t b)) ≡ tree_height t.length)
+    × (top_index (want_ask t b) (answer_of (tree_height t.length) (whole f) (want_ask t b)) ≡ 0)
+wanted-root t K f b closed fits inside none =
+    let tall : 1 ≤ tree_height t.length = want-tall t K b closed inside none in
+    let can : CanAnswer (tree_height t.length) (whole f) (want_ask t b) = whole-can_answer t f (want_ask t b) fits (want-range t b tall inside) in
+    let whole_closed : IsClosed t (whole f) = whole-closed f t fits in
+    (answer-reaches t (whole f) (want_ask t b) whole_closed can (omega arith), answer-root t (whole f) (want_ask t b) whole_closed can (omega arith))
+
+-- ---- the gaps over a run
+
+pub run-gaps : (S : SessionSeen) (ms : List Message) (vs : List Verdict) (S' : SessionSeen) → Chain Step S ms vs S' → HasNoMoreGaps S S'
+run-gaps S ms vs S' run n tree s at =
+    let learnt : Learns S S' n tree s = run-learns S ms vs S' run n tree s at in
+    (learnt.later, learnt.later_is, gaps-fall tree.length (look s.known) (look learnt.later.known) learnt.keeps)
+
+-- ---- one round
+
+-- the last step of a run
+record LastStep (S : SessionSeen) (ms : List Message) (m : Message) (vs : List Verdict) (S' : SessionSeen) : Type 0 where
+  earlier : List Verdict
+  last : Verdict
+  middle : SessionSeen
+  verdicts_are : vs ≡ earlier ++ last ∷ []
+  run : Chain Step S ms earlier middle
+  step : Step middle m last S'
+
+last_step : (S : SessionSeen) (ms : List Message) (m : Message) (vs : List Verdict) (S' : SessionSeen) → Chain Step S (ms ++ m ∷ []) vs S' → LastStep S ms m vs S'
+last_step S [] m [] S' run = absurd run
+last_step S [] m (v ∷ []) S' (M, step, e) = record {
+  earlier = [];
+  last = v;
+  middle = S;
+  verdicts_are = refl;
+  run = refl;
+  step = subst (Step S m v) (sym e) step;
+}
+last_step S [] m (v ∷ w ∷ vs) S' (M, step, rest) = absurd rest
+last_step S (x ∷ ms) m [] S' run = absurd run
+last_step S (x ∷ ms) m (v ∷ vs) S' (M, step, rest) =
+    let later : LastStep M ms m vs S' = last_step M ms m vs S' rest in
+    record {
+      earlier = v ∷ later.earlier;
+      last = later.last;
+      middle = later.middle;
+      verdicts_are = ap (λ ws. v ∷ ws) later.verdicts_are;
+      run = (M, step, later.run);
+      step = later.step;
+    }
+
+-- whether memory was refused
+pub lacks_memory : Verdict → Bool
+lacks_memory (verdict.HashRefused NoMemory) = true
+lacks_memory v = false
+
+pub lacks_memory-is : (v : Verdict) → lacks_memory v ≡ true → v ≡ verdict.HashRefused NoMemory
+unfolding lacks_memory
+lacks_memory-is (verdict.HashRefused NoMemory) e = refl
+lacks_memory-is v e = absurd (false≢true e)
+
+pub lacks_memory-not : (v : Verdict) → lacks_memory v ≡ false → v ≢ verdict.HashRefused NoMemory
+unfolding lacks_memory
+lacks_memory-not v e is = false≢true (sym e ∙ ap lacks_memory is)
+
+pub collision-keeps : (J K L : PartialTree) → Keeps K L → Collision J K → Collision J L
+collision-keeps J K L keeps c = record {
+  layer = c.layer;
+  index = c.index;
+  J_left = c.J_left;
+  J_right = c.J_right;
+  K_left = c.K_left;
+  K_right = c.K_right;
+  J_left_known = c.J_left_known;
+  J_right_known = c.J_right_known;
+  K_left_known = keeps c.layer (2 * c.index) c.K_left c.K_left_known;
+  K_right_known = keeps c.layer (2 * c.index + 1) c.K_right c.K_right_known;
+  differ = c.differ;
+  one_digest = c.one_digest;
+}
+
+pub All-take-more : (ms : List Message) (i : ℕ) (d : Message) → i < length ms → All HasHashes (take i ms) → HasHashes (get_or ms i d) → All HasHashes (take (i + 1) ms)
+All-take-more ms i d inside all here =
+    subst (All HasHashes) (sym (ap (λ j. take j ms) (add-one i) ∙ take-suc ms i d inside)) (All-push HasHashes (take i ms) (get_or ms i d) all here)
+
+All-front : (ms : List Message) (m : Message) → All HasHashes (ms ++ m ∷ []) → All HasHashes ms
+All-front ms m all = (All-pop HasHashes (ms ++ m ∷ []) ms (Some m) refl all).0
+
+-- the roots stay distinct, since the torrent stays
+later-distinct : (S M : SessionSeen) → M.torrent ≡ S.torrent → HasDistinctRoots S → HasDistinctRoots M
+later-distinct S M same distinct = λ i k x y p q e. distinct i k x y
+    (ap (λ (d : Description). slice_get (map root_of_entry d.trees) i) (sym same) ∙ p)
+    (ap (λ (d : Description). slice_get (map root_of_entry d.trees) k) (sym same) ∙ q) e
+
+pub round-fewer : (S : SessionSeen) → HasDistinctRoots S → (ms : List Message) (vs : List Verdict) (S' : SessionSeen) → IsGood S → All HasHashes ms → Chain Step S ms vs S' → RoundLeavesFewer S ms vs S'
+round-fewer S distinct ms vs S' good all run n f r =
+    let at_end : LastStep S r.before (message.Hashes r.ask r.answer) vs S' = last_step S r.before (message.Hashes r.ask r.answer) vs S' (subst (λ xs. Chain Step S xs vs S') r.ends run) in
+    let (none, is) = wanted-is r.tree (look r.state.known) r.block r.ask r.wanted in
+    let hashes : All HasHashes r.before = All-front r.before (message.Hashes r.ask r.answer) (subst (All HasHashes) r.ends all) in
+    elim (cases_Bool (lacks_memory at_end.last)) [
+      | inl lacks ↦ inr (inl (at_end.earlier, at_end.verdicts_are ∙ ap (λ v. at_end.earlier ++ v ∷ []) (lacks_memory-is at_end.last lacks)))
+      | inr has ↦
+          elim (round S distinct r.before at_end.earlier at_end.middle S' n r.tree r.state r.block f good hashes at_end.run r.is_tree r.inside none r.fits r.answer
+          (r.is_answer ∙ ap (answer_of (tree_height r.tree.length) (whole f)) is) at_end.last (lacks_memory-not at_end.last has)
+          (subst (λ a. Step at_end.middle (message.Hashes a r.answer) at_end.last S') is at_end.step)) [
+            | inl fewer ↦ inl fewer
+            | inr (s, at, collision) ↦
+                let learnt : Learns at_end.middle S' n r.tree s = run-learns at_end.middle (message.Hashes r.ask r.answer ∷ []) (at_end.last ∷ []) S' (S', at_end.step, refl) n r.tree s at in
+                inr (inr (r.tree, learnt.later, learnt.later_is, collision-keeps (whole f) (look s.known) (look learnt.later.known) learnt.keeps collision))
+          ]
+    ]
+
+-- ---- rounds one after the other
+
+round-good : (n : ℕ) (f : List ℕ) (S M : SessionSeen) → IsGood S → IsRoundRun n f S M → IsGood M
+round-good n f S M good r = (run-true S r.messages r.verdicts M good r.hashes r.run).1
+
+rounds-learn : (n : ℕ) (f : List ℕ) (k : ℕ) (S S' : SessionSeen) → Rounds n f k S S' → (tree : TreeRoot) (s : TreeState) → IsTree S n tree s → Learns S S' n tree s
+rounds-learn n f zero S S' e tree s at = run-learns S [] [] S' e n tree s at
+rounds-learn n f (suc k) S S' (M, r, rest) tree s at =
+    let a : Learns S M n tree s = run-learns S r.messages r.verdicts M r.run n tree s at in
+    let b : Learns M S' n tree a.later = rounds-learn n f k M S' rest tree a.later a.later_is in
+    record { later = b.later; later_is = b.later_is; keeps = λ l i v e. b.keeps l i v (a.keeps l i v e) }
+
+-- a round counts down the gaps of this tree
+round-counts : (n : ℕ) (f : List ℕ) (S M : SessionSeen) → HasDistinctRoots S → IsGood S → IsRoundRun n f S M → (tree : TreeRoot) (s : TreeState) → IsTree S n tree s
+    → HasFewerGaps M n tree (look s.known) ⊎ Collides M n f
+round-counts n f S M distinct good r tree s at =
+    let same_tree : r.round.tree ≡ tree = same_Some r.round.tree tree (sym r.round.is_tree.tree_is ∙ at.tree_is) in
+    let same_state : r.round.state ≡ s = same_Some r.round.state s (sym r.round.is_tree.state_is ∙ at.state_is) in
+    elim (round-fewer S distinct r.messages r.verdicts M good r.hashes r.run n f r.round) [
+      | inl fewer ↦ inl (subst₂ (λ tr st. HasFewerGaps M n tr (look st.known)) same_tree same_state fewer)
+      | inr other ↦ elim other [ inl lacks ↦ absurd (r.memory lacks) | inr collides ↦ inr collides ]
+    ]
+
+count : (n : ℕ) (f : List ℕ) (k : ℕ) (S S' : SessionSeen) → HasDistinctRoots S → IsGood S → Rounds n f k S S' → (tree : TreeRoot) (s : TreeState) → IsTree S n tree s
+    → ((later : TreeState) × IsTree S' n tree later × (gaps tree.length (look later.known) + k ≤ gaps tree.length (look s.known))) ⊎ Collides S' n f
+count n f zero S S' distinct good e tree s at = inl (s, subst (λ U. IsTree U n tree s) (sym e) at, omega arith)
+count n f (suc k) S S' distinct good (M, r, rest) tree s at = elim (round-counts n f S M distinct good r tree s at) [
+  | inr (tr, m, m_at, collision) ↦
+      let learnt : Learns M S' n tr m = rounds-learn n f k M S' rest tr m m_at in
+      inr (tr, learnt.later, learnt.later_is, collision-keeps (whole f) (look m.known) (look learnt.later.known) learnt.keeps collision)
+  | inl (m, m_at, fewer) ↦
+      let distinct' : HasDistinctRoots M = later-distinct S M (run-torrent S r.messages r.verdicts M r.run) distinct in
+      elim (count n f k M S' distinct' (round-good n f S M good r) rest tree m m_at) [
+        | inl (later, later_at, le) ↦ inl (later, later_at, omega arith)
+        | inr collides ↦ inr collides
+      ]
+]
+
+pub rounds-count : (S S' : SessionSeen) → HasDistinctRoots S → (n : ℕ) (f : List ℕ) (k : ℕ) → IsGood S → Rounds n f k S S' → (tree : TreeRoot) (s : TreeState) → IsTree S n tree s
+    → ((later : TreeState) × IsTree S' n tree later × (gaps tree.length (look later.known) + k ≤ gaps tree.length (look s.known))) ⊎ Collides S' n f
+rounds-count S S' distinct n f k good rounds tree s at = count n f k S S' distinct good rounds tree s at
+
+pub rounds-done : (S S' : SessionSeen) → HasDistinctRoots S → (n : ℕ) (f : List ℕ) (tree : TreeRoot) (s : TreeState) → IsGood S → IsTree S n tree s → Rounds n f (gaps tree.length (look s.known)) S S'
+    → ((later : TreeState) × IsTree S' n tree later × ((b : ℕ) → b < block_count tree.length → IsKnown (look later.known) 0 b)) ⊎ Collides S' n f
+rounds-done S S' distinct n f tree s good at rounds = elim (count n f (gaps tree.length (look s.known)) S S' distinct good rounds tree s at) [
+  | inl (later, later_at, le) ↦ inl (later, later_at, λ b inside. gaps-none tree.length (look later.known) (omega arith) b inside)
+  | inr collides ↦ inr collides
+]

@@ -1,6 +1,0 @@
-use Rattle.std.proofs.Common.{sym, arith}
-use Rattle.hashtree.proofs.Zeros.{zero_hash-zero}
-use Rattle.session.proofs.pads.Pads.new.Goals as goal
-
-pub invariant_of-result : goal.invariant_of-result
-invariant_of-result c = record { low = omega arith; is_zero_hash = sym zero_hash-zero }

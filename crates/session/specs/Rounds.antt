@@ -1,0 +1,74 @@
+-- Rounds: messages that end with the true answer to what was wanted before them.
+use Rattle.std.specs.Prelude.{◌≡◌, ◌⊎◌, ℕ, zero, suc, ◌<◌, ◌≤◌, cond, is_none, List, [], ◌∷◌, ◌++◌, Option, Some, None}
+use Rattle.std.specs.Borrow.{Bor}
+use Rattle.std.specs.List.{All}
+use Rattle.wire.specs.declared.message.Ask.{Ask}
+use Rattle.wire.specs.declared.message.Message.{Message}
+use Rattle.wire.specs.declared.message.Message.TheVariants as message
+use Rattle.partial_tree.specs.declared.refusal.HashRefusal.TheVariants.{NoMemory}
+use Rattle.session.specs.declared.verdict.Verdict.{Verdict}
+use Rattle.session.specs.declared.verdict.Verdict.TheVariants as verdict
+use Rattle.node_maps.specs.Digest.{Hash}
+use Rattle.hashtree.specs.Tree.{block_count}
+use Rattle.partial_tree.specs.TreeRoot.{TreeRoot, Fits}
+use Rattle.node_maps.specs.Places.{tree_height, PartialTree}
+use Rattle.partial_tree.specs.Closed.{Collision, whole}
+use Rattle.partial_tree.specs.Claims.{answer_of}
+use Rattle.partial_tree.specs.Gaps.{gaps, want_of}
+use Rattle.node_maps.specs.Known.{look}
+use Rattle.session.specs.Session.{SessionSeen, TreeState, IsTree, HasFewerGaps, HasHashes, Step}
+use Rattle.session.specs.Chain.{Chain}
+
+-- messages that end with the true answer for f to an ask that was wanted of tree n before the
+-- first
+pub record IsRound (S : SessionSeen) (n : ℕ) (f : List ℕ)
+    (ms : List Message) : Type 0 where
+  pub tree : TreeRoot
+  pub state : TreeState
+  pub is_tree : IsTree S n tree state
+  pub fits : Fits f tree
+  pub block : ℕ
+  pub inside : block < block_count tree.length
+  pub ask : Ask
+  pub wanted : want_of tree (look state.known) block ≡ Some ask
+  pub before : List Message
+  pub answer : Bor (List Hash)
+  pub is_answer : answer.now ≡ answer_of (tree_height tree.length) (whole f) ask
+  pub ends : ms ≡ before ++ message.Hashes ask answer ∷ []
+
+-- memory was refused for the last message
+abbrev pub LacksMemoryAtLast : List Verdict → Type 0
+LacksMemoryAtLast vs =
+    (earlier : List Verdict) × (vs ≡ earlier ++ verdict.HashRefused NoMemory ∷ [])
+
+-- f and what is known of tree n name a collision
+abbrev pub Collides : SessionSeen → ℕ → List ℕ → Type 0
+Collides S n f =
+    (tree : TreeRoot) × (s : TreeState) × IsTree S n tree s × Collision (whole f) (look s.known)
+
+-- each tree has at most the gaps that it had
+abbrev pub HasNoMoreGaps : SessionSeen → SessionSeen → Type 0
+HasNoMoreGaps S S' = (n : ℕ) (tree : TreeRoot) (s : TreeState) → IsTree S n tree s
+    → (later : TreeState) × IsTree S' n tree later
+    × (gaps tree.length (look later.known) ≤ gaps tree.length (look s.known))
+
+-- if the messages are a round, the gaps are fewer than before it, or memory was refused for its
+-- answer, or a collision is named
+abbrev pub RoundLeavesFewer : SessionSeen → List Message → List Verdict → SessionSeen → Type 0
+RoundLeavesFewer S ms vs S' = (n : ℕ) (f : List ℕ) (round : IsRound S n f ms)
+    → HasFewerGaps S' n round.tree (look round.state.known)
+    ⊎ (LacksMemoryAtLast vs ⊎ Collides S' n f)
+
+-- a run over a round, with memory for its answer
+pub record IsRoundRun (n : ℕ) (f : List ℕ) (S S' : SessionSeen) : Type 0 where
+  pub messages : List Message
+  pub verdicts : List Verdict
+  pub hashes : All HasHashes messages
+  pub round : IsRound S n f messages
+  pub run : Chain Step S messages verdicts S'
+  pub memory : ¬ LacksMemoryAtLast verdicts
+
+-- k such runs, one after the other
+abbrev pub Rounds : ℕ → List ℕ → ℕ → SessionSeen → SessionSeen → Type 0
+Rounds n f zero S S' = S' ≡ S
+Rounds n f (suc k) S S' = (M : SessionSeen) × IsRoundRun n f S M × Rounds n f k M S'

@@ -1,0 +1,35 @@
+use Rattle.std.proofs.Common.{◌≡◌, ◌++◌, [], arith, refl, subst, sym, ap, ◌∙◌}
+use Rattle.std.proofs.lemmas.List.{append-nil}
+use Rattle.std.proofs.lemmas.Result.{err_from_is_err_and}
+use Rattle.wire.specs.Frames.{four_bytes, frame}
+use Rattle.wire.specs.Reading.{GaveFaultless}
+use Rattle.wire.proofs.Giving.{Faultless-trans}
+use Rattle.wire.proofs.Stopping.{StopsInFrame-in_body}
+use Rattle.wire.proofs.framing.read_frame.Goals as goal
+
+pub returns-in_err-read_body-in-Some-clause-bytes : goal.returns-in_err-read_body-in-Some-clause-bytes
+returns-in_err-read_body-in-Some-clause-bytes g c =
+    let S = g.R.Source in
+    let p = err_from_is_err_and c.from_residual-in_err-read_body-in-Some.result c.from_residual-in_err-read_body-in-Some.ensures.1 in
+    let front = rw c.in-Some.is at c.in_ok-read_length.ensures.bytes in
+    rw (p.1, p.2) (StopsInFrame-in_body (S.seen c.args.source.now) (S.seen c.read_length.new.source) (S.seen c.read_body.new.source) c.in-Some.len _ front.1 front.0 c.in_err-read_body-in-Some.ensures.bytes)
+
+pub returns-in-Some-eq0-clause-bytes : goal.returns-in-Some-eq0-clause-bytes
+unfolding frame
+returns-in-Some-eq0-clause-bytes g c =
+    let S = g.R.Source in
+    let front = rw c.in-Some-eq0.is at c.in_ok-read_length.ensures.bytes in
+    let is : four_bytes c.in-Some-eq0.field-0 ≡ four_bytes 0 ++ [] = ap four_bytes c.in-Some-eq0.field-0-test ∙ sym (append-nil (four_bytes 0)) in
+    ([], omega arith, subst (GaveFaultless (S.seen c.args.source.now) (S.seen c.read_length.new.source)) is front.0, refl)
+
+pub returns-in_ok-read_body-in-Some-clause-bytes : goal.returns-in_ok-read_body-in-Some-clause-bytes
+unfolding frame
+returns-in_ok-read_body-in-Some-clause-bytes g c =
+    let S = g.R.Source in
+    let front = rw c.in-Some.is at c.in_ok-read_length.ensures.bytes in
+    let rest = c.in_ok-read_body-in-Some.ensures.bytes in (
+      rest.0,
+      rw rest.2 front.1,
+      rw rest.2 (Faultless-trans (S.seen c.args.source.now) (S.seen c.read_length.new.source) (S.seen c.read_body.new.source) (four_bytes c.in-Some.len) rest.0 front.0 rest.1),
+      rest.3,
+    )

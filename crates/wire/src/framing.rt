@@ -1,0 +1,77 @@
+//! One frame from a source.
+ghost use Rattle.std.specs.Prelude.{◌≡◌, ◌≤◌, ◌<◌, ◌-◌, ℕ, [], List, length, take, MatchResult, OnOk, IsErrOf, vec_capacity};
+ghost use Rattle.wire.specs.Head.{Holds};
+ghost use Rattle.wire.specs.Reading.{GaveFaultless, GivesAll, StopsInBody, Gives};
+
+use crate::bytes::{read_exact, read_length, skip};
+use crate::fault::FrameFault;
+use crate::head::Head;
+use crate::kind::MAX_BODY;
+use benc::Source;
+
+// What is kept of the longest body: all but its id.
+pub(crate) const MAX_KEPT: usize = MAX_BODY as usize - 1;
+
+/// Reads the next frame, or `None` at the end of the source.
+pub(crate) fn read_frame<R: Source>(
+    source: &mut R,
+    kept: &mut Vec<u8>,
+) -> Result<Option<Head>, FrameFault>
+    ensures bytes { Gives (R.seen source.old) (R.seen source.new)
+        (λ body head. Holds head kept.new.items body) result }
+    ensures bounded { length kept.old.items ≤ 263216 → length kept.new.items ≤ 263216 }
+    ensures capacity { vec_capacity kept.old ≤ vec_capacity kept.new }
+    ensures memory { IsErrOf result FrameFault.NoMemory → vec_capacity kept.old < 263216 }
+{
+    match read_length(source)? {
+        None => Ok(None),
+        Some(0) => Ok(Some(Head::KeepAlive)),
+        Some(len) => Ok(Some(read_body(source, kept, len)?)),
+    }
+}
+
+/// Reads the body of this length.
+fn read_body<R: Source>(source: &mut R, kept: &mut Vec<u8>, len: u32) -> Result<Head, FrameFault>
+    requires { 0 < len }
+    ensures bytes { MatchResult result
+        (λ head. (body : List ℕ) × GaveFaultless (R.seen source.old) (R.seen source.new) body
+        × (length body ≡ len) × Holds head kept.new.items body)
+        (StopsInBody (R.seen source.old) (R.seen source.new) len) }
+    ensures bounded { length kept.old.items ≤ 263216 → length kept.new.items ≤ 263216 }
+    ensures capacity { vec_capacity kept.old ≤ vec_capacity kept.new }
+    ensures memory { IsErrOf result FrameFault.NoMemory → vec_capacity kept.old < 263216 }
+{
+    let mut id = [0u8; 1];
+    read_exact(source, &mut id)?;
+    let head = Head::of(id[0], len);
+    match head {
+        Head::Kept { .. } => keep(source, kept, len - 1)?,
+        _ => skip(source, len - 1)?,
+    }
+    Ok(head)
+}
+
+/// Reads so many bytes to the front of what is kept. The first call makes the room.
+fn keep<R: Source>(source: &mut R, kept: &mut Vec<u8>, count: u32) -> Result<(), FrameFault>
+    requires some { 0 < count }
+    requires bounded { count ≤ 263216 }
+    ensures bytes { GivesAll (R.seen source.old) (R.seen source.new) (take count kept.new.items)
+        count result }
+    ensures room { OnOk result (count ≤ length kept.new.items) }
+    ensures bounded { length kept.old.items ≤ 263216 → length kept.new.items ≤ 263216 }
+    ensures capacity { vec_capacity kept.old ≤ vec_capacity kept.new }
+    ensures memory { IsErrOf result FrameFault.NoMemory → vec_capacity kept.old < 263216 }
+{
+    kept.resize(MAX_KEPT, 0)?;
+    fill_front(source, kept.as_mut_slice(), count as usize)
+}
+
+/// Reads so many bytes to the front of the room.
+fn fill_front<R: Source>(source: &mut R, room: &mut [u8], count: usize) -> Result<(), FrameFault>
+    requires { count ≤ length room.old }
+    ensures bytes { GivesAll (R.seen source.old) (R.seen source.new) (take count room.new) count
+        result }
+    ensures no_memory { ¬ IsErrOf result FrameFault.NoMemory }
+{
+    read_exact(source, &mut room[..count])
+}

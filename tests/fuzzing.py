@@ -1,0 +1,327 @@
+"""Hostile input drawn at random: torrents, records and folders, each run by the program under limits of time and memory
+and compared with the plain models."""
+import collections
+import copy
+import functools
+import hashlib
+import os
+import random
+import resource
+import shutil
+
+import folder_model
+import opening_model
+import record_model
+import torrents
+from poison import Peers
+from session_model import Session
+from support import TOP, run, write
+from trees import layer, root_of
+
+# The memory and the seconds that a case may take; `replay` and the others need a few MiB.
+MEMORY = 64 << 20
+SECONDS = 10
+
+SIZES = [0, 0, 1, 3, 100, 16383, 16384, 16385, 32768, 40000, 65536, 65636, 131073]
+NAMES = [b"a", b"b", b"a.txt", b"c d", b"\\", b"\n\x7f", "ü".encode(), "文件".encode(), b"...", b"e" * 40]
+PIECE_LENGTHS = [16384, 16384, 32768, 65536, 131072]
+
+# What stands in the place of a value: at limits, of another type, or where it means something else.
+NUMBERS = [0, -1, 1, 2, 3, 20, 32, 16383, 16384, 16385, 24576, 32768, 1 << 30, 1 << 31, (1 << 46) - 1, 1 << 46,
+           (1 << 46) + 1, (1 << 63) - 1, -(1 << 63), 1 << 63, -(1 << 63) - 1]
+TEXTS = [b"", b"x", b".", b"..", b"a/b", b"a\0", b"\xff", b"\xc0\xaf", b"\xed\xa0\x80", b"l", b"p", b"xp",
+         bytes(20), bytes(31), bytes(32), bytes(33), bytes(64)]
+KEYS = TEXTS + [b"info", b"meta version", b"file tree", b"name", b"piece length", b"piece layers", b"pieces",
+                b"length", b"files", b"path", b"attr", b"pieces root"]
+BYTES = b"0123456789ilde:-"
+DEPTHS = [1, 5, 127, 128, 129, 400]
+WORDS = [0, 1, 2, 3, 4, 7, 8, 9, 16, 48, 49, 50, 81, 512, 8192, 16384, 32768, 1 << 31, (1 << 32) - 2, (1 << 32) - 1]
+
+
+@functools.lru_cache(maxsize=None)
+def content_of(size, seed):
+    return random.Random(f"{size} {seed}").randbytes(size)
+
+
+@functools.lru_cache(maxsize=None)
+def entry_of(size, seed, piece_length):
+    """The content, root and piece layer of a file."""
+    content = content_of(size, seed)
+    root = root_of(content) if size else None
+    return content, root, layer(content, piece_length // 16384) if size > piece_length else None
+
+
+def drawn_torrent(draw):
+    """A torrent that opens, as a value, with its files as paths and contents in the order of the torrent."""
+    piece_length = draw.choice(PIECE_LENGTHS)
+    tree, layers, files = {}, {}, {}
+    for _ in range(draw.choice([1, 1, 2, 3, 5, 8])):
+        path = tuple(draw.choice(NAMES) for _ in range(draw.choice([1, 1, 2, 3])))
+        if any(path[:len(other)] == other or other[:len(path)] == path for other in files):
+            continue
+        content, root, hashes = entry_of(draw.choice(SIZES), draw.randrange(3), piece_length)
+        files[path] = content
+        place = functools.reduce(lambda folder, name: folder.setdefault(name, {}), path, tree)
+        place[b""] = {b"length": len(content)} | ({b"pieces root": root} if content else {})
+        if hashes is not None:
+            layers[root] = hashes
+    info = {b"file tree": tree, b"meta version": 2, b"name": draw.choice(NAMES), b"piece length": piece_length}
+    files = sorted(files.items())
+    if draw.random() < 0.5:
+        info |= version_1(draw, files, piece_length, info[b"name"])
+    top = {b"info": info, b"piece layers": layers}
+    if draw.random() < 0.2:
+        top[b"announce"] = b"http://tracker.invalid/"
+        place[b""][b"attr"] = b"x"
+    if not layers and draw.random() < 0.2:
+        del top[b"piece layers"]
+    return top, files
+
+
+def version_1(draw, files, piece_length, name):
+    """The keys of version 1 of a hybrid of these files."""
+    entries, stream = [], b""
+    for path, content in files:
+        if content and len(stream) % piece_length:
+            stream += bytes(-len(stream) % piece_length)
+            before = sum(entry[b"length"] for entry in entries)
+            entries.append({b"attr": b"p", b"length": len(stream) - before, b"path": [b".pad", b"1"]})
+        entries.append({b"length": len(content), b"path": list(path)})
+        stream += content
+    if draw.random() < 0.3 and stream and len(stream) % piece_length:
+        entries.append({b"attr": b"p", b"length": -len(stream) % piece_length, b"path": []})
+        stream += bytes(entries[-1][b"length"])
+    pieces = b"".join(hashlib.sha1(stream[at:at + piece_length]).digest() for at in range(0, len(stream), piece_length))
+    if len(entries) == 1 and files[0][0] == (name,):
+        return {b"length": len(stream), b"pieces": pieces}
+    return {b"files": entries, b"pieces": pieces}
+
+
+def places(value):
+    """Every place of a value below the top: the list or dictionary, and the index or key."""
+    for key in list(value.keys()) if isinstance(value, dict) else range(len(value)):
+        yield value, key
+        if isinstance(value[key], (dict, list)):
+            yield from places(value[key])
+
+
+def bent_value(draw, value, whole):
+    """Another value for this one."""
+    if draw.random() < 0.4:
+        if isinstance(value, int):
+            return value + draw.choice([-1, 1, value, -value])
+        if isinstance(value, bytes) and value:
+            return draw.choice([value[:-1], value + value[-1:], value[1:] + value[:1], turned(draw, value), value * 2])
+        if isinstance(value, list) and value:
+            return draw.choice([value[:-1], value + value[-1:], value[::-1], [value]])
+        if isinstance(value, dict) and value:
+            key = draw.choice(sorted(value))
+            return draw.choice([{**value, draw.choice(KEYS): value[key]}, {b"": value}, {draw.choice(KEYS): value},
+                                {draw.choice(KEYS) if old == key else old: inner for old, inner in value.items()}])
+    inside, key = draw.choice(list(places(whole)))
+    return draw.choice([draw.choice(NUMBERS), draw.choice(TEXTS), [], {}, [b"x"], {b"": {}},
+                        {b"x": {b"": {b"length": 0}}}, copy.deepcopy(inside[key])])
+
+
+def bend_file(draw, top):
+    """Changes what the torrent says of one of its files to what another refusal is for."""
+    files = [inside[key] for inside, key in places(top[b"info"][b"file tree"]) if key == b""]
+    one, other = draw.choice(files), draw.choice(files)
+    one.update(draw.choice([{b"attr": b"hl"}, {b"attr": 1}, {b"length": 1 << 46}, {b"length": 1 << 45}, {b"length": 0},
+                            {b"pieces root": other.get(b"pieces root", b"")}, {b"pieces root": bytes(32)}]))
+
+
+def bend(draw, top):
+    """Changes a torrent's value at one to three places."""
+    if draw.random() < 0.15:
+        bend_file(draw, top)
+        return
+    for _ in range(draw.choice([1, 1, 1, 2, 3])):
+        found = list(places(top))
+        if not found:
+            return
+        inside, key = draw.choice(found)
+        if draw.random() < 0.2:
+            del inside[key]
+        else:
+            inside[key] = bent_value(draw, inside[key], top)
+
+
+def turned(draw, content):
+    at = draw.randrange(len(content))
+    return content[:at] + bytes([content[at] ^ 1 << draw.randrange(8)]) + content[at + 1:]
+
+
+def bend_bytes(draw, content):
+    """Changes bytes at one to four places, mostly where the form of a value stands."""
+    for _ in range(draw.choice([1, 1, 2, 4])):
+        if not content:
+            return draw.choice([b"x", b"de", b"i0e"])
+        at = draw.randrange(len(content))
+        if draw.random() < 0.7:
+            at = next((place for place in range(at, len(content)) if content[place] in BYTES), at)
+        end = min(len(content), at + draw.choice([1, 1, 2, 5, 40, 1000]))
+        content = draw.choice([
+            lambda: turned(draw, content),
+            lambda: content[:at] + bytes([draw.choice(BYTES)]) + content[at + 1:],
+            lambda: content[:at] + bytes([draw.choice(BYTES)]) + content[at:],
+            lambda: content[:at] + content[end:],
+            lambda: content[:end] + content[at:],
+            lambda: content[:at],
+            lambda: content + draw.choice([b"e", b"x", b"0:", b"i1e"]),
+            lambda: content[:at] + draw.choice([b"l", b"d0:", b"d1:a"]) * draw.choice(DEPTHS) + content[at:],
+        ])()
+    return content
+
+
+def limited():
+    resource.setrlimit(resource.RLIMIT_AS, (MEMORY, MEMORY))
+
+
+def answer(line):
+    """What a printed line says, without its numbers and paths."""
+    words = line.split()
+    if words[0].isdigit():
+        words = words[1:]
+    count = {"refused": 4 if words[1:2] == ["2"] else 3, "v1": 2, "fault": 2}.get(words[0], 1)
+    return " ".join(words[:count])
+
+
+class Fuzz:
+    """Cases of one seed in a folder, and how often the program answered what."""
+
+    def __init__(self, place, seed):
+        self.place, self.seed = place, seed
+        self.cases = collections.Counter()
+        self.answers = {kind: collections.Counter() for kind in ("torrent", "record", "folder")}
+
+    def case(self, kind):
+        """Draws a case of this kind and compares it."""
+        self.cases[kind] += 1
+        self.name = f"{kind} {self.seed} {self.cases[kind]}"
+        getattr(self, kind)(random.Random(self.name))
+
+    def compare(self, kind, wanted, *arguments):
+        """The program answers so."""
+        done = run(*arguments, timeout=SECONDS, preexec_fn=limited)
+        seen = (done.returncode, done.stdout)
+        if seen != wanted or done.stderr:
+            kept = f"{TOP}/build/fuzz {self.name}"
+            shutil.rmtree(kept, ignore_errors=True)
+            shutil.copytree(self.place, kept, symlinks=True)
+            raise AssertionError(f"case {self.name}, kept in {kept}: {arguments[0]!r} is to answer {wanted}, "
+                                 f"and answered {seen}, {done.stderr}")
+        lines = seen[1].decode().split("\n")[:-1]
+        self.answers[kind].update(map(answer, lines[:1] if kind == "torrent" else lines))
+
+    def torrent(self, draw):
+        top, _ = drawn_torrent(draw)
+        if draw.random() < 0.8:
+            bend(draw, top)
+        content = torrents.bencoded(top)
+        if draw.random() < 0.3:
+            content = bend_bytes(draw, content)
+        write(f"{self.place}/torrent", content)
+        self.compare("torrent", opening_model.shown(content), "show", f"{self.place}/torrent")
+
+    def record(self, draw):
+        piece_length = draw.choice(PIECE_LENGTHS)
+        files = [(name, content_of(draw.choice([*SIZES, 9 * 16384]), draw.randrange(3))) for name in "abc"]
+        files[0] = ("a", files[0][1] or b"abc")
+        with_layers = draw.random() < 0.5
+        frames, _ = Peers(files, piece_length, with_layers, draw.random()).messages(draw.choice([1, 5, 20]))
+        record = bent_record(draw, frames)
+        write(f"{self.place}/torrent", torrents.torrent_of(files, piece_length))
+        write(f"{self.place}/record", record)
+        wanted = record_model.report(Session(files, piece_length, with_layers), record)
+        flags = [] if with_layers else ["--info-only"]
+        self.compare("record", wanted, "replay", f"{self.place}/torrent", f"{self.place}/record", *flags)
+
+    def folder(self, draw):
+        top, files = drawn_torrent(draw)
+        if draw.random() < 0.4:
+            bend(draw, top)
+        content = torrents.bencoded(top)
+        write(f"{self.place}/torrent", content)
+        try:
+            torrent = opening_model.Opened(content)
+        except opening_model.Refused as refused:
+            self.compare("folder", (1, f"{refused.text}\n".encode()), "check", f"{self.place}/torrent", self.place)
+            return
+        if torrent.is_hybrid and sum(length for _, length in torrent.version_1_list()) > 1 << 24:
+            return
+        shutil.rmtree(f"{self.place}/folder", ignore_errors=True)
+        below = os.fsencode(self.place) + b"/folder/content"
+        for path, bytes_of in files:
+            os.makedirs(b"/".join([below, *path[:-1]]), exist_ok=True)
+            write(b"/".join([below, *path]), bytes_of)
+        for path, bytes_of in draw.sample(files, draw.choice([0, 1, 1, 1, min(2, len(files)), len(files)])):
+            damage(draw, b"/".join([below, *path]), bytes_of)
+        self.compare("folder", folder_model.report(torrent, below), b"check", f"{self.place}/torrent", below)
+
+
+def damage(draw, path, content):
+    """Damages a file of this content, whatever was done to its folders before."""
+    def instead(make):
+        os.remove(path)
+        make()
+    try:
+        draw.choice([
+            lambda: write(path, turned(draw, content) if content else b"x"),
+            lambda: write(path, content[:-1] + b"x"),
+            lambda: write(path, bytes(len(content))),
+            lambda: write(path, content[:20000] + content[20000:][::-1]),
+            lambda: os.remove(path),
+            lambda: write(path, content + b"\0"),
+            lambda: write(path, content[:-1]),
+            lambda: instead(lambda: os.mkdir(path)),
+            lambda: instead(lambda: os.mkfifo(path)),
+            lambda: instead(lambda: os.symlink(b"nothing", path)),
+            lambda: instead(lambda: os.symlink(os.path.basename(path), path)),
+            lambda: instead(lambda: os.symlink(b"/dev/zero", path)),
+            lambda: os.rename(path, path + b"~") or os.symlink(os.path.basename(path) + b"~", path),
+            lambda: os.rename(os.path.dirname(path), os.path.dirname(path) + b"~"),
+        ])()
+    except OSError:
+        pass  # its folder has been moved away
+
+
+def bent_record(draw, frames):
+    """The frames, some of them changed, doubled, moved or dropped, joined; the whole seldom cut or with bytes changed."""
+    frames = list(frames)
+    for _ in range(draw.choice([0, 1, 1, 2, 5])):
+        at = draw.randrange(len(frames))
+        frame = frames[at]
+        if len(frame) > 100000:  # zeros, which another length would make ten thousands of keep-alives
+            continue
+        frames[at:at + 1] = draw.choice([
+            lambda: [],
+            lambda: [frame, frame],
+            lambda: [draw.choice(frames), frame],
+            lambda: [turned(draw, frame)],
+            lambda: [with_word(draw, frame, 0, len(frame) - 4 + draw.choice([-33, -32, -1, 1, 4, 32]))],
+            lambda: [with_word(draw, frame, 0, draw.choice(WORDS))],
+            lambda: [with_word(draw, frame, draw.choice([5, 9, 37, 41, 45, 49]), draw.choice(WORDS))],
+            lambda: [with_word(draw, frame, draw.choice([5, 9, 37, 41, 45, 49]), draw.choice(WORDS))],
+            lambda: [frame[:4] + bytes([draw.choice([7, 20, 21, 22, 23, 24])]) + frame[5:]],
+            lambda: [draw.choice(WORDS).to_bytes(4, "big") + draw.randbytes(draw.choice([0, 1, 9, 49, 81, 400]))],
+        ])()
+        frames = frames or [bytes(4)]
+    record = b"".join(frames)
+    if draw.random() < 0.2:
+        record = record[:draw.randrange(len(record) + 1)]
+    if draw.random() < 0.1 and record:
+        record = turned(draw, record)
+    return record
+
+
+def with_word(draw, frame, at, value):
+    """The frame with another number in four of its bytes."""
+    return frame[:at] + (value % (1 << 32)).to_bytes(4, "big") + frame[at + 4:] if at + 4 <= len(frame) else frame
+
+
+def summary(fuzz):
+    """How many cases were compared, and how often the program answered what."""
+    for kind, answers in fuzz.answers.items():
+        told = ", ".join(f"{answer} {count}" for answer, count in answers.most_common())
+        yield f"{fuzz.cases[kind]} cases of a {kind} compared: {told}"

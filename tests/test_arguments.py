@@ -1,0 +1,76 @@
+"""Arguments that are refused, help, and the version."""
+import os
+import re
+
+from support import TOP, expect, run
+
+COMMANDS = ["root", "show", "check", "replay"]
+
+REFUSED = [
+    [],
+    [""],
+    ["unknown"],
+    ["root"],
+    ["root", "a", "b"],
+    ["root", "--unknown", "a"],
+    ["root", "-x"],
+    ["--unknown", "root", "a"],
+    ["root", "--version"],
+    ["--version=1"],
+    ["ROOT", "a"],
+    ["show"],
+    ["show", "a", "b"],
+    ["check"],
+    ["check", "a"],
+    ["check", "a", "b", "c"],
+    ["replay", "a"],
+    ["replay", "a", "b", "c"],
+    ["replay", "a", "b", "--info-only", "--info-only"],
+    ["replay", "a", "b", "--info-only=yes"],
+    ["replay", "a", "b", "--seed", "c"],
+]
+
+
+def test_refused_arguments():
+    for arguments in REFUSED:
+        done = run(*arguments)
+        expect(done, 2, b"", None)
+        assert done.stderr.startswith(b"error: "), (arguments, done.stderr)
+
+
+def test_help():
+    for arguments in [["--help"], ["-h"], ["help"]]:
+        done = run(*arguments)
+        expect(done, 0, None, b"")
+        for command in COMMANDS:
+            assert f"\n  {command} ".encode() in done.stdout, (arguments, done.stdout)
+
+
+def test_help_of_each_command():
+    for command in COMMANDS:
+        for arguments in [[command, "--help"], [command, "-h"], ["help", command]]:
+            done = run(*arguments)
+            expect(done, 0, None, b"")
+            assert f"Usage: btcheck {command} ".encode() in done.stdout, (arguments, done.stdout)
+
+
+def test_help_if_standard_output_fails():
+    with open("/dev/full", "wb") as full:
+        expect(run("--help", stdout=full), 2, None, "fault: cannot write -\n")
+    expect(run("--help", stdout=None, preexec_fn=lambda: os.close(1)), 2, None, "fault: cannot write -\n")
+
+
+def test_long_help_has_examples_and_statuses():
+    done = run("--help")
+    for command in COMMANDS:
+        assert f"\n  btcheck {command} ".encode() in done.stdout, done.stdout
+    assert b"Exit status:" in done.stdout and b"Exit status:" in run("-h").stdout
+
+
+def test_the_version_is_that_of_the_documents():
+    with open(f"{TOP}/README.md", encoding="utf-8") as file:
+        kit = re.search(r"^    (rattle-kit-.*)$", file.read(), re.M)[1]
+    with open(f"{TOP}/CHANGELOG.md", encoding="utf-8") as file:
+        version = re.search(r"^## ([0-9.]+)", file.read(), re.M)[1]
+    for flag in ["--version", "-V"]:
+        expect(run(flag), 0, f"btcheck {version} (proved with {kit})\n", b"")

@@ -1,0 +1,82 @@
+"""What the documents say: the examples of README.md, and the words that DEFINITIONS.md has to explain."""
+import glob
+import os
+import re
+import shutil
+import subprocess
+
+import contracts
+import definitions
+from support import BTCHECK, TOP, folder
+
+
+def examples():
+    """Each command of README.md's examples, with the lines that it is shown to print."""
+    with open(f"{TOP}/README.md", encoding="utf-8") as file:
+        blocks = re.findall(r"(?:^    .*\n)+", file.read(), re.M)
+    for block in blocks:
+        parts = re.split(r"^    \$ (.*)\n", block, flags=re.M)
+        for command, printed in zip(parts[1::2], parts[2::2]):
+            yield command, re.sub(r"^    ", "", printed, flags=re.M)
+
+
+def test_the_examples_of_the_readme():
+    found = list(examples())
+    assert len(found) >= 7, found
+    with folder() as place:
+        shutil.copytree(f"{TOP}/examples", f"{place}/examples")
+        os.mkdir(f"{place}/bin")
+        os.symlink(BTCHECK, f"{place}/bin/btcheck")
+        path = {**os.environ, "PATH": f"{place}/bin:{os.environ['PATH']}"}
+        for command, printed in found:
+            done = subprocess.run(["sh", "-c", command], cwd=f"{place}/examples", env=path, stdout=subprocess.PIPE,
+                                  stderr=subprocess.STDOUT, text=True, timeout=60)
+            assert done.stdout == printed, (command, done.stdout)
+
+
+def test_every_cited_definition_is_explained():
+    assert not definitions.missing(), definitions.missing()
+
+
+def promised(text, count):
+    """The rows of a table of so many columns, the last of words: the names of the calls, and the labels of their
+    clauses."""
+    calls = []
+    for line in text.split("\n"):
+        cells = [set(contracts.WORD.findall(" ".join(re.findall(r"`([^`]*)`", cell)))) for cell in line.split("|")[1:-1]]
+        if len(cells) == count:
+            calls = cells[-3] or calls
+            yield calls, cells[-2]
+
+
+def test_the_promises_are_those_of_the_contracts():
+    """Each label that PROVED.md or README.md tells is one of those calls, and PROVED.md names each public function with a
+    contract."""
+    labels = {}
+    for _, _, name, told in contracts.promises():
+        labels.setdefault(name, set()).update(told)
+    proved, readme = contracts.text_of(TOP, "docs", "PROVED.md"), contracts.text_of(TOP, "README.md").split("What is proved")[1]
+    named = set(contracts.WORD.findall(" ".join(re.findall(r"`([^`]*)`", proved))))
+    wrong = [(calls, label) for calls, told in [*promised(proved, 3), *promised(readme, 4)] for label in told
+             if not any(label in labels.get(call, ()) for call in calls)]
+    assert not wrong, wrong
+    assert labels.keys() <= named, sorted(labels.keys() - named)
+
+
+def documents():
+    """The documents, each with its text."""
+    for name in ["README.md", "CONTRIBUTING.md", "CHANGELOG.md", *(f"docs/{name}" for name in os.listdir(f"{TOP}/docs"))]:
+        yield name, contracts.text_of(TOP, name)
+
+
+def test_files_that_are_named_exist():
+    for name, text in documents():
+        for path in re.findall(r"`((?:crates|docs|tests|bench|examples|man|completions|\.ci)/[\w./*-]*\w)`", text):
+            assert "CRATE" in path or "COMMAND" in path or glob.glob(f"{TOP}/{path}"), (name, path)
+        for path in re.findall(r"\]\(([\w./-]+)\)", text):
+            assert os.path.exists(os.path.join(TOP, os.path.dirname(name), path)), (name, path)
+
+
+def test_no_path_of_a_machine():
+    for name, text in documents():
+        assert not re.search(r"/(?:work|home|root|opt)/", text), name

@@ -1,0 +1,172 @@
+"""Memory that is refused: each growth of a run in turn, and from each on all that follow. Every run ends with the answer
+of ample memory, or says that memory was refused."""
+import os
+import re
+
+import messages
+import record_model
+from session_model import Session
+from shim import is_static, shimmed
+from support import write
+from torrents import ABC, bencoded, file, hybrid, info, layer, torrent, torrent_of
+from trees import Tree, blocks_of, root_of
+
+NO_MEMORY = (2, b"", b"fault: no memory\n")
+FIVE = bytes(range(256)) * 256 + bytes(100)
+TWO = bytes(at % 251 for at in range(16385))
+
+
+def outcome(done):
+    return done.returncode, done.stdout, done.stderr
+
+
+def refused_in_turn(shim, name, *arguments):
+    """The ample run, and then each run in which a growth was refused, with what it is called; prints how many."""
+    runs = shim.each("growth", *arguments)
+    ample = next(runs)
+    count = 0
+    yield "ample", ample
+    for count, done in enumerate(runs, 1):
+        yield f"{name}, growth {count}", done
+    print(f"growths of {name}: {count}")
+    assert count > 0
+    for at in range(1, count + 1, 4):
+        yield f"{name}, growths from {at}", shim.run("growth", at, *arguments, onward=True)[1]
+    assert outcome(shim.run("growth", 0, *arguments)[1]) == outcome(ample)
+
+
+def torrents_to_show():
+    """Torrents by name: some that open, and some that are refused."""
+    content = bytes(65636)
+    whole, layers = info({"five": file(content)}, 32768), {root_of(content): layer(content, 2)}
+    many = {f"folder {number}": {f"file {number}": file(b"%d" % number)} for number in range(12)}
+    return {
+        "one file": ABC,
+        "a hybrid": torrent(hybrid()),
+        "a piece layer": torrent(whole, layers),
+        "twelve folders": torrent(info(many)),
+        "a wrong layer": torrent(whole, {root: bytes(96) for root in layers}),
+        "no bencoding": ABC + b"x",
+        "version 1": bencoded({"info": {"length": 3, "name": "x"}}),
+        "pads of a wrong length": torrent(hybrid(files=[{"length": 1, "path": ["a"]}])),
+    }
+
+
+def test_root_and_show():
+    if is_static():
+        return
+    with shimmed() as (place, shim):
+        runs = [("root", ["root", write(f"{place}/content", bytes(200000))])]
+        for name, content in torrents_to_show().items():
+            runs.append((f"show of {name}", ["show", write(f"{place}/{name}", content)]))
+        for name, arguments in runs:
+            ample = None
+            for called, done in refused_in_turn(shim, name, *arguments):
+                ample = ample or outcome(done)
+                assert outcome(done) in (ample, NO_MEMORY), (called, outcome(done))
+
+
+def test_help_and_refused_arguments():
+    if is_static():
+        return
+    with shimmed() as (_, shim):
+        for arguments in (["--help"], ["help", "check"]):
+            ample = None
+            for called, done in refused_in_turn(shim, " ".join(arguments), *arguments):
+                ample = ample or outcome(done)
+                assert outcome(done) in (ample, NO_MEMORY), (called, outcome(done))
+        for name, arguments in [("an unknown command", ["nothing"]), ("root without a file", ["root"]),
+                                ("an argument that is not UTF-8", ["root", b"\xff"])]:
+            for called, done in refused_in_turn(shim, name, *arguments):
+                told = done.stderr.startswith((b"error: ", b"fault: name is not UTF-8\n")) or outcome(done) == NO_MEMORY
+                assert done.returncode == 2 and not done.stdout and told, (called, outcome(done))
+
+
+# What stands before the path in a line of a file.
+VERDICTS = re.compile("good |missing |wrong length |bad [0-9]+ ")
+
+
+def is_report_with_unreadable(seen, ample, most):
+    """The report is the ample one but for at most so many files that could not be opened."""
+    lines, whole = seen.decode().splitlines(), ample.decode().splitlines()
+    files = [line for line in whole if VERDICTS.match(line)]
+    changed = 0
+    for line, other in zip(lines, files):
+        if line != other:
+            if line != VERDICTS.sub("unreadable ", other, count=1):
+                return False
+            changed += 1
+    rest = whole[len(files):] if not changed else ["v1 not checked"] * (len(whole) - len(files) - 1) + ["no"]
+    return lines[len(files):] == rest and changed <= most
+
+
+def test_check():
+    """A file that no memory was there to open is unreadable; memory for the torrent or the report ends the check."""
+    if is_static():
+        return
+    with shimmed() as (place, shim):
+        os.mkdir(f"{place}/folder")
+        path = write(f"{place}/torrent", torrent(hybrid()))
+        for name, contents in [("a whole folder", {"a": TWO, "c": b"abc"}), ("a damaged folder", {"a": TWO[:-1] + b"x"})]:
+            for file_name in ("a", "c"):
+                if file_name in contents:
+                    write(f"{place}/folder/{file_name}", contents[file_name])
+                else:
+                    os.remove(f"{place}/folder/{file_name}")
+            ample = None
+            for called, done in refused_in_turn(shim, f"check of {name}", "check", path, f"{place}/folder"):
+                ample = ample or done.stdout
+                if outcome(done) != NO_MEMORY:
+                    most = 0 if called == "ample" else 1 if "from" not in called else 2
+                    assert is_report_with_unreadable(done.stdout, ample, most), (called, outcome(done))
+                    assert done.returncode == (0 if done.stdout.endswith(b"\nyes\n") else 1) and not done.stderr, called
+
+
+def fits(session, record, lines):
+    """Each line is what the model says of its frame in the state that the frames before it left, or says that memory was
+    refused for hashes that it would store, which leaves the state as it was."""
+    for number, body in enumerate(record_model.bodies(record)[0], 1):
+        if number > len(lines):
+            return True
+        if lines[number - 1] == f"{number} refused H7 NoMemory":
+            before = {root: dict(tree["known"]) for root, tree in session.trees.items()}
+            if not record_model.line(session, body).startswith("stored "):
+                return False
+            for root, known in before.items():
+                session.trees[root]["known"] = known
+        elif lines[number - 1] != f"{number} {record_model.line(session, body)}":
+            return False
+    return True
+
+
+def test_replay():
+    if is_static():
+        return
+    tree, other = Tree.of(FIVE), Tree.of(TWO)
+    blocks = blocks_of(FIVE)
+    files = [("a", TWO), ("five", FIVE)]
+    record = b"".join([
+        messages.hashes(tree.root, 0, 0, 4, 2, given=tree.hashes(0, 0, 4, 1)), messages.piece(1, 0, blocks[0]),
+        messages.hashes(other.root, 0, 0, 2, 0, given=other.hashes(0, 0, 2, 0)), messages.request(tree.root, 0, 0, 4, 2),
+        messages.hashes(tree.root, 0, 0, 8, 2, given=tree.hashes(0, 0, 8, 0)), messages.piece(3, 0, blocks[4]),
+        messages.hashes(tree.root, 0, 0, 8, 2, given=[bytes(32)] * 8), messages.KEEP_ALIVE,
+        messages.piece(0, 0, TWO[:16384]),
+        messages.reject(tree.root, 0, 0, 4, 2), messages.request(tree.root, 0, 0, 8, 2)])
+    with shimmed() as (place, shim):
+        path, record_path = write(f"{place}/torrent", torrent_of(files, 32768)), write(f"{place}/record", record)
+        for flags in ([], ["--info-only"]):
+            seen_h7 = 0
+            for called, done in refused_in_turn(shim, " ".join(["replay", *flags]), "replay", path, record_path, *flags):
+                if outcome(done) == NO_MEMORY:
+                    continue
+                *lines, last = done.stdout.decode().splitlines()
+                seen_h7 += any("H7" in line for line in lines)
+                assert fits(Session(files, 32768, not flags), record, lines), (called, outcome(done))
+                if called == "ample":
+                    assert last == "end" and len(lines) == 11 and "H7" not in done.stdout.decode(), done.stdout
+                    assert done.returncode == 1, done
+                    continue
+                assert last == "fault NoMemory" or (last == "end" and len(lines) == 11), (called, lines, last)
+                refused = last != "end" or any("H7" in line for line in lines)
+                assert done.returncode == (2 if refused else 1) and not done.stderr, (called, outcome(done))
+            assert seen_h7 > 0, flags

@@ -1,0 +1,263 @@
+"""The manual page and the completions name what the program's own help names, and what it prints; the examples of the
+manual run; all of it is installed."""
+import glob
+import os
+import re
+import shutil
+import subprocess
+
+import torrents
+from support import BTCHECK, TOP, folder, run, write
+from trees import root_of
+
+MANUAL = f"{TOP}/man/btcheck.1"
+COMPLETIONS = f"{TOP}/completions"
+
+# Refusals of a torrent that is being written, which no command prints yet.
+NOT_PRINTED = {"PathClash", "Write"}
+
+
+def text_of(path):
+    with open(path, encoding="utf-8") as file:
+        return file.read()
+
+
+def part(text, start, end):
+    """What stands between these two texts."""
+    return text.split(start, 1)[1].split(end, 1)[0]
+
+
+class Helped:
+    """What the program's help says of it or of one of its commands."""
+
+    def __init__(self, *command):
+        text = run(*command, "-h").stdout.decode()
+        self.commands = re.findall(r"^  (\w+) ", part(text + "\n\nCommands:\n\n", "\nCommands:\n", "\n\n"), re.M)
+        self.arguments = re.findall(r"^  [<\[](\w+)", part(text + "\n\nArguments:\n\n", "\nArguments:\n", "\n\n"), re.M)
+        told = part(text + "\n\nOptions:\n\n", "\nOptions:\n", "\n\n")
+        self.options = set(re.findall(r"(?<=[ ,])--?\w[\w-]*", "\n".join(line[:30] for line in told.split("\n"))))
+
+
+def commands():
+    """Each command's name, with what its help says; `help` has none."""
+    return {name: Helped(name) for name in Helped().commands if name != "help"}
+
+
+def test_help_is_read():
+    """The reading of the help above is not empty."""
+    assert {"root", "show", "check", "replay", "help"} <= set(Helped().commands)
+    assert Helped("check").arguments == ["TORRENT", "DIR"]
+    assert Helped("replay").options == {"-h", "--help", "--info-only"}
+
+
+def flags(text):
+    """The options that a line of the manual names by `.Fl`."""
+    named = [line.split(" Oc ")[0] for line in re.findall(r"Fl ([^\n]*)", text)]
+    return {f"-{word}" for line in named for word in re.findall(r"-?\w[\w-]*", line)}
+
+
+def test_manual_names_every_command_and_option():
+    text = text_of(MANUAL)
+    synopsis = part(text, ".Sh SYNOPSIS", ".Sh DESCRIPTION")
+    entries = part(text, "The commands are:", "The options are:")
+    at_top = Helped()
+    named = dict(re.findall(r"^\.It Cm (\w+)(.*)$", entries, re.M))
+    assert set(named) == set(at_top.commands), (named, at_top.commands)
+    assert set(re.findall(r"^\.Cm (\w+)", synopsis, re.M)) == set(at_top.commands)
+    for command, told in commands().items():
+        assert re.findall(r"(?<=Ar )\w+|(?<= )[A-Z]{2,}", named[command]) == told.arguments, (command, named[command])
+        below = part(f"{entries}\n.It Cm ", f".It Cm {command}", "\n.It Cm ")
+        listed = flags("\n".join(re.findall(r"^\.It (Fl .*)$", below, re.M)))
+        assert listed == told.options - {"-h", "--help"}, (command, listed)
+    options = flags("\n".join(re.findall(r"^\.It (Fl .*)$", part(text, "The options are:", ".Ss"), re.M)))
+    assert options - {"--"} == at_top.options, options
+
+
+def names_of_refusals():
+    """The family, the name and the number, where it has one, of each refusal in the definitions of the crates."""
+    numbers, names = {}, {}
+    for path in glob.glob(f"{TOP}/crates/*/specs/**/*.antt", recursive=True):
+        for family, case, number in re.findall(r"^(\w+)_number \(?(?:\w+\.)?(\w+)[^=]*= (\d+)$", text_of(path), re.M):
+            numbers[family, case] = number
+        for family, case, name in re.findall(r'^(\w+)_name \(?(?:\w+\.)?(\w+)[^=]*= codes "(\w+)"$', text_of(path), re.M):
+            names[family, case] = name
+    return [(family, name, numbers.get((family, case))) for (family, case), name in names.items()]
+
+
+def test_manual_names_every_refusal():
+    text = text_of(MANUAL)
+    refusals = [refusal for refusal in names_of_refusals() if refusal[1] not in NOT_PRINTED]
+    assert len(refusals) >= 40, refusals
+    for family, name, number in refusals:
+        where = f"refused {number} {name}" if family == "refusal" and name != "NoMemory" else name
+        assert re.search(rf"\b{where}\b", text), where
+
+
+def test_manual_names_every_fault():
+    """Each line of standard error, as the definition of the line of a fault has it."""
+    text = text_of(MANUAL)
+    [definition] = glob.glob(f"{TOP}/crates/*/specs/Fault.antt")
+    reasons = re.findall(r'^fault_reason .* = codes "([^"]*)"', text_of(definition), re.M)
+    assert len(reasons) >= 4, reasons
+    for reason in reasons:
+        assert re.search(rf"^\.It Li fault: {reason}(PATH)?$", text, re.M), reason
+
+
+def test_manual_is_well_formed():
+    for words in (["mandoc", "-Tlint", "-W", "warning"], ["groff", "-ww", "-mandoc", "-Tutf8", "-z"]):
+        done = subprocess.run([*words, MANUAL], stdout=subprocess.PIPE, stderr=subprocess.STDOUT, text=True)
+        assert (done.returncode, done.stdout) == (0, ""), (words, done.stdout)
+    done = subprocess.run(["man", "-l", "--warnings", MANUAL], stdout=subprocess.PIPE, stderr=subprocess.PIPE, text=True,
+                          env={**os.environ, "MANWIDTH": "80", "LC_ALL": "C.UTF-8"})
+    assert done.returncode == 0 and not done.stderr and "refused 3 Missing meta version" in done.stdout, done.stderr
+
+
+# What each example of the manual prints, run in turn where `example_folder` was made.
+EXAMPLES = [
+    "bad 1 b\nmissing c d\nno\n",
+    "not complete:\nbad 1 b\nmissing c d\nno\n",
+    "other.torrent:40000 {root} film\nsome.torrent:40000 {root} a\n",
+    "40000 {root}\n",
+    "./old.torrent:refused 3 Missing meta version\n./web.torrent:refused 2 NotBencode BadStart 0\n",
+    "torrents/bad.torrent\n",
+]
+
+
+def example_folder(place):
+    """Torrents and contents, as the manual's examples name them; the content of `movie.mkv`."""
+    movie, other = bytes(40000), b"other"
+    for name in ["bin", "some", "Downloads/some", "torrents", "content/good", "content/bad"]:
+        os.makedirs(f"{place}/{name}")
+    os.symlink(BTCHECK, f"{place}/bin/btcheck")
+    for below in ["some", "Downloads/some"]:
+        write(f"{place}/{below}/a", movie)
+        write(f"{place}/{below}/b", b"0ther")
+    layers = {root_of(movie): torrents.layer(movie, 2)}
+    tree = {"a": torrents.file(movie), "b": torrents.file(other), "c d": torrents.file(b"")}
+    write(f"{place}/some.torrent", torrents.torrent(torrents.info(tree, 65536)))
+    write(f"{place}/other.torrent", torrents.torrent(torrents.info({"film": torrents.file(movie)}, 32768), layers))
+    version_1 = {"length": 1, "name": "x", "piece length": 16384, "pieces": "x" * 20}
+    write(f"{place}/old.torrent", torrents.bencoded({"info": version_1}))
+    write(f"{place}/web.torrent", b"<!DOCTYPE html>")
+    write(f"{place}/movie.mkv", movie)
+    for name in ["good", "bad"]:
+        write(f"{place}/torrents/{name}.torrent", torrents.ABC)
+        write(f"{place}/content/{name}/abc.txt", b"abc" if name == "good" else b"abd")
+    subprocess.run("gzip -c movie.mkv > dump.gz", shell=True, cwd=place, check=True)
+    return movie
+
+
+def examples():
+    """The commands of the manual's examples, as a reader would type them."""
+    text = part(text_of(MANUAL), ".Sh EXAMPLES", ".Sh DIAGNOSTICS")
+    for one, block in re.findall(r"^\.Dl ([^\n]*)$|^\.Bd -literal -offset indent\n(.*?)^\.Ed$", text, re.M | re.S):
+        yield re.sub(r"^[$>] ", "", one or block, flags=re.M).replace("\\e", "\\")
+
+
+def test_examples_of_the_manual():
+    with folder() as place:
+        root = root_of(example_folder(place)).hex()
+        found = list(examples())
+        assert len(found) == len(EXAMPLES), found
+        for typed, wanted in zip(found, EXAMPLES):
+            done = subprocess.run(["bash", "-c", typed], cwd=place, capture_output=True, text=True,
+                                  env={**os.environ, "HOME": place, "PATH": f"{place}/bin:{os.environ['PATH']}"})
+            seen = "".join(sorted(done.stdout.splitlines(True))) if "find" in typed else done.stdout
+            assert (seen, done.stderr) == (wanted.format(root=root), ""), (typed, done)
+
+
+# Completes the last of its arguments, and prints what it can be.
+COMPLETED_BY_BASH = """. "$0"; COMP_WORDS=("$@"); COMP_CWORD=$(($# - 1)); _btcheck; printf '%s\\n' "${COMPREPLY[@]}" """
+
+
+def completed(place, *words):
+    """What bash completes the last of these words to."""
+    done = subprocess.run(["bash", "-c", COMPLETED_BY_BASH, f"{COMPLETIONS}/btcheck.bash", *words], cwd=place,
+                          stdout=subprocess.PIPE, stderr=subprocess.PIPE, text=True)
+    assert not done.stderr, done.stderr
+    return set(done.stdout.splitlines()) - {""}
+
+
+# What an argument of this name can be, of the files that the test makes.
+FILES_FOR = {
+    "FILE": {"t.torrent", "two words", "folder"},
+    "TORRENT": {"t.torrent", "folder"},
+    "DIR": {"folder"},
+    "RECORD": {"t.torrent", "two words", "folder"},
+}
+
+
+def test_completion_by_bash():
+    at_top = Helped()
+    with folder() as place:
+        os.mkdir(f"{place}/folder")
+        write(f"{place}/t.torrent", b"")
+        write(f"{place}/two words", b"")
+        assert completed(place, "btcheck", "") == set(at_top.commands)
+        assert completed(place, "btcheck", "-") == at_top.options
+        assert completed(place, "btcheck", "--", "r") == {"root", "replay"}
+        assert completed(place, "btcheck", "help", "") == set(at_top.commands)
+        for command, told in commands().items():
+            given = ["btcheck", command]
+            assert completed(place, *given, "-") == told.options, command
+            for name in told.arguments:
+                assert completed(place, *given, "") == FILES_FOR[name], (command, name)
+                assert completed(place, *given, "f") == {"folder"} & FILES_FOR[name]
+                given += ["t.torrent"]
+            assert completed(place, *given, "") == set(), command
+            assert completed(place, "btcheck", "-h", command, "") == FILES_FOR[told.arguments[0]]
+
+
+def test_completion_by_zsh_and_fish():
+    """The files name each command and each option; fish completes by them where it is installed."""
+    fish, zsh = text_of(f"{COMPLETIONS}/btcheck.fish"), text_of(f"{COMPLETIONS}/_btcheck")
+    at_top = Helped()
+    for command, told in commands().items():
+        assert f" -a {command} " in fish and f"\n        '{command}:" in zsh, command
+        for option in told.options | at_top.options:
+            assert option in zsh, option
+            assert re.search(rf" -{'l' if option.startswith('--') else 's'} {option.lstrip('-')} ", fish), option
+    assert set(part(fish, "set -l commands ", "\n").split()) == set(at_top.commands)
+    if shutil.which("zsh"):
+        subprocess.run(["zsh", "-n", f"{COMPLETIONS}/_btcheck"], check=True)
+    if shutil.which("fish"):
+        def by_fish(typed):
+            told = subprocess.run(["fish", "-N", "-c", f"source {COMPLETIONS}/btcheck.fish; complete -C '{typed}'"],
+                                  stdout=subprocess.PIPE, text=True, check=True).stdout
+            return {line.split("\t")[0] for line in told.splitlines()}
+        assert by_fish("btcheck ") == set(at_top.commands)
+        assert by_fish("btcheck -") == at_top.options
+        assert by_fish("btcheck help ") == set(at_top.commands)
+        for command, told in commands().items():
+            assert by_fish(f"btcheck {command} -") == told.options, command
+
+
+# What `make install` puts below its PREFIX, and what each is.
+INSTALLED = {
+    "bin/btcheck": "build/btcheck",
+    "share/man/man1/btcheck.1": "man/btcheck.1",
+    "share/bash-completion/completions/btcheck": "completions/btcheck.bash",
+    "share/zsh/site-functions/_btcheck": "completions/_btcheck",
+    "share/fish/vendor_completions.d/btcheck.fish": "completions/btcheck.fish",
+}
+
+
+def files_below(place):
+    return {os.path.relpath(f"{folder}/{name}", place) for folder, _, names in os.walk(place) for name in names}
+
+
+def test_install_and_uninstall():
+    with folder() as place:
+        def make(target):
+            arguments = [f"DESTDIR={place}/there", "PREFIX=/usr/a b"]
+            subprocess.run(["make", "-s", "-o", "build/btcheck", target, *arguments], cwd=TOP, check=True)
+        make("install")
+        below = f"{place}/there/usr/a b"
+        assert files_below(below) == set(INSTALLED), files_below(below)
+        for there, here in INSTALLED.items():
+            with open(f"{below}/{there}", "rb") as one, open(f"{TOP}/{here}", "rb") as other:
+                assert one.read() == other.read(), there
+            assert os.access(f"{below}/{there}", os.X_OK) == there.startswith("bin/"), there
+        write(f"{below}/share/man/man1/other.1", b"")
+        make("uninstall")
+        assert files_below(below) == {"share/man/man1/other.1"}, files_below(below)

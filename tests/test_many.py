@@ -1,0 +1,267 @@
+"""The recipes of docs/MANY.md, run on a real archive by xargs and GNU parallel."""
+import configparser
+import fcntl
+import os
+import re
+import signal
+import subprocess
+import time
+
+import torrents
+from support import BTCHECK, TOP, folder, write
+
+# How many torrents of the archive have which state.
+GOOD = 17
+NOT_GOOD = {
+    "changed": ["bad 0 changed", "no"],
+    "lost": ["missing lost", "no"],
+    "short": ["wrong length short", "no"],
+    "version 1": ["refused 3 Missing meta version"],
+}
+FAULTS = {"gone": "fault: cannot read torrents/gone.torrent"}
+
+# In the place of ssh: runs the command here. The machine `beta` never answers.
+SSH = """#!/bin/sh
+host=$1
+shift
+[ "$1" = -- ] && shift
+[ "$host" = beta ] && exit 255
+exec sh -c "$*"
+"""
+
+# In the place of the program: takes a while, and notes each torrent that it checks.
+SLOW = """#!/bin/sh
+echo "$2" >> checked
+sleep 0.05
+exec {program} "$@"
+"""
+
+
+def blocks():
+    with open(f"{TOP}/docs/MANY.md", encoding="utf-8") as page:
+        return re.findall(r"^```(\w*)\n(.*?)^```$", page.read(), re.M | re.S)
+
+
+def block(text, kind="sh"):
+    """The one block of code of the page that has this text."""
+    found = [code for of, code in blocks() if of == kind and text in code]
+    assert len(found) == 1, (text, len(found))
+    return found[0]
+
+
+class Archive:
+    """An archive as the page wants it, in a temporary folder, with its scripts and a path that finds the program."""
+
+    def __init__(self, place, slow=False):
+        self.place = place
+        for name in ["bin", "user/.parallel", "torrents", "content"]:
+            os.makedirs(f"{place}/{name}")
+        write(f"{place}/user/.parallel/will-cite", b"")
+        self.script("bin/btcheck", SLOW.format(program=BTCHECK) if slow else f'#!/bin/sh\nexec {BTCHECK} "$@"\n')
+        self.script("bin/ssh", SSH)
+        for name in ["check-one", "check-all"]:
+            self.script(name, block(f"\n# {name}"))
+        for name in [f"good {number}" for number in range(GOOD)] + list(NOT_GOOD):
+            self.torrent(name)
+        os.symlink("nothing", f"{place}/torrents/gone.torrent")
+        self.environment = {**os.environ, "HOME": f"{place}/user", "PATH": f"{place}/bin:{os.environ['PATH']}",
+                            "PARALLEL_SSH": f"{place}/bin/ssh", "LC_ALL": "C"}
+
+    def script(self, name, text):
+        write(f"{self.place}/{name}", text.encode())
+        os.chmod(f"{self.place}/{name}", 0o755)
+
+    def torrent(self, name):
+        value = torrents.info({name: torrents.file(b"abc")})
+        old = {"info": {"length": 3, "name": name, "piece length": 16384, "pieces": bytes(20)}}
+        whole = torrents.bencoded(old) if name == "version 1" else torrents.torrent(value)
+        write(f"{self.place}/torrents/{name}.torrent", whole)
+        os.mkdir(f"{self.place}/content/{name}")
+        if name != "lost":
+            write(f"{self.place}/content/{name}/{name}", {"changed": b"abd", "short": b"ab"}.get(name, b"abc"))
+
+    def start(self, code):
+        return subprocess.Popen(["sh", "-c", code], cwd=self.place, env=self.environment, stdout=subprocess.PIPE,
+                                stderr=subprocess.PIPE, text=True, start_new_session=True)
+
+    def run(self, code):
+        """The status, and the lines of standard output in order."""
+        program = self.start(code)
+        out, _ = program.communicate(timeout=60)
+        return program.returncode, sorted(out.splitlines())
+
+    def reports(self):
+        """What was kept of each torrent."""
+        kept = {}
+        for name in os.listdir(f"{self.place}/reports"):
+            if name.startswith("."):
+                continue
+            with open(f"{self.place}/reports/{name}", encoding="utf-8") as report:
+                kept[name] = report.read().splitlines()
+        return kept
+
+    def forget(self):
+        subprocess.run(["rm", "-rf", "reports", "log", "checked", "list"], cwd=self.place, check=True)
+
+    def checked(self):
+        """The torrents that the slow program was run on, in order."""
+        with open(f"{self.place}/checked", encoding="utf-8") as file:
+            return file.read().splitlines()
+
+    def logged(self):
+        """The log's lines: number, machine and status of each torrent."""
+        with open(f"{self.place}/log", encoding="utf-8") as log:
+            return [(int(line.split("\t")[0]), line.split("\t")[1], line.split("\t")[6]) for line in log.readlines()[1:]]
+
+
+def whole_reports():
+    """What is to be kept of each torrent of the archive."""
+    good = {f"good {number}.report": [f"good good {number}", "yes"] for number in range(GOOD)}
+    return good | {f"{name}.report": lines for name, lines in NOT_GOOD.items()} | {
+        f"{name}.error": [line] for name, line in FAULTS.items()}
+
+
+# What the recipes print that find what is not good.
+LISTED = sorted(f"reports/{name}.report" for name in NOT_GOOD)
+LINES = sorted(f"reports/{name}.report:{line}" for name, lines in NOT_GOOD.items() for line in lines)
+ERRORS = [f"reports/{name}.error:{line}" for name, line in FAULTS.items()]
+EVERY = GOOD + len(NOT_GOOD) + len(FAULTS)
+
+BY_XARGS, BY_PARALLEL = block("xargs -0"), block("| sort > list\nparallel")
+LAST_LINE = BY_PARALLEL.splitlines()[-1]
+
+
+def test_one_after_the_other_and_what_is_not_good():
+    with folder() as place:
+        archive = Archive(place)
+        assert archive.run(BY_XARGS)[0] == 123
+        assert archive.reports() == whole_reports()
+        assert archive.run(block("grep -rLx")) == (0, LISTED)
+        for recipe, wanted in [("grep -rvxE 'good .*|v1 good|yes' --include='[!.]*.report' reports\n", LINES),
+                               ("grep -r . --include='[!.]*.error' reports\n", ERRORS)]:
+            assert ("sh", recipe) in blocks(), recipe
+            assert archive.run(recipe) == (0, wanted)
+
+
+def test_by_parallel_and_again():
+    with folder() as place:
+        archive = Archive(place, slow=True)
+        assert archive.run(BY_PARALLEL)[0] == len(FAULTS)
+        assert archive.reports() == whole_reports()
+        assert sorted(number for number, _, _ in archive.logged()) == list(range(1, EVERY + 1))
+        first = archive.checked()
+        assert len(first) == EVERY
+        # again: only what had a fault
+        assert archive.run(LAST_LINE)[0] == len(FAULTS)
+        assert archive.checked() == first + [f"torrents/{name}.torrent" for name in FAULTS]
+        assert archive.reports() == whole_reports()
+
+
+def stopped(archive, code, how):
+    """Starts a recipe that becomes its last command, stops it when some torrents are done, and tells how many the log
+    names then. A request to end goes to that command alone, as from `kill`, all else to what it started too."""
+    program, end = archive.start(code), time.monotonic() + 60
+    while not (os.path.exists(f"{archive.place}/log") and len(archive.logged()) >= 4):
+        assert time.monotonic() < end, "nothing is logged"
+        time.sleep(0.01)
+    (os.kill if how == signal.SIGTERM else os.killpg)(program.pid, how)
+    program.communicate(timeout=60)
+    return archive.logged()
+
+
+def test_a_run_that_is_stopped_goes_on():
+    """Whatever stops it: no torrent is lost, none that the log names is checked again, and each has one whole report."""
+    for how in [signal.SIGKILL, signal.SIGINT, signal.SIGTERM]:
+        with folder() as place:
+            archive = Archive(place, slow=True)
+            done = stopped(archive, BY_PARALLEL.replace("parallel ", "exec parallel --jobs 2 "), how)
+            assert 4 <= len(done) < EVERY, (how, done)
+            assert archive.reports().items() <= whole_reports().items(), how
+            before = len(archive.checked())
+            missing = archive.run(block("while read"))[1]
+            assert archive.run(LAST_LINE)[0] == len(FAULTS)
+            again = archive.checked()[before:]
+            with open(f"{place}/list", encoding="utf-8") as file:
+                names = file.read().splitlines()
+            answered = {names[number - 1] for number, _, status in done if status == "0"}
+            assert not answered & set(again), (how, answered & set(again))
+            assert set(missing) <= set(again), how
+            assert archive.reports() == whole_reports(), how
+            assert archive.run(block("while read"))[1] == []
+            last = {number: status for number, _, status in archive.logged()}
+            assert len(last) == EVERY and sum(status != "0" for status in last.values()) == len(FAULTS), how
+
+
+def test_several_machines():
+    """One of three machines does not answer: the others do its work."""
+    with folder() as place:
+        archive = Archive(place)
+        hosts = block("4/:", "")
+        write(f"{place}/hosts", hosts.replace("archive@beta", "beta").replace("4/:", "2/:").encode())
+        several = block("--workdir").replace("/srv/archive", place)
+        status, _ = archive.run(BY_PARALLEL.split("parallel ")[0] + several)
+        assert status == len(FAULTS), status
+        assert archive.reports() == whole_reports()
+        machines = [machine for _, machine, status in archive.logged() if status == "0"]
+        assert set(machines) == {":", "alpha"} and len(machines) == EVERY - len(FAULTS), machines
+        # each machine its own round
+        archive.forget()
+        write(f"{place}/hosts", b"1/:\n")
+        status, lines = archive.run(block("--nonall").replace("/srv/archive", place))
+        assert status == 1 and lines == sorted(f":\t{line}" for line in LINES + ERRORS), (status, lines)
+
+
+def test_every_week():
+    with folder() as place:
+        archive = Archive(place, slow=True)
+        for _ in range(2):
+            assert archive.run("./check-all") == (1, sorted(LINES + ERRORS))
+            assert archive.reports() == whole_reports()
+        assert len(archive.checked()) == 2 * EVERY
+        # stopped, and gone on with
+        os.remove(f"{place}/checked")
+        stopped(archive, "exec ./check-all", signal.SIGKILL)
+        assert archive.run("./check-all") == (1, sorted(LINES + ERRORS))
+        assert len(set(archive.checked())) == EVERY and len(archive.checked()) < 2 * EVERY
+        # all good
+        for name in [*NOT_GOOD, *FAULTS]:
+            os.remove(f"{place}/torrents/{name}.torrent")
+        assert archive.run("./check-all") == (0, [])
+
+
+def test_content_in_one_folder():
+    """The lines that find a torrent's content by its own name, which may lie."""
+    with folder() as place:
+        archive = Archive(place)
+        text = block("\n# check-one")
+        line = next(line for line in text.splitlines(True) if line.startswith("btcheck check"))
+        archive.script("check-one", text.replace(line, block("folder=$(")))
+        os.mkdir(f"{place}/reports")
+        for name in ["..", "/", "", "x", "single"]:
+            tree = {"file": torrents.file(b"abc")}
+            write(f"{place}/torrents/t.torrent", torrents.torrent(torrents.info(tree, name=name)))
+            os.makedirs(f"{place}/content/x", exist_ok=True)
+            write(f"{place}/content/x/file", b"abc")
+            write(f"{place}/content/file", b"abc" if name == "single" else b"other")
+            write(f"{place}/file", b"abc")
+            assert archive.run("./check-one torrents/t.torrent")[0] == 0
+            good = name in ["x", "single"]
+            assert archive.reports()["t.report"] == (["good file", "yes"] if good else ["wrong length file", "no"]), name
+
+
+def test_timers():
+    service, timer = [configparser.ConfigParser(interpolation=None) for _ in range(2)]
+    service.optionxform = timer.optionxform = str
+    service.read_string(block("[Service]", "ini"))
+    timer.read_string(block("[Timer]", "ini"))
+    assert service["Service"]["ExecStart"] == "/srv/archive/check-all" and service["Service"]["Type"] == "oneshot"
+    assert timer["Timer"]["OnCalendar"] == "Sun 03:00" and timer["Install"]["WantedBy"] == "timers.target"
+    table = block("check-all", "cron").splitlines()
+    assert re.fullmatch(r"0 3 \* \* 0  flock --nonblock /srv/archive/lock /srv/archive/check-all", table[1])
+    with folder() as place:
+        archive = Archive(place)
+        line = table[1].split(None, 5)[5].replace("/srv/archive", place)
+        with open(f"{place}/lock", "w", encoding="utf-8") as lock:
+            fcntl.flock(lock, fcntl.LOCK_EX)
+            assert archive.run(line) == (1, []) and not os.path.exists(f"{place}/reports")
+        assert archive.run(line) == (1, sorted(LINES + ERRORS))
