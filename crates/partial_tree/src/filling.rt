@@ -23,8 +23,10 @@ pub fn fill_layer<N: NodeMap>(
     requires shape { N.length nodes.old ≡ shape }
     requires height { height ≡ tree_height shape }
     requires low { height ≤ 32 }
+    requires trimmed { N.held nodes.old ≡ N.needed (N.known nodes.old) }
     ensures length { N.length nodes.new ≡ N.length nodes.old }
     ensures marked { N.marked nodes.new ≡ N.marked nodes.old }
+    ensures trimmed { N.held nodes.new ≡ N.needed (N.known nodes.new) }
     ensures filled { IfOk result (λ c. TakesLayer shape layer hashes.now (N.known nodes.old) c
         (N.known nodes.new)) }
     ensures refused { IfErr result (λ r. RefusesLayer shape layer hashes.now (N.known nodes.old) r

@@ -5,7 +5,7 @@ ghost use Rattle.std.specs.Prelude.{◌≡◌, ◌⊎◌, ℕ, ◌≤◌, OnOk, 
 ghost use Rattle.node_maps.specs.Places.{tree_height, IsPlace, IsKnown};
 ghost use Rattle.node_maps.specs.Known.{look};
 ghost use Rattle.partial_tree.specs.Joins.{Joins};
-ghost use Rattle.partial_tree.specs.Evidence.{claimed_by, LeadsTo, IsInside, StoreFault};
+ghost use Rattle.partial_tree.specs.Evidence.{claimed_by, LeadsTo, IsInside, AreClaims, AllHandled, StoreFault};
 
 use crate::comparing::trace;
 use crate::evidence::Evidence;
@@ -22,7 +22,7 @@ const MOST_LISTED: usize = 2 * 8192 + 2 * 32;
 
 /// Stores what the evidence claims, which leads to the place, and tells how many places are newly
 /// known. What is new is listed while it is compared, up to what the longest message claims; more
-/// is computed once more to be written.
+/// is computed once more to be written. Room that was made and not used is given back.
 pub fn store<N: NodeMap>(
     alloc: Global,
     map: &mut N,
@@ -34,8 +34,10 @@ pub fn store<N: NodeMap>(
     requires inside { IsInside evidence.now }
     requires place { IsPlace (tree_height (N.length map.old)) layer index }
     requires leads { LeadsTo evidence.now layer index }
+    requires trimmed { N.held map.old ≡ N.needed (N.known map.old) }
     ensures length { N.length map.new ≡ N.length map.old }
     ensures marked { N.marked map.new ≡ N.marked map.old }
+    ensures trimmed { N.held map.new ≡ N.needed (N.known map.new) }
     ensures stored { IfOk result (λ c. Joins (claimed_by evidence.now) (N.known map.old)
         (N.known map.new) c) }
     ensures refused { IfErr result (λ r. StoreFault (look (N.known map.old))
@@ -47,12 +49,39 @@ pub fn store<N: NodeMap>(
         return Err(HashRefusal::Mismatch);
     }
     if reserve_claimed(map, evidence, layer, index).is_err() {
+        map.trim();
         return Err(HashRefusal::NoMemory);
     }
+    let gained = put_found(map, evidence, &found, layer, index);
+    map.trim();
+    Ok(gained)
+}
+
+/// Writes what was found new, or all that the evidence claims if the list is incomplete, and tells
+/// how many places are newly known.
+fn put_found<N: NodeMap>(
+    map: &mut N,
+    evidence: &Evidence,
+    found: &Found,
+    layer: u32,
+    index: u64,
+) -> u64
+    requires low { tree_height (N.length map.old) ≤ 32 }
+    requires inside { IsInside evidence.now }
+    requires place { IsPlace (tree_height (N.length map.old)) layer index }
+    requires leads { LeadsTo evidence.now layer index }
+    requires room { (l i : ℕ) → IsKnown (claimed_by evidence.now) l i → N.has_room map.old l i }
+    requires sound { AreClaims (claimed_by evidence.now) found.now.claims.items }
+    requires handled { AllHandled (claimed_by evidence.now) (look (N.known map.old)) found.now layer
+        index }
+    ensures length { N.length map.new ≡ N.length map.old }
+    ensures marked { N.marked map.new ≡ N.marked map.old }
+    ensures stored { Joins (claimed_by evidence.now) (N.known map.old) (N.known map.new) result }
+{
     if found.incomplete {
-        return Ok(write_claimed(map, evidence, layer, index).1);
+        return write_claimed(map, evidence, layer, index).1;
     }
-    Ok(put_new(map, &found.claims))
+    put_new(map, &found.claims)
 }
 
 /// Room for all that a message claims; none for a layer that claims more.

@@ -62,7 +62,8 @@ impl<N: NodeMap> Model for Tree<N> {
     ghost view = { λ t. kept t.root t.shape (N.known t.nodes) (N.marked t.nodes) };
 
     ghost invariant = { λ t. (N.length t.nodes ≡ t.shape)
-        × IsCounted t.height t.known t.marked t.shape (N.known t.nodes) (N.marked t.nodes) };
+        × IsCounted t.height t.known t.marked t.shape (N.known t.nodes) (N.marked t.nodes)
+        × (N.held t.nodes ≡ N.needed (N.known t.nodes)) };
 }
 
 impl<N: NodeMap> Tree<N> {
@@ -77,6 +78,7 @@ impl<N: NodeMap> Tree<N> {
         let mut nodes = N::empty(alloc, shape);
         nodes.reserve(height, 0, 1)?;
         nodes.put(height, 0, root);
+        nodes.trim();
         Ok(Tree {
             alloc,
             root,
@@ -93,6 +95,14 @@ impl<N: NodeMap> Tree<N> {
         ensures { result ≡ finite.len self.now.state.known }
     {
         self.known
+    }
+
+    /// How many pages are held: as many as what is known takes, and no more than places are known.
+    pub fn pages(&self) -> u64
+        ensures needed { result ≡ N.needed self.now.state.known }
+        ensures few { result ≤ finite.len self.now.state.known }
+    {
+        self.nodes.pages()
     }
 
     /// How many leaves are marked.
@@ -260,6 +270,7 @@ fn mark_leaf<N: NodeMap>(nodes: &mut N, block: u64) -> u64
     ensures length { N.length nodes.new ≡ N.length nodes.old }
     ensures known { N.known nodes.new ≡ N.known nodes.old }
     ensures marked { N.marked nodes.new ≡ set.insert (N.marked nodes.old) block }
+    ensures held { N.held nodes.new ≡ N.held nodes.old }
     ensures one { result ≤ 1 }
     ensures count { set.len (N.marked nodes.new) ≡ set.len (N.marked nodes.old) + result }
 {

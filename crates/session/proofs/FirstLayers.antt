@@ -34,7 +34,7 @@ module _ (t : TreeRoot) (K : PartialTree) (l : ℕ) (hashes : List Hash) (layer_
       same_Some u t.root (sym p ∙ ap₂ K at.0 at.1 ∙ alone.root)
       ∙ sym (same_Some v t.root (sym q ∙ ap₂ (fill_claims t.length l hashes) at.0 at.1 ∙ claims-root_over t l hashes layer_inside right_count ∙ ap Some leads))
 
-  -- so it is refused for want of memory alone
+  -- so it is refused only out of memory
   pub only_memory : (r : HashRefusal) → FillRefuses t.length K l hashes r → r ≡ NoMemory
   only_memory UnknownRoot f = absurd f
   only_memory BadRange f = absurd (omega (arith, f, layer_inside))
@@ -89,7 +89,7 @@ module _ (p : ℕ) (e : TreeEntry) (legal : IsPieceLength p) (sound : IsSoundTre
         let info : Hash → ℕ → TreeRoot = λ x y. record { root = x; length = y } in
         ap (λ x. info x a.length) planted.root_is ∙ ap (λ y. info e.root y) planted.length_is
 
-    -- the piece layer is refused for want of memory alone
+    -- the piece layer is refused only out of memory
     pub refused_for_memory : (r : HashRefusal) → FillRefuses a.length (look a.state.known) l e.layer r → r ≡ NoMemory
     refused_for_memory r f =
         only_memory (root_of_entry e) (look a.state.known) (piece_layer p) e.layer in_tree right_count (sound.layer_root longer) (planted.known.root_alone (inl refl)) r

@@ -32,7 +32,7 @@ pub fn planted<N: NodeMap>(
 }
 
 /// Adds what lies from the piece layer up to a tree of which the root alone is known. The layer of
-/// an opened torrent leads to its root, so nothing but want of memory refuses it.
+/// an opened torrent leads to its root, so it is refused only if memory is.
 fn add_layers<N: NodeMap>(
     tree: &mut Tree<N>,
     info: &TreeInfo<'_>,
