@@ -17,7 +17,7 @@ ghost use Rattle.partial_tree.specs.Gaps.{want_of};
 ghost use Rattle.session.specs.Layouts.{IsBlockOf};
 ghost use Rattle.session.specs.Answers.{IsAnswerTo};
 ghost use Rattle.session.specs.Rounds.{HasNoMoreGaps, RoundLeavesFewer};
-ghost use Rattle.session.specs.Chain.{Chain};
+ghost use Rattle.chains.specs.Chain.{Chain};
 ghost use Rattle.session.specs.Fresh.{IsFresh};
 ghost use Rattle.session.specs.SafeStep.{KeepsKnown, StoresTrueHashes, StoresAnswers, VerifiesTrueBlock, IsSafeStep};
 
