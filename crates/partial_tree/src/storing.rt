@@ -1,9 +1,10 @@
 //! Storing what hashes claim: all of it is compared first, then room is made, and only then is it
 //! written.
 
-ghost use Rattle.std.specs.Prelude.{◌≡◌, ◌⊎◌, ℕ, ◌≤◌, OnOk, IfOk, IfErr};
+ghost use Rattle.std.specs.Prelude.{◌≡◌, ◌⊎◌, ℕ, ◌≤◌, OnOk, OnErr, IfOk, IfErr};
 ghost use Rattle.node_maps.specs.Places.{tree_height, IsPlace, IsKnown};
 ghost use Rattle.node_maps.specs.Known.{look};
+ghost use Rattle.partial_tree.specs.Claims.{IsAgreed};
 ghost use Rattle.partial_tree.specs.Joins.{Joins};
 ghost use Rattle.partial_tree.specs.Evidence.{claimed_by, LeadsTo, IsInside, AreClaims, AllHandled, StoreFault};
 
@@ -53,6 +54,37 @@ pub fn store<N: NodeMap>(
         return Err(HashRefusal::NoMemory);
     }
     let gained = put_found(map, evidence, &found, layer, index);
+    map.trim();
+    Ok(gained)
+}
+
+/// Stores what the evidence claims, which leads to the place and differs nowhere from what is
+/// known, and tells how many places are newly known. Each digest is computed once, and nothing is
+/// listed. Room that was made and not used is given back.
+pub fn store_agreed<N: NodeMap>(
+    map: &mut N,
+    evidence: &Evidence,
+    layer: u32,
+    index: u64,
+) -> Result<u64, NoMemory>
+    requires low { tree_height (N.length map.old) ≤ 32 }
+    requires inside { IsInside evidence.now }
+    requires place { IsPlace (tree_height (N.length map.old)) layer index }
+    requires leads { LeadsTo evidence.now layer index }
+    requires agreed { IsAgreed (look (N.known map.old)) (claimed_by evidence.now) }
+    requires trimmed { N.held map.old ≡ N.needed (N.known map.old) }
+    ensures length { N.length map.new ≡ N.length map.old }
+    ensures marked { N.marked map.new ≡ N.marked map.old }
+    ensures trimmed { N.held map.new ≡ N.needed (N.known map.new) }
+    ensures stored { IfOk result (λ c. Joins (claimed_by evidence.now) (N.known map.old)
+        (N.known map.new) c) }
+    ensures refused { OnErr result (N.known map.new ≡ N.known map.old) }
+{
+    if let Err(refused) = reserve_claimed(map, evidence, layer, index) {
+        map.trim();
+        return Err(refused);
+    }
+    let gained = write_claimed(map, evidence, layer, index).1;
     map.trim();
     Ok(gained)
 }

@@ -1,7 +1,7 @@
 use Rattle.std.proofs.Common.{◌∙◌, sym, ap, subst}
 use Rattle.partial_tree.specs.Joins.{insert_new}
 use Rattle.partial_tree.specs.Evidence.{claimed_by, AreClaims}
-use Rattle.partial_tree.proofs.Tracing.{handled-joins}
+use Rattle.partial_tree.proofs.Tracing.{handled-agreed, handled-joins}
 use Rattle.partial_tree.proofs.Written.{written-joins}
 use Rattle.partial_tree.proofs.storing.put_found.Goals as goal
 
@@ -19,5 +19,7 @@ returns-clause-stored g c =
 
 pub returns-then-found-clause-stored : goal.returns-then-found-clause-stored
 returns-then-found-clause-stored g c =
-    written-joins c.args.evidence.now (g.N.NodeMap.known c.args.map.now) c.args.found.now c.args.layer c.args.index c.write_claimed.result.1
-    (g.N.NodeMap.known c.write_claimed.new.map) c.requires.leads c.requires.handled c.write_claimed.ensures.written c.write_claimed.ensures.gained
+    written-joins c.args.evidence.now (g.N.NodeMap.known c.args.map.now) c.args.layer c.args.index c.write_claimed.result.1
+    (g.N.NodeMap.known c.write_claimed.new.map) c.requires.leads
+    (handled-agreed c.args.evidence.now (g.N.NodeMap.known c.args.map.now) c.args.found.now c.args.layer c.args.index c.requires.leads c.requires.handled)
+    c.write_claimed.ensures.written c.write_claimed.ensures.gained
