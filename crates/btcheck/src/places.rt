@@ -22,15 +22,16 @@ impl<'a> Places<'a> {
     /// How many bytes the files before the one with this path have, whether they were asked for or
     /// not. It counts on from the file that was asked for last.
     pub(crate) fn before(&mut self, path: &[&str]) -> u64 {
-        'files: for at in self.next..self.files.len() {
-            let file = &self.files[at];
+        let files = self.files;
+        'files: for at in self.next..files.len() {
+            let file = &files[at];
             if file.path.parts() == path {
                 self.next = at;
                 return self.passed;
             }
             self.passed = self.passed.saturating_add(file.length);
         }
-        self.next = self.files.len();
+        self.next = files.len();
         self.passed
     }
 }

@@ -53,20 +53,31 @@ impl Figures {
         };
         text
     }
+
+    // The first of them.
+    fn short_text(&self) -> Text {
+        let mut text = Text::new();
+        let _ = write!(text, "{}", Amount(self.done));
+        text
+    }
 }
 
 /// The line with these figures and the name of the file at hand, which loses its start if it is too
-/// long. Without columns for all of that the name is left out, then the figures.
+/// long. In few columns it has the figures alone, in fewer the first of them, and then nothing.
 pub(crate) fn line_of(figures: &Figures, name: &str, columns: usize) -> Text
     ensures { str_width false (chars result.bytes) ≤ columns }
 {
-    let figures = figures.text();
-    let whole = with_name(&figures, name, columns);
+    let text = figures.text();
+    let whole = with_name(&text, name, columns);
     if whole.as_str().width() <= columns {
         return whole;
     }
-    if figures.as_str().width() <= columns {
-        return figures;
+    if text.as_str().width() <= columns {
+        return text;
+    }
+    let short = figures.short_text();
+    if short.as_str().width() <= columns {
+        return short;
     }
     Text::new()
 }
