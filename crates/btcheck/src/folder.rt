@@ -14,8 +14,8 @@ use std::io::{self, ErrorKind};
 /// The files below a folder. Opening follows symlinks, and fails at what is then no regular file.
 ///
 /// It looks at what stands there before it opens it, so that it waits at no named pipe and reads no
-/// device. One that takes a file's place between the look and the opening is opened. What is read of
-/// its files is noted.
+/// device. One that takes a file's place between the look and the opening is opened. Each read of a
+/// file is noted as progress.
 #[derive(Drop)]
 pub(crate) struct Folder<'a> {
     rt: &'a HostRuntime,
