@@ -2,8 +2,10 @@
 #![tactic(auto)]
 
 mod bytes;
+mod direction;
 mod fault;
 mod fields;
+mod form;
 mod frame;
 mod framing;
 mod hashes;
@@ -17,6 +19,7 @@ mod reader;
 mod writing;
 
 pub use benc::WriteFault;
+pub use direction::Direction;
 pub use fault::FrameFault;
 pub use frame::Frame;
 pub use message::{Ask, Hash, Message};
