@@ -8,6 +8,9 @@ pub mod Heads
 pub mod Meanings
 pub mod OneReading
 pub mod Partial
+pub mod RecordParts
+pub mod RecordReaders
+pub mod RecordRuns
 pub mod Records
 pub mod Runs
 pub mod Stopping

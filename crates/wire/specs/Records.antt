@@ -12,6 +12,11 @@ use Rattle.wire.specs.declared.frame.Frame.TheVariants as told
 use Rattle.wire.specs.declared.message.Message.{Message}
 use Rattle.wire.specs.Meaning.{Means}
 
+-- its number
+abbrev pub form_number : Form → ℕ
+form_number One = 1
+form_number Two = 2
+
 -- a direction and what goes in it: a body, a message, or what is told of a frame
 abbrev pub Directed : Type 0 → Type 0
 Directed X = Direction × X

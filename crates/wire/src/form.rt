@@ -1,4 +1,6 @@
 //! The two forms of a record.
+ghost use Rattle.std.specs.Prelude.{◌≡◌};
+ghost use Rattle.wire.specs.Records.{form_number};
 
 /// The form of a record.
 #[derive(Clone, Copy, Debug, PartialEq, Eq)]
@@ -7,4 +9,16 @@ pub(crate) enum Form {
     One,
     /// A header, and then frames with a byte for the direction before each.
     Two,
+}
+
+impl Form {
+    /// Its number.
+    pub(crate) fn number(self) -> u8
+        ensures { result ≡ form_number self }
+    {
+        match self {
+            Form::One => 1,
+            Form::Two => 2,
+        }
+    }
 }

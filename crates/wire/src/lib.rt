@@ -16,6 +16,8 @@ mod message;
 mod number;
 mod parse;
 mod reader;
+mod record;
+mod record_reader;
 mod writing;
 
 pub use benc::WriteFault;
@@ -24,6 +26,7 @@ pub use fault::FrameFault;
 pub use frame::Frame;
 pub use message::{Ask, Hash, Message};
 pub use reader::FrameReader;
+pub use record_reader::RecordReader;
 pub use writing::write;
 
 #[cfg(test)]

@@ -1,5 +1,7 @@
 ghost use Rattle.std.specs.Prelude.{◌≡◌, ℕ, [], List, length, Some, IfOk};
 ghost use Rattle.wire.specs.Frames.{Frames};
+ghost use Rattle.wire.specs.declared.form.Form.{Form as FormOf};
+ghost use Rattle.wire.specs.Records.{Directed, RecordFrames};
 
 use super::*;
 use benc::Source;
@@ -30,6 +32,21 @@ fn count_frames<R: Source>(alloc: Global, source: &mut R) -> Result<u64, FrameFa
         → (bodies : List (List ℕ)) × Frames bytes bodies [] × (length bodies ≡ n)) }
 {
     let mut reader = FrameReader::new(alloc, source);
+    let mut n = 0u64;
+    'frames: while reader.advance()? {
+        let _ = reader.frame();
+        n += 1;
+    }
+    Ok(n)
+}
+
+// The same over a record in either form.
+fn count_directed<R: Source>(alloc: Global, source: &mut R) -> Result<u64, FrameFault>
+    ensures { IfOk result (λ n. (bytes : List ℕ) → (R.seen source.old).left ≡ Some bytes
+        → (form : FormOf) × (frames : List (Directed (List ℕ)))
+        × RecordFrames bytes form frames [] × (length frames ≡ n)) }
+{
+    let mut reader = RecordReader::new(alloc, source);
     let mut n = 0u64;
     'frames: while reader.advance()? {
         let _ = reader.frame();
