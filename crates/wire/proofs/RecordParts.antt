@@ -24,7 +24,8 @@ use Rattle.wire.proofs.Stopping.{StopsInFrame-in_length, StopsInFrame-in_body}
 
 -- ---- the form that the first bytes show
 
-longest : header ≡ four_bytes 4294967295 ++ codes "BTH2"
+-- the first half of a header is the longest length
+pub longest : header ≡ four_bytes 4294967295 ++ codes "BTH2"
 unfolding four_bytes
 longest = refl
 
@@ -48,7 +49,7 @@ one_from_length len xs bound other = λ rest e.
 pub one_from_half : (half xs : List ℕ) → length half ≡ 4 → half ≢ codes "BTH2" → HasForm (four_bytes 4294967295 ++ (half ++ xs)) One
 one_from_half half xs four other = λ rest e.
     let same : half ++ xs ≡ codes "BTH2" ++ rest =
-        (same_from_four_bytes 4294967295 4294967295 (half ++ xs) (codes "BTH2" ++ rest) (omega arith) (omega arith) (e ∙ ap (λ t. t ++ rest) longest ∙ append_assoc (four_bytes 4294967295) (codes "BTH2") rest)).1 in
+    (same_from_four_bytes 4294967295 4294967295 (half ++ xs) (codes "BTH2" ++ rest) (omega arith) (omega arith) (e ∙ ap (λ t. t ++ rest) longest ∙ append_assoc (four_bytes 4294967295) (codes "BTH2") rest)).1 in
     other (fronts half (codes "BTH2") xs rest four refl same)
   where
     fronts : (ws bs xs ys : List ℕ) → length ws ≡ 4 → length bs ≡ 4 → ws ++ xs ≡ bs ++ ys → ws ≡ bs
@@ -258,5 +259,5 @@ unfolding frame
 longest_frame a b c d half rest four other left p q r =
     let size : length (half ++ rest) ≡ 4294967295 = omega (arith, length-append half rest, four, left) in
     let all : GaveFaultless a d (frame (half ++ rest)) =
-        subst (λ n. GaveFaultless a d (four_bytes n ++ (half ++ rest))) (sym size) (Faultless-trans a b d (four_bytes 4294967295) (half ++ rest) p (Faultless-trans b c d half rest q r)) in
+    subst (λ n. GaveFaultless a d (four_bytes n ++ (half ++ rest))) (sym size) (Faultless-trans a b d (four_bytes 4294967295) (half ++ rest) p (Faultless-trans b c d half rest q r)) in
     frame_first (half ++ rest) a d (omega (arith, size)) (subst (λ n. HasForm (four_bytes n ++ (half ++ rest)) One) (sym size) (one_from_half half rest four other)) all

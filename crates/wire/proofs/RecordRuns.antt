@@ -84,7 +84,7 @@ frame_shows : (body : List ℕ) → IsBody body → HasForm (frame body) One →
 unfolding frame
 frame_shows body fits has = λ more rest e.
     let same = same_from_four_bytes (length body) 4294967295 (body ++ more) (codes "BTH2" ++ rest) fits (omega arith)
-        (sym (append_assoc (four_bytes (length body)) body more) ∙ e ∙ ap (λ t. t ++ rest) longest ∙ append_assoc (four_bytes 4294967295) (codes "BTH2") rest) in
+    (sym (append_assoc (four_bytes (length body)) body more) ∙ e ∙ ap (λ t. t ++ rest) longest ∙ append_assoc (four_bytes 4294967295) (codes "BTH2") rest) in
     let front : take 4 body ≡ codes "BTH2" = sym (take-append-le 4 body more (omega (arith, same.0))) ∙ ap (take 4) same.1 ∙ take_at (codes "BTH2") rest 4 refl in
     has (drop 4 body) (ap (λ n. four_bytes n ++ body) same.0 ∙ ap (λ t. four_bytes 4294967295 ++ t) (sym (take-append-drop 4 body) ∙ ap (λ t. t ++ drop 4 body) front)
     ∙ sym (append_assoc (four_bytes 4294967295) (codes "BTH2") (drop 4 body)) ∙ ap (λ t. t ++ drop 4 body) (sym longest))

@@ -39,10 +39,7 @@ pub(crate) fn read_next<R: Source>(
 }
 
 /// Reads the first frame, and what stands before it.
-fn read_first<R: Source>(
-    source: &mut R,
-    kept: &mut Vec<u8>,
-) -> Result<(Form, Found), FrameFault>
+fn read_first<R: Source>(source: &mut R, kept: &mut Vec<u8>) -> Result<(Form, Found), FrameFault>
     ensures bytes { MatchResult result
         (λ next. GivesNext None next.0 (R.seen source.old) (R.seen source.new)
         (HoldsFrom kept.new.items) next.1)
@@ -62,10 +59,7 @@ fn read_first<R: Source>(
 }
 
 /// Reads on after the first half of a header, which is a length as well.
-fn read_marked<R: Source>(
-    source: &mut R,
-    kept: &mut Vec<u8>,
-) -> Result<(Form, Found), FrameFault>
+fn read_marked<R: Source>(source: &mut R, kept: &mut Vec<u8>) -> Result<(Form, Found), FrameFault>
     ensures bytes { (start : SourceSeen)
         → GaveFaultless start (R.seen source.old) (four_bytes 4294967295) → MatchResult result
         (λ next. GivesNext None next.0 start (R.seen source.new)

@@ -4,12 +4,15 @@ use Rattle.wire.proofs.RecordRuns.{HasRead, cut-nothing, frame_falls, read_more,
 use Rattle.wire.proofs.tests.count_directed.Goals as goal
 
 pub frames-init : goal.frames-init
-frames-init g c = record {
-  stands = c.new-reader.ensures.open;
-  same = refl;
-  room = ?;
-  read = ([], refl, ?);
-}
+frames-init g c =
+    let S = g.R.Source in
+    let same = ap S.seen c.new-reader.ensures.source in
+    record {
+      stands = c.new-reader.ensures.open;
+      same = refl;
+      room = omega (arith, ap (λ s. s.limit) same);
+      read = ([], refl, subst (λ f. HasRead (S.seen c.args.source.now) (S.seen c.new-reader.result.source.now) f []) (sym c.new-reader.ensures.form) (read_nothing _ _ same));
+    }
 
 pub overflow_add-n : goal.overflow_add-n
 overflow_add-n g c =
@@ -34,7 +37,7 @@ frames-preserved g c =
       read = (
         read.0 ++ next.1 ∷ [],
         omega (arith, read.1, length_push read.0 next.1),
-        rw next.2 (read_more (S.seen c.args.source.now) (S.seen c.frames.reader.source.now) (S.seen c.advance.new.self.source.now) c.frames.reader.form next.0 read.0 next.1 read.2 next.3),
+        subst (λ f. HasRead (S.seen c.args.source.now) (S.seen c.advance.new.self.source.now) f (read.0 ++ next.1 ∷ [])) (sym next.2) (read_more (S.seen c.args.source.now) (S.seen c.frames.reader.source.now) (S.seen c.advance.new.self.source.now) c.frames.reader.form next.0 read.0 next.1 read.2 next.3),
       );
     }
 
