@@ -11,7 +11,8 @@ use Rattle.pieces.specs.declared.v1_cuts.V1File.{V1File}
 -- the digests of a file's own cuts, and of its last cut filled up with zeros
 pub record IsV1File (piece_length : ℕ) (file : List ℕ) (f : V1File) : Type 0 where
   pub cuts : f.cuts.items ≡ cut_digests piece_length file
-  pub padded : 0 < length file → f.padded ≡ sha1 (filled_up piece_length (last_cut_of piece_length file))
+  pub padded : 0 < length file
+      → f.padded ≡ sha1 (filled_up piece_length (last_cut_of piece_length file))
 
 -- ---- what was given
 
