@@ -87,7 +87,7 @@ pub(crate) fn replay<'a, R: Source, W: Sink>(
         (W.seen out.old) (W.seen out.new)) }
 {
     let mut session: Session<'_, Paged> = Session::new(alloc, torrent, !info_only)?;
-    match checker::replay(alloc, &mut session, source, out) {
+    match checker::replay(alloc, &mut session, source, out, None::<&mut W>) {
         Ok(outcome) => Ok(outcome.status()),
         Err(_) => Err(Fault::Write("-")),
     }
