@@ -1,5 +1,5 @@
 -- What the second pass leaves of what is known.
-use Rattle.std.proofs.Common.{◌≡◌, ◌≢◌, ◌⊎◌, ℕ, suc, ◌+◌, ◌-◌, ◌*◌, ◌/◌, ◌^◌, ◌<◌, ◌≤◌, Option, Some, None, inl, inr, refl, sym, ap, ap₂, ◌∙◌, arith, shr-shr, div-one, eq-or-lt_of_le}
+use Rattle.std.proofs.Common.{◌≡◌, ◌≢◌, ◌⊎◌, ℕ, ◌+◌, ◌-◌, ◌*◌, ◌/◌, ◌^◌, ◌<◌, ◌≤◌, Option, Some, None, inl, inr, refl, sym, ap, ap₂, ◌∙◌, arith, shr-shr, div-one, eq-or-lt_of_le}
 use Rattle.std.specs.FinMap.{len}
 use Rattle.std.specs.Option.{option_or}
 use Rattle.std.proofs.lemmas.Bool.{cases_eq, cases_lt}
@@ -8,13 +8,12 @@ use Rattle.node_maps.specs.Places.{PartialTree}
 use Rattle.node_maps.specs.Known.{Known, look}
 use Rattle.partial_tree.specs.declared.evidence.Evidence.{Evidence}
 use Rattle.partial_tree.specs.declared.found.Claim.{Claim}
-use Rattle.partial_tree.specs.declared.found.Found.{Found}
-use Rattle.partial_tree.specs.Claims.{joined}
+use Rattle.partial_tree.specs.Claims.{joined, IsAgreed}
 use Rattle.partial_tree.specs.Joins.{with_new, Joins}
-use Rattle.partial_tree.specs.Evidence.{given_by, claimed_by, LiesUnder, LiesBelow, IsPruned, IsWritten, IsWrittenBelow, LeadsTo, AllHandled}
+use Rattle.partial_tree.specs.Evidence.{given_by, claimed_by, LiesUnder, LiesBelow, IsPruned, IsWritten, IsWrittenBelow, LeadsTo}
 use Rattle.partial_tree.proofs.Claimed.{there_or_not, first_of_two, second_of_two}
 use Rattle.partial_tree.proofs.Noting.{here_or_not, new-here, new-keeps, absent-other}
-use Rattle.partial_tree.proofs.Tracing.{under_child, handled-agreed}
+use Rattle.partial_tree.proofs.Tracing.{under_child}
 
 none_beside : (o p : Option Hash) → p ≡ None → option_or o p ≡ o
 none_beside None p e = e
@@ -116,11 +115,11 @@ under_or_not layer index l i = elim (cases_lt layer l) [
   ]
 ]
 
-pub written-joins : (e : Evidence) (m : Known) (found : Found) (layer index c : ℕ) (after : Known) → LeadsTo e layer index
-    → AllHandled (claimed_by e) (look m) found layer index → IsWritten (claimed_by e) layer index (look m) (look after)
+pub written-joins : (e : Evidence) (m : Known) (layer index c : ℕ) (after : Known) → LeadsTo e layer index
+    → IsAgreed (look m) (claimed_by e) → IsWritten (claimed_by e) layer index (look m) (look after)
     → len after ≡ len m + c → Joins (claimed_by e) m after c
-written-joins e m found layer index c after leads handled written gained = record {
-  agreed = handled-agreed e m found layer index leads handled;
+written-joins e m layer index c after leads agreed written gained = record {
+  agreed = agreed;
   joined_is = λ l i. elim (there_or_not (claimed_by e l i)) [
     | inl (v, claim) ↦ written.under l i (leads.under_top l i v claim)
     | inr none ↦ elim (under_or_not layer index l i) [

@@ -1,13 +1,15 @@
 //! Taking a whole layer, given without the pads at its end.
 
-ghost use Rattle.std.specs.Prelude.{◌≡◌, ◌≤◌, IfOk, IfErr};
+ghost use Rattle.std.specs.Prelude.{◌≡◌, ◌≤◌, OnErr, IfOk, IfErr};
 ghost use Rattle.node_maps.specs.Places.{tree_height};
-ghost use Rattle.partial_tree.specs.Joins.{TakesLayer, RefusesLayer};
+ghost use Rattle.node_maps.specs.Known.{look};
+ghost use Rattle.partial_tree.specs.Fill.{fill_claims, IsFillAccepted};
+ghost use Rattle.partial_tree.specs.Joins.{Joins, TakesLayer, RefusesLayer};
 
 use crate::evidence::Evidence;
 use crate::refusal::HashRefusal;
-use crate::storing::store;
-use hashtree::{Hash, Shape, zero};
+use crate::storing::{store, store_agreed};
+use hashtree::{Hash, NoMemory, Shape, zero};
 use node_maps::NodeMap;
 use std::alloc::Global;
 
@@ -23,8 +25,10 @@ pub fn fill_layer<N: NodeMap>(
     requires shape { N.length nodes.old ≡ shape }
     requires height { height ≡ tree_height shape }
     requires low { height ≤ 32 }
+    requires trimmed { N.held nodes.old ≡ N.needed (N.known nodes.old) }
     ensures length { N.length nodes.new ≡ N.length nodes.old }
     ensures marked { N.marked nodes.new ≡ N.marked nodes.old }
+    ensures trimmed { N.held nodes.new ≡ N.needed (N.known nodes.new) }
     ensures filled { IfOk result (λ c. TakesLayer shape layer hashes.now (N.known nodes.old) c
         (N.known nodes.new)) }
     ensures refused { IfErr result (λ r. RefusesLayer shape layer hashes.now (N.known nodes.old) r
@@ -44,4 +48,35 @@ pub fn fill_layer<N: NodeMap>(
         pad: zero(layer),
     };
     store(alloc, nodes, &evidence, height, 0)
+}
+
+/// Takes a whole layer that is accepted into the nodes of a tree, and tells how many places are
+/// newly known. Each digest is computed once.
+pub fn plant_layer<N: NodeMap>(
+    shape: Shape,
+    height: u32,
+    nodes: &mut N,
+    layer: u32,
+    hashes: &[Hash],
+) -> Result<u64, NoMemory>
+    requires shape { N.length nodes.old ≡ shape }
+    requires height { height ≡ tree_height shape }
+    requires low { height ≤ 32 }
+    requires accepted { IsFillAccepted shape (look (N.known nodes.old)) layer hashes.now }
+    requires trimmed { N.held nodes.old ≡ N.needed (N.known nodes.old) }
+    ensures length { N.length nodes.new ≡ N.length nodes.old }
+    ensures marked { N.marked nodes.new ≡ N.marked nodes.old }
+    ensures trimmed { N.held nodes.new ≡ N.needed (N.known nodes.new) }
+    ensures planted { IfOk result (λ c. Joins (fill_claims shape layer hashes.now)
+        (N.known nodes.old) (N.known nodes.new) c) }
+    ensures refused { OnErr result (N.known nodes.new ≡ N.known nodes.old) }
+{
+    let evidence = Evidence {
+        base: layer,
+        index: 0,
+        span: height - layer,
+        hashes,
+        pad: zero(layer),
+    };
+    store_agreed(nodes, &evidence, height, 0)
 }

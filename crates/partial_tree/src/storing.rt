@@ -1,11 +1,12 @@
 //! Storing what hashes claim: all of it is compared first, then room is made, and only then is it
 //! written.
 
-ghost use Rattle.std.specs.Prelude.{◌≡◌, ◌⊎◌, ℕ, ◌≤◌, OnOk, IfOk, IfErr};
+ghost use Rattle.std.specs.Prelude.{◌≡◌, ◌⊎◌, ℕ, ◌≤◌, OnOk, OnErr, IfOk, IfErr};
 ghost use Rattle.node_maps.specs.Places.{tree_height, IsPlace, IsKnown};
 ghost use Rattle.node_maps.specs.Known.{look};
+ghost use Rattle.partial_tree.specs.Claims.{IsAgreed};
 ghost use Rattle.partial_tree.specs.Joins.{Joins};
-ghost use Rattle.partial_tree.specs.Evidence.{claimed_by, LeadsTo, IsInside, StoreFault};
+ghost use Rattle.partial_tree.specs.Evidence.{claimed_by, LeadsTo, IsInside, AreClaims, AllHandled, StoreFault};
 
 use crate::comparing::trace;
 use crate::evidence::Evidence;
@@ -22,7 +23,7 @@ const MOST_LISTED: usize = 2 * 8192 + 2 * 32;
 
 /// Stores what the evidence claims, which leads to the place, and tells how many places are newly
 /// known. What is new is listed while it is compared, up to what the longest message claims; more
-/// is computed once more to be written.
+/// is computed once more to be written. Room that was made and not used is given back.
 pub fn store<N: NodeMap>(
     alloc: Global,
     map: &mut N,
@@ -34,8 +35,10 @@ pub fn store<N: NodeMap>(
     requires inside { IsInside evidence.now }
     requires place { IsPlace (tree_height (N.length map.old)) layer index }
     requires leads { LeadsTo evidence.now layer index }
+    requires trimmed { N.held map.old ≡ N.needed (N.known map.old) }
     ensures length { N.length map.new ≡ N.length map.old }
     ensures marked { N.marked map.new ≡ N.marked map.old }
+    ensures trimmed { N.held map.new ≡ N.needed (N.known map.new) }
     ensures stored { IfOk result (λ c. Joins (claimed_by evidence.now) (N.known map.old)
         (N.known map.new) c) }
     ensures refused { IfErr result (λ r. StoreFault (look (N.known map.old))
@@ -47,12 +50,70 @@ pub fn store<N: NodeMap>(
         return Err(HashRefusal::Mismatch);
     }
     if reserve_claimed(map, evidence, layer, index).is_err() {
+        map.trim();
         return Err(HashRefusal::NoMemory);
     }
-    if found.incomplete {
-        return Ok(write_claimed(map, evidence, layer, index).1);
+    let gained = put_found(map, evidence, &found, layer, index);
+    map.trim();
+    Ok(gained)
+}
+
+/// Stores what the evidence claims, which leads to the place and differs nowhere from what is
+/// known, and tells how many places are newly known. Each digest is computed once, and nothing is
+/// listed. Room that was made and not used is given back.
+pub fn store_agreed<N: NodeMap>(
+    map: &mut N,
+    evidence: &Evidence,
+    layer: u32,
+    index: u64,
+) -> Result<u64, NoMemory>
+    requires low { tree_height (N.length map.old) ≤ 32 }
+    requires inside { IsInside evidence.now }
+    requires place { IsPlace (tree_height (N.length map.old)) layer index }
+    requires leads { LeadsTo evidence.now layer index }
+    requires agreed { IsAgreed (look (N.known map.old)) (claimed_by evidence.now) }
+    requires trimmed { N.held map.old ≡ N.needed (N.known map.old) }
+    ensures length { N.length map.new ≡ N.length map.old }
+    ensures marked { N.marked map.new ≡ N.marked map.old }
+    ensures trimmed { N.held map.new ≡ N.needed (N.known map.new) }
+    ensures stored { IfOk result (λ c. Joins (claimed_by evidence.now) (N.known map.old)
+        (N.known map.new) c) }
+    ensures refused { OnErr result (N.known map.new ≡ N.known map.old) }
+{
+    if let Err(refused) = reserve_claimed(map, evidence, layer, index) {
+        map.trim();
+        return Err(refused);
     }
-    Ok(put_new(map, &found.claims))
+    let gained = write_claimed(map, evidence, layer, index).1;
+    map.trim();
+    Ok(gained)
+}
+
+/// Writes what was found new, or all that the evidence claims if the list is incomplete, and tells
+/// how many places are newly known.
+fn put_found<N: NodeMap>(
+    map: &mut N,
+    evidence: &Evidence,
+    found: &Found,
+    layer: u32,
+    index: u64,
+) -> u64
+    requires low { tree_height (N.length map.old) ≤ 32 }
+    requires inside { IsInside evidence.now }
+    requires place { IsPlace (tree_height (N.length map.old)) layer index }
+    requires leads { LeadsTo evidence.now layer index }
+    requires room { (l i : ℕ) → IsKnown (claimed_by evidence.now) l i → N.has_room map.old l i }
+    requires sound { AreClaims (claimed_by evidence.now) found.now.claims.items }
+    requires handled { AllHandled (claimed_by evidence.now) (look (N.known map.old)) found.now layer
+        index }
+    ensures length { N.length map.new ≡ N.length map.old }
+    ensures marked { N.marked map.new ≡ N.marked map.old }
+    ensures stored { Joins (claimed_by evidence.now) (N.known map.old) (N.known map.new) result }
+{
+    if found.incomplete {
+        return write_claimed(map, evidence, layer, index).1;
+    }
+    put_new(map, &found.claims)
 }
 
 /// Room for all that a message claims; none for a layer that claims more.

@@ -30,8 +30,10 @@ pub fn take_message<N: NodeMap>(
     requires height { height ≡ tree_height shape }
     requires low { height ≤ 32 }
     requires places { (l i : ℕ) → IsKnown (look (N.known nodes.old)) l i → IsPlace height l i }
+    requires trimmed { N.held nodes.old ≡ N.needed (N.known nodes.old) }
     ensures length { N.length nodes.new ≡ N.length nodes.old }
     ensures marked { N.marked nodes.new ≡ N.marked nodes.old }
+    ensures trimmed { N.held nodes.new ≡ N.needed (N.known nodes.new) }
     ensures taken { IfOk result (λ c. TakesHashes shape ask.now hashes.now (N.known nodes.old) c
         (N.known nodes.new)) }
     ensures refused { IfErr result (λ r. RefusesHashes shape ask.now hashes.now

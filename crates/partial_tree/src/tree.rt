@@ -13,7 +13,7 @@
 //!     0      a   b   .   .        a, b   known together, and nothing below d
 //! ```
 
-ghost use Rattle.std.specs.Prelude.{◌≡◌, ℕ, ◌+◌, ◌^◌, ◌<◌, ◌≤◌, ◌↔◌, IfOk, IfErr, IsTrue, length};
+ghost use Rattle.std.specs.Prelude.{◌≡◌, ℕ, ◌+◌, ◌^◌, ◌<◌, ◌≤◌, ◌↔◌, IfOk, IfErr, OnErr, IsTrue, length};
 ghost use Rattle.std.specs.List.{All};
 ghost use Rattle.std.specs.FinMap as finite;
 ghost use Rattle.std.specs.FinSet as set;
@@ -23,13 +23,14 @@ ghost use Rattle.partial_tree.specs.Claims.{CanAnswer};
 ghost use Rattle.partial_tree.specs.Answers.{IsTreeAnswer};
 ghost use Rattle.partial_tree.specs.Gaps.{want_of};
 ghost use Rattle.node_maps.specs.Known.{look};
-ghost use Rattle.partial_tree.specs.Joins.{TakesHashes, RefusesHashes, TakesLayer, RefusesLayer};
+ghost use Rattle.partial_tree.specs.Fill.{fill_claims, IsFillAccepted};
+ghost use Rattle.partial_tree.specs.Joins.{Joins, TakesHashes, RefusesHashes, TakesLayer, RefusesLayer};
 ghost use Rattle.partial_tree.specs.Kept.{info_of, root_alone, IsGoodTree, IsMarked, TreeRefusesBlock};
 
 use crate::answer::Answer;
 use crate::answering::answer_hashes;
 use crate::checks::check_range;
-use crate::filling::fill_layer;
+use crate::filling::{fill_layer, plant_layer};
 use crate::refusal::{BlockRefusal, HashRefusal};
 use crate::taking::take_message;
 use hashtree::{Hash, NoMemory, Shape, leaf};
@@ -62,7 +63,8 @@ impl<N: NodeMap> Model for Tree<N> {
     ghost view = { λ t. kept t.root t.shape (N.known t.nodes) (N.marked t.nodes) };
 
     ghost invariant = { λ t. (N.length t.nodes ≡ t.shape)
-        × IsCounted t.height t.known t.marked t.shape (N.known t.nodes) (N.marked t.nodes) };
+        × IsCounted t.height t.known t.marked t.shape (N.known t.nodes) (N.marked t.nodes)
+        × (N.held t.nodes ≡ N.needed (N.known t.nodes)) };
 }
 
 impl<N: NodeMap> Tree<N> {
@@ -77,6 +79,7 @@ impl<N: NodeMap> Tree<N> {
         let mut nodes = N::empty(alloc, shape);
         nodes.reserve(height, 0, 1)?;
         nodes.put(height, 0, root);
+        nodes.trim();
         Ok(Tree {
             alloc,
             root,
@@ -93,6 +96,14 @@ impl<N: NodeMap> Tree<N> {
         ensures { result ≡ finite.len self.now.state.known }
     {
         self.known
+    }
+
+    /// How many pages are held: as many as what is known takes, and no more than places are known.
+    pub fn pages(&self) -> u64
+        ensures needed { result ≡ N.needed self.now.state.known }
+        ensures few { result ≤ finite.len self.now.state.known }
+    {
+        self.nodes.pages()
     }
 
     /// How many leaves are marked.
@@ -148,6 +159,27 @@ impl<N: NodeMap> Tree<N> {
             layer,
             hashes,
         )?;
+        self.known += gained;
+        Ok(gained)
+    }
+
+    /// Takes a whole layer that would be accepted, and tells how many places are newly known. So
+    /// nothing has to be compared, and each digest is computed once. Fails only out of memory; the
+    /// tree is then unchanged. Condition: the layer is one of the tree's, given without the pads at
+    /// its end, and what follows from it differs nowhere from what is known.
+    pub fn plant(&mut self, layer: u32, hashes: &[Hash]) -> Result<u64, NoMemory>
+        requires good { IsGoodTree self.old }
+        requires accepted { IsFillAccepted self.old.length (look self.old.state.known) layer
+            hashes.now }
+        ensures root { self.new.root ≡ self.old.root }
+        ensures length { self.new.length ≡ self.old.length }
+        ensures marked { self.new.state.marked ≡ self.old.state.marked }
+        ensures planted { IfOk result (λ c. Joins (fill_claims self.old.length layer hashes.now)
+            self.old.state.known self.new.state.known c) }
+        ensures refused { OnErr result (self.new.state.known ≡ self.old.state.known) }
+    {
+        are_hashes(hashes);
+        let gained = plant_layer(self.shape, self.height, &mut self.nodes, layer, hashes)?;
         self.known += gained;
         Ok(gained)
     }
@@ -260,6 +292,7 @@ fn mark_leaf<N: NodeMap>(nodes: &mut N, block: u64) -> u64
     ensures length { N.length nodes.new ≡ N.length nodes.old }
     ensures known { N.known nodes.new ≡ N.known nodes.old }
     ensures marked { N.marked nodes.new ≡ set.insert (N.marked nodes.old) block }
+    ensures held { N.held nodes.new ≡ N.held nodes.old }
     ensures one { result ≤ 1 }
     ensures count { set.len (N.marked nodes.new) ≡ set.len (N.marked nodes.old) + result }
 {

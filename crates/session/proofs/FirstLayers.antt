@@ -9,13 +9,11 @@ use Rattle.metainfo.specs.PieceLayers.{piece_layer}
 use Rattle.metainfo.specs.Pieces.{IsPieceLength}
 use Rattle.metainfo.specs.Sound.{IsSoundTree}
 use Rattle.metainfo.proofs.Layering.{piece_is, layer_is, layer_within, whole_layer}
-use Rattle.partial_tree.specs.declared.refusal.HashRefusal.{HashRefusal}
-use Rattle.partial_tree.specs.declared.refusal.HashRefusal.TheVariants.{UnknownRoot, BadRange, BadCount, BadPad, Unanchored, Mismatch, NoMemory}
 use Rattle.node_maps.specs.Digest.{Hash}
 use Rattle.partial_tree.specs.TreeRoot.{TreeRoot}
 use Rattle.node_maps.specs.Places.{tree_height, PartialTree, IsPlace}
 use Rattle.partial_tree.specs.Claims.{joined, IsAgreed}
-use Rattle.partial_tree.specs.Fill.{fill_claims, pad_from, IsFillAccepted, FillRefuses}
+use Rattle.partial_tree.specs.Fill.{fill_claims, pad_from, IsFillAccepted}
 use Rattle.node_maps.specs.Known.{look}
 use Rattle.partial_tree.specs.Joins.{Joins}
 use Rattle.partial_tree.specs.Kept.{KeptTree, info_of}
@@ -33,16 +31,6 @@ module _ (t : TreeRoot) (K : PartialTree) (l : ℕ) (hashes : List Hash) (layer_
       let at = alone.no_more k i u p in
       same_Some u t.root (sym p ∙ ap₂ K at.0 at.1 ∙ alone.root)
       ∙ sym (same_Some v t.root (sym q ∙ ap₂ (fill_claims t.length l hashes) at.0 at.1 ∙ claims-root_over t l hashes layer_inside right_count ∙ ap Some leads))
-
-  -- so it is refused for want of memory alone
-  pub only_memory : (r : HashRefusal) → FillRefuses t.length K l hashes r → r ≡ NoMemory
-  only_memory UnknownRoot f = absurd f
-  only_memory BadRange f = absurd (omega (arith, f, layer_inside))
-  only_memory BadCount f = absurd (f.1 right_count)
-  only_memory BadPad f = absurd f
-  only_memory Unanchored f = absurd f
-  only_memory Mismatch f = let m = f.2 in absurd (m.differ (agreed m.layer m.index m.in_J m.in_K m.J_known m.K_known))
-  only_memory NoMemory f = refl
 
   -- and joined to the root it makes the nodes from the layer up
   pub joined-knows : (L : PartialTree) → ((k i : ℕ) → L k i ≡ joined K (fill_claims t.length l hashes) k i) → KnowsFrom t l hashes L
@@ -89,19 +77,23 @@ module _ (p : ℕ) (e : TreeEntry) (legal : IsPieceLength p) (sound : IsSoundTre
         let info : Hash → ℕ → TreeRoot = λ x y. record { root = x; length = y } in
         ap (λ x. info x a.length) planted.root_is ∙ ap (λ y. info e.root y) planted.length_is
 
-    -- the piece layer is refused for want of memory alone
-    pub refused_for_memory : (r : HashRefusal) → FillRefuses a.length (look a.state.known) l e.layer r → r ≡ NoMemory
-    refused_for_memory r f =
-        only_memory (root_of_entry e) (look a.state.known) (piece_layer p) e.layer in_tree right_count (sound.layer_root longer) (planted.known.root_alone (inl refl)) r
-        (subst (λ k. FillRefuses e.length (look a.state.known) k e.layer r) at (subst (λ t. FillRefuses t.length (look a.state.known) l e.layer r) same f))
+    -- the piece layer is accepted
+    pub accepted : IsFillAccepted a.length (look a.state.known) l e.layer
+    accepted =
+        subst (λ t. IsFillAccepted t.length (look a.state.known) l e.layer) (sym same) (subst (λ k. IsFillAccepted e.length (look a.state.known) k e.layer) (sym at)
+        (record {
+          layer_inside = in_tree;
+          right_count = right_count;
+          agrees = agreed (root_of_entry e) (look a.state.known) (piece_layer p) e.layer in_tree right_count (sound.layer_root longer) (planted.known.root_alone (inl refl));
+        }))
 
     -- and once it is taken, the tree is as a session with layers begins
     pub planted_layers : (b : KeptTree) (c : ℕ) → b.root ≡ a.root → b.length ≡ a.length → b.state.marked ≡ a.state.marked
-        → IsFillAccepted a.length (look a.state.known) l e.layer → Joins (fill_claims a.length l e.layer) a.state.known b.state.known c → IsPlanted p true e b
-    planted_layers b c r n m ok joins = record {
+        → Joins (fill_claims a.length l e.layer) a.state.known b.state.known c → IsPlanted p true e b
+    planted_layers b c r n m joins = record {
       root_is = r ∙ planted.root_is;
       length_is = n ∙ planted.length_is;
-      good = good_filled a b l e.layer c planted.good (λ k d inside. sound.hash_lengths k (get_or e.layer k d) (slice_get-get_or e.layer k d inside)) r n m ok joins;
+      good = good_filled a b l e.layer c planted.good (λ k d inside. sound.hash_lengths k (get_or e.layer k d) (slice_get-get_or e.layer k d inside)) r n m accepted joins;
       known = record {
         root_alone = λ w. elim w [ inl off ↦ absurd (false≢true (sym off)) | inr short ↦ absurd (omega (arith, short, longer)) ];
         layers = λ on more.

@@ -1,4 +1,4 @@
-pub mod Chains
+pub use Rattle.chains.proofs.Chains
 pub mod Runs
 pub mod Rounds
 pub mod RoundRuns

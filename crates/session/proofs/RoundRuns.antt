@@ -21,7 +21,7 @@ use Rattle.partial_tree.specs.Claims.{top_layer, top_index, answer_of, CanAnswer
 use Rattle.partial_tree.specs.Gaps.{gaps, want_ask, want_of}
 use Rattle.node_maps.specs.Known.{look}
 use Rattle.session.specs.Session.{SessionSeen, TreeState, IsTree, IsGood, HasDistinctRoots, HasFewerGaps, HasHashes, Step}
-use Rattle.session.specs.Chain.{Chain}
+use Rattle.chains.specs.Chain.{Chain}
 use Rattle.session.specs.Rounds.{IsRoundRun, Rounds, HasNoMoreGaps, RoundLeavesFewer, Collides}
 use Rattle.partial_tree.proofs.Claimed.{there_or_not}
 use Rattle.partial_tree.proofs.Whole.{whole-closed}

@@ -22,7 +22,7 @@ use Rattle.node_maps.specs.Known.{look}
 use Rattle.session.specs.Session.{HasHashes, SessionSeen, TreeState, IsTree, IsGood, IsAsked, IsStored, IsHashRefused, HasDistinctRoots, HasFewerGaps, Step}
 use Rattle.metainfo.specs.Description.{Description}
 use Rattle.session.specs.Layouts.{roots, root_of_entry}
-use Rattle.session.specs.Chain.{Chain}
+use Rattle.chains.specs.Chain.{Chain}
 use Rattle.hashtree.proofs.Heights.{height_enough}
 use Rattle.partial_tree.proofs.Joining.{accepted-no_fault}
 use Rattle.partial_tree.proofs.Wanted.{true_answer-accepted, want-fewer}
@@ -89,7 +89,7 @@ module _ (n : ℕ) (tree : TreeRoot) (b : ℕ) (in' : b < block_count tree.lengt
       absurd (refused-never S S' distinct s at tall keeps none hs.now ok r (λ e. memory (ap verdict.HashRefused e)) h.0)
   answer-fewer S S' distinct s at tall keeps none hs ok v memory h = absurd h
 
--- a run of messages that ends with the true answer, not refused for want of memory, leaves fewer gaps, or a collision is named
+-- a run of messages that ends with the true answer, not refused out of memory, leaves fewer gaps, or a collision is named
 pub round : (S : SessionSeen) → HasDistinctRoots S → (ms : List Message) (vs : List Verdict) (S₁ S₂ : SessionSeen) (n : ℕ) (tree : TreeRoot) (s : TreeState) (b : ℕ) (f : List ℕ)
     → IsGood S → All HasHashes ms → Chain Step S ms vs S₁ → IsTree S n tree s → (in' : b < block_count tree.length) → look s.known 0 b ≡ None → Fits f tree
     → (hs : Bor (List Hash)) → hs.now ≡ answer_of (tree_height tree.length) (whole f) (want_ask tree b)

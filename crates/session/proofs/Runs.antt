@@ -21,7 +21,7 @@ use Rattle.partial_tree.specs.Claims.{claims, joined}
 use Rattle.node_maps.specs.Known.{look}
 use Rattle.session.specs.Session.{SessionSeen, TreeState, IsTree, IsGood, IsStored, IsVerified, Step, IsBlock, IsTrueVerdict, IsTrueStep, HasHashes}
 use Rattle.session.specs.Layouts.{roots}
-use Rattle.session.specs.Chain.{Chain}
+use Rattle.chains.specs.Chain.{Chain}
 use Rattle.partial_tree.proofs.Joining.{joined-closed, joined-keeps}
 use Rattle.partial_tree.proofs.Keeping.{closed-same, marked-known}
 use Rattle.partial_tree.proofs.Headline.{block_or_collision}

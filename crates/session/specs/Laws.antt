@@ -15,7 +15,7 @@ use Rattle.session.specs.declared.verdict.Verdict.TheVariants.{HashRefused}
 use Rattle.partial_tree.specs.declared.refusal.HashRefusal.TheVariants.{NoMemory}
 use Rattle.node_maps.specs.Known.{look}
 use Rattle.session.specs.Session.{SessionSeen, TreeState, IsTree, IsGood, HasDistinctRoots, HasFewerGaps, HasHashes, Step, IsTrueStep}
-use Rattle.session.specs.Chain.{Chain}
+use Rattle.chains.specs.Chain.{Chain}
 use Rattle.partial_tree.specs.Gaps.{want_ask}
 
 -- a run keeps all trees closed, and each block that it verifies is the block of every file that

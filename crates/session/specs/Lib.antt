@@ -1,5 +1,5 @@
 -- Sessions of a torrent, their steps and runs.
-pub mod Chain
+pub use Rattle.chains.specs.Chain
 pub mod Session
 pub mod SafeStep
 pub mod Answers

@@ -12,7 +12,7 @@ use Rattle.partial_tree.specs.Claims.{top_layer, top_index, answer_of}
 use Rattle.partial_tree.specs.Gaps.{gaps, want_ask, want_of}
 use Rattle.node_maps.specs.Known.{look}
 use Rattle.session.specs.Session.{SessionSeen, TreeState, IsTree, IsGood, HasDistinctRoots, HasHashes, Step}
-use Rattle.session.specs.Chain.{Chain}
+use Rattle.chains.specs.Chain.{Chain}
 use Rattle.session.specs.Rounds.{Rounds, HasNoMoreGaps, RoundLeavesFewer, Collides}
 
 -- if no gap is left, nothing is wanted

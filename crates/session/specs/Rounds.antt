@@ -17,7 +17,7 @@ use Rattle.partial_tree.specs.Claims.{answer_of}
 use Rattle.partial_tree.specs.Gaps.{gaps, want_of}
 use Rattle.node_maps.specs.Known.{look}
 use Rattle.session.specs.Session.{SessionSeen, TreeState, IsTree, HasFewerGaps, HasHashes, Step}
-use Rattle.session.specs.Chain.{Chain}
+use Rattle.chains.specs.Chain.{Chain}
 
 -- messages that end with the true answer for f to an ask that was wanted of tree n before the
 -- first

@@ -9,7 +9,7 @@ ghost use Rattle.session.specs.Fresh.{IsPlanted};
 use hashtree::{NoMemory, Shape};
 use metainfo::TreeInfo;
 use node_maps::NodeMap;
-use partial_tree::{HashRefusal, Tree};
+use partial_tree::Tree;
 use std::alloc::Global;
 
 /// A tree as a new session knows it: by its root alone, or with layers also from its piece layer
@@ -32,7 +32,7 @@ pub fn planted<N: NodeMap>(
 }
 
 /// Adds what lies from the piece layer up to a tree of which the root alone is known. The layer of
-/// an opened torrent leads to its root, so nothing but want of memory refuses it.
+/// an opened torrent leads to its root, so it need not be compared.
 fn add_layers<N: NodeMap>(
     tree: &mut Tree<N>,
     info: &TreeInfo<'_>,
@@ -45,9 +45,6 @@ fn add_layers<N: NodeMap>(
     ensures { OnOk result (IsPlanted piece_length true (tree_entry info.now) tree.new) }
 {
     let layer = Shape::of(piece_length).unwrap().height();
-    if let Err(refusal) = tree.fill(layer, info.layer) {
-        prove!(matches!(&refusal, HashRefusal::NoMemory));
-        return Err(NoMemory);
-    }
+    tree.plant(layer, info.layer)?;
     Ok(())
 }

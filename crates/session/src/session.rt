@@ -5,7 +5,7 @@
 //! why a verified block is the block: `IsBlock` in `specs/Session.antt` says what is promised, and
 //! `block_or_collision` in `partial_tree`'s `proofs/Headline.antt` proves it.
 
-ghost use Rattle.std.specs.Prelude.{◌≡◌, ◌<◌, ◌↔◌, IfOk, IfErr, OnErr, IsTrue, length, slice_get, Some};
+ghost use Rattle.std.specs.Prelude.{◌≡◌, ◌<◌, ◌≤◌, ◌↔◌, IfOk, IfErr, OnErr, IsTrue, length, slice_get, Some};
 ghost use Rattle.std.specs.List.{All};
 ghost use Rattle.std.specs.FinMap as finite;
 ghost use Rattle.std.specs.FinSet as set;
@@ -17,7 +17,7 @@ ghost use Rattle.partial_tree.specs.Gaps.{want_of};
 ghost use Rattle.session.specs.Layouts.{IsBlockOf};
 ghost use Rattle.session.specs.Answers.{IsAnswerTo};
 ghost use Rattle.session.specs.Rounds.{HasNoMoreGaps, RoundLeavesFewer};
-ghost use Rattle.session.specs.Chain.{Chain};
+ghost use Rattle.chains.specs.Chain.{Chain};
 ghost use Rattle.session.specs.Fresh.{IsFresh};
 ghost use Rattle.session.specs.SafeStep.{KeepsKnown, StoresTrueHashes, StoresAnswers, VerifiesTrueBlock, IsSafeStep};
 
@@ -240,6 +240,17 @@ impl<'t, N: NodeMap> Session<'t, N> {
             × (result ≡ finite.len s.known) }
     {
         self.trees[tree].known()
+    }
+
+    /// How many pages a tree holds, in which what is known of it is kept: as many as that takes, and
+    /// no more than places are known. So a refusal leaves them as they were. Takes no memory.
+    /// Condition: there are more than `tree` trees.
+    pub fn pages(&self, tree: usize) -> u64
+        requires { tree < length self.now.torrent.trees }
+        ensures { (s : TreeState) × (slice_get self.now.trees tree ≡ Some s)
+            × (result ≡ N.needed s.known) × (result ≤ finite.len s.known) }
+    {
+        self.trees[tree].pages()
     }
 
     /// How many leaves of a tree are marked. Condition: there are more than `tree` trees.

@@ -1,4 +1,4 @@
-use Rattle.std.proofs.Common.{◌≡◌, ◌≤◌, suc, ◌+◌, ◌-◌, ◌*◌, ◌^◌, Some, arith, rules, sym, ap, ◌∙◌, subst}
+use Rattle.std.proofs.Common.{◌≡◌, ◌≤◌, suc, ◌+◌, ◌-◌, ◌*◌, ◌^◌, Some, arith, sym, ap, ◌∙◌, subst}
 use Rattle.node_maps.specs.Places.{tree_height, IsPlace}
 use Rattle.node_maps.specs.Known.{look}
 use Rattle.partial_tree.specs.Evidence.{claimed_by}

@@ -7,7 +7,7 @@ use Rattle.node_maps.specs.Places.{tree_height}
 use Rattle.partial_tree.specs.Claims.{claims, IsAccepted}
 use Rattle.node_maps.specs.Known.{look}
 use Rattle.partial_tree.specs.Joins.{Joins}
-use Rattle.partial_tree.specs.Kept.{KeptTree, info_of, IsGoodTree}
+use Rattle.partial_tree.specs.Kept.{KeptTree, IsGoodTree}
 use Rattle.partial_tree.proofs.Ranges.{pow_more}
 use Rattle.partial_tree.proofs.Messages.{joined-len}
 use Rattle.partial_tree.proofs.Counting.{counted_more, counted_same}
@@ -19,6 +19,7 @@ invariant_of-self g c =
       c.take_message.ensures.length ∙ c.self.invariant.0,
       counted_same old.height old.known old.marked old.shape (g.N.NodeMap.known old.nodes) (g.N.NodeMap.known c.take_message.new.nodes) (g.N.NodeMap.marked old.nodes) (g.N.NodeMap.marked c.take_message.new.nodes)
           c.self.invariant.1 c.in_err-gained.ensures.refused.1 c.take_message.ensures.marked,
+      c.take_message.ensures.trimmed,
     )
 
 pub overflow_add-self : goal.overflow_add-self
@@ -42,6 +43,7 @@ invariant_of-self-2 g c =
       c.take_message.ensures.length ∙ c.self.invariant.0,
       counted_more old.height old.known old.marked old.shape c.in_ok-gained.gained (g.N.NodeMap.known old.nodes) (g.N.NodeMap.known c.take_message.new.nodes) (g.N.NodeMap.marked old.nodes) (g.N.NodeMap.marked c.take_message.new.nodes)
           c.self.invariant.1 c.in_ok-gained.ensures.taken.1.gained c.take_message.ensures.marked,
+      c.take_message.ensures.trimmed,
     )
 
 pub returns-clause-taken : goal.returns-clause-taken

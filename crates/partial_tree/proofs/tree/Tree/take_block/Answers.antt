@@ -1,4 +1,4 @@
-use Rattle.std.proofs.Common.{◌^◌, ◌≤◌, ◌∙◌, sym, subst, arith}
+use Rattle.std.proofs.Common.{◌^◌, ◌≤◌, ◌∙◌, sym, ap, subst, arith}
 use Rattle.std.specs.FinSet as set
 use Rattle.node_maps.specs.Places.{tree_height}
 use Rattle.partial_tree.specs.Kept.{KeptTree, IsGoodTree}
@@ -20,4 +20,5 @@ invariant_of-self g c =
       c.mark_leaf.ensures.length ∙ c.self.invariant.0,
       counted_mark old.height old.known old.marked old.shape c.mark_leaf.result (g.N.NodeMap.known old.nodes) (g.N.NodeMap.known c.mark_leaf.new.nodes) (g.N.NodeMap.marked old.nodes) (g.N.NodeMap.marked c.mark_leaf.new.nodes)
           c.self.invariant.1 c.mark_leaf.ensures.known c.mark_leaf.ensures.count,
+      c.mark_leaf.ensures.held ∙ c.self.invariant.2 ∙ ap g.N.NodeMap.needed (sym c.mark_leaf.ensures.known),
     )

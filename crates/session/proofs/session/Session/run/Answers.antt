@@ -3,10 +3,10 @@ use Rattle.std.specs.List.{All}
 use Rattle.std.proofs.lemmas.List.{take_all}
 use Rattle.wire.specs.declared.message.Message.{Message}
 use Rattle.session.specs.declared.verdict.Verdict.{Verdict}
-use Rattle.session.specs.Chain.{Chain}
+use Rattle.chains.specs.Chain.{Chain}
 use Rattle.session.specs.Session.{HasHashes, Step}
 use Rattle.session.specs.SafeStep.{IsSafeStep}
-use Rattle.session.proofs.Chains.{Chain-next, Chain-weaker}
+use Rattle.chains.proofs.Chains.{Chain-next, Chain-weaker}
 use Rattle.session.proofs.RoundRuns.{All-take-more, run-gaps, round-fewer}
 use Rattle.session.proofs.session.Session.run.Goals as goal
 

@@ -1,7 +1,7 @@
 use Rattle.std.proofs.Common.{◌≡◌, ◌≤◌, length, take, vec_len, vec_capacity}
 use Rattle.std.specs.List.{All}
 use Rattle.session.specs.Session.{HasHashes}
-use Rattle.session.specs.Chain.{Chain}
+use Rattle.chains.specs.Chain.{Chain}
 use Rattle.session.specs.SafeStep.{IsSafeStep}
 use Rattle.session.proofs.session.Session.run.Given as goal
 
