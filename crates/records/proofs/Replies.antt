@@ -1,5 +1,5 @@
 -- Answers: what the hashes of one have in number, what a frame with its answer is, and how answers go out one after another.
-use Rattle.std.proofs.Common.{◌≡◌, ℕ, ◌+◌, ◌-◌, ◌*◌, ◌≤◌, ◌^◌, ◌++◌, List, [], ◌∷◌, length, map, Bool, true, false, Option, Some, None, Result, Ok, Err, refl, sym, ap, ◌∙◌, subst, arith}
+use Rattle.std.proofs.Common.{◌≡◌, ℕ, ◌+◌, ◌≤◌, ◌^◌, ◌++◌, List, [], length, map, Bool, true, false, Option, Some, None, refl, sym, ap, ◌∙◌, subst, arith}
 use Rattle.std.specs.Prelude.{is_some, slice_get}
 use Rattle.std.specs.List.{range_with_len}
 use Rattle.std.proofs.lemmas.List.{length-append}
@@ -19,7 +19,7 @@ use Rattle.wire.specs.declared.message.Message.TheVariants as message
 use Rattle.node_maps.specs.Digest.{Hash}
 use Rattle.node_maps.specs.Known.{look}
 use Rattle.node_maps.specs.Places.{tree_height, PartialTree}
-use Rattle.partial_tree.specs.Claims.{CanAnswer, answer_of, answer_uncles, cover, sibling, above, value_at}
+use Rattle.partial_tree.specs.Claims.{answer_of, answer_uncles, cover, sibling, above, value_at}
 use Rattle.partial_tree.specs.declared.answer.Answer.{Answer}
 use Rattle.partial_tree.specs.declared.answer.Answer.TheVariants as answer
 use Rattle.session.specs.Answers.{IsAnswerTo}
@@ -30,7 +30,6 @@ use Rattle.session.specs.declared.verdict.Verdict.TheVariants as verdict
 use Rattle.session.proofs.Sessions.{mapped}
 use Rattle.records.specs.declared.told.Told.{Told}
 use Rattle.records.specs.declared.told.Told.TheVariants as told
-use Rattle.records.specs.declared.reply.Reply.{Reply}
 use Rattle.records.specs.declared.reply.Reply.TheVariants as reply
 use Rattle.records.specs.Answering.{Answers, AnswersAsk, BrokeAfter, Flushed, FailedFlush, HasFewHashes, IfWanted, IsReply, IsWanted, Unflushed, reply_of, reply_to}
 use Rattle.records.specs.Replay.{Meets}

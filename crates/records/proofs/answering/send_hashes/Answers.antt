@@ -1,4 +1,4 @@
-use Rattle.std.proofs.Common.{◌≡◌, sym, subst}
+use Rattle.std.proofs.Common.{subst}
 use Rattle.metainfo.specs.Sound.{IsSound}
 use Rattle.records.proofs.Replies.{few_hashes}
 use Rattle.records.proofs.answering.send_hashes.Goals as goal

@@ -1,4 +1,4 @@
-use Rattle.std.proofs.Common.{◌<◌, ◌^◌, refl, ap, ◌∙◌, arith}
+use Rattle.std.proofs.Common.{◌<◌, ◌^◌, refl, ◌∙◌, arith}
 use Rattle.benc.proofs.Known.{OnErr_anyway}
 use Rattle.records.specs.Replay.{replay_seen}
 use Rattle.records.proofs.Replays.{cut_in_answer, cut_in_line, frame_falls, in_end_of_record, in_end_unanswered, in_replay_more, in_replay_none, report_cut, report_ended}
