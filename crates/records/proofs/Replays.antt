@@ -164,17 +164,18 @@ fault_of : (a b : FrameFault) → ending.Fault a ≡ ending.Fault b → a ≡ b
 fault_of a b e = cc
 
 ended_fault : (new : SourceSeen) (part : List ℕ) (why : FrameFault) → (why ≢ fault.Read → part ≢ []) → (why ≡ fault.Truncated → IsAtEnd new.left)
-    → (why ≡ fault.NoMemory → ⊥) → IsEnding new.left part (Some (ending.Fault why))
-ended_fault new part fault.Truncated begun at_end room = (begun (λ e. absurd cc), at_end refl)
-ended_fault new part fault.Read begun at_end room = tt
-ended_fault new part fault.NoMemory begun at_end room = absurd (room refl)
+    → (why ≡ fault.NoMemory → ⊥) → why ≢ fault.BadDirection → IsEnding new.left part (Some (ending.Fault why))
+ended_fault new part fault.Truncated begun at_end room frames = (begun (λ e. absurd cc), at_end refl)
+ended_fault new part fault.Read begun at_end room frames = tt
+ended_fault new part fault.NoMemory begun at_end room frames = absurd (room refl)
+ended_fault new part fault.BadDirection begun at_end room frames = absurd (frames refl)
 
 pub tells_fault : (old new : SourceSeen) (why : FrameFault) → StopsInFrame old new why → (why ≡ fault.NoMemory → ⊥) → TellsEnding old new (ending.Fault why)
 tells_fault old new why stop room = record {
   part = stop.bytes;
   gave = stop.gave.gave;
   partial = stop.partial;
-  ended = ended_fault new stop.bytes why stop.begun stop.gave.ended room;
+  ended = ended_fault new stop.bytes why stop.begun stop.gave.ended room stop.gave.no_direction;
   had_room = λ e. room (fault_of why fault.NoMemory e);
   counted = stop.gave.faults;
 }

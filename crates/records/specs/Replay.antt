@@ -58,6 +58,7 @@ IsEnding left rest (Some ending.End) = (rest ≡ []) × IsAtEnd left
 IsEnding left rest (Some (ending.Fault fault.Truncated)) = (rest ≢ []) × IsAtEnd left
 IsEnding left rest (Some (ending.Fault fault.Read)) = Unit {0}
 IsEnding left rest (Some (ending.Fault fault.NoMemory)) = rest ≡ []
+IsEnding left rest (Some (ending.Fault fault.BadDirection)) = ⊥
 
 -- the count of the source's faults grows by one at `fault Read`, and else stays
 abbrev pub CountsEnding : ℕ → ℕ → Option Ending → Type 0

@@ -218,5 +218,6 @@ fn ending_line(ending: Ending) -> &'static [u8]
         Ending::Fault(FrameFault::Truncated) => b"fault Truncated\n",
         Ending::Fault(FrameFault::Read) => b"fault Read\n",
         Ending::Fault(FrameFault::NoMemory) => b"fault NoMemory\n",
+        Ending::Fault(FrameFault::BadDirection) => b"fault BadDirection\n",
     }
 }
