@@ -1,13 +1,13 @@
 //! What each command answers over any devices: what goes out, and the exit status that follows.
-ghost use Rattle.std.specs.Prelude.{◌≡◌, ◌^◌, ◌≤◌, ◌↔◌, ℕ, List, [], Some, IfOk, OnOk, length, not, true, false};
+ghost use Rattle.std.specs.Prelude.{◌≡◌, ◌^◌, ◌≤◌, ◌↔◌, ℕ, List, [], None, Some, IfOk, OnOk, length, not, true, false};
 ghost use Rattle.benc.specs.Device.{SentAndFlushed};
 ghost use Rattle.checker.specs.Refused.{refusal_text};
 ghost use Rattle.checker.specs.Show.{show_text};
-ghost use Rattle.checker.specs.Answering.{sink_after, sink_before};
 ghost use Rattle.checker.specs.Replay.{replay_seen};
 ghost use Rattle.session.specs.Fresh.{IsFresh};
 ghost use Rattle.btcheck.specs.Answers.{IsChecked, IsReplayed, answer_status};
 
+use benc::memory::MemSink;
 use benc::{Sink, Source};
 use checker::{Fault, RootFault, Shelf, print_report, refusal_line, root_line};
 use metainfo::{Refusal, Torrent};
@@ -88,24 +88,41 @@ pub(crate) fn new_session<'t, 'a>(
     Ok(Session::new(alloc, torrent, !info_only)?)
 }
 
-/// Replays a record over a session. Each line goes out as its frame comes, and the answers go to the
-/// sink with this path if there is one.
-pub(crate) fn replay<'a, N: NodeMap, R: Source, W: Sink, A: Sink>(
+/// Replays a record over a session. Each line goes out as its frame comes.
+pub(crate) fn replay<'a, N: NodeMap, R: Source, W: Sink>(
+    alloc: Global,
+    session: &mut Session<'_, N>,
+    source: &mut R,
+    out: &mut W,
+) -> Result<u8, Fault<'a>>
+    ensures { IfOk result (IsReplayed
+        (replay_seen (R.seen source.old) session.old (W.seen out.old) None)
+        (replay_seen (R.seen source.new) session.new (W.seen out.new) None)) }
+{
+    let Ok(outcome) = checker::replay(alloc, session, source, out, None::<&mut MemSink>) else {
+        return Err(Fault::Write("-"));
+    };
+    Ok(outcome.status())
+}
+
+/// Replays a record over a session, and writes the answers to its hash requests to the sink with
+/// this path.
+pub(crate) fn replay_and_answer<'a, N: NodeMap, R: Source, W: Sink, A: Sink>(
     alloc: Global,
     session: &mut Session<'_, N>,
     source: &mut R,
     out: &mut W,
     path: &'a str,
-    answers: Option<&mut A>,
+    answers: &mut A,
 ) -> Result<u8, Fault<'a>>
     ensures { IfOk result (IsReplayed
         (replay_seen (R.seen source.old) session.old (W.seen out.old)
-        (sink_before A.seen answers.entry))
+        (Some (A.seen answers.old)))
         (replay_seen (R.seen source.new) session.new (W.seen out.new)
-        (sink_after A.seen answers.exit))) }
+        (Some (A.seen answers.new)))) }
 {
     let faults = out.failures();
-    match checker::replay(alloc, session, source, out, answers) {
+    match checker::replay(alloc, session, source, out, Some(answers)) {
         Ok(outcome) => Ok(outcome.status()),
         Err(_) if out.failures() != faults => Err(Fault::Write("-")),
         Err(_) => Err(Fault::Write(path)),

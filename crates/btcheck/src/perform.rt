@@ -94,28 +94,31 @@ fn replay_file<'a, W: Sink>(
         return Err(Fault::Read(asked.record));
     };
     let mut source = FromRead::new(file);
-    let mut answers = created(rt, asked.answers)?;
+    let answers = created(rt, asked.answers)?;
     let mut session = answers::new_session(rt.alloc(), torrent, asked.info_only)?;
-    answers::replay(
-        rt.alloc(),
-        &mut session,
-        &mut source,
-        out,
-        asked.answers.unwrap_or("-"),
-        answers.as_mut(),
-    )
+    match answers {
+        None => answers::replay(rt.alloc(), &mut session, &mut source, out),
+        Some((path, file)) => answers::replay_and_answer(
+            rt.alloc(),
+            &mut session,
+            &mut source,
+            out,
+            path,
+            &mut FromWrite::new(file),
+        ),
+    }
 }
 
 // The file with this path, emptied, if one is named.
 fn created<'a>(
     rt: &HostRuntime,
     path: Option<&'a str>,
-) -> Result<Option<FromWrite<File>>, Fault<'a>> {
+) -> Result<Option<(&'a str, File)>, Fault<'a>> {
     let Some(path) = path else {
         return Ok(None);
     };
     match File::create(rt, path) {
-        Ok(file) => Ok(Some(FromWrite::new(file))),
+        Ok(file) => Ok(Some((path, file))),
         Err(_) => Err(Fault::Write(path)),
     }
 }
