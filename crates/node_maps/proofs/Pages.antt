@@ -1,5 +1,5 @@
 -- The pages of a layer, when one is added, written or given back.
-use Rattle.std.proofs.Common.{◌≡◌, ◌≢◌, ◌⊎◌, ℕ, zero, suc, ◌+◌, ◌-◌, ◌<◌, ◌≤◌, Bool, true, false, cond, eqb, ◌||◌, List, [], ◌∷◌, ◌++◌, length, get_or, set, replicate, Option, Some, None, IsSome, is_some, ◌/◌, ◌%◌, inl, inr, refl, sym, ap, ◌∙◌, subst, arith}
+use Rattle.std.proofs.Common.{◌≡◌, ◌≢◌, ◌⊎◌, ℕ, zero, suc, ◌+◌, ◌-◌, ◌^◌, ◌<◌, ◌≤◌, Bool, true, false, cond, eqb, ◌||◌, List, [], ◌∷◌, ◌++◌, length, get_or, set, replicate, Option, Some, None, IsSome, is_some, ◌/◌, ◌%◌, inl, inr, refl, sym, ap, ◌∙◌, subst, arith}
 use Rattle.std.specs.FinSet as numbers
 use Rattle.std.specs.FinSet.{same_set, contains-insert, contains-remove, len-insert, len-remove, len-empty, contains-empty, nat_cmp-IsAntisymmetric}
 use Rattle.std.specs.Ordering.{nat_cmp, eq_by_cmp}
@@ -13,7 +13,10 @@ use Rattle.node_maps.specs.declared.page.Page.{Page}
 use Rattle.node_maps.specs.Digest.{Hash}
 use Rattle.node_maps.specs.Cell.{is_blank, with_hash}
 use Rattle.std.proofs.lemmas.List.{get_or-set_same, get_or-set_other}
-use Rattle.node_maps.specs.Rising.{found}
+use Rattle.std.specs.Bool.{OnTrue}
+use Rattle.std.specs.List.{insert, remove}
+use Rattle.node_maps.specs.Rising.{AreRising, IsAt, IsGapFor, found}
+use Rattle.node_maps.proofs.Rising.{stands, found_gap, set-found, set-beside, insert-found, remove-found, within_items}
 use Rattle.node_maps.specs.Pages.{Numbered, within, find_under, cell_of, cell_in, is_among, is_spare, AreAlike, IsChanged, IsPut, AreSpare, AreCounted}
 
 -- ---- the fresh numbers
@@ -80,6 +83,10 @@ module _ (f g : Numbered) (q : ℕ) (o : Option Page) (is : (r : ℕ) → g r �
     | inr other ↦ before r p other (sym (changed_other r other) ∙ e)
   ]
 
+pub on_true : (b : Bool) (P : Type 0) → OnTrue b P → b ≡ true → P
+on_true true P h e = h
+on_true false P h e = absurd (false≢true e)
+
 -- ---- directories of directories
 
 -- a directory whose pages change at one number changes what stands on it at that number
@@ -121,3 +128,76 @@ module _ (place : ℕ) (hash : Hash) (mark : Bool) where
 
   pub put-changed : (q : ℕ) (f g : Numbered) (p w : Page) → f q ≡ Some p → IsChanged q (Some w) f g → IsPut place hash mark (Some p) (Some w) → IsPut place hash mark (f q) (g q)
   put-changed q f g p w before is put = subst (λ x. IsPut place hash mark x (g q)) (sym before) (subst (IsPut place hash mark (Some p)) (sym (changed_here f g q (Some w) is)) put)
+
+alike-changed : (q : ℕ) (f g : Numbered) → AreAlike f g → IsChanged q (f q) f g
+alike-changed q f g alike n = alike n ∙ by_number (cases_eq q n)
+  where
+    by_number : (q ≡ n) ⊎ (q ≢ n) → f n ≡ cond (eqb q n) (f q) (f n)
+    by_number (inl same) = ap f (sym same) ∙ sym (cond-true (eqb q n) (f q) (f n) (eq-eqb q n same))
+    by_number (inr other) = sym (cond-false (eqb q n) (f q) (f n) (ne_eqb q n other))
+
+changed-alike : (q : ℕ) (o : Option Page) (f g : Numbered) → o ≡ f q → IsChanged q o f g → AreAlike f g
+changed-alike q o f g same is n = is n ∙ by_number (cases_eq q n)
+  where
+    by_number : (q ≡ n) ⊎ (q ≢ n) → cond (eqb q n) o (f n) ≡ f n
+    by_number (inl e) = cond-true (eqb q n) o (f n) (eq-eqb q n e) ∙ same ∙ ap f e
+    by_number (inr other) = cond-false (eqb q n) o (f n) (ne_eqb q n other)
+
+changed-twice : (q : ℕ) (o : Option Page) (f g h : Numbered) → IsChanged q o f g → IsChanged q o g h → IsChanged q o f h
+changed-twice q o f g h first second n = second n ∙ ap (cond (eqb q n) o) (first n) ∙ twice (eqb q n)
+  where
+    twice : (b : Bool) → cond b o (cond b o (f n)) ≡ cond b o (f n)
+    twice true = refl
+    twice false = refl
+
+-- ---- a number whose first bits a search told
+
+module _ {D : Type 0} (find : D → Numbered) (ns : List ℕ) (ds : List D) (rising : AreRising ns) (beside : length ds ≡ length ns) (shift q at : ℕ) where
+  abbrev key : ℕ
+  key = q / 2 ^ shift
+
+  pub under_there : IsAt ns (q / 2 ^ shift) at → (d : D) → d ≡ get_or ds at d → find_under find ns ds shift q ≡ find d q
+  under_there is d here = ap (λ o. within find o q) (stands ns ds rising beside key at is d here)
+
+  pub under_gap : IsGapFor ns (q / 2 ^ shift) at → find_under find ns ds shift q ≡ None
+  under_gap gap = ap (λ o. within find o q) (found_gap ns ds key at gap)
+
+  pub under-set : IsAt ns (q / 2 ^ shift) at → (d w : D) → d ≡ get_or ds at d → (page : Option Page) → IsChanged q page (find d) (find w)
+      → IsChanged q page (find_under find ns ds shift) (find_under find ns (set ds at w) shift)
+  under-set is d w here page below =
+      under_changed find (λ n. n / 2 ^ shift) (found ns ds) (found ns (set ds at w)) q (Some w) page (set-found ns ds rising beside key at is w)
+      (subst (λ o. IsChanged q page (within find o) (find w)) (sym (stands ns ds rising beside key at is d here)) below)
+
+  pub under-alike : IsAt ns (q / 2 ^ shift) at → (d w : D) → d ≡ get_or ds at d → AreAlike (find d) (find w)
+      → AreAlike (find_under find ns ds shift) (find_under find ns (set ds at w) shift)
+  under-alike is d w here alike =
+      changed-alike q (find d q) (find_under find ns ds shift) (find_under find ns (set ds at w) shift) (sym (under_there is d here))
+      (under-set is d w here (find d q) (alike-changed q (find d) (find w) alike))
+
+  pub under-insert : IsGapFor ns (q / 2 ^ shift) at → (empty : Numbered) → ((n : ℕ) → empty n ≡ None) → (w : D) (page : Option Page) → IsChanged q page empty (find w)
+      → IsChanged q page (find_under find ns ds shift) (find_under find (insert ns at (q / 2 ^ shift)) (insert ds at w) shift)
+  under-insert gap empty none w page below =
+      under_changed find (λ n. n / 2 ^ shift) (found ns ds) (found (insert ns at key) (insert ds at w)) q (Some w) page (insert-found ns ds rising beside key at gap w)
+      (λ n. below n ∙ ap (cond (eqb q n) page) (none n ∙ sym (ap (λ o. within find o n) (found_gap ns ds key at gap))))
+
+  -- a directory that is empty is given back
+  under-remove : IsAt ns (q / 2 ^ shift) at → (d : D) → d ≡ get_or ds at d → ((n : ℕ) → find d n ≡ None)
+      → IsChanged q None (find_under find ns ds shift) (find_under find (remove ns at) (remove ds at) shift)
+  under-remove is d here none =
+      under_changed find (λ n. n / 2 ^ shift) (found ns ds) (found (remove ns at) (remove ds at)) q None None (remove-found ns ds rising beside key at is)
+      (λ n. sym (ap (cond (eqb q n) None) (ap (λ o. within find o n) (stands ns ds rising beside key at is d here) ∙ none n) ∙ both (eqb q n) None))
+    where
+      both : (b : Bool) (o : Option Page) → cond b o o ≡ o
+      both true o = refl
+      both false o = refl
+
+-- a directory whose last page is given back goes with it
+pub under-emptied : {D : Type 0} (find : D → Numbered) (ns : List ℕ) (ds : List D) (rising : AreRising ns) (beside : length ds ≡ length ns) (shift q at : ℕ)
+    → IsAt ns (q / 2 ^ shift) at → (d w : D) → d ≡ get_or ds at d → IsChanged q None (find d) (find w) → ((n : ℕ) → find w n ≡ None)
+    → IsChanged q None (find_under find ns ds shift) (find_under find (remove ns at) (remove (set ds at w) at) shift)
+under-emptied find ns ds rising beside shift q at is d w here below none =
+    let beside' : length (set ds at w) ≡ length ns = set-beside ns ds rising beside (q / 2 ^ shift) at w in
+    let here' : w ≡ get_or (set ds at w) at w = sym (get_or-set_same ds at w w (within_items ns ds rising beside (q / 2 ^ shift) at is)) in
+    changed-twice q None (find_under find ns ds shift) (find_under find ns (set ds at w) shift) (find_under find (remove ns at) (remove (set ds at w) at) shift)
+    (under-set find ns ds rising beside shift q at is d w here None below)
+    (under-remove find ns (set ds at w) rising beside' shift q at is w here' none)
