@@ -1,5 +1,5 @@
 -- The pages of a layer, when one is added, written or given back.
-use Rattle.std.proofs.Common.{◌≡◌, ◌≢◌, ◌⊎◌, ℕ, zero, suc, ◌+◌, ◌-◌, ◌^◌, ◌<◌, ◌≤◌, Bool, true, false, cond, eqb, ◌||◌, List, [], ◌∷◌, ◌++◌, length, get_or, set, replicate, Option, Some, None, IsSome, is_some, ◌/◌, ◌%◌, inl, inr, refl, sym, ap, ◌∙◌, subst, arith}
+use Rattle.std.proofs.Common.{◌≡◌, ◌≢◌, ◌⊎◌, ℕ, zero, suc, ◌+◌, ◌-◌, ◌^◌, ◌<◌, ◌≤◌, Bool, true, false, cond, eqb, ◌||◌, List, [], ◌∷◌, ◌++◌, length, get_or, set, replicate, Bor, Option, Some, None, IsSome, is_some, ◌/◌, ◌%◌, inl, inr, refl, sym, ap, ◌∙◌, subst, arith}
 use Rattle.std.specs.FinSet as numbers
 use Rattle.std.specs.FinSet.{same_set, contains-insert, contains-remove, len-insert, len-remove, len-empty, contains-empty, nat_cmp-IsAntisymmetric}
 use Rattle.std.specs.Ordering.{nat_cmp, eq_by_cmp}
@@ -11,9 +11,10 @@ use Rattle.node_maps.specs.declared.page.Cell.{Cell}
 use Rattle.node_maps.specs.declared.page.Cell.TheVariants.{Empty, Known, Marked}
 use Rattle.node_maps.specs.declared.page.Page.{Page}
 use Rattle.node_maps.specs.Digest.{Hash}
-use Rattle.node_maps.specs.Cell.{is_blank, with_hash}
+use Rattle.node_maps.specs.Cell.{is_blank, is_empty, mark_of, with_hash}
 use Rattle.std.proofs.lemmas.List.{get_or-set_same, get_or-set_other}
 use Rattle.std.specs.Bool.{OnTrue}
+use Rattle.std.specs.Option.{option_map}
 use Rattle.std.specs.List.{insert, remove}
 use Rattle.node_maps.specs.Rising.{AreRising, IsAt, IsGapFor, found}
 use Rattle.node_maps.proofs.Rising.{stands, found_gap, set-found, set-beside, insert-found, remove-found, within_items}
@@ -201,3 +202,81 @@ under-emptied find ns ds rising beside shift q at is d w here below none =
     changed-twice q None (find_under find ns ds shift) (find_under find ns (set ds at w) shift) (find_under find (remove ns at) (remove (set ds at w) at) shift)
     (under-set find ns ds rising beside shift q at is d w here None below)
     (under-remove find ns (set ds at w) rising beside' shift q at is w here' none)
+
+-- ---- pages that hold nothing
+
+pub blank-all : (n : ℕ) → is_blank (replicate n Empty) ≡ true
+blank-all zero = refl
+blank-all (suc n) = blank-all n
+
+pub spare-some : (o : Option Page) → is_spare o ≡ true → is_some o ≡ true
+spare-some None e = absurd (false≢true e)
+spare-some (Some p) e = refl
+
+spare-empty : (o : Option Page) (k : ℕ) → is_spare o ≡ true → cell_of o k ≡ Empty
+spare-empty None k e = refl
+spare-empty (Some p) k e = blank-empty p.cells.items k e
+
+with_hash-holds : (c : Cell) (h : Hash) (mark : Bool) → with_hash c h mark ≡ Empty → ⊥
+with_hash-holds c h mark = by_mark (mark || mark_of c)
+  where
+    by_mark : (b : Bool) → cond b (Marked h) (Known h) ≡ Empty → ⊥
+    by_mark true e = false≢true (ap is_empty e)
+    by_mark false e = false≢true (ap is_empty e)
+
+module _ (f g : Numbered) (q : ℕ) where
+  -- one is added
+  module _ (p : Page) (none : f q ≡ None) (is : IsChanged q (Some p) f g) (items : p.cells.items ≡ replicate 512 Empty) where
+    pub added-cells : (i : ℕ) → cell_in g i ≡ cell_in f i
+    added-cells = changed_alike f g q (Some p) is (λ k. ap (λ xs. get_or xs k Empty) items ∙ blank-replicate 512 k ∙ sym (ap (λ o. cell_of o k) none))
+
+    pub added-spare : (fresh : List ℕ) → AreSpare f fresh → AreSpare g (fresh ++ q ∷ [])
+    added-spare fresh spare = record {
+      known = λ n e. among-push n q fresh ∙ elim (cases_eq q n) [
+        | inl same ↦ or_right (is_among n fresh) (eqb q n) (eq-eqb q n same)
+        | inr other ↦ or_left (is_among n fresh) (eqb q n) (spare.known n (ap is_spare (sym (changed_other f g q (Some p) is n (λ e. other (sym e)))) ∙ e))
+      ];
+    }
+
+  -- one is given back
+  module _ (is : IsChanged q None f g) where
+    pub gone-cells : is_spare (f q) ≡ true → (i : ℕ) → cell_in g i ≡ cell_in f i
+    gone-cells spare = changed_alike f g q None is (λ k. sym (spare-empty (f q) k spare))
+
+    pub gone-spare : (fresh left : List ℕ) → fresh ≡ left ++ q ∷ [] → AreSpare f fresh → AreSpare g left
+    gone-spare fresh left popped spare = record {
+      known = λ n e. elim (cases_eq n q) [
+        | inl same ↦ absurd (false≢true (ap is_spare (sym (ap g same ∙ changed_here f g q None is)) ∙ e))
+        | inr other ↦ still_among n q left other (sym (ap (is_among n) popped) ∙ spare.known n (ap is_spare (sym (changed_other f g q None is n other)) ∙ e))
+      ];
+    }
+
+  -- a hash is written in one
+  module _ (place : ℕ) (hash : Hash) (mark : Bool) (put : IsPut place hash mark (f q) (g q)) (is : IsChanged q (g q) f g) where
+    pub put-spare : (fresh : List ℕ) → AreSpare f fresh → AreSpare g fresh
+    put-spare fresh spare = record {
+      known = λ n e. elim (cases_eq n q) [
+        | inl same ↦ absurd (with_hash-holds (cell_of (f q) place) hash mark (sym put.here ∙ spare-empty (g q) place (ap is_spare (ap g (sym same)) ∙ e)))
+        | inr other ↦ spare.known n (ap is_spare (sym (changed_other f g q (g q) is n other)) ∙ e)
+      ];
+    }
+
+    pub put-there : IsSome (f q) → (n : ℕ) → is_some (g n) ≡ is_some (f n)
+    put-there there n = elim (cases_eq n q) [
+      | inl same ↦ ap (λ k. is_some (g k)) same ∙ put.there ∙ sym there ∙ sym (ap (λ k. is_some (f k)) same)
+      | inr other ↦ ap is_some (changed_other f g q (g q) is n other)
+    ]
+
+-- a number that needs no longer be fresh
+pub kept-spare : (f : Numbered) (q : ℕ) (fresh left : List ℕ) → fresh ≡ left ++ q ∷ [] → is_spare (f q) ≡ false → AreSpare f fresh → AreSpare f left
+kept-spare f q fresh left popped full spare = record {
+  known = λ n e. elim (cases_eq n q) [
+    | inl same ↦ absurd (false≢true (sym full ∙ ap (λ k. is_spare (f k)) (sym same) ∙ e))
+    | inr other ↦ still_among n q left other (sym (ap (is_among n) popped) ∙ spare.known n e)
+  ];
+}
+
+-- a number for which no page was given has none
+pub absent : (r : Option (Bor Page)) (o : Option Page) → option_map (λ (p : Bor Page). p.now) r ≡ o → is_some r ≡ false → o ≡ None
+absent None o e none = sym e
+absent (Some p) o e none = absurd (false≢true (sym none))

@@ -10,7 +10,7 @@ use Rattle.node_maps.specs.Places.{PartialTree, IsPlace}
 use Rattle.node_maps.specs.Known.{Marked}
 use Rattle.node_maps.specs.Cell.{hash_of, mark_of}
 use Rattle.node_maps.specs.declared.page.Page.{Page}
-use Rattle.node_maps.specs.Pages.{cell_of, AreSpare}
+use Rattle.node_maps.specs.Pages.{marks_where, cell_of, AreSpare}
 use Rattle.node_maps.specs.PagedRow.{pages_of}
 
 -- the page of a layer and a number, if there is one
@@ -34,12 +34,6 @@ pub record HasPage (h : ℕ) (rows : List PagedRow) (l i : ℕ) : Type 0 where
 -- each cell that holds a hash is that of a place of a tree of height h
 pub record HoldsTree (h : ℕ) (rows : List PagedRow) : Type 0 where
   pub place : (l i : ℕ) (v : Hash) → hashes rows l i ≡ Some v → IsPlace h l i
-
--- the numbers below n of which f tells
-unfoldable pub marks_where : (ℕ → Bool) → ℕ → Marked
-marks_where f zero = set.empty
-marks_where f (suc n) =
-    (if f n then set.insert (marks_where f n) n else marks_where f n)
 
 -- the leaves whose cells are marked
 abbrev pub marked_cells : ℕ → List PagedRow → Marked

@@ -1,12 +1,12 @@
 -- The pages of one layer by their numbers: page p has the places from 512 p on.
-use Rattle.std.specs.Prelude.{◌≡◌, ◌≢◌, ℕ, ◌/◌, ◌%◌, ◌^◌, ◌<◌, Bool, true, false, ◌==◌, if◌then◌else◌, ◌||◌, List, [], ◌∷◌, slice_index_or, Option, Some, None, IsSome, is_some}
+use Rattle.std.specs.Prelude.{◌≡◌, ◌≢◌, ℕ, zero, suc, ◌/◌, ◌%◌, ◌^◌, ◌<◌, Bool, true, false, ◌==◌, if◌then◌else◌, ◌||◌, List, [], ◌∷◌, slice_index_or, Option, Some, None, IsSome, is_some}
 use Rattle.std.specs.FinSet as set
-use Rattle.std.specs.Ordering.{nat_cmp}
 use Rattle.node_maps.specs.declared.page.Cell.{Cell}
 use Rattle.node_maps.specs.declared.page.Cell.TheVariants.{Empty}
 use Rattle.node_maps.specs.declared.page.Page.{Page}
 use Rattle.node_maps.specs.Cell.{is_blank, with_hash}
 use Rattle.node_maps.specs.Digest.{Hash}
+use Rattle.node_maps.specs.Known.{Marked}
 use Rattle.node_maps.specs.Rising.{found}
 
 -- the page of each number, if there is one
@@ -50,6 +50,7 @@ pub record IsPut (place : ℕ) (hash : Hash) (mark : Bool) (old new : Option Pag
   pub here : cell_of new place ≡ with_hash (cell_of old place) hash mark
   pub others : (o : ℕ) → o ≢ place → cell_of new o ≡ cell_of old o
 
+-- the number is in the list
 abbrev pub is_among : ℕ → List ℕ → Bool
 is_among q [] = false
 is_among q (n ∷ ns) = n == q || is_among q ns
@@ -58,9 +59,13 @@ is_among q (n ∷ ns) = n == q || is_among q ns
 pub record AreSpare (pages : Numbered) (fresh : List ℕ) : Type 0 where
   pub known : (n : ℕ) → is_spare (pages n) ≡ true → is_among n fresh ≡ true
 
+-- the numbers below n of which f tells
+unfoldable pub marks_where : (ℕ → Bool) → ℕ → Marked
+marks_where f zero = set.empty
+marks_where f (suc n) =
+    (if f n then set.insert (marks_where f n) n else marks_where f n)
+
 -- so many numbers have a page, all below 2 ^ 32
 pub record AreCounted (pages : Numbered) (count : ℕ) : Type 0 where
-  pub numbers : set.FinSet nat_cmp
-  pub are : (n : ℕ) → set.contains numbers n ≡ is_some (pages n)
-  pub count_is : count ≡ set.len numbers
-  pub low : (n : ℕ) → set.contains numbers n ≡ true → n < 2 ^ 32
+  pub count_is : count ≡ set.len (marks_where (λ n. is_some (pages n)) (2 ^ 32))
+  pub low : (n : ℕ) → is_some (pages n) ≡ true → n < 2 ^ 32

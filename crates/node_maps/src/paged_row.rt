@@ -148,7 +148,7 @@ impl PagedRow {
 
 // Whether there is a page, and it holds nothing.
 fn is_spare(page: Option<&Page>) -> bool
-    ensures { result ≡ is_spare (option_map (λ page. page.now) page) }
+    ensures { result ≡ is_spare (option_map (λ page. page.now) page.entry) }
 {
     match page {
         Some(page) => page.is_blank(),
