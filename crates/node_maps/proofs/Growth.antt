@@ -1,9 +1,9 @@
 -- Pages that were made are given back one after the other, the last one first.
-use Rattle.std.proofs.Common.{◌≡◌, ◌≢◌, ◌⊎◌, ℕ, zero, suc, ◌+◌, ◌<◌, ◌≤◌, true, cond, eqb, List, [], ◌∷◌, ◌++◌, length, get_or, None, inl, inr, refl, sym, ap, ap₂, ◌∙◌, subst, arith}
+use Rattle.std.proofs.Common.{◌≡◌, ◌≢◌, ◌⊎◌, ℕ, suc, ◌+◌, ◌<◌, ◌≤◌, true, cond, eqb, List, [], ◌∷◌, ◌++◌, length, None, inl, inr, refl, sym, ap, ap₂, ◌∙◌, subst, arith}
 use Rattle.std.proofs.lemmas.List.{length_push}
 use Rattle.std.proofs.lemmas.Bool.{cases_eq, cond-true, cond-false, eq-eqb, ne_eqb}
 use Rattle.node_maps.specs.Pages.{Numbered, AreAlike, IsChanged, is_spare}
-use Rattle.node_maps.specs.Growth.{IsMade, IsSame, AreMade, IsGrown, IsGrownByOne}
+use Rattle.node_maps.specs.Growth.{AreMade, IsGrown, IsGrownByOne}
 
 rest : List ℕ → List ℕ
 rest [] = []

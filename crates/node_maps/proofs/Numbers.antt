@@ -1,5 +1,5 @@
 -- How many numbers have a page.
-use Rattle.std.proofs.Common.{◌≡◌, ◌≢◌, ◌⊎◌, ℕ, zero, suc, ◌+◌, ◌-◌, ◌^◌, ◌<◌, ◌≤◌, Bool, true, false, cond, eqb, ltb, not, ◌&&◌, ◌||◌, Option, Some, None, is_some, inl, inr, refl, sym, ap, ap₂, ◌∙◌, subst, arith}
+use Rattle.std.proofs.Common.{◌≡◌, ◌≢◌, ◌⊎◌, ℕ, zero, suc, ◌+◌, ◌-◌, ◌^◌, ◌<◌, ◌≤◌, Bool, true, false, cond, eqb, ltb, not, ◌&&◌, ◌||◌, Some, None, is_some, inl, inr, refl, sym, ap, ap₂, ◌∙◌, arith}
 use Rattle.std.specs.FinSet as set
 use Rattle.std.specs.Ordering.{nat_cmp, eq_by_cmp}
 use Rattle.std.specs.Cmp.{nat_cmp_total}
@@ -163,3 +163,7 @@ counted-some f q c is there = numbers-some f f q c (to_set f c is) there
 
 pub counted-less : (f g : Numbered) (q c : ℕ) → AreCounted f c → is_some (f q) ≡ true → IsChanged q None f g → AreCounted g (c - 1)
 counted-less f g q c is there changed = from_set g (c - 1) (numbers-less f g q c (to_set f c is) there changed)
+
+pub counted-are : (f : Numbered) (c : ℕ) → AreCounted f c → (n : ℕ) → set.contains (marks_where (λ k. is_some (f k)) (2 ^ 32)) n ≡ is_some (f n)
+unfolding marks_where to_set
+counted-are f c is n = (to_set f c is).are n

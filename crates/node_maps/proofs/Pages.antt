@@ -1,12 +1,7 @@
 -- The pages of a layer, when one is added, written or given back.
-use Rattle.std.proofs.Common.{◌≡◌, ◌≢◌, ◌⊎◌, ℕ, zero, suc, ◌+◌, ◌-◌, ◌^◌, ◌<◌, ◌≤◌, Bool, true, false, cond, eqb, ◌||◌, List, [], ◌∷◌, ◌++◌, length, get_or, set, replicate, Bor, Option, Some, None, IsSome, is_some, ◌/◌, ◌%◌, inl, inr, refl, sym, ap, ◌∙◌, subst, arith}
-use Rattle.std.specs.FinSet as numbers
-use Rattle.std.specs.FinSet.{same_set, contains-insert, contains-remove, len-insert, len-remove, len-empty, contains-empty, nat_cmp-IsAntisymmetric}
-use Rattle.std.specs.Ordering.{nat_cmp, eq_by_cmp}
-use Rattle.std.specs.Cmp.{nat_cmp_total}
-use Rattle.std.proofs.lemmas.Bool.{cases_lt, cases_eq, false≢true, cond-true, cond-false, eq-eqb, ne_eqb, or_left}
+use Rattle.std.proofs.Common.{◌≡◌, ◌≢◌, ◌⊎◌, ℕ, zero, suc, ◌^◌, ◌<◌, Bool, true, false, cond, eqb, ◌||◌, List, [], ◌∷◌, ◌++◌, length, get_or, set, replicate, Bor, Option, Some, None, IsSome, is_some, ◌/◌, ◌%◌, inl, inr, refl, sym, ap, ◌∙◌, subst, arith}
+use Rattle.std.proofs.lemmas.Bool.{cases_eq, false≢true, cond-true, cond-false, eq-eqb, ne_eqb, or_left}
 use Rattle.std.proofs.lemmas.Bool.Decides.{nat_tests}
-use Rattle.std.proofs.lemmas.Option.{same_Some, none-some}
 use Rattle.node_maps.specs.declared.page.Cell.{Cell}
 use Rattle.node_maps.specs.declared.page.Cell.TheVariants.{Empty, Known, Marked}
 use Rattle.node_maps.specs.declared.page.Page.{Page}
@@ -18,7 +13,7 @@ use Rattle.std.specs.Option.{option_map}
 use Rattle.std.specs.List.{insert, remove}
 use Rattle.node_maps.specs.Rising.{AreRising, IsAt, IsGapFor, found}
 use Rattle.node_maps.proofs.Rising.{stands, found_gap, set-found, set-beside, insert-found, remove-found, within_items}
-use Rattle.node_maps.specs.Pages.{Numbered, within, find_under, cell_of, cell_in, is_among, is_spare, AreAlike, IsChanged, IsPut, AreSpare, AreCounted}
+use Rattle.node_maps.specs.Pages.{Numbered, within, find_under, cell_of, cell_in, is_among, is_spare, AreAlike, IsChanged, IsPut, AreSpare}
 
 -- ---- the fresh numbers
 

@@ -1,8 +1,7 @@
 -- What rows of pages hold: one row for each layer, in it pages of 512 cells, and in a cell a hash
 -- with its mark.
-use Rattle.std.specs.Prelude.{◌≡◌, ◌≢◌, ◌⊎◌, ◌≤◌, ℕ, zero, suc, ◌+◌, ◌/◌, ◌%◌, ◌^◌, ◌<◌, Bool, if◌then◌else◌, List, [], length, slice_get, Option, Some, IsSome}
+use Rattle.std.specs.Prelude.{◌≡◌, ◌≢◌, ◌⊎◌, ◌≤◌, ℕ, zero, suc, ◌+◌, ◌/◌, ◌%◌, ◌^◌, ◌<◌, List, [], slice_get, Option, Some, IsSome}
 use Rattle.std.specs.Option.{option_and_then, option_map, unwrap_or}
-use Rattle.std.specs.FinSet as set
 use Rattle.node_maps.specs.declared.paged_row.PagedRow.{PagedRow}
 use Rattle.node_maps.specs.declared.page.Cell.{Cell}
 use Rattle.node_maps.specs.Digest.{Hash}

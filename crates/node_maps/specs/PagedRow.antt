@@ -6,7 +6,7 @@ use Rattle.node_maps.specs.declared.page.Cell.{Cell}
 use Rattle.node_maps.specs.declared.paged_row.PagedRow.{PagedRow}
 
 -- the pages of a layer
-abbrev pub pages_of : PagedRow → Numbered
+unfoldable pub pages_of : PagedRow → Numbered
 pages_of row = on_rows row.pages
 
 -- the cell of a place of the layer

@@ -32,6 +32,7 @@ impl PagedRow {
     ghost use Rattle.node_maps.specs.PagedRow.{pages_of, AreSameCells, AreSameCellsBut, HasNumber, HasNumbers, KeepsPages, cell_of_row};
 
     /// No page.
+    #[tactic(auto, unfolding(crate::specs::PagedRow::pages_of))]
     pub fn new(alloc: Global) -> PagedRow
         ensures pages { (n : ℕ) → pages_of result n ≡ None }
         ensures count { result.count ≡ 0 }
@@ -45,6 +46,7 @@ impl PagedRow {
     }
 
     /// How many pages there are.
+    #[tactic(auto, unfolding(crate::specs::PagedRow::pages_of))]
     pub fn len(&self) -> u64
         ensures value { result ≡ self.now.count }
         ensures small { result ≤ 2 ^ 32 }
@@ -53,6 +55,7 @@ impl PagedRow {
     }
 
     /// The cell of a place; an empty one where there is no page.
+    #[tactic(auto, unfolding(crate::specs::PagedRow::pages_of))]
     pub fn cell(&self, index: u64) -> Cell
         ensures { result ≡ cell_of_row self.now index }
     {
@@ -64,6 +67,7 @@ impl PagedRow {
 
     /// Writes the hash of a place that has a page, and marks it, if `mark` says so. A mark that is
     /// there stays.
+    #[tactic(auto, unfolding(crate::specs::PagedRow::pages_of))]
     pub fn put(&mut self, index: u64, hash: Hash, mark: bool)
         requires { HasNumber self.old (index / 512) }
         ensures count { self.new.count ≡ self.old.count }
@@ -79,6 +83,7 @@ impl PagedRow {
 
     /// Makes the pages from one number on up to another that are not there, all or none of them.
     /// What there is stays.
+    #[tactic(auto, unfolding(crate::specs::PagedRow::pages_of))]
     pub fn reserve(&mut self, first: u64, end: u64) -> Result<(), NoMemory>
         requires { end ≤ 2 ^ 32 }
         ensures cells { AreSameCells self.old self.new }
@@ -98,6 +103,7 @@ impl PagedRow {
     }
 
     // Makes the page of a number, unless it is there. Out of memory nothing changes.
+    #[tactic(auto, unfolding(crate::specs::PagedRow::pages_of))]
     fn make(&mut self, number: u64) -> Result<(), NoMemory>
         requires { number < 2 ^ 32 }
         ensures cells { AreSameCells self.old self.new }
@@ -119,6 +125,7 @@ impl PagedRow {
     }
 
     /// Gives back the pages that hold nothing.
+    #[tactic(auto, unfolding(crate::specs::PagedRow::pages_of))]
     pub fn trim(&mut self)
         ensures cells { AreSameCells self.old self.new }
         ensures full { AreSpare (pages_of self.new) [] }
@@ -127,6 +134,7 @@ impl PagedRow {
     }
 
     // Gives back the pages that hold nothing and that were made since so many were fresh.
+    #[tactic(auto, unfolding(crate::specs::PagedRow::pages_of))]
     fn give_back(&mut self, before: usize)
         ensures cells { AreSameCells self.old self.new }
         ensures fresh { length self.new.fresh.items ≤ before }

@@ -1,13 +1,15 @@
-use Rattle.std.proofs.Common.{◌≡◌, ℕ, ◌+◌, ◌-◌, ◌<◌, ◌≤◌, List, length, true, false, sym, ap, ◌∙◌, arith}
+use Rattle.std.proofs.Common.{◌≡◌, ℕ, ◌+◌, ◌-◌, ◌<◌, ◌≤◌, length, true, false, sym, ap, ◌∙◌, arith}
 use Rattle.std.proofs.lemmas.Bool.{false≢true}
 use Rattle.node_maps.specs.Pages.{is_spare}
 use Rattle.node_maps.specs.Directories.{on_rows}
+use Rattle.node_maps.specs.PagedRow.{pages_of}
 use Rattle.node_maps.proofs.Pages.{gone-cells, gone-spare, kept-spare, spare-some}
 use Rattle.node_maps.proofs.Numbers.{counted-some, counted-less}
 use Rattle.node_maps.proofs.Growth.{last-spare, last-gone, grown-gone}
 use Rattle.node_maps.proofs.paged_row.PagedRow.give_back.Goals as goal
 
 pub overflow_sub-self : goal.overflow_sub-self
+unfolding pages_of
 overflow_sub-self c =
     let row = c.fresh.self in
     let f = on_rows row.pages in
@@ -15,6 +17,7 @@ overflow_sub-self c =
     counted-some f c.in-Some.number row.count row.counted (spare-some (f c.in-Some.number) spare)
 
 pub invariant_of-self : goal.invariant_of-self
+unfolding pages_of
 invariant_of-self c =
     let row = c.fresh.self in
     let f = on_rows row.pages in
@@ -27,6 +30,7 @@ invariant_of-self c =
     }
 
 pub fresh-preserved-then-is_spare : goal.fresh-preserved-then-is_spare
+unfolding pages_of
 fresh-preserved-then-is_spare c =
     let row = c.fresh.self in
     let f = on_rows row.pages in
@@ -43,6 +47,7 @@ fresh-preserved-then-is_spare c =
     }
 
 pub invariant_of-self-else-is_spare : goal.invariant_of-self-else-is_spare
+unfolding pages_of
 invariant_of-self-else-is_spare c =
     let row = c.fresh.self in
     let f = on_rows row.pages in
@@ -53,6 +58,7 @@ invariant_of-self-else-is_spare c =
     }
 
 pub fresh-preserved : goal.fresh-preserved
+unfolding pages_of
 fresh-preserved c =
     let row = c.fresh.self in
     let f = on_rows row.pages in
@@ -66,6 +72,7 @@ fresh-preserved c =
     }
 
 pub returns-clause-restored : goal.returns-clause-restored
+unfolding pages_of
 returns-clause-restored c = λ base fresh count long made.
     let row = c.fresh.self in
     let few : length row.fresh.items ≤ length fresh = omega (arith, long, c.fresh-test.false, row.fresh.ok.0) in

@@ -1,16 +1,19 @@
-use Rattle.std.proofs.Common.{◌≡◌, ℕ, ◌+◌, ◌^◌, ◌≤◌, ◌∷◌, [], ◌++◌, None, is_some, sym, ap, ◌∙◌, subst, arith}
+use Rattle.std.proofs.Common.{◌≡◌, ◌^◌, ◌≤◌, ◌∷◌, [], ◌++◌, None, sym, ap, ◌∙◌, subst, arith}
 use Rattle.node_maps.specs.Pages.{AreSpare}
 use Rattle.node_maps.specs.Directories.{on_rows}
+use Rattle.node_maps.specs.PagedRow.{pages_of}
 use Rattle.node_maps.proofs.Pages.{added-cells, added-spare, absent}
 use Rattle.node_maps.proofs.Numbers.{counted-few, counted-more}
 use Rattle.node_maps.proofs.paged_row.PagedRow.make.Goals as goal
 
 pub overflow_add-self : goal.overflow_add-self
+unfolding pages_of
 overflow_add-self c =
     let few : c.args.self.now.count ≤ 2 ^ 32 = counted-few (on_rows c.args.self.now.pages) c.args.self.now.count c.args.self.now.counted in
     omega (arith, few)
 
 pub invariant_of-self-2 : goal.invariant_of-self-2
+unfolding pages_of
 invariant_of-self-2 c =
     let row = c.args.self.now in
     let f = on_rows row.pages in
@@ -23,6 +26,7 @@ invariant_of-self-2 c =
     }
 
 pub returns-clause-cells : goal.returns-clause-cells
+unfolding pages_of
 returns-clause-cells c =
     let row = c.args.self.now in
     let f = on_rows row.pages in

@@ -1,10 +1,12 @@
 use Rattle.std.proofs.Common.{◌/◌, ◌%◌}
 use Rattle.node_maps.specs.Directories.{on_rows}
+use Rattle.node_maps.specs.PagedRow.{pages_of}
 use Rattle.node_maps.proofs.Pages.{put-spare, put-there}
 use Rattle.node_maps.proofs.Numbers.{counted-same}
 use Rattle.node_maps.proofs.paged_row.PagedRow.put.Goals as goal
 
 pub invariant_of-self : goal.invariant_of-self
+unfolding pages_of
 invariant_of-self c =
     let row = c.args.self.now in
     let f = on_rows row.pages in

@@ -1,11 +1,11 @@
-use Rattle.std.proofs.Common.{◌≡◌, ℕ, ◌+◌, ◌<◌, ◌≤◌, IsSome, is_some, inl, inr, sym, ap, ◌∙◌, subst, arith, length, eq-or-lt_of_le}
+use Rattle.std.proofs.Common.{◌≡◌, ◌≤◌, IsSome, inl, inr, sym, ◌∙◌, subst, arith, length, eq-or-lt_of_le}
 use Rattle.node_maps.specs.Pages.{AreAlike}
-use Rattle.node_maps.specs.Growth.{IsGrown}
 use Rattle.node_maps.specs.PagedRow.{pages_of, HasNumber}
 use Rattle.node_maps.proofs.Growth.{grown-one}
 use Rattle.node_maps.proofs.paged_row.PagedRow.reserve.Goals as goal
 
 pub returns-in-Err-clause-keeps : goal.returns-in-Err-clause-keeps
+unfolding pages_of
 returns-in-Err-clause-keeps c =
     let row = c.args.self.now in
     let base = pages_of row in
@@ -15,6 +15,7 @@ returns-in-Err-clause-keeps c =
     λ n was. subst IsSome (sym (back n)) was
 
 pub returns-in-Err-clause-err : goal.returns-in-Err-clause-err
+unfolding pages_of
 returns-in-Err-clause-err c =
     let row = c.args.self.now in
     let base = pages_of row in
@@ -23,6 +24,7 @@ returns-in-Err-clause-err c =
     (c.give_back.ensures.restored base row.fresh.items row.count long grown).1
 
 pub numbers-preserved : goal.numbers-preserved
+unfolding pages_of
 numbers-preserved c =
     let row = c.args.self.now in
     let before = c.numbers.invariant in

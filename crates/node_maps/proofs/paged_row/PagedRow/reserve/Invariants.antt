@@ -1,4 +1,4 @@
-use Rattle.std.proofs.Common.{◌≡◌, ℕ, ◌<◌, ◌≤◌}
+use Rattle.std.proofs.Common.{ℕ, ◌<◌, ◌≤◌}
 use Rattle.node_maps.specs.Growth.{IsGrown}
 use Rattle.node_maps.specs.PagedRow.{pages_of, AreSameCells, HasNumber, KeepsPages}
 use Rattle.node_maps.proofs.paged_row.PagedRow.reserve.Given as goal

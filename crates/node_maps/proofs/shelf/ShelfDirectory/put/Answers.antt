@@ -1,8 +1,7 @@
-use Rattle.std.proofs.Common.{◌≡◌, ℕ, List, Some, is_some, set, sym, ap, ◌∙◌, subst}
+use Rattle.std.proofs.Common.{ℕ, List, Some, is_some, set, sym, ap, ◌∙◌, subst}
 use Rattle.std.proofs.lemmas.Bool.{false≢true}
 use Rattle.node_maps.specs.declared.page.Page.{Page}
 use Rattle.node_maps.specs.Rising.{IsAt, IsGapFor, found}
-use Rattle.node_maps.specs.Pages.{IsChanged}
 use Rattle.node_maps.proofs.Rising.{stands, set-found, found_gap}
 use Rattle.node_maps.proofs.Pages.{put-is, put-changed, changed-self}
 use Rattle.node_maps.proofs.shelf.ShelfDirectory.put.Goals as goal

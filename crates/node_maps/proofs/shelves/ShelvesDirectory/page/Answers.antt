@@ -1,4 +1,4 @@
-use Rattle.std.proofs.Common.{◌/◌, ◌^◌, sym, ap, ◌∙◌, subst}
+use Rattle.std.proofs.Common.{◌/◌, ◌^◌, sym, ◌∙◌, subst}
 use Rattle.node_maps.specs.Rising.{IsAt, IsGapFor}
 use Rattle.node_maps.proofs.Pages.{under_there, under_gap}
 use Rattle.node_maps.proofs.shelves.ShelvesDirectory.page.Goals as goal

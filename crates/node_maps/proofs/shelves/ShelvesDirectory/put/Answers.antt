@@ -1,4 +1,4 @@
-use Rattle.std.proofs.Common.{◌≡◌, ℕ, ◌/◌, ◌^◌, List, IsSome, is_some, set, sym, ap, ◌∙◌, subst}
+use Rattle.std.proofs.Common.{ℕ, ◌/◌, ◌^◌, IsSome, is_some, set, sym, ap, ◌∙◌, subst}
 use Rattle.std.proofs.lemmas.Bool.{false≢true}
 use Rattle.node_maps.specs.Rising.{IsAt, IsGapFor}
 use Rattle.node_maps.specs.Pages.{find_under, IsPut}
@@ -21,7 +21,7 @@ returns-in-Ok-clause-here g c =
     let q : ℕ = c.args.number in
     let here = c.index_mut-shelf.ensures.value in
     let new = changed_here (find_under find s.numbers.items s.shelves.items s.shift) (find_under find s.numbers.items (set s.shelves.items c.in-Ok.at w) s.shift) q (find w q)
-        (under-set find s.numbers.items s.shelves.items s.rising s.beside s.shift q c.in-Ok.at is d w here (find w q) c.put.ensures.others) in
+    (under-set find s.numbers.items s.shelves.items s.rising s.beside s.shift q c.in-Ok.at is d w here (find w q) c.put.ensures.others) in
     subst (λ o. IsPut c.args.place c.args.hash c.args.mark o (find_under find s.numbers.items (set s.shelves.items c.in-Ok.at w) s.shift q))
     (sym (under_there find s.numbers.items s.shelves.items s.rising s.beside s.shift q c.in-Ok.at is d here))
     (subst (IsPut c.args.place c.args.hash c.args.mark (find d q)) (sym new) c.put.ensures.here)
