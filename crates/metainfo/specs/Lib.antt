@@ -5,6 +5,7 @@ pub use Rattle.filetree.specs.Names
 pub use Rattle.filetree.specs.Paths
 pub use Rattle.filetree.specs.Tests
 pub use Rattle.filetree.specs.TreeTests
+pub use Rattle.opening.specs.Blocks
 pub use Rattle.opening.specs.Description
 pub use Rattle.opening.specs.Describes
 pub use Rattle.opening.specs.PieceLayers
@@ -17,6 +18,7 @@ pub use Rattle.opening.specs.Trees
 pub use Rattle.opening.specs.Laws
 pub use Rattle.pieces.specs.Cuts
 pub use Rattle.pieces.specs.Feeding
+pub use Rattle.pieces.specs.FileCuts
 pub use Rattle.pieces.specs.Pieces
 pub use Rattle.filetree.specs.declared.refusal.Refusal
 pub use Rattle.opening.specs.declared.torrent.File

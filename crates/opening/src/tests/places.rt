@@ -101,3 +101,59 @@ fn the_largest_numbers(rt: HostRuntime) -> Result<(), AllocError> {
         ],
     )
 }
+
+// An index, a number of bytes behind it, a size in bytes, and how many blocks from there on have it.
+type Run = (u32, u32, u64, Option<u64>);
+
+fn run_at(torrent: &Torrent<'_>, index: u32, begin: u32, size: u64) -> Option<u64> {
+    match torrent.place(index, begin) {
+        Some((file, block)) => torrent.block_run(file, block, size),
+        None => None,
+    }
+}
+
+fn are_runs(
+    rt: &impl Abort,
+    alloc: Global,
+    text: &str,
+    edits: Edits,
+    runs: &[Run],
+) -> Result<(), AllocError> {
+    let bytes = edited(rt, alloc, text, edits)?;
+    let Ok(torrent) = Torrent::open(alloc, &bytes) else {
+        panic!(rt; "refused");
+    };
+    for (index, begin, size, run) in runs.iter() {
+        assert!(rt;
+            run_at(&torrent, *index, *begin, *size) == *run,
+            "{index} {begin} {size}"
+        );
+    }
+    Ok(())
+}
+
+#[test]
+fn runs_of_blocks(rt: HostRuntime) -> Result<(), AllocError> {
+    are_runs(
+        &rt,
+        rt.alloc(),
+        FIVE,
+        &[],
+        &[
+            (0, 0, 16384, Some(1)),
+            (0, 0, 32768, Some(2)),
+            (0, 0, 65536, Some(4)),
+            (0, 0, 65636, Some(5)),
+            (0, 16384, 49152, Some(3)),
+            (1, 16384, 16484, Some(2)),
+            (2, 0, 100, Some(1)),
+            (0, 0, 0, None),
+            (0, 0, 1, None),
+            (0, 0, 16383, None),
+            (0, 0, 32769, None),
+            (0, 0, 65637, None),
+            (2, 0, 99, None),
+            (2, 0, 16384, None),
+        ],
+    )
+}
