@@ -6,7 +6,7 @@
 //!                     /         \
 //!     2             c            u1               u1  the second uncle, nearest the root
 //!                /     \
-//!     1        c        u0                        u0  the first uncle, beside the node over the base range
+//!     1        c        u0                        u0  the first uncle, beside the range's node
 //!            /   \
 //!     0     b     b     .     Z                   b   the base range, Z a pad past the file's end
 //! ```
