@@ -21,3 +21,4 @@ pub use root::{RootFault, root_line};
 pub use shelf::Shelf;
 pub use shelf_fault::ShelfFault;
 pub use std::alloc::AllocError as NoMemory;
+pub use take_all::{Taker, take_all};

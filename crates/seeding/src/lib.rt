@@ -1,0 +1,4 @@
+//! Seeding: a session learns the leaves of the files that a shelf holds.
+#![tactic(auto)]
+
+mod leaves;
