@@ -12,8 +12,10 @@ pushed_none l = record {
   at_most = omega arith;
   at_least = omega arith;
   again = λ refused. refused;
-  fed = inr (let e : byte_count l.builder ≡ byte_count l.builder + 0 = omega arith in e,
-      λ file fed. subst (IsFedLayer l.builder) (sym (append-nil file)) fed);
+  fed = inr (
+    let e : byte_count l.builder ≡ byte_count l.builder + 0 = omega arith in e,
+    λ file fed. subst (IsFedLayer l.builder) (sym (append-nil file)) fed,
+  );
 }
 
 both_fed : (a b c : Leaves) (x y : List ℕ) → Pushes a x b → Pushes b y c
@@ -24,10 +26,11 @@ both_fed a b c x y one two = elim two.fed [
   | inr next ↦ elim one.fed [
     | inl refused ↦ inl (two.again refused)
     | inr first ↦ inr (
-        let e : byte_count c.builder ≡ byte_count a.builder + length (x ++ y) =
-        omega (arith, next.0, first.0, length-append x y) in e,
-        λ file fed. subst (IsFedLayer c.builder) (append_assoc file x y)
-            (next.1 (file ++ x) (first.1 file fed)))
+      let e : byte_count c.builder ≡ byte_count a.builder + length (x ++ y) =
+          omega (arith, next.0, first.0, length-append x y) in e,
+      λ file fed. subst (IsFedLayer c.builder) (append_assoc file x y)
+          (next.1 (file ++ x) (first.1 file fed)),
+    )
   ]
 ]
 

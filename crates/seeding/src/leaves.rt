@@ -72,13 +72,16 @@ pub(crate) fn read_leaves<F: Source>(
     if count != Some(tree.length) {
         return Ok(None);
     }
-    let Ok((_, root, hashes)) = finish(leaves.builder) else {
+    let Leaves { builder } = leaves;
+    let Ok(found) = finish(builder) else {
         return Err(ReadFault::NoMemory);
     };
-    if root != tree.root {
-        return Ok(None);
+    let (_, root, hashes) = found;
+    if root == tree.root {
+        Ok(Some(hashes))
+    } else {
+        Ok(None)
     }
-    Ok(Some(hashes))
 }
 
 // What a builder tells that was given some bytes, if memory was not refused to it. One to which it

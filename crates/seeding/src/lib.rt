@@ -2,3 +2,8 @@
 #![tactic(auto)]
 
 mod leaves;
+mod seed_fault;
+mod seeding;
+
+pub use seed_fault::SeedFault;
+pub use seeding::seed;
