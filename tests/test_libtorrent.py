@@ -95,7 +95,8 @@ def test_pieces_of_several_blocks():
     with folder() as place:
         os.makedirs(f"{place}/content/t")
         torrent = f"{place}/torrent"
-        write(f"{place}/content/t/a", chance.randbytes(300 * BLOCK))
+        for name, blocks in [("a", 300), ("b", 2)]:
+            write(f"{place}/content/t/{name}", chance.randbytes(blocks * BLOCK))
         made_by_libtorrent([{"content": f"{place}/content/t", "torrent": torrent, "piece_length": 4 * BLOCK, "hybrid": False}])
         held, asked = loaded(place, torrent, True)
         theirs = of_kind(held, 22)
