@@ -1,6 +1,7 @@
-//! Makes calls of the libraries, and makes a call again if memory was refused for it. Prints what the calls answer, and
-//! `changed` if one that failed left something behind; standard error names each call that failed. So with memory for
-//! one growth refused, it prints what it prints with ample memory. Tests refuse each growth in turn.
+//! Makes calls of the libraries, and makes a call again if memory was refused for it. Prints what
+//! the calls answer, and `changed` if one that failed left something behind; standard error names
+//! each call that failed. So if memory for one growth is refused, it prints what it prints with
+//! ample memory. Tests refuse each growth in turn.
 #![tactic(auto)]
 
 mod again;
