@@ -5,7 +5,7 @@ use crate::again::tell;
 use session::{NodeMap, Session};
 use std::io;
 
-/// How many places are known, how many leaves are marked, and how many pages are held, in all trees.
+/// How many places are known, leaves marked, and pages held, in all trees.
 #[derive(Clone, Copy, Debug, PartialEq, Eq)]
 pub(crate) struct State {
     known: u64,
