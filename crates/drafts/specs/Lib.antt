@@ -1,0 +1,6 @@
+-- What contracts of drafts cite.
+pub mod Adding
+pub mod Laws
+pub mod Orders
+pub mod Outline
+pub mod Written

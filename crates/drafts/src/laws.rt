@@ -1,0 +1,12 @@
+//! What holds of each draft. A proof that calls one of these has its law.
+
+ghost use Rattle.drafts.specs.Laws.{DraftDescribes};
+
+use benc::laws::canonical_has_spelling;
+
+/// What a draft writes describes the draft's torrent.
+pub fn draft_describes()
+    ensures { DraftDescribes }
+{
+    canonical_has_spelling();
+}

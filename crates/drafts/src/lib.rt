@@ -1,0 +1,7 @@
+//! Drafts of torrents (BEP 52, "metainfo files"; BEP 3; BEP 47): files are added, and the torrent file
+//! is written.
+#![tactic(auto)]
+
+mod laws;
+
+pub use laws::draft_describes;
