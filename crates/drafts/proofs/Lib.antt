@@ -1,7 +1,13 @@
 -- Lemmas on drafts.
 pub mod Accepted
+pub mod Adding
 pub mod Building
 pub mod DraftLayers
 pub mod DraftStream
 pub mod Drafting
+pub mod Finding
+pub mod Kept
+pub mod Ordering
+pub mod Starting
+pub mod Tests
 pub mod Tidy

@@ -73,3 +73,13 @@ pub record IsOutline (d : Outline) : Type 0 where
   pub layers_ascend : IsStrictlySortedBy (slice_cmp nat_cmp) (map (λ (e : OutlineLayer). e.root) d.layers)
   pub layers_there : (n : ℕ) (f : OutlineFile) → slice_get d.files n ≡ Some f → d.piece_length < f.length → HasLayer d f
   pub layers_used : (n : ℕ) (e : OutlineLayer) → slice_get d.layers n ≡ Some e → (k : ℕ) × (f : OutlineFile) × (slice_get d.files k ≡ Some f) × (d.piece_length < f.length) × IsLayerOf d.piece_length e f
+
+-- a draft of no files
+abbrev pub empty_outline : List ℕ → ℕ → Bool → Outline
+empty_outline name piece_length hybrid = record {
+  name = name;
+  piece_length = piece_length;
+  hybrid = hybrid;
+  files = [];
+  layers = [];
+}

@@ -1,6 +1,6 @@
 //! What holds of each draft. A proof that calls one of these has its law.
 
-ghost use Rattle.drafts.specs.Laws.{DraftDescribes};
+ghost use Rattle.drafts.specs.DraftLaws.{DraftDescribes};
 
 use benc::laws::canonical_has_spelling;
 

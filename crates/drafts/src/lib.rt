@@ -2,6 +2,11 @@
 //! is written.
 #![tactic(auto)]
 
+mod add;
+mod component;
+mod draft;
 mod laws;
+mod path_order;
 
+pub use draft::Draft;
 pub use laws::draft_describes;
