@@ -1,5 +1,5 @@
 -- What a draft keeps of its roots.
-use Rattle.std.proofs.Common.{◌≡◌, ◌≢◌, ◌⊎◌, inl, inr, ℕ, zero, suc, ◌+◌, ◌<◌, ◌^◌, Bool, true, false, cond, if◌then◌else◌, List, [], ◌∷◌, ◌++◌, length, map, take, drop, Option, None, Some, slice_get, refl, sym, ap, subst, ◌∙◌, arith}
+use Rattle.std.proofs.Common.{◌≡◌, ◌≢◌, inl, inr, ℕ, zero, suc, ◌+◌, ◌<◌, Bool, true, false, cond, List, [], ◌∷◌, ◌++◌, map, take, drop, None, Some, refl, sym, ap, subst, ◌∙◌, arith}
 use Rattle.std.specs.Prelude.{nat_lt}
 use Rattle.std.specs.BTreeMap.{insert_entry, is_at}
 use Rattle.std.specs.Cmp.Lexicographic.{slice_cmp}
@@ -20,12 +20,12 @@ use Rattle.filetree.specs.Tests.{NoneHolds}
 use Rattle.pieces.specs.Pieces.{pieces_of}
 use Rattle.opening.specs.Trees.{pieces_in}
 use Rattle.drafts.specs.Adding.{IsGiven, IsWith, ReusesRoot, add_rows, with_layer}
-use Rattle.drafts.specs.DraftSeen.{AreRootsOf, Entries, HasRoot, IsKept, IsUsedRoot, KeepsRoot, kept_at, outline, outline_file, outline_layers}
+use Rattle.drafts.specs.DraftSeen.{AreRootsOf, Entries, HasRoot, IsKept, KeepsRoot, kept_at, outline, outline_file, outline_layers}
 use Rattle.drafts.specs.Orders.{IsPlaceOf}
-use Rattle.drafts.specs.Outline.{Outline, OutlineFile, OutlineLayer, listed_file}
+use Rattle.drafts.specs.Outline.{Outline, OutlineFile, listed_file}
 use Rattle.drafts.specs.declared.draft.DraftFile.{DraftFile}
 use Rattle.drafts.specs.declared.draft.KeptRoot.{KeptRoot}
-use Rattle.drafts.proofs.Adding.{In, add_keeps, equal_or_not, new, pieces_put, put_back, put_here, put_kept, three}
+use Rattle.drafts.proofs.Adding.{add_keeps, equal_or_not, new, pieces_put, put_back, put_here, put_kept, three}
 use Rattle.drafts.proofs.Ordering.{put_in_order}
 
 -- ---- layers

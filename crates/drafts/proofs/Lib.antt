@@ -8,6 +8,6 @@ pub mod Drafting
 pub mod Finding
 pub mod Kept
 pub mod Ordering
+pub mod Passing
 pub mod Starting
-pub mod Tests
 pub mod Tidy

@@ -1,5 +1,5 @@
--- The torrent file that a draft writes (BEP 52, "metainfo files", "file tree", "piece layers", "Upgrade Path"; BEP 47,
--- "Padding Files"; that nothing else is written is this project's profile).
+-- The torrent file of a draft (BEP 52, "metainfo files", "file tree", "piece layers", "Upgrade
+-- Path"; BEP 47, "Padding Files"; that nothing else stands in it is this project's profile).
 use Rattle.std.specs.Prelude.{ℕ, ◌+◌, ◌-◌, ◌*◌, pos, Bool, false, ◌&&◌, nat_lt, if◌then◌else◌, List, [], ◌∷◌, ◌++◌, length, map, take, Some, None, codes}
 use Rattle.std.specs.Fmt.{decimal}
 use Rattle.std.specs.List.{concat, list_any}
@@ -19,13 +19,15 @@ use Rattle.pieces.specs.Pieces.{pieces_of}
 
 -- ---- the file tree
 
--- a file put in front of the files of a tree: into the first directory where that has the path's first component as its
--- key, else below new directories in front of it
+-- a file put in front of the files of a tree: into the first directory if that has the path's first
+-- component as its key, else below new directories in front of it
 abbrev pub with_first : List (List ℕ) → Bencode → Pairs → Pairs
 with_first [] file ps = pair [] file ps
 with_first (k ∷ ks) file no_pairs = pair k (dict (with_first ks file no_pairs)) no_pairs
 with_first (k ∷ ks) file (pair l v ps) =
-    if bytes_eq k l then pair l (dict (with_first ks file (pairs_in v))) ps else pair k (dict (with_first ks file no_pairs)) (pair l v ps)
+    if bytes_eq k l
+    then pair l (dict (with_first ks file (pairs_in v))) ps
+    else pair k (dict (with_first ks file no_pairs)) (pair l v ps)
 
 -- the tree of these files, whose paths are in order
 abbrev pub tree_of : List Walk → Pairs
@@ -34,7 +36,8 @@ tree_of (w ∷ ws) = with_first w.path w.file (tree_of ws)
 
 -- a file's dictionary: its length, and its root where it is not empty
 abbrev pub file_value : OutlineFile → Bencode
-file_value f = dict (pair (codes "length") (int (pos f.length)) (if nat_lt 0 f.length then pair (codes "pieces root") (text f.root) no_pairs else no_pairs))
+file_value f = dict (pair (codes "length") (int (pos f.length))
+    (if nat_lt 0 f.length then pair (codes "pieces root") (text f.root) no_pairs else no_pairs))
 
 abbrev pub walk_of : OutlineFile → Walk
 walk_of f = record { path = f.path; file = file_value f }
@@ -63,11 +66,13 @@ texts_value [] = no_items
 texts_value (k ∷ ks) = item (text k) (texts_value ks)
 
 abbrev pub entry_value : OutlineFile → Bencode
-entry_value f = dict (pair (codes "length") (int (pos f.length)) (pair (codes "path") (list (texts_value f.path)) no_pairs))
+entry_value f = dict (pair (codes "length") (int (pos f.length))
+    (pair (codes "path") (list (texts_value f.path)) no_pairs))
 
 -- a pad of n zeros
 abbrev pub pad_value : ℕ → Bencode
-pad_value n = dict (pair (codes "attr") (text (codes "p")) (pair (codes "length") (int (pos n)) (pair (codes "path") (list (texts_value (codes ".pad" ∷ decimal n ∷ []))) no_pairs)))
+pad_value n = dict (pair (codes "attr") (text (codes "p")) (pair (codes "length") (int (pos n))
+    (pair (codes "path") (list (texts_value (codes ".pad" ∷ decimal n ∷ []))) no_pairs)))
 
 -- a pad stands behind a file that ends within a piece, where a file that is not empty comes later
 abbrev pub needs_pad : ℕ → OutlineFile → List OutlineFile → Bool
@@ -76,7 +81,9 @@ needs_pad piece_length f later = nat_lt 0 (gap piece_length f.length) && has_con
 abbrev pub entries_value : ℕ → List OutlineFile → Items
 entries_value piece_length [] = no_items
 entries_value piece_length (f ∷ fs) =
-    item (entry_value f) (if needs_pad piece_length f fs then item (pad_value (gap piece_length f.length)) (entries_value piece_length fs) else entries_value piece_length fs)
+    item (entry_value f) (if needs_pad piece_length f fs
+    then item (pad_value (gap piece_length f.length)) (entries_value piece_length fs)
+    else entries_value piece_length fs)
 
 -- the digests of a file's cuts, the last one filled up with zeros
 abbrev pub filled_cuts : OutlineFile → List (List ℕ)
@@ -84,7 +91,8 @@ filled_cuts f = take (length f.cuts - 1) f.cuts ++ f.padded ∷ []
 
 -- the digests of a file's part of the stream
 abbrev pub digests_in : OutlineFile → List OutlineFile → List (List ℕ)
-digests_in f later = if nat_lt 0 f.length then (if has_content later then filled_cuts f else f.cuts) else []
+digests_in f later =
+    if nat_lt 0 f.length then (if has_content later then filled_cuts f else f.cuts) else []
 
 -- the digests of the stream's cuts
 abbrev pub digests_of : List OutlineFile → List (List ℕ)
@@ -94,7 +102,9 @@ digests_of (f ∷ fs) = digests_in f fs ++ digests_of fs
 -- the length of the stream: files in front of others are filled up to a piece boundary
 abbrev pub stream_of : ℕ → List OutlineFile → ℕ
 stream_of piece_length [] = 0
-stream_of piece_length (f ∷ fs) = if has_content fs then pieces_of piece_length f.length * piece_length + stream_of piece_length fs else f.length + stream_of piece_length fs
+stream_of piece_length (f ∷ fs) = if has_content fs
+    then pieces_of piece_length f.length * piece_length + stream_of piece_length fs
+    else f.length + stream_of piece_length fs
 
 -- one file, whose path is the torrent's name
 abbrev pub is_single : List ℕ → List OutlineFile → Bool
@@ -114,22 +124,29 @@ first_length (f ∷ fs) = f.length
 -- `length` of a single file, or `files`
 abbrev pub list_pair : Outline → Pairs → Pairs
 list_pair d rest =
-    if is_single d.name d.files then pair (codes "length") (int (pos (first_length d.files))) rest else pair (codes "files") (list (entries_value d.piece_length d.files)) rest
+    if is_single d.name d.files
+    then pair (codes "length") (int (pos (first_length d.files))) rest
+    else pair (codes "files") (list (entries_value d.piece_length d.files)) rest
 
 -- ---- the whole
 
 abbrev pub pieces_pair : Outline → Pairs
-pieces_pair d = if d.hybrid then pair (codes "pieces") (text (concat (digests_of d.files))) no_pairs else no_pairs
+pieces_pair d = if d.hybrid
+    then pair (codes "pieces") (text (concat (digests_of d.files))) no_pairs
+    else no_pairs
 
 abbrev pub last_pairs : Outline → Pairs
-last_pairs d = pair (codes "meta version") (int (pos 2)) (pair (codes "name") (text d.name) (pair (codes "piece length") (int (pos d.piece_length)) (pieces_pair d)))
+last_pairs d = pair (codes "meta version") (int (pos 2)) (pair (codes "name") (text d.name)
+    (pair (codes "piece length") (int (pos d.piece_length)) (pieces_pair d)))
 
 abbrev pub info_value : Outline → Bencode
-info_value d = dict (pair (codes "file tree") (dict (file_tree_of d.files)) (if d.hybrid then list_pair d (last_pairs d) else last_pairs d))
+info_value d = dict (pair (codes "file tree") (dict (file_tree_of d.files))
+    (if d.hybrid then list_pair d (last_pairs d) else last_pairs d))
 
 -- the value that a draft writes
 abbrev pub value_of : Outline → Bencode
-value_of d = dict (pair (codes "info") (info_value d) (pair (codes "piece layers") (dict (layer_pairs d.layers)) no_pairs))
+value_of d = dict (pair (codes "info") (info_value d)
+    (pair (codes "piece layers") (dict (layer_pairs d.layers)) no_pairs))
 
 -- ---- the torrent that it describes
 
@@ -139,16 +156,26 @@ hashes_under root [] = []
 hashes_under root (e ∷ es) = if bytes_eq e.root root then e.hashes else hashes_under root es
 
 abbrev pub drafted_tree : Outline → Root → TreeEntry
-drafted_tree d t = record { root = t.root; length = t.length; layer = if nat_lt d.piece_length t.length then hashes_under t.root d.layers else [] }
+drafted_tree d t = record {
+  root = t.root;
+  length = t.length;
+  layer = if nat_lt d.piece_length t.length then hashes_under t.root d.layers else [];
+}
 
 -- the torrent with the draft's name, files, trees, layers and version 1 digests
 abbrev pub torrent_of : Outline → Description
 torrent_of d = record {
   name = d.name;
   piece_length = d.piece_length;
-  files = entries_from d.piece_length (roots_in (map listed_file d.files)) 0 (map listed_file d.files);
+  files = entries_from d.piece_length (roots_in (map listed_file d.files)) 0
+      (map listed_file d.files);
   trees = map (drafted_tree d) (roots_in (map listed_file d.files));
   info_hash_v2 = sha256 (spelling (info_value d));
   info_hash_v1 = sha1 (spelling (info_value d));
-  v1 = if d.hybrid then Some (record { pieces = digests_of d.files; total = stream_of d.piece_length d.files }) else None;
+  v1 = if d.hybrid
+      then Some (record {
+        pieces = digests_of d.files;
+        total = stream_of d.piece_length d.files;
+      })
+      else None;
 }

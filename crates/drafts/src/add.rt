@@ -34,8 +34,8 @@ impl Draft {
     /// The first of these, and the draft is unchanged: `Path` if there is no component, more than
     /// 124, or one that is empty, `.`, `..` or has a `/` or a zero byte; `Length` above 2^46 bytes;
     /// `RootReused` if a file of another length has this root; `TooManyPieces` above 2^32 - 1
-    /// pieces in all; `PathClash` if the path is there, or if it or one that is there is a prefix of
-    /// the other; `NoMemory` only if memory was refused.
+    /// pieces in all; `PathClash` if the path is there, or if it or one that is there is a prefix
+    /// of the other; `NoMemory` only if memory was refused.
     pub fn add(
         &mut self,
         path: &[&str],

@@ -27,7 +27,7 @@ pub(crate) struct KeptRoot {
     pub(crate) layer: Vec<Hash>,
 }
 
-/// A torrent that is put together: files are added to it, and its torrent file is written.
+/// A torrent that is put together, to which files are added.
 ///
 /// Its files stand in the order of their paths, whatever the order in which they are added.
 #[derive(Drop)]
@@ -67,12 +67,7 @@ impl Draft {
     ///
     /// `PieceLength` unless the piece length is a power of two from 16,384 to 2^30; `NoMemory` only
     /// if memory was refused.
-    pub fn new(
-        alloc: Global,
-        name: &str,
-        piece_length: u64,
-        hybrid: bool,
-    ) -> Result<Draft, Refusal>
+    pub fn new(alloc: Global, name: &str, piece_length: u64, hybrid: bool) -> Result<Draft, Refusal>
         ensures empty { IfOk result
             (λ d. IsPieceLength piece_length × (d ≡ empty_outline name.now piece_length hybrid)) }
         ensures refused { IfErr result (λ r. r ≢ Refusal.NoMemory

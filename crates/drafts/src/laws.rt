@@ -4,7 +4,7 @@ ghost use Rattle.drafts.specs.DraftLaws.{DraftDescribes};
 
 use benc::laws::canonical_has_spelling;
 
-/// What a draft writes describes the draft's torrent.
+/// The text that is stated for a draft describes the draft's torrent.
 pub fn draft_describes()
     ensures { DraftDescribes }
 {

@@ -1,5 +1,4 @@
-//! Drafts of torrents (BEP 52, "metainfo files"; BEP 3; BEP 47): files are added, and the torrent file
-//! is written.
+//! Drafts of torrents (BEP 52, "metainfo files"; BEP 3; BEP 47), to which files are added.
 #![tactic(auto)]
 
 mod add;
@@ -7,6 +6,8 @@ mod component;
 mod draft;
 mod laws;
 mod path_order;
+#[cfg(test)]
+mod tests;
 
 pub use draft::Draft;
 pub use laws::draft_describes;

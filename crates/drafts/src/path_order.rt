@@ -24,8 +24,8 @@ fn path_cmp(own: &[String], path: &[&str]) -> Ordering
     Ordering::Equal
 }
 
-/// The place of a path among files whose paths are in order; `None` if it is there, or if one of two
-/// is a prefix of the other.
+/// The place of a path among files whose paths are in order; `None` if it is there, or if it or one
+/// that is there is a prefix of the other.
 pub(crate) fn place_among(files: &[DraftFile], path: &[&str]) -> Option<usize>
     requires { AreInOrder (map (λ (f : OutlineFile). f.path) (map outline_file files.now)) }
     ensures bound { IfSome result (λ i. i ≤ length files.now) }

@@ -1,4 +1,4 @@
-use Rattle.std.proofs.Common.{◌≡◌, ◌<◌, Option, None, Some, false, true, refl, sym, ◌∙◌, arith, rules}
+use Rattle.std.proofs.Common.{◌≡◌, Option, None, Some, false, true, refl, sym, ◌∙◌, arith}
 use Rattle.std.specs.Prelude.{is_some}
 use Rattle.drafts.specs.DraftSeen.{kept_at, outline_file}
 use Rattle.drafts.specs.declared.draft.KeptRoot.{KeptRoot}

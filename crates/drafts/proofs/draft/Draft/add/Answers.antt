@@ -7,9 +7,9 @@ use Rattle.filetree.specs.declared.refusal.Refusal.TheVariants as refusals
 use Rattle.drafts.specs.Adding.{IsGiven, IsWith, add_rows, given}
 use Rattle.drafts.specs.DraftSeen.{outline_file}
 use Rattle.drafts.specs.Orders.{IsPlaceOf, Ties}
-use Rattle.drafts.specs.Outline.{Outline, OutlineFile}
+use Rattle.drafts.specs.Outline.{OutlineFile}
 use Rattle.drafts.specs.declared.draft.DraftFile.{DraftFile}
-use Rattle.drafts.proofs.Tests.{Passed, clash_first, fits_given, none_holds, paths_in}
+use Rattle.drafts.proofs.Passing.{Passed, clash_first, fits_given, none_holds, paths_in}
 use Rattle.drafts.proofs.draft.Draft.add.Goals as goal
 
 if_err : {A : Type 0} (P : Type 0) (r : Result A Refusal) → P → IfErr r (λ e. e ≡ refusals.NoMemory → P)
@@ -25,7 +25,7 @@ returns-in_default-clause-added c =
     let f = given c.args.self.now (map (λ s. s.now) c.args.path.now) c.args.length c.args.root c.args.v1.now in
     let passed : Passed c.args.self.now f = record { path = c.in_ok-test_path.ensures; bound = omega (arith, c.if-length-gt-MAX_LENGTH.false); root = c.in_ok-test_root.ensures; pieces = c.in_ok-test_pieces.ensures } in
     let paths : map (λ (g : OutlineFile). g.path) (map outline_file c.deref.result.now) ≡ paths_in c.args.self.now =
-      ap (λ (fs : List DraftFile). map (λ (g : OutlineFile). g.path) (map outline_file fs)) c.deref.ensures.value ∙ ap paths_in c.self.view_is
+    ap (λ (fs : List DraftFile). map (λ (g : OutlineFile). g.path) (map outline_file fs)) c.deref.ensures.value ∙ ap paths_in c.self.view_is
     in
     λ _. clash_first c.args.self.now f passed (subst (λ ps. Ties f.path ps) paths c.in_default.ensures.place)
 
@@ -34,7 +34,7 @@ returns-in_err-file-clause-memory c =
     let f = given c.args.self.now (map (λ s. s.now) c.args.path.now) c.args.length c.args.root c.args.v1.now in
     let passed : Passed c.args.self.now f = record { path = c.in_ok-test_path.ensures; bound = omega (arith, c.if-length-gt-MAX_LENGTH.false); root = c.in_ok-test_root.ensures; pieces = c.in_ok-test_pieces.ensures } in
     let paths : map (λ (g : OutlineFile). g.path) (map outline_file c.deref.result.now) ≡ paths_in c.args.self.now =
-      ap (λ (fs : List DraftFile). map (λ (g : OutlineFile). g.path) (map outline_file fs)) c.deref.ensures.value ∙ ap paths_in c.self.view_is
+    ap (λ (fs : List DraftFile). map (λ (g : OutlineFile). g.path) (map outline_file fs)) c.deref.ensures.value ∙ ap paths_in c.self.view_is
     in
     if_err _ c.from_residual-in_err-file.result (none_holds c.args.self.now f c.in-Some.place passed (subst (λ ps. IsPlaceOf f.path ps c.in-Some.place) paths c.in-Some.ensures.place))
 
@@ -43,7 +43,7 @@ insert-requires-clause-tests c =
     let f = given c.args.self.now (map (λ s. s.now) c.args.path.now) c.args.length c.args.root c.args.v1.now in
     let passed : Passed c.args.self.now f = record { path = c.in_ok-test_path.ensures; bound = omega (arith, c.if-length-gt-MAX_LENGTH.false); root = c.in_ok-test_root.ensures; pieces = c.in_ok-test_pieces.ensures } in
     let paths : map (λ (g : OutlineFile). g.path) (map outline_file c.deref.result.now) ≡ paths_in c.args.self.now =
-      ap (λ (fs : List DraftFile). map (λ (g : OutlineFile). g.path) (map outline_file fs)) c.deref.ensures.value ∙ ap paths_in c.self.view_is
+    ap (λ (fs : List DraftFile). map (λ (g : OutlineFile). g.path) (map outline_file fs)) c.deref.ensures.value ∙ ap paths_in c.self.view_is
     in
     subst (λ g. NoneHolds (add_rows c.args.self.now g)) (sym c.in_ok-file.ensures)
     (none_holds c.args.self.now f c.in-Some.place passed (subst (λ ps. IsPlaceOf f.path ps c.in-Some.place) paths c.in-Some.ensures.place))
@@ -60,7 +60,7 @@ returns-clause-added c =
     let f = given c.args.self.now (map (λ s. s.now) c.args.path.now) c.args.length c.args.root c.args.v1.now in
     let passed : Passed c.args.self.now f = record { path = c.in_ok-test_path.ensures; bound = omega (arith, c.if-length-gt-MAX_LENGTH.false); root = c.in_ok-test_root.ensures; pieces = c.in_ok-test_pieces.ensures } in
     let paths : map (λ (g : OutlineFile). g.path) (map outline_file c.deref.result.now) ≡ paths_in c.args.self.now =
-      ap (λ (fs : List DraftFile). map (λ (g : OutlineFile). g.path) (map outline_file fs)) c.deref.ensures.value ∙ ap paths_in c.self.view_is
+    ap (λ (fs : List DraftFile). map (λ (g : OutlineFile). g.path) (map outline_file fs)) c.deref.ensures.value ∙ ap paths_in c.self.view_is
     in
     passes (add_rows c.args.self.now f) _ c.insert.result
     (none_holds c.args.self.now f c.in-Some.place passed (subst (λ ps. IsPlaceOf f.path ps c.in-Some.place) paths c.in-Some.ensures.place))
@@ -72,6 +72,6 @@ returns-clause-memory c =
     let f = given c.args.self.now (map (λ s. s.now) c.args.path.now) c.args.length c.args.root c.args.v1.now in
     let passed : Passed c.args.self.now f = record { path = c.in_ok-test_path.ensures; bound = omega (arith, c.if-length-gt-MAX_LENGTH.false); root = c.in_ok-test_root.ensures; pieces = c.in_ok-test_pieces.ensures } in
     let paths : map (λ (g : OutlineFile). g.path) (map outline_file c.deref.result.now) ≡ paths_in c.args.self.now =
-      ap (λ (fs : List DraftFile). map (λ (g : OutlineFile). g.path) (map outline_file fs)) c.deref.ensures.value ∙ ap paths_in c.self.view_is
+    ap (λ (fs : List DraftFile). map (λ (g : OutlineFile). g.path) (map outline_file fs)) c.deref.ensures.value ∙ ap paths_in c.self.view_is
     in
     if_err _ c.insert.result (none_holds c.args.self.now f c.in-Some.place passed (subst (λ ps. IsPlaceOf f.path ps c.in-Some.place) paths c.in-Some.ensures.place))

@@ -1,6 +1,5 @@
-use Rattle.std.proofs.Common.{◌≡◌, Some, refl, sym, subst, rules}
+use Rattle.std.proofs.Common.{refl, sym, subst}
 use Rattle.drafts.specs.Adding.{ReusesRoot}
-use Rattle.drafts.specs.DraftSeen.{kept_at, outline}
 use Rattle.drafts.proofs.Kept.{reuses}
 use Rattle.drafts.proofs.draft.Draft.test_root.Goals as goal
 
@@ -8,5 +7,5 @@ pub returns-in-Some : goal.returns-in-Some
 returns-in-Some c = (
   refl,
   subst (λ d. ReusesRoot d c.args.length c.args.root.now) c.self.view_is
-    (reuses _ c.self.inside.roots.entries c.args.length c.args.root.now c.in-Some.kept.now c.self.invariant.roots (sym c.in-Some.ensures.value) c.if-length-gt0.true c.if-kept-length.true),
+      (reuses _ c.self.inside.roots.entries c.args.length c.args.root.now c.in-Some.kept.now c.self.invariant.roots (sym c.in-Some.ensures.value) c.if-length-gt0.true c.if-kept-length.true),
 )
