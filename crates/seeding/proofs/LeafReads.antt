@@ -1,10 +1,9 @@
 -- What reading a file for its leaves told.
-use Rattle.std.proofs.Common.{◌≡◌, ◌⊎◌, inl, inr, ℕ, ◌+◌, ◌<◌, ◌≤◌, ◌++◌, List, [], length, Option, Some, None, option_map, Result, Ok, Err, OnOk, OnErr, refl, sym, ◌∙◌, ap, subst, arith}
+use Rattle.std.proofs.Common.{◌≡◌, inl, inr, ℕ, ◌+◌, ◌≤◌, List, [], length, Option, Some, None, option_map, Result, Ok, Err, OnOk, OnErr, refl, sym, ◌∙◌, ap, subst, arith}
 use Rattle.std.specs.Prelude.{IsErr}
 use Rattle.benc.specs.Device.{SourceSeen}
 use Rattle.hashtree.specs.LayerBuilder.{EndsWithLayer, FeedsLayer, HasRefused, IsFedLayer, byte_count, chosen_layer}
 use Rattle.hashtree.specs.Tree.{layer_of, root_of}
-use Rattle.hashtree.specs.declared.layer.LayerBuilder.{LayerBuilder}
 use Rattle.metainfo.specs.Description.{TreeEntry}
 use Rattle.node_maps.specs.Digest.{Hash}
 use Rattle.std.proofs.lemmas.Option.{same_Some}

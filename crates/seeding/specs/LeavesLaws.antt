@@ -1,6 +1,6 @@
 -- The laws of what takes a file's bytes for its leaves: several parts are one, and leave room for
 -- less.
-use Rattle.std.proofs.Common.{◌≡◌, ◌⊎◌, inl, inr, ℕ, ◌+◌, ◌^◌, ◌≤◌, ◌++◌, List, [], length, sym, ◌∙◌, subst, append_assoc, append-nil, refl, arith}
+use Rattle.std.proofs.Common.{◌≡◌, ◌⊎◌, inl, inr, ℕ, ◌+◌, ◌≤◌, ◌++◌, List, [], length, sym, ◌∙◌, subst, append_assoc, append-nil, refl, arith}
 use Rattle.std.proofs.lemmas.List.{length-append}
 use Rattle.hashtree.specs.LayerBuilder.{FeedsLayer, HasRefused, IsFedLayer, byte_count}
 use Rattle.seeding.specs.Leaves.{CanPush, Pushes}

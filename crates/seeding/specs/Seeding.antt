@@ -1,12 +1,12 @@
 -- What seeding a session from a shelf does: to each file of its torrent once, in order.
-use Rattle.std.specs.Prelude.{◌≡◌, ◌≢◌, ◌⊎◌, ℕ, ◌+◌, ◌++◌, Bool, true, false, List, [], ◌∷◌, length, take, slice_get, codes, Option, Some, None, Result, Ok, Err}
+use Rattle.std.specs.Prelude.{◌≡◌, ◌≢◌, ◌⊎◌, ℕ, ◌+◌, ◌++◌, Bool, true, false, List, [], ◌∷◌, take, slice_get, codes, Option, Some, None, Result, Ok, Err}
 use Rattle.std.specs.Io.KnownBytes.{Appends}
 use Rattle.benc.specs.Device.{SourceSeen, SinkSeen, Sent, Broke, SentAndFlushed, one_more}
 use Rattle.benc.specs.declared.device.DeviceFault.{DeviceFault}
 use Rattle.chains.specs.Chain.{Chain}
 use Rattle.hashtree.specs.Tree.{layer_of}
 use Rattle.lines.specs.Text.{path_text}
-use Rattle.metainfo.specs.Description.{Description, FileEntry, TreeEntry}
+use Rattle.metainfo.specs.Description.{FileEntry, TreeEntry}
 use Rattle.node_maps.specs.Digest.{Hash}
 use Rattle.folders.specs.Folder.{Fits}
 use Rattle.folders.specs.Shelf.{more}

@@ -192,8 +192,12 @@ fn write_line_of<W: Sink>(out: &mut W, file: &File<'_>, seeded: bool) -> Result<
     write_all(out, b"\n")
 }
 
+// What a file's line begins with.
 fn words(seeded: bool) -> &'static [u8]
     ensures { result.now ≡ seed_words seeded }
 {
     if seeded { b"seeded " } else { b"not seeded " }
 }
+
+#[cfg(test)]
+mod tests;

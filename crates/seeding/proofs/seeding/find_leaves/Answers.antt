@@ -1,4 +1,4 @@
-use Rattle.std.proofs.Common.{Some, subst, option_map}
+use Rattle.std.proofs.Common.{Some, subst}
 use Rattle.metainfo.specs.Seen.{tree_entry}
 use Rattle.folders.specs.Shelf.{IsFound}
 use Rattle.seeding.proofs.LeafReads.{finds_read}

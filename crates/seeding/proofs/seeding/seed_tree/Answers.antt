@@ -1,4 +1,3 @@
-use Rattle.std.proofs.Common.{arith}
 use Rattle.std.proofs.lemmas.Option.{slice_get_within}
 use Rattle.metainfo.specs.Seen.{file_entry, tree_entry}
 use Rattle.seeding.proofs.Seeds.{seeds_filled, seeds_nothing, stops_filling, stops_reading}
