@@ -95,7 +95,7 @@ ends_later form a b gave end = record { part = later_part form [] a b gave.gave;
 pub ends_first : (a b : SourceSeen) → GaveFaultless a b [] → IsAtEnd b.left → EndsRecord None One a b
 ends_first a b gave end = record { part = first_part [] a b (one_from_short [] (omega arith)) gave.gave; faults = gave.faults; at_end = end }
 
--- a header, in two halves
+-- a header, of which each half was read alone
 pub gave_header : (a b c : SourceSeen) (half : List ℕ) → half ≡ codes "BTH2" → GaveFaultless a b (four_bytes 4294967295) → GaveFaultless b c half → GaveFaultless a c header
 gave_header a b c half is p q = subst (GaveFaultless a c) (ap (λ h. four_bytes 4294967295 ++ h) is ∙ sym longest) (Faultless-trans a b c (four_bytes 4294967295) half p q)
 
