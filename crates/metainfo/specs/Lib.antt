@@ -5,6 +5,7 @@ pub use Rattle.filetree.specs.Names
 pub use Rattle.filetree.specs.Paths
 pub use Rattle.filetree.specs.Tests
 pub use Rattle.filetree.specs.TreeTests
+pub use Rattle.opening.specs.Blocks
 pub use Rattle.opening.specs.Description
 pub use Rattle.opening.specs.Describes
 pub use Rattle.opening.specs.PieceLayers

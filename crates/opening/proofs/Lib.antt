@@ -4,6 +4,7 @@ pub mod Growing
 pub mod Aligned
 pub mod Answering
 pub mod Assembling
+pub mod Blocks
 pub mod Entries
 pub mod Hybrids
 pub mod InStream

@@ -1,4 +1,5 @@
 -- What contracts of torrents cite.
+pub mod Blocks
 pub mod Description
 pub mod Describes
 pub mod Matching

@@ -2,14 +2,21 @@
 -- the layer in which one hash covers a piece.
 use Rattle.std.specs.Prelude.{ℕ, ◌*◌, Bool, false, not, ◌&&◌, ◌==◌, nat_lt, if◌then◌else◌, List, [], length, Option, Some, None, is_none, option_and_then}
 use Rattle.std.specs.Str.{bytes_eq}
+use Rattle.std.specs.Cmp.Lexicographic.{slice_cmp}
+use Rattle.std.specs.List.Sorted.{IsStrictlySortedBy-prop}
+use Rattle.std.specs.Ordering.{nat_cmp}
 use Rattle.std.specs.Simd.{first_chunks}
 use Rattle.hashtree.specs.Tree.{block_count, height}
 pub use Rattle.hashtree.specs.Tree.{root_over}
 use Rattle.benc.specs.Value.{Bencode, int, text, list, dict, Pairs}
 use Rattle.opening.specs.Description.{TreeEntry}
-use Rattle.filetree.specs.Dictionary.{under}
+use Rattle.filetree.specs.Dictionary.{Ascends, keys_in, under}
 use Rattle.opening.specs.declared.roots.Root.{Root}
 use Rattle.pieces.specs.Pieces.{pieces_of}
+
+-- keys ascend in one way alone
+abbrev pub ascends_prop : (ps : Pairs) → IsProp (Ascends ps)
+ascends_prop ps = IsStrictlySortedBy-prop (slice_cmp nat_cmp) (keys_in ps)
 
 -- the layer in which one hash covers this many bytes, a power of two of blocks
 abbrev pub piece_layer : ℕ → ℕ

@@ -1,12 +1,9 @@
 //! The pairs of `piece layers` (BEP 52, "piece layers").
 
 ghost use Rattle.std.specs.Prelude.{◌≡◌, IfSome, length, option_map};
-ghost use Rattle.std.specs.Cmp.Lexicographic.{slice_cmp};
-ghost use Rattle.std.specs.List.Sorted.{IsStrictlySortedBy-prop};
-ghost use Rattle.std.specs.Ordering.{nat_cmp};
 ghost use Rattle.benc.specs.View.{view, pairs_view};
-ghost use Rattle.filetree.specs.Dictionary.{Ascends, keys_in, under};
-ghost use Rattle.opening.specs.PieceLayers.{as_digests, layer_at};
+ghost use Rattle.filetree.specs.Dictionary.{Ascends, under};
+ghost use Rattle.opening.specs.PieceLayers.{as_digests, ascends_prop, layer_at};
 ghost use Rattle.opening.specs.Steps.{pairs_seen};
 ghost use Rattle.pieces.specs.Pieces.{pieces_of};
 
@@ -20,7 +17,7 @@ use std::cmp::Ordering;
 #[derive(Drop)]
 pub(crate) struct Layers<'v, 'a> {
     pairs: &'v [Pair<'a>],
-    ghost ascend: { Ascends (pairs_view pairs.now) } by { IsStrictlySortedBy-prop (slice_cmp nat_cmp) (keys_in (pairs_view pairs.now)) },
+    ghost ascend: { Ascends (pairs_view pairs.now) } by { ascends_prop (pairs_view pairs.now) },
 }
 
 impl<'v, 'a> Layers<'v, 'a> {

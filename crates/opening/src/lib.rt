@@ -1,6 +1,7 @@
 //! Opening torrents of version 2 and hybrids (BEP 52, BEP 3, BEP 47).
 #![tactic(auto)]
 
+mod block_run;
 mod info;
 mod laws;
 mod layer_tests;

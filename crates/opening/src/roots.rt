@@ -44,7 +44,8 @@ impl Model for Roots {
 
     ghost view = { λ r. r.list.items };
 
-    ghost invariant = { λ r. (s : List ℕ) → tree.get (slice_cmp nat_cmp) r.numbers s ≡ place_in r.list.items s };
+    ghost invariant = { λ r. (s : List ℕ)
+        → tree.get (slice_cmp nat_cmp) r.numbers s ≡ place_in r.list.items s };
 }
 
 impl Roots {

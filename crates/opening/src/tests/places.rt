@@ -101,3 +101,51 @@ fn the_largest_numbers(rt: HostRuntime) -> Result<(), AllocError> {
         ],
     )
 }
+
+// A block of the one file, a size in bytes, and how many blocks from that one on have this size.
+type Run = (u64, u64, Option<u64>);
+
+fn are_runs(
+    rt: &impl Abort,
+    alloc: Global,
+    text: &str,
+    edits: Edits,
+    runs: &[Run],
+) -> Result<(), AllocError> {
+    let bytes = edited(rt, alloc, text, edits)?;
+    let Ok(torrent) = Torrent::open(alloc, &bytes) else {
+        panic!(rt; "refused");
+    };
+    for (block, size, run) in runs.iter() {
+        assert!(rt;
+            torrent.block_run(0, *block, *size) == *run,
+            "{block} {size}"
+        );
+    }
+    Ok(())
+}
+
+#[test]
+fn runs_of_whole_blocks(rt: HostRuntime) -> Result<(), AllocError> {
+    are_runs(
+        &rt,
+        rt.alloc(),
+        FIVE,
+        &[],
+        &[
+            (0, 16384, Some(1)),
+            (0, 32768, Some(2)),
+            (0, 65536, Some(4)),
+            (0, 65636, Some(5)),
+            (3, 16484, Some(2)),
+            (4, 100, Some(1)),
+            (0, 0, None),
+            (0, 1, None),
+            (0, 16383, None),
+            (0, 32769, None),
+            (0, 65637, None),
+            (4, 99, None),
+            (4, 16384, None),
+        ],
+    )
+}
