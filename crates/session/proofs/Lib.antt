@@ -7,3 +7,4 @@ pub mod SafeSteps
 pub mod Numbering
 pub mod FirstTrees
 pub mod FirstLayers
+pub mod Arrays
