@@ -102,8 +102,15 @@ fn the_largest_numbers(rt: HostRuntime) -> Result<(), AllocError> {
     )
 }
 
-// A block of the one file, a size in bytes, and how many blocks from that one on have this size.
-type Run = (u64, u64, Option<u64>);
+// An index, a number of bytes behind it, a size in bytes, and how many blocks from there on have it.
+type Run = (u32, u32, u64, Option<u64>);
+
+fn run_at(torrent: &Torrent<'_>, index: u32, begin: u32, size: u64) -> Option<u64> {
+    match torrent.place(index, begin) {
+        Some((file, block)) => torrent.block_run(file, block, size),
+        None => None,
+    }
+}
 
 fn are_runs(
     rt: &impl Abort,
@@ -116,36 +123,37 @@ fn are_runs(
     let Ok(torrent) = Torrent::open(alloc, &bytes) else {
         panic!(rt; "refused");
     };
-    for (block, size, run) in runs.iter() {
+    for (index, begin, size, run) in runs.iter() {
         assert!(rt;
-            torrent.block_run(0, *block, *size) == *run,
-            "{block} {size}"
+            run_at(&torrent, *index, *begin, *size) == *run,
+            "{index} {begin} {size}"
         );
     }
     Ok(())
 }
 
 #[test]
-fn runs_of_whole_blocks(rt: HostRuntime) -> Result<(), AllocError> {
+fn runs_of_blocks(rt: HostRuntime) -> Result<(), AllocError> {
     are_runs(
         &rt,
         rt.alloc(),
         FIVE,
         &[],
         &[
-            (0, 16384, Some(1)),
-            (0, 32768, Some(2)),
-            (0, 65536, Some(4)),
-            (0, 65636, Some(5)),
-            (3, 16484, Some(2)),
-            (4, 100, Some(1)),
-            (0, 0, None),
-            (0, 1, None),
-            (0, 16383, None),
-            (0, 32769, None),
-            (0, 65637, None),
-            (4, 99, None),
-            (4, 16384, None),
+            (0, 0, 16384, Some(1)),
+            (0, 0, 32768, Some(2)),
+            (0, 0, 65536, Some(4)),
+            (0, 0, 65636, Some(5)),
+            (0, 16384, 49152, Some(3)),
+            (1, 16384, 16484, Some(2)),
+            (2, 0, 100, Some(1)),
+            (0, 0, 0, None),
+            (0, 0, 1, None),
+            (0, 0, 16383, None),
+            (0, 0, 32769, None),
+            (0, 0, 65637, None),
+            (2, 0, 99, None),
+            (2, 0, 16384, None),
         ],
     )
 }
