@@ -1,4 +1,7 @@
 pub use Rattle.chains.proofs.Chains
+pub mod States
+pub mod Entries
+pub mod Marking
 pub mod Runs
 pub mod Rounds
 pub mod RoundRuns
