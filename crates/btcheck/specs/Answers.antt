@@ -1,11 +1,11 @@
 -- What a command ends with: the exit status that follows from the library's answer.
-use Rattle.std.specs.Prelude.{◌≡◌, ℕ, Bool, true, false, not, List, Option}
+use Rattle.std.specs.Prelude.{◌≡◌, ℕ, Bool, true, false, not, List, Option, None}
 use Rattle.benc.specs.Device.{SourceSeen, SinkSeen, SentAndFlushed}
 use Rattle.metainfo.specs.Description.{Description}
 use Rattle.session.specs.Fresh.{IsFresh}
 use Rattle.checker.specs.Outcome.{status_of}
 use Rattle.checker.specs.Printed.{report_text}
-use Rattle.checker.specs.Replay.{IsReport}
+use Rattle.checker.specs.Replay.{IsReport, replay_seen}
 use Rattle.checker.specs.Verdicts.{HasVerdicts, TellsFolder, is_yes}
 
 -- 0 for yes or done, 1 for no or a refusal
@@ -28,5 +28,5 @@ abbrev pub IsReplayed :
     Description → Bool → SourceSeen → SourceSeen → SinkSeen → SinkSeen → ℕ → Type 0
 IsReplayed t info_only source source' out out' status =
     (first : _) × (last : _) × (outcome : _) × IsFresh t (not info_only) first
-    × IsReport source source' first last out out' outcome
+    × IsReport (replay_seen source first out None) (replay_seen source' last out' None) outcome
     × (status ≡ status_of outcome)

@@ -5,6 +5,7 @@ ghost use Rattle.checker.specs.Refused.{refusal_text};
 ghost use Rattle.checker.specs.Show.{show_text};
 ghost use Rattle.btcheck.specs.Answers.{IsChecked, IsReplayed, answer_status};
 
+use benc::memory::MemSink;
 use benc::{Sink, Source};
 use checker::{Fault, RootFault, Shelf, print_report, refusal_line, root_line};
 use metainfo::{Refusal, Torrent};
@@ -87,7 +88,7 @@ pub(crate) fn replay<'a, R: Source, W: Sink>(
         (W.seen out.old) (W.seen out.new)) }
 {
     let mut session: Session<'_, Paged> = Session::new(alloc, torrent, !info_only)?;
-    match checker::replay(alloc, &mut session, source, out) {
+    match checker::replay(alloc, &mut session, source, out, None::<&mut MemSink>) {
         Ok(outcome) => Ok(outcome.status()),
         Err(_) => Err(Fault::Write("-")),
     }

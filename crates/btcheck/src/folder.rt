@@ -3,8 +3,10 @@ ghost use Rattle.std.specs.Prelude.{◌≡◌, [], ◌∷◌, ◌++◌, None, If
 ghost use Rattle.btcheck.specs.Places.{place_below};
 ghost use Rattle.benc.specs.Device.{one_more};
 
+use crate::places::Places;
 use benc::{DeviceFault, FromRead, Source};
 use checker::{Shelf, ShelfFault};
+use progress::{Counted, Progress};
 use std::alloc::{AllocError, Global};
 use std::fs::{self, DirEntry, File};
 use std::io::{self, ErrorKind};
@@ -12,21 +14,35 @@ use std::io::{self, ErrorKind};
 /// The files below a folder. Opening follows symlinks, and fails at what is then no regular file.
 ///
 /// It looks at what stands there before it opens it, so that it waits at no named pipe and reads no
-/// device. One that takes a file's place between the look and the opening is opened.
+/// device. One that takes a file's place between the look and the opening is opened. Each read of a
+/// file is noted as progress.
 #[derive(Drop)]
 pub(crate) struct Folder<'a> {
     rt: &'a HostRuntime,
     dir: &'a str,
     faults: u64,
+    places: Places<'a>,
+    progress: &'a Progress,
 }
 
 impl<'a> Folder<'a> {
-    /// The folder with this path. It need not be there.
-    pub(crate) fn new(rt: &'a HostRuntime, dir: &'a str) -> Folder<'a>
+    /// The folder with this path, for the files with these places. It need not be there.
+    pub(crate) fn new(
+        rt: &'a HostRuntime,
+        dir: &'a str,
+        places: Places<'a>,
+        progress: &'a Progress,
+    ) -> Folder<'a>
         ensures dir { result.dir.now ≡ dir.entry.now }
         ensures faults { result.faults ≡ 0 }
     {
-        Folder { rt, dir, faults: 0 }
+        Folder {
+            rt,
+            dir,
+            faults: 0,
+            places,
+            progress,
+        }
     }
 
     fn fault(&mut self) -> DeviceFault
@@ -49,14 +65,15 @@ impl<'a> Folder<'a> {
         Ok(place)
     }
 
-    // Opens the file with these path components, or answers that the system finds no such name. An
-    // empty folder name is none.
-    fn open_file(&self, path: &[&str]) -> io::Result<Option<File>> {
+    // Opens the file with these path components, and gives its path with it, or answers that the
+    // system finds no such name. An empty folder name is none.
+    fn open_file(&self, path: &[&str]) -> io::Result<Option<(File, String)>> {
         if self.dir.is_empty() {
             return Ok(None);
         }
-        match self.open_regular(self.place_of(path)?.as_str()) {
-            Ok(file) => Ok(Some(file)),
+        let place = self.place_of(path)?;
+        match self.open_regular(place.as_str()) {
+            Ok(file) => Ok(Some((file, place))),
             Err(error) if error.kind() == ErrorKind::NotFound => Ok(None),
             Err(error) => Err(error),
         }
@@ -156,7 +173,7 @@ impl Walk {
 }
 
 impl<'a> Shelf for Folder<'a> {
-    type File = FromRead<File>;
+    type File = Counted<'a, FromRead<File>, String>;
 
     // What the file system holds is not known.
     ghost under = { λ _ _. None };
@@ -177,14 +194,21 @@ impl<'a> Shelf for Folder<'a> {
         listed
     }
 
-    fn open(&mut self, path: &[&str]) -> Result<Option<FromRead<File>>, DeviceFault> {
+    fn open(&mut self, path: &[&str]) -> Result<Option<Self::File>, DeviceFault> {
+        let before = self.places.before(path);
         match self.open_file(path) {
-            Ok(file) => Ok(file.map(|file| FromRead::new(file))),
+            Ok(None) => Ok(None),
+            Ok(Some((file, name))) => Ok(Some(Counted::new(
+                FromRead::new(file),
+                name,
+                before,
+                self.progress,
+            ))),
             Err(_) => Err(self.fault()),
         }
     }
 
-    fn close(&mut self, file: FromRead<File>) {
+    fn close(&mut self, file: Self::File) {
         self.faults = self.faults.wrapping_add(file.failures());
     }
 

@@ -7,6 +7,7 @@ mod command;
 mod fault;
 mod folder;
 mod perform;
+mod places;
 mod torrent_file;
 
 use checker::Fault;

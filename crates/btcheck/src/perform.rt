@@ -2,10 +2,12 @@
 use crate::answers;
 use crate::command::Action;
 use crate::folder::Folder;
+use crate::places::{Places, all_bytes};
 use crate::torrent_file::read_torrent;
 use benc::{FromRead, FromWrite, Sink};
 use checker::Fault;
 use metainfo::Torrent;
+use progress::{Cleared, Counted, Progress};
 use std::fs::File;
 use std::io::{self, BufWriter, Printer};
 
@@ -27,8 +29,18 @@ fn root<'a>(rt: &HostRuntime, path: &'a str) -> Result<u8, Fault<'a>> {
     let Ok(file) = File::open(rt, path) else {
         return Err(Fault::Read(path));
     };
-    let mut out = FromWrite::new(io::writer(rt));
-    answers::root(path, &mut FromRead::new(file), &mut out)
+    let progress = Progress::new(rt, length_of(&file));
+    let mut source = Counted::new(FromRead::new(file), path, 0, &progress);
+    let mut out = Cleared::new(FromWrite::new(io::writer(rt)), &progress);
+    answers::root(path, &mut source, &mut out)
+}
+
+// The length of a regular file.
+fn length_of(file: &File) -> Option<u64> {
+    match file.metadata() {
+        Ok(found) if found.is_file() => Some(found.len()),
+        _ => None,
+    }
 }
 
 fn show<'a>(rt: &HostRuntime, path: &'a str) -> Result<u8, Fault<'a>> {
@@ -44,9 +56,25 @@ fn check<'a>(rt: &HostRuntime, path: &'a str, dir: &str) -> Result<u8, Fault<'a>
     let bytes = read_torrent(rt, path)?;
     let mut out = buffered_output(rt)?;
     match Torrent::open(rt.alloc(), bytes.as_slice()) {
-        Ok(torrent) => answers::check(rt.alloc(), &torrent, &mut Folder::new(rt, dir), &mut out),
+        Ok(torrent) => check_folder(rt, &torrent, dir, out),
         Err(refusal) => answers::refuse(&refusal, &mut out),
     }
+}
+
+fn check_folder<'a, W: Sink + Drop>(
+    rt: &HostRuntime,
+    torrent: &Torrent<'_>,
+    dir: &str,
+    out: W,
+) -> Result<u8, Fault<'a>> {
+    let progress = Progress::new(rt, Some(all_bytes(torrent)));
+    let mut folder = Folder::new(rt, dir, Places::new(torrent), &progress);
+    answers::check(
+        rt.alloc(),
+        torrent,
+        &mut folder,
+        &mut Cleared::new(out, &progress),
+    )
 }
 
 // The torrent is read, and a refusal is printed, before the record is opened.

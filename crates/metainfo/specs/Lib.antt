@@ -18,6 +18,7 @@ pub use Rattle.opening.specs.Trees
 pub use Rattle.opening.specs.Laws
 pub use Rattle.pieces.specs.Cuts
 pub use Rattle.pieces.specs.Feeding
+pub use Rattle.pieces.specs.FileCuts
 pub use Rattle.pieces.specs.Pieces
 pub use Rattle.filetree.specs.declared.refusal.Refusal
 pub use Rattle.opening.specs.declared.torrent.File

@@ -9,4 +9,4 @@ pub use opening::{
     File, MAX_TORRENT, Torrent, TreeInfo, refusal_is_one, torrent_is_not_refused, torrent_is_one,
     torrent_or_refusal,
 };
-pub use pieces::{PieceLength, V1, V1Feed};
+pub use pieces::{PieceLength, V1, V1Cuts, V1Feed, V1File};

@@ -9,7 +9,7 @@ use Rattle.opening.specs.Refusals.{kind_rows, IsOther, IsName}
 use Rattle.filetree.specs.declared.refusal.Key.TheVariants as keys
 use Rattle.filetree.specs.declared.refusal.Refusal.TheVariants as refusals
 
-of_kind : {A : Type 0} (kind : Bencode → Option A) (o : Option Bencode) (w : Bencode) (x : A) → o ≡ Some w → kind w ≡ Some x → IsOther kind o → ⊥
+pub of_kind : {A : Type 0} (kind : Bencode → Option A) (o : Option Bencode) (w : Bencode) (x : A) → o ≡ Some w → kind w ≡ Some x → IsOther kind o → ⊥
 of_kind kind None w x e is other = other
 of_kind kind (Some v) w x e is other =
     let same : v ≡ w = cc in
@@ -19,7 +19,7 @@ other_kind : {A : Type 0} (kind : Bencode → Option A) (o : Option Bencode) (w 
 other_kind kind None w e is = cc
 other_kind kind (Some v) w e is = let same : v ≡ w = cc in ap kind same ∙ is
 
-name_there : (o : Option Bencode) (w : Bencode) (s : List ℕ) → o ≡ Some w → as_text w ≡ Some s → IsUtf8 s → IsName o
+pub name_there : (o : Option Bencode) (w : Bencode) (s : List ℕ) → o ≡ Some w → as_text w ≡ Some s → IsUtf8 s → IsName o
 name_there o w s e is text = rw (e, is) text
 
 -- the piece length alone is of another kind

@@ -19,7 +19,7 @@ use Rattle.std.specs.List.Sorted.{IsNonDecreasingBy}
 use Rattle.std.specs.List.{AllWithin}
 
 -- a file's pieces cover its bytes
-pieces_cover : (p n : ℕ) → 0 < p → n ≤ pieces_of p n * p
+pub pieces_cover : (p n : ℕ) → 0 < p → n ≤ pieces_of p n * p
 pieces_cover p n h =
     let all : p * ((n + (p - 1)) / p) + (n + (p - 1)) % p ≡ n + (p - 1) = omega (arith, h) in
     let less : (n + (p - 1)) % p < p = omega (arith, h) in

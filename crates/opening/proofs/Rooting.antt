@@ -119,7 +119,7 @@ in_front fs f g h = (h.0, front_of fs (f ∷ []) h.0 g h.1)
 in_last : (fs : List ListedFile) (f : ListedFile) → IsIn (fs ++ f ∷ []) f
 in_last fs f = (length fs, last_of fs f)
 
-push_cases : {A : Type 0} (xs : List A) (y : A) (n : ℕ) (x : A) → slice_get (xs ++ y ∷ []) n ≡ Some x → (slice_get xs n ≡ Some x) ⊎ (y ≡ x)
+pub push_cases : {A : Type 0} (xs : List A) (y : A) (n : ℕ) (x : A) → slice_get (xs ++ y ∷ []) n ≡ Some x → (slice_get xs n ≡ Some x) ⊎ (y ≡ x)
 push_cases [] y zero x e = inr (cc)
 push_cases [] y (suc n) x e = cc
 push_cases (z ∷ xs) y zero x e = inl e

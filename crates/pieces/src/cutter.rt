@@ -6,6 +6,9 @@ ghost use Rattle.sha1.specs.Sha1.{sha1};
 use sha1::Sha1;
 use std::mem;
 
+/// How many zeros are digested at once.
+pub(crate) const ZEROS: usize = 16384;
+
 /// The running cut of a stream: the bytes since the last cut was closed, at most a piece length.
 #[derive(Drop)]
 pub(crate) struct Cutter {
@@ -18,6 +21,7 @@ pub(crate) struct Cutter {
 }
 
 impl Cutter {
+    ghost use Rattle.pieces.specs.Cuts.{filled_up};
     ghost use Rattle.pieces.specs.Cutting.{IsCutting};
 
     /// A cutter whose running cut is empty.
@@ -73,5 +77,25 @@ impl Cutter {
         let digest = mem::replace(&mut self.hasher, Sha1::new()).finalize();
         self.filled = 0;
         digest
+    }
+
+    /// The digest of the running cut, filled up with zeros to the piece length.
+    pub(crate) fn filled_up(&self) -> [u8; 20]
+        ensures { (running : List ℕ) → IsCutting self.now running
+            → result ≡ sha1 (filled_up self.now.piece_length running) }
+    {
+        let Ok(hasher) = self.hasher.clone() else {
+            unreachable!();
+        };
+        let mut cutter = Cutter {
+            piece_length: self.piece_length,
+            filled: self.filled,
+            hasher,
+        };
+        let zeros = [0u8; ZEROS];
+        'zeros: while !cutter.is_full() {
+            cutter.take(&zeros);
+        }
+        cutter.close()
     }
 }

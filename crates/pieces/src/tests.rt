@@ -2,3 +2,4 @@
 
 mod digests;
 mod feed;
+mod file_cuts;

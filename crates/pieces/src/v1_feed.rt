@@ -3,11 +3,8 @@
 ghost use Rattle.std.specs.Prelude.{◌≡◌, ℕ, ◌+◌, ◌-◌, ◌*◌, ◌^◌, ◌<◌, ◌≤◌, ◌++◌, [], List, length, take, replicate, slice_get, Some, None, is_some, true, IsTrue, ◌↔◌};
 ghost use Rattle.pieces.specs.Cuts.{IsComparison, IsNext, cut_digests};
 
-use crate::cutter::Cutter;
+use crate::cutter::{Cutter, ZEROS};
 use crate::v1::V1;
-
-// How many zeros go into the stream at once.
-const ZEROS: usize = 16384;
 
 /// Compares the version 1 stream with the digests of its pieces, while the stream comes part by
 /// part. After the first bad cut it digests nothing more.

@@ -1,5 +1,6 @@
 -- The loop of a replay: one more frame, and the end.
-use Rattle.std.proofs.Common.{◌≡◌, ◌≢◌, ◌≤◌, ◌+◌, ◌++◌, ◌||◌, ℕ, suc, Bool, false, true, List, [], ◌∷◌, length, Some, None, Result, Ok, Err, IfOk, OnErr, refl, sym, ap, ◌∙◌, append_assoc, subst, arith}
+use Rattle.std.proofs.Common.{◌≡◌, ◌≢◌, ◌≤◌, ◌+◌, ◌++◌, ◌||◌, ℕ, suc, Bool, false, List, [], ◌∷◌, length, Some, None, Result, Ok, Err, IfOk, OnErr, refl, sym, ap, ◌∙◌, append_assoc, subst, subst₂, inl, inr, arith}
+use Rattle.std.specs.Prelude.{is_some}
 use Rattle.std.specs.List.{flat_map, list_any, All}
 use Rattle.std.proofs.lemmas.List.{append-nil, length-append, map-append}
 use Rattle.std.proofs.lemmas.Option.{same_Some}
@@ -8,7 +9,7 @@ use Rattle.std.proofs.lemmas.List.Folds.{list_any-append}
 use Rattle.std.proofs.Math.Bool.{or-false}
 use Rattle.std.proofs.lemmas.Grind.{flat_map-append}
 use Rattle.std.specs.Io.KnownBytes.{IsAtEnd}
-use Rattle.benc.specs.Device.{SourceSeen, SinkSeen, Sent, Broke, SentAndFlushed, BrokeOrUnflushed, WroteAndFlushed, one_more}
+use Rattle.benc.specs.Device.{SourceSeen, SinkSeen, Sent, Broke, SentAndFlushed, one_more}
 use Rattle.benc.specs.declared.device.WriteFault.{WriteFault}
 use Rattle.benc.proofs.Known.{Appends-append, Appends_nothing}
 use Rattle.benc.proofs.Out.{Sent-append}
@@ -29,7 +30,11 @@ use Rattle.records.specs.declared.ending.Ending.TheVariants as ending
 use Rattle.records.specs.declared.outcome.Outcome.{Outcome}
 use Rattle.records.specs.Outcome.{is_refusal, is_no_memory, is_fault}
 use Rattle.records.specs.ReplayLines.{lines_of, ending_line_of}
-use Rattle.records.specs.Replay.{Handled, Handles, HandlesNext, TellsEnding, IsEnding, CountsEnding, Replayed, IsReport, IsCutReport, lines_from, tolds_of, unanswered}
+use Rattle.records.specs.declared.reply.Reply.{Reply}
+use Rattle.records.specs.declared.answering.AnswerFault.TheVariants as failed
+use Rattle.records.specs.Answering.{Finishes, IfWanted, IsReply, Replies, reply_to}
+use Rattle.records.specs.Replay.{Answered, Ends, EndsUnanswered, Handled, Handles, HandlesAll, HandlesNext, IsCutAtEnd, IsCutInAnswer, IsCutInFlush, IsCutInLine, IsCutReport, IsEnding, IsReport, CountsEnding, Replayed, ReplaySeen, RespondsNext, TellsEnding, answers_of, lines_from, tolds_of, unanswered}
+use Rattle.records.proofs.Replies.{broke_after, hashes_are_told, meets_more, none_sent, same_wanted, sent_and_flushed, sent_more, sent_unflushed}
 
 nothing_partial : IsPartial []
 nothing_partial = IsPartial-from_short [] (omega arith)
@@ -52,15 +57,24 @@ next_lines hs h n e =
     let same : 1 + length hs ≡ n + 1 = omega arith in
     lines_more 1 hs h ∙ ap (λ k. lines_from 1 hs ++ lines_of k h.told) same
 
-any_more : (p : Told → Bool) (hs : List Handled) (f : Frame) (d : Told) → list_any p (tolds_of (hs ++ unanswered f d ∷ [])) ≡ (list_any p (tolds_of hs) || p d)
-any_more p hs f d =
-    ap (list_any p) (map-append (λ (h : Handled). h.told) hs (unanswered f d ∷ []))
-    ∙ list_any-append p (tolds_of hs) (d ∷ []) ∙ ap (λ b. list_any p (tolds_of hs) || b) (or-false (p d))
+any_more : (p : Told → Bool) (hs : List Handled) (h : Handled) → list_any p (tolds_of (hs ++ h ∷ [])) ≡ (list_any p (tolds_of hs) || p h.told)
+any_more p hs h =
+    ap (list_any p) (map-append (λ (x : Handled). x.told) hs (h ∷ []))
+    ∙ list_any-append p (tolds_of hs) (h.told ∷ []) ∙ ap (λ b. list_any p (tolds_of hs) || b) (or-false (p h.told))
 
 outcome_same : (o : Outcome) (a b c : Bool) → o.refused ≡ a → o.no_memory ≡ b → o.fault ≡ c → o ≡ record { refused = a; no_memory = b; fault = c }
 outcome_same o a b c p q r =
     ap (λ x. record { refused = x; no_memory = o.no_memory; fault = o.fault }) p
     ∙ ap (λ x. record { refused = a; no_memory = x; fault = o.fault }) q ∙ ap (λ x. record { refused = a; no_memory = b; fault = x }) r
+
+-- a text, and then the last line with its flush
+sent_then_flushed : (a b c : SinkSeen) (text line : List ℕ) → Sent a b text → SentAndFlushed b c line → SentAndFlushed a c (text ++ line)
+sent_then_flushed a b c text line sent wrote = record {
+  bytes = Appends-append a.written b.written c.written text line sent.bytes wrote.bytes;
+  faults = wrote.faults ∙ sent.faults;
+  flushes = wrote.flushes ∙ ap one_more sent.flushes;
+  last = wrote.last;
+}
 
 -- ---- what a source gave
 
@@ -79,8 +93,8 @@ replayed_none wanted s S = record {
 }
 
 -- out of memory before the first frame
-pub replayed_nothing : (s : SourceSeen) (S : SessionSeen) → Replayed false s s S S [] (Some (ending.Fault fault.NoMemory))
-replayed_nothing s S = record {
+replayed_nothing : (wanted : Bool) (s : SourceSeen) (S : SessionSeen) → Replayed wanted s s S S [] (Some (ending.Fault fault.NoMemory))
+replayed_nothing wanted s S = record {
   bytes = [];
   gave = Gave-nil s;
   bodies = [];
@@ -150,160 +164,244 @@ fault_of : (a b : FrameFault) → ending.Fault a ≡ ending.Fault b → a ≡ b
 fault_of a b e = cc
 
 ended_fault : (new : SourceSeen) (part : List ℕ) (why : FrameFault) → (why ≢ fault.Read → part ≢ []) → (why ≡ fault.Truncated → IsAtEnd new.left)
-    → (why ≡ fault.NoMemory → ⊥) → IsEnding new.left part (Some (ending.Fault why))
-ended_fault new part fault.Truncated begun at_end room = (begun (λ e. absurd cc), at_end refl)
-ended_fault new part fault.Read begun at_end room = tt
-ended_fault new part fault.NoMemory begun at_end room = absurd (room refl)
+    → (why ≡ fault.NoMemory → ⊥) → why ≢ fault.BadDirection → IsEnding new.left part (Some (ending.Fault why))
+ended_fault new part fault.Truncated begun at_end room frames = (begun (λ e. absurd cc), at_end refl)
+ended_fault new part fault.Read begun at_end room frames = tt
+ended_fault new part fault.NoMemory begun at_end room frames = absurd (room refl)
+ended_fault new part fault.BadDirection begun at_end room frames = absurd (frames refl)
 
 pub tells_fault : (old new : SourceSeen) (why : FrameFault) → StopsInFrame old new why → (why ≡ fault.NoMemory → ⊥) → TellsEnding old new (ending.Fault why)
 tells_fault old new why stop room = record {
   part = stop.bytes;
   gave = stop.gave.gave;
   partial = stop.partial;
-  ended = ended_fault new stop.bytes why stop.begun stop.gave.ended room;
+  ended = ended_fault new stop.bytes why stop.begun stop.gave.ended room stop.gave.no_direction;
   had_room = λ e. room (fault_of why fault.NoMemory e);
   counted = stop.gave.faults;
 }
 
 -- ---- the loop
 
--- a replay that has not ended, all of whose lines went out
-pub record InReplay (old new : SourceSeen) (S S' : SessionSeen) (report report' : SinkSeen) (number : ℕ) (outcome : Outcome) : Type 0 where
+flat_one : (hs : List Handled) (h : Handled) → answers_of (hs ++ h ∷ []) ≡ answers_of hs ++ h.answer
+flat_one hs h = flat_map-append (λ (x : Handled). x.answer) hs (h ∷ []) ∙ ap (λ t. answers_of hs ++ t) (append-nil h.answer)
+
+-- a replay that has not ended, all of whose lines and answers went out
+pub record InReplay (old new : ReplaySeen) (number : ℕ) (outcome : Outcome) : Type 0 where
   pub handled : List Handled
-  pub replayed : Replayed false old new S S' handled None
+  pub replayed : HandlesAll old new handled None
   pub number_is : number ≡ length handled
-  pub room : number + new.limit ≤ old.limit
-  pub sent : Sent report report' (lines_from 1 handled)
+  pub room : number + new.source.limit ≤ old.source.limit
+  pub sent : Sent old.report new.report (lines_from 1 handled)
+  pub answered : Answered old new handled
   pub refused_is : outcome.refused ≡ list_any is_refusal (tolds_of handled)
   pub no_memory_is : outcome.no_memory ≡ list_any is_no_memory (tolds_of handled)
   pub no_fault : outcome.fault ≡ false
 
--- this is told of the source's next frame
-abbrev pub TellsNext : SourceSeen → SourceSeen → SessionSeen → SessionSeen → Told → Type 0
-TellsNext old new S S' d = (f : Frame) × HandlesNext false old new S S' (unanswered f d)
-
 -- a frame takes a byte at least
-pub frame_falls : {mid new : SourceSeen} {S S' : SessionSeen} {d : Told} → TellsNext mid new S S' d → new.limit + 1 ≤ mid.limit
-frame_falls {mid} {new} {S} {S'} {d} next = omega (arith, next.1.gave.falls, length-frame next.1.body)
+pub frame_falls : {mid new : SourceSeen} {S S' : SessionSeen} {d : Told} {r : Reply} → RespondsNext mid new S S' d r → new.limit + 1 ≤ mid.limit
+frame_falls {mid} {new} {S} {S'} {d} {r} next = omega (arith, next.1.gave.falls, length-frame next.1.body)
 
 -- before the first frame
-pub in_replay_none : (s : SourceSeen) (S : SessionSeen) (w : SinkSeen) (o : Outcome)
-    → o.refused ≡ false → o.no_memory ≡ false → o.fault ≡ false → InReplay s s S S w w 0 o
-in_replay_none s S w o refused no_memory no_fault = record {
+pub in_replay_none : (s : ReplaySeen) (o : Outcome) → o.refused ≡ false → o.no_memory ≡ false → o.fault ≡ false → InReplay s s 0 o
+in_replay_none s o refused no_memory no_fault = record {
   handled = [];
-  replayed = replayed_none false s S;
+  replayed = replayed_none (is_some s.answers) s.source s.session;
   number_is = refl;
   room = omega arith;
-  sent = record { bytes = Appends_nothing w.written; faults = refl; flushes = refl };
+  sent = record { bytes = Appends_nothing s.report.written; faults = refl; flushes = refl };
+  answered = none_sent s.answers;
   refused_is = refused;
   no_memory_is = no_memory;
   no_fault = no_fault;
 }
 
+-- the frame with the bytes of its answer
+abbrev with_answer : Frame → Told → List ℕ → Handled
+with_answer f d bytes = record { frame = f; told = d; answer = bytes }
+
+answer_next : (wanted : Bool) (old new : SourceSeen) (S S' : SessionSeen) (f : Frame) (d : Told) (bytes : List ℕ)
+    → HandlesNext false old new S S' (unanswered f d) → IsReply wanted S' (reply_to f d) bytes → HandlesNext wanted old new S S' (with_answer f d bytes)
+answer_next wanted old new S S' f d bytes next replies = record {
+  body = next.body;
+  fits = next.fits;
+  gave = next.gave;
+  counted = next.counted;
+  step = (next.step.0, meets_more wanted S S' f d bytes next.step.1 replies);
+}
+
+-- one more frame was handled, with this answer
+handled_more : {old mid : ReplaySeen} {n : ℕ} {o : Outcome} {d : Told} {r : Reply} (new : ReplaySeen) (bytes : List ℕ) → (so_far : InReplay old mid n o)
+    → (next : RespondsNext mid.source new.source mid.session new.session d r) → IsReply (is_some mid.answers) new.session r bytes
+    → HandlesAll old new (so_far.handled ++ with_answer next.0 d bytes ∷ []) None
+handled_more {old} {mid} {n} {o} {d} {r} new bytes so_far next replies =
+    let wanted : is_some mid.answers ≡ is_some old.answers = same_wanted (λ a b. Sent a b (answers_of so_far.handled)) old.answers mid.answers so_far.answered in
+    let is : IsReply (is_some old.answers) new.session (reply_to next.0 d) bytes =
+    subst (λ x. IsReply (is_some old.answers) new.session x bytes) next.2 (subst (λ w. IsReply w new.session r bytes) wanted replies) in
+    replayed_more (is_some old.answers) old.source mid.source new.source old.session mid.session new.session so_far.handled (with_answer next.0 d bytes)
+    so_far.replayed (answer_next (is_some old.answers) mid.source new.source mid.session new.session next.0 d bytes next.1 is)
+
 -- after one more
-pub in_replay_more : {old mid new : SourceSeen} {S S' S'' : SessionSeen} {w w' : SinkSeen} {n : ℕ} {o : Outcome} {d : Told}
-    (w'' : SinkSeen) (o' : Outcome) → InReplay old mid S S' w w' n o → TellsNext mid new S' S'' d → Sent w' w'' (lines_of (n + 1) d)
+pub in_replay_more : {old mid new : ReplaySeen} {n : ℕ} {o : Outcome} {d : Told} {r : Reply} (o' : Outcome) → InReplay old mid n o
+    → RespondsNext mid.source new.source mid.session new.session d r → Sent mid.report new.report (lines_of (n + 1) d)
+    → Replies new.session r mid.answers new.answers (Ok tt)
     → o'.refused ≡ (o.refused || is_refusal d) → o'.no_memory ≡ (o.no_memory || is_no_memory d) → o'.fault ≡ o.fault
-    → InReplay old new S S'' w w'' (n + 1) o'
-in_replay_more {old} {mid} {new} {S} {S'} {S''} {w} {w'} {n} {o} {d} w'' o' r next wrote refused no_memory no_fault =
-    let h : Handled = unanswered next.0 d in
-    let lines : lines_from 1 (r.handled ++ h ∷ []) ≡ lines_from 1 r.handled ++ lines_of (n + 1) d = next_lines r.handled h n r.number_is in
+    → InReplay old new (n + 1) o'
+in_replay_more {old} {mid} {new} {n} {o} {d} {r} o' so_far next wrote (bytes, replies, went) refused no_memory no_fault =
+    let h : Handled = with_answer next.0 d bytes in
+    let hs = so_far.handled in
+    let lines : lines_from 1 (hs ++ h ∷ []) ≡ lines_from 1 hs ++ lines_of (n + 1) d = next_lines hs h n so_far.number_is in
     record {
-      handled = r.handled ++ h ∷ [];
-      replayed = replayed_more false old mid new S S' S'' r.handled h r.replayed next.1;
-      number_is = omega (arith, r.number_is, length-append r.handled (h ∷ []));
-      room = omega (arith, r.room, next.1.gave.falls, length-frame next.1.body);
-      sent = subst (Sent w w'') (sym lines) (Sent-append w w' w'' (lines_from 1 r.handled) (lines_of (n + 1) d) r.sent wrote);
-      refused_is = refused ∙ ap (λ b. b || is_refusal d) r.refused_is ∙ sym (any_more is_refusal r.handled next.0 d);
-      no_memory_is = no_memory ∙ ap (λ b. b || is_no_memory d) r.no_memory_is ∙ sym (any_more is_no_memory r.handled next.0 d);
-      no_fault = no_fault ∙ r.no_fault;
+      handled = hs ++ h ∷ [];
+      replayed = handled_more new bytes so_far next replies;
+      number_is = omega (arith, so_far.number_is, length-append hs (h ∷ []));
+      room = omega (arith, so_far.room, next.1.gave.falls, length-frame next.1.body);
+      sent = subst (Sent old.report new.report) (sym lines)
+          (Sent-append old.report mid.report new.report (lines_from 1 hs) (lines_of (n + 1) d) so_far.sent wrote);
+      answered = subst (λ t. IfWanted (λ a b. Sent a b t) old.answers new.answers) (sym (flat_one hs h))
+          (sent_more old.answers mid.answers new.answers (answers_of hs) bytes so_far.answered went);
+      refused_is = refused ∙ ap (λ b. b || is_refusal d) so_far.refused_is ∙ sym (any_more is_refusal hs h);
+      no_memory_is = no_memory ∙ ap (λ b. b || is_no_memory d) so_far.no_memory_is ∙ sym (any_more is_no_memory hs h);
+      no_fault = no_fault ∙ so_far.no_fault;
     }
-
--- the last line or its flush failed
-pub cut_at_end : {old mid new : SourceSeen} {S S' S'' : SessionSeen} {w w' : SinkSeen} {n : ℕ} {o : Outcome} {e : Ending}
-    (w'' : SinkSeen) → InReplay old mid S S' w w' n o → TellsEnding mid new e → S'' ≡ S' → BrokeOrUnflushed w' w'' (ending_line_of e)
-    → IsCutReport old new S S'' w w''
-cut_at_end {old} {mid} {new} {S} {S'} {S''} {w} {w'} {n} {o} {e} w'' r next stays wrote = record {
-  handled = r.handled;
-  ending = Some e;
-  replayed = replayed_ends false old mid new S S' S'' r.handled e r.replayed next stays;
-  wrote = (w', r.sent, wrote);
-}
-
--- the whole report
-pub report_ends : {old mid new : SourceSeen} {S S' S'' : SessionSeen} {w w' : SinkSeen} {n : ℕ} {o : Outcome} {e : Ending}
-    (w'' : SinkSeen) (o' : Outcome) → InReplay old mid S S' w w' n o → TellsEnding mid new e → S'' ≡ S' → SentAndFlushed w' w'' (ending_line_of e)
-    → o'.refused ≡ o.refused → o'.no_memory ≡ o.no_memory → o'.fault ≡ is_fault e → IsReport old new S S'' w w'' o'
-report_ends {old} {mid} {new} {S} {S'} {S''} {w} {w'} {n} {o} {e} w'' o' r next stays wrote refused no_memory ended = record {
-  handled = r.handled;
-  ending = e;
-  replayed = replayed_ends false old mid new S S' S'' r.handled e r.replayed next stays;
-  wrote = record {
-    bytes = Appends-append w.written w'.written w''.written (lines_from 1 r.handled) (ending_line_of e) r.sent.bytes wrote.bytes;
-    faults = wrote.faults ∙ r.sent.faults;
-    flushes = wrote.flushes ∙ ap one_more r.sent.flushes;
-    last = wrote.last;
-  };
-  outcome_is = outcome_same o' (list_any is_refusal (tolds_of r.handled)) (list_any is_no_memory (tolds_of r.handled)) (is_fault e)
-      (refused ∙ r.refused_is) (no_memory ∙ r.no_memory_is) ended;
-}
 
 -- the line of a frame did not go out whole
-pub cut_in_line : {old mid new : SourceSeen} {S S' S'' : SessionSeen} {w w' : SinkSeen} {n : ℕ} {o : Outcome} {d : Told}
-    (w'' : SinkSeen) → InReplay old mid S S' w w' n o → TellsNext mid new S' S'' d → Broke w' w'' (lines_of (n + 1) d)
-    → IsCutReport old new S S'' w w''
-cut_in_line {old} {mid} {new} {S} {S'} {S''} {w} {w'} {n} {o} {d} w'' r next wrote =
-    let h : Handled = unanswered next.0 d in
-    let line : lines_of (n + 1) d ≡ lines_of (length r.handled + 1) d = ap (λ k. lines_of (k + 1) d) r.number_is in
-    record {
-      handled = r.handled ++ h ∷ [];
-      ending = None;
-      replayed = replayed_more false old mid new S S' S'' r.handled h r.replayed next.1;
-      wrote = (r.handled, h, w', refl, r.sent, subst (Broke w' w'') line wrote);
-    }
+pub cut_in_line : {old mid : ReplaySeen} {n : ℕ} {o : Outcome} {d : Told} {r : Reply} (new : ReplaySeen) → InReplay old mid n o
+    → RespondsNext mid.source new.source mid.session new.session d r → Broke mid.report new.report (lines_of (n + 1) d) → new.answers ≡ mid.answers
+    → IsCutReport old new
+cut_in_line {old} {mid} {n} {o} {d} {r} new so_far next wrote stays =
+    let hs = so_far.handled in
+    let line : lines_of (n + 1) d ≡ lines_of (length hs + 1) d = ap (λ k. lines_of (k + 1) d) so_far.number_is in
+    let cut : IsCutInLine old new = record {
+      before = hs;
+      last = unanswered next.0 d;
+      handles = record { source = mid.source; session = mid.session; earlier = so_far.replayed; next = next.1 };
+      mid = mid.report;
+      earlier = so_far.sent;
+      broke = subst (Broke mid.report new.report) line wrote;
+      answered = subst (λ x. IfWanted (λ a b. Sent a b (answers_of hs)) old.answers x) (sym stays) so_far.answered;
+    } in
+    inl cut
+
+-- an answer did not go out whole
+pub cut_in_answer : {old mid : ReplaySeen} {n : ℕ} {o : Outcome} {d : Told} {r : Reply} (new : ReplaySeen) → InReplay old mid n o
+    → RespondsNext mid.source new.source mid.session new.session d r → Sent mid.report new.report (lines_of (n + 1) d)
+    → Replies new.session r mid.answers new.answers (Err failed.Write) → IsCutReport old new
+cut_in_answer {old} {mid} {n} {o} {d} {r} new so_far next wrote (bytes, replies, broke) =
+    let h : Handled = with_answer next.0 d bytes in
+    let hs = so_far.handled in
+    let lines : lines_from 1 (hs ++ h ∷ []) ≡ lines_from 1 hs ++ lines_of (n + 1) d = next_lines hs h n so_far.number_is in
+    let cut : IsCutInAnswer old new = record {
+      before = hs;
+      last = h;
+      handles = handled_more new bytes so_far next replies;
+      lines = subst (Sent old.report new.report) (sym lines)
+          (Sent-append old.report mid.report new.report (lines_from 1 hs) (lines_of (n + 1) d) so_far.sent wrote);
+      broke = broke_after old.answers mid.answers new.answers (answers_of hs) bytes so_far.answered broke;
+    } in
+    inr (inl cut)
+
+-- ---- the end
+
+-- the report ends after these frames, all of whose lines and answers went out up to mid
+pub record InEnd (old mid new : ReplaySeen) (e : Ending) (o : Outcome) : Type 0 where
+  pub handled : List Handled
+  pub ends : Ends old new handled e
+  pub sent : Sent old.report mid.report (lines_from 1 handled)
+  pub answered : Answered old mid handled
+  pub refused_is : o.refused ≡ list_any is_refusal (tolds_of handled)
+  pub no_memory_is : o.no_memory ≡ list_any is_no_memory (tolds_of handled)
 
 -- no frame was read
-pub nothing_replayed : (s s' : SourceSeen) (S : SessionSeen) (w w' : SinkSeen) (o o' : Outcome) → s' ≡ s
-    → o.refused ≡ false → o.no_memory ≡ false → o' ≡ record o { fault = true } → SentAndFlushed w w' (ending_line_of (ending.Fault fault.NoMemory))
-    → IsReport s s' S S w w' o'
-nothing_replayed s s' S w w' o o' same refused no_memory is wrote = record {
+pub in_end_at_once : (old new : ReplaySeen) (o : Outcome) → new.source ≡ old.source → new.session ≡ old.session → o.refused ≡ false → o.no_memory ≡ false
+    → InEnd old old new (ending.Fault fault.NoMemory) o
+in_end_at_once old new o source session refused no_memory = record {
   handled = [];
-  ending = ending.Fault fault.NoMemory;
-  replayed = subst (λ t. Replayed false s t S S [] (Some (ending.Fault fault.NoMemory))) (sym same) (replayed_nothing s S);
-  wrote = wrote;
-  outcome_is = is ∙ outcome_same (record o { fault = true }) false false true refused no_memory refl;
+  ends = inl (subst₂ (λ s S. Replayed (is_some old.answers) old.source s old.session S [] (Some (ending.Fault fault.NoMemory))) (sym source) (sym session)
+      (replayed_nothing (is_some old.answers) old.source old.session));
+  sent = record { bytes = Appends_nothing old.report.written; faults = refl; flushes = refl };
+  answered = none_sent old.answers;
+  refused_is = refused;
+  no_memory_is = no_memory;
 }
 
-pub nothing_told : (s s' : SourceSeen) (S : SessionSeen) (w w' : SinkSeen) → s' ≡ s → BrokeOrUnflushed w w' (ending_line_of (ending.Fault fault.NoMemory))
-    → IsCutReport s s' S S w w'
-nothing_told s s' S w w' same wrote = record {
-  handled = [];
-  ending = Some (ending.Fault fault.NoMemory);
-  replayed = subst (λ t. Replayed false s t S S [] (Some (ending.Fault fault.NoMemory))) (sym same) (replayed_nothing s S);
-  wrote = (w, record { bytes = Appends_nothing w.written; faults = refl; flushes = refl }, wrote);
+-- the record has ended
+pub in_end_of_record : {old mid new : ReplaySeen} {n : ℕ} {o : Outcome} {e : Ending} → InReplay old mid n o → TellsEnding mid.source new.source e
+    → new.session ≡ mid.session → InEnd old mid new e o
+in_end_of_record {old} {mid} {new} {n} {o} {e} so_far next stays = record {
+  handled = so_far.handled;
+  ends = inl (replayed_ends (is_some old.answers) old.source mid.source new.source old.session mid.session new.session so_far.handled e so_far.replayed next stays);
+  sent = so_far.sent;
+  answered = so_far.answered;
+  refused_is = so_far.refused_is;
+  no_memory_is = so_far.no_memory_is;
 }
 
--- so the report is the last line alone
-pub ended_at_once : (r : Result Outcome WriteFault) (s s' : SourceSeen) (S : SessionSeen) (w w' : SinkSeen) (o : Outcome) → s' ≡ s → o.refused ≡ false → o.no_memory ≡ false
-    → WroteAndFlushed w w' r (ending_line_of (ending.Fault fault.NoMemory)) → IfOk r (λ x. x ≡ record o { fault = true }) → IfOk r (IsReport s s' S S w w')
-ended_at_once (Ok x) s s' S w w' o same refused no_memory wrote is = nothing_replayed s s' S w w' o x same refused no_memory is wrote
-ended_at_once (Err e) s s' S w w' o same refused no_memory wrote is = tt
+-- memory was refused for an answer, after its line
+pub in_end_unanswered : {old mid new : ReplaySeen} {n : ℕ} {o : Outcome} {d : Told} {r : Reply} (o' : Outcome) (after : ReplaySeen) → InReplay old mid n o
+    → RespondsNext mid.source new.source mid.session new.session d r → Sent mid.report after.report (lines_of (n + 1) d)
+    → Replies new.session r mid.answers after.answers (Err failed.NoMemory)
+    → o'.refused ≡ (o.refused || is_refusal d) → o'.no_memory ≡ (o.no_memory || is_no_memory d)
+    → InEnd old after new (ending.Fault fault.NoMemory) o'
+in_end_unanswered {old} {mid} {new} {n} {o} {d} {r} o' after so_far next wrote (stays, there, ask, is) refused no_memory =
+    let h : Handled = unanswered next.0 d in
+    let hs = so_far.handled in
+    let lines : lines_from 1 (hs ++ h ∷ []) ≡ lines_from 1 hs ++ lines_of (n + 1) d = next_lines hs h n so_far.number_is in
+    let wanted : is_some mid.answers ≡ is_some old.answers = same_wanted (λ a b. Sent a b (answers_of hs)) old.answers mid.answers so_far.answered in
+    let cut : EndsUnanswered old new (hs ++ h ∷ []) (ending.Fault fault.NoMemory) = record {
+      before = hs;
+      last = h;
+      all = refl;
+      handles = record { source = mid.source; session = mid.session; earlier = so_far.replayed; next = next.1 };
+      told_is = hashes_are_told next.0 d ask (sym next.2 ∙ is);
+      wanted = sym wanted ∙ there;
+      ending_is = refl;
+    } in
+    record {
+      handled = hs ++ h ∷ [];
+      ends = inr cut;
+      sent = subst (Sent old.report after.report) (sym lines)
+          (Sent-append old.report mid.report after.report (lines_from 1 hs) (lines_of (n + 1) d) so_far.sent wrote);
+      answered = subst (λ t. IfWanted (λ a b. Sent a b t) old.answers after.answers) (sym (flat_one hs h ∙ append-nil (answers_of hs)))
+          (subst (λ x. IfWanted (λ a b. Sent a b (answers_of hs)) old.answers x) (sym stays) so_far.answered);
+      refused_is = refused ∙ ap (λ b. b || is_refusal d) so_far.refused_is ∙ sym (any_more is_refusal hs h);
+      no_memory_is = no_memory ∙ ap (λ b. b || is_no_memory d) so_far.no_memory_is ∙ sym (any_more is_no_memory hs h);
+    }
 
-pub told_at_once : (r : Result Outcome WriteFault) (s s' : SourceSeen) (S : SessionSeen) (w w' : SinkSeen) → s' ≡ s
-    → WroteAndFlushed w w' r (ending_line_of (ending.Fault fault.NoMemory)) → OnErr r (IsCutReport s s' S S w w')
-told_at_once (Ok x) s s' S w w' same wrote = tt
-told_at_once (Err e) s s' S w w' same wrote = nothing_told s s' S w w' same wrote
+-- the whole report
+pub report_ended : {old mid : ReplaySeen} {e : Ending} {o : Outcome} (new : ReplaySeen) (r : Result Outcome WriteFault) → InEnd old mid new e o
+    → Finishes mid.report new.report mid.answers new.answers (ending_line_of e) r → IfOk r (λ x. x ≡ record o { fault = is_fault e }) → IfOk r (IsReport old new)
+report_ended {old} {mid} {e} {o} new (Ok x) end (wrote, flushed) is = record {
+  handled = end.handled;
+  ending = e;
+  ends = end.ends;
+  wrote = sent_then_flushed old.report mid.report new.report (lines_from 1 end.handled) (ending_line_of e) end.sent wrote;
+  answered = sent_and_flushed old.answers mid.answers new.answers (answers_of end.handled) end.answered flushed;
+  outcome_is = outcome_same x (list_any is_refusal (tolds_of end.handled)) (list_any is_no_memory (tolds_of end.handled)) (is_fault e)
+      (ap (λ y. y.refused) is ∙ end.refused_is) (ap (λ y. y.no_memory) is ∙ end.no_memory_is) (ap (λ y. y.fault) is);
+}
+report_ended {old} {mid} {e} {o} new (Err f) end finishes is = tt
 
--- the same where frames were handled before
-pub report_ended : {old mid new : SourceSeen} {S S' S'' : SessionSeen} {w w' : SinkSeen} {n : ℕ} {o : Outcome} {e : Ending}
-    (r : Result Outcome WriteFault) (w'' : SinkSeen) → InReplay old mid S S' w w' n o → TellsEnding mid new e → S'' ≡ S'
-    → WroteAndFlushed w' w'' r (ending_line_of e) → IfOk r (λ x. x ≡ record o { fault = is_fault e }) → IfOk r (IsReport old new S S'' w w'')
-report_ended {old} {mid} {new} {S} {S'} {S''} {w} {w'} {n} {o} {e} (Ok x) w'' so_far next stays wrote is =
-    report_ends w'' x so_far next stays wrote (ap (λ y. y.refused) is) (ap (λ y. y.no_memory) is) (ap (λ y. y.fault) is)
-report_ended {old} {mid} {new} {S} {S'} {S''} {w} {w'} {n} {o} {e} (Err f) w'' so_far next stays wrote is = tt
-
-pub report_cut : {old mid new : SourceSeen} {S S' S'' : SessionSeen} {w w' : SinkSeen} {n : ℕ} {o : Outcome} {e : Ending}
-    (r : Result Outcome WriteFault) (w'' : SinkSeen) → InReplay old mid S S' w w' n o → TellsEnding mid new e → S'' ≡ S'
-    → WroteAndFlushed w' w'' r (ending_line_of e) → OnErr r (IsCutReport old new S S'' w w'')
-report_cut {old} {mid} {new} {S} {S'} {S''} {w} {w'} {n} {o} {e} (Ok x) w'' so_far next stays wrote = tt
-report_cut {old} {mid} {new} {S} {S'} {S''} {w} {w'} {n} {o} {e} (Err f) w'' so_far next stays wrote = cut_at_end w'' so_far next stays wrote
+-- the last line or a flush failed
+pub report_cut : {old mid : ReplaySeen} {e : Ending} {o : Outcome} (new : ReplaySeen) (r : Result Outcome WriteFault) → InEnd old mid new e o
+    → Finishes mid.report new.report mid.answers new.answers (ending_line_of e) r → OnErr r (IsCutReport old new)
+report_cut {old} {mid} {e} {o} new (Ok x) end finishes = tt
+report_cut {old} {mid} {e} {o} new (Err f) end (inl (broke, stays)) =
+    let cut : IsCutAtEnd old new = record {
+      handled = end.handled;
+      ending = e;
+      ends = end.ends;
+      mid = mid.report;
+      earlier = end.sent;
+      broke = broke;
+      answered = subst (λ x. IfWanted (λ a b. Sent a b (answers_of end.handled)) old.answers x) (sym stays) end.answered;
+    } in
+    inr (inr (inl cut))
+report_cut {old} {mid} {e} {o} new (Err f) end (inr (wrote, failed)) =
+    let cut : IsCutInFlush old new = record {
+      handled = end.handled;
+      ending = e;
+      ends = end.ends;
+      wrote = sent_then_flushed old.report mid.report new.report (lines_from 1 end.handled) (ending_line_of e) end.sent wrote;
+      unflushed = sent_unflushed old.answers mid.answers new.answers (answers_of end.handled) end.answered failed;
+    } in
+    inr (inr (inr cut))

@@ -1,33 +1,28 @@
 -- What `replay` does with a record: the frames that its bytes hold, what is told of each and
 -- answered to it, and what of both goes out.
-use Rattle.std.specs.Prelude.{◌≡◌, ◌≢◌, ℕ, ◌+◌, ◌++◌, List, [], ◌∷◌, length, map, Option, Some, None, Bool, true, false}
-use Rattle.std.specs.Borrow.{Bor}
+use Rattle.std.specs.Prelude.{◌≡◌, ◌≢◌, ◌⊎◌, ℕ, ◌+◌, ◌++◌, List, [], ◌∷◌, length, map, Option, Some, None, is_some, Bool, true, false}
 use Rattle.std.specs.List.{flat_map}
 use Rattle.std.specs.Io.KnownBytes.{IsAtEnd}
 use Rattle.benc.specs.Device.{SourceSeen, SinkSeen, Sent, Broke, SentAndFlushed, BrokeOrUnflushed}
 use Rattle.wire.specs.declared.fault.FrameFault.TheVariants as fault
 use Rattle.wire.specs.declared.frame.Frame.{Frame}
 use Rattle.wire.specs.declared.frame.Frame.TheVariants as frame
-use Rattle.wire.specs.declared.message.Ask.{Ask}
-use Rattle.wire.specs.declared.message.Message.{Message}
-use Rattle.wire.specs.declared.message.Message.TheVariants as message
 use Rattle.wire.specs.Frames.{Frames, IsBody, IsPartial}
 use Rattle.wire.specs.Frames as stream
-use Rattle.wire.specs.Meaning.{Means, MeansMessage}
+use Rattle.wire.specs.Meaning.{Means}
 use Rattle.wire.specs.Reading.{Gave, CountsRead}
 use Rattle.session.specs.declared.verdict.Verdict.{Verdict}
+use Rattle.session.specs.declared.verdict.Verdict.TheVariants as verdict
 use Rattle.session.specs.Chain.{Chain}
-use Rattle.partial_tree.specs.Claims.{answer_of}
-use Rattle.node_maps.specs.Digest.{Hash}
-use Rattle.node_maps.specs.Known.{look}
 use Rattle.session.specs.SafeStep.{IsSafeStep}
-use Rattle.session.specs.Session.{SessionSeen, IsAnswered}
-use Rattle.node_maps.specs.Places.{tree_height}
+use Rattle.session.specs.Session.{SessionSeen}
 use Rattle.records.specs.declared.told.Told.{Told}
 use Rattle.records.specs.declared.told.Told.TheVariants as told
+use Rattle.records.specs.declared.reply.Reply.{Reply}
 use Rattle.records.specs.declared.ending.Ending.{Ending}
 use Rattle.records.specs.declared.ending.Ending.TheVariants as ending
 use Rattle.records.specs.declared.outcome.Outcome.{Outcome}
+use Rattle.records.specs.Answering.{Answers, BrokeAfter, IfWanted, IsWanted, Unflushed, reply_to}
 use Rattle.records.specs.Outcome.{outcome_of}
 use Rattle.records.specs.ReplayLines.{lines_of, ending_line_of}
 
@@ -42,25 +37,6 @@ pub record Handled : Type 0 where
 -- a frame of which this is told, and that is not answered
 abbrev pub unanswered : Frame → Told → Handled
 unanswered f d = record { frame = f; told = d; answer = [] }
-
--- the bytes are the frame of a message
-abbrev pub IsFrameOf : Message → List ℕ → Type 0
-IsFrameOf m bytes =
-    (body : List ℕ) × IsBody body × MeansMessage body m × (bytes ≡ stream.frame body)
-
--- the frame that answers a request: of the hashes that are asked for, if they are known, and
--- else of a reject
-pub record AnswersAsk (S : SessionSeen) (ask : Ask) (bytes : List ℕ) : Type 0 where
-  pub known : (is : IsAnswered S ask) → (hashes : Bor (List Hash))
-      × IsFrameOf (message.Hashes ask hashes) bytes
-      × (hashes.now ≡ answer_of (tree_height is.0.tree.length) (look is.0.state.known) ask)
-  pub unknown : ¬ IsAnswered S ask → IsFrameOf (message.Reject ask) bytes
-
--- the bytes of the answer to a message, if answers are wanted
-abbrev pub Answers : Bool → SessionSeen → Message → List ℕ → Type 0
-Answers true S (message.Request ask) bytes = AnswersAsk S ask bytes
-Answers true S m bytes = bytes ≡ []
-Answers false S m bytes = bytes ≡ []
 
 -- what is told of a frame and answered to it, and the session's step for it
 abbrev pub Meets : Bool → SessionSeen → Frame → Told → List ℕ → SessionSeen → Type 0
@@ -82,6 +58,7 @@ IsEnding left rest (Some ending.End) = (rest ≡ []) × IsAtEnd left
 IsEnding left rest (Some (ending.Fault fault.Truncated)) = (rest ≢ []) × IsAtEnd left
 IsEnding left rest (Some (ending.Fault fault.Read)) = Unit {0}
 IsEnding left rest (Some (ending.Fault fault.NoMemory)) = rest ≡ []
+IsEnding left rest (Some (ending.Fault fault.BadDirection)) = ⊥
 
 -- the count of the source's faults grows by one at `fault Read`, and else stays
 abbrev pub CountsEnding : ℕ → ℕ → Option Ending → Type 0
@@ -96,6 +73,12 @@ pub record HandlesNext (wanted : Bool) (old new : SourceSeen) (S S' : SessionSee
   pub gave : Gave old new (stream.frame body)
   pub counted : new.faults ≡ old.faults
   pub step : Handles wanted S body h S'
+
+-- the source gave one more frame, of which this is told, and to which that is to be answered
+abbrev pub RespondsNext : SourceSeen → SourceSeen → SessionSeen → SessionSeen → Told → Reply
+    → Type 0
+RespondsNext old new S S' d r = (f : Frame) × HandlesNext false old new S S' (unanswered f d)
+    × (r ≡ reply_to f d)
 
 -- the source gave less than a frame, and the record ended so
 pub record TellsEnding (old new : SourceSeen) (e : Ending) : Type 0 where
@@ -136,29 +119,103 @@ tolds_of hs = map (λ h. h.told) hs
 abbrev pub answers_of : List Handled → List ℕ
 answers_of hs = flat_map (λ h. h.answer) hs
 
--- the report of the whole record went out, and the outcome is what its lines amount to
-pub record IsReport (old new : SourceSeen) (S S' : SessionSeen) (report report' : SinkSeen)
-    (outcome : Outcome) : Type 0 where
+-- what callers see of all that a replay changes; there is a sink for answers if they are wanted
+pub record ReplaySeen : Type 0 where
+  pub source : SourceSeen
+  pub session : SessionSeen
+  pub report : SinkSeen
+  pub answers : Option SinkSeen
+
+abbrev pub replay_seen : SourceSeen → SessionSeen → SinkSeen → Option SinkSeen → ReplaySeen
+replay_seen source session report answers =
+    record { source = source; session = session; report = report; answers = answers }
+
+-- these frames were handled, and answered if answers are wanted; and the record has ended so, if
+-- it has ended
+abbrev pub HandlesAll : ReplaySeen → ReplaySeen → List Handled → Option Ending → Type 0
+HandlesAll old new handled e = Replayed (is_some old.answers)
+    old.source new.source old.session new.session handled e
+
+-- the same of the frames before the last; the last was handled, and nothing was answered to it
+pub record HandlesButLast (old new : ReplaySeen) (before : List Handled) (last : Handled) : Type 0
+  where
+    pub source : SourceSeen
+    pub session : SessionSeen
+    pub earlier : Replayed (is_some old.answers)
+        old.source source old.session session before None
+    pub next : HandlesNext false source new.source session new.session last
+
+-- memory was refused for the answer to the last frame, a request for hashes that are known: nothing
+-- of it went out, and that ends the report
+pub record EndsUnanswered (old new : ReplaySeen) (handled : List Handled) (e : Ending) : Type 0
+  where
+    pub before : List Handled
+    pub last : Handled
+    pub all : handled ≡ before ++ last ∷ []
+    pub handles : HandlesButLast old new before last
+    pub told_is : last.told ≡ told.Verdict verdict.Answered
+    pub wanted : is_some old.answers ≡ true
+    pub ending_is : e ≡ ending.Fault fault.NoMemory
+
+-- these frames were handled, and the report ends so: as the record does, or out of memory for an
+-- answer
+abbrev pub Ends : ReplaySeen → ReplaySeen → List Handled → Ending → Type 0
+Ends old new handled e = HandlesAll old new handled (Some e) ⊎ EndsUnanswered old new handled e
+
+-- the answers to these frames went out, if answers are wanted
+abbrev pub Answered : ReplaySeen → ReplaySeen → List Handled → Type 0
+Answered old new handled = IfWanted (λ a b. Sent a b (answers_of handled)) old.answers new.answers
+
+-- the report of the whole record went out, and all answers, each with one flush; and the outcome is
+-- what its lines amount to
+pub record IsReport (old new : ReplaySeen) (outcome : Outcome) : Type 0 where
   pub handled : List Handled
   pub ending : Ending
-  pub replayed : Replayed false old new S S' handled (Some ending)
-  pub wrote : SentAndFlushed report report' (lines_from 1 handled ++ ending_line_of ending)
+  pub ends : Ends old new handled ending
+  pub wrote : SentAndFlushed old.report new.report
+      (lines_from 1 handled ++ ending_line_of ending)
+  pub answered : IfWanted (λ a b. SentAndFlushed a b (answers_of handled)) old.answers new.answers
   pub outcome_is : outcome ≡ outcome_of (tolds_of handled) ending
 
--- the report broke off: in the lines of the last frame, or in the last line or its flush
-abbrev pub BreaksOff : List Handled → Option Ending → SinkSeen → SinkSeen → Type 0
-BreaksOff handled None report report' =
-    (before : List Handled) × (last : Handled) × (mid : SinkSeen) × (handled ≡ before ++ last ∷ [])
-    × Sent report mid (lines_from 1 before)
-    × Broke mid report' (lines_of (length before + 1) last.told)
-BreaksOff handled (Some e) report report' =
-    (mid : SinkSeen) × Sent report mid (lines_from 1 handled)
-    × BrokeOrUnflushed mid report' (ending_line_of e)
+-- the lines of the last frame broke off, and it was not answered
+pub record IsCutInLine (old new : ReplaySeen) : Type 0 where
+  pub before : List Handled
+  pub last : Handled
+  pub handles : HandlesButLast old new before last
+  pub mid : SinkSeen
+  pub earlier : Sent old.report mid (lines_from 1 before)
+  pub broke : Broke mid new.report (lines_of (length before + 1) last.told)
+  pub answered : Answered old new before
 
--- the report did not go out whole: no frame after that was read
-pub record IsCutReport (old new : SourceSeen) (S S' : SessionSeen) (report report' : SinkSeen)
-    : Type 0 where
+-- the lines of all frames went out, and the answer to the last one broke off
+pub record IsCutInAnswer (old new : ReplaySeen) : Type 0 where
+  pub before : List Handled
+  pub last : Handled
+  pub handles : HandlesAll old new (before ++ last ∷ []) None
+  pub lines : Sent old.report new.report (lines_from 1 (before ++ last ∷ []))
+  pub broke : IsWanted (BrokeAfter (answers_of before) last.answer) old.answers new.answers
+
+-- the last line or its flush failed, after all answers
+pub record IsCutAtEnd (old new : ReplaySeen) : Type 0 where
   pub handled : List Handled
-  pub ending : Option Ending
-  pub replayed : Replayed false old new S S' handled ending
-  pub wrote : BreaksOff handled ending report report'
+  pub ending : Ending
+  pub ends : Ends old new handled ending
+  pub mid : SinkSeen
+  pub earlier : Sent old.report mid (lines_from 1 handled)
+  pub broke : BrokeOrUnflushed mid new.report (ending_line_of ending)
+  pub answered : Answered old new handled
+
+-- the whole report went out, and the flush of the answers failed
+pub record IsCutInFlush (old new : ReplaySeen) : Type 0 where
+  pub handled : List Handled
+  pub ending : Ending
+  pub ends : Ends old new handled ending
+  pub wrote : SentAndFlushed old.report new.report
+      (lines_from 1 handled ++ ending_line_of ending)
+  pub unflushed : IsWanted (Unflushed (answers_of handled)) old.answers new.answers
+
+-- The report did not go out whole, or the answers did not: no frame after that was read. A line
+-- goes out before its answer.
+abbrev pub IsCutReport : ReplaySeen → ReplaySeen → Type 0
+IsCutReport old new = IsCutInLine old new ⊎ (IsCutInAnswer old new
+    ⊎ (IsCutAtEnd old new ⊎ IsCutInFlush old new))

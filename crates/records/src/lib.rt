@@ -1,10 +1,13 @@
 //! Records of messages: their replay over a session, and its report.
 #![tactic(auto)]
 
+mod answering;
 mod ending;
 mod line_of_frame;
 mod outcome;
 mod replaying;
+mod reply;
+mod response;
 mod told;
 
 pub use ending::Ending;

@@ -1,18 +1,21 @@
 //! The replay of a record: its frames go to a session, and a line tells of each.
-ghost use Rattle.std.specs.Prelude.{◌≡◌, [], ◌∷◌, false, IfOk, IfErr, OnOk, OnErr};
+ghost use Rattle.std.specs.Prelude.{◌≡◌, [], ◌∷◌, false, option_map, IfOk, IfErr, OnOk, OnErr};
 ghost use Rattle.benc.specs.Device.{Wrote, WroteAndFlushed};
+ghost use Rattle.records.specs.Answering.{Finishes, reply_to, sink_after, sink_before};
 ghost use Rattle.records.specs.Outcome.{is_fault};
 ghost use Rattle.records.specs.ReplayLines.{lines_of, ending_line_of};
-ghost use Rattle.records.specs.Replay.{HandlesNext, IsCutReport, IsReport, Meets, TellsEnding, unanswered};
-ghost use Rattle.wire.specs.declared.frame.Frame.{Frame};
+ghost use Rattle.records.specs.Replay.{IsCutReport, IsReport, Meets, RespondsNext, TellsEnding, replay_seen};
 ghost use Rattle.wire.specs.Reader.{HasRoom, IsOpen};
 
 #[cfg(test)]
 mod tests;
 
+use crate::answering::{AnswerFault, Answering, Unwanted};
 use crate::ending::Ending;
 use crate::line_of_frame::line_of_frame;
 use crate::outcome::Outcome;
+use crate::reply::Reply;
+use crate::response::Response;
 use crate::told::Told;
 use benc::{DeviceFault, Sink, Source, WriteFault, write_all};
 use lines::write_line;
@@ -20,90 +23,122 @@ use session::{NodeMap, Session};
 use std::alloc::Global;
 use wire::{Frame, FrameFault, FrameReader};
 
+const OUT_OF_MEMORY: Ending = Ending::Fault(FrameFault::NoMemory);
+
 /// Reads frames from the source to its end or to a fault, and gives each message to the session.
-/// Writes one line for each frame as it comes, and at last how the record ended; then flushes.
+/// Writes one line for each frame as it comes, and at last how the record ended. If there is a sink
+/// for answers, the frame that answers a hash request goes there, after its line: the hashes that
+/// are asked for, if they are known, and else a reject. At last the report is flushed, and then the
+/// answers.
 ///
-/// All memory is taken before the first frame is read. If it is refused, the report is the line
-/// `fault NoMemory`, and nothing is read. After `WriteFault` the session stands after the messages
-/// handled so far, that of the line that failed included.
-pub fn replay<N: NodeMap, R: Source, W: Sink>(
+/// All memory but that of answers is taken before the first frame is read. If it is refused, the
+/// report is the line `fault NoMemory`, and nothing is read. If memory is refused for an answer,
+/// the report ends with that line, and nothing of the answer goes out. `WriteFault` is that of the
+/// sink whose count of faults grew; then the session stands after the messages handled so far, the
+/// one included whose line or answer failed.
+pub fn replay<N: NodeMap, R: Source, W: Sink, A: Sink>(
     alloc: Global,
     session: &mut Session<'_, N>,
     source: &mut R,
     report: &mut W,
+    answers: Option<&mut A>,
 ) -> Result<Outcome, WriteFault>
-    ensures ok { IfOk result (IsReport (R.seen source.old) (R.seen source.new)
-        session.old session.new (W.seen report.old) (W.seen report.new)) }
-    ensures err { OnErr result (IsCutReport (R.seen source.old) (R.seen source.new)
-        session.old session.new (W.seen report.old) (W.seen report.new)) }
+    ensures ok { IfOk result (IsReport
+        (replay_seen (R.seen source.old) session.old (W.seen report.old)
+        (sink_before A.seen answers.entry))
+        (replay_seen (R.seen source.new) session.new (W.seen report.new)
+        (sink_after A.seen answers.exit))) }
+    ensures err { OnErr result (IsCutReport
+        (replay_seen (R.seen source.old) session.old (W.seen report.old)
+        (sink_before A.seen answers.entry))
+        (replay_seen (R.seen source.new) session.new (W.seen report.new)
+        (sink_after A.seen answers.exit))) }
 {
     let mut reader = FrameReader::new(alloc, source);
-    replay_reader(session, &mut reader, report)
+    match answers {
+        Some(out) => replay_reader(session, &mut reader, report, out),
+        None => replay_reader(session, &mut reader, report, &mut Unwanted),
+    }
 }
 
 // Takes the memory, and reads frames to the end or to a fault.
-fn replay_reader<N: NodeMap, R: Source, W: Sink>(
+fn replay_reader<N: NodeMap, R: Source, W: Sink, B: Answering>(
     session: &mut Session<'_, N>,
     reader: &mut FrameReader<'_, R>,
     report: &mut W,
+    answers: &mut B,
 ) -> Result<Outcome, WriteFault>
     requires { IsOpen reader.old }
     ensures same_reference { reader.new.source.ghost_name ≡ reader.old.source.ghost_name }
-    ensures ok { IfOk result (IsReport (R.seen reader.old.source.now) (R.seen reader.new.source.now)
-        session.old session.new (W.seen report.old) (W.seen report.new)) }
-    ensures err { OnErr result (IsCutReport (R.seen reader.old.source.now)
-        (R.seen reader.new.source.now)
-        session.old session.new (W.seen report.old) (W.seen report.new)) }
+    ensures ok { IfOk result (IsReport
+        (replay_seen (R.seen reader.old.source.now) session.old (W.seen report.old)
+        (B.seen answers.old))
+        (replay_seen (R.seen reader.new.source.now) session.new (W.seen report.new)
+        (B.seen answers.new))) }
+    ensures err { OnErr result (IsCutReport
+        (replay_seen (R.seen reader.old.source.now) session.old (W.seen report.old)
+        (B.seen answers.old))
+        (replay_seen (R.seen reader.new.source.now) session.new (W.seen report.new)
+        (B.seen answers.new))) }
 {
     match reader.reserve() {
-        Ok(()) => replay_frames(session, reader, report),
-        Err(_) => end_report(
-            report,
-            Outcome::default(),
-            Ending::Fault(FrameFault::NoMemory),
-        ),
+        Ok(()) => replay_frames(session, reader, report, answers),
+        Err(_) => end_replay(report, answers, Outcome::default(), OUT_OF_MEMORY),
     }
 }
 
 // Reads frames to the end or to a fault.
-fn replay_frames<N: NodeMap, R: Source, W: Sink>(
+fn replay_frames<N: NodeMap, R: Source, W: Sink, B: Answering>(
     session: &mut Session<'_, N>,
     reader: &mut FrameReader<'_, R>,
     report: &mut W,
+    answers: &mut B,
 ) -> Result<Outcome, WriteFault>
     requires open { IsOpen reader.old }
     requires room { HasRoom reader.old }
     ensures same_reference { reader.new.source.ghost_name ≡ reader.old.source.ghost_name }
-    ensures ok { IfOk result (IsReport (R.seen reader.old.source.now) (R.seen reader.new.source.now)
-        session.old session.new (W.seen report.old) (W.seen report.new)) }
-    ensures err { OnErr result (IsCutReport (R.seen reader.old.source.now)
-        (R.seen reader.new.source.now)
-        session.old session.new (W.seen report.old) (W.seen report.new)) }
+    ensures ok { IfOk result (IsReport
+        (replay_seen (R.seen reader.old.source.now) session.old (W.seen report.old)
+        (B.seen answers.old))
+        (replay_seen (R.seen reader.new.source.now) session.new (W.seen report.new)
+        (B.seen answers.new))) }
+    ensures err { OnErr result (IsCutReport
+        (replay_seen (R.seen reader.old.source.now) session.old (W.seen report.old)
+        (B.seen answers.old))
+        (replay_seen (R.seen reader.new.source.now) session.new (W.seen report.new)
+        (B.seen answers.new))) }
 {
     let mut outcome = Outcome::default();
     let mut number = 0;
     'frames: loop {
-        let told = match next_told(session, reader) {
-            Ok(told) => told,
-            Err(ending) => return end_report(report, outcome, ending),
+        let response = match next_response(session, reader) {
+            Ok(response) => response,
+            Err(ending) => return end_replay(report, answers, outcome, ending),
         };
         number += 1;
-        outcome.note(&told);
-        write_frame(report, number, &told)?;
+        outcome.note(&response.told);
+        write_frame(report, number, &response.told)?;
+        match answers.answer(session, response.reply) {
+            Ok(()) => {}
+            Err(AnswerFault::NoMemory) => {
+                return end_replay(report, answers, outcome, OUT_OF_MEMORY);
+            }
+            Err(AnswerFault::Write) => return Err(WriteFault::Write),
+        }
     }
 }
 
-// What is told of the next frame, or how the record ended if there is none.
-fn next_told<N: NodeMap, R: Source>(
+// What is made of the next frame, or how the record ended if there is none.
+fn next_response<N: NodeMap, R: Source>(
     session: &mut Session<'_, N>,
     reader: &mut FrameReader<'_, R>,
-) -> Result<Told, Ending>
+) -> Result<Response, Ending>
     requires open { IsOpen reader.old }
     requires room { HasRoom reader.old }
     ensures same_reference { reader.new.source.ghost_name ≡ reader.old.source.ghost_name }
-    ensures frame { IfOk result (λ told. (frame : Frame)
-        × HandlesNext false (R.seen reader.old.source.now) (R.seen reader.new.source.now)
-        session.old session.new (unanswered frame told)) }
+    ensures frame { IfOk result (λ r. RespondsNext
+        (R.seen reader.old.source.now) (R.seen reader.new.source.now)
+        session.old session.new r.told r.reply) }
     ensures open { OnOk result (IsOpen reader.new) }
     ensures room { HasRoom reader.new }
     ensures ending { IfErr result (TellsEnding (R.seen reader.old.source.now)
@@ -117,13 +152,23 @@ fn next_told<N: NodeMap, R: Source>(
     }
 }
 
-// Gives the frame's message to the session, and tells what is told of the frame.
-fn take_frame<N: NodeMap>(session: &mut Session<'_, N>, frame: Frame<'_>) -> Told
-    ensures { Meets false session.old frame.entry result [] session.new }
+// Gives the frame's message to the session, and tells what is made of the frame.
+fn take_frame<N: NodeMap>(session: &mut Session<'_, N>, frame: Frame<'_>) -> Response
+    ensures told { Meets false session.old frame.entry result.told [] session.new }
+    ensures reply { result.reply ≡ reply_to frame.entry result.told }
 {
     match frame {
-        Frame::Message(message) => Told::Verdict(session.step(&message)),
-        Frame::BadSize { id, len } => Told::BadFrame { id, len },
+        Frame::Message(message) => {
+            let verdict = session.step(&message);
+            Response {
+                told: Told::Verdict(verdict),
+                reply: Reply::of(&message, &verdict),
+            }
+        }
+        Frame::BadSize { id, len } => Response {
+            told: Told::BadFrame { id, len },
+            reply: Reply::Nothing,
+        },
     }
 }
 
@@ -132,6 +177,22 @@ fn write_frame<W: Sink>(report: &mut W, number: u64, told: &Told) -> Result<(), 
     ensures { Wrote (W.seen report.old) (W.seen report.new) result (lines_of number told.now) }
 {
     write_all(report, line_of_frame(number, told).as_slice())
+}
+
+// Writes the last line and flushes, and then flushes the answers: what the report amounts to then.
+fn end_replay<W: Sink, B: Answering>(
+    report: &mut W,
+    answers: &mut B,
+    outcome: Outcome,
+    ending: Ending,
+) -> Result<Outcome, WriteFault>
+    ensures wrote { Finishes (W.seen report.old) (W.seen report.new)
+        (B.seen answers.old) (B.seen answers.new) (ending_line_of ending) result }
+    ensures outcome { IfOk result (λ o. o ≡ record outcome { fault = is_fault ending }) }
+{
+    let outcome = end_report(report, outcome, ending)?;
+    answers.finish()?;
+    Ok(outcome)
 }
 
 // Writes the last line, and flushes: what the report amounts to then.
@@ -157,5 +218,6 @@ fn ending_line(ending: Ending) -> &'static [u8]
         Ending::Fault(FrameFault::Truncated) => b"fault Truncated\n",
         Ending::Fault(FrameFault::Read) => b"fault Read\n",
         Ending::Fault(FrameFault::NoMemory) => b"fault NoMemory\n",
+        Ending::Fault(FrameFault::BadDirection) => b"fault BadDirection\n",
     }
 }

@@ -25,6 +25,7 @@ Gave-until a b c xs ys why p q = record {
   gave = Gave-trans a b c xs ys p.gave q.gave;
   faults = subst (λ n. CountsRead n c.faults why) p.faults q.faults;
   ended = q.ended;
+  no_direction = q.no_direction;
 }
 
 -- a call that failed gave nothing
@@ -33,6 +34,7 @@ Failed-at_once b c why e p q n = record {
   gave = record { given = Consumes-kept b.left b.left c.left [] (Consumes-nil b.left) p; falls = omega (arith, q) };
   faults = subst (CountsRead b.faults c.faults) (sym e) n;
   ended = λ t. let no : ⊥ = cc in absurd no;
+  no_direction = λ t. let no : ⊥ = cc in no;
 }
 
 -- one read

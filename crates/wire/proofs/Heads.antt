@@ -1,6 +1,6 @@
 -- How a body goes with its head.
-use Rattle.std.proofs.Common.{◌≡◌, ℕ, ◌+◌, ◌-◌, ◌<◌, ◌≤◌, List, [], ◌∷◌, ◌++◌, length, take, get_or, refl, sym, ap, ◌∙◌, arith, subst}
-use Rattle.std.proofs.lemmas.List.{length-take-le}
+use Rattle.std.proofs.Common.{◌≡◌, ℕ, ◌+◌, ◌-◌, ◌<◌, ◌≤◌, List, [], ◌∷◌, ◌++◌, length, take, get_or, refl, sym, ap, ◌∙◌, arith, subst, inl, inr}
+use Rattle.std.proofs.lemmas.List.{length-append, length-take-le}
 use Rattle.wire.specs.declared.kind.Kind.{Kind}
 use Rattle.wire.specs.declared.head.Head.{Head}
 use Rattle.wire.specs.declared.head.Head.TheVariants.{KeepAlive, Kept, BadSize, Other}
@@ -35,3 +35,15 @@ Holds-skipped id len (BadSize i n) items buf rest e h not size =
     (record { rest = rest; bytes = rw (e, h.0) refl; size = rw e (omega (arith, h.1, size)) }, rw h.0 h.2, rw (h.0, h.1) h.3)
 Holds-skipped id len (Other i n) items buf rest e h not size =
     (record { rest = rest; bytes = rw (e, h.0) refl; size = rw e (omega (arith, h.1, size)) }, rw h.0 h.2)
+
+-- a body of the longest length is never kept
+too_long : (id : ℕ) → IsRightSize id 4294967295 → ⊥
+too_long id (inl p) = omega (arith, p.1.1)
+too_long id (inr (inl p)) = omega (arith, p.1)
+too_long id (inr (inr (inl p))) = omega (arith, p.1.1)
+too_long id (inr (inr (inr p))) = omega (arith, p.1)
+
+pub Holds-longest : (head : Head) (items front rest : List ℕ) → length front ≡ 4 → IsHead (get_or front 0 0) 4294967295 head → length rest ≡ 4294967291 → Holds head items (front ++ rest)
+Holds-longest head items [] rest four is size = absurd (omega (arith, four))
+Holds-longest head items (x ∷ front) rest four is size =
+    Holds-skipped x 4294967295 head items (x ∷ []) (front ++ rest) refl is (λ kind n e. too_long x (subst (IsHead x 4294967295) e is).2) (omega (arith, four, size, length-append front rest))

@@ -1,5 +1,6 @@
 pub mod Bodies
 pub mod Chunks
+pub mod Conversions
 pub mod AskFields
 pub mod FourBytes
 pub mod Giving
@@ -7,6 +8,10 @@ pub mod Heads
 pub mod Meanings
 pub mod OneReading
 pub mod Partial
+pub mod RecordParts
+pub mod RecordReaders
+pub mod RecordRuns
+pub mod Records
 pub mod Runs
 pub mod Stopping
 pub mod Written

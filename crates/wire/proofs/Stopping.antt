@@ -7,33 +7,41 @@ use Rattle.wire.specs.declared.fault.FrameFault.TheVariants as fault
 use Rattle.wire.specs.Frames.{four_bytes}
 use Rattle.benc.specs.Device.{SourceSeen, one_more}
 use Rattle.wire.specs.Meaning.{IsRightSize}
-use Rattle.wire.specs.Reading.{CountsRead, GaveFaultless, GaveUntil, StopsInBody, StopsInFrame, StopsShort}
+use Rattle.wire.specs.Reading.{CountsRead, GaveFaultless, GaveUntil, StopsInBody, StopsInFrame, StopsInLength, StopsShort}
 use Rattle.wire.proofs.FourBytes.{length-four_bytes}
 use Rattle.wire.proofs.Giving.{Failed-at_once, Gave-nil, Gave-until}
 use Rattle.wire.proofs.Partial.{IsPartial-from_short, IsPartial-from_unfinished}
 
 -- before the first byte of a length
-pub StopsInFrame-at_start : (a b : SourceSeen) (why : FrameFault) → why ≡ fault.Read → Keeps a.left b.left → b.limit ≡ a.limit → b.faults ≡ one_more a.faults → StopsInFrame a b why
-StopsInFrame-at_start a b why e p q n = record {
+pub StopsInLength-at_start : (a b : SourceSeen) (why : FrameFault) → why ≡ fault.Read → Keeps a.left b.left → b.limit ≡ a.limit → b.faults ≡ one_more a.faults → StopsInLength a b why
+StopsInLength-at_start a b why e p q n = record {
   bytes = [];
   gave = Failed-at_once a b why e p q n;
-  partial = IsPartial-from_short [] (omega arith);
+  short = omega arith;
   begun = λ t. absurd (t e);
-  growing = λ t. let no : ⊥ = cc in absurd no;
 }
 
 -- after some bytes of a length
-pub StopsInFrame-in_length : (a b c : SourceSeen) (xs : List ℕ) (wanted : ℕ) (why : FrameFault) → 0 < length xs → length xs + wanted ≡ 4 → why ≢ fault.NoMemory → GaveFaultless a b xs → StopsShort b c wanted why → StopsInFrame a c why
-StopsInFrame-in_length a b c xs wanted why some whole device p s = record {
+pub StopsInLength-after : (a b c : SourceSeen) (xs : List ℕ) (wanted : ℕ) (why : FrameFault) → 0 < length xs → length xs + wanted ≡ 4 → GaveFaultless a b xs → StopsShort b c wanted why → StopsInLength a c why
+StopsInLength-after a b c xs wanted why some whole p s = record {
   bytes = xs ++ s.bytes;
   gave = Gave-until a b c xs s.bytes why p s.gave;
-  partial = IsPartial-from_short (xs ++ s.bytes) (omega (arith, s.short, length-append xs s.bytes));
-  begun = λ t e. omega (arith, ap length e, length-append xs s.bytes);
+  short = omega (arith, whole, s.short, length-append xs s.bytes);
+  begun = λ t e. omega (arith, some, ap length e, length-append xs s.bytes);
+}
+
+-- less than a length is less than a frame
+unfoldable pub StopsInFrame-in_length : (a b : SourceSeen) (why : FrameFault) → why ≢ fault.NoMemory → StopsInLength a b why → StopsInFrame a b why
+StopsInFrame-in_length a b why device s = record {
+  bytes = s.bytes;
+  gave = s.gave;
+  partial = IsPartial-from_short s.bytes s.short;
+  begun = s.begun;
   growing = λ t. absurd (device t);
 }
 
 -- after a length
-pub StopsInFrame-in_body : (a b c : SourceSeen) (len : ℕ) (why : FrameFault) → len < 2 ^ 32 → GaveFaultless a b (four_bytes len) → StopsInBody b c len why → StopsInFrame a c why
+unfoldable pub StopsInFrame-in_body : (a b c : SourceSeen) (len : ℕ) (why : FrameFault) → len < 2 ^ 32 → GaveFaultless a b (four_bytes len) → StopsInBody b c len why → StopsInFrame a c why
 StopsInFrame-in_body a b c len why bound p s = record {
   bytes = four_bytes len ++ s.bytes;
   gave = Gave-until a b c (four_bytes len) s.bytes why p s.gave;
@@ -50,6 +58,7 @@ StopsShort-at_once a wanted why some e = record {
     gave = Gave-nil a;
     faults = subst (CountsRead a.faults a.faults) (sym e) refl;
     ended = λ t. let no : ⊥ = cc in absurd no;
+    no_direction = λ t. let no : ⊥ = cc in no;
   };
   short = some;
   untouched = λ _. refl;

@@ -22,13 +22,15 @@ abbrev pub CountsRead : ℕ → ℕ → FrameFault → Type 0
 CountsRead old new fault.Read = new ≡ one_more old
 CountsRead old new fault.Truncated = new ≡ old
 CountsRead old new fault.NoMemory = new ≡ old
+CountsRead old new fault.BadDirection = new ≡ old
 
--- from old to new the source gave these bytes, and then this came: `Truncated` at the source's end,
--- `Read` if a call failed
+-- from old to new the source gave these bytes of a frame, and then this came: `Truncated` at the
+-- source's end, `Read` if a call failed. No byte of a frame is a direction
 pub record GaveUntil (old new : SourceSeen) (bytes : List ℕ) (why : FrameFault) : Type 0 where
   pub gave : Gave old new bytes
   pub faults : CountsRead old.faults new.faults why
   pub ended : why ≡ fault.Truncated → IsAtEnd new.left
+  pub no_direction : why ≢ fault.BadDirection
 
 -- so many bytes were wanted, and this came before the last of them. Out of memory comes before the
 -- first
@@ -51,6 +53,13 @@ pub record StopsInBody (old new : SourceSeen) (len : ℕ) (why : FrameFault) : T
   pub gave : GaveUntil old new bytes why
   pub short : length bytes < len
   pub growing : why ≡ fault.NoMemory → (id : ℕ) × (bytes ≡ id ∷ []) × IsRightSize id len
+
+-- less than a length stopped short
+pub record StopsInLength (old new : SourceSeen) (why : FrameFault) : Type 0 where
+  pub bytes : List ℕ
+  pub gave : GaveUntil old new bytes why
+  pub short : length bytes < 4
+  pub begun : why ≢ fault.Read → bytes ≢ []
 
 -- no whole frame came, and this is why. Out of memory comes behind the length and the id of a frame
 -- whose body is to be kept

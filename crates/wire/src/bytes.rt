@@ -2,7 +2,7 @@
 ghost use Rattle.std.specs.Prelude.{◌≡◌, ◌≢◌, ℕ, ◌^◌, ◌<◌, [], List, length, MatchResult, MatchOption, IsErrOf};
 ghost use Rattle.std.specs.Io.KnownBytes.{IsAtEnd};
 ghost use Rattle.wire.specs.Frames.{four_bytes};
-ghost use Rattle.wire.specs.Reading.{GaveFaultless, GivesAll, StopsShort, StopsInFrame};
+ghost use Rattle.wire.specs.Reading.{GaveFaultless, GivesAll, StopsShort, StopsInLength};
 
 use crate::fault::FrameFault;
 use crate::number::number_at;
@@ -32,7 +32,7 @@ pub(crate) fn read_length<R: Source>(source: &mut R) -> Result<Option<u32>, Fram
         × IsAtEnd (R.seen source.new).left)
         (λ len. GaveFaultless (R.seen source.old) (R.seen source.new) (four_bytes len)
         × (len < 2 ^ 32)))
-        (StopsInFrame (R.seen source.old) (R.seen source.new)) }
+        (StopsInLength (R.seen source.old) (R.seen source.new)) }
     ensures no_memory { ¬ IsErrOf result FrameFault.NoMemory }
 {
     let mut bytes = [0u8; 4];

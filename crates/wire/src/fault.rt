@@ -15,6 +15,10 @@ pub enum FrameFault {
     /// Memory for the body of a message that is read was refused.
     #[error("out of memory")]
     NoMemory,
+    /// Before a frame of a record of form 2 stood a byte that is no direction. Only a
+    /// `RecordReader` answers it.
+    #[error("a byte before a frame is no direction")]
+    BadDirection,
 }
 
 impl From<DeviceFault> for FrameFault {

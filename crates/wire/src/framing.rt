@@ -25,14 +25,16 @@ pub(crate) fn read_frame<R: Source>(
 {
     match read_length(source)? {
         None => Ok(None),
-        Some(0) => Ok(Some(Head::KeepAlive)),
         Some(len) => Ok(Some(read_body(source, kept, len)?)),
     }
 }
 
 /// Reads the body of this length.
-fn read_body<R: Source>(source: &mut R, kept: &mut Vec<u8>, len: u32) -> Result<Head, FrameFault>
-    requires { 0 < len }
+pub(crate) fn read_body<R: Source>(
+    source: &mut R,
+    kept: &mut Vec<u8>,
+    len: u32,
+) -> Result<Head, FrameFault>
     ensures bytes { MatchResult result
         (λ head. (body : List ℕ) × GaveFaultless (R.seen source.old) (R.seen source.new) body
         × (length body ≡ len) × Holds head kept.new.items body)
@@ -41,6 +43,9 @@ fn read_body<R: Source>(source: &mut R, kept: &mut Vec<u8>, len: u32) -> Result<
     ensures capacity { vec_capacity kept.old ≤ vec_capacity kept.new }
     ensures memory { IsErrOf result FrameFault.NoMemory → vec_capacity kept.old < 263216 }
 {
+    if len == 0 {
+        return Ok(Head::KeepAlive);
+    }
     let mut id = [0u8; 1];
     read_exact(source, &mut id)?;
     let head = Head::of(id[0], len);

@@ -1,5 +1,6 @@
 //! Laws of frames and of what they mean.
 ghost use Rattle.wire.specs.Laws.{OneListOfFrames, EachStreamHasFrames, FramesAfterFrames, OneMeaning, WrittenIsRead};
+ghost use Rattle.wire.specs.RecordLaws.{OneReadingOfRecord, EachRecordHasFrames, FormOneIsStream, RestOfRecord, ConversionIsRecord, ConversionMeans};
 
 /// A stream has one list of frames and one rest.
 pub fn one_list_of_frames()
@@ -26,4 +27,21 @@ pub fn one_meaning()
 /// with it is that message, and what follows it is left.
 pub fn written_is_read()
     ensures { WrittenIsRead }
+{}
+
+/// A record has one form, one list of frames and one rest, and each list of bytes is a record. A
+/// record of form 1 is a stream of frames that came in. A record of form 2 ends between two frames,
+/// at a byte that is no direction, or inside a frame.
+pub fn records_have_frames()
+    ensures one { OneReadingOfRecord }
+    ensures each { EachRecordHasFrames }
+    ensures stream { FormOneIsStream }
+    ensures rest { RestOfRecord }
+{}
+
+/// The conversion of whole frames is a record of form 2, whose frames mean what the converted
+/// frames do, and the requests before hashes.
+pub fn conversion_is_record()
+    ensures record_of { ConversionIsRecord }
+    ensures means { ConversionMeans }
 {}

@@ -2,8 +2,10 @@
 #![tactic(auto)]
 
 mod bytes;
+mod direction;
 mod fault;
 mod fields;
+mod form;
 mod frame;
 mod framing;
 mod hashes;
@@ -14,13 +16,17 @@ mod message;
 mod number;
 mod parse;
 mod reader;
+mod record;
+mod record_reader;
 mod writing;
 
 pub use benc::WriteFault;
+pub use direction::Direction;
 pub use fault::FrameFault;
 pub use frame::Frame;
 pub use message::{Ask, Hash, Message};
 pub use reader::FrameReader;
+pub use record_reader::RecordReader;
 pub use writing::write;
 
 #[cfg(test)]

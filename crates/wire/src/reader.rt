@@ -1,6 +1,6 @@
 //! A reader of frames that lends its own buffer.
 ghost use mir.Syntax.{named};
-ghost use Rattle.std.specs.Prelude.{◌≡◌, ◌≤◌, ◌⊎◌, OnOk, OnErr, ℕ, List, [], true, false, Ok, Err, IfOk, IfErr, IfSome, IsErrOf, MatchResult, MatchBool};
+ghost use Rattle.std.specs.Prelude.{◌≡◌, ◌≢◌, ◌≤◌, ◌<◌, ◌⊎◌, vec_capacity, OnOk, OnErr, ℕ, List, [], true, false, Ok, Err, IfOk, IfErr, IfSome, IsErrOf, MatchResult, MatchBool};
 ghost use Rattle.std.specs.Bool.{OnTrue, OnFalse};
 ghost use Rattle.std.specs.Borrow.{sem};
 ghost use Rattle.std.specs.Io.BufRead.{Rests};
@@ -66,13 +66,7 @@ impl<'r, R: Source> FrameReader<'r, R> {
             (HasFailed self.old FrameFault.NoMemory ⊎ ¬ HasRoom self.old) }
         ensures unchanged { IsSameButRoom self.old self.new }
     {
-        if let State::Failed(FrameFault::NoMemory) = self.state {
-            return Err(NoMemory);
-        }
-        if self.kept.capacity() < MAX_KEPT {
-            self.kept.reserve(MAX_KEPT)?;
-        }
-        Ok(())
+        take_room(self.state, &mut self.kept)
     }
 
     /// The next frame, or `None` at the end of the source. After `None` and after a fault each
@@ -150,6 +144,24 @@ impl<'r, R: Source> FrameReader<'r, R> {
     {
         frame_of(self.head, &self.kept)
     }
+}
+
+/// Takes the room for the longest body that is kept, if the reader has not answered `NoMemory`.
+pub(crate) fn take_room(state: State, kept: &mut Vec<u8>) -> Result<(), NoMemory>
+    ensures room { OnOk result ((263216 ≤ vec_capacity kept.new)
+        × (state ≢ State.Failed FrameFault.NoMemory)) }
+    ensures refused { OnErr result (vec_capacity kept.new ≡ vec_capacity kept.old) }
+    ensures memory { OnErr result ((state ≡ State.Failed FrameFault.NoMemory)
+        ⊎ (vec_capacity kept.old < 263216)) }
+    ensures unchanged { kept.new.items ≡ kept.old.items }
+{
+    if let State::Failed(FrameFault::NoMemory) = state {
+        return Err(NoMemory);
+    }
+    if kept.capacity() < MAX_KEPT {
+        kept.reserve(MAX_KEPT)?;
+    }
+    Ok(())
 }
 
 impl<R: Source, B: Drop> Drop for FrameReader<'_, R, B> {

@@ -1,5 +1,7 @@
 ghost use Rattle.std.specs.Prelude.{◌≡◌, ℕ, [], List, length, Some, IfOk};
 ghost use Rattle.wire.specs.Frames.{Frames};
+ghost use Rattle.wire.specs.declared.form.Form.{Form as FormOf};
+ghost use Rattle.wire.specs.Records.{Directed, RecordFrames};
 
 use super::*;
 use benc::Source;
@@ -30,6 +32,21 @@ fn count_frames<R: Source>(alloc: Global, source: &mut R) -> Result<u64, FrameFa
         → (bodies : List (List ℕ)) × Frames bytes bodies [] × (length bodies ≡ n)) }
 {
     let mut reader = FrameReader::new(alloc, source);
+    let mut n = 0u64;
+    'frames: while reader.advance()? {
+        let _ = reader.frame();
+        n += 1;
+    }
+    Ok(n)
+}
+
+// The same over a record in either form.
+fn count_directed<R: Source>(alloc: Global, source: &mut R) -> Result<u64, FrameFault>
+    ensures { IfOk result (λ n. (bytes : List ℕ) → (R.seen source.old).left ≡ Some bytes
+        → (form : FormOf) × (frames : List (Directed (List ℕ)))
+        × RecordFrames bytes form frames [] × (length frames ≡ n)) }
+{
+    let mut reader = RecordReader::new(alloc, source);
     let mut n = 0u64;
     'frames: while reader.advance()? {
         let _ = reader.frame();
@@ -266,6 +283,10 @@ fn printed_faults(rt: HostRuntime) -> Result<(), AllocError> {
         (FrameFault::Truncated, "the input ends inside a frame"),
         (FrameFault::Read, "the source failed"),
         (FrameFault::NoMemory, "out of memory"),
+        (
+            FrameFault::BadDirection,
+            "a byte before a frame is no direction",
+        ),
     ] {
         assert!(rt; format!(in rt.alloc(); "{fault}")?.as_str() == text);
     }
@@ -280,4 +301,85 @@ fn a_sink_that_fails_has_a_prefix(rt: HostRuntime) {
         .fails_after(1);
     assert!(rt; write(&Message::Reject(ASK), &mut sink).is_err());
     assert!(rt; sink.written() == [0, 0, 0, 0x31].as_slice());
+}
+
+// The answers of five calls over a record, each with the form that is known then.
+fn told_of_record<R: Source>(alloc: Global, source: &mut R) -> Result<String, AllocError> {
+    let mut reader = RecordReader::new(alloc, source);
+    let mut text = format!(in alloc; "{:?}:", reader.form())?;
+    for _ in 0..5u8 {
+        let answer = match reader.next() {
+            Ok(Some((direction, Frame::Message(m)))) => {
+                format!(in alloc; "{direction:?} {m:?}")?
+            }
+            Ok(Some((direction, bad))) => format!(in alloc; "{direction:?} {bad:?}")?,
+            Ok(None) => format!(in alloc; "end")?,
+            Err(fault) => format!(in alloc; "{fault:?}")?,
+        };
+        text.push_str(&format!(in alloc; "{answer} {:?};", reader.form())?)?;
+    }
+    Ok(text)
+}
+
+// The same however the record is cut.
+fn expect_record(rt: &impl Abort, alloc: Global, record: &[u8], answers: &str) {
+    for at_most in [1, 7, usize::MAX] {
+        let mut source = MemSource::new(record).at_most(at_most);
+        let text = told_of_record(alloc, &mut source).expect(rt, "memory");
+        assert!(rt; text.starts_with(answers), "{text}");
+    }
+}
+
+#[test]
+fn records_in_both_forms(rt: HostRuntime) {
+    for (record, answers) in [
+        (&[] as &[u8], "None:end Some(1);end Some(1);"),
+        (&RECORD[..4], "None:In KeepAlive Some(1);end Some(1);"),
+        (
+            &[255, 255, 255, 255, 66, 84, 72],
+            "None:Truncated None;Truncated None;",
+        ),
+        (
+            &[255, 255, 255, 255, 66, 84, 72, 51, 0],
+            "None:Truncated None;Truncated None;",
+        ),
+        (b"\xff\xff\xff\xffBTH2", "None:end Some(2);end Some(2);"),
+        (
+            b"\xff\xff\xff\xffBTH2\0\0\0\0\0\x01\0\0\0\x02\x15\0",
+            "None:In KeepAlive Some(2);Out BadSize { id: 21, len: 2 } Some(2);end Some(2);",
+        ),
+        (
+            b"\xff\xff\xff\xffBTH2\x02",
+            "None:BadDirection None;BadDirection None;",
+        ),
+        (
+            b"\xff\xff\xff\xffBTH2\x01\0\0\0\0\x02\0",
+            "None:Out KeepAlive Some(2);BadDirection Some(2);BadDirection Some(2);",
+        ),
+        (
+            b"\xff\xff\xff\xffBTH2\0",
+            "None:Truncated None;Truncated None;",
+        ),
+    ] {
+        expect_record(&rt, rt.alloc(), record, answers);
+    }
+}
+
+// Whether a record's one frame is read by a reader that takes its room before.
+fn reads_record_with_room<R: Source>(alloc: Global, source: &mut R) -> bool {
+    let mut reader = RecordReader::new(alloc, source);
+    reader.reserve().is_ok()
+        && matches!(
+            reader.next(),
+            Ok(Some((Direction::In, Frame::Message(Message::Piece { .. }))))
+        )
+        && matches!(reader.next(), Ok(None))
+}
+
+#[test]
+fn a_record_is_read_with_room(rt: HostRuntime) {
+    let bytes = frame(rt.alloc(), 7, 10).expect(&rt, "memory");
+    let mut source = MemSource::new(&bytes);
+    let is_read = reads_record_with_room(rt.alloc(), &mut source);
+    assert!(rt; is_read);
 }

@@ -49,7 +49,7 @@ fn replay_torrent(
     out: &mut MemSink,
 ) -> Result<Replay, Fail> {
     let mut session: Session<'_, Flat> = Session::new(rt.alloc(), torrent, true)?;
-    let ended = replay(rt.alloc(), &mut session, source, out);
+    let ended = replay(rt.alloc(), &mut session, source, out, None::<&mut MemSink>);
     let mut marked = 0u64;
     for tree in 0..session.torrent().trees().len() {
         marked = marked.wrapping_add(session.marked(tree));
@@ -140,6 +140,39 @@ fn a_sink_that_fails_at_each_call(rt: HostRuntime) -> Result<(), Fail> {
         let handled = if calls >= LINES[0].1.len() { 1 } else { 0 };
         assert_eq!(rt; done.marked, handled);
     }
+    Ok(())
+}
+
+// A request for the two leaves of a tree of one block, of a root that no file has.
+const REQUEST: &[u8; 53] = b"\0\0\0\x31\x15\
+    0123456789abcdef0123456789abcdef\0\0\0\0\0\0\0\0\0\0\0\x02\0\0\0\0";
+
+fn answer_torrent(
+    rt: &HostRuntime,
+    torrent: &Torrent<'_>,
+    out: &mut MemSink,
+    answers: &mut MemSink,
+) -> Result<Outcome, Fail> {
+    let mut session: Session<'_, Flat> = Session::new(rt.alloc(), torrent, true)?;
+    let mut source = MemSource::new(REQUEST);
+    let ended = replay(rt.alloc(), &mut session, &mut source, out, Some(answers));
+    Ok(ended?)
+}
+
+#[test]
+fn a_request_that_is_rejected(rt: HostRuntime) -> Result<(), Fail> {
+    let mut reject = *REQUEST;
+    reject[4] = 0x17;
+    let mut out = MemSink::with_room(rt.alloc(), 128)?;
+    let mut answers = MemSink::with_room(rt.alloc(), 128)?;
+    let outcome = match Torrent::open(rt.alloc(), TORRENT) {
+        Ok(torrent) => answer_torrent(&rt, &torrent, &mut out, &mut answers)?,
+        Err(refusal) => return Err(Fail::from(refusal)),
+    };
+    assert_eq!(rt; outcome.status(), 0);
+    assert_eq!(rt; out.written(), "1 rejected\nend\n".as_bytes());
+    assert_eq!(rt; answers.written(), reject.as_slice());
+    assert!(rt; answers.is_flushed());
     Ok(())
 }
 

@@ -4,8 +4,14 @@ use Rattle.std.proofs.lemmas.Result.{err_from_is_err_and}
 use Rattle.wire.specs.Frames.{four_bytes, frame}
 use Rattle.wire.specs.Reading.{GaveFaultless}
 use Rattle.wire.proofs.Giving.{Faultless-trans}
-use Rattle.wire.proofs.Stopping.{StopsInFrame-in_body}
+use Rattle.wire.proofs.Stopping.{StopsInFrame-in_body, StopsInFrame-in_length, device}
 use Rattle.wire.proofs.framing.read_frame.Goals as goal
+
+pub returns-in_err-read_length-clause-bytes : goal.returns-in_err-read_length-clause-bytes
+returns-in_err-read_length-clause-bytes g c =
+    let S = g.R.Source in
+    let p = err_from_is_err_and c.from_residual.result c.from_residual.ensures.1 in
+    rw (p.1, p.2) (StopsInFrame-in_length (S.seen c.args.source.now) (S.seen c.read_length.new.source) _ (device _ c.in_err-read_length.ensures.no_memory) c.in_err-read_length.ensures.bytes)
 
 pub returns-in_err-read_body-in-Some-clause-bytes : goal.returns-in_err-read_body-in-Some-clause-bytes
 returns-in_err-read_body-in-Some-clause-bytes g c =
@@ -13,14 +19,6 @@ returns-in_err-read_body-in-Some-clause-bytes g c =
     let p = err_from_is_err_and c.from_residual-in_err-read_body-in-Some.result c.from_residual-in_err-read_body-in-Some.ensures.1 in
     let front = rw c.in-Some.is at c.in_ok-read_length.ensures.bytes in
     rw (p.1, p.2) (StopsInFrame-in_body (S.seen c.args.source.now) (S.seen c.read_length.new.source) (S.seen c.read_body.new.source) c.in-Some.len _ front.1 front.0 c.in_err-read_body-in-Some.ensures.bytes)
-
-pub returns-in-Some-eq0-clause-bytes : goal.returns-in-Some-eq0-clause-bytes
-unfolding frame
-returns-in-Some-eq0-clause-bytes g c =
-    let S = g.R.Source in
-    let front = rw c.in-Some-eq0.is at c.in_ok-read_length.ensures.bytes in
-    let is : four_bytes c.in-Some-eq0.field-0 ≡ four_bytes 0 ++ [] = ap four_bytes c.in-Some-eq0.field-0-test ∙ sym (append-nil (four_bytes 0)) in
-    ([], omega arith, subst (GaveFaultless (S.seen c.args.source.now) (S.seen c.read_length.new.source)) is front.0, refl)
 
 pub returns-in_ok-read_body-in-Some-clause-bytes : goal.returns-in_ok-read_body-in-Some-clause-bytes
 unfolding frame

@@ -1,4 +1,4 @@
-use Rattle.std.proofs.Common.{refl, ap, sym, ◌∙◌, ◌+◌}
+use Rattle.std.proofs.Common.{refl, ap, sym, ◌+◌}
 use Rattle.pieces.proofs.Fed.{fed_skipped}
 use Rattle.pieces.proofs.v1_feed.V1Feed.skip.Goals as goal
 

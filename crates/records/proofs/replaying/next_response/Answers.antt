@@ -1,5 +1,5 @@
 use Rattle.records.proofs.Replays.{tells_end}
-use Rattle.records.proofs.replaying.next_told.Goals as goal
+use Rattle.records.proofs.replaying.next_response.Goals as goal
 
 pub returns-in-Ok-false-clause-ending : goal.returns-in-Ok-false-clause-ending
 returns-in-Ok-false-clause-ending g c =

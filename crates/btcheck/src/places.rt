@@ -1,0 +1,46 @@
+//! Where the files of a torrent lie in all its bytes.
+use metainfo::{File, Torrent};
+
+/// The places of files that are asked for in the torrent's order.
+#[derive(Drop)]
+pub(crate) struct Places<'a> {
+    files: &'a [File<'a>],
+    next: usize,
+    passed: u64,
+}
+
+impl<'a> Places<'a> {
+    /// The places of all files of this torrent.
+    pub(crate) fn new(torrent: &'a Torrent<'a>) -> Places<'a> {
+        Places {
+            files: torrent.files(),
+            next: 0,
+            passed: 0,
+        }
+    }
+
+    /// How many bytes the files before the one with this path have, whether they were asked for or
+    /// not. It counts on from the file that was asked for last.
+    pub(crate) fn before(&mut self, path: &[&str]) -> u64 {
+        let files = self.files;
+        'files: for at in self.next..files.len() {
+            let file = &files[at];
+            if file.path.parts() == path {
+                self.next = at;
+                return self.passed;
+            }
+            self.passed = self.passed.saturating_add(file.length);
+        }
+        self.next = files.len();
+        self.passed
+    }
+}
+
+/// How many bytes the files of a torrent have.
+pub(crate) fn all_bytes(torrent: &Torrent<'_>) -> u64 {
+    let mut all: u64 = 0;
+    'files: for file in torrent.files() {
+        all = all.saturating_add(file.length);
+    }
+    all
+}

@@ -1,0 +1,51 @@
+-- The conversion of a record of form 1: each frame came in, and directly before each hashes frame
+-- the request that it answers went out.
+use Rattle.std.specs.Prelude.{ℕ, ◌-◌, ◌%◌, leb, eqb, cond, ◌&&◌, Bool, false, List, [], ◌∷◌, ◌++◌, length, take, drop}
+use Rattle.std.specs.List.{flat_map}
+use Rattle.wire.specs.declared.form.Form.TheVariants.{Two}
+use Rattle.wire.specs.declared.direction.Direction.TheVariants.{In, Out}
+use Rattle.wire.specs.declared.frame.Frame.{Frame}
+use Rattle.wire.specs.declared.frame.Frame.TheVariants as told
+use Rattle.wire.specs.declared.message.Message.{Message}
+use Rattle.wire.specs.declared.message.Message.TheVariants as message
+use Rattle.wire.specs.Meaning.{max_body}
+use Rattle.wire.specs.Records.{Directed, header, record_frame}
+
+-- whether a body is a hashes message of right size
+abbrev pub is_hashes_size : ℕ → Bool
+is_hashes_size size = leb 49 size && (leb size max_body && eqb ((size - 49) % 32) 0)
+
+abbrev pub is_hashes : List ℕ → Bool
+is_hashes [] = false
+is_hashes (id ∷ rest) = eqb id 22 && is_hashes_size (length (id ∷ rest))
+
+-- the request with the five fields that stand after a body's id
+abbrev pub request_of : List ℕ → List ℕ
+request_of body = 21 ∷ take 48 (drop 1 body)
+
+-- a frame that came in, after the request that it answers
+abbrev pub converted : List ℕ → List (Directed (List ℕ))
+converted body =
+    cond (is_hashes body) ((Out, request_of body) ∷ (In, body) ∷ []) ((In, body) ∷ [])
+
+abbrev pub conversion : List (List ℕ) → List (Directed (List ℕ))
+conversion bodies = flat_map converted bodies
+
+-- the bytes of the converted record
+abbrev pub conversion_bytes : List (List ℕ) → List ℕ
+conversion_bytes bodies = header ++ flat_map (record_frame Two) (conversion bodies)
+
+-- the same for what bodies mean
+abbrev pub converted_message : Message → List (Directed Message)
+converted_message (message.Hashes ask hashes) =
+    (Out, message.Request ask) ∷ (In, message.Hashes ask hashes) ∷ []
+converted_message m = (In, m) ∷ []
+
+abbrev pub converted_messages : List Message → List (Directed Message)
+converted_messages ms = flat_map converted_message ms
+
+abbrev pub converted_frame : Frame → List (Directed Frame)
+converted_frame (told.Message (message.Hashes ask hashes)) =
+    (Out, told.Message (message.Request ask)) ∷ (In, told.Message (message.Hashes ask hashes)) ∷
+    []
+converted_frame f = (In, f) ∷ []

@@ -1,0 +1,52 @@
+-- What a reader of records holds, and what a call that asks it for the next frame says.
+use Rattle.std.specs.Prelude.{◌≡◌, ℕ, ◌≤◌, List, Option, Some, None, Result, Ok, Err, MatchResult, MatchOption, IsErrOf}
+use Rattle.std.specs.Global.{Vec}
+use Rattle.benc.specs.Device.{SourceSeen}
+use Rattle.wire.specs.declared.direction.Direction.{Direction}
+use Rattle.wire.specs.declared.fault.FrameFault.{FrameFault}
+use Rattle.wire.specs.declared.fault.FrameFault.TheVariants as fault
+use Rattle.wire.specs.declared.form.Form.{Form}
+use Rattle.wire.specs.declared.frame.Frame.{Frame}
+use Rattle.wire.specs.declared.head.Head.{Head}
+use Rattle.wire.specs.declared.reader.FrameReader.{FrameReader}
+use Rattle.wire.specs.declared.record_reader.RecordReader.{RecordReader}
+use Rattle.wire.specs.Head.{Holds}
+use Rattle.wire.specs.Reader.{IsOpen, HasEnded, HasFailed, HasRoom, HoldsBody, kept_len}
+use Rattle.wire.specs.RecordReading.{GivesNext, StopsInRecord}
+use Rattle.wire.specs.Records.{Directed, MeansDirected}
+
+-- the reader of its frames, their directions aside
+abbrev pub frames : {S B : Type 0} → RecordReader S B → FrameReader S B
+frames reader =
+    record { source = reader.source; state = reader.state; head = reader.head; kept = reader.kept }
+
+-- a direction and a head are those of a body whose bytes are kept
+abbrev pub HoldsFrom : List ℕ → Directed (List ℕ) → Direction × Head → Type 0
+HoldsFrom kept d found = (found.0 ≡ d.0) × Holds found.1 kept d.1
+
+-- the frame that it read last has this direction and this body
+abbrev pub HoldsDirected : {S : Type 0} → RecordReader S (Vec ℕ) → Directed (List ℕ) → Type 0
+HoldsDirected reader d = (reader.direction ≡ d.0) × HoldsBody (frames reader) d.1
+
+-- what a call that asks for the next frame of a record answers, and what it leaves
+pub record AsksNextInRecord {S : Type 0} (seen : S → SourceSeen) (old new : RecordReader S (Vec ℕ))
+    (result : Result (Option (Direction × Frame)) FrameFault) : Type 0 where
+  pub same_reference : new.source.ghost_name ≡ old.source.ghost_name
+  pub gives : IsOpen (frames old) → MatchResult result
+      (λ found. (form : Form) × (new.form ≡ Some form)
+      × GivesNext old.form form (seen old.source.now) (seen new.source.now)
+      MeansDirected found)
+      (λ why. (new.form ≡ old.form)
+      × StopsInRecord old.form (seen old.source.now) (seen new.source.now) why)
+  pub stands :
+      MatchResult result
+      (λ found. MatchOption found (HasEnded (frames new)) (λ _. IsOpen (frames new)))
+      (HasFailed (frames new))
+  pub ended_again : HasEnded (frames old) → (result ≡ Ok None)
+      × (new.source.now ≡ old.source.now) × (new.form ≡ old.form)
+  pub failed_again :
+      (why : FrameFault) → HasFailed (frames old) why → (result ≡ Err why)
+      × (new.source.now ≡ old.source.now) × (new.form ≡ old.form)
+  pub bounded : kept_len (frames old) ≤ 263216 → kept_len (frames new) ≤ 263216
+  pub memory : IsOpen (frames old) → IsErrOf result fault.NoMemory → ¬ HasRoom (frames old)
+  pub has_room : HasRoom (frames old) → HasRoom (frames new)

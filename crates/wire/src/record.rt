@@ -1,0 +1,122 @@
+//! One frame of a record from a source.
+ghost use Rattle.std.specs.Prelude.{◌≡◌, ◌≤◌, ◌<◌, ℕ, List, length, Some, None, MatchResult, IsErrOf, vec_capacity};
+ghost use Rattle.benc.specs.Device.{SourceSeen};
+ghost use Rattle.wire.specs.Frames.{four_bytes};
+ghost use Rattle.wire.specs.Reading.{GaveFaultless};
+ghost use Rattle.wire.specs.RecordReading.{GivesNext, StopsInRecord};
+ghost use Rattle.wire.specs.RecordReader.{HoldsFrom};
+
+use crate::bytes::{read_exact, read_length, skip};
+use crate::direction::Direction;
+use crate::fault::FrameFault;
+use crate::form::Form;
+use crate::framing::{read_body, read_frame};
+use crate::head::Head;
+use benc::Source;
+
+/// A frame's direction and head, or `None` at the end of the source.
+pub(crate) type Found = Option<(Direction, Head)>;
+
+/// Reads the next frame of a record, whose form is known or is told by its first bytes.
+pub(crate) fn read_next<R: Source>(
+    source: &mut R,
+    kept: &mut Vec<u8>,
+    form: Option<Form>,
+) -> Result<(Form, Found), FrameFault>
+    ensures bytes { MatchResult result
+        (λ next. GivesNext form next.0 (R.seen source.old) (R.seen source.new)
+        (HoldsFrom kept.new.items) next.1)
+        (StopsInRecord form (R.seen source.old) (R.seen source.new)) }
+    ensures bounded { length kept.old.items ≤ 263216 → length kept.new.items ≤ 263216 }
+    ensures capacity { vec_capacity kept.old ≤ vec_capacity kept.new }
+    ensures memory { IsErrOf result FrameFault.NoMemory → vec_capacity kept.old < 263216 }
+{
+    match form {
+        None => read_first(source, kept),
+        Some(Form::One) => Ok((Form::One, read_incoming(source, kept)?)),
+        Some(Form::Two) => Ok((Form::Two, read_directed(source, kept)?)),
+    }
+}
+
+/// Reads the first frame, and what stands before it.
+fn read_first<R: Source>(source: &mut R, kept: &mut Vec<u8>) -> Result<(Form, Found), FrameFault>
+    ensures bytes { MatchResult result
+        (λ next. GivesNext None next.0 (R.seen source.old) (R.seen source.new)
+        (HoldsFrom kept.new.items) next.1)
+        (StopsInRecord None (R.seen source.old) (R.seen source.new)) }
+    ensures bounded { length kept.old.items ≤ 263216 → length kept.new.items ≤ 263216 }
+    ensures capacity { vec_capacity kept.old ≤ vec_capacity kept.new }
+    ensures memory { IsErrOf result FrameFault.NoMemory → vec_capacity kept.old < 263216 }
+{
+    match read_length(source)? {
+        None => Ok((Form::One, None)),
+        Some(u32::MAX) => read_marked(source, kept),
+        Some(len) => Ok((
+            Form::One,
+            Some((Direction::In, read_body(source, kept, len)?)),
+        )),
+    }
+}
+
+/// Reads on after the first half of a header, which is a length as well.
+fn read_marked<R: Source>(source: &mut R, kept: &mut Vec<u8>) -> Result<(Form, Found), FrameFault>
+    ensures bytes { (start : SourceSeen)
+        → GaveFaultless start (R.seen source.old) (four_bytes 4294967295) → MatchResult result
+        (λ next. GivesNext None next.0 start (R.seen source.new)
+        (HoldsFrom kept.new.items) next.1)
+        (StopsInRecord None start (R.seen source.new)) }
+    ensures bounded { length kept.old.items ≤ 263216 → length kept.new.items ≤ 263216 }
+    ensures capacity { vec_capacity kept.old ≤ vec_capacity kept.new }
+    ensures memory { IsErrOf result FrameFault.NoMemory → vec_capacity kept.old < 263216 }
+{
+    let mut half = [0u8; 4];
+    read_exact(source, &mut half)?;
+    if half == *b"BTH2" {
+        Ok((Form::Two, read_directed(source, kept)?))
+    } else {
+        skip(source, u32::MAX - 4)?;
+        Ok((
+            Form::One,
+            Some((Direction::In, Head::of(half[0], u32::MAX))),
+        ))
+    }
+}
+
+/// Reads the next frame of a record of form 1.
+fn read_incoming<R: Source>(source: &mut R, kept: &mut Vec<u8>) -> Result<Found, FrameFault>
+    ensures bytes { MatchResult result
+        (GivesNext (Some Form.One) Form.One (R.seen source.old) (R.seen source.new)
+        (HoldsFrom kept.new.items))
+        (StopsInRecord (Some Form.One) (R.seen source.old) (R.seen source.new)) }
+    ensures bounded { length kept.old.items ≤ 263216 → length kept.new.items ≤ 263216 }
+    ensures capacity { vec_capacity kept.old ≤ vec_capacity kept.new }
+    ensures memory { IsErrOf result FrameFault.NoMemory → vec_capacity kept.old < 263216 }
+{
+    match read_frame(source, kept)? {
+        None => Ok(None),
+        Some(head) => Ok(Some((Direction::In, head))),
+    }
+}
+
+/// Reads a direction and the frame behind it.
+fn read_directed<R: Source>(source: &mut R, kept: &mut Vec<u8>) -> Result<Found, FrameFault>
+    ensures bytes { MatchResult result
+        (GivesNext (Some Form.Two) Form.Two (R.seen source.old) (R.seen source.new)
+        (HoldsFrom kept.new.items))
+        (StopsInRecord (Some Form.Two) (R.seen source.old) (R.seen source.new)) }
+    ensures bounded { length kept.old.items ≤ 263216 → length kept.new.items ≤ 263216 }
+    ensures capacity { vec_capacity kept.old ≤ vec_capacity kept.new }
+    ensures memory { IsErrOf result FrameFault.NoMemory → vec_capacity kept.old < 263216 }
+{
+    let mut byte = [0u8; 1];
+    if source.read(&mut byte)? == 0 {
+        return Ok(None);
+    }
+    let Some(direction) = Direction::of(byte[0]) else {
+        return Err(FrameFault::BadDirection);
+    };
+    match read_frame(source, kept)? {
+        None => Err(FrameFault::Truncated),
+        Some(head) => Ok(Some((direction, head))),
+    }
+}

@@ -1,0 +1,183 @@
+//! A reader of records in both forms that lends its own buffer.
+ghost use mir.Syntax.{named};
+ghost use Rattle.std.specs.Prelude.{◌≡◌, ◌≤◌, ◌⊎◌, OnOk, OnErr, ℕ, List, [], None, Some, Ok, Err, IfOk, IfErr, IfSome, IsErrOf, MatchResult, MatchBool, true, false, option_map};
+ghost use Rattle.std.specs.Bool.{OnTrue, OnFalse};
+ghost use Rattle.std.specs.Borrow.{sem};
+ghost use Rattle.std.specs.Io.BufRead.{Rests};
+ghost use Rattle.wire.specs.declared.form.Form.{Form as FormOf};
+ghost use Rattle.wire.specs.Meaning.{Means};
+ghost use Rattle.wire.specs.RecordReading.{EndsRecord, GaveFrame, StopsInRecord};
+ghost use Rattle.wire.specs.Records.{Directed, MeansDirected, form_number};
+ghost use Rattle.wire.specs.Rows.{bytes_row};
+ghost use Rattle.wire.specs.contracts.record_reader.RecordReader.{the_row};
+
+use crate::direction::Direction;
+use crate::fault::FrameFault;
+use crate::form::Form;
+use crate::frame::Frame;
+use crate::head::{Head, frame_of};
+use crate::reader::{State, take_room};
+use crate::record::read_next;
+use benc::Source;
+use std::alloc::{AllocError as NoMemory, Global};
+
+/// Reads the frames of a record, one after the other, with their directions. It tells the form by
+/// the first bytes: a record of form 2 begins with the eight bytes `ffffffff42544832`, and every
+/// other record is of form 1, whose frames all came in. It keeps what a `FrameReader` keeps.
+pub struct RecordReader<'r, R: Source, B: Drop = Vec<u8>> {
+    source: &'r mut R,
+    state: State,
+    form: Option<Form>,
+    direction: Direction,
+    head: Head,
+    kept: B,
+}
+
+impl<'r, R: Source> RecordReader<'r, R> {
+    ghost use Rattle.wire.specs.Reader.{HasEnded, HasFailed, HasRoom, IsOpen, IsSameButRoom, kept_len, room};
+    ghost use Rattle.wire.specs.RecordReader.{AsksNextInRecord, HoldsDirected, frames};
+
+    /// A reader of the record that the source gives from here on. It takes no memory yet.
+    pub fn new(alloc: Global, source: &'r mut R) -> RecordReader<'r, R>
+        ensures same_reference { result.source.ghost_name ≡ source.entry.ghost_name }
+        ensures source { result.source.now ≡ source.old }
+        ensures open { IsOpen (frames result) }
+        ensures form { result.form ≡ None }
+        ensures kept { kept_len (frames result) ≡ 0 }
+        ensures no_memory { room (frames result) ≡ 0 }
+    {
+        RecordReader {
+            source,
+            state: State::Open,
+            form: None,
+            direction: Direction::In,
+            head: Head::KeepAlive,
+            kept: Vec::new(alloc),
+        }
+    }
+
+    /// The number of the record's form, 1 or 2: `None` before the first frame was asked for, and if
+    /// that call answered a fault.
+    pub fn form(&self) -> Option<u8>
+        ensures { result ≡ option_map form_number self.now.form }
+    {
+        self.form.map(|form| form.number())
+    }
+
+    /// Takes all the room that the reader will need: after `Ok` no call answers `NoMemory`. A reader
+    /// that has answered `NoMemory` answers it again. After a refusal the reader is unchanged.
+    pub fn reserve(&mut self) -> Result<(), NoMemory>
+        ensures room { OnOk result (HasRoom (frames self.new)
+            × ¬ HasFailed (frames self.old) FrameFault.NoMemory) }
+        ensures refused { OnErr result (room (frames self.new) ≡ room (frames self.old)) }
+        ensures memory { OnErr result
+            (HasFailed (frames self.old) FrameFault.NoMemory ⊎ ¬ HasRoom (frames self.old)) }
+        ensures unchanged { IsSameButRoom (frames self.old) (frames self.new)
+            × (self.new.form ≡ self.old.form) × (self.new.direction ≡ self.old.direction) }
+    {
+        take_room(self.state, &mut self.kept)
+    }
+
+    /// The next frame with its direction, or `None` at the end of the record. `Truncated` comes if
+    /// the record ends inside a frame, or behind a direction; `BadDirection` as soon as a byte was
+    /// read that is no direction. After `None` and after a fault each later call answers the same
+    /// and reads nothing. `NoMemory` comes only from the first growth of the reader's buffer,
+    /// behind the length and the id of a message that is read.
+    pub fn next(&mut self) -> Result<Option<(Direction, Frame<'_>)>, FrameFault>
+        ensures means { IfOk result (λ found. IfSome found (λ f. (body : List ℕ)
+            × Means body f.1)) }
+        ensures* after_loan { sem 𝓛 (Rests
+            (the_row (record { mir = named 1; lft = [] }) R.row bytes_row) self.entry
+            (λ new. AsksNextInRecord R.seen self.entry.now new result)) }
+    {
+        if self.advance()? {
+            Ok(Some(self.frame()))
+        } else {
+            Ok(None)
+        }
+    }
+
+    /// Reads the next frame, and answers whether there is one: `false` is the end of the record.
+    /// The frame is then `frame()`. It is `next` in two steps, of which only the second borrows.
+    pub fn advance(&mut self) -> Result<bool, FrameFault>
+        ensures same_reference { self.new.source.ghost_name
+            ≡ self.old.source.ghost_name }
+
+        // The frame that stands next, whole, with its direction.
+        ensures frame { IsOpen (frames self.old) → IfOk result (λ more. OnTrue more
+            ((form : FormOf) × (d : Directed (List ℕ)) × (self.new.form ≡ Some form)
+            × GaveFrame self.old.form form d (R.seen self.old.source.now)
+            (R.seen self.new.source.now)
+            × HoldsDirected self.new d)) }
+
+        // Nothing stands next.
+        ensures end { IsOpen (frames self.old) → IfOk result (λ more. OnFalse more
+            ((form : FormOf) × (self.new.form ≡ Some form)
+            × EndsRecord self.old.form form (R.seen self.old.source.now)
+            (R.seen self.new.source.now))) }
+
+        // No whole frame was lost.
+        ensures fault { IsOpen (frames self.old) → IfErr result (λ why.
+            (self.new.form ≡ self.old.form)
+            × StopsInRecord self.old.form (R.seen self.old.source.now)
+            (R.seen self.new.source.now) why) }
+        ensures stands { MatchResult result
+            (λ more. MatchBool more (IsOpen (frames self.new)) (HasEnded (frames self.new)))
+            (HasFailed (frames self.new)) }
+        ensures ended_again { HasEnded (frames self.old)
+            → (result ≡ Ok false) × (self.new ≡ self.old) }
+        ensures failed_again { (why : FrameFault) → HasFailed (frames self.old) why
+            → (result ≡ Err why) × (self.new ≡ self.old) }
+        ensures bounded { kept_len (frames self.old) ≤ 263216 → kept_len (frames self.new) ≤ 263216 }
+        ensures memory { IsOpen (frames self.old) → IsErrOf result FrameFault.NoMemory
+            → ¬ HasRoom (frames self.old) }
+        ensures has_room { HasRoom (frames self.old) → HasRoom (frames self.new) }
+    {
+        match self.state {
+            State::Open => {}
+            State::Ended => return Ok(false),
+            State::Failed(fault) => return Err(fault),
+        }
+        match read_next(self.source, &mut self.kept, self.form) {
+            Ok((form, Some((direction, head)))) => {
+                self.form = Some(form);
+                self.direction = direction;
+                self.head = head;
+                Ok(true)
+            }
+            Ok((form, None)) => {
+                self.form = Some(form);
+                self.state = State::Ended;
+                Ok(false)
+            }
+            Err(fault) => {
+                self.state = State::Failed(fault);
+                Err(fault)
+            }
+        }
+    }
+
+    /// The frame that `advance` read last, which must have answered `true`, with its direction. It
+    /// borrows the reader's own buffer.
+    pub fn frame(&self) -> (Direction, Frame<'_>)
+        requires held { (d : Directed (List ℕ)) × HoldsDirected self.now d }
+        ensures { (d : Directed (List ℕ)) → HoldsDirected self.now d → MeansDirected d result }
+    {
+        (self.direction, frame_of(self.head, &self.kept))
+    }
+}
+
+impl<R: Source, B: Drop> Drop for RecordReader<'_, R, B> {
+    fn drop(self)
+        ensures { self.exit.0.now ≡ self.entry.source.now }
+    {
+        let RecordReader {
+            source: _,
+            state: _,
+            form: _,
+            direction: _,
+            head: _,
+            kept: _,
+        } = self;
+    }
+}

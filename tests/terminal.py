@@ -1,0 +1,71 @@
+"""Runs of the program with a terminal for standard error, and what then stands on the screen."""
+import os
+import pty
+import subprocess
+import threading
+import tty
+import unicodedata
+
+from support import BTCHECK
+
+
+def width_of(letter):
+    """The columns of a letter, of those that the tests print."""
+    if unicodedata.combining(letter):
+        return 0
+    return 2 if unicodedata.east_asian_width(letter) in "WF" else 1
+
+
+def screen(text):
+    """The lines that a terminal without a right edge shows of this text."""
+    lines, column = [{}], 0
+    for letter in text:
+        if letter == "\r":
+            column = 0
+        elif letter == "\n":
+            lines.append({})
+            column = 0
+        elif width_of(letter) > 0:
+            lines[-1][column] = letter
+            for at in range(column + 1, column + width_of(letter)):
+                lines[-1].pop(at, None)
+            column += width_of(letter)
+    return ["".join(line.get(at, " ") for at in range(max(line, default=-1) + 1)).rstrip() for line in lines]
+
+
+def drawn(text):
+    """The lines that were drawn over one another, without the spaces that hide earlier ones."""
+    return [line.rstrip(" ") for line in text.split("\r") if line.strip(" \n")]
+
+
+def on_terminal(*arguments, columns=None, term="xterm", both=False, feed=None, **environment):
+    """Runs the program with a terminal for standard error, and with `both` for standard output too. `feed` is given
+    the file that standard input comes from. Tells the status, standard output, and what the terminal was sent."""
+    known = {name: text for name, text in os.environ.items() if name not in ("COLUMNS", "TERM")}
+    known |= {name: str(text) for name, text in [("COLUMNS", columns), ("TERM", term)] if text is not None} | environment
+    ours, theirs = pty.openpty()
+    tty.setraw(theirs)
+    sent = []
+
+    def collect():
+        try:
+            while part := os.read(ours, 65536):
+                sent.append(part)
+        except OSError:
+            pass
+
+    reader = threading.Thread(target=collect)
+    program = subprocess.Popen([BTCHECK, *arguments], stdin=subprocess.PIPE if feed else subprocess.DEVNULL,
+                               stdout=theirs if both else subprocess.PIPE, stderr=theirs, env=known)
+    os.close(theirs)
+    reader.start()
+    if feed:
+        with program.stdin as pipe:
+            feed(pipe)
+    out = b"" if both else program.stdout.read()
+    status = program.wait(timeout=120)
+    if not both:
+        program.stdout.close()
+    reader.join(timeout=20)
+    os.close(ours)
+    return status, out.decode(), b"".join(sent).decode()

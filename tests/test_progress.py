@@ -1,0 +1,163 @@
+"""The line on a terminal that tells how far a command has come."""
+import os
+import re
+import time
+
+import torrents
+from shim import is_static, shimmed
+from support import folder, run, write
+from terminal import drawn, on_terminal, screen, width_of
+from trees import sha256
+
+MIB = 1 << 20
+PIECE = 65536
+
+AMOUNT = r"\d+ B|\d+\.\d (?:Ki|Mi|Gi|Ti|Pi|Ei)B"
+OF_ALL = re.compile(rf"({AMOUNT}) of ({AMOUNT}), ({AMOUNT})/s, (\d+:\d\d(?::\d\d)?) left(: .*)?")
+OF_SOME = re.compile(rf"({AMOUNT}), ({AMOUNT})/s(: .*)?")
+
+
+def zeros(place, name, length):
+    """A file of zeros that takes no room on the disk."""
+    path = f"{place}/{name}"
+    with open(path, "wb") as file:
+        file.truncate(length)
+    return path
+
+
+def root_of_zeros(length):
+    """The root of so many zeros, which are a power of two of whole blocks."""
+    node = sha256(bytes(16384))
+    while length > 16384:
+        node, length = sha256(node + node), length // 2
+    return node
+
+
+def torrent_of_zeros(lengths):
+    """A torrent of files of zeros, none longer than a piece."""
+    files = {name: {"": {"length": length, "pieces root": root_of_zeros(length)}} for name, length in lengths.items()}
+    return torrents.torrent(torrents.info(files, piece_length=1 << 30))
+
+
+def slowly(parts, seconds):
+    """Feeds parts of 64 KiB, and waits after each."""
+    def feed(pipe):
+        for _ in range(parts):
+            pipe.write(bytes(PIECE))
+            pipe.flush()
+            time.sleep(seconds)
+    return feed
+
+
+def amount(text):
+    number, unit = text.split()
+    return float(number) * 1024 ** ["B", "KiB", "MiB", "GiB", "TiB", "PiB", "EiB"].index(unit)
+
+
+def test_a_pipe():
+    """What comes from a pipe has no length, so the line tells neither the whole nor the time left."""
+    start = time.monotonic()
+    status, out, sent = on_terminal("root", "/dev/stdin", feed=slowly(8, 0.15))
+    took = time.monotonic() - start
+    assert (status, out) == (0, run("root", "/dev/stdin", input=bytes(8 * PIECE)).stdout.decode())
+    lines = drawn(sent)
+    assert 2 <= len(lines) <= 10 * took + 1, (lines, took)
+    found = [OF_SOME.fullmatch(line) for line in lines]
+    assert all(found) and {match[3] for match in found} == {": /dev/stdin"}, lines
+    done = [amount(match[1]) for match in found]
+    assert done == sorted(done) and done[-1] <= 8 * PIECE and all(size % PIECE == 0 for size in done), done
+    assert screen(sent) == [""], sent
+
+
+def test_a_file_and_a_folder():
+    with folder() as place:
+        long = zeros(place, "long", 256 * MIB)
+        status, out, sent = on_terminal("root", long, columns=500)
+        assert (status, out) == (0, f"{256 * MIB} {root_of_zeros(256 * MIB).hex()}\n")
+        checks = [OF_ALL.fullmatch(line) for line in drawn(sent)]
+        assert checks and all(checks) and {match[2] for match in checks} == {"256.0 MiB"}, sent
+        assert {match[5] for match in checks} == {f": {long}"} and screen(sent) == [""], sent
+        # a folder in which one file of three is missing: its bytes count as done
+        os.mkdir(f"{place}/all")
+        for name in ["a", "c"]:
+            zeros(f"{place}/all", name, 128 * MIB)
+        path = write(f"{place}/torrent", torrent_of_zeros({"a": 128 * MIB, "b": 512 * MIB, "c": 128 * MIB}))
+        status, out, sent = on_terminal("check", path, f"{place}/all", columns=500)
+        assert (status, out) == (1, "good a\nmissing b\ngood c\nno\n")
+        checks = [OF_ALL.fullmatch(line) for line in drawn(sent)]
+        assert checks and all(checks) and {match[2] for match in checks} == {"768.0 MiB"}, sent
+        for match in checks:
+            before = {f": {place}/all/a": 0, f": {place}/all/c": 640 * MIB}[match[5]]
+            assert before < amount(match[1]) <= before + 128 * MIB, match[0]
+        assert screen(sent) == [""], sent
+
+
+def test_standard_output_on_the_same_terminal():
+    """The line is gone before the answer."""
+    with folder() as place:
+        long = zeros(place, "long", 256 * MIB)
+        status, _, sent = on_terminal("root", long, both=True)
+        assert status == 0 and drawn(sent), sent
+        assert screen(sent) == [f"{256 * MIB} {root_of_zeros(256 * MIB).hex()}", ""], sent
+        path = write(f"{place}/torrent", torrent_of_zeros({"long": 256 * MIB}))
+        status, _, sent = on_terminal("check", path, place, both=True)
+        assert status == 0 and len(drawn(sent)) > 1 and screen(sent) == ["good long", "yes", ""], sent
+
+
+def test_no_line_without_a_terminal():
+    """Nothing is sent to a terminal that is dumb, nor to what is none."""
+    with folder() as place:
+        long = zeros(place, "long", 64 * MIB)
+        line = f"{64 * MIB} {root_of_zeros(64 * MIB).hex()}\n"
+        assert on_terminal("root", long, term="dumb") == (0, line, "")
+        done = run("root", long)
+        assert (done.returncode, done.stdout.decode(), done.stderr) == (0, line, b"")
+        with open(f"{place}/error", "wb") as error:
+            assert run("root", long, stderr=error).returncode == 0
+        assert os.path.getsize(f"{place}/error") == 0
+
+
+def test_widths():
+    """No line is as wide as the terminal, whatever the name."""
+    odd = [1, 2, 12, 48, 60, 61, 80, 140, 0, "", "wide", "-5", "1000000", "99999999999"]
+    names = [("short", odd), ("l" * 200, [70, 140]), ("\u6f22\u5b57" * 40, [70, 71]),
+             ("e\u0301\t\x1b[2J\x7f" + "x" * 90, [70, 400])]
+    with folder() as place:
+        for name, widths in names:
+            path = zeros(place, name, 128 * MIB)
+            for columns in widths:
+                status, _, sent = on_terminal("root", path, columns=columns)
+                wide = int(columns) if str(columns).isdigit() and 0 < int(columns) < 10 ** 8 else 80
+                assert status == 0 and screen(sent) == [""], (name, columns, sent)
+                for line in drawn(sent):
+                    assert sum(map(width_of, line)) < min(wide, 500), (columns, line)
+                    assert not any(ord(letter) < 32 or letter == "\x7f" for letter in line), line
+                assert wide < 12 or drawn(sent), (name, columns)
+                if wide >= 80 and name == "short":
+                    assert all(line.endswith("short") for line in drawn(sent)), sent
+
+
+def test_files_that_fail():
+    """The line is gone when a fault is told, and when a check goes on after one."""
+    if is_static():
+        return
+    with shimmed() as (place, shim):
+        os.mkdir(f"{place}/all")
+        path = write(f"{place}/torrent", torrent_of_zeros({"a": 128 * MIB, "b": 128 * MIB}))
+        paths = [zeros(f"{place}/all", name, 128 * MIB) for name in ["a", "b"]]
+
+        def failing(at):
+            with open(shim.counts, "wb") as file:
+                file.write(bytes(16))
+            return {"LD_PRELOAD": shim.library, "SHIM_COUNTS": shim.counts, "SHIM_KIND": "read", "SHIM_AT": str(at),
+                    "SHIM_ERRNO": "5", "SHIM_ONWARD": "0", "SHIM_ONE_BYTE": "0"}
+        status, out, sent = on_terminal("root", paths[0], both=True, **failing(1900))
+        assert status == 2 and len(drawn(sent)) > 1, sent
+        assert screen(sent) == [f"fault: cannot read {paths[0]}", ""], sent
+        status, out, sent = on_terminal("check", path, f"{place}/all", **failing(1900))
+        assert (status, out) == (1, "unreadable a\ngood b\nno\n") and drawn(sent), (out, sent)
+        assert screen(sent) == [""], sent
+        # standard output fails behind the line
+        with open("/dev/full", "wb") as full:
+            done = run("root", paths[0], stdout=full)
+        assert (done.returncode, done.stderr) == (2, b"fault: cannot write -\n")
