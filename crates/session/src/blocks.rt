@@ -1,6 +1,7 @@
 //! What a session says of the blocks of one piece message.
 
-ghost use Rattle.std.specs.Prelude.{◌≡◌, ◌+◌, ◌^◌, ◌<◌, [], ◌∷◌, ◌++◌, length, slice_get, Option, Some};
+ghost use Rattle.std.specs.Prelude.{◌≡◌, ◌+◌, ◌^◌, ◌<◌, [], ◌∷◌, ◌++◌, length, slice_get, is_some, Option, Some};
+ghost use Rattle.std.specs.List.{list_any};
 ghost use Rattle.session.specs.Blocks.{entry_of, most_blocks, place_of_entry};
 ghost use Rattle.partial_tree.specs.declared.refusal.BlockRefusal.{BlockRefusal as Why};
 
@@ -81,6 +82,14 @@ impl Blocks {
     {
         let refusals = &self.refusals[..self.count];
         refusals[entry]
+    }
+
+    /// Whether an entry is refused.
+    pub fn has_refusal(&self) -> bool
+        ensures { result ≡ list_any is_some self.now.refusals }
+    {
+        let refusals = &self.refusals[..self.count];
+        refusals.iter().any(|refusal| refusal.is_some())
     }
 
     /// The file and the block of an entry that is verified, both numbered from 0, or why it is
