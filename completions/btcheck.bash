@@ -7,9 +7,17 @@ _btcheck_command() {
         root) kinds=(file) ;;
         show) kinds=(torrent) ;;
         check) kinds=(torrent folder) ;;
-        replay) options+=' --info-only' kinds=(torrent file) ;;
+        replay) options+=' --info-only --answers' kinds=(torrent file) ;;
         help) options='' kinds=(command) ;;
         *) options='' kinds=() ;;
+    esac
+}
+
+# Sets `kind` to what stands after an option.
+_btcheck_value() {
+    case $1 in
+        --answers) kind=file ;;
+        *) kind='' ;;
     esac
 }
 
@@ -29,12 +37,16 @@ _btcheck_argument() {
 }
 
 _btcheck() {
-    local text=${COMP_WORDS[COMP_CWORD]} command='' count=0 ended='' word at options kinds
+    local text=${COMP_WORDS[COMP_CWORD]} command='' count=0 ended='' kind='' word at options kinds
     COMPREPLY=()
     for ((at = 1; at < COMP_CWORD; at++)); do
         word=${COMP_WORDS[at]}
-        if [ -z "$ended" ] && [ "$word" = -- ]; then
+        if [ -n "$kind" ]; then
+            kind=''
+        elif [ -z "$ended" ] && [ "$word" = -- ]; then
             ended=yes
+        elif [ -z "$ended" ] && [[ $word == -* ]]; then
+            _btcheck_value "$word"
         elif [ -n "$ended" ] || [[ $word != -* ]]; then
             if [ -z "$command" ]; then command=$word; else ((count += 1)); fi
         fi
@@ -44,7 +56,9 @@ _btcheck() {
     else
         _btcheck_command "$command"
     fi
-    if [ -z "$ended" ] && [[ $text == -* ]]; then
+    if [ -n "$kind" ]; then
+        _btcheck_argument "$kind" "$text"
+    elif [ -z "$ended" ] && [[ $text == -* ]]; then
         mapfile -t COMPREPLY < <(compgen -W "$options" -- "$text")
     elif [ "$count" -lt ${#kinds[@]} ]; then
         _btcheck_argument "${kinds[count]}" "$text"

@@ -17,6 +17,7 @@ class Peers:
         self.chance = random.Random(seed)
         self.piece_length = piece_length
         self.model = Session(files, piece_length, with_layers)
+        self.answers = []  # the frame that answers each request
         self.trees = [tree["whole"] for tree in self.model.trees.values()]
 
     def messages(self, count):
@@ -88,6 +89,7 @@ class Peers:
 
     def request(self):
         _, ask = self.ask()
+        self.answers.append(self.model.answer_frame(*ask))
         return messages.request(*ask), self.model.answer(*ask)
 
     def reject(self):

@@ -1,4 +1,5 @@
 """A plain model of sessions: what is known of each tree is a map from places."""
+import messages
 from trees import BLOCK, Tree, blocks_of, sha256
 
 
@@ -6,7 +7,7 @@ class Session:
     """What is known of each tree, as a plain map from places; all checks are made on a copy."""
 
     def __init__(self, files, piece_length, with_layers):
-        self.piece_length = piece_length
+        self.piece_length, self.all_files = piece_length, files
         self.files, self.trees, first = [], {}, 0
         for number, (_, content) in enumerate(files):
             if content:
@@ -71,7 +72,51 @@ class Session:
         return "refused P1 BadPlace"
 
     def answer(self, root, base, index, length, proof):
+        return "rejected" if self.hashes(root, base, index, length, proof) is None else "answered"
+
+    def hashes(self, root, base, index, length, proof):
+        """The hashes that answer an ask, or None if it is to be rejected."""
         tree = self.trees.get(root)
         if tree is None or not self.in_range(tree["whole"], base, index, length):
-            return "rejected"
-        return "answered" if all((base, index + at) in tree["known"] for at in range(length)) else "rejected"
+            return None
+        known, height, span = tree["known"], tree["whole"].height, length.bit_length() - 1
+        if any((base, index + at) not in known for at in range(length)):
+            return None
+        found = [known[base, index + at] for at in range(length)]
+        layer, at = base + span, index // length
+        for _ in range(min(max(0, proof - (span - 1)), height - base - span)):
+            found.append(known[layer, at ^ 1])
+            layer, at = layer + 1, at // 2
+        return found
+
+    def answer_frame(self, *ask):
+        """The frame that answers a request."""
+        found = self.hashes(*ask)
+        return messages.reject(*ask) if found is None else messages.hashes(*ask, given=found)
+
+    def want(self, root, block):
+        """The ask for what shows a block's leaf, or None if it is known."""
+        tree = self.trees[root]
+        if (0, block) in tree["known"]:
+            return None
+        height = tree["whole"].height
+        length = min(512, 2 ** height)
+        return root, 0, block // length * length, length, height - 1
+
+    def gaps(self, root):
+        """How many aligned ranges of leaves, as long as an ask of `want`, are not all known."""
+        tree = self.trees[root]
+        length = min(512, 2 ** tree["whole"].height)
+        return len({at // length for at in range(tree["whole"].leaf_count) if (0, at) not in tree["known"]})
+
+    def seed(self, contents):
+        """Fills the leaves of each file that a folder holds right, and tells a line for each file of the torrent."""
+        told = []
+        for path, content in self.all_files:
+            good = content and contents.get(path) == content
+            if good:
+                tree = self.trees[Tree.of(content).root]
+                tree["known"].update(((layer, at), value) for layer, row in enumerate(tree["whole"].layers)
+                                     for at, value in enumerate(row))
+            told.append(f"seeded {path}" if good else f"not seeded {path}")
+        return told

@@ -170,3 +170,32 @@ def test_replay():
                 refused = last != "end" or any("H7" in line for line in lines)
                 assert done.returncode == (2 if refused else 1) and not done.stderr, (called, outcome(done))
             assert seen_h7 > 0, flags
+
+
+def test_answers():
+    """An answer whose growth is refused does not go out at all, and ends the report behind its line."""
+    if is_static():
+        return
+    tree, files = Tree.of(FIVE), [("five", FIVE)]
+    asks = [(tree.root, 0, 0, 8, 2), (tree.root, 1, 0, 2, 1)]
+    record = messages.hashes(tree.root, 0, 0, 8, 2, given=tree.hashes(0, 0, 8, 0)) + b"".join(
+        messages.request(*ask) for ask in asks)
+    answers = [messages.hashes(*ask, given=tree.hashes(*ask[1:4], uncles)) for ask, uncles in zip(asks, [0, 1])]
+    lines = ["1 stored 14", "2 answered", "3 answered"]
+    with shimmed() as (place, shim):
+        path, record_path = write(f"{place}/torrent", torrent_of(files, 32768)), write(f"{place}/record", record)
+        out, unanswered = write(f"{place}/out", b""), 0
+        arguments = ["replay", path, record_path, "--info-only", "--answers", out]
+        for called, done in refused_in_turn(shim, "replay --answers", *arguments):
+            told = done.stdout.decode().splitlines()
+            with open(out, "rb") as answered:
+                given = answered.read()
+            write(out, b"")
+            if called == "ample":
+                assert (done.returncode, told, given) == (0, [*lines, "end"], b"".join(answers)), (done, given)
+            elif told[:1] == lines[:1] and told[-1] == "fault NoMemory":
+                count = len(told) - 2
+                assert told[:-1] == lines[:count + 1] and given == b"".join(answers[:count - 1]), (called, told)
+                assert done.returncode == 2 and not done.stderr, (called, done)
+                unanswered += 1
+        assert unanswered >= 2, unanswered

@@ -47,12 +47,12 @@ def test_help_is_read():
     """The reading of the help above is not empty."""
     assert {"root", "show", "check", "replay", "help"} <= set(Helped().commands)
     assert Helped("check").arguments == ["TORRENT", "DIR"]
-    assert Helped("replay").options == {"-h", "--help", "--info-only"}
+    assert Helped("replay").options == {"-h", "--help", "--info-only", "--answers"}
 
 
 def flags(text):
     """The options that a line of the manual names by `.Fl`."""
-    named = [line.split(" Oc ")[0] for line in re.findall(r"Fl ([^\n]*)", text)]
+    named = [re.split(" Oc | Ar ", line)[0] for line in re.findall(r"Fl ([^\n]*)", text)]
     return {f"-{word}" for line in named for word in re.findall(r"-?\w[\w-]*", line)}
 
 
@@ -65,7 +65,8 @@ def test_manual_names_every_command_and_option():
     assert set(named) == set(at_top.commands), (named, at_top.commands)
     assert set(re.findall(r"^\.Cm (\w+)", synopsis, re.M)) == set(at_top.commands)
     for command, told in commands().items():
-        assert re.findall(r"(?<=Ar )\w+|(?<= )[A-Z]{2,}", named[command]) == told.arguments, (command, named[command])
+        needed = re.sub(" Oo .*? Oc", "", named[command])
+        assert re.findall(r"(?<=Ar )\w+|(?<= )[A-Z]{2,}", needed) == told.arguments, (command, named[command])
         below = part(f"{entries}\n.It Cm ", f".It Cm {command}", "\n.It Cm ")
         listed = flags("\n".join(re.findall(r"^\.It (Fl .*)$", below, re.M)))
         assert listed == told.options - {"-h", "--help"}, (command, listed)
@@ -186,6 +187,9 @@ FILES_FOR = {
     "RECORD": {"t.torrent", "two words", "folder"},
 }
 
+# The options that take a value, and what it can be.
+VALUES = {"--answers": "RECORD"}
+
 
 def test_completion_by_bash():
     at_top = Helped()
@@ -206,6 +210,10 @@ def test_completion_by_bash():
                 given += ["t.torrent"]
             assert completed(place, *given, "") == set(), command
             assert completed(place, "btcheck", "-h", command, "") == FILES_FOR[told.arguments[0]]
+        for option, name in VALUES.items():
+            assert completed(place, "btcheck", "replay", option, "") == FILES_FOR[name], option
+            assert completed(place, "btcheck", "replay", option, "--", "") == FILES_FOR["TORRENT"], option
+            assert completed(place, "btcheck", "replay", "t.torrent", option, "x", "") == FILES_FOR["RECORD"], option
 
 
 def test_completion_by_zsh_and_fish():

@@ -1,11 +1,10 @@
 -- What a command ends with: the exit status that follows from the library's answer.
-use Rattle.std.specs.Prelude.{◌≡◌, ℕ, Bool, true, false, not, List, Option, None}
-use Rattle.benc.specs.Device.{SourceSeen, SinkSeen, SentAndFlushed}
+use Rattle.std.specs.Prelude.{◌≡◌, ℕ, Bool, true, false, List, Option}
+use Rattle.benc.specs.Device.{SinkSeen, SentAndFlushed}
 use Rattle.metainfo.specs.Description.{Description}
-use Rattle.session.specs.Fresh.{IsFresh}
 use Rattle.checker.specs.Outcome.{status_of}
 use Rattle.checker.specs.Printed.{report_text}
-use Rattle.checker.specs.Replay.{IsReport, replay_seen}
+use Rattle.checker.specs.Replay.{IsReport, ReplaySeen}
 use Rattle.checker.specs.Verdicts.{HasVerdicts, TellsFolder, is_yes}
 
 -- 0 for yes or done, 1 for no or a refusal
@@ -22,11 +21,7 @@ IsChecked t under out out' status =
     × SentAndFlushed out out' (report_text t.files files v1)
     × (status ≡ answer_status (is_yes files v1))
 
--- the report of a record went out, by a session that knew the piece layers at first, or with
--- `info_only` the roots alone; and the status is that of the outcome
-abbrev pub IsReplayed :
-    Description → Bool → SourceSeen → SourceSeen → SinkSeen → SinkSeen → ℕ → Type 0
-IsReplayed t info_only source source' out out' status =
-    (first : _) × (last : _) × (outcome : _) × IsFresh t (not info_only) first
-    × IsReport (replay_seen source first out None) (replay_seen source' last out' None) outcome
-    × (status ≡ status_of outcome)
+-- the report of a record went out, with its answers if they are wanted; and the status is that of
+-- the outcome
+abbrev pub IsReplayed : ReplaySeen → ReplaySeen → ℕ → Type 0
+IsReplayed old new status = (outcome : _) × IsReport old new outcome × (status ≡ status_of outcome)

@@ -1,8 +1,10 @@
 //! What each command answers over any devices: what goes out, and the exit status that follows.
-ghost use Rattle.std.specs.Prelude.{◌≡◌, ◌^◌, ◌≤◌, ◌↔◌, ℕ, List, [], Some, IfOk, OnOk, length, true, false};
+ghost use Rattle.std.specs.Prelude.{◌≡◌, ◌^◌, ◌≤◌, ◌↔◌, ℕ, List, [], None, Some, IfOk, OnOk, length, not, true, false};
 ghost use Rattle.benc.specs.Device.{SentAndFlushed};
 ghost use Rattle.checker.specs.Refused.{refusal_text};
 ghost use Rattle.checker.specs.Show.{show_text};
+ghost use Rattle.checker.specs.Replay.{replay_seen};
+ghost use Rattle.session.specs.Fresh.{IsFresh};
 ghost use Rattle.btcheck.specs.Answers.{IsChecked, IsReplayed, answer_status};
 
 use benc::memory::MemSink;
@@ -10,7 +12,7 @@ use benc::{Sink, Source};
 use checker::{Fault, RootFault, Shelf, print_report, refusal_line, root_line};
 use metainfo::{Refusal, Torrent};
 use node_maps::Paged;
-use session::Session;
+use session::{NodeMap, Session};
 use std::alloc::Global;
 
 /// Prints the length and root of the file at this path. The status is 1 if the file is too long.
@@ -75,22 +77,55 @@ pub(crate) fn check<'a, S: Shelf, W: Sink>(
     }
 }
 
-/// Replays a record over a session that knows the torrent's piece layers, or its roots alone. Each
-/// line goes out as its frame comes.
-pub(crate) fn replay<'a, R: Source, W: Sink>(
+/// A session that knows the torrent's piece layers, or its roots alone.
+pub(crate) fn new_session<'t, 'a>(
     alloc: Global,
-    torrent: &Torrent<'_>,
+    torrent: &'t Torrent<'t>,
     info_only: bool,
+) -> Result<Session<'t, Paged>, Fault<'a>>
+    ensures { IfOk result (IsFresh torrent.now (not info_only)) }
+{
+    Ok(Session::new(alloc, torrent, !info_only)?)
+}
+
+/// Replays a record over a session. Each line goes out as its frame comes.
+pub(crate) fn replay<'a, N: NodeMap, R: Source, W: Sink>(
+    alloc: Global,
+    session: &mut Session<'_, N>,
     source: &mut R,
     out: &mut W,
 ) -> Result<u8, Fault<'a>>
-    ensures { IfOk result (IsReplayed torrent.now info_only (R.seen source.old) (R.seen source.new)
-        (W.seen out.old) (W.seen out.new)) }
+    ensures { IfOk result (IsReplayed
+        (replay_seen (R.seen source.old) session.old (W.seen out.old) None)
+        (replay_seen (R.seen source.new) session.new (W.seen out.new) None)) }
 {
-    let mut session: Session<'_, Paged> = Session::new(alloc, torrent, !info_only)?;
-    match checker::replay(alloc, &mut session, source, out, None::<&mut MemSink>) {
+    let Ok(outcome) = checker::replay(alloc, session, source, out, None::<&mut MemSink>) else {
+        return Err(Fault::Write("-"));
+    };
+    Ok(outcome.status())
+}
+
+/// Replays a record over a session, and writes the answers to its hash requests to the sink with
+/// this path.
+pub(crate) fn replay_and_answer<'a, N: NodeMap, R: Source, W: Sink, A: Sink>(
+    alloc: Global,
+    session: &mut Session<'_, N>,
+    source: &mut R,
+    out: &mut W,
+    path: &'a str,
+    answers: &mut A,
+) -> Result<u8, Fault<'a>>
+    ensures { IfOk result (IsReplayed
+        (replay_seen (R.seen source.old) session.old (W.seen out.old)
+        (Some (A.seen answers.old)))
+        (replay_seen (R.seen source.new) session.new (W.seen out.new)
+        (Some (A.seen answers.new)))) }
+{
+    let faults = out.failures();
+    match checker::replay(alloc, session, source, out, Some(answers)) {
         Ok(outcome) => Ok(outcome.status()),
-        Err(_) => Err(Fault::Write("-")),
+        Err(_) if out.failures() != faults => Err(Fault::Write("-")),
+        Err(_) => Err(Fault::Write(path)),
     }
 }
 

@@ -1,5 +1,5 @@
 //! The arguments of the command line, by `clap`.
-use crate::command::Action;
+use crate::command::{Action, Replay};
 use crate::fault::print_fault;
 use checker::Fault;
 use clap::error::ErrorKind;
@@ -118,6 +118,13 @@ fn replay_command<'a>(alloc: Global) -> Result<Command<'a>, Error> {
                 .long("info-only")
                 .action(ArgAction::SetTrue)
                 .help("Start from the roots alone, without the torrent's piece layers"),
+        )?
+        .arg(
+            Arg::new(alloc, "answers")
+                .long("answers")
+                .value_name("OUT")
+                .action(ArgAction::Set)
+                .help("Write the answers to hash requests to this file, which is emptied first"),
         )?;
     Ok(command)
 }
@@ -147,9 +154,10 @@ fn check_of<'a>(found: &ArgMatches<'a>) -> Option<Action<'a>> {
 fn replay_of<'a>(found: &ArgMatches<'a>) -> Option<Action<'a>> {
     let torrent = found.get_str("TORRENT")?;
     let record = found.get_str("RECORD")?;
-    Some(Action::Replay {
+    Some(Action::Replay(Replay {
         torrent,
         record,
         info_only: found.get_flag("info-only"),
-    })
+        answers: found.get_str("answers"),
+    }))
 }

@@ -1,6 +1,6 @@
 //! What each command does, on real files.
 use crate::answers;
-use crate::command::Action;
+use crate::command::{Action, Replay};
 use crate::folder::Folder;
 use crate::places::{Places, all_bytes};
 use crate::torrent_file::read_torrent;
@@ -17,11 +17,7 @@ pub(crate) fn perform<'a>(rt: &HostRuntime, action: &Action<'a>) -> Result<u8, F
         Action::Root { file } => root(rt, file),
         Action::Show { torrent } => show(rt, torrent),
         Action::Check { torrent, dir } => check(rt, torrent, dir),
-        Action::Replay {
-            torrent,
-            record,
-            info_only,
-        } => replay(rt, torrent, record, *info_only),
+        Action::Replay(asked) => replay(rt, asked),
     }
 }
 
@@ -78,37 +74,53 @@ fn check_folder<'a, W: Sink + Drop>(
 }
 
 // The torrent is read, and a refusal is printed, before the record is opened.
-fn replay<'a>(
-    rt: &HostRuntime,
-    path: &'a str,
-    record: &'a str,
-    info_only: bool,
-) -> Result<u8, Fault<'a>> {
-    let bytes = read_torrent(rt, path)?;
+fn replay<'a>(rt: &HostRuntime, asked: &Replay<'a>) -> Result<u8, Fault<'a>> {
+    let bytes = read_torrent(rt, asked.torrent)?;
     let mut out = FromWrite::new(io::writer(rt));
     match Torrent::open(rt.alloc(), bytes.as_slice()) {
-        Ok(torrent) => replay_file(rt, &torrent, record, info_only, &mut out),
+        Ok(torrent) => replay_file(rt, &torrent, asked, &mut out),
         Err(refusal) => answers::refuse(&refusal, &mut out),
     }
 }
 
+// The record is opened before the file of the answers, which is not touched if it fails.
 fn replay_file<'a, W: Sink>(
     rt: &HostRuntime,
     torrent: &Torrent<'_>,
-    path: &'a str,
-    info_only: bool,
+    asked: &Replay<'a>,
     out: &mut W,
 ) -> Result<u8, Fault<'a>> {
-    let Ok(file) = File::open(rt, path) else {
-        return Err(Fault::Read(path));
+    let Ok(file) = File::open(rt, asked.record) else {
+        return Err(Fault::Read(asked.record));
     };
-    answers::replay(
-        rt.alloc(),
-        torrent,
-        info_only,
-        &mut FromRead::new(file),
-        out,
-    )
+    let mut source = FromRead::new(file);
+    let answers = created(rt, asked.answers)?;
+    let mut session = answers::new_session(rt.alloc(), torrent, asked.info_only)?;
+    match answers {
+        None => answers::replay(rt.alloc(), &mut session, &mut source, out),
+        Some((path, file)) => answers::replay_and_answer(
+            rt.alloc(),
+            &mut session,
+            &mut source,
+            out,
+            path,
+            &mut FromWrite::new(file),
+        ),
+    }
+}
+
+// The file with this path, emptied, if one is named.
+fn created<'a>(
+    rt: &HostRuntime,
+    path: Option<&'a str>,
+) -> Result<Option<(&'a str, File)>, Fault<'a>> {
+    let Some(path) = path else {
+        return Ok(None);
+    };
+    match File::create(rt, path) {
+        Ok(file) => Ok(Some((path, file))),
+        Err(_) => Err(Fault::Write(path)),
+    }
 }
 
 // Standard output with a buffer, for text of many small parts.

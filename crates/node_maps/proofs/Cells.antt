@@ -1,7 +1,9 @@
 -- Rows of cells and lists of marks, when they grow and when one is written.
-use Rattle.std.proofs.Common.{◌≡◌, ◌≢◌, ◌⊎◌, ℕ, zero, suc, ◌-◌, ◌^◌, ◌<◌, ◌≤◌, Bool, true, false, cond, ltb, ◌&&◌, ◌||◌, List, [], ◌++◌, length, get_or, take, replicate, set, Option, Some, None, inl, inr, refl, sym, ap, ap₂, ◌∙◌, subst, arith}
+use Rattle.std.proofs.Common.{◌≡◌, ◌≢◌, ◌⊎◌, ℕ, zero, suc, ◌+◌, ◌-◌, ◌^◌, ◌<◌, ◌≤◌, Bool, true, false, cond, ltb, ◌&&◌, ◌||◌, List, [], ◌++◌, length, map, get_or, take, replicate, set, Option, Some, None, inl, inr, refl, sym, ap, ap₂, ◌∙◌, subst, arith}
 use Rattle.std.specs.Prelude.{slice_get}
 use Rattle.std.specs.Option.{option_and_then, option_map, unwrap_or}
+use Rattle.std.specs.List.{range_with_len}
+use Rattle.std.proofs.lemmas.List.FromFn.{get_or-map-range_with_len}
 use Rattle.std.specs.FinMap.{empty, get-empty}
 use Rattle.std.specs.FinSet as set
 use Rattle.std.specs.FinSet.{same_set, contains-insert, contains-empty, nat_cmp-IsAntisymmetric}
@@ -12,7 +14,7 @@ use Rattle.std.proofs.lemmas.Option.{slice_get_past, none-some}
 use Rattle.std.proofs.lemmas.List.{get_or_append_left, get_or-append_right, get_or-replicate, get_or_past, length-replicate, take_all, get_or-set_same, get_or-set_other}
 use Rattle.node_maps.specs.Digest.{Hash}
 use Rattle.node_maps.specs.Places.{IsPlace}
-use Rattle.node_maps.specs.Known.{place_cmp, look, within, tabulate}
+use Rattle.node_maps.specs.Known.{Marked, place_cmp, look, within, tabulate}
 use Rattle.node_maps.specs.Flat.{Row, cells, row_cells, HasCell, HasTreeCells, marks_below, marked_leaves}
 use Rattle.node_maps.proofs.Known.{nat_equal, same_known, look-within, within-at}
 
@@ -146,3 +148,34 @@ marked-set marks n in' = same_set nat_cmp_total nat_cmp-IsAntisymmetric (marked_
         ∙ sym (or_left (eq_by_cmp nat_cmp i n) (set.contains (marked_leaves marks) i) (nat_equal i n ∙ eq-eqb i n same))
     read i (inr other) = get_or-set_other marks n i true false other ∙ sym (contains-marked marks i)
         ∙ sym (ap (λ b. b || set.contains (marked_leaves marks) i) (nat_equal i n ∙ ne_eqb i n other))
+
+-- ---- how many leaves can be marked
+
+len-marks_below : (marks : List Bool) (n : ℕ) → set.len (marks_below marks n) ≤ n
+unfolding marks_below
+len-marks_below marks zero = let none : set.len (set.empty {R = nat_cmp}) ≡ 0 = set.len-empty nat_cmp in omega arith
+len-marks_below marks (suc n) = by_mark (get_or marks n false) (len-marks_below marks n)
+  where
+    one_more : (t : Bool) (m k : ℕ) → k ≡ cond t m (m + 1) → m ≤ n → k ≤ suc n
+    one_more true m k e le = omega arith
+    one_more false m k e le = omega arith
+
+    by_mark : (b : Bool) → set.len (marks_below marks n) ≤ n → set.len (cond b (set.insert (marks_below marks n) n) (marks_below marks n)) ≤ suc n
+    by_mark true le = one_more (set.contains (marks_below marks n) n) (set.len (marks_below marks n)) _ (set.len-insert nat_cmp_total (marks_below marks n) n) le
+    by_mark false le = omega arith
+
+pub len-marked : (n : ℕ) (M : Marked) → ((i : ℕ) → set.contains M i ≡ true → i < n) → set.len M ≤ n
+len-marked n M bound = subst (λ s. set.len s ≤ n) (sym same) (len-marks_below (map (λ i. set.contains M i) (range_with_len 0 n)) n)
+  where
+    read : (i : ℕ) → set.contains M i ≡ (ltb i n && get_or (map (λ i. set.contains M i) (range_with_len 0 n)) i false)
+    read i = elim (cases_lt i n) [
+      | inl low ↦ sym (ap (λ b. b && get_or (map (λ i. set.contains M i) (range_with_len 0 n)) i false) (lt-ltb i n low) ∙ get_or-map-range_with_len (λ i. set.contains M i) 0 n i i false low (omega arith))
+      | inr past ↦ out (set.contains M i) refl past ∙ sym (and_left (ltb i n) _ (le-ltb i n past))
+    ]
+      where
+        out : (b : Bool) → set.contains M i ≡ b → n ≤ i → set.contains M i ≡ false
+        out true e past = absurd (let low : i < n = bound i e in omega arith)
+        out false e past = e
+
+    same : M ≡ marks_below (map (λ i. set.contains M i) (range_with_len 0 n)) n
+    same = same_set nat_cmp_total nat_cmp-IsAntisymmetric M _ (λ i. read i ∙ sym (contains-marks_below (map (λ i. set.contains M i) (range_with_len 0 n)) n i))

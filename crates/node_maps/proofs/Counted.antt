@@ -1,5 +1,5 @@
 -- The pages of trimmed rows are those that have a known place.
-use Rattle.std.proofs.Common.{◌≡◌, ◌≢◌, ◌⊎◌, ℕ, zero, suc, ◌+◌, ◌*◌, ◌/◌, ◌%◌, ◌<◌, Bool, true, false, cond, eqb, ◌&&◌, ◌||◌, List, [], ◌∷◌, length, get_or, Option, Some, None, IsSome, is_some, Ordering, Less, Equal, Greater, inl, inr, refl, sym, ap, ap₂, ◌∙◌, subst, arith}
+use Rattle.std.proofs.Common.{◌≡◌, ◌⊎◌, ℕ, zero, suc, ◌+◌, ◌*◌, ◌/◌, ◌%◌, ◌^◌, ◌<◌, Bool, true, false, cond, eqb, ◌&&◌, ◌||◌, List, [], ◌∷◌, length, get_or, Option, Some, None, IsSome, is_some, Ordering, Less, Equal, Greater, inl, inr, refl, sym, ap, ap₂, ◌∙◌, subst, arith}
 use Rattle.std.specs.Prelude.{slice_get}
 use Rattle.std.specs.Option.{option_and_then, option_map, unwrap_or}
 use Rattle.std.specs.List.{list_any}
@@ -10,14 +10,16 @@ use Rattle.std.specs.Ordering.{nat_cmp, eq_by_cmp, is_eq, ordering_then}
 use Rattle.std.specs.Cmp.{nat_cmp_total}
 use Rattle.std.proofs.lemmas.Bool.{cases_eq, eq-eqb, ne_eqb, false≢true, and_parts}
 use Rattle.std.proofs.lemmas.Bool.Decides.{nat_tests}
-use Rattle.std.proofs.lemmas.Option.{none-some}
 use Rattle.node_maps.specs.declared.paged_row.PagedRow.{PagedRow}
 use Rattle.node_maps.specs.declared.page.Cell.{Cell}
 use Rattle.node_maps.specs.declared.page.Cell.TheVariants.{Empty, Known, Marked}
 use Rattle.node_maps.specs.Cell.{hash_of, is_blank}
 use Rattle.node_maps.specs.Known.{Known as Content, place_cmp, look, within, tabulate}
 use Rattle.node_maps.specs.Held.{numbers_on, pages_on, pages_below, page_count}
-use Rattle.node_maps.specs.Pages.{Page, AreRising, found, cell_of, cell_in, is_among, ArePaged, AreSpare}
+use Rattle.node_maps.specs.declared.page.Page.{Page}
+use Rattle.node_maps.specs.Pages.{Numbered, marks_where, cell_of, cell_in, is_among, is_spare, AreSpare, AreCounted}
+use Rattle.node_maps.specs.PagedRow.{pages_of}
+use Rattle.node_maps.proofs.Numbers.{counted-none, counted-are}
 use Rattle.node_maps.specs.Paged.{hashes, HoldsTree, row_pages, held_below, held_pages, AreTrimmed}
 use Rattle.node_maps.proofs.Known.{nat_equal}
 use Rattle.node_maps.proofs.Paging.{look-hashes}
@@ -42,18 +44,6 @@ eqb-turned a b = grind (arith, nat_tests)
 contains-among : (xs : List ℕ) (q : ℕ) → set.contains (set.from_list {R = nat_cmp} xs) q ≡ is_among q xs
 contains-among [] q = set.contains-empty nat_cmp q
 contains-among (x ∷ xs) q = set.contains-insert nat_cmp_total (set.from_list xs) x q ∙ ap₂ ◌||◌ (nat_equal q x ∙ eqb-turned q x) (contains-among xs q)
-
-not_among : (q : ℕ) (xs : List ℕ) → ((j : ℕ) → j < length xs → get_or xs j 0 ≢ q) → is_among q xs ≡ false
-not_among q [] none = refl
-not_among q (x ∷ xs) none = ap₂ ◌||◌ (ne_eqb x q (none 0 (omega arith))) (not_among q xs (λ j low. none (suc j) (omega arith)))
-
--- a set of rising numbers has as many members as there are numbers
-len-rising : (ns : List ℕ) → AreRising ns → set.len (set.from_list {R = nat_cmp} ns) ≡ length ns
-len-rising [] rising = set.len-empty nat_cmp
-len-rising (n ∷ ns) rising =
-    let absent : set.contains (set.from_list {R = nat_cmp} ns) n ≡ false = contains-among ns n ∙ not_among n ns (λ j low same. omega (arith, rising 0 (suc j) (omega arith) (omega arith))) in
-    let rest : set.len (set.from_list {R = nat_cmp} ns) ≡ length ns = len-rising ns (λ i j lt low. rising (suc i) (suc j) (omega arith) (omega arith)) in
-    set.len-insert nat_cmp_total (set.from_list ns) n ∙ ap (λ b. cond b (set.len (set.from_list {R = nat_cmp} ns)) (set.len (set.from_list {R = nat_cmp} ns) + 1)) absent ∙ omega arith
 
 -- ---- places and the numbers of their pages
 
@@ -119,24 +109,6 @@ known-there K l i = map.contains_key-keys K (l, i)
 
 -- ---- one row
 
-found-among : (ns : List ℕ) (ps : List Page) (q : ℕ) → IsSome (found ns ps q) → is_among q ns ≡ true
-found-among [] ps q e = absurd (false≢true e)
-found-among (n ∷ ns) [] q e = absurd (false≢true e)
-found-among (n ∷ ns) (p ∷ ps) q e = by_number (found-among ns ps q) (eqb n q) e
-  where
-    by_number : (IsSome (found ns ps q) → is_among q ns ≡ true) → (b : Bool) → IsSome (cond b (Some p) (found ns ps q)) → (b || is_among q ns) ≡ true
-    by_number rest true e = refl
-    by_number rest false e = rest e
-
-among-found : (ns : List ℕ) (ps : List Page) (q : ℕ) → length ps ≡ length ns → is_among q ns ≡ true → (p : Page) × (found ns ps q ≡ Some p)
-among-found [] ps q beside e = absurd (false≢true e)
-among-found (n ∷ ns) [] q beside e = absurd (omega arith)
-among-found (n ∷ ns) (p ∷ ps) q beside e = by_number (among-found ns ps q (omega arith)) (eqb n q) e
-  where
-    by_number : (is_among q ns ≡ true → (w : Page) × (found ns ps q ≡ Some w)) → (b : Bool) → (b || is_among q ns) ≡ true → (w : Page) × (cond b (Some p) (found ns ps q) ≡ Some w)
-    by_number rest true e = (p, refl)
-    by_number rest false e = rest e
-
 -- a page that is not blank holds a hash
 holds-hash : (cs : List Cell) → is_blank cs ≡ false → (o : ℕ) × (o < length cs) × (IsSome (hash_of (get_or cs o Empty)))
 holds-hash [] e = absurd (false≢true (sym e))
@@ -148,30 +120,36 @@ hash-page : (o : Option Page) (k : ℕ) → IsSome (hash_of (cell_of o k)) → I
 hash-page None k e = absurd (false≢true e)
 hash-page (Some p) k e = refl
 
-full : (b : Bool) → (b ≡ true → false ≡ true) → b ≡ false
-full true f = sym (f refl)
-full false f = refl
+some_page : (o : Option Page) → is_some o ≡ true → (p : Page) × (o ≡ Some p)
+some_page None e = absurd (false≢true e)
+some_page (Some p) e = (p, refl)
+
+not_spare : (b : Bool) → (b ≡ true → false ≡ true) → b ≡ false
+not_spare true f = sym (f refl)
+not_spare false f = refl
 
 -- a trimmed row has as many pages as its layer's known places take
-pub row-count : (K : Content) (l : ℕ) (ns : List ℕ) (ps : List Page) → AreRising ns → ArePaged ns ps → AreSpare ns ps [] → ((i : ℕ) → look K l i ≡ hash_of (cell_in ns ps i)) → pages_on K l ≡ length ns
-row-count K l ns ps rising paged spare reads = ap set.len (same_set nat_cmp_total nat_cmp-IsAntisymmetric (set.from_list (numbers_on l (map.keys K))) (set.from_list ns)
-    (λ q. contains-among (numbers_on l (map.keys K)) q ∙ both_ways (is_among q (numbers_on l (map.keys K))) (is_among q ns) (known-held q) (held-known q) ∙ sym (contains-among ns q)))
-    ∙ len-rising ns rising
+pub row-count : (K : Content) (l : ℕ) (f : Numbered) (c : ℕ) → AreCounted f c → AreSpare f [] → ((i : ℕ) → look K l i ≡ hash_of (cell_in f i)) → pages_on K l ≡ c
+row-count K l f c counted spare reads =
+    ap set.len (same_set nat_cmp_total nat_cmp-IsAntisymmetric (set.from_list (numbers_on l (map.keys K))) (marks_where (λ n. is_some (f n)) (2 ^ 32))
+    (λ q. contains-among (numbers_on l (map.keys K)) q ∙ both_ways (is_among q (numbers_on l (map.keys K))) (is_some (f q)) (known-held q) (held-known q) ∙ sym (counted-are f c counted q)))
+    ∙ sym counted.count_is
   where
-    known-held : (q : ℕ) → is_among q (numbers_on l (map.keys K)) ≡ true → is_among q ns ≡ true
+    known-held : (q : ℕ) → is_among q (numbers_on l (map.keys K)) ≡ true → is_some (f q) ≡ true
     known-held q e =
         let (i, is, there) = number-place l q (map.keys K) e in
-        let some : IsSome (hash_of (cell_in ns ps i)) = ap is_some (sym (reads i)) ∙ known-there K l i ∙ there in
-        subst (λ n. is_among n ns ≡ true) is (found-among ns ps (i / 512) (hash-page (found ns ps (i / 512)) (i % 512) some))
+        let some : IsSome (hash_of (cell_in f i)) = ap is_some (sym (reads i)) ∙ known-there K l i ∙ there in
+        subst (λ n. is_some (f n) ≡ true) is (hash-page (f (i / 512)) (i % 512) some)
 
-    held-known : (q : ℕ) → is_among q ns ≡ true → is_among q (numbers_on l (map.keys K)) ≡ true
+    held-known : (q : ℕ) → is_some (f q) ≡ true → is_among q (numbers_on l (map.keys K)) ≡ true
     held-known q e =
-        let (p, is) = among-found ns ps q paged.beside e in
-        let (o, low, some) = holds-hash p.items (full (is_blank p.items) (spare.known q p is)) in
-        let small : o < 512 = omega (arith, paged.long q p is) in
+        let (p, is) = some_page (f q) e in
+        let holds : is_blank p.cells.items ≡ false = not_spare (is_blank p.cells.items) (λ blank. spare.known q (ap is_spare is ∙ blank)) in
+        let (o, low, some) = holds-hash p.cells.items holds in
+        let small : o < 512 = omega (arith, p.long) in
         let number : (512 * q + o) / 512 ≡ q = omega arith in
         let offset : (512 * q + o) % 512 ≡ o = omega arith in
-        let cell : cell_in ns ps (512 * q + o) ≡ get_or p.items o Empty = ap₂ (λ n k. cell_of (found ns ps n) k) number offset ∙ ap (λ x. cell_of x o) is in
+        let cell : cell_in f (512 * q + o) ≡ get_or p.cells.items o Empty = ap₂ (λ n k. cell_of (f n) k) number offset ∙ ap (λ x. cell_of x o) is in
         let known : is_some (look K l (512 * q + o)) ≡ true = ap is_some (reads (512 * q + o) ∙ ap hash_of cell) ∙ some in
         subst (λ n. is_among n (numbers_on l (map.keys K)) ≡ true) number (place-number l (512 * q + o) (map.keys K) (sym (known-there K l (512 * q + o)) ∙ known))
 
@@ -182,16 +160,16 @@ module _ (h : ℕ) (rows : List PagedRow) (in_tree : HoldsTree h rows) (top : �
   content = tabulate h (within h (hashes rows))
 
   each : (l : ℕ) → row_pages rows l ≡ pages_on content l
-  unfolding content
+  unfolding content pages_of
   each l = by_row (slice_get rows l) refl
     where
       by_row : (o : Option PagedRow) → slice_get rows l ≡ o → row_pages rows l ≡ pages_on content l
-      by_row None e = ap (λ o. unwrap_or (option_map (λ (row : PagedRow). length row.numbers.items) o) 0) e
-          ∙ sym (row-count content l [] [] (λ i j lt low. absurd (omega arith)) (record { beside = refl; long = λ q p is. absurd (none-some p is) }) (record { known = λ q p is. absurd (none-some p is) })
-          (λ i. look-hashes h rows in_tree l i ∙ ap (λ o. hash_of (cell_of (option_and_then (λ (row : PagedRow). found row.numbers.items row.pages.items (i / 512)) o) (i % 512))) e))
-      by_row (Some row) e = ap (λ o. unwrap_or (option_map (λ (row : PagedRow). length row.numbers.items) o) 0) e
-          ∙ sym (row-count content l row.numbers.items row.pages.items row.rising row.paged (trimmed.full l row (all l row e) e)
-          (λ i. look-hashes h rows in_tree l i ∙ ap (λ o. hash_of (cell_of (option_and_then (λ (row : PagedRow). found row.numbers.items row.pages.items (i / 512)) o) (i % 512))) e))
+      by_row None e = ap (λ o. unwrap_or (option_map (λ (row : PagedRow). row.count) o) 0) e
+          ∙ sym (row-count content l (λ n. None) 0 (counted-none (λ n. None) (λ n. refl)) (record { known = λ n is. absurd (false≢true is) })
+          (λ i. look-hashes h rows in_tree l i ∙ ap (λ o. hash_of (cell_of (option_and_then (λ (row : PagedRow). pages_of row (i / 512)) o) (i % 512))) e))
+      by_row (Some row) e = ap (λ o. unwrap_or (option_map (λ (row : PagedRow). row.count) o) 0) e
+          ∙ sym (row-count content l (pages_of row) row.count row.counted (trimmed.full l row (all l row e) e)
+          (λ i. look-hashes h rows in_tree l i ∙ ap (λ o. hash_of (cell_of (option_and_then (λ (row : PagedRow). pages_of row (i / 512)) o) (i % 512))) e))
 
   below : (n : ℕ) → held_below rows n ≡ pages_below content n
   below zero = refl

@@ -1,6 +1,9 @@
 pub mod Places
 pub mod Known
 pub mod Cells
+pub mod Rising
 pub mod Pages
+pub mod Growth
+pub mod Numbers
 pub mod Paging
 pub mod Counted

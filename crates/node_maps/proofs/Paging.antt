@@ -4,10 +4,10 @@ use Rattle.std.specs.Prelude.{slice_get}
 use Rattle.std.specs.Option.{option_map, unwrap_or}
 use Rattle.std.specs.FinMap.{empty, insert, get-empty}
 use Rattle.std.specs.FinSet as set
-use Rattle.std.specs.FinSet.{same_set, contains-insert, contains-empty, nat_cmp-IsAntisymmetric}
+use Rattle.std.specs.FinSet.{same_set, contains-insert, nat_cmp-IsAntisymmetric}
 use Rattle.std.specs.Ordering.{nat_cmp, eq_by_cmp}
 use Rattle.std.specs.Cmp.{nat_cmp_total}
-use Rattle.std.proofs.lemmas.Bool.{cases_lt, cases_eq, and_left, or_left, eq-eqb, ne_eqb, lt-ltb, le-ltb, false≢true}
+use Rattle.std.proofs.lemmas.Bool.{cases_lt, cases_eq, or_left, eq-eqb, ne_eqb, lt-ltb, false≢true}
 use Rattle.std.proofs.lemmas.Option.{none-some}
 use Rattle.node_maps.specs.declared.paged_row.PagedRow.{PagedRow}
 use Rattle.node_maps.specs.declared.page.Cell.{Cell}
@@ -16,7 +16,9 @@ use Rattle.node_maps.specs.Cell.{hash_of, mark_of, with_hash}
 use Rattle.node_maps.specs.Digest.{Hash}
 use Rattle.node_maps.specs.Places.{IsPlace}
 use Rattle.node_maps.specs.Known.{place_cmp, look, within, tabulate}
-use Rattle.node_maps.specs.Paged.{cell_at, hashes, HoldsTree, marks_where, marked_cells, row_pages, held_below, held_pages, AreTrimmed}
+use Rattle.node_maps.specs.Paged.{cell_at, hashes, HoldsTree, marked_cells, row_pages, held_below, held_pages, AreTrimmed}
+use Rattle.node_maps.specs.Pages.{marks_where}
+use Rattle.node_maps.proofs.Numbers.{contains-marks_where}
 use Rattle.node_maps.proofs.Known.{nat_equal, same_known, look-within, within-at, tabulate-put}
 
 -- ---- a cell with a hash
@@ -62,31 +64,6 @@ no_rows-known h rows none = same_known (tabulate h (within h (hashes rows))) emp
     look-hashes h rows (no_rows-in_tree h rows none) l i ∙ ap (λ rs. hashes rs l i) none ∙ sym (get-empty place_cmp (l, i)))
 
 -- ---- marks
-
-pub contains-marks_where : (f : ℕ → Bool) (n i : ℕ) → set.contains (marks_where f n) i ≡ (ltb i n && f i)
-unfolding marks_where
-contains-marks_where f zero i = contains-empty nat_cmp i ∙ sym (and_left (ltb i 0) (f i) (le-ltb i 0 (omega arith)))
-contains-marks_where f (suc n) i = by_mark (contains-marks_where f n i) (f n) refl (cases_eq i n)
-  where
-    below : i ≢ n → (ltb i n && f i) ≡ (ltb i (suc n) && f i)
-    below other = ap (λ b. b && f i) (elim (cases_lt i n) [
-      | inl low ↦ lt-ltb i n low ∙ sym (lt-ltb i (suc n) (omega arith))
-      | inr high ↦ le-ltb i n high ∙ sym (le-ltb i (suc n) (omega arith))
-    ])
-
-    here : i ≡ n → (ltb i (suc n) && f i) ≡ f n
-    here same = ap (λ b. b && f i) (lt-ltb i (suc n) (omega arith)) ∙ ap f same
-
-    by_mark : set.contains (marks_where f n) i ≡ (ltb i n && f i) → (b : Bool) → f n ≡ b → (i ≡ n) ⊎ (i ≢ n)
-        → set.contains (cond b (set.insert (marks_where f n) n) (marks_where f n)) i ≡ (ltb i (suc n) && f i)
-    by_mark before true e (inl same) = contains-insert nat_cmp_total (marks_where f n) n i
-        ∙ or_left (eq_by_cmp nat_cmp i n) (set.contains (marks_where f n) i) (nat_equal i n ∙ eq-eqb i n same) ∙ sym (here same ∙ e)
-    by_mark before true e (inr other) = contains-insert nat_cmp_total (marks_where f n) n i
-        ∙ ap (λ b. b || set.contains (marks_where f n) i) (nat_equal i n ∙ ne_eqb i n other)
-        ∙ before ∙ below other
-    by_mark before false e (inl same) = before
-        ∙ and_left (ltb i n) (f i) (le-ltb i n (omega arith)) ∙ sym (here same ∙ e)
-    by_mark before false e (inr other) = before ∙ below other
 
 -- a marked cell holds a hash
 mark_hash : (c : Cell) → mark_of c ≡ true → (v : Hash) × (hash_of c ≡ Some v)
@@ -174,7 +151,7 @@ held_past rows n zero le low = let e : 0 ≡ n = omega arith in ap (held_below r
 held_past rows n (suc l) le low = elim (cases_lt l n) [
   | inl less ↦ (let e : suc l ≡ n = omega arith in ap (held_below rows) e)
   | inr more ↦
-      let none : row_pages rows l ≡ 0 = ap (λ o. unwrap_or (option_map (λ (row : PagedRow). length row.numbers.items) o) 0) (past-none rows l (omega arith)) in
+      let none : row_pages rows l ≡ 0 = ap (λ o. unwrap_or (option_map (λ (row : PagedRow). row.count) o) 0) (past-none rows l (omega arith)) in
       let rest : held_below rows l ≡ held_below rows n = held_past rows n l le more in
       omega arith
 ]

@@ -4,7 +4,10 @@ pub mod Places
 pub mod Known
 pub mod Flat
 pub mod Cell
+pub mod Rising
 pub mod Pages
+pub mod Growth
+pub mod Directories
 pub mod PagedRow
 pub mod Held
 pub mod Paged

@@ -1,20 +1,21 @@
 -- What rows of pages hold: one row for each layer, in it pages of 512 cells, and in a cell a hash
 -- with its mark.
-use Rattle.std.specs.Prelude.{◌≡◌, ◌≢◌, ◌⊎◌, ◌≤◌, ℕ, zero, suc, ◌+◌, ◌/◌, ◌%◌, ◌^◌, ◌<◌, Bool, if◌then◌else◌, List, [], length, slice_get, Option, Some, IsSome}
+use Rattle.std.specs.Prelude.{◌≡◌, ◌≢◌, ◌⊎◌, ◌≤◌, ℕ, zero, suc, ◌+◌, ◌/◌, ◌%◌, ◌^◌, ◌<◌, List, [], slice_get, Option, Some, IsSome}
 use Rattle.std.specs.Option.{option_and_then, option_map, unwrap_or}
-use Rattle.std.specs.FinSet as set
 use Rattle.node_maps.specs.declared.paged_row.PagedRow.{PagedRow}
 use Rattle.node_maps.specs.declared.page.Cell.{Cell}
 use Rattle.node_maps.specs.Digest.{Hash}
 use Rattle.node_maps.specs.Places.{PartialTree, IsPlace}
 use Rattle.node_maps.specs.Known.{Marked}
 use Rattle.node_maps.specs.Cell.{hash_of, mark_of}
-use Rattle.node_maps.specs.Pages.{Page, found, cell_of, AreSpare}
+use Rattle.node_maps.specs.declared.page.Page.{Page}
+use Rattle.node_maps.specs.Pages.{marks_where, cell_of, AreSpare}
+use Rattle.node_maps.specs.PagedRow.{pages_of}
 
 -- the page of a layer and a number, if there is one
 abbrev pub page_at : List PagedRow → ℕ → ℕ → Option Page
 page_at rows l n =
-    option_and_then (λ row. found row.numbers.items row.pages.items n) (slice_get rows l)
+    option_and_then (λ row. pages_of row n) (slice_get rows l)
 
 -- the cell of a place
 abbrev pub cell_at : List PagedRow → ℕ → ℕ → Cell
@@ -33,19 +34,13 @@ pub record HasPage (h : ℕ) (rows : List PagedRow) (l i : ℕ) : Type 0 where
 pub record HoldsTree (h : ℕ) (rows : List PagedRow) : Type 0 where
   pub place : (l i : ℕ) (v : Hash) → hashes rows l i ≡ Some v → IsPlace h l i
 
--- the numbers below n of which f tells
-unfoldable pub marks_where : (ℕ → Bool) → ℕ → Marked
-marks_where f zero = set.empty
-marks_where f (suc n) =
-    (if f n then set.insert (marks_where f n) n else marks_where f n)
-
 -- the leaves whose cells are marked
 abbrev pub marked_cells : ℕ → List PagedRow → Marked
 marked_cells h rows = marks_where (λ i. mark_of (cell_at rows 0 i)) (2 ^ h)
 
 -- how many pages the row of a layer has
 abbrev pub row_pages : List PagedRow → ℕ → ℕ
-row_pages rows l = unwrap_or (option_map (λ row. length row.numbers.items) (slice_get rows l)) 0
+row_pages rows l = unwrap_or (option_map (λ row. row.count) (slice_get rows l)) 0
 
 -- how many pages the rows below `top` have
 abbrev pub held_below : List PagedRow → ℕ → ℕ
@@ -59,7 +54,7 @@ held_pages rows = held_below rows 33
 -- no page is there that holds nothing
 pub record AreTrimmed (rows : List PagedRow) (top : ℕ) : Type 0 where
   pub full : (l : ℕ) (row : PagedRow) → l < top → slice_get rows l ≡ Some row
-      → AreSpare row.numbers.items row.pages.items []
+      → AreSpare (pages_of row) []
 
 -- every place has the cell that it had
 abbrev pub AreSameCells : List PagedRow → List PagedRow → Type 0

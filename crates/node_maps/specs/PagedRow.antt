@@ -1,16 +1,21 @@
--- The pages of one layer, as they are kept.
-use Rattle.std.specs.Prelude.{◌≡◌, ◌≢◌, ℕ, ◌+◌, ◌<◌, ◌≤◌, IsSome, vec_len, vec_capacity}
-use Rattle.node_maps.specs.Pages.{cell_in, found}
+-- The pages of one layer.
+use Rattle.std.specs.Prelude.{◌≡◌, ◌≢◌, ℕ, ◌<◌, ◌≤◌, IsSome}
+use Rattle.node_maps.specs.Pages.{Numbered, cell_in}
+use Rattle.node_maps.specs.Directories.{on_rows}
 use Rattle.node_maps.specs.declared.page.Cell.{Cell}
 use Rattle.node_maps.specs.declared.paged_row.PagedRow.{PagedRow}
 
+-- the pages of a layer
+unfoldable pub pages_of : PagedRow → Numbered
+pages_of row = on_rows row.pages
+
 -- the cell of a place of the layer
 abbrev pub cell_of_row : PagedRow → ℕ → Cell
-cell_of_row row i = cell_in row.numbers.items row.pages.items i
+cell_of_row row i = cell_in (pages_of row) i
 
 -- there is a page of this number
 abbrev pub HasNumber : PagedRow → ℕ → Type 0
-HasNumber row n = IsSome (found row.numbers.items row.pages.items n)
+HasNumber row n = IsSome (pages_of row n)
 
 -- every place has the cell that it had
 abbrev pub AreSameCells : PagedRow → PagedRow → Type 0
@@ -27,9 +32,3 @@ KeepsPages old new = (n : ℕ) → HasNumber old n → HasNumber new n
 -- the pages from one number on up to another are there
 abbrev pub HasNumbers : PagedRow → ℕ → ℕ → Type 0
 HasNumbers row first end = (n : ℕ) → first ≤ n → n < end → HasNumber row n
-
--- there is room for n pages more
-pub record HasRoom (row : PagedRow) (n : ℕ) : Type 0 where
-  pub numbers : vec_len row.numbers + n ≤ vec_capacity row.numbers
-  pub pages : vec_len row.pages + n ≤ vec_capacity row.pages
-  pub fresh : vec_len row.fresh + n ≤ vec_capacity row.fresh

@@ -1,58 +1,71 @@
--- The pages of one layer: rising numbers, and beside each a page of 512 cells.
-use Rattle.std.specs.Prelude.{◌≡◌, ℕ, ◌/◌, ◌%◌, ◌<◌, ◌≤◌, Bool, true, false, ◌==◌, if◌then◌else◌, ◌||◌, List, [], ◌∷◌, length, replicate, slice_index_or, Option, Some, None, Vec}
-use Rattle.std.specs.List.{All}
-use Rattle.std.specs.declared.alloc.Global.{Global}
+-- The pages of one layer by their numbers: page p has the places from 512 p on.
+use Rattle.std.specs.Prelude.{◌≡◌, ◌≢◌, ℕ, zero, suc, ◌/◌, ◌%◌, ◌^◌, ◌<◌, Bool, true, false, ◌==◌, if◌then◌else◌, ◌||◌, List, [], ◌∷◌, slice_index_or, Option, Some, None, IsSome, is_some}
+use Rattle.std.specs.FinSet as set
 use Rattle.node_maps.specs.declared.page.Cell.{Cell}
 use Rattle.node_maps.specs.declared.page.Cell.TheVariants.{Empty}
-use Rattle.node_maps.specs.Cell.{is_blank}
+use Rattle.node_maps.specs.declared.page.Page.{Page}
+use Rattle.node_maps.specs.Cell.{is_blank, with_hash}
+use Rattle.node_maps.specs.Digest.{Hash}
+use Rattle.node_maps.specs.Known.{Marked}
+use Rattle.node_maps.specs.Rising.{found}
 
-abbrev pub Page : Type 0
-Page = Vec Cell Global
+-- the page of each number, if there is one
+abbrev pub Numbered : Type 0
+Numbered = ℕ → Option Page
 
--- each of these pages holds nothing
-abbrev pub AreBlank : List Page → Type 0
-AreBlank pages = All (λ (p : Page). p.items ≡ replicate 512 Empty) pages
+-- the page of a number in a directory, if there is one
+abbrev pub within : {D : Type 0} → (D → Numbered) → Option D → Numbered
+within find None n = None
+within find (Some d) n = find d n
 
--- each number is below those after it
-abbrev pub AreRising : List ℕ → Type 0
-AreRising ns = (i j : ℕ) → i < j → j < length ns → slice_index_or ns i 0 < slice_index_or ns j 0
-
--- the number stands at place i
-pub record IsAt (ns : List ℕ) (n i : ℕ) : Type 0 where
-  pub in_range : i < length ns
-  pub is_number : slice_index_or ns i 0 ≡ n
-
--- the number would go at place i
-pub record IsGapFor (ns : List ℕ) (n i : ℕ) : Type 0 where
-  pub in_range : i ≤ length ns
-  pub below : (j : ℕ) → j < i → slice_index_or ns j 0 < n
-  pub above : (j : ℕ) → i ≤ j → j < length ns → n < slice_index_or ns j 0
-
--- the page of a number, if there is one
-abbrev pub found : List ℕ → List Page → ℕ → Option Page
-found [] ps q = None
-found (n ∷ ns) [] q = None
-found (n ∷ ns) (p ∷ ps) q = (if n == q then Some p else found ns ps q)
+-- the page of a number, in the directory of the number's first bits
+abbrev pub find_under : {D : Type 0} → (D → Numbered) → List ℕ → List D → ℕ → Numbered
+find_under find ns ds shift n = within find (found ns ds (n / 2 ^ shift)) n
 
 -- the cell at a place of a page, if there is one
 abbrev pub cell_of : Option Page → ℕ → Cell
 cell_of None o = Empty
-cell_of (Some p) o = slice_index_or p.items o Empty
+cell_of (Some p) o = slice_index_or p.cells.items o Empty
 
--- the cell of a place
-abbrev pub cell_in : List ℕ → List Page → ℕ → Cell
-cell_in ns ps i = cell_of (found ns ps (i / 512)) (i % 512)
+-- there is a page, and it holds nothing
+abbrev pub is_spare : Option Page → Bool
+is_spare None = false
+is_spare (Some p) = is_blank p.cells.items
 
+-- the cell of a place of the layer
+abbrev pub cell_in : Numbered → ℕ → Cell
+cell_in pages i = cell_of (pages (i / 512)) (i % 512)
+
+-- each number has the page that it had
+abbrev pub AreAlike : Numbered → Numbered → Type 0
+AreAlike old new = (n : ℕ) → new n ≡ old n
+
+-- one number has this page or none, and each other has what it had
+abbrev pub IsChanged : ℕ → Option Page → Numbered → Numbered → Type 0
+IsChanged number page old new = (n : ℕ) → new n ≡ (if number == n then page else old n)
+
+-- a hash was written at a place of a page, and marked, if `mark` says so
+pub record IsPut (place : ℕ) (hash : Hash) (mark : Bool) (old new : Option Page) : Type 0 where
+  pub there : IsSome new
+  pub here : cell_of new place ≡ with_hash (cell_of old place) hash mark
+  pub others : (o : ℕ) → o ≢ place → cell_of new o ≡ cell_of old o
+
+-- the number is in the list
 abbrev pub is_among : ℕ → List ℕ → Bool
 is_among q [] = false
 is_among q (n ∷ ns) = n == q || is_among q ns
 
--- there is a page beside each number, and each has 512 cells
-pub record ArePaged (ns : List ℕ) (ps : List Page) : Type 0 where
-  pub beside : length ps ≡ length ns
-  pub long : (q : ℕ) (p : Page) → found ns ps q ≡ Some p → length p.items ≡ 512
-
 -- pages that hold nothing are among the fresh ones
-pub record AreSpare (ns : List ℕ) (ps : List Page) (fresh : List ℕ) : Type 0 where
-  pub known : (q : ℕ) (p : Page) → found ns ps q ≡ Some p → is_blank p.items ≡ true
-      → is_among q fresh ≡ true
+pub record AreSpare (pages : Numbered) (fresh : List ℕ) : Type 0 where
+  pub known : (n : ℕ) → is_spare (pages n) ≡ true → is_among n fresh ≡ true
+
+-- the numbers below n of which f tells
+unfoldable pub marks_where : (ℕ → Bool) → ℕ → Marked
+marks_where f zero = set.empty
+marks_where f (suc n) =
+    (if f n then set.insert (marks_where f n) n else marks_where f n)
+
+-- so many numbers have a page, all below 2 ^ 32
+pub record AreCounted (pages : Numbered) (count : ℕ) : Type 0 where
+  pub count_is : count ≡ set.len (marks_where (λ n. is_some (pages n)) (2 ^ 32))
+  pub low : (n : ℕ) → is_some (pages n) ≡ true → n < 2 ^ 32

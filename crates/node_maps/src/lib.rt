@@ -1,11 +1,15 @@
 //! The known nodes of a hash tree (BEP 52), behind one interface for each way to keep them.
 #![tactic(auto)]
 
+mod directory;
 mod flat;
 mod node_map;
 mod page;
 mod paged;
 mod paged_row;
+mod search;
+mod shelf;
+mod shelves;
 
 pub use flat::Flat;
 pub use node_map::NodeMap;

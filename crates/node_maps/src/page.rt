@@ -1,8 +1,8 @@
 //! A page: the cells of 512 places of one layer that lie side by side.
 
-ghost use Rattle.std.specs.Prelude.{◌≡◌, ◌≢◌, replicate, Some, IfOk};
+ghost use Rattle.std.specs.Prelude.{◌≡◌, ◌≢◌, ◌<◌, replicate, length, set, slice_index_or, Some, IfOk};
 ghost use Rattle.node_maps.specs.declared.page.Cell.TheVariants.{Empty};
-ghost use Rattle.node_maps.specs.Cell.{is_blank};
+ghost use Rattle.node_maps.specs.Cell.{is_blank, with_hash};
 
 use hashtree::{Hash, NoMemory};
 use std::alloc::Global;
@@ -19,7 +19,7 @@ pub enum Cell {
 }
 
 impl Cell {
-    ghost use Rattle.node_maps.specs.Cell.{hash_of, mark_of, with_hash};
+    ghost use Rattle.node_maps.specs.Cell.{hash_of, mark_of};
 
     /// The hash, if there is one.
     pub fn hash(self) -> Option<Hash>
@@ -44,8 +44,7 @@ impl Cell {
 
     /// The cell with a hash, and with a mark, if it has one or is to have one.
     pub fn with_hash(self, hash: Hash, mark: bool) -> Cell
-        ensures value { result ≡ with_hash self hash mark }
-        ensures holds { result ≢ Empty }
+        ensures { result ≡ with_hash self hash mark }
     {
         if mark || self.is_marked() {
             Cell::Marked(hash)
@@ -55,20 +54,53 @@ impl Cell {
     }
 }
 
-/// A page that holds nothing. It is filled on the heap.
-pub fn blank_page(alloc: Global) -> Result<Vec<Cell>, NoMemory>
-    ensures { IfOk result (λ page. page.items ≡ replicate 512 Empty) }
-{
-    let mut page = Vec::with_capacity(alloc, PAGE_LENGTH)?;
-    page.resize(PAGE_LENGTH, Cell::Empty)?;
-    Ok(page)
+/// The cells of 512 places side by side.
+#[derive(Drop)]
+pub struct Page {
+    cells: Vec<Cell>,
+    ghost long: { length cells.items ≡ 512 },
 }
 
-/// Whether a page holds nothing.
-pub fn holds_nothing(page: &[Cell]) -> bool
-    ensures { result ≡ is_blank page.now }
+impl Page {
+    /// A page that holds nothing. It is filled on the heap.
+    pub fn blank(alloc: Global) -> Result<Page, NoMemory>
+        ensures { IfOk result (λ page. page.cells.items ≡ replicate 512 Empty) }
+    {
+        let mut cells = Vec::with_capacity(alloc, PAGE_LENGTH)?;
+        cells.resize(PAGE_LENGTH, Cell::Empty)?;
+        Ok(Page { cells })
+    }
+
+    /// The cell of a place.
+    pub fn cell(&self, place: usize) -> Cell
+        requires { place < 512 }
+        ensures { result ≡ slice_index_or self.now.cells.items place Empty }
+    {
+        self.cells[place]
+    }
+
+    /// Writes the hash of a place, and marks it, if `mark` says so. A mark that is there stays.
+    pub fn put(&mut self, place: usize, hash: Hash, mark: bool)
+        requires { place < 512 }
+        ensures { self.new.cells.items ≡ set self.old.cells.items place
+            (with_hash (slice_index_or self.old.cells.items place Empty) hash mark) }
+    {
+        self.cells[place] = self.cells[place].with_hash(hash, mark);
+    }
+
+    /// Whether the page holds nothing.
+    pub fn is_blank(&self) -> bool
+        ensures { result ≡ is_blank self.now.cells.items }
+    {
+        holds_nothing(&self.cells)
+    }
+}
+
+/// Whether no cell holds anything.
+fn holds_nothing(cells: &[Cell]) -> bool
+    ensures { result ≡ is_blank cells.now }
 {
-    'cells: for cell in page {
+    'cells: for cell in cells {
         match cell {
             Cell::Empty => {}
             _ => return false,

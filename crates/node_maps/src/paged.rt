@@ -136,7 +136,8 @@ fn add_rows(alloc: Global, rows: &mut Vec<PagedRow>, layer: usize) -> Result<(),
 
 // Makes the pages of a layer from one number on up to another that are not there, all or none.
 fn add_pages(rows: &mut Vec<PagedRow>, layer: usize, first: u64, end: u64) -> Result<(), NoMemory>
-    requires { layer < vec_len rows.old }
+    requires layer { layer < vec_len rows.old }
+    requires end { end ≤ 2 ^ 32 }
     ensures cells { AreSameCells rows.old.items rows.new.items }
     ensures keeps { KeepPages rows.old.items rows.new.items }
     ensures len { vec_len rows.new ≡ vec_len rows.old }
@@ -167,7 +168,7 @@ fn count_pages(rows: &[PagedRow]) -> u64
 {
     let mut count = 0;
     'rows: for layer in 0..rows.len() {
-        count += rows[layer].len() as u64;
+        count += rows[layer].len();
     }
     count
 }

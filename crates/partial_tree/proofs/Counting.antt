@@ -1,22 +1,17 @@
 -- The counts that a tree keeps beside its nodes.
-use Rattle.std.proofs.Common.{◌≡◌, ℕ, zero, suc, ◌+◌, ◌-◌, ◌^◌, ◌<◌, ◌≤◌, Bool, true, false, cond, ltb, ◌&&◌, List, map, get_or, is_some, inl, inr, refl, sym, ap, ◌∙◌, subst, arith}
-use Rattle.std.specs.List.{range_with_len}
+use Rattle.std.proofs.Common.{◌≡◌, ℕ, ◌+◌, ◌-◌, ◌^◌, ◌≤◌, Bool, true, false, cond, is_some, sym, ap, ◌∙◌, arith}
 use Rattle.std.specs.FinMap as map
 use Rattle.std.specs.FinMap.{insert, empty, len-insert, len-empty, get-empty}
 use Rattle.std.specs.FinSet as set
-use Rattle.std.specs.FinSet.{same_set, nat_cmp-IsAntisymmetric}
 use Rattle.std.specs.Ordering.{nat_cmp}
 use Rattle.std.specs.Cmp.{nat_cmp_total}
-use Rattle.std.proofs.lemmas.Bool.{cases_lt, and_left, lt-ltb, le-ltb}
-use Rattle.std.proofs.lemmas.List.FromFn.{get_or-map-range_with_len}
 use Rattle.node_maps.specs.Digest.{Hash}
 use Rattle.node_maps.specs.Places.{tree_height, IsPlace}
 use Rattle.node_maps.specs.Known.{Known, Marked, place_cmp}
 use Rattle.partial_tree.specs.Kept.{KeptTree, IsCounted, IsGoodTree}
-use Rattle.node_maps.specs.Flat.{marks_below}
 use Rattle.node_maps.proofs.Known.{place_total}
 use Rattle.partial_tree.proofs.Ranges.{pow_more}
-use Rattle.node_maps.proofs.Cells.{contains-marks_below}
+use Rattle.node_maps.proofs.Cells.{len-marked}
 
 -- the root alone is one place
 len-one : (m : Known) (h : ℕ) (root : Hash) → m ≡ empty → map.len (insert m (h, 0) root) ≡ 1
@@ -62,37 +57,6 @@ len_marked_again M M' b t m is already = ap set.len m ∙ set.len-insert nat_cmp
 
 pub len_marked_first : (M M' : Marked) (b : ℕ) (t : Bool) → M' ≡ set.insert M b → t ≡ set.contains M b → t ≡ false → set.len M' ≡ set.len M + 1
 len_marked_first M M' b t m is not_yet = ap set.len m ∙ set.len-insert nat_cmp_total M b ∙ ap (λ x. cond x (set.len M) (set.len M + 1)) (sym is ∙ not_yet)
-
--- ---- how many leaves can be marked
-
-len-marks_below : (marks : List Bool) (n : ℕ) → set.len (marks_below marks n) ≤ n
-unfolding marks_below
-len-marks_below marks zero = let none : set.len (set.empty {R = nat_cmp}) ≡ 0 = set.len-empty nat_cmp in omega arith
-len-marks_below marks (suc n) = by_mark (get_or marks n false) (len-marks_below marks n)
-  where
-    one_more : (t : Bool) (m k : ℕ) → k ≡ cond t m (m + 1) → m ≤ n → k ≤ suc n
-    one_more true m k e le = omega arith
-    one_more false m k e le = omega arith
-
-    by_mark : (b : Bool) → set.len (marks_below marks n) ≤ n → set.len (cond b (set.insert (marks_below marks n) n) (marks_below marks n)) ≤ suc n
-    by_mark true le = one_more (set.contains (marks_below marks n) n) (set.len (marks_below marks n)) _ (set.len-insert nat_cmp_total (marks_below marks n) n) le
-    by_mark false le = omega arith
-
-pub len-marked : (n : ℕ) (M : Marked) → ((i : ℕ) → set.contains M i ≡ true → i < n) → set.len M ≤ n
-len-marked n M bound = subst (λ s. set.len s ≤ n) (sym same) (len-marks_below (map (λ i. set.contains M i) (range_with_len 0 n)) n)
-  where
-    read : (i : ℕ) → set.contains M i ≡ (ltb i n && get_or (map (λ i. set.contains M i) (range_with_len 0 n)) i false)
-    read i = elim (cases_lt i n) [
-      | inl low ↦ sym (ap (λ b. b && get_or (map (λ i. set.contains M i) (range_with_len 0 n)) i false) (lt-ltb i n low) ∙ get_or-map-range_with_len (λ i. set.contains M i) 0 n i i false low (omega arith))
-      | inr past ↦ out (set.contains M i) refl past ∙ sym (and_left (ltb i n) _ (le-ltb i n past))
-    ]
-      where
-        out : (b : Bool) → set.contains M i ≡ b → n ≤ i → set.contains M i ≡ false
-        out true e past = absurd (let low : i < n = bound i e in omega arith)
-        out false e past = e
-
-    same : M ≡ marks_below (map (λ i. set.contains M i) (range_with_len 0 n)) n
-    same = same_set nat_cmp_total nat_cmp-IsAntisymmetric M _ (λ i. read i ∙ sym (contains-marks_below (map (λ i. set.contains M i) (range_with_len 0 n)) n i))
 
 -- the marks of a good tree can be counted
 pub marks_fit : (t : KeptTree) → IsGoodTree t → tree_height t.length ≤ 32 → set.len t.state.marked ≤ 2 ^ 32

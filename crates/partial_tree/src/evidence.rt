@@ -6,9 +6,9 @@
 //!                     /         \
 //!     2             c            u1               u1  the second uncle, nearest the root
 //!                /     \
-//!     1        c        u0                        u0  the first uncle, beside the node that covers the base range
+//!     1        c        u0                        u0  the first uncle, beside the range's node
 //!            /   \
-//!     0     b     b     .     Z                   b   the base range, Z  a place past the file's end: a pad
+//!     0     b     b     .     Z                   b   the base range, Z a pad past the file's end
 //! ```
 //!
 //! The hashes of the base range and the uncles are given. What lies between them and the top, the

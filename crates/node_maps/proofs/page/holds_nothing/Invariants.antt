@@ -4,4 +4,4 @@ use Rattle.node_maps.proofs.page.holds_nothing.Given as goal
 
 -- what is left says what the whole page says
 abbrev pub invariant-cells : goal.invariant-cells
-invariant-cells l = is_blank (drop l.cell-index l.page) ≡ is_blank l.page
+invariant-cells l = is_blank (drop l.cell-index l.cells) ≡ is_blank l.cells

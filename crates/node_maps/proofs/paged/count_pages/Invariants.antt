@@ -6,5 +6,5 @@ use Rattle.node_maps.proofs.paged.count_pages.Given as goal
 abbrev pub invariant-rows : goal.invariant-rows
 invariant-rows l = record {
   count : l.count ≡ held_below l.rows l.layer;
-  bound : l.count * 24 ≤ l.layer * 2 ^ 63;
+  bound : l.count ≤ l.layer * 2 ^ 32;
 }

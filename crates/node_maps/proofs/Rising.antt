@@ -1,0 +1,150 @@
+-- Rising numbers, and the item of a number when one is found, added, written or taken out.
+use Rattle.std.proofs.Common.{◌≡◌, ◌≢◌, ◌⊎◌, ℕ, zero, suc, ◌+◌, ◌-◌, ◌<◌, ◌≤◌, true, false, cond, eqb, List, [], ◌∷◌, length, get_or, set, Some, None, IsSome, is_some, Result, Ok, Err, IfOk, IfErr, MatchResult, inl, inr, refl, sym, ap, ◌∙◌, subst, arith}
+use Rattle.std.specs.List.{insert, remove}
+use Rattle.std.specs.List.Sorted.{IsBinarySearchResult}
+use Rattle.std.specs.Ordering.{nat_cmp}
+use Rattle.std.proofs.lemmas.List.Sorted.{searched}
+use Rattle.std.proofs.lemmas.List.Edits.{length-insert, get_or-insert_below, get_or-insert_at, get_or-insert_above, length-remove, get_or-remove_below, get_or-remove_above}
+use Rattle.std.proofs.lemmas.Bool.{cases_lt, eq-eqb}
+use Rattle.std.proofs.lemmas.Bool.Decides.{nat_tests}
+use Rattle.std.proofs.Math.ListN.{length-set}
+use Rattle.node_maps.specs.Rising.{AreRising, IsAt, IsGapFor, found}
+
+-- no number before place i is q
+abbrev pub NotBefore : List ℕ → ℕ → ℕ → Type 0
+NotBefore ns q i = (j : ℕ) → j < i → get_or ns j 0 ≢ q
+
+tail_before : (n : ℕ) (ns : List ℕ) (q i : ℕ) → NotBefore (n ∷ ns) q (suc i) → NotBefore ns q i
+tail_before n ns q i free j lt = free (suc j) (omega arith)
+
+tail_at : (n : ℕ) (ns : List ℕ) (q i : ℕ) → IsAt (n ∷ ns) q (suc i) → IsAt ns q i
+tail_at n ns q i at = record { in_range = omega (arith, at.in_range); is_number = at.is_number }
+
+-- a number that does not stand there has no item
+pub found_absent : {A : Type 0} (ns : List ℕ) (ps : List A) (q : ℕ) → NotBefore ns q (length ns) → found ns ps q ≡ None
+found_absent [] ps q free = refl
+found_absent (n ∷ ns) [] q free = refl
+found_absent (n ∷ ns) (p ∷ ps) q free = grind (arith, nat_tests, free 0 (omega arith), found_absent ns ps q (tail_before n ns q _ free))
+
+-- the first number that is q has the item beside it
+pub found_present : {A : Type 0} (ns : List ℕ) (ps : List A) (q i : ℕ) (d : A) → length ps ≡ length ns → IsAt ns q i → NotBefore ns q i → found ns ps q ≡ Some (get_or ps i d)
+found_present [] ps q i d beside at free = absurd (omega (arith, at.in_range))
+found_present (n ∷ ns) [] q i d beside at free = absurd (omega arith)
+found_present (n ∷ ns) (p ∷ ps) q zero d beside at free = grind (arith, nat_tests, at.is_number)
+found_present (n ∷ ns) (p ∷ ps) q (suc i) d beside at free =
+    grind (arith, nat_tests, free 0 (omega arith), found_present ns ps q i d (omega arith) (tail_at n ns q i at) (tail_before n ns q i free))
+
+-- a number that stands there has an item
+pub found_some : {A : Type 0} (ns : List ℕ) (ps : List A) (q i : ℕ) → length ps ≡ length ns → IsAt ns q i → IsSome (found ns ps q)
+found_some [] ps q i beside at = absurd (omega (arith, at.in_range))
+found_some (n ∷ ns) [] q i beside at = absurd (omega arith)
+found_some (n ∷ ns) (p ∷ ps) q zero beside at = ap (λ b. is_some (cond b (Some p) (found ns ps q))) (eq-eqb n q at.is_number)
+found_some (n ∷ ns) (p ∷ ps) q (suc i) beside at = elim (eqb n q) as (λ b. IsSome (cond b (Some p) (found ns ps q))) [
+  | true ↦ refl
+  | false ↦ found_some ns ps q i (omega arith) (tail_at n ns q i at)
+]
+
+-- an item that is written
+pub found-set : {A : Type 0} (ns : List ℕ) (ps : List A) (q i : ℕ) (w : A) → length ps ≡ length ns → IsAt ns q i → NotBefore ns q i
+    → (r : ℕ) → found ns (set ps i w) r ≡ cond (eqb q r) (Some w) (found ns ps r)
+found-set [] ps q i w beside at free r = absurd (omega (arith, at.in_range))
+found-set (n ∷ ns) [] q i w beside at free r = absurd (omega arith)
+found-set (n ∷ ns) (p ∷ ps) q zero w beside at free r = grind (arith, nat_tests, at.is_number)
+found-set (n ∷ ns) (p ∷ ps) q (suc i) w beside at free r =
+    grind (arith, nat_tests, free 0 (omega arith), found-set ns ps q i w (omega arith) (tail_at n ns q i at) (tail_before n ns q i free) r)
+
+-- an item that is added
+pub found-insert : {A : Type 0} (ns : List ℕ) (ps : List A) (q i : ℕ) (w : A) → length ps ≡ length ns → NotBefore ns q i
+    → (r : ℕ) → found (insert ns i q) (insert ps i w) r ≡ cond (eqb q r) (Some w) (found ns ps r)
+found-insert ns ps q zero w beside free r = refl
+found-insert [] [] q (suc i) w beside free r = refl
+found-insert [] (p ∷ ps) q (suc i) w beside free r = absurd (omega arith)
+found-insert (n ∷ ns) [] q (suc i) w beside free r = absurd (omega arith)
+found-insert (n ∷ ns) (p ∷ ps) q (suc i) w beside free r =
+    grind (arith, nat_tests, free 0 (omega arith), found-insert ns ps q i w (omega arith) (tail_before n ns q i free) r)
+
+-- an item that is taken out
+pub found-remove : {A : Type 0} (ns : List ℕ) (ps : List A) (q i : ℕ) → length ps ≡ length ns → IsAt ns q i → ((j : ℕ) → j < length ns → j ≢ i → get_or ns j 0 ≢ q)
+    → (r : ℕ) → found (remove ns i) (remove ps i) r ≡ cond (eqb q r) None (found ns ps r)
+found-remove [] ps q i beside at free r = absurd (omega (arith, at.in_range))
+found-remove (n ∷ ns) [] q i beside at free r = absurd (omega arith)
+found-remove (n ∷ ns) (p ∷ ps) q zero beside at free r =
+    grind (arith, nat_tests, at.is_number, found_absent ns ps q (λ j low. free (suc j) (omega arith) (omega arith)))
+found-remove (n ∷ ns) (p ∷ ps) q (suc i) beside at free r =
+    grind (arith, nat_tests, free 0 (omega arith) (omega arith), found-remove ns ps q i (omega arith) (tail_at n ns q i at) (λ j low other. free (suc j) (omega arith) (omega arith)) r)
+
+module _ (ns : List ℕ) (rising : AreRising ns) where
+  -- what a binary search answers
+  pub searched_at : (q : ℕ) (r : Result ℕ ℕ) → IsBinarySearchResult (λ y. nat_cmp y q) ns r → record { at : IfOk r (IsAt ns q); gap : IfErr r (IsGapFor ns q) }
+  searched_at q r is = read r (searched ns q r is (λ i j le low. by_order i j low (cases_lt i j) le))
+    where
+      by_order : (i j : ℕ) → j < length ns → (i < j) ⊎ (j ≤ i) → i ≤ j → get_or ns i 0 ≤ get_or ns j 0
+      by_order i j low (inl less) le = omega (arith, rising i j less low)
+      by_order i j low (inr more) le = let same : i ≡ j = omega arith in omega (arith, ap (λ k. get_or ns k 0) same)
+
+      read : (r : Result ℕ ℕ) → MatchResult r (λ i. (i < length ns) × (get_or ns i 0 ≡ q)) (λ i. (i ≤ length ns) × ((k : ℕ) → k < i → get_or ns k 0 < q) × ((k : ℕ) → i ≤ k → k < length ns → q < get_or ns k 0)) → record { at : IfOk r (IsAt ns q); gap : IfErr r (IsGapFor ns q) }
+      read (Ok i) h = record { at = record { in_range = h.0; is_number = h.1 }; gap = tt }
+      read (Err i) h = record { at = tt; gap = record { in_range = h.0; below = h.1; above = h.2 } }
+
+  pub not_before_at : (q i : ℕ) → IsAt ns q i → NotBefore ns q i
+  not_before_at q i at j lt same = omega (arith, rising j i lt at.in_range, at.is_number)
+
+  pub not_elsewhere : (q i : ℕ) → IsAt ns q i → (j : ℕ) → j < length ns → j ≢ i → get_or ns j 0 ≢ q
+  not_elsewhere q i at j low other same = elim (cases_lt j i) [
+    | inl less ↦ omega (arith, rising j i less at.in_range, at.is_number)
+    | inr more ↦ (let above : i < j = omega arith in omega (arith, rising i j above low, at.is_number))
+  ]
+
+pub not_before_gap : (ns : List ℕ) (q i : ℕ) → IsGapFor ns q i → NotBefore ns q i
+not_before_gap ns q i gap j lt same = omega (arith, gap.below j lt)
+
+-- a number that has a gap has no item
+pub found_gap : {A : Type 0} (ns : List ℕ) (ps : List A) (q i : ℕ) → IsGapFor ns q i → found ns ps q ≡ None
+found_gap ns ps q i gap = found_absent ns ps q (λ j lt same. elim (cases_lt j i) [ inl less ↦ omega (arith, gap.below j less) | inr more ↦ omega (arith, gap.above j more lt) ])
+
+pub rising-insert : (ns : List ℕ) (q at : ℕ) → IsGapFor ns q at → AreRising ns → AreRising (insert ns at q)
+rising-insert ns q at gap rising i j lt in_range =
+    let new : List ℕ = insert ns at q in
+    let length_new : length new ≡ suc (length ns) = length-insert ns at q gap.in_range ∙ omega arith in
+    let below' : (i : ℕ) → i < at → get_or new i 0 ≡ get_or ns i 0 = λ i below. get_or-insert_below ns at q 0 i below gap.in_range in
+    let here : (i : ℕ) → i ≡ at → get_or new i 0 ≡ q = λ i here. rw here (get_or-insert_at ns at q 0 gap.in_range) in
+    let above' : (i : ℕ) → at < i → get_or new i 0 ≡ get_or ns (i - 1) 0 =
+    λ i above. subst (λ k. get_or new k 0 ≡ get_or ns (i - 1) 0) {x = i - 1 + 1} (omega arith) (get_or-insert_above ns at q 0 (i - 1) (omega arith) gap.in_range) in
+    grind (arith, below' i, here i, above' i, below' j, here j, above' j, rising i j, rising i (j - 1), rising (i - 1) (j - 1), gap.below i, gap.above (j - 1))
+
+pub rising-remove : (ns : List ℕ) (at : ℕ) → at < length ns → AreRising ns → AreRising (remove ns at)
+rising-remove ns at inside rising i j lt in_range =
+    let new : List ℕ = remove ns at in
+    let length_new : length new + 1 ≡ length ns = length-remove ns at inside in
+    let below' : (i : ℕ) → i < at → get_or new i 0 ≡ get_or ns i 0 = λ i below. get_or-remove_below ns at 0 i below inside in
+    let above' : (i : ℕ) → at ≤ i → get_or new i 0 ≡ get_or ns (i + 1) 0 = λ i above. get_or-remove_above ns at 0 i above inside in
+    grind (arith, below' i, above' i, below' j, above' j, rising i j, rising i (j + 1), rising (i + 1) (j + 1))
+
+-- ---- an item at a number that a search told
+
+module _ {A : Type 0} (ns : List ℕ) (xs : List A) (rising : AreRising ns) (beside : length xs ≡ length ns) (q at : ℕ) where
+  pub stands : IsAt ns q at → (x : A) → x ≡ get_or xs at x → found ns xs q ≡ Some x
+  stands is x here = found_present ns xs q at x beside is (not_before_at ns rising q at is) ∙ ap Some (sym here)
+
+  pub within_items : IsAt ns q at → at < length xs
+  within_items is = omega (arith, is.in_range, beside)
+
+  pub set-found : IsAt ns q at → (w : A) (r : ℕ) → found ns (set xs at w) r ≡ cond (eqb q r) (Some w) (found ns xs r)
+  set-found is w = found-set ns xs q at w beside is (not_before_at ns rising q at is)
+
+  pub set-beside : (w : A) → length (set xs at w) ≡ length ns
+  set-beside w = length-set xs at w ∙ beside
+
+  pub insert-found : IsGapFor ns q at → (w : A) (r : ℕ) → found (insert ns at q) (insert xs at w) r ≡ cond (eqb q r) (Some w) (found ns xs r)
+  insert-found gap w = found-insert ns xs q at w beside (not_before_gap ns q at gap)
+
+  pub insert-beside : IsGapFor ns q at → (w : A) → length (insert xs at w) ≡ length (insert ns at q)
+  insert-beside gap w = length-insert xs at w (omega (arith, gap.in_range, beside)) ∙ ap (λ n. n + 1) beside ∙ sym (length-insert ns at q gap.in_range)
+
+  pub remove-found : IsAt ns q at → (r : ℕ) → found (remove ns at) (remove xs at) r ≡ cond (eqb q r) None (found ns xs r)
+  remove-found is = found-remove ns xs q at beside is (not_elsewhere ns rising q at is)
+
+  pub remove-beside : IsAt ns q at → length (remove xs at) ≡ length (remove ns at)
+  remove-beside is =
+      let inside : at < length xs = within_items is in
+      omega (arith, length-remove xs at inside, length-remove ns at is.in_range, beside)

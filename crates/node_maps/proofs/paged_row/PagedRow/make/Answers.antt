@@ -1,0 +1,34 @@
+use Rattle.std.proofs.Common.{◌≡◌, ◌^◌, ◌≤◌, ◌∷◌, [], ◌++◌, None, sym, ap, ◌∙◌, subst, arith}
+use Rattle.node_maps.specs.Pages.{AreSpare}
+use Rattle.node_maps.specs.Directories.{on_rows}
+use Rattle.node_maps.specs.PagedRow.{pages_of}
+use Rattle.node_maps.proofs.Pages.{added-cells, added-spare, absent}
+use Rattle.node_maps.proofs.Numbers.{counted-few, counted-more}
+use Rattle.node_maps.proofs.paged_row.PagedRow.make.Goals as goal
+
+pub overflow_add-self : goal.overflow_add-self
+unfolding pages_of
+overflow_add-self c =
+    let few : c.args.self.now.count ≤ 2 ^ 32 = counted-few (on_rows c.args.self.now.pages) c.args.self.now.count c.args.self.now.counted in
+    omega (arith, few)
+
+pub invariant_of-self-2 : goal.invariant_of-self-2
+unfolding pages_of
+invariant_of-self-2 c =
+    let row = c.args.self.now in
+    let f = on_rows row.pages in
+    let g = on_rows c.add.new.self in
+    let none : f c.args.number ≡ None = absent c.page.result (f c.args.number) c.page.ensures (sym c.is_some.ensures ∙ c.if-is_some.false) in
+    record {
+      counted = counted-more f g c.args.number row.count c.in_ok-page.page row.counted none c.in_ok-add.ensures.ok c.requires;
+      spare = subst (AreSpare g) (sym (c.push_reserved.ensures.items ∙ ap (λ xs. xs ++ c.args.number ∷ []) c.reserve.ensures.items))
+          (added-spare f g c.args.number c.in_ok-page.page none c.in_ok-add.ensures.ok c.in_ok-page.ensures row.fresh.items row.spare);
+    }
+
+pub returns-clause-cells : goal.returns-clause-cells
+unfolding pages_of
+returns-clause-cells c =
+    let row = c.args.self.now in
+    let f = on_rows row.pages in
+    let none : f c.args.number ≡ None = absent c.page.result (f c.args.number) c.page.ensures (sym c.is_some.ensures ∙ c.if-is_some.false) in
+    added-cells f (on_rows c.add.new.self) c.args.number c.in_ok-page.page none c.in_ok-add.ensures.ok c.in_ok-page.ensures

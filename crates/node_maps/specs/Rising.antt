@@ -1,0 +1,23 @@
+-- Rising numbers, and items that stand beside them.
+use Rattle.std.specs.Prelude.{◌≡◌, ℕ, ◌<◌, ◌≤◌, ◌==◌, if◌then◌else◌, List, [], ◌∷◌, length, slice_index_or, Option, Some, None}
+
+-- each number is below those after it
+abbrev pub AreRising : List ℕ → Type 0
+AreRising ns = (i j : ℕ) → i < j → j < length ns → slice_index_or ns i 0 < slice_index_or ns j 0
+
+-- the number stands at place i
+pub record IsAt (ns : List ℕ) (n i : ℕ) : Type 0 where
+  pub in_range : i < length ns
+  pub is_number : slice_index_or ns i 0 ≡ n
+
+-- the number would go at place i
+pub record IsGapFor (ns : List ℕ) (n i : ℕ) : Type 0 where
+  pub in_range : i ≤ length ns
+  pub below : (j : ℕ) → j < i → slice_index_or ns j 0 < n
+  pub above : (j : ℕ) → i ≤ j → j < length ns → n < slice_index_or ns j 0
+
+-- the item of a number, if there is one
+abbrev pub found : {A : Type 0} → List ℕ → List A → ℕ → Option A
+found [] xs q = None
+found (n ∷ ns) [] q = None
+found (n ∷ ns) (x ∷ xs) q = (if n == q then Some x else found ns xs q)

@@ -1,0 +1,49 @@
+//! Pages by their numbers, behind an interface, so that a directory can stand on smaller ones.
+
+ghost use Rattle.std.specs.Prelude.{◌≡◌, ℕ, ◌<◌, Some, None, IsSome, OnOk, OnErr, option_map};
+ghost use Rattle.std.specs.Bool.{OnTrue};
+ghost use Rattle.node_maps.specs.Pages.{Numbered, IsChanged, AreAlike, IsPut};
+
+use crate::page::Page;
+use hashtree::{Hash, NoMemory};
+use std::alloc::Global;
+
+/// Pages by their numbers, however they are kept.
+pub trait Directory: Drop {
+    /// The page of a number, if there is one.
+    ghost find: { Self → Numbered };
+
+    /// No page. It is for numbers that differ in their last `bits` bits alone, but serves all.
+    /// Takes no memory.
+    fn new(alloc: Global, bits: u32) -> Self
+    where
+        Self: Sized,
+        requires { bits < 64 }
+        ensures { (n : ℕ) → find result n ≡ None };
+
+    /// The page of a number, if there is one.
+    fn page(&self, number: u64) -> Option<&Page>
+        ensures { option_map (λ page. page.now) result ≡ find self.now number };
+
+    /// Writes the hash of a place of a page, and marks it, if `mark` says so.
+    fn put(&mut self, number: u64, place: usize, hash: Hash, mark: bool)
+        requires there { IsSome (find self.old number) }
+        requires place { place < 512 }
+        ensures here { IsPut place hash mark (find self.old number) (find self.new number) }
+        ensures others { IsChanged number (find self.new number) (find self.old)
+            (find self.new) };
+
+    /// Adds a page of a number that has none. Out of memory nothing changes.
+    fn add(&mut self, number: u64, page: Page) -> Result<(), NoMemory>
+        requires { find self.old number ≡ None }
+        ensures ok { OnOk result (IsChanged number (Some page) (find self.old) (find self.new)) }
+        ensures err { OnErr result (AreAlike (find self.old) (find self.new)) };
+
+    /// Gives back the page of a number, if there is one. Takes no memory.
+    fn remove(&mut self, number: u64)
+        ensures { IsChanged number None (find self.old) (find self.new) };
+
+    /// Whether there is no page.
+    fn is_empty(&self) -> bool
+        ensures { OnTrue result ((n : ℕ) → find self.now n ≡ None) };
+}
