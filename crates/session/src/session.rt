@@ -2,7 +2,7 @@
 //!
 //! What is known of a tree is always *closed*: each known place stands with its sibling and its
 //! parent, up to the root (`IsClosed` in `partial_tree`, with a picture in its `tree.rt`). That is
-//! why a verified block is the block: `IsBlock` in `specs/Session.antt` says what is promised, and
+//! why a verified block is the block: `IsFileBlock` in `specs/Session.antt` says what is promised, and
 //! `block_or_collision` in `partial_tree`'s `proofs/Headline.antt` proves it.
 
 ghost use Rattle.std.specs.Prelude.{◌≡◌, ◌<◌, ◌≤◌, ◌↔◌, IfOk, IfErr, OnErr, IsTrue, length, slice_get, ◌*◌, ◌≤◌, Some};
