@@ -30,11 +30,17 @@ build/btcheck: $(SOURCES)
 	cd crates/btcheck && $(RT) run $(if $(CPU),--cpu=$(CPU)) -- root /dev/null
 	install -D -m 755 crates/btcheck/out/btcheck $@
 
+# Makes the libraries' calls, for the tests that refuse memory to them.
+build/growths: $(SOURCES)
+	$(need_toolchain)
+	cd crates/growths && $(RT) run $(if $(CPU),--cpu=$(CPU))
+	install -D -m 755 crates/growths/out/growths $@
+
 check:
 	$(need_toolchain)
 	.ci/run
 
-test: build/btcheck
+test: build/btcheck build/growths
 	tests/run
 
 bench: build/btcheck

@@ -1,6 +1,6 @@
 """2,048 answers of 512 leaves with their uncles, over a tree of 2^20 leaves, given to a session by value: without a frame
-and without a line, in the order of their places and in another. Beside it stand the bare digests of the pairs that lead
-to the root."""
+and without a line, in the order of their places, from the end, and in another. Beside it stand the bare digests of the
+pairs that lead to the root."""
 import os
 
 from measuring import BARE, BLOCK, SESSIONS, measured, build_bare, build_sessions, missed_marks, report, see_answer
@@ -10,7 +10,7 @@ from trees import Tree
 # What the session may cost at most: (of what, ratio of processor time).
 MARKS = [("bare digests", 1.3)]
 # By how many spans each answer is on from the one before it, in each order.
-ORDERS = {"session": 1, "in any order": 1237}
+ORDERS = {"session": 1, "in any order": 1237, "from the end": 2047}
 
 
 def run(folder, words):

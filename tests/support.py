@@ -10,13 +10,14 @@ BTCHECK = os.path.abspath(os.environ.get("BTCHECK", os.path.join(TOP, "build", "
 
 
 def run(*arguments, **options):
-    """Runs the program with these arguments, bytes or text; options are those of subprocess.run."""
+    """Runs the program, or another one, with these arguments, bytes or text; options are those of subprocess.run."""
+    program = options.pop("program", BTCHECK)
     options.setdefault("stdout", subprocess.PIPE)
     options.setdefault("stderr", subprocess.PIPE)
     options.setdefault("timeout", 600)
     if "input" not in options:
         options.setdefault("stdin", subprocess.DEVNULL)
-    return subprocess.run([BTCHECK, *arguments], **options)
+    return subprocess.run([program, *arguments], **options)
 
 
 def expect(done, status, stdout=b"", stderr=b""):

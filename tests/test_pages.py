@@ -57,7 +57,8 @@ def test_a_page_takes_at_most_17_kib():
     """Pairs of leaves far from each other: from the file's end to its front, and in any order."""
     backwards = range(2 ** 32 - 2, 0, -2 ** 32 // 300)
     backwards = [index & ~1 for index in backwards]
-    anywhere = [random.Random(7).randrange(2 ** 31) * 2 for _ in range(300)]
+    chance = random.Random(7)
+    anywhere = [chance.randrange(2 ** 31) * 2 for _ in range(300)]
     with folder() as place:
         _, alone = peak(place, pair(backwards[0]))
         for starts in (backwards, anywhere):

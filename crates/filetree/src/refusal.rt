@@ -94,8 +94,8 @@ pub enum Refusal {
     HybridPieces,
     /// Memory was refused.
     NoMemory,
-    /// The path is there already, or one of two paths is a prefix of the other. It is a draft's
-    /// answer, and no call gives it yet.
+    /// The path is there already, or one of two paths is a prefix of the other. It is an answer of
+    /// drafts alone.
     PathClash,
     /// The sink failed. It is a draft's answer, and no call gives it yet.
     Write,

@@ -16,4 +16,5 @@ mod version1;
 
 pub use laws::{refusal_is_one, torrent_is_not_refused, torrent_is_one, torrent_or_refusal};
 pub use open::MAX_TORRENT;
+pub use roots::Root;
 pub use torrent::{File, Torrent, TreeInfo};

@@ -18,11 +18,13 @@ use std::marker::Model;
 /// The most pieces that the files of a torrent have in all.
 const MAX_PIECES: u64 = 4_294_967_295;
 
-/// A root, and the length of its files in bytes.
+/// A distinct root of a torrent's files, as what is said of trees names it.
 #[derive(Clone, Copy)]
-pub(crate) struct Root {
-    pub(crate) root: Hash,
-    pub(crate) length: u64,
+pub struct Root {
+    /// The pieces root.
+    pub root: Hash,
+    /// The length of its files in bytes.
+    pub length: u64,
 }
 
 /// The roots in the order of first use, and the number of each. Contracts see them as the list.

@@ -1,0 +1,13 @@
+//! Drafts of torrents (BEP 52, "metainfo files"; BEP 3; BEP 47), to which files are added.
+#![tactic(auto)]
+
+mod add;
+mod component;
+mod draft;
+mod laws;
+mod path_order;
+#[cfg(test)]
+mod tests;
+
+pub use draft::Draft;
+pub use laws::draft_describes;

@@ -1,0 +1,3 @@
+//! Files that are added to a draft.
+
+mod adding;
