@@ -85,8 +85,8 @@ VerifiesTrueBlock S index begin bytes r =
     → IsKnown (look p.in_file.state.known) 0 p.number → (r ≡ Ok (p.file, p.number))
     ⊎ Collision (whole f) (look p.in_file.state.known)
 
--- what is true is taken: hashes and answers are stored and blocks verified, with these reservations,
--- and no blocks of a file are refused whole
+-- what is true is taken: hashes and answers are stored and blocks verified, with these
+-- reservations, and no blocks of a file are refused whole
 abbrev pub TakesWhatIsTrue : SessionSeen → Message → Verdict → Type 0
 TakesWhatIsTrue S (message.Hashes ask hashes) (verdict.Stored c) =
     StoresTrueHashes S ask hashes.now (Ok c) × StoresAnswers S ask hashes.now (Ok c)

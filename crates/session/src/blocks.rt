@@ -26,13 +26,23 @@ impl Model for Blocks {
 
     ghost Value = { BlocksSeen };
 
-    ghost view = { λ b. record { file = b.file; first = b.first; refusals = take b.count b.refusals } };
+    ghost view = { λ b. record {
+      file = b.file;
+      first = b.first;
+      refusals = take b.count b.refusals;
+    } };
 
     ghost invariant = { λ b. IsArrayOf b.refusals b.count b.first };
 
-    ghost inverse = { λ v. record { file = v.file; first = v.first; count = length v.refusals; refusals = padded v.refusals } };
+    ghost inverse = { λ v. record {
+      file = v.file;
+      first = v.first;
+      count = length v.refusals;
+      refusals = padded v.refusals;
+    } };
 
-    ghost inverse_ok = { λ b h. ap₂ (λ n cells. record b { count = n; refusals = cells }) h.count_is h.cells_are };
+    ghost inverse_ok = { λ b h. ap₂ (λ n cells. record b { count = n; refusals = cells })
+        h.count_is h.cells_are };
 }
 
 impl Blocks {

@@ -2,8 +2,8 @@
 //!
 //! What is known of a tree is always *closed*: each known place stands with its sibling and its
 //! parent, up to the root (`IsClosed` in `partial_tree`, with a picture in its `tree.rt`). That is
-//! why a verified block is the block: `IsFileBlock` in `specs/Session.antt` says what is promised, and
-//! `block_or_collision` in `partial_tree`'s `proofs/Headline.antt` proves it.
+//! why a verified block is the block: `IsFileBlock` in `specs/Session.antt` says what is promised,
+//! and `block_or_collision` in `partial_tree`'s `proofs/Headline.antt` proves it.
 
 ghost use Rattle.std.specs.Prelude.{◌≡◌, ◌<◌, ◌≤◌, ◌↔◌, IfOk, IfErr, OnErr, IsTrue, length, slice_get, ◌*◌, ◌≤◌, Some};
 ghost use Rattle.std.specs.List.{All};
@@ -168,7 +168,8 @@ impl<'t, N: NodeMap> Session<'t, N> {
             (λ p. IsVerified self.old index begin block.now p.0 p.1 self.new) }
         ensures refused { IfErr result (λ r. IsBlockRefused self.old index begin block.now r
             × (self.new ≡ self.old)) }
-        ensures verified_is_the_block { IfOk result (λ p. IsBlock self.old index begin block.now p.0 p.1) }
+        ensures verified_is_the_block { IfOk result
+            (λ p. IsBlock self.old index begin block.now p.0 p.1) }
         ensures keeps_known { KeepsKnown self.old self.new }
         ensures verifies_true_block { VerifiesTrueBlock self.old index begin block.now result }
     {
@@ -376,7 +377,8 @@ impl<'t, N: NodeMap> Session<'t, N> {
     /// answer or two inputs with one digest are named. Room for the verdicts is made first; if
     /// memory is refused for it, the session is unchanged.
     pub fn run(&mut self, messages: &[Message<'_>]) -> Result<Vec<Verdict>, NoMemory>
-        ensures verified_is_the_block { IfOk result (λ vs. Chain IsSafeStep self.old messages.now vs.items self.new) }
+        ensures verified_is_the_block { IfOk result
+            (λ vs. Chain IsSafeStep self.old messages.now vs.items self.new) }
         ensures gaps { IfOk result (λ _. HasNoMoreGaps self.old self.new) }
         ensures round { IfOk result
             (λ vs. RoundLeavesFewer self.old messages.now vs.items self.new) }
