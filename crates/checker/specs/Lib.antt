@@ -22,3 +22,5 @@ pub use Rattle.records.specs.Answering
 pub use Rattle.records.specs.Replay
 pub use Rattle.records.specs.ReplayLines
 pub use Rattle.records.specs.Outcome
+pub use Rattle.seeding.specs.Leaves
+pub use Rattle.seeding.specs.Seeding

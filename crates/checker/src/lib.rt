@@ -7,3 +7,4 @@ pub use folders::{
 };
 pub use lines::{Fault, fault_line, refusal_line, show};
 pub use records::{Ending, Outcome, Told, replay};
+pub use seeding::{SeedFault, seed};

@@ -20,7 +20,7 @@ use crate::file_check::FileCheck;
 use crate::report::{FileVerdict, Report};
 use crate::shelf::Shelf;
 use crate::stream::Stream;
-use crate::take_all::take_all;
+use crate::taking::take_all;
 use benc::{DeviceFault, Source};
 use hashtree::{Hash, PieceCheck, Shape};
 use metainfo::{File, Torrent, TreeInfo};

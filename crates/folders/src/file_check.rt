@@ -2,7 +2,7 @@
 ghost use Rattle.std.specs.Prelude.{◌≡◌};
 
 use crate::stream::Stream;
-use crate::take_all::Taker;
+use crate::taking::Taker;
 use hashtree::PieceCheck;
 
 /// The check of a file's tree and the version 1 stream, fed together.

@@ -11,7 +11,7 @@ mod root;
 mod shelf;
 mod shelf_fault;
 mod stream;
-mod take_all;
+mod taking;
 
 pub use checking::check;
 pub use mem_shelf::{MemFile, MemShelf};
@@ -21,3 +21,4 @@ pub use root::{RootFault, root_line};
 pub use shelf::Shelf;
 pub use shelf_fault::ShelfFault;
 pub use std::alloc::AllocError as NoMemory;
+pub use taking::{Taker, take_all};

@@ -5,7 +5,7 @@ ghost use Rattle.folders.specs.Reading.{IsReadingOf};
 ghost use Rattle.folders.specs.Root.{Blames, root_line_of};
 ghost use Rattle.folders.specs.TakeAll.{IsReadWithin};
 
-use crate::take_all::{Taker, take_all};
+use crate::taking::{Taker, take_all};
 use benc::{DeviceFault, Sink, Source};
 use hashtree::{Hash, MAX_LENGTH, RootBuilder};
 use lines::{Line, write_line};

@@ -121,7 +121,7 @@ refusal_is_one value fault one_fault b r s one other = elim one [
   ]
 ]
 
--- a refusal is want of memory, or another one
+-- a refusal is out of memory, or another one
 memory_or_not : (r : Refusal) → (r ≡ refusals.NoMemory) ⊎ (r ≢ refusals.NoMemory)
 memory_or_not refusals.TooLarge = inr (λ is. cc)
 memory_or_not (refusals.NotBencode f) = inr (λ is. cc)

@@ -1,5 +1,5 @@
 -- Roots in the order of first use.
-use Rattle.std.proofs.Common.{◌≡◌, ◌≢◌, ℕ, zero, suc, ◌+◌, ◌<◌, ◌≤◌, drop, get_or, Bool, true, false, cond, List, [], ◌∷◌, ◌++◌, length, map, Option, Some, None, option_map, ◌⊎◌, inl, inr, refl, sym, ap, subst, ◌∙◌}
+use Rattle.std.proofs.Common.{◌≡◌, ◌≢◌, ℕ, zero, suc, ◌+◌, ◌<◌, ◌≤◌, drop, get_or, Bool, true, false, cond, List, [], ◌∷◌, ◌++◌, length, Option, Some, None, option_map, ◌⊎◌, inl, inr, refl, sym, ap, subst, ◌∙◌}
 use Rattle.std.specs.Prelude.{◌==◌, slice_get, fold, take, if◌then◌else◌}
 use Rattle.std.specs.Cmp.Lexicographic.{slice_cmp}
 use Rattle.std.specs.Ordering.{nat_cmp, is_eq}
@@ -8,8 +8,7 @@ use Rattle.std.specs.declared.cmp.Ordering.TheVariants.{Less, Equal, Greater}
 use Rattle.std.specs.Str.{bytes_eq}
 use Rattle.std.proofs.lemmas.Cmp.{nat_list_cmp_total, tied_itself}
 use Rattle.std.proofs.lemmas.Map.Lookups.{exact_bytes}
-use Rattle.std.proofs.lemmas.Option.{slice_get_within, slice_get-map, slice_get_read}
-use Rattle.std.proofs.lemmas.Slice.Eq.{bytes_eq-Decides}
+use Rattle.std.proofs.lemmas.Option.{slice_get_within, slice_get_read}
 use Rattle.filetree.specs.declared.files.ListedFile.{ListedFile}
 use Rattle.filetree.proofs.Bytes.{equal_bytes, same_bytes, true_or_false}
 use Rattle.opening.specs.Trees.{IsIn, place_in, with_root, with_file, roots_in, IsReused, pieces_in}
@@ -19,7 +18,7 @@ use Rattle.opening.specs.Rooted.{IsRootAt, AreRoots, entries_from}
 use Rattle.opening.specs.Description.{FileEntry}
 use Rattle.std.specs.Prelude.{option_and_then}
 use Rattle.std.proofs.Common.{append_assoc}
-use Rattle.std.proofs.lemmas.List.{drop_more, drop_all, take_more, map-append, take-append-drop}
+use Rattle.std.proofs.lemmas.List.{drop_more, drop_all, take_more, take-append-drop}
 use Rattle.std.proofs.lemmas.List.Sums.{sum_by-cons}
 
 behind_one : (o : Option ℕ) (n : ℕ) → option_map suc o ≡ Some n → (m : ℕ) × (o ≡ Some m) × (n ≡ suc m)

@@ -1,7 +1,10 @@
 -- A key among ascending keys.
 use Rattle.std.proofs.Common.{◌≡◌, ℕ, zero, suc, ◌<◌, ◌≤◌, true, List, [], ◌∷◌, length, get_or, Some, None, inl, inr, refl, sym, ap, subst, ◌∙◌, arith}
 use Rattle.std.specs.Cmp.Lexicographic.{slice_cmp}
-use Rattle.std.specs.Ordering.{nat_cmp, ordering_reverse}
+use Rattle.std.specs.List.Sorted.{IsNonDecreasingBy}
+use Rattle.std.specs.Ordering.{nat_cmp, ordering_index}
+use Rattle.std.specs.declared.cmp.Ordering.{Ordering}
+use Rattle.std.proofs.lemmas.Map.Lookups.{exact_bytes}
 use Rattle.std.proofs.lemmas.Bool.{cases_lt}
 use Rattle.std.specs.declared.cmp.Ordering.TheVariants.{Less, Equal, Greater}
 use Rattle.std.specs.Str.{bytes_eq}
@@ -64,22 +67,22 @@ not_greater x y more same =
 pub first_at : (xs : List Pair) (i : ℕ) (d : Pair) (k : List ℕ) → Ascends (pairs_view xs) → i < length xs → (get_or xs i d).key.now ≡ k → under k (pairs_view xs) ≡ Some (view (get_or xs i d).value)
 first_at xs i d k up lt is = under_some xs i d k lt is (λ j less same. not_less (get_or xs j d).key.now (get_or xs i d).key.now (rising xs j i d up less lt) (same ∙ sym is))
 
-pub below_middle : (xs : List Pair) (i j : ℕ) (d : Pair) (k : List ℕ) → Ascends (pairs_view xs) → i ≤ j → j < length xs → slice_cmp nat_cmp (get_or xs j d).key.now k ≡ Less → slice_cmp nat_cmp (get_or xs i d).key.now k ≡ Less
-below_middle xs i j d k up le lt less =
-    elim (cases_lt i j) [
-      | inl before ↦ nat_list_cmp_total.trans (get_or xs i d).key.now (get_or xs j d).key.now k (rising xs i j d up before lt) less
-      | inr same ↦ let one : j ≡ i = omega (arith, le, same) in subst (λ n. slice_cmp nat_cmp (get_or xs n d).key.now k ≡ Less) one less
-    ]
+-- a lesser key stands no later among the answers of a search
+index_rises : (r a b : List ℕ) → slice_cmp nat_cmp a b ≡ Less → ordering_index (slice_cmp nat_cmp a r) ≤ ordering_index (slice_cmp nat_cmp b r)
+index_rises r a b less = by (slice_cmp nat_cmp a r) (slice_cmp nat_cmp b r) refl refl
+  where
+    by : (o u : Ordering) → slice_cmp nat_cmp a r ≡ o → slice_cmp nat_cmp b r ≡ u → ordering_index (slice_cmp nat_cmp a r) ≤ ordering_index (slice_cmp nat_cmp b r)
+    by Less u e f = rw e (omega arith)
+    by Equal Less e f = let bad : slice_cmp nat_cmp a r ≡ Less = nat_list_cmp_total.trans a b r less f in cc
+    by Equal Equal e f = rw (e, f) (omega arith)
+    by Equal Greater e f = rw (e, f) (omega arith)
+    by Greater Less e f = let bad : slice_cmp nat_cmp a r ≡ Less = nat_list_cmp_total.trans a b r less f in cc
+    by Greater Equal e f = let bad : slice_cmp nat_cmp a r ≡ Less = ap (slice_cmp nat_cmp a) (sym (exact_bytes b r f)) ∙ less in cc
+    by Greater Greater e f = rw (e, f) (omega arith)
 
-reversed : (x y : List ℕ) → slice_cmp nat_cmp x y ≡ Greater → slice_cmp nat_cmp y x ≡ Less
-reversed x y e = nat_list_cmp_total.antisymm y x ∙ ap ordering_reverse e
-
-turned : (x y : List ℕ) → slice_cmp nat_cmp x y ≡ Less → slice_cmp nat_cmp y x ≡ Greater
-turned x y e = nat_list_cmp_total.antisymm y x ∙ ap ordering_reverse e
-
-pub above_middle : (xs : List Pair) (i j : ℕ) (d : Pair) (k : List ℕ) → Ascends (pairs_view xs) → i ≤ j → j < length xs → slice_cmp nat_cmp (get_or xs i d).key.now k ≡ Greater → slice_cmp nat_cmp (get_or xs j d).key.now k ≡ Greater
-above_middle xs i j d k up le lt more =
-    elim (cases_lt i j) [
-      | inl before ↦ turned k (get_or xs j d).key.now (nat_list_cmp_total.trans k (get_or xs i d).key.now (get_or xs j d).key.now (reversed (get_or xs i d).key.now k more) (rising xs i j d up before lt))
-      | inr same ↦ let one : i ≡ j = omega (arith, le, same) in subst (λ n. slice_cmp nat_cmp (get_or xs n d).key.now k ≡ Greater) one more
-    ]
+-- among ascending keys a search meets first the lesser ones, then the key, then the greater
+pub search_rises : (xs : List Pair) (k : List ℕ) → Ascends (pairs_view xs) → IsNonDecreasingBy (λ (p : Pair). ordering_index (slice_cmp nat_cmp p.key.now k)) xs
+search_rises xs k up i j d le within = elim (cases_lt i j) [
+  | inl before ↦ index_rises k (get_or xs i d).key.now (get_or xs j d).key.now (rising xs i j d up before within)
+  | inr same ↦ let one : j ≡ i = omega (arith, le, same) in rw one (omega arith)
+]

@@ -1,13 +1,10 @@
 -- What the keys of a torrent file tell.
-use Rattle.std.proofs.Common.{◌≡◌, ℤ, List, [], ℕ, Option, None, Some, refl, ap, arith, codes, unwrap_or, Bor}
+use Rattle.std.proofs.Common.{◌≡◌, ℤ, List, ℕ, Some, refl, ap, arith, codes}
 use Rattle.benc.specs.Text.{Fits, IsCanonical}
 use Rattle.benc.specs.Value.{Bencode, dict, int}
-use Rattle.benc.specs.View.{pairs_view}
-use Rattle.benc.specs.declared.value.Pair.{Pair}
 use Rattle.filetree.specs.Dictionary.{get, value_at}
 use Rattle.filetree.proofs.Ascending.{pairs_fit, value_fits}
 use Rattle.opening.specs.Refusals.{file_tree_in, info_in, number_in}
-use Rattle.opening.specs.Steps.{pairs_seen}
 
 pub value_found : (key : List ℕ) (v w : Bencode) → get key v ≡ Some w → value_at key v ≡ w
 value_found key v w is = rw is refl

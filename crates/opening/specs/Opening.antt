@@ -4,12 +4,10 @@ use Rattle.std.specs.Prelude.{◌≡◌, ◌<◌, ◌^◌, ℕ, List, ◌++◌, 
 use Rattle.benc.specs.Value.{Bencode, Pairs, int}
 use Rattle.benc.specs.View.{view, pairs_view}
 use Rattle.filetree.specs.Dictionary.{get}
-use Rattle.filetree.specs.FileTree.{walks}
 use Rattle.filetree.specs.declared.files.ListedFile.{ListedFile}
 use Rattle.opening.specs.PieceLayers.{tree_at}
 use Rattle.filetree.specs.Tests.{Row}
-use Rattle.opening.specs.Refusals.{count_rows, file_tree_in, info_in, kind_rows, layer_rows, layers_in, layers_rows, name_in, number_in, piece_length_in, piece_length_rows, present_rows, top_rows, version_rows}
-use Rattle.filetree.specs.TreeTests.{file_rows, shape_rows}
+use Rattle.opening.specs.Refusals.{count_rows, file_tree_in, info_in, layer_rows, layers_in, name_in, number_in, piece_length_in}
 use Rattle.opening.specs.Rooted.{AreRoots, entries_from}
 use Rattle.opening.specs.Seen.{file_entry, tree_entry}
 use Rattle.opening.specs.Steps.{pairs_seen}

@@ -1,6 +1,6 @@
 -- The tests of a torrent file in their order, each with its answer, and the first that holds. BEP
 -- 52 wants the version told before other faults of the info dictionary.
-use Rattle.std.specs.Prelude.{◌≡◌, ◌≢◌, ℕ, ◌^◌, ◌<◌, ◌≤◌, ◌⊎◌, pos, negsuc, true, false, List, [], ◌∷◌, ◌++◌, length, map, Option, Some, None, is_none, IsTrue, codes}
+use Rattle.std.specs.Prelude.{◌≡◌, ◌≢◌, ℕ, ◌^◌, ◌<◌, ◌≤◌, ◌⊎◌, pos, negsuc, true, List, [], ◌∷◌, ◌++◌, length, map, Option, Some, None, IsTrue, codes}
 use Rattle.std.specs.List.{list_any}
 use Rattle.std.specs.Str.{IsUtf8}
 use Rattle.benc.specs.Value.{Bencode, int, text, list, dict, Pairs}
@@ -11,7 +11,7 @@ use Rattle.filetree.specs.Dictionary.{get, value_at, pairs_in, as_int, as_text, 
 use Rattle.pieces.specs.Pieces.{IsPieceLength}
 use Rattle.filetree.specs.Tests.{Row, First, NoneHolds}
 use Rattle.filetree.specs.TreeTests.{shape_rows, file_rows}
-use Rattle.filetree.specs.FileTree.{Walk, walks, listed, is_directory, HasBadPath, is_symlink, length_at, lacks_root}
+use Rattle.filetree.specs.FileTree.{Walk, walks, listed}
 use Rattle.filetree.specs.declared.files.ListedFile.{ListedFile}
 use Rattle.opening.specs.Trees.{roots_in, pieces_in, IsReused}
 use Rattle.opening.specs.declared.roots.Root.{Root}

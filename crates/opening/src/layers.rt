@@ -11,7 +11,6 @@ use crate::roots::Root;
 use benc::{Pair, Value};
 use hashtree::Hash;
 use pieces::PieceLength;
-use std::cmp::Ordering;
 
 /// The pairs of `piece layers`, whose keys ascend.
 #[derive(Drop)]
@@ -73,15 +72,8 @@ fn entry<'v, 'a>(layers: &'v [Pair<'a>], root: &Hash) -> Option<&'v Value<'a>>
     requires { Ascends (pairs_view layers.now) }
     ensures { option_map (λ w. view w.now) result ≡ under root.now (pairs_view layers.now) }
 {
-    let mut low = 0;
-    let mut high = layers.len();
-    'halves: while low < high {
-        let middle = low + (high - low) / 2;
-        match layers[middle].key.cmp(root.as_slice()) {
-            Ordering::Equal => return Some(&layers[middle].value),
-            Ordering::Less => low = middle + 1,
-            Ordering::Greater => high = middle,
-        }
+    match layers.binary_search_by(|pair| pair.key.cmp(root.as_slice())) {
+        Ok(place) => Some(&layers[place].value),
+        Err(_) => None,
     }
-    None
 }

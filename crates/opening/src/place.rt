@@ -17,17 +17,7 @@ fn begun(files: &[File<'_>], piece: u64) -> usize
         → IsPartitionPoint (λ f. f.first_piece ≤ piece)
         (λ f. piece < f.first_piece) files.now result }
 {
-    let mut low = 0;
-    let mut high = files.len();
-    'halves: while low < high {
-        let middle = low + (high - low) / 2;
-        if files[middle].first_piece <= piece {
-            low = middle + 1;
-        } else {
-            high = middle;
-        }
-    }
-    low
+    files.partition_point(|file| file.first_piece <= piece)
 }
 
 /// The file's block that begins at this address.

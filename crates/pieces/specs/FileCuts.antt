@@ -38,8 +38,8 @@ FeedsCuts old new bytes = (piece_length : ℕ) (file : List ℕ)
 
 -- these are the digests of the file that was given
 abbrev pub EndsWithFile : V1Cuts → V1File → Type 0
-EndsWithFile c f =
-    (piece_length : ℕ) (file : List ℕ) → IsFedCuts c piece_length file → IsV1File piece_length file f
+EndsWithFile c f = (piece_length : ℕ) (file : List ℕ)
+    → IsFedCuts c piece_length file → IsV1File piece_length file f
 
 -- ---- memory
 

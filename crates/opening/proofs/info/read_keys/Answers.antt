@@ -1,13 +1,12 @@
-use Rattle.std.proofs.Common.{◌≡◌, ◌≢◌, ◌++◌, Some, sym, ap, ◌∙◌, subst, codes, rules}
-use Rattle.filetree.specs.Dictionary.{get}
+use Rattle.std.proofs.Common.{◌≡◌, ◌++◌, sym, subst, codes}
 use Rattle.std.proofs.lemmas.Result.{err_from_is_err_and}
-use Rattle.benc.specs.Value.{Bencode, int}
+use Rattle.benc.specs.Value.{Bencode}
 use Rattle.benc.specs.View.{view}
 use Rattle.opening.specs.Refusals.{told_rows}
 use Rattle.filetree.specs.Tests.{First, NoneHolds}
-use Rattle.opening.specs.Refusals.{top_rows, layers_rows, piece_length_rows, info_in, piece_length_in, number_in}
+use Rattle.opening.specs.Refusals.{top_rows, layers_rows, info_in}
 use Rattle.filetree.proofs.Tables.{none_both, first_front, first_behind}
-use Rattle.opening.proofs.Told.{value_found, number_found}
+use Rattle.opening.proofs.Told.{value_found}
 use Rattle.opening.proofs.info.read_keys.Goals as goal
 
 pub returns-in_err-tree : goal.returns-in_err-tree

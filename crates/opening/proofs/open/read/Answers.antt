@@ -1,8 +1,8 @@
-use Rattle.std.proofs.Common.{◌≡◌, ℕ, Bool, true, false, codes, map, List, [], refl, sym, ap, subst, ◌∙◌, rules}
+use Rattle.std.proofs.Common.{◌≡◌, ℕ, Bool, true, false, codes, map, List, refl, sym, ap, subst, ◌∙◌, rules}
 use Rattle.std.proofs.lemmas.Result.{err_from_is_err_and}
 use Rattle.sha1.specs.Sha1.{sha1}
 use Rattle.sha2.specs.Sha256.{sha256}
-use Rattle.benc.specs.Text.{Fits, IsCanonical}
+use Rattle.benc.specs.Text.{Fits}
 use Rattle.benc.specs.Value.{Bencode, Pairs, dict, int}
 use Rattle.benc.specs.View.{view, pairs_view}
 use Rattle.filetree.specs.Dictionary.{Ascends}
@@ -15,10 +15,9 @@ use Rattle.filetree.proofs.Tables.{first_behind, first_front, none_both}
 use Rattle.pieces.specs.Pieces.{IsPieceLength}
 use Rattle.opening.specs.Describes.{IsDescribed}
 use Rattle.opening.specs.Layered.{layer_pairs}
-use Rattle.opening.specs.Matching.{FitsStream}
 use Rattle.opening.specs.Opening.{AreKeys}
 use Rattle.opening.specs.Refusals.{head_rows, key_rows}
-use Rattle.opening.specs.Refusals.{file_tree_in, layers_in, number_in, piece_length_in, piece_length_rows}
+use Rattle.opening.specs.Refusals.{layers_in, number_in, piece_length_in, piece_length_rows}
 use Rattle.opening.specs.Seen.{described, file_entry}
 use Rattle.opening.specs.Steps.{pairs_seen}
 use Rattle.opening.specs.declared.info.Keys.{Keys}

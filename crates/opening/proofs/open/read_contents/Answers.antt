@@ -1,4 +1,4 @@
-use Rattle.std.proofs.Common.{map, ap, ◌∙◌, ◌++◌, ◌≡◌, ◌<◌, ◌≤◌, ℕ, zero, suc, List, [], ◌∷◌, length, Some, refl, subst, arith, slice_get, slice_index_or}
+use Rattle.std.proofs.Common.{map, ap, ◌∙◌, ◌≡◌, ◌<◌, ◌≤◌, ℕ, zero, suc, List, [], ◌∷◌, length, Some, refl, subst, arith, slice_get, slice_index_or}
 use Rattle.benc.specs.Value.{Pairs}
 use Rattle.filetree.specs.Tests.{NoneHolds}
 use Rattle.filetree.specs.declared.files.ListedFile.{ListedFile}

@@ -1,4 +1,4 @@
-use Rattle.std.proofs.Common.{refl, inl, inr, arith, ◌≤◌, ◌≡◌, ◌^◌, ◌<◌, nat_le, true, false}
+use Rattle.std.proofs.Common.{inl, inr, arith, ◌≤◌, ◌^◌, ◌<◌}
 use Rattle.std.proofs.lemmas.Result.{err_from_is_err_and}
 use Rattle.opening.specs.Trees.{pieces_in}
 use Rattle.opening.proofs.Rooting.{none_reused, some_files}

@@ -1,6 +1,6 @@
 use Rattle.std.proofs.Common.{◌≡◌, ◌≤◌, ◌<◌, ◌-◌, ◌+◌, ℕ, List, length}
 use Rattle.wire.specs.Reading.{Gave}
-use Rattle.folders.proofs.take_all.take_all.Given as goal
+use Rattle.folders.proofs.taking.take_all.Given as goal
 
 abbrev pub invariant-parts : goal.invariant-parts
 invariant-parts g l = record {

@@ -1,7 +1,7 @@
 use Rattle.std.proofs.Common.{◌≡◌, ◌+◌, ◌-◌, ◌++◌, length, take, drop, ◌∙◌, arith, subst}
 use Rattle.std.proofs.lemmas.List.{length-append, length-take-le, take-append-le}
 use Rattle.wire.proofs.Giving.{Gave-take, Gave-trans}
-use Rattle.folders.proofs.take_all.take_all.Goals as goal
+use Rattle.folders.proofs.taking.take_all.Goals as goal
 
 pub returns-then-count-bound-clause-read : goal.returns-then-count-bound-clause-read
 returns-then-count-bound-clause-read g c =

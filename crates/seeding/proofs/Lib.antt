@@ -1,0 +1,3 @@
+pub mod LeafReads
+pub mod Seeds
+pub mod Trees

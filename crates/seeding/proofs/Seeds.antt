@@ -1,0 +1,127 @@
+-- Seeding, file by file.
+use Rattle.std.proofs.Common.{◌≡◌, ℕ, suc, ◌+◌, ◌<◌, ◌≤◌, ◌++◌, Bool, false, List, [], ◌∷◌, length, take, Option, Some, None, Result, Ok, Err, IfOk, OnErr, refl, sym, ap, ◌∙◌, subst, append_assoc, arith}
+use Rattle.std.specs.Prelude.{slice_get}
+use Rattle.std.proofs.lemmas.List.{append-nil, length_push, length-take-le}
+use Rattle.std.proofs.lemmas.Option.{none-some, slice_get_within, get_or_from_slice_get}
+use Rattle.std.proofs.Math.Seq.{take-suc}
+use Rattle.benc.specs.Device.{SourceSeen, SinkSeen, Sent}
+use Rattle.benc.specs.declared.device.DeviceFault.{DeviceFault}
+use Rattle.benc.proofs.Known.{Appends_nothing}
+use Rattle.benc.proofs.Out.{Sent-append}
+use Rattle.chains.proofs.Chains.{Chain-next}
+use Rattle.metainfo.specs.Description.{FileEntry, TreeEntry}
+use Rattle.node_maps.specs.Digest.{Hash}
+use Rattle.folders.specs.Shelf.{more}
+use Rattle.session.specs.Session.{SessionSeen}
+use Rattle.seeding.specs.Seeding.{Fills, Finds, OpensOnce, SeedStep, SeedsAll, SeedsTree, StopsAt, both, seed_line, seed_lines}
+
+-- ---- lines
+
+lines_more : (fs : List FileEntry) (told : List Bool) (f : FileEntry) (b : Bool) → length told ≡ length fs
+    → seed_lines (fs ++ f ∷ []) (told ++ b ∷ []) ≡ seed_lines fs told ++ seed_line f b
+lines_more [] [] f b same = append-nil (seed_line f b)
+lines_more [] (c ∷ told) f b same = absurd (omega arith)
+lines_more (g ∷ fs) [] f b same = absurd (omega arith)
+lines_more (g ∷ fs) (c ∷ told) f b same =
+    let rest : length told ≡ length fs = omega arith in
+    ap (λ t. seed_line g c ++ t) (lines_more fs told f b rest) ∙ sym (append_assoc (seed_line g c) (seed_lines fs told) (seed_line f b))
+
+-- ---- one file
+
+module _ {S F : Type 0} (opens : S → List (List ℕ) → Result (Option F) DeviceFault → S → Type 0) (closes : S → F → S → Type 0) (faults : S → ℕ)
+    (under : S → List (List ℕ) → Option (Option (List ℕ))) (seen : F → SourceSeen) where
+  -- what was found of a file's leaves, and with how many faults
+  abbrev pub Found : S → FileEntry → TreeEntry → Option (List Hash) → S → Type 0
+  Found s f e leaves s' = (k : ℕ) × (faults s' ≡ more (faults s) k) × Finds (under s f.path) e leaves k
+
+  -- a file's leaves were found
+  pub seeds_filled : {E : Type 0} (r : Result Bool E) (s s' : S) (K K' : SessionSeen) (f : FileEntry) (n : ℕ) (e : TreeEntry) (leaves : List Hash)
+      → slice_get K.torrent.trees n ≡ Some e → e.length ≡ f.length → OpensOnce opens closes seen s f.path (e.length + 1) s' → Found s f e (Some leaves) s'
+      → ((p : List (List ℕ)) → under s' p ≡ under s p) → IfOk r (λ seeded. Fills K n (Some leaves) seeded K')
+      → IfOk r (λ seeded. SeedsTree opens closes faults under seen (both s K) f n seeded (both s' K'))
+  seeds_filled {E} (Ok seeded) s s' K K' f n e leaves tree same visited found kept fills = record {
+    tree = e;
+    tree_is = tree;
+    visited = subst (λ k. OpensOnce opens closes seen s f.path (k + 1) s') same visited;
+    found = Some leaves;
+    fault_count = found.0;
+    counted = found.1;
+    finds = found.2;
+    kept = kept;
+    fills = fills;
+  }
+  seeds_filled {E} (Err x) s s' K K' f n e leaves tree same visited found kept fills = tt
+
+  -- a file's leaves were not found
+  pub seeds_nothing : (s s' : S) (K : SessionSeen) (f : FileEntry) (n : ℕ) (e : TreeEntry) → slice_get K.torrent.trees n ≡ Some e → e.length ≡ f.length
+      → OpensOnce opens closes seen s f.path (e.length + 1) s' → Found s f e None s' → ((p : List (List ℕ)) → under s' p ≡ under s p)
+      → SeedsTree opens closes faults under seen (both s K) f n false (both s' K)
+  seeds_nothing s s' K f n e tree same visited found kept = record {
+    tree = e;
+    tree_is = tree;
+    visited = subst (λ k. OpensOnce opens closes seen s f.path (k + 1) s') same visited;
+    found = None;
+    fault_count = found.0;
+    counted = found.1;
+    finds = found.2;
+    kept = kept;
+    fills = (refl, refl);
+  }
+
+  -- memory was refused while a file was read
+  pub stops_reading : (s s' : S) (K : SessionSeen) (f : FileEntry) (n len : ℕ) → f.tree ≡ Some n → len ≡ f.length → OpensOnce opens closes seen s f.path (len + 1) s'
+      → faults s' ≡ faults s → StopsAt opens closes faults under seen (both s K) f (both s' K)
+  stops_reading s s' K f n len tree same visited counted = record {
+    not_empty = λ is. none-some n (sym is ∙ tree);
+    visited = subst (λ k. OpensOnce opens closes seen s f.path (k + 1) s') same visited;
+    counted = counted;
+    stays = refl;
+  }
+
+  -- memory was refused to fill in its leaves
+  pub stops_filling : {E : Type 0} (r : Result Bool E) (s s' : S) (K K' : SessionSeen) (f : FileEntry) (n : ℕ) (e : TreeEntry) (leaves : List Hash) → f.tree ≡ Some n
+      → e.length ≡ f.length → OpensOnce opens closes seen s f.path (e.length + 1) s' → Found s f e (Some leaves) s' → OnErr r (K' ≡ K)
+      → OnErr r (StopsAt opens closes faults under seen (both s K) f (both s' K'))
+  stops_filling {E} (Ok seeded) s s' K K' f n e leaves tree same visited found stays = tt
+  stops_filling {E} (Err x) s s' K K' f n e leaves tree same visited found stays = record {
+    not_empty = λ is. none-some n (sym is ∙ tree);
+    visited = subst (λ k. OpensOnce opens closes seen s f.path (k + 1) s') same visited;
+    counted = found.1 ∙ ap (more (faults s)) found.2.0;
+    stays = stays;
+  }
+
+  -- ---- all files
+
+  -- the first n files were looked for, and their lines went out
+  pub record InSeed (old new : S × SessionSeen) (report report' : SinkSeen) (files : List FileEntry) (n : ℕ) : Type 0 where
+    pub told : List Bool
+    pub count : length told ≡ n
+    pub run : SeedsAll opens closes faults under seen old (take n files) told new
+    pub sent : Sent report report' (seed_lines (take n files) told)
+
+  pub in_seed_none : (old : S × SessionSeen) (report : SinkSeen) (files : List FileEntry) → InSeed old old report report files 0
+  in_seed_none old report files = record {
+    told = [];
+    count = refl;
+    run = refl;
+    sent = record { bytes = Appends_nothing report.written; faults = refl; flushes = refl };
+  }
+
+  pub in_seed_more : (old mid new : S × SessionSeen) (report between report' : SinkSeen) (files : List FileEntry) (n : ℕ) (f : FileEntry) (seeded : Bool)
+      → slice_get files n ≡ Some f → InSeed old mid report between files n → SeedStep opens closes faults under seen mid f seeded new
+      → Sent between report' (seed_line f seeded) → InSeed old new report report' files (n + 1)
+  in_seed_more old mid new report between report' files n f seeded there so_far step went =
+      let inside : n < length files = slice_get_within files n f there in
+      let at = get_or_from_slice_get files n f f there in
+      let few : n ≤ length files = omega arith in
+      let same : length so_far.told ≡ length (take n files) = so_far.count ∙ sym (length-take-le n files few) in
+      let next : take (n + 1) files ≡ take n files ++ f ∷ [] = (let e : n + 1 ≡ suc n = omega arith in ap (λ k. take k files) e) ∙ take-suc files n f inside ∙ ap (λ g. take n files ++ g ∷ []) at in
+      record {
+        told = so_far.told ++ seeded ∷ [];
+        count = length_push so_far.told seeded ∙ ap (λ k. k + 1) so_far.count;
+        run = Chain-next (SeedStep opens closes faults under seen) old mid new files n so_far.told f seeded inside so_far.run
+            (subst (λ h. SeedStep opens closes faults under seen mid h seeded new) (sym at) step);
+        sent = subst (Sent report report')
+            (sym (ap (λ fs. seed_lines fs (so_far.told ++ seeded ∷ [])) next ∙ lines_more (take n files) so_far.told f seeded same))
+            (Sent-append report between report' (seed_lines (take n files) so_far.told) (seed_line f seeded) so_far.sent went);
+      }

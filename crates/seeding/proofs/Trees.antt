@@ -1,0 +1,30 @@
+-- The tree of a file, where a torrent's trees are looked at.
+use Rattle.std.proofs.Common.{◌≡◌, ℕ, ◌<◌, ◌≤◌, ◌^◌, List, length, map, get_or, Some, option_map, sym, ap, ◌∙◌, subst}
+use Rattle.std.specs.Prelude.{slice_get}
+use Rattle.std.proofs.lemmas.Option.{same_Some, slice_get-get_or, slice_get-map}
+use Rattle.metainfo.specs.Description.{Description, FileEntry, TreeEntry}
+use Rattle.metainfo.specs.Seen.{tree_entry}
+use Rattle.metainfo.specs.Sound.{IsSound}
+use Rattle.metainfo.specs.TreeInfo.{TreeInfo}
+use Rattle.folders.specs.Verdicts.{IsFileOf}
+use Rattle.folders.proofs.Places.{tree_inside}
+
+-- the tree that stands at a file's number: that of the file, of its length, in range
+pub record IsTreeAt (t : Description) (f : FileEntry) (n : ℕ) (e : TreeEntry) : Type 0 where
+  pub there : slice_get t.trees n ≡ Some e
+  pub same : e.length ≡ f.length
+  pub some : 0 < e.length
+  pub small : e.length ≤ 2 ^ 46
+
+pub tree_at : (t : Description) (f : FileEntry) (n : ℕ) (trees : List TreeInfo) (d : TreeInfo) → map tree_entry trees ≡ t.trees → IsSound t → IsFileOf t f
+    → f.tree ≡ Some n → (n < length trees) × IsTreeAt t f n (tree_entry (get_or trees n d))
+tree_at t f n trees d is sound file at =
+    let fine = sound.files file.0 f file.1 in
+    let inside = tree_inside t f n trees is fine at in
+    let e : TreeEntry = tree_entry (get_or trees n d) in
+    let there : slice_get t.trees n ≡ Some e =
+    ap (λ l. slice_get l n) (sym is) ∙ slice_get-map tree_entry trees n ∙ ap (option_map tree_entry) (slice_get-get_or trees n d inside) in
+    let tree = fine.tree_there n at in
+    let same : tree.0 ≡ e = same_Some tree.0 e (sym tree.1 ∙ there) in
+    let good = sound.trees n e there in
+    (inside, record { there = there; same = subst (λ (x : TreeEntry). x.length ≡ f.length) same tree.2; some = good.some; small = good.bound })

@@ -1,0 +1,4 @@
+-- What contracts of seeding a session from a shelf cite.
+pub mod Leaves
+pub mod LeavesLaws
+pub mod Seeding

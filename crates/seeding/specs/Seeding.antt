@@ -1,0 +1,188 @@
+-- What seeding a session from a shelf does: to each file of its torrent once, in order.
+use Rattle.std.specs.Prelude.{◌≡◌, ◌≢◌, ◌⊎◌, ℕ, ◌+◌, ◌++◌, Bool, true, false, List, [], ◌∷◌, take, slice_get, codes, Option, Some, None, Result, Ok, Err}
+use Rattle.std.specs.Io.KnownBytes.{Appends}
+use Rattle.benc.specs.Device.{SourceSeen, SinkSeen, Sent, Broke, SentAndFlushed, one_more}
+use Rattle.benc.specs.declared.device.DeviceFault.{DeviceFault}
+use Rattle.chains.specs.Chain.{Chain}
+use Rattle.hashtree.specs.Tree.{layer_of}
+use Rattle.lines.specs.Text.{path_text}
+use Rattle.metainfo.specs.Description.{FileEntry, TreeEntry}
+use Rattle.node_maps.specs.Digest.{Hash}
+use Rattle.folders.specs.Folder.{Fits}
+use Rattle.folders.specs.Shelf.{more}
+use Rattle.folders.specs.TakeAll.{IsReadWithin}
+use Rattle.folders.specs.Verdicts.{Agrees}
+use Rattle.partial_tree.specs.declared.refusal.HashRefusal.{HashRefusal}
+use Rattle.partial_tree.specs.declared.refusal.HashRefusal.TheVariants.{NoMemory}
+use Rattle.session.specs.Session.{IsFilled, IsFillRefused, SessionSeen}
+use Rattle.seeding.specs.declared.seed_fault.SeedFault.{SeedFault}
+use Rattle.seeding.specs.declared.seed_fault.SeedFault.TheVariants as fault
+
+-- ---- the shelf
+
+-- What follows an opening that was answered so: a file was read, no more bytes than these, and
+-- handed back; else the shelf stays.
+abbrev pub HandsBack : {S F : Type 0} → (S → F → S → Type 0) → (F → SourceSeen) → ℕ → S
+    → Result (Option F) DeviceFault → S → Type 0
+HandsBack closes seen bound s (Ok (Some file)) s' =
+    (read : _) × IsReadWithin bound (seen file) (seen read) × closes s read s'
+HandsBack closes seen bound s (Ok None) s' = s' ≡ s
+HandsBack closes seen bound s (Err fault) s' = s' ≡ s
+
+-- the path was opened once, and no more bytes than these were read. `opens`, `closes` and `seen`
+-- are those of the shelf's type and of its files.
+pub record OpensOnce {S F : Type 0}
+    (opens : S → List (List ℕ) → Result (Option F) DeviceFault → S → Type 0)
+    (closes : S → F → S → Type 0) (seen : F → SourceSeen)
+    (s : S) (path : List (List ℕ)) (bound : ℕ) (s' : S) : Type 0 where
+  pub answer : Result (Option F) DeviceFault
+  pub after : S
+  pub opened : opens s path answer after
+  pub follows : HandsBack closes seen bound after answer s'
+
+-- what stands at a path does not fit the tree: nothing, or other bytes
+abbrev pub DoesNotFit : TreeEntry → Option (List ℕ) → Type 0
+DoesNotFit e content = (bytes : List ℕ) → content ≡ Some bytes → ¬ Fits e bytes
+
+-- What was found at a path of which the shelf tells this, with so many faults: the leaves of a
+-- content that fits the tree; or a content that does not, or a fault.
+abbrev pub Finds : Option (Option (List ℕ)) → TreeEntry → Option (List Hash) → ℕ → Type 0
+Finds told e (Some leaves) faults = (faults ≡ 0) × (bytes : List ℕ) × Agrees told (Some bytes)
+    × Fits e bytes × (leaves ≡ layer_of bytes 0)
+Finds told e None faults = (faults ≡ 1)
+    ⊎ ((faults ≡ 0) × (content : Option (List ℕ)) × Agrees told content × DoesNotFit e content)
+
+-- ---- the session
+
+-- The leaves of tree n were filled in, or they were refused, and not out of memory; a file whose
+-- leaves were not found is not seeded.
+abbrev pub Fills : SessionSeen → ℕ → Option (List Hash) → Bool → SessionSeen → Type 0
+Fills S n (Some leaves) true S' = (count : ℕ) × IsFilled S n 0 leaves count S'
+Fills S n (Some leaves) false S' =
+    (r : HashRefusal) × (r ≢ NoMemory) × IsFillRefused S n 0 leaves r × (S' ≡ S)
+Fills S n None seeded S' = (seeded ≡ false) × (S' ≡ S)
+
+-- ---- lines
+
+abbrev pub seed_words : Bool → List ℕ
+seed_words true = codes "seeded "
+seed_words false = codes "not seeded "
+
+-- the line of a file
+abbrev pub seed_line : FileEntry → Bool → List ℕ
+seed_line f seeded = seed_words seeded ++ (path_text f.path ++ codes "\n")
+
+-- the lines of files of which this is told
+abbrev pub seed_lines : List FileEntry → List Bool → List ℕ
+seed_lines [] told = []
+seed_lines (f ∷ fs) [] = []
+seed_lines (f ∷ fs) (seeded ∷ told) = seed_line f seeded ++ seed_lines fs told
+
+-- all lines went out, and the flush failed
+pub record Unflushed (old new : SinkSeen) (text : List ℕ) : Type 0 where
+  pub bytes : Appends old.written new.written text
+  pub faults : new.faults ≡ one_more old.faults
+  pub flushes : new.flushes ≡ one_more old.flushes
+
+-- a shelf and a session
+abbrev pub both : {S : Type 0} → S → SessionSeen → S × SessionSeen
+both s K = (s, K)
+
+-- `opens`, `closes`, `faults` and `under` are those of the shelf's type, `seen` that of its files
+module _ {S F : Type 0} (opens : S → List (List ℕ) → Result (Option F) DeviceFault → S → Type 0)
+    (closes : S → F → S → Type 0) (faults : S → ℕ)
+    (under : S → List (List ℕ) → Option (Option (List ℕ))) (seen : F → SourceSeen) where
+  -- ---- one file
+
+  -- a file of tree n was looked for on the shelf, and its leaves were filled in if it is whole
+  pub record SeedsTree (old : S × SessionSeen) (f : FileEntry) (n : ℕ) (seeded : Bool)
+      (new : S × SessionSeen) : Type 0 where
+    pub tree : TreeEntry
+    pub tree_is : slice_get old.1.torrent.trees n ≡ Some tree
+    pub visited : OpensOnce opens closes seen old.0 f.path (f.length + 1) new.0
+    pub found : Option (List Hash)
+    pub fault_count : ℕ
+    pub counted : faults new.0 ≡ more (faults old.0) fault_count
+    pub finds : Finds (under old.0 f.path) tree found fault_count
+    pub kept : (p : List (List ℕ)) → under new.0 p ≡ under old.0 p
+    pub fills : Fills old.1 n found seeded new.1
+
+  -- the same by the file's tree; an empty file has none: it is not seeded, and not opened
+  abbrev pub SeedsFile : S × SessionSeen → FileEntry → Option ℕ → Bool → S × SessionSeen → Type 0
+  SeedsFile old f None seeded new = (seeded ≡ false) × (new.0 ≡ old.0) × (new.1 ≡ old.1)
+  SeedsFile old f (Some n) seeded new = SeedsTree old f n seeded new
+
+  -- one file was seeded, or not
+  abbrev pub SeedStep : S × SessionSeen → FileEntry → Bool → S × SessionSeen → Type 0
+  SeedStep old f seeded new = SeedsFile old f f.tree seeded new
+
+  -- memory was refused for a file that is not empty: it was handed back, and the session stays
+  pub record StopsAt (old : S × SessionSeen) (f : FileEntry) (new : S × SessionSeen) : Type 0 where
+    pub not_empty : f.tree ≢ None
+    pub visited : OpensOnce opens closes seen old.0 f.path (f.length + 1) new.0
+    pub counted : faults new.0 ≡ faults old.0
+    pub stays : new.1 ≡ old.1
+
+  -- ---- all files
+
+  -- each file was looked for, and this is told of each
+  abbrev pub SeedsAll : S × SessionSeen → List FileEntry → List Bool → S × SessionSeen → Type 0
+  SeedsAll old files told new = Chain SeedStep old files told new
+
+  -- the lines of the files went out
+  pub record SeedsWhole (old new : S × SessionSeen) (report report' : SinkSeen) : Type 0 where
+    pub told : List Bool
+    pub run : SeedsAll old old.1.torrent.files told new
+    pub sent : Sent report report' (seed_lines old.1.torrent.files told)
+
+  -- and one flush
+  pub record IsSeeded (old new : S × SessionSeen) (report report' : SinkSeen) : Type 0 where
+    pub told : List Bool
+    pub run : SeedsAll old old.1.torrent.files told new
+    pub sent : SentAndFlushed report report' (seed_lines old.1.torrent.files told)
+
+  -- memory was refused for a file, after the lines of those before it
+  pub record IsOutOfMemory (old new : S × SessionSeen) (report report' : SinkSeen) : Type 0 where
+    pub told : List Bool
+    pub count : ℕ
+    pub file : FileEntry
+    pub file_is : slice_get old.1.torrent.files count ≡ Some file
+    pub mid : S × SessionSeen
+    pub run : SeedsAll old (take count old.1.torrent.files) told mid
+    pub stops : StopsAt mid file new
+    pub sent : Sent report report' (seed_lines (take count old.1.torrent.files) told)
+
+  -- the line of a file broke off, after those before it
+  pub record IsCutInLine (old new : S × SessionSeen) (report report' : SinkSeen) : Type 0 where
+    pub told : List Bool
+    pub count : ℕ
+    pub file : FileEntry
+    pub file_is : slice_get old.1.torrent.files count ≡ Some file
+    pub seeded : Bool
+    pub between : S × SessionSeen
+    pub run : SeedsAll old (take count old.1.torrent.files) told between
+    pub last : SeedStep between file seeded new
+    pub mid : SinkSeen
+    pub sent : Sent report mid (seed_lines (take count old.1.torrent.files) told)
+    pub broke : Broke mid report' (seed_line file seeded)
+
+  -- all lines went out, and the flush failed
+  pub record IsCutInFlush (old new : S × SessionSeen) (report report' : SinkSeen) : Type 0 where
+    pub told : List Bool
+    pub run : SeedsAll old old.1.torrent.files told new
+    pub sent : Unflushed report report' (seed_lines old.1.torrent.files told)
+
+  -- what is left of it before the flush
+  abbrev pub SeedsFiles : S × SessionSeen → S × SessionSeen → SinkSeen → SinkSeen
+      → Result (Unit {0}) SeedFault → Type 0
+  SeedsFiles old new report report' (Ok u) = SeedsWhole old new report report'
+  SeedsFiles old new report report' (Err fault.NoMemory) = IsOutOfMemory old new report report'
+  SeedsFiles old new report report' (Err fault.Write) = IsCutInLine old new report report'
+
+  -- what `seed` did, by its answer
+  abbrev pub Seeds : S × SessionSeen → S × SessionSeen → SinkSeen → SinkSeen
+      → Result (Unit {0}) SeedFault → Type 0
+  Seeds old new report report' (Ok u) = IsSeeded old new report report'
+  Seeds old new report report' (Err fault.NoMemory) = IsOutOfMemory old new report report'
+  Seeds old new report report' (Err fault.Write) =
+      IsCutInLine old new report report' ⊎ IsCutInFlush old new report report'

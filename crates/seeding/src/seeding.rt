@@ -1,0 +1,203 @@
+//! The seeding of a session: its files one after the other.
+ghost use Rattle.std.specs.Prelude.{◌≡◌, ◌<◌, ◌≤◌, ◌+◌, ◌^◌, ℕ, List, Some, length, option_map, slice_get, IfOk, OnErr};
+ghost use Rattle.benc.specs.Device.{Wrote};
+ghost use Rattle.metainfo.specs.Seen.{file_entry, tree_entry};
+ghost use Rattle.folders.specs.Shelf.{more};
+ghost use Rattle.folders.specs.Verdicts.{IsFileOf};
+ghost use Rattle.seeding.specs.Seeding.{Fills, Finds, OpensOnce, SeedStep, Seeds, SeedsFiles, SeedsTree, StopsAt, both, seed_line, seed_words};
+
+use crate::leaves::{ReadFault, read_leaves};
+use crate::seed_fault::SeedFault;
+use benc::{DeviceFault, Sink, write_all};
+use folders::Shelf;
+use hashtree::{Hash, NoMemory};
+use lines::write_path;
+use metainfo::{File, TreeInfo};
+use session::{HashRefusal, NodeMap, Session};
+use std::alloc::Global;
+
+/// Fills in the leaves of each file of the session's torrent that the shelf holds whole, and writes
+/// a line for each file, in order: `seeded PATH`, or `not seeded PATH` for a file that is empty,
+/// missing, unreadable, of another length or another root, or whose leaves differ from what is
+/// known. At last it flushes once. Nothing is marked.
+///
+/// Each file that is not empty is opened once, read once, to its end or to one byte past its stated
+/// length, and handed back; the shelf's count of failures grows by one for each that was
+/// unreadable.
+///
+/// After a fault the files before it stay filled, and their lines were written: `NoMemory` if
+/// memory for the leaves of a file was refused, which then is not filled, and `Write` if the report
+/// failed, in the line of a file that may be filled, or at the flush.
+pub fn seed<N: NodeMap, S: Shelf, W: Sink>(
+    alloc: Global,
+    session: &mut Session<'_, N>,
+    shelf: &mut S,
+    report: &mut W,
+) -> Result<(), SeedFault>
+    ensures { Seeds S.opens S.closes S.faults S.under S.File.seen
+        (both shelf.old session.old) (both shelf.new session.new)
+        (W.seen report.old) (W.seen report.new) result }
+{
+    seed_files(alloc, session, shelf, report)?;
+    match report.flush() {
+        Ok(()) => Ok(()),
+        Err(_) => Err(SeedFault::Write),
+    }
+}
+
+// Seeds from each file in turn, and writes its line.
+fn seed_files<N: NodeMap, S: Shelf, W: Sink>(
+    alloc: Global,
+    session: &mut Session<'_, N>,
+    shelf: &mut S,
+    report: &mut W,
+) -> Result<(), SeedFault>
+    ensures { SeedsFiles S.opens S.closes S.faults S.under S.File.seen
+        (both shelf.old session.old) (both shelf.new session.new)
+        (W.seen report.old) (W.seen report.new) result }
+{
+    let torrent = session.torrent();
+    let entries = torrent.files();
+    'files: for file in entries {
+        let Ok(seeded) = seed_file(alloc, session, shelf, file) else {
+            return Err(SeedFault::NoMemory);
+        };
+        let Ok(()) = write_line_of(report, file, seeded) else {
+            return Err(SeedFault::Write);
+        };
+    }
+    Ok(())
+}
+
+// Seeds from one file, and tells whether it was seeded.
+fn seed_file<N: NodeMap, S: Shelf>(
+    alloc: Global,
+    session: &mut Session<'_, N>,
+    shelf: &mut S,
+    file: &File<'_>,
+) -> Result<bool, NoMemory>
+    requires { IsFileOf session.old.torrent (file_entry file.now) }
+    ensures seeds { IfOk result (λ seeded. SeedStep S.opens S.closes S.faults S.under S.File.seen
+        (both shelf.old session.old) (file_entry file.now) seeded (both shelf.new session.new)) }
+    ensures no_memory { OnErr result (StopsAt S.opens S.closes S.faults S.under S.File.seen
+        (both shelf.old session.old) (file_entry file.now) (both shelf.new session.new)) }
+    ensures torrent { session.new.torrent ≡ session.old.torrent }
+{
+    let torrent = session.torrent();
+    torrent.sound();
+    match file.tree {
+        Some(number) => {
+            seed_tree(
+                alloc,
+                session,
+                shelf,
+                file,
+                number,
+                &torrent.trees()[number],
+            )
+        }
+        None => Ok(false),
+    }
+}
+
+// Seeds from one file of a tree.
+fn seed_tree<N: NodeMap, S: Shelf>(
+    alloc: Global,
+    session: &mut Session<'_, N>,
+    shelf: &mut S,
+    file: &File<'_>,
+    number: usize,
+    tree: &TreeInfo<'_>,
+) -> Result<bool, NoMemory>
+    requires number { file.now.tree ≡ Some number }
+    requires tree { slice_get session.old.torrent.trees number ≡ Some (tree_entry tree.now) }
+    requires same { tree.now.length ≡ file.now.length }
+    requires some { 0 < tree.now.length }
+    requires small { tree.now.length ≤ 2 ^ 46 }
+    ensures seeds { IfOk result (λ seeded. SeedsTree S.opens S.closes S.faults S.under S.File.seen
+        (both shelf.old session.old) (file_entry file.now) number seeded
+        (both shelf.new session.new)) }
+    ensures no_memory { OnErr result (StopsAt S.opens S.closes S.faults S.under S.File.seen
+        (both shelf.old session.old) (file_entry file.now) (both shelf.new session.new)) }
+    ensures torrent { session.new.torrent ≡ session.old.torrent }
+{
+    let Ok(found) = find_leaves(alloc, shelf, file, tree) else {
+        return Err(NoMemory);
+    };
+    match found {
+        Some(leaves) => fill_leaves(session, number, &leaves),
+        None => Ok(false),
+    }
+}
+
+// Opens a file, reads it and hands it back: its leaves, if its content fits the tree.
+fn find_leaves<S: Shelf>(
+    alloc: Global,
+    shelf: &mut S,
+    file: &File<'_>,
+    tree: &TreeInfo<'_>,
+) -> Result<Option<Vec<Hash>>, NoMemory>
+    requires some { 0 < tree.now.length }
+    requires small { tree.now.length ≤ 2 ^ 46 }
+    ensures visited { OpensOnce S.opens S.closes S.File.seen shelf.old file.now.path
+        (tree.now.length + 1) shelf.new }
+    ensures found { IfOk result (λ leaves. (n : ℕ)
+        × (S.faults shelf.new ≡ more (S.faults shelf.old) n)
+        × Finds (S.under shelf.old file.now.path) (tree_entry tree.now)
+        (option_map (λ v. v.items) leaves) n) }
+    ensures no_memory { OnErr result (S.faults shelf.new ≡ S.faults shelf.old) }
+    ensures kept { (p : List (List ℕ)) → S.under shelf.new p ≡ S.under shelf.old p }
+{
+    match shelf.open(file.path.parts()) {
+        Ok(Some(mut source)) => {
+            let read = read_leaves(alloc, &mut source, tree);
+            shelf.close(source);
+            match read {
+                Ok(leaves) => Ok(leaves),
+                Err(ReadFault::Device) => Ok(None),
+                Err(ReadFault::NoMemory) => Err(NoMemory),
+            }
+        }
+        Ok(None) => Ok(None),
+        Err(_) => Ok(None),
+    }
+}
+
+// Fills in the leaves of a tree, and tells whether they were accepted.
+fn fill_leaves<N: NodeMap>(
+    session: &mut Session<'_, N>,
+    tree: usize,
+    leaves: &[Hash],
+) -> Result<bool, NoMemory>
+    requires { tree < length session.old.torrent.trees }
+    ensures fills { IfOk result
+        (λ seeded. Fills session.old tree (Some leaves.now) seeded session.new) }
+    ensures no_memory { OnErr result (session.new ≡ session.old) }
+    ensures torrent { session.new.torrent ≡ session.old.torrent }
+{
+    match session.fill(tree, 0, leaves) {
+        Ok(_) => Ok(true),
+        Err(HashRefusal::NoMemory) => Err(NoMemory),
+        Err(_) => Ok(false),
+    }
+}
+
+// The line of a file.
+fn write_line_of<W: Sink>(out: &mut W, file: &File<'_>, seeded: bool) -> Result<(), DeviceFault>
+    ensures { Wrote (W.seen out.old) (W.seen out.new) result
+        (seed_line (file_entry file.now) seeded) }
+{
+    write_all(out, words(seeded))?;
+    write_path(out, file.path.parts())?;
+    write_all(out, b"\n")
+}
+
+// What a file's line begins with.
+fn words(seeded: bool) -> &'static [u8]
+    ensures { result.now ≡ seed_words seeded }
+{
+    if seeded { b"seeded " } else { b"not seeded " }
+}
+
+#[cfg(test)]
+mod tests;
