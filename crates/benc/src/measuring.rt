@@ -7,8 +7,8 @@ ghost use Rattle.benc.specs.View.{view, items_view, pairs_view};
 use crate::value::{Pair, Value};
 use itoa::Buffer;
 
-/// The length in bytes of what `encode` would write of a value, canonical or not; `u64::MAX` if it is
-/// longer. It takes no memory.
+/// The length in bytes of what `encode` would write of a value, canonical or not; `u64::MAX` if it
+/// is longer. It takes no memory.
 #[cycle(measure)]
 pub fn spelling_len(v: &Value<'_>) -> u64
     ensures { result ≡ min (length (spelling (view v.now))) (2 ^ 64 - 1) }

@@ -1,12 +1,12 @@
 -- The parts of a record that a source gave, and why no further frame came.
-use Rattle.std.proofs.Common.{◌≡◌, ◌≢◌, ◌⊎◌, ℕ, ◌+◌, ◌^◌, ◌<◌, ◌≤◌, List, [], ◌∷◌, ◌++◌, length, take, get_or, codes, nat_eq, true, false, Option, Some, None, inl, inr, ap, refl, subst, sym, arith, ◌∙◌}
+use Rattle.std.proofs.Common.{◌≡◌, ◌≢◌, ℕ, ◌+◌, ◌^◌, ◌<◌, ◌≤◌, List, [], ◌∷◌, ◌++◌, length, take, get_or, codes, nat_eq, true, false, Option, Some, None, inl, inr, ap, refl, subst, sym, arith, ◌∙◌}
 use Rattle.std.proofs.lemmas.List.{append_assoc, length-append, take_all, take_at}
 use Rattle.std.specs.Cmp.Lexicographic.{pointwise, same_text}
 use Rattle.std.proofs.lemmas.Bool.{false≢true}
 use Rattle.std.specs.Io.KnownBytes.{Consumes, IsAtEnd}
 use Rattle.benc.specs.Device.{SourceSeen}
 use Rattle.wire.specs.declared.direction.Direction.{Direction}
-use Rattle.wire.specs.declared.direction.Direction.TheVariants.{In, Out}
+use Rattle.wire.specs.declared.direction.Direction.TheVariants.{In}
 use Rattle.wire.specs.declared.form.Form.{Form}
 use Rattle.wire.specs.declared.form.Form.TheVariants.{One, Two}
 use Rattle.wire.specs.declared.fault.FrameFault.{FrameFault}
@@ -14,8 +14,8 @@ use Rattle.wire.specs.declared.fault.FrameFault.TheVariants as fault
 use Rattle.wire.specs.Frames.{IsBody, IsPartial, four_bytes, frame}
 use Rattle.wire.specs.Meaning.{IsRightSize}
 use Rattle.wire.specs.Reading.{Gave, GaveFaultless, GaveUntil, CountsRead, StopsShort, StopsInLength, StopsInBody, StopsInFrame}
-use Rattle.wire.specs.Records.{Directed, HasForm, IsCutFrame, MayStand, direction_byte, header, heading, record_frame}
-use Rattle.wire.specs.RecordReading.{Reads, GavePart, GaveFrame, EndsRecord, IsPart, IsKeptHead, IsOtherByte, StopsAt, StopsInRecord, GivesNext, mark}
+use Rattle.wire.specs.Records.{Directed, HasForm, direction_byte, header, record_frame}
+use Rattle.wire.specs.RecordReading.{GavePart, GaveFrame, EndsRecord, StopsAt, StopsInRecord, GivesNext}
 use Rattle.wire.proofs.FourBytes.{length-four_bytes, same_from_four_bytes}
 use Rattle.wire.proofs.Giving.{Gave-trans, Gave-until, Faultless-take, Faultless-trans}
 use Rattle.wire.proofs.Heads.{single}
@@ -95,7 +95,7 @@ ends_later form a b gave end = record { part = later_part form [] a b gave.gave;
 pub ends_first : (a b : SourceSeen) → GaveFaultless a b [] → IsAtEnd b.left → EndsRecord None One a b
 ends_first a b gave end = record { part = first_part [] a b (one_from_short [] (omega arith)) gave.gave; faults = gave.faults; at_end = end }
 
--- a header, in two halves
+-- a header, of which each half was read alone
 pub gave_header : (a b c : SourceSeen) (half : List ℕ) → half ≡ codes "BTH2" → GaveFaultless a b (four_bytes 4294967295) → GaveFaultless b c half → GaveFaultless a c header
 gave_header a b c half is p q = subst (GaveFaultless a c) (ap (λ h. four_bytes 4294967295 ++ h) is ∙ sym longest) (Faultless-trans a b c (four_bytes 4294967295) half p q)
 

@@ -1,5 +1,5 @@
 -- Several frames of one record, one after the other: what a caller's loop needs.
-use Rattle.std.proofs.Common.{◌≡◌, ◌≢◌, ℕ, ◌+◌, ◌*◌, ◌^◌, ◌<◌, ◌≤◌, List, [], ◌∷◌, ◌++◌, length, take, drop, codes, All, Option, Some, None, inl, inr, ap, refl, sym, subst, arith, ◌∙◌}
+use Rattle.std.proofs.Common.{◌≡◌, ◌≢◌, ℕ, ◌+◌, ◌^◌, ◌<◌, ◌≤◌, List, [], ◌∷◌, ◌++◌, length, take, drop, codes, All, Option, Some, None, inl, inr, ap, refl, sym, subst, arith, ◌∙◌}
 use Rattle.std.specs.List.{flat_map}
 use Rattle.std.specs.Io.KnownBytes.{IsAtEnd}
 use Rattle.std.proofs.lemmas.List.{append_assoc, append-nil, length-append, take_at, take-append-le, take-append-drop}
@@ -16,8 +16,8 @@ use Rattle.wire.specs.declared.fault.FrameFault.TheVariants as fault
 use Rattle.wire.specs.Frames.{IsBody, IsPartial, four_bytes, frame}
 use Rattle.wire.specs.Meaning.{IsRightSize}
 use Rattle.wire.specs.Reading.{Gave}
-use Rattle.wire.specs.Records.{Directed, HasForm, IsCut, IsCutFrame, MayStand, RecordFrames, direction_byte, header, heading, record_frame}
-use Rattle.wire.specs.RecordReading.{GavePart, GaveFrame, EndsRecord, IsPart, IsKeptHead, StopsAt}
+use Rattle.wire.specs.Records.{Directed, HasForm, IsCut, MayStand, RecordFrames, direction_byte, header, heading, record_frame}
+use Rattle.wire.specs.RecordReading.{GavePart, GaveFrame, IsPart, IsKeptHead, StopsAt}
 use Rattle.wire.proofs.FourBytes.{same_from_four_bytes}
 use Rattle.wire.proofs.Giving.{Gave-nil, Gave-trans}
 use Rattle.wire.proofs.Meanings.{same_heads}

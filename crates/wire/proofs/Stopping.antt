@@ -1,5 +1,5 @@
 -- Why no frame came.
-use Rattle.std.proofs.Common.{◌≡◌, ◌≢◌, ℕ, ◌+◌, ◌^◌, ◌<◌, List, [], ◌∷◌, ◌++◌, length, Option, Err, IsErrOf, ap, refl, subst, sym, arith, ◌∙◌}
+use Rattle.std.proofs.Common.{◌≡◌, ◌≢◌, ℕ, ◌+◌, ◌^◌, ◌<◌, List, [], ◌∷◌, ◌++◌, length, Err, IsErrOf, ap, refl, subst, sym, arith, ◌∙◌}
 use Rattle.std.specs.Io.KnownBytes.{Keeps}
 use Rattle.std.proofs.lemmas.List.{append-nil, length-append}
 use Rattle.wire.specs.declared.fault.FrameFault.{FrameFault}
@@ -7,7 +7,7 @@ use Rattle.wire.specs.declared.fault.FrameFault.TheVariants as fault
 use Rattle.wire.specs.Frames.{four_bytes}
 use Rattle.benc.specs.Device.{SourceSeen, one_more}
 use Rattle.wire.specs.Meaning.{IsRightSize}
-use Rattle.wire.specs.Reading.{CountsRead, GaveFaultless, GaveUntil, StopsInBody, StopsInFrame, StopsInLength, StopsShort}
+use Rattle.wire.specs.Reading.{CountsRead, GaveFaultless, StopsInBody, StopsInFrame, StopsInLength, StopsShort}
 use Rattle.wire.proofs.FourBytes.{length-four_bytes}
 use Rattle.wire.proofs.Giving.{Failed-at_once, Gave-nil, Gave-until}
 use Rattle.wire.proofs.Partial.{IsPartial-from_short, IsPartial-from_unfinished}

@@ -1,4 +1,4 @@
-use Rattle.std.proofs.Common.{◌≤◌, length, subst, sym, ◌∙◌}
+use Rattle.std.proofs.Common.{◌≤◌, length, subst, sym}
 use Rattle.wire.specs.Reading.{GaveFaultless}
 use Rattle.wire.proofs.Giving.{Faultless-trans, Faultless-take, take-put_more, le-length-put}
 use Rattle.wire.proofs.bytes.read_exact.Goals as goal

@@ -1,4 +1,4 @@
-use Rattle.std.proofs.Common.{◌≡◌, ◌≤◌, ◌-◌, length, take}
+use Rattle.std.proofs.Common.{◌≤◌, ◌-◌, length, take}
 use Rattle.wire.specs.Reading.{GaveFaultless}
 use Rattle.wire.proofs.bytes.read_exact.Given as goal
 

@@ -1,4 +1,4 @@
-use Rattle.std.proofs.Common.{ℕ, ◌≤◌, ◌++◌, length, take, arith, ◌∙◌}
+use Rattle.std.proofs.Common.{ℕ, ◌≤◌, ◌++◌, length, take, arith}
 use Rattle.std.proofs.lemmas.List.{length-append, length-take, length-take-le}
 use Rattle.wire.proofs.Giving.{Faultless-take, Faultless-trans}
 use Rattle.wire.proofs.bytes.skip.Goals as goal

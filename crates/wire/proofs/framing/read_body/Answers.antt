@@ -3,7 +3,6 @@ use Rattle.std.proofs.lemmas.List.{length-append}
 use Rattle.std.proofs.lemmas.Result.{err_from_is_err_and}
 use Rattle.wire.proofs.Heads.{single, length-kept, Holds-kept, Holds-skipped}
 use Rattle.wire.proofs.Giving.{Faultless-trans}
-use Rattle.wire.specs.Meaning.{IsRightSize}
 use Rattle.wire.proofs.Stopping.{StopsInBody-after, StopsInBody-at_start, device}
 use Rattle.wire.proofs.framing.read_body.Goals as goal
 

@@ -1,8 +1,5 @@
-use Rattle.std.proofs.Common.{◌≡◌, ◌++◌, [], arith, refl, subst, sym, ap, ◌∙◌}
-use Rattle.std.proofs.lemmas.List.{append-nil}
 use Rattle.std.proofs.lemmas.Result.{err_from_is_err_and}
 use Rattle.wire.specs.Frames.{four_bytes, frame}
-use Rattle.wire.specs.Reading.{GaveFaultless}
 use Rattle.wire.proofs.Giving.{Faultless-trans}
 use Rattle.wire.proofs.Stopping.{StopsInFrame-in_body, StopsInFrame-in_length, device}
 use Rattle.wire.proofs.framing.read_frame.Goals as goal

@@ -1,4 +1,4 @@
-use Rattle.std.proofs.Common.{◌≡◌, [], ◌∷◌, ap, refl, subst, get_or}
+use Rattle.std.proofs.Common.{[], ◌∷◌, refl, subst}
 use Rattle.std.proofs.lemmas.Result.{err_from_is_err_and}
 use Rattle.wire.specs.Reading.{GaveFaultless}
 use Rattle.wire.specs.Records.{direction_byte}

@@ -1,4 +1,4 @@
-use Rattle.std.proofs.Common.{◌≡◌, Ok, true, ap, refl, sym, ◌∙◌}
+use Rattle.std.proofs.Common.{◌≡◌, Ok, true, ap, refl, ◌∙◌}
 use Rattle.wire.specs.Reader.{IsOpen}
 use Rattle.wire.specs.RecordReader.{frames}
 use Rattle.wire.proofs.RecordReaders.{was_open}
