@@ -1,6 +1,6 @@
 -- Known bytes over several calls.
-use Rattle.std.proofs.Common.{◌≡◌, ◌++◌, ℕ, List, [], refl, ap, sym, ◌∙◌, Option, Some, None, subst, length, ◌≤◌, arith, Result, Ok, Err, OnErr}
-use Rattle.std.proofs.lemmas.List.{append_assoc, append-nil, length-append}
+use Rattle.std.proofs.Common.{◌≡◌, ◌++◌, ℕ, List, [], ap, sym, ◌∙◌, Option, Some, None, subst, length, Result, Ok, Err, OnErr}
+use Rattle.std.proofs.lemmas.List.{append_assoc, append-nil}
 use Rattle.std.proofs.Math.Seq.{take-length}
 use Rattle.benc.specs.Device.{AppendsPrefix}
 use Rattle.std.specs.Io.KnownBytes.{Appends, Consumes, Keeps, IsAtEnd}
