@@ -7,7 +7,7 @@ _btcheck_command() {
         root) kinds=(file) ;;
         show) kinds=(torrent) ;;
         check) kinds=(torrent folder) ;;
-        replay) options+=' --info-only --answers' kinds=(torrent file) ;;
+        replay) options+=' --info-only --seed --answers' kinds=(torrent file) ;;
         help) options='' kinds=(command) ;;
         *) options='' kinds=() ;;
     esac
@@ -16,6 +16,7 @@ _btcheck_command() {
 # Sets `kind` to what stands after an option.
 _btcheck_value() {
     case $1 in
+        --seed) kind=folder ;;
         --answers) kind=file ;;
         *) kind='' ;;
     esac

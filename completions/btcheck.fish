@@ -7,7 +7,7 @@ set -l none "not __fish_seen_subcommand_from $commands"
 function __btcheck_arguments
     set -l words (commandline -opc)
     set -l found (string match -v -- '-*' $words)
-    set -l valued (string match -r -- '^--answers$' $words)
+    set -l valued (string match -r -- '^--(seed|answers)$' $words)
     math (count $found) - (count $valued) - 2
 end
 
@@ -32,6 +32,8 @@ complete -c btcheck -n '__fish_seen_subcommand_from replay; and test (__btcheck_
     -k -a '(__fish_complete_suffix .torrent)'
 complete -c btcheck -n '__fish_seen_subcommand_from replay; and test (__btcheck_arguments) -eq 1' -F
 complete -c btcheck -n '__fish_seen_subcommand_from replay' -l info-only -d 'Start from the roots alone'
+complete -c btcheck -n '__fish_seen_subcommand_from replay' -l seed -r \
+    -a '(__fish_complete_directories)' -d 'Start from the files of a folder too'
 complete -c btcheck -n '__fish_seen_subcommand_from replay' -l answers -r -F \
     -d 'Write the answers to hash requests'
 

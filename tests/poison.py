@@ -6,6 +6,7 @@ from session_model import Session
 from trees import BLOCK
 
 MOST_HASHES = 8224  # as many as a frame may carry
+MOST_BYTES = 263208  # of blocks
 OTHER_IDS = [0, 4, 5, 6, 8, 20, 24, 255]
 WRONG_SIZES = [(7, 8), (7, 263218), (21, 50), (21, 1), (22, 48), (22, 80), (23, 48), (22, 263218)]
 
@@ -21,11 +22,12 @@ class Peers:
         self.trees = [tree["whole"] for tree in self.model.trees.values()]
 
     def messages(self, count):
-        """So many frames, and the line of each."""
+        """So many frames, and the lines of each."""
         kinds = [self.hashes, self.hashes, self.hashes, self.piece, self.piece, self.request, self.reject, self.other,
                  self.wrong_size]
         frames = [self.chance.choice(kinds)() for _ in range(count)]
-        return [frame for frame, _ in frames], [f"{number} {text}" for number, (_, text) in enumerate(frames, 1)]
+        return [frame for frame, _ in frames], [
+            f"{number} {line}" for number, (_, text) in enumerate(frames, 1) for line in ([text] if isinstance(text, str) else text)]
 
     def is_rare(self, rate):
         return self.chance.random() < rate
@@ -69,8 +71,10 @@ class Peers:
     def piece(self):
         _, _, kept, first = self.chance.choice(self.model.files)
         at = self.chance.randrange(len(kept["blocks"]))
-        place, block = self.place(first, at), self.block(kept["blocks"][at])
-        return messages.piece(*place, block), self.model.block(*place, block)
+        count = self.chance.choice([1, 1, 1, 2, 3, 17])
+        blocks = b"".join(self.block(block) for block in kept["blocks"][at:at + count])[:MOST_BYTES]
+        place = self.place(first, at)
+        return messages.piece(*place, blocks), self.model.blocks(*place, blocks)
 
     def place(self, first, at):
         """The index and begin of a block, in one of its forms; seldom of none."""

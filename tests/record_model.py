@@ -27,8 +27,15 @@ def bodies(record):
     return found, at == len(record)
 
 
+def lines(session, body):
+    """What is printed of a frame, behind its number: for a message of blocks a line for each."""
+    if body and body[0] == 7 and has_right_size(7, len(body)):
+        return session.blocks(number(body, 1), number(body, 5), body[9:])
+    return [line(session, body)]
+
+
 def line(session, body):
-    """What is printed of a frame, behind its number."""
+    """What is printed of a frame that carries no block, behind its number."""
     if not body:
         return "keep-alive"
     ident = body[0]
@@ -36,8 +43,6 @@ def line(session, body):
         return f"skipped {ident}"
     if not has_right_size(ident, len(body)):
         return f"bad frame {ident} {len(body)}"
-    if ident == 7:
-        return session.block(number(body, 1), number(body, 5), body[9:])
     ask = (body[1:33], *(number(body, at) for at in (33, 37, 41, 45)))
     if ident == 21:
         return session.answer(*ask)
@@ -49,8 +54,8 @@ def line(session, body):
 def report(session, record):
     """The status and the text of `replay` of this record."""
     found, ends = bodies(record)
-    lines = [line(session, body) for body in found]
+    told = [(at, text) for at, body in enumerate(found, 1) for text in lines(session, body)]
     last = "end" if ends else "fault Truncated"
-    refused = any(told.startswith(("refused", "bad frame")) for told in lines)
-    text = "".join(f"{at} {told}\n" for at, told in enumerate(lines, 1)) + f"{last}\n"
+    refused = any(text.startswith(("refused", "bad frame")) for _, text in told)
+    text = "".join(f"{at} {text}\n" for at, text in told) + f"{last}\n"
     return (1 if refused else 0) if ends else 2, text.encode()

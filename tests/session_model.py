@@ -56,20 +56,27 @@ class Session:
         known.update(claims)
         return f"stored {gained}"
 
-    def block(self, index, begin, block):
+    def blocks(self, index, begin, carried):
+        """The lines of a piece message: one for each block that it carries, or one that refuses it whole."""
         for number, content, tree, first in self.files:
             at = index * self.piece_length + begin - first * self.piece_length
             if at % BLOCK == 0 and 0 <= at < len(content):
-                right = content[at:at + BLOCK]
-                leaf = tree["known"].get((0, at // BLOCK))
-                if len(block) != len(right):
-                    return "refused P2 BadSize"
-                if leaf is None:
-                    return "refused P3 Unproved"
-                if sha256(block) != leaf:
-                    return "refused P4 BadBlock"
-                return f"verified {number} {at // BLOCK}"
-        return "refused P1 BadPlace"
+                ends = at + len(carried)
+                if not carried or ends > len(content) or (ends % BLOCK and ends < len(content)):
+                    return ["refused P2 BadSize"]
+                cuts = [carried[cut:cut + BLOCK] for cut in range(0, len(carried), BLOCK)]
+                return [self.block(tree, number, at // BLOCK + place, cut, len(cuts)) for place, cut in enumerate(cuts)]
+        return ["refused P1 BadPlace"]
+
+    def block(self, tree, number, place, cut, count):
+        """The line of one block of a message that carries so many."""
+        behind = f" {number} {place}" if count > 1 else ""
+        leaf = tree["known"].get((0, place))
+        if leaf is None:
+            return f"refused P3 Unproved{behind}"
+        if sha256(cut) != leaf:
+            return f"refused P4 BadBlock{behind}"
+        return f"verified {number} {place}"
 
     def answer(self, root, base, index, length, proof):
         return "rejected" if self.hashes(root, base, index, length, proof) is None else "answered"

@@ -123,18 +123,18 @@ def test_check():
 
 
 def fits(session, record, lines):
-    """Each line is what the model says of its frame in the state that the frames before it left, or says that memory was
+    """Each frame carries one block at most, and has one line. Each line is what the model says of its frame in the state that the frames before it left, or says that memory was
     refused for hashes that it would store, which leaves the state as it was."""
     for number, body in enumerate(record_model.bodies(record)[0], 1):
         if number > len(lines):
             return True
         if lines[number - 1] == f"{number} refused H7 NoMemory":
             before = {root: dict(tree["known"]) for root, tree in session.trees.items()}
-            if not record_model.line(session, body).startswith("stored "):
+            if not record_model.lines(session, body)[0].startswith("stored "):
                 return False
             for root, known in before.items():
                 session.trees[root]["known"] = known
-        elif lines[number - 1] != f"{number} {record_model.line(session, body)}":
+        elif lines[number - 1] != f"{number} {record_model.lines(session, body)[0]}":
             return False
     return True
 

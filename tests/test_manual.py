@@ -47,7 +47,7 @@ def test_help_is_read():
     """The reading of the help above is not empty."""
     assert {"root", "show", "check", "replay", "help"} <= set(Helped().commands)
     assert Helped("check").arguments == ["TORRENT", "DIR"]
-    assert Helped("replay").options == {"-h", "--help", "--info-only", "--answers"}
+    assert Helped("replay").options == {"-h", "--help", "--info-only", "--seed", "--answers"}
 
 
 def flags(text):
@@ -188,7 +188,7 @@ FILES_FOR = {
 }
 
 # The options that take a value, and what it can be.
-VALUES = {"--answers": "RECORD"}
+VALUES = {"--seed": "DIR", "--answers": "RECORD"}
 
 
 def test_completion_by_bash():

@@ -3,6 +3,7 @@ import os
 import re
 import time
 
+import messages
 import torrents
 from shim import is_static, shimmed
 from support import folder, run, write
@@ -102,6 +103,20 @@ def test_standard_output_on_the_same_terminal():
         path = write(f"{place}/torrent", torrent_of_zeros({"long": 256 * MIB}))
         status, _, sent = on_terminal("check", path, place, both=True)
         assert status == 0 and len(drawn(sent)) > 1 and screen(sent) == ["good long", "yes", ""], sent
+
+
+def test_seeding():
+    """The line goes before each line of a file, and comes back while the next one is read."""
+    with folder() as place:
+        path = write(f"{place}/torrent", torrent_of_zeros({"a": 128 * MIB, "b": 256 * MIB}))
+        os.mkdir(f"{place}/all")
+        zeros(f"{place}/all", "a", 128 * MIB)
+        zeros(f"{place}/all", "b", 256 * MIB)
+        record = write(f"{place}/record", messages.KEEP_ALIVE)
+        status, _, sent = on_terminal("replay", path, record, "--seed", f"{place}/all", both=True, columns=400)
+        assert status == 0 and screen(sent) == ["seeded a", "seeded b", "1 keep-alive", "end", ""], sent
+        for name in ["a", "b"]:
+            assert any(line.endswith(f"/all/{name}") for line in drawn(sent)), (name, sent)
 
 
 def test_no_line_without_a_terminal():

@@ -121,6 +121,54 @@ def test_five_blocks():
         expect(replay(place, torrent, eight), 0, lines("1 stored 8", "end"))
 
 
+def test_several_blocks_in_a_message():
+    tree, blocks = Tree.of(FIVE), blocks_of(FIVE)
+    torrent = torrent_of([("five", FIVE)], 32768)
+    eight = hashes(tree.root, 0, 0, 8, 2, given=tree.hashes(0, 0, 8, 0))
+    two = hashes(tree.root, 0, 4, 2, 2, given=tree.hashes(0, 4, 2, 2))
+    turned = FIVE[:BLOCK] + bytes([FIVE[BLOCK] ^ 1]) + FIVE[BLOCK + 1:3 * BLOCK]
+    all_good = [f"2 verified 0 {at}" for at in range(5)]
+    with folder() as place:
+        for record, report in [
+                (two + piece(1, 16384, blocks[3] + blocks[4]),
+                 ["1 stored 6", "2 refused P3 Unproved 0 3", "2 verified 0 4"]),
+                (eight + piece(0, 0, turned), ["1 stored 14", "2 verified 0 0", "2 refused P4 BadBlock 0 1", "2 verified 0 2"]),
+                (eight + piece(0, 0, FIVE), ["1 stored 14", *all_good]),
+                (eight + piece(0, 0, FIVE) + KEEP_ALIVE, ["1 stored 14", *all_good, "3 keep-alive"]),
+                (eight + piece(0, 0, FIVE[:32769]), ["1 stored 14", "2 refused P2 BadSize"]),
+                (eight + piece(0, 0, b""), ["1 stored 14", "2 refused P2 BadSize"]),
+                (eight + piece(0, 0, FIVE + b"x"), ["1 stored 14", "2 refused P2 BadSize"]),
+                (eight + piece(1, 0, FIVE[32768:]), ["1 stored 14", "2 verified 0 2", "2 verified 0 3", "2 verified 0 4"]),
+                (eight + piece(0, 16384, FIVE[16384:49152]), ["1 stored 14", "2 verified 0 1", "2 verified 0 2"]),
+                (eight + piece(2, 16384, FIVE), ["1 stored 14", "2 refused P1 BadPlace"]),
+                (piece(0, 0, FIVE[:32768]), ["1 refused P3 Unproved 0 0", "1 refused P3 Unproved 0 1"])]:
+            status = 1 if any("refused" in line for line in report) else 0
+            expect(replay(place, torrent, record, "--info-only"), status, lines(*report, "end"))
+
+
+def test_a_message_of_seventeen_blocks():
+    content = random.Random(17).randbytes(263208)
+    tree = Tree.of(content)
+    known = hashes(tree.root, 0, 0, 32, 4, given=tree.hashes(0, 0, 32, 0))
+    with folder() as place:
+        torrent = torrent_of([("file", content)], 524288)
+        expect(replay(place, torrent, known + piece(0, 0, content), "--info-only"), 0,
+               lines("1 stored 62", *(f"2 verified 0 {at}" for at in range(17)), "end"))
+        expect(replay(place, torrent, known + piece(0, 0, content + b"x"), "--info-only"), 1,
+               lines("1 stored 62", "2 bad frame 7 263218", "end"))
+
+
+def test_blocks_of_two_files():
+    """A message never reaches over a file's end into the next file."""
+    first, second = FIVE[:2 * BLOCK], FIVE[:BLOCK]
+    torrent = torrent_of([("a", first), ("b", second)], 32768)
+    tree = Tree.of(first)
+    known = hashes(tree.root, 0, 0, 2, 0, given=tree.hashes(0, 0, 2, 0))
+    with folder() as place:
+        expect(replay(place, torrent, known + piece(0, 16384, first[BLOCK:] + second) + piece(0, 0, first), "--info-only"), 1,
+               lines("1 stored 2", "2 refused P2 BadSize", "3 verified 0 0", "3 verified 0 1", "end"))
+
+
 def test_the_greatest_length():
     tree = Tree([sha256(number.to_bytes(4, "big")) for number in range(32768)])
     entry = {b"": {"length": 32768 * BLOCK, "pieces root": tree.root}}

@@ -1,8 +1,8 @@
 -- Known bytes over several calls.
-use Rattle.std.proofs.Common.{◌≡◌, ◌++◌, ℕ, List, [], refl, ap, sym, ◌∙◌, Option, Some, None, subst, length, ◌≤◌, arith, Result, Ok, Err, OnErr}
-use Rattle.std.proofs.lemmas.List.{append_assoc, append-nil, length-append}
+use Rattle.std.proofs.Common.{◌≡◌, ◌++◌, ℕ, List, [], ap, sym, ◌∙◌, Option, Some, None, subst, length, Result, Ok, Err, OnErr}
+use Rattle.std.proofs.lemmas.List.{append_assoc, append-nil}
 use Rattle.std.proofs.Math.Seq.{take-length}
-use Rattle.benc.specs.Device.{AppendsBeginning}
+use Rattle.benc.specs.Device.{AppendsPrefix}
 use Rattle.std.specs.Io.KnownBytes.{Appends, Consumes, Keeps, IsAtEnd}
 
 pub Appends-append : (a b c : Option (List ℕ)) (xs ys : List ℕ) → Appends a b xs → Appends b c ys → Appends a c (xs ++ ys)
@@ -35,7 +35,7 @@ Consumes_all (Some a) (Some b) xs file e p q =
     let is : a ≡ file = cc in sym is ∙ p ∙ ap (λ t. xs ++ t) q ∙ append-nil xs
 
 -- all the bytes are a prefix of them
-pub Appends_whole : (a b c : Option (List ℕ)) (xs : List ℕ) → Appends a b xs → Keeps b c → AppendsBeginning a c xs
+pub Appends_whole : (a b c : Option (List ℕ)) (xs : List ℕ) → Appends a b xs → Keeps b c → AppendsPrefix a c xs
 Appends_whole a b c xs p q = (length xs, subst (Appends a c) (sym (take-length xs)) (Appends-keeps a b c xs p q))
 
 -- a fact that holds anyway

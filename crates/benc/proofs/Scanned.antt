@@ -1,5 +1,5 @@
 -- The fault of an item by reading it, and that it is the fault that the table has.
-use Rattle.std.proofs.Common.{◌≡◌, ℕ, zero, suc, ◌+◌, ◌<◌, ◌≤◌, Bool, true, false, not, ◌&&◌, ◌||◌, ◌==◌, if◌then◌else◌, cond, eqb, leb, ltb, List, [], ◌∷◌, ◌++◌, length, get_or, take, drop, Option, Some, None, Result, Ok, Err, ℤ, refl, sym, ap, ◌∙◌, subst, arith}
+use Rattle.std.proofs.Common.{◌≡◌, ℕ, suc, Bool, true, false, not, ◌&&◌, ◌||◌, ◌==◌, if◌then◌else◌, cond, eqb, ltb, List, [], ◌∷◌, ◌++◌, length, get_or, take, drop, Option, Some, None, Result, Ok, Err, refl, sym, ap, ◌∙◌, arith}
 use Rattle.std.specs.List.{prefix_len}
 use Rattle.std.specs.Str.Parse.{digits_value}
 use Rattle.std.proofs.lemmas.Bool.Decides.{nat_tests}
@@ -7,7 +7,7 @@ use Rattle.std.proofs.lemmas.Bool.{eqb-true}
 use Rattle.benc.specs.Digits.{after_digits, digits_of_front, in_range, is_digit, signed}
 use Rattle.benc.specs.Spelling.{is_above}
 use Rattle.benc.specs.Items.{in_order, integer_at, integer_of, is_plain, key_at, string_at, string_of}
-use Rattle.benc.specs.Table.{Row, first_row, has_leading_zero, has_ended, digit_rows, integer_rows, is_zero, key_rows, length_rows, starts_with, string_bytes, string_rows, unless_end as unless_end_rows, value_rows}
+use Rattle.benc.specs.Table.{Row, first_row, has_leading_zero, has_ended, digit_rows, integer_rows, is_zero, key_rows, length_rows, string_bytes, string_rows, unless_end as unless_end_rows, value_rows}
 use Rattle.benc.specs.Fails.{Due, a_key_or_end, a_value, a_value_or_end, item_fault as table_fault}
 use Rattle.benc.specs.declared.fault.FaultKind.{FaultKind}
 use Rattle.benc.specs.declared.fault.FaultKind.TheVariants.{Truncated, BadStart, BadInteger, IntegerRange, BadLength, KeyOrder, TooDeep}

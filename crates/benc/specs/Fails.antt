@@ -1,5 +1,5 @@
 -- The first fault of an input: which, and where (this project's profile of BEP 3).
-use Rattle.std.specs.Prelude.{◌≡◌, ℕ, suc, ◌-◌, ◌<◌, ◌^◌, ◌==◌, ◌||◌, if◌then◌else◌, List, [], ◌∷◌, ◌++◌, length, Option, Some, None, Result, Ok, Err, ◌⊎◌}
+use Rattle.std.specs.Prelude.{◌≡◌, ℕ, suc, ◌-◌, ◌<◌, ◌^◌, List, [], ◌∷◌, ◌++◌, length, Option, Some, None, ◌⊎◌}
 use Rattle.benc.specs.Ascii.{dict_mark, list_mark}
 use Rattle.benc.specs.Value.{Bencode, Items, no_items, item, Pairs, no_pairs, pair}
 use Rattle.benc.specs.Spelling.{max_open, string, IsAbove, SpelledItems, SpelledPairs, Spells}

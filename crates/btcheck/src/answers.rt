@@ -4,12 +4,13 @@ ghost use Rattle.benc.specs.Device.{SentAndFlushed};
 ghost use Rattle.checker.specs.Refused.{refusal_text};
 ghost use Rattle.checker.specs.Show.{show_text};
 ghost use Rattle.checker.specs.Replay.{replay_seen};
+ghost use Rattle.checker.specs.Seeding.{IsSeeded, both};
 ghost use Rattle.session.specs.Fresh.{IsFresh};
 ghost use Rattle.btcheck.specs.Answers.{IsChecked, IsReplayed, answer_status};
 
 use benc::memory::MemSink;
 use benc::{Sink, Source};
-use checker::{Fault, RootFault, Shelf, print_report, refusal_line, root_line};
+use checker::{Fault, RootFault, SeedFault, Shelf, print_report, refusal_line, root_line};
 use metainfo::{Refusal, Torrent};
 use node_maps::Paged;
 use session::{NodeMap, Session};
@@ -86,6 +87,24 @@ pub(crate) fn new_session<'t, 'a>(
     ensures { IfOk result (IsFresh torrent.now (not info_only)) }
 {
     Ok(Session::new(alloc, torrent, !info_only)?)
+}
+
+/// Fills a session from a shelf, and prints a line for each file of the torrent.
+pub(crate) fn seed<'a, N: NodeMap, S: Shelf, W: Sink>(
+    alloc: Global,
+    session: &mut Session<'_, N>,
+    shelf: &mut S,
+    out: &mut W,
+) -> Result<(), Fault<'a>>
+    ensures { OnOk result (IsSeeded S.opens S.closes S.faults S.under S.File.seen
+        (both shelf.old session.old) (both shelf.new session.new)
+        (W.seen out.old) (W.seen out.new)) }
+{
+    match checker::seed(alloc, session, shelf, out) {
+        Ok(()) => Ok(()),
+        Err(SeedFault::NoMemory) => Err(Fault::NoMemory),
+        Err(SeedFault::Write) => Err(Fault::Write("-")),
+    }
 }
 
 /// Replays a record over a session. Each line goes out as its frame comes.

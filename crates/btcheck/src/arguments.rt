@@ -120,6 +120,13 @@ fn replay_command<'a>(alloc: Global) -> Result<Command<'a>, Error> {
                 .help("Start from the roots alone, without the torrent's piece layers"),
         )?
         .arg(
+            Arg::new(alloc, "seed")
+                .long("seed")
+                .value_name("DIR")
+                .action(ArgAction::Set)
+                .help("Start from the hashes of the files that this folder holds right, too"),
+        )?
+        .arg(
             Arg::new(alloc, "answers")
                 .long("answers")
                 .value_name("OUT")
@@ -158,6 +165,7 @@ fn replay_of<'a>(found: &ArgMatches<'a>) -> Option<Action<'a>> {
         torrent,
         record,
         info_only: found.get_flag("info-only"),
+        seed: found.get_str("seed"),
         answers: found.get_str("answers"),
     }))
 }

@@ -78,16 +78,22 @@ fn replay<'a>(rt: &HostRuntime, asked: &Replay<'a>) -> Result<u8, Fault<'a>> {
     let bytes = read_torrent(rt, asked.torrent)?;
     let mut out = FromWrite::new(io::writer(rt));
     match Torrent::open(rt.alloc(), bytes.as_slice()) {
-        Ok(torrent) => replay_file(rt, &torrent, asked, &mut out),
+        Ok(torrent) => {
+            let progress = Progress::new(rt, Some(all_bytes(&torrent)));
+            let mut out = Cleared::new(out, &progress);
+            replay_file(rt, &torrent, asked, &progress, &mut out)
+        }
         Err(refusal) => answers::refuse(&refusal, &mut out),
     }
 }
 
-// The record is opened before the file of the answers, which is not touched if it fails.
+// The record is opened before the file of the answers, which is not touched if it fails. The session
+// is filled from the folder after that.
 fn replay_file<'a, W: Sink>(
     rt: &HostRuntime,
     torrent: &Torrent<'_>,
     asked: &Replay<'a>,
+    progress: &Progress,
     out: &mut W,
 ) -> Result<u8, Fault<'a>> {
     let Ok(file) = File::open(rt, asked.record) else {
@@ -96,6 +102,10 @@ fn replay_file<'a, W: Sink>(
     let mut source = FromRead::new(file);
     let answers = created(rt, asked.answers)?;
     let mut session = answers::new_session(rt.alloc(), torrent, asked.info_only)?;
+    if let Some(dir) = asked.seed {
+        let mut folder = Folder::new(rt, dir, Places::new(torrent), progress);
+        answers::seed(rt.alloc(), &mut session, &mut folder, out)?;
+    }
     match answers {
         None => answers::replay(rt.alloc(), &mut session, &mut source, out),
         Some((path, file)) => answers::replay_and_answer(

@@ -1,2 +1,3 @@
 -- Lemmas that crates above cite.
 pub use Rattle.opening.proofs.Layering
+pub use Rattle.opening.proofs.Blocks

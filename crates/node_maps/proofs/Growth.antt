@@ -48,10 +48,6 @@ module _ (base : Numbered) (fresh : List ℕ) (count : ℕ) where
   )
   grown-one mid f c new f' c' (made, are) (inr (n, is)) = (n ∷ made, (mid, f, c, are, is))
 
-  -- nothing yet
-  pub grown-none : IsGrown base fresh count base fresh count
-  grown-none = ([], record { alike = λ n. refl; noted = refl; counted = refl })
-
   -- all of them are gone when no more are noted than at first
   pub grown-gone : (new : Numbered) (f' : List ℕ) (c' : ℕ) → IsGrown base fresh count new f' c' → length f' ≤ length fresh → AreAlike base new × (c' ≡ count)
   grown-gone new f' c' (made, are) few = by_list made are

@@ -66,19 +66,6 @@ module _ (f g : Numbered) (q : ℕ) (o : Option Page) (is : (r : ℕ) → g r �
     | inr other ↦ ap (λ x. cell_of x (i % 512)) (changed_other (i / 512) other)
   ]
 
-  pub changed_keeps : IsSome o → (n : ℕ) → IsSome (f n) → IsSome (g n)
-  changed_keeps some n was = elim (cases_eq n q) [
-    | inl same ↦ subst IsSome (sym (ap g same ∙ changed_here)) some
-    | inr other ↦ subst IsSome (sym (changed_other n other)) was
-  ]
-
-  -- what holds of the pages that there were, and of the one that is there now
-  pub changed_all : (P : ℕ → Page → Type 0) → ((r : ℕ) (p : Page) → r ≢ q → f r ≡ Some p → P r p) → ((p : Page) → o ≡ Some p → P q p) → (r : ℕ) (p : Page) → g r ≡ Some p → P r p
-  changed_all P before now r p e = elim (cases_eq r q) [
-    | inl same ↦ subst (λ n. P n p) (sym same) (now p (sym (ap g same ∙ changed_here) ∙ e))
-    | inr other ↦ before r p other (sym (changed_other r other) ∙ e)
-  ]
-
 pub on_true : (b : Bool) (P : Type 0) → OnTrue b P → b ≡ true → P
 on_true true P h e = h
 on_true false P h e = absurd (false≢true e)
@@ -199,10 +186,6 @@ under-emptied find ns ds rising beside shift q at is d w here below none =
     (under-remove find ns (set ds at w) rising beside' shift q at is w here' none)
 
 -- ---- pages that hold nothing
-
-pub blank-all : (n : ℕ) → is_blank (replicate n Empty) ≡ true
-blank-all zero = refl
-blank-all (suc n) = blank-all n
 
 pub spare-some : (o : Option Page) → is_spare o ≡ true → is_some o ≡ true
 spare-some None e = absurd (false≢true e)

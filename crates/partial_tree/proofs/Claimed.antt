@@ -372,10 +372,3 @@ module _ (ask : Ask) (hashes : List Hash) (spans : 1 ≤ span ask) (power : 2 ^ 
         below_cover = omega arith;
         under = ap (λ j. i / 2 ^ j) k ∙ in_range-under i low high;
       }))
-
-  -- what a body that goes up row by row needs: two claimed children give the claim at their parent
-  pub claimed-parent : (l i : ℕ) (a b : Hash) → claims ask hashes l (2 * i) ≡ Some a → claims ask hashes l (2 * i + 1) ≡ Some b → claims ask hashes (suc l) i ≡ Some (join a b)
-  claimed-parent l i a b p q =
-      let left : IsClaimed ask hashes l (2 * i) = claimed-at l (2 * i) a p in
-      let half : 2 * i / 2 ≡ i = omega arith in
-      claims-joined ask hashes l i a b (parent-not_given l i (subst (IsParent l) half (parent-of l (2 * i) left))) p q

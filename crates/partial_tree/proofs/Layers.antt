@@ -1,6 +1,5 @@
 -- What a body that takes a whole layer stands on.
-use Rattle.std.proofs.Common.{◌≡◌, ℕ, suc, ◌+◌, ◌-◌, ◌/◌, ◌^◌, ◌<◌, ◌≤◌, List, length, Result, Ok, Err, inl, inr, sym, ap, ◌∙◌, subst, arith, pow_pos, div-one, eq-or-lt_of_le, mod-eq_of_lt}
-use Rattle.std.specs.Result.{IfOk, IfErr}
+use Rattle.std.proofs.Common.{◌≡◌, ℕ, suc, ◌+◌, ◌-◌, ◌/◌, ◌^◌, ◌<◌, ◌≤◌, List, length, inl, inr, sym, ap, ◌∙◌, subst, arith, pow_pos, div-one, eq-or-lt_of_le, mod-eq_of_lt}
 use Rattle.std.specs.Borrow.{Bor}
 use Rattle.std.specs.FinMap.{len}
 use Rattle.std.specs.List.{All}
@@ -62,11 +61,6 @@ module _ (t : TreeRoot) (K : PartialTree) (l : ℕ) (given_hashes : Bor (List Ha
   pub layer-leads : LeadsTo layer_evidence (tree_height t.length) 0
   layer-leads = elim (eq-or-lt_of_le layer_inside) [ inl root ↦ of-root root | inr below ↦ below-root below ]
 
-pub filled_by : (t : TreeRoot) (l : ℕ) (hashes : List Hash) (before after : Known) (r : Result ℕ HashRefusal) → l ≤ tree_height t.length → length hashes ≡ pad_from t.length l
-    → IfOk r (λ c. Joins (fill_claims t.length l hashes) before after c) → IfOk r (λ c. IsFillAccepted t.length (look before) l hashes × Joins (fill_claims t.length l hashes) before after c)
-filled_by t l hashes before after (Ok c) inside count joins = (record { layer_inside = inside; right_count = count; agrees = joins.agreed }, joins)
-filled_by t l hashes before after (Err r) inside count joins = tt
-
 fill_fault : (t : TreeRoot) (l : ℕ) (hashes : List Hash) (K : PartialTree) (r : HashRefusal) → l ≤ tree_height t.length → length hashes ≡ pad_from t.length l → StoreFault K (fill_claims t.length l hashes) r → FillRefuses t.length K l hashes r
 fill_fault t l hashes K Mismatch inside count f = (inside, count, f)
 fill_fault t l hashes K NoMemory inside count f = record { layer_inside = inside; right_count = count; agrees = f }
@@ -75,11 +69,6 @@ fill_fault t l hashes K BadRange inside count f = absurd f
 fill_fault t l hashes K BadCount inside count f = absurd f
 fill_fault t l hashes K BadPad inside count f = absurd f
 fill_fault t l hashes K Unanchored inside count f = absurd f
-
-pub fill_refused_by : (t : TreeRoot) (l : ℕ) (hashes : List Hash) (before after : Known) (r : Result ℕ HashRefusal) → l ≤ tree_height t.length → length hashes ≡ pad_from t.length l
-    → IfErr r (λ x. StoreFault (look before) (fill_claims t.length l hashes) x × (after ≡ before)) → IfErr r (λ x. FillRefuses t.length (look before) l hashes x × (after ≡ before))
-fill_refused_by t l hashes before after (Ok c) inside count fault = tt
-fill_refused_by t l hashes before after (Err r) inside count fault = (fill_fault t l hashes (look before) r inside count fault.0, fault.1)
 
 -- what is known after a whole layer is bounded by the tree
 pub filled-len : (t : TreeRoot) (before after : Known) (l : ℕ) (hashes : List Hash) (c : ℕ) → IsClosed t (look before) → All IsHash hashes → IsFillAccepted t.length (look before) l hashes

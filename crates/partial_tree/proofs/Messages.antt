@@ -25,7 +25,7 @@ use Rattle.partial_tree.proofs.Ranges.{span_at, pow_more}
 use Rattle.node_maps.proofs.Known.{len-known}
 use Rattle.partial_tree.proofs.Joining.{joined-closed}
 use Rattle.partial_tree.proofs.Leading.{claims-same, message-leads}
-use Rattle.partial_tree.proofs.Deciding.{pads_or_not, first_range, first_count, first_pad, first_anchor, first_mismatch}
+use Rattle.partial_tree.proofs.Deciding.{pads_or_not, first_range, first_mismatch}
 use Rattle.partial_tree.proofs.Claimed.{either, first_of_two, second_of_two, base-read, uncle-read}
 
 -- what the tests of pads compare, from places and numbers that a body computes
@@ -166,15 +166,6 @@ module _ (ev : Evidence) (ask : Ask) (hashes : List Hash) (base : ev.base ≡ as
 module _ (t : TreeRoot) (K : PartialTree) (ask : Ask) (hashes : List Hash) where
   pub refuses_range : ¬ GoodRange (tree_height t.length) ask → TreeRefuses t.length K ask hashes BadRange
   refuses_range wrong = record { fault = wrong; first = first_range t K ask hashes }
-
-  pub refuses_count : GoodRange (tree_height t.length) ask → ¬ GoodCount (tree_height t.length) ask hashes → TreeRefuses t.length K ask hashes BadCount
-  refuses_count range wrong = record { fault = wrong; first = first_count t K ask hashes range }
-
-  pub refuses_pad : GoodRange (tree_height t.length) ask → GoodCount (tree_height t.length) ask hashes → IsBadPad t.length ask hashes → TreeRefuses t.length K ask hashes BadPad
-  refuses_pad range count bad = record { fault = bad; first = first_pad t K ask hashes range count }
-
-  pub refuses_top : GoodRange (tree_height t.length) ask → GoodCount (tree_height t.length) ask hashes → ArePadsRight t.length ask hashes → K (top_layer ask hashes) (top_index ask hashes) ≡ None → TreeRefuses t.length K ask hashes Unanchored
-  refuses_top range count pads none = record { fault = none; first = first_anchor t K ask hashes range count pads }
 
   pub accepts : GoodRange (tree_height t.length) ask → GoodCount (tree_height t.length) ask hashes → ArePadsRight t.length ask hashes → IsKnown K (top_layer ask hashes) (top_index ask hashes) → IsAgreed K (claims ask hashes) → IsAccepted t.length K ask hashes
   accepts range count pads top agreed = record { range = range; count = count; pads = pads; top_known = top; agrees = agreed }

@@ -1,9 +1,9 @@
 -- Lists of claims as they grow, and what they leave when they are put.
-use Rattle.std.proofs.Common.{◌≡◌, ◌≢◌, ◌⊎◌, ℕ, suc, ◌+◌, ◌<◌, true, false, cond, List, [], ◌∷◌, ◌++◌, Option, Some, None, Result, Ok, Err, is_ok, is_err, if◌then◌else◌, inl, inr, refl, sym, ap, ap₂, ◌∙◌, subst, arith, is_some, length, get_or, drop, drop-cons}
+use Rattle.std.proofs.Common.{◌≡◌, ◌≢◌, ◌⊎◌, ℕ, suc, ◌+◌, ◌<◌, true, false, cond, List, [], ◌∷◌, ◌++◌, Option, Some, None, inl, inr, refl, sym, ap, ap₂, ◌∙◌, subst, arith, is_some, length, get_or, drop, drop-cons}
 use Rattle.std.specs.List.{All}
 use Rattle.std.specs.FinMap.{insert, len, len-insert}
 use Rattle.std.proofs.lemmas.Option.{same_Some, none-some}
-use Rattle.std.proofs.lemmas.Bool.{cases_eq, false≢true}
+use Rattle.std.proofs.lemmas.Bool.{cases_eq}
 use Rattle.std.proofs.lemmas.List.Elements.{All-head, All-tail}
 use Rattle.partial_tree.specs.declared.found.Claim.{Claim}
 use Rattle.partial_tree.specs.declared.found.Found.{Found}
@@ -24,11 +24,6 @@ has_claim-push (x ∷ xs) c l i v (inr h) = inr (has_claim-push xs c l i v h)
 pub has_claim-here : (cs : List Claim) (c : Claim) → HasClaim (cs ++ c ∷ []) c.layer c.index c.hash
 has_claim-here [] c = inl (refl, refl, refl)
 has_claim-here (x ∷ xs) c = inr (has_claim-here xs c)
-
--- what a push that was not refused leaves
-pub after_push : {T E : Type 0} (r : Result T E) (new pushed old : List Claim) → new ≡ (if is_ok r then pushed else old) → is_err r ≡ false → new ≡ pushed
-after_push (Ok x) new pushed old e ok = e
-after_push (Err x) new pushed old e ok = absurd (false≢true (sym ok))
 
 -- what a push, or a refusal, leaves noted
 pub noted-here : (found : Found) (cs : List Claim) (c : Claim) → (found.incomplete ≡ true) ⊎ (found.claims.items ≡ cs ++ c ∷ []) → IsNoted found c.layer c.index c.hash
@@ -132,14 +127,6 @@ module _ (C : PartialTree) where
   ]
 
 -- ---- how many are new
-
-pub new-known : (m : Known) (c : Claim) (o : Option Hash) → o ≡ look m c.layer c.index → is_some o ≡ true → with_new m c ≡ m
-new-known m c None e some = absurd (false≢true some)
-new-known m c (Some old) e some = ap (insert_absent m (c.layer, c.index) c.hash) (sym e)
-
-pub new-absent : (m : Known) (c : Claim) (o : Option Hash) → o ≡ look m c.layer c.index → is_some o ≡ false → with_new m c ≡ insert m (c.layer, c.index) c.hash
-new-absent m c None e none = ap (insert_absent m (c.layer, c.index) c.hash) (sym e)
-new-absent m c (Some old) e none = absurd (false≢true (sym none))
 
 pub len-new : (m : Known) (c : Claim) (o : Option Hash) → o ≡ look m c.layer c.index → is_some o ≡ false → len (insert m (c.layer, c.index) c.hash) ≡ len m + 1
 len-new m c o e none = len-insert place_total m (c.layer, c.index) c.hash ∙ ap (λ b. cond b (len m) (len m + 1)) (ap is_some (sym e) ∙ none)

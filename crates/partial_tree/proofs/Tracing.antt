@@ -1,5 +1,5 @@
 -- How the claims of evidence follow from one another, from a place down.
-use Rattle.std.proofs.Common.{◌≡◌, ◌⊎◌, ℕ, zero, suc, ◌+◌, ◌-◌, ◌*◌, ◌/◌, ◌^◌, ◌<◌, ◌≤◌, true, false, Option, is_some, Some, None, Result, Ok, Err, inl, inr, sym, ap, ap₂, ◌∙◌, subst, arith, shr-shr, div-one, eq-or-lt_of_le}
+use Rattle.std.proofs.Common.{◌≡◌, ◌⊎◌, ℕ, zero, suc, ◌+◌, ◌-◌, ◌*◌, ◌/◌, ◌^◌, ◌<◌, ◌≤◌, true, false, Option, is_some, Some, None, Result, Ok, Err, inl, inr, sym, ap, ◌∙◌, subst, arith, shr-shr}
 use Rattle.std.specs.Option.{OnSome}
 use Rattle.std.specs.Result.{OnOk, is_err}
 use Rattle.std.specs.FinMap.{len}
@@ -12,7 +12,7 @@ use Rattle.node_maps.specs.Places.{PartialTree, IsKnown, IsPlace}
 use Rattle.node_maps.specs.Known.{Known, look}
 use Rattle.partial_tree.specs.Joins.{insert_new, Joins}
 use Rattle.partial_tree.specs.Claims.{IsMismatch, IsAgreed}
-use Rattle.partial_tree.specs.Evidence.{range_of, hashes_of, given_by, claimed_by, LiesUnder, IsNoted, Grows, IsHandled, AllHandled, BelowHandled, IsPruned, IsHandledClaim, DiffersFrom, LeadsTo, AreClaims, HasClaim}
+use Rattle.partial_tree.specs.Evidence.{range_of, hashes_of, given_by, claimed_by, LiesUnder, IsNoted, Grows, IsHandled, AllHandled, BelowHandled, DiffersFrom, LeadsTo, AreClaims, HasClaim}
 use Rattle.partial_tree.proofs.Noting.{insert_new-joined}
 use Rattle.partial_tree.proofs.Agree.{left_or_right}
 use Rattle.node_maps.proofs.Places.{place_left, place_right}
@@ -84,30 +84,6 @@ below-children C K first second layer index grows left right = record {
     | inr u ↦ right.at l i u
   ];
 }
-
--- nothing is claimed below a given hash
-pub below-given : (e : Evidence) (K : PartialTree) (found : Found) (layer index : ℕ) (v : Hash) → IsPruned e → given_by e layer index ≡ Some v → BelowHandled (claimed_by e) K found layer index
-below-given e K found layer index v pruned is = record { at = λ l i under below w claim. absurd (pruned.below layer index l i v w is under below claim) }
-
--- the place itself beside what lies below it
-pub all-handled : (C : PartialTree) (m : Known) (before after : Found) (layer index : ℕ) (h : Hash) → Grows before after → C layer index ≡ Some h
-    → BelowHandled C (look m) before layer index → IsHandledClaim m after (record { layer = layer; index = index; hash = h }) → AllHandled C (look m) after layer index
-all-handled C m before after layer index h grows is below here = record {
-  at = λ l i under. elim (eq-or-lt_of_le under.0) [
-    | inr less ↦ handled-grows C (look m) before after grows l i (below.at l i under less)
-    | inl same ↦ at_place l i same under.1
-  ];
-}
-  where
-    at_place : (l i : ℕ) → l ≡ layer → i / 2 ^ (layer - l) ≡ index → IsHandled C (look m) after l i
-    at_place l i same up v claim =
-        let none_left : layer - l ≡ 0 = omega arith in
-        let here' : i ≡ index = sym (div-one i) ∙ sym (ap (λ k. i / 2 ^ k) none_left) ∙ up in
-        let value : h ≡ v = same_Some h v (sym is ∙ sym (ap₂ C same here') ∙ claim) in
-        elim here [
-          | inl known ↦ inl (ap₂ (look m) same here' ∙ known ∙ ap Some value)
-          | inr (none, noted) ↦ inr (ap₂ (look m) same here' ∙ none, subst (λ x. IsNoted after l i x) value (subst (λ k. IsNoted after k i h) (sym same) (subst (λ j. IsNoted after layer j h) (sym here') noted)))
-        ]
 
 -- a claim that differs from what is known
 pub mismatch : (C : PartialTree) (m : Known) (layer index : ℕ) (h : Hash) → C layer index ≡ Some h → DiffersFrom m (record { layer = layer; index = index; hash = h }) → IsMismatch (look m) C

@@ -10,7 +10,7 @@ use Rattle.partial_tree.specs.declared.evidence.Evidence.{Evidence}
 use Rattle.partial_tree.specs.declared.found.Claim.{Claim}
 use Rattle.partial_tree.specs.Claims.{joined, IsAgreed}
 use Rattle.partial_tree.specs.Joins.{with_new, Joins}
-use Rattle.partial_tree.specs.Evidence.{given_by, claimed_by, LiesUnder, LiesBelow, IsPruned, IsWritten, IsWrittenBelow, LeadsTo}
+use Rattle.partial_tree.specs.Evidence.{claimed_by, LiesUnder, LiesBelow, IsWritten, IsWrittenBelow, LeadsTo}
 use Rattle.partial_tree.proofs.Claimed.{there_or_not, first_of_two, second_of_two}
 use Rattle.partial_tree.proofs.Noting.{here_or_not, new-here, new-keeps, absent-other}
 use Rattle.partial_tree.proofs.Tracing.{under_child}
@@ -49,16 +49,6 @@ children-written C K first second layer index some left right = record {
     | inr w ↦ right.under l i w ∙ ap (λ o. option_or o (C l i)) (left.elsewhere l i (λ u. apart layer index l i u w))
   ];
   elsewhere = λ l i out. right.elsewhere l i (λ w. out (below-right layer index l i some w)) ∙ left.elsewhere l i (λ u. out (below-left layer index l i some u));
-}
-
--- nothing is claimed below a given hash
-pub given-written : (e : Evidence) (K : PartialTree) (layer index : ℕ) (v : Hash) → IsPruned e → given_by e layer index ≡ Some v → IsWrittenBelow (claimed_by e) layer index K K
-given-written e K layer index v pruned is = record {
-  below = λ l i at. elim (there_or_not (claimed_by e l i)) [
-    | inl (w, claim) ↦ absurd (pruned.below layer index l i v w is at.1 at.0 claim)
-    | inr none ↦ sym (none_beside (K l i) (claimed_by e l i) none)
-  ];
-  elsewhere = λ l i out. refl;
 }
 
 -- ---- at a place

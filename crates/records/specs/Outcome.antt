@@ -1,5 +1,5 @@
 -- What the lines of a replay's report amount to.
-use Rattle.std.specs.Prelude.{ℕ, Bool, true, false, ◌||◌, if◌then◌else◌, List}
+use Rattle.std.specs.Prelude.{ℕ, Bool, true, false, ◌||◌, if◌then◌else◌, List, is_some}
 use Rattle.std.specs.List.{list_any}
 use Rattle.partial_tree.specs.declared.refusal.HashRefusal.TheVariants.{NoMemory}
 use Rattle.session.specs.declared.verdict.Verdict.TheVariants as verdict
@@ -9,9 +9,10 @@ use Rattle.records.specs.declared.ending.Ending.{Ending}
 use Rattle.records.specs.declared.ending.Ending.TheVariants as ending
 use Rattle.records.specs.declared.outcome.Outcome.{Outcome}
 
--- the line has `refused` or `bad frame`
+-- a line has `refused` or `bad frame`
 abbrev pub is_refusal : Told → Bool
 is_refusal (told.Verdict (verdict.HashRefused r)) = true
+is_refusal (told.Verdict (verdict.Blocks v)) = list_any is_some v.refusals
 is_refusal (told.Verdict (verdict.BlockRefused r)) = true
 is_refusal (told.BadFrame id len) = true
 is_refusal t = false

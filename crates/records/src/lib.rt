@@ -4,6 +4,7 @@
 mod answering;
 mod ending;
 mod line_of_frame;
+mod lines_of_blocks;
 mod outcome;
 mod replaying;
 mod reply;

@@ -1,6 +1,6 @@
 //! What a replay prints of one frame.
 ghost use Rattle.std.specs.Prelude.{◌≡◌, ◌+◌, ◌≤◌, ◌++◌, length, codes, decimal};
-ghost use Rattle.records.specs.ReplayLines.{lines_of, refused_text, told_text, verdict_text};
+ghost use Rattle.records.specs.ReplayLines.{line_text, refused_text, told_text, verdict_text};
 
 #[cfg(test)]
 mod tests;
@@ -9,9 +9,9 @@ use crate::told::Told;
 use lines::Line;
 use session::Verdict;
 
-/// The line of the frame of this number.
+/// The line of the frame of this number, which is no message of blocks.
 pub fn line_of_frame(number: u64, told: &Told) -> Line
-    ensures { result ≡ lines_of number told.now }
+    ensures { result ≡ line_text number (told_text told.now) }
 {
     let mut line = Line::new();
     line.put_number(number);
@@ -53,7 +53,7 @@ fn put_verdict(line: &mut Line, verdict: &Verdict)
         Verdict::HashRefused(refusal) => {
             put_refused(line, b"H", refusal.number(), refusal.name());
         }
-        Verdict::Verified { file, block } => put_verified(line, *file, *block),
+        Verdict::Blocks(_) => {}
         Verdict::BlockRefused(refusal) => {
             put_refused(line, b"P", refusal.number(), refusal.name());
         }
@@ -76,19 +76,8 @@ fn put_counted(line: &mut Line, word: &[u8], number: u64)
     line.put_number(number);
 }
 
-fn put_verified(line: &mut Line, file: usize, block: u64)
-    requires { length line.old ≤ 21 }
-    ensures text { line.new ≡ line.old ++ verdict_text (Verdict.Verified file block) }
-    ensures bound { length line.new ≤ length line.old + 60 }
-{
-    line.put(b"verified ");
-    line.put_number(file as u64);
-    line.put(b" ");
-    line.put_number(block);
-}
-
 // A refusal: a letter, its number and its name.
-fn put_refused(line: &mut Line, letter: &[u8], number: u32, name: &str)
+pub fn put_refused(line: &mut Line, letter: &[u8], number: u32, name: &str)
     requires line { length line.old ≤ 21 }
     requires letter { length letter.now ≤ 1 }
     requires name { length name.now ≤ 11 }

@@ -30,6 +30,7 @@ impl Outcome {
             }
             Told::Verdict(Verdict::HashRefused(_) | Verdict::BlockRefused(_))
             | Told::BadFrame { .. } => self.refused = true,
+            Told::Verdict(Verdict::Blocks(blocks)) => self.refused |= blocks.has_refusal(),
             Told::Verdict(_) => {}
         }
     }

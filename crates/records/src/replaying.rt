@@ -13,13 +13,14 @@ mod tests;
 use crate::answering::{AnswerFault, Answering, Unwanted};
 use crate::ending::Ending;
 use crate::line_of_frame::line_of_frame;
+use crate::lines_of_blocks::write_blocks;
 use crate::outcome::Outcome;
 use crate::reply::Reply;
 use crate::response::Response;
 use crate::told::Told;
 use benc::{DeviceFault, Sink, Source, WriteFault, write_all};
 use lines::write_line;
-use session::{NodeMap, Session};
+use session::{NodeMap, Session, Verdict};
 use std::alloc::Global;
 use wire::{Frame, FrameFault, FrameReader};
 
@@ -173,10 +174,14 @@ fn take_frame<N: NodeMap>(session: &mut Session<'_, N>, frame: Frame<'_>) -> Res
 }
 
 // Writes the lines of the frame of this number.
+#[tactic(auto, unfolding(crate::specs::ReplayLines::lines_of))]
 fn write_frame<W: Sink>(report: &mut W, number: u64, told: &Told) -> Result<(), DeviceFault>
     ensures { Wrote (W.seen report.old) (W.seen report.new) result (lines_of number told.now) }
 {
-    write_all(report, line_of_frame(number, told).as_slice())
+    match told {
+        Told::Verdict(Verdict::Blocks(blocks)) => write_blocks(report, number, blocks),
+        _ => write_all(report, line_of_frame(number, told).as_slice()),
+    }
 }
 
 // Writes the last line and flushes, and then flushes the answers: what the report amounts to then.

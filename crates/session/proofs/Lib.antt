@@ -1,4 +1,7 @@
 pub use Rattle.chains.proofs.Chains
+pub mod States
+pub mod Entries
+pub mod Marking
 pub mod Runs
 pub mod Rounds
 pub mod RoundRuns
@@ -7,3 +10,4 @@ pub mod SafeSteps
 pub mod Numbering
 pub mod FirstTrees
 pub mod FirstLayers
+pub mod Arrays

@@ -26,7 +26,8 @@ use Rattle.chains.specs.Chain.{Chain}
 use Rattle.hashtree.proofs.Heights.{height_enough}
 use Rattle.partial_tree.proofs.Joining.{accepted-no_fault}
 use Rattle.partial_tree.proofs.Wanted.{true_answer-accepted, want-fewer}
-use Rattle.session.proofs.Runs.{Learns, run-true, run-learns, run-torrent, set-write}
+use Rattle.session.proofs.Runs.{Learns, run-true, run-learns, run-torrent}
+use Rattle.session.proofs.States.{set-write}
 
 -- a leaf that is not known is not the root
 pub want-tall : (t : TreeRoot) (K : PartialTree) (b : ℕ) → IsClosed t K → b < block_count t.length → K 0 b ≡ None → 1 ≤ tree_height t.length

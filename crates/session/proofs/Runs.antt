@@ -18,24 +18,26 @@ use Rattle.session.specs.declared.verdict.Verdict.TheVariants as verdict
 use Rattle.node_maps.specs.Digest.{Hash, IsHash}
 use Rattle.partial_tree.specs.Closed.{Keeps, IsClosed}
 use Rattle.partial_tree.specs.Claims.{claims, joined}
-use Rattle.node_maps.specs.Known.{look}
-use Rattle.session.specs.Session.{SessionSeen, TreeState, IsTree, IsGood, IsStored, IsVerified, Step, IsBlock, IsTrueVerdict, IsTrueStep, HasHashes}
+use Rattle.node_maps.specs.Known.{Known, look}
+use Rattle.session.specs.Session.{SessionSeen, TreeState, IsTree, IsGood, IsStored, AreTaken, Step, IsTrueVerdict, IsTrueStep, HasHashes}
+use Rattle.session.specs.Blocks.{BlocksSeen}
 use Rattle.session.specs.Layouts.{roots}
 use Rattle.chains.specs.Chain.{Chain}
 use Rattle.partial_tree.proofs.Joining.{joined-closed, joined-keeps}
 use Rattle.partial_tree.proofs.Keeping.{closed-same, marked-known}
-use Rattle.partial_tree.proofs.Headline.{block_or_collision}
+use Rattle.session.proofs.States.{set-read, set-write, set-other}
+use Rattle.session.proofs.Entries.{Later, chain-good, chain-torrent, chain-known, taken-blocks}
 
 -- what a step does to the state
 pub data Effect (S : SessionSeen) (m : Message) (S' : SessionSeen) : Type 0 where
   unchanged : S' ≡ S → Effect S m S'
   stored : (ask : Ask) (hashes : List Hash) (c : ℕ) → (HasHashes m → All IsHash hashes) → IsStored S ask hashes c S' → Effect S m S'
-  verified : (index begin : ℕ) (bytes : List ℕ) (file b : ℕ) → IsVerified S index begin bytes file b S' → Effect S m S'
+  taken : (index begin : ℕ) (bytes : List ℕ) (v : BlocksSeen) → AreTaken S index begin bytes v S' → Effect S m S'
 
 pub effect : (S : SessionSeen) (m : Message) (v : Verdict) (S' : SessionSeen) → Step S m v S' → Effect S m S'
 effect S (message.Hashes ask hashes) (verdict.Stored c) S' h = stored ask hashes.now c (λ x. x) h
 effect S (message.Hashes ask hashes) (verdict.HashRefused r) S' h = unchanged h.1
-effect S (message.Piece index begin bytes) (verdict.Verified file b) S' h = verified index begin bytes.now file b h
+effect S (message.Piece index begin bytes) (verdict.Blocks v) S' h = taken index begin bytes.now v h
 effect S (message.Piece index begin bytes) (verdict.BlockRefused r) S' h = unchanged h.1
 effect S (message.Request ask) verdict.Answered S' h = unchanged h.1
 effect S (message.Request ask) verdict.Rejected S' h = unchanged h.1
@@ -43,30 +45,6 @@ effect S (message.Reject ask) verdict.RejectNoted S' h = unchanged h
 effect S message.KeepAlive verdict.KeepAlive S' h = unchanged h
 effect S (message.Other id size) (verdict.Skipped id') S' h = unchanged h.1
 effect S m v S' h = absurd h
-
--- ---- writing one tree's state
-
-set-read : (ts : List TreeState) (n k : ℕ) (a s : TreeState) → slice_get (set ts n a) k ≡ Some s → ((k ≡ n) × (s ≡ a)) ⊎ ((k ≢ n) × (slice_get ts k ≡ Some s))
-set-read ts n k a s e =
-    let in' : k < length (set ts n a) = slice_get_within (set ts n a) k s e in
-    let len : length (set ts n a) ≡ length ts = length-set ts n a in
-    let read : get_or (set ts n a) k a ≡ s = get_or_from_slice_get (set ts n a) k s a e in
-    elim (cases_eq k n) [
-      | inl same ↦ inl (same, sym read ∙ ap (λ j. get_or (set ts n a) j a) same ∙ get_or-set_same ts n a a (let low : n < length ts = omega arith in low))
-      | inr other ↦ inr (other, slice_get-get_or ts k a (omega arith) ∙ ap Some (sym (get_or-set_other ts n k a a other) ∙ read))
-    ]
-
-pub set-write : (ts : List TreeState) (n : ℕ) (a s : TreeState) → slice_get ts n ≡ Some s → slice_get (set ts n a) n ≡ Some a
-set-write ts n a s e =
-    let in' : n < length ts = slice_get_within ts n s e in
-    let len : length (set ts n a) ≡ length ts = length-set ts n a in
-    slice_get-get_or (set ts n a) n a (omega arith) ∙ ap Some (get_or-set_same ts n a a in')
-
-set-other : (ts : List TreeState) (n k : ℕ) (a s : TreeState) → k ≢ n → slice_get ts k ≡ Some s → slice_get (set ts n a) k ≡ Some s
-set-other ts n k a s other e =
-    let in' : k < length ts = slice_get_within ts k s e in
-    let len : length (set ts n a) ≡ length ts = length-set ts n a in
-    slice_get-get_or (set ts n a) k a (omega arith) ∙ ap Some (get_or-set_other ts n k a a other ∙ get_or_from_slice_get ts k s a e)
 
 -- ---- steps keep the trees closed
 
@@ -104,38 +82,6 @@ module _ (S : SessionSeen) (good : IsGood S) where
     ];
   }
 
-  good-verified : (index begin : ℕ) (bytes : List ℕ) (file b : ℕ) (S' : SessionSeen) → IsVerified S index begin bytes file b S' → IsGood S'
-  good-verified index begin bytes file b S' h =
-      let n : ℕ = h.placed.tree_number in
-      let a : TreeState = record h.placed.state { marked = leaves.insert h.placed.state.marked b } in
-      record {
-        count = ap (λ U. length U.trees) h.state_after ∙ length-set S.trees n a ∙ good.count ∙ ap (λ U. length (roots U)) (sym h.state_after);
-        closed = λ k tree s at. elim (set-read S.trees n k a s (ap (λ U. slice_get U.trees k) (sym h.state_after) ∙ at.state_is)) [
-          | inl (same, is) ↦ subst₂ (λ tr st. IsClosed tr (look st.known)) (sym (one_tree n k tree h.placed.tree same (before k tree (h.state_after) at.tree_is) h.placed.is_tree.tree_is)) (sym is)
-              (good.closed n h.placed.tree h.placed.state h.placed.is_tree)
-          | inr (other, old) ↦ good.closed k tree s (record { tree_is = before k tree (h.state_after) at.tree_is; state_is = old })
-        ];
-        marks = λ k tree s at i marked. elim (set-read S.trees n k a s (ap (λ U. slice_get U.trees k) (sym h.state_after) ∙ at.state_is)) [
-          | inl (same, is) ↦
-              let here : leaves.contains (leaves.insert h.placed.state.marked b) i ≡ true = ap (λ st. leaves.contains st.marked i) (sym is) ∙ marked in
-              let (v, e) = marked-known h.placed.state b i (sha256 bytes) h.leaf_known (good.marks n h.placed.tree h.placed.state h.placed.is_tree i) here in
-              (v, ap (λ st. look st.known 0 i) is ∙ e)
-          | inr (other, old) ↦ good.marks k tree s (record { tree_is = before k tree (h.state_after) at.tree_is; state_is = old }) i marked
-        ];
-      }
-
-  -- what is verified is the file's block
-
-  verified-block : (index begin : ℕ) (bytes : List ℕ) (file b : ℕ) (S' : SessionSeen) → IsVerified S index begin bytes file b S' → IsBlock S index begin bytes file b
-  verified-block index begin bytes file b S' h = record {
-    placed = h.placed;
-    same_file = h.same_file;
-    same_block = h.same_block;
-    is_block = λ f fits. block_or_collision h.placed.tree (look h.placed.state.known) f
-        (good.closed h.placed.tree_number h.placed.tree h.placed.state h.placed.is_tree) fits b
-        (subst (λ i. i < block_count h.placed.tree.length) h.same_block h.placed.inside) (sha256 bytes) bytes h.leaf_known refl;
-  }
-
 -- ---- whole runs
 
 -- what one state knows of each tree the other knows too
@@ -147,7 +93,7 @@ pub record Learns (S S' : SessionSeen) (n : ℕ) (tree : TreeRoot) (s : TreeStat
 step-good : (S : SessionSeen) (m : Message) (S' : SessionSeen) → IsGood S → HasHashes m → Effect S m S' → IsGood S'
 step-good S m S' good all (unchanged e) = subst IsGood (sym e) good
 step-good S m S' good all (stored ask hashes c has h) = good-stored S good ask hashes c S' (has all) h
-step-good S m S' good all (verified index begin bytes file b h) = good-verified S good index begin bytes file b S' h
+step-good S m S' good all (taken index begin bytes v h) = chain-good v.file S _ v.refusals S' good h.each
 
 step-learns : (S : SessionSeen) (m : Message) (S' : SessionSeen) → Effect S m S' → (n : ℕ) (tree : TreeRoot) (s : TreeState) → IsTree S n tree s → Learns S S' n tree s
 step-learns S m S' (unchanged e) n tree s at = record {
@@ -171,24 +117,12 @@ step-learns S m S' (stored ask hashes c has h) n tree s at = elim (cases_eq n h.
     keeps = λ l i v k. k;
   }
 ]
-step-learns S m S' (verified index begin bytes file b h) n tree s at = elim (cases_eq n h.placed.tree_number) [
-  | inl same ↦ record {
-    later = record h.placed.state { marked = leaves.insert h.placed.state.marked b };
-    later_is = record {
-      tree_is = ap (λ U. slice_get (roots U) n) h.state_after ∙ at.tree_is;
-      state_is = ap₂ (λ U i. slice_get U.trees i) h.state_after same ∙ set-write S.trees h.placed.tree_number _ h.placed.state h.placed.is_tree.state_is;
-    };
-    keeps = λ l i v k. ap (λ st. look st.known l i) (same_Some h.placed.state s (sym h.placed.is_tree.state_is ∙ sym (ap (slice_get S.trees) same) ∙ at.state_is)) ∙ k;
-  }
-  | inr other ↦ record {
-    later = s;
-    later_is = record { tree_is = ap (λ U. slice_get (roots U) n) h.state_after ∙ at.tree_is; state_is = ap (λ U. slice_get U.trees n) h.state_after ∙ set-other S.trees h.placed.tree_number n _ s other at.state_is };
-    keeps = λ l i v k. k;
-  }
-]
+step-learns S m S' (taken index begin bytes v h) n tree s at =
+    let after : Later S' n tree s = chain-known v.file S _ v.refusals S' h.each n tree s at in
+    record { later = after.later; later_is = after.later_is; keeps = λ l i x k. ap (λ (K : Known). look K l i) after.known ∙ k }
 
 pub verdict-true : (S : SessionSeen) (m : Message) (v : Verdict) (S' : SessionSeen) → IsGood S → Step S m v S' → IsTrueVerdict S m v
-verdict-true S (message.Piece index begin bytes) (verdict.Verified file b) S' good h = verified-block S good index begin bytes.now file b S' h
+verdict-true S (message.Piece index begin bytes) (verdict.Blocks v) S' good h = taken-blocks S good index begin bytes.now v S' h
 verdict-true S m v S' good h = tt
 
 -- a run keeps the trees closed, and each of its verdicts keeps its promise
@@ -218,7 +152,7 @@ step-torrent S m v S' step = same_torrent (effect S m v S' step)
     same_torrent : Effect S m S' → S'.torrent ≡ S.torrent
     same_torrent (unchanged e) = ap (λ U. U.torrent) e
     same_torrent (stored ask hashes c has h) = ap (λ U. U.torrent) h.state_after
-    same_torrent (verified index begin bytes file b h) = ap (λ U. U.torrent) h.state_after
+    same_torrent (taken index begin bytes v h) = chain-torrent v.file S _ v.refusals S' h.each
 
 pub run-torrent : (S : SessionSeen) (ms : List Message) (vs : List Verdict) (S' : SessionSeen) → Chain Step S ms vs S' → S'.torrent ≡ S.torrent
 run-torrent S [] [] S' e = ap (λ U. U.torrent) e

@@ -1,5 +1,5 @@
 -- Each step of a good state does no harm, and so does a run of steps.
-use Rattle.std.proofs.Common.{◌≡◌, ◌⊎◌, ℕ, ◌-◌, ◌*◌, min, Result, Ok, Err, IfOk, IfErr, List, [], ◌∷◌, length, get_or, Some, ◌<◌, inl, inr, refl, sym, ap, ap₂, ◌∙◌, subst, subst₂, arith}
+use Rattle.std.proofs.Common.{◌≡◌, ◌⊎◌, ℕ, Result, Ok, Err, IfOk, IfErr, List, [], ◌∷◌, length, get_or, Some, None, ◌<◌, inl, inr, refl, sym, ap, ap₂, ◌∙◌, subst, subst₂, arith}
 use Rattle.std.specs.Prelude.{map, slice_get}
 use Rattle.std.specs.FinMap.{empty}
 use Rattle.std.specs.FinSet as leaves
@@ -21,16 +21,19 @@ use Rattle.node_maps.specs.Digest.{Hash}
 use Rattle.node_maps.specs.Places.{PartialTree, IsKnown}
 use Rattle.partial_tree.specs.Closed.{Collision, whole}
 use Rattle.partial_tree.specs.Claims.{IsAccepted, Refuses}
-use Rattle.node_maps.specs.Known.{look}
-use Rattle.session.specs.Session.{SessionSeen, TreeState, IsTree, IsGood, IsAsked, IsPlaced, IsStored, IsVerified, IsBlock, IsHashRefused, IsBlockRefused, HasSize, HasDistinctRoots, Step}
+use Rattle.node_maps.specs.Known.{Known, look}
+use Rattle.session.specs.Session.{SessionSeen, TreeState, IsTree, IsGood, IsAsked, IsPlaced, IsStored, IsVerified, IsBlock, AreBlocks, AreTaken, AreRefused, IsHashRefused, IsBlockRefused, HasDistinctRoots, Step}
+use Rattle.session.specs.Blocks.{BlocksSeen, Cut}
 use Rattle.session.specs.Layouts.{roots, root_of_entry, tree_of}
 use Rattle.partial_tree.proofs.Whole.{whole-closed}
 use Rattle.partial_tree.proofs.Stored.{stored_or_collision}
 use Rattle.partial_tree.proofs.Answers.{answer-stored}
 use Rattle.partial_tree.proofs.Joining.{accepted-no_fault}
-use Rattle.partial_tree.proofs.Headline.{block-size, leaf_or_collision}
+use Rattle.partial_tree.specs.Kept.{TreeRefusesBlock}
+use Rattle.metainfo.specs.Blocks.{IsBlockRun}
+use Rattle.session.proofs.Entries.{Later, same_tree, same_state, step-known, never-refused, says-block, chain-known, taken-blocks, taken-true}
 use Rattle.session.proofs.Runs.{run-learns, verdict-true}
-use Rattle.session.specs.SafeStep.{KeepsKnown, AreTrueHashes, StoresTrueHashes, IsAnswerFrom, StoresAnswers, VerifiesTrueBlock, TakesWhatIsTrue, IsSafeStep}
+use Rattle.session.specs.SafeStep.{KeepsKnown, AreTrueHashes, StoresTrueHashes, IsAnswerFrom, StoresAnswers, IsNoRun, VerifiesTrueBlock, VerifiesTrueBlocks, TakesWhatIsTrue, IsSafeStep}
 
 keeps_known : (S : SessionSeen) (m : Message) (v : Verdict) (S' : SessionSeen) → Step S m v S' → KeepsKnown S S'
 keeps_known S m v S' step n tree s at =
@@ -118,76 +121,97 @@ hashes-keep S ask hashes (Err x) S' stored refused = keeps_known S (message.Hash
 
 -- ---- true blocks
 
-pub record SamePlace (S : SessionSeen) (index begin : ℕ) (p q : IsPlaced S index begin) : Type 0 where
-  pub file : q.file ≡ p.file
-  pub number : q.number ≡ p.number
-  pub tree : q.tree ≡ p.tree
-  pub state : q.state ≡ p.state
-
+-- one place is one file and block, in one tree
 module _ (S : SessionSeen) (index begin : ℕ) (p q : IsPlaced S index begin) where
-  same_place : SamePlace S index begin p q
-  same_place =
-      let pair : (q.file, q.number) ≡ (p.file, p.number) = same_Some (q.file, q.number) (p.file, p.number) (sym q.at ∙ p.at) in
-      let file : q.file ≡ p.file = ap (λ x. x.0) pair in
-      let tree_number : q.tree_number ≡ p.tree_number = same_Some q.tree_number p.tree_number (sym q.of_file ∙ ap (tree_of S) file ∙ p.of_file) in
-      record {
-        file = file;
-        number = ap (λ x. x.1) pair;
-        tree = same_Some q.tree p.tree (sym q.is_tree.tree_is ∙ ap (slice_get (roots S)) tree_number ∙ p.is_tree.tree_is);
-        state = same_Some q.state p.state (sym q.is_tree.state_is ∙ ap (slice_get S.trees) tree_number ∙ p.is_tree.state_is);
-      }
+  same_pair : ◌≡◌ {A = ℕ × ℕ} (q.file, q.number) (p.file, p.number)
+  same_pair = same_Some (q.file, q.number) (p.file, p.number) (sym q.at ∙ p.at)
 
-abbrev verified : ℕ → ℕ → Result (ℕ × ℕ) BlockRefusal
-verified file number = Ok (file, number)
+  same_block_number : q.number ≡ p.number
+  same_block_number = ap (λ x. x.1) same_pair
+
+  of_placed : tree_of S q.file ≡ Some p.in_file.tree_number
+  of_placed = ap (λ x. tree_of S x.0) same_pair ∙ p.in_file.of_file
+
+  placed_tree : q.in_file.tree ≡ p.in_file.tree
+  placed_tree = same_tree S q.file q.number p.in_file.tree_number p.in_file.tree p.in_file.state of_placed p.in_file.is_tree q.in_file
+
+  placed_state : q.in_file.state ≡ p.in_file.state
+  placed_state = same_state S q.file q.number p.in_file.tree_number p.in_file.tree p.in_file.state of_placed p.in_file.is_tree q.in_file
+
+  refused_there : (bytes : List ℕ) (r : BlockRefusal) → TreeRefusesBlock q.in_file.tree.length (look q.in_file.state.known) q.number bytes r
+      → TreeRefusesBlock p.in_file.tree.length (look p.in_file.state.known) p.number bytes r
+  refused_there bytes r refused =
+      subst (λ b. TreeRefusesBlock p.in_file.tree.length (look p.in_file.state.known) b bytes r) same_block_number
+      (subst₂ (λ (tr : TreeRoot) (st : TreeState). TreeRefusesBlock tr.length (look st.known) q.number bytes r) placed_tree placed_state refused)
+
+  run_there : (size k : ℕ) → IsBlockRun p.in_file.tree.length p.number size k → IsBlockRun q.in_file.tree.length q.number size k
+  run_there size k run = subst₂ (λ (tr : TreeRoot) b. IsBlockRun tr.length b size k) (sym placed_tree) (sym same_block_number) run
 
 module _ (S : SessionSeen) (good : IsGood S) (index begin : ℕ) (bytes : List ℕ) (p : IsPlaced S index begin) (f : List ℕ)
-    (fits : Fits f p.tree) (is_block : bytes ≡ block f p.number) (known : IsKnown (look p.state.known) 0 p.number) where
-  has_size : HasSize p.tree p.number bytes
-  has_size = ap length is_block ∙ block-size f p.number ∙ ap (λ n. min 16384 (n - 16384 * p.number)) fits.same_length
+    (fits : Fits f p.in_file.tree) (is_block : bytes ≡ block f p.number) (known : IsKnown (look p.in_file.state.known) 0 p.number) where
+  refused_elsewhere : (r : BlockRefusal) → (q : IsPlaced S index begin) → TreeRefusesBlock q.in_file.tree.length (look q.in_file.state.known) q.number bytes r
+      → Collision (whole f) (look p.in_file.state.known)
+  refused_elsewhere r q refused = never-refused S good p.file p.number bytes p.in_file f fits is_block known r (refused_there S index begin p q bytes r refused)
 
-  size_fits : (q : IsPlaced S index begin) → HasSize q.tree q.number bytes
-  size_fits q =
-      let same : SamePlace S index begin p q = same_place S index begin p q in
-      subst₂ (λ tree number. HasSize tree number bytes) (sym same.tree) (sym same.number) has_size
-
-  leaf_at : (q : IsPlaced S index begin) → look q.state.known 0 q.number ≡ look p.state.known 0 p.number
-  leaf_at q =
-      let same : SamePlace S index begin p q = same_place S index begin p q in
-      ap₂ (λ (s : TreeState) (i : ℕ). look s.known 0 i) same.state same.number
-
-  block_verified : (file b : ℕ) (S' : SessionSeen) → IsVerified S index begin bytes file b S' → verified file b ≡ verified p.file p.number
-  block_verified file b S' h =
-      let same : SamePlace S index begin p h.placed = same_place S index begin p h.placed in
-      ap₂ verified (sym h.same_file ∙ same.file) (sym h.same_block ∙ same.number)
-
-  block_refused : (r : BlockRefusal) → IsBlockRefused S index begin bytes r → Collision (whole f) (look p.state.known)
+  block_refused : (r : BlockRefusal) → IsBlockRefused S index begin bytes r → Collision (whole f) (look p.in_file.state.known)
   block_refused BadPlace h = absurd (none-some (p.file, p.number) (sym h ∙ p.at))
-  block_refused BadSize (q, wrong) = absurd (wrong (size_fits q))
-  block_refused Unproved (q, (size, none)) = absurd (none-some known.0 (sym none ∙ leaf_at q ∙ known.1))
-  block_refused BadBlock (q, (size, (leaf, is_leaf, differ))) =
-      elim (leaf_or_collision p.tree (look p.state.known) f (good.closed p.tree_number p.tree p.state p.is_tree) fits p.number p.inside leaf (sym (leaf_at q) ∙ is_leaf)) [
-        | inl same ↦ absurd (differ (cc))
-        | inr collision ↦ collision
-      ]
+  block_refused BadSize (q, h) = refused_elsewhere BadSize q h
+  block_refused Unproved (q, h) = refused_elsewhere Unproved q h
+  block_refused BadBlock (q, h) = refused_elsewhere BadBlock q h
 
 pub block-taken : (S : SessionSeen) → IsGood S → (index begin : ℕ) (bytes : List ℕ) (r : Result (ℕ × ℕ) BlockRefusal) (S' : SessionSeen)
     → IfOk r (λ p. IsVerified S index begin bytes p.0 p.1 S') → IfErr r (λ x. IsBlockRefused S index begin bytes x × (S' ≡ S))
     → VerifiesTrueBlock S index begin bytes r
 block-taken S good index begin bytes (Ok (file, b)) S' was refused =
-    λ p f fits is_block known. inl (block_verified S good index begin bytes p f fits is_block known file b S' was)
+    λ p f fits is_block known. inl (ap Ok (same_Some (file, b) (p.file, p.number) (sym was.0 ∙ p.at)))
 block-taken S good index begin bytes (Err x) S' was refused =
     λ p f fits is_block known. inr (block_refused S good index begin bytes p f fits is_block known x refused.0)
 
-pub block-keeps : (S : SessionSeen) (index begin : ℕ) (bytes : Bor (List ℕ)) (r : Result (ℕ × ℕ) BlockRefusal) (S' : SessionSeen)
-    → IfOk r (λ p. IsVerified S index begin bytes.now p.0 p.1 S') → IfErr r (λ x. IsBlockRefused S index begin bytes.now x × (S' ≡ S))
-    → KeepsKnown S S'
-block-keeps S index begin bytes (Ok (file, b)) S' was refused = keeps_known S (message.Piece index begin bytes) (verdict.Verified file b) S' was
-block-keeps S index begin bytes (Err x) S' was refused = keeps_known S (message.Piece index begin bytes) (verdict.BlockRefused x) S' refused
+later-keeps : (S S' : SessionSeen) → ((n : ℕ) (tree : TreeRoot) (s : TreeState) → IsTree S n tree s → Later S' n tree s) → KeepsKnown S S'
+later-keeps S S' later n tree s at =
+    let a : Later S' n tree s = later n tree s at in
+    (a.later, a.later_is, λ l i v e. ap (λ (K : Known). look K l i) a.known ∙ e)
 
-pub block-is : (S : SessionSeen) → IsGood S → (index begin : ℕ) (bytes : Bor (List ℕ)) (r : Result (ℕ × ℕ) BlockRefusal) (S' : SessionSeen)
-    → IfOk r (λ p. IsVerified S index begin bytes.now p.0 p.1 S') → IfOk r (λ p. IsBlock S index begin bytes.now p.0 p.1)
-block-is S good index begin bytes (Ok (file, b)) S' was = verdict-true S (message.Piece index begin bytes) (verdict.Verified file b) S' good was
+same-keeps : (S S' : SessionSeen) → S' ≡ S → KeepsKnown S S'
+same-keeps S S' e = λ n tree s at. (s, subst (λ U. IsTree U n tree s) (sym e) at, λ l i v k. k)
+
+abbrev one_cut : ℕ → List ℕ → Cut
+one_cut b bytes = record { number = b; bytes = bytes }
+
+pub block-keeps : (S : SessionSeen) (index begin : ℕ) (bytes : List ℕ) (r : Result (ℕ × ℕ) BlockRefusal) (S' : SessionSeen)
+    → IfOk r (λ p. IsVerified S index begin bytes p.0 p.1 S') → IfErr r (λ x. IsBlockRefused S index begin bytes x × (S' ≡ S))
+    → KeepsKnown S S'
+block-keeps S index begin bytes (Ok (file, b)) S' was refused = later-keeps S S' (step-known file S (one_cut b bytes) None S' was.1)
+block-keeps S index begin bytes (Err x) S' was refused = same-keeps S S' refused.1
+
+pub block-is : (S : SessionSeen) → IsGood S → (index begin : ℕ) (bytes : List ℕ) (r : Result (ℕ × ℕ) BlockRefusal) (S' : SessionSeen)
+    → IfOk r (λ p. IsVerified S index begin bytes p.0 p.1 S') → IfOk r (λ p. IsBlock S index begin bytes p.0 p.1)
+block-is S good index begin bytes (Ok (file, b)) S' (at, h) =
+    (at, says-block S good file (one_cut b bytes) h.in_file.tree_number h.in_file.tree h.in_file.state h.in_file.of_file h.in_file.is_tree (h.in_file.inside, h.leaf_known))
 block-is S good index begin bytes (Err x) S' was = tt
+
+-- ---- several blocks
+
+no-run : (S : SessionSeen) (index begin : ℕ) (bytes : List ℕ) (r : BlockRefusal) → AreRefused S index begin bytes r → IsNoRun S index begin bytes
+no-run S index begin bytes BadPlace h = λ p k run. none-some (p.file, p.number) (sym h ∙ p.at)
+no-run S index begin bytes BadSize (q, none) = λ p k run. none k (run_there S index begin p q (length bytes) k run)
+no-run S index begin bytes Unproved h = absurd h
+no-run S index begin bytes BadBlock h = absurd h
+
+pub blocks-are : (S : SessionSeen) → IsGood S → (index begin : ℕ) (bytes : List ℕ) (r : Result BlocksSeen BlockRefusal) (S' : SessionSeen)
+    → IfOk r (λ v. AreTaken S index begin bytes v S') → IfOk r (AreBlocks S index begin bytes)
+blocks-are S good index begin bytes (Ok v) S' h = taken-blocks S good index begin bytes v S' h
+blocks-are S good index begin bytes (Err x) S' h = tt
+
+pub blocks-true : (S : SessionSeen) → IsGood S → (index begin : ℕ) (bytes : List ℕ) (r : Result BlocksSeen BlockRefusal) (S' : SessionSeen)
+    → IfOk r (λ v. AreTaken S index begin bytes v S') → IfOk r (VerifiesTrueBlocks S bytes)
+blocks-true S good index begin bytes (Ok v) S' h = taken-true S good index begin bytes v S' h
+blocks-true S good index begin bytes (Err x) S' h = tt
+
+pub blocks-keep : (S : SessionSeen) (index begin : ℕ) (bytes : List ℕ) (r : Result BlocksSeen BlockRefusal) (S' : SessionSeen)
+    → IfOk r (λ v. AreTaken S index begin bytes v S') → IfErr r (λ x. AreRefused S index begin bytes x × (S' ≡ S)) → KeepsKnown S S'
+blocks-keep S index begin bytes (Ok v) S' h refused = later-keeps S S' (chain-known v.file S _ v.refusals S' h.each)
+blocks-keep S index begin bytes (Err x) S' h refused = same-keeps S S' refused.1
 
 -- ---- steps
 
@@ -196,8 +220,8 @@ takes_true S good distinct (message.Hashes ask hashes) (verdict.Stored c) S' ste
     (hashes-stored S good distinct ask hashes.now (Ok c) S' step tt, answers-stored S good distinct ask hashes.now (Ok c) S' step tt)
 takes_true S good distinct (message.Hashes ask hashes) (verdict.HashRefused r) S' step =
     (hashes-stored S good distinct ask hashes.now (Err r) S' tt step, answers-stored S good distinct ask hashes.now (Err r) S' tt step)
-takes_true S good distinct (message.Piece index begin bytes) (verdict.Verified file b) S' step = block-taken S good index begin bytes.now (Ok (file, b)) S' step tt
-takes_true S good distinct (message.Piece index begin bytes) (verdict.BlockRefused r) S' step = block-taken S good index begin bytes.now (Err r) S' tt step
+takes_true S good distinct (message.Piece index begin bytes) (verdict.Blocks v) S' step = taken-true S good index begin bytes.now v S' step
+takes_true S good distinct (message.Piece index begin bytes) (verdict.BlockRefused r) S' step = no-run S index begin bytes.now r step.0
 takes_true S good distinct (message.Hashes ask hashes) v S' step = absurd step
 takes_true S good distinct (message.Piece index begin bytes) v S' step = absurd step
 takes_true S good distinct m v S' step = tt

@@ -1,5 +1,5 @@
 -- The trees of a session beside the state that contracts see.
-use Rattle.std.proofs.Common.{◌≡◌, ◌≢◌, ◌⊎◌, inl, inr, ℕ, ◌<◌, true, List, map, length, set, get_or, Option, Some, None, option_map, Result, Ok, Err, IfOk, IfErr, refl, sym, ap, ◌∙◌, subst, subst₂, arith}
+use Rattle.std.proofs.Common.{◌≡◌, ◌≢◌, ◌⊎◌, inl, inr, ℕ, ◌<◌, true, List, map, length, set, get_or, Option, Some, None, option_map, Result, Ok, Err, IfOk, IfErr, refl, sym, ap, ap₂, ◌∙◌, subst, subst₂, arith}
 use Rattle.std.specs.Prelude.{slice_get}
 use Rattle.std.specs.FinSet as leaves
 use Rattle.std.proofs.lemmas.Option.{none-some, same_Some, slice_get_within, slice_get-get_or, get_or_from_slice_get, slice_get-map}
@@ -8,13 +8,16 @@ use Rattle.std.proofs.lemmas.List.Elements.{All-get_or, All-set}
 use Rattle.std.proofs.Math.Seq.{map-set_same}
 use Rattle.hashtree.specs.Tree.{block_count}
 use Rattle.metainfo.specs.Description.{Description, FileEntry}
-use Rattle.metainfo.specs.Places.{IsPlace, place_of}
 use Rattle.metainfo.specs.Sound.{IsSound}
+use Rattle.metainfo.specs.Blocks.{IsBlockRun}
+use Rattle.metainfo.specs.Places.{place_of}
+use Rattle.chains.specs.Chain.{Chain}
+use Rattle.session.specs.Blocks.{BlocksSeen, cuts}
+use Rattle.partial_tree.specs.declared.refusal.BlockRefusal.TheVariants.{BadPlace, BadSize, Unproved, BadBlock}
 use Rattle.wire.specs.declared.message.Ask.{Ask}
 use Rattle.partial_tree.specs.declared.refusal.HashRefusal.{HashRefusal}
 use Rattle.partial_tree.specs.declared.refusal.HashRefusal.TheVariants.{UnknownRoot, BadRange, BadCount, BadPad, Unanchored, Mismatch, NoMemory}
 use Rattle.partial_tree.specs.declared.refusal.BlockRefusal.{BlockRefusal}
-use Rattle.partial_tree.specs.declared.refusal.BlockRefusal.TheVariants.{BadPlace, BadSize, Unproved, BadBlock}
 use Rattle.node_maps.specs.Digest.{Hash}
 use Rattle.partial_tree.specs.TreeRoot.{TreeRoot}
 use Rattle.node_maps.specs.Places.{tree_height, IsKnown}
@@ -23,14 +26,14 @@ use Rattle.partial_tree.specs.Claims.{claims, IsAccepted, TreeRefuses, CanAnswer
 use Rattle.node_maps.specs.Known.{Known, Marked, look}
 use Rattle.partial_tree.specs.Joins.{Joins}
 use Rattle.partial_tree.specs.Kept.{TreeState, KeptTree, info_of, IsGoodTree, IsMarked, TreeRefusesBlock}
-use Rattle.session.specs.Session.{IsTree, IsGood, HasDistinctRoots, IsStored, IsHashRefused, IsAnswered, IsPlaced, IsVerified, IsBlockRefused, IsFilled, IsFillRefused}
+use Rattle.session.specs.Session.{IsTree, IsGood, HasDistinctRoots, IsStored, IsHashRefused, IsAnswered, IsInFile, IsMarkedBlock, IsUnmarkedBlock, BlockStep, AreTaken, IsBlockRefused, IsFilled, IsFillRefused}
 use Rattle.partial_tree.specs.declared.answer.Answer.{Answer}
 use Rattle.partial_tree.specs.declared.answer.Answer.TheVariants as answer
 use Rattle.partial_tree.specs.Answers.{IsTreeAnswer}
 use Rattle.session.specs.Answers.{IsAnswerTo}
 use Rattle.session.specs.Layouts.{IsBlockOf, SessionSeen, seen, root_of_entry, tree_number, state_of, AreKept}
 use Rattle.partial_tree.specs.Fill.{fill_claims, IsFillAccepted, FillRefuses}
-use Rattle.partial_tree.proofs.Keeping.{same_info}
+use Rattle.partial_tree.proofs.Keeping.{same_info, good_same, good_marked}
 
 abbrev pub with_trees : Description → List TreeState → SessionSeen
 with_trees d states = record { torrent = d; trees = states }
@@ -156,47 +159,42 @@ module _ (d : Description) (ts : List KeptTree) (kept : AreKept d ts) where
         (sym (slice_get-map info_of ts tr) ∙ ap (λ l. slice_get l tr) kept.same ∙ slice_get-map root_of_entry d.trees tr ∙ ap (option_map root_of_entry) e.1) in
         (x.0, x.1, ap (λ t. t.length) x.2 ∙ e.2)
 
-    pub block_inside : (index begin file b tr : ℕ) (p : IsPlace d index begin file b) (a : KeptTree) → p.file.tree ≡ Some tr → slice_get ts tr ≡ Some a → b < block_count a.length
-    block_inside index begin file b tr p a is e =
-        let x = tree_for file tr p.file p.there is in
-        let len : a.length ≡ p.file.length = ap (λ t. t.length) (same_Some a x.0 (sym e ∙ x.1)) ∙ x.2 in
-        subst (λ n. b < block_count n) (sym len) p.in_file
+    pub same_length : (file tr : ℕ) (f : FileEntry) (a : KeptTree) → slice_get d.files file ≡ Some f → f.tree ≡ Some tr → slice_get ts tr ≡ Some a → a.length ≡ f.length
+    same_length file tr f a there is e =
+        let x = tree_for file tr f there is in
+        ap (λ t. t.length) (same_Some a x.0 (sym e ∙ x.1)) ∙ x.2
 
-  module _ (index begin file b tr : ℕ) (f : FileEntry) (a : KeptTree) (there : slice_get d.files file ≡ Some f) (is : f.tree ≡ Some tr)
-      (at : place_of d index begin ≡ Some (file, b)) (e : slice_get ts tr ≡ Some a) (low : b < block_count a.length) where
-    abbrev placed : IsPlaced (seen d ts) index begin
-    placed = record {
-      file = file;
-      number = b;
+  module _ (file b tr : ℕ) (f : FileEntry) (a : KeptTree) (there : slice_get d.files file ≡ Some f) (is : f.tree ≡ Some tr) (e : slice_get ts tr ≡ Some a)
+      (low : b < block_count a.length) where
+    abbrev pub in_file : IsInFile (seen d ts) file b
+    in_file = record {
       tree_number = tr;
       tree = info_of a;
       state = a.state;
-      at = at;
       of_file = ap tree_number there ∙ is;
       is_tree = tree_at d ts kept tr a e;
       inside = low;
     }
 
-    pub verified_in : (next : KeptTree) (bytes : List ℕ) → next.state.known ≡ a.state.known → IsMarked a.length a.state b bytes next.state
-        → IsVerified (seen d ts) index begin bytes file b (seen d (set ts tr next))
-    verified_in next bytes k ok =
+    pub marked_all : {X : Type 0} (next : KeptTree) (bytes : List ℕ) (r : Result X BlockRefusal) → next.state.known ≡ a.state.known
+        → IfOk r (λ _. IsMarked a.length a.state b bytes next.state)
+        → IfOk r (λ _. IsMarkedBlock (seen d ts) file b bytes (seen d (set ts tr next)))
+    marked_all next bytes (Err x) k ok = tt
+    marked_all next bytes (Ok x) k ok =
         let state : Known → Marked → TreeState = λ x y. record { known = x; marked = y } in
         let after : next.state ≡ state a.state.known (leaves.insert a.state.marked b) = ap (λ x. state x next.state.marked) k ∙ ap (λ y. state a.state.known y) ok.marks in
         record {
-          placed = placed;
-          same_file = refl;
-          same_block = refl;
+          in_file = in_file;
           size = ok.size;
           leaf_known = ok.leaf_known;
           state_after = ap (with_trees d) (map-set state_of ts tr next ∙ ap (set (map state_of ts) tr) after);
         }
 
-    pub block_refused_in : (bytes : List ℕ) (r : BlockRefusal) → TreeRefusesBlock a.length (look a.state.known) b bytes r
-        → IsBlockRefused (seen d ts) index begin bytes r
-    block_refused_in bytes BadPlace h = absurd h
-    block_refused_in bytes BadSize h = (placed, h)
-    block_refused_in bytes Unproved h = (placed, h)
-    block_refused_in bytes BadBlock h = (placed, h)
+    pub unmarked_all : {X : Type 0} (next : KeptTree) (bytes : List ℕ) (r : Result X BlockRefusal) → next.state.known ≡ a.state.known
+        → IfErr r (λ x. TreeRefusesBlock a.length (look a.state.known) b bytes x × (next.state.marked ≡ a.state.marked))
+        → IfErr r (λ x. IsUnmarkedBlock (seen d ts) file b bytes x × (seen d (set ts tr next) ≡ seen d ts))
+    unmarked_all next bytes (Ok x) k refused = tt
+    unmarked_all next bytes (Err x) k refused = ((in_file, refused.0), ap (with_trees d) (state_stays ts tr a next e k refused.1))
 
 -- ---- whole layers
 
@@ -246,16 +244,55 @@ module _ (d : Description) (ts : List KeptTree) (kept : AreKept d ts) where
       (sym (slice_get-map root_of_entry d.trees n) ∙ ap (λ l. slice_get l n) (sym kept.same) ∙ slice_get-map info_of ts n ∙ ap (option_map info_of) e) in
       subst (λ len. block < block_count len) (ap (λ t. t.length) x.2) (is x.0 x.1)
 
--- ---- a placed block has a tree
+-- ---- files and trees
 
 none_or_some : (o : Option ℕ) → ((n : ℕ) × (o ≡ Some n)) ⊎ (o ≡ None)
 none_or_some None = inr refl
 none_or_some (Some n) = inl (n, refl)
 
-pub placed-has_tree : (d : Description) → IsSound d → (index begin file b : ℕ) (p : IsPlace d index begin file b) → (n : ℕ) × (p.file.tree ≡ Some n)
-placed-has_tree d sound index begin file b p = elim (none_or_some p.file.tree) [
-  | inl there ↦ there
+-- a file that has a block has a tree
+pub has_tree : (d : Description) → IsSound d → (file b : ℕ) (f : FileEntry) → slice_get d.files file ≡ Some f → b < block_count f.length → (n : ℕ) × (f.tree ≡ Some n)
+has_tree d sound file b f there low = elim (none_or_some f.tree) [
+  | inl tree ↦ tree
   | inr none ↦
-      let empty : p.file.length ≡ 0 = (sound.files file p.file p.there).no_tree none in
-      absurd (let low : b < block_count 0 = subst (λ len. b < block_count len) empty p.in_file in omega (arith, low))
+      let empty : f.length ≡ 0 = (sound.files file f there).no_tree none in
+      absurd (let below : b < block_count 0 = subst (λ len. b < block_count len) empty low in omega (arith, below))
 ]
+
+-- a tree is good after a block, whether it was marked or refused
+pub good_after_block : {X : Type 0} (a b : KeptTree) (i : ℕ) (bytes : List ℕ) (r : Result X BlockRefusal) → IsGoodTree a → b.root ≡ a.root → b.length ≡ a.length
+    → b.state.known ≡ a.state.known → IfOk r (λ _. IsMarked a.length a.state i bytes b.state)
+    → IfErr r (λ x. TreeRefusesBlock a.length (look a.state.known) i bytes x × (b.state.marked ≡ a.state.marked)) → IsGoodTree b
+good_after_block a b i bytes (Ok x) good r l k taken refused = good_marked a b i bytes good r l k taken
+good_after_block a b i bytes (Err x) good r l k taken refused = good_same a b r l k refused.1 good
+
+-- the tree of a block of a file
+pub in_file_of : (d : Description) (ts : List KeptTree) (kept : AreKept d ts) (sound : IsSound d) (file b : ℕ) (f : FileEntry) → slice_get d.files file ≡ Some f → b < block_count f.length
+    → (p : IsInFile (seen d ts) file b) × (p.tree.length ≡ f.length)
+in_file_of d ts kept sound file b f there low =
+    let (tr, is) = has_tree d sound file b f there low in
+    let x = tree_for d ts kept sound file tr f there is in
+    (in_file d ts kept file b tr f x.0 there is x.1 (subst (λ n. b < block_count n) (sym x.2) low), x.2)
+
+-- a block that is not marked is refused at its place
+pub refused_at : (S : SessionSeen) (index begin file b : ℕ) (bytes : List ℕ) (r : BlockRefusal) → place_of S.torrent index begin ≡ Some (file, b) → IsUnmarkedBlock S file b bytes r
+    → IsBlockRefused S index begin bytes r
+refused_at S index begin file b bytes BadPlace at (p, h) = absurd h
+refused_at S index begin file b bytes BadSize at (p, h) = (record { file = file; number = b; at = at; in_file = p }, h)
+refused_at S index begin file b bytes Unproved at (p, h) = (record { file = file; number = b; at = at; in_file = p }, h)
+refused_at S index begin file b bytes BadBlock at (p, h) = (record { file = file; number = b; at = at; in_file = p }, h)
+
+-- blocks that were marked one after the other are taken
+pub taken_at : (S : SessionSeen) (index begin file first count : ℕ) (bytes : List ℕ) (v : BlocksSeen) (S' : SessionSeen) → place_of S.torrent index begin ≡ Some (file, first)
+    → (p : IsInFile S file first) → IsBlockRun p.tree.length first (length bytes) count → v.file ≡ file → v.first ≡ first → length v.refusals ≡ count
+    → Chain (BlockStep file) S (cuts first bytes count) v.refusals S' → AreTaken S index begin bytes v S'
+taken_at S index begin file first count bytes v S' at p run file_is first_is count_is each =
+    let same : BlocksSeen → BlocksSeen → Type 0 = λ a b. a ≡ b in
+    let told : ℕ → ℕ → BlocksSeen = λ x y. record { file = x; first = y; refusals = v.refusals } in
+    let is : same (told file first) v = sym (ap₂ told file_is first_is) in
+    subst (λ w. AreTaken S index begin bytes w S') is (record {
+      at = at;
+      in_file = p;
+      run = subst (IsBlockRun p.tree.length first (length bytes)) (sym count_is) run;
+      each = subst (λ k. Chain (BlockStep file) S (cuts first bytes k) v.refusals S') (sym count_is) each;
+    })

@@ -2,6 +2,7 @@
 use Rattle.std.specs.Prelude.{◌≡◌, ◌<◌, ℕ, List, map, slice_get, Option, Some, None}
 use Rattle.std.specs.List.{All}
 use Rattle.hashtree.specs.Tree.{block_count}
+use Rattle.metainfo.specs.Blocks.{IsBlockRun}
 use Rattle.metainfo.specs.Description.{Description, FileEntry, TreeEntry}
 use Rattle.partial_tree.specs.TreeRoot.{TreeRoot}
 use Rattle.partial_tree.specs.Kept.{TreeState, KeptTree, info_of, IsGoodTree}
@@ -45,3 +46,13 @@ pub record AreKept (d : Description) (trees : List KeptTree) : Type 0 where
 -- the block is one of the files of tree n
 abbrev pub IsBlockOf : Description → ℕ → ℕ → Type 0
 IsBlockOf d n block = (e : TreeEntry) → slice_get d.trees n ≡ Some e → block < block_count e.length
+
+-- the torrent's file has this block
+abbrev pub HasBlock : Description → ℕ → ℕ → Type 0
+HasBlock d file b =
+    (f : FileEntry) × (slice_get d.files file ≡ Some f) × (b < block_count f.length)
+
+-- so many bytes are k blocks of the torrent's file, from this block on
+abbrev pub HasRun : Description → ℕ → ℕ → ℕ → ℕ → Type 0
+HasRun d file b size k =
+    (f : FileEntry) × (slice_get d.files file ≡ Some f) × IsBlockRun f.length b size k

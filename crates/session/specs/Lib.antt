@@ -1,5 +1,6 @@
 -- Sessions of a torrent, their steps and runs.
 pub use Rattle.chains.specs.Chain
+pub mod Blocks
 pub mod Session
 pub mod SafeStep
 pub mod Answers

@@ -1,5 +1,5 @@
 -- What each step of a session keeps: what it verifies is the block, and poison does no harm.
-use Rattle.std.specs.Prelude.{◌≡◌, ◌⊎◌, ℕ, ◌-◌, ◌≤◌, List, Result, Ok, Err}
+use Rattle.std.specs.Prelude.{◌≡◌, ◌⊎◌, ℕ, ◌-◌, ◌≤◌, ◌+◌, List, length, slice_get, Option, Some, None, Result, Ok, Err}
 use Rattle.wire.specs.declared.message.Ask.{Ask}
 use Rattle.wire.specs.declared.message.Message.{Message}
 use Rattle.wire.specs.declared.message.Message.TheVariants as message
@@ -13,10 +13,12 @@ use Rattle.node_maps.specs.Digest.{Hash}
 use Rattle.node_maps.specs.Places.{tree_height, IsKnown}
 use Rattle.node_maps.specs.Known.{look}
 use Rattle.metainfo.specs.Description.{Description}
+use Rattle.metainfo.specs.Blocks.{IsBlockRun}
 use Rattle.partial_tree.specs.TreeRoot.{TreeRoot, Fits}
 use Rattle.partial_tree.specs.Closed.{Keeps, Collision, whole}
 use Rattle.partial_tree.specs.Claims.{top_layer, top_index, GoodRange, GoodCount, IsToldBy, CanAnswer, answer_of}
-use Rattle.session.specs.Session.{SessionSeen, TreeState, IsTree, IsGood, IsAsked, IsPlaced, Step, IsTrueVerdict}
+use Rattle.session.specs.Session.{SessionSeen, TreeState, IsTree, IsGood, IsAsked, IsInFile, IsPlaced, Step, IsTrueVerdict}
+use Rattle.session.specs.Blocks.{BlocksSeen}
 
 -- each known place of each tree keeps its value
 abbrev pub KeepsKnown : SessionSeen → SessionSeen → Type 0
@@ -60,23 +62,40 @@ StoresAnswers S ask hashes r = (J : SessionSeen) (from : IsAnswerFrom S.torrent 
     ⊎ ((s : TreeState) × IsTree S from.asked.number from.asked.tree s
     × Collision (look from.asked.state.known) (look s.known)))
 
--- the true block of a known leaf is verified, or a collision is named
+-- the true block of a known leaf is not refused, or a collision is named
+abbrev pub TakesTrueBlock : SessionSeen → ℕ → ℕ → List ℕ → Option BlockRefusal → Type 0
+TakesTrueBlock S file b bytes r = (p : IsInFile S file b) (f : List ℕ) → Fits f p.tree
+    → bytes ≡ block f b → IsKnown (look p.state.known) 0 b
+    → (r ≡ None) ⊎ Collision (whole f) (look p.state.known)
+
+-- no entry refuses the true block of a known leaf, or a collision is named
+abbrev pub VerifiesTrueBlocks : SessionSeen → List ℕ → BlocksSeen → Type 0
+VerifiesTrueBlocks S bytes v = (m : ℕ) (r : Option BlockRefusal) → slice_get v.refusals m ≡ Some r
+    → TakesTrueBlock S v.file (v.first + m) (block bytes m) r
+
+-- the bytes are no blocks of the file at the message's place
+abbrev pub IsNoRun : SessionSeen → ℕ → ℕ → List ℕ → Type 0
+IsNoRun S index begin bytes = (p : IsPlaced S index begin) (k : ℕ)
+    → ¬ IsBlockRun p.in_file.tree.length p.number (length bytes) k
+
+-- the true block of a known leaf, as one block, is verified, or a collision is named
 abbrev pub VerifiesTrueBlock : SessionSeen → ℕ → ℕ → List ℕ → Result (ℕ × ℕ) BlockRefusal → Type 0
 VerifiesTrueBlock S index begin bytes r =
-    (p : IsPlaced S index begin) (f : List ℕ) → Fits f p.tree → bytes ≡ block f p.number
-    → IsKnown (look p.state.known) 0 p.number → (r ≡ Ok (p.file, p.number))
-    ⊎ Collision (whole f) (look p.state.known)
+    (p : IsPlaced S index begin) (f : List ℕ) → Fits f p.in_file.tree → bytes ≡ block f p.number
+    → IsKnown (look p.in_file.state.known) 0 p.number → (r ≡ Ok (p.file, p.number))
+    ⊎ Collision (whole f) (look p.in_file.state.known)
 
--- what is true is taken: hashes and answers are stored and blocks verified, with these reservations
+-- what is true is taken: hashes and answers are stored and blocks verified, with these
+-- reservations, and no blocks of a file are refused whole
 abbrev pub TakesWhatIsTrue : SessionSeen → Message → Verdict → Type 0
 TakesWhatIsTrue S (message.Hashes ask hashes) (verdict.Stored c) =
     StoresTrueHashes S ask hashes.now (Ok c) × StoresAnswers S ask hashes.now (Ok c)
 TakesWhatIsTrue S (message.Hashes ask hashes) (verdict.HashRefused r) =
     StoresTrueHashes S ask hashes.now (Err r) × StoresAnswers S ask hashes.now (Err r)
-TakesWhatIsTrue S (message.Piece index begin bytes) (verdict.Verified file b) =
-    VerifiesTrueBlock S index begin bytes.now (Ok (file, b))
+TakesWhatIsTrue S (message.Piece index begin bytes) (verdict.Blocks v) =
+    VerifiesTrueBlocks S bytes.now v
 TakesWhatIsTrue S (message.Piece index begin bytes) (verdict.BlockRefused r) =
-    VerifiesTrueBlock S index begin bytes.now (Err r)
+    IsNoRun S index begin bytes.now
 TakesWhatIsTrue S m v = Unit {0}
 
 -- a step that is allowed, verifies nothing but the block itself, and is not harmed by poison

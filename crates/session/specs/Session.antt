@@ -1,5 +1,5 @@
 -- A session: a closed partial tree and marked leaves for each tree of a torrent, and its steps.
-use Rattle.std.specs.Prelude.{◌≡◌, ◌≢◌, ◌⊎◌, ℕ, ◌+◌, ◌<◌, List, length, set, slice_get, true, Some, None}
+use Rattle.std.specs.Prelude.{◌≡◌, ◌≢◌, ◌⊎◌, ℕ, ◌+◌, ◌<◌, List, length, set, slice_get, true, Option, Some, None}
 use Rattle.std.specs.FinMap.{len}
 use Rattle.std.specs.FinSet as leaves
 use Rattle.sha2.specs.Sha256.{sha256}
@@ -9,7 +9,7 @@ use Rattle.wire.specs.declared.message.Ask.{Ask}
 use Rattle.partial_tree.specs.declared.refusal.HashRefusal.{HashRefusal}
 use Rattle.partial_tree.specs.declared.refusal.HashRefusal.TheVariants.{UnknownRoot, NoMemory}
 use Rattle.partial_tree.specs.declared.refusal.BlockRefusal.{BlockRefusal}
-use Rattle.partial_tree.specs.declared.refusal.BlockRefusal.TheVariants.{BadPlace}
+use Rattle.partial_tree.specs.declared.refusal.BlockRefusal.TheVariants.{BadPlace, BadSize}
 use Rattle.wire.specs.declared.message.Message.{Message}
 use Rattle.wire.specs.declared.message.Message.TheVariants as message
 use Rattle.session.specs.declared.verdict.Verdict.{Verdict}
@@ -24,7 +24,10 @@ use Rattle.node_maps.specs.Known.{look}
 use Rattle.partial_tree.specs.Joins.{Joins}
 use Rattle.partial_tree.specs.Fill.{fill_claims, IsFillAccepted, FillRefuses}
 use Rattle.metainfo.specs.Places.{place_of}
+use Rattle.metainfo.specs.Blocks.{IsBlockRun}
+use Rattle.chains.specs.Chain.{Chain}
 use Rattle.partial_tree.specs.Kept.{HasBlockSize, TreeRefusesBlock}
+use Rattle.session.specs.Blocks.{BlocksSeen, Cut, cuts}
 use Rattle.session.specs.Layouts.{roots, tree_of}
 pub use Rattle.partial_tree.specs.Kept.{TreeState}
 pub use Rattle.session.specs.Layouts.{SessionSeen}
@@ -75,41 +78,68 @@ IsHashRefused S ask hashes r = (a : IsAsked S ask)
 
 -- ---- blocks
 
--- the file, the block and the tree at which a piece message stands
-pub record IsPlaced (S : SessionSeen) (index begin : ℕ) : Type 0 where
-  pub file : ℕ
-  pub number : ℕ
+-- block b of a file, with the file's tree
+pub record IsInFile (S : SessionSeen) (file b : ℕ) : Type 0 where
   pub tree_number : ℕ
   pub tree : TreeRoot
   pub state : TreeState
-  pub at : place_of S.torrent index begin ≡ Some (file, number)
   pub of_file : tree_of S file ≡ Some tree_number
   pub is_tree : IsTree S tree_number tree state
-  pub inside : number < block_count tree.length
+  pub inside : b < block_count tree.length
 
--- the bytes have that block's length
-abbrev pub HasSize : TreeRoot → ℕ → List ℕ → Type 0
-HasSize tree b bytes = HasBlockSize tree.length b bytes
+-- the file and the block at which a piece message stands
+pub record IsPlaced (S : SessionSeen) (index begin : ℕ) : Type 0 where
+  pub file : ℕ
+  pub number : ℕ
+  pub at : place_of S.torrent index begin ≡ Some (file, number)
+  pub in_file : IsInFile S file number
 
 -- the bytes have that block's length, and their digest is its known leaf, which is marked
-pub record IsVerified (S : SessionSeen) (index begin : ℕ) (bytes : List ℕ) (file b : ℕ)
-    (S' : SessionSeen) : Type 0 where
-  pub placed : IsPlaced S index begin
-  pub same_file : placed.file ≡ file
-  pub same_block : placed.number ≡ b
-  pub size : HasSize placed.tree b bytes
-  pub leaf_known : look placed.state.known 0 b ≡ Some (sha256 bytes)
+pub record IsMarkedBlock (S : SessionSeen) (file b : ℕ) (bytes : List ℕ) (S' : SessionSeen)
+    : Type 0 where
+  pub in_file : IsInFile S file b
+  pub size : HasBlockSize in_file.tree.length b bytes
+  pub leaf_known : look in_file.state.known 0 b ≡ Some (sha256 bytes)
   pub state_after : S' ≡ record S {
-    trees = set S.trees placed.tree_number
-        (record placed.state { marked = leaves.insert placed.state.marked b });
+    trees = set S.trees in_file.tree_number
+        (record in_file.state { marked = leaves.insert in_file.state.marked b });
   }
 
--- the first test that fails
+-- the first test of the bytes for a block of a file that fails
+abbrev pub IsUnmarkedBlock : SessionSeen → ℕ → ℕ → List ℕ → BlockRefusal → Type 0
+IsUnmarkedBlock S file b bytes r =
+    (p : IsInFile S file b) × TreeRefusesBlock p.tree.length (look p.state.known) b bytes r
+
+-- the step of one block of a message: it is marked, or refused by itself
+abbrev pub BlockStep : ℕ → SessionSeen → Cut → Option BlockRefusal → SessionSeen → Type 0
+BlockStep file S c None S' = IsMarkedBlock S file c.number c.bytes S'
+BlockStep file S c (Some r) S' = IsUnmarkedBlock S file c.number c.bytes r × (S' ≡ S)
+
+-- the message's bytes are consecutive blocks of a file, and each of them gets its own step
+pub record AreTaken (S : SessionSeen) (index begin : ℕ) (bytes : List ℕ) (v : BlocksSeen)
+    (S' : SessionSeen) : Type 0 where
+  pub at : place_of S.torrent index begin ≡ Some (v.file, v.first)
+  pub in_file : IsInFile S v.file v.first
+  pub run : IsBlockRun in_file.tree.length v.first (length bytes) (length v.refusals)
+  pub each : Chain (BlockStep v.file) S (cuts v.first bytes (length v.refusals)) v.refusals S'
+
+-- no block begins at the message's place, or its bytes are no blocks of the file from there on
+abbrev pub AreRefused : SessionSeen → ℕ → ℕ → List ℕ → BlockRefusal → Type 0
+AreRefused S index begin bytes BadPlace = place_of S.torrent index begin ≡ None
+AreRefused S index begin bytes BadSize = (p : IsPlaced S index begin)
+    × ((k : ℕ) → ¬ IsBlockRun p.in_file.tree.length p.number (length bytes) k)
+AreRefused S index begin bytes r = ⊥
+
+-- the bytes, as one block, are marked at their place
+abbrev pub IsVerified : SessionSeen → ℕ → ℕ → List ℕ → ℕ → ℕ → SessionSeen → Type 0
+IsVerified S index begin bytes file b S' = (place_of S.torrent index begin ≡ Some (file, b))
+    × IsMarkedBlock S file b bytes S'
+
+-- the first test of the bytes, as one block, that fails
 abbrev pub IsBlockRefused : SessionSeen → ℕ → ℕ → List ℕ → BlockRefusal → Type 0
 IsBlockRefused S index begin bytes BadPlace = place_of S.torrent index begin ≡ None
-IsBlockRefused S index begin bytes r =
-    (p : IsPlaced S index begin)
-    × TreeRefusesBlock p.tree.length (look p.state.known) p.number bytes r
+IsBlockRefused S index begin bytes r = (p : IsPlaced S index begin)
+    × TreeRefusesBlock p.in_file.tree.length (look p.in_file.state.known) p.number bytes r
 
 -- ---- whole layers
 
@@ -150,10 +180,10 @@ abbrev pub Step : SessionSeen → Message → Verdict → SessionSeen → Type 0
 Step S (message.Hashes ask hashes) (verdict.Stored c) S' = IsStored S ask hashes.now c S'
 Step S (message.Hashes ask hashes) (verdict.HashRefused r) S' = IsHashRefused S ask hashes.now r
     × (S' ≡ S)
-Step S (message.Piece index begin bytes) (verdict.Verified file b) S' =
-    IsVerified S index begin bytes.now file b S'
+Step S (message.Piece index begin bytes) (verdict.Blocks v) S' =
+    AreTaken S index begin bytes.now v S'
 Step S (message.Piece index begin bytes) (verdict.BlockRefused r) S' =
-    IsBlockRefused S index begin bytes.now r × (S' ≡ S)
+    AreRefused S index begin bytes.now r × (S' ≡ S)
 Step S (message.Request ask) verdict.Answered S' = IsAnswered S ask × (S' ≡ S)
 Step S (message.Request ask) verdict.Rejected S' = ¬ IsAnswered S ask × (S' ≡ S)
 Step S (message.Reject ask) verdict.RejectNoted S' = S' ≡ S
@@ -176,18 +206,29 @@ HasFewerGaps S n tree K = (s : TreeState) × IsTree S n tree s
 -- ---- the headline
 
 -- the bytes are that block of each file that fits its tree, or two inputs with one digest are named
-pub record IsBlock (S : SessionSeen) (index begin : ℕ) (bytes : List ℕ) (file b : ℕ) : Type 0 where
-  pub placed : IsPlaced S index begin
-  pub same_file : placed.file ≡ file
-  pub same_block : placed.number ≡ b
-  pub is_block : (f : List ℕ) → Fits f placed.tree
-      → (bytes ≡ block f b) ⊎ (Collision (whole f) (look placed.state.known)
+pub record IsFileBlock (S : SessionSeen) (file b : ℕ) (bytes : List ℕ) : Type 0 where
+  pub in_file : IsInFile S file b
+  pub is_block : (f : List ℕ) → Fits f in_file.tree
+      → (bytes ≡ block f b) ⊎ (Collision (whole f) (look in_file.state.known)
       ⊎ BlockCollision f b bytes)
+
+-- the bytes, as one block, are that block at their place
+abbrev pub IsBlock : SessionSeen → ℕ → ℕ → List ℕ → ℕ → ℕ → Type 0
+IsBlock S index begin bytes file b =
+    (place_of S.torrent index begin ≡ Some (file, b)) × IsFileBlock S file b bytes
+
+-- each entry that is not refused is that block, from the message's place on: entry m has block m of
+-- the message's bytes
+pub record AreBlocks (S : SessionSeen) (index begin : ℕ) (bytes : List ℕ) (v : BlocksSeen)
+    : Type 0 where
+  pub at : place_of S.torrent index begin ≡ Some (v.file, v.first)
+  pub verified : (m : ℕ) → slice_get v.refusals m ≡ Some None
+      → IsFileBlock S v.file (v.first + m) (block bytes m)
 
 -- what a verdict in a run promises, in the state at its step
 abbrev pub IsTrueVerdict : SessionSeen → Message → Verdict → Type 0
-IsTrueVerdict S (message.Piece index begin bytes) (verdict.Verified file b) =
-    IsBlock S index begin bytes.now file b
+IsTrueVerdict S (message.Piece index begin bytes) (verdict.Blocks v) =
+    AreBlocks S index begin bytes.now v
 IsTrueVerdict S m v = Unit {0}
 
 -- a step whose verdict keeps its promise

@@ -2,12 +2,14 @@
 //! that peers send.
 #![tactic(auto)]
 
+mod blocks;
 pub mod laws;
 mod planting;
 mod roots;
 mod session;
 mod verdict;
 
+pub use blocks::Blocks;
 pub use hashtree::NoMemory;
 pub use node_maps::{Flat, NodeMap};
 pub use partial_tree::{Answer, BlockRefusal, HashRefusal};

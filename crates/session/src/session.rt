@@ -2,29 +2,32 @@
 //!
 //! What is known of a tree is always *closed*: each known place stands with its sibling and its
 //! parent, up to the root (`IsClosed` in `partial_tree`, with a picture in its `tree.rt`). That is
-//! why a verified block is the block: `IsBlock` in `specs/Session.antt` says what is promised, and
-//! `block_or_collision` in `partial_tree`'s `proofs/Headline.antt` proves it.
+//! why a verified block is the block: `IsFileBlock` in `specs/Session.antt` says what is promised,
+//! and `block_or_collision` in `partial_tree`'s `proofs/Headline.antt` proves it.
 
-ghost use Rattle.std.specs.Prelude.{◌≡◌, ◌<◌, ◌≤◌, ◌↔◌, IfOk, IfErr, OnErr, IsTrue, length, slice_get, Some};
+ghost use Rattle.std.specs.Prelude.{◌≡◌, ◌<◌, ◌≤◌, ◌↔◌, IfOk, IfErr, OnErr, IsTrue, length, slice_get, ◌*◌, ◌≤◌, Some};
 ghost use Rattle.std.specs.List.{All};
 ghost use Rattle.std.specs.FinMap as finite;
 ghost use Rattle.std.specs.FinSet as set;
 ghost use Rattle.partial_tree.specs.Kept.{TreeState};
-ghost use Rattle.session.specs.Session.{IsTree, IsGood, HasHashes, HasDistinctRoots, IsStored, IsHashRefused, IsVerified, IsBlockRefused, IsBlock, IsAnswered, IsFilled, IsFillRefused, Step};
+ghost use Rattle.session.specs.Session.{IsTree, IsGood, HasHashes, HasDistinctRoots, IsStored, IsHashRefused, IsVerified, IsBlockRefused, IsBlock, IsMarkedBlock, IsUnmarkedBlock, BlockStep, AreTaken, AreRefused, AreBlocks, IsAnswered, IsFilled, IsFillRefused, Step};
 ghost use Rattle.node_maps.specs.Known.{look};
 ghost use Rattle.partial_tree.specs.TreeRoot.{TreeRoot};
 ghost use Rattle.partial_tree.specs.Gaps.{want_of};
-ghost use Rattle.session.specs.Layouts.{IsBlockOf};
+ghost use Rattle.hashtree.specs.Tree.{block};
+ghost use Rattle.session.specs.Blocks.{cuts};
+ghost use Rattle.session.specs.Layouts.{IsBlockOf, HasBlock, HasRun};
 ghost use Rattle.session.specs.Answers.{IsAnswerTo};
 ghost use Rattle.session.specs.Rounds.{HasNoMoreGaps, RoundLeavesFewer};
 ghost use Rattle.chains.specs.Chain.{Chain};
 ghost use Rattle.session.specs.Fresh.{IsFresh};
-ghost use Rattle.session.specs.SafeStep.{KeepsKnown, StoresTrueHashes, StoresAnswers, VerifiesTrueBlock, IsSafeStep};
+ghost use Rattle.session.specs.SafeStep.{KeepsKnown, StoresTrueHashes, StoresAnswers, VerifiesTrueBlock, VerifiesTrueBlocks, IsSafeStep};
 
+use crate::blocks::Blocks;
 use crate::planting::planted;
 use crate::roots::Roots;
 use crate::verdict::Verdict;
-use hashtree::{Hash, NoMemory};
+use hashtree::{BLOCK_LENGTH, Hash, NoMemory};
 use metainfo::Torrent;
 use node_maps::NodeMap;
 use partial_tree::{Answer, BlockRefusal, HashRefusal, Tree};
@@ -165,7 +168,8 @@ impl<'t, N: NodeMap> Session<'t, N> {
             (λ p. IsVerified self.old index begin block.now p.0 p.1 self.new) }
         ensures refused { IfErr result (λ r. IsBlockRefused self.old index begin block.now r
             × (self.new ≡ self.old)) }
-        ensures verified_is_the_block { IfOk result (λ p. IsBlock self.old index begin block.now p.0 p.1) }
+        ensures verified_is_the_block { IfOk result
+            (λ p. IsBlock self.old index begin block.now p.0 p.1) }
         ensures keeps_known { KeepsKnown self.old self.new }
         ensures verifies_true_block { VerifiesTrueBlock self.old index begin block.now result }
     {
@@ -184,15 +188,81 @@ impl<'t, N: NodeMap> Session<'t, N> {
         ensures refused { IfErr result (λ r. IsBlockRefused self.old index begin block.now r
             × (self.new ≡ self.old)) }
     {
-        self.torrent.sound();
         let Some((file, number)) = self.torrent.place(index, begin) else {
             return Err(BlockRefusal::BadPlace);
         };
-        let Some(tree) = self.torrent.tree_of(file) else {
+        match self.mark_in_file(file, number, block) {
+            Ok(()) => Ok((file, number)),
+            Err(refusal) => Err(refusal),
+        }
+    }
+
+    /// Takes the blocks of a piece message, which may be several: consecutive blocks of one file.
+    /// Each is marked if its digest is its known leaf, or refused by itself. The whole message is
+    /// refused if no block begins at its place, or if its bytes are no blocks of the file from
+    /// there on: at least one, and 263,208 bytes at most; then the session stays as it was. What is
+    /// told verified is that block of every file that has the tree's length and root, or two inputs
+    /// with one digest are named. Takes no memory.
+    pub fn take_blocks(
+        &mut self,
+        index: u32,
+        begin: u32,
+        bytes: &[u8],
+    ) -> Result<Blocks, BlockRefusal>
+        ensures taken { IfOk result (λ v. AreTaken self.old index begin bytes.now v self.new) }
+        ensures refused { IfErr result (λ r. AreRefused self.old index begin bytes.now r
+            × (self.new ≡ self.old)) }
+        ensures verified_are_the_blocks { IfOk result (AreBlocks self.old index begin bytes.now) }
+        ensures keeps_known { KeepsKnown self.old self.new }
+        ensures verifies_true_blocks { IfOk result (VerifiesTrueBlocks self.old bytes.now) }
+    {
+        self.good();
+        self.mark_blocks(index, begin, bytes)
+    }
+
+    fn mark_blocks(&mut self, index: u32, begin: u32, bytes: &[u8]) -> Result<Blocks, BlockRefusal>
+        ensures taken { IfOk result (λ v. AreTaken self.old index begin bytes.now v self.new) }
+        ensures refused { IfErr result (λ r. AreRefused self.old index begin bytes.now r
+            × (self.new ≡ self.old)) }
+    {
+        self.torrent.sound();
+        let Some((file, first)) = self.torrent.place(index, begin) else {
             return Err(BlockRefusal::BadPlace);
         };
-        self.trees[tree].take_block(number, block)?;
-        Ok((file, number))
+        match self.torrent.block_run(file, first, bytes.len() as u64) {
+            None => Err(BlockRefusal::BadSize),
+            Some(count) => Ok(self.mark_run(file, first, bytes, count)),
+        }
+    }
+
+    /// Takes bytes that are so many blocks of a file, from this one on.
+    fn mark_run(&mut self, file: usize, first: u64, bytes: &[u8], count: u64) -> Blocks
+        requires { HasRun self.old.torrent file first (length bytes.now) count }
+        ensures file { result.file ≡ file }
+        ensures first { result.first ≡ first }
+        ensures count { length result.refusals ≡ count }
+        ensures each { Chain (BlockStep file) self.old (cuts first bytes.now count)
+            result.refusals self.new }
+    {
+        self.torrent.sound();
+        let mut blocks = Blocks::new(file, first);
+        'numbers: for number in 0..count {
+            let marked = self.mark_in_file(file, first + number, block_of(bytes, number));
+            blocks.push(marked.err());
+        }
+        blocks
+    }
+
+    /// Marks a block of a file if its digest is its known leaf.
+    fn mark_in_file(&mut self, file: usize, block: u64, bytes: &[u8]) -> Result<(), BlockRefusal>
+        requires { HasBlock self.old.torrent file block }
+        ensures marked { IfOk result (λ _. IsMarkedBlock self.old file block bytes.now self.new) }
+        ensures refused { IfErr result (λ r. IsUnmarkedBlock self.old file block bytes.now r
+            × (self.new ≡ self.old)) }
+    {
+        self.torrent.sound();
+        let tree = self.torrent.tree_of(file).unwrap();
+        self.trees[tree].take_block(block, bytes)
     }
 
     /// Whether the hashes that are asked for are known.
@@ -280,8 +350,8 @@ impl<'t, N: NodeMap> Session<'t, N> {
                 index,
                 begin,
                 block,
-            } => match self.take_block(index, begin, block) {
-                Ok((file, block)) => Verdict::Verified { file, block },
+            } => match self.take_blocks(index, begin, block) {
+                Ok(blocks) => Verdict::Blocks(blocks),
                 Err(refusal) => Verdict::BlockRefused(refusal),
             },
             Message::Request(ask) => {
@@ -307,7 +377,8 @@ impl<'t, N: NodeMap> Session<'t, N> {
     /// answer or two inputs with one digest are named. Room for the verdicts is made first; if
     /// memory is refused for it, the session is unchanged.
     pub fn run(&mut self, messages: &[Message<'_>]) -> Result<Vec<Verdict>, NoMemory>
-        ensures verified_is_the_block { IfOk result (λ vs. Chain IsSafeStep self.old messages.now vs.items self.new) }
+        ensures verified_is_the_block { IfOk result
+            (λ vs. Chain IsSafeStep self.old messages.now vs.items self.new) }
         ensures gaps { IfOk result (λ _. HasNoMoreGaps self.old self.new) }
         ensures round { IfOk result
             (λ vs. RoundLeavesFewer self.old messages.now vs.items self.new) }
@@ -332,6 +403,15 @@ fn has_hashes(message: &Message<'_>)
         Message::Hashes { hashes, .. } => are_hashes(hashes),
         _ => {}
     }
+}
+
+/// A block of a message's bytes: 16,384 of them, and at the end fewer.
+fn block_of(bytes: &[u8], number: u64) -> &[u8]
+    requires { 16384 * number ≤ length bytes.now }
+    ensures { result.now ≡ block bytes.now number }
+{
+    let rest = &bytes[(BLOCK_LENGTH * number) as usize..];
+    &rest[..rest.len().min(BLOCK_LENGTH as usize)]
 }
 
 /// Each hash has 32 bytes, as its type says.

@@ -1,5 +1,6 @@
 //! What a session says of one message.
 
+use crate::blocks::Blocks;
 use partial_tree::{BlockRefusal, HashRefusal};
 
 /// What a session says of one message.
@@ -9,10 +10,10 @@ pub enum Verdict {
     Stored(u64),
     /// Hashes were refused, and nothing has changed.
     HashRefused(HashRefusal),
-    /// The block of the file is the one that its leaf tells, and is marked. Both are numbered from
-    /// 0.
-    Verified { file: usize, block: u64 },
-    /// A block was refused, and nothing has changed.
+    /// What is made of each block of a piece message: it is the one that its leaf tells, and is
+    /// marked, or it is refused by itself.
+    Blocks(Blocks),
+    /// A piece message was refused whole, and nothing has changed.
     BlockRefused(BlockRefusal),
     /// The hashes that are asked for are known.
     Answered,

@@ -51,10 +51,13 @@ pub record AsksNext {S X : Type 0} (seen : S → SourceSeen) (old new : FrameRea
   pub same_reference : new.source.ghost_name ≡ old.source.ghost_name
   pub gives : IsOpen old → Gives (seen old.source.now) (seen new.source.now) Fits result
   pub stands :
-      MatchResult result (λ found. MatchOption found (HasEnded new) (λ _. IsOpen new)) (HasFailed new)
+      MatchResult result
+      (λ found. MatchOption found (HasEnded new) (λ _. IsOpen new))
+      (HasFailed new)
   pub ended_again : HasEnded old → (result ≡ Ok None) × (new.source.now ≡ old.source.now)
   pub failed_again :
-      (why : FrameFault) → HasFailed old why → (result ≡ Err why) × (new.source.now ≡ old.source.now)
+      (why : FrameFault) → HasFailed old why
+      → (result ≡ Err why) × (new.source.now ≡ old.source.now)
   pub bounded : kept_len old ≤ 263216 → kept_len new ≤ 263216
   pub memory : IsOpen old → IsErrOf result fault.NoMemory → ¬ HasRoom old
   pub has_room : HasRoom old → HasRoom new

@@ -3,7 +3,7 @@ use crate::line_of_frame::line_of_frame;
 use crate::told::Told;
 use session::{BlockRefusal, HashRefusal, Verdict};
 
-const LINES: [(u64, Told, &str); 20] = [
+const LINES: [(u64, Told, &str); 19] = [
     (1, Told::Verdict(Verdict::Stored(1024)), "1 stored 1024\n"),
     (2, Told::Verdict(Verdict::Stored(0)), "2 stored 0\n"),
     (
@@ -40,14 +40,6 @@ const LINES: [(u64, Told, &str); 20] = [
         9,
         Told::Verdict(Verdict::HashRefused(HashRefusal::NoMemory)),
         "9 refused H7 NoMemory\n",
-    ),
-    (
-        10,
-        Told::Verdict(Verdict::Verified {
-            file: 2,
-            block: 4294967295,
-        }),
-        "10 verified 2 4294967295\n",
     ),
     (
         11,

@@ -1,7 +1,7 @@
 //! Messages of each kind: all at once, and one after the other.
 
 use crate::tests::made::{FiveBlocks, ask, counts, five_blocks, torrent};
-use crate::{BlockRefusal, Flat, HashRefusal, Session, Verdict};
+use crate::{BlockRefusal, Blocks, Flat, HashRefusal, Session, Verdict};
 use hashtree::Hash;
 use metainfo::Torrent;
 use std::alloc::{AllocError, Global};
@@ -19,6 +19,13 @@ struct Carried {
 
 /// A message, the verdict on it, and how many places are known and leaves marked after it.
 type Case<'a> = (Message<'a>, Verdict, (u64, u64));
+
+/// What is told of a message of one block, the third of the first file.
+fn told_of_third(refusal: Option<BlockRefusal>) -> Verdict {
+    let mut blocks = Blocks::new(0, 2);
+    blocks.push(refusal);
+    Verdict::Blocks(blocks)
+}
 
 fn cases<'a>(carried: &'a Carried) -> [Case<'a>; 11] {
     let ask = ask(carried.five.root, 0, 8, 2);
@@ -38,16 +45,16 @@ fn cases<'a>(carried: &'a Carried) -> [Case<'a>; 11] {
     let other = Message::Other { id: 4, len: 5 };
     [
         (Message::KeepAlive, Verdict::KeepAlive, (1, 0)),
-        (block, Verdict::BlockRefused(BlockRefusal::Unproved), (1, 0)),
+        (block, told_of_third(Some(BlockRefusal::Unproved)), (1, 0)),
         (poison, Verdict::HashRefused(HashRefusal::BadPad), (1, 0)),
         (Message::Request(ask), Verdict::Rejected, (1, 0)),
         (hashes, Verdict::Stored(14), (15, 0)),
         (Message::Request(ask), Verdict::Answered, (15, 0)),
-        (block, Verdict::Verified { file: 0, block: 2 }, (15, 1)),
+        (block, told_of_third(None), (15, 1)),
         (Message::Reject(ask), Verdict::RejectNoted, (15, 1)),
         (hashes, Verdict::Stored(0), (15, 1)),
         (other, Verdict::Skipped(4), (15, 1)),
-        (block, Verdict::Verified { file: 0, block: 2 }, (15, 1)),
+        (block, told_of_third(None), (15, 1)),
     ]
 }
 

@@ -1,7 +1,7 @@
 use Rattle.benc.specs.Spelling.{Spelled}
 use Rattle.benc.specs.View.{view}
 use Rattle.benc.proofs.Sound.{taken, value_takes}
-use Rattle.std.proofs.Common.{◌≤◌, length, inl, refl, subst, arith}
+use Rattle.std.proofs.Common.{inl, refl, subst}
 use Rattle.benc.specs.Fails.{Reaches}
 use Rattle.benc.specs.Parser.{Failed, IfMemory, Stopped, value_at}
 use Rattle.benc.proofs.Faults.{stopped_within, stops_named, value_stops, stops_from}

@@ -1,4 +1,4 @@
-use Rattle.std.proofs.Common.{ℕ, [], take, drop, refl, subst, sym, inl, inr, arith}
+use Rattle.std.proofs.Common.{[], take, drop, refl, subst, sym, inl, inr, arith}
 use Rattle.std.proofs.lemmas.List.{append-nil, take_all, take-append-drop, length-take, length-drop}
 use Rattle.std.proofs.lemmas.Result.{err_from_is_err_and}
 use Rattle.benc.specs.Spelling.{Spells}

@@ -1,12 +1,9 @@
-use Rattle.std.proofs.Common.{◌≡◌, ℕ, ◌+◌, ◌≤◌, length, List, [], ◌∷◌, ◌++◌, drop, refl, sym, ap, ◌∙◌, append_assoc, arith}
-use Rattle.std.proofs.lemmas.List.{drop_more, append-nil}
-use Rattle.std.proofs.Math.ListN.{drop_of_length-le}
+use Rattle.std.proofs.Common.{◌≡◌, ℕ, ◌+◌, List, [], ◌∷◌, ◌++◌, drop, refl, sym, ap, ◌∙◌, append_assoc, arith}
+use Rattle.std.proofs.lemmas.List.{drop_more}
 use Rattle.std.proofs.lemmas.Result.{err_from_is_err_and}
 use Rattle.benc.specs.Spelling.{string}
 use Rattle.benc.specs.Text.{spelling, items_spelling, pairs_spelling}
-use Rattle.benc.specs.View.{Seen, view, items_view, pairs_view}
-use Rattle.benc.specs.declared.value.Value.{Value}
-use Rattle.benc.specs.declared.value.Pair.{Pair}
+use Rattle.benc.specs.View.{view, items_view, pairs_view}
 use Rattle.benc.proofs.Out.{Sent-append, Wrote-then, Wrote-part}
 use Rattle.benc.proofs.Spelled.{all_items, all_pairs, next_item, next_pair}
 use Rattle.benc.proofs.encoding.+write.Goals as goal

@@ -3,12 +3,12 @@ use Rattle.session.proofs.session.Session.take_block.Goals as goal
 
 pub returns-clause-verified_is_the_block : goal.returns-clause-verified_is_the_block
 returns-clause-verified_is_the_block g c =
-    block-is c.args.self.now c.good.ensures c.args.index c.args.begin c.args.block c.mark_block.result c.mark_block.new.self
+    block-is c.args.self.now c.good.ensures c.args.index c.args.begin c.args.block.now c.mark_block.result c.mark_block.new.self
     c.mark_block.ensures.verified
 
 pub returns-clause-keeps_known : goal.returns-clause-keeps_known
 returns-clause-keeps_known g c =
-    block-keeps c.args.self.now c.args.index c.args.begin c.args.block c.mark_block.result c.mark_block.new.self
+    block-keeps c.args.self.now c.args.index c.args.begin c.args.block.now c.mark_block.result c.mark_block.new.self
     c.mark_block.ensures.verified c.mark_block.ensures.refused
 
 pub returns-clause-verifies_true_block : goal.returns-clause-verifies_true_block

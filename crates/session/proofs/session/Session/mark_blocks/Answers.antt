@@ -1,0 +1,40 @@
+use Rattle.std.proofs.Common.{◌≡◌, ℕ, List, length, Some, refl, sym, ap, ◌∙◌, subst}
+use Rattle.std.proofs.lemmas.Option.{none-some}
+use Rattle.metainfo.specs.Blocks.{IsBlockRun}
+use Rattle.metainfo.specs.Description.{Description}
+use Rattle.metainfo.specs.Places.{IsPlace, place_of}
+use Rattle.partial_tree.specs.Kept.{KeptTree}
+use Rattle.session.specs.Layouts.{SessionSeen, seen}
+use Rattle.session.specs.Session.{IsInFile, AreRefused, AreTaken}
+use Rattle.partial_tree.specs.declared.refusal.BlockRefusal.TheVariants.{BadSize}
+use Rattle.session.proofs.Sessions.{in_file_of, taken_at}
+use Rattle.session.proofs.session.Session.mark_blocks.Goals as goal
+
+pub returns-in-None-clause-refused : goal.returns-in-None-clause-refused
+returns-in-None-clause-refused g c =
+    let d : Description = c.self.inside.torrent.now in
+    let ts : List KeptTree = c.self.inside.trees.items in
+    let f : IsPlace d c.args.index c.args.begin c.in-Some.file c.in-Some.first = c.in-Some.ensures.found in
+    let (p, same) = in_file_of d ts c.self.invariant.0 c.sound.ensures c.in-Some.file c.in-Some.first f.file f.there f.in_file in
+    let at : place_of d c.args.index c.args.begin ≡ Some (c.in-Some.file, c.in-Some.first) = sym c.place.ensures.value ∙ c.in-Some.is in
+    let none : (k : ℕ) → ¬ IsBlockRun p.tree.length c.in-Some.first (length c.args.bytes.now) k = λ k run.
+    none-some k (sym c.in-None.is ∙ c.block_run.ensures.only f.file k f.there (subst (λ n. IsBlockRun n c.in-Some.first (length c.args.bytes.now) k) same run)) in
+    let refused : AreRefused (seen d ts) c.args.index c.args.begin c.args.bytes.now BadSize =
+    (record { file = c.in-Some.file; number = c.in-Some.first; at = at; in_file = p }, none) in
+    (subst (λ (v : SessionSeen). AreRefused v c.args.index c.args.begin c.args.bytes.now BadSize) c.self.view_is refused, refl)
+
+pub returns-in-Some-block_run-clause-taken : goal.returns-in-Some-block_run-clause-taken
+returns-in-Some-block_run-clause-taken g c =
+    let d : Description = c.self.inside.torrent.now in
+    let ts : List KeptTree = c.self.inside.trees.items in
+    let f : IsPlace d c.args.index c.args.begin c.in-Some.file c.in-Some.first = c.in-Some.ensures.found in
+    let (p, same) = in_file_of d ts c.self.invariant.0 c.sound.ensures c.in-Some.file c.in-Some.first f.file f.there f.in_file in
+    let at : place_of d c.args.index c.args.begin ≡ Some (c.in-Some.file, c.in-Some.first) = sym c.place.ensures.value ∙ c.in-Some.is in
+    let run : IsBlockRun p.tree.length c.in-Some.first (length c.args.bytes.now) c.in-Some-block_run.count =
+    subst (λ n. IsBlockRun n c.in-Some.first (length c.args.bytes.now) c.in-Some-block_run.count) (sym same) (c.in-Some-block_run.ensures.found f.file f.there) in
+    let here : place_of c.args.self.now.torrent c.args.index c.args.begin ≡ Some (c.in-Some.file, c.in-Some.first) =
+    subst (λ (v : SessionSeen). place_of v.torrent c.args.index c.args.begin ≡ Some (c.in-Some.file, c.in-Some.first)) c.self.view_is at in
+    let there : (q : IsInFile c.args.self.now c.in-Some.file c.in-Some.first) × IsBlockRun q.tree.length c.in-Some.first (length c.args.bytes.now) c.in-Some-block_run.count =
+    subst (λ (v : SessionSeen). (q : IsInFile v c.in-Some.file c.in-Some.first) × IsBlockRun q.tree.length c.in-Some.first (length c.args.bytes.now) c.in-Some-block_run.count) c.self.view_is (p, run) in
+    taken_at c.args.self.now c.args.index c.args.begin c.in-Some.file c.in-Some.first c.in-Some-block_run.count c.args.bytes.now c.mark_run.result c.mark_run.new.self
+    here there.0 there.1 c.mark_run.ensures.file c.mark_run.ensures.first c.mark_run.ensures.count c.mark_run.ensures.each
