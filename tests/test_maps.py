@@ -7,6 +7,7 @@ import subprocess
 import messages
 from poison import Peers
 from support import TOP, folder, write
+from test_library_growths import records
 from test_pages import LONGEST, pair
 from torrents import torrent_of
 from trees import Tree
@@ -29,6 +30,15 @@ def without_pages(report):
 
 def pages(report):
     return [int(count) for count in PAGES.findall(report)]
+
+
+def test_worked_cases_over_both_maps():
+    for name, files, piece_length, frames in records():
+        with folder() as place:
+            content = torrent_of(files, piece_length)
+            for call in ("step", "run", "fill"):
+                flat, paged = (taken(place, content, frames, over, call) for over in ("flat", "paged"))
+                assert without_pages(flat) == without_pages(paged), (name, call, flat, paged)
 
 
 def test_random_messages_over_both_maps():

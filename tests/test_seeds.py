@@ -152,7 +152,7 @@ def exchange(files, piece_length, seed):
     with folder() as place:
         world = World(place, files, piece_length)
         peers = Peers(files, piece_length, False, seed)
-        model, record, report = peers.model, b"", []
+        model, record, report = peers.model, bytearray(), []
         seeder = Session(files, piece_length, False)
         seeded = seeder.seed(dict(files))
         roots = list(model.trees)

@@ -87,8 +87,8 @@ fn replay<'a>(rt: &HostRuntime, asked: &Replay<'a>) -> Result<u8, Fault<'a>> {
     }
 }
 
-// The record is opened before the file of the answers, which is not touched if it fails. The session
-// is filled from the folder after that.
+// The record is opened before the file of the answers, which is not touched if it fails. After that
+// the session is filled from the folder.
 fn replay_file<'a, W: Sink>(
     rt: &HostRuntime,
     torrent: &Torrent<'_>,

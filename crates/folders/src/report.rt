@@ -32,7 +32,7 @@ pub enum V1Verdict {
 
 /// What a check found: a verdict for each file of the torrent, in order, and for a hybrid one on
 /// its version 1 pieces.
-#[derive(Drop)]
+#[derive(Debug, PartialEq, Drop)]
 pub struct Report {
     /// A verdict for each file.
     pub files: Vec<FileVerdict>,

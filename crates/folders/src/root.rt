@@ -47,7 +47,7 @@ pub fn root_line<R: Source, W: Sink>(source: &mut R, out: &mut W) -> Result<bool
         (λ within. IsTrue within ↔ (length file ≤ 2 ^ 46)) }
     ensures no_further { IsReadWithin (2 ^ 46 + 1) (R.seen source.old) (R.seen source.new) }
 
-    // A fault is answered where that device had one, and no other.
+    // A fault is answered only if that device had one, and the other had none.
     ensures faults { Blames (R.seen source.old) (R.seen source.new)
         (W.seen out.old) (W.seen out.new) result }
     ensures prefix { (file : List ℕ) → (R.seen source.old).left ≡ Some file
