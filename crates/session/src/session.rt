@@ -312,8 +312,8 @@ impl<'t, N: NodeMap> Session<'t, N> {
         self.trees[tree].known()
     }
 
-    /// How many pages a tree holds, in which what is known of it is kept: as many as that takes, and
-    /// no more than places are known. So a refusal leaves them as they were. Takes no memory.
+    /// How many pages keep what is known of a tree: as many as that takes, and no more than places
+    /// are known. So a refusal leaves them as they were. Takes no memory.
     /// Condition: there are more than `tree` trees.
     pub fn pages(&self, tree: usize) -> u64
         requires { tree < length self.now.torrent.trees }

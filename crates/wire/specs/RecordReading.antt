@@ -73,7 +73,8 @@ StopsAt One part fault.BadDirection = ⊥
 StopsAt Two part fault.BadDirection = IsOtherByte part
 
 -- no whole frame came, and this is why
-pub record StopsInRecord (before : Option Form) (old new : SourceSeen) (why : FrameFault) : Type 0 where
+pub record StopsInRecord (before : Option Form) (old new : SourceSeen) (why : FrameFault)
+    : Type 0 where
   pub form : Form
   pub rest : List ℕ
   pub part : GavePart before form rest old new

@@ -27,6 +27,8 @@ pub use frame::Frame;
 pub use message::{Ask, Hash, Message};
 pub use reader::FrameReader;
 pub use record_reader::RecordReader;
+/// What `reserve` answers if memory was refused.
+pub use std::alloc::AllocError as NoMemory;
 pub use writing::write;
 
 #[cfg(test)]

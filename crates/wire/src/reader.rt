@@ -57,8 +57,9 @@ impl<'r, R: Source> FrameReader<'r, R> {
         }
     }
 
-    /// Takes all the room that the reader will need: after `Ok` no call answers `NoMemory`. A reader
-    /// that has answered `NoMemory` answers it again. After a refusal the reader is unchanged.
+    /// Takes all the room that the reader will need: after `Ok` no call answers `NoMemory`. A
+    /// reader that has answered `NoMemory` answers it again. After a refusal the reader is
+    /// unchanged.
     pub fn reserve(&mut self) -> Result<(), NoMemory>
         ensures room { OnOk result (HasRoom self.new × ¬ HasFailed self.old FrameFault.NoMemory) }
         ensures refused { OnErr result (room self.new ≡ room self.old) }

@@ -64,8 +64,9 @@ impl<'r, R: Source> RecordReader<'r, R> {
         self.form.map(|form| form.number())
     }
 
-    /// Takes all the room that the reader will need: after `Ok` no call answers `NoMemory`. A reader
-    /// that has answered `NoMemory` answers it again. After a refusal the reader is unchanged.
+    /// Takes all the room that the reader will need: after `Ok` no call answers `NoMemory`. A
+    /// reader that has answered `NoMemory` answers it again. After a refusal the reader is
+    /// unchanged.
     pub fn reserve(&mut self) -> Result<(), NoMemory>
         ensures room { OnOk result (HasRoom (frames self.new)
             × ¬ HasFailed (frames self.old) FrameFault.NoMemory) }
@@ -128,7 +129,8 @@ impl<'r, R: Source> RecordReader<'r, R> {
             → (result ≡ Ok false) × (self.new ≡ self.old) }
         ensures failed_again { (why : FrameFault) → HasFailed (frames self.old) why
             → (result ≡ Err why) × (self.new ≡ self.old) }
-        ensures bounded { kept_len (frames self.old) ≤ 263216 → kept_len (frames self.new) ≤ 263216 }
+        ensures bounded { kept_len (frames self.old) ≤ 263216
+            → kept_len (frames self.new) ≤ 263216 }
         ensures memory { IsOpen (frames self.old) → IsErrOf result FrameFault.NoMemory
             → ¬ HasRoom (frames self.old) }
         ensures has_room { HasRoom (frames self.old) → HasRoom (frames self.new) }
