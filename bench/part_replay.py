@@ -1,7 +1,10 @@
-"""`btcheck replay` on two records. One has 16,384 piece messages of one block each and the hashes of their leaves before
-them, beside the bare digests of the same blocks. The other has 2,048 answers of 512 leaves with their uncles over a
-tree of 2^20 leaves, beside the bare digests of the pairs that lead to the root."""
+"""`btcheck replay` on records. One has 16,384 piece messages of one block each and the hashes of their leaves before
+them, another the same in messages of 16 blocks, beside the bare digests of the same blocks. One has 2,048 answers of
+512 leaves with their uncles over a tree of 2^20 leaves, beside the bare digests of the pairs that lead to the root. And on
+an empty record a torrent of 1,000,000 pieces: what its layers cost a new session, beside the bare digests of the pairs
+above them."""
 import os
+import statistics
 import sys
 
 from measuring import BARE, BLOCK, BTCHECK, TOP, measured, build_bare, missed_marks, need_program, report
@@ -12,17 +15,22 @@ from torrents import bencoded  # noqa: E402
 from trees import Tree  # noqa: E402
 
 # What each record may cost at most: (of what, ratio of processor time).
-PIECES_MARKS = [("bare digests", 1.1)]
+PIECES_MARKS = {1: [("bare digests", 1.1)], 16: [("bare digests", 1.03)]}
 ANSWERS_MARKS = [("bare digests", 1.28)]
+# What the layers may cost a new session at most, by the processor time of the bare digests.
+LAYERS_MARK = 1.3
 SPAN = 512
 
 
 def torrent_over(tree, length):
     """A torrent of one file, which lies in one piece or in pieces of 2^30 bytes."""
-    piece_length = min(1 << 30, BLOCK << tree.height)
+    return torrent_in_pieces(tree, length, min(1 << 30, BLOCK << tree.height))
+
+
+def torrent_in_pieces(tree, length, piece_length):
     layers = {}
     if length > piece_length:
-        layers[tree.root] = b"".join(tree.whole_layer(16))
+        layers[tree.root] = b"".join(tree.whole_layer((piece_length // BLOCK).bit_length() - 1))
     return bencoded({
         "info": {"file tree": {"file": {b"": {"length": length, "pieces root": tree.root}}}, "meta version": 2,
                  "name": "file", "piece length": piece_length},
@@ -70,16 +78,18 @@ def replay_beside(words, title, torrent, record, kind, bare, marks):
 
 
 def replay_pieces(folder, words):
-    count = 16384
+    count, missed = 16384, []
     blocks = [os.urandom(BLOCK) for _ in range(count)]
     tree = Tree.of_blocks(blocks)
     torrent = write(os.path.join(folder, "torrent"), [torrent_over(tree, count * BLOCK)])
-    record = write(os.path.join(folder, "record"),
-                   [answer(tree, index, SPAN) for index in range(0, count, SPAN)]
-                   + [messages.piece(0, index * BLOCK, block) for index, block in enumerate(blocks)])
     bare = write(os.path.join(folder, "blocks"), blocks)
-    title = f"a record of {count} pieces and their hashes"
-    return replay_beside(words, title, torrent, record, "digests", bare, PIECES_MARKS)
+    for each, marks in PIECES_MARKS.items():
+        pieces = (messages.piece(0, at * BLOCK, b"".join(blocks[at:at + each])) for at in range(0, count, each))
+        record = write(os.path.join(folder, "record"),
+                       [*(answer(tree, index, SPAN) for index in range(0, count, SPAN)), *pieces])
+        title = f"a record of {count} blocks, {each} in a message, and their hashes"
+        missed += replay_beside(words, title, torrent, record, "digests", bare, marks)
+    return missed
 
 
 def replay_answers(folder, words):
@@ -93,8 +103,27 @@ def replay_answers(folder, words):
     return replay_beside(words, title, torrent, record, "pairs", bare, ANSWERS_MARKS)
 
 
+def new_session(folder, words):
+    pieces = 1_000_000
+    tree = Tree([os.urandom(32) for _ in range(pieces)])
+    torrent = write(os.path.join(folder, "torrent"), [torrent_in_pieces(tree, pieces * BLOCK, BLOCK)])
+    nodes = [tree.layers[layer] for layer in range(tree.height)]
+    covered = [-(-pieces // 2 ** (layer + 1)) for layer in range(tree.height)]
+    bare = write(os.path.join(folder, "pairs"),
+                 (b"".join(layer[:2 * count]) for layer, count in zip(nodes, covered)))
+    command = [BTCHECK, "replay", torrent, "/dev/null"]
+    found = measured({"with layers": command, "roots alone": [*command, "--info-only"],
+                      "bare digests": [BARE, "pairs", bare]}, words.rounds)
+    print(f"a torrent of {pieces} pieces, and no message", end=": ")
+    report(found, os.path.getsize(bare) >> 20, "with layers")
+    whole, opening, digests = (rounds.processors for rounds in found.values())
+    ratio = statistics.median((one - other) / of for one, other, of in zip(whole, opening, digests))
+    print(f"its layers cost a new session {ratio:.3f} x the bare digests")
+    return [f"layers cost a new session more than {LAYERS_MARK} x the bare digests"] if ratio > LAYERS_MARK else []
+
+
 def run(folder, words):
     """Measures `replay`, and gives the marks that it misses, in words."""
     need_program()
     build_bare()
-    return replay_pieces(folder, words) + replay_answers(folder, words)
+    return replay_pieces(folder, words) + replay_answers(folder, words) + new_session(folder, words)
