@@ -12,12 +12,17 @@ FILES = [("a", 600 * BLOCK + 5), ("b", 3 * BLOCK), ("c", 10), ("d", BLOCK)]
 
 
 def loaded(place, torrent, info_only):
-    """What the holder of the content and the loader said, while libtorrent loaded it from libtorrent."""
-    os.makedirs(f"{place}/loaded")
-    order = {"content": f"{place}/content", "torrent": torrent, "loaded": f"{place}/loaded", "info_only": info_only,
-             "held": f"{place}/held", "asked": f"{place}/asked"}
-    subprocess.run([python_with_libtorrent(), f"{TOP}/tests/loopback.py"], input=json.dumps(order), text=True, check=True,
-                   timeout=300)
+    """What the holder of the content and the loader said, while libtorrent loaded it from libtorrent. It is tried three
+    times, since a session may give a connection up."""
+    for number in range(3):
+        os.makedirs(f"{place}/loaded{number}")
+        order = {"content": f"{place}/content", "torrent": torrent, "loaded": f"{place}/loaded{number}",
+                 "info_only": info_only, "held": f"{place}/held", "asked": f"{place}/asked"}
+        done = subprocess.run([python_with_libtorrent(), f"{TOP}/tests/loopback.py"], input=json.dumps(order), text=True,
+                              stderr=subprocess.PIPE, timeout=300)
+        if done.returncode == 0:
+            break
+    assert done.returncode == 0, done.stderr
     said = []
     for name in ["held", "asked"]:
         with open(f"{place}/{name}", "rb") as file:
