@@ -90,15 +90,13 @@ def main(order):
         known.ti = lt.torrent_info(order["torrent"])
     known.save_path = order["loaded"]
     loaded = loader.add_torrent(known)
-    end = time.monotonic() + SECONDS
-    while not loaded.status().is_seeding:
-        if not proxy.said:
-            loaded.connect_peer(("127.0.0.1", proxy.server.getsockname()[1]))
-        if time.monotonic() > end:
-            sys.exit(f"not loaded: {loaded.status().state}, {loaded.status().progress}")
-        time.sleep(0.1)
+    wait_for("nobody connects", lambda: proxy.said or loaded.connect_peer(("127.0.0.1", proxy.server.getsockname()[1])))
+    wait_for("it is not loaded", lambda: loaded.status().is_seeding)
     time.sleep(0.2)
-    said = max(proxy.said, key=lambda kept: len(kept[1]))
+    talks = [kept for kept in proxy.said if len(kept[1]) > HANDSHAKE]
+    if len(talks) != 1:
+        sys.exit(f"{len(talks)} connections, so no record has all")
+    said = talks[0]
     for path, text in [(order["held"], said[1]), (order["asked"], said[0])]:
         with open(path, "wb") as out:
             out.write(whole_frames(text))

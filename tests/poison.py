@@ -11,6 +11,11 @@ OTHER_IDS = [0, 4, 5, 6, 8, 20, 24, 255]
 WRONG_SIZES = [(7, 8), (7, 263218), (21, 50), (21, 1), (22, 48), (22, 80), (23, 48), (22, 263218)]
 
 
+def numbered(told):
+    """The lines of a report in which this is told of each frame."""
+    return [f"{number} {text}" for number, texts in enumerate(told, 1) for text in texts]
+
+
 class Peers:
     """Peers of a torrent of these files, whose draws a seed fixes."""
 
@@ -21,13 +26,17 @@ class Peers:
         self.answers = []  # the frame that answers each request
         self.trees = [tree["whole"] for tree in self.model.trees.values()]
 
-    def messages(self, count):
-        """So many frames, and the lines of each."""
+    def told(self, count):
+        """So many frames, and what is told of each: a list of texts."""
         kinds = [self.hashes, self.hashes, self.hashes, self.piece, self.piece, self.request, self.reject, self.other,
                  self.wrong_size]
         frames = [self.chance.choice(kinds)() for _ in range(count)]
-        return [frame for frame, _ in frames], [
-            f"{number} {line}" for number, (_, text) in enumerate(frames, 1) for line in ([text] if isinstance(text, str) else text)]
+        return [frame for frame, _ in frames], [[text] if isinstance(text, str) else text for _, text in frames]
+
+    def messages(self, count):
+        """So many frames, and the lines of each."""
+        frames, told = self.told(count)
+        return frames, numbered(told)
 
     def is_rare(self, rate):
         return self.chance.random() < rate

@@ -27,7 +27,10 @@ REFUSED = [
     ["replay", "a", "b", "c"],
     ["replay", "a", "b", "--info-only", "--info-only"],
     ["replay", "a", "b", "--info-only=yes"],
-    ["replay", "a", "b", "--seed", "c"],
+    ["replay", "a", "b", "--seed"],
+    ["replay", "a", "b", "--seed", "c", "--seed", "d"],
+    ["replay", "a", "b", "--answers"],
+    ["replay", "a", "b", "--seeds", "c"],
 ]
 
 

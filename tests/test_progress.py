@@ -89,7 +89,7 @@ def test_a_file_and_a_folder():
         assert checks and all(checks) and {match[2] for match in checks} == {"768.0 MiB"}, sent
         for match in checks:
             before = {f": {place}/all/a": 0, f": {place}/all/c": 640 * MIB}[match[5]]
-            assert before < amount(match[1]) <= before + 128 * MIB, match[0]
+            assert before <= amount(match[1]) <= before + 128 * MIB, match[0]
         assert screen(sent) == [""], sent
 
 

@@ -3,7 +3,7 @@ import os
 import random
 
 from messages import KEEP_ALIVE, hashes, piece, request
-from poison import Peers
+from poison import Peers, numbered
 from session_model import Session
 from support import expect, folder, run, write
 from torrents import torrent_of
@@ -169,23 +169,23 @@ def exchange(files, piece_length, seed):
             assert out == b"".join(true)
             before = sum(map(model.gaps, roots))
             for ask, answer in zip(wanted, true):
-                poison, told = peers.messages(6)
+                poison, told = peers.told(6)
                 record += b"".join(poison) + answer
-                report += [line.split(" ", 1)[1] for line in told] + [model.take(*ask, seeder.hashes(*ask))]
-                assert report[-1].startswith("stored "), report[-1]
+                report += [*told, [model.take(*ask, seeder.hashes(*ask))]]
+                assert report[-1][0].startswith("stored "), report[-1]
             rounds += len(wanted)
             assert sum(map(model.gaps, roots)) < before
             done = world.replay(record, "--info-only")
-            expect(done, done.returncode, lines(*(f"{at} {text}" for at, text in enumerate(report, 1)), "end"))
+            expect(done, done.returncode, lines(*numbered(report), "end"))
         # nothing is wanted any more: each block is verified
         for _, content, _, first in model.files:
             for at, block in enumerate(blocks_of(content)):
                 place_of = (first, at * BLOCK)
                 record += piece(*place_of, block)
-                report.append(model.block(*place_of, block))
-                assert report[-1].startswith("verified "), report[-1]
+                report.append(model.blocks(*place_of, block))
+                assert report[-1][0].startswith("verified "), report[-1]
         done = world.replay(record, "--info-only")
-        expect(done, done.returncode, lines(*(f"{at} {text}" for at, text in enumerate(report, 1)), "end"))
+        expect(done, done.returncode, lines(*numbered(report), "end"))
         return rounds, promised
 
 
