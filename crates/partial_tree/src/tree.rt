@@ -191,8 +191,7 @@ impl<N: NodeMap> Tree<N> {
     {
         match check_range(self.height, ask) {
             Err(_) => false,
-            Ok(_) => all_known(
-                &self.nodes,
+            Ok(_) => self.nodes.knows(
                 ask.base,
                 u64::from(ask.index),
                 u64::from(ask.length),
@@ -265,20 +264,6 @@ impl<N: NodeMap> Tree<N> {
         self.marked += mark_leaf(&mut self.nodes, block);
         Ok(())
     }
-}
-
-/// Whether so many places of a layer are known, from one on.
-fn all_known<N: NodeMap>(nodes: &N, layer: u32, from: u64, count: u64) -> bool
-    requires { from + count < 2 ^ 64 }
-    ensures { IsTrue result ↔ ((j : ℕ) → j < count → IsKnown (look (N.known nodes.now)) layer
-        (from + j)) }
-{
-    for j in 0..count {
-        if nodes.get(layer, from + j).is_none() {
-            return false;
-        }
-    }
-    true
 }
 
 /// Each hash has 32 bytes, as its type says.
