@@ -115,7 +115,11 @@ fn row_of(rows: &[Vec<Option<Hash>>], layer: u32) -> &[Option<Hash>]
     ensures { (i : ℕ) → hash_in result.now i ≡ cells rows.now layer i }
 {
     let layer = layer as usize;
-    if layer < rows.len() { &rows[layer] } else { &[] }
+    if layer < rows.len() {
+        &rows[layer]
+    } else {
+        &[]
+    }
 }
 
 // Whether `count` cells hold a hash, from one on.

@@ -191,18 +191,18 @@ impl<N: NodeMap> Tree<N> {
     {
         match check_range(self.height, ask) {
             Err(_) => false,
-            Ok(_) => self.nodes.knows(
-                ask.base,
-                u64::from(ask.index),
-                u64::from(ask.length),
-            ),
+            Ok(_) => self
+                .nodes
+                .knows(ask.base, u64::from(ask.index), u64::from(ask.length)),
         }
     }
 
     /// What it answers to a hash request: the hashes if they are known, else a reject. Fails only
-    /// out of memory.
+    /// out of memory for the hashes.
     pub fn answer(&self, ask: &Ask) -> Result<Answer, NoMemory>
-        ensures { IfOk result (IsTreeAnswer (tree_height self.now.length)
+        ensures answer { IfOk result (IsTreeAnswer (tree_height self.now.length)
+            (look self.now.state.known) ask.now) }
+        ensures no_memory { OnErr result (CanAnswer (tree_height self.now.length)
             (look self.now.state.known) ask.now) }
     {
         let Ok(span) = check_range(self.height, ask) else {

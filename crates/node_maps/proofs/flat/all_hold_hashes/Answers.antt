@@ -12,11 +12,10 @@ holds (Some h) is = (h, refl)
 
 pub returns-then-is_none : goal.returns-then-is_none
 returns-then-is_none c =
-    let start = from-start (hash_in c.args.row.now) c.cells.cell-index in
-    (
+    let start = from-start (hash_in c.args.row.now) c.cells.cell-index in (
       λ e. absurd (false≢true e),
       λ all. let here = all c.cells.cell-index c.cells-test.true in
-      absurd (false≢true (sym (c.is_none.ensures ∙ ap not c.if-is_none.true) ∙ ap is_some (sym start ∙ here.1))),
+          absurd (false≢true (sym (c.is_none.ensures ∙ ap not c.if-is_none.true) ∙ ap is_some (sym start ∙ here.1))),
     )
 
 pub cells-preserved : goal.cells-preserved

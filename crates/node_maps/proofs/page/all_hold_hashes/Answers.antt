@@ -16,8 +16,7 @@ holds (Marked h) not = (h, refl)
 
 pub returns-in-Empty : goal.returns-in-Empty
 returns-in-Empty c =
-    let start = from-start (hash_in c.args.cells.now) c.cells.cell-index in
-    (
+    let start = from-start (hash_in c.args.cells.now) c.cells.cell-index in (
       λ e. absurd (false≢true e),
       λ all. let here = all c.cells.cell-index c.cells-test.true in absurd (none-some here.0 (sym (start ∙ ap hash_of c.in-Empty.is) ∙ here.1)),
     )

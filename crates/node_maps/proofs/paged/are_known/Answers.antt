@@ -11,8 +11,7 @@ returns-then-layer-rows c =
 
 pub returns-else-layer-rows : goal.returns-else-layer-rows
 returns-else-layer-rows c =
-    let f = hashes c.args.rows.now c.args.layer in
-    (
+    let f = hashes c.args.rows.now c.args.layer in (
       λ e. none-known f c.args.from c.args.count (eqb-true c.args.count 0 e),
       λ known. eq-eqb c.args.count 0 (some-known f c.args.from c.args.count (no_row-hashes c.args.rows.now c.args.layer c.if-layer-rows.false) known),
     )

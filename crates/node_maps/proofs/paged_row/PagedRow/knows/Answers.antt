@@ -21,8 +21,7 @@ returns-then-not-knows c =
     let part = c.first_of-part in
     let alike = page-alike (on_rows row.pages) (c.args.from + c.parts.done) part.result.number part.result.first part.result.count c.in-Some.page.now
     part.ensures.number part.ensures.first part.ensures.inside (sym c.in-Some.ensures) in
-    let fits : c.parts.done + part.result.count ≤ c.args.count = omega (arith, part.ensures.most, c.parts-test.true) in
-    (
+    let fits : c.parts.done + part.result.count ≤ c.args.count = omega (arith, part.ensures.most, c.parts-test.true) in (
       λ e. absurd (false≢true e),
       λ all. absurd (false≢true (sym c.if-not-knows.true ∙ c.knows.ensures.1 (known-alike (alike-back alike) (known-part (hashes_of row) c.args.from c.args.count c.parts.done part.result.count fits all)))),
     )
