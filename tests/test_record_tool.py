@@ -114,6 +114,11 @@ def some_frame(chance):
                           messages.piece(1, 0, chance.randbytes(200)), messages.request(bytes(32), 0, 0, 2, 1)])
 
 
+def some_stream(chance):
+    """A handshake, frames, and at most the start of another one."""
+    return HANDSHAKE + b"".join(some_frame(chance) for _ in range(12)) + bytes(chance.randrange(3))
+
+
 def cut(chance, stream):
     """A stream in parts of any sizes."""
     while stream:
@@ -125,8 +130,7 @@ def cut(chance, stream):
 def test_every_byte_and_every_frame():
     chance = random.Random(19)
     for _ in range(8):
-        parts = {way: list(cut(chance, HANDSHAKE + b"".join(some_frame(chance) for _ in range(12)) + b"\x00\x00"[:chance.randrange(3)]))
-                 for way in (CAME_IN, WENT_OUT)}
+        parts = {way: list(cut(chance, some_stream(chance))) for way in (CAME_IN, WENT_OUT)}
         with folder() as place, Relay(f"{place}/record") as relay:
             talk = Talk(*relay.connect())
             while any(parts.values()):
