@@ -11,3 +11,5 @@ pub mod Numbering
 pub mod FirstTrees
 pub mod FirstLayers
 pub mod Arrays
+pub mod OpenAsks
+pub mod Asking

@@ -22,7 +22,7 @@ returns-in-None g c =
     no_number c.self.inside.torrent.now ts c.self.invariant.0 c.self.inside.roots c.self.invariant.1 c.args.ask.now.root (sym c.number.ensures ∙ c.in-None.is) in
     let unknown : IsHashRefused c.args.self.now c.args.ask.now [] UnknownRoot =
     subst (λ (v : SessionSeen). IsHashRefused v c.args.ask.now [] UnknownRoot) c.self.view_is
-    (unknown_in c.self.inside.torrent.now ts c.self.invariant.0 c.args.ask.now [] none) in
+    (unknown_in c.self.inside.torrent.now ts c.self.invariant.0 c.self.inside.asks c.args.ask.now [] none) in
     λ answered. unknown answered.0.number answered.0.tree answered.0.is_tree.tree_is answered.0.has_root
 
 pub returns-in-Some : goal.returns-in-Some
@@ -34,4 +34,4 @@ returns-in-Some g c =
     let at : slice_get ts n ≡ Some a = found_at ts n a inside c.index.ensures in
     let root : a.root ≡ c.args.ask.now.root = (some_number c.self.inside.torrent.now ts c.self.invariant.0 c.self.inside.roots c.self.invariant.1 c.args.ask.now.root n (sym c.number.ensures ∙ c.in-Some.is)).1 a at in
     subst (λ (v : SessionSeen). IfOk c.answer.result (IsAnswerTo v c.args.ask.now)) c.self.view_is
-    (answer_all c.self.inside.torrent.now ts c.self.invariant.0 c.sound.ensures n a c.args.ask.now c.answer.result at root c.answer.ensures)
+    (answer_all c.self.inside.torrent.now ts c.self.invariant.0 c.self.inside.asks c.sound.ensures n a c.args.ask.now c.answer.result at root c.answer.ensures.answer)
