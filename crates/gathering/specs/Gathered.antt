@@ -67,7 +67,8 @@ Gathered name piece_length hybrid paths contents d =
 
 -- ---- memory
 
--- hashing this content takes memory: its piece layer has hashes, or a hybrid has digests of its cuts
+-- hashing this content takes memory: its piece layer has hashes, or a hybrid has digests of its
+-- cuts
 abbrev pub KeepsDigests : ℕ → Bool → List ℕ → Type 0
 KeepsDigests piece_length hybrid content =
     (piece_hashes piece_length content ≢ []) ⊎ ((hybrid ≡ true) × (0 < length content))

@@ -132,3 +132,6 @@ fn parts_of<'p>(alloc: Global, path: &'p [String]) -> Result<Vec<&'p str>, NoMem
     }
     Ok(parts)
 }
+
+#[cfg(test)]
+mod tests;
