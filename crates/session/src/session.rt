@@ -40,7 +40,7 @@ use wire::{Ask, Message};
 /// sibling and its parent, up to the tree's root, whatever messages came.
 #[derive(Drop)]
 pub struct Session<'t, N: NodeMap> {
-    alloc: Global,
+    pub(crate) alloc: Global,
     torrent: &'t Torrent<'t>,
     trees: Vec<Tree<N>>,
     roots: Roots,
@@ -400,7 +400,7 @@ impl<'t, N: NodeMap> Session<'t, N> {
 }
 
 /// The hashes of a message have 32 bytes each, as their type says.
-fn has_hashes(message: &Message<'_>)
+pub(crate) fn has_hashes(message: &Message<'_>)
     ensures { HasHashes message.now }
 {
     match *message {
