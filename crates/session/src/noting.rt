@@ -61,7 +61,7 @@ impl<'t, N: NodeMap> Session<'t, N> {
     }
 
     /// Takes one message that came in or went out, and tells what it makes of it. What came in is
-    /// taken as by `step`, but hashes as by `take_answer`; of what went out, a request is noted, and
+    /// taken as by `step`, but hashes as by `take_answer`. Of what went out a request is noted, and
     /// all else is told as sent. Only our own requests open an ask. A refusal leaves the session
     /// unchanged.
     pub fn step_noted(&mut self, direction: Direction, message: &Message<'_>) -> Verdict
@@ -104,7 +104,7 @@ impl<'t, N: NodeMap> Session<'t, N> {
     /// each. No tree has more gaps afterwards, and an open ask is still open unless its base range
     /// is known. If the messages end with the true answer to what `want` gave before the first of
     /// them, and that ask was noted before its answer, there are fewer gaps, whatever else the
-    /// messages hold, unless memory was refused for that answer or for noting it, or two inputs with
+    /// messages hold, unless memory was refused for that answer or to note it, or two inputs with
     /// one digest are named. Room for the verdicts is made first; if memory is refused for it, the
     /// session is unchanged.
     pub fn run_noted(

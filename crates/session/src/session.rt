@@ -285,7 +285,8 @@ impl<'t, N: NodeMap> Session<'t, N> {
     /// reject, exactly if `can_answer` is false. Takes memory for the hashes alone, and fails only
     /// if that is refused.
     pub fn answer(&self, ask: &Ask) -> Result<Answer, NoMemory>
-        ensures { IfOk result (IsAnswerTo self.now ask.now) }
+        ensures answer { IfOk result (IsAnswerTo self.now ask.now) }
+        ensures no_memory { OnErr result (IsAnswered self.now ask.now) }
     {
         self.torrent.sound();
         match self.roots.number(&ask.root) {
