@@ -34,4 +34,4 @@ returns-in-Some g c =
     let at : slice_get ts n ≡ Some a = found_at ts n a inside c.index.ensures in
     let root : a.root ≡ c.args.ask.now.root = (some_number c.self.inside.torrent.now ts c.self.invariant.0 c.self.inside.roots c.self.invariant.1 c.args.ask.now.root n (sym c.number.ensures ∙ c.in-Some.is)).1 a at in
     subst (λ (v : SessionSeen). IfOk c.answer.result (IsAnswerTo v c.args.ask.now)) c.self.view_is
-    (answer_all c.self.inside.torrent.now ts c.self.invariant.0 c.self.inside.asks c.sound.ensures n a c.args.ask.now c.answer.result at root c.answer.ensures)
+    (answer_all c.self.inside.torrent.now ts c.self.invariant.0 c.self.inside.asks c.sound.ensures n a c.args.ask.now c.answer.result at root c.answer.ensures.answer)
