@@ -96,7 +96,8 @@ impl Draft {
 
     /// Puts the info dictionary.
     fn put_info<W: Sink>(&self, pen: &mut Pen, w: &mut W)
-        ensures { Put pen.old (W.seen w.old) pen.new (W.seen w.new) (spelling (info_value self.now)) }
+        ensures { Put pen.old (W.seen w.old) pen.new (W.seen w.new)
+            (spelling (info_value self.now)) }
     {
         pen.put(w, b"d9:file treed");
         put_tree(&self.files, pen, w);
