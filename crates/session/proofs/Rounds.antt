@@ -8,7 +8,7 @@ use Rattle.partial_tree.specs.TreeRoot.{TreeRoot, Fits}
 use Rattle.node_maps.specs.Places.{tree_height, PartialTree}
 use Rattle.wire.specs.declared.message.Ask.{Ask}
 use Rattle.partial_tree.specs.declared.refusal.HashRefusal.{HashRefusal}
-use Rattle.partial_tree.specs.declared.refusal.HashRefusal.TheVariants.{UnknownRoot, BadRange, BadCount, BadPad, Unanchored, Mismatch, NoMemory}
+use Rattle.partial_tree.specs.declared.refusal.HashRefusal.TheVariants.{UnknownRoot, BadRange, BadCount, BadPad, Unanchored, Mismatch, NoMemory, Unasked}
 use Rattle.wire.specs.declared.message.Message.{Message}
 use Rattle.wire.specs.declared.message.Message.TheVariants as message
 use Rattle.session.specs.declared.verdict.Verdict.{Verdict}
@@ -42,7 +42,7 @@ want-tall t K b closed in' none = elim (cases_lt (tree_height t.length) 1) [
 ]
 
 -- the tree that an ask names is the one tree with its root
-asked-is : (S : SessionSeen) (ask : Ask) (n : ℕ) (tree : TreeRoot) (s : TreeState) → HasDistinctRoots S → IsTree S n tree s → tree.root ≡ ask.root
+pub asked-is : (S : SessionSeen) (ask : Ask) (n : ℕ) (tree : TreeRoot) (s : TreeState) → HasDistinctRoots S → IsTree S n tree s → tree.root ≡ ask.root
     → (a : IsAsked S ask) → (a.number ≡ n) × (a.tree ≡ tree) × (a.state ≡ s)
 asked-is S ask n tree s distinct at root a =
     let same : a.number ≡ n = distinct a.number n a.tree tree a.is_tree.tree_is at.tree_is (a.has_root ∙ sym root) in (
@@ -81,8 +81,9 @@ module _ (n : ℕ) (tree : TreeRoot) (b : ℕ) (in' : b < block_count tree.lengt
     refused-never BadPad memory (a, h) = fault-never BadPad a h
     refused-never Unanchored memory (a, h) = fault-never Unanchored a h
     refused-never Mismatch memory (a, h) = fault-never Mismatch a h
+    refused-never Unasked memory (a, h) = fault-never Unasked a h
 
-  answer-fewer : (S S' : SessionSeen) → HasDistinctRoots S → (s : TreeState) → IsTree S n tree s → 1 ≤ tree_height tree.length → Keeps K (look s.known) → K 0 b ≡ None
+  pub answer-fewer : (S S' : SessionSeen) → HasDistinctRoots S → (s : TreeState) → IsTree S n tree s → 1 ≤ tree_height tree.length → Keeps K (look s.known) → K 0 b ≡ None
       → (hs : Bor (List Hash)) → IsAccepted tree.length (look s.known) (want_ask tree b) hs.now
       → (v : Verdict) → v ≢ verdict.HashRefused NoMemory → Step S (message.Hashes (want_ask tree b) hs) v S' → HasFewerGaps S' n tree K
   answer-fewer S S' distinct s at tall keeps none hs ok (verdict.Stored c) memory h = stored-fewer S S' distinct s at tall keeps none hs.now ok c h
