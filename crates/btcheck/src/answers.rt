@@ -3,13 +3,13 @@ ghost use Rattle.std.specs.Prelude.{◌≡◌, ◌≢◌, ◌^◌, ◌≤◌, �
 ghost use Rattle.std.specs.String.{string_bytes};
 ghost use Rattle.benc.specs.Device.{SentAndFlushed};
 ghost use Rattle.benc.specs.Text.{spelling};
-ghost use Rattle.checker.specs.Converting.{Converts};
+ghost use Rattle.conversions.specs.Converting.{Converts};
 ghost use Rattle.checker.specs.Gathering.{Gathers};
 ghost use Rattle.checker.specs.Refused.{refusal_text};
 ghost use Rattle.checker.specs.Show.{show_text};
 ghost use Rattle.checker.specs.Replay.{replay_seen};
 ghost use Rattle.checker.specs.Seeding.{IsSeeded, both};
-ghost use Rattle.metainfo.specs.Written.{value_of};
+ghost use Rattle.drafts.specs.Written.{value_of};
 ghost use Rattle.session.specs.Fresh.{IsFresh};
 ghost use Rattle.btcheck.specs.Answers.{IsChecked, IsReplayed, answer_status};
 
@@ -18,8 +18,9 @@ use benc::memory::MemSink;
 use benc::{Sink, Source};
 use checker::{
     ConvertFault, Fault, GatherFault, RootFault, SeedFault, Shelf, ShelfFault, print_report,
-    refusal_line, root_line, write_line,
+    refusal_line, root_line,
 };
+use lines::write_line;
 use metainfo::{Draft, Refusal, Torrent};
 use node_maps::Paged;
 use session::{NodeMap, Session};
