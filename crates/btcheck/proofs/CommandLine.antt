@@ -111,7 +111,7 @@ root_needs_file rows e (action.Show torrent) asks = differs _ _ refl asks.0
 root_needs_file rows e (action.Check torrent dir) asks = differs _ _ refl asks.0
 root_needs_file rows e (action.Create asked) asks = differs _ _ refl asks.0
 root_needs_file rows e (action.Replay asked) asks = differs _ _ refl asks.0
-root_needs_file rows e (action.Convert source out) asks = differs _ _ refl asks.0
+root_needs_file rows e (action.Convert asked) asks = differs _ _ refl asks.0
 
 pub show_needs_torrent : (rows : List Row) → first_of (codes "TORRENT") rows ≡ None
     → (a : Action) → Asks (codes "show") rows a → ⊥
@@ -120,7 +120,7 @@ show_needs_torrent rows e (action.Show torrent) asks = absent torrent.now _ e as
 show_needs_torrent rows e (action.Check torrent dir) asks = differs _ _ refl asks.0
 show_needs_torrent rows e (action.Create asked) asks = differs _ _ refl asks.0
 show_needs_torrent rows e (action.Replay asked) asks = differs _ _ refl asks.0
-show_needs_torrent rows e (action.Convert source out) asks = differs _ _ refl asks.0
+show_needs_torrent rows e (action.Convert asked) asks = differs _ _ refl asks.0
 
 pub check_needs_torrent : (rows : List Row) → first_of (codes "TORRENT") rows ≡ None
     → (a : Action) → Asks (codes "check") rows a → ⊥
@@ -129,7 +129,7 @@ check_needs_torrent rows e (action.Show torrent) asks = differs _ _ refl asks.0
 check_needs_torrent rows e (action.Check torrent dir) asks = absent torrent.now _ e asks.1.0
 check_needs_torrent rows e (action.Create asked) asks = differs _ _ refl asks.0
 check_needs_torrent rows e (action.Replay asked) asks = differs _ _ refl asks.0
-check_needs_torrent rows e (action.Convert source out) asks = differs _ _ refl asks.0
+check_needs_torrent rows e (action.Convert asked) asks = differs _ _ refl asks.0
 
 pub check_needs_dir : (rows : List Row) → first_of (codes "DIR") rows ≡ None
     → (a : Action) → Asks (codes "check") rows a → ⊥
@@ -138,7 +138,7 @@ check_needs_dir rows e (action.Show torrent) asks = differs _ _ refl asks.0
 check_needs_dir rows e (action.Check torrent dir) asks = absent dir.now _ e asks.1.1
 check_needs_dir rows e (action.Create asked) asks = differs _ _ refl asks.0
 check_needs_dir rows e (action.Replay asked) asks = differs _ _ refl asks.0
-check_needs_dir rows e (action.Convert source out) asks = differs _ _ refl asks.0
+check_needs_dir rows e (action.Convert asked) asks = differs _ _ refl asks.0
 
 pub create_needs_dir : (rows : List Row) → first_of (codes "DIR") rows ≡ None
     → (a : Action) → Asks (codes "create") rows a → ⊥
@@ -147,7 +147,7 @@ create_needs_dir rows e (action.Show torrent) asks = differs _ _ refl asks.0
 create_needs_dir rows e (action.Check torrent dir) asks = differs _ _ refl asks.0
 create_needs_dir rows e (action.Create asked) asks = absent asked.dir.now _ e asks.1.0
 create_needs_dir rows e (action.Replay asked) asks = differs _ _ refl asks.0
-create_needs_dir rows e (action.Convert source out) asks = differs _ _ refl asks.0
+create_needs_dir rows e (action.Convert asked) asks = differs _ _ refl asks.0
 
 pub create_needs_out : (rows : List Row) → first_of (codes "OUT") rows ≡ None
     → (a : Action) → Asks (codes "create") rows a → ⊥
@@ -156,7 +156,7 @@ create_needs_out rows e (action.Show torrent) asks = differs _ _ refl asks.0
 create_needs_out rows e (action.Check torrent dir) asks = differs _ _ refl asks.0
 create_needs_out rows e (action.Create asked) asks = absent asked.out.now _ e asks.1.1
 create_needs_out rows e (action.Replay asked) asks = differs _ _ refl asks.0
-create_needs_out rows e (action.Convert source out) asks = differs _ _ refl asks.0
+create_needs_out rows e (action.Convert asked) asks = differs _ _ refl asks.0
 
 pub create_needs_name : (rows : List Row) → first_of (codes "name") rows ≡ None
     → (a : Action) → Asks (codes "create") rows a → ⊥
@@ -165,7 +165,7 @@ create_needs_name rows e (action.Show torrent) asks = differs _ _ refl asks.0
 create_needs_name rows e (action.Check torrent dir) asks = differs _ _ refl asks.0
 create_needs_name rows e (action.Create asked) asks = absent asked.name.now _ e asks.1.2
 create_needs_name rows e (action.Replay asked) asks = differs _ _ refl asks.0
-create_needs_name rows e (action.Convert source out) asks = differs _ _ refl asks.0
+create_needs_name rows e (action.Convert asked) asks = differs _ _ refl asks.0
 
 pub create_needs_piece_length : (rows : List Row)
     → ((number : ℕ) → IsNumberOf (one_of (codes "piece-length") rows) number → ⊥)
@@ -175,7 +175,7 @@ create_needs_piece_length rows none (action.Show torrent) asks = differs _ _ ref
 create_needs_piece_length rows none (action.Check torrent dir) asks = differs _ _ refl asks.0
 create_needs_piece_length rows none (action.Create asked) asks = none asked.piece_length asks.1.3
 create_needs_piece_length rows none (action.Replay asked) asks = differs _ _ refl asks.0
-create_needs_piece_length rows none (action.Convert source out) asks = differs _ _ refl asks.0
+create_needs_piece_length rows none (action.Convert asked) asks = differs _ _ refl asks.0
 
 pub replay_needs_torrent : (rows : List Row) → first_of (codes "TORRENT") rows ≡ None
     → (a : Action) → Asks (codes "replay") rows a → ⊥
@@ -184,7 +184,7 @@ replay_needs_torrent rows e (action.Show torrent) asks = differs _ _ refl asks.0
 replay_needs_torrent rows e (action.Check torrent dir) asks = differs _ _ refl asks.0
 replay_needs_torrent rows e (action.Create asked) asks = differs _ _ refl asks.0
 replay_needs_torrent rows e (action.Replay asked) asks = absent asked.torrent.now _ e asks.1.0
-replay_needs_torrent rows e (action.Convert source out) asks = differs _ _ refl asks.0
+replay_needs_torrent rows e (action.Convert asked) asks = differs _ _ refl asks.0
 
 pub replay_needs_record : (rows : List Row) → first_of (codes "RECORD") rows ≡ None
     → (a : Action) → Asks (codes "replay") rows a → ⊥
@@ -193,7 +193,7 @@ replay_needs_record rows e (action.Show torrent) asks = differs _ _ refl asks.0
 replay_needs_record rows e (action.Check torrent dir) asks = differs _ _ refl asks.0
 replay_needs_record rows e (action.Create asked) asks = differs _ _ refl asks.0
 replay_needs_record rows e (action.Replay asked) asks = absent asked.record.now _ e asks.1.1
-replay_needs_record rows e (action.Convert source out) asks = differs _ _ refl asks.0
+replay_needs_record rows e (action.Convert asked) asks = differs _ _ refl asks.0
 
 pub convert_needs_record : (rows : List Row) → first_of (codes "RECORD") rows ≡ None
     → (a : Action) → Asks (codes "convert") rows a → ⊥
@@ -202,7 +202,7 @@ convert_needs_record rows e (action.Show torrent) asks = differs _ _ refl asks.0
 convert_needs_record rows e (action.Check torrent dir) asks = differs _ _ refl asks.0
 convert_needs_record rows e (action.Create asked) asks = differs _ _ refl asks.0
 convert_needs_record rows e (action.Replay asked) asks = differs _ _ refl asks.0
-convert_needs_record rows e (action.Convert source out) asks = absent source.now _ e asks.1.0
+convert_needs_record rows e (action.Convert asked) asks = absent asked.record.now _ e asks.1.0
 
 pub convert_needs_out : (rows : List Row) → first_of (codes "OUT") rows ≡ None
     → (a : Action) → Asks (codes "convert") rows a → ⊥
@@ -211,4 +211,4 @@ convert_needs_out rows e (action.Show torrent) asks = differs _ _ refl asks.0
 convert_needs_out rows e (action.Check torrent dir) asks = differs _ _ refl asks.0
 convert_needs_out rows e (action.Create asked) asks = differs _ _ refl asks.0
 convert_needs_out rows e (action.Replay asked) asks = differs _ _ refl asks.0
-convert_needs_out rows e (action.Convert source out) asks = absent out.now _ e asks.1.1
+convert_needs_out rows e (action.Convert asked) asks = absent asked.out.now _ e asks.1.1

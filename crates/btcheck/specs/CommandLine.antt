@@ -123,7 +123,7 @@ command_of (action.Show torrent) = codes "show"
 command_of (action.Check torrent dir) = codes "check"
 command_of (action.Create asked) = codes "create"
 command_of (action.Replay asked) = codes "replay"
-command_of (action.Convert source out) = codes "convert"
+command_of (action.Convert asked) = codes "convert"
 
 -- the texts and flags of this action are what is found in the arguments of its command
 abbrev pub Finds : List Row → Action → Type 0
@@ -136,8 +136,8 @@ Finds rows (action.Create asked) =
     × IsText (codes "name") rows asked.name
     × IsNumberOf (one_of (codes "piece-length") rows) asked.piece_length
     × IsFlag (codes "hybrid") rows asked.hybrid
-Finds rows (action.Convert source out) =
-    IsText (codes "RECORD") rows source × IsText (codes "OUT") rows out
+Finds rows (action.Convert asked) =
+    IsText (codes "RECORD") rows asked.record × IsText (codes "OUT") rows asked.out
 Finds rows (action.Replay asked) =
     IsText (codes "TORRENT") rows asked.torrent × IsText (codes "RECORD") rows asked.record
     × IsFlag (codes "info-only") rows asked.info_only

@@ -13,7 +13,7 @@ ghost use Rattle.drafts.specs.Written.{value_of};
 ghost use Rattle.session.specs.Fresh.{IsFresh};
 ghost use Rattle.btcheck.specs.Answers.{IsChecked, IsReplayed, answer_status};
 
-use crate::command::Create;
+use crate::command::{Convert, Create};
 use benc::memory::MemSink;
 use benc::{Sink, Source};
 use checker::{
@@ -213,11 +213,10 @@ pub(crate) fn write_torrent<'a, W: Sink, O: Sink>(
     }
 }
 
-/// Converts the record with this path, and writes it to the sink with that one.
+/// Converts the record that is asked for, and writes it to this sink.
 pub(crate) fn convert<'a, R: Source, W: Sink, O: Sink>(
-    record: &'a str,
+    asked: &Convert<'a>,
     source: &mut R,
-    path: &'a str,
     converted: &mut W,
     out: &mut O,
 ) -> Result<u8, Fault<'a>>
@@ -228,14 +227,23 @@ pub(crate) fn convert<'a, R: Source, W: Sink, O: Sink>(
 {
     match checker::convert(source, converted) {
         Ok(()) => Ok(status(true)),
-        Err(ConvertFault::Truncated) => Err(Fault::Truncated(record)),
-        Err(ConvertFault::Read) => Err(Fault::Read(record)),
-        Err(ConvertFault::Write) => Err(Fault::Write(path)),
-        Err(ConvertFault::AlreadyForm2) => match write_line(out, b"refused 3 AlreadyForm2\n") {
-            Ok(()) => Ok(status(false)),
-            Err(_) => Err(Fault::Write("-")),
-        },
+        Err(ConvertFault::Truncated) => Err(Fault::Truncated(asked.record)),
+        Err(ConvertFault::Read) => Err(Fault::Read(asked.record)),
+        Err(ConvertFault::Write) => Err(Fault::Write(asked.out)),
+        Err(ConvertFault::AlreadyForm2) => refuse_form_2(out),
     }
+}
+
+// Prints that a record is of form 2 already.
+fn refuse_form_2<'a, W: Sink>(out: &mut W) -> Result<u8, Fault<'a>>
+    ensures status { IfOk result (λ s. s ≡ answer_status false) }
+    ensures line { OnOk result (SentAndFlushed (W.seen out.old) (W.seen out.new)
+        (codes "refused 3 AlreadyForm2\n")) }
+{
+    if write_line(out, b"refused 3 AlreadyForm2\n").is_err() {
+        return Err(Fault::Write("-"));
+    }
+    Ok(status(false))
 }
 
 // The exit status of an answer: 0 for yes or done, 1 for no or a refusal.

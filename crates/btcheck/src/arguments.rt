@@ -9,7 +9,7 @@ ghost use Rattle.clap.specs.declared.error.kind.ErrorKind.TheVariants.{OutOfMemo
 ghost use Rattle.btcheck.specs.declared.command.Action.{Action};
 ghost use Rattle.btcheck.specs.CommandLine.{IsActionOf, IsApp, IsArgument, IsAskedBy, IsAskedOf, IsFlag, IsLeaf, IsNumberIfThere, IsTextIfThere, check_command, command, convert_command, create_command, flag, needed, needed_number, needed_option, option, program, replay_command, root_command, show_command};
 
-use crate::command::{Action, Create, Replay};
+use crate::command::{Action, Convert, Create, Replay};
 use crate::fault::print_fault;
 use checker::Fault;
 use clap::error::ErrorKind;
@@ -330,7 +330,7 @@ fn convert_of<'a>(found: &ArgMatches<'a>) -> Option<Action<'a>>
 {
     let record = text(found, "RECORD")?;
     let out = text(found, "OUT")?;
-    Some(Action::Convert { record, out })
+    Some(Action::Convert(Convert { record, out }))
 }
 
 // What the arguments after `replay` ask for.

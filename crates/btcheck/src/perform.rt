@@ -1,6 +1,6 @@
 //! What each command does, on real files.
 use crate::answers;
-use crate::command::{Action, Create, Replay};
+use crate::command::{Action, Convert, Create, Replay};
 use crate::folder::Folder;
 use crate::places::{Places, all_bytes};
 use crate::streams::hold_closed_streams;
@@ -21,7 +21,7 @@ pub(crate) fn perform<'a>(rt: &HostRuntime, action: &Action<'a>) -> Result<u8, F
         Action::Check { torrent, dir } => check(rt, torrent, dir),
         Action::Replay(asked) => replay(rt, asked),
         Action::Create(asked) => create(rt, asked),
-        Action::Convert { record, out } => convert(rt, record, out),
+        Action::Convert(asked) => convert(rt, asked),
     }
 }
 
@@ -106,18 +106,17 @@ fn write_torrent<'a, W: Sink>(
 }
 
 // The new record's file is opened before the record.
-fn convert<'a>(rt: &HostRuntime, record: &'a str, path: &'a str) -> Result<u8, Fault<'a>> {
-    let Ok(written) = File::create(rt, path) else {
-        return Err(Fault::Write(path));
+fn convert<'a>(rt: &HostRuntime, asked: &Convert<'a>) -> Result<u8, Fault<'a>> {
+    let Ok(written) = File::create(rt, asked.out) else {
+        return Err(Fault::Write(asked.out));
     };
-    let Ok(file) = File::open(rt, record) else {
-        return Err(Fault::Read(record));
+    let Ok(file) = File::open(rt, asked.record) else {
+        return Err(Fault::Read(asked.record));
     };
-    let progress = Progress::new(rt, length_of(&file));
-    let mut source = Counted::new(FromRead::new(file), record, 0, &progress);
-    let mut converted = Cleared::new(FromWrite::new(written), &progress);
-    let mut out = Cleared::new(FromWrite::new(io::writer(rt)), &progress);
-    answers::convert(record, &mut source, path, &mut converted, &mut out)
+    let mut source = FromRead::new(file);
+    let mut converted = FromWrite::new(written);
+    let mut out = FromWrite::new(io::writer(rt));
+    answers::convert(asked, &mut source, &mut converted, &mut out)
 }
 
 // The torrent is read, and a refusal is printed, before the record is opened.
