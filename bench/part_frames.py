@@ -1,4 +1,4 @@
-"""Piece messages of one block each out of a file, 256 MiB, beside the bare digests of the same blocks; and the same as records
+"""16,384 piece messages of one block each out of a file, beside the bare digests of the same blocks; and the same as records
 of both forms."""
 import os
 

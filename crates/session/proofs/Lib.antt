@@ -13,3 +13,5 @@ pub mod FirstLayers
 pub mod Arrays
 pub mod OpenAsks
 pub mod Asking
+pub mod NotedSteps
+pub mod NotedRounds

@@ -1,5 +1,5 @@
 -- The trees of a session beside the state that contracts see.
-use Rattle.std.proofs.Common.{◌≡◌, ◌≢◌, ◌⊎◌, inl, inr, ℕ, ◌<◌, true, List, map, length, set, get_or, Option, Some, None, option_map, Result, Ok, Err, IfOk, IfErr, refl, sym, ap, ap₂, ◌∙◌, subst, subst₂, arith}
+use Rattle.std.proofs.Common.{◌≡◌, ◌≢◌, ◌⊎◌, inl, inr, ℕ, ◌<◌, true, List, map, length, set, get_or, Option, Some, None, option_map, Result, Ok, Err, IfOk, IfErr, OnErr, refl, sym, ap, ap₂, ◌∙◌, subst, subst₂, arith}
 use Rattle.std.specs.Prelude.{slice_get}
 use Rattle.std.specs.FinSet as leaves
 use Rattle.std.proofs.lemmas.Option.{none-some, same_Some, slice_get_within, slice_get-get_or, get_or_from_slice_get, slice_get-map}
@@ -239,6 +239,11 @@ module _ (d : Description) (ts : List KeptTree) (kept : AreKept d ts) where
   answer_all o sound n a ask (Ok (answer.Hashes hashes)) e root h =
       (record { number = n; tree = info_of a; state = a.state; is_tree = tree_at d ts kept o n a e; has_root = root }, h.0, h.1)
   answer_all o sound n a ask (Ok answer.Reject) e root h = λ answered. h (answered_in d ts kept sound o n a ask e root answered)
+
+  pub answer_memory : (o : Asks) → {E : Type 0} (n : ℕ) (a : KeptTree) (ask : Ask) (r : Result Answer E) → slice_get ts n ≡ Some a → a.root ≡ ask.root
+      → OnErr r (CanAnswer (tree_height a.length) (look a.state.known) ask) → OnErr r (IsAnswered (seen d o ts) ask)
+  answer_memory o n a ask (Ok x) e root h = tt
+  answer_memory o n a ask (Err x) e root can = asked_in d ts kept o n a ask e root can
 
   pub block_in : (n block : ℕ) (a : KeptTree) → slice_get ts n ≡ Some a → IsBlockOf d n block → block < block_count a.length
   block_in n block a e is =

@@ -23,7 +23,13 @@ abbrev ask_code : Coded Ask
 ask_code = code_by (List ℕ × (ℕ × (ℕ × (ℕ × ℕ))))
     (coded× (coded_list coded_ℕ) (coded× coded_ℕ (coded× coded_ℕ (coded× coded_ℕ coded_ℕ))))
     (λ a. (a.root, (a.base, (a.index, (a.length, a.proof)))))
-    (λ p. record { root = p.0; base = p.1.0; index = p.1.1.0; length = p.1.1.1.0; proof = p.1.1.1.1 })
+    (λ p. record {
+      root = p.0;
+      base = p.1.0;
+      index = p.1.1.0;
+      length = p.1.1.1.0;
+      proof = p.1.1.1.1;
+    })
     (λ _. refl)
 
 abbrev pub asks_code : Coded Asks

@@ -7,6 +7,7 @@ pub mod SafeStep
 pub mod Noted
 pub mod Answers
 pub mod Rounds
+pub mod NotedRounds
 pub mod Roots
 pub mod Layouts
 pub mod Codes

@@ -40,7 +40,7 @@ use wire::{Ask, Message};
 /// sibling and its parent, up to the tree's root, whatever messages came.
 #[derive(Drop)]
 pub struct Session<'t, N: NodeMap> {
-    alloc: Global,
+    pub(crate) alloc: Global,
     torrent: &'t Torrent<'t>,
     trees: Vec<Tree<N>>,
     roots: Roots,
@@ -285,7 +285,8 @@ impl<'t, N: NodeMap> Session<'t, N> {
     /// reject, exactly if `can_answer` is false. Takes memory for the hashes alone, and fails only
     /// if that is refused.
     pub fn answer(&self, ask: &Ask) -> Result<Answer, NoMemory>
-        ensures { IfOk result (IsAnswerTo self.now ask.now) }
+        ensures answer { IfOk result (IsAnswerTo self.now ask.now) }
+        ensures no_memory { OnErr result (IsAnswered self.now ask.now) }
     {
         self.torrent.sound();
         match self.roots.number(&ask.root) {
@@ -400,7 +401,7 @@ impl<'t, N: NodeMap> Session<'t, N> {
 }
 
 /// The hashes of a message have 32 bytes each, as their type says.
-fn has_hashes(message: &Message<'_>)
+pub(crate) fn has_hashes(message: &Message<'_>)
     ensures { HasHashes message.now }
 {
     match *message {
