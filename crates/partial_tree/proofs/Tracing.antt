@@ -8,7 +8,7 @@ use Rattle.std.proofs.lemmas.Option.{same_Some, none-some}
 use Rattle.partial_tree.specs.declared.evidence.Evidence.{Evidence}
 use Rattle.partial_tree.specs.declared.found.Found.{Found}
 use Rattle.node_maps.specs.Digest.{Hash, join}
-use Rattle.node_maps.specs.Places.{PartialTree, IsKnown, IsPlace}
+use Rattle.node_maps.specs.Places.{PartialTree, IsKnown, IsTreePlace}
 use Rattle.node_maps.specs.Known.{Known, look}
 use Rattle.partial_tree.specs.Joins.{insert_new, Joins}
 use Rattle.partial_tree.specs.Claims.{IsMismatch, IsAgreed}
@@ -37,13 +37,13 @@ opened e (suc l) i (v, is) none = elim (claims-read (range_of e) (hashes_of e) l
       }
 ]
 
-child_left : (h l i : ℕ) → 1 ≤ l → IsPlace h l i → IsPlace h (l - 1) (2 * i)
+child_left : (h l i : ℕ) → 1 ≤ l → IsTreePlace h l i → IsTreePlace h (l - 1) (2 * i)
 child_left h zero i some at = absurd (omega arith)
-child_left h (suc l) i some at = let down : l ≡ suc l - 1 = omega arith in subst (λ k. IsPlace h k (2 * i)) down (place_left h l i at.0 at)
+child_left h (suc l) i some at = let down : l ≡ suc l - 1 = omega arith in subst (λ k. IsTreePlace h k (2 * i)) down (place_left h l i at.0 at)
 
-child_right : (h l i : ℕ) → 1 ≤ l → IsPlace h l i → IsPlace h (l - 1) (2 * i + 1)
+child_right : (h l i : ℕ) → 1 ≤ l → IsTreePlace h l i → IsTreePlace h (l - 1) (2 * i + 1)
 child_right h zero i some at = absurd (omega arith)
-child_right h (suc l) i some at = let down : l ≡ suc l - 1 = omega arith in subst (λ k. IsPlace h k (2 * i + 1)) down (place_right h l i at.0 at)
+child_right h (suc l) i some at = let down : l ≡ suc l - 1 = omega arith in subst (λ k. IsTreePlace h k (2 * i + 1)) down (place_right h l i at.0 at)
 
 -- the children of a claimed place that is not given are claimed
 pub left_claimed : (h : ℕ) (e : Evidence) (l i : ℕ) → IsClaimedPlace h e l i → given_by e l i ≡ None → IsClaimedPlace h e (l - 1) (2 * i)

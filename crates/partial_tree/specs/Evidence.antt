@@ -8,7 +8,7 @@ use Rattle.partial_tree.specs.declared.found.Found.{Found}
 use Rattle.partial_tree.specs.declared.refusal.HashRefusal.{HashRefusal}
 use Rattle.partial_tree.specs.declared.refusal.HashRefusal.TheVariants.{Mismatch, NoMemory}
 use Rattle.node_maps.specs.Digest.{Hash}
-use Rattle.node_maps.specs.Places.{PartialTree, IsKnown, IsPlace}
+use Rattle.node_maps.specs.Places.{PartialTree, IsKnown, IsTreePlace}
 use Rattle.node_maps.specs.Known.{Known, look}
 use Rattle.partial_tree.specs.Claims.{given, claims, joined, IsAgreed, IsMismatch}
 
@@ -45,7 +45,7 @@ pub record IsPruned (e : Evidence) : Type 0 where
 pub record IsClaimedPlace (h : ℕ) (e : Evidence) (layer index : ℕ) : Type 0 where
   pub low : h ≤ 32
   pub inside : IsInside e
-  pub place : IsPlace h layer index
+  pub place : IsTreePlace h layer index
   pub pruned : IsPruned e
   pub claimed : IsKnown (claimed_by e) layer index
 
