@@ -1,0 +1,6 @@
+-- Lemmas on round trips.
+pub mod CutDigests
+pub mod Entries
+pub mod Good
+pub mod Made
+pub mod Streams
