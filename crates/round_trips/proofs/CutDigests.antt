@@ -2,12 +2,12 @@
 use Rattle.std.proofs.Common.{◌≡◌, ℕ, zero, suc, ◌+◌, ◌-◌, ◌*◌, ◌<◌, ◌≤◌, List, [], ◌∷◌, ◌++◌, length, map, take, drop, replicate, refl, sym, ap, ◌∙◌, append_assoc, add_assoc, ◌/◌, ◌%◌, arith, length-append, zero-mul}
 use Rattle.std.proofs.Math.Nat.{mul-add-div_right}
 use Rattle.std.proofs.Math.Seq.{drop-append-add}
-use Rattle.std.proofs.lemmas.List.{append-nil, length-drop, length-replicate, length-take-le, map-append, take-append-drop}
+use Rattle.std.proofs.lemmas.List.{length-drop, length-replicate, length-take-le, map-append, take-append-drop}
 use Rattle.std.specs.List.{range_with_len}
 use Rattle.sha1.specs.Sha1.{sha1}
 use Rattle.opening.proofs.Placing.{pieces_cover}
 use Rattle.pieces.proofs.Closing.{digests_grow}
-use Rattle.pieces.proofs.Cutting.{cut_append, cut_count_none, cut_ends, last_cut, length-cut_digests}
+use Rattle.pieces.proofs.Cutting.{cut_append, cut_count_none, cut_ends, last_cut}
 use Rattle.pieces.specs.Cuts.{cut, cut_digests, filled_up, last_cut_of}
 use Rattle.pieces.specs.Pieces.{pieces_of}
 

@@ -1,13 +1,13 @@
 -- The files of a draft's torrent beside their contents.
-use Rattle.std.proofs.Common.{◌≡◌, ℕ, zero, suc, ◌+◌, ◌<◌, ◌⊎◌, Bool, true, false, List, [], ◌∷◌, ◌++◌, length, map, Option, Some, None, slice_get, if◌then◌else◌, inl, inr, refl, sym, ap, subst, ◌∙◌, arith}
+use Rattle.std.proofs.Common.{◌≡◌, ℕ, zero, suc, ◌+◌, ◌⊎◌, Bool, List, [], ◌∷◌, ◌++◌, length, map, Option, Some, None, slice_get, inl, inr, refl, sym, ap, subst, ◌∙◌, arith}
 use Rattle.std.specs.List.{fold}
-use Rattle.std.specs.Prelude.{nat_lt, option_and_then, is_some}
+use Rattle.std.specs.Prelude.{option_and_then}
 use Rattle.drafts.specs.Outline.{OutlineFile, listed_file}
 use Rattle.filetree.specs.declared.files.ListedFile.{ListedFile}
 use Rattle.opening.proofs.Rooting.{place_push_new, place_push_there, with_cases}
 use Rattle.opening.specs.Description.{FileEntry}
 use Rattle.opening.specs.Rooted.{entries_from}
-use Rattle.opening.specs.Trees.{place_in, roots_in, with_file, with_root}
+use Rattle.opening.specs.Trees.{place_in, with_file, with_root}
 use Rattle.opening.specs.declared.roots.Root.{Root}
 use Rattle.pieces.specs.Pieces.{pieces_of}
 use Rattle.round_trips.proofs.Made.{AreMade, Made, starts}

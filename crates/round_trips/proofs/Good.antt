@@ -1,5 +1,5 @@
 -- A folder that holds what a draft's files were made of is good.
-use Rattle.std.proofs.Common.{◌≡◌, ℕ, zero, suc, ◌+◌, ◌*◌, ◌<◌, ◌⊎◌, Bool, true, false, List, [], ◌∷◌, length, map, Option, Some, None, slice_get, slice_index, if◌then◌else◌, inl, inr, refl, sym, ap, subst, ◌∙◌, arith, take, drop}
+use Rattle.std.proofs.Common.{◌≡◌, ℕ, zero, suc, ◌*◌, ◌<◌, true, List, [], ◌∷◌, length, map, Option, Some, None, slice_get, if◌then◌else◌, inl, inr, refl, sym, ap, subst, ◌∙◌, arith, take, drop}
 use Rattle.std.specs.Prelude.{nat_lt, option_and_then}
 use Rattle.drafts.proofs.DraftLayers.{root_used}
 use Rattle.drafts.proofs.Accepted.{listed_at, rooted_file}
@@ -8,16 +8,14 @@ use Rattle.drafts.specs.Outline.{IsOutline, Outline, OutlineFile, listed_file}
 use Rattle.drafts.specs.Written.{digests_of, drafted_tree, stream_of, torrent_of}
 use Rattle.filetree.proofs.Bytes.{true_or_false}
 use Rattle.filetree.specs.declared.files.ListedFile.{ListedFile}
-use Rattle.folders.specs.Folder.{Contents, Covers, Fits, GoodFolder, IsGood, IsStream, StandsIn, V1Good, start_of, tree_of}
+use Rattle.folders.specs.Folder.{Contents, Covers, GoodFolder, IsGood, IsStream, V1Good}
 use Rattle.folders.specs.Verdicts.{AgreeWith}
-use Rattle.hashtree.specs.Tree.{root_of}
 use Rattle.opening.proofs.Rooting.{place_at}
-use Rattle.opening.specs.Description.{Description, FileEntry, TreeEntry, Version1}
+use Rattle.opening.specs.Description.{FileEntry, TreeEntry, Version1}
 use Rattle.opening.specs.Trees.{place_in, roots_in}
 use Rattle.opening.specs.declared.roots.Root.{Root}
-use Rattle.pieces.specs.Cuts.{cut_digests}
 use Rattle.round_trips.proofs.Entries.{EntryOf, entry_of, entry_there, root_placed}
-use Rattle.round_trips.proofs.Made.{AreMade, Made, stream, stream_digests, stream_length, starts}
+use Rattle.round_trips.proofs.Made.{AreMade, stream, stream_digests, stream_length, starts}
 use Rattle.round_trips.proofs.Streams.{CoversAt, covered, stands}
 
 -- the torrent's tree for a file that is not empty
@@ -83,11 +81,14 @@ module _ (d : Outline) (cs : List (List ℕ)) (under : List (List ℕ) → Optio
             let yes : nat_lt 0 x.file.length ≡ true = grind (arith, file_some) in
             let own : (listed_file x.file).root ≡ Some x.file.root = rw yes refl in
             let t = has_tree d n x.file o x.file_there file_some in
-            let number : e.tree ≡ Some t.number = x.tree ∙ ap (option_and_then (place_in (roots_in (map listed_file d.files)))) own ∙ t.placed in
-            (t.tree, ap (option_and_then (slice_get (torrent_of d).trees)) number ∙ t.there, record {
-              length_is = sym size ∙ x.length_is ∙ sym t.length_is;
-              root_is = sym (x.made.root_is content_some) ∙ sym t.root_is;
-            });
+            let number : e.tree ≡ Some t.number = x.tree ∙ ap (option_and_then (place_in (roots_in (map listed_file d.files)))) own ∙ t.placed in (
+              t.tree,
+              ap (option_and_then (slice_get (torrent_of d).trees)) number ∙ t.there,
+              record {
+                length_is = sym size ∙ x.length_is ∙ sym t.length_is;
+                root_is = sym (x.made.root_is content_some) ∙ sym t.root_is;
+              },
+            );
       }
     where
       no_content : (c : List ℕ) → length c ≡ 0 → c ≡ []
@@ -145,4 +146,3 @@ module _ (d : Outline) (cs : List (List ℕ)) (under : List (List ℕ) → Optio
       | inr plain ↦ let none : None ≡ Some v = subst (λ b. (if b then Some (v1_of d) else None) ≡ Some v) plain is in cc
     ];
   }
-

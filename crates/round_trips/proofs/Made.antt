@@ -1,18 +1,14 @@
 -- A draft's files beside the contents that they were made of.
-use Rattle.std.proofs.Common.{◌≡◌, ℕ, zero, suc, ◌+◌, ◌-◌, ◌*◌, ◌<◌, ◌≤◌, ◌⊎◌, Bool, true, false, ◌||◌, ◌&&◌, List, [], ◌∷◌, ◌++◌, length, map, take, drop, replicate, get_or, Option, Some, None, slice_get, if◌then◌else◌, inl, inr, refl, sym, ap, subst, ◌∙◌, append_assoc, arith, length-append}
+use Rattle.std.proofs.Common.{◌≡◌, ℕ, zero, suc, ◌+◌, ◌-◌, ◌*◌, ◌<◌, Bool, true, false, ◌||◌, List, [], ◌∷◌, ◌++◌, length, map, take, drop, replicate, Option, Some, if◌then◌else◌, inl, inr, refl, sym, ap, ◌∙◌, arith, length-append}
 use Rattle.std.proofs.lemmas.List.{append-nil, length-replicate}
 use Rattle.std.specs.List.{list_any, range_with_len}
-use Rattle.std.specs.Prelude.{nat_lt, option_and_then}
+use Rattle.std.specs.Prelude.{nat_lt}
 use Rattle.sha1.specs.Sha1.{sha1}
-use Rattle.drafts.specs.Outline.{OutlineFile, listed_file}
-use Rattle.drafts.specs.Written.{digests_in, digests_of, filled_cuts, has_content, stream_of}
+use Rattle.drafts.specs.Outline.{OutlineFile}
+use Rattle.drafts.specs.Written.{digests_of, filled_cuts, has_content, stream_of}
 use Rattle.filetree.proofs.Bytes.{true_or_false}
 use Rattle.hashtree.specs.Tree.{root_of}
 use Rattle.opening.proofs.Placing.{pieces_cover}
-use Rattle.opening.specs.Description.{FileEntry}
-use Rattle.opening.specs.Rooted.{entries_from}
-use Rattle.opening.specs.Trees.{place_in}
-use Rattle.opening.specs.declared.roots.Root.{Root}
 use Rattle.pieces.proofs.Cutting.{cut_count_none}
 use Rattle.pieces.specs.Cuts.{cut, cut_digests, filled_up, last_cut_of}
 use Rattle.pieces.specs.Pieces.{pieces_of}

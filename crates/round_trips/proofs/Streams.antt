@@ -1,11 +1,10 @@
 -- Where contents stand in the stream, and that zeros stand elsewhere.
-use Rattle.std.proofs.Common.{◌≡◌, ℕ, zero, suc, ◌+◌, ◌-◌, ◌*◌, ◌<◌, ◌≤◌, ◌⊎◌, Bool, true, false, List, [], ◌∷◌, ◌++◌, length, take, drop, replicate, get_or, Some, slice_get, if◌then◌else◌, inl, inr, refl, sym, ap, subst, ◌∙◌, append_assoc, arith, length-append}
+use Rattle.std.proofs.Common.{◌≡◌, ℕ, zero, suc, ◌+◌, ◌-◌, ◌*◌, ◌<◌, ◌≤◌, ◌⊎◌, true, List, [], ◌∷◌, ◌++◌, length, take, drop, replicate, get_or, Some, slice_get, inl, inr, refl, ap, subst, ◌∙◌, append_assoc, arith, length-append}
 use Rattle.std.proofs.Math.Seq.{drop-append-add, take-append_seam}
 use Rattle.std.proofs.lemmas.Bool.{cases_lt}
-use Rattle.std.proofs.lemmas.List.{append-nil, length-replicate, get_or-append_right, get_or-replicate, get_or_past, get_or_append_left}
+use Rattle.std.proofs.lemmas.List.{length-replicate, get_or-append_right, get_or-replicate, get_or_past, get_or_append_left}
 use Rattle.std.specs.Prelude.{nat_lt, slice_index}
 use Rattle.filetree.proofs.Bytes.{true_or_false}
-use Rattle.opening.proofs.Placing.{pieces_cover}
 use Rattle.pieces.specs.Pieces.{pieces_of}
 use Rattle.round_trips.proofs.CutDigests.{block_of}
 use Rattle.round_trips.proofs.Made.{block_length, has_bytes, none_left, starts, stream}

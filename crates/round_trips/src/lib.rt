@@ -1,10 +1,6 @@
-//! Laws over gathering, writing, opening and checking.
+//! What holds of a folder that is gathered and written as a torrent, and then opened and checked.
 #![tactic(auto)]
 
-ghost use Rattle.std.specs.Prelude.{◌≡◌};
-ghost use Rattle.round_trips.specs.RoundTrip.{Probe};
+mod laws;
 
-/// A probe.
-pub fn probe()
-    ensures { Probe }
-{}
+pub use laws::gathered_checks_good;
