@@ -14,7 +14,7 @@ use Rattle.filetree.specs.Dictionary.{under}
 use Rattle.filetree.specs.FileTree.{Walk, walks, walks_in, below, is_nil, is_file, is_directory, is_node, is_dict}
 use Rattle.filetree.specs.Paths.{IsPrefix, path_cmp, AreInOrder, LeadsTo, AreAllWalks, AreApart, ArePathsApart}
 use Rattle.filetree.specs.Dictionary.{keys_in}
-use Rattle.filetree.proofs.Ascending.{AllAbove, above_all, is_less, lower}
+use Rattle.filetree.proofs.Ascending.{AllAbove, above_all}
 use Rattle.filetree.proofs.Bytes.{equal_bytes, same_bytes, true_or_false}
 
 abbrev pub path_of : Walk → List (List ℕ)

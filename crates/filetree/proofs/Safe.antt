@@ -1,8 +1,8 @@
 -- The walks of a file tree are paths that stay inside a folder.
-use Rattle.std.proofs.Common.{◌≡◌, ◌≢◌, ℕ, zero, suc, ◌+◌, ◌-◌, ◌<◌, ◌≤◌, Bool, true, false, not, ◌&&◌, ◌||◌, if◌then◌else◌, List, [], ◌∷◌, ◌++◌, length, map, Option, Some, None, slice_get, inl, inr, refl, sym, ap, subst, ◌∙◌, arith}
+use Rattle.std.proofs.Common.{◌≡◌, ◌≢◌, ℕ, zero, suc, ◌+◌, ◌-◌, ◌<◌, ◌≤◌, true, false, not, ◌&&◌, List, [], ◌∷◌, ◌++◌, length, map, Option, Some, None, slice_get, inl, inr, sym, ap, subst, ◌∙◌, arith}
 use Rattle.benc.specs.Text.{Fits, PairsFit}
 use Rattle.benc.specs.Value.{Bencode, int, text, list, dict, Pairs, no_pairs, pair}
-use Rattle.filetree.specs.FileTree.{HasBadPath, HasBadPathIn, IsBadComponent, Walk, below, is_dict, is_directory, is_file, is_nil, is_node, walks, walks_in}
+use Rattle.filetree.specs.FileTree.{HasBadPath, HasBadPathIn, Walk, below, is_dict, is_directory, is_file, is_nil, is_node, walks, walks_in}
 use Rattle.filetree.specs.Paths.{IsComponent, IsFilePath, LeadsTo}
 use Rattle.filetree.proofs.Ascending.{under_fits}
 use Rattle.filetree.proofs.Bytes.{true_or_false}

@@ -1,4 +1,5 @@
 -- What contracts of file trees cite.
+pub mod Components
 pub mod Dictionary
 pub mod FileTree
 pub mod Laws

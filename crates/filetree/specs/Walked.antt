@@ -1,8 +1,8 @@
 -- What was found on the walk of the file tree, without where it lies in memory.
-use Rattle.std.specs.Prelude.{◌≡◌, ◌≢◌, ℕ, false, List, [], ◌∷◌, ◌++◌, map, Result, Ok, Err, ◌⊎◌, if◌then◌else◌}
+use Rattle.std.specs.Prelude.{◌≡◌, ◌≢◌, ℕ, false, List, [], ◌∷◌, ◌++◌, map, Result, Ok, Err, ◌⊎◌, if◌then◌else◌, ◌+◌, ◌<◌, ◌≤◌, length}
 use Rattle.std.specs.Prelude.{Vec}
-use Rattle.std.specs.Borrow.{Bor}
 use Rattle.std.specs.declared.alloc.Global.{Global}
+use Rattle.benc.specs.Text.{Fits}
 use Rattle.benc.specs.Value.{Bencode, Pairs}
 use Rattle.benc.specs.View.{view}
 use Rattle.filetree.specs.FileTree.{Walk, walks, walks_in, below, is_nil, IsBadComponent, HasBadPath, HasBadPathIn}
@@ -10,12 +10,17 @@ use Rattle.filetree.specs.declared.refusal.Refusal.{Refusal}
 use Rattle.filetree.specs.declared.refusal.Refusal.TheVariants as refusals
 use Rattle.filetree.specs.declared.walk.Found.{Found}
 
--- what borrowed texts are
-abbrev pub texts : List (Bor (List ℕ)) → List (List ℕ)
-texts xs = map (λ s. s.now) xs
-
 abbrev pub found : Found → Walk
 found f = record { path = f.path; file = view f.file.now }
+
+-- the value stands below a path in a spelled value, in which at most 128 lists and dictionaries are
+-- open at once
+abbrev pub HasRoom : List (List ℕ) → Bencode → Type 0
+HasRoom path v = (room : ℕ) × (length path + room ≤ 128) × Fits room v
+
+-- the value stands in a directory that does
+abbrev pub HasRoomBelow : List (List ℕ) → Bencode → Type 0
+HasRoomBelow path v = (room : ℕ) × (length path + room < 128) × Fits room v
 
 -- a walk behind the components that lead to a directory
 abbrev pub behind : List (List ℕ) → Walk → Walk

@@ -1,10 +1,10 @@
 //! The walks of a file tree, each to one file (BEP 52, "file tree").
 
-ghost use Rattle.std.specs.Prelude.{◌≡◌, ◌++◌, [], ◌∷◌, MatchResult};
+ghost use Rattle.std.specs.Prelude.{◌≡◌, MatchResult};
+ghost use Rattle.benc.specs.Value.{dict};
 ghost use Rattle.benc.specs.View.{pairs_view, pair_view};
 ghost use Rattle.filetree.specs.FileTree.{IsBadComponent};
-ghost use Rattle.filetree.specs.Tests.{UnlessNoMemory};
-ghost use Rattle.filetree.specs.Walked.{AddsWalks, AddsWalksAt, texts};
+ghost use Rattle.filetree.specs.Walked.{AddsWalks, AddsWalksAt, HasRoom, HasRoomBelow};
 
 use crate::path::Path;
 use crate::refusal::Refusal;
@@ -21,13 +21,15 @@ pub(crate) struct Found<'v, 'a> {
 
 /// Adds the files below a directory to those found, in the order of their paths.
 #[cycle(walk)]
+#[tactic(auto, using(crate::proofs::Rooms::room_at))]
 pub(crate) fn walk<'v, 'a>(
     alloc: Global,
     pairs: &'v [Pair<'a>],
-    path: &[&'a str],
+    path: &Path<'a>,
     files: &mut Vec<Found<'v, 'a>>,
 ) -> Result<(), Refusal>
-    ensures { AddsWalks (pairs_view pairs.now) (texts path.now) files.old files.new result }
+    requires { HasRoom path.now (dict (pairs_view pairs.now)) }
+    ensures { AddsWalks (pairs_view pairs.now) path.now files.old files.new result }
 {
     'pairs: for pair in pairs {
         walk_pair(alloc, pair, path, files)?;
@@ -36,27 +38,29 @@ pub(crate) fn walk<'v, 'a>(
 }
 
 #[cycle(walk)]
+#[tactic(auto, using(crate::proofs::Rooms::room_deeper))]
 fn walk_pair<'v, 'a>(
     alloc: Global,
     pair: &'v Pair<'a>,
-    path: &[&'a str],
+    path: &Path<'a>,
     files: &mut Vec<Found<'v, 'a>>,
 ) -> Result<(), Refusal>
-    ensures { AddsWalksAt (pair_view pair.now) (texts path.now) files.old files.new result }
+    requires { HasRoomBelow path.now (pair_view pair.now).1 }
+    ensures { AddsWalksAt (pair_view pair.now) path.now files.old files.new result }
 {
     if pair.key.is_empty() {
-        let path = path_of(alloc, path)?;
         files.push(Found {
-            path,
+            path: path.share()?,
             file: &pair.value,
         })?;
         return Ok(());
     }
     let name = component(pair.key)?;
-    match &pair.value {
-        Value::Dict(inner) => walk(alloc, inner, &with_component(alloc, path, name)?, files),
-        _ => Ok(()),
-    }
+    let Value::Dict(inner) = &pair.value else {
+        return Ok(());
+    };
+    let below = path.join(alloc, name)?;
+    walk(alloc, inner, &below, files)
 }
 
 /// A component of a path; no name is changed to make it one.
@@ -75,22 +79,4 @@ fn component(key: &[u8]) -> Result<&str, Refusal>
         Ok(name) => Ok(name),
         Err(_) => Err(Refusal::Path),
     }
-}
-
-fn path_of<'a>(alloc: Global, path: &[&'a str]) -> Result<Path<'a>, Refusal>
-    ensures { UnlessNoMemory result (λ p. p ≡ texts path.now) }
-{
-    Ok(Path::from_parts(Vec::from_slice(alloc, path)?))
-}
-
-fn with_component<'a>(
-    alloc: Global,
-    path: &[&'a str],
-    name: &'a str,
-) -> Result<Vec<&'a str>, Refusal>
-    ensures { UnlessNoMemory result (λ p. texts p.items ≡ texts path.now ++ name.now ∷ []) }
-{
-    let mut longer = Vec::from_slice(alloc, path)?;
-    longer.push(name)?;
-    Ok(longer)
 }

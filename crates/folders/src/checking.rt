@@ -82,7 +82,7 @@ fn check_file<S: Shelf>(
     ensures counts { S.faults shelf.new ≡ more (S.faults shelf.old) (fault_count result) }
     ensures kept { (p : List (List ℕ)) → S.under shelf.new p ≡ S.under shelf.old p }
 {
-    let verdict = match shelf.open(file.path.parts()) {
+    let verdict = match shelf.open(&file.path.parts()) {
         Ok(Some(mut source)) => {
             let verdict = check_content(&mut source, torrent, file, stream).unwrap_or(
                 FileVerdict::Unreadable,
