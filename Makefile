@@ -30,17 +30,17 @@ build/btcheck: $(SOURCES)
 	cd crates/btcheck && $(RT) run $(if $(CPU),--cpu=$(CPU)) -- root /dev/null
 	install -D -m 755 crates/btcheck/out/btcheck $@
 
-# Makes the libraries' calls, for the tests that refuse memory to them.
-build/growths: $(SOURCES)
+# Programs for the tests alone: they make the libraries' calls with memory refused, and over devices that fail.
+build/growths build/devices: $(SOURCES)
 	$(need_toolchain)
-	cd crates/growths && $(RT) run $(if $(CPU),--cpu=$(CPU))
-	install -D -m 755 crates/growths/out/growths $@
+	cd crates/$(@F) && $(RT) run $(if $(CPU),--cpu=$(CPU))
+	install -D -m 755 crates/$(@F)/out/$(@F) $@
 
 check:
 	$(need_toolchain)
 	.ci/run
 
-test: build/btcheck build/growths
+test: build/btcheck build/growths build/devices
 	tests/run
 
 bench: build/btcheck

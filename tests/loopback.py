@@ -1,18 +1,23 @@
-"""Lets one libtorrent session load a torrent from another over loopback, and records what both send.
+"""Lets one libtorrent session load a torrent from another over loopback, through tools/record.
 
 Run by an interpreter that has libtorrent. Standard input is a JSON object: the folder that holds the content, the torrent
-file, an empty folder for what is loaded, whether the loader starts with the info dictionary alone, and two files for the
-records. Each record is what one of the two sent, without the handshake: first the holder of the content, then the loader.
+file, an empty folder for what is loaded, whether the loader starts with the info dictionary alone, the file for the record,
+and whether a liar stands between the holder and the relay. The loader is our side. Standard output is a JSON list of the
+numbers of the frames that are lies, counted from 0 among those that came in.
 """
+import atexit
 import json
 import os
+import signal
 import socket
+import subprocess
 import sys
 import threading
 import time
 
 import libtorrent as lt
 
+RECORD = os.path.join(os.path.dirname(os.path.dirname(os.path.abspath(__file__))), "tools", "record")
 HANDSHAKE = 68
 SECONDS = 50
 
@@ -26,29 +31,28 @@ def session():
                        "alert_mask": 0, **quiet})
 
 
-class Proxy:
-    """Hands on what two sides of each connection say, and keeps it."""
+class Passing:
+    """Passes connections on to a port of this machine; what comes from there goes through this call."""
 
-    def __init__(self, port):
-        self.port, self.server = port, socket.create_server(("127.0.0.1", 0))
-        self.said = []  # for each connection what the loader said, and what the holder said
+    def __init__(self, port, change):
+        self.port, self.change, self.server = port, change, socket.create_server(("127.0.0.1", 0))
         threading.Thread(target=self.accept, daemon=True).start()
 
     def accept(self):
         while True:
-            loader, _ = self.server.accept()
-            holder = socket.create_connection(("127.0.0.1", self.port))
-            kept = (bytearray(), bytearray())
-            self.said.append(kept)
-            for source, sink, into in [(loader, holder, kept[0]), (holder, loader, kept[1])]:
-                threading.Thread(target=pump, args=(source, sink, into), daemon=True).start()
+            near, _ = self.server.accept()
+            far = socket.create_connection(("127.0.0.1", self.port))
+            for ends in [(near, far, bytes), (far, near, self.change)]:
+                threading.Thread(target=pump, args=ends, daemon=True).start()
+
+    def own_port(self):
+        return self.server.getsockname()[1]
 
 
-def pump(source, sink, kept):
+def pump(source, sink, change):
     try:
         while part := source.recv(65536):
-            kept += part
-            sink.sendall(part)
+            sink.sendall(change(part))
     except OSError:
         pass
     for end in (source, sink):
@@ -58,14 +62,77 @@ def pump(source, sink, kept):
             pass
 
 
-def whole_frames(said):
-    """What was said behind the handshake, up to the last whole frame."""
-    at = end = HANDSHAKE
-    while at + 4 <= len(said):
-        at += 4 + int.from_bytes(said[at:at + 4], "big")
-        if at <= len(said):
-            end = at
-    return bytes(said[HANDSHAKE:end])
+class Liar:
+    """Turns a bit in some of the frames that the holder sends. Behind the relay it turns them back, since libtorrent hangs
+    up on a liar."""
+
+    def __init__(self):
+        self.rest, self.has_greeted, self.count, self.counts = b"", False, 0, {7: 0, 22: 0}
+        self.passed, self.restored = 0, 0  # bytes
+        self.lies, self.places = [], []  # the numbers of the frames, and where among all bytes the turned ones stand
+
+    def lie(self, part):
+        """Gives what is whole: the handshake, and then frames."""
+        self.rest += part
+        given = self.whole(HANDSHAKE, bytes) if not self.has_greeted else b""
+        self.has_greeted = self.passed > 0
+        while self.has_greeted and len(self.rest) >= 4:
+            frame = self.whole(4 + int.from_bytes(self.rest[:4], "big"), self.bent)
+            if not frame:
+                break
+            given += frame
+        return given
+
+    def whole(self, size, change):
+        """The next so many bytes, changed, or none if they are not there yet."""
+        if len(self.rest) < size:
+            return b""
+        given, self.rest = change(self.rest[:size]), self.rest[size:]
+        self.passed += size
+        return given
+
+    def bent(self, frame):
+        """Of every ninth block a bit of its own or of its place is turned, of two hashes messages in three one of a hash
+        or of the proof layers."""
+        self.count += 1
+        kind = frame[4] if len(frame) > 4 else None
+        if kind not in self.counts:
+            return frame
+        self.counts[kind] += 1
+        at = {4: 3000, 13: 5}.get(self.counts[7] % 18) if kind == 7 else {2: 60, 0: 52}.get(self.counts[22] % 3)
+        if at is None:
+            return frame
+        self.lies.append(self.count - 1)
+        self.places.append(self.passed + at)
+        return turn(frame, at)
+
+    def restore(self, part):
+        start, self.restored = self.restored, self.restored + len(part)
+        for place in self.places:
+            if start <= place < self.restored:
+                part = turn(part, place - start)
+        return part
+
+
+def turn(text, at):
+    return text[:at] + bytes([text[at] ^ 1]) + text[at + 1:]
+
+
+class Relay:
+    """The tool, in front of a port."""
+
+    def __init__(self, port, out):
+        self.program = subprocess.Popen([RECORD, "127.0.0.1:0", f"127.0.0.1:{port}", out], stderr=subprocess.PIPE, text=True)
+        atexit.register(self.program.kill)
+        self.port = int(self.program.stderr.readline().rsplit(":", 1)[1])
+
+    def stop(self):
+        """Ends it, unless it has ended with the connection; the status counts only one connection as good."""
+        if self.program.poll() is None:
+            self.program.send_signal(signal.SIGTERM)
+        said = self.program.stderr.read()
+        if self.program.wait(SECONDS) != 0 or "only passed on" in said:
+            sys.exit(f"not one connection that was recorded:\n{said}")
 
 
 def wait_for(what, done):
@@ -78,11 +145,13 @@ def wait_for(what, done):
 
 def main(order):
     info = lt.torrent_info(order["torrent"])
-    holder, loader = session(), session()
+    holder, loader, liar = session(), session(), Liar()
     held = holder.add_torrent({"ti": info, "save_path": order["content"]})
     wait_for("the content is not found", lambda: held.status().is_seeding)
     wait_for("nobody listens", lambda: holder.listen_port() != 0)
-    proxy = Proxy(holder.listen_port())
+    lying = order["lies"]
+    relay = Relay(Passing(holder.listen_port(), liar.lie).own_port() if lying else holder.listen_port(), order["record"])
+    port = Passing(relay.port, liar.restore).own_port() if lying else relay.port
     if order["info_only"]:
         known = lt.parse_magnet_uri(lt.make_magnet_uri(info))
     else:
@@ -90,16 +159,11 @@ def main(order):
         known.ti = lt.torrent_info(order["torrent"])
     known.save_path = order["loaded"]
     loaded = loader.add_torrent(known)
-    wait_for("nobody connects", lambda: proxy.said or loaded.connect_peer(("127.0.0.1", proxy.server.getsockname()[1])))
+    wait_for("nobody connects", lambda: loaded.get_peer_info() or loaded.connect_peer(("127.0.0.1", port)))
     wait_for("it is not loaded", lambda: loaded.status().is_seeding)
     time.sleep(0.2)
-    talks = [kept for kept in proxy.said if len(kept[1]) > HANDSHAKE]
-    if len(talks) != 1:
-        sys.exit(f"{len(talks)} connections, so no record has all")
-    said = talks[0]
-    for path, text in [(order["held"], said[1]), (order["asked"], said[0])]:
-        with open(path, "wb") as out:
-            out.write(whole_frames(text))
+    relay.stop()
+    json.dump(liar.lies, sys.stdout)
     sys.stdout.flush()
     os._exit(0)  # the sessions end slowly
 

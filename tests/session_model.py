@@ -8,7 +8,7 @@ class Session:
 
     def __init__(self, files, piece_length, with_layers):
         self.piece_length, self.all_files = piece_length, files
-        self.files, self.trees, first = [], {}, 0
+        self.files, self.trees, self.open, first = [], {}, set(), 0
         for number, (_, content) in enumerate(files):
             if content:
                 whole = Tree.of(content)
@@ -55,6 +55,20 @@ class Session:
         gained = len(claims.keys() - known.keys())
         known.update(claims)
         return f"stored {gained}"
+
+    def note(self, *ask):
+        """A request of our own: its answer may come."""
+        self.open.add(ask)
+
+    def take_answer(self, *ask_and_given):
+        """Takes hashes if our own side asked for them; what is stored closes the ask."""
+        *ask, given = ask_and_given
+        if tuple(ask) not in self.open:
+            return "refused H8 Unasked"
+        told = self.take(*ask, given)
+        if told.startswith("stored"):
+            self.open.remove(tuple(ask))
+        return told
 
     def blocks(self, index, begin, carried):
         """The lines of a piece message: one for each block that it carries, or one that refuses it whole."""

@@ -71,7 +71,7 @@ def documents():
 
 def test_files_that_are_named_exist():
     for name, text in documents():
-        for path in re.findall(r"`((?:crates|docs|tests|bench|examples|man|completions|\.ci)/[\w./*-]*\w)`", text):
+        for path in re.findall(r"`((?:crates|docs|tests|tools|bench|examples|man|completions|\.ci)/[\w./*-]*\w)`", text):
             assert "CRATE" in path or "COMMAND" in path or glob.glob(f"{TOP}/{path}"), (name, path)
         for path in re.findall(r"\]\(([\w./-]+)\)", text):
             assert os.path.exists(os.path.join(TOP, os.path.dirname(name), path)), (name, path)

@@ -1,14 +1,15 @@
 //! Why a command could not do what it was asked for, and the line that tells it.
-ghost use Rattle.std.specs.Prelude.{◌≡◌, ◌++◌, OnOk, true};
+ghost use Rattle.std.specs.Prelude.{◌≡◌, ◌++◌, OnOk, map, true};
+ghost use Rattle.std.specs.String.{string_bytes};
 ghost use Rattle.benc.specs.Device.{Wrote, WroteAndFlushed};
 ghost use Rattle.lines.specs.declared.fault.Fault.TheVariants.{NoMemory};
 ghost use Rattle.lines.specs.Fault.{fault_reason, fault_text};
-ghost use Rattle.lines.specs.Text.{escaped};
+ghost use Rattle.lines.specs.Text.{escaped, path_text};
 
 #[cfg(test)]
 mod tests;
 
-use crate::text::{flush_after, write_escaped};
+use crate::text::{flush_after, write_escaped, write_path};
 use benc::{DeviceFault, Sink, WriteFault, write_all};
 use std::alloc::AllocError;
 use thiserror::Error;
@@ -19,12 +20,22 @@ pub enum Fault<'a> {
     /// This path could not be opened, or not read to its end.
     #[error("cannot read {0}")]
     Read(&'a str),
+    /// The file with these path components, in a folder, could not be opened, or not read to its
+    /// end, or it changed meanwhile.
+    #[error("cannot read a file of the folder")]
+    ReadBelow(Vec<String>),
     /// This path could not be written to; `-` is standard output.
     #[error("cannot write {0}")]
     Write(&'a str),
+    /// The record with this path ends inside a frame.
+    #[error("record is truncated: {0}")]
+    Truncated(&'a str),
     /// A name on the command line or in a folder is not UTF-8.
     #[error("name is not UTF-8")]
     NotUtf8,
+    /// What has these path components, in a folder, is neither a regular file nor a folder.
+    #[error("not a file or folder")]
+    Special(Vec<String>),
     /// Out of memory.
     #[error("no memory")]
     NoMemory,
@@ -61,8 +72,11 @@ fn write_reason<W: Sink>(fault: &Fault<'_>, out: &mut W) -> Result<(), DeviceFau
 {
     match fault {
         Fault::Read(path) => write_about(b"cannot read ", path, out),
+        Fault::ReadBelow(path) => write_about_file(b"cannot read ", path, out),
         Fault::Write(path) => write_about(b"cannot write ", path, out),
+        Fault::Truncated(path) => write_about(b"record is truncated: ", path, out),
         Fault::NotUtf8 => write_all(out, b"name is not UTF-8"),
+        Fault::Special(path) => write_about_file(b"not a file or folder: ", path, out),
         Fault::NoMemory => write_all(out, b"no memory"),
     }
 }
@@ -73,4 +87,13 @@ fn write_about<W: Sink>(text: &[u8], path: &str, out: &mut W) -> Result<(), Devi
 {
     write_all(out, text)?;
     write_escaped(out, path.as_bytes())
+}
+
+// Writes this text, and the path of a file in a folder as it is printed.
+fn write_about_file<W: Sink>(text: &[u8], path: &[String], out: &mut W) -> Result<(), DeviceFault>
+    ensures { Wrote (W.seen out.old) (W.seen out.new) result
+        (text.now ++ path_text (map string_bytes path.now)) }
+{
+    write_all(out, text)?;
+    write_path(out, path)
 }

@@ -6,7 +6,7 @@ use Rattle.wire.specs.declared.message.Ask.{Ask}
 use Rattle.partial_tree.specs.TreeRoot.{TreeRoot}
 use Rattle.node_maps.specs.Places.{tree_height, PartialTree, IsKnown, IsPlace}
 use Rattle.partial_tree.specs.declared.refusal.HashRefusal.{HashRefusal}
-use Rattle.partial_tree.specs.declared.refusal.HashRefusal.TheVariants.{UnknownRoot, BadRange, BadCount, BadPad, Unanchored, Mismatch, NoMemory}
+use Rattle.partial_tree.specs.declared.refusal.HashRefusal.TheVariants.{UnknownRoot, BadRange, BadCount, BadPad, Unanchored, Mismatch, NoMemory, Unasked}
 use Rattle.node_maps.specs.Digest.{Hash}
 use Rattle.hashtree.specs.Tree.{block_count, zero_hash}
 use Rattle.partial_tree.specs.Claims.{span, cover, above, uncles, base_hash, uncle_hash, given, claims, top_layer, top_index, GoodRange, GoodCount, IsBadPad, IsMismatch, IsAgreed, IsAccepted, Fault, Refuses}
@@ -121,6 +121,7 @@ module _ (t : TreeRoot) (K : PartialTree) (ask : Ask) (hashes : List Hash) where
   pub first_range : Before BadRange
   first_range UnknownRoot low f = f
   first_range NoMemory low f = f
+  first_range Unasked low f = f
   first_range BadRange low f = omega arith
   first_range BadCount low f = omega arith
   first_range BadPad low f = omega arith
@@ -131,6 +132,7 @@ module _ (t : TreeRoot) (K : PartialTree) (ask : Ask) (hashes : List Hash) where
   first_count range UnknownRoot low f = f
   first_count range BadRange low f = f range
   first_count range NoMemory low f = f
+  first_count range Unasked low f = f
   first_count range BadCount low f = omega arith
   first_count range BadPad low f = omega arith
   first_count range Unanchored low f = omega arith
@@ -141,6 +143,7 @@ module _ (t : TreeRoot) (K : PartialTree) (ask : Ask) (hashes : List Hash) where
   first_pad range count BadRange low f = f range
   first_pad range count BadCount low f = f count
   first_pad range count NoMemory low f = f
+  first_pad range count Unasked low f = f
   first_pad range count BadPad low f = omega arith
   first_pad range count Unanchored low f = omega arith
   first_pad range count Mismatch low f = omega arith
@@ -154,6 +157,7 @@ module _ (t : TreeRoot) (K : PartialTree) (ask : Ask) (hashes : List Hash) where
   first_anchor range count pads BadCount low f = f count
   first_anchor range count pads BadPad low f = f.differ (pads f.layer f.index f.value f.is_given f.past)
   first_anchor range count pads NoMemory low f = f
+  first_anchor range count pads Unasked low f = f
   first_anchor range count pads Unanchored low f = omega arith
   first_anchor range count pads Mismatch low f = omega arith
 
@@ -164,6 +168,7 @@ module _ (t : TreeRoot) (K : PartialTree) (ask : Ask) (hashes : List Hash) where
   first_mismatch range count pads top BadPad low f = f.differ (pads f.layer f.index f.value f.is_given f.past)
   first_mismatch range count pads top Unanchored low f = none-some top.0 (sym f ∙ top.1)
   first_mismatch range count pads top NoMemory low f = f
+  first_mismatch range count pads top Unasked low f = f
   first_mismatch range count pads top Mismatch low f = omega arith
 
   -- a message for a tree whose known places are finite is accepted, or one refusal is the first

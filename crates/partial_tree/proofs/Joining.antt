@@ -8,7 +8,7 @@ use Rattle.wire.specs.declared.message.Ask.{Ask}
 use Rattle.partial_tree.specs.TreeRoot.{TreeRoot}
 use Rattle.node_maps.specs.Places.{tree_height, PartialTree, IsPlace}
 use Rattle.partial_tree.specs.declared.refusal.HashRefusal.{HashRefusal}
-use Rattle.partial_tree.specs.declared.refusal.HashRefusal.TheVariants.{UnknownRoot, BadRange, BadCount, BadPad, Unanchored, Mismatch, NoMemory}
+use Rattle.partial_tree.specs.declared.refusal.HashRefusal.TheVariants.{UnknownRoot, BadRange, BadCount, BadPad, Unanchored, Mismatch, NoMemory, Unasked}
 use Rattle.node_maps.specs.Digest.{Hash, IsHash, join}
 use Rattle.hashtree.specs.Tree.{pad_leaf, block_count, zero_hash}
 use Rattle.partial_tree.specs.Closed.{IsFamily, IsClosed}
@@ -155,3 +155,4 @@ accepted-no_fault t K ask hashes BadPad ok f = f.differ (ok.pads f.layer f.index
 accepted-no_fault t K ask hashes Unanchored ok f = none-some ok.top_known.0 (sym f ∙ ok.top_known.1)
 accepted-no_fault t K ask hashes Mismatch ok f = f.differ (ok.agrees f.layer f.index f.in_J f.in_K f.J_known f.K_known)
 accepted-no_fault t K ask hashes NoMemory ok f = f
+accepted-no_fault t K ask hashes Unasked ok f = f

@@ -6,7 +6,7 @@ use Rattle.std.specs.List.{All}
 use Rattle.hashtree.specs.Tree.{zero_hash}
 use Rattle.partial_tree.specs.declared.evidence.Evidence.{Evidence}
 use Rattle.partial_tree.specs.declared.refusal.HashRefusal.{HashRefusal}
-use Rattle.partial_tree.specs.declared.refusal.HashRefusal.TheVariants.{UnknownRoot, BadRange, BadCount, BadPad, Unanchored, Mismatch, NoMemory}
+use Rattle.partial_tree.specs.declared.refusal.HashRefusal.TheVariants.{UnknownRoot, BadRange, BadCount, BadPad, Unanchored, Mismatch, NoMemory, Unasked}
 use Rattle.node_maps.specs.Digest.{Hash, IsHash}
 use Rattle.partial_tree.specs.TreeRoot.{TreeRoot}
 use Rattle.node_maps.specs.Places.{tree_height, PartialTree}
@@ -69,6 +69,7 @@ fill_fault t l hashes K BadRange inside count f = absurd f
 fill_fault t l hashes K BadCount inside count f = absurd f
 fill_fault t l hashes K BadPad inside count f = absurd f
 fill_fault t l hashes K Unanchored inside count f = absurd f
+fill_fault t l hashes K Unasked inside count f = absurd f
 
 -- what is known after a whole layer is bounded by the tree
 pub filled-len : (t : TreeRoot) (before after : Known) (l : ℕ) (hashes : List Hash) (c : ℕ) → IsClosed t (look before) → All IsHash hashes → IsFillAccepted t.length (look before) l hashes

@@ -12,7 +12,7 @@ use Rattle.wire.specs.declared.message.Ask.{Ask}
 use Rattle.hashtree.specs.Tree.{block_count, height, zero_hash}
 use Rattle.partial_tree.specs.declared.evidence.Evidence.{Evidence}
 use Rattle.partial_tree.specs.declared.refusal.HashRefusal.{HashRefusal}
-use Rattle.partial_tree.specs.declared.refusal.HashRefusal.TheVariants.{UnknownRoot, BadRange, BadCount, BadPad, Unanchored, Mismatch, NoMemory}
+use Rattle.partial_tree.specs.declared.refusal.HashRefusal.TheVariants.{UnknownRoot, BadRange, BadCount, BadPad, Unanchored, Mismatch, NoMemory, Unasked}
 use Rattle.node_maps.specs.Digest.{Hash, IsHash}
 use Rattle.partial_tree.specs.TreeRoot.{TreeRoot}
 use Rattle.node_maps.specs.Places.{tree_height, PartialTree, IsKnown}
@@ -179,6 +179,7 @@ module _ (t : TreeRoot) (K : PartialTree) (ask : Ask) (hashes : List Hash) where
   refuses_store range count pads top BadCount f = absurd f
   refuses_store range count pads top BadPad f = absurd f
   refuses_store range count pads top Unanchored f = absurd f
+  refuses_store range count pads top Unasked f = absurd f
 
 -- what is known after an accepted message is bounded by the tree
 pub joined-len : (t : TreeRoot) (before after : Known) (ask : Ask) (hashes : List Hash) (c : ℕ) → IsClosed t (look before) → All IsHash hashes → IsAccepted t.length (look before) ask hashes

@@ -6,7 +6,7 @@ use Rattle.wire.specs.declared.message.Ask.{Ask}
 use Rattle.node_maps.specs.Places.{tree_height, PartialTree, IsKnown}
 use Rattle.partial_tree.specs.Names.{hash_refusal_number}
 use Rattle.partial_tree.specs.declared.refusal.HashRefusal.{HashRefusal}
-use Rattle.partial_tree.specs.declared.refusal.HashRefusal.TheVariants.{UnknownRoot, BadRange, BadCount, BadPad, Unanchored, Mismatch, NoMemory}
+use Rattle.partial_tree.specs.declared.refusal.HashRefusal.TheVariants.{UnknownRoot, BadRange, BadCount, BadPad, Unanchored, Mismatch, NoMemory, Unasked}
 use Rattle.node_maps.specs.Digest.{Hash, join}
 use Rattle.hashtree.specs.Tree.{pad_leaf, block_count, height, zero_hash}
 
@@ -120,6 +120,7 @@ Fault len K ask hashes BadPad = IsBadPad len ask hashes
 Fault len K ask hashes Unanchored = K (top_layer ask hashes) (top_index ask hashes) ≡ None
 Fault len K ask hashes Mismatch = IsMismatch K (claims ask hashes)
 Fault len K ask hashes NoMemory = ⊥
+Fault len K ask hashes Unasked = ⊥
 
 -- r is the first refusal, by their numbers, whose fault the message has
 pub record Refuses (len : ℕ) (K : PartialTree) (ask : Ask) (hashes : List Hash) (r : HashRefusal)

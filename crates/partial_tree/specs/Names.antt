@@ -1,11 +1,11 @@
 -- The numbers and names of refusals, as they are printed.
 use Rattle.std.specs.Prelude.{ℕ, List, codes}
 use Rattle.partial_tree.specs.declared.refusal.HashRefusal.{HashRefusal}
-use Rattle.partial_tree.specs.declared.refusal.HashRefusal.TheVariants.{UnknownRoot, BadRange, BadCount, BadPad, Unanchored, Mismatch, NoMemory}
+use Rattle.partial_tree.specs.declared.refusal.HashRefusal.TheVariants.{UnknownRoot, BadRange, BadCount, BadPad, Unanchored, Mismatch, NoMemory, Unasked}
 use Rattle.partial_tree.specs.declared.refusal.BlockRefusal.{BlockRefusal}
 use Rattle.partial_tree.specs.declared.refusal.BlockRefusal.TheVariants.{BadPlace, BadSize, Unproved, BadBlock}
 
--- the number of a refusal of hashes, which is the order of the tests
+-- the number of a refusal of hashes, which is the order of the tests of a tree
 abbrev pub hash_refusal_number : HashRefusal → ℕ
 hash_refusal_number UnknownRoot = 1
 hash_refusal_number BadRange = 2
@@ -14,6 +14,7 @@ hash_refusal_number BadPad = 4
 hash_refusal_number Unanchored = 5
 hash_refusal_number Mismatch = 6
 hash_refusal_number NoMemory = 7
+hash_refusal_number Unasked = 8
 
 abbrev pub hash_refusal_name : HashRefusal → List ℕ
 hash_refusal_name UnknownRoot = codes "UnknownRoot"
@@ -23,6 +24,7 @@ hash_refusal_name BadPad = codes "BadPad"
 hash_refusal_name Unanchored = codes "Unanchored"
 hash_refusal_name Mismatch = codes "Mismatch"
 hash_refusal_name NoMemory = codes "NoMemory"
+hash_refusal_name Unasked = codes "Unasked"
 
 abbrev pub block_refusal_number : BlockRefusal → ℕ
 block_refusal_number BadPlace = 1

@@ -2,8 +2,9 @@
 
 use thiserror::Error;
 
-/// Why hashes are refused. The tests run in the order of the numbers, and the first that fails is
-/// told. A refusal leaves content and marks as they were.
+/// Why hashes are refused. Whether they were asked for is tested first, if that counts; the other
+/// tests run in the order of the numbers. The first test that fails is told. A refusal leaves
+/// content and marks as they were.
 #[derive(Clone, Copy, Debug, PartialEq, Eq, Error)]
 pub enum HashRefusal {
     /// No tree has the root.
@@ -29,6 +30,9 @@ pub enum HashRefusal {
     /// Out of memory, and nothing else is wrong.
     #[error("out of memory")]
     NoMemory,
+    /// Nobody asked for them; a tree never tells this.
+    #[error("nobody asked for the hashes")]
+    Unasked,
 }
 
 /// Why a block is refused. The tests run in the order of the numbers, and the first that fails is
@@ -53,7 +57,7 @@ impl HashRefusal {
     ghost use Rattle.std.specs.Prelude.{◌≡◌};
     ghost use Rattle.partial_tree.specs.Names.{hash_refusal_number, hash_refusal_name};
 
-    /// Its number, from 1 to 7.
+    /// Its number, from 1 to 8.
     pub fn number(self) -> u32
         ensures { result ≡ hash_refusal_number self }
     {
@@ -65,6 +69,7 @@ impl HashRefusal {
             HashRefusal::Unanchored => 5,
             HashRefusal::Mismatch => 6,
             HashRefusal::NoMemory => 7,
+            HashRefusal::Unasked => 8,
         }
     }
 
@@ -80,6 +85,7 @@ impl HashRefusal {
             HashRefusal::Unanchored => "Unanchored",
             HashRefusal::Mismatch => "Mismatch",
             HashRefusal::NoMemory => "NoMemory",
+            HashRefusal::Unasked => "Unasked",
         }
     }
 }

@@ -30,6 +30,8 @@ verdict_text verdict.Rejected = codes "rejected"
 verdict_text verdict.RejectNoted = codes "reject noted"
 verdict_text verdict.KeepAlive = codes "keep-alive"
 verdict_text (verdict.Skipped id) = codes "skipped " ++ decimal id
+verdict_text verdict.Noted = codes "sent request"
+verdict_text verdict.Sent = codes "sent"
 
 -- what is printed of a frame, after its number
 abbrev pub told_text : Told → List ℕ

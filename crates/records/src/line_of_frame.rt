@@ -62,6 +62,8 @@ fn put_verdict(line: &mut Line, verdict: &Verdict)
         Verdict::RejectNoted => line.put(b"reject noted"),
         Verdict::KeepAlive => line.put(b"keep-alive"),
         Verdict::Skipped(id) => put_counted(line, b"skipped ", u64::from(*id)),
+        Verdict::Noted => line.put(b"sent request"),
+        Verdict::Sent => line.put(b"sent"),
     }
 }
 

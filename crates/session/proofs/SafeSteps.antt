@@ -10,7 +10,7 @@ use Rattle.wire.specs.declared.message.Ask.{Ask}
 use Rattle.wire.specs.declared.message.Message.{Message}
 use Rattle.wire.specs.declared.message.Message.TheVariants as message
 use Rattle.partial_tree.specs.declared.refusal.HashRefusal.{HashRefusal}
-use Rattle.partial_tree.specs.declared.refusal.HashRefusal.TheVariants.{UnknownRoot, BadRange, BadCount, BadPad, Unanchored, Mismatch, NoMemory}
+use Rattle.partial_tree.specs.declared.refusal.HashRefusal.TheVariants.{UnknownRoot, BadRange, BadCount, BadPad, Unanchored, Mismatch, NoMemory, Unasked}
 use Rattle.partial_tree.specs.declared.refusal.BlockRefusal.{BlockRefusal}
 use Rattle.partial_tree.specs.declared.refusal.BlockRefusal.TheVariants.{BadPlace, BadSize, Unproved, BadBlock}
 use Rattle.session.specs.declared.verdict.Verdict.{Verdict}
@@ -70,6 +70,7 @@ module _ (S : SessionSeen) (distinct : HasDistinctRoots S) (ask : Ask) (hashes :
   hashes_taken BadPad h = never BadPad h
   hashes_taken Unanchored h = never Unanchored h
   hashes_taken Mismatch h = never Mismatch h
+  hashes_taken Unasked h = never Unasked h
 
 true_accepted : (S : SessionSeen) → IsGood S → (ask : Ask) (hashes : List Hash) (n : ℕ) (tree : TreeRoot) (s : TreeState) (f : List ℕ) → IsTree S n tree s
     → AreTrueHashes f tree s ask hashes → IsAccepted tree.length (look s.known) ask hashes ⊎ Collision (whole f) (look s.known)

@@ -16,7 +16,7 @@ use Rattle.session.specs.Blocks.{BlocksSeen, cuts}
 use Rattle.partial_tree.specs.declared.refusal.BlockRefusal.TheVariants.{BadPlace, BadSize, Unproved, BadBlock}
 use Rattle.wire.specs.declared.message.Ask.{Ask}
 use Rattle.partial_tree.specs.declared.refusal.HashRefusal.{HashRefusal}
-use Rattle.partial_tree.specs.declared.refusal.HashRefusal.TheVariants.{UnknownRoot, BadRange, BadCount, BadPad, Unanchored, Mismatch, NoMemory}
+use Rattle.partial_tree.specs.declared.refusal.HashRefusal.TheVariants.{UnknownRoot, BadRange, BadCount, BadPad, Unanchored, Mismatch, NoMemory, Unasked}
 use Rattle.partial_tree.specs.declared.refusal.BlockRefusal.{BlockRefusal}
 use Rattle.node_maps.specs.Digest.{Hash}
 use Rattle.partial_tree.specs.TreeRoot.{TreeRoot}
@@ -101,6 +101,7 @@ module _ (d : Description) (ts : List KeptTree) (kept : AreKept d ts) where
   refused_in n a ask hashes BadPad e root refused = (record { number = n; tree = info_of a; state = a.state; is_tree = tree_at n a e; has_root = root }, refused)
   refused_in n a ask hashes Unanchored e root refused = (record { number = n; tree = info_of a; state = a.state; is_tree = tree_at n a e; has_root = root }, refused)
   refused_in n a ask hashes Mismatch e root refused = (record { number = n; tree = info_of a; state = a.state; is_tree = tree_at n a e; has_root = root }, refused)
+  refused_in n a ask hashes Unasked e root refused = absurd refused.fault
   refused_in n a ask hashes NoMemory e root refused = (record { number = n; tree = info_of a; state = a.state; is_tree = tree_at n a e; has_root = root }, refused)
 
   -- no kept tree has the root

@@ -25,4 +25,8 @@ pub enum Verdict {
     KeepAlive,
     /// A message of another id.
     Skipped(u8),
+    /// Our own request went out, and its ask is open.
+    Noted,
+    /// Any other message of our own went out.
+    Sent,
 }

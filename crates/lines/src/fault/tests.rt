@@ -2,11 +2,20 @@
 use crate::{Fault, fault_line};
 use benc::Sink;
 use benc::memory::MemSink;
-use std::alloc::AllocError;
+use std::alloc::{AllocError, Global};
+
+fn path_of(alloc: Global, parts: &[&str]) -> Result<Vec<String>, AllocError> {
+    let mut path = Vec::new(alloc);
+    for part in parts {
+        path.push(String::from_str(alloc, part)?)?;
+    }
+    Ok(path)
+}
 
 #[test]
 fn lines_of_faults(rt: HostRuntime) -> Result<(), AllocError> {
-    let cases: [(Fault<'_>, &str); 8] = [
+    let alloc = rt.alloc();
+    let cases: [(Fault<'_>, &str); 12] = [
         (Fault::Read("a/b c"), "fault: cannot read a/b c\n"),
         (Fault::Read(""), "fault: cannot read \n"),
         (
@@ -22,11 +31,24 @@ fn lines_of_faults(rt: HostRuntime) -> Result<(), AllocError> {
             Fault::Write("é/\u{80}文\0"),
             "fault: cannot write é/\u{80}文\\x00\n",
         ),
+        (Fault::Truncated("a b"), "fault: record is truncated: a b\n"),
+        (
+            Fault::ReadBelow(path_of(alloc, &["a\t", "b"])?),
+            "fault: cannot read a\\x09/b\n",
+        ),
+        (
+            Fault::Special(path_of(alloc, &["a", "b", "c"])?),
+            "fault: not a file or folder: a/b/c\n",
+        ),
+        (
+            Fault::Special(path_of(alloc, &["\\"])?),
+            "fault: not a file or folder: \\x5c\n",
+        ),
         (Fault::NotUtf8, "fault: name is not UTF-8\n"),
         (Fault::NoMemory, "fault: no memory\n"),
     ];
     for (fault, line) in cases {
-        let mut out = MemSink::with_room(rt.alloc(), 200)?.at_most(3);
+        let mut out = MemSink::with_room(alloc, 200)?.at_most(3);
         assert!(rt; fault_line(&fault, &mut out).is_ok());
         assert_eq!(rt; out.written(), line.as_bytes());
         assert!(rt; out.is_flushed() && out.flushes() == 1);

@@ -3,7 +3,7 @@ use crate::line_of_frame::line_of_frame;
 use crate::told::Told;
 use session::{BlockRefusal, HashRefusal, Verdict};
 
-const LINES: [(u64, Told, &str); 19] = [
+const LINES: [(u64, Told, &str); 22] = [
     (1, Told::Verdict(Verdict::Stored(1024)), "1 stored 1024\n"),
     (2, Told::Verdict(Verdict::Stored(0)), "2 stored 0\n"),
     (
@@ -42,6 +42,11 @@ const LINES: [(u64, Told, &str); 19] = [
         "9 refused H7 NoMemory\n",
     ),
     (
+        10,
+        Told::Verdict(Verdict::HashRefused(HashRefusal::Unasked)),
+        "10 refused H8 Unasked\n",
+    ),
+    (
         11,
         Told::Verdict(Verdict::BlockRefused(BlockRefusal::BadPlace)),
         "11 refused P1 BadPlace\n",
@@ -66,6 +71,8 @@ const LINES: [(u64, Told, &str); 19] = [
     (17, Told::Verdict(Verdict::RejectNoted), "17 reject noted\n"),
     (18, Told::Verdict(Verdict::KeepAlive), "18 keep-alive\n"),
     (19, Told::Verdict(Verdict::Skipped(255)), "19 skipped 255\n"),
+    (20, Told::Verdict(Verdict::Noted), "20 sent request\n"),
+    (21, Told::Verdict(Verdict::Sent), "21 sent\n"),
     (
         u64::MAX,
         Told::BadFrame {

@@ -1,0 +1,53 @@
+//! Makes calls of the libraries over devices in memory that fail at their first call, then at their
+//! second, and so on, until a run meets no fault. Prints how many calls of its devices each call
+//! makes, and `wrong` where a fault is told otherwise than promised.
+#![tactic(auto)]
+
+mod reads;
+mod shelves;
+mod trial;
+mod world;
+mod writes;
+
+use metainfo::Torrent;
+use std::{env, fs, io};
+use world::World;
+
+fn try_all(rt: &HostRuntime, world: &World<'_, '_>) -> io::Result<()> {
+    writes::try_all(rt, world)?;
+    reads::try_all(rt, world)?;
+    shelves::try_all(rt, world)
+}
+
+fn try_torrent(rt: &HostRuntime, text: &[u8], record: &[u8], a: &[u8], c: &[u8]) -> io::Result<()> {
+    match Torrent::open(rt.alloc(), text) {
+        Ok(torrent) => {
+            let world = World {
+                text,
+                torrent: &torrent,
+                record,
+                a,
+                c,
+            };
+            try_all(rt, &world)
+        }
+        Err(refusal) => println!(rt; "refused {}", refusal.number()),
+    }
+}
+
+fn main(rt: HostRuntime) -> io::Result<()> {
+    let mut arguments = env::args(&rt)?.skip(1);
+    let (Some(torrent), Some(record), Some(a), Some(c)) = (
+        arguments.next(),
+        arguments.next(),
+        arguments.next(),
+        arguments.next(),
+    ) else {
+        return eprintln!(rt; "usage: devices TORRENT RECORD A C");
+    };
+    let text = fs::read(&rt, torrent.as_str())?;
+    let record = fs::read(&rt, record.as_str())?;
+    let a = fs::read(&rt, a.as_str())?;
+    let c = fs::read(&rt, c.as_str())?;
+    try_torrent(&rt, &text, &record, &a, &c)
+}
