@@ -6,6 +6,7 @@ use Rattle.std.specs.List.Sorted.{IsStrictlySortedBy}
 use Rattle.std.specs.Ordering.{nat_cmp, ordering_then}
 use Rattle.std.specs.declared.cmp.Ordering.{Ordering}
 use Rattle.std.specs.declared.cmp.Ordering.TheVariants.{Less, Equal}
+use Rattle.benc.specs.Text.{Fits}
 use Rattle.benc.specs.Value.{Bencode, dict, Pairs}
 use Rattle.filetree.specs.Dictionary.{under}
 use Rattle.filetree.specs.FileTree.{IsBadComponent, Walk, is_nil}
@@ -52,6 +53,11 @@ ArePathsApart ps = (i j : ℕ) (p q : List (List ℕ)) → i < j → slice_get p
     → slice_get ps j ≡ Some q → AreApart p q
 
 -- ---- paths that stay inside a folder
+
+-- The pairs may be the file tree of a spelled torrent: it stands in the info dictionary, and that in
+-- the top value, so that at most 126 of 128 lists and dictionaries are open at once in it.
+abbrev pub FitsInTorrent : Pairs → Type 0
+FitsInTorrent ps = Fits 126 (dict ps)
 
 -- a component that a path may have
 abbrev pub IsComponent : List ℕ → Type 0
