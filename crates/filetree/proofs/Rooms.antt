@@ -1,36 +1,57 @@
--- How deep the values below a path may be.
-use Rattle.std.proofs.Common.{◌≡◌, ℕ, ◌+◌, ◌-◌, ◌<◌, List, [], ◌∷◌, ◌++◌, length, drop, get_or, Option, None, arith, subst, ap, ◌∙◌}
+-- The nodes of a folder, and how deep the values in it may be.
+use Rattle.std.proofs.Common.{◌≡◌, ℕ, ◌+◌, ◌-◌, ◌<◌, true, false, not, ◌&&◌, ◌||◌, List, [], ◌∷◌, ◌++◌, length, drop, get_or, Option, None, inl, inr, arith, subst, sym, ap, ◌∙◌}
 use Rattle.std.proofs.lemmas.List.{length-append}
 use Rattle.benc.specs.Text.{Fits, PairsFit}
 use Rattle.benc.specs.Value.{Bencode, Pairs, dict, pair}
 use Rattle.benc.specs.View.{pair_view, pairs_view}
 use Rattle.benc.specs.declared.value.Pair.{Pair}
+use Rattle.filetree.specs.FileTree.{is_directory, is_file, is_nil, is_node}
+use Rattle.filetree.specs.Walked.{IsFolderAt, IsNodeBelow}
+use Rattle.filetree.proofs.Paths.{and_both, not_is, or_one}
 use Rattle.filetree.proofs.Views.{pairs_next}
-use Rattle.filetree.specs.Walked.{HasRoom, HasRoomBelow}
 
--- pairs of a directory at this path
-pub record HasRoomForRest (path : List (List ℕ)) (ps : Pairs) : Type 0 where
+-- the pairs of a folder from some pair on
+pub record AreLeft (path : List (List ℕ)) (ps : Pairs) : Type 0 where
   pub room : ℕ
   pub deep : length path + room < 128
   pub before : Option (List ℕ)
   pub fits : PairsFit room before ps
+  pub shape : is_directory ps ≡ true
 
-pub room_inside : (path : List (List ℕ)) (ps : Pairs) → HasRoom path (dict ps) → HasRoomForRest path ps
-room_inside path ps h = let some : 0 < h.0 = h.2.0 in record { room = h.0 - 1; deep = omega (arith, some, h.1); before = None; fits = h.2.1 }
+pub all_left : (path : List (List ℕ)) (ps : Pairs) → IsFolderAt path ps → AreLeft path ps
+all_left path ps h =
+    let some : 0 < h.room = h.fits.0 in
+    record { room = h.room - 1; deep = omega (arith, some, h.deep); before = None; fits = h.fits.1; shape = h.shape }
 
--- the next pair of a directory, and those behind it
-pub room_at : (path : List (List ℕ)) (xs : List Pair) (i : ℕ) (x : Pair) → i < length xs → x ≡ get_or xs i x → HasRoomForRest path (pairs_view (drop i xs)) → HasRoomBelow path (pair_view x).1
-room_at path xs i x lt is h =
-    let next : HasRoomForRest path (pair (pair_view x).0 (pair_view x).1 (pairs_view (drop (i + 1) xs))) = subst (HasRoomForRest path) (pairs_next xs i x lt is) h in
-    (next.room, next.deep, next.fits.2)
+next_left : (path : List (List ℕ)) (xs : List Pair) (i : ℕ) (x : Pair) → i < length xs → x ≡ get_or xs i x → AreLeft path (pairs_view (drop i xs))
+    → AreLeft path (pair (pair_view x).0 (pair_view x).1 (pairs_view (drop (i + 1) xs)))
+next_left path xs i x lt is h = subst (AreLeft path) (pairs_next xs i x lt is) h
 
-pub room_behind : (path : List (List ℕ)) (xs : List Pair) (i : ℕ) (x : Pair) → i < length xs → x ≡ get_or xs i x → HasRoomForRest path (pairs_view (drop i xs)) → HasRoomForRest path (pairs_view (drop (i + 1) xs))
-room_behind path xs i x lt is h =
-    let next : HasRoomForRest path (pair (pair_view x).0 (pair_view x).1 (pairs_view (drop (i + 1) xs))) = subst (HasRoomForRest path) (pairs_next xs i x lt is) h in
-    record { room = next.room; deep = next.deep; before = _; fits = next.fits.3 }
+-- the next pair of a folder, and those behind it
+pub node_at : (path : List (List ℕ)) (xs : List Pair) (i : ℕ) (x : Pair) → i < length xs → x ≡ get_or xs i x → AreLeft path (pairs_view (drop i xs)) → IsNodeBelow path (pair_view x)
+node_at path xs i x lt is h =
+    let next = next_left path xs i x lt is h in
+    let both = and_both (not (is_nil (pair_view x).0) && is_node (pair_view x).1) (is_directory (pairs_view (drop (i + 1) xs))) next.shape in
+    let here = and_both (not (is_nil (pair_view x).0)) (is_node (pair_view x).1) both.0 in
+    record { room = next.room; deep = next.deep; fits = next.fits.2; named = not_is (is_nil (pair_view x).0) here.0; shape = here.1 }
 
-pub room_deeper : (path longer : List (List ℕ)) (name : List ℕ) (v : Bencode) (ps : Pairs) → longer ≡ path ++ name ∷ [] → v ≡ dict ps → HasRoomBelow path v → HasRoom longer (dict ps)
-room_deeper path longer name v ps is inner h =
+pub left_behind : (path : List (List ℕ)) (xs : List Pair) (i : ℕ) (x : Pair) → i < length xs → x ≡ get_or xs i x → AreLeft path (pairs_view (drop i xs)) → AreLeft path (pairs_view (drop (i + 1) xs))
+left_behind path xs i x lt is h =
+    let next = next_left path xs i x lt is h in
+    let both = and_both (not (is_nil (pair_view x).0) && is_node (pair_view x).1) (is_directory (pairs_view (drop (i + 1) xs))) next.shape in
+    record { room = next.room; deep = next.deep; before = _; fits = next.fits.3; shape = both.1 }
+
+-- a node that is no file is a folder
+pub folder_below : (path longer : List (List ℕ)) (name key : List ℕ) (v : Bencode) (ps : Pairs) → longer ≡ path ++ name ∷ [] → v ≡ dict ps → is_file ps ≡ false → IsNodeBelow path (key, v) → IsFolderAt longer ps
+folder_below path longer name key v ps is inner other h =
     let one : length longer ≡ length path + 1 = ap length is ∙ length-append path (name ∷ []) in
-    let deep : length path + h.0 < 128 = h.1 in
-    (h.0, omega (arith, one, deep), subst (Fits h.0) inner h.2)
+    let node : is_file ps || is_directory ps ≡ true = subst (λ u. is_node u ≡ true) inner h.shape in
+    record {
+      room = h.room;
+      deep = omega (arith, one, h.deep);
+      fits = subst (Fits h.room) inner h.fits;
+      shape = elim (or_one (is_file ps) (is_directory ps) node) [ inl file ↦ absurd (differ (sym other ∙ file)) | inr d ↦ d ];
+    }
+  where
+    differ : false ≡ true → ⊥
+    differ e = cc

@@ -3,6 +3,7 @@
 #![tactic(auto)]
 
 mod files;
+mod folder;
 mod laws;
 mod path;
 mod reading;

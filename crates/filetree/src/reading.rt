@@ -8,7 +8,7 @@ ghost use Rattle.filetree.specs.Tests.{PassesUnlessNoMemory};
 ghost use Rattle.filetree.specs.TreeTests.{tree_rows};
 
 use crate::files::{self, ListedFile};
-use crate::path::Path;
+use crate::folder::Folders;
 use crate::refusal::Refusal;
 use crate::shape::is_directory;
 use crate::walk::walk;
@@ -27,7 +27,7 @@ pub fn read_tree<'a>(alloc: Global, tree: &[Pair<'a>]) -> Result<Vec<ListedFile<
         return Err(Refusal::Shape);
     }
     let mut found = Vec::new(alloc);
-    let root = Path::root();
+    let root = Folders::root();
     walk(alloc, tree, &root, &mut found)?;
     files::test(&found)?;
     files::list(alloc, found)

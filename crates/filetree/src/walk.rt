@@ -1,13 +1,15 @@
 //! The walks of a file tree, each to one file (BEP 52, "file tree").
 
-ghost use Rattle.std.specs.Prelude.{◌≡◌, MatchResult};
+ghost use Rattle.std.specs.Prelude.{◌≡◌, false, MatchResult};
 ghost use Rattle.benc.specs.Value.{dict};
 ghost use Rattle.benc.specs.View.{pairs_view, pair_view};
-ghost use Rattle.filetree.specs.FileTree.{IsBadComponent};
-ghost use Rattle.filetree.specs.Walked.{AddsWalks, AddsWalksAt, HasRoom, HasRoomBelow};
+ghost use Rattle.filetree.specs.FileTree.{IsBadComponent, is_nil};
+ghost use Rattle.filetree.specs.Walked.{AddsWalks, AddsWalksAt, IsFolderAt, IsNodeBelow};
 
+use crate::folder::Folders;
 use crate::path::Path;
 use crate::refusal::Refusal;
+use crate::shape::is_file;
 use benc::{Pair, Value};
 use std::alloc::Global;
 use std::str;
@@ -19,47 +21,47 @@ pub(crate) struct Found<'v, 'a> {
     pub(crate) file: &'v Value<'a>,
 }
 
-/// Adds the files below a directory to those found, in the order of their paths.
+/// Adds the files below a folder to those found, in the order of their paths.
 #[cycle(walk)]
-#[tactic(auto, using(crate::proofs::Rooms::room_at))]
+#[tactic(auto, using(crate::proofs::Rooms::node_at))]
 pub(crate) fn walk<'v, 'a>(
     alloc: Global,
     pairs: &'v [Pair<'a>],
-    path: &Path<'a>,
+    folder: &Folders,
     files: &mut Vec<Found<'v, 'a>>,
 ) -> Result<(), Refusal>
-    requires { HasRoom path.now (dict (pairs_view pairs.now)) }
-    ensures { AddsWalks (pairs_view pairs.now) path.now files.old files.new result }
+    requires { IsFolderAt folder.now (pairs_view pairs.now) }
+    ensures { AddsWalks (pairs_view pairs.now) folder.now files.old files.new result }
 {
     'pairs: for pair in pairs {
-        walk_pair(alloc, pair, path, files)?;
+        walk_pair(alloc, pair, folder, files)?;
     }
     Ok(())
 }
 
 #[cycle(walk)]
-#[tactic(auto, using(crate::proofs::Rooms::room_deeper))]
 fn walk_pair<'v, 'a>(
     alloc: Global,
     pair: &'v Pair<'a>,
-    path: &Path<'a>,
+    folder: &Folders,
     files: &mut Vec<Found<'v, 'a>>,
 ) -> Result<(), Refusal>
-    requires { HasRoomBelow path.now (pair_view pair.now).1 }
-    ensures { AddsWalksAt (pair_view pair.now) path.now files.old files.new result }
+    requires { IsNodeBelow folder.now (pair_view pair.now) }
+    ensures { AddsWalksAt (pair_view pair.now) folder.now files.old files.new result }
 {
-    if pair.key.is_empty() {
-        files.push(Found {
-            path: path.share()?,
-            file: &pair.value,
-        })?;
-        return Ok(());
-    }
     let name = component(pair.key)?;
     let Value::Dict(inner) = &pair.value else {
         return Ok(());
     };
-    let below = path.join(alloc, name)?;
+    if is_file(inner) {
+        let path = Path::new(folder.share()?, name);
+        files.push(Found {
+            path,
+            file: &inner[0].value,
+        })?;
+        return Ok(());
+    }
+    let below = folder.join(alloc, name)?;
     walk(alloc, inner, &below, files)
 }
 

@@ -1,4 +1,4 @@
-use Rattle.std.proofs.Common.{◌≡◌, ℕ, ◌+◌, ◌≤◌, length, arith, ◌++◌, List, [], map, sym, ap, ◌∙◌, subst}
+use Rattle.std.proofs.Common.{◌≡◌, ℕ, ◌+◌, ◌≤◌, length, arith, rules, ◌++◌, List, [], map, sym, ap, ◌∙◌, subst}
 use Rattle.std.proofs.lemmas.Result.{err_from_is_err_and}
 use Rattle.benc.specs.View.{pairs_view}
 use Rattle.filetree.specs.FileTree.{Walk, walks, listed}
@@ -17,7 +17,12 @@ all_found : (ws : List Walk) (old new there : List Found) → old ≡ [] → the
 all_found ws old new there none same adds = ap (map found) same ∙ adds ∙ ap (λ fs. map found fs ++ map (behind []) ws) none ∙ behind_none ws
 
 pub walk-requires : goal.walk-requires
-walk-requires c = (126, subst (λ (p : List (List ℕ)). length p + 126 ≤ 128) (sym c.root-root.ensures) (omega arith), c.requires)
+walk-requires c = record {
+  room = 126;
+  deep = subst (λ (p : List (List ℕ)). length p + 126 ≤ 128) (sym c.root-root.ensures) (omega arith);
+  fits = c.requires;
+  shape = search rules;
+}
 
 pub returns-in_err-test : goal.returns-in_err-test
 returns-in_err-test c =
