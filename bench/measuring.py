@@ -169,6 +169,15 @@ def need_program():
         sys.exit("build/btcheck is missing: run make first")
 
 
+def lacks(command):
+    """Tells on standard output if the program does not have this command yet."""
+    need_program()
+    told = subprocess.run([BTCHECK, command, "--help"], stdout=subprocess.DEVNULL, stderr=subprocess.DEVNULL)
+    if told.returncode != 0:
+        print(f"btcheck {command} is skipped: build/btcheck does not have it")
+    return told.returncode != 0
+
+
 def missed_marks(found, first, marks):
     """The marks that a command misses, in words: (of what, ratio of processor time at most) each."""
     return [f"{first} takes more than {mark} x the processor time of {name}"

@@ -235,3 +235,20 @@ def test_standard_input_that_is_closed():
         for command in world.commands:
             arguments, ample = world.ample(command)
             assert outcome(run(*arguments, stdin=None, preexec_fn=lambda: os.close(0))) == ample, command
+
+
+def test_closed_streams_keep_their_places():
+    """A file that the program opens never gets the place of a standard stream: nothing that is printed lands in it."""
+    with folder() as place:
+        world, out = World(place), f"{place}/out"
+        arguments, ample = world.ample("replay")
+        for closed in ([0], [1], [2], [0, 1], [0, 2], [1, 2], [0, 1, 2]):
+            done = run(*arguments, "--answers", out, stdin=None, stdout=None if 1 in closed else subprocess.PIPE,
+                       stderr=None if 2 in closed else subprocess.PIPE, preexec_fn=lambda: [os.close(at) for at in closed])
+            assert done.returncode == (2 if 1 in closed else ample[0]), (closed, done)
+            assert 1 in closed or done.stdout.decode() == ample[1], (closed, done)
+            assert 2 in closed or done.stderr.decode() == (CANNOT_WRITE if 1 in closed else ""), (closed, done)
+            assert os.path.getsize(out) == 0, closed
+        for arguments in (["root", "/dev/stdin"], ["replay", world.abc, "/dev/stdin"]):
+            done = run(*arguments, stdin=None, preexec_fn=lambda: os.close(0))
+            assert done.returncode == 2 and b"verified" not in done.stdout, done

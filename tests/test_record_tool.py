@@ -184,17 +184,42 @@ def test_half_closes():
             assert content_of(f"{place}/record") == talk.record()
 
 
+def break_off(end):
+    """Closes it by a reset."""
+    end.setsockopt(socket.SOL_SOCKET, socket.SO_LINGER, struct.pack("ii", 1, 0))
+    end.close()
+
+
 def test_a_connection_that_is_broken_off():
     for breaker in (WENT_OUT, CAME_IN):
         with folder() as place, Relay(f"{place}/record") as relay:
             talk = Talk(*relay.connect()).greet()
             talk.say(WENT_OUT, messages.frame(b"\x02"))
             breaking, seeing = talk.ways[breaker]
-            breaking.setsockopt(socket.SOL_SOCKET, socket.SO_LINGER, struct.pack("ii", 1, 0))
-            breaking.close()
+            break_off(breaking)
             assert seeing.recv(1) == b""
             assert relay.ended()[0] == 0
             assert content_of(f"{place}/record") == talk.record()
+
+
+def test_what_was_taken_is_passed_on():
+    """A side that sends until nothing is taken any more breaks off; the other one has not read anything yet."""
+    frame = messages.piece(0, 0, bytes(16384))
+    with folder() as place, Relay(f"{place}/record") as relay:
+        talk = Talk(*relay.connect()).greet()
+        ours, theirs = talk.ways[WENT_OUT]
+        ours.settimeout(0.3)
+        with contextlib.suppress(TimeoutError):
+            while True:
+                ours.sendall(frame)
+        break_off(ours)
+        got = bytearray()
+        while part := theirs.recv(1 << 20):
+            got += part
+        assert relay.ended()[0] == 0
+        count = len(got) // len(frame)
+        assert count > 100 and got == (frame * (count + 1))[:len(got)]
+        assert content_of(f"{place}/record") == FORM_2 + (b"\x01" + frame) * count
 
 
 def test_killed():

@@ -1,4 +1,14 @@
 //! The arguments of the command line, by `clap`.
+ghost use Rattle.std.specs.Prelude.{◌≡◌, [], IfErr, IfOk, codes, map, true};
+ghost use Rattle.clap.specs.Simple.{subcommand_rows_of};
+ghost use Rattle.clap.specs.Takes.{takes};
+ghost use Rattle.clap.specs.Values.{kind_of};
+ghost use Rattle.clap.specs.Walk.{rows_of};
+ghost use Rattle.clap.specs.Matches.{found_of};
+ghost use Rattle.clap.specs.declared.error.kind.ErrorKind.TheVariants.{OutOfMemory};
+ghost use Rattle.btcheck.specs.declared.command.Action.{Action};
+ghost use Rattle.btcheck.specs.CommandLine.{IsActionOf, IsApp, IsArgument, IsAskedBy, IsAskedOf, IsFlag, IsLeaf, IsTextIfThere, check_command, command, flag, needed, option, program, replay_command, root_command, show_command};
+
 use crate::command::{Action, Replay};
 use crate::fault::print_fault;
 use checker::Fault;
@@ -26,37 +36,48 @@ Exit status:
   1  no, or refused
   2  a fault of the arguments, of files or of memory: a line on standard error says which";
 
+const ROOT_ABOUT: &str = "Prints the length and the pieces root of a file";
+
 const ROOT_HELP: &str = "\
 Prints `LENGTH ROOT`, or `0 -` for an empty file. FILE may be a pipe.
 A file of more than 2^46 bytes prints `refused 10 Length`, status 1.";
 
+const SHOW_ABOUT: &str = "Prints what a torrent holds: name, info-hashes, files and their roots";
+
 const SHOW_HELP: &str = "\
 Prints name, piece length, info-hashes, and for each file `LENGTH ROOT PATH`.
 A file that is not a version 2 torrent prints `refused NUMBER NAME`, status 1.";
+
+const CHECK_ABOUT: &str = "Checks that a folder holds a torrent's files";
 
 const CHECK_HELP: &str = "\
 Prints for each file `good`, `missing`, `unreadable`, `wrong length` or `bad PIECE`, for a hybrid a
 line on its version 1 pieces, and at last `yes`, status 0, or `no`, status 1. The files are looked
 for at their paths directly below DIR; the torrent's name adds no folder.";
 
+const REPLAY_ABOUT: &str = "Checks recorded messages of peers, and prints a verdict on each";
+
 const REPLAY_HELP: &str = "\
 A record is the frames that came in, joined, without a handshake. Prints a line for each frame as it
 comes, and at last `end` or how the record failed. The status is 1 if something was refused, and 2
 if the record failed or memory was refused.";
 
+const INFO_ONLY_HELP: &str = "Start from the roots alone, without the torrent's piece layers";
+
+const SEED_HELP: &str = "Start from the hashes of the files that this folder holds right, too";
+
+const ANSWERS_HELP: &str =
+    "Write the answers to hash requests to this file, which is emptied first";
+
 /// Reads the command line, the program's name first.
-pub(crate) fn action<'a>(alloc: Global, line: &'a [&'a str]) -> Result<Action<'a>, Error> {
+pub(crate) fn action<'a>(alloc: Global, line: &'a [&'a str]) -> Result<Action<'a>, Error>
+    ensures asked { IfOk result (IsAskedBy (map (λ s. s.now) line.now)) }
+    ensures refused { IfErr result (λ e. takes program (map (λ s. s.now) line.now) ≡ true
+        → (asked : Action) → IsAskedBy (map (λ s. s.now) line.now) asked
+        → kind_of e ≡ OutOfMemory) }
+{
     let matches = command(alloc)?.try_get_matches_from(line)?;
-    let found = match matches.subcommand() {
-        Some(("root", found)) => found.get_str("FILE").map(|file| Action::Root { file }),
-        Some(("show", found)) => found
-            .get_str("TORRENT")
-            .map(|torrent| Action::Show { torrent }),
-        Some(("check", found)) => check_of(found),
-        Some(("replay", found)) => replay_of(found),
-        _ => None,
-    };
-    match found {
+    match asked_in(&matches) {
         Some(action) => Ok(action),
         None => Err(command(alloc)?.error(ErrorKind::MissingSubcommand, "a command is missing")?),
     }
@@ -75,69 +96,95 @@ pub(crate) fn explain(rt: &HostRuntime, error: &Error) -> ExitCode {
 }
 
 // An argument that has to be there, with what it means.
-fn required<'a>(alloc: Global, name: &'a str, help: &'a str) -> Arg<'a> {
+fn needed<'a>(alloc: Global, name: &'a str, help: &'a str) -> Arg<'a>
+    ensures { IsArgument (needed name.entry.now) result }
+{
     Arg::new(alloc, name)
         .required(true)
         .action(ArgAction::Set)
         .help(help)
 }
 
-fn root_command<'a>(alloc: Global) -> Result<Command<'a>, Error> {
-    let command = Command::new(alloc, "root")
-        .about("Prints the length and the pieces root of a file")
-        .after_help(ROOT_HELP)
-        .arg(required(alloc, "FILE", "The file to hash"))?;
+// An option that is there or not, with what it means.
+fn flag<'a>(alloc: Global, name: &'a str, help: &'a str) -> Arg<'a>
+    ensures { IsArgument (flag name.entry.now) result }
+{
+    Arg::new(alloc, name)
+        .long(name)
+        .action(ArgAction::SetTrue)
+        .help(help)
+}
+
+// An option with a value, with the value's name and what it means.
+fn option<'a>(alloc: Global, name: &'a str, value: &'a str, help: &'a str) -> Arg<'a>
+    ensures { IsArgument (option name.entry.now) result }
+{
+    Arg::new(alloc, name)
+        .long(name)
+        .value_name(value)
+        .action(ArgAction::Set)
+        .help(help)
+}
+
+// A command without commands below it, with what it does and more help on it.
+fn leaf<'a>(alloc: Global, name: &'a str, about: &'a str, help: &'a str) -> Command<'a>
+    ensures { IsLeaf (command name.entry.now []) result }
+{
+    Command::new(alloc, name).about(about).after_help(help)
+}
+
+fn root_command<'a>(alloc: Global) -> Result<Command<'a>, Error>
+    ensures made { IfOk result (IsLeaf root_command) }
+    ensures refused { IfErr result (λ e. kind_of e ≡ OutOfMemory) }
+{
+    let command = leaf(alloc, "root", ROOT_ABOUT, ROOT_HELP).arg(needed(
+        alloc,
+        "FILE",
+        "The file to hash",
+    ))?;
     Ok(command)
 }
 
-fn show_command<'a>(alloc: Global) -> Result<Command<'a>, Error> {
-    let command = Command::new(alloc, "show")
-        .about("Prints what a torrent holds: name, info-hashes, files and their roots")
-        .after_help(SHOW_HELP)
-        .arg(required(alloc, "TORRENT", "The torrent file"))?;
+fn show_command<'a>(alloc: Global) -> Result<Command<'a>, Error>
+    ensures made { IfOk result (IsLeaf show_command) }
+    ensures refused { IfErr result (λ e. kind_of e ≡ OutOfMemory) }
+{
+    let command = leaf(alloc, "show", SHOW_ABOUT, SHOW_HELP).arg(needed(
+        alloc,
+        "TORRENT",
+        "The torrent file",
+    ))?;
     Ok(command)
 }
 
-fn check_command<'a>(alloc: Global) -> Result<Command<'a>, Error> {
-    let command = Command::new(alloc, "check")
-        .about("Checks that a folder holds a torrent's files")
-        .after_help(CHECK_HELP)
-        .arg(required(alloc, "TORRENT", "The torrent file"))?
-        .arg(required(alloc, "DIR", "The folder that holds the files"))?;
+fn check_command<'a>(alloc: Global) -> Result<Command<'a>, Error>
+    ensures made { IfOk result (IsLeaf check_command) }
+    ensures refused { IfErr result (λ e. kind_of e ≡ OutOfMemory) }
+{
+    let command = leaf(alloc, "check", CHECK_ABOUT, CHECK_HELP)
+        .arg(needed(alloc, "TORRENT", "The torrent file"))?
+        .arg(needed(alloc, "DIR", "The folder that holds the files"))?;
     Ok(command)
 }
 
-fn replay_command<'a>(alloc: Global) -> Result<Command<'a>, Error> {
-    let command = Command::new(alloc, "replay")
-        .about("Checks recorded messages of peers, and prints a verdict on each")
-        .after_help(REPLAY_HELP)
-        .arg(required(alloc, "TORRENT", "The torrent file"))?
-        .arg(required(alloc, "RECORD", "The record, a file or a pipe"))?
-        .arg(
-            Arg::new(alloc, "info-only")
-                .long("info-only")
-                .action(ArgAction::SetTrue)
-                .help("Start from the roots alone, without the torrent's piece layers"),
-        )?
-        .arg(
-            Arg::new(alloc, "seed")
-                .long("seed")
-                .value_name("DIR")
-                .action(ArgAction::Set)
-                .help("Start from the hashes of the files that this folder holds right, too"),
-        )?
-        .arg(
-            Arg::new(alloc, "answers")
-                .long("answers")
-                .value_name("OUT")
-                .action(ArgAction::Set)
-                .help("Write the answers to hash requests to this file, which is emptied first"),
-        )?;
+fn replay_command<'a>(alloc: Global) -> Result<Command<'a>, Error>
+    ensures made { IfOk result (IsLeaf replay_command) }
+    ensures refused { IfErr result (λ e. kind_of e ≡ OutOfMemory) }
+{
+    let command = leaf(alloc, "replay", REPLAY_ABOUT, REPLAY_HELP)
+        .arg(needed(alloc, "TORRENT", "The torrent file"))?
+        .arg(needed(alloc, "RECORD", "The record, a file or a pipe"))?
+        .arg(flag(alloc, "info-only", INFO_ONLY_HELP))?
+        .arg(option(alloc, "seed", "DIR", SEED_HELP))?
+        .arg(option(alloc, "answers", "OUT", ANSWERS_HELP))?;
     Ok(command)
 }
 
 // The program's command, with its subcommands.
-fn command<'a>(alloc: Global) -> Result<Command<'a>, Error> {
+fn command<'a>(alloc: Global) -> Result<Command<'a>, Error>
+    ensures made { IfOk result (IsApp program) }
+    ensures refused { IfErr result (λ e. kind_of e ≡ OutOfMemory) }
+{
     let command = Command::new(alloc, "btcheck")
         .version(VERSION)
         .about(ABOUT)
@@ -150,22 +197,77 @@ fn command<'a>(alloc: Global) -> Result<Command<'a>, Error> {
     Ok(command.subcommand_required(true))
 }
 
+// What the command that was found asks for.
+fn asked_in<'a>(matches: &ArgMatches<'a>) -> Option<Action<'a>>
+    ensures { IsAskedOf (subcommand_rows_of matches.now) result }
+{
+    let (name, found) = matches.subcommand()?;
+    action_of(name, found)
+}
+
+// What the command of this name asks for, with what was found in its arguments.
+fn action_of<'a>(name: &str, found: &ArgMatches<'a>) -> Option<Action<'a>>
+    ensures { IsActionOf name.now (rows_of (found_of found.now)) result }
+{
+    match name {
+        "root" => root_of(found),
+        "show" => show_of(found),
+        "check" => check_of(found),
+        "replay" => replay_of(found),
+        _ => None,
+    }
+}
+
+// What the arguments after `root` ask for.
+fn root_of<'a>(found: &ArgMatches<'a>) -> Option<Action<'a>>
+    ensures { IsActionOf (codes "root") (rows_of (found_of found.now)) result }
+{
+    let file = text(found, "FILE")?;
+    Some(Action::Root { file })
+}
+
+// What the arguments after `show` ask for.
+fn show_of<'a>(found: &ArgMatches<'a>) -> Option<Action<'a>>
+    ensures { IsActionOf (codes "show") (rows_of (found_of found.now)) result }
+{
+    let torrent = text(found, "TORRENT")?;
+    Some(Action::Show { torrent })
+}
+
 // What the arguments after `check` ask for.
-fn check_of<'a>(found: &ArgMatches<'a>) -> Option<Action<'a>> {
-    let torrent = found.get_str("TORRENT")?;
-    let dir = found.get_str("DIR")?;
+fn check_of<'a>(found: &ArgMatches<'a>) -> Option<Action<'a>>
+    ensures { IsActionOf (codes "check") (rows_of (found_of found.now)) result }
+{
+    let torrent = text(found, "TORRENT")?;
+    let dir = text(found, "DIR")?;
     Some(Action::Check { torrent, dir })
 }
 
 // What the arguments after `replay` ask for.
-fn replay_of<'a>(found: &ArgMatches<'a>) -> Option<Action<'a>> {
-    let torrent = found.get_str("TORRENT")?;
-    let record = found.get_str("RECORD")?;
+fn replay_of<'a>(found: &ArgMatches<'a>) -> Option<Action<'a>>
+    ensures { IsActionOf (codes "replay") (rows_of (found_of found.now)) result }
+{
+    let torrent = text(found, "TORRENT")?;
+    let record = text(found, "RECORD")?;
     Some(Action::Replay(Replay {
         torrent,
         record,
-        info_only: found.get_flag("info-only"),
-        seed: found.get_str("seed"),
-        answers: found.get_str("answers"),
+        info_only: is_given(found, "info-only"),
+        seed: text(found, "seed"),
+        answers: text(found, "answers"),
     }))
+}
+
+// The text that was found under this name.
+fn text<'a>(found: &ArgMatches<'a>, name: &str) -> Option<&'a str>
+    ensures { IsTextIfThere name.now (rows_of (found_of found.now)) result }
+{
+    found.get_str(name)
+}
+
+// Whether the option with this name was found.
+fn is_given(found: &ArgMatches<'_>, name: &str) -> bool
+    ensures { IsFlag name.now (rows_of (found_of found.now)) result }
+{
+    found.get_flag(name)
 }

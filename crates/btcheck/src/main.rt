@@ -8,6 +8,7 @@ mod fault;
 mod folder;
 mod perform;
 mod places;
+mod streams;
 mod torrent_file;
 
 use checker::Fault;

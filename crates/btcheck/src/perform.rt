@@ -3,6 +3,7 @@ use crate::answers;
 use crate::command::{Action, Replay};
 use crate::folder::Folder;
 use crate::places::{Places, all_bytes};
+use crate::streams::hold_closed_streams;
 use crate::torrent_file::read_torrent;
 use benc::{FromRead, FromWrite, Sink};
 use checker::Fault;
@@ -13,6 +14,7 @@ use std::io::{self, BufWriter, Printer};
 
 /// Does what was asked for, and gives the exit status.
 pub(crate) fn perform<'a>(rt: &HostRuntime, action: &Action<'a>) -> Result<u8, Fault<'a>> {
+    let _placeholders = hold_closed_streams(rt)?;
     match action {
         Action::Root { file } => root(rt, file),
         Action::Show { torrent } => show(rt, torrent),

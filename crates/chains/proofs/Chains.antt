@@ -1,5 +1,5 @@
 -- Steps one after the other: one more, and weaker ones.
-use Rattle.std.proofs.Common.{◌<◌, ◌+◌, ℕ, List, [], ◌∷◌, ◌++◌, take, get_or, length, refl, sym, ap, ◌∙◌, subst, add-one}
+use Rattle.std.proofs.Common.{◌≡◌, ◌<◌, ◌+◌, ℕ, List, [], ◌∷◌, ◌++◌, take, get_or, length, refl, sym, ap, ◌∙◌, subst, add-one}
 use Rattle.std.proofs.Math.Seq.{take-suc}
 use Rattle.chains.specs.Chain.{Chain}
 
@@ -25,3 +25,35 @@ Chain-weaker P Q weaker s [] [] s' e = e
 Chain-weaker P Q weaker s [] (o ∷ os) s' e = absurd e
 Chain-weaker P Q weaker s (i ∷ is) [] s' e = absurd e
 Chain-weaker P Q weaker s (i ∷ is) (o ∷ os) s' (mid, step, rest) = (mid, weaker s i o mid step, Chain-weaker P Q weaker mid is os s' rest)
+
+-- the last step of a chain
+pub record LastStep {S I O : Type 0} (Step : S → I → O → S → Type 0) (s : S) (is : List I) (i : I) (os : List O) (s' : S) : Type 0 where
+  pub earlier : List O
+  pub last : O
+  pub middle : S
+  pub outputs_are : os ≡ earlier ++ last ∷ []
+  pub run : Chain Step s is earlier middle
+  pub step : Step middle i last s'
+
+pub last_step : {S I O : Type 0} (Step : S → I → O → S → Type 0) (s : S) (is : List I) (i : I) (os : List O) (s' : S) → Chain Step s (is ++ i ∷ []) os s' → LastStep Step s is i os s'
+last_step Step s [] i [] s' run = absurd run
+last_step Step s [] i (o ∷ []) s' (mid, step, e) = record {
+  earlier = [];
+  last = o;
+  middle = s;
+  outputs_are = refl;
+  run = refl;
+  step = subst (Step s i o) (sym e) step;
+}
+last_step Step s [] i (o ∷ p ∷ os) s' (mid, step, rest) = absurd rest
+last_step Step s (j ∷ is) i [] s' run = absurd run
+last_step Step s (j ∷ is) i (o ∷ os) s' (mid, step, rest) =
+    let later : LastStep Step mid is i os s' = last_step Step mid is i os s' rest in
+    record {
+      earlier = o ∷ later.earlier;
+      last = later.last;
+      middle = later.middle;
+      outputs_are = ap (λ ps. o ∷ ps) later.outputs_are;
+      run = (mid, step, later.run);
+      step = later.step;
+    }

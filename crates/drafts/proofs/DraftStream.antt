@@ -3,6 +3,8 @@ use Rattle.std.proofs.Common.{◌≡◌, ◌≢◌, ℕ, zero, suc, ◌+◌, ◌
 use Rattle.std.proofs.Math.Nat.{add-mul, mul-add-div_right}
 use Rattle.std.proofs.lemmas.List.{length-take}
 use Rattle.std.proofs.lemmas.List.Sums.{sum_by-cons}
+use Rattle.filetree.specs.declared.files.ListedFile.{ListedFile}
+use Rattle.opening.specs.Trees.{pieces_in}
 use Rattle.std.specs.Fmt.{decimal}
 use Rattle.std.specs.List.{list_any, concat}
 use Rattle.std.specs.Prelude.{codes, nat_lt, nat_le, is_some, option_and_then, unwrap_or, IsTrue}
@@ -265,6 +267,15 @@ digests_in_count p f fs legal cuts =
           elim (true_or_false (has_content fs)) [ inl content ↦ rw (some, content) full | inr bare ↦ rw (some, bare) count ]
       | inr none ↦ let empty : f.length ≡ 0 = grind (arith, none) in rw none (sym (ap (pieces_of p) empty ∙ cut_count_none p legal))
     ]
+
+-- there is one digest a piece
+pub digests_in_all : (p : ℕ) (fs : List OutlineFile) → 0 < p → HaveCuts p fs → length (digests_of fs) ≡ pieces_in p (map listed_file fs)
+digests_in_all p [] legal cuts = refl
+digests_in_all p (f ∷ fs) legal cuts =
+    let rest = digests_in_all p fs legal (λ n g e. cuts (suc n) g e) in
+    let first = digests_in_count p f fs legal (cuts 0 f refl) in
+    let both = length-append (digests_in f fs) (digests_of fs) in
+    let all = sum_by-cons (λ (g : ListedFile). pieces_of p g.length) (listed_file f) (map listed_file fs) in omega (arith, rest, first, both, all)
 
 no_stream : (p : ℕ) (fs : List OutlineFile) → has_content fs ≡ false → stream_of p fs ≡ 0
 no_stream p [] none = refl

@@ -4,10 +4,14 @@
 mod add;
 mod component;
 mod draft;
+mod finish;
+mod hybrid_text;
 mod laws;
 mod path_order;
+mod pen;
 #[cfg(test)]
 mod tests;
+mod tree_text;
 
 pub use draft::Draft;
 pub use laws::draft_describes;

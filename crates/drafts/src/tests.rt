@@ -1,3 +1,4 @@
 //! Files that are added to a draft.
 
 mod adding;
+mod finishing;

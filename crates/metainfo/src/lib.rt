@@ -1,7 +1,8 @@
-//! Torrents of version 2 and hybrids (BEP 52, BEP 3, BEP 47): their files, their trees, and the
-//! version 1 stream.
+//! Torrents of version 2 and hybrids (BEP 52, BEP 3, BEP 47): their files, their trees, the
+//! version 1 stream, and how they are put together.
 #![tactic(auto)]
 
+pub use drafts::Draft;
 pub use filetree::{
     Key, Parts, Path, Refusal, order_is_apart, shape_is_told, walks_are_all, walks_are_safe,
 };

@@ -1,8 +1,10 @@
 pub mod Places
 pub mod Known
+pub mod Runs
 pub mod Cells
 pub mod Rising
 pub mod Pages
+pub mod Parts
 pub mod Growth
 pub mod Numbers
 pub mod Paging

@@ -1,14 +1,14 @@
 -- Rows of pages, when they grow, when a cell is written, and when they are trimmed.
-use Rattle.std.proofs.Common.{◌≡◌, ◌≢◌, ◌⊎◌, ℕ, zero, suc, ◌+◌, ◌-◌, ◌^◌, ◌<◌, ◌≤◌, Bool, true, false, cond, ltb, ◌&&◌, ◌||◌, List, [], ◌∷◌, length, Option, Some, None, Result, Ok, Err, OnErr, inl, inr, refl, sym, ap, ap₂, ◌∙◌, subst, arith}
+use Rattle.std.proofs.Common.{◌≡◌, ◌≢◌, ◌⊎◌, ℕ, zero, suc, ◌+◌, ◌-◌, ◌/◌, ◌%◌, ◌^◌, ◌<◌, ◌≤◌, Bool, true, false, cond, ltb, ◌&&◌, ◌||◌, List, [], ◌∷◌, length, get_or, Option, Some, None, Result, Ok, Err, OnErr, inl, inr, refl, sym, ap, ap₂, ◌∙◌, subst, arith}
 use Rattle.std.specs.Prelude.{slice_get}
-use Rattle.std.specs.Option.{option_map, unwrap_or}
+use Rattle.std.specs.Option.{option_and_then, option_map, unwrap_or}
 use Rattle.std.specs.FinMap.{empty, insert, get-empty}
 use Rattle.std.specs.FinSet as set
 use Rattle.std.specs.FinSet.{same_set, contains-insert, nat_cmp-IsAntisymmetric}
 use Rattle.std.specs.Ordering.{nat_cmp, eq_by_cmp}
 use Rattle.std.specs.Cmp.{nat_cmp_total}
 use Rattle.std.proofs.lemmas.Bool.{cases_lt, cases_eq, or_left, eq-eqb, ne_eqb, lt-ltb, false≢true}
-use Rattle.std.proofs.lemmas.Option.{none-some}
+use Rattle.std.proofs.lemmas.Option.{none-some, slice_get_past, slice_get_read}
 use Rattle.node_maps.specs.declared.paged_row.PagedRow.{PagedRow}
 use Rattle.node_maps.specs.declared.page.Cell.{Cell}
 use Rattle.node_maps.specs.declared.page.Cell.TheVariants.{Empty, Known, Marked}
@@ -17,7 +17,8 @@ use Rattle.node_maps.specs.Digest.{Hash}
 use Rattle.node_maps.specs.Places.{IsPlace}
 use Rattle.node_maps.specs.Known.{place_cmp, look, within, tabulate}
 use Rattle.node_maps.specs.Paged.{cell_at, hashes, HoldsTree, marked_cells, row_pages, held_below, held_pages, AreTrimmed}
-use Rattle.node_maps.specs.Pages.{marks_where}
+use Rattle.node_maps.specs.Pages.{marks_where, cell_of}
+use Rattle.node_maps.specs.PagedRow.{pages_of, hashes_of}
 use Rattle.node_maps.proofs.Numbers.{contains-marks_where}
 use Rattle.node_maps.proofs.Known.{nat_equal, same_known, look-within, within-at, tabulate-put}
 
@@ -50,6 +51,16 @@ look-hashes h rows in_tree l i = look-within h (hashes rows) l i ∙ by_cell (ha
     by_cell : (o : Option Hash) → hashes rows l i ≡ o → within h (hashes rows) l i ≡ hashes rows l i
     by_cell None e = none_within e _
     by_cell (Some v) e = within-at h (hashes rows) l i (in_tree.place l i v e)
+
+-- a layer reads as its row does
+pub row-hashes : (rows : List PagedRow) (l : ℕ) (row : PagedRow) → l < length rows → row ≡ get_or rows l row → (i : ℕ) → hashes_of row i ≡ hashes rows l i
+row-hashes rows l row low is i =
+    sym (ap (λ o. hash_of (cell_of (option_and_then (λ (r : PagedRow). pages_of r (i / 512)) o) (i % 512))) (slice_get_read rows (length rows) l row refl low is))
+
+-- and as nothing where there is no row
+pub no_row-hashes : (rows : List PagedRow) (l : ℕ) → length rows ≤ l → (i : ℕ) → hashes rows l i ≡ None
+no_row-hashes rows l past i =
+    ap (λ o. hash_of (cell_of (option_and_then (λ (r : PagedRow). pages_of r (i / 512)) o) (i % 512))) (slice_get_past rows l past)
 
 -- the same cells
 module _ (h : ℕ) (old new : List PagedRow) (same : (l i : ℕ) → cell_at new l i ≡ cell_at old l i) where

@@ -1,5 +1,5 @@
 -- The cells of a page.
-use Rattle.std.specs.Prelude.{Bool, true, false, ◌||◌, if◌then◌else◌, List, [], ◌∷◌, Option, Some, None}
+use Rattle.std.specs.Prelude.{ℕ, slice_index_or, Bool, true, false, ◌||◌, if◌then◌else◌, List, [], ◌∷◌, Option, Some, None}
 use Rattle.node_maps.specs.declared.page.Cell.{Cell}
 use Rattle.node_maps.specs.declared.page.Cell.TheVariants.{Empty, Known, Marked}
 use Rattle.node_maps.specs.Digest.{Hash}
@@ -9,6 +9,10 @@ abbrev pub hash_of : Cell → Option Hash
 hash_of Empty = None
 hash_of (Known h) = Some h
 hash_of (Marked h) = Some h
+
+-- the hash of a cell in a list of cells
+abbrev pub hash_in : List Cell → ℕ → Option Hash
+hash_in cells i = hash_of (slice_index_or cells i Empty)
 
 -- whether the cell's leaf is marked
 abbrev pub mark_of : Cell → Bool

@@ -1,12 +1,13 @@
 -- What rows of cells hold: one row for each layer, and in it a cell for each place that has room;
 -- and what a list of marks holds.
-use Rattle.std.specs.Prelude.{◌≡◌, ◌≢◌, ◌⊎◌, ℕ, zero, suc, ◌<◌, Bool, false, if◌then◌else◌, List, length, slice_index_or, slice_get, Option, Vec}
+use Rattle.std.specs.Prelude.{◌≡◌, ◌≢◌, ◌⊎◌, ℕ, zero, suc, ◌<◌, Bool, false, if◌then◌else◌, List, length, slice_index_or, slice_get, Option, None, Vec}
 use Rattle.std.specs.Option.{option_and_then, option_map, unwrap_or}
 use Rattle.std.specs.declared.alloc.Global.{Global}
 use Rattle.std.specs.FinSet as set
 use Rattle.node_maps.specs.Digest.{Hash}
 use Rattle.node_maps.specs.Places.{PartialTree, IsPlace}
 use Rattle.node_maps.specs.Known.{Marked}
+use Rattle.node_maps.specs.Runs.{LayerHashes}
 
 abbrev pub Row : Type 0
 Row = Vec (Option Hash) Global
@@ -15,6 +16,10 @@ Row = Vec (Option Hash) Global
 abbrev pub cells : List Row → PartialTree
 cells rows l i =
     option_and_then (λ row. option_and_then (λ o. o) (slice_get row.items i)) (slice_get rows l)
+
+-- the hash in a cell of a list
+abbrev pub hash_in : List (Option Hash) → LayerHashes
+hash_in row i = slice_index_or row i None
 
 -- every place has the cell that it had
 abbrev pub AreSameCells : List Row → List Row → Type 0

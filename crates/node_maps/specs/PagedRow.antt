@@ -3,6 +3,8 @@ use Rattle.std.specs.Prelude.{◌≡◌, ◌≢◌, ℕ, ◌<◌, ◌≤◌, IsS
 use Rattle.node_maps.specs.Pages.{Numbered, cell_in}
 use Rattle.node_maps.specs.Directories.{on_rows}
 use Rattle.node_maps.specs.declared.page.Cell.{Cell}
+use Rattle.node_maps.specs.Cell.{hash_of}
+use Rattle.node_maps.specs.Runs.{LayerHashes}
 use Rattle.node_maps.specs.declared.paged_row.PagedRow.{PagedRow}
 
 -- the pages of a layer
@@ -12,6 +14,10 @@ pages_of row = on_rows row.pages
 -- the cell of a place of the layer
 abbrev pub cell_of_row : PagedRow → ℕ → Cell
 cell_of_row row i = cell_in (pages_of row) i
+
+-- the hashes of the layer
+abbrev pub hashes_of : PagedRow → LayerHashes
+hashes_of row i = hash_of (cell_of_row row i)
 
 -- there is a page of this number
 abbrev pub HasNumber : PagedRow → ℕ → Type 0

@@ -1,11 +1,13 @@
 //! A partial tree in flat rows: for each layer a row of cells, and a mark beside each leaf.
 
-ghost use Rattle.std.specs.Prelude.{◌≡◌, ℕ, ◌+◌, ◌-◌, ◌^◌, ◌<◌, ◌≤◌, ◌≢◌, ◌⊎◌, Some, true, length, slice_index_or, set, IsOk, OnOk, vec_len};
+ghost use Rattle.std.specs.Prelude.{◌≡◌, ℕ, ◌+◌, ◌-◌, ◌^◌, ◌<◌, ◌≤◌, ◌≢◌, ◌⊎◌, ◌++◌, ◌↔◌, Some, None, true, length, slice_index_or, set, IsOk, IsTrue, OnOk, vec_len};
+ghost use Rattle.std.specs.Vec.{vec_capacity};
 ghost use Rattle.std.specs.FinMap.{insert};
 ghost use Rattle.node_maps.specs.Places.{tree_height, IsPlace};
 ghost use Rattle.node_maps.specs.Known.{tabulate, within};
 ghost use Rattle.node_maps.specs.Needed.{nothing_needed};
-ghost use Rattle.node_maps.specs.Flat.{AreSameCells, AreSameCellsBut, Row, cells, row_cells, HasCell, HasTreeCells, marked_leaves};
+ghost use Rattle.node_maps.specs.Flat.{AreSameCells, AreSameCellsBut, Row, cells, row_cells, HasCell, HasTreeCells, hash_in, marked_leaves};
+ghost use Rattle.node_maps.specs.Runs.{AreKnown, hashes_from};
 
 use crate::node_map::NodeMap;
 use hashtree::{Hash, NoMemory, Shape};
@@ -55,6 +57,14 @@ impl NodeMap for Flat {
         read_cell(&self.rows, layer, index)
     }
 
+    fn knows(&self, layer: u32, from: u64, count: u64) -> bool {
+        are_known(row_of(&self.rows, layer), from, count)
+    }
+
+    fn copy_to(&self, layer: u32, from: u64, count: u64, out: &mut Vec<Hash>) {
+        copy_hashes(row_of(&self.rows, layer), from, count, out);
+    }
+
     fn reserve(&mut self, layer: u32, from: u64, count: u64) -> Result<(), NoMemory> {
         if count == 0 {
             return Ok(());
@@ -97,6 +107,74 @@ fn read_cell(rows: &[Vec<Option<Hash>>], layer: u32, index: u64) -> Option<Hash>
         if index < row.len() { row[index] } else { None }
     } else {
         None
+    }
+}
+
+// The cells of a layer.
+fn row_of(rows: &[Vec<Option<Hash>>], layer: u32) -> &[Option<Hash>]
+    ensures { (i : ℕ) → hash_in result.now i ≡ cells rows.now layer i }
+{
+    let layer = layer as usize;
+    if layer < rows.len() {
+        &rows[layer]
+    } else {
+        &[]
+    }
+}
+
+// Whether `count` cells hold a hash, from one on.
+fn are_known(row: &[Option<Hash>], from: u64, count: u64) -> bool
+    requires { from + count < 2 ^ 64 }
+    ensures { IsTrue result ↔ AreKnown (hash_in row.now) from count }
+{
+    let (from, end) = (from as usize, (from + count) as usize);
+    if from == end {
+        return true;
+    }
+    if end > row.len() {
+        return false;
+    }
+    all_hold_hashes(&row[from..end])
+}
+
+// Whether each cell holds a hash.
+fn all_hold_hashes(row: &[Option<Hash>]) -> bool
+    ensures { IsTrue result ↔ AreKnown (hash_in row.now) 0 (length row.now) }
+{
+    'cells: for cell in row {
+        if cell.is_none() {
+            return false;
+        }
+    }
+    true
+}
+
+// Appends the hashes of `count` cells that hold one, from one on, to a list that has room for them.
+fn copy_hashes(row: &[Option<Hash>], from: u64, count: u64, out: &mut Vec<Hash>)
+    requires range { from + count < 2 ^ 64 }
+    requires known { AreKnown (hash_in row.now) from count }
+    requires room { vec_len out.old + count ≤ vec_capacity out.old }
+    ensures copied { out.new.items ≡ out.old.items ++ hashes_from (hash_in row.now) from count }
+    ensures no_memory { vec_capacity out.new ≡ vec_capacity out.old }
+{
+    let (from, end) = (from as usize, (from + count) as usize);
+    if from < end {
+        append_hashes(&row[from..end], out);
+    }
+}
+
+// Appends the hashes of cells that hold one to a list that has room for them.
+fn append_hashes(row: &[Option<Hash>], out: &mut Vec<Hash>)
+    requires known { AreKnown (hash_in row.now) 0 (length row.now) }
+    requires room { vec_len out.old + length row.now ≤ vec_capacity out.old }
+    ensures copied { out.new.items
+        ≡ out.old.items ++ hashes_from (hash_in row.now) 0 (length row.now) }
+    ensures no_memory { vec_capacity out.new ≡ vec_capacity out.old }
+{
+    'cells: for cell in row {
+        if let Some(hash) = cell {
+            out.push_reserved(*hash);
+        }
     }
 }
 

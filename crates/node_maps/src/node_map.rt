@@ -1,10 +1,12 @@
 //! A partial tree behind an interface, so that sessions are proved once for every way to keep it.
 
-ghost use Rattle.std.specs.Prelude.{◌≡◌, ℕ, ◌+◌, ◌-◌, ◌^◌, ◌<◌, ◌≤◌, IsOk, OnErr, OnOk};
+ghost use Rattle.std.specs.Prelude.{◌≡◌, ℕ, ◌+◌, ◌-◌, ◌^◌, ◌<◌, ◌≤◌, ◌++◌, ◌↔◌, IsOk, IsTrue, OnErr, OnOk, vec_len};
+ghost use Rattle.std.specs.Vec.{vec_capacity};
 ghost use Rattle.std.specs.FinMap as finite;
 ghost use Rattle.std.specs.FinSet as set;
 ghost use Rattle.node_maps.specs.Places.{tree_height, IsKnown};
 ghost use Rattle.node_maps.specs.Known.{Known, Marked, look};
+ghost use Rattle.node_maps.specs.Runs.{AreKnown, hashes_from};
 
 use hashtree::{Hash, NoMemory, Shape};
 use std::alloc::Global;
@@ -41,6 +43,21 @@ pub trait NodeMap: Drop {
     /// The hash at a place, if it is known.
     fn get(&self, layer: u32, index: u64) -> Option<Hash>
         ensures { result ≡ look (known self.now) layer index };
+
+    /// Whether the hashes of `count` places of a layer are known.
+    fn knows(&self, layer: u32, from: u64, count: u64) -> bool
+        requires { from + count < 2 ^ 64 }
+        ensures { IsTrue result ↔ AreKnown (look (known self.now) layer) from count };
+
+    /// Appends the hashes of `count` known places of a layer to a list that has room for them.
+    /// Takes no memory.
+    fn copy_to(&self, layer: u32, from: u64, count: u64, out: &mut Vec<Hash>)
+        requires range { from + count < 2 ^ 64 }
+        requires known { AreKnown (look (known self.now) layer) from count }
+        requires room { vec_len out.old + count ≤ vec_capacity out.old }
+        ensures copied { out.new.items
+            ≡ out.old.items ++ hashes_from (look (known self.now) layer) from count }
+        ensures no_memory { vec_capacity out.new ≡ vec_capacity out.old };
 
     /// Makes room for `count` places of a layer. Content, marks and the room that there is stay. A
     /// refusal gives back the pages that it made. If there is room already, it takes no memory and

@@ -1,8 +1,10 @@
 //! A page: the cells of 512 places of one layer that lie side by side.
 
-ghost use Rattle.std.specs.Prelude.{◌≡◌, ◌≢◌, ◌<◌, replicate, length, set, slice_index_or, Some, IfOk};
+ghost use Rattle.std.specs.Prelude.{◌≡◌, ◌≢◌, ◌+◌, ◌<◌, ◌≤◌, ◌++◌, ◌↔◌, replicate, length, set, slice_index_or, Some, IfOk, IsTrue, vec_len};
+ghost use Rattle.std.specs.Vec.{vec_capacity};
 ghost use Rattle.node_maps.specs.declared.page.Cell.TheVariants.{Empty};
-ghost use Rattle.node_maps.specs.Cell.{is_blank, with_hash};
+ghost use Rattle.node_maps.specs.Cell.{hash_in, is_blank, with_hash};
+ghost use Rattle.node_maps.specs.Runs.{AreKnown, hashes_from};
 
 use hashtree::{Hash, NoMemory};
 use std::alloc::Global;
@@ -79,6 +81,28 @@ impl Page {
         self.cells[place]
     }
 
+    /// Whether `count` places hold a hash, from one on.
+    pub fn knows(&self, first: usize, count: usize) -> bool
+        requires { first + count ≤ 512 }
+        ensures { IsTrue result ↔ AreKnown (hash_in self.now.cells.items) first count }
+    {
+        all_hold_hashes(&self.cells[first..first + count])
+    }
+
+    /// Appends the hashes of `count` places that hold one, from one on, to a list that has room for
+    /// them.
+    pub fn copy_to(&self, first: usize, count: usize, out: &mut Vec<Hash>)
+        requires inside { first + count ≤ 512 }
+        requires known { AreKnown (hash_in self.now.cells.items) first count }
+        requires room { vec_len out.old + count ≤ vec_capacity out.old }
+        ensures copied { out.new.items
+            ≡ out.old.items ++ hashes_from (hash_in self.now.cells.items) first count }
+        ensures len { vec_len out.new ≡ vec_len out.old + count }
+        ensures no_memory { vec_capacity out.new ≡ vec_capacity out.old }
+    {
+        copy_hashes(&self.cells[first..first + count], out);
+    }
+
     /// Writes the hash of a place, and marks it, if `mark` says so. A mark that is there stays.
     pub fn put(&mut self, place: usize, hash: Hash, mark: bool)
         requires { place < 512 }
@@ -93,6 +117,35 @@ impl Page {
         ensures { result ≡ is_blank self.now.cells.items }
     {
         holds_nothing(&self.cells)
+    }
+}
+
+/// Whether each cell holds a hash.
+fn all_hold_hashes(cells: &[Cell]) -> bool
+    ensures { IsTrue result ↔ AreKnown (hash_in cells.now) 0 (length cells.now) }
+{
+    'cells: for cell in cells {
+        if let Cell::Empty = cell {
+            return false;
+        }
+    }
+    true
+}
+
+/// Appends the hashes of cells that hold one to a list that has room for them.
+fn copy_hashes(cells: &[Cell], out: &mut Vec<Hash>)
+    requires known { AreKnown (hash_in cells.now) 0 (length cells.now) }
+    requires room { vec_len out.old + length cells.now ≤ vec_capacity out.old }
+    ensures copied { out.new.items
+        ≡ out.old.items ++ hashes_from (hash_in cells.now) 0 (length cells.now) }
+    ensures len { vec_len out.new ≡ vec_len out.old + length cells.now }
+    ensures no_memory { vec_capacity out.new ≡ vec_capacity out.old }
+{
+    'cells: for cell in cells {
+        match cell {
+            Cell::Known(hash) | Cell::Marked(hash) => out.push_reserved(*hash),
+            Cell::Empty => {}
+        }
     }
 }
 

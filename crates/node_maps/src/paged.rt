@@ -1,6 +1,7 @@
 //! A partial tree in pages: for each layer the pages that were asked for, found by their numbers.
 
-ghost use Rattle.std.specs.Prelude.{◌≡◌, ◌≢◌, ◌⊎◌, ℕ, ◌+◌, ◌-◌, ◌/◌, ◌%◌, ◌^◌, ◌<◌, ◌≤◌, Some, IsSome, IsOk, OnOk, OnErr, length, vec_len};
+ghost use Rattle.std.specs.Prelude.{◌≡◌, ◌≢◌, ◌⊎◌, ℕ, ◌+◌, ◌-◌, ◌/◌, ◌%◌, ◌^◌, ◌<◌, ◌≤◌, ◌++◌, ◌↔◌, Some, IsSome, IsOk, IsTrue, OnOk, OnErr, length, vec_len};
+ghost use Rattle.std.specs.Vec.{vec_capacity};
 ghost use Rattle.node_maps.specs.Places.{tree_height};
 ghost use Rattle.node_maps.specs.declared.page.Cell.TheVariants.{Empty};
 ghost use Rattle.node_maps.specs.Cell.{mark_of, with_hash};
@@ -8,6 +9,7 @@ ghost use Rattle.node_maps.specs.Known.{tabulate, within};
 ghost use Rattle.node_maps.specs.Held.{page_count};
 ghost use Rattle.node_maps.specs.Paged.{AreAsMany, AreSameCells, AreSameCellsBut, HasPages, KeepPages, page_at, cell_at, hashes, HasPage, HoldsTree, marked_cells, row_pages, held_below, held_pages, AreTrimmed};
 ghost use Rattle.node_maps.specs.Needed.{needs_few_pages};
+ghost use Rattle.node_maps.specs.Runs.{AreKnown, hashes_from};
 
 use crate::node_map::NodeMap;
 use crate::page::{Cell, PAGE_LENGTH};
@@ -57,6 +59,14 @@ impl NodeMap for Paged {
         read_cell(&self.rows, layer, index).hash()
     }
 
+    fn knows(&self, layer: u32, from: u64, count: u64) -> bool {
+        are_known(&self.rows, layer, from, count)
+    }
+
+    fn copy_to(&self, layer: u32, from: u64, count: u64, out: &mut Vec<Hash>) {
+        copy_hashes(&self.rows, layer, from, count, out);
+    }
+
     fn reserve(&mut self, layer: u32, from: u64, count: u64) -> Result<(), NoMemory> {
         if count == 0 {
             return Ok(());
@@ -100,6 +110,34 @@ fn read_cell(rows: &[PagedRow], layer: u32, index: u64) -> Cell
         rows[layer].cell(index)
     } else {
         Cell::Empty
+    }
+}
+
+// Whether the hashes of `count` places of a layer are known, from one on.
+fn are_known(rows: &[PagedRow], layer: u32, from: u64, count: u64) -> bool
+    requires { from + count < 2 ^ 64 }
+    ensures { IsTrue result ↔ AreKnown (hashes rows.now layer) from count }
+{
+    let layer = layer as usize;
+    if layer < rows.len() {
+        rows[layer].knows(from, count)
+    } else {
+        count == 0
+    }
+}
+
+// Appends the hashes of `count` known places of a layer, from one on, to a list that has room.
+fn copy_hashes(rows: &[PagedRow], layer: u32, from: u64, count: u64, out: &mut Vec<Hash>)
+    requires range { from + count < 2 ^ 64 }
+    requires known { AreKnown (hashes rows.now layer) from count }
+    requires room { vec_len out.old + count ≤ vec_capacity out.old }
+    ensures copied { out.new.items
+        ≡ out.old.items ++ hashes_from (hashes rows.now layer) from count }
+    ensures no_memory { vec_capacity out.new ≡ vec_capacity out.old }
+{
+    let layer = layer as usize;
+    if layer < rows.len() {
+        rows[layer].copy_to(from, count, out);
     }
 }
 

@@ -1,10 +1,12 @@
 //! The pages of one layer, found by their numbers.
 
-ghost use Rattle.std.specs.Prelude.{◌≡◌, ◌≢◌, ℕ, ◌+◌, ◌/◌, ◌%◌, ◌^◌, ◌<◌, ◌≤◌, [], Some, None, List, length, option_map, IsSome, IsOk, OnOk, OnErr};
+ghost use Rattle.std.specs.Prelude.{◌≡◌, ◌≢◌, ℕ, ◌+◌, ◌/◌, ◌%◌, ◌^◌, ◌<◌, ◌≤◌, ◌++◌, ◌↔◌, [], Some, None, List, length, option_map, IsSome, IsOk, IsTrue, OnOk, OnErr, vec_len};
+ghost use Rattle.std.specs.Vec.{vec_capacity};
 ghost use Rattle.node_maps.specs.Cell.{with_hash};
 ghost use Rattle.node_maps.specs.Pages.{Numbered, is_spare, AreAlike, AreSpare, AreCounted};
 ghost use Rattle.node_maps.specs.Directories.{on_rows};
 ghost use Rattle.node_maps.specs.Growth.{IsGrown, IsGrownByOne};
+ghost use Rattle.node_maps.specs.Runs.{AreKnown, hashes_from};
 
 use crate::directory::Directory;
 use crate::page::{Cell, PAGE_LENGTH, Page};
@@ -29,7 +31,7 @@ pub struct PagedRow {
 }
 
 impl PagedRow {
-    ghost use Rattle.node_maps.specs.PagedRow.{pages_of, AreSameCells, AreSameCellsBut, HasNumber, HasNumbers, KeepsPages, cell_of_row};
+    ghost use Rattle.node_maps.specs.PagedRow.{pages_of, AreSameCells, AreSameCellsBut, HasNumber, HasNumbers, KeepsPages, cell_of_row, hashes_of};
 
     /// No page.
     #[tactic(auto, unfolding(crate::specs::PagedRow::pages_of))]
@@ -62,6 +64,46 @@ impl PagedRow {
         match self.pages.page(index / PAGE_LENGTH as u64) {
             Some(page) => page.cell((index % PAGE_LENGTH as u64) as usize),
             None => Cell::Empty,
+        }
+    }
+
+    /// Whether the hashes of `count` places are known, from one on.
+    #[tactic(auto, unfolding(crate::specs::PagedRow::pages_of))]
+    pub fn knows(&self, from: u64, count: u64) -> bool
+        requires { from + count < 2 ^ 64 }
+        ensures { IsTrue result ↔ AreKnown (hashes_of self.now) from count }
+    {
+        let mut done = 0;
+        'parts: while done < count {
+            let part = Part::first_of(from + done, count - done);
+            let Some(page) = self.pages.page(part.number) else {
+                return false;
+            };
+            if !page.knows(part.first, part.count) {
+                return false;
+            }
+            done += part.count as u64;
+        }
+        true
+    }
+
+    /// Appends the hashes of `count` known places, from one on, to a list that has room for them.
+    #[tactic(auto, unfolding(crate::specs::PagedRow::pages_of))]
+    pub fn copy_to(&self, from: u64, count: u64, out: &mut Vec<Hash>)
+        requires range { from + count < 2 ^ 64 }
+        requires known { AreKnown (hashes_of self.now) from count }
+        requires room { vec_len out.old + count ≤ vec_capacity out.old }
+        ensures copied { out.new.items
+            ≡ out.old.items ++ hashes_from (hashes_of self.now) from count }
+        ensures no_memory { vec_capacity out.new ≡ vec_capacity out.old }
+    {
+        let mut done = 0;
+        'parts: while done < count {
+            let part = Part::first_of(from + done, count - done);
+            if let Some(page) = self.pages.page(part.number) {
+                page.copy_to(part.first, part.count, out);
+            }
+            done += part.count as u64;
         }
     }
 
@@ -150,6 +192,33 @@ impl PagedRow {
                 self.pages.remove(number);
                 self.count -= 1;
             }
+        }
+    }
+}
+
+// Places side by side on one page.
+#[derive(Clone, Copy)]
+struct Part {
+    number: u64,
+    first: usize,
+    count: usize,
+}
+
+impl Part {
+    // What of `count` places, from one on, is on the page of the first.
+    fn first_of(from: u64, count: u64) -> Part
+        requires { 0 < count }
+        ensures number { result.number ≡ from / 512 }
+        ensures first { result.first ≡ from % 512 }
+        ensures some { 0 < result.count }
+        ensures most { result.count ≤ count }
+        ensures inside { result.first + result.count ≤ 512 }
+    {
+        let first = from % PAGE_LENGTH as u64;
+        Part {
+            number: from / PAGE_LENGTH as u64,
+            first: first as usize,
+            count: (PAGE_LENGTH as u64 - first).min(count) as usize,
         }
     }
 }

@@ -2,7 +2,7 @@
 
 ghost use Rattle.std.specs.Prelude.{◌≡◌, ◌+◌, ◌^◌, ◌≤◌, IfOk};
 ghost use Rattle.node_maps.specs.Known.{look};
-ghost use Rattle.partial_tree.specs.Claims.{value_at, answer_of, GoodRange};
+ghost use Rattle.partial_tree.specs.Claims.{value_at, answer_of, CanAnswer};
 
 use crate::evidence::sibling;
 use hashtree::{Hash, NoMemory};
@@ -20,7 +20,7 @@ pub fn answer_hashes<N: NodeMap>(
     span: u32,
 ) -> Result<Vec<Hash>, NoMemory>
     requires low { height ≤ 32 }
-    requires range { GoodRange height ask.now }
+    requires known { CanAnswer height (look (N.known nodes.now)) ask.now }
     requires span { 2 ^ span ≡ ask.now.length }
     requires some { 1 ≤ span }
     requires small { span ≤ 13 }
@@ -33,12 +33,15 @@ pub fn answer_hashes<N: NodeMap>(
         .saturating_sub(span - 1)
         .min(height - ask.base - span);
     let mut hashes = Vec::with_capacity(alloc, (ask.length + uncles) as usize)?;
-    'base: for j in 0..ask.length {
-        hashes.push(known_or_pad(nodes, ask.base, u64::from(ask.index) + u64::from(j)))?;
-    }
+    nodes.copy_to(
+        ask.base,
+        u64::from(ask.index),
+        u64::from(ask.length),
+        &mut hashes,
+    );
     'uncles: for j in 0..uncles {
         let above = u64::from(ask.index) >> (span + j);
-        hashes.push(known_or_pad(nodes, ask.base + span + j, sibling(above)))?;
+        hashes.push_reserved(known_or_pad(nodes, ask.base + span + j, sibling(above)));
     }
     Ok(hashes)
 }

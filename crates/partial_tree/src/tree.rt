@@ -191,19 +191,18 @@ impl<N: NodeMap> Tree<N> {
     {
         match check_range(self.height, ask) {
             Err(_) => false,
-            Ok(_) => all_known(
-                &self.nodes,
-                ask.base,
-                u64::from(ask.index),
-                u64::from(ask.length),
-            ),
+            Ok(_) => self
+                .nodes
+                .knows(ask.base, u64::from(ask.index), u64::from(ask.length)),
         }
     }
 
     /// What it answers to a hash request: the hashes if they are known, else a reject. Fails only
-    /// out of memory.
+    /// out of memory for the hashes.
     pub fn answer(&self, ask: &Ask) -> Result<Answer, NoMemory>
-        ensures { IfOk result (IsTreeAnswer (tree_height self.now.length)
+        ensures answer { IfOk result (IsTreeAnswer (tree_height self.now.length)
+            (look self.now.state.known) ask.now) }
+        ensures no_memory { OnErr result (CanAnswer (tree_height self.now.length)
             (look self.now.state.known) ask.now) }
     {
         let Ok(span) = check_range(self.height, ask) else {
@@ -265,20 +264,6 @@ impl<N: NodeMap> Tree<N> {
         self.marked += mark_leaf(&mut self.nodes, block);
         Ok(())
     }
-}
-
-/// Whether so many places of a layer are known, from one on.
-fn all_known<N: NodeMap>(nodes: &N, layer: u32, from: u64, count: u64) -> bool
-    requires { from + count < 2 ^ 64 }
-    ensures { IsTrue result ↔ ((j : ℕ) → j < count → IsKnown (look (N.known nodes.now)) layer
-        (from + j)) }
-{
-    for j in 0..count {
-        if nodes.get(layer, from + j).is_none() {
-            return false;
-        }
-    }
-    true
 }
 
 /// Each hash has 32 bytes, as its type says.

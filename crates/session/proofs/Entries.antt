@@ -190,7 +190,7 @@ module _ (file : ℕ) where
       subst₂ (λ y z. Says tree s.known y z) (same_Some d c is) (same_Some x r told) (step-says file S d x M step n tree s of' at)
   chain-says S (d ∷ cs) (x ∷ rs) S' (M, step, rest) n tree s of' at (suc m) c r is told =
       let a : Later M n tree s = step-known file S d x M step n tree s at in
-      let of_later : tree_of M file ≡ Some n = ap (λ t. tree_of (record { torrent = t; trees = M.trees }) file) (step-torrent file S d x M step) ∙ of' in
+      let of_later : tree_of M file ≡ Some n = ap (λ t. tree_of (record M { torrent = t }) file) (step-torrent file S d x M step) ∙ of' in
       subst (λ (K : Known). Says tree K c r) a.known (chain-says M cs rs S' rest n tree a.later of_later a.later_is m c r is told)
 
 -- ---- the cuts of a message

@@ -18,6 +18,7 @@ use Rattle.node_maps.specs.Places.{tree_height}
 use Rattle.partial_tree.specs.Closed.{IsClosed}
 use Rattle.node_maps.specs.Known.{Known, look, place_cmp}
 use Rattle.partial_tree.specs.Kept.{KeptTree, info_of, root_alone}
+use Rattle.session.specs.Asks.{Asks}
 use Rattle.session.specs.Layouts.{root_of_entry, seen, state_of, AreKept}
 use Rattle.session.specs.Fresh.{KnowsRoot, IsFirstKnown, IsFresh, IsPlanted}
 use Rattle.node_maps.proofs.Known.{look-insert, look-insert_same}
@@ -138,8 +139,8 @@ module _ (d : Description) (sound : IsSound d) (infos : List TreeInfo) (are : ma
     good = λ k x inside. (planted k nothing x inside).good;
   }
 
-  pub fresh : (w : Bool) (ts : List KeptTree) → AreKept d ts → ArePlanted d.piece_length w d.trees ts → IsFresh d w (seen d ts)
-  fresh w ts kept planted = record {
+  pub fresh : (w : Bool) (ts : List KeptTree) (o : Asks) → o ≡ leaves.empty → AreKept d ts → ArePlanted d.piece_length w d.trees ts → IsFresh d w (seen d o ts)
+  fresh w ts o none kept planted = record {
     torrent = refl;
     count = length-map ts state_of ∙ sym (length-map ts info_of) ∙ ap length kept.same ∙ length-map d.trees root_of_entry;
     known = λ n e s at_entry at_state.
@@ -153,4 +154,5 @@ module _ (d : Description) (sound : IsSound d) (infos : List TreeInfo) (are : ma
         let inside : n < length ts = slice_get_within ts n x.0 x.1 in
         let p = planted n nothing x.0 inside in
         subst (λ st. st.marked ≡ leaves.empty) x.2 (subst (λ t. t.state.marked ≡ leaves.empty) (get_or_from_slice_get ts n x.0 x.0 x.1) p.marked);
+    asks = none;
   }

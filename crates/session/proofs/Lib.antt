@@ -11,3 +11,7 @@ pub mod Numbering
 pub mod FirstTrees
 pub mod FirstLayers
 pub mod Arrays
+pub mod OpenAsks
+pub mod Asking
+pub mod NotedSteps
+pub mod NotedRounds

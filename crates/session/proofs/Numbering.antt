@@ -2,6 +2,7 @@
 use Rattle.std.proofs.Common.{◌≡◌, ◌≢◌, ℕ, ◌+◌, ◌<◌, ◌≤◌, Bool, true, false, cond, Ordering, Less, Equal, Greater, List, map, length, get_or, Option, Some, None, IsSome, option_map, inl, inr, refl, sym, ap, ◌∙◌, subst, arith}
 use Rattle.std.specs.Prelude.{slice_get}
 use Rattle.std.specs.Ordering.{nat_cmp, is_eq}
+use Rattle.std.specs.FinSet as leaves
 use Rattle.std.specs.Cmp.Lexicographic.{slice_cmp}
 use Rattle.std.proofs.lemmas.Bool.{cases_lt, false≢true}
 use Rattle.std.proofs.lemmas.Cmp.{nat_list_cmp_total, tied_itself}
@@ -77,7 +78,7 @@ numbered_entries r infos entries are numbers =
 module _ (d : Description) (ts : List KeptTree) (kept : AreKept d ts) (r : Roots) (numbers : AreNumbered r (map (λ (e : TreeEntry). e.root) d.trees)) where
   root_at : (n : ℕ) (a : KeptTree) → slice_get ts n ≡ Some a → slice_get (map (λ (e : TreeEntry). e.root) d.trees) n ≡ Some a.root
   root_at n a e =
-      let x = mapped root_of_entry (slice_get d.trees n) (info_of a) (sym (slice_get-map root_of_entry d.trees n) ∙ (tree_at d ts kept n a e).tree_is) in
+      let x = mapped root_of_entry (slice_get d.trees n) (info_of a) (sym (slice_get-map root_of_entry d.trees n) ∙ (tree_at d ts kept leaves.empty n a e).tree_is) in
       slice_get-map (λ (y : TreeEntry). y.root) d.trees n ∙ ap (option_map (λ (y : TreeEntry). y.root)) x.1 ∙ ap (λ (t : TreeRoot). Some t.root) x.2
 
   pub some_number : (root : Hash) (n : ℕ) → number_of r root ≡ Some n → (n < length ts) × ((a : KeptTree) → slice_get ts n ≡ Some a → a.root ≡ root)

@@ -22,6 +22,7 @@ use Rattle.partial_tree.specs.Gaps.{gaps, want_ask, want_of}
 use Rattle.node_maps.specs.Known.{look}
 use Rattle.session.specs.Session.{SessionSeen, TreeState, IsTree, IsGood, HasDistinctRoots, HasFewerGaps, HasHashes, Step}
 use Rattle.chains.specs.Chain.{Chain}
+use Rattle.chains.proofs.Chains.{LastStep, last_step}
 use Rattle.session.specs.Rounds.{IsRoundRun, Rounds, HasNoMoreGaps, RoundLeavesFewer, Collides}
 use Rattle.partial_tree.proofs.Claimed.{there_or_not}
 use Rattle.partial_tree.proofs.Whole.{whole-closed}
@@ -73,38 +74,6 @@ run-gaps S ms vs S' run n tree s at =
 
 -- ---- one round
 
--- the last step of a run
-record LastStep (S : SessionSeen) (ms : List Message) (m : Message) (vs : List Verdict) (S' : SessionSeen) : Type 0 where
-  earlier : List Verdict
-  last : Verdict
-  middle : SessionSeen
-  verdicts_are : vs ≡ earlier ++ last ∷ []
-  run : Chain Step S ms earlier middle
-  step : Step middle m last S'
-
-last_step : (S : SessionSeen) (ms : List Message) (m : Message) (vs : List Verdict) (S' : SessionSeen) → Chain Step S (ms ++ m ∷ []) vs S' → LastStep S ms m vs S'
-last_step S [] m [] S' run = absurd run
-last_step S [] m (v ∷ []) S' (M, step, e) = record {
-  earlier = [];
-  last = v;
-  middle = S;
-  verdicts_are = refl;
-  run = refl;
-  step = subst (Step S m v) (sym e) step;
-}
-last_step S [] m (v ∷ w ∷ vs) S' (M, step, rest) = absurd rest
-last_step S (x ∷ ms) m [] S' run = absurd run
-last_step S (x ∷ ms) m (v ∷ vs) S' (M, step, rest) =
-    let later : LastStep M ms m vs S' = last_step M ms m vs S' rest in
-    record {
-      earlier = v ∷ later.earlier;
-      last = later.last;
-      middle = later.middle;
-      verdicts_are = ap (λ ws. v ∷ ws) later.verdicts_are;
-      run = (M, step, later.run);
-      step = later.step;
-    }
-
 -- whether memory was refused
 pub lacks_memory : Verdict → Bool
 lacks_memory (verdict.HashRefused NoMemory) = true
@@ -143,18 +112,18 @@ All-front : (ms : List Message) (m : Message) → All HasHashes (ms ++ m ∷ [])
 All-front ms m all = (All-pop HasHashes (ms ++ m ∷ []) ms (Some m) refl all).0
 
 -- the roots stay distinct, since the torrent stays
-later-distinct : (S M : SessionSeen) → M.torrent ≡ S.torrent → HasDistinctRoots S → HasDistinctRoots M
+pub later-distinct : (S M : SessionSeen) → M.torrent ≡ S.torrent → HasDistinctRoots S → HasDistinctRoots M
 later-distinct S M same distinct = λ i k x y p q e. distinct i k x y
     (ap (λ (d : Description). slice_get (map root_of_entry d.trees) i) (sym same) ∙ p)
     (ap (λ (d : Description). slice_get (map root_of_entry d.trees) k) (sym same) ∙ q) e
 
 pub round-fewer : (S : SessionSeen) → HasDistinctRoots S → (ms : List Message) (vs : List Verdict) (S' : SessionSeen) → IsGood S → All HasHashes ms → Chain Step S ms vs S' → RoundLeavesFewer S ms vs S'
 round-fewer S distinct ms vs S' good all run n f r =
-    let at_end : LastStep S r.before (message.Hashes r.ask r.answer) vs S' = last_step S r.before (message.Hashes r.ask r.answer) vs S' (subst (λ xs. Chain Step S xs vs S') r.ends run) in
+    let at_end : LastStep Step S r.before (message.Hashes r.ask r.answer) vs S' = last_step Step S r.before (message.Hashes r.ask r.answer) vs S' (subst (λ xs. Chain Step S xs vs S') r.ends run) in
     let (none, is) = wanted-is r.tree (look r.state.known) r.block r.ask r.wanted in
     let hashes : All HasHashes r.before = All-front r.before (message.Hashes r.ask r.answer) (subst (All HasHashes) r.ends all) in
     elim (cases_Bool (lacks_memory at_end.last)) [
-      | inl lacks ↦ inr (inl (at_end.earlier, at_end.verdicts_are ∙ ap (λ v. at_end.earlier ++ v ∷ []) (lacks_memory-is at_end.last lacks)))
+      | inl lacks ↦ inr (inl (at_end.earlier, at_end.outputs_are ∙ ap (λ v. at_end.earlier ++ v ∷ []) (lacks_memory-is at_end.last lacks)))
       | inr has ↦
           elim (round S distinct r.before at_end.earlier at_end.middle S' n r.tree r.state r.block f good hashes at_end.run r.is_tree r.inside none r.fits r.answer
           (r.is_answer ∙ ap (answer_of (tree_height r.tree.length) (whole f)) is) at_end.last (lacks_memory-not at_end.last has)

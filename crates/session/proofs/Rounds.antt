@@ -42,7 +42,7 @@ want-tall t K b closed in' none = elim (cases_lt (tree_height t.length) 1) [
 ]
 
 -- the tree that an ask names is the one tree with its root
-asked-is : (S : SessionSeen) (ask : Ask) (n : ℕ) (tree : TreeRoot) (s : TreeState) → HasDistinctRoots S → IsTree S n tree s → tree.root ≡ ask.root
+pub asked-is : (S : SessionSeen) (ask : Ask) (n : ℕ) (tree : TreeRoot) (s : TreeState) → HasDistinctRoots S → IsTree S n tree s → tree.root ≡ ask.root
     → (a : IsAsked S ask) → (a.number ≡ n) × (a.tree ≡ tree) × (a.state ≡ s)
 asked-is S ask n tree s distinct at root a =
     let same : a.number ≡ n = distinct a.number n a.tree tree a.is_tree.tree_is at.tree_is (a.has_root ∙ sym root) in (
@@ -83,7 +83,7 @@ module _ (n : ℕ) (tree : TreeRoot) (b : ℕ) (in' : b < block_count tree.lengt
     refused-never Mismatch memory (a, h) = fault-never Mismatch a h
     refused-never Unasked memory (a, h) = fault-never Unasked a h
 
-  answer-fewer : (S S' : SessionSeen) → HasDistinctRoots S → (s : TreeState) → IsTree S n tree s → 1 ≤ tree_height tree.length → Keeps K (look s.known) → K 0 b ≡ None
+  pub answer-fewer : (S S' : SessionSeen) → HasDistinctRoots S → (s : TreeState) → IsTree S n tree s → 1 ≤ tree_height tree.length → Keeps K (look s.known) → K 0 b ≡ None
       → (hs : Bor (List Hash)) → IsAccepted tree.length (look s.known) (want_ask tree b) hs.now
       → (v : Verdict) → v ≢ verdict.HashRefused NoMemory → Step S (message.Hashes (want_ask tree b) hs) v S' → HasFewerGaps S' n tree K
   answer-fewer S S' distinct s at tall keeps none hs ok (verdict.Stored c) memory h = stored-fewer S S' distinct s at tall keeps none hs.now ok c h

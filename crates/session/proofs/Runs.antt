@@ -90,12 +90,12 @@ pub record Learns (S S' : SessionSeen) (n : ℕ) (tree : TreeRoot) (s : TreeStat
   pub later_is : IsTree S' n tree later
   pub keeps : Keeps (look s.known) (look later.known)
 
-step-good : (S : SessionSeen) (m : Message) (S' : SessionSeen) → IsGood S → HasHashes m → Effect S m S' → IsGood S'
+pub step-good : (S : SessionSeen) (m : Message) (S' : SessionSeen) → IsGood S → HasHashes m → Effect S m S' → IsGood S'
 step-good S m S' good all (unchanged e) = subst IsGood (sym e) good
 step-good S m S' good all (stored ask hashes c has h) = good-stored S good ask hashes c S' (has all) h
 step-good S m S' good all (taken index begin bytes v h) = chain-good v.file S _ v.refusals S' good h.each
 
-step-learns : (S : SessionSeen) (m : Message) (S' : SessionSeen) → Effect S m S' → (n : ℕ) (tree : TreeRoot) (s : TreeState) → IsTree S n tree s → Learns S S' n tree s
+pub step-learns : (S : SessionSeen) (m : Message) (S' : SessionSeen) → Effect S m S' → (n : ℕ) (tree : TreeRoot) (s : TreeState) → IsTree S n tree s → Learns S S' n tree s
 step-learns S m S' (unchanged e) n tree s at = record {
   later = s;
   later_is = subst (λ U. IsTree U n tree s) (sym e) at;
@@ -146,13 +146,13 @@ run-learns S (m ∷ ms) (v ∷ vs) S' (M, step, rest) n tree s at =
     record { later = b.later; later_is = b.later_is; keeps = λ l i v k. b.keeps l i v (a.keeps l i v k) }
 
 -- a step keeps the torrent, and so does a run
+pub effect-torrent : (S : SessionSeen) (m : Message) (S' : SessionSeen) → Effect S m S' → S'.torrent ≡ S.torrent
+effect-torrent S m S' (unchanged e) = ap (λ U. U.torrent) e
+effect-torrent S m S' (stored ask hashes c has h) = ap (λ U. U.torrent) h.state_after
+effect-torrent S m S' (taken index begin bytes v h) = chain-torrent v.file S _ v.refusals S' h.each
+
 pub step-torrent : (S : SessionSeen) (m : Message) (v : Verdict) (S' : SessionSeen) → Step S m v S' → S'.torrent ≡ S.torrent
-step-torrent S m v S' step = same_torrent (effect S m v S' step)
-  where
-    same_torrent : Effect S m S' → S'.torrent ≡ S.torrent
-    same_torrent (unchanged e) = ap (λ U. U.torrent) e
-    same_torrent (stored ask hashes c has h) = ap (λ U. U.torrent) h.state_after
-    same_torrent (taken index begin bytes v h) = chain-torrent v.file S _ v.refusals S' h.each
+step-torrent S m v S' step = effect-torrent S m S' (effect S m v S' step)
 
 pub run-torrent : (S : SessionSeen) (ms : List Message) (vs : List Verdict) (S' : SessionSeen) → Chain Step S ms vs S' → S'.torrent ≡ S.torrent
 run-torrent S [] [] S' e = ap (λ U. U.torrent) e

@@ -1,6 +1,6 @@
 -- What a session knows at first.
 use Rattle.std.specs.Prelude.{◌≡◌, ◌⊎◌, ℕ, ◌-◌, ◌<◌, ◌≤◌, Bool, true, false, List, length, slice_get, Some}
-use Rattle.std.specs.FinSet as leaves
+use Rattle.std.specs.FinSet as finite
 use Rattle.hashtree.specs.Tree.{filled, node_over}
 use Rattle.metainfo.specs.Description.{Description, TreeEntry}
 use Rattle.metainfo.specs.PieceLayers.{piece_layer}
@@ -32,13 +32,15 @@ pub record IsFirstKnown (piece_length : ℕ) (with_layers : Bool) (e : TreeEntry
   pub layers : with_layers ≡ true → piece_length < e.length
       → KnowsFrom (root_of_entry e) (piece_layer piece_length) e.layer K
 
--- a session of this torrent at first: so much is known of each tree, and no leaf is marked
+-- a session of this torrent at first: so much is known of each tree, no leaf is marked, and no ask
+-- is open
 pub record IsFresh (d : Description) (with_layers : Bool) (S : SessionSeen) : Type 0 where
   pub torrent : S.torrent ≡ d
   pub count : length S.trees ≡ length d.trees
   pub known : (n : ℕ) (e : TreeEntry) (s : TreeState) → slice_get d.trees n ≡ Some e
       → slice_get S.trees n ≡ Some s → IsFirstKnown d.piece_length with_layers e (look s.known)
-  pub marked : (n : ℕ) (s : TreeState) → slice_get S.trees n ≡ Some s → s.marked ≡ leaves.empty
+  pub marked : (n : ℕ) (s : TreeState) → slice_get S.trees n ≡ Some s → s.marked ≡ finite.empty
+  pub asks : S.asks ≡ finite.empty
 
 -- a good tree of which so much is known, and no leaf is marked
 pub record IsPlanted (piece_length : ℕ) (with_layers : Bool) (e : TreeEntry) (t : KeptTree)
@@ -47,4 +49,4 @@ pub record IsPlanted (piece_length : ℕ) (with_layers : Bool) (e : TreeEntry) (
   pub length_is : t.length ≡ e.length
   pub good : IsGoodTree t
   pub known : IsFirstKnown piece_length with_layers e (look t.state.known)
-  pub marked : t.state.marked ≡ leaves.empty
+  pub marked : t.state.marked ≡ finite.empty

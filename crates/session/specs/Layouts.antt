@@ -6,6 +6,7 @@ use Rattle.metainfo.specs.Blocks.{IsBlockRun}
 use Rattle.metainfo.specs.Description.{Description, FileEntry, TreeEntry}
 use Rattle.partial_tree.specs.TreeRoot.{TreeRoot}
 use Rattle.partial_tree.specs.Kept.{TreeState, KeptTree, info_of, IsGoodTree}
+use Rattle.session.specs.Asks.{Asks}
 
 -- a tree's root and the length of its files
 abbrev pub root_of_entry : TreeEntry → TreeRoot
@@ -16,11 +17,12 @@ abbrev pub tree_number : Option FileEntry → Option ℕ
 tree_number None = None
 tree_number (Some f) = f.tree
 
--- what callers see of a session: its torrent, and what is known and marked of each tree, in the
--- torrent's order
+-- what callers see of a session: its torrent, what is known and marked of each tree, in the
+-- torrent's order, and the open asks
 pub record SessionSeen : Type 0 where
   pub torrent : Description
   pub trees : List TreeState
+  pub asks : Asks
 
 -- the root of each tree, and the length of its files
 abbrev pub roots : SessionSeen → List TreeRoot
@@ -34,9 +36,9 @@ tree_of S file = tree_number (slice_get S.torrent.files file)
 abbrev pub state_of : KeptTree → TreeState
 state_of t = t.state
 
--- what callers see of a session over these trees
-abbrev pub seen : Description → List KeptTree → SessionSeen
-seen d trees = record { torrent = d; trees = map state_of trees }
+-- what callers see of a session over these trees, while these asks are open
+abbrev pub seen : Description → Asks → List KeptTree → SessionSeen
+seen d asks trees = record { torrent = d; trees = map state_of trees; asks = asks }
 
 -- one good tree for each of the torrent's trees, in order
 pub record AreKept (d : Description) (trees : List KeptTree) : Type 0 where

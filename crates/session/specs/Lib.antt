@@ -1,10 +1,13 @@
 -- Sessions of a torrent, their steps and runs.
 pub use Rattle.chains.specs.Chain
 pub mod Blocks
+pub mod Asks
 pub mod Session
 pub mod SafeStep
+pub mod Noted
 pub mod Answers
 pub mod Rounds
+pub mod NotedRounds
 pub mod Roots
 pub mod Layouts
 pub mod Codes

@@ -4,6 +4,8 @@
 
 mod blocks;
 pub mod laws;
+mod noting;
+mod open_asks;
 mod planting;
 mod roots;
 mod session;

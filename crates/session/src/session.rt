@@ -24,6 +24,7 @@ ghost use Rattle.session.specs.Fresh.{IsFresh};
 ghost use Rattle.session.specs.SafeStep.{KeepsKnown, StoresTrueHashes, StoresAnswers, VerifiesTrueBlock, VerifiesTrueBlocks, IsSafeStep};
 
 use crate::blocks::Blocks;
+use crate::open_asks::OpenAsks;
 use crate::planting::planted;
 use crate::roots::Roots;
 use crate::verdict::Verdict;
@@ -39,10 +40,11 @@ use wire::{Ask, Message};
 /// sibling and its parent, up to the tree's root, whatever messages came.
 #[derive(Drop)]
 pub struct Session<'t, N: NodeMap> {
-    alloc: Global,
+    pub(crate) alloc: Global,
     torrent: &'t Torrent<'t>,
     trees: Vec<Tree<N>>,
     roots: Roots,
+    pub(crate) asks: OpenAsks,
 }
 
 impl<'t, N: NodeMap> Model for Session<'t, N> {
@@ -56,7 +58,7 @@ impl<'t, N: NodeMap> Model for Session<'t, N> {
 
     ghost coded = { session_code };
 
-    ghost view = { λ s. seen s.torrent.now s.trees.items };
+    ghost view = { λ s. seen s.torrent.now s.asks s.trees.items };
 
     ghost invariant = { λ s. AreKept s.torrent.now s.trees.items
         × AreNumbered s.roots (map (λ (e : TreeEntry). e.root) s.torrent.now.trees) };
@@ -65,7 +67,8 @@ impl<'t, N: NodeMap> Model for Session<'t, N> {
 impl<'t, N: NodeMap> Session<'t, N> {
     /// A session that knows the root of each tree of the torrent. With layers it also knows what
     /// lies from each piece layer up, the pads past a file's end among it; a file that is no longer
-    /// than a piece has no piece layer. Nothing is marked. Fails only where memory was refused.
+    /// than a piece has no piece layer. Nothing is marked, and no ask is open. Fails only where
+    /// memory was refused.
     pub fn new(
         alloc: Global,
         torrent: &'t Torrent<'t>,
@@ -86,6 +89,7 @@ impl<'t, N: NodeMap> Session<'t, N> {
             torrent,
             trees,
             roots,
+            asks: OpenAsks::new(alloc),
         })
     }
 
@@ -281,7 +285,8 @@ impl<'t, N: NodeMap> Session<'t, N> {
     /// reject, exactly if `can_answer` is false. Takes memory for the hashes alone, and fails only
     /// if that is refused.
     pub fn answer(&self, ask: &Ask) -> Result<Answer, NoMemory>
-        ensures { IfOk result (IsAnswerTo self.now ask.now) }
+        ensures answer { IfOk result (IsAnswerTo self.now ask.now) }
+        ensures no_memory { OnErr result (IsAnswered self.now ask.now) }
     {
         self.torrent.sound();
         match self.roots.number(&ask.root) {
@@ -396,7 +401,7 @@ impl<'t, N: NodeMap> Session<'t, N> {
 }
 
 /// The hashes of a message have 32 bytes each, as their type says.
-fn has_hashes(message: &Message<'_>)
+pub(crate) fn has_hashes(message: &Message<'_>)
     ensures { HasHashes message.now }
 {
     match *message {

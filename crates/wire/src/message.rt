@@ -5,7 +5,7 @@ pub type Hash = [u8; 32];
 
 /// The five fields of a hash request, and of the hashes message or the reject that answers it (BEP
 /// 52).
-#[derive(Clone, Copy, Debug, PartialEq, Eq)]
+#[derive(Clone, Copy, Debug, PartialEq, Eq, PartialOrd, Ord)]
 pub struct Ask {
     /// The root of the tree.
     pub root: Hash,

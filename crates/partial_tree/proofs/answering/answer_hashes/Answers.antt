@@ -1,22 +1,35 @@
-use Rattle.std.proofs.Common.{◌≡◌, ℕ, ◌+◌, ◌-◌, ◌/◌, ◌^◌, List, [], ◌∷◌, ◌++◌, map, sym, ap, ap₂, ◌∙◌, arith, append_assoc}
+use Rattle.std.proofs.Common.{◌≡◌, ℕ, ◌+◌, ◌-◌, ◌/◌, ◌^◌, List, [], ◌∷◌, ◌++◌, map, sym, ap, ap₂, ◌∙◌, arith, subst, append_assoc, append-nil, length}
 use Rattle.std.specs.List.{range_with_len}
-use Rattle.std.proofs.lemmas.List.FromFn.{map-range_with_len_more}
+use Rattle.std.proofs.lemmas.List.FromFn.{map-range_with_len_more, length-map-range_with_len}
 use Rattle.hashtree.specs.Tree.{height}
 use Rattle.node_maps.specs.Digest.{Hash}
 use Rattle.node_maps.specs.Places.{PartialTree}
 use Rattle.node_maps.specs.Known.{look}
+use Rattle.node_maps.specs.Runs.{AreKnown, hashes_from}
 use Rattle.partial_tree.specs.Claims.{span, cover, above, sibling, value_at, answer_uncles}
 use Rattle.partial_tree.proofs.Powers.{height_pow}
 use Rattle.partial_tree.proofs.answering.answer_hashes.Goals as goal
 
-pub base-preserved : goal.base-preserved
-base-preserved g c =
+pub copy_to-requires-clause-known : goal.copy_to-requires-clause-known
+copy_to-requires-clause-known g c =
+    let ask = c.args.ask.now in
     let K : PartialTree = look (g.N.NodeMap.known c.args.nodes.now) in
-    let f : ℕ → Hash = λ k. value_at K c.args.ask.now.base (c.args.ask.now.index + k) in
-    c.in_ok-push.ensures.items
-    ∙ ap (λ t. t ++ c.known_or_pad.result ∷ []) c.base.invariant
-    ∙ ap (λ x. map f (range_with_len 0 c.base.j) ++ x ∷ []) (c.known_or_pad.ensures ∙ ap₂ (λ a b. value_at K c.args.ask.now.base (a + b)) c.from.ensures c.from-in-base.ensures)
-    ∙ sym (map-range_with_len_more f 0 c.base.j c.base.j (omega arith))
+    subst (λ a. AreKnown (K ask.base) a c.from-2.result) (sym c.from.ensures)
+    (subst (AreKnown (K ask.base) ask.index) (sym c.from-2.ensures) c.requires.known.base_known)
+
+pub uncles-init : goal.uncles-init
+uncles-init g c =
+    let ask = c.args.ask.now in
+    let K : PartialTree = look (g.N.NodeMap.known c.args.nodes.now) in
+    let first : List Hash = hashes_from (K ask.base) ask.index ask.length in
+    let items : c.copy_to.new.out.items ≡ first = c.copy_to.ensures.copied
+    ∙ ap (λ xs. xs ++ hashes_from (K ask.base) c.from.result c.from-2.result) c.in_ok-hashes.ensures.items
+    ∙ ap₂ (hashes_from (K ask.base)) c.from.ensures c.from-2.ensures in
+    let long : length first ≡ ask.length = length-map-range_with_len (λ k. value_at K ask.base (ask.index + k)) 0 ask.length in
+    record {
+      answer = items ∙ sym (append-nil first);
+      room = omega (arith, ap length items, long, c.copy_to.new.out.ok.0, c.copy_to.ensures.no_memory, c.in_ok-hashes.ensures.capacity);
+    }
 
 pub uncles-preserved : goal.uncles-preserved
 uncles-preserved g c =
@@ -29,11 +42,14 @@ uncles-preserved g c =
     let exponent : c.args.span + c.uncles.j ≡ cover ask + c.uncles.j - ask.base = omega (arith, layer) in
     let place : c.sibling.result ≡ sibling (above ask (cover ask + c.uncles.j)) =
     c.sibling.ensures ∙ ap (λ i. sibling (i / 2 ^ (c.args.span + c.uncles.j))) c.from-in-uncles.ensures ∙ ap (λ k. sibling (ask.index / 2 ^ k)) exponent in
-    c.in_ok-push-2.ensures.items
-    ∙ ap (λ t. t ++ c.known_or_pad-in-uncles.result ∷ []) c.uncles.invariant
-    ∙ append_assoc first (map f (range_with_len 0 c.uncles.j)) (c.known_or_pad-in-uncles.result ∷ [])
-    ∙ ap (λ x. first ++ (map f (range_with_len 0 c.uncles.j) ++ x ∷ [])) (c.known_or_pad-in-uncles.ensures ∙ ap₂ (λ l i. value_at K l i) layer place)
-    ∙ ap (λ t. first ++ t) (sym (map-range_with_len_more f 0 c.uncles.j c.uncles.j (omega arith)))
+    record {
+      answer = c.push_reserved.ensures.items
+          ∙ ap (λ t. t ++ c.known_or_pad.result ∷ []) c.uncles.invariant.answer
+          ∙ append_assoc first (map f (range_with_len 0 c.uncles.j)) (c.known_or_pad.result ∷ [])
+          ∙ ap (λ x. first ++ (map f (range_with_len 0 c.uncles.j) ++ x ∷ [])) (c.known_or_pad.ensures ∙ ap₂ (λ l i. value_at K l i) layer place)
+          ∙ ap (λ t. first ++ t) (sym (map-range_with_len_more f 0 c.uncles.j c.uncles.j (omega arith)));
+      room = omega (arith, c.push_reserved.ensures.len, c.push_reserved.ensures.capacity, c.uncles.invariant.room, c.uncles-test.true);
+    }
 
 pub returns : goal.returns
 returns g c =
@@ -43,4 +59,4 @@ returns g c =
     let f : ℕ → Hash = λ k. value_at K (cover ask + k) (sibling (above ask (cover ask + k))) in
     let spans : span ask ≡ c.args.span = ap height (sym c.requires.span) ∙ height_pow c.args.span in
     let count : c.uncles.j ≡ answer_uncles c.args.height ask = omega (arith, spans, c.min-uncles.ensures, c.saturating_sub.ensures, c.uncles-test.false, c.uncles.auto.j-end) in
-    c.uncles.invariant ∙ ap (λ n. first ++ map f (range_with_len 0 n)) count
+    c.uncles.invariant.answer ∙ ap (λ n. first ++ map f (range_with_len 0 n)) count

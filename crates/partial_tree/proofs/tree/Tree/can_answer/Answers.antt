@@ -15,9 +15,9 @@ returns-in-Ok g c =
         base_known = λ j in'.
             let low : j < c.from-in-Ok.result = omega (arith, c.from-in-Ok.ensures) in
             subst (λ i. IsKnown (look c.args.self.now.state.known) ask.base (i + j)) c.from.ensures
-            (subst (λ m. IsKnown (look m) ask.base (c.from.result + j)) known (c.all_known.ensures.0 e j low));
+            (subst (λ m. IsKnown (look m) ask.base (c.from.result + j)) known (c.knows.ensures.0 e j low));
       },
-      λ can. c.all_known.ensures.1 (λ j in'.
+      λ can. c.knows.ensures.1 (λ j in'.
           let low : j < ask.length = omega (arith, c.from-in-Ok.ensures) in
           subst (λ i. IsKnown (look (g.N.NodeMap.known c.self.inside.nodes)) ask.base (i + j)) (sym c.from.ensures)
           (subst (λ m. IsKnown (look m) ask.base (ask.index + j)) (sym known) (can.base_known j low))),

@@ -25,7 +25,7 @@ returns-in-None g c =
     no_number c.self.inside.torrent.now ts c.self.invariant.0 c.self.inside.roots c.self.invariant.1 c.args.ask.now.root (sym c.number.ensures ∙ c.in-None.is) in
     let unknown : IsHashRefused c.args.self.now c.args.ask.now [] UnknownRoot =
     subst (λ (v : SessionSeen). IsHashRefused v c.args.ask.now [] UnknownRoot) c.self.view_is
-    (unknown_in c.self.inside.torrent.now ts c.self.invariant.0 c.args.ask.now [] none) in (
+    (unknown_in c.self.inside.torrent.now ts c.self.invariant.0 c.self.inside.asks c.args.ask.now [] none) in (
       λ e. absurd (false≢true e),
       λ answered. absurd (unknown answered.0.number answered.0.tree answered.0.is_tree.tree_is answered.0.has_root),
     )
@@ -40,10 +40,10 @@ returns-in-Some g c =
     let root : a.root ≡ c.args.ask.now.root = (some_number c.self.inside.torrent.now ts c.self.invariant.0 c.self.inside.roots c.self.invariant.1 c.args.ask.now.root n (sym c.number.ensures ∙ c.in-Some.is)).1 a at in
     let back : IsAnswered c.args.self.now c.args.ask.now → CanAnswer (tree_height a.length) (look a.state.known) c.args.ask.now =
     subst (λ (v : SessionSeen). IsAnswered v c.args.ask.now → CanAnswer (tree_height a.length) (look a.state.known) c.args.ask.now) c.self.view_is
-    (answered_in c.self.inside.torrent.now ts c.self.invariant.0 c.sound.ensures n a c.args.ask.now at root) in
+    (answered_in c.self.inside.torrent.now ts c.self.invariant.0 c.sound.ensures c.self.inside.asks n a c.args.ask.now at root) in
     let forth : CanAnswer (tree_height a.length) (look a.state.known) c.args.ask.now → IsAnswered c.args.self.now c.args.ask.now =
     subst (λ (v : SessionSeen). CanAnswer (tree_height a.length) (look a.state.known) c.args.ask.now → IsAnswered v c.args.ask.now) c.self.view_is
-    (asked_in c.self.inside.torrent.now ts c.self.invariant.0 n a c.args.ask.now at root) in (
+    (asked_in c.self.inside.torrent.now ts c.self.invariant.0 c.self.inside.asks n a c.args.ask.now at root) in (
       λ e. forth (c.can_answer.ensures.0 e),
       λ answered. c.can_answer.ensures.1 (back answered),
     )

@@ -40,7 +40,7 @@ returns-in-None-clause-refused g c =
     let none : (n : ℕ) (k : KeptTree) → slice_get ts n ≡ Some k → k.root ≢ c.args.ask.now.root =
     no_number c.self.inside.torrent.now ts c.self.invariant.0 c.self.inside.roots c.self.invariant.1 c.args.ask.now.root (sym c.number.ensures ∙ c.in-None.is) in (
       subst (λ (v : SessionSeen). IsHashRefused v c.args.ask.now c.args.hashes.now UnknownRoot) c.self.view_is
-          (unknown_in c.self.inside.torrent.now ts c.self.invariant.0 c.args.ask.now c.args.hashes.now none),
+          (unknown_in c.self.inside.torrent.now ts c.self.invariant.0 c.self.inside.asks c.args.ask.now c.args.hashes.now none),
       refl,
     )
 
@@ -52,8 +52,8 @@ returns-in-Some-clause-stored g c =
     let inside : c.in-Some.number < length ts = (some_number c.self.inside.torrent.now ts c.self.invariant.0 c.self.inside.roots c.self.invariant.1 c.args.ask.now.root c.in-Some.number (sym c.number.ensures ∙ c.in-Some.is)).0 in
     let at : slice_get ts c.in-Some.number ≡ Some a = found_at ts c.in-Some.number a inside c.index_mut.ensures.value in
     let root : a.root ≡ c.args.ask.now.root = (some_number c.self.inside.torrent.now ts c.self.invariant.0 c.self.inside.roots c.self.invariant.1 c.args.ask.now.root c.in-Some.number (sym c.number.ensures ∙ c.in-Some.is)).1 a at in
-    subst (λ (v : SessionSeen). IfOk c.take.result (λ n. IsStored v c.args.ask.now c.args.hashes.now n (seen c.self.inside.torrent.now (set ts c.in-Some.number b)))) c.self.view_is
-    (stored_all c.self.inside.torrent.now ts c.self.invariant.0 c.in-Some.number a b c.args.ask.now c.args.hashes.now c.take.result at root c.take.ensures.marked c.take.ensures.taken)
+    subst (λ (v : SessionSeen). IfOk c.take.result (λ n. IsStored v c.args.ask.now c.args.hashes.now n (seen c.self.inside.torrent.now c.self.inside.asks (set ts c.in-Some.number b)))) c.self.view_is
+    (stored_all c.self.inside.torrent.now ts c.self.invariant.0 c.self.inside.asks c.in-Some.number a b c.args.ask.now c.args.hashes.now c.take.result at root c.take.ensures.marked c.take.ensures.taken)
 
 pub returns-in-Some-clause-refused : goal.returns-in-Some-clause-refused
 returns-in-Some-clause-refused g c =
@@ -63,5 +63,5 @@ returns-in-Some-clause-refused g c =
     let inside : c.in-Some.number < length ts = (some_number c.self.inside.torrent.now ts c.self.invariant.0 c.self.inside.roots c.self.invariant.1 c.args.ask.now.root c.in-Some.number (sym c.number.ensures ∙ c.in-Some.is)).0 in
     let at : slice_get ts c.in-Some.number ≡ Some a = found_at ts c.in-Some.number a inside c.index_mut.ensures.value in
     let root : a.root ≡ c.args.ask.now.root = (some_number c.self.inside.torrent.now ts c.self.invariant.0 c.self.inside.roots c.self.invariant.1 c.args.ask.now.root c.in-Some.number (sym c.number.ensures ∙ c.in-Some.is)).1 a at in
-    subst (λ (v : SessionSeen). IfErr c.take.result (λ r. IsHashRefused v c.args.ask.now c.args.hashes.now r × (seen c.self.inside.torrent.now (set ts c.in-Some.number b) ≡ v))) c.self.view_is
-    (refused_all c.self.inside.torrent.now ts c.self.invariant.0 c.in-Some.number a b c.args.ask.now c.args.hashes.now c.take.result at root c.take.ensures.marked c.take.ensures.refused)
+    subst (λ (v : SessionSeen). IfErr c.take.result (λ r. IsHashRefused v c.args.ask.now c.args.hashes.now r × (seen c.self.inside.torrent.now c.self.inside.asks (set ts c.in-Some.number b) ≡ v))) c.self.view_is
+    (refused_all c.self.inside.torrent.now ts c.self.invariant.0 c.self.inside.asks c.in-Some.number a b c.args.ask.now c.args.hashes.now c.take.result at root c.take.ensures.marked c.take.ensures.refused)

@@ -45,5 +45,5 @@ pub returns : goal.returns
 returns g c =
     let planted : ArePlanted c.args.torrent.now.piece_length c.args.with_layers c.args.torrent.now.trees c.infos.trees.items =
     subst₂ (λ p es. ArePlanted p c.args.with_layers es c.infos.trees.items) c.piece_length-piece_length.ensures c.trees-infos.ensures c.infos.invariant.planted in
-    fresh c.args.torrent.now c.sound.ensures c.trees-infos.result.now c.trees-infos.ensures c.args.with_layers c.infos.trees.items
+    fresh c.args.torrent.now c.sound.ensures c.trees-infos.result.now c.trees-infos.ensures c.args.with_layers c.infos.trees.items c.new.result c.new.ensures
     (kept_all c.args.torrent.now c.sound.ensures c.trees-infos.result.now c.trees-infos.ensures c.args.with_layers c.infos.info-index c.infos.trees.items c.infos-test.false c.infos.invariant.same planted) planted

@@ -25,6 +25,6 @@ returns g c =
     let at : slice_get ts c.args.tree ≡ Some a = found_at ts c.args.tree a (inside_kept d ts c.self.invariant.0 c.args.tree low) c.index.ensures in (
       info_of a,
       a.state,
-      subst (λ (v : SessionSeen). IsTree v c.args.tree (info_of a) a.state) c.self.view_is (tree_at d ts c.self.invariant.0 c.args.tree a at),
+      subst (λ (v : SessionSeen). IsTree v c.args.tree (info_of a) a.state) c.self.view_is (tree_at d ts c.self.invariant.0 c.self.inside.asks c.args.tree a at),
       c.want.ensures,
     )

@@ -1,0 +1,2 @@
+-- Lemmas on the command line.
+mod CommandLine

@@ -1,0 +1,216 @@
+-- Steps of a session that notes what it asks for.
+use Rattle.std.proofs.Common.{◌≡◌, ◌≢◌, ◌⊎◌, ℕ, ◌+◌, ◌<◌, Bool, true, false, not, ◌&&◌, ◌||◌, List, [], ◌∷◌, Option, Some, None, inl, inr, refl, sym, ap, ap₂, ◌∙◌, subst, arith}
+use Rattle.std.specs.Prelude.{slice_get}
+use Rattle.std.specs.Ordering.{eq_by_cmp}
+use Rattle.std.specs.FinSet as set
+use Rattle.std.proofs.lemmas.Bool.{cases_Bool, false≢true, and_parts}
+use Rattle.wire.specs.declared.direction.Direction.TheVariants.{In, Out}
+use Rattle.wire.specs.declared.message.Ask.{Ask}
+use Rattle.wire.specs.declared.message.Message.{Message}
+use Rattle.wire.specs.declared.message.Message.TheVariants as message
+use Rattle.wire.specs.Records.{Directed}
+use Rattle.partial_tree.specs.declared.refusal.HashRefusal.{HashRefusal}
+use Rattle.partial_tree.specs.declared.refusal.HashRefusal.TheVariants.{NoMemory, Unasked}
+use Rattle.partial_tree.specs.declared.refusal.BlockRefusal.{BlockRefusal}
+use Rattle.node_maps.specs.Digest.{Hash}
+use Rattle.node_maps.specs.Places.{tree_height, IsKnown}
+use Rattle.node_maps.specs.Known.{look}
+use Rattle.partial_tree.specs.TreeRoot.{TreeRoot}
+use Rattle.partial_tree.specs.Claims.{claims}
+use Rattle.partial_tree.proofs.Claimed.{first_of_two, second_of_two, there_or_not, base-claims}
+use Rattle.partial_tree.proofs.Powers.{spans-some}
+use Rattle.chains.specs.Chain.{Chain}
+use Rattle.session.specs.declared.verdict.Verdict.{Verdict}
+use Rattle.session.specs.declared.verdict.Verdict.TheVariants as verdict
+use Rattle.session.specs.Asks.{Asks, ask_cmp}
+use Rattle.session.specs.Blocks.{Cut}
+use Rattle.session.specs.Layouts.{roots}
+use Rattle.session.specs.Session.{SessionSeen, TreeState, IsTree, IsGood, IsAsked, IsStored, IsHashRefused, BlockStep, HasDistinctRoots, HasHashes, Step, IsTrueVerdict}
+use Rattle.session.specs.SafeStep.{KeepsKnown, TakesWhatIsTrue}
+use Rattle.session.specs.Noted.{IsOpen, opened, closed, IsAnswerStored, IsAnswerRefused, StepIn, StepOut, NotedStep, IsTrueNotedVerdict, TakesWhatIsTrueAndAsked, IsBaseKnown, OpensOnlyOurs, KeepsOpen, IsSafeNotedStep}
+use Rattle.session.proofs.States.{set-write}
+use Rattle.session.proofs.OpenAsks.{ask_total, same_ask, opened_contains}
+use Rattle.session.proofs.Asking.{asking, tree_asking, good_asking}
+use Rattle.session.proofs.Runs.{Effect, unchanged, stored, taken, effect, Learns, step-good, step-learns, effect-torrent, verdict-true}
+use Rattle.session.proofs.SafeSteps.{safe_step}
+
+-- ---- a step of the trees leaves the open asks
+
+blocks-asks : (file : ℕ) (S : SessionSeen) (cs : List Cut) (rs : List (Option BlockRefusal)) (S' : SessionSeen) → Chain (BlockStep file) S cs rs S' → S'.asks ≡ S.asks
+blocks-asks file S [] [] S' e = ap (λ U. U.asks) e
+blocks-asks file S [] (r ∷ rs) S' e = absurd e
+blocks-asks file S (c ∷ cs) [] S' e = absurd e
+blocks-asks file S (c ∷ cs) (None ∷ rs) S' (M, step, rest) = blocks-asks file M cs rs S' rest ∙ ap (λ U. U.asks) step.state_after
+blocks-asks file S (c ∷ cs) (Some r ∷ rs) S' (M, step, rest) = blocks-asks file M cs rs S' rest ∙ ap (λ U. U.asks) step.1
+
+effect-asks : (S : SessionSeen) (m : Message) (S' : SessionSeen) → Effect S m S' → S'.asks ≡ S.asks
+effect-asks S m S' (unchanged e) = ap (λ U. U.asks) e
+effect-asks S m S' (stored ask hashes c has h) = ap (λ U. U.asks) h.state_after
+effect-asks S m S' (taken index begin bytes v h) = blocks-asks v.file S _ v.refusals S' h.each
+
+pub step-asks : (S : SessionSeen) (m : Message) (v : Verdict) (S' : SessionSeen) → Step S m v S' → S'.asks ≡ S.asks
+step-asks S m v S' step = effect-asks S m S' (effect S m v S' step)
+
+same_asking : (S S' : SessionSeen) → S'.asks ≡ S.asks → S' ≡ asking S.asks S'
+same_asking S S' e = λ i. record S' { asks = e i }
+
+-- ---- a noted step is a step of the trees, unless nobody asked
+
+pub answer-stored : (S : SessionSeen) (ask : Ask) (hashes : List Hash) (c : ℕ) (S' : SessionSeen) → IsAnswerStored S ask hashes c S' → IsStored S ask hashes c (asking S.asks S')
+answer-stored S ask hashes c S' h = record {
+  asked = h.stored.asked;
+  accepted = h.stored.accepted;
+  after = h.stored.after;
+  known_after = h.stored.known_after;
+  marks_stay = h.stored.marks_stay;
+  gained = h.stored.gained;
+  state_after = ap (asking S.asks) (h.state_after ∙ ap (λ U. closed U ask) h.stored.state_after);
+}
+
+pub answer-refused : (S : SessionSeen) (ask : Ask) (hashes : List Hash) (r : HashRefusal) → IsOpen S ask → IsAnswerRefused S ask hashes r → IsHashRefused S ask hashes r
+answer-refused S ask hashes Unasked was h = absurd (h was)
+answer-refused S ask hashes r was h = h.1
+
+-- an answer to an open ask is a step
+pub in_hashes : (S : SessionSeen) (ask : Ask) (hashes : _) (v : Verdict) (S' : SessionSeen) → IsOpen S ask → StepIn S (message.Hashes ask hashes) v S'
+    → Step S (message.Hashes ask hashes) v (asking S.asks S')
+in_hashes S ask hashes (verdict.Stored c) S' was h = answer-stored S ask hashes.now c S' h
+in_hashes S ask hashes (verdict.HashRefused r) S' was h = (answer-refused S ask hashes.now r was h.0, ap (asking S.asks) h.1)
+in_hashes S ask hashes v S' was h = absurd h
+
+pub in_effect : (S : SessionSeen) (m : Message) (v : Verdict) (S' : SessionSeen) → StepIn S m v S' → Effect S m (asking S.asks S')
+in_effect S (message.Hashes ask hashes) (verdict.Stored c) S' h = stored ask hashes.now c (λ x. x) (answer-stored S ask hashes.now c S' h)
+in_effect S (message.Hashes ask hashes) (verdict.HashRefused r) S' h = unchanged (ap (asking S.asks) h.1)
+in_effect S (message.Hashes ask hashes) v S' h = absurd h
+in_effect S m v S' h = subst (Effect S m) (same_asking S S' (step-asks S m v S' h)) (effect S m v S' h)
+
+out_effect : (S : SessionSeen) (m : Message) (v : Verdict) (S' : SessionSeen) → StepOut S m v S' → asking S.asks S' ≡ S
+out_effect S (message.Request ask) verdict.Noted S' h = ap (asking S.asks) h
+out_effect S (message.Request ask) (verdict.HashRefused NoMemory) S' h = ap (asking S.asks) h.1
+out_effect S (message.Request ask) v S' h = absurd h
+out_effect S m verdict.Sent S' h = ap (asking S.asks) h
+out_effect S m v S' h = absurd h
+
+pub noted_effect : (S : SessionSeen) (x : Directed Message) (v : Verdict) (S' : SessionSeen) → NotedStep S x v S' → Effect S x.1 (asking S.asks S')
+noted_effect S (In, m) v S' h = in_effect S m v S' h
+noted_effect S (Out, m) v S' h = unchanged (out_effect S m v S' h)
+
+-- ---- so it keeps the trees closed, and what is known
+
+pub noted-learns : (S : SessionSeen) (x : Directed Message) (v : Verdict) (S' : SessionSeen) → NotedStep S x v S' → (n : ℕ) (tree : TreeRoot) (s : TreeState) → IsTree S n tree s → Learns S S' n tree s
+noted-learns S x v S' step n tree s at =
+    let a : Learns S (asking S.asks S') n tree s = step-learns S x.1 (asking S.asks S') (noted_effect S x v S' step) n tree s at in
+    record { later = a.later; later_is = tree_asking S'.asks (asking S.asks S') n tree a.later a.later_is; keeps = a.keeps }
+
+pub noted-good : (S : SessionSeen) (x : Directed Message) (v : Verdict) (S' : SessionSeen) → IsGood S → HasHashes x.1 → NotedStep S x v S' → IsGood S'
+noted-good S x v S' good all step = good_asking S'.asks (asking S.asks S') (step-good S x.1 (asking S.asks S') good all (noted_effect S x v S' step))
+
+pub noted-torrent : (S : SessionSeen) (x : Directed Message) (v : Verdict) (S' : SessionSeen) → NotedStep S x v S' → S'.torrent ≡ S.torrent
+noted-torrent S x v S' step = effect-torrent S x.1 (asking S.asks S') (noted_effect S x v S' step)
+
+pub learns-keeps : (S S' : SessionSeen) → ((n : ℕ) (tree : TreeRoot) (s : TreeState) → IsTree S n tree s → Learns S S' n tree s) → KeepsKnown S S'
+learns-keeps S S' learns n tree s at = let a : Learns S S' n tree s = learns n tree s at in (a.later, a.later_is, a.keeps)
+
+-- ---- what a verdict promises
+
+noted-true : (S : SessionSeen) (x : Directed Message) (v : Verdict) (S' : SessionSeen) → IsGood S → NotedStep S x v S' → IsTrueNotedVerdict S x v
+noted-true S (In, message.Piece index begin bytes) v S' good h = verdict-true S (message.Piece index begin bytes) v S' good h
+noted-true S (In, m) v S' good h = tt
+noted-true S (Out, m) v S' good h = tt
+
+noted-takes : (S : SessionSeen) (x : Directed Message) (v : Verdict) (S' : SessionSeen) → IsGood S → HasDistinctRoots S → NotedStep S x v S' → TakesWhatIsTrueAndAsked S x v
+noted-takes S (In, message.Hashes ask hashes) v S' good distinct h = λ was.
+    (safe_step S good distinct (message.Hashes ask hashes) v (asking S.asks S') (in_hashes S ask hashes v S' was h)).takes_what_is_true
+noted-takes S (In, m) v S' good distinct h = (safe_step S good distinct m v S' h).takes_what_is_true
+noted-takes S (Out, m) v S' good distinct h = tt
+
+-- ---- open asks
+
+same_open : (S S' : SessionSeen) (ask : Ask) → S'.asks ≡ S.asks → IsOpen S ask → IsOpen S' ask
+same_open S S' ask e was = ap (λ (o : Asks). set.contains o ask) e ∙ was
+
+stored-asks : (S : SessionSeen) (ask : Ask) (hashes : List Hash) (c : ℕ) (S' : SessionSeen) → IsAnswerStored S ask hashes c S' → S'.asks ≡ set.remove S.asks ask
+stored-asks S ask hashes c S' h = ap (λ U. U.asks) (h.state_after ∙ ap (λ U. closed U ask) h.stored.state_after)
+
+noted-opens : (S : SessionSeen) (x : Directed Message) (v : Verdict) (S' : SessionSeen) → NotedStep S x v S' → OpensOnlyOurs S x S'
+noted-opens S (In, message.Hashes other hashes) (verdict.Stored c) S' h = λ ask now.
+    let is = sym (set.contains-remove ask_total S.asks other ask) ∙ ap (λ (o : Asks). set.contains o ask) (sym (stored-asks S other hashes.now c S' h)) ∙ now in
+    (and_parts (not (eq_by_cmp ask_cmp ask other)) (set.contains S.asks ask) is).1
+noted-opens S (In, message.Hashes other hashes) (verdict.HashRefused r) S' h = λ ask now. same_open S' S ask (ap (λ U. U.asks) (sym h.1)) now
+noted-opens S (In, message.Hashes other hashes) v S' h = absurd h
+noted-opens S (In, m) v S' h = λ ask now. same_open S' S ask (sym (step-asks S m v S' h)) now
+noted-opens S (Out, m) v S' h = tt
+
+-- stored hashes make their base range known
+stored_base : (S : SessionSeen) (ask : Ask) (hashes : List Hash) (c : ℕ) (S' : SessionSeen) → IsStored S ask hashes c S' → IsBaseKnown S' ask
+stored_base S ask hashes c S' h =
+    let at : IsTree S' h.asked.number h.asked.tree h.after = record {
+      tree_is = ap (λ U. slice_get (roots U) h.asked.number) h.state_after ∙ h.asked.is_tree.tree_is;
+      state_is = ap (λ U. slice_get U.trees h.asked.number) h.state_after ∙ set-write S.trees h.asked.number h.after h.asked.state h.asked.is_tree.state_is;
+    } in
+    record {
+      asked = record { number = h.asked.number; tree = h.asked.tree; state = h.after; is_tree = at; has_root = h.asked.has_root };
+      known = λ j low.
+          let ok = h.accepted in
+          let claim = base-claims ask hashes (spans-some (tree_height h.asked.tree.length) ask ok.range) ok.range.power_of_two ok.range.aligned ok.count.enough (ask.index + j) (omega arith) (omega arith) in
+          elim (there_or_not (look h.asked.state.known ask.base (ask.index + j))) [
+            | inl (v, known) ↦ (v, h.known_after ask.base (ask.index + j) ∙ first_of_two (look h.asked.state.known ask.base (ask.index + j)) _ v known)
+            | inr none ↦ (claim.0, h.known_after ask.base (ask.index + j) ∙ second_of_two (look h.asked.state.known ask.base (ask.index + j)) _ none ∙ claim.1)
+          ];
+    }
+
+-- what is known stays known
+pub base_later : (S S' : SessionSeen) (ask : Ask) → KeepsKnown S S' → IsBaseKnown S ask → IsBaseKnown S' ask
+base_later S S' ask keeps b =
+    let (later, later_is, same) = keeps b.asked.number b.asked.tree b.asked.state b.asked.is_tree in
+    record {
+      asked = record { number = b.asked.number; tree = b.asked.tree; state = later; is_tree = later_is; has_root = b.asked.has_root };
+      known = λ j low. let (v, e) = b.known j low in (v, same ask.base (ask.index + j) v e);
+    }
+
+base_asking : (o : Asks) (S : SessionSeen) (ask : Ask) → IsBaseKnown S ask → IsBaseKnown (asking o S) ask
+base_asking o S ask b = record {
+  asked = record { number = b.asked.number; tree = b.asked.tree; state = b.asked.state; is_tree = tree_asking o S b.asked.number b.asked.tree b.asked.state b.asked.is_tree; has_root = b.asked.has_root };
+  known = b.known;
+}
+
+in-open : (S : SessionSeen) (m : Message) (v : Verdict) (S' : SessionSeen) → StepIn S m v S' → KeepsOpen S S'
+in-open S (message.Hashes other hashes) (verdict.Stored c) S' h = λ ask was. elim (cases_Bool (eq_by_cmp ask_cmp ask other)) [
+  | inl same ↦
+      inr (subst (IsBaseKnown S') (sym (same_ask ask other same))
+      (base_asking S'.asks (asking S.asks S') other (stored_base S other hashes.now c (asking S.asks S') (answer-stored S other hashes.now c S' h))))
+  | inr differ ↦
+      inl (ap (λ (o : Asks). set.contains o ask) (stored-asks S other hashes.now c S' h) ∙ set.contains-remove ask_total S.asks other ask
+      ∙ ap₂ (λ p q. not p && q) differ was)
+]
+in-open S (message.Hashes other hashes) (verdict.HashRefused r) S' h = λ ask was. inl (same_open S S' ask (ap (λ U. U.asks) h.1) was)
+in-open S (message.Hashes other hashes) v S' h = absurd h
+in-open S m v S' h = λ ask was. inl (same_open S S' ask (step-asks S m v S' h) was)
+
+or-true : (b : Bool) → (b || true) ≡ true
+or-true true = refl
+or-true false = refl
+
+out-open : (S : SessionSeen) (m : Message) (v : Verdict) (S' : SessionSeen) → StepOut S m v S' → (ask : Ask) → IsOpen S ask → IsOpen S' ask
+out-open S (message.Request other) verdict.Noted S' h ask was =
+    ap (λ U. set.contains U.asks ask) h ∙ set.contains-insert ask_total S.asks other ask ∙ ap (λ b. eq_by_cmp ask_cmp ask other || b) was ∙ or-true (eq_by_cmp ask_cmp ask other)
+out-open S (message.Request other) (verdict.HashRefused NoMemory) S' h ask was = same_open S S' ask (ap (λ U. U.asks) h.1) was
+out-open S (message.Request other) v S' h ask was = absurd h
+out-open S m verdict.Sent S' h ask was = same_open S S' ask (ap (λ U. U.asks) h) was
+out-open S m v S' h ask was = absurd h
+
+pub noted-open : (S : SessionSeen) (x : Directed Message) (v : Verdict) (S' : SessionSeen) → NotedStep S x v S' → KeepsOpen S S'
+noted-open S (In, m) v S' h = in-open S m v S' h
+noted-open S (Out, m) v S' h = λ ask was. inl (out-open S m v S' h ask was)
+
+-- ---- all of it
+
+pub safe_noted_step : (S : SessionSeen) → IsGood S → HasDistinctRoots S → (x : Directed Message) (v : Verdict) (S' : SessionSeen) → NotedStep S x v S' → IsSafeNotedStep S x v S'
+safe_noted_step S good distinct x v S' step = record {
+  allowed = step;
+  verified_is_the_block = noted-true S x v S' good step;
+  keeps_known = learns-keeps S S' (noted-learns S x v S' step);
+  takes_what_is_true = noted-takes S x v S' good distinct step;
+  opens_only_ours = noted-opens S x v S' step;
+  keeps_open = noted-open S x v S' step;
+}

@@ -1,0 +1,105 @@
+-- A session that notes what it asks for, and takes hashes only in answer to an open ask (BEP 52,
+-- "hash request" and "hashes").
+use Rattle.std.specs.Prelude.{◌≡◌, ◌⊎◌, ℕ, ◌+◌, ◌<◌, true, List}
+use Rattle.std.specs.FinSet as finite
+use Rattle.wire.specs.declared.direction.Direction.TheVariants.{In, Out}
+use Rattle.wire.specs.declared.message.Ask.{Ask}
+use Rattle.wire.specs.declared.message.Message.{Message}
+use Rattle.wire.specs.declared.message.Message.TheVariants as message
+use Rattle.wire.specs.Records.{Directed}
+use Rattle.partial_tree.specs.declared.refusal.HashRefusal.{HashRefusal}
+use Rattle.partial_tree.specs.declared.refusal.HashRefusal.TheVariants.{NoMemory, Unasked}
+use Rattle.node_maps.specs.Digest.{Hash}
+use Rattle.node_maps.specs.Places.{IsKnown}
+use Rattle.node_maps.specs.Known.{look}
+use Rattle.session.specs.declared.verdict.Verdict.{Verdict}
+use Rattle.session.specs.declared.verdict.Verdict.TheVariants as verdict
+use Rattle.session.specs.Session.{SessionSeen, IsAsked, IsStored, IsHashRefused, Step, IsTrueVerdict}
+use Rattle.session.specs.SafeStep.{KeepsKnown, TakesWhatIsTrue}
+
+-- a request of our own for this went out, and no hashes have answered it yet
+abbrev pub IsOpen : SessionSeen → Ask → Type 0
+IsOpen S ask = finite.contains S.asks ask ≡ true
+
+-- the same trees, and this ask is open
+abbrev pub opened : SessionSeen → Ask → SessionSeen
+opened S ask = record S { asks = finite.insert S.asks ask }
+
+-- the same trees, and this ask is closed
+abbrev pub closed : SessionSeen → Ask → SessionSeen
+closed S ask = record S { asks = finite.remove S.asks ask }
+
+-- the hashes answer an open ask: what they claim is joined to its tree, with c more places, and the
+-- ask is closed
+pub record IsAnswerStored (S : SessionSeen) (ask : Ask) (hashes : List Hash) (c : ℕ)
+    (S' : SessionSeen) : Type 0 where
+  pub was_open : IsOpen S ask
+  pub joined : SessionSeen
+  pub stored : IsStored S ask hashes c joined
+  pub state_after : S' ≡ closed joined ask
+
+-- nobody asked for the hashes; or somebody did, and r is why they are refused
+abbrev pub IsAnswerRefused : SessionSeen → Ask → List Hash → HashRefusal → Type 0
+IsAnswerRefused S ask hashes Unasked = ¬ IsOpen S ask
+IsAnswerRefused S ask hashes r = IsOpen S ask × IsHashRefused S ask hashes r
+
+-- a message that came in: hashes are taken if their ask is open; all else is a step
+abbrev pub StepIn : SessionSeen → Message → Verdict → SessionSeen → Type 0
+StepIn S (message.Hashes ask hashes) (verdict.Stored c) S' =
+    IsAnswerStored S ask hashes.now c S'
+StepIn S (message.Hashes ask hashes) (verdict.HashRefused r) S' =
+    IsAnswerRefused S ask hashes.now r × (S' ≡ S)
+StepIn S m v S' = Step S m v S'
+
+-- a message that went out: the ask of a request is open from then on, unless it was not and memory
+-- is refused for it
+abbrev pub StepOut : SessionSeen → Message → Verdict → SessionSeen → Type 0
+StepOut S (message.Request ask) verdict.Noted S' = S' ≡ opened S ask
+StepOut S (message.Request ask) (verdict.HashRefused NoMemory) S' = ¬ IsOpen S ask × (S' ≡ S)
+StepOut S (message.Request ask) v S' = ⊥
+StepOut S m verdict.Sent S' = S' ≡ S
+StepOut S m v S' = ⊥
+
+-- from the state S the message, which came in or went out, may get the verdict v and leave S'
+abbrev pub NotedStep : SessionSeen → Directed Message → Verdict → SessionSeen → Type 0
+NotedStep S (In, m) v S' = StepIn S m v S'
+NotedStep S (Out, m) v S' = StepOut S m v S'
+
+-- ---- what each step keeps
+
+-- what a verdict on what came in promises
+abbrev pub IsTrueNotedVerdict : SessionSeen → Directed Message → Verdict → Type 0
+IsTrueNotedVerdict S (In, m) v = IsTrueVerdict S m v
+IsTrueNotedVerdict S (Out, m) v = Unit {0}
+
+-- what is true is taken if it came in; hashes, if their ask is open
+abbrev pub TakesWhatIsTrueAndAsked : SessionSeen → Directed Message → Verdict → Type 0
+TakesWhatIsTrueAndAsked S (In, message.Hashes ask hashes) v =
+    IsOpen S ask → TakesWhatIsTrue S (message.Hashes ask hashes) v
+TakesWhatIsTrueAndAsked S (In, m) v = TakesWhatIsTrue S m v
+TakesWhatIsTrueAndAsked S (Out, m) v = Unit {0}
+
+-- the hashes that are asked for are known, so far as the base range goes
+pub record IsBaseKnown (S : SessionSeen) (ask : Ask) : Type 0 where
+  pub asked : IsAsked S ask
+  pub known : (j : ℕ) → j < ask.length → IsKnown (look asked.state.known) ask.base (ask.index + j)
+
+-- no ask is opened by what came in
+abbrev pub OpensOnlyOurs : SessionSeen → Directed Message → SessionSeen → Type 0
+OpensOnlyOurs S (In, m) S' = (ask : Ask) → IsOpen S' ask → IsOpen S ask
+OpensOnlyOurs S (Out, m) S' = Unit {0}
+
+-- an open ask stays open until its base range is known
+abbrev pub KeepsOpen : SessionSeen → SessionSeen → Type 0
+KeepsOpen S S' = (ask : Ask) → IsOpen S ask → IsOpen S' ask ⊎ IsBaseKnown S' ask
+
+-- a step that is allowed, verifies nothing but the block itself, is not harmed by poison, and lets
+-- nobody else open an ask, or close it without its answer
+pub record IsSafeNotedStep (S : SessionSeen) (x : Directed Message) (v : Verdict)
+    (S' : SessionSeen) : Type 0 where
+  pub allowed : NotedStep S x v S'
+  pub verified_is_the_block : IsTrueNotedVerdict S x v
+  pub keeps_known : KeepsKnown S S'
+  pub takes_what_is_true : TakesWhatIsTrueAndAsked S x v
+  pub opens_only_ours : OpensOnlyOurs S x S'
+  pub keeps_open : KeepsOpen S S'

@@ -1,0 +1,68 @@
+-- Rounds of a session that notes what it asks for: messages that end with the true answer to what
+-- was wanted before them, and noted before that answer.
+use Rattle.std.specs.Prelude.{◌≡◌, ◌⊎◌, ℕ, ◌<◌, List, [], ◌∷◌, ◌++◌, Some, slice_get}
+use Rattle.std.specs.Borrow.{Bor}
+use Rattle.std.proofs.Common.{inl, inr}
+use Rattle.wire.specs.declared.direction.Direction.TheVariants.{In, Out}
+use Rattle.wire.specs.declared.message.Ask.{Ask}
+use Rattle.wire.specs.declared.message.Message.{Message}
+use Rattle.wire.specs.declared.message.Message.TheVariants as message
+use Rattle.wire.specs.Records.{Directed}
+use Rattle.partial_tree.specs.declared.refusal.HashRefusal.TheVariants.{NoMemory}
+use Rattle.session.specs.declared.verdict.Verdict.{Verdict}
+use Rattle.session.specs.declared.verdict.Verdict.TheVariants as verdict
+use Rattle.node_maps.specs.Digest.{Hash}
+use Rattle.hashtree.specs.Tree.{block_count}
+use Rattle.partial_tree.specs.TreeRoot.{TreeRoot, Fits}
+use Rattle.node_maps.specs.Places.{tree_height}
+use Rattle.partial_tree.specs.Closed.{whole}
+use Rattle.partial_tree.specs.Claims.{answer_of}
+use Rattle.partial_tree.specs.Gaps.{want_of}
+use Rattle.node_maps.specs.Known.{look}
+use Rattle.session.specs.Session.{SessionSeen, TreeState, IsTree, HasFewerGaps, HasHashes}
+use Rattle.session.specs.Rounds.{LacksMemoryAtLast, Collides}
+use Rattle.session.specs.Noted.{IsOpen}
+
+-- the hashes of a message have 32 bytes each, in either direction
+abbrev pub HasDirectedHashes : Directed Message → Type 0
+HasDirectedHashes x = HasHashes x.1
+
+-- message k is our own request for this
+abbrev pub IsAskedAt : List (Directed Message) → Ask → ℕ → Type 0
+IsAskedAt ms ask k = slice_get ms k ≡ Some (Out, message.Request ask)
+
+-- the ask is open before the first message, or one of them is our request for it
+abbrev pub IsAskedFor : SessionSeen → List (Directed Message) → Ask → Type 0
+IsAskedFor S ms ask = IsOpen S ask ⊎ ((k : ℕ) × IsAskedAt ms ask k)
+
+-- messages that end with the true answer for f to an ask that was wanted of tree n before the
+-- first, and that was noted before the answer
+pub record IsNotedRound (S : SessionSeen) (n : ℕ) (f : List ℕ) (ms : List (Directed Message))
+    : Type 0 where
+  pub tree : TreeRoot
+  pub state : TreeState
+  pub is_tree : IsTree S n tree state
+  pub fits : Fits f tree
+  pub block : ℕ
+  pub inside : block < block_count tree.length
+  pub ask : Ask
+  pub wanted : want_of tree (look state.known) block ≡ Some ask
+  pub before : List (Directed Message)
+  pub answer : Bor (List Hash)
+  pub is_answer : answer.now ≡ answer_of (tree_height tree.length) (whole f) ask
+  pub ends : ms ≡ before ++ (In, message.Hashes ask answer) ∷ []
+  pub noted : IsAskedFor S before ask
+
+-- memory was refused for noting the request
+abbrev pub LacksMemoryToNote : (S : SessionSeen) (ms : List (Directed Message)) (ask : Ask)
+    → IsAskedFor S ms ask → List Verdict → Type 0
+LacksMemoryToNote S ms ask (inl was_open) vs = ⊥
+LacksMemoryToNote S ms ask (inr (k, at)) vs = slice_get vs k ≡ Some (verdict.HashRefused NoMemory)
+
+-- if the messages are a round, the gaps are fewer than before it, or memory was refused for its
+-- answer or for noting its request, or a collision is named
+abbrev pub NotedRoundLeavesFewer : SessionSeen → List (Directed Message) → List Verdict
+    → SessionSeen → Type 0
+NotedRoundLeavesFewer S ms vs S' = (n : ℕ) (f : List ℕ) (round : IsNotedRound S n f ms)
+    → HasFewerGaps S' n round.tree (look round.state.known) ⊎ (LacksMemoryAtLast vs
+    ⊎ (LacksMemoryToNote S round.before round.ask round.noted vs ⊎ Collides S' n f))
