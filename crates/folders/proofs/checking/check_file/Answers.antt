@@ -1,6 +1,6 @@
 use Rattle.std.proofs.Common.{◌≡◌, ◌∙◌, ap, sym, subst, map, Some, None}
 use Rattle.metainfo.specs.Seen.{file_entry}
-use Rattle.folders.specs.Pass.{Finds}
+use Rattle.folders.specs.Pass.{FindsVerdict}
 use Rattle.folders.specs.Shelf.{IsFound}
 use Rattle.folders.specs.Verdicts.{is_whole}
 use Rattle.folders.proofs.Visiting.{finds_missing, finds_read, finds_unreadable, never_broken, never_whole}
@@ -25,8 +25,8 @@ returns-then-not-is_whole-clause-found g c =
           (λ _. c.stop.ensures)
       | in-Ok-None w ↦
           let there : IsFound told None = subst (λ p. IsFound (g.S.Shelf.under c.args.shelf.now p) None) (ap (map (λ s. s.now)) c.deref.ensures.0 ∙ c.parts.ensures) (rw w.in-Ok-None.field-0-is at w.in-Ok-None.ensures.found) in
-          subst (Finds t f told old end) (sym w.verdict-is) (finds_missing t f told old end there c.stop.ensures)
-      | in-Err w ↦ subst (Finds t f told old end) (sym w.verdict-is) (finds_unreadable t f told old end c.stop.ensures)
+          subst (FindsVerdict t f told old end) (sym w.verdict-is) (finds_missing t f told old end there c.stop.ensures)
+      | in-Err w ↦ subst (FindsVerdict t f told old end) (sym w.verdict-is) (finds_unreadable t f told old end c.stop.ensures)
     ]
 
 pub returns-else-not-is_whole-clause-found : goal.returns-else-not-is_whole-clause-found
@@ -46,8 +46,8 @@ returns-else-not-is_whole-clause-found g c =
           (never_broken c.match-open.verdict c.is_whole.result end None c.is_whole.ensures c.if-not-is_whole.false)
       | in-Ok-None w ↦
           let there : IsFound told None = subst (λ p. IsFound (g.S.Shelf.under c.args.shelf.now p) None) (ap (map (λ s. s.now)) c.deref.ensures.0 ∙ c.parts.ensures) (rw w.in-Ok-None.field-0-is at w.in-Ok-None.ensures.found) in
-          subst (Finds t f told old end) (sym w.verdict-is)
+          subst (FindsVerdict t f told old end) (sym w.verdict-is)
           (finds_missing t f told old end there (never_broken c.match-open.verdict c.is_whole.result end None c.is_whole.ensures c.if-not-is_whole.false (ap is_whole w.verdict-is)))
-      | in-Err w ↦ subst (Finds t f told old end) (sym w.verdict-is)
+      | in-Err w ↦ subst (FindsVerdict t f told old end) (sym w.verdict-is)
           (finds_unreadable t f told old end (never_broken c.match-open.verdict c.is_whole.result end None c.is_whole.ensures c.if-not-is_whole.false (ap is_whole w.verdict-is)))
     ]
