@@ -1,6 +1,7 @@
 //! What `btcheck` does and prints, over devices that a caller gives.
 #![tactic(auto)]
 
+pub use conversions::{ConvertFault, convert};
 pub use folders::{
     FileVerdict, MemFile, MemShelf, NoMemory, Report, RootFault, Shelf, ShelfFault, V1Verdict,
     check, print_report, root_line,

@@ -30,13 +30,13 @@ size_is n e =
     (leb-true 49 n a.0, leb-true n max_body b.0, eqb-true ((n - 49) % 32) 0 b.1)
 
 -- the body begins with this id, and has a right size
-hashes_are : (body : List ℕ) → is_hashes body ≡ true → ((rest : List ℕ) × (body ≡ 22 ∷ rest)) × IsHashesSize (length body)
+pub hashes_are : (body : List ℕ) → is_hashes body ≡ true → ((rest : List ℕ) × (body ≡ 22 ∷ rest)) × IsHashesSize (length body)
 hashes_are [] e = absurd (false≢true e)
 hashes_are (id ∷ rest) e =
     let both = and_parts (eqb id 22) (is_hashes_size (length (id ∷ rest))) e in
     ((rest, ap (λ i. i ∷ rest) (eqb-true id 22 both.0)), size_is (length (id ∷ rest)) both.1)
 
-hashes_told : (body rest : List ℕ) → body ≡ 22 ∷ rest → IsHashesSize (length body) → is_hashes body ≡ true
+pub hashes_told : (body rest : List ℕ) → body ≡ 22 ∷ rest → IsHashesSize (length body) → is_hashes body ≡ true
 hashes_told body rest is size =
     ap is_hashes is ∙ and_from (eqb 22 22) _ (eq-eqb 22 22 refl) (ap is_hashes_size (ap length (sym is)) ∙ size_told (length body) size)
 

@@ -1,7 +1,7 @@
 //! What is remembered of a frame beside the bytes that are kept.
-ghost use Rattle.std.specs.Prelude.{ℕ, List};
+ghost use Rattle.std.specs.Prelude.{◌≡◌, ◌↔◌, ℕ, List, IsTrue};
 ghost use Rattle.wire.specs.Head.{Holds, IsHead};
-ghost use Rattle.wire.specs.Meaning.{Means};
+ghost use Rattle.wire.specs.Meaning.{IsHashesSize, Means};
 
 use crate::frame::Frame;
 use crate::kind::Kind;
@@ -47,6 +47,13 @@ impl Head {
             Some(_) => Head::BadSize { id, len },
         }
     }
+}
+
+/// Whether a body with this id and this length is a hashes message of right size (BEP 52).
+pub fn is_hashes(id: u8, len: u32) -> bool
+    ensures { IsTrue result ↔ ((id ≡ 22) × IsHashesSize len) }
+{
+    id == Kind::Hashes.id() && Kind::Hashes.takes(len)
 }
 
 /// The frame of a head, out of the bytes that are kept of its body after the id.

@@ -24,7 +24,9 @@ pub use benc::WriteFault;
 pub use direction::Direction;
 pub use fault::FrameFault;
 pub use frame::Frame;
+pub use head::is_hashes;
 pub use message::{Ask, Hash, Message};
+pub use number::number_at;
 pub use reader::FrameReader;
 pub use record_reader::RecordReader;
 /// What `reserve` answers if memory was refused.

@@ -4,8 +4,8 @@ ghost use Rattle.wire.specs.Frames.{four_bytes};
 
 use byteorder::{BigEndian, ByteOrder};
 
-/// The number of the first four bytes.
-pub(crate) fn number_at(bytes: &[u8]) -> u32
+/// The number of the first four bytes, big-endian.
+pub fn number_at(bytes: &[u8]) -> u32
     requires { 4 ≤ length bytes.now }
     ensures { four_bytes result ≡ take 4 bytes.now }
 {

@@ -1,0 +1,37 @@
+-- The text on its way out.
+use Rattle.std.proofs.Common.{◌≡◌, ℕ, List, [], ◌∷◌, ◌++◌, Result, Err, refl, sym, ap, ◌∙◌, subst}
+use Rattle.std.proofs.lemmas.List.{append_assoc, append-nil}
+use Rattle.benc.specs.Device.{SinkSeen, Broke, Sent}
+use Rattle.benc.proofs.Out.{Sent-append, Wrote-then, Wrote-part}
+use Rattle.conversions.specs.Steps.{Held}
+
+abbrev failed : Result ℕ ℕ
+failed = Err 0
+
+pub broke_more : (a b : SinkSeen) (xs ys : List ℕ) → Broke a b xs → Broke a b (xs ++ ys)
+broke_more a b xs ys p = Wrote-part failed 0 a b xs ys (xs ++ ys) refl refl p
+
+pub broke_after : (a b c : SinkSeen) (xs ys : List ℕ) → Sent a b xs → Broke b c ys → Broke a c (xs ++ ys)
+broke_after a b c xs ys p q = Wrote-then failed a b c xs ys (xs ++ ys) refl p q
+
+pub held_more : (start now : SinkSeen) (gathered text bytes : List ℕ) → Held start now gathered text → Held start now (gathered ++ bytes) (text ++ bytes)
+held_more start now gathered text bytes h = record { sent = h.sent; out = h.out; text_is = ap (λ t. t ++ bytes) h.text_is ∙ append_assoc h.sent gathered bytes }
+
+pub held_sent : (start mid now : SinkSeen) (gathered text : List ℕ) → Held start mid gathered text → Sent mid now gathered → Held start now [] text
+held_sent start mid now gathered text h p = record { sent = h.sent ++ gathered; out = Sent-append start mid now h.sent gathered h.out p; text_is = h.text_is ∙ sym (append-nil (h.sent ++ gathered)) }
+
+pub held_broke : (start mid now : SinkSeen) (gathered text : List ℕ) → Held start mid gathered text → Broke mid now gathered → Broke start now text
+held_broke start mid now gathered text h p = subst (Broke start now) (sym h.text_is) (broke_after start mid now h.sent gathered h.out p)
+
+pub sent_held : (start now : SinkSeen) (gathered text : List ℕ) → gathered ≡ [] → Sent start now text → Held start now gathered text
+sent_held start now gathered text none p = record { sent = text; out = p; text_is = sym (append-nil text) ∙ ap (λ t. text ++ t) (sym none) }
+
+pub held_is_sent : (start now : SinkSeen) (gathered text : List ℕ) → gathered ≡ [] → Held start now gathered text → Sent start now text
+held_is_sent start now gathered text none h = subst (Sent start now) (sym (h.text_is ∙ ap (λ t. h.sent ++ t) none ∙ append-nil h.sent)) h.out
+
+-- a request, a direction, and a head
+pub three_parts : (text request head : List ℕ) → ((text ++ request) ++ (0 ∷ [])) ++ head ≡ text ++ (request ++ (0 ∷ head))
+three_parts text request head = append_assoc (text ++ request) (0 ∷ []) head ∙ append_assoc text request (0 ∷ head)
+
+pub broke_joined : (a b : SinkSeen) (text xs ys : List ℕ) → Broke a b ((text ++ xs) ++ ys) → Broke a b (text ++ (xs ++ ys))
+broke_joined a b text xs ys p = subst (Broke a b) (append_assoc text xs ys) p

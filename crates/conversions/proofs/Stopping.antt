@@ -1,0 +1,96 @@
+-- Why a record was not converted, and what went out.
+use Rattle.std.proofs.Common.{◌≡◌, ◌≢◌, ℕ, ◌<◌, ◌≤◌, Bool, true, false, nat_eq, Result, Ok, Err, List, [], ◌++◌, length, take, inl, inr, refl, sym, ap, ◌∙◌, subst, arith, MatchResult}
+use Rattle.std.specs.Io.KnownBytes.{Appends, IsAtEnd, Keeps}
+use Rattle.std.proofs.lemmas.Bool.{cases_Bool, eqb-true, eq-eqb, false≢true}
+use Rattle.std.proofs.lemmas.List.{append-nil, length-take-le}
+use Rattle.benc.specs.Device.{SinkSeen, SourceSeen, BrokeOrUnflushed, Sent, SentAndFlushed, one_more}
+use Rattle.benc.proofs.Known.{Appends-keeps, Appends_whole}
+use Rattle.wire.specs.declared.form.Form.TheVariants.{One}
+use Rattle.wire.specs.Conversion.{conversion_bytes}
+use Rattle.wire.specs.Frames.{Frames}
+use Rattle.wire.specs.Reading.{GaveFaultless}
+use Rattle.wire.specs.Records.{HasForm, header}
+use Rattle.conversions.specs.declared.fault.ConvertFault.{ConvertFault}
+use Rattle.conversions.specs.declared.fault.ConvertFault.TheVariants as fault
+use Rattle.conversions.specs.Converting.{Converts, FailsToWrite, IsCutShort, Stops}
+use Rattle.conversions.specs.Steps.{Ends, EndsAt, EndsForm1, Flushed, IsPrefixOf, TellsForm, Waits}
+use Rattle.conversions.proofs.Ending.{Tells, ends, so_far_first}
+use Rattle.conversions.proofs.Fronts.{no_prefix, one_from_short, one_whatever_follows, prefix_partial}
+
+-- ---- more came
+
+stops_later : (first now : SourceSeen) (start out : SinkSeen) (front : List ℕ) → (IsPrefixOf front header → 8 ≤ length front) → HasForm front One → (why : ConvertFault)
+    → EndsAt first now start out front (Err why) → Stops first now start out why
+stops_later first now start out front tells has fault.Truncated e = absurd e
+stops_later first now start out front tells has fault.Read e = record { bytes = front ++ e.0; gave = e.1; counted = e.2; went_out = inr (no_prefix front e.0 tells has, e.3) }
+stops_later first now start out front tells has fault.AlreadyForm2 e = absurd e
+stops_later first now start out front tells has fault.Write e = record { bytes = front ++ e.0; gave = e.1; went_out = inl e.2 }
+
+pub ends_later : (first now : SourceSeen) (start out : SinkSeen) (front : List ℕ) → (IsPrefixOf front header → 8 ≤ length front) → HasForm front One → (r : Result Bool ConvertFault) → EndsAt first now start out front r
+    → MatchResult r (λ whole. EndsForm1 whole first now start out) (Stops first now start out)
+ends_later first now start out front tells has (Ok whole) e = (front ++ e.0, e.1, one_whatever_follows front e.0 tells has)
+ends_later first now start out front tells has (Err why) e = stops_later first now start out front tells has why e
+
+-- ---- the source ended in less than a header
+
+pub ends_at_once : (first now : SourceSeen) (start out : SinkSeen) (held : ℕ) (buffer : List ℕ) → held ≤ length buffer → GaveFaultless first now (take held buffer) → TellsForm false now (take held buffer) → Sent start out header
+    → EndsForm1 (nat_eq held 0) first now start out
+ends_at_once first now start out held buffer within gave tells sent =
+    let front = take held buffer in
+    let s = so_far_first first now start out front gave sent in
+    let waits : Waits 0 front = record { partial = prefix_partial front tells.1 tells.2; short = omega (arith, tells.1); none = inl refl } in
+    let told : Tells (nat_eq held 0) 0 front = record {
+      yes = λ e. (refl, ap (λ n. take n buffer) (eqb-true held 0 e));
+      no = λ e both. false≢true (sym e ∙ eq-eqb held 0 (sym (length-take-le held buffer within) ∙ ap length both.1));
+    } in
+    (front, ends (nat_eq held 0) first now start out 0 front front s waits tells.0 told, one_from_short front tells.1)
+
+-- ---- the end of the whole record
+
+pub cut_short : (first now : SourceSeen) (start out : SinkSeen) → EndsForm1 false first now start out → IsCutShort first now start out
+cut_short first now start out e = record { bytes = e.0; gave = e.1.gave; at_end = e.1.at_end; has_form = e.2; sends = e.1.sends; cut = e.1.cut_is refl }
+
+whole_frames : (first now : SourceSeen) (start out : SinkSeen) (e : EndsForm1 true first now start out) → Frames e.0 e.1.sends.bodies []
+whole_frames first now start out e = subst (Frames e.0 e.1.sends.bodies) (e.1.whole_is refl).0 e.1.sends.frames
+
+whole_text : (first now : SourceSeen) (start out : SinkSeen) (e : EndsForm1 true first now start out) → Sent start out (conversion_bytes e.1.sends.bodies)
+whole_text first now start out e = subst (Sent start out) (e.1.whole_is refl).1 e.1.sends.sent
+
+pub converts : (first now : SourceSeen) (start out out' : SinkSeen) → EndsForm1 true first now start out → Keeps out.written out'.written → out'.flushes ≡ one_more out.flushes → out'.faults ≡ out.faults → out'.is_flushed ≡ true
+    → Converts first now start out'
+converts first now start out out' e kept flushes faults last =
+    let sent = whole_text first now start out e in
+    record {
+      bytes = e.0;
+      gave = e.1.gave;
+      at_end = e.1.at_end;
+      has_form = e.2;
+      bodies = e.1.sends.bodies;
+      frames = whole_frames first now start out e;
+      wrote = record {
+        bytes = Appends-keeps start.written out.written out'.written (conversion_bytes e.1.sends.bodies) sent.bytes kept;
+        faults = faults ∙ sent.faults;
+        flushes = flushes ∙ ap one_more sent.flushes;
+        last = last;
+      };
+    }
+
+pub fails_to_flush : (first now : SourceSeen) (start out out' : SinkSeen) → EndsForm1 true first now start out → Keeps out.written out'.written → out'.flushes ≡ one_more out.flushes → out'.faults ≡ one_more out.faults
+    → FailsToWrite first now start out'
+fails_to_flush first now start out out' e kept flushes faults =
+    let sent = whole_text first now start out e in
+    let text = conversion_bytes e.1.sends.bodies in
+    record {
+      bytes = e.0;
+      gave = e.1.gave;
+      went_out = inr (record {
+        at_end = e.1.at_end;
+        bodies = e.1.sends.bodies;
+        frames = whole_frames first now start out e;
+        unflushed = record {
+          bytes = Appends_whole start.written out.written out'.written text sent.bytes kept;
+          faults = faults ∙ ap one_more sent.faults;
+          flushes = inr (Appends-keeps start.written out.written out'.written text sent.bytes kept, flushes ∙ ap one_more sent.flushes);
+        };
+      });
+    }

@@ -1,0 +1,68 @@
+-- What goes out when a record of form 1 is converted.
+use Rattle.std.specs.Prelude.{◌≡◌, ◌≢◌, ◌⊎◌, ℕ, List, [], ◌++◌}
+use Rattle.std.specs.Io.KnownBytes.{IsAtEnd}
+use Rattle.benc.specs.Device.{SinkSeen, SourceSeen, BrokeOrUnflushed, SentAndFlushed, one_more}
+use Rattle.wire.specs.declared.form.Form.TheVariants.{One, Two}
+use Rattle.wire.specs.Conversion.{conversion_bytes}
+use Rattle.wire.specs.Frames.{Frames}
+use Rattle.wire.specs.Reading.{Gave, GaveFaultless}
+use Rattle.wire.specs.Records.{HasForm, header}
+use Rattle.conversions.specs.declared.fault.ConvertFault.{ConvertFault}
+use Rattle.conversions.specs.declared.fault.ConvertFault.TheVariants as fault
+use Rattle.conversions.specs.Steps.{BreaksInText, IsPrefixOf, Sends}
+
+-- The source gave a record of form 1 of whole frames and ended, and its conversion went out, with
+-- one flush.
+pub record Converts (old new : SourceSeen) (out out' : SinkSeen) : Type 0 where
+  pub bytes : List ℕ
+  pub gave : GaveFaultless old new bytes
+  pub at_end : IsAtEnd new.left
+  pub has_form : HasForm bytes One
+  pub bodies : List (List ℕ)
+  pub frames : Frames bytes bodies []
+  pub wrote : SentAndFlushed out out' (conversion_bytes bodies)
+
+-- The source gave a record of form 1 that ends inside a frame.
+pub record IsCutShort (old new : SourceSeen) (out out' : SinkSeen) : Type 0 where
+  pub bytes : List ℕ
+  pub gave : GaveFaultless old new bytes
+  pub at_end : IsAtEnd new.left
+  pub has_form : HasForm bytes One
+  pub sends : Sends bytes out out'
+  pub cut : sends.rest ≢ []
+
+-- The source failed. If what it gave is a prefix of the header, the form was not known and nothing
+-- went out.
+pub record FailsToRead (old new : SourceSeen) (out out' : SinkSeen) : Type 0 where
+  pub bytes : List ℕ
+  pub gave : Gave old new bytes
+  pub counted : new.faults ≡ one_more old.faults
+  pub went_out :
+      (IsPrefixOf bytes header × (out' ≡ out))
+      ⊎ (¬ IsPrefixOf bytes header × Sends bytes out out')
+
+-- The source gave the first bytes of a record of form 2, and nothing went out.
+pub record IsForm2 (old new : SourceSeen) (out out' : SinkSeen) : Type 0 where
+  pub bytes : List ℕ
+  pub gave : GaveFaultless old new bytes
+  pub has_form : HasForm bytes Two
+  pub untouched : out' ≡ out
+
+-- The sink failed to flush the whole conversion.
+pub record FailsToFlush (bytes : List ℕ) (new : SourceSeen) (out out' : SinkSeen) : Type 0 where
+  pub at_end : IsAtEnd new.left
+  pub bodies : List (List ℕ)
+  pub frames : Frames bytes bodies []
+  pub unflushed : BrokeOrUnflushed out out' (conversion_bytes bodies)
+
+pub record FailsToWrite (old new : SourceSeen) (out out' : SinkSeen) : Type 0 where
+  pub bytes : List ℕ
+  pub gave : GaveFaultless old new bytes
+  pub went_out : BreaksInText bytes out out' ⊎ FailsToFlush bytes new out out'
+
+-- why the record was not converted, and what went out
+abbrev pub Stops : SourceSeen → SourceSeen → SinkSeen → SinkSeen → ConvertFault → Type 0
+Stops old new out out' fault.Truncated = IsCutShort old new out out'
+Stops old new out out' fault.Read = FailsToRead old new out out'
+Stops old new out out' fault.AlreadyForm2 = IsForm2 old new out out'
+Stops old new out out' fault.Write = FailsToWrite old new out out'

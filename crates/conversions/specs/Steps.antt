@@ -1,0 +1,170 @@
+-- How far a conversion has come: the bytes of the record that it was fed, and the text for them.
+use Rattle.std.specs.Prelude.{◌≡◌, ◌≢◌, ◌⊎◌, ℕ, ◌+◌, ◌-◌, ◌<◌, ◌≤◌, ◌^◌, min, Bool, true, false, List, [], ◌∷◌, ◌++◌, length, take, Result, Ok, Err, OnOk}
+use Rattle.std.specs.List.{All, flat_map}
+use Rattle.std.specs.Io.KnownBytes.{IsAtEnd, Keeps}
+use Rattle.benc.specs.Device.{SinkSeen, SourceSeen, Broke, CountsFault, Sent, one_more}
+use Rattle.wire.specs.declared.form.Form.TheVariants.{One, Two}
+use Rattle.wire.specs.Conversion.{conversion_bytes, converted}
+use Rattle.wire.specs.Frames.{Frames, IsBody, IsPartial, four_bytes, frame}
+use Rattle.wire.specs.Meaning.{IsHashesSize}
+use Rattle.wire.specs.Reading.{Gave, GaveFaultless}
+use Rattle.wire.specs.Records.{HasForm, header, record_frame}
+use Rattle.conversions.specs.declared.fault.ConvertFault.{ConvertFault}
+use Rattle.conversions.specs.declared.fault.ConvertFault.TheVariants as fault
+
+abbrev pub IsPrefixOf : List ℕ → List ℕ → Type 0
+IsPrefixOf front whole = (rest : List ℕ) × (whole ≡ front ++ rest)
+
+-- the text stands at the front of the conversion of every record of whole frames that begins with
+-- these bytes
+abbrev pub IsSound : List ℕ → List ℕ → Type 0
+IsSound bytes text = (more : List ℕ) (bodies : List (List ℕ)) → Frames (bytes ++ more) bodies []
+    → IsPrefixOf text (conversion_bytes bodies)
+
+-- what went out for these bytes: the conversion of the whole frames among them, and no more than
+-- what stands there for every record that begins so
+pub record Sends (bytes : List ℕ) (old new : SinkSeen) : Type 0 where
+  pub bodies : List (List ℕ)
+  pub rest : List ℕ
+  pub frames : Frames bytes bodies rest
+  pub text : List ℕ
+  pub begins : IsPrefixOf (conversion_bytes bodies) text
+  pub sound : IsSound bytes text
+  pub sent : Sent old new text
+
+-- The sink failed, after a prefix of a text that stands at the front of the conversion of every
+-- record of whole frames that begins so.
+pub record BreaksInText (bytes : List ℕ) (out out' : SinkSeen) : Type 0 where
+  pub text : List ℕ
+  pub sound : IsSound bytes text
+  pub broke : Broke out out' text
+
+-- ---- one frame
+
+-- the bytes of a converted frame, the request before it included
+abbrev pub converted_bytes : List ℕ → List ℕ
+converted_bytes body = flat_map (record_frame Two) (converted body)
+
+-- these bytes are a whole frame, and this text is its conversion
+pub record Completes (bytes text : List ℕ) : Type 0 where
+  pub body : List ℕ
+  pub fits : IsBody body
+  pub is_frame : bytes ≡ frame body
+  pub is_converted : text ≡ converted_bytes body
+
+-- a frame has begun, of which so many bytes are left: whichever they are, they complete it, and its
+-- conversion too
+pub record Opens (left : ℕ) (part sent : List ℕ) : Type 0 where
+  pub some : 0 < length part
+  pub completes :
+      (rest : List ℕ) → length rest ≡ left → Completes (part ++ rest) (sent ++ rest)
+
+-- a length, and as much of the body as a request is made of
+pub record IsHeadOf (head : List ℕ) (size : ℕ) : Type 0 where
+  pub len : ℕ
+  pub front : List ℕ
+  pub fits : len < 2 ^ 32
+  pub head_is : head ≡ four_bytes len ++ front
+  pub front_is : length front ≡ min len 49
+  pub size_is : size ≡ 4 + min len 49
+
+-- a body of this length that begins so is a hashes message of right size
+abbrev pub BeginsHashes : ℕ → List ℕ → Type 0
+BeginsHashes len front = ((fields : List ℕ) × (front ≡ 22 ∷ fields)) × IsHashesSize len
+
+-- the request that goes before the frame with this head, or nothing
+abbrev pub GoesBefore : List ℕ → List ℕ → Type 0
+GoesBefore head request = (len : ℕ) → len < 2 ^ 32 → four_bytes len ≡ take 4 head
+    → Opens (len + 4 - length head) head (request ++ (0 ∷ head))
+
+-- ---- frames, one after the other
+
+-- a frame has begun, or none has
+abbrev pub Stands : ℕ → List ℕ → List ℕ → Type 0
+Stands left part sent =
+    ((left ≡ 0) × (part ≡ []) × (sent ≡ [])) ⊎ ((0 < left) × Opens left part sent)
+
+-- the bytes that were fed, of which so many are left of a body, and the text for them
+pub record Reached (left : ℕ) (fed text : List ℕ) : Type 0 where
+  pub bodies : List (List ℕ)
+  pub each : All IsBody bodies
+  pub part : List ℕ
+  pub sent : List ℕ
+  pub fed_is : fed ≡ flat_map frame bodies ++ part
+  pub text_is : text ≡ conversion_bytes bodies ++ sent
+  pub stands : Stands left part sent
+
+-- what was not fed is less than a head, and nothing if a frame has begun
+pub record Waits (left : ℕ) (rest : List ℕ) : Type 0 where
+  pub partial : IsPartial rest
+  pub short : length rest < 53
+  pub none : (left ≡ 0) ⊎ (rest ≡ [])
+
+-- ---- the text on its way out
+
+-- the text went out but for what is gathered
+pub record Held (start now : SinkSeen) (gathered text : List ℕ) : Type 0 where
+  pub sent : List ℕ
+  pub out : Sent start now sent
+  pub text_is : text ≡ sent ++ gathered
+
+-- the text for all that was fed is on its way
+pub record Advances (start now : SinkSeen) (gathered : List ℕ) (left : ℕ) (fed : List ℕ) : Type 0 where
+  pub text : List ℕ
+  pub reached : Reached left fed text
+  pub held : Held start now gathered text
+
+-- the sink failed in the text for some of these bytes
+pub record BreaksOff (start now : SinkSeen) (fed more : List ℕ) : Type 0 where
+  pub count : ℕ
+  pub left : ℕ
+  pub text : List ℕ
+  pub reached : Reached left (fed ++ take count more) text
+  pub broke : Broke start now text
+
+-- ---- the whole record
+
+-- whatever follows these bytes, the record is of form 1 or of form 2 as they show; or the source has
+-- ended in less than a header
+abbrev pub TellsForm : Bool → SourceSeen → List ℕ → Type 0
+TellsForm true now bytes = (IsPrefixOf bytes header → 8 ≤ length bytes)
+TellsForm false now bytes = IsAtEnd now.left × (length bytes < 8) × IsPrefixOf bytes header
+
+-- the source failed, after a prefix of the header
+pub record FailsInFront (old new : SourceSeen) : Type 0 where
+  pub bytes : List ℕ
+  pub gave : Gave old new bytes
+  pub counted : new.faults ≡ one_more old.faults
+  pub prefix : IsPrefixOf bytes header
+
+-- one flush, and nothing else
+abbrev pub Flushed : {A E : Type 0} → SinkSeen → SinkSeen → Result A E → Type 0
+Flushed old new r = Keeps old.written new.written × (new.flushes ≡ one_more old.flushes)
+    × CountsFault old.faults new.faults r × OnOk r (new.is_flushed ≡ true)
+
+-- the source has ended, in a record of whole frames or inside a frame
+pub record Ends (whole : Bool) (first now : SourceSeen) (bytes : List ℕ) (start out : SinkSeen) : Type 0 where
+  pub gave : GaveFaultless first now bytes
+  pub at_end : IsAtEnd now.left
+  pub sends : Sends bytes start out
+  pub whole_is : whole ≡ true → (sends.rest ≡ []) × (sends.text ≡ conversion_bytes sends.bodies)
+  pub cut_is : whole ≡ false → sends.rest ≢ []
+
+-- and it was a record of form 1
+abbrev pub EndsForm1 : Bool → SourceSeen → SourceSeen → SinkSeen → SinkSeen → Type 0
+EndsForm1 whole first now start out =
+    (bytes : List ℕ) × Ends whole first now bytes start out × HasForm bytes One
+
+-- how the reading of a record that begins with these bytes ended
+abbrev pub EndsAt : SourceSeen → SourceSeen → SinkSeen → SinkSeen → List ℕ
+    → Result Bool ConvertFault → Type 0
+EndsAt first now start out front (Ok whole) =
+    (more : List ℕ) × Ends whole first now (front ++ more) start out
+EndsAt first now start out front (Err fault.Read) =
+    (more : List ℕ) × Gave first now (front ++ more) × (now.faults ≡ one_more first.faults)
+    × Sends (front ++ more) start out
+EndsAt first now start out front (Err fault.Write) =
+    (more : List ℕ) × GaveFaultless first now (front ++ more)
+    × BreaksInText (front ++ more) start out
+EndsAt first now start out front (Err fault.Truncated) = ⊥
+EndsAt first now start out front (Err fault.AlreadyForm2) = ⊥

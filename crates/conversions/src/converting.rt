@@ -1,0 +1,190 @@
+//! The conversion of a record.
+ghost use Rattle.std.specs.Prelude.{◌≡◌, ◌+◌, ◌<◌, ◌≤◌, ◌++◌, ℕ, List, [], length, take, drop, IfOk, IfErr, MatchResult};
+ghost use Rattle.benc.specs.Device.{Sent, SinkSeen, SourceSeen, Wrote};
+ghost use Rattle.wire.specs.Reading.{GaveFaultless};
+ghost use Rattle.wire.specs.Records.{HasForm, header};
+ghost use Rattle.wire.specs.declared.form.Form.TheVariants as FormOf;
+ghost use Rattle.wire.specs.RecordLaws.{ConversionIsRecord, ConversionMeans};
+ghost use Rattle.conversions.specs.Converting.{Converts, Stops};
+ghost use Rattle.conversions.specs.Steps.{BreaksOff, EndsAt, EndsForm1, FailsInFront, Flushed, Reached, TellsForm, Waits};
+
+use crate::fault::ConvertFault;
+use crate::gathering::{Gathered, ROOM, send};
+use crate::head::LONGEST_HEAD;
+use crate::parts::convert_part;
+use benc::{DeviceFault, Sink, Source, WriteFault, write_all};
+
+/// What a record of form 2 begins with.
+const HEADER: [u8; 8] = *b"\xff\xff\xff\xffBTH2";
+
+/// Writes the record of form 2 that a record of form 1 is: a header, and then each frame as it
+/// stands, marked as one that came in. Directly before each hashes message of right size goes the
+/// request that it answers, marked as one that went out. At last it flushes. It takes no memory.
+///
+/// `AlreadyForm2` comes as soon as the eight bytes of the header were read, and `Read` if the source
+/// fails: then nothing went out if what was read is a prefix of the header. `Truncated` comes if the
+/// record ends inside a frame. After it, and after any other `Read`, what went out begins with the
+/// conversion of all whole frames. After `Write` it is a prefix of the conversion of every record of
+/// whole frames that begins with what was read. After a fault nothing is flushed.
+pub fn convert<R: Source, W: Sink>(source: &mut R, out: &mut W) -> Result<(), ConvertFault>
+    ensures converts { IfOk result (λ _. Converts (R.seen source.old) (R.seen source.new)
+        (W.seen out.old) (W.seen out.new)) }
+    ensures stops { IfErr result (Stops (R.seen source.old) (R.seen source.new)
+        (W.seen out.old) (W.seen out.new)) }
+
+    // What went out is a record of form 2, whose frames mean what the frames of form 1 do, with the
+    // requests before the hashes messages.
+    ensures record_of { ConversionIsRecord }
+    ensures means { ConversionMeans }
+{
+    convert_record(source, out)
+}
+
+// The same, without the laws of what went out.
+fn convert_record<R: Source, W: Sink>(source: &mut R, out: &mut W) -> Result<(), ConvertFault>
+    ensures converts { IfOk result (λ _. Converts (R.seen source.old) (R.seen source.new)
+        (W.seen out.old) (W.seen out.new)) }
+    ensures stops { IfErr result (Stops (R.seen source.old) (R.seen source.new)
+        (W.seen out.old) (W.seen out.new)) }
+{
+    let mut buffer = [0u8; ROOM];
+    let (held, more) = read_front(source, &mut buffer)?;
+    if buffer[..held].starts_with(&HEADER) {
+        return Err(ConvertFault::AlreadyForm2);
+    }
+    write_header(out)?;
+    let whole = convert_rest(source, out, &mut buffer, held, more)?;
+    if !whole {
+        return Err(ConvertFault::Truncated);
+    }
+    flush(out)?;
+    Ok(())
+}
+
+// Reads until the form is known: how many bytes then stand in the buffer, and whether more may come.
+fn read_front<R: Source>(source: &mut R, buffer: &mut [u8]) -> Result<(usize, bool), DeviceFault>
+    requires { 8 ≤ length buffer.old }
+    ensures within { IfOk result (λ front. front.0 ≤ length buffer.new) }
+    ensures tells { MatchResult result
+        (λ front. GaveFaultless (R.seen source.old) (R.seen source.new)
+        (take front.0 buffer.new)
+        × TellsForm front.1 (R.seen source.new) (take front.0 buffer.new))
+        (λ _. FailsInFront (R.seen source.old) (R.seen source.new)) }
+{
+    let mut held = 0;
+    'reads: while held < HEADER.len() && HEADER.starts_with(&buffer[..held]) {
+        match source.read(&mut buffer[held..])? {
+            0 => return Ok((held, false)),
+            count => held += count,
+        }
+    }
+    Ok((held, true))
+}
+
+fn write_header<W: Sink>(out: &mut W) -> Result<(), WriteFault>
+    ensures { Wrote (W.seen out.old) (W.seen out.new) result header }
+{
+    write_all(out, &HEADER)?;
+    Ok(())
+}
+
+// Converts what stands in the buffer, and what follows if more may come: answers whether the record
+// ends between two frames.
+fn convert_rest<R: Source, W: Sink>(
+    source: &mut R,
+    out: &mut W,
+    buffer: &mut [u8],
+    held: usize,
+    more: bool,
+) -> Result<bool, ConvertFault>
+    requires held { held ≤ length buffer.old }
+    requires room { length buffer.old ≡ ROOM }
+    ensures { (first : SourceSeen) (start : SinkSeen)
+        → GaveFaultless first (R.seen source.old) (take held buffer.old)
+        → TellsForm more (R.seen source.old) (take held buffer.old)
+        → HasForm (take held buffer.old) FormOf.One → Sent start (W.seen out.old) header
+        → MatchResult result
+        (λ whole. EndsForm1 whole first (R.seen source.new) start (W.seen out.new))
+        (Stops first (R.seen source.new) start (W.seen out.new)) }
+{
+    if more {
+        convert_frames(source, out, buffer, held)
+    } else {
+        Ok(held == 0)
+    }
+}
+
+// Converts what stands in the buffer and all that follows, and answers whether the record ends
+// between two frames.
+fn convert_frames<R: Source, W: Sink>(
+    source: &mut R,
+    out: &mut W,
+    buffer: &mut [u8],
+    mut held: usize,
+) -> Result<bool, ConvertFault>
+    requires held { held ≤ length buffer.old }
+    requires room { length buffer.old ≡ ROOM }
+    ensures { (first : SourceSeen) (start : SinkSeen)
+        → GaveFaultless first (R.seen source.old) (take held buffer.old)
+        → Sent start (W.seen out.old) header
+        → EndsAt first (R.seen source.new) start (W.seen out.new) (take held buffer.old) result }
+{
+    let mut gathered = Gathered::new();
+    let mut left = 0;
+    'parts: loop {
+        held = convert_held(out, &mut gathered, buffer, held, &mut left)?;
+        match source.read(&mut buffer[held..])? {
+            0 => return Ok(held == 0 && left == 0),
+            count => held += count,
+        }
+    }
+}
+
+// Converts what stands in the buffer, and writes it. What is less than a head stays, at the front:
+// how many bytes it has.
+fn convert_held<W: Sink>(
+    out: &mut W,
+    gathered: &mut Gathered,
+    buffer: &mut [u8],
+    held: usize,
+    left: &mut usize,
+) -> Result<usize, WriteFault>
+    requires held { held ≤ length buffer.old }
+    requires room { length buffer.old ≤ ROOM }
+    requires empty { gathered.old.items ≡ [] }
+    ensures empty { MatchResult result (λ _. gathered.new.items ≡ []) (λ _. Unit {0}) }
+    ensures waits { IfOk result (λ rest. Waits left.new (take rest buffer.new)
+        × (rest < LONGEST_HEAD)) }
+    ensures converts { (start : SinkSeen) (fed text : List ℕ) → Reached left.old fed text
+        → Sent start (W.seen out.old) text → MatchResult result
+        (λ rest. (done text' : List ℕ) × Reached left.new done text'
+        × Sent start (W.seen out.new) text'
+        × (done ++ take rest buffer.new ≡ fed ++ take held buffer.old))
+        (λ _. BreaksOff start (W.seen out.new) fed (take held buffer.old)) }
+{
+    let done = convert_part(out, gathered, &buffer[..held], left)?;
+    send(out, gathered)?;
+    Ok(move_to_front(buffer, done, held))
+}
+
+// Moves these bytes to the front of the buffer: how many they are.
+fn move_to_front(buffer: &mut [u8], start: usize, end: usize) -> usize
+    requires order { start ≤ end }
+    requires within { end ≤ length buffer.old }
+    requires few { end ≤ start + LONGEST_HEAD }
+    ensures count { result + start ≡ end }
+    ensures moved { take result buffer.new ≡ drop start (take end buffer.old) }
+{
+    let count = end - start;
+    let mut moved = [0u8; LONGEST_HEAD];
+    moved[..count].copy_from_slice(&buffer[start..end]);
+    buffer[..count].copy_from_slice(&moved[..count]);
+    count
+}
+
+fn flush<W: Sink>(out: &mut W) -> Result<(), WriteFault>
+    ensures { Flushed (W.seen out.old) (W.seen out.new) result }
+{
+    out.flush()?;
+    Ok(())
+}
