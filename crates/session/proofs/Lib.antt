@@ -15,3 +15,4 @@ pub mod OpenAsks
 pub mod Asking
 pub mod NotedSteps
 pub mod NotedRounds
+pub mod Replayed

@@ -33,11 +33,12 @@ use Rattle.session.specs.Noted.{IsOpen, StepOut, NotedStep, IsBaseKnown, KeepsOp
 use Rattle.session.specs.NotedRounds.{HasDirectedHashes, IsAskedAt, IsAskedFor, IsNotedRound, LacksMemoryToNote, NotedRoundLeavesFewer}
 use Rattle.partial_tree.proofs.Wanted.{gaps-fall, gaps-fewer, true_answer-accepted}
 use Rattle.session.proofs.OpenAsks.{opened_contains}
-use Rattle.session.proofs.Asking.{asking, tree_asking}
+use Rattle.session.specs.NotedLaws.{asking}
+use Rattle.session.proofs.Asking.{tree_asking}
 use Rattle.session.proofs.Runs.{Learns, step-learns, unchanged, step-torrent}
 use Rattle.session.proofs.Rounds.{asked-is, want-tall, answer-fewer}
 use Rattle.session.proofs.RoundRuns.{lacks_memory, lacks_memory-is, lacks_memory-not, collision-keeps, later-distinct, wanted-is}
-use Rattle.session.proofs.NotedSteps.{in_hashes, noted_effect, noted-torrent, noted-learns, noted-good, noted-open, learns-keeps, base_later}
+use Rattle.session.proofs.NotedSteps.{in_hashes, noted_effect, noted-torrent, noted-learns, noted-good, noted-open, noted-opens, learns-keeps, base_later}
 
 -- ---- whole runs
 
@@ -230,3 +231,22 @@ noted-round-fewer S distinct ms vs S' good all run n f r =
             ]
       ]
     ]
+
+-- ---- the laws
+
+pub incoming-opens : (S : SessionSeen) (ms : List Message) (vs : List Verdict) (S' : SessionSeen) → Chain (λ s m v s'. NotedStep s (In, m) v s') S ms vs S' → (ask : Ask) → IsOpen S' ask → IsOpen S ask
+incoming-opens S [] [] S' e ask now = subst (λ U. IsOpen U ask) e now
+incoming-opens S [] (v ∷ vs) S' e ask now = absurd e
+incoming-opens S (m ∷ ms) [] S' e ask now = absurd e
+incoming-opens S (m ∷ ms) (v ∷ vs) S' (M, step, rest) ask now = noted-opens S (In, m) v M step ask (incoming-opens M ms vs S' rest ask now)
+
+pub noted-keeps : (S : SessionSeen) (ms : List (Directed Message)) (vs : List Verdict) (S' : SessionSeen) → IsGood S → All HasDirectedHashes ms → Chain NotedStep S ms vs S' → IsGood S' × HasNoMoreGaps S S'
+noted-keeps S ms vs S' good all run = (run-noted-good S ms vs S' good all run, run-noted-gaps S ms vs S' run)
+
+pub noted-round-law : (S M N S' : SessionSeen) → HasDistinctRoots S → (ms ns : List (Directed Message)) (vs ws : List Verdict) (n : ℕ) (tree : TreeRoot) (s : TreeState) (b : ℕ) (ask : Ask) (f : List ℕ)
+    → IsGood S → All HasDirectedHashes ms → All HasDirectedHashes ns → IsTree S n tree s → b < block_count tree.length → want_of tree (look s.known) b ≡ Some ask → Fits f tree
+    → Chain NotedStep S ms vs M → IsOpen M ask → Chain NotedStep M ns ws N → (hashes : Bor (List Hash)) → hashes.now ≡ answer_of (tree_height tree.length) (whole f) ask
+    → (v : Verdict) → v ≢ verdict.HashRefused NoMemory → NotedStep N (In, message.Hashes ask hashes) v S' → HasFewerGaps S' n tree (look s.known) ⊎ Collides S' n f
+noted-round-law S M N S' distinct ms ns vs ws n tree s b ask f good all_m all_n at inside wanted fits run was run' hashes is_answer v memory step =
+    noted_round S M N S' distinct (run-noted-torrent S ms vs M run) ns ws n tree s b ask f good (run-noted-good S ms vs M good all_m run) (run-noted-learns S ms vs M run) all_n
+    at inside wanted fits was run' hashes is_answer v memory step

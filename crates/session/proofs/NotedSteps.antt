@@ -30,7 +30,8 @@ use Rattle.session.specs.SafeStep.{KeepsKnown, TakesWhatIsTrue}
 use Rattle.session.specs.Noted.{IsOpen, opened, closed, IsAnswerStored, IsAnswerRefused, StepIn, StepOut, NotedStep, IsTrueNotedVerdict, TakesWhatIsTrueAndAsked, IsBaseKnown, OpensOnlyOurs, KeepsOpen, IsSafeNotedStep}
 use Rattle.session.proofs.States.{set-write}
 use Rattle.session.proofs.OpenAsks.{ask_total, same_ask, opened_contains}
-use Rattle.session.proofs.Asking.{asking, tree_asking, good_asking}
+use Rattle.session.specs.NotedLaws.{asking}
+use Rattle.session.proofs.Asking.{tree_asking, good_asking}
 use Rattle.session.proofs.Runs.{Effect, unchanged, stored, taken, effect, Learns, step-good, step-learns, effect-torrent, verdict-true}
 use Rattle.session.proofs.SafeSteps.{safe_step}
 
@@ -132,7 +133,7 @@ same_open S S' ask e was = ap (λ (o : Asks). set.contains o ask) e ∙ was
 stored-asks : (S : SessionSeen) (ask : Ask) (hashes : List Hash) (c : ℕ) (S' : SessionSeen) → IsAnswerStored S ask hashes c S' → S'.asks ≡ set.remove S.asks ask
 stored-asks S ask hashes c S' h = ap (λ U. U.asks) (h.state_after ∙ ap (λ U. closed U ask) h.stored.state_after)
 
-noted-opens : (S : SessionSeen) (x : Directed Message) (v : Verdict) (S' : SessionSeen) → NotedStep S x v S' → OpensOnlyOurs S x S'
+pub noted-opens : (S : SessionSeen) (x : Directed Message) (v : Verdict) (S' : SessionSeen) → NotedStep S x v S' → OpensOnlyOurs S x S'
 noted-opens S (In, message.Hashes other hashes) (verdict.Stored c) S' h = λ ask now.
     let is = sym (set.contains-remove ask_total S.asks other ask) ∙ ap (λ (o : Asks). set.contains o ask) (sym (stored-asks S other hashes.now c S' h)) ∙ now in
     (and_parts (not (eq_by_cmp ask_cmp ask other)) (set.contains S.asks ask) is).1
