@@ -1,11 +1,11 @@
-use Rattle.std.proofs.Common.{◌≡◌, ℕ, List, length, Some, refl, sym, ap, ◌∙◌, subst}
+use Rattle.std.proofs.Common.{◌≡◌, ℕ, List, length, Some, refl, sym, ◌∙◌, subst}
 use Rattle.std.proofs.lemmas.Option.{none-some}
 use Rattle.metainfo.specs.Blocks.{IsBlockRun}
 use Rattle.metainfo.specs.Description.{Description}
 use Rattle.metainfo.specs.Places.{IsBlockPlace, place_of}
 use Rattle.partial_tree.specs.Kept.{KeptTree}
 use Rattle.session.specs.Layouts.{SessionSeen, seen}
-use Rattle.session.specs.Session.{IsInFile, AreRefused, AreTaken}
+use Rattle.session.specs.Session.{IsInFile, AreRefused}
 use Rattle.partial_tree.specs.declared.refusal.BlockRefusal.TheVariants.{BadSize}
 use Rattle.session.proofs.Sessions.{in_file_of, taken_at}
 use Rattle.session.proofs.session.Session.mark_blocks.Goals as goal
