@@ -1,7 +1,7 @@
 -- How a command grows, and which texts an action needs.
 use Rattle.std.proofs.Common.{◌≡◌, ◌∙◌, ◌++◌, ◌∷◌, [], ap, codes, false, List, None, Option, option_map, refl, Some, subst, sym, true, ◌||◌, Bool}
 use Rattle.std.specs.Borrow.{Bor}
-use Rattle.std.specs.Prelude.{Box, Err, Ok, Result, ⊤, ◌<◌, ◌^◌, ℕ}
+use Rattle.std.specs.Prelude.{Box, Err, Ok, Result, unwrap_or, ⊤, ◌<◌, ◌^◌, ℕ}
 use Rattle.std.specs.Str.Parse.{IsNumeral, ParsesUnsigned, digits_value, without_leading_plus}
 use Rattle.clap.specs.Matches.{ReadsOne}
 use Rattle.std.specs.Box.{box_value}
@@ -79,11 +79,6 @@ absent t o e is =
     let bad : None ≡ Some t = sym e ∙ is in
     cc
 
-IsShortNumber : Option Text → Type 0
-IsShortNumber None = ⊤
-IsShortNumber (Some text) =
-    IsNumeral 10 (without_leading_plus text) × (digits_value 10 (without_leading_plus text) < 2 ^ 64)
-
 -- what `get_one` reads of a text is its number
 pub number_read : {E : Type 0} (gives : Text → Result ℕ E → Type 0)
     → ((text : Text) (r : Result ℕ E) → gives text r → ParsesUnsigned 64 10 text r)
@@ -97,10 +92,12 @@ number_read gives parses None (Some number) none reads =
     cc
 number_read gives parses (Some text) None none reads = λ number is.
     let e = reads text refl in
-    absurd (parses text (Err e.0) e.1 (subst IsShortNumber (sym is.1) is.2))
+    let same : text ≡ is.0 = ap (λ (o : Option Text). unwrap_or o text) is.1 in
+    absurd (parses text (Err e.0) e.1 (subst (λ (t : Text). IsNumeral 10 (without_leading_plus t)
+    × (digits_value 10 (without_leading_plus t) < 2 ^ 64)) (sym same) is.2.0))
 number_read gives parses (Some text) (Some number) none reads =
     let parsed = parses text (Ok number) (reads text refl) in
-    (text, refl, parsed.0, parsed.1)
+    (text, refl, parsed)
 
 -- ---- without a text that it needs, a command asks for nothing
 

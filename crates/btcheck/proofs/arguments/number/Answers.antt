@@ -10,7 +10,8 @@ pub returns : goal.returns
 returns c =
     let found = found_of c.args.found.now in
     let name = c.args.name.now in
-    let gives = λ bs r. ParsesUnsigned 64 10 bs r × ExplainsUnsignedError 10 bs r × HasUnsignedDigitsIfOk bs r in
-    subst (λ o. IsNumberIfThere o c.get_one.result) (one_text-rows found name)
+    let gives : List ℕ → Result ℕ _ → Type 0 = λ bs r.
+    ParsesUnsigned 64 10 bs r × ExplainsUnsignedError 10 bs r × HasUnsignedDigitsIfOk bs r in
+    subst (λ (o : Option (List ℕ)). IsNumberIfThere o c.get_one.result) (one_text-rows found name)
     (number_read gives (λ text r given. given.0) (one_text found name) c.get_one.result
     c.get_one.ensures.none c.get_one.ensures.value)
