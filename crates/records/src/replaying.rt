@@ -29,11 +29,12 @@ use wire::{Direction, Frame, FrameFault, Message, RecordReader};
 
 const OUT_OF_MEMORY: Ending = Ending::Fault(FrameFault::NoMemory);
 
-/// Reads frames from the source to its end or to a fault, and gives each message to the session.
-/// Writes one line for each frame as it comes, and at last how the record ended. If there is a sink
-/// for answers, the frame that answers a hash request goes there, after its line: the hashes that
-/// are asked for, if they are known, and else a reject. At last the report is flushed, and then the
-/// answers.
+/// Reads the frames of a record of either form to its end or to a fault, and gives each message to
+/// the session. In form 1 each came in. In form 2 a request that went out is noted, and hashes that
+/// came in are taken only in answer to it. Writes one line for each frame as it comes, and at last
+/// how the record ended. If there is a sink for answers, the frame that answers a hash request that
+/// came in goes there, after its line: the hashes that are asked for, if they are known, and else a
+/// reject. At last the report is flushed, and then the answers.
 ///
 /// All memory but that of answers is taken before the first frame is read. If it is refused, the
 /// report is the line `fault NoMemory`, and nothing is read. If memory is refused for an answer,
