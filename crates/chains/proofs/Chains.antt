@@ -1,5 +1,5 @@
 -- Steps one after the other: one more, and weaker ones.
-use Rattle.std.proofs.Common.{◌≡◌, ◌<◌, ◌+◌, ℕ, List, [], ◌∷◌, ◌++◌, take, get_or, length, refl, sym, ap, ◌∙◌, subst, add-one}
+use Rattle.std.proofs.Common.{◌≡◌, ◌<◌, ◌+◌, ℕ, List, [], ◌∷◌, ◌++◌, take, get_or, length, refl, sym, ap, ap₂, ◌∙◌, subst, add-one}
 use Rattle.std.proofs.Math.Seq.{take-suc}
 use Rattle.chains.specs.Chain.{Chain}
 
@@ -57,3 +57,24 @@ last_step Step s (j ∷ is) i (o ∷ os) s' (mid, step, rest) =
       run = (mid, step, later.run);
       step = later.step;
     }
+
+-- the same steps between states that a function gives
+pub Chain-mapped : {S T I O : Type 0} (P : S → I → O → S → Type 0) (Q : T → I → O → T → Type 0) (f : S → T) → ((s : S) (i : I) (o : O) (s' : S) → P s i o s' → Q (f s) i o (f s'))
+    → (s : S) (is : List I) (os : List O) (s' : S) → Chain P s is os s' → Chain Q (f s) is os (f s')
+Chain-mapped P Q f maps s [] [] s' e = ap f e
+Chain-mapped P Q f maps s [] (o ∷ os) s' e = absurd e
+Chain-mapped P Q f maps s (i ∷ is) [] s' e = absurd e
+Chain-mapped P Q f maps s (i ∷ is) (o ∷ os) s' (mid, step, rest) = (f mid, maps s i o mid step, Chain-mapped P Q f maps mid is os s' rest)
+
+-- where a step has one output and one end, so has a chain
+pub Chain-one : {S I O : Type 0} (P : S → I → O → S → Type 0) → ((s : S) (i : I) (o p : O) (s' t : S) → P s i o s' → P s i p t → (o ≡ p) × (s' ≡ t))
+    → (s : S) (is : List I) (os ps : List O) (s' t : S) → Chain P s is os s' → Chain P s is ps t → (os ≡ ps) × (s' ≡ t)
+Chain-one P one s [] [] [] s' t a b = (refl, a ∙ sym b)
+Chain-one P one s [] [] (p ∷ ps) s' t a b = absurd b
+Chain-one P one s [] (o ∷ os) ps s' t a b = absurd a
+Chain-one P one s (i ∷ is) [] ps s' t a b = absurd a
+Chain-one P one s (i ∷ is) (o ∷ os) [] s' t a b = absurd b
+Chain-one {S = W} P one s (i ∷ is) (o ∷ os) (p ∷ ps) s' t (mid, step, rest) (mid', step', rest') =
+    let here = one s i o p mid mid' step step' in
+    let later = Chain-one P one mid is os ps s' t rest (subst (λ (m : W). Chain P m is ps t) (sym here.1) rest') in
+    (ap₂ (λ x xs. x ∷ xs) here.0 later.0, later.1)

@@ -6,6 +6,7 @@ pub use folders::{
     FileVerdict, MemFile, MemShelf, NoMemory, Report, RootFault, Shelf, ShelfFault, V1Verdict,
     check, print_report, root_line,
 };
+pub use gathering::{GatherFault, gather};
 pub use lines::{Fault, fault_line, refusal_line, show};
 pub use records::{Ending, Outcome, Told, replay};
 pub use seeding::{SeedFault, seed};

@@ -5,7 +5,7 @@ use Rattle.std.proofs.lemmas.List.{length-append, length-replicate, take-replica
 use Rattle.std.proofs.lemmas.List.FromFn.{get_or-map-range_with_len}
 use Rattle.std.proofs.Math.Seq.{drop-append-add}
 use Rattle.sha2.specs.Sha256.{sha256}
-use Rattle.hashtree.specs.Tree.{IsPlace, block, block_count, block_hashes, height, leaves, node, node_over, pad_leaf, root_of, tree, zero_hash}
+use Rattle.hashtree.specs.Tree.{HasPlace, block, block_count, block_hashes, height, leaves, node, node_over, pad_leaf, root_of, tree, zero_hash}
 use Rattle.hashtree.proofs.Pairs.{two-pow}
 use Rattle.hashtree.proofs.Heights.{height_enough, pow_split}
 use Rattle.hashtree.proofs.Blocks.{length-block_hashes}
@@ -70,7 +70,7 @@ part_within h layer i low lt =
     let m : (i + 1) * 2 ^ layer ≤ 2 ^ (h - layer) * 2 ^ layer = mul-le (i + 1) (2 ^ layer) (2 ^ (h - layer)) (2 ^ layer) (omega arith) (omega arith) in
     omega (arith, pow_split h layer low, m)
 
-pub pads_are_zero_hashes : (file : List ℕ) (layer i : ℕ) → IsPlace (length file) layer i → block_count (length file) ≤ i * 2 ^ layer
+pub pads_are_zero_hashes : (file : List ℕ) (layer i : ℕ) → HasPlace (length file) layer i → block_count (length file) ≤ i * 2 ^ layer
     → node file layer i ≡ zero_hash layer
 pads_are_zero_hashes file layer i at past =
     let n : ℕ = block_count (length file) in

@@ -1,7 +1,7 @@
 -- The laws of the tree of each file (BEP 52).
 use Rattle.std.specs.Prelude.{◌≡◌, ℕ, suc, ◌+◌, ◌*◌, ◌^◌, ◌<◌, ◌≤◌, ◌++◌, List, length}
 use Rattle.sha2.specs.Sha256.{sha256}
-use Rattle.hashtree.specs.Tree.{IsPlace, block, block_count, height, layer_of, node, root_of, root_over, zero_hash}
+use Rattle.hashtree.specs.Tree.{HasPlace, block, block_count, height, layer_of, node, root_of, root_over, zero_hash}
 
 -- the leaf of a block is the block's digest
 abbrev pub LeavesAreDigests : Type 0
@@ -15,7 +15,7 @@ NodesJoinChildren = (file : List ℕ) (layer i : ℕ)
 
 -- a node wholly past the file's end is the zero hash of its layer
 abbrev pub PadsAreZeroHashes : Type 0
-PadsAreZeroHashes = (file : List ℕ) (layer i : ℕ) → IsPlace (length file) layer i
+PadsAreZeroHashes = (file : List ℕ) (layer i : ℕ) → HasPlace (length file) layer i
     → block_count (length file) ≤ i * 2 ^ layer
     → node file layer i ≡ zero_hash layer
 

@@ -39,6 +39,24 @@ impl LayerBuilder {
         }
     }
 
+    /// A builder of this layer that was given nothing, with room for so many hashes. It fails only
+    /// if memory for these is refused, and the builder takes memory only for more.
+    pub fn with_capacity(alloc: Global, layer: u32, hashes: usize) -> Result<LayerBuilder, NoMemory>
+        ensures count { IfOk result (λ builder. byte_count builder ≡ 0) }
+        ensures layer { IfOk result (λ builder. chosen_layer builder ≡ layer) }
+        ensures content { IfOk result (λ builder. IsFedLayer builder []) }
+        ensures works { IfOk result (λ builder. HasRefused builder → ⊥) }
+        ensures room { IfOk result (λ builder. hashes ≤ spare builder) }
+        ensures no_memory { OnErr result (0 < hashes) }
+    {
+        Ok(LayerBuilder {
+            builder: RootBuilder::new(),
+            layer,
+            hashes: Vec::with_capacity(alloc, hashes)?,
+            is_refused: false,
+        })
+    }
+
     /// How many bytes were pushed; after a failure, at least as many as before it.
     pub fn len(&self) -> u64
         ensures { result ≡ byte_count self.now }

@@ -7,9 +7,12 @@ ghost use Rattle.seeding.specs.Leaves.{CountsReading, ReadsLeaves};
 
 use benc::Source;
 use folders::{Taker, take_all};
-use hashtree::{Hash, LayerBuilder, NoMemory};
+use hashtree::{BLOCK_LENGTH, Hash, LayerBuilder, NoMemory};
 use metainfo::TreeInfo;
 use std::alloc::Global;
+
+/// For how many leaves memory is taken before a file is read: 2 MiB.
+const MOST_AT_ONCE: u64 = 65_536;
 
 /// Why no content was read.
 #[derive(Clone, Copy)]
@@ -48,7 +51,8 @@ impl Taker for Leaves {
 }
 
 /// Reads a source to its end, or to one byte past the length of the tree's files: the leaves of its
-/// content if that fits the tree, and else `None`.
+/// content if that fits the tree, and else `None`. Memory for the leaves of the first GiB is taken
+/// before anything is read.
 pub(crate) fn read_leaves<F: Source>(
     alloc: Global,
     source: &mut F,
@@ -62,9 +66,10 @@ pub(crate) fn read_leaves<F: Source>(
     ensures no_further { IsReadWithin (tree.now.length + 1) (F.seen source.old)
         (F.seen source.new) }
 {
-    let mut leaves = Leaves {
-        builder: LayerBuilder::new(alloc, 0),
+    let Ok(builder) = LayerBuilder::with_capacity(alloc, 0, room_for(tree.length)) else {
+        return Err(ReadFault::NoMemory);
     };
+    let mut leaves = Leaves { builder };
     let mut buffer = [0u8; 65536];
     let Ok(count) = take_all(source, tree.length, &mut buffer, &mut leaves) else {
         return Err(ReadFault::Device);
@@ -82,6 +87,12 @@ pub(crate) fn read_leaves<F: Source>(
     } else {
         Ok(None)
     }
+}
+
+// How many leaves there is room for from the start: those of the file, but of 1 GiB at most, since
+// the file may be shorter than is stated.
+fn room_for(length: u64) -> usize {
+    length.div_ceil(BLOCK_LENGTH).min(MOST_AT_ONCE) as usize
 }
 
 // What a builder tells that was given some bytes, if memory was not refused to it. One to which it

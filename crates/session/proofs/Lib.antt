@@ -15,3 +15,5 @@ pub mod OpenAsks
 pub mod Asking
 pub mod NotedSteps
 pub mod NotedRounds
+pub mod Replayed
+pub mod OneRun

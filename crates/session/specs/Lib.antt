@@ -14,3 +14,4 @@ pub mod Codes
 pub mod Fresh
 pub mod Laws
 pub mod RoundLaws
+pub mod NotedLaws

@@ -1,6 +1,7 @@
 //! The laws of runs of messages, each as the contract of a function that does nothing.
 
 ghost use Rattle.session.specs.Laws.{RunKeepsPromises, RoundLeavesFewerGaps};
+ghost use Rattle.session.specs.NotedLaws.{ConversionRunsAsFormOne, FormOneRunsAsConversion, ConversionReplaysAsFormOne, OneRunWithMemory, ConversionTellsTheSame, NotedStaysOpen, IncomingOpensNothing, NotedRunKeeps, NotedRoundLeavesFewerGaps};
 ghost use Rattle.session.specs.RoundLaws.{NoGapMeansNothingWanted, NothingWantedMeansNoGap, WantedAnswerLeadsToRoot, RunGapsNeverRise, RoundRunLeavesFewerGaps, RoundsAreAtMostGaps, RoundsMakeAllKnown};
 
 /// A run keeps all trees closed, and each block that it verifies is the block of every file that
@@ -31,4 +32,26 @@ pub fn gaps_are_wants()
     ensures none { NoGapMeansNothingWanted }
     ensures all { NothingWantedMeansNoGap }
     ensures root { WantedAnswerLeadsToRoot }
+{}
+
+/// If memory was refused for no request, the replay of a conversion gives what came in the verdicts
+/// that form 1 allows, and leaves the same trees and marks; each run of form 1 is such a run. With
+/// memory for all, messages have one run, so a conversion tells what its record of form 1 does.
+pub fn conversion_replays_as_form_1()
+    ensures runs { ConversionRunsAsFormOne }
+    ensures back { FormOneRunsAsConversion }
+    ensures replays { ConversionReplaysAsFormOne }
+    ensures one { OneRunWithMemory }
+    ensures tells { ConversionTellsTheSame }
+{}
+
+/// A noted ask is open until the hashes of its base range are known, and what comes in opens none.
+/// A run that notes keeps all trees closed, and no tree has more gaps after it. If what was wanted
+/// was noted before its true answer comes, there are fewer, unless memory was refused for that
+/// answer or a collision is named.
+pub fn noted_asks_close_gaps()
+    ensures stays { NotedStaysOpen }
+    ensures ours { IncomingOpensNothing }
+    ensures keeps { NotedRunKeeps }
+    ensures round { NotedRoundLeavesFewerGaps }
 {}

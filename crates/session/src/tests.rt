@@ -5,4 +5,5 @@ mod blocks;
 mod fills;
 mod hashes;
 mod made;
+mod noted;
 mod runs;

@@ -1,9 +1,9 @@
 -- The parts of a record that a source gave, and why no further frame came.
-use Rattle.std.proofs.Common.{◌≡◌, ◌≢◌, ℕ, ◌+◌, ◌^◌, ◌<◌, ◌≤◌, List, [], ◌∷◌, ◌++◌, length, take, get_or, codes, nat_eq, true, false, Option, Some, None, inl, inr, ap, refl, subst, sym, arith, ◌∙◌}
-use Rattle.std.proofs.lemmas.List.{append_assoc, length-append, take_all, take_at}
+use Rattle.std.proofs.Common.{◌≡◌, ◌≢◌, ℕ, suc, zero, ◌+◌, ◌-◌, ◌^◌, ◌<◌, ◌≤◌, List, [], ◌∷◌, ◌++◌, length, take, drop, get_or, codes, nat_eq, true, false, Option, Some, None, inl, inr, ap, refl, subst, sym, arith, ◌∙◌}
+use Rattle.std.proofs.lemmas.List.{append_assoc, length-append, take_at}
 use Rattle.std.specs.Cmp.Lexicographic.{pointwise, same_text}
 use Rattle.std.proofs.lemmas.Bool.{false≢true}
-use Rattle.std.specs.Io.KnownBytes.{Consumes, IsAtEnd}
+use Rattle.std.specs.Io.KnownBytes.{IsAtEnd}
 use Rattle.benc.specs.Device.{SourceSeen}
 use Rattle.wire.specs.declared.direction.Direction.{Direction}
 use Rattle.wire.specs.declared.direction.Direction.TheVariants.{In}
@@ -17,9 +17,8 @@ use Rattle.wire.specs.Reading.{Gave, GaveFaultless, GaveUntil, CountsRead, Stops
 use Rattle.wire.specs.Records.{Directed, HasForm, direction_byte, header, record_frame}
 use Rattle.wire.specs.RecordReading.{GavePart, GaveFrame, EndsRecord, StopsAt, StopsInRecord, GivesNext}
 use Rattle.wire.proofs.FourBytes.{length-four_bytes, same_from_four_bytes}
-use Rattle.wire.proofs.Giving.{Gave-trans, Gave-until, Faultless-take, Faultless-trans}
-use Rattle.wire.proofs.Heads.{single}
-use Rattle.wire.proofs.Partial.{IsPartial-from_short}
+use Rattle.wire.proofs.Giving.{Gave-trans, Gave-until, Faultless-trans}
+use Rattle.wire.proofs.Partial.{IsPartial-from_short, IsPartial-from_unfinished}
 use Rattle.wire.proofs.Stopping.{StopsInFrame-in_length, StopsInFrame-in_body}
 
 -- ---- the form that the first bytes show
@@ -83,11 +82,12 @@ frame_later body a b fits gave = record { stands = (fits, refl); part = later_pa
 pub frame_first : (body : List ℕ) (a b : SourceSeen) → IsBody body → HasForm (frame body) One → GaveFaultless a b (frame body) → GaveFrame None One (In, body) a b
 frame_first body a b fits has gave = record { stands = (fits, refl); part = first_part (frame body) a b has gave.gave; faults = gave.faults }
 
--- a direction, and a frame
-pub frame_directed : (d : Directed (List ℕ)) (a b c : SourceSeen) → IsBody d.1 → GaveFaultless a b (direction_byte d.0 ∷ []) → GaveFaultless b c (frame d.1) → GaveFrame (Some Two) Two d a c
-frame_directed d a b c fits first rest =
-    let all = Faultless-trans a b c (direction_byte d.0 ∷ []) (frame d.1) first rest in
-    record { stands = fits; part = later_part Two (record_frame Two d) a c all.gave; faults = all.faults }
+-- a direction and a length, and a body of this length
+pub frame_directed : (d : Directed (List ℕ)) (len : ℕ) (a b c : SourceSeen) → len < 2 ^ 32 → length d.1 ≡ len → GaveFaultless a b (direction_byte d.0 ∷ four_bytes len) → GaveFaultless b c d.1 → GaveFrame (Some Two) Two d a c
+unfolding frame
+frame_directed d len a b c bound size start rest =
+    let all : GaveFaultless a c (record_frame Two d) = subst (λ n. GaveFaultless a c (direction_byte d.0 ∷ (four_bytes n ++ d.1))) (sym size) (Faultless-trans a b c (direction_byte d.0 ∷ four_bytes len) d.1 start rest) in
+    record { stands = omega (arith, size, bound); part = later_part Two (record_frame Two d) a c all.gave; faults = all.faults }
 
 pub ends_later : (form : Form) (a b : SourceSeen) → GaveFaultless a b [] → IsAtEnd b.left → EndsRecord (Some form) form a b
 ends_later form a b gave end = record { part = later_part form [] a b gave.gave; faults = gave.faults; at_end = end }
@@ -106,12 +106,13 @@ next_after_header Fits a b c (Some x) head p =
     let f = p.1 in
     (p.0, record { stands = f.stands; part = part_after_header Two (record_frame Two p.0) a b c head f.part; faults = f.faults ∙ head.faults }, p.2)
 
--- a byte that was read alone
-pub gave_byte : (a b : SourceSeen) (count : ℕ) (buf : List ℕ) → length buf ≡ 1 → count ≤ length buf → count ≢ 0 → Consumes a.left b.left (take count buf) → b.limit + count ≡ a.limit → b.faults ≡ a.faults
-    → GaveFaultless a b (get_or buf 0 0 ∷ [])
-gave_byte a b count buf one fits some bytes falls counts =
-    let is : count ≡ 1 = omega (arith, one, fits, some) in
-    subst (GaveFaultless a b) (ap (λ n. take n buf) is ∙ take_all 1 buf (omega (arith, one)) ∙ single buf one) (Faultless-take a b count buf fits bytes falls counts)
+-- a byte that was read, and those that came with it
+pub first_byte : (count : ℕ) (buf : List ℕ) → count ≤ length buf → count ≢ 0 → take count buf ≡ get_or buf 0 0 ∷ take (count - 1) (drop 1 buf)
+first_byte zero buf fits some = absurd (some refl)
+first_byte (suc n) [] fits some = absurd (omega (arith, fits))
+first_byte (suc n) (x ∷ buf) fits some =
+    let same : n ≡ suc n - 1 = omega arith in
+    ap (λ k. x ∷ take k buf) same
 
 -- ---- why none came
 
@@ -154,41 +155,43 @@ stops_first a b why s has = record {
   stops = one_stops s.bytes why s.partial s.begun s.growing s.gave.no_direction;
 }
 
--- behind a direction
-pub stops_directed : (d : Direction) (a b c : SourceSeen) (why : FrameFault) → GaveFaultless a b (direction_byte d ∷ []) → StopsInFrame b c why → StopsInRecord (Some Two) a c why
-stops_directed d a b c why first s =
-    let all = Gave-until a b c (direction_byte d ∷ []) s.bytes why first s.gave in
+-- in the length behind a direction
+pub stops_in_start : (d : Direction) (front : List ℕ) (wanted : ℕ) (a b c : SourceSeen) (why : FrameFault) → length front + wanted ≡ 4 → why ≢ fault.NoMemory → GaveFaultless a b (direction_byte d ∷ front) → StopsShort b c wanted why
+    → StopsInRecord (Some Two) a c why
+stops_in_start d front wanted a b c why whole device first s =
+    let all = Gave-until a b c (direction_byte d ∷ front) s.bytes why first s.gave in
     record {
       form = Two;
-      rest = direction_byte d ∷ s.bytes;
-      part = later_part Two (direction_byte d ∷ s.bytes) a c all.gave;
+      rest = direction_byte d ∷ (front ++ s.bytes);
+      part = later_part Two (direction_byte d ∷ (front ++ s.bytes)) a c all.gave;
       faults = all.faults;
       ended = all.ended;
-      stops = two_stops d s.bytes why s.partial s.growing s.gave.no_direction;
+      stops = two_stops d (front ++ s.bytes) why (IsPartial-from_short (front ++ s.bytes) (omega (arith, whole, s.short, length-append front s.bytes))) (λ e. absurd (device e)) s.gave.no_direction;
     }
 
--- at the end behind a direction
-pub stops_at_end : (d : Direction) (a b c : SourceSeen) → GaveFaultless a b (direction_byte d ∷ []) → GaveFaultless b c [] → IsAtEnd c.left → StopsInRecord (Some Two) a c fault.Truncated
-stops_at_end d a b c first rest end =
-    let all = Faultless-trans a b c (direction_byte d ∷ []) [] first rest in
+-- in the body behind a direction and a length
+pub stops_directed : (d : Direction) (len : ℕ) (a b c : SourceSeen) (why : FrameFault) → len < 2 ^ 32 → GaveFaultless a b (direction_byte d ∷ four_bytes len) → StopsInBody b c len why → StopsInRecord (Some Two) a c why
+stops_directed d len a b c why bound start s =
+    let all = Gave-until a b c (direction_byte d ∷ four_bytes len) s.bytes why start s.gave in
     record {
       form = Two;
-      rest = direction_byte d ∷ [];
-      part = later_part Two (direction_byte d ∷ []) a c all.gave;
+      rest = direction_byte d ∷ (four_bytes len ++ s.bytes);
+      part = later_part Two (direction_byte d ∷ (four_bytes len ++ s.bytes)) a c all.gave;
       faults = all.faults;
-      ended = λ _. end;
-      stops = two_stops d [] fault.Truncated (IsPartial-from_short [] (omega arith)) (λ e. let no : ⊥ = cc in absurd no) (λ e. let no : ⊥ = cc in no);
+      ended = all.ended;
+      stops = two_stops d (four_bytes len ++ s.bytes) why (IsPartial-from_unfinished len s.bytes bound s.short)
+          (λ e. let head = s.growing e in (len, head.0, ap (λ x. four_bytes len ++ x) head.1, head.2)) s.gave.no_direction;
     }
 
 -- at a byte that is no direction
-pub stops_at_other : (byte : ℕ) (a b : SourceSeen) → byte ≢ 0 → byte ≢ 1 → GaveFaultless a b (byte ∷ []) → StopsInRecord (Some Two) a b fault.BadDirection
-stops_at_other byte a b not_in not_out gave = record {
+pub stops_at_other : (byte : ℕ) (behind : List ℕ) (a b : SourceSeen) → byte ≢ 0 → byte ≢ 1 → length behind ≤ 4 → GaveFaultless a b (byte ∷ behind) → StopsInRecord (Some Two) a b fault.BadDirection
+stops_at_other byte behind a b not_in not_out few gave = record {
   form = Two;
-  rest = byte ∷ [];
-  part = later_part Two (byte ∷ []) a b gave.gave;
+  rest = byte ∷ behind;
+  part = later_part Two (byte ∷ behind) a b gave.gave;
   faults = gave.faults;
   ended = λ e. let no : ⊥ = cc in absurd no;
-  stops = record { byte = byte; alone = refl; not_in = not_in; not_out = not_out };
+  stops = record { byte = byte; behind = behind; begins = refl; few = few; not_in = not_in; not_out = not_out };
 }
 
 -- before a direction

@@ -37,9 +37,9 @@ cut-behind_direction : (i : Direction) (part : List ℕ) → IsPartial part → 
 unfolding IsCut IsPartial
 cut-behind_direction i part partial = λ d rest fits e. partial d.1 rest fits (same_heads (direction_byte i) (direction_byte d.0) part (frame d.1 ++ rest) e).1
 
-cut-other_byte : (byte : ℕ) → byte ≢ 0 → byte ≢ 1 → IsCut Two (byte ∷ [])
+cut-other_byte : (byte : ℕ) (behind : List ℕ) → byte ≢ 0 → byte ≢ 1 → IsCut Two (byte ∷ behind)
 unfolding IsCut
-cut-other_byte byte not_in not_out = λ d rest fits e. no_direction d.0 (same_heads byte (direction_byte d.0) [] (frame d.1 ++ rest) e).0
+cut-other_byte byte behind not_in not_out = λ d rest fits e. no_direction d.0 (same_heads byte (direction_byte d.0) behind (frame d.1 ++ rest) e).0
   where
     no_direction : (i : Direction) → byte ≡ direction_byte i → ⊥
     no_direction In e = not_in e
@@ -70,7 +70,7 @@ cut-from_stop form part fault.Truncated s = cut-from_part form part s.0
 cut-from_stop form part fault.Read s = cut-from_part form part s
 cut-from_stop form part fault.NoMemory s = cut-kept_head form part s
 cut-from_stop One part fault.BadDirection s = absurd s
-cut-from_stop Two part fault.BadDirection s = subst (IsCut Two) (sym s.alone) (cut-other_byte s.byte s.not_in s.not_out)
+cut-from_stop Two part fault.BadDirection s = subst (IsCut Two) (sym s.begins) (cut-other_byte s.byte s.behind s.not_in s.not_out)
 
 -- ---- the form
 

@@ -1,5 +1,5 @@
 -- What one call that asks for the next frame of a record meets, and why it stops.
-use Rattle.std.specs.Prelude.{◌≡◌, ◌≢◌, ◌⊎◌, ℕ, List, [], ◌∷◌, ◌++◌, Option, Some, None, MatchOption}
+use Rattle.std.specs.Prelude.{◌≡◌, ◌≢◌, ◌⊎◌, ℕ, ◌^◌, ◌<◌, ◌≤◌, List, [], ◌∷◌, ◌++◌, length, Option, Some, None, MatchOption}
 use Rattle.std.specs.Io.KnownBytes.{IsAtEnd}
 use Rattle.benc.specs.Device.{SourceSeen}
 use Rattle.wire.specs.declared.direction.Direction.{Direction}
@@ -9,7 +9,7 @@ use Rattle.wire.specs.declared.fault.FrameFault.{FrameFault}
 use Rattle.wire.specs.declared.fault.FrameFault.TheVariants as fault
 use Rattle.wire.specs.Frames.{IsPartial, four_bytes}
 use Rattle.wire.specs.Meaning.{IsRightSize}
-use Rattle.wire.specs.Reading.{Gave, CountsRead}
+use Rattle.wire.specs.Reading.{Gave, GaveFaultless, CountsRead}
 use Rattle.wire.specs.Records.{Directed, HasForm, IsCutFrame, MayStand, direction_byte, heading, record_frame}
 
 -- what a call reads of a record: before the form is known, what the form begins with and then this
@@ -56,21 +56,23 @@ pub record IsKeptHead (form : Form) (part : List ℕ) : Type 0 where
   pub bytes : part ≡ mark form direction ++ (four_bytes len ++ id ∷ [])
   pub kept : IsRightSize id len
 
--- one byte that is no direction
-pub record IsOtherByte (part : List ℕ) : Type 0 where
+-- a byte that is no direction, and at most the four behind it, where a length would stand
+pub record IsOtherStart (part : List ℕ) : Type 0 where
   pub byte : ℕ
-  pub alone : part ≡ byte ∷ []
+  pub behind : List ℕ
+  pub begins : part ≡ byte ∷ behind
+  pub few : length behind ≤ 4
   pub not_in : byte ≢ 0
   pub not_out : byte ≢ 1
 
--- what was read when this fault came. A byte that is no direction is told at once; out of memory
--- comes behind the id of a frame whose body is to be kept
+-- what was read when this fault came. A byte that is no direction is told before a body is read; out
+-- of memory comes behind the id of a frame whose body is to be kept
 abbrev pub StopsAt : Form → List ℕ → FrameFault → Type 0
 StopsAt form part fault.Truncated = IsPart form part × (part ≢ [])
 StopsAt form part fault.Read = IsPart form part
 StopsAt form part fault.NoMemory = IsKeptHead form part
 StopsAt One part fault.BadDirection = ⊥
-StopsAt Two part fault.BadDirection = IsOtherByte part
+StopsAt Two part fault.BadDirection = IsOtherStart part
 
 -- no whole frame came, and this is why
 pub record StopsInRecord (before : Option Form) (old new : SourceSeen) (why : FrameFault)
@@ -88,3 +90,9 @@ abbrev pub GivesNext : {X : Type 0} → Option Form → Form → SourceSeen → 
 GivesNext before form old new Fits found = MatchOption found
     (EndsRecord before form old new)
     (λ x. (d : Directed (List ℕ)) × GaveFrame before form d old new × Fits d x)
+
+-- a direction and the length behind it, or the end of the source
+abbrev pub GivesStart : SourceSeen → SourceSeen → Option (Direction × ℕ) → Type 0
+GivesStart old new found = MatchOption found
+    (GaveFaultless old new [] × IsAtEnd new.left)
+    (λ s. GaveFaultless old new (direction_byte s.0 ∷ four_bytes s.1) × (s.1 < 2 ^ 32))

@@ -1,9 +1,9 @@
 //! One frame of a record from a source.
-ghost use Rattle.std.specs.Prelude.{◌≡◌, ◌≤◌, ◌<◌, ℕ, List, length, Some, None, MatchResult, IsErrOf, vec_capacity};
+ghost use Rattle.std.specs.Prelude.{◌≡◌, ◌≢◌, ◌≤◌, ◌<◌, ℕ, List, length, Some, None, MatchResult, IsErrOf, vec_capacity};
 ghost use Rattle.benc.specs.Device.{SourceSeen};
 ghost use Rattle.wire.specs.Frames.{four_bytes};
 ghost use Rattle.wire.specs.Reading.{GaveFaultless};
-ghost use Rattle.wire.specs.RecordReading.{GivesNext, StopsInRecord};
+ghost use Rattle.wire.specs.RecordReading.{GivesNext, GivesStart, StopsInRecord};
 ghost use Rattle.wire.specs.RecordReader.{HoldsFrom};
 
 use crate::bytes::{read_exact, read_length, skip};
@@ -12,6 +12,7 @@ use crate::fault::FrameFault;
 use crate::form::Form;
 use crate::framing::{read_body, read_frame};
 use crate::head::Head;
+use crate::number::number_at;
 use benc::Source;
 
 /// A frame's direction and head, or `None` at the end of the source.
@@ -108,15 +109,28 @@ fn read_directed<R: Source>(source: &mut R, kept: &mut Vec<u8>) -> Result<Found,
     ensures capacity { vec_capacity kept.old ≤ vec_capacity kept.new }
     ensures memory { IsErrOf result FrameFault.NoMemory → vec_capacity kept.old < 263216 }
 {
-    let mut byte = [0u8; 1];
-    if source.read(&mut byte)? == 0 {
+    match read_start(source)? {
+        None => Ok(None),
+        Some((direction, len)) => Ok(Some((direction, read_body(source, kept, len)?))),
+    }
+}
+
+/// Reads a direction and the length behind it, or `None` at the end of the source. One read is
+/// enough if the source gives both at once.
+fn read_start<R: Source>(source: &mut R) -> Result<Option<(Direction, u32)>, FrameFault>
+    ensures bytes { MatchResult result
+        (GivesStart (R.seen source.old) (R.seen source.new))
+        (StopsInRecord (Some Form.Two) (R.seen source.old) (R.seen source.new)) }
+    ensures no_memory { ¬ IsErrOf result FrameFault.NoMemory }
+{
+    let mut start = [0u8; 5];
+    let count = source.read(&mut start)?;
+    if count == 0 {
         return Ok(None);
     }
-    let Some(direction) = Direction::of(byte[0]) else {
+    let Some(direction) = Direction::of(start[0]) else {
         return Err(FrameFault::BadDirection);
     };
-    match read_frame(source, kept)? {
-        None => Err(FrameFault::Truncated),
-        Some(head) => Ok(Some((direction, head))),
-    }
+    read_exact(source, &mut start[count..])?;
+    Ok(Some((direction, number_at(&start[1..]))))
 }

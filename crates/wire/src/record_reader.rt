@@ -80,10 +80,10 @@ impl<'r, R: Source> RecordReader<'r, R> {
     }
 
     /// The next frame with its direction, or `None` at the end of the record. `Truncated` comes if
-    /// the record ends inside a frame, or behind a direction; `BadDirection` as soon as a byte was
-    /// read that is no direction. After `None` and after a fault each later call answers the same
-    /// and reads nothing. `NoMemory` comes only from the first growth of the reader's buffer,
-    /// behind the length and the id of a message that is read.
+    /// the record ends inside a frame, or behind a direction; `BadDirection` at a byte that is no
+    /// direction, behind which up to four bytes may have been read. After `None` and after a fault
+    /// each later call answers the same and reads nothing. `NoMemory` comes only from the first
+    /// growth of the reader's buffer, behind the length and the id of a message that is read.
     pub fn next(&mut self) -> Result<Option<(Direction, Frame<'_>)>, FrameFault>
         ensures means { IfOk result (λ found. IfSome found (λ f. (body : List ℕ)
             × Means body f.1)) }

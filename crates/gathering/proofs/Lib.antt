@@ -1,0 +1,7 @@
+-- Lemmas on the gathering of drafts.
+pub mod Adding
+pub mod Digests
+pub mod Listed
+pub mod Steps
+pub mod Stopped
+pub mod Told

@@ -1,0 +1,126 @@
+-- The order of listed paths, and what was gathered of a shelf that was listed.
+use Rattle.std.proofs.Common.{◌≡◌, ◌⊎◌, inr, ℕ, ◌+◌, ◌<◌, Bool, cond, List, [], ◌∷◌, length, map, take, get_or, Option, Some, Result, Ok, Err, refl, sym, ◌∙◌, ap, subst, arith}
+use Rattle.std.specs.Prelude.{String, slice_get}
+use Rattle.std.specs.Global.{Global, Vec}
+use Rattle.std.specs.String.{string_bytes}
+use Rattle.std.specs.Cmp.Lexicographic.{slice_cmp}
+use Rattle.std.specs.List.Sorted.{IsPermutation, IsSorted}
+use Rattle.std.specs.Ordering.{is_lt, nat_cmp, ordering_then}
+use Rattle.std.proofs.lemmas.List.{get_or-map, length-map}
+use Rattle.std.proofs.lemmas.List.Sorted.{IsPermutation-map, sum_by-IsPermutation}
+use Rattle.std.proofs.lemmas.Option.{same_Some, slice_get_within}
+use Rattle.benc.specs.Device.{SourceSeen}
+use Rattle.benc.specs.declared.device.DeviceFault.{DeviceFault}
+use Rattle.drafts.specs.Outline.{Outline}
+use Rattle.folders.specs.Shelf.{IsListed, Listing, is_path, path_bytes}
+use Rattle.gathering.specs.Gathering.{AreContents, Fails, Gathers, GathersAll, HasGathered, IsSortedListing, LacksMemoryAt, Misses, RefusesAt, StopsAt}
+use Rattle.gathering.specs.Steps.{Stops, StopsBefore}
+use Rattle.gathering.specs.Stopping.{at_path}
+use Rattle.gathering.specs.declared.file_fault.FileFault.{FileFault}
+use Rattle.gathering.specs.declared.file_fault.FileFault.TheVariants as why
+use Rattle.gathering.specs.declared.gather_fault.GatherFault.{GatherFault}
+use Rattle.gathering.specs.declared.gathering.Stop.{Stop}
+use Rattle.gathering.proofs.Steps.{item_of}
+use Rattle.folders.specs.Verdicts.{Agrees}
+use Rattle.pieces.specs.Pieces.{IsPieceLength}
+
+-- ---- the listing
+
+abbrev Paths : Type 0
+Paths = List (Vec (String Global))
+
+order_is : (x y : List (String Global)) → slice_cmp (λ a b. slice_cmp nat_cmp (string_bytes a) (string_bytes b)) x y ≡ slice_cmp (slice_cmp nat_cmp) (map string_bytes x) (map string_bytes y)
+order_is [] [] = refl
+order_is [] (b ∷ y) = refl
+order_is (a ∷ x) [] = refl
+order_is (a ∷ x) (b ∷ y) = ap (ordering_then (slice_cmp nat_cmp (string_bytes a) (string_bytes b))) (order_is x y)
+
+sorted_paths : (vs : Paths) → IsSorted (λ v w. slice_cmp (λ a b. slice_cmp nat_cmp (string_bytes a) (string_bytes b)) v.items w.items) vs
+    → IsSorted (slice_cmp (slice_cmp nat_cmp)) (map path_bytes vs)
+sorted_paths [] up k d low inside = absurd (omega (arith, inside))
+sorted_paths (v ∷ vs) up k d low inside =
+    let all : Paths = v ∷ vs in
+    let next : k + 1 < length all = omega (arith, inside, length-map all path_bytes) in
+    let here : k < length all = omega (arith, next) in
+    let cmp = slice_cmp (slice_cmp nat_cmp) in
+    ap is_lt (ap (λ p. cmp p (get_or (map path_bytes all) k d)) (get_or-map path_bytes all (k + 1) v d next)
+    ∙ ap (cmp (path_bytes (get_or all (k + 1) v))) (get_or-map path_bytes all k v d here)
+    ∙ sym (order_is (get_or all (k + 1) v).items (get_or all k v).items))
+    ∙ up k v low next
+
+pub sorted_listing : (told : Option Listing) (paths : Vec (Vec (String Global))) (sorted : Paths) → IsListed told (Ok paths) → IsPermutation paths.items sorted
+    → IsSorted (λ v w. slice_cmp (λ a b. slice_cmp nat_cmp (string_bytes a) (string_bytes b)) v.items w.items) sorted → IsSortedListing told (map path_bytes sorted)
+sorted_listing told paths sorted listed moved up = record {
+  in_order = sorted_paths sorted up;
+  listed = λ there is.
+      let these = subst (λ t. IsListed t (Ok paths)) is listed in
+      record {
+        named = these.0;
+        regular = these.1;
+        each_once = λ p. sum_by-IsPermutation (λ x. cond (is_path p x) 1 0) (map path_bytes paths.items) (map path_bytes sorted) (IsPermutation-map path_bytes paths.items sorted moved) ∙ these.2 p;
+      };
+}
+
+-- ---- what was gathered
+
+are_under : (u v : List (List ℕ) → Option (Option (List ℕ))) (ps : List (List (List ℕ))) (cs : List (List ℕ)) → ((p : List (List ℕ)) → u p ≡ v p) → AreContents u ps cs → AreContents v ps cs
+are_under u v [] [] same are = tt
+are_under u v [] (c ∷ cs) same are = absurd are
+are_under u v (p ∷ ps) [] same are = absurd are
+are_under u v (p ∷ ps) (c ∷ cs) same (first, rest) = (subst (λ t. Agrees t (Some c)) (same p) first, are_under u v ps cs same rest)
+
+module _ {S F : Type 0} (opens : S → List (List ℕ) → Result (Option F) DeviceFault → S → Type 0) (closes : S → F → S → Type 0) (faults : S → ℕ)
+    (under : S → List (List ℕ) → Option (Option (List ℕ))) (seen : F → SourceSeen) (listing : S → Option Listing) (name : List ℕ) (piece_length : ℕ) (hybrid : Bool) where
+  -- the listing left the shelf as it was
+  gathered_before : (old base s : S) (paths : List (List (List ℕ))) (d : Outline) → faults base ≡ faults old → ((p : List (List ℕ)) → under base p ≡ under old p)
+      → HasGathered opens closes faults under seen listing name piece_length hybrid base paths s d → HasGathered opens closes faults under seen listing name piece_length hybrid old paths s d
+  gathered_before old base s paths d quiet kept so_far = record {
+    contents = so_far.contents;
+    listed = so_far.listed;
+    read = so_far.read;
+    are = are_under (under base) (under old) paths so_far.contents kept so_far.are;
+    gathered = so_far.gathered;
+    quiet = so_far.quiet ∙ quiet;
+    kept = λ p. so_far.kept p ∙ kept p;
+  }
+
+  pub gathers_all : (old base new : S) (sorted : Paths) (d : Outline) → IsPieceLength piece_length → IsSortedListing (listing old) (map path_bytes sorted)
+      → faults base ≡ faults old → ((p : List (List ℕ)) → under base p ≡ under old p)
+      → HasGathered opens closes faults under seen listing name piece_length hybrid base (map path_bytes sorted) new d
+      → GathersAll opens closes faults under seen listing name piece_length hybrid old new d
+  gathers_all old base new sorted d legal listed quiet kept all =
+      record { legal = legal; paths = map path_bytes sorted; sorted = listed; all = gathered_before old base new (map path_bytes sorted) d quiet kept all }
+
+  -- what is told of a path at which it stopped
+  told_at : (old new mid : S) (d : Outline) (f : FileFault) (v : Vec (String Global))
+      → ((Why : Outline → S → Type 0) → Why d mid → StopsAt opens closes faults under seen listing name piece_length hybrid old (path_bytes v) Why)
+      → Stops opens closes faults under seen f d mid (path_bytes v) new → Gathers opens closes faults under seen listing name piece_length hybrid old new (Err (at_path f v))
+  told_at old new mid d (why.Refused r) v at stops = inr (at (λ e s. RefusesAt opens closes faults under seen e (path_bytes v) r s new) stops)
+  told_at old new mid d why.Device v at stops = at (λ e s. Fails opens closes faults under seen s (path_bytes v) new) stops
+  told_at old new mid d why.NoMemory v at stops =
+      inr (path_bytes v, at (λ e s. (new ≡ s) ⊎ LacksMemoryAt opens closes faults under seen e (path_bytes v) s new) stops)
+  told_at old new mid d why.Changed v at stops = at (λ e s. Misses opens closes faults under seen s (path_bytes v) new) stops
+
+  taken : (sorted : Paths) (n : ℕ) (path : List (List ℕ)) (v : Vec (String Global)) → slice_get (map path_bytes sorted) n ≡ Some path → v ≡ get_or sorted n v → path ≡ path_bytes v
+  taken sorted n path v there is =
+      let inside : n < length sorted = omega (arith, slice_get_within (map path_bytes sorted) n path there, length-map sorted path_bytes) in
+      same_Some path (path_bytes v) (sym there ∙ item_of path_bytes sorted n v inside ∙ ap (λ w. Some (path_bytes w)) (sym is))
+
+  pub stopped_at : (old base new : S) (sorted : Paths) (stop : Stop) (v : Vec (String Global)) (told : GatherFault) → IsPieceLength piece_length
+      → IsSortedListing (listing old) (map path_bytes sorted) → faults base ≡ faults old → ((p : List (List ℕ)) → under base p ≡ under old p)
+      → StopsBefore opens closes faults under seen listing name piece_length hybrid base (map path_bytes sorted) new stop → v ≡ get_or sorted stop.number v → told ≡ at_path stop.fault v
+      → Gathers opens closes faults under seen listing name piece_length hybrid old new (Err told)
+  stopped_at old base new sorted stop v told legal listed quiet kept stops is answer =
+      let path : stops.path ≡ path_bytes v = taken sorted stop.number stops.path v stops.there is in
+      subst (λ f. Gathers opens closes faults under seen listing name piece_length hybrid old new (Err f)) (sym answer)
+      (told_at old new stops.mid stops.draft stop.fault v (λ Why holds. record {
+        legal = legal;
+        paths = map path_bytes sorted;
+        sorted = listed;
+        number = stop.number;
+        there = stops.there ∙ ap Some path;
+        draft = stops.draft;
+        mid = stops.mid;
+        before = gathered_before old base stops.mid (take stop.number (map path_bytes sorted)) stops.draft quiet kept stops.before;
+        why = holds;
+      }) (subst (λ p. Stops opens closes faults under seen stop.fault stops.draft stops.mid p new) path stops.why))

@@ -1,0 +1,55 @@
+-- Paths that were gathered one after the other.
+use Rattle.std.proofs.Common.{◌≡◌, ℕ, ◌+◌, ◌<◌, Bool, List, [], ◌∷◌, ◌++◌, length, map, take, get_or, Option, Some, option_map, Result, refl, sym, ◌∙◌, ap, subst, add-one}
+use Rattle.std.specs.Prelude.{slice_get}
+use Rattle.std.proofs.Math.Seq.{take-suc}
+use Rattle.std.proofs.lemmas.Option.{get_or_from_slice_get, slice_get-get_or, slice_get-map, slice_get_within}
+use Rattle.benc.specs.Device.{SourceSeen}
+use Rattle.benc.specs.declared.device.DeviceFault.{DeviceFault}
+use Rattle.chains.proofs.Chains.{Chain-next}
+use Rattle.drafts.specs.Outline.{Outline, empty_outline}
+use Rattle.folders.specs.Shelf.{Listing}
+use Rattle.folders.specs.Verdicts.{Agrees}
+use Rattle.gathering.specs.Gathered.{Adds}
+use Rattle.gathering.specs.Gathering.{AreContents, HasGathered, Reads}
+
+-- the item of a list that another list is made of
+pub item_of : {A B : Type 0} (f : A → B) (xs : List A) (n : ℕ) (d : A) → n < length xs → slice_get (map f xs) n ≡ Some (f (get_or xs n d))
+item_of f xs n d inside = slice_get-map f xs n ∙ ap (option_map f) (slice_get-get_or xs n d inside)
+
+are_more : (under : List (List ℕ) → Option (Option (List ℕ))) (ps : List (List (List ℕ))) (cs : List (List ℕ)) (p : List (List ℕ)) (c : List ℕ)
+    → AreContents under ps cs → Agrees (under p) (Some c) → AreContents under (ps ++ p ∷ []) (cs ++ c ∷ [])
+are_more under [] [] p c are agrees = (agrees, tt)
+are_more under [] (d ∷ cs) p c are agrees = absurd are
+are_more under (q ∷ ps) [] p c are agrees = absurd are
+are_more under (q ∷ ps) (d ∷ cs) p c (first, rest) agrees = (first, are_more under ps cs p c rest agrees)
+
+taken_more : {A : Type 0} (xs : List A) (n : ℕ) (x : A) → slice_get xs n ≡ Some x → take (n + 1) xs ≡ take n xs ++ x ∷ []
+taken_more xs n x there =
+    ap (λ k. take k xs) (add-one n) ∙ take-suc xs n x (slice_get_within xs n x there) ∙ ap (λ y. take n xs ++ y ∷ []) (get_or_from_slice_get xs n x x there)
+
+module _ {S F : Type 0} (opens : S → List (List ℕ) → Result (Option F) DeviceFault → S → Type 0) (closes : S → F → S → Type 0) (faults : S → ℕ)
+    (under : S → List (List ℕ) → Option (Option (List ℕ))) (seen : F → SourceSeen) (listing : S → Option Listing) (name : List ℕ) (piece_length : ℕ) (hybrid : Bool) where
+  -- none yet
+  pub gathered_none : (s : S) (d : Outline) → d ≡ empty_outline name piece_length hybrid → HasGathered opens closes faults under seen listing name piece_length hybrid s [] s d
+  gathered_none s d empty = record { contents = []; listed = s; read = refl; are = tt; gathered = empty; quiet = refl; kept = λ p. refl }
+
+  -- one more
+  pub gathered_more : (old mid new : S) (paths : List (List (List ℕ))) (n : ℕ) (path : List (List ℕ)) (content : List ℕ) (d e : Outline)
+      → slice_get paths n ≡ Some path → HasGathered opens closes faults under seen listing name piece_length hybrid old (take n paths) mid d
+      → Reads opens closes faults under seen mid path content new → Adds d path content e → ((p : List (List ℕ)) → under new p ≡ under mid p)
+      → HasGathered opens closes faults under seen listing name piece_length hybrid old (take (n + 1) paths) new e
+  gathered_more old mid new paths n path content d e there so_far reads adds kept =
+      let inside : n < length paths = slice_get_within paths n path there in
+      let at : get_or paths n path ≡ path = get_or_from_slice_get paths n path path there in
+      record {
+        contents = so_far.contents ++ content ∷ [];
+        listed = so_far.listed;
+        read = Chain-next (Reads opens closes faults under seen) so_far.listed mid new paths n so_far.contents path content inside so_far.read
+            (subst (λ p. Reads opens closes faults under seen mid p content new) (sym at) reads);
+        are = subst (λ ps. AreContents (under old) ps (so_far.contents ++ content ∷ [])) (sym (taken_more paths n path there))
+            (are_more (under old) (take n paths) so_far.contents path content so_far.are (subst (λ t. Agrees t (Some content)) (so_far.kept path) reads.agrees));
+        gathered = Chain-next Adds (empty_outline name piece_length hybrid) d e paths n so_far.contents path content inside so_far.gathered
+            (subst (λ p. Adds d p content e) (sym at) adds);
+        quiet = reads.quiet ∙ so_far.quiet;
+        kept = λ p. kept p ∙ so_far.kept p;
+      }

@@ -1,0 +1,159 @@
+-- How a draft is gathered from a shelf: each listed path is opened once, in the order of the file
+-- tree, read once, and handed back.
+use Rattle.std.specs.Prelude.{◌≡◌, ◌⊎◌, ℕ, ◌+◌, ◌^◌, ◌≤◌, Bool, false, List, [], ◌∷◌, length, take, slice_get, Option, Some, None, Result, Ok, Err}
+use Rattle.std.specs.Cmp.Lexicographic.{slice_cmp}
+use Rattle.std.specs.List.Sorted.{IsSorted}
+use Rattle.std.specs.Ordering.{nat_cmp}
+use Rattle.benc.specs.Device.{SourceSeen, one_more}
+use Rattle.benc.specs.declared.device.DeviceFault.{DeviceFault}
+use Rattle.chains.specs.Chain.{Chain}
+use Rattle.drafts.specs.Outline.{Outline}
+use Rattle.filetree.specs.declared.refusal.Refusal.{Refusal}
+use Rattle.filetree.specs.declared.refusal.Refusal.TheVariants as refusals
+use Rattle.folders.specs.Shelf.{CountsListing, IsEachOnce, IsListed, Listing, path_bytes}
+use Rattle.folders.specs.TakeAll.{IsReadWithin}
+use Rattle.folders.specs.Verdicts.{Agrees}
+use Rattle.folders.specs.declared.shelf_fault.ShelfFault.{ShelfFault}
+use Rattle.gathering.specs.Gathered.{Gathered, KeepsDigests, RefusesContent, Takes}
+use Rattle.gathering.specs.declared.gather_fault.GatherFault.{GatherFault}
+use Rattle.gathering.specs.declared.gather_fault.GatherFault.TheVariants as fault
+use Rattle.pieces.specs.Pieces.{IsPieceLength}
+
+-- ---- the listing
+
+-- all that this shelf lists are files, and each listed path stands once among these
+pub record ListsOnce (there : Listing) (paths : List (List (List ℕ))) : Type 0 where
+  pub named : there.has_odd_name ≡ false
+  pub regular : there.specials ≡ []
+  pub each_once : IsEachOnce there.files paths
+
+-- these are the paths that a shelf lists, if it tells them, in the order of the file tree
+pub record IsSortedListing (told : Option Listing) (paths : List (List (List ℕ))) : Type 0 where
+  pub in_order : IsSorted (slice_cmp (slice_cmp nat_cmp)) paths
+  pub listed : (there : Listing) → told ≡ Some there → ListsOnce there paths
+
+-- each path has its content, which is the one that the shelf tells if it does
+abbrev pub AreContents : (List (List ℕ) → Option (Option (List ℕ))) → List (List (List ℕ))
+    → List (List ℕ) → Type 0
+AreContents under [] [] = Unit {0}
+AreContents under [] (c ∷ cs) = ⊥
+AreContents under (p ∷ ps) [] = ⊥
+AreContents under (p ∷ ps) (c ∷ cs) = Agrees (under p) (Some c) × AreContents under ps cs
+
+-- `opens`, `closes`, `faults` and `under` are those of the shelf's type, `seen` that of its files
+module _ {S F : Type 0} (opens : S → List (List ℕ) → Result (Option F) DeviceFault → S → Type 0)
+    (closes : S → F → S → Type 0) (faults : S → ℕ)
+    (under : S → List (List ℕ) → Option (Option (List ℕ))) (seen : F → SourceSeen) where
+  -- ---- one file
+
+  -- the path was opened, and what was opened was read, a byte past the longest file at most, and
+  -- handed back
+  pub record HandsBack (s : S) (path : List (List ℕ)) (file : F) (s' : S) : Type 0 where
+    pub between : S
+    pub opened : opens s path (Ok (Some file)) between
+    pub read : F
+    pub within : IsReadWithin (2 ^ 46 + 1) (seen file) (seen read)
+    pub closed : closes between read s'
+
+  -- and without a fault: it has this content, which is the known one
+  pub record Reads (s : S) (path : List (List ℕ)) (content : List ℕ) (s' : S) : Type 0 where
+    pub file : F
+    pub handed : HandsBack s path file s'
+    pub gave : (known : List ℕ) → (seen file).left ≡ Some known → known ≡ content
+    pub agrees : Agrees (under s path) (Some content)
+    pub quiet : faults s' ≡ faults s
+
+  -- the opening failed, or a read did; that is one fault
+  pub record Fails (s : S) (path : List (List ℕ)) (s' : S) : Type 0 where
+    pub counted : faults s' ≡ one_more (faults s)
+    pub failed : ((e : DeviceFault) × opens s path (Err e) s')
+        ⊎ ((file : F) × HandsBack s path file s')
+
+  -- nothing was there
+  pub record Misses (s : S) (path : List (List ℕ)) (s' : S) : Type 0 where
+    pub opened : opens s path (Ok None) s'
+    pub agrees : Agrees (under s path) None
+    pub quiet : faults s' ≡ faults s
+
+  -- the path was read, and the draft d refuses its content
+  pub record RefusesAt (d : Outline) (path : List (List ℕ)) (r : Refusal) (s s' : S) : Type 0 where
+    pub content : List ℕ
+    pub reads : Reads s path content s'
+    pub refuses : RefusesContent d path content r
+
+  -- the path was read, and memory was refused: for the digests of its content, or by the draft d,
+  -- which takes it
+  pub record LacksMemoryAt (d : Outline) (path : List (List ℕ)) (s s' : S) : Type 0 where
+    pub content : List ℕ
+    pub reads : Reads s path content s'
+    pub short : length content ≤ 2 ^ 46
+    pub takes : KeepsDigests d.piece_length d.hybrid content ⊎ Takes d path content
+
+  -- ---- all files
+
+  -- the shelf tells this listing before it is listed, and the draft has this name, piece length and
+  -- kind
+  module _ (listing : S → Option Listing) (name : List ℕ) (piece_length : ℕ) (hybrid : Bool) where
+    -- the shelf was listed, and then these paths were read in turn and gathered in the draft d
+    pub record HasGathered (old : S) (paths : List (List (List ℕ))) (s : S) (d : Outline) : Type 0
+      where
+        pub contents : List (List ℕ)
+        pub listed : S
+        pub read : Chain Reads listed paths contents s
+        pub are : AreContents (under old) paths contents
+        pub gathered : Gathered name piece_length hybrid paths contents d
+        pub quiet : faults s ≡ faults old
+        pub kept : (p : List (List ℕ)) → under s p ≡ under old p
+
+    -- all listed files are in the draft d, and no other
+    pub record GathersAll (old new : S) (d : Outline) : Type 0 where
+      pub legal : IsPieceLength piece_length
+      pub paths : List (List (List ℕ))
+      pub sorted : IsSortedListing (listing old) paths
+      pub all : HasGathered old paths new d
+
+    -- the files before one of the listed paths were gathered, and this happened at that path
+    pub record StopsAt (old : S) (path : List (List ℕ)) (Why : Outline → S → Type 0) : Type 0 where
+      pub legal : IsPieceLength piece_length
+      pub paths : List (List (List ℕ))
+      pub sorted : IsSortedListing (listing old) paths
+      pub number : ℕ
+      pub there : slice_get paths number ≡ Some path
+      pub draft : Outline
+      pub mid : S
+      pub before : HasGathered old (take number paths) mid draft
+      pub why : Why draft mid
+
+    -- there is no draft of this piece length, and the shelf was not looked at
+    pub record RefusesAll (old new : S) (path : List (List ℕ)) (r : Refusal) : Type 0 where
+      pub illegal : IsPieceLength piece_length → ⊥
+      pub answer : r ≡ refusals.PieceLength
+      pub no_path : path ≡ []
+      pub untouched : new ≡ old
+
+    -- the shelf was not listed
+    pub record IsUnlisted (old new : S) (f : ShelfFault) : Type 0 where
+      pub legal : IsPieceLength piece_length
+      pub told : IsListed (listing old) (Err f)
+      pub counted : CountsListing (faults old) (faults new) (Err f)
+
+    -- memory was refused: before the shelf was looked at; before a path was opened; or when it was
+    -- read
+    abbrev pub LacksMemory : S → S → Type 0
+    LacksMemory old new =
+        (IsPieceLength piece_length × (new ≡ old))
+        ⊎ ((path : List (List ℕ)) × StopsAt old path
+        (λ d mid. (new ≡ mid) ⊎ LacksMemoryAt d path mid new))
+
+    -- what `gather` did, by its answer
+    abbrev pub Gathers : S → S → Result Outline GatherFault → Type 0
+    Gathers old new (Ok d) = GathersAll old new d
+    Gathers old new (Err (fault.Refused r path)) =
+        RefusesAll old new (path_bytes path) r
+        ⊎ StopsAt old (path_bytes path) (λ d mid. RefusesAt d (path_bytes path) r mid new)
+    Gathers old new (Err (fault.Device path)) =
+        StopsAt old (path_bytes path) (λ d mid. Fails mid (path_bytes path) new)
+    Gathers old new (Err (fault.List f)) = IsUnlisted old new f
+    Gathers old new (Err fault.NoMemory) = LacksMemory old new
+    Gathers old new (Err (fault.Changed path)) =
+        StopsAt old (path_bytes path) (λ d mid. Misses mid (path_bytes path) new)

@@ -1,0 +1,69 @@
+-- What visiting one path of a shelf told, and what was added to a draft. Public clauses do not name
+-- these.
+use Rattle.std.specs.Prelude.{◌≡◌, ◌⊎◌, ℕ, ◌^◌, ◌<◌, ◌≤◌, Bool, List, length, take, slice_get, Option, Some, Result, Ok, Err}
+use Rattle.benc.specs.Device.{SourceSeen}
+use Rattle.benc.specs.declared.device.DeviceFault.{DeviceFault}
+use Rattle.drafts.specs.Outline.{Outline}
+use Rattle.filetree.specs.declared.refusal.Refusal.TheVariants as refusals
+use Rattle.gathering.specs.Gathered.{Adds, KeepsDigests}
+use Rattle.gathering.specs.Gathering.{Fails, HasGathered, LacksMemoryAt, Misses, Reads, RefusesAt}
+use Rattle.gathering.specs.Hashing.{AreHashesOf}
+use Rattle.gathering.specs.declared.file_fault.FileFault.{FileFault}
+use Rattle.gathering.specs.declared.file_fault.FileFault.TheVariants as file
+use Rattle.gathering.specs.declared.gathering.Stop.{Stop}
+use Rattle.gathering.specs.declared.hashing.FileHashes.{FileHashes}
+use Rattle.folders.specs.Shelf.{Listing}
+
+module _ {S F : Type 0} (opens : S → List (List ℕ) → Result (Option F) DeviceFault → S → Type 0)
+    (closes : S → F → S → Type 0) (faults : S → ℕ)
+    (under : S → List (List ℕ) → Option (Option (List ℕ))) (seen : F → SourceSeen) where
+  -- what visiting a path told of its content
+  abbrev pub VisitsFile : ℕ → Bool → S → List (List ℕ) → S → Result FileHashes FileFault → Type 0
+  VisitsFile piece_length hybrid s path s' (Ok told) =
+      (content : List ℕ) × Reads opens closes faults under seen s path content s'
+      × (length content ≤ 2 ^ 46) × AreHashesOf piece_length hybrid content told
+  VisitsFile piece_length hybrid s path s' (Err (file.Refused r)) =
+      (r ≡ refusals.Length)
+      × (content : List ℕ) × Reads opens closes faults under seen s path content s'
+      × (2 ^ 46 < length content)
+  VisitsFile piece_length hybrid s path s' (Err file.Device) =
+      Fails opens closes faults under seen s path s'
+  VisitsFile piece_length hybrid s path s' (Err file.NoMemory) =
+      (content : List ℕ) × Reads opens closes faults under seen s path content s'
+      × (length content ≤ 2 ^ 46) × KeepsDigests piece_length hybrid content
+  VisitsFile piece_length hybrid s path s' (Err file.Changed) =
+      Misses opens closes faults under seen s path s'
+
+  -- why a path was not added to the draft d
+  abbrev pub Stops : FileFault → Outline → S → List (List ℕ) → S → Type 0
+  Stops (file.Refused r) d s path s' = RefusesAt opens closes faults under seen d path r s s'
+  Stops file.Device d s path s' = Fails opens closes faults under seen s path s'
+  Stops file.NoMemory d s path s' =
+      (s' ≡ s) ⊎ LacksMemoryAt opens closes faults under seen d path s s'
+  Stops file.Changed d s path s' = Misses opens closes faults under seen s path s'
+
+  -- a path was added to the draft d, which is e then, or why not
+  abbrev pub AddsPath : Outline → S → List (List ℕ) → Outline → S → Result (Unit {0}) FileFault
+      → Type 0
+  AddsPath d s path e s' (Ok u) =
+      (content : List ℕ) × Reads opens closes faults under seen s path content s'
+      × Adds d path content e
+  AddsPath d s path e s' (Err f) = Stops f d s path s'
+
+  module _ (listing : S → Option Listing) (name : List ℕ) (piece_length : ℕ) (hybrid : Bool) where
+    -- the first paths were added, and it stopped at the next one
+    pub record StopsBefore (old : S) (paths : List (List (List ℕ))) (new : S) (stop : Stop) : Type 0
+      where
+        pub path : List (List ℕ)
+        pub there : slice_get paths stop.number ≡ Some path
+        pub draft : Outline
+        pub mid : S
+        pub before : HasGathered opens closes faults under seen listing name piece_length hybrid old
+            (take stop.number paths) mid draft
+        pub why : Stops stop.fault draft mid path new
+
+    -- all paths were added, or it stopped at one
+    abbrev pub AddsAll : S → List (List (List ℕ)) → Outline → S → Result (Unit {0}) Stop → Type 0
+    AddsAll old paths d new (Ok u) =
+        HasGathered opens closes faults under seen listing name piece_length hybrid old paths new d
+    AddsAll old paths d new (Err stop) = StopsBefore old paths new stop

@@ -1,0 +1,133 @@
+//! The hashing of one file, for its root, its piece layer, and for a hybrid the digests of its
+//! cuts.
+ghost use Rattle.std.specs.Prelude.{[], All, IfOk, IsSome, OnErr, length, ◌≡◌};
+ghost use Rattle.gathering.specs.Hashing.{Begins, BeginsCuts, EndsWithCuts, EndsWithHashes, MayEndWithout};
+
+use crate::kind::Kind;
+use folders::Taker;
+use hashtree::{Hash, LayerBuilder, NoMemory};
+use pieces::{V1Cuts, V1File};
+use std::alloc::Global;
+
+/// What a draft is told of a file.
+#[derive(Drop)]
+pub(crate) struct FileHashes {
+    pub(crate) length: u64,
+    pub(crate) root: Hash,
+    pub(crate) layer: Vec<Hash>,
+    pub(crate) v1: V1File,
+}
+
+impl FileHashes {
+    ghost use Rattle.gathering.specs.Hashing.{AreHashesOf};
+    ghost use Rattle.std.specs.Prelude.{ℕ, Bool};
+
+    /// What is told of an empty file. It takes no memory.
+    pub(crate) fn empty(alloc: Global) -> FileHashes
+        ensures { (piece_length : ℕ) (hybrid : Bool)
+            → AreHashesOf piece_length hybrid [] result }
+    {
+        FileHashes {
+            length: 0,
+            root: [0; 32],
+            layer: Vec::new(alloc),
+            v1: no_cuts(alloc),
+        }
+    }
+}
+
+// What is told of a file that has no cuts, or of which none are wanted.
+fn no_cuts(alloc: Global) -> V1File {
+    V1File {
+        cuts: Vec::new(alloc),
+        padded: [0; 20],
+    }
+}
+
+/// Hashes the bytes of one file as they come. Once memory was refused, it takes no more.
+#[derive(Drop)]
+pub(crate) struct Hashing {
+    pub(crate) tree: LayerBuilder,
+    pub(crate) cuts: Option<V1Cuts>,
+}
+
+impl Hashing {
+    /// Nothing came yet. It takes no memory.
+    pub(crate) fn new(alloc: Global, kind: &Kind) -> Hashing
+        ensures { Begins kind.now.piece_length kind.now.hybrid result }
+    {
+        Hashing {
+            tree: LayerBuilder::new(alloc, kind.piece_layer()),
+            cuts: cuts_of(alloc, kind),
+        }
+    }
+
+    /// What came tells this, if memory was not refused.
+    pub(crate) fn finish(self, alloc: Global) -> Result<FileHashes, NoMemory>
+        ensures told { IfOk result (EndsWithHashes self) }
+        ensures memory { OnErr result (MayEndWithout self) }
+    {
+        if self.tree.is_empty() {
+            return Err(NoMemory);
+        }
+        let (length, root, layer) = self.tree.finish()?;
+        let v1 = finish_cuts(alloc, self.cuts)?;
+        Ok(FileHashes {
+            length,
+            root,
+            layer,
+            v1,
+        })
+    }
+}
+
+// The digests of a hybrid's cuts.
+fn cuts_of(alloc: Global, kind: &Kind) -> Option<V1Cuts>
+    ensures { BeginsCuts kind.now.piece_length kind.now.hybrid result }
+{
+    if kind.hybrid {
+        Some(V1Cuts::new(alloc, kind.piece_length.bytes()))
+    } else {
+        None
+    }
+}
+
+// What the digests of a hybrid's cuts tell, if memory was not refused.
+fn finish_cuts(alloc: Global, cuts: Option<V1Cuts>) -> Result<V1File, NoMemory>
+    ensures told { IfOk result (EndsWithCuts cuts) }
+    ensures memory { OnErr result (IsSome cuts) }
+{
+    match cuts {
+        Some(cuts) => cuts.finish(),
+        None => Ok(no_cuts(alloc)),
+    }
+}
+
+impl Taker for Hashing {
+    ghost use Rattle.gathering.specs.Hashing.{CanHash, Hashes};
+    ghost use Rattle.gathering.specs.HashingLaws.{hashed_none, hashed_both, hashed_room, hashed_less};
+
+    ghost has_room = { CanHash };
+
+    ghost took = { Hashes };
+
+    fn take(&mut self, part: &[u8]) {
+        let _ = self.tree.push(part);
+        if let Some(cuts) = &mut self.cuts {
+            let _ = cuts.push(part);
+        }
+    }
+
+    ghost none = { hashed_none };
+
+    ghost joins = { hashed_both };
+
+    ghost room_left = { hashed_room };
+
+    ghost room_for_less = { hashed_less };
+}
+
+/// Each hash has 32 bytes, as its type says.
+pub(crate) fn are_hashes(hashes: &[Hash])
+    ensures { All (λ h. length h ≡ 32) hashes.now }
+{}

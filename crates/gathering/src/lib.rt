@@ -1,0 +1,13 @@
+//! Gathering: a draft of a torrent is made of all files of a shelf.
+#![tactic(auto)]
+
+mod file_fault;
+mod gather_fault;
+mod gathering;
+mod hashing;
+mod kind;
+mod reading;
+mod visiting;
+
+pub use gather_fault::GatherFault;
+pub use gathering::gather;

@@ -1,0 +1,35 @@
+//! The visit of one path of a shelf.
+ghost use Rattle.std.specs.Prelude.{◌≡◌, ℕ, ◌<◌, List, length, map};
+ghost use Rattle.gathering.specs.Steps.{VisitsFile};
+
+use crate::file_fault::FileFault;
+use crate::hashing::FileHashes;
+use crate::kind::Kind;
+use crate::reading::read_file;
+use folders::Shelf;
+use std::alloc::Global;
+
+/// Opens the file under this path, hashes it, and hands it back.
+pub(crate) fn hash_file<S: Shelf>(
+    alloc: Global,
+    shelf: &mut S,
+    path: &[&str],
+    kind: &Kind,
+    buffer: &mut [u8],
+) -> Result<FileHashes, FileFault>
+    requires { 0 < length buffer.old }
+    ensures visits { VisitsFile S.opens S.closes S.faults S.under S.File.seen kind.now.piece_length
+        kind.now.hybrid shelf.old (map (λ s. s.now) path.now) shelf.new result }
+    ensures kept { (p : List (List ℕ)) → S.under shelf.new p ≡ S.under shelf.old p }
+    ensures buffer { length buffer.new ≡ length buffer.old }
+{
+    match shelf.open(path) {
+        Ok(Some(mut source)) => {
+            let read = read_file(alloc, &mut source, kind, buffer);
+            shelf.close(source);
+            read
+        }
+        Ok(None) => Err(FileFault::Changed),
+        Err(_) => Err(FileFault::Device),
+    }
+}

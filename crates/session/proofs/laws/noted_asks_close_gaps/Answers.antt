@@ -1,0 +1,10 @@
+use Rattle.session.proofs.NotedRounds.{run-noted-open, incoming-opens, noted-keeps, noted-round-law}
+use Rattle.session.proofs.laws.noted_asks_close_gaps.Goals as goal
+
+pub returns : goal.returns
+returns c = record {
+  stays = run-noted-open;
+  ours = incoming-opens;
+  keeps = noted-keeps;
+  round = noted-round-law;
+}

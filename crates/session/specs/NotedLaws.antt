@@ -1,0 +1,131 @@
+-- The laws of sessions that note what they ask for, and of the replay of a conversion.
+use Rattle.std.specs.Prelude.{◌≡◌, ◌≢◌, ◌⊎◌, ℕ, ◌<◌, List, [], ◌∷◌, Some}
+use Rattle.std.specs.Borrow.{Bor}
+use Rattle.std.specs.List.{All, AllZip, AllByRecursion}
+use Rattle.wire.specs.declared.direction.Direction.TheVariants.{In, Out}
+use Rattle.wire.specs.declared.frame.Frame.{Frame as Told}
+use Rattle.wire.specs.declared.message.Ask.{Ask as Asked}
+use Rattle.wire.specs.declared.message.Message.{Message as Sent}
+use Rattle.wire.specs.declared.message.Message.TheVariants.{Hashes}
+use Rattle.wire.specs.Meaning.{Means}
+use Rattle.wire.specs.Records.{Directed, MeansDirected, messages_in, directed_messages}
+use Rattle.wire.specs.Conversion.{conversion, converted_messages}
+use Rattle.session.specs.declared.verdict.Verdict.{Verdict as Said}
+use Rattle.session.specs.declared.verdict.Verdict.TheVariants.{HashRefused}
+use Rattle.partial_tree.specs.declared.refusal.HashRefusal.TheVariants.{NoMemory}
+use Rattle.hashtree.specs.Tree.{block_count}
+use Rattle.node_maps.specs.Digest.{Hash}
+use Rattle.node_maps.specs.Places.{tree_height}
+use Rattle.node_maps.specs.Known.{look}
+use Rattle.partial_tree.specs.TreeRoot.{TreeRoot as Tree, Fits}
+use Rattle.partial_tree.specs.Closed.{whole}
+use Rattle.partial_tree.specs.Claims.{answer_of}
+use Rattle.partial_tree.specs.Gaps.{want_of}
+use Rattle.chains.specs.Chain.{Chain}
+use Rattle.session.specs.Asks.{AskSet}
+use Rattle.session.specs.Session.{SessionSeen, TreeState, IsTree, IsGood, HasDistinctRoots, HasFewerGaps, Step}
+use Rattle.session.specs.Rounds.{HasNoMoreGaps, Collides}
+use Rattle.session.specs.Noted.{IsOpenAsk, NotedStep, KeepsOpen}
+use Rattle.session.specs.NotedRounds.{HasDirectedHashes}
+
+-- ---- memory aside
+
+-- the verdicts on what came in
+abbrev pub incoming : List (Directed Sent) → List Said → List Said
+incoming [] vs = []
+incoming (m ∷ ms) [] = []
+incoming ((In, m) ∷ ms) (v ∷ vs) = v ∷ incoming ms vs
+incoming ((Out, m) ∷ ms) (v ∷ vs) = incoming ms vs
+
+-- memory was refused for no request that went out
+abbrev pub AllNoted : List (Directed Sent) → List Said → Type 0
+AllNoted [] vs = Unit {0}
+AllNoted (m ∷ ms) [] = Unit {0}
+AllNoted ((In, m) ∷ ms) (v ∷ vs) = AllNoted ms vs
+AllNoted ((Out, m) ∷ ms) (v ∷ vs) = (v ≢ HashRefused NoMemory) × AllNoted ms vs
+
+-- memory was refused for nothing
+abbrev pub HadMemory : List Said → Type 0
+HadMemory vs = AllByRecursion (λ v. v ≢ HashRefused NoMemory) vs
+
+-- the same trees and marks, while these asks are open
+abbrev pub asking : AskSet → SessionSeen → SessionSeen
+asking asks S = record S { asks = asks }
+
+-- ---- the replay of a conversion
+
+-- if memory was refused for no request, the run of a conversion gives what came in the verdicts of
+-- a run of form 1, those out of memory among them, and leaves that run's trees and marks
+abbrev pub ConversionRunsAsFormOne : Type 0
+ConversionRunsAsFormOne =
+    (S : SessionSeen) (ms : List Sent) (vs : List Said) (S' : SessionSeen)
+    → Chain NotedStep S (converted_messages ms) vs S' → AllNoted (converted_messages ms) vs
+    → Chain Step S ms (incoming (converted_messages ms) vs) (asking S.asks S')
+
+-- each run of form 1 is that of its conversion, whatever asks are open before it
+abbrev pub FormOneRunsAsConversion : Type 0
+FormOneRunsAsConversion =
+    (S : SessionSeen) (ms : List Sent) (vs : List Said) (T : SessionSeen)
+    → Chain Step S ms vs T
+    → (ws : List Said) × (S' : SessionSeen) × Chain NotedStep S (converted_messages ms) ws S'
+    × AllNoted (converted_messages ms) ws × (incoming (converted_messages ms) ws ≡ vs)
+    × (asking S.asks S' ≡ T)
+
+-- the same from the bytes: what is read of the converted bodies runs as what is read of the bodies
+abbrev pub ConversionReplaysAsFormOne : Type 0
+ConversionReplaysAsFormOne = (S : SessionSeen) (bodies : List (List ℕ))
+    (fs : List Told) (gs : List (Directed Told)) (vs : List Said) (S' : SessionSeen)
+    → AllZip Means bodies fs → AllZip MeansDirected (conversion bodies) gs
+    → Chain NotedStep S (directed_messages gs) vs S' → AllNoted (directed_messages gs) vs
+    → Chain Step S (messages_in fs) (incoming (directed_messages gs) vs) (asking S.asks S')
+
+-- with memory for all, the messages and the state determine the verdicts and the last state
+abbrev pub OneRunWithMemory : Type 0
+OneRunWithMemory = (S : SessionSeen) → HasDistinctRoots S
+    → (ms : List Sent) (vs ws : List Said) (S' T : SessionSeen)
+    → Chain Step S ms vs S' → Chain Step S ms ws T → HadMemory vs → HadMemory ws
+    → (vs ≡ ws) × (S' ≡ T)
+
+-- so, with memory for all, a conversion gives what came in the verdicts of form 1, in order, and
+-- the same last trees and marks
+abbrev pub ConversionTellsTheSame : Type 0
+ConversionTellsTheSame = (S : SessionSeen) → HasDistinctRoots S → (bodies : List (List ℕ))
+    (fs : List Told) (gs : List (Directed Told)) (vs ws : List Said) (T S' : SessionSeen)
+    → AllZip Means bodies fs → AllZip MeansDirected (conversion bodies) gs
+    → Chain Step S (messages_in fs) vs T → HadMemory vs
+    → Chain NotedStep S (directed_messages gs) ws S' → HadMemory ws
+    → (incoming (directed_messages gs) ws ≡ vs) × (asking S.asks S' ≡ T)
+
+-- ---- poison does no harm to one who notes
+
+-- a noted ask is open until the hashes of its base range are known
+abbrev pub NotedStaysOpen : Type 0
+NotedStaysOpen = (S : SessionSeen) (ms : List (Directed Sent)) (vs : List Said) (S' : SessionSeen)
+    → Chain NotedStep S ms vs S' → KeepsOpen S S'
+
+-- what came in opens no ask
+abbrev pub IncomingOpensNothing : Type 0
+IncomingOpensNothing =
+    (S : SessionSeen) (ms : List Sent) (vs : List Said) (S' : SessionSeen)
+    → Chain (λ s m v s'. NotedStep s (In, m) v s') S ms vs S' → (ask : Asked) → IsOpenAsk S' ask
+    → IsOpenAsk S ask
+
+-- a run keeps all trees closed, and leaves no tree with more gaps
+abbrev pub NotedRunKeeps : Type 0
+NotedRunKeeps =
+    (S : SessionSeen) (ms : List (Directed Sent)) (vs : List Said) (S' : SessionSeen)
+    → IsGood S → All HasDirectedHashes ms → Chain NotedStep S ms vs S'
+    → IsGood S' × HasNoMoreGaps S S'
+
+-- what was wanted before the first message is open at some message, and at last its true answer
+-- comes: then the gaps are fewer, unless memory was refused for the answer or a collision is named
+abbrev pub NotedRoundLeavesFewerGaps : Type 0
+NotedRoundLeavesFewerGaps = (S M N S' : SessionSeen) → HasDistinctRoots S
+    → (ms ns : List (Directed Sent)) (vs ws : List Said)
+    (n : ℕ) (tree : Tree) (s : TreeState) (b : ℕ) (ask : Asked) (f : List ℕ)
+    → IsGood S → All HasDirectedHashes ms → All HasDirectedHashes ns
+    → IsTree S n tree s → b < block_count tree.length → want_of tree (look s.known) b ≡ Some ask
+    → Fits f tree → Chain NotedStep S ms vs M → IsOpenAsk M ask → Chain NotedStep M ns ws N
+    → (hashes : Bor (List Hash)) → hashes.now ≡ answer_of (tree_height tree.length) (whole f) ask
+    → (v : Said) → v ≢ HashRefused NoMemory → NotedStep N (In, Hashes ask hashes) v S'
+    → HasFewerGaps S' n tree (look s.known) ⊎ Collides S' n f
