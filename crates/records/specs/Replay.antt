@@ -12,7 +12,7 @@ use Rattle.wire.specs.declared.form.Form.{Form}
 use Rattle.wire.specs.declared.form.Form.TheVariants.{One, Two}
 use Rattle.wire.specs.declared.message.Message.{Message}
 use Rattle.wire.specs.Reading.{Gave, CountsRead}
-use Rattle.wire.specs.RecordReading.{GaveFrame, GavePart, IsOtherByte, IsPart}
+use Rattle.wire.specs.RecordReading.{GaveFrame, GavePart, IsOtherStart, IsPart}
 use Rattle.wire.specs.Records.{Directed, IsCut, MeansDirected, RecordFrames}
 use Rattle.session.specs.declared.verdict.Verdict.{Verdict}
 use Rattle.session.specs.declared.verdict.Verdict.TheVariants as verdict
@@ -79,7 +79,7 @@ IsEnding form left rest (Some (ending.Fault fault.Truncated)) =
 IsEnding form left rest (Some (ending.Fault fault.Read)) = IsPart form rest
 IsEnding form left rest (Some (ending.Fault fault.NoMemory)) = rest ≡ []
 IsEnding form left rest (Some (ending.Fault fault.BadDirection)) =
-    (form ≡ Two) × IsOtherByte rest
+    (form ≡ Two) × IsOtherStart rest
 
 -- the count of the source's faults grows by one at `fault Read`, and else stays
 abbrev pub CountsEnding : ℕ → ℕ → Option Ending → Type 0
