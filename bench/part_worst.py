@@ -55,6 +55,8 @@ def one_layer(size):
 
 TORRENTS = {
     "lists of an empty text": lambda size: ignored(b"l0:e", size),
+    "lists of five empty texts": lambda size: ignored(b"l" + b"0:" * 5 + b"e", size),
+    "lists in lists": lambda size: ignored(b"l" * 126 + b"e" * 126, size),
     "dictionaries of a pair": lambda size: ignored(b"d0:0:e", size),
     "integers": lambda size: ignored(b"i0e", size),
     "empty files": lambda size: empty_files(0, size),

@@ -14,6 +14,7 @@ import opening_model
 import record_model
 import torrents
 from poison import Peers
+from record_cases import converts, reads_form_2
 from session_model import Session
 from support import TOP, run, write
 from trees import layer, root_of
@@ -193,7 +194,7 @@ class Fuzz:
     def __init__(self, place, seed):
         self.place, self.seed = place, seed
         self.cases = collections.Counter()
-        self.answers = {kind: collections.Counter() for kind in ("torrent", "record", "folder")}
+        self.answers = {kind: collections.Counter() for kind in ("torrent", "record", "conversion", "folder")}
 
     def case(self, kind):
         """Draws a case of this kind and compares it."""
@@ -201,17 +202,17 @@ class Fuzz:
         self.name = f"{kind} {self.seed} {self.cases[kind]}"
         getattr(self, kind)(random.Random(self.name))
 
-    def compare(self, kind, wanted, *arguments):
-        """The program answers so."""
+    def compare(self, kind, wanted, *arguments, told=b""):
+        """The program answers so, and tells this on standard error."""
         done = run(*arguments, timeout=SECONDS, preexec_fn=limited)
         seen = (done.returncode, done.stdout)
-        if seen != wanted or done.stderr:
+        if seen != wanted or done.stderr != told:
             kept = f"{TOP}/build/fuzz {self.name}"
             shutil.rmtree(kept, ignore_errors=True)
             shutil.copytree(self.place, kept, symlinks=True)
             raise AssertionError(f"case {self.name}, kept in {kept}: {arguments[0]!r} is to answer {wanted}, "
                                  f"and answered {seen}, {done.stderr}")
-        lines = seen[1].decode().split("\n")[:-1]
+        lines = (seen[1] or done.stderr or b"converted\n").decode().split("\n")[:-1]
         self.answers[kind].update(map(answer, lines[:1] if kind == "torrent" else lines))
 
     def torrent(self, draw):
@@ -224,18 +225,34 @@ class Fuzz:
         write(f"{self.place}/torrent", content)
         self.compare("torrent", opening_model.shown(content), "show", f"{self.place}/torrent")
 
-    def record(self, draw):
+    def drawn_record(self, draw, rate):
+        """A torrent's files, its piece length, whether its layers are known, and a record, at this rate with directions."""
         piece_length = draw.choice(PIECE_LENGTHS)
         files = [(name, content_of(draw.choice([*SIZES, 9 * 16384]), draw.randrange(3))) for name in "abc"]
         files[0] = ("a", files[0][1] or b"abc")
         with_layers = draw.random() < 0.5
         frames, _ = Peers(files, piece_length, with_layers, draw.random()).messages(draw.choice([1, 5, 20]))
-        record = bent_record(draw, frames)
+        return files, piece_length, with_layers, bent_record(draw, frames, draw.random() < rate)
+
+    def record(self, draw):
+        files, piece_length, with_layers, record = self.drawn_record(draw, 0.5 if reads_form_2() else 0)
         write(f"{self.place}/torrent", torrents.torrent_of(files, piece_length))
         write(f"{self.place}/record", record)
         wanted = record_model.report(Session(files, piece_length, with_layers), record)
         flags = [] if with_layers else ["--info-only"]
         self.compare("record", wanted, "replay", f"{self.place}/torrent", f"{self.place}/record", *flags)
+
+    def conversion(self, draw):
+        if not converts():
+            return
+        *_, record = self.drawn_record(draw, 0.1)
+        path, out = write(f"{self.place}/record", record), f"{self.place}/out"
+        status, printed, told, least = record_model.conversion(record, path)
+        self.compare("conversion", (status, printed), "convert", path, out, told=told)
+        with open(out, "rb") as file:
+            seen = file.read()
+        if seen[:len(least)] != least or (status == 0 and seen != least):
+            raise AssertionError(f"case {self.name}: {path} is converted to {seen}")
 
     def folder(self, draw):
         top, files = drawn_torrent(draw)
@@ -286,8 +303,9 @@ def damage(draw, path, content):
         pass  # its folder has been moved away
 
 
-def bent_record(draw, frames):
-    """The frames, some of them changed, doubled, moved or dropped, joined; the whole seldom cut or with bytes changed."""
+def bent_record(draw, frames, has_directions):
+    """The frames, some of them changed, doubled, moved or dropped, joined to a record of one of the forms; the whole seldom
+    cut or with bytes changed."""
     frames = list(frames)
     for _ in range(draw.choice([0, 1, 1, 2, 5])):
         at = draw.randrange(len(frames))
@@ -307,12 +325,21 @@ def bent_record(draw, frames):
             lambda: [draw.choice(WORDS).to_bytes(4, "big") + draw.randbytes(draw.choice([0, 1, 9, 49, 81, 400]))],
         ])()
         frames = frames or [bytes(4)]
-    record = b"".join(frames)
+    record = record_model.FORM_2 + b"".join(directed(draw, frames)) if has_directions else b"".join(frames)
     if draw.random() < 0.2:
         record = record[:draw.randrange(len(record) + 1)]
     if draw.random() < 0.1 and record:
         record = turned(draw, record)
     return record
+
+
+def directed(draw, frames):
+    """The frames with directions. Most hashes are asked for before them, some by an ask that differs in a bit."""
+    for frame in frames:
+        if frame[4:5] == b"\x16" and draw.random() < 0.8:
+            fields = frame[5:53] if draw.random() < 0.9 or len(frame) < 53 else turned(draw, frame[5:53])
+            yield b"\x01" + record_model.framed(b"\x15" + fields)
+        yield draw.choice([b"\x00"] * 60 + [b"\x01"] * 15 + [b"\x02"]) + frame
 
 
 def with_word(draw, frame, at, value):

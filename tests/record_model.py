@@ -106,3 +106,13 @@ def converted(record):
             parts += [bytes([WENT_OUT]), framed(b"\x15" + body[1:49])]
         parts += [bytes([CAME_IN]), framed(body)]
     return b"".join(parts)
+
+
+def conversion(record, path):
+    """What `convert` of this record at this path is to do: its status, what it prints, what it tells on standard error, and
+    with what OUT begins. With status 0 this is all of OUT."""
+    if record.startswith(FORM_2):
+        return 1, b"refused 3 AlreadyForm2\n", b"", b""
+    is_whole = read(record)[1] == "end"
+    told = b"" if is_whole else f"fault: record is truncated: {path}\n".encode()
+    return 0 if is_whole else 2, b"", told, converted(record)

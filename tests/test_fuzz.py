@@ -1,8 +1,9 @@
 """Hostile input from a fixed seed, compared with the plain models. `tests/fuzz` draws more, for as long as it is told."""
 from fuzzing import Fuzz, summary
+from record_cases import converts, reads_form_2
 from support import folder
 
-CASES = {"torrent": 900, "record": 300, "folder": 300}
+CASES = {"torrent": 900, "record": 400, "conversion": 200, "folder": 300}
 
 # The refusals that the cases have to meet: all but that of a torrent that is too large, which test_refused makes.
 REFUSALS = ["Missing", "WrongType", "Version", "PieceLength", "Shape", "Path", "Symlink", "Length", "Root",
@@ -24,3 +25,7 @@ def test_hostile_input():
     for kind in FAULTS:
         assert met[f"refused 2 NotBencode {kind}"], kind
     assert met["name:"] > 100 and fuzz.answers["record"]["verified"] > 100 and fuzz.answers["folder"]["yes"] > 20
+    for text in ("stored", "sent", "refused H8 Unasked", "refused H6 Mismatch", "fault BadDirection", "fault Truncated"):
+        assert fuzz.answers["record"][text] > 5 or not reads_form_2(), text
+    for text in ("converted", "refused 3 AlreadyForm2", "fault: record"):
+        assert fuzz.answers["conversion"][text] > 5 or not converts(), text

@@ -7,6 +7,7 @@ import subprocess
 
 import messages
 import record_model
+from record_cases import reads_form_2
 from record_model import CAME_IN, WENT_OUT
 from session_model import Session
 from support import TOP, expect, folder, made_by_libtorrent, python_with_libtorrent, run, write
@@ -80,11 +81,7 @@ class World:
 
 def reads(record):
     """Whether the program reads records of this form."""
-    if not record.startswith(record_model.FORM_2):
-        return True
-    with folder() as place:
-        empty = write(f"{place}/record", record_model.FORM_2)
-        return run("replay", f"{TOP}/examples/abc.torrent", empty).stdout == b"end\n"
+    return not record.startswith(record_model.FORM_2) or reads_form_2()
 
 
 def frames_of(record):

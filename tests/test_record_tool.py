@@ -11,8 +11,10 @@ import threading
 import time
 
 import messages
+from record_cases import needs_form_2
 from record_model import FORM_2
-from support import TOP, expect, folder, run
+from support import BTCHECK, TOP, expect, folder, run, write
+from torrents import ABC
 
 RECORD = f"{TOP}/tools/record"
 HANDSHAKE = b"\x13BitTorrent protocol" + bytes(range(48))
@@ -383,6 +385,23 @@ def test_out_is_a_pipe():
             talk.say(WENT_OUT, messages.KEEP_ALIVE)
             status, said = relay.stop()
             assert status == 2 and "cannot write" in said and "Broken pipe" in said, said
+
+
+@needs_form_2
+def test_verdicts_while_they_talk():
+    with folder() as place, Relay("/dev/stdout", stdout=subprocess.PIPE) as relay:
+        replay = [BTCHECK, "replay", write(f"{place}/torrent", ABC), "/dev/stdin"]
+        with subprocess.Popen(replay, stdin=relay.program.stdout, stdout=subprocess.PIPE, bufsize=0) as program:
+            relay.program.stdout.close()
+            talk = Talk(*relay.connect()).greet()
+            for way, frame, line in [(WENT_OUT, messages.frame(b"\x02"), b"1 sent\n"),
+                                     (CAME_IN, messages.piece(0, 0, b"abd"), b"2 refused P4 BadBlock\n"),
+                                     (CAME_IN, messages.piece(0, 0, b"abc"), b"3 verified 0 0\n")]:
+                talk.say(way, frame)
+                assert program.stdout.readline() == line
+            for end in talk.ways[WENT_OUT]:
+                end.close()
+            assert program.stdout.read() == b"end\n" and relay.ended()[0] == 0
 
 
 def test_a_target_that_is_not_there():

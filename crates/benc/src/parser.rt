@@ -1,6 +1,6 @@
 //! From bytes to a value.
 
-ghost use Rattle.std.specs.Prelude.{◌≡◌, ℕ, suc, ◌<◌, ◌≤◌, length, ◌⊎◌, OnOk, IfOk, IfErr, IfSome, Some, None, if◌then◌else◌};
+ghost use Rattle.std.specs.Prelude.{◌≡◌, ℕ, suc, ◌<◌, ◌≤◌, ◌++◌, ◌∷◌, [], length, ◌⊎◌, OnOk, IfOk, IfErr, IfSome, Some, None, if◌then◌else◌};
 ghost use Rattle.std.specs.Option.{option_copied, option_map};
 ghost use Rattle.benc.specs.Lookup.{if_key};
 ghost use Rattle.benc.specs.Value.{dict};
@@ -12,7 +12,7 @@ use crate::fault::FaultKind;
 use crate::scan::{integer, key, split_front, string};
 use crate::stop::Stop;
 use crate::value::{Pair, Value};
-use std::alloc::Global;
+use std::alloc::{AllocError, Global};
 
 /// The value at the front, the bytes of the value under the key that is asked for if it is a
 /// dictionary that has it, and what follows. At most `room` lists and dictionaries are open at
@@ -83,7 +83,7 @@ fn items<'a>(
             return Ok((found, after));
         }
         let (item, _, after) = value(alloc, here, room, None)?;
-        if found.push(item).is_err() {
+        if push(&mut found, item).is_err() {
             return Err(Stop::Memory(start));
         }
         rest = after;
@@ -124,13 +124,11 @@ fn pairs<'a>(
         };
         let (item, _, after) = value(alloc, behind, room, None)?;
         span = span.or(if_asked(asked, name, &behind[..behind.len() - after.len()]));
-        if found
-            .push(Pair {
-                key: name,
-                value: item,
-            })
-            .is_err()
-        {
+        let pair = Pair {
+            key: name,
+            value: item,
+        };
+        if push(&mut found, pair).is_err() {
             return Err(Stop::Memory(start));
         }
         before = Some(name);
@@ -147,4 +145,15 @@ fn if_asked<'a>(asked: Option<&[u8]>, name: &[u8], value: &'a [u8]) -> Option<&'
         Some(key) if name == key => Some(value),
         _ => None,
     }
+}
+
+/// Puts one more at the end. The room doubles from one on: most lists and dictionaries are short.
+fn push<T: Drop>(found: &mut Vec<T>, item: T) -> Result<(), AllocError>
+    ensures { OnOk result (found.new.items ≡ found.old.items ++ item ∷ []) }
+{
+    if found.len() == found.capacity() {
+        found.reserve_exact(found.len().max(1))?;
+    }
+    found.push_reserved(item);
+    Ok(())
 }

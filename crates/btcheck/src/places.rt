@@ -25,7 +25,7 @@ impl<'a> Places<'a> {
         let files = self.files;
         'files: for at in self.next..files.len() {
             let file = &files[at];
-            if file.path.parts() == path {
+            if file.path.parts().as_slice() == path {
                 self.next = at;
                 return self.passed;
             }

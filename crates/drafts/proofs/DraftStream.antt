@@ -23,7 +23,7 @@ use Rattle.filetree.specs.Tests.{NoneHolds}
 use Rattle.opening.proofs.Placing.{pieces_cover}
 use Rattle.opening.specs.PieceLayers.{as_digests}
 use Rattle.opening.specs.Refusals.{hybrid_rows}
-use Rattle.opening.specs.Stream.{DiffersFrom, IsMisplaced, IsTooLong, Named, Part, as_path, cuts_in, files_in, is_broken, is_hybrid, length_in, named, named_part, part_of, parts_in, parts_of, some_texts, stream_length, texts_in, the_parts, version1_of}
+use Rattle.opening.specs.Stream.{DiffersFromFiles, IsMisplaced, IsTooLong, Named, Part, as_path, cuts_in, files_in, is_broken, is_hybrid, length_in, named, named_part, part_of, parts_in, parts_of, some_texts, stream_length, texts_in, the_parts, version1_of}
 use Rattle.pieces.proofs.Cutting.{cut_count_none}
 use Rattle.pieces.specs.Pieces.{IsPieceLength, pieces_of}
 
@@ -392,7 +392,7 @@ cuts_are d o hybrid =
     ap (option_and_then (as_digests 20 (pieces_of d.piece_length (stream_length (draft_parts d.piece_length d.files))))) (pieces_if d true hybrid)
     ∙ digests_again 20 (pieces_of d.piece_length (stream_length (draft_parts d.piece_length d.files))) (digests_of d.files) (digests_length d.piece_length d.files o.files) count
 
-same_files : (p : ℕ) (fs : List OutlineFile) → DiffersFrom (map listed_file fs) (Some (draft_parts p fs)) → ⊥
+same_files : (p : ℕ) (fs : List OutlineFile) → DiffersFromFiles (map listed_file fs) (Some (draft_parts p fs)) → ⊥
 same_files p fs differs = elim differs [ inl broken ↦ (let bad : false ≡ true = sym (unbroken p fs) ∙ broken in cc) | inr other ↦ other (files_are p fs) ]
 
 well_placed : (p : ℕ) (fs : List OutlineFile) → 0 < p → IsMisplaced p (draft_parts p fs) → ⊥
@@ -405,7 +405,7 @@ hybrid_rows_none : (d : Outline) → IsOutline d → d.hybrid ≡ true → NoneH
 hybrid_rows_none d o hybrid =
     let parts = parts_in_info d o hybrid in
     let legal = (legal_some d.piece_length o.legal).0 in (
-      (λ h. same_files d.piece_length d.files (subst (λ x. DiffersFrom (map listed_file d.files) x) parts h.1)),
+      (λ h. same_files d.piece_length d.files (subst (λ x. DiffersFromFiles (map listed_file d.files) x) parts h.1)),
       (
         (λ h. elim (subst (λ x. IsMisplaced d.piece_length (the_parts x) ⊎ IsTooLong d.piece_length (the_parts x)) parts h.1) [
           | inl misplaced ↦ well_placed d.piece_length d.files legal misplaced

@@ -1,7 +1,9 @@
 -- Lemmas on file trees.
 pub mod Ascending
 pub mod Bytes
+pub mod Folders
 pub mod Paths
+pub mod Rooms
 pub mod Safe
 pub mod Shaping
 pub mod Tables

@@ -12,9 +12,9 @@ use Rattle.benc.specs.Value.{Bencode, int, text, list, dict, Pairs, no_pairs, pa
 use Rattle.benc.specs.Text.{Fits, PairsFit}
 use Rattle.filetree.specs.Dictionary.{under}
 use Rattle.filetree.specs.FileTree.{Walk, walks, walks_in, below, is_nil, is_file, is_directory, is_node, is_dict}
-use Rattle.filetree.specs.Paths.{IsPrefix, path_cmp, AreInOrder, LeadsTo, AreAllWalks, AreApart, ArePathsApart}
+use Rattle.filetree.specs.Paths.{IsPrefix, path_cmp, AreInOrder, LeadsToFile, AreAllWalks, AreApart, ArePathsApart}
 use Rattle.filetree.specs.Dictionary.{keys_in}
-use Rattle.filetree.proofs.Ascending.{AllAbove, above_all, is_less, lower}
+use Rattle.filetree.proofs.Ascending.{AllAbove, above_all}
 use Rattle.filetree.proofs.Bytes.{equal_bytes, same_bytes, true_or_false}
 
 abbrev pub path_of : Walk → List (List ℕ)
@@ -197,18 +197,18 @@ under_later k v ps l x above is =
       | inr other ↦ rw other is
     ]
 
-leads_later : (k : List ℕ) (v : Bencode) (ps : Pairs) (path : List (List ℕ)) (file : Bencode) → AllAbove k (keys_in ps) → LeadsTo ps path file → LeadsTo (pair k v ps) path file
+leads_later : (k : List ℕ) (v : Bencode) (ps : Pairs) (path : List (List ℕ)) (file : Bencode) → AllAbove k (keys_in ps) → LeadsToFile ps path file → LeadsToFile (pair k v ps) path file
 leads_later k v ps [] file above leads = under_later k v ps [] file above leads
 leads_later k v ps (l ∷ ls) file above leads = (leads.0, leads.1, under_later k v ps l (dict leads.0) above leads.2, leads.3)
 
 under_first : (k : List ℕ) (v : Bencode) (ps : Pairs) → under k (pair k v ps) ≡ Some v
 under_first k v ps = rw (equal_bytes k k refl) refl
 
-moved : (ps : Pairs) (u w : Walk) → u ≡ w → LeadsTo ps u.path u.file → LeadsTo ps w.path w.file
-moved ps u w e leads = subst (λ (x : Walk). LeadsTo ps x.path x.file) e leads
+moved : (ps : Pairs) (u w : Walk) → u ≡ w → LeadsToFile ps u.path u.file → LeadsToFile ps w.path w.file
+moved ps u w e leads = subst (λ (x : Walk). LeadsToFile ps x.path x.file) e leads
 
 mutual
-  pub each_leads : (room : ℕ) (before : Option (List ℕ)) (ps : Pairs) (w : Walk) → PairsFit room before ps → Has (walks ps) w → LeadsTo ps w.path w.file
+  pub each_leads : (room : ℕ) (before : Option (List ℕ)) (ps : Pairs) (w : Walk) → PairsFit room before ps → Has (walks ps) w → LeadsToFile ps w.path w.file
   each_leads room before no_pairs w fits h = absurd h
   each_leads room before (pair k v ps) w fits h =
       elim (true_or_false (is_nil k)) [
@@ -232,7 +232,7 @@ mutual
             ]
       ]
 
-  value_leads : (room : ℕ) (v : Bencode) (w : Walk) → Fits room v → Has (walks_in v) w → (inner : Pairs) × (v ≡ dict inner) × LeadsTo inner w.path w.file
+  value_leads : (room : ℕ) (v : Bencode) (w : Walk) → Fits room v → Has (walks_in v) w → (inner : Pairs) × (v ≡ dict inner) × LeadsToFile inner w.path w.file
   value_leads room (int z) w fits h = absurd h
   value_leads room (text s) w fits h = absurd h
   value_leads room (list vs) w fits h = absurd h
@@ -241,7 +241,7 @@ mutual
 -- ---- and all that leads to a file is a walk
 
 mutual
-  pub leads_has : (ps : Pairs) (path : List (List ℕ)) (file : Bencode) → LeadsTo ps path file → Has (walks ps) (record { path = path; file = file })
+  pub leads_has : (ps : Pairs) (path : List (List ℕ)) (file : Bencode) → LeadsToFile ps path file → Has (walks ps) (record { path = path; file = file })
   leads_has no_pairs [] file leads = cc
   leads_has no_pairs (l ∷ ls) file leads = let none : None ≡ Some (dict leads.0) = leads.2 in cc
   leads_has (pair k v ps) [] file leads =
@@ -271,11 +271,11 @@ mutual
             has_right (if is_nil k then record { path = []; file = v } ∷ [] else map (below k) (walks_in v)) (walks ps) (record { path = l ∷ ls; file = file }) (leads_has ps (l ∷ ls) file (leads.0, leads.1, is, leads.3))
       ]
 
-  value_has : (v : Bencode) (inner : Pairs) (path : List (List ℕ)) (file : Bencode) → v ≡ dict inner → LeadsTo inner path file → Has (walks_in v) (record { path = path; file = file })
+  value_has : (v : Bencode) (inner : Pairs) (path : List (List ℕ)) (file : Bencode) → v ≡ dict inner → LeadsToFile inner path file → Has (walks_in v) (record { path = path; file = file })
   value_has (int z) inner path file e leads = cc
   value_has (text s) inner path file e leads = cc
   value_has (list vs) inner path file e leads = cc
-  value_has (dict ps) inner path file e leads = let same : ps ≡ inner = cc in leads_has ps path file (subst (λ qs. LeadsTo qs path file) (sym same) leads)
+  value_has (dict ps) inner path file e leads = let same : ps ≡ inner = cc in leads_has ps path file (subst (λ qs. LeadsToFile qs path file) (sym same) leads)
 
 pub walks_are_all : (room : ℕ) (ps : Pairs) → Fits room (dict ps) → is_directory ps ≡ true → AreAllWalks ps (walks ps)
 walks_are_all room ps fits d = record {

@@ -1,9 +1,9 @@
 -- The walks of a file tree are paths that stay inside a folder.
-use Rattle.std.proofs.Common.{◌≡◌, ◌≢◌, ℕ, zero, suc, ◌+◌, ◌-◌, ◌<◌, ◌≤◌, Bool, true, false, not, ◌&&◌, ◌||◌, if◌then◌else◌, List, [], ◌∷◌, ◌++◌, length, map, Option, Some, None, slice_get, inl, inr, refl, sym, ap, subst, ◌∙◌, arith}
+use Rattle.std.proofs.Common.{◌≡◌, ◌≢◌, ℕ, zero, suc, ◌+◌, ◌-◌, ◌<◌, ◌≤◌, true, false, not, ◌&&◌, List, [], ◌∷◌, ◌++◌, length, map, Option, Some, None, slice_get, inl, inr, sym, ap, subst, ◌∙◌, arith}
 use Rattle.benc.specs.Text.{Fits, PairsFit}
 use Rattle.benc.specs.Value.{Bencode, int, text, list, dict, Pairs, no_pairs, pair}
-use Rattle.filetree.specs.FileTree.{HasBadPath, HasBadPathIn, IsBadComponent, Walk, below, is_dict, is_directory, is_file, is_nil, is_node, walks, walks_in}
-use Rattle.filetree.specs.Paths.{IsComponent, IsFilePath, LeadsTo}
+use Rattle.filetree.specs.FileTree.{HasBadPath, HasBadPathIn, Walk, below, is_dict, is_directory, is_file, is_nil, is_node, walks, walks_in}
+use Rattle.filetree.specs.Paths.{IsComponent, IsFilePath, LeadsToFile}
 use Rattle.filetree.proofs.Ascending.{under_fits}
 use Rattle.filetree.proofs.Bytes.{true_or_false}
 use Rattle.filetree.proofs.Paths.{Has, and_both, each_leads, has_at, has_below, has_split, not_is, or_one}
@@ -17,7 +17,7 @@ is_dict_then room (list vs) is fits = cc
 is_dict_then room (dict ps) is fits = fits.0
 
 -- each component of a path takes a dictionary, and so does the file behind it
-leads_deep : (room : ℕ) (before : Option (List ℕ)) (ps : Pairs) (path : List (List ℕ)) (file : Bencode) → PairsFit room before ps → LeadsTo ps path file → is_dict file ≡ true
+leads_deep : (room : ℕ) (before : Option (List ℕ)) (ps : Pairs) (path : List (List ℕ)) (file : Bencode) → PairsFit room before ps → LeadsToFile ps path file → is_dict file ≡ true
     → length path + 1 ≤ room
 leads_deep room before ps [] file fits leads is = let some : 0 < room = is_dict_then room file is (under_fits room before [] ps file fits leads) in omega (arith, some)
 leads_deep room before ps (k ∷ ks) file fits leads is =

@@ -1,14 +1,14 @@
 -- The test of the shape in the words of the standard.
-use Rattle.std.proofs.Common.{◌≡◌, ◌⊎◌, ◌≤◌, ℕ, zero, suc, Bool, true, false, not, ◌&&◌, ◌||◌, List, [], ◌∷◌, length, inl, inr, refl, sym, ap, subst, ◌∙◌, arith}
+use Rattle.std.proofs.Common.{◌≡◌, ◌⊎◌, ℕ, Bool, true, false, not, ◌&&◌, ◌||◌, List, [], ◌∷◌, length, inl, inr, refl, sym, subst, ◌∙◌, arith}
 use Rattle.benc.specs.Value.{Bencode, int, text, list, dict, Pairs, no_pairs, pair}
 use Rattle.filetree.specs.Dictionary.{keys_in}
 use Rattle.filetree.specs.FileTree.{is_dict, is_directory, is_file, is_nil, is_node}
-use Rattle.filetree.specs.Shape.{HasFault, HasFile, HasOddComponent, HasOddFile, HasPair, HasSibling, IsMisshapen, Reaches}
+use Rattle.filetree.specs.Shape.{HasFault, HasFile, HasOddComponent, HasOddFile, HoldsPair, HasSibling, IsMisshapen, LeadsToDirectory}
 use Rattle.filetree.proofs.Bytes.{true_or_false}
 use Rattle.filetree.proofs.Paths.{and_both, not_is, or_one}
 
 abbrev Within : Pairs → Pairs → Type 0
-Within ps all = (k : List ℕ) (v : Bencode) → HasPair ps k v → HasPair all k v
+Within ps all = (k : List ℕ) (v : Bencode) → HoldsPair ps k v → HoldsPair all k v
 
 pub or_none : (a b : Bool) → a || b ≡ false → (a ≡ false) × (b ≡ false)
 or_none true b e = cc
@@ -41,7 +41,7 @@ mutual
     ]
   ]
 
-  bad_node : (all : Pairs) (k : List ℕ) (v : Bencode) → is_nil k ≡ false → HasPair all k v → is_node v ≡ false → HasFault all
+  bad_node : (all : Pairs) (k : List ℕ) (v : Bencode) → is_nil k ≡ false → HoldsPair all k v → is_node v ≡ false → HasFault all
   bad_node all k (int z) some there odd = record { path = []; dir = all; reached = refl; fault = inl (record { component = k; value = int z; some = some; there = there; odd = refl }) }
   bad_node all k (text s) some there odd = record { path = []; dir = all; reached = refl; fault = inl (record { component = k; value = text s; some = some; there = there; odd = refl }) }
   bad_node all k (list vs) some there odd = record { path = []; dir = all; reached = refl; fault = inl (record { component = k; value = list vs; some = some; there = there; odd = refl }) }
@@ -54,7 +54,7 @@ mutual
 
 -- ---- a directory has none
 
-has_node : (ps : Pairs) (k : List ℕ) (v : Bencode) → is_directory ps ≡ true → HasPair ps k v → (is_nil k ≡ false) × (is_node v ≡ true)
+has_node : (ps : Pairs) (k : List ℕ) (v : Bencode) → is_directory ps ≡ true → HoldsPair ps k v → (is_nil k ≡ false) × (is_node v ≡ true)
 has_node no_pairs k v d h = absurd h
 has_node (pair l w ps) k v d h =
     let parts : (not (is_nil l) && is_node w ≡ true) × (is_directory ps ≡ true) = and_both (not (is_nil l) && is_node w) (is_directory ps) d in
@@ -77,7 +77,7 @@ no_file : (ps : Pairs) (file : Bencode) → is_directory ps ≡ true → HasFile
 no_file ps file d has = both_ways (is_nil has.key) has.zero_length (has_node ps has.key file d has.there).0
 
 -- a file's node has one pair, of the zero-length key and a dictionary
-file_pair : (ps : Pairs) (k : List ℕ) (v : Bencode) → is_file ps ≡ true → HasPair ps k v → (is_nil k ≡ true) × (is_dict v ≡ true) × (length (keys_in ps) ≡ 1)
+file_pair : (ps : Pairs) (k : List ℕ) (v : Bencode) → is_file ps ≡ true → HoldsPair ps k v → (is_nil k ≡ true) × (is_dict v ≡ true) × (length (keys_in ps) ≡ 1)
 file_pair no_pairs k v is h = absurd h
 file_pair (pair l w no_pairs) k v is h =
     let both : (is_nil l ≡ true) × (is_dict w ≡ true) = and_both (is_nil l) (is_dict w) is in
@@ -97,7 +97,7 @@ no_fault_file ps is (inl one) = both_ways (is_nil one.component) (file_pair ps o
 no_fault_file ps is (inr (inl two)) = let one = (file_pair ps two.has.key two.file is two.has.there).2 in let bad : ⊥ = omega (arith, one, two.several) in bad
 no_fault_file ps is (inr (inr three)) = both_ways (is_dict three.file) (file_pair ps three.has.key three.file is three.has.there).1 three.odd
 
-no_fault : (path : List (List ℕ)) (ps dir : Pairs) → is_directory ps ≡ true → Reaches ps path dir → HasOddComponent dir ⊎ HasSibling dir ⊎ HasOddFile dir → ⊥
+no_fault : (path : List (List ℕ)) (ps dir : Pairs) → is_directory ps ≡ true → LeadsToDirectory ps path dir → HasOddComponent dir ⊎ HasSibling dir ⊎ HasOddFile dir → ⊥
 no_fault [] ps dir d reached fault = no_fault_here dir (subst (λ x. is_directory x ≡ true) reached d) fault
 no_fault (k ∷ ks) ps dir d reached fault =
     elim (or_one (is_file reached.0) (is_directory reached.0) (has_node ps k (dict reached.0) d reached.2).1) [
@@ -105,7 +105,7 @@ no_fault (k ∷ ks) ps dir d reached fault =
       | inr deeper ↦ no_fault ks reached.0 dir deeper reached.3 fault
     ]
   where
-    behind_file : (ks : List (List ℕ)) (ps dir : Pairs) → is_file ps ≡ true → Reaches ps ks dir → HasOddComponent dir ⊎ HasSibling dir ⊎ HasOddFile dir → ⊥
+    behind_file : (ks : List (List ℕ)) (ps dir : Pairs) → is_file ps ≡ true → LeadsToDirectory ps ks dir → HasOddComponent dir ⊎ HasSibling dir ⊎ HasOddFile dir → ⊥
     behind_file [] ps dir is reached fault = no_fault_file dir (subst (λ x. is_file x ≡ true) reached is) fault
     behind_file (k ∷ ks) ps dir is reached fault = both_ways (is_nil k) (file_pair ps k (dict reached.0) is reached.2).0 reached.1
 

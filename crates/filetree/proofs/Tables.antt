@@ -1,5 +1,5 @@
 -- Tables of tests, one behind the other.
-use Rattle.std.proofs.Common.{◌≡◌, List, [], ◌∷◌, ◌++◌, Result, Ok, Err, inl, inr}
+use Rattle.std.proofs.Common.{List, [], ◌∷◌, ◌++◌, Result, Ok, Err, inl, inr}
 use Rattle.filetree.specs.Tests.{Row, First, NoneHolds, Passes, PassesUnlessNoMemory, UnlessNoMemory}
 use Rattle.filetree.specs.declared.refusal.Refusal.{Refusal}
 

@@ -1,9 +1,11 @@
 -- Walks of the pairs of a directory, one pair after the other.
-use Rattle.std.proofs.Common.{◌≡◌, ℕ, false, List, [], ◌∷◌, ◌++◌, map, Result, Ok, Err, inl, inr, refl, sym, ap, subst, ◌∙◌, append_assoc}
+use Rattle.std.proofs.Common.{◌≡◌, ℕ, false, List, [], ◌∷◌, ◌++◌, map, Result, Ok, Err, inl, inr, refl, true, get_or, sym, ap, subst, ◌∙◌, append_assoc}
 use Rattle.std.proofs.lemmas.List.{map-append}
-use Rattle.benc.specs.Value.{Bencode, dict, Pairs, pair}
-use Rattle.benc.specs.View.{Seen}
-use Rattle.filetree.specs.FileTree.{Walk, walks, below, is_nil, IsBadComponent, HasBadPath, HasBadPathIn}
+use Rattle.benc.specs.Value.{Bencode, dict, Pairs, no_pairs, pair}
+use Rattle.benc.specs.View.{Seen, pair_view, pairs_view}
+use Rattle.benc.specs.declared.value.Pair.{Pair}
+use Rattle.filetree.proofs.Paths.{and_both}
+use Rattle.filetree.specs.FileTree.{Walk, walks, below, is_dict, is_file, is_nil, IsBadComponent, HasBadPath, HasBadPathIn}
 use Rattle.filetree.specs.Walked.{behind, Adds, HasBadPathAt, walks_at, IsOnWay}
 use Rattle.filetree.specs.declared.refusal.Refusal.{Refusal}
 
@@ -38,3 +40,21 @@ walked_inner path longer k ps v old new (Err r) some e is good adds = λ ne. let
 pub behind_none : (ws : List Walk) → map (behind []) ws ≡ ws
 behind_none [] = refl
 behind_none (w ∷ ws) = ap (λ us. w ∷ us) (behind_none ws)
+
+-- the one pair of a file's node
+pub file_node : (xs : List Pair) (x : Pair) → is_file (pairs_view xs) ≡ true → x ≡ get_or xs 0 x → (pairs_view xs ≡ pair (pair_view x).0 (pair_view x).1 no_pairs) × (is_nil (pair_view x).0 ≡ true)
+file_node [] x is first = cc
+file_node (y ∷ []) x is first = (ap (λ z. pairs_view (z ∷ [])) (sym first), subst (λ z. is_nil (pair_view z).0 ≡ true) (sym first) (and_both (is_nil (pair_view y).0) (is_dict (pair_view y).1) is).0)
+file_node (y ∷ z ∷ zs) x is first = cc
+
+-- a file in the folder at this path
+pub walked_file : (path : List (List ℕ)) (key nil : List ℕ) (v file : Bencode) (old new : List Walk) → is_nil key ≡ false → (IsBadComponent key → ⊥) → v ≡ dict (pair nil file no_pairs) → is_nil nil ≡ true
+    → new ≡ old ++ record { path = path ++ key ∷ []; file = file } ∷ [] → Adds (HasBadPathAt (key, v)) path (walks_at (key, v)) old new (Ok tt)
+walked_file path key nil v file old new some good is none added =
+    let here : walks_at (key, v) ≡ record { path = key ∷ []; file = file } ∷ [] = rw (some, is, none) refl in (
+      added ∙ ap (λ ws. old ++ map (behind path) ws) (sym here),
+      λ bad. elim bad.1 [
+        | inl one ↦ good one
+        | inr more ↦ elim (subst HasBadPathIn is more) [ inl deeper ↦ cc | inr nothing ↦ nothing ]
+      ],
+    )

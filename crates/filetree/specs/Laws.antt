@@ -4,7 +4,7 @@ use Rattle.benc.specs.Text.{Fits}
 use Rattle.benc.specs.Value.{Pairs, dict}
 use Rattle.filetree.specs.FileTree.{HasBadPath, Walk, is_directory, walks}
 use Rattle.filetree.specs.Shape.{IsMisshapen}
-use Rattle.filetree.specs.Paths.{AreAllWalks, AreInOrder, ArePathsApart, IsFilePath}
+use Rattle.filetree.specs.Paths.{AreAllWalks, AreInOrder, ArePathsApart, FitsInTorrent, IsFilePath}
 
 -- the walks of a file tree that may be part of a spelled value are all that lead to a file, each
 -- once and in order
@@ -18,10 +18,9 @@ abbrev pub OrderIsApart : Type 0
 OrderIsApart = (ps : List (List (List ℕ)))
     → (AreInOrder ps → ArePathsApart ps) × (ArePathsApart ps → AreInOrder ps)
 
--- each walk of a file tree without a bad component is a path that a file may have; the file tree
--- stands in the info dictionary, and that in the top value
+-- each walk of a torrent's file tree without a bad component is a path that a file may have
 abbrev pub WalksAreSafe : Type 0
-WalksAreSafe = (ps : Pairs) → Fits 126 (dict ps) → is_directory ps ≡ true → (HasBadPath ps → ⊥)
+WalksAreSafe = (ps : Pairs) → FitsInTorrent ps → is_directory ps ≡ true → (HasBadPath ps → ⊥)
     → (n : ℕ) (w : Walk) → slice_get (walks ps) n ≡ Some w → IsFilePath w.path
 
 -- a file tree is refused for its shape exactly if its root has the zero-length key, a component's

@@ -1,6 +1,7 @@
 -- What contracts of file trees cite.
 pub mod Dictionary
 pub mod FileTree
+pub mod Folders
 pub mod Laws
 pub mod Names
 pub mod Paths

@@ -5,7 +5,8 @@ use Rattle.std.specs.Cmp.Lexicographic.{slice_cmp}
 use Rattle.std.specs.List.Sorted.{IsStrictlySortedBy}
 use Rattle.std.specs.Ordering.{nat_cmp, ordering_then}
 use Rattle.std.specs.declared.cmp.Ordering.{Ordering}
-use Rattle.std.specs.declared.cmp.Ordering.TheVariants.{Less, Equal, Greater}
+use Rattle.std.specs.declared.cmp.Ordering.TheVariants.{Less, Equal}
+use Rattle.benc.specs.Text.{Fits}
 use Rattle.benc.specs.Value.{Bencode, dict, Pairs}
 use Rattle.filetree.specs.Dictionary.{under}
 use Rattle.filetree.specs.FileTree.{IsBadComponent, Walk, is_nil}
@@ -27,15 +28,16 @@ AreInOrder ps = IsStrictlySortedBy path_cmp ps
 
 -- the path leads from the root of a file tree to a zero-length key, under which this value stands:
 -- each component is a key of the directory reached so far, with a dictionary under it
-abbrev pub LeadsTo : Pairs → List (List ℕ) → Bencode → Type 0
-LeadsTo ps [] file = under [] ps ≡ Some file
-LeadsTo ps (k ∷ ks) file =
-    (inner : Pairs) × (is_nil k ≡ false) × (under k ps ≡ Some (dict inner)) × LeadsTo inner ks file
+abbrev pub LeadsToFile : Pairs → List (List ℕ) → Bencode → Type 0
+LeadsToFile ps [] file = under [] ps ≡ Some file
+LeadsToFile ps (k ∷ ks) file =
+    (inner : Pairs) × (is_nil k ≡ false) × (under k ps ≡ Some (dict inner))
+    × LeadsToFile inner ks file
 
 -- these are all the walks of a file tree, each once and in order
 pub record AreAllWalks (ps : Pairs) (ws : List Walk) : Type 0 where
-  pub each : (n : ℕ) (w : Walk) → slice_get ws n ≡ Some w → LeadsTo ps w.path w.file
-  pub all : (path : List (List ℕ)) (file : Bencode) → LeadsTo ps path file
+  pub each : (n : ℕ) (w : Walk) → slice_get ws n ≡ Some w → LeadsToFile ps w.path w.file
+  pub all : (path : List (List ℕ)) (file : Bencode) → LeadsToFile ps path file
       → (n : ℕ) × (slice_get ws n ≡ Some (record { path = path; file = file }))
   pub in_order : AreInOrder (map (λ (w : Walk). w.path) ws)
 
@@ -52,6 +54,11 @@ ArePathsApart ps = (i j : ℕ) (p q : List (List ℕ)) → i < j → slice_get p
     → slice_get ps j ≡ Some q → AreApart p q
 
 -- ---- paths that stay inside a folder
+
+-- The pairs may be the file tree of a spelled torrent: it stands in the info dictionary, and that
+-- in the top value, so that at most 126 of 128 lists and dictionaries are open at once in it.
+abbrev pub FitsInTorrent : Pairs → Type 0
+FitsInTorrent ps = Fits 126 (dict ps)
 
 -- a component that a path may have
 abbrev pub IsComponent : List ℕ → Type 0

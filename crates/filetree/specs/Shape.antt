@@ -5,28 +5,29 @@ use Rattle.filetree.specs.Dictionary.{keys_in}
 use Rattle.filetree.specs.FileTree.{is_dict, is_nil}
 
 -- a dictionary has this pair
-abbrev pub HasPair : Pairs → List ℕ → Bencode → Type 0
-HasPair no_pairs k v = ⊥
-HasPair (pair l w ps) k v = ((l ≡ k) × (w ≡ v)) ⊎ HasPair ps k v
+abbrev pub HoldsPair : Pairs → List ℕ → Bencode → Type 0
+HoldsPair no_pairs k v = ⊥
+HoldsPair (pair l w ps) k v = ((l ≡ k) × (w ≡ v)) ⊎ HoldsPair ps k v
 
 -- the components lead from a directory to a dictionary
-abbrev pub Reaches : Pairs → List (List ℕ) → Pairs → Type 0
-Reaches ps [] dir = ps ≡ dir
-Reaches ps (k ∷ ks) dir =
-    (inner : Pairs) × (is_nil k ≡ false) × HasPair ps k (dict inner) × Reaches inner ks dir
+abbrev pub LeadsToDirectory : Pairs → List (List ℕ) → Pairs → Type 0
+LeadsToDirectory ps [] dir = ps ≡ dir
+LeadsToDirectory ps (k ∷ ks) dir =
+    (inner : Pairs) × (is_nil k ≡ false) × HoldsPair ps k (dict inner)
+    × LeadsToDirectory inner ks dir
 
 -- a dictionary has the zero-length key, with this value
 pub record HasFile (dir : Pairs) (file : Bencode) : Type 0 where
   pub key : List ℕ
   pub zero_length : is_nil key ≡ true
-  pub there : HasPair dir key file
+  pub there : HoldsPair dir key file
 
 -- the value of a component is no dictionary
 pub record HasOddComponent (dir : Pairs) : Type 0 where
   pub component : List ℕ
   pub value : Bencode
   pub some : is_nil component ≡ false
-  pub there : HasPair dir component value
+  pub there : HoldsPair dir component value
   pub odd : is_dict value ≡ false
 
 -- a zero-length key has a sibling
@@ -45,7 +46,7 @@ pub record HasOddFile (dir : Pairs) : Type 0 where
 pub record HasFault (tree : Pairs) : Type 0 where
   pub path : List (List ℕ)
   pub dir : Pairs
-  pub reached : Reaches tree path dir
+  pub reached : LeadsToDirectory tree path dir
   pub fault : HasOddComponent dir ⊎ HasSibling dir ⊎ HasOddFile dir
 
 -- a file tree is none: its root has the zero-length key, or one of the other three conditions holds

@@ -1,21 +1,33 @@
 -- What was found on the walk of the file tree, without where it lies in memory.
-use Rattle.std.specs.Prelude.{◌≡◌, ◌≢◌, ℕ, false, List, [], ◌∷◌, ◌++◌, map, Result, Ok, Err, ◌⊎◌, if◌then◌else◌}
+use Rattle.std.specs.Prelude.{◌≡◌, ◌≢◌, ℕ, false, true, List, [], ◌∷◌, ◌++◌, map, Result, Ok, Err, ◌⊎◌, if◌then◌else◌, ◌+◌, ◌<◌, ◌≤◌, length}
 use Rattle.std.specs.Prelude.{Vec}
-use Rattle.std.specs.Borrow.{Bor}
 use Rattle.std.specs.declared.alloc.Global.{Global}
-use Rattle.benc.specs.Value.{Bencode, Pairs}
+use Rattle.benc.specs.Text.{Fits}
+use Rattle.benc.specs.Value.{Bencode, Pairs, dict}
 use Rattle.benc.specs.View.{view}
-use Rattle.filetree.specs.FileTree.{Walk, walks, walks_in, below, is_nil, IsBadComponent, HasBadPath, HasBadPathIn}
+use Rattle.filetree.specs.FileTree.{Walk, walks, walks_in, below, is_nil, IsBadComponent, HasBadPath, HasBadPathIn, is_directory, is_node}
 use Rattle.filetree.specs.declared.refusal.Refusal.{Refusal}
 use Rattle.filetree.specs.declared.refusal.Refusal.TheVariants as refusals
 use Rattle.filetree.specs.declared.walk.Found.{Found}
 
--- what borrowed texts are
-abbrev pub texts : List (Bor (List ℕ)) → List (List ℕ)
-texts xs = map (λ s. s.now) xs
-
 abbrev pub found : Found → Walk
 found f = record { path = f.path; file = view f.file.now }
+
+-- these are the pairs of a folder at this path, in a spelled value in which at most 128 lists and
+-- dictionaries are open at once
+pub record IsFolderAt (path : List (List ℕ)) (ps : Pairs) : Type 0 where
+  pub room : ℕ
+  pub deep : length path + room ≤ 128
+  pub fits : Fits room (dict ps)
+  pub shape : is_directory ps ≡ true
+
+-- this pair stands in such a folder
+pub record IsNodeBelow (path : List (List ℕ)) (p : List ℕ × Bencode) : Type 0 where
+  pub room : ℕ
+  pub deep : length path + room < 128
+  pub fits : Fits room p.1
+  pub named : is_nil p.0 ≡ false
+  pub shape : is_node p.1 ≡ true
 
 -- a walk behind the components that lead to a directory
 abbrev pub behind : List (List ℕ) → Walk → Walk

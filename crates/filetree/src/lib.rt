@@ -3,6 +3,7 @@
 #![tactic(auto)]
 
 mod files;
+mod folder;
 mod laws;
 mod path;
 mod reading;
@@ -12,6 +13,6 @@ mod walk;
 
 pub use files::{ListedFile, has_attribute, length};
 pub use laws::{order_is_apart, shape_is_told, walks_are_all, walks_are_safe};
-pub use path::Path;
+pub use path::{Parts, Path};
 pub use reading::read_tree;
 pub use refusal::{Key, Refusal};

@@ -1,33 +1,50 @@
 //! The path of a file: its components.
 
-ghost use Rattle.std.specs.Prelude.{◌≡◌, ℕ, List, map};
+ghost use Rattle.std.specs.Prelude.{◌≡◌, ◌<◌, ◌++◌, ◌∷◌, [], length, map};
 
+use crate::folder::Folders;
+use arrayvec::ArrayVec;
 use std::marker::Model;
 
-/// The components of a file's path, from the torrent's root down. Contracts see it as this list.
+/// The most components of a path: a spelled value has at most 128 dictionaries open at once.
+pub(crate) const MAX_COMPONENTS: usize = 128;
+
+/// The components of a path, from the torrent's root down.
+pub type Parts<'p> = ArrayVec<&'p str, MAX_COMPONENTS>;
+
+/// A file's path below the torrent's root. Contracts see it as the list of its components.
 #[derive(Debug, Drop)]
 pub struct Path<'a> {
-    parts: Vec<&'a str>,
+    folders: Folders,
+    name: &'a str,
 }
 
 impl<'a> Model for Path<'a> {
+    ghost use Rattle.std.specs.Prelude.{ℕ, ◌<◌, ◌++◌, ◌∷◌, [], List, length};
+
     ghost Value = { List (List ℕ) };
 
-    ghost view = { λ p. map (λ s. s.now) p.parts.items };
+    ghost view = { λ p. p.folders ++ p.name.now ∷ [] };
+
+    ghost invariant = { λ p. length p.folders < 128 };
 }
 
 impl<'a> Path<'a> {
-    /// The path of these components.
-    pub fn from_parts(parts: Vec<&'a str>) -> Path<'a>
-        ensures { result ≡ map (λ s. s.now) parts.entry.items }
+    /// The file `name` in the last of these folders.
+    pub(crate) fn new(folders: Folders, name: &'a str) -> Path<'a>
+        requires { length folders < 128 }
+        ensures { result ≡ folders ++ name.now ∷ [] }
     {
-        Path { parts }
+        Path { folders, name }
     }
 
-    /// The components.
-    pub fn parts(&self) -> &[&'a str]
-        ensures { map (λ s. s.now) result.now ≡ self.now }
+    /// The components. It takes no memory from the allocator.
+    pub fn parts(&self) -> Parts<'_>
+        ensures { map (λ s. s.now) result.items ≡ self.now }
     {
-        &self.parts
+        let mut parts = Parts::new();
+        self.folders.put(&mut parts);
+        parts.push(self.name);
+        parts
     }
 }

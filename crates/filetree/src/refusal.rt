@@ -97,7 +97,7 @@ pub enum Refusal {
     /// The path is there already, or one of two paths is a prefix of the other. It is an answer of
     /// drafts alone.
     PathClash,
-    /// The sink failed. It is a draft's answer, and no call gives it yet.
+    /// The sink failed. It is an answer of drafts alone.
     Write,
 }
 

@@ -30,7 +30,7 @@ fn is_node(value: &Value<'_>) -> bool
 }
 
 /// The zero-length key alone, with a dictionary.
-fn is_file(pairs: &[Pair<'_>]) -> bool
+pub(crate) fn is_file(pairs: &[Pair<'_>]) -> bool
     ensures { result ≡ is_file (pairs_view pairs.now) }
 {
     match pairs {

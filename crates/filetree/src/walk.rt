@@ -1,13 +1,15 @@
 //! The walks of a file tree, each to one file (BEP 52, "file tree").
 
-ghost use Rattle.std.specs.Prelude.{◌≡◌, ◌++◌, [], ◌∷◌, MatchResult};
+ghost use Rattle.std.specs.Prelude.{◌≡◌, false, MatchResult};
+ghost use Rattle.benc.specs.Value.{dict};
 ghost use Rattle.benc.specs.View.{pairs_view, pair_view};
-ghost use Rattle.filetree.specs.FileTree.{IsBadComponent};
-ghost use Rattle.filetree.specs.Tests.{UnlessNoMemory};
-ghost use Rattle.filetree.specs.Walked.{AddsWalks, AddsWalksAt, texts};
+ghost use Rattle.filetree.specs.FileTree.{IsBadComponent, is_nil};
+ghost use Rattle.filetree.specs.Walked.{AddsWalks, AddsWalksAt, IsFolderAt, IsNodeBelow};
 
+use crate::folder::Folders;
 use crate::path::Path;
 use crate::refusal::Refusal;
+use crate::shape::is_file;
 use benc::{Pair, Value};
 use std::alloc::Global;
 use std::str;
@@ -19,18 +21,20 @@ pub(crate) struct Found<'v, 'a> {
     pub(crate) file: &'v Value<'a>,
 }
 
-/// Adds the files below a directory to those found, in the order of their paths.
+/// Adds the files below a folder to those found, in the order of their paths.
 #[cycle(walk)]
+#[tactic(auto, using(crate::proofs::Rooms::node_at))]
 pub(crate) fn walk<'v, 'a>(
     alloc: Global,
     pairs: &'v [Pair<'a>],
-    path: &[&'a str],
+    folder: &Folders,
     files: &mut Vec<Found<'v, 'a>>,
 ) -> Result<(), Refusal>
-    ensures { AddsWalks (pairs_view pairs.now) (texts path.now) files.old files.new result }
+    requires { IsFolderAt folder.now (pairs_view pairs.now) }
+    ensures { AddsWalks (pairs_view pairs.now) folder.now files.old files.new result }
 {
     'pairs: for pair in pairs {
-        walk_pair(alloc, pair, path, files)?;
+        walk_pair(alloc, pair, folder, files)?;
     }
     Ok(())
 }
@@ -39,24 +43,26 @@ pub(crate) fn walk<'v, 'a>(
 fn walk_pair<'v, 'a>(
     alloc: Global,
     pair: &'v Pair<'a>,
-    path: &[&'a str],
+    folder: &Folders,
     files: &mut Vec<Found<'v, 'a>>,
 ) -> Result<(), Refusal>
-    ensures { AddsWalksAt (pair_view pair.now) (texts path.now) files.old files.new result }
+    requires { IsNodeBelow folder.now (pair_view pair.now) }
+    ensures { AddsWalksAt (pair_view pair.now) folder.now files.old files.new result }
 {
-    if pair.key.is_empty() {
-        let path = path_of(alloc, path)?;
+    let name = component(pair.key)?;
+    let Value::Dict(inner) = &pair.value else {
+        return Ok(());
+    };
+    if is_file(inner) {
+        let path = Path::new(folder.share()?, name);
         files.push(Found {
             path,
-            file: &pair.value,
+            file: &inner[0].value,
         })?;
         return Ok(());
     }
-    let name = component(pair.key)?;
-    match &pair.value {
-        Value::Dict(inner) => walk(alloc, inner, &with_component(alloc, path, name)?, files),
-        _ => Ok(()),
-    }
+    let below = folder.join(alloc, name)?;
+    walk(alloc, inner, &below, files)
 }
 
 /// A component of a path; no name is changed to make it one.
@@ -75,22 +81,4 @@ fn component(key: &[u8]) -> Result<&str, Refusal>
         Ok(name) => Ok(name),
         Err(_) => Err(Refusal::Path),
     }
-}
-
-fn path_of<'a>(alloc: Global, path: &[&'a str]) -> Result<Path<'a>, Refusal>
-    ensures { UnlessNoMemory result (λ p. p ≡ texts path.now) }
-{
-    Ok(Path::from_parts(Vec::from_slice(alloc, path)?))
-}
-
-fn with_component<'a>(
-    alloc: Global,
-    path: &[&'a str],
-    name: &'a str,
-) -> Result<Vec<&'a str>, Refusal>
-    ensures { UnlessNoMemory result (λ p. texts p.items ≡ texts path.now ++ name.now ∷ []) }
-{
-    let mut longer = Vec::from_slice(alloc, path)?;
-    longer.push(name)?;
-    Ok(longer)
 }

@@ -11,8 +11,8 @@ use Rattle.pieces.specs.declared.v1_feed.V1Feed.{V1Feed}
 use Rattle.metainfo.specs.Feeding.{given}
 use Rattle.folders.specs.Content.{HasPlaceFor, part_of}
 use Rattle.folders.specs.Folder.{Contents, start_of}
-use Rattle.folders.specs.Pass.{Finds, IsPart}
-use Rattle.folders.specs.Streaming.{EndsAt, IsGiven, StandsAt, Takes}
+use Rattle.folders.specs.Pass.{FindsVerdict, IsStreamPart}
+use Rattle.folders.specs.Streaming.{EndsAt, IsStreamGiven, StandsAt, Takes}
 use Rattle.folders.specs.Verdicts.{AreVerdicts, IsVerdict, is_whole}
 use Rattle.folders.proofs.Prefixes.{IsPrefix, prefix_none, prefix_zeros, prefix_file, prefix_empty}
 use Rattle.folders.proofs.Places.{place_before, start_is, ends_before_next, pieces_are_positive}
@@ -33,7 +33,7 @@ pub record IsPassed (t : Description) (n : ℕ) (files : List FileVerdict) (runn
 pub record IsTold (t : Description) (contents : Contents) (n : ℕ) (files : List FileVerdict) (running : Option V1Feed) : Type 0 where
   pub each : AreVerdicts t contents files
   pub stream : (v : Version1) → t.v1 ≡ Some v → is_some running ≡ true
-      → (front : List ℕ) × StandsAt running (length front) × IsGiven running v.pieces t.piece_length front × IsPrefix t contents n front
+      → (front : List ℕ) × StandsAt running (length front) × IsStreamGiven running v.pieces t.piece_length front × IsPrefix t contents n front
 
 there_or_not : {A : Type 0} (o : Option A) → (is_some o ≡ false) ⊎ ((v : A) × (o ≡ Some v))
 there_or_not None = inl refl
@@ -54,7 +54,7 @@ has_place t n files (Some r) f sound passed is some = elim (there_or_not t.v1) [
 
 -- where the stream stands before the next file, and what it takes of it
 pub takes_part : (t : Description) (n : ℕ) (f : FileEntry) (bytes : List ℕ) (old new : Option V1Feed) → IsSound t
-    → slice_get t.files n ≡ Some f → IsNotPast old (place_before t n) → IsPart t f bytes old new
+    → slice_get t.files n ≡ Some f → IsNotPast old (place_before t n) → IsStreamPart t f bytes old new
     → (from : ℕ) × StandsAt old from × (from ≤ start_of t f) × Takes old new (part_of from (start_of t f) bytes)
 takes_part t n f bytes None new sound is place part = (0, tt, omega arith, part.streamed 0 tt (omega arith))
 takes_part t n f bytes (Some r) new sound is place part =
@@ -78,7 +78,7 @@ list_all_push files v = list_all-append is_whole files (v ∷ []) ∙ ap (λ b. 
 
 -- the next file is as long as stated
 pub passed_whole : (t : Description) (n : ℕ) (files : List FileVerdict) (v : FileVerdict) (f : FileEntry) (bytes : List ℕ) (old new : Option V1Feed)
-    → IsSound t → slice_get t.files n ≡ Some f → is_whole v ≡ true → IsPart t f bytes old new → IsPassed t n files old → IsPassed t (n + 1) (files ++ v ∷ []) new
+    → IsSound t → slice_get t.files n ≡ Some f → is_whole v ≡ true → IsStreamPart t f bytes old new → IsPassed t n files old → IsPassed t (n + 1) (files ++ v ∷ []) new
 passed_whole t n files v f bytes old new sound is whole part passed =
     let took = takes_part t n f bytes old new sound is passed.not_past part in
     let takes : Takes old new (part_of took.0 (start_of t f) bytes) = took.3 in
@@ -111,7 +111,7 @@ passed_broken t n files v old new broken stopped passed = record {
     off false b c h = refl
 
 pub passed_one : (t : Description) (n : ℕ) (files : List FileVerdict) (v : FileVerdict) (f : FileEntry) (told : Option (Option (List ℕ))) (old new : Option V1Feed)
-    → IsSound t → slice_get t.files n ≡ Some f → Finds t f told old new v → IsPassed t n files old → IsPassed t (n + 1) (files ++ v ∷ []) new
+    → IsSound t → slice_get t.files n ≡ Some f → FindsVerdict t f told old new v → IsPassed t n files old → IsPassed t (n + 1) (files ++ v ∷ []) new
 passed_one t n files v f told old new sound is found passed = elim (true_or_false (is_whole v)) [
   | inl whole ↦ let part = found.taken whole in passed_whole t n files v f part.0 old new sound is whole part.2 passed
   | inr broken ↦ passed_broken t n files v old new broken (found.stopped broken) passed
@@ -125,7 +125,7 @@ passed_one t n files v f told old new sound is found passed = elim (true_or_fals
 
 -- before the first file
 pub told_none : (t : Description) (contents : Contents) (files : List FileVerdict) (running : Option V1Feed) → files ≡ [] → StandsAt running 0
-    → ((v : Version1) → t.v1 ≡ Some v → IsGiven running v.pieces t.piece_length []) → IsTold t contents 0 files running
+    → ((v : Version1) → t.v1 ≡ Some v → IsStreamGiven running v.pieces t.piece_length []) → IsTold t contents 0 files running
 told_none t contents files running none stands given = record {
   each = λ n f v there at. absurd (none-some v (sym (ap (λ xs. slice_get xs n) none) ∙ at));
   stream = λ v hybrid on. ([], stands, given v hybrid, prefix_none t contents);
@@ -162,7 +162,7 @@ part_begins t contents n f front (b ∷ bytes) is content le so_far =
     (omega (arith, length-append front (replicate gap 0), length-replicate {A = ℕ} gap 0)))
 
 pub told_one : (t : Description) (contents : Contents) (n : ℕ) (files : List FileVerdict) (v : FileVerdict) (f : FileEntry) (shelf : Option (Option (List ℕ))) (old new : Option V1Feed)
-    → IsSound t → slice_get t.files n ≡ Some f → (found : Finds t f shelf old new v) → contents n ≡ found.content
+    → IsSound t → slice_get t.files n ≡ Some f → (found : FindsVerdict t f shelf old new v) → contents n ≡ found.content
     → IsPassed t n files old → IsTold t contents n files old → IsTold t contents (n + 1) (files ++ v ∷ []) new
 told_one t contents n files v f shelf old new sound is found here passed told = record {
   each = each_push t contents n files v f passed.count is (subst (λ c. IsVerdict t f c v) (sym here) found.verdict) told.each;

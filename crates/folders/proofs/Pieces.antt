@@ -19,7 +19,7 @@ use Rattle.benc.specs.Device.{SourceSeen}
 use Rattle.wire.specs.Reading.{Gave}
 use Rattle.std.specs.Io.KnownBytes.{Consumes}
 use Rattle.folders.specs.declared.file_check.FileCheck.{FileCheck}
-use Rattle.folders.specs.Feeding.{Feeds}
+use Rattle.folders.specs.Feeding.{FeedsBoth}
 use Rattle.folders.specs.TakeAll.{ReadAll, TookAll}
 use Rattle.metainfo.specs.Description.{Description, FileEntry, TreeEntry}
 use Rattle.metainfo.specs.Pieces.{IsPieceLength}
@@ -27,10 +27,10 @@ use Rattle.metainfo.specs.Sound.{IsSound, IsSoundTree, piece_layer}
 use Rattle.pieces.specs.declared.v1_feed.V1Feed.{V1Feed}
 use Rattle.folders.specs.declared.stream.Stream.{Stream}
 use Rattle.metainfo.specs.Feeding.{given, total}
-use Rattle.folders.specs.Content.{HasPlaceFor, IsLayerOf, IsToldOf, part_of}
+use Rattle.folders.specs.Content.{HasPlaceFor, IsComparedLayer, IsToldOf, part_of}
 use Rattle.folders.specs.Folder.{start_of, tree_of}
 use Rattle.folders.specs.Pass.{IsEmptyContent, IsOpenedVerdict}
-use Rattle.folders.specs.Streaming.{HasRoom, StandsAt, Takes}
+use Rattle.folders.specs.Streaming.{HasStreamRoom, StandsAt, Takes}
 use Rattle.folders.specs.Verdicts.{IsFirstBadPiece, IsVerdict, is_unreadable}
 use Rattle.folders.specs.declared.report.FileVerdict.{FileVerdict}
 use Rattle.folders.specs.declared.report.FileVerdict.TheVariants as file
@@ -41,7 +41,7 @@ short_or_long : (a b : ℕ) → (a ≤ b) ⊎ (b < a)
 short_or_long a b = grind arith
 
 -- the nodes of the compared layer are the given hashes: the root is the tree's
-pub same_root : (piece_length : ℕ) (e : TreeEntry) (layer : ℕ) (hashes : List (List ℕ)) (bytes : List ℕ) → IsLayerOf piece_length e layer hashes → IsSoundTree piece_length e
+pub same_root : (piece_length : ℕ) (e : TreeEntry) (layer : ℕ) (hashes : List (List ℕ)) (bytes : List ℕ) → IsComparedLayer piece_length e layer hashes → IsSoundTree piece_length e
     → length bytes ≡ e.length → layer_of bytes layer ≡ hashes → root_of bytes ≡ e.root
 same_root piece_length e layer hashes bytes of sound len same = elim (short_or_long e.length piece_length) [
   | inl short ↦
@@ -65,7 +65,7 @@ same_root piece_length e layer hashes bytes of sound len same = elim (short_or_l
 ]
 
 -- the first node that is not the given hash is that of the first bad piece
-pub first_bad : (piece_length : ℕ) (e : TreeEntry) (layer : ℕ) (hashes : List (List ℕ)) (bytes : List ℕ) (k : ℕ) → IsLayerOf piece_length e layer hashes
+pub first_bad : (piece_length : ℕ) (e : TreeEntry) (layer : ℕ) (hashes : List (List ℕ)) (bytes : List ℕ) (k : ℕ) → IsComparedLayer piece_length e layer hashes
     → IsSoundTree piece_length e → IsPieceLength piece_length → length bytes ≡ e.length → length (layer_of bytes layer) ≡ length hashes → IsComparison (layer_of bytes layer) hashes (Some k) → IsFirstBadPiece piece_length e bytes k
 first_bad piece_length e layer hashes bytes k of sound legal len size differ = let other = difference_within (layer_of bytes layer) hashes k size differ in record {
   only = λ short.
@@ -125,7 +125,7 @@ filled_to first pl actual old new is fill =
 
 -- there is room for the file, once the stream is at its start
 pub filled_room : (old new : Option V1Feed) (start len : ℕ) → HasPlaceFor old start len
-    → ((from : ℕ) → StandsAt old from → from ≤ start → Takes old new (replicate (start - from) 0)) → HasRoom new len
+    → ((from : ℕ) → StandsAt old from → from ≤ start → Takes old new (replicate (start - from) 0)) → HasStreamRoom new len
 filled_room None None start len place fill = tt
 filled_room None (Some s) start len place fill = let no : ⊥ = cc ((fill 0 tt (omega arith)).goes_on) in absurd no
 filled_room (Some r) None start len place fill = tt
@@ -201,9 +201,9 @@ read_whole took source source' before after r len b equal told read =
 
 -- there is room for the file, once the stream is at its start and was handed out
 pub room_for_all : (old mid : Option V1Feed) (out stream : Stream) (start len : ℕ) → HasPlaceFor old start len
-    → ((from : ℕ) → StandsAt old from → from ≤ start → Takes old mid (replicate (start - from) 0)) → stream.feed ≡ mid → out ≡ stream → HasRoom out.feed len
+    → ((from : ℕ) → StandsAt old from → from ≤ start → Takes old mid (replicate (start - from) 0)) → stream.feed ≡ mid → out ≡ stream → HasStreamRoom out.feed len
 room_for_all old mid out stream start len place fill is same =
-    subst (λ o. HasRoom o len) (sym is ∙ ap (λ s. s.feed) (sym same)) (filled_room old mid start len place fill)
+    subst (λ o. HasStreamRoom o len) (sym is ∙ ap (λ s. s.feed) (sym same)) (filled_room old mid start len place fill)
 
 -- a source that is to be empty, and what reading it told
 pub told_empty : {T : Type 0} (took : T → List ℕ → T → Type 0) (source source' : SourceSeen) (before after : T) (r : Option ℕ) (b : Bool)
@@ -239,7 +239,7 @@ empty_opened t f left old false v none content good other = subst (IsOpenedVerdi
 
 -- it was read whole, and is as long as stated
 pub opened : (t : Description) (f : FileEntry) (source source' : SourceSeen) (bound count : ℕ) (before after : FileCheck) (old mid new : Option V1Feed) (v : FileVerdict)
-    → (read : TookAll Feeds source source' bound before after count) → count ≡ f.length → 0 < f.length
+    → (read : TookAll FeedsBoth source source' bound before after count) → count ≡ f.length → 0 < f.length
     → before.stream.feed ≡ mid → after.stream.feed ≡ new
     → ((from : ℕ) → StandsAt old from → from ≤ start_of t f → Takes old mid (replicate (start_of t f - from) 0))
     → is_unreadable v ≡ false → IsVerdict t f (Some read.bytes) v → IsOpenedVerdict t f source.left old new v
@@ -257,8 +257,8 @@ opened t f source source' bound count before after old mid new v read whole some
 
 -- what the check told at the end
 pub finished : (pl actual bound count : ℕ) (e : TreeEntry) (source source' : SourceSeen) (before after : FileCheck) (told : ℕ) (root : List ℕ) (place : Option ℕ)
-    → (read : TookAll Feeds source source' bound before after count) → e.length ≡ count → pl ≡ actual
-    → IsLayerOf pl e (chosen_layer before.pieces) (given_hashes before.pieces) → IsFedCheck before.pieces []
+    → (read : TookAll FeedsBoth source source' bound before after count) → e.length ≡ count → pl ≡ actual
+    → IsComparedLayer pl e (chosen_layer before.pieces) (given_hashes before.pieces) → IsFedCheck before.pieces []
     → ((file : List ℕ) → IsFedCheck after.pieces file
     → (told ≡ length file) × (root ≡ root_of file) × IsFirstBadNode after.pieces file place)
     → IsToldOf actual e read.bytes root place
@@ -269,9 +269,9 @@ finished pl actual bound count e source source' before after told root place rea
       layer = layer;
       hashes = given_hashes after.pieces;
       of =
-          subst (λ p. IsLayerOf p e layer (given_hashes after.pieces)) is
-          (subst (λ l. IsLayerOf pl e l (given_hashes after.pieces)) (sym read.taken.layer)
-          (subst (λ hs. IsLayerOf pl e (chosen_layer before.pieces) hs) (sym read.taken.hashes) of));
+          subst (λ p. IsComparedLayer p e layer (given_hashes after.pieces)) is
+          (subst (λ l. IsComparedLayer pl e l (given_hashes after.pieces)) (sym read.taken.layer)
+          (subst (λ hs. IsComparedLayer pl e (chosen_layer before.pieces) hs) (sym read.taken.hashes) of));
       length_is = read.count_is ∙ sym same;
       root_is = end.1;
       size_is = end.2.size_is;

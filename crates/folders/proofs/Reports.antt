@@ -11,9 +11,9 @@ use Rattle.folders.specs.declared.report.FileVerdict.TheVariants as file
 use Rattle.folders.specs.declared.report.V1Verdict.{V1Verdict}
 use Rattle.folders.specs.declared.report.V1Verdict.TheVariants as version1
 use Rattle.pieces.specs.declared.v1_feed.V1Feed.{V1Feed}
-use Rattle.folders.specs.Compared.{IsChecked}
-use Rattle.folders.specs.Folder.{Contents, GoodFolder, IsGood, IsStream, V1Good, tree_of}
-use Rattle.folders.specs.Streaming.{EndsAt, IsCompared, StandsAt}
+use Rattle.folders.specs.Compared.{IsDigestVerdict}
+use Rattle.folders.specs.Folder.{Contents, GoodFolder, IsGoodFile, IsStream, V1Good, tree_of}
+use Rattle.folders.specs.Streaming.{EndsAt, IsStreamVerdict, StandsAt}
 use Rattle.folders.specs.Verdicts.{HasVerdicts, IsBad, IsV1Verdict, IsVerdict, TellsContents, fault_count, is_checked, is_good, is_unreadable, is_whole, is_yes, stream_is_good, unreadable_count}
 use Rattle.folders.proofs.Prefixes.{prefix_all, IsPrefix}
 use Rattle.folders.proofs.Passes.{IsPassed, IsTold}
@@ -40,7 +40,7 @@ some_of (Some x) h = (x, refl)
 -- ---- yes means that the folder is good
 
 good_verdict : (t : Description) (f : FileEntry) (content : Option (List ℕ)) (v : FileVerdict) → is_good v ≡ true → IsVerdict t f content v
-    → (bytes : List ℕ) × (content ≡ Some bytes) × IsGood t f bytes
+    → (bytes : List ℕ) × (content ≡ Some bytes) × IsGoodFile t f bytes
 good_verdict t f content file.Good said is = is
 good_verdict t f content file.Missing said is = let no : ⊥ = cc in absurd no
 good_verdict t f content file.Unreadable said is = let no : ⊥ = cc in absurd no
@@ -91,7 +91,7 @@ sound_tree t f e sound found = by_tree f.tree refl
     by_tree (Some k) is = sound.trees k e (sym (ap (option_and_then (slice_get t.trees)) is) ∙ found)
 
 -- a good file has its stated length
-good_length : (t : Description) (n : ℕ) (f : FileEntry) (bytes : List ℕ) → IsSound t → slice_get t.files n ≡ Some f → IsGood t f bytes → length bytes ≡ f.length
+good_length : (t : Description) (n : ℕ) (f : FileEntry) (bytes : List ℕ) → IsSound t → slice_get t.files n ≡ Some f → IsGoodFile t f bytes → length bytes ≡ f.length
 good_length t n f bytes sound there good = by_length f.length refl
   where
     by_length : (len : ℕ) → f.length ≡ len → length bytes ≡ f.length
@@ -101,14 +101,14 @@ good_length t n f bytes sound there good = by_length f.length refl
         fits.2.length_is ∙ (has_tree t n f fits.0 sound there fits.1).0
 
 -- its root is not another
-not_bad : (t : Description) (n : ℕ) (f : FileEntry) (bytes : List ℕ) (p : ℕ) → IsSound t → slice_get t.files n ≡ Some f → IsGood t f bytes → IsBad t f bytes p → ⊥
+not_bad : (t : Description) (n : ℕ) (f : FileEntry) (bytes : List ℕ) (p : ℕ) → IsSound t → slice_get t.files n ≡ Some f → IsGoodFile t f bytes → IsBad t f bytes p → ⊥
 not_bad t n f bytes p sound there good bad =
     let fits = good.fits (has_tree t n f bad.tree sound there bad.tree_is).1 in
     let same : fits.0 ≡ bad.tree = same_Some fits.0 bad.tree (sym fits.1 ∙ bad.tree_is) in
     bad.root_differs (fits.2.root_is ∙ ap (λ e. e.root) same)
 
 no_other : (t : Description) (n : ℕ) (f : FileEntry) (content : Option (List ℕ)) (bytes : List ℕ) (v : FileVerdict) → IsSound t → slice_get t.files n ≡ Some f
-    → content ≡ Some bytes → IsGood t f bytes → is_unreadable v ≡ false → IsVerdict t f content v → is_good v ≡ true
+    → content ≡ Some bytes → IsGoodFile t f bytes → is_unreadable v ≡ false → IsVerdict t f content v → is_good v ≡ true
 no_other t n f content bytes file.Good sound there is good readable verdict = refl
 no_other t n f content bytes file.Missing sound there is good readable verdict = absurd (none-some bytes (sym verdict ∙ is))
 no_other t n f content bytes file.Unreadable sound there is good readable verdict = let no : ⊥ = cc in absurd no
@@ -176,8 +176,8 @@ IsWithin running = (from total : ℕ) → is_some running ≡ true → StandsAt 
 
 -- the stream, once all files have passed whole, and what comparing it told
 compared_stream : (t : Description) (contents : Contents) (n : ℕ) (files : List FileVerdict) (running : Option V1Feed) (v : Version1) (verdict : V1Verdict)
-    → n ≡ length t.files → IsPassed t n files running → IsTold t contents n files running → t.v1 ≡ Some v → is_some running ≡ true → IsWithin running → IsCompared running verdict
-    → (stream : List ℕ) × IsStream t contents v.total stream × IsChecked (cut_digests t.piece_length stream) v.pieces verdict
+    → n ≡ length t.files → IsPassed t n files running → IsTold t contents n files running → t.v1 ≡ Some v → is_some running ≡ true → IsWithin running → IsStreamVerdict running verdict
+    → (stream : List ℕ) × IsStream t contents v.total stream × IsDigestVerdict (cut_digests t.piece_length stream) v.pieces verdict
 compared_stream t contents n files running v verdict all passed told hybrid on within compared =
     let given = told.stream v hybrid on in (
       given.0 ++ replicate (v.total - length given.0) 0,
@@ -189,7 +189,7 @@ compared_stream t contents n files running v verdict all passed told hybrid on w
 -- the verdict on the version 1 stream, once all files have passed
 pub stream_told : (t : Description) (contents : Contents) (n : ℕ) (files : List FileVerdict) (running : Option V1Feed) (v : Version1) (verdict : V1Verdict)
     → n ≡ length t.files → IsPassed t n files running → IsTold t contents n files running → t.v1 ≡ Some v → is_checked verdict ≡ is_some running
-    → IsWithin running → IsCompared running verdict → IsV1Verdict t v contents verdict
+    → IsWithin running → IsStreamVerdict running verdict → IsV1Verdict t v contents verdict
 stream_told t contents n files running v version1.NotChecked all passed told hybrid checked within compared = tt
 stream_told t contents n files running v version1.Good all passed told hybrid checked within compared =
     compared_stream t contents n files running v version1.Good all passed told hybrid (sym checked) within compared

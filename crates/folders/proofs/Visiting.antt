@@ -11,7 +11,7 @@ use Rattle.folders.specs.declared.report.FileVerdict.{FileVerdict}
 use Rattle.folders.specs.declared.report.FileVerdict.TheVariants as file
 use Rattle.pieces.specs.declared.v1_feed.V1Feed.{V1Feed}
 use Rattle.folders.specs.Folder.{Contents}
-use Rattle.folders.specs.Pass.{Finds, IsOpenedVerdict, IsPart}
+use Rattle.folders.specs.Pass.{FindsVerdict, IsOpenedVerdict, IsStreamPart}
 use Rattle.folders.specs.Shelf.{IsFound}
 use Rattle.folders.specs.Verdicts.{AgreeWith, Agrees, is_whole}
 use Rattle.folders.proofs.Passes.{IsPassed, IsTold, told_one}
@@ -20,7 +20,7 @@ use Rattle.folders.proofs.Passes.{IsPassed, IsTold, told_one}
 
 -- nothing has the name
 pub finds_missing : (t : Description) (f : FileEntry) (told : Option (Option (List ℕ))) (old new : Option V1Feed)
-    → IsFound told None → new ≡ None → Finds t f told old new file.Missing
+    → IsFound told None → new ≡ None → FindsVerdict t f told old new file.Missing
 finds_missing t f told old new found stopped = record {
   content = None;
   agrees = nothing told found;
@@ -39,7 +39,7 @@ finds_missing t f told old new found stopped = record {
 
 -- the file is unreadable, and may have any content
 pub finds_unreadable : (t : Description) (f : FileEntry) (told : Option (Option (List ℕ))) (old new : Option V1Feed)
-    → new ≡ None → Finds t f told old new file.Unreadable
+    → new ≡ None → FindsVerdict t f told old new file.Unreadable
 finds_unreadable t f told old new stopped = record {
   content = unwrap_or told None;
   agrees = λ there is. sym (ap (λ o. unwrap_or o None) is);
@@ -51,12 +51,12 @@ finds_unreadable t f told old new stopped = record {
 -- the file was opened and read without a fault
 pub finds_opened : (t : Description) (f : FileEntry) (told : Option (Option (List ℕ))) (left : Option (List ℕ)) (old new end : Option V1Feed) (v : FileVerdict)
     → IsFound told (Some left) → IsOpenedVerdict t f left old new v → (is_whole v ≡ true → end ≡ new) → (is_whole v ≡ false → end ≡ None)
-    → Finds t f told old end v
+    → FindsVerdict t f told old end v
 finds_opened t f told left old new end v found is goes stopped = record {
   content = Some is.bytes;
   agrees = there told found;
   verdict = is.verdict;
-  taken = λ whole. (is.bytes, refl, subst (λ o. IsPart t f is.bytes old o) (sym (goes whole)) (is.taken whole));
+  taken = λ whole. (is.bytes, refl, subst (λ o. IsStreamPart t f is.bytes old o) (sym (goes whole)) (is.taken whole));
   stopped = stopped;
 }
   where
@@ -71,11 +71,11 @@ finds_opened t f told left old new end v found is goes stopped = record {
 -- the same, of how the reading was answered
 pub finds_read : (t : Description) (f : FileEntry) (told : Option (Option (List ℕ))) (left : Option (List ℕ)) (old new end : Option V1Feed) (r : Result FileVerdict DeviceFault) (v : FileVerdict)
     → IsFound told (Some left) → IfOk r (IsOpenedVerdict t f left old new) → v ≡ result_unwrap_or r file.Unreadable
-    → (is_whole v ≡ true → end ≡ new) → (is_whole v ≡ false → end ≡ None) → Finds t f told old end v
+    → (is_whole v ≡ true → end ≡ new) → (is_whole v ≡ false → end ≡ None) → FindsVerdict t f told old end v
 finds_read t f told left old new end (Ok w) v found is same goes stopped =
     finds_opened t f told left old new end v found (subst (IsOpenedVerdict t f left old new) (sym same) is) goes stopped
 finds_read t f told left old new end (Err e) v found is same goes stopped =
-    subst (Finds t f told old end) (sym same) (finds_unreadable t f told old end (stopped (ap is_whole same)))
+    subst (FindsVerdict t f told old end) (sym same) (finds_unreadable t f told old end (stopped (ap is_whole same)))
 
 -- a file that was not read whole was, and the other way round
 pub never_whole : (v : FileVerdict) (b : Bool) (x y : Option V1Feed) → b ≡ is_whole v → b ≡ false → is_whole v ≡ true → x ≡ y
@@ -124,7 +124,7 @@ pushed_last xs x k at =
 
 -- one more file
 pub found_one : (t : Description) (under : List (List ℕ) → Option (Option (List ℕ))) (n : ℕ) (files : List FileVerdict) (v : FileVerdict) (f : FileEntry) (old new : Option V1Feed)
-    → IsSound t → slice_get t.files n ≡ Some f → Finds t f (under f.path) old new v → IsPassed t n files old
+    → IsSound t → slice_get t.files n ≡ Some f → FindsVerdict t f (under f.path) old new v → IsPassed t n files old
     → HasFound t under n files old → HasFound t under (n + 1) (files ++ v ∷ []) new
 found_one t under n files v f old new sound is found passed so_far = record {
   seen = so_far.seen ++ found.content ∷ [];

@@ -6,7 +6,7 @@ use Rattle.folders.specs.declared.report.V1Verdict.TheVariants.{Good, Bad, NotCh
 
 -- the digests are those that are listed, or this is the first place at which they differ, or they
 -- were not compared
-abbrev pub IsChecked : List (List ℕ) → List (List ℕ) → V1Verdict → Type 0
-IsChecked digests pieces Good = digests ≡ pieces
-IsChecked digests pieces (Bad i) = IsFirstDifference digests pieces i
-IsChecked digests pieces NotChecked = Unit {0}
+abbrev pub IsDigestVerdict : List (List ℕ) → List (List ℕ) → V1Verdict → Type 0
+IsDigestVerdict digests pieces Good = digests ≡ pieces
+IsDigestVerdict digests pieces (Bad i) = IsFirstDifference digests pieces i
+IsDigestVerdict digests pieces NotChecked = Unit {0}

@@ -8,7 +8,7 @@ use Rattle.metainfo.specs.Sound.{piece_layer}
 use Rattle.pieces.specs.declared.v1_feed.V1Feed.{V1Feed}
 
 -- a tree is compared at its piece layer; that of a file with one piece, which has none, at its root
-pub record IsLayerOf (piece_length : ℕ) (e : TreeEntry) (layer : ℕ) (hashes : List (List ℕ))
+pub record IsComparedLayer (piece_length : ℕ) (e : TreeEntry) (layer : ℕ) (hashes : List (List ℕ))
     : Type 0 where
   pub at_root : e.length ≤ piece_length
       → (layer ≡ height (block_count e.length)) × (hashes ≡ e.root ∷ [])
@@ -21,7 +21,7 @@ pub record IsToldOf (piece_length : ℕ) (e : TreeEntry) (bytes : List ℕ) (roo
     (place : Option ℕ) : Type 0 where
   pub layer : ℕ
   pub hashes : List (List ℕ)
-  pub of : IsLayerOf piece_length e layer hashes
+  pub of : IsComparedLayer piece_length e layer hashes
   pub length_is : length bytes ≡ e.length
   pub root_is : root ≡ root_of bytes
   pub size_is : length (layer_of bytes layer) ≡ length hashes

@@ -5,7 +5,7 @@ use Rattle.hashtree.specs.RootBuilder.{IsFed, byte_count}
 use Rattle.hashtree.specs.declared.RootBuilder.{RootBuilder}
 use Rattle.hashtree.specs.PieceCheck.{IsFedCheck, chosen_layer, chosen_shape, given_hashes}
 use Rattle.hashtree.specs.PieceCheck as check
-use Rattle.folders.specs.Streaming.{HasRoom, Takes}
+use Rattle.folders.specs.Streaming.{HasStreamRoom, Takes}
 use Rattle.folders.specs.declared.file_check.FileCheck.{FileCheck}
 
 -- a builder was pushed these bytes
@@ -18,7 +18,7 @@ abbrev pub CanBuild : RootBuilder → ℕ → Type 0
 CanBuild b n = byte_count b + n ≤ 2 ^ 46
 
 -- the check of a tree and the version 1 stream were given these bytes
-pub record Feeds (old : FileCheck) (bytes : List ℕ) (new : FileCheck) : Type 0 where
+pub record FeedsBoth (old : FileCheck) (bytes : List ℕ) (new : FileCheck) : Type 0 where
   pub count : check.byte_count new.pieces ≡ check.byte_count old.pieces + length bytes
   pub shape : chosen_shape new.pieces ≡ chosen_shape old.pieces
   pub layer : chosen_layer new.pieces ≡ chosen_layer old.pieces
@@ -29,4 +29,4 @@ pub record Feeds (old : FileCheck) (bytes : List ℕ) (new : FileCheck) : Type 0
 -- neither the file nor the stream is full before so many bytes more
 abbrev pub CanFeed : FileCheck → ℕ → Type 0
 CanFeed c n =
-    (check.byte_count c.pieces + n ≤ chosen_shape c.pieces) × HasRoom c.stream.feed n
+    (check.byte_count c.pieces + n ≤ chosen_shape c.pieces) × HasStreamRoom c.stream.feed n

@@ -13,14 +13,14 @@ abbrev pub tree_of : Description → FileEntry → Option TreeEntry
 tree_of t f = option_and_then (slice_get t.trees) f.tree
 
 -- these bytes fit the tree: they have its length, and the tree over their leaves has its root
-pub record Fits (e : TreeEntry) (bytes : List ℕ) : Type 0 where
+pub record FitsTree (e : TreeEntry) (bytes : List ℕ) : Type 0 where
   pub length_is : length bytes ≡ e.length
   pub root_is : root_of bytes ≡ e.root
 
 -- these bytes are the file: none if its length is 0, else bytes that fit its tree
-pub record IsGood (t : Description) (f : FileEntry) (bytes : List ℕ) : Type 0 where
+pub record IsGoodFile (t : Description) (f : FileEntry) (bytes : List ℕ) : Type 0 where
   pub empty : f.length ≡ 0 → bytes ≡ []
-  pub fits : 0 < f.length → (e : TreeEntry) × (tree_of t f ≡ Some e) × Fits e bytes
+  pub fits : 0 < f.length → (e : TreeEntry) × (tree_of t f ≡ Some e) × FitsTree e bytes
 
 -- where the file begins in the version 1 stream: at its first piece
 abbrev pub start_of : Description → FileEntry → ℕ
@@ -37,8 +37,8 @@ pub record Covers (t : Description) (contents : Contents) (i : ℕ) : Type 0 whe
   pub to : i < start_of t file + length bytes
 
 -- this part of the stream is a file's, at its start
-abbrev pub StandsIn : Description → FileEntry → List ℕ → List ℕ → Type 0
-StandsIn t f bytes stream = take (length bytes) (drop (start_of t f) stream) ≡ bytes
+abbrev pub StandsInStream : Description → FileEntry → List ℕ → List ℕ → Type 0
+StandsInStream t f bytes stream = take (length bytes) (drop (start_of t f) stream) ≡ bytes
 
 -- the version 1 stream: as long as stated, each file that is not empty at its start, and zeros
 -- elsewhere
@@ -46,7 +46,7 @@ pub record IsStream (t : Description) (contents : Contents) (total : ℕ) (strea
   where
     pub length_is : length stream ≡ total
     pub file_at : (n : ℕ) (f : FileEntry) (bytes : List ℕ) → slice_get t.files n ≡ Some f
-        → contents n ≡ Some bytes → 0 < length bytes → StandsIn t f bytes stream
+        → contents n ≡ Some bytes → 0 < length bytes → StandsInStream t f bytes stream
     pub zeros : (i : ℕ) → i < total → (Covers t contents i → ⊥) → slice_index stream i ≡ 0
 
 -- the version 1 pieces are good: the SHA-1 digests of the stream's cuts are those of `pieces`
@@ -59,5 +59,5 @@ V1Good t v contents =
 -- pieces are good
 pub record GoodFolder (t : Description) (contents : Contents) : Type 0 where
   pub files : (n : ℕ) (f : FileEntry) → slice_get t.files n ≡ Some f
-      → (bytes : List ℕ) × (contents n ≡ Some bytes) × IsGood t f bytes
+      → (bytes : List ℕ) × (contents n ≡ Some bytes) × IsGoodFile t f bytes
   pub version1 : (v : Version1) → t.v1 ≡ Some v → V1Good t v contents

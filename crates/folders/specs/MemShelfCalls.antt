@@ -50,12 +50,12 @@ IsOpenedAs (Some file) at_most found =
 
 -- an opening fails exactly in its turn, else it opens the first file with the path; it counts, and
 -- all else stays
-abbrev pub Opens : MemShelfSeen → List (List ℕ) → Result (Option MemSource) DeviceFault
+abbrev pub OpensFile : MemShelfSeen → List (List ℕ) → Result (Option MemSource) DeviceFault
     → MemShelfSeen → Type 0
-Opens s path (Ok found) s' =
+OpensFile s path (Ok found) s' =
     (s.before_fault ≢ Some 0) × IsOpenedAs (first_with path s.files) s.at_most found
     × (s' ≡ record s { before_fault = after_call s.before_fault; openings = one_more s.openings })
-Opens s path (Err e) s' =
+OpensFile s path (Err e) s' =
     (s.before_fault ≡ Some 0)
     × (s' ≡ record s {
       before_fault = None;

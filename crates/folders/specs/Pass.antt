@@ -9,7 +9,7 @@ use Rattle.folders.specs.declared.report.FileVerdict.{FileVerdict}
 use Rattle.pieces.specs.declared.v1_feed.V1Feed.{V1Feed}
 
 -- the stream took the part of a file that has these bytes
-pub record IsPart (t : Description) (f : FileEntry) (bytes : List ℕ) (old new : Option V1Feed)
+pub record IsStreamPart (t : Description) (f : FileEntry) (bytes : List ℕ) (old new : Option V1Feed)
     : Type 0 where
   pub length_is : length bytes ≡ f.length
   pub streamed : (from : ℕ) → StandsAt old from → from ≤ start_of t f
@@ -29,15 +29,15 @@ pub record IsOpenedVerdict (t : Description) (f : FileEntry) (left : Option (Lis
   pub agrees : (file : List ℕ) → left ≡ Some file → file ≡ bytes
   pub verdict : IsVerdict t f (Some bytes) v
   pub readable : is_unreadable v ≡ false
-  pub taken : is_whole v ≡ true → IsPart t f bytes old new
+  pub taken : is_whole v ≡ true → IsStreamPart t f bytes old new
 
 -- What a check found of a file of whose path a shelf tells this. It has this content, which is the
 -- known one; the verdict is true of it; and the stream took its part or has ended.
-pub record Finds (t : Description) (f : FileEntry) (told : Option (Option (List ℕ)))
+pub record FindsVerdict (t : Description) (f : FileEntry) (told : Option (Option (List ℕ)))
     (old new : Option V1Feed) (v : FileVerdict) : Type 0 where
   pub content : Option (List ℕ)
   pub agrees : Agrees told content
   pub verdict : IsVerdict t f content v
   pub taken : is_whole v ≡ true
-      → (bytes : List ℕ) × (content ≡ Some bytes) × IsPart t f bytes old new
+      → (bytes : List ℕ) × (content ≡ Some bytes) × IsStreamPart t f bytes old new
   pub stopped : is_whole v ≡ false → new ≡ None

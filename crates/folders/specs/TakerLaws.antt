@@ -5,16 +5,16 @@ use Rattle.hashtree.specs.RootBuilder.{IsFed}
 use Rattle.hashtree.specs.declared.RootBuilder.{RootBuilder}
 use Rattle.hashtree.specs.PieceCheck.{IsFedCheck}
 use Rattle.metainfo.specs.Feeding.{given, total}
-use Rattle.folders.specs.Feeding.{Builds, CanBuild, CanFeed, Feeds}
+use Rattle.folders.specs.Feeding.{Builds, CanBuild, CanFeed, FeedsBoth}
 use Rattle.folders.specs.declared.file_check.FileCheck.{FileCheck}
-use Rattle.folders.specs.Streaming.{HasRoom, IsGiven, StandsAt, Takes}
+use Rattle.folders.specs.Streaming.{HasStreamRoom, IsStreamGiven, StandsAt, Takes}
 use Rattle.pieces.specs.declared.v1_feed.V1Feed.{V1Feed}
 
 -- ---- the version 1 stream
 
 -- what is left of the room
 pub takes_room : (old new : Option V1Feed) (part : List ℕ) (n m : ℕ)
-    → Takes old new part → HasRoom old m → length part + n ≤ m → HasRoom new n
+    → Takes old new part → HasStreamRoom old m → length part + n ≤ m → HasStreamRoom new n
 takes_room None None part n m takes room fits = tt
 takes_room None (Some s) part n m takes room fits = let no : ⊥ = cc (takes.goes_on) in absurd no
 takes_room (Some r) None part n m takes room fits = tt
@@ -31,7 +31,7 @@ takes_append a b c xs ys one two = record {
       subst (StandsAt c) e (two.stands (n + length xs) (one.stands n at));
   ends = λ n at. two.ends n (one.ends n at);
   given = λ pieces piece_length content given.
-      subst (IsGiven c pieces piece_length) (append_assoc content xs ys)
+      subst (IsStreamGiven c pieces piece_length) (append_assoc content xs ys)
       (two.given pieces piece_length (content ++ xs) (one.given pieces piece_length content given));
 }
 
@@ -41,11 +41,11 @@ takes_nothing a = record {
   stands = λ n at. subst (StandsAt a) (let e : n ≡ n + 0 = omega arith in e) at;
   ends = λ n at. at;
   given = λ pieces piece_length content given.
-      subst (IsGiven a pieces piece_length) (sym (append-nil content)) given;
+      subst (IsStreamGiven a pieces piece_length) (sym (append-nil content)) given;
 }
 
 -- if there is room, there is room for less
-pub takes_less : (a : Option V1Feed) (m n : ℕ) → HasRoom a n → m ≤ n → HasRoom a m
+pub takes_less : (a : Option V1Feed) (m n : ℕ) → HasStreamRoom a n → m ≤ n → HasStreamRoom a m
 takes_less None m n room le = tt
 takes_less (Some r) m n room le = omega (arith, room, le)
 
@@ -74,7 +74,7 @@ built_less b m n room le = omega (arith, room, le)
 
 -- ---- the check of a tree together with the stream
 
-pub fed_none : (c : FileCheck) → Feeds c [] c
+pub fed_none : (c : FileCheck) → FeedsBoth c [] c
 fed_none c = record {
   count = omega arith;
   shape = refl;
@@ -84,7 +84,8 @@ fed_none c = record {
   streamed = takes_nothing c.stream.feed;
 }
 
-pub fed_both : (a b c : FileCheck) (x y : List ℕ) → Feeds a x b → Feeds b y c → Feeds a (x ++ y) c
+pub fed_both : (a b c : FileCheck) (x y : List ℕ) → FeedsBoth a x b → FeedsBoth b y c
+    → FeedsBoth a (x ++ y) c
 fed_both a b c x y one two = record {
   count = omega (arith, one.count, two.count, length-append x y);
   shape = two.shape ∙ one.shape;
@@ -96,7 +97,7 @@ fed_both a b c x y one two = record {
 }
 
 pub fed_room : (a b : FileCheck) (x : List ℕ) (n : ℕ)
-    → Feeds a x b → CanFeed a (length x + n) → CanFeed b n
+    → FeedsBoth a x b → CanFeed a (length x + n) → CanFeed b n
 fed_room a b x n one room = (
   omega (arith, one.count, one.shape, room.0),
   takes_room a.stream.feed b.stream.feed x n (length x + n) one.streamed room.1 (omega arith),

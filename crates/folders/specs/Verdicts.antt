@@ -5,7 +5,7 @@ use Rattle.hashtree.specs.Tree.{root_of, node}
 use Rattle.metainfo.specs.Description.{Description, FileEntry, TreeEntry, Version1}
 use Rattle.metainfo.specs.Sound.{piece_layer}
 use Rattle.metainfo.specs.Cuts.{cut_digests, IsFirstDifference}
-use Rattle.folders.specs.Folder.{Contents, GoodFolder, IsGood, IsStream, V1Good, tree_of}
+use Rattle.folders.specs.Folder.{Contents, GoodFolder, IsGoodFile, IsStream, V1Good, tree_of}
 use Rattle.folders.specs.declared.report.FileVerdict.{FileVerdict}
 use Rattle.folders.specs.declared.report.FileVerdict.TheVariants as file
 use Rattle.folders.specs.declared.report.V1Verdict.{V1Verdict}
@@ -42,7 +42,7 @@ IsVerdict t f content file.Unreadable = ⊤
 IsVerdict t f content file.WrongLength =
     (bytes : List ℕ) × (content ≡ Some bytes) × (length bytes ≢ f.length)
 IsVerdict t f content (file.Bad p) = (bytes : List ℕ) × (content ≡ Some bytes) × IsBad t f bytes p
-IsVerdict t f content file.Good = (bytes : List ℕ) × (content ≡ Some bytes) × IsGood t f bytes
+IsVerdict t f content file.Good = (bytes : List ℕ) × (content ≡ Some bytes) × IsGoodFile t f bytes
 
 abbrev pub is_good : FileVerdict → Bool
 is_good file.Good = true

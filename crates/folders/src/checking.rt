@@ -6,9 +6,9 @@ ghost use Rattle.hashtree.specs.PieceCheck.{IsFedCheck, byte_count, chosen_layer
 ghost use Rattle.metainfo.specs.Pieces.{IsPieceLength};
 ghost use Rattle.metainfo.specs.Seen.{file_entry, tree_entry};
 ghost use Rattle.metainfo.specs.Sound.{IsSoundTree};
-ghost use Rattle.folders.specs.Content.{HasPlaceFor, IsLayerOf, IsToldOf};
+ghost use Rattle.folders.specs.Content.{HasPlaceFor, IsComparedLayer, IsToldOf};
 ghost use Rattle.folders.specs.Folder.{start_of, tree_of};
-ghost use Rattle.folders.specs.Pass.{Finds, IsEmptyContent, IsOpenedVerdict};
+ghost use Rattle.folders.specs.Pass.{FindsVerdict, IsEmptyContent, IsOpenedVerdict};
 ghost use Rattle.folders.specs.Shelf.{more};
 ghost use Rattle.folders.specs.TakeAll.{IsReadWithin};
 ghost use Rattle.folders.specs.Visits.{Visits};
@@ -75,14 +75,14 @@ fn check_file<S: Shelf>(
     requires file { IsFileOf torrent.now (file_entry file.now) }
     requires place { 0 < file.now.length → HasPlaceFor stream.old.feed
         (start_of torrent.now (file_entry file.now)) file.now.length }
-    ensures found { Finds torrent.now (file_entry file.now) (S.under shelf.old file.now.path)
+    ensures found { FindsVerdict torrent.now (file_entry file.now) (S.under shelf.old file.now.path)
         stream.old.feed stream.new.feed result }
     ensures visits { Visits S.opens S.closes S.File.seen shelf.old (file_entry file.now) result
         shelf.new }
     ensures counts { S.faults shelf.new ≡ more (S.faults shelf.old) (fault_count result) }
     ensures kept { (p : List (List ℕ)) → S.under shelf.new p ≡ S.under shelf.old p }
 {
-    let verdict = match shelf.open(file.path.parts()) {
+    let verdict = match shelf.open(&file.path.parts()) {
         Ok(Some(mut source)) => {
             let verdict = check_content(&mut source, torrent, file, stream).unwrap_or(
                 FileVerdict::Unreadable,
@@ -215,7 +215,7 @@ fn piece_check<'t>(tree: &'t TreeInfo<'_>, piece_length: u64) -> PieceCheck<'t>
     requires legal { IsPieceLength piece_length }
     ensures count { byte_count result ≡ 0 }
     ensures shape { chosen_shape result ≡ tree.now.length }
-    ensures layer { IsLayerOf piece_length (tree_entry tree.now) (chosen_layer result)
+    ensures layer { IsComparedLayer piece_length (tree_entry tree.now) (chosen_layer result)
         (given_hashes result) }
     ensures content { IsFedCheck result [] }
 {

@@ -15,12 +15,12 @@ pub struct FileCheck<'t, 'v> {
 }
 
 impl<'t, 'v> Taker for FileCheck<'t, 'v> {
-    ghost use Rattle.folders.specs.Feeding.{CanFeed, Feeds};
+    ghost use Rattle.folders.specs.Feeding.{CanFeed, FeedsBoth};
     ghost use Rattle.folders.specs.TakerLaws.{fed_none, fed_both, fed_room, fed_less};
 
     ghost has_room = { CanFeed };
 
-    ghost took = { Feeds };
+    ghost took = { FeedsBoth };
 
     fn take(&mut self, part: &[u8]) {
         self.pieces.push(part);

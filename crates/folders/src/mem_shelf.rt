@@ -161,7 +161,7 @@ impl<'a> MemShelf<'a> {
         }
     }
 
-    /// From here on a read of a file gives at most so many bytes.
+    /// From here on a read of a file gives at most so many bytes, one at least.
     pub fn at_most(mut self, count: usize) -> MemShelf<'a>
         requires { 0 < count }
         ensures { seen_of result ≡ record (seen_of self.entry) { at_most = count } }
@@ -191,7 +191,7 @@ impl<'a> Shelf for MemShelf<'a> {
     type File = MemSource<'a>;
 
     ghost use Rattle.folders.specs.MemShelf.{content_under, listing_of};
-    ghost use Rattle.folders.specs.MemShelfCalls.{Closes, ListsInTurn, Opens, seen_of};
+    ghost use Rattle.folders.specs.MemShelfCalls.{Closes, ListsInTurn, OpensFile, seen_of};
     ghost use Rattle.folders.specs.Shelf.{CountsListing, IsListed};
 
     ghost under = { λ s p. Some (content_under (seen_of s).files p) };
@@ -199,7 +199,7 @@ impl<'a> Shelf for MemShelf<'a> {
     ghost listing = { λ s. Some (listing_of (seen_of s).files
         (seen_of s).has_odd_name (seen_of s).specials) };
 
-    ghost opens = { λ s path r t. Opens (seen_of s) path r (seen_of t) };
+    ghost opens = { λ s path r t. OpensFile (seen_of s) path r (seen_of t) };
 
     ghost closes = { λ s file t. Closes (seen_of s) file (seen_of t) };
 

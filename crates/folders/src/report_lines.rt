@@ -65,7 +65,7 @@ fn write_verdict<W: Sink>(
         (verdict_text verdict (file_entry file.now)) }
 {
     write_all(out, words(verdict).as_slice())?;
-    write_path(out, file.path.parts())?;
+    write_path(out, &file.path.parts())?;
     write_all(out, b"\n")
 }
 

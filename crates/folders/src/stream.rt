@@ -1,7 +1,7 @@
 //! The version 1 stream of a hybrid, fed file by file.
 ghost use Rattle.std.specs.Prelude.{◌≡◌, ℕ, ◌<◌, ◌≤◌, [], length, is_some, IfSome, Some, None, true};
 ghost use Rattle.metainfo.specs.Feeding.{given, total};
-ghost use Rattle.folders.specs.Streaming.{IsCompared};
+ghost use Rattle.folders.specs.Streaming.{IsStreamVerdict};
 ghost use Rattle.folders.specs.Verdicts.{is_checked};
 
 use crate::report::V1Verdict;
@@ -16,7 +16,7 @@ pub struct Stream<'a> {
 }
 
 impl<'a> Stream<'a> {
-    ghost use Rattle.folders.specs.Streaming.{EndsAt, FillsTo, HasRoom, IsGiven, Reaches, StandsAt, Takes, goes_on};
+    ghost use Rattle.folders.specs.Streaming.{EndsAt, FillsTo, HasStreamRoom, IsStreamGiven, CanFillTo, StandsAt, Takes, goes_on};
 
     /// The stream of a hybrid, at its start.
     pub fn of(v1: Option<&V1<'a>>, piece_length: u64) -> Stream<'a>
@@ -25,7 +25,7 @@ impl<'a> Stream<'a> {
         ensures stands { StandsAt result.feed 0 }
         ensures ends { IfSome v1.entry (λ v. EndsAt result.feed v.now.total) }
         ensures given { IfSome v1.entry (λ v.
-            IsGiven result.feed v.now.pieces.now piece_length []) }
+            IsStreamGiven result.feed v.now.pieces.now piece_length []) }
     {
         Stream {
             feed: v1.map(|v| V1Feed::new(v, piece_length)),
@@ -34,7 +34,7 @@ impl<'a> Stream<'a> {
 
     /// Takes zeros up to this place, which it has not passed and which is not past its end.
     pub fn fill_to(&mut self, place: u64)
-        requires { Reaches self.old.feed place }
+        requires { CanFillTo self.old.feed place }
         ensures { FillsTo self.old.feed place self.new.feed }
     {
         if let Some(feed) = &mut self.feed {
@@ -44,7 +44,7 @@ impl<'a> Stream<'a> {
 
     /// Takes these bytes, no more than are still to come.
     pub fn push(&mut self, bytes: &[u8])
-        requires { HasRoom self.old.feed (length bytes.now) }
+        requires { HasStreamRoom self.old.feed (length bytes.now) }
         ensures { Takes self.old.feed self.new.feed bytes.now }
     {
         if let Some(feed) = &mut self.feed {
@@ -72,7 +72,7 @@ impl<'a> Stream<'a> {
         ensures checked { is_checked result ≡ goes_on self.entry }
         ensures within { (from total : ℕ) → goes_on self.entry ≡ true
             → StandsAt self.entry.feed from → EndsAt self.entry.feed total → from ≤ total }
-        ensures compared { IsCompared self.entry.feed result }
+        ensures compared { IsStreamVerdict self.entry.feed result }
     {
         match self.feed {
             Some(feed) => finish(feed),
@@ -85,7 +85,7 @@ impl<'a> Stream<'a> {
 fn finish(mut feed: V1Feed<'_>) -> V1Verdict
     ensures checked { is_checked result ≡ true }
     ensures within { given feed.entry ≤ total feed.entry }
-    ensures compared { IsCompared (Some feed.entry) result }
+    ensures compared { IsStreamVerdict (Some feed.entry) result }
 {
     feed.zeros(feed.total() - feed.given());
     match feed.finish() {

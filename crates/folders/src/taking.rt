@@ -48,7 +48,8 @@ impl Taker for () {
 }
 
 /// Reads a source through the buffer to its end, or to one byte past the bound, and hands on what
-/// it reads but the last part of a source that is longer. It tells whether the source ended.
+/// it reads but the last part of a source that is longer. It tells whether the source ended. The
+/// buffer is not empty, the taker has room for the bound, and the bound is below 2^63.
 pub fn take_all<F: Source, T: Taker>(
     source: &mut F,
     bound: u64,

@@ -40,7 +40,7 @@ impl Line {
         &self.bytes[..self.used]
     }
 
-    /// Puts these bytes at the end.
+    /// Puts these bytes at the end. The line is then no longer than 256 bytes.
     pub fn put(&mut self, text: &[u8])
         requires { length self.old + length text.now ≤ 256 }
         ensures text { self.new ≡ self.old ++ text.now }
@@ -51,7 +51,7 @@ impl Line {
         self.used = end;
     }
 
-    /// Puts a number at the end, in decimal.
+    /// Puts a number at the end, in decimal. There is room for 20 digits.
     pub fn put_number(&mut self, number: u64)
         requires { length self.old + 20 ≤ 256 }
         ensures text { self.new ≡ self.old ++ decimal number }
@@ -61,7 +61,8 @@ impl Line {
         self.put(buffer.format(number).as_bytes());
     }
 
-    /// Puts a digest of at most 32 bytes at the end, in lower case hexadecimal.
+    /// Puts a digest of at most 32 bytes at the end, in lower case hexadecimal. There is room for 64
+    /// digits.
     pub fn put_digest(&mut self, digest: &[u8])
         requires bound { length digest.now ≤ 32 }
         requires room { length self.old + 64 ≤ 256 }

@@ -91,7 +91,7 @@ fn write_file<W: Sink>(
         out,
         length_and_root(file.length, file.tree, trees).as_slice(),
     )?;
-    write_path(out, file.path.parts())?;
+    write_path(out, &file.path.parts())?;
     write_all(out, b"\n")
 }
 

@@ -4,7 +4,7 @@
 
 pub use drafts::Draft;
 pub use filetree::{
-    Key, Path, Refusal, order_is_apart, shape_is_told, walks_are_all, walks_are_safe,
+    Key, Parts, Path, Refusal, order_is_apart, shape_is_told, walks_are_all, walks_are_safe,
 };
 pub use opening::{
     File, MAX_TORRENT, Torrent, TreeInfo, refusal_is_one, torrent_is_not_refused, torrent_is_one,

@@ -13,7 +13,7 @@ use Rattle.std.proofs.lemmas.Bool.{cases_lt, cases_eq, and_left, or_left, eq-eqb
 use Rattle.std.proofs.lemmas.Option.{slice_get_past, none-some}
 use Rattle.std.proofs.lemmas.List.{get_or_append_left, get_or-append_right, get_or-replicate, get_or_past, length-replicate, take_all, get_or-set_same, get_or-set_other}
 use Rattle.node_maps.specs.Digest.{Hash}
-use Rattle.node_maps.specs.Places.{IsPlace}
+use Rattle.node_maps.specs.Places.{IsTreePlace}
 use Rattle.node_maps.specs.Known.{Marked, place_cmp, look, within, tabulate}
 use Rattle.node_maps.specs.Flat.{Row, cells, row_cells, HasCell, HasTreeCells, marks_below, marked_leaves}
 use Rattle.node_maps.proofs.Known.{nat_equal, same_known, look-within, within-at}
@@ -52,12 +52,12 @@ pub lengthened-in_tree : (h layer end : ℕ) (old new : List Row) → HasTreeCel
     → (row_cells new layer ≤ end) ⊎ (row_cells new layer ≡ row_cells old layer) → layer ≤ h → end ≤ 2 ^ (h - layer) → HasTreeCells h new
 lengthened-in_tree h layer end old new in_tree others most le fits = record { place = λ l i low. by_layer l i low (cases_eq l layer) most }
   where
-    by_layer : (l i : ℕ) → i < row_cells new l → (l ≡ layer) ⊎ (l ≢ layer) → (row_cells new layer ≤ end) ⊎ (row_cells new layer ≡ row_cells old layer) → IsPlace h l i
+    by_layer : (l i : ℕ) → i < row_cells new l → (l ≡ layer) ⊎ (l ≢ layer) → (row_cells new layer ≤ end) ⊎ (row_cells new layer ≡ row_cells old layer) → IsTreePlace h l i
     by_layer l i low (inr other) m = in_tree.place l i (subst (λ n. i < n) (others l other) low)
     by_layer l i low (inl same) (inr as_before) = in_tree.place l i (subst (λ n. i < n) (ap (row_cells new) same ∙ as_before ∙ sym (ap (row_cells old) same)) low)
     by_layer l i low (inl same) (inl short) =
         let low' : i < row_cells new layer = subst (λ k. i < row_cells new k) same low in
-        subst (λ k. IsPlace h k i) (sym same) (le, omega arith)
+        subst (λ k. IsTreePlace h k i) (sym same) (le, omega arith)
 
 -- and where it is the leaves' row each of its cells has a mark
 pub lengthened-marks : (layer end marks : ℕ) (old new : List Row) → row_cells old 0 ≤ marks → ((l : ℕ) → l ≢ layer → row_cells new l ≡ row_cells old l)

@@ -9,7 +9,7 @@ use Rattle.std.proofs.lemmas.Map.Lookups.{CmpEqualImpliesEq, exact_pairs, exact_
 use Rattle.std.proofs.lemmas.Bool.{cases_lt, cases_eq, cond-true, cond-false, and_left, and_right, and_from, eq-eqb, ne_eqb, lt-ltb, le-ltb, and_parts, leb-true, ltb-true, le-leb}
 use Rattle.std.proofs.lemmas.Option.{none-some}
 use Rattle.node_maps.specs.Digest.{Hash}
-use Rattle.node_maps.specs.Places.{PartialTree, IsPlace}
+use Rattle.node_maps.specs.Places.{PartialTree, IsTreePlace}
 use Rattle.node_maps.specs.Known.{place_cmp, Known, look, insert_some, with_row, with_layers, within, tabulate}
 use Rattle.node_maps.proofs.Places.{two_halves, twice_above}
 
@@ -99,7 +99,7 @@ layers-here f h (suc top) l i low in' = elim (cases_lt l top) [
 ]
 
 -- the map of a function that has values at places of the tree alone
-pub look-tabulate : (h : ℕ) (f : PartialTree) → ((l i : ℕ) (v : Hash) → f l i ≡ Some v → IsPlace h l i) → (l i : ℕ) → look (tabulate h f) l i ≡ f l i
+pub look-tabulate : (h : ℕ) (f : PartialTree) → ((l i : ℕ) (v : Hash) → f l i ≡ Some v → IsTreePlace h l i) → (l i : ℕ) → look (tabulate h f) l i ≡ f l i
 unfolding tabulate
 look-tabulate h f inside l i = go (f l i) refl
   where
@@ -107,7 +107,7 @@ look-tabulate h f inside l i = go (f l i) refl
     nothing none past = layers-past f h (suc h) l i past ∙ sym none
 
     go : (o : Option Hash) → f l i ≡ o → look (with_layers f h (suc h)) l i ≡ f l i
-    go (Some v) e = let at : IsPlace h l i = inside l i v e in layers-here f h (suc h) l i (omega (arith, at.0)) at.1
+    go (Some v) e = let at : IsTreePlace h l i = inside l i v e in layers-here f h (suc h) l i (omega (arith, at.0)) at.1
     go None e = elim (cases_lt l (suc h)) [
       | inr high ↦ nothing e (inl high)
       | inl low ↦ elim (cases_lt i (2 ^ (h - l))) [
@@ -154,22 +154,22 @@ len-tabulate h f =
     let twice : 2 ^ suc h ≡ 2 ^ h + 2 ^ h = two_halves h in
     omega arith
 
-pub known-tabulate : (h : ℕ) (m : Known) → ((l i : ℕ) (v : Hash) → look m l i ≡ Some v → IsPlace h l i) → m ≡ tabulate h (look m)
+pub known-tabulate : (h : ℕ) (m : Known) → ((l i : ℕ) (v : Hash) → look m l i ≡ Some v → IsTreePlace h l i) → m ≡ tabulate h (look m)
 known-tabulate h m inside = same_known m (tabulate h (look m)) (λ l i. sym (look-tabulate h (look m) inside l i))
 
-pub len-known : (h : ℕ) (m : Known) → ((l i : ℕ) (v : Hash) → look m l i ≡ Some v → IsPlace h l i) → len m < 2 ^ suc h
+pub len-known : (h : ℕ) (m : Known) → ((l i : ℕ) (v : Hash) → look m l i ≡ Some v → IsTreePlace h l i) → len m < 2 ^ suc h
 len-known h m inside = subst (λ n. len n < 2 ^ suc h) (sym (known-tabulate h m inside)) (len-tabulate h (look m))
 
 -- ---- for an implementation that keeps its cells in its own way
 
-pub within-inside : (h : ℕ) (f : PartialTree) (l i : ℕ) (v : Hash) → within h f l i ≡ Some v → IsPlace h l i
+pub within-inside : (h : ℕ) (f : PartialTree) (l i : ℕ) (v : Hash) → within h f l i ≡ Some v → IsTreePlace h l i
 within-inside h f l i v e = read (leb l h && ltb i (2 ^ (h - l))) refl e
   where
-    read : (b : Bool) → (leb l h && ltb i (2 ^ (h - l))) ≡ b → cond b (f l i) None ≡ Some v → IsPlace h l i
+    read : (b : Bool) → (leb l h && ltb i (2 ^ (h - l))) ≡ b → cond b (f l i) None ≡ Some v → IsTreePlace h l i
     read true t e = let both = and_parts (leb l h) (ltb i (2 ^ (h - l))) t in (leb-true l h both.0, ltb-true i (2 ^ (h - l)) both.1)
     read false t e = absurd (none-some v e)
 
-pub within-at : (h : ℕ) (f : PartialTree) (l i : ℕ) → IsPlace h l i → within h f l i ≡ f l i
+pub within-at : (h : ℕ) (f : PartialTree) (l i : ℕ) → IsTreePlace h l i → within h f l i ≡ f l i
 within-at h f l i at = cond-true _ _ _ (and_from _ _ (le-leb l h at.0) (lt-ltb i (2 ^ (h - l)) at.1))
 
 -- what is known of cells f
@@ -177,7 +177,7 @@ pub look-within : (h : ℕ) (f : PartialTree) (l i : ℕ) → look (tabulate h (
 look-within h f l i = look-tabulate h (within h f) (within-inside h f) l i
 
 -- cells that read alike make one map
-pub tabulate-same : (h : ℕ) (f g : PartialTree) → ((l i : ℕ) → IsPlace h l i → f l i ≡ g l i) → tabulate h (within h f) ≡ tabulate h (within h g)
+pub tabulate-same : (h : ℕ) (f g : PartialTree) → ((l i : ℕ) → IsTreePlace h l i → f l i ≡ g l i) → tabulate h (within h f) ≡ tabulate h (within h g)
 tabulate-same h f g same = ap (tabulate h) (λ k l i. at l i k)
   where
     at : (l i : ℕ) → within h f l i ≡ within h g l i
@@ -188,7 +188,7 @@ tabulate-same h f g same = ap (tabulate h) (λ k l i. at l i k)
         read false t = refl
 
 -- a write to the cell of one place is an insertion
-pub tabulate-put : (h : ℕ) (f g : PartialTree) (l i : ℕ) (v : Hash) → IsPlace h l i → g l i ≡ Some v → ((l' i' : ℕ) → (l' ≢ l) ⊎ (i' ≢ i) → g l' i' ≡ f l' i')
+pub tabulate-put : (h : ℕ) (f g : PartialTree) (l i : ℕ) (v : Hash) → IsTreePlace h l i → g l i ≡ Some v → ((l' i' : ℕ) → (l' ≢ l) ⊎ (i' ≢ i) → g l' i' ≡ f l' i')
     → tabulate h (within h g) ≡ insert (tabulate h (within h f)) (l, i) v
 tabulate-put h f g l i v at new old = same_known _ _ (λ l' i'. look-within h g l' i' ∙ by_place l' i' (cases_eq l' l) (cases_eq i' i))
   where

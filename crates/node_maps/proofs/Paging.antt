@@ -14,7 +14,7 @@ use Rattle.node_maps.specs.declared.page.Cell.{Cell}
 use Rattle.node_maps.specs.declared.page.Cell.TheVariants.{Empty, Known, Marked}
 use Rattle.node_maps.specs.Cell.{hash_of, mark_of, with_hash}
 use Rattle.node_maps.specs.Digest.{Hash}
-use Rattle.node_maps.specs.Places.{IsPlace}
+use Rattle.node_maps.specs.Places.{IsTreePlace}
 use Rattle.node_maps.specs.Known.{place_cmp, look, within, tabulate}
 use Rattle.node_maps.specs.Paged.{cell_at, hashes, HoldsTree, marked_cells, row_pages, held_below, held_pages, AreTrimmed}
 use Rattle.node_maps.specs.Pages.{marks_where, cell_of}
@@ -82,7 +82,7 @@ mark_hash Empty e = absurd (false≢true e)
 mark_hash (Known h) e = absurd (false≢true e)
 mark_hash (Marked h) e = (h, refl)
 
-pub leaf_low : (h i : ℕ) → IsPlace h 0 i → i < 2 ^ h
+pub leaf_low : (h i : ℕ) → IsTreePlace h 0 i → i < 2 ^ h
 leaf_low h i at = subst (λ k. i < 2 ^ k) (let e : h - 0 ≡ h = omega arith in e) at.1
 
 -- a number is among the marked leaves where its cell is marked
@@ -110,15 +110,15 @@ module _ (h : ℕ) (old new : List PagedRow) (l i : ℕ) (c : Cell) (here : cell
       both (inl p) (inr e) = inr (inr e)
       both (inl p) (inl q) = inl (p, q)
 
-  pub put-in_tree : IsPlace h l i → HoldsTree h old → HoldsTree h new
+  pub put-in_tree : IsTreePlace h l i → HoldsTree h old → HoldsTree h new
   put-in_tree at in_tree = record {
     place = λ l' i' v e. elim (here_or_not l' i') [
-      | inl (p, q) ↦ subst (λ k. IsPlace h k i') (sym p) (subst (λ k. IsPlace h l k) (sym q) at)
+      | inl (p, q) ↦ subst (λ k. IsTreePlace h k i') (sym p) (subst (λ k. IsTreePlace h l k) (sym q) at)
       | inr other ↦ in_tree.place l' i' v (sym (ap hash_of (others l' i' other)) ∙ e)
     ];
   }
 
-  pub put-known : (v : Hash) → IsPlace h l i → hash_of c ≡ Some v → tabulate h (within h (hashes new)) ≡ insert (tabulate h (within h (hashes old))) (l, i) v
+  pub put-known : (v : Hash) → IsTreePlace h l i → hash_of c ≡ Some v → tabulate h (within h (hashes new)) ≡ insert (tabulate h (within h (hashes old))) (l, i) v
   put-known v at is = tabulate-put h (hashes old) (hashes new) l i v at (ap hash_of here ∙ is) (λ l' i' other. ap hash_of (others l' i' other))
 
   pub put-marked-same : mark_of c ≡ mark_of (cell_at old l i) → marked_cells h new ≡ marked_cells h old

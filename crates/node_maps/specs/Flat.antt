@@ -5,7 +5,7 @@ use Rattle.std.specs.Option.{option_and_then, option_map, unwrap_or}
 use Rattle.std.specs.declared.alloc.Global.{Global}
 use Rattle.std.specs.FinSet as set
 use Rattle.node_maps.specs.Digest.{Hash}
-use Rattle.node_maps.specs.Places.{PartialTree, IsPlace}
+use Rattle.node_maps.specs.Places.{PartialTree, IsTreePlace}
 use Rattle.node_maps.specs.Known.{Marked}
 use Rattle.node_maps.specs.Runs.{LayerHashes}
 
@@ -40,7 +40,7 @@ HasCell rows l i = i < row_cells rows l
 
 -- each cell is that of a place of a tree of height h
 pub record HasTreeCells (h : ℕ) (rows : List Row) : Type 0 where
-  pub place : (l i : ℕ) → HasCell rows l i → IsPlace h l i
+  pub place : (l i : ℕ) → HasCell rows l i → IsTreePlace h l i
 
 -- the numbers below n whose mark is set
 unfoldable pub marks_below : List Bool → ℕ → Marked

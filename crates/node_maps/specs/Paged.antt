@@ -5,7 +5,7 @@ use Rattle.std.specs.Option.{option_and_then, option_map, unwrap_or}
 use Rattle.node_maps.specs.declared.paged_row.PagedRow.{PagedRow}
 use Rattle.node_maps.specs.declared.page.Cell.{Cell}
 use Rattle.node_maps.specs.Digest.{Hash}
-use Rattle.node_maps.specs.Places.{PartialTree, IsPlace}
+use Rattle.node_maps.specs.Places.{PartialTree, IsTreePlace}
 use Rattle.node_maps.specs.Known.{Marked}
 use Rattle.node_maps.specs.Cell.{hash_of, mark_of}
 use Rattle.node_maps.specs.declared.page.Page.{Page}
@@ -27,12 +27,12 @@ hashes rows l i = hash_of (cell_at rows l i)
 
 -- the place lies in a tree of height h and has a page
 pub record HasPage (h : ℕ) (rows : List PagedRow) (l i : ℕ) : Type 0 where
-  pub place : IsPlace h l i
+  pub place : IsTreePlace h l i
   pub page : IsSome (page_at rows l (i / 512))
 
 -- each cell that holds a hash is that of a place of a tree of height h
 pub record HoldsTree (h : ℕ) (rows : List PagedRow) : Type 0 where
-  pub place : (l i : ℕ) (v : Hash) → hashes rows l i ≡ Some v → IsPlace h l i
+  pub place : (l i : ℕ) (v : Hash) → hashes rows l i ≡ Some v → IsTreePlace h l i
 
 -- the leaves whose cells are marked
 abbrev pub marked_cells : ℕ → List PagedRow → Marked

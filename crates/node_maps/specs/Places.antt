@@ -12,8 +12,8 @@ abbrev pub PartialTree : Type 0
 PartialTree = ℕ → ℕ → Option Hash
 
 -- (l, i) is a place of a tree of height h: layer 0 has the 2 ^ h leaves, and (h, 0) is the root
-abbrev pub IsPlace : ℕ → ℕ → ℕ → Type 0
-IsPlace h l i = (l ≤ h) × (i < 2 ^ (h - l))
+abbrev pub IsTreePlace : ℕ → ℕ → ℕ → Type 0
+IsTreePlace h l i = (l ≤ h) × (i < 2 ^ (h - l))
 
 -- a value is known at the place
 abbrev pub IsKnown : PartialTree → ℕ → ℕ → Type 0

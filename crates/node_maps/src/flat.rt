@@ -3,7 +3,7 @@
 ghost use Rattle.std.specs.Prelude.{◌≡◌, ℕ, ◌+◌, ◌-◌, ◌^◌, ◌<◌, ◌≤◌, ◌≢◌, ◌⊎◌, ◌++◌, ◌↔◌, Some, None, true, length, slice_index_or, set, IsOk, IsTrue, OnOk, vec_len};
 ghost use Rattle.std.specs.Vec.{vec_capacity};
 ghost use Rattle.std.specs.FinMap.{insert};
-ghost use Rattle.node_maps.specs.Places.{tree_height, IsPlace};
+ghost use Rattle.node_maps.specs.Places.{tree_height, IsTreePlace};
 ghost use Rattle.node_maps.specs.Known.{tabulate, within};
 ghost use Rattle.node_maps.specs.Needed.{nothing_needed};
 ghost use Rattle.node_maps.specs.Flat.{AreSameCells, AreSameCellsBut, Row, cells, row_cells, HasCell, HasTreeCells, hash_in, marked_leaves};

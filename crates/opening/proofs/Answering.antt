@@ -15,7 +15,7 @@ use Rattle.opening.specs.Description.{Description, FileEntry, TreeEntry, Version
 use Rattle.filetree.specs.declared.files.ListedFile.{ListedFile}
 use Rattle.opening.specs.PieceLayers.{tree_at}
 use Rattle.filetree.specs.Tests.{First, NoneHolds, Row}
-use Rattle.opening.specs.Refusals.{Refuses, files_of, info_in, layers_in, max_torrent, name_in, parts_of_torrent, piece_length_in, table}
+use Rattle.opening.specs.Refusals.{RefusesTorrent, files_of, info_in, layers_in, max_torrent, name_in, parts_of_torrent, piece_length_in, table}
 use Rattle.opening.specs.Rooted.{entries_from}
 use Rattle.opening.specs.Stream.{is_hybrid, version1_of}
 use Rattle.opening.specs.Trees.{AreFiles, roots_in}
@@ -84,7 +84,7 @@ torrent_is_one value b t u one other =
     let same = (value other.value one.value b b [] [] other.spelled one.spelled refl).0 in
     described_one one.value t u one.described (subst (λ (v : Bencode). IsDescribed v u) same other.described)
 
-pub no_both : OneValue → NoFault → (b : List ℕ) (t : Description) (r : Refusal) → Describes b t → Refuses b r → ⊥
+pub no_both : OneValue → NoFault → (b : List ℕ) (t : Description) (r : Refusal) → Describes b t → RefusesTorrent b r → ⊥
 no_both value fault b t r one other = elim other [
   | inl large ↦ omega (arith, large.0, one.small)
   | inr rest ↦ elim rest.1 [
@@ -99,7 +99,7 @@ same_fault : (f g : Fault) → f.kind ≡ g.kind → f.offset ≡ g.offset → f
 same_fault f g kind offset =
     ap (λ (k : FaultKind). let h : Fault = record { kind = k; offset = f.offset } in h) kind ∙ ap (λ (n : ℕ). let h : Fault = record { kind = g.kind; offset = n } in h) offset
 
-pub refusal_is_one : OneValue → NoFault → OneFault → (b : List ℕ) (r s : Refusal) → Refuses b r → Refuses b s → r ≡ s
+pub refusal_is_one : OneValue → NoFault → OneFault → (b : List ℕ) (r s : Refusal) → RefusesTorrent b r → RefusesTorrent b s → r ≡ s
 refusal_is_one value fault one_fault b r s one other = elim one [
   | inl large ↦ elim other [ inl big ↦ large.1 ∙ sym big.1 | inr small ↦ absurd (omega (arith, large.0, small.0)) ]
   | inr rest ↦ elim other [
@@ -148,16 +148,16 @@ memory_or_not refusals.PathClash = inr (λ is. cc)
 memory_or_not refusals.Write = inr (λ is. cc)
 
 -- what is opened is what the bytes describe
-pub opens_only : ((b : List ℕ) (t u : Description) → Describes b t → Describes b u → t ≡ u) → ((b : List ℕ) (t : Description) (r : Refusal) → Describes b t → Refuses b r → ⊥)
-    → (b : List ℕ) (t : Description) (result : Result Description Refusal) → IfOk result (λ u. Describes b u) → IfErr result (λ r. r ≢ refusals.NoMemory → Refuses b r)
+pub opens_only : ((b : List ℕ) (t u : Description) → Describes b t → Describes b u → t ≡ u) → ((b : List ℕ) (t : Description) (r : Refusal) → Describes b t → RefusesTorrent b r → ⊥)
+    → (b : List ℕ) (t : Description) (result : Result Description Refusal) → IfOk result (λ u. Describes b u) → IfErr result (λ r. r ≢ refusals.NoMemory → RefusesTorrent b r)
     → Describes b t → MatchResult result (λ u. u ≡ t) (λ r. r ≡ refusals.NoMemory)
 opens_only one none b t (Ok u) told why described = one b u t told described
 opens_only one none b t (Err r) told why described = elim (memory_or_not r) [ inl is ↦ is | inr other ↦ absurd (none b t r described (why other)) ]
 
 -- what is refused is refused with the one answer
-pub answers_first : ((b : List ℕ) (t : Description) (r : Refusal) → Describes b t → Refuses b r → ⊥) → ((b : List ℕ) (r s : Refusal) → Refuses b r → Refuses b s → r ≡ s)
-    → (b : List ℕ) (r : Refusal) (result : Result Description Refusal) → IfOk result (λ u. Describes b u) → IfErr result (λ s. s ≢ refusals.NoMemory → Refuses b s)
-    → Refuses b r → MatchResult result (λ _. ⊥) (λ s. s ≢ refusals.NoMemory → s ≡ r)
+pub answers_first : ((b : List ℕ) (t : Description) (r : Refusal) → Describes b t → RefusesTorrent b r → ⊥) → ((b : List ℕ) (r s : Refusal) → RefusesTorrent b r → RefusesTorrent b s → r ≡ s)
+    → (b : List ℕ) (r : Refusal) (result : Result Description Refusal) → IfOk result (λ u. Describes b u) → IfErr result (λ s. s ≢ refusals.NoMemory → RefusesTorrent b s)
+    → RefusesTorrent b r → MatchResult result (λ _. ⊥) (λ s. s ≢ refusals.NoMemory → s ≡ r)
 answers_first none one b r (Ok u) told why refused = none b u r told refused
 answers_first none one b r (Err s) told why refused = λ other. one b s r (why other) refused
 
@@ -189,7 +189,7 @@ described_by v =
     )
 
 -- bytes that spell a value describe a torrent, or are refused
-value_told : (b : List ℕ) (v : Bencode) → length b ≤ max_torrent → Spells v b → ((r : Refusal) × First (table v) r) ⊎ NoneHolds (table v) → ((t : Description) × Describes b t) ⊎ ((r : Refusal) × Refuses b r)
+value_told : (b : List ℕ) (v : Bencode) → length b ≤ max_torrent → Spells v b → ((r : Refusal) × First (table v) r) ⊎ NoneHolds (table v) → ((t : Description) × Describes b t) ⊎ ((r : Refusal) × RefusesTorrent b r)
 value_told b v small spelled (inl first) = inr (first.0, inr (small, inr (v, spelled, first.1)))
 value_told b v small spelled (inr none) =
     let told = described_by v in
@@ -198,7 +198,7 @@ value_told b v small spelled (inr none) =
 abbrev ValueOrFault : Type 0
 ValueOrFault = (b : List ℕ) → ((v : Bencode) × Spells v b) ⊎ ((kind : FaultKind) × (offset : ℕ) × benc.Fails b kind offset)
 
-pub torrent_or_refusal : ValueOrFault → (b : List ℕ) → ((t : Description) × Describes b t) ⊎ ((r : Refusal) × Refuses b r)
+pub torrent_or_refusal : ValueOrFault → (b : List ℕ) → ((t : Description) × Describes b t) ⊎ ((r : Refusal) × RefusesTorrent b r)
 torrent_or_refusal read b = elim (cases_lt max_torrent (length b)) [
   | inl large ↦ inr (refusals.TooLarge, inl (large, refl))
   | inr small ↦ elim (read b) [

@@ -8,7 +8,7 @@ use Rattle.opening.specs.Description.{FileEntry, Version1}
 use Rattle.filetree.specs.declared.files.ListedFile.{ListedFile}
 use Rattle.filetree.specs.Tests.{NoneHolds}
 use Rattle.opening.specs.Refusals.{hybrid_rows}
-use Rattle.opening.specs.Stream.{Part, Named, DiffersFrom, IsMisplaced, IsVersion1, files_in, is_hybrid, length_in, named, named_part, parts_in, stream_length, the_parts, version1_of}
+use Rattle.opening.specs.Stream.{Part, Named, DiffersFromFiles, IsMisplaced, IsVersion1, files_in, is_hybrid, length_in, named, named_part, parts_in, stream_length, the_parts, version1_of}
 use Rattle.opening.specs.Trees.{AreFiles, entry_at, pieces_in}
 use Rattle.pieces.specs.Pieces.{pieces_of}
 use Rattle.opening.proofs.Aligned.{pieces_end}
@@ -105,7 +105,7 @@ hybrid_in_stream k info name fs es v rows is files n f at some =
     the_version true e same = let part : v ≡ version1_of k (the_parts (parts_in info name)) info = cc in (e, ap (λ (w : Version1). w.total) part)
     the_version false e same = let bad : ⊥ = cc in absurd bad
 
-    differs : (o : Option (List Part)) → (IsMisplaced k (the_parts o) → ⊥) → stream_length (the_parts o) < f.first_piece * k + f.length → DiffersFrom fs o
+    differs : (o : Option (List Part)) → (IsMisplaced k (the_parts o) → ⊥) → stream_length (the_parts o) < f.first_piece * k + f.length → DiffersFromFiles fs o
     differs None placed out = tt
     differs (Some ps) placed out = inr (λ same. in_stream k fs es ps files same placed n f at some out)
 

@@ -11,7 +11,7 @@ use Rattle.std.proofs.lemmas.Bool.{cases_lt}
 use Rattle.hashtree.specs.Tree.{block_count}
 use Rattle.filetree.proofs.Bytes.{false_or_true, true_or_false}
 use Rattle.opening.specs.Description.{Description, FileEntry}
-use Rattle.opening.specs.Places.{IsPlace, AreLaidOut, begins_in, place_from, place_of}
+use Rattle.opening.specs.Places.{IsBlockPlace, AreLaidOut, begins_in, place_from, place_of}
 use Rattle.opening.specs.Seen.{file_entry}
 use Rattle.pieces.specs.Pieces.{pieces_of}
 use Rattle.opening.specs.declared.torrent.File.{File}
@@ -178,7 +178,7 @@ found_in p a k (f ∷ fs) j b e =
           let off : j - k ≡ suc (j - suc k) = omega (arith, rest.1) in (rest.0, omega (arith, rest.1), rw off rest.2, rest.3, rest.4)
     ]
 
-pub place_is_found : (t : Description) (i b f n : ℕ) → place_of t i b ≡ Some (f, n) → IsPlace t i b f n
+pub place_is_found : (t : Description) (i b f n : ℕ) → place_of t i b ≡ Some (f, n) → IsBlockPlace t i b f n
 place_is_found t i b f n e =
     let found = found_in t.piece_length (i * t.piece_length + b) 0 t.files f n e in
     let begins = begins_place t.piece_length (i * t.piece_length + b) found.0 found.3 in
@@ -190,7 +190,7 @@ place_is_found t i b f n e =
       address = omega (arith, begins.1, found.4);
     }
 
-pub place_is_only : (t : Description) (i b f n : ℕ) → 0 < t.piece_length → AreLaidOut t.piece_length t.files → IsPlace t i b f n → place_of t i b ≡ Some (f, n)
+pub place_is_only : (t : Description) (i b f n : ℕ) → 0 < t.piece_length → AreLaidOut t.piece_length t.files → IsBlockPlace t i b f n → place_of t i b ≡ Some (f, n)
 place_is_only t i b f n h laid place =
     let p = t.piece_length in
     let a = i * t.piece_length + b in
@@ -256,6 +256,6 @@ start_fits p xs n x le laid lt is =
     let product : x.first_piece * p ≤ 2 ^ 32 * p = mul-le-mul_right p small in
     omega (arith, product, le)
 
-pub place_found : (t : Description) (i b : ℕ) (r : Option (ℕ × ℕ)) → r ≡ place_of t i b → IfSome r (λ x. IsPlace t i b x.0 x.1)
+pub place_found : (t : Description) (i b : ℕ) (r : Option (ℕ × ℕ)) → r ≡ place_of t i b → IfSome r (λ x. IsBlockPlace t i b x.0 x.1)
 place_found t i b None e = tt
 place_found t i b (Some x) e = place_is_found t i b x.0 x.1 (sym e)

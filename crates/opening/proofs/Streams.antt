@@ -14,7 +14,7 @@ use Rattle.opening.specs.Matching.{aligned_length, are_same, ends_of, is_length,
 use Rattle.opening.specs.PieceLayers.{as_digests}
 use Rattle.filetree.specs.Tests.{First, NoneHolds}
 use Rattle.opening.specs.Refusals.{hybrid_rows}
-use Rattle.opening.specs.Stream.{Part, Named, DiffersFrom, IsMisplaced, IsTooLong, IsVersion1, cuts_in, files_in, is_broken, is_hybrid, named, named_part, parts_in, parts_of, stream_length, the_parts, version1_of}
+use Rattle.opening.specs.Stream.{Part, Named, DiffersFromFiles, IsMisplaced, IsTooLong, IsVersion1, cuts_in, files_in, is_broken, is_hybrid, named, named_part, parts_in, parts_of, stream_length, the_parts, version1_of}
 use Rattle.pieces.specs.Pieces.{pieces_of}
 use Rattle.filetree.specs.declared.refusal.Refusal.{Refusal}
 use Rattle.filetree.specs.declared.refusal.Refusal.TheVariants as refusals
@@ -25,15 +25,15 @@ use Rattle.opening.proofs.Hybrids.{AreParts, and_true, length_back, length_is, o
 -- the stream's length, or the first of the first two tests that holds
 abbrev pub Streamed : ℕ → List ListedFile → Option (List Part) → Result ℕ Refusal → Type 0
 Streamed k fs ps (Ok n) =
-    (DiffersFrom fs ps → ⊥) × ((IsMisplaced k (the_parts ps) ⊎ IsTooLong k (the_parts ps)) → ⊥) × (n ≡ stream_length (the_parts ps))
+    (DiffersFromFiles fs ps → ⊥) × ((IsMisplaced k (the_parts ps) ⊎ IsTooLong k (the_parts ps)) → ⊥) × (n ≡ stream_length (the_parts ps))
 Streamed k fs ps (Err r) =
-    ((r ≡ refusals.HybridFiles) × DiffersFrom fs ps)
-    ⊎ ((r ≡ refusals.HybridAlign) × (DiffersFrom fs ps → ⊥) × (IsMisplaced k (the_parts ps) ⊎ IsTooLong k (the_parts ps)))
+    ((r ≡ refusals.HybridFiles) × DiffersFromFiles fs ps)
+    ⊎ ((r ≡ refusals.HybridAlign) × (DiffersFromFiles fs ps → ⊥) × (IsMisplaced k (the_parts ps) ⊎ IsTooLong k (the_parts ps)))
 
 -- ---- the entries of `files`
 
 differs_by : (fs : List ListedFile) (es : List FileEntry) (vs : Items) (o : Option (List Part)) → map named_entry es ≡ map named fs → are_same vs es ≡ false
-    → parts_of vs ≡ o → DiffersFrom fs o
+    → parts_of vs ≡ o → DiffersFromFiles fs o
 differs_by fs es vs None names other at = tt
 differs_by fs es vs (Some ps) names other at = by_broken (list_any is_broken ps) refl
   where
@@ -41,12 +41,12 @@ differs_by fs es vs (Some ps) names other at = by_broken (list_any is_broken ps)
     by_broken true e = inl e
     by_broken false e = inr (λ same. other_parts vs es other ps at e (same ∙ sym names))
 
-is_same_list : (fs : List ListedFile) (es : List FileEntry) (vs : Items) → map named_entry es ≡ map named fs → (h : AreParts vs es) → DiffersFrom fs (Some h.parts) → ⊥
+is_same_list : (fs : List ListedFile) (es : List FileEntry) (vs : Items) → map named_entry es ≡ map named fs → (h : AreParts vs es) → DiffersFromFiles fs (Some h.parts) → ⊥
 is_same_list fs es vs names h (inl broken) = let bad : true ≡ false = sym broken ∙ h.whole in let no_way : ⊥ = cc in no_way
 is_same_list fs es vs names h (inr differ) = differ (h.same ∙ names)
 
 -- how the stream's end and the pieces' end compare
-by_ends : (k : ℕ) (fs : List ListedFile) (ps : List Part) (o : Option Ends) → (DiffersFrom fs (Some ps) → ⊥) → pieces_end k ps < 2 ^ 64 → AreEnds k ps o
+by_ends : (k : ℕ) (fs : List ListedFile) (ps : List Part) (o : Option Ends) → (DiffersFromFiles fs (Some ps) → ⊥) → pieces_end k ps < 2 ^ 64 → AreEnds k ps o
     → Streamed k fs (Some ps) (or_else (aligned_length o) refusals.HybridAlign)
 by_ends k fs ps None same fits h = inr (refl, same, inl h)
 by_ends k fs ps (Some e) same fits h = by_order (nat_lt e.pieces e.stream) (nat_lt e.stream (2 ^ 64)) refl refl
@@ -126,10 +126,10 @@ one_fits k fs f info name some names size path = (
     misplaced (suc n) there elsewhere = let bad : ⊥ = cc in bad
 
 one_differs : (k : ℕ) (fs : List ListedFile) (f : FileEntry) (info : Bencode) (name : List ℕ) → map named_entry (f ∷ []) ≡ map named fs
-    → (is_length f.length (length_at info) && is_named name f.path) ≡ false → DiffersFrom fs (Some (one_part info name ∷ []))
+    → (is_length f.length (length_at info) && is_named name f.path) ≡ false → DiffersFromFiles fs (Some (one_part info name ∷ []))
 one_differs k fs f info name names other = by_length (length_at info) refl
   where
-    by_length : (o : Option ℕ) → length_at info ≡ o → DiffersFrom fs (Some (one_part info name ∷ []))
+    by_length : (o : Option ℕ) → length_at info ≡ o → DiffersFromFiles fs (Some (one_part info name ∷ []))
     by_length None e = inl (ap (λ (o : Option ℕ). (is_none o || false) || false) e)
     by_length (Some n) e = inr (λ same.
         let both : named_part (one_part info name) ∷ [] ≡ named_entry f ∷ [] = same ∙ sym names in

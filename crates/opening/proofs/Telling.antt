@@ -16,7 +16,7 @@ use Rattle.filetree.specs.Tests.{First, NoneHolds, Row}
 use Rattle.opening.specs.Refusals.{IsName, IsOther, count_rows, file_tree_in, files_of, hybrid_rows, info_in, kind_rows, layer_rows, layers_in, layers_rows, name_in, piece_length_in, piece_length_rows, present_rows, table, top_rows, version_rows, walks_of}
 use Rattle.pieces.specs.Pieces.{IsPieceLength}
 use Rattle.filetree.specs.TreeTests.{file_rows, shape_rows}
-use Rattle.opening.specs.Stream.{DiffersFrom, IsMisplaced, IsTooLong, Named, Part, cuts_in, files_in, is_hybrid, length_in, named, parts_in, stream_length, the_parts}
+use Rattle.opening.specs.Stream.{DiffersFromFiles, IsMisplaced, IsTooLong, Named, Part, cuts_in, files_in, is_hybrid, length_in, named, parts_in, stream_length, the_parts}
 use Rattle.opening.specs.Trees.{IsIn, IsReused, pieces_in, roots_in}
 use Rattle.opening.specs.declared.roots.Root.{Root}
 use Rattle.pieces.specs.Pieces.{pieces_of}
@@ -203,7 +203,7 @@ same_named f g = moved ((f.path ≡ g.path) × (f.length ≡ g.length)) (f ≡ g
     make : List (List ℕ) → ℕ → Named
     make p n = record { path = p; length = n }
 
-differs : (fs : List ListedFile) (ps : Option (List Part)) → Decided (DiffersFrom fs ps)
+differs : (fs : List ListedFile) (ps : Option (List Part)) → Decided (DiffersFromFiles fs ps)
 differs fs None = inl tt
 differs fs (Some ps) = either (is_bool _ true) (neither (same_list same_named (files_in ps) (map named fs)))
 

@@ -2,7 +2,7 @@
 use Rattle.std.specs.Prelude.{◌≡◌, ◌⊎◌, ℕ, List}
 use Rattle.opening.specs.Describes.{Describes}
 use Rattle.opening.specs.Description.{Description}
-use Rattle.opening.specs.Refusals.{Refuses}
+use Rattle.opening.specs.Refusals.{RefusesTorrent}
 use Rattle.filetree.specs.declared.refusal.Refusal.{Refusal}
 
 -- bytes that describe a torrent describe no other
@@ -11,13 +11,14 @@ TorrentIsOne = (b : List ℕ) (t u : Description) → Describes b t → Describe
 
 -- bytes that describe a torrent are not refused
 abbrev pub TorrentIsNotRefused : Type 0
-TorrentIsNotRefused = (b : List ℕ) (t : Description) (r : Refusal) → Describes b t → Refuses b r → ⊥
+TorrentIsNotRefused =
+    (b : List ℕ) (t : Description) (r : Refusal) → Describes b t → RefusesTorrent b r → ⊥
 
 -- bytes that are refused are refused with one answer
 abbrev pub RefusalIsOne : Type 0
-RefusalIsOne = (b : List ℕ) (r s : Refusal) → Refuses b r → Refuses b s → r ≡ s
+RefusalIsOne = (b : List ℕ) (r s : Refusal) → RefusesTorrent b r → RefusesTorrent b s → r ≡ s
 
 -- bytes describe a torrent, or are refused
 abbrev pub TorrentOrRefusal : Type 0
 TorrentOrRefusal =
-    (b : List ℕ) → ((t : Description) × Describes b t) ⊎ ((r : Refusal) × Refuses b r)
+    (b : List ℕ) → ((t : Description) × Describes b t) ⊎ ((r : Refusal) × RefusesTorrent b r)

@@ -7,7 +7,7 @@ use Rattle.pieces.specs.Pieces.{pieces_of}
 
 -- file f and its block b stand at index and begin; only the address counts, so begin may pass the
 -- piece length
-pub record IsPlace (t : Description) (index begin f b : ℕ) : Type 0 where
+pub record IsBlockPlace (t : Description) (index begin f b : ℕ) : Type 0 where
   pub file : FileEntry
   pub there : slice_get t.files f ≡ Some file
   pub in_file : b < block_count file.length

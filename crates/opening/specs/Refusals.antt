@@ -16,7 +16,7 @@ use Rattle.filetree.specs.declared.files.ListedFile.{ListedFile}
 use Rattle.opening.specs.Trees.{roots_in, pieces_in, IsReused}
 use Rattle.opening.specs.declared.roots.Root.{Root}
 use Rattle.opening.specs.PieceLayers.{lacks_layer, lacks_size, mismatches}
-use Rattle.opening.specs.Stream.{Part, is_hybrid, parts_in, the_parts, DiffersFrom, IsUnaligned, cuts_in}
+use Rattle.opening.specs.Stream.{Part, is_hybrid, parts_in, the_parts, DiffersFromFiles, IsUnaligned, cuts_in}
 use Rattle.filetree.specs.Names.{key_text}
 use Rattle.filetree.specs.declared.refusal.Key.{Key}
 use Rattle.filetree.specs.declared.refusal.Key.TheVariants as keys
@@ -176,7 +176,7 @@ layer_rows piece_length layers ts =
 abbrev pub hybrid_rows : ℕ → Bencode → List ℕ → List ListedFile → List Row
 hybrid_rows piece_length info name fs =
     record {
-      holds = IsTrue (is_hybrid info) × DiffersFrom fs (parts_in info name);
+      holds = IsTrue (is_hybrid info) × DiffersFromFiles fs (parts_in info name);
       answer = refusals.HybridFiles;
     }
     ∷ record {
@@ -215,15 +215,15 @@ abbrev pub max_torrent : ℕ
 max_torrent = 2 ^ 26
 
 -- r is the answer of the first test of the bytes that holds
-abbrev pub Refuses : List ℕ → Refusal → Type 0
-Refuses b r = ((max_torrent < length b) × (r ≡ refusals.TooLarge))
+abbrev pub RefusesTorrent : List ℕ → Refusal → Type 0
+RefusesTorrent b r = ((max_torrent < length b) × (r ≡ refusals.TooLarge))
     ⊎ ((length b ≤ max_torrent)
     × (((f : Fault) × benc.Fails b f.kind f.offset × (r ≡ refusals.NotBencode f))
     ⊎ ((v : Bencode) × Spells v b × First (table v) r)))
 
 -- opening these bytes may take memory: they are not too many, and decoding comes to a list or a
 -- dictionary that has to grow, or no test of a key holds
-pub record TakesMemory (b : List ℕ) : Type 0 where
+pub record OpeningTakesMemory (b : List ℕ) : Type 0 where
   pub small : length b ≤ max_torrent
   pub where_taken : ((offset : ℕ) × benc.Opens b offset)
       ⊎ ((v : Bencode) × Spells v b × NoneHolds (key_rows v))

@@ -84,9 +84,9 @@ abbrev pub named : ListedFile → Named
 named f = record { path = f.path; length = f.length }
 
 -- the list is malformed, or without pads it differs from the files of the file tree
-abbrev pub DiffersFrom : List ListedFile → Option (List Part) → Type 0
-DiffersFrom fs None = Unit {0}
-DiffersFrom fs (Some ps) = IsTrue (list_any is_broken ps) ⊎ (files_in ps ≢ map named fs)
+abbrev pub DiffersFromFiles : List ListedFile → Option (List Part) → Type 0
+DiffersFromFiles fs None = Unit {0}
+DiffersFromFiles fs (Some ps) = IsTrue (list_any is_broken ps) ⊎ (files_in ps ≢ map named fs)
 
 -- the length of the stream
 abbrev pub stream_length : List Part → ℕ

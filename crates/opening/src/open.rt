@@ -13,7 +13,7 @@ ghost use Rattle.filetree.specs.declared.files.ListedFile.{ListedFile};
 ghost use Rattle.opening.specs.Describes.{Describes, IsDescribed};
 ghost use Rattle.opening.specs.Layered.{layer_pairs};
 ghost use Rattle.opening.specs.Opening.{AreContents, content_rows};
-ghost use Rattle.opening.specs.Refusals.{Refuses, TakesMemory, key_rows, table};
+ghost use Rattle.opening.specs.Refusals.{RefusesTorrent, OpeningTakesMemory, key_rows, table};
 ghost use Rattle.opening.specs.Trees.{IsIn};
 
 use crate::info::{self, Keys, read_keys};
@@ -108,8 +108,8 @@ fn refused(fault: Fault) -> Refusal
 /// The torrent that bytes describe, or why they describe none.
 fn opened<'a>(alloc: Global, input: &'a [u8]) -> Result<Torrent<'a>, Refusal>
     ensures described { IfOk result (λ t. Describes input.now t) }
-    ensures refused { IfErr result (λ r. r ≢ Refusal.NoMemory → Refuses input.now r) }
-    ensures memory { IfErr result (λ r. r ≡ Refusal.NoMemory → TakesMemory input.now) }
+    ensures refused { IfErr result (λ r. r ≢ Refusal.NoMemory → RefusesTorrent input.now r) }
+    ensures memory { IfErr result (λ r. r ≡ Refusal.NoMemory → OpeningTakesMemory input.now) }
 {
     spelling_is_of_canonical();
     if input.len() > MAX_TORRENT {
@@ -125,7 +125,7 @@ fn opened<'a>(alloc: Global, input: &'a [u8]) -> Result<Torrent<'a>, Refusal>
 impl<'a> Torrent<'a> {
     ghost use Rattle.opening.specs.Describes.{Describes};
     ghost use Rattle.opening.specs.Description.{Description};
-    ghost use Rattle.opening.specs.Refusals.{Refuses, TakesMemory};
+    ghost use Rattle.opening.specs.Refusals.{RefusesTorrent, OpeningTakesMemory};
 
     /// Opens a torrent file, and borrows its bytes.
     ///
@@ -138,16 +138,16 @@ impl<'a> Torrent<'a> {
     /// only where memory was refused.
     pub fn open(alloc: Global, input: &'a [u8]) -> Result<Torrent<'a>, Refusal>
         ensures described { IfOk result (λ t. Describes input.now t) }
-        ensures refused { IfErr result (λ r. r ≢ Refusal.NoMemory → Refuses input.now r) }
+        ensures refused { IfErr result (λ r. r ≢ Refusal.NoMemory → RefusesTorrent input.now r) }
         // Bytes that describe a torrent open as that one.
         ensures only { (t : Description) → Describes input.now t
             → MatchResult result (λ u. u ≡ t) (λ r. r ≡ Refusal.NoMemory) }
         // Bytes that are refused are refused with that answer.
-        ensures first { (r : Refusal) → Refuses input.now r
+        ensures first { (r : Refusal) → RefusesTorrent input.now r
             → MatchResult result (λ _. ⊥) (λ s. s ≢ Refusal.NoMemory → s ≡ r) }
         // Memory is refused only while a list or a dictionary of the bytes grows, or behind all
         // keys.
-        ensures memory { IfErr result (λ r. r ≡ Refusal.NoMemory → TakesMemory input.now) }
+        ensures memory { IfErr result (λ r. r ≡ Refusal.NoMemory → OpeningTakesMemory input.now) }
     {
         torrent_is_one();
         torrent_is_not_refused();

@@ -52,7 +52,7 @@ fn place_at(files: &[File<'_>], piece_length: u64, address: u64) -> Option<(usiz
 }
 
 impl<'a> Torrent<'a> {
-    ghost use Rattle.opening.specs.Places.{IsPlace, place_of};
+    ghost use Rattle.opening.specs.Places.{IsBlockPlace, place_of};
 
     /// The one file and block at the address `index * piece length + begin`, where a file begins at
     /// its first piece times the piece length, and its block b stands at `16384 * b` after that;
@@ -60,8 +60,8 @@ impl<'a> Torrent<'a> {
     /// length.
     pub fn place(&self, index: u32, begin: u32) -> Option<(usize, u64)>
         ensures value { result ≡ place_of self.now index begin }
-        ensures found { IfSome result (λ x. IsPlace self.now index begin x.0 x.1) }
-        ensures only { (f b : ℕ) → IsPlace self.now index begin f b
+        ensures found { IfSome result (λ x. IsBlockPlace self.now index begin x.0 x.1) }
+        ensures only { (f b : ℕ) → IsBlockPlace self.now index begin f b
             → result ≡ Some (record { 0 = f; 1 = b }) }
     {
         self.sound();

@@ -144,7 +144,7 @@ impl<'a> Torrent<'a> {
         self.v1.as_ref()
     }
 
-    /// The number of the file's tree; `None` for an empty file alone.
+    /// The number of the tree of a file that the torrent has; `None` for an empty file alone.
     pub fn tree_of(&self, file: usize) -> Option<usize>
         requires { file < length self.now.files }
         ensures { (f : FileEntry) → slice_get self.now.files file ≡ Some f → result ≡ f.tree }

@@ -97,7 +97,7 @@ fn is_path(value: Option<&Value<'_>>, path: &[&str]) -> bool
 fn is_entry_of(entry: &Value<'_>, file: &File<'_>) -> bool
     ensures { result ≡ is_entry_of (view entry.now) (file_entry file.now) }
 {
-    length(entry) == Some(file.length) && is_path(entry.get(b"path"), file.path.parts())
+    length(entry) == Some(file.length) && is_path(entry.get(b"path"), &file.path.parts())
 }
 
 /// Whether the entries are dictionaries with a length, and those that are no pads just these files
@@ -207,7 +207,7 @@ fn one_file(info: &Value<'_>, name: &str, files: &[File<'_>]) -> Option<u64>
     ensures { result ≡ one_length (view info.now) name.now (map file_entry files.now) }
 {
     match files {
-        [file] if length(info) == Some(file.length) && is_named(file.path.parts(), name) => {
+        [file] if length(info) == Some(file.length) && is_named(&file.path.parts(), name) => {
             Some(file.length)
         }
         _ => None,

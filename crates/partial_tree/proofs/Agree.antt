@@ -2,7 +2,7 @@
 use Rattle.std.proofs.Common.{◌≡◌, ◌⊎◌, ℕ, zero, suc, ◌+◌, ◌-◌, ◌*◌, ◌/◌, ◌^◌, ◌<◌, ◌++◌, Some, inl, inr, sym, ap, ap₂, ◌∙◌, subst, arith}
 use Rattle.std.proofs.lemmas.Option.{same_Some}
 use Rattle.partial_tree.specs.TreeRoot.{TreeRoot}
-use Rattle.node_maps.specs.Places.{tree_height, PartialTree, IsPlace}
+use Rattle.node_maps.specs.Places.{tree_height, PartialTree, IsTreePlace}
 use Rattle.node_maps.specs.Digest.{Hash, join}
 use Rattle.partial_tree.specs.Closed.{IsFamily, IsClosed, Collision}
 use Rattle.partial_tree.proofs.Digests.{same_or_not, same_parts}
@@ -48,7 +48,7 @@ module _ (t : TreeRoot) (J K : PartialTree) (closed_J : IsClosed t J) (closed_K 
   climb : (d l i : ℕ) (u v : Hash) → l + d ≡ tree_height t.length → J l i ≡ Some u → K l i ≡ Some v → (u ≡ v) ⊎ Collision J K
   climb zero l i u v at p q =
       let here : l ≡ tree_height t.length = omega arith in
-      let inside : IsPlace (tree_height t.length) l i = closed_J.in_tree l i u p in
+      let inside : IsTreePlace (tree_height t.length) l i = closed_J.in_tree l i u p in
       let none_left : tree_height t.length - l ≡ 0 = omega arith in
       let first : i ≡ 0 = omega (arith, subst (λ k. i < 2 ^ k) none_left inside.1) in
       inl (same_Some u v (sym p ∙ ap₂ J here first ∙ closed_J.root_known ∙ sym closed_K.root_known ∙ sym (ap₂ K here first) ∙ q))

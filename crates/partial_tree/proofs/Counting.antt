@@ -6,7 +6,7 @@ use Rattle.std.specs.FinSet as set
 use Rattle.std.specs.Ordering.{nat_cmp}
 use Rattle.std.specs.Cmp.{nat_cmp_total}
 use Rattle.node_maps.specs.Digest.{Hash}
-use Rattle.node_maps.specs.Places.{tree_height, IsPlace}
+use Rattle.node_maps.specs.Places.{tree_height, IsTreePlace}
 use Rattle.node_maps.specs.Known.{Known, Marked, place_cmp}
 use Rattle.partial_tree.specs.Kept.{KeptTree, IsCounted, IsGoodTree}
 use Rattle.node_maps.proofs.Known.{place_total}
@@ -65,5 +65,5 @@ marks_fit t good low =
     let wide : 2 ^ (tree_height t.length - 0) ≤ 2 ^ 32 = pow_more (tree_height t.length - 0) 32 leaves in
     len-marked (2 ^ 32) t.state.marked (λ i m.
     let known = good.marks i m in
-    let at : IsPlace (tree_height t.length) 0 i = good.closed.in_tree 0 i known.0 known.1 in
+    let at : IsTreePlace (tree_height t.length) 0 i = good.closed.in_tree 0 i known.0 known.1 in
     omega (arith, at.1))

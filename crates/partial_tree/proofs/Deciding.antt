@@ -4,7 +4,7 @@ use Rattle.std.proofs.lemmas.Option.{same_Some, none-some, slice_get_within}
 use Rattle.std.proofs.lemmas.Bool.{cases_eq, cases_lt}
 use Rattle.wire.specs.declared.message.Ask.{Ask}
 use Rattle.partial_tree.specs.TreeRoot.{TreeRoot}
-use Rattle.node_maps.specs.Places.{tree_height, PartialTree, IsKnown, IsPlace}
+use Rattle.node_maps.specs.Places.{tree_height, PartialTree, IsKnown, IsTreePlace}
 use Rattle.partial_tree.specs.declared.refusal.HashRefusal.{HashRefusal}
 use Rattle.partial_tree.specs.declared.refusal.HashRefusal.TheVariants.{UnknownRoot, BadRange, BadCount, BadPad, Unanchored, Mismatch, NoMemory, Unasked}
 use Rattle.node_maps.specs.Digest.{Hash}
@@ -88,7 +88,7 @@ module _ (len : ℕ) (ask : Ask) (hashes : List Hash) where
         | inr bad ↦ inr bad
       ]
 
-module _ (h : ℕ) (K C : PartialTree) (inside : (l i : ℕ) (v : Hash) → K l i ≡ Some v → IsPlace h l i) where
+module _ (h : ℕ) (K C : PartialTree) (inside : (l i : ℕ) (v : Hash) → K l i ≡ Some v → IsTreePlace h l i) where
   SameValue : ℕ → ℕ → Type 0
   SameValue l i = (u v : Hash) → K l i ≡ Some u → C l i ≡ Some v → u ≡ v
 
@@ -110,7 +110,7 @@ module _ (h : ℕ) (K C : PartialTree) (inside : (l i : ℕ) (v : Hash) → K l 
   agreed_or_not =
       elim (each_below (IsMismatch K C) (λ l. (i : ℕ) → i < 2 ^ (h - l) → SameValue l i) (suc h)
       (λ l low. each_below (IsMismatch K C) (SameValue l) (2 ^ (h - l)) (λ i low'. same_value_at l i))) [
-        | inl all ↦ inl (λ l i u v p q. let at : IsPlace h l i = inside l i u p in all l (omega (arith, at.0)) i at.1 u v p q)
+        | inl all ↦ inl (λ l i u v p q. let at : IsTreePlace h l i = inside l i u p in all l (omega (arith, at.0)) i at.1 u v p q)
         | inr bad ↦ inr bad
       ]
 
@@ -172,7 +172,7 @@ module _ (t : TreeRoot) (K : PartialTree) (ask : Ask) (hashes : List Hash) where
   first_mismatch range count pads top Mismatch low f = omega arith
 
   -- a message for a tree whose known places are finite is accepted, or one refusal is the first
-  pub accepted_or_refused : ((l i : ℕ) (v : Hash) → K l i ≡ Some v → IsPlace (tree_height t.length) l i) → IsAccepted t.length K ask hashes ⊎ ((r : HashRefusal) × Refuses t.length K ask hashes r)
+  pub accepted_or_refused : ((l i : ℕ) (v : Hash) → K l i ≡ Some v → IsTreePlace (tree_height t.length) l i) → IsAccepted t.length K ask hashes ⊎ ((r : HashRefusal) × Refuses t.length K ask hashes r)
   accepted_or_refused inside = elim (range_or_not (tree_height t.length) ask) [
     | inr no_range ↦ inr (BadRange, record { fault = no_range; first = first_range })
     | inl range ↦ elim (count_or_not (tree_height t.length) ask hashes) [

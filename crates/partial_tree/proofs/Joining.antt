@@ -6,7 +6,7 @@ use Rattle.std.proofs.lemmas.Option.{none-some, slice_get_within, get_or_from_sl
 use Rattle.std.proofs.lemmas.List.Elements.{All-get_or}
 use Rattle.wire.specs.declared.message.Ask.{Ask}
 use Rattle.partial_tree.specs.TreeRoot.{TreeRoot}
-use Rattle.node_maps.specs.Places.{tree_height, PartialTree, IsPlace}
+use Rattle.node_maps.specs.Places.{tree_height, PartialTree, IsTreePlace}
 use Rattle.partial_tree.specs.declared.refusal.HashRefusal.{HashRefusal}
 use Rattle.partial_tree.specs.declared.refusal.HashRefusal.TheVariants.{UnknownRoot, BadRange, BadCount, BadPad, Unanchored, Mismatch, NoMemory, Unasked}
 use Rattle.node_maps.specs.Digest.{Hash, IsHash, join}
@@ -80,11 +80,11 @@ module _ (t : TreeRoot) (K : PartialTree) (ask : Ask) (hashes : List Hash)
   to_top l i v e = claimed-to_top ask hashes spans power aligned enough l i v e
 
   -- a claim is a place of the tree, since the top is; by the number d of layers below the top
-  claim-in_tree : (d l i : ℕ) (v : Hash) → l + d ≡ top_layer ask hashes → claims ask hashes l i ≡ Some v → IsPlace (tree_height t.length) l i
+  claim-in_tree : (d l i : ℕ) (v : Hash) → l + d ≡ top_layer ask hashes → claims ask hashes l i ≡ Some v → IsTreePlace (tree_height t.length) l i
   claim-in_tree zero l i v at e =
       let here : top_layer ask hashes ≡ l = omega arith in
       let e' : claims ask hashes (top_layer ask hashes) i ≡ Some v = ap (λ k. claims ask hashes k i) here ∙ e in
-      subst₂ (IsPlace (tree_height t.length)) here (sym (at_top i v e')) (closed.in_tree _ _ anchor anchored)
+      subst₂ (IsTreePlace (tree_height t.length)) here (sym (at_top i v e')) (closed.in_tree _ _ anchor anchored)
   claim-in_tree (suc d) l i v at e =
       let below : l < top_layer ask hashes = omega arith in
       let up : IsFamily (claims ask hashes) l (i / 2) = family l i v e below in

@@ -8,7 +8,7 @@ use Rattle.hashtree.specs.Tree.{filled, node_over, root_over, tree}
 use Rattle.hashtree.proofs.Nodes.{leaf_at, node_over-suc}
 use Rattle.node_maps.specs.Digest.{Hash}
 use Rattle.partial_tree.specs.TreeRoot.{TreeRoot}
-use Rattle.node_maps.specs.Places.{tree_height, IsPlace}
+use Rattle.node_maps.specs.Places.{tree_height, IsTreePlace}
 use Rattle.partial_tree.specs.Claims.{cover, given, base_hash, uncle_hash}
 use Rattle.partial_tree.specs.Fill.{fill_ask, fill_hashes, fill_claims, pad_from}
 use Rattle.node_maps.proofs.Places.{place_left, place_right, place_parent}
@@ -49,44 +49,44 @@ module _ (t : TreeRoot) (l : ℕ) (hashes : List Hash) (layer_inside : l ≤ tre
       ∙ ap Some (sym (leaf_at (fill_hashes t.length l hashes) [] i (omega arith)) ∙ ap (λ xs. node_over xs 0 i) (append-nil (fill_hashes t.length l hashes)))
 
   -- each place from the layer up is claimed, with the node over the layer
-  claimed-over : (k i : ℕ) → IsPlace (tree_height t.length) (k + l) i → fill_claims t.length l hashes (k + l) i ≡ Some (node_over (filled (tree_height t.length) l hashes) k i)
+  claimed-over : (k i : ℕ) → IsTreePlace (tree_height t.length) (k + l) i → fill_claims t.length l hashes (k + l) i ≡ Some (node_over (filled (tree_height t.length) l hashes) k i)
   claimed-over zero i at =
       let e : zero + l ≡ l = omega arith in
       ap (λ j. fill_claims t.length l hashes j i) e ∙ leaf-claimed i (subst (λ j. i < 2 ^ (tree_height t.length - j)) e at.1)
   claimed-over (suc k) i at =
       let e : suc k + l ≡ suc (k + l) = omega arith in
-      let here : IsPlace (tree_height t.length) (suc (k + l)) i = subst (λ j. IsPlace (tree_height t.length) j i) e at in
+      let here : IsTreePlace (tree_height t.length) (suc (k + l)) i = subst (λ j. IsTreePlace (tree_height t.length) j i) e at in
       ap (λ j. fill_claims t.length l hashes j i) e
       ∙ claims-joined (fill_ask t.length l) (fill_hashes t.length l hashes) (k + l) i _ _ (not_given (k + l) i (omega arith))
       (claimed-over k (2 * i) (place_left (tree_height t.length) (k + l) i here.0 here))
       (claimed-over k (2 * i + 1) (place_right (tree_height t.length) (k + l) i here.0 here))
       ∙ ap Some (sym (node_over-suc (filled (tree_height t.length) l hashes) k i))
 
-  pub claims-node : (k i : ℕ) → l ≤ k → IsPlace (tree_height t.length) k i → fill_claims t.length l hashes k i ≡ Some (node_over (filled (tree_height t.length) l hashes) (k - l) i)
+  pub claims-node : (k i : ℕ) → l ≤ k → IsTreePlace (tree_height t.length) k i → fill_claims t.length l hashes k i ≡ Some (node_over (filled (tree_height t.length) l hashes) (k - l) i)
   claims-node k i low at =
       let e : k ≡ (k - l) + l = omega arith in
-      ap (λ j. fill_claims t.length l hashes j i) e ∙ claimed-over (k - l) i (subst (λ j. IsPlace (tree_height t.length) j i) e at)
+      ap (λ j. fill_claims t.length l hashes j i) e ∙ claimed-over (k - l) i (subst (λ j. IsTreePlace (tree_height t.length) j i) e at)
 
-  above_pair : (k i : ℕ) → (l ≤ k) × IsPlace (tree_height t.length) k (2 * i + 1) → (l ≤ suc k) × IsPlace (tree_height t.length) (suc k) i
+  above_pair : (k i : ℕ) → (l ≤ k) × IsTreePlace (tree_height t.length) k (2 * i + 1) → (l ≤ suc k) × IsTreePlace (tree_height t.length) (suc k) i
   above_pair k i at = elim (cases_top k) [
     | inl top ↦
         let none : tree_height t.length - k ≡ 0 = omega arith in
         absurd (omega (arith, subst (λ j. 2 * i + 1 < 2 ^ j) none at.1.1))
     | inr below ↦
         let half : (2 * i + 1) / 2 ≡ i = omega arith in
-        (omega (arith, at.0), subst (IsPlace (tree_height t.length) (suc k)) half (place_parent (tree_height t.length) k (2 * i + 1) below at.1))
+        (omega (arith, at.0), subst (IsTreePlace (tree_height t.length) (suc k)) half (place_parent (tree_height t.length) k (2 * i + 1) below at.1))
   ]
     where
       cases_top : (k : ℕ) → (tree_height t.length ≤ k) ⊎ (k < tree_height t.length)
       cases_top k = grind arith
 
-  at_layer : (k i : ℕ) (v : Hash) → given (fill_ask t.length l) (fill_hashes t.length l hashes) k i ≡ Some v → (l ≤ k) × IsPlace (tree_height t.length) k i
+  at_layer : (k i : ℕ) (v : Hash) → given (fill_ask t.length l) (fill_hashes t.length l hashes) k i ≡ Some v → (l ≤ k) × IsTreePlace (tree_height t.length) k i
   at_layer k i v e =
       let at = given-layer k i v e in
       (omega (arith, at.0), (omega (arith, at.0, layer_inside), subst (λ j. i < 2 ^ (tree_height t.length - j)) (sym at.0) at.1))
 
   -- and no other place
-  pub claims-no_more : (k i : ℕ) (v : Hash) → fill_claims t.length l hashes k i ≡ Some v → (l ≤ k) × IsPlace (tree_height t.length) k i
+  pub claims-no_more : (k i : ℕ) (v : Hash) → fill_claims t.length l hashes k i ≡ Some v → (l ≤ k) × IsTreePlace (tree_height t.length) k i
   claims-no_more zero i v e = at_layer zero i v (sym (claims-zero (fill_ask t.length l) (fill_hashes t.length l hashes) i) ∙ e)
   claims-no_more (suc k) i v e = elim (claims-read (fill_ask t.length l) (fill_hashes t.length l hashes) k i v e) [
     | inl g ↦ at_layer (suc k) i v g

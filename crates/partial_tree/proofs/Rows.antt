@@ -4,7 +4,7 @@ use Rattle.std.proofs.lemmas.Bool.{cases_lt}
 use Rattle.std.proofs.lemmas.Nat.{div-mul-add, mod_below}
 use Rattle.partial_tree.specs.declared.evidence.Evidence.{Evidence}
 use Rattle.node_maps.specs.Digest.{Hash}
-use Rattle.node_maps.specs.Places.{IsPlace, IsKnown}
+use Rattle.node_maps.specs.Places.{IsTreePlace, IsKnown}
 use Rattle.partial_tree.specs.Claims.{base_hash, uncle_hash}
 use Rattle.partial_tree.specs.Evidence.{range_of, hashes_of, given_by, claimed_by, row_height, row_first, IsOver}
 use Rattle.partial_tree.proofs.Given.{cover_is}
@@ -98,7 +98,7 @@ module _ (e : Evidence) (aligned : e.index % 2 ^ e.span ≡ 0) where
       (row.from_base, omega arith, omega arith)
 
 -- the row of a layer below a place over the base range lies in the tree
-pub row-inside : (h : ℕ) (e : Evidence) (layer index l : ℕ) → IsOver e layer index → IsPlace h layer index → e.base ≤ l → l < layer → row_first e l + 2 ^ row_height e l ≤ 2 ^ (h - l)
+pub row-inside : (h : ℕ) (e : Evidence) (layer index l : ℕ) → IsOver e layer index → IsTreePlace h layer index → e.base ≤ l → l < layer → row_first e l + 2 ^ row_height e l ≤ 2 ^ (h - l)
 row-inside h e layer index l at place from below =
     let w : ℕ = row_height e l in
     let fits : l + w ≤ layer = omega (arith, at.covers) in

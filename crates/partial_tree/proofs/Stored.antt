@@ -5,7 +5,7 @@ use Rattle.std.proofs.lemmas.Option.{same_Some, none-some}
 use Rattle.std.proofs.lemmas.Bool.{cases_lt}
 use Rattle.wire.specs.declared.message.Ask.{Ask}
 use Rattle.partial_tree.specs.TreeRoot.{TreeRoot}
-use Rattle.node_maps.specs.Places.{tree_height, PartialTree, IsPlace}
+use Rattle.node_maps.specs.Places.{tree_height, PartialTree, IsTreePlace}
 use Rattle.node_maps.specs.Digest.{Hash, join}
 use Rattle.partial_tree.specs.Closed.{IsFamily, IsClosed, Collision}
 use Rattle.partial_tree.specs.Claims.{claims, top_layer, top_index, GoodRange, GoodCount, IsAccepted, IsAgreed, IsToldBy}
@@ -48,20 +48,20 @@ module _ (t : TreeRoot) (J K : PartialTree) (closed_J : IsClosed t J) (closed_K 
   agreed_or_collision =
       elim (each_below (Collision J K) (λ l. (i : ℕ) → i < 2 ^ (tree_height t.length - l) → SameAt l i) (suc (tree_height t.length))
       (λ l h. each_below (Collision J K) (SameAt l) (2 ^ (tree_height t.length - l)) (λ i h'. same_at l i))) [
-        | inl all ↦ inl (λ l i u v p q. let at : IsPlace (tree_height t.length) l i = closed_J.in_tree l i u p in all l (omega (arith, at.0)) i at.1 u v p q)
+        | inl all ↦ inl (λ l i u v p q. let at : IsTreePlace (tree_height t.length) l i = closed_J.in_tree l i u p in all l (omega (arith, at.0)) i at.1 u v p q)
         | inr collision ↦ inr collision
       ]
 
 -- the parent of two places that a closed tree has
 told_parent : (t : TreeRoot) (J : PartialTree) → IsClosed t J → (l i : ℕ) (a b : Hash) → J l (2 * i) ≡ Some a → J l (2 * i + 1) ≡ Some b → J (suc l) i ≡ Some (join a b)
 told_parent t J closed l i a b p q =
-    let right : IsPlace (tree_height t.length) l (2 * i + 1) = closed.in_tree l (2 * i + 1) b q in
+    let right : IsTreePlace (tree_height t.length) l (2 * i + 1) = closed.in_tree l (2 * i + 1) b q in
     let below : l < tree_height t.length = below_root l (tree_height t.length) i right in
     let half : 2 * i / 2 ≡ i = omega arith in
     let fam : IsFamily J l i = subst (IsFamily J l) half (closed.families l (2 * i) a p below) in
     fam.parent_known ∙ ap Some (ap₂ join (same_Some _ _ (sym fam.left_known ∙ p)) (same_Some _ _ (sym fam.right_known ∙ q)))
   where
-    below_root : (l h i : ℕ) → IsPlace h l (2 * i + 1) → l < h
+    below_root : (l h i : ℕ) → IsTreePlace h l (2 * i + 1) → l < h
     below_root l h i at = elim (eq-or-lt_of_le at.0) [
       | inl same ↦ let e : h - l ≡ 0 = omega arith in absurd (omega (arith, subst (λ k. 2 * i + 1 < 2 ^ k) e at.1))
       | inr less ↦ less

@@ -8,11 +8,11 @@ use Rattle.std.proofs.lemmas.Option.{same_Some, none-some}
 use Rattle.partial_tree.specs.declared.evidence.Evidence.{Evidence}
 use Rattle.partial_tree.specs.declared.found.Found.{Found}
 use Rattle.node_maps.specs.Digest.{Hash, join}
-use Rattle.node_maps.specs.Places.{PartialTree, IsKnown, IsPlace}
+use Rattle.node_maps.specs.Places.{PartialTree, IsKnown, IsTreePlace}
 use Rattle.node_maps.specs.Known.{Known, look}
 use Rattle.partial_tree.specs.Joins.{insert_new, Joins}
 use Rattle.partial_tree.specs.Claims.{IsMismatch, IsAgreed}
-use Rattle.partial_tree.specs.Evidence.{range_of, hashes_of, given_by, claimed_by, LiesUnder, IsNoted, Grows, IsHandled, AllHandled, BelowHandled, DiffersFrom, LeadsTo, AreClaims, HasClaim}
+use Rattle.partial_tree.specs.Evidence.{range_of, hashes_of, given_by, claimed_by, IsClaimedPlace, LiesUnder, IsNoted, Grows, IsHandled, AllHandled, BelowHandled, DiffersFrom, LeadsTo, AreClaims, HasClaim}
 use Rattle.partial_tree.proofs.Noting.{insert_new-joined}
 use Rattle.partial_tree.proofs.Agree.{left_or_right}
 use Rattle.node_maps.proofs.Places.{place_left, place_right}
@@ -37,13 +37,24 @@ opened e (suc l) i (v, is) none = elim (claims-read (range_of e) (hashes_of e) l
       }
 ]
 
-pub child_left : (h l i : ℕ) → 1 ≤ l → IsPlace h l i → IsPlace h (l - 1) (2 * i)
+child_left : (h l i : ℕ) → 1 ≤ l → IsTreePlace h l i → IsTreePlace h (l - 1) (2 * i)
 child_left h zero i some at = absurd (omega arith)
-child_left h (suc l) i some at = let down : l ≡ suc l - 1 = omega arith in subst (λ k. IsPlace h k (2 * i)) down (place_left h l i at.0 at)
+child_left h (suc l) i some at = let down : l ≡ suc l - 1 = omega arith in subst (λ k. IsTreePlace h k (2 * i)) down (place_left h l i at.0 at)
 
-pub child_right : (h l i : ℕ) → 1 ≤ l → IsPlace h l i → IsPlace h (l - 1) (2 * i + 1)
+child_right : (h l i : ℕ) → 1 ≤ l → IsTreePlace h l i → IsTreePlace h (l - 1) (2 * i + 1)
 child_right h zero i some at = absurd (omega arith)
-child_right h (suc l) i some at = let down : l ≡ suc l - 1 = omega arith in subst (λ k. IsPlace h k (2 * i + 1)) down (place_right h l i at.0 at)
+child_right h (suc l) i some at = let down : l ≡ suc l - 1 = omega arith in subst (λ k. IsTreePlace h k (2 * i + 1)) down (place_right h l i at.0 at)
+
+-- the children of a claimed place that is not given are claimed
+pub left_claimed : (h : ℕ) (e : Evidence) (l i : ℕ) → IsClaimedPlace h e l i → given_by e l i ≡ None → IsClaimedPlace h e (l - 1) (2 * i)
+left_claimed h e l i at none =
+    let o : Opened e l i = opened e l i at.claimed none in
+    record { low = at.low; inside = at.inside; place = child_left h l i o.above_leaves at.place; pruned = at.pruned; claimed = o.left }
+
+pub right_claimed : (h : ℕ) (e : Evidence) (l i : ℕ) → IsClaimedPlace h e l i → given_by e l i ≡ None → IsClaimedPlace h e (l - 1) (2 * i + 1)
+right_claimed h e l i at none =
+    let o : Opened e l i = opened e l i at.claimed none in
+    record { low = at.low; inside = at.inside; place = child_right h l i o.above_leaves at.place; pruned = at.pruned; claimed = o.right }
 
 -- a given hash is claimed
 pub given_claimed : (e : Evidence) (l i : ℕ) (v : Hash) → given_by e l i ≡ Some v → claimed_by e l i ≡ Some v

@@ -7,7 +7,7 @@ use Rattle.sha2.specs.Sha256.{sha256}
 use Rattle.node_maps.specs.Digest.{Hash, join}
 use Rattle.hashtree.specs.Tree.{pad_leaf, block, block_count, leaves, tree, zero_hash, node}
 use Rattle.hashtree.proofs.Zeros.{zero_hash-zero, zero_hash-suc}
-use Rattle.node_maps.specs.Places.{IsPlace, tree_height}
+use Rattle.node_maps.specs.Places.{IsTreePlace, tree_height}
 use Rattle.node_maps.proofs.Places.{two_halves, place_left, place_right}
 
 -- a node is the join of its two children
@@ -52,7 +52,7 @@ node-pad f i in' h =
     ∙ get_or-replicate (2 ^ tree_height (length f) - n) (i - n) pad_leaf [] (omega arith)
 
 -- a node wholly past the file's end is the hash over pads
-pub node-past : (f : List ℕ) (l i : ℕ) → IsPlace (tree_height (length f)) l i → block_count (length f) ≤ i * 2 ^ l → node f l i ≡ zero_hash l
+pub node-past : (f : List ℕ) (l i : ℕ) → IsTreePlace (tree_height (length f)) l i → block_count (length f) ≤ i * 2 ^ l → node f l i ≡ zero_hash l
 node-past f zero i at h =
     let e : tree_height (length f) - 0 ≡ tree_height (length f) = omega arith in
     node-pad f i (subst (λ k. i < 2 ^ k) e at.1) (omega arith) ∙ sym zero_hash-zero

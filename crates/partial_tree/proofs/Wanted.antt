@@ -5,7 +5,7 @@ use Rattle.std.proofs.lemmas.Bool.{cases_lt, cases_Bool, false≢true, and_parts
 use Rattle.std.proofs.lemmas.Nat.{shl-shr, mod_below, div_below, div-mul-add, mod-mul-add, le-div}
 use Rattle.wire.specs.declared.message.Ask.{Ask}
 use Rattle.partial_tree.specs.TreeRoot.{TreeRoot, Fits}
-use Rattle.node_maps.specs.Places.{tree_height, PartialTree, IsKnown, IsPlace}
+use Rattle.node_maps.specs.Places.{tree_height, PartialTree, IsKnown, IsTreePlace}
 use Rattle.node_maps.specs.Digest.{Hash}
 use Rattle.hashtree.specs.Tree.{block_count, height, node}
 use Rattle.partial_tree.specs.Closed.{Keeps, IsClosed, Collision, whole}
@@ -158,8 +158,8 @@ whole-can_answer t f ask fits range = record {
   range = range;
   base_known = λ j low.
       let same : tree_height t.length ≡ tree_height (length f) = ap tree_height (sym fits.same_length) in
-      let at : IsPlace (tree_height t.length) ask.base (ask.index + j) = (range.base_inside, omega (arith, range.range_inside)) in
-      (node f ask.base (ask.index + j), whole-at f ask.base (ask.index + j) (subst (λ h. IsPlace h ask.base (ask.index + j)) same at));
+      let at : IsTreePlace (tree_height t.length) ask.base (ask.index + j) = (range.base_inside, omega (arith, range.range_inside)) in
+      (node f ask.base (ask.index + j), whole-at f ask.base (ask.index + j) (subst (λ h. IsTreePlace h ask.base (ask.index + j)) same at));
 }
 
 module _ (t : TreeRoot) (b : ℕ) (tall : 1 ≤ tree_height t.length) (in' : b < block_count t.length) where

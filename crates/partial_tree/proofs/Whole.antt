@@ -4,7 +4,7 @@ use Rattle.std.proofs.lemmas.Option.{cond_some}
 use Rattle.std.proofs.lemmas.Bool.{cases_lt, and_parts, and_from, leb-true, ltb-true, le-leb, lt-ltb, cond-true}
 use Rattle.std.proofs.lemmas.List.{length-replicate, drop-take, get_or-take}
 use Rattle.partial_tree.specs.TreeRoot.{TreeRoot, Fits}
-use Rattle.node_maps.specs.Places.{tree_height, IsPlace}
+use Rattle.node_maps.specs.Places.{tree_height, IsTreePlace}
 use Rattle.node_maps.specs.Digest.{Hash, IsHash, join}
 use Rattle.hashtree.specs.Tree.{pad_leaf, block, block_count, leaves, tree, node}
 use Rattle.partial_tree.specs.Closed.{IsClosed, whole}
@@ -13,13 +13,13 @@ use Rattle.node_maps.proofs.Places.{two_halves, place_parent, place_left, place_
 use Rattle.partial_tree.proofs.Trees.{node-suc, node-leaf, node-pad, node-past}
 
 -- what the whole tree has at a place
-pub whole-at : (f : List ℕ) (l i : ℕ) → IsPlace (tree_height (length f)) l i → whole f l i ≡ Some (node f l i)
+pub whole-at : (f : List ℕ) (l i : ℕ) → IsTreePlace (tree_height (length f)) l i → whole f l i ≡ Some (node f l i)
 whole-at f l i at =
     cond-true (leb l (tree_height (length f)) && ltb i (2 ^ (tree_height (length f) - l))) (Some (node f l i)) None
     (and_from _ _ (le-leb _ _ at.0) (lt-ltb _ _ at.1))
 
 -- and it has nothing anywhere else
-pub whole-inside : (f : List ℕ) (l i : ℕ) (v : Hash) → whole f l i ≡ Some v → IsPlace (tree_height (length f)) l i × (node f l i ≡ v)
+pub whole-inside : (f : List ℕ) (l i : ℕ) (v : Hash) → whole f l i ≡ Some v → IsTreePlace (tree_height (length f)) l i × (node f l i ≡ v)
 whole-inside f l i v e =
     let both = cond_some (leb l (tree_height (length f)) && ltb i (2 ^ (tree_height (length f) - l))) (node f l i) v e in
     let tests = and_parts (leb l (tree_height (length f))) (ltb i (2 ^ (tree_height (length f) - l))) both.0 in
@@ -29,7 +29,7 @@ pub pad-is_hash : IsHash pad_leaf
 pad-is_hash = record { size = length-replicate {A = ℕ} 32 0 }
 
 -- each node is a hash
-pub node-is_hash : (f : List ℕ) (l i : ℕ) → IsPlace (tree_height (length f)) l i → IsHash (node f l i)
+pub node-is_hash : (f : List ℕ) (l i : ℕ) → IsTreePlace (tree_height (length f)) l i → IsHash (node f l i)
 node-is_hash f zero i at = elim (cases_lt i (block_count (length f))) [
   | inl h ↦ subst IsHash (sym (node-leaf f i h)) (is_hash (block f i))
   | inr h ↦
@@ -63,12 +63,12 @@ module _ (f : List ℕ) (t : TreeRoot) (fits : Fits f t) where
     root_known = subst (λ len. whole f (tree_height len) 0 ≡ Some t.root) fits.same_length
         (whole-at f (tree_height (length f)) 0 (omega arith, pow_pos (tree_height (length f) - tree_height (length f)))
         ∙ ap Some (node-root f ∙ ap (λ len. tree (tree_height len) (leaves f)) fits.same_length ∙ fits.same_root));
-    in_tree = λ l i v e. subst (λ h. IsPlace h l i) same_height (whole-inside f l i v e).0;
+    in_tree = λ l i v e. subst (λ h. IsTreePlace h l i) same_height (whole-inside f l i v e).0;
     hashes = λ l i v e. subst IsHash (whole-inside f l i v e).1 (node-is_hash f l i (whole-inside f l i v e).0);
     families = λ l i v e below.
         let h : ℕ = tree_height (length f) in
         let in' : l < h = subst (λ k. l < k) (sym same_height) below in
-        let up : IsPlace h (suc l) (i / 2) = place_parent h l i in' (whole-inside f l i v e).0 in
+        let up : IsTreePlace h (suc l) (i / 2) = place_parent h l i in' (whole-inside f l i v e).0 in
         record {
           left = node f l (2 * (i / 2));
           right = node f l (2 * (i / 2) + 1);

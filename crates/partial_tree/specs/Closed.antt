@@ -2,7 +2,7 @@
 use Rattle.std.specs.Prelude.{◌≡◌, ◌≢◌, ℕ, suc, ◌+◌, ◌-◌, ◌*◌, ◌/◌, ◌^◌, ◌<◌, ◌≤◌, leb, ltb, cond, ◌&&◌, List, ◌++◌, length, Some, None}
 use Rattle.sha2.specs.Sha256.{sha256}
 use Rattle.partial_tree.specs.TreeRoot.{TreeRoot}
-use Rattle.node_maps.specs.Places.{PartialTree, IsPlace, tree_height}
+use Rattle.node_maps.specs.Places.{PartialTree, IsTreePlace, tree_height}
 use Rattle.node_maps.specs.Digest.{Hash, IsHash, join}
 use Rattle.hashtree.specs.Tree.{block, block_count, node, zero_hash}
 
@@ -26,7 +26,7 @@ pub record IsFamily (K : PartialTree) (l j : ℕ) : Type 0 where
 -- a partial tree of t, in which each place below the root stands with its sibling and its parent
 pub record IsClosed (t : TreeRoot) (K : PartialTree) : Type 0 where
   pub root_known : K (tree_height t.length) 0 ≡ Some t.root
-  pub in_tree : (l i : ℕ) (v : Hash) → K l i ≡ Some v → IsPlace (tree_height t.length) l i
+  pub in_tree : (l i : ℕ) (v : Hash) → K l i ≡ Some v → IsTreePlace (tree_height t.length) l i
   pub hashes : (l i : ℕ) (v : Hash) → K l i ≡ Some v → IsHash v
   pub families : (l i : ℕ) (v : Hash) → K l i ≡ Some v → l < tree_height t.length
       → IsFamily K l (i / 2)

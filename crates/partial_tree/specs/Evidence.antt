@@ -8,7 +8,7 @@ use Rattle.partial_tree.specs.declared.found.Found.{Found}
 use Rattle.partial_tree.specs.declared.refusal.HashRefusal.{HashRefusal}
 use Rattle.partial_tree.specs.declared.refusal.HashRefusal.TheVariants.{Mismatch, NoMemory}
 use Rattle.node_maps.specs.Digest.{Hash}
-use Rattle.node_maps.specs.Places.{PartialTree, IsKnown}
+use Rattle.node_maps.specs.Places.{PartialTree, IsKnown, IsTreePlace}
 use Rattle.node_maps.specs.Known.{Known, look}
 use Rattle.partial_tree.specs.Claims.{given, claims, joined, IsAgreed, IsMismatch}
 
@@ -40,6 +40,14 @@ LiesUnder layer index l i = (l ≤ layer) × (i / 2 ^ (layer - l) ≡ index)
 pub record IsPruned (e : Evidence) : Type 0 where
   pub below : (layer index l i : ℕ) (v w : Hash) → given_by e layer index ≡ Some v
       → LiesUnder layer index l i → l < layer → claimed_by e l i ≡ Some w → ⊥
+
+-- the place lies in a tree of height h, and what is claimed there follows from what is given
+pub record IsClaimedPlace (h : ℕ) (e : Evidence) (layer index : ℕ) : Type 0 where
+  pub low : h ≤ 32
+  pub inside : IsInside e
+  pub place : IsTreePlace h layer index
+  pub pruned : IsPruned e
+  pub claimed : IsKnown (claimed_by e) layer index
 
 -- how far above a layer stands the node under which all claims of that layer lie
 abbrev pub row_height : Evidence → ℕ → ℕ

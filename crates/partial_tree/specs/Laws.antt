@@ -6,7 +6,7 @@ use Rattle.wire.specs.declared.message.Ask.{Ask as Asked}
 use Rattle.partial_tree.specs.TreeRoot.{TreeRoot as Tree, Fits}
 use Rattle.node_maps.specs.Digest.{Hash, IsHash}
 use Rattle.hashtree.specs.Tree.{block, block_count}
-use Rattle.node_maps.specs.Places.{tree_height, PartialTree, IsKnown, IsPlace}
+use Rattle.node_maps.specs.Places.{tree_height, PartialTree, IsKnown, IsTreePlace}
 use Rattle.partial_tree.specs.Closed.{IsClosed, Keeps, Collision, BlockCollision, whole}
 use Rattle.partial_tree.specs.Claims.{claims, joined, top_layer, top_index, GoodRange, GoodCount, IsAccepted, IsToldBy, CanAnswer, answer_of, Refuses}
 use Rattle.partial_tree.specs.declared.refusal.HashRefusal.{HashRefusal as Refusal}
@@ -100,5 +100,5 @@ AnswerLeavesFewerGaps = (t : Tree) (b : ℕ) → 1 ≤ tree_height t.length → 
 -- each message is accepted, or refused by the first refusal that holds of it
 abbrev pub MessageIsAcceptedOrRefused : Type 0
 MessageIsAcceptedOrRefused = (t : Tree) (K : PartialTree) (ask : Asked) (hashes : List Hash)
-    → ((l i : ℕ) (v : Hash) → K l i ≡ Some v → IsPlace (tree_height t.length) l i)
+    → ((l i : ℕ) (v : Hash) → K l i ≡ Some v → IsTreePlace (tree_height t.length) l i)
     → IsAccepted t.length K ask hashes ⊎ ((r : Refusal) × Refuses t.length K ask hashes r)

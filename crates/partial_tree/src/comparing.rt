@@ -3,10 +3,10 @@
 
 ghost use Rattle.std.specs.Prelude.{◌≡◌, ◌≤◌, Some, IfSome, IfNone, OnSome};
 ghost use Rattle.std.specs.Bool.{OnTrue, OnFalse};
-ghost use Rattle.node_maps.specs.Places.{tree_height, PartialTree, IsPlace, IsKnown};
+ghost use Rattle.node_maps.specs.Places.{tree_height, PartialTree};
 ghost use Rattle.node_maps.specs.Known.{look};
 ghost use Rattle.partial_tree.specs.Claims.{IsMismatch};
-ghost use Rattle.partial_tree.specs.Evidence.{claimed_by, IsPruned, AllHandled, BelowHandled, Grows, AreClaims, IsInside, IsHandledClaim, DiffersFrom};
+ghost use Rattle.partial_tree.specs.Evidence.{claimed_by, IsClaimedPlace, AllHandled, BelowHandled, Grows, AreClaims, IsHandledClaim, DiffersFrom};
 
 use crate::evidence::Evidence;
 use crate::found::{Claim, Found};
@@ -41,11 +41,7 @@ fn derive<N: NodeMap>(
     layer: u32,
     index: u64,
 ) -> Option<Hash>
-    requires low { tree_height (N.length map.now) ≤ 32 }
-    requires inside { IsInside evidence.now }
-    requires place { IsPlace (tree_height (N.length map.now)) layer index }
-    requires pruned { IsPruned evidence.now }
-    requires claimed { IsKnown (claimed_by evidence.now) layer index }
+    requires at { IsClaimedPlace (tree_height (N.length map.now)) evidence.now layer index }
     requires sound { AreClaims (claimed_by evidence.now) found.old.claims.items }
     ensures value { IfSome result (λ v. claimed_by evidence.now layer index ≡ Some v) }
     ensures handled { OnSome result (BelowHandled (claimed_by evidence.now)
@@ -75,11 +71,7 @@ pub fn trace<N: NodeMap>(
     layer: u32,
     index: u64,
 ) -> Option<Hash>
-    requires low { tree_height (N.length map.now) ≤ 32 }
-    requires inside { IsInside evidence.now }
-    requires place { IsPlace (tree_height (N.length map.now)) layer index }
-    requires pruned { IsPruned evidence.now }
-    requires claimed { IsKnown (claimed_by evidence.now) layer index }
+    requires at { IsClaimedPlace (tree_height (N.length map.now)) evidence.now layer index }
     requires sound { AreClaims (claimed_by evidence.now) found.old.claims.items }
     ensures value { IfSome result (λ v. claimed_by evidence.now layer index ≡ Some v) }
     ensures handled { OnSome result (AllHandled (claimed_by evidence.now)

@@ -2,7 +2,7 @@
 //! written.
 
 ghost use Rattle.std.specs.Prelude.{◌≡◌, ◌⊎◌, ℕ, ◌≤◌, OnOk, OnErr, IfOk, IfErr};
-ghost use Rattle.node_maps.specs.Places.{tree_height, IsPlace, IsKnown};
+ghost use Rattle.node_maps.specs.Places.{tree_height, IsTreePlace, IsKnown};
 ghost use Rattle.node_maps.specs.Known.{look};
 ghost use Rattle.partial_tree.specs.Claims.{IsAgreed};
 ghost use Rattle.partial_tree.specs.Joins.{Joins};
@@ -33,7 +33,7 @@ pub fn store<N: NodeMap>(
 ) -> Result<u64, HashRefusal>
     requires low { tree_height (N.length map.old) ≤ 32 }
     requires inside { IsInside evidence.now }
-    requires place { IsPlace (tree_height (N.length map.old)) layer index }
+    requires place { IsTreePlace (tree_height (N.length map.old)) layer index }
     requires leads { LeadsTo evidence.now layer index }
     requires trimmed { N.held map.old ≡ N.needed (N.known map.old) }
     ensures length { N.length map.new ≡ N.length map.old }
@@ -69,7 +69,7 @@ pub fn store_agreed<N: NodeMap>(
 ) -> Result<u64, NoMemory>
     requires low { tree_height (N.length map.old) ≤ 32 }
     requires inside { IsInside evidence.now }
-    requires place { IsPlace (tree_height (N.length map.old)) layer index }
+    requires place { IsTreePlace (tree_height (N.length map.old)) layer index }
     requires leads { LeadsTo evidence.now layer index }
     requires agreed { IsAgreed (look (N.known map.old)) (claimed_by evidence.now) }
     requires trimmed { N.held map.old ≡ N.needed (N.known map.old) }
@@ -100,7 +100,7 @@ fn put_found<N: NodeMap>(
 ) -> u64
     requires low { tree_height (N.length map.old) ≤ 32 }
     requires inside { IsInside evidence.now }
-    requires place { IsPlace (tree_height (N.length map.old)) layer index }
+    requires place { IsTreePlace (tree_height (N.length map.old)) layer index }
     requires leads { LeadsTo evidence.now layer index }
     requires room { (l i : ℕ) → IsKnown (claimed_by evidence.now) l i → N.has_room map.old l i }
     requires sound { AreClaims (claimed_by evidence.now) found.now.claims.items }
@@ -133,7 +133,7 @@ fn reserve_claimed<N: NodeMap>(
 ) -> Result<(), NoMemory>
     requires low { tree_height (N.length map.old) ≤ 32 }
     requires inside { IsInside evidence.now }
-    requires place { IsPlace (tree_height (N.length map.old)) layer index }
+    requires place { IsTreePlace (tree_height (N.length map.old)) layer index }
     requires leads { LeadsTo evidence.now layer index }
     ensures length { N.length map.new ≡ N.length map.old }
     ensures known { N.known map.new ≡ N.known map.old }

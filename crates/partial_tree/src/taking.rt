@@ -2,7 +2,7 @@
 
 ghost use Rattle.std.specs.Prelude.{◌≡◌, ℕ, ◌+◌, ◌-◌, ◌/◌, ◌^◌, ◌<◌, ◌≤◌, IfOk, IfErr, length};
 ghost use Rattle.std.specs.Bool.{OnTrue, OnFalse};
-ghost use Rattle.node_maps.specs.Places.{tree_height, IsKnown, IsPlace};
+ghost use Rattle.node_maps.specs.Places.{tree_height, IsKnown, IsTreePlace};
 ghost use Rattle.partial_tree.specs.Claims.{IsBadPad, ArePadsRight, GoodRange, GoodCount};
 ghost use Rattle.node_maps.specs.Known.{look};
 ghost use Rattle.partial_tree.specs.Joins.{TakesHashes, RefusesHashes};
@@ -29,7 +29,7 @@ pub fn take_message<N: NodeMap>(
     requires shape { N.length nodes.old ≡ shape }
     requires height { height ≡ tree_height shape }
     requires low { height ≤ 32 }
-    requires places { (l i : ℕ) → IsKnown (look (N.known nodes.old)) l i → IsPlace height l i }
+    requires places { (l i : ℕ) → IsKnown (look (N.known nodes.old)) l i → IsTreePlace height l i }
     requires trimmed { N.held nodes.old ≡ N.needed (N.known nodes.old) }
     ensures length { N.length nodes.new ≡ N.length nodes.old }
     ensures marked { N.marked nodes.new ≡ N.marked nodes.old }

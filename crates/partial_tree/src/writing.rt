@@ -3,11 +3,11 @@
 ghost use Rattle.std.specs.Prelude.{◌≡◌, ℕ, suc, ◌+◌, ◌^◌, ◌<◌, ◌≤◌, Some};
 ghost use Rattle.std.specs.List.{All};
 ghost use Rattle.std.specs.FinMap as finite;
-ghost use Rattle.node_maps.specs.Places.{tree_height, IsPlace, IsKnown};
+ghost use Rattle.node_maps.specs.Places.{tree_height, IsKnown};
 ghost use Rattle.node_maps.specs.Known.{look};
 ghost use Rattle.partial_tree.specs.declared.found.Claim.{Claim as Claimed};
 ghost use Rattle.partial_tree.specs.Joins.{with_new, insert_new};
-ghost use Rattle.partial_tree.specs.Evidence.{claimed_by, IsPruned, IsInside, IsWritten, IsWrittenBelow};
+ghost use Rattle.partial_tree.specs.Evidence.{claimed_by, IsClaimedPlace, IsWritten, IsWrittenBelow};
 
 use crate::evidence::Evidence;
 use crate::found::Claim;
@@ -55,11 +55,7 @@ pub fn write_claimed<N: NodeMap>(
     layer: u32,
     index: u64,
 ) -> (Hash, u64)
-    requires low { tree_height (N.length map.old) ≤ 32 }
-    requires inside { IsInside evidence.now }
-    requires place { IsPlace (tree_height (N.length map.old)) layer index }
-    requires pruned { IsPruned evidence.now }
-    requires claimed { IsKnown (claimed_by evidence.now) layer index }
+    requires at { IsClaimedPlace (tree_height (N.length map.old)) evidence.now layer index }
     requires room { (l i : ℕ) → IsKnown (claimed_by evidence.now) l i → N.has_room map.old l i }
     ensures value { claimed_by evidence.now layer index ≡ Some result.0 }
     ensures length { N.length map.new ≡ N.length map.old }
@@ -79,11 +75,7 @@ pub fn write_claimed<N: NodeMap>(
 /// many are new.
 #[cycle(write)]
 fn write_below<N: NodeMap>(map: &mut N, evidence: &Evidence, layer: u32, index: u64) -> (Hash, u64)
-    requires low { tree_height (N.length map.old) ≤ 32 }
-    requires inside { IsInside evidence.now }
-    requires place { IsPlace (tree_height (N.length map.old)) layer index }
-    requires pruned { IsPruned evidence.now }
-    requires claimed { IsKnown (claimed_by evidence.now) layer index }
+    requires at { IsClaimedPlace (tree_height (N.length map.old)) evidence.now layer index }
     requires room { (l i : ℕ) → IsKnown (claimed_by evidence.now) l i → N.has_room map.old l i }
     ensures value { claimed_by evidence.now layer index ≡ Some result.0 }
     ensures length { N.length map.new ≡ N.length map.old }

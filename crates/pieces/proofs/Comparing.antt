@@ -5,7 +5,7 @@ use Rattle.std.proofs.lemmas.Option.{slice_get_within, slice_get_past, get_or_fr
 use Rattle.sha1.specs.Sha1.{sha1}
 use Rattle.pieces.specs.Pieces.{pieces_of}
 use Rattle.pieces.specs.Cuts.{cut, cut_digests, IsComparison, IsFirstDifference, IsNext}
-use Rattle.pieces.specs.Feeding.{IsListed, IsFirstBad}
+use Rattle.pieces.specs.Feeding.{IsCutListed, IsFirstBad}
 use Rattle.pieces.proofs.Cutting.{cut_append, cut_ends, length-cut_digests, digest_of_cut}
 
 pub none_from : (o : Option ℕ) → is_some o ≡ false → o ≡ None
@@ -35,7 +35,7 @@ pub first_bad_append : (n : ℕ) (pieces : List (List ℕ)) (content more : List
 first_bad_append n pieces content more c bad whole first =
     let same : (k : ℕ) → k < c → cut n content k ≡ cut n (content ++ more) k =
     λ k lt. sym (cut_append n content more k (omega (arith, cut_ends n k c lt))) in
-    let listed : (k : ℕ) → k < c → IsListed n pieces content k → IsListed n pieces (content ++ more) k =
+    let listed : (k : ℕ) → k < c → IsCutListed n pieces content k → IsCutListed n pieces (content ++ more) k =
     λ k lt is. is ∙ ap (λ t. Some (sha1 t)) (same k lt) in
     record {
       none = λ is k lt. listed k lt (first.none is k lt);
@@ -59,7 +59,7 @@ first_bad_next n pieces content c digest bad next is step first = elim (there_or
     | inl same ↦ record {
       none = λ _ k lt. elim (last_or_before k c lt) [
         | inl before ↦ first.none none k before
-        | inr last ↦ subst (IsListed n pieces content) (sym last) (same.1 ∙ ap Some is)
+        | inr last ↦ subst (IsCutListed n pieces content) (sym last) (same.1 ∙ ap Some is)
       ];
       before = λ i found. absurd (none-some i (sym same.0 ∙ found));
       within = λ i found. absurd (none-some i (sym same.0 ∙ found));

@@ -8,7 +8,7 @@ use Rattle.pieces.specs.Pieces.{pieces_of}
 use Rattle.pieces.specs.declared.cutter.Cutter.{Cutter}
 use Rattle.pieces.specs.declared.v1_feed.V1Feed.{V1Feed}
 use Rattle.pieces.specs.Cutting.{IsCutting}
-use Rattle.pieces.specs.Feeding.{IsAt, IsFed, IsFirstBad}
+use Rattle.pieces.specs.Feeding.{IsFeedAt, IsFeedGiven, IsFirstBad}
 use Rattle.pieces.proofs.Cutting.{last_cut, cut_count_is, cut_count_least, cut_count_none}
 use Rattle.pieces.proofs.Comparing.{first_bad_append, some_from, there_or_not}
 
@@ -18,20 +18,20 @@ some_held r zero tells holds = let never : r ≡ true = tells.1 refl in cc
 some_held r (suc k) tells holds = omega arith
 
 -- nothing runs after a bad cut, so a running cut comes before one
-pub no_bad : (f : V1Feed) (pieces : List (List ℕ)) (n : ℕ) (content : List ℕ) → IsAt f pieces n content → 0 < f.cutter.filled → f.bad ≡ None
+pub no_bad : (f : V1Feed) (pieces : List (List ℕ)) (n : ℕ) (content : List ℕ) → IsFeedAt f pieces n content → 0 < f.cutter.filled → f.bad ≡ None
 no_bad f pieces n content at some = elim (there_or_not f.bad) [
   | inl none ↦ none
   | inr bad ↦ absurd (omega (arith, at.stopped (λ none. none-some bad.0 (sym none ∙ bad.1))))
 ]
 
 -- the content ends where the running cut does
-pub ends : (f : V1Feed) (pieces : List (List ℕ)) (n : ℕ) (content : List ℕ) → IsAt f pieces n content → f.bad ≡ None → length content ≡ n * f.cut + f.cutter.filled
+pub ends : (f : V1Feed) (pieces : List (List ℕ)) (n : ℕ) (content : List ℕ) → IsFeedAt f pieces n content → f.bad ≡ None → length content ≡ n * f.cut + f.cutter.filled
 ends f pieces n content at good = omega (arith, at.whole, (at.running good).length_is, length-drop (n * f.cut) content)
 
 -- the running cut was full, and is closed
-pub at_closed : (f g : V1Feed) (pieces : List (List ℕ)) (n : ℕ) (content : List ℕ) → IsAt f pieces n content → 0 < f.cutter.filled → f.cutter.filled ≡ f.cutter.piece_length
+pub at_closed : (f g : V1Feed) (pieces : List (List ℕ)) (n : ℕ) (content : List ℕ) → IsFeedAt f pieces n content → 0 < f.cutter.filled → f.cutter.filled ≡ f.cutter.piece_length
     → g.given ≡ f.given → g.pieces ≡ f.pieces → g.cutter.piece_length ≡ f.cutter.piece_length → g.cut ≡ f.cut + 1 → g.cutter.filled ≡ 0 → IsCutting g.cutter []
-    → IsFirstBad n pieces content g.cut g.bad → IsAt g pieces n content
+    → IsFirstBad n pieces content g.cut g.bad → IsFeedAt g pieces n content
 at_closed f g pieces n content at some full same_given same_pieces same_length next empty cutting bad =
     let count : n * g.cut ≡ n * f.cut + n = ap (λ k. n * k) next ∙ omega arith in
     let all : length content ≡ n * g.cut = omega (arith, ends f pieces n content at (no_bad f pieces n content at some), at.piece_length_is) in
@@ -47,16 +47,16 @@ at_closed f g pieces n content at some full same_given same_pieces same_length n
     }
 
 -- what is known of the cuts before stays known, as more comes
-bad_more : (f g : V1Feed) (pieces : List (List ℕ)) (n : ℕ) (content part : List ℕ) → IsAt f pieces n content → g.cut ≡ f.cut → g.bad ≡ f.bad
+bad_more : (f g : V1Feed) (pieces : List (List ℕ)) (n : ℕ) (content part : List ℕ) → IsFeedAt f pieces n content → g.cut ≡ f.cut → g.bad ≡ f.bad
     → IsFirstBad n pieces (content ++ part) g.cut g.bad
 bad_more f g pieces n content part at same_cut same_bad =
     subst (λ k. IsFirstBad n pieces (content ++ part) k g.bad) (sym same_cut)
     (subst (IsFirstBad n pieces (content ++ part) f.cut) (sym same_bad) (first_bad_append n pieces content part f.cut f.bad at.whole at.bad_is))
 
 -- some bytes go into the running cut
-pub fed_more : (f g : V1Feed) (pieces : List (List ℕ)) (n : ℕ) (content part : List ℕ) → IsAt f pieces n content → f.bad ≡ None → 0 < length part
+pub fed_more : (f g : V1Feed) (pieces : List (List ℕ)) (n : ℕ) (content part : List ℕ) → IsFeedAt f pieces n content → f.bad ≡ None → 0 < length part
     → g.given ≡ f.given + length part → g.pieces ≡ f.pieces → g.cutter.piece_length ≡ f.cutter.piece_length → g.cut ≡ f.cut → g.bad ≡ f.bad
-    → g.cutter.filled ≡ f.cutter.filled + length part → IsCutting g.cutter (drop (n * f.cut) content ++ part) → IsFed g pieces n (content ++ part)
+    → g.cutter.filled ≡ f.cutter.filled + length part → IsCutting g.cutter (drop (n * f.cut) content ++ part) → IsFeedGiven g pieces n (content ++ part)
 fed_more f g pieces n content part at good some more same_pieces same_length same_cut same_bad filled cutting =
     let count : n * g.cut ≡ n * f.cut = ap (λ k. n * k) same_cut in
     let rest : drop (n * f.cut) content ++ part ≡ drop (n * g.cut) (content ++ part) =
@@ -75,8 +75,8 @@ fed_more f g pieces n content part at good some more same_pieces same_length sam
     }
 
 -- some bytes are counted, after a bad cut
-pub fed_skipped : (f g : V1Feed) (pieces : List (List ℕ)) (n : ℕ) (content more : List ℕ) → IsAt f pieces n content → is_some f.bad ≡ true
-    → g.given ≡ f.given + length more → g.pieces ≡ f.pieces → g.cutter ≡ f.cutter → g.cut ≡ f.cut → g.bad ≡ f.bad → IsFed g pieces n (content ++ more)
+pub fed_skipped : (f g : V1Feed) (pieces : List (List ℕ)) (n : ℕ) (content more : List ℕ) → IsFeedAt f pieces n content → is_some f.bad ≡ true
+    → g.given ≡ f.given + length more → g.pieces ≡ f.pieces → g.cutter ≡ f.cutter → g.cut ≡ f.cut → g.bad ≡ f.bad → IsFeedGiven g pieces n (content ++ more)
 fed_skipped f g pieces n content more at bad counted same_pieces same_cutter same_cut same_bad =
     let count : n * g.cut ≡ n * f.cut = ap (λ k. n * k) same_cut in
     let no : g.bad ≡ None → ⊥ = λ none. some_from f.bad bad (sym same_bad ∙ none) in
@@ -94,13 +94,13 @@ fed_skipped f g pieces n content more at bad counted same_pieces same_cutter sam
     }
 
 -- the digest of the running cut
-pub digest_of_last : (f : V1Feed) (pieces : List (List ℕ)) (n : ℕ) (content digest : List ℕ) → IsAt f pieces n content → f.bad ≡ None → f.cutter.filled ≤ f.cutter.piece_length
+pub digest_of_last : (f : V1Feed) (pieces : List (List ℕ)) (n : ℕ) (content digest : List ℕ) → IsFeedAt f pieces n content → f.bad ≡ None → f.cutter.filled ≤ f.cutter.piece_length
     → digest ≡ sha1 (drop (n * f.cut) content) → digest ≡ sha1 (cut n content f.cut)
 digest_of_last f pieces n content digest at good bound is =
     is ∙ ap sha1 (sym (last_cut n content f.cut (omega (arith, ends f pieces n content at good, at.piece_length_is))))
 
 -- every cut is closed, once the running one is
-pub all_closed : (f : V1Feed) (pieces : List (List ℕ)) (n : ℕ) (content : List ℕ) → IsAt f pieces n content → 0 < f.cutter.filled → f.cutter.filled ≤ f.cutter.piece_length
+pub all_closed : (f : V1Feed) (pieces : List (List ℕ)) (n : ℕ) (content : List ℕ) → IsFeedAt f pieces n content → 0 < f.cutter.filled → f.cutter.filled ≤ f.cutter.piece_length
     → f.cut + 1 ≡ pieces_of n (length content)
 all_closed f pieces n content at some bound =
     sym (ap (pieces_of n) (ends f pieces n content at (no_bad f pieces n content at some)) ∙ cut_count_is n f.cut f.cutter.filled some (omega (arith, at.piece_length_is)))
@@ -115,7 +115,7 @@ zero_factor (suc n) (suc c) pos h = absurd (omega arith)
 zero_factor zero (suc c) pos h = absurd (omega arith)
 
 -- there is none where nothing was given
-none_open : (f : V1Feed) (pieces : List (List ℕ)) (n : ℕ) (content : List ℕ) → IsFed f pieces n content → f.bad ≡ None → f.cutter.filled ≡ 0 → 0 < f.cutter.piece_length
+none_open : (f : V1Feed) (pieces : List (List ℕ)) (n : ℕ) (content : List ℕ) → IsFeedGiven f pieces n content → f.bad ≡ None → f.cutter.filled ≡ 0 → 0 < f.cutter.piece_length
     → f.cut ≡ pieces_of n (length content)
 none_open f pieces n content fed good empty some =
     let pos : 0 < n = omega (arith, fed.at.piece_length_is) in
@@ -129,7 +129,7 @@ pub record IsWhole (f : V1Feed) (pieces : List (List ℕ)) (n : ℕ) (content : 
   pub all : f.bad ≡ None → f.cut ≡ pieces_of n (length content)
   pub bad_is : IsFirstBad n pieces content f.cut f.bad
 
-pub whole_closed : (f g : V1Feed) (pieces : List (List ℕ)) (n : ℕ) (content : List ℕ) → IsFed f pieces n content → 0 < f.cutter.filled → f.cutter.filled ≤ f.cutter.piece_length
+pub whole_closed : (f g : V1Feed) (pieces : List (List ℕ)) (n : ℕ) (content : List ℕ) → IsFeedGiven f pieces n content → 0 < f.cutter.filled → f.cutter.filled ≤ f.cutter.piece_length
     → g.pieces ≡ f.pieces → g.cut ≡ f.cut + 1 → (f.bad ≡ None → IsFirstBad n pieces content g.cut g.bad) → IsWhole g pieces n content
 whole_closed f g pieces n content fed some bound same next bad =
     let all : g.cut ≡ pieces_of n (length content) = next ∙ all_closed f pieces n content fed.at some bound in
@@ -140,7 +140,7 @@ whole_closed f g pieces n content fed some bound same next bad =
       bad_is = bad (no_bad f pieces n content fed.at some);
     }
 
-pub whole_none : (f : V1Feed) (pieces : List (List ℕ)) (n : ℕ) (content : List ℕ) → IsFed f pieces n content → f.cutter.filled ≡ 0 → 0 < f.cutter.piece_length
+pub whole_none : (f : V1Feed) (pieces : List (List ℕ)) (n : ℕ) (content : List ℕ) → IsFeedGiven f pieces n content → f.cutter.filled ≡ 0 → 0 < f.cutter.piece_length
     → IsWhole f pieces n content
 whole_none f pieces n content fed empty some = record {
   pieces_are = fed.at.pieces_are;

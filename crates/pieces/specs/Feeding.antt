@@ -1,5 +1,5 @@
--- What a version 1 feed holds. Contracts of users cite `total`, `given` and `IsFed` alone, and need
--- nothing of how they are defined.
+-- What a version 1 feed holds. Contracts of users cite `total`, `given` and `IsFeedGiven` alone, and
+-- need nothing of how they are defined.
 use Rattle.std.specs.Prelude.{◌≡◌, ◌≢◌, ℕ, ◌*◌, ◌<◌, ◌≤◌, List, length, drop, slice_get, Option, Some, None}
 use Rattle.sha1.specs.Sha1.{sha1}
 use Rattle.pieces.specs.Cuts.{cut}
@@ -15,23 +15,23 @@ abbrev pub given : V1Feed → ℕ
 given f = f.given
 
 -- the digest of this cut of the content is the one that is listed for it
-abbrev pub IsListed : ℕ → List (List ℕ) → List ℕ → ℕ → Type 0
-IsListed piece_length pieces content k =
+abbrev pub IsCutListed : ℕ → List (List ℕ) → List ℕ → ℕ → Type 0
+IsCutListed piece_length pieces content k =
     slice_get pieces k ≡ Some (sha1 (cut piece_length content k))
 
 -- the first cut among the first n whose digest is not the one that is listed for it, if there is
 -- one
 pub record IsFirstBad (piece_length : ℕ) (pieces : List (List ℕ)) (content : List ℕ) (n : ℕ)
     (bad : Option ℕ) : Type 0 where
-  pub none : bad ≡ None → (k : ℕ) → k < n → IsListed piece_length pieces content k
-  pub before : (i : ℕ) → bad ≡ Some i → (k : ℕ) → k < i → IsListed piece_length pieces content k
+  pub none : bad ≡ None → (k : ℕ) → k < n → IsCutListed piece_length pieces content k
+  pub before : (i : ℕ) → bad ≡ Some i → (k : ℕ) → k < i → IsCutListed piece_length pieces content k
   pub within : (i : ℕ) → bad ≡ Some i → i < n
   pub differs : (i : ℕ) → bad ≡ Some i
       → slice_get pieces i ≢ Some (sha1 (cut piece_length content i))
 
 -- the feed compares with these pieces at this piece length, knows of all cuts before the running
 -- one, and holds that, unless one was bad
-pub record IsAt (f : V1Feed) (pieces : List (List ℕ)) (piece_length : ℕ) (content : List ℕ)
+pub record IsFeedAt (f : V1Feed) (pieces : List (List ℕ)) (piece_length : ℕ) (content : List ℕ)
     : Type 0 where
   pub given_is : length content ≡ f.given
   pub pieces_are : f.pieces.now ≡ pieces
@@ -42,7 +42,7 @@ pub record IsAt (f : V1Feed) (pieces : List (List ℕ)) (piece_length : ℕ) (co
   pub stopped : f.bad ≢ None → f.cutter.filled ≡ 0
 
 -- the feed compares with these pieces at this piece length, and was given this content
-pub record IsFed (f : V1Feed) (pieces : List (List ℕ)) (piece_length : ℕ) (content : List ℕ)
+pub record IsFeedGiven (f : V1Feed) (pieces : List (List ℕ)) (piece_length : ℕ) (content : List ℕ)
     : Type 0 where
-  pub at : IsAt f pieces piece_length content
+  pub at : IsFeedAt f pieces piece_length content
   pub started : f.bad ≡ None → 0 < length content → 0 < f.cutter.filled

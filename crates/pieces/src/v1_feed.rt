@@ -25,14 +25,15 @@ pub struct V1Feed<'a> {
 
 impl<'a> V1Feed<'a> {
     ghost use Rattle.pieces.specs.Cutting.{IsCutting};
-    ghost use Rattle.pieces.specs.Feeding.{IsAt, IsFed, IsFirstBad, given, total};
+    ghost use Rattle.pieces.specs.Feeding.{IsFeedAt, IsFeedGiven, IsFirstBad, given, total};
 
-    /// A feed that was given nothing, for a stream of the length that the hybrid states.
+    /// A feed that was given nothing, for a stream of the length that the hybrid states, in pieces of
+    /// a length above 0.
     pub fn new(v: &V1<'a>, piece_length: u64) -> V1Feed<'a>
         requires { 0 < piece_length }
         ensures total { total result ≡ v.now.total }
         ensures given { given result ≡ 0 }
-        ensures content { IsFed result v.now.pieces.now piece_length [] }
+        ensures content { IsFeedGiven result v.now.pieces.now piece_length [] }
     {
         V1Feed {
             pieces: v.pieces,
@@ -57,7 +58,7 @@ impl<'a> V1Feed<'a> {
         ensures value { result ≡ given self.now }
         ensures bound { result ≤ total self.now }
         ensures content { (pieces : List (List ℕ)) (piece_length : ℕ) (content : List ℕ)
-            → IsFed self.now pieces piece_length content → result ≡ length content }
+            → IsFeedGiven self.now pieces piece_length content → result ≡ length content }
     {
         self.given
     }
@@ -68,8 +69,8 @@ impl<'a> V1Feed<'a> {
         ensures total { total self.new ≡ total self.old }
         ensures given { given self.new ≡ given self.old + length bytes.now }
         ensures content { (pieces : List (List ℕ)) (piece_length : ℕ) (content : List ℕ)
-            → IsFed self.old pieces piece_length content
-            → IsFed self.new pieces piece_length (content ++ bytes.now) }
+            → IsFeedGiven self.old pieces piece_length content
+            → IsFeedGiven self.new pieces piece_length (content ++ bytes.now) }
     {
         let mut start = 0;
         'parts: while start < bytes.len() {
@@ -83,8 +84,8 @@ impl<'a> V1Feed<'a> {
         ensures total { total self.new ≡ total self.old }
         ensures given { given self.new ≡ given self.old + n }
         ensures content { (pieces : List (List ℕ)) (piece_length : ℕ) (content : List ℕ)
-            → IsFed self.old pieces piece_length content
-            → IsFed self.new pieces piece_length (content ++ replicate n 0) }
+            → IsFeedGiven self.old pieces piece_length content
+            → IsFeedGiven self.new pieces piece_length (content ++ replicate n 0) }
     {
         let zeros = [0u8; ZEROS];
         let mut done = 0;
@@ -102,7 +103,7 @@ impl<'a> V1Feed<'a> {
     /// cuts are `pieces`.
     pub fn finish(mut self) -> Option<u64>
         ensures { (pieces : List (List ℕ)) (piece_length : ℕ) (content : List ℕ)
-            → IsFed self.entry pieces piece_length content
+            → IsFeedGiven self.entry pieces piece_length content
             → IsComparison (cut_digests piece_length content) pieces result }
     {
         if !self.cutter.is_empty() {
@@ -123,8 +124,8 @@ impl<'a> V1Feed<'a> {
         ensures total { total self.new ≡ total self.old }
         ensures given { given self.new ≡ given self.old + result }
         ensures content { (pieces : List (List ℕ)) (piece_length : ℕ) (content : List ℕ)
-            → IsFed self.old pieces piece_length content
-            → IsFed self.new pieces piece_length (content ++ take result bytes.now) }
+            → IsFeedGiven self.old pieces piece_length content
+            → IsFeedGiven self.new pieces piece_length (content ++ take result bytes.now) }
     {
         self.make_room();
         if self.bad.is_some() {
@@ -140,8 +141,8 @@ impl<'a> V1Feed<'a> {
         ensures given { given self.new ≡ given self.old }
         ensures open { self.new.cutter.filled < self.new.cutter.piece_length }
         ensures content { (pieces : List (List ℕ)) (piece_length : ℕ) (content : List ℕ)
-            → IsFed self.old pieces piece_length content
-            → IsAt self.new pieces piece_length content }
+            → IsFeedGiven self.old pieces piece_length content
+            → IsFeedAt self.new pieces piece_length content }
     {
         if self.cutter.is_full() {
             self.close_cut();
@@ -158,8 +159,8 @@ impl<'a> V1Feed<'a> {
         ensures total { total self.new ≡ total self.old }
         ensures given { given self.new ≡ given self.old + result }
         ensures content { (pieces : List (List ℕ)) (piece_length : ℕ) (content : List ℕ)
-            → IsAt self.old pieces piece_length content → self.old.bad ≡ None
-            → IsFed self.new pieces piece_length (content ++ take result bytes.now) }
+            → IsFeedAt self.old pieces piece_length content → self.old.bad ≡ None
+            → IsFeedGiven self.new pieces piece_length (content ++ take result bytes.now) }
     {
         let taken = self.cutter.take(bytes);
         self.given += taken as u64;
@@ -173,8 +174,8 @@ impl<'a> V1Feed<'a> {
         ensures total { total self.new ≡ total self.old }
         ensures given { given self.new ≡ given self.old + n }
         ensures content { (pieces : List (List ℕ)) (piece_length : ℕ) (content more : List ℕ)
-            → IsAt self.old pieces piece_length content → length more ≡ n
-            → IsFed self.new pieces piece_length (content ++ more) }
+            → IsFeedAt self.old pieces piece_length content → length more ≡ n
+            → IsFeedGiven self.new pieces piece_length (content ++ more) }
     {
         self.given += n;
     }
@@ -190,7 +191,7 @@ impl<'a> V1Feed<'a> {
         ensures running { IsCutting self.new.cutter [] }
         ensures pieces { self.new.pieces ≡ self.old.pieces }
         ensures bad { (pieces : List (List ℕ)) (piece_length : ℕ) (content : List ℕ)
-            → IsAt self.old pieces piece_length content → self.old.bad ≡ None
+            → IsFeedAt self.old pieces piece_length content → self.old.bad ≡ None
             → IsFirstBad piece_length pieces content self.new.cut self.new.bad }
     {
         let digest = self.cutter.close();

@@ -7,7 +7,7 @@ use Rattle.hashtree.specs.Tree.{layer_of, root_of}
 use Rattle.metainfo.specs.Description.{TreeEntry}
 use Rattle.node_maps.specs.Digest.{Hash}
 use Rattle.std.proofs.lemmas.Option.{same_Some}
-use Rattle.folders.specs.Folder.{Fits}
+use Rattle.folders.specs.Folder.{FitsTree}
 use Rattle.folders.specs.Shelf.{IsFound, more}
 use Rattle.folders.specs.Verdicts.{Agrees}
 use Rattle.seeding.specs.Seeding.{Finds}
@@ -91,4 +91,4 @@ pub finds_read : (told : Option (Option (List ℕ))) (left : Option (List ℕ)) 
 finds_read told left e (Some leaves) old mid new own own' at (bytes, is, fits, are) same fresh quiet counted =
     (0, counted ∙ ap (more mid) (quiet ∙ fresh) ∙ same, (refl, bytes, agrees_read told left bytes at is, fits, are))
 finds_read told left e None old mid new own own' at (bytes, is, not) same fresh quiet counted =
-    (0, counted ∙ ap (more mid) (quiet ∙ fresh) ∙ same, inr (refl, Some bytes, agrees_read told left bytes at is, λ b known fits. not (subst (Fits e) (sym (same_Some bytes b known)) fits)))
+    (0, counted ∙ ap (more mid) (quiet ∙ fresh) ∙ same, inr (refl, Some bytes, agrees_read told left bytes at is, λ b known fits. not (subst (FitsTree e) (sym (same_Some bytes b known)) fits)))

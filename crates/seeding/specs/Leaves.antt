@@ -5,7 +5,7 @@ use Rattle.hashtree.specs.LayerBuilder.{FeedsLayer, HasRefused, byte_count, chos
 use Rattle.hashtree.specs.Tree.{layer_of}
 use Rattle.metainfo.specs.Description.{TreeEntry}
 use Rattle.node_maps.specs.Digest.{Hash}
-use Rattle.folders.specs.Folder.{Fits}
+use Rattle.folders.specs.Folder.{FitsTree}
 use Rattle.seeding.specs.declared.leaves.Leaves.{Leaves}
 use Rattle.seeding.specs.declared.leaves.ReadFault.{ReadFault}
 use Rattle.seeding.specs.declared.leaves.ReadFault.TheVariants as fault
@@ -32,8 +32,8 @@ Told left bytes = (file : List ℕ) → left ≡ Some file → file ≡ bytes
 -- tree, and else nothing
 abbrev pub ReadsLeaves : TreeEntry → Option (List ℕ) → Option (List Hash) → Type 0
 ReadsLeaves e left (Some leaves) =
-    (bytes : List ℕ) × Told left bytes × Fits e bytes × (leaves ≡ layer_of bytes 0)
-ReadsLeaves e left None = (bytes : List ℕ) × Told left bytes × ¬ Fits e bytes
+    (bytes : List ℕ) × Told left bytes × FitsTree e bytes × (leaves ≡ layer_of bytes 0)
+ReadsLeaves e left None = (bytes : List ℕ) × Told left bytes × ¬ FitsTree e bytes
 
 -- the count of the source's faults grows by one if it failed, and else stays
 abbrev pub CountsReading : {A : Type 0} → ℕ → ℕ → Result A ReadFault → Type 0

@@ -8,7 +8,7 @@ use Rattle.hashtree.specs.Tree.{layer_of}
 use Rattle.lines.specs.Text.{path_text}
 use Rattle.metainfo.specs.Description.{FileEntry, TreeEntry}
 use Rattle.node_maps.specs.Digest.{Hash}
-use Rattle.folders.specs.Folder.{Fits}
+use Rattle.folders.specs.Folder.{FitsTree}
 use Rattle.folders.specs.Shelf.{more}
 use Rattle.folders.specs.TakeAll.{IsReadWithin}
 use Rattle.folders.specs.Verdicts.{Agrees}
@@ -42,13 +42,13 @@ pub record OpensOnce {S F : Type 0}
 
 -- what stands at a path does not fit the tree: nothing, or other bytes
 abbrev pub DoesNotFit : TreeEntry → Option (List ℕ) → Type 0
-DoesNotFit e content = (bytes : List ℕ) → content ≡ Some bytes → ¬ Fits e bytes
+DoesNotFit e content = (bytes : List ℕ) → content ≡ Some bytes → ¬ FitsTree e bytes
 
 -- What was found at a path of which the shelf tells this, with so many faults: the leaves of a
 -- content that fits the tree; or a content that does not, or a fault.
 abbrev pub Finds : Option (Option (List ℕ)) → TreeEntry → Option (List Hash) → ℕ → Type 0
 Finds told e (Some leaves) faults = (faults ≡ 0) × (bytes : List ℕ) × Agrees told (Some bytes)
-    × Fits e bytes × (leaves ≡ layer_of bytes 0)
+    × FitsTree e bytes × (leaves ≡ layer_of bytes 0)
 Finds told e None faults = (faults ≡ 1)
     ⊎ ((faults ≡ 0) × (content : Option (List ℕ)) × Agrees told content × DoesNotFit e content)
 

@@ -148,7 +148,7 @@ fn find_leaves<S: Shelf>(
     ensures no_memory { OnErr result (S.faults shelf.new ≡ S.faults shelf.old) }
     ensures kept { (p : List (List ℕ)) → S.under shelf.new p ≡ S.under shelf.old p }
 {
-    match shelf.open(file.path.parts()) {
+    match shelf.open(&file.path.parts()) {
         Ok(Some(mut source)) => {
             let read = read_leaves(alloc, &mut source, tree);
             shelf.close(source);
@@ -188,7 +188,7 @@ fn write_line_of<W: Sink>(out: &mut W, file: &File<'_>, seeded: bool) -> Result<
         (seed_line (file_entry file.now) seeded) }
 {
     write_all(out, words(seeded))?;
-    write_path(out, file.path.parts())?;
+    write_path(out, &file.path.parts())?;
     write_all(out, b"\n")
 }
 

@@ -1,5 +1,5 @@
 -- A list of refusals in an array that holds nothing behind it.
-use Rattle.std.proofs.Common.{◌≡◌, ℕ, suc, ◌+◌, ◌-◌, ◌<◌, ◌≤◌, List, [], ◌∷◌, ◌++◌, length, take, set, replicate, Option, None, sym, ap, ap₂, ◌∙◌, arith, length-append, length-set}
+use Rattle.std.proofs.Common.{◌≡◌, ℕ, suc, ◌+◌, ◌-◌, ◌<◌, List, [], ◌∷◌, ◌++◌, length, take, set, replicate, Option, None, sym, ap, ap₂, ◌∙◌, arith, length-append, length-set}
 use Rattle.std.proofs.Math.Seq.{set-append_seam, take-suc-set}
 use Rattle.std.proofs.lemmas.List.{append_assoc}
 use Rattle.partial_tree.specs.declared.refusal.BlockRefusal.{BlockRefusal}

@@ -14,12 +14,12 @@ use Rattle.session.specs.declared.verdict.Verdict.{Verdict}
 use Rattle.session.specs.declared.verdict.Verdict.TheVariants as verdict
 use Rattle.session.specs.Blocks.{BlocksSeen, Cut, cuts}
 use Rattle.partial_tree.specs.TreeRoot.{TreeRoot}
-use Rattle.session.specs.Asks.{Asks}
-use Rattle.session.specs.Session.{SessionSeen, TreeState, IsTree, IsGood, IsAsked, IsAnswered, IsStored, IsHashRefused, IsInFile, IsPlaced, IsMarkedBlock, IsUnmarkedBlock, BlockStep, AreTaken, AreRefused, Step}
+use Rattle.session.specs.Asks.{AskSet}
+use Rattle.session.specs.Session.{SessionSeen, TreeState, IsTree, IsGood, IsAsked, IsAnswered, IsStored, IsHashRefused, IsInFile, BlockStep, AreTaken, AreRefused, Step}
 use Rattle.session.specs.NotedLaws.{asking}
 use Rattle.session.specs.SafeStep.{KeepsKnown}
 
-abbrev pub asked_asking : (o : Asks) (S : SessionSeen) (ask : Ask) → IsAsked S ask → IsAsked (asking o S) ask
+abbrev pub asked_asking : (o : AskSet) (S : SessionSeen) (ask : Ask) → IsAsked S ask → IsAsked (asking o S) ask
 asked_asking o S ask a = record {
   number = a.number;
   tree = a.tree;
@@ -28,10 +28,10 @@ asked_asking o S ask a = record {
   has_root = a.has_root;
 }
 
-answered_asking : (o : Asks) (S : SessionSeen) (ask : Ask) → IsAnswered S ask → IsAnswered (asking o S) ask
+answered_asking : (o : AskSet) (S : SessionSeen) (ask : Ask) → IsAnswered S ask → IsAnswered (asking o S) ask
 answered_asking o S ask (a, can) = (asked_asking o S ask a, can)
 
-module _ (o : Asks) where
+module _ (o : AskSet) where
   pub tree_asking : (S : SessionSeen) (n : ℕ) (tree : TreeRoot) (s : TreeState) → IsTree S n tree s → IsTree (asking o S) n tree s
   tree_asking S n tree s at = record { tree_is = at.tree_is; state_is = at.state_is }
 

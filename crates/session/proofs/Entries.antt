@@ -1,5 +1,5 @@
 -- The blocks of a piece message, one after the other: what each keeps, and what it says.
-use Rattle.std.proofs.Common.{◌≡◌, ◌≢◌, ◌⊎◌, ℕ, zero, suc, ◌+◌, ◌-◌, ◌*◌, ◌<◌, ◌≤◌, min, true, List, [], ◌∷◌, ◌++◌, length, set, get_or, Option, Some, None, inl, inr, refl, sym, ap, ap₂, ◌∙◌, subst, subst₂, arith, length-append}
+use Rattle.std.proofs.Common.{◌≡◌, ◌≢◌, ◌⊎◌, ℕ, zero, suc, ◌+◌, ◌-◌, ◌*◌, ◌<◌, min, true, List, [], ◌∷◌, ◌++◌, length, get_or, Option, Some, None, inl, inr, refl, sym, ap, ap₂, ◌∙◌, subst, subst₂, arith, length-append}
 use Rattle.std.specs.Prelude.{slice_get}
 use Rattle.std.specs.FinSet as leaves
 use Rattle.std.proofs.lemmas.Option.{same_Some, none-some, slice_get_within, slice_get-get_or}
@@ -8,7 +8,6 @@ use Rattle.std.proofs.lemmas.List.{length-set, get_or_append_left}
 use Rattle.std.proofs.Math.Seq.{get_or-append_seam}
 use Rattle.sha2.specs.Sha256.{sha256}
 use Rattle.hashtree.specs.Tree.{block, block_count}
-use Rattle.node_maps.specs.Digest.{Hash}
 use Rattle.node_maps.specs.Known.{Known, look}
 use Rattle.node_maps.specs.Places.{IsKnown}
 use Rattle.partial_tree.specs.TreeRoot.{TreeRoot, Fits}
@@ -101,7 +100,7 @@ Says tree K c (Some r) = TreeRefusesBlock tree.length (look K) c.number c.bytes 
 
 -- a file has one tree
 module _ (S : SessionSeen) (file b : ℕ) (n : ℕ) (tree : TreeRoot) (s : TreeState) (of' : tree_of S file ≡ Some n) (at : IsTree S n tree s) (p : IsInFile S file b) where
-  same_number : p.tree_number ≡ n
+  pub same_number : p.tree_number ≡ n
   same_number = same_Some p.tree_number n (sym p.of_file ∙ of')
 
   pub same_tree : p.tree ≡ tree

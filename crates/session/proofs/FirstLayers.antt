@@ -11,7 +11,7 @@ use Rattle.metainfo.specs.Sound.{IsSoundTree}
 use Rattle.metainfo.proofs.Layering.{piece_is, layer_is, layer_within, whole_layer}
 use Rattle.node_maps.specs.Digest.{Hash}
 use Rattle.partial_tree.specs.TreeRoot.{TreeRoot}
-use Rattle.node_maps.specs.Places.{tree_height, PartialTree, IsPlace}
+use Rattle.node_maps.specs.Places.{tree_height, PartialTree, IsTreePlace}
 use Rattle.partial_tree.specs.Claims.{joined, IsAgreed}
 use Rattle.partial_tree.specs.Fill.{fill_claims, pad_from, IsFillAccepted}
 use Rattle.node_maps.specs.Known.{look}
@@ -47,7 +47,7 @@ module _ (t : TreeRoot) (K : PartialTree) (l : ℕ) (hashes : List Hash) (layer_
     ];
   }
     where
-      at_root : (k i : ℕ) (v : Hash) → K k i ≡ Some v → (l ≤ k) × IsPlace (tree_height t.length) k i
+      at_root : (k i : ℕ) (v : Hash) → K k i ≡ Some v → (l ≤ k) × IsTreePlace (tree_height t.length) k i
       at_root k i v p =
           let at = alone.no_more k i v p in
           let none : tree_height t.length - k ≡ 0 = omega (arith, at.0) in

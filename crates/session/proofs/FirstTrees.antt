@@ -18,7 +18,7 @@ use Rattle.node_maps.specs.Places.{tree_height}
 use Rattle.partial_tree.specs.Closed.{IsClosed}
 use Rattle.node_maps.specs.Known.{Known, look, place_cmp}
 use Rattle.partial_tree.specs.Kept.{KeptTree, info_of, root_alone}
-use Rattle.session.specs.Asks.{Asks}
+use Rattle.session.specs.Asks.{AskSet}
 use Rattle.session.specs.Layouts.{root_of_entry, seen, state_of, AreKept}
 use Rattle.session.specs.Fresh.{KnowsRoot, IsFirstKnown, IsFresh, IsPlanted}
 use Rattle.node_maps.proofs.Known.{look-insert, look-insert_same}
@@ -139,7 +139,7 @@ module _ (d : Description) (sound : IsSound d) (infos : List TreeInfo) (are : ma
     good = λ k x inside. (planted k nothing x inside).good;
   }
 
-  pub fresh : (w : Bool) (ts : List KeptTree) (o : Asks) → o ≡ leaves.empty → AreKept d ts → ArePlanted d.piece_length w d.trees ts → IsFresh d w (seen d o ts)
+  pub fresh : (w : Bool) (ts : List KeptTree) (o : AskSet) → o ≡ leaves.empty → AreKept d ts → ArePlanted d.piece_length w d.trees ts → IsFresh d w (seen d o ts)
   fresh w ts o none kept planted = record {
     torrent = refl;
     count = length-map ts state_of ∙ sym (length-map ts info_of) ∙ ap length kept.same ∙ length-map d.trees root_of_entry;

@@ -16,3 +16,4 @@ pub mod Asking
 pub mod NotedSteps
 pub mod NotedRounds
 pub mod Replayed
+pub mod OneRun

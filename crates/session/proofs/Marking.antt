@@ -1,10 +1,9 @@
 -- The blocks of a message, as a loop comes to them.
-use Rattle.std.proofs.Common.{◌≡◌, ℕ, zero, suc, ◌+◌, ◌*◌, ◌^◌, ◌<◌, ◌≤◌, List, [], ◌∷◌, ◌++◌, length, Option, Some, None, Result, Ok, Err, IfOk, IfErr, refl, sym, ap, ◌∙◌, subst, arith, add-one}
-use Rattle.std.specs.Prelude.{slice_get}
+use Rattle.std.proofs.Common.{◌≡◌, ℕ, zero, suc, ◌+◌, ◌*◌, ◌^◌, ◌<◌, ◌≤◌, List, [], ◌∷◌, ◌++◌, Option, Some, None, Result, Ok, Err, IfOk, IfErr, refl, subst, arith}
 use Rattle.std.specs.Result.{result_err}
 use Rattle.hashtree.specs.Tree.{block, block_count}
 use Rattle.metainfo.specs.Blocks.{block_size, IsBlockRun}
-use Rattle.metainfo.specs.Description.{Description, FileEntry}
+use Rattle.metainfo.specs.Description.{Description}
 use Rattle.metainfo.specs.Sound.{IsSound}
 use Rattle.metainfo.proofs.Blocks.{last_of_run}
 use Rattle.partial_tree.specs.declared.refusal.BlockRefusal.{BlockRefusal}

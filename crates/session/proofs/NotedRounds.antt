@@ -1,5 +1,5 @@
 -- Rounds of a session that notes what it asks for.
-use Rattle.std.proofs.Common.{◌≡◌, ◌≢◌, ◌⊎◌, ℕ, zero, suc, ◌+◌, ◌*◌, ◌/◌, ◌<◌, ◌≤◌, Bool, true, false, List, [], ◌∷◌, ◌++◌, length, take, get_or, add-one, Option, Some, None, inl, inr, refl, sym, ap, ◌∙◌, subst, Bor}
+use Rattle.std.proofs.Common.{◌≡◌, ◌≢◌, ◌⊎◌, ℕ, zero, suc, ◌+◌, ◌*◌, ◌/◌, ◌<◌, ◌≤◌, List, [], ◌∷◌, ◌++◌, length, take, get_or, add-one, Some, inl, inr, refl, sym, ap, ◌∙◌, subst, Bor}
 use Rattle.std.specs.Prelude.{slice_get}
 use Rattle.std.specs.List.{All}
 use Rattle.std.specs.FinSet as set
@@ -23,22 +23,20 @@ use Rattle.partial_tree.specs.Closed.{whole}
 use Rattle.partial_tree.specs.Claims.{IsAccepted, answer_of}
 use Rattle.partial_tree.specs.Gaps.{window, want_ask, want_of}
 use Rattle.node_maps.specs.Known.{look}
-use Rattle.metainfo.specs.Description.{Description}
 use Rattle.chains.specs.Chain.{Chain}
 use Rattle.chains.proofs.Chains.{LastStep, last_step}
-use Rattle.session.specs.Layouts.{root_of_entry}
 use Rattle.session.specs.Session.{SessionSeen, TreeState, IsTree, IsGood, HasDistinctRoots, HasFewerGaps, Step}
-use Rattle.session.specs.Rounds.{HasNoMoreGaps, LacksMemoryAtLast, Collides}
-use Rattle.session.specs.Noted.{IsOpen, StepOut, NotedStep, IsBaseKnown, KeepsOpen}
-use Rattle.session.specs.NotedRounds.{HasDirectedHashes, IsAskedAt, IsAskedFor, IsNotedRound, LacksMemoryToNote, NotedRoundLeavesFewer}
+use Rattle.session.specs.Rounds.{HasNoMoreGaps, Collides}
+use Rattle.session.specs.Noted.{IsOpenAsk, StepOut, NotedStep, KeepsOpen}
+use Rattle.session.specs.NotedRounds.{HasDirectedHashes, IsAskedAt, IsAskedFor, LacksMemoryToNote, NotedRoundLeavesFewer}
 use Rattle.partial_tree.proofs.Wanted.{gaps-fall, gaps-fewer, true_answer-accepted}
 use Rattle.session.proofs.OpenAsks.{opened_contains}
 use Rattle.session.specs.NotedLaws.{asking}
 use Rattle.session.proofs.Asking.{tree_asking}
-use Rattle.session.proofs.Runs.{Learns, step-learns, unchanged, step-torrent}
+use Rattle.session.proofs.Runs.{Learns, step-learns, unchanged}
 use Rattle.session.proofs.Rounds.{asked-is, want-tall, answer-fewer}
 use Rattle.session.proofs.RoundRuns.{lacks_memory, lacks_memory-is, lacks_memory-not, collision-keeps, later-distinct, wanted-is}
-use Rattle.session.proofs.NotedSteps.{in_hashes, noted_effect, noted-torrent, noted-learns, noted-good, noted-open, noted-opens, learns-keeps, base_later}
+use Rattle.session.proofs.NotedSteps.{in_hashes, noted-torrent, noted-learns, noted-good, noted-open, noted-opens, learns-keeps, base_later}
 
 -- ---- whole runs
 
@@ -70,7 +68,7 @@ run-noted-gaps S ms vs S' run n tree s at =
     (learnt.later, learnt.later_is, gaps-fall tree.length (look s.known) (look learnt.later.known) learnt.keeps)
 
 pub run-noted-open : (S : SessionSeen) (ms : List (Directed Message)) (vs : List Verdict) (S' : SessionSeen) → Chain NotedStep S ms vs S' → KeepsOpen S S'
-run-noted-open S [] [] S' e ask was = inl (subst (λ U. IsOpen U ask) (sym e) was)
+run-noted-open S [] [] S' e ask was = inl (subst (λ U. IsOpenAsk U ask) (sym e) was)
 run-noted-open S [] (v ∷ vs) S' e ask was = absurd e
 run-noted-open S (m ∷ ms) [] S' e ask was = absurd e
 run-noted-open S (m ∷ ms) (v ∷ vs) S' (M, step, rest) ask was = elim (noted-open S m v M step ask was) [
@@ -89,7 +87,7 @@ run-noted-torrent S (m ∷ ms) (v ∷ vs) S' (M, step, rest) = run-noted-torrent
 pub noted_round : (S M N S' : SessionSeen) → HasDistinctRoots S → M.torrent ≡ S.torrent → (ns : List (Directed Message)) (ws : List Verdict) (n : ℕ) (tree : TreeRoot) (s : TreeState) (b : ℕ) (ask : Ask) (f : List ℕ)
     → IsGood S → IsGood M → ((n : ℕ) (tree : TreeRoot) (s : TreeState) → IsTree S n tree s → Learns S M n tree s) → All HasDirectedHashes ns
     → IsTree S n tree s → b < block_count tree.length → want_of tree (look s.known) b ≡ Some ask → Fits f tree
-    → IsOpen M ask → Chain NotedStep M ns ws N → (hashes : Bor (List Hash)) → hashes.now ≡ answer_of (tree_height tree.length) (whole f) ask
+    → IsOpenAsk M ask → Chain NotedStep M ns ws N → (hashes : Bor (List Hash)) → hashes.now ≡ answer_of (tree_height tree.length) (whole f) ask
     → (v : Verdict) → v ≢ verdict.HashRefused NoMemory → NotedStep N (In, message.Hashes ask hashes) v S' → HasFewerGaps S' n tree (look s.known) ⊎ Collides S' n f
 noted_round S M N S' distinct same_torrent ns ws n tree s b ask f good good_M learns all at inside wanted fits was run hashes is_answer v memory step =
     let (none, is) = wanted-is tree (look s.known) b ask wanted in
@@ -134,7 +132,7 @@ noted_round S M N S' distinct same_torrent ns ws n tree s b ask f good good_M le
 record NotedAt (S : SessionSeen) (ms : List (Directed Message)) (ask : Ask) (N : SessionSeen) : Type 0 where
   after : SessionSeen
   same_torrent : after.torrent ≡ S.torrent
-  is_open : IsOpen after ask
+  is_open : IsOpenAsk after ask
   good : IsGood after
   learns : (n : ℕ) (tree : TreeRoot) (s : TreeState) → IsTree S n tree s → Learns S after n tree s
   rest : List (Directed Message)
@@ -142,7 +140,7 @@ record NotedAt (S : SessionSeen) (ms : List (Directed Message)) (ask : Ask) (N :
   hashes : All HasDirectedHashes rest
   run : Chain NotedStep after rest verdicts N
 
-requested : (S : SessionSeen) (ask : Ask) (v : Verdict) (M : SessionSeen) → StepOut S (message.Request ask) v M → IsOpen M ask ⊎ (v ≡ verdict.HashRefused NoMemory)
+requested : (S : SessionSeen) (ask : Ask) (v : Verdict) (M : SessionSeen) → StepOut S (message.Request ask) v M → IsOpenAsk M ask ⊎ (v ≡ verdict.HashRefused NoMemory)
 requested S ask verdict.Noted M h = inl (ap (λ (U : SessionSeen). set.contains U.asks ask) h ∙ opened_contains S.asks ask)
 requested S ask (verdict.HashRefused NoMemory) M h = inr refl
 requested S ask v M h = absurd h
@@ -234,8 +232,8 @@ noted-round-fewer S distinct ms vs S' good all run n f r =
 
 -- ---- the laws
 
-pub incoming-opens : (S : SessionSeen) (ms : List Message) (vs : List Verdict) (S' : SessionSeen) → Chain (λ s m v s'. NotedStep s (In, m) v s') S ms vs S' → (ask : Ask) → IsOpen S' ask → IsOpen S ask
-incoming-opens S [] [] S' e ask now = subst (λ U. IsOpen U ask) e now
+pub incoming-opens : (S : SessionSeen) (ms : List Message) (vs : List Verdict) (S' : SessionSeen) → Chain (λ s m v s'. NotedStep s (In, m) v s') S ms vs S' → (ask : Ask) → IsOpenAsk S' ask → IsOpenAsk S ask
+incoming-opens S [] [] S' e ask now = subst (λ U. IsOpenAsk U ask) e now
 incoming-opens S [] (v ∷ vs) S' e ask now = absurd e
 incoming-opens S (m ∷ ms) [] S' e ask now = absurd e
 incoming-opens S (m ∷ ms) (v ∷ vs) S' (M, step, rest) ask now = noted-opens S (In, m) v M step ask (incoming-opens M ms vs S' rest ask now)
@@ -245,7 +243,7 @@ noted-keeps S ms vs S' good all run = (run-noted-good S ms vs S' good all run, r
 
 pub noted-round-law : (S M N S' : SessionSeen) → HasDistinctRoots S → (ms ns : List (Directed Message)) (vs ws : List Verdict) (n : ℕ) (tree : TreeRoot) (s : TreeState) (b : ℕ) (ask : Ask) (f : List ℕ)
     → IsGood S → All HasDirectedHashes ms → All HasDirectedHashes ns → IsTree S n tree s → b < block_count tree.length → want_of tree (look s.known) b ≡ Some ask → Fits f tree
-    → Chain NotedStep S ms vs M → IsOpen M ask → Chain NotedStep M ns ws N → (hashes : Bor (List Hash)) → hashes.now ≡ answer_of (tree_height tree.length) (whole f) ask
+    → Chain NotedStep S ms vs M → IsOpenAsk M ask → Chain NotedStep M ns ws N → (hashes : Bor (List Hash)) → hashes.now ≡ answer_of (tree_height tree.length) (whole f) ask
     → (v : Verdict) → v ≢ verdict.HashRefused NoMemory → NotedStep N (In, message.Hashes ask hashes) v S' → HasFewerGaps S' n tree (look s.known) ⊎ Collides S' n f
 noted-round-law S M N S' distinct ms ns vs ws n tree s b ask f good all_m all_n at inside wanted fits run was run' hashes is_answer v memory step =
     noted_round S M N S' distinct (run-noted-torrent S ms vs M run) ns ws n tree s b ask f good (run-noted-good S ms vs M good all_m run) (run-noted-learns S ms vs M run) all_n

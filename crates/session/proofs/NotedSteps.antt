@@ -1,9 +1,9 @@
 -- Steps of a session that notes what it asks for.
-use Rattle.std.proofs.Common.{◌≡◌, ◌≢◌, ◌⊎◌, ℕ, ◌+◌, ◌<◌, Bool, true, false, not, ◌&&◌, ◌||◌, List, [], ◌∷◌, Option, Some, None, inl, inr, refl, sym, ap, ap₂, ◌∙◌, subst, arith}
+use Rattle.std.proofs.Common.{◌≡◌, ℕ, ◌+◌, Bool, true, false, not, ◌&&◌, ◌||◌, List, [], ◌∷◌, Option, Some, None, inl, inr, refl, sym, ap, ap₂, ◌∙◌, subst, arith}
 use Rattle.std.specs.Prelude.{slice_get}
 use Rattle.std.specs.Ordering.{eq_by_cmp}
 use Rattle.std.specs.FinSet as set
-use Rattle.std.proofs.lemmas.Bool.{cases_Bool, false≢true, and_parts}
+use Rattle.std.proofs.lemmas.Bool.{cases_Bool, and_parts}
 use Rattle.wire.specs.declared.direction.Direction.TheVariants.{In, Out}
 use Rattle.wire.specs.declared.message.Ask.{Ask}
 use Rattle.wire.specs.declared.message.Message.{Message}
@@ -13,23 +13,22 @@ use Rattle.partial_tree.specs.declared.refusal.HashRefusal.{HashRefusal}
 use Rattle.partial_tree.specs.declared.refusal.HashRefusal.TheVariants.{NoMemory, Unasked}
 use Rattle.partial_tree.specs.declared.refusal.BlockRefusal.{BlockRefusal}
 use Rattle.node_maps.specs.Digest.{Hash}
-use Rattle.node_maps.specs.Places.{tree_height, IsKnown}
+use Rattle.node_maps.specs.Places.{tree_height}
 use Rattle.node_maps.specs.Known.{look}
 use Rattle.partial_tree.specs.TreeRoot.{TreeRoot}
-use Rattle.partial_tree.specs.Claims.{claims}
 use Rattle.partial_tree.proofs.Claimed.{first_of_two, second_of_two, there_or_not, base-claims}
 use Rattle.partial_tree.proofs.Powers.{spans-some}
 use Rattle.chains.specs.Chain.{Chain}
 use Rattle.session.specs.declared.verdict.Verdict.{Verdict}
 use Rattle.session.specs.declared.verdict.Verdict.TheVariants as verdict
-use Rattle.session.specs.Asks.{Asks, ask_cmp}
+use Rattle.session.specs.Asks.{AskSet, ask_cmp}
 use Rattle.session.specs.Blocks.{Cut}
 use Rattle.session.specs.Layouts.{roots}
-use Rattle.session.specs.Session.{SessionSeen, TreeState, IsTree, IsGood, IsAsked, IsStored, IsHashRefused, BlockStep, HasDistinctRoots, HasHashes, Step, IsTrueVerdict}
-use Rattle.session.specs.SafeStep.{KeepsKnown, TakesWhatIsTrue}
-use Rattle.session.specs.Noted.{IsOpen, opened, closed, IsAnswerStored, IsAnswerRefused, StepIn, StepOut, NotedStep, IsTrueNotedVerdict, TakesWhatIsTrueAndAsked, IsBaseKnown, OpensOnlyOurs, KeepsOpen, IsSafeNotedStep}
+use Rattle.session.specs.Session.{SessionSeen, TreeState, IsTree, IsGood, IsStored, IsHashRefused, BlockStep, HasDistinctRoots, HasHashes, Step}
+use Rattle.session.specs.SafeStep.{KeepsKnown}
+use Rattle.session.specs.Noted.{IsOpenAsk, without_ask, IsAnswerStored, IsAnswerRefused, StepIn, StepOut, NotedStep, IsTrueNotedVerdict, TakesWhatIsTrueAndAsked, IsBaseKnown, OpensOnlyOurs, KeepsOpen, IsSafeNotedStep}
 use Rattle.session.proofs.States.{set-write}
-use Rattle.session.proofs.OpenAsks.{ask_total, same_ask, opened_contains}
+use Rattle.session.proofs.OpenAsks.{ask_total, same_ask}
 use Rattle.session.specs.NotedLaws.{asking}
 use Rattle.session.proofs.Asking.{tree_asking, good_asking}
 use Rattle.session.proofs.Runs.{Effect, unchanged, stored, taken, effect, Learns, step-good, step-learns, effect-torrent, verdict-true}
@@ -65,15 +64,15 @@ answer-stored S ask hashes c S' h = record {
   known_after = h.stored.known_after;
   marks_stay = h.stored.marks_stay;
   gained = h.stored.gained;
-  state_after = ap (asking S.asks) (h.state_after ∙ ap (λ U. closed U ask) h.stored.state_after);
+  state_after = ap (asking S.asks) (h.state_after ∙ ap (λ U. without_ask U ask) h.stored.state_after);
 }
 
-pub answer-refused : (S : SessionSeen) (ask : Ask) (hashes : List Hash) (r : HashRefusal) → IsOpen S ask → IsAnswerRefused S ask hashes r → IsHashRefused S ask hashes r
+pub answer-refused : (S : SessionSeen) (ask : Ask) (hashes : List Hash) (r : HashRefusal) → IsOpenAsk S ask → IsAnswerRefused S ask hashes r → IsHashRefused S ask hashes r
 answer-refused S ask hashes Unasked was h = absurd (h was)
 answer-refused S ask hashes r was h = h.1
 
 -- an answer to an open ask is a step
-pub in_hashes : (S : SessionSeen) (ask : Ask) (hashes : _) (v : Verdict) (S' : SessionSeen) → IsOpen S ask → StepIn S (message.Hashes ask hashes) v S'
+pub in_hashes : (S : SessionSeen) (ask : Ask) (hashes : _) (v : Verdict) (S' : SessionSeen) → IsOpenAsk S ask → StepIn S (message.Hashes ask hashes) v S'
     → Step S (message.Hashes ask hashes) v (asking S.asks S')
 in_hashes S ask hashes (verdict.Stored c) S' was h = answer-stored S ask hashes.now c S' h
 in_hashes S ask hashes (verdict.HashRefused r) S' was h = (answer-refused S ask hashes.now r was h.0, ap (asking S.asks) h.1)
@@ -127,15 +126,15 @@ noted-takes S (Out, m) v S' good distinct h = tt
 
 -- ---- open asks
 
-same_open : (S S' : SessionSeen) (ask : Ask) → S'.asks ≡ S.asks → IsOpen S ask → IsOpen S' ask
-same_open S S' ask e was = ap (λ (o : Asks). set.contains o ask) e ∙ was
+same_open : (S S' : SessionSeen) (ask : Ask) → S'.asks ≡ S.asks → IsOpenAsk S ask → IsOpenAsk S' ask
+same_open S S' ask e was = ap (λ (o : AskSet). set.contains o ask) e ∙ was
 
 stored-asks : (S : SessionSeen) (ask : Ask) (hashes : List Hash) (c : ℕ) (S' : SessionSeen) → IsAnswerStored S ask hashes c S' → S'.asks ≡ set.remove S.asks ask
-stored-asks S ask hashes c S' h = ap (λ U. U.asks) (h.state_after ∙ ap (λ U. closed U ask) h.stored.state_after)
+stored-asks S ask hashes c S' h = ap (λ U. U.asks) (h.state_after ∙ ap (λ U. without_ask U ask) h.stored.state_after)
 
 pub noted-opens : (S : SessionSeen) (x : Directed Message) (v : Verdict) (S' : SessionSeen) → NotedStep S x v S' → OpensOnlyOurs S x S'
 noted-opens S (In, message.Hashes other hashes) (verdict.Stored c) S' h = λ ask now.
-    let is = sym (set.contains-remove ask_total S.asks other ask) ∙ ap (λ (o : Asks). set.contains o ask) (sym (stored-asks S other hashes.now c S' h)) ∙ now in
+    let is = sym (set.contains-remove ask_total S.asks other ask) ∙ ap (λ (o : AskSet). set.contains o ask) (sym (stored-asks S other hashes.now c S' h)) ∙ now in
     (and_parts (not (eq_by_cmp ask_cmp ask other)) (set.contains S.asks ask) is).1
 noted-opens S (In, message.Hashes other hashes) (verdict.HashRefused r) S' h = λ ask now. same_open S' S ask (ap (λ U. U.asks) (sym h.1)) now
 noted-opens S (In, message.Hashes other hashes) v S' h = absurd h
@@ -169,7 +168,7 @@ base_later S S' ask keeps b =
       known = λ j low. let (v, e) = b.known j low in (v, same ask.base (ask.index + j) v e);
     }
 
-base_asking : (o : Asks) (S : SessionSeen) (ask : Ask) → IsBaseKnown S ask → IsBaseKnown (asking o S) ask
+base_asking : (o : AskSet) (S : SessionSeen) (ask : Ask) → IsBaseKnown S ask → IsBaseKnown (asking o S) ask
 base_asking o S ask b = record {
   asked = record { number = b.asked.number; tree = b.asked.tree; state = b.asked.state; is_tree = tree_asking o S b.asked.number b.asked.tree b.asked.state b.asked.is_tree; has_root = b.asked.has_root };
   known = b.known;
@@ -181,7 +180,7 @@ in-open S (message.Hashes other hashes) (verdict.Stored c) S' h = λ ask was. el
       inr (subst (IsBaseKnown S') (sym (same_ask ask other same))
       (base_asking S'.asks (asking S.asks S') other (stored_base S other hashes.now c (asking S.asks S') (answer-stored S other hashes.now c S' h))))
   | inr differ ↦
-      inl (ap (λ (o : Asks). set.contains o ask) (stored-asks S other hashes.now c S' h) ∙ set.contains-remove ask_total S.asks other ask
+      inl (ap (λ (o : AskSet). set.contains o ask) (stored-asks S other hashes.now c S' h) ∙ set.contains-remove ask_total S.asks other ask
       ∙ ap₂ (λ p q. not p && q) differ was)
 ]
 in-open S (message.Hashes other hashes) (verdict.HashRefused r) S' h = λ ask was. inl (same_open S S' ask (ap (λ U. U.asks) h.1) was)
@@ -192,7 +191,7 @@ or-true : (b : Bool) → (b || true) ≡ true
 or-true true = refl
 or-true false = refl
 
-out-open : (S : SessionSeen) (m : Message) (v : Verdict) (S' : SessionSeen) → StepOut S m v S' → (ask : Ask) → IsOpen S ask → IsOpen S' ask
+out-open : (S : SessionSeen) (m : Message) (v : Verdict) (S' : SessionSeen) → StepOut S m v S' → (ask : Ask) → IsOpenAsk S ask → IsOpenAsk S' ask
 out-open S (message.Request other) verdict.Noted S' h ask was =
     ap (λ U. set.contains U.asks ask) h ∙ set.contains-insert ask_total S.asks other ask ∙ ap (λ b. eq_by_cmp ask_cmp ask other || b) was ∙ or-true (eq_by_cmp ask_cmp ask other)
 out-open S (message.Request other) (verdict.HashRefused NoMemory) S' h ask was = same_open S S' ask (ap (λ U. U.asks) h.1) was

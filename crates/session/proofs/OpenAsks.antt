@@ -9,7 +9,7 @@ use Rattle.std.specs.FinSet as set
 use Rattle.std.proofs.lemmas.Bool.{false≢true}
 use Rattle.wire.specs.contracts.message.AskOrd.TheImpl.Laws.{total-law}
 use Rattle.wire.specs.declared.message.Ask.{Ask}
-use Rattle.session.specs.Asks.{Asks, ask_cmp}
+use Rattle.session.specs.Asks.{AskSet, ask_cmp}
 
 pub ask_total : IsTotalOrder ask_cmp
 ask_total = total-law
@@ -69,20 +69,20 @@ module _ (before after : List Ask) (k : Ask) where
 
 -- ---- asks that are opened and closed
 
-pub opened_contains : (s : Asks) (k : Ask) → set.contains (set.insert s k) k ≡ true
+pub opened_contains : (s : AskSet) (k : Ask) → set.contains (set.insert s k) k ≡ true
 opened_contains s k = set.contains-insert ask_total s k k ∙ ap (λ o. is_eq o || set.contains s k) (tied_itself ask_total k)
 
-pub closed_contains : (s : Asks) (k : Ask) → set.contains (set.remove s k) k ≡ false
+pub closed_contains : (s : AskSet) (k : Ask) → set.contains (set.remove s k) k ≡ false
 closed_contains s k = set.contains-remove ask_total s k k ∙ ap (λ o. not (is_eq o) && set.contains s k) (tied_itself ask_total k)
 
 -- an open ask that is opened again changes nothing
-pub opened_again : (s : Asks) (k : Ask) → set.contains s k ≡ true → set.insert s k ≡ s
+pub opened_again : (s : AskSet) (k : Ask) → set.contains s k ≡ true → set.insert s k ≡ s
 opened_again s k there = set.same_set ask_total ask_antisymmetric _ _ (λ q. set.contains-insert ask_total s k q ∙ by_case q (eq_by_cmp ask_cmp q k) refl)
   where
     by_case : (q : Ask) (b : Bool) → eq_by_cmp ask_cmp q k ≡ b → (b || set.contains s q) ≡ set.contains s q
     by_case q true e = sym (ap (set.contains s) (same_ask q k e) ∙ there)
     by_case q false e = refl
 
-pub unchanged_if_open : {X E : Type 0} (s after : Asks) (k : Ask) (r : Result X E) → set.contains s k ≡ true → (set.contains s k ≡ true → IsOk r) → OnOk r (after ≡ set.insert s k) → after ≡ s
+pub unchanged_if_open : {X E : Type 0} (s after : AskSet) (k : Ask) (r : Result X E) → set.contains s k ≡ true → (set.contains s k ≡ true → IsOk r) → OnOk r (after ≡ set.insert s k) → after ≡ s
 unchanged_if_open s after k (Ok x) there ok same = same ∙ opened_again s k there
 unchanged_if_open s after k (Err e) there ok same = absurd (false≢true (ok there))

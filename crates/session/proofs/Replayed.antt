@@ -13,15 +13,13 @@ use Rattle.wire.specs.Records.{Directed, direction_byte, MeansDirected, messages
 use Rattle.wire.specs.Conversion.{conversion, converted_message, converted_messages, converted_frame}
 use Rattle.wire.proofs.Meanings.{one_meaning}
 use Rattle.wire.proofs.Conversions.{conversion_means}
-use Rattle.partial_tree.specs.declared.refusal.HashRefusal.{HashRefusal}
 use Rattle.partial_tree.specs.declared.refusal.HashRefusal.TheVariants.{NoMemory, Unasked}
-use Rattle.node_maps.specs.Digest.{Hash}
 use Rattle.chains.specs.Chain.{Chain}
 use Rattle.session.specs.declared.verdict.Verdict.{Verdict}
 use Rattle.session.specs.declared.verdict.Verdict.TheVariants as verdict
-use Rattle.session.specs.Asks.{Asks}
-use Rattle.session.specs.Session.{SessionSeen, IsHashRefused, AreTaken, AreRefused, Step}
-use Rattle.session.specs.Noted.{IsOpen, opened, closed, IsAnswerStored, IsAnswerRefused, StepIn, StepOut, NotedStep}
+use Rattle.session.specs.Asks.{AskSet}
+use Rattle.session.specs.Session.{SessionSeen, AreTaken, AreRefused, Step}
+use Rattle.session.specs.Noted.{IsOpenAsk, with_ask, without_ask, IsAnswerStored, IsAnswerRefused, StepIn, StepOut, NotedStep}
 use Rattle.session.specs.NotedLaws.{asking, incoming, AllNoted, HadMemory}
 use Rattle.session.proofs.OpenAsks.{opened_contains}
 use Rattle.session.proofs.Asking.{step_asking, run_asking}
@@ -34,7 +32,7 @@ run-asks S (m ∷ ms) [] S' e = absurd e
 run-asks S (m ∷ ms) (v ∷ vs) S' (M, step, rest) = run-asks M ms vs S' rest ∙ step-asks S m v M step
 
 -- a request that was noted leaves the trees, and its ask is open
-out_noted : (S : SessionSeen) (ask : Ask) (v : Verdict) (S' : SessionSeen) → StepOut S (message.Request ask) v S' → v ≢ verdict.HashRefused NoMemory → S' ≡ opened S ask
+out_noted : (S : SessionSeen) (ask : Ask) (v : Verdict) (S' : SessionSeen) → StepOut S (message.Request ask) v S' → v ≢ verdict.HashRefused NoMemory → S' ≡ with_ask S ask
 out_noted S ask verdict.Noted S' h noted = h
 out_noted S ask (verdict.HashRefused NoMemory) S' h noted = absurd (noted refl)
 out_noted S ask v S' h noted = absurd h
@@ -48,8 +46,8 @@ conversion_runs S [] (v ∷ vs) S' e noted = absurd e
 conversion_runs S (message.Hashes ask hashes ∷ ms) [] S' e noted = absurd e
 conversion_runs S (message.Hashes ask hashes ∷ ms) (v ∷ []) S' (M, out, e) noted = absurd e
 conversion_runs S (message.Hashes ask hashes ∷ ms) (v ∷ w ∷ vs) S' (M, out, (N, step, rest)) (was, noted) =
-    let is : M ≡ opened S ask = out_noted S ask v M out was in
-    let open_there : IsOpen M ask = ap (λ (U : SessionSeen). set.contains U.asks ask) is ∙ opened_contains S.asks ask in
+    let is : M ≡ with_ask S ask = out_noted S ask v M out was in
+    let open_there : IsOpenAsk M ask = ap (λ (U : SessionSeen). set.contains U.asks ask) is ∙ opened_contains S.asks ask in
     let taken : Step M (message.Hashes ask hashes) w (asking M.asks N) = in_hashes M ask hashes w N open_there step in
     let here : Step (asking S.asks M) (message.Hashes ask hashes) w (asking S.asks N) = step_asking S.asks M (message.Hashes ask hashes) w (asking M.asks N) taken in (
       asking S.asks N,
@@ -60,7 +58,7 @@ conversion_runs S (m ∷ ms) [] S' e noted = absurd e
 conversion_runs S (m ∷ ms) (v ∷ vs) S' (M, step, rest) noted = (
   M,
   step,
-  subst (λ (o : Asks). Chain Step M ms (incoming (converted_messages ms) vs) (asking o S')) (step-asks S m v M step) (conversion_runs M ms vs S' rest noted),
+  subst (λ (o : AskSet). Chain Step M ms (incoming (converted_messages ms) vs) (asking o S')) (step-asks S m v M step) (conversion_runs M ms vs S' rest noted),
 )
 
 -- ---- each run of form 1 is that of its conversion
@@ -70,9 +68,9 @@ record Answered (S : SessionSeen) (m : Message) (v : Verdict) (T : SessionSeen) 
   step : StepIn S m v after
   same : after ≡ asking after.asks T
 
-hashes_answered : (S : SessionSeen) (ask : Ask) (hashes : _) (v : Verdict) (T : SessionSeen) → IsOpen S ask → Step S (message.Hashes ask hashes) v T → Answered S (message.Hashes ask hashes) v T
+hashes_answered : (S : SessionSeen) (ask : Ask) (hashes : _) (v : Verdict) (T : SessionSeen) → IsOpenAsk S ask → Step S (message.Hashes ask hashes) v T → Answered S (message.Hashes ask hashes) v T
 hashes_answered S ask hashes (verdict.Stored c) T was h = record {
-  after = closed T ask;
+  after = without_ask T ask;
   step = record { was_open = was; joined = T; stored = h; state_after = refl };
   same = refl;
 }
@@ -89,7 +87,7 @@ record Converted (S : SessionSeen) (ms : List Message) (vs : List Verdict) (T : 
   trees : asking S.asks after ≡ T
 
 -- the asks that are open afterwards are those before
-same_trees : (S T after : SessionSeen) (o : Asks) → T.asks ≡ S.asks → asking o after ≡ asking o T → asking S.asks after ≡ T
+same_trees : (S T after : SessionSeen) (o : AskSet) → T.asks ≡ S.asks → asking o after ≡ asking o T → asking S.asks after ≡ T
 same_trees S T after o stay e = ap (asking S.asks) e ∙ (λ i. record T { asks = sym stay i })
 
 not_memory : verdict.Noted ≡ verdict.HashRefused NoMemory → ⊥
@@ -100,7 +98,7 @@ run_converted S [] [] T e = record { verdicts = []; after = S; run = refl; noted
 run_converted S [] (v ∷ vs) T e = absurd e
 run_converted S (m ∷ ms) [] T e = absurd e
 run_converted S (message.Hashes ask hashes ∷ ms) (v ∷ vs) T (M, step, rest) =
-    let asked : SessionSeen = opened S ask in
+    let asked : SessionSeen = with_ask S ask in
     let a : Answered asked (message.Hashes ask hashes) v (asking asked.asks M) =
     hashes_answered asked ask hashes v (asking asked.asks M) (opened_contains S.asks ask) (step_asking asked.asks S (message.Hashes ask hashes) v M step) in
     let next : Chain Step a.after ms vs (asking a.after.asks T) = subst (λ (U : SessionSeen). Chain Step U ms vs (asking a.after.asks T)) (sym a.same) (run_asking a.after.asks M ms vs T rest) in

@@ -1,14 +1,12 @@
 -- Runs of a session: its trees stay closed, nothing is lost, and each verified block is the file's.
-use Rattle.std.proofs.Common.{◌≡◌, ◌≢◌, ◌⊎◌, ℕ, ◌<◌, true, List, [], ◌∷◌, length, set, get_or, Some, inl, inr, refl, sym, ap, ap₂, ◌∙◌, subst, subst₂, arith}
+use Rattle.std.proofs.Common.{◌≡◌, ℕ, List, [], ◌∷◌, length, Some, inl, inr, sym, ap, ap₂, ◌∙◌, subst, subst₂}
 use Rattle.std.specs.Prelude.{slice_get}
 use Rattle.std.specs.List.{All}
 use Rattle.std.specs.FinSet as leaves
-use Rattle.std.proofs.lemmas.Option.{same_Some, slice_get_within, slice_get-get_or, get_or_from_slice_get}
-use Rattle.std.proofs.lemmas.List.{length-set, get_or-set_same, get_or-set_other}
-use Rattle.sha2.specs.Sha256.{sha256}
+use Rattle.std.proofs.lemmas.Option.{same_Some}
+use Rattle.std.proofs.lemmas.List.{length-set}
 use Rattle.std.proofs.lemmas.Bool.{cases_eq}
 use Rattle.std.proofs.lemmas.List.Elements.{All-head, All-tail}
-use Rattle.hashtree.specs.Tree.{block_count}
 use Rattle.partial_tree.specs.TreeRoot.{TreeRoot}
 use Rattle.wire.specs.declared.message.Ask.{Ask}
 use Rattle.wire.specs.declared.message.Message.{Message}
@@ -24,7 +22,7 @@ use Rattle.session.specs.Blocks.{BlocksSeen}
 use Rattle.session.specs.Layouts.{roots}
 use Rattle.chains.specs.Chain.{Chain}
 use Rattle.partial_tree.proofs.Joining.{joined-closed, joined-keeps}
-use Rattle.partial_tree.proofs.Keeping.{closed-same, marked-known}
+use Rattle.partial_tree.proofs.Keeping.{closed-same}
 use Rattle.session.proofs.States.{set-read, set-write, set-other}
 use Rattle.session.proofs.Entries.{Later, chain-good, chain-torrent, chain-known, taken-blocks}
 

@@ -1,5 +1,5 @@
 -- Each step of a good state does no harm, and so does a run of steps.
-use Rattle.std.proofs.Common.{◌≡◌, ◌⊎◌, ℕ, Result, Ok, Err, IfOk, IfErr, List, [], ◌∷◌, length, get_or, Some, None, ◌<◌, inl, inr, refl, sym, ap, ap₂, ◌∙◌, subst, subst₂, arith}
+use Rattle.std.proofs.Common.{◌≡◌, ◌⊎◌, ℕ, Result, Ok, Err, IfOk, IfErr, List, [], ◌∷◌, length, get_or, Some, None, ◌<◌, inl, inr, refl, sym, ap, ◌∙◌, subst, subst₂, arith}
 use Rattle.std.specs.Prelude.{map, slice_get}
 use Rattle.std.specs.FinMap.{empty}
 use Rattle.std.specs.FinSet as leaves
@@ -145,7 +145,7 @@ module _ (S : SessionSeen) (index begin : ℕ) (p q : IsPlaced S index begin) wh
       subst (λ b. TreeRefusesBlock p.in_file.tree.length (look p.in_file.state.known) b bytes r) same_block_number
       (subst₂ (λ (tr : TreeRoot) (st : TreeState). TreeRefusesBlock tr.length (look st.known) q.number bytes r) placed_tree placed_state refused)
 
-  run_there : (size k : ℕ) → IsBlockRun p.in_file.tree.length p.number size k → IsBlockRun q.in_file.tree.length q.number size k
+  pub run_there : (size k : ℕ) → IsBlockRun p.in_file.tree.length p.number size k → IsBlockRun q.in_file.tree.length q.number size k
   run_there size k run = subst₂ (λ (tr : TreeRoot) b. IsBlockRun tr.length b size k) (sym placed_tree) (sym same_block_number) run
 
 module _ (S : SessionSeen) (good : IsGood S) (index begin : ℕ) (bytes : List ℕ) (p : IsPlaced S index begin) (f : List ℕ)

@@ -31,12 +31,12 @@ use Rattle.partial_tree.specs.declared.answer.Answer.{Answer}
 use Rattle.partial_tree.specs.declared.answer.Answer.TheVariants as answer
 use Rattle.partial_tree.specs.Answers.{IsTreeAnswer}
 use Rattle.session.specs.Answers.{IsAnswerTo}
-use Rattle.session.specs.Asks.{Asks}
+use Rattle.session.specs.Asks.{AskSet}
 use Rattle.session.specs.Layouts.{IsBlockOf, SessionSeen, seen, root_of_entry, tree_number, state_of, AreKept}
 use Rattle.partial_tree.specs.Fill.{fill_claims, IsFillAccepted, FillRefuses}
 use Rattle.partial_tree.proofs.Keeping.{same_info, good_same, good_marked}
 
-abbrev pub with_trees : Description → Asks → List TreeState → SessionSeen
+abbrev pub with_trees : Description → AskSet → List TreeState → SessionSeen
 with_trees d o states = record { torrent = d; trees = states; asks = o }
 
 pub found_at : (ts : List KeptTree) (n : ℕ) (a : KeptTree) → n < length ts → a ≡ get_or ts n a → slice_get ts n ≡ Some a
@@ -50,21 +50,21 @@ module _ (d : Description) (ts : List KeptTree) (kept : AreKept d ts) where
   pub good_at : (n : ℕ) (a : KeptTree) → slice_get ts n ≡ Some a → IsGoodTree a
   good_at n a e = subst IsGoodTree (get_or_from_slice_get ts n a a e) (All-get_or IsGoodTree ts n a (slice_get_within ts n a e) kept.good)
 
-  pub tree_at : (o : Asks) → (n : ℕ) (a : KeptTree) → slice_get ts n ≡ Some a → IsTree (seen d o ts) n (info_of a) a.state
+  pub tree_at : (o : AskSet) → (n : ℕ) (a : KeptTree) → slice_get ts n ≡ Some a → IsTree (seen d o ts) n (info_of a) a.state
   tree_at o n a e = record {
     tree_is = ap (λ l. slice_get l n) (sym kept.same) ∙ slice_get-map info_of ts n ∙ ap (option_map info_of) e;
     state_is = slice_get-map state_of ts n ∙ ap (option_map state_of) e;
   }
 
   -- each tree of the state is a kept one
-  pub kept_at : (o : Asks) → (n : ℕ) (tree : TreeRoot) (s : TreeState) → IsTree (seen d o ts) n tree s
+  pub kept_at : (o : AskSet) → (n : ℕ) (tree : TreeRoot) (s : TreeState) → IsTree (seen d o ts) n tree s
       → (a : KeptTree) × (slice_get ts n ≡ Some a) × (info_of a ≡ tree) × (a.state ≡ s)
   kept_at o n tree s at =
       let x = mapped state_of (slice_get ts n) s (sym (slice_get-map state_of ts n) ∙ at.state_is) in
       let same : info_of x.0 ≡ tree = same_Some (info_of x.0) tree (sym ((tree_at o n x.0 x.1).tree_is) ∙ at.tree_is) in
       (x.0, x.1, same, x.2)
 
-  pub kept-good : (o : Asks) → IsGood (seen d o ts)
+  pub kept-good : (o : AskSet) → IsGood (seen d o ts)
   kept-good o = record {
     count = length-map ts state_of ∙ sym (length-map ts info_of) ∙ ap length kept.same;
     closed = λ n tree s at.
@@ -81,7 +81,7 @@ module _ (d : Description) (ts : List KeptTree) (kept : AreKept d ts) where
     good = All-set IsGoodTree ts n b good kept.good;
   }
 
-  pub stored_in : (o : Asks) → (n : ℕ) (a b : KeptTree) (ask : Ask) (hashes : List Hash) (c : ℕ) → slice_get ts n ≡ Some a → a.root ≡ ask.root
+  pub stored_in : (o : AskSet) → (n : ℕ) (a b : KeptTree) (ask : Ask) (hashes : List Hash) (c : ℕ) → slice_get ts n ≡ Some a → a.root ≡ ask.root
       → b.state.marked ≡ a.state.marked → IsAccepted a.length (look a.state.known) ask hashes → Joins (claims ask hashes) a.state.known b.state.known c
       → IsStored (seen d o ts) ask hashes c (seen d o (set ts n b))
   stored_in o n a b ask hashes c e root m ok joins = record {
@@ -94,7 +94,7 @@ module _ (d : Description) (ts : List KeptTree) (kept : AreKept d ts) where
     state_after = ap (with_trees d o) (map-set state_of ts n b);
   }
 
-  pub refused_in : (o : Asks) → (n : ℕ) (a : KeptTree) (ask : Ask) (hashes : List Hash) (r : HashRefusal) → slice_get ts n ≡ Some a → a.root ≡ ask.root
+  pub refused_in : (o : AskSet) → (n : ℕ) (a : KeptTree) (ask : Ask) (hashes : List Hash) (r : HashRefusal) → slice_get ts n ≡ Some a → a.root ≡ ask.root
       → TreeRefuses a.length (look a.state.known) ask hashes r → IsHashRefused (seen d o ts) ask hashes r
   refused_in o n a ask hashes UnknownRoot e root refused = absurd refused.fault
   refused_in o n a ask hashes BadRange e root refused = (record { number = n; tree = info_of a; state = a.state; is_tree = tree_at o n a e; has_root = root }, refused)
@@ -106,7 +106,7 @@ module _ (d : Description) (ts : List KeptTree) (kept : AreKept d ts) where
   refused_in o n a ask hashes NoMemory e root refused = (record { number = n; tree = info_of a; state = a.state; is_tree = tree_at o n a e; has_root = root }, refused)
 
   -- no kept tree has the root
-  pub unknown_in : (o : Asks) → (ask : Ask) (hashes : List Hash) → ((n : ℕ) (a : KeptTree) → slice_get ts n ≡ Some a → a.root ≢ ask.root)
+  pub unknown_in : (o : AskSet) → (ask : Ask) (hashes : List Hash) → ((n : ℕ) (a : KeptTree) → slice_get ts n ≡ Some a → a.root ≢ ask.root)
       → IsHashRefused (seen d o ts) ask hashes UnknownRoot
   unknown_in o ask hashes none = λ n tree e root.
       let x = mapped info_of (slice_get ts n) tree (sym (slice_get-map info_of ts n) ∙ ap (λ l. slice_get l n) kept.same ∙ e) in
@@ -121,30 +121,30 @@ state_stays ts n a b e k m =
     map-set_same state_of ts n b a (same ∙ ap state_of (sym (get_or_from_slice_get ts n a a e)))
 
 module _ (d : Description) (ts : List KeptTree) (kept : AreKept d ts) where
-  pub stored_all : (o : Asks) → (n : ℕ) (a b : KeptTree) (ask : Ask) (hashes : List Hash) (r : Result ℕ HashRefusal) → slice_get ts n ≡ Some a → a.root ≡ ask.root
+  pub stored_all : (o : AskSet) → (n : ℕ) (a b : KeptTree) (ask : Ask) (hashes : List Hash) (r : Result ℕ HashRefusal) → slice_get ts n ≡ Some a → a.root ≡ ask.root
       → b.state.marked ≡ a.state.marked → IfOk r (λ c. IsAccepted a.length (look a.state.known) ask hashes × Joins (claims ask hashes) a.state.known b.state.known c)
       → IfOk r (λ c. IsStored (seen d o ts) ask hashes c (seen d o (set ts n b)))
   stored_all o n a b ask hashes (Ok c) e root m h = stored_in d ts kept o n a b ask hashes c e root m h.0 h.1
   stored_all o n a b ask hashes (Err x) e root m h = tt
 
-  pub refused_all : (o : Asks) → (n : ℕ) (a b : KeptTree) (ask : Ask) (hashes : List Hash) (r : Result ℕ HashRefusal) → slice_get ts n ≡ Some a → a.root ≡ ask.root
+  pub refused_all : (o : AskSet) → (n : ℕ) (a b : KeptTree) (ask : Ask) (hashes : List Hash) (r : Result ℕ HashRefusal) → slice_get ts n ≡ Some a → a.root ≡ ask.root
       → b.state.marked ≡ a.state.marked → IfErr r (λ x. TreeRefuses a.length (look a.state.known) ask hashes x × (b.state.known ≡ a.state.known))
       → IfErr r (λ x. IsHashRefused (seen d o ts) ask hashes x × (seen d o (set ts n b) ≡ seen d o ts))
   refused_all o n a b ask hashes (Ok c) e root m h = tt
   refused_all o n a b ask hashes (Err x) e root m h = (refused_in d ts kept o n a ask hashes x e root h.0, ap (with_trees d o) (state_stays ts n a b e h.1 m))
 
-  pub asked_in : (o : Asks) → (n : ℕ) (a : KeptTree) (ask : Ask) → slice_get ts n ≡ Some a → a.root ≡ ask.root
+  pub asked_in : (o : AskSet) → (n : ℕ) (a : KeptTree) (ask : Ask) → slice_get ts n ≡ Some a → a.root ≡ ask.root
       → CanAnswer (tree_height a.length) (look a.state.known) ask → IsAnswered (seen d o ts) ask
   asked_in o n a ask e root can = (record { number = n; tree = info_of a; state = a.state; is_tree = tree_at d ts kept o n a e; has_root = root }, can)
 
   module _ (sound : IsSound d) where
-    pub distinct : (o : Asks) → HasDistinctRoots (seen d o ts)
+    pub distinct : (o : AskSet) → HasDistinctRoots (seen d o ts)
     distinct o n k a b p q e =
         let x = mapped root_of_entry (slice_get d.trees n) a (sym (slice_get-map root_of_entry d.trees n) ∙ p) in
         let y = mapped root_of_entry (slice_get d.trees k) b (sym (slice_get-map root_of_entry d.trees k) ∙ q) in
         sound.roots_differ n k x.0 y.0 x.1 y.1 (ap (λ t. t.root) x.2 ∙ e ∙ sym (ap (λ t. t.root) y.2))
 
-    pub answered_in : (o : Asks) → (n : ℕ) (a : KeptTree) (ask : Ask) → slice_get ts n ≡ Some a → a.root ≡ ask.root
+    pub answered_in : (o : AskSet) → (n : ℕ) (a : KeptTree) (ask : Ask) → slice_get ts n ≡ Some a → a.root ≡ ask.root
         → IsAnswered (seen d o ts) ask → CanAnswer (tree_height a.length) (look a.state.known) ask
     answered_in o n a ask e root (x, can) =
         let here = tree_at d ts kept o n a e in
@@ -168,7 +168,7 @@ module _ (d : Description) (ts : List KeptTree) (kept : AreKept d ts) where
 
   module _ (file b tr : ℕ) (f : FileEntry) (a : KeptTree) (there : slice_get d.files file ≡ Some f) (is : f.tree ≡ Some tr) (e : slice_get ts tr ≡ Some a)
       (low : b < block_count a.length) where
-    abbrev pub in_file : (o : Asks) → IsInFile (seen d o ts) file b
+    abbrev pub in_file : (o : AskSet) → IsInFile (seen d o ts) file b
     in_file o = record {
       tree_number = tr;
       tree = info_of a;
@@ -178,7 +178,7 @@ module _ (d : Description) (ts : List KeptTree) (kept : AreKept d ts) where
       inside = low;
     }
 
-    pub marked_all : (o : Asks) → {X : Type 0} (next : KeptTree) (bytes : List ℕ) (r : Result X BlockRefusal) → next.state.known ≡ a.state.known
+    pub marked_all : (o : AskSet) → {X : Type 0} (next : KeptTree) (bytes : List ℕ) (r : Result X BlockRefusal) → next.state.known ≡ a.state.known
         → IfOk r (λ _. IsMarked a.length a.state b bytes next.state)
         → IfOk r (λ _. IsMarkedBlock (seen d o ts) file b bytes (seen d o (set ts tr next)))
     marked_all o next bytes (Err x) k ok = tt
@@ -192,7 +192,7 @@ module _ (d : Description) (ts : List KeptTree) (kept : AreKept d ts) where
           state_after = ap (with_trees d o) (map-set state_of ts tr next ∙ ap (set (map state_of ts) tr) after);
         }
 
-    pub unmarked_all : (o : Asks) → {X : Type 0} (next : KeptTree) (bytes : List ℕ) (r : Result X BlockRefusal) → next.state.known ≡ a.state.known
+    pub unmarked_all : (o : AskSet) → {X : Type 0} (next : KeptTree) (bytes : List ℕ) (r : Result X BlockRefusal) → next.state.known ≡ a.state.known
         → IfErr r (λ x. TreeRefusesBlock a.length (look a.state.known) b bytes x × (next.state.marked ≡ a.state.marked))
         → IfErr r (λ x. IsUnmarkedBlock (seen d o ts) file b bytes x × (seen d o (set ts tr next) ≡ seen d o ts))
     unmarked_all o next bytes (Ok x) k refused = tt
@@ -201,7 +201,7 @@ module _ (d : Description) (ts : List KeptTree) (kept : AreKept d ts) where
 -- ---- whole layers
 
 module _ (d : Description) (ts : List KeptTree) (kept : AreKept d ts) where
-  pub filled_all : (o : Asks) → (n : ℕ) (a b : KeptTree) (layer : ℕ) (hashes : List Hash) (r : Result ℕ HashRefusal) → slice_get ts n ≡ Some a → b.state.marked ≡ a.state.marked
+  pub filled_all : (o : AskSet) → (n : ℕ) (a b : KeptTree) (layer : ℕ) (hashes : List Hash) (r : Result ℕ HashRefusal) → slice_get ts n ≡ Some a → b.state.marked ≡ a.state.marked
       → IfOk r (λ c. IsFillAccepted a.length (look a.state.known) layer hashes × Joins (fill_claims a.length layer hashes) a.state.known b.state.known c)
       → IfOk r (λ c. IsFilled (seen d o ts) n layer hashes c (seen d o (set ts n b)))
   filled_all o n a b layer hashes (Ok c) e m h = record {
@@ -216,7 +216,7 @@ module _ (d : Description) (ts : List KeptTree) (kept : AreKept d ts) where
   }
   filled_all o n a b layer hashes (Err x) e m h = tt
 
-  pub fill_refused_all : (o : Asks) → (n : ℕ) (a b : KeptTree) (layer : ℕ) (hashes : List Hash) (r : Result ℕ HashRefusal) → slice_get ts n ≡ Some a → b.state.marked ≡ a.state.marked
+  pub fill_refused_all : (o : AskSet) → (n : ℕ) (a b : KeptTree) (layer : ℕ) (hashes : List Hash) (r : Result ℕ HashRefusal) → slice_get ts n ≡ Some a → b.state.marked ≡ a.state.marked
       → IfErr r (λ x. FillRefuses a.length (look a.state.known) layer hashes x × (b.state.known ≡ a.state.known))
       → IfErr r (λ x. IsFillRefused (seen d o ts) n layer hashes x × (seen d o (set ts n b) ≡ seen d o ts))
   fill_refused_all o n a b layer hashes (Ok c) e m h = tt
@@ -233,14 +233,14 @@ module _ (d : Description) (ts : List KeptTree) (kept : AreKept d ts) where
 -- ---- answers and what is wanted
 
 module _ (d : Description) (ts : List KeptTree) (kept : AreKept d ts) where
-  pub answer_all : (o : Asks) → (sound : IsSound d) {E : Type 0} (n : ℕ) (a : KeptTree) (ask : Ask) (r : Result Answer E) → slice_get ts n ≡ Some a → a.root ≡ ask.root
+  pub answer_all : (o : AskSet) → (sound : IsSound d) {E : Type 0} (n : ℕ) (a : KeptTree) (ask : Ask) (r : Result Answer E) → slice_get ts n ≡ Some a → a.root ≡ ask.root
       → IfOk r (IsTreeAnswer (tree_height a.length) (look a.state.known) ask) → IfOk r (IsAnswerTo (seen d o ts) ask)
   answer_all o sound n a ask (Err x) e root h = tt
   answer_all o sound n a ask (Ok (answer.Hashes hashes)) e root h =
       (record { number = n; tree = info_of a; state = a.state; is_tree = tree_at d ts kept o n a e; has_root = root }, h.0, h.1)
   answer_all o sound n a ask (Ok answer.Reject) e root h = λ answered. h (answered_in d ts kept sound o n a ask e root answered)
 
-  pub answer_memory : (o : Asks) → {E : Type 0} (n : ℕ) (a : KeptTree) (ask : Ask) (r : Result Answer E) → slice_get ts n ≡ Some a → a.root ≡ ask.root
+  pub answer_memory : (o : AskSet) → {E : Type 0} (n : ℕ) (a : KeptTree) (ask : Ask) (r : Result Answer E) → slice_get ts n ≡ Some a → a.root ≡ ask.root
       → OnErr r (CanAnswer (tree_height a.length) (look a.state.known) ask) → OnErr r (IsAnswered (seen d o ts) ask)
   answer_memory o n a ask (Ok x) e root h = tt
   answer_memory o n a ask (Err x) e root can = asked_in d ts kept o n a ask e root can
@@ -274,7 +274,7 @@ good_after_block a b i bytes (Ok x) good r l k taken refused = good_marked a b i
 good_after_block a b i bytes (Err x) good r l k taken refused = good_same a b r l k refused.1 good
 
 -- the tree of a block of a file
-pub in_file_of : (o : Asks) → (d : Description) (ts : List KeptTree) (kept : AreKept d ts) (sound : IsSound d) (file b : ℕ) (f : FileEntry) → slice_get d.files file ≡ Some f → b < block_count f.length
+pub in_file_of : (o : AskSet) → (d : Description) (ts : List KeptTree) (kept : AreKept d ts) (sound : IsSound d) (file b : ℕ) (f : FileEntry) → slice_get d.files file ≡ Some f → b < block_count f.length
     → (p : IsInFile (seen d o ts) file b) × (p.tree.length ≡ f.length)
 in_file_of o d ts kept sound file b f there low =
     let (tr, is) = has_tree d sound file b f there low in

@@ -1,9 +1,9 @@
 -- What a session answers to a hash request (BEP 52, "hash request").
-use Rattle.std.specs.Prelude.{◌≡◌, ℕ}
+use Rattle.std.specs.Prelude.{◌≡◌}
 use Rattle.wire.specs.declared.message.Ask.{Ask}
 use Rattle.partial_tree.specs.declared.answer.Answer.{Answer}
 use Rattle.partial_tree.specs.declared.answer.Answer.TheVariants as answer
-use Rattle.node_maps.specs.Places.{tree_height, PartialTree}
+use Rattle.node_maps.specs.Places.{tree_height}
 use Rattle.partial_tree.specs.Claims.{CanAnswer, answer_of}
 use Rattle.node_maps.specs.Known.{look}
 use Rattle.session.specs.Session.{SessionSeen, IsAsked, IsAnswered}

@@ -1,6 +1,6 @@
 -- The asks of our own hash requests (BEP 52, "hash request") that are open: no hashes have answered
 -- them yet.
-use Rattle.std.specs.Prelude.{◌≡◌, ℕ, true, List, refl}
+use Rattle.std.specs.Prelude.{ℕ, List, refl}
 use Rattle.std.specs.Coded.{Coded, code_by, coded×, coded_list, coded_ℕ}
 use Rattle.std.specs.declared.cmp.Ordering.{Ordering}
 use Rattle.std.specs.Ordering.{nat_cmp, ordering_then}
@@ -16,8 +16,8 @@ ask_cmp a b = ordering_then (slice_cmp nat_cmp a.root b.root)
     (ordering_then (nat_cmp a.length b.length) (nat_cmp a.proof b.proof))))
 
 -- a finite set of asks: two are the same if all five fields are
-abbrev pub Asks : Type 0
-Asks = finite.FinSet ask_cmp
+abbrev pub AskSet : Type 0
+AskSet = finite.FinSet ask_cmp
 
 abbrev ask_code : Coded Ask
 ask_code = code_by (List ℕ × (ℕ × (ℕ × (ℕ × ℕ))))
@@ -32,5 +32,5 @@ ask_code = code_by (List ℕ × (ℕ × (ℕ × (ℕ × ℕ))))
     })
     (λ _. refl)
 
-abbrev pub asks_code : Coded Asks
+abbrev pub asks_code : Coded AskSet
 asks_code = finite.code ask_code

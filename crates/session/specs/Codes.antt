@@ -4,7 +4,7 @@ use Rattle.std.specs.Coded.{Coded, code_by, coded×, coded_list, coded_option, c
 use Rattle.metainfo.specs.Description.{Description, FileEntry, TreeEntry, Version1}
 use Rattle.partial_tree.specs.Kept.{TreeState}
 use Rattle.partial_tree.specs.Codes.{tree_state_code}
-use Rattle.session.specs.Asks.{Asks, asks_code}
+use Rattle.session.specs.Asks.{AskSet, asks_code}
 use Rattle.session.specs.Layouts.{SessionSeen}
 
 abbrev bytes_code : Coded (List ℕ)
@@ -59,7 +59,7 @@ abbrev pub description_code : Coded Description
 description_code = code_by Parts parts_code parts_of of_parts (λ _. refl)
 
 abbrev pub session_code : Coded SessionSeen
-session_code = code_by (Description × (List TreeState × Asks))
+session_code = code_by (Description × (List TreeState × AskSet))
     (coded× description_code (coded× (coded_list tree_state_code) asks_code))
     (λ s. (s.torrent, (s.trees, s.asks)))
     (λ p. record { torrent = p.0; trees = p.1.0; asks = p.1.1 }) (λ _. refl)

@@ -6,7 +6,7 @@ use Rattle.metainfo.specs.Description.{Description, TreeEntry}
 use Rattle.metainfo.specs.PieceLayers.{piece_layer}
 use Rattle.node_maps.specs.Digest.{Hash}
 use Rattle.partial_tree.specs.TreeRoot.{TreeRoot}
-use Rattle.node_maps.specs.Places.{tree_height, PartialTree, IsPlace}
+use Rattle.node_maps.specs.Places.{tree_height, PartialTree, IsTreePlace}
 use Rattle.node_maps.specs.Known.{look}
 use Rattle.partial_tree.specs.Kept.{TreeState, KeptTree, IsGoodTree}
 use Rattle.session.specs.Layouts.{SessionSeen, root_of_entry}
@@ -19,10 +19,10 @@ pub record KnowsRoot (t : TreeRoot) (K : PartialTree) : Type 0 where
 -- of a tree the nodes of a layer are known, pads among them, and those above it, and nothing else
 pub record KnowsFrom (t : TreeRoot) (layer : ℕ) (hashes : List Hash) (K : PartialTree)
     : Type 0 where
-  pub nodes : (l i : ℕ) → layer ≤ l → IsPlace (tree_height t.length) l i
+  pub nodes : (l i : ℕ) → layer ≤ l → IsTreePlace (tree_height t.length) l i
       → K l i ≡ Some (node_over (filled (tree_height t.length) layer hashes) (l - layer) i)
   pub no_more : (l i : ℕ) (v : Hash) → K l i ≡ Some v → (layer ≤ l)
-      × IsPlace (tree_height t.length) l i
+      × IsTreePlace (tree_height t.length) l i
 
 -- what a session knows of a tree at first: the root, and with layers, of files that are longer than
 -- a piece, the nodes from the piece layer up (BEP 52, "piece layers")

@@ -6,7 +6,7 @@ use Rattle.metainfo.specs.Blocks.{IsBlockRun}
 use Rattle.metainfo.specs.Description.{Description, FileEntry, TreeEntry}
 use Rattle.partial_tree.specs.TreeRoot.{TreeRoot}
 use Rattle.partial_tree.specs.Kept.{TreeState, KeptTree, info_of, IsGoodTree}
-use Rattle.session.specs.Asks.{Asks}
+use Rattle.session.specs.Asks.{AskSet}
 
 -- a tree's root and the length of its files
 abbrev pub root_of_entry : TreeEntry → TreeRoot
@@ -22,7 +22,7 @@ tree_number (Some f) = f.tree
 pub record SessionSeen : Type 0 where
   pub torrent : Description
   pub trees : List TreeState
-  pub asks : Asks
+  pub asks : AskSet
 
 -- the root of each tree, and the length of its files
 abbrev pub roots : SessionSeen → List TreeRoot
@@ -37,7 +37,7 @@ abbrev pub state_of : KeptTree → TreeState
 state_of t = t.state
 
 -- what callers see of a session over these trees, while these asks are open
-abbrev pub seen : Description → Asks → List KeptTree → SessionSeen
+abbrev pub seen : Description → AskSet → List KeptTree → SessionSeen
 seen d asks trees = record { torrent = d; trees = map state_of trees; asks = asks }
 
 -- one good tree for each of the torrent's trees, in order

@@ -18,30 +18,30 @@ use Rattle.session.specs.Session.{SessionSeen, IsAsked, IsStored, IsHashRefused,
 use Rattle.session.specs.SafeStep.{KeepsKnown, TakesWhatIsTrue}
 
 -- a request of our own for this went out, and no hashes have answered it yet
-abbrev pub IsOpen : SessionSeen → Ask → Type 0
-IsOpen S ask = finite.contains S.asks ask ≡ true
+abbrev pub IsOpenAsk : SessionSeen → Ask → Type 0
+IsOpenAsk S ask = finite.contains S.asks ask ≡ true
 
 -- the same trees, and this ask is open
-abbrev pub opened : SessionSeen → Ask → SessionSeen
-opened S ask = record S { asks = finite.insert S.asks ask }
+abbrev pub with_ask : SessionSeen → Ask → SessionSeen
+with_ask S ask = record S { asks = finite.insert S.asks ask }
 
 -- the same trees, and this ask is closed
-abbrev pub closed : SessionSeen → Ask → SessionSeen
-closed S ask = record S { asks = finite.remove S.asks ask }
+abbrev pub without_ask : SessionSeen → Ask → SessionSeen
+without_ask S ask = record S { asks = finite.remove S.asks ask }
 
 -- the hashes answer an open ask: what they claim is joined to its tree, with c more places, and the
 -- ask is closed
 pub record IsAnswerStored (S : SessionSeen) (ask : Ask) (hashes : List Hash) (c : ℕ)
     (S' : SessionSeen) : Type 0 where
-  pub was_open : IsOpen S ask
+  pub was_open : IsOpenAsk S ask
   pub joined : SessionSeen
   pub stored : IsStored S ask hashes c joined
-  pub state_after : S' ≡ closed joined ask
+  pub state_after : S' ≡ without_ask joined ask
 
 -- nobody asked for the hashes; or somebody did, and r is why they are refused
 abbrev pub IsAnswerRefused : SessionSeen → Ask → List Hash → HashRefusal → Type 0
-IsAnswerRefused S ask hashes Unasked = ¬ IsOpen S ask
-IsAnswerRefused S ask hashes r = IsOpen S ask × IsHashRefused S ask hashes r
+IsAnswerRefused S ask hashes Unasked = ¬ IsOpenAsk S ask
+IsAnswerRefused S ask hashes r = IsOpenAsk S ask × IsHashRefused S ask hashes r
 
 -- a message that came in: hashes are taken if their ask is open; all else is a step
 abbrev pub StepIn : SessionSeen → Message → Verdict → SessionSeen → Type 0
@@ -54,8 +54,8 @@ StepIn S m v S' = Step S m v S'
 -- a message that went out: the ask of a request is open from then on, unless it was not and memory
 -- is refused for it
 abbrev pub StepOut : SessionSeen → Message → Verdict → SessionSeen → Type 0
-StepOut S (message.Request ask) verdict.Noted S' = S' ≡ opened S ask
-StepOut S (message.Request ask) (verdict.HashRefused NoMemory) S' = ¬ IsOpen S ask × (S' ≡ S)
+StepOut S (message.Request ask) verdict.Noted S' = S' ≡ with_ask S ask
+StepOut S (message.Request ask) (verdict.HashRefused NoMemory) S' = ¬ IsOpenAsk S ask × (S' ≡ S)
 StepOut S (message.Request ask) v S' = ⊥
 StepOut S m verdict.Sent S' = S' ≡ S
 StepOut S m v S' = ⊥
@@ -75,7 +75,7 @@ IsTrueNotedVerdict S (Out, m) v = Unit {0}
 -- what is true is taken if it came in; hashes, if their ask is open
 abbrev pub TakesWhatIsTrueAndAsked : SessionSeen → Directed Message → Verdict → Type 0
 TakesWhatIsTrueAndAsked S (In, message.Hashes ask hashes) v =
-    IsOpen S ask → TakesWhatIsTrue S (message.Hashes ask hashes) v
+    IsOpenAsk S ask → TakesWhatIsTrue S (message.Hashes ask hashes) v
 TakesWhatIsTrueAndAsked S (In, m) v = TakesWhatIsTrue S m v
 TakesWhatIsTrueAndAsked S (Out, m) v = Unit {0}
 
@@ -86,12 +86,12 @@ pub record IsBaseKnown (S : SessionSeen) (ask : Ask) : Type 0 where
 
 -- no ask is opened by what came in
 abbrev pub OpensOnlyOurs : SessionSeen → Directed Message → SessionSeen → Type 0
-OpensOnlyOurs S (In, m) S' = (ask : Ask) → IsOpen S' ask → IsOpen S ask
+OpensOnlyOurs S (In, m) S' = (ask : Ask) → IsOpenAsk S' ask → IsOpenAsk S ask
 OpensOnlyOurs S (Out, m) S' = Unit {0}
 
 -- an open ask stays open until its base range is known
 abbrev pub KeepsOpen : SessionSeen → SessionSeen → Type 0
-KeepsOpen S S' = (ask : Ask) → IsOpen S ask → IsOpen S' ask ⊎ IsBaseKnown S' ask
+KeepsOpen S S' = (ask : Ask) → IsOpenAsk S ask → IsOpenAsk S' ask ⊎ IsBaseKnown S' ask
 
 -- a step that is allowed, verifies nothing but the block itself, is not harmed by poison, and lets
 -- nobody else open an ask, or close it without its answer

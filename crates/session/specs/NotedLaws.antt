@@ -22,10 +22,10 @@ use Rattle.partial_tree.specs.Closed.{whole}
 use Rattle.partial_tree.specs.Claims.{answer_of}
 use Rattle.partial_tree.specs.Gaps.{want_of}
 use Rattle.chains.specs.Chain.{Chain}
-use Rattle.session.specs.Asks.{Asks}
+use Rattle.session.specs.Asks.{AskSet}
 use Rattle.session.specs.Session.{SessionSeen, TreeState, IsTree, IsGood, HasDistinctRoots, HasFewerGaps, Step}
 use Rattle.session.specs.Rounds.{HasNoMoreGaps, Collides}
-use Rattle.session.specs.Noted.{IsOpen, NotedStep, KeepsOpen}
+use Rattle.session.specs.Noted.{IsOpenAsk, NotedStep, KeepsOpen}
 use Rattle.session.specs.NotedRounds.{HasDirectedHashes}
 
 -- ---- memory aside
@@ -49,7 +49,7 @@ abbrev pub HadMemory : List Said → Type 0
 HadMemory vs = AllByRecursion (λ v. v ≢ HashRefused NoMemory) vs
 
 -- the same trees and marks, while these asks are open
-abbrev pub asking : Asks → SessionSeen → SessionSeen
+abbrev pub asking : AskSet → SessionSeen → SessionSeen
 asking asks S = record S { asks = asks }
 
 -- ---- the replay of a conversion
@@ -107,8 +107,8 @@ NotedStaysOpen = (S : SessionSeen) (ms : List (Directed Sent)) (vs : List Said) 
 abbrev pub IncomingOpensNothing : Type 0
 IncomingOpensNothing =
     (S : SessionSeen) (ms : List Sent) (vs : List Said) (S' : SessionSeen)
-    → Chain (λ s m v s'. NotedStep s (In, m) v s') S ms vs S' → (ask : Asked) → IsOpen S' ask
-    → IsOpen S ask
+    → Chain (λ s m v s'. NotedStep s (In, m) v s') S ms vs S' → (ask : Asked) → IsOpenAsk S' ask
+    → IsOpenAsk S ask
 
 -- a run keeps all trees closed, and leaves no tree with more gaps
 abbrev pub NotedRunKeeps : Type 0
@@ -125,7 +125,7 @@ NotedRoundLeavesFewerGaps = (S M N S' : SessionSeen) → HasDistinctRoots S
     (n : ℕ) (tree : Tree) (s : TreeState) (b : ℕ) (ask : Asked) (f : List ℕ)
     → IsGood S → All HasDirectedHashes ms → All HasDirectedHashes ns
     → IsTree S n tree s → b < block_count tree.length → want_of tree (look s.known) b ≡ Some ask
-    → Fits f tree → Chain NotedStep S ms vs M → IsOpen M ask → Chain NotedStep M ns ws N
+    → Fits f tree → Chain NotedStep S ms vs M → IsOpenAsk M ask → Chain NotedStep M ns ws N
     → (hashes : Bor (List Hash)) → hashes.now ≡ answer_of (tree_height tree.length) (whole f) ask
     → (v : Said) → v ≢ HashRefused NoMemory → NotedStep N (In, Hashes ask hashes) v S'
     → HasFewerGaps S' n tree (look s.known) ⊎ Collides S' n f

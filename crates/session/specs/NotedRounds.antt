@@ -21,7 +21,7 @@ use Rattle.partial_tree.specs.Gaps.{want_of}
 use Rattle.node_maps.specs.Known.{look}
 use Rattle.session.specs.Session.{SessionSeen, TreeState, IsTree, HasFewerGaps, HasHashes}
 use Rattle.session.specs.Rounds.{LacksMemoryAtLast, Collides}
-use Rattle.session.specs.Noted.{IsOpen}
+use Rattle.session.specs.Noted.{IsOpenAsk}
 
 -- the hashes of a message have 32 bytes each, in either direction
 abbrev pub HasDirectedHashes : Directed Message → Type 0
@@ -33,7 +33,7 @@ IsAskedAt ms ask k = slice_get ms k ≡ Some (Out, message.Request ask)
 
 -- the ask is open before the first message, or one of them is our request for it
 abbrev pub IsAskedFor : SessionSeen → List (Directed Message) → Ask → Type 0
-IsAskedFor S ms ask = IsOpen S ask ⊎ ((k : ℕ) × IsAskedAt ms ask k)
+IsAskedFor S ms ask = IsOpenAsk S ask ⊎ ((k : ℕ) × IsAskedAt ms ask k)
 
 -- messages that end with the true answer for f to an ask that was wanted of tree n before the
 -- first, and that was noted before the answer

@@ -1,5 +1,5 @@
 -- Rounds: messages that end with the true answer to what was wanted before them.
-use Rattle.std.specs.Prelude.{◌≡◌, ◌⊎◌, ℕ, zero, suc, ◌<◌, ◌≤◌, cond, is_none, List, [], ◌∷◌, ◌++◌, Option, Some, None}
+use Rattle.std.specs.Prelude.{◌≡◌, ◌⊎◌, ℕ, zero, suc, ◌<◌, ◌≤◌, List, [], ◌∷◌, ◌++◌, Some}
 use Rattle.std.specs.Borrow.{Bor}
 use Rattle.std.specs.List.{All}
 use Rattle.wire.specs.declared.message.Ask.{Ask}
@@ -11,7 +11,7 @@ use Rattle.session.specs.declared.verdict.Verdict.TheVariants as verdict
 use Rattle.node_maps.specs.Digest.{Hash}
 use Rattle.hashtree.specs.Tree.{block_count}
 use Rattle.partial_tree.specs.TreeRoot.{TreeRoot, Fits}
-use Rattle.node_maps.specs.Places.{tree_height, PartialTree}
+use Rattle.node_maps.specs.Places.{tree_height}
 use Rattle.partial_tree.specs.Closed.{Collision, whole}
 use Rattle.partial_tree.specs.Claims.{answer_of}
 use Rattle.partial_tree.specs.Gaps.{gaps, want_of}

@@ -1,7 +1,7 @@
 //! The laws of runs of messages, each as the contract of a function that does nothing.
 
 ghost use Rattle.session.specs.Laws.{RunKeepsPromises, RoundLeavesFewerGaps};
-ghost use Rattle.session.specs.NotedLaws.{ConversionRunsAsFormOne, FormOneRunsAsConversion, ConversionReplaysAsFormOne, NotedStaysOpen, IncomingOpensNothing, NotedRunKeeps, NotedRoundLeavesFewerGaps};
+ghost use Rattle.session.specs.NotedLaws.{ConversionRunsAsFormOne, FormOneRunsAsConversion, ConversionReplaysAsFormOne, OneRunWithMemory, ConversionTellsTheSame, NotedStaysOpen, IncomingOpensNothing, NotedRunKeeps, NotedRoundLeavesFewerGaps};
 ghost use Rattle.session.specs.RoundLaws.{NoGapMeansNothingWanted, NothingWantedMeansNoGap, WantedAnswerLeadsToRoot, RunGapsNeverRise, RoundRunLeavesFewerGaps, RoundsAreAtMostGaps, RoundsMakeAllKnown};
 
 /// A run keeps all trees closed, and each block that it verifies is the block of every file that
@@ -35,11 +35,14 @@ pub fn gaps_are_wants()
 {}
 
 /// If memory was refused for no request, the replay of a conversion gives what came in the verdicts
-/// that form 1 allows, and leaves the same trees and marks; each run of form 1 is such a run.
+/// that form 1 allows, and leaves the same trees and marks; each run of form 1 is such a run. With
+/// memory for all, messages have one run, so a conversion tells what its record of form 1 does.
 pub fn conversion_replays_as_form_1()
     ensures runs { ConversionRunsAsFormOne }
     ensures back { FormOneRunsAsConversion }
     ensures replays { ConversionReplaysAsFormOne }
+    ensures one { OneRunWithMemory }
+    ensures tells { ConversionTellsTheSame }
 {}
 
 /// A noted ask is open until the hashes of its base range are known, and what comes in opens none.

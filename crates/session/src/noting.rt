@@ -3,7 +3,7 @@
 ghost use Rattle.std.specs.Prelude.{◌≡◌, ◌↔◌, IfOk, IfErr, OnOk, OnErr, IsOk, IsTrue};
 ghost use Rattle.chains.specs.Chain.{Chain};
 ghost use Rattle.session.specs.SafeStep.{KeepsKnown, StoresTrueHashes, StoresAnswers};
-ghost use Rattle.session.specs.Noted.{IsOpen, IsAnswerStored, IsAnswerRefused, StepIn, StepOut, IsSafeNotedStep, KeepsOpen, opened};
+ghost use Rattle.session.specs.Noted.{IsOpenAsk, IsAnswerStored, IsAnswerRefused, StepIn, StepOut, IsSafeNotedStep, KeepsOpen, with_ask};
 ghost use Rattle.session.specs.NotedRounds.{NotedRoundLeavesFewer};
 ghost use Rattle.session.specs.Rounds.{HasNoMoreGaps};
 
@@ -19,10 +19,10 @@ impl<'t, N: NodeMap> Session<'t, N> {
     /// that is open already changes nothing and takes no memory. Fails only where memory was
     /// refused, and then the session is unchanged.
     pub fn note(&mut self, ask: &Ask) -> Result<(), NoMemory>
-        ensures noted { OnOk result (self.new ≡ opened self.old ask.now) }
+        ensures noted { OnOk result (self.new ≡ with_ask self.old ask.now) }
         ensures unchanged { OnErr result (self.new ≡ self.old) }
-        ensures open_already { IsOpen self.old ask.now → self.new ≡ self.old }
-        ensures no_memory { IsOpen self.old ask.now → IsOk result }
+        ensures open_already { IsOpenAsk self.old ask.now → self.new ≡ self.old }
+        ensures no_memory { IsOpenAsk self.old ask.now → IsOk result }
     {
         self.asks.insert(*ask)
     }
@@ -30,7 +30,7 @@ impl<'t, N: NodeMap> Session<'t, N> {
     /// Whether an ask is open: a request with these five fields was noted, and no hashes have
     /// answered it since.
     pub fn is_open(&self, ask: &Ask) -> bool
-        ensures { IsTrue result ↔ IsOpen self.now ask.now }
+        ensures { IsTrue result ↔ IsOpenAsk self.now ask.now }
     {
         self.asks.contains(ask)
     }
@@ -43,9 +43,9 @@ impl<'t, N: NodeMap> Session<'t, N> {
         ensures refused { IfErr result (λ r. IsAnswerRefused self.old ask.now hashes.now r
             × (self.new ≡ self.old)) }
         ensures keeps_known { KeepsKnown self.old self.new }
-        ensures stores_true_hashes { IsOpen self.old ask.now
+        ensures stores_true_hashes { IsOpenAsk self.old ask.now
             → StoresTrueHashes self.old ask.now hashes.now result }
-        ensures stores_answers { IsOpen self.old ask.now
+        ensures stores_answers { IsOpenAsk self.old ask.now
             → StoresAnswers self.old ask.now hashes.now result }
     {
         if !self.is_open(ask) {

@@ -18,9 +18,9 @@ pub struct OpenAsks {
 
 impl Model for OpenAsks {
     ghost use Rattle.std.specs.FinSet as set;
-    ghost use Rattle.session.specs.Asks.{Asks, asks_code};
+    ghost use Rattle.session.specs.Asks.{AskSet, asks_code};
 
-    ghost Value = { Asks };
+    ghost Value = { AskSet };
 
     ghost coded = { asks_code };
 

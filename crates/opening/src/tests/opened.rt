@@ -28,7 +28,7 @@ struct Opened {
 
 fn is_file(file: &File<'_>, listed: Listed) -> bool {
     let (path, length, tree, first_piece) = listed;
-    file.path.parts() == path
+    file.path.parts().as_slice() == path
         && file.length == length
         && file.tree == tree
         && file.first_piece == first_piece

@@ -161,7 +161,7 @@ pairs-pairs-preserved t c =
     let key = subst (λ b. key_at (option_copied l.before) b ≡ Ok (k.0.now, k.1.now)) c.in-Some.ensures c.in-Ok.ensures.read in
     let v = c.in_ok-item.item in
     let x : Pair = record { key = k.0; value = v } in
-    let pushed : c.push.new.self.items ≡ l.found.items ++ x ∷ [] = search rules in
+    let pushed : c.push.new.found.items ≡ l.found.items ++ x ∷ [] = search rules in
     let more = pairs_more p n c.in-Some.first (option_copied l.before) rest k.1.now c.in_ok-item.after.now k.0.now (view v) l.found.items x (view-Pair k.0 v) (omega (arith, l.invariant.read.1)) c.if-first-eq101.false key c.in_ok-item.ensures.read in
     let behind = k.1.now in
     let after = c.in_ok-item.after.now in
@@ -185,7 +185,7 @@ pairs-pairs-preserved t c =
             (pairs_grow c.args.room None l.found.items x k.0.now (view v) done.0 took.0 (view-Pair k.0 v) done.2 name.0 (subst (λ b. IsAbove k.0.now b) done.3 name.1) took.2),
         sym (ap (λ ps. last_key None (pairs_view ps)) pushed ∙ last_grows None l.found.items x ∙ ap (λ (y : Seen). Some y.0) (view-Pair k.0 v)),
       );
-      span = span_push (option_copied c.args.asked) l.span c.if_asked.result c.or-span.result l.found.items c.push.new.self.items x k.0.now (view v) given pushed (view-Pair k.0 v) l.invariant.span c.if_asked.ensures whole c.or-span.ensures;
+      span = span_push (option_copied c.args.asked) l.span c.if_asked.result c.or-span.result l.found.items c.push.new.found.items x k.0.now (view v) given pushed (view-Pair k.0 v) l.invariant.span c.if_asked.ensures whole c.or-span.ensures;
     }
 
 pub items-returns-then-first-eq101-clause-read : goal.items-returns-then-first-eq101-clause-read
@@ -204,7 +204,7 @@ items-items-preserved t c =
     let rest = c.in-Some.after.now in
     let v = c.in_ok-item.item in
     let size = ap length c.in-Some.ensures in
-    let pushed : c.push.new.self.items ≡ l.found.items ++ v ∷ [] = search rules in
+    let pushed : c.push.new.found.items ≡ l.found.items ++ v ∷ [] = search rules in
     let more = items_more p n c.in-Some.first rest c.in_ok-item.after.now l.found.items v (omega (arith, l.invariant.read.1)) c.if-first-eq101.false (rw (← c.in-Some.ensures) c.in_ok-item.ensures.read) in
     let took = value_takes c.args.room l.rest.now (view v, c.in_ok-item.after.now) c.in_ok-item.ensures.read in
     let done = l.invariant.done in

@@ -1,4 +1,4 @@
-use Rattle.std.proofs.Common.{◌≡◌, ◌++◌, List, [], map, sym, ap, ◌∙◌, subst}
+use Rattle.std.proofs.Common.{◌≡◌, ℕ, ◌+◌, ◌≤◌, length, arith, rules, ◌++◌, List, [], map, sym, ap, ◌∙◌, subst}
 use Rattle.std.proofs.lemmas.Result.{err_from_is_err_and}
 use Rattle.benc.specs.View.{pairs_view}
 use Rattle.filetree.specs.FileTree.{Walk, walks, listed}
@@ -16,19 +16,27 @@ use Rattle.filetree.proofs.reading.read_tree.Goals as goal
 all_found : (ws : List Walk) (old new there : List Found) → old ≡ [] → there ≡ new → map found new ≡ map found old ++ map (behind []) ws → map found there ≡ ws
 all_found ws old new there none same adds = ap (map found) same ∙ adds ∙ ap (λ fs. map found fs ++ map (behind []) ws) none ∙ behind_none ws
 
+pub walk-requires : goal.walk-requires
+walk-requires c = record {
+  room = 126;
+  deep = subst (λ (p : List (List ℕ)). length p + 126 ≤ 128) (sym c.root-root.ensures) (omega arith);
+  fits = c.requires;
+  shape = search rules;
+}
+
 pub returns-in_err-test : goal.returns-in_err-test
 returns-in_err-test c =
     let tree = pairs_view c.args.tree.now in
     let r = c.in_err-test.field-0.0 in
     let p = err_from_is_err_and c.from_residual-in_err-test.result c.from_residual-in_err-test.ensures.1 in
-    let all = all_found (walks tree) c.new-found.result.items c.walk.new.files.items c.deref.result.now c.new-found.ensures.items c.deref.ensures.value c.in_ok-walk.ensures.0 in
+    let all = all_found (walks tree) c.new-found.result.items c.walk.new.files.items c.deref.result.now c.new-found.ensures.items c.deref.ensures.value (subst (λ p. map found c.walk.new.files.items ≡ map found c.new-found.result.items ++ map (behind p) (walks tree)) c.root-root.ensures c.in_ok-walk.ensures.0) in
     let shape : NoneHolds (shape_rows tree) = ((λ bad. cc), (c.in_ok-walk.ensures.1, tt)) in
     rw (p.1, p.2) (λ _. first_behind (shape_rows tree) (file_rows (walks tree)) r shape (subst (λ ws. First (file_rows ws) r) all c.in_err-test.ensures))
 
 pub returns : goal.returns
 returns c =
     let tree = pairs_view c.args.tree.now in
-    let all = all_found (walks tree) c.new-found.result.items c.walk.new.files.items c.deref.result.now c.new-found.ensures.items c.deref.ensures.value c.in_ok-walk.ensures.0 in
+    let all = all_found (walks tree) c.new-found.result.items c.walk.new.files.items c.deref.result.now c.new-found.ensures.items c.deref.ensures.value (subst (λ p. map found c.walk.new.files.items ≡ map found c.new-found.result.items ++ map (behind p) (walks tree)) c.root-root.ensures c.in_ok-walk.ensures.0) in
     let made : map found c.walk.new.files.items ≡ walks tree = ap (map found) (sym c.deref.ensures.value) ∙ all in
     let shape : NoneHolds (shape_rows tree) = ((λ bad. cc), (c.in_ok-walk.ensures.1, tt)) in
     let files : NoneHolds (file_rows (walks tree)) = subst (λ ws. NoneHolds (file_rows ws)) all c.in_ok-test.ensures.0 in

@@ -6,7 +6,7 @@ use Rattle.metainfo.specs.File.{File}
 use Rattle.std.proofs.lemmas.List.{length-map, take_all}
 use Rattle.std.proofs.lemmas.List.Sums.{count_by-le-length}
 use Rattle.metainfo.specs.Seen.{file_entry, version1}
-use Rattle.folders.specs.Pass.{Finds}
+use Rattle.folders.specs.Pass.{FindsVerdict}
 use Rattle.chains.specs.Chain.{Chain}
 use Rattle.chains.proofs.Chains.{Chain-next}
 use Rattle.folders.specs.Shelf.{more}
@@ -61,7 +61,7 @@ files-preserved g c =
     let under = g.S.Shelf.under c.args.shelf.now in
     let there = file_there t c.files-entries.result.now n c.file-item.result c.files-entries.ensures c.files-test.true c.file-item.is in
     let pushed = sym c.push_reserved.ensures.items in
-    let found : Finds t f (under f.path) old new v = subst (λ told. Finds t f told old new v) (c.files.invariant.kept f.path) c.check_file.ensures.found in
+    let found : FindsVerdict t f (under f.path) old new v = subst (λ told. FindsVerdict t f told old new v) (c.files.invariant.kept f.path) c.check_file.ensures.found in
     record {
       room = omega (arith, c.files.invariant.room, c.push_reserved.ensures.capacity);
       counted = subst (λ xs. g.S.Shelf.faults c.check_file.new.shelf ≡ more (g.S.Shelf.faults c.args.shelf.now) (unreadable_count xs)) pushed

@@ -2,7 +2,7 @@ use Rattle.std.proofs.Common.{◌≡◌, ◌*◌, ◌∙◌, Some, ap, refl, sym
 use Rattle.metainfo.specs.Description.{TreeEntry}
 use Rattle.metainfo.specs.Seen.{file_entry, tree_entry}
 use Rattle.metainfo.specs.Sound.{IsSoundTree}
-use Rattle.folders.specs.Feeding.{Feeds}
+use Rattle.folders.specs.Feeding.{FeedsBoth}
 use Rattle.folders.proofs.Places.{start_fits}
 use Rattle.folders.proofs.Pieces.{filled_room, filled_to, finished, opened, other_count, read_whole, room_for_all, wrong_length}
 use Rattle.folders.proofs.Reports.{has_tree, sound_tree}
@@ -32,14 +32,14 @@ take_all-requires-clause-room g c =
 pub finish-place-requires : goal.finish-place-requires
 finish-place-requires g c =
     let tree = has_tree c.args.torrent.now c.requires.file.0 (file_entry c.args.file.now) (tree_entry c.args.tree.now) c.sound.ensures c.requires.file.1 c.requires.tree in
-    let read = read_whole Feeds _ _ _ _ _ _ _ c.if-ne.false c.ne.ensures c.in_ok-take_all.ensures.read in
+    let read = read_whole FeedsBoth _ _ _ _ _ _ _ c.if-ne.false c.ne.ensures c.in_ok-take_all.ensures.read in
     omega (arith, read.taken.count, read.count_is, read.taken.shape, c.piece_check.ensures.count, c.piece_check.ensures.shape, tree.0)
 
 pub tree_verdict-requires-clause-told : goal.tree_verdict-requires-clause-told
 tree_verdict-requires-clause-told g c =
     let e = tree_entry c.args.tree.now in
     let tree = has_tree c.args.torrent.now c.requires.file.0 (file_entry c.args.file.now) e c.sound.ensures c.requires.file.1 c.requires.tree in
-    let read = read_whole Feeds _ _ _ _ _ _ _ c.if-ne.false c.ne.ensures c.in_ok-take_all.ensures.read in (
+    let read = read_whole FeedsBoth _ _ _ _ _ _ _ c.if-ne.false c.ne.ensures c.in_ok-take_all.ensures.read in (
       read.bytes,
       finished _ c.args.torrent.now.piece_length _ _ e _ _ _ _ _ _ _ read tree.0 c.piece_length-piece_length.ensures
           c.piece_check.ensures.layer c.piece_check.ensures.content c.finish-place.ensures,
@@ -56,7 +56,7 @@ returns-clause-verdict g c =
     let f = file_entry c.args.file.now in
     let e = tree_entry c.args.tree.now in
     let tree = has_tree t c.requires.file.0 f e c.sound.ensures c.requires.file.1 c.requires.tree in
-    let read = read_whole Feeds _ _ _ _ _ _ _ c.if-ne.false c.ne.ensures c.in_ok-take_all.ensures.read in
+    let read = read_whole FeedsBoth _ _ _ _ _ _ _ c.if-ne.false c.ne.ensures c.in_ok-take_all.ensures.read in
     let told = finished _ t.piece_length _ _ e _ _ _ _ _ c.finish-place.result.1 c.finish-place.result.2 read tree.0 c.piece_length-piece_length.ensures
     c.piece_check.ensures.layer c.piece_check.ensures.content c.finish-place.ensures in
     opened t f _ _ _ _ _ _ c.args.stream.now.feed c.fill_to.new.self.feed _ _ read refl tree.1

@@ -77,6 +77,11 @@ returns-in_err-listed-clause-passes c =
     let number = subst (λ m. NoneHolds (piece_length_rows m)) same passed.0 in
     rw (p.1, p.2) (λ memory. tree_refused v (pairs_view keys.tree.now) c.in_err-listed.field-0.0 (none_both (head_rows v) (piece_length_rows (piece_length_in v)) c.in_ok-info.ensures.0 number) c.in_ok-info.ensures.1.tree (c.in_err-listed.ensures memory))
 
+pub read_tree-requires : goal.read_tree-requires
+read_tree-requires c =
+    let v = view c.args.top.now in
+    subst (λ ps. Fits 126 (dict ps)) (sym c.in_ok-info.ensures.1.tree) (tree_fits v c.requires.canonical)
+
 pub of-layers-requires : goal.of-layers-requires
 of-layers-requires c =
     let v = view c.args.top.now in

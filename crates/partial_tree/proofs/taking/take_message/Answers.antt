@@ -1,7 +1,7 @@
 use Rattle.std.proofs.Common.{[], ◌-◌, ◌/◌, ◌^◌, not, refl, sym, ap, ap₂, ◌∙◌, subst, replicate}
 use Rattle.partial_tree.specs.declared.evidence.Evidence.{Evidence}
 use Rattle.partial_tree.specs.TreeRoot.{TreeRoot}
-use Rattle.node_maps.specs.Places.{tree_height, IsPlace, IsKnown}
+use Rattle.node_maps.specs.Places.{tree_height, IsTreePlace, IsKnown}
 use Rattle.node_maps.specs.Known.{look}
 use Rattle.partial_tree.specs.Claims.{top_layer, top_index, GoodRange, GoodCount}
 use Rattle.partial_tree.specs.Evidence.{LeadsTo}
@@ -13,8 +13,8 @@ store-requires-clause-place g c =
     let K = look (g.N.NodeMap.known c.args.nodes.now) in
     let index = c.from.result / 2 ^ (c.in_ok-top.top - c.args.ask.now.base) in
     let v = known_of c.get.result (c.is_none.ensures ∙ ap not c.if-is_none.false) in
-    let at : IsPlace c.args.height c.in_ok-top.top index = c.requires.places c.in_ok-top.top index (v.0, sym c.get.ensures ∙ v.1) in
-    subst (λ h. IsPlace h c.in_ok-top.top index) (c.requires.height ∙ ap tree_height (sym c.requires.shape)) at
+    let at : IsTreePlace c.args.height c.in_ok-top.top index = c.requires.places c.in_ok-top.top index (v.0, sym c.get.ensures ∙ v.1) in
+    subst (λ h. IsTreePlace h c.in_ok-top.top index) (c.requires.height ∙ ap tree_height (sym c.requires.shape)) at
 
 pub store-requires-clause-leads : goal.store-requires-clause-leads
 store-requires-clause-leads g c =

@@ -1,4 +1,5 @@
 use Rattle.session.proofs.Replayed.{conversion_runs, form_1_runs, conversion_replays}
+use Rattle.session.proofs.OneRun.{one_run, conversion_tells}
 use Rattle.session.proofs.laws.conversion_replays_as_form_1.Goals as goal
 
 pub returns : goal.returns
@@ -6,4 +7,6 @@ returns c = record {
   runs = conversion_runs;
   back = form_1_runs;
   replays = conversion_replays;
+  one = one_run;
+  tells = conversion_tells;
 }

@@ -1,4 +1,4 @@
-use Rattle.std.proofs.Common.{◌≡◌, ◌<◌, length, take, subst, sym, arith}
+use Rattle.std.proofs.Common.{◌<◌, length, take, subst, sym, arith}
 use Rattle.session.specs.Blocks.{BlocksSeen, most_blocks}
 use Rattle.session.proofs.Arrays.{pushed-array}
 use Rattle.session.proofs.blocks.Blocks.push.Goals as goal

@@ -1,4 +1,4 @@
-use Rattle.std.proofs.Common.{◌≡◌, sym, ap, ◌∙◌}
+use Rattle.std.proofs.Common.{sym, ap, ◌∙◌}
 use Rattle.std.specs.FinSet as set
 use Rattle.session.proofs.OpenAsks.{kept_contains}
 use Rattle.session.proofs.open_asks.OpenAsks.contains.Goals as goal

@@ -1,11 +1,11 @@
-use Rattle.std.proofs.Common.{◌≡◌, ℕ, List, length, Some, refl, sym, ap, ◌∙◌, subst}
+use Rattle.std.proofs.Common.{◌≡◌, ℕ, List, length, Some, refl, sym, ◌∙◌, subst}
 use Rattle.std.proofs.lemmas.Option.{none-some}
 use Rattle.metainfo.specs.Blocks.{IsBlockRun}
 use Rattle.metainfo.specs.Description.{Description}
-use Rattle.metainfo.specs.Places.{IsPlace, place_of}
+use Rattle.metainfo.specs.Places.{IsBlockPlace, place_of}
 use Rattle.partial_tree.specs.Kept.{KeptTree}
 use Rattle.session.specs.Layouts.{SessionSeen, seen}
-use Rattle.session.specs.Session.{IsInFile, AreRefused, AreTaken}
+use Rattle.session.specs.Session.{IsInFile, AreRefused}
 use Rattle.partial_tree.specs.declared.refusal.BlockRefusal.TheVariants.{BadSize}
 use Rattle.session.proofs.Sessions.{in_file_of, taken_at}
 use Rattle.session.proofs.session.Session.mark_blocks.Goals as goal
@@ -14,7 +14,7 @@ pub returns-in-None-clause-refused : goal.returns-in-None-clause-refused
 returns-in-None-clause-refused g c =
     let d : Description = c.self.inside.torrent.now in
     let ts : List KeptTree = c.self.inside.trees.items in
-    let f : IsPlace d c.args.index c.args.begin c.in-Some.file c.in-Some.first = c.in-Some.ensures.found in
+    let f : IsBlockPlace d c.args.index c.args.begin c.in-Some.file c.in-Some.first = c.in-Some.ensures.found in
     let (p, same) = in_file_of c.self.inside.asks d ts c.self.invariant.0 c.sound.ensures c.in-Some.file c.in-Some.first f.file f.there f.in_file in
     let at : place_of d c.args.index c.args.begin ≡ Some (c.in-Some.file, c.in-Some.first) = sym c.place.ensures.value ∙ c.in-Some.is in
     let none : (k : ℕ) → ¬ IsBlockRun p.tree.length c.in-Some.first (length c.args.bytes.now) k = λ k run.
@@ -27,7 +27,7 @@ pub returns-in-Some-block_run-clause-taken : goal.returns-in-Some-block_run-clau
 returns-in-Some-block_run-clause-taken g c =
     let d : Description = c.self.inside.torrent.now in
     let ts : List KeptTree = c.self.inside.trees.items in
-    let f : IsPlace d c.args.index c.args.begin c.in-Some.file c.in-Some.first = c.in-Some.ensures.found in
+    let f : IsBlockPlace d c.args.index c.args.begin c.in-Some.file c.in-Some.first = c.in-Some.ensures.found in
     let (p, same) = in_file_of c.self.inside.asks d ts c.self.invariant.0 c.sound.ensures c.in-Some.file c.in-Some.first f.file f.there f.in_file in
     let at : place_of d c.args.index c.args.begin ≡ Some (c.in-Some.file, c.in-Some.first) = sym c.place.ensures.value ∙ c.in-Some.is in
     let run : IsBlockRun p.tree.length c.in-Some.first (length c.args.bytes.now) c.in-Some-block_run.count =

@@ -1,7 +1,7 @@
-use Rattle.std.proofs.Common.{◌≡◌, sym, ap, ◌∙◌, subst}
-use Rattle.session.specs.Asks.{Asks}
+use Rattle.std.proofs.Common.{sym, ap, ◌∙◌, subst}
+use Rattle.session.specs.Asks.{AskSet}
 use Rattle.session.specs.Layouts.{SessionSeen, seen}
-use Rattle.session.specs.Noted.{closed}
+use Rattle.session.specs.Noted.{without_ask}
 use Rattle.session.specs.SafeStep.{KeepsKnown}
 use Rattle.session.proofs.Asking.{keeps_asking}
 use Rattle.session.proofs.session.Session.take_answer.Goals as goal
@@ -11,10 +11,10 @@ returns-in-Ok-clause-stored g c = record {
   was_open = c.is_open.ensures.0 c.if-not-is_open.false;
   joined = c.take_hashes.new.self;
   stored = c.in-Ok.ensures.stored;
-  state_after = ap (λ (o : Asks). seen c.self.inside.torrent.now o c.self.inside.trees.items) c.remove.ensures ∙ ap (λ (v : SessionSeen). closed v c.args.ask.now) c.self.view_is;
+  state_after = ap (λ (o : AskSet). seen c.self.inside.torrent.now o c.self.inside.trees.items) c.remove.ensures ∙ ap (λ (v : SessionSeen). without_ask v c.args.ask.now) c.self.view_is;
 }
 
 pub returns-in-Ok-clause-keeps_known : goal.returns-in-Ok-clause-keeps_known
 returns-in-Ok-clause-keeps_known g c =
-    subst (KeepsKnown c.args.self.now) (sym (ap (λ (o : Asks). seen c.self.inside.torrent.now o c.self.inside.trees.items) c.remove.ensures ∙ ap (λ (v : SessionSeen). closed v c.args.ask.now) c.self.view_is))
+    subst (KeepsKnown c.args.self.now) (sym (ap (λ (o : AskSet). seen c.self.inside.torrent.now o c.self.inside.trees.items) c.remove.ensures ∙ ap (λ (v : SessionSeen). without_ask v c.args.ask.now) c.self.view_is))
     (keeps_asking _ c.args.self.now c.take_hashes.new.self c.in-Ok.ensures.keeps_known)

@@ -1,0 +1,93 @@
+//! The folders on the way to a file.
+
+ghost use Rattle.std.specs.Prelude.{◌≡◌, ◌+◌, ◌≤◌, ◌++◌, ◌∷◌, [], length, map};
+ghost use Rattle.filetree.specs.Folders.{names_to, names_of};
+ghost use Rattle.filetree.specs.Tests.{UnlessNoMemory};
+
+use crate::path::Parts;
+use crate::refusal::Refusal;
+use std::alloc::Global;
+use std::marker::Model;
+use std::rc::Rc;
+
+/// A folder, and the folders that it lies in, which it shares with those beside it.
+#[derive(Debug, Drop)]
+struct Folder {
+    above: Option<Rc<Folder>>,
+    name: String,
+}
+
+/// The folders from the torrent's root down to one of them. Contracts see them as their names.
+#[derive(Debug, Drop)]
+pub(crate) struct Folders {
+    last: Option<Rc<Folder>>,
+}
+
+impl Model for Folders {
+    ghost use Rattle.std.specs.Prelude.{ℕ, List};
+    ghost use Rattle.filetree.specs.Folders.{names_of};
+
+    ghost Value = { List (List ℕ) };
+
+    ghost view = { λ f. names_of f.last };
+}
+
+impl Folders {
+    /// The torrent's root.
+    pub(crate) fn root() -> Folders
+        ensures { result ≡ [] }
+    {
+        Folders { last: None }
+    }
+
+    /// The folder `name` below this one.
+    pub(crate) fn join(&self, alloc: Global, name: &str) -> Result<Folders, Refusal>
+        ensures { UnlessNoMemory result (λ f. f ≡ self.now ++ name.now ∷ []) }
+    {
+        let above = shared(&self.last)?;
+        let name = String::from_str(alloc, name)?;
+        let last = Rc::new(alloc, Folder { above, name })?;
+        Ok(Folders { last: Some(last) })
+    }
+
+    /// The same folders.
+    pub(crate) fn share(&self) -> Result<Folders, Refusal>
+        ensures { UnlessNoMemory result (λ f. f ≡ self.now) }
+    {
+        Ok(Folders {
+            last: shared(&self.last)?,
+        })
+    }
+
+    /// Puts their names at the end.
+    pub(crate) fn put<'p>(&'p self, parts: &mut Parts<'p>)
+        requires { length parts.old.items + length self.now ≤ 128 }
+        ensures { map (λ s. s.now) parts.new.items ≡ map (λ s. s.now) parts.old.items ++ self.now }
+    {
+        if let Some(last) = &self.last {
+            put(last, parts);
+        }
+    }
+}
+
+/// One more owner of a folder and those above it.
+fn shared(last: &Option<Rc<Folder>>) -> Result<Option<Rc<Folder>>, Refusal>
+    ensures { UnlessNoMemory result (λ copy. names_of copy ≡ names_of last.now) }
+{
+    match last {
+        Some(last) => Ok(Some(last.clone()?)),
+        None => Ok(None),
+    }
+}
+
+/// Puts the names down to this folder at the end.
+fn put<'p>(last: &'p Folder, parts: &mut Parts<'p>)
+    requires { length parts.old.items + length (names_to last.now) ≤ 128 }
+    ensures { map (λ s. s.now) parts.new.items
+        ≡ map (λ s. s.now) parts.old.items ++ names_to last.now }
+{
+    if let Some(above) = &last.above {
+        put(above, parts);
+    }
+    parts.push(last.name.as_str());
+}
