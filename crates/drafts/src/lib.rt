@@ -14,4 +14,4 @@ mod tests;
 mod tree_text;
 
 pub use draft::Draft;
-pub use laws::draft_describes;
+pub use laws::{draft_describes, draft_is_outline};

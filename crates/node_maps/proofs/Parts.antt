@@ -1,11 +1,11 @@
 -- The part of a run that lies on one page.
-use Rattle.std.proofs.Common.{◌≡◌, ℕ, ◌+◌, ◌-◌, ◌/◌, ◌%◌, ◌<◌, ◌≤◌, Some, None, sym, ap, ap₂, ◌∙◌, arith}
+use Rattle.std.proofs.Common.{◌≡◌, ℕ, ◌+◌, ◌/◌, ◌%◌, ◌<◌, ◌≤◌, Some, None, sym, ap, ap₂, ◌∙◌, arith}
 use Rattle.std.proofs.lemmas.Option.{none-some}
 use Rattle.node_maps.specs.declared.page.Page.{Page}
 use Rattle.node_maps.specs.Cell.{hash_of, hash_in}
 use Rattle.node_maps.specs.Pages.{Numbered, cell_of, cell_in}
 use Rattle.node_maps.specs.Runs.{AreKnown}
-use Rattle.node_maps.proofs.Runs.{ReadAlike, known-part}
+use Rattle.node_maps.proofs.Runs.{ReadAlike}
 
 -- a page reads as its layer does
 pub page-alike : (pages : Numbered) (at n first count : ℕ) (page : Page) → n ≡ at / 512 → first ≡ at % 512 → first + count ≤ 512 → pages n ≡ Some page

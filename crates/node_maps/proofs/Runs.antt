@@ -1,7 +1,6 @@
 -- Runs of hashes, part by part.
-use Rattle.std.proofs.Common.{◌≡◌, ℕ, zero, suc, ◌+◌, ◌-◌, ◌<◌, ◌≤◌, ◌↔◌, List, [], ◌∷◌, ◌++◌, length, get_or, take, drop, map, Option, Some, None, inl, inr, refl, sym, ap, ◌∙◌, subst, arith, append_assoc, append-nil, length-drop}
+use Rattle.std.proofs.Common.{◌≡◌, ℕ, zero, suc, ◌+◌, ◌-◌, ◌<◌, ◌≤◌, ◌↔◌, List, [], ◌∷◌, ◌++◌, length, get_or, take, drop, Option, Some, None, inl, inr, refl, sym, ap, ◌∙◌, subst, arith, append_assoc, append-nil, length-drop}
 use Rattle.std.specs.Option.{unwrap_or}
-use Rattle.std.specs.List.{range_with_len}
 use Rattle.std.proofs.lemmas.Bool.{cases_lt}
 use Rattle.std.proofs.lemmas.Option.{none-some}
 use Rattle.std.proofs.lemmas.List.{get_or-take, get_or-drop, length-take}
@@ -111,10 +110,7 @@ none-known f a n none j low = absurd (omega arith)
 pub none-hashes : (f : LayerHashes) (a n : ℕ) → n ≡ 0 → hashes_from f a n ≡ []
 none-hashes f a n none = ap (hashes_from f a) none
 
--- a run of no places, or of a layer that has nothing
-pub iff-none : (f : LayerHashes) (a n : ℕ) {P : Type 0} → P → n ≡ 0 → (P ↔ AreKnown f a n)
-iff-none f a n p none = (λ _. none-known f a n none, λ _. p)
-
+-- only an empty run is known of a layer that has nothing
 pub some-known : (f : LayerHashes) (a n : ℕ) → ((i : ℕ) → f i ≡ None) → AreKnown f a n → n ≡ 0
 some-known f a zero nothing known = refl
 some-known f a (suc n) nothing known = let here = known 0 (omega arith) in absurd (none-some here.0 (sym (nothing (a + 0)) ∙ here.1))

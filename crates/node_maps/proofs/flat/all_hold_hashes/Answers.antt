@@ -1,4 +1,4 @@
-use Rattle.std.proofs.Common.{◌≡◌, Option, Some, None, is_some, true, false, not, get_or, refl, sym, ap, ◌∙◌, below_more}
+use Rattle.std.proofs.Common.{◌≡◌, Option, Some, None, is_some, true, not, get_or, refl, sym, ap, ◌∙◌, below_more}
 use Rattle.std.proofs.lemmas.Bool.{false≢true}
 use Rattle.node_maps.specs.Digest.{Hash}
 use Rattle.node_maps.specs.Flat.{hash_in}

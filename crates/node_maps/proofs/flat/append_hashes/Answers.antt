@@ -1,4 +1,4 @@
-use Rattle.std.proofs.Common.{◌≡◌, ◌+◌, ◌++◌, Some, vec_len, sym, ap, ◌∙◌, arith}
+use Rattle.std.proofs.Common.{vec_len, sym, ap, ◌∙◌, arith}
 use Rattle.std.specs.Vec.{vec_capacity}
 use Rattle.node_maps.specs.Flat.{hash_in}
 use Rattle.node_maps.proofs.Runs.{from-start, run-pushed}

@@ -1,4 +1,3 @@
-use Rattle.std.proofs.Common.{◌≡◌, ◌<◌, ◌≤◌, length, eqb, arith}
 use Rattle.std.proofs.lemmas.Bool.{eq-eqb, eqb-true}
 use Rattle.node_maps.specs.Paged.{hashes}
 use Rattle.node_maps.proofs.Paging.{row-hashes, no_row-hashes}

@@ -1,4 +1,4 @@
-use Rattle.std.proofs.Common.{◌≡◌, ◌++◌, [], sym, ap, ◌∙◌, append-nil}
+use Rattle.std.proofs.Common.{◌++◌, sym, ap, ◌∙◌, append-nil}
 use Rattle.node_maps.specs.Paged.{hashes}
 use Rattle.node_maps.proofs.Paging.{row-hashes, no_row-hashes}
 use Rattle.node_maps.proofs.Runs.{alike-each, alike-back, known-alike, hashes-alike, some-known, none-hashes}

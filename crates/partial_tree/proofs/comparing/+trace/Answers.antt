@@ -1,4 +1,4 @@
-use Rattle.std.proofs.Common.{arith, rules, sym, ap, ◌∙◌, Some}
+use Rattle.std.proofs.Common.{arith, sym, ap, ◌∙◌, Some}
 use Rattle.node_maps.specs.Places.{tree_height}
 use Rattle.node_maps.specs.Known.{look}
 use Rattle.partial_tree.specs.Evidence.{claimed_by}

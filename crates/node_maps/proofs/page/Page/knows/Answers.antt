@@ -1,4 +1,4 @@
-use Rattle.std.proofs.Common.{◌≡◌, ◌≤◌, ◌+◌, ◌↔◌, length, subst, ap, arith}
+use Rattle.std.proofs.Common.{◌≤◌, ◌+◌, ◌↔◌, length, subst, ap, arith}
 use Rattle.std.specs.Bool.{IsTrue}
 use Rattle.node_maps.specs.Cell.{hash_of, hash_in}
 use Rattle.node_maps.specs.declared.page.Cell.TheVariants.{Empty}

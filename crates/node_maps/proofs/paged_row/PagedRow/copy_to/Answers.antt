@@ -1,4 +1,4 @@
-use Rattle.std.proofs.Common.{◌≡◌, ◌+◌, ◌≤◌, ◌++◌, vec_len, sym, ap, ◌∙◌, append_assoc, arith}
+use Rattle.std.proofs.Common.{◌+◌, ◌≤◌, ◌++◌, vec_len, sym, ap, ◌∙◌, append_assoc, arith}
 use Rattle.std.specs.Vec.{vec_capacity}
 use Rattle.node_maps.specs.Cell.{hash_in}
 use Rattle.node_maps.specs.Directories.{on_rows}

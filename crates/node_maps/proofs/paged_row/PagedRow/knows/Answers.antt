@@ -1,9 +1,8 @@
-use Rattle.std.proofs.Common.{◌≡◌, ◌+◌, ◌≤◌, sym, ◌∙◌, arith}
+use Rattle.std.proofs.Common.{◌+◌, ◌≤◌, sym, ◌∙◌, arith}
 use Rattle.std.proofs.lemmas.Bool.{false≢true}
-use Rattle.node_maps.specs.Cell.{hash_in}
 use Rattle.node_maps.specs.Directories.{on_rows}
 use Rattle.node_maps.specs.PagedRow.{pages_of, hashes_of}
-use Rattle.node_maps.proofs.Runs.{ReadAlike, known-alike, alike-back, known-part, known-join}
+use Rattle.node_maps.proofs.Runs.{known-alike, alike-back, known-part, known-join}
 use Rattle.node_maps.proofs.Parts.{page-alike, page-there}
 use Rattle.node_maps.proofs.paged_row.PagedRow.knows.Goals as goal
 

@@ -1,0 +1,2 @@
+-- What contracts of round trips cite.
+pub mod RoundTrip
