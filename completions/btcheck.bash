@@ -7,6 +7,8 @@ _btcheck_command() {
         root) kinds=(file) ;;
         show) kinds=(torrent) ;;
         check) kinds=(torrent folder) ;;
+        create) options+=' --name --piece-length --hybrid' kinds=(folder file) ;;
+        convert) kinds=(file file) ;;
         replay) options+=' --info-only --seed --answers' kinds=(torrent file) ;;
         help) options='' kinds=(command) ;;
         *) options='' kinds=() ;;
@@ -18,6 +20,7 @@ _btcheck_value() {
     case $1 in
         --seed) kind=folder ;;
         --answers) kind=file ;;
+        --name | --piece-length) kind=text ;;
         *) kind='' ;;
     esac
 }
@@ -26,7 +29,7 @@ _btcheck_value() {
 _btcheck_argument() {
     local text=$2
     case $1 in
-        command) mapfile -t COMPREPLY < <(compgen -W 'root show check replay help' -- "$text") ;;
+        command) mapfile -t COMPREPLY < <(compgen -W 'root show check create replay convert help' -- "$text") ;;
         folder) mapfile -t COMPREPLY < <(compgen -d -- "$text") ;;
         file) mapfile -t COMPREPLY < <(compgen -f -- "$text") ;;
         torrent)

@@ -1,13 +1,13 @@
 # Completion of btcheck for fish.
 
-set -l commands root show check replay help
+set -l commands root show check create replay convert help
 set -l none "not __fish_seen_subcommand_from $commands"
 
 # How many arguments stand after the command.
 function __btcheck_arguments
     set -l words (commandline -opc)
     set -l found (string match -v -- '-*' $words)
-    set -l valued (string match -r -- '^--(seed|answers)$' $words)
+    set -l valued (string match -r -- '^--(seed|answers|name|piece-length)$' $words)
     math (count $found) - (count $valued) - 2
 end
 
@@ -26,6 +26,17 @@ complete -c btcheck -n '__fish_seen_subcommand_from check; and test (__btcheck_a
     -k -a '(__fish_complete_suffix .torrent)'
 complete -c btcheck -n '__fish_seen_subcommand_from check; and test (__btcheck_arguments) -eq 1' \
     -a '(__fish_complete_directories)'
+
+complete -c btcheck -n $none -a create -d 'Make a torrent of all files in a folder'
+complete -c btcheck -n '__fish_seen_subcommand_from create; and test (__btcheck_arguments) -eq 0' \
+    -a '(__fish_complete_directories)'
+complete -c btcheck -n '__fish_seen_subcommand_from create; and test (__btcheck_arguments) -eq 1' -F
+complete -c btcheck -n '__fish_seen_subcommand_from create' -l name -x -d 'The display name'
+complete -c btcheck -n '__fish_seen_subcommand_from create' -l piece-length -x -d 'Bytes a piece'
+complete -c btcheck -n '__fish_seen_subcommand_from create' -l hybrid -d 'Make a hybrid'
+
+complete -c btcheck -n $none -a convert -d 'Make a record with directions of one without'
+complete -c btcheck -n '__fish_seen_subcommand_from convert; and test (__btcheck_arguments) -lt 2' -F
 
 complete -c btcheck -n $none -a replay -d 'Check recorded messages of peers'
 complete -c btcheck -n '__fish_seen_subcommand_from replay; and test (__btcheck_arguments) -eq 0' \

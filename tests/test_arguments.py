@@ -4,7 +4,7 @@ import re
 
 from support import TOP, expect, run
 
-COMMANDS = ["root", "show", "check", "replay"]
+COMMANDS = ["root", "show", "check", "create", "replay", "convert"]
 
 REFUSED = [
     [],
@@ -31,6 +31,20 @@ REFUSED = [
     ["replay", "a", "b", "--seed", "c", "--seed", "d"],
     ["replay", "a", "b", "--answers"],
     ["replay", "a", "b", "--seeds", "c"],
+    ["create", "a", "b"],
+    ["create", "a", "b", "--name", "x"],
+    ["create", "a", "b", "--piece-length", "16384"],
+    ["create", "a", "--name", "x", "--piece-length", "16384"],
+    ["create", "a", "b", "c", "--name", "x", "--piece-length", "16384"],
+    ["create", "a", "b", "--name", "x", "--piece-length", "16 KiB"],
+    ["create", "a", "b", "--name", "x", "--piece-length", ""],
+    ["create", "a", "b", "--name", "x", "--piece-length=-1"],
+    ["create", "a", "b", "--name", "x", "--piece-length", "18446744073709551616"],
+    ["create", "a", "b", "--name", "x", "--name", "y", "--piece-length", "16384"],
+    ["create", "a", "b", "--name", "x", "--piece-length", "16384", "--hybrid", "--hybrid"],
+    ["convert", "a"],
+    ["convert", "a", "b", "c"],
+    ["convert", "a", "b", "--hybrid"],
 ]
 
 

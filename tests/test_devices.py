@@ -38,6 +38,13 @@ class World:
             "check": (["check", self.pair, self.folder], 0), "replay": (["replay", self.abc, self.record], 1),
         }
 
+        # Commands that print nothing and write a file: their arguments, what they read, and the file.
+        self.made = f"{place}/made"
+        self.writers = {
+            "create": (["create", self.folder, self.made, "--name", "x", "--piece-length", "32768", "--hybrid"], ["a", "c"]),
+            "convert": (["convert", self.record, self.made], [self.record]),
+        }
+
     def ample(self, command):
         arguments, status = self.commands[command]
         done = run(*arguments)
@@ -252,3 +259,71 @@ def test_closed_streams_keep_their_places():
         for arguments in (["root", "/dev/stdin"], ["replay", world.abc, "/dev/stdin"]):
             done = run(*arguments, stdin=None, preexec_fn=lambda: os.close(0))
             assert done.returncode == 2 and b"verified" not in done.stdout, done
+
+
+def written(path):
+    with open(path, "rb") as file:
+        return file.read()
+
+
+def ample_of_writer(shim, world, command):
+    arguments, sources = world.writers[command]
+    assert outcome(shim.run("write", 0, *arguments)[1]) == (0, "", ""), command
+    return arguments, sources, written(world.made)
+
+
+def test_written_files_that_fail():
+    """What is in the file is a prefix of what belongs there, or all of it, and the fault is told."""
+    if is_static():
+        return
+    with shimmed() as (place, shim):
+        world = World(place)
+        for command in world.writers:
+            arguments, _, ample = ample_of_writer(shim, world, command)
+            for error in (errno.ENOSPC, errno.EPIPE, errno.EINTR, errno.EIO):
+                for one_byte in (False, True):
+                    calls, done = shim.run("write", 0, *arguments, one_byte=one_byte)
+                    assert outcome(done) == (0, "", "") and written(world.made) == ample, (command, one_byte, done)
+                    for at in {1, 2, 3, calls // 2, calls} & set(range(1, calls + 1)):
+                        _, done = shim.run("write", at, *arguments, error=error, one_byte=one_byte)
+                        told = {(2, "", f"fault: cannot write {world.made}\n")}
+                        told |= {(0, "", "")} if error == errno.EINTR else set()
+                        assert outcome(done) in told and ample.startswith(written(world.made)), (command, at, done)
+
+
+def test_sources_of_written_files_that_fail():
+    if is_static():
+        return
+    with shimmed() as (place, shim):
+        world = World(place)
+        for command in world.writers:
+            arguments, sources, ample = ample_of_writer(shim, world, command)
+            cannot = {cannot_read(source) for source in sources}
+            for error in (errno.EIO, errno.EAGAIN):
+                runs = [outcome(done) for done in shim.each("read", *arguments, error=error)]
+                assert runs[0] == (0, "", "") and set(runs[1:]) == cannot, (command, runs)
+            for error in (errno.EMFILE, errno.EACCES, errno.ENOENT):
+                runs = [outcome(done) for done in shim.each("open", *arguments, error=error)]
+                others = {cannot_read(world.folder), (2, "", f"fault: cannot write {world.made}\n")}
+                assert runs[0] == (0, "", "") and cannot <= set(runs[1:]) <= cannot | others, (command, error, runs)
+            for kind in ("stat", "close"):
+                runs = {outcome(done) for done in shim.each(kind, *arguments)}
+                assert runs <= cannot | {(0, "", ""), cannot_read(world.folder)}, (command, kind, runs)
+            assert outcome(shim.run("read", 0, *arguments, one_byte=True)[1]) == (0, "", "")
+            assert written(world.made) == ample, command
+
+
+def test_files_that_are_written_on_full_disks_and_closed_pipes():
+    with folder() as place:
+        world = World(place)
+        for arguments, _ in world.writers.values():
+            to = [word if word != world.made else "/dev/full" for word in arguments]
+            expect(run(*to), 2, b"", "fault: cannot write /dev/full\n")
+            to = [word if word != world.made else "/dev/stdout" for word in arguments]
+            read_end, write_end = os.pipe()
+            os.close(read_end)
+            expect(run(*to, stdout=write_end), 2, None, "fault: cannot write /dev/stdout\n")
+            os.close(write_end)
+            for closed in ([0], [1], [2], [0, 1, 2]):
+                run(*arguments, stdin=None, stdout=None, stderr=None, preexec_fn=lambda: [os.close(at) for at in closed])
+                assert written(world.made) and run(*to).stdout == written(world.made), (arguments, closed)

@@ -5,6 +5,7 @@ import re
 
 import messages
 import record_model
+from create_model import torrent_of as torrent_of_folder
 from session_model import Session
 from shim import is_static, shimmed
 from support import write
@@ -199,3 +200,38 @@ def test_answers():
                 assert done.returncode == 2 and not done.stderr, (called, done)
                 unanswered += 1
         assert unanswered >= 2, unanswered
+
+
+def test_create():
+    """The torrent is written whole or not at all; a file that no memory was there to open cannot be read."""
+    if is_static():
+        return
+    contents = {"a": TWO, "b/c": b"abc", "b/d/e": FIVE, "f": b""}
+    with shimmed() as (place, shim):
+        for path, content in contents.items():
+            os.makedirs(os.path.dirname(f"{place}/folder/{path}"), exist_ok=True)
+            write(f"{place}/folder/{path}", content)
+        out = f"{place}/out"
+        cannot = {(2, b"", f"fault: cannot read {path}\n".encode()) for path in contents}
+        for flags in ([], ["--hybrid"]):
+            whole = torrent_of_folder(contents, "x", 32768, bool(flags))
+            arguments = ["create", f"{place}/folder", out, "--name", "x", "--piece-length", "32768", *flags]
+            for called, done in refused_in_turn(shim, " ".join(["create", *flags]), *arguments):
+                with open(out, "rb") as file:
+                    made = file.read()
+                if called == "ample":
+                    assert outcome(done) == (0, b"", b"") and made == whole, (called, outcome(done))
+                assert outcome(done) in {(0, b"", b""), NO_MEMORY} | cannot, (called, outcome(done))
+                assert made in ({whole} if done.returncode == 0 else {b"", b"before"}), (called, made)
+                write(out, b"before")
+
+
+def test_convert():
+    """Memory is taken for the arguments alone."""
+    if is_static():
+        return
+    record = messages.KEEP_ALIVE + messages.piece(0, 0, bytes(16384))
+    with shimmed() as (place, shim):
+        path, out = write(f"{place}/record", record), f"{place}/out"
+        for called, done in refused_in_turn(shim, "convert", "convert", path, out):
+            assert outcome(done) in ((0, b"", b""), NO_MEMORY), (called, outcome(done))

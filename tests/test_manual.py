@@ -45,7 +45,7 @@ def commands():
 
 def test_help_is_read():
     """The reading of the help above is not empty."""
-    assert {"root", "show", "check", "replay", "help"} <= set(Helped().commands)
+    assert {"root", "show", "check", "create", "replay", "convert", "help"} <= set(Helped().commands)
     assert Helped("check").arguments == ["TORRENT", "DIR"]
     assert Helped("replay").options == {"-h", "--help", "--info-only", "--seed", "--answers"}
 
@@ -65,7 +65,7 @@ def test_manual_names_every_command_and_option():
     assert set(named) == set(at_top.commands), (named, at_top.commands)
     assert set(re.findall(r"^\.Cm (\w+)", synopsis, re.M)) == set(at_top.commands)
     for command, told in commands().items():
-        needed = re.sub(" Oo .*? Oc", "", named[command])
+        needed = re.sub(r" Oo .*? Oc| Fl \S+ Ar \w+", "", named[command])
         assert re.findall(r"(?<=Ar )\w+|(?<= )[A-Z]{2,}", needed) == told.arguments, (command, named[command])
         below = part(f"{entries}\n.It Cm ", f".It Cm {command}", "\n.It Cm ")
         listed = flags("\n".join(re.findall(r"^\.It (Fl .*)$", below, re.M)))
@@ -185,6 +185,7 @@ FILES_FOR = {
     "TORRENT": {"t.torrent", "folder"},
     "DIR": {"folder"},
     "RECORD": {"t.torrent", "two words", "folder"},
+    "OUT": {"t.torrent", "two words", "folder"},
 }
 
 # The options that take a value, and what it can be.

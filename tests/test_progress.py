@@ -119,6 +119,22 @@ def test_seeding():
             assert any(line.endswith(f"/all/{name}") for line in drawn(sent)), (name, sent)
 
 
+def test_create():
+    """The bytes in all are those of the files that were listed."""
+    with folder() as place:
+        os.mkdir(f"{place}/all")
+        for name in ["a", "b"]:
+            zeros(f"{place}/all", name, 128 * MIB)
+        words = ["--name", "x", "--piece-length", str(1 << 30)]
+        status, out, sent = on_terminal("create", f"{place}/all", f"{place}/out", *words, columns=500)
+        assert (status, out) == (0, "") and screen(sent) == [""], (out, sent)
+        checks = [OF_ALL.fullmatch(line) for line in drawn(sent)]
+        assert checks and all(checks) and {match[2] for match in checks} == {"256.0 MiB"}, sent
+        for match in checks:
+            before = {f": {place}/all/a": 0, f": {place}/all/b": 128 * MIB}[match[5]]
+            assert before <= amount(match[1]) <= before + 128 * MIB, match[0]
+
+
 def test_no_line_without_a_terminal():
     """Nothing is sent to a terminal that is dumb, nor to what is none."""
     with folder() as place:

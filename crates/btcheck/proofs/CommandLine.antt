@@ -1,7 +1,9 @@
 -- How a command grows, and which texts an action needs.
 use Rattle.std.proofs.Common.{◌≡◌, ◌∙◌, ◌++◌, ◌∷◌, [], ap, codes, false, List, None, Option, option_map, refl, Some, subst, sym, true, ◌||◌, Bool}
 use Rattle.std.specs.Borrow.{Bor}
-use Rattle.std.specs.Prelude.{Box, ⊤}
+use Rattle.std.specs.Prelude.{Box, Err, Ok, Result, ⊤, ◌<◌, ◌^◌, ℕ}
+use Rattle.std.specs.Str.Parse.{IsNumeral, ParsesUnsigned, digits_value, without_leading_plus}
+use Rattle.clap.specs.Matches.{ReadsOne}
 use Rattle.std.specs.Box.{box_value}
 use Rattle.clap.specs.Simple.{subcommand_rows}
 use Rattle.clap.specs.declared.parser.matches.SubCommand.{SubCommand}
@@ -10,13 +12,13 @@ use Rattle.std.specs.Str.{bytes_eq}
 use Rattle.std.proofs.lemmas.Slice.Eq.{bytes_eq-Decides}
 use Rattle.clap.specs.Built.{AddsArg, AddsSubcommand}
 use Rattle.clap.specs.Simple.{App, Shape, app_of, with_rule, with_subcommand}
-use Rattle.clap.specs.Walk.{Row, Rule, Text, first_of, rule_of}
+use Rattle.clap.specs.Walk.{Row, Rule, Text, first_of, one_of, rule_of}
 use Rattle.clap.specs.declared.builder.arg.Arg.{Arg}
 use Rattle.clap.specs.declared.builder.command.Command.{Command}
 use Rattle.clap.specs.declared.builder.command.Command.TheViews.{out-Command}
 use Rattle.btcheck.specs.declared.command.Action.{Action}
 use Rattle.btcheck.specs.declared.command.Action.TheVariants as action
-use Rattle.btcheck.specs.CommandLine.{Asks, IsActionOf, IsApp, IsArgument, IsAskedOf, IsLeaf}
+use Rattle.btcheck.specs.CommandLine.{Asks, IsActionOf, IsApp, IsArgument, IsAskedOf, IsLeaf, IsNumberIfThere, IsNumberOf}
 
 -- a command with one argument more
 pub with_argument : (old new : Command) (a : Arg) (s : Shape) (r : Rule)
@@ -77,6 +79,29 @@ absent t o e is =
     let bad : None ≡ Some t = sym e ∙ is in
     cc
 
+IsShortNumber : Option Text → Type 0
+IsShortNumber None = ⊤
+IsShortNumber (Some text) =
+    IsNumeral 10 (without_leading_plus text) × (digits_value 10 (without_leading_plus text) < 2 ^ 64)
+
+-- what `get_one` reads of a text is its number
+pub number_read : {E : Type 0} (gives : Text → Result ℕ E → Type 0)
+    → ((text : Text) (r : Result ℕ E) → gives text r → ParsesUnsigned 64 10 text r)
+    → (found : Option Text) (read : Option ℕ) → (found ≡ None → read ≡ None)
+    → ((text : Text) → found ≡ Some text → ReadsOne gives text read) → IsNumberIfThere found read
+number_read gives parses None None none reads = λ number is.
+    let bad : None ≡ Some is.0 = is.1 in
+    cc
+number_read gives parses None (Some number) none reads =
+    let bad : Some number ≡ None = none refl in
+    cc
+number_read gives parses (Some text) None none reads = λ number is.
+    let e = reads text refl in
+    absurd (parses text (Err e.0) e.1 (subst IsShortNumber (sym is.1) is.2))
+number_read gives parses (Some text) (Some number) none reads =
+    let parsed = parses text (Ok number) (reads text refl) in
+    (text, refl, parsed.0, parsed.1)
+
 -- ---- without a text that it needs, a command asks for nothing
 
 pub root_needs_file : (rows : List Row) → first_of (codes "FILE") rows ≡ None
@@ -84,39 +109,106 @@ pub root_needs_file : (rows : List Row) → first_of (codes "FILE") rows ≡ Non
 root_needs_file rows e (action.Root file) asks = absent file.now _ e asks.1
 root_needs_file rows e (action.Show torrent) asks = differs _ _ refl asks.0
 root_needs_file rows e (action.Check torrent dir) asks = differs _ _ refl asks.0
+root_needs_file rows e (action.Create asked) asks = differs _ _ refl asks.0
 root_needs_file rows e (action.Replay asked) asks = differs _ _ refl asks.0
+root_needs_file rows e (action.Convert asked) asks = differs _ _ refl asks.0
 
 pub show_needs_torrent : (rows : List Row) → first_of (codes "TORRENT") rows ≡ None
     → (a : Action) → Asks (codes "show") rows a → ⊥
 show_needs_torrent rows e (action.Root file) asks = differs _ _ refl asks.0
 show_needs_torrent rows e (action.Show torrent) asks = absent torrent.now _ e asks.1
 show_needs_torrent rows e (action.Check torrent dir) asks = differs _ _ refl asks.0
+show_needs_torrent rows e (action.Create asked) asks = differs _ _ refl asks.0
 show_needs_torrent rows e (action.Replay asked) asks = differs _ _ refl asks.0
+show_needs_torrent rows e (action.Convert asked) asks = differs _ _ refl asks.0
 
 pub check_needs_torrent : (rows : List Row) → first_of (codes "TORRENT") rows ≡ None
     → (a : Action) → Asks (codes "check") rows a → ⊥
 check_needs_torrent rows e (action.Root file) asks = differs _ _ refl asks.0
 check_needs_torrent rows e (action.Show torrent) asks = differs _ _ refl asks.0
 check_needs_torrent rows e (action.Check torrent dir) asks = absent torrent.now _ e asks.1.0
+check_needs_torrent rows e (action.Create asked) asks = differs _ _ refl asks.0
 check_needs_torrent rows e (action.Replay asked) asks = differs _ _ refl asks.0
+check_needs_torrent rows e (action.Convert asked) asks = differs _ _ refl asks.0
 
 pub check_needs_dir : (rows : List Row) → first_of (codes "DIR") rows ≡ None
     → (a : Action) → Asks (codes "check") rows a → ⊥
 check_needs_dir rows e (action.Root file) asks = differs _ _ refl asks.0
 check_needs_dir rows e (action.Show torrent) asks = differs _ _ refl asks.0
 check_needs_dir rows e (action.Check torrent dir) asks = absent dir.now _ e asks.1.1
+check_needs_dir rows e (action.Create asked) asks = differs _ _ refl asks.0
 check_needs_dir rows e (action.Replay asked) asks = differs _ _ refl asks.0
+check_needs_dir rows e (action.Convert asked) asks = differs _ _ refl asks.0
+
+pub create_needs_dir : (rows : List Row) → first_of (codes "DIR") rows ≡ None
+    → (a : Action) → Asks (codes "create") rows a → ⊥
+create_needs_dir rows e (action.Root file) asks = differs _ _ refl asks.0
+create_needs_dir rows e (action.Show torrent) asks = differs _ _ refl asks.0
+create_needs_dir rows e (action.Check torrent dir) asks = differs _ _ refl asks.0
+create_needs_dir rows e (action.Create asked) asks = absent asked.dir.now _ e asks.1.0
+create_needs_dir rows e (action.Replay asked) asks = differs _ _ refl asks.0
+create_needs_dir rows e (action.Convert asked) asks = differs _ _ refl asks.0
+
+pub create_needs_out : (rows : List Row) → first_of (codes "OUT") rows ≡ None
+    → (a : Action) → Asks (codes "create") rows a → ⊥
+create_needs_out rows e (action.Root file) asks = differs _ _ refl asks.0
+create_needs_out rows e (action.Show torrent) asks = differs _ _ refl asks.0
+create_needs_out rows e (action.Check torrent dir) asks = differs _ _ refl asks.0
+create_needs_out rows e (action.Create asked) asks = absent asked.out.now _ e asks.1.1
+create_needs_out rows e (action.Replay asked) asks = differs _ _ refl asks.0
+create_needs_out rows e (action.Convert asked) asks = differs _ _ refl asks.0
+
+pub create_needs_name : (rows : List Row) → first_of (codes "name") rows ≡ None
+    → (a : Action) → Asks (codes "create") rows a → ⊥
+create_needs_name rows e (action.Root file) asks = differs _ _ refl asks.0
+create_needs_name rows e (action.Show torrent) asks = differs _ _ refl asks.0
+create_needs_name rows e (action.Check torrent dir) asks = differs _ _ refl asks.0
+create_needs_name rows e (action.Create asked) asks = absent asked.name.now _ e asks.1.2
+create_needs_name rows e (action.Replay asked) asks = differs _ _ refl asks.0
+create_needs_name rows e (action.Convert asked) asks = differs _ _ refl asks.0
+
+pub create_needs_piece_length : (rows : List Row)
+    → ((number : ℕ) → IsNumberOf (one_of (codes "piece-length") rows) number → ⊥)
+    → (a : Action) → Asks (codes "create") rows a → ⊥
+create_needs_piece_length rows none (action.Root file) asks = differs _ _ refl asks.0
+create_needs_piece_length rows none (action.Show torrent) asks = differs _ _ refl asks.0
+create_needs_piece_length rows none (action.Check torrent dir) asks = differs _ _ refl asks.0
+create_needs_piece_length rows none (action.Create asked) asks = none asked.piece_length asks.1.3
+create_needs_piece_length rows none (action.Replay asked) asks = differs _ _ refl asks.0
+create_needs_piece_length rows none (action.Convert asked) asks = differs _ _ refl asks.0
 
 pub replay_needs_torrent : (rows : List Row) → first_of (codes "TORRENT") rows ≡ None
     → (a : Action) → Asks (codes "replay") rows a → ⊥
 replay_needs_torrent rows e (action.Root file) asks = differs _ _ refl asks.0
 replay_needs_torrent rows e (action.Show torrent) asks = differs _ _ refl asks.0
 replay_needs_torrent rows e (action.Check torrent dir) asks = differs _ _ refl asks.0
+replay_needs_torrent rows e (action.Create asked) asks = differs _ _ refl asks.0
 replay_needs_torrent rows e (action.Replay asked) asks = absent asked.torrent.now _ e asks.1.0
+replay_needs_torrent rows e (action.Convert asked) asks = differs _ _ refl asks.0
 
 pub replay_needs_record : (rows : List Row) → first_of (codes "RECORD") rows ≡ None
     → (a : Action) → Asks (codes "replay") rows a → ⊥
 replay_needs_record rows e (action.Root file) asks = differs _ _ refl asks.0
 replay_needs_record rows e (action.Show torrent) asks = differs _ _ refl asks.0
 replay_needs_record rows e (action.Check torrent dir) asks = differs _ _ refl asks.0
+replay_needs_record rows e (action.Create asked) asks = differs _ _ refl asks.0
 replay_needs_record rows e (action.Replay asked) asks = absent asked.record.now _ e asks.1.1
+replay_needs_record rows e (action.Convert asked) asks = differs _ _ refl asks.0
+
+pub convert_needs_record : (rows : List Row) → first_of (codes "RECORD") rows ≡ None
+    → (a : Action) → Asks (codes "convert") rows a → ⊥
+convert_needs_record rows e (action.Root file) asks = differs _ _ refl asks.0
+convert_needs_record rows e (action.Show torrent) asks = differs _ _ refl asks.0
+convert_needs_record rows e (action.Check torrent dir) asks = differs _ _ refl asks.0
+convert_needs_record rows e (action.Create asked) asks = differs _ _ refl asks.0
+convert_needs_record rows e (action.Replay asked) asks = differs _ _ refl asks.0
+convert_needs_record rows e (action.Convert asked) asks = absent asked.record.now _ e asks.1.0
+
+pub convert_needs_out : (rows : List Row) → first_of (codes "OUT") rows ≡ None
+    → (a : Action) → Asks (codes "convert") rows a → ⊥
+convert_needs_out rows e (action.Root file) asks = differs _ _ refl asks.0
+convert_needs_out rows e (action.Show torrent) asks = differs _ _ refl asks.0
+convert_needs_out rows e (action.Check torrent dir) asks = differs _ _ refl asks.0
+convert_needs_out rows e (action.Create asked) asks = differs _ _ refl asks.0
+convert_needs_out rows e (action.Replay asked) asks = differs _ _ refl asks.0
+convert_needs_out rows e (action.Convert asked) asks = absent asked.out.now _ e asks.1.1

@@ -1,6 +1,7 @@
--- What the program's command line is to clap, and what it asks for. Words are the arguments as texts,
--- the program's name first; rows are what clap's definition of simple commands finds in them.
-use Rattle.std.specs.Prelude.{◌≡◌, ℕ, List, [], ◌∷◌, Bool, true, false, Option, Some, None, codes, option_map}
+-- What the program's command line is to clap, and what it asks for. Words are the arguments as
+-- texts, the program's name first; rows are what clap's definition of simple commands finds in
+-- them.
+use Rattle.std.specs.Prelude.{◌≡◌, ℕ, List, [], ◌∷◌, Bool, true, false, Option, Some, None, codes, option_map, ◌<◌, ◌^◌}
 use Rattle.std.specs.Borrow.{Bor}
 use Rattle.clap.specs.Walk.{Row, Rule, Text, first_of, one_of, rule_of}
 use Rattle.clap.specs.Simple.{App, Shape, app_of, new_rule, new_shape, subcommand_of}
@@ -8,6 +9,8 @@ use Rattle.clap.specs.declared.builder.arg.Arg.{Arg}
 use Rattle.clap.specs.declared.builder.command.Command.{Command}
 use Rattle.clap.specs.declared.builder.command.Command.TheViews.{out-Command}
 use Rattle.clap.specs.declared.builder.action.ArgAction.TheVariants.{Set, SetTrue}
+use Rattle.clap.specs.declared.builder.value_parser.ValueParser.TheVariants as vp
+use Rattle.std.specs.Str.Parse.{IsNumeral, digits_value, without_leading_plus}
 use Rattle.btcheck.specs.declared.command.Action.{Action}
 use Rattle.btcheck.specs.declared.command.Action.TheVariants as action
 
@@ -26,6 +29,15 @@ abbrev pub option : Text → Rule
 option name =
     record (new_rule name) { long = Some name; action = Some Set; value_names = 1 }
 
+-- an option with a value that has to be there
+abbrev pub needed_option : Text → Rule
+needed_option name = record (option name) { required = true }
+
+-- the same, whose value is a number of 64 bits
+abbrev pub needed_number : Text → Rule
+needed_number name =
+    record (needed_option name) { parser = Some (vp.Unsigned 0 18446744073709551615) }
+
 -- a command with these arguments
 abbrev pub command : Text → List Rule → Shape
 command name rules = record (new_shape name) { rules = rules }
@@ -38,6 +50,14 @@ show_command = command (codes "show") (needed (codes "TORRENT") ∷ [])
 
 abbrev pub check_command : Shape
 check_command = command (codes "check") (needed (codes "TORRENT") ∷ needed (codes "DIR") ∷ [])
+
+abbrev pub create_command : Shape
+create_command = command (codes "create")
+    (needed (codes "DIR") ∷ needed (codes "OUT") ∷ needed_option (codes "name")
+    ∷ needed_number (codes "piece-length") ∷ flag (codes "hybrid") ∷ [])
+
+abbrev pub convert_command : Shape
+convert_command = command (codes "convert") (needed (codes "RECORD") ∷ needed (codes "OUT") ∷ [])
 
 abbrev pub replay_command : Shape
 replay_command = command (codes "replay")
@@ -52,7 +72,8 @@ program = record {
     has_version = true;
     subcommand_required = true;
   };
-  subs = root_command ∷ show_command ∷ check_command ∷ replay_command ∷ [];
+  subs = root_command ∷ show_command ∷ check_command ∷ create_command ∷ replay_command
+      ∷ convert_command ∷ [];
 }
 
 -- what clap reads of this command
@@ -84,12 +105,26 @@ IsText name rows text = first_of name rows ≡ Some text.now
 abbrev pub IsTextIfThere : Text → List Row → Option (Bor Text) → Type 0
 IsTextIfThere name rows text = first_of name rows ≡ option_map (λ t. t.now) text
 
+-- a number that is found under a name, as decimal digits, perhaps behind a plus
+abbrev pub IsNumberOf : Option Text → ℕ → Type 0
+IsNumberOf found number = (text : Text) × (found ≡ Some text)
+    × ((IsNumeral 10 (without_leading_plus text)
+    × (digits_value 10 (without_leading_plus text) < 2 ^ 64))
+    × (number ≡ digits_value 10 (without_leading_plus text)))
+
+-- the same, or there is none
+abbrev pub IsNumberIfThere : Option Text → Option ℕ → Type 0
+IsNumberIfThere found (Some number) = IsNumberOf found number
+IsNumberIfThere found None = (number : ℕ) → IsNumberOf found number → ⊥
+
 -- the name of the command that does this
 abbrev pub command_of : Action → Text
 command_of (action.Root file) = codes "root"
 command_of (action.Show torrent) = codes "show"
 command_of (action.Check torrent dir) = codes "check"
+command_of (action.Create asked) = codes "create"
 command_of (action.Replay asked) = codes "replay"
+command_of (action.Convert asked) = codes "convert"
 
 -- the texts and flags of this action are what is found in the arguments of its command
 abbrev pub Finds : List Row → Action → Type 0
@@ -97,6 +132,13 @@ Finds rows (action.Root file) = IsText (codes "FILE") rows file
 Finds rows (action.Show torrent) = IsText (codes "TORRENT") rows torrent
 Finds rows (action.Check torrent dir) =
     IsText (codes "TORRENT") rows torrent × IsText (codes "DIR") rows dir
+Finds rows (action.Create asked) =
+    IsText (codes "DIR") rows asked.dir × IsText (codes "OUT") rows asked.out
+    × IsText (codes "name") rows asked.name
+    × IsNumberOf (one_of (codes "piece-length") rows) asked.piece_length
+    × IsFlag (codes "hybrid") rows asked.hybrid
+Finds rows (action.Convert asked) =
+    IsText (codes "RECORD") rows asked.record × IsText (codes "OUT") rows asked.out
 Finds rows (action.Replay asked) =
     IsText (codes "TORRENT") rows asked.torrent × IsText (codes "RECORD") rows asked.record
     × IsFlag (codes "info-only") rows asked.info_only

@@ -1,17 +1,27 @@
 //! What each command answers over any devices: what goes out, and the exit status that follows.
-ghost use Rattle.std.specs.Prelude.{◌≡◌, ◌^◌, ◌≤◌, ◌↔◌, ℕ, List, [], None, Some, IfOk, OnOk, length, not, true, false};
+ghost use Rattle.std.specs.Prelude.{◌≡◌, ◌≢◌, ◌^◌, ◌≤◌, ◌↔◌, ℕ, List, None, Some, Ok, IfErr, IfOk, OnOk, codes, length, map, not, true, false};
+ghost use Rattle.std.specs.String.{string_bytes};
 ghost use Rattle.benc.specs.Device.{SentAndFlushed};
+ghost use Rattle.benc.specs.Text.{spelling};
+ghost use Rattle.conversions.specs.Converting.{Converts};
+ghost use Rattle.checker.specs.Gathering.{Gathers};
 ghost use Rattle.checker.specs.Refused.{refusal_text};
 ghost use Rattle.checker.specs.Show.{show_text};
 ghost use Rattle.checker.specs.Replay.{replay_seen};
 ghost use Rattle.checker.specs.Seeding.{IsSeeded, both};
+ghost use Rattle.drafts.specs.Written.{value_of};
 ghost use Rattle.session.specs.Fresh.{IsFresh};
 ghost use Rattle.btcheck.specs.Answers.{IsChecked, IsReplayed, answer_status};
 
+use crate::command::{Convert, Create};
 use benc::memory::MemSink;
 use benc::{Sink, Source};
-use checker::{Fault, RootFault, SeedFault, Shelf, print_report, refusal_line, root_line};
-use metainfo::{Refusal, Torrent};
+use checker::{
+    ConvertFault, Fault, GatherFault, RootFault, SeedFault, Shelf, ShelfFault, print_report,
+    refusal_line, root_line,
+};
+use lines::write_line;
+use metainfo::{Draft, Refusal, Torrent};
 use node_maps::Paged;
 use session::{NodeMap, Session};
 use std::alloc::Global;
@@ -44,16 +54,20 @@ pub(crate) fn show<'a, W: Sink>(torrent: &Torrent<'_>, out: &mut W) -> Result<u8
     }
 }
 
-/// Prints why a torrent was refused.
-pub(crate) fn refuse<'a, W: Sink>(refusal: &Refusal, out: &mut W) -> Result<u8, Fault<'a>>
+/// Prints why a torrent was refused, or a file with this path that was to be in it.
+pub(crate) fn refuse<'a, W: Sink>(
+    refusal: &Refusal,
+    path: &[String],
+    out: &mut W,
+) -> Result<u8, Fault<'a>>
     ensures status { IfOk result (λ s. s ≡ answer_status false) }
     ensures line { OnOk result (SentAndFlushed (W.seen out.old) (W.seen out.new)
-        (refusal_text refusal.now [])) }
+        (refusal_text refusal.now (map string_bytes path.now))) }
 {
     match refusal {
         Refusal::NoMemory => Err(Fault::NoMemory),
         Refusal::Write => Err(Fault::Write("-")),
-        _ => match refusal_line(refusal, &[], out) {
+        _ => match refusal_line(refusal, path, out) {
             Ok(()) => Ok(status(false)),
             Err(_) => Err(Fault::Write("-")),
         },
@@ -146,6 +160,90 @@ pub(crate) fn replay_and_answer<'a, N: NodeMap, R: Source, W: Sink, A: Sink>(
         Err(_) if out.failures() != faults => Err(Fault::Write("-")),
         Err(_) => Err(Fault::Write(path)),
     }
+}
+
+/// Gathers a draft of all files on a shelf. Or prints a refusal, and gives the exit status.
+pub(crate) fn gather<'a, S: Shelf, W: Sink>(
+    alloc: Global,
+    asked: &Create<'a>,
+    shelf: &mut S,
+    out: &mut W,
+) -> Result<Result<Draft, u8>, Fault<'a>>
+    ensures gathered { IfOk result (λ found. IfOk found (λ draft. Gathers S.opens S.closes S.faults
+        S.under S.File.seen S.listing asked.now.name.now asked.now.piece_length asked.now.hybrid
+        shelf.old shelf.new (Ok draft))) }
+    ensures refused { IfOk result (λ found. IfErr found (λ s. s ≡ answer_status false)) }
+{
+    match checker::gather(alloc, shelf, asked.name, asked.piece_length, asked.hybrid) {
+        Ok(draft) => Ok(Ok(draft)),
+        Err(GatherFault::Refused(refusal, path)) => Ok(Err(refuse(&refusal, &path, out)?)),
+        Err(GatherFault::Device(path)) => Err(Fault::ReadBelow(path)),
+        Err(GatherFault::Changed(path)) => Err(Fault::ReadBelow(path)),
+        Err(GatherFault::List(fault)) => Err(listing_fault(fault, asked.dir)),
+        Err(GatherFault::NoMemory) => Err(Fault::NoMemory),
+    }
+}
+
+// Why the folder with this path could not be listed.
+fn listing_fault<'a>(fault: ShelfFault, dir: &'a str) -> Fault<'a> {
+    match fault {
+        ShelfFault::Device => Fault::Read(dir),
+        ShelfFault::Name => Fault::NotUtf8,
+        ShelfFault::Special(path) => Fault::Special(path),
+        ShelfFault::NoMemory => Fault::NoMemory,
+    }
+}
+
+/// Writes the torrent of a draft to the sink with this path, or prints a refusal.
+pub(crate) fn write_torrent<'a, W: Sink, O: Sink>(
+    draft: &Draft,
+    path: &'a str,
+    torrent: &mut W,
+    out: &mut O,
+) -> Result<u8, Fault<'a>>
+    ensures written { IfOk result (λ s. s ≡ answer_status true → SentAndFlushed
+        (W.seen torrent.old) (W.seen torrent.new) (spelling (value_of draft.now))) }
+    ensures refused { IfOk result (λ s. s ≢ answer_status true → W.seen torrent.new
+        ≡ W.seen torrent.old) }
+{
+    match draft.finish(torrent) {
+        Ok(()) => Ok(status(true)),
+        Err(Refusal::Write) => Err(Fault::Write(path)),
+        Err(refusal) => refuse(&refusal, &[], out),
+    }
+}
+
+/// Converts the record that is asked for, and writes it to this sink.
+pub(crate) fn convert<'a, R: Source, W: Sink, O: Sink>(
+    asked: &Convert<'a>,
+    source: &mut R,
+    converted: &mut W,
+    out: &mut O,
+) -> Result<u8, Fault<'a>>
+    ensures converts { IfOk result (λ s. s ≡ answer_status true → Converts (R.seen source.old)
+        (R.seen source.new) (W.seen converted.old) (W.seen converted.new)) }
+    ensures refused { IfOk result (λ s. s ≢ answer_status true → SentAndFlushed (O.seen out.old)
+        (O.seen out.new) (codes "refused 3 AlreadyForm2\n")) }
+{
+    match checker::convert(source, converted) {
+        Ok(()) => Ok(status(true)),
+        Err(ConvertFault::Truncated) => Err(Fault::Truncated(asked.record)),
+        Err(ConvertFault::Read) => Err(Fault::Read(asked.record)),
+        Err(ConvertFault::Write) => Err(Fault::Write(asked.out)),
+        Err(ConvertFault::AlreadyForm2) => refuse_form_2(out),
+    }
+}
+
+// Prints that a record is of form 2 already.
+fn refuse_form_2<'a, W: Sink>(out: &mut W) -> Result<u8, Fault<'a>>
+    ensures status { IfOk result (λ s. s ≡ answer_status false) }
+    ensures line { OnOk result (SentAndFlushed (W.seen out.old) (W.seen out.new)
+        (codes "refused 3 AlreadyForm2\n")) }
+{
+    if write_line(out, b"refused 3 AlreadyForm2\n").is_err() {
+        return Err(Fault::Write("-"));
+    }
+    Ok(status(false))
 }
 
 // The exit status of an answer: 0 for yes or done, 1 for no or a refusal.

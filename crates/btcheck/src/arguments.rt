@@ -3,17 +3,17 @@ ghost use Rattle.std.specs.Prelude.{◌≡◌, [], IfErr, IfOk, codes, map, true
 ghost use Rattle.clap.specs.Simple.{subcommand_rows_of};
 ghost use Rattle.clap.specs.Takes.{takes};
 ghost use Rattle.clap.specs.Values.{kind_of};
-ghost use Rattle.clap.specs.Walk.{rows_of};
+ghost use Rattle.clap.specs.Walk.{one_of, rows_of};
 ghost use Rattle.clap.specs.Matches.{found_of};
 ghost use Rattle.clap.specs.declared.error.kind.ErrorKind.TheVariants.{OutOfMemory};
 ghost use Rattle.btcheck.specs.declared.command.Action.{Action};
-ghost use Rattle.btcheck.specs.CommandLine.{IsActionOf, IsApp, IsArgument, IsAskedBy, IsAskedOf, IsFlag, IsLeaf, IsTextIfThere, check_command, command, flag, needed, option, program, replay_command, root_command, show_command};
+ghost use Rattle.btcheck.specs.CommandLine.{IsActionOf, IsApp, IsArgument, IsAskedBy, IsAskedOf, IsFlag, IsLeaf, IsNumberIfThere, IsTextIfThere, check_command, command, convert_command, create_command, flag, needed, needed_number, needed_option, option, program, replay_command, root_command, show_command};
 
-use crate::command::{Action, Replay};
+use crate::command::{Action, Convert, Create, Replay};
 use crate::fault::print_fault;
 use checker::Fault;
 use clap::error::ErrorKind;
-use clap::{Arg, ArgAction, ArgMatches, Command, Error};
+use clap::{Arg, ArgAction, ArgMatches, Command, Error, value_parser};
 use std::alloc::Global;
 use std::process::ExitCode;
 
@@ -29,6 +29,9 @@ Examples:
   btcheck root movie.mkv                  the length and pieces root of a file
   btcheck show some.torrent               what a torrent holds
   btcheck check some.torrent Downloads    whether a folder holds it
+  btcheck create some some.torrent --name some --piece-length 1048576
+                                          makes a torrent of a folder
+  btcheck convert record directed         gives each frame of a record its direction
   btcheck replay some.torrent record      which blocks of recorded messages are right
 
 Exit status:
@@ -55,6 +58,20 @@ Prints for each file `good`, `missing`, `unreadable`, `wrong length` or `bad PIE
 line on its version 1 pieces, and at last `yes`, status 0, or `no`, status 1. The files are looked
 for at their paths directly below DIR; the torrent's name adds no folder.";
 
+const CREATE_ABOUT: &str = "Makes a torrent of all files in a folder";
+
+const CREATE_HELP: &str = "\
+Hashes all files below DIR, hidden ones too, then writes the torrent to OUT and prints nothing.
+A folder that cannot be a torrent prints `refused NUMBER NAME`, and the path of the file, status 1.
+Symbolic links, pipes and devices in DIR are a fault.";
+
+const CONVERT_ABOUT: &str = "Makes a record with directions of one without";
+
+const CONVERT_HELP: &str = "\
+Writes a record in which each frame has a direction: every frame of RECORD came in, and before each
+hashes message went out the request that it answers. OUT is emptied first, so it must not be RECORD.
+A record that has directions already prints `refused 3 AlreadyForm2`, status 1.";
+
 const REPLAY_ABOUT: &str = "Checks recorded messages of peers, and prints a verdict on each";
 
 const REPLAY_HELP: &str = "\
@@ -68,6 +85,12 @@ const SEED_HELP: &str = "Start from the hashes of the files that this folder hol
 
 const ANSWERS_HELP: &str =
     "Write the answers to hash requests to this file, which is emptied first";
+
+const NAME_HELP: &str = "The display name that the torrent suggests";
+
+const PIECE_LENGTH_HELP: &str = "Bytes a piece: a power of two from 16384 to 1073741824";
+
+const HYBRID_HELP: &str = "Make a hybrid, which clients of version 1 can use too";
 
 /// Reads the command line, the program's name first.
 pub(crate) fn action<'a>(alloc: Global, line: &'a [&'a str]) -> Result<Action<'a>, Error>
@@ -126,6 +149,20 @@ fn option<'a>(alloc: Global, name: &'a str, value: &'a str, help: &'a str) -> Ar
         .help(help)
 }
 
+// An option with a value that has to be there.
+fn needed_option<'a>(alloc: Global, name: &'a str, value: &'a str, help: &'a str) -> Arg<'a>
+    ensures { IsArgument (needed_option name.entry.now) result }
+{
+    option(alloc, name, value, help).required(true)
+}
+
+// The same, whose value is a number of 64 bits.
+fn needed_number<'a>(alloc: Global, name: &'a str, value: &'a str, help: &'a str) -> Arg<'a>
+    ensures { IsArgument (needed_number name.entry.now) result }
+{
+    needed_option(alloc, name, value, help).value_parser(value_parser!(u64))
+}
+
 // A command without commands below it, with what it does and more help on it.
 fn leaf<'a>(alloc: Global, name: &'a str, about: &'a str, help: &'a str) -> Command<'a>
     ensures { IsLeaf (command name.entry.now []) result }
@@ -167,6 +204,29 @@ fn check_command<'a>(alloc: Global) -> Result<Command<'a>, Error>
     Ok(command)
 }
 
+fn create_command<'a>(alloc: Global) -> Result<Command<'a>, Error>
+    ensures made { IfOk result (IsLeaf create_command) }
+    ensures refused { IfErr result (λ e. kind_of e ≡ OutOfMemory) }
+{
+    let command = leaf(alloc, "create", CREATE_ABOUT, CREATE_HELP)
+        .arg(needed(alloc, "DIR", "The folder that holds the files"))?
+        .arg(needed(alloc, "OUT", "The torrent file that is written"))?
+        .arg(needed_option(alloc, "name", "N", NAME_HELP))?
+        .arg(needed_number(alloc, "piece-length", "K", PIECE_LENGTH_HELP))?
+        .arg(flag(alloc, "hybrid", HYBRID_HELP))?;
+    Ok(command)
+}
+
+fn convert_command<'a>(alloc: Global) -> Result<Command<'a>, Error>
+    ensures made { IfOk result (IsLeaf convert_command) }
+    ensures refused { IfErr result (λ e. kind_of e ≡ OutOfMemory) }
+{
+    let command = leaf(alloc, "convert", CONVERT_ABOUT, CONVERT_HELP)
+        .arg(needed(alloc, "RECORD", "The record, a file or a pipe"))?
+        .arg(needed(alloc, "OUT", "The record that is written"))?;
+    Ok(command)
+}
+
 fn replay_command<'a>(alloc: Global) -> Result<Command<'a>, Error>
     ensures made { IfOk result (IsLeaf replay_command) }
     ensures refused { IfErr result (λ e. kind_of e ≡ OutOfMemory) }
@@ -193,7 +253,9 @@ fn command<'a>(alloc: Global) -> Result<Command<'a>, Error>
         .subcommand(root_command(alloc)?)?
         .subcommand(show_command(alloc)?)?
         .subcommand(check_command(alloc)?)?
-        .subcommand(replay_command(alloc)?)?;
+        .subcommand(create_command(alloc)?)?
+        .subcommand(replay_command(alloc)?)?
+        .subcommand(convert_command(alloc)?)?;
     Ok(command.subcommand_required(true))
 }
 
@@ -213,7 +275,9 @@ fn action_of<'a>(name: &str, found: &ArgMatches<'a>) -> Option<Action<'a>>
         "root" => root_of(found),
         "show" => show_of(found),
         "check" => check_of(found),
+        "create" => create_of(found),
         "replay" => replay_of(found),
+        "convert" => convert_of(found),
         _ => None,
     }
 }
@@ -243,6 +307,32 @@ fn check_of<'a>(found: &ArgMatches<'a>) -> Option<Action<'a>>
     Some(Action::Check { torrent, dir })
 }
 
+// What the arguments after `create` ask for.
+fn create_of<'a>(found: &ArgMatches<'a>) -> Option<Action<'a>>
+    ensures { IsActionOf (codes "create") (rows_of (found_of found.now)) result }
+{
+    let dir = text(found, "DIR")?;
+    let out = text(found, "OUT")?;
+    let name = text(found, "name")?;
+    let piece_length = number(found, "piece-length")?;
+    Some(Action::Create(Create {
+        dir,
+        out,
+        name,
+        piece_length,
+        hybrid: is_given(found, "hybrid"),
+    }))
+}
+
+// What the arguments after `convert` ask for.
+fn convert_of<'a>(found: &ArgMatches<'a>) -> Option<Action<'a>>
+    ensures { IsActionOf (codes "convert") (rows_of (found_of found.now)) result }
+{
+    let record = text(found, "RECORD")?;
+    let out = text(found, "OUT")?;
+    Some(Action::Convert(Convert { record, out }))
+}
+
 // What the arguments after `replay` ask for.
 fn replay_of<'a>(found: &ArgMatches<'a>) -> Option<Action<'a>>
     ensures { IsActionOf (codes "replay") (rows_of (found_of found.now)) result }
@@ -263,6 +353,13 @@ fn text<'a>(found: &ArgMatches<'a>, name: &str) -> Option<&'a str>
     ensures { IsTextIfThere name.now (rows_of (found_of found.now)) result }
 {
     found.get_str(name)
+}
+
+// The number that was found under this name.
+fn number(found: &ArgMatches<'_>, name: &str) -> Option<u64>
+    ensures { IsNumberIfThere (one_of name.now (rows_of (found_of found.now))) result }
+{
+    found.get_one(name)
 }
 
 // Whether the option with this name was found.

@@ -21,16 +21,18 @@ pub(crate) struct Folder<'a> {
     rt: &'a HostRuntime,
     dir: &'a str,
     faults: u64,
-    places: Places<'a>,
+    // None if the files are read one behind the other.
+    places: Option<Places<'a>>,
     progress: &'a Progress,
 }
 
 impl<'a> Folder<'a> {
-    /// The folder with this path, for the files with these places. It need not be there.
+    /// The folder with this path, for the files with these places, or for files that are listed. It
+    /// need not be there.
     pub(crate) fn new(
         rt: &'a HostRuntime,
         dir: &'a str,
-        places: Places<'a>,
+        places: Option<Places<'a>>,
         progress: &'a Progress,
     ) -> Folder<'a>
         ensures dir { result.dir.now ≡ dir.entry.now }
@@ -87,12 +89,23 @@ impl<'a> Folder<'a> {
         File::open(self.rt, place)
     }
 
-    // Lists all files, folder by folder. No command lists yet; writing torrents will.
+    // How many bytes stand before the file with this path.
+    fn bytes_before(&mut self, path: &[&str]) -> u64
+        ensures { self.new.faults ≡ self.old.faults }
+    {
+        match &mut self.places {
+            Some(places) => places.before(path),
+            None => self.progress.read(),
+        }
+    }
+
+    // Lists all files, folder by folder.
     fn list_files(&self) -> Result<Vec<Vec<String>>, ShelfFault> {
         let alloc = self.rt.alloc();
         let mut walk = Walk::from_top(alloc)?;
         for _ in 0..u64::MAX {
             let Some(folder) = walk.folders.pop() else {
+                self.progress.expect(walk.bytes);
                 return Ok(walk.files);
             };
             self.list_folder(folder.as_slice(), &mut walk)?;
@@ -145,6 +158,8 @@ fn listing_fault(error: io::Error) -> ShelfFault {
 struct Walk {
     files: Vec<Vec<String>>,
     folders: Vec<Vec<String>>,
+    // The lengths of the files in all.
+    bytes: u64,
 }
 
 impl Walk {
@@ -155,15 +170,17 @@ impl Walk {
         Ok(Walk {
             files: Vec::new(alloc),
             folders,
+            bytes: 0,
         })
     }
 
     // Takes up what has this path. Symlinks are not followed.
     fn note(&mut self, path: Vec<String>, entry: &DirEntry) -> Result<(), ShelfFault> {
-        let kind = entry.file_type().map_err(listing_fault)?;
-        if kind.is_file() {
+        let found = entry.metadata().map_err(listing_fault)?;
+        if found.is_file() {
+            self.bytes = self.bytes.saturating_add(found.len());
             self.files.push(path).map_err(AllocError::from)?;
-        } else if kind.is_dir() {
+        } else if found.is_dir() {
             self.folders.push(path).map_err(AllocError::from)?;
         } else {
             return Err(ShelfFault::Special(path));
@@ -195,7 +212,7 @@ impl<'a> Shelf for Folder<'a> {
     }
 
     fn open(&mut self, path: &[&str]) -> Result<Option<Self::File>, DeviceFault> {
-        let before = self.places.before(path);
+        let before = self.bytes_before(path);
         match self.open_file(path) {
             Ok(None) => Ok(None),
             Ok(Some((file, name))) => Ok(Some(Counted::new(

@@ -1,13 +1,13 @@
 //! What each command does, on real files.
 use crate::answers;
-use crate::command::{Action, Replay};
+use crate::command::{Action, Convert, Create, Replay};
 use crate::folder::Folder;
 use crate::places::{Places, all_bytes};
 use crate::streams::hold_closed_streams;
 use crate::torrent_file::read_torrent;
 use benc::{FromRead, FromWrite, Sink};
 use checker::Fault;
-use metainfo::Torrent;
+use metainfo::{Draft, Torrent};
 use progress::{Cleared, Counted, Progress};
 use std::fs::File;
 use std::io::{self, BufWriter, Printer};
@@ -20,6 +20,8 @@ pub(crate) fn perform<'a>(rt: &HostRuntime, action: &Action<'a>) -> Result<u8, F
         Action::Show { torrent } => show(rt, torrent),
         Action::Check { torrent, dir } => check(rt, torrent, dir),
         Action::Replay(asked) => replay(rt, asked),
+        Action::Create(asked) => create(rt, asked),
+        Action::Convert(asked) => convert(rt, asked),
     }
 }
 
@@ -46,7 +48,7 @@ fn show<'a>(rt: &HostRuntime, path: &'a str) -> Result<u8, Fault<'a>> {
     let mut out = buffered_output(rt)?;
     match Torrent::open(rt.alloc(), bytes.as_slice()) {
         Ok(torrent) => answers::show(&torrent, &mut out),
-        Err(refusal) => answers::refuse(&refusal, &mut out),
+        Err(refusal) => answers::refuse(&refusal, &[], &mut out),
     }
 }
 
@@ -55,7 +57,7 @@ fn check<'a>(rt: &HostRuntime, path: &'a str, dir: &str) -> Result<u8, Fault<'a>
     let mut out = buffered_output(rt)?;
     match Torrent::open(rt.alloc(), bytes.as_slice()) {
         Ok(torrent) => check_folder(rt, &torrent, dir, out),
-        Err(refusal) => answers::refuse(&refusal, &mut out),
+        Err(refusal) => answers::refuse(&refusal, &[], &mut out),
     }
 }
 
@@ -66,13 +68,55 @@ fn check_folder<'a, W: Sink + Drop>(
     out: W,
 ) -> Result<u8, Fault<'a>> {
     let progress = Progress::new(rt, Some(all_bytes(torrent)));
-    let mut folder = Folder::new(rt, dir, Places::new(torrent), &progress);
+    let mut folder = Folder::new(rt, dir, Some(Places::new(torrent)), &progress);
     answers::check(
         rt.alloc(),
         torrent,
         &mut folder,
         &mut Cleared::new(out, &progress),
     )
+}
+
+// The torrent's file is opened once all files are hashed, and stays untouched if one is refused.
+fn create<'a>(rt: &HostRuntime, asked: &Create<'a>) -> Result<u8, Fault<'a>> {
+    let progress = Progress::new(rt, None);
+    let mut folder = Folder::new(rt, asked.dir, None, &progress);
+    let mut out = Cleared::new(FromWrite::new(io::writer(rt)), &progress);
+    match answers::gather(rt.alloc(), asked, &mut folder, &mut out)? {
+        Ok(draft) => write_torrent(rt, &draft, asked.out, &progress, &mut out),
+        Err(status) => Ok(status),
+    }
+}
+
+fn write_torrent<'a, W: Sink>(
+    rt: &HostRuntime,
+    draft: &Draft,
+    path: &'a str,
+    progress: &Progress,
+    out: &mut W,
+) -> Result<u8, Fault<'a>> {
+    let Ok(file) = File::create(rt, path) else {
+        return Err(Fault::Write(path));
+    };
+    let Ok(buffered) = BufWriter::new(rt.alloc(), file) else {
+        return Err(Fault::NoMemory);
+    };
+    let mut torrent = Cleared::new(FromWrite::new(buffered), progress);
+    answers::write_torrent(draft, path, &mut torrent, out)
+}
+
+// The new record's file is opened before the record.
+fn convert<'a>(rt: &HostRuntime, asked: &Convert<'a>) -> Result<u8, Fault<'a>> {
+    let Ok(written) = File::create(rt, asked.out) else {
+        return Err(Fault::Write(asked.out));
+    };
+    let Ok(file) = File::open(rt, asked.record) else {
+        return Err(Fault::Read(asked.record));
+    };
+    let mut source = FromRead::new(file);
+    let mut converted = FromWrite::new(written);
+    let mut out = FromWrite::new(io::writer(rt));
+    answers::convert(asked, &mut source, &mut converted, &mut out)
 }
 
 // The torrent is read, and a refusal is printed, before the record is opened.
@@ -85,7 +129,7 @@ fn replay<'a>(rt: &HostRuntime, asked: &Replay<'a>) -> Result<u8, Fault<'a>> {
             let mut out = Cleared::new(out, &progress);
             replay_file(rt, &torrent, asked, &progress, &mut out)
         }
-        Err(refusal) => answers::refuse(&refusal, &mut out),
+        Err(refusal) => answers::refuse(&refusal, &[], &mut out),
     }
 }
 
@@ -105,7 +149,7 @@ fn replay_file<'a, W: Sink>(
     let answers = created(rt, asked.answers)?;
     let mut session = answers::new_session(rt.alloc(), torrent, asked.info_only)?;
     if let Some(dir) = asked.seed {
-        let mut folder = Folder::new(rt, dir, Places::new(torrent), progress);
+        let mut folder = Folder::new(rt, dir, Some(Places::new(torrent)), progress);
         answers::seed(rt.alloc(), &mut session, &mut folder, out)?;
     }
     match answers {

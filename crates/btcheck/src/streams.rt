@@ -3,8 +3,8 @@ use checker::Fault;
 use std::fs::File;
 use std::os::fd::AsFd;
 
-/// What stands in the places of standard streams that were closed when the program began. As long as
-/// it is there, no other file gets such a place, and so no file gets what is printed.
+/// What stands in the places of standard streams that were closed when the program began. As long
+/// as it is there, no other file gets such a place, and so no file gets what is printed.
 #[derive(Drop)]
 pub(crate) struct Placeholders {
     _stdin: Option<File>,

@@ -23,7 +23,7 @@ pub struct Progress {
 #[derive(Drop)]
 struct Screen {
     columns: usize,
-    all: Option<u64>,
+    all: Cell<Option<u64>>,
     start: Instant,
     // How many bytes were read, and how many of these since the clock was read.
     read: Cell<u64>,
@@ -58,6 +58,21 @@ impl Progress {
         }
     }
 
+    /// From now on so many bytes are to be read in all.
+    pub fn expect(&self, all: u64) {
+        if let Some(screen) = &self.screen {
+            screen.all.set(Some(all));
+        }
+    }
+
+    /// How many bytes were read, if there is a line.
+    pub fn read(&self) -> u64 {
+        match &self.screen {
+            Some(screen) => screen.read.get(),
+            None => 0,
+        }
+    }
+
     /// Takes the line away, if there is one.
     pub fn clear(&self) {
         if let Some(screen) = &self.screen {
@@ -76,7 +91,7 @@ impl Progress {
         screen.drawn.set(now);
         let figures = Figures {
             done: place,
-            all: screen.all,
+            all: screen.all.get(),
             read: screen.read.get(),
             time: now.duration_since(screen.start),
         };
@@ -124,7 +139,7 @@ fn screen_for(rt: &HostRuntime, all: Option<u64>) -> Option<Screen> {
     let start = Instant::now(rt).ok()?;
     Some(Screen {
         columns: columns.saturating_sub(1),
-        all,
+        all: Cell::new(all),
         start,
         read: Cell::new(0),
         unseen: Cell::new(0),

@@ -22,7 +22,9 @@ returns-clause-made c =
     let one = with_command _ _ _ _ _ start c.in_ok-root_command.ensures.made c.in_ok-subcommand.ensures in
     let two = with_command _ _ _ _ _ one c.in_ok-show_command.ensures.made c.in_ok-subcommand-2.ensures in
     let three = with_command _ _ _ _ _ two c.in_ok-check_command.ensures.made c.in_ok-subcommand-3.ensures in
-    let four = with_command _ _ _ _ _ three c.in_ok-replay_command.ensures.made c.in_ok-command.ensures in (
-      ap app_of_fields c.subcommand_required.ensures ∙ ap needing four.0,
-      ap local c.subcommand_required.ensures ∙ four.1,
+    let four = with_command _ _ _ _ _ three c.in_ok-create_command.ensures.made c.in_ok-subcommand-4.ensures in
+    let five = with_command _ _ _ _ _ four c.in_ok-replay_command.ensures.made c.in_ok-subcommand-5.ensures in
+    let six = with_command _ _ _ _ _ five c.in_ok-convert_command.ensures.made c.in_ok-command.ensures in (
+      ap app_of_fields c.subcommand_required.ensures ∙ ap needing six.0,
+      ap local c.subcommand_required.ensures ∙ six.1,
     )
