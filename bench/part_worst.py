@@ -15,7 +15,7 @@ from torrents import ABC, bencoded, torrent_of  # noqa: E402
 from trees import BLOCK, Tree, blocks_of, sha256  # noqa: E402
 
 # How many times its size a torrent may take in memory, and how many MiB a replay may take whatever its record's size.
-TORRENT_MARK = 120
+TORRENT_MARK = 36
 REPLAY_MARK = 8
 
 
@@ -28,6 +28,13 @@ def empty_files(folders, size):
     """A torrent of empty files, all below so many folders."""
     files = [b"4:%sd0:d6:lengthi0eee" % name for name in names(size // 23)]
     tree = b"d1:d" * folders + b"d" + b"".join(files) + b"e" * (folders + 1)
+    return b"d4:infod9:file tree" + tree + b"12:meta versioni2e4:name1:x12:piece lengthi16384eee"
+
+
+def own_folders(size):
+    """A torrent of empty files, each below 122 folders of its own."""
+    last = b"1:ad" * 121 + b"1:ad0:d6:lengthi0eee" + b"e" * 122
+    tree = b"d" + b"".join(b"4:%sd" % name + last for name in names(size // (len(last) + 7))) + b"e"
     return b"d4:infod9:file tree" + tree + b"12:meta versioni2e4:name1:x12:piece lengthi16384eee"
 
 
@@ -55,12 +62,13 @@ def one_layer(size):
 
 TORRENTS = {
     "lists of an empty text": lambda size: ignored(b"l0:e", size),
-    "lists of five empty texts": lambda size: ignored(b"l" + b"0:" * 5 + b"e", size),
+    "lists of 33 empty texts": lambda size: ignored(b"l" + b"0:" * 33 + b"e", size),
     "lists in lists": lambda size: ignored(b"l" * 126 + b"e" * 126, size),
     "dictionaries of a pair": lambda size: ignored(b"d0:0:e", size),
     "integers": lambda size: ignored(b"i0e", size),
     "empty files": lambda size: empty_files(0, size),
     "empty files below 123 folders": lambda size: empty_files(123, size),
+    "empty files below 122 folders each": own_folders,
     "files with a root each": own_roots,
     "one piece layer": one_layer,
 }

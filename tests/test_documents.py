@@ -80,3 +80,8 @@ def test_files_that_are_named_exist():
 def test_no_path_of_a_machine():
     for name, text in documents():
         assert not re.search(r"/(?:work|home|root|opt)/", text), name
+
+
+def test_no_marks_of_a_merge():
+    for name, text in documents():
+        assert not re.search(r"^(?:<{7}|>{7}|={7}$)", text, re.M), name

@@ -20,6 +20,7 @@ CALLS = {
     ("refusal_line", "the sink"), ("print_report", "the sink"), ("seed", "the sink"), ("replay", "the sink"),
     ("replay with answers", "the sink"), ("root_line", "the source"), ("advance", "the source"),
     ("replay", "the source"), ("check", "the shelf"), ("seed", "the shelf"), ("check", "a file"), ("seed", "a file"),
+    ("finish", "the sink"), ("convert", "the sink"), ("convert", "the source"), ("gather", "the shelf"), ("gather", "a file"),
 }
 
 

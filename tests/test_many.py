@@ -8,7 +8,7 @@ import subprocess
 import time
 
 import torrents
-from support import BTCHECK, TOP, folder, write
+from support import BTCHECK, TOP, folder, run, write
 
 # How many torrents of the archive have which state.
 GOOD = 17
@@ -60,7 +60,7 @@ class Archive:
         write(f"{place}/user/.parallel/will-cite", b"")
         self.script("bin/btcheck", SLOW.format(program=BTCHECK) if slow else f'#!/bin/sh\nexec {BTCHECK} "$@"\n')
         self.script("bin/ssh", SSH)
-        for name in ["check-one", "check-all"]:
+        for name in ["check-one", "check-all", "create-one"]:
             self.script(name, block(f"\n# {name}"))
         for name in [f"good {number}" for number in range(GOOD)] + list(NOT_GOOD):
             self.torrent(name)
@@ -250,6 +250,31 @@ def test_content_in_one_folder():
             assert archive.run("./check-one torrents/t.torrent")[0] == 0
             good = name in ["x", "single"]
             assert archive.reports()["t.report"] == (["good file", "yes"] if good else ["wrong length file", "no"]), name
+
+
+def test_torrents_for_folders():
+    """Only what has no torrent gets one, and what is refused has none."""
+    if run("create", "--help").returncode != 0:
+        print("not tried: the program does not make torrents yet")
+        return
+    with folder() as place:
+        archive = Archive(place)
+        recipe = block("./create-one\n", "sh")
+        before = os.listdir(f"{place}/torrents")
+        for name in ["new", "it's new, too", "empty"]:
+            os.mkdir(f"{place}/content/{name}")
+        os.mkdir(f"{place}/content/new/below")
+        write(f"{place}/content/new/below/file", b"abc")
+        write(f"{place}/content/it's new, too/a b", b"abc")
+        assert archive.run(recipe) == (1, ["content/empty\trefused 13 NoFiles"])
+        assert set(os.listdir(f"{place}/torrents")) == {*before, "new.torrent", "it's new, too.torrent"}
+        assert archive.run(BY_XARGS)[0] == 123
+        assert archive.reports() == whole_reports() | {"new.report": ["good below/file", "yes"],
+                                                       "it's new, too.report": ["good a b", "yes"]}
+        # stopped in the middle, and gone on with
+        os.remove(f"{place}/torrents/new.torrent")
+        write(f"{place}/torrents/.new.1234", b"d4:info")
+        assert archive.run(recipe)[0] == 1 and "new.torrent" in os.listdir(f"{place}/torrents")
 
 
 def test_timers():

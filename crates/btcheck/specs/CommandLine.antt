@@ -1,5 +1,6 @@
 -- What the program's command line is to clap, and what it asks for. Words are the arguments as
--- texts, the program's name first; rows are what clap's definition of simple commands finds in them.
+-- texts, the program's name first; rows are what clap's definition of simple commands finds in
+-- them.
 use Rattle.std.specs.Prelude.{◌≡◌, ℕ, List, [], ◌∷◌, Bool, true, false, Option, Some, None, codes, option_map, ◌<◌, ◌^◌}
 use Rattle.std.specs.Borrow.{Bor}
 use Rattle.clap.specs.Walk.{Row, Rule, Text, first_of, one_of, rule_of}

@@ -109,7 +109,8 @@ pub record Held (start now : SinkSeen) (gathered text : List ℕ) : Type 0 where
   pub text_is : text ≡ sent ++ gathered
 
 -- the text for all that was fed is on its way
-pub record Advances (start now : SinkSeen) (gathered : List ℕ) (left : ℕ) (fed : List ℕ) : Type 0 where
+pub record Advances (start now : SinkSeen) (gathered : List ℕ) (left : ℕ) (fed : List ℕ)
+    : Type 0 where
   pub text : List ℕ
   pub reached : Reached left fed text
   pub held : Held start now gathered text
@@ -124,8 +125,7 @@ pub record BreaksOff (start now : SinkSeen) (fed more : List ℕ) : Type 0 where
 
 -- ---- the whole record
 
--- whatever follows these bytes, the record is of form 1 or of form 2 as they show; or the source has
--- ended in less than a header
+-- more may come, and these bytes tell the form; or the source has ended in less than a header
 abbrev pub TellsForm : Bool → SourceSeen → List ℕ → Type 0
 TellsForm true now bytes = (IsPrefixOf bytes header → 8 ≤ length bytes)
 TellsForm false now bytes = IsAtEnd now.left × (length bytes < 8) × IsPrefixOf bytes header
@@ -143,7 +143,8 @@ Flushed old new r = Keeps old.written new.written × (new.flushes ≡ one_more o
     × CountsFault old.faults new.faults r × OnOk r (new.is_flushed ≡ true)
 
 -- the source has ended, in a record of whole frames or inside a frame
-pub record Ends (whole : Bool) (first now : SourceSeen) (bytes : List ℕ) (start out : SinkSeen) : Type 0 where
+pub record Ends (whole : Bool) (first now : SourceSeen) (bytes : List ℕ)
+    (start out : SinkSeen) : Type 0 where
   pub gave : GaveFaultless first now bytes
   pub at_end : IsAtEnd now.left
   pub sends : Sends bytes start out

@@ -21,11 +21,12 @@ const HEADER: [u8; 8] = *b"\xff\xff\xff\xffBTH2";
 /// stands, marked as one that came in. Directly before each hashes message of right size goes the
 /// request that it answers, marked as one that went out. At last it flushes. It takes no memory.
 ///
-/// `AlreadyForm2` comes as soon as the eight bytes of the header were read, and `Read` if the source
-/// fails: then nothing went out if what was read is a prefix of the header. `Truncated` comes if the
-/// record ends inside a frame. After it, and after any other `Read`, what went out begins with the
-/// conversion of all whole frames. After `Write` it is a prefix of the conversion of every record of
-/// whole frames that begins with what was read. After a fault nothing is flushed.
+/// `AlreadyForm2` comes as soon as the eight bytes of the header were read, and `Read` if the
+/// source fails: then nothing went out if what was read is a prefix of the header. `Truncated`
+/// comes if the record ends inside a frame. After it, and after any other `Read`, what went out
+/// begins with the conversion of all whole frames. After `Write` it is a prefix of the conversion
+/// of every record of whole frames that begins with what was read. After a fault nothing is
+/// flushed.
 pub fn convert<R: Source, W: Sink>(source: &mut R, out: &mut W) -> Result<(), ConvertFault>
     ensures converts { IfOk result (λ _. Converts (R.seen source.old) (R.seen source.new)
         (W.seen out.old) (W.seen out.new)) }
@@ -61,7 +62,8 @@ fn convert_record<R: Source, W: Sink>(source: &mut R, out: &mut W) -> Result<(),
     Ok(())
 }
 
-// Reads until the form is known: how many bytes then stand in the buffer, and whether more may come.
+// Reads until the form is known: how many bytes then stand in the buffer, and whether more may
+// come.
 fn read_front<R: Source>(source: &mut R, buffer: &mut [u8]) -> Result<(usize, bool), DeviceFault>
     requires { 8 ≤ length buffer.old }
     ensures within { IfOk result (λ front. front.0 ≤ length buffer.new) }

@@ -5,7 +5,7 @@ use crate::trial::{count, judge, sink};
 use crate::world::World;
 use benc::memory::{MemSink, MemSource};
 use benc::{Sink, Source};
-use checker::{replay, root_line};
+use checker::{ConvertFault, convert, replay, root_line};
 use session::{Flat, Session};
 use std::io;
 use wire::{FrameFault, RecordReader};
@@ -16,9 +16,15 @@ enum Call {
     RootLine,
     NextFrame,
     Replay,
+    Convert,
 }
 
-const CALLS: [Call; 3] = [Call::RootLine, Call::NextFrame, Call::Replay];
+const CALLS: [Call; 4] = [
+    Call::RootLine,
+    Call::NextFrame,
+    Call::Replay,
+    Call::Convert,
+];
 
 // What came of a call over a source that was to fail.
 #[derive(Drop)]
@@ -36,6 +42,7 @@ fn name(call: Call) -> &'static str {
         Call::RootLine => "root_line",
         Call::NextFrame => "advance",
         Call::Replay => "replay",
+        Call::Convert => "convert",
     }
 }
 
@@ -80,6 +87,7 @@ fn make(
         Call::RootLine => make_root_line(rt, source),
         Call::NextFrame => read_frames(rt, source),
         Call::Replay => make_replay(rt, world, source),
+        Call::Convert => make_convert(rt, world, source),
     }
 }
 
@@ -148,4 +156,22 @@ fn report(
         Ok(outcome) => Ok(outcome.fault),
         Err(_) => Ok(true),
     }
+}
+
+// What went out is a prefix of the conversion.
+fn make_convert(
+    rt: &HostRuntime,
+    world: &World<'_, '_>,
+    source: &mut MemSource<'_>,
+) -> io::Result<Outcome> {
+    let mut whole = sink(rt)?;
+    let mut out = sink(rt)?;
+    if convert(&mut MemSource::new(world.record), &mut whole).is_err() {
+        return Ok(Outcome::Wrong);
+    }
+    Ok(match convert(source, &mut out) {
+        Ok(()) => Outcome::Done,
+        Err(ConvertFault::Read) if whole.written().starts_with(out.written()) => Outcome::Told,
+        Err(_) => Outcome::Wrong,
+    })
 }

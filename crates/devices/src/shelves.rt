@@ -1,7 +1,9 @@
 //! Shelves and files that fail.
 use crate::trial::{count, judge, sink};
 use crate::world::World;
-use checker::{FileVerdict, MemFile, MemShelf, Report, Shelf, check, seed};
+use checker::{
+    FileVerdict, GatherFault, MemFile, MemShelf, Report, Shelf, ShelfFault, check, gather, seed,
+};
 use session::{Flat, Session};
 use std::io;
 
@@ -10,14 +12,24 @@ use std::io;
 enum Call {
     Check,
     Seed,
+    Gather,
 }
 
-const CALLS: [Call; 2] = [Call::Check, Call::Seed];
+const CALLS: [Call; 3] = [Call::Check, Call::Seed, Call::Gather];
+
+// Whether the call opens no file after one that failed.
+fn stops(call: Call) -> bool {
+    match call {
+        Call::Gather => true,
+        _ => false,
+    }
+}
 
 fn name(call: Call) -> &'static str {
     match call {
         Call::Check => "check",
         Call::Seed => "seed",
+        Call::Gather => "gather",
     }
 }
 
@@ -52,7 +64,7 @@ fn try_file(rt: &HostRuntime, world: &World<'_, '_>, call: Call) -> io::Result<(
         let mut shelf = MemShelf::new(rt.alloc(), &files).at_most(4096);
         let lost = make(rt, world, call, &mut shelf)?;
         judge(rt, name(call), "a file", at, lost == shelf.failures())?;
-        judge(rt, name(call), "a file", at, shelf.openings() == 2)?;
+        judge(rt, name(call), "a file", at, shelf.openings() == 2 || stops(call))?;
         if lost == 0 {
             return count(rt, name(call), "a file", at);
         }
@@ -70,6 +82,7 @@ fn make(
     match call {
         Call::Check => Ok(unreadable(&check(rt.alloc(), world.torrent, shelf)?)),
         Call::Seed => make_seed(rt, world, shelf),
+        Call::Gather => Ok(make_gather(rt, shelf)),
     }
 }
 
@@ -91,5 +104,14 @@ fn make_seed(rt: &HostRuntime, world: &World<'_, '_>, shelf: &mut MemShelf<'_>) 
         Ok(()) if out.written() == b"seeded a\nseeded c\n".as_slice() => Ok(0),
         Ok(()) => Ok(1),
         Err(_) => Ok(2),
+    }
+}
+
+// The first fault ends it.
+fn make_gather(rt: &HostRuntime, shelf: &mut MemShelf<'_>) -> u64 {
+    match gather(rt.alloc(), shelf, "x", 16384, true) {
+        Ok(_) => 0,
+        Err(GatherFault::Device(_) | GatherFault::List(ShelfFault::Device)) => 1,
+        Err(_) => 2,
     }
 }

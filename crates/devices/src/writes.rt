@@ -5,7 +5,9 @@ use crate::trial::{broke, count, is_whole, judge, sink};
 use crate::world::World;
 use benc::memory::{MemSink, MemSource};
 use benc::{Sink, decode, encode};
-use checker::{MemShelf, check, print_report, refusal_line, replay, root_line, seed, show};
+use checker::{
+    MemShelf, check, convert, gather, print_report, refusal_line, replay, root_line, seed, show,
+};
 use metainfo::{Key, Refusal};
 use session::{Flat, Session};
 use std::io;
@@ -23,9 +25,11 @@ enum Call {
     Seed,
     ReplayReport,
     ReplayAnswers,
+    Finish,
+    Convert,
 }
 
-const CALLS: [Call; 9] = [
+const CALLS: [Call; 11] = [
     Call::Encode,
     Call::WriteMessage,
     Call::RootLine,
@@ -35,6 +39,8 @@ const CALLS: [Call; 9] = [
     Call::Seed,
     Call::ReplayReport,
     Call::ReplayAnswers,
+    Call::Finish,
+    Call::Convert,
 ];
 
 fn name(call: Call) -> &'static str {
@@ -48,6 +54,8 @@ fn name(call: Call) -> &'static str {
         Call::Seed => "seed",
         Call::ReplayReport => "replay",
         Call::ReplayAnswers => "replay with answers",
+        Call::Finish => "finish",
+        Call::Convert => "convert",
     }
 }
 
@@ -109,6 +117,8 @@ fn make(
         Call::Seed => make_seed(rt, world, out),
         Call::ReplayReport => make_replay(rt, world, out, &mut sink(rt)?),
         Call::ReplayAnswers => make_replay(rt, world, &mut sink(rt)?, out),
+        Call::Finish => make_finish(rt, world, out),
+        Call::Convert => Ok(convert(&mut MemSource::new(world.record), out).is_ok()),
     }
 }
 
@@ -161,4 +171,14 @@ fn make_replay(
         return Ok(false);
     }
     Ok(replay(rt.alloc(), &mut session, &mut source, report, Some(answers)).is_ok())
+}
+
+// Writes the torrent of the two files.
+fn make_finish(rt: &HostRuntime, world: &World<'_, '_>, out: &mut MemSink) -> io::Result<bool> {
+    let files = world.files();
+    let mut shelf = MemShelf::new(rt.alloc(), &files);
+    match gather(rt.alloc(), &mut shelf, "x", 16384, true) {
+        Ok(draft) => Ok(draft.finish(out).is_ok()),
+        Err(_) => Ok(false),
+    }
 }

@@ -61,8 +61,8 @@ impl Line {
         self.put(buffer.format(number).as_bytes());
     }
 
-    /// Puts a digest of at most 32 bytes at the end, in lower case hexadecimal. There is room for 64
-    /// digits.
+    /// Puts a digest of at most 32 bytes at the end, in lower case hexadecimal. There is room for
+    /// 64 digits.
     pub fn put_digest(&mut self, digest: &[u8])
         requires bound { length digest.now ≤ 32 }
         requires room { length self.old + 64 ≤ 256 }

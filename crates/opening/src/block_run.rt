@@ -16,8 +16,8 @@ impl<'a> Torrent<'a> {
 
     /// How many consecutive blocks of the file, from this one on, have lengths that sum to `size`
     /// bytes: at least one and at most 17. `None` if no number of them has, or if `size` is above
-    /// 263,208, the most bytes that one piece message carries. The torrent has the file, and the file
-    /// the block.
+    /// 263,208, the most bytes that one piece message carries. The torrent has the file, and the
+    /// file the block.
     pub fn block_run(&self, file: usize, block: u64, size: u64) -> Option<u64>
         requires there { file < length self.now.files }
         requires in_file { (f : FileEntry) → slice_get self.now.files file ≡ Some f

@@ -1,5 +1,5 @@
--- What a version 1 feed holds. Contracts of users cite `total`, `given` and `IsFeedGiven` alone, and
--- need nothing of how they are defined.
+-- What a version 1 feed holds. Contracts of users cite `total`, `given` and `IsFeedGiven` alone,
+-- and need nothing of how they are defined.
 use Rattle.std.specs.Prelude.{◌≡◌, ◌≢◌, ℕ, ◌*◌, ◌<◌, ◌≤◌, List, length, drop, slice_get, Option, Some, None}
 use Rattle.sha1.specs.Sha1.{sha1}
 use Rattle.pieces.specs.Cuts.{cut}

@@ -27,8 +27,8 @@ impl<'a> V1Feed<'a> {
     ghost use Rattle.pieces.specs.Cutting.{IsCutting};
     ghost use Rattle.pieces.specs.Feeding.{IsFeedAt, IsFeedGiven, IsFirstBad, given, total};
 
-    /// A feed that was given nothing, for a stream of the length that the hybrid states, in pieces of
-    /// a length above 0.
+    /// A feed that was given nothing, for a stream of the length that the hybrid states, in pieces
+    /// of a length above 0.
     pub fn new(v: &V1<'a>, piece_length: u64) -> V1Feed<'a>
         requires { 0 < piece_length }
         ensures total { total result ≡ v.now.total }

@@ -1,10 +1,10 @@
 -- The loop of a replay: one more frame, and the end.
-use Rattle.std.proofs.Common.{◌≡◌, ◌≢◌, ◌≤◌, ◌+◌, ◌++◌, ◌||◌, ℕ, suc, Bool, false, List, [], ◌∷◌, length, Some, None, Result, Ok, Err, IfOk, OnErr, refl, sym, ap, ◌∙◌, append_assoc, subst, subst₂, inl, inr, arith}
+use Rattle.std.proofs.Common.{◌≡◌, ◌≢◌, ◌≤◌, ◌+◌, ◌++◌, ◌||◌, ℕ, suc, Bool, false, List, [], ◌∷◌, length, Option, Some, None, Result, Ok, Err, IfOk, OnErr, refl, sym, ap, ◌∙◌, append_assoc, subst, subst₂, inl, inr, arith}
 use Rattle.std.specs.Prelude.{is_some}
 use Rattle.std.specs.List.{flat_map, list_any, All}
 use Rattle.std.proofs.lemmas.List.{append-nil, length-append, map-append}
 use Rattle.std.proofs.lemmas.Option.{same_Some}
-use Rattle.std.proofs.lemmas.List.Elements.{All-nil, All-cons, All-append}
+use Rattle.std.proofs.lemmas.List.Elements.{All-nil}
 use Rattle.std.proofs.lemmas.List.Folds.{list_any-append}
 use Rattle.std.proofs.Math.Bool.{or-false}
 use Rattle.std.proofs.lemmas.Grind.{flat_map-append}
@@ -13,14 +13,17 @@ use Rattle.benc.specs.Device.{SourceSeen, SinkSeen, Sent, Broke, SentAndFlushed,
 use Rattle.benc.specs.declared.device.WriteFault.{WriteFault}
 use Rattle.benc.proofs.Known.{Appends-append, Appends_nothing}
 use Rattle.benc.proofs.Out.{Sent-append}
-use Rattle.wire.proofs.Giving.{Gave-nil, Gave-trans}
-use Rattle.wire.proofs.Partial.{length-frame, IsPartial-from_short}
+use Rattle.wire.proofs.Giving.{Gave-nil}
+use Rattle.wire.proofs.RecordParts.{later_part}
+use Rattle.wire.proofs.RecordRuns.{HasRead, HasReadTo, cut-from_stop, cut-nothing, frame_falls as record_falls, read_more, read_nothing, read_to}
 use Rattle.wire.specs.declared.fault.FrameFault.{FrameFault}
 use Rattle.wire.specs.declared.fault.FrameFault.TheVariants as fault
 use Rattle.wire.specs.declared.frame.Frame.{Frame}
-use Rattle.wire.specs.Frames.{Frames, IsBody, IsPartial}
-use Rattle.wire.specs.Frames as stream
-use Rattle.wire.specs.Reading.{Gave, StopsInFrame}
+use Rattle.wire.specs.declared.form.Form.{Form}
+use Rattle.wire.specs.declared.form.Form.TheVariants.{One, Two}
+use Rattle.wire.specs.Reading.{Gave}
+use Rattle.wire.specs.RecordReading.{EndsRecord, GavePart, StopsAt, StopsInRecord}
+use Rattle.wire.specs.Records.{Directed, MayStand}
 use Rattle.session.specs.Chain.{Chain}
 use Rattle.session.specs.Session.{SessionSeen}
 use Rattle.session.proofs.Chains.{Chain-more}
@@ -33,14 +36,8 @@ use Rattle.records.specs.ReplayLines.{lines_of, ending_line_of}
 use Rattle.records.specs.declared.reply.Reply.{Reply}
 use Rattle.records.specs.declared.answering.AnswerFault.TheVariants as failed
 use Rattle.records.specs.Answering.{Finishes, IfWanted, IsReply, Replies, reply_to}
-use Rattle.records.specs.Replay.{Answered, Ends, EndsUnanswered, Handled, Handles, HandlesAll, HandlesNext, IsCutAtEnd, IsCutInAnswer, IsCutInFlush, IsCutInLine, IsCutReport, IsEnding, IsReport, CountsEnding, Replayed, ReplaySeen, RespondsNext, TellsEnding, answers_of, lines_from, tolds_of, unanswered}
+use Rattle.records.specs.Replay.{Answered, Ends, EndsUnanswered, GaveRecord, Handled, Handles, HandlesAll, HandlesButLast, HandlesNext, IsCutAtEnd, IsCutInAnswer, IsCutInFlush, IsCutInLine, IsCutReport, IsEnding, IsReport, CountsEnding, Replayed, ReplaySeen, RespondsNext, TellsEnding, answers_of, lines_from, tolds_of, unanswered}
 use Rattle.records.proofs.Replies.{broke_after, hashes_are_told, meets_more, none_sent, same_wanted, sent_and_flushed, sent_more, sent_unflushed}
-
-nothing_partial : IsPartial []
-nothing_partial = IsPartial-from_short [] (omega arith)
-
-All-one : (body : List ℕ) → IsBody body → All IsBody (body ∷ [])
-All-one body fits = All-cons IsBody body [] fits (All-nil IsBody)
 
 -- ---- one more frame, in lists
 
@@ -78,106 +75,144 @@ sent_then_flushed a b c text line sent wrote = record {
 
 -- ---- what a source gave
 
--- a replay before its first frame
-replayed_none : (wanted : Bool) (s : SourceSeen) (S : SessionSeen) → Replayed wanted s s S S [] None
-replayed_none wanted s S = record {
+-- the steps so far, of a record whose form is known once a frame was asked for
+abbrev RunsBy : Bool → Option Form → SessionSeen → List (Directed (List ℕ)) → List Handled → SessionSeen → Type 0
+RunsBy wanted None S ds hs S' = (hs ≡ []) × (S' ≡ S)
+RunsBy wanted (Some form) S ds hs S' = Chain (Handles wanted form) S ds hs S'
+
+-- the frames so far, and what was made of them
+pub record SoFar (wanted : Bool) (known : Option Form) (old now : SourceSeen) (S S' : SessionSeen) (handled : List Handled) : Type 0 where
+  pub frames : List (Directed (List ℕ))
+  pub read : HasRead old now known frames
+  pub run : RunsBy wanted known S frames handled S'
+  pub counted : now.faults ≡ old.faults
+
+so_far_none : (wanted : Bool) (s : SourceSeen) (S : SessionSeen) → SoFar wanted None s s S S []
+so_far_none wanted s S = record { frames = []; read = read_nothing s s refl; run = (refl, refl); counted = refl }
+
+-- whichever form the next part tells, the frames so far have it
+run_at : (wanted : Bool) (known : Option Form) (form : Form) (part : List ℕ) (a b c : SourceSeen) (S S' : SessionSeen) (ds : List (Directed (List ℕ))) (hs : List Handled)
+    → HasRead a b known ds → GavePart known form part b c → RunsBy wanted known S ds hs S' → Chain (Handles wanted form) S ds hs S'
+run_at wanted None form part a b c S S' ds hs r p run =
+    subst (λ xs. Chain (Handles wanted form) S xs hs S') (sym r.are.0) (subst (λ ys. Chain (Handles wanted form) S [] ys S') (sym run.0) run.1)
+run_at wanted (Some k) form part a b c S S' ds hs r p run =
+    subst (λ f. Chain (Handles wanted f) S ds hs S') (sym p.reads.0) run
+
+nothing_read : (s : SourceSeen) → GaveRecord s s One [] []
+nothing_read s = record {
   bytes = [];
   gave = Gave-nil s;
-  bodies = [];
-  rest = [];
-  whole = record { whole = refl; each = All-nil IsBody; partial = nothing_partial };
-  run = refl;
-  ended = refl;
-  unread = λ e. let no : ⊥ = cc in absurd no;
-  counted = refl;
+  whole = record { has_form = λ rest e. let no : ⊥ = cc in no; whole = refl; each = All-nil (MayStand One); cut = cut-nothing One };
 }
 
 -- out of memory before the first frame
 replayed_nothing : (wanted : Bool) (s : SourceSeen) (S : SessionSeen) → Replayed wanted s s S S [] (Some (ending.Fault fault.NoMemory))
+unfolding nothing_read
 replayed_nothing wanted s S = record {
-  bytes = [];
-  gave = Gave-nil s;
-  bodies = [];
+  form = One;
+  frames = [];
   rest = [];
-  whole = record { whole = refl; each = All-nil IsBody; partial = nothing_partial };
+  read = nothing_read s;
   run = refl;
   ended = refl;
   unread = λ e. refl;
   counted = refl;
 }
 
+record_of : (a c : SourceSeen) (form : Form) (ds : List (Directed (List ℕ))) (part : List ℕ) → HasReadTo a c form ds part → GaveRecord a c form ds part
+record_of a c form ds part t = record { bytes = t.bytes; gave = t.gave; whole = t.frames }
+
+-- whole frames, and no more so far
+whole_so_far : (a b : SourceSeen) (form : Form) (ds : List (Directed (List ℕ))) → HasRead a b (Some form) ds → GaveRecord a b form ds []
+whole_so_far a b form ds r = record_of a b form ds [] (read_to a b b (Some form) form ds [] r (later_part form [] b b (Gave-nil b)) (cut-nothing form))
+
+no_frames : (a b : SourceSeen) (ds : List (Directed (List ℕ))) → HasRead a b None ds → GaveRecord a b One [] []
+no_frames a b ds r = record {
+  bytes = [];
+  gave = subst (Gave a b) r.are.1 r.gave;
+  whole = record { has_form = λ rest e. let no : ⊥ = cc in no; whole = refl; each = All-nil (MayStand One); cut = cut-nothing One };
+}
+
+-- a replay that has not ended
+replayed_of : (wanted : Bool) (known : Option Form) (old now : SourceSeen) (S S' : SessionSeen) (hs : List Handled) → SoFar wanted known old now S S' hs → Replayed wanted old now S S' hs None
+replayed_of wanted None old now S S' hs s = record {
+  form = One;
+  frames = [];
+  rest = [];
+  read = no_frames old now s.frames s.read;
+  run = subst (λ ys. Chain (Handles wanted One) S [] ys S') (sym s.run.0) s.run.1;
+  ended = refl;
+  unread = λ e. let no : ⊥ = cc in absurd no;
+  counted = s.counted;
+}
+replayed_of wanted (Some form) old now S S' hs s = record {
+  form = form;
+  frames = s.frames;
+  rest = [];
+  read = whole_so_far old now form s.frames s.read;
+  run = s.run;
+  ended = refl;
+  unread = λ e. let no : ⊥ = cc in absurd no;
+  counted = s.counted;
+}
+
 -- one more frame
-replayed_more : (wanted : Bool) (old mid new : SourceSeen) (S S' S'' : SessionSeen) (hs : List Handled) (h : Handled)
-    → Replayed wanted old mid S S' hs None → HandlesNext wanted mid new S' S'' h → Replayed wanted old new S S'' (hs ++ h ∷ []) None
-replayed_more wanted old mid new S S' S'' hs h r next =
-    let body = next.body in
-    record {
-      bytes = r.bytes ++ stream.frame body;
-      gave = Gave-trans old mid new r.bytes (stream.frame body) r.gave next.gave;
-      bodies = r.bodies ++ body ∷ [];
-      rest = [];
-      whole = record {
-        whole = ap (λ x. x ++ stream.frame body) (r.whole.whole ∙ ap (λ x. flat_map stream.frame r.bodies ++ x) r.ended ∙ append-nil (flat_map stream.frame r.bodies))
-            ∙ ap (λ x. flat_map stream.frame r.bodies ++ x) (sym (append-nil (stream.frame body)))
-            ∙ sym (flat_map-append stream.frame r.bodies (body ∷ []))
-            ∙ sym (append-nil (flat_map stream.frame (r.bodies ++ body ∷ [])));
-        each = All-append IsBody r.bodies (body ∷ []) r.whole.each (All-one body next.fits);
-        partial = nothing_partial;
-      };
-      run = Chain-more (Handles wanted) S r.bodies hs S' body h S'' r.run next.step;
-      ended = refl;
-      unread = λ e. let no : ⊥ = cc in absurd no;
-      counted = next.counted ∙ r.counted;
-    }
+so_far_more : (wanted : Bool) (known : Option Form) (form : Form) (old mid new : SourceSeen) (S S' S'' : SessionSeen) (hs : List Handled) (h : Handled)
+    → SoFar wanted known old mid S S' hs → HandlesNext wanted known form mid new S' S'' h → SoFar wanted (Some form) old new S S'' (hs ++ h ∷ [])
+so_far_more wanted known form old mid new S S' S'' hs h s next = record {
+  frames = s.frames ++ next.directed ∷ [];
+  read = read_more old mid new known form s.frames next.directed s.read next.gave;
+  run = Chain-more (Handles wanted form) S s.frames hs S' next.directed h S''
+      (run_at wanted known form _ old mid new S S' s.frames hs s.read next.gave.part s.run) next.step;
+  counted = next.gave.faults ∙ s.counted;
+}
 
 -- less than a frame, and then the end
-replayed_ends : (wanted : Bool) (old mid new : SourceSeen) (S S' S'' : SessionSeen) (hs : List Handled) (e : Ending)
-    → Replayed wanted old mid S S' hs None → TellsEnding mid new e → S'' ≡ S' → Replayed wanted old new S S'' hs (Some e)
-replayed_ends wanted old mid new S S' S'' hs e r next stays = record {
-  bytes = r.bytes ++ next.part;
-  gave = Gave-trans old mid new r.bytes next.part r.gave next.gave;
-  bodies = r.bodies;
+replayed_ends : (wanted : Bool) (known : Option Form) (old mid new : SourceSeen) (S S' S'' : SessionSeen) (hs : List Handled) (e : Ending)
+    → SoFar wanted known old mid S S' hs → TellsEnding known mid new e → S'' ≡ S' → Replayed wanted old new S S'' hs (Some e)
+replayed_ends wanted known old mid new S S' S'' hs e s next stays = record {
+  form = next.form;
+  frames = s.frames;
   rest = next.part;
-  whole = record {
-    whole = ap (λ x. x ++ next.part) (r.whole.whole ∙ ap (λ x. flat_map stream.frame r.bodies ++ x) r.ended ∙ append-nil (flat_map stream.frame r.bodies));
-    each = r.whole.each;
-    partial = next.partial;
-  };
-  run = subst (Chain (Handles wanted) S r.bodies hs) (sym stays) r.run;
+  read = record_of old new next.form s.frames next.part (read_to old mid new known next.form s.frames next.part s.read next.gave next.cut);
+  run = subst (Chain (Handles wanted next.form) S s.frames hs) (sym stays) (run_at wanted known next.form next.part old mid new S S' s.frames hs s.read next.gave s.run);
   ended = next.ended;
   unread = λ is. absurd (next.had_room (same_Some e (ending.Fault fault.NoMemory) is));
-  counted = subst (λ n. CountsEnding n new.faults (Some e)) r.counted next.counted;
+  counted = subst (λ n. CountsEnding n new.faults (Some e)) s.counted next.counted;
 }
 
 -- the end of the source between two frames
-pub tells_end : (old new : SourceSeen) → Gave old new [] → IsAtEnd new.left → new.faults ≡ old.faults → TellsEnding old new ending.End
-tells_end old new gave at_end counted = record {
+pub tells_end : (known : Option Form) (form : Form) (old new : SourceSeen) → EndsRecord known form old new → TellsEnding known old new ending.End
+tells_end known form old new e = record {
+  form = form;
   part = [];
-  gave = gave;
-  partial = nothing_partial;
-  ended = (refl, at_end);
+  gave = e.part;
+  cut = cut-nothing form;
+  ended = (refl, e.at_end);
   had_room = λ e. let no : ⊥ = cc in no;
-  counted = counted;
+  counted = e.faults;
 }
 
 fault_of : (a b : FrameFault) → ending.Fault a ≡ ending.Fault b → a ≡ b
 fault_of a b e = cc
 
-ended_fault : (new : SourceSeen) (part : List ℕ) (why : FrameFault) → (why ≢ fault.Read → part ≢ []) → (why ≡ fault.Truncated → IsAtEnd new.left)
-    → (why ≡ fault.NoMemory → ⊥) → why ≢ fault.BadDirection → IsEnding new.left part (Some (ending.Fault why))
-ended_fault new part fault.Truncated begun at_end room frames = (begun (λ e. absurd cc), at_end refl)
-ended_fault new part fault.Read begun at_end room frames = tt
-ended_fault new part fault.NoMemory begun at_end room frames = absurd (room refl)
-ended_fault new part fault.BadDirection begun at_end room frames = absurd (frames refl)
+ended_fault : (form : Form) (new : SourceSeen) (part : List ℕ) (why : FrameFault) → StopsAt form part why → (why ≡ fault.Truncated → IsAtEnd new.left)
+    → (why ≡ fault.NoMemory → ⊥) → IsEnding form new.left part (Some (ending.Fault why))
+ended_fault form new part fault.Truncated s at_end room = (s.0, s.1, at_end refl)
+ended_fault form new part fault.Read s at_end room = s
+ended_fault form new part fault.NoMemory s at_end room = absurd (room refl)
+ended_fault One new part fault.BadDirection s at_end room = absurd s
+ended_fault Two new part fault.BadDirection s at_end room = (refl, s)
 
-pub tells_fault : (old new : SourceSeen) (why : FrameFault) → StopsInFrame old new why → (why ≡ fault.NoMemory → ⊥) → TellsEnding old new (ending.Fault why)
-tells_fault old new why stop room = record {
-  part = stop.bytes;
-  gave = stop.gave.gave;
-  partial = stop.partial;
-  ended = ended_fault new stop.bytes why stop.begun stop.gave.ended room stop.gave.no_direction;
+pub tells_fault : (known : Option Form) (old new : SourceSeen) (why : FrameFault) → StopsInRecord known old new why → (why ≡ fault.NoMemory → ⊥) → TellsEnding known old new (ending.Fault why)
+tells_fault known old new why stop room = record {
+  form = stop.form;
+  part = stop.rest;
+  gave = stop.part;
+  cut = cut-from_stop stop.form stop.rest why stop.stops;
+  ended = ended_fault stop.form new stop.rest why stop.stops stop.ended room;
   had_room = λ e. room (fault_of why fault.NoMemory e);
-  counted = stop.gave.faults;
+  counted = stop.faults;
 }
 
 -- ---- the loop
@@ -186,9 +221,9 @@ flat_one : (hs : List Handled) (h : Handled) → answers_of (hs ++ h ∷ []) ≡
 flat_one hs h = flat_map-append (λ (x : Handled). x.answer) hs (h ∷ []) ∙ ap (λ t. answers_of hs ++ t) (append-nil h.answer)
 
 -- a replay that has not ended, all of whose lines and answers went out
-pub record InReplay (old new : ReplaySeen) (number : ℕ) (outcome : Outcome) : Type 0 where
+pub record InReplay (old new : ReplaySeen) (known : Option Form) (number : ℕ) (outcome : Outcome) : Type 0 where
   pub handled : List Handled
-  pub replayed : HandlesAll old new handled None
+  pub so_far : SoFar (is_some old.answers) known old.source new.source old.session new.session handled
   pub number_is : number ≡ length handled
   pub room : number + new.source.limit ≤ old.source.limit
   pub sent : Sent old.report new.report (lines_from 1 handled)
@@ -198,14 +233,14 @@ pub record InReplay (old new : ReplaySeen) (number : ℕ) (outcome : Outcome) : 
   pub no_fault : outcome.fault ≡ false
 
 -- a frame takes a byte at least
-pub frame_falls : {mid new : SourceSeen} {S S' : SessionSeen} {d : Told} {r : Reply} → RespondsNext mid new S S' d r → new.limit + 1 ≤ mid.limit
-frame_falls {mid} {new} {S} {S'} {d} {r} next = omega (arith, next.1.gave.falls, length-frame next.1.body)
+pub frame_falls : {mid new : SourceSeen} {known : Option Form} {form : Form} {S S' : SessionSeen} {d : Told} {r : Reply} → RespondsNext known form mid new S S' d r → new.limit + 1 ≤ mid.limit
+frame_falls {mid} {new} {known} {form} {S} {S'} {d} {r} next = omega (arith, record_falls mid new known form next.1.directed next.1.gave)
 
 -- before the first frame
-pub in_replay_none : (s : ReplaySeen) (o : Outcome) → o.refused ≡ false → o.no_memory ≡ false → o.fault ≡ false → InReplay s s 0 o
+pub in_replay_none : (s : ReplaySeen) (o : Outcome) → o.refused ≡ false → o.no_memory ≡ false → o.fault ≡ false → InReplay s s None 0 o
 in_replay_none s o refused no_memory no_fault = record {
   handled = [];
-  replayed = replayed_none (is_some s.answers) s.source s.session;
+  so_far = so_far_none (is_some s.answers) s.source s.session;
   number_is = refl;
   room = omega arith;
   sent = record { bytes = Appends_nothing s.report.written; faults = refl; flushes = refl };
@@ -216,45 +251,60 @@ in_replay_none s o refused no_memory no_fault = record {
 }
 
 -- the frame with the bytes of its answer
-abbrev with_answer : Frame → Told → List ℕ → Handled
+abbrev with_answer : Directed Frame → Told → List ℕ → Handled
 with_answer f d bytes = record { frame = f; told = d; answer = bytes }
 
-answer_next : (wanted : Bool) (old new : SourceSeen) (S S' : SessionSeen) (f : Frame) (d : Told) (bytes : List ℕ)
-    → HandlesNext false old new S S' (unanswered f d) → IsReply wanted S' (reply_to f d) bytes → HandlesNext wanted old new S S' (with_answer f d bytes)
-answer_next wanted old new S S' f d bytes next replies = record {
-  body = next.body;
-  fits = next.fits;
+answer_next : (wanted : Bool) (known : Option Form) (form : Form) (old new : SourceSeen) (S S' : SessionSeen) (f : Directed Frame) (d : Told) (bytes : List ℕ)
+    → HandlesNext false known form old new S S' (unanswered f d) → IsReply wanted S' (reply_to f d) bytes → HandlesNext wanted known form old new S S' (with_answer f d bytes)
+answer_next wanted known form old new S S' f d bytes next replies = record {
+  directed = next.directed;
   gave = next.gave;
-  counted = next.counted;
-  step = (next.step.0, meets_more wanted S S' f d bytes next.step.1 replies);
+  step = (next.step.0, meets_more wanted form S S' f d bytes next.step.1 replies);
 }
 
 -- one more frame was handled, with this answer
-handled_more : {old mid : ReplaySeen} {n : ℕ} {o : Outcome} {d : Told} {r : Reply} (new : ReplaySeen) (bytes : List ℕ) → (so_far : InReplay old mid n o)
-    → (next : RespondsNext mid.source new.source mid.session new.session d r) → IsReply (is_some mid.answers) new.session r bytes
-    → HandlesAll old new (so_far.handled ++ with_answer next.0 d bytes ∷ []) None
-handled_more {old} {mid} {n} {o} {d} {r} new bytes so_far next replies =
-    let wanted : is_some mid.answers ≡ is_some old.answers = same_wanted (λ a b. Sent a b (answers_of so_far.handled)) old.answers mid.answers so_far.answered in
+handled_more : {old mid : ReplaySeen} {known : Option Form} {form : Form} {n : ℕ} {o : Outcome} {d : Told} {r : Reply} (new : ReplaySeen) (bytes : List ℕ) → (at : InReplay old mid known n o)
+    → (next : RespondsNext known form mid.source new.source mid.session new.session d r) → IsReply (is_some mid.answers) new.session r bytes
+    → SoFar (is_some old.answers) (Some form) old.source new.source old.session new.session (at.handled ++ with_answer next.0 d bytes ∷ [])
+handled_more {old} {mid} {known} {form} {n} {o} {d} {r} new bytes at next replies =
+    let wanted : is_some mid.answers ≡ is_some old.answers = same_wanted (λ a b. Sent a b (answers_of at.handled)) old.answers mid.answers at.answered in
     let is : IsReply (is_some old.answers) new.session (reply_to next.0 d) bytes =
     subst (λ x. IsReply (is_some old.answers) new.session x bytes) next.2 (subst (λ w. IsReply w new.session r bytes) wanted replies) in
-    replayed_more (is_some old.answers) old.source mid.source new.source old.session mid.session new.session so_far.handled (with_answer next.0 d bytes)
-    so_far.replayed (answer_next (is_some old.answers) mid.source new.source mid.session new.session next.0 d bytes next.1 is)
+    so_far_more (is_some old.answers) known form old.source mid.source new.source old.session mid.session new.session at.handled (with_answer next.0 d bytes)
+    at.so_far (answer_next (is_some old.answers) known form mid.source new.source mid.session new.session next.0 d bytes next.1 is)
+
+-- the last frame was handled, and not answered
+but_last : {old mid : ReplaySeen} {known : Option Form} {form : Form} {n : ℕ} {o : Outcome} {d : Told} {r : Reply} (new : ReplaySeen) → (at : InReplay old mid known n o)
+    → (next : RespondsNext known form mid.source new.source mid.session new.session d r) → HandlesButLast old new at.handled (unanswered next.0 d)
+but_last {old} {mid} {known} {form} {n} {o} {d} {r} new at next =
+    let s = at.so_far in
+    let h = next.1 in
+    record {
+      form = form;
+      frames = s.frames;
+      directed = h.directed;
+      read = whole_so_far old.source new.source form (s.frames ++ h.directed ∷ []) (read_more old.source mid.source new.source known form s.frames h.directed s.read h.gave);
+      session = mid.session;
+      run = run_at (is_some old.answers) known form _ old.source mid.source new.source old.session mid.session s.frames at.handled s.read h.gave.part s.run;
+      step = h.step;
+      counted = h.gave.faults ∙ s.counted;
+    }
 
 -- after one more
-pub in_replay_more : {old mid new : ReplaySeen} {n : ℕ} {o : Outcome} {d : Told} {r : Reply} (o' : Outcome) → InReplay old mid n o
-    → RespondsNext mid.source new.source mid.session new.session d r → Sent mid.report new.report (lines_of (n + 1) d)
+pub in_replay_more : {old mid new : ReplaySeen} {known : Option Form} {form : Form} {n : ℕ} {o : Outcome} {d : Told} {r : Reply} (o' : Outcome) → InReplay old mid known n o
+    → RespondsNext known form mid.source new.source mid.session new.session d r → Sent mid.report new.report (lines_of (n + 1) d)
     → Replies new.session r mid.answers new.answers (Ok tt)
     → o'.refused ≡ (o.refused || is_refusal d) → o'.no_memory ≡ (o.no_memory || is_no_memory d) → o'.fault ≡ o.fault
-    → InReplay old new (n + 1) o'
-in_replay_more {old} {mid} {new} {n} {o} {d} {r} o' so_far next wrote (bytes, replies, went) refused no_memory no_fault =
+    → InReplay old new (Some form) (n + 1) o'
+in_replay_more {old} {mid} {new} {known} {form} {n} {o} {d} {r} o' so_far next wrote (bytes, replies, went) refused no_memory no_fault =
     let h : Handled = with_answer next.0 d bytes in
     let hs = so_far.handled in
     let lines : lines_from 1 (hs ++ h ∷ []) ≡ lines_from 1 hs ++ lines_of (n + 1) d = next_lines hs h n so_far.number_is in
     record {
       handled = hs ++ h ∷ [];
-      replayed = handled_more new bytes so_far next replies;
+      so_far = handled_more new bytes so_far next replies;
       number_is = omega (arith, so_far.number_is, length-append hs (h ∷ []));
-      room = omega (arith, so_far.room, next.1.gave.falls, length-frame next.1.body);
+      room = omega (arith, so_far.room, frame_falls next);
       sent = subst (Sent old.report new.report) (sym lines)
           (Sent-append old.report mid.report new.report (lines_from 1 hs) (lines_of (n + 1) d) so_far.sent wrote);
       answered = subst (λ t. IfWanted (λ a b. Sent a b t) old.answers new.answers) (sym (flat_one hs h))
@@ -265,16 +315,16 @@ in_replay_more {old} {mid} {new} {n} {o} {d} {r} o' so_far next wrote (bytes, re
     }
 
 -- the line of a frame did not go out whole
-pub cut_in_line : {old mid : ReplaySeen} {n : ℕ} {o : Outcome} {d : Told} {r : Reply} (new : ReplaySeen) → InReplay old mid n o
-    → RespondsNext mid.source new.source mid.session new.session d r → Broke mid.report new.report (lines_of (n + 1) d) → new.answers ≡ mid.answers
+pub cut_in_line : {old mid : ReplaySeen} {known : Option Form} {form : Form} {n : ℕ} {o : Outcome} {d : Told} {r : Reply} (new : ReplaySeen) → InReplay old mid known n o
+    → RespondsNext known form mid.source new.source mid.session new.session d r → Broke mid.report new.report (lines_of (n + 1) d) → new.answers ≡ mid.answers
     → IsCutReport old new
-cut_in_line {old} {mid} {n} {o} {d} {r} new so_far next wrote stays =
+cut_in_line {old} {mid} {known} {form} {n} {o} {d} {r} new so_far next wrote stays =
     let hs = so_far.handled in
     let line : lines_of (n + 1) d ≡ lines_of (length hs + 1) d = ap (λ k. lines_of (k + 1) d) so_far.number_is in
     let cut : IsCutInLine old new = record {
       before = hs;
       last = unanswered next.0 d;
-      handles = record { source = mid.source; session = mid.session; earlier = so_far.replayed; next = next.1 };
+      handles = but_last new so_far next;
       mid = mid.report;
       earlier = so_far.sent;
       broke = subst (Broke mid.report new.report) line wrote;
@@ -283,17 +333,17 @@ cut_in_line {old} {mid} {n} {o} {d} {r} new so_far next wrote stays =
     inl cut
 
 -- an answer did not go out whole
-pub cut_in_answer : {old mid : ReplaySeen} {n : ℕ} {o : Outcome} {d : Told} {r : Reply} (new : ReplaySeen) → InReplay old mid n o
-    → RespondsNext mid.source new.source mid.session new.session d r → Sent mid.report new.report (lines_of (n + 1) d)
+pub cut_in_answer : {old mid : ReplaySeen} {known : Option Form} {form : Form} {n : ℕ} {o : Outcome} {d : Told} {r : Reply} (new : ReplaySeen) → InReplay old mid known n o
+    → RespondsNext known form mid.source new.source mid.session new.session d r → Sent mid.report new.report (lines_of (n + 1) d)
     → Replies new.session r mid.answers new.answers (Err failed.Write) → IsCutReport old new
-cut_in_answer {old} {mid} {n} {o} {d} {r} new so_far next wrote (bytes, replies, broke) =
+cut_in_answer {old} {mid} {known} {form} {n} {o} {d} {r} new so_far next wrote (bytes, replies, broke) =
     let h : Handled = with_answer next.0 d bytes in
     let hs = so_far.handled in
     let lines : lines_from 1 (hs ++ h ∷ []) ≡ lines_from 1 hs ++ lines_of (n + 1) d = next_lines hs h n so_far.number_is in
     let cut : IsCutInAnswer old new = record {
       before = hs;
       last = h;
-      handles = handled_more new bytes so_far next replies;
+      handles = replayed_of (is_some old.answers) (Some form) old.source new.source old.session new.session (hs ++ h ∷ []) (handled_more new bytes so_far next replies);
       lines = subst (Sent old.report new.report) (sym lines)
           (Sent-append old.report mid.report new.report (lines_from 1 hs) (lines_of (n + 1) d) so_far.sent wrote);
       broke = broke_after old.answers mid.answers new.answers (answers_of hs) bytes so_far.answered broke;
@@ -325,11 +375,11 @@ in_end_at_once old new o source session refused no_memory = record {
 }
 
 -- the record has ended
-pub in_end_of_record : {old mid new : ReplaySeen} {n : ℕ} {o : Outcome} {e : Ending} → InReplay old mid n o → TellsEnding mid.source new.source e
+pub in_end_of_record : {old mid new : ReplaySeen} {known : Option Form} {n : ℕ} {o : Outcome} {e : Ending} → InReplay old mid known n o → TellsEnding known mid.source new.source e
     → new.session ≡ mid.session → InEnd old mid new e o
-in_end_of_record {old} {mid} {new} {n} {o} {e} so_far next stays = record {
+in_end_of_record {old} {mid} {new} {known} {n} {o} {e} so_far next stays = record {
   handled = so_far.handled;
-  ends = inl (replayed_ends (is_some old.answers) old.source mid.source new.source old.session mid.session new.session so_far.handled e so_far.replayed next stays);
+  ends = inl (replayed_ends (is_some old.answers) known old.source mid.source new.source old.session mid.session new.session so_far.handled e so_far.so_far next stays);
   sent = so_far.sent;
   answered = so_far.answered;
   refused_is = so_far.refused_is;
@@ -337,12 +387,12 @@ in_end_of_record {old} {mid} {new} {n} {o} {e} so_far next stays = record {
 }
 
 -- memory was refused for an answer, after its line
-pub in_end_unanswered : {old mid new : ReplaySeen} {n : ℕ} {o : Outcome} {d : Told} {r : Reply} (o' : Outcome) (after : ReplaySeen) → InReplay old mid n o
-    → RespondsNext mid.source new.source mid.session new.session d r → Sent mid.report after.report (lines_of (n + 1) d)
+pub in_end_unanswered : {old mid new : ReplaySeen} {known : Option Form} {form : Form} {n : ℕ} {o : Outcome} {d : Told} {r : Reply} (o' : Outcome) (after : ReplaySeen) → InReplay old mid known n o
+    → RespondsNext known form mid.source new.source mid.session new.session d r → Sent mid.report after.report (lines_of (n + 1) d)
     → Replies new.session r mid.answers after.answers (Err failed.NoMemory)
     → o'.refused ≡ (o.refused || is_refusal d) → o'.no_memory ≡ (o.no_memory || is_no_memory d)
     → InEnd old after new (ending.Fault fault.NoMemory) o'
-in_end_unanswered {old} {mid} {new} {n} {o} {d} {r} o' after so_far next wrote (stays, there, ask, is) refused no_memory =
+in_end_unanswered {old} {mid} {new} {known} {form} {n} {o} {d} {r} o' after so_far next wrote (stays, there, ask, is) refused no_memory =
     let h : Handled = unanswered next.0 d in
     let hs = so_far.handled in
     let lines : lines_from 1 (hs ++ h ∷ []) ≡ lines_from 1 hs ++ lines_of (n + 1) d = next_lines hs h n so_far.number_is in
@@ -351,7 +401,7 @@ in_end_unanswered {old} {mid} {new} {n} {o} {d} {r} o' after so_far next wrote (
       before = hs;
       last = h;
       all = refl;
-      handles = record { source = mid.source; session = mid.session; earlier = so_far.replayed; next = next.1 };
+      handles = but_last new so_far next;
       told_is = hashes_are_told next.0 d ask (sym next.2 ∙ is);
       wanted = sym wanted ∙ there;
       ending_is = refl;

@@ -11,6 +11,11 @@ use Rattle.benc.proofs.Out.{Sent-append}
 use Rattle.hashtree.specs.Tree.{block_count}
 use Rattle.hashtree.proofs.Heights.{height_least}
 use Rattle.metainfo.specs.Sound.{IsSound}
+use Rattle.std.specs.Borrow.{Bor}
+use Rattle.wire.specs.Records.{Directed}
+use Rattle.wire.specs.declared.direction.Direction.TheVariants.{In, Out}
+use Rattle.wire.specs.declared.form.Form.{Form}
+use Rattle.wire.specs.declared.form.Form.TheVariants.{One, Two}
 use Rattle.wire.specs.declared.frame.Frame.{Frame}
 use Rattle.wire.specs.declared.frame.Frame.TheVariants as frame
 use Rattle.wire.specs.declared.message.Ask.{Ask}
@@ -25,6 +30,7 @@ use Rattle.partial_tree.specs.declared.answer.Answer.TheVariants as answer
 use Rattle.session.specs.Answers.{IsAnswerTo}
 use Rattle.session.specs.Layouts.{SessionSeen, root_of_entry}
 use Rattle.session.specs.Session.{Step}
+use Rattle.session.specs.Noted.{StepIn}
 use Rattle.session.specs.declared.verdict.Verdict.{Verdict}
 use Rattle.session.specs.declared.verdict.Verdict.TheVariants as verdict
 use Rattle.session.proofs.Sessions.{mapped}
@@ -32,7 +38,7 @@ use Rattle.records.specs.declared.told.Told.{Told}
 use Rattle.records.specs.declared.told.Told.TheVariants as told
 use Rattle.records.specs.declared.reply.Reply.TheVariants as reply
 use Rattle.records.specs.Answering.{Answers, AnswersAsk, BrokeAfter, Flushed, FailedFlush, HasFewHashes, IfWanted, IsReply, IsWanted, Unflushed, reply_of, reply_to}
-use Rattle.records.specs.Replay.{Meets}
+use Rattle.records.specs.Replay.{Meets, StepsBy}
 
 -- ---- how many hashes an answer has
 
@@ -70,17 +76,31 @@ answers_of_step true S S' (message.Request ask) verdict.Rejected bytes step is =
 answers_of_step true S S' (message.Request ask) v bytes step is = absurd step
 answers_of_step true S S' m v bytes step is = is
 
-pub meets_more : (wanted : Bool) (S S' : SessionSeen) (f : Frame) (d : Told) (bytes : List ℕ) → Meets false S f d [] S' → IsReply wanted S' (reply_to f d) bytes → Meets wanted S f d bytes S'
-meets_more wanted S S' (frame.Message m) d bytes (v, safe, is, none) replies =
-    (v, safe, is, answers_of_step wanted S S' m v bytes safe.allowed (subst (λ x. IsReply wanted S' (reply_to (frame.Message m) x) bytes) is replies))
-meets_more wanted S S' (frame.BadSize id len) d bytes (is, none, stays) replies = (is, no_reply wanted S' bytes replies, stays)
+none_answered : (wanted : Bool) (S : SessionSeen) (ask : Ask) (hashes : Bor (List Hash)) (bytes : List ℕ) → bytes ≡ [] → Answers wanted S (message.Hashes ask hashes) bytes
+none_answered true S ask hashes bytes e = e
+none_answered false S ask hashes bytes e = e
+
+answers_of_in : (wanted : Bool) (S S' : SessionSeen) (m : Message) (v : Verdict) (bytes : List ℕ) → StepIn S m v S' → IsReply wanted S' (reply_of m v) bytes → Answers wanted S m bytes
+answers_of_in wanted S S' (message.Hashes ask hashes) v bytes step is = none_answered wanted S ask hashes bytes (no_reply wanted S' bytes is)
+answers_of_in wanted S S' m v bytes step is = answers_of_step wanted S S' m v bytes step is
+
+answers_by : (wanted : Bool) (form : Form) (S S' : SessionSeen) (m : Message) (v : Verdict) (bytes : List ℕ) → StepsBy form S (In, m) v S' → IsReply wanted S' (reply_of m v) bytes → Answers wanted S m bytes
+answers_by wanted One S S' m v bytes safe is = answers_of_step wanted S S' m v bytes safe.allowed is
+answers_by wanted Two S S' m v bytes safe is = answers_of_in wanted S S' m v bytes safe.allowed is
+
+pub meets_more : (wanted : Bool) (form : Form) (S S' : SessionSeen) (f : Directed Frame) (d : Told) (bytes : List ℕ) → Meets false form S f d [] S' → IsReply wanted S' (reply_to f d) bytes → Meets wanted form S f d bytes S'
+meets_more wanted form S S' (In, frame.Message m) d bytes (v, safe, is, none) replies =
+    (v, safe, is, answers_by wanted form S S' m v bytes safe (subst (λ x. IsReply wanted S' (reply_to (In, frame.Message m) x) bytes) is replies))
+meets_more wanted form S S' (Out, frame.Message m) d bytes (v, safe, is, none) replies = (v, safe, is, no_reply wanted S' bytes replies)
+meets_more wanted form S S' (In, frame.BadSize id len) d bytes (is, none, stays) replies = (is, no_reply wanted S' bytes replies, stays)
+meets_more wanted form S S' (Out, frame.BadSize id len) d bytes (is, none, stays) replies = (is, no_reply wanted S' bytes replies, stays)
 
 -- hashes answer only what is told as answered
-pub hashes_are_told : (f : Frame) (d : Told) (ask : Ask) → reply_to f d ≡ reply.Hashes ask → d ≡ told.Verdict verdict.Answered
-hashes_are_told (frame.Message (message.Request a)) (told.Verdict verdict.Answered) ask is = refl
-hashes_are_told (frame.Message (message.Request a)) (told.Verdict verdict.Rejected) ask is = let no : ⊥ = cc in absurd no
-hashes_are_told (frame.Message (message.Request a)) (told.Verdict v) ask is = let no : ⊥ = cc in absurd no
-hashes_are_told (frame.Message m) (told.Verdict v) ask is = let no : ⊥ = cc in absurd no
+pub hashes_are_told : (f : Directed Frame) (d : Told) (ask : Ask) → reply_to f d ≡ reply.Hashes ask → d ≡ told.Verdict verdict.Answered
+hashes_are_told (In, frame.Message (message.Request a)) (told.Verdict verdict.Answered) ask is = refl
+hashes_are_told (In, frame.Message (message.Request a)) (told.Verdict verdict.Rejected) ask is = let no : ⊥ = cc in absurd no
+hashes_are_told (In, frame.Message (message.Request a)) (told.Verdict v) ask is = let no : ⊥ = cc in absurd no
+hashes_are_told (In, frame.Message m) (told.Verdict v) ask is = let no : ⊥ = cc in absurd no
 hashes_are_told f d ask is = let no : ⊥ = cc in absurd no
 
 -- ---- the sink of the answers

@@ -5,6 +5,7 @@ use Rattle.std.specs.Prelude.{◌≡◌, ◌⊎◌, ℕ, ◌≤◌, List, [], le
 use Rattle.std.specs.Borrow.{Bor, MutBor}
 use Rattle.std.specs.Io.KnownBytes.{Appends, Keeps}
 use Rattle.benc.specs.Device.{SinkSeen, Sent, Broke, SentAndFlushed, BrokeOrUnflushed, one_more}
+use Rattle.wire.specs.declared.direction.Direction.TheVariants.{In}
 use Rattle.wire.specs.declared.frame.Frame.{Frame}
 use Rattle.wire.specs.declared.frame.Frame.TheVariants as frame
 use Rattle.wire.specs.declared.message.Ask.{Ask}
@@ -13,6 +14,7 @@ use Rattle.wire.specs.declared.message.Message.TheVariants as message
 use Rattle.wire.specs.Frames.{IsBody}
 use Rattle.wire.specs.Frames as stream
 use Rattle.wire.specs.Meaning.{MeansMessage}
+use Rattle.wire.specs.Records.{Directed}
 use Rattle.node_maps.specs.Digest.{Hash}
 use Rattle.partial_tree.specs.declared.answer.Answer.{Answer}
 use Rattle.partial_tree.specs.declared.answer.Answer.TheVariants as answer
@@ -63,9 +65,9 @@ reply_of (message.Request ask) verdict.Answered = reply.Hashes ask
 reply_of (message.Request ask) verdict.Rejected = reply.Reject ask
 reply_of m v = reply.Nothing
 
--- what is to be answered to a frame of which this is told
-abbrev pub reply_to : Frame → Told → Reply
-reply_to (frame.Message m) (told.Verdict v) = reply_of m v
+-- what is to be answered to a frame of which this is told; what went out is not answered
+abbrev pub reply_to : Directed Frame → Told → Reply
+reply_to (In, frame.Message m) (told.Verdict v) = reply_of m v
 reply_to f d = reply.Nothing
 
 -- the bytes of what is to be answered, if answers are wanted

@@ -7,13 +7,17 @@ use Rattle.benc.specs.Device.{SourceSeen, SinkSeen, Sent, Broke, SentAndFlushed,
 use Rattle.wire.specs.declared.fault.FrameFault.TheVariants as fault
 use Rattle.wire.specs.declared.frame.Frame.{Frame}
 use Rattle.wire.specs.declared.frame.Frame.TheVariants as frame
-use Rattle.wire.specs.Frames.{Frames, IsBody, IsPartial}
-use Rattle.wire.specs.Frames as stream
-use Rattle.wire.specs.Meaning.{Means}
+use Rattle.wire.specs.declared.direction.Direction.TheVariants.{In, Out}
+use Rattle.wire.specs.declared.form.Form.{Form}
+use Rattle.wire.specs.declared.form.Form.TheVariants.{One, Two}
+use Rattle.wire.specs.declared.message.Message.{Message}
 use Rattle.wire.specs.Reading.{Gave, CountsRead}
+use Rattle.wire.specs.RecordReading.{GaveFrame, GavePart, IsOtherStart, IsPart}
+use Rattle.wire.specs.Records.{Directed, IsCut, MeansDirected, RecordFrames}
 use Rattle.session.specs.declared.verdict.Verdict.{Verdict}
 use Rattle.session.specs.declared.verdict.Verdict.TheVariants as verdict
 use Rattle.session.specs.Chain.{Chain}
+use Rattle.session.specs.Noted.{IsSafeNotedStep}
 use Rattle.session.specs.SafeStep.{IsSafeStep}
 use Rattle.session.specs.Session.{SessionSeen}
 use Rattle.records.specs.declared.told.Told.{Told}
@@ -30,35 +34,52 @@ use Rattle.records.specs.ReplayLines.{lines_of, ending_line_of}
 
 -- what was made of one frame: what is told of it, in one line or more, and the bytes of its answer
 pub record Handled : Type 0 where
-  pub frame : Frame
+  pub frame : Directed Frame
   pub told : Told
   pub answer : List ℕ
 
 -- a frame of which this is told, and that is not answered
-abbrev pub unanswered : Frame → Told → Handled
+abbrev pub unanswered : Directed Frame → Told → Handled
 unanswered f d = record { frame = f; told = d; answer = [] }
 
+-- the session's step for a message of a record. In form 2 what we ask for is noted, and hashes are
+-- taken in answer to it alone
+abbrev pub StepsBy : Form → SessionSeen → Directed Message → Verdict → SessionSeen → Type 0
+StepsBy One S x v S' = IsSafeStep S x.1 v S'
+StepsBy Two S x v S' = IsSafeNotedStep S x v S'
+
+-- the bytes of the answer to what came in, if answers are wanted; what went out is not answered
+abbrev pub AnswersDirected : Bool → SessionSeen → Directed Message → List ℕ → Type 0
+AnswersDirected wanted S (In, m) bytes = Answers wanted S m bytes
+AnswersDirected wanted S (Out, m) bytes = bytes ≡ []
+
 -- what is told of a frame and answered to it, and the session's step for it
-abbrev pub Meets : Bool → SessionSeen → Frame → Told → List ℕ → SessionSeen → Type 0
-Meets wanted S (frame.Message m) d answer S' =
-    (v : Verdict) × IsSafeStep S m v S' × (d ≡ told.Verdict v) × Answers wanted S m answer
-Meets wanted S (frame.BadSize id len) d answer S' =
+abbrev pub Meets : Bool → Form → SessionSeen → Directed Frame → Told → List ℕ → SessionSeen
+    → Type 0
+Meets wanted form S (i, frame.Message m) d answer S' =
+    (v : Verdict) × StepsBy form S (i, m) v S' × (d ≡ told.Verdict v)
+    × AnswersDirected wanted S (i, m) answer
+Meets wanted form S (i, frame.BadSize id len) d answer S' =
     (d ≡ told.BadFrame id len) × (answer ≡ []) × (S' ≡ S)
 
 -- a body was handled as the frame that it means, in the session's state at that step
-abbrev pub Handles : Bool → SessionSeen → List ℕ → Handled → SessionSeen → Type 0
-Handles wanted S body h S' = Means body h.frame × Meets wanted S h.frame h.told h.answer S'
+abbrev pub Handles : Bool → Form → SessionSeen → Directed (List ℕ) → Handled → SessionSeen
+    → Type 0
+Handles wanted form S d h S' =
+    MeansDirected d h.frame × Meets wanted form S h.frame h.told h.answer S'
 
 -- ---- the record
 
 -- how the record ended, by what follows the last whole frame and by what the source has left
-abbrev pub IsEnding : Option (List ℕ) → List ℕ → Option Ending → Type 0
-IsEnding left rest None = rest ≡ []
-IsEnding left rest (Some ending.End) = (rest ≡ []) × IsAtEnd left
-IsEnding left rest (Some (ending.Fault fault.Truncated)) = (rest ≢ []) × IsAtEnd left
-IsEnding left rest (Some (ending.Fault fault.Read)) = Unit {0}
-IsEnding left rest (Some (ending.Fault fault.NoMemory)) = rest ≡ []
-IsEnding left rest (Some (ending.Fault fault.BadDirection)) = ⊥
+abbrev pub IsEnding : Form → Option (List ℕ) → List ℕ → Option Ending → Type 0
+IsEnding form left rest None = rest ≡ []
+IsEnding form left rest (Some ending.End) = (rest ≡ []) × IsAtEnd left
+IsEnding form left rest (Some (ending.Fault fault.Truncated)) =
+    IsPart form rest × (rest ≢ []) × IsAtEnd left
+IsEnding form left rest (Some (ending.Fault fault.Read)) = IsPart form rest
+IsEnding form left rest (Some (ending.Fault fault.NoMemory)) = rest ≡ []
+IsEnding form left rest (Some (ending.Fault fault.BadDirection)) =
+    (form ≡ Two) × IsOtherStart rest
 
 -- the count of the source's faults grows by one at `fault Read`, and else stays
 abbrev pub CountsEnding : ℕ → ℕ → Option Ending → Type 0
@@ -66,42 +87,47 @@ CountsEnding old new (Some (ending.Fault why)) = CountsRead old new why
 CountsEnding old new e = new ≡ old
 
 -- the source gave one more frame, and this was made of it
-pub record HandlesNext (wanted : Bool) (old new : SourceSeen) (S S' : SessionSeen) (h : Handled)
-    : Type 0 where
-  pub body : List ℕ
-  pub fits : IsBody body
-  pub gave : Gave old new (stream.frame body)
-  pub counted : new.faults ≡ old.faults
-  pub step : Handles wanted S body h S'
+pub record HandlesNext (wanted : Bool) (known : Option Form) (form : Form) (old new : SourceSeen)
+    (S S' : SessionSeen) (h : Handled) : Type 0 where
+  pub directed : Directed (List ℕ)
+  pub gave : GaveFrame known form directed old new
+  pub step : Handles wanted form S directed h S'
 
 -- the source gave one more frame, of which this is told, and to which that is to be answered
-abbrev pub RespondsNext : SourceSeen → SourceSeen → SessionSeen → SessionSeen → Told → Reply
-    → Type 0
-RespondsNext old new S S' d r = (f : Frame) × HandlesNext false old new S S' (unanswered f d)
-    × (r ≡ reply_to f d)
+abbrev pub RespondsNext : Option Form → Form → SourceSeen → SourceSeen → SessionSeen → SessionSeen
+    → Told → Reply → Type 0
+RespondsNext known form old new S S' d r = (f : Directed Frame)
+    × HandlesNext false known form old new S S' (unanswered f d) × (r ≡ reply_to f d)
 
 -- the source gave less than a frame, and the record ended so
-pub record TellsEnding (old new : SourceSeen) (e : Ending) : Type 0 where
+pub record TellsEnding (known : Option Form) (old new : SourceSeen) (e : Ending) : Type 0 where
+  pub form : Form
   pub part : List ℕ
-  pub gave : Gave old new part
-  pub partial : IsPartial part
-  pub ended : IsEnding new.left part (Some e)
+  pub gave : GavePart known form part old new
+  pub cut : IsCut form part
+  pub ended : IsEnding form new.left part (Some e)
   pub had_room : e ≢ ending.Fault fault.NoMemory
   pub counted : CountsEnding old.faults new.faults (Some e)
+
+-- from old to new the source gave a record of these frames, and then this rest
+pub record GaveRecord (old new : SourceSeen) (form : Form) (frames : List (Directed (List ℕ)))
+    (rest : List ℕ) : Type 0 where
+  pub bytes : List ℕ
+  pub gave : Gave old new bytes
+  pub whole : RecordFrames bytes form frames rest
 
 -- From old to new the source gave the whole frames of which this was made, and then less than a
 -- frame; their messages took the session from S to S'; and the record has ended so, if it has
 -- ended. Out of memory comes before anything is read.
 pub record Replayed (wanted : Bool) (old new : SourceSeen) (S S' : SessionSeen)
     (handled : List Handled) (e : Option Ending) : Type 0 where
-  pub bytes : List ℕ
-  pub gave : Gave old new bytes
-  pub bodies : List (List ℕ)
+  pub form : Form
+  pub frames : List (Directed (List ℕ))
   pub rest : List ℕ
-  pub whole : Frames bytes bodies rest
-  pub run : Chain (Handles wanted) S bodies handled S'
-  pub ended : IsEnding new.left rest e
-  pub unread : e ≡ Some (ending.Fault fault.NoMemory) → bytes ≡ []
+  pub read : GaveRecord old new form frames rest
+  pub run : Chain (Handles wanted form) S frames handled S'
+  pub ended : IsEnding form new.left rest e
+  pub unread : e ≡ Some (ending.Fault fault.NoMemory) → read.bytes ≡ []
   pub counted : CountsEnding old.faults new.faults e
 
 -- ---- the outputs
@@ -139,11 +165,14 @@ HandlesAll old new handled e = Replayed (is_some old.answers)
 -- the same of the frames before the last; the last was handled, and nothing was answered to it
 pub record HandlesButLast (old new : ReplaySeen) (before : List Handled) (last : Handled) : Type 0
   where
-    pub source : SourceSeen
+    pub form : Form
+    pub frames : List (Directed (List ℕ))
+    pub directed : Directed (List ℕ)
+    pub read : GaveRecord old.source new.source form (frames ++ directed ∷ []) []
     pub session : SessionSeen
-    pub earlier : Replayed (is_some old.answers)
-        old.source source old.session session before None
-    pub next : HandlesNext false source new.source session new.session last
+    pub run : Chain (Handles (is_some old.answers) form) old.session frames before session
+    pub step : Handles false form session directed last new.session
+    pub counted : new.source.faults ≡ old.source.faults
 
 -- memory was refused for the answer to the last frame, a request for hashes that are known: nothing
 -- of it went out, and that ends the report

@@ -1,11 +1,14 @@
 //! The replay of a record: its frames go to a session, and a line tells of each.
-ghost use Rattle.std.specs.Prelude.{◌≡◌, [], ◌∷◌, false, option_map, IfOk, IfErr, OnOk, OnErr};
+ghost use Rattle.std.specs.Prelude.{◌≡◌, [], ◌∷◌, false, None, Some, option_map, IfOk, IfErr, OnOk, OnErr};
 ghost use Rattle.benc.specs.Device.{Wrote, WroteAndFlushed};
 ghost use Rattle.records.specs.Answering.{Finishes, reply_to, sink_after, sink_before};
 ghost use Rattle.records.specs.Outcome.{is_fault};
 ghost use Rattle.records.specs.ReplayLines.{lines_of, ending_line_of};
-ghost use Rattle.records.specs.Replay.{IsCutReport, IsReport, Meets, RespondsNext, TellsEnding, replay_seen};
+ghost use Rattle.records.specs.Replay.{IsCutReport, IsReport, Meets, RespondsNext, StepsBy, TellsEnding, replay_seen};
 ghost use Rattle.wire.specs.Reader.{HasRoom, IsOpen};
+ghost use Rattle.wire.specs.RecordReader.{frames};
+ghost use Rattle.wire.specs.Records.{form_number};
+ghost use Rattle.wire.specs.declared.form.Form.{Form as FormOf};
 
 #[cfg(test)]
 mod tests;
@@ -22,15 +25,16 @@ use benc::{DeviceFault, Sink, Source, WriteFault, write_all};
 use lines::write_line;
 use session::{NodeMap, Session, Verdict};
 use std::alloc::Global;
-use wire::{Frame, FrameFault, FrameReader};
+use wire::{Direction, Frame, FrameFault, Message, RecordReader};
 
 const OUT_OF_MEMORY: Ending = Ending::Fault(FrameFault::NoMemory);
 
-/// Reads frames from the source to its end or to a fault, and gives each message to the session.
-/// Writes one line for each frame as it comes, and at last how the record ended. If there is a sink
-/// for answers, the frame that answers a hash request goes there, after its line: the hashes that
-/// are asked for, if they are known, and else a reject. At last the report is flushed, and then the
-/// answers.
+/// Reads the frames of a record of either form to its end or to a fault, and gives each message to
+/// the session. In form 1 each came in. In form 2 a request that went out is noted, and hashes that
+/// came in are taken only in answer to it. Writes one line for each frame as it comes, and at last
+/// how the record ended. If there is a sink for answers, the frame that answers a hash request that
+/// came in goes there, after its line: the hashes that are asked for, if they are known, and else a
+/// reject. At last the report is flushed, and then the answers.
 ///
 /// All memory but that of answers is taken before the first frame is read. If it is refused, the
 /// report is the line `fault NoMemory`, and nothing is read. If memory is refused for an answer,
@@ -55,7 +59,7 @@ pub fn replay<N: NodeMap, R: Source, W: Sink, A: Sink>(
         (replay_seen (R.seen source.new) session.new (W.seen report.new)
         (sink_after A.seen answers.exit))) }
 {
-    let mut reader = FrameReader::new(alloc, source);
+    let mut reader = RecordReader::new(alloc, source);
     match answers {
         Some(out) => replay_reader(session, &mut reader, report, out),
         None => replay_reader(session, &mut reader, report, &mut Unwanted),
@@ -65,11 +69,12 @@ pub fn replay<N: NodeMap, R: Source, W: Sink, A: Sink>(
 // Takes the memory, and reads frames to the end or to a fault.
 fn replay_reader<N: NodeMap, R: Source, W: Sink, B: Answering>(
     session: &mut Session<'_, N>,
-    reader: &mut FrameReader<'_, R>,
+    reader: &mut RecordReader<'_, R>,
     report: &mut W,
     answers: &mut B,
 ) -> Result<Outcome, WriteFault>
-    requires { IsOpen reader.old }
+    requires open { IsOpen (frames reader.old) }
+    requires fresh { reader.old.form ≡ None }
     ensures same_reference { reader.new.source.ghost_name ≡ reader.old.source.ghost_name }
     ensures ok { IfOk result (IsReport
         (replay_seen (R.seen reader.old.source.now) session.old (W.seen report.old)
@@ -91,12 +96,13 @@ fn replay_reader<N: NodeMap, R: Source, W: Sink, B: Answering>(
 // Reads frames to the end or to a fault.
 fn replay_frames<N: NodeMap, R: Source, W: Sink, B: Answering>(
     session: &mut Session<'_, N>,
-    reader: &mut FrameReader<'_, R>,
+    reader: &mut RecordReader<'_, R>,
     report: &mut W,
     answers: &mut B,
 ) -> Result<Outcome, WriteFault>
-    requires open { IsOpen reader.old }
-    requires room { HasRoom reader.old }
+    requires open { IsOpen (frames reader.old) }
+    requires fresh { reader.old.form ≡ None }
+    requires room { HasRoom (frames reader.old) }
     ensures same_reference { reader.new.source.ghost_name ≡ reader.old.source.ghost_name }
     ensures ok { IfOk result (IsReport
         (replay_seen (R.seen reader.old.source.now) session.old (W.seen report.old)
@@ -132,44 +138,68 @@ fn replay_frames<N: NodeMap, R: Source, W: Sink, B: Answering>(
 // What is made of the next frame, or how the record ended if there is none.
 fn next_response<N: NodeMap, R: Source>(
     session: &mut Session<'_, N>,
-    reader: &mut FrameReader<'_, R>,
+    reader: &mut RecordReader<'_, R>,
 ) -> Result<Response, Ending>
-    requires open { IsOpen reader.old }
-    requires room { HasRoom reader.old }
+    requires open { IsOpen (frames reader.old) }
+    requires room { HasRoom (frames reader.old) }
     ensures same_reference { reader.new.source.ghost_name ≡ reader.old.source.ghost_name }
-    ensures frame { IfOk result (λ r. RespondsNext
+    ensures frame { IfOk result (λ r. (form : FormOf) × (reader.new.form ≡ Some form)
+        × RespondsNext reader.old.form form
         (R.seen reader.old.source.now) (R.seen reader.new.source.now)
         session.old session.new r.told r.reply) }
-    ensures open { OnOk result (IsOpen reader.new) }
-    ensures room { HasRoom reader.new }
-    ensures ending { IfErr result (TellsEnding (R.seen reader.old.source.now)
+    ensures open { OnOk result (IsOpen (frames reader.new)) }
+    ensures room { HasRoom (frames reader.new) }
+    ensures ending { IfErr result (TellsEnding reader.old.form (R.seen reader.old.source.now)
         (R.seen reader.new.source.now)) }
     ensures stays { OnErr result (session.new ≡ session.old) }
 {
     match reader.advance() {
-        Ok(true) => Ok(take_frame(session, reader.frame())),
+        Ok(true) => Ok(take_frame(session, reader.form(), reader.frame())),
         Ok(false) => Err(Ending::End),
         Err(fault) => Err(Ending::Fault(fault)),
     }
 }
 
 // Gives the frame's message to the session, and tells what is made of the frame.
-fn take_frame<N: NodeMap>(session: &mut Session<'_, N>, frame: Frame<'_>) -> Response
-    ensures told { Meets false session.old frame.entry result.told [] session.new }
+fn take_frame<N: NodeMap>(
+    session: &mut Session<'_, N>,
+    form: Option<u8>,
+    frame: (Direction, Frame<'_>),
+) -> Response
+    ensures told { (known : FormOf) → form ≡ Some (form_number known)
+        → Meets false known session.old frame.entry result.told [] session.new }
     ensures reply { result.reply ≡ reply_to frame.entry result.told }
 {
+    let (direction, frame) = frame;
     match frame {
         Frame::Message(message) => {
-            let verdict = session.step(&message);
+            let verdict = take_message(session, form, direction, &message);
             Response {
                 told: Told::Verdict(verdict),
-                reply: Reply::of(&message, &verdict),
+                reply: Reply::of(direction, &message, &verdict),
             }
         }
         Frame::BadSize { id, len } => Response {
             told: Told::BadFrame { id, len },
             reply: Reply::Nothing,
         },
+    }
+}
+
+// The session's verdict on a message: in form 2 what we ask for is noted.
+fn take_message<N: NodeMap>(
+    session: &mut Session<'_, N>,
+    form: Option<u8>,
+    direction: Direction,
+    message: &Message<'_>,
+) -> Verdict
+    ensures { (known : FormOf) → form ≡ Some (form_number known)
+        → StepsBy known session.old (direction, message.now) result session.new }
+{
+    if form == Some(2) {
+        session.step_noted(direction, message)
+    } else {
+        session.step(message)
     }
 }
 

@@ -1,9 +1,11 @@
 //! What is to be answered to a frame.
 ghost use Rattle.std.specs.Prelude.{◌≡◌};
-ghost use Rattle.records.specs.Answering.{reply_of};
+ghost use Rattle.records.specs.Answering.{reply_of, reply_to};
+ghost use Rattle.wire.specs.declared.frame.Frame.TheVariants as Frame;
+ghost use Rattle.records.specs.declared.told.Told.TheVariants as Told;
 
 use session::Verdict;
-use wire::{Ask, Message};
+use wire::{Ask, Direction, Message};
 
 /// What is to be answered to a frame, if answers are wanted.
 #[derive(Clone, Copy)]
@@ -17,8 +19,18 @@ pub(crate) enum Reply {
 }
 
 impl Reply {
-    /// What is to be answered to a message with this verdict.
-    pub(crate) fn of(message: &Message<'_>, verdict: &Verdict) -> Reply
+    /// What is to be answered to a message with this verdict: nothing, if it went out.
+    pub(crate) fn of(direction: Direction, message: &Message<'_>, verdict: &Verdict) -> Reply
+        ensures { result ≡ reply_to (direction, Frame.Message message.now)
+            (Told.Verdict verdict.now) }
+    {
+        match direction {
+            Direction::In => Reply::to_incoming(message, verdict),
+            Direction::Out => Reply::Nothing,
+        }
+    }
+
+    fn to_incoming(message: &Message<'_>, verdict: &Verdict) -> Reply
         ensures { result ≡ reply_of message.now verdict.now }
     {
         match (message, verdict) {

@@ -8,7 +8,7 @@ use Rattle.drafts.specs.Outline.{IsOutline, Outline, OutlineFile, listed_file}
 use Rattle.drafts.specs.Written.{digests_of, drafted_tree, stream_of, torrent_of}
 use Rattle.filetree.proofs.Bytes.{true_or_false}
 use Rattle.filetree.specs.declared.files.ListedFile.{ListedFile}
-use Rattle.folders.specs.Folder.{Contents, Covers, GoodFolder, IsGood, IsStream, V1Good}
+use Rattle.folders.specs.Folder.{Contents, Covers, GoodFolder, IsGoodFile, IsStream, V1Good}
 use Rattle.folders.specs.Verdicts.{AgreeWith}
 use Rattle.opening.proofs.Rooting.{place_at}
 use Rattle.opening.specs.Description.{FileEntry, TreeEntry, Version1}
@@ -69,7 +69,7 @@ module _ (d : Outline) (cs : List (List ℕ)) (under : List (List ℕ) → Optio
       let x = is_of n e at in
       sym (agree n e at (Some x.content) (ap under x.path ∙ x.made.told))
 
-  good_file : (n : ℕ) (e : FileEntry) (at : slice_get (torrent_of d).files n ≡ Some e) → IsGood (torrent_of d) e (is_of n e at).content
+  good_file : (n : ℕ) (e : FileEntry) (at : slice_get (torrent_of d).files n ≡ Some e) → IsGoodFile (torrent_of d) e (is_of n e at).content
   good_file n e at =
       let x = is_of n e at in
       let size : e.length ≡ length x.content = x.length_is ∙ x.made.length_is in

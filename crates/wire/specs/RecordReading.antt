@@ -65,8 +65,8 @@ pub record IsOtherStart (part : List ℕ) : Type 0 where
   pub not_in : byte ≢ 0
   pub not_out : byte ≢ 1
 
--- what was read when this fault came. A byte that is no direction is told before a body is read; out
--- of memory comes behind the id of a frame whose body is to be kept
+-- what was read when this fault came. A byte that is no direction is told before a body is read;
+-- out of memory comes behind the id of a frame whose body is to be kept
 abbrev pub StopsAt : Form → List ℕ → FrameFault → Type 0
 StopsAt form part fault.Truncated = IsPart form part × (part ≢ [])
 StopsAt form part fault.Read = IsPart form part
