@@ -96,7 +96,7 @@ def test_real_folders():
         content, out = make_folder(f"{place}/content", FILES), f"{place}/out"
         os.makedirs(f"{content}/empty/folders/below")
         os.symlink("content", f"{place}/link")
-        for piece_length in (16384, 32768, 65536, 1 << 30):
+        for piece_length in (16384, 32768, 65536, 262144):
             for hybrid in (False, True):
                 for at in (content, f"{place}/link", f"{content}/", f"{content}/a/.."):
                     expect_created(at, out, FILES, "the name", piece_length, hybrid)
