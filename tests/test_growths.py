@@ -222,7 +222,9 @@ def test_create():
                 if called == "ample":
                     assert outcome(done) == (0, b"", b"") and made == whole, (called, outcome(done))
                 assert outcome(done) in {(0, b"", b""), NO_MEMORY} | cannot, (called, outcome(done))
-                assert made in ({whole} if done.returncode == 0 else {b"", b"before"}), (called, made)
+                # before the first of the runs in which all fails, another one wrote the torrent
+                left = whole if called.endswith("growths from 1") else b"before"
+                assert made in ({whole} if done.returncode == 0 else {b"", left}), (called, made)
                 write(out, b"before")
 
 
