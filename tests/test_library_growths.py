@@ -5,6 +5,7 @@ import os
 import re
 
 import messages
+from record_model import FORM_2
 from shim import shimmed
 from support import TOP, write
 from torrents import ABC, file, hybrid, info, layer, torrent, torrent_of
@@ -88,3 +89,26 @@ def test_fill():
         for map_name in ("flat", "paged"):
             counts = calls_refused(shim, f"fill over {map_name}", path, record, map_name, "fill")
             assert counts["fill"] > 0, counts
+
+
+def test_noted_messages():
+    tree, other = Tree.of(FIVE), Tree.of(TWO)
+    asked = (tree.root, 0, 0, 4, 2)
+    answer = b"\0" + messages.hashes(*asked, given=tree.hashes(0, 0, 4, 1))
+    record = FORM_2 + b"".join([b"\1" + messages.request(*asked), b"\1" + messages.request(*asked),
+                                b"\1" + messages.request(other.root, 0, 0, 2, 0), answer, answer])
+    with shimmed() as (place, shim):
+        path = write(f"{place}/torrent", torrent_of([("a", TWO), ("five", FIVE)], 32768))
+        for map_name in ("flat", "paged"):
+            counts = calls_refused(shim, f"noted messages over {map_name}", path, write(f"{place}/record", record), map_name, "noted")
+            assert counts["note"] > 0 and counts["take_answer"] > 0, counts
+
+
+def test_folders_and_drafts():
+    with shimmed() as (place, shim):
+        path = write(f"{place}/torrent", torrent_of([("five", FIVE)], 32768))
+        content = write(f"{place}/content", FIVE)
+        for call, told in [("draft", {"new", "add"}), ("gather", {"gather"}), ("check", {"check"}), ("seed", {"new", "seed"})]:
+            for map_name in ("flat", "paged") if call == "seed" else ("paged",):
+                counts = calls_refused(shim, f"{call} over {map_name}" if call == "seed" else call, path, content, map_name, call)
+                assert all(counts[of] > 0 for of in told), (call, counts)

@@ -5,6 +5,7 @@ ghost use Rattle.wire.specs.Reading.{GaveFaultless};
 ghost use Rattle.wire.specs.Records.{HasForm, header};
 ghost use Rattle.wire.specs.declared.form.Form.TheVariants as FormOf;
 ghost use Rattle.wire.specs.RecordLaws.{ConversionIsRecord, ConversionMeans};
+ghost use Rattle.session.specs.NotedLaws.{ConversionReplaysAsFormOne, ConversionTellsTheSame};
 ghost use Rattle.conversions.specs.Converting.{Converts, Stops};
 ghost use Rattle.conversions.specs.Steps.{BreaksOff, EndsAt, EndsForm1, FailsInFront, Flushed, Reached, TellsForm, Waits};
 
@@ -13,6 +14,7 @@ use crate::gathering::{Gathered, ROOM, send};
 use crate::head::LONGEST_HEAD;
 use crate::parts::convert_part;
 use benc::{DeviceFault, Sink, Source, WriteFault, write_all};
+use session::laws::conversion_replays_as_form_1;
 
 /// What a record of form 2 begins with.
 const HEADER: [u8; 8] = *b"\xff\xff\xff\xffBTH2";
@@ -37,7 +39,13 @@ pub fn convert<R: Source, W: Sink>(source: &mut R, out: &mut W) -> Result<(), Co
     // requests before the hashes messages.
     ensures record_of { ConversionIsRecord }
     ensures means { ConversionMeans }
+
+    // Its replay gives what came in the verdicts of form 1, unless memory is refused for a request,
+    // and with memory for all the same last trees and marks.
+    ensures replays { ConversionReplaysAsFormOne }
+    ensures tells { ConversionTellsTheSame }
 {
+    conversion_replays_as_form_1();
     convert_record(source, out)
 }
 

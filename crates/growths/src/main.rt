@@ -5,26 +5,36 @@
 #![tactic(auto)]
 
 mod again;
+mod drafting;
 mod messages;
+mod shelving;
 mod state;
 
 use again::{decode_again, open_again};
+use drafting::draft_again;
 use messages::{Call, take_messages};
 use metainfo::Torrent;
 use node_maps::{Flat, Paged};
+use shelving::{check_again, gather_again, seed_again};
 use std::{env, fs, io};
 
-// Takes the record's messages by this call, over the map of known nodes that is asked for.
-fn take_over(
+// Makes the call over the map of known nodes that is asked for. To a call on folders the record is
+// the content of a file.
+fn call_over(
     rt: &HostRuntime,
     torrent: &Torrent<'_>,
     record: &[u8],
     map: &str,
-    call: Call,
+    call: &str,
 ) -> io::Result<()> {
-    match map {
-        "flat" => take_messages::<Flat>(rt, torrent, record, call),
-        _ => take_messages::<Paged>(rt, torrent, record, call),
+    match (call, map) {
+        ("draft", _) => draft_again(rt),
+        ("gather", _) => gather_again(rt, record),
+        ("check", _) => check_again(rt, torrent, record),
+        ("seed", "flat") => seed_again::<Flat>(rt, torrent, record),
+        ("seed", _) => seed_again::<Paged>(rt, torrent, record),
+        (_, "flat") => take_messages::<Flat>(rt, torrent, record, Call::of(call)),
+        _ => take_messages::<Paged>(rt, torrent, record, Call::of(call)),
     }
 }
 
@@ -36,19 +46,13 @@ fn main(rt: HostRuntime) -> io::Result<()> {
         words.next(),
         words.next(),
     ) else {
-        return eprintln!(rt; "usage: growths TORRENT RECORD flat|paged step|run|fill");
+        return eprintln!(rt; "usage: growths TORRENT RECORD flat|paged CALL");
     };
     let bytes = fs::read(&rt, torrent.as_str())?;
     let record = fs::read(&rt, record.as_str())?;
     decode_again(&rt, &bytes)?;
     match open_again(&rt, &bytes)? {
-        Ok(torrent) => take_over(
-            &rt,
-            &torrent,
-            &record,
-            map.as_str(),
-            Call::of(call.as_str()),
-        ),
+        Ok(torrent) => call_over(&rt, &torrent, &record, map.as_str(), call.as_str()),
         Err(refusal) => println!(rt; "refused {}", refusal.number()),
     }
 }

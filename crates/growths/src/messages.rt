@@ -6,7 +6,7 @@ use benc::memory::MemSource;
 use metainfo::Torrent;
 use session::{Answer, HashRefusal, NoMemory, NodeMap, Session, Verdict};
 use std::io;
-use wire::{Ask, Frame, Hash, Message, RecordReader};
+use wire::{Ask, Direction, Frame, Hash, Message, RecordReader};
 
 /// The call that takes a message.
 #[derive(Clone, Copy, Debug, PartialEq, Eq)]
@@ -17,6 +17,8 @@ pub(crate) enum Call {
     Run,
     /// `fill` of a layer of the first tree, if the message holds hashes.
     Fill,
+    /// `step_noted`, in the direction that the record gives.
+    Noted,
 }
 
 impl Call {
@@ -25,6 +27,7 @@ impl Call {
         match name {
             "run" => Call::Run,
             "fill" => Call::Fill,
+            "noted" => Call::Noted,
             _ => Call::Step,
         }
     }
@@ -61,7 +64,7 @@ fn take_frames<N: NodeMap, R: Source>(
     reserve_again(rt, reader)?;
     for _ in 0..u64::MAX {
         match reader.advance() {
-            Ok(true) => take_frame(rt, session, reader.frame().1, call)?,
+            Ok(true) => take_frame(rt, session, reader.frame(), call)?,
             Ok(false) => break,
             Err(fault) => return println!(rt; "{fault}"),
         }
@@ -80,7 +83,7 @@ fn reserve_again<R: Source>(rt: &HostRuntime, reader: &mut RecordReader<'_, R>) 
 fn take_frame<N: NodeMap>(
     rt: &HostRuntime,
     session: &mut Session<'_, N>,
-    frame: Frame<'_>,
+    (direction, frame): (Direction, Frame<'_>),
     call: Call,
 ) -> io::Result<()> {
     if let Frame::Message(message) = frame {
@@ -88,6 +91,7 @@ fn take_frame<N: NodeMap>(
             Call::Step => step_again(rt, session, &message)?,
             Call::Run => run_again(rt, session, message)?,
             Call::Fill => fill_again(rt, session, &message)?,
+            Call::Noted => note_again(rt, session, direction, &message)?,
         }
     }
     println!(rt; "{:?}", State::of(session))
@@ -109,6 +113,26 @@ fn step_again<N: NodeMap>(
         Message::Request(ask) => answer_again(rt, session, ask),
         _ => Ok(()),
     }
+}
+
+// A request that went out is noted, and hashes that came in are taken if they were asked for.
+fn note_again<N: NodeMap>(
+    rt: &HostRuntime,
+    session: &mut Session<'_, N>,
+    direction: Direction,
+    message: &Message<'_>,
+) -> io::Result<()> {
+    let before = State::of(session);
+    let mut verdict = session.step_noted(direction, message);
+    if verdict == Verdict::HashRefused(HashRefusal::NoMemory) {
+        let call = match direction {
+            Direction::In => "take_answer",
+            Direction::Out => "note",
+        };
+        compare(rt, call, before, session)?;
+        verdict = session.step_noted(direction, message);
+    }
+    println!(rt; "{verdict:?}")
 }
 
 fn answer_again<N: NodeMap>(
