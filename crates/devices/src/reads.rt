@@ -19,12 +19,7 @@ enum Call {
     Convert,
 }
 
-const CALLS: [Call; 4] = [
-    Call::RootLine,
-    Call::NextFrame,
-    Call::Replay,
-    Call::Convert,
-];
+const CALLS: [Call; 4] = [Call::RootLine, Call::NextFrame, Call::Replay, Call::Convert];
 
 // What came of a call over a source that was to fail.
 #[derive(Drop)]

@@ -64,7 +64,13 @@ fn try_file(rt: &HostRuntime, world: &World<'_, '_>, call: Call) -> io::Result<(
         let mut shelf = MemShelf::new(rt.alloc(), &files).at_most(4096);
         let lost = make(rt, world, call, &mut shelf)?;
         judge(rt, name(call), "a file", at, lost == shelf.failures())?;
-        judge(rt, name(call), "a file", at, shelf.openings() == 2 || stops(call))?;
+        judge(
+            rt,
+            name(call),
+            "a file",
+            at,
+            shelf.openings() == 2 || stops(call),
+        )?;
         if lost == 0 {
             return count(rt, name(call), "a file", at);
         }
