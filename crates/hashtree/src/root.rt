@@ -79,8 +79,9 @@ impl RootBuilder {
         (length, root)
     }
 
-    /// As `finish`; also the last node of `layer` that covers a block, if the tree has that layer.
-    pub(crate) fn finish_layer(self, layer: u32) -> (u64, Hash, Option<Hash>)
+    /// As [`RootBuilder::finish`]; also the last node of `layer` that covers a block, if the tree has
+    /// that layer. [`RootBuilder::take_part`] told those before it.
+    pub fn finish_layer(self, layer: u32) -> (u64, Hash, Option<Hash>)
         requires { 0 < byte_count self }
         ensures length { result.0 ≡ byte_count self }
         ensures tree { EndsWith self result.0 result.1 }
@@ -100,9 +101,11 @@ impl RootBuilder {
         (length, root, node)
     }
 
-    /// Takes the first of these bytes, at most as many as the last block still takes. Returns how
-    /// many, and the node of `layer` that the blocks before them complete, if they do.
-    pub(crate) fn take_part(&mut self, bytes: &[u8], layer: u32) -> (usize, Option<Hash>)
+    /// Takes the first of these bytes, at most as many as the last block still takes, for a caller
+    /// that keeps the nodes of a layer itself. Returns how many, and the node of `layer` that the
+    /// blocks before them complete, if they do. There must be a byte, and [`RootBuilder::len`] and
+    /// the number of bytes must be at most 2^46 together.
+    pub fn take_part(&mut self, bytes: &[u8], layer: u32) -> (usize, Option<Hash>)
         requires some { 0 < length bytes.now }
         requires room { byte_count self.old + length bytes.now ≤ 2 ^ 46 }
         ensures some { 0 < result.0 }

@@ -24,3 +24,6 @@ pub mod Messages
 pub mod Counting
 pub mod Layers
 pub mod Keeping
+pub mod AddedRows
+pub mod GrownLeaves
+pub mod Adopted

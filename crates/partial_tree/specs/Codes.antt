@@ -1,9 +1,10 @@
 -- How what callers see of a tree is written as one value: what a model of it needs.
-use Rattle.std.specs.Prelude.{ℕ, refl}
+use Rattle.std.specs.Prelude.{ℕ, List, refl}
 use Rattle.std.specs.Coded.{Coded, code_by, coded×, coded_list, coded_ℕ}
 use Rattle.node_maps.specs.Digest.{Hash}
 use Rattle.node_maps.specs.Known.{Known, Marked, known_code, marked_code}
 use Rattle.partial_tree.specs.Kept.{TreeState, KeptTree}
+use Rattle.partial_tree.specs.Grown.{GrownTree}
 
 abbrev pub tree_state_code : Coded TreeState
 tree_state_code = code_by (Known × Marked) (coded× known_code marked_code)
@@ -15,3 +16,7 @@ kept_tree_code = code_by (Hash × (ℕ × TreeState))
     (λ t. (t.root, (t.length, t.state)))
     (λ p. record { root = p.0; length = p.1.0; state = p.1.1 })
     (λ _. refl)
+
+abbrev pub grown_tree_code : Coded GrownTree
+grown_tree_code = code_by (ℕ × List Hash) (coded× coded_ℕ (coded_list (coded_list coded_ℕ)))
+    (λ t. (t.length, t.leaves)) (λ p. record { length = p.0; leaves = p.1 }) (λ _. refl)

@@ -4,6 +4,7 @@ pub mod Closed
 pub mod Claims
 pub mod Fill
 pub mod Gaps
+pub mod Grown
 pub mod Answers
 pub mod Joins
 pub mod Evidence

@@ -2,6 +2,8 @@
 //! add to it.
 #![tactic(auto)]
 
+mod adding;
+mod adopting;
 mod answer;
 mod answering;
 mod checks;
@@ -9,6 +11,7 @@ mod comparing;
 mod evidence;
 mod filling;
 mod found;
+mod growing;
 pub mod laws;
 mod pads;
 mod refusal;
@@ -18,6 +21,7 @@ mod tree;
 mod writing;
 
 pub use answer::Answer;
+pub use growing::{GrowingTree, GrownTree};
 pub use hashtree::NoMemory;
 pub use refusal::{BlockRefusal, HashRefusal};
 pub use tree::Tree;

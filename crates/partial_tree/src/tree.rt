@@ -19,6 +19,7 @@ ghost use Rattle.std.specs.FinMap as finite;
 ghost use Rattle.std.specs.FinSet as set;
 ghost use Rattle.hashtree.specs.Tree.{block_count};
 ghost use Rattle.node_maps.specs.Places.{tree_height, IsKnown};
+ghost use Rattle.partial_tree.specs.declared.refusal.HashRefusal.TheVariants.{Mismatch};
 ghost use Rattle.partial_tree.specs.Claims.{CanAnswer};
 ghost use Rattle.partial_tree.specs.Answers.{IsTreeAnswer};
 ghost use Rattle.partial_tree.specs.Gaps.{want_of};
@@ -27,10 +28,12 @@ ghost use Rattle.partial_tree.specs.Fill.{fill_claims, IsFillAccepted};
 ghost use Rattle.partial_tree.specs.Joins.{Joins, TakesHashes, RefusesHashes, TakesLayer, RefusesLayer};
 ghost use Rattle.partial_tree.specs.Kept.{info_of, root_alone, IsGoodTree, IsMarked, TreeRefusesBlock};
 
+use crate::adopting::{agree, carry_marks};
 use crate::answer::Answer;
 use crate::answering::answer_hashes;
 use crate::checks::check_range;
 use crate::filling::{fill_layer, plant_layer};
+use crate::growing::GrownTree;
 use crate::refusal::{BlockRefusal, HashRefusal};
 use crate::taking::take_message;
 use hashtree::{Hash, NoMemory, Shape, leaf};
@@ -181,6 +184,34 @@ impl<N: NodeMap> Tree<N> {
         are_hashes(hashes);
         let gained = plant_layer(self.shape, self.height, &mut self.nodes, layer, hashes)?;
         self.known += gained;
+        Ok(gained)
+    }
+
+    /// Takes over a whole tree that grew from its leaves, and tells how many places are newly known:
+    /// what [`Tree::fill`] with these leaves would do, but the hashes stay where they are. It takes
+    /// no memory, and refuses only a tree that differs from what is known; this tree is then
+    /// unchanged. Condition: both trees are of files of one length.
+    pub fn adopt(&mut self, grown: GrownTree<N>) -> Result<u64, HashRefusal>
+        requires good { IsGoodTree self.old }
+        requires length { grown.length ≡ self.old.length }
+        ensures root { self.new.root ≡ self.old.root }
+        ensures length { self.new.length ≡ self.old.length }
+        ensures marked { self.new.state.marked ≡ self.old.state.marked }
+        ensures adopted { IfOk result (λ c. TakesLayer self.old.length 0 grown.leaves
+            self.old.state.known c self.new.state.known) }
+        ensures refused { IfErr result (λ r. RefusesLayer self.old.length 0 grown.leaves
+            self.old.state.known r self.new.state.known) }
+        ensures no_memory { IfErr result (λ r. r ≡ Mismatch) }
+    {
+        let mut nodes = grown.nodes;
+        if !agree(&self.nodes, &nodes, self.height) {
+            return Err(HashRefusal::Mismatch);
+        }
+        carry_marks(&self.nodes, &mut nodes, 1 << self.height);
+        let places = (2u64 << self.height) - 1;
+        let gained = places - self.known;
+        self.nodes = nodes;
+        self.known = places;
         Ok(gained)
     }
 

@@ -1,0 +1,72 @@
+-- A row of a tree that grows, place by place.
+use Rattle.std.proofs.Common.{◌≡◌, ◌≢◌, ◌⊎◌, ℕ, ◌+◌, ◌*◌, ◌<◌, ◌≤◌, Option, Some, None, inl, inr, refl, sym, ap, ap₂, ◌∙◌, subst, arith}
+use Rattle.std.specs.FinMap.{insert, len}
+use Rattle.std.specs.Option.{IsSome}
+use Rattle.std.proofs.lemmas.Bool.{cases_eq}
+use Rattle.std.proofs.lemmas.Option.{same_Some}
+use Rattle.node_maps.specs.Digest.{Hash, join}
+use Rattle.node_maps.specs.Known.{Known, look}
+use Rattle.node_maps.specs.Runs.{AreKnown}
+use Rattle.node_maps.proofs.Known.{look-insert_same, look-insert_other}
+use Rattle.partial_tree.specs.declared.found.Claim.{Claim}
+use Rattle.partial_tree.specs.Claims.{join_both}
+use Rattle.partial_tree.specs.Grown.{AddsRow, parents_of}
+use Rattle.partial_tree.proofs.Noting.{len-new}
+
+-- a place that was not known is one place more
+pub len-absent : (m : Known) (l i : ℕ) (h : Hash) → look m l i ≡ None → len (insert m (l, i) h) ≡ len m + 1
+len-absent m l i h none =
+    let c : Claim = record { layer = l; index = i; hash = h } in
+    len-new m c None (sym none) refl
+
+module _ (old : Known) (layer from : ℕ) (f : ℕ → Option Hash) where
+  pub adds-none : AddsRow old layer from from f old
+  adds-none = record {
+    row = λ i low high. absurd (omega arith);
+    rest = λ l i other. refl;
+    gained = refl;
+  }
+
+  pub adds-one : (mid new : Known) (n : ℕ) (h : Hash) → from ≤ n → AddsRow old layer from n f mid → f n ≡ Some h → new ≡ insert mid (layer, n) h → len new ≡ len mid + 1
+      → AddsRow old layer from (n + 1) f new
+  adds-one mid new n h low adds is put more = record {
+    row = λ i after before. ap (λ m. look m layer i) put ∙ here i after before (cases_eq i n);
+    rest = λ l i other. ap (λ m. look m l i) put ∙ look-insert_other mid layer n h l i (apart l i other) ∙ adds.rest l i (wider l i other);
+    gained = omega (arith, more, adds.gained);
+  }
+    where
+      here : (i : ℕ) → from ≤ i → i < n + 1 → (i ≡ n) ⊎ (i ≢ n) → look (insert mid (layer, n) h) layer i ≡ f i
+      here i after before (inl same) = ap (look (insert mid (layer, n) h) layer) same ∙ look-insert_same mid layer n h ∙ sym is ∙ ap f (sym same)
+      here i after before (inr other) = look-insert_other mid layer n h layer i (inr other) ∙ adds.row i after (omega arith)
+
+      apart : (l i : ℕ) → (l ≢ layer) ⊎ ((i < from) ⊎ (n + 1 ≤ i)) → (l ≢ layer) ⊎ (i ≢ n)
+      apart l i (inl other) = inl other
+      apart l i (inr (inl before)) = inr (λ e. omega arith)
+      apart l i (inr (inr past)) = inr (λ e. omega arith)
+
+      wider : (l i : ℕ) → (l ≢ layer) ⊎ ((i < from) ⊎ (n + 1 ≤ i)) → (l ≢ layer) ⊎ ((i < from) ⊎ (n ≤ i))
+      wider l i (inl other) = inl other
+      wider l i (inr (inl before)) = inr (inl before)
+      wider l i (inr (inr past)) = inr (inr (omega arith))
+
+-- ---- the parents of a layer
+
+-- a known node of the layer below the one that grows
+pub child-known : (old mid : Known) (layer n count i : ℕ) (f : ℕ → Option Hash) → AreKnown (look old layer) 0 count → AddsRow old (layer + 1) 0 n f mid → i < count
+    → (v : Hash) × (look mid layer i ≡ Some v) × (look old layer i ≡ Some v)
+child-known old mid layer n count i f known adds low =
+    let there = known i low in
+    let here : i ≡ 0 + i = omega arith in
+    let before : look old layer i ≡ Some there.0 = ap (look old layer) here ∙ there.1 in
+    (there.0, adds.rest layer i (inl (λ e. omega arith)) ∙ before, before)
+
+pub is-some : (o : Option Hash) (v : Hash) → o ≡ Some v → IsSome o
+is-some o v e = subst IsSome (sym e) refl
+
+-- what is taken out of a known look-up
+pub taken-out : (o : Option Hash) (v x : Hash) → o ≡ Some x → o ≡ Some v → x ≡ v
+taken-out o v x is e = same_Some x v (sym is ∙ e)
+
+-- the parent of two children
+pub parent-of_two : (old : Known) (layer i : ℕ) (left right : Hash) → look old layer (2 * i) ≡ Some left → look old layer (2 * i + 1) ≡ Some right → parents_of old layer i ≡ Some (join left right)
+parent-of_two old layer i left right p q = ap₂ join_both p q

@@ -1,0 +1,151 @@
+-- A tree that takes over the nodes of a whole one.
+use Rattle.std.proofs.Common.{◌≡◌, ◌≢◌, ◌⊎◌, ℕ, suc, ◌+◌, ◌-◌, ◌*◌, ◌%◌, ◌^◌, ◌<◌, ◌≤◌, Bool, true, false, ltb, ◌&&◌, ◌||◌, List, length, Some, inl, inr, refl, sym, ap, ◌∙◌, subst, arith, mod-eq_of_lt}
+use Rattle.std.specs.FinMap.{len}
+use Rattle.std.specs.FinSet as set
+use Rattle.std.specs.FinSet.{same_set, contains-insert, contains-empty, nat_cmp-IsAntisymmetric}
+use Rattle.std.specs.Ordering.{nat_cmp, eq_by_cmp}
+use Rattle.std.specs.Cmp.{nat_cmp_total}
+use Rattle.std.proofs.lemmas.Bool.{cases_lt, cases_eq, and_left, and_right, and_from, or_left, eq-eqb, ne_eqb, lt-ltb, le-ltb}
+use Rattle.hashtree.specs.Tree.{block_count}
+use Rattle.node_maps.specs.Known.{Known, Marked, look}
+use Rattle.node_maps.specs.Places.{IsTreePlace, IsKnown, tree_height}
+use Rattle.node_maps.proofs.Known.{nat_equal, len-known}
+use Rattle.partial_tree.specs.declared.refusal.HashRefusal.TheVariants.{Mismatch}
+use Rattle.partial_tree.specs.Claims.{IsMismatch, IsAgreed, joined}
+use Rattle.partial_tree.specs.Fill.{fill_claims}
+use Rattle.partial_tree.specs.Joins.{TakesLayer, RefusesLayer}
+use Rattle.partial_tree.specs.Grown.{AgreeInTree, GrownTree, IsGrown, grown, leaves_in}
+use Rattle.partial_tree.specs.Kept.{KeptTree, IsGoodTree, kept}
+use Rattle.node_maps.specs.Digest.{Hash}
+use Rattle.node_maps.proofs.Places.{two_halves}
+use Rattle.partial_tree.proofs.Ranges.{pow_more}
+use Rattle.partial_tree.proofs.Claimed.{there_or_not, first_of_two, second_of_two}
+use Rattle.partial_tree.proofs.GrownLeaves.{all-claimed, all_given, length-leaves}
+
+-- ---- the marks
+
+ltb-more : (i n : ℕ) → i ≢ n → ltb i n ≡ ltb i (n + 1)
+ltb-more i n other = elim (cases_lt i n) [
+  | inl low ↦ lt-ltb i n low ∙ sym (lt-ltb i (n + 1) (omega arith))
+  | inr high ↦ le-ltb i n high ∙ sym (le-ltb i (n + 1) (past high))
+]
+  where
+    past : n ≤ i → n + 1 ≤ i
+    past high = elim (cases_lt n i) [
+      | inl low ↦ omega arith
+      | inr same ↦ absurd (other (omega arith))
+    ]
+
+-- the leaves of `old` below n are marked
+abbrev pub AreCarried : Marked → ℕ → Marked → Type 0
+AreCarried old n M = (i : ℕ) → set.contains M i ≡ (ltb i n && set.contains old i)
+
+pub carried-none : (old M : Marked) → M ≡ set.empty → AreCarried old 0 M
+carried-none old M none i = ap (λ s. set.contains s i) none ∙ contains-empty nat_cmp i ∙ sym (and_left (ltb i 0) _ (le-ltb i 0 (omega arith)))
+
+pub carried-mark : (old M M' : Marked) (n : ℕ) → AreCarried old n M → set.contains old n ≡ true → M' ≡ set.insert M n → AreCarried old (n + 1) M'
+carried-mark old M M' n is here put i = ap (λ s. set.contains s i) put ∙ contains-insert nat_cmp_total M n i ∙ by_place (cases_eq i n)
+  where
+    by_place : (i ≡ n) ⊎ (i ≢ n) → (eq_by_cmp nat_cmp i n || set.contains M i) ≡ (ltb i (n + 1) && set.contains old i)
+    by_place (inl same) =
+        or_left (eq_by_cmp nat_cmp i n) (set.contains M i) (nat_equal i n ∙ eq-eqb i n same)
+        ∙ sym (and_from _ _ (lt-ltb i (n + 1) (omega arith)) (ap (set.contains old) same ∙ here))
+    by_place (inr other) =
+        ap (λ b. b || set.contains M i) (nat_equal i n ∙ ne_eqb i n other)
+        ∙ is i ∙ ap (λ b. b && set.contains old i) (ltb-more i n other)
+
+pub carried-not : (old M : Marked) (n : ℕ) → AreCarried old n M → set.contains old n ≡ false → AreCarried old (n + 1) M
+carried-not old M n is here i = is i ∙ by_place (cases_eq i n)
+  where
+    by_place : (i ≡ n) ⊎ (i ≢ n) → (ltb i n && set.contains old i) ≡ (ltb i (n + 1) && set.contains old i)
+    by_place (inl same) =
+        let none : set.contains old i ≡ false = ap (set.contains old) same ∙ here in
+        and_right (ltb i n) _ none ∙ sym (and_right (ltb i (n + 1)) _ none)
+    by_place (inr other) = ap (λ b. b && set.contains old i) (ltb-more i n other)
+
+pub carried-all : (old M : Marked) (n : ℕ) → ((i : ℕ) → set.contains old i ≡ true → i < n) → AreCarried old n M → M ≡ old
+carried-all old M n few is = same_set nat_cmp_total nat_cmp-IsAntisymmetric M old (λ i. is i ∙ read i (set.contains old i) refl)
+  where
+    read : (i : ℕ) (b : Bool) → set.contains old i ≡ b → (ltb i n && set.contains old i) ≡ set.contains old i
+    read i true e = and_from _ _ (lt-ltb i n (few i e)) e ∙ sym e
+    read i false e = and_right (ltb i n) _ e ∙ sym e
+
+-- ---- the nodes
+
+module _ (n : ℕ) (K K' : Known) (is : IsGrown n (block_count n) K') (in_tree : (l i : ℕ) (v : List ℕ) → look K l i ≡ Some v → IsTreePlace (tree_height n) l i) where
+  right : length (leaves_in K' (block_count n)) ≡ block_count n
+  right = length-leaves K' (block_count n)
+
+  -- the whole tree is claimed
+  pub place-known : (l i : ℕ) → IsTreePlace (tree_height n) l i → IsKnown (look K') l i
+  place-known l i at =
+      let claim = all-claimed n (leaves_in K' (block_count n)) right l i at in
+      (claim.0, is.claimed l i ∙ claim.1)
+
+  agrees : AgreeInTree (look K) (look K') (tree_height n) → IsAgreed (look K) (fill_claims n 0 (leaves_in K' (block_count n)))
+  agrees same l i u v known claim = same l i (in_tree l i u known) u v known (is.claimed l i ∙ claim)
+
+  same-joined : AgreeInTree (look K) (look K') (tree_height n) → (l i : ℕ) → look K' l i ≡ joined (look K) (fill_claims n 0 (leaves_in K' (block_count n))) l i
+  same-joined same l i = elim (there_or_not (look K l i)) [
+    | inl (u, known) ↦
+        let here = place-known l i (in_tree l i u known) in
+        here.1 ∙ ap Some (sym (same l i (in_tree l i u known) u here.0 known here.1)) ∙ sym (first_of_two (look K l i) _ u known)
+    | inr none ↦ is.claimed l i ∙ sym (second_of_two (look K l i) _ none)
+  ]
+
+  pub takes-grown : (c : ℕ) → AgreeInTree (look K) (look K') (tree_height n) → len K' ≡ len K + c → TakesLayer n 0 (leaves_in K' (block_count n)) K c K'
+  takes-grown c same gained = (
+    record { layer_inside = omega arith; right_count = all_given n (leaves_in K' (block_count n)) right; agrees = agrees same },
+    record { agreed = agrees same; joined_is = same-joined same; gained = gained },
+  )
+
+  pub refuses-grown : IsMismatch (look K) (look K') → RefusesLayer n 0 (leaves_in K' (block_count n)) K Mismatch K
+  refuses-grown m = ((omega arith, all_given n (leaves_in K' (block_count n)) right, record {
+    layer = m.layer;
+    index = m.index;
+    in_J = m.in_J;
+    in_K = m.in_K;
+    J_known = m.J_known;
+    K_known = sym (is.claimed m.layer m.index) ∙ m.K_known;
+    differ = m.differ;
+  }), refl)
+
+-- ---- as trees keep them
+
+module _ (n : ℕ) (root : Hash) (K K' : Known) (M : Marked) (old : KeptTree) (new : GrownTree) (old_is : kept root n K M ≡ old) (new_is : grown n (leaves_in K' (block_count n)) ≡ new)
+    (good : IsGoodTree old) (is : IsGrown n (block_count n) K') where
+  inside : (l i : ℕ) (v : Hash) → look K l i ≡ Some v → IsTreePlace (tree_height n) l i
+  inside l i v e = (subst IsGoodTree (sym old_is) good).closed.in_tree l i v e
+
+  pub first-known : (j : ℕ) → j < 2 ^ tree_height n → IsKnown (look K') 0 (0 + j)
+  first-known j low =
+      let all : tree_height n - 0 ≡ tree_height n = omega arith in
+      let power : 2 ^ (tree_height n - 0) ≡ 2 ^ tree_height n = ap (λ k. 2 ^ k) all in
+      place-known n K K' is inside 0 (0 + j) (omega arith, omega (arith, power, low))
+
+  pub few-marks : (i : ℕ) → set.contains M i ≡ true → i < 2 ^ tree_height n
+  few-marks i marked =
+      let there = (subst IsGoodTree (sym old_is) good).marks i marked in
+      let all : tree_height n - 0 ≡ tree_height n = omega arith in
+      subst (λ k. i < 2 ^ k) all (inside 0 i there.0 there.1).1
+
+  pub fewer : len K < 2 ^ suc (tree_height n)
+  fewer = len-known (tree_height n) K inside
+
+  pub adopted : (c : ℕ) (after : Known) → AgreeInTree (look K) (look K') (tree_height n) → after ≡ K' → len K' ≡ len K + c → TakesLayer old.length 0 new.leaves old.state.known c after
+  adopted c after same stays gained =
+      subst (λ m. TakesLayer old.length 0 new.leaves old.state.known c m) (sym stays)
+      (subst (λ (t : KeptTree). TakesLayer t.length 0 new.leaves t.state.known c K') old_is
+      (subst (λ (t : GrownTree). TakesLayer n 0 t.leaves K c K') new_is (takes-grown n K K' is inside c same gained)))
+
+  pub not-adopted : IsMismatch (look K) (look K') → RefusesLayer old.length 0 new.leaves old.state.known Mismatch old.state.known
+  not-adopted m =
+      subst (λ (t : KeptTree). RefusesLayer t.length 0 new.leaves t.state.known Mismatch t.state.known) old_is
+      (subst (λ (t : GrownTree). RefusesLayer n 0 t.leaves K Mismatch K) new_is (refuses-grown n K K' is inside m))
+
+-- the number of a tree's places, as it is computed
+pub places_of : (h : ℕ) → h ≤ 32 → 2 * 2 ^ h % 18446744073709551616 ≡ 2 ^ suc h
+places_of h low =
+    let small : 2 ^ h ≤ 2 ^ 32 = pow_more h 32 low in
+    let twice : 2 ^ suc h ≡ 2 ^ h + 2 ^ h = two_halves h in
+    mod-eq_of_lt (omega arith) ∙ omega (arith, twice)

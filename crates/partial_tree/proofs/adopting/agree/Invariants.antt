@@ -1,0 +1,8 @@
+use Rattle.std.proofs.Common.{◌<◌, ◌^◌, ◌-◌, ℕ}
+use Rattle.node_maps.specs.Known.{look}
+use Rattle.partial_tree.specs.Grown.{AgreeInRow}
+use Rattle.partial_tree.proofs.adopting.agree.Given as goal
+
+abbrev pub invariant-layers : goal.invariant-layers
+invariant-layers g l = (k : ℕ) → k < l.layer
+    → AgreeInRow (look (g.N.NodeMap.known l.fn.old)) (look (g.N.NodeMap.known l.fn.new)) k (2 ^ (l.fn.height - k))

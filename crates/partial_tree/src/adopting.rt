@@ -1,0 +1,77 @@
+//! Taking over the nodes of a whole tree: they are compared with what is known, and the marks are
+//! carried over.
+
+ghost use Rattle.std.specs.Prelude.{◌≡◌, ℕ, ◌^◌, ◌<◌, ◌≤◌, true};
+ghost use Rattle.std.specs.Bool.{OnTrue, OnFalse};
+ghost use Rattle.std.specs.FinSet as set;
+ghost use Rattle.node_maps.specs.Known.{look};
+ghost use Rattle.node_maps.specs.Runs.{AreKnown};
+ghost use Rattle.partial_tree.specs.Claims.{IsMismatch};
+ghost use Rattle.partial_tree.specs.Grown.{AgreeAt, AgreeInRow, AgreeInTree};
+
+use node_maps::NodeMap;
+
+/// Whether two maps of a tree of this height have one hash wherever both have one.
+pub fn agree<N: NodeMap>(old: &N, new: &N, height: u32) -> bool
+    requires { height ≤ 32 }
+    ensures same { OnTrue result
+        (AgreeInTree (look (N.known old.now)) (look (N.known new.now)) height) }
+    ensures differs { OnFalse result
+        (IsMismatch (look (N.known old.now)) (look (N.known new.now))) }
+{
+    'layers: for layer in 0..height + 1 {
+        if !agree_in_row(old, new, layer, 1 << (height - layer)) {
+            return false;
+        }
+    }
+    true
+}
+
+/// The same of the first places of a layer, so many.
+fn agree_in_row<N: NodeMap>(old: &N, new: &N, layer: u32, count: u64) -> bool
+    ensures same { OnTrue result
+        (AgreeInRow (look (N.known old.now)) (look (N.known new.now)) layer count) }
+    ensures differs { OnFalse result
+        (IsMismatch (look (N.known old.now)) (look (N.known new.now))) }
+{
+    'places: for index in 0..count {
+        if !agree_at(old, new, layer, index) {
+            return false;
+        }
+    }
+    true
+}
+
+/// The same of one place.
+fn agree_at<N: NodeMap>(old: &N, new: &N, layer: u32, index: u64) -> bool
+    ensures same { OnTrue result
+        (AgreeAt (look (N.known old.now)) (look (N.known new.now)) layer index) }
+    ensures differs { OnFalse result
+        (IsMismatch (look (N.known old.now)) (look (N.known new.now))) }
+{
+    let Some(was) = old.get(layer, index) else {
+        return true;
+    };
+    match new.get(layer, index) {
+        Some(is) => was == is,
+        None => true,
+    }
+}
+
+/// Marks in a map without marks the leaves that another one has marked, which are among the first
+/// `count`. They are known.
+pub fn carry_marks<N: NodeMap>(old: &N, new: &mut N, count: u64)
+    requires none { N.marked new.old ≡ set.empty }
+    requires known { AreKnown (look (N.known new.old) 0) 0 count }
+    requires few { (i : ℕ) → set.contains (N.marked old.now) i ≡ true → i < count }
+    ensures length { N.length new.new ≡ N.length new.old }
+    ensures known { N.known new.new ≡ N.known new.old }
+    ensures marked { N.marked new.new ≡ N.marked old.now }
+    ensures held { N.held new.new ≡ N.held new.old }
+{
+    'leaves: for index in 0..count {
+        if old.is_marked(index) {
+            new.mark(index);
+        }
+    }
+}
