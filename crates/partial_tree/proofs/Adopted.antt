@@ -14,10 +14,11 @@ use Rattle.partial_tree.specs.declared.refusal.HashRefusal.TheVariants.{Mismatch
 use Rattle.partial_tree.specs.Claims.{IsMismatch, IsAgreed, joined}
 use Rattle.partial_tree.specs.Fill.{fill_claims}
 use Rattle.partial_tree.specs.Joins.{TakesLayer, RefusesLayer}
-use Rattle.partial_tree.specs.Grown.{AgreeInTree, GrownTree, IsGrown, grown, leaves_in}
+use Rattle.partial_tree.specs.Grown.{AgreeInTree, GrownTree, HaveHashSize, IsGrown, grown, leaves_in}
 use Rattle.partial_tree.specs.Kept.{KeptTree, IsGoodTree, kept}
 use Rattle.node_maps.specs.Digest.{Hash}
 use Rattle.node_maps.proofs.Places.{two_halves}
+use Rattle.partial_tree.proofs.Keeping.{good_filled}
 use Rattle.partial_tree.proofs.Ranges.{pow_more}
 use Rattle.partial_tree.proofs.Claimed.{there_or_not, first_of_two, second_of_two}
 use Rattle.partial_tree.proofs.GrownLeaves.{all-claimed, all_given, length-leaves}
@@ -142,6 +143,14 @@ module _ (n : ℕ) (root : Hash) (K K' : Known) (M : Marked) (old : KeptTree) (n
   not-adopted m =
       subst (λ (t : KeptTree). RefusesLayer t.length 0 new.leaves t.state.known Mismatch t.state.known) old_is
       (subst (λ (t : GrownTree). RefusesLayer n 0 t.leaves K Mismatch K) new_is (refuses-grown n K K' is inside m))
+
+  -- the tree that took over is good
+  pub good-adopted : (c : ℕ) (after : Known) (new-tree : KeptTree) → new-tree.root ≡ old.root → new-tree.length ≡ old.length → new-tree.state.marked ≡ old.state.marked → new-tree.state.known ≡ after
+      → TakesLayer old.length 0 new.leaves old.state.known c after → IsGoodTree new-tree
+  good-adopted c after new-tree root_is length_is marks is_after taken =
+      let sizes : HaveHashSize new.leaves = subst (λ (t : GrownTree). HaveHashSize t.leaves) new_is is.hashes in
+      let taken' : TakesLayer old.length 0 new.leaves old.state.known c new-tree.state.known = subst (λ m. TakesLayer old.length 0 new.leaves old.state.known c m) (sym is_after) taken in
+      good_filled old new-tree 0 new.leaves c good sizes root_is length_is marks taken'.0 taken'.1
 
 -- the number of a tree's places, as it is computed
 pub places_of : (h : ℕ) → h ≤ 32 → 2 * 2 ^ h % 18446744073709551616 ≡ 2 ^ suc h

@@ -9,6 +9,7 @@ use Rattle.std.proofs.lemmas.Bool.{cases_lt, cases_eq, and_from, eq-eqb, le-leb,
 use Rattle.std.proofs.lemmas.Option.{slice_get_within, slice_get-get_or}
 use Rattle.std.proofs.lemmas.List.{length-map, get_or_append_left, get_or-append_right, get_or-replicate}
 use Rattle.std.proofs.lemmas.List.FromFn.{get_or-map-range_with_len, length-range_with_len}
+use Rattle.std.proofs.lemmas.List.Elements.{All-push}
 use Rattle.std.proofs.lemmas.Nat.{mod_below}
 use Rattle.hashtree.specs.Tree.{pad_leaf, block_count, zero_hash}
 use Rattle.hashtree.proofs.Zeros.{zero_hash-zero}
@@ -23,7 +24,7 @@ use Rattle.node_maps.proofs.Runs.{hashes-one, hashes-alike}
 use Rattle.partial_tree.specs.TreeRoot.{TreeRoot}
 use Rattle.partial_tree.specs.Claims.{claims, given, base_hash, uncle_hash, cover, join_both}
 use Rattle.partial_tree.specs.Fill.{fill_ask, fill_hashes, fill_claims, pad_from}
-use Rattle.partial_tree.specs.Grown.{AddsRow, GrownTree, IsGrowing, IsGrown, grown, leaves_in, parents_of}
+use Rattle.partial_tree.specs.Grown.{AddsRow, GrownTree, HaveHashSize, IsGrowing, IsGrown, grown, leaves_in, parents_of}
 use Rattle.partial_tree.proofs.Claimed.{either, there_or_not, first_of_two, second_of_two, base-read, uncle-read, claims-given}
 use Rattle.partial_tree.proofs.Layers.{layer-leads}
 use Rattle.partial_tree.proofs.Ranges.{pow_more}
@@ -44,13 +45,22 @@ leaf-at K count i low = get_or-map-range_with_len (λ j. unwrap_or (look K 0 (0 
 pub growing-none : (K : Known) → K ≡ empty → IsGrowing 0 K
 growing-none K none = record {
   leaves_known = λ j low. absurd (omega arith);
+  hashes = λ k d in'. absurd (omega (arith, in', length-leaves K 0));
   none_else = λ l i other. ap (λ m. look m l i) none ∙ get-empty place_cmp (l, i);
   counted = ap len none ∙ len-empty place_cmp Hash;
 }
 
+pub leaves-more : (K K' : Known) (n : ℕ) (h : Hash) → K' ≡ insert K (0, n) h → leaves_in K' (n + 1) ≡ leaves_in K n ++ h ∷ []
+leaves-more K K' n h put =
+    hashes-one (look K' 0) 0 n
+    ∙ ap (λ xs. xs ++ unwrap_or (look K' 0 (0 + n)) pad_leaf ∷ [])
+    (hashes-alike (look K' 0) (look K 0) 0 0 n (record { at = λ j low. ap (λ m. look m 0 (0 + j)) put ∙ look-insert_other K 0 n h 0 (0 + j) (inr (λ e. omega arith)) }))
+    ∙ ap (λ o. leaves_in K n ++ unwrap_or o pad_leaf ∷ []) (ap (look K' 0) (zero-more n) ∙ ap (λ m. look m 0 n) put ∙ look-insert_same K 0 n h)
+
 -- one leaf more
-pub growing-more : (K K' : Known) (n : ℕ) (h : Hash) → IsGrowing n K → K' ≡ insert K (0, n) h → len K' ≡ len K + 1 → IsGrowing (n + 1) K'
-growing-more K K' n h is put more = record {
+pub growing-more : (K K' : Known) (n : ℕ) (h : Hash) → IsGrowing n K → length h ≡ 32 → K' ≡ insert K (0, n) h → len K' ≡ len K + 1 → IsGrowing (n + 1) K'
+growing-more K K' n h is size put more = record {
+  hashes = subst HaveHashSize (sym (leaves-more K K' n h put)) (All-push (λ x. length x ≡ 32) (leaves_in K n) h is.hashes size);
   leaves_known = λ j low. known j low (cases_eq j n);
   none_else = λ l i other. ap (λ m. look m l i) put ∙ look-insert_other K 0 n h l i (apart l i other) ∙ is.none_else l i (wider l i other);
   counted = omega (arith, more, is.counted);
@@ -69,13 +79,6 @@ growing-more K K' n h is put more = record {
     wider : (l i : ℕ) → (l ≢ 0) ⊎ (n + 1 ≤ i) → (l ≢ 0) ⊎ (n ≤ i)
     wider l i (inl other) = inl other
     wider l i (inr past) = inr (omega arith)
-
-pub leaves-more : (K K' : Known) (n : ℕ) (h : Hash) → K' ≡ insert K (0, n) h → leaves_in K' (n + 1) ≡ leaves_in K n ++ h ∷ []
-leaves-more K K' n h put =
-    hashes-one (look K' 0) 0 n
-    ∙ ap (λ xs. xs ++ unwrap_or (look K' 0 (0 + n)) pad_leaf ∷ [])
-    (hashes-alike (look K' 0) (look K 0) 0 0 n (record { at = λ j low. ap (λ m. look m 0 (0 + j)) put ∙ look-insert_other K 0 n h 0 (0 + j) (inr (λ e. omega arith)) }))
-    ∙ ap (λ o. leaves_in K n ++ unwrap_or o pad_leaf ∷ []) (ap (look K' 0) (zero-more n) ∙ ap (λ m. look m 0 n) put ∙ look-insert_same K 0 n h)
 
 -- ---- what follows from all leaves
 
@@ -253,6 +256,7 @@ module _ (n : ℕ) (K : Known) (is : IsGrowing (block_count n) K) where
   pub grown-whole : (K' : Known) → IsUpTo n (leaves_in K (block_count n)) (tree_height n) K' → IsGrown n (block_count n) K'
   grown-whole K' done = record {
     claimed = λ l i. all-same n (leaves_in K (block_count n)) right K' done l i ∙ ap (λ xs. fill_claims n 0 xs l i) (sym (leaves-same K' done));
+    hashes = subst HaveHashSize (sym (leaves-same K' done)) is.hashes;
     leaves_known = λ j low. (let there = is.leaves_known j low in (there.0, done.same 0 (0 + j) (omega arith) ∙ sym (known-leaf (0 + j) (omega (arith, low))) ∙ there.1));
   }
 

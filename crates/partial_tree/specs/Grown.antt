@@ -1,6 +1,7 @@
 -- A tree that grows from its leaves, the first one first: BEP 52, "pieces root".
-use Rattle.std.specs.Prelude.{◌≡◌, ◌≢◌, ◌⊎◌, ℕ, ◌+◌, ◌*◌, ◌<◌, ◌≤◌, List, Option, Some, None}
+use Rattle.std.specs.Prelude.{◌≡◌, ◌≢◌, ◌⊎◌, ℕ, ◌+◌, ◌*◌, ◌<◌, ◌≤◌, List, length, Option, Some, None}
 use Rattle.std.specs.FinMap.{len}
+use Rattle.std.specs.List.{All}
 use Rattle.node_maps.specs.Digest.{Hash}
 use Rattle.node_maps.specs.Known.{Known, look}
 use Rattle.node_maps.specs.Places.{PartialTree, IsTreePlace}
@@ -20,16 +21,22 @@ grown length leaves = record { length = length; leaves = leaves }
 abbrev pub leaves_in : Known → ℕ → List Hash
 leaves_in K count = hashes_from (look K 0) 0 count
 
+-- each has the size of a digest
+abbrev pub HaveHashSize : List Hash → Type 0
+HaveHashSize hashes = All (λ h. length h ≡ 32) hashes
+
 -- the first leaves are known, so many, and nothing else
 pub record IsGrowing (count : ℕ) (K : Known) : Type 0 where
   pub leaves_known : AreKnown (look K 0) 0 count
+  pub hashes : HaveHashSize (leaves_in K count)
   pub none_else : (l i : ℕ) → (l ≢ 0) ⊎ (count ≤ i) → look K l i ≡ None
   pub counted : len K ≡ count
 
 -- what is known is what follows from the leaves, so many, and the pads after them
-pub record IsGrown (length count : ℕ) (K : Known) : Type 0 where
-  pub claimed : (l i : ℕ) → look K l i ≡ fill_claims length 0 (leaves_in K count) l i
+pub record IsGrown (files count : ℕ) (K : Known) : Type 0 where
+  pub claimed : (l i : ℕ) → look K l i ≡ fill_claims files 0 (leaves_in K count) l i
   pub leaves_known : AreKnown (look K 0) 0 count
+  pub hashes : HaveHashSize (leaves_in K count)
 
 -- the places from one to another of a layer got what f says, and were not known; the rest stays
 pub record AddsRow (old : Known) (layer from to : ℕ) (f : ℕ → Option Hash) (new : Known)

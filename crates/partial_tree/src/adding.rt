@@ -1,6 +1,6 @@
 //! The rows of a tree that grows: its leaves, the pads after them, and the parents above.
 
-ghost use Rattle.std.specs.Prelude.{◌≡◌, ℕ, suc, ◌+◌, ◌-◌, ◌*◌, ◌^◌, ◌<◌, ◌≤◌, Some, None, OnOk, OnErr};
+ghost use Rattle.std.specs.Prelude.{◌≡◌, ℕ, suc, ◌+◌, ◌-◌, ◌*◌, ◌^◌, ◌<◌, ◌≤◌, Some, None, OnOk, OnErr, length};
 ghost use Rattle.std.specs.FinMap as finite;
 ghost use Rattle.hashtree.specs.Tree.{pad_leaf};
 ghost use Rattle.node_maps.specs.Known.{look};
@@ -19,6 +19,7 @@ pub fn add<N: NodeMap>(map: &mut N, layer: u32, index: u64, hash: Hash) -> Resul
     ensures marked { N.marked map.new ≡ N.marked map.old }
     ensures added { OnOk result
         (N.known map.new ≡ finite.insert (N.known map.old) (layer, index) hash) }
+    ensures hash { length hash ≡ 32 }
     ensures one { OnOk result (finite.len (N.known map.new) ≡ finite.len (N.known map.old) + 1) }
     ensures refused { OnErr result (N.known map.new ≡ N.known map.old) }
 {

@@ -202,6 +202,7 @@ impl<N: NodeMap> Tree<N> {
         ensures refused { IfErr result (λ r. RefusesLayer self.old.length 0 grown.leaves
             self.old.state.known r self.new.state.known) }
         ensures no_memory { IfErr result (λ r. r ≡ Mismatch) }
+        ensures good { IsGoodTree self.new }
     {
         let mut nodes = grown.nodes;
         if !agree(&self.nodes, &nodes, self.height) {

@@ -27,7 +27,7 @@ invariant_of-self-2 g c =
       c.add.ensures.length ∙ c.self.invariant.0,
       omega (arith, fewer),
       c.add.ensures.marked ∙ c.self.invariant.2,
-      growing-more K (g.N.NodeMap.known c.add.new.map) old.count c.args.leaf c.self.invariant.3 c.in_ok-add.ensures.added c.in_ok-add.ensures.one,
+      growing-more K (g.N.NodeMap.known c.add.new.map) old.count c.args.leaf c.self.invariant.3 c.add.ensures.hash c.in_ok-add.ensures.added c.in_ok-add.ensures.one,
     )
 
 pub returns-clause-pushed : goal.returns-clause-pushed

@@ -1,4 +1,4 @@
-use Rattle.std.proofs.Common.{◌≡◌, ℕ, suc, ◌+◌, ◌-◌, ◌*◌, ◌%◌, ◌^◌, sym, ap, ◌∙◌, subst, arith}
+use Rattle.std.proofs.Common.{◌≡◌, ℕ, suc, ◌+◌, ◌-◌, ◌*◌, ◌%◌, ◌^◌, refl, sym, ap, ◌∙◌, subst, arith}
 use Rattle.std.specs.FinMap.{len}
 use Rattle.hashtree.specs.Tree.{block_count}
 use Rattle.node_maps.specs.Known.{Known, Marked, look}
@@ -6,7 +6,7 @@ use Rattle.node_maps.specs.Digest.{Hash}
 use Rattle.node_maps.specs.Places.{tree_height}
 use Rattle.partial_tree.specs.Grown.{AgreeInTree, GrownTree, IsGrown, grown, leaves_in}
 use Rattle.partial_tree.specs.Kept.{KeptTree, kept}
-use Rattle.partial_tree.proofs.Adopted.{first-known, fewer, adopted, not-adopted, places_of}
+use Rattle.partial_tree.proofs.Adopted.{first-known, fewer, adopted, good-adopted, not-adopted, places_of}
 use Rattle.partial_tree.proofs.GrownLeaves.{shifted}
 use Rattle.partial_tree.proofs.tree.Tree.adopt.Goals as goal
 
@@ -69,3 +69,19 @@ returns-clause-adopted g c =
     let all : len K' + 1 ≡ 2 ^ suc (tree_height old.shape) = subst (λ n. len K' + 1 ≡ 2 ^ suc (tree_height n)) same c.grown.invariant.3 in
     adopted old.shape old.root K K' M c.args.self.now c.args.grown c.self.view_is new_is c.requires.good is (2 * 2 ^ old.height % 18446744073709551616 - 1 - old.known) (g.N.NodeMap.known c.carry_marks.new.new) agreed c.carry_marks.ensures.known
     (omega (arith, most, places, all, c.self.invariant.1.known_is))
+
+pub returns-clause-good : goal.returns-clause-good
+returns-clause-good g c =
+    let old = c.self.inside in
+    let new = c.grown.inside in
+    let K = g.N.NodeMap.known old.nodes in
+    let K' = g.N.NodeMap.known new.nodes in
+    let M = g.N.NodeMap.marked old.nodes in
+    let same : new.shape ≡ old.shape = one_length old.shape new.shape old.root K K' M c.args.self.now c.args.grown c.self.view_is c.grown.view_is c.requires.length in
+    let new_is : grown old.shape (leaves_in K' (block_count old.shape)) ≡ c.args.grown = subst (λ n. grown n (leaves_in K' (block_count n)) ≡ c.args.grown) same c.grown.view_is in
+    let is : IsGrown old.shape (block_count old.shape) K' = subst (λ n. IsGrown n (block_count n) K') same c.grown.invariant.4 in
+    let after = g.N.NodeMap.known c.carry_marks.new.new in
+    let end : KeptTree = kept old.root old.shape after (g.N.NodeMap.marked c.carry_marks.new.new) in
+    good-adopted old.shape old.root K K' M c.args.self.now c.args.grown c.self.view_is new_is c.requires.good is (2 * 2 ^ old.height % 18446744073709551616 - 1 - old.known) after end
+    (ap (λ (t : KeptTree). t.root) c.self.view_is) (ap (λ (t : KeptTree). t.length) c.self.view_is)
+    (c.carry_marks.ensures.marked ∙ ap (λ (t : KeptTree). t.state.marked) c.self.view_is) refl (returns-clause-adopted g c)
