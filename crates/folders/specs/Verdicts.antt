@@ -21,7 +21,8 @@ IsListedNode piece_length e bytes k =
 pub record IsFirstBadPiece (piece_length : ℕ) (e : TreeEntry) (bytes : List ℕ) (k : ℕ) : Type 0
   where
     pub only : e.length ≤ piece_length → k ≡ 0
-    pub same_before : piece_length < e.length → (j : ℕ) → j < k → IsListedNode piece_length e bytes j
+    pub same_before : piece_length < e.length → (j : ℕ) → j < k
+        → IsListedNode piece_length e bytes j
     pub within : piece_length < e.length → k < length e.layer
     pub differs : piece_length < e.length → IsListedNode piece_length e bytes k → ⊥
 

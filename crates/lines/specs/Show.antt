@@ -9,7 +9,8 @@ use Rattle.lines.specs.Text.{escaped, path_text}
 -- the root of a file by the number of its tree: in hexadecimal, or `-` for a file without a tree
 abbrev pub tree_root_text : List TreeEntry → Option ℕ → List ℕ
 tree_root_text trees None = codes "-"
-tree_root_text trees (Some n) = option_map_or (λ t. encode_lower t.root) (slice_get trees n) (codes "-")
+tree_root_text trees (Some n) =
+    option_map_or (λ t. encode_lower t.root) (slice_get trees n) (codes "-")
 
 -- a file's length and root
 abbrev pub file_head : List TreeEntry → ℕ → Option ℕ → List ℕ
