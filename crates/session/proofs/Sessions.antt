@@ -7,7 +7,7 @@ use Rattle.std.proofs.lemmas.List.{length-map, map-set}
 use Rattle.std.proofs.lemmas.List.Elements.{All-get_or, All-set}
 use Rattle.std.proofs.Math.Seq.{map-set_same}
 use Rattle.hashtree.specs.Tree.{block_count}
-use Rattle.metainfo.specs.Description.{Description, FileEntry}
+use Rattle.metainfo.specs.Description.{Description, FileEntry, TreeEntry}
 use Rattle.metainfo.specs.Sound.{IsSound}
 use Rattle.metainfo.specs.Blocks.{IsBlockRun}
 use Rattle.metainfo.specs.Places.{place_of}
@@ -222,6 +222,12 @@ module _ (d : Description) (ts : List KeptTree) (kept : AreKept d ts) where
   fill_refused_all o n a b layer hashes (Ok c) e m h = tt
   fill_refused_all o n a b layer hashes (Err x) e m h =
       (record { tree = info_of a; before = a.state; is_tree = tree_at d ts kept o n a e; refuses = h.0 }, ap (with_trees d o) (state_stays ts n a b e h.1 m))
+
+  -- the length of a tree's files is that of its entry
+  pub length_at : (o : AskSet) (n k : ℕ) (a : KeptTree) → slice_get ts n ≡ Some a → ((e : TreeEntry) → slice_get d.trees n ≡ Some e → k ≡ e.length) → k ≡ a.length
+  length_at o n k a at is =
+      let x = mapped root_of_entry (slice_get d.trees n) (info_of a) (sym (slice_get-map root_of_entry d.trees n) ∙ (tree_at d ts kept o n a at).tree_is) in
+      is x.0 x.1 ∙ ap (λ (t : TreeRoot). t.length) x.2
 
   pub inside_kept : (n : ℕ) → n < length d.trees → n < length ts
   inside_kept n low = omega (arith, length-map ts info_of, length-map d.trees root_of_entry, ap length kept.same)

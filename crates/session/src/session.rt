@@ -9,6 +9,8 @@ ghost use Rattle.std.specs.Prelude.{◌≡◌, ◌<◌, ◌≤◌, ◌↔◌, If
 ghost use Rattle.std.specs.List.{All};
 ghost use Rattle.std.specs.FinMap as finite;
 ghost use Rattle.std.specs.FinSet as set;
+ghost use Rattle.metainfo.specs.Description.{TreeEntry};
+ghost use Rattle.partial_tree.specs.declared.refusal.HashRefusal.TheVariants.{Mismatch};
 ghost use Rattle.partial_tree.specs.Kept.{TreeState};
 ghost use Rattle.session.specs.Session.{IsTree, HasClosedTrees, HasHashes, HasDistinctRoots, IsStored, IsHashRefused, IsVerified, IsBlockRefused, IsBlock, IsMarkedBlock, IsUnmarkedBlock, BlockStep, AreTaken, AreRefused, AreBlocks, IsAnswered, IsFilled, IsFillRefused, Step};
 ghost use Rattle.node_maps.specs.Known.{look};
@@ -31,7 +33,7 @@ use crate::verdict::Verdict;
 use hashtree::{BLOCK_LENGTH, Hash, NoMemory};
 use metainfo::Torrent;
 use node_maps::NodeMap;
-use partial_tree::{Answer, BlockRefusal, HashRefusal, Tree};
+use partial_tree::{Answer, BlockRefusal, GrownTree, HashRefusal, Tree};
 use std::alloc::Global;
 use std::marker::Model;
 use wire::{Ask, Message};
@@ -156,6 +158,23 @@ impl<'t, N: NodeMap> Session<'t, N> {
     {
         are_hashes(hashes);
         self.trees[tree].fill(layer, hashes)
+    }
+
+    /// Takes over a whole tree that grew from its leaves, and tells how many places are newly known:
+    /// what [`Session::fill`] with these leaves would do, but the hashes stay where they are. It
+    /// takes no memory, and refuses only a tree that differs from what is known; content and marks
+    /// then stay. Conditions: there are more than `tree` trees, and that one has files of the length
+    /// for which the other one grew.
+    pub fn adopt(&mut self, tree: usize, grown: GrownTree<N>) -> Result<u64, HashRefusal>
+        requires inside { tree < length self.old.torrent.trees }
+        requires length { (e : TreeEntry) → slice_get self.old.torrent.trees tree ≡ Some e
+            → grown.length ≡ e.length }
+        ensures adopted { IfOk result (λ c. IsFilled self.old tree 0 grown.leaves c self.new) }
+        ensures refused { IfErr result (λ r. IsFillRefused self.old tree 0 grown.leaves r
+            × (self.new ≡ self.old)) }
+        ensures no_memory { IfErr result (λ r. r ≡ Mismatch) }
+    {
+        self.trees[tree].adopt(grown)
     }
 
     /// Takes a block of a piece message, marks its leaf, and tells the file and the block, both
