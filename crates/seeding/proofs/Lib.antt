@@ -1,3 +1,4 @@
+pub mod FedLeaves
 pub mod LeafReads
 pub mod Seeds
 pub mod Trees

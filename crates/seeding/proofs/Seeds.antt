@@ -1,5 +1,5 @@
 -- Seeding, file by file.
-use Rattle.std.proofs.Common.{◌≡◌, ℕ, suc, ◌+◌, ◌<◌, ◌≤◌, ◌++◌, Bool, false, List, [], ◌∷◌, length, take, Option, Some, None, Result, Ok, Err, IfOk, OnErr, refl, sym, ap, ◌∙◌, subst, append_assoc, arith}
+use Rattle.std.proofs.Common.{◌≡◌, ℕ, suc, ◌+◌, ◌<◌, ◌≤◌, ◌++◌, Bool, false, List, [], ◌∷◌, length, take, Option, Some, None, Result, refl, sym, ap, ◌∙◌, subst, append_assoc, arith}
 use Rattle.std.specs.Prelude.{slice_get}
 use Rattle.std.proofs.lemmas.List.{append-nil, length_push, length-take-le}
 use Rattle.std.proofs.lemmas.Option.{none-some, slice_get_within, get_or_from_slice_get}
@@ -35,11 +35,11 @@ module _ {S F : Type 0} (opens : S → List (List ℕ) → Result (Option F) Dev
   Found s f e leaves s' = (k : ℕ) × (faults s' ≡ more (faults s) k) × Finds (under s f.path) e leaves k
 
   -- a file's leaves were found
-  pub seeds_filled : {E : Type 0} (r : Result Bool E) (s s' : S) (K K' : SessionSeen) (f : FileEntry) (n : ℕ) (e : TreeEntry) (leaves : List Hash)
+  pub seeds_filled : (seeded : Bool) (s s' : S) (K K' : SessionSeen) (f : FileEntry) (n : ℕ) (e : TreeEntry) (leaves : List Hash)
       → slice_get K.torrent.trees n ≡ Some e → e.length ≡ f.length → OpensOnce opens closes seen s f.path (e.length + 1) s' → Found s f e (Some leaves) s'
-      → ((p : List (List ℕ)) → under s' p ≡ under s p) → IfOk r (λ seeded. Fills K n (Some leaves) seeded K')
-      → IfOk r (λ seeded. SeedsTree opens closes faults under seen (both s K) f n seeded (both s' K'))
-  seeds_filled {E} (Ok seeded) s s' K K' f n e leaves tree same visited found kept fills = record {
+      → ((p : List (List ℕ)) → under s' p ≡ under s p) → Fills K n (Some leaves) seeded K'
+      → SeedsTree opens closes faults under seen (both s K) f n seeded (both s' K')
+  seeds_filled seeded s s' K K' f n e leaves tree same visited found kept fills = record {
     tree = e;
     tree_is = tree;
     visited = subst (λ k. OpensOnce opens closes seen s f.path (k + 1) s') same visited;
@@ -50,7 +50,6 @@ module _ {S F : Type 0} (opens : S → List (List ℕ) → Result (Option F) Dev
     kept = kept;
     fills = fills;
   }
-  seeds_filled {E} (Err x) s s' K K' f n e leaves tree same visited found kept fills = tt
 
   -- a file's leaves were not found
   pub seeds_nothing : (s s' : S) (K : SessionSeen) (f : FileEntry) (n : ℕ) (e : TreeEntry) → slice_get K.torrent.trees n ≡ Some e → e.length ≡ f.length
@@ -76,18 +75,6 @@ module _ {S F : Type 0} (opens : S → List (List ℕ) → Result (Option F) Dev
     visited = subst (λ k. OpensOnce opens closes seen s f.path (k + 1) s') same visited;
     counted = counted;
     stays = refl;
-  }
-
-  -- memory was refused to fill in its leaves
-  pub stops_filling : {E : Type 0} (r : Result Bool E) (s s' : S) (K K' : SessionSeen) (f : FileEntry) (n : ℕ) (e : TreeEntry) (leaves : List Hash) → f.tree ≡ Some n
-      → e.length ≡ f.length → OpensOnce opens closes seen s f.path (e.length + 1) s' → Found s f e (Some leaves) s' → OnErr r (K' ≡ K)
-      → OnErr r (StopsAt opens closes faults under seen (both s K) f (both s' K'))
-  stops_filling {E} (Ok seeded) s s' K K' f n e leaves tree same visited found stays = tt
-  stops_filling {E} (Err x) s s' K K' f n e leaves tree same visited found stays = record {
-    not_empty = λ is. none-some n (sym is ∙ tree);
-    visited = subst (λ k. OpensOnce opens closes seen s f.path (k + 1) s') same visited;
-    counted = found.1 ∙ ap (more (faults s)) found.2.0;
-    stays = stays;
   }
 
   -- ---- all files

@@ -1,28 +1,54 @@
 -- The leaves of a file (BEP 52), as they are read.
-use Rattle.std.specs.Prelude.{◌≡◌, ◌⊎◌, ℕ, ◌+◌, ◌^◌, ◌≤◌, List, length, Option, Some, None, Result, Ok, Err}
+use Rattle.std.specs.Prelude.{◌≡◌, ◌≢◌, ◌⊎◌, ℕ, ◌+◌, ◌^◌, ◌<◌, ◌≤◌, ◌++◌, List, length, true, Option, Some, None, Result, Ok, Err}
 use Rattle.benc.specs.Device.{one_more}
-use Rattle.hashtree.specs.LayerBuilder.{FeedsLayer, HasRefused, byte_count, chosen_layer}
-use Rattle.hashtree.specs.Tree.{layer_of}
+use Rattle.hashtree.specs.RootBuilder.{IsFed, complete_nodes}
+use Rattle.hashtree.specs.Tree.{layer_of, root_of}
 use Rattle.metainfo.specs.Description.{TreeEntry}
 use Rattle.node_maps.specs.Digest.{Hash}
 use Rattle.folders.specs.Folder.{FitsTree}
+use Rattle.partial_tree.specs.Grown.{GrownTree}
 use Rattle.seeding.specs.declared.leaves.Leaves.{Leaves}
 use Rattle.seeding.specs.declared.leaves.ReadFault.{ReadFault}
 use Rattle.seeding.specs.declared.leaves.ReadFault.TheVariants as fault
 
--- a builder of leaves was pushed these bytes, or memory was refused to it
-pub record Pushes (old : Leaves) (bytes : List ℕ) (new : Leaves) : Type 0 where
-  pub layer : chosen_layer new.builder ≡ chosen_layer old.builder
-  pub at_most : byte_count new.builder ≤ byte_count old.builder + length bytes
-  pub at_least : byte_count old.builder ≤ byte_count new.builder
-  pub again : HasRefused old.builder → HasRefused new.builder
-  pub fed : HasRefused new.builder
-      ⊎ ((byte_count new.builder ≡ byte_count old.builder + length bytes)
-      × FeedsLayer old.builder new.builder bytes)
+-- memory was refused for a leaf, and no further byte is taken
+abbrev pub HasRefused : {N : Type 0} → Leaves N → Type 0
+HasRefused l = l.is_refused ≡ true
 
--- a file of at most 2 ^ 46 bytes has room for so many more
-abbrev pub CanPush : Leaves → ℕ → Type 0
-CanPush l n = byte_count l.builder + n ≤ 2 ^ 46
+-- this content was given, and the tree has the leaves of its blocks that are complete
+pub record IsFedLeaves {N : Type 0} (l : Leaves N) (content : List ℕ) : Type 0 where
+  pub fed : IsFed l.builder content
+  pub leaves_are : l.tree.leaves ≡ complete_nodes l.builder content 0
+
+-- these further bytes were given, or memory was refused
+pub record Pushes {N : Type 0} (old : Leaves N) (bytes : List ℕ) (new : Leaves N) : Type 0 where
+  pub same_length : new.tree.length ≡ old.tree.length
+  pub again : HasRefused old → HasRefused new
+  pub fed : HasRefused new ⊎ ((file : List ℕ) → IsFedLeaves old file → IsFedLeaves new (file ++ bytes))
+
+-- so many more bytes are within the length of the tree's files
+pub record HasRoom {N : Type 0} (l : Leaves N) (n : ℕ) : Type 0 where
+  pub content : List ℕ
+  pub fed : IsFedLeaves l content
+  pub fits : length content + n ≤ l.tree.length
+  pub bound : l.tree.length ≤ 2 ^ 46
+
+-- there is room for so many bytes, or they are not taken
+abbrev pub CanPush : {N : Type 0} → Leaves N → ℕ → Type 0
+CanPush l n = HasRefused l ⊎ HasRoom l n
+
+-- a content of the right length was given
+pub record IsFull {N : Type 0} (l : Leaves N) (content : List ℕ) : Type 0 where
+  pub fed : IsFedLeaves l content
+  pub length_is : length content ≡ l.tree.length
+  pub some : 0 < length content
+
+-- what stands at the end, for a tree of this root: the whole tree over the content's leaves if it
+-- has that root, and else nothing
+abbrev pub Ends : {N : Type 0} → Leaves N → List ℕ → List ℕ → Option GrownTree → Type 0
+Ends l root content (Some t) =
+    (root ≡ root_of content) × (t.length ≡ l.tree.length) × (t.leaves ≡ layer_of content 0)
+Ends l root content None = root ≢ root_of content
 
 -- a source that had this to give gave these bytes
 abbrev pub Told : Option (List ℕ) → List ℕ → Type 0

@@ -1,18 +1,18 @@
 //! The leaves of a file's tree, from a source.
-ghost use Rattle.std.specs.Prelude.{◌≡◌, ◌+◌, ◌^◌, ◌<◌, ◌≤◌, option_map, IfOk};
+ghost use Rattle.std.specs.Prelude.{◌≡◌, ◌⊎◌, ℕ, ◌+◌, ◌^◌, ◌<◌, ◌≤◌, ◌++◌, [], List, false, length, option_map, IfOk, IfSome, OnOk, OnSome};
+ghost use Rattle.std.specs.Option.{option_to_list};
+ghost use Rattle.hashtree.specs.Tree.{block_count};
 ghost use Rattle.metainfo.specs.Seen.{tree_entry};
 ghost use Rattle.folders.specs.TakeAll.{IsReadWithin};
-ghost use Rattle.hashtree.specs.LayerBuilder.{EndsWithLayer, HasRefused};
-ghost use Rattle.seeding.specs.Leaves.{CountsReading, ReadsLeaves};
+ghost use Rattle.seeding.specs.Leaves.{CountsReading, Ends, HasRefused, IsFedLeaves, IsFull, ReadsLeaves};
 
 use benc::Source;
 use folders::{Taker, take_all};
-use hashtree::{BLOCK_LENGTH, Hash, LayerBuilder, NoMemory};
+use hashtree::{Hash, NoMemory, RootBuilder, Shape};
 use metainfo::TreeInfo;
+use node_maps::NodeMap;
+use partial_tree::{GrowingTree, GrownTree};
 use std::alloc::Global;
-
-/// For how many leaves memory is taken before a file is read: 2 MiB.
-const MOST_AT_ONCE: u64 = 65_536;
 
 /// Why no content was read.
 #[derive(Clone, Copy)]
@@ -23,13 +23,16 @@ pub(crate) enum ReadFault {
     NoMemory,
 }
 
-/// What takes a file's bytes for its leaves. Once memory was refused, it takes no more.
+/// What takes a file's bytes for its leaves, which go where they will stay. Once memory was
+/// refused, it takes no more.
 #[derive(Drop)]
-pub(crate) struct Leaves {
-    builder: LayerBuilder,
+pub(crate) struct Leaves<N: NodeMap> {
+    builder: RootBuilder,
+    tree: GrowingTree<N>,
+    is_refused: bool,
 }
 
-impl Taker for Leaves {
+impl<N: NodeMap> Taker for Leaves<N> {
     ghost use Rattle.seeding.specs.Leaves.{CanPush, Pushes};
     ghost use Rattle.seeding.specs.LeavesLaws.{pushed_none, pushed_both, pushed_room, pushed_less};
 
@@ -38,7 +41,12 @@ impl Taker for Leaves {
     ghost took = { Pushes };
 
     fn take(&mut self, part: &[u8]) {
-        let _ = self.builder.push(part);
+        let mut start = 0;
+        'parts: while start < part.len() && !self.is_refused {
+            let (taken, leaf) = self.builder.take_part(&part[start..], 0);
+            self.keep(leaf);
+            start += taken;
+        }
     }
 
     ghost none = { pushed_none };
@@ -50,26 +58,76 @@ impl Taker for Leaves {
     ghost room_for_less = { pushed_less };
 }
 
-/// Reads a source to its end, or to one byte past the length of the tree's files: the leaves of its
-/// content if that fits the tree, and else `None`. Memory for the leaves of the first GiB is taken
-/// before anything is read.
-pub(crate) fn read_leaves<F: Source>(
+impl<N: NodeMap> Leaves<N> {
+    /// Leaves of a file of this shape of which no byte is read.
+    fn new(alloc: Global, shape: Shape) -> Leaves<N>
+        ensures length { result.tree.length ≡ shape }
+        ensures content { IsFedLeaves result [] }
+        ensures works { result.is_refused ≡ false }
+    {
+        Leaves {
+            builder: RootBuilder::new(),
+            tree: GrowingTree::new(alloc, shape),
+            is_refused: false,
+        }
+    }
+
+    /// Gives the tree its next leaf, if a block is complete.
+    fn keep(&mut self, leaf: Option<Hash>)
+        requires room { OnSome leaf
+            (length self.old.tree.leaves < block_count self.old.tree.length) }
+        ensures builder { self.new.builder ≡ self.old.builder }
+        ensures length { self.new.tree.length ≡ self.old.tree.length }
+        ensures kept { HasRefused self.new
+            ⊎ (self.new.tree.leaves ≡ self.old.tree.leaves ++ option_to_list leaf) }
+    {
+        if let Some(leaf) = leaf {
+            self.is_refused = self.tree.push(leaf).is_err();
+        }
+    }
+
+    /// The whole tree, if it has this root. Condition: as many bytes as the file has were taken, or
+    /// memory was refused.
+    fn finish(self, root: &Hash) -> Result<Option<GrownTree<N>>, NoMemory>
+        requires { HasRefused self ⊎ ((content : List ℕ) × IsFull self content) }
+        ensures works { OnOk result (HasRefused self → ⊥) }
+        ensures ends { IfOk result (λ found. (content : List ℕ) → IsFull self content
+            → Ends self root.now content found) }
+    {
+        if self.is_refused {
+            return Err(NoMemory);
+        }
+        let (_, found, last) = self.builder.finish_layer(0);
+        if found != *root {
+            return Ok(None);
+        }
+        let mut tree = self.tree;
+        if let Some(leaf) = last {
+            tree.push(leaf)?;
+        }
+        Ok(Some(tree.finish()?))
+    }
+}
+
+/// Reads a source to its end, or to one byte past the length of the tree's files: the whole tree
+/// over its content's leaves if that fits the tree, and else `None`. Memory for the leaves is taken
+/// as they come.
+pub(crate) fn read_tree<N: NodeMap, F: Source>(
     alloc: Global,
     source: &mut F,
     tree: &TreeInfo<'_>,
-) -> Result<Option<Vec<Hash>>, ReadFault>
+) -> Result<Option<GrownTree<N>>, ReadFault>
     requires some { 0 < tree.now.length }
     requires small { tree.now.length ≤ 2 ^ 46 }
     ensures read { IfOk result (λ found. ReadsLeaves (tree_entry tree.now) (F.seen source.old).left
-        (option_map (λ leaves. leaves.items) found)) }
+        (option_map (λ grown. grown.leaves) found)) }
+    ensures length { IfOk result (λ found. IfSome found (λ grown.
+        grown.length ≡ tree.now.length)) }
     ensures counts { CountsReading (F.seen source.old).faults (F.seen source.new).faults result }
     ensures no_further { IsReadWithin (tree.now.length + 1) (F.seen source.old)
         (F.seen source.new) }
 {
-    let Ok(builder) = LayerBuilder::with_capacity(alloc, 0, room_for(tree.length)) else {
-        return Err(ReadFault::NoMemory);
-    };
-    let mut leaves = Leaves { builder };
+    let mut leaves = Leaves::new(alloc, Shape::of(tree.length).unwrap());
     let mut buffer = [0u8; 65536];
     let Ok(count) = take_all(source, tree.length, &mut buffer, &mut leaves) else {
         return Err(ReadFault::Device);
@@ -77,32 +135,8 @@ pub(crate) fn read_leaves<F: Source>(
     if count != Some(tree.length) {
         return Ok(None);
     }
-    let Leaves { builder } = leaves;
-    let Ok(found) = finish(builder) else {
-        return Err(ReadFault::NoMemory);
-    };
-    let (_, root, hashes) = found;
-    if root == tree.root {
-        Ok(Some(hashes))
-    } else {
-        Ok(None)
+    match leaves.finish(&tree.root) {
+        Ok(found) => Ok(found),
+        Err(_) => Err(ReadFault::NoMemory),
     }
-}
-
-// How many leaves there is room for from the start: those of the file, but of 1 GiB at most, since
-// the file may be shorter than is stated.
-fn room_for(length: u64) -> usize {
-    length.div_ceil(BLOCK_LENGTH).min(MOST_AT_ONCE) as usize
-}
-
-// What a builder tells that was given some bytes, if memory was not refused to it. One to which it
-// was refused may count none.
-fn finish(builder: LayerBuilder) -> Result<(u64, Hash, Vec<Hash>), NoMemory>
-    ensures { IfOk result (λ found. (HasRefused builder → ⊥)
-        × EndsWithLayer builder found.0 found.1 found.2.items) }
-{
-    if builder.is_empty() {
-        return Err(NoMemory);
-    }
-    builder.finish()
 }

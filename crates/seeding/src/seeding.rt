@@ -1,19 +1,21 @@
 //! The seeding of a session: its files one after the other.
-ghost use Rattle.std.specs.Prelude.{◌≡◌, ◌<◌, ◌≤◌, ◌+◌, ◌^◌, ℕ, List, Some, length, option_map, slice_get, IfOk, OnErr};
+ghost use Rattle.std.specs.Prelude.{◌≡◌, ◌<◌, ◌≤◌, ◌+◌, ◌^◌, ℕ, List, Some, length, option_map, slice_get, IfOk, IfSome, OnErr};
 ghost use Rattle.benc.specs.Device.{Wrote};
+ghost use Rattle.metainfo.specs.Description.{TreeEntry};
 ghost use Rattle.metainfo.specs.Seen.{file_entry, tree_entry};
 ghost use Rattle.folders.specs.Shelf.{more};
 ghost use Rattle.folders.specs.Verdicts.{IsFileOf};
 ghost use Rattle.seeding.specs.Seeding.{Fills, Finds, OpensOnce, SeedStep, Seeds, SeedsFiles, SeedsTree, StopsAt, both, seed_line, seed_words};
 
-use crate::leaves::{ReadFault, read_leaves};
+use crate::leaves::{ReadFault, read_tree};
 use crate::seed_fault::SeedFault;
 use benc::{DeviceFault, Sink, write_all};
 use folders::Shelf;
-use hashtree::{Hash, NoMemory};
+use hashtree::NoMemory;
 use lines::write_path;
 use metainfo::{File, TreeInfo};
-use session::{HashRefusal, NodeMap, Session};
+use partial_tree::GrownTree;
+use session::{NodeMap, Session};
 use std::alloc::Global;
 
 /// Fills in the leaves of each file of the session's torrent that the shelf holds whole, and writes
@@ -121,39 +123,41 @@ fn seed_tree<N: NodeMap, S: Shelf>(
         (both shelf.old session.old) (file_entry file.now) (both shelf.new session.new)) }
     ensures torrent { session.new.torrent ≡ session.old.torrent }
 {
-    let Ok(found) = find_leaves(alloc, shelf, file, tree) else {
+    let Ok(found) = find_tree(alloc, shelf, file, tree) else {
         return Err(NoMemory);
     };
     match found {
-        Some(leaves) => fill_leaves(session, number, &leaves),
+        Some(grown) => Ok(take_over(session, number, grown)),
         None => Ok(false),
     }
 }
 
-// Opens a file, reads it and hands it back: its leaves, if its content fits the tree.
-fn find_leaves<S: Shelf>(
+// Opens a file, reads it and hands it back: the whole tree over its leaves, if its content fits the
+// tree.
+fn find_tree<N: NodeMap, S: Shelf>(
     alloc: Global,
     shelf: &mut S,
     file: &File<'_>,
     tree: &TreeInfo<'_>,
-) -> Result<Option<Vec<Hash>>, NoMemory>
+) -> Result<Option<GrownTree<N>>, NoMemory>
     requires some { 0 < tree.now.length }
     requires small { tree.now.length ≤ 2 ^ 46 }
     ensures visited { OpensOnce S.opens S.closes S.File.seen shelf.old file.now.path
         (tree.now.length + 1) shelf.new }
-    ensures found { IfOk result (λ leaves. (n : ℕ)
+    ensures found { IfOk result (λ grown. (n : ℕ)
         × (S.faults shelf.new ≡ more (S.faults shelf.old) n)
         × Finds (S.under shelf.old file.now.path) (tree_entry tree.now)
-        (option_map (λ v. v.items) leaves) n) }
+        (option_map (λ t. t.leaves) grown) n) }
+    ensures length { IfOk result (λ grown. IfSome grown (λ t. t.length ≡ tree.now.length)) }
     ensures no_memory { OnErr result (S.faults shelf.new ≡ S.faults shelf.old) }
     ensures kept { (p : List (List ℕ)) → S.under shelf.new p ≡ S.under shelf.old p }
 {
     match shelf.open(&file.path.parts()) {
         Ok(Some(mut source)) => {
-            let read = read_leaves(alloc, &mut source, tree);
+            let read = read_tree(alloc, &mut source, tree);
             shelf.close(source);
             match read {
-                Ok(leaves) => Ok(leaves),
+                Ok(grown) => Ok(grown),
                 Err(ReadFault::Device) => Ok(None),
                 Err(ReadFault::NoMemory) => Err(NoMemory),
             }
@@ -163,23 +167,19 @@ fn find_leaves<S: Shelf>(
     }
 }
 
-// Fills in the leaves of a tree, and tells whether they were accepted.
-fn fill_leaves<N: NodeMap>(
+// Gives a tree the nodes of a whole one, and tells whether they were accepted.
+fn take_over<N: NodeMap>(
     session: &mut Session<'_, N>,
     tree: usize,
-    leaves: &[Hash],
-) -> Result<bool, NoMemory>
-    requires { tree < length session.old.torrent.trees }
-    ensures fills { IfOk result
-        (λ seeded. Fills session.old tree (Some leaves.now) seeded session.new) }
-    ensures no_memory { OnErr result (session.new ≡ session.old) }
+    grown: GrownTree<N>,
+) -> bool
+    requires inside { tree < length session.old.torrent.trees }
+    requires length { (e : TreeEntry) → slice_get session.old.torrent.trees tree ≡ Some e
+        → grown.length ≡ e.length }
+    ensures fills { Fills session.old tree (Some grown.leaves) result session.new }
     ensures torrent { session.new.torrent ≡ session.old.torrent }
 {
-    match session.fill(tree, 0, leaves) {
-        Ok(_) => Ok(true),
-        Err(HashRefusal::NoMemory) => Err(NoMemory),
-        Err(_) => Ok(false),
-    }
+    session.adopt(tree, grown).is_ok()
 }
 
 // The line of a file.

@@ -2,7 +2,7 @@ use Rattle.std.proofs.Common.{◌∙◌, ap, map, Some, subst}
 use Rattle.metainfo.specs.Seen.{tree_entry}
 use Rattle.folders.specs.Shelf.{IsFound}
 use Rattle.seeding.proofs.LeafReads.{finds_read}
-use Rattle.seeding.proofs.seeding.find_leaves.Goals as goal
+use Rattle.seeding.proofs.seeding.find_tree.Goals as goal
 
 pub returns-in-Ok-clause-found : goal.returns-in-Ok-clause-found
 returns-in-Ok-clause-found g c =

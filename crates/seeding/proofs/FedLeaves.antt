@@ -1,0 +1,115 @@
+-- What takes a file's bytes for its leaves: how many leaves its tree has, and what stands at the end.
+use Rattle.std.proofs.Common.{◌≡◌, ℕ, zero, ◌+◌, ◌-◌, ◌*◌, ◌<◌, ◌≤◌, ◌++◌, List, [], ◌∷◌, length, take, drop, Option, Some, None, OnSome, inl, inr, refl, sym, ap, ◌∙◌, subst, arith, div-one, option_map}
+use Rattle.std.specs.Option.{option_to_list}
+use Rattle.std.proofs.lemmas.List.{length-append, length-take-le}
+use Rattle.std.proofs.lemmas.List.FromFn.{length-map-range_with_len}
+use Rattle.std.proofs.lemmas.Bool.{cond-true, le-leb}
+use Rattle.benc.specs.Device.{SourceSeen}
+use Rattle.folders.specs.TakeAll.{TookAll}
+use Rattle.folders.proofs.Pieces.{all_given}
+use Rattle.hashtree.specs.declared.root.RootBuilder.{RootBuilder}
+use Rattle.hashtree.specs.Climb.{climb}
+use Rattle.hashtree.specs.RootBuilder.{IsFed, complete_nodes}
+use Rattle.hashtree.specs.Tree.{block_count, block_hashes, height, layer_count, layer_of, node}
+use Rattle.hashtree.proofs.Blocks.{length-block_hashes}
+use Rattle.hashtree.proofs.Feeding.{next_part}
+use Rattle.metainfo.specs.Description.{TreeEntry}
+use Rattle.partial_tree.specs.Grown.{GrownTree}
+use Rattle.seeding.specs.Leaves.{Ends, HasRefused, HasRoom, IsFedLeaves, IsFull, Pushes, ReadsLeaves}
+use Rattle.seeding.specs.declared.leaves.Leaves.{Leaves}
+
+climb-none : (xs : List (List ℕ)) → climb zero xs ≡ xs
+unfolding climb
+climb-none xs = refl
+
+-- one leaf for each block that is complete
+complete-length : (b : RootBuilder) (content : List ℕ) → length (complete_nodes b content 0) ≡ b.peaks.count
+complete-length b content = ap length (climb-none (block_hashes content b.peaks.count)) ∙ length-block_hashes content b.peaks.count
+
+-- the next leaf is one of the file's
+pub leaf-fits : {N : Type 0} (l : Leaves N) (mid : RootBuilder) (content more : List ℕ) (leaf : Option (List ℕ)) → IsFedLeaves l content → IsFed mid more
+    → complete_nodes mid more 0 ≡ complete_nodes l.builder content 0 ++ option_to_list leaf → length more ≤ l.tree.length
+    → OnSome leaf (length l.tree.leaves < block_count l.tree.length)
+leaf-fits l mid content more None at fed completed fits = tt
+leaf-fits l mid content more (Some x) at fed completed fits =
+    let count : length (complete_nodes mid more 0) ≡ mid.peaks.count = complete-length mid more in
+    let one : length (complete_nodes mid more 0) ≡ length (complete_nodes l.builder content 0) + 1 = ap length completed ∙ length-append (complete_nodes l.builder content 0) (x ∷ []) in
+    let had : length l.tree.leaves ≡ length (complete_nodes l.builder content 0) = ap length at.leaves_are in
+    let bytes : 16384 * mid.peaks.count + mid.filled ≡ length more = fed.at.length_is in
+    let some : 0 < length more = omega (arith, count, one, bytes) in
+    let begun : 0 < mid.filled = fed.started some in
+    omega (arith, count, one, had, bytes, begun, fits)
+
+-- one leaf more, or none
+pub kept-leaf : {N : Type 0} (l q : Leaves N) (mid : RootBuilder) (content more : List ℕ) (leaf : Option (List ℕ)) → IsFedLeaves l content → IsFed mid more
+    → complete_nodes mid more 0 ≡ complete_nodes l.builder content 0 ++ option_to_list leaf
+    → q.builder ≡ mid → q.tree.leaves ≡ l.tree.leaves ++ option_to_list leaf → IsFedLeaves q more
+kept-leaf l q mid content more leaf at fed completed builder leaves = record {
+  fed = subst (λ b. IsFed b more) (sym builder) fed;
+  leaves_are = leaves ∙ ap (λ t. t ++ option_to_list leaf) at.leaves_are ∙ sym completed ∙ ap (λ b. complete_nodes b more 0) (sym builder);
+}
+
+-- so many bytes of what is taken are within the file's length
+pub part-fits : {N : Type 0} (old : Leaves N) (part : List ℕ) (start taken len : ℕ) (room : HasRoom old (length part)) → start + taken ≤ length part → len ≡ old.tree.length
+    → length ((room.content ++ take start part) ++ take taken (take (length part - start) (drop start part))) ≤ len
+part-fits old part start taken len room within same =
+    let whole = ap length (next_part room.content part start taken) ∙ length-append room.content (take (start + taken) part) in
+    let taken-all = length-take-le (start + taken) part within in
+    omega (arith, whole, taken-all, room.fits, same)
+
+-- ---- the end
+
+pub length-leaves : (content : List ℕ) → length (layer_of content 0) ≡ block_count (length content)
+length-leaves content =
+    let n : ℕ = block_count (length content) in
+    let none_more : n + 0 ≡ n = omega arith in
+    length-map-range_with_len (node content 0) 0 (layer_count n 0) ∙ cond-true _ _ _ (le-leb 0 (height n) (omega arith)) ∙ div-one (n + 0) ∙ none_more
+
+-- the last leaf is one of the file's
+pub last-fits : {N : Type 0} (l : Leaves N) (content : List ℕ) (last : Option (List ℕ)) (leaf : List ℕ) → IsFull l content
+    → complete_nodes l.builder content 0 ++ option_to_list last ≡ layer_of content 0 → last ≡ Some leaf → length l.tree.leaves < block_count l.tree.length
+last-fits l content last leaf full nodes is =
+    let all : length (layer_of content 0) ≡ block_count (length content) = length-leaves content in
+    let one : length (layer_of content 0) ≡ length (complete_nodes l.builder content 0) + 1 =
+    ap length (sym nodes) ∙ ap (λ o. length (complete_nodes l.builder content 0 ++ option_to_list o)) is ∙ length-append (complete_nodes l.builder content 0) (leaf ∷ []) in
+    let had : length l.tree.leaves ≡ length (complete_nodes l.builder content 0) = ap length full.fed.leaves_are in
+    let same : block_count (length content) ≡ block_count l.tree.length = ap block_count full.length_is in
+    omega (arith, all, one, had, same)
+
+-- with the last leaf the file's leaves are all there
+pub all-leaves : {N : Type 0} (l : Leaves N) (t : GrownTree) (content : List ℕ) (last : Option (List ℕ)) → IsFull l content
+    → complete_nodes l.builder content 0 ++ option_to_list last ≡ layer_of content 0 → t.leaves ≡ l.tree.leaves ++ option_to_list last → t.leaves ≡ layer_of content 0
+all-leaves l t content last full nodes is = is ∙ ap (λ xs. xs ++ option_to_list last) full.fed.leaves_are ∙ nodes
+
+pub all-there : {N : Type 0} (l : Leaves N) (t : GrownTree) (content : List ℕ) (last : Option (List ℕ)) → IsFull l content
+    → complete_nodes l.builder content 0 ++ option_to_list last ≡ layer_of content 0 → t.leaves ≡ l.tree.leaves ++ option_to_list last → t.length ≡ l.tree.length
+    → length t.leaves ≡ block_count t.length
+all-there l t content last full nodes is same =
+    ap length (all-leaves l t content last full nodes is) ∙ length-leaves content ∙ ap block_count (full.length_is ∙ sym same)
+
+-- a source of the right length was read
+module _ {N : Type 0} (e : TreeEntry) (source source' : SourceSeen) (before after : Leaves N) (read : TookAll Pushes source source' e.length before after e.length)
+    (nothing : IsFedLeaves before []) (length_is : before.tree.length ≡ e.length) (some : 0 < e.length) (works : HasRefused after → ⊥) where
+  pub full : IsFull after read.bytes
+  full = elim read.taken.fed [
+    | inl refused ↦ absurd (works refused)
+    | inr fed ↦ record {
+      fed = fed [] nothing;
+      length_is = read.count_is ∙ sym length_is ∙ sym read.taken.same_length;
+      some = omega (arith, read.count_is, some);
+    }
+  ]
+
+  pub found : (t : Option GrownTree) → ((content : List ℕ) → IsFull after content → Ends after e.root content t) → ReadsLeaves e source.left (option_map (λ (x : GrownTree). x.leaves) t)
+  found (Some t) ends =
+      let end = ends read.bytes full in (
+        read.bytes,
+        λ known is. all_given source source' read.bytes known read.gave read.ended is,
+        record { length_is = read.count_is; root_is = sym end.0 },
+        end.2,
+      )
+  found None ends = (
+    read.bytes,
+    λ known is. all_given source source' read.bytes known read.gave read.ended is,
+    λ fits. ends read.bytes full (sym fits.root_is),
+  )

@@ -1,0 +1,14 @@
+use Rattle.std.proofs.Common.{◌≡◌, ◌⊎◌, ◌≤◌, ◌-◌, ◌++◌, ℕ, List, length, take}
+use Rattle.seeding.specs.Leaves.{HasRefused, IsFedLeaves}
+use Rattle.seeding.proofs.leaves.LeavesTaker.take.Given as goal
+
+abbrev pub invariant-parts : goal.invariant-parts
+invariant-parts g l = record {
+  within : l.start ≤ length l.part;
+  same_length : l.self.tree.length ≡ l.fn.self.tree.length;
+  again : HasRefused l.fn.self → HasRefused l.self;
+  fed : HasRefused l.self ⊎ ((file : List ℕ) → IsFedLeaves l.fn.self file → IsFedLeaves l.self (file ++ take l.start l.part));
+}
+
+abbrev pub decreases-parts : goal.decreases-parts
+decreases-parts g l = length l.initial.part - l.start
