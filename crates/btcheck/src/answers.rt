@@ -13,7 +13,6 @@ ghost use Rattle.drafts.specs.Written.{value_of};
 ghost use Rattle.session.specs.Fresh.{IsFresh};
 ghost use Rattle.btcheck.specs.Answers.{IsChecked, IsReplayed, answer_status};
 
-use crate::command::{Convert, Create};
 use benc::memory::MemSink;
 use benc::{Sink, Source};
 use checker::{

@@ -1,12 +1,12 @@
 //! What each command does, on real files.
 use crate::answers;
-use crate::command::{Action, Convert, Create, Replay};
 use crate::folder::Folder;
 use crate::places::{Places, all_bytes};
 use crate::streams::hold_closed_streams;
 use crate::torrent_file::read_torrent;
 use benc::{FromRead, FromWrite, Sink};
 use checker::Fault;
+use command_line::command::{Action, Convert, Create, Replay};
 use metainfo::{Draft, Torrent};
 use progress::{Cleared, Counted, Progress};
 use std::fs::File;

@@ -1,0 +1,13 @@
+//! The command line of `btcheck`: what its arguments ask for.
+#![tactic(auto)]
+
+pub mod command;
+
+mod arguments;
+mod definition;
+mod explaining;
+mod finding;
+mod help;
+
+pub use arguments::action;
+pub use explaining::{ExplainFault, explain};
