@@ -14,7 +14,7 @@ use Rattle.std.proofs.lemmas.Fmt.{decimal_is_IsNumeral, first_decimal, decimal_d
 use Rattle.benc.proofs.Turns.{is_other}
 use Rattle.benc.specs.Value.{Bencode, int, text, list, dict, Items, no_items, item, Pairs, no_pairs, pair}
 use Rattle.benc.specs.Spelling.{string, IsAbove, Spelled, SpelledItems, SpelledPairs}
-use Rattle.benc.specs.Parser.{◌>>=◌, Reads, Failed, begun_at, items_at, pairs_at, value_at}
+use Rattle.benc.specs.Parser.{◌>>=◌, Parsed, Failed, begun_at, items_at, pairs_at, value_at}
 use Rattle.benc.specs.declared.fault.FaultKind.TheVariants.{KeyOrder}
 use Rattle.benc.proofs.Values.{value_integer, value_items, value_pairs, value_text}
 use Rattle.benc.specs.Digits.{is_digit, digits_of_front, after_digits}
@@ -117,21 +117,21 @@ spelled_head room (text t) b s =
     let h = digits_head (decimal (length t)) (58 ∷ t) numeral.0.1 numeral.0.0 in
     (h.0, h.1, s.1 ∙ h.2, λ e. omega arith)
 
-items_stop_at : (p : List ℕ → Reads Bencode) (n : ℕ) (b rest : List ℕ) → 0 < n → b ≡ 101 ∷ rest → items_at p n b ≡ Ok (no_items, rest)
+items_stop_at : (p : List ℕ → Parsed Bencode) (n : ℕ) (b rest : List ℕ) → 0 < n → b ≡ 101 ∷ rest → items_at p n b ≡ Ok (no_items, rest)
 unfolding items_at
 items_stop_at p zero b rest h e = absurd (omega arith)
 items_stop_at p (suc n) b rest h e = rw e refl
 
-items_step_at : (p : List ℕ → Reads Bencode) (n c : ℕ) (b t rest : List ℕ) (v : Bencode) (vs : Items) (end : List ℕ) → b ≡ c ∷ t → c ≢ 101 → p b ≡ Ok (v, rest) → items_at p n rest ≡ Ok (vs, end) → items_at p (suc n) b ≡ Ok (item v vs, end)
+items_step_at : (p : List ℕ → Parsed Bencode) (n c : ℕ) (b t rest : List ℕ) (v : Bencode) (vs : Items) (end : List ℕ) → b ≡ c ∷ t → c ≢ 101 → p b ≡ Ok (v, rest) → items_at p n rest ≡ Ok (vs, end) → items_at p (suc n) b ≡ Ok (item v vs, end)
 unfolding items_at
 items_step_at p n c b t rest v vs end e ne first more = ap (items_at p (suc n)) e ∙ rw (is_other c 101 ne, ← e, first, more) refl
 
-pairs_stop_at : (p : List ℕ → Reads Bencode) (n : ℕ) (before : Option (List ℕ)) (b rest : List ℕ) → 0 < n → b ≡ 101 ∷ rest → pairs_at p n before b ≡ Ok (no_pairs, rest)
+pairs_stop_at : (p : List ℕ → Parsed Bencode) (n : ℕ) (before : Option (List ℕ)) (b rest : List ℕ) → 0 < n → b ≡ 101 ∷ rest → pairs_at p n before b ≡ Ok (no_pairs, rest)
 unfolding pairs_at
 pairs_stop_at p zero before b rest h e = absurd (omega arith)
 pairs_stop_at p (suc n) before b rest h e = rw e refl
 
-pairs_step_at : (p : List ℕ → Reads Bencode) (n c : ℕ) (before : Option (List ℕ)) (b t k behind rest : List ℕ) (v : Bencode) (ps : Pairs) (end : List ℕ) → b ≡ c ∷ t → c ≢ 101 → key_at before b ≡ Ok (k, behind) → p behind ≡ Ok (v, rest)
+pairs_step_at : (p : List ℕ → Parsed Bencode) (n c : ℕ) (before : Option (List ℕ)) (b t k behind rest : List ℕ) (v : Bencode) (ps : Pairs) (end : List ℕ) → b ≡ c ∷ t → c ≢ 101 → key_at before b ≡ Ok (k, behind) → p behind ≡ Ok (v, rest)
     → pairs_at p n (Some k) rest ≡ Ok (ps, end) → pairs_at p (suc n) before b ≡ Ok (pair k v ps, end)
 unfolding pairs_at
 pairs_step_at p n c before b t k behind rest v ps end e ne key first more =

@@ -11,7 +11,7 @@ use Rattle.benc.specs.Digits.{is_digit, digits_of_front, after_digits}
 use Rattle.benc.specs.Items.{integer_of, integer_at, string_of, string_at, in_order, key_at}
 use Rattle.benc.specs.Fails.{Due, a_value, a_value_or_end, a_key_or_end, Level, in_list, in_dict, at_value, last_key, Begun, Stops}
 use Rattle.benc.proofs.Scanned.{fault_of, value_fault, unless_end, item_fault, table_is}
-use Rattle.benc.specs.Parser.{◌>>=◌, Reads, Failed, begun_at, items_at, pairs_at, value_with, value_at}
+use Rattle.benc.specs.Parser.{◌>>=◌, Parsed, Failed, begun_at, items_at, pairs_at, value_with, value_at}
 use Rattle.benc.proofs.Sound.{Takes, began, value_takes, key_takes}
 
 -- at the item that is due, or in a container that is open there
@@ -48,7 +48,7 @@ in_items : (room : ℕ) (c : ℕ) (bytes : List ℕ) (e : Failed) → eqb c 101 
 in_items room c bytes e m (inl p) = inl (p.0, rw m p.1)
 in_items room c bytes e m (inr p) = inr p
 
-module _ (room : ℕ) (read : List ℕ → Reads Bencode) (sound : (b : List ℕ) (x : Bencode × List ℕ) → read b ≡ Ok x → Takes (Spelled room) b x.0 x.1) (shorter : (b : List ℕ) (x : Bencode × List ℕ) → read b ≡ Ok x → length x.1 < length b)
+module _ (room : ℕ) (read : List ℕ → Parsed Bencode) (sound : (b : List ℕ) (x : Bencode × List ℕ) → read b ≡ Ok x → Takes (Spelled room) b x.0 x.1) (shorter : (b : List ℕ) (x : Bencode × List ℕ) → read b ≡ Ok x → length x.1 < length b)
     (stops : (b : List ℕ) (e : Failed) → read b ≡ Err e → Further room a_value b e) where
   items_stop : (n : ℕ) (bytes : List ℕ) (e : Failed) → length bytes ≤ n → items_at read n bytes ≡ Err e → ItemsStop room bytes e
   unfolding items_at
@@ -58,7 +58,7 @@ module _ (room : ℕ) (read : List ℕ → Reads Bencode) (sound : (b : List ℕ
   items_stop (suc n) (c ∷ bytes) e le h = by_mark (λ b d l g. items_stop n b d l g) (eqb c 101) refl h
     where
       by_mark : ((b : List ℕ) (d : Failed) → length b ≤ n → items_at read n b ≡ Err d → ItemsStop room b d) → (m : Bool) → eqb c 101 ≡ m
-          → cond {A = Reads Items} m (Ok (no_items, bytes)) (read (c ∷ bytes) >>= λ y. items_at read n y.1 >>= λ z. Ok (item y.0 z.0, z.1)) ≡ Err e → ItemsStop room (c ∷ bytes) e
+          → cond {A = Parsed Items} m (Ok (no_items, bytes)) (read (c ∷ bytes) >>= λ y. items_at read n y.1 >>= λ z. Ok (item y.0 z.0, z.1)) ≡ Err e → ItemsStop room (c ∷ bytes) e
       by_mark again true m f = absurd cc
       by_mark again false m f =
           elim (bind_err (read (c ∷ bytes)) (λ y. items_at read n y.1 >>= λ z. Ok (item y.0 z.0, z.1)) e f) [
@@ -93,7 +93,7 @@ PairFurther room last rest e =
 abbrev PairsStop : ℕ → Option (List ℕ) → List ℕ → Failed → Type 0
 PairsStop room before bytes e = (ps : Pairs) × (inner rest : List ℕ) × (bytes ≡ inner ++ rest) × SpelledPairs room before ps inner × PairFurther room (last_key before ps) rest e
 
-module _ (room : ℕ) (read : List ℕ → Reads Bencode) (sound : (b : List ℕ) (x : Bencode × List ℕ) → read b ≡ Ok x → Takes (Spelled room) b x.0 x.1) (shorter : (b : List ℕ) (x : Bencode × List ℕ) → read b ≡ Ok x → length x.1 < length b)
+module _ (room : ℕ) (read : List ℕ → Parsed Bencode) (sound : (b : List ℕ) (x : Bencode × List ℕ) → read b ≡ Ok x → Takes (Spelled room) b x.0 x.1) (shorter : (b : List ℕ) (x : Bencode × List ℕ) → read b ≡ Ok x → length x.1 < length b)
     (stops : (b : List ℕ) (e : Failed) → read b ≡ Err e → Further room a_value b e) where
   pairs_stop : (n : ℕ) (before : Option (List ℕ)) (bytes : List ℕ) (e : Failed) → length bytes ≤ n → pairs_at read n before bytes ≡ Err e → PairsStop room before bytes e
   unfolding pairs_at
@@ -122,7 +122,7 @@ module _ (room : ℕ) (read : List ℕ → Reads Bencode) (sound : (b : List ℕ
           ]
 
       by_mark : ((k b : List ℕ) (d : Failed) → length b ≤ n → pairs_at read n (Some k) b ≡ Err d → PairsStop room (Some k) b d) → (m : Bool) → eqb c 101 ≡ m
-          → cond {A = Reads Pairs} m (Ok (no_pairs, bytes)) (begun_at (c ∷ bytes) (key_at before (c ∷ bytes)) >>= λ k. read k.1 >>= λ y. pairs_at read n (Some k.0) y.1 >>= λ z. Ok (pair k.0 y.0 z.0, z.1)) ≡ Err e → PairsStop room before (c ∷ bytes) e
+          → cond {A = Parsed Pairs} m (Ok (no_pairs, bytes)) (begun_at (c ∷ bytes) (key_at before (c ∷ bytes)) >>= λ k. read k.1 >>= λ y. pairs_at read n (Some k.0) y.1 >>= λ z. Ok (pair k.0 y.0 z.0, z.1)) ≡ Err e → PairsStop room before (c ∷ bytes) e
       by_mark again true m f = absurd cc
       by_mark again false m f =
           elim (bind_err (begun_at (c ∷ bytes) (key_at before (c ∷ bytes))) (λ k. read k.1 >>= λ y. pairs_at read n (Some k.0) y.1 >>= λ z. Ok (pair k.0 y.0 z.0, z.1)) e f) [
@@ -171,7 +171,7 @@ pick_digit p q r s a t b d i j k m = rw (i, j, k, m) refl
 pick_last : (p q r s : Bool) (a t b d : Option FaultKind) → p ≡ false → q ≡ false → r ≡ false → s ≡ false → cond p a (cond (q || r) t (cond s b d)) ≡ d
 pick_last p q r s a t b d i j k m = rw (i, j, k, m) refl
 
-module _ (room : ℕ) (ls : List ℕ → List ℕ → Reads Items) (ds : List ℕ → List ℕ → Reads Pairs)
+module _ (room : ℕ) (ls : List ℕ → List ℕ → Parsed Items) (ds : List ℕ → List ℕ → Parsed Pairs)
     (list_stop : (c : ℕ) (b : List ℕ) (e : Failed) → c ≡ 108 → ls (c ∷ b) b ≡ Err e → Further room a_value (c ∷ b) e)
     (dict_stop : (c : ℕ) (b : List ℕ) (e : Failed) → c ≡ 100 → ds (c ∷ b) b ≡ Err e → Further room a_value (c ∷ b) e) where
   level_stops : (bytes : List ℕ) (e : Failed) → value_with ls ds bytes ≡ Err e → Further room a_value bytes e
@@ -179,24 +179,24 @@ module _ (room : ℕ) (ls : List ℕ → List ℕ → Reads Items) (ds : List �
   level_stops (c ∷ bytes) e h = by_i (eqb c 105) refl h
     where
       by_digit : (m : Bool) → is_digit c ≡ m → eqb c 105 ≡ false → eqb c 108 ≡ false → eqb c 100 ≡ false
-          → cond {A = Reads Bencode} m (begun_at (c ∷ bytes) (string_at (c ∷ bytes)) >>= λ y. Ok (text y.0, y.1)) (Err (BadStart, c ∷ bytes)) ≡ Err e → Further room a_value (c ∷ bytes) e
+          → cond {A = Parsed Bencode} m (begun_at (c ∷ bytes) (string_at (c ∷ bytes)) >>= λ y. Ok (text y.0, y.1)) (Err (BadStart, c ∷ bytes)) ≡ Err e → Further room a_value (c ∷ bytes) e
       by_digit false m i l d f = subst (λ x. Further room a_value (c ∷ bytes) x) (err_of {A = Bencode × List ℕ} (BadStart, c ∷ bytes) e f) (inl (refl, pick_last (eqb c 105) (eqb c 108) (eqb c 100) (is_digit c) _ _ _ _ i l d m))
       by_digit true m i l d f =
           let b = began_err (c ∷ bytes) (string_at (c ∷ bytes)) (λ y. (text y.0, y.1)) e f in
           subst (λ x. Further room a_value (c ∷ bytes) x) b.2 (inl (refl, pick_digit (eqb c 105) (eqb c 108) (eqb c 100) (is_digit c) _ _ _ _ i l d m ∙ ap fault_of b.1))
 
       by_d : (m : Bool) → eqb c 100 ≡ m → eqb c 105 ≡ false → eqb c 108 ≡ false
-          → cond {A = Reads Bencode} m (ds (c ∷ bytes) bytes >>= λ y. Ok (dict y.0, y.1)) (cond (is_digit c) (begun_at (c ∷ bytes) (string_at (c ∷ bytes)) >>= λ y. Ok (text y.0, y.1)) (Err (BadStart, c ∷ bytes))) ≡ Err e → Further room a_value (c ∷ bytes) e
+          → cond {A = Parsed Bencode} m (ds (c ∷ bytes) bytes >>= λ y. Ok (dict y.0, y.1)) (cond (is_digit c) (begun_at (c ∷ bytes) (string_at (c ∷ bytes)) >>= λ y. Ok (text y.0, y.1)) (Err (BadStart, c ∷ bytes))) ≡ Err e → Further room a_value (c ∷ bytes) e
       by_d true m i l f = dict_stop c bytes e (eqb-true c 100 m) (mapped_err (ds (c ∷ bytes) bytes) (λ y. (dict y.0, y.1)) e f)
       by_d false m i l f = by_digit (is_digit c) refl i l m f
 
       by_l : (m : Bool) → eqb c 108 ≡ m → eqb c 105 ≡ false
-          → cond {A = Reads Bencode} m (ls (c ∷ bytes) bytes >>= λ y. Ok (list y.0, y.1)) (cond (eqb c 100) (ds (c ∷ bytes) bytes >>= λ y. Ok (dict y.0, y.1)) (cond (is_digit c) (begun_at (c ∷ bytes) (string_at (c ∷ bytes)) >>= λ y. Ok (text y.0, y.1)) (Err (BadStart, c ∷ bytes)))) ≡ Err e → Further room a_value (c ∷ bytes) e
+          → cond {A = Parsed Bencode} m (ls (c ∷ bytes) bytes >>= λ y. Ok (list y.0, y.1)) (cond (eqb c 100) (ds (c ∷ bytes) bytes >>= λ y. Ok (dict y.0, y.1)) (cond (is_digit c) (begun_at (c ∷ bytes) (string_at (c ∷ bytes)) >>= λ y. Ok (text y.0, y.1)) (Err (BadStart, c ∷ bytes)))) ≡ Err e → Further room a_value (c ∷ bytes) e
       by_l true m i f = list_stop c bytes e (eqb-true c 108 m) (mapped_err (ls (c ∷ bytes) bytes) (λ y. (list y.0, y.1)) e f)
       by_l false m i f = by_d (eqb c 100) refl i m f
 
       by_i : (m : Bool) → eqb c 105 ≡ m
-          → cond {A = Reads Bencode} m (begun_at (c ∷ bytes) (integer_at bytes) >>= λ y. Ok (int y.0, y.1)) (cond (eqb c 108) (ls (c ∷ bytes) bytes >>= λ y. Ok (list y.0, y.1)) (cond (eqb c 100) (ds (c ∷ bytes) bytes >>= λ y. Ok (dict y.0, y.1)) (cond (is_digit c) (begun_at (c ∷ bytes) (string_at (c ∷ bytes)) >>= λ y. Ok (text y.0, y.1)) (Err (BadStart, c ∷ bytes))))) ≡ Err e → Further room a_value (c ∷ bytes) e
+          → cond {A = Parsed Bencode} m (begun_at (c ∷ bytes) (integer_at bytes) >>= λ y. Ok (int y.0, y.1)) (cond (eqb c 108) (ls (c ∷ bytes) bytes >>= λ y. Ok (list y.0, y.1)) (cond (eqb c 100) (ds (c ∷ bytes) bytes >>= λ y. Ok (dict y.0, y.1)) (cond (is_digit c) (begun_at (c ∷ bytes) (string_at (c ∷ bytes)) >>= λ y. Ok (text y.0, y.1)) (Err (BadStart, c ∷ bytes))))) ≡ Err e → Further room a_value (c ∷ bytes) e
       by_i true m f =
           let b = began_err (c ∷ bytes) (integer_at bytes) (λ y. (int y.0, y.1)) e f in
           subst (λ x. Further room a_value (c ∷ bytes) x) b.2 (inl (refl, rw m (ap fault_of b.1)))

@@ -17,7 +17,7 @@ use Rattle.benc.specs.Spelling.{string, integer, IsAbove, Spelled, SpelledItems,
 use Rattle.benc.specs.Digits.{is_digit, digits_of_front, after_digits, signed, in_range, IsRun}
 use Rattle.benc.specs.Spelling.{is_above}
 use Rattle.benc.specs.Items.{is_plain, integer_of, digits_at, integer_at, string_of, string_at, in_order, key_at}
-use Rattle.benc.specs.Parser.{◌>>=◌, Reads, Failed, begun_at, items_at, pairs_at, value_with, value_at}
+use Rattle.benc.specs.Parser.{◌>>=◌, Parsed, Failed, begun_at, items_at, pairs_at, value_with, value_at}
 use Rattle.benc.proofs.Digits.{digit_high, digit_low, digit_value_is, front_is_run}
 
 -- tests that did not fail
@@ -174,7 +174,7 @@ pub began : {A : Type 0} (start : List ℕ) (r : Result A FaultKind) (x : A) →
 began start (Ok y) x e = ap (λ z. Ok z) (ok_of y x e)
 began start (Err f) x e = absurd cc
 
-module _ (room : ℕ) (read : List ℕ → Reads Bencode) (sound : (b : List ℕ) (x : Bencode × List ℕ) → read b ≡ Ok x → Takes (Spelled room) b x.0 x.1) where
+module _ (room : ℕ) (read : List ℕ → Parsed Bencode) (sound : (b : List ℕ) (x : Bencode × List ℕ) → read b ≡ Ok x → Takes (Spelled room) b x.0 x.1) where
   -- the items, and the end mark behind them
   abbrev Inner : List ℕ → Items × List ℕ → Type 0
   Inner bytes x = (inner : List ℕ) × (bytes ≡ inner ++ 101 ∷ x.1) × SpelledItems room x.0 inner
@@ -225,7 +225,7 @@ module _ (room : ℕ) (read : List ℕ → Reads Bencode) (sound : (b : List ℕ
           )
 
 -- one level: what lists and dictionaries give is given
-module _ (room : ℕ) (ls : List ℕ → List ℕ → Reads Items) (ds : List ℕ → List ℕ → Reads Pairs)
+module _ (room : ℕ) (ls : List ℕ → List ℕ → Parsed Items) (ds : List ℕ → List ℕ → Parsed Pairs)
     (list_sound : (s b : List ℕ) (x : Items × List ℕ) → ls s b ≡ Ok x → (0 < room) × (inner : List ℕ) × (b ≡ inner ++ 101 ∷ x.1) × SpelledItems (room - 1) x.0 inner)
     (dict_sound : (s b : List ℕ) (x : Pairs × List ℕ) → ds s b ≡ Ok x → (0 < room) × (inner : List ℕ) × (b ≡ inner ++ 101 ∷ x.1) × SpelledPairs (room - 1) None x.0 inner) where
   level_takes : (bytes : List ℕ) (x : Bencode × List ℕ) → value_with ls ds bytes ≡ Ok x → Takes (Spelled room) bytes x.0 x.1

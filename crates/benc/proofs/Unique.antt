@@ -11,7 +11,7 @@ use Rattle.benc.specs.Digits.{is_digit}
 use Rattle.benc.specs.Items.{integer_at, string_at, key_at}
 use Rattle.benc.specs.Fails.{Due, Level, in_list, in_dict, at_value, last_key, IsLevel, Begun, Stops, Trails, Fails}
 use Rattle.benc.proofs.Scanned.{fault_of, item_fault, table_is, unless_end, value_fault}
-use Rattle.benc.specs.Parser.{◌>>=◌, Reads, Failed, begun_at, items_at, pairs_at, value_at}
+use Rattle.benc.specs.Parser.{◌>>=◌, Parsed, Failed, begun_at, items_at, pairs_at, value_at}
 use Rattle.benc.proofs.Turns.{is_other}
 use Rattle.benc.proofs.Values.{lists, dicts, value_is, value_items, value_pairs}
 use Rattle.benc.proofs.Sound.{fine, ok_of}
@@ -30,27 +30,27 @@ value_fault_reads : (room : ℕ) (bytes : List ℕ) (k : FaultKind) → value_fa
 value_fault_reads room [] k h = let e : Truncated ≡ k = cc in value_is room [] ∙ ap (λ z. Err (z, [])) e
 value_fault_reads room (c ∷ rest) k h = value_is room (c ∷ rest) ∙ by_i (eqb c 105) h
   where
-    deep : (r : ℕ) (L : List ℕ → List ℕ → Reads Items) → L ≡ lists r → cond (eqb r 0) (Some TooDeep) None ≡ Some k → L (c ∷ rest) rest ≡ Err (k, c ∷ rest)
+    deep : (r : ℕ) (L : List ℕ → List ℕ → Parsed Items) → L ≡ lists r → cond (eqb r 0) (Some TooDeep) None ≡ Some k → L (c ∷ rest) rest ≡ Err (k, c ∷ rest)
     deep zero L e g = let f : TooDeep ≡ k = cc in ap (λ M. M (c ∷ rest) rest) e ∙ ap (λ z. Err (z, c ∷ rest)) f
     deep (suc r) L e g = absurd (has_room (eqb (suc r) 0) k (is_other (suc r) 0 (λ z. omega arith)) g)
 
-    deep_dict : (r : ℕ) (D : List ℕ → List ℕ → Reads Pairs) → D ≡ dicts r → cond (eqb r 0) (Some TooDeep) None ≡ Some k → D (c ∷ rest) rest ≡ Err (k, c ∷ rest)
+    deep_dict : (r : ℕ) (D : List ℕ → List ℕ → Parsed Pairs) → D ≡ dicts r → cond (eqb r 0) (Some TooDeep) None ≡ Some k → D (c ∷ rest) rest ≡ Err (k, c ∷ rest)
     deep_dict zero D e g = let f : TooDeep ≡ k = cc in ap (λ M. M (c ∷ rest) rest) e ∙ ap (λ z. Err (z, c ∷ rest)) f
     deep_dict (suc r) D e g = absurd (has_room (eqb (suc r) 0) k (is_other (suc r) 0 (λ z. omega arith)) g)
 
     by_digit : (m : Bool) → cond m (fault_of (string_at (c ∷ rest))) (Some BadStart) ≡ Some k
-        → cond {A = Reads Bencode} m (begun_at (c ∷ rest) (string_at (c ∷ rest)) >>= λ x. Ok (text x.0, x.1)) (Err (BadStart, c ∷ rest)) ≡ Err (k, c ∷ rest)
+        → cond {A = Parsed Bencode} m (begun_at (c ∷ rest) (string_at (c ∷ rest)) >>= λ x. Ok (text x.0, x.1)) (Err (BadStart, c ∷ rest)) ≡ Err (k, c ∷ rest)
     by_digit true g = ap (λ r. begun_at (c ∷ rest) r >>= λ x. Ok (text x.0, x.1)) (told_fault (string_at (c ∷ rest)) k g)
     by_digit false g = let f : BadStart ≡ k = cc in ap (λ z. Err (z, c ∷ rest)) f
 
     by_mark : (l d m : Bool) → cond (l || d) (cond (eqb room 0) (Some TooDeep) None) (cond m (fault_of (string_at (c ∷ rest))) (Some BadStart)) ≡ Some k
-        → cond {A = Reads Bencode} l (lists room (c ∷ rest) rest >>= λ x. Ok (list x.0, x.1)) (cond d (dicts room (c ∷ rest) rest >>= λ x. Ok (dict x.0, x.1)) (cond m (begun_at (c ∷ rest) (string_at (c ∷ rest)) >>= λ x. Ok (text x.0, x.1)) (Err (BadStart, c ∷ rest)))) ≡ Err (k, c ∷ rest)
+        → cond {A = Parsed Bencode} l (lists room (c ∷ rest) rest >>= λ x. Ok (list x.0, x.1)) (cond d (dicts room (c ∷ rest) rest >>= λ x. Ok (dict x.0, x.1)) (cond m (begun_at (c ∷ rest) (string_at (c ∷ rest)) >>= λ x. Ok (text x.0, x.1)) (Err (BadStart, c ∷ rest)))) ≡ Err (k, c ∷ rest)
     by_mark true d m g = ap (λ r. r >>= λ x. Ok (list x.0, x.1)) (deep room (lists room) refl g)
     by_mark false true m g = ap (λ r. r >>= λ x. Ok (dict x.0, x.1)) (deep_dict room (dicts room) refl g)
     by_mark false false m g = by_digit m g
 
     by_i : (m : Bool) → cond m (fault_of (integer_at rest)) (cond (eqb c 108 || eqb c 100) (cond (eqb room 0) (Some TooDeep) None) (cond (is_digit c) (fault_of (string_at (c ∷ rest))) (Some BadStart))) ≡ Some k
-        → cond {A = Reads Bencode} m (begun_at (c ∷ rest) (integer_at rest) >>= λ x. Ok (int x.0, x.1)) (cond (eqb c 108) (lists room (c ∷ rest) rest >>= λ x. Ok (list x.0, x.1)) (cond (eqb c 100) (dicts room (c ∷ rest) rest >>= λ x. Ok (dict x.0, x.1)) (cond (is_digit c) (begun_at (c ∷ rest) (string_at (c ∷ rest)) >>= λ x. Ok (text x.0, x.1)) (Err (BadStart, c ∷ rest))))) ≡ Err (k, c ∷ rest)
+        → cond {A = Parsed Bencode} m (begun_at (c ∷ rest) (integer_at rest) >>= λ x. Ok (int x.0, x.1)) (cond (eqb c 108) (lists room (c ∷ rest) rest >>= λ x. Ok (list x.0, x.1)) (cond (eqb c 100) (dicts room (c ∷ rest) rest >>= λ x. Ok (dict x.0, x.1)) (cond (is_digit c) (begun_at (c ∷ rest) (string_at (c ∷ rest)) >>= λ x. Ok (text x.0, x.1)) (Err (BadStart, c ∷ rest))))) ≡ Err (k, c ∷ rest)
     by_i true g = ap (λ r. begun_at (c ∷ rest) r >>= λ x. Ok (int x.0, x.1)) (told_fault (integer_at rest) k g)
     by_i false g = by_mark (eqb c 108) (eqb c 100) (is_digit c) g
 
@@ -73,22 +73,22 @@ pairs_fault room zero before (c ∷ t) k le h = absurd (omega arith)
 pairs_fault room (suc n) before (c ∷ t) k le h = let g = end_no (eqb c 101) (fault_of (key_at before (c ∷ t))) k h in rw (g.0, told_fault (key_at before (c ∷ t)) k g.1) refl
 
 -- an item that is not read
-items_no_value : (p : List ℕ → Reads Bencode) (n c : ℕ) (b t : List ℕ) (e : Failed) → length b ≤ n → b ≡ c ∷ t → c ≢ 101 → p b ≡ Err e → items_at p n b ≡ Err e
+items_no_value : (p : List ℕ → Parsed Bencode) (n c : ℕ) (b t : List ℕ) (e : Failed) → length b ≤ n → b ≡ c ∷ t → c ≢ 101 → p b ≡ Err e → items_at p n b ≡ Err e
 unfolding items_at
 items_no_value p zero c b t e le is ne h = absurd (omega (arith, ap length is))
 items_no_value p (suc n) c b t e le is ne h = ap (items_at p (suc n)) is ∙ rw (is_other c 101 ne, ← is, h) refl
 
-items_step_on : (p : List ℕ → Reads Bencode) (n c : ℕ) (b t rest : List ℕ) (v : Bencode) (e : Failed) → b ≡ c ∷ t → c ≢ 101 → p b ≡ Ok (v, rest) → items_at p n rest ≡ Err e → items_at p (suc n) b ≡ Err e
+items_step_on : (p : List ℕ → Parsed Bencode) (n c : ℕ) (b t rest : List ℕ) (v : Bencode) (e : Failed) → b ≡ c ∷ t → c ≢ 101 → p b ≡ Ok (v, rest) → items_at p n rest ≡ Err e → items_at p (suc n) b ≡ Err e
 unfolding items_at
 items_step_on p n c b t rest v e is ne first more = ap (items_at p (suc n)) is ∙ rw (is_other c 101 ne, ← is, first, more) refl
 
-pairs_no_value : (p : List ℕ → Reads Bencode) (n c : ℕ) (before : Option (List ℕ)) (b t k behind : List ℕ) (e : Failed) → length b ≤ n → b ≡ c ∷ t → c ≢ 101 → key_at before b ≡ Ok (k, behind) → p behind ≡ Err e → pairs_at p n before b ≡ Err e
+pairs_no_value : (p : List ℕ → Parsed Bencode) (n c : ℕ) (before : Option (List ℕ)) (b t k behind : List ℕ) (e : Failed) → length b ≤ n → b ≡ c ∷ t → c ≢ 101 → key_at before b ≡ Ok (k, behind) → p behind ≡ Err e → pairs_at p n before b ≡ Err e
 unfolding pairs_at
 pairs_no_value p zero c before b t k behind e le is ne key h = absurd (omega (arith, ap length is))
 pairs_no_value p (suc n) c before b t k behind e le is ne key h =
     let key' = subst (λ x. key_at before x ≡ Ok (k, behind)) is key in ap (pairs_at p (suc n) before) is ∙ rw (is_other c 101 ne, key', h) refl
 
-pairs_step_on : (p : List ℕ → Reads Bencode) (n c : ℕ) (before : Option (List ℕ)) (b t k behind rest : List ℕ) (v : Bencode) (e : Failed) → b ≡ c ∷ t → c ≢ 101 → key_at before b ≡ Ok (k, behind) → p behind ≡ Ok (v, rest)
+pairs_step_on : (p : List ℕ → Parsed Bencode) (n c : ℕ) (before : Option (List ℕ)) (b t k behind rest : List ℕ) (v : Bencode) (e : Failed) → b ≡ c ∷ t → c ≢ 101 → key_at before b ≡ Ok (k, behind) → p behind ≡ Ok (v, rest)
     → pairs_at p n (Some k) rest ≡ Err e → pairs_at p (suc n) before b ≡ Err e
 unfolding pairs_at
 pairs_step_on p n c before b t k behind rest v e is ne key first more =
@@ -196,7 +196,7 @@ stops_reads b kind offset s = ap (value_at 128) s.parts ∙ begun_reads s.levels
 trails_reads : (b : List ℕ) (kind : FaultKind) (offset : ℕ) (t : Trails b kind offset) → value_at 128 b ≡ Ok (t.value, t.rest)
 trails_reads b kind offset t = ap (value_at 128) t.parts ∙ value_again t.value 128 t.front t.rest t.spells
 
-abbrev bad : Failed → Reads Bencode
+abbrev bad : Failed → Parsed Bencode
 bad e = Err e
 
 bad_is : (x y : Failed) → bad x ≡ bad y → x ≡ y

@@ -5,7 +5,7 @@ use Rattle.benc.specs.Value.{int, text, list, dict, Items, Pairs}
 use Rattle.benc.specs.View.{view, pair_view, items_view, pairs_view}
 use Rattle.benc.specs.Digits.{is_digit}
 use Rattle.benc.specs.Items.{integer_at, string_at}
-use Rattle.benc.specs.Parser.{◌>>=◌, Reads, Failed, Stopped, begun_at, items_at, pairs_at, value_at, value_with}
+use Rattle.benc.specs.Parser.{◌>>=◌, Parsed, Failed, Stopped, begun_at, items_at, pairs_at, value_at, value_with}
 use Rattle.benc.specs.declared.fault.FaultKind.TheVariants.{Truncated, BadStart, TooDeep}
 use Rattle.benc.specs.declared.stop.Stop.{Stop}
 use Rattle.benc.specs.declared.stop.Stop.TheVariants as stops
@@ -14,11 +14,11 @@ use Rattle.benc.specs.declared.value.Pair.{Pair}
 use Rattle.benc.proofs.Turns.{is_other}
 
 -- a list and a dictionary, by how many may be open
-abbrev pub lists : ℕ → List ℕ → List ℕ → Reads Items
+abbrev pub lists : ℕ → List ℕ → List ℕ → Parsed Items
 lists zero start rest = Err (TooDeep, start)
 lists (suc room) start rest = items_at (value_at room) (length rest) rest
 
-abbrev pub dicts : ℕ → List ℕ → List ℕ → Reads Pairs
+abbrev pub dicts : ℕ → List ℕ → List ℕ → Parsed Pairs
 dicts zero start rest = Err (TooDeep, start)
 dicts (suc room) start rest = pairs_at (value_at room) (length rest) None rest
 

@@ -53,6 +53,6 @@ key_at before (c ∷ rest) =
     if is_digit c then in_order before (string_at (c ∷ rest)) else Err BadStart
 
 -- what a function of the code returned, seen by view, is what is read
-abbrev pub Told : {X Y E : Type 0} → (X → Y) → Result X E → Result Y E → Type 0
-Told view (Ok x) told = told ≡ Ok (view x)
-Told view (Err e) told = told ≡ Err e
+abbrev pub ReadsAs : {X Y E : Type 0} → (X → Y) → Result X E → Result Y E → Type 0
+ReadsAs view (Ok x) told = told ≡ Ok (view x)
+ReadsAs view (Err e) told = told ≡ Err e

@@ -19,8 +19,8 @@ use Rattle.benc.specs.declared.stop.Stop.TheVariants as stops
 abbrev pub Failed : Type 0
 Failed = FaultKind × List ℕ
 
-abbrev pub Reads : Type 0 → Type 0
-Reads A = Result (A × List ℕ) Failed
+abbrev pub Parsed : Type 0 → Type 0
+Parsed A = Result (A × List ℕ) Failed
 
 infixl 10 ◌>>=◌
 abbrev pub ◌>>=◌ : {A B : Type 0} → Result A Failed → (A → Result B Failed) → Result B Failed
@@ -33,14 +33,14 @@ begun_at start (Ok x) = Ok x
 begun_at start (Err f) = Err (f, start)
 
 -- `items_at read n bytes`: items and the end mark, in at most n turns; the bytes' length is enough
-unfoldable pub items_at : (List ℕ → Reads Bencode) → ℕ → List ℕ → Reads Items
+unfoldable pub items_at : (List ℕ → Parsed Bencode) → ℕ → List ℕ → Parsed Items
 items_at read n [] = Err (Truncated, [])
 items_at read zero (c ∷ rest) = Err (Truncated, [])
 items_at read (suc n) (c ∷ rest) =
     if c == end_mark then Ok (no_items, rest)
     else (read (c ∷ rest) >>= λ x. items_at read n x.1 >>= λ y. Ok (item x.0 y.0, y.1))
 
-unfoldable pub pairs_at : (List ℕ → Reads Bencode) → ℕ → Option (List ℕ) → List ℕ → Reads Pairs
+unfoldable pub pairs_at : (List ℕ → Parsed Bencode) → ℕ → Option (List ℕ) → List ℕ → Parsed Pairs
 pairs_at read n before [] = Err (Truncated, [])
 pairs_at read zero before (c ∷ rest) = Err (Truncated, [])
 pairs_at read (suc n) before (c ∷ rest) =
@@ -49,7 +49,7 @@ pairs_at read (suc n) before (c ∷ rest) =
     >>= λ x. pairs_at read n (Some k.0) x.1 >>= λ y. Ok (pair k.0 x.0 y.0, y.1))
 
 abbrev pub value_with :
-    (List ℕ → List ℕ → Reads Items) → (List ℕ → List ℕ → Reads Pairs) → List ℕ → Reads Bencode
+    (List ℕ → List ℕ → Parsed Items) → (List ℕ → List ℕ → Parsed Pairs) → List ℕ → Parsed Bencode
 value_with items pairs [] = Err (Truncated, [])
 value_with items pairs (c ∷ rest) =
     if c == integer_mark then (begun_at (c ∷ rest) (integer_at rest) >>= λ x. Ok (int x.0, x.1))
@@ -60,17 +60,17 @@ value_with items pairs (c ∷ rest) =
     else Err (BadStart, c ∷ rest))))
 
 -- a value, in which at most `room` lists and dictionaries may be open at once
-unfoldable pub value_at : ℕ → List ℕ → Reads Bencode
+unfoldable pub value_at : ℕ → List ℕ → Parsed Bencode
 value_at zero = value_with (λ start rest. Err (TooDeep, start)) (λ start rest. Err (TooDeep, start))
 value_at (suc room) = value_with
     (λ start rest. items_at (value_at room) (length rest) rest)
     (λ start rest. pairs_at (value_at room) (length rest) None rest)
 
 -- behind the mark of a list, and behind that of a dictionary
-abbrev pub items_behind : ℕ → List ℕ → Reads Items
+abbrev pub items_behind : ℕ → List ℕ → Parsed Items
 items_behind room bytes = items_at (value_at room) (length bytes) bytes
 
-abbrev pub pairs_behind : ℕ → List ℕ → Reads Pairs
+abbrev pub pairs_behind : ℕ → List ℕ → Parsed Pairs
 pairs_behind room bytes = pairs_at (value_at room) (length bytes) None bytes
 
 -- What a function returned, seen by view, is what reading gives, unless memory ran out.
@@ -78,9 +78,9 @@ abbrev pub Stopped : {Y : Type 0} → Stop → Result Y Failed → Type 0
 Stopped (stops.Memory rest) read = Unit {0}
 Stopped (stops.Fault f rest) read = read ≡ Err (f, rest.now)
 
-abbrev pub Gives : {X Y : Type 0} → (X → Y) → Result X Stop → Result Y Failed → Type 0
-Gives view (Ok x) read = read ≡ Ok (view x)
-Gives view (Err e) read = Stopped e read
+abbrev pub ParsesAs : {X Y : Type 0} → (X → Y) → Result X Stop → Result Y Failed → Type 0
+ParsesAs view (Ok x) read = read ≡ Ok (view x)
+ParsesAs view (Err e) read = Stopped e read
 
 -- where memory ran out, the fact holds of what is left from there on
 abbrev pub IfMemory : Stop → (List ℕ → Type 0) → Type 0

@@ -6,7 +6,7 @@ ghost use Rattle.benc.specs.Lookup.{if_key};
 ghost use Rattle.benc.specs.Value.{dict};
 ghost use Rattle.benc.specs.View.{view, items_view, pairs_view};
 ghost use Rattle.benc.specs.Fails.{Reaches};
-ghost use Rattle.benc.specs.Parser.{Gives, GrowsForItem, GrowsForPair, IfMemory, IsSpanOf, items_behind, pairs_behind, value_at};
+ghost use Rattle.benc.specs.Parser.{ParsesAs, GrowsForItem, GrowsForPair, IfMemory, IsSpanOf, items_behind, pairs_behind, value_at};
 
 use crate::fault::FaultKind;
 use crate::scan::{integer, key, split_front, string};
@@ -24,7 +24,7 @@ pub(crate) fn value<'a>(
     room: u32,
     asked: Option<&[u8]>,
 ) -> Result<(Value<'a>, Option<&'a [u8]>, &'a [u8]), Stop<'a>>
-    ensures read { Gives (λ x. (view x.0, x.2.now)) result (value_at room bytes.now) }
+    ensures read { ParsesAs (λ x. (view x.0, x.2.now)) result (value_at room bytes.now) }
     ensures shorter { IfOk result (λ x. length x.2.now < length bytes.now) }
     ensures memory { IfErr result (λ e. IfMemory e (Reaches room bytes.now)) }
     ensures span { IfOk result (λ x. IsSpanOf asked.entry (view x.0) x.1) }
@@ -67,7 +67,7 @@ fn items<'a>(
     bytes: &'a [u8],
     room: u32,
 ) -> Result<(Vec<Value<'a>>, &'a [u8]), Stop<'a>>
-    ensures read { Gives (λ x. (items_view x.0.items, x.1.now)) result
+    ensures read { ParsesAs (λ x. (items_view x.0.items, x.1.now)) result
         (items_behind room bytes.now) }
     ensures shorter { IfOk result (λ x. length x.1.now < length bytes.now) }
     ensures memory { IfErr result (λ e. IfMemory e (GrowsForItem room start.now bytes.now)) }
@@ -100,7 +100,7 @@ fn pairs<'a>(
     room: u32,
     asked: Option<&[u8]>,
 ) -> Result<(Vec<Pair<'a>>, Option<&'a [u8]>, &'a [u8]), Stop<'a>>
-    ensures read { Gives (λ x. (pairs_view x.0.items, x.2.now)) result
+    ensures read { ParsesAs (λ x. (pairs_view x.0.items, x.2.now)) result
         (pairs_behind room bytes.now) }
     ensures shorter { IfOk result (λ x. length x.2.now < length bytes.now) }
     ensures memory { IfErr result (λ e. IfMemory e (GrowsForPair room start.now bytes.now)) }

@@ -8,7 +8,7 @@ ghost use Rattle.std.specs.List.{prefix_len, list_all};
 ghost use Rattle.std.specs.Str.Parse.{digits_value};
 ghost use Rattle.benc.specs.Digits.{is_digit, digits_of_front, after_digits, in_range, signed, IsRun};
 ghost use Rattle.benc.specs.Spelling.{is_above};
-ghost use Rattle.benc.specs.Items.{is_plain, integer_at, integer_of, digits_at, string_at, string_of, key_at, Told};
+ghost use Rattle.benc.specs.Items.{is_plain, integer_at, integer_of, digits_at, string_at, string_of, key_at, ReadsAs};
 
 use crate::fault::FaultKind;
 use std::cmp::Ordering;
@@ -88,7 +88,7 @@ fn signed_number(minus: bool, run: &[u8]) -> Option<i64>
 
 /// An integer, behind its `i`.
 pub(crate) fn integer(bytes: &[u8]) -> Result<(i64, &[u8]), FaultKind>
-    ensures read { Told (λ x. (x.0, x.1.now)) result (integer_at bytes.now) }
+    ensures read { ReadsAs (λ x. (x.0, x.1.now)) result (integer_at bytes.now) }
     ensures fits { IfOk result (λ x. FitsSigned w64 x.0) }
     ensures shorter { IfOk result (λ x. length x.1.now ≤ length bytes.now) }
 {
@@ -100,7 +100,7 @@ pub(crate) fn integer(bytes: &[u8]) -> Result<(i64, &[u8]), FaultKind>
 
 /// An integer, behind its sign.
 fn digits(minus: bool, bytes: &[u8]) -> Result<(i64, &[u8]), FaultKind>
-    ensures read { Told (λ x. (x.0, x.1.now)) result (digits_at minus bytes.now) }
+    ensures read { ReadsAs (λ x. (x.0, x.1.now)) result (digits_at minus bytes.now) }
     ensures fits { IfOk result (λ x. FitsSigned w64 x.0) }
     ensures shorter { IfOk result (λ x. length x.1.now ≤ length bytes.now) }
 {
@@ -119,7 +119,7 @@ fn digits(minus: bool, bytes: &[u8]) -> Result<(i64, &[u8]), FaultKind>
 
 /// A byte string, which begins with a digit.
 pub(crate) fn string(bytes: &[u8]) -> Result<(&[u8], &[u8]), FaultKind>
-    ensures read { Told (λ x. (x.0.now, x.1.now)) result (string_at bytes.now) }
+    ensures read { ReadsAs (λ x. (x.0.now, x.1.now)) result (string_at bytes.now) }
     ensures shorter { IfOk result (λ x. length x.1.now < length bytes.now) }
 {
     let (run, after) = split_digits(bytes);
@@ -141,7 +141,7 @@ pub(crate) fn key<'a>(
     bytes: &'a [u8],
 ) -> Result<(&'a [u8], &'a [u8]), FaultKind>
     ensures read { let last = option_copied before.entry in
-        Told (λ x. (x.0.now, x.1.now)) result (key_at last bytes.now) }
+        ReadsAs (λ x. (x.0.now, x.1.now)) result (key_at last bytes.now) }
     ensures shorter { IfOk result (λ x. length x.1.now < length bytes.now) }
 {
     match bytes {

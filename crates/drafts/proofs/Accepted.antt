@@ -9,7 +9,7 @@ use Rattle.drafts.specs.Outline.{Outline, OutlineFile, IsOutline, IsOutlineFile,
 use Rattle.drafts.specs.Written.{file_tree_of, file_value, walk_of, list_pair, last_pairs, pieces_pair, is_single, info_value, value_of, entries_value, first_length}
 use Rattle.filetree.proofs.Bytes.{true_or_false}
 use Rattle.filetree.specs.Dictionary.{get, under, as_int}
-use Rattle.filetree.specs.FileTree.{Walk, is_symlink, length_at, length_of, lacks_root, root_at, root_of, listed, is_directory, HasBadPath}
+use Rattle.filetree.specs.FileTree.{Walk, is_symlink, length_at, length_of, lacks_root, root_at, stated_root, listed, is_directory, HasBadPath}
 use Rattle.filetree.specs.Tests.{NoneHolds}
 use Rattle.filetree.specs.TreeTests.{shape_rows, file_rows}
 use Rattle.filetree.specs.declared.files.ListedFile.{ListedFile}
@@ -100,7 +100,7 @@ no_link f = elim (true_or_false (nat_lt 0 f.length)) [ inl some ↦ rw some refl
 pub root_is : (f : OutlineFile) → nat_lt 0 f.length ≡ true → length f.root ≡ 32 → root_at (file_value f) ≡ Some f.root
 root_is f some long = rw some (let e : length f.root == 32 ≡ true = grind arith in rw e refl)
 
-root_same : (f : OutlineFile) → (0 < f.length → length f.root ≡ 32) → root_of f.length (file_value f) ≡ (if nat_lt 0 f.length then Some f.root else None)
+root_same : (f : OutlineFile) → (0 < f.length → length f.root ≡ 32) → stated_root f.length (file_value f) ≡ (if nat_lt 0 f.length then Some f.root else None)
 root_same f long =
     elim (true_or_false (nat_lt 0 f.length)) [
       | inl some ↦ root_is_in f some (long (let more : 0 < f.length = grind arith in more)) ∙ sym (ap (λ b. if b then Some f.root else None) some)
@@ -112,7 +112,7 @@ root_same f long =
 
 pub listed_is : (p : ℕ) (f : OutlineFile) → IsOutlineFile p f → listed (walk_of f) ≡ listed_file f
 listed_is p f o =
-    ap (λ n. record { path = f.path; length = n; root = root_of n (file_value f) }) (size_is f o.bound)
+    ap (λ n. record { path = f.path; length = n; root = stated_root n (file_value f) }) (size_is f o.bound)
     ∙ ap (λ (r : Option (List ℕ)). record { path = f.path; length = f.length; root = r }) (root_same f o.root_length)
 
 pub all_listed : (p : ℕ) (fs : List OutlineFile) → AreFiles p fs → map listed (map walk_of fs) ≡ map listed_file fs

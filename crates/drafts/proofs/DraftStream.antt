@@ -23,7 +23,7 @@ use Rattle.filetree.specs.Tests.{NoneHolds}
 use Rattle.opening.proofs.Placing.{pieces_cover}
 use Rattle.opening.specs.PieceLayers.{as_digests}
 use Rattle.opening.specs.Refusals.{hybrid_rows}
-use Rattle.opening.specs.Stream.{DiffersFromFiles, IsMisplaced, IsTooLong, Named, Part, as_path, cuts_in, files_in, is_broken, is_hybrid, length_in, named, named_part, part_of, parts_in, parts_of, some_texts, stream_length, texts_in, the_parts, version1_of}
+use Rattle.opening.specs.Stream.{DiffersFromFiles, IsMisplaced, IsTooLong, Named, Part, as_path, cuts_in, files_in, is_broken, is_hybrid, length_in, named, named_part, entry_part, parts_in, parts_of, some_texts, stream_length, texts_in, the_parts, version1_of}
 use Rattle.pieces.proofs.Cutting.{cut_count_none}
 use Rattle.pieces.specs.Pieces.{IsPieceLength, pieces_of}
 
@@ -50,14 +50,14 @@ some_path (k ∷ ks) some = refl
 path_is : (ks : List (List ℕ)) → ks ≢ [] → as_path (list (texts_value ks)) ≡ Some ks
 path_is ks some = ap (λ o. option_and_then some_texts o) (texts_are ks) ∙ some_path ks some
 
-file_part_is : (p : ℕ) (f : OutlineFile) → IsOutlineFile p f → part_of (entry_value f) ≡ file_part f
+file_part_is : (p : ℕ) (f : OutlineFile) → IsOutlineFile p f → entry_part (entry_value f) ≡ file_part f
 file_part_is p f o =
     let e : nat_le f.length (2 ^ 46) ≡ true = let bound = o.bound in grind arith in
     let size : length_at (entry_value f) ≡ Some f.length = rw e refl in
     ap (λ (s : Option ℕ). record { is_pad = false; length = s; path = as_path (list (texts_value f.path)) }) size
     ∙ ap (λ (x : Option (List (List ℕ))). record { is_pad = false; length = Some f.length; path = x }) (path_is f.path o.path.some)
 
-pad_part_is : (n : ℕ) → n ≤ 2 ^ 46 → part_of (pad_value n) ≡ pad_part n
+pad_part_is : (n : ℕ) → n ≤ 2 ^ 46 → entry_part (pad_value n) ≡ pad_part n
 pad_part_is n bound =
     let e : nat_le n (2 ^ 46) ≡ true = grind arith in
     let size : length_at (pad_value n) ≡ Some n = rw e refl in
@@ -73,11 +73,11 @@ parts_are p (f ∷ fs) legal files =
     let first = file_part_is p f (files 0 f refl) in
     elim (true_or_false (needs_pad p f fs)) [
       | inl pad ↦
-          rw pad (ap (λ o. option_and_then (λ (xs : List Part). Some (part_of (entry_value f) ∷ xs)) (option_and_then (λ (xs : List Part). Some (part_of (pad_value (gap p f.length)) ∷ xs)) o)) rest
-          ∙ ap (λ (x : Part). Some (x ∷ part_of (pad_value (gap p f.length)) ∷ draft_parts p fs)) first
+          rw pad (ap (λ o. option_and_then (λ (xs : List Part). Some (entry_part (entry_value f) ∷ xs)) (option_and_then (λ (xs : List Part). Some (entry_part (pad_value (gap p f.length)) ∷ xs)) o)) rest
+          ∙ ap (λ (x : Part). Some (x ∷ entry_part (pad_value (gap p f.length)) ∷ draft_parts p fs)) first
           ∙ ap (λ (x : Part). Some (file_part f ∷ x ∷ draft_parts p fs)) (pad_part_is (gap p f.length) (gap_bound p f.length legal)))
       | inr none ↦
-          rw none (ap (λ o. option_and_then (λ (xs : List Part). Some (part_of (entry_value f) ∷ xs)) o) rest ∙ ap (λ (x : Part). Some (x ∷ draft_parts p fs)) first)
+          rw none (ap (λ o. option_and_then (λ (xs : List Part). Some (entry_part (entry_value f) ∷ xs)) o) rest ∙ ap (λ (x : Part). Some (x ∷ draft_parts p fs)) first)
     ]
 
 -- ---- HybridFiles

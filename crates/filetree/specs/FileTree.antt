@@ -116,13 +116,13 @@ root_at file = option_and_then as_root (get (codes "pieces root") file)
 abbrev pub lacks_root : Bencode → Bool
 lacks_root file = nat_lt 0 (length_of file) && is_none (root_at file)
 
-abbrev pub root_of : ℕ → Bencode → Option (List ℕ)
-root_of n file = if nat_lt 0 n then root_at file else None
+abbrev pub stated_root : ℕ → Bencode → Option (List ℕ)
+stated_root n file = if nat_lt 0 n then root_at file else None
 
 -- the file at the end of a walk: its path, its length, and its root if it is not empty
 abbrev pub listed : Walk → ListedFile
 listed w = record {
   path = w.path;
   length = length_of w.file;
-  root = root_of (length_of w.file) w.file;
+  root = stated_root (length_of w.file) w.file;
 }

@@ -10,8 +10,8 @@ use Rattle.filetree.specs.declared.refusal.Refusal.{Refusal}
 use Rattle.filetree.specs.declared.refusal.Refusal.TheVariants as refusals
 use Rattle.filetree.specs.declared.walk.Found.{Found}
 
-abbrev pub found : Found → Walk
-found f = record { path = f.path; file = view f.file.now }
+abbrev pub walk_of : Found → Walk
+walk_of f = record { path = f.path; file = view f.file.now }
 
 -- these are the pairs of a folder at this path, in a spelled value in which at most 128 lists and
 -- dictionaries are open at once
@@ -43,7 +43,7 @@ Adds bad path ws old new (Err r) = r ≢ refusals.NoMemory → (r ≡ refusals.P
 abbrev pub AddsWalks : Pairs → List (List ℕ) → Vec Found Global → Vec Found Global
     → Result Unit Refusal → Type 0
 AddsWalks ps path old new result =
-    Adds (HasBadPath ps) path (walks ps) (map found old.items) (map found new.items) result
+    Adds (HasBadPath ps) path (walks ps) (map walk_of old.items) (map walk_of new.items) result
 
 -- the walks and the bad components of one pair
 abbrev pub walks_at : List ℕ × Bencode → List Walk
@@ -57,7 +57,7 @@ HasBadPathAt p = (is_nil p.0 ≡ false) × (IsBadComponent p.0 ⊎ HasBadPathIn 
 abbrev pub AddsWalksAt : List ℕ × Bencode → List (List ℕ) → Vec Found Global → Vec Found Global
     → Result Unit Refusal → Type 0
 AddsWalksAt p path old new result =
-    Adds (HasBadPathAt p) path (walks_at p) (map found old.items) (map found new.items) result
+    Adds (HasBadPathAt p) path (walks_at p) (map walk_of old.items) (map walk_of new.items) result
 
 -- some pairs of a directory were walked, and the rest is left
 pub record IsOnWay (path : List (List ℕ)) (all rest : Pairs) (old new : List Walk) : Type 0 where

@@ -7,7 +7,7 @@ ghost use Rattle.benc.specs.View.{view};
 ghost use Rattle.filetree.specs.FileTree.{has_attribute, is_symlink, length_at, lacks_root, listed, root_at};
 ghost use Rattle.filetree.specs.TreeTests.{file_rows};
 ghost use Rattle.filetree.specs.Tests.{Passes, Tests, UnlessNoMemory};
-ghost use Rattle.filetree.specs.Walked.{found};
+ghost use Rattle.filetree.specs.Walked.{walk_of};
 
 use crate::path::Path;
 use crate::refusal::Refusal;
@@ -64,7 +64,7 @@ fn root(file: &Value<'_>) -> Option<Hash>
 
 /// Tests the files: symlinks, lengths, roots.
 pub(crate) fn test(files: &[Found<'_, '_>]) -> Result<(), Refusal>
-    ensures { Passes (file_rows (map found files.now)) (λ _. Unit {0}) result }
+    ensures { Passes (file_rows (map walk_of files.now)) (λ _. Unit {0}) result }
 {
     test_symlinks(files)?;
     test_lengths(files)?;
@@ -73,7 +73,7 @@ pub(crate) fn test(files: &[Found<'_, '_>]) -> Result<(), Refusal>
 
 fn test_symlinks(files: &[Found<'_, '_>]) -> Result<(), Refusal>
     ensures { Tests (list_any
-        (λ w. is_symlink w.file) (map found files.now)) Refusal.Symlink result }
+        (λ w. is_symlink w.file) (map walk_of files.now)) Refusal.Symlink result }
 {
     'files: for file in files {
         if has_attribute(file.file, SYMLINK) {
@@ -85,7 +85,7 @@ fn test_symlinks(files: &[Found<'_, '_>]) -> Result<(), Refusal>
 
 fn test_lengths(files: &[Found<'_, '_>]) -> Result<(), Refusal>
     ensures { Tests (list_any
-        (λ w. is_none (length_at w.file)) (map found files.now)) Refusal.Length result }
+        (λ w. is_none (length_at w.file)) (map walk_of files.now)) Refusal.Length result }
 {
     'files: for file in files {
         if length(file.file).is_none() {
@@ -96,7 +96,8 @@ fn test_lengths(files: &[Found<'_, '_>]) -> Result<(), Refusal>
 }
 
 fn test_roots(files: &[Found<'_, '_>]) -> Result<(), Refusal>
-    ensures { Tests (list_any (λ w. lacks_root w.file) (map found files.now)) Refusal.Root result }
+    ensures { Tests (list_any (λ w. lacks_root w.file) (map walk_of files.now))
+        Refusal.Root result }
 {
     'files: for file in files {
         if lacks_root(file.file) {
@@ -118,7 +119,7 @@ pub(crate) fn list<'a>(
     alloc: Global,
     files: Vec<Found<'_, 'a>>,
 ) -> Result<Vec<ListedFile<'a>>, Refusal>
-    ensures { UnlessNoMemory result (λ fs. fs.items ≡ map listed (map found files.entry.items)) }
+    ensures { UnlessNoMemory result (λ fs. fs.items ≡ map listed (map walk_of files.entry.items)) }
 {
     let mut listed = Vec::with_capacity(alloc, files.len())?;
     'files: for file in files {
@@ -128,7 +129,7 @@ pub(crate) fn list<'a>(
 }
 
 fn listed_file<'a>(file: Found<'_, 'a>) -> ListedFile<'a>
-    ensures { result ≡ listed (found file.entry) }
+    ensures { result ≡ listed (walk_of file.entry) }
 {
     let Found { path, file } = file;
     let length = length(file).unwrap_or(0);

@@ -15,16 +15,16 @@ use Rattle.std.proofs.lemmas.List.{get_or_append_left, get_or-append_right, get_
 use Rattle.node_maps.specs.Digest.{Hash}
 use Rattle.node_maps.specs.Places.{IsTreePlace}
 use Rattle.node_maps.specs.Known.{Marked, place_cmp, look, within, tabulate}
-use Rattle.node_maps.specs.Flat.{Row, cells, row_cells, HasCell, HasTreeCells, marks_below, marked_leaves}
+use Rattle.node_maps.specs.Flat.{FlatRow, cells, row_cells, HasCell, HasTreeCells, marks_below, marked_leaves}
 use Rattle.node_maps.proofs.Known.{nat_equal, same_known, look-within, within-at}
 
 -- ---- rows
 
 -- a hash stands in a cell
-pub cell_there : (rows : List Row) (l i : ℕ) (v : Hash) → cells rows l i ≡ Some v → HasCell rows l i
+pub cell_there : (rows : List FlatRow) (l i : ℕ) (v : Hash) → cells rows l i ≡ Some v → HasCell rows l i
 cell_there rows l i v e = row_there (slice_get rows l) e
   where
-    row_there : (o : Option Row) → option_and_then (λ (row : Row). option_and_then (λ (o : Option Hash). o) (slice_get row.items i)) o ≡ Some v → i < unwrap_or (option_map (λ (row : Row). length row.items) o) 0
+    row_there : (o : Option FlatRow) → option_and_then (λ (row : FlatRow). option_and_then (λ (o : Option Hash). o) (slice_get row.items i)) o ≡ Some v → i < unwrap_or (option_map (λ (row : FlatRow). length row.items) o) 0
     row_there None e = absurd (none-some v e)
     row_there (Some row) e = elim (cases_lt i (length row.items)) [
       | inl low ↦ low
@@ -32,7 +32,7 @@ cell_there rows l i v e = row_there (slice_get rows l) e
     ]
 
 -- what is known of cells that are all in the tree is what they hold
-pub look-cells : (h : ℕ) (rows : List Row) → HasTreeCells h rows → (l i : ℕ) → look (tabulate h (within h (cells rows))) l i ≡ cells rows l i
+pub look-cells : (h : ℕ) (rows : List FlatRow) → HasTreeCells h rows → (l i : ℕ) → look (tabulate h (within h (cells rows))) l i ≡ cells rows l i
 look-cells h rows in_tree l i = look-within h (cells rows) l i ∙ by_cell (cells rows l i) refl
   where
     none_within : cells rows l i ≡ None → (b : Bool) → cond b (cells rows l i) None ≡ cells rows l i
@@ -44,11 +44,11 @@ look-cells h rows in_tree l i = look-within h (cells rows) l i ∙ by_cell (cell
     by_cell (Some v) e = within-at h (cells rows) l i (in_tree.place l i (cell_there rows l i v e))
 
 -- rows that are as long as before have cells of the tree alone
-pub same_lengths-in_tree : (h : ℕ) (old new : List Row) → HasTreeCells h old → ((l : ℕ) → row_cells new l ≡ row_cells old l) → HasTreeCells h new
+pub same_lengths-in_tree : (h : ℕ) (old new : List FlatRow) → HasTreeCells h old → ((l : ℕ) → row_cells new l ≡ row_cells old l) → HasTreeCells h new
 same_lengths-in_tree h old new in_tree same = record { place = λ l i low. in_tree.place l i (subst (λ n. i < n) (same l) low) }
 
 -- a row that is made as long as `end` at most has cells of the tree alone
-pub lengthened-in_tree : (h layer end : ℕ) (old new : List Row) → HasTreeCells h old → ((l : ℕ) → l ≢ layer → row_cells new l ≡ row_cells old l)
+pub lengthened-in_tree : (h layer end : ℕ) (old new : List FlatRow) → HasTreeCells h old → ((l : ℕ) → l ≢ layer → row_cells new l ≡ row_cells old l)
     → (row_cells new layer ≤ end) ⊎ (row_cells new layer ≡ row_cells old layer) → layer ≤ h → end ≤ 2 ^ (h - layer) → HasTreeCells h new
 lengthened-in_tree h layer end old new in_tree others most le fits = record { place = λ l i low. by_layer l i low (cases_eq l layer) most }
   where
@@ -60,7 +60,7 @@ lengthened-in_tree h layer end old new in_tree others most le fits = record { pl
         subst (λ k. IsTreePlace h k i) (sym same) (le, omega arith)
 
 -- and where it is the leaves' row each of its cells has a mark
-pub lengthened-marks : (layer end marks : ℕ) (old new : List Row) → row_cells old 0 ≤ marks → ((l : ℕ) → l ≢ layer → row_cells new l ≡ row_cells old l)
+pub lengthened-marks : (layer end marks : ℕ) (old new : List FlatRow) → row_cells old 0 ≤ marks → ((l : ℕ) → l ≢ layer → row_cells new l ≡ row_cells old l)
     → (row_cells new layer ≤ end) ⊎ (row_cells new layer ≡ row_cells old layer) → (layer ≡ 0 → end ≤ marks) → row_cells new 0 ≤ marks
 lengthened-marks layer end marks old new enough others most more = by_layer (cases_eq 0 layer) most
   where
@@ -73,7 +73,7 @@ lengthened-marks layer end marks old new enough others most more = by_layer (cas
         omega arith
 
 -- no rows have no cells
-pub no_cells : (h : ℕ) (rows : List Row) → rows ≡ [] → tabulate h (within h (cells rows)) ≡ empty
+pub no_cells : (h : ℕ) (rows : List FlatRow) → rows ≡ [] → tabulate h (within h (cells rows)) ≡ empty
 no_cells h rows none = same_known (tabulate h (within h (cells rows))) empty (λ l i. look-within h (cells rows) l i ∙ nothing l i _ ∙ sym (get-empty place_cmp (l, i)))
   where
     nothing : (l i : ℕ) (b : Bool) → cond b (cells rows l i) None ≡ None

@@ -11,9 +11,9 @@ use Rattle.std.proofs.lemmas.List.{get_or-set_same, get_or-set_other}
 use Rattle.std.specs.Bool.{OnTrue}
 use Rattle.std.specs.Option.{option_map}
 use Rattle.std.specs.List.{insert, remove}
-use Rattle.node_maps.specs.Rising.{AreRising, IsAt, IsGapFor, found}
+use Rattle.node_maps.specs.Rising.{AreRising, IsAt, IsGapFor, page_numbered}
 use Rattle.node_maps.proofs.Rising.{stands, found_gap, set-found, set-beside, insert-found, remove-found, within_items}
-use Rattle.node_maps.specs.Pages.{Numbered, within, find_under, cell_of, cell_in, is_among, is_spare, AreAlike, IsChanged, IsPut, AreSpare}
+use Rattle.node_maps.specs.Pages.{Numbered, page_within, find_under, cell_of, cell_in, is_among, is_spare, AreAlike, IsChanged, IsPut, AreSpare}
 
 -- ---- the fresh numbers
 
@@ -74,17 +74,17 @@ on_true false P h e = absurd (false≢true e)
 
 -- a directory whose pages change at one number changes what stands on it at that number
 module _ {D : Type 0} (find : D → Numbered) (key : ℕ → ℕ) (f g : ℕ → Option D) (q : ℕ) (d : Option D) (page : Option Page)
-    (is : (r : ℕ) → g r ≡ cond (eqb (key q) r) d (f r)) (below : IsChanged q page (within find (f (key q))) (within find d)) where
-  pub under_changed : IsChanged q page (λ n. within find (f (key n)) n) (λ n. within find (g (key n)) n)
+    (is : (r : ℕ) → g r ≡ cond (eqb (key q) r) d (f r)) (below : IsChanged q page (page_within find (f (key q))) (page_within find d)) where
+  pub under_changed : IsChanged q page (λ n. page_within find (f (key n)) n) (λ n. page_within find (g (key n)) n)
   under_changed n = by_key (cases_eq (key q) (key n))
     where
-      by_key : (key q ≡ key n) ⊎ (key q ≢ key n) → within find (g (key n)) n ≡ cond (eqb q n) page (within find (f (key n)) n)
+      by_key : (key q ≡ key n) ⊎ (key q ≢ key n) → page_within find (g (key n)) n ≡ cond (eqb q n) page (page_within find (f (key n)) n)
       by_key (inl same) =
-          ap (λ o. within find o n) (is (key n) ∙ cond-true (eqb (key q) (key n)) d (f (key n)) (eq-eqb (key q) (key n) same))
-          ∙ below n ∙ ap (λ k. cond (eqb q n) page (within find (f k) n)) same
+          ap (λ o. page_within find o n) (is (key n) ∙ cond-true (eqb (key q) (key n)) d (f (key n)) (eq-eqb (key q) (key n) same))
+          ∙ below n ∙ ap (λ k. cond (eqb q n) page (page_within find (f k) n)) same
       by_key (inr other) =
-          ap (λ o. within find o n) (is (key n) ∙ cond-false (eqb (key q) (key n)) d (f (key n)) (ne_eqb (key q) (key n) other))
-          ∙ sym (cond-false (eqb q n) page (within find (f (key n)) n) (ne_eqb q n (λ e. other (ap key e))))
+          ap (λ o. page_within find o n) (is (key n) ∙ cond-false (eqb (key q) (key n)) d (f (key n)) (ne_eqb (key q) (key n) other))
+          ∙ sym (cond-false (eqb q n) page (page_within find (f (key n)) n) (ne_eqb q n (λ e. other (ap key e))))
 
 -- ---- one number changes
 
@@ -140,16 +140,16 @@ module _ {D : Type 0} (find : D → Numbered) (ns : List ℕ) (ds : List D) (ris
   key = q / 2 ^ shift
 
   pub under_there : IsAt ns (q / 2 ^ shift) at → (d : D) → d ≡ get_or ds at d → find_under find ns ds shift q ≡ find d q
-  under_there is d here = ap (λ o. within find o q) (stands ns ds rising beside key at is d here)
+  under_there is d here = ap (λ o. page_within find o q) (stands ns ds rising beside key at is d here)
 
   pub under_gap : IsGapFor ns (q / 2 ^ shift) at → find_under find ns ds shift q ≡ None
-  under_gap gap = ap (λ o. within find o q) (found_gap ns ds key at gap)
+  under_gap gap = ap (λ o. page_within find o q) (found_gap ns ds key at gap)
 
   pub under-set : IsAt ns (q / 2 ^ shift) at → (d w : D) → d ≡ get_or ds at d → (page : Option Page) → IsChanged q page (find d) (find w)
       → IsChanged q page (find_under find ns ds shift) (find_under find ns (set ds at w) shift)
   under-set is d w here page below =
-      under_changed find (λ n. n / 2 ^ shift) (found ns ds) (found ns (set ds at w)) q (Some w) page (set-found ns ds rising beside key at is w)
-      (subst (λ o. IsChanged q page (within find o) (find w)) (sym (stands ns ds rising beside key at is d here)) below)
+      under_changed find (λ n. n / 2 ^ shift) (page_numbered ns ds) (page_numbered ns (set ds at w)) q (Some w) page (set-found ns ds rising beside key at is w)
+      (subst (λ o. IsChanged q page (page_within find o) (find w)) (sym (stands ns ds rising beside key at is d here)) below)
 
   pub under-alike : IsAt ns (q / 2 ^ shift) at → (d w : D) → d ≡ get_or ds at d → AreAlike (find d) (find w)
       → AreAlike (find_under find ns ds shift) (find_under find ns (set ds at w) shift)
@@ -160,15 +160,15 @@ module _ {D : Type 0} (find : D → Numbered) (ns : List ℕ) (ds : List D) (ris
   pub under-insert : IsGapFor ns (q / 2 ^ shift) at → (empty : Numbered) → ((n : ℕ) → empty n ≡ None) → (w : D) (page : Option Page) → IsChanged q page empty (find w)
       → IsChanged q page (find_under find ns ds shift) (find_under find (insert ns at (q / 2 ^ shift)) (insert ds at w) shift)
   under-insert gap empty none w page below =
-      under_changed find (λ n. n / 2 ^ shift) (found ns ds) (found (insert ns at key) (insert ds at w)) q (Some w) page (insert-found ns ds rising beside key at gap w)
-      (λ n. below n ∙ ap (cond (eqb q n) page) (none n ∙ sym (ap (λ o. within find o n) (found_gap ns ds key at gap))))
+      under_changed find (λ n. n / 2 ^ shift) (page_numbered ns ds) (page_numbered (insert ns at key) (insert ds at w)) q (Some w) page (insert-found ns ds rising beside key at gap w)
+      (λ n. below n ∙ ap (cond (eqb q n) page) (none n ∙ sym (ap (λ o. page_within find o n) (found_gap ns ds key at gap))))
 
   -- a directory that is empty is given back
   under-remove : IsAt ns (q / 2 ^ shift) at → (d : D) → d ≡ get_or ds at d → ((n : ℕ) → find d n ≡ None)
       → IsChanged q None (find_under find ns ds shift) (find_under find (remove ns at) (remove ds at) shift)
   under-remove is d here none =
-      under_changed find (λ n. n / 2 ^ shift) (found ns ds) (found (remove ns at) (remove ds at)) q None None (remove-found ns ds rising beside key at is)
-      (λ n. sym (ap (cond (eqb q n) None) (ap (λ o. within find o n) (stands ns ds rising beside key at is d here) ∙ none n) ∙ both (eqb q n) None))
+      under_changed find (λ n. n / 2 ^ shift) (page_numbered ns ds) (page_numbered (remove ns at) (remove ds at)) q None None (remove-found ns ds rising beside key at is)
+      (λ n. sym (ap (cond (eqb q n) None) (ap (λ o. page_within find o n) (stands ns ds rising beside key at is d here) ∙ none n) ∙ both (eqb q n) None))
     where
       both : (b : Bool) (o : Option Page) → cond b o o ≡ o
       both true o = refl

@@ -18,7 +18,7 @@ use Rattle.node_maps.specs.Places.{IsTreePlace}
 use Rattle.node_maps.specs.Known.{place_cmp, look, within, tabulate}
 use Rattle.node_maps.specs.Paged.{cell_at, hashes, HoldsTree, marked_cells, row_pages, held_below, held_pages, AreTrimmed}
 use Rattle.node_maps.specs.Pages.{marks_where, cell_of}
-use Rattle.node_maps.specs.PagedRow.{pages_of, hashes_of}
+use Rattle.node_maps.specs.PagedRow.{pages_of, row_hashes}
 use Rattle.node_maps.proofs.Numbers.{contains-marks_where}
 use Rattle.node_maps.proofs.Known.{nat_equal, same_known, look-within, within-at, tabulate-put}
 
@@ -53,7 +53,7 @@ look-hashes h rows in_tree l i = look-within h (hashes rows) l i ∙ by_cell (ha
     by_cell (Some v) e = within-at h (hashes rows) l i (in_tree.place l i v e)
 
 -- a layer reads as its row does
-pub row-hashes : (rows : List PagedRow) (l : ℕ) (row : PagedRow) → l < length rows → row ≡ get_or rows l row → (i : ℕ) → hashes_of row i ≡ hashes rows l i
+pub row-hashes : (rows : List PagedRow) (l : ℕ) (row : PagedRow) → l < length rows → row ≡ get_or rows l row → (i : ℕ) → row_hashes row i ≡ hashes rows l i
 row-hashes rows l row low is i =
     sym (ap (λ o. hash_of (cell_of (option_and_then (λ (r : PagedRow). pages_of r (i / 512)) o) (i % 512))) (slice_get_read rows (length rows) l row refl low is))
 

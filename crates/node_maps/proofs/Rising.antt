@@ -8,7 +8,7 @@ use Rattle.std.proofs.lemmas.List.Edits.{length-insert, get_or-insert_below, get
 use Rattle.std.proofs.lemmas.Bool.{cases_lt, eq-eqb}
 use Rattle.std.proofs.lemmas.Bool.Decides.{nat_tests}
 use Rattle.std.proofs.Math.ListN.{length-set}
-use Rattle.node_maps.specs.Rising.{AreRising, IsAt, IsGapFor, found}
+use Rattle.node_maps.specs.Rising.{AreRising, IsAt, IsGapFor, page_numbered}
 
 -- no number before place i is q
 abbrev pub NotBefore : List ℕ → ℕ → ℕ → Type 0
@@ -21,13 +21,13 @@ tail_at : (n : ℕ) (ns : List ℕ) (q i : ℕ) → IsAt (n ∷ ns) q (suc i) �
 tail_at n ns q i at = record { in_range = omega (arith, at.in_range); is_number = at.is_number }
 
 -- a number that does not stand there has no item
-pub found_absent : {A : Type 0} (ns : List ℕ) (ps : List A) (q : ℕ) → NotBefore ns q (length ns) → found ns ps q ≡ None
+pub found_absent : {A : Type 0} (ns : List ℕ) (ps : List A) (q : ℕ) → NotBefore ns q (length ns) → page_numbered ns ps q ≡ None
 found_absent [] ps q free = refl
 found_absent (n ∷ ns) [] q free = refl
 found_absent (n ∷ ns) (p ∷ ps) q free = grind (arith, nat_tests, free 0 (omega arith), found_absent ns ps q (tail_before n ns q _ free))
 
 -- the first number that is q has the item beside it
-pub found_present : {A : Type 0} (ns : List ℕ) (ps : List A) (q i : ℕ) (d : A) → length ps ≡ length ns → IsAt ns q i → NotBefore ns q i → found ns ps q ≡ Some (get_or ps i d)
+pub found_present : {A : Type 0} (ns : List ℕ) (ps : List A) (q i : ℕ) (d : A) → length ps ≡ length ns → IsAt ns q i → NotBefore ns q i → page_numbered ns ps q ≡ Some (get_or ps i d)
 found_present [] ps q i d beside at free = absurd (omega (arith, at.in_range))
 found_present (n ∷ ns) [] q i d beside at free = absurd (omega arith)
 found_present (n ∷ ns) (p ∷ ps) q zero d beside at free = grind (arith, nat_tests, at.is_number)
@@ -35,18 +35,18 @@ found_present (n ∷ ns) (p ∷ ps) q (suc i) d beside at free =
     grind (arith, nat_tests, free 0 (omega arith), found_present ns ps q i d (omega arith) (tail_at n ns q i at) (tail_before n ns q i free))
 
 -- a number that stands there has an item
-pub found_some : {A : Type 0} (ns : List ℕ) (ps : List A) (q i : ℕ) → length ps ≡ length ns → IsAt ns q i → IsSome (found ns ps q)
+pub found_some : {A : Type 0} (ns : List ℕ) (ps : List A) (q i : ℕ) → length ps ≡ length ns → IsAt ns q i → IsSome (page_numbered ns ps q)
 found_some [] ps q i beside at = absurd (omega (arith, at.in_range))
 found_some (n ∷ ns) [] q i beside at = absurd (omega arith)
-found_some (n ∷ ns) (p ∷ ps) q zero beside at = ap (λ b. is_some (cond b (Some p) (found ns ps q))) (eq-eqb n q at.is_number)
-found_some (n ∷ ns) (p ∷ ps) q (suc i) beside at = elim (eqb n q) as (λ b. IsSome (cond b (Some p) (found ns ps q))) [
+found_some (n ∷ ns) (p ∷ ps) q zero beside at = ap (λ b. is_some (cond b (Some p) (page_numbered ns ps q))) (eq-eqb n q at.is_number)
+found_some (n ∷ ns) (p ∷ ps) q (suc i) beside at = elim (eqb n q) as (λ b. IsSome (cond b (Some p) (page_numbered ns ps q))) [
   | true ↦ refl
   | false ↦ found_some ns ps q i (omega arith) (tail_at n ns q i at)
 ]
 
 -- an item that is written
 pub found-set : {A : Type 0} (ns : List ℕ) (ps : List A) (q i : ℕ) (w : A) → length ps ≡ length ns → IsAt ns q i → NotBefore ns q i
-    → (r : ℕ) → found ns (set ps i w) r ≡ cond (eqb q r) (Some w) (found ns ps r)
+    → (r : ℕ) → page_numbered ns (set ps i w) r ≡ cond (eqb q r) (Some w) (page_numbered ns ps r)
 found-set [] ps q i w beside at free r = absurd (omega (arith, at.in_range))
 found-set (n ∷ ns) [] q i w beside at free r = absurd (omega arith)
 found-set (n ∷ ns) (p ∷ ps) q zero w beside at free r = grind (arith, nat_tests, at.is_number)
@@ -55,7 +55,7 @@ found-set (n ∷ ns) (p ∷ ps) q (suc i) w beside at free r =
 
 -- an item that is added
 pub found-insert : {A : Type 0} (ns : List ℕ) (ps : List A) (q i : ℕ) (w : A) → length ps ≡ length ns → NotBefore ns q i
-    → (r : ℕ) → found (insert ns i q) (insert ps i w) r ≡ cond (eqb q r) (Some w) (found ns ps r)
+    → (r : ℕ) → page_numbered (insert ns i q) (insert ps i w) r ≡ cond (eqb q r) (Some w) (page_numbered ns ps r)
 found-insert ns ps q zero w beside free r = refl
 found-insert [] [] q (suc i) w beside free r = refl
 found-insert [] (p ∷ ps) q (suc i) w beside free r = absurd (omega arith)
@@ -65,7 +65,7 @@ found-insert (n ∷ ns) (p ∷ ps) q (suc i) w beside free r =
 
 -- an item that is taken out
 pub found-remove : {A : Type 0} (ns : List ℕ) (ps : List A) (q i : ℕ) → length ps ≡ length ns → IsAt ns q i → ((j : ℕ) → j < length ns → j ≢ i → get_or ns j 0 ≢ q)
-    → (r : ℕ) → found (remove ns i) (remove ps i) r ≡ cond (eqb q r) None (found ns ps r)
+    → (r : ℕ) → page_numbered (remove ns i) (remove ps i) r ≡ cond (eqb q r) None (page_numbered ns ps r)
 found-remove [] ps q i beside at free r = absurd (omega (arith, at.in_range))
 found-remove (n ∷ ns) [] q i beside at free r = absurd (omega arith)
 found-remove (n ∷ ns) (p ∷ ps) q zero beside at free r =
@@ -99,7 +99,7 @@ pub not_before_gap : (ns : List ℕ) (q i : ℕ) → IsGapFor ns q i → NotBefo
 not_before_gap ns q i gap j lt same = omega (arith, gap.below j lt)
 
 -- a number that has a gap has no item
-pub found_gap : {A : Type 0} (ns : List ℕ) (ps : List A) (q i : ℕ) → IsGapFor ns q i → found ns ps q ≡ None
+pub found_gap : {A : Type 0} (ns : List ℕ) (ps : List A) (q i : ℕ) → IsGapFor ns q i → page_numbered ns ps q ≡ None
 found_gap ns ps q i gap = found_absent ns ps q (λ j lt same. elim (cases_lt j i) [ inl less ↦ omega (arith, gap.below j less) | inr more ↦ omega (arith, gap.above j more lt) ])
 
 pub rising-insert : (ns : List ℕ) (q at : ℕ) → IsGapFor ns q at → AreRising ns → AreRising (insert ns at q)
@@ -123,25 +123,25 @@ rising-remove ns at inside rising i j lt in_range =
 -- ---- an item at a number that a search told
 
 module _ {A : Type 0} (ns : List ℕ) (xs : List A) (rising : AreRising ns) (beside : length xs ≡ length ns) (q at : ℕ) where
-  pub stands : IsAt ns q at → (x : A) → x ≡ get_or xs at x → found ns xs q ≡ Some x
+  pub stands : IsAt ns q at → (x : A) → x ≡ get_or xs at x → page_numbered ns xs q ≡ Some x
   stands is x here = found_present ns xs q at x beside is (not_before_at ns rising q at is) ∙ ap Some (sym here)
 
   pub within_items : IsAt ns q at → at < length xs
   within_items is = omega (arith, is.in_range, beside)
 
-  pub set-found : IsAt ns q at → (w : A) (r : ℕ) → found ns (set xs at w) r ≡ cond (eqb q r) (Some w) (found ns xs r)
+  pub set-found : IsAt ns q at → (w : A) (r : ℕ) → page_numbered ns (set xs at w) r ≡ cond (eqb q r) (Some w) (page_numbered ns xs r)
   set-found is w = found-set ns xs q at w beside is (not_before_at ns rising q at is)
 
   pub set-beside : (w : A) → length (set xs at w) ≡ length ns
   set-beside w = length-set xs at w ∙ beside
 
-  pub insert-found : IsGapFor ns q at → (w : A) (r : ℕ) → found (insert ns at q) (insert xs at w) r ≡ cond (eqb q r) (Some w) (found ns xs r)
+  pub insert-found : IsGapFor ns q at → (w : A) (r : ℕ) → page_numbered (insert ns at q) (insert xs at w) r ≡ cond (eqb q r) (Some w) (page_numbered ns xs r)
   insert-found gap w = found-insert ns xs q at w beside (not_before_gap ns q at gap)
 
   pub insert-beside : IsGapFor ns q at → (w : A) → length (insert xs at w) ≡ length (insert ns at q)
   insert-beside gap w = length-insert xs at w (omega (arith, gap.in_range, beside)) ∙ ap (λ n. n + 1) beside ∙ sym (length-insert ns at q gap.in_range)
 
-  pub remove-found : IsAt ns q at → (r : ℕ) → found (remove ns at) (remove xs at) r ≡ cond (eqb q r) None (found ns xs r)
+  pub remove-found : IsAt ns q at → (r : ℕ) → page_numbered (remove ns at) (remove xs at) r ≡ cond (eqb q r) None (page_numbered ns xs r)
   remove-found is = found-remove ns xs q at beside is (not_elsewhere ns rising q at is)
 
   pub remove-beside : IsAt ns q at → length (remove xs at) ≡ length (remove ns at)

@@ -1,12 +1,12 @@
 -- The pages of a layer, as they are kept.
 use Rattle.node_maps.specs.declared.shelf.Shelf.{Shelf}
 use Rattle.node_maps.specs.declared.shelves.Shelves.{Shelves}
-use Rattle.node_maps.specs.Rising.{found}
+use Rattle.node_maps.specs.Rising.{page_numbered}
 use Rattle.node_maps.specs.Pages.{Numbered, find_under}
 
 -- the pages of a shelf
 abbrev pub on_shelf : Shelf → Numbered
-on_shelf s = found s.numbers.items s.pages.items
+on_shelf s = page_numbered s.numbers.items s.pages.items
 
 -- the pages of shelves
 abbrev pub on_shelves : Shelves Shelf → Numbered

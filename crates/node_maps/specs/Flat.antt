@@ -9,11 +9,11 @@ use Rattle.node_maps.specs.Places.{PartialTree, IsTreePlace}
 use Rattle.node_maps.specs.Known.{Marked}
 use Rattle.node_maps.specs.Runs.{LayerHashes}
 
-abbrev pub Row : Type 0
-Row = Vec (Option Hash) Global
+abbrev pub FlatRow : Type 0
+FlatRow = Vec (Option Hash) Global
 
 -- the hash in the cell of a place
-abbrev pub cells : List Row → PartialTree
+abbrev pub cells : List FlatRow → PartialTree
 cells rows l i =
     option_and_then (λ row. option_and_then (λ o. o) (slice_get row.items i)) (slice_get rows l)
 
@@ -22,24 +22,24 @@ abbrev pub hash_in : List (Option Hash) → LayerHashes
 hash_in row i = slice_index_or row i None
 
 -- every place has the cell that it had
-abbrev pub AreSameCells : List Row → List Row → Type 0
+abbrev pub AreSameCells : List FlatRow → List FlatRow → Type 0
 AreSameCells old new = (l i : ℕ) → cells new l i ≡ cells old l i
 
 -- every place but this one has the cell that it had
-abbrev pub AreSameCellsBut : ℕ → ℕ → List Row → List Row → Type 0
+abbrev pub AreSameCellsBut : ℕ → ℕ → List FlatRow → List FlatRow → Type 0
 AreSameCellsBut layer index old new =
     (l i : ℕ) → (l ≢ layer) ⊎ (i ≢ index) → cells new l i ≡ cells old l i
 
 -- how many cells the row of a layer has
-abbrev pub row_cells : List Row → ℕ → ℕ
+abbrev pub row_cells : List FlatRow → ℕ → ℕ
 row_cells rows l = unwrap_or (option_map (λ row. length row.items) (slice_get rows l)) 0
 
 -- the place has a cell
-abbrev pub HasCell : List Row → ℕ → ℕ → Type 0
+abbrev pub HasCell : List FlatRow → ℕ → ℕ → Type 0
 HasCell rows l i = i < row_cells rows l
 
 -- each cell is that of a place of a tree of height h
-pub record HasTreeCells (h : ℕ) (rows : List Row) : Type 0 where
+pub record HasTreeCells (h : ℕ) (rows : List FlatRow) : Type 0 where
   pub place : (l i : ℕ) → HasCell rows l i → IsTreePlace h l i
 
 -- the numbers below n whose mark is set

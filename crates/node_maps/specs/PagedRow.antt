@@ -16,8 +16,8 @@ abbrev pub cell_of_row : PagedRow → ℕ → Cell
 cell_of_row row i = cell_in (pages_of row) i
 
 -- the hashes of the layer
-abbrev pub hashes_of : PagedRow → LayerHashes
-hashes_of row i = hash_of (cell_of_row row i)
+abbrev pub row_hashes : PagedRow → LayerHashes
+row_hashes row i = hash_of (cell_of_row row i)
 
 -- there is a page of this number
 abbrev pub HasNumber : PagedRow → ℕ → Type 0

@@ -7,20 +7,20 @@ use Rattle.node_maps.specs.declared.page.Page.{Page}
 use Rattle.node_maps.specs.Cell.{is_blank, with_hash}
 use Rattle.node_maps.specs.Digest.{Hash}
 use Rattle.node_maps.specs.Known.{Marked}
-use Rattle.node_maps.specs.Rising.{found}
+use Rattle.node_maps.specs.Rising.{page_numbered}
 
 -- the page of each number, if there is one
 abbrev pub Numbered : Type 0
 Numbered = ℕ → Option Page
 
 -- the page of a number in a directory, if there is one
-abbrev pub within : {D : Type 0} → (D → Numbered) → Option D → Numbered
-within find None n = None
-within find (Some d) n = find d n
+abbrev pub page_within : {D : Type 0} → (D → Numbered) → Option D → Numbered
+page_within find None n = None
+page_within find (Some d) n = find d n
 
 -- the page of a number, in the directory of the number's first bits
 abbrev pub find_under : {D : Type 0} → (D → Numbered) → List ℕ → List D → ℕ → Numbered
-find_under find ns ds shift n = within find (found ns ds (n / 2 ^ shift)) n
+find_under find ns ds shift n = page_within find (page_numbered ns ds (n / 2 ^ shift)) n
 
 -- the cell at a place of a page, if there is one
 abbrev pub cell_of : Option Page → ℕ → Cell

@@ -17,7 +17,7 @@ pub record IsGapFor (ns : List ℕ) (n i : ℕ) : Type 0 where
   pub above : (j : ℕ) → i ≤ j → j < length ns → n < slice_index_or ns j 0
 
 -- the item of a number, if there is one
-abbrev pub found : {A : Type 0} → List ℕ → List A → ℕ → Option A
-found [] xs q = None
-found (n ∷ ns) [] q = None
-found (n ∷ ns) (x ∷ xs) q = (if n == q then Some x else found ns xs q)
+abbrev pub page_numbered : {A : Type 0} → List ℕ → List A → ℕ → Option A
+page_numbered [] xs q = None
+page_numbered (n ∷ ns) [] q = None
+page_numbered (n ∷ ns) (x ∷ xs) q = (if n == q then Some x else page_numbered ns xs q)

@@ -6,7 +6,7 @@ ghost use Rattle.std.specs.FinMap.{insert};
 ghost use Rattle.node_maps.specs.Places.{tree_height, IsTreePlace};
 ghost use Rattle.node_maps.specs.Known.{tabulate, within};
 ghost use Rattle.node_maps.specs.Needed.{nothing_needed};
-ghost use Rattle.node_maps.specs.Flat.{AreSameCells, AreSameCellsBut, Row, cells, row_cells, HasCell, HasTreeCells, hash_in, marked_leaves};
+ghost use Rattle.node_maps.specs.Flat.{AreSameCells, AreSameCellsBut, FlatRow, cells, row_cells, HasCell, HasTreeCells, hash_in, marked_leaves};
 ghost use Rattle.node_maps.specs.Runs.{AreKnown, hashes_from};
 
 use crate::node_map::NodeMap;

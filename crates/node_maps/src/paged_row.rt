@@ -31,7 +31,7 @@ pub struct PagedRow {
 }
 
 impl PagedRow {
-    ghost use Rattle.node_maps.specs.PagedRow.{pages_of, AreSameCells, AreSameCellsBut, HasNumber, HasNumbers, KeepsPages, cell_of_row, hashes_of};
+    ghost use Rattle.node_maps.specs.PagedRow.{pages_of, AreSameCells, AreSameCellsBut, HasNumber, HasNumbers, KeepsPages, cell_of_row, row_hashes};
 
     /// No page.
     #[tactic(auto, unfolding(crate::specs::PagedRow::pages_of))]
@@ -71,7 +71,7 @@ impl PagedRow {
     #[tactic(auto, unfolding(crate::specs::PagedRow::pages_of))]
     pub fn knows(&self, from: u64, count: u64) -> bool
         requires { from + count < 2 ^ 64 }
-        ensures { IsTrue result ↔ AreKnown (hashes_of self.now) from count }
+        ensures { IsTrue result ↔ AreKnown (row_hashes self.now) from count }
     {
         let mut done = 0;
         'parts: while done < count {
@@ -91,10 +91,10 @@ impl PagedRow {
     #[tactic(auto, unfolding(crate::specs::PagedRow::pages_of))]
     pub fn copy_to(&self, from: u64, count: u64, out: &mut Vec<Hash>)
         requires range { from + count < 2 ^ 64 }
-        requires known { AreKnown (hashes_of self.now) from count }
+        requires known { AreKnown (row_hashes self.now) from count }
         requires room { vec_len out.old + count ≤ vec_capacity out.old }
         ensures copied { out.new.items
-            ≡ out.old.items ++ hashes_from (hashes_of self.now) from count }
+            ≡ out.old.items ++ hashes_from (row_hashes self.now) from count }
         ensures no_memory { vec_capacity out.new ≡ vec_capacity out.old }
     {
         let mut done = 0;

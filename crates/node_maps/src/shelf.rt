@@ -1,7 +1,7 @@
 //! A shelf: pages whose numbers lie close together, in the order of their numbers.
 
 ghost use Rattle.std.specs.Prelude.{◌≡◌, length};
-ghost use Rattle.node_maps.specs.Rising.{AreRising, found};
+ghost use Rattle.node_maps.specs.Rising.{AreRising, page_numbered};
 
 use crate::directory::Directory;
 use crate::page::Page;
@@ -21,7 +21,7 @@ pub struct Shelf {
 }
 
 impl Directory for Shelf {
-    ghost find = { λ s. found s.numbers.items s.pages.items };
+    ghost find = { λ s. page_numbered s.numbers.items s.pages.items };
 
     fn new(alloc: Global, _bits: u32) -> Shelf {
         Shelf {

@@ -10,7 +10,7 @@ use Rattle.std.proofs.lemmas.List.Sums.{sum_by-append}
 use Rattle.benc.specs.Value.{Bencode, Items, no_items, item}
 use Rattle.filetree.specs.FileTree.{has_attribute}
 use Rattle.opening.specs.Matching.{after_entry, ends_of, entry_length, is_misplaced}
-use Rattle.opening.specs.Stream.{Part, Named, part_of, parts_of, named_part, files_in, length_in, stream_length, IsMisplaced}
+use Rattle.opening.specs.Stream.{Part, Named, entry_part, parts_of, named_part, files_in, length_in, stream_length, IsMisplaced}
 use Rattle.pieces.specs.Pieces.{pieces_of}
 use Rattle.opening.specs.declared.version1.Ends.{Ends}
 use Rattle.opening.proofs.Hybrids.{parts_back, and_true}
@@ -82,21 +82,21 @@ placed_here v e right file some = elim (and_cases (not (has_attribute 112 v) && 
 ]
 
 pieces_by : (k : ℕ) (e : Ends) (v : Bencode) (pad : Bool) → has_attribute 112 v ≡ pad
-    → (if pad then e.pieces else e.pieces + pieces_of k (entry_length v) * k) ≡ e.pieces + pieces_end k (part_of v ∷ [])
-pieces_by k e v true pad = sym (ap (λ t. e.pieces + t) (pieces_one k (part_of v) true pad) ∙ add-zero e.pieces)
-pieces_by k e v false pad = ap (λ t. e.pieces + t) (sym (pieces_one k (part_of v) false pad))
+    → (if pad then e.pieces else e.pieces + pieces_of k (entry_length v) * k) ≡ e.pieces + pieces_end k (entry_part v ∷ [])
+pieces_by k e v true pad = sym (ap (λ t. e.pieces + t) (pieces_one k (entry_part v) true pad) ∙ add-zero e.pieces)
+pieces_by k e v false pad = ap (λ t. e.pieces + t) (sym (pieces_one k (entry_part v) false pad))
 
-one_more : (k : ℕ) (all : List Part) (i : ℕ) (e : Ends) (v : Bencode) → is_misplaced v e ≡ false → slice_get all i ≡ Some (part_of v)
-    → take (suc i) all ≡ take i all ++ part_of v ∷ [] → IsEnd k all i e → IsEnd k all (suc i) (after_entry k v e)
+one_more : (k : ℕ) (all : List Part) (i : ℕ) (e : Ends) (v : Bencode) → is_misplaced v e ≡ false → slice_get all i ≡ Some (entry_part v)
+    → take (suc i) all ≡ take i all ++ entry_part v ∷ [] → IsEnd k all i e → IsEnd k all (suc i) (after_entry k v e)
 one_more k all i e v right here before h = record {
-  stream_is = ap (λ t. t + entry_length v) h.stream_is ∙ sym (ap stream_length before ∙ stream_after (take i all) (part_of v));
-  pieces_is = pieces_by k e v (has_attribute 112 v) refl ∙ ap (λ t. t + pieces_end k (part_of v ∷ [])) h.pieces_is
-      ∙ sym (ap (pieces_end k) before ∙ pieces_after k (take i all) (part_of v));
+  stream_is = ap (λ t. t + entry_length v) h.stream_is ∙ sym (ap stream_length before ∙ stream_after (take i all) (entry_part v));
+  pieces_is = pieces_by k e v (has_attribute 112 v) refl ∙ ap (λ t. t + pieces_end k (entry_part v ∷ [])) h.pieces_is
+      ∙ sym (ap (pieces_end k) before ∙ pieces_after k (take i all) (entry_part v));
   placed = λ j p lt at file some. elim (lt_or_same j i lt) [
     | inl below ↦ h.placed j p below at file some
     | inr is ↦ (
-        let same : Some p ≡ Some (part_of v) = sym at ∙ ap (slice_get all) is ∙ here in
-        let part : p ≡ part_of v = cc in
+        let same : Some p ≡ Some (entry_part v) = sym at ∙ ap (slice_get all) is ∙ here in
+        let part : p ≡ entry_part v = cc in
         let of_file : has_attribute 112 v ≡ false = ap (λ (q : Part). q.is_pad) (sym part) ∙ file in
         let positive : 0 < entry_length v = subst (λ (q : Part). 0 < length_in q) part some in
         ap (λ n. stream_length (take n all)) is ∙ sym h.stream_is ∙ placed_here v e right of_file positive ∙ h.pieces_is ∙ ap (λ n. pieces_end k (take n all)) (sym is))
@@ -106,14 +106,14 @@ one_more k all i e v right here before h = record {
     lt_or_same : (j i : ℕ) → j < suc i → (j < i) ⊎ (j ≡ i)
     lt_or_same j i lt = grind arith
 
-misplaced_here : (k : ℕ) (all : List Part) (i : ℕ) (e : Ends) (v : Bencode) → is_misplaced v e ≡ true → slice_get all i ≡ Some (part_of v)
+misplaced_here : (k : ℕ) (all : List Part) (i : ℕ) (e : Ends) (v : Bencode) → is_misplaced v e ≡ true → slice_get all i ≡ Some (entry_part v)
     → IsEnd k all i e → IsMisplaced k all
 misplaced_here k all i e v wrong here h =
     let parts = and_true (not (has_attribute 112 v) && nat_lt 0 (entry_length v)) (not (nat_eq e.stream e.pieces)) wrong in
     let inner = and_true (not (has_attribute 112 v)) (nat_lt 0 (entry_length v)) parts.0 in
     record {
       number = i;
-      part = part_of v;
+      part = entry_part v;
       there = here;
       no_pad = not_true (has_attribute 112 v) inner.0;
       some = ltb-true 0 (entry_length v) inner.1;
@@ -125,7 +125,7 @@ misplaced_here k all i e v wrong here h =
     not_true false e = refl
 
 ends_by : (k : ℕ) (vs : Items) (v : Bencode) (all : List Part) (i : ℕ) (e : Ends) (wrong : Bool) → is_misplaced v e ≡ wrong
-    → slice_get all i ≡ Some (part_of v) → take (suc i) all ≡ take i all ++ part_of v ∷ [] → IsEnd k all i e
+    → slice_get all i ≡ Some (entry_part v) → take (suc i) all ≡ take i all ++ entry_part v ∷ [] → IsEnd k all i e
     → (IsEnd k all (suc i) (after_entry k v e) → AreEnds k all (ends_of k vs (after_entry k v e)))
     → AreEnds k all (if wrong then None else ends_of k vs (after_entry k v e))
 ends_by k vs v all i e true is here before h rest = misplaced_here k all i e v is here h
@@ -143,6 +143,6 @@ ends_are k no_items all i e left h =
     (h.stream_is ∙ ap stream_length whole, h.pieces_is ∙ ap (pieces_end k) whole, none_misplaced k all i e whole past h)
 ends_are k (item v vs) all i e left h =
     let b = parts_back v vs (drop i all) left in
-    let at = at_index all i (part_of v) b.rest b.parts in
+    let at = at_index all i (entry_part v) b.rest b.parts in
     ends_by k vs v all i e (is_misplaced v e) refl at.here at.before h
     (λ more. ends_are k vs all (suc i) (after_entry k v e) (b.behind ∙ ap Some (sym at.behind)) more)

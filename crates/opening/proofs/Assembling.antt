@@ -13,7 +13,7 @@ use Rattle.filetree.specs.FileTree.{Walk, lacks_root, listed, walks}
 use Rattle.filetree.specs.declared.files.ListedFile.{ListedFile}
 use Rattle.opening.specs.Matching.{FitsStream, named_entry}
 use Rattle.opening.specs.Opening.{content_rows}
-use Rattle.opening.specs.Refusals.{key_rows}
+use Rattle.opening.specs.Refusals.{all_key_rows}
 use Rattle.filetree.specs.TreeTests.{tree_rows}
 use Rattle.opening.specs.PieceLayers.{tree_at}
 use Rattle.filetree.specs.Tests.{First, NoneHolds}
@@ -37,7 +37,7 @@ pub record IsRead (v : Bencode) (k : ℕ) (info : Bencode) (name : List ℕ) (tr
   pub layers_is : layers ≡ layers_in v
   pub length_is : k ≡ piece_length_in v
   pub files_are : fs ≡ map listed (walks tree)
-  pub keys : NoneHolds (key_rows v)
+  pub keys : NoneHolds (all_key_rows v)
   pub trees : NoneHolds (tree_rows tree)
 
 pub sizes_of : (tree : Pairs) (fs : List ListedFile) → NoneHolds (tree_rows tree) → fs ≡ map listed (walks tree) → (f : ListedFile) → IsIn fs f → IsSized f
@@ -46,20 +46,20 @@ sizes_of tree fs rows is f there = all_sized (walks tree) (false_or_true (list_a
 all_files : (v : Bencode) (tree : Pairs) (fs : List ListedFile) → tree ≡ file_tree_in v → fs ≡ map listed (walks tree) → fs ≡ files_of v
 all_files v tree fs tree_is is = is ∙ ap (λ t. map listed (walks t)) tree_is
 
-pub keys_refused : (v : Bencode) (r : Refusal) → First (key_rows v) r → First (table v) r
+pub keys_refused : (v : Bencode) (r : Refusal) → First (all_key_rows v) r → First (table v) r
 keys_refused v r first =
     let content = content_rows (piece_length_in v) (layers_in v) (files_of v) in
     let hybrid = hybrid_rows (piece_length_in v) (info_in v) (name_in v) (files_of v) in
-    first_front (key_rows v) (tree_rows (file_tree_in v) ++ (content ++ hybrid)) r first
+    first_front (all_key_rows v) (tree_rows (file_tree_in v) ++ (content ++ hybrid)) r first
 
-pub tree_refused : (v : Bencode) (tree : Pairs) (r : Refusal) → NoneHolds (key_rows v) → tree ≡ file_tree_in v → First (tree_rows tree) r → First (table v) r
+pub tree_refused : (v : Bencode) (tree : Pairs) (r : Refusal) → NoneHolds (all_key_rows v) → tree ≡ file_tree_in v → First (tree_rows tree) r → First (table v) r
 tree_refused v tree r keys is first =
     let content = content_rows (piece_length_in v) (layers_in v) (files_of v) in
     let hybrid = hybrid_rows (piece_length_in v) (info_in v) (name_in v) (files_of v) in
-    first_behind (key_rows v) (tree_rows (file_tree_in v) ++ (content ++ hybrid)) r keys (first_front (tree_rows (file_tree_in v)) (content ++ hybrid) r (subst (λ t. First (tree_rows t) r) is first))
+    first_behind (all_key_rows v) (tree_rows (file_tree_in v) ++ (content ++ hybrid)) r keys (first_front (tree_rows (file_tree_in v)) (content ++ hybrid) r (subst (λ t. First (tree_rows t) r) is first))
 
-front_none : (v : Bencode) (tree : Pairs) → NoneHolds (key_rows v) → tree ≡ file_tree_in v → NoneHolds (tree_rows tree) → NoneHolds (key_rows v ++ tree_rows (file_tree_in v))
-front_none v tree keys is rows = none_both (key_rows v) (tree_rows (file_tree_in v)) keys (subst (λ t. NoneHolds (tree_rows t)) is rows)
+front_none : (v : Bencode) (tree : Pairs) → NoneHolds (all_key_rows v) → tree ≡ file_tree_in v → NoneHolds (tree_rows tree) → NoneHolds (all_key_rows v ++ tree_rows (file_tree_in v))
+front_none v tree keys is rows = none_both (all_key_rows v) (tree_rows (file_tree_in v)) keys (subst (λ t. NoneHolds (tree_rows t)) is rows)
 
 pub files_refused : (v : Bencode) (k : ℕ) (info : Bencode) (name : List ℕ) (tree layers : Pairs) (fs : List ListedFile) (r : Refusal) → IsRead v k info name tree layers fs
     → First (content_rows k layers fs) r → First (table v) r
@@ -68,14 +68,14 @@ files_refused v k info name tree layers fs r h first =
     let hybrid = hybrid_rows (piece_length_in v) (info_in v) (name_in v) (files_of v) in
     let moved = subst (λ n. First (content_rows n (layers_in v) (files_of v)) r) h.length_is
     (subst (λ ls. First (content_rows k ls (files_of v)) r) h.layers_is (subst (λ gs. First (content_rows k layers gs) r) (all_files v tree fs h.tree_is h.files_are) first)) in
-    first_behind (key_rows v ++ tree_rows (file_tree_in v)) (content ++ hybrid) r (front_none v tree h.keys h.tree_is h.trees) (first_front content hybrid r moved)
+    first_behind (all_key_rows v ++ tree_rows (file_tree_in v)) (content ++ hybrid) r (front_none v tree h.keys h.tree_is h.trees) (first_front content hybrid r moved)
 
 content_none : (v : Bencode) (k : ℕ) (info : Bencode) (name : List ℕ) (tree layers : Pairs) (fs : List ListedFile) → IsRead v k info name tree layers fs
-    → NoneHolds (content_rows k layers fs) → NoneHolds ((key_rows v ++ tree_rows (file_tree_in v)) ++ content_rows (piece_length_in v) (layers_in v) (files_of v))
+    → NoneHolds (content_rows k layers fs) → NoneHolds ((all_key_rows v ++ tree_rows (file_tree_in v)) ++ content_rows (piece_length_in v) (layers_in v) (files_of v))
 content_none v k info name tree layers fs h rows =
     let moved = subst (λ n. NoneHolds (content_rows n (layers_in v) (files_of v))) h.length_is
     (subst (λ ls. NoneHolds (content_rows k ls (files_of v))) h.layers_is (subst (λ gs. NoneHolds (content_rows k layers gs)) (all_files v tree fs h.tree_is h.files_are) rows)) in
-    none_both (key_rows v ++ tree_rows (file_tree_in v)) (content_rows (piece_length_in v) (layers_in v) (files_of v)) (front_none v tree h.keys h.tree_is h.trees) moved
+    none_both (all_key_rows v ++ tree_rows (file_tree_in v)) (content_rows (piece_length_in v) (layers_in v) (files_of v)) (front_none v tree h.keys h.tree_is h.trees) moved
 
 pub hybrid_refused : (v : Bencode) (k : ℕ) (info : Bencode) (name : List ℕ) (tree layers : Pairs) (fs : List ListedFile) (r : Refusal) → IsRead v k info name tree layers fs
     → NoneHolds (content_rows k layers fs) → First (hybrid_rows k info name fs) r → First (table v) r
@@ -83,7 +83,7 @@ hybrid_refused v k info name tree layers fs r h rows first =
     let moved = subst (λ n. First (hybrid_rows n (info_in v) (name_in v) (files_of v)) r) h.length_is
     (subst (λ i. First (hybrid_rows k i (name_in v) (files_of v)) r) h.info_is
     (subst (λ s. First (hybrid_rows k info s (files_of v)) r) h.name_is (subst (λ gs. First (hybrid_rows k info name gs) r) (all_files v tree fs h.tree_is h.files_are) first))) in
-    first_behind ((key_rows v ++ tree_rows (file_tree_in v)) ++ content_rows (piece_length_in v) (layers_in v) (files_of v)) (hybrid_rows (piece_length_in v) (info_in v) (name_in v) (files_of v)) r
+    first_behind ((all_key_rows v ++ tree_rows (file_tree_in v)) ++ content_rows (piece_length_in v) (layers_in v) (files_of v)) (hybrid_rows (piece_length_in v) (info_in v) (name_in v) (files_of v)) r
     (content_none v k info name tree layers fs h rows) moved
 
 pub none_holds : (v : Bencode) (k : ℕ) (info : Bencode) (name : List ℕ) (tree layers : Pairs) (fs : List ListedFile) → IsRead v k info name tree layers fs
@@ -92,7 +92,7 @@ none_holds v k info name tree layers fs h rows last =
     let moved = subst (λ n. NoneHolds (hybrid_rows n (info_in v) (name_in v) (files_of v))) h.length_is
     (subst (λ i. NoneHolds (hybrid_rows k i (name_in v) (files_of v))) h.info_is
     (subst (λ s. NoneHolds (hybrid_rows k info s (files_of v))) h.name_is (subst (λ gs. NoneHolds (hybrid_rows k info name gs)) (all_files v tree fs h.tree_is h.files_are) last))) in
-    none_both ((key_rows v ++ tree_rows (file_tree_in v)) ++ content_rows (piece_length_in v) (layers_in v) (files_of v)) (hybrid_rows (piece_length_in v) (info_in v) (name_in v) (files_of v))
+    none_both ((all_key_rows v ++ tree_rows (file_tree_in v)) ++ content_rows (piece_length_in v) (layers_in v) (files_of v)) (hybrid_rows (piece_length_in v) (info_in v) (name_in v) (files_of v))
     (content_none v k info name tree layers fs h rows) moved
 
 fits : (k : ℕ) (fs : List ListedFile) → k ≤ 2 ^ 30 → pieces_in k fs < 2 ^ 32 → sum_by (λ (f : Named). pieces_of k f.length) (map named fs) * k < 2 ^ 64

@@ -6,7 +6,7 @@ use Rattle.filetree.specs.Tests.{First, NoneHolds, Row}
 use Rattle.filetree.specs.declared.refusal.Refusal.{Refusal}
 use Rattle.filetree.specs.declared.refusal.Refusal.TheVariants as refusals
 use Rattle.opening.specs.Description.{Description}
-use Rattle.opening.specs.Refusals.{OpeningTakesMemory, key_rows, max_torrent}
+use Rattle.opening.specs.Refusals.{OpeningTakesMemory, all_key_rows, max_torrent}
 
 -- an answer that no row has is not told
 abbrev NoRow : List Row → Refusal → Type 0
@@ -18,12 +18,12 @@ never [] r none told = told
 never (t ∷ ts) r none told = elim told [ inl here ↦ none.0 here.1 | inr later ↦ never ts r none.1 later.1 ]
 
 -- no test of a key is answered with out of memory
-pub keys_take_none : (v : Bencode) → First (key_rows v) refusals.NoMemory → ⊥
-keys_take_none v told = never (key_rows v) refusals.NoMemory
+pub keys_take_none : (v : Bencode) → First (all_key_rows v) refusals.NoMemory → ⊥
+keys_take_none v told = never (all_key_rows v) refusals.NoMemory
     ((λ e. cc), ((λ e. cc), ((λ e. cc), ((λ e. cc), ((λ e. cc), ((λ e. cc), ((λ e. cc), ((λ e. cc), ((λ e. cc), ((λ e. cc), ((λ e. cc), ((λ e. cc), ((λ e. cc), ((λ e. cc), tt)))))))))))))) told
 
 -- what is refused behind the keys is refused of a value for which none of their tests holds
-pub wants_memory : (b : List ℕ) (v : Bencode) → length b ≤ max_torrent → Spells v b → (result : Result Description Refusal) → IfErr result (λ r. r ≡ refusals.NoMemory → NoneHolds (key_rows v))
+pub wants_memory : (b : List ℕ) (v : Bencode) → length b ≤ max_torrent → Spells v b → (result : Result Description Refusal) → IfErr result (λ r. r ≡ refusals.NoMemory → NoneHolds (all_key_rows v))
     → IfErr result (λ r. r ≡ refusals.NoMemory → OpeningTakesMemory b)
 wants_memory b v small spelled (Ok t) told = told
 wants_memory b v small spelled (Err r) told = λ memory. record { small = small; where_taken = inr (v, spelled, told memory) }

@@ -8,8 +8,8 @@ use Rattle.benc.specs.Value.{Bencode, int, text, list, dict, Items, no_items, it
 use Rattle.opening.specs.Description.{FileEntry}
 use Rattle.filetree.specs.Dictionary.{get, as_text}
 use Rattle.filetree.specs.FileTree.{has_attribute, is_dict, length_at}
-use Rattle.opening.specs.Matching.{is_text, are_texts, is_path, is_length, is_entry_of, is_sized, begins, are_same, named_entry}
-use Rattle.opening.specs.Stream.{Part, Named, texts_in, some_texts, as_path, part_of, parts_of, is_broken, named_part, files_in}
+use Rattle.opening.specs.Matching.{is_text, are_texts, is_path_value, is_length, is_entry_of, is_sized, begins, are_same, named_entry}
+use Rattle.opening.specs.Stream.{Part, Named, texts_in, some_texts, as_path, entry_part, parts_of, is_broken, named_part, files_in}
 
 -- ---- tests that hold of both
 
@@ -53,7 +53,7 @@ texts_back (item (text b) vs) ss e =
 texts_back (item (list xs) vs) ss e = let bad : ⊥ = cc in absurd bad
 texts_back (item (dict ps) vs) ss e = let bad : ⊥ = cc in absurd bad
 
-path_is : (path : List (List ℕ)) (o : Option Bencode) → is_path path o ≡ true → option_and_then as_path o ≡ Some path
+path_is : (path : List (List ℕ)) (o : Option Bencode) → is_path_value path o ≡ true → option_and_then as_path o ≡ Some path
 path_is [] o e = let bad : ⊥ = cc in absurd bad
 path_is (s ∷ ss) None e = let bad : ⊥ = cc in absurd bad
 path_is (s ∷ ss) (Some (int z)) e = let bad : ⊥ = cc in absurd bad
@@ -67,13 +67,13 @@ some_back None path e = let bad : ⊥ = cc in absurd bad
 some_back (Some []) path e = let bad : ⊥ = cc in absurd bad
 some_back (Some (s ∷ ss)) path e = let same : path ≡ s ∷ ss = cc in (s, ss, refl, same)
 
-path_back : (path : List (List ℕ)) (o : Option Bencode) → option_and_then as_path o ≡ Some path → is_path path o ≡ true
+path_back : (path : List (List ℕ)) (o : Option Bencode) → option_and_then as_path o ≡ Some path → is_path_value path o ≡ true
 path_back path None e = let bad : ⊥ = cc in absurd bad
 path_back path (Some (int z)) e = let bad : ⊥ = cc in absurd bad
 path_back path (Some (text b)) e = let bad : ⊥ = cc in absurd bad
 path_back path (Some (list vs)) e =
     let back = some_back (texts_in vs) path e in
-    ap (λ p. is_path p (Some (list vs))) back.3 ∙ texts_back vs (back.0 ∷ back.1) back.2
+    ap (λ p. is_path_value p (Some (list vs))) back.3 ∙ texts_back vs (back.0 ∷ back.1) back.2
 path_back path (Some (dict ps)) e = let bad : ⊥ = cc in absurd bad
 
 pub length_is : (n : ℕ) (o : Option ℕ) → is_length n o ≡ true → o ≡ Some n
@@ -86,34 +86,34 @@ length_back n (Some m) e = let same : m ≡ n = cc in ap (λ k. nat_eq k n) same
 
 -- ---- entries
 
-entry_is : (v : Bencode) (f : FileEntry) → is_entry_of v f ≡ true → (length_at v ≡ Some f.length) × ((part_of v).path ≡ Some f.path)
+entry_is : (v : Bencode) (f : FileEntry) → is_entry_of v f ≡ true → (length_at v ≡ Some f.length) × ((entry_part v).path ≡ Some f.path)
 entry_is v f e =
-    let both = and_true (is_length f.length (length_at v)) (is_path f.path (get (codes "path") v)) e in
+    let both = and_true (is_length f.length (length_at v)) (is_path_value f.path (get (codes "path") v)) e in
     (length_is f.length (length_at v) both.0, path_is f.path (get (codes "path") v) both.1)
 
-entry_back : (v : Bencode) (f : FileEntry) → length_at v ≡ Some f.length → (part_of v).path ≡ Some f.path → is_entry_of v f ≡ true
+entry_back : (v : Bencode) (f : FileEntry) → length_at v ≡ Some f.length → (entry_part v).path ≡ Some f.path → is_entry_of v f ≡ true
 entry_back v f size path =
-    and_from (is_length f.length (length_at v)) (is_path f.path (get (codes "path") v))
+    and_from (is_length f.length (length_at v)) (is_path_value f.path (get (codes "path") v))
     (length_back f.length (length_at v) size) (path_back f.path (get (codes "path") v) path)
 
 -- the list behind its first entry
-parts_more : (v : Bencode) (vs : Items) (ps : List Part) → is_dict v ≡ true → parts_of vs ≡ Some ps → parts_of (item v vs) ≡ Some (part_of v ∷ ps)
+parts_more : (v : Bencode) (vs : Items) (ps : List Part) → is_dict v ≡ true → parts_of vs ≡ Some ps → parts_of (item v vs) ≡ Some (entry_part v ∷ ps)
 parts_more v vs ps is e =
-    ap (λ t. if t then option_and_then (λ (qs : List Part). Some (part_of v ∷ qs)) (parts_of vs) else None) is
-    ∙ ap (option_and_then (λ (qs : List Part). Some (part_of v ∷ qs))) e
+    ap (λ t. if t then option_and_then (λ (qs : List Part). Some (entry_part v ∷ qs)) (parts_of vs) else None) is
+    ∙ ap (option_and_then (λ (qs : List Part). Some (entry_part v ∷ qs))) e
 
 -- a list that begins with an entry
 pub record Begins (v : Bencode) (vs : Items) (ps : List Part) : Type 0 where
   pub rest : List Part
   pub is_dictionary : is_dict v ≡ true
   pub behind : parts_of vs ≡ Some rest
-  pub parts : ps ≡ part_of v ∷ rest
+  pub parts : ps ≡ entry_part v ∷ rest
 
 part_back : (v : Bencode) (vs : Items) (b : Bool) (o : Option (List Part)) (ps : List Part) → is_dict v ≡ b → parts_of vs ≡ o
-    → (if b then option_and_then (λ (qs : List Part). Some (part_of v ∷ qs)) o else None) ≡ Some ps → Begins v vs ps
+    → (if b then option_and_then (λ (qs : List Part). Some (entry_part v ∷ qs)) o else None) ≡ Some ps → Begins v vs ps
 part_back v vs false o ps is at e = let bad : ⊥ = cc in absurd bad
 part_back v vs true None ps is at e = let bad : ⊥ = cc in absurd bad
-part_back v vs true (Some qs) ps is at e = let same : ps ≡ part_of v ∷ qs = cc in record { rest = qs; is_dictionary = is; behind = at; parts = same }
+part_back v vs true (Some qs) ps is at e = let same : ps ≡ entry_part v ∷ qs = cc in record { rest = qs; is_dictionary = is; behind = at; parts = same }
 
 pub parts_back : (v : Bencode) (vs : Items) (ps : List Part) → parts_of (item v vs) ≡ Some ps → Begins v vs ps
 parts_back v vs ps e = part_back v vs (is_dict v) (parts_of vs) ps refl refl e
@@ -137,37 +137,37 @@ pub record AreParts (vs : Items) (fs : List FileEntry) : Type 0 where
   pub whole : list_any is_broken parts ≡ false
   pub same : files_in parts ≡ map named_entry fs
 
-pad_whole : (v : Bencode) → is_sized v ≡ true → has_attribute 112 v ≡ true → is_broken (part_of v) ≡ false
+pad_whole : (v : Bencode) → is_sized v ≡ true → has_attribute 112 v ≡ true → is_broken (entry_part v) ≡ false
 pad_whole v sized pad =
-    ap (λ t. t || (not (has_attribute 112 v) && is_none (part_of v).path)) (is_none_at (length_at v) (and_true _ _ sized).1)
-    ∙ ap (λ t. not t && is_none (part_of v).path) pad
+    ap (λ t. t || (not (has_attribute 112 v) && is_none (entry_part v).path)) (is_none_at (length_at v) (and_true _ _ sized).1)
+    ∙ ap (λ t. not t && is_none (entry_part v).path) pad
 
-file_whole : (v : Bencode) (path : List (List ℕ)) → is_sized v ≡ true → has_attribute 112 v ≡ false → (part_of v).path ≡ Some path → is_broken (part_of v) ≡ false
+file_whole : (v : Bencode) (path : List (List ℕ)) → is_sized v ≡ true → has_attribute 112 v ≡ false → (entry_part v).path ≡ Some path → is_broken (entry_part v) ≡ false
 file_whole v path sized file at =
-    ap (λ t. t || (not (has_attribute 112 v) && is_none (part_of v).path)) (is_none_at (length_at v) (and_true _ _ sized).1)
-    ∙ ap (λ t. not t && is_none (part_of v).path) file
+    ap (λ t. t || (not (has_attribute 112 v) && is_none (entry_part v).path)) (is_none_at (length_at v) (and_true _ _ sized).1)
+    ∙ ap (λ t. not t && is_none (entry_part v).path) file
     ∙ ap is_none at
 
 pad_added : (v : Bencode) (vs : Items) (fs : List FileEntry) → is_sized v ≡ true → has_attribute 112 v ≡ true → AreParts vs fs → AreParts (item v vs) fs
 pad_added v vs fs sized pad h = record {
-  parts = part_of v ∷ h.parts;
+  parts = entry_part v ∷ h.parts;
   listed = parts_more v vs h.parts (and_true _ _ sized).0 h.listed;
   whole = ap (λ t. t || list_any is_broken h.parts) (pad_whole v sized pad) ∙ h.whole;
-  same = files_pad (part_of v) h.parts pad ∙ h.same;
+  same = files_pad (entry_part v) h.parts pad ∙ h.same;
 }
 
 file_added : (v : Bencode) (vs : Items) (f : FileEntry) (fs : List FileEntry) → is_sized v ≡ true → has_attribute 112 v ≡ false → is_entry_of v f ≡ true
     → AreParts vs fs → AreParts (item v vs) (f ∷ fs)
 file_added v vs f fs sized file is h =
     let at = entry_is v f is in
-    let named : named_part (part_of v) ≡ named_entry f =
+    let named : named_part (entry_part v) ≡ named_entry f =
     ap (λ (o : Option (List (List ℕ))). let r : Named = record { path = unwrap_or o []; length = unwrap_or (length_at v) 0 } in r) at.1
     ∙ ap (λ (o : Option ℕ). let r : Named = record { path = f.path; length = unwrap_or o 0 } in r) at.0 in
     record {
-      parts = part_of v ∷ h.parts;
+      parts = entry_part v ∷ h.parts;
       listed = parts_more v vs h.parts (and_true _ _ sized).0 h.listed;
       whole = ap (λ t. t || list_any is_broken h.parts) (file_whole v f.path sized file at.1) ∙ h.whole;
-      same = files_file (part_of v) h.parts file ∙ ap (λ t. t ∷ files_in h.parts) named ∙ ap (λ t. named_entry f ∷ t) h.same;
+      same = files_file (entry_part v) h.parts file ∙ ap (λ t. t ∷ files_in h.parts) named ∙ ap (λ t. named_entry f ∷ t) h.same;
     }
 
 same_step : (v : Bencode) (vs : Items) (fs : List FileEntry) (sized pad : Bool) → is_sized v ≡ sized → has_attribute 112 v ≡ pad
@@ -202,41 +202,41 @@ some_number None e = let bad : ⊥ = cc in absurd bad
 some_number (Some p) e = refl
 
 -- the list's first entry is that file's
-head_is : (v : Bencode) (f : FileEntry) → is_sized v ≡ true → has_attribute 112 v ≡ false → is_broken (part_of v) ≡ false
-    → named_part (part_of v) ≡ named_entry f → is_entry_of v f ≡ true
+head_is : (v : Bencode) (f : FileEntry) → is_sized v ≡ true → has_attribute 112 v ≡ false → is_broken (entry_part v) ≡ false
+    → named_part (entry_part v) ≡ named_entry f → is_entry_of v f ≡ true
 head_is v f sized file whole named =
-    let parts = or_false (is_none (length_at v)) (not (has_attribute 112 v) && is_none (part_of v).path) whole in
-    let has_path : is_none (part_of v).path ≡ false = ap (λ t. not t && is_none (part_of v).path) (sym file) ∙ parts.1 in
-    let path : unwrap_or (part_of v).path [] ≡ f.path = ap (λ (n : Named). n.path) named in
+    let parts = or_false (is_none (length_at v)) (not (has_attribute 112 v) && is_none (entry_part v).path) whole in
+    let has_path : is_none (entry_part v).path ≡ false = ap (λ t. not t && is_none (entry_part v).path) (sym file) ∙ parts.1 in
+    let path : unwrap_or (entry_part v).path [] ≡ f.path = ap (λ (n : Named). n.path) named in
     let size : unwrap_or (length_at v) 0 ≡ f.length = ap (λ (n : Named). n.length) named in
-    entry_back v f (some_number (length_at v) (and_true _ _ sized).1 ∙ ap Some size) (some_path (part_of v).path has_path ∙ ap Some path)
+    entry_back v f (some_number (length_at v) (and_true _ _ sized).1 ∙ ap Some size) (some_path (entry_part v).path has_path ∙ ap Some path)
 
 other_step : (v : Bencode) (vs : Items) (fs : List FileEntry) (sized pad : Bool) → is_sized v ≡ sized → has_attribute 112 v ≡ pad
     → (if sized then (if pad then are_same vs fs else begins v (are_same vs) fs) else false) ≡ false
     → ((gs : List FileEntry) → are_same vs gs ≡ false → AreOther vs gs) → AreOther (item v vs) fs
 other_step v vs fs false pad s p e rest ps listed whole same =
     let b = parts_back v vs ps listed in
-    let broken : list_any is_broken (part_of v ∷ b.rest) ≡ false = ap (list_any is_broken) (sym b.parts) ∙ whole in
-    let sized : is_none (length_at v) ≡ false = (or_false _ _ (or_false (is_broken (part_of v)) _ broken).0).0 in
+    let broken : list_any is_broken (entry_part v ∷ b.rest) ≡ false = ap (list_any is_broken) (sym b.parts) ∙ whole in
+    let sized : is_none (length_at v) ≡ false = (or_false _ _ (or_false (is_broken (entry_part v)) _ broken).0).0 in
     let bad : true ≡ false = sym (and_from _ _ b.is_dictionary (some_length (length_at v) sized)) ∙ s in
     let no_way : ⊥ = cc in no_way
 other_step v vs fs true true s p e rest ps listed whole same =
     let b = parts_back v vs ps listed in
-    let unbroken : list_any is_broken (part_of v ∷ b.rest) ≡ false = ap (list_any is_broken) (sym b.parts) ∙ whole in
-    rest fs e b.rest b.behind (or_false (is_broken (part_of v)) _ unbroken).1 (sym (files_pad (part_of v) b.rest p) ∙ ap files_in (sym b.parts) ∙ same)
+    let unbroken : list_any is_broken (entry_part v ∷ b.rest) ≡ false = ap (list_any is_broken) (sym b.parts) ∙ whole in
+    rest fs e b.rest b.behind (or_false (is_broken (entry_part v)) _ unbroken).1 (sym (files_pad (entry_part v) b.rest p) ∙ ap files_in (sym b.parts) ∙ same)
 other_step v vs [] true false s p e rest ps listed whole same =
     let b = parts_back v vs ps listed in
-    let none : named_part (part_of v) ∷ files_in b.rest ≡ [] = sym (files_file (part_of v) b.rest p) ∙ ap files_in (sym b.parts) ∙ same in
+    let none : named_part (entry_part v) ∷ files_in b.rest ≡ [] = sym (files_file (entry_part v) b.rest p) ∙ ap files_in (sym b.parts) ∙ same in
     let bad : ⊥ = cc in bad
 other_step v vs (f ∷ fs) true false s p e rest ps listed whole same =
     let b = parts_back v vs ps listed in
-    let unbroken : list_any is_broken (part_of v ∷ b.rest) ≡ false = ap (list_any is_broken) (sym b.parts) ∙ whole in
-    let both : named_part (part_of v) ∷ files_in b.rest ≡ named_entry f ∷ map named_entry fs = sym (files_file (part_of v) b.rest p) ∙ ap files_in (sym b.parts) ∙ same in
-    let head : named_part (part_of v) ≡ named_entry f = cc in
+    let unbroken : list_any is_broken (entry_part v ∷ b.rest) ≡ false = ap (list_any is_broken) (sym b.parts) ∙ whole in
+    let both : named_part (entry_part v) ∷ files_in b.rest ≡ named_entry f ∷ map named_entry fs = sym (files_file (entry_part v) b.rest p) ∙ ap files_in (sym b.parts) ∙ same in
+    let head : named_part (entry_part v) ≡ named_entry f = cc in
     let tail : files_in b.rest ≡ map named_entry fs = cc in
     elim (and_cases (is_entry_of v f) (are_same vs fs) e) [
-      | inl other ↦ (let bad : true ≡ false = sym (head_is v f s p (or_false (is_broken (part_of v)) _ unbroken).0 head) ∙ other in let no_way : ⊥ = cc in no_way)
-      | inr other ↦ rest fs other b.rest b.behind (or_false (is_broken (part_of v)) _ unbroken).1 tail
+      | inl other ↦ (let bad : true ≡ false = sym (head_is v f s p (or_false (is_broken (entry_part v)) _ unbroken).0 head) ∙ other in let no_way : ⊥ = cc in no_way)
+      | inr other ↦ rest fs other b.rest b.behind (or_false (is_broken (entry_part v)) _ unbroken).1 tail
     ]
 
 pub other_parts : (vs : Items) (fs : List FileEntry) → are_same vs fs ≡ false → AreOther vs fs

@@ -39,13 +39,13 @@ are_texts (item v vs) [] = false
 are_texts (item v vs) (s ∷ ss) = is_text v s && are_texts vs ss
 
 -- a list of these byte strings, of at least one
-abbrev pub is_path : List (List ℕ) → Option Bencode → Bool
-is_path [] v = false
-is_path (s ∷ ss) None = false
-is_path (s ∷ ss) (Some (int z)) = false
-is_path (s ∷ ss) (Some (text b)) = false
-is_path (s ∷ ss) (Some (list vs)) = are_texts vs (s ∷ ss)
-is_path (s ∷ ss) (Some (dict ps)) = false
+abbrev pub is_path_value : List (List ℕ) → Option Bencode → Bool
+is_path_value [] v = false
+is_path_value (s ∷ ss) None = false
+is_path_value (s ∷ ss) (Some (int z)) = false
+is_path_value (s ∷ ss) (Some (text b)) = false
+is_path_value (s ∷ ss) (Some (list vs)) = are_texts vs (s ∷ ss)
+is_path_value (s ∷ ss) (Some (dict ps)) = false
 
 abbrev pub is_length : ℕ → Option ℕ → Bool
 is_length n None = false
@@ -53,7 +53,7 @@ is_length n (Some m) = m == n
 
 -- the entry's length and path are those of the file
 abbrev pub is_entry_of : Bencode → FileEntry → Bool
-is_entry_of v f = is_length f.length (length_at v) && is_path f.path (get (codes "path") v)
+is_entry_of v f = is_length f.length (length_at v) && is_path_value f.path (get (codes "path") v)
 
 -- the first file is the entry's, and the rest serves
 abbrev pub begins : Bencode → (List FileEntry → Bool) → List FileEntry → Bool

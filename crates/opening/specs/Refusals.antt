@@ -141,8 +141,8 @@ abbrev pub head_rows : Bencode → List Row
 head_rows v = top_rows v ++ (told_rows (info_in v) ++ layers_rows v)
 
 -- the tests of all keys
-abbrev pub key_rows : Bencode → List Row
-key_rows v = top_rows v
+abbrev pub all_key_rows : Bencode → List Row
+all_key_rows v = top_rows v
     ++ (told_rows (info_in v) ++ (layers_rows v ++ piece_length_rows (piece_length_in v)))
 
 abbrev pub count_rows : ℕ → List ListedFile → List Row
@@ -191,13 +191,13 @@ hybrid_rows piece_length info name fs =
     ∷ []
 
 -- tables, one behind the other
-abbrev joined : List (List Row) → List Row
-joined [] = []
-joined (rows ∷ tables) = rows ++ joined tables
+abbrev joined_rows : List (List Row) → List Row
+joined_rows [] = []
+joined_rows (rows ∷ tables) = rows ++ joined_rows tables
 
 -- the tests of a value, in their order
 abbrev pub table : Bencode → List Row
-table v = joined (
+table v = joined_rows (
     top_rows v
     ∷ version_rows (info_in v)
     ∷ present_rows (info_in v)
@@ -226,4 +226,4 @@ RefusesTorrent b r = ((max_torrent < length b) × (r ≡ refusals.TooLarge))
 pub record OpeningTakesMemory (b : List ℕ) : Type 0 where
   pub small : length b ≤ max_torrent
   pub where_taken : ((offset : ℕ) × benc.Opens b offset)
-      ⊎ ((v : Bencode) × Spells v b × NoneHolds (key_rows v))
+      ⊎ ((v : Bencode) × Spells v b × NoneHolds (all_key_rows v))

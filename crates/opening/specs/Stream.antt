@@ -39,8 +39,8 @@ abbrev pub as_path : Bencode → Option (List (List ℕ))
 as_path v = option_and_then some_texts (option_and_then texts_in (as_list v))
 
 -- an entry of `files`: a dictionary, a pad where `attr` has the letter `p`
-abbrev pub part_of : Bencode → Part
-part_of entry =
+abbrev pub entry_part : Bencode → Part
+entry_part entry =
     record {
       is_pad = has_attribute 112 entry;
       length = length_at entry;
@@ -51,7 +51,7 @@ part_of entry =
 abbrev pub parts_of : Items → Option (List Part)
 parts_of no_items = Some []
 parts_of (item v vs) =
-    if is_dict v then option_and_then (λ ps. Some (part_of v ∷ ps)) (parts_of vs) else None
+    if is_dict v then option_and_then (λ ps. Some (entry_part v ∷ ps)) (parts_of vs) else None
 
 -- the list: the entries of `files`, or the one file of `length`, where just one of these keys is
 -- there

@@ -13,7 +13,7 @@ ghost use Rattle.filetree.specs.declared.files.ListedFile.{ListedFile};
 ghost use Rattle.opening.specs.Describes.{Describes, IsDescribed};
 ghost use Rattle.opening.specs.Layered.{layer_pairs};
 ghost use Rattle.opening.specs.Opening.{AreContents, content_rows};
-ghost use Rattle.opening.specs.Refusals.{RefusesTorrent, OpeningTakesMemory, key_rows, table};
+ghost use Rattle.opening.specs.Refusals.{RefusesTorrent, OpeningTakesMemory, all_key_rows, table};
 ghost use Rattle.opening.specs.Trees.{IsIn};
 
 use crate::info::{self, Keys, read_keys};
@@ -69,7 +69,7 @@ fn read<'a>(alloc: Global, top: &Value<'a>, info_bytes: &[u8]) -> Result<Torrent
     ensures passes { PassesUnlessNoMemory (table (view top.now))
         (IsDescribed (view top.now)) result }
     ensures memory { IfErr result
-        (λ r. r ≡ Refusal.NoMemory → NoneHolds (key_rows (view top.now))) }
+        (λ r. r ≡ Refusal.NoMemory → NoneHolds (all_key_rows (view top.now))) }
 {
     let Keys {
         info,

@@ -5,7 +5,7 @@
 ghost use Rattle.std.specs.Prelude.{◌≡◌, ◌≢◌, ◌⊎◌, ◌+◌, ◌*◌, ◌^◌, ◌<◌, ◌≤◌, ℕ, List, length, map, sum_by, Option, Some, None, option_map, MatchOption, MatchResult, IsTrue, if◌then◌else◌};
 ghost use Rattle.benc.specs.View.{view, items_view};
 ghost use Rattle.filetree.specs.Dictionary.{get};
-ghost use Rattle.opening.specs.Matching.{FitsStream, after_entry, aligned_length, are_same, are_texts, ends_of, entry_length, is_named, many_lengths, named_entry, one_length, stream_at, is_entry_of, is_misplaced, is_path, is_sized, is_text, nowhere};
+ghost use Rattle.opening.specs.Matching.{FitsStream, after_entry, aligned_length, are_same, are_texts, ends_of, entry_length, is_named, many_lengths, named_entry, one_length, stream_at, is_entry_of, is_misplaced, is_path_value, is_sized, is_text, nowhere};
 ghost use Rattle.opening.specs.PieceLayers.{as_digests};
 ghost use Rattle.filetree.specs.declared.files.ListedFile.{ListedFile};
 ghost use Rattle.opening.specs.Refusals.{hybrid_rows};
@@ -83,9 +83,9 @@ fn are_texts(values: &[Value<'_>], texts: &[&str]) -> bool
 }
 
 /// Whether the value is a list of just these byte strings, at least one.
-fn is_path(value: Option<&Value<'_>>, path: &[&str]) -> bool
+fn is_path_value(value: Option<&Value<'_>>, path: &[&str]) -> bool
     ensures { result
-        ≡ is_path (map (λ s. s.now) path.now) (option_map (λ v. view v.now) value.entry) }
+        ≡ is_path_value (map (λ s. s.now) path.now) (option_map (λ v. view v.now) value.entry) }
 {
     match value {
         Some(Value::List(components)) => !path.is_empty() && are_texts(components, path),
@@ -97,7 +97,7 @@ fn is_path(value: Option<&Value<'_>>, path: &[&str]) -> bool
 fn is_entry_of(entry: &Value<'_>, file: &File<'_>) -> bool
     ensures { result ≡ is_entry_of (view entry.now) (file_entry file.now) }
 {
-    length(entry) == Some(file.length) && is_path(entry.get(b"path"), &file.path.parts())
+    length(entry) == Some(file.length) && is_path_value(entry.get(b"path"), &file.path.parts())
 }
 
 /// Whether the entries are dictionaries with a length, and those that are no pads just these files

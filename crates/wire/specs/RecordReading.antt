@@ -14,15 +14,15 @@ use Rattle.wire.specs.Records.{Directed, HasForm, IsCutFrame, MayStand, directio
 
 -- what a call reads of a record: before the form is known, what the form begins with and then this
 -- part, and these bytes have the form; later this part alone, in the form that is known
-abbrev pub Reads : Option Form → Form → List ℕ → List ℕ → Type 0
-Reads None form part bytes = (bytes ≡ heading form ++ part) × HasForm bytes form
-Reads (Some known) form part bytes = (form ≡ known) × (bytes ≡ part)
+abbrev pub ReadsPart : Option Form → Form → List ℕ → List ℕ → Type 0
+ReadsPart None form part bytes = (bytes ≡ heading form ++ part) × HasForm bytes form
+ReadsPart (Some known) form part bytes = (form ≡ known) × (bytes ≡ part)
 
 -- from old to new the source gave this part of a record
 pub record GavePart (before : Option Form) (form : Form) (part : List ℕ) (old new : SourceSeen)
     : Type 0 where
   pub bytes : List ℕ
-  pub reads : Reads before form part bytes
+  pub reads : ReadsPart before form part bytes
   pub gave : Gave old new bytes
 
 -- the next frame, with no call that failed

@@ -16,7 +16,7 @@ use Rattle.pieces.specs.Pieces.{IsPieceLength}
 use Rattle.opening.specs.Describes.{IsDescribed}
 use Rattle.opening.specs.Layered.{layer_pairs}
 use Rattle.opening.specs.Opening.{AreKeys}
-use Rattle.opening.specs.Refusals.{head_rows, key_rows}
+use Rattle.opening.specs.Refusals.{head_rows, all_key_rows}
 use Rattle.opening.specs.Refusals.{layers_in, number_in, piece_length_in, piece_length_rows}
 use Rattle.opening.specs.Seen.{described, file_entry}
 use Rattle.opening.specs.Steps.{pairs_seen}
@@ -170,7 +170,7 @@ returns-in_err-info-clause-memory c =
     let v = view c.args.top.now in
     let r = c.in_err-info.field-0.0 in
     let p = err_from_is_err_and c.from_residual.result c.from_residual.ensures.1 in
-    rw (p.1, p.2) (λ memory. absurd (keys_take_none v (subst (First (key_rows v)) memory (first_front (head_rows v) (piece_length_rows (piece_length_in v)) r c.in_err-info.ensures))))
+    rw (p.1, p.2) (λ memory. absurd (keys_take_none v (subst (First (all_key_rows v)) memory (first_front (head_rows v) (piece_length_rows (piece_length_in v)) r c.in_err-info.ensures))))
 
 pub returns-in_err-piece_length-clause-memory : goal.returns-in_err-piece_length-clause-memory
 returns-in_err-piece_length-clause-memory c =
@@ -181,7 +181,7 @@ returns-in_err-piece_length-clause-memory c =
     let same : n ≡ piece_length_in v = ap (λ z. number_in (int z)) (sym c.in_ok-info.piece_length-is) ∙ c.in_ok-info.ensures.1.piece_length in
     let first : First (piece_length_rows n) r = search rules in
     let told = subst (λ m. First (piece_length_rows m) r) same first in
-    rw (p.1, p.2) (λ memory. absurd (keys_take_none v (subst (First (key_rows v)) memory (first_behind (head_rows v) (piece_length_rows (piece_length_in v)) r c.in_ok-info.ensures.0 told))))
+    rw (p.1, p.2) (λ memory. absurd (keys_take_none v (subst (First (all_key_rows v)) memory (first_behind (head_rows v) (piece_length_rows (piece_length_in v)) r c.in_ok-info.ensures.0 told))))
 
 pub returns-in_err-listed-clause-memory : goal.returns-in_err-listed-clause-memory
 returns-in_err-listed-clause-memory c =

@@ -2,7 +2,7 @@ use Rattle.std.proofs.Common.{◌+◌, ◌≤◌, ◌++◌, vec_len, sym, ap, �
 use Rattle.std.specs.Vec.{vec_capacity}
 use Rattle.node_maps.specs.Cell.{hash_in}
 use Rattle.node_maps.specs.Directories.{on_rows}
-use Rattle.node_maps.specs.PagedRow.{pages_of, hashes_of}
+use Rattle.node_maps.specs.PagedRow.{pages_of, row_hashes}
 use Rattle.node_maps.specs.Runs.{hashes_from}
 use Rattle.node_maps.proofs.Runs.{known-alike, alike-back, known-part, hashes-alike, hashes-join}
 use Rattle.node_maps.proofs.Parts.{page-alike, page-there}
@@ -17,14 +17,14 @@ copy_to-requires-clause-known c =
     let alike = page-alike (on_rows row.pages) (c.args.from + c.parts.done) part.result.number part.result.first part.result.count c.in-Some.page.now
     part.ensures.number part.ensures.first part.ensures.inside (sym c.in-Some.ensures) in
     let fits : c.parts.done + part.result.count ≤ c.args.count = omega (arith, part.ensures.most, c.parts-test.true) in
-    known-alike (alike-back alike) (known-part (hashes_of row) c.args.from c.args.count c.parts.done part.result.count fits c.requires.known)
+    known-alike (alike-back alike) (known-part (row_hashes row) c.args.from c.args.count c.parts.done part.result.count fits c.requires.known)
 
 pub parts-preserved : goal.parts-preserved
 unfolding pages_of
 parts-preserved c =
     let row = c.args.self.now in
     let part = c.first_of-part in
-    let f = hashes_of row in
+    let f = row_hashes row in
     let at = c.args.from + c.parts.done in
     elim c.match-page.branch [
       | in-Some w ↦

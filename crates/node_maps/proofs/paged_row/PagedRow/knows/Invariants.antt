@@ -1,12 +1,12 @@
 use Rattle.std.proofs.Common.{◌-◌, ◌≤◌}
-use Rattle.node_maps.specs.PagedRow.{hashes_of}
+use Rattle.node_maps.specs.PagedRow.{row_hashes}
 use Rattle.node_maps.specs.Runs.{AreKnown}
 use Rattle.node_maps.proofs.paged_row.PagedRow.knows.Given as goal
 
 -- the places so far are known
 abbrev pub invariant-parts : goal.invariant-parts
 invariant-parts l = record {
-  known : AreKnown (hashes_of l.self) l.from l.done;
+  known : AreKnown (row_hashes l.self) l.from l.done;
   most : l.done ≤ l.count;
 }
 

@@ -1,7 +1,7 @@
 use Rattle.std.proofs.Common.{◌≡◌, ℕ, List, length, sym, ap, ◌∙◌, subst}
 use Rattle.std.specs.List.{remove}
 use Rattle.node_maps.specs.declared.page.Page.{Page}
-use Rattle.node_maps.specs.Rising.{AreRising, IsAt, IsGapFor, found}
+use Rattle.node_maps.specs.Rising.{AreRising, IsAt, IsGapFor, page_numbered}
 use Rattle.node_maps.proofs.Rising.{rising-remove, remove-found, remove-beside, found_gap}
 use Rattle.node_maps.proofs.Pages.{absent-changed}
 use Rattle.node_maps.proofs.shelf.ShelfDirectory.remove.Goals as goal
@@ -25,11 +25,11 @@ returns-in-Ok c =
     let ns : List ℕ = s.numbers.items in
     let ps : List Page = s.pages.items in
     let is = subst (λ xs. IsAt xs c.args.number c.in-Ok.at) c.deref.ensures.value c.in-Ok.ensures.at in
-    λ n. ap (λ xs. found xs c.remove-in-Ok.new.self.items n) c.remove.ensures.items ∙ ap (λ ys. found (remove ns c.in-Ok.at) ys n) c.remove-in-Ok.ensures.items
+    λ n. ap (λ xs. page_numbered xs c.remove-in-Ok.new.self.items n) c.remove.ensures.items ∙ ap (λ ys. page_numbered (remove ns c.in-Ok.at) ys n) c.remove-in-Ok.ensures.items
     ∙ remove-found ns ps s.rising s.beside c.args.number c.in-Ok.at is n
 
 pub returns-in_default : goal.returns-in_default
 returns-in_default c =
     let s = c.args.self.now in
     let gap = subst (λ xs. IsGapFor xs c.args.number c.in_default.field-0) c.deref.ensures.value c.in_default.ensures.gap in
-    absent-changed c.args.number (found s.numbers.items s.pages.items) (found_gap s.numbers.items s.pages.items c.args.number c.in_default.field-0 gap)
+    absent-changed c.args.number (page_numbered s.numbers.items s.pages.items) (found_gap s.numbers.items s.pages.items c.args.number c.in_default.field-0 gap)
