@@ -10,7 +10,7 @@ use command_line::command::{Action, Convert, Create, Replay};
 use metainfo::{Draft, Torrent};
 use progress::{Cleared, Counted, Progress};
 use std::fs::File;
-use std::io::{self, BufWriter, Printer};
+use std::io::{self, BufWriter, IsTerminal, Printer};
 
 /// Does what was asked for, and gives the exit status.
 pub(crate) fn perform<'a>(rt: &HostRuntime, action: &Action<'a>) -> Result<u8, Fault<'a>> {
@@ -113,10 +113,26 @@ fn convert<'a>(rt: &HostRuntime, asked: &Convert<'a>) -> Result<u8, Fault<'a>> {
     let Ok(file) = File::open(rt, asked.record) else {
         return Err(Fault::Read(asked.record));
     };
-    let mut source = FromRead::new(file);
+    convert_file(rt, asked.record, file, asked.out, written)
+}
+
+// Frames go out all the time, so the line stays while they do, but not if they show on a terminal.
+fn convert_file<'a>(
+    rt: &HostRuntime,
+    record: &'a str,
+    file: File,
+    path: &'a str,
+    written: File,
+) -> Result<u8, Fault<'a>> {
+    let progress = Progress::new(rt, length_of(&file));
+    let mut source = Counted::new(FromRead::new(file), record, 0, &progress);
+    let mut out = Cleared::new(FromWrite::new(io::writer(rt)), &progress);
+    if written.is_terminal() {
+        let mut converted = Cleared::new(FromWrite::new(written), &progress);
+        return answers::convert(record, &mut source, path, &mut converted, &mut out);
+    }
     let mut converted = FromWrite::new(written);
-    let mut out = FromWrite::new(io::writer(rt));
-    answers::convert(asked, &mut source, &mut converted, &mut out)
+    answers::convert(record, &mut source, path, &mut converted, &mut out)
 }
 
 // The torrent is read, and a refusal is printed, before the record is opened.

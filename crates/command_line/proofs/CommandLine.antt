@@ -1,8 +1,7 @@
 -- How a command grows, and which texts an action needs.
-use Rattle.std.proofs.Common.{◌≡◌, ◌∙◌, ◌++◌, ◌∷◌, [], ap, codes, false, if◌then◌else◌, List, None, Option, option_map, refl, Some, subst, sym, true, tt, ⊤, ◌||◌, Bool}
-use Rattle.std.specs.Borrow.{Bor}
+use Rattle.std.proofs.Common.{◌≡◌, ◌∙◌, ◌++◌, ◌∷◌, [], ap, codes, false, if◌then◌else◌, List, None, Option, option_map, refl, Some, subst, sym, true, ◌||◌, Bool}
 use Rattle.std.specs.List.{list_any}
-use Rattle.std.specs.Prelude.{Box, Err, Ok, Result, unwrap_or, ◌<◌, ◌^◌, ℕ}
+use Rattle.std.specs.Prelude.{⊤, Box, Err, Ok, Result, unwrap_or, ◌<◌, ◌^◌, ℕ}
 use Rattle.std.specs.Str.Parse.{IsNumeral, ParsesUnsigned, digits_value, without_leading_plus}
 use Rattle.clap.specs.Matches.{ReadsOne}
 use Rattle.std.specs.Box.{box_value}
@@ -97,12 +96,12 @@ number_read gives parses (Some text) (Some number) none reads =
 -- ---- without a text or a number that it needs, a command asks for nothing
 
 -- what stands beside a name in a table
-beside : Text → List (Text × List Text) → List Text
+abbrev pub beside : Text → List (Text × List Text) → List Text
 beside name [] = []
 beside name (p ∷ ps) = if bytes_eq name p.0 then p.1 else beside name ps
 
 -- the texts that the command of this name needs
-needed_texts : Text → List Text
+abbrev pub needed_texts : Text → List Text
 needed_texts name = beside name ((codes "root", codes "FILE" ∷ [])
     ∷ (codes "show", codes "TORRENT" ∷ [])
     ∷ (codes "check", codes "TORRENT" ∷ codes "DIR" ∷ [])
@@ -111,7 +110,7 @@ needed_texts name = beside name ((codes "root", codes "FILE" ∷ [])
     ∷ (codes "convert", codes "RECORD" ∷ codes "OUT" ∷ []) ∷ [])
 
 -- a text is found under each of these names
-HasTexts : List Row → List Text → Type 0
+abbrev pub HasTexts : List Row → List Text → Type 0
 HasTexts rows [] = ⊤
 HasTexts rows (name ∷ names) =
     ((text : Text) × (first_of name rows ≡ Some text)) × HasTexts rows names
@@ -121,13 +120,14 @@ has_texts : (rows : List Row) (a : Action) → FindsArguments rows a
     → HasTexts rows (needed_texts (command_of a))
 has_texts rows (action.Root file) found = ((file.now, found), tt)
 has_texts rows (action.Show torrent) found = ((torrent.now, found), tt)
-has_texts rows (action.Check torrent dir) found = ((torrent.now, found.0), (dir.now, found.1), tt)
+has_texts rows (action.Check torrent dir) found =
+    ((torrent.now, found.0), ((dir.now, found.1), tt))
 has_texts rows (action.Create asked) found =
-    ((asked.dir.now, found.0), (asked.out.now, found.1), (asked.name.now, found.2), tt)
+    ((asked.dir.now, found.0), ((asked.out.now, found.1), ((asked.name.now, found.2), tt)))
 has_texts rows (action.Replay asked) found =
-    ((asked.torrent.now, found.0), (asked.record.now, found.1), tt)
+    ((asked.torrent.now, found.0), ((asked.record.now, found.1), tt))
 has_texts rows (action.Convert asked) found =
-    ((asked.record.now, found.0), (asked.out.now, found.1), tt)
+    ((asked.record.now, found.0), ((asked.out.now, found.1), tt))
 
 -- none of the texts that are found is absent
 none_absent : (rows : List Row) (name : Text) → first_of name rows ≡ None
@@ -136,9 +136,9 @@ none_absent rows name absent [] all is = cc
 none_absent rows name absent (n ∷ names) all is =
     elim (bytes_eq name n) as (λ b. bytes_eq name n ≡ b → (b || list_any (bytes_eq name) names) ≡ true → ⊥) [
       | true ↦ λ same _.
-        let at : first_of n rows ≡ None = subst (λ m. first_of m rows ≡ None) ((bytes_eq-Decides name n).0 same) absent in
-        let bad : None ≡ Some all.0.0 = sym at ∙ all.0.1 in
-        cc
+          let at : first_of n rows ≡ None = subst (λ m. first_of m rows ≡ None) ((bytes_eq-Decides name n).0 same) absent in
+          let bad : None ≡ Some all.0.0 = sym at ∙ all.0.1 in
+          cc
       | false ↦ λ _ rest. none_absent rows name absent names all.1 rest
     ] refl is
 
@@ -148,7 +148,7 @@ pub needs_text : (command name : Text) (rows : List Row)
     → (a : Action) → Asks command rows a → ⊥
 needs_text command name rows needed absent a asks =
     none_absent rows name absent (needed_texts (command_of a)) (has_texts rows a asks.1)
-        (subst (λ c. list_any (bytes_eq name) (needed_texts c) ≡ true) asks.0 needed)
+    (subst (λ c. list_any (bytes_eq name) (needed_texts c) ≡ true) asks.0 needed)
 
 -- without a piece length, `create` asks for nothing
 pub needs_piece_length : (rows : List Row)

@@ -5,7 +5,9 @@ ghost use Rattle.clap.specs.declared.error.kind.ErrorKind.TheVariants.{OutOfMemo
 ghost use Rattle.command_line.specs.CommandLine.{IsApp, IsArgument, IsLeaf, check_command, command, convert_command, create_command, flag, needed, needed_number, needed_option, option, program, replay_command, root_command, show_command};
 
 use crate::help::{
-    ABOUT, ANSWERS_HELP, CHECK_ABOUT, CHECK_HELP, CONVERT_ABOUT, CONVERT_HELP, CREATE_ABOUT, CREATE_HELP, EXAMPLES, HYBRID_HELP, INFO_ONLY_HELP, NAME_HELP, PIECE_LENGTH_HELP, REPLAY_ABOUT, REPLAY_HELP, ROOT_ABOUT, ROOT_HELP, SEED_HELP, SHOW_ABOUT, SHOW_HELP, STATUSES, VERSION,
+    ABOUT, ANSWERS_HELP, CHECK_ABOUT, CHECK_HELP, CONVERT_ABOUT, CONVERT_HELP, CREATE_ABOUT,
+    CREATE_HELP, EXAMPLES, HYBRID_HELP, INFO_ONLY_HELP, NAME_HELP, PIECE_LENGTH_HELP, REPLAY_ABOUT,
+    REPLAY_HELP, ROOT_ABOUT, ROOT_HELP, SEED_HELP, SHOW_ABOUT, SHOW_HELP, STATUSES, VERSION,
 };
 use clap::{Arg, ArgAction, Command, Error, value_parser};
 use std::alloc::Global;

@@ -2,7 +2,8 @@
 
 pub(crate) const VERSION: &str = "0.2.0 (proved with rattle-kit-13b logic dac8208d650f15bf)";
 
-pub(crate) const ABOUT: &str = "Checks BitTorrent version 2: torrents, folders and messages of peers";
+pub(crate) const ABOUT: &str =
+    "Checks BitTorrent version 2: torrents, folders and messages of peers";
 
 pub(crate) const STATUSES: &str = "\
 Exit status: 0 yes or done, 1 no or refused, 2 a fault of the arguments, of files or of memory.";
@@ -28,7 +29,8 @@ pub(crate) const ROOT_HELP: &str = "\
 Prints `LENGTH ROOT`, or `0 -` for an empty file. FILE may be a pipe.
 A file of more than 2^46 bytes prints `refused 10 Length`, status 1.";
 
-pub(crate) const SHOW_ABOUT: &str = "Prints what a torrent holds: name, info-hashes, files and their roots";
+pub(crate) const SHOW_ABOUT: &str =
+    "Prints what a torrent holds: name, info-hashes, files and their roots";
 
 pub(crate) const SHOW_HELP: &str = "\
 Prints name, piece length, info-hashes, and for each file `LENGTH ROOT PATH`.
@@ -55,16 +57,19 @@ Writes a record in which each frame has a direction: every frame of RECORD came 
 hashes message went out the request that it answers. OUT is emptied first, so it must not be RECORD.
 A record that has directions already prints `refused 3 AlreadyForm2`, status 1.";
 
-pub(crate) const REPLAY_ABOUT: &str = "Checks recorded messages of peers, and prints a verdict on each";
+pub(crate) const REPLAY_ABOUT: &str =
+    "Checks recorded messages of peers, and prints a verdict on each";
 
 pub(crate) const REPLAY_HELP: &str = "\
 A record is the frames that came in, joined, without a handshake. Prints a line for each frame as it
 comes, and at last `end` or how the record failed. The status is 1 if something was refused, and 2
 if the record failed or memory was refused.";
 
-pub(crate) const INFO_ONLY_HELP: &str = "Start from the roots alone, without the torrent's piece layers";
+pub(crate) const INFO_ONLY_HELP: &str =
+    "Start from the roots alone, without the torrent's piece layers";
 
-pub(crate) const SEED_HELP: &str = "Start from the hashes of the files that this folder holds right, too";
+pub(crate) const SEED_HELP: &str =
+    "Start from the hashes of the files that this folder holds right, too";
 
 pub(crate) const ANSWERS_HELP: &str =
     "Write the answers to hash requests to this file, which is emptied first";

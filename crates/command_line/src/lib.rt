@@ -1,9 +1,8 @@
 //! The command line of `btcheck`: what its arguments ask for.
 #![tactic(auto)]
 
-pub mod command;
-
 mod arguments;
+pub mod command;
 mod definition;
 mod explaining;
 mod finding;

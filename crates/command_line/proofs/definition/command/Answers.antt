@@ -1,4 +1,4 @@
-use Rattle.std.proofs.Common.{◌∙◌, [], ap, codes, true}
+use Rattle.std.proofs.Common.{◌∙◌, ap, codes, true}
 use Rattle.clap.specs.Simple.{Shape, app_of_fields, new_shape, on_top}
 use Rattle.clap.specs.declared.builder.command.Command.{Command}
 use Rattle.clap.specs.declared.builder.command.Command.TheOpen.{Command-F}
