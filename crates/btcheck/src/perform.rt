@@ -116,7 +116,7 @@ fn convert<'a>(rt: &HostRuntime, asked: &Convert<'a>) -> Result<u8, Fault<'a>> {
     convert_file(rt, asked.record, file, asked.out, written)
 }
 
-// Frames go out all the time, so the line stays while they do, but not if they show on a terminal.
+// Frames go out all the time, so they leave the line where it is, but not if a terminal shows them.
 fn convert_file<'a>(
     rt: &HostRuntime,
     record: &'a str,
@@ -125,14 +125,28 @@ fn convert_file<'a>(
     written: File,
 ) -> Result<u8, Fault<'a>> {
     let progress = Progress::new(rt, length_of(&file));
-    let mut source = Counted::new(FromRead::new(file), record, 0, &progress);
-    let mut out = Cleared::new(FromWrite::new(io::writer(rt)), &progress);
-    if written.is_terminal() {
-        let mut converted = Cleared::new(FromWrite::new(written), &progress);
-        return answers::convert(record, &mut source, path, &mut converted, &mut out);
+    let is_shown = written.is_terminal();
+    let converted = FromWrite::new(written);
+    if is_shown {
+        let mut cleared = Cleared::new(converted, &progress);
+        convert_to(rt, record, file, path, &mut cleared, &progress)
+    } else {
+        let mut converted = converted;
+        convert_to(rt, record, file, path, &mut converted, &progress)
     }
-    let mut converted = FromWrite::new(written);
-    answers::convert(record, &mut source, path, &mut converted, &mut out)
+}
+
+fn convert_to<'a, W: Sink>(
+    rt: &HostRuntime,
+    record: &'a str,
+    file: File,
+    path: &'a str,
+    converted: &mut W,
+    progress: &Progress,
+) -> Result<u8, Fault<'a>> {
+    let mut source = Counted::new(FromRead::new(file), record, 0, progress);
+    let mut out = Cleared::new(FromWrite::new(io::writer(rt)), progress);
+    answers::convert(record, &mut source, path, converted, &mut out)
 }
 
 // The torrent is read, and a refusal is printed, before the record is opened.
