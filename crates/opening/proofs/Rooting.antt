@@ -1,6 +1,6 @@
 -- Roots in the order of first use.
-use Rattle.std.proofs.Common.{◌≡◌, ◌≢◌, ℕ, zero, suc, ◌+◌, ◌<◌, ◌≤◌, drop, get_or, Bool, true, false, cond, List, [], ◌∷◌, ◌++◌, length, Option, Some, None, option_map, ◌⊎◌, inl, inr, refl, sym, ap, subst, ◌∙◌}
-use Rattle.std.specs.Prelude.{◌==◌, slice_get, fold, take, if◌then◌else◌}
+use Rattle.std.proofs.Common.{◌≡◌, ◌≢◌, ℕ, zero, suc, ◌+◌, ◌<◌, ◌≤◌, drop, get_or, Bool, true, false, cond, List, [], ◌∷◌, ◌++◌, length, Option, Some, None, option_map, map, ◌⊎◌, inl, inr, refl, sym, ap, subst, ◌∙◌}
+use Rattle.std.specs.Prelude.{◌==◌, slice_get, fold, take, if◌then◌else◌, IfSome}
 use Rattle.std.specs.Cmp.Lexicographic.{slice_cmp}
 use Rattle.std.specs.Ordering.{nat_cmp, is_eq}
 use Rattle.std.specs.declared.cmp.Ordering.{Ordering}
@@ -8,14 +8,16 @@ use Rattle.std.specs.declared.cmp.Ordering.TheVariants.{Less, Equal, Greater}
 use Rattle.std.specs.Str.{bytes_eq}
 use Rattle.std.proofs.lemmas.Cmp.{nat_list_cmp_total, tied_itself}
 use Rattle.std.proofs.lemmas.Map.Lookups.{exact_bytes}
-use Rattle.std.proofs.lemmas.Option.{slice_get_within, slice_get_read}
+use Rattle.std.proofs.lemmas.Option.{slice_get_within, slice_get_read, slice_get-map}
 use Rattle.filetree.specs.declared.files.ListedFile.{ListedFile}
 use Rattle.filetree.proofs.Bytes.{equal_bytes, same_bytes, true_or_false}
-use Rattle.opening.specs.Trees.{IsIn, place_in, with_root, with_file, roots_in, IsReused, pieces_in}
+use Rattle.opening.specs.Trees.{IsIn, IsTreeWithRoot, place_in, root_of_tree, tree_with_root, with_root, with_file, roots_in, IsReused, pieces_in}
 use Rattle.opening.specs.declared.roots.Root.{Root}
 use Rattle.pieces.specs.Pieces.{pieces_of}
 use Rattle.opening.specs.Rooted.{IsRootAt, AreRoots, entries_from}
-use Rattle.opening.specs.Description.{FileEntry}
+use Rattle.opening.specs.Description.{FileEntry, TreeEntry}
+use Rattle.opening.specs.PieceLayers.{tree_at}
+use Rattle.benc.specs.Value.{Pairs}
 use Rattle.std.specs.Prelude.{option_and_then}
 use Rattle.std.proofs.Common.{append_assoc}
 use Rattle.std.proofs.lemmas.List.{drop_more, drop_all, take_more, take-append-drop}
@@ -109,6 +111,42 @@ pieces_next p xs i x lt is =
 
 pub pieces_done : (p : ℕ) (xs : List ListedFile) (i : ℕ) → length xs ≤ i → pieces_in p (drop i xs) ≡ 0
 pieces_done p xs i le = ap (λ ys. pieces_in p ys) (drop_all i xs le)
+
+-- ---- the trees by their roots
+
+-- the roots of the trees are those that the trees were made of
+pub roots_back : (p : ℕ) (layers : Pairs) (ts : List Root) → map root_of_tree (map (tree_at p layers) ts) ≡ ts
+roots_back p layers [] = refl
+roots_back p layers (t ∷ ts) = ap (λ us. t ∷ us) (roots_back p layers ts)
+
+place_there : (ts : List Root) (s : List ℕ) (n : ℕ) (t : Root) → slice_get ts n ≡ Some t → t.root ≡ s → (m : ℕ) × (place_in ts s ≡ Some m)
+place_there [] s n t e same = cc
+place_there (u ∷ ts) s zero t e same = let here : u ≡ t = cc in (0, rw (equal_bytes u.root s (ap (λ (r : Root). r.root) here ∙ same)) refl)
+place_there (u ∷ ts) s (suc n) t e same =
+    elim (true_or_false (bytes_eq u.root s)) [
+      | inl here ↦ (0, rw here refl)
+      | inr other ↦ let rest = place_there ts s n t e same in (suc rest.0, rw other (ap (option_map suc) rest.1))
+    ]
+
+tree_of_root : (o : Option TreeEntry) (r : Root) → option_map root_of_tree o ≡ Some r → (t : TreeEntry) × (o ≡ Some t) × (t.root ≡ r.root)
+tree_of_root None r e = cc
+tree_of_root (Some t) r e = let same : root_of_tree t ≡ r = cc in (t, refl, ap (λ (x : Root). x.root) same)
+
+pub tree_found : (ts : List TreeEntry) (s : List ℕ) (o : Option ℕ) → o ≡ tree_with_root ts s → IfSome o (IsTreeWithRoot ts s)
+tree_found ts s None e = tt
+tree_found ts s (Some n) e =
+    let at = place_at (map root_of_tree ts) s n (sym e) in
+    let tree = tree_of_root (slice_get ts n) at.0 (sym (slice_get-map root_of_tree ts n) ∙ at.1) in
+    (tree.0, tree.1, tree.2 ∙ at.2)
+
+pub tree_only : (ts : List TreeEntry) (s : List ℕ) (o : Option ℕ)
+    → ((n k : ℕ) (a b : TreeEntry) → slice_get ts n ≡ Some a → slice_get ts k ≡ Some b → a.root ≡ b.root → n ≡ k)
+    → o ≡ tree_with_root ts s → (n : ℕ) → IsTreeWithRoot ts s n → o ≡ Some n
+tree_only ts s o differ e n at =
+    let there = place_there (map root_of_tree ts) s n (root_of_tree at.0) (slice_get-map root_of_tree ts n ∙ ap (option_map root_of_tree) at.1) at.2 in
+    let is : o ≡ Some there.0 = e ∙ there.1 in
+    let found = subst (λ x. IfSome x (IsTreeWithRoot ts s)) is (tree_found ts s o e) in
+    is ∙ ap Some (differ there.0 n found.0 at.0 found.1 at.1 (found.2 ∙ sym at.2))
 
 -- ---- one file more
 

@@ -8,7 +8,7 @@ use Rattle.filetree.specs.declared.files.ListedFile.{ListedFile}
 use Rattle.opening.specs.PieceLayers.{tree_at}
 use Rattle.filetree.specs.Tests.{Row}
 use Rattle.opening.specs.Refusals.{count_rows, file_tree_in, info_in, layer_rows, layers_in, name_in, number_in, piece_length_in}
-use Rattle.opening.specs.Rooted.{AreRoots, entries_from}
+use Rattle.opening.specs.Rooted.{AreNumbers, AreRoots, entries_from}
 use Rattle.opening.specs.Seen.{file_entry, tree_entry}
 use Rattle.opening.specs.Steps.{pairs_seen}
 use Rattle.opening.specs.Trees.{pieces_in, roots_in}
@@ -29,10 +29,11 @@ pub record AreKeys (v : Bencode) (k : Keys) : Type 0 where
   pub layers : pairs_seen k.layers ≡ layers_in v
   pub piece_length : number_in (int k.piece_length) ≡ piece_length_in v
 
--- the files and trees
+-- the files and trees, and the numbers of the trees by their roots
 pub record AreContents (piece_length : ℕ) (layers : Pairs) (fs : List ListedFile) (c : Contents)
     : Type 0 where
   pub files : map file_entry c.files.items ≡ entries_from piece_length (roots_in fs) 0 fs
   pub trees : map tree_entry c.trees.items ≡ map (tree_at piece_length layers) (roots_in fs)
+  pub numbers : AreNumbers c.numbers (roots_in fs)
   pub roots : AreRoots fs (roots_in fs)
   pub pieces : pieces_in piece_length fs < 2 ^ 32

@@ -1,5 +1,8 @@
 -- Files and the roots found so far. Public clauses do not name these.
 use Rattle.std.specs.Prelude.{◌≡◌, ◌≢◌, ◌⊎◌, ◌+◌, ◌<◌, ◌^◌, ℕ, List, [], ◌∷◌, None, Some, option_and_then, slice_get}
+use Rattle.std.specs.BTreeMap.{BTreeMap, get}
+use Rattle.std.specs.Cmp.Lexicographic.{slice_cmp}
+use Rattle.std.specs.Ordering.{nat_cmp}
 use Rattle.filetree.specs.declared.files.ListedFile.{ListedFile}
 use Rattle.filetree.specs.declared.refusal.Refusal.{Refusal}
 use Rattle.filetree.specs.declared.refusal.Refusal.TheVariants as refusals
@@ -7,6 +10,10 @@ use Rattle.pieces.specs.Pieces.{pieces_of}
 use Rattle.opening.specs.Description.{FileEntry}
 use Rattle.opening.specs.Trees.{IsIn, place_in, roots_in, pieces_in}
 use Rattle.opening.specs.declared.roots.Root.{Root}
+
+-- the number of each root is its place in the list, and no others are kept
+abbrev pub AreNumbers : BTreeMap (List ℕ) ℕ → List Root → Type 0
+AreNumbers numbers ts = (s : List ℕ) → get (slice_cmp nat_cmp) numbers s ≡ place_in ts s
 
 -- a root stands at this place, with a length
 pub record IsRootAt (ts : List Root) (s : List ℕ) (length : ℕ) : Type 0 where

@@ -1,11 +1,11 @@
 -- The trees of a torrent: the distinct roots of files that are not empty, in the order of first use
 -- (BEP 52, "pieces root"), and the pieces of files (BEP 52, "piece length").
-use Rattle.std.specs.Prelude.{◌≡◌, ◌≢◌, ℕ, is_some, if◌then◌else◌, List, [], ◌∷◌, ◌++◌, length, take, fold, sum_by, Option, Some, None, suc, option_map, option_and_then, slice_get}
+use Rattle.std.specs.Prelude.{◌≡◌, ◌≢◌, ℕ, is_some, if◌then◌else◌, List, [], ◌∷◌, ◌++◌, length, map, take, fold, sum_by, Option, Some, None, suc, option_map, option_and_then, slice_get}
 use Rattle.std.specs.Str.{bytes_eq}
 use Rattle.pieces.specs.Pieces.{pieces_of}
 use Rattle.filetree.specs.declared.files.ListedFile.{ListedFile}
 use Rattle.opening.specs.declared.roots.Root.{Root}
-use Rattle.opening.specs.Description.{FileEntry}
+use Rattle.opening.specs.Description.{FileEntry, TreeEntry}
 
 -- how many pieces the files have in all
 abbrev pub pieces_in : ℕ → List ListedFile → ℕ
@@ -15,6 +15,18 @@ pieces_in piece_length fs = sum_by (λ f. pieces_of piece_length f.length) fs
 abbrev pub place_in : List Root → List ℕ → Option ℕ
 place_in [] s = None
 place_in (t ∷ ts) s = if bytes_eq t.root s then Some 0 else option_map suc (place_in ts s)
+
+-- the root of a tree, and the length of its files
+abbrev pub root_of_tree : TreeEntry → Root
+root_of_tree t = record { root = t.root; length = t.length }
+
+-- the number of the tree that has a root
+abbrev pub tree_with_root : List TreeEntry → List ℕ → Option ℕ
+tree_with_root ts s = place_in (map root_of_tree ts) s
+
+-- tree n has this root
+abbrev pub IsTreeWithRoot : List TreeEntry → List ℕ → ℕ → Type 0
+IsTreeWithRoot ts s n = (t : TreeEntry) × (slice_get ts n ≡ Some t) × (t.root ≡ s)
 
 -- the roots so far, and this one unless it is there
 abbrev pub with_root : List Root → ℕ → Option (List ℕ) → List Root

@@ -31,15 +31,17 @@ use pieces::PieceLength;
 use sha1::Sha1;
 use sha2::{Digest, Sha256};
 use std::alloc::Global;
+use std::collections::BTreeMap;
 
 /// The most bytes that a torrent file has.
 pub const MAX_TORRENT: usize = 67_108_864;
 
-/// The files and trees of a torrent.
+/// The files and trees of a torrent, and the number of each tree by its root.
 #[derive(Drop)]
 struct Contents<'a> {
     files: Vec<File<'a>>,
     trees: Vec<TreeInfo<'a>>,
+    numbers: BTreeMap<Hash, usize>,
 }
 
 /// Tests the files together, and the layers of their trees.
@@ -58,7 +60,11 @@ fn read_contents<'a>(
     layer_tests::test(roots.as_slice(), layers, piece_length)?;
     let trees = layer_tests::infos(alloc, roots.as_slice(), layers, piece_length)?;
     let files = place_files(alloc, listed, &roots, piece_length)?;
-    Ok(Contents { files, trees })
+    Ok(Contents {
+        files,
+        trees,
+        numbers: roots.into_numbers(),
+    })
 }
 
 /// The torrent of a canonical value, given the bytes of its info dictionary as found.
@@ -81,11 +87,24 @@ fn read<'a>(alloc: Global, top: &Value<'a>, info_bytes: &[u8]) -> Result<Torrent
     let piece_length = info::piece_length(piece_length)?;
     let listed = read_tree(alloc, tree)?;
     let layers = Layers::of(layers);
-    let Contents { files, trees } = read_contents(alloc, listed, &layers, piece_length)?;
+    let Contents {
+        files,
+        trees,
+        numbers,
+    } = read_contents(alloc, listed, &layers, piece_length)?;
     let v1 = version1(info, name, &files, piece_length)?;
     let hash_v2 = info_hash_v2(info_bytes);
     let hash_v1 = Sha1::digest(info_bytes);
-    Ok(Torrent::new(name, piece_length, files, trees, hash_v2, hash_v1, v1))
+    Ok(Torrent::new(
+        name,
+        piece_length,
+        files,
+        trees,
+        numbers,
+        hash_v2,
+        hash_v1,
+        v1,
+    ))
 }
 
 fn info_hash_v2(info: &[u8]) -> Hash

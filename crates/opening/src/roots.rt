@@ -3,7 +3,7 @@
 ghost use Rattle.std.specs.Prelude.{◌≡◌, ◌≢◌, ◌<◌, ◌^◌, [], map, Some, MatchResult, OnOk, nat_le};
 ghost use Rattle.filetree.specs.Tests.{PassesUnlessNoMemory, Tests, UnlessNoMemory};
 ghost use Rattle.opening.specs.Refusals.{count_rows};
-ghost use Rattle.opening.specs.Rooted.{AreRoots, AreTrees, IsRootAt, IsRootRefused, entries_from};
+ghost use Rattle.opening.specs.Rooted.{AreNumbers, AreRoots, AreTrees, IsRootAt, IsRootRefused, entries_from};
 ghost use Rattle.opening.specs.Seen.{file_entry};
 ghost use Rattle.opening.specs.Trees.{IsReused, pieces_in, place_in, with_root};
 
@@ -35,19 +35,15 @@ pub(crate) struct Roots {
 }
 
 impl Model for Roots {
-    ghost use Rattle.std.specs.Prelude.{◌≡◌, ℕ, List};
-    ghost use Rattle.std.specs.BTreeMap as tree;
-    ghost use Rattle.std.specs.Cmp.Lexicographic.{slice_cmp};
-    ghost use Rattle.std.specs.Ordering.{nat_cmp};
-    ghost use Rattle.opening.specs.Trees.{place_in};
+    ghost use Rattle.std.specs.Prelude.{List};
+    ghost use Rattle.opening.specs.Rooted.{AreNumbers};
     ghost use Rattle.opening.specs.declared.roots.Root.{Root};
 
     ghost Value = { List Root };
 
     ghost view = { λ r. r.list.items };
 
-    ghost invariant = { λ r. (s : List ℕ)
-        → tree.get (slice_cmp nat_cmp) r.numbers s ≡ place_in r.list.items s };
+    ghost invariant = { λ r. AreNumbers r.numbers r.list.items };
 }
 
 impl Roots {
@@ -72,6 +68,14 @@ impl Roots {
         ensures { result ≡ place_in self.now root.now }
     {
         self.numbers.get(root).copied()
+    }
+
+    /// The number of each root.
+    pub(crate) fn into_numbers(self) -> BTreeMap<Hash, usize>
+        ensures { AreNumbers result self }
+    {
+        let Roots { numbers, list: _ } = self;
+        numbers
     }
 
     /// Adds a root unless it is there with this length.

@@ -6,6 +6,7 @@ ghost use Rattle.opening.specs.Description.{Description, FileEntry, TreeEntry};
 use filetree::Path;
 use hashtree::Hash;
 use pieces::{PieceLength, V1};
+use std::collections::BTreeMap;
 use std::marker::Model;
 
 /// A file of a torrent.
@@ -42,15 +43,19 @@ pub struct Torrent<'a> {
     piece_length: PieceLength,
     files: Vec<File<'a>>,
     trees: Vec<TreeInfo<'a>>,
+    numbers: BTreeMap<Hash, usize>,
     info_hash_v2: Hash,
     info_hash_v1: [u8; 20],
     v1: Option<V1<'a>>,
 }
 
 impl<'a> Model for Torrent<'a> {
+    ghost use Rattle.std.specs.Prelude.{map};
     ghost use Rattle.opening.specs.Description.{Description};
-    ghost use Rattle.opening.specs.Seen.{described};
+    ghost use Rattle.opening.specs.Rooted.{AreNumbers};
+    ghost use Rattle.opening.specs.Seen.{described, tree_entry};
     ghost use Rattle.opening.specs.Sound.{IsSound};
+    ghost use Rattle.opening.specs.Trees.{root_of_tree};
 
     ghost Value = { Description };
 
@@ -58,7 +63,8 @@ impl<'a> Model for Torrent<'a> {
         t.info_hash_v2 t.info_hash_v1 t.v1 };
 
     ghost invariant = { λ t. IsSound (described t.name.now t.piece_length t.files.items
-        t.trees.items t.info_hash_v2 t.info_hash_v1 t.v1) };
+        t.trees.items t.info_hash_v2 t.info_hash_v1 t.v1)
+        × AreNumbers t.numbers (map root_of_tree (map tree_entry t.trees.items)) };
 }
 
 impl<'a> Torrent<'a> {
@@ -67,18 +73,22 @@ impl<'a> Torrent<'a> {
     ghost use Rattle.opening.specs.Seen.{file_entry, tree_entry, version1};
     ghost use Rattle.opening.specs.Sound.{IsSound};
     ghost use Rattle.opening.specs.Seen.{described};
+    ghost use Rattle.opening.specs.Rooted.{AreNumbers};
+    ghost use Rattle.opening.specs.Trees.{IsTreeWithRoot, root_of_tree, tree_with_root};
 
     pub(crate) fn new(
         name: &'a str,
         piece_length: PieceLength,
         files: Vec<File<'a>>,
         trees: Vec<TreeInfo<'a>>,
+        numbers: BTreeMap<Hash, usize>,
         info_hash_v2: Hash,
         info_hash_v1: [u8; 20],
         v1: Option<V1<'a>>,
     ) -> Torrent<'a>
-        requires { IsSound (described name.now piece_length files.items trees.items info_hash_v2
-            info_hash_v1 v1) }
+        requires sound { IsSound (described name.now piece_length files.items trees.items
+            info_hash_v2 info_hash_v1 v1) }
+        requires numbers { AreNumbers numbers (map root_of_tree (map tree_entry trees.items)) }
         ensures { result
             ≡ described name.now piece_length files.entry.items trees.entry.items info_hash_v2
             info_hash_v1 v1.entry }
@@ -88,6 +98,7 @@ impl<'a> Torrent<'a> {
             piece_length,
             files,
             trees,
+            numbers,
             info_hash_v2,
             info_hash_v1,
             v1,
@@ -150,6 +161,15 @@ impl<'a> Torrent<'a> {
         ensures { (f : FileEntry) → slice_get self.now.files file ≡ Some f → result ≡ f.tree }
     {
         self.files[file].tree
+    }
+
+    /// The number of the tree that has this root; `None` if no tree has it. Takes no memory.
+    pub fn tree_with_root(&self, root: &Hash) -> Option<usize>
+        ensures value { result ≡ tree_with_root self.now.trees root.now }
+        ensures found { IfSome result (IsTreeWithRoot self.now.trees root.now) }
+        ensures only { (n : ℕ) → IsTreeWithRoot self.now.trees root.now n → result ≡ Some n }
+    {
+        self.numbers.get(root).copied()
     }
 
     /// What holds of every torrent.

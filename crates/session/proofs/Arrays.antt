@@ -3,7 +3,7 @@ use Rattle.std.proofs.Common.{◌≡◌, ℕ, suc, ◌+◌, ◌-◌, ◌<◌, Li
 use Rattle.std.proofs.Math.Seq.{set-append_seam, take-suc-set}
 use Rattle.std.proofs.lemmas.List.{append_assoc}
 use Rattle.partial_tree.specs.declared.refusal.BlockRefusal.{BlockRefusal}
-use Rattle.session.specs.Blocks.{most_blocks, padded, IsArrayOf}
+use Rattle.session.specs.Blocks.{most_blocks, cells_of, IsArrayOf}
 
 module _ (cells : List (Option BlockRefusal)) (count first : ℕ) (h : IsArrayOf cells count first) where
   module _ (r : Option BlockRefusal) (low : count < most_blocks) where
@@ -12,7 +12,7 @@ module _ (cells : List (Option BlockRefusal)) (count first : ℕ) (h : IsArrayOf
         let next : count + 1 ≡ suc count = omega arith in
         ap (λ n. take n (set cells count r)) next ∙ take-suc-set cells count r (omega (arith, h.size, low))
 
-    pushed-cells : padded (take count cells ++ r ∷ []) ≡ set cells count r
+    pushed-cells : cells_of (take count cells ++ r ∷ []) ≡ set cells count r
     pushed-cells =
         let xs : List (Option BlockRefusal) = take count cells in
         let rest : List (Option BlockRefusal) = replicate (16 - count) None in
@@ -28,6 +28,6 @@ module _ (cells : List (Option BlockRefusal)) (count first : ℕ) (h : IsArrayOf
     pushed-array = record {
       size = length-set cells count r ∙ h.size;
       count_is = ap length pushed-list ∙ (let e : length (take count cells ++ r ∷ []) ≡ count + 1 = omega (arith, length-append (take count cells) (r ∷ []), h.count_is) in e);
-      cells_are = ap padded pushed-list ∙ pushed-cells;
+      cells_are = ap cells_of pushed-list ∙ pushed-cells;
       first_low = h.first_low;
     }

@@ -15,7 +15,7 @@ use Rattle.session.specs.declared.verdict.Verdict.TheVariants as verdict
 use Rattle.session.specs.Blocks.{BlocksSeen, Cut, cuts}
 use Rattle.partial_tree.specs.TreeRoot.{TreeRoot}
 use Rattle.session.specs.Asks.{AskSet}
-use Rattle.session.specs.Session.{SessionSeen, TreeState, IsTree, IsGood, IsAsked, IsAnswered, IsStored, IsHashRefused, IsInFile, BlockStep, AreTaken, AreRefused, Step}
+use Rattle.session.specs.Session.{SessionSeen, TreeState, IsTree, HasClosedTrees, IsAsked, IsAnswered, IsStored, IsHashRefused, IsInFile, BlockStep, AreTaken, AreRefused, Step}
 use Rattle.session.specs.NotedLaws.{asking}
 use Rattle.session.specs.SafeStep.{KeepsKnown}
 
@@ -39,11 +39,11 @@ module _ (o : AskSet) where
   keeps_asking S S' keeps n tree s at =
       let (later, later_is, same) = keeps n tree s at in (later, tree_asking S' n tree later later_is, same)
 
-  pub good_asking : (S : SessionSeen) → IsGood S → IsGood (asking o S)
-  good_asking S good = record {
-    count = good.count;
-    closed = λ n tree s at. good.closed n tree s (record { tree_is = at.tree_is; state_is = at.state_is });
-    marks = λ n tree s at. good.marks n tree s (record { tree_is = at.tree_is; state_is = at.state_is });
+  pub closed_asking : (S : SessionSeen) → HasClosedTrees S → HasClosedTrees (asking o S)
+  closed_asking S closed_trees = record {
+    count = closed_trees.count;
+    closed = λ n tree s at. closed_trees.closed n tree s (record { tree_is = at.tree_is; state_is = at.state_is });
+    marks = λ n tree s at. closed_trees.marks n tree s (record { tree_is = at.tree_is; state_is = at.state_is });
   }
 
   -- ---- steps

@@ -20,13 +20,13 @@ use Rattle.partial_tree.proofs.Headline.{block-size, leaf_or_collision, block_or
 use Rattle.chains.specs.Chain.{Chain}
 use Rattle.session.specs.Blocks.{BlocksSeen, Cut, cuts}
 use Rattle.session.specs.Layouts.{SessionSeen, roots, tree_of}
-use Rattle.session.specs.Session.{TreeState, IsTree, IsGood, IsInFile, IsMarkedBlock, BlockStep, AreTaken, IsFileBlock, AreBlocks}
+use Rattle.session.specs.Session.{TreeState, IsTree, HasClosedTrees, IsInFile, IsMarkedBlock, BlockStep, AreTaken, IsFileBlock, AreBlocks}
 use Rattle.session.specs.SafeStep.{TakesTrueBlock, VerifiesTrueBlocks}
 use Rattle.session.proofs.States.{set-read, set-write, set-other}
 
 -- ---- the step of one block
 
-module _ (S : SessionSeen) (good : IsGood S) (file b : ℕ) (bytes : List ℕ) (S' : SessionSeen) (h : IsMarkedBlock S file b bytes S') where
+module _ (S : SessionSeen) (closed_trees : HasClosedTrees S) (file b : ℕ) (bytes : List ℕ) (S' : SessionSeen) (h : IsMarkedBlock S file b bytes S') where
   abbrev marked_state : TreeState
   marked_state = record h.in_file.state { marked = leaves.insert h.in_file.state.marked b }
 
@@ -38,27 +38,27 @@ module _ (S : SessionSeen) (good : IsGood S) (file b : ℕ) (bytes : List ℕ) (
       → ((k ≡ h.in_file.tree_number) × (s ≡ marked_state)) ⊎ ((k ≢ h.in_file.tree_number) × (slice_get S.trees k ≡ Some s))
   read_after k s at = set-read S.trees h.in_file.tree_number k marked_state s (ap (λ U. slice_get U.trees k) (sym h.state_after) ∙ at)
 
-  marked-good : IsGood S'
-  marked-good = record {
-    count = ap (λ U. length U.trees) h.state_after ∙ length-set S.trees h.in_file.tree_number marked_state ∙ good.count ∙ ap (λ U. length (roots U)) (sym h.state_after);
+  marked-closed : HasClosedTrees S'
+  marked-closed = record {
+    count = ap (λ U. length U.trees) h.state_after ∙ length-set S.trees h.in_file.tree_number marked_state ∙ closed_trees.count ∙ ap (λ U. length (roots U)) (sym h.state_after);
     closed = λ k tree s at. elim (read_after k s at.state_is) [
       | inl (same, is) ↦
           let one : h.in_file.tree ≡ tree = same_Some h.in_file.tree tree (sym h.in_file.is_tree.tree_is ∙ ap (slice_get (roots S)) (sym same) ∙ same_tree_before k tree at.tree_is) in
-          subst₂ (λ (tr : TreeRoot) (st : TreeState). IsClosed tr (look st.known)) one (sym is) (good.closed h.in_file.tree_number h.in_file.tree h.in_file.state h.in_file.is_tree)
-      | inr (other, old) ↦ good.closed k tree s (record { tree_is = same_tree_before k tree at.tree_is; state_is = old })
+          subst₂ (λ (tr : TreeRoot) (st : TreeState). IsClosed tr (look st.known)) one (sym is) (closed_trees.closed h.in_file.tree_number h.in_file.tree h.in_file.state h.in_file.is_tree)
+      | inr (other, old) ↦ closed_trees.closed k tree s (record { tree_is = same_tree_before k tree at.tree_is; state_is = old })
     ];
     marks = λ k tree s at i marked. elim (read_after k s at.state_is) [
       | inl (same, is) ↦
           let here : leaves.contains (leaves.insert h.in_file.state.marked b) i ≡ true = ap (λ (st : TreeState). leaves.contains st.marked i) (sym is) ∙ marked in
-          let (v, e) = marked-known h.in_file.state b i (sha256 bytes) h.leaf_known (good.marks h.in_file.tree_number h.in_file.tree h.in_file.state h.in_file.is_tree i) here in
+          let (v, e) = marked-known h.in_file.state b i (sha256 bytes) h.leaf_known (closed_trees.marks h.in_file.tree_number h.in_file.tree h.in_file.state h.in_file.is_tree i) here in
           (v, ap (λ (st : TreeState). look st.known 0 i) is ∙ e)
-      | inr (other, old) ↦ good.marks k tree s (record { tree_is = same_tree_before k tree at.tree_is; state_is = old }) i marked
+      | inr (other, old) ↦ closed_trees.marks k tree s (record { tree_is = same_tree_before k tree at.tree_is; state_is = old }) i marked
     ];
   }
 
-step-good : (file : ℕ) (S : SessionSeen) (c : Cut) (r : Option BlockRefusal) (S' : SessionSeen) → IsGood S → BlockStep file S c r S' → IsGood S'
-step-good file S c None S' good h = marked-good S good file c.number c.bytes S' h
-step-good file S c (Some r) S' good h = subst IsGood (sym h.1) good
+step-closed : (file : ℕ) (S : SessionSeen) (c : Cut) (r : Option BlockRefusal) (S' : SessionSeen) → HasClosedTrees S → BlockStep file S c r S' → HasClosedTrees S'
+step-closed file S c None S' closed_trees h = marked-closed S closed_trees file c.number c.bytes S' h
+step-closed file S c (Some r) S' closed_trees h = subst HasClosedTrees (sym h.1) closed_trees
 
 step-torrent : (file : ℕ) (S : SessionSeen) (c : Cut) (r : Option BlockRefusal) (S' : SessionSeen) → BlockStep file S c r S' → S'.torrent ≡ S.torrent
 step-torrent file S c None S' h = ap (λ U. U.torrent) h.state_after
@@ -122,15 +122,15 @@ step-says file S c (Some r) S' ((p, refused), same) n tree s of' at =
     (same_tree S file c.number n tree s of' at p) (same_state S file c.number n tree s of' at p) refused
 
 -- a marked block is the file's, or a collision is named
-pub says-block : (S : SessionSeen) → IsGood S → (file : ℕ) (c : Cut) (n : ℕ) (tree : TreeRoot) (s : TreeState) → tree_of S file ≡ Some n → IsTree S n tree s
+pub says-block : (S : SessionSeen) → HasClosedTrees S → (file : ℕ) (c : Cut) (n : ℕ) (tree : TreeRoot) (s : TreeState) → tree_of S file ≡ Some n → IsTree S n tree s
     → Says tree s.known c None → IsFileBlock S file c.number c.bytes
-says-block S good file c n tree s of' at says = record {
+says-block S closed_trees file c n tree s of' at says = record {
   in_file = record { tree_number = n; tree = tree; state = s; of_file = of'; is_tree = at; inside = says.0 };
-  is_block = λ f fits. block_or_collision tree (look s.known) f (good.closed n tree s at) fits c.number says.0 (sha256 c.bytes) c.bytes says.1 refl;
+  is_block = λ f fits. block_or_collision tree (look s.known) f (closed_trees.closed n tree s at) fits c.number says.0 (sha256 c.bytes) c.bytes says.1 refl;
 }
 
 -- the true block of a known leaf is not refused, or a collision is named
-module _ (S : SessionSeen) (good : IsGood S) (file b : ℕ) (bytes : List ℕ) (p : IsInFile S file b) (f : List ℕ) (fits : Fits f p.tree) (is_block : bytes ≡ block f b)
+module _ (S : SessionSeen) (closed_trees : HasClosedTrees S) (file b : ℕ) (bytes : List ℕ) (p : IsInFile S file b) (f : List ℕ) (fits : Fits f p.tree) (is_block : bytes ≡ block f b)
     (known : IsKnown (look p.state.known) 0 b) where
   has_size : HasBlockSize p.tree.length b bytes
   has_size = ap length is_block ∙ block-size f b ∙ ap (λ n. min 16384 (n - 16384 * b)) fits.same_length
@@ -140,27 +140,27 @@ module _ (S : SessionSeen) (good : IsGood S) (file b : ℕ) (bytes : List ℕ) (
   never-refused BadSize wrong = absurd (wrong has_size)
   never-refused Unproved (size, none) = absurd (none-some known.0 (sym none ∙ known.1))
   never-refused BadBlock (size, (leaf, is_leaf, differ)) =
-      elim (leaf_or_collision p.tree (look p.state.known) f (good.closed p.tree_number p.tree p.state p.is_tree) fits b p.inside leaf is_leaf) [
+      elim (leaf_or_collision p.tree (look p.state.known) f (closed_trees.closed p.tree_number p.tree p.state p.is_tree) fits b p.inside leaf is_leaf) [
         | inl same ↦ absurd (differ (ap sha256 is_block ∙ sym same))
         | inr collision ↦ collision
       ]
 
-pub says-taken : (S : SessionSeen) → IsGood S → (file : ℕ) (c : Cut) (n : ℕ) (tree : TreeRoot) (s : TreeState) (r : Option BlockRefusal)
+pub says-taken : (S : SessionSeen) → HasClosedTrees S → (file : ℕ) (c : Cut) (n : ℕ) (tree : TreeRoot) (s : TreeState) (r : Option BlockRefusal)
     → tree_of S file ≡ Some n → IsTree S n tree s → Says tree s.known c r → TakesTrueBlock S file c.number c.bytes r
-says-taken S good file c n tree s None of' at says = λ p f fits is_block known. inl refl
-says-taken S good file c n tree s (Some r) of' at says = λ p f fits is_block known.
-    inr (never-refused S good file c.number c.bytes p f fits is_block known r
+says-taken S closed_trees file c n tree s None of' at says = λ p f fits is_block known. inl refl
+says-taken S closed_trees file c n tree s (Some r) of' at says = λ p f fits is_block known.
+    inr (never-refused S closed_trees file c.number c.bytes p f fits is_block known r
     (subst₂ (λ (tr : TreeRoot) (st : TreeState). TreeRefusesBlock tr.length (look st.known) c.number c.bytes r)
     (sym (same_tree S file c.number n tree s of' at p)) (sym (same_state S file c.number n tree s of' at p)) says))
 
 -- ---- all blocks of a message
 
 module _ (file : ℕ) where
-  pub chain-good : (S : SessionSeen) (cs : List Cut) (rs : List (Option BlockRefusal)) (S' : SessionSeen) → IsGood S → Chain (BlockStep file) S cs rs S' → IsGood S'
-  chain-good S [] [] S' good e = subst IsGood (sym e) good
-  chain-good S [] (r ∷ rs) S' good e = absurd e
-  chain-good S (c ∷ cs) [] S' good e = absurd e
-  chain-good S (c ∷ cs) (r ∷ rs) S' good (M, step, rest) = chain-good M cs rs S' (step-good file S c r M good step) rest
+  pub chain-closed : (S : SessionSeen) (cs : List Cut) (rs : List (Option BlockRefusal)) (S' : SessionSeen) → HasClosedTrees S → Chain (BlockStep file) S cs rs S' → HasClosedTrees S'
+  chain-closed S [] [] S' closed_trees e = subst HasClosedTrees (sym e) closed_trees
+  chain-closed S [] (r ∷ rs) S' closed_trees e = absurd e
+  chain-closed S (c ∷ cs) [] S' closed_trees e = absurd e
+  chain-closed S (c ∷ cs) (r ∷ rs) S' closed_trees (M, step, rest) = chain-closed M cs rs S' (step-closed file S c r M closed_trees step) rest
 
   pub chain-torrent : (S : SessionSeen) (cs : List Cut) (rs : List (Option BlockRefusal)) (S' : SessionSeen) → Chain (BlockStep file) S cs rs S' → S'.torrent ≡ S.torrent
   chain-torrent S [] [] S' e = ap (λ U. U.torrent) e
@@ -219,7 +219,7 @@ cuts-at first bytes (suc k) m low =
 
 -- ---- a message of blocks
 
-module _ (S : SessionSeen) (good : IsGood S) (index begin : ℕ) (bytes : List ℕ) (v : BlocksSeen) (S' : SessionSeen) (h : AreTaken S index begin bytes v S') where
+module _ (S : SessionSeen) (closed_trees : HasClosedTrees S) (index begin : ℕ) (bytes : List ℕ) (v : BlocksSeen) (S' : SessionSeen) (h : AreTaken S index begin bytes v S') where
   abbrev cut_at : ℕ → Cut
   cut_at m = record { number = v.first + m; bytes = block bytes m }
 
@@ -231,9 +231,9 @@ module _ (S : SessionSeen) (good : IsGood S) (index begin : ℕ) (bytes : List �
   pub taken-blocks : AreBlocks S index begin bytes v
   taken-blocks = record {
     at = h.at;
-    verified = λ m told. says-block S good v.file (cut_at m) h.in_file.tree_number h.in_file.tree h.in_file.state h.in_file.of_file h.in_file.is_tree (entry-says m None told);
+    verified = λ m told. says-block S closed_trees v.file (cut_at m) h.in_file.tree_number h.in_file.tree h.in_file.state h.in_file.of_file h.in_file.is_tree (entry-says m None told);
   }
 
   pub taken-true : VerifiesTrueBlocks S bytes v
   taken-true = λ m r told.
-      says-taken S good v.file (cut_at m) h.in_file.tree_number h.in_file.tree h.in_file.state r h.in_file.of_file h.in_file.is_tree (entry-says m r told)
+      says-taken S closed_trees v.file (cut_at m) h.in_file.tree_number h.in_file.tree h.in_file.state r h.in_file.of_file h.in_file.is_tree (entry-says m r told)

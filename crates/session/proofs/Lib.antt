@@ -15,5 +15,6 @@ pub mod OpenAsks
 pub mod Asking
 pub mod NotedSteps
 pub mod NotedRounds
+pub mod RepeatedRounds
 pub mod Replayed
 pub mod OneRun

@@ -25,7 +25,7 @@ use Rattle.partial_tree.specs.Gaps.{window, want_ask, want_of}
 use Rattle.node_maps.specs.Known.{look}
 use Rattle.chains.specs.Chain.{Chain}
 use Rattle.chains.proofs.Chains.{LastStep, last_step}
-use Rattle.session.specs.Session.{SessionSeen, TreeState, IsTree, IsGood, HasDistinctRoots, HasFewerGaps, Step}
+use Rattle.session.specs.Session.{SessionSeen, TreeState, IsTree, HasClosedTrees, HasDistinctRoots, HasFewerGaps, Step}
 use Rattle.session.specs.Rounds.{HasNoMoreGaps, Collides}
 use Rattle.session.specs.Noted.{IsOpenAsk, StepOut, NotedStep, KeepsOpen}
 use Rattle.session.specs.NotedRounds.{HasDirectedHashes, IsAskedAt, IsAskedFor, LacksMemoryToNote, NotedRoundLeavesFewer}
@@ -36,7 +36,7 @@ use Rattle.session.proofs.Asking.{tree_asking}
 use Rattle.session.proofs.Runs.{Learns, step-learns, unchanged}
 use Rattle.session.proofs.Rounds.{asked-is, want-tall, answer-fewer}
 use Rattle.session.proofs.RoundRuns.{lacks_memory, lacks_memory-is, lacks_memory-not, collision-keeps, later-distinct, wanted-is}
-use Rattle.session.proofs.NotedSteps.{in_hashes, noted-torrent, noted-learns, noted-good, noted-open, noted-opens, learns-keeps, base_later}
+use Rattle.session.proofs.NotedSteps.{in_hashes, noted-torrent, noted-learns, noted-closed, noted-open, noted-opens, learns-keeps, base_later}
 
 -- ---- whole runs
 
@@ -55,12 +55,12 @@ run-noted-learns S (m ∷ ms) (v ∷ vs) S' (M, step, rest) n tree s at =
     let a : Learns S M n tree s = noted-learns S m v M step n tree s at in
     one-more a (run-noted-learns M ms vs S' rest n tree a.later a.later_is)
 
-pub run-noted-good : (S : SessionSeen) (ms : List (Directed Message)) (vs : List Verdict) (S' : SessionSeen) → IsGood S → All HasDirectedHashes ms → Chain NotedStep S ms vs S' → IsGood S'
-run-noted-good S [] [] S' good all e = subst IsGood (sym e) good
-run-noted-good S [] (v ∷ vs) S' good all e = absurd e
-run-noted-good S (m ∷ ms) [] S' good all e = absurd e
-run-noted-good S (m ∷ ms) (v ∷ vs) S' good all (M, step, rest) =
-    run-noted-good M ms vs S' (noted-good S m v M good (All-head HasDirectedHashes m ms all) step) (All-tail HasDirectedHashes m ms all) rest
+pub run-noted-closed : (S : SessionSeen) (ms : List (Directed Message)) (vs : List Verdict) (S' : SessionSeen) → HasClosedTrees S → All HasDirectedHashes ms → Chain NotedStep S ms vs S' → HasClosedTrees S'
+run-noted-closed S [] [] S' closed_trees all e = subst HasClosedTrees (sym e) closed_trees
+run-noted-closed S [] (v ∷ vs) S' closed_trees all e = absurd e
+run-noted-closed S (m ∷ ms) [] S' closed_trees all e = absurd e
+run-noted-closed S (m ∷ ms) (v ∷ vs) S' closed_trees all (M, step, rest) =
+    run-noted-closed M ms vs S' (noted-closed S m v M closed_trees (All-head HasDirectedHashes m ms all) step) (All-tail HasDirectedHashes m ms all) rest
 
 pub run-noted-gaps : (S : SessionSeen) (ms : List (Directed Message)) (vs : List Verdict) (S' : SessionSeen) → Chain NotedStep S ms vs S' → HasNoMoreGaps S S'
 run-noted-gaps S ms vs S' run n tree s at =
@@ -85,21 +85,21 @@ run-noted-torrent S (m ∷ ms) (v ∷ vs) S' (M, step, rest) = run-noted-torrent
 -- ---- a round: S is where the ask was wanted, M where it was open, N where its true answer comes
 
 pub noted_round : (S M N S' : SessionSeen) → HasDistinctRoots S → M.torrent ≡ S.torrent → (ns : List (Directed Message)) (ws : List Verdict) (n : ℕ) (tree : TreeRoot) (s : TreeState) (b : ℕ) (ask : Ask) (f : List ℕ)
-    → IsGood S → IsGood M → ((n : ℕ) (tree : TreeRoot) (s : TreeState) → IsTree S n tree s → Learns S M n tree s) → All HasDirectedHashes ns
+    → HasClosedTrees S → HasClosedTrees M → ((n : ℕ) (tree : TreeRoot) (s : TreeState) → IsTree S n tree s → Learns S M n tree s) → All HasDirectedHashes ns
     → IsTree S n tree s → b < block_count tree.length → want_of tree (look s.known) b ≡ Some ask → Fits f tree
     → IsOpenAsk M ask → Chain NotedStep M ns ws N → (hashes : Bor (List Hash)) → hashes.now ≡ answer_of (tree_height tree.length) (whole f) ask
     → (v : Verdict) → v ≢ verdict.HashRefused NoMemory → NotedStep N (In, message.Hashes ask hashes) v S' → HasFewerGaps S' n tree (look s.known) ⊎ Collides S' n f
-noted_round S M N S' distinct same_torrent ns ws n tree s b ask f good good_M learns all at inside wanted fits was run hashes is_answer v memory step =
+noted_round S M N S' distinct same_torrent ns ws n tree s b ask f closed_trees closed_M learns all at inside wanted fits was run hashes is_answer v memory step =
     let (none, is) = wanted-is tree (look s.known) b ask wanted in
     let root : tree.root ≡ ask.root = ap (λ (a : Ask). a.root) (sym is) in
-    let good_N : IsGood N = run-noted-good M ns ws N good_M all run in
+    let closed_N : HasClosedTrees N = run-noted-closed M ns ws N closed_M all run in
     let distinct_N : HasDistinctRoots N = later-distinct S N (run-noted-torrent M ns ws N run ∙ same_torrent) distinct in
     let a : Learns S M n tree s = learns n tree s at in
     let d : Learns M N n tree a.later = run-noted-learns M ns ws N run n tree a.later a.later_is in
-    let tall : 1 ≤ tree_height tree.length = want-tall tree (look s.known) b (good.closed n tree s at) inside none in
+    let tall : 1 ≤ tree_height tree.length = want-tall tree (look s.known) b (closed_trees.closed n tree s at) inside none in
     let last : (k : TreeState) → IsTree N n tree k → Learns N S' n tree k = λ k k_at. noted-learns N (In, message.Hashes ask hashes) v S' step n tree k k_at in
     elim (run-noted-open M ns ws N run ask was) [
-      | inl still ↦ elim (true_answer-accepted tree b tall inside (look d.later.known) f (good_N.closed n tree d.later d.later_is) fits) [
+      | inl still ↦ elim (true_answer-accepted tree b tall inside (look d.later.known) f (closed_N.closed n tree d.later d.later_is) fits) [
         | inr collision ↦
             let e : Learns N S' n tree d.later = last d.later d.later_is in
             inr (tree, e.later, e.later_is, collision-keeps (whole f) (look d.later.known) (look e.later.known) e.keeps collision)
@@ -133,7 +133,7 @@ record NotedAt (S : SessionSeen) (ms : List (Directed Message)) (ask : Ask) (N :
   after : SessionSeen
   same_torrent : after.torrent ≡ S.torrent
   is_open : IsOpenAsk after ask
-  good : IsGood after
+  closed_trees : HasClosedTrees after
   learns : (n : ℕ) (tree : TreeRoot) (s : TreeState) → IsTree S n tree s → Learns S after n tree s
   rest : List (Directed Message)
   verdicts : List Verdict
@@ -145,18 +145,18 @@ requested S ask verdict.Noted M h = inl (ap (λ (U : SessionSeen). set.contains 
 requested S ask (verdict.HashRefused NoMemory) M h = inr refl
 requested S ask v M h = absurd h
 
-noted_at : (S : SessionSeen) (ms : List (Directed Message)) (vs : List Verdict) (N : SessionSeen) → IsGood S → All HasDirectedHashes ms → Chain NotedStep S ms vs N → (ask : Ask) (k : ℕ) → IsAskedAt ms ask k
+noted_at : (S : SessionSeen) (ms : List (Directed Message)) (vs : List Verdict) (N : SessionSeen) → HasClosedTrees S → All HasDirectedHashes ms → Chain NotedStep S ms vs N → (ask : Ask) (k : ℕ) → IsAskedAt ms ask k
     → NotedAt S ms ask N ⊎ (slice_get vs k ≡ Some (verdict.HashRefused NoMemory))
-noted_at S [] vs N good all run ask k at = absurd (none-some (Out, message.Request ask) at)
-noted_at S (m ∷ ms) [] N good all run ask k at = absurd run
-noted_at S (m ∷ ms) (v ∷ vs) N good all (M, step, rest) ask zero at =
+noted_at S [] vs N closed_trees all run ask k at = absurd (none-some (Out, message.Request ask) at)
+noted_at S (m ∷ ms) [] N closed_trees all run ask k at = absurd run
+noted_at S (m ∷ ms) (v ∷ vs) N closed_trees all (M, step, rest) ask zero at =
     let is : m ≡ (Out, message.Request ask) = same_Some m (Out, message.Request ask) at in
     elim (requested S ask v M (subst (λ x. NotedStep S x v M) is step)) [
       | inl now ↦ inl (record {
         after = M;
         same_torrent = noted-torrent S m v M step;
         is_open = now;
-        good = noted-good S m v M good (All-head HasDirectedHashes m ms all) step;
+        closed_trees = noted-closed S m v M closed_trees (All-head HasDirectedHashes m ms all) step;
         learns = noted-learns S m v M step;
         rest = ms;
         verdicts = vs;
@@ -165,13 +165,13 @@ noted_at S (m ∷ ms) (v ∷ vs) N good all (M, step, rest) ask zero at =
       })
       | inr lacks ↦ inr (ap Some lacks)
     ]
-noted_at S (m ∷ ms) (v ∷ vs) N good all (M, step, rest) ask (suc k) at =
-    elim (noted_at M ms vs N (noted-good S m v M good (All-head HasDirectedHashes m ms all) step) (All-tail HasDirectedHashes m ms all) rest ask k at) [
+noted_at S (m ∷ ms) (v ∷ vs) N closed_trees all (M, step, rest) ask (suc k) at =
+    elim (noted_at M ms vs N (noted-closed S m v M closed_trees (All-head HasDirectedHashes m ms all) step) (All-tail HasDirectedHashes m ms all) rest ask k at) [
       | inl later ↦ inl (record {
         after = later.after;
         same_torrent = later.same_torrent ∙ noted-torrent S m v M step;
         is_open = later.is_open;
-        good = later.good;
+        closed_trees = later.closed_trees;
         learns = λ n tree s here. let a : Learns S M n tree s = noted-learns S m v M step n tree s here in one-more a (later.learns n tree a.later a.later_is);
         rest = later.rest;
         verdicts = later.verdicts;
@@ -181,20 +181,20 @@ noted_at S (m ∷ ms) (v ∷ vs) N good all (M, step, rest) ask (suc k) at =
       | inr lacks ↦ inr lacks
     ]
 
-opened_by : (S : SessionSeen) (ms : List (Directed Message)) (vs : List Verdict) (N : SessionSeen) → IsGood S → All HasDirectedHashes ms → Chain NotedStep S ms vs N → (ask : Ask) → (asked : IsAskedFor S ms ask)
+opened_by : (S : SessionSeen) (ms : List (Directed Message)) (vs : List Verdict) (N : SessionSeen) → HasClosedTrees S → All HasDirectedHashes ms → Chain NotedStep S ms vs N → (ask : Ask) → (asked : IsAskedFor S ms ask)
     → NotedAt S ms ask N ⊎ LacksMemoryToNote S ms ask asked vs
-opened_by S ms vs N good all run ask (inl was) = inl (record {
+opened_by S ms vs N closed_trees all run ask (inl was) = inl (record {
   after = S;
   same_torrent = refl;
   is_open = was;
-  good = good;
+  closed_trees = closed_trees;
   learns = nothing-learns S S refl;
   rest = ms;
   verdicts = vs;
   hashes = all;
   run = run;
 })
-opened_by S ms vs N good all run ask (inr (k, at)) = noted_at S ms vs N good all run ask k at
+opened_by S ms vs N closed_trees all run ask (inr (k, at)) = noted_at S ms vs N closed_trees all run ask k at
 
 still_there : {A : Type 0} (xs ys : List A) (k : ℕ) (x : A) → slice_get xs k ≡ Some x → slice_get (xs ++ ys) k ≡ Some x
 still_there [] ys k x e = absurd (none-some x e)
@@ -210,19 +210,19 @@ pub All-take-noted : (ms : List (Directed Message)) (i : ℕ) (d : Directed Mess
 All-take-noted ms i d inside all here =
     subst (All HasDirectedHashes) (sym (ap (λ j. take j ms) (add-one i) ∙ take-suc ms i d inside)) (All-push HasDirectedHashes (take i ms) (get_or ms i d) all here)
 
-pub noted-round-fewer : (S : SessionSeen) → HasDistinctRoots S → (ms : List (Directed Message)) (vs : List Verdict) (S' : SessionSeen) → IsGood S → All HasDirectedHashes ms → Chain NotedStep S ms vs S'
+pub noted-round-fewer : (S : SessionSeen) → HasDistinctRoots S → (ms : List (Directed Message)) (vs : List Verdict) (S' : SessionSeen) → HasClosedTrees S → All HasDirectedHashes ms → Chain NotedStep S ms vs S'
     → NotedRoundLeavesFewer S ms vs S'
-noted-round-fewer S distinct ms vs S' good all run n f r =
+noted-round-fewer S distinct ms vs S' closed_trees all run n f r =
     let x : Directed Message = (In, message.Hashes r.ask r.answer) in
     let at_end : LastStep NotedStep S r.before x vs S' = last_step NotedStep S r.before x vs S' (subst (λ xs. Chain NotedStep S xs vs S') r.ends run) in
     let hashes : All HasDirectedHashes r.before = (All-pop HasDirectedHashes (r.before ++ x ∷ []) r.before (Some x) refl (subst (All HasDirectedHashes) r.ends all)).0 in
     elim (cases_Bool (lacks_memory at_end.last)) [
       | inl lacks ↦ inr (inl (at_end.earlier, at_end.outputs_are ∙ ap (λ v. at_end.earlier ++ v ∷ []) (lacks_memory-is at_end.last lacks)))
-      | inr has ↦ elim (opened_by S r.before at_end.earlier at_end.middle good hashes at_end.run r.ask r.noted) [
+      | inr has ↦ elim (opened_by S r.before at_end.earlier at_end.middle closed_trees hashes at_end.run r.ask r.noted) [
         | inr lacks ↦
             inr (inr (inl (subst (LacksMemoryToNote S r.before r.ask r.noted) (sym at_end.outputs_are) (lacks_in_all S r.before r.ask r.noted at_end.earlier at_end.last lacks))))
         | inl noted ↦
-            elim (noted_round S noted.after at_end.middle S' distinct noted.same_torrent noted.rest noted.verdicts n r.tree r.state r.block r.ask f good noted.good noted.learns noted.hashes
+            elim (noted_round S noted.after at_end.middle S' distinct noted.same_torrent noted.rest noted.verdicts n r.tree r.state r.block r.ask f closed_trees noted.closed_trees noted.learns noted.hashes
             r.is_tree r.inside r.wanted r.fits noted.is_open noted.run r.answer r.is_answer at_end.last (lacks_memory-not at_end.last has) at_end.step) [
               | inl fewer ↦ inl fewer
               | inr collides ↦ inr (inr (inr collides))
@@ -238,13 +238,13 @@ incoming-opens S [] (v ∷ vs) S' e ask now = absurd e
 incoming-opens S (m ∷ ms) [] S' e ask now = absurd e
 incoming-opens S (m ∷ ms) (v ∷ vs) S' (M, step, rest) ask now = noted-opens S (In, m) v M step ask (incoming-opens M ms vs S' rest ask now)
 
-pub noted-keeps : (S : SessionSeen) (ms : List (Directed Message)) (vs : List Verdict) (S' : SessionSeen) → IsGood S → All HasDirectedHashes ms → Chain NotedStep S ms vs S' → IsGood S' × HasNoMoreGaps S S'
-noted-keeps S ms vs S' good all run = (run-noted-good S ms vs S' good all run, run-noted-gaps S ms vs S' run)
+pub noted-keeps : (S : SessionSeen) (ms : List (Directed Message)) (vs : List Verdict) (S' : SessionSeen) → HasClosedTrees S → All HasDirectedHashes ms → Chain NotedStep S ms vs S' → HasClosedTrees S' × HasNoMoreGaps S S'
+noted-keeps S ms vs S' closed_trees all run = (run-noted-closed S ms vs S' closed_trees all run, run-noted-gaps S ms vs S' run)
 
 pub noted-round-law : (S M N S' : SessionSeen) → HasDistinctRoots S → (ms ns : List (Directed Message)) (vs ws : List Verdict) (n : ℕ) (tree : TreeRoot) (s : TreeState) (b : ℕ) (ask : Ask) (f : List ℕ)
-    → IsGood S → All HasDirectedHashes ms → All HasDirectedHashes ns → IsTree S n tree s → b < block_count tree.length → want_of tree (look s.known) b ≡ Some ask → Fits f tree
+    → HasClosedTrees S → All HasDirectedHashes ms → All HasDirectedHashes ns → IsTree S n tree s → b < block_count tree.length → want_of tree (look s.known) b ≡ Some ask → Fits f tree
     → Chain NotedStep S ms vs M → IsOpenAsk M ask → Chain NotedStep M ns ws N → (hashes : Bor (List Hash)) → hashes.now ≡ answer_of (tree_height tree.length) (whole f) ask
     → (v : Verdict) → v ≢ verdict.HashRefused NoMemory → NotedStep N (In, message.Hashes ask hashes) v S' → HasFewerGaps S' n tree (look s.known) ⊎ Collides S' n f
-noted-round-law S M N S' distinct ms ns vs ws n tree s b ask f good all_m all_n at inside wanted fits run was run' hashes is_answer v memory step =
-    noted_round S M N S' distinct (run-noted-torrent S ms vs M run) ns ws n tree s b ask f good (run-noted-good S ms vs M good all_m run) (run-noted-learns S ms vs M run) all_n
+noted-round-law S M N S' distinct ms ns vs ws n tree s b ask f closed_trees all_m all_n at inside wanted fits run was run' hashes is_answer v memory step =
+    noted_round S M N S' distinct (run-noted-torrent S ms vs M run) ns ws n tree s b ask f closed_trees (run-noted-closed S ms vs M closed_trees all_m run) (run-noted-learns S ms vs M run) all_n
     at inside wanted fits was run' hashes is_answer v memory step

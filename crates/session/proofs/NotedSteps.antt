@@ -24,14 +24,14 @@ use Rattle.session.specs.declared.verdict.Verdict.TheVariants as verdict
 use Rattle.session.specs.Asks.{AskSet, ask_cmp}
 use Rattle.session.specs.Blocks.{Cut}
 use Rattle.session.specs.Layouts.{roots}
-use Rattle.session.specs.Session.{SessionSeen, TreeState, IsTree, IsGood, IsStored, IsHashRefused, BlockStep, HasDistinctRoots, HasHashes, Step}
+use Rattle.session.specs.Session.{SessionSeen, TreeState, IsTree, HasClosedTrees, IsStored, IsHashRefused, BlockStep, HasDistinctRoots, HasHashes, Step}
 use Rattle.session.specs.SafeStep.{KeepsKnown}
 use Rattle.session.specs.Noted.{IsOpenAsk, without_ask, IsAnswerStored, IsAnswerRefused, StepIn, StepOut, NotedStep, IsTrueNotedVerdict, TakesWhatIsTrueAndAsked, IsBaseKnown, OpensOnlyOurs, KeepsOpen, IsSafeNotedStep}
 use Rattle.session.proofs.States.{set-write}
 use Rattle.session.proofs.OpenAsks.{ask_total, same_ask}
 use Rattle.session.specs.NotedLaws.{asking}
-use Rattle.session.proofs.Asking.{tree_asking, good_asking}
-use Rattle.session.proofs.Runs.{Effect, unchanged, stored, taken, effect, Learns, step-good, step-learns, effect-torrent, verdict-true}
+use Rattle.session.proofs.Asking.{tree_asking, closed_asking}
+use Rattle.session.proofs.Runs.{Effect, unchanged, stored, taken, effect, Learns, step-closed, step-learns, effect-torrent, verdict-true}
 use Rattle.session.proofs.SafeSteps.{safe_step}
 
 -- ---- a step of the trees leaves the open asks
@@ -102,8 +102,8 @@ noted-learns S x v S' step n tree s at =
     let a : Learns S (asking S.asks S') n tree s = step-learns S x.1 (asking S.asks S') (noted_effect S x v S' step) n tree s at in
     record { later = a.later; later_is = tree_asking S'.asks (asking S.asks S') n tree a.later a.later_is; keeps = a.keeps }
 
-pub noted-good : (S : SessionSeen) (x : Directed Message) (v : Verdict) (S' : SessionSeen) → IsGood S → HasHashes x.1 → NotedStep S x v S' → IsGood S'
-noted-good S x v S' good all step = good_asking S'.asks (asking S.asks S') (step-good S x.1 (asking S.asks S') good all (noted_effect S x v S' step))
+pub noted-closed : (S : SessionSeen) (x : Directed Message) (v : Verdict) (S' : SessionSeen) → HasClosedTrees S → HasHashes x.1 → NotedStep S x v S' → HasClosedTrees S'
+noted-closed S x v S' closed_trees all step = closed_asking S'.asks (asking S.asks S') (step-closed S x.1 (asking S.asks S') closed_trees all (noted_effect S x v S' step))
 
 pub noted-torrent : (S : SessionSeen) (x : Directed Message) (v : Verdict) (S' : SessionSeen) → NotedStep S x v S' → S'.torrent ≡ S.torrent
 noted-torrent S x v S' step = effect-torrent S x.1 (asking S.asks S') (noted_effect S x v S' step)
@@ -113,16 +113,16 @@ learns-keeps S S' learns n tree s at = let a : Learns S S' n tree s = learns n t
 
 -- ---- what a verdict promises
 
-noted-true : (S : SessionSeen) (x : Directed Message) (v : Verdict) (S' : SessionSeen) → IsGood S → NotedStep S x v S' → IsTrueNotedVerdict S x v
-noted-true S (In, message.Piece index begin bytes) v S' good h = verdict-true S (message.Piece index begin bytes) v S' good h
-noted-true S (In, m) v S' good h = tt
-noted-true S (Out, m) v S' good h = tt
+noted-true : (S : SessionSeen) (x : Directed Message) (v : Verdict) (S' : SessionSeen) → HasClosedTrees S → NotedStep S x v S' → IsTrueNotedVerdict S x v
+noted-true S (In, message.Piece index begin bytes) v S' closed_trees h = verdict-true S (message.Piece index begin bytes) v S' closed_trees h
+noted-true S (In, m) v S' closed_trees h = tt
+noted-true S (Out, m) v S' closed_trees h = tt
 
-noted-takes : (S : SessionSeen) (x : Directed Message) (v : Verdict) (S' : SessionSeen) → IsGood S → HasDistinctRoots S → NotedStep S x v S' → TakesWhatIsTrueAndAsked S x v
-noted-takes S (In, message.Hashes ask hashes) v S' good distinct h = λ was.
-    (safe_step S good distinct (message.Hashes ask hashes) v (asking S.asks S') (in_hashes S ask hashes v S' was h)).takes_what_is_true
-noted-takes S (In, m) v S' good distinct h = (safe_step S good distinct m v S' h).takes_what_is_true
-noted-takes S (Out, m) v S' good distinct h = tt
+noted-takes : (S : SessionSeen) (x : Directed Message) (v : Verdict) (S' : SessionSeen) → HasClosedTrees S → HasDistinctRoots S → NotedStep S x v S' → TakesWhatIsTrueAndAsked S x v
+noted-takes S (In, message.Hashes ask hashes) v S' closed_trees distinct h = λ was.
+    (safe_step S closed_trees distinct (message.Hashes ask hashes) v (asking S.asks S') (in_hashes S ask hashes v S' was h)).takes_what_is_true
+noted-takes S (In, m) v S' closed_trees distinct h = (safe_step S closed_trees distinct m v S' h).takes_what_is_true
+noted-takes S (Out, m) v S' closed_trees distinct h = tt
 
 -- ---- open asks
 
@@ -205,12 +205,12 @@ noted-open S (Out, m) v S' h = λ ask was. inl (out-open S m v S' h ask was)
 
 -- ---- all of it
 
-pub safe_noted_step : (S : SessionSeen) → IsGood S → HasDistinctRoots S → (x : Directed Message) (v : Verdict) (S' : SessionSeen) → NotedStep S x v S' → IsSafeNotedStep S x v S'
-safe_noted_step S good distinct x v S' step = record {
+pub safe_noted_step : (S : SessionSeen) → HasClosedTrees S → HasDistinctRoots S → (x : Directed Message) (v : Verdict) (S' : SessionSeen) → NotedStep S x v S' → IsSafeNotedStep S x v S'
+safe_noted_step S closed_trees distinct x v S' step = record {
   allowed = step;
-  verified_is_the_block = noted-true S x v S' good step;
+  verified_is_the_block = noted-true S x v S' closed_trees step;
   keeps_known = learns-keeps S S' (noted-learns S x v S' step);
-  takes_what_is_true = noted-takes S x v S' good distinct step;
+  takes_what_is_true = noted-takes S x v S' closed_trees distinct step;
   opens_only_ours = noted-opens S x v S' step;
   keeps_open = noted-open S x v S' step;
 }

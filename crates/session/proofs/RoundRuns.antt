@@ -1,5 +1,5 @@
--- Runs over rounds: the gaps fall at each, and so there are at most as many rounds as gaps.
-use Rattle.std.proofs.Common.{length, take, get_or, add-one, ◌≡◌, ◌≢◌, ◌⊎◌, ℕ, zero, suc, ◌+◌, ◌*◌, ◌<◌, ◌≤◌, Bool, true, false, cond, is_none, List, [], ◌∷◌, ◌++◌, Option, Some, None, inl, inr, refl, sym, ap, ◌∙◌, subst, subst₂, arith}
+-- A run over a round: the gaps fall.
+use Rattle.std.proofs.Common.{length, take, get_or, add-one, ◌≡◌, ◌≢◌, ℕ, ◌+◌, ◌*◌, ◌<◌, ◌≤◌, Bool, true, false, cond, is_none, List, [], ◌∷◌, ◌++◌, Option, Some, None, inl, inr, refl, sym, ap, ◌∙◌, subst, arith}
 use Rattle.std.specs.List.{All}
 use Rattle.std.specs.Prelude.{map, slice_get}
 use Rattle.std.proofs.lemmas.Option.{same_Some, none-some}
@@ -20,15 +20,15 @@ use Rattle.partial_tree.specs.Closed.{IsClosed, Keeps, Collision, whole}
 use Rattle.partial_tree.specs.Claims.{top_layer, top_index, answer_of, CanAnswer}
 use Rattle.partial_tree.specs.Gaps.{gaps, want_ask, want_of}
 use Rattle.node_maps.specs.Known.{look}
-use Rattle.session.specs.Session.{SessionSeen, TreeState, IsTree, IsGood, HasDistinctRoots, HasFewerGaps, HasHashes, Step}
+use Rattle.session.specs.Session.{SessionSeen, HasClosedTrees, HasDistinctRoots, HasHashes, Step}
 use Rattle.chains.specs.Chain.{Chain}
 use Rattle.chains.proofs.Chains.{LastStep, last_step}
-use Rattle.session.specs.Rounds.{IsRoundRun, Rounds, HasNoMoreGaps, RoundLeavesFewer, Collides}
+use Rattle.session.specs.Rounds.{HasNoMoreGaps, RoundLeavesFewer}
 use Rattle.partial_tree.proofs.Claimed.{there_or_not}
 use Rattle.partial_tree.proofs.Whole.{whole-closed}
 use Rattle.partial_tree.proofs.Answers.{answer-reaches, answer-root}
 use Rattle.partial_tree.proofs.Wanted.{want-range, whole-can_answer, gaps-fall, gaps-none, gaps-all_known}
-use Rattle.session.proofs.Runs.{Learns, run-true, run-learns, run-torrent}
+use Rattle.session.proofs.Runs.{Learns, run-learns}
 use Rattle.metainfo.specs.Description.{Description}
 use Rattle.session.specs.Layouts.{root_of_entry}
 use Rattle.session.proofs.Rounds.{want-tall, round}
@@ -117,15 +117,15 @@ later-distinct S M same distinct = λ i k x y p q e. distinct i k x y
     (ap (λ (d : Description). slice_get (map root_of_entry d.trees) i) (sym same) ∙ p)
     (ap (λ (d : Description). slice_get (map root_of_entry d.trees) k) (sym same) ∙ q) e
 
-pub round-fewer : (S : SessionSeen) → HasDistinctRoots S → (ms : List Message) (vs : List Verdict) (S' : SessionSeen) → IsGood S → All HasHashes ms → Chain Step S ms vs S' → RoundLeavesFewer S ms vs S'
-round-fewer S distinct ms vs S' good all run n f r =
+pub round-fewer : (S : SessionSeen) → HasDistinctRoots S → (ms : List Message) (vs : List Verdict) (S' : SessionSeen) → HasClosedTrees S → All HasHashes ms → Chain Step S ms vs S' → RoundLeavesFewer S ms vs S'
+round-fewer S distinct ms vs S' closed_trees all run n f r =
     let at_end : LastStep Step S r.before (message.Hashes r.ask r.answer) vs S' = last_step Step S r.before (message.Hashes r.ask r.answer) vs S' (subst (λ xs. Chain Step S xs vs S') r.ends run) in
     let (none, is) = wanted-is r.tree (look r.state.known) r.block r.ask r.wanted in
     let hashes : All HasHashes r.before = All-front r.before (message.Hashes r.ask r.answer) (subst (All HasHashes) r.ends all) in
     elim (cases_Bool (lacks_memory at_end.last)) [
       | inl lacks ↦ inr (inl (at_end.earlier, at_end.outputs_are ∙ ap (λ v. at_end.earlier ++ v ∷ []) (lacks_memory-is at_end.last lacks)))
       | inr has ↦
-          elim (round S distinct r.before at_end.earlier at_end.middle S' n r.tree r.state r.block f good hashes at_end.run r.is_tree r.inside none r.fits r.answer
+          elim (round S distinct r.before at_end.earlier at_end.middle S' n r.tree r.state r.block f closed_trees hashes at_end.run r.is_tree r.inside none r.fits r.answer
           (r.is_answer ∙ ap (answer_of (tree_height r.tree.length) (whole f)) is) at_end.last (lacks_memory-not at_end.last has)
           (subst (λ a. Step at_end.middle (message.Hashes a r.answer) at_end.last S') is at_end.step)) [
             | inl fewer ↦ inl fewer
@@ -134,52 +134,3 @@ round-fewer S distinct ms vs S' good all run n f r =
                 inr (inr (r.tree, learnt.later, learnt.later_is, collision-keeps (whole f) (look s.known) (look learnt.later.known) learnt.keeps collision))
           ]
     ]
-
--- ---- rounds one after the other
-
-round-good : (n : ℕ) (f : List ℕ) (S M : SessionSeen) → IsGood S → IsRoundRun n f S M → IsGood M
-round-good n f S M good r = (run-true S r.messages r.verdicts M good r.hashes r.run).1
-
-rounds-learn : (n : ℕ) (f : List ℕ) (k : ℕ) (S S' : SessionSeen) → Rounds n f k S S' → (tree : TreeRoot) (s : TreeState) → IsTree S n tree s → Learns S S' n tree s
-rounds-learn n f zero S S' e tree s at = run-learns S [] [] S' e n tree s at
-rounds-learn n f (suc k) S S' (M, r, rest) tree s at =
-    let a : Learns S M n tree s = run-learns S r.messages r.verdicts M r.run n tree s at in
-    let b : Learns M S' n tree a.later = rounds-learn n f k M S' rest tree a.later a.later_is in
-    record { later = b.later; later_is = b.later_is; keeps = λ l i v e. b.keeps l i v (a.keeps l i v e) }
-
--- a round counts down the gaps of this tree
-round-counts : (n : ℕ) (f : List ℕ) (S M : SessionSeen) → HasDistinctRoots S → IsGood S → IsRoundRun n f S M → (tree : TreeRoot) (s : TreeState) → IsTree S n tree s
-    → HasFewerGaps M n tree (look s.known) ⊎ Collides M n f
-round-counts n f S M distinct good r tree s at =
-    let same_tree : r.round.tree ≡ tree = same_Some r.round.tree tree (sym r.round.is_tree.tree_is ∙ at.tree_is) in
-    let same_state : r.round.state ≡ s = same_Some r.round.state s (sym r.round.is_tree.state_is ∙ at.state_is) in
-    elim (round-fewer S distinct r.messages r.verdicts M good r.hashes r.run n f r.round) [
-      | inl fewer ↦ inl (subst₂ (λ tr st. HasFewerGaps M n tr (look st.known)) same_tree same_state fewer)
-      | inr other ↦ elim other [ inl lacks ↦ absurd (r.memory lacks) | inr collides ↦ inr collides ]
-    ]
-
-count : (n : ℕ) (f : List ℕ) (k : ℕ) (S S' : SessionSeen) → HasDistinctRoots S → IsGood S → Rounds n f k S S' → (tree : TreeRoot) (s : TreeState) → IsTree S n tree s
-    → ((later : TreeState) × IsTree S' n tree later × (gaps tree.length (look later.known) + k ≤ gaps tree.length (look s.known))) ⊎ Collides S' n f
-count n f zero S S' distinct good e tree s at = inl (s, subst (λ U. IsTree U n tree s) (sym e) at, omega arith)
-count n f (suc k) S S' distinct good (M, r, rest) tree s at = elim (round-counts n f S M distinct good r tree s at) [
-  | inr (tr, m, m_at, collision) ↦
-      let learnt : Learns M S' n tr m = rounds-learn n f k M S' rest tr m m_at in
-      inr (tr, learnt.later, learnt.later_is, collision-keeps (whole f) (look m.known) (look learnt.later.known) learnt.keeps collision)
-  | inl (m, m_at, fewer) ↦
-      let distinct' : HasDistinctRoots M = later-distinct S M (run-torrent S r.messages r.verdicts M r.run) distinct in
-      elim (count n f k M S' distinct' (round-good n f S M good r) rest tree m m_at) [
-        | inl (later, later_at, le) ↦ inl (later, later_at, omega arith)
-        | inr collides ↦ inr collides
-      ]
-]
-
-pub rounds-count : (S S' : SessionSeen) → HasDistinctRoots S → (n : ℕ) (f : List ℕ) (k : ℕ) → IsGood S → Rounds n f k S S' → (tree : TreeRoot) (s : TreeState) → IsTree S n tree s
-    → ((later : TreeState) × IsTree S' n tree later × (gaps tree.length (look later.known) + k ≤ gaps tree.length (look s.known))) ⊎ Collides S' n f
-rounds-count S S' distinct n f k good rounds tree s at = count n f k S S' distinct good rounds tree s at
-
-pub rounds-done : (S S' : SessionSeen) → HasDistinctRoots S → (n : ℕ) (f : List ℕ) (tree : TreeRoot) (s : TreeState) → IsGood S → IsTree S n tree s → Rounds n f (gaps tree.length (look s.known)) S S'
-    → ((later : TreeState) × IsTree S' n tree later × ((b : ℕ) → b < block_count tree.length → IsKnown (look later.known) 0 b)) ⊎ Collides S' n f
-rounds-done S S' distinct n f tree s good at rounds = elim (count n f (gaps tree.length (look s.known)) S S' distinct good rounds tree s at) [
-  | inl (later, later_at, le) ↦ inl (later, later_at, λ b inside. gaps-none tree.length (look later.known) (omega arith) b inside)
-  | inr collides ↦ inr collides
-]

@@ -19,7 +19,7 @@ use Rattle.partial_tree.specs.Closed.{Keeps, IsClosed, Collision, whole}
 use Rattle.partial_tree.specs.Claims.{claims, joined, Refuses, IsAccepted, answer_of}
 use Rattle.partial_tree.specs.Gaps.{gaps, want_ask}
 use Rattle.node_maps.specs.Known.{look}
-use Rattle.session.specs.Session.{HasHashes, SessionSeen, TreeState, IsTree, IsGood, IsAsked, IsStored, IsHashRefused, HasDistinctRoots, HasFewerGaps, Step}
+use Rattle.session.specs.Session.{HasHashes, SessionSeen, TreeState, IsTree, HasClosedTrees, IsAsked, IsStored, IsHashRefused, HasDistinctRoots, HasFewerGaps, Step}
 use Rattle.metainfo.specs.Description.{Description}
 use Rattle.session.specs.Layouts.{roots, root_of_entry}
 use Rattle.chains.specs.Chain.{Chain}
@@ -93,14 +93,14 @@ module _ (n : ℕ) (tree : TreeRoot) (b : ℕ) (in' : b < block_count tree.lengt
 
 -- a run of messages that ends with the true answer, not refused out of memory, leaves fewer gaps, or a collision is named
 pub round : (S : SessionSeen) → HasDistinctRoots S → (ms : List Message) (vs : List Verdict) (S₁ S₂ : SessionSeen) (n : ℕ) (tree : TreeRoot) (s : TreeState) (b : ℕ) (f : List ℕ)
-    → IsGood S → All HasHashes ms → Chain Step S ms vs S₁ → IsTree S n tree s → (in' : b < block_count tree.length) → look s.known 0 b ≡ None → Fits f tree
+    → HasClosedTrees S → All HasHashes ms → Chain Step S ms vs S₁ → IsTree S n tree s → (in' : b < block_count tree.length) → look s.known 0 b ≡ None → Fits f tree
     → (hs : Bor (List Hash)) → hs.now ≡ answer_of (tree_height tree.length) (whole f) (want_ask tree b)
     → (v : Verdict) → v ≢ verdict.HashRefused NoMemory → Step S₁ (message.Hashes (want_ask tree b) hs) v S₂
     → HasFewerGaps S₂ n tree (look s.known) ⊎ ((s₁ : TreeState) × IsTree S₁ n tree s₁ × Collision (whole f) (look s₁.known))
-round S distinct ms vs S₁ S₂ n tree s b f good all run at in' none fits hs told v memory step =
+round S distinct ms vs S₁ S₂ n tree s b f closed_trees all run at in' none fits hs told v memory step =
     let learnt : Learns S S₁ n tree s = run-learns S ms vs S₁ run n tree s at in
-    let closed : IsClosed tree (look s.known) = good.closed n tree s at in
-    let closed₁ : IsClosed tree (look learnt.later.known) = (run-true S ms vs S₁ good all run).1.closed n tree learnt.later learnt.later_is in
+    let closed : IsClosed tree (look s.known) = closed_trees.closed n tree s at in
+    let closed₁ : IsClosed tree (look learnt.later.known) = (run-true S ms vs S₁ closed_trees all run).1.closed n tree learnt.later learnt.later_is in
     let distinct₁ : HasDistinctRoots S₁ = λ i k x y p q e. distinct i k x y
     (ap (λ (d : Description). slice_get (map root_of_entry d.trees) i) (sym (run-torrent S ms vs S₁ run)) ∙ p)
     (ap (λ (d : Description). slice_get (map root_of_entry d.trees) k) (sym (run-torrent S ms vs S₁ run)) ∙ q) e in

@@ -17,14 +17,14 @@ use Rattle.node_maps.specs.Digest.{Hash, IsHash}
 use Rattle.partial_tree.specs.Closed.{Keeps, IsClosed}
 use Rattle.partial_tree.specs.Claims.{claims, joined}
 use Rattle.node_maps.specs.Known.{Known, look}
-use Rattle.session.specs.Session.{SessionSeen, TreeState, IsTree, IsGood, IsStored, AreTaken, Step, IsTrueVerdict, IsTrueStep, HasHashes}
+use Rattle.session.specs.Session.{SessionSeen, TreeState, IsTree, HasClosedTrees, IsStored, AreTaken, Step, IsTrueVerdict, IsTrueStep, HasHashes}
 use Rattle.session.specs.Blocks.{BlocksSeen}
 use Rattle.session.specs.Layouts.{roots}
 use Rattle.chains.specs.Chain.{Chain}
 use Rattle.partial_tree.proofs.Joining.{joined-closed, joined-keeps}
 use Rattle.partial_tree.proofs.Keeping.{closed-same}
 use Rattle.session.proofs.States.{set-read, set-write, set-other}
-use Rattle.session.proofs.Entries.{Later, chain-good, chain-torrent, chain-known, taken-blocks}
+use Rattle.session.proofs.Entries.{Later, chain-closed, chain-torrent, chain-known, taken-blocks}
 
 -- what a step does to the state
 pub data Effect (S : SessionSeen) (m : Message) (S' : SessionSeen) : Type 0 where
@@ -46,13 +46,13 @@ effect S m v S' h = absurd h
 
 -- ---- steps keep the trees closed
 
-module _ (S : SessionSeen) (good : IsGood S) where
+module _ (S : SessionSeen) (closed_trees : HasClosedTrees S) where
   stored-closed : (ask : Ask) (hashes : List Hash) (c : ℕ) (S' : SessionSeen) → All IsHash hashes → (h : IsStored S ask hashes c S')
       → IsClosed h.asked.tree (look h.after.known)
   stored-closed ask hashes c S' all h =
       closed-same h.asked.tree (joined (look h.asked.state.known) (claims ask hashes)) (look h.after.known) (λ l i. sym (h.known_after l i))
       (joined-closed h.asked.tree (look h.asked.state.known) ask hashes
-      (good.closed h.asked.number h.asked.tree h.asked.state h.asked.is_tree) all h.accepted)
+      (closed_trees.closed h.asked.number h.asked.tree h.asked.state h.asked.is_tree) all h.accepted)
 
   stored-keeps : (ask : Ask) (hashes : List Hash) (c : ℕ) (S' : SessionSeen) → (h : IsStored S ask hashes c S')
       → (l i : ℕ) (v : Hash) → look h.asked.state.known l i ≡ Some v → look h.after.known l i ≡ Some v
@@ -65,18 +65,18 @@ module _ (S : SessionSeen) (good : IsGood S) where
   one_tree : (n k : ℕ) (a b : TreeRoot) → k ≡ n → slice_get (roots S) k ≡ Some a → slice_get (roots S) n ≡ Some b → a ≡ b
   one_tree n k a b same p q = same_Some a b (sym p ∙ ap (slice_get (roots S)) same ∙ q)
 
-  good-stored : (ask : Ask) (hashes : List Hash) (c : ℕ) (S' : SessionSeen) → All IsHash hashes → IsStored S ask hashes c S' → IsGood S'
-  good-stored ask hashes c S' all h = record {
-    count = ap (λ U. length U.trees) h.state_after ∙ length-set S.trees h.asked.number h.after ∙ good.count ∙ ap (λ U. length (roots U)) (sym h.state_after);
+  closed-stored : (ask : Ask) (hashes : List Hash) (c : ℕ) (S' : SessionSeen) → All IsHash hashes → IsStored S ask hashes c S' → HasClosedTrees S'
+  closed-stored ask hashes c S' all h = record {
+    count = ap (λ U. length U.trees) h.state_after ∙ length-set S.trees h.asked.number h.after ∙ closed_trees.count ∙ ap (λ U. length (roots U)) (sym h.state_after);
     closed = λ k tree s at. elim (set-read S.trees h.asked.number k h.after s (ap (λ U. slice_get U.trees k) (sym h.state_after) ∙ at.state_is)) [
       | inl (same, is) ↦ subst₂ (λ tr st. IsClosed tr (look st.known)) (sym (one_tree h.asked.number k tree h.asked.tree same (before k tree (h.state_after) at.tree_is) h.asked.is_tree.tree_is)) (sym is) (stored-closed ask hashes c S' all h)
-      | inr (other, old) ↦ good.closed k tree s (record { tree_is = before k tree (h.state_after) at.tree_is; state_is = old })
+      | inr (other, old) ↦ closed_trees.closed k tree s (record { tree_is = before k tree (h.state_after) at.tree_is; state_is = old })
     ];
     marks = λ k tree s at i marked. elim (set-read S.trees h.asked.number k h.after s (ap (λ U. slice_get U.trees k) (sym h.state_after) ∙ at.state_is)) [
       | inl (same, is) ↦
-          let (v, e) = good.marks h.asked.number h.asked.tree h.asked.state h.asked.is_tree i (ap (λ m. leaves.contains m i) (sym h.marks_stay) ∙ ap (λ st. leaves.contains st.marked i) (sym is) ∙ marked) in
+          let (v, e) = closed_trees.marks h.asked.number h.asked.tree h.asked.state h.asked.is_tree i (ap (λ m. leaves.contains m i) (sym h.marks_stay) ∙ ap (λ st. leaves.contains st.marked i) (sym is) ∙ marked) in
           (v, ap (λ st. look st.known 0 i) is ∙ stored-keeps ask hashes c S' h 0 i v e)
-      | inr (other, old) ↦ good.marks k tree s (record { tree_is = before k tree (h.state_after) at.tree_is; state_is = old }) i marked
+      | inr (other, old) ↦ closed_trees.marks k tree s (record { tree_is = before k tree (h.state_after) at.tree_is; state_is = old }) i marked
     ];
   }
 
@@ -88,10 +88,10 @@ pub record Learns (S S' : SessionSeen) (n : ℕ) (tree : TreeRoot) (s : TreeStat
   pub later_is : IsTree S' n tree later
   pub keeps : Keeps (look s.known) (look later.known)
 
-pub step-good : (S : SessionSeen) (m : Message) (S' : SessionSeen) → IsGood S → HasHashes m → Effect S m S' → IsGood S'
-step-good S m S' good all (unchanged e) = subst IsGood (sym e) good
-step-good S m S' good all (stored ask hashes c has h) = good-stored S good ask hashes c S' (has all) h
-step-good S m S' good all (taken index begin bytes v h) = chain-good v.file S _ v.refusals S' good h.each
+pub step-closed : (S : SessionSeen) (m : Message) (S' : SessionSeen) → HasClosedTrees S → HasHashes m → Effect S m S' → HasClosedTrees S'
+step-closed S m S' closed_trees all (unchanged e) = subst HasClosedTrees (sym e) closed_trees
+step-closed S m S' closed_trees all (stored ask hashes c has h) = closed-stored S closed_trees ask hashes c S' (has all) h
+step-closed S m S' closed_trees all (taken index begin bytes v h) = chain-closed v.file S _ v.refusals S' closed_trees h.each
 
 pub step-learns : (S : SessionSeen) (m : Message) (S' : SessionSeen) → Effect S m S' → (n : ℕ) (tree : TreeRoot) (s : TreeState) → IsTree S n tree s → Learns S S' n tree s
 step-learns S m S' (unchanged e) n tree s at = record {
@@ -119,19 +119,19 @@ step-learns S m S' (taken index begin bytes v h) n tree s at =
     let after : Later S' n tree s = chain-known v.file S _ v.refusals S' h.each n tree s at in
     record { later = after.later; later_is = after.later_is; keeps = λ l i x k. ap (λ (K : Known). look K l i) after.known ∙ k }
 
-pub verdict-true : (S : SessionSeen) (m : Message) (v : Verdict) (S' : SessionSeen) → IsGood S → Step S m v S' → IsTrueVerdict S m v
-verdict-true S (message.Piece index begin bytes) (verdict.Blocks v) S' good h = taken-blocks S good index begin bytes.now v S' h
-verdict-true S m v S' good h = tt
+pub verdict-true : (S : SessionSeen) (m : Message) (v : Verdict) (S' : SessionSeen) → HasClosedTrees S → Step S m v S' → IsTrueVerdict S m v
+verdict-true S (message.Piece index begin bytes) (verdict.Blocks v) S' closed_trees h = taken-blocks S closed_trees index begin bytes.now v S' h
+verdict-true S m v S' closed_trees h = tt
 
 -- a run keeps the trees closed, and each of its verdicts keeps its promise
-pub run-true : (S : SessionSeen) (ms : List Message) (vs : List Verdict) (S' : SessionSeen) → IsGood S → All HasHashes ms → Chain Step S ms vs S' → Chain IsTrueStep S ms vs S' × IsGood S'
-run-true S [] [] S' good all e = (e, subst IsGood (sym e) good)
-run-true S [] (v ∷ vs) S' good all e = absurd e
-run-true S (m ∷ ms) [] S' good all e = absurd e
-run-true S (m ∷ ms) (v ∷ vs) S' good all (M, step, rest) =
-    let next : IsGood M = step-good S m M good (All-head HasHashes m ms all) (effect S m v M step) in
+pub run-true : (S : SessionSeen) (ms : List Message) (vs : List Verdict) (S' : SessionSeen) → HasClosedTrees S → All HasHashes ms → Chain Step S ms vs S' → Chain IsTrueStep S ms vs S' × HasClosedTrees S'
+run-true S [] [] S' closed_trees all e = (e, subst HasClosedTrees (sym e) closed_trees)
+run-true S [] (v ∷ vs) S' closed_trees all e = absurd e
+run-true S (m ∷ ms) [] S' closed_trees all e = absurd e
+run-true S (m ∷ ms) (v ∷ vs) S' closed_trees all (M, step, rest) =
+    let next : HasClosedTrees M = step-closed S m M closed_trees (All-head HasHashes m ms all) (effect S m v M step) in
     let (later, last) = run-true M ms vs S' next (All-tail HasHashes m ms all) rest in
-    ((M, (step, verdict-true S m v M good step), later), last)
+    ((M, (step, verdict-true S m v M closed_trees step), later), last)
 
 pub run-learns : (S : SessionSeen) (ms : List Message) (vs : List Verdict) (S' : SessionSeen) → Chain Step S ms vs S'
     → (n : ℕ) (tree : TreeRoot) (s : TreeState) → IsTree S n tree s → Learns S S' n tree s

@@ -1,4 +1,4 @@
--- Each step of a good state does no harm, and so does a run of steps.
+-- Each step of a closed_trees state does no harm, and so does a run of steps.
 use Rattle.std.proofs.Common.{◌≡◌, ◌⊎◌, ℕ, Result, Ok, Err, IfOk, IfErr, List, [], ◌∷◌, length, get_or, Some, None, ◌<◌, inl, inr, refl, sym, ap, ◌∙◌, subst, subst₂, arith}
 use Rattle.std.specs.Prelude.{map, slice_get}
 use Rattle.std.specs.FinMap.{empty}
@@ -22,7 +22,7 @@ use Rattle.node_maps.specs.Places.{PartialTree, IsKnown}
 use Rattle.partial_tree.specs.Closed.{Collision, whole}
 use Rattle.partial_tree.specs.Claims.{IsAccepted, Refuses}
 use Rattle.node_maps.specs.Known.{Known, look}
-use Rattle.session.specs.Session.{SessionSeen, TreeState, IsTree, IsGood, IsAsked, IsPlaced, IsStored, IsVerified, IsBlock, AreBlocks, AreTaken, AreRefused, IsHashRefused, IsBlockRefused, HasDistinctRoots, Step}
+use Rattle.session.specs.Session.{SessionSeen, TreeState, IsTree, HasClosedTrees, IsAsked, IsPlaced, IsStored, IsVerified, IsBlock, AreBlocks, AreTaken, AreRefused, IsHashRefused, IsBlockRefused, HasDistinctRoots, Step}
 use Rattle.session.specs.Blocks.{BlocksSeen, Cut}
 use Rattle.session.specs.Layouts.{roots, root_of_entry, tree_of}
 use Rattle.partial_tree.proofs.Whole.{whole-closed}
@@ -72,45 +72,45 @@ module _ (S : SessionSeen) (distinct : HasDistinctRoots S) (ask : Ask) (hashes :
   hashes_taken Mismatch h = never Mismatch h
   hashes_taken Unasked h = never Unasked h
 
-true_accepted : (S : SessionSeen) → IsGood S → (ask : Ask) (hashes : List Hash) (n : ℕ) (tree : TreeRoot) (s : TreeState) (f : List ℕ) → IsTree S n tree s
+true_accepted : (S : SessionSeen) → HasClosedTrees S → (ask : Ask) (hashes : List Hash) (n : ℕ) (tree : TreeRoot) (s : TreeState) (f : List ℕ) → IsTree S n tree s
     → AreTrueHashes f tree s ask hashes → IsAccepted tree.length (look s.known) ask hashes ⊎ Collision (whole f) (look s.known)
-true_accepted S good ask hashes n tree s f at are =
-    stored_or_collision tree (whole f) (look s.known) ask hashes (whole-closed f tree are.fits) (good.closed n tree s at)
+true_accepted S closed_trees ask hashes n tree s f at are =
+    stored_or_collision tree (whole f) (look s.known) ask hashes (whole-closed f tree are.fits) (closed_trees.closed n tree s at)
     are.range are.count are.told are.top_known
 
-pub hashes-stored : (S : SessionSeen) → IsGood S → HasDistinctRoots S → (ask : Ask) (hashes : List Hash) (r : Result ℕ HashRefusal) (S' : SessionSeen)
+pub hashes-stored : (S : SessionSeen) → HasClosedTrees S → HasDistinctRoots S → (ask : Ask) (hashes : List Hash) (r : Result ℕ HashRefusal) (S' : SessionSeen)
     → IfOk r (λ c. IsStored S ask hashes c S') → IfErr r (λ x. IsHashRefused S ask hashes x × (S' ≡ S)) → StoresTrueHashes S ask hashes r
-hashes-stored S good distinct ask hashes (Ok c) S' stored refused = λ n tree s f at are. inl (c, refl)
-hashes-stored S good distinct ask hashes (Err x) S' stored refused =
-    λ n tree s f at are. hashes_taken S distinct ask hashes n tree s (whole f) at are.has_root (true_accepted S good ask hashes n tree s f at are) x refused.0
+hashes-stored S closed_trees distinct ask hashes (Ok c) S' stored refused = λ n tree s f at are. inl (c, refl)
+hashes-stored S closed_trees distinct ask hashes (Err x) S' stored refused =
+    λ n tree s f at are. hashes_taken S distinct ask hashes n tree s (whole f) at are.has_root (true_accepted S closed_trees ask hashes n tree s f at are) x refused.0
 
 -- ---- answers of another session
 
 -- each tree of a torrent has a state
-state_of_tree : (S : SessionSeen) → IsGood S → (n : ℕ) (tree : TreeRoot) → slice_get (roots S) n ≡ Some tree → (s : TreeState) × IsTree S n tree s
-state_of_tree S good n tree at =
+state_of_tree : (S : SessionSeen) → HasClosedTrees S → (n : ℕ) (tree : TreeRoot) → slice_get (roots S) n ≡ Some tree → (s : TreeState) × IsTree S n tree s
+state_of_tree S closed_trees n tree at =
     let inside : n < length (roots S) = slice_get_within (roots S) n tree at in
-    let low : n < length S.trees = omega (arith, inside, good.count) in
+    let low : n < length S.trees = omega (arith, inside, closed_trees.count) in
     let none : TreeState = record { known = empty; marked = leaves.empty } in
     (get_or S.trees n none, record { tree_is = at; state_is = slice_get-get_or S.trees n none low })
 
-answer_accepted : (S J : SessionSeen) → IsGood S → (ask : Ask) (hashes : List Hash) (from : IsAnswerFrom S.torrent J ask hashes) (s : TreeState) → IsTree S from.asked.number from.asked.tree s
+answer_accepted : (S J : SessionSeen) → HasClosedTrees S → (ask : Ask) (hashes : List Hash) (from : IsAnswerFrom S.torrent J ask hashes) (s : TreeState) → IsTree S from.asked.number from.asked.tree s
     → IsAccepted from.asked.tree.length (look s.known) ask hashes ⊎ Collision (look from.asked.state.known) (look s.known)
-answer_accepted S J good ask hashes from s at =
+answer_accepted S J closed_trees ask hashes from s at =
     subst (λ hs. IsAccepted from.asked.tree.length (look s.known) ask hs ⊎ Collision (look from.asked.state.known) (look s.known)) (sym from.hashes_are)
-    (answer-stored from.asked.tree (look from.asked.state.known) (look s.known) ask (from.good.closed from.asked.number from.asked.tree from.asked.state from.asked.is_tree)
-    (good.closed from.asked.number from.asked.tree s at) from.can from.enough)
+    (answer-stored from.asked.tree (look from.asked.state.known) (look s.known) ask (from.closed.closed from.asked.number from.asked.tree from.asked.state from.asked.is_tree)
+    (closed_trees.closed from.asked.number from.asked.tree s at) from.can from.enough)
 
 -- the tree that was asked is one of this session's too
 same_tree_at : (S J : SessionSeen) (ask : Ask) (hashes : List Hash) (from : IsAnswerFrom S.torrent J ask hashes) → slice_get (roots S) from.asked.number ≡ Some from.asked.tree
 same_tree_at S J ask hashes from = ap (λ (d : Description). slice_get (map root_of_entry d.trees) from.asked.number) (sym from.same) ∙ from.asked.is_tree.tree_is
 
-pub answers-stored : (S : SessionSeen) → IsGood S → HasDistinctRoots S → (ask : Ask) (hashes : List Hash) (r : Result ℕ HashRefusal) (S' : SessionSeen)
+pub answers-stored : (S : SessionSeen) → HasClosedTrees S → HasDistinctRoots S → (ask : Ask) (hashes : List Hash) (r : Result ℕ HashRefusal) (S' : SessionSeen)
     → IfOk r (λ c. IsStored S ask hashes c S') → IfErr r (λ x. IsHashRefused S ask hashes x × (S' ≡ S)) → StoresAnswers S ask hashes r
-answers-stored S good distinct ask hashes (Ok c) S' stored refused = λ J from. inl (c, refl)
-answers-stored S good distinct ask hashes (Err x) S' stored refused = λ J from.
-    let (s, at) = state_of_tree S good from.asked.number from.asked.tree (same_tree_at S J ask hashes from) in
-    elim (hashes_taken S distinct ask hashes from.asked.number from.asked.tree s (look from.asked.state.known) at from.asked.has_root (answer_accepted S J good ask hashes from s at) x refused.0) [
+answers-stored S closed_trees distinct ask hashes (Ok c) S' stored refused = λ J from. inl (c, refl)
+answers-stored S closed_trees distinct ask hashes (Err x) S' stored refused = λ J from.
+    let (s, at) = state_of_tree S closed_trees from.asked.number from.asked.tree (same_tree_at S J ask hashes from) in
+    elim (hashes_taken S distinct ask hashes from.asked.number from.asked.tree s (look from.asked.state.known) at from.asked.has_root (answer_accepted S J closed_trees ask hashes from s at) x refused.0) [
       | inl taken ↦ inl taken
       | inr other ↦ inr (elim other [ inl memory ↦ inl memory | inr collision ↦ inr (s, at, collision) ])
     ]
@@ -148,11 +148,11 @@ module _ (S : SessionSeen) (index begin : ℕ) (p q : IsPlaced S index begin) wh
   pub run_there : (size k : ℕ) → IsBlockRun p.in_file.tree.length p.number size k → IsBlockRun q.in_file.tree.length q.number size k
   run_there size k run = subst₂ (λ (tr : TreeRoot) b. IsBlockRun tr.length b size k) (sym placed_tree) (sym same_block_number) run
 
-module _ (S : SessionSeen) (good : IsGood S) (index begin : ℕ) (bytes : List ℕ) (p : IsPlaced S index begin) (f : List ℕ)
+module _ (S : SessionSeen) (closed_trees : HasClosedTrees S) (index begin : ℕ) (bytes : List ℕ) (p : IsPlaced S index begin) (f : List ℕ)
     (fits : Fits f p.in_file.tree) (is_block : bytes ≡ block f p.number) (known : IsKnown (look p.in_file.state.known) 0 p.number) where
   refused_elsewhere : (r : BlockRefusal) → (q : IsPlaced S index begin) → TreeRefusesBlock q.in_file.tree.length (look q.in_file.state.known) q.number bytes r
       → Collision (whole f) (look p.in_file.state.known)
-  refused_elsewhere r q refused = never-refused S good p.file p.number bytes p.in_file f fits is_block known r (refused_there S index begin p q bytes r refused)
+  refused_elsewhere r q refused = never-refused S closed_trees p.file p.number bytes p.in_file f fits is_block known r (refused_there S index begin p q bytes r refused)
 
   block_refused : (r : BlockRefusal) → IsBlockRefused S index begin bytes r → Collision (whole f) (look p.in_file.state.known)
   block_refused BadPlace h = absurd (none-some (p.file, p.number) (sym h ∙ p.at))
@@ -160,13 +160,13 @@ module _ (S : SessionSeen) (good : IsGood S) (index begin : ℕ) (bytes : List �
   block_refused Unproved (q, h) = refused_elsewhere Unproved q h
   block_refused BadBlock (q, h) = refused_elsewhere BadBlock q h
 
-pub block-taken : (S : SessionSeen) → IsGood S → (index begin : ℕ) (bytes : List ℕ) (r : Result (ℕ × ℕ) BlockRefusal) (S' : SessionSeen)
+pub block-taken : (S : SessionSeen) → HasClosedTrees S → (index begin : ℕ) (bytes : List ℕ) (r : Result (ℕ × ℕ) BlockRefusal) (S' : SessionSeen)
     → IfOk r (λ p. IsVerified S index begin bytes p.0 p.1 S') → IfErr r (λ x. IsBlockRefused S index begin bytes x × (S' ≡ S))
     → VerifiesTrueBlock S index begin bytes r
-block-taken S good index begin bytes (Ok (file, b)) S' was refused =
+block-taken S closed_trees index begin bytes (Ok (file, b)) S' was refused =
     λ p f fits is_block known. inl (ap Ok (same_Some (file, b) (p.file, p.number) (sym was.0 ∙ p.at)))
-block-taken S good index begin bytes (Err x) S' was refused =
-    λ p f fits is_block known. inr (block_refused S good index begin bytes p f fits is_block known x refused.0)
+block-taken S closed_trees index begin bytes (Err x) S' was refused =
+    λ p f fits is_block known. inr (block_refused S closed_trees index begin bytes p f fits is_block known x refused.0)
 
 later-keeps : (S S' : SessionSeen) → ((n : ℕ) (tree : TreeRoot) (s : TreeState) → IsTree S n tree s → Later S' n tree s) → KeepsKnown S S'
 later-keeps S S' later n tree s at =
@@ -185,11 +185,11 @@ pub block-keeps : (S : SessionSeen) (index begin : ℕ) (bytes : List ℕ) (r : 
 block-keeps S index begin bytes (Ok (file, b)) S' was refused = later-keeps S S' (step-known file S (one_cut b bytes) None S' was.1)
 block-keeps S index begin bytes (Err x) S' was refused = same-keeps S S' refused.1
 
-pub block-is : (S : SessionSeen) → IsGood S → (index begin : ℕ) (bytes : List ℕ) (r : Result (ℕ × ℕ) BlockRefusal) (S' : SessionSeen)
+pub block-is : (S : SessionSeen) → HasClosedTrees S → (index begin : ℕ) (bytes : List ℕ) (r : Result (ℕ × ℕ) BlockRefusal) (S' : SessionSeen)
     → IfOk r (λ p. IsVerified S index begin bytes p.0 p.1 S') → IfOk r (λ p. IsBlock S index begin bytes p.0 p.1)
-block-is S good index begin bytes (Ok (file, b)) S' (at, h) =
-    (at, says-block S good file (one_cut b bytes) h.in_file.tree_number h.in_file.tree h.in_file.state h.in_file.of_file h.in_file.is_tree (h.in_file.inside, h.leaf_known))
-block-is S good index begin bytes (Err x) S' was = tt
+block-is S closed_trees index begin bytes (Ok (file, b)) S' (at, h) =
+    (at, says-block S closed_trees file (one_cut b bytes) h.in_file.tree_number h.in_file.tree h.in_file.state h.in_file.of_file h.in_file.is_tree (h.in_file.inside, h.leaf_known))
+block-is S closed_trees index begin bytes (Err x) S' was = tt
 
 -- ---- several blocks
 
@@ -199,15 +199,15 @@ no-run S index begin bytes BadSize (q, none) = λ p k run. none k (run_there S i
 no-run S index begin bytes Unproved h = absurd h
 no-run S index begin bytes BadBlock h = absurd h
 
-pub blocks-are : (S : SessionSeen) → IsGood S → (index begin : ℕ) (bytes : List ℕ) (r : Result BlocksSeen BlockRefusal) (S' : SessionSeen)
+pub blocks-are : (S : SessionSeen) → HasClosedTrees S → (index begin : ℕ) (bytes : List ℕ) (r : Result BlocksSeen BlockRefusal) (S' : SessionSeen)
     → IfOk r (λ v. AreTaken S index begin bytes v S') → IfOk r (AreBlocks S index begin bytes)
-blocks-are S good index begin bytes (Ok v) S' h = taken-blocks S good index begin bytes v S' h
-blocks-are S good index begin bytes (Err x) S' h = tt
+blocks-are S closed_trees index begin bytes (Ok v) S' h = taken-blocks S closed_trees index begin bytes v S' h
+blocks-are S closed_trees index begin bytes (Err x) S' h = tt
 
-pub blocks-true : (S : SessionSeen) → IsGood S → (index begin : ℕ) (bytes : List ℕ) (r : Result BlocksSeen BlockRefusal) (S' : SessionSeen)
+pub blocks-true : (S : SessionSeen) → HasClosedTrees S → (index begin : ℕ) (bytes : List ℕ) (r : Result BlocksSeen BlockRefusal) (S' : SessionSeen)
     → IfOk r (λ v. AreTaken S index begin bytes v S') → IfOk r (VerifiesTrueBlocks S bytes)
-blocks-true S good index begin bytes (Ok v) S' h = taken-true S good index begin bytes v S' h
-blocks-true S good index begin bytes (Err x) S' h = tt
+blocks-true S closed_trees index begin bytes (Ok v) S' h = taken-true S closed_trees index begin bytes v S' h
+blocks-true S closed_trees index begin bytes (Err x) S' h = tt
 
 pub blocks-keep : (S : SessionSeen) (index begin : ℕ) (bytes : List ℕ) (r : Result BlocksSeen BlockRefusal) (S' : SessionSeen)
     → IfOk r (λ v. AreTaken S index begin bytes v S') → IfErr r (λ x. AreRefused S index begin bytes x × (S' ≡ S)) → KeepsKnown S S'
@@ -216,21 +216,21 @@ blocks-keep S index begin bytes (Err x) S' h refused = same-keeps S S' refused.1
 
 -- ---- steps
 
-takes_true : (S : SessionSeen) → IsGood S → HasDistinctRoots S → (m : Message) (v : Verdict) (S' : SessionSeen) → Step S m v S' → TakesWhatIsTrue S m v
-takes_true S good distinct (message.Hashes ask hashes) (verdict.Stored c) S' step =
-    (hashes-stored S good distinct ask hashes.now (Ok c) S' step tt, answers-stored S good distinct ask hashes.now (Ok c) S' step tt)
-takes_true S good distinct (message.Hashes ask hashes) (verdict.HashRefused r) S' step =
-    (hashes-stored S good distinct ask hashes.now (Err r) S' tt step, answers-stored S good distinct ask hashes.now (Err r) S' tt step)
-takes_true S good distinct (message.Piece index begin bytes) (verdict.Blocks v) S' step = taken-true S good index begin bytes.now v S' step
-takes_true S good distinct (message.Piece index begin bytes) (verdict.BlockRefused r) S' step = no-run S index begin bytes.now r step.0
-takes_true S good distinct (message.Hashes ask hashes) v S' step = absurd step
-takes_true S good distinct (message.Piece index begin bytes) v S' step = absurd step
-takes_true S good distinct m v S' step = tt
+takes_true : (S : SessionSeen) → HasClosedTrees S → HasDistinctRoots S → (m : Message) (v : Verdict) (S' : SessionSeen) → Step S m v S' → TakesWhatIsTrue S m v
+takes_true S closed_trees distinct (message.Hashes ask hashes) (verdict.Stored c) S' step =
+    (hashes-stored S closed_trees distinct ask hashes.now (Ok c) S' step tt, answers-stored S closed_trees distinct ask hashes.now (Ok c) S' step tt)
+takes_true S closed_trees distinct (message.Hashes ask hashes) (verdict.HashRefused r) S' step =
+    (hashes-stored S closed_trees distinct ask hashes.now (Err r) S' tt step, answers-stored S closed_trees distinct ask hashes.now (Err r) S' tt step)
+takes_true S closed_trees distinct (message.Piece index begin bytes) (verdict.Blocks v) S' step = taken-true S closed_trees index begin bytes.now v S' step
+takes_true S closed_trees distinct (message.Piece index begin bytes) (verdict.BlockRefused r) S' step = no-run S index begin bytes.now r step.0
+takes_true S closed_trees distinct (message.Hashes ask hashes) v S' step = absurd step
+takes_true S closed_trees distinct (message.Piece index begin bytes) v S' step = absurd step
+takes_true S closed_trees distinct m v S' step = tt
 
-pub safe_step : (S : SessionSeen) → IsGood S → HasDistinctRoots S → (m : Message) (v : Verdict) (S' : SessionSeen) → Step S m v S' → IsSafeStep S m v S'
-safe_step S good distinct m v S' step = record {
+pub safe_step : (S : SessionSeen) → HasClosedTrees S → HasDistinctRoots S → (m : Message) (v : Verdict) (S' : SessionSeen) → Step S m v S' → IsSafeStep S m v S'
+safe_step S closed_trees distinct m v S' step = record {
   allowed = step;
-  verified_is_the_block = verdict-true S m v S' good step;
+  verified_is_the_block = verdict-true S m v S' closed_trees step;
   keeps_known = keeps_known S m v S' step;
-  takes_what_is_true = takes_true S good distinct m v S' step;
+  takes_what_is_true = takes_true S closed_trees distinct m v S' step;
 }

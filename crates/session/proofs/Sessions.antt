@@ -26,7 +26,7 @@ use Rattle.partial_tree.specs.Claims.{claims, IsAccepted, TreeRefuses, CanAnswer
 use Rattle.node_maps.specs.Known.{Known, Marked, look}
 use Rattle.partial_tree.specs.Joins.{Joins}
 use Rattle.partial_tree.specs.Kept.{TreeState, KeptTree, info_of, IsGoodTree, IsMarked, TreeRefusesBlock}
-use Rattle.session.specs.Session.{IsTree, IsGood, HasDistinctRoots, IsStored, IsHashRefused, IsAnswered, IsInFile, IsMarkedBlock, IsUnmarkedBlock, BlockStep, AreTaken, IsBlockRefused, IsFilled, IsFillRefused}
+use Rattle.session.specs.Session.{IsTree, HasClosedTrees, HasDistinctRoots, IsStored, IsHashRefused, IsAnswered, IsInFile, IsMarkedBlock, IsUnmarkedBlock, BlockStep, AreTaken, IsBlockRefused, IsFilled, IsFillRefused}
 use Rattle.partial_tree.specs.declared.answer.Answer.{Answer}
 use Rattle.partial_tree.specs.declared.answer.Answer.TheVariants as answer
 use Rattle.partial_tree.specs.Answers.{IsTreeAnswer}
@@ -64,8 +64,8 @@ module _ (d : Description) (ts : List KeptTree) (kept : AreKept d ts) where
       let same : info_of x.0 ≡ tree = same_Some (info_of x.0) tree (sym ((tree_at o n x.0 x.1).tree_is) ∙ at.tree_is) in
       (x.0, x.1, same, x.2)
 
-  pub kept-good : (o : AskSet) → IsGood (seen d o ts)
-  kept-good o = record {
+  pub kept-closed : (o : AskSet) → HasClosedTrees (seen d o ts)
+  kept-closed o = record {
     count = length-map ts state_of ∙ sym (length-map ts info_of) ∙ ap length kept.same;
     closed = λ n tree s at.
         let x = kept_at o n tree s at in

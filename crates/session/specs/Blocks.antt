@@ -36,12 +36,12 @@ abbrev pub most_blocks : ℕ
 most_blocks = 17
 
 -- a list of refusals as it stands in an array
-abbrev pub padded : List (Option BlockRefusal) → List (Option BlockRefusal)
-padded rs = rs ++ replicate (most_blocks - length rs) None
+abbrev pub cells_of : List (Option BlockRefusal) → List (Option BlockRefusal)
+cells_of rs = rs ++ replicate (most_blocks - length rs) None
 
 -- an array holds so many refusals, and nothing behind them
 pub record IsArrayOf (cells : List (Option BlockRefusal)) (count first : ℕ) : Type 0 where
   pub size : length cells ≡ most_blocks
   pub count_is : length (take count cells) ≡ count
-  pub cells_are : padded (take count cells) ≡ cells
+  pub cells_are : cells_of (take count cells) ≡ cells
   pub first_low : first + most_blocks < 2 ^ 64

@@ -14,7 +14,7 @@ use Rattle.session.specs.declared.verdict.Verdict.{Verdict as Said}
 use Rattle.session.specs.declared.verdict.Verdict.TheVariants.{HashRefused}
 use Rattle.partial_tree.specs.declared.refusal.HashRefusal.TheVariants.{NoMemory}
 use Rattle.node_maps.specs.Known.{look}
-use Rattle.session.specs.Session.{SessionSeen, TreeState, IsTree, IsGood, HasDistinctRoots, HasFewerGaps, HasHashes, Step, IsTrueStep}
+use Rattle.session.specs.Session.{SessionSeen, TreeState, IsTree, HasClosedTrees, HasDistinctRoots, HasFewerGaps, HasHashes, Step, IsTrueStep}
 use Rattle.chains.specs.Chain.{Chain}
 use Rattle.partial_tree.specs.Gaps.{want_ask}
 
@@ -22,15 +22,15 @@ use Rattle.partial_tree.specs.Gaps.{want_ask}
 -- fits, or a collision is named
 abbrev pub RunKeepsPromises : Type 0
 RunKeepsPromises = (S : SessionSeen) (ms : List Sent) (vs : List Said) (S' : SessionSeen)
-    → IsGood S → All HasHashes ms
-    → Chain Step S ms vs S' → Chain IsTrueStep S ms vs S' × IsGood S'
+    → HasClosedTrees S → All HasHashes ms
+    → Chain Step S ms vs S' → Chain IsTrueStep S ms vs S' × HasClosedTrees S'
 
 -- a run that ends with the true answer to what was wanted before it leaves fewer gaps, unless
 -- memory was refused for that answer or a collision is named
 abbrev pub RoundLeavesFewerGaps : Type 0
 RoundLeavesFewerGaps = (S : SessionSeen) → HasDistinctRoots S
     → (ms : List Sent) (vs : List Said) (S₁ S₂ : SessionSeen)
-    (n : ℕ) (tree : Tree) (s : TreeState) (b : ℕ) (f : List ℕ) → IsGood S → All HasHashes ms
+    (n : ℕ) (tree : Tree) (s : TreeState) (b : ℕ) (f : List ℕ) → HasClosedTrees S → All HasHashes ms
     → Chain Step S ms vs S₁
     → IsTree S n tree s → b < block_count tree.length → look s.known 0 b ≡ None → Fits f tree
     → (hashes : Bor (List Hash)) → hashes.now ≡ answer_of (tree_height tree.length) (whole f)

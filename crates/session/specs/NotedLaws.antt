@@ -1,5 +1,5 @@
 -- The laws of sessions that note what they ask for, and of the replay of a conversion.
-use Rattle.std.specs.Prelude.{◌≡◌, ◌≢◌, ◌⊎◌, ℕ, ◌<◌, List, [], ◌∷◌, Some}
+use Rattle.std.specs.Prelude.{◌≡◌, ◌≢◌, ◌⊎◌, ℕ, ◌+◌, ◌<◌, ◌≤◌, List, [], ◌∷◌, Some}
 use Rattle.std.specs.Borrow.{Bor}
 use Rattle.std.specs.List.{All, AllZip, AllByRecursion}
 use Rattle.wire.specs.declared.direction.Direction.TheVariants.{In, Out}
@@ -15,18 +15,18 @@ use Rattle.session.specs.declared.verdict.Verdict.TheVariants.{HashRefused}
 use Rattle.partial_tree.specs.declared.refusal.HashRefusal.TheVariants.{NoMemory}
 use Rattle.hashtree.specs.Tree.{block_count}
 use Rattle.node_maps.specs.Digest.{Hash}
-use Rattle.node_maps.specs.Places.{tree_height}
+use Rattle.node_maps.specs.Places.{tree_height, IsKnown}
 use Rattle.node_maps.specs.Known.{look}
 use Rattle.partial_tree.specs.TreeRoot.{TreeRoot as Tree, Fits}
 use Rattle.partial_tree.specs.Closed.{whole}
 use Rattle.partial_tree.specs.Claims.{answer_of}
-use Rattle.partial_tree.specs.Gaps.{want_of}
+use Rattle.partial_tree.specs.Gaps.{gaps, want_of}
 use Rattle.chains.specs.Chain.{Chain}
 use Rattle.session.specs.Asks.{AskSet}
-use Rattle.session.specs.Session.{SessionSeen, TreeState, IsTree, IsGood, HasDistinctRoots, HasFewerGaps, Step}
+use Rattle.session.specs.Session.{SessionSeen, TreeState, IsTree, HasClosedTrees, HasDistinctRoots, HasFewerGaps, Step}
 use Rattle.session.specs.Rounds.{HasNoMoreGaps, Collides}
 use Rattle.session.specs.Noted.{IsOpenAsk, NotedStep, KeepsOpen}
-use Rattle.session.specs.NotedRounds.{HasDirectedHashes}
+use Rattle.session.specs.NotedRounds.{HasDirectedHashes, NotedRounds}
 
 -- ---- memory aside
 
@@ -114,8 +114,8 @@ IncomingOpensNothing =
 abbrev pub NotedRunKeeps : Type 0
 NotedRunKeeps =
     (S : SessionSeen) (ms : List (Directed Sent)) (vs : List Said) (S' : SessionSeen)
-    → IsGood S → All HasDirectedHashes ms → Chain NotedStep S ms vs S'
-    → IsGood S' × HasNoMoreGaps S S'
+    → HasClosedTrees S → All HasDirectedHashes ms → Chain NotedStep S ms vs S'
+    → HasClosedTrees S' × HasNoMoreGaps S S'
 
 -- what was wanted before the first message is open at some message, and at last its true answer
 -- comes: then the gaps are fewer, unless memory was refused for the answer or a collision is named
@@ -123,9 +123,28 @@ abbrev pub NotedRoundLeavesFewerGaps : Type 0
 NotedRoundLeavesFewerGaps = (S M N S' : SessionSeen) → HasDistinctRoots S
     → (ms ns : List (Directed Sent)) (vs ws : List Said)
     (n : ℕ) (tree : Tree) (s : TreeState) (b : ℕ) (ask : Asked) (f : List ℕ)
-    → IsGood S → All HasDirectedHashes ms → All HasDirectedHashes ns
+    → HasClosedTrees S → All HasDirectedHashes ms → All HasDirectedHashes ns
     → IsTree S n tree s → b < block_count tree.length → want_of tree (look s.known) b ≡ Some ask
     → Fits f tree → Chain NotedStep S ms vs M → IsOpenAsk M ask → Chain NotedStep M ns ws N
     → (hashes : Bor (List Hash)) → hashes.now ≡ answer_of (tree_height tree.length) (whole f) ask
     → (v : Said) → v ≢ HashRefused NoMemory → NotedStep N (In, Hashes ask hashes) v S'
     → HasFewerGaps S' n tree (look s.known) ⊎ Collides S' n f
+
+-- k rounds, one after the other, leave k gaps fewer, or a collision is named
+abbrev pub NotedRoundsAreAtMostGaps : Type 0
+NotedRoundsAreAtMostGaps = (S S' : SessionSeen) → HasDistinctRoots S
+    → (n : ℕ) (f : List ℕ) (k : ℕ) → HasClosedTrees S → NotedRounds n f k S S'
+    → (tree : Tree) (s : TreeState) → IsTree S n tree s
+    → ((later : TreeState) × IsTree S' n tree later
+    × (gaps tree.length (look later.known) + k ≤ gaps tree.length (look s.known)))
+    ⊎ Collides S' n f
+
+-- after as many rounds as there were gaps each block's leaf is known, or a collision is named
+abbrev pub NotedRoundsMakeAllKnown : Type 0
+NotedRoundsMakeAllKnown = (S S' : SessionSeen) → HasDistinctRoots S
+    → (n : ℕ) (f : List ℕ) (tree : Tree) (s : TreeState) → HasClosedTrees S
+    → IsTree S n tree s
+    → NotedRounds n f (gaps tree.length (look s.known)) S S'
+    → ((later : TreeState) × IsTree S' n tree later
+    × ((b : ℕ) → b < block_count tree.length → IsKnown (look later.known) 0 b))
+    ⊎ Collides S' n f

@@ -2,6 +2,7 @@
 -- was wanted before them, and noted before that answer.
 use Rattle.std.specs.Prelude.{◌≡◌, ◌⊎◌, ℕ, ◌<◌, List, [], ◌∷◌, ◌++◌, Some, slice_get}
 use Rattle.std.specs.Borrow.{Bor}
+use Rattle.std.specs.List.{All}
 use Rattle.std.proofs.Common.{inl, inr}
 use Rattle.wire.specs.declared.direction.Direction.TheVariants.{In, Out}
 use Rattle.wire.specs.declared.message.Ask.{Ask}
@@ -20,8 +21,9 @@ use Rattle.partial_tree.specs.Claims.{answer_of}
 use Rattle.partial_tree.specs.Gaps.{want_of}
 use Rattle.node_maps.specs.Known.{look}
 use Rattle.session.specs.Session.{SessionSeen, TreeState, IsTree, HasFewerGaps, HasHashes}
-use Rattle.session.specs.Rounds.{LacksMemoryAtLast, Collides}
-use Rattle.session.specs.Noted.{IsOpenAsk}
+use Rattle.session.specs.Rounds.{LacksMemoryAtLast, Collides, Repeated}
+use Rattle.session.specs.Noted.{IsOpenAsk, NotedStep}
+use Rattle.chains.specs.Chain.{Chain}
 
 -- the hashes of a message have 32 bytes each, in either direction
 abbrev pub HasDirectedHashes : Directed Message → Type 0
@@ -66,3 +68,17 @@ abbrev pub NotedRoundLeavesFewer : SessionSeen → List (Directed Message) → L
 NotedRoundLeavesFewer S ms vs S' = (n : ℕ) (f : List ℕ) (round : IsNotedRound S n f ms)
     → HasFewerGaps S' n round.tree (look round.state.known) ⊎ (LacksMemoryAtLast vs
     ⊎ (LacksMemoryToNote S round.before round.ask round.noted vs ⊎ Collides S' n f))
+
+-- a run over a round, with memory for its answer and for noting its request
+pub record IsNotedRoundRun (n : ℕ) (f : List ℕ) (S S' : SessionSeen) : Type 0 where
+  pub messages : List (Directed Message)
+  pub verdicts : List Verdict
+  pub hashes : All HasDirectedHashes messages
+  pub round : IsNotedRound S n f messages
+  pub run : Chain NotedStep S messages verdicts S'
+  pub memory : ¬ LacksMemoryAtLast verdicts
+  pub memory_to_note : ¬ LacksMemoryToNote S round.before round.ask round.noted verdicts
+
+-- k such runs, one after the other
+abbrev pub NotedRounds : ℕ → List ℕ → ℕ → SessionSeen → SessionSeen → Type 0
+NotedRounds n f k S S' = Repeated (IsNotedRoundRun n f) k S S'

@@ -11,7 +11,7 @@ use Rattle.partial_tree.specs.Closed.{IsClosed, whole}
 use Rattle.partial_tree.specs.Claims.{top_layer, top_index, answer_of}
 use Rattle.partial_tree.specs.Gaps.{gaps, want_ask, want_of}
 use Rattle.node_maps.specs.Known.{look}
-use Rattle.session.specs.Session.{SessionSeen, TreeState, IsTree, IsGood, HasDistinctRoots, HasHashes, Step}
+use Rattle.session.specs.Session.{SessionSeen, TreeState, IsTree, HasClosedTrees, HasDistinctRoots, HasHashes, Step}
 use Rattle.chains.specs.Chain.{Chain}
 use Rattle.session.specs.Rounds.{Rounds, HasNoMoreGaps, RoundLeavesFewer, Collides}
 
@@ -45,13 +45,13 @@ RunGapsNeverRise = (S : SessionSeen) (ms : List Sent) (vs : List Said) (S' : Ses
 -- is named
 abbrev pub RoundRunLeavesFewerGaps : Type 0
 RoundRunLeavesFewerGaps = (S : SessionSeen) → HasDistinctRoots S
-    → (ms : List Sent) (vs : List Said) (S' : SessionSeen) → IsGood S → All HasHashes ms
+    → (ms : List Sent) (vs : List Said) (S' : SessionSeen) → HasClosedTrees S → All HasHashes ms
     → Chain Step S ms vs S' → RoundLeavesFewer S ms vs S'
 
 -- k rounds, one after the other, leave k gaps fewer, or a collision is named
 abbrev pub RoundsAreAtMostGaps : Type 0
 RoundsAreAtMostGaps = (S S' : SessionSeen) → HasDistinctRoots S
-    → (n : ℕ) (f : List ℕ) (k : ℕ) → IsGood S → Rounds n f k S S'
+    → (n : ℕ) (f : List ℕ) (k : ℕ) → HasClosedTrees S → Rounds n f k S S'
     → (tree : Tree) (s : TreeState) → IsTree S n tree s
     → ((later : TreeState) × IsTree S' n tree later
     × (gaps tree.length (look later.known) + k ≤ gaps tree.length (look s.known)))
@@ -60,7 +60,7 @@ RoundsAreAtMostGaps = (S S' : SessionSeen) → HasDistinctRoots S
 -- after as many rounds as there were gaps each block's leaf is known, or a collision is named
 abbrev pub RoundsMakeAllKnown : Type 0
 RoundsMakeAllKnown = (S S' : SessionSeen) → HasDistinctRoots S
-    → (n : ℕ) (f : List ℕ) (tree : Tree) (s : TreeState) → IsGood S
+    → (n : ℕ) (f : List ℕ) (tree : Tree) (s : TreeState) → HasClosedTrees S
     → IsTree S n tree s
     → Rounds n f (gaps tree.length (look s.known)) S S'
     → ((later : TreeState) × IsTree S' n tree later

@@ -68,7 +68,11 @@ pub record IsRoundRun (n : ℕ) (f : List ℕ) (S S' : SessionSeen) : Type 0 whe
   pub run : Chain Step S messages verdicts S'
   pub memory : ¬ LacksMemoryAtLast verdicts
 
--- k such runs, one after the other
+-- k runs of this kind, one after the other
+abbrev pub Repeated : (SessionSeen → SessionSeen → Type 0) → ℕ → SessionSeen → SessionSeen → Type 0
+Repeated R zero S S' = S' ≡ S
+Repeated R (suc k) S S' = (M : SessionSeen) × R S M × Repeated R k M S'
+
+-- k runs over rounds, one after the other
 abbrev pub Rounds : ℕ → List ℕ → ℕ → SessionSeen → SessionSeen → Type 0
-Rounds n f zero S S' = S' ≡ S
-Rounds n f (suc k) S S' = (M : SessionSeen) × IsRoundRun n f S M × Rounds n f k M S'
+Rounds n f k S S' = Repeated (IsRoundRun n f) k S S'

@@ -17,7 +17,7 @@ use Rattle.metainfo.specs.Blocks.{IsBlockRun}
 use Rattle.partial_tree.specs.TreeRoot.{TreeRoot, Fits}
 use Rattle.partial_tree.specs.Closed.{Keeps, Collision, whole}
 use Rattle.partial_tree.specs.Claims.{top_layer, top_index, GoodRange, GoodCount, IsToldBy, CanAnswer, answer_of}
-use Rattle.session.specs.Session.{SessionSeen, TreeState, IsTree, IsGood, IsAsked, IsInFile, IsPlaced, Step, IsTrueVerdict}
+use Rattle.session.specs.Session.{SessionSeen, TreeState, IsTree, HasClosedTrees, IsAsked, IsInFile, IsPlaced, Step, IsTrueVerdict}
 use Rattle.session.specs.Blocks.{BlocksSeen}
 
 -- each known place of each tree keeps its value
@@ -43,12 +43,12 @@ StoresTrueHashes S ask hashes r =
     → AreTrueHashes f tree s ask hashes
     → ((count : ℕ) × (r ≡ Ok count)) ⊎ ((r ≡ Err NoMemory) ⊎ Collision (whole f) (look s.known))
 
--- the hashes are what a session in the good state J, of the same torrent, answers to an ask with
--- enough proof layers
+-- the hashes are what a session of the same torrent, in a state J whose trees are closed, answers
+-- to an ask with enough proof layers
 pub record IsAnswerFrom (torrent : Description) (J : SessionSeen) (ask : Ask) (hashes : List Hash)
     : Type 0 where
   pub same : J.torrent ≡ torrent
-  pub good : IsGood J
+  pub closed : HasClosedTrees J
   pub asked : IsAsked J ask
   pub can : CanAnswer (tree_height asked.tree.length) (look asked.state.known) ask
   pub enough : tree_height asked.tree.length - ask.base - 1 ≤ ask.proof

@@ -38,7 +38,7 @@ pub record IsTree (S : SessionSeen) (n : ℕ) (tree : TreeRoot) (s : TreeState) 
   pub state_is : slice_get S.trees n ≡ Some s
 
 -- each tree has a state, is closed, and knows each marked leaf
-pub record IsGood (S : SessionSeen) : Type 0 where
+pub record HasClosedTrees (S : SessionSeen) : Type 0 where
   pub count : length S.trees ≡ length (roots S)
   pub closed : (n : ℕ) (tree : TreeRoot) (s : TreeState) → IsTree S n tree s
       → IsClosed tree (look s.known)

@@ -21,7 +21,7 @@ pub struct Blocks {
 
 impl Model for Blocks {
     ghost use Rattle.std.specs.Prelude.{length, take};
-    ghost use Rattle.session.specs.Blocks.{BlocksSeen, IsArrayOf, padded};
+    ghost use Rattle.session.specs.Blocks.{BlocksSeen, IsArrayOf, cells_of};
     ghost use Rattle.std.proofs.Common.{ap₂};
 
     ghost Value = { BlocksSeen };
@@ -38,7 +38,7 @@ impl Model for Blocks {
       file = v.file;
       first = v.first;
       count = length v.refusals;
-      refusals = padded v.refusals;
+      refusals = cells_of v.refusals;
     } };
 
     ghost inverse_ok = { λ b h. ap₂ (λ n cells. record b { count = n; refusals = cells })

@@ -1,7 +1,7 @@
 //! The laws of runs of messages, each as the contract of a function that does nothing.
 
 ghost use Rattle.session.specs.Laws.{RunKeepsPromises, RoundLeavesFewerGaps};
-ghost use Rattle.session.specs.NotedLaws.{ConversionRunsAsFormOne, FormOneRunsAsConversion, ConversionReplaysAsFormOne, OneRunWithMemory, ConversionTellsTheSame, NotedStaysOpen, IncomingOpensNothing, NotedRunKeeps, NotedRoundLeavesFewerGaps};
+ghost use Rattle.session.specs.NotedLaws.{ConversionRunsAsFormOne, FormOneRunsAsConversion, ConversionReplaysAsFormOne, OneRunWithMemory, ConversionTellsTheSame, NotedStaysOpen, IncomingOpensNothing, NotedRunKeeps, NotedRoundLeavesFewerGaps, NotedRoundsAreAtMostGaps, NotedRoundsMakeAllKnown};
 ghost use Rattle.session.specs.RoundLaws.{NoGapMeansNothingWanted, NothingWantedMeansNoGap, WantedAnswerLeadsToRoot, RunGapsNeverRise, RoundRunLeavesFewerGaps, RoundsAreAtMostGaps, RoundsMakeAllKnown};
 
 /// A run keeps all trees closed, and each block that it verifies is the block of every file that
@@ -48,10 +48,13 @@ pub fn conversion_replays_as_form_1()
 /// A noted ask is open until the hashes of its base range are known, and what comes in opens none.
 /// A run that notes keeps all trees closed, and no tree has more gaps after it. If what was wanted
 /// was noted before its true answer comes, there are fewer, unless memory was refused for that
-/// answer or a collision is named.
+/// answer or a collision is named; so with memory there are at most as many such rounds as gaps,
+/// and after that many each block's leaf is known.
 pub fn noted_asks_close_gaps()
     ensures stays { NotedStaysOpen }
     ensures ours { IncomingOpensNothing }
     ensures keeps { NotedRunKeeps }
     ensures round { NotedRoundLeavesFewerGaps }
+    ensures all { NotedRoundsAreAtMostGaps }
+    ensures done { NotedRoundsMakeAllKnown }
 {}

@@ -68,7 +68,7 @@ impl<'t, N: NodeMap> Session<'t, N> {
         ensures verified_is_the_block { IsSafeNotedStep self.old (direction, message.now) result
             self.new }
     {
-        self.good();
+        self.closed_trees();
         self.distinct_roots();
         match direction {
             Direction::In => self.take_in(message),
@@ -119,7 +119,7 @@ impl<'t, N: NodeMap> Session<'t, N> {
             (λ vs. NotedRoundLeavesFewer self.old messages.now vs.items self.new) }
         ensures no_memory { OnErr result (self.new ≡ self.old) }
     {
-        self.good();
+        self.closed_trees();
         self.distinct_roots();
         let mut verdicts = Vec::with_capacity(self.alloc, messages.len())?;
         'messages: for (direction, message) in messages {

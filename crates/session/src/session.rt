@@ -10,7 +10,7 @@ ghost use Rattle.std.specs.List.{All};
 ghost use Rattle.std.specs.FinMap as finite;
 ghost use Rattle.std.specs.FinSet as set;
 ghost use Rattle.partial_tree.specs.Kept.{TreeState};
-ghost use Rattle.session.specs.Session.{IsTree, IsGood, HasHashes, HasDistinctRoots, IsStored, IsHashRefused, IsVerified, IsBlockRefused, IsBlock, IsMarkedBlock, IsUnmarkedBlock, BlockStep, AreTaken, AreRefused, AreBlocks, IsAnswered, IsFilled, IsFillRefused, Step};
+ghost use Rattle.session.specs.Session.{IsTree, HasClosedTrees, HasHashes, HasDistinctRoots, IsStored, IsHashRefused, IsVerified, IsBlockRefused, IsBlock, IsMarkedBlock, IsUnmarkedBlock, BlockStep, AreTaken, AreRefused, AreBlocks, IsAnswered, IsFilled, IsFillRefused, Step};
 ghost use Rattle.node_maps.specs.Known.{look};
 ghost use Rattle.partial_tree.specs.TreeRoot.{TreeRoot};
 ghost use Rattle.partial_tree.specs.Gaps.{want_of};
@@ -102,8 +102,8 @@ impl<'t, N: NodeMap> Session<'t, N> {
 
     /// What holds of every session: each known place stands with its sibling and its parent, and
     /// each marked leaf is known.
-    pub fn good(&self)
-        ensures { IsGood self.now }
+    pub fn closed_trees(&self)
+        ensures { HasClosedTrees self.now }
     {
         // Looking at the trees tells what holds of each.
         let _ = &self.trees;
@@ -128,7 +128,7 @@ impl<'t, N: NodeMap> Session<'t, N> {
         ensures stores_true_hashes { StoresTrueHashes self.old ask.now hashes.now result }
         ensures stores_answers { StoresAnswers self.old ask.now hashes.now result }
     {
-        self.good();
+        self.closed_trees();
         self.distinct_roots();
         self.join_hashes(ask, hashes)
     }
@@ -177,7 +177,7 @@ impl<'t, N: NodeMap> Session<'t, N> {
         ensures keeps_known { KeepsKnown self.old self.new }
         ensures verifies_true_block { VerifiesTrueBlock self.old index begin block.now result }
     {
-        self.good();
+        self.closed_trees();
         self.mark_block(index, begin, block)
     }
 
@@ -220,7 +220,7 @@ impl<'t, N: NodeMap> Session<'t, N> {
         ensures keeps_known { KeepsKnown self.old self.new }
         ensures verifies_true_blocks { IfOk result (VerifiesTrueBlocks self.old bytes.now) }
     {
-        self.good();
+        self.closed_trees();
         self.mark_blocks(index, begin, bytes)
     }
 
@@ -342,7 +342,7 @@ impl<'t, N: NodeMap> Session<'t, N> {
     pub fn step(&mut self, message: &Message<'_>) -> Verdict
         ensures verified_is_the_block { IsSafeStep self.old message.now result self.new }
     {
-        self.good();
+        self.closed_trees();
         self.distinct_roots();
         self.take(message)
     }
@@ -389,7 +389,7 @@ impl<'t, N: NodeMap> Session<'t, N> {
             (λ vs. RoundLeavesFewer self.old messages.now vs.items self.new) }
         ensures no_memory { OnErr result (self.new ≡ self.old) }
     {
-        self.good();
+        self.closed_trees();
         self.distinct_roots();
         let mut verdicts = Vec::with_capacity(self.alloc, messages.len())?;
         'messages: for message in messages {

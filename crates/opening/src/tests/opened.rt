@@ -57,12 +57,12 @@ fn has_files(torrent: &Torrent<'_>, files: &[Listed]) -> bool {
 }
 
 fn has_trees(torrent: &Torrent<'_>, trees: &[Rooted]) -> bool {
-    for (tree, rooted) in torrent.trees().iter().zip(trees) {
-        if !is_tree(tree, *rooted) {
+    for (k, (tree, rooted)) in torrent.trees().iter().zip(trees).enumerate() {
+        if !is_tree(tree, *rooted) || torrent.tree_with_root(&tree.root) != Some(k) {
             return false;
         }
     }
-    torrent.trees().len() == trees.len()
+    torrent.trees().len() == trees.len() && torrent.tree_with_root(&[0; 32]).is_none()
 }
 
 // Each of these opens, and tells just this.

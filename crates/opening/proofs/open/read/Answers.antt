@@ -18,11 +18,14 @@ use Rattle.opening.specs.Layered.{layer_pairs}
 use Rattle.opening.specs.Opening.{AreKeys}
 use Rattle.opening.specs.Refusals.{head_rows, all_key_rows}
 use Rattle.opening.specs.Refusals.{layers_in, number_in, piece_length_in, piece_length_rows}
+use Rattle.opening.specs.Rooted.{AreNumbers}
 use Rattle.opening.specs.Seen.{described, file_entry}
 use Rattle.opening.specs.Steps.{pairs_seen}
+use Rattle.opening.specs.Trees.{root_of_tree, roots_in}
 use Rattle.opening.specs.declared.info.Keys.{Keys}
 use Rattle.opening.proofs.Assembling.{IsRead, files_refused, fits_stream, hybrid_refused, is_described, keys_refused, none_holds, sizes_of, tree_refused}
 use Rattle.opening.proofs.Growing.{keys_take_none}
+use Rattle.opening.proofs.Rooting.{roots_back}
 use Rattle.opening.proofs.Sounding.{sound, tree_paths}
 use Rattle.opening.proofs.Told.{tree_fits}
 use Rattle.opening.proofs.open.read.Goals as goal
@@ -123,8 +126,13 @@ returns-in_err-v1-clause-passes c =
     let p = err_from_is_err_and c.from_residual-in_err-v1.result c.from_residual-in_err-v1.ensures.1 in
     rw (p.1, p.2) (λ _. hybrid_refused v k (view keys.info.now) keys.name.now (pairs_view keys.tree.now) ls fs c.in_err-v1.field-0.0 h content.0 told)
 
-pub new-requires : goal.new-requires
-new-requires c =
+pub new-requires-clause-numbers : goal.new-requires-clause-numbers
+new-requires-clause-numbers c =
+    let content = c.in_ok-files.ensures.1 in
+    subst (AreNumbers c.in_ok-files.field-0.numbers) (sym (ap (map root_of_tree) content.trees ∙ roots_back c.in_ok-piece_length.piece_length (layer_pairs c.of-layers.result) (roots_in c.in_ok-listed.listed.items))) content.numbers
+
+pub new-requires-clause-sound : goal.new-requires-clause-sound
+new-requires-clause-sound c =
     let v = view c.args.top.now in
     let keys = c.in_ok-info.field-0 in
     let k = c.in_ok-piece_length.piece_length in

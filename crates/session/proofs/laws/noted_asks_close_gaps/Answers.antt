@@ -1,4 +1,5 @@
 use Rattle.session.proofs.NotedRounds.{run-noted-open, incoming-opens, noted-keeps, noted-round-law}
+use Rattle.session.proofs.RepeatedRounds.{noted-rounds-count, noted-rounds-done}
 use Rattle.session.proofs.laws.noted_asks_close_gaps.Goals as goal
 
 pub returns : goal.returns
@@ -7,4 +8,6 @@ returns c = record {
   ours = incoming-opens;
   keeps = noted-keeps;
   round = noted-round-law;
+  all = noted-rounds-count;
+  done = noted-rounds-done;
 }

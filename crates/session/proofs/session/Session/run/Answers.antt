@@ -33,6 +33,6 @@ returns-clause-gaps g c =
 pub returns-clause-round : goal.returns-clause-round
 returns-clause-round g c =
     let whole : take c.messages.message-index c.args.messages.now ≡ c.args.messages.now = take_all c.messages.message-index c.args.messages.now c.messages-test.false in
-    round-fewer c.args.self.now c.distinct_roots.ensures c.args.messages.now c.messages.verdicts.items c.messages.self c.good.ensures
+    round-fewer c.args.self.now c.distinct_roots.ensures c.args.messages.now c.messages.verdicts.items c.messages.self c.closed_trees.ensures
     (subst (All HasHashes) whole c.messages.invariant.hashes)
     (Chain-weaker IsSafeStep Step (λ S m v S' s. s.allowed) c.args.self.now c.args.messages.now c.messages.verdicts.items c.messages.self (returns-clause-verified_is_the_block g c))

@@ -39,6 +39,6 @@ returns-clause-keeps_open g c =
 pub returns-clause-round : goal.returns-clause-round
 returns-clause-round g c =
     let whole : take c.messages.direction-index c.args.messages.now ≡ c.args.messages.now = take_all c.messages.direction-index c.args.messages.now c.messages-test.false in
-    noted-round-fewer c.args.self.now c.distinct_roots.ensures c.args.messages.now c.messages.verdicts.items c.messages.self c.good.ensures
+    noted-round-fewer c.args.self.now c.distinct_roots.ensures c.args.messages.now c.messages.verdicts.items c.messages.self c.closed_trees.ensures
     (subst (All HasDirectedHashes) whole c.messages.invariant.hashes)
     (Chain-weaker IsSafeNotedStep NotedStep (λ S m v S' s. s.allowed) c.args.self.now c.args.messages.now c.messages.verdicts.items c.messages.self (returns-clause-verified_is_the_block g c))

@@ -8,10 +8,10 @@ returns-clause-keeps_known g c =
 
 pub returns-clause-stores_true_hashes : goal.returns-clause-stores_true_hashes
 returns-clause-stores_true_hashes g c =
-    hashes-stored c.args.self.now c.good.ensures c.distinct_roots.ensures c.args.ask.now c.args.hashes.now c.join_hashes.result
+    hashes-stored c.args.self.now c.closed_trees.ensures c.distinct_roots.ensures c.args.ask.now c.args.hashes.now c.join_hashes.result
     c.join_hashes.new.self c.join_hashes.ensures.stored c.join_hashes.ensures.refused
 
 pub returns-clause-stores_answers : goal.returns-clause-stores_answers
 returns-clause-stores_answers g c =
-    answers-stored c.args.self.now c.good.ensures c.distinct_roots.ensures c.args.ask.now c.args.hashes.now c.join_hashes.result
+    answers-stored c.args.self.now c.closed_trees.ensures c.distinct_roots.ensures c.args.ask.now c.args.hashes.now c.join_hashes.result
     c.join_hashes.new.self c.join_hashes.ensures.stored c.join_hashes.ensures.refused
