@@ -12,7 +12,7 @@ use Rattle.metainfo.specs.Feeding.{given}
 use Rattle.folders.specs.Content.{HasPlaceFor, part_of}
 use Rattle.folders.specs.Folder.{Contents, start_of}
 use Rattle.folders.specs.Pass.{FindsVerdict, IsStreamPart}
-use Rattle.folders.specs.Streaming.{EndsAt, IsStreamGiven, StandsAt, Takes}
+use Rattle.folders.specs.Streaming.{StreamEndsAt, IsStreamGiven, StandsAt, Takes}
 use Rattle.folders.specs.Verdicts.{AreVerdicts, IsVerdict, is_whole}
 use Rattle.folders.proofs.Prefixes.{IsPrefix, prefix_none, prefix_zeros, prefix_file, prefix_empty}
 use Rattle.folders.proofs.Places.{place_before, start_is, ends_before_next, pieces_are_positive}
@@ -27,7 +27,7 @@ pub record IsPassed (t : Description) (n : ℕ) (files : List FileVerdict) (runn
   pub count : length files ≡ n
   pub goes_on : is_some running ≡ (is_some t.v1 && list_all is_whole files)
   pub not_past : IsNotPast running (place_before t n)
-  pub ends : (v : Version1) → t.v1 ≡ Some v → EndsAt running v.total
+  pub ends : (v : Version1) → t.v1 ≡ Some v → StreamEndsAt running v.total
 
 -- what the verdicts of the first n files tell of the contents, and what the stream was given of them
 pub record IsTold (t : Description) (contents : Contents) (n : ℕ) (files : List FileVerdict) (running : Option V1Feed) : Type 0 where
@@ -102,7 +102,7 @@ passed_broken t n files v old new broken stopped passed = record {
   count = length_push files v ∙ ap (λ k. k + 1) passed.count;
   goes_on = ap is_some stopped ∙ off (is_some t.v1) (list_all is_whole files) (is_whole v) broken ∙ ap (λ b. is_some t.v1 && b) (sym (list_all_push files v));
   not_past = subst (λ o. IsNotPast o (place_before t (n + 1))) (sym stopped) tt;
-  ends = λ w hybrid. subst (λ o. EndsAt o w.total) (sym stopped) tt;
+  ends = λ w hybrid. subst (λ o. StreamEndsAt o w.total) (sym stopped) tt;
 }
   where
     off : (a b c : Bool) → c ≡ false → false ≡ (a && (b && c))

@@ -13,7 +13,7 @@ use Rattle.folders.specs.declared.report.V1Verdict.TheVariants as version1
 use Rattle.pieces.specs.declared.v1_feed.V1Feed.{V1Feed}
 use Rattle.folders.specs.Compared.{IsDigestVerdict}
 use Rattle.folders.specs.Folder.{Contents, GoodFolder, IsGoodFile, IsStream, V1Good, tree_of}
-use Rattle.folders.specs.Streaming.{EndsAt, IsStreamVerdict, StandsAt}
+use Rattle.folders.specs.Streaming.{StreamEndsAt, IsStreamVerdict, StandsAt}
 use Rattle.folders.specs.Verdicts.{HasVerdicts, IsBad, IsV1Verdict, IsVerdict, TellsContents, fault_count, is_checked, is_good, is_unreadable, is_whole, is_yes, stream_is_good, unreadable_count}
 use Rattle.folders.proofs.Prefixes.{prefix_all, IsPrefix}
 use Rattle.folders.proofs.Passes.{IsPassed, IsTold}
@@ -172,7 +172,7 @@ good_is_enough t contents files v1 sound has tells good none =
 
 -- the stream stands before its end
 abbrev IsWithin : Option V1Feed → Type 0
-IsWithin running = (from total : ℕ) → is_some running ≡ true → StandsAt running from → EndsAt running total → from ≤ total
+IsWithin running = (from total : ℕ) → is_some running ≡ true → StandsAt running from → StreamEndsAt running total → from ≤ total
 
 -- the stream, once all files have passed whole, and what comparing it told
 compared_stream : (t : Description) (contents : Contents) (n : ℕ) (files : List FileVerdict) (running : Option V1Feed) (v : Version1) (verdict : V1Verdict)

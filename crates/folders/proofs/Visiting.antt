@@ -1,10 +1,10 @@
 -- What a check found of one file, by how its opening was answered, and of the first files together.
-use Rattle.std.proofs.Common.{◌≡◌, ◌⊎◌, inl, inr, ℕ, zero, suc, ◌+◌, ◌<◌, Bool, true, false, List, [], ◌∷◌, ◌++◌, length, map, slice_get, get_or, Option, Some, None, option_map, Result, Ok, Err, IfOk, refl, ap, sym, ◌∙◌, subst, arith}
+use Rattle.std.proofs.Common.{◌≡◌, ◌⊎◌, inl, inr, ℕ, zero, suc, ◌+◌, ◌<◌, Bool, true, false, List, [], ◌∷◌, ◌++◌, length, slice_get, Option, Some, None, option_map, Result, Ok, Err, IfOk, refl, ap, sym, ◌∙◌, subst, arith}
 use Rattle.std.specs.Option.{unwrap_or}
 use Rattle.std.specs.Result.{result_unwrap_or}
 use Rattle.benc.specs.declared.device.DeviceFault.{DeviceFault}
 use Rattle.std.proofs.lemmas.List.{length_push, get_or_push, get_or_append_left}
-use Rattle.std.proofs.lemmas.Option.{same_Some, none-some, slice_get_within, slice_get-get_or, get_or_from_slice_get}
+use Rattle.std.proofs.lemmas.Option.{same_Some, slice_get_within, slice_get-get_or, get_or_from_slice_get}
 use Rattle.metainfo.specs.Description.{Description, FileEntry}
 use Rattle.metainfo.specs.Sound.{IsSound}
 use Rattle.folders.specs.declared.report.FileVerdict.{FileVerdict}
@@ -17,6 +17,15 @@ use Rattle.folders.specs.Verdicts.{AgreeWith, Agrees, is_whole}
 use Rattle.folders.proofs.Passes.{IsPassed, IsTold, told_one}
 
 -- ---- one file
+
+same_content : (left : Option (List ℕ)) (bytes : List ℕ) (content : Option (List ℕ)) → Agrees left bytes → Some left ≡ option_map Some content → content ≡ Some bytes
+same_content left bytes None gave e = let no : ⊥ = cc in absurd no
+same_content left bytes (Some known) gave e = ap Some (gave known (same_Some left (Some known) e))
+
+-- what an opened file has is what stands at its path
+pub agrees_opened : (told : Option (Option (List ℕ))) (left : Option (List ℕ)) (bytes : List ℕ) → IsFound told (Some left) → Agrees left bytes → Agrees told (Some bytes)
+agrees_opened None left bytes found gave there is = let no : ⊥ = cc in absurd no
+agrees_opened (Some stands) left bytes found gave there is = same_content left bytes there gave (found ∙ ap (option_map Some) (same_Some stands there is))
 
 -- nothing has the name
 pub finds_missing : (t : Description) (f : FileEntry) (told : Option (Option (List ℕ))) (old new : Option V1Feed)
@@ -54,19 +63,11 @@ pub finds_opened : (t : Description) (f : FileEntry) (told : Option (Option (Lis
     → FindsVerdict t f told old end v
 finds_opened t f told left old new end v found is goes stopped = record {
   content = Some is.bytes;
-  agrees = there told found;
+  agrees = agrees_opened told left is.bytes found is.agrees;
   verdict = is.verdict;
   taken = λ whole. (is.bytes, refl, subst (λ o. IsStreamPart t f is.bytes old o) (sym (goes whole)) (is.taken whole));
   stopped = stopped;
 }
-  where
-    some_of : (content : Option (List ℕ)) → Some left ≡ option_map Some content → content ≡ Some is.bytes
-    some_of None e = let no : ⊥ = cc in absurd no
-    some_of (Some bytes) e = ap Some (is.agrees bytes (same_Some left (Some bytes) e))
-
-    there : (told : Option (Option (List ℕ))) → IsFound told (Some left) → Agrees told (Some is.bytes)
-    there None found content e = let no : ⊥ = cc in absurd no
-    there (Some stands) found content e = some_of content (found ∙ ap (option_map Some) (same_Some stands content e))
 
 -- the same, of how the reading was answered
 pub finds_read : (t : Description) (f : FileEntry) (told : Option (Option (List ℕ))) (left : Option (List ℕ)) (old new end : Option V1Feed) (r : Result FileVerdict DeviceFault) (v : FileVerdict)

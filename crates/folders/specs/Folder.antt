@@ -1,5 +1,5 @@
 -- What it means that a folder holds a torrent's files (BEP 52; for a hybrid BEP 3 and BEP 47 too).
-use Rattle.std.specs.Prelude.{◌≡◌, ℕ, ◌+◌, ◌*◌, ◌^◌, ◌<◌, ◌≤◌, List, [], length, take, drop, slice_index, slice_get, Option, Some, option_and_then}
+use Rattle.std.specs.Prelude.{◌≡◌, ℕ, ◌+◌, ◌*◌, ◌<◌, ◌≤◌, List, [], length, take, drop, slice_index, slice_get, Option, Some, option_and_then}
 use Rattle.hashtree.specs.Tree.{root_of}
 use Rattle.metainfo.specs.Description.{Description, FileEntry, TreeEntry, Version1}
 use Rattle.metainfo.specs.Cuts.{cut_digests}

@@ -15,3 +15,5 @@ pub mod Visits
 pub mod TakeAll
 pub mod Feeding
 pub mod TakerLaws
+pub mod Collecting
+pub mod CollectingLaws

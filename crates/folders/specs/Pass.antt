@@ -17,16 +17,15 @@ pub record IsStreamPart (t : Description) (f : FileEntry) (bytes : List ℕ) (ol
 
 -- the bytes of a source that had this to give: none, or some
 abbrev pub IsEmptyContent : Option (List ℕ) → Bool → Type 0
-IsEmptyContent left true = (file : List ℕ) → left ≡ Some file → file ≡ []
-IsEmptyContent left false =
-    (bytes : List ℕ) × (0 < length bytes) × ((file : List ℕ) → left ≡ Some file → file ≡ bytes)
+IsEmptyContent left true = Agrees left []
+IsEmptyContent left false = (bytes : List ℕ) × (0 < length bytes) × Agrees left bytes
 
 -- A file that had this to give was read without a fault. It has these bytes, which are the known
 -- ones; the verdict is true of them; and if it is as long as stated the stream took its part.
 pub record IsOpenedVerdict (t : Description) (f : FileEntry) (left : Option (List ℕ))
     (old new : Option V1Feed) (v : FileVerdict) : Type 0 where
   pub bytes : List ℕ
-  pub agrees : (file : List ℕ) → left ≡ Some file → file ≡ bytes
+  pub agrees : Agrees left bytes
   pub verdict : IsVerdict t f (Some bytes) v
   pub readable : is_unreadable v ≡ false
   pub taken : is_whole v ≡ true → IsStreamPart t f bytes old new

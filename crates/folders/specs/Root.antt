@@ -8,14 +8,14 @@ use Rattle.folders.specs.declared.root.RootFault.{RootFault}
 use Rattle.folders.specs.declared.root.RootFault.TheVariants as fault
 
 -- the line of a file that is not empty: its length and the pieces root in hexadecimal
-abbrev pub root_text : List ℕ → List ℕ
-root_text file = decimal (length file) ++ codes " " ++ encode_lower (root_of file) ++ codes "\n"
+abbrev pub content_line : List ℕ → List ℕ
+content_line file = decimal (length file) ++ codes " " ++ encode_lower (root_of file) ++ codes "\n"
 
 -- the line of a file
 unfoldable pub root_line_of : List ℕ → List ℕ
 root_line_of [] = codes "0 -\n"
 root_line_of (b ∷ bs) =
-    (if nat_le (length (b ∷ bs)) (2 ^ 46) then root_text (b ∷ bs)
+    (if nat_le (length (b ∷ bs)) (2 ^ 46) then content_line (b ∷ bs)
     else codes "refused 10 Length\n")
 
 -- neither device failed, or the one that is blamed did, once; if the source did, nothing was

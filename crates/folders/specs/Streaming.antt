@@ -17,9 +17,9 @@ StandsAt None n = ⊤
 StandsAt (Some f) n = given f ≡ n
 
 -- if the stream goes on, its end is at this place
-abbrev pub EndsAt : Option V1Feed → ℕ → Type 0
-EndsAt None n = ⊤
-EndsAt (Some f) n = total f ≡ n
+abbrev pub StreamEndsAt : Option V1Feed → ℕ → Type 0
+StreamEndsAt None n = ⊤
+StreamEndsAt (Some f) n = total f ≡ n
 
 -- if the stream goes on, this many bytes more are not past its end
 abbrev pub HasStreamRoom : Option V1Feed → ℕ → Type 0
@@ -40,7 +40,7 @@ IsStreamGiven (Some f) pieces piece_length content = IsFeedGiven f pieces piece_
 pub record Takes (old new : Option V1Feed) (part : List ℕ) : Type 0 where
   pub goes_on : is_some new ≡ is_some old
   pub stands : (n : ℕ) → StandsAt old n → StandsAt new (n + length part)
-  pub ends : (n : ℕ) → EndsAt old n → EndsAt new n
+  pub ends : (n : ℕ) → StreamEndsAt old n → StreamEndsAt new n
   pub given : (pieces : List (List ℕ)) (piece_length : ℕ) (content : List ℕ)
       → IsStreamGiven old pieces piece_length content
       → IsStreamGiven new pieces piece_length (content ++ part)
@@ -54,6 +54,6 @@ FillsTo old place new = (from : ℕ) → StandsAt old from → from ≤ place
 abbrev pub IsStreamVerdict : Option V1Feed → V1Verdict → Type 0
 IsStreamVerdict feed verdict =
     (from total : ℕ) (pieces : List (List ℕ)) (piece_length : ℕ) (content : List ℕ)
-    → StandsAt feed from → EndsAt feed total → IsStreamGiven feed pieces piece_length content
+    → StandsAt feed from → StreamEndsAt feed total → IsStreamGiven feed pieces piece_length content
     → IsDigestVerdict (cut_digests piece_length (content ++ replicate (total - from) 0)) pieces
     verdict

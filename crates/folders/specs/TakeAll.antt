@@ -1,7 +1,9 @@
 -- What reading a source to its end told, and what took the bytes.
-use Rattle.std.specs.Prelude.{◌≡◌, ℕ, ◌+◌, ◌<◌, ◌≤◌, List, length, Option, Some, None}
+use Rattle.std.specs.Prelude.{◌≡◌, ℕ, ◌+◌, ◌<◌, ◌≤◌, List, length, Option, Some, None, Result, Ok, Err}
 use Rattle.std.specs.Io.KnownBytes.{IsAtEnd}
-use Rattle.benc.specs.Device.{SourceSeen}
+use Rattle.benc.specs.Device.{SourceSeen, one_more}
+use Rattle.folders.specs.declared.read_fault.ReadFault.{ReadFault}
+use Rattle.folders.specs.declared.read_fault.ReadFault.TheVariants as fault
 use Rattle.wire.specs.Reading.{Gave}
 
 -- no more bytes than these were read
@@ -27,3 +29,9 @@ abbrev pub ReadAll : {T : Type 0} → (T → List ℕ → T → Type 0) → Sour
     → T → T → Option ℕ → Type 0
 ReadAll took old new bound before after (Some count) = TookAll took old new bound before after count
 ReadAll took old new bound before after None = GaveMore old new bound
+
+-- the count of the source's faults grows by one if it failed, and else stays
+abbrev pub CountsReading : {A : Type 0} → ℕ → ℕ → Result A ReadFault → Type 0
+CountsReading old new (Ok told) = new ≡ old
+CountsReading old new (Err fault.Device) = new ≡ one_more old
+CountsReading old new (Err fault.NoMemory) = new ≡ old

@@ -12,8 +12,8 @@ use Rattle.folders.specs.declared.report.V1Verdict.{V1Verdict}
 use Rattle.folders.specs.declared.report.V1Verdict.TheVariants as version1
 
 -- the hash that is listed for a piece of a tree is the node over that piece of these bytes
-abbrev pub IsListed : ℕ → TreeEntry → List ℕ → ℕ → Type 0
-IsListed piece_length e bytes k =
+abbrev pub IsListedNode : ℕ → TreeEntry → List ℕ → ℕ → Type 0
+IsListedNode piece_length e bytes k =
     slice_get e.layer k ≡ Some (node bytes (piece_layer piece_length) k)
 
 -- the first piece of a tree whose node is not the one of the piece layer; a file that has no layer
@@ -21,9 +21,10 @@ IsListed piece_length e bytes k =
 pub record IsFirstBadPiece (piece_length : ℕ) (e : TreeEntry) (bytes : List ℕ) (k : ℕ) : Type 0
   where
     pub only : e.length ≤ piece_length → k ≡ 0
-    pub same_before : piece_length < e.length → (j : ℕ) → j < k → IsListed piece_length e bytes j
+    pub same_before : piece_length < e.length → (j : ℕ) → j < k
+        → IsListedNode piece_length e bytes j
     pub within : piece_length < e.length → k < length e.layer
-    pub differs : piece_length < e.length → IsListed piece_length e bytes k → ⊥
+    pub differs : piece_length < e.length → IsListedNode piece_length e bytes k → ⊥
 
 -- bytes of the right length and with another root, whose first bad piece is this one of the torrent
 pub record IsBad (t : Description) (f : FileEntry) (bytes : List ℕ) (p : ℕ) : Type 0 where
@@ -122,9 +123,10 @@ pub record TellsContents (t : Description) (contents : Contents) (files : List F
   pub version1 : (v : Version1) (verdict : V1Verdict) → t.v1 ≡ Some v → v1 ≡ Some verdict
       → IsV1Verdict t v contents verdict
 
--- what stands at a path, as a shelf tells it, if it does: nothing, or a file with these bytes
-abbrev pub Agrees : Option (Option (List ℕ)) → Option (List ℕ) → Type 0
-Agrees told content = (there : Option (List ℕ)) → told ≡ Some there → there ≡ content
+-- what a shelf or a source tells, if it does: of a path what stands there, nothing or a file with
+-- these bytes; of a source the bytes that it has
+abbrev pub Agrees : {A : Type 0} → Option A → A → Type 0
+Agrees {A} told content = (there : A) → told ≡ Some there → there ≡ content
 
 -- the contents of the torrent's files are what a shelf tells of their paths, as far as it does
 abbrev pub AgreeWith : Description → (List (List ℕ) → Option (Option (List ℕ))) → Contents → Type 0

@@ -4,7 +4,9 @@
 
 mod checking;
 mod file_check;
+mod layer;
 mod mem_shelf;
+mod read_fault;
 mod report;
 mod report_lines;
 mod root;
@@ -14,7 +16,9 @@ mod stream;
 mod taking;
 
 pub use checking::check;
+pub use layer::finish_layer;
 pub use mem_shelf::{MemFile, MemShelf};
+pub use read_fault::ReadFault;
 pub use report::{FileVerdict, Report, V1Verdict};
 pub use report_lines::print_report;
 pub use root::{RootFault, root_line};

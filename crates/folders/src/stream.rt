@@ -16,14 +16,14 @@ pub struct Stream<'a> {
 }
 
 impl<'a> Stream<'a> {
-    ghost use Rattle.folders.specs.Streaming.{EndsAt, FillsTo, HasStreamRoom, IsStreamGiven, CanFillTo, StandsAt, Takes, goes_on};
+    ghost use Rattle.folders.specs.Streaming.{StreamEndsAt, FillsTo, HasStreamRoom, IsStreamGiven, CanFillTo, StandsAt, Takes, goes_on};
 
     /// The stream of a hybrid, at its start.
     pub fn of(v1: Option<&V1<'a>>, piece_length: u64) -> Stream<'a>
         requires { 0 < piece_length }
         ensures begins { goes_on result ≡ is_some v1.entry }
         ensures stands { StandsAt result.feed 0 }
-        ensures ends { IfSome v1.entry (λ v. EndsAt result.feed v.now.total) }
+        ensures ends { IfSome v1.entry (λ v. StreamEndsAt result.feed v.now.total) }
         ensures given { IfSome v1.entry (λ v.
             IsStreamGiven result.feed v.now.pieces.now piece_length []) }
     {
@@ -71,7 +71,7 @@ impl<'a> Stream<'a> {
     pub fn finish(self) -> V1Verdict
         ensures checked { is_checked result ≡ goes_on self.entry }
         ensures within { (from total : ℕ) → goes_on self.entry ≡ true
-            → StandsAt self.entry.feed from → EndsAt self.entry.feed total → from ≤ total }
+            → StandsAt self.entry.feed from → StreamEndsAt self.entry.feed total → from ≤ total }
         ensures compared { IsStreamVerdict self.entry.feed result }
     {
         match self.feed {

@@ -3,3 +3,4 @@ pub mod Text
 pub mod Refused
 pub mod Fault
 pub mod Show
+pub mod Cut

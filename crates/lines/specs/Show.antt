@@ -7,21 +7,22 @@ use Rattle.metainfo.specs.Description.{Description, FileEntry, TreeEntry, Versio
 use Rattle.lines.specs.Text.{escaped, path_text}
 
 -- the root of a file by the number of its tree: in hexadecimal, or `-` for a file without a tree
-abbrev pub root_text : List TreeEntry → Option ℕ → List ℕ
-root_text trees None = codes "-"
-root_text trees (Some n) = option_map_or (λ t. encode_lower t.root) (slice_get trees n) (codes "-")
+abbrev pub tree_root_text : List TreeEntry → Option ℕ → List ℕ
+tree_root_text trees None = codes "-"
+tree_root_text trees (Some n) =
+    option_map_or (λ t. encode_lower t.root) (slice_get trees n) (codes "-")
 
 -- a file's length and root
 abbrev pub file_head : List TreeEntry → ℕ → Option ℕ → List ℕ
-file_head trees len tree = decimal len ++ codes " " ++ root_text trees tree ++ codes " "
+file_head trees len tree = decimal len ++ codes " " ++ tree_root_text trees tree ++ codes " "
 
 -- the line of a file: its length, its root and its path
-abbrev pub file_text : List TreeEntry → FileEntry → List ℕ
-file_text trees file = file_head trees file.length file.tree ++ (path_text file.path ++ codes "\n")
+abbrev pub file_line : List TreeEntry → FileEntry → List ℕ
+file_line trees file = file_head trees file.length file.tree ++ (path_text file.path ++ codes "\n")
 
 -- the lines of the files
 abbrev pub files_text : List TreeEntry → List FileEntry → List ℕ
-files_text trees files = flat_map (file_text trees) files
+files_text trees files = flat_map (file_line trees) files
 
 -- the line of the display name
 abbrev pub name_text : List ℕ → List ℕ

@@ -3,7 +3,7 @@ ghost use Rattle.std.specs.Prelude.{◌≡◌, ◌++◌, OnOk, map, true};
 ghost use Rattle.std.specs.String.{string_bytes};
 ghost use Rattle.benc.specs.Device.{Wrote, WroteAndFlushed};
 ghost use Rattle.lines.specs.declared.fault.Fault.TheVariants.{NoMemory};
-ghost use Rattle.lines.specs.Fault.{fault_reason, fault_text};
+ghost use Rattle.lines.specs.Fault.{fault_reason, fault_line};
 ghost use Rattle.lines.specs.Text.{escaped, path_text};
 
 #[cfg(test)]
@@ -52,14 +52,14 @@ impl<'a> From<AllocError> for Fault<'a> {
 /// Writes the line of a fault, with the path that it is about, if there is one, and flushes. It
 /// takes no memory. After `WriteFault` a prefix of the line went out.
 pub fn fault_line<W: Sink>(fault: &Fault<'_>, out: &mut W) -> Result<(), WriteFault>
-    ensures { WroteAndFlushed (W.seen out.old) (W.seen out.new) result (fault_text fault.now) }
+    ensures { WroteAndFlushed (W.seen out.old) (W.seen out.new) result (fault_line fault.now) }
 {
     let written = write_fault(fault, out);
     flush_after(out, written)
 }
 
 fn write_fault<W: Sink>(fault: &Fault<'_>, out: &mut W) -> Result<(), DeviceFault>
-    ensures { Wrote (W.seen out.old) (W.seen out.new) result (fault_text fault.now) }
+    ensures { Wrote (W.seen out.old) (W.seen out.new) result (fault_line fault.now) }
 {
     write_all(out, b"fault: ")?;
     write_reason(fault, out)?;

@@ -2,24 +2,22 @@
 ghost use Rattle.std.specs.Prelude.{◌≡◌, ℕ, ◌+◌, ◌*◌, ◌≤◌, ◌++◌, [], List, length, decimal};
 ghost use Rattle.hex.specs.Hex.{encode_lower};
 
+use arrayvec::ArrayVec;
 use itoa::Buffer;
 use std::marker::Model;
 
 /// A line of at most 256 bytes, put together in place.
 #[derive(Drop)]
 pub struct Line {
-    bytes: [u8; 256],
-    used: usize,
+    bytes: ArrayVec<u8, 256>,
 }
 
 impl Model for Line {
-    ghost use Rattle.std.specs.Prelude.{ℕ, ◌≤◌, List, take};
+    ghost use Rattle.std.specs.Prelude.{ℕ, List};
 
     ghost Value = { List ℕ };
 
-    ghost view = { λ l. take l.used l.bytes };
-
-    ghost invariant = { λ l. l.used ≤ 256 };
+    ghost view = { λ l. l.bytes.items };
 }
 
 impl Line {
@@ -28,8 +26,7 @@ impl Line {
         ensures { result ≡ [] }
     {
         Line {
-            bytes: [0; 256],
-            used: 0,
+            bytes: ArrayVec::new(),
         }
     }
 
@@ -37,7 +34,7 @@ impl Line {
     pub fn as_slice(&self) -> &[u8]
         ensures { result.now ≡ self.now }
     {
-        &self.bytes[..self.used]
+        &self.bytes
     }
 
     /// Puts these bytes at the end. The line is then no longer than 256 bytes.
@@ -46,9 +43,7 @@ impl Line {
         ensures text { self.new ≡ self.old ++ text.now }
         ensures len { length self.new ≡ length self.old + length text.now }
     {
-        let end = self.used + text.len();
-        self.bytes[self.used..end].copy_from_slice(text);
-        self.used = end;
+        self.bytes.try_extend_from_slice(text).unwrap();
     }
 
     /// Puts a number at the end, in decimal. There is room for 20 digits.

@@ -2,7 +2,7 @@
 ghost use Rattle.std.specs.Prelude.{◌≡◌, ◌+◌, ◌++◌, ◌≤◌, length, map, OnOk, true};
 ghost use Rattle.benc.specs.Device.{Wrote, WroteAndFlushed};
 ghost use Rattle.metainfo.specs.Seen.{file_entry, tree_entry};
-ghost use Rattle.lines.specs.Show.{file_head, file_text, files_text, header_text, hybrid_text, name_text, show_text};
+ghost use Rattle.lines.specs.Show.{file_head, file_line, files_text, header_text, hybrid_text, name_text, show_text};
 
 use crate::line::Line;
 use crate::text::{flush_after, write_escaped, write_path};
@@ -85,7 +85,7 @@ fn write_file<W: Sink>(
     out: &mut W,
 ) -> Result<(), DeviceFault>
     ensures { Wrote (W.seen out.old) (W.seen out.new) result
-        (file_text (map tree_entry trees.now) (file_entry file.now)) }
+        (file_line (map tree_entry trees.now) (file_entry file.now)) }
 {
     write_all(
         out,

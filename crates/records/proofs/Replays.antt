@@ -1,7 +1,7 @@
 -- The loop of a replay: one more frame, and the end.
-use Rattle.std.proofs.Common.{◌≡◌, ◌≢◌, ◌≤◌, ◌+◌, ◌++◌, ◌||◌, ℕ, suc, Bool, false, List, [], ◌∷◌, length, Option, Some, None, Result, Ok, Err, IfOk, OnErr, refl, sym, ap, ◌∙◌, append_assoc, subst, subst₂, inl, inr, arith}
+use Rattle.std.proofs.Common.{◌≡◌, ◌≤◌, ◌+◌, ◌++◌, ◌||◌, ℕ, suc, Bool, false, List, [], ◌∷◌, length, Option, Some, None, Result, Ok, Err, IfOk, OnErr, refl, sym, ap, ◌∙◌, append_assoc, subst, subst₂, inl, inr, arith}
 use Rattle.std.specs.Prelude.{is_some}
-use Rattle.std.specs.List.{flat_map, list_any, All}
+use Rattle.std.specs.List.{list_any}
 use Rattle.std.proofs.lemmas.List.{append-nil, length-append, map-append}
 use Rattle.std.proofs.lemmas.Option.{same_Some}
 use Rattle.std.proofs.lemmas.List.Elements.{All-nil}
@@ -36,7 +36,7 @@ use Rattle.records.specs.ReplayLines.{lines_of, ending_line_of}
 use Rattle.records.specs.declared.reply.Reply.{Reply}
 use Rattle.records.specs.declared.answering.AnswerFault.TheVariants as failed
 use Rattle.records.specs.Answering.{Finishes, IfWanted, IsReply, Replies, reply_to}
-use Rattle.records.specs.Replay.{Answered, Ends, EndsUnanswered, GaveRecord, Handled, Handles, HandlesAll, HandlesButLast, HandlesNext, IsCutAtEnd, IsCutInAnswer, IsCutInFlush, IsCutInLine, IsCutReport, IsEnding, IsReport, CountsEnding, Replayed, ReplaySeen, RespondsNext, TellsEnding, answers_of, lines_from, tolds_of, unanswered}
+use Rattle.records.specs.Replay.{Answered, Ends, EndsUnanswered, GaveRecord, Handled, Handles, HandlesButLast, HandlesNext, IsCutAtEnd, IsCutInAnswer, IsCutInFlush, IsCutInLine, IsCutReport, IsEnding, IsReport, CountsEnding, Replayed, ReplaySeen, RespondsNext, TellsEnding, answers_of, lines_from, tolds_of, unanswered}
 use Rattle.records.proofs.Replies.{broke_after, hashes_are_told, meets_more, none_sent, same_wanted, sent_and_flushed, sent_more, sent_unflushed}
 
 -- ---- one more frame, in lists
@@ -325,9 +325,7 @@ cut_in_line {old} {mid} {known} {form} {n} {o} {d} {r} new so_far next wrote sta
       before = hs;
       last = unanswered next.0 d;
       handles = but_last new so_far next;
-      mid = mid.report;
-      earlier = so_far.sent;
-      broke = subst (Broke mid.report new.report) line wrote;
+      broke = (mid.report, so_far.sent, subst (Broke mid.report new.report) line wrote);
       answered = subst (λ x. IfWanted (λ a b. Sent a b (answers_of hs)) old.answers x) (sym stays) so_far.answered;
     } in
     inl cut

@@ -3,7 +3,7 @@
 use Rattle.std.proofs.Common.{inl, inr}
 use Rattle.std.specs.Prelude.{◌≡◌, ◌⊎◌, ℕ, ◌≤◌, List, [], length, Option, Some, None, option_map, is_some, Bool, true, false, Result, Ok, Err}
 use Rattle.std.specs.Borrow.{Bor, MutBor}
-use Rattle.std.specs.Io.KnownBytes.{Appends, Keeps}
+use Rattle.std.specs.Io.KnownBytes.{Keeps}
 use Rattle.benc.specs.Device.{SinkSeen, Sent, Broke, SentAndFlushed, BrokeOrUnflushed, one_more}
 use Rattle.wire.specs.declared.direction.Direction.TheVariants.{In}
 use Rattle.wire.specs.declared.frame.Frame.{Frame}
@@ -101,16 +101,6 @@ pub record Flushed (old new : SinkSeen) : Type 0 where
 -- nothing was written, and one flush failed
 pub record FailedFlush (old new : SinkSeen) : Type 0 where
   pub bytes : Keeps old.written new.written
-  pub faults : new.faults ≡ one_more old.faults
-  pub flushes : new.flushes ≡ one_more old.flushes
-
--- one text went out, and then a prefix of another
-abbrev pub BrokeAfter : List ℕ → List ℕ → SinkSeen → SinkSeen → Type 0
-BrokeAfter first text old new = (mid : SinkSeen) × Sent old mid first × Broke mid new text
-
--- all of the text went out, and its flush failed
-pub record Unflushed (text : List ℕ) (old new : SinkSeen) : Type 0 where
-  pub bytes : Appends old.written new.written text
   pub faults : new.faults ≡ one_more old.faults
   pub flushes : new.flushes ≡ one_more old.flushes
 

@@ -3,7 +3,8 @@
 use Rattle.std.specs.Prelude.{◌≡◌, ◌≢◌, ◌⊎◌, ℕ, ◌+◌, ◌++◌, List, [], ◌∷◌, length, map, Option, Some, None, is_some, Bool, true, false}
 use Rattle.std.specs.List.{flat_map}
 use Rattle.std.specs.Io.KnownBytes.{IsAtEnd}
-use Rattle.benc.specs.Device.{SourceSeen, SinkSeen, Sent, Broke, SentAndFlushed, BrokeOrUnflushed}
+use Rattle.benc.specs.Device.{SourceSeen, SinkSeen, Sent, SentAndFlushed, BrokeOrUnflushed}
+use Rattle.lines.specs.Cut.{BrokeAfter, Unflushed}
 use Rattle.wire.specs.declared.fault.FrameFault.TheVariants as fault
 use Rattle.wire.specs.declared.frame.Frame.{Frame}
 use Rattle.wire.specs.declared.frame.Frame.TheVariants as frame
@@ -26,7 +27,7 @@ use Rattle.records.specs.declared.reply.Reply.{Reply}
 use Rattle.records.specs.declared.ending.Ending.{Ending}
 use Rattle.records.specs.declared.ending.Ending.TheVariants as ending
 use Rattle.records.specs.declared.outcome.Outcome.{Outcome}
-use Rattle.records.specs.Answering.{Answers, BrokeAfter, IfWanted, IsWanted, Unflushed, reply_to}
+use Rattle.records.specs.Answering.{Answers, IfWanted, IsWanted, reply_to}
 use Rattle.records.specs.Outcome.{outcome_of}
 use Rattle.records.specs.ReplayLines.{lines_of, ending_line_of}
 
@@ -211,9 +212,8 @@ pub record IsCutInLine (old new : ReplaySeen) : Type 0 where
   pub before : List Handled
   pub last : Handled
   pub handles : HandlesButLast old new before last
-  pub mid : SinkSeen
-  pub earlier : Sent old.report mid (lines_from 1 before)
-  pub broke : Broke mid new.report (lines_of (length before + 1) last.told)
+  pub broke : BrokeAfter (lines_from 1 before) (lines_of (length before + 1) last.told)
+      old.report new.report
   pub answered : Answered old new before
 
 -- the lines of all frames went out, and the answer to the last one broke off

@@ -1,4 +1,4 @@
-use Rattle.std.proofs.Common.{◌≡◌, ◌∙◌, ap, sym, subst, map, Some, None}
+use Rattle.std.proofs.Common.{◌∙◌, ap, sym, subst, map, Some, None}
 use Rattle.metainfo.specs.Seen.{file_entry}
 use Rattle.folders.specs.Pass.{FindsVerdict}
 use Rattle.folders.specs.Shelf.{IsFound}

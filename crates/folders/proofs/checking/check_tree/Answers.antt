@@ -1,10 +1,10 @@
-use Rattle.std.proofs.Common.{◌≡◌, ◌*◌, ◌∙◌, Some, ap, refl, sym, subst, arith}
+use Rattle.std.proofs.Common.{◌≡◌, ◌*◌, ap, refl, sym, subst, arith}
 use Rattle.metainfo.specs.Description.{TreeEntry}
 use Rattle.metainfo.specs.Seen.{file_entry, tree_entry}
 use Rattle.metainfo.specs.Sound.{IsSoundTree}
 use Rattle.folders.specs.Feeding.{FeedsBoth}
 use Rattle.folders.proofs.Places.{start_fits}
-use Rattle.folders.proofs.Pieces.{filled_room, filled_to, finished, opened, other_count, read_whole, room_for_all, wrong_length}
+use Rattle.folders.proofs.Pieces.{filled_to, finished, opened, other_count, read_whole, room_for_all, wrong_length}
 use Rattle.folders.proofs.Reports.{has_tree, sound_tree}
 use Rattle.folders.proofs.checking.check_tree.Goals as goal
 

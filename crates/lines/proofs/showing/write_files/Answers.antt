@@ -3,13 +3,13 @@ use Rattle.std.proofs.lemmas.Result.{err_from_is_err_and}
 use Rattle.metainfo.specs.Description.{TreeEntry}
 use Rattle.metainfo.specs.File.{File}
 use Rattle.metainfo.specs.Seen.{file_entry, tree_entry}
-use Rattle.lines.specs.Show.{file_text, files_text}
+use Rattle.lines.specs.Show.{file_line, files_text}
 use Rattle.lines.proofs.Parts.{item_next, sent_fault, sent_next}
 use Rattle.lines.proofs.showing.write_files.Goals as goal
 
 -- the line at an index, and those behind it
 next_line : (trees : List TreeEntry) (files : List File) (i : ℕ) (file : File) → i < length files → file ≡ get_or files i file
-    → files_text trees (map file_entry (drop i files)) ≡ file_text trees (file_entry file) ++ files_text trees (map file_entry (drop (i + 1) files))
+    → files_text trees (map file_entry (drop i files)) ≡ file_line trees (file_entry file) ++ files_text trees (map file_entry (drop (i + 1) files))
 next_line trees files i file lt there = ap (λ fs. files_text trees (map file_entry fs)) (item_next files i file lt there)
 
 pub returns-in_err-write_file : goal.returns-in_err-write_file

@@ -1,0 +1,14 @@
+-- How a report of several texts was cut: its sink failed in one of them, or at the flush.
+use Rattle.std.specs.Prelude.{◌≡◌, ℕ, List}
+use Rattle.std.specs.Io.KnownBytes.{Appends}
+use Rattle.benc.specs.Device.{Broke, Sent, SinkSeen, one_more}
+
+-- one text went out, and then a prefix of the next
+abbrev pub BrokeAfter : List ℕ → List ℕ → SinkSeen → SinkSeen → Type 0
+BrokeAfter first next old new = (mid : SinkSeen) × Sent old mid first × Broke mid new next
+
+-- all of the text went out, and its flush failed
+pub record Unflushed (text : List ℕ) (old new : SinkSeen) : Type 0 where
+  pub bytes : Appends old.written new.written text
+  pub faults : new.faults ≡ one_more old.faults
+  pub flushes : new.flushes ≡ one_more old.flushes
