@@ -22,10 +22,12 @@ module _ (d : Description) (ts : List KeptTree) (kept : AreKept d ts) where
   some_number root o n found is =
       let e : IsTreeWithRoot d.trees root n = subst (λ x. IfSome x (IsTreeWithRoot d.trees root)) is found in
       let x = mapped info_of (slice_get ts n) (root_of_entry e.0)
-      (sym (slice_get-map info_of ts n) ∙ ap (λ l. slice_get l n) kept.same ∙ slice_get-map root_of_entry d.trees n ∙ ap (option_map root_of_entry) e.1) in
-      (slice_get_within ts n x.0 x.1, λ a there.
-      let b = entry_at n a there in
-      sym b.2 ∙ ap (λ (t : TreeEntry). t.root) (same_Some b.0 e.0 (sym b.1 ∙ e.1)) ∙ e.2)
+      (sym (slice_get-map info_of ts n) ∙ ap (λ l. slice_get l n) kept.same ∙ slice_get-map root_of_entry d.trees n ∙ ap (option_map root_of_entry) e.1) in (
+        slice_get_within ts n x.0 x.1,
+        λ a there.
+            let b = entry_at n a there in
+            sym b.2 ∙ ap (λ (t : TreeEntry). t.root) (same_Some b.0 e.0 (sym b.1 ∙ e.1)) ∙ e.2,
+      )
 
   pub no_number : (root : Hash) (o : Option ℕ) → ((n : ℕ) → IsTreeWithRoot d.trees root n → o ≡ Some n) → o ≡ None → (n : ℕ) (a : KeptTree) → slice_get ts n ≡ Some a → a.root ≢ root
   no_number root o only none n a there same =

@@ -26,7 +26,7 @@ invariant_of-self g c =
     let at : slice_get ts c.args.tree ≡ Some a = found_at ts c.args.tree a (inside_kept d ts c.self.invariant c.args.tree low) c.index_mut.ensures.value in
     let b : KeptTree = c.fill.new.self in
     kept-after d ts c.self.invariant c.args.tree a b at c.fill.ensures.root c.fill.ensures.length
-        (good_after_fill a b c.args.layer c.args.hashes.now c.fill.result (good_at d ts c.self.invariant c.args.tree a at) c.are_hashes.ensures c.fill.ensures.root c.fill.ensures.length c.fill.ensures.marked c.fill.ensures.filled c.fill.ensures.refused)
+    (good_after_fill a b c.args.layer c.args.hashes.now c.fill.result (good_at d ts c.self.invariant c.args.tree a at) c.are_hashes.ensures c.fill.ensures.root c.fill.ensures.length c.fill.ensures.marked c.fill.ensures.filled c.fill.ensures.refused)
 
 pub returns-clause-filled : goal.returns-clause-filled
 returns-clause-filled g c =

@@ -1,4 +1,4 @@
-use Rattle.std.proofs.Common.{◌≡◌, ◌≢◌, ℕ, ◌<◌, List, length, set, Some, IfOk, IfErr, refl, sym, ◌∙◌, subst, arith}
+use Rattle.std.proofs.Common.{◌≡◌, ◌≢◌, ℕ, ◌<◌, List, length, set, Some, IfOk, IfErr, refl, subst, arith}
 use Rattle.std.specs.Prelude.{slice_get}
 use Rattle.partial_tree.specs.declared.refusal.HashRefusal.TheVariants.{UnknownRoot}
 use Rattle.partial_tree.specs.Kept.{KeptTree}
@@ -29,8 +29,8 @@ invariant_of-self g c =
     let inside : c.in-Some.number < length ts = (some_number c.self.inside.torrent.now ts c.self.invariant c.args.ask.now.root c.tree_with_root.result c.in-Some.number c.tree_with_root.ensures.found c.in-Some.is).0 in
     let at : slice_get ts c.in-Some.number ≡ Some a = found_at ts c.in-Some.number a inside c.index_mut.ensures.value in
     kept-after c.self.inside.torrent.now ts c.self.invariant c.in-Some.number a b at c.take.ensures.root c.take.ensures.length
-        (good_after_take a b c.args.ask.now c.args.hashes.now c.take.result (good_at c.self.inside.torrent.now ts c.self.invariant c.in-Some.number a at) c.are_hashes.ensures
-        c.take.ensures.root c.take.ensures.length c.take.ensures.marked c.take.ensures.taken c.take.ensures.refused)
+    (good_after_take a b c.args.ask.now c.args.hashes.now c.take.result (good_at c.self.inside.torrent.now ts c.self.invariant c.in-Some.number a at) c.are_hashes.ensures
+    c.take.ensures.root c.take.ensures.length c.take.ensures.marked c.take.ensures.taken c.take.ensures.refused)
 
 pub returns-in-None-clause-refused : goal.returns-in-None-clause-refused
 returns-in-None-clause-refused g c =

@@ -64,8 +64,8 @@ invariant_of-self g c =
     let e : slice_get ts tr ≡ Some a = found_at ts tr a (slice_get_within ts tr x.0 x.1) c.index_mut.ensures.value in
     let b : KeptTree = c.take_block.new.self in
     kept-after d ts c.self.invariant tr a b e c.take_block.ensures.root c.take_block.ensures.length
-        (good_after_block a b c.args.block c.args.bytes.now c.take_block.result (good_at d ts c.self.invariant tr a e) c.take_block.ensures.root c.take_block.ensures.length
-        c.take_block.ensures.known c.take_block.ensures.taken c.take_block.ensures.refused)
+    (good_after_block a b c.args.block c.args.bytes.now c.take_block.result (good_at d ts c.self.invariant tr a e) c.take_block.ensures.root c.take_block.ensures.length
+    c.take_block.ensures.known c.take_block.ensures.taken c.take_block.ensures.refused)
 
 pub returns-clause-marked : goal.returns-clause-marked
 returns-clause-marked g c =
