@@ -101,15 +101,22 @@ module _ (n : ℕ) (K K' : Known) (is : IsGrown n (block_count n) K') (in_tree :
   )
 
   pub refuses-grown : IsMismatch (look K) (look K') → RefusesLayer n 0 (leaves_in K' (block_count n)) K Mismatch K
-  refuses-grown m = ((omega arith, all_given n (leaves_in K' (block_count n)) right, record {
-    layer = m.layer;
-    index = m.index;
-    in_J = m.in_J;
-    in_K = m.in_K;
-    J_known = m.J_known;
-    K_known = sym (is.claimed m.layer m.index) ∙ m.K_known;
-    differ = m.differ;
-  }), refl)
+  refuses-grown m = (
+    (
+      omega arith,
+      all_given n (leaves_in K' (block_count n)) right,
+      record {
+        layer = m.layer;
+        index = m.index;
+        in_J = m.in_J;
+        in_K = m.in_K;
+        J_known = m.J_known;
+        K_known = sym (is.claimed m.layer m.index) ∙ m.K_known;
+        differ = m.differ;
+      },
+    ),
+    refl,
+  )
 
 -- ---- as trees keep them
 

@@ -168,11 +168,7 @@ fn find_tree<N: NodeMap, S: Shelf>(
 }
 
 // Gives a tree the nodes of a whole one, and tells whether they were accepted.
-fn take_over<N: NodeMap>(
-    session: &mut Session<'_, N>,
-    tree: usize,
-    grown: GrownTree<N>,
-) -> bool
+fn take_over<N: NodeMap>(session: &mut Session<'_, N>, tree: usize, grown: GrownTree<N>) -> bool
     requires inside { tree < length session.old.torrent.trees }
     requires length { (e : TreeEntry) → slice_get session.old.torrent.trees tree ≡ Some e
         → grown.length ≡ e.length }

@@ -13,8 +13,8 @@ adopt-requires-clause-good g c =
     let ts : List KeptTree = c.self.inside.trees.items in
     let a : KeptTree = c.index_mut.result.now in
     let low : c.args.tree < length d.trees = subst (λ (v : SessionSeen). c.args.tree < length v.torrent.trees) (sym c.self.view_is) c.requires.inside in
-    let at : slice_get ts c.args.tree ≡ Some a = found_at ts c.args.tree a (inside_kept d ts c.self.invariant.0 c.args.tree low) c.index_mut.ensures.value in
-    good_at d ts c.self.invariant.0 c.args.tree a at
+    let at : slice_get ts c.args.tree ≡ Some a = found_at ts c.args.tree a (inside_kept d ts c.self.invariant c.args.tree low) c.index_mut.ensures.value in
+    good_at d ts c.self.invariant c.args.tree a at
 
 pub adopt-requires-clause-length : goal.adopt-requires-clause-length
 adopt-requires-clause-length g c =
@@ -22,8 +22,8 @@ adopt-requires-clause-length g c =
     let ts : List KeptTree = c.self.inside.trees.items in
     let a : KeptTree = c.index_mut.result.now in
     let low : c.args.tree < length d.trees = subst (λ (v : SessionSeen). c.args.tree < length v.torrent.trees) (sym c.self.view_is) c.requires.inside in
-    let at : slice_get ts c.args.tree ≡ Some a = found_at ts c.args.tree a (inside_kept d ts c.self.invariant.0 c.args.tree low) c.index_mut.ensures.value in
-    length_at d ts c.self.invariant.0 c.self.inside.asks c.args.tree c.args.grown.length a at
+    let at : slice_get ts c.args.tree ≡ Some a = found_at ts c.args.tree a (inside_kept d ts c.self.invariant c.args.tree low) c.index_mut.ensures.value in
+    length_at d ts c.self.invariant c.self.inside.asks c.args.tree c.args.grown.length a at
     (subst (λ (v : SessionSeen). (e : TreeEntry) → slice_get v.torrent.trees c.args.tree ≡ Some e → c.args.grown.length ≡ e.length) (sym c.self.view_is) c.requires.length)
 
 pub invariant_of-self : goal.invariant_of-self
@@ -32,11 +32,8 @@ invariant_of-self g c =
     let ts : List KeptTree = c.self.inside.trees.items in
     let a : KeptTree = c.index_mut.result.now in
     let low : c.args.tree < length d.trees = subst (λ (v : SessionSeen). c.args.tree < length v.torrent.trees) (sym c.self.view_is) c.requires.inside in
-    let at : slice_get ts c.args.tree ≡ Some a = found_at ts c.args.tree a (inside_kept d ts c.self.invariant.0 c.args.tree low) c.index_mut.ensures.value in
-    let b : KeptTree = c.adopt.new.self in (
-      kept-after d ts c.self.invariant.0 c.args.tree a b at c.adopt.ensures.root c.adopt.ensures.length c.adopt.ensures.good,
-      c.self.invariant.1,
-    )
+    let at : slice_get ts c.args.tree ≡ Some a = found_at ts c.args.tree a (inside_kept d ts c.self.invariant c.args.tree low) c.index_mut.ensures.value in
+    kept-after d ts c.self.invariant c.args.tree a c.adopt.new.self at c.adopt.ensures.root c.adopt.ensures.length c.adopt.ensures.good
 
 pub returns-clause-adopted : goal.returns-clause-adopted
 returns-clause-adopted g c =
@@ -44,9 +41,9 @@ returns-clause-adopted g c =
     let ts : List KeptTree = c.self.inside.trees.items in
     let a : KeptTree = c.index_mut.result.now in
     let low : c.args.tree < length d.trees = subst (λ (v : SessionSeen). c.args.tree < length v.torrent.trees) (sym c.self.view_is) c.requires.inside in
-    let at : slice_get ts c.args.tree ≡ Some a = found_at ts c.args.tree a (inside_kept d ts c.self.invariant.0 c.args.tree low) c.index_mut.ensures.value in
+    let at : slice_get ts c.args.tree ≡ Some a = found_at ts c.args.tree a (inside_kept d ts c.self.invariant c.args.tree low) c.index_mut.ensures.value in
     subst (λ (v : SessionSeen). IfOk c.adopt.result (λ n. IsFilled v c.args.tree 0 c.args.grown.leaves n (seen d c.self.inside.asks (set ts c.args.tree c.adopt.new.self)))) c.self.view_is
-    (filled_all d ts c.self.invariant.0 c.self.inside.asks c.args.tree a c.adopt.new.self 0 c.args.grown.leaves c.adopt.result at c.adopt.ensures.marked c.adopt.ensures.adopted)
+    (filled_all d ts c.self.invariant c.self.inside.asks c.args.tree a c.adopt.new.self 0 c.args.grown.leaves c.adopt.result at c.adopt.ensures.marked c.adopt.ensures.adopted)
 
 pub returns-clause-refused : goal.returns-clause-refused
 returns-clause-refused g c =
@@ -54,6 +51,6 @@ returns-clause-refused g c =
     let ts : List KeptTree = c.self.inside.trees.items in
     let a : KeptTree = c.index_mut.result.now in
     let low : c.args.tree < length d.trees = subst (λ (v : SessionSeen). c.args.tree < length v.torrent.trees) (sym c.self.view_is) c.requires.inside in
-    let at : slice_get ts c.args.tree ≡ Some a = found_at ts c.args.tree a (inside_kept d ts c.self.invariant.0 c.args.tree low) c.index_mut.ensures.value in
+    let at : slice_get ts c.args.tree ≡ Some a = found_at ts c.args.tree a (inside_kept d ts c.self.invariant c.args.tree low) c.index_mut.ensures.value in
     subst (λ (v : SessionSeen). IfErr c.adopt.result (λ r. IsFillRefused v c.args.tree 0 c.args.grown.leaves r × (seen d c.self.inside.asks (set ts c.args.tree c.adopt.new.self) ≡ v))) c.self.view_is
-    (fill_refused_all d ts c.self.invariant.0 c.self.inside.asks c.args.tree a c.adopt.new.self 0 c.args.grown.leaves c.adopt.result at c.adopt.ensures.marked c.adopt.ensures.refused)
+    (fill_refused_all d ts c.self.invariant c.self.inside.asks c.args.tree a c.adopt.new.self 0 c.args.grown.leaves c.adopt.result at c.adopt.ensures.marked c.adopt.ensures.refused)
