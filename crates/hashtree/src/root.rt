@@ -79,8 +79,8 @@ impl RootBuilder {
         (length, root)
     }
 
-    /// As [`RootBuilder::finish`]; also the last node of `layer` that covers a block, if the tree has
-    /// that layer. [`RootBuilder::take_part`] told those before it.
+    /// As [`RootBuilder::finish`]; also the last node of `layer` that covers a block, if the tree
+    /// has that layer. [`RootBuilder::take_part`] told those before it.
     pub fn finish_layer(self, layer: u32) -> (u64, Hash, Option<Hash>)
         requires { 0 < byte_count self }
         ensures length { result.0 ≡ byte_count self }

@@ -187,10 +187,10 @@ impl<N: NodeMap> Tree<N> {
         Ok(gained)
     }
 
-    /// Takes over a whole tree that grew from its leaves, and tells how many places are newly known:
-    /// what [`Tree::fill`] with these leaves would do, but the hashes stay where they are. It takes
-    /// no memory, and refuses only a tree that differs from what is known; this tree is then
-    /// unchanged. Condition: both trees are of files of one length.
+    /// Takes over a whole tree that grew from its leaves, and tells how many places are newly
+    /// known: what [`Tree::fill`] with these leaves would do, but the hashes stay where they are.
+    /// It takes no memory, and refuses only a tree that differs from what is known; this tree is
+    /// then unchanged. Condition: both trees are of files of one length.
     pub fn adopt(&mut self, grown: GrownTree<N>) -> Result<u64, HashRefusal>
         requires good { IsGoodTree self.old }
         requires length { grown.length ≡ self.old.length }

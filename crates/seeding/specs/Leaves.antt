@@ -24,7 +24,8 @@ pub record IsFedLeaves {N : Type 0} (l : Leaves N) (content : List ℕ) : Type 0
 pub record Pushes {N : Type 0} (old : Leaves N) (bytes : List ℕ) (new : Leaves N) : Type 0 where
   pub same_length : new.tree.length ≡ old.tree.length
   pub again : HasRefused old → HasRefused new
-  pub fed : HasRefused new ⊎ ((file : List ℕ) → IsFedLeaves old file → IsFedLeaves new (file ++ bytes))
+  pub fed : HasRefused new
+      ⊎ ((file : List ℕ) → IsFedLeaves old file → IsFedLeaves new (file ++ bytes))
 
 -- so many more bytes are within the length of the tree's files
 pub record HasRoom {N : Type 0} (l : Leaves N) (n : ℕ) : Type 0 where

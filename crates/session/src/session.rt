@@ -152,11 +152,11 @@ impl<'t, N: NodeMap> Session<'t, N> {
         self.trees[tree].fill(layer, hashes)
     }
 
-    /// Takes over a whole tree that grew from its leaves, and tells how many places are newly known:
-    /// what [`Session::fill`] with these leaves would do, but the hashes stay where they are. It
-    /// takes no memory, and refuses only a tree that differs from what is known; content and marks
-    /// then stay. Conditions: there are more than `tree` trees, and that one has files of the length
-    /// for which the other one grew.
+    /// Takes over a whole tree that grew from its leaves, and tells how many places are newly
+    /// known: what [`Session::fill`] with these leaves would do, but the hashes stay where they
+    /// are. It takes no memory, and refuses only a tree that differs from what is known; content
+    /// and marks then stay. Conditions: there are more than `tree` trees, and that one has files
+    /// of the length for which the other one grew.
     pub fn adopt(&mut self, tree: usize, grown: GrownTree<N>) -> Result<u64, HashRefusal>
         requires inside { tree < length self.old.torrent.trees }
         requires length { (e : TreeEntry) → slice_get self.old.torrent.trees tree ≡ Some e
