@@ -5,7 +5,8 @@
 # make install         puts the program, its manual page and its completions below PREFIX (and DESTDIR)
 # make uninstall       removes them
 # make static          links what was proved with a static C library: build/static/btcheck, one file that runs anywhere
-# make dist            packs that program with manual, completions and licences, and a list of SHA-256 digests
+# make dist            packs that program with manual, completions, licences and the recorder of real traffic, and a list
+#                      of SHA-256 digests
 # make clean           removes all that was built, kept proofs too
 # make CPU=x86-64-v3   builds for a newer processor (after make clean)
 
@@ -86,7 +87,9 @@ PACKED = build/dist/$(RELEASE)
 dist: build/static/btcheck
 	rm -rf build/dist
 	$(MAKE) -s -o build/btcheck install BUILT=build/static/btcheck DESTDIR=build/dist/tree PREFIX=
-	install -D -m 644 -t build/dist/tree/share/doc/btcheck README.md docs/MANY.md LICENSE-MIT LICENSE-APACHE
+	install -D -m 644 -t build/dist/tree/share/doc/btcheck README.md docs/MANY.md docs/RECORDING.md \
+	  LICENSE-MIT LICENSE-APACHE
+	install -D -m 755 -t build/dist/tree/tools tools/record
 	cd build/dist/tree && find . -type f | LC_ALL=C sort | xargs sha256sum > ../SHA256SUMS && mv ../SHA256SUMS .
 	mv build/dist/tree $(PACKED)
 	tar --sort=name --owner=0 --group=0 --numeric-owner --mode=go=rX --mtime=@0 \

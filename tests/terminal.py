@@ -68,4 +68,4 @@ def on_terminal(*arguments, columns=None, term="xterm", both=False, feed=None, *
         program.stdout.close()
     reader.join(timeout=20)
     os.close(ours)
-    return status, out.decode(), b"".join(sent).decode()
+    return status, out.decode(), b"".join(sent).decode(errors="surrogateescape")

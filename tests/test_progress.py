@@ -4,6 +4,7 @@ import re
 import time
 
 import messages
+import record_model
 import torrents
 from shim import is_static, shimmed
 from support import folder, run, write
@@ -133,6 +134,39 @@ def test_create():
         for match in checks:
             before = {f": {place}/all/a": 0, f": {place}/all/b": 128 * MIB}[match[5]]
             assert before <= amount(match[1]) <= before + 128 * MIB, match[0]
+
+
+def test_convert():
+    """What goes out to a file leaves the line where it is, and what goes out to the terminal takes it away."""
+    keep_alives = bytes(8 * PIECE)
+    with folder() as place:
+        status, out, sent = on_terminal("convert", "/dev/stdin", f"{place}/out", feed=slowly(8, 0.15))
+        lines = drawn(sent)
+        assert (status, out) == (0, "") and len(lines) >= 2 and screen(sent) == [""], (out, sent)
+        assert {match[3] for match in map(OF_SOME.fullmatch, lines)} == {": /dev/stdin"}, lines
+        with open(f"{place}/out", "rb") as file:
+            assert file.read() == record_model.converted(keep_alives)
+        status, out, sent = on_terminal("convert", "/dev/stdin", "/dev/stderr", feed=slowly(8, 0.15))
+        assert (status, out) == (0, "") and sent.count("\r") >= 6, (out, sent.count("\r"))
+        assert re.sub("\r[^\r]*\r +\r", "", sent).encode(errors="surrogateescape") == record_model.converted(keep_alives)
+        # the line is gone before a fault, and before a refusal
+        status, _, sent = on_terminal("convert", "/dev/stdin", f"{place}/out", both=True, feed=cut)
+        assert status == 2 and len(drawn(sent)) > 1, sent
+        assert screen(sent) == ["fault: record is truncated: /dev/stdin", ""], sent
+        # the bytes in all are those of the record
+        long = zeros(place, "long", 32 * MIB)
+        status, out, sent = on_terminal("convert", long, "/dev/null", columns=500)
+        checks = [OF_ALL.fullmatch(line) for line in drawn(sent)]
+        assert (status, out) == (0, "") and checks and all(checks) and screen(sent) == [""], (out, sent)
+        assert {(match[2], match[5]) for match in checks} == {("32.0 MiB", f": {long}")}, sent
+        done = run("convert", long, "/dev/null")
+        assert (done.returncode, done.stdout, done.stderr) == (0, b"", b"")
+
+
+def cut(pipe):
+    """Feeds keep-alives slowly, and then a part of one."""
+    slowly(8, 0.15)(pipe)
+    pipe.write(bytes(3))
 
 
 def test_no_line_without_a_terminal():

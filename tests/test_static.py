@@ -49,9 +49,11 @@ def test_dist():
         listed = {line.split()[1] for line in open(f"{below}/SHA256SUMS", encoding="utf-8")}
         there = {f"{at.replace(below, '.', 1)}/{file}" for at, _, files in os.walk(below) for file in files}
         assert there - listed == {"./SHA256SUMS"} and listed < there, there ^ listed
-        assert {"./bin/btcheck", "./share/man/man1/btcheck.1", "./share/doc/btcheck/LICENSE-MIT"} < listed, listed
+        assert {"./bin/btcheck", "./share/man/man1/btcheck.1", "./share/doc/btcheck/LICENSE-MIT", "./tools/record",
+                "./share/doc/btcheck/RECORDING.md"} < listed, listed
         done = subprocess.run([f"{below}/bin/btcheck", "root", "/dev/null"], stdout=subprocess.PIPE, check=True)
         assert done.stdout == b"0 -\n"
+        subprocess.run([f"{below}/tools/record", "--help"], stdout=subprocess.DEVNULL, check=True)
     assert made("dist")
     with open(archive, "rb") as file:
         assert file.read() == first

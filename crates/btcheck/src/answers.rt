@@ -13,13 +13,13 @@ ghost use Rattle.drafts.specs.Written.{value_of};
 ghost use Rattle.session.specs.Fresh.{IsFresh};
 ghost use Rattle.btcheck.specs.Answers.{IsChecked, IsReplayed, answer_status};
 
-use crate::command::{Convert, Create};
 use benc::memory::MemSink;
 use benc::{Sink, Source};
 use checker::{
     ConvertFault, Fault, GatherFault, RootFault, SeedFault, Shelf, ShelfFault, print_report,
     refusal_line, root_line,
 };
+use command_line::command::Create;
 use lines::write_line;
 use metainfo::{Draft, Refusal, Torrent};
 use node_maps::Paged;
@@ -213,10 +213,11 @@ pub(crate) fn write_torrent<'a, W: Sink, O: Sink>(
     }
 }
 
-/// Converts the record that is asked for, and writes it to this sink.
+/// Converts the record with the first path, and writes it to the sink with the second.
 pub(crate) fn convert<'a, R: Source, W: Sink, O: Sink>(
-    asked: &Convert<'a>,
+    record: &'a str,
     source: &mut R,
+    path: &'a str,
     converted: &mut W,
     out: &mut O,
 ) -> Result<u8, Fault<'a>>
@@ -227,9 +228,9 @@ pub(crate) fn convert<'a, R: Source, W: Sink, O: Sink>(
 {
     match checker::convert(source, converted) {
         Ok(()) => Ok(status(true)),
-        Err(ConvertFault::Truncated) => Err(Fault::Truncated(asked.record)),
-        Err(ConvertFault::Read) => Err(Fault::Read(asked.record)),
-        Err(ConvertFault::Write) => Err(Fault::Write(asked.out)),
+        Err(ConvertFault::Truncated) => Err(Fault::Truncated(record)),
+        Err(ConvertFault::Read) => Err(Fault::Read(record)),
+        Err(ConvertFault::Write) => Err(Fault::Write(path)),
         Err(ConvertFault::AlreadyForm2) => refuse_form_2(out),
     }
 }

@@ -2,8 +2,6 @@
 #![tactic(auto)]
 
 mod answers;
-mod arguments;
-mod command;
 mod fault;
 mod folder;
 mod perform;
@@ -12,6 +10,7 @@ mod streams;
 mod torrent_file;
 
 use checker::Fault;
+use command_line::{ExplainFault, action, explain};
 use fault::print_fault;
 use std::process::ExitCode;
 use std::{env, io};
@@ -25,13 +24,15 @@ fn all_arguments(rt: &HostRuntime) -> Result<Vec<String>, Fault<'static>> {
     }
 }
 
-fn run(rt: &HostRuntime, line: &[&str]) -> ExitCode {
-    match arguments::action(rt.alloc(), line) {
-        Ok(action) => match perform::perform(rt, &action) {
-            Ok(status) => ExitCode::from(status),
-            Err(fault) => print_fault(rt, &fault),
+// Does what the arguments ask for, or tells why they were refused. Gives the exit status.
+fn run<'a>(rt: &HostRuntime, line: &'a [&'a str]) -> Result<u8, Fault<'a>> {
+    match action(rt.alloc(), line) {
+        Ok(action) => perform::perform(rt, &action),
+        Err(error) => match explain(rt, &error) {
+            Ok(status) => Ok(status),
+            Err(ExplainFault::NoMemory) => Err(Fault::NoMemory),
+            Err(ExplainFault::Write) => Err(Fault::Write("-")),
         },
-        Err(error) => arguments::explain(rt, &error),
     }
 }
 
@@ -40,12 +41,15 @@ fn main(rt: HostRuntime) -> ExitCode {
         Ok(owned) => owned,
         Err(fault) => return print_fault(&rt, &fault),
     };
-    match owned
+    let Ok(line) = owned
         .iter()
         .map(|argument| argument.as_str())
         .collect::<Vec<&str>>(rt.alloc())
-    {
-        Ok(line) => run(&rt, line.as_slice()),
-        Err(_) => print_fault(&rt, &Fault::NoMemory),
+    else {
+        return print_fault(&rt, &Fault::NoMemory);
+    };
+    match run(&rt, line.as_slice()) {
+        Ok(status) => ExitCode::from(status),
+        Err(fault) => print_fault(&rt, &fault),
     }
 }

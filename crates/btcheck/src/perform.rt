@@ -1,16 +1,16 @@
 //! What each command does, on real files.
 use crate::answers;
-use crate::command::{Action, Convert, Create, Replay};
 use crate::folder::Folder;
 use crate::places::{Places, all_bytes};
 use crate::streams::hold_closed_streams;
 use crate::torrent_file::read_torrent;
 use benc::{FromRead, FromWrite, Sink};
 use checker::Fault;
+use command_line::command::{Action, Convert, Create, Replay};
 use metainfo::{Draft, Torrent};
 use progress::{Cleared, Counted, Progress};
 use std::fs::File;
-use std::io::{self, BufWriter, Printer};
+use std::io::{self, BufWriter, IsTerminal, Printer};
 
 /// Does what was asked for, and gives the exit status.
 pub(crate) fn perform<'a>(rt: &HostRuntime, action: &Action<'a>) -> Result<u8, Fault<'a>> {
@@ -113,10 +113,40 @@ fn convert<'a>(rt: &HostRuntime, asked: &Convert<'a>) -> Result<u8, Fault<'a>> {
     let Ok(file) = File::open(rt, asked.record) else {
         return Err(Fault::Read(asked.record));
     };
-    let mut source = FromRead::new(file);
-    let mut converted = FromWrite::new(written);
-    let mut out = FromWrite::new(io::writer(rt));
-    answers::convert(asked, &mut source, &mut converted, &mut out)
+    convert_file(rt, asked.record, file, asked.out, written)
+}
+
+// Frames go out all the time, so they leave the line where it is, but not if a terminal shows them.
+fn convert_file<'a>(
+    rt: &HostRuntime,
+    record: &'a str,
+    file: File,
+    path: &'a str,
+    written: File,
+) -> Result<u8, Fault<'a>> {
+    let progress = Progress::new(rt, length_of(&file));
+    let is_shown = written.is_terminal();
+    let converted = FromWrite::new(written);
+    if is_shown {
+        let mut cleared = Cleared::new(converted, &progress);
+        convert_to(rt, record, file, path, &mut cleared, &progress)
+    } else {
+        let mut converted = converted;
+        convert_to(rt, record, file, path, &mut converted, &progress)
+    }
+}
+
+fn convert_to<'a, W: Sink>(
+    rt: &HostRuntime,
+    record: &'a str,
+    file: File,
+    path: &'a str,
+    converted: &mut W,
+    progress: &Progress,
+) -> Result<u8, Fault<'a>> {
+    let mut source = Counted::new(FromRead::new(file), record, 0, progress);
+    let mut out = Cleared::new(FromWrite::new(io::writer(rt)), progress);
+    answers::convert(record, &mut source, path, converted, &mut out)
 }
 
 // The torrent is read, and a refusal is printed, before the record is opened.

@@ -8,7 +8,6 @@ pub mod Noted
 pub mod Answers
 pub mod Rounds
 pub mod NotedRounds
-pub mod Roots
 pub mod Layouts
 pub mod Codes
 pub mod Fresh

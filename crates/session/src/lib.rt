@@ -7,7 +7,6 @@ pub mod laws;
 mod noting;
 mod open_asks;
 mod planting;
-mod roots;
 mod session;
 mod verdict;
 

@@ -26,7 +26,6 @@ ghost use Rattle.session.specs.SafeStep.{KeepsKnown, StoresTrueHashes, StoresAns
 use crate::blocks::Blocks;
 use crate::open_asks::OpenAsks;
 use crate::planting::planted;
-use crate::roots::Roots;
 use crate::verdict::Verdict;
 use hashtree::{BLOCK_LENGTH, Hash, NoMemory};
 use metainfo::Torrent;
@@ -43,16 +42,12 @@ pub struct Session<'t, N: NodeMap> {
     pub(crate) alloc: Global,
     torrent: &'t Torrent<'t>,
     trees: Vec<Tree<N>>,
-    roots: Roots,
     pub(crate) asks: OpenAsks,
 }
 
 impl<'t, N: NodeMap> Model for Session<'t, N> {
-    ghost use Rattle.std.specs.Prelude.{map};
-    ghost use Rattle.metainfo.specs.Description.{TreeEntry};
     ghost use Rattle.session.specs.Layouts.{SessionSeen, seen, AreKept};
     ghost use Rattle.session.specs.Codes.{session_code};
-    ghost use Rattle.session.specs.Roots.{AreNumbered};
 
     ghost Value = { SessionSeen };
 
@@ -60,8 +55,7 @@ impl<'t, N: NodeMap> Model for Session<'t, N> {
 
     ghost view = { λ s. seen s.torrent.now s.asks s.trees.items };
 
-    ghost invariant = { λ s. AreKept s.torrent.now s.trees.items
-        × AreNumbered s.roots (map (λ (e : TreeEntry). e.root) s.torrent.now.trees) };
+    ghost invariant = { λ s. AreKept s.torrent.now s.trees.items };
 }
 
 impl<'t, N: NodeMap> Session<'t, N> {
@@ -79,7 +73,6 @@ impl<'t, N: NodeMap> Session<'t, N> {
         torrent.sound();
         let infos = torrent.trees();
         let piece_length = torrent.piece_length();
-        let roots = Roots::of(alloc, infos)?;
         let mut trees = Vec::with_capacity(alloc, infos.len())?;
         'infos: for info in infos {
             trees.push_reserved(planted(alloc, info, piece_length, with_layers)?);
@@ -88,7 +81,6 @@ impl<'t, N: NodeMap> Session<'t, N> {
             alloc,
             torrent,
             trees,
-            roots,
             asks: OpenAsks::new(alloc),
         })
     }
@@ -139,7 +131,7 @@ impl<'t, N: NodeMap> Session<'t, N> {
             × (self.new ≡ self.old)) }
     {
         are_hashes(hashes);
-        match self.roots.number(&ask.root) {
+        match self.torrent.tree_with_root(&ask.root) {
             None => Err(HashRefusal::UnknownRoot),
             Some(number) => self.trees[number].take(ask, hashes),
         }
@@ -274,7 +266,7 @@ impl<'t, N: NodeMap> Session<'t, N> {
         ensures { IsTrue result ↔ IsAnswered self.now ask.now }
     {
         self.torrent.sound();
-        match self.roots.number(&ask.root) {
+        match self.torrent.tree_with_root(&ask.root) {
             None => false,
             Some(number) => self.trees[number].can_answer(ask),
         }
@@ -289,7 +281,7 @@ impl<'t, N: NodeMap> Session<'t, N> {
         ensures no_memory { OnErr result (IsAnswered self.now ask.now) }
     {
         self.torrent.sound();
-        match self.roots.number(&ask.root) {
+        match self.torrent.tree_with_root(&ask.root) {
             None => Ok(Answer::Reject),
             Some(number) => self.trees[number].answer(ask),
         }

@@ -1,4 +1,4 @@
-use Rattle.std.proofs.Common.{◌≡◌, ◌≢◌, ℕ, ◌<◌, List, length, set, Some, IfOk, IfErr, refl, sym, ◌∙◌, subst, arith}
+use Rattle.std.proofs.Common.{◌≡◌, ◌≢◌, ℕ, ◌<◌, List, length, set, Some, IfOk, IfErr, refl, subst, arith}
 use Rattle.std.specs.Prelude.{slice_get}
 use Rattle.partial_tree.specs.declared.refusal.HashRefusal.TheVariants.{UnknownRoot}
 use Rattle.partial_tree.specs.Kept.{KeptTree}
@@ -12,35 +12,33 @@ use Rattle.session.proofs.session.Session.join_hashes.Goals as goal
 pub index_mut-requires : goal.index_mut-requires
 index_mut-requires g c =
     let ts : List KeptTree = c.self.inside.trees.items in
-    let inside : c.in-Some.number < length ts = (some_number c.self.inside.torrent.now ts c.self.invariant.0 c.self.inside.roots c.self.invariant.1 c.args.ask.now.root c.in-Some.number (sym c.number.ensures ∙ c.in-Some.is)).0 in
+    let inside : c.in-Some.number < length ts = (some_number c.self.inside.torrent.now ts c.self.invariant c.args.ask.now.root c.tree_with_root.result c.in-Some.number c.tree_with_root.ensures.found c.in-Some.is).0 in
     omega (arith, inside, c.self.inside.trees.ok)
 
 pub take-requires : goal.take-requires
 take-requires g c =
     let ts : List KeptTree = c.self.inside.trees.items in
-    let inside : c.in-Some.number < length ts = (some_number c.self.inside.torrent.now ts c.self.invariant.0 c.self.inside.roots c.self.invariant.1 c.args.ask.now.root c.in-Some.number (sym c.number.ensures ∙ c.in-Some.is)).0 in
-    good_at c.self.inside.torrent.now ts c.self.invariant.0 c.in-Some.number c.index_mut.result.now (found_at ts c.in-Some.number c.index_mut.result.now inside c.index_mut.ensures.value)
+    let inside : c.in-Some.number < length ts = (some_number c.self.inside.torrent.now ts c.self.invariant c.args.ask.now.root c.tree_with_root.result c.in-Some.number c.tree_with_root.ensures.found c.in-Some.is).0 in
+    good_at c.self.inside.torrent.now ts c.self.invariant c.in-Some.number c.index_mut.result.now (found_at ts c.in-Some.number c.index_mut.result.now inside c.index_mut.ensures.value)
 
 pub invariant_of-self : goal.invariant_of-self
 invariant_of-self g c =
     let ts : List KeptTree = c.self.inside.trees.items in
     let a : KeptTree = c.index_mut.result.now in
     let b : KeptTree = c.take.new.self in
-    let inside : c.in-Some.number < length ts = (some_number c.self.inside.torrent.now ts c.self.invariant.0 c.self.inside.roots c.self.invariant.1 c.args.ask.now.root c.in-Some.number (sym c.number.ensures ∙ c.in-Some.is)).0 in
-    let at : slice_get ts c.in-Some.number ≡ Some a = found_at ts c.in-Some.number a inside c.index_mut.ensures.value in (
-      kept-after c.self.inside.torrent.now ts c.self.invariant.0 c.in-Some.number a b at c.take.ensures.root c.take.ensures.length
-          (good_after_take a b c.args.ask.now c.args.hashes.now c.take.result (good_at c.self.inside.torrent.now ts c.self.invariant.0 c.in-Some.number a at) c.are_hashes.ensures
-          c.take.ensures.root c.take.ensures.length c.take.ensures.marked c.take.ensures.taken c.take.ensures.refused),
-      c.self.invariant.1,
-    )
+    let inside : c.in-Some.number < length ts = (some_number c.self.inside.torrent.now ts c.self.invariant c.args.ask.now.root c.tree_with_root.result c.in-Some.number c.tree_with_root.ensures.found c.in-Some.is).0 in
+    let at : slice_get ts c.in-Some.number ≡ Some a = found_at ts c.in-Some.number a inside c.index_mut.ensures.value in
+    kept-after c.self.inside.torrent.now ts c.self.invariant c.in-Some.number a b at c.take.ensures.root c.take.ensures.length
+    (good_after_take a b c.args.ask.now c.args.hashes.now c.take.result (good_at c.self.inside.torrent.now ts c.self.invariant c.in-Some.number a at) c.are_hashes.ensures
+    c.take.ensures.root c.take.ensures.length c.take.ensures.marked c.take.ensures.taken c.take.ensures.refused)
 
 pub returns-in-None-clause-refused : goal.returns-in-None-clause-refused
 returns-in-None-clause-refused g c =
     let ts : List KeptTree = c.self.inside.trees.items in
     let none : (n : ℕ) (k : KeptTree) → slice_get ts n ≡ Some k → k.root ≢ c.args.ask.now.root =
-    no_number c.self.inside.torrent.now ts c.self.invariant.0 c.self.inside.roots c.self.invariant.1 c.args.ask.now.root (sym c.number.ensures ∙ c.in-None.is) in (
+    no_number c.self.inside.torrent.now ts c.self.invariant c.args.ask.now.root c.tree_with_root.result c.tree_with_root.ensures.only c.in-None.is in (
       subst (λ (v : SessionSeen). IsHashRefused v c.args.ask.now c.args.hashes.now UnknownRoot) c.self.view_is
-          (unknown_in c.self.inside.torrent.now ts c.self.invariant.0 c.self.inside.asks c.args.ask.now c.args.hashes.now none),
+          (unknown_in c.self.inside.torrent.now ts c.self.invariant c.self.inside.asks c.args.ask.now c.args.hashes.now none),
       refl,
     )
 
@@ -49,19 +47,19 @@ returns-in-Some-clause-stored g c =
     let ts : List KeptTree = c.self.inside.trees.items in
     let a : KeptTree = c.index_mut.result.now in
     let b : KeptTree = c.take.new.self in
-    let inside : c.in-Some.number < length ts = (some_number c.self.inside.torrent.now ts c.self.invariant.0 c.self.inside.roots c.self.invariant.1 c.args.ask.now.root c.in-Some.number (sym c.number.ensures ∙ c.in-Some.is)).0 in
+    let inside : c.in-Some.number < length ts = (some_number c.self.inside.torrent.now ts c.self.invariant c.args.ask.now.root c.tree_with_root.result c.in-Some.number c.tree_with_root.ensures.found c.in-Some.is).0 in
     let at : slice_get ts c.in-Some.number ≡ Some a = found_at ts c.in-Some.number a inside c.index_mut.ensures.value in
-    let root : a.root ≡ c.args.ask.now.root = (some_number c.self.inside.torrent.now ts c.self.invariant.0 c.self.inside.roots c.self.invariant.1 c.args.ask.now.root c.in-Some.number (sym c.number.ensures ∙ c.in-Some.is)).1 a at in
+    let root : a.root ≡ c.args.ask.now.root = (some_number c.self.inside.torrent.now ts c.self.invariant c.args.ask.now.root c.tree_with_root.result c.in-Some.number c.tree_with_root.ensures.found c.in-Some.is).1 a at in
     subst (λ (v : SessionSeen). IfOk c.take.result (λ n. IsStored v c.args.ask.now c.args.hashes.now n (seen c.self.inside.torrent.now c.self.inside.asks (set ts c.in-Some.number b)))) c.self.view_is
-    (stored_all c.self.inside.torrent.now ts c.self.invariant.0 c.self.inside.asks c.in-Some.number a b c.args.ask.now c.args.hashes.now c.take.result at root c.take.ensures.marked c.take.ensures.taken)
+    (stored_all c.self.inside.torrent.now ts c.self.invariant c.self.inside.asks c.in-Some.number a b c.args.ask.now c.args.hashes.now c.take.result at root c.take.ensures.marked c.take.ensures.taken)
 
 pub returns-in-Some-clause-refused : goal.returns-in-Some-clause-refused
 returns-in-Some-clause-refused g c =
     let ts : List KeptTree = c.self.inside.trees.items in
     let a : KeptTree = c.index_mut.result.now in
     let b : KeptTree = c.take.new.self in
-    let inside : c.in-Some.number < length ts = (some_number c.self.inside.torrent.now ts c.self.invariant.0 c.self.inside.roots c.self.invariant.1 c.args.ask.now.root c.in-Some.number (sym c.number.ensures ∙ c.in-Some.is)).0 in
+    let inside : c.in-Some.number < length ts = (some_number c.self.inside.torrent.now ts c.self.invariant c.args.ask.now.root c.tree_with_root.result c.in-Some.number c.tree_with_root.ensures.found c.in-Some.is).0 in
     let at : slice_get ts c.in-Some.number ≡ Some a = found_at ts c.in-Some.number a inside c.index_mut.ensures.value in
-    let root : a.root ≡ c.args.ask.now.root = (some_number c.self.inside.torrent.now ts c.self.invariant.0 c.self.inside.roots c.self.invariant.1 c.args.ask.now.root c.in-Some.number (sym c.number.ensures ∙ c.in-Some.is)).1 a at in
+    let root : a.root ≡ c.args.ask.now.root = (some_number c.self.inside.torrent.now ts c.self.invariant c.args.ask.now.root c.tree_with_root.result c.in-Some.number c.tree_with_root.ensures.found c.in-Some.is).1 a at in
     subst (λ (v : SessionSeen). IfErr c.take.result (λ r. IsHashRefused v c.args.ask.now c.args.hashes.now r × (seen c.self.inside.torrent.now c.self.inside.asks (set ts c.in-Some.number b) ≡ v))) c.self.view_is
-    (refused_all c.self.inside.torrent.now ts c.self.invariant.0 c.self.inside.asks c.in-Some.number a b c.args.ask.now c.args.hashes.now c.take.result at root c.take.ensures.marked c.take.ensures.refused)
+    (refused_all c.self.inside.torrent.now ts c.self.invariant c.self.inside.asks c.in-Some.number a b c.args.ask.now c.args.hashes.now c.take.result at root c.take.ensures.marked c.take.ensures.refused)

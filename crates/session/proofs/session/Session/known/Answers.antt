@@ -12,5 +12,5 @@ returns g c =
     let ts : List KeptTree = c.self.inside.trees.items in
     let a : KeptTree = c.index.result.now in
     let low : c.args.tree < length d.trees = subst (λ (v : SessionSeen). c.args.tree < length v.torrent.trees) (sym c.self.view_is) c.requires in
-    let state = state_there d ts c.self.invariant.0 c.args.tree a low c.index.ensures in
+    let state = state_there d ts c.self.invariant c.args.tree a low c.index.ensures in
     (a.state, subst (λ (v : SessionSeen). slice_get v.trees c.args.tree ≡ Some a.state) c.self.view_is state, c.known.ensures)

@@ -23,7 +23,7 @@ index_mut-requires g c =
     let ts : List KeptTree = c.self.inside.trees.items in
     let tr : ℕ = c.unwrap-tree.result in
     let is : has.0.tree ≡ Some tr = sym (c.tree_of.ensures has.0 has.1) ∙ c.unwrap-tree.ensures in
-    let x = tree_for d ts c.self.invariant.0 c.sound.ensures c.args.file tr has.0 has.1 is in
+    let x = tree_for d ts c.self.invariant c.sound.ensures c.args.file tr has.0 has.1 is in
     let inside : tr < length ts = slice_get_within ts tr x.0 x.1 in
     omega (arith, inside, c.self.inside.trees.ok)
 
@@ -34,10 +34,10 @@ take_block-requires-clause-good g c =
     let ts : List KeptTree = c.self.inside.trees.items in
     let tr : ℕ = c.unwrap-tree.result in
     let is : has.0.tree ≡ Some tr = sym (c.tree_of.ensures has.0 has.1) ∙ c.unwrap-tree.ensures in
-    let x = tree_for d ts c.self.invariant.0 c.sound.ensures c.args.file tr has.0 has.1 is in
+    let x = tree_for d ts c.self.invariant c.sound.ensures c.args.file tr has.0 has.1 is in
     let a : KeptTree = c.index_mut.result.now in
     let e : slice_get ts tr ≡ Some a = found_at ts tr a (slice_get_within ts tr x.0 x.1) c.index_mut.ensures.value in
-    good_at d ts c.self.invariant.0 tr a e
+    good_at d ts c.self.invariant tr a e
 
 pub take_block-requires-clause-inside : goal.take_block-requires-clause-inside
 take_block-requires-clause-inside g c =
@@ -46,10 +46,10 @@ take_block-requires-clause-inside g c =
     let ts : List KeptTree = c.self.inside.trees.items in
     let tr : ℕ = c.unwrap-tree.result in
     let is : has.0.tree ≡ Some tr = sym (c.tree_of.ensures has.0 has.1) ∙ c.unwrap-tree.ensures in
-    let x = tree_for d ts c.self.invariant.0 c.sound.ensures c.args.file tr has.0 has.1 is in
+    let x = tree_for d ts c.self.invariant c.sound.ensures c.args.file tr has.0 has.1 is in
     let a : KeptTree = c.index_mut.result.now in
     let e : slice_get ts tr ≡ Some a = found_at ts tr a (slice_get_within ts tr x.0 x.1) c.index_mut.ensures.value in
-    let low : c.args.block < block_count a.length = subst (λ n. c.args.block < block_count n) (sym (same_length d ts c.self.invariant.0 c.sound.ensures c.args.file tr has.0 a has.1 is e)) has.2 in
+    let low : c.args.block < block_count a.length = subst (λ n. c.args.block < block_count n) (sym (same_length d ts c.self.invariant c.sound.ensures c.args.file tr has.0 a has.1 is e)) has.2 in
     low
 
 pub invariant_of-self : goal.invariant_of-self
@@ -59,15 +59,13 @@ invariant_of-self g c =
     let ts : List KeptTree = c.self.inside.trees.items in
     let tr : ℕ = c.unwrap-tree.result in
     let is : has.0.tree ≡ Some tr = sym (c.tree_of.ensures has.0 has.1) ∙ c.unwrap-tree.ensures in
-    let x = tree_for d ts c.self.invariant.0 c.sound.ensures c.args.file tr has.0 has.1 is in
+    let x = tree_for d ts c.self.invariant c.sound.ensures c.args.file tr has.0 has.1 is in
     let a : KeptTree = c.index_mut.result.now in
     let e : slice_get ts tr ≡ Some a = found_at ts tr a (slice_get_within ts tr x.0 x.1) c.index_mut.ensures.value in
-    let b : KeptTree = c.take_block.new.self in (
-      kept-after d ts c.self.invariant.0 tr a b e c.take_block.ensures.root c.take_block.ensures.length
-          (good_after_block a b c.args.block c.args.bytes.now c.take_block.result (good_at d ts c.self.invariant.0 tr a e) c.take_block.ensures.root c.take_block.ensures.length
-          c.take_block.ensures.known c.take_block.ensures.taken c.take_block.ensures.refused),
-      c.self.invariant.1,
-    )
+    let b : KeptTree = c.take_block.new.self in
+    kept-after d ts c.self.invariant tr a b e c.take_block.ensures.root c.take_block.ensures.length
+    (good_after_block a b c.args.block c.args.bytes.now c.take_block.result (good_at d ts c.self.invariant tr a e) c.take_block.ensures.root c.take_block.ensures.length
+    c.take_block.ensures.known c.take_block.ensures.taken c.take_block.ensures.refused)
 
 pub returns-clause-marked : goal.returns-clause-marked
 returns-clause-marked g c =
@@ -76,13 +74,13 @@ returns-clause-marked g c =
     let ts : List KeptTree = c.self.inside.trees.items in
     let tr : ℕ = c.unwrap-tree.result in
     let is : has.0.tree ≡ Some tr = sym (c.tree_of.ensures has.0 has.1) ∙ c.unwrap-tree.ensures in
-    let x = tree_for d ts c.self.invariant.0 c.sound.ensures c.args.file tr has.0 has.1 is in
+    let x = tree_for d ts c.self.invariant c.sound.ensures c.args.file tr has.0 has.1 is in
     let a : KeptTree = c.index_mut.result.now in
     let e : slice_get ts tr ≡ Some a = found_at ts tr a (slice_get_within ts tr x.0 x.1) c.index_mut.ensures.value in
-    let low : c.args.block < block_count a.length = subst (λ n. c.args.block < block_count n) (sym (same_length d ts c.self.invariant.0 c.sound.ensures c.args.file tr has.0 a has.1 is e)) has.2 in
+    let low : c.args.block < block_count a.length = subst (λ n. c.args.block < block_count n) (sym (same_length d ts c.self.invariant c.sound.ensures c.args.file tr has.0 a has.1 is e)) has.2 in
     let b : KeptTree = c.take_block.new.self in
     subst (λ (v : SessionSeen). IfOk c.take_block.result (λ _. IsMarkedBlock v c.args.file c.args.block c.args.bytes.now (seen d c.self.inside.asks (set ts tr b)))) c.self.view_is
-    (marked_all d ts c.self.invariant.0 c.args.file c.args.block tr has.0 a has.1 is e low c.self.inside.asks b c.args.bytes.now c.take_block.result c.take_block.ensures.known c.take_block.ensures.taken)
+    (marked_all d ts c.self.invariant c.args.file c.args.block tr has.0 a has.1 is e low c.self.inside.asks b c.args.bytes.now c.take_block.result c.take_block.ensures.known c.take_block.ensures.taken)
 
 pub returns-clause-refused : goal.returns-clause-refused
 returns-clause-refused g c =
@@ -91,10 +89,10 @@ returns-clause-refused g c =
     let ts : List KeptTree = c.self.inside.trees.items in
     let tr : ℕ = c.unwrap-tree.result in
     let is : has.0.tree ≡ Some tr = sym (c.tree_of.ensures has.0 has.1) ∙ c.unwrap-tree.ensures in
-    let x = tree_for d ts c.self.invariant.0 c.sound.ensures c.args.file tr has.0 has.1 is in
+    let x = tree_for d ts c.self.invariant c.sound.ensures c.args.file tr has.0 has.1 is in
     let a : KeptTree = c.index_mut.result.now in
     let e : slice_get ts tr ≡ Some a = found_at ts tr a (slice_get_within ts tr x.0 x.1) c.index_mut.ensures.value in
-    let low : c.args.block < block_count a.length = subst (λ n. c.args.block < block_count n) (sym (same_length d ts c.self.invariant.0 c.sound.ensures c.args.file tr has.0 a has.1 is e)) has.2 in
+    let low : c.args.block < block_count a.length = subst (λ n. c.args.block < block_count n) (sym (same_length d ts c.self.invariant c.sound.ensures c.args.file tr has.0 a has.1 is e)) has.2 in
     let b : KeptTree = c.take_block.new.self in
     subst (λ (v : SessionSeen). IfErr c.take_block.result (λ r. IsUnmarkedBlock v c.args.file c.args.block c.args.bytes.now r × (seen d c.self.inside.asks (set ts tr b) ≡ v))) c.self.view_is
-    (unmarked_all d ts c.self.invariant.0 c.args.file c.args.block tr has.0 a has.1 is e low c.self.inside.asks b c.args.bytes.now c.take_block.result c.take_block.ensures.known c.take_block.ensures.refused)
+    (unmarked_all d ts c.self.invariant c.args.file c.args.block tr has.0 a has.1 is e low c.self.inside.asks b c.args.bytes.now c.take_block.result c.take_block.ensures.known c.take_block.ensures.refused)

@@ -4,7 +4,6 @@ use Rattle.metainfo.specs.Seen.{tree_entry}
 use Rattle.partial_tree.specs.Kept.{KeptTree, info_of}
 use Rattle.session.specs.Layouts.{root_of_entry}
 use Rattle.session.proofs.FirstTrees.{ArePlanted, sound_at, same_more, kept_all, one_more, no_trees, fresh}
-use Rattle.session.proofs.Numbering.{numbered_entries}
 use Rattle.session.proofs.session.Session.new.Goals as goal
 
 pub infos-init : goal.infos-init
@@ -39,7 +38,7 @@ pub invariant_of-result : goal.invariant_of-result
 invariant_of-result g c =
     let planted : ArePlanted c.args.torrent.now.piece_length c.args.with_layers c.args.torrent.now.trees c.infos.trees.items =
     subst₂ (λ p es. ArePlanted p c.args.with_layers es c.infos.trees.items) c.piece_length-piece_length.ensures c.trees-infos.ensures c.infos.invariant.planted in
-    (kept_all c.args.torrent.now c.sound.ensures c.trees-infos.result.now c.trees-infos.ensures c.args.with_layers c.infos.info-index c.infos.trees.items c.infos-test.false c.infos.invariant.same planted, numbered_entries c.in_ok-roots.roots c.trees-infos.result.now c.args.torrent.now.trees c.trees-infos.ensures c.in_ok-roots.ensures)
+    kept_all c.args.torrent.now c.sound.ensures c.trees-infos.result.now c.trees-infos.ensures c.args.with_layers c.infos.info-index c.infos.trees.items c.infos-test.false c.infos.invariant.same planted
 
 pub returns : goal.returns
 returns g c =

@@ -14,7 +14,7 @@ want-requires g c =
     let a : KeptTree = c.index.result.now in
     let low : c.args.tree < length d.trees = subst (λ (v : SessionSeen). c.args.tree < length v.torrent.trees) (sym c.self.view_is) c.requires.tree in
     let is : IsBlockOf d c.args.tree c.args.block = subst (λ (v : SessionSeen). IsBlockOf v.torrent c.args.tree c.args.block) (sym c.self.view_is) c.requires.block in
-    block_in d ts c.self.invariant.0 c.args.tree c.args.block a (found_at ts c.args.tree a (inside_kept d ts c.self.invariant.0 c.args.tree low) c.index.ensures) is
+    block_in d ts c.self.invariant c.args.tree c.args.block a (found_at ts c.args.tree a (inside_kept d ts c.self.invariant c.args.tree low) c.index.ensures) is
 
 pub returns : goal.returns
 returns g c =
@@ -22,9 +22,9 @@ returns g c =
     let ts : List KeptTree = c.self.inside.trees.items in
     let a : KeptTree = c.index.result.now in
     let low : c.args.tree < length d.trees = subst (λ (v : SessionSeen). c.args.tree < length v.torrent.trees) (sym c.self.view_is) c.requires.tree in
-    let at : slice_get ts c.args.tree ≡ Some a = found_at ts c.args.tree a (inside_kept d ts c.self.invariant.0 c.args.tree low) c.index.ensures in (
+    let at : slice_get ts c.args.tree ≡ Some a = found_at ts c.args.tree a (inside_kept d ts c.self.invariant c.args.tree low) c.index.ensures in (
       info_of a,
       a.state,
-      subst (λ (v : SessionSeen). IsTree v c.args.tree (info_of a) a.state) c.self.view_is (tree_at d ts c.self.invariant.0 c.self.inside.asks c.args.tree a at),
+      subst (λ (v : SessionSeen). IsTree v c.args.tree (info_of a) a.state) c.self.view_is (tree_at d ts c.self.invariant c.self.inside.asks c.args.tree a at),
       c.want.ensures,
     )

@@ -1,7 +1,0 @@
-use Rattle.btcheck.proofs.CommandLine.{with_argument}
-use Rattle.btcheck.proofs.arguments.check_command.Goals as goal
-
-pub returns-clause-made : goal.returns-clause-made
-returns-clause-made c =
-    let one = with_argument _ _ _ _ _ c.leaf.ensures c.needed.ensures c.in_ok-arg.ensures in
-    with_argument _ _ _ _ _ one c.needed-2.ensures c.in_ok-command.ensures

@@ -1,0 +1,162 @@
+-- How a command grows, and which texts an action needs.
+use Rattle.std.proofs.Common.{◌≡◌, ◌∙◌, ◌++◌, ◌∷◌, [], ap, codes, false, if◌then◌else◌, List, None, Option, option_map, refl, Some, subst, sym, true, ◌||◌, Bool}
+use Rattle.std.specs.List.{list_any}
+use Rattle.std.specs.Prelude.{⊤, Box, Err, Ok, Result, unwrap_or, ◌<◌, ◌^◌, ℕ}
+use Rattle.std.specs.Str.Parse.{IsNumeral, ParsesUnsigned, digits_value, without_leading_plus}
+use Rattle.clap.specs.Matches.{ReadsOne}
+use Rattle.std.specs.Box.{box_value}
+use Rattle.clap.specs.Simple.{subcommand_rows}
+use Rattle.clap.specs.declared.parser.matches.SubCommand.{SubCommand}
+use Rattle.clap.specs.declared.parser.matches.ArgMatches.TheViews.{out-SubCommand}
+use Rattle.std.specs.Str.{bytes_eq}
+use Rattle.std.proofs.lemmas.Slice.Eq.{bytes_eq-Decides}
+use Rattle.clap.specs.Built.{AddsArg, AddsSubcommand}
+use Rattle.clap.specs.Simple.{App, Shape, app_of, with_rule, with_subcommand}
+use Rattle.clap.specs.Walk.{Row, Rule, Text, first_of, one_of, rule_of}
+use Rattle.clap.specs.declared.builder.arg.Arg.{Arg}
+use Rattle.clap.specs.declared.builder.command.Command.{Command}
+use Rattle.clap.specs.declared.builder.command.Command.TheViews.{out-Command}
+use Rattle.command_line.specs.declared.command.Action.{Action}
+use Rattle.command_line.specs.declared.command.Action.TheVariants as action
+use Rattle.command_line.specs.CommandLine.{Asks, FindsArguments, command_of, IsActionOf, IsApp, IsArgument, IsAskedOf, IsLeaf, IsNumberIfThere, IsNumberOf}
+
+-- a command with one argument more
+pub with_argument : (old new : Command) (a : Arg) (s : Shape) (r : Rule)
+    → IsLeaf s old → IsArgument r a → AddsArg old a new
+    → IsLeaf (record s { rules = s.rules ++ r ∷ [] }) new
+with_argument old new a s r leaf arg adds = (
+  adds.shape arg.1 ∙ ap (λ (x : App). with_rule x (rule_of a)) leaf.0
+      ∙ ap (λ (x : Rule). with_rule (record { top = s; subs = [] }) x) arg.0,
+  adds.globals ∙ ap (λ (b : Bool). b || a.global) leaf.1 ∙ arg.1,
+)
+
+-- a program with one command more
+pub with_command : (old sub new : Command) (app : App) (s : Shape)
+    → IsApp app old → IsLeaf s sub → AddsSubcommand old sub new
+    → IsApp (with_subcommand app s) new
+with_command old sub new app s is leaf adds =
+    let same : app_of new ≡ with_subcommand (app_of old) (app_of sub).top = adds.shape leaf.1 in (
+      same ∙ ap (λ (x : App). with_subcommand x (app_of sub).top) is.0
+          ∙ ap (λ (x : App). with_subcommand app x.top) leaf.0,
+      adds.globals ∙ ap (λ (b : Bool). b || (out-Command sub).has_globals) is.1 ∙ leaf.1,
+    )
+
+-- what is known of the name and of the rows of what was found
+pub both_found : {Z : Type 0} (o : Option (Box SubCommand Z)) (name : Text) (rows : List Row)
+    → option_map (λ b. (out-SubCommand (box_value b)).name.now) o ≡ Some name
+    → option_map (λ p. p.1) (subcommand_rows o) ≡ Some rows → subcommand_rows o ≡ Some (name, rows)
+both_found None name rows n r =
+    let bad : None ≡ Some name = n in
+    cc
+both_found (Some b) name rows n r = cc
+
+-- nothing was found
+pub none_found : {Z : Type 0} (o : Option (Box SubCommand Z)) → option_map (λ p. p.1) (subcommand_rows o) ≡ None → subcommand_rows o ≡ None
+none_found None e = refl
+none_found (Some b) e = cc
+
+-- what an action of the command that was found asks for is what was found
+pub asked_of : (found : Option (Text × List Row)) (name : Text) (rows : List Row) (r : Option Action)
+    → found ≡ Some (name, rows) → IsActionOf name rows r → IsAskedOf found r
+asked_of found name rows (Some a) is asks = (name, rows, is, asks)
+asked_of found name rows None is none = λ a asked.
+    let same : Some (asked.0, asked.1) ≡ Some (name, rows) = sym asked.2 ∙ is in
+    none a (subst (AsksIn a) same asked.3)
+  where
+    AsksIn : Action → Option (Text × List Row) → Type 0
+    AsksIn a None = ⊤
+    AsksIn a (Some p) = Asks p.0 p.1 a
+
+-- two names of which one computes that they differ
+differs : (a b : Text) → bytes_eq a b ≡ false → a ≡ b → ⊥
+differs a b unlike e =
+    let bad : false ≡ true = sym unlike ∙ (bytes_eq-Decides a b).1 e in
+    cc
+
+-- what `get_one` reads of a text is its number
+pub number_read : {E : Type 0} (gives : Text → Result ℕ E → Type 0)
+    → ((text : Text) (r : Result ℕ E) → gives text r → ParsesUnsigned 64 10 text r)
+    → (found : Option Text) (read : Option ℕ) → (found ≡ None → read ≡ None)
+    → ((text : Text) → found ≡ Some text → ReadsOne gives text read) → IsNumberIfThere found read
+number_read gives parses None None none reads = λ number is.
+    let bad : None ≡ Some is.0 = is.1 in
+    cc
+number_read gives parses None (Some number) none reads =
+    let bad : Some number ≡ None = none refl in
+    cc
+number_read gives parses (Some text) None none reads = λ number is.
+    let e = reads text refl in
+    let same : text ≡ is.0 = ap (λ (o : Option Text). unwrap_or o text) is.1 in
+    absurd (parses text (Err e.0) e.1 (subst (λ (t : Text). IsNumeral 10 (without_leading_plus t)
+    × (digits_value 10 (without_leading_plus t) < 2 ^ 64)) (sym same) is.2.0))
+number_read gives parses (Some text) (Some number) none reads =
+    let parsed = parses text (Ok number) (reads text refl) in
+    (text, refl, parsed)
+
+-- ---- without a text or a number that it needs, a command asks for nothing
+
+-- what stands beside a name in a table
+abbrev pub beside : Text → List (Text × List Text) → List Text
+beside name [] = []
+beside name (p ∷ ps) = if bytes_eq name p.0 then p.1 else beside name ps
+
+-- the texts that the command of this name needs
+abbrev pub needed_texts : Text → List Text
+needed_texts name = beside name ((codes "root", codes "FILE" ∷ [])
+    ∷ (codes "show", codes "TORRENT" ∷ [])
+    ∷ (codes "check", codes "TORRENT" ∷ codes "DIR" ∷ [])
+    ∷ (codes "create", codes "DIR" ∷ codes "OUT" ∷ codes "name" ∷ [])
+    ∷ (codes "replay", codes "TORRENT" ∷ codes "RECORD" ∷ [])
+    ∷ (codes "convert", codes "RECORD" ∷ codes "OUT" ∷ []) ∷ [])
+
+-- a text is found under each of these names
+abbrev pub HasTexts : List Row → List Text → Type 0
+HasTexts rows [] = ⊤
+HasTexts rows (name ∷ names) =
+    ((text : Text) × (first_of name rows ≡ Some text)) × HasTexts rows names
+
+-- an action that is found has the texts that its command needs
+has_texts : (rows : List Row) (a : Action) → FindsArguments rows a
+    → HasTexts rows (needed_texts (command_of a))
+has_texts rows (action.Root file) found = ((file.now, found), tt)
+has_texts rows (action.Show torrent) found = ((torrent.now, found), tt)
+has_texts rows (action.Check torrent dir) found =
+    ((torrent.now, found.0), ((dir.now, found.1), tt))
+has_texts rows (action.Create asked) found =
+    ((asked.dir.now, found.0), ((asked.out.now, found.1), ((asked.name.now, found.2), tt)))
+has_texts rows (action.Replay asked) found =
+    ((asked.torrent.now, found.0), ((asked.record.now, found.1), tt))
+has_texts rows (action.Convert asked) found =
+    ((asked.record.now, found.0), ((asked.out.now, found.1), tt))
+
+-- none of the texts that are found is absent
+none_absent : (rows : List Row) (name : Text) → first_of name rows ≡ None
+    → (names : List Text) → HasTexts rows names → list_any (bytes_eq name) names ≡ true → ⊥
+none_absent rows name absent [] all is = cc
+none_absent rows name absent (n ∷ names) all is =
+    elim (bytes_eq name n) as (λ b. bytes_eq name n ≡ b → (b || list_any (bytes_eq name) names) ≡ true → ⊥) [
+      | true ↦ λ same _.
+          let at : first_of n rows ≡ None = subst (λ m. first_of m rows ≡ None) ((bytes_eq-Decides name n).0 same) absent in
+          let bad : None ≡ Some all.0.0 = sym at ∙ all.0.1 in
+          cc
+      | false ↦ λ _ rest. none_absent rows name absent names all.1 rest
+    ] refl is
+
+-- without a text that it needs, a command asks for nothing
+pub needs_text : (command name : Text) (rows : List Row)
+    → list_any (bytes_eq name) (needed_texts command) ≡ true → first_of name rows ≡ None
+    → (a : Action) → Asks command rows a → ⊥
+needs_text command name rows needed absent a asks =
+    none_absent rows name absent (needed_texts (command_of a)) (has_texts rows a asks.1)
+    (subst (λ c. list_any (bytes_eq name) (needed_texts c) ≡ true) asks.0 needed)
+
+-- without a piece length, `create` asks for nothing
+pub needs_piece_length : (rows : List Row)
+    → ((number : ℕ) → IsNumberOf (one_of (codes "piece-length") rows) number → ⊥)
+    → (a : Action) → Asks (codes "create") rows a → ⊥
+needs_piece_length rows none (action.Root file) asks = differs _ _ refl asks.0
+needs_piece_length rows none (action.Show torrent) asks = differs _ _ refl asks.0
+needs_piece_length rows none (action.Check torrent dir) asks = differs _ _ refl asks.0
+needs_piece_length rows none (action.Create asked) asks = none asked.piece_length asks.1.3
+needs_piece_length rows none (action.Replay asked) asks = differs _ _ refl asks.0
+needs_piece_length rows none (action.Convert asked) asks = differs _ _ refl asks.0

@@ -1,0 +1,178 @@
+-- What the program's command line is to clap, and what it asks for. Words are the arguments as
+-- texts, the program's name first; rows are what clap's definition of simple commands finds in
+-- them.
+use Rattle.std.specs.Prelude.{◌≡◌, ◌⊎◌, ℕ, List, [], ◌∷◌, Bool, true, false, Option, Some, None, codes, option_map, ◌<◌, ◌^◌}
+use Rattle.std.specs.Borrow.{Bor}
+use Rattle.clap.specs.Walk.{Row, Rule, Text, first_of, one_of, rule_of}
+use Rattle.clap.specs.Simple.{App, Shape, app_of, new_rule, new_shape, subcommand_of}
+use Rattle.clap.specs.declared.builder.arg.Arg.{Arg}
+use Rattle.clap.specs.declared.builder.command.Command.{Command}
+use Rattle.clap.specs.declared.builder.command.Command.TheViews.{out-Command}
+use Rattle.clap.specs.declared.error.kind.ErrorKind.{ErrorKind}
+use Rattle.clap.specs.declared.error.kind.ErrorKind.TheVariants.{DisplayHelp, DisplayVersion}
+use Rattle.clap.specs.declared.builder.action.ArgAction.TheVariants.{Set, SetTrue}
+use Rattle.clap.specs.declared.builder.value_parser.ValueParser.TheVariants as vp
+use Rattle.std.specs.Str.Parse.{IsNumeral, digits_value, without_leading_plus}
+use Rattle.command_line.specs.declared.command.Action.{Action}
+use Rattle.command_line.specs.declared.command.Action.TheVariants as action
+
+-- ---- the command line
+
+-- an argument that has to be there
+abbrev pub needed : Text → Rule
+needed name = record (new_rule name) { required = true; action = Some Set }
+
+-- an option that is there or not
+abbrev pub flag : Text → Rule
+flag name = record (new_rule name) { long = Some name; action = Some SetTrue }
+
+-- an option with a value
+abbrev pub option : Text → Rule
+option name =
+    record (new_rule name) { long = Some name; action = Some Set; value_names = 1 }
+
+-- an option with a value that has to be there
+abbrev pub needed_option : Text → Rule
+needed_option name = record (option name) { required = true }
+
+-- the same, whose value is a number of 64 bits
+abbrev pub needed_number : Text → Rule
+needed_number name =
+    record (needed_option name) { parser = Some (vp.Unsigned 0 18446744073709551615) }
+
+-- a command with these arguments
+abbrev pub command : Text → List Rule → Shape
+command name rules = record (new_shape name) { rules = rules }
+
+abbrev pub root_command : Shape
+root_command = command (codes "root") (needed (codes "FILE") ∷ [])
+
+abbrev pub show_command : Shape
+show_command = command (codes "show") (needed (codes "TORRENT") ∷ [])
+
+abbrev pub check_command : Shape
+check_command = command (codes "check") (needed (codes "TORRENT") ∷ needed (codes "DIR") ∷ [])
+
+abbrev pub create_command : Shape
+create_command = command (codes "create")
+    (needed (codes "DIR") ∷ needed (codes "OUT") ∷ needed_option (codes "name")
+    ∷ needed_number (codes "piece-length") ∷ flag (codes "hybrid") ∷ [])
+
+abbrev pub convert_command : Shape
+convert_command = command (codes "convert") (needed (codes "RECORD") ∷ needed (codes "OUT") ∷ [])
+
+abbrev pub replay_command : Shape
+replay_command = command (codes "replay")
+    (needed (codes "TORRENT") ∷ needed (codes "RECORD") ∷ flag (codes "info-only")
+    ∷ option (codes "seed") ∷ option (codes "answers") ∷ [])
+
+-- the program, with a version and a command that is required
+abbrev pub program : App
+program = record {
+  top = record (new_shape (codes "btcheck")) {
+    is_leaf = false;
+    has_version = true;
+    subcommand_required = true;
+  };
+  subs = root_command ∷ show_command ∷ check_command ∷ create_command ∷ replay_command
+      ∷ convert_command ∷ [];
+}
+
+-- what clap reads of this command
+abbrev pub IsApp : App → Command → Type 0
+IsApp app c = (app_of c ≡ app) × ((out-Command c).has_globals ≡ false)
+
+-- an argument that keeps to its command, with these rules
+abbrev pub IsArgument : Rule → Arg → Type 0
+IsArgument rule arg = (rule_of arg ≡ rule) × (arg.global ≡ false)
+
+-- a command without commands below it, of this shape
+abbrev pub IsLeaf : Shape → Command → Type 0
+IsLeaf shape c = IsApp (record { top = shape; subs = [] }) c
+
+-- ---- what is asked for
+
+-- an option that is there or not, as clap tells it
+abbrev pub IsFlag : Text → List Row → Bool → Type 0
+IsFlag name rows given =
+    (one_of name rows ≡ Some (codes "true") → given ≡ true)
+    × (one_of name rows ≡ Some (codes "false") → given ≡ false)
+    × (one_of name rows ≡ None → given ≡ false)
+
+-- the text that is found under a name
+abbrev pub IsText : Text → List Row → Bor Text → Type 0
+IsText name rows text = first_of name rows ≡ Some text.now
+
+-- the same of a text that may be absent
+abbrev pub IsTextIfThere : Text → List Row → Option (Bor Text) → Type 0
+IsTextIfThere name rows text = first_of name rows ≡ option_map (λ t. t.now) text
+
+-- a number that is found under a name, as decimal digits, perhaps behind a plus
+abbrev pub IsNumberOf : Option Text → ℕ → Type 0
+IsNumberOf found number = (text : Text) × (found ≡ Some text)
+    × ((IsNumeral 10 (without_leading_plus text)
+    × (digits_value 10 (without_leading_plus text) < 2 ^ 64))
+    × (number ≡ digits_value 10 (without_leading_plus text)))
+
+-- the same, or there is none
+abbrev pub IsNumberIfThere : Option Text → Option ℕ → Type 0
+IsNumberIfThere found (Some number) = IsNumberOf found number
+IsNumberIfThere found None = (number : ℕ) → IsNumberOf found number → ⊥
+
+-- the name of the command that does this
+abbrev pub command_of : Action → Text
+command_of (action.Root file) = codes "root"
+command_of (action.Show torrent) = codes "show"
+command_of (action.Check torrent dir) = codes "check"
+command_of (action.Create asked) = codes "create"
+command_of (action.Replay asked) = codes "replay"
+command_of (action.Convert asked) = codes "convert"
+
+-- the texts and flags of this action are what is found in the arguments of its command
+abbrev pub FindsArguments : List Row → Action → Type 0
+FindsArguments rows (action.Root file) = IsText (codes "FILE") rows file
+FindsArguments rows (action.Show torrent) = IsText (codes "TORRENT") rows torrent
+FindsArguments rows (action.Check torrent dir) =
+    IsText (codes "TORRENT") rows torrent × IsText (codes "DIR") rows dir
+FindsArguments rows (action.Create asked) =
+    IsText (codes "DIR") rows asked.dir × IsText (codes "OUT") rows asked.out
+    × IsText (codes "name") rows asked.name
+    × IsNumberOf (one_of (codes "piece-length") rows) asked.piece_length
+    × IsFlag (codes "hybrid") rows asked.hybrid
+FindsArguments rows (action.Convert asked) =
+    IsText (codes "RECORD") rows asked.record × IsText (codes "OUT") rows asked.out
+FindsArguments rows (action.Replay asked) =
+    IsText (codes "TORRENT") rows asked.torrent × IsText (codes "RECORD") rows asked.record
+    × IsFlag (codes "info-only") rows asked.info_only
+    × IsTextIfThere (codes "seed") rows asked.seed
+    × IsTextIfThere (codes "answers") rows asked.answers
+
+-- the command of this name, with what is found in its arguments, is this action
+abbrev pub Asks : Text → List Row → Action → Type 0
+Asks name rows a = (name ≡ command_of a) × FindsArguments rows a
+
+-- what the command of this name asks for; nothing only if there is no such command, or a text that
+-- it needs is not found
+abbrev pub IsActionOf : Text → List Row → Option Action → Type 0
+IsActionOf name rows (Some a) = Asks name rows a
+IsActionOf name rows None = (a : Action) → Asks name rows a → ⊥
+
+-- a command was found, and with what was found in its arguments it is this action
+abbrev pub IsAskedIn : Option (Text × List Row) → Action → Type 0
+IsAskedIn found a =
+    (name : Text) × (rows : List Row) × (found ≡ Some (name, rows)) × Asks name rows a
+
+-- what was found is this action; nothing only if it is none
+abbrev pub IsAskedOf : Option (Text × List Row) → Option Action → Type 0
+IsAskedOf found (Some a) = IsAskedIn found a
+IsAskedOf found None = (a : Action) → IsAskedIn found a → ⊥
+
+-- the action is what clap's definition finds in these words
+abbrev pub IsAskedBy : List Text → Action → Type 0
+IsAskedBy words a = IsAskedIn (subcommand_of program words) a
+
+-- ---- what is told of arguments that ask for no action
+
+-- help or the version, which go to standard output
+abbrev pub IsShown : ErrorKind → Type 0
+IsShown kind = (kind ≡ DisplayHelp) ⊎ (kind ≡ DisplayVersion)

@@ -1,0 +1,2 @@
+-- What contracts of the command line cite.
+pub mod CommandLine

@@ -1,0 +1,28 @@
+//! From arguments to what they ask for.
+ghost use Rattle.std.specs.Prelude.{◌≡◌, IfErr, IfOk, map, true};
+ghost use Rattle.clap.specs.Takes.{takes};
+ghost use Rattle.clap.specs.Values.{kind_of};
+ghost use Rattle.clap.specs.declared.error.kind.ErrorKind.TheVariants.{OutOfMemory};
+ghost use Rattle.command_line.specs.declared.command.Action.{Action};
+ghost use Rattle.command_line.specs.CommandLine.{IsAskedBy, program};
+
+use crate::command::Action;
+use crate::definition::command;
+use crate::finding::asked_in;
+use clap::Error;
+use clap::error::ErrorKind;
+use std::alloc::Global;
+
+/// Reads the command line, the program's name first.
+pub fn action<'a>(alloc: Global, line: &'a [&'a str]) -> Result<Action<'a>, Error>
+    ensures asked { IfOk result (IsAskedBy (map (λ s. s.now) line.now)) }
+    ensures refused { IfErr result (λ e. takes program (map (λ s. s.now) line.now) ≡ true
+        → (asked : Action) → IsAskedBy (map (λ s. s.now) line.now) asked
+        → kind_of e ≡ OutOfMemory) }
+{
+    let matches = command(alloc)?.try_get_matches_from(line)?;
+    match asked_in(&matches) {
+        Some(action) => Ok(action),
+        None => Err(command(alloc)?.error(ErrorKind::MissingSubcommand, "a command is missing")?),
+    }
+}

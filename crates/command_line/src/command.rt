@@ -1,0 +1,68 @@
+//! What the program can be asked for.
+
+/// What the command line asks for.
+#[derive(Drop)]
+pub enum Action<'a> {
+    /// Print a file's length and pieces root.
+    Root {
+        /// The file's path.
+        file: &'a str,
+    },
+    /// Print what a torrent holds.
+    Show {
+        /// The torrent file's path.
+        torrent: &'a str,
+    },
+    /// Check that a folder holds a torrent's files.
+    Check {
+        /// The torrent file's path.
+        torrent: &'a str,
+        /// The folder's path.
+        dir: &'a str,
+    },
+    /// Make a torrent of a folder.
+    Create(Create<'a>),
+    /// Replay the messages that peers sent.
+    Replay(Replay<'a>),
+    /// Make a record of form 2 of one of form 1.
+    Convert(Convert<'a>),
+}
+
+/// Of what a torrent is made, and how.
+#[derive(Drop)]
+pub struct Create<'a> {
+    /// The folder's path.
+    pub dir: &'a str,
+    /// The path of the file that takes the torrent.
+    pub out: &'a str,
+    /// The display name.
+    pub name: &'a str,
+    /// The piece length in bytes.
+    pub piece_length: u64,
+    /// Whether it is to serve clients of version 1 too.
+    pub hybrid: bool,
+}
+
+/// What is replayed, and how.
+#[derive(Drop)]
+pub struct Replay<'a> {
+    /// The torrent file's path.
+    pub torrent: &'a str,
+    /// The record's path.
+    pub record: &'a str,
+    /// Whether the torrent's piece layers are left aside at the start.
+    pub info_only: bool,
+    /// The folder that the session is filled from at the start, if there is one.
+    pub seed: Option<&'a str>,
+    /// The path of the file that takes the answers, if they are wanted.
+    pub answers: Option<&'a str>,
+}
+
+/// What is converted.
+#[derive(Drop)]
+pub struct Convert<'a> {
+    /// The record's path.
+    pub record: &'a str,
+    /// The path of the file that takes the new record.
+    pub out: &'a str,
+}

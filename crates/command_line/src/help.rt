@@ -1,0 +1,81 @@
+//! What help says.
+
+pub(crate) const VERSION: &str = "0.2.0 (proved with rattle-kit-13b logic dac8208d650f15bf)";
+
+pub(crate) const ABOUT: &str =
+    "Checks BitTorrent version 2: torrents, folders and messages of peers";
+
+pub(crate) const STATUSES: &str = "\
+Exit status: 0 yes or done, 1 no or refused, 2 a fault of the arguments, of files or of memory.";
+
+pub(crate) const EXAMPLES: &str = "\
+Examples:
+  btcheck root movie.mkv                  the length and pieces root of a file
+  btcheck show some.torrent               what a torrent holds
+  btcheck check some.torrent Downloads    whether a folder holds it
+  btcheck create some some.torrent --name some --piece-length 1048576
+                                          makes a torrent of a folder
+  btcheck convert record directed         gives each frame of a record its direction
+  btcheck replay some.torrent record      which blocks of recorded messages are right
+
+Exit status:
+  0  yes, or done
+  1  no, or refused
+  2  a fault of the arguments, of files or of memory: a line on standard error says which";
+
+pub(crate) const ROOT_ABOUT: &str = "Prints the length and the pieces root of a file";
+
+pub(crate) const ROOT_HELP: &str = "\
+Prints `LENGTH ROOT`, or `0 -` for an empty file. FILE may be a pipe.
+A file of more than 2^46 bytes prints `refused 10 Length`, status 1.";
+
+pub(crate) const SHOW_ABOUT: &str =
+    "Prints what a torrent holds: name, info-hashes, files and their roots";
+
+pub(crate) const SHOW_HELP: &str = "\
+Prints name, piece length, info-hashes, and for each file `LENGTH ROOT PATH`.
+A file that is not a version 2 torrent prints `refused NUMBER NAME`, status 1.";
+
+pub(crate) const CHECK_ABOUT: &str = "Checks that a folder holds a torrent's files";
+
+pub(crate) const CHECK_HELP: &str = "\
+Prints for each file `good`, `missing`, `unreadable`, `wrong length` or `bad PIECE`, for a hybrid a
+line on its version 1 pieces, and at last `yes`, status 0, or `no`, status 1. The files are looked
+for at their paths directly below DIR; the torrent's name adds no folder.";
+
+pub(crate) const CREATE_ABOUT: &str = "Makes a torrent of all files in a folder";
+
+pub(crate) const CREATE_HELP: &str = "\
+Hashes all files below DIR, hidden ones too, then writes the torrent to OUT and prints nothing.
+A folder that cannot be a torrent prints `refused NUMBER NAME`, and the path of the file, status 1.
+Symbolic links, pipes and devices in DIR are a fault.";
+
+pub(crate) const CONVERT_ABOUT: &str = "Makes a record with directions of one without";
+
+pub(crate) const CONVERT_HELP: &str = "\
+Writes a record in which each frame has a direction: every frame of RECORD came in, and before each
+hashes message went out the request that it answers. OUT is emptied first, so it must not be RECORD.
+A record that has directions already prints `refused 3 AlreadyForm2`, status 1.";
+
+pub(crate) const REPLAY_ABOUT: &str =
+    "Checks recorded messages of peers, and prints a verdict on each";
+
+pub(crate) const REPLAY_HELP: &str = "\
+A record is the frames that came in, joined, without a handshake. Prints a line for each frame as it
+comes, and at last `end` or how the record failed. The status is 1 if something was refused, and 2
+if the record failed or memory was refused.";
+
+pub(crate) const INFO_ONLY_HELP: &str =
+    "Start from the roots alone, without the torrent's piece layers";
+
+pub(crate) const SEED_HELP: &str =
+    "Start from the hashes of the files that this folder holds right, too";
+
+pub(crate) const ANSWERS_HELP: &str =
+    "Write the answers to hash requests to this file, which is emptied first";
+
+pub(crate) const NAME_HELP: &str = "The display name that the torrent suggests";
+
+pub(crate) const PIECE_LENGTH_HELP: &str = "Bytes a piece: a power of two from 16384 to 1073741824";
+
+pub(crate) const HYBRID_HELP: &str = "Make a hybrid, which clients of version 1 can use too";

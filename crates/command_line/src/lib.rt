@@ -1,0 +1,12 @@
+//! The command line of `btcheck`: what its arguments ask for.
+#![tactic(auto)]
+
+mod arguments;
+pub mod command;
+mod definition;
+mod explaining;
+mod finding;
+mod help;
+
+pub use arguments::action;
+pub use explaining::{ExplainFault, explain};
