@@ -36,9 +36,9 @@ def first_difference(wanted, seen):
     return f"line {number + 1}, wanted {texts[0][number:number + 1]}, seen {texts[1][number:number + 1]}"
 
 
-def folder():
-    """A temporary folder, for a `with`."""
-    return tempfile.TemporaryDirectory(prefix="btcheck-test-")
+def folder(at=None):
+    """A temporary folder, for a `with`; in the folder `at`, if that is given and there."""
+    return tempfile.TemporaryDirectory(prefix="btcheck-test-", dir=at if at and os.path.isdir(at) else None)
 
 
 def write(path, content):

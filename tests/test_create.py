@@ -144,20 +144,28 @@ def test_random_folders():
             assert contents_of(content) == contents
 
 
-def test_deep_and_many():
+def test_folders_a_hundred_deep():
     with folder() as place:
-        deep = {"/".join(["d"] * depth + [f"f{depth}"]): b"%d" % depth for depth in range(100)}
+        deep = {"/".join(["d"] * depth + [f"f{depth}"]): b"%d" % depth for depth in range(101)}
         content = make_folder(f"{place}/deep", deep)
         for hybrid in (False, True):
             expect_created(content, f"{place}/out", deep, "x", 16384, hybrid)
-        many = {f"{number % 100}/{number}": b"%d" % number for number in range(20000)}
+            checked = run("check", f"{place}/out", content)
+            assert checked.returncode == 0 and checked.stdout.endswith(b"yes\n"), checked
+
+
+def test_a_hundred_thousand_files():
+    """The torrent of the independent writer, the same at a second run, and the folder is good by it."""
+    with folder("/dev/shm") as place:
+        many = {f"{number % 400}/{number}": b"%d" % number for number in range(100_000)}
         content = make_folder(f"{place}/many", many)
         expect_created(content, f"{place}/out", many)
         first = written(f"{place}/out")
         expect(create(content, f"{place}/again"), 0)
         assert written(f"{place}/again") == first
         checked = run("check", f"{place}/out", content)
-        assert checked.returncode == 0 and checked.stdout.count(b"\n") == 20001, checked.stdout[-100:]
+        assert checked.returncode == 0 and checked.stdout.count(b"\ngood ") == 99_999, checked.stdout[-100:]
+        assert checked.stdout.endswith(b"\nyes\n")
 
 
 def test_too_many_components():

@@ -8,8 +8,9 @@ use Rattle.std.proofs.lemmas.Nat.{le-div, pow_pos}
 use Rattle.folders.proofs.Layers.{length-layer_of}
 use Rattle.hashtree.proofs.Heights.{height_enough}
 use Rattle.hashtree.proofs.Pairs.{two-pow}
+use Rattle.folders.specs.Collecting.{Collects}
 use Rattle.gathering.specs.Gathered.{KeepsDigests, piece_hashes}
-use Rattle.gathering.specs.Hashing.{AreHashesOf, Begins, BeginsCuts, Builds, Cuts, CutsIf, EndsWithCuts, EndsWithHashes, Hashes, MayEndWithout}
+use Rattle.gathering.specs.Hashing.{AreHashesOf, Begins, BeginsCuts, Cuts, CutsIf, EndsWithCuts, EndsWithHashes, Hashes, MayEndWithout}
 use Rattle.gathering.specs.declared.hashing.FileHashes.{FileHashes}
 use Rattle.gathering.specs.declared.hashing.Hashing.{Hashing}
 use Rattle.hashtree.specs.LayerBuilder.{HasRefused, IsFedLayer, byte_count, chosen_layer, complete_count}
@@ -46,7 +47,7 @@ empty_told told none no_hashes piece_length hybrid = record {
 
 -- ---- a file that is not empty
 
-fed_whole : (before after : LayerBuilder) (content : List ℕ) → IsFedLayer before [] → (HasRefused after → ⊥) → Builds before content after → IsFedLayer after content
+fed_whole : (before after : LayerBuilder) (content : List ℕ) → IsFedLayer before [] → (HasRefused after → ⊥) → Collects before content after → IsFedLayer after content
 fed_whole before after content nothing works builds = elim builds.fed [
   | inl refused ↦ absurd (works refused)
   | inr fed ↦ fed.1 [] nothing
@@ -70,7 +71,7 @@ v1_told piece_length hybrid (Some b) (Some c) content v1 begins takes ends is =
 pub told_whole : (piece_length : ℕ) (hybrid : Bool) (before after : Hashing) (content : List ℕ) (told : FileHashes) → Begins piece_length hybrid before → Hashes before content after
     → EndsWithHashes after told → AreHashesOf piece_length hybrid content told
 told_whole piece_length hybrid before after content told begins hashes ends =
-    let tree = ends.tree content (fed_whole before.tree after.tree content begins.tree ends.works hashes.tree) in
+    let tree = ends.tree.1 content (fed_whole before.tree after.tree content begins.tree ends.tree.0 hashes.tree) in
     record {
       length_is = tree.0;
       root_is = λ _. tree.1;

@@ -1,5 +1,5 @@
 -- The order of listed paths, and what was gathered of a shelf that was listed.
-use Rattle.std.proofs.Common.{◌≡◌, ◌⊎◌, inr, ℕ, ◌+◌, ◌<◌, Bool, cond, List, [], ◌∷◌, length, map, take, get_or, Option, Some, Result, Ok, Err, refl, sym, ◌∙◌, ap, subst, arith}
+use Rattle.std.proofs.Common.{◌≡◌, inr, ℕ, ◌+◌, ◌<◌, Bool, cond, List, [], ◌∷◌, length, map, take, get_or, Option, Some, Result, Ok, Err, refl, sym, ◌∙◌, ap, subst, arith}
 use Rattle.std.specs.Prelude.{String, slice_get}
 use Rattle.std.specs.Global.{Global, Vec}
 use Rattle.std.specs.String.{string_bytes}
@@ -98,7 +98,7 @@ module _ {S F : Type 0} (opens : S → List (List ℕ) → Result (Option F) Dev
   told_at old new mid d (why.Refused r) v at stops = inr (at (λ e s. RefusesAt opens closes faults under seen e (path_bytes v) r s new) stops)
   told_at old new mid d why.Device v at stops = at (λ e s. Fails opens closes faults under seen s (path_bytes v) new) stops
   told_at old new mid d why.NoMemory v at stops =
-      inr (path_bytes v, at (λ e s. (new ≡ s) ⊎ LacksMemoryAt opens closes faults under seen e (path_bytes v) s new) stops)
+      inr (inr (path_bytes v, at (λ e s. LacksMemoryAt opens closes faults under seen e (path_bytes v) s new) stops))
   told_at old new mid d why.Changed v at stops = at (λ e s. Misses opens closes faults under seen s (path_bytes v) new) stops
 
   taken : (sorted : Paths) (n : ℕ) (path : List (List ℕ)) (v : Vec (String Global)) → slice_get (map path_bytes sorted) n ≡ Some path → v ≡ get_or sorted n v → path ≡ path_bytes v

@@ -1,8 +1,8 @@
 -- Paths that were gathered one after the other.
-use Rattle.std.proofs.Common.{◌≡◌, ℕ, ◌+◌, ◌<◌, Bool, List, [], ◌∷◌, ◌++◌, length, map, take, get_or, Option, Some, option_map, Result, refl, sym, ◌∙◌, ap, subst, add-one}
+use Rattle.std.proofs.Common.{◌≡◌, ◌⊎◌, inl, inr, ℕ, ◌+◌, ◌<◌, ◌≤◌, Bool, List, [], ◌∷◌, ◌++◌, length, map, take, get_or, Option, Some, option_map, Result, refl, sym, ◌∙◌, ap, subst, add-one, arith}
 use Rattle.std.specs.Prelude.{slice_get}
 use Rattle.std.proofs.Math.Seq.{take-suc}
-use Rattle.std.proofs.lemmas.Option.{get_or_from_slice_get, slice_get-get_or, slice_get-map, slice_get_within}
+use Rattle.std.proofs.lemmas.Option.{get_or_from_slice_get, same_Some, slice_get-get_or, slice_get-map, slice_get_within}
 use Rattle.benc.specs.Device.{SourceSeen}
 use Rattle.benc.specs.declared.device.DeviceFault.{DeviceFault}
 use Rattle.chains.proofs.Chains.{Chain-next}
@@ -15,6 +15,20 @@ use Rattle.gathering.specs.Gathering.{AreContents, HasGathered, Reads}
 -- the item of a list that another list is made of
 pub item_of : {A B : Type 0} (f : A → B) (xs : List A) (n : ℕ) (d : A) → n < length xs → slice_get (map f xs) n ≡ Some (f (get_or xs n d))
 item_of f xs n d inside = slice_get-map f xs n ∙ ap (option_map f) (slice_get-get_or xs n d inside)
+
+low_or_here : (n k : ℕ) → n < k + 1 → (n < k) ⊎ (n ≡ k)
+low_or_here n k low = grind (arith, low)
+
+-- none of the first paths has more components than the longest, and the next has not either
+pub within_more : (paths : List (List (List ℕ))) (k old now : ℕ) (here : List (List ℕ)) → slice_get paths k ≡ Some here → old ≤ now → length here ≤ now
+    → ((n : ℕ) (path : List (List ℕ)) → n < k → slice_get paths n ≡ Some path → length path ≤ old)
+    → (n : ℕ) (path : List (List ℕ)) → n < k + 1 → slice_get paths n ≡ Some path → length path ≤ now
+within_more paths k old now here there up long so_far n path low at = elim (low_or_here n k low) [
+  | inl less ↦ omega (arith, so_far n path less at, up)
+  | inr same ↦
+      let e : here ≡ path = same_Some here path (sym there ∙ ap (slice_get paths) (sym same) ∙ at) in
+      subst (λ p. length p ≤ now) e long
+]
 
 are_more : (under : List (List ℕ) → Option (Option (List ℕ))) (ps : List (List (List ℕ))) (cs : List (List ℕ)) (p : List (List ℕ)) (c : List ℕ)
     → AreContents under ps cs → Agrees (under p) (Some c) → AreContents under (ps ++ p ∷ []) (cs ++ c ∷ [])

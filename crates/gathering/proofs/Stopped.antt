@@ -21,12 +21,12 @@ module _ {S F : Type 0} (opens : S → List (List ℕ) → Result (Option F) Dev
       → VisitsFile opens closes faults under seen piece_length hybrid s path s' (Err f) → Stops opens closes faults under seen f d s path s'
   stops_visit d piece_length hybrid s path s' (why.Refused r) same kind (answer, content, reads, long) = record { content = content; reads = reads; refuses = inl (long, answer) }
   stops_visit d piece_length hybrid s path s' why.Device same kind fails = fails
-  stops_visit d piece_length hybrid s path s' why.NoMemory same kind (content, reads, short, kept) = inr (record {
+  stops_visit d piece_length hybrid s path s' why.NoMemory same kind (content, reads, short, kept) = record {
     content = content;
     reads = reads;
     short = short;
     takes = inl (subst (λ p. KeepsDigests p d.hybrid content) (sym same) (subst (λ h. KeepsDigests piece_length h content) (sym kind) kept));
-  })
+  }
   stops_visit d piece_length hybrid s path s' why.Changed same kind misses = misses
 
   -- the draft refused it
@@ -35,7 +35,7 @@ module _ {S F : Type 0} (opens : S → List (List ℕ) → Result (Option F) Dev
       → (r ≡ refusals.NoMemory → NoneHolds (add_rows d file)) → Stops opens closes faults under seen f d s path s'
   stops_add d s path s' content file r f is short reads told refused memory = elim told [
     | inl lacks ↦ subst (λ x. Stops opens closes faults under seen x d s path s') (sym lacks.1)
-        (inr (record { content = content; reads = reads; short = short; takes = inr (record { file = file; is = is; passes = memory lacks.0 }) }))
+        (record { content = content; reads = reads; short = short; takes = inr (record { file = file; is = is; passes = memory lacks.0 }) })
     | inr other ↦ subst (λ x. Stops opens closes faults under seen x d s path s') (sym other.1)
         (record { content = content; reads = reads; refuses = inr (short, record { file = file; is = is; first = refused other.0 }) })
   ]

@@ -1,19 +1,19 @@
 -- What reading a source and visiting a path told.
-use Rattle.std.proofs.Common.{◌≡◌, inr, ℕ, ◌+◌, ◌^◌, ◌<◌, Bool, List, [], ◌∷◌, length, Option, Some, None, option_map, Result, Ok, Err, refl, sym, ◌∙◌, ap, subst, arith}
-use Rattle.std.proofs.lemmas.Option.{same_Some}
+use Rattle.std.proofs.Common.{◌≡◌, inr, ℕ, ◌+◌, ◌^◌, ◌<◌, Bool, List, [], ◌∷◌, length, Option, Some, None, Result, Ok, Err, refl, sym, ◌∙◌, ap, subst, arith}
 use Rattle.benc.specs.Device.{SourceSeen, one_more}
 use Rattle.benc.specs.declared.device.DeviceFault.{DeviceFault}
-use Rattle.filetree.specs.declared.refusal.Refusal.TheVariants as refusals
 use Rattle.folders.specs.Shelf.{IsFound, more}
 use Rattle.folders.specs.TakeAll.{GaveMore, IsReadWithin, TookAll}
 use Rattle.folders.specs.Verdicts.{Agrees}
 use Rattle.folders.proofs.Pieces.{all_given, longer_content}
 use Rattle.gathering.specs.Gathering.{HandsBack, Reads}
 use Rattle.gathering.specs.Hashing.{AreHashesOf, Begins, EndsWithHashes, Hashes, MayEndWithout}
-use Rattle.gathering.specs.Reading.{CountsReading, ReadsFile, Told}
+use Rattle.folders.specs.TakeAll.{CountsReading}
+use Rattle.folders.specs.declared.read_fault.ReadFault.{ReadFault}
+use Rattle.folders.specs.declared.read_fault.ReadFault.TheVariants as fault
+use Rattle.folders.proofs.Visiting.{agrees_opened}
+use Rattle.gathering.specs.Reading.{ReadsFile, visit_of}
 use Rattle.gathering.specs.Steps.{VisitsFile}
-use Rattle.gathering.specs.declared.file_fault.FileFault.{FileFault}
-use Rattle.gathering.specs.declared.file_fault.FileFault.TheVariants as why
 use Rattle.gathering.specs.declared.hashing.FileHashes.{FileHashes}
 use Rattle.gathering.specs.declared.hashing.Hashing.{Hashing}
 use Rattle.gathering.proofs.Digests.{kept_digests, told_whole}
@@ -26,14 +26,14 @@ none (x ∷ xs) is = absurd (omega arith)
 
 -- the source has more bytes than the greatest length
 pub too_long : (piece_length : ℕ) (hybrid : Bool) (source source' : SourceSeen) → GaveMore source source' (2 ^ 46)
-    → ReadsFile piece_length hybrid source.left (Err (why.Refused refusals.Length))
+    → ReadsFile piece_length hybrid source.left (Ok None)
 too_long piece_length hybrid source source' read =
     let longer = longer_content source.left source'.left read.0 read.1.given in
-    (refl, longer.0, longer.2, omega (arith, longer.1, read.2))
+    (longer.0, longer.2, omega (arith, longer.1, read.2))
 
 -- it has none
 pub empty_read : (piece_length : ℕ) (hybrid : Bool) (source source' : SourceSeen) (before after : Hashing) (count : ℕ) (told : FileHashes)
-    → TookAll Hashes source source' (2 ^ 46) before after count → count ≡ 0 → AreHashesOf piece_length hybrid [] told → ReadsFile piece_length hybrid source.left (Ok told)
+    → TookAll Hashes source source' (2 ^ 46) before after count → count ≡ 0 → AreHashesOf piece_length hybrid [] told → ReadsFile piece_length hybrid source.left (Ok (Some told))
 empty_read piece_length hybrid source source' before after count told read is hashes = (
   read.bytes,
   λ known at. all_given source source' read.bytes known read.gave read.ended at,
@@ -43,7 +43,7 @@ empty_read piece_length hybrid source source' before after count told read is ha
 
 -- it was hashed
 pub whole_read : (piece_length : ℕ) (hybrid : Bool) (source source' : SourceSeen) (before after : Hashing) (count : ℕ) (told : FileHashes)
-    → TookAll Hashes source source' (2 ^ 46) before after count → Begins piece_length hybrid before → EndsWithHashes after told → ReadsFile piece_length hybrid source.left (Ok told)
+    → TookAll Hashes source source' (2 ^ 46) before after count → Begins piece_length hybrid before → EndsWithHashes after told → ReadsFile piece_length hybrid source.left (Ok (Some told))
 whole_read piece_length hybrid source source' before after count told read begins ends = (
   read.bytes,
   λ known is. all_given source source' read.bytes known read.gave read.ended is,
@@ -54,7 +54,7 @@ whole_read piece_length hybrid source source' before after count told read begin
 -- memory was refused
 pub refused_read : (piece_length : ℕ) (hybrid : Bool) (source source' : SourceSeen) (before after : Hashing) (count : ℕ)
     → TookAll Hashes source source' (2 ^ 46) before after count → (count ≡ 0 → ⊥) → Begins piece_length hybrid before → MayEndWithout after
-    → ReadsFile piece_length hybrid source.left (Err why.NoMemory)
+    → ReadsFile piece_length hybrid source.left (Err fault.NoMemory)
 refused_read piece_length hybrid source source' before after count read some begins why = (
   read.bytes,
   λ known is. all_given source source' read.bytes known read.gave read.ended is,
@@ -66,14 +66,6 @@ refused_read piece_length hybrid source source' before after count read some beg
     positive count n some is = grind (arith, some, is)
 
 -- ---- a shelf
-
-some_of : (left : Option (List ℕ)) (content : List ℕ) (there : Option (List ℕ)) → Told left content → Some left ≡ option_map Some there → there ≡ Some content
-some_of left content None told e = let no : ⊥ = cc in absurd no
-some_of left content (Some known) told e = ap Some (told known (same_Some left (Some known) e))
-
-agrees_opened : (told : Option (Option (List ℕ))) (left : Option (List ℕ)) (content : List ℕ) → IsFound told (Some left) → Told left content → Agrees told (Some content)
-agrees_opened None left content found is there e = let no : ⊥ = cc in absurd no
-agrees_opened (Some stands) left content found is there e = some_of left content there is (found ∙ ap (option_map Some) (same_Some stands there e))
 
 module _ {S F : Type 0} (opens : S → List (List ℕ) → Result (Option F) DeviceFault → S → Type 0) (closes : S → F → S → Type 0) (faults : S → ℕ)
     (under : S → List (List ℕ) → Option (Option (List ℕ))) (seen : F → SourceSeen) where
@@ -90,7 +82,7 @@ module _ {S F : Type 0} (opens : S → List (List ℕ) → Result (Option F) Dev
   handed : (s : S) (path : List (List ℕ)) (mid : S) (file read : F) (s' : S) → IsVisit s path mid file read s' → HandsBack opens closes faults under seen s path file s'
   handed s path mid file read s' v = record { between = mid; opened = v.opened; read = read; within = v.within; closed = v.closed }
 
-  reads : (s : S) (path : List (List ℕ)) (mid : S) (file read : F) (s' : S) (content : List ℕ) → IsVisit s path mid file read s' → Told (seen file).left content
+  reads : (s : S) (path : List (List ℕ)) (mid : S) (file read : F) (s' : S) (content : List ℕ) → IsVisit s path mid file read s' → Agrees (seen file).left content
       → (seen read).faults ≡ (seen file).faults → Reads opens closes faults under seen s path content s'
   reads s path mid file read s' content v told quiet = record {
     file = file;
@@ -100,14 +92,13 @@ module _ {S F : Type 0} (opens : S → List (List ℕ) → Result (Option F) Dev
     quiet = v.added ∙ ap (more (faults mid)) (quiet ∙ v.fresh) ∙ v.steady;
   }
 
-  pub visited : (piece_length : ℕ) (hybrid : Bool) (s : S) (path : List (List ℕ)) (mid : S) (file read : F) (s' : S) (r : Result FileHashes FileFault) → IsVisit s path mid file read s'
+  pub visited : (piece_length : ℕ) (hybrid : Bool) (s : S) (path : List (List ℕ)) (mid : S) (file read : F) (s' : S) (r : Result (Option FileHashes) ReadFault) → IsVisit s path mid file read s'
       → ReadsFile piece_length hybrid (seen file).left r → CountsReading (seen file).faults (seen read).faults r
-      → VisitsFile opens closes faults under seen piece_length hybrid s path s' r
-  visited piece_length hybrid s path mid file read s' (Ok told) v (content, is, short, hashes) quiet = (content, reads s path mid file read s' content v is quiet, short, hashes)
-  visited piece_length hybrid s path mid file read s' (Err (why.Refused r)) v (answer, content, is, long) quiet = (answer, content, reads s path mid file read s' content v is quiet, long)
-  visited piece_length hybrid s path mid file read s' (Err why.Device) v read_is counted = record {
+      → VisitsFile opens closes faults under seen piece_length hybrid s path s' (visit_of r)
+  visited piece_length hybrid s path mid file read s' (Ok (Some told)) v (content, is, short, hashes) quiet = (content, reads s path mid file read s' content v is quiet, short, hashes)
+  visited piece_length hybrid s path mid file read s' (Ok None) v (content, is, long) quiet = (refl, content, reads s path mid file read s' content v is quiet, long)
+  visited piece_length hybrid s path mid file read s' (Err fault.Device) v read_is counted = record {
     counted = v.added ∙ ap (more (faults mid)) (counted ∙ ap one_more v.fresh) ∙ ap one_more v.steady;
     failed = inr (file, handed s path mid file read s' v);
   }
-  visited piece_length hybrid s path mid file read s' (Err why.NoMemory) v (content, is, short, kept) quiet = (content, reads s path mid file read s' content v is quiet, short, kept)
-  visited piece_length hybrid s path mid file read s' (Err why.Changed) v read_is quiet = absurd read_is
+  visited piece_length hybrid s path mid file read s' (Err fault.NoMemory) v (content, is, short, kept) quiet = (content, reads s path mid file read s' content v is quiet, short, kept)

@@ -1,6 +1,6 @@
 -- How a draft is gathered from a shelf: each listed path is opened once, in the order of the file
 -- tree, read once, and handed back.
-use Rattle.std.specs.Prelude.{◌≡◌, ◌⊎◌, ℕ, ◌+◌, ◌^◌, ◌≤◌, Bool, false, List, [], ◌∷◌, length, take, slice_get, Option, Some, None, Result, Ok, Err}
+use Rattle.std.specs.Prelude.{◌≡◌, ◌⊎◌, ℕ, ◌+◌, ◌^◌, ◌<◌, ◌≤◌, Bool, false, List, [], ◌∷◌, length, take, slice_get, Option, Some, None, Result, Ok, Err}
 use Rattle.std.specs.Cmp.Lexicographic.{slice_cmp}
 use Rattle.std.specs.List.Sorted.{IsSorted}
 use Rattle.std.specs.Ordering.{nat_cmp}
@@ -31,6 +31,11 @@ pub record ListsOnce (there : Listing) (paths : List (List (List ℕ))) : Type 0
 pub record IsSortedListing (told : Option Listing) (paths : List (List (List ℕ))) : Type 0 where
   pub in_order : IsSorted (slice_cmp (slice_cmp nat_cmp)) paths
   pub listed : (there : Listing) → told ≡ Some there → ListsOnce there paths
+
+-- one of the paths has a component
+abbrev pub HasComponents : List (List (List ℕ)) → Type 0
+HasComponents paths =
+    (n : ℕ) × (path : List (List ℕ)) × (slice_get paths n ≡ Some path) × (0 < length path)
 
 -- each path has its content, which is the one that the shelf tells if it does
 abbrev pub AreContents : (List (List ℕ) → Option (Option (List ℕ))) → List (List (List ℕ))
@@ -137,13 +142,23 @@ module _ {S F : Type 0} (opens : S → List (List ℕ) → Result (Option F) Dev
       pub told : IsListed (listing old) (Err f)
       pub counted : CountsListing (faults old) (faults new) (Err f)
 
-    -- memory was refused: before the shelf was looked at; before a path was opened; or when it was
-    -- read
+    -- memory was refused for the components of the longest listed path: the shelf was listed, and
+    -- nothing else
+    pub record LacksMemoryForPaths (old new : S) : Type 0 where
+      pub legal : IsPieceLength piece_length
+      pub paths : List (List (List ℕ))
+      pub sorted : IsSortedListing (listing old) paths
+      pub some : HasComponents paths
+      pub quiet : faults new ≡ faults old
+      pub kept : (p : List (List ℕ)) → under new p ≡ under old p
+
+    -- memory was refused: for the draft, before the shelf was looked at; once for the components of
+    -- the paths, before the first was opened; or at a path, once it was read
     abbrev pub LacksMemory : S → S → Type 0
     LacksMemory old new =
         (IsPieceLength piece_length × (new ≡ old))
-        ⊎ ((path : List (List ℕ)) × StopsAt old path
-        (λ d mid. (new ≡ mid) ⊎ LacksMemoryAt d path mid new))
+        ⊎ (LacksMemoryForPaths old new
+        ⊎ ((path : List (List ℕ)) × StopsAt old path (λ d mid. LacksMemoryAt d path mid new)))
 
     -- what `gather` did, by its answer
     abbrev pub Gathers : S → S → Result Outline GatherFault → Type 0

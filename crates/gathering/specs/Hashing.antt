@@ -1,12 +1,12 @@
 -- The hashing of one file's bytes, as they are read: for its root and its piece layer, and for a
 -- hybrid for the digests of its cuts.
-use Rattle.std.specs.Prelude.{◌≡◌, ◌⊎◌, ℕ, ◌+◌, ◌^◌, ◌<◌, ◌≤◌, Bool, true, false, List, [], length, Option, Some, None, IsSome, ⊤}
+use Rattle.std.specs.Prelude.{◌≡◌, ◌⊎◌, ℕ, ◌<◌, Bool, true, false, List, [], length, Option, Some, None, IsSome, ⊤}
+use Rattle.folders.specs.Collecting.{CanCollect, Collects, EndsWithWhole, MayLackMemory}
 use Rattle.gathering.specs.Gathered.{piece_hashes}
 use Rattle.gathering.specs.declared.hashing.FileHashes.{FileHashes}
 use Rattle.gathering.specs.declared.hashing.Hashing.{Hashing}
-use Rattle.hashtree.specs.LayerBuilder.{EndTakesMemory, EndsWithLayer, FeedsLayer, HasRefused, IsFedLayer, byte_count, chosen_layer, complete_count}
+use Rattle.hashtree.specs.LayerBuilder.{HasRefused, IsFedLayer, byte_count, chosen_layer}
 use Rattle.hashtree.specs.Tree.{root_of}
-use Rattle.hashtree.specs.declared.layer.LayerBuilder.{LayerBuilder}
 use Rattle.opening.specs.PieceLayers.{piece_layer}
 use Rattle.pieces.specs.FileCuts.{EndsWithFile, FeedsCuts, IsFedCuts, IsV1File}
 use Rattle.pieces.specs.FileCuts as cut
@@ -30,19 +30,6 @@ pub record Begins (piece_length : ℕ) (hybrid : Bool) (h : Hashing) : Type 0 wh
 
 -- ---- parts
 
--- a builder of a layer was pushed these bytes, or memory was refused to it; it is refused only if a
--- node of the layer is complete
-pub record Builds (old : LayerBuilder) (bytes : List ℕ) (new : LayerBuilder) : Type 0 where
-  pub layer : chosen_layer new ≡ chosen_layer old
-  pub at_most : byte_count new ≤ byte_count old + length bytes
-  pub at_least : byte_count old ≤ byte_count new
-  pub again : HasRefused old → HasRefused new
-  pub fed : HasRefused new
-      ⊎ ((byte_count new ≡ byte_count old + length bytes) × FeedsLayer old new bytes)
-  pub why : HasRefused new → (file : List ℕ) → IsFedLayer old file
-      → HasRefused old
-      ⊎ (0 < complete_count (chosen_layer old) (byte_count old + length bytes))
-
 -- digests of cuts were pushed these bytes, or memory was refused to them
 pub record Cuts (old : V1Cuts) (bytes : List ℕ) (new : V1Cuts) : Type 0 where
   pub again : cut.HasRefused old → cut.HasRefused new
@@ -57,12 +44,12 @@ CutsIf (Some old) bytes (Some new) = Cuts old bytes new
 
 -- these bytes were hashed, unless memory was refused
 pub record Hashes (old : Hashing) (bytes : List ℕ) (new : Hashing) : Type 0 where
-  pub tree : Builds old.tree bytes new.tree
+  pub tree : Collects old.tree bytes new.tree
   pub cuts : CutsIf old.cuts bytes new.cuts
 
 -- a file of at most 2 ^ 46 bytes has room for so many more
 abbrev pub CanHash : Hashing → ℕ → Type 0
-CanHash h n = byte_count h.tree + n ≤ 2 ^ 46
+CanHash h n = CanCollect h.tree n
 
 -- ---- the end
 
@@ -73,14 +60,12 @@ EndsWithCuts (Some c) v1 = (cut.HasRefused c → ⊥) × EndsWithFile c v1
 
 -- what was hashed tells this
 pub record EndsWithHashes (h : Hashing) (told : FileHashes) : Type 0 where
-  pub works : HasRefused h.tree → ⊥
-  pub tree : EndsWithLayer h.tree told.length told.root told.layer.items
+  pub tree : EndsWithWhole h.tree told.length told.root told.layer.items
   pub cuts : EndsWithCuts h.cuts told.v1
 
 -- memory may be refused: in a hybrid, or after a refusal, or for the last node of the layer
 abbrev pub MayEndWithout : Hashing → Type 0
-MayEndWithout h = IsSome h.cuts
-    ⊎ (HasRefused h.tree ⊎ ((byte_count h.tree ≡ 0) ⊎ EndTakesMemory h.tree))
+MayEndWithout h = IsSome h.cuts ⊎ MayLackMemory h.tree
 
 -- ---- a whole file
 

@@ -1,6 +1,6 @@
 -- What visiting one path of a shelf told, and what was added to a draft. Public clauses do not name
 -- these.
-use Rattle.std.specs.Prelude.{◌≡◌, ◌⊎◌, ℕ, ◌^◌, ◌<◌, ◌≤◌, Bool, List, length, take, slice_get, Option, Some, Result, Ok, Err}
+use Rattle.std.specs.Prelude.{◌≡◌, ℕ, ◌^◌, ◌<◌, ◌≤◌, Bool, List, length, take, slice_get, Option, Some, Result, Ok, Err}
 use Rattle.benc.specs.Device.{SourceSeen}
 use Rattle.benc.specs.declared.device.DeviceFault.{DeviceFault}
 use Rattle.drafts.specs.Outline.{Outline}
@@ -13,6 +13,11 @@ use Rattle.gathering.specs.declared.file_fault.FileFault.TheVariants as file
 use Rattle.gathering.specs.declared.gathering.Stop.{Stop}
 use Rattle.gathering.specs.declared.hashing.FileHashes.{FileHashes}
 use Rattle.folders.specs.Shelf.{Listing}
+
+-- no path has more components than this
+abbrev pub AreWithin : List (List (List ℕ)) → ℕ → Type 0
+AreWithin paths room = (n : ℕ) (path : List (List ℕ)) → slice_get paths n ≡ Some path
+    → length path ≤ room
 
 module _ {S F : Type 0} (opens : S → List (List ℕ) → Result (Option F) DeviceFault → S → Type 0)
     (closes : S → F → S → Type 0) (faults : S → ℕ)
@@ -38,8 +43,7 @@ module _ {S F : Type 0} (opens : S → List (List ℕ) → Result (Option F) Dev
   abbrev pub Stops : FileFault → Outline → S → List (List ℕ) → S → Type 0
   Stops (file.Refused r) d s path s' = RefusesAt opens closes faults under seen d path r s s'
   Stops file.Device d s path s' = Fails opens closes faults under seen s path s'
-  Stops file.NoMemory d s path s' =
-      (s' ≡ s) ⊎ LacksMemoryAt opens closes faults under seen d path s s'
+  Stops file.NoMemory d s path s' = LacksMemoryAt opens closes faults under seen d path s s'
   Stops file.Changed d s path s' = Misses opens closes faults under seen s path s'
 
   -- a path was added to the draft d, which is e then, or why not

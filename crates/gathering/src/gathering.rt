@@ -1,10 +1,11 @@
 //! The gathering of a draft: all files of a shelf, one after the other.
-ghost use Rattle.std.specs.Prelude.{◌≡◌, ℕ, ◌<◌, List, length, map, IfOk};
+ghost use Rattle.std.specs.Prelude.{◌≡◌, ℕ, ◌<◌, ◌≤◌, List, length, map};
 ghost use Rattle.std.specs.String.{string_bytes};
+ghost use Rattle.std.specs.Vec.{vec_capacity};
 ghost use Rattle.drafts.specs.Outline.{empty_outline};
 ghost use Rattle.folders.specs.Shelf.{path_bytes};
-ghost use Rattle.gathering.specs.Gathering.{Gathers};
-ghost use Rattle.gathering.specs.Steps.{AddsAll, AddsPath};
+ghost use Rattle.gathering.specs.Gathering.{Gathers, HasComponents};
+ghost use Rattle.gathering.specs.Steps.{AddsAll, AddsPath, AreWithin};
 ghost use Rattle.pieces.specs.Pieces.{IsPieceLength};
 
 use crate::file_fault::FileFault;
@@ -14,7 +15,6 @@ use crate::kind::Kind;
 use crate::visiting::hash_file;
 use drafts::Draft;
 use folders::Shelf;
-use hashtree::NoMemory;
 use std::alloc::Global;
 
 // Why not all files were added: the number of the path at which it stopped, and what happened.
@@ -38,7 +38,9 @@ struct Stop {
 /// not be opened or not be read; `Refused` with `Length` if it has more than 2^46 bytes, and else
 /// with what the draft of the files before it refuses it for. The shelf's count of failures grows
 /// by one at `Device` and at `List` of `Device`, and else stays. `NoMemory` comes only if memory
-/// was refused.
+/// was refused: for the draft, before the shelf is listed; once for the components of the longest
+/// path, before the first path is opened; or at a path once it was read, for its digests or for the
+/// draft, which takes it.
 pub fn gather<S: Shelf>(
     alloc: Global,
     shelf: &mut S,
@@ -60,20 +62,40 @@ pub fn gather<S: Shelf>(
         Err(fault) => return Err(GatherFault::List(fault)),
     };
     paths.sort_unstable();
-    match add_files(alloc, shelf, &mut draft, &paths, &kind) {
+    let Ok(parts) = Vec::with_capacity(alloc, longest(&paths)) else {
+        return Err(GatherFault::NoMemory);
+    };
+    match add_files(alloc, shelf, &mut draft, &paths, parts, &kind) {
         Ok(()) => Ok(draft),
         Err(stop) => Err(stop.fault.at(paths.swap_remove(stop.number))),
     }
 }
 
-// Adds the files under these paths.
-fn add_files<S: Shelf>(
+// The number of components of the longest path.
+fn longest(paths: &[Vec<String>]) -> usize
+    ensures within { AreWithin (map path_bytes paths.now) result }
+    ensures some { 0 < result → HasComponents (map path_bytes paths.now) }
+{
+    let mut longest = 0;
+    'counts: for number in 0..paths.len() {
+        let count = paths[number].len();
+        if count > longest {
+            longest = count;
+        }
+    }
+    longest
+}
+
+// Adds the files under these paths. The list has room for the components of each.
+fn add_files<'p, S: Shelf>(
     alloc: Global,
     shelf: &mut S,
     draft: &mut Draft,
-    paths: &[Vec<String>],
+    paths: &'p [Vec<String>],
+    mut parts: Vec<&'p str>,
     kind: &Kind,
 ) -> Result<(), Stop>
+    requires room { AreWithin (map path_bytes paths.now) (vec_capacity parts) }
     requires legal { IsPieceLength kind.now.piece_length }
     requires empty { draft.old
         ≡ empty_outline draft.old.name kind.now.piece_length kind.now.hybrid }
@@ -84,7 +106,8 @@ fn add_files<S: Shelf>(
 {
     let mut buffer = [0u8; 65536];
     'paths: for number in 0..paths.len() {
-        if let Err(fault) = add_file(alloc, shelf, draft, &paths[number], kind, &mut buffer) {
+        put_parts(&paths[number], &mut parts);
+        if let Err(fault) = add_file(alloc, shelf, draft, &parts, kind, &mut buffer) {
             return Err(Stop { number, fault });
         }
     }
@@ -96,7 +119,7 @@ fn add_file<S: Shelf>(
     alloc: Global,
     shelf: &mut S,
     draft: &mut Draft,
-    path: &[String],
+    path: &[&str],
     kind: &Kind,
     buffer: &mut [u8],
 ) -> Result<(), FileFault>
@@ -105,32 +128,26 @@ fn add_file<S: Shelf>(
     requires piece_length { draft.old.piece_length ≡ kind.now.piece_length }
     requires hybrid { draft.old.hybrid ≡ kind.now.hybrid }
     ensures adds { AddsPath S.opens S.closes S.faults S.under S.File.seen draft.old shelf.old
-        (map string_bytes path.now) draft.new shelf.new result }
+        (map (λ s. s.now) path.now) draft.new shelf.new result }
     ensures kept { (p : List (List ℕ)) → S.under shelf.new p ≡ S.under shelf.old p }
     ensures buffer { length buffer.new ≡ length buffer.old }
 {
-    let parts = parts_of(alloc, path)?;
-    let hashes = hash_file(alloc, shelf, &parts, kind, buffer)?;
+    let hashes = hash_file(alloc, shelf, path, kind, buffer)?;
     are_hashes(&hashes.layer);
-    draft.add(
-        &parts,
-        hashes.length,
-        hashes.root,
-        &hashes.layer,
-        &hashes.v1,
-    )?;
+    draft.add(path, hashes.length, hashes.root, &hashes.layer, &hashes.v1)?;
     Ok(())
 }
 
-// The components of a path.
-fn parts_of<'p>(alloc: Global, path: &'p [String]) -> Result<Vec<&'p str>, NoMemory>
-    ensures { IfOk result (λ parts. map (λ s. s.now) parts.items ≡ map string_bytes path.now) }
+// Puts the components of a path into a list that has room for them, in place of what it has.
+fn put_parts<'p>(path: &'p [String], parts: &mut Vec<&'p str>)
+    requires room { length path.now ≤ vec_capacity parts.old }
+    ensures parts { map (λ s. s.now) parts.new.items ≡ map string_bytes path.now }
+    ensures no_memory { vec_capacity parts.new ≡ vec_capacity parts.old }
 {
-    let mut parts = Vec::with_capacity(alloc, path.len())?;
+    parts.clear();
     'parts: for part in path {
-        parts.push(part.as_str())?;
+        parts.push_reserved(part.as_str());
     }
-    Ok(parts)
 }
 
 #[cfg(test)]

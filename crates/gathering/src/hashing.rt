@@ -4,7 +4,7 @@ ghost use Rattle.std.specs.Prelude.{[], All, IfOk, IsSome, OnErr, length, ◌≡
 ghost use Rattle.gathering.specs.Hashing.{Begins, BeginsCuts, EndsWithCuts, EndsWithHashes, MayEndWithout};
 
 use crate::kind::Kind;
-use folders::Taker;
+use folders::{Taker, finish_layer};
 use hashtree::{Hash, LayerBuilder, NoMemory};
 use pieces::{V1Cuts, V1File};
 use std::alloc::Global;
@@ -67,10 +67,7 @@ impl Hashing {
         ensures told { IfOk result (EndsWithHashes self) }
         ensures memory { OnErr result (MayEndWithout self) }
     {
-        if self.tree.is_empty() {
-            return Err(NoMemory);
-        }
-        let (length, root, layer) = self.tree.finish()?;
+        let (length, root, layer) = finish_layer(self.tree)?;
         let v1 = finish_cuts(alloc, self.cuts)?;
         Ok(FileHashes {
             length,
@@ -112,7 +109,7 @@ impl Taker for Hashing {
     ghost took = { Hashes };
 
     fn take(&mut self, part: &[u8]) {
-        let _ = self.tree.push(part);
+        self.tree.take(part);
         if let Some(cuts) = &mut self.cuts {
             let _ = cuts.push(part);
         }

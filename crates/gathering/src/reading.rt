@@ -1,25 +1,23 @@
 //! The reading of one opened file.
 ghost use Rattle.std.specs.Prelude.{◌≡◌, ◌+◌, ◌^◌, ◌<◌, length};
-ghost use Rattle.folders.specs.TakeAll.{IsReadWithin};
-ghost use Rattle.gathering.specs.Reading.{CountsReading, ReadsFile};
+ghost use Rattle.folders.specs.TakeAll.{CountsReading, IsReadWithin};
+ghost use Rattle.gathering.specs.Reading.{ReadsFile};
 
-use crate::file_fault::FileFault;
 use crate::hashing::{FileHashes, Hashing};
 use crate::kind::Kind;
 use benc::Source;
-use filetree::Refusal;
-use folders::take_all;
+use folders::{ReadFault, take_all};
 use hashtree::MAX_LENGTH;
 use std::alloc::Global;
 
 /// Reads a source through the buffer to its end, or to one byte past the greatest length, and tells
-/// what a draft is told of its content. A content above that length is refused for it.
+/// what a draft is told of its content; `None` of a content above that length.
 pub(crate) fn read_file<F: Source>(
     alloc: Global,
     source: &mut F,
     kind: &Kind,
     buffer: &mut [u8],
-) -> Result<FileHashes, FileFault>
+) -> Result<Option<FileHashes>, ReadFault>
     requires { 0 < length buffer.old }
     ensures read { ReadsFile kind.now.piece_length kind.now.hybrid (F.seen source.old).left result }
     ensures counts { CountsReading (F.seen source.old).faults (F.seen source.new).faults result }
@@ -27,12 +25,9 @@ pub(crate) fn read_file<F: Source>(
     ensures buffer { length buffer.new ≡ length buffer.old }
 {
     let mut hashing = Hashing::new(alloc, kind);
-    let Ok(count) = take_all(source, MAX_LENGTH, buffer, &mut hashing) else {
-        return Err(FileFault::Device);
-    };
-    match count {
-        None => Err(FileFault::Refused(Refusal::Length)),
-        Some(0) => Ok(FileHashes::empty(alloc)),
-        Some(_) => Ok(hashing.finish(alloc)?),
+    match take_all(source, MAX_LENGTH, buffer, &mut hashing)? {
+        None => Ok(None),
+        Some(0) => Ok(Some(FileHashes::empty(alloc))),
+        Some(_) => Ok(Some(hashing.finish(alloc)?)),
     }
 }

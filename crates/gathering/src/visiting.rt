@@ -1,12 +1,14 @@
 //! The visit of one path of a shelf.
 ghost use Rattle.std.specs.Prelude.{◌≡◌, ℕ, ◌<◌, List, length, map};
+ghost use Rattle.gathering.specs.Reading.{visit_of};
 ghost use Rattle.gathering.specs.Steps.{VisitsFile};
 
 use crate::file_fault::FileFault;
 use crate::hashing::FileHashes;
 use crate::kind::Kind;
 use crate::reading::read_file;
-use folders::Shelf;
+use filetree::Refusal;
+use folders::{ReadFault, Shelf};
 use std::alloc::Global;
 
 /// Opens the file under this path, hashes it, and hands it back.
@@ -27,9 +29,21 @@ pub(crate) fn hash_file<S: Shelf>(
         Ok(Some(mut source)) => {
             let read = read_file(alloc, &mut source, kind, buffer);
             shelf.close(source);
-            read
+            told(read)
         }
         Ok(None) => Err(FileFault::Changed),
         Err(_) => Err(FileFault::Device),
+    }
+}
+
+// What a visit tells of what reading the file told.
+fn told(read: Result<Option<FileHashes>, ReadFault>) -> Result<FileHashes, FileFault>
+    ensures { result ≡ visit_of read }
+{
+    match read {
+        Ok(Some(hashes)) => Ok(hashes),
+        Ok(None) => Err(FileFault::Refused(Refusal::Length)),
+        Err(ReadFault::Device) => Err(FileFault::Device),
+        Err(ReadFault::NoMemory) => Err(FileFault::NoMemory),
     }
 }

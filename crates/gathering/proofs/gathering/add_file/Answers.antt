@@ -1,6 +1,5 @@
-use Rattle.std.proofs.Common.{◌≡◌, ◌∙◌, length, map, sym, ap, subst}
+use Rattle.std.proofs.Common.{◌≡◌, ◌∙◌, length, map, refl, sym, subst}
 use Rattle.std.specs.List.{All}
-use Rattle.std.specs.String.{string_bytes}
 use Rattle.std.proofs.lemmas.Result.{err_from_is_err_and}
 use Rattle.pieces.specs.Pieces.{IsPieceLength}
 use Rattle.gathering.proofs.Adding.{added_is, fits_layer, given_is, has_cuts, of_draft}
@@ -12,37 +11,33 @@ add-requires-clause-cuts g c =
     let visits = c.in_ok-hashes.ensures.visits in
     let d = c.args.draft.now in
     let hashes = of_draft d _ _ _ _ c.requires.piece_length c.requires.hybrid visits.3 in
-    has_cuts d _ _ _ (given_is d (map (λ s. s.now) c.deref-3.result.now) visits.0 c.in_ok-hashes.hashes hashes)
+    has_cuts d _ _ _ (given_is d (map (λ s. s.now) c.args.path.now) visits.0 c.in_ok-hashes.hashes hashes)
 
 pub add-requires-clause-layer : goal.add-requires-clause-layer
 add-requires-clause-layer g c =
     let visits = c.in_ok-hashes.ensures.visits in
     let d = c.args.draft.now in
     let hashes = of_draft d _ _ _ _ c.requires.piece_length c.requires.hybrid visits.3 in
-    fits_layer d _ visits.0 _ c.deref-4.result.now (subst IsPieceLength (sym c.requires.piece_length) c.requires.legal)
-    (given_is d (map (λ s. s.now) c.deref-3.result.now) visits.0 c.in_ok-hashes.hashes hashes)
-    (c.deref-4.ensures.value ∙ hashes.layer_is)
-    (subst (All (λ h. length h ≡ 32)) (c.deref-2.ensures.value ∙ sym c.deref-4.ensures.value) c.are_hashes.ensures)
+    fits_layer d _ visits.0 _ c.deref-2.result.now (subst IsPieceLength (sym c.requires.piece_length) c.requires.legal)
+    (given_is d (map (λ s. s.now) c.args.path.now) visits.0 c.in_ok-hashes.hashes hashes)
+    (c.deref-2.ensures.value ∙ hashes.layer_is)
+    (subst (All (λ h. length h ≡ 32)) (c.deref.ensures.value ∙ sym c.deref-2.ensures.value) c.are_hashes.ensures)
 
 pub returns-clause-adds : goal.returns-clause-adds
 returns-clause-adds g c =
     let visits = c.in_ok-hashes.ensures.visits in
     let d = c.args.draft.now in
     let hashes = of_draft d _ _ _ _ c.requires.piece_length c.requires.hybrid visits.3 in
-    let seen : map (λ s. s.now) c.deref.result.now ≡ map string_bytes c.args.path.now = ap (map (λ s. s.now)) c.deref.ensures.value ∙ c.in_ok-parts.ensures in
-    let same : map (λ s. s.now) c.deref-3.result.now ≡ map string_bytes c.args.path.now = ap (map (λ s. s.now)) c.deref-3.ensures.value ∙ c.in_ok-parts.ensures in
-    let file = given_is d (map (λ s. s.now) c.deref-3.result.now) visits.0 c.in_ok-hashes.hashes hashes in
-    added_path g.S.Shelf.opens g.S.Shelf.closes g.S.Shelf.faults g.S.Shelf.under g.S.File.Source.seen d _ _ _ _ _ _ visits.0 seen same visits.1
-    (added_is d _ _ visits.0 _ c.deref-4.result.now file (c.deref-4.ensures.value ∙ hashes.layer_is) c.in_ok-add.ensures.added.0 c.in_ok-add.ensures.added.1)
+    let file = given_is d (map (λ s. s.now) c.args.path.now) visits.0 c.in_ok-hashes.hashes hashes in
+    added_path g.S.Shelf.opens g.S.Shelf.closes g.S.Shelf.faults g.S.Shelf.under g.S.File.Source.seen d _ _ _ _ _ _ visits.0 refl refl visits.1
+    (added_is d _ _ visits.0 _ c.deref-2.result.now file (c.deref-2.ensures.value ∙ hashes.layer_is) c.in_ok-add.ensures.added.0 c.in_ok-add.ensures.added.1)
 
 pub returns-in_err-add-clause-adds : goal.returns-in_err-add-clause-adds
 returns-in_err-add-clause-adds g c =
     let visits = c.in_ok-hashes.ensures.visits in
     let d = c.args.draft.now in
     let hashes = of_draft d _ _ _ _ c.requires.piece_length c.requires.hybrid visits.3 in
-    let seen : map (λ s. s.now) c.deref.result.now ≡ map string_bytes c.args.path.now = ap (map (λ s. s.now)) c.deref.ensures.value ∙ c.in_ok-parts.ensures in
-    let same : map (λ s. s.now) c.deref-3.result.now ≡ map string_bytes c.args.path.now = ap (map (λ s. s.now)) c.deref-3.ensures.value ∙ c.in_ok-parts.ensures in
-    let file = given_is d (map (λ s. s.now) c.deref-3.result.now) visits.0 c.in_ok-hashes.hashes hashes in
+    let file = given_is d (map (λ s. s.now) c.args.path.now) visits.0 c.in_ok-hashes.hashes hashes in
     let p = err_from_is_err_and c.from_residual-in_err-add.result c.from_residual-in_err-add.ensures.1 in
-    refused_path g.S.Shelf.opens g.S.Shelf.closes g.S.Shelf.faults g.S.Shelf.under g.S.File.Source.seen d _ _ _ _ _ _ visits.0 _ _ p.0 _ seen same file visits.2 visits.1 p.2
+    refused_path g.S.Shelf.opens g.S.Shelf.closes g.S.Shelf.faults g.S.Shelf.under g.S.File.Source.seen d _ _ _ _ _ _ visits.0 _ _ p.0 _ refl refl file visits.2 visits.1 p.2
     c.in_err-add.ensures.added c.in_err-add.ensures.memory p.1

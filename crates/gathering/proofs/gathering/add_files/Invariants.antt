@@ -1,4 +1,5 @@
 use Rattle.std.proofs.Common.{◌≡◌, ℕ, List, map, take}
+use Rattle.std.specs.Vec.{vec_capacity}
 use Rattle.folders.specs.Shelf.{path_bytes}
 use Rattle.gathering.specs.Gathering.{HasGathered}
 use Rattle.gathering.proofs.gathering.add_files.Given as goal
@@ -7,6 +8,7 @@ abbrev pub invariant-paths : goal.invariant-paths
 invariant-paths g l = record {
   piece_length : l.draft.piece_length ≡ l.kind.piece_length;
   hybrid : l.draft.hybrid ≡ l.kind.hybrid;
+  capacity : vec_capacity l.parts ≡ vec_capacity l.fn.parts;
   kept : (p : List (List ℕ)) → g.S.Shelf.under l.shelf p ≡ g.S.Shelf.under l.fn.shelf p;
   so_far : HasGathered g.S.Shelf.opens g.S.Shelf.closes g.S.Shelf.faults g.S.Shelf.under g.S.File.Source.seen g.S.Shelf.listing l.fn.draft.name l.kind.piece_length l.kind.hybrid
       l.fn.shelf (take l.number (map path_bytes l.paths)) l.shelf l.draft;

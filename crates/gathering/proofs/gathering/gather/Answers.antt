@@ -1,5 +1,9 @@
-use Rattle.std.proofs.Common.{ap}
+use Rattle.std.proofs.Common.{◌≡◌, ℕ, ◌<◌, ap, inl, inr, length, map, subst, arith}
+use Rattle.std.proofs.lemmas.List.{length-map}
+use Rattle.std.proofs.lemmas.Option.{slice_get_within}
+use Rattle.folders.specs.Shelf.{path_bytes}
 use Rattle.drafts.specs.Outline.{Outline}
+use Rattle.gathering.specs.Gathering.{HasComponents}
 use Rattle.gathering.proofs.Listed.{gathers_all, sorted_listing, stopped_at}
 use Rattle.gathering.proofs.gathering.gather.Goals as goal
 
@@ -9,7 +13,7 @@ returns-in-Ok-add_files-clause-gathers g c =
     let named = ap (λ (d : Outline). d.name) c.in-Ok.ensures.empty.1 in
     gathers_all g.S.Shelf.opens g.S.Shelf.closes g.S.Shelf.faults g.S.Shelf.under g.S.File.Source.seen g.S.Shelf.listing c.args.name.now c.args.piece_length c.args.hybrid c.args.shelf.now _ _
     c.sort_unstable.new.self.items _ c.in-Ok.ensures.empty.0 sorted c.in-Ok-list.ensures.counts c.list.ensures.kept
-    (rw named at rw c.new-kind.ensures.piece_length at rw c.new-kind.ensures.hybrid at rw c.deref.ensures.value at c.in-Ok-add_files.ensures.adds)
+    (rw named at rw c.new-kind.ensures.piece_length at rw c.new-kind.ensures.hybrid at rw c.deref-2.ensures.value at c.in-Ok-add_files.ensures.adds)
 
 pub returns-in-Err-add_files-clause-gathers : goal.returns-in-Err-add_files-clause-gathers
 returns-in-Err-add_files-clause-gathers g c =
@@ -17,5 +21,24 @@ returns-in-Err-add_files-clause-gathers g c =
     let named = ap (λ (d : Outline). d.name) c.in-Ok.ensures.empty.1 in
     stopped_at g.S.Shelf.opens g.S.Shelf.closes g.S.Shelf.faults g.S.Shelf.under g.S.File.Source.seen g.S.Shelf.listing c.args.name.now c.args.piece_length c.args.hybrid c.args.shelf.now _ _
     c.sort_unstable.new.self.items c.in-Err-add_files.stop c.swap_remove.result _ c.in-Ok.ensures.empty.0 sorted c.in-Ok-list.ensures.counts c.list.ensures.kept
-    (rw named at rw c.new-kind.ensures.piece_length at rw c.new-kind.ensures.hybrid at rw c.deref.ensures.value at c.in-Err-add_files.ensures.adds)
+    (rw named at rw c.new-kind.ensures.piece_length at rw c.new-kind.ensures.hybrid at rw c.deref-2.ensures.value at c.in-Err-add_files.ensures.adds)
     c.swap_remove.ensures.value c.at-in-Err-add_files.ensures
+
+positive : (n : ℕ) → (n ≡ 0 → ⊥) → 0 < n
+positive n some = grind (arith, some)
+
+pub returns-in_default-clause-gathers : goal.returns-in_default-clause-gathers
+returns-in_default-clause-gathers g c =
+    inr (inl (record {
+      legal = c.in-Ok.ensures.empty.0;
+      paths = map path_bytes c.sort_unstable.new.self.items;
+      sorted = sorted_listing (g.S.Shelf.listing c.args.shelf.now) c.in-Ok-list.paths c.sort_unstable.new.self.items c.in-Ok-list.ensures.listed c.sort_unstable.ensures.permutation c.sort_unstable.ensures.sorted;
+      some = subst HasComponents (ap (map path_bytes) c.deref.ensures.value) (c.longest.ensures.some (positive c.longest.result (λ none. let is : _ = c.in_default.ensures.succeeds none in let no : ⊥ = cc in no)));
+      quiet = c.in-Ok-list.ensures.counts;
+      kept = c.list.ensures.kept;
+    }))
+
+pub swap_remove-requires : goal.swap_remove-requires
+swap_remove-requires g c =
+    let stops = c.in-Err-add_files.ensures.adds in
+    omega (arith, slice_get_within (map path_bytes c.deref-2.result.now) c.in-Err-add_files.stop.number stops.path stops.there, length-map c.deref-2.result.now (λ v. path_bytes v), ap length c.deref-2.ensures.value)
