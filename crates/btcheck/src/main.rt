@@ -1,17 +1,13 @@
 //! Checks the hash trees of BitTorrent version 2.
 #![tactic(auto)]
 
-mod answers;
-mod fault;
-mod folder;
 mod perform;
-mod places;
 mod streams;
 mod torrent_file;
 
 use checker::Fault;
 use command_line::{ExplainFault, action, explain};
-use fault::print_fault;
+use commands::print_fault;
 use std::process::ExitCode;
 use std::{env, io};
 

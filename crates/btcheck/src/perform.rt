@@ -1,12 +1,10 @@
 //! What each command does, on real files.
-use crate::answers;
-use crate::folder::Folder;
-use crate::places::{Places, all_bytes};
 use crate::streams::hold_closed_streams;
 use crate::torrent_file::read_torrent;
 use benc::{FromRead, FromWrite, Sink};
 use checker::Fault;
 use command_line::command::{Action, Convert, Create, Replay};
+use commands::{Folder, answers};
 use metainfo::{Draft, Torrent};
 use progress::{Cleared, Counted, Progress};
 use std::fs::File;
@@ -68,7 +66,7 @@ fn check_folder<'a, W: Sink + Drop>(
     out: W,
 ) -> Result<u8, Fault<'a>> {
     let progress = Progress::new(rt, Some(all_bytes(torrent)));
-    let mut folder = Folder::new(rt, dir, Some(Places::new(torrent)), &progress);
+    let mut folder = Folder::with_torrent(rt, dir, torrent, &progress);
     answers::check(
         rt.alloc(),
         torrent,
@@ -77,10 +75,19 @@ fn check_folder<'a, W: Sink + Drop>(
     )
 }
 
+// How many bytes the files of a torrent have.
+fn all_bytes(torrent: &Torrent<'_>) -> u64 {
+    let mut all: u64 = 0;
+    'files: for file in torrent.files() {
+        all = all.saturating_add(file.length);
+    }
+    all
+}
+
 // The torrent's file is opened once all files are hashed, and stays untouched if one is refused.
 fn create<'a>(rt: &HostRuntime, asked: &Create<'a>) -> Result<u8, Fault<'a>> {
     let progress = Progress::new(rt, None);
-    let mut folder = Folder::new(rt, asked.dir, None, &progress);
+    let mut folder = Folder::new(rt, asked.dir, &progress);
     let mut out = Cleared::new(FromWrite::new(io::writer(rt)), &progress);
     match answers::gather(rt.alloc(), asked, &mut folder, &mut out)? {
         Ok(draft) => write_torrent(rt, &draft, asked.out, &progress, &mut out),
@@ -179,7 +186,7 @@ fn replay_file<'a, W: Sink>(
     let answers = created(rt, asked.answers)?;
     let mut session = answers::new_session(rt.alloc(), torrent, asked.info_only)?;
     if let Some(dir) = asked.seed {
-        let mut folder = Folder::new(rt, dir, Some(Places::new(torrent)), progress);
+        let mut folder = Folder::with_torrent(rt, dir, torrent, progress);
         answers::seed(rt.alloc(), &mut session, &mut folder, out)?;
     }
     match answers {

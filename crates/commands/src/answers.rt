@@ -11,7 +11,7 @@ ghost use Rattle.checker.specs.Replay.{replay_seen};
 ghost use Rattle.checker.specs.Seeding.{IsSeeded, both};
 ghost use Rattle.drafts.specs.Written.{value_of};
 ghost use Rattle.session.specs.Fresh.{IsFresh};
-ghost use Rattle.btcheck.specs.Answers.{IsChecked, IsReplayed, answer_status};
+ghost use Rattle.commands.specs.Answers.{IsChecked, IsReplayed, answer_status};
 
 use benc::memory::MemSink;
 use benc::{Sink, Source};
@@ -27,7 +27,7 @@ use session::{NodeMap, Session};
 use std::alloc::Global;
 
 /// Prints the length and root of the file at this path. The status is 1 if the file is too long.
-pub(crate) fn root<'a, R: Source, W: Sink>(
+pub fn root<'a, R: Source, W: Sink>(
     path: &'a str,
     source: &mut R,
     out: &mut W,
@@ -43,7 +43,7 @@ pub(crate) fn root<'a, R: Source, W: Sink>(
 }
 
 /// Prints what a torrent holds.
-pub(crate) fn show<'a, W: Sink>(torrent: &Torrent<'_>, out: &mut W) -> Result<u8, Fault<'a>>
+pub fn show<'a, W: Sink>(torrent: &Torrent<'_>, out: &mut W) -> Result<u8, Fault<'a>>
     ensures status { IfOk result (λ s. s ≡ answer_status true) }
     ensures lines { OnOk result (SentAndFlushed (W.seen out.old) (W.seen out.new)
         (show_text torrent.now)) }
@@ -55,7 +55,7 @@ pub(crate) fn show<'a, W: Sink>(torrent: &Torrent<'_>, out: &mut W) -> Result<u8
 }
 
 /// Prints why a torrent was refused, or a file with this path that was to be in it.
-pub(crate) fn refuse<'a, W: Sink>(
+pub fn refuse<'a, W: Sink>(
     refusal: &Refusal,
     path: &[String],
     out: &mut W,
@@ -76,7 +76,7 @@ pub(crate) fn refuse<'a, W: Sink>(
 
 /// Checks that a shelf holds the torrent's files, and prints what it found. The status is 0 for
 /// `yes` and 1 for `no`.
-pub(crate) fn check<'a, S: Shelf, W: Sink>(
+pub fn check<'a, S: Shelf, W: Sink>(
     alloc: Global,
     torrent: &Torrent<'_>,
     shelf: &mut S,
@@ -93,7 +93,7 @@ pub(crate) fn check<'a, S: Shelf, W: Sink>(
 }
 
 /// A session that knows the torrent's piece layers, or its roots alone.
-pub(crate) fn new_session<'t, 'a>(
+pub fn new_session<'t, 'a>(
     alloc: Global,
     torrent: &'t Torrent<'t>,
     info_only: bool,
@@ -104,7 +104,7 @@ pub(crate) fn new_session<'t, 'a>(
 }
 
 /// Fills a session from a shelf, and prints a line for each file of the torrent.
-pub(crate) fn seed<'a, N: NodeMap, S: Shelf, W: Sink>(
+pub fn seed<'a, N: NodeMap, S: Shelf, W: Sink>(
     alloc: Global,
     session: &mut Session<'_, N>,
     shelf: &mut S,
@@ -122,7 +122,7 @@ pub(crate) fn seed<'a, N: NodeMap, S: Shelf, W: Sink>(
 }
 
 /// Replays a record over a session. Each line goes out as its frame comes.
-pub(crate) fn replay<'a, N: NodeMap, R: Source, W: Sink>(
+pub fn replay<'a, N: NodeMap, R: Source, W: Sink>(
     alloc: Global,
     session: &mut Session<'_, N>,
     source: &mut R,
@@ -140,7 +140,7 @@ pub(crate) fn replay<'a, N: NodeMap, R: Source, W: Sink>(
 
 /// Replays a record over a session, and writes the answers to its hash requests to the sink with
 /// this path.
-pub(crate) fn replay_and_answer<'a, N: NodeMap, R: Source, W: Sink, A: Sink>(
+pub fn replay_and_answer<'a, N: NodeMap, R: Source, W: Sink, A: Sink>(
     alloc: Global,
     session: &mut Session<'_, N>,
     source: &mut R,
@@ -163,7 +163,7 @@ pub(crate) fn replay_and_answer<'a, N: NodeMap, R: Source, W: Sink, A: Sink>(
 }
 
 /// Gathers a draft of all files on a shelf. Or prints a refusal, and gives the exit status.
-pub(crate) fn gather<'a, S: Shelf, W: Sink>(
+pub fn gather<'a, S: Shelf, W: Sink>(
     alloc: Global,
     asked: &Create<'a>,
     shelf: &mut S,
@@ -195,7 +195,7 @@ fn listing_fault<'a>(fault: ShelfFault, dir: &'a str) -> Fault<'a> {
 }
 
 /// Writes the torrent of a draft to the sink with this path, or prints a refusal.
-pub(crate) fn write_torrent<'a, W: Sink, O: Sink>(
+pub fn write_torrent<'a, W: Sink, O: Sink>(
     draft: &Draft,
     path: &'a str,
     torrent: &mut W,
@@ -214,7 +214,7 @@ pub(crate) fn write_torrent<'a, W: Sink, O: Sink>(
 }
 
 /// Converts the record with the first path, and writes it to the sink with the second.
-pub(crate) fn convert<'a, R: Source, W: Sink, O: Sink>(
+pub fn convert<'a, R: Source, W: Sink, O: Sink>(
     record: &'a str,
     source: &mut R,
     path: &'a str,

@@ -8,7 +8,7 @@ use std::process::ExitCode;
 
 /// Prints the fault's line on standard error, and gives the exit status of a fault. A line that
 /// cannot be written is lost.
-pub(crate) fn print_fault(rt: &HostRuntime, fault: &Fault<'_>) -> ExitCode
+pub fn print_fault(rt: &HostRuntime, fault: &Fault<'_>) -> ExitCode
     ensures { exit_status result ≡ 2 }
 {
     let _ = fault_line(fault, &mut FromWrite::new(rt.stderr()));

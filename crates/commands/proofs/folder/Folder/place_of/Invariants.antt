@@ -1,6 +1,6 @@
 use Rattle.std.proofs.Common.{◌≡◌, map, take, string_bytes}
-use Rattle.btcheck.specs.Places.{place_below}
-use Rattle.btcheck.proofs.folder.Folder.place_of.Given as goal
+use Rattle.commands.specs.Places.{place_below}
+use Rattle.commands.proofs.folder.Folder.place_of.Given as goal
 
 -- the components so far stand behind the folder
 abbrev pub invariant-parts : goal.invariant-parts

@@ -1,11 +1,12 @@
 //! A folder of the file system as a shelf.
 ghost use Rattle.std.specs.Prelude.{◌≡◌, [], ◌∷◌, ◌++◌, None, IfOk, ⊤, map, string_bytes};
-ghost use Rattle.btcheck.specs.Places.{place_below};
+ghost use Rattle.commands.specs.Places.{place_below};
 ghost use Rattle.benc.specs.Device.{one_more};
 
 use crate::places::Places;
 use benc::{DeviceFault, FromRead, Source};
 use checker::{Shelf, ShelfFault};
+use metainfo::Torrent;
 use progress::{Counted, Progress};
 use std::alloc::{AllocError, Global};
 use std::fs::{self, DirEntry, File};
@@ -17,7 +18,7 @@ use std::io::{self, ErrorKind};
 /// device. One that takes a file's place between the look and the opening is opened. Each read of a
 /// file is noted as progress.
 #[derive(Drop)]
-pub(crate) struct Folder<'a> {
+pub struct Folder<'a> {
     rt: &'a HostRuntime,
     dir: &'a str,
     faults: u64,
@@ -27,12 +28,25 @@ pub(crate) struct Folder<'a> {
 }
 
 impl<'a> Folder<'a> {
-    /// The folder with this path, for the files with these places, or for files that are listed. It
-    /// need not be there.
-    pub(crate) fn new(
+    /// The folder with this path, for files that are listed. It need not be there.
+    pub fn new(rt: &'a HostRuntime, dir: &'a str, progress: &'a Progress) -> Folder<'a>
+        ensures dir { result.dir.now ≡ dir.entry.now }
+        ensures faults { result.faults ≡ 0 }
+    {
+        Folder {
+            rt,
+            dir,
+            faults: 0,
+            places: None,
+            progress,
+        }
+    }
+
+    /// The folder with this path, for the files of a torrent. It need not be there.
+    pub fn with_torrent(
         rt: &'a HostRuntime,
         dir: &'a str,
-        places: Option<Places<'a>>,
+        torrent: &'a Torrent<'a>,
         progress: &'a Progress,
     ) -> Folder<'a>
         ensures dir { result.dir.now ≡ dir.entry.now }
@@ -42,7 +56,7 @@ impl<'a> Folder<'a> {
             rt,
             dir,
             faults: 0,
-            places,
+            places: Some(Places::new(torrent)),
             progress,
         }
     }

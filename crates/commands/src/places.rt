@@ -35,12 +35,3 @@ impl<'a> Places<'a> {
         self.passed
     }
 }
-
-/// How many bytes the files of a torrent have.
-pub(crate) fn all_bytes(torrent: &Torrent<'_>) -> u64 {
-    let mut all: u64 = 0;
-    'files: for file in torrent.files() {
-        all = all.saturating_add(file.length);
-    }
-    all
-}
