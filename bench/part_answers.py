@@ -1,6 +1,7 @@
 """`btcheck replay --answers` and `--seed`. 2,048 requests of 512 leaves with their uncles, eight times each, are answered
 from a tree of 2^20 leaves, beside copying the bytes of the answers; what a replay without a request takes, for the
-session, is left out. And a session is filled from a file, beside the bare digests of its blocks."""
+session, is left out. And a session is filled from a file, beside the bare digests of its blocks, and in little more
+memory than what it then knows takes."""
 import os
 import statistics
 import sys
@@ -15,6 +16,8 @@ from trees import Tree  # noqa: E402
 SPAN, LEAVES, TIMES = 512, 1 << 20, 8
 # Processor time: answers at most so often as long as copying them, seeding as the bare digests.
 ANSWERS_MARK, SEED_MARKS = 3, [("bare digests", 1.05)]
+SEED_MEMORY_MARK = 1024  # KiB beside the session
+PAGE_PLACES, PAGE_KIB = 512, 17
 
 
 def write(path, parts):
@@ -63,12 +66,17 @@ def seeding(folder, words):
     torrent = write(os.path.join(folder, "seeded"), [whole])
     found = measured({
         "seeding": [BTCHECK, "replay", torrent, "/dev/null", "--info-only", "--seed", content],
+        "no seeds": [BTCHECK, "replay", torrent, "/dev/null", "--info-only"],
         "root": [BTCHECK, "root", path],
         "bare digests": [BARE, "digests", path],
     }, words.rounds)
     print("seeding", end=": ")
     report(found, words.size, "seeding")
-    return missed_marks(found, "seeding", SEED_MARKS)
+    pages = sum(max(1, (1 << tree.height - layer) // PAGE_PLACES) for layer in range(tree.height + 1))
+    beside = found["seeding"].peak - found["no seeds"].peak - pages * PAGE_KIB
+    print(f"beside the session, of {pages} pages, seeding takes {beside} KiB")
+    missed = [f"seeding takes more than {SEED_MEMORY_MARK} KiB beside the session"] if beside > SEED_MEMORY_MARK else []
+    return missed + missed_marks(found, "seeding", SEED_MARKS)
 
 
 def run(folder, words):
