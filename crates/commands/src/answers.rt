@@ -55,11 +55,7 @@ pub fn show<'a, W: Sink>(torrent: &Torrent<'_>, out: &mut W) -> Result<u8, Fault
 }
 
 /// Prints why a torrent was refused, or a file with this path that was to be in it.
-pub fn refuse<'a, W: Sink>(
-    refusal: &Refusal,
-    path: &[String],
-    out: &mut W,
-) -> Result<u8, Fault<'a>>
+pub fn refuse<'a, W: Sink>(refusal: &Refusal, path: &[String], out: &mut W) -> Result<u8, Fault<'a>>
     ensures status { IfOk result (λ s. s ≡ answer_status false) }
     ensures line { OnOk result (SentAndFlushed (W.seen out.old) (W.seen out.new)
         (refusal_text refusal.now (map string_bytes path.now))) }

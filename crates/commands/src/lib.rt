@@ -2,7 +2,6 @@
 #![tactic(auto)]
 
 pub mod answers;
-
 mod fault;
 mod folder;
 mod places;
