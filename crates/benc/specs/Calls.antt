@@ -8,6 +8,6 @@ after_call None = None
 after_call (Some zero) = None
 after_call (Some (suc n)) = Some n
 
--- a call failed exactly where it was the one that is to
+-- a call failed exactly if it was the one that was to fail
 abbrev pub FailsInTurn : {A E : Type 0} → Calls → Result A E → Type 0
 FailsInTurn calls r = OnOk r (calls.before_fault ≢ Some 0) × OnErr r (calls.before_fault ≡ Some 0)

@@ -82,7 +82,7 @@ abbrev pub ParsesAs : {X Y : Type 0} → (X → Y) → Result X Stop → Result 
 ParsesAs view (Ok x) read = read ≡ Ok (view x)
 ParsesAs view (Err e) read = Stopped e read
 
--- where memory ran out, the fact holds of what is left from there on
+-- if memory ran out, the fact holds of what is left from the failing item on
 abbrev pub IfMemory : Stop → (List ℕ → Type 0) → Type 0
 IfMemory (stops.Memory rest) P = P rest.now
 IfMemory (stops.Fault f rest) P = Unit {0}

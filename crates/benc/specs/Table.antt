@@ -75,7 +75,7 @@ string_rows bytes = length_rows (digits_of_front bytes) (after_digits bytes)
 abbrev pub string_bytes : List ℕ → List ℕ
 string_bytes bytes = take (digits_value 10 (digits_of_front bytes)) (drop 1 (after_digits bytes))
 
--- a value, where `left` more lists and dictionaries may be opened
+-- a value, if `left` more lists and dictionaries may be opened
 abbrev pub value_rows : ℕ → List ℕ → List Row
 value_rows left [] = (true, Truncated) ∷ []
 value_rows left (c ∷ rest) =

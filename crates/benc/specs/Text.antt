@@ -38,5 +38,6 @@ abbrev mutual
   PairsFit room before (pair k v ps) =
       (length k < 10 ^ 10) × IsAbove k before × Fits room v × PairsFit room (Some k) ps
 
+-- the value has a spelling, in which at most 128 lists and dictionaries are open at once
 abbrev pub IsCanonical : Bencode → Type 0
 IsCanonical v = Fits max_open v

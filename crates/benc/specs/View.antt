@@ -37,5 +37,6 @@ pair_view = fold-Pair Bencode Seen view_step pair_step
 abbrev pub items_view : List Value → Items
 items_view vs = items_of (map view vs)
 
+-- pairs without where they lie in memory
 abbrev pub pairs_view : List Pair → Pairs
 pairs_view ps = pairs_of (map pair_view ps)

@@ -63,7 +63,7 @@ fn pairs_fit(pairs: &Vec<Pair<'_>>, room: u32) -> bool
     true
 }
 
-/// The length of a byte string has at most ten digits.
+// The length of a byte string has at most ten digits.
 fn is_short(text: &[u8]) -> bool
     ensures { IsTrue result ↔ (length text.now < 10 ^ 10) }
 {

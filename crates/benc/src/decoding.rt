@@ -100,8 +100,8 @@ pub fn span<'a>(alloc: Global, input: &'a [u8], key: &[u8]) -> Result<Option<&'a
     Ok(span)
 }
 
-/// The value that the whole input spells, and the bytes of the value under the key that is asked
-/// for.
+// The value that the whole input spells, and the bytes of the value under the key that is asked
+// for.
 fn parse_whole<'a>(
     alloc: Global,
     input: &'a [u8],
@@ -127,8 +127,8 @@ fn parse_whole<'a>(
     Ok((v, span))
 }
 
-/// The value at the front, the bytes of the value under the key that is asked for, and how many
-/// bytes it takes.
+// The value at the front, the bytes of the value under the key that is asked for, and how many
+// bytes it takes.
 fn parse_front<'a>(
     alloc: Global,
     input: &'a [u8],

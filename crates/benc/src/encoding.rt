@@ -9,8 +9,8 @@ use crate::device::{DeviceFault, Sink, WriteFault, write_all};
 use crate::value::{Pair, Value};
 use itoa::Buffer;
 
-/// Writes the one spelling of a canonical value (`Value::is_canonical` tells whether it is one). It
-/// takes no memory and does not flush. After a fault a prefix of the spelling went out.
+/// Writes the one spelling of a value. It takes no memory and does not flush. After a fault a
+/// prefix of the spelling went out. Condition: [`Value::is_canonical`] holds of the value.
 pub fn encode<W: Sink>(v: &Value<'_>, w: &mut W) -> Result<(), WriteFault>
     requires { IsCanonical (view v.now) }
     ensures { Wrote (W.seen w.old) (W.seen w.new) result (spelling (view v.now)) }

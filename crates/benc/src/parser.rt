@@ -59,7 +59,7 @@ pub(crate) fn value<'a>(
     }
 }
 
-/// The items up to the end mark, and what follows that.
+// The items up to the end mark, and what follows that.
 #[cycle(read)]
 fn items<'a>(
     alloc: Global,
@@ -90,8 +90,8 @@ fn items<'a>(
     }
 }
 
-/// The pairs up to the end mark, the bytes of the value under a key that is asked for, and what
-/// follows the mark.
+// The pairs up to the end mark, the bytes of the value under a key that is asked for, and what
+// follows the mark.
 #[cycle(read)]
 fn pairs<'a>(
     alloc: Global,
@@ -136,7 +136,7 @@ fn pairs<'a>(
     }
 }
 
-/// The bytes of a value, if its key is the one that is asked for.
+// The bytes of a value, if its key is the one that is asked for.
 fn if_asked<'a>(asked: Option<&[u8]>, name: &[u8], value: &'a [u8]) -> Option<&'a [u8]>
     ensures { IfSome (option_copied asked.entry) (λ key.
         option_copied result ≡ if_key key name.now value.entry.now) }
@@ -147,7 +147,7 @@ fn if_asked<'a>(asked: Option<&[u8]>, name: &[u8], value: &'a [u8]) -> Option<&'
     }
 }
 
-/// Puts one more at the end. The room doubles from one on: most lists and dictionaries are short.
+// Puts one more at the end. The room doubles from one on: most lists and dictionaries are short.
 fn push<T: Drop>(found: &mut Vec<T>, item: T) -> Result<(), AllocError>
     ensures { OnOk result (found.new.items ≡ found.old.items ++ item ∷ []) }
 {

@@ -23,7 +23,7 @@ pub(crate) fn split_front(bytes: &[u8]) -> Option<(u8, &[u8])>
     }
 }
 
-/// How many digits stand at the front.
+// How many digits stand at the front.
 fn digit_count(bytes: &[u8]) -> usize
     ensures value { result ≡ prefix_len is_digit bytes.now }
     ensures bound { result ≤ length bytes.now }
@@ -36,7 +36,7 @@ fn digit_count(bytes: &[u8]) -> usize
     bytes.len()
 }
 
-/// The longest run of digits at the front, and what follows it.
+// The longest run of digits at the front, and what follows it.
 fn split_digits(bytes: &[u8]) -> (&[u8], &[u8])
     ensures run { result.0.now ≡ digits_of_front bytes.now }
     ensures rest { result.1.now ≡ after_digits bytes.now }
@@ -45,7 +45,7 @@ fn split_digits(bytes: &[u8]) -> (&[u8], &[u8])
     bytes.split_at(digit_count(bytes))
 }
 
-/// Digits with no leading zero, except for `0` itself.
+// Digits with no leading zero, except for `0` itself.
 fn is_plain_number(run: &[u8]) -> bool
     ensures { result ≡ is_plain run.now }
 {
@@ -55,7 +55,7 @@ fn is_plain_number(run: &[u8]) -> bool
     }
 }
 
-/// The number that digits write, if it fits 64 bits.
+// The number that digits write, if it fits 64 bits.
 fn number(run: &[u8]) -> Option<u64>
     requires { IsRun run.now }
     ensures { SomeIff result (digits_value 10 run.now < 2 ^ 64) (digits_value 10 run.now) }
@@ -67,7 +67,7 @@ fn number(run: &[u8]) -> Option<u64>
     Some(n)
 }
 
-/// The signed number of 64 bits with that sign and digits.
+// The signed number of 64 bits with that sign and digits.
 fn signed_number(minus: bool, run: &[u8]) -> Option<i64>
     requires { IsRun run.now }
     ensures value { let n = digits_value 10 run.now in
@@ -98,7 +98,7 @@ pub(crate) fn integer(bytes: &[u8]) -> Result<(i64, &[u8]), FaultKind>
     }
 }
 
-/// An integer, behind its sign.
+// An integer, behind its sign.
 fn digits(minus: bool, bytes: &[u8]) -> Result<(i64, &[u8]), FaultKind>
     ensures read { ReadsAs (λ x. (x.0, x.1.now)) result (digits_at minus bytes.now) }
     ensures fits { IfOk result (λ x. FitsSigned w64 x.0) }

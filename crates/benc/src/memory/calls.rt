@@ -35,7 +35,7 @@ impl Calls {
         self.before_fault = Some(calls);
     }
 
-    /// Counts a call, and fails where it is the one that is to. The calls after that one succeed.
+    /// Counts a call, and fails if it is the one that is to fail. The calls after that one succeed.
     pub fn next(&mut self) -> Result<(), DeviceFault>
         ensures fails { FailsInTurn self.old result }
         ensures later { self.new.before_fault ≡ after_call self.old.before_fault }

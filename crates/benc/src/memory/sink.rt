@@ -42,7 +42,7 @@ impl MemSink {
         })
     }
 
-    /// From here on a call takes at most so many bytes.
+    /// From here on a call takes at most so many bytes. Condition: they are one at least.
     pub fn at_most(mut self, count: usize) -> MemSink
         requires { 0 < count }
         ensures bound { most_taken result ≡ count }

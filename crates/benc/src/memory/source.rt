@@ -35,7 +35,7 @@ impl<'a> MemSource<'a> {
         }
     }
 
-    /// From here on a call gives at most so many bytes.
+    /// From here on a call gives at most so many bytes. Condition: they are one at least.
     pub fn at_most(mut self, count: usize) -> MemSource<'a>
         requires { 0 < count }
         ensures bound { most_given result ≡ count }
