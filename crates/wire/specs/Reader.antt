@@ -10,31 +10,31 @@ use Rattle.wire.specs.declared.fault.FrameFault.TheVariants as fault
 use Rattle.wire.specs.declared.reader.FrameReader.{FrameReader}
 use Rattle.wire.specs.declared.reader.State.TheVariants.{Open, Ended, Failed}
 
--- it has met neither the end of its source nor a fault
+-- the reader has met neither the end of its source nor a fault
 abbrev pub IsOpen : {S B : Type 0} → FrameReader S B → Type 0
 IsOpen reader = reader.state ≡ Open
 
--- its source ended between two frames
+-- the reader's source ended between two frames
 abbrev pub HasEnded : {S B : Type 0} → FrameReader S B → Type 0
 HasEnded reader = reader.state ≡ Ended
 
--- it met this fault
+-- the reader met this fault
 abbrev pub HasFailed : {S B : Type 0} → FrameReader S B → FrameFault → Type 0
 HasFailed reader why = reader.state ≡ Failed why
 
--- the frame that it read last has this body
+-- the frame that the reader read last has this body
 abbrev pub HoldsBody : {S : Type 0} → FrameReader S (Vec ℕ) → List ℕ → Type 0
 HoldsBody reader body = Holds reader.head reader.kept.items body
 
--- how many bytes of bodies it keeps, beside an id
+-- how many bytes of bodies the reader keeps, ids aside
 abbrev pub kept_len : {S : Type 0} → FrameReader S (Vec ℕ) → ℕ
 kept_len reader = length reader.kept.items
 
--- how many bytes it has taken room for
+-- how many bytes the reader has taken room for
 abbrev pub room : {S : Type 0} → FrameReader S (Vec ℕ) → ℕ
 room reader = vec_capacity reader.kept
 
--- its room holds the longest body that is kept, its id aside
+-- the reader's room holds the longest body that is kept, its id aside
 abbrev pub HasRoom : {S : Type 0} → FrameReader S (Vec ℕ) → Type 0
 HasRoom reader = 263216 ≤ room reader
 

@@ -12,7 +12,7 @@ pub record Gave (old new : SourceSeen) (bytes : List ℕ) : Type 0 where
   pub given : Consumes old.left new.left bytes
   pub falls : new.limit + length bytes ≡ old.limit
 
--- and no call failed
+-- from old to new the source gave these bytes, and no call failed
 pub record GaveFaultless (old new : SourceSeen) (bytes : List ℕ) : Type 0 where
   pub gave : Gave old new bytes
   pub faults : new.faults ≡ old.faults

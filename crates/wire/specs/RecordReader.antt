@@ -15,7 +15,7 @@ use Rattle.wire.specs.Reader.{IsOpen, HasEnded, HasFailed, HasRoom, HoldsBody, k
 use Rattle.wire.specs.RecordReading.{GivesNext, StopsInRecord}
 use Rattle.wire.specs.Records.{Directed, MeansDirected}
 
--- the reader of its frames, their directions aside
+-- the reader of a record's frames, their directions aside
 abbrev pub frames : {S B : Type 0} → RecordReader S B → FrameReader S B
 frames reader =
     record { source = reader.source; state = reader.state; head = reader.head; kept = reader.kept }
@@ -24,7 +24,7 @@ frames reader =
 abbrev pub HoldsFrom : List ℕ → Directed (List ℕ) → Direction × Head → Type 0
 HoldsFrom kept d found = (found.0 ≡ d.0) × Holds found.1 kept d.1
 
--- the frame that it read last has this direction and this body
+-- the frame that the reader read last has this direction and this body
 abbrev pub HoldsDirected : {S : Type 0} → RecordReader S (Vec ℕ) → Directed (List ℕ) → Type 0
 HoldsDirected reader d = (reader.direction ≡ d.0) × HoldsBody (frames reader) d.1
 

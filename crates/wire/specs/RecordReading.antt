@@ -25,14 +25,14 @@ pub record GavePart (before : Option Form) (form : Form) (part : List ℕ) (old 
   pub reads : ReadsPart before form part bytes
   pub gave : Gave old new bytes
 
--- the next frame, with no call that failed
+-- from old to new the source gave the next frame of the record, and no call failed
 pub record GaveFrame (before : Option Form) (form : Form) (d : Directed (List ℕ))
     (old new : SourceSeen) : Type 0 where
   pub stands : MayStand form d
   pub part : GavePart before form (record_frame form d) old new
   pub faults : new.faults ≡ old.faults
 
--- the end of the source between two frames
+-- from old to new the source gave no more of the record and has ended, between two frames
 pub record EndsRecord (before : Option Form) (form : Form) (old new : SourceSeen) : Type 0 where
   pub part : GavePart before form [] old new
   pub faults : new.faults ≡ old.faults

@@ -12,7 +12,7 @@ use Rattle.wire.specs.declared.frame.Frame.TheVariants as told
 use Rattle.wire.specs.declared.message.Message.{Message}
 use Rattle.wire.specs.Meaning.{Means}
 
--- its number
+-- the number of a form
 abbrev pub form_number : Form → ℕ
 form_number One = 1
 form_number Two = 2
@@ -76,14 +76,14 @@ pub record IsBadDirection (rest : List ℕ) : Type 0 where
   pub not_in : byte ≢ 0
   pub not_out : byte ≢ 1
 
--- or it is a direction, and less than a frame
+-- the rest of a record of form 2 is a direction, and less than a frame
 pub record IsCutFrame (rest : List ℕ) : Type 0 where
   pub direction : Direction
   pub part : List ℕ
   pub begins : rest ≡ direction_byte direction ∷ part
   pub partial : IsPartial part
 
--- the same direction, and what the body means
+-- a frame with the same direction, which is what the body means
 abbrev pub MeansDirected : Directed (List ℕ) → Directed Frame → Type 0
 MeansDirected d f = (d.0 ≡ f.0) × Means d.1 f.1
 
@@ -93,7 +93,7 @@ messages_in [] = []
 messages_in (told.Message m ∷ fs) = m ∷ messages_in fs
 messages_in (told.BadSize id len ∷ fs) = messages_in fs
 
--- the same, with their directions
+-- the messages among frames, with their directions
 abbrev pub directed_messages : List (Directed Frame) → List (Directed Message)
 directed_messages [] = []
 directed_messages ((d, told.Message m) ∷ fs) = (d, m) ∷ directed_messages fs

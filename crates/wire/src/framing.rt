@@ -9,7 +9,7 @@ use crate::head::Head;
 use crate::kind::MAX_BODY;
 use benc::Source;
 
-// What is kept of the longest body: all but its id.
+/// What is kept of the longest body: all but its id.
 pub(crate) const MAX_KEPT: usize = MAX_BODY as usize - 1;
 
 /// Reads the next frame, or `None` at the end of the source.
@@ -56,7 +56,7 @@ pub(crate) fn read_body<R: Source>(
     Ok(head)
 }
 
-/// Reads so many bytes to the front of what is kept. The first call makes the room.
+// Reads so many bytes to the front of what is kept. The first call makes the room.
 fn keep<R: Source>(source: &mut R, kept: &mut Vec<u8>, count: u32) -> Result<(), FrameFault>
     requires some { 0 < count }
     requires bounded { count ≤ 263216 }
@@ -71,7 +71,7 @@ fn keep<R: Source>(source: &mut R, kept: &mut Vec<u8>, count: u32) -> Result<(),
     fill_front(source, kept.as_mut_slice(), count as usize)
 }
 
-/// Reads so many bytes to the front of the room.
+// Reads so many bytes to the front of the room.
 fn fill_front<R: Source>(source: &mut R, room: &mut [u8], count: usize) -> Result<(), FrameFault>
     requires { count ≤ length room.old }
     ensures bytes { GivesAll (R.seen source.old) (R.seen source.new) (take count room.new) count

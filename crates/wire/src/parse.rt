@@ -8,7 +8,7 @@ use crate::kind::Kind;
 use crate::message::{Ask, Message};
 use crate::number::number_at;
 
-/// The five fields of the first 48 bytes.
+// The five fields of the first 48 bytes.
 fn ask_at(bytes: &[u8]) -> Ask
     requires { 48 ≤ length bytes.now }
     ensures fields { IsAsk result }

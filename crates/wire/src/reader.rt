@@ -137,8 +137,8 @@ impl<'r, R: Source> FrameReader<'r, R> {
         }
     }
 
-    /// The frame that `advance` read last, which must have answered `true`. It borrows the reader's
-    /// own buffer.
+    /// The frame that `advance` read last. It borrows the reader's own buffer. Condition: the last
+    /// call of `advance` answered `true`.
     pub fn frame(&self) -> Frame<'_>
         requires held { (body : List ℕ) × HoldsBody self.now body }
         ensures { (body : List ℕ) → HoldsBody self.now body → Means body result }

@@ -39,7 +39,7 @@ pub(crate) fn read_next<R: Source>(
     }
 }
 
-/// Reads the first frame, and what stands before it.
+// Reads the first frame, and what stands before it.
 fn read_first<R: Source>(source: &mut R, kept: &mut Vec<u8>) -> Result<(Form, Found), FrameFault>
     ensures bytes { MatchResult result
         (λ next. GivesNext None next.0 (R.seen source.old) (R.seen source.new)
@@ -59,7 +59,7 @@ fn read_first<R: Source>(source: &mut R, kept: &mut Vec<u8>) -> Result<(Form, Fo
     }
 }
 
-/// Reads on after the first half of a header, which is a length as well.
+// Reads on after the first half of a header, which is a length as well.
 fn read_marked<R: Source>(source: &mut R, kept: &mut Vec<u8>) -> Result<(Form, Found), FrameFault>
     ensures bytes { (start : SourceSeen)
         → GaveFaultless start (R.seen source.old) (four_bytes 4294967295) → MatchResult result
@@ -83,7 +83,7 @@ fn read_marked<R: Source>(source: &mut R, kept: &mut Vec<u8>) -> Result<(Form, F
     }
 }
 
-/// Reads the next frame of a record of form 1.
+// Reads the next frame of a record of form 1.
 fn read_incoming<R: Source>(source: &mut R, kept: &mut Vec<u8>) -> Result<Found, FrameFault>
     ensures bytes { MatchResult result
         (GivesNext (Some Form.One) Form.One (R.seen source.old) (R.seen source.new)
@@ -99,7 +99,7 @@ fn read_incoming<R: Source>(source: &mut R, kept: &mut Vec<u8>) -> Result<Found,
     }
 }
 
-/// Reads a direction and the frame behind it.
+// Reads a direction and the frame behind it.
 fn read_directed<R: Source>(source: &mut R, kept: &mut Vec<u8>) -> Result<Found, FrameFault>
     ensures bytes { MatchResult result
         (GivesNext (Some Form.Two) Form.Two (R.seen source.old) (R.seen source.new)
@@ -115,8 +115,8 @@ fn read_directed<R: Source>(source: &mut R, kept: &mut Vec<u8>) -> Result<Found,
     }
 }
 
-/// Reads a direction and the length behind it, or `None` at the end of the source. One read is
-/// enough if the source gives both at once.
+// Reads a direction and the length behind it, or `None` at the end of the source. One read is
+// enough if the source gives both at once.
 fn read_start<R: Source>(source: &mut R) -> Result<Option<(Direction, u32)>, FrameFault>
     ensures bytes { MatchResult result
         (GivesStart (R.seen source.old) (R.seen source.new))

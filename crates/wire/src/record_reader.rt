@@ -159,8 +159,8 @@ impl<'r, R: Source> RecordReader<'r, R> {
         }
     }
 
-    /// The frame that `advance` read last, which must have answered `true`, with its direction. It
-    /// borrows the reader's own buffer.
+    /// The frame that `advance` read last, with its direction. It borrows the reader's own buffer.
+    /// Condition: the last call of `advance` answered `true`.
     pub fn frame(&self) -> (Direction, Frame<'_>)
         requires held { (d : Directed (List ℕ)) × HoldsDirected self.now d }
         ensures { (d : Directed (List ℕ)) → HoldsDirected self.now d → MeansDirected d result }

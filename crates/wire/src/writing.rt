@@ -30,7 +30,7 @@ impl Message<'_> {
     }
 }
 
-/// Writes bytes and then more.
+// Writes bytes and then more.
 fn put<W: Sink>(out: &mut W, first: &[u8], rest: &[u8]) -> Result<(), WriteFault>
     ensures { Wrote (W.seen out.old) (W.seen out.new) result (first.now ++ rest.now) }
 {
@@ -39,8 +39,8 @@ fn put<W: Sink>(out: &mut W, first: &[u8], rest: &[u8]) -> Result<(), WriteFault
     Ok(())
 }
 
-/// Writes the frame of a message, for which `is_writable` holds. It takes no memory and does not
-/// flush. After a fault a prefix of the frame went out.
+/// Writes the frame of a message. It takes no memory and does not flush. After a fault a prefix of
+/// the frame went out. Condition: [`Message::is_writable`] holds of the message.
 pub fn write<W: Sink>(m: &Message<'_>, w: &mut W) -> Result<(), WriteFault>
     requires { IsWritable m.now }
     ensures { (body : List ℕ) × IsBody body × MeansMessage body m.now
