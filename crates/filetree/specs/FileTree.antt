@@ -60,8 +60,8 @@ pub record Walk : Type 0 where
 abbrev pub below : List ℕ → Walk → Walk
 below k w = record { path = k ∷ w.path; file = w.file }
 
--- all walks, ordered by their lists of components
 abbrev mutual
+  -- all walks, ordered by their lists of components
   pub walks : Pairs → List Walk
   walks no_pairs = []
   walks (pair k v ps) =
@@ -96,6 +96,7 @@ as_length (text s) = None
 as_length (list vs) = None
 as_length (dict ps) = None
 
+-- the length that a file's dictionary states, if there is a good one
 abbrev pub length_at : Bencode → Option ℕ
 length_at file = option_and_then as_length (get (codes "length") file)
 

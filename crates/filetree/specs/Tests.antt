@@ -24,7 +24,7 @@ abbrev pub Passes : {T : Type 0} → List Row → (T → Type 0) → Result T Re
 Passes rows Q (Ok x) = NoneHolds rows × Q x
 Passes rows Q (Err r) = First rows r
 
--- the same of a step that takes memory, which may be refused
+-- a value for which none of the tests holds, or the answer of the first that does, or `NoMemory`
 abbrev pub PassesUnlessNoMemory : {T : Type 0} → List Row → (T → Type 0) → Result T Refusal → Type 0
 PassesUnlessNoMemory rows Q (Ok x) = NoneHolds rows × Q x
 PassesUnlessNoMemory rows Q (Err r) = r ≢ refusals.NoMemory → First rows r

@@ -27,7 +27,7 @@ pub struct ListedFile<'a> {
     pub root: Option<Hash>,
 }
 
-/// The letter of `attr` that marks a symlink.
+// The letter of `attr` that marks a symlink.
 const SYMLINK: u8 = b'l';
 
 /// Tells whether `attr` is a byte string with this letter (BEP 47, "Extended File Attributes").
@@ -52,7 +52,7 @@ pub fn length(file: &Value<'_>) -> Option<u64>
     }
 }
 
-/// The root under `pieces root`, if that is a byte string of 32 bytes.
+// The root under `pieces root`, if that is a byte string of 32 bytes.
 fn root(file: &Value<'_>) -> Option<Hash>
     ensures { result ≡ root_at (view file.now) }
 {
@@ -107,7 +107,7 @@ fn test_roots(files: &[Found<'_, '_>]) -> Result<(), Refusal>
     Ok(())
 }
 
-/// A file that is not empty has no root.
+// A file that is not empty has no root.
 fn lacks_root(file: &Value<'_>) -> bool
     ensures { result ≡ lacks_root (view file.now) }
 {

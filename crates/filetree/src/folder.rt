@@ -10,7 +10,7 @@ use std::alloc::Global;
 use std::marker::Model;
 use std::rc::Rc;
 
-/// A folder, and the folders that it lies in, which it shares with those beside it.
+// A folder, and the folders that it lies in, which it shares with those beside it.
 #[derive(Debug, Drop)]
 struct Folder {
     above: Option<Rc<Folder>>,
@@ -70,7 +70,7 @@ impl Folders {
     }
 }
 
-/// One more owner of a folder and those above it.
+// One more owner of a folder and those above it.
 fn shared(last: &Option<Rc<Folder>>) -> Result<Option<Rc<Folder>>, Refusal>
     ensures { UnlessNoMemory result (λ copy. names_of copy ≡ names_of last.now) }
 {
@@ -80,7 +80,7 @@ fn shared(last: &Option<Rc<Folder>>) -> Result<Option<Rc<Folder>>, Refusal>
     }
 }
 
-/// Puts the names down to this folder at the end.
+// Puts the names down to this folder at the end.
 fn put<'p>(last: &'p Folder, parts: &mut Parts<'p>)
     requires { length parts.old.items + length (names_to last.now) ≤ 128 }
     ensures { map (λ s. s.now) parts.new.items

@@ -15,9 +15,13 @@ use crate::walk::walk;
 use benc::Pair;
 use std::alloc::Global;
 
-/// The files of a file tree in the order of their paths, each with its length and root. The tree is
-/// that of a decoded torrent, whose depth is bounded. The first test that holds is told: `Shape`,
-/// `Path`, `Symlink`, `Length`, `Root`; `NoMemory` comes only where memory was refused.
+/// The files of a file tree in the order of their paths, each with its length and root. The first
+/// test that holds is told: `Shape`, `Path`, `Symlink`, `Length`, `Root`; `NoMemory` comes only if
+/// memory was refused.
+///
+/// Condition: as a dictionary the tree has a spelling ([`benc::Value::is_canonical`]), and at most
+/// 126 lists and dictionaries are open in it at once, itself counted. This holds in each decoded
+/// torrent, whose file tree stands inside two more dictionaries.
 pub fn read_tree<'a>(alloc: Global, tree: &[Pair<'a>]) -> Result<Vec<ListedFile<'a>>, Refusal>
     requires { FitsInTorrent (pairs_view tree.now) }
     ensures { PassesUnlessNoMemory (tree_rows (pairs_view tree.now))

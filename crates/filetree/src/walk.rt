@@ -65,7 +65,7 @@ fn walk_pair<'v, 'a>(
     walk(alloc, inner, &below, files)
 }
 
-/// A component of a path; no name is changed to make it one.
+// A component of a path; no name is changed to make it one.
 fn component(key: &[u8]) -> Result<&str, Refusal>
     ensures { MatchResult result (λ s. (s.now ≡ key.now) × (IsBadComponent key.now → ⊥))
         (λ r. (r ≡ Refusal.Path) × IsBadComponent key.now) }

@@ -71,8 +71,8 @@ impl LayerBuilder {
         self.builder.is_empty()
     }
 
-    /// Takes the file's next bytes. [`LayerBuilder::len`] and their number must be at most 2^46
-    /// together.
+    /// Takes the file's next bytes. Condition: [`LayerBuilder::len`] and their number are at most
+    /// 2^46 together.
     ///
     /// # Errors
     ///
@@ -105,7 +105,8 @@ impl LayerBuilder {
     }
 
     /// The file's length in bytes, the root of its tree, and the layer's hashes without the pads;
-    /// none if the layer is above the root. At least one byte must have been pushed.
+    /// none if the layer is above the root. Condition: at least one byte was pushed, since an empty
+    /// file has no tree.
     ///
     /// # Errors
     ///

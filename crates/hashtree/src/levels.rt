@@ -12,7 +12,7 @@ use std::alloc::Global;
 
 /// The root of the tree over a layer, which is given without its pads. It takes no memory.
 ///
-/// The layer must be at most [`Shape::height`], and there must be as many hashes as
+/// Conditions: the layer is at most [`Shape::height`], and there are as many hashes as
 /// [`Shape::pad_from`] says.
 pub fn layer_root(shape: Shape, layer: u32, hashes: &[Hash]) -> Hash
     requires in_tree { layer ≤ height (block_count shape) }
@@ -31,7 +31,7 @@ pub fn layer_root(shape: Shape, layer: u32, hashes: &[Hash]) -> Hash
 /// The layers of the tree over a layer, from that one to the root, each without its pads. The first
 /// list is `hashes`, and the last one holds the root alone.
 ///
-/// The layer must be at most [`Shape::height`], and there must be as many hashes as
+/// Conditions: the layer is at most [`Shape::height`], and there are as many hashes as
 /// [`Shape::pad_from`] says.
 ///
 /// # Errors
@@ -63,7 +63,7 @@ pub fn fill_levels(
     Ok(levels)
 }
 
-// The nodes above a layer's nodes. Where the last one has no sibling, its sibling is the pad.
+// The nodes above a layer's nodes. If the last one has no sibling, its sibling is the pad.
 fn level_above(alloc: Global, level: &[Hash], pad: &Hash) -> Result<Vec<Hash>, NoMemory>
     ensures { IfOk result (λ above. above.items
         ≡ map (joined_at level.now pad.now) (range_with_len 0 ((length level.now + 1) / 2))) }

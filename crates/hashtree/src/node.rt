@@ -12,7 +12,7 @@ pub type Hash = [u8; 32];
 /// The leaf past a file's end.
 pub(crate) const PAD_LEAF: Hash = [0; 32];
 
-/// The leaf of a block: the digest of its bytes as they are, also where it is short.
+/// The leaf of a block: the digest of its bytes as they are, also if it is short.
 pub fn leaf(block: &[u8]) -> Hash
     ensures { result ≡ sha256 block.now }
 {
@@ -29,7 +29,8 @@ pub fn parent(left: &Hash, right: &Hash) -> Hash
     hasher.finalize()
 }
 
-/// The node of a layer that covers pad leaves alone. No tree has a layer above 32.
+/// The node of a layer that covers pad leaves alone. Condition: the layer is at most 32, the height
+/// of the highest tree.
 pub fn zero(layer: u32) -> Hash
     requires { layer ≤ 32 }
     ensures { result ≡ zero_hash layer }

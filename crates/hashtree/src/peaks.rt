@@ -20,6 +20,7 @@ impl Peaks {
     ghost use Rattle.std.specs.Option.{option_to_list};
     ghost use Rattle.hashtree.specs.Climb.{AddsLeaf, HoldsLeaves, LeafCompletes, climb, layer_with, padded};
 
+    /// A row of no leaves.
     pub(crate) fn new() -> Peaks
         ensures { HoldsLeaves result [] }
     {
@@ -55,7 +56,7 @@ impl Peaks {
         completed
     }
 
-    /// The node of this layer over the leaves and `last`, where copies of `pad` come after these.
+    /// The node of this layer over the leaves and `last`, if copies of `pad` come after these.
     pub(crate) fn last_node(&self, last: Hash, pad: Hash, layer: u32) -> Hash
         requires { layer ≤ 32 }
         ensures root { (xs : List (List ℕ)) → HoldsLeaves self.now xs → length xs < 2 ^ layer

@@ -27,7 +27,7 @@ impl<'a> PieceCheck<'a> {
     ghost use Rattle.hashtree.specs.PieceCheck.{FeedsCheck, IsFedCheck, IsFirstBadNode, byte_count, chosen_layer, chosen_shape, given_hashes};
 
     /// A check that was given nothing yet: of a file of this shape, against the hashes of this
-    /// layer without its pads. The layer must be at most [`Shape::height`], and there must be as
+    /// layer without its pads. Conditions: the layer is at most [`Shape::height`], and there are as
     /// many hashes as [`Shape::pad_from`] says.
     pub fn new(shape: Shape, layer: u32, hashes: &'a [Hash]) -> PieceCheck<'a>
         requires in_tree { layer ≤ height (block_count shape) }
@@ -62,8 +62,8 @@ impl<'a> PieceCheck<'a> {
         self.builder.is_empty()
     }
 
-    /// Takes the file's next bytes. [`PieceCheck::len`] and their number must be at most the
-    /// shape's length together.
+    /// Takes the file's next bytes. Condition: [`PieceCheck::len`] and their number are together at
+    /// most the shape's length.
     pub fn push(&mut self, bytes: &[u8])
         requires { byte_count self.old + length bytes.now ≤ chosen_shape self.old }
         ensures count { byte_count self.new ≡ byte_count self.old + length bytes.now }
@@ -81,7 +81,8 @@ impl<'a> PieceCheck<'a> {
     }
 
     /// The file's length in bytes, the root of its tree, and the first place of the layer whose
-    /// node is not the given hash, if there is one. [`PieceCheck::len`] must be the shape's length.
+    /// node is not the given hash, if there is one. Condition: [`PieceCheck::len`] is the shape's
+    /// length.
     pub fn finish(self) -> (u64, Hash, Option<u64>)
         requires { byte_count self ≡ chosen_shape self }
         ensures { (file : List ℕ) → IsFedCheck self.entry file

@@ -54,8 +54,8 @@ impl RootBuilder {
         self.len() == 0
     }
 
-    /// Takes the file's next bytes. [`RootBuilder::len`] and their number must be at most 2^46
-    /// together.
+    /// Takes the file's next bytes. Condition: [`RootBuilder::len`] and their number are at most
+    /// 2^46 together.
     pub fn push(&mut self, bytes: &[u8])
         requires { byte_count self.old + length bytes.now ≤ 2 ^ 46 }
         ensures count { byte_count self.new ≡ byte_count self.old + length bytes.now }
@@ -68,7 +68,7 @@ impl RootBuilder {
         }
     }
 
-    /// The file's length in bytes and the root of its tree. At least one byte must have been
+    /// The file's length in bytes and the root of its tree. Condition: at least one byte was
     /// pushed, since an empty file has no tree.
     pub fn finish(self) -> (u64, Hash)
         requires { 0 < byte_count self }
@@ -80,7 +80,8 @@ impl RootBuilder {
     }
 
     /// As [`RootBuilder::finish`]; also the last node of `layer` that covers a block, if the tree
-    /// has that layer. [`RootBuilder::take_part`] told those before it.
+    /// has that layer. [`RootBuilder::take_part`] told those before it. Condition: at least one
+    /// byte was pushed.
     pub fn finish_layer(self, layer: u32) -> (u64, Hash, Option<Hash>)
         requires { 0 < byte_count self }
         ensures length { result.0 ≡ byte_count self }
@@ -103,8 +104,8 @@ impl RootBuilder {
 
     /// Takes the first of these bytes, at most as many as the last block still takes, for a caller
     /// that keeps the nodes of a layer itself. Returns how many, and the node of `layer` that the
-    /// blocks before them complete, if they do. There must be a byte, and [`RootBuilder::len`] and
-    /// the number of bytes must be at most 2^46 together.
+    /// blocks before them complete, if they do. Conditions: there is a byte, and
+    /// [`RootBuilder::len`] and the number of bytes are at most 2^46 together.
     pub fn take_part(&mut self, bytes: &[u8], layer: u32) -> (usize, Option<Hash>)
         requires some { 0 < length bytes.now }
         requires room { byte_count self.old + length bytes.now ≤ 2 ^ 46 }

@@ -78,7 +78,8 @@ impl Shape {
         32
     }
 
-    /// How many bytes the block of this number has. The number must be below [`Shape::blocks`].
+    /// How many bytes the block of this number has. Condition: the number is below
+    /// [`Shape::blocks`].
     pub fn block_len(self, i: u64) -> u64
         requires { i < block_count self }
         ensures value { result ≡ min 16384 (self - 16384 * i) }
@@ -90,7 +91,7 @@ impl Shape {
     }
 
     /// The first place of a layer that lies wholly past the file's end: how many of the layer's
-    /// nodes cover a block. The layer must be at most [`Shape::height`].
+    /// nodes cover a block. Condition: the layer is at most [`Shape::height`].
     pub fn pad_from(self, layer: u32) -> u64
         requires { layer ≤ height (block_count self) }
         ensures value { result ≡ first_pad (block_count self) layer }

@@ -72,7 +72,7 @@ are_same (item v vs) fs =
     if is_sized v then (if has_attribute 112 v then are_same vs fs else begins v (are_same vs) fs)
     else false
 
--- where a stream of no entries ends
+-- the ends of a stream of no entries
 abbrev pub nowhere : Ends
 nowhere = record { stream = 0; pieces = 0 }
 
@@ -91,13 +91,13 @@ abbrev pub is_misplaced : Bencode → Ends → Bool
 is_misplaced v e =
     not (has_attribute 112 v) && nat_lt 0 (entry_length v) && not (e.stream == e.pieces)
 
--- the ends behind the entries, where none is misplaced
+-- the ends behind the entries, if none is misplaced
 abbrev pub ends_of : ℕ → Items → Ends → Option Ends
 ends_of piece_length no_items e = Some e
 ends_of piece_length (item v vs) e =
     if is_misplaced v e then None else ends_of piece_length vs (after_entry piece_length v e)
 
--- the stream's length, where it does not go on after the last piece
+-- the stream's length, if it does not go on after the last piece
 abbrev pub aligned_length : Option Ends → Option ℕ
 aligned_length None = None
 aligned_length (Some e) =

@@ -34,7 +34,7 @@ abbrev pub layer_at : ℕ → Pairs → Root → Option (List (List ℕ))
 layer_at piece_length layers t =
     option_and_then (as_digests 32 (pieces_of piece_length t.length)) (under t.root layers)
 
--- a tree needs a layer where its files are longer than a piece
+-- a tree needs a layer if its files are longer than a piece
 abbrev pub needs_layer : ℕ → Root → Bool
 needs_layer piece_length t = nat_lt piece_length t.length
 

@@ -13,7 +13,7 @@ pub record IsBlockPlace (t : Description) (index begin f b : ℕ) : Type 0 where
   pub in_file : b < block_count file.length
   pub address : index * t.piece_length + begin ≡ file.first_piece * t.piece_length + 16384 * b
 
--- the file of an address: where its block begins there
+-- a block of the file begins at the address
 abbrev pub begins_in : ℕ → ℕ → FileEntry → Bool
 begins_in piece_length address f =
     nat_le (f.first_piece * piece_length) address

@@ -23,7 +23,7 @@ use Rattle.filetree.specs.declared.refusal.Key.TheVariants as keys
 use Rattle.filetree.specs.declared.refusal.Refusal.{Refusal}
 use Rattle.filetree.specs.declared.refusal.Refusal.TheVariants as refusals
 
--- ---- the parts of a torrent; where one is absent or of another kind, an earlier test refuses, and
+-- ---- the parts of a torrent; if one is absent or of another kind, an earlier test refuses, and
 -- what these give then is never looked at
 
 abbrev pub info_in : Bencode → Bencode
@@ -41,7 +41,7 @@ files_of v = map listed (walks_of v)
 abbrev pub layers_in : Bencode → Pairs
 layers_in v = pairs_in (value_at (codes "piece layers") v)
 
--- the number, or 0 where the value is none
+-- the number, or 0 if the value is none
 abbrev pub number_in : Bencode → ℕ
 number_in (int (pos n)) = n
 number_in (int (negsuc n)) = 0
@@ -69,7 +69,7 @@ parts_of_torrent v = the_parts (parts_in (info_in v) (name_in v))
 abbrev pub lacks : Key → Bencode → Type 0
 lacks key v = get (key_text key) v ≡ None
 
--- the value under a key, where there is one, is of another kind
+-- the value under a key, if there is one, is of another kind
 abbrev pub IsOther : {A : Type 0} → (Bencode → Option A) → Option Bencode → Type 0
 IsOther kind None = ⊥
 IsOther kind (Some w) = kind w ≡ None

@@ -38,7 +38,7 @@ some_texts (s ∷ ss) = Some (s ∷ ss)
 abbrev pub as_path : Bencode → Option (List (List ℕ))
 as_path v = option_and_then some_texts (option_and_then texts_in (as_list v))
 
--- an entry of `files`: a dictionary, a pad where `attr` has the letter `p`
+-- an entry of `files`: a dictionary, and a pad if `attr` has the letter `p`
 abbrev pub entry_part : Bencode → Part
 entry_part entry =
     record {
@@ -53,8 +53,7 @@ parts_of no_items = Some []
 parts_of (item v vs) =
     if is_dict v then option_and_then (λ ps. Some (entry_part v ∷ ps)) (parts_of vs) else None
 
--- the list: the entries of `files`, or the one file of `length`, where just one of these keys is
--- there
+-- the list: the entries of `files`, or the one file of `length`, if just one of these keys is there
 abbrev pub parts_in : Bencode → List ℕ → Option (List Part)
 parts_in info name =
     if has_key (codes "length") info then (if has_key (codes "files") info then None

@@ -7,7 +7,7 @@ ghost use Rattle.opening.specs.Blocks.{IsBlockRun};
 use crate::torrent::Torrent;
 use hashtree::BLOCK_LENGTH;
 
-/// The most bytes that one piece message carries.
+// The most bytes that one piece message carries.
 const MOST_BYTES: u64 = 263_208;
 
 impl<'a> Torrent<'a> {
@@ -16,8 +16,8 @@ impl<'a> Torrent<'a> {
 
     /// How many consecutive blocks of the file, from this one on, have lengths that sum to `size`
     /// bytes: at least one and at most 17. `None` if no number of them has, or if `size` is above
-    /// 263,208, the most bytes that one piece message carries. The torrent has the file, and the
-    /// file the block.
+    /// 263,208, the most bytes that one piece message carries. Conditions: there are more than
+    /// `file` files, and that one has more than `block` blocks.
     pub fn block_run(&self, file: usize, block: u64, size: u64) -> Option<u64>
         requires there { file < length self.now.files }
         requires in_file { (f : FileEntry) → slice_get self.now.files file ≡ Some f
@@ -32,7 +32,7 @@ impl<'a> Torrent<'a> {
     }
 }
 
-/// How many consecutive blocks of a file of this length so many bytes are, from this block on.
+// How many consecutive blocks of a file of this length so many bytes are, from this block on.
 fn run_in(length: u64, block: u64, size: u64) -> Option<u64>
     requires { block < block_count length }
     ensures found { IfSome result (λ k. IsBlockRun length block size k) }

@@ -48,7 +48,7 @@ pub(crate) fn read_keys<'v, 'a>(top: &'v Value<'a>) -> Result<Keys<'v, 'a>, Refu
     })
 }
 
-/// The pairs of a dictionary.
+// The pairs of a dictionary.
 fn dictionary<'v, 'a>(v: &'v Value<'a>, key: Key) -> Result<&'v [Pair<'a>], Refusal>
     ensures { MatchResult result (λ ps. as_dict (view v.now) ≡ Some (pairs_view ps.now))
         (λ r. (as_dict (view v.now) ≡ None) × (r ≡ Refusal.WrongType key)) }
@@ -69,7 +69,7 @@ fn integer(v: &Value<'_>, key: Key) -> Result<i64, Refusal>
     }
 }
 
-/// A byte string that is UTF-8.
+// A byte string that is UTF-8.
 fn text<'a>(v: &Value<'a>, key: Key) -> Result<&'a str, Refusal>
     ensures { MatchResult result (λ s. (as_text (view v.now) ≡ Some s.now) × IsUtf8 s.now)
         (λ r. ((s : List ℕ) → as_text (view v.now) ≡ Some s → IsUtf8 s → ⊥)
@@ -84,7 +84,7 @@ fn text<'a>(v: &Value<'a>, key: Key) -> Result<&'a str, Refusal>
     }
 }
 
-/// The value under a key that has to be there.
+// The value under a key that has to be there.
 fn required<'v, 'a>(v: &'v Value<'a>, key: Key) -> Result<&'v Value<'a>, Refusal>
     ensures { MatchResult result (λ w. get (key_text key) (view v.now) ≡ Some (view w.now))
         (λ r. (get (key_text key) (view v.now) ≡ None) × (r ≡ Refusal.Missing key)) }
@@ -95,7 +95,7 @@ fn required<'v, 'a>(v: &'v Value<'a>, key: Key) -> Result<&'v Value<'a>, Refusal
     }
 }
 
-/// The info dictionary.
+// The info dictionary.
 fn info<'v, 'a>(top: &'v Value<'a>) -> Result<&'v Value<'a>, Refusal>
     ensures { Passes (top_rows (view top.now))
         (λ i. get (codes "info") (view top.now) ≡ Some (view i.now)) result }
@@ -106,7 +106,7 @@ fn info<'v, 'a>(top: &'v Value<'a>) -> Result<&'v Value<'a>, Refusal>
     Ok(info)
 }
 
-/// Tests the version before all other keys of the info dictionary.
+// Tests the version before all other keys of the info dictionary.
 fn version(info: &Value<'_>) -> Result<(), Refusal>
     ensures { Passes (version_rows (view info.now)) (λ _. Unit {0}) result }
 {
@@ -117,7 +117,7 @@ fn version(info: &Value<'_>) -> Result<(), Refusal>
     Ok(())
 }
 
-/// The values of the other keys that have to be there.
+// The values of the other keys that have to be there.
 struct Present<'v, 'a> {
     tree: &'v Value<'a>,
     name: &'v Value<'a>,
@@ -137,7 +137,7 @@ fn all_present<'v, 'a>(info: &'v Value<'a>) -> Result<Present<'v, 'a>, Refusal>
     })
 }
 
-/// What the info dictionary tells beside the version.
+// What the info dictionary tells beside the version.
 struct Told<'v, 'a> {
     tree: &'v [Pair<'a>],
     name: &'a str,
@@ -163,7 +163,7 @@ fn all_of_kind<'v, 'a>(values: Present<'v, 'a>) -> Result<Told<'v, 'a>, Refusal>
     })
 }
 
-/// The pairs of `piece layers`, which may be absent.
+// The pairs of `piece layers`, which may be absent.
 fn layers<'v, 'a>(top: &'v Value<'a>) -> Result<Option<&'v [Pair<'a>]>, Refusal>
     ensures { Passes (layers_rows (view top.now))
         (λ ls. pairs_seen ls ≡ layers_in (view top.now)) result }

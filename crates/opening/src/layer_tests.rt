@@ -82,7 +82,7 @@ fn test_roots(
     Ok(())
 }
 
-/// A tree needs a layer, and has one that leads to another root.
+// A tree needs a layer, and has one that leads to another root.
 fn mismatches(tree: &Root, layers: &Layers<'_, '_>, piece_length: PieceLength) -> bool
     requires { tree.now.length ≤ 2 ^ 46 }
     ensures { result ≡ mismatches piece_length (layer_pairs layers.now) tree.now }
@@ -96,7 +96,7 @@ fn mismatches(tree: &Root, layers: &Layers<'_, '_>, piece_length: PieceLength) -
     }
 }
 
-/// The tree over a layer has the tree's root.
+// The tree over a layer has the tree's root.
 fn leads(tree: &Root, hashes: &[Hash], piece_length: PieceLength) -> bool
     requires longer { piece_length < tree.now.length }
     requires bound { tree.now.length ≤ 2 ^ 46 }

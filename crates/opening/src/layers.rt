@@ -54,7 +54,7 @@ impl<'v, 'a> Layers<'v, 'a> {
     }
 }
 
-/// The digests of a byte string of this many, joined.
+// The digests of a byte string of this many, joined.
 fn digests<'a>(value: &Value<'a>, count: u64) -> Option<&'a [Hash]>
     ensures value { option_map (λ hs. hs.now) result ≡ as_digests 32 count (view value.now) }
     ensures count { IfSome result (λ hs. length hs.now ≡ count) }
@@ -67,7 +67,7 @@ fn digests<'a>(value: &Value<'a>, count: u64) -> Option<&'a [Hash]>
     }
 }
 
-/// The value under a root, by binary search.
+// The value under a root, by binary search.
 fn entry<'v, 'a>(layers: &'v [Pair<'a>], root: &Hash) -> Option<&'v Value<'a>>
     requires { Ascends (pairs_view layers.now) }
     ensures { option_map (λ w. view w.now) result ≡ under root.now (pairs_view layers.now) }

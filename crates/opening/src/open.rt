@@ -36,7 +36,7 @@ use std::collections::BTreeMap;
 /// The most bytes that a torrent file has.
 pub const MAX_TORRENT: usize = 67_108_864;
 
-/// The files and trees of a torrent, and the number of each tree by its root.
+// The files and trees of a torrent, and the number of each tree by its root.
 #[derive(Drop)]
 struct Contents<'a> {
     files: Vec<File<'a>>,
@@ -44,7 +44,7 @@ struct Contents<'a> {
     numbers: BTreeMap<Hash, usize>,
 }
 
-/// Tests the files together, and the layers of their trees.
+// Tests the files together, and the layers of their trees.
 fn read_contents<'a>(
     alloc: Global,
     listed: Vec<ListedFile<'a>>,
@@ -67,7 +67,7 @@ fn read_contents<'a>(
     })
 }
 
-/// The torrent of a canonical value, given the bytes of its info dictionary as found.
+// The torrent of a canonical value, given the bytes of its info dictionary as found.
 fn read<'a>(alloc: Global, top: &Value<'a>, info_bytes: &[u8]) -> Result<Torrent<'a>, Refusal>
     requires canonical { IsCanonical (view top.now) }
     requires info { (i : Bencode) → get (codes "info") (view top.now) ≡ Some i
@@ -124,7 +124,7 @@ fn refused(fault: Fault) -> Refusal
     }
 }
 
-/// The torrent that bytes describe, or why they describe none.
+// The torrent that bytes describe, or why they describe none.
 fn opened<'a>(alloc: Global, input: &'a [u8]) -> Result<Torrent<'a>, Refusal>
     ensures described { IfOk result (λ t. Describes input.now t) }
     ensures refused { IfErr result (λ r. r ≢ Refusal.NoMemory → RefusesTorrent input.now r) }
@@ -154,7 +154,7 @@ impl<'a> Torrent<'a> {
     /// files (`Symlink`, `Length`, `Root`), the files together (`RootReused`, `NoFiles`,
     /// `TooManyPieces`), the piece layers (`LayerMissing`, `LayerSize`, `LayerMismatch`), and for a
     /// hybrid its version 1 part (`HybridFiles`, `HybridAlign`, `HybridPieces`). `NoMemory` comes
-    /// only where memory was refused.
+    /// only if memory was refused.
     pub fn open(alloc: Global, input: &'a [u8]) -> Result<Torrent<'a>, Refusal>
         ensures described { IfOk result (λ t. Describes input.now t) }
         ensures refused { IfErr result (λ r. r ≢ Refusal.NoMemory → RefusesTorrent input.now r) }

@@ -10,7 +10,7 @@ ghost use Rattle.opening.specs.Seen.{file_entry};
 use crate::torrent::{File, Torrent};
 use hashtree::BLOCK_LENGTH;
 
-/// How many files begin at this piece or before it, where first pieces ascend.
+// How many files begin at this piece or before it, if first pieces ascend.
 fn begun(files: &[File<'_>], piece: u64) -> usize
     ensures bound { result ≤ length files.now }
     ensures point { IsNonDecreasingBy (λ f. f.first_piece) files.now
@@ -20,7 +20,7 @@ fn begun(files: &[File<'_>], piece: u64) -> usize
     files.partition_point(|file| file.first_piece <= piece)
 }
 
-/// The file's block that begins at this address.
+// The file's block that begins at this address.
 fn block_at(file: &File<'_>, piece_length: u64, address: u64) -> Option<u64>
     requires { file.now.first_piece * piece_length < 2 ^ 64 }
     ensures { result ≡ (if begins_in piece_length address (file_entry file.now)
@@ -34,7 +34,7 @@ fn block_at(file: &File<'_>, piece_length: u64, address: u64) -> Option<u64>
     (block < file.length.div_ceil(BLOCK_LENGTH)).then_some(block)
 }
 
-/// The file and block at this address.
+// The file and block at this address.
 fn place_at(files: &[File<'_>], piece_length: u64, address: u64) -> Option<(usize, u64)>
     requires some { 0 < piece_length }
     requires bound { piece_length ≤ 2 ^ 30 }
@@ -54,10 +54,9 @@ fn place_at(files: &[File<'_>], piece_length: u64, address: u64) -> Option<(usiz
 impl<'a> Torrent<'a> {
     ghost use Rattle.opening.specs.Places.{IsBlockPlace, place_of};
 
-    /// The one file and block at the address `index * piece length + begin`, where a file begins at
-    /// its first piece times the piece length, and its block b stands at `16384 * b` after that;
-    /// `None` where no block begins there. Only the sum counts, so `begin` may pass the piece
-    /// length.
+    /// The one file and block at the address `index * piece length + begin`. A file begins at its
+    /// first piece times the piece length, and its block b stands at `16384 * b` after that. `None`
+    /// if no block begins there. Only the sum counts, so `begin` may pass the piece length.
     pub fn place(&self, index: u32, begin: u32) -> Option<(usize, u64)>
         ensures value { result ≡ place_of self.now index begin }
         ensures found { IfSome result (λ x. IsBlockPlace self.now index begin x.0 x.1) }

@@ -15,7 +15,7 @@ use std::alloc::Global;
 use std::collections::BTreeMap;
 use std::marker::Model;
 
-/// The most pieces that the files of a torrent have in all.
+// The most pieces that the files of a torrent have in all.
 const MAX_PIECES: u64 = 4_294_967_295;
 
 /// A distinct root of a torrent's files, as what is said of trees names it.
@@ -63,7 +63,7 @@ impl Roots {
         &self.list
     }
 
-    /// The number of a root.
+    // The number of a root.
     fn number(&self, root: &Hash) -> Option<usize>
         ensures { result ≡ place_in self.now root.now }
     {
@@ -78,7 +78,7 @@ impl Roots {
         numbers
     }
 
-    /// Adds a root unless it is there with this length.
+    // Adds a root unless it is there with this length.
     fn add(&mut self, root: Hash, length: u64) -> Result<(), Refusal>
         ensures added { OnOk result (self.new ≡ with_root self.old length (Some root)) }
         ensures there { MatchResult result (λ _. IsRootAt self.new root length)
@@ -118,7 +118,7 @@ pub(crate) fn roots_of(
     Ok(roots)
 }
 
-/// The distinct roots of the files, each of one length.
+// The distinct roots of the files, each of one length.
 fn distinct(alloc: Global, files: &[ListedFile<'_>]) -> Result<Roots, Refusal>
     ensures { MatchResult result (AreRoots files.now)
         (λ r. r ≢ Refusal.NoMemory → (r ≡ Refusal.RootReused) × IsReused files.now) }
@@ -132,7 +132,7 @@ fn distinct(alloc: Global, files: &[ListedFile<'_>]) -> Result<Roots, Refusal>
     Ok(roots)
 }
 
-/// Tests how many pieces the files have in all.
+// Tests how many pieces the files have in all.
 fn test_pieces(files: &[ListedFile<'_>], piece_length: PieceLength) -> Result<(), Refusal>
     ensures { Tests (nat_le (2 ^ 32) (pieces_in piece_length files.now))
         Refusal.TooManyPieces result }

@@ -76,6 +76,7 @@ impl<'a> Torrent<'a> {
     ghost use Rattle.opening.specs.Rooted.{AreNumbers};
     ghost use Rattle.opening.specs.Trees.{IsTreeWithRoot, root_of_tree, tree_with_root};
 
+    /// A torrent of these parts. Contracts see what it describes.
     pub(crate) fn new(
         name: &'a str,
         piece_length: PieceLength,
@@ -155,7 +156,8 @@ impl<'a> Torrent<'a> {
         self.v1.as_ref()
     }
 
-    /// The number of the tree of a file that the torrent has; `None` for an empty file alone.
+    /// The number of a file's tree; `None` for an empty file alone. Condition: there are more than
+    /// `file` files.
     pub fn tree_of(&self, file: usize) -> Option<usize>
         requires { file < length self.now.files }
         ensures { (f : FileEntry) → slice_get self.now.files file ≡ Some f → result ≡ f.tree }

@@ -19,16 +19,16 @@ use benc::Value;
 use filetree::{Refusal, has_attribute, length};
 use pieces::{PieceLength, V1};
 
-/// The letter of `attr` that marks a pad file (BEP 47, "Extended File Attributes").
+// The letter of `attr` that marks a pad file (BEP 47, "Extended File Attributes").
 const PAD: u8 = b'p';
 
-/// The version 1 part of an info dictionary whose file tree has these files; `None` where it has no
+/// The version 1 part of an info dictionary whose file tree has these files; `None` if it has no
 /// `pieces`.
 ///
-/// Refuses `HybridFiles` where the version 1 list is malformed or, without its pads, not that of
-/// the file tree, then `HybridAlign` where a file that is not empty begins elsewhere than at its
-/// first piece or the stream goes on after the last piece, then `HybridPieces` where `pieces` is
-/// not one SHA-1 digest for each cut. Takes no memory.
+/// Refuses `HybridFiles` if the version 1 list is malformed or, without its pads, not that of the
+/// file tree, then `HybridAlign` if a file that is not empty begins elsewhere than at its first
+/// piece or the stream goes on after the last piece, then `HybridPieces` if `pieces` is not one
+/// SHA-1 digest for each cut. Takes no memory.
 pub(crate) fn version1<'a>(
     info: &Value<'a>,
     name: &str,
@@ -58,14 +58,14 @@ fn is_text(value: &Value<'_>, text: &str) -> bool
     }
 }
 
-/// Whether the entry is a dictionary with a length.
+// Whether the entry is a dictionary with a length.
 fn is_sized(entry: &Value<'_>) -> bool
     ensures { result ≡ is_sized (view entry.now) }
 {
     matches!(entry, Value::Dict(_)) && length(entry).is_some()
 }
 
-/// Whether the values are just these byte strings.
+// Whether the values are just these byte strings.
 fn are_texts(values: &[Value<'_>], texts: &[&str]) -> bool
     ensures { result ≡ are_texts (items_view values.now) (map (λ s. s.now) texts.now) }
 {
@@ -82,7 +82,7 @@ fn are_texts(values: &[Value<'_>], texts: &[&str]) -> bool
     next == texts.len()
 }
 
-/// Whether the value is a list of just these byte strings, at least one.
+// Whether the value is a list of just these byte strings, at least one.
 fn is_path_value(value: Option<&Value<'_>>, path: &[&str]) -> bool
     ensures { result
         ≡ is_path_value (map (λ s. s.now) path.now) (option_map (λ v. view v.now) value.entry) }
@@ -93,15 +93,15 @@ fn is_path_value(value: Option<&Value<'_>>, path: &[&str]) -> bool
     }
 }
 
-/// Whether the entry has the length and the path of the file.
+// Whether the entry has the length and the path of the file.
 fn is_entry_of(entry: &Value<'_>, file: &File<'_>) -> bool
     ensures { result ≡ is_entry_of (view entry.now) (file_entry file.now) }
 {
     length(entry) == Some(file.length) && is_path_value(entry.get(b"path"), &file.path.parts())
 }
 
-/// Whether the entries are dictionaries with a length, and those that are no pads just these files
-/// in their order.
+// Whether the entries are dictionaries with a length, and those that are no pads just these files
+// in their order.
 fn are_same(entries: &[Value<'_>], files: &[File<'_>]) -> bool
     ensures { result ≡ are_same (items_view entries.now) (map file_entry files.now) }
 {
@@ -123,14 +123,14 @@ fn are_same(entries: &[Value<'_>], files: &[File<'_>]) -> bool
     next == files.len()
 }
 
-/// The stream's length so far in bytes, and where the last piece of its files so far ends.
+// The stream's length so far in bytes, and where the last piece of its files so far ends.
 #[derive(Clone, Copy)]
 struct Ends {
     stream: u128,
     pieces: u128,
 }
 
-/// The length of an entry in bytes, 0 where it has none.
+// The length of an entry in bytes, 0 if it has none.
 fn entry_length(entry: &Value<'_>) -> u64
     ensures value { result ≡ entry_length (view entry.now) }
     ensures bound { result ≤ 2 ^ 46 }
@@ -138,7 +138,7 @@ fn entry_length(entry: &Value<'_>) -> u64
     length(entry).unwrap_or(0)
 }
 
-/// Whether the entry is a file that is not empty and begins elsewhere than at a piece of its own.
+// Whether the entry is a file that is not empty and begins elsewhere than at a piece of its own.
 fn is_misplaced(entry: &Value<'_>, ends: Ends) -> bool
     ensures { result ≡ is_misplaced (view entry.now) ends }
 {
@@ -162,8 +162,8 @@ fn after_entry(entry: &Value<'_>, piece_length: PieceLength, ends: Ends) -> Ends
     Ends { stream, pieces }
 }
 
-/// Where the stream of the entries ends, and the last piece of their files; `None` where a file is
-/// misplaced.
+// Where the stream of the entries ends, and the last piece of their files; `None` if a file is
+// misplaced.
 fn ends_of(entries: &[Value<'_>], piece_length: PieceLength) -> Option<Ends>
     ensures { result ≡ ends_of piece_length (items_view entries.now) nowhere }
 {
@@ -180,8 +180,8 @@ fn ends_of(entries: &[Value<'_>], piece_length: PieceLength) -> Option<Ends>
     Some(ends)
 }
 
-/// The length of the stream in bytes; `None` where a file is misplaced, or the stream goes on after
-/// the last piece.
+// The length of the stream in bytes; `None` if a file is misplaced, or the stream goes on after the
+// last piece.
 fn aligned(entries: &[Value<'_>], piece_length: PieceLength) -> Option<u64>
     ensures { result ≡ aligned_length (ends_of piece_length (items_view entries.now) nowhere) }
 {
@@ -192,7 +192,7 @@ fn aligned(entries: &[Value<'_>], piece_length: PieceLength) -> Option<u64>
     u64::try_from(ends.stream).ok()
 }
 
-/// Whether the path is this name alone.
+// Whether the path is this name alone.
 fn is_named(path: &[&str], name: &str) -> bool
     ensures { result ≡ is_named name.now (map (λ s. s.now) path.now) }
 {
@@ -202,7 +202,7 @@ fn is_named(path: &[&str], name: &str) -> bool
     }
 }
 
-/// The length of the stream of the one file of `length`, where the file tree has just that.
+// The length of the stream of the one file of `length`, if the file tree has just that.
 fn one_file(info: &Value<'_>, name: &str, files: &[File<'_>]) -> Option<u64>
     ensures { result ≡ one_length (view info.now) name.now (map file_entry files.now) }
 {
@@ -214,7 +214,7 @@ fn one_file(info: &Value<'_>, name: &str, files: &[File<'_>]) -> Option<u64>
     }
 }
 
-/// The length of the stream of the entries of `files`, where the file tree has just their files.
+// The length of the stream of the entries of `files`, if the file tree has just their files.
 fn many_files(
     entries: &[Value<'_>],
     files: &[File<'_>],
@@ -229,8 +229,8 @@ fn many_files(
     aligned(entries, piece_length).ok_or(Refusal::HybridAlign)
 }
 
-/// The length of the stream in bytes, where the list without pads is that of the file tree and each
-/// file begins at its first piece.
+// The length of the stream in bytes, if the list without pads is that of the file tree and each
+// file begins at its first piece.
 fn stream(
     info: &Value<'_>,
     name: &str,
@@ -246,7 +246,7 @@ fn stream(
     }
 }
 
-/// The digests of the stream's cuts: 20 bytes for each.
+// The digests of the stream's cuts: 20 bytes for each.
 fn cuts<'a>(pieces: &Value<'a>, total: u64, piece_length: PieceLength) -> Option<&'a [[u8; 20]]>
     ensures { option_map (λ h. h.now) result
         ≡ as_digests 20 (pieces_of piece_length total) (view pieces.now) }

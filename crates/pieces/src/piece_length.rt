@@ -55,7 +55,7 @@ impl PieceLength {
         length.div_ceil(self.bytes())
     }
 
-    /// A length of at most 2^46 bytes, rounded up to whole pieces.
+    /// A length in bytes, rounded up to whole pieces. Condition: it is at most 2^46.
     pub fn round_up(self, length: u64) -> u64
         requires { length ≤ 2 ^ 46 }
         ensures value { result ≡ pieces_of self length * self }

@@ -31,8 +31,8 @@ pub struct V1Cuts {
 impl V1Cuts {
     ghost use Rattle.pieces.specs.FileCuts.{EndTakesMemory, EndsWithFile, FeedsCuts, HasRefused, IsAtCuts, IsFedCuts, TakesMemory, spare};
 
-    /// Digests of cuts of this length, above 0, of a file of which nothing came yet. It takes no
-    /// memory.
+    /// Digests of cuts of this length, of a file of which nothing came yet. It takes no memory.
+    /// Condition: the piece length is above 0.
     pub fn new(alloc: Global, piece_length: u64) -> V1Cuts
         requires { 0 < piece_length }
         ensures content { IsFedCuts result piece_length [] }

@@ -27,8 +27,8 @@ impl<'a> V1Feed<'a> {
     ghost use Rattle.pieces.specs.Cutting.{IsCutting};
     ghost use Rattle.pieces.specs.Feeding.{IsFeedAt, IsFeedGiven, IsFirstBad, given, total};
 
-    /// A feed that was given nothing, for a stream of the length that the hybrid states, in pieces
-    /// of a length above 0.
+    /// A feed that was given nothing, for a stream of the length that the hybrid states. Condition:
+    /// the piece length is above 0.
     pub fn new(v: &V1<'a>, piece_length: u64) -> V1Feed<'a>
         requires { 0 < piece_length }
         ensures total { total result ≡ v.now.total }
@@ -63,7 +63,7 @@ impl<'a> V1Feed<'a> {
         self.given
     }
 
-    /// Takes the stream's next bytes, no more than are still to come.
+    /// Takes the stream's next bytes. Condition: no more of them than are still to come.
     pub fn push(&mut self, bytes: &[u8])
         requires { given self.old + length bytes.now ≤ total self.old }
         ensures total { total self.new ≡ total self.old }
@@ -78,7 +78,8 @@ impl<'a> V1Feed<'a> {
         }
     }
 
-    /// Takes this many zero bytes, as stand between two files, no more than are still to come.
+    /// Takes this many zero bytes, as stand between two files. Condition: no more of them than are
+    /// still to come.
     pub fn zeros(&mut self, n: u64)
         requires { given self.old + n ≤ total self.old }
         ensures total { total self.new ≡ total self.old }

@@ -1,5 +1,5 @@
 //! Digests computed by Python's `hashlib`. But for those of `abc` they are of a content of 65,636
-//! bytes, whose byte number i is i modulo 251, and of its beginnings.
+//! bytes, whose byte number i is i modulo 251, and of its prefixes.
 
 /// SHA-256 of `abc`, the root of a file with that content (FIPS 180-4, examples).
 pub(super) const ABC: [u8; 32] = [

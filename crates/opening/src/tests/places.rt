@@ -102,7 +102,8 @@ fn the_largest_numbers(rt: HostRuntime) -> Result<(), AllocError> {
     )
 }
 
-// An index, a number of bytes behind it, a size in bytes, and how many blocks from there on have it.
+// An index, a number of bytes behind it, a size in bytes, and how many blocks from there on have
+// it.
 type Run = (u32, u32, u64, Option<u64>);
 
 fn run_at(torrent: &Torrent<'_>, index: u32, begin: u32, size: u64) -> Option<u64> {

@@ -21,7 +21,7 @@ pub(super) const FIVE: &str =
 pub(super) const HYBRID: &str =
     "d4:infod9:file treed1:ad0:d6:lengthi16385e11:pieces root32:<two>ee1:cd0:d6:lengthi3e11:pieces root32:<abc>eee5:filesld6:lengthi16385e4:pathl1:aeed4:attr1:p6:lengthi16383e4:pathl4:.pad5:16383eed6:lengthi3e4:pathl1:ceee12:meta versioni2e4:name1:x12:piece lengthi32768e6:pieces40:<cut><abc cut>e12:piece layersdee";
 
-/// What stands between `<` and `>`, and the bytes that it stands for.
+// What stands between `<` and `>`, and the bytes that it stands for.
 const NAMED: [(&str, &[u8]); 15] = [
     ("abc", &digests::ABC),
     ("two", &digests::TWO),
