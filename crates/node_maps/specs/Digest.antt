@@ -2,7 +2,7 @@
 use Rattle.std.specs.Prelude.{◌≡◌, ℕ, List, ◌++◌, length}
 use Rattle.sha2.specs.Sha256.{sha256}
 
--- what a hash is written as: 32 bytes, where `IsHash` says so
+-- a hash, as the list of its bytes; `IsHash` says that they are 32
 abbrev pub Hash : Type 0
 Hash = List ℕ
 

@@ -14,7 +14,7 @@ pub trait Directory: Drop {
     ghost find: { Self → Numbered };
 
     /// No page. It is for numbers that differ in their last `bits` bits alone, but serves all.
-    /// Takes no memory.
+    /// Takes no memory. Condition: `bits` is below 64.
     fn new(alloc: Global, bits: u32) -> Self
     where
         Self: Sized,
@@ -25,7 +25,8 @@ pub trait Directory: Drop {
     fn page(&self, number: u64) -> Option<&Page>
         ensures { option_map (λ page. page.now) result ≡ find self.now number };
 
-    /// Writes the hash of a place of a page, and marks it, if `mark` says so.
+    /// Writes the hash of a place of a page, and marks it, if `mark` says so. Conditions: there is
+    /// a page of this number, and the place is below 512.
     fn put(&mut self, number: u64, place: usize, hash: Hash, mark: bool)
         requires there { IsSome (find self.old number) }
         requires place { place < 512 }
@@ -33,7 +34,7 @@ pub trait Directory: Drop {
         ensures others { IsChanged number (find self.new number) (find self.old)
             (find self.new) };
 
-    /// Adds a page of a number that has none. Out of memory nothing changes.
+    /// Adds a page of a number that has none. If memory was refused, nothing has changed.
     fn add(&mut self, number: u64, page: Page) -> Result<(), NoMemory>
         requires { find self.old number ≡ None }
         ensures ok { OnOk result (IsChanged number (Some page) (find self.old) (find self.new)) }

@@ -220,7 +220,7 @@ fn lengthen(rows: &mut Vec<Vec<Option<Hash>>>, layer: usize, end: usize) -> Resu
     Ok(())
 }
 
-// Makes marks up to `end` where the layer is that of the leaves, none of them set.
+// Makes marks up to `end`, none of them set, if the layer is that of the leaves.
 fn add_marks(marks: &mut Vec<bool>, layer: usize, end: usize) -> Result<(), NoMemory>
     ensures marked { marked_leaves marks.new.items ≡ marked_leaves marks.old.items }
     ensures longer { vec_len marks.old ≤ vec_len marks.new }

@@ -44,13 +44,15 @@ pub trait NodeMap: Drop {
     fn get(&self, layer: u32, index: u64) -> Option<Hash>
         ensures { result ≡ look (known self.now) layer index };
 
-    /// Whether the hashes of `count` places of a layer are known.
+    /// Whether the hashes of `count` places of a layer are known, from one on. Condition:
+    /// `from + count` is below 2^64.
     fn knows(&self, layer: u32, from: u64, count: u64) -> bool
         requires { from + count < 2 ^ 64 }
         ensures { IsTrue result ↔ AreKnown (look (known self.now) layer) from count };
 
-    /// Appends the hashes of `count` known places of a layer to a list that has room for them.
-    /// Takes no memory.
+    /// Appends the hashes of `count` places of a layer, from one on, to a list. Takes no memory.
+    /// Conditions: `from + count` is below 2^64, the hashes are known, and the list has room for
+    /// them.
     fn copy_to(&self, layer: u32, from: u64, count: u64, out: &mut Vec<Hash>)
         requires range { from + count < 2 ^ 64 }
         requires known { AreKnown (look (known self.now) layer) from count }
@@ -59,9 +61,10 @@ pub trait NodeMap: Drop {
             ≡ out.old.items ++ hashes_from (look (known self.now) layer) from count }
         ensures no_memory { vec_capacity out.new ≡ vec_capacity out.old };
 
-    /// Makes room for `count` places of a layer. Content, marks and the room that there is stay. A
-    /// refusal gives back the pages that it made. If there is room already, it takes no memory and
-    /// cannot fail.
+    /// Makes room for `count` places of a layer, from one on. Content, marks and the room that
+    /// there is stay. A refusal gives back the pages that it made. If there is room already, it
+    /// takes no memory and cannot fail. Conditions: the layer is at most the tree's height, and
+    /// `from + count` is at most the number of its places, 2^(height - layer).
     fn reserve(&mut self, layer: u32, from: u64, count: u64) -> Result<(), NoMemory>
         requires layer { layer ≤ tree_height (length self.old) }
         requires range { from + count ≤ 2 ^ (tree_height (length self.old) - layer) }
@@ -75,7 +78,7 @@ pub trait NodeMap: Drop {
         ensures no_memory { ((i : ℕ) → from ≤ i → i < from + count → has_room self.old layer i)
             → IsOk result };
 
-    /// Sets the hash at a place that has room.
+    /// Sets the hash at a place. Condition: the place has room.
     fn put(&mut self, layer: u32, index: u64, hash: Hash)
         requires { has_room self.old layer index }
         ensures length { length self.new ≡ length self.old }
@@ -84,7 +87,7 @@ pub trait NodeMap: Drop {
         ensures held { held self.new ≡ held self.old }
         ensures keeps { (l i : ℕ) → has_room self.old l i → has_room self.new l i };
 
-    /// Marks a known leaf.
+    /// Marks a leaf. Condition: it is known.
     fn mark(&mut self, index: u64)
         requires { IsKnown (look (known self.old)) 0 index }
         ensures length { length self.new ≡ length self.old }

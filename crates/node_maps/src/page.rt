@@ -73,7 +73,7 @@ impl Page {
         Ok(Page { cells })
     }
 
-    /// The cell of a place.
+    /// The cell of a place. Condition: the place is below 512.
     pub fn cell(&self, place: usize) -> Cell
         requires { place < 512 }
         ensures { result ≡ slice_index_or self.now.cells.items place Empty }
@@ -81,7 +81,7 @@ impl Page {
         self.cells[place]
     }
 
-    /// Whether `count` places hold a hash, from one on.
+    /// Whether `count` places hold a hash, from one on. Condition: `first + count` is at most 512.
     pub fn knows(&self, first: usize, count: usize) -> bool
         requires { first + count ≤ 512 }
         ensures { IsTrue result ↔ AreKnown (hash_in self.now.cells.items) first count }
@@ -90,7 +90,7 @@ impl Page {
     }
 
     /// Appends the hashes of `count` places that hold one, from one on, to a list that has room for
-    /// them.
+    /// them. Condition: `first + count` is at most 512.
     pub fn copy_to(&self, first: usize, count: usize, out: &mut Vec<Hash>)
         requires inside { first + count ≤ 512 }
         requires known { AreKnown (hash_in self.now.cells.items) first count }
@@ -104,6 +104,7 @@ impl Page {
     }
 
     /// Writes the hash of a place, and marks it, if `mark` says so. A mark that is there stays.
+    /// Condition: the place is below 512.
     pub fn put(&mut self, place: usize, hash: Hash, mark: bool)
         requires { place < 512 }
         ensures { self.new.cells.items ≡ set self.old.cells.items place
@@ -120,7 +121,7 @@ impl Page {
     }
 }
 
-/// Whether each cell holds a hash.
+// Whether each cell holds a hash.
 fn all_hold_hashes(cells: &[Cell]) -> bool
     ensures { IsTrue result ↔ AreKnown (hash_in cells.now) 0 (length cells.now) }
 {
@@ -132,7 +133,7 @@ fn all_hold_hashes(cells: &[Cell]) -> bool
     true
 }
 
-/// Appends the hashes of cells that hold one to a list that has room for them.
+// Appends the hashes of cells that hold one to a list that has room for them.
 fn copy_hashes(cells: &[Cell], out: &mut Vec<Hash>)
     requires known { AreKnown (hash_in cells.now) 0 (length cells.now) }
     requires room { vec_len out.old + length cells.now ≤ vec_capacity out.old }
@@ -149,7 +150,7 @@ fn copy_hashes(cells: &[Cell], out: &mut Vec<Hash>)
     }
 }
 
-/// Whether no cell holds anything.
+// Whether no cell holds anything.
 fn holds_nothing(cells: &[Cell]) -> bool
     ensures { result ≡ is_blank cells.now }
 {

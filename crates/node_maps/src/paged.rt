@@ -101,7 +101,7 @@ impl NodeMap for Paged {
     }
 }
 
-// The cell of a place; an empty one where there is no page.
+// The cell of a place; an empty one if there is no page.
 fn read_cell(rows: &[PagedRow], layer: u32, index: u64) -> Cell
     ensures { result ≡ cell_at rows.now layer index }
 {

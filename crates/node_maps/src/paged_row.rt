@@ -15,7 +15,7 @@ use crate::shelves::Shelves;
 use hashtree::{Hash, NoMemory};
 use std::alloc::Global;
 
-/// How many bits the number of a page has at most: a layer has up to 2^32 places.
+// How many bits the number of a page has at most: a layer has up to 2^32 places.
 const NUMBER_BITS: u32 = 24;
 
 /// The pages of one layer. Page p holds the places from 512 p on. Pages that hold nothing are among
@@ -56,7 +56,7 @@ impl PagedRow {
         self.count
     }
 
-    /// The cell of a place; an empty one where there is no page.
+    /// The cell of a place; an empty one if there is no page.
     #[tactic(auto, unfolding(crate::specs::PagedRow::pages_of))]
     pub fn cell(&self, index: u64) -> Cell
         ensures { result ≡ cell_of_row self.now index }
@@ -67,7 +67,8 @@ impl PagedRow {
         }
     }
 
-    /// Whether the hashes of `count` places are known, from one on.
+    /// Whether the hashes of `count` places are known, from one on. Condition: `from + count` is
+    /// below 2^64.
     #[tactic(auto, unfolding(crate::specs::PagedRow::pages_of))]
     pub fn knows(&self, from: u64, count: u64) -> bool
         requires { from + count < 2 ^ 64 }
@@ -88,6 +89,7 @@ impl PagedRow {
     }
 
     /// Appends the hashes of `count` known places, from one on, to a list that has room for them.
+    /// Condition: `from + count` is below 2^64.
     #[tactic(auto, unfolding(crate::specs::PagedRow::pages_of))]
     pub fn copy_to(&self, from: u64, count: u64, out: &mut Vec<Hash>)
         requires range { from + count < 2 ^ 64 }
@@ -124,7 +126,7 @@ impl PagedRow {
     }
 
     /// Makes the pages from one number on up to another that are not there, all or none of them.
-    /// What there is stays.
+    /// What there is stays. Condition: `end` is at most 2^32.
     #[tactic(auto, unfolding(crate::specs::PagedRow::pages_of))]
     pub fn reserve(&mut self, first: u64, end: u64) -> Result<(), NoMemory>
         requires { end ≤ 2 ^ 32 }
@@ -144,7 +146,7 @@ impl PagedRow {
         Ok(())
     }
 
-    // Makes the page of a number, unless it is there. Out of memory nothing changes.
+    // Makes the page of a number, unless it is there. If memory was refused, nothing has changed.
     #[tactic(auto, unfolding(crate::specs::PagedRow::pages_of))]
     fn make(&mut self, number: u64) -> Result<(), NoMemory>
         requires { number < 2 ^ 32 }

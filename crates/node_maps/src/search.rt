@@ -7,7 +7,7 @@ ghost use Rattle.node_maps.specs.Rising.{AreRising, IsAt, IsGapFor};
 use hashtree::NoMemory;
 
 /// Where the number stands, or where it would go. The place of the last write and the end are
-/// looked at first, since most work is there.
+/// looked at first, since most work is there. Condition: the numbers ascend.
 pub fn search(numbers: &[u64], last: usize, number: u64) -> Result<usize, usize>
     requires { AreRising numbers.now }
     ensures at { IfOk result (IsAt numbers.now number) }
@@ -34,7 +34,7 @@ pub fn make_room<T: Drop>(numbers: &mut Vec<u64>, items: &mut Vec<T>) -> Result<
     items.reserve_exact(1)
 }
 
-/// Puts an item at a place, where there is room for it.
+/// Puts an item at a place of a list that has room for it.
 pub fn insert_reserved<T: Drop>(items: &mut Vec<T>, at: usize, item: T)
     requires within { at ≤ vec_len items.old }
     requires room { vec_len items.old < vec_capacity items.old }

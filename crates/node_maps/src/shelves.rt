@@ -10,8 +10,8 @@ use crate::search::{insert_reserved, make_room, search};
 use hashtree::{Hash, NoMemory};
 use std::alloc::Global;
 
-/// How many bits of a page's number one list goes by. So a list has at most 256 entries, and a new
-/// page moves no more of them than it takes memory itself.
+// How many bits of a page's number one list goes by. So a list has at most 256 entries, and a new
+// page moves no more of them than it takes memory itself.
 const BITS: u32 = 8;
 
 /// Directories in the order of the bits that their pages' numbers begin with.

@@ -46,7 +46,7 @@ uncle_hash ask hashes l i =
 abbrev pub given : Ask → List Hash → PartialTree
 given ask hashes l i = option_or (base_hash ask hashes l i) (uncle_hash ask hashes l i)
 
--- the join of two hashes, where both are there
+-- the join of two hashes, if both are there
 abbrev pub join_both : Option Hash → Option Hash → Option Hash
 join_both None right = None
 join_both (Some left) None = None
@@ -146,7 +146,7 @@ TreeRefuses len K ask hashes r = Refuses len K ask hashes r
 abbrev pub joined : PartialTree → PartialTree → PartialTree
 joined K C l i = option_or (K l i) (C l i)
 
--- the value at a place; the pad leaf where there is none
+-- the value at a place; the pad leaf if there is none
 abbrev pub value_at : PartialTree → ℕ → ℕ → Hash
 value_at K l i = unwrap_or (K l i) pad_leaf
 

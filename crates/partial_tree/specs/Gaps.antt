@@ -20,7 +20,7 @@ abbrev pub some_below : (ℕ → Bool) → ℕ → Bool
 some_below p zero = false
 some_below p (suc n) = some_below p n || p n
 
--- how many leaves are asked for at once: 512, or all where there are fewer
+-- how many leaves are asked for at once: 512, or all if there are fewer
 abbrev pub window : ℕ → ℕ
 window len = min 512 (2 ^ tree_height len)
 

@@ -10,12 +10,12 @@ use Rattle.partial_tree.specs.declared.refusal.HashRefusal.{HashRefusal}
 use Rattle.partial_tree.specs.Claims.{claims, joined, IsAgreed, IsAccepted, TreeRefuses}
 use Rattle.partial_tree.specs.Fill.{fill_claims, IsFillAccepted, FillRefuses}
 
--- with a hash at a place where there is none
+-- with this hash at a place, if it has none
 abbrev pub insert_absent : Known → ℕ × ℕ → Hash → Option Hash → Known
 insert_absent m place h None = insert m place h
 insert_absent m place h (Some old) = m
 
--- with a claim, where its place is not known
+-- with a claim, if its place is not known
 abbrev pub with_new : Known → Claim → Known
 with_new m c = insert_absent m (c.layer, c.index) c.hash (look m c.layer c.index)
 

@@ -72,12 +72,12 @@ abbrev pub GapsAreAtMostWindows : Type 0
 GapsAreAtMostWindows = (len : ℕ) (K : PartialTree)
     → gaps len K ≤ (block_count len + window len - 1) / window len
 
--- where there is no gap all leaves of blocks are known
+-- if there is no gap, all leaves of blocks are known
 abbrev pub NoGapMeansAllKnown : Type 0
 NoGapMeansAllKnown = (len : ℕ) (K : PartialTree) → gaps len K ≡ 0 → (b : ℕ) → b < block_count len
     → IsKnown K 0 b
 
--- where all leaves of blocks are known there is no gap
+-- if all leaves of blocks are known, there is no gap
 abbrev pub AllKnownMeansNoGap : Type 0
 AllKnownMeansNoGap = (len : ℕ) (K : PartialTree) → ((b : ℕ) → b < block_count len → IsKnown K 0 b)
     → gaps len K ≡ 0

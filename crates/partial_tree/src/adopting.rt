@@ -27,7 +27,7 @@ pub fn agree<N: NodeMap>(old: &N, new: &N, height: u32) -> bool
     true
 }
 
-/// The same of the first places of a layer, so many.
+// The same of the first places of a layer, so many.
 fn agree_in_row<N: NodeMap>(old: &N, new: &N, layer: u32, count: u64) -> bool
     ensures same { OnTrue result
         (AgreeInRow (look (N.known old.now)) (look (N.known new.now)) layer count) }
@@ -42,7 +42,7 @@ fn agree_in_row<N: NodeMap>(old: &N, new: &N, layer: u32, count: u64) -> bool
     true
 }
 
-/// The same of one place.
+// The same of one place.
 fn agree_at<N: NodeMap>(old: &N, new: &N, layer: u32, index: u64) -> bool
     ensures same { OnTrue result
         (AgreeAt (look (N.known old.now)) (look (N.known new.now)) layer index) }

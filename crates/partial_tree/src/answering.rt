@@ -46,7 +46,7 @@ pub fn answer_hashes<N: NodeMap>(
     Ok(hashes)
 }
 
-/// The hash at a place; the pad leaf if it is not known.
+// The hash at a place; the pad leaf if it is not known.
 fn known_or_pad<N: NodeMap>(nodes: &N, layer: u32, index: u64) -> Hash
     ensures { result ≡ value_at (look (N.known nodes.now)) layer index }
 {

@@ -12,7 +12,7 @@ use crate::refusal::HashRefusal;
 use hashtree::Hash;
 use wire::Ask;
 
-/// The power of two that a length from 2 to 8192 is, if it is one.
+// The power of two that a length from 2 to 8192 is, if it is one.
 fn span_of(length: u32) -> Option<u32>
     ensures found { IfSome result (λ k. (2 ^ k ≡ length) × (1 ≤ k) × (k ≤ 13)) }
     ensures none { IfNone result ((k : ℕ) → 1 ≤ k → k ≤ 13 → 2 ^ k ≢ length) }
@@ -93,8 +93,8 @@ pub fn base_pads_fit(blocks: u64, base: u32, index: u64, hashes: &[Hash], pads: 
     true
 }
 
-/// Whether a hash that covers the leaves from `start` on is that over pads, where these cover
-/// nothing of the file.
+// Whether a hash that covers the leaves from `start` on is that over pads, if these leaves cover
+// nothing of the file.
 fn pad_fits(blocks: u64, start: u64, hash: &Hash, layer: u32, pads: &mut Pads) -> bool
     requires low { layer ≤ 32 }
     requires upward { pads.old.layer ≤ layer }

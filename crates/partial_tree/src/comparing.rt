@@ -13,8 +13,8 @@ use crate::found::{Claim, Found};
 use hashtree::{Hash, parent};
 use node_maps::NodeMap;
 
-/// Compares the hash that is claimed for a place with the known one, or notes the claim. False
-/// where the two differ.
+// Compares the hash that is claimed for a place with the known one, or notes the claim. False if
+// the two differ.
 fn compare<N: NodeMap>(map: &N, found: &mut Found, claim: Claim) -> bool
     ensures same { OnTrue result (IsHandledClaim (N.known map.now) found.new claim) }
     ensures differs { OnFalse result (DiffersFrom (N.known map.now) claim) }
@@ -31,8 +31,8 @@ fn compare<N: NodeMap>(map: &N, found: &mut Found, claim: Claim) -> bool
     }
 }
 
-/// The hash that is claimed for a place, given or computed, if what is claimed below it differs
-/// nowhere from what is known. Notes the claims below it of places that are not known.
+// The hash that is claimed for a place, given or computed, if what is claimed below it differs
+// nowhere from what is known. Notes the claims below it of places that are not known.
 #[cycle(trace)]
 fn derive<N: NodeMap>(
     map: &N,

@@ -79,7 +79,7 @@ impl<'a> Evidence<'a> {
         ((node >> height) << height, 1 << height)
     }
 
-    /// The hash of a place of the base layer.
+    // The hash of a place of the base layer.
     fn base_hash(&self, index: u64) -> Option<Hash>
         requires span { self.now.span ≤ 32 }
         ensures { result ≡ base_hash (range_of self.now) (hashes_of self.now) self.now.base index }
@@ -95,7 +95,7 @@ impl<'a> Evidence<'a> {
         })
     }
 
-    /// The hash of an uncle's place.
+    // The hash of an uncle's place.
     fn uncle(&self, layer: u32, index: u64) -> Option<Hash>
         requires index { self.now.index < 2 ^ 32 }
         requires base { self.now.base ≤ 32 }

@@ -42,8 +42,8 @@ pub fn answer_is_accepted()
     ensures { AnswerIsAccepted }
 {}
 
-/// Gaps never rise, are at most the windows that hold a block, and are none exactly where all
-/// leaves are known.
+/// Gaps never rise, are at most the windows that hold a block, and are none exactly if all leaves
+/// are known.
 pub fn gaps_fall()
     ensures falls { GapsNeverRise }
     ensures at_most { GapsAreAtMostWindows }

@@ -17,8 +17,8 @@ use hashtree::NoMemory;
 use node_maps::NodeMap;
 use std::alloc::Global;
 
-/// How many claims are listed at most: those of the longest message. They take less than a
-/// mebibyte.
+// How many claims are listed at most: those of the longest message. They take less than a
+// mebibyte.
 const MOST_LISTED: usize = 2 * 8192 + 2 * 32;
 
 /// Stores what the evidence claims, which leads to the place, and tells how many places are newly
@@ -89,8 +89,8 @@ pub fn store_agreed<N: NodeMap>(
     Ok(gained)
 }
 
-/// Writes what was found new, or all that the evidence claims if the list is incomplete, and tells
-/// how many places are newly known.
+// Writes what was found new, or all that the evidence claims if the list is incomplete, and tells
+// how many places are newly known.
 fn put_found<N: NodeMap>(
     map: &mut N,
     evidence: &Evidence,
@@ -116,7 +116,7 @@ fn put_found<N: NodeMap>(
     put_new(map, &found.claims)
 }
 
-/// Room for all that a message claims; none for a layer that claims more.
+// Room for all that a message claims; none for a layer that claims more.
 fn room_for(evidence: &Evidence) -> usize
     requires { IsInside evidence.now }
 {
@@ -124,7 +124,7 @@ fn room_for(evidence: &Evidence) -> usize
     if most <= MOST_LISTED { most } else { 0 }
 }
 
-/// Makes room for all that the evidence claims, which leads to the place: for each layer in one go.
+// Makes room for all that the evidence claims, which leads to the place: for each layer in one go.
 fn reserve_claimed<N: NodeMap>(
     map: &mut N,
     evidence: &Evidence,

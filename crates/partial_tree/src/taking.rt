@@ -58,7 +58,7 @@ pub fn take_message<N: NodeMap>(
     store(alloc, nodes, &evidence, top, index)
 }
 
-/// Whether each given hash wholly past the file's end is that over pads.
+// Whether each given hash wholly past the file's end is that over pads.
 fn pads_fit(shape: Shape, ask: &Ask, span: u32, hashes: &[Hash]) -> bool
     requires range { GoodRange (tree_height shape) ask.now }
     requires low { tree_height shape ≤ 32 }

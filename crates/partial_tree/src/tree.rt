@@ -42,7 +42,8 @@ use std::alloc::Global;
 use std::marker::Model;
 use wire::Ask;
 
-/// A tree, by its root and the length of its files, with its known nodes and marked leaves.
+/// A tree, by its root and the length of its files, with its known nodes and marked leaves. It is
+/// *good* if what is known is closed and each marked leaf is known.
 #[derive(Drop)]
 pub struct Tree<N: NodeMap> {
     alloc: Global,
@@ -117,7 +118,7 @@ impl<N: NodeMap> Tree<N> {
     }
 
     /// Takes a hashes message that names this tree's root, and tells how many places are newly
-    /// known. A refusal leaves the tree unchanged.
+    /// known. A refusal leaves the tree unchanged. Condition: the tree is good.
     pub fn take(&mut self, ask: &Ask, hashes: &[Hash]) -> Result<u64, HashRefusal>
         requires { IsGoodTree self.old }
         ensures root { self.new.root ≡ self.old.root }
@@ -142,7 +143,7 @@ impl<N: NodeMap> Tree<N> {
     }
 
     /// Takes a whole layer, given without the pads at its end, and tells how many places are newly
-    /// known. A refusal leaves the tree unchanged.
+    /// known. A refusal leaves the tree unchanged. Condition: the tree is good.
     pub fn fill(&mut self, layer: u32, hashes: &[Hash]) -> Result<u64, HashRefusal>
         requires { IsGoodTree self.old }
         ensures root { self.new.root ≡ self.old.root }
@@ -167,9 +168,10 @@ impl<N: NodeMap> Tree<N> {
     }
 
     /// Takes a whole layer that would be accepted, and tells how many places are newly known. So
-    /// nothing has to be compared, and each digest is computed once. Fails only out of memory; the
-    /// tree is then unchanged. Condition: the layer is one of the tree's, given without the pads at
-    /// its end, and what follows from it differs nowhere from what is known.
+    /// nothing has to be compared, and each digest is computed once. Fails only if memory was
+    /// refused; the tree is then unchanged. Conditions: the tree is good, the layer is one of its
+    /// own, given without the pads at its end, and what follows from it differs nowhere from what
+    /// is known.
     pub fn plant(&mut self, layer: u32, hashes: &[Hash]) -> Result<u64, NoMemory>
         requires good { IsGoodTree self.old }
         requires accepted { IsFillAccepted self.old.length (look self.old.state.known) layer
@@ -190,7 +192,7 @@ impl<N: NodeMap> Tree<N> {
     /// Takes over a whole tree that grew from its leaves, and tells how many places are newly
     /// known: what [`Tree::fill`] with these leaves would do, but the hashes stay where they are.
     /// It takes no memory, and refuses only a tree that differs from what is known; this tree is
-    /// then unchanged. Condition: both trees are of files of one length.
+    /// then unchanged. Conditions: this tree is good, and both are of files of one length.
     pub fn adopt(&mut self, grown: GrownTree<N>) -> Result<u64, HashRefusal>
         requires good { IsGoodTree self.old }
         requires length { grown.length ≡ self.old.length }
@@ -230,7 +232,7 @@ impl<N: NodeMap> Tree<N> {
     }
 
     /// What it answers to a hash request: the hashes if they are known, else a reject. Fails only
-    /// out of memory for the hashes.
+    /// if memory for the hashes was refused.
     pub fn answer(&self, ask: &Ask) -> Result<Answer, NoMemory>
         ensures answer { IfOk result (IsTreeAnswer (tree_height self.now.length)
             (look self.now.state.known) ask.now) }
@@ -270,6 +272,7 @@ impl<N: NodeMap> Tree<N> {
     }
 
     /// Marks a block whose digest is its known leaf. A refusal leaves the tree unchanged.
+    /// Conditions: the tree is good, and the file has more than `block` blocks.
     pub fn take_block(&mut self, block: u64, bytes: &[u8]) -> Result<(), BlockRefusal>
         requires good { IsGoodTree self.old }
         requires inside { block < block_count self.old.length }
@@ -298,12 +301,12 @@ impl<N: NodeMap> Tree<N> {
     }
 }
 
-/// Each hash has 32 bytes, as its type says.
+// Each hash has 32 bytes, as its type says.
 fn are_hashes(hashes: &[Hash])
     ensures { All (λ h. length h ≡ 32) hashes.now }
 {}
 
-/// Marks a known leaf, and tells how many more are marked.
+// Marks a known leaf, and tells how many more are marked.
 fn mark_leaf<N: NodeMap>(nodes: &mut N, block: u64) -> u64
     requires { IsKnown (look (N.known nodes.old)) 0 block }
     ensures length { N.length nodes.new ≡ N.length nodes.old }

@@ -14,7 +14,7 @@ use crate::found::Claim;
 use hashtree::{Hash, parent};
 use node_maps::NodeMap;
 
-/// Sets the hash of a claim, unless its place is known, and tells how many places are new.
+// Sets the hash of a claim, unless its place is known, and tells how many places are new.
 fn put_absent<N: NodeMap>(map: &mut N, claim: &Claim) -> u64
     requires { N.has_room map.old claim.now.layer claim.now.index }
     ensures length { N.length map.new ≡ N.length map.old }
@@ -46,8 +46,8 @@ pub fn put_new<N: NodeMap>(map: &mut N, claims: &[Claim]) -> u64
     gained
 }
 
-/// Writes what is claimed from a place down, where it is not known, and tells the place's hash and
-/// how many are new.
+/// Writes the claims from a place down that are not known, and tells the place's hash and how many
+/// are new.
 #[cycle(write)]
 pub fn write_claimed<N: NodeMap>(
     map: &mut N,
@@ -71,8 +71,8 @@ pub fn write_claimed<N: NodeMap>(
     (hash, below + here)
 }
 
-/// Writes what is claimed below a place, where it is not known, and tells the place's hash and how
-/// many are new.
+// Writes the claims below a place that are not known, and tells the place's hash and how many are
+// new.
 #[cycle(write)]
 fn write_below<N: NodeMap>(map: &mut N, evidence: &Evidence, layer: u32, index: u64) -> (Hash, u64)
     requires at { IsClaimedPlace (tree_height (N.length map.old)) evidence.now layer index }

@@ -8,7 +8,7 @@ use Rattle.partial_tree.specs.Claims.{CanAnswer, answer_of}
 use Rattle.node_maps.specs.Known.{look}
 use Rattle.session.specs.Session.{SessionSeen, IsAsked, IsAnswered}
 
--- the hashes that the tree of the ask gives, where the ask can be answered, else a reject
+-- the hashes that the tree of the ask gives, if the ask can be answered, else a reject
 abbrev pub IsAnswerTo : SessionSeen → Ask → Answer → Type 0
 IsAnswerTo S ask (answer.Hashes hashes) = (a : IsAsked S ask)
     × CanAnswer (tree_height a.tree.length) (look a.state.known) ask

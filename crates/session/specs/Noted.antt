@@ -21,11 +21,11 @@ use Rattle.session.specs.SafeStep.{KeepsKnown, TakesWhatIsTrue}
 abbrev pub IsOpenAsk : SessionSeen → Ask → Type 0
 IsOpenAsk S ask = finite.contains S.asks ask ≡ true
 
--- the same trees, and this ask is open
+-- a session with the same trees, whose open asks are the same and this one
 abbrev pub with_ask : SessionSeen → Ask → SessionSeen
 with_ask S ask = record S { asks = finite.insert S.asks ask }
 
--- the same trees, and this ask is closed
+-- a session with the same trees, whose open asks are the same but for this one
 abbrev pub without_ask : SessionSeen → Ask → SessionSeen
 without_ask S ask = record S { asks = finite.remove S.asks ask }
 

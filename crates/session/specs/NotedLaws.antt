@@ -71,7 +71,8 @@ FormOneRunsAsConversion =
     × AllNoted (converted_messages ms) ws × (incoming (converted_messages ms) ws ≡ vs)
     × (asking S.asks S' ≡ T)
 
--- the same from the bytes: what is read of the converted bodies runs as what is read of the bodies
+-- if memory was refused for no request, what is read of the converted bodies runs as what is read
+-- of the bodies, with the same verdicts on what came in, and the same last trees and marks
 abbrev pub ConversionReplaysAsFormOne : Type 0
 ConversionReplaysAsFormOne = (S : SessionSeen) (bodies : List (List ℕ))
     (fs : List Told) (gs : List (Directed Told)) (vs : List Said) (S' : SessionSeen)
@@ -86,8 +87,8 @@ OneRunWithMemory = (S : SessionSeen) → HasDistinctRoots S
     → Chain Step S ms vs S' → Chain Step S ms ws T → HadMemory vs → HadMemory ws
     → (vs ≡ ws) × (S' ≡ T)
 
--- so, with memory for all, a conversion gives what came in the verdicts of form 1, in order, and
--- the same last trees and marks
+-- with memory for all, a conversion gives what came in the verdicts of form 1, in order, and the
+-- same last trees and marks
 abbrev pub ConversionTellsTheSame : Type 0
 ConversionTellsTheSame = (S : SessionSeen) → HasDistinctRoots S → (bodies : List (List ℕ))
     (fs : List Told) (gs : List (Directed Told)) (vs ws : List Said) (T S' : SessionSeen)

@@ -12,8 +12,8 @@ mod verdict;
 
 pub use blocks::Blocks;
 pub use hashtree::NoMemory;
-pub use node_maps::{Flat, NodeMap};
-pub use partial_tree::{Answer, BlockRefusal, HashRefusal};
+pub use node_maps::{Flat, NodeMap, Paged};
+pub use partial_tree::{Answer, BlockRefusal, GrowingTree, GrownTree, HashRefusal};
 pub use session::Session;
 pub use verdict::Verdict;
 

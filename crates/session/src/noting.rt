@@ -16,8 +16,8 @@ use wire::{Ask, Direction, Message};
 
 impl<'t, N: NodeMap> Session<'t, N> {
     /// Notes that we sent this request: its ask is open from now on, until hashes answer it. An ask
-    /// that is open already changes nothing and takes no memory. Fails only where memory was
-    /// refused, and then the session is unchanged.
+    /// that is open already changes nothing and takes no memory. Fails only if memory was refused,
+    /// and then the session is unchanged.
     pub fn note(&mut self, ask: &Ask) -> Result<(), NoMemory>
         ensures noted { OnOk result (self.new ≡ with_ask self.old ask.now) }
         ensures unchanged { OnErr result (self.new ≡ self.old) }

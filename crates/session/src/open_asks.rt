@@ -44,8 +44,8 @@ impl OpenAsks {
         self.asks.contains(ask)
     }
 
-    /// Opens an ask. One that is open takes no memory and changes nothing. Fails only where memory
-    /// was refused, and then nothing has changed.
+    /// Opens an ask. One that is open takes no memory and changes nothing. Fails only if memory was
+    /// refused, and then nothing has changed.
     pub fn insert(&mut self, ask: Ask) -> Result<(), NoMemory>
         ensures opened { OnOk result (self.new ≡ set.insert self.old ask) }
         ensures unchanged { OnErr result (self.new ≡ self.old) }

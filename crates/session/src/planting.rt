@@ -13,7 +13,7 @@ use partial_tree::Tree;
 use std::alloc::Global;
 
 /// A tree as a new session knows it: by its root alone, or with layers also from its piece layer
-/// up, where its files are longer than a piece. Fails only where memory was refused.
+/// up, if its files are longer than a piece. Fails only if memory was refused.
 pub fn planted<N: NodeMap>(
     alloc: Global,
     info: &TreeInfo<'_>,
@@ -31,8 +31,8 @@ pub fn planted<N: NodeMap>(
     Ok(tree)
 }
 
-/// Adds what lies from the piece layer up to a tree of which the root alone is known. The layer of
-/// an opened torrent leads to its root, so it need not be compared.
+// Adds what lies from the piece layer up to a tree of which the root alone is known. The layer of
+// an opened torrent leads to its root, so it need not be compared.
 fn add_layers<N: NodeMap>(
     tree: &mut Tree<N>,
     info: &TreeInfo<'_>,

@@ -63,8 +63,8 @@ impl<'t, N: NodeMap> Model for Session<'t, N> {
 impl<'t, N: NodeMap> Session<'t, N> {
     /// A session that knows the root of each tree of the torrent. With layers it also knows what
     /// lies from each piece layer up, the pads past a file's end among it; a file that is no longer
-    /// than a piece has no piece layer. Nothing is marked, and no ask is open. Fails only where
-    /// memory was refused.
+    /// than a piece has no piece layer. Nothing is marked, and no ask is open. Fails only if memory
+    /// was refused.
     pub fn new(
         alloc: Global,
         torrent: &'t Torrent<'t>,
@@ -250,7 +250,7 @@ impl<'t, N: NodeMap> Session<'t, N> {
         }
     }
 
-    /// Takes bytes that are so many blocks of a file, from this one on.
+    // Takes bytes that are so many blocks of a file, from this one on.
     fn mark_run(&mut self, file: usize, first: u64, bytes: &[u8], count: u64) -> Blocks
         requires { HasRun self.old.torrent file first (length bytes.now) count }
         ensures file { result.file ≡ file }
@@ -268,7 +268,7 @@ impl<'t, N: NodeMap> Session<'t, N> {
         blocks
     }
 
-    /// Marks a block of a file if its digest is its known leaf.
+    // Marks a block of a file if its digest is its known leaf.
     fn mark_in_file(&mut self, file: usize, block: u64, bytes: &[u8]) -> Result<(), BlockRefusal>
         requires { HasBlock self.old.torrent file block }
         ensures marked { IfOk result (λ _. IsMarkedBlock self.old file block bytes.now self.new) }
@@ -421,7 +421,7 @@ pub(crate) fn has_hashes(message: &Message<'_>)
     }
 }
 
-/// A block of a message's bytes: 16,384 of them, and at the end fewer.
+// A block of a message's bytes: 16,384 of them, and at the end fewer.
 fn block_of(bytes: &[u8], number: u64) -> &[u8]
     requires { 16384 * number ≤ length bytes.now }
     ensures { result.now ≡ block bytes.now number }
@@ -430,7 +430,7 @@ fn block_of(bytes: &[u8], number: u64) -> &[u8]
     &rest[..rest.len().min(BLOCK_LENGTH as usize)]
 }
 
-/// Each hash has 32 bytes, as its type says.
+// Each hash has 32 bytes, as its type says.
 fn are_hashes(hashes: &[Hash])
     ensures { All (λ h. length h ≡ 32) hashes.now }
 {}

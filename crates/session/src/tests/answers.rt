@@ -9,7 +9,7 @@ use std::process::Abort;
 use std::test::Fail;
 use wire::Ask;
 
-/// How many hashes the session answers, and which of them are these; `None` for a reject.
+// How many hashes the session answers, and which of them are these; `None` for a reject.
 fn answered(
     session: &Session<'_, Flat>,
     ask: &Ask,

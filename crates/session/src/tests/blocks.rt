@@ -7,10 +7,11 @@ use std::alloc::{AllocError, Global};
 use std::process::Abort;
 use std::test::Fail;
 
-/// A piece and a byte of it, the byte that fills the block and its length, what is told, the leaves marked then.
+// A piece and a byte of it, the byte that fills the block and its length, what is told, the leaves
+// marked then.
 type Case = (u32, u32, u8, usize, Result<(usize, u64), BlockRefusal>, u64);
 
-/// A session to which the leaves are told answers these blocks so.
+// A session to which the leaves are told answers these blocks so.
 fn take_each(
     rt: &impl Abort,
     alloc: Global,

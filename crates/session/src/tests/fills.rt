@@ -8,7 +8,7 @@ use std::alloc::{AllocError, Global};
 use std::process::Abort;
 use std::test::Fail;
 
-/// What a new session makes of a layer of the torrent's only tree, and what is known then.
+// What a new session makes of a layer of the torrent's only tree, and what is known then.
 fn fill_new(
     alloc: Global,
     torrent: &Torrent<'_>,

@@ -2,6 +2,7 @@
 
 use crate::tests::made::{
     FiveBlocks, TwoAnswers, Z0, Z1, ask, counts, five_blocks, leaves, over, torrent, two_answers,
+    wanted,
 };
 use crate::{Flat, HashRefusal, Session};
 use hashtree::Hash;
@@ -11,7 +12,7 @@ use std::process::Abort;
 use std::test::Fail;
 use wire::Ask;
 
-/// The session answers a message of these hashes so, and knows so many places then.
+// The session answers a message of these hashes so, and knows so many places then.
 fn take(
     rt: &impl Abort,
     session: &mut Session<'_, Flat>,
@@ -33,9 +34,13 @@ fn take_two_answers(
     let first = ask(answers.root, 0, 512, 9);
     let second = ask(answers.root, 512, 512, 9);
     let mut session: Session<'_, Flat> = Session::new(alloc, torrent, false)?;
+    assert_eq!(rt; wanted(&session, 700), Some(second));
     take(rt, &mut session, &second, &answers.second, Ok(1024), 1025);
+    assert_eq!(rt; wanted(&session, 700), None);
     take(rt, &mut session, &second, &answers.second, Ok(0), 1025);
+    assert_eq!(rt; wanted(&session, 0), Some(first));
     take(rt, &mut session, &first, &answers.first, Ok(1022), 2047);
+    assert_eq!(rt; wanted(&session, 0), None);
     Ok(())
 }
 
@@ -156,7 +161,8 @@ fn asks_out_of_range_and_wrong_counts_are_refused(rt: HostRuntime) -> Result<(),
     }
 }
 
-/// A new session takes these leaves of five blocks so, knows so many places then, and can answer if it took them.
+// A new session takes these leaves of five blocks so, knows so many places then, and can answer if
+// it took them.
 fn take_part(
     rt: &impl Abort,
     alloc: Global,

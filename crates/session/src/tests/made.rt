@@ -3,7 +3,7 @@
 ghost use Rattle.std.specs.Prelude.{◌≡◌, length};
 
 use crate::{Flat, Session};
-use hashtree::Hash;
+use hashtree::{Hash, Shape};
 use sha2::{Digest, Sha256};
 use std::alloc::{AllocError, Global};
 use wire::Ask;
@@ -29,7 +29,8 @@ pub(super) fn join(left: &Hash, right: &Hash) -> Hash {
     hasher.finalize()
 }
 
-/// The tree of a file of 65,636 bytes: four blocks of ones, twos, threes and fours, and 100 bytes of fives.
+/// The tree of a file of 65,636 bytes: four blocks of ones, twos, threes and fours, and 100 bytes
+/// of fives.
 #[derive(Clone, Copy)]
 pub(super) struct FiveBlocks {
     pub(super) leaves: [Hash; 8],
@@ -52,7 +53,8 @@ pub(super) fn five_blocks() -> FiveBlocks {
     }
 }
 
-/// The two answers that tell the leaves of a file of 1024 blocks: 512 leaves each, and the node beside them.
+/// The two answers that tell the leaves of a file of 1024 blocks: 512 leaves each, and the node
+/// beside them.
 #[derive(Drop)]
 pub(super) struct TwoAnswers {
     pub(super) first: Vec<Hash>,
@@ -100,7 +102,8 @@ fn joined(alloc: Global, row: &[Hash]) -> Result<Vec<Hash>, AllocError> {
     Ok(above)
 }
 
-/// The bytes of a torrent of files of one length and one root; a piece layer of no hashes is left out.
+/// The bytes of a torrent of files of one length and one root; a piece layer of no hashes is left
+/// out.
 pub(super) fn torrent(
     alloc: Global,
     names: &[&str],
@@ -161,6 +164,14 @@ pub(super) fn ask(root: Hash, index: u32, length: u32, proof: u32) -> Ask {
         index,
         length,
         proof,
+    }
+}
+
+/// What a session wants next of a torrent's only tree; `None` too for a block that is not its.
+pub(super) fn wanted(session: &Session<'_, Flat>, block: u64) -> Option<Ask> {
+    match session.torrent().trees() {
+        [tree] if block < Shape::of(tree.length)?.blocks() => session.want(0, block),
+        _ => None,
     }
 }
 

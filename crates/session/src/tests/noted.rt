@@ -9,7 +9,7 @@ use std::process::Abort;
 use std::test::Fail;
 use wire::{Ask, Direction, Message};
 
-/// A message that came in or went out, the verdict on it, and whether the ask is open after it.
+// A message that came in or went out, the verdict on it, and whether the ask is open after it.
 type Case<'a> = ((Direction, Message<'a>), Verdict, bool);
 
 const UNASKED: Verdict = Verdict::HashRefused(HashRefusal::Unasked);
@@ -103,7 +103,7 @@ fn answers_to_what_was_asked_alone(rt: HostRuntime) -> Result<(), Fail> {
     }
 }
 
-/// Notes an ask again and again, and answers by hand.
+// Notes an ask again and again, and answers by hand.
 fn notes<N: NodeMap>(
     rt: &impl Abort,
     alloc: Global,

@@ -9,7 +9,7 @@ use std::process::Abort;
 use std::test::Fail;
 use wire::Message;
 
-/// What the messages carry.
+// What the messages carry.
 #[derive(Clone, Copy)]
 struct Carried {
     five: FiveBlocks,
@@ -17,10 +17,10 @@ struct Carried {
     third: [u8; 16384],
 }
 
-/// A message, the verdict on it, and how many places are known and leaves marked after it.
+// A message, the verdict on it, and how many places are known and leaves marked after it.
 type Case<'a> = (Message<'a>, Verdict, (u64, u64));
 
-/// What is told of a message of one block, the third of the first file.
+// What is told of a message of one block, the third of the first file.
 fn told_of_third(refusal: Option<BlockRefusal>) -> Verdict {
     let mut blocks = Blocks::new(0, 2);
     blocks.push(refusal);
