@@ -34,7 +34,7 @@ abbrev pub tree_of : List Walk → Pairs
 tree_of [] = no_pairs
 tree_of (w ∷ ws) = with_first w.path w.file (tree_of ws)
 
--- a file's dictionary: its length, and its root where it is not empty
+-- a file's dictionary: its length, and its root if it is not empty
 abbrev pub file_value : OutlineFile → Bencode
 file_value f = dict (pair (codes "length") (int (pos f.length))
     (if nat_lt 0 f.length then pair (codes "pieces root") (text f.root) no_pairs else no_pairs))
@@ -74,7 +74,7 @@ abbrev pub pad_value : ℕ → Bencode
 pad_value n = dict (pair (codes "attr") (text (codes "p")) (pair (codes "length") (int (pos n))
     (pair (codes "path") (list (texts_value (codes ".pad" ∷ decimal n ∷ []))) no_pairs)))
 
--- a pad stands behind a file that ends within a piece, where a file that is not empty comes later
+-- a pad stands behind a file that ends within a piece, if a file that is not empty comes later
 abbrev pub needs_pad : ℕ → OutlineFile → List OutlineFile → Bool
 needs_pad piece_length f later = nat_lt 0 (gap piece_length f.length) && has_content later
 

@@ -19,15 +19,16 @@ use pieces::V1File;
 use std::alloc::Global;
 use std::collections::BTreeMap;
 
-/// The most pieces that the files of a torrent have in all.
+// The most pieces that the files of a torrent have in all.
 const MAX_PIECES: u64 = 4_294_967_295;
 
 impl Draft {
-    /// Adds a file with this path, length in bytes and pieces root.
+    /// Adds a file with this path, length in bytes and pieces root. `root` is ignored for an empty
+    /// file, `layer` for a file that is no longer than a piece, and `v1` unless the draft is a
+    /// hybrid and the file is not empty.
     ///
-    /// For a length above the piece length, `root` and `layer` must be those of one content of that
-    /// length; else `layer` is ignored, and for an empty file `root` too. `v1` has the digests of
-    /// the file's cuts; it is ignored unless the draft is a hybrid and the file is not empty.
+    /// Conditions: `layer`, unless it is ignored, has one hash for each of the file's pieces, and
+    /// the tree over it has this root; `v1`, unless it is ignored, has one digest for each piece.
     ///
     /// # Errors
     ///
@@ -70,7 +71,7 @@ impl Draft {
         self.insert(place, file, layer)
     }
 
-    /// Tests that no file of another length has this root.
+    // Tests that no file of another length has this root.
     fn test_root(&self, length: u64, root: &Hash) -> Result<(), Refusal>
         ensures { MatchResult result (λ _. ReusesRoot self.now length root.now → ⊥)
             (λ r. (r ≡ Refusal.RootReused) × ReusesRoot self.now length root.now) }
@@ -81,7 +82,7 @@ impl Draft {
         }
     }
 
-    /// Tests how many pieces there are with those of a file of this length.
+    // Tests how many pieces there are with those of a file of this length.
     fn test_pieces(&self, length: u64) -> Result<(), Refusal>
         ensures { MatchResult result
             (λ _. pieces_in_all self.now + pieces_of self.now.piece_length length < 2 ^ 32)
@@ -94,7 +95,7 @@ impl Draft {
         Ok(())
     }
 
-    /// The file as a draft keeps it.
+    // The file as a draft keeps it.
     fn draft_file(
         &self,
         path: &[&str],
@@ -119,7 +120,7 @@ impl Draft {
         })
     }
 
-    /// Puts a file at its place among the others, and keeps its root.
+    // Puts a file at its place among the others, and keeps its root.
     fn insert(&mut self, place: usize, file: DraftFile, layer: &[Hash]) -> Result<(), Refusal>
         requires room { place ≤ length self.old.files }
         requires place { IsPlaceOf (outline_file file).path
@@ -142,7 +143,7 @@ impl Draft {
     }
 }
 
-/// Keeps the root of a file that is not empty, unless it is there.
+// Keeps the root of a file that is not empty, unless it is there.
 fn keep_root(
     alloc: Global,
     roots: &mut BTreeMap<Hash, KeptRoot>,
@@ -165,7 +166,7 @@ fn keep_root(
     Ok(())
 }
 
-/// What is kept of a root of files of this length.
+// What is kept of a root of files of this length.
 fn kept_root(
     alloc: Global,
     length: u64,
@@ -184,7 +185,7 @@ fn kept_root(
     Ok(KeptRoot { length, layer })
 }
 
-/// Copies of texts.
+// Copies of texts.
 fn texts(alloc: Global, parts: &[&str]) -> Result<Vec<String>, Refusal>
     ensures { UnlessNoMemory result
         (λ ts. map string_bytes ts.items ≡ map (λ s. s.now) parts.now) }
@@ -196,7 +197,7 @@ fn texts(alloc: Global, parts: &[&str]) -> Result<Vec<String>, Refusal>
     Ok(texts)
 }
 
-/// Each digest has 20 bytes, as its type says.
+// Each digest has 20 bytes, as its type says.
 fn are_digests(digests: &[[u8; 20]])
     ensures { All (λ h. length h ≡ 20) digests.now }
 {}

@@ -5,10 +5,10 @@ ghost use Rattle.filetree.specs.Paths.{IsComponent, IsFilePath};
 
 use filetree::Refusal;
 
-/// The most components of a path: 128 lists and dictionaries may be open at once.
+// The most components of a path: 128 lists and dictionaries may be open at once.
 const MAX_COMPONENTS: usize = 124;
 
-/// Tells whether a path may have this component.
+// Tells whether a path may have this component.
 fn is_component(name: &str) -> bool
     ensures { IsTrue result ↔ IsComponent name.now }
 {

@@ -38,7 +38,7 @@ pub struct Draft {
     pub(crate) hybrid: bool,
     pub(crate) files: Vec<DraftFile>,
     pub(crate) roots: BTreeMap<Hash, KeptRoot>,
-    // How many pieces the files have in all.
+    /// How many pieces the files have in all.
     pub(crate) pieces: u64,
 }
 

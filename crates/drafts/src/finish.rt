@@ -57,7 +57,7 @@ impl Draft {
         }
     }
 
-    /// Tells whether the text is within the limit. It writes nothing.
+    // Tells whether the text is within the limit. It writes nothing.
     fn is_small<W: Sink>(&self, w: &mut W) -> bool
         ensures answer { IsTrue result ↔ (length (spelling (value_of self.now)) ≤ max_torrent) }
         ensures unchanged { W.seen w.new ≡ W.seen w.old }
@@ -70,7 +70,7 @@ impl Draft {
         }
     }
 
-    /// Writes the text, and flushes.
+    // Writes the text, and flushes.
     fn write<W: Sink>(&self, w: &mut W) -> Result<(), DeviceFault>
         ensures { WroteAndFlushed (W.seen w.old) (W.seen w.new) result
             (spelling (value_of self.now)) }
@@ -83,7 +83,7 @@ impl Draft {
         }
     }
 
-    /// Puts the whole text.
+    // Puts the whole text.
     fn put_torrent<W: Sink>(&self, pen: &mut Pen, w: &mut W)
         ensures { Put pen.old (W.seen w.old) pen.new (W.seen w.new) (spelling (value_of self.now)) }
     {
@@ -94,7 +94,7 @@ impl Draft {
         pen.put(w, b"ee");
     }
 
-    /// Puts the info dictionary.
+    // Puts the info dictionary.
     fn put_info<W: Sink>(&self, pen: &mut Pen, w: &mut W)
         ensures { Put pen.old (W.seen w.old) pen.new (W.seen w.new)
             (spelling (info_value self.now)) }
@@ -111,7 +111,7 @@ impl Draft {
         pen.put(w, b"e");
     }
 
-    /// Puts the version 1 list of a hybrid: `length` or `files`.
+    // Puts the version 1 list of a hybrid: `length` or `files`.
     fn put_list<W: Sink>(&self, pen: &mut Pen, w: &mut W)
         ensures { Put pen.old (W.seen w.old) pen.new (W.seen w.new)
             (pairs_spelling (if self.now.hybrid then list_pair self.now no_pairs else no_pairs)) }
@@ -129,7 +129,7 @@ impl Draft {
         }
     }
 
-    /// Puts the version 1 digests of a hybrid.
+    // Puts the version 1 digests of a hybrid.
     fn put_pieces<W: Sink>(&self, pen: &mut Pen, w: &mut W)
         ensures { Put pen.old (W.seen w.old) pen.new (W.seen w.new)
             (pairs_spelling (pieces_pair self.now)) }
@@ -145,7 +145,7 @@ impl Draft {
     }
 }
 
-/// Puts the layers of the roots whose files are longer than a piece.
+// Puts the layers of the roots whose files are longer than a piece.
 fn put_layers<W: Sink>(
     roots: &BTreeMap<Hash, KeptRoot>,
     piece_length: u64,
@@ -160,7 +160,7 @@ fn put_layers<W: Sink>(
     }
 }
 
-/// Puts the layer of a root whose files are longer than a piece.
+// Puts the layer of a root whose files are longer than a piece.
 fn put_layer<W: Sink>(root: &Hash, kept: &KeptRoot, piece_length: u64, pen: &mut Pen, w: &mut W)
     ensures { Put pen.old (W.seen w.old) pen.new (W.seen w.new) (pairs_spelling (layer_pairs
         (outline_layers piece_length ((root.now, kept.now) ∷ [])))) }

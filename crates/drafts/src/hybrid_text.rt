@@ -54,7 +54,7 @@ pub(crate) fn put_digests<W: Sink>(files: &[DraftFile], pen: &mut Pen, w: &mut W
     }
 }
 
-/// How many first files there are up to the last one that is not empty.
+// How many first files there are up to the last one that is not empty.
 fn content_end(files: &[DraftFile]) -> usize
     ensures { (i : ℕ) → has_content (drop i (map outline_file files.now)) ≡ nat_lt i result }
 {
@@ -67,7 +67,7 @@ fn content_end(files: &[DraftFile]) -> usize
     end
 }
 
-/// Puts the entry of a file.
+// Puts the entry of a file.
 fn put_entry<W: Sink>(file: &DraftFile, pen: &mut Pen, w: &mut W)
     ensures { Put pen.old (W.seen w.old) pen.new (W.seen w.new)
         (spelling (entry_value (outline_file file.now))) }
@@ -79,7 +79,7 @@ fn put_entry<W: Sink>(file: &DraftFile, pen: &mut Pen, w: &mut W)
     pen.put(w, b"ee");
 }
 
-/// Puts texts as byte strings.
+// Puts texts as byte strings.
 fn put_strings<W: Sink>(parts: &[String], pen: &mut Pen, w: &mut W)
     ensures { Put pen.old (W.seen w.old) pen.new (W.seen w.new)
         (items_spelling (texts_value (map string_bytes parts.now))) }
@@ -89,8 +89,8 @@ fn put_strings<W: Sink>(parts: &[String], pen: &mut Pen, w: &mut W)
     }
 }
 
-/// Puts the entry of a pad behind a file that ends within a piece, if one that is not empty comes
-/// later.
+// Puts the entry of a pad behind a file that ends within a piece, if one that is not empty comes
+// later.
 fn put_pad<W: Sink>(
     file: &DraftFile,
     piece_length: PieceLength,
@@ -109,7 +109,7 @@ fn put_pad<W: Sink>(
     }
 }
 
-/// Puts the entry of a pad of so many zeros.
+// Puts the entry of a pad of so many zeros.
 fn put_zeros<W: Sink>(zeros: u64, pen: &mut Pen, w: &mut W)
     ensures { Put pen.old (W.seen w.old) pen.new (W.seen w.new) (spelling (pad_value zeros)) }
 {
@@ -121,8 +121,8 @@ fn put_zeros<W: Sink>(zeros: u64, pen: &mut Pen, w: &mut W)
     pen.put(w, b"ee");
 }
 
-/// Puts the digests of a file's cuts, the last one filled up with zeros if a file that is not
-/// empty comes later.
+// Puts the digests of a file's cuts, the last one filled up with zeros if a file that is not
+// empty comes later.
 fn put_cuts<W: Sink>(file: &DraftFile, is_followed: bool, pen: &mut Pen, w: &mut W)
     ensures { let f = outline_file file.now in
         Put pen.old (W.seen w.old) pen.new (W.seen w.new) (concat

@@ -10,7 +10,7 @@ ghost use Rattle.filetree.specs.Paths.{AreInOrder, path_cmp};
 use crate::draft::DraftFile;
 use std::cmp::Ordering;
 
-/// Two paths by the first component in which they differ; `Equal` if one is a prefix of the other.
+// Two paths by the first component in which they differ; `Equal` if one is a prefix of the other.
 fn path_cmp(own: &[String], path: &[&str]) -> Ordering
     ensures { result ≡ path_cmp (map string_bytes own.now) (map (λ s. s.now) path.now) }
 {

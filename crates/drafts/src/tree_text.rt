@@ -34,7 +34,7 @@ pub(crate) fn put_tree<W: Sink>(files: &[DraftFile], pen: &mut Pen, w: &mut W)
     put_ends(before.len(), pen, w);
 }
 
-/// How many first components two paths share.
+// How many first components two paths share.
 fn shared_count(one: &[String], other: &[String]) -> usize
     ensures value { result ≡ shared (map string_bytes one.now) (map string_bytes other.now) }
     ensures below_one { result ≤ length one.now }
@@ -49,7 +49,7 @@ fn shared_count(one: &[String], other: &[String]) -> usize
     count
 }
 
-/// Ends so many dictionaries.
+// Ends so many dictionaries.
 fn put_ends<W: Sink>(count: usize, pen: &mut Pen, w: &mut W)
     ensures { Put pen.old (W.seen w.old) pen.new (W.seen w.new) (closed count) }
 {
@@ -58,7 +58,7 @@ fn put_ends<W: Sink>(count: usize, pen: &mut Pen, w: &mut W)
     }
 }
 
-/// Begins directories of these names, each inside the one before it.
+// Begins directories of these names, each inside the one before it.
 fn put_opened<W: Sink>(names: &[String], pen: &mut Pen, w: &mut W)
     ensures { Put pen.old (W.seen w.old) pen.new (W.seen w.new)
         (opened (map string_bytes names.now)) }
@@ -69,7 +69,7 @@ fn put_opened<W: Sink>(names: &[String], pen: &mut Pen, w: &mut W)
     }
 }
 
-/// Puts a file's dictionary, under the key of no bytes.
+// Puts a file's dictionary, under the key of no bytes.
 fn put_file<W: Sink>(file: &DraftFile, pen: &mut Pen, w: &mut W)
     ensures { Put pen.old (W.seen w.old) pen.new (W.seen w.new)
         (pairs_spelling (pair (codes "") (file_value (outline_file file.now)) no_pairs)) }
@@ -80,7 +80,7 @@ fn put_file<W: Sink>(file: &DraftFile, pen: &mut Pen, w: &mut W)
     pen.put(w, b"e");
 }
 
-/// Puts the root of a file that is not empty.
+// Puts the root of a file that is not empty.
 fn put_root<W: Sink>(file: &DraftFile, pen: &mut Pen, w: &mut W)
     ensures { Put pen.old (W.seen w.old) pen.new (W.seen w.new) (pairs_spelling
         (if nat_lt 0 file.now.length then pair (codes "pieces root") (text file.now.root) no_pairs

@@ -6,8 +6,8 @@ use Rattle.benc.specs.Device.{one_more}
 use Rattle.benc.specs.MemDevices.{bytes_left, most_given, source_calls}
 use Rattle.benc.specs.declared.device.DeviceFault.{DeviceFault}
 use Rattle.benc.specs.declared.memory.source.MemSource.{MemSource}
-use Rattle.folders.specs.MemShelf.{first_with}
-use Rattle.folders.specs.Shelf.{more}
+use Rattle.folders.specs.MemShelf.{first_with, listing_of}
+use Rattle.folders.specs.Shelf.{CountsListing, IsListed, more}
 use Rattle.folders.specs.declared.mem_shelf.MemFile.{MemFile}
 use Rattle.folders.specs.declared.mem_shelf.MemShelf.{MemShelf}
 use Rattle.folders.specs.declared.shelf_fault.ShelfFault.{ShelfFault}
@@ -74,3 +74,12 @@ ListsInTurn turn (Err fault.Device) = turn ≡ Some 0
 ListsInTurn turn (Err fault.Name) = turn ≢ Some 0
 ListsInTurn turn (Err (fault.Special path)) = turn ≢ Some 0
 ListsInTurn turn (Err fault.NoMemory) = turn ≢ Some 0
+
+-- a listing fails exactly in its turn, and else tells what stands there; it takes a turn, its fault
+-- is counted, and all else stays
+pub record Lists (s : MemShelfSeen) (answer : Result (Vec (Vec (String Global))) ShelfFault)
+    (s' : MemShelfSeen) : Type 0 where
+  pub fails : ListsInTurn s.before_fault answer
+  pub told : IsListed (Some (listing_of s.files s.has_odd_name s.specials)) answer
+  pub counts : CountsListing s.faults s'.faults answer
+  pub stays : s' ≡ record s { before_fault = after_call s.before_fault; faults = s'.faults }

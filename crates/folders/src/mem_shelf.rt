@@ -1,6 +1,5 @@
 //! A shelf over memory, for tests: it counts its openings, and fails at a set call.
-ghost use Rattle.std.specs.Prelude.{◌≡◌, ℕ, ◌-◌, ◌^◌, ◌<◌, List, [], map, Some, None, option_map, IfOk, true, false};
-ghost use Rattle.benc.specs.Calls.{after_call};
+ghost use Rattle.std.specs.Prelude.{◌≡◌, ◌-◌, ◌^◌, ◌<◌, [], map, Some, None, option_map, IfOk, true, false};
 ghost use Rattle.folders.specs.MemShelf.{first_with, path_of};
 ghost use Rattle.folders.specs.Shelf.{IsEachOnce, is_path, path_bytes};
 
@@ -191,13 +190,14 @@ impl<'a> Shelf for MemShelf<'a> {
     type File = MemSource<'a>;
 
     ghost use Rattle.folders.specs.MemShelf.{content_under, listing_of};
-    ghost use Rattle.folders.specs.MemShelfCalls.{Closes, ListsInTurn, OpensFile, seen_of};
-    ghost use Rattle.folders.specs.Shelf.{CountsListing, IsListed};
+    ghost use Rattle.folders.specs.MemShelfCalls.{Closes, Lists, OpensFile, seen_of};
 
     ghost under = { λ s p. Some (content_under (seen_of s).files p) };
 
     ghost listing = { λ s. Some (listing_of (seen_of s).files
         (seen_of s).has_odd_name (seen_of s).specials) };
+
+    ghost lists = { λ s r t. Lists (seen_of s) r (seen_of t) };
 
     ghost opens = { λ s path r t. OpensFile (seen_of s) path r (seen_of t) };
 
@@ -205,22 +205,7 @@ impl<'a> Shelf for MemShelf<'a> {
 
     ghost faults = { λ s. (seen_of s).faults };
 
-    fn list(&mut self) -> Result<Vec<Vec<String>>, ShelfFault>
-        ensures listed { IsListed (Some (listing_of (seen_of self.old).files
-            (seen_of self.old).has_odd_name (seen_of self.old).specials)) result }
-        ensures counts { CountsListing (seen_of self.old).faults (seen_of self.new).faults result }
-        ensures listing { Some (listing_of (seen_of self.new).files
-            (seen_of self.new).has_odd_name (seen_of self.new).specials)
-            ≡ Some (listing_of (seen_of self.old).files
-            (seen_of self.old).has_odd_name (seen_of self.old).specials) }
-        ensures kept { (p : List (List ℕ)) → Some (content_under (seen_of self.new).files p)
-            ≡ Some (content_under (seen_of self.old).files p) }
-        ensures fails { ListsInTurn (seen_of self.old).before_fault result }
-        ensures stays { seen_of self.new ≡ record (seen_of self.old) {
-          before_fault = after_call (seen_of self.old).before_fault;
-          faults = (seen_of self.new).faults;
-        } }
-    {
+    fn list(&mut self) -> Result<Vec<Vec<String>>, ShelfFault> {
         if self.calls.next().is_err() {
             return Err(ShelfFault::Device);
         }

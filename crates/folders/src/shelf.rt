@@ -8,8 +8,10 @@ use benc::{DeviceFault, Source};
 
 /// A place where files lie under paths. A file that it opened is handed back to it.
 pub trait Shelf {
-    ghost use Rattle.std.specs.Prelude.{Result};
+    ghost use Rattle.std.specs.Prelude.{Result, String};
+    ghost use Rattle.std.specs.Global.{Global, Vec};
     ghost use Rattle.benc.specs.declared.device.DeviceFault.{DeviceFault};
+    ghost use Rattle.folders.specs.declared.shelf_fault.ShelfFault.{ShelfFault};
 
     /// An opened file.
     type File: Source;
@@ -19,6 +21,9 @@ pub trait Shelf {
 
     // What is on the shelf, if that is known.
     ghost listing: { Self → Option Listing };
+
+    // What a call of `list` may answer, and the shelf after it.
+    ghost lists: { Self → Result (Vec (Vec (String Global))) ShelfFault → Self → Type 0 };
 
     // What a call of `open` with this path may answer, and the shelf after it.
     ghost opens: { Self → List (List ℕ) → Result (Option Self.File) DeviceFault → Self → Type 0 };
@@ -35,6 +40,7 @@ pub trait Shelf {
     fn list(&mut self) -> Result<Vec<Vec<String>>, ShelfFault>
         ensures listed { IsListed (listing self.old) result }
         ensures counts { CountsListing (faults self.old) (faults self.new) result }
+        ensures lists { lists self.old result self.new }
         ensures listing { listing self.new ≡ listing self.old }
         ensures kept { (p : List (List ℕ)) → under self.new p ≡ under self.old p };
 

@@ -13,7 +13,8 @@ use Rattle.benc.specs.Device.{SourceSeen}
 use Rattle.benc.specs.declared.device.DeviceFault.{DeviceFault}
 use Rattle.drafts.specs.Outline.{Outline}
 use Rattle.folders.specs.Shelf.{IsListed, Listing, is_path, path_bytes}
-use Rattle.gathering.specs.Gathering.{AreContents, Fails, Gathers, GathersAll, HasGathered, IsSortedListing, LacksMemoryAt, Misses, RefusesAt, StopsAt}
+use Rattle.folders.specs.declared.shelf_fault.ShelfFault.{ShelfFault}
+use Rattle.gathering.specs.Gathering.{AreContents, Fails, Gathers, GathersAll, HasGathered, IsListedAs, IsSortedListing, LacksMemoryAt, Misses, RefusesAt, StopsAt}
 use Rattle.gathering.specs.Steps.{Stops, StopsBefore}
 use Rattle.gathering.specs.Stopping.{at_path}
 use Rattle.gathering.specs.declared.file_fault.FileFault.{FileFault}
@@ -48,7 +49,7 @@ sorted_paths (v ∷ vs) up k d low inside =
     ∙ sym (order_is (get_or all (k + 1) v).items (get_or all k v).items))
     ∙ up k v low next
 
-pub sorted_listing : (told : Option Listing) (paths : Vec (Vec (String Global))) (sorted : Paths) → IsListed told (Ok paths) → IsPermutation paths.items sorted
+sorted_listing : (told : Option Listing) (paths : Vec (Vec (String Global))) (sorted : Paths) → IsListed told (Ok paths) → IsPermutation paths.items sorted
     → IsSorted (λ v w. slice_cmp (λ a b. slice_cmp nat_cmp (string_bytes a) (string_bytes b)) v.items w.items) sorted → IsSortedListing told (map path_bytes sorted)
 sorted_listing told paths sorted listed moved up = record {
   in_order = sorted_paths sorted up;
@@ -61,6 +62,17 @@ sorted_listing told paths sorted listed moved up = record {
       };
 }
 
+-- the shelf was listed, and its answer sorted
+pub listed_as : {S : Type 0} (listing : S → Option Listing) (lists : S → Result (Vec (Vec (String Global))) ShelfFault → S → Type 0) (old base : S) (paths : Vec (Vec (String Global))) (sorted : Paths) → lists old (Ok paths) base → IsListed (listing old) (Ok paths) → IsPermutation paths.items sorted
+    → IsSorted (λ v w. slice_cmp (λ a b. slice_cmp nat_cmp (string_bytes a) (string_bytes b)) v.items w.items) sorted
+    → IsListedAs listing lists old (map path_bytes sorted) base
+listed_as listing lists old base paths sorted answered listed moved up = record {
+  answer = paths;
+  answered = answered;
+  these = IsPermutation-map path_bytes paths.items sorted moved;
+  sorted = sorted_listing (listing old) paths sorted listed moved up;
+}
+
 -- ---- what was gathered
 
 are_under : (u v : List (List ℕ) → Option (Option (List ℕ))) (ps : List (List (List ℕ))) (cs : List (List ℕ)) → ((p : List (List ℕ)) → u p ≡ v p) → AreContents u ps cs → AreContents v ps cs
@@ -70,13 +82,12 @@ are_under u v (p ∷ ps) [] same are = absurd are
 are_under u v (p ∷ ps) (c ∷ cs) same (first, rest) = (subst (λ t. Agrees t (Some c)) (same p) first, are_under u v ps cs same rest)
 
 module _ {S F : Type 0} (opens : S → List (List ℕ) → Result (Option F) DeviceFault → S → Type 0) (closes : S → F → S → Type 0) (faults : S → ℕ)
-    (under : S → List (List ℕ) → Option (Option (List ℕ))) (seen : F → SourceSeen) (listing : S → Option Listing) (name : List ℕ) (piece_length : ℕ) (hybrid : Bool) where
+    (under : S → List (List ℕ) → Option (Option (List ℕ))) (seen : F → SourceSeen) (listing : S → Option Listing) (lists : S → Result (Vec (Vec (String Global))) ShelfFault → S → Type 0) (name : List ℕ) (piece_length : ℕ) (hybrid : Bool) where
   -- the listing left the shelf as it was
   gathered_before : (old base s : S) (paths : List (List (List ℕ))) (d : Outline) → faults base ≡ faults old → ((p : List (List ℕ)) → under base p ≡ under old p)
-      → HasGathered opens closes faults under seen listing name piece_length hybrid base paths s d → HasGathered opens closes faults under seen listing name piece_length hybrid old paths s d
+      → HasGathered opens closes faults under seen listing lists name piece_length hybrid base base paths s d → HasGathered opens closes faults under seen listing lists name piece_length hybrid old base paths s d
   gathered_before old base s paths d quiet kept so_far = record {
     contents = so_far.contents;
-    listed = so_far.listed;
     read = so_far.read;
     are = are_under (under base) (under old) paths so_far.contents kept so_far.are;
     gathered = so_far.gathered;
@@ -84,17 +95,18 @@ module _ {S F : Type 0} (opens : S → List (List ℕ) → Result (Option F) Dev
     kept = λ p. so_far.kept p ∙ kept p;
   }
 
-  pub gathers_all : (old base new : S) (sorted : Paths) (d : Outline) → IsPieceLength piece_length → IsSortedListing (listing old) (map path_bytes sorted)
+  pub gathers_all : (old base new : S) (sorted : Paths) (d : Outline) → IsPieceLength piece_length
+      → IsListedAs listing lists old (map path_bytes sorted) base
       → faults base ≡ faults old → ((p : List (List ℕ)) → under base p ≡ under old p)
-      → HasGathered opens closes faults under seen listing name piece_length hybrid base (map path_bytes sorted) new d
-      → GathersAll opens closes faults under seen listing name piece_length hybrid old new d
+      → HasGathered opens closes faults under seen listing lists name piece_length hybrid base base (map path_bytes sorted) new d
+      → GathersAll opens closes faults under seen listing lists name piece_length hybrid old new d
   gathers_all old base new sorted d legal listed quiet kept all =
-      record { legal = legal; paths = map path_bytes sorted; sorted = listed; all = gathered_before old base new (map path_bytes sorted) d quiet kept all }
+      record { legal = legal; paths = map path_bytes sorted; listed = base; listing_is = listed; all = gathered_before old base new (map path_bytes sorted) d quiet kept all }
 
   -- what is told of a path at which it stopped
   told_at : (old new mid : S) (d : Outline) (f : FileFault) (v : Vec (String Global))
-      → ((Why : Outline → S → Type 0) → Why d mid → StopsAt opens closes faults under seen listing name piece_length hybrid old (path_bytes v) Why)
-      → Stops opens closes faults under seen f d mid (path_bytes v) new → Gathers opens closes faults under seen listing name piece_length hybrid old new (Err (at_path f v))
+      → ((Why : Outline → S → Type 0) → Why d mid → StopsAt opens closes faults under seen listing lists name piece_length hybrid old (path_bytes v) Why)
+      → Stops opens closes faults under seen f d mid (path_bytes v) new → Gathers opens closes faults under seen listing lists name piece_length hybrid old new (Err (at_path f v))
   told_at old new mid d (why.Refused r) v at stops = inr (at (λ e s. RefusesAt opens closes faults under seen e (path_bytes v) r s new) stops)
   told_at old new mid d why.Device v at stops = at (λ e s. Fails opens closes faults under seen s (path_bytes v) new) stops
   told_at old new mid d why.NoMemory v at stops =
@@ -107,16 +119,17 @@ module _ {S F : Type 0} (opens : S → List (List ℕ) → Result (Option F) Dev
       same_Some path (path_bytes v) (sym there ∙ item_of path_bytes sorted n v inside ∙ ap (λ w. Some (path_bytes w)) (sym is))
 
   pub stopped_at : (old base new : S) (sorted : Paths) (stop : Stop) (v : Vec (String Global)) (told : GatherFault) → IsPieceLength piece_length
-      → IsSortedListing (listing old) (map path_bytes sorted) → faults base ≡ faults old → ((p : List (List ℕ)) → under base p ≡ under old p)
-      → StopsBefore opens closes faults under seen listing name piece_length hybrid base (map path_bytes sorted) new stop → v ≡ get_or sorted stop.number v → told ≡ at_path stop.fault v
-      → Gathers opens closes faults under seen listing name piece_length hybrid old new (Err told)
+      → IsListedAs listing lists old (map path_bytes sorted) base → faults base ≡ faults old → ((p : List (List ℕ)) → under base p ≡ under old p)
+      → StopsBefore opens closes faults under seen listing lists name piece_length hybrid base (map path_bytes sorted) new stop → v ≡ get_or sorted stop.number v → told ≡ at_path stop.fault v
+      → Gathers opens closes faults under seen listing lists name piece_length hybrid old new (Err told)
   stopped_at old base new sorted stop v told legal listed quiet kept stops is answer =
       let path : stops.path ≡ path_bytes v = taken sorted stop.number stops.path v stops.there is in
-      subst (λ f. Gathers opens closes faults under seen listing name piece_length hybrid old new (Err f)) (sym answer)
+      subst (λ f. Gathers opens closes faults under seen listing lists name piece_length hybrid old new (Err f)) (sym answer)
       (told_at old new stops.mid stops.draft stop.fault v (λ Why holds. record {
         legal = legal;
         paths = map path_bytes sorted;
-        sorted = listed;
+        listed = base;
+        listing_is = listed;
         number = stop.number;
         there = stops.there ∙ ap Some path;
         draft = stops.draft;

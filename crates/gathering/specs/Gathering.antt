@@ -1,8 +1,9 @@
--- How a draft is gathered from a shelf: each listed path is opened once, in the order of the file
--- tree, read once, and handed back.
-use Rattle.std.specs.Prelude.{◌≡◌, ◌⊎◌, ℕ, ◌+◌, ◌^◌, ◌<◌, ◌≤◌, Bool, false, List, [], ◌∷◌, length, take, slice_get, Option, Some, None, Result, Ok, Err}
+-- How a draft is gathered from a shelf: it is listed once, and each listed path is opened once, in
+-- the order of the file tree, read once, and handed back.
+use Rattle.std.specs.Prelude.{◌≡◌, ◌⊎◌, ℕ, ◌+◌, ◌^◌, ◌<◌, ◌≤◌, Bool, false, List, [], ◌∷◌, length, map, take, slice_get, Option, Some, None, Result, Ok, Err, String}
 use Rattle.std.specs.Cmp.Lexicographic.{slice_cmp}
-use Rattle.std.specs.List.Sorted.{IsSorted}
+use Rattle.std.specs.Global.{Global, Vec}
+use Rattle.std.specs.List.Sorted.{IsPermutation, IsSorted}
 use Rattle.std.specs.Ordering.{nat_cmp}
 use Rattle.benc.specs.Device.{SourceSeen, one_more}
 use Rattle.benc.specs.declared.device.DeviceFault.{DeviceFault}
@@ -31,6 +32,17 @@ pub record ListsOnce (there : Listing) (paths : List (List (List ℕ))) : Type 0
 pub record IsSortedListing (told : Option Listing) (paths : List (List (List ℕ))) : Type 0 where
   pub in_order : IsSorted (slice_cmp (slice_cmp nat_cmp)) paths
   pub listed : (there : Listing) → told ≡ Some there → ListsOnce there paths
+
+-- the shelf was listed, and nothing else: it answered these paths, which here stand in the order of
+-- the file tree, and which are those that it tells, if it does. `listing` and `lists` are those of
+-- the shelf's type
+pub record IsListedAs {S : Type 0} (listing : S → Option Listing)
+    (lists : S → Result (Vec (Vec (String Global))) ShelfFault → S → Type 0)
+    (old : S) (paths : List (List (List ℕ))) (new : S) : Type 0 where
+  pub answer : Vec (Vec (String Global))
+  pub answered : lists old (Ok answer) new
+  pub these : IsPermutation (map path_bytes answer.items) paths
+  pub sorted : IsSortedListing (listing old) paths
 
 -- one of the paths has a component
 abbrev pub HasComponents : List (List (List ℕ)) → Type 0
@@ -96,37 +108,40 @@ module _ {S F : Type 0} (opens : S → List (List ℕ) → Result (Option F) Dev
 
   -- ---- all files
 
-  -- the shelf tells this listing before it is listed, and the draft has this name, piece length and
-  -- kind
-  module _ (listing : S → Option Listing) (name : List ℕ) (piece_length : ℕ) (hybrid : Bool) where
-    -- the shelf was listed, and then these paths were read in turn and gathered in the draft d
-    pub record HasGathered (old : S) (paths : List (List (List ℕ))) (s : S) (d : Outline) : Type 0
-      where
-        pub contents : List (List ℕ)
-        pub listed : S
-        pub read : Chain Reads listed paths contents s
-        pub are : AreContents (under old) paths contents
-        pub gathered : Gathered name piece_length hybrid paths contents d
-        pub quiet : faults s ≡ faults old
-        pub kept : (p : List (List ℕ)) → under s p ≡ under old p
+  -- `listing` and `lists` are those of the shelf's type, and the draft has this name, piece length
+  -- and kind
+  module _ (listing : S → Option Listing)
+      (lists : S → Result (Vec (Vec (String Global))) ShelfFault → S → Type 0)
+      (name : List ℕ) (piece_length : ℕ) (hybrid : Bool) where
+    -- once the shelf was listed, these paths were read in turn and gathered in the draft d
+    pub record HasGathered (old listed : S) (paths : List (List (List ℕ))) (s : S) (d : Outline)
+        : Type 0 where
+      pub contents : List (List ℕ)
+      pub read : Chain Reads listed paths contents s
+      pub are : AreContents (under old) paths contents
+      pub gathered : Gathered name piece_length hybrid paths contents d
+      pub quiet : faults s ≡ faults old
+      pub kept : (p : List (List ℕ)) → under s p ≡ under old p
 
     -- all listed files are in the draft d, and no other
     pub record GathersAll (old new : S) (d : Outline) : Type 0 where
       pub legal : IsPieceLength piece_length
       pub paths : List (List (List ℕ))
-      pub sorted : IsSortedListing (listing old) paths
-      pub all : HasGathered old paths new d
+      pub listed : S
+      pub listing_is : IsListedAs listing lists old paths listed
+      pub all : HasGathered old listed paths new d
 
     -- the files before one of the listed paths were gathered, and this happened at that path
     pub record StopsAt (old : S) (path : List (List ℕ)) (Why : Outline → S → Type 0) : Type 0 where
       pub legal : IsPieceLength piece_length
       pub paths : List (List (List ℕ))
-      pub sorted : IsSortedListing (listing old) paths
+      pub listed : S
+      pub listing_is : IsListedAs listing lists old paths listed
       pub number : ℕ
       pub there : slice_get paths number ≡ Some path
       pub draft : Outline
       pub mid : S
-      pub before : HasGathered old (take number paths) mid draft
+      pub before : HasGathered old listed (take number paths) mid draft
       pub why : Why draft mid
 
     -- there is no draft of this piece length, and the shelf was not looked at
@@ -136,9 +151,10 @@ module _ {S F : Type 0} (opens : S → List (List ℕ) → Result (Option F) Dev
       pub no_path : path ≡ []
       pub untouched : new ≡ old
 
-    -- the shelf was not listed
+    -- the shelf was asked for its listing, answered with this fault, and was asked nothing else
     pub record IsUnlisted (old new : S) (f : ShelfFault) : Type 0 where
       pub legal : IsPieceLength piece_length
+      pub answered : lists old (Err f) new
       pub told : IsListed (listing old) (Err f)
       pub counted : CountsListing (faults old) (faults new) (Err f)
 
@@ -147,7 +163,7 @@ module _ {S F : Type 0} (opens : S → List (List ℕ) → Result (Option F) Dev
     pub record LacksMemoryForPaths (old new : S) : Type 0 where
       pub legal : IsPieceLength piece_length
       pub paths : List (List (List ℕ))
-      pub sorted : IsSortedListing (listing old) paths
+      pub listing_is : IsListedAs listing lists old paths new
       pub some : HasComponents paths
       pub quiet : faults new ≡ faults old
       pub kept : (p : List (List ℕ)) → under new p ≡ under old p

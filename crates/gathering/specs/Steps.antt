@@ -1,6 +1,7 @@
 -- What visiting one path of a shelf told, and what was added to a draft. Public clauses do not name
 -- these.
-use Rattle.std.specs.Prelude.{◌≡◌, ℕ, ◌^◌, ◌<◌, ◌≤◌, Bool, List, length, take, slice_get, Option, Some, Result, Ok, Err}
+use Rattle.std.specs.Prelude.{◌≡◌, ℕ, ◌^◌, ◌<◌, ◌≤◌, Bool, List, length, take, slice_get, Option, Some, Result, Ok, Err, String}
+use Rattle.std.specs.Global.{Global, Vec}
 use Rattle.benc.specs.Device.{SourceSeen}
 use Rattle.benc.specs.declared.device.DeviceFault.{DeviceFault}
 use Rattle.drafts.specs.Outline.{Outline}
@@ -13,6 +14,7 @@ use Rattle.gathering.specs.declared.file_fault.FileFault.TheVariants as file
 use Rattle.gathering.specs.declared.gathering.Stop.{Stop}
 use Rattle.gathering.specs.declared.hashing.FileHashes.{FileHashes}
 use Rattle.folders.specs.Shelf.{Listing}
+use Rattle.folders.specs.declared.shelf_fault.ShelfFault.{ShelfFault}
 
 -- no path has more components than this
 abbrev pub AreWithin : List (List (List ℕ)) → ℕ → Type 0
@@ -54,7 +56,9 @@ module _ {S F : Type 0} (opens : S → List (List ℕ) → Result (Option F) Dev
       × Adds d path content e
   AddsPath d s path e s' (Err f) = Stops f d s path s'
 
-  module _ (listing : S → Option Listing) (name : List ℕ) (piece_length : ℕ) (hybrid : Bool) where
+  module _ (listing : S → Option Listing)
+      (lists : S → Result (Vec (Vec (String Global))) ShelfFault → S → Type 0)
+      (name : List ℕ) (piece_length : ℕ) (hybrid : Bool) where
     -- the first paths were added, and it stopped at the next one
     pub record StopsBefore (old : S) (paths : List (List (List ℕ))) (new : S) (stop : Stop) : Type 0
       where
@@ -62,12 +66,13 @@ module _ {S F : Type 0} (opens : S → List (List ℕ) → Result (Option F) Dev
         pub there : slice_get paths stop.number ≡ Some path
         pub draft : Outline
         pub mid : S
-        pub before : HasGathered opens closes faults under seen listing name piece_length hybrid old
-            (take stop.number paths) mid draft
+        pub before : HasGathered opens closes faults under seen listing lists name piece_length
+            hybrid old old (take stop.number paths) mid draft
         pub why : Stops stop.fault draft mid path new
 
     -- all paths were added, or it stopped at one
     abbrev pub AddsAll : S → List (List (List ℕ)) → Outline → S → Result (Unit {0}) Stop → Type 0
     AddsAll old paths d new (Ok u) =
-        HasGathered opens closes faults under seen listing name piece_length hybrid old paths new d
+        HasGathered opens closes faults under seen listing lists name piece_length hybrid old old
+        paths new d
     AddsAll old paths d new (Err stop) = StopsBefore old paths new stop

@@ -26,9 +26,9 @@ struct Stop {
 
 /// Gathers a draft of this display name, and piece length in bytes, from all files of a shelf.
 ///
-/// The shelf is listed once there is a draft. Each listed path is opened once, in the order of the
-/// file tree, read once, through one buffer that feeds the tree and for a hybrid the digests of its
-/// cuts together, and handed back.
+/// Once there is a draft, the shelf is listed, once. Each listed path is opened once, in the order
+/// of the file tree, read once, through one buffer that feeds the tree and for a hybrid the digests
+/// of its cuts together, and handed back.
 ///
 /// # Errors
 ///
@@ -48,8 +48,8 @@ pub fn gather<S: Shelf>(
     piece_length: u64,
     hybrid: bool,
 ) -> Result<Draft, GatherFault>
-    ensures gathers { Gathers S.opens S.closes S.faults S.under S.File.seen S.listing name.now
-        piece_length hybrid shelf.old shelf.new result }
+    ensures gathers { Gathers S.opens S.closes S.faults S.under S.File.seen S.listing S.lists
+        name.now piece_length hybrid shelf.old shelf.new result }
     ensures kept { (p : List (List ℕ)) → S.under shelf.new p ≡ S.under shelf.old p }
 {
     let mut draft = match Draft::new(alloc, name, piece_length, hybrid) {
@@ -99,9 +99,9 @@ fn add_files<'p, S: Shelf>(
     requires legal { IsPieceLength kind.now.piece_length }
     requires empty { draft.old
         ≡ empty_outline draft.old.name kind.now.piece_length kind.now.hybrid }
-    ensures adds { AddsAll S.opens S.closes S.faults S.under S.File.seen S.listing draft.old.name
-        kind.now.piece_length kind.now.hybrid shelf.old (map path_bytes paths.now) draft.new
-        shelf.new result }
+    ensures adds { AddsAll S.opens S.closes S.faults S.under S.File.seen S.listing S.lists
+        draft.old.name kind.now.piece_length kind.now.hybrid shelf.old (map path_bytes paths.now)
+        draft.new shelf.new result }
     ensures kept { (p : List (List ℕ)) → S.under shelf.new p ≡ S.under shelf.old p }
 {
     let mut buffer = [0u8; 65536];

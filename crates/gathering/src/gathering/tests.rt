@@ -140,6 +140,8 @@ impl<'a> Shelf for Emptied<'a> {
 
     ghost listing = { λ _. None };
 
+    ghost lists = { λ _ _ _. ⊤ };
+
     ghost opens = { λ _ _ _ _. ⊤ };
 
     ghost closes = { λ _ _ _. ⊤ };

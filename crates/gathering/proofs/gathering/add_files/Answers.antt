@@ -13,7 +13,7 @@ paths-init g c = record {
   hybrid = ap (λ (d : Outline). d.hybrid) c.requires.empty;
   capacity = refl;
   kept = λ p. refl;
-  so_far = gathered_none g.S.Shelf.opens g.S.Shelf.closes g.S.Shelf.faults g.S.Shelf.under g.S.File.Source.seen g.S.Shelf.listing _ _ _ _ _ c.requires.empty;
+  so_far = gathered_none g.S.Shelf.opens g.S.Shelf.closes g.S.Shelf.faults g.S.Shelf.under g.S.File.Source.seen g.S.Shelf.listing g.S.Shelf.lists _ _ _ _ _ c.requires.empty;
 }
 
 pub returns-in-Err-clause-adds : goal.returns-in-Err-clause-adds
@@ -41,7 +41,7 @@ paths-preserved g c =
       hybrid = adds.2.added.hybrid ∙ c.paths.invariant.hybrid;
       capacity = c.put_parts.ensures.no_memory ∙ c.paths.invariant.capacity;
       kept = λ p. c.in_default.ensures.kept p ∙ c.paths.invariant.kept p;
-      so_far = gathered_more g.S.Shelf.opens g.S.Shelf.closes g.S.Shelf.faults g.S.Shelf.under g.S.File.Source.seen g.S.Shelf.listing _ _ _ _ _ _ (map path_bytes c.args.paths.now) c.paths.number _ adds.0 _ _
+      so_far = gathered_more g.S.Shelf.opens g.S.Shelf.closes g.S.Shelf.faults g.S.Shelf.under g.S.File.Source.seen g.S.Shelf.listing g.S.Shelf.lists _ _ _ _ _ _ (map path_bytes c.args.paths.now) c.paths.number _ adds.0 _ _
           (item_of path_bytes c.args.paths.now c.paths.number _ inside ∙ ap Some (ap (λ v. path_bytes v) (sym is) ∙ sym (ap (map string_bytes) c.deref.ensures.value) ∙ sym seen))
           c.paths.invariant.so_far adds.1 adds.2 c.in_default.ensures.kept;
     }
@@ -49,8 +49,8 @@ paths-preserved g c =
 pub returns-clause-adds : goal.returns-clause-adds
 returns-clause-adds g c =
     let all = take_all c.paths.number (map path_bytes c.args.paths.now) (omega (arith, c.paths-test.false, length-map c.args.paths.now (λ v. path_bytes v))) in
-    subst (λ ps. HasGathered g.S.Shelf.opens g.S.Shelf.closes g.S.Shelf.faults g.S.Shelf.under g.S.File.Source.seen g.S.Shelf.listing c.args.draft.now.name c.args.kind.now.piece_length
-    c.args.kind.now.hybrid c.args.shelf.now ps c.paths.shelf c.paths.draft) all c.paths.invariant.so_far
+    subst (λ ps. HasGathered g.S.Shelf.opens g.S.Shelf.closes g.S.Shelf.faults g.S.Shelf.under g.S.File.Source.seen g.S.Shelf.listing g.S.Shelf.lists c.args.draft.now.name c.args.kind.now.piece_length
+    c.args.kind.now.hybrid c.args.shelf.now c.args.shelf.now ps c.paths.shelf c.paths.draft) all c.paths.invariant.so_far
 
 pub put_parts-requires : goal.put_parts-requires
 put_parts-requires g c =
