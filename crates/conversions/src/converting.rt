@@ -16,7 +16,10 @@ use crate::parts::convert_part;
 use benc::{DeviceFault, Sink, Source, WriteFault, write_all};
 use session::laws::conversion_replays_as_form_1;
 
-/// What a record of form 2 begins with.
+// How many bytes are read at once, at most.
+const READ: usize = 65_536;
+
+// What a record of form 2 begins with.
 const HEADER: [u8; 8] = *b"\xff\xff\xff\xffBTH2";
 
 /// Writes the record of form 2 that a record of form 1 is: a header, and then each frame as it
@@ -56,7 +59,7 @@ fn convert_record<R: Source, W: Sink>(source: &mut R, out: &mut W) -> Result<(),
     ensures stops { IfErr result (Stops (R.seen source.old) (R.seen source.new)
         (W.seen out.old) (W.seen out.new)) }
 {
-    let mut buffer = [0u8; ROOM];
+    let mut buffer = [0u8; READ];
     let (held, more) = read_front(source, &mut buffer)?;
     if buffer[..held].starts_with(&HEADER) {
         return Err(ConvertFault::AlreadyForm2);
@@ -108,7 +111,7 @@ fn convert_rest<R: Source, W: Sink>(
     more: bool,
 ) -> Result<bool, ConvertFault>
     requires held { held ≤ length buffer.old }
-    requires room { length buffer.old ≡ ROOM }
+    requires room { length buffer.old ≡ READ }
     ensures { (first : SourceSeen) (start : SinkSeen)
         → GaveFaultless first (R.seen source.old) (take held buffer.old)
         → TellsForm more (R.seen source.old) (take held buffer.old)
@@ -133,7 +136,7 @@ fn convert_frames<R: Source, W: Sink>(
     mut held: usize,
 ) -> Result<bool, ConvertFault>
     requires held { held ≤ length buffer.old }
-    requires room { length buffer.old ≡ ROOM }
+    requires room { length buffer.old ≡ READ }
     ensures { (first : SourceSeen) (start : SinkSeen)
         → GaveFaultless first (R.seen source.old) (take held buffer.old)
         → Sent start (W.seen out.old) header

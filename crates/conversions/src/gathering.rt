@@ -6,8 +6,8 @@ ghost use Rattle.conversions.specs.Steps.{Held};
 use arrayvec::ArrayVec;
 use benc::{Sink, WriteFault, write_all};
 
-/// How many bytes are gathered.
-pub(crate) const ROOM: usize = 131_072;
+/// How many bytes are gathered: what one read gives, and what is added to its frames.
+pub(crate) const ROOM: usize = 69_632;
 
 /// Bytes that have not gone out yet.
 pub(crate) type Gathered = ArrayVec<u8, ROOM>;

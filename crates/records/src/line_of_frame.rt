@@ -78,7 +78,7 @@ fn put_counted(line: &mut Line, word: &[u8], number: u64)
     line.put_number(number);
 }
 
-// A refusal: a letter, its number and its name.
+/// A refusal: a letter, its number and its name.
 pub fn put_refused(line: &mut Line, letter: &[u8], number: u32, name: &str)
     requires line { length line.old ≤ 21 }
     requires letter { length letter.now ≤ 1 }

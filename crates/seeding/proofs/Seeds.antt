@@ -13,7 +13,7 @@ use Rattle.metainfo.specs.Description.{FileEntry, TreeEntry}
 use Rattle.node_maps.specs.Digest.{Hash}
 use Rattle.folders.specs.Shelf.{more}
 use Rattle.session.specs.Session.{SessionSeen}
-use Rattle.seeding.specs.Seeding.{Fills, Finds, OpensOnce, SeedStep, SeedsAll, SeedsTree, StopsAt, both, seed_line, seed_lines}
+use Rattle.seeding.specs.Seeding.{Fills, Finds, HasLength, OpensOnce, SeedStep, SeedsAll, SeedsTree, StopsAt, both, seed_line, seed_lines}
 
 -- ---- lines
 
@@ -69,11 +69,12 @@ module _ {S F : Type 0} (opens : S → List (List ℕ) → Result (Option F) Dev
 
   -- memory was refused while a file was read
   pub stops_reading : (s s' : S) (K : SessionSeen) (f : FileEntry) (n len : ℕ) → f.tree ≡ Some n → len ≡ f.length → OpensOnce opens closes seen s f.path (len + 1) s'
-      → faults s' ≡ faults s → StopsAt opens closes faults under seen (both s K) f (both s' K)
-  stops_reading s s' K f n len tree same visited counted = record {
+      → (faults s' ≡ faults s) × HasLength (under s f.path) len → StopsAt opens closes faults under seen (both s K) f (both s' K)
+  stops_reading s s' K f n len tree same visited (counted, long) = record {
     not_empty = λ is. none-some n (sym is ∙ tree);
     visited = subst (λ k. OpensOnce opens closes seen s f.path (k + 1) s') same visited;
     counted = counted;
+    long_enough = subst (HasLength (under s f.path)) same long;
     stays = refl;
   }
 

@@ -1,15 +1,13 @@
 -- The leaves of a file (BEP 52), as they are read.
-use Rattle.std.specs.Prelude.{◌≡◌, ◌≢◌, ◌⊎◌, ℕ, ◌+◌, ◌^◌, ◌<◌, ◌≤◌, ◌++◌, List, length, true, Option, Some, None, Result, Ok, Err}
-use Rattle.benc.specs.Device.{one_more}
+use Rattle.std.specs.Prelude.{◌≡◌, ◌≢◌, ◌⊎◌, ℕ, ◌+◌, ◌^◌, ◌<◌, ◌≤◌, ◌++◌, List, length, true, Option, Some, None}
 use Rattle.hashtree.specs.RootBuilder.{IsFed, complete_nodes}
 use Rattle.hashtree.specs.Tree.{layer_of, root_of}
 use Rattle.metainfo.specs.Description.{TreeEntry}
 use Rattle.node_maps.specs.Digest.{Hash}
 use Rattle.folders.specs.Folder.{FitsTree}
+use Rattle.folders.specs.Verdicts.{Agrees}
 use Rattle.partial_tree.specs.Grown.{GrownTree}
 use Rattle.seeding.specs.declared.leaves.Leaves.{Leaves}
-use Rattle.seeding.specs.declared.leaves.ReadFault.{ReadFault}
-use Rattle.seeding.specs.declared.leaves.ReadFault.TheVariants as fault
 
 -- memory was refused for a leaf, and no further byte is taken
 abbrev pub HasRefused : {N : Type 0} → Leaves N → Type 0
@@ -51,19 +49,13 @@ Ends l root content (Some t) =
     (root ≡ root_of content) × (t.length ≡ l.tree.length) × (t.leaves ≡ layer_of content 0)
 Ends l root content None = root ≢ root_of content
 
--- a source that had this to give gave these bytes
-abbrev pub Told : Option (List ℕ) → List ℕ → Type 0
-Told left bytes = (file : List ℕ) → left ≡ Some file → file ≡ bytes
-
 -- what reading a source told that had this to give: the leaves of its content if that fits the
 -- tree, and else nothing
 abbrev pub ReadsLeaves : TreeEntry → Option (List ℕ) → Option (List Hash) → Type 0
 ReadsLeaves e left (Some leaves) =
-    (bytes : List ℕ) × Told left bytes × FitsTree e bytes × (leaves ≡ layer_of bytes 0)
-ReadsLeaves e left None = (bytes : List ℕ) × Told left bytes × ¬ FitsTree e bytes
+    (bytes : List ℕ) × Agrees left bytes × FitsTree e bytes × (leaves ≡ layer_of bytes 0)
+ReadsLeaves e left None = (bytes : List ℕ) × Agrees left bytes × ¬ FitsTree e bytes
 
--- the count of the source's faults grows by one if it failed, and else stays
-abbrev pub CountsReading : {A : Type 0} → ℕ → ℕ → Result A ReadFault → Type 0
-CountsReading old new (Ok found) = new ≡ old
-CountsReading old new (Err fault.Device) = new ≡ one_more old
-CountsReading old new (Err fault.NoMemory) = new ≡ old
+-- a source that had this to give gave so many bytes
+abbrev pub GivesLength : Option (List ℕ) → ℕ → Type 0
+GivesLength left len = (bytes : List ℕ) × Agrees left bytes × (length bytes ≡ len)

@@ -1,10 +1,10 @@
 -- What seeding a session from a shelf does: to each file of its torrent once, in order.
-use Rattle.std.specs.Prelude.{◌≡◌, ◌≢◌, ◌⊎◌, ℕ, ◌+◌, ◌++◌, Bool, true, false, List, [], ◌∷◌, take, slice_get, codes, Option, Some, None, Result, Ok, Err}
-use Rattle.std.specs.Io.KnownBytes.{Appends}
-use Rattle.benc.specs.Device.{SourceSeen, SinkSeen, Sent, Broke, SentAndFlushed, one_more}
+use Rattle.std.specs.Prelude.{◌≡◌, ◌≢◌, ◌⊎◌, ℕ, ◌+◌, ◌++◌, Bool, true, false, List, [], ◌∷◌, length, take, slice_get, codes, Option, Some, None, Result, Ok, Err}
+use Rattle.benc.specs.Device.{SourceSeen, SinkSeen, Sent, Broke, SentAndFlushed}
 use Rattle.benc.specs.declared.device.DeviceFault.{DeviceFault}
 use Rattle.chains.specs.Chain.{Chain}
 use Rattle.hashtree.specs.Tree.{layer_of}
+use Rattle.lines.specs.Cut.{Unflushed}
 use Rattle.lines.specs.Text.{path_text}
 use Rattle.metainfo.specs.Description.{FileEntry, TreeEntry}
 use Rattle.node_maps.specs.Digest.{Hash}
@@ -52,6 +52,10 @@ Finds told e (Some leaves) faults = (faults ≡ 0) × (bytes : List ℕ) × Agre
 Finds told e None faults = (faults ≡ 1)
     ⊎ ((faults ≡ 0) × (content : Option (List ℕ)) × Agrees told content × DoesNotFit e content)
 
+-- what stands at a path of which the shelf tells this has so many bytes
+abbrev pub HasLength : Option (Option (List ℕ)) → ℕ → Type 0
+HasLength told len = (bytes : List ℕ) × Agrees told (Some bytes) × (length bytes ≡ len)
+
 -- ---- the session
 
 -- The leaves of tree n were filled in, or they were refused, and not out of memory; a file whose
@@ -77,12 +81,6 @@ abbrev pub seed_lines : List FileEntry → List Bool → List ℕ
 seed_lines [] told = []
 seed_lines (f ∷ fs) [] = []
 seed_lines (f ∷ fs) (seeded ∷ told) = seed_line f seeded ++ seed_lines fs told
-
--- all lines went out, and the flush failed
-pub record Unflushed (old new : SinkSeen) (text : List ℕ) : Type 0 where
-  pub bytes : Appends old.written new.written text
-  pub faults : new.faults ≡ one_more old.faults
-  pub flushes : new.flushes ≡ one_more old.flushes
 
 -- a shelf and a session
 abbrev pub both : {S : Type 0} → S → SessionSeen → S × SessionSeen
@@ -116,11 +114,13 @@ module _ {S F : Type 0} (opens : S → List (List ℕ) → Result (Option F) Dev
   abbrev pub SeedStep : S × SessionSeen → FileEntry → Bool → S × SessionSeen → Type 0
   SeedStep old f seeded new = SeedsFile old f f.tree seeded new
 
-  -- memory was refused for a file that is not empty: it was handed back, and the session stays
+  -- memory was refused for a file that is not empty, and has the stated length: it was handed back,
+  -- and the session stays
   pub record StopsAt (old : S × SessionSeen) (f : FileEntry) (new : S × SessionSeen) : Type 0 where
     pub not_empty : f.tree ≢ None
     pub visited : OpensOnce opens closes seen old.0 f.path (f.length + 1) new.0
     pub counted : faults new.0 ≡ faults old.0
+    pub long_enough : HasLength (under old.0 f.path) f.length
     pub stays : new.1 ≡ old.1
 
   -- ---- all files
@@ -135,7 +135,7 @@ module _ {S F : Type 0} (opens : S → List (List ℕ) → Result (Option F) Dev
     pub run : SeedsAll old old.1.torrent.files told new
     pub sent : Sent report report' (seed_lines old.1.torrent.files told)
 
-  -- and one flush
+  -- the lines of the files went out, with one flush
   pub record IsSeeded (old new : S × SessionSeen) (report report' : SinkSeen) : Type 0 where
     pub told : List Bool
     pub run : SeedsAll old old.1.torrent.files told new
@@ -170,9 +170,9 @@ module _ {S F : Type 0} (opens : S → List (List ℕ) → Result (Option F) Dev
   pub record IsCutInFlush (old new : S × SessionSeen) (report report' : SinkSeen) : Type 0 where
     pub told : List Bool
     pub run : SeedsAll old old.1.torrent.files told new
-    pub sent : Unflushed report report' (seed_lines old.1.torrent.files told)
+    pub sent : Unflushed (seed_lines old.1.torrent.files told) report report'
 
-  -- what is left of it before the flush
+  -- what `seed` has done before the flush, by its answer
   abbrev pub SeedsFiles : S × SessionSeen → S × SessionSeen → SinkSeen → SinkSeen
       → Result (Unit {0}) SeedFault → Type 0
   SeedsFiles old new report report' (Ok u) = SeedsWhole old new report report'

@@ -1,27 +1,19 @@
 //! The leaves of a file's tree, from a source.
-ghost use Rattle.std.specs.Prelude.{◌≡◌, ◌⊎◌, ℕ, ◌+◌, ◌^◌, ◌<◌, ◌≤◌, ◌++◌, [], List, false, length, option_map, IfOk, IfSome, OnOk, OnSome};
+ghost use Rattle.std.specs.Prelude.{◌≡◌, ◌⊎◌, ℕ, ◌+◌, ◌^◌, ◌<◌, ◌≤◌, ◌++◌, [], List, false, length, option_map, IfErr, IfOk, IfSome, OnOk, OnSome};
 ghost use Rattle.std.specs.Option.{option_to_list};
 ghost use Rattle.hashtree.specs.Tree.{block_count};
 ghost use Rattle.metainfo.specs.Seen.{tree_entry};
-ghost use Rattle.folders.specs.TakeAll.{IsReadWithin};
-ghost use Rattle.seeding.specs.Leaves.{CountsReading, Ends, HasRefused, IsFedLeaves, IsFull, ReadsLeaves};
+ghost use Rattle.folders.specs.TakeAll.{CountsReading, IsReadWithin};
+ghost use Rattle.folders.specs.declared.read_fault.ReadFault.TheVariants as fault;
+ghost use Rattle.seeding.specs.Leaves.{Ends, GivesLength, HasRefused, IsFedLeaves, IsFull, ReadsLeaves};
 
 use benc::Source;
-use folders::{Taker, take_all};
+use folders::{ReadFault, Taker, take_all};
 use hashtree::{Hash, NoMemory, RootBuilder, Shape};
 use metainfo::TreeInfo;
 use node_maps::NodeMap;
 use partial_tree::{GrowingTree, GrownTree};
 use std::alloc::Global;
-
-/// Why no content was read.
-#[derive(Clone, Copy)]
-pub(crate) enum ReadFault {
-    /// The source failed.
-    Device,
-    /// Memory for the leaves was refused.
-    NoMemory,
-}
 
 /// What takes a file's bytes for its leaves, which go where they will stay. Once memory was
 /// refused, it takes no more.
@@ -59,7 +51,7 @@ impl<N: NodeMap> Taker for Leaves<N> {
 }
 
 impl<N: NodeMap> Leaves<N> {
-    /// Leaves of a file of this shape of which no byte is read.
+    // Leaves of a file of this shape of which no byte is read.
     fn new(alloc: Global, shape: Shape) -> Leaves<N>
         ensures length { result.tree.length ≡ shape }
         ensures content { IsFedLeaves result [] }
@@ -72,7 +64,7 @@ impl<N: NodeMap> Leaves<N> {
         }
     }
 
-    /// Gives the tree its next leaf, if a block is complete.
+    // Gives the tree its next leaf, if a block is complete.
     fn keep(&mut self, leaf: Option<Hash>)
         requires room { OnSome leaf
             (length self.old.tree.leaves < block_count self.old.tree.length) }
@@ -86,8 +78,8 @@ impl<N: NodeMap> Leaves<N> {
         }
     }
 
-    /// The whole tree, if it has this root. Condition: as many bytes as the file has were taken, or
-    /// memory was refused.
+    // The whole tree, if it has this root. Condition: as many bytes as the file has were taken, or
+    // memory was refused.
     fn finish(self, root: &Hash) -> Result<Option<GrownTree<N>>, NoMemory>
         requires { HasRefused self ⊎ ((content : List ℕ) × IsFull self content) }
         ensures works { OnOk result (HasRefused self → ⊥) }
@@ -111,7 +103,7 @@ impl<N: NodeMap> Leaves<N> {
 
 /// Reads a source to its end, or to one byte past the length of the tree's files: the whole tree
 /// over its content's leaves if that fits the tree, and else `None`. Memory for the leaves is taken
-/// as they come.
+/// as they come, and that it was refused is told only of a content of that length.
 pub(crate) fn read_tree<N: NodeMap, F: Source>(
     alloc: Global,
     source: &mut F,
@@ -123,6 +115,8 @@ pub(crate) fn read_tree<N: NodeMap, F: Source>(
         (option_map (λ grown. grown.leaves) found)) }
     ensures length { IfOk result (λ found. IfSome found (λ grown.
         grown.length ≡ tree.now.length)) }
+    ensures memory { IfErr result (λ why. why ≡ fault.NoMemory
+        → GivesLength (F.seen source.old).left tree.now.length) }
     ensures counts { CountsReading (F.seen source.old).faults (F.seen source.new).faults result }
     ensures no_further { IsReadWithin (tree.now.length + 1) (F.seen source.old)
         (F.seen source.new) }

@@ -5,12 +5,12 @@ ghost use Rattle.metainfo.specs.Description.{TreeEntry};
 ghost use Rattle.metainfo.specs.Seen.{file_entry, tree_entry};
 ghost use Rattle.folders.specs.Shelf.{more};
 ghost use Rattle.folders.specs.Verdicts.{IsFileOf};
-ghost use Rattle.seeding.specs.Seeding.{Fills, Finds, OpensOnce, SeedStep, Seeds, SeedsFiles, SeedsTree, StopsAt, both, seed_line, seed_words};
+ghost use Rattle.seeding.specs.Seeding.{Fills, Finds, HasLength, OpensOnce, SeedStep, Seeds, SeedsFiles, SeedsTree, StopsAt, both, seed_line, seed_words};
 
-use crate::leaves::{ReadFault, read_tree};
+use crate::leaves::read_tree;
 use crate::seed_fault::SeedFault;
 use benc::{DeviceFault, Sink, write_all};
-use folders::Shelf;
+use folders::{ReadFault, Shelf};
 use hashtree::NoMemory;
 use lines::write_path;
 use metainfo::{File, TreeInfo};
@@ -28,8 +28,8 @@ use std::alloc::Global;
 /// unreadable.
 ///
 /// After a fault the files before it stay filled, and their lines were written: `NoMemory` if
-/// memory for the leaves of a file was refused, which then is not filled, and `Write` if the report
-/// failed, in the line of a file that may be filled, or at the flush.
+/// memory for the leaves of a file was refused, which has its stated length and is not filled, and
+/// `Write` if the report failed, in the line of a file that may be filled, or at the flush.
 pub fn seed<N: NodeMap, S: Shelf, W: Sink>(
     alloc: Global,
     session: &mut Session<'_, N>,
@@ -149,7 +149,8 @@ fn find_tree<N: NodeMap, S: Shelf>(
         × Finds (S.under shelf.old file.now.path) (tree_entry tree.now)
         (option_map (λ t. t.leaves) grown) n) }
     ensures length { IfOk result (λ grown. IfSome grown (λ t. t.length ≡ tree.now.length)) }
-    ensures no_memory { OnErr result (S.faults shelf.new ≡ S.faults shelf.old) }
+    ensures no_memory { OnErr result ((S.faults shelf.new ≡ S.faults shelf.old)
+        × HasLength (S.under shelf.old file.now.path) tree.now.length) }
     ensures kept { (p : List (List ℕ)) → S.under shelf.new p ≡ S.under shelf.old p }
 {
     match shelf.open(&file.path.parts()) {

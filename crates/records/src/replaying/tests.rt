@@ -1,4 +1,5 @@
-//! Reports of records over the torrent of one file, whose block is `abc`: whole, cut, and with devices that fail.
+//! Reports of records over the torrent of one file, whose block is `abc`: whole, cut, and with
+//! devices that fail.
 use crate::outcome::Outcome;
 use crate::replaying::replay;
 use benc::memory::{MemSink, MemSource};
