@@ -21,7 +21,17 @@ Examples:
 Exit status:
   0  yes, or done
   1  no, or refused
-  2  a fault of the arguments, of files or of memory: a line on standard error says which";
+  2  a fault of the arguments, of files or of memory: a line on standard error says which
+
+Faults, and what to do:
+  fault: cannot read PATH             it is missing, a folder, or not yours to read
+  fault: cannot write PATH            the disk is full, or PATH is not yours to write
+  fault: name is not UTF-8            give the file a name in UTF-8
+  fault: not a file or folder: PATH   put the file itself in place of the link, pipe or device
+  fault: record is truncated: PATH    it ends inside a frame; the frames before are in OUT
+  fault: no memory                    raise the limit (`ulimit -v`), or run fewer at once
+
+What is refused is told by a number and a name; `man btcheck` explains each.";
 
 pub(crate) const ROOT_ABOUT: &str = "Prints the length and the pieces root of a file";
 
@@ -61,9 +71,10 @@ pub(crate) const REPLAY_ABOUT: &str =
     "Checks recorded messages of peers, and prints a verdict on each";
 
 pub(crate) const REPLAY_HELP: &str = "\
-A record is the frames that came in, joined, without a handshake. Prints a line for each frame as it
-comes, and at last `end` or how the record failed. The status is 1 if something was refused, and 2
-if the record failed or memory was refused.";
+A record is the frames that came in, joined, without a handshake, or what `convert` and
+`tools/record` write: the frames of both sides with their directions. Prints a line for each frame
+as it comes, and at last `end` or how the record failed. The status is 1 if something was refused,
+and 2 if the record failed or memory was refused.";
 
 pub(crate) const INFO_ONLY_HELP: &str =
     "Start from the roots alone, without the torrent's piece layers";

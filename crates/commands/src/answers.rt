@@ -166,8 +166,8 @@ pub fn gather<'a, S: Shelf, W: Sink>(
     out: &mut W,
 ) -> Result<Result<Draft, u8>, Fault<'a>>
     ensures gathered { IfOk result (λ found. IfOk found (λ draft. Gathers S.opens S.closes S.faults
-        S.under S.File.seen S.listing asked.now.name.now asked.now.piece_length asked.now.hybrid
-        shelf.old shelf.new (Ok draft))) }
+        S.under S.File.seen S.listing S.lists asked.now.name.now asked.now.piece_length
+        asked.now.hybrid shelf.old shelf.new (Ok draft))) }
     ensures refused { IfOk result (λ found. IfErr found (λ s. s ≡ answer_status false)) }
 {
     match checker::gather(alloc, shelf, asked.name, asked.piece_length, asked.hybrid) {

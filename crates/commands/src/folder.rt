@@ -211,6 +211,8 @@ impl<'a> Shelf for Folder<'a> {
 
     ghost listing = { λ _. None };
 
+    ghost lists = { λ _ _ _. ⊤ };
+
     ghost opens = { λ _ _ _ _. ⊤ };
 
     ghost closes = { λ _ _ _. ⊤ };

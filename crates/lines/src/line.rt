@@ -37,7 +37,7 @@ impl Line {
         &self.bytes
     }
 
-    /// Puts these bytes at the end. The line is then no longer than 256 bytes.
+    /// Puts these bytes at the end. Condition: the line then has at most 256 bytes.
     pub fn put(&mut self, text: &[u8])
         requires { length self.old + length text.now ≤ 256 }
         ensures text { self.new ≡ self.old ++ text.now }
@@ -46,7 +46,7 @@ impl Line {
         self.bytes.try_extend_from_slice(text).unwrap();
     }
 
-    /// Puts a number at the end, in decimal. There is room for 20 digits.
+    /// Puts a number at the end, in decimal. Condition: there is room for 20 digits.
     pub fn put_number(&mut self, number: u64)
         requires { length self.old + 20 ≤ 256 }
         ensures text { self.new ≡ self.old ++ decimal number }
@@ -56,8 +56,8 @@ impl Line {
         self.put(buffer.format(number).as_bytes());
     }
 
-    /// Puts a digest of at most 32 bytes at the end, in lower case hexadecimal. There is room for
-    /// 64 digits.
+    /// Puts a digest at the end, in lower case hexadecimal. Conditions: it has at most 32 bytes,
+    /// and there is room for 64 digits.
     pub fn put_digest(&mut self, digest: &[u8])
         requires bound { length digest.now ≤ 32 }
         requires room { length self.old + 64 ≤ 256 }

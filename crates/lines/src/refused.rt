@@ -12,7 +12,7 @@ use metainfo::Refusal;
 /// Writes the line of a refusal, with the path of the file that it is about, if there is one,
 /// and flushes. It takes no memory. After `WriteFault` a prefix of the line went out.
 ///
-/// Out of memory (21) and a fault of the sink (23) are no answers about a torrent: no such line.
+/// Condition: the refusal is neither `NoMemory` nor `Write`, which are no answers about a torrent.
 pub fn refusal_line<W: Sink>(r: &Refusal, path: &[String], out: &mut W) -> Result<(), WriteFault>
     requires memory { refusal_number r.now ≢ 21 }
     requires sink { refusal_number r.now ≢ 23 }

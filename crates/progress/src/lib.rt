@@ -2,7 +2,7 @@
 //!
 //! It stands on standard error, and only if that is a terminal. The devices of a command show it: a
 //! [`Counted`] source tells what was read, and a [`Cleared`] sink takes the line away before a
-//! command prints. Where no line is shown they do nothing else.
+//! command prints. If no line is shown, they do nothing else.
 #![tactic(auto)]
 
 mod amount;
