@@ -3,6 +3,8 @@
 //! makes, and `wrong` where a fault is told otherwise than promised.
 #![tactic(auto)]
 
+ghost use Rattle.std.specs.Prelude.{◌<◌};
+
 mod reads;
 mod shelves;
 mod trial;
@@ -19,7 +21,16 @@ fn try_all(rt: &HostRuntime, world: &World<'_, '_>) -> io::Result<()> {
     shelves::try_all(rt, world)
 }
 
-fn try_torrent(rt: &HostRuntime, text: &[u8], record: &[u8], a: &[u8], c: &[u8]) -> io::Result<()> {
+fn try_torrent(
+    rt: &HostRuntime,
+    text: &[u8],
+    record: &[u8],
+    a: &[u8],
+    c: &[u8],
+    at_most: usize,
+) -> io::Result<()>
+    requires { 0 < at_most }
+{
     match Torrent::open(rt.alloc(), text) {
         Ok(torrent) => {
             let world = World {
@@ -28,6 +39,7 @@ fn try_torrent(rt: &HostRuntime, text: &[u8], record: &[u8], a: &[u8], c: &[u8])
                 record,
                 a,
                 c,
+                at_most,
             };
             try_all(rt, &world)
         }
@@ -37,17 +49,19 @@ fn try_torrent(rt: &HostRuntime, text: &[u8], record: &[u8], a: &[u8], c: &[u8])
 
 fn main(rt: HostRuntime) -> io::Result<()> {
     let mut arguments = env::args(&rt)?.skip(1);
-    let (Some(torrent), Some(record), Some(a), Some(c)) = (
+    let (Some(torrent), Some(record), Some(a), Some(c), Some(at_most)) = (
+        arguments.next(),
         arguments.next(),
         arguments.next(),
         arguments.next(),
         arguments.next(),
     ) else {
-        return eprintln!(rt; "usage: devices TORRENT RECORD A C");
+        return eprintln!(rt; "usage: devices TORRENT RECORD A C BYTES");
     };
     let text = fs::read(&rt, torrent.as_str())?;
     let record = fs::read(&rt, record.as_str())?;
     let a = fs::read(&rt, a.as_str())?;
     let c = fs::read(&rt, c.as_str())?;
-    try_torrent(&rt, &text, &record, &a, &c)
+    let at_most = at_most.as_str().parse::<usize>().unwrap_or(1).max(1);
+    try_torrent(&rt, &text, &record, &a, &c, at_most)
 }

@@ -6,20 +6,34 @@ use crate::world::World;
 use benc::memory::{MemSink, MemSource};
 use benc::{Sink, Source};
 use checker::{ConvertFault, convert, replay, root_line};
+use folders::take_all;
 use session::{Flat, Session};
 use std::io;
-use wire::{FrameFault, RecordReader};
+use wire::{FrameFault, FrameReader, RecordReader};
 
 /// A call that reads from a source.
 #[derive(Clone, Copy)]
 enum Call {
     RootLine,
+    TakeAll,
+    AdvanceFrame,
     NextFrame,
+    AdvanceRecord,
+    NextRecord,
     Replay,
     Convert,
 }
 
-const CALLS: [Call; 4] = [Call::RootLine, Call::NextFrame, Call::Replay, Call::Convert];
+const CALLS: [Call; 8] = [
+    Call::RootLine,
+    Call::TakeAll,
+    Call::AdvanceFrame,
+    Call::NextFrame,
+    Call::AdvanceRecord,
+    Call::NextRecord,
+    Call::Replay,
+    Call::Convert,
+];
 
 // What came of a call over a source that was to fail.
 #[derive(Drop)]
@@ -35,7 +49,11 @@ enum Outcome {
 fn name(call: Call) -> &'static str {
     match call {
         Call::RootLine => "root_line",
-        Call::NextFrame => "advance",
+        Call::TakeAll => "take_all",
+        Call::AdvanceFrame => "FrameReader::advance",
+        Call::NextFrame => "FrameReader::next",
+        Call::AdvanceRecord => "RecordReader::advance",
+        Call::NextRecord => "RecordReader::next",
         Call::Replay => "replay",
         Call::Convert => "convert",
     }
@@ -55,7 +73,7 @@ fn try_call(rt: &HostRuntime, world: &World<'_, '_>, call: Call, at_most: usize)
     requires { 0 < at_most }
 {
     let content = match call {
-        Call::RootLine => world.c,
+        Call::RootLine | Call::TakeAll => world.c,
         _ => world.record,
     };
     for at in 0..u64::MAX {
@@ -80,7 +98,11 @@ fn make(
 ) -> io::Result<Outcome> {
     match call {
         Call::RootLine => make_root_line(rt, source),
-        Call::NextFrame => read_frames(rt, source),
+        Call::TakeAll => Ok(make_take_all(world, source)),
+        Call::AdvanceFrame => read_frames(rt, source, false),
+        Call::NextFrame => read_frames(rt, source, true),
+        Call::AdvanceRecord => read_record(rt, source, false),
+        Call::NextRecord => read_record(rt, source, true),
         Call::Replay => make_replay(rt, world, source),
         Call::Convert => make_convert(rt, world, source),
     }
@@ -96,18 +118,59 @@ fn make_root_line(rt: &HostRuntime, source: &mut MemSource<'_>) -> io::Result<Ou
     })
 }
 
-// A fault is answered again.
-fn read_frames<R: Source>(rt: &HostRuntime, source: &mut R) -> io::Result<Outcome> {
-    let mut reader = RecordReader::new(rt.alloc(), source);
-    Ok(read_to_end(&mut reader))
+// Without a fault the source is read to its end.
+fn make_take_all(world: &World<'_, '_>, source: &mut MemSource<'_>) -> Outcome {
+    let mut buffer = [0u8; 64];
+    match take_all(source, 1048576, &mut buffer, &mut ()) {
+        Ok(Some(count)) if count == world.c.len() as u64 => Outcome::Done,
+        Ok(_) => Outcome::Wrong,
+        Err(_) => Outcome::Told,
+    }
 }
 
-fn read_to_end<R: Source>(reader: &mut RecordReader<'_, R>) -> Outcome {
+// A reader of frames.
+trait Reader {
+    // Reads the next frame, and lends it or not. Tells whether there is one.
+    fn read_next(&mut self, lends: bool) -> Result<bool, FrameFault>;
+}
+
+impl<R: Source> Reader for FrameReader<'_, R> {
+    fn read_next(&mut self, lends: bool) -> Result<bool, FrameFault> {
+        if lends {
+            Ok(self.next()?.is_some())
+        } else {
+            self.advance()
+        }
+    }
+}
+
+impl<R: Source> Reader for RecordReader<'_, R> {
+    fn read_next(&mut self, lends: bool) -> Result<bool, FrameFault> {
+        if lends {
+            Ok(self.next()?.is_some())
+        } else {
+            self.advance()
+        }
+    }
+}
+
+fn read_frames<R: Source>(rt: &HostRuntime, source: &mut R, lends: bool) -> io::Result<Outcome> {
+    let mut reader = FrameReader::new(rt.alloc(), source);
+    Ok(read_to_end(&mut reader, lends))
+}
+
+fn read_record<R: Source>(rt: &HostRuntime, source: &mut R, lends: bool) -> io::Result<Outcome> {
+    let mut reader = RecordReader::new(rt.alloc(), source);
+    Ok(read_to_end(&mut reader, lends))
+}
+
+// A fault is answered again.
+fn read_to_end<R: Reader>(reader: &mut R, lends: bool) -> Outcome {
     for _ in 0..u64::MAX {
-        match reader.advance() {
+        match reader.read_next(lends) {
             Ok(true) => {}
             Ok(false) => return Outcome::Done,
-            Err(FrameFault::Read) => return again(reader.advance()),
+            Err(FrameFault::Read) => return again(reader.read_next(lends)),
             Err(_) => return Outcome::Wrong,
         }
     }

@@ -45,7 +45,9 @@ pub(crate) fn try_all(rt: &HostRuntime, world: &World<'_, '_>) -> io::Result<()>
 fn try_shelf(rt: &HostRuntime, world: &World<'_, '_>, call: Call) -> io::Result<()> {
     let files = world.files();
     for at in 0..u64::MAX {
-        let mut shelf = MemShelf::new(rt.alloc(), &files).fails_after(at);
+        let mut shelf = MemShelf::new(rt.alloc(), &files)
+            .at_most(world.at_most)
+            .fails_after(at);
         let lost = make(rt, world, call, &mut shelf)?;
         judge(rt, name(call), "the shelf", at, lost == shelf.failures())?;
         if lost == 0 {
@@ -61,7 +63,7 @@ fn try_file(rt: &HostRuntime, world: &World<'_, '_>, call: Call) -> io::Result<(
             MemFile::new(&["a"], world.a).fails_after(at),
             MemFile::new(&["c"], world.c),
         ];
-        let mut shelf = MemShelf::new(rt.alloc(), &files).at_most(4096);
+        let mut shelf = MemShelf::new(rt.alloc(), &files).at_most(world.at_most);
         let lost = make(rt, world, call, &mut shelf)?;
         judge(rt, name(call), "a file", at, lost == shelf.failures())?;
         judge(

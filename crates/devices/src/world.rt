@@ -1,8 +1,11 @@
 //! What the calls are given.
+ghost use Rattle.std.specs.Prelude.{◌<◌};
+
 use checker::MemFile;
 use metainfo::Torrent;
 
-/// A torrent of the files `a` and `c`, its text, a record, and the contents of the files.
+/// A torrent of the files `a` and `c`, its text, a record, the contents of the files, and how many
+/// bytes a read of a file gives at most.
 #[derive(Drop)]
 pub(crate) struct World<'t, 'a> {
     pub(crate) text: &'a [u8],
@@ -10,6 +13,8 @@ pub(crate) struct World<'t, 'a> {
     pub(crate) record: &'a [u8],
     pub(crate) a: &'a [u8],
     pub(crate) c: &'a [u8],
+    pub(crate) at_most: usize,
+    ghost some: { 0 < at_most },
 }
 
 impl<'t, 'a> World<'t, 'a> {

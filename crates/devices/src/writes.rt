@@ -4,10 +4,12 @@ ghost use Rattle.std.specs.Prelude.{◌<◌};
 use crate::trial::{broke, count, is_whole, judge, sink};
 use crate::world::World;
 use benc::memory::{MemSink, MemSource};
-use benc::{Sink, decode, encode};
+use benc::{Sink, decode, encode, write_all};
 use checker::{
-    MemShelf, check, convert, gather, print_report, refusal_line, replay, root_line, seed, show,
+    Fault, MemShelf, check, convert, fault_line, gather, print_report, refusal_line, replay,
+    root_line, seed, show,
 };
+use lines::{flush_after, write_escaped, write_line, write_path};
 use metainfo::{Key, Refusal};
 use session::{Flat, Session};
 use std::io;
@@ -16,11 +18,17 @@ use wire::{Ask, Message, write};
 /// A call that writes to a sink.
 #[derive(Clone, Copy)]
 enum Call {
+    WriteAll,
+    WriteEscaped,
+    WritePath,
+    WriteLine,
+    FlushAfter,
     Encode,
     WriteMessage,
     RootLine,
     Show,
     RefusalLine,
+    FaultLine,
     PrintReport,
     Seed,
     ReplayReport,
@@ -29,12 +37,18 @@ enum Call {
     Convert,
 }
 
-const CALLS: [Call; 11] = [
+const CALLS: [Call; 17] = [
+    Call::WriteAll,
+    Call::WriteEscaped,
+    Call::WritePath,
+    Call::WriteLine,
+    Call::FlushAfter,
     Call::Encode,
     Call::WriteMessage,
     Call::RootLine,
     Call::Show,
     Call::RefusalLine,
+    Call::FaultLine,
     Call::PrintReport,
     Call::Seed,
     Call::ReplayReport,
@@ -45,11 +59,17 @@ const CALLS: [Call; 11] = [
 
 fn name(call: Call) -> &'static str {
     match call {
+        Call::WriteAll => "write_all",
+        Call::WriteEscaped => "write_escaped",
+        Call::WritePath => "write_path",
+        Call::WriteLine => "write_line",
+        Call::FlushAfter => "flush_after",
         Call::Encode => "encode",
         Call::WriteMessage => "write",
         Call::RootLine => "root_line",
         Call::Show => "show",
         Call::RefusalLine => "refusal_line",
+        Call::FaultLine => "fault_line",
         Call::PrintReport => "print_report",
         Call::Seed => "seed",
         Call::ReplayReport => "replay",
@@ -92,10 +112,11 @@ fn try_call(rt: &HostRuntime, world: &World<'_, '_>, call: Call, at_most: usize)
     Ok(())
 }
 
-// `encode` and `write` leave the flush to their callers.
+// Some leave the flush to their callers.
 fn is_written(call: Call, out: &MemSink, text: &[u8]) -> bool {
     match call {
-        Call::Encode | Call::WriteMessage => out.failures() == 0 && text == out.written(),
+        Call::WriteAll | Call::WriteEscaped | Call::WritePath | Call::Encode | Call::WriteMessage =>
+            out.failures() == 0 && text == out.written(),
         _ => is_whole(out, text),
     }
 }
@@ -108,11 +129,17 @@ fn make(
     out: &mut MemSink,
 ) -> io::Result<bool> {
     match call {
+        Call::WriteAll => Ok(write_all(out, world.text).is_ok()),
+        Call::WriteEscaped => Ok(write_escaped(out, ODD.as_bytes()).is_ok()),
+        Call::WritePath => Ok(write_path(out, &["a", ODD, "b"]).is_ok()),
+        Call::WriteLine => Ok(write_line(out, b"a line\n").is_ok()),
+        Call::FlushAfter => Ok(flush_after(out, Ok(())).is_ok()),
         Call::Encode => make_encode(rt, world, out),
         Call::WriteMessage => Ok(write(&Message::Reject(ask()), out).is_ok()),
         Call::RootLine => Ok(root_line(&mut MemSource::new(world.a), out).is_ok()),
         Call::Show => Ok(show(world.torrent, out).is_ok()),
         Call::RefusalLine => Ok(refusal_line(&Refusal::Missing(Key::Name), &[], out).is_ok()),
+        Call::FaultLine => Ok(fault_line(&Fault::Truncated(ODD), out).is_ok()),
         Call::PrintReport => make_report(rt, world, out),
         Call::Seed => make_seed(rt, world, out),
         Call::ReplayReport => make_replay(rt, world, out, &mut sink(rt)?),
@@ -121,6 +148,9 @@ fn make(
         Call::Convert => Ok(convert(&mut MemSource::new(world.record), out).is_ok()),
     }
 }
+
+// A name of which some bytes are not printed as they stand.
+const ODD: &str = "a\\b\n";
 
 fn ask() -> Ask {
     Ask {

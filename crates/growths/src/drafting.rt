@@ -1,17 +1,22 @@
 //! A draft whose calls are made again if memory was refused.
-ghost use Rattle.std.specs.Prelude.{◌≡◌, false, IfOk};
+ghost use Rattle.std.specs.Prelude.{◌≡◌, ◌<◌, IfOk, length, map};
+ghost use Rattle.drafts.specs.Adding.{FitsLayer, HasCuts, given};
+ghost use Rattle.metainfo.specs.Pieces.{pieces_of};
+ghost use Rattle.metainfo.specs.Seen.{tree_entry};
+ghost use Rattle.metainfo.specs.Sound.{IsSoundTree};
 
 use crate::again::tell;
 use benc::memory::MemSink;
-use metainfo::{Draft, Refusal, V1File};
+use metainfo::{Draft, File, Refusal, Torrent, TreeInfo, V1File};
+use std::alloc::{AllocError, Global};
 use std::io;
 
-/// Adds two files to a draft, and prints the torrent.
-pub(crate) fn draft_again(rt: &HostRuntime) -> io::Result<()> {
-    match new_draft(rt)? {
+/// Adds the torrent's files to a draft, the last one first, and prints the draft's torrent. The
+/// digests of version 1 are made up.
+pub(crate) fn draft_again(rt: &HostRuntime, torrent: &Torrent<'_>, hybrid: bool) -> io::Result<()> {
+    match new_draft(rt, torrent.piece_length(), hybrid)? {
         Ok(mut draft) => {
-            add_again(rt, &mut draft, &["c", "d"])?;
-            add_again(rt, &mut draft, &["a"])?;
+            add_files(rt, &mut draft, torrent)?;
             print_draft(rt, &draft)
         }
         Err(refusal) => println!(rt; "refused {}", refusal.number()),
@@ -31,34 +36,86 @@ fn text_of(rt: &HostRuntime, draft: &Draft) -> io::Result<MemSink> {
     Ok(text)
 }
 
-fn new_draft(rt: &HostRuntime) -> io::Result<Result<Draft, Refusal>>
-    ensures { IfOk result (λ made. IfOk made (λ d. d.hybrid ≡ false)) }
+fn new_draft(
+    rt: &HostRuntime,
+    piece_length: u64,
+    hybrid: bool,
+) -> io::Result<Result<Draft, Refusal>>
+    ensures { IfOk result (λ made. IfOk made (λ d. d.piece_length ≡ piece_length)) }
 {
-    let answer = Draft::new(rt.alloc(), "x", 16384, false);
+    let answer = Draft::new(rt.alloc(), "x", piece_length, hybrid);
     if let Err(Refusal::NoMemory) = answer {
         tell(rt, "new")?;
-        return Ok(Draft::new(rt.alloc(), "x", 16384, false));
+        return Ok(Draft::new(rt.alloc(), "x", piece_length, hybrid));
     }
     Ok(answer)
 }
 
+fn add_files(rt: &HostRuntime, draft: &mut Draft, torrent: &Torrent<'_>) -> io::Result<()>
+    requires { draft.old.piece_length ≡ torrent.now.piece_length }
+{
+    torrent.sound();
+    let piece_length = torrent.piece_length();
+    'files: for file in torrent.files().iter().rev() {
+        let tree = tree_of(torrent, file);
+        let v1 = digests(rt.alloc(), piece_length, tree.length)?;
+        add_again(rt, draft, &file.path.parts(), &tree, &v1)?;
+    }
+    Ok(())
+}
+
+// The tree of a file; an empty file has one of no bytes.
+fn tree_of<'a>(torrent: &Torrent<'a>, file: &File<'_>) -> TreeInfo<'a>
+    ensures { torrent.now.piece_length < result.length
+        → IsSoundTree torrent.now.piece_length (tree_entry result) }
+{
+    torrent.sound();
+    let trees = torrent.trees();
+    match file.tree {
+        Some(number) if number < trees.len() => trees[number],
+        _ => TreeInfo {
+            root: [0; 32],
+            length: 0,
+            layer: &[],
+        },
+    }
+}
+
+// A digest for each piece of a file of so many bytes.
+fn digests(alloc: Global, piece_length: u64, bytes: u64) -> Result<V1File, AllocError>
+    requires { 0 < piece_length }
+    ensures { IfOk result (λ v1. length v1.cuts.items ≡ pieces_of piece_length bytes) }
+{
+    let count = bytes.div_ceil(piece_length);
+    Ok(V1File {
+        cuts: vec![in alloc; [7; 20]; count as usize]?,
+        padded: [9; 20],
+    })
+}
+
 // A draft that refused a file for memory still writes what it wrote before.
-fn add_again(rt: &HostRuntime, draft: &mut Draft, path: &[&str]) -> io::Result<()>
-    requires { draft.old.hybrid ≡ false }
-    ensures { draft.new.hybrid ≡ false }
+fn add_again(
+    rt: &HostRuntime,
+    draft: &mut Draft,
+    path: &[&str],
+    tree: &TreeInfo<'_>,
+    v1: &V1File,
+) -> io::Result<()>
+    requires cuts { HasCuts draft.old
+        (given draft.old (map (λ s. s.now) path.now) tree.now.length tree.now.root v1.now) }
+    requires layer { FitsLayer draft.old
+        (given draft.old (map (λ s. s.now) path.now) tree.now.length tree.now.root v1.now)
+        tree.now.layer.now }
+    ensures { draft.new.piece_length ≡ draft.old.piece_length }
 {
     let before = text_of(rt, draft)?;
-    let v1 = V1File {
-        cuts: Vec::new(rt.alloc()),
-        padded: [0; 20],
-    };
-    let mut answer = draft.add(path, 0, [7; 32], &[], &v1);
-    if answer == Err(Refusal::NoMemory) {
+    let mut answer = draft.add(path, tree.length, tree.root, tree.layer, v1);
+    if let Err(Refusal::NoMemory) = answer {
         tell(rt, "add")?;
         if text_of(rt, draft)?.written() != before.written() {
             println!(rt; "changed by add")?;
         }
-        answer = draft.add(path, 0, [7; 32], &[], &v1);
+        answer = draft.add(path, tree.length, tree.root, tree.layer, v1);
     }
     match answer {
         Ok(()) => Ok(()),

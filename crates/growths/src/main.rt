@@ -6,35 +6,39 @@
 
 mod again;
 mod drafting;
+mod given;
+mod keeping;
 mod messages;
+mod replaying;
+mod runs;
 mod shelving;
 mod state;
 
 use again::{decode_again, open_again};
 use drafting::draft_again;
-use messages::{Call, take_messages};
+use messages::take_record;
 use metainfo::Torrent;
 use node_maps::{Flat, Paged};
+use replaying::replay_again;
+use session::NodeMap;
 use shelving::{check_again, gather_again, seed_again};
 use std::{env, fs, io};
 
-// Makes the call over the map of known nodes that is asked for. To a call on folders the record is
-// the content of a file.
-fn call_over(
+// Makes the call. To a call on folders the record is the content of a file.
+fn make_call<N: NodeMap>(
     rt: &HostRuntime,
     torrent: &Torrent<'_>,
     record: &[u8],
-    map: &str,
     call: &str,
 ) -> io::Result<()> {
-    match (call, map) {
-        ("draft", _) => draft_again(rt),
-        ("gather", _) => gather_again(rt, record),
-        ("check", _) => check_again(rt, torrent, record),
-        ("seed", "flat") => seed_again::<Flat>(rt, torrent, record),
-        ("seed", _) => seed_again::<Paged>(rt, torrent, record),
-        (_, "flat") => take_messages::<Flat>(rt, torrent, record, Call::of(call)),
-        _ => take_messages::<Paged>(rt, torrent, record, Call::of(call)),
+    match call {
+        "draft" => draft_again(rt, torrent, false),
+        "hybrid draft" => draft_again(rt, torrent, true),
+        "gather" => gather_again(rt, record),
+        "check" => check_again(rt, torrent, record),
+        "seed" => seed_again::<N>(rt, torrent, record),
+        "replay" => replay_again::<N>(rt, torrent, record),
+        _ => take_record::<N>(rt, torrent, record, call),
     }
 }
 
@@ -52,7 +56,10 @@ fn main(rt: HostRuntime) -> io::Result<()> {
     let record = fs::read(&rt, record.as_str())?;
     decode_again(&rt, &bytes)?;
     match open_again(&rt, &bytes)? {
-        Ok(torrent) => call_over(&rt, &torrent, &record, map.as_str(), call.as_str()),
+        Ok(torrent) => match map.as_str() {
+            "flat" => make_call::<Flat>(&rt, &torrent, &record, call.as_str()),
+            _ => make_call::<Paged>(&rt, &torrent, &record, call.as_str()),
+        },
         Err(refusal) => println!(rt; "refused {}", refusal.number()),
     }
 }

@@ -1,150 +1,77 @@
 //! The messages of a record, taken by a session.
-use crate::again::{new_again, tell};
+use crate::given::{Call, Given, OUT_OF_MEMORY};
+use crate::keeping::{Directed, keep_messages, lend_messages};
+use crate::runs::run_messages;
 use crate::state::{State, compare};
-use benc::Source;
-use benc::memory::MemSource;
 use metainfo::Torrent;
-use session::{Answer, HashRefusal, NoMemory, NodeMap, Session, Verdict};
+use session::{Answer, NoMemory, NodeMap, Session};
 use std::io;
-use wire::{Ask, Direction, Frame, Hash, Message, RecordReader};
+use wire::{Ask, Message};
 
-/// The call that takes a message.
-#[derive(Clone, Copy, Debug, PartialEq, Eq)]
-pub(crate) enum Call {
-    /// `step`, and `answer` for a request.
-    Step,
-    /// `run` of this message alone.
-    Run,
-    /// `fill` of a layer of the first tree, if the message holds hashes.
-    Fill,
-    /// `step_noted`, in the direction that the record gives.
-    Noted,
-}
-
-impl Call {
-    /// The call of this name.
-    pub(crate) fn of(name: &str) -> Call {
-        match name {
-            "run" => Call::Run,
-            "fill" => Call::Fill,
-            "noted" => Call::Noted,
-            _ => Call::Step,
-        }
-    }
-}
-
-/// Takes each message of the record, and prints what it came to and the session's state.
-pub(crate) fn take_messages<N: NodeMap>(
+/// Gives the messages of a record to a new session, one at a time or by runs.
+pub(crate) fn take_record<N: NodeMap>(
     rt: &HostRuntime,
     torrent: &Torrent<'_>,
     record: &[u8],
-    call: Call,
+    call: &str,
 ) -> io::Result<()> {
-    let mut session: Session<'_, N> = new_again(rt, torrent, call == Call::Run)?;
-    let mut source = MemSource::new(record);
-    take_record(rt, &mut session, &mut source, call)
+    let kept = keep_messages(rt, record)?;
+    let given = Given {
+        torrent,
+        with_layers: call == "run" || call == "run of all",
+        call: Call::of(call),
+        messages: lend_messages(rt.alloc(), &kept)?,
+    };
+    match call {
+        "run" => run_messages::<N>(rt, &given, 1),
+        "run of all" | "run_noted" => run_messages::<N>(rt, &given, usize::MAX),
+        _ => take_messages::<N>(rt, &given),
+    }
 }
 
-fn take_record<N: NodeMap, R: Source>(
-    rt: &HostRuntime,
-    session: &mut Session<'_, N>,
-    source: &mut R,
-    call: Call,
-) -> io::Result<()> {
-    let mut reader = RecordReader::new(rt.alloc(), source);
-    take_frames(rt, session, &mut reader, call)
-}
-
-fn take_frames<N: NodeMap, R: Source>(
-    rt: &HostRuntime,
-    session: &mut Session<'_, N>,
-    reader: &mut RecordReader<'_, R>,
-    call: Call,
-) -> io::Result<()> {
-    reserve_again(rt, reader)?;
-    for _ in 0..u64::MAX {
-        match reader.advance() {
-            Ok(true) => take_frame(rt, session, reader.frame(), call)?,
-            Ok(false) => break,
-            Err(fault) => return println!(rt; "{fault}"),
-        }
+// Takes each message, and prints what it came to and the session's state.
+fn take_messages<N: NodeMap>(rt: &HostRuntime, given: &Given<'_, '_>) -> io::Result<()> {
+    let mut session: Session<'_, N> = given.session(rt)?;
+    for (number, message) in given.messages.iter().enumerate() {
+        take_again(rt, &mut session, given, number, message)?;
+        println!(rt; "{:?}", State::of(&session))?;
     }
     Ok(())
 }
 
-fn reserve_again<R: Source>(rt: &HostRuntime, reader: &mut RecordReader<'_, R>) -> io::Result<()> {
-    if reader.reserve().is_err() {
-        tell(rt, "reserve")?;
-        reader.reserve()?;
-    }
-    Ok(())
-}
-
-fn take_frame<N: NodeMap>(
+// Takes the message of this number, and answers it if it is a request.
+fn take_again<N: NodeMap>(
     rt: &HostRuntime,
     session: &mut Session<'_, N>,
-    (direction, frame): (Direction, Frame<'_>),
-    call: Call,
+    given: &Given<'_, '_>,
+    number: usize,
+    message: &Directed<'_>,
 ) -> io::Result<()> {
-    if let Frame::Message(message) = frame {
-        match call {
-            Call::Step => step_again(rt, session, &message)?,
-            Call::Run => run_again(rt, session, message)?,
-            Call::Fill => fill_again(rt, session, &message)?,
-            Call::Noted => note_again(rt, session, direction, &message)?,
-        }
-    }
-    println!(rt; "{:?}", State::of(session))
-}
-
-fn step_again<N: NodeMap>(
-    rt: &HostRuntime,
-    session: &mut Session<'_, N>,
-    message: &Message<'_>,
-) -> io::Result<()> {
-    let before = State::of(session);
-    let mut verdict = session.step(message);
-    if verdict == Verdict::HashRefused(HashRefusal::NoMemory) {
-        compare(rt, "step", before, session)?;
-        verdict = session.step(message);
+    let mut verdict = given.call.take(session, message);
+    if verdict == OUT_OF_MEMORY {
+        let call = given.call.name(message.0);
+        compare(rt, call, session, given, number)?;
+        verdict = given.call.take(session, message);
     }
     println!(rt; "{verdict:?}")?;
-    match message {
-        Message::Request(ask) => answer_again(rt, session, ask),
+    match &message.1 {
+        Message::Request(ask) => answer_again(rt, session, given, number, ask),
         _ => Ok(()),
     }
 }
 
-// A request that went out is noted, and hashes that came in are taken if they were asked for.
-fn note_again<N: NodeMap>(
-    rt: &HostRuntime,
-    session: &mut Session<'_, N>,
-    direction: Direction,
-    message: &Message<'_>,
-) -> io::Result<()> {
-    let before = State::of(session);
-    let mut verdict = session.step_noted(direction, message);
-    if verdict == Verdict::HashRefused(HashRefusal::NoMemory) {
-        let call = match direction {
-            Direction::In => "take_answer",
-            Direction::Out => "note",
-        };
-        compare(rt, call, before, session)?;
-        verdict = session.step_noted(direction, message);
-    }
-    println!(rt; "{verdict:?}")
-}
-
+// Answers the request of this number.
 fn answer_again<N: NodeMap>(
     rt: &HostRuntime,
     session: &Session<'_, N>,
+    given: &Given<'_, '_>,
+    number: usize,
     ask: &Ask,
 ) -> io::Result<()> {
-    let before = State::of(session);
     let answer = match session.answer(ask) {
         Ok(answer) => answer,
         Err(NoMemory) => {
-            compare(rt, "answer", before, session)?;
+            compare(rt, "answer", session, given, number.wrapping_add(1))?;
             session.answer(ask)?
         }
     };
@@ -152,53 +79,4 @@ fn answer_again<N: NodeMap>(
         Answer::Hashes(hashes) => println!(rt; "{:?}", hashes.as_slice()),
         Answer::Reject => println!(rt; "rejected"),
     }
-}
-
-fn run_again<N: NodeMap>(
-    rt: &HostRuntime,
-    session: &mut Session<'_, N>,
-    message: Message<'_>,
-) -> io::Result<()> {
-    let before = State::of(session);
-    let mut verdicts = match session.run(&[message]) {
-        Ok(verdicts) => verdicts,
-        Err(NoMemory) => {
-            compare(rt, "run", before, session)?;
-            session.run(&[message])?
-        }
-    };
-    if verdicts.as_slice() == [Verdict::HashRefused(HashRefusal::NoMemory)].as_slice() {
-        compare(rt, "a message of run", before, session)?;
-        verdicts = session.run(&[message])?;
-    }
-    println!(rt; "{:?}", verdicts.as_slice())
-}
-
-fn fill_again<N: NodeMap>(
-    rt: &HostRuntime,
-    session: &mut Session<'_, N>,
-    message: &Message<'_>,
-) -> io::Result<()> {
-    match message {
-        Message::Hashes { ask, hashes } => fill_layer_again(rt, session, ask.base, hashes),
-        _ => Ok(()),
-    }
-}
-
-fn fill_layer_again<N: NodeMap>(
-    rt: &HostRuntime,
-    session: &mut Session<'_, N>,
-    layer: u32,
-    hashes: &[Hash],
-) -> io::Result<()> {
-    if session.torrent().trees().is_empty() {
-        return Ok(());
-    }
-    let before = State::of(session);
-    let mut answer = session.fill(0, layer, hashes);
-    if answer == Err(HashRefusal::NoMemory) {
-        compare(rt, "fill", before, session)?;
-        answer = session.fill(0, layer, hashes);
-    }
-    println!(rt; "{answer:?}")
 }

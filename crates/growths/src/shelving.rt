@@ -1,6 +1,7 @@
 //! Calls on folders, made again if memory was refused.
 use crate::again::{new_again, tell};
 use crate::drafting::print_draft;
+use crate::given::Given;
 use crate::state::{State, compare};
 use benc::memory::MemSink;
 use checker::{
@@ -63,9 +64,9 @@ pub(crate) fn seed_again<N: NodeMap>(
     content: &[u8],
 ) -> io::Result<()> {
     let mut session: Session<'_, N> = new_again(rt, torrent, false)?;
-    let before = State::of(&session);
     if let Err(SeedFault::NoMemory) = seed_file(rt, &mut session, content)? {
-        compare(rt, "seed", before, &session)?;
+        let nothing = Given::nothing(rt.alloc(), torrent);
+        compare(rt, "seed", &session, &nothing, 0)?;
         match seed_file(rt, &mut session, content)? {
             Ok(()) => {}
             Err(fault) => println!(rt; "{fault}")?,

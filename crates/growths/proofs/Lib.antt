@@ -1,0 +1,2 @@
+-- Lemmas on what a draft is told of a torrent's files.
+pub mod Told
