@@ -6,7 +6,6 @@ import functools
 import hashlib
 import os
 import random
-import resource
 import shutil
 
 import folder_model
@@ -14,13 +13,12 @@ import opening_model
 import record_model
 import torrents
 from poison import Peers
-from record_cases import converts, reads_form_2
 from session_model import Session
 from support import TOP, run, write
 from trees import layer, root_of
 
-# The memory and the seconds that a case may take; `replay` and the others need a few MiB.
-MEMORY = 64 << 20
+# The KiB and the seconds that a case may take; `replay` and the others need a few MiB.
+MEMORY = 64 << 10
 SECONDS = 10
 
 SIZES = [0, 0, 1, 3, 100, 16383, 16384, 16385, 32768, 40000, 65536, 65636, 131073]
@@ -175,8 +173,9 @@ def bend_bytes(draw, content):
     return content
 
 
-def limited():
-    resource.setrlimit(resource.RLIMIT_AS, (MEMORY, MEMORY))
+def seconds_of_processors():
+    """The processors' time that this process took, and those that it ran and that have ended."""
+    return sum(os.times()[:4])
 
 
 def answer(line):
@@ -193,7 +192,7 @@ class Fuzz:
 
     def __init__(self, place, seed):
         self.place, self.seed = place, seed
-        self.cases = collections.Counter()
+        self.cases, self.start = collections.Counter(), seconds_of_processors()
         self.answers = {kind: collections.Counter() for kind in ("torrent", "record", "conversion", "folder")}
 
     def case(self, kind):
@@ -202,9 +201,13 @@ class Fuzz:
         self.name = f"{kind} {self.seed} {self.cases[kind]}"
         getattr(self, kind)(random.Random(self.name))
 
+    def rate(self):
+        """How many cases there were in a minute of one processor's time, the models' own time with it."""
+        return round(60 * self.cases.total() / (seconds_of_processors() - self.start))
+
     def compare(self, kind, wanted, *arguments, told=b""):
         """The program answers so, and tells this on standard error."""
-        done = run(*arguments, timeout=SECONDS, preexec_fn=limited)
+        done = run(*arguments, timeout=SECONDS, memory=MEMORY)
         seen = (done.returncode, done.stdout)
         if seen != wanted or done.stderr != told:
             kept = f"{TOP}/build/fuzz {self.name}"
@@ -235,7 +238,7 @@ class Fuzz:
         return files, piece_length, with_layers, bent_record(draw, frames, draw.random() < rate)
 
     def record(self, draw):
-        files, piece_length, with_layers, record = self.drawn_record(draw, 0.5 if reads_form_2() else 0)
+        files, piece_length, with_layers, record = self.drawn_record(draw, 0.5)
         write(f"{self.place}/torrent", torrents.torrent_of(files, piece_length))
         write(f"{self.place}/record", record)
         wanted = record_model.report(Session(files, piece_length, with_layers), record)
@@ -243,8 +246,6 @@ class Fuzz:
         self.compare("record", wanted, "replay", f"{self.place}/torrent", f"{self.place}/record", *flags)
 
     def conversion(self, draw):
-        if not converts():
-            return
         *_, record = self.drawn_record(draw, 0.1)
         path, out = write(f"{self.place}/record", record), f"{self.place}/out"
         status, printed, told, least = record_model.conversion(record, path)
@@ -348,7 +349,8 @@ def with_word(draw, frame, at, value):
 
 
 def summary(fuzz):
-    """How many cases were compared, and how often the program answered what."""
+    """How many cases were compared, how fast, and how often the program answered what."""
+    yield f"{fuzz.cases.total()} cases, {fuzz.rate()} a minute of a processor's time"
     for kind, answers in fuzz.answers.items():
         told = ", ".join(f"{answer} {count}" for answer, count in answers.most_common())
         yield f"{fuzz.cases[kind]} cases of a {kind} compared: {told}"

@@ -4,8 +4,7 @@ import random
 import subprocess
 
 import messages
-from record_model import FORM_2
-from support import BTCHECK, TOP, folder, run, write
+from support import BTCHECK, run, write
 from torrents import torrent_of
 from trees import BLOCK, Tree
 
@@ -15,34 +14,6 @@ IN, OUT = b"\x00", b"\x01"
 FRAMES = [messages.KEEP_ALIVE, messages.piece(0, 0, b"abc"), messages.frame(b"\x04" + bytes(4)),
           messages.piece(0, 0, b"abd")]
 LINES = ["keep-alive", "verified 0 0", "skipped 4", "refused P4 BadBlock"]
-
-
-@functools.lru_cache
-def reads_form_2():
-    with folder() as place:
-        return run("replay", f"{TOP}/examples/abc.torrent", write(f"{place}/record", FORM_2)).stdout == b"end\n"
-
-
-@functools.lru_cache
-def converts():
-    return run("convert", "--help").returncode == 0
-
-
-def needs(condition, what):
-    """A test that is left out while the program cannot do this."""
-    def wrapped(test):
-        @functools.wraps(test)
-        def tried():
-            if condition():
-                test()
-            else:
-                print(f"not tried: the program does not {what} yet")
-        return tried
-    return wrapped
-
-
-needs_form_2 = needs(reads_form_2, "read records of form 2")
-needs_convert = needs(converts, "convert records")
 
 
 @functools.lru_cache

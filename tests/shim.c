@@ -16,6 +16,9 @@ extern void *__libc_calloc(size_t, size_t);
 extern void *__libc_realloc(void *, size_t);
 extern void *__libc_memalign(size_t, size_t);
 
+// What an entry of a folder takes, if its name is as long as may be.
+#define LARGEST_ENTRY 280
+
 static unsigned long long nowhere[2], *counts = nowhere;  // calls of the kind, and failures among them
 static const char *kind = "", *path;
 static unsigned long long at;
@@ -76,6 +79,17 @@ int open(const char *name, int flags, ...) {
     int mode = flags & O_CREAT ? va_arg(more, int) : 0;
     va_end(more);
     return fails("open") ? -1 : (int)syscall(SYS_openat, AT_FDCWD, name, flags, mode);
+}
+int openat(int folder, const char *name, int flags, ...) {
+    va_list more;
+    va_start(more, flags);
+    int mode = flags & O_CREAT ? va_arg(more, int) : 0;
+    va_end(more);
+    return fails("openat") ? -1 : (int)syscall(SYS_openat, folder, name, flags, mode);
+}
+ssize_t getdents64(int folder, void *entries, size_t size) {
+    if (one_byte && size > LARGEST_ENTRY) size = LARGEST_ENTRY;
+    return fails("list") ? -1 : syscall(SYS_getdents64, folder, entries, size);
 }
 int close(int file) {
     long result = syscall(SYS_close, file);

@@ -4,7 +4,7 @@ import errno
 import os
 import subprocess
 
-from support import BTCHECK, TOP, folder, run
+from support import BTCHECK, TOP, LeftOut, folder, run, write
 
 
 class Shim:
@@ -14,10 +14,12 @@ class Shim:
         self.library, self.counts = f"{place}/shim.so", f"{place}/shim.counts"
         subprocess.run(["gcc", "-shared", "-fPIC", "-O1", "-Wall", "-o", self.library, f"{TOP}/tests/shim.c"], check=True)
 
-    def run(self, kind, at, *arguments, onward=False, error=errno.EIO, change=None, one_byte=False, **options):
+    def run(self, kind, at, *arguments, onward=False, error=errno.EIO, change=None, one_byte=False, out=None, **options):
         """Runs the program; call `at` of this kind fails, and with `onward` all later ones too; 0 fails none. With a
-        `change`, a path and a length, that file gets this length instead. Tells how many calls there were, and how the
-        run ended."""
+        `change`, a path and a length, that file gets this length instead. A file `out` holds `before` at the start. Tells
+        how many calls there were, and how the run ended."""
+        if out:
+            write(out, b"before")
         with open(self.counts, "wb") as file:
             file.write(bytes(16))
         path, length = change or ("", 0)
@@ -43,17 +45,16 @@ class Shim:
             at += 1
 
 
-def is_static():
-    """Whether the program has the C library inside, so that nothing can stand before it; says so if it has."""
-    with open(BTCHECK, "rb") as program:
-        if b"/ld-linux" in program.read():
-            return False
-    print("not tried: the program has the C library inside")
-    return True
+def has_c_library_inside(program):
+    """Whether nothing can stand before this program's C library."""
+    with open(program, "rb") as file:
+        return b"/ld-linux" not in file.read()
 
 
 @contextlib.contextmanager
-def shimmed():
-    """A folder, and a shim in it."""
+def shimmed(program=BTCHECK):
+    """A folder, and a shim in it for this program. A test of one with the C library inside is left out."""
+    if has_c_library_inside(program):
+        raise LeftOut("the program has the C library inside")
     with folder() as place:
         yield place, Shim(place)

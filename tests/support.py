@@ -9,15 +9,23 @@ TOP = os.path.dirname(os.path.dirname(os.path.abspath(__file__)))
 BTCHECK = os.path.abspath(os.environ.get("BTCHECK", os.path.join(TOP, "build", "btcheck")))
 
 
+class LeftOut(Exception):
+    """A test, or the rest of one, needs what is not here; the text says what."""
+
+
 def run(*arguments, **options):
-    """Runs the program, or another one, with these arguments, bytes or text; options are those of subprocess.run."""
-    program = options.pop("program", BTCHECK)
+    """Runs the program, or another one, with these arguments, bytes or text. A shell limits it to so many KiB of `memory`,
+    since to copy this process for that takes longer. All other options are those of subprocess.run."""
+    words = [options.pop("program", BTCHECK), *arguments]
+    memory = options.pop("memory", None)
+    if memory:
+        words = ["sh", "-c", 'ulimit -v "$0" && exec "$@"', str(memory), *words]
     options.setdefault("stdout", subprocess.PIPE)
     options.setdefault("stderr", subprocess.PIPE)
     options.setdefault("timeout", 600)
     if "input" not in options:
         options.setdefault("stdin", subprocess.DEVNULL)
-    return subprocess.run([program, *arguments], **options)
+    return subprocess.run(words, **options)
 
 
 def expect(done, status, stdout=b"", stderr=b""):
@@ -45,6 +53,12 @@ def write(path, content):
     with open(path, "wb") as out:
         out.write(content)
     return path
+
+
+def written(path):
+    """What a file holds."""
+    with open(path, "rb") as file:
+        return file.read()
 
 
 def escaped(text):

@@ -55,6 +55,30 @@ def test_refused_arguments():
         assert done.stderr.startswith(b"error: "), (arguments, done.stderr)
 
 
+# Mistyped arguments, with what clap says of them and what it suggests, if anything is close.
+MISTYPED = [
+    (["chek", "a", "b"], "unrecognized subcommand 'chek'", "a similar subcommand exists: 'check'"),
+    (["rot", "a"], "unrecognized subcommand 'rot'", "a similar subcommand exists: 'root'"),
+    (["creat"], "unrecognized subcommand 'creat'", "some similar subcommands exist: 'replay', 'create'"),
+    (["xyz"], "unrecognized subcommand 'xyz'", None),
+    (["--verson"], "unexpected argument '--verson' found", "a similar argument exists: '--version'"),
+    (["replay", "a", "b", "--sed", "c"], "unexpected argument '--sed' found", "a similar argument exists: '--seed'"),
+    (["replay", "a", "b", "--info"], "unexpected argument '--info' found", "a similar argument exists: '--info-only'"),
+    (["create", "a", "b", "--nam", "x"], "unexpected argument '--nam' found", "a similar argument exists: '--name'"),
+    (["check", "a", "--deep", "b"], "unexpected argument '--deep' found", "to pass '--deep' as a value, use '-- --deep'"),
+]
+
+
+def test_what_mistyped_arguments_may_mean():
+    for arguments, fault, suggested in MISTYPED:
+        done = run(*arguments)
+        expect(done, 2, b"", None)
+        told = done.stderr.decode().splitlines()
+        assert told[0] == f"error: {fault}" and told[-1] == "For more information, try '--help'.", (arguments, told)
+        tips = [line.removeprefix("  tip: ") for line in told if line.startswith("  tip: ")]
+        assert tips == ([suggested] if suggested else []), (arguments, told)
+
+
 def test_help():
     for arguments in [["--help"], ["-h"], ["help"]]:
         done = run(*arguments)

@@ -5,7 +5,7 @@ import random
 import messages
 import record_model
 from poison import Peers
-from record_cases import FRAMES, large, needs_convert, needs_form_2, reads_form_2, replay, started, worlds
+from record_cases import FRAMES, large, replay, started, worlds
 from record_model import FORM_2
 from support import expect, folder, run, write
 from torrents import torrent_of
@@ -19,7 +19,6 @@ def convert(place, record):
         return done, out.read()
 
 
-@needs_convert
 def test_conversions():
     _, tree, torrent, ask = large()
     answer = messages.hashes(*ask, given=tree.hashes(0, 512, 512, 1))
@@ -33,12 +32,10 @@ def test_conversions():
             done, out = convert(place, record)
             expect(done, 0)
             assert out == record_model.converted(record) and len(out) == size, (len(out), size)
-        if reads_form_2():
-            _, out = convert(place, answer)
-            expect(replay(place, torrent, out, "--info-only"), 0, "1 sent request\n2 stored 1024\nend\n")
+        _, out = convert(place, answer)
+        expect(replay(place, torrent, out, "--info-only"), 0, "1 sent request\n2 stored 1024\nend\n")
 
 
-@needs_convert
 def test_conversions_of_what_is_cut():
     """What went out begins with the conversion of the whole frames."""
     frames = [*FRAMES, messages.hashes(bytes(32), 0, 0, 2, 0, given=[bytes(32)] * 2), messages.KEEP_ALIVE]
@@ -63,7 +60,6 @@ def test_conversions_of_what_is_cut():
             assert out == b""
 
 
-@needs_convert
 def test_faults_of_conversions():
     with folder() as place:
         record, missing = write(f"{place}/record", b"".join(FRAMES)), f"{place}/missing"
@@ -80,7 +76,6 @@ def test_faults_of_conversions():
         expect(run("convert", write(record, FORM_2), "/dev/full"), 1, "refused 3 AlreadyForm2\n")
 
 
-@needs_convert
 def test_conversions_through_pipes():
     record = b"".join(FRAMES * 30 + [messages.frame(b"\x14" + bytes(300000))] + FRAMES)
     for size in (1, 7, 64):
@@ -98,8 +93,6 @@ def incoming(report, record):
     return [text for number, text in lines if ways[int(number) - 1] == record_model.CAME_IN]
 
 
-@needs_convert
-@needs_form_2
 def test_a_conversion_replays_as_before():
     chance = random.Random(23)
     with folder() as place:

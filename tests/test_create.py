@@ -10,8 +10,8 @@ import subprocess
 import torrents
 from create_model import contents_of, torrent_of
 from opening_model import decoded
-from shim import is_static, shimmed
-from support import BTCHECK, TOP, expect, folder, made_by_libtorrent, python_with_libtorrent, run, write
+from shim import shimmed
+from support import BTCHECK, TOP, expect, folder, made_by_libtorrent, python_with_libtorrent, run, write, written
 from trees import BLOCK, sha256
 
 TWO = bytes(at % 251 for at in range(16385))
@@ -45,11 +45,6 @@ def make_folder(place, files):
 def create(place, out, name="x", piece_length=16384, hybrid=False, **options):
     flags = ["--name", name, "--piece-length", str(piece_length)] + ["--hybrid"] * hybrid
     return run("create", place, out, *flags, **options)
-
-
-def written(path):
-    with open(path, "rb") as file:
-        return file.read()
 
 
 def expect_created(place, out, contents, *more, **options):
@@ -168,6 +163,21 @@ def test_a_hundred_thousand_files():
         assert checked.stdout.endswith(b"\nyes\n")
 
 
+def test_a_torrent_that_is_too_large():
+    """The version 1 list tells the whole path of each file: 18,000 empty files below 3,764 bytes of path take more than
+    64 MiB. The torrent stands empty."""
+    with folder("/dev/shm") as place:
+        content, out = f"{place}/content", f"{place}/out"
+        below = "/".join([content, *["d" * 250] * 15])
+        os.makedirs(below)
+        for number in range(18_000):
+            os.close(os.open(f"{below}/{number}", os.O_CREAT | os.O_WRONLY))
+        write(out, b"before")
+        expect(create(content, out, hybrid=True), 1, "refused 1 TooLarge\n")
+        assert written(out) == b""
+        expect(create(content, out), 0)
+
+
 def test_too_many_components():
     with folder() as place:
         content, out = f"{place}/content", f"{place}/out"
@@ -265,6 +275,27 @@ def test_folders_that_cannot_be_listed():
             expect_untouched(create(at, out), out, 2, b"", f"fault: cannot read {at}\n")
 
 
+def test_listings_that_fail():
+    """A folder below that cannot be opened to be listed, or a listing that fails in its middle."""
+    with shimmed() as (place, shim):
+        contents = {f"file {number}": b"x" for number in range(200)} | {"b/c": b"abc", "b/d/e": b"abc", "f/g": b""}
+        content, out = make_folder(f"{place}/content", contents), f"{place}/out"
+        arguments = ["create", content, out, "--name", "x", "--piece-length", "16384"]
+        for kind, error, least in [("openat", errno.EACCES, 4), ("openat", errno.EMFILE, 4), ("openat", errno.ENOENT, 4),
+                                   ("list", errno.EIO, 9), ("list", errno.EINTR, 9)]:
+            calls, done = shim.run(kind, 0, *arguments)
+            expect(done, 0)
+            assert calls >= least, (kind, calls)
+            for at in range(1, calls + 1):
+                write(out, b"before")
+                _, done = shim.run(kind, at, *arguments, error=error)
+                expect_untouched(done, out, 2, b"", f"fault: cannot read {content}\n")
+        # a few names at a time
+        calls, done = shim.run("list", 0, *arguments, one_byte=True)
+        expect(done, 0)
+        assert calls > 20 and written(out) == torrent_of(contents, "x", 16384, False), calls
+
+
 def test_files_without_leave_to_read():
     nobody = {"preexec_fn": lambda: os.setuid(65534)} if os.geteuid() == 0 else {}
     with folder() as place:
@@ -310,8 +341,6 @@ def test_torrents_that_cannot_be_written():
 
 def test_files_that_vanish():
     """A file that is gone when it is opened, one that cannot be read on, and one that shrinks or grows meanwhile."""
-    if is_static():
-        return
     with shimmed() as (place, shim):
         contents = {"a": TWO, "b/c": b"abc"}
         content, out = make_folder(f"{place}/content", contents), write(f"{place}/out", b"before")

@@ -5,10 +5,12 @@ import pty
 import subprocess
 
 import messages
-from shim import is_static, shimmed
-from support import BTCHECK, expect, folder, run, write
-from torrents import ABC, hybrid, torrent
-from trees import root_line
+import record_model
+from session_model import Session
+from shim import shimmed
+from support import BTCHECK, expect, folder, run, write, written
+from torrents import ABC, hybrid, torrent, torrent_of
+from trees import Tree, root_line
 
 TWO = bytes(at % 251 for at in range(16385))
 LONG = bytes(200000)
@@ -18,6 +20,12 @@ CANNOT_WRITE = "fault: cannot write -\n"
 FRAMES = [messages.KEEP_ALIVE, messages.piece(0, 0, b"abc"), messages.frame(b"\x04" + bytes(4)),
           messages.piece(0, 0, b"abd")]
 LINES = ["1 keep-alive", "2 verified 0 0", "3 skipped 4", "4 refused P4 BadBlock", "end"]
+
+# One of the torrent of two files: two of its frames ask for hashes of the first file, the first for some that are there.
+PAIR = [("a", TWO), ("c", b"abc")]
+ASKS = [(Tree.of(TWO).root, 0, 0, 2, 0), (Tree.of(TWO).root, 0, 0, 4, 0)]
+TALK = [messages.KEEP_ALIVE, messages.request(*ASKS[0]), messages.piece(0, 0, TWO[:16384]), messages.request(*ASKS[1]),
+        messages.piece(1, 0, b"abd")]
 
 
 def outcome(done):
@@ -30,12 +38,14 @@ class World:
     def __init__(self, place):
         self.long, self.abc = write(f"{place}/long", LONG), write(f"{place}/abc", ABC)
         self.pair, self.record = write(f"{place}/pair", torrent(hybrid())), write(f"{place}/record", b"".join(FRAMES))
+        self.talk, self.answers = write(f"{place}/talk", b"".join(TALK)), f"{place}/answers"
         self.folder = f"{place}/folder"
         os.mkdir(self.folder)
         self.a, self.c = write(f"{self.folder}/a", TWO), write(f"{self.folder}/c", b"abc")
         self.commands = {
             "root": (["root", self.long], 0), "show": (["show", self.pair], 0),
             "check": (["check", self.pair, self.folder], 0), "replay": (["replay", self.abc, self.record], 1),
+            "seeded": (["replay", self.pair, self.talk, "--seed", self.folder, "--answers", self.answers], 1),
         }
 
         # Commands that print nothing and write a file: their arguments, what they read, and the file.
@@ -56,6 +66,10 @@ def cannot_read(path):
     return 2, "", f"fault: cannot read {path}\n"
 
 
+def cannot_write(path):
+    return f"fault: cannot write {path}\n"
+
+
 def checks_without(states):
     """What `check` prints of the pair if some of its files have these states."""
     lines = [f"{states.get(name, 'good')} {name}" for name in ("a", "c")]
@@ -71,8 +85,6 @@ def failures(shim, world, command, kind, **more):
 
 
 def test_reads_that_fail():
-    if is_static():
-        return
     with shimmed() as (place, shim):
         world = World(place)
         for error in (errno.EIO, errno.EAGAIN):
@@ -94,8 +106,6 @@ def read_faults():
 
 def test_reads_that_are_interrupted():
     """A signal in the middle of a read: the torrent is read on, everything else is a fault of its file."""
-    if is_static():
-        return
     with shimmed() as (place, shim):
         world = World(place)
         for command, told in [("root", {cannot_read(world.long)}), ("show", set()), ("replay", read_faults()),
@@ -107,8 +117,6 @@ def test_reads_that_are_interrupted():
 def test_writes_that_fail():
     """What went out is a prefix of the answer, and the fault is told. It may be all of it: a buffer tries once more as it
     is dropped."""
-    if is_static():
-        return
     with shimmed() as (place, shim):
         world = World(place)
         for command in world.commands:
@@ -122,12 +130,11 @@ def test_writes_that_fail():
                         if outcome(done) == ample and error == errno.EINTR:
                             continue
                         status, out, told = outcome(done)
-                        assert (status, told) == (2, CANNOT_WRITE) and ample[1].startswith(out), (command, at, done)
+                        assert status == 2 and ample[1].startswith(out), (command, at, done)
+                        assert told == CANNOT_WRITE or command == "seeded" and told == cannot_write(world.answers), done
 
 
 def test_files_that_cannot_be_opened():
-    if is_static():
-        return
     with shimmed() as (place, shim):
         world = World(place)
         for error, told in [(errno.EMFILE, "unreadable"), (errno.EACCES, "unreadable"), (errno.ENOENT, "missing")]:
@@ -141,9 +148,86 @@ def test_files_that_cannot_be_opened():
             assert seen == expected["check"][1:], (error, seen)
 
 
+def seeded(names):
+    """How a replay of the talk ends if these files are seeded, its answers last."""
+    session = Session(PAIR, 32768, True)
+    seeds = session.seed({name: content for name, content in PAIR if name in names})
+    status, report = record_model.report(session, b"".join(TALK))
+    return status, "".join(f"{line}\n" for line in seeds) + report.decode(), "", answers_to(session, ASKS)
+
+
+def answers_to(session, asks):
+    return b"".join(session.answer_frame(*ask) for ask in asks)
+
+
+def cut_talks():
+    """How it ends if the record fails after some of its frames."""
+    session, (_, report, _, _) = Session(PAIR, 32768, True), seeded("ac")
+    session.seed(dict(PAIR))
+    lines = report.splitlines(True)
+    for count in range(len(TALK) + 1):
+        asks = ASKS[:sum(frame[4:5] == b"\x15" for frame in TALK[:count])]
+        yield 2, "".join([*lines[:2 + count], "fault Read\n"]), "", answers_to(session, asks)
+
+
+def test_seeds_and_answers_that_fail():
+    """A file that fails is not seeded, and the others are; the answers are those of the requests that were told."""
+    with shimmed() as (place, shim):
+        world = World(place)
+        arguments, _ = world.commands["seeded"]
+        ample, without, cut = seeded("ac"), [seeded("c"), seeded("a")], list(cut_talks())
+        no_torrent, no_record = ((*cannot_read(path), b"before") for path in (world.pair, world.talk))
+        no_answers = 2, "", cannot_write(world.answers), b"before"
+
+        def failures_of(kind, error=errno.EIO):
+            runs = shim.each(kind, *arguments, error=error, out=world.answers)
+            first, *others = [(*outcome(done), written(world.answers)) for done in runs]
+            assert first == ample, first
+            return others
+
+        for error in (errno.EIO, errno.EAGAIN, errno.EINTR):
+            seen, told = failures_of("read", error), [no_torrent, *without, *cut]
+            if error == errno.EINTR:  # the torrent is read on
+                seen, told = [end for end in seen if end != ample], told[1:]
+            assert set(told[:-len(cut)]) < set(seen) <= set(told), (error, seen)
+            assert sorted(seen, key=told.index) == seen, (error, seen)
+        for error in (errno.EMFILE, errno.EACCES, errno.ENOENT):
+            assert failures_of("open", error) == [no_torrent, no_record, no_answers, *without], error
+            assert failures_of("stat", error) == without, error
+        assert set(failures_of("close")) == {ample}
+        assert outcome(shim.run("read", 0, *arguments, one_byte=True)[1]) == ample[:3] and written(world.answers) == ample[3]
+
+
+def test_answers_that_cannot_be_written():
+    """Each write in turn: what went out of the report and of the answers is a prefix of each. The fault names that which
+    failed: standard output behind the answers of all requests that were told, or the file of answers behind the line of
+    the request."""
+    with shimmed() as (place, shim):
+        world = World(place)
+        arguments, _ = world.commands["seeded"]
+        session = Session(PAIR, 32768, True)
+        session.seed(dict(PAIR))
+        for error in (errno.ENOSPC, errno.EIO):
+            runs = shim.each("write", *arguments, error=error, out=world.answers)
+            ample, places = next(runs), []
+            assert (*outcome(ample), written(world.answers)) == seeded("ac"), ample
+            for done in runs:
+                status, out, told = outcome(done)
+                lines, given = out.splitlines(True), written(world.answers)
+                asked = sum(line.endswith((" answered\n", " rejected\n")) for line in lines)
+                whole = answers_to(session, ASKS[:asked])
+                assert status == 2 and ample.stdout.decode().startswith(out), done
+                if told == CANNOT_WRITE:
+                    assert given == whole, (done, given)
+                else:
+                    assert told == cannot_write(world.answers) and out.endswith((" answered\n", " rejected\n")), done
+                    assert answers_to(session, ASKS[:asked - 1]) <= given < whole and whole.startswith(given), (done, given)
+                places.append((told, asked))
+            assert {(cannot_write(world.answers), count) for count in (1, 2)} < set(places), places
+            assert {(CANNOT_WRITE, count) for count in (0, 1, 2)} < set(places), places
+
+
 def test_closing_that_fails_changes_nothing():
-    if is_static():
-        return
     with shimmed() as (place, shim):
         world = World(place)
         for command in world.commands:
@@ -152,8 +236,6 @@ def test_closing_that_fails_changes_nothing():
 
 
 def test_one_byte_at_a_time():
-    if is_static():
-        return
     with shimmed() as (place, shim):
         world = World(place)
         for command in world.commands:
@@ -163,8 +245,6 @@ def test_one_byte_at_a_time():
 
 def test_files_that_change_while_they_are_read():
     """A file that shrinks or grows before one of its reads: the answer is that of some content that it had."""
-    if is_static():
-        return
     with shimmed() as (place, shim):
         world = World(place)
         wrong = checks_without({"a": "wrong length"})
@@ -187,6 +267,64 @@ def test_files_that_change_while_they_are_read():
             done = shim.run("read", 2, *world.commands["replay"][0], change=(world.record, length))[1]
             *lines, last = done.stdout.decode().splitlines()
             assert lines == LINES[:len(lines)] and last in ("end", "fault Truncated"), (length, done)
+
+
+def contents_of(whole, length, reads):
+    """What a reader may see of a file that gets this length before one of its reads, which take so much each: first what
+    it sees if that is the first one."""
+    later = whole[:length] + bytes(max(0, length - len(whole)))
+    return [whole[:size] + later[size:] for size in [*range(0, len(whole), reads), len(whole)]]
+
+
+def test_a_record_that_changes_while_it_is_converted():
+    """What goes out is the conversion of some record that it was, or of its whole frames if that is cut."""
+    hashes = messages.hashes(ASKS[0][0], 0, 0, 256, 0, given=[bytes(32)] * 256)
+    frames = [*FRAMES, *[hashes, messages.piece(0, 0, TWO)] * 6]
+    whole = b"".join(frames)
+    with shimmed() as (place, shim):
+        record, out = f"{place}/record", f"{place}/out"
+        cut, met = len(b"".join(frames[:9])), set()
+        for length in (0, 1, 8, cut, cut + 3, 65536, 65537, len(whole) - 1, len(whole) + 4, len(whole) + 3, len(whole) + 200000):
+            ends = [record_model.conversion(content, record) for content in contents_of(whole, length, 65536)]
+            for at in range(1, shim.run("read", 0, "convert", write(record, whole), out)[0] + 1):
+                write(record, whole)
+                done = shim.run("read", at, "convert", record, out, change=(record, length), out=out)[1]
+                seen, given = (done.returncode, done.stdout, done.stderr), written(out)
+                fitting = [least for *end, least in ends[:1 if at == 1 else None]
+                           if tuple(end) == seen and given.startswith(least) and (done.returncode or given == least)]
+                assert fitting, (length, at, seen, len(given))
+                met.add((done.returncode, at == 1))
+        assert len(met) == 4, met
+
+
+def test_files_that_change_while_they_seed():
+    """A file is seeded if what was read of it is whole, and then its true leaves are known, else none."""
+    content = bytes(at % 253 for at in range(200000))
+    tree, files = Tree.of(content), [("a", content), ("c", b"abc")]
+    record = b"".join([messages.request(tree.root, 0, 0, 16, 0), messages.piece(0, 16384, content[16384:32768]),
+                       messages.piece(1, 0, b"abc"), messages.piece(0, 0, bytes(16384))])
+    with shimmed() as (place, shim):
+        os.mkdir(f"{place}/folder")
+        path, out = write(f"{place}/torrent", torrent_of(files, 262144)), f"{place}/out"
+        a, _ = write(f"{place}/folder/a", content), write(f"{place}/folder/c", b"abc")
+        arguments = ["replay", path, write(f"{place}/record", record), "--seed", f"{place}/folder", "--answers", out]
+        for length in (0, 65536, 199999, 200001, 300000):
+            ends = []
+            for right in (files[1:], files):
+                session = Session(files, 262144, True)
+                seeds = "".join(f"{line}\n" for line in session.seed(dict(right)))
+                answer = session.answer_frame(tree.root, 0, 0, 16, 0)
+                status, report = record_model.report(session, record)
+                ends.append((status, seeds + report.decode(), "", answer))
+            seen = []
+            write(a, content)
+            for at in range(1, shim.run("read", 0, *arguments)[0] + 1):
+                write(a, content)
+                done = shim.run("read", at, *arguments, change=(a, length), out=out)[1]
+                seen.append((*outcome(done), written(out)))
+            # not if it changes before it is read, but if it changes behind that
+            assert set(seen) == set(ends) and sorted(seen, key=ends.index) == seen, (length, seen)
+            assert seen.count(ends[0]) >= 4, (length, seen)
 
 
 def world_good():
@@ -261,11 +399,6 @@ def test_closed_streams_keep_their_places():
             assert done.returncode == 2 and b"verified" not in done.stdout, done
 
 
-def written(path):
-    with open(path, "rb") as file:
-        return file.read()
-
-
 def ample_of_writer(shim, world, command):
     arguments, sources = world.writers[command]
     assert outcome(shim.run("write", 0, *arguments)[1]) == (0, "", ""), command
@@ -274,8 +407,6 @@ def ample_of_writer(shim, world, command):
 
 def test_written_files_that_fail():
     """What is in the file is a prefix of what belongs there, or all of it, and the fault is told."""
-    if is_static():
-        return
     with shimmed() as (place, shim):
         world = World(place)
         for command in world.writers:
@@ -286,14 +417,12 @@ def test_written_files_that_fail():
                     assert outcome(done) == (0, "", "") and written(world.made) == ample, (command, one_byte, done)
                     for at in {1, 2, 3, calls // 2, calls} & set(range(1, calls + 1)):
                         _, done = shim.run("write", at, *arguments, error=error, one_byte=one_byte)
-                        told = {(2, "", f"fault: cannot write {world.made}\n")}
+                        told = {(2, "", cannot_write(world.made))}
                         told |= {(0, "", "")} if error == errno.EINTR else set()
                         assert outcome(done) in told and ample.startswith(written(world.made)), (command, at, done)
 
 
 def test_sources_of_written_files_that_fail():
-    if is_static():
-        return
     with shimmed() as (place, shim):
         world = World(place)
         for command in world.writers:
@@ -304,7 +433,7 @@ def test_sources_of_written_files_that_fail():
                 assert runs[0] == (0, "", "") and set(runs[1:]) == cannot, (command, runs)
             for error in (errno.EMFILE, errno.EACCES, errno.ENOENT):
                 runs = [outcome(done) for done in shim.each("open", *arguments, error=error)]
-                others = {cannot_read(world.folder), (2, "", f"fault: cannot write {world.made}\n")}
+                others = {cannot_read(world.folder), (2, "", cannot_write(world.made))}
                 assert runs[0] == (0, "", "") and cannot <= set(runs[1:]) <= cannot | others, (command, error, runs)
             for kind in ("stat", "close"):
                 runs = {outcome(done) for done in shim.each(kind, *arguments)}

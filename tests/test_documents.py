@@ -8,6 +8,7 @@ import subprocess
 import contracts
 import definitions
 from support import BTCHECK, TOP, folder
+from test_fuzz import CASES
 
 
 def examples():
@@ -32,6 +33,12 @@ def test_the_examples_of_the_readme():
             done = subprocess.run(["sh", "-c", command], cwd=f"{place}/examples", env=path, stdout=subprocess.PIPE,
                                   stderr=subprocess.STDOUT, text=True, timeout=60)
             assert done.stdout == printed, (command, done.stdout)
+
+
+def test_the_readme_counts_hostile_input():
+    text = " ".join(contracts.text_of(TOP, "README.md").split())
+    conversions = CASES["conversion"]
+    assert f"{sum(CASES.values()) - conversions:,} hostile torrents, folders and records and {conversions} conversions" in text
 
 
 def test_every_cited_definition_is_explained():

@@ -1,14 +1,13 @@
 """Records of form 2, in which each frame has a direction, and `btcheck replay` of both forms."""
 import random
-import resource
 
 import messages
 import record_model
 from poison import Peers
-from record_cases import FRAMES, IN, LINES, OUT, large, needs_form_2, replay, started, worlds
+from record_cases import FRAMES, IN, LINES, OUT, large, replay, started, worlds
 from record_model import FORM_2
 from session_model import Session
-from shim import is_static, shimmed
+from shim import shimmed
 from support import expect, folder, run, write
 from torrents import ABC, torrent_of
 from trees import BLOCK, Tree
@@ -18,7 +17,6 @@ def numbered(*texts):
     return "".join(f"{number} {text}\n" for number, text in enumerate(texts, 1))
 
 
-@needs_form_2
 def test_what_stands_behind_the_header():
     with folder() as place:
         for behind, status, report in [
@@ -36,7 +34,6 @@ def test_what_stands_behind_the_header():
             expect(replay(place, ABC, FORM_2 + behind), status, report)
 
 
-@needs_form_2
 def test_asks_and_answers():
     _, tree, torrent, ask = large()
     request, reject = messages.request(*ask), messages.reject(*ask)
@@ -69,7 +66,6 @@ def test_asks_and_answers():
             expect(replay(place, torrent, FORM_2 + b"".join(frames), "--info-only"), status, numbered(*lines) + "end\n")
 
 
-@needs_form_2
 def test_records_cut_after_each_byte():
     request = messages.request(bytes(32), 0, 0, 2, 1)
     for frames, lines, header in [
@@ -88,7 +84,6 @@ def test_records_cut_after_each_byte():
                 expect(replay(place, ABC, record[:count]), status, f"{numbered(*whole)}{last}\n")
 
 
-@needs_form_2
 def test_records_that_begin_like_the_header():
     """They are of form 1: a frame of almost 4 GiB."""
     with folder() as place:
@@ -101,7 +96,6 @@ def test_records_that_begin_like_the_header():
         expect(replay(place, ABC, FORM_2[4:] + bytes(5)), 2, "fault Truncated\n")
 
 
-@needs_form_2
 def test_lines_appear_as_frames_come():
     """A direction that is none is told before anything stands behind it."""
     with folder() as place:
@@ -117,7 +111,6 @@ def test_lines_appear_as_frames_come():
         program.stdout.close()
 
 
-@needs_form_2
 def test_answers_are_written_for_what_came_in():
     content, tree, torrent, ask = large()
     other = (tree.root, 0, 0, 2, 0)
@@ -145,7 +138,6 @@ def talk(chance, files, piece_length):
         yield chance.choice([IN] * 9 + [OUT]) + frame
 
 
-@needs_form_2
 def test_talks_of_peers():
     chance, told = random.Random(22), set()
     with folder() as place:
@@ -159,11 +151,6 @@ def test_talks_of_peers():
         assert text in told, (text, told)
 
 
-def limited(mebibytes):
-    return lambda: resource.setrlimit(resource.RLIMIT_AS, (mebibytes << 20, mebibytes << 20))
-
-
-@needs_form_2
 def test_nobody_else_makes_us_keep_asks():
     """Frames that come in take no memory for asks, however many they are; our own requests do."""
     _, tree, torrent, _ = large()
@@ -174,7 +161,7 @@ def test_nobody_else_makes_us_keep_asks():
     with folder() as place:
         def told(frames, most):
             arguments = [write(f"{place}/torrent", torrent), write(f"{place}/record", FORM_2 + frames), "--info-only"]
-            lines = run("replay", *arguments, preexec_fn=limited(most)).stdout.decode().splitlines()
+            lines = run("replay", *arguments, memory=most << 10).stdout.decode().splitlines()
             return {line.split(" ", 1)[-1] for line in lines}
 
         least = next(most for most in range(2, 100) if told(b"", most) == {"end"})
@@ -203,11 +190,8 @@ def fits(session, record, lines):
     return True
 
 
-@needs_form_2
 def test_refused_growths():
     """Each growth of a replay is refused in turn. An ask that could not be noted is not open."""
-    if is_static():
-        return
     content = random.Random(24).randbytes(12 * BLOCK)
     tree, files = Tree.of(content), [("file", content)]
     asks = [(tree.root, 0, at, 2, 3) for at in range(0, 12, 2)] + [(tree.root, 1, 0, 8, 0)]

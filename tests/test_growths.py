@@ -6,9 +6,10 @@ import re
 import messages
 import record_model
 from create_model import torrent_of as torrent_of_folder
+from record_cases import large
 from session_model import Session
-from shim import is_static, shimmed
-from support import write
+from shim import shimmed
+from support import write, written
 from torrents import ABC, bencoded, file, hybrid, info, layer, torrent, torrent_of
 from trees import Tree, blocks_of, root_of
 
@@ -21,9 +22,10 @@ def outcome(done):
     return done.returncode, done.stdout, done.stderr
 
 
-def refused_in_turn(shim, name, *arguments):
-    """The ample run, and then each run in which a growth was refused, with what it is called; prints how many."""
-    runs = shim.each("growth", *arguments)
+def refused_in_turn(shim, name, *arguments, out=None):
+    """The ample run, and then each run in which a growth was refused, with what it is called; prints how many. A file
+    `out` holds `before` at the start of each."""
+    runs = shim.each("growth", *arguments, out=out)
     ample = next(runs)
     count = 0
     yield "ample", ample
@@ -32,7 +34,7 @@ def refused_in_turn(shim, name, *arguments):
     print(f"growths of {name}: {count}")
     assert count > 0
     for at in range(1, count + 1, 4):
-        yield f"{name}, growths from {at}", shim.run("growth", at, *arguments, onward=True)[1]
+        yield f"{name}, growths from {at}", shim.run("growth", at, *arguments, onward=True, out=out)[1]
     assert outcome(shim.run("growth", 0, *arguments)[1]) == outcome(ample)
 
 
@@ -54,8 +56,6 @@ def torrents_to_show():
 
 
 def test_root_and_show():
-    if is_static():
-        return
     with shimmed() as (place, shim):
         runs = [("root", ["root", write(f"{place}/content", bytes(200000))])]
         for name, content in torrents_to_show().items():
@@ -68,8 +68,6 @@ def test_root_and_show():
 
 
 def test_help_and_refused_arguments():
-    if is_static():
-        return
     with shimmed() as (_, shim):
         for arguments in (["--help"], ["help", "check"]):
             ample = None
@@ -103,8 +101,6 @@ def is_report_with_unreadable(seen, ample, most):
 
 def test_check():
     """A file that no memory was there to open is unreadable; memory for the torrent or the report ends the check."""
-    if is_static():
-        return
     with shimmed() as (place, shim):
         os.mkdir(f"{place}/folder")
         path = write(f"{place}/torrent", torrent(hybrid()))
@@ -124,8 +120,9 @@ def test_check():
 
 
 def fits(session, record, lines):
-    """Each frame carries one block at most, and has one line. Each line is what the model says of its frame in the state that the frames before it left, or says that memory was
-    refused for hashes that it would store, which leaves the state as it was."""
+    """Each frame carries one block at most, and has one line. Each line is what the model says of its frame in the state
+    that the frames before it left, or says that memory was refused for hashes that it would store, which leaves the state
+    as it was."""
     for number, body in enumerate(record_model.bodies(record)[0], 1):
         if number > len(lines):
             return True
@@ -141,8 +138,6 @@ def fits(session, record, lines):
 
 
 def test_replay():
-    if is_static():
-        return
     tree, other = Tree.of(FIVE), Tree.of(TWO)
     blocks = blocks_of(FIVE)
     files = [("a", TWO), ("five", FIVE)]
@@ -175,8 +170,6 @@ def test_replay():
 
 def test_answers():
     """An answer whose growth is refused does not go out at all, and ends the report behind its line."""
-    if is_static():
-        return
     tree, files = Tree.of(FIVE), [("five", FIVE)]
     asks = [(tree.root, 0, 0, 8, 2), (tree.root, 1, 0, 2, 1)]
     record = messages.hashes(tree.root, 0, 0, 8, 2, given=tree.hashes(0, 0, 8, 0)) + b"".join(
@@ -185,13 +178,10 @@ def test_answers():
     lines = ["1 stored 14", "2 answered", "3 answered"]
     with shimmed() as (place, shim):
         path, record_path = write(f"{place}/torrent", torrent_of(files, 32768)), write(f"{place}/record", record)
-        out, unanswered = write(f"{place}/out", b""), 0
+        out, unanswered = f"{place}/out", 0
         arguments = ["replay", path, record_path, "--info-only", "--answers", out]
-        for called, done in refused_in_turn(shim, "replay --answers", *arguments):
-            told = done.stdout.decode().splitlines()
-            with open(out, "rb") as answered:
-                given = answered.read()
-            write(out, b"")
+        for called, done in refused_in_turn(shim, "replay --answers", *arguments, out=out):
+            told, given = done.stdout.decode().splitlines(), written(out)
             if called == "ample":
                 assert (done.returncode, told, given) == (0, [*lines, "end"], b"".join(answers)), (done, given)
             elif told[:1] == lines[:1] and told[-1] == "fault NoMemory":
@@ -202,10 +192,69 @@ def test_answers():
         assert unanswered >= 2, unanswered
 
 
+def test_the_answer_of_a_seeded_session():
+    """Its line stands, and not a byte of it goes out."""
+    content, tree, torrent_bytes, ask = large()
+    with shimmed() as (place, shim):
+        os.mkdir(f"{place}/folder")
+        write(f"{place}/folder/file", content)
+        path, record = write(f"{place}/torrent", torrent_bytes), write(f"{place}/record", messages.request(*ask))
+        out, seen = f"{place}/out", []
+        arguments = ["replay", path, record, "--info-only", "--seed", f"{place}/folder", "--answers", out]
+        calls, done = shim.run("growth", 0, *arguments)
+        assert outcome(done) == (0, b"seeded file\n1 answered\nend\n", b"") and shim.failed == 0, outcome(done)
+        assert written(out) == messages.hashes(*ask, given=tree.hashes(*ask[1:4], 1)) and os.path.getsize(out) == 16469
+        # its growth is the last of the run; before it come the reader's, and the session's
+        for at in range(calls, calls - 3, -1):
+            _, done = shim.run("growth", at, *arguments)
+            assert written(out) == b"", (at, outcome(done))
+            seen.append(outcome(done))
+        assert seen == [(2, b"seeded file\n1 answered\nfault NoMemory\n", b""), (2, b"seeded file\nfault NoMemory\n", b""),
+                        NO_MEMORY], seen
+
+
+def test_seeds():
+    """A file that no memory was there to open is not seeded; where there is none for a file's leaves, the replay ends
+    behind the lines of the files before. All else is as without seeds, in the state that the seeded files left."""
+    tree, files = Tree.of(FIVE), [("a", TWO), ("five", FIVE)]
+    asks = [(tree.root, 0, 0, 8, 2), (Tree.of(TWO).root, 0, 0, 2, 0), (tree.root, 1, 0, 2, 1)]
+    record = b"".join(messages.request(*ask) for ask in asks) + messages.piece(1, 0, blocks_of(FIVE)[0])
+    ends = set()
+    with shimmed() as (place, shim):
+        os.mkdir(f"{place}/folder")
+        for name, content in files:
+            write(f"{place}/folder/{name}", content)
+        path, record_path = write(f"{place}/torrent", torrent_of(files, 32768)), write(f"{place}/record", record)
+        out = f"{place}/out"
+        arguments = ["replay", path, record_path, "--info-only", "--seed", f"{place}/folder", "--answers", out]
+        for called, done in refused_in_turn(shim, "replay --seed", *arguments, out=out):
+            session, lines, told = Session(files, 32768, False), done.stdout.decode().splitlines(), (called, outcome(done))
+            right = {name: content for name, content in files if f"seeded {name}" in lines}
+            seeds, lines = lines[:len(files)], lines[len(files):]
+            assert seeds == session.seed(right)[:len(seeds)], told
+            assert len(right) >= len(seeds) - 1 or "from" in called, told
+            if not lines:
+                assert (done.returncode, done.stderr) == NO_MEMORY[::2], told
+                assert written(out) == b"" or (written(out) == b"before" and not seeds), told
+                ends.add(f"none behind {len(seeds)}")
+                continue
+            *lines, last = lines
+            # the last one that was told may have had no memory, and did not go out then
+            count = max(0, len(lines) - 1) if last == "fault NoMemory" else len(asks)
+            assert written(out) == b"".join(session.answer_frame(*ask) for ask in asks[:count]), told
+            assert fits(session, record, lines), told
+            assert last == "fault NoMemory" and len(lines) <= len(asks) or last == "end" and len(lines) == 4, told
+            refused = any(" refused " in line for line in lines)
+            assert done.returncode == (2 if last != "end" else 1 if refused else 0) and not done.stderr, told
+            ends.add(f"{last} behind {len(lines)}, {len(right)} seeded")
+            if called == "ample":
+                assert ends == {"end behind 4, 2 seeded"} and not refused, told
+    assert ends >= {"none behind 0", "none behind 1", *(f"fault NoMemory behind {count}, 2 seeded" for count in range(4)),
+                    "end behind 4, 1 seeded"}, ends
+
+
 def test_create():
     """The torrent is written whole or not at all; a file that no memory was there to open cannot be read."""
-    if is_static():
-        return
     contents = {"a": TWO, "b/c": b"abc", "b/d/e": FIVE, "f": b""}
     with shimmed() as (place, shim):
         for path, content in contents.items():
@@ -216,22 +265,16 @@ def test_create():
         for flags in ([], ["--hybrid"]):
             whole = torrent_of_folder(contents, "x", 32768, bool(flags))
             arguments = ["create", f"{place}/folder", out, "--name", "x", "--piece-length", "32768", *flags]
-            for called, done in refused_in_turn(shim, " ".join(["create", *flags]), *arguments):
-                with open(out, "rb") as file:
-                    made = file.read()
+            for called, done in refused_in_turn(shim, " ".join(["create", *flags]), *arguments, out=out):
+                made = written(out)
                 if called == "ample":
                     assert outcome(done) == (0, b"", b"") and made == whole, (called, outcome(done))
                 assert outcome(done) in {(0, b"", b""), NO_MEMORY} | cannot, (called, outcome(done))
-                # before the first of the runs in which all fails, another one wrote the torrent
-                left = whole if called.endswith("growths from 1") else b"before"
-                assert made in ({whole} if done.returncode == 0 else {b"", left}), (called, made)
-                write(out, b"before")
+                assert made in ({whole} if done.returncode == 0 else {b"", b"before"}), (called, made)
 
 
 def test_convert():
     """Memory is taken for the arguments alone."""
-    if is_static():
-        return
     record = messages.KEEP_ALIVE + messages.piece(0, 0, bytes(16384))
     with shimmed() as (place, shim):
         path, out = write(f"{place}/record", record), f"{place}/out"

@@ -1,13 +1,17 @@
 """Memory that is refused to calls of the libraries: each growth in turn. The program of crates/growths makes each call
 again that failed for memory, and says if it left something behind; so it prints what it prints with ample memory."""
 import collections
+import json
 import os
 import re
 
 import messages
+import record_model
 from record_model import FORM_2
+from session_model import Session
 from shim import shimmed
 from support import TOP, write
+from test_growths import fits
 from torrents import ABC, file, hybrid, info, layer, torrent, torrent_of
 from trees import Tree, blocks_of, root_of
 
@@ -16,13 +20,18 @@ FIVE = bytes(range(256)) * 256 + bytes(100)
 TWO = bytes(at % 251 for at in range(16385))
 LARGE = bytes(1 << 24)
 CALL = re.compile(r"refused: (.*)")
+OF_RUN = re.compile(r"message (\d+) of run")
+BYTES = re.compile(rb"\[[\d, ]*\]")
 
 
-def calls_refused(shim, name, *arguments):
-    """Refuses each growth in turn, compares what is printed, and tells how many growths each call has."""
+def calls_refused(shim, name, *arguments, judge=None):
+    """Refuses each growth in turn, compares what is printed, and tells how many growths each call has. Each run that does
+    not end early is judged too."""
     runs = shim.each("growth", *arguments, program=GROWTHS)
     ample = next(runs)
     assert ample.returncode == 0 and not ample.stderr, (name, ample)
+    if judge:
+        judge(ample)
     counts = collections.Counter()
     for number, done in enumerate(runs, 1):
         called = f"{name}, growth {number}"
@@ -32,6 +41,8 @@ def calls_refused(shim, name, *arguments):
             assert done.stdout == ample.stdout, (called, done.stdout, ample.stdout)
             assert len(refused) <= 1, (called, done.stderr)
             counts[refused[0] if refused else "that may be missing"] += 1
+            if judge:
+                judge(done)
         else:
             assert done.returncode == 1 and not refused, (called, done)
             assert ample.stdout.startswith(done.stdout) and b"OutOfMemory" in done.stderr, (called, done)
@@ -40,9 +51,20 @@ def calls_refused(shim, name, *arguments):
     return counts
 
 
+def has_refusal_amid(counts, call, length):
+    """Memory was refused for a message of a run of so many that is neither the first nor the last."""
+    numbers = [int(found[1]) for name in counts if (found := OF_RUN.match(name)) and name.endswith(f" of {call}")]
+    return any(1 < number < length for number in numbers)
+
+
+def printed(text):
+    """The lists of bytes that a text has."""
+    return [bytes(json.loads(found)) for found in BYTES.findall(text)]
+
+
 def test_decode_and_open():
     whole, layers = info({"five": file(FIVE)}, 32768), {root_of(FIVE): layer(FIVE, 2)}
-    with shimmed() as (place, shim):
+    with shimmed(GROWTHS) as (place, shim):
         record = write(f"{place}/record", b"")
         for name, content in [("one file", ABC), ("a hybrid", torrent(hybrid())), ("a piece layer", torrent(whole, layers)),
                               ("a wrong layer", torrent(whole, {root: bytes(96) for root in layers}))]:
@@ -68,22 +90,23 @@ def records():
 
 
 def test_sessions():
-    with shimmed() as (place, shim):
+    with shimmed(GROWTHS) as (place, shim):
         for name, files, piece_length, frames in records():
             path = write(f"{place}/torrent", torrent_of(files, piece_length))
             record = write(f"{place}/record", b"".join(frames))
             for map_name in ("flat", "paged"):
-                for call in ("step", "run"):
+                for call, told in [("step", ["step", "answer"]), ("run", ["run", "message 1 of run"]), ("run of all", ["run"])]:
                     counts = calls_refused(shim, f"{name}, {call} over {map_name}", path, record, map_name, call)
-                    assert counts["new"] > 0, counts
-                    wanted = ("step", "answer") if call == "step" else ("run", "a message of run")
-                    assert all(counts[of] > 0 for of in wanted), counts
+                    assert counts["new"] > 0 and all(counts[of] > 0 for of in told), counts
+                    # flat rows of a single tree take all their memory at the first message
+                    if call == "run of all" and (len(files) > 1 or map_name == "paged"):
+                        assert has_refusal_amid(counts, "run", len(frames)), counts
 
 
 def test_fill():
     tree = Tree.of(FIVE)
     whole = messages.hashes(tree.root, 0, 0, 8, 0, given=tree.hashes(0, 0, 8, 0)[:5])
-    with shimmed() as (place, shim):
+    with shimmed(GROWTHS) as (place, shim):
         path = write(f"{place}/torrent", torrent_of([("five", FIVE)], 32768))
         record = write(f"{place}/record", whole)
         for map_name in ("flat", "paged"):
@@ -93,22 +116,73 @@ def test_fill():
 
 def test_noted_messages():
     tree, other = Tree.of(FIVE), Tree.of(TWO)
-    asked = (tree.root, 0, 0, 4, 2)
-    answer = b"\0" + messages.hashes(*asked, given=tree.hashes(0, 0, 4, 1))
-    record = FORM_2 + b"".join([b"\1" + messages.request(*asked), b"\1" + messages.request(*asked),
-                                b"\1" + messages.request(other.root, 0, 0, 2, 0), answer, answer])
-    with shimmed() as (place, shim):
+    asks = [(tree.root, 0, 0, 4, 2), (other.root, 0, 0, 2, 0)]
+    requests = [messages.request(*ask) for ask in asks]
+    answers = [messages.hashes(*ask, given=of.hashes(*ask[1:4], uncles))
+               for ask, of, uncles in zip(asks, [tree, other], [1, 0])]
+    frames = [b"\1" + requests[0], b"\0" + answers[0], b"\0" + messages.piece(1, 0, blocks_of(FIVE)[0]), b"\1" + requests[1],
+              b"\1" + requests[1], b"\0" + answers[1], b"\0" + answers[0], b"\1" + requests[0], b"\0" + requests[0]]
+    with shimmed(GROWTHS) as (place, shim):
         path = write(f"{place}/torrent", torrent_of([("a", TWO), ("five", FIVE)], 32768))
+        record = write(f"{place}/record", FORM_2 + b"".join(frames))
         for map_name in ("flat", "paged"):
-            counts = calls_refused(shim, f"noted messages over {map_name}", path, write(f"{place}/record", record), map_name, "noted")
-            assert counts["note"] > 0 and counts["take_answer"] > 0, counts
+            for call, told in [("step_noted", ["note", "take_answer", "answer"]),
+                               ("run_noted", ["run_noted", "message 1 of run_noted"])]:
+                counts = calls_refused(shim, f"{call} over {map_name}", path, record, map_name, call)
+                assert all(counts[of] > 0 for of in told), counts
+                assert call != "run_noted" or has_refusal_amid(counts, "run_noted", len(frames)), counts
 
 
-def test_folders_and_drafts():
-    with shimmed() as (place, shim):
+def answers_of(session, record, lines):
+    """The frames that answer the requests of these lines of a report."""
+    told = [(line.split()[1], record_model.ask_of(body))
+            for line, body in zip(lines, record_model.bodies(record)[0]) if body[:1] == b"\x15"]
+    return b"".join(session.answer_frame(*ask) if word == "answered" else messages.reject(*ask) for word, ask in told)
+
+
+def test_replay():
+    """A report and answers in which memory was refused are those of the frames before, and of the frames behind as if the
+    refused hashes had not come."""
+    _, files, piece_length, frames = next(records())
+    record, seen = b"".join(frames), collections.Counter()
+
+    def judge(done):
+        report, answers = printed(done.stderr if b"refused: replay" in done.stderr else done.stdout)
+        *lines, last = report.decode().splitlines()
+        session = Session(files, piece_length, False)
+        assert fits(session, record, lines) and (last, len(lines)) in {("end", len(frames))} | {
+            ("fault NoMemory", count) for count in range(1, len(frames) + 1)}, done
+        assert answers == answers_of(session, record, lines if last == "end" else lines[:-1]), done
+        seen["H7" if b"H7" in report else last] += 1
+
+    with shimmed(GROWTHS) as (place, shim):
+        path, record_path = write(f"{place}/torrent", torrent_of(files, piece_length)), write(f"{place}/record", record)
+        for map_name in ("flat", "paged"):
+            seen.clear()
+            counts = calls_refused(shim, f"replay over {map_name}", path, record_path, map_name, "replay", judge=judge)
+            assert counts["replay"] > 0 and counts["reserve of replay"] > 0, counts
+            assert seen["H7"] > 0 and seen["fault NoMemory"] > 0, seen
+
+
+def test_drafts():
+    tree = {"a": file(TWO), "b": {"c": file(b""), "d": file(b"abc")}, "five": file(FIVE)}
+    content = torrent(info(tree, 32768), {root_of(FIVE): layer(FIVE, 2)})
+
+    def judge(done):
+        assert printed(done.stdout) == [content], done
+
+    with shimmed(GROWTHS) as (place, shim):
+        path = write(f"{place}/torrent", content)
+        for call in ("draft", "hybrid draft"):
+            counts = calls_refused(shim, call, path, path, "paged", call, judge=judge if call == "draft" else None)
+            assert counts["new"] > 0 and counts["add"] > 0, counts
+
+
+def test_folders():
+    with shimmed(GROWTHS) as (place, shim):
         path = write(f"{place}/torrent", torrent_of([("five", FIVE)], 32768))
         content = write(f"{place}/content", FIVE)
-        for call, told in [("draft", {"new", "add"}), ("gather", {"gather"}), ("check", {"check"}), ("seed", {"new", "seed"})]:
+        for call, told in [("gather", {"gather"}), ("check", {"check"}), ("seed", {"new", "seed"})]:
             for map_name in ("flat", "paged") if call == "seed" else ("paged",):
                 counts = calls_refused(shim, f"{call} over {map_name}" if call == "seed" else call, path, content, map_name, call)
                 assert all(counts[of] > 0 for of in told), (call, counts)

@@ -7,7 +7,6 @@ import subprocess
 
 import messages
 import record_model
-from record_cases import reads_form_2
 from record_model import CAME_IN, WENT_OUT
 from session_model import Session
 from support import TOP, expect, folder, made_by_libtorrent, python_with_libtorrent, run, write
@@ -50,8 +49,7 @@ class World:
     def replayed(self, record):
         """The texts that `replay` prints of the frames of a record, if only the roots are known."""
         status, report = record_model.report(Session(self.files, self.piece_length, False), record)
-        if reads(record):
-            expect(run("replay", self.torrent, write(f"{self.place}/replayed", record), "--info-only"), status, report)
+        expect(run("replay", self.torrent, write(f"{self.place}/replayed", record), "--info-only"), status, report)
         *lines, last = report.decode().splitlines()
         assert last == "end", last
         return [line.split(" ", 1)[1] for line in lines]
@@ -77,11 +75,6 @@ class World:
                 return number, place // BLOCK, len(right) < BLOCK
             place -= -(-len(content) // self.piece_length) * self.piece_length
         raise AssertionError(f"no file at {place}")
-
-
-def reads(record):
-    """Whether the program reads records of this form."""
-    return not record.startswith(record_model.FORM_2) or reads_form_2()
 
 
 def frames_of(record):
@@ -147,16 +140,16 @@ def answers_to(world, record):
 
 def test_our_answers_are_those_of_libtorrent():
     """If the pieces have several blocks, libtorrent asks for hashes of pieces."""
-    for piece_length in (BLOCK, 4 * BLOCK):
+    for piece_length, hybrid in [(BLOCK, False), (4 * BLOCK, False), (BLOCK, True)]:
         with folder() as place:
-            world = World(place, FILES[:2], piece_length, False, 10)
+            world = World(place, FILES[:2], piece_length, hybrid, 10)
             frames = frames_of(world.record()[0])
             requests, theirs = of_kind(frames, 21, WENT_OUT), of_kind(frames, 22)
             assert 0 < len(requests) == len(theirs), (len(requests), len(theirs))
             assert sorted(answers_to(world, b"".join(requests))) == sorted(theirs)
             # the other side's record of the same
             swapped = joined([(1 - way, frame) for way, frame in frames])
-            assert not reads(swapped) or sorted(answers_to(world, swapped)) == sorted(theirs)
+            assert sorted(answers_to(world, swapped)) == sorted(theirs)
 
 
 def test_pieces_of_several_blocks():
@@ -171,9 +164,8 @@ def test_pieces_of_several_blocks():
         report = "".join(f"{line}\n" for line in seeds).encode() + report
         assert report.count(b" verified ") == sum(length // BLOCK for _, length in FILES)
         assert report.count(b" refused ") == report.count(b" refused P2 BadSize") == 2
-        if reads(record):
-            seeding = ["--seed", f"{place}/content/t"]
-            expect(run("replay", world.torrent, f"{place}/record", "--info-only", *seeding), status, report)
+        seeding = ["--seed", f"{place}/content/t"]
+        expect(run("replay", world.torrent, f"{place}/record", "--info-only", *seeding), status, report)
         lines = world.replayed(record)
         assert any(line.startswith("stored ") for line in lines)
         assert not any(line.startswith("refused H") for line in lines)

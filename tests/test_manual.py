@@ -74,6 +74,55 @@ def test_manual_names_every_command_and_option():
     assert options - {"--"} == at_top.options, options
 
 
+# Each line that the program prints, by the part of the manual that explains it. What stands for something is in capitals.
+PRINTED = {
+    "Output of root": ["LENGTH ROOT", "0 -", "refused 10 Length"],
+    "Output of show": ["name: NAME", "piece length: K", "info hash v2: HEX", "info hash v1: HEX", "files: COUNT",
+                       "LENGTH ROOT PATH"],
+    "Output of check": ["good PATH", "missing PATH", "unreadable PATH", "wrong length PATH", "bad PIECE PATH", "v1 good",
+                        "v1 bad PIECE", "v1 not checked", "yes", "no"],
+    "Output of create": ["refused 6 PieceLength", "refused NUMBER NAME PATH", "refused 13 NoFiles", "refused 1 TooLarge"],
+    "Output of convert": ["refused 3 AlreadyForm2"],
+    "Output of replay": ["seeded PATH", "not seeded PATH", "N verified FILE BLOCK", "N stored COUNT", "N refused NUMBER NAME",
+                         "N refused NUMBER NAME FILE BLOCK", "N answered", "N rejected", "N reject noted", "N keep-alive",
+                         "N skipped ID", "N sent request", "N sent", "N bad frame ID LENGTH", "end", "fault Truncated",
+                         "fault BadDirection", "fault Read", "fault NoMemory"],
+    "Faults on standard error": ["fault: cannot read PATH", "fault: cannot write PATH", "fault: name is not UTF-8",
+                                 "fault: not a file or folder: PATH", "fault: record is truncated: PATH",
+                                 "fault: no memory", "error: ..."],
+    "Refused torrents": ["refused 1 TooLarge", "refused 2 NotBencode KIND OFFSET", "refused 3 Missing KEY",
+                         "refused 4 WrongType KEY", "refused 5 Version", "refused 6 PieceLength", "refused 7 Shape",
+                         "refused 8 Path", "refused 9 Symlink", "refused 10 Length", "refused 11 Root",
+                         "refused 12 RootReused", "refused 13 NoFiles", "refused 14 TooManyPieces",
+                         "refused 15 LayerMissing", "refused 16 LayerSize", "refused 17 LayerMismatch",
+                         "refused 18 HybridFiles", "refused 19 HybridAlign", "refused 20 HybridPieces",
+                         "Truncated", "BadStart", "BadInteger", "IntegerRange", "BadLength", "KeyOrder", "Trailing",
+                         "TooDeep"],
+    "Refused hashes": ["H1 UnknownRoot", "H2 BadRange", "H3 BadCount", "H4 BadPad", "H5 Unanchored", "H6 Mismatch",
+                       "H7 NoMemory", "H8 Unasked"],
+    "Refused blocks": ["P1 BadPlace", "P2 BadSize", "P3 Unproved", "P4 BadBlock"],
+}
+
+# Texts of the definitions that are no line by themselves: a sign for nothing, letters of refusals, an escape.
+NO_LINES = {"", "-", "H", "P", "fault:", r"\\x"}
+
+
+def fixed(line):
+    """A printed line without what stands for something."""
+    return " ".join(word for word in line.split() if not re.fullmatch("[A-Z]+", word))
+
+
+def test_manual_explains_every_printed_line():
+    """Each of them once, and no other."""
+    parts = re.split(r"^\.S[sh] (.*)$", text_of(MANUAL), flags=re.M)
+    sections = dict(zip(parts[1::2], parts[2::2]))
+    for section, lines in PRINTED.items():
+        entries = re.findall(r"^\.It Li (.*)\n(.*)$", sections[section], re.M)
+        explained = [line for heads, _ in entries for line in heads.split(" , ")]
+        assert sorted(explained) == sorted(lines), (section, set(explained) ^ set(lines))
+        assert not [heads for heads, told in entries if told.startswith((".It", ".El"))], (section, entries)
+
+
 def names_of_refusals():
     """The family, the name and the number, where it has one, of each refusal in the definitions of the crates."""
     numbers, names = {}, {}
@@ -85,23 +134,30 @@ def names_of_refusals():
     return [(family, name, numbers.get((family, case))) for (family, case), name in names.items()]
 
 
-def test_manual_names_every_refusal():
-    text = text_of(MANUAL)
+def texts_of_the_definitions():
+    """The texts of which the definitions put printed lines together."""
+    for crate in ["lines", "folders", "seeding", "records", "commands"]:
+        for path in glob.glob(f"{TOP}/crates/{crate}/**/*.antt", recursive=True) + glob.glob(f"{TOP}/crates/{crate}/src/*.rt"):
+            for text in re.findall(r'codes "((?:[^"\\]|\\.)*)"', text_of(path)):
+                yield from (piece.strip() for piece in text.split("\\n"))
+
+
+def test_no_printed_line_is_forgotten():
+    """Each text and each refusal of the definitions is in a line above, and `docs/FORMATS.md` has each of these lines."""
+    lines = {fixed(line) for lines in PRINTED.values() for line in lines}
+    found = set(texts_of_the_definitions()) - NO_LINES
+    assert len(found) >= 40, found
+    for text in found:
+        assert text in lines or f"fault: {text}" in lines, text
     refusals = [refusal for refusal in names_of_refusals() if refusal[1] not in NOT_PRINTED]
     assert len(refusals) >= 40, refusals
     for family, name, number in refusals:
-        where = f"refused {number} {name}" if family == "refusal" and name != "NoMemory" else name
-        assert re.search(rf"\b{where}\b", text), where
-
-
-def test_manual_names_every_fault():
-    """Each line of standard error, as the definition of the line of a fault has it."""
-    text = text_of(MANUAL)
-    [definition] = glob.glob(f"{TOP}/crates/*/specs/Fault.antt")
-    reasons = re.findall(r'^fault_reason .* = codes "([^"]*)"', text_of(definition), re.M)
-    assert len(reasons) >= 4, reasons
-    for reason in reasons:
-        assert re.search(rf"^\.It Li fault: {reason}(PATH)?$", text, re.M), reason
+        letter = {"refusal": "refused ", "hash_refusal": "H", "block_refusal": "P"}.get(family, "")
+        line = f"{letter}{number} {name}" if number else name
+        assert line in lines or (name == "NoMemory" and letter != "H"), line
+    formats = {fixed(code) for code in re.findall("`([^`\n]+)`", text_of(f"{TOP}/docs/FORMATS.md"))}
+    for line in lines - {"error: ..."}:
+        assert line in formats or line.removeprefix("refused ") in formats, line
 
 
 def test_manual_is_well_formed():
@@ -117,6 +173,7 @@ def test_manual_is_well_formed():
 EXAMPLES = [
     "bad 1 b\nmissing c d\nno\n",
     "not complete:\nbad 1 b\nmissing c d\nno\n",
+    "      1 bad\n      1 good\n      1 missing\n      1 no\nbad 1 b\nmissing c d\nno\n",
     "other.torrent:40000 {root} film\nsome.torrent:40000 {root} a\n",
     "40000 {root}\n",
     "./old.torrent:refused 3 Missing meta version\n./web.torrent:refused 2 NotBencode BadStart 0\n",

@@ -8,7 +8,7 @@ import subprocess
 import time
 
 import torrents
-from support import BTCHECK, TOP, folder, run, write
+from support import BTCHECK, TOP, folder, write
 
 # How many torrents of the archive have which state.
 GOOD = 17
@@ -254,9 +254,6 @@ def test_content_in_one_folder():
 
 def test_torrents_for_folders():
     """Only what has no torrent gets one, and what is refused has none."""
-    if run("create", "--help").returncode != 0:
-        print("not tried: the program does not make torrents yet")
-        return
     with folder() as place:
         archive = Archive(place)
         recipe = block("./create-one\n", "sh")

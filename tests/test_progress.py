@@ -6,7 +6,7 @@ import time
 import messages
 import record_model
 import torrents
-from shim import is_static, shimmed
+from shim import shimmed
 from support import folder, run, write
 from terminal import drawn, on_terminal, screen, width_of
 from trees import sha256
@@ -153,12 +153,12 @@ def test_convert():
         status, _, sent = on_terminal("convert", "/dev/stdin", f"{place}/out", both=True, feed=cut)
         assert status == 2 and len(drawn(sent)) > 1, sent
         assert screen(sent) == ["fault: record is truncated: /dev/stdin", ""], sent
-        # the bytes in all are those of the record
-        long = zeros(place, "long", 32 * MIB)
+        # the bytes in all are those of the record, which is so long that it takes far more than a tenth of a second
+        long = zeros(place, "long", 512 * MIB)
         status, out, sent = on_terminal("convert", long, "/dev/null", columns=500)
         checks = [OF_ALL.fullmatch(line) for line in drawn(sent)]
         assert (status, out) == (0, "") and checks and all(checks) and screen(sent) == [""], (out, sent)
-        assert {(match[2], match[5]) for match in checks} == {("32.0 MiB", f": {long}")}, sent
+        assert {(match[2], match[5]) for match in checks} == {("512.0 MiB", f": {long}")}, sent
         done = run("convert", long, "/dev/null")
         assert (done.returncode, done.stdout, done.stderr) == (0, b"", b"")
 
@@ -204,8 +204,6 @@ def test_widths():
 
 def test_files_that_fail():
     """The line is gone when a fault is told, and when a check goes on after one."""
-    if is_static():
-        return
     with shimmed() as (place, shim):
         os.mkdir(f"{place}/all")
         path = write(f"{place}/torrent", torrent_of_zeros({"a": 128 * MIB, "b": 128 * MIB}))

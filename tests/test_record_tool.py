@@ -11,7 +11,6 @@ import threading
 import time
 
 import messages
-from record_cases import needs_form_2
 from record_model import FORM_2
 from support import BTCHECK, TOP, expect, folder, run, write
 from torrents import ABC
@@ -387,7 +386,6 @@ def test_out_is_a_pipe():
             assert status == 2 and "cannot write" in said and "Broken pipe" in said, said
 
 
-@needs_form_2
 def test_verdicts_while_they_talk():
     with folder() as place, Relay("/dev/stdout", stdout=subprocess.PIPE) as relay:
         replay = [BTCHECK, "replay", write(f"{place}/torrent", ABC), "/dev/stdin"]

@@ -1,7 +1,6 @@
 """`btcheck replay TORRENT RECORD [--info-only]`, against a plain model of sessions with hashlib."""
 import os
 import random
-import resource
 import subprocess
 
 from messages import KEEP_ALIVE, frame, hashes, piece, reject, request
@@ -100,6 +99,8 @@ def test_five_blocks():
             (hashes(tree.root, 0, 0, 4, 2, given=four), ["1 stored 8"]),
             (hashes(tree.root, 0, 0, 4, 2, given=bent), ["1 refused H6 Mismatch"]),
             (hashes(tree.root, 0, 4, 2, 2, given=tree.hashes(0, 4, 2, 2)), ["1 stored 6"]),
+            (hashes(tree.root, 4294967295, 0, 2, 2, given=four[:2]), ["1 refused H2 BadRange"]),
+            (hashes(tree.root, 0, 4294967294, 2, 2, given=four[:2]), ["1 refused H2 BadRange"]),
             (hashes(tree.root, 4294967295, 4294967294, 2, 2, given=four[:2]), ["1 refused H2 BadRange"]),
             (hashes(tree.root, 0, 4294967288, 8, 2, given=pad), ["1 refused H2 BadRange"]),
             (hashes(tree.root, 0, 0, 8, 4294967295, given=tree.hashes(0, 0, 8, 0)), ["1 stored 14"]),
@@ -278,7 +279,7 @@ def test_memory_is_that_of_the_session():
         for parts, count, last in [(KEEP_ALIVE, 1 << 18, b"%d keep-alive"), (skipped, 64, b"%d skipped 5"),
                                    (leaves + block * 4095, 1, b"%d verified 0 0"), (leaves, 1 << 17, b"%d stored 0"),
                                    (frame(b"\x16" + bytes((1 << 20) - 5)), 64, b"%d bad frame 22 1048572")]:
-            done = replay(place, torrent, parts * count, "--info-only", preexec_fn=limit_memory)
+            done = replay(place, torrent, parts * count, "--info-only", memory=32 << 10)
             told = done.stdout.split(b"\n")
             assert done.returncode in (0, 1), done.stderr
             assert told[-3:] == [last % (len(told) - 2), b"end", b""], told[-3:]
@@ -294,9 +295,5 @@ def test_the_last_leaves_of_the_longest_file():
     near = hashes(zeros[32], 31, 0, 2, 0, given=[zeros[31], zeros[31]])
     with folder() as place:
         done = replay(place, torrent(value, {zeros[32]: zeros[16] * 65536}), far + near + far, "--info-only",
-                      preexec_fn=limit_memory)
+                      memory=32 << 10)
         expect(done, 0, lines("1 stored 64", "2 stored 0", "3 stored 0", "end"))
-
-
-def limit_memory():
-    resource.setrlimit(resource.RLIMIT_AS, (32 << 20, 32 << 20))

@@ -5,25 +5,22 @@ import re
 import shutil
 import subprocess
 
-from support import TOP, folder, write
+from support import TOP, LeftOut, folder, write
 from trees import root_line
 
 OBJECT = f"{TOP}/crates/btcheck/out/btcheck.o"
 
 
-def made(target):
-    """Whether this target could be made: it needs the kit, and the object that `make` leaves."""
+def make(target):
+    """Makes this target. It needs the kit, and the object that `make` leaves."""
     if not (shutil.which("rt") and os.path.exists(OBJECT)):
-        print(f"make {target} is not tried: there is no kit here, or no {os.path.relpath(OBJECT, TOP)}")
-        return False
+        raise LeftOut(f"there is no kit here, or no {os.path.relpath(OBJECT, TOP)}")
     subprocess.run(["make", "-s", "-o", "build/btcheck", target], cwd=TOP, check=True, stdout=subprocess.DEVNULL)
-    return True
 
 
 def test_static():
     """It asks for no library, and runs with nothing else there."""
-    if not made("static"):
-        return
+    make("static")
     program = f"{TOP}/build/static/btcheck"
     with open(program, "rb") as file:
         assert b"/ld-linux" not in file.read()
@@ -35,8 +32,7 @@ def test_static():
 
 def test_dist():
     """What is packed is whole by its own list, runs, and is the same when it is packed again."""
-    if not made("dist"):
-        return
+    make("dist")
     [archive] = glob.glob(f"{TOP}/build/dist/*.tar.gz")
     name = os.path.basename(archive).removesuffix(".tar.gz")
     assert re.fullmatch(r"btcheck-[0-9.]+-linux-x86_64", name), name
@@ -54,6 +50,6 @@ def test_dist():
         done = subprocess.run([f"{below}/bin/btcheck", "root", "/dev/null"], stdout=subprocess.PIPE, check=True)
         assert done.stdout == b"0 -\n"
         subprocess.run([f"{below}/tools/record", "--help"], stdout=subprocess.DEVNULL, check=True)
-    assert made("dist")
+    make("dist")
     with open(archive, "rb") as file:
         assert file.read() == first
