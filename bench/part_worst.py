@@ -14,9 +14,11 @@ import messages  # noqa: E402
 from torrents import ABC, bencoded, torrent_of  # noqa: E402
 from trees import BLOCK, Tree, blocks_of, sha256  # noqa: E402
 
-# How many times its size a torrent may take in memory, and how many MiB a replay may take whatever its record's size.
+# How many times its size a torrent may take in memory, and how many MiB a replay and a conversion may take whatever their
+# record's size.
 TORRENT_MARK = 36
 REPLAY_MARK = 8
+CONVERT_MARK = 2
 
 
 def ignored(value, size):
@@ -63,6 +65,7 @@ def one_layer(size):
 TORRENTS = {
     "lists of an empty text": lambda size: ignored(b"l0:e", size),
     "lists of 33 empty texts": lambda size: ignored(b"l" + b"0:" * 33 + b"e", size),
+    "lists of 33 empty lists": lambda size: ignored(b"l" + b"le" * 33 + b"e", size),
     "lists in lists": lambda size: ignored(b"l" * 126 + b"e" * 126, size),
     "dictionaries of a pair": lambda size: ignored(b"d0:0:e", size),
     "integers": lambda size: ignored(b"i0e", size),
@@ -121,4 +124,6 @@ def run(folder, words):
     for name, make in RECORDS.items():
         record = written(folder, "record", make(16 * words.part << 20))
         missed += measure_one(f"replay: {name}", ["replay", path, record], 16 * words.part, REPLAY_MARK)
+        converted = os.path.join(folder, "converted")
+        missed += measure_one(f"convert: {name}", ["convert", record, converted], 16 * words.part, CONVERT_MARK)
     return missed
