@@ -194,17 +194,6 @@ stops_at_other byte behind a b not_in not_out few gave = record {
   stops = record { byte = byte; behind = behind; begins = refl; few = few; not_in = not_in; not_out = not_out };
 }
 
--- before a direction
-pub stops_before : (a b : SourceSeen) (why : FrameFault) → why ≡ fault.Read → GaveUntil a b [] why → StopsInRecord (Some Two) a b why
-stops_before a b why is gave = record {
-  form = Two;
-  rest = [];
-  part = later_part Two [] a b gave.gave;
-  faults = gave.faults;
-  ended = gave.ended;
-  stops = subst (StopsAt Two []) (sym is) (inl refl);
-}
-
 -- behind a header
 pub stops_after_header : (a b c : SourceSeen) (why : FrameFault) → GaveFaultless a b header → StopsInRecord (Some Two) b c why → StopsInRecord None a c why
 stops_after_header a b c why head s = record {
