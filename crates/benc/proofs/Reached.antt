@@ -1,10 +1,9 @@
 -- Where a list or dictionary that may be opened is reached.
 use Rattle.std.proofs.Common.{◌≡◌, ℕ, suc, ◌-◌, ◌<◌, ◌≤◌, ◌^◌, List, [], ◌∷◌, ◌++◌, length, Option, Some, None, inl, inr, refl, sym, ap, ◌∙◌, subst, append_assoc, arith}
 use Rattle.std.proofs.lemmas.List.{append-nil, length-append}
-use Rattle.benc.specs.Lookup.{get}
-use Rattle.benc.specs.Value.{Bencode, int, text, list, dict, no_pairs, pair}
-use Rattle.benc.specs.Spelling.{string, IsAbove, Spelled, SpelledItems, SpelledPairs, Spells}
-use Rattle.benc.specs.Fails.{a_value, a_value_or_end, Level, in_list, at_value, last_key, Begun, StartsGrowing, Reaches, Opens}
+use Rattle.benc.specs.Value.{Bencode, no_pairs, pair}
+use Rattle.benc.specs.Spelling.{string, IsAbove, Spelled, SpelledItems, SpelledPairs}
+use Rattle.benc.specs.Fails.{a_value, a_value_or_end, Level, in_list, at_value, last_key, Begun, StartsGrowing, Reaches}
 use Rattle.benc.specs.Parser.{GrowsForItem, GrowsForPair, HasItem, HasPair, IfMemory, ReachesItem, ReachesPair}
 use Rattle.benc.specs.declared.stop.Stop.{Stop}
 use Rattle.benc.specs.declared.stop.Stop.TheVariants as stops
