@@ -1,6 +1,5 @@
 -- The cuts of one file as its bytes come.
-use Rattle.std.proofs.Common.{◌≡◌, ℕ, ◌+◌, ◌-◌, ◌*◌, ◌/◌, ◌<◌, ◌≤◌, List, [], ◌∷◌, ◌++◌, length, map, vec_len, inl, inr, refl, sym, ap, ◌∙◌, arith, length-append}
-use Rattle.std.proofs.Math.Nat.{le-div_iff_mul-le, mul-add}
+use Rattle.std.proofs.Common.{◌≡◌, ℕ, ◌+◌, ◌-◌, ◌*◌, ◌<◌, ◌≤◌, List, [], ◌∷◌, ◌++◌, length, map, vec_len, inl, inr, refl, sym, ap, ◌∙◌, arith, length-append}
 use Rattle.std.proofs.lemmas.List.{append_assoc, append-nil}
 use Rattle.std.proofs.lemmas.Bool.{cases_lt}
 use Rattle.std.specs.List.{range_with_len}
@@ -123,5 +122,3 @@ ends_empty c f positive none items = λ p content fed.
       cuts = items ∙ at.cuts_are ∙ ap (cut_digests p) (no_content at.front (omega arith) ∙ sym (no_content content nothing));
       padded = λ some. absurd (omega arith);
     }
-
--- ---- memory
