@@ -3,7 +3,7 @@ use Rattle.std.proofs.Common.{◌≡◌, ℕ, ◌+◌, ◌-◌, List, ◌∷◌,
 use Rattle.std.specs.List.{flat_map}
 use Rattle.std.proofs.lemmas.List.{append-nil, drop_all, take_rest}
 use Rattle.wire.specs.declared.message.Ask.{Ask}
-use Rattle.wire.specs.Meaning.{IsRightSize, IsPieceSize, IsHashesSize, IsAsk, IsHash, IsAskBody, IsHashesBody, ask_bytes}
+use Rattle.wire.specs.Meaning.{IsRightSize, IsHashesSize, IsAsk, IsHash, IsAskBody, IsHashesBody, ask_bytes}
 
 -- the right size at each id
 pub size_of_request : (size : ℕ) → IsRightSize 21 size → size ≡ 49
