@@ -10,15 +10,15 @@ use Rattle.benc.specs.Spelling.{string, IsAbove, Spelled, SpelledItems, SpelledP
 use Rattle.benc.specs.Digits.{is_digit, digits_of_front, after_digits}
 use Rattle.benc.specs.Items.{integer_of, integer_at, string_of, string_at, in_order, key_at}
 use Rattle.benc.specs.Fails.{Due, a_value, a_value_or_end, a_key_or_end, Level, in_list, in_dict, at_value, last_key, Begun, Stops}
-use Rattle.benc.proofs.Scanned.{fault_of, value_fault, unless_end, item_fault, table_is}
+use Rattle.benc.proofs.Scanned.{fault_of, value_fault, fault_unless_end, scanned_fault, table_is}
 use Rattle.benc.specs.Parser.{◌>>=◌, Parsed, Failed, begun_at, items_at, pairs_at, value_with, value_at}
-use Rattle.benc.proofs.Sound.{Takes, began, value_takes, key_takes}
+use Rattle.benc.proofs.Sound.{TakesFront, began, value_takes, key_takes}
 
 -- at the item that is due, or in a container that is open there
 abbrev pub Further : ℕ → Due → List ℕ → Failed → Type 0
 Further room d bytes e =
-    ((bytes ≡ e.1) × (item_fault d room bytes ≡ Some e.0))
-    ⊎ ((l : Level) × (ls : List Level) × (due : Due) × (left : ℕ) × (front : List ℕ) × (bytes ≡ front ++ e.1) × Begun room (l ∷ ls) front due left × (item_fault due left e.1 ≡ Some e.0))
+    ((bytes ≡ e.1) × (scanned_fault d room bytes ≡ Some e.0))
+    ⊎ ((l : Level) × (ls : List Level) × (due : Due) × (left : ℕ) × (front : List ℕ) × (bytes ≡ front ++ e.1) × Begun room (l ∷ ls) front due left × (scanned_fault due left e.1 ≡ Some e.0))
 
 abbrev bad : {A : Type 0} → Failed → Result A Failed
 bad e = Err e
@@ -48,7 +48,7 @@ in_items : (room : ℕ) (c : ℕ) (bytes : List ℕ) (e : Failed) → eqb c 101 
 in_items room c bytes e m (inl p) = inl (p.0, rw m p.1)
 in_items room c bytes e m (inr p) = inr p
 
-module _ (room : ℕ) (read : List ℕ → Parsed Bencode) (sound : (b : List ℕ) (x : Bencode × List ℕ) → read b ≡ Ok x → Takes (Spelled room) b x.0 x.1) (shorter : (b : List ℕ) (x : Bencode × List ℕ) → read b ≡ Ok x → length x.1 < length b)
+module _ (room : ℕ) (read : List ℕ → Parsed Bencode) (sound : (b : List ℕ) (x : Bencode × List ℕ) → read b ≡ Ok x → TakesFront (Spelled room) b x.0 x.1) (shorter : (b : List ℕ) (x : Bencode × List ℕ) → read b ≡ Ok x → length x.1 < length b)
     (stops : (b : List ℕ) (e : Failed) → read b ≡ Err e → Further room a_value b e) where
   items_stop : (n : ℕ) (bytes : List ℕ) (e : Failed) → length bytes ≤ n → items_at read n bytes ≡ Err e → ItemsStop room bytes e
   unfolding items_at
@@ -76,7 +76,7 @@ list_stops room bytes e k = by_place k.5
   where
     by_place : Further room a_value_or_end k.2 e → Further (suc room) a_value (108 ∷ bytes) e
     by_place (inl p) =
-        inr (in_list k.0, [], a_value_or_end, room, 108 ∷ k.1, ap (λ t. 108 ∷ t) (k.3 ∙ ap (λ t. k.1 ++ t) p.0), (room, refl, (k.1, refl, k.4), refl, refl), subst (λ t. item_fault a_value_or_end room t ≡ Some e.0) p.0 p.1)
+        inr (in_list k.0, [], a_value_or_end, room, 108 ∷ k.1, ap (λ t. 108 ∷ t) (k.3 ∙ ap (λ t. k.1 ++ t) p.0), (room, refl, (k.1, refl, k.4), refl, refl), subst (λ t. scanned_fault a_value_or_end room t ≡ Some e.0) p.0 p.1)
     by_place (inr (l, ls, due, left, front, parts, begun, fails)) =
         inr (in_list k.0, l ∷ ls, due, left, (108 ∷ k.1) ++ front, ap (λ t. 108 ∷ t) (k.3 ∙ ap (λ t. k.1 ++ t) parts ∙ sym (append_assoc k.1 front e.1)), (room, 108 ∷ k.1, front, refl, refl, (k.1, refl, k.4), tt, begun), fails)
 
@@ -87,13 +87,13 @@ began_only {A} start (Err f) e h = (f, refl, err_of {A = A} (f, start) e h)
 -- at a key, or in the value of one that was read
 abbrev PairFurther : ℕ → Option (List ℕ) → List ℕ → Failed → Type 0
 PairFurther room last rest e =
-    ((rest ≡ e.1) × (item_fault (a_key_or_end last) room rest ≡ Some e.0))
+    ((rest ≡ e.1) × (scanned_fault (a_key_or_end last) room rest ≡ Some e.0))
     ⊎ ((k behind : List ℕ) × (rest ≡ string k ++ behind) × (length k < 10 ^ 10) × IsAbove k last × Further room a_value behind e)
 
 abbrev PairsStop : ℕ → Option (List ℕ) → List ℕ → Failed → Type 0
 PairsStop room before bytes e = (ps : Pairs) × (inner rest : List ℕ) × (bytes ≡ inner ++ rest) × SpelledPairs room before ps inner × PairFurther room (last_key before ps) rest e
 
-module _ (room : ℕ) (read : List ℕ → Parsed Bencode) (sound : (b : List ℕ) (x : Bencode × List ℕ) → read b ≡ Ok x → Takes (Spelled room) b x.0 x.1) (shorter : (b : List ℕ) (x : Bencode × List ℕ) → read b ≡ Ok x → length x.1 < length b)
+module _ (room : ℕ) (read : List ℕ → Parsed Bencode) (sound : (b : List ℕ) (x : Bencode × List ℕ) → read b ≡ Ok x → TakesFront (Spelled room) b x.0 x.1) (shorter : (b : List ℕ) (x : Bencode × List ℕ) → read b ≡ Ok x → length x.1 < length b)
     (stops : (b : List ℕ) (e : Failed) → read b ≡ Err e → Further room a_value b e) where
   pairs_stop : (n : ℕ) (before : Option (List ℕ)) (bytes : List ℕ) (e : Failed) → length bytes ≤ n → pairs_at read n before bytes ≡ Err e → PairsStop room before bytes e
   unfolding pairs_at
@@ -146,7 +146,7 @@ dict_stops room bytes e k = by_place k.5
           100 ∷ (k.1 ++ string n),
           ap (λ t. 100 ∷ t) (k.3 ∙ ap (λ t. k.1 ++ t) (parts ∙ ap (λ t. string n ++ t) p.0) ∙ sym (append_assoc k.1 (string n) e.1)),
           (room, refl, (k.1, refl, k.4, small, above), refl, refl),
-          subst (λ t. item_fault a_value room t ≡ Some e.0) p.0 p.1,
+          subst (λ t. scanned_fault a_value room t ≡ Some e.0) p.0 p.1,
         )
     in_value n b parts small above (inr (l, ls, due, left, front, more, begun, fails)) =
         inr (
@@ -162,7 +162,7 @@ dict_stops room bytes e k = by_place k.5
 
     by_place : PairFurther room (last_key None k.0) k.2 e → Further (suc room) a_value (100 ∷ bytes) e
     by_place (inl p) =
-        inr (in_dict k.0, [], a_key_or_end (last_key None k.0), room, 100 ∷ k.1, ap (λ t. 100 ∷ t) (k.3 ∙ ap (λ t. k.1 ++ t) p.0), (room, refl, (k.1, refl, k.4), refl, refl), subst (λ t. item_fault (a_key_or_end (last_key None k.0)) room t ≡ Some e.0) p.0 p.1)
+        inr (in_dict k.0, [], a_key_or_end (last_key None k.0), room, 100 ∷ k.1, ap (λ t. 100 ∷ t) (k.3 ∙ ap (λ t. k.1 ++ t) p.0), (room, refl, (k.1, refl, k.4), refl, refl), subst (λ t. scanned_fault (a_key_or_end (last_key None k.0)) room t ≡ Some e.0) p.0 p.1)
     by_place (inr (n, b, parts, small, above, further)) = in_value n b parts small above further
 
 pick_digit : (p q r s : Bool) (a t b d : Option FaultKind) → p ≡ false → q ≡ false → r ≡ false → s ≡ true → cond p a (cond (q || r) t (cond s b d)) ≡ b
@@ -231,28 +231,28 @@ stopped_within room bytes e (inr (l, ls, due, left, front, parts, begun, fails))
 
 pub stops_from : (room : ℕ) (bytes : List ℕ) (e : Failed) (offset : ℕ) → room ≡ 128 → offset ≡ length bytes - length e.1 → Further room a_value bytes e → Stops bytes e.0 offset
 stops_from room bytes e offset full place (inl p) =
-    record { levels = []; due = a_value; left = 128; front = []; rest = e.1; parts = p.0; place = omega (arith, ap length p.0); begun = (refl, refl, refl); fails = sym (table_is a_value 128 e.1) ∙ subst (λ r. item_fault a_value r e.1 ≡ Some e.0) full (subst (λ t. item_fault a_value room t ≡ Some e.0) p.0 p.1) }
+    record { levels = []; due = a_value; left = 128; front = []; rest = e.1; parts = p.0; place = omega (arith, ap length p.0); begun = (refl, refl, refl); fails = sym (table_is a_value 128 e.1) ∙ subst (λ r. scanned_fault a_value r e.1 ≡ Some e.0) full (subst (λ t. scanned_fault a_value room t ≡ Some e.0) p.0 p.1) }
 stops_from room bytes e offset full place (inr (l, ls, due, left, front, parts, begun, fails)) =
     record { levels = l ∷ ls; due = due; left = left; front = front; rest = e.1; parts = parts; place = omega (arith, ap length parts, length-append front e.1); begun = subst (λ r. Begun r (l ∷ ls) front due left) full begun; fails = sym (table_is due left e.1) ∙ fails }
 
 -- no line of the table says that memory ran out
-abbrev Named : Option FaultKind → Type 0
-Named o = o ≡ Some NoMemory → ⊥
+abbrev IsNamed : Option FaultKind → Type 0
+IsNamed o = o ≡ Some NoMemory → ⊥
 
-named_choice : (b : Bool) (o p : Option FaultKind) → Named o → Named p → Named (cond b o p)
+named_choice : (b : Bool) (o p : Option FaultKind) → IsNamed o → IsNamed p → IsNamed (cond b o p)
 named_choice true o p m n = m
 named_choice false o p m n = n
 
-named_none : Named None
+named_none : IsNamed None
 named_none h = absurd cc
 
-named_truncated : Named (Some Truncated)
+named_truncated : IsNamed (Some Truncated)
 named_truncated h = absurd cc
 
-named_bad_start : Named (Some BadStart)
+named_bad_start : IsNamed (Some BadStart)
 named_bad_start h = absurd cc
 
-named_deep : Named (Some TooDeep)
+named_deep : IsNamed (Some TooDeep)
 named_deep h = absurd cc
 
 -- nor does what reads an item
@@ -262,14 +262,14 @@ NamedErr r = r ≡ Err NoMemory → ⊥
 ok_named : {A : Type 0} (x : A) → NamedErr (Ok x)
 ok_named x h = absurd cc
 
-err_named : {A : Type 0} (f : FaultKind) → Named (Some f) → NamedErr {A = A} (Err f)
+err_named : {A : Type 0} (f : FaultKind) → IsNamed (Some f) → NamedErr {A = A} (Err f)
 err_named f n h = n cc
 
 err_choice : {A : Type 0} (b : Bool) (r s : Result A FaultKind) → NamedErr r → NamedErr s → NamedErr (cond b r s)
 err_choice true r s m n = m
 err_choice false r s m n = n
 
-told_named : {A : Type 0} (r : Result A FaultKind) → NamedErr r → Named (fault_of r)
+told_named : {A : Type 0} (r : Result A FaultKind) → NamedErr r → IsNamed (fault_of r)
 told_named (Ok x) n h = absurd cc
 told_named (Err f) n h = let same : f ≡ NoMemory = cc in n (ap (λ k. Err k) same)
 
@@ -296,17 +296,17 @@ key_named : (before : Option (List ℕ)) (bytes : List ℕ) → NamedErr (key_at
 key_named before [] = err_named Truncated named_truncated
 key_named before (c ∷ rest) = err_choice _ _ _ (order_named before (string_at (c ∷ rest)) (string_named (c ∷ rest))) (err_named BadStart named_bad_start)
 
-value_named : (left : ℕ) (bytes : List ℕ) → Named (value_fault left bytes)
+value_named : (left : ℕ) (bytes : List ℕ) → IsNamed (value_fault left bytes)
 value_named left [] = named_truncated
 value_named left (c ∷ rest) =
     named_choice (eqb c 105) _ _ (told_named (integer_at rest) (integer_named rest))
     (named_choice (eqb c 108 || eqb c 100) _ _ (named_choice (eqb left 0) _ _ named_deep named_none) (named_choice (is_digit c) _ _ (told_named (string_at (c ∷ rest)) (string_named (c ∷ rest))) named_bad_start))
 
-end_named : (bytes : List ℕ) (o : Option FaultKind) → Named o → Named (unless_end bytes o)
+end_named : (bytes : List ℕ) (o : Option FaultKind) → IsNamed o → IsNamed (fault_unless_end bytes o)
 end_named [] o n = n
 end_named (c ∷ rest) o n = named_choice (eqb c 101) None o named_none n
 
-item_named : (due : Due) (left : ℕ) (bytes : List ℕ) → Named (item_fault due left bytes)
+item_named : (due : Due) (left : ℕ) (bytes : List ℕ) → IsNamed (scanned_fault due left bytes)
 item_named a_value left bytes = value_named left bytes
 item_named a_value_or_end left bytes = end_named bytes (value_fault left bytes) (value_named left bytes)
 item_named (a_key_or_end before) left bytes = end_named bytes (fault_of (key_at before bytes)) (told_named (key_at before bytes) (key_named before bytes))

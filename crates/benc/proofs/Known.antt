@@ -21,12 +21,6 @@ pub Appends_nothing : (a : Option (List ℕ)) → Appends a a []
 Appends_nothing None = tt
 Appends_nothing (Some a) = sym (append-nil a)
 
-pub Consumes-append : (a b c : Option (List ℕ)) (xs ys : List ℕ) → Consumes a b xs → Consumes b c ys → Consumes a c (xs ++ ys)
-Consumes-append None b c xs ys p q = tt
-Consumes-append (Some a) None c xs ys p q = absurd p
-Consumes-append (Some a) (Some b) None xs ys p q = absurd q
-Consumes-append (Some a) (Some b) (Some c) xs ys p q = p ∙ ap (λ t. xs ++ t) q ∙ sym (append_assoc xs ys c)
-
 -- what a reader whose bytes are known gave before it ended is all of them
 pub Consumes_all : (a b : Option (List ℕ)) (xs : List ℕ) (file : List ℕ) → a ≡ Some file → Consumes a b xs → IsAtEnd b → file ≡ xs
 Consumes_all None b xs file e p q = let no : ⊥ = cc in absurd no

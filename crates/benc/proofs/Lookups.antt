@@ -14,20 +14,20 @@ use Rattle.benc.specs.View.{Seen, pair_view, pairs_view}
 use Rattle.benc.specs.declared.value.Pair.{Pair}
 
 -- a value, where its key is the one that is looked for
-abbrev pub if_key : List ℕ → Seen → Option Bencode
-if_key key s = cond (bytes_eq s.0 key) (Some s.1) None
+abbrev pub value_if_key : List ℕ → Seen → Option Bencode
+value_if_key key s = cond (bytes_eq s.0 key) (Some s.1) None
 
 choose : (b : Bool) (v : Bencode) (o p : Option Bencode) → cond b (Some v) (option_or o p) ≡ option_or (cond b (Some v) o) p
 choose true v o p = refl
 choose false v o p = refl
 
 -- the first value under a key, where a pair comes at the end
-pub under_push : (key : List ℕ) (ps : List Pair) (x : Pair) → under key (pairs_view (ps ++ x ∷ [])) ≡ option_or (under key (pairs_view ps)) (if_key key (pair_view x))
+pub under_push : (key : List ℕ) (ps : List Pair) (x : Pair) → under key (pairs_view (ps ++ x ∷ [])) ≡ option_or (under key (pairs_view ps)) (value_if_key key (pair_view x))
 under_push key [] x = refl
 under_push key (p ∷ ps) x =
     let k = (pair_view p).0 in
     let v = (pair_view p).1 in
-    ap (λ o. cond (bytes_eq k key) (Some v) o) (under_push key ps x) ∙ choose (bytes_eq k key) v (under key (pairs_view ps)) (if_key key (pair_view x))
+    ap (λ o. cond (bytes_eq k key) (Some v) o) (under_push key ps x) ∙ choose (bytes_eq k key) v (under key (pairs_view ps)) (value_if_key key (pair_view x))
 
 pub map_or : {A B : Type 0} (f : A → B) (o p : Option A) → option_map f (option_or o p) ≡ option_or (option_map f o) (option_map f p)
 map_or f None p = refl
@@ -46,8 +46,8 @@ pub span_push : (asked : Option (List ℕ)) (old told new : Option (Bor (List �
 span_push None old told new ps all x k v t end seen h g e n = tt
 span_push (Some key) old told new ps all x k v t end seen h g e n =
     let joined : option_copied new ≡ option_or (option_copied old) (option_copied told) = ap option_copied n ∙ copied_or old told in
-    joined ∙ ap₂ option_or h (g ∙ sym (map_if spelling (bytes_eq k key) v t e)) ∙ sym (map_or spelling (under key (pairs_view ps)) (if_key key (k, v)))
-    ∙ ap (λ s. option_map spelling (option_or (under key (pairs_view ps)) (if_key key s))) (sym seen) ∙ ap (option_map spelling) (sym (under_push key ps x)) ∙ ap (λ ys. option_map spelling (under key (pairs_view ys))) (sym end)
+    joined ∙ ap₂ option_or h (g ∙ sym (map_if spelling (bytes_eq k key) v t e)) ∙ sym (map_or spelling (under key (pairs_view ps)) (value_if_key key (k, v)))
+    ∙ ap (λ s. option_map spelling (option_or (under key (pairs_view ps)) (value_if_key key s))) (sym seen) ∙ ap (option_map spelling) (sym (under_push key ps x)) ∙ ap (λ ys. option_map spelling (under key (pairs_view ys))) (sym end)
   where
     copied_or : (o p : Option (Bor (List ℕ))) → option_copied (option_or o p) ≡ option_or (option_copied o) (option_copied p)
     copied_or None p = refl

@@ -1,10 +1,9 @@
 -- Where a list or dictionary that may be opened is reached.
 use Rattle.std.proofs.Common.{◌≡◌, ℕ, suc, ◌-◌, ◌<◌, ◌≤◌, ◌^◌, List, [], ◌∷◌, ◌++◌, length, Option, Some, None, inl, inr, refl, sym, ap, ◌∙◌, subst, append_assoc, arith}
 use Rattle.std.proofs.lemmas.List.{append-nil, length-append}
-use Rattle.benc.specs.Lookup.{get}
-use Rattle.benc.specs.Value.{Bencode, int, text, list, dict, no_pairs, pair}
-use Rattle.benc.specs.Spelling.{string, IsAbove, Spelled, SpelledItems, SpelledPairs, Spells}
-use Rattle.benc.specs.Fails.{a_value, a_value_or_end, Level, in_list, at_value, last_key, Begun, StartsGrowing, Reaches, Opens}
+use Rattle.benc.specs.Value.{Bencode, no_pairs, pair}
+use Rattle.benc.specs.Spelling.{string, IsAbove, Spelled, SpelledItems, SpelledPairs}
+use Rattle.benc.specs.Fails.{a_value, a_value_or_end, Level, in_list, at_value, last_key, Begun, StartsGrowing, Reaches}
 use Rattle.benc.specs.Parser.{GrowsForItem, GrowsForPair, HasItem, HasPair, IfMemory, ReachesItem, ReachesPair}
 use Rattle.benc.specs.declared.stop.Stop.{Stop}
 use Rattle.benc.specs.declared.stop.Stop.TheVariants as stops
@@ -151,18 +150,3 @@ dict_reaches room bytes rest start some e (inr deeper) = reaches_pair room bytes
 -- where it starts, by what is left
 pub reached_within : (room : ℕ) (bytes start : List ℕ) → Reaches room bytes start → length start ≤ length bytes
 reached_within room bytes start r = omega (arith, ap length r.4, length-append r.3 start)
-
--- what has a key is a dictionary with a pair, which has to grow
-pub found_opens : (key : List ℕ) (v w : Bencode) (b : List ℕ) → get key v ≡ Some w → Spells v b → Opens b 0
-found_opens key (int z) w b found s = absurd cc
-found_opens key (text t) w b found s = absurd cc
-found_opens key (list vs) w b found s = absurd cc
-found_opens key (dict no_pairs) w b found s = absurd cc
-found_opens key (dict (pair k v ps)) w b found s =
-    let first = s.3.0 in
-    let more = s.3.1 ++ 101 ∷ [] in
-    let name = string k in
-    let parts : s.1 ++ 101 ∷ [] ≡ (name ++ first) ++ more =
-    ap (λ t. t ++ 101 ∷ []) s.3.2 ∙ append_assoc name (first ++ s.3.1) (101 ∷ []) ∙ ap (λ t. name ++ t) (append_assoc first s.3.1 (101 ∷ [])) ∙ sym (append_assoc name first more) in
-    let whole : HasPair 127 (s.1 ++ 101 ∷ []) = (k, v, name ++ first, more, parts, (first, [], ap (λ t. name ++ t) (sym (append-nil first)), s.3.3, s.3.4, s.3.5, refl)) in
-    (b, omega arith, dict_reaches 128 b (s.1 ++ 101 ∷ []) b (omega arith) s.2 (inl (refl, whole)))

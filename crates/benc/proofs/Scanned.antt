@@ -7,8 +7,8 @@ use Rattle.std.proofs.lemmas.Bool.{eqb-true}
 use Rattle.benc.specs.Digits.{after_digits, digits_of_front, in_range, is_digit, signed}
 use Rattle.benc.specs.Spelling.{is_above}
 use Rattle.benc.specs.Items.{in_order, integer_at, integer_of, is_plain, key_at, string_at, string_of}
-use Rattle.benc.specs.Table.{Row, first_row, has_leading_zero, has_ended, digit_rows, integer_rows, is_zero, key_rows, length_rows, string_bytes, string_rows, unless_end as unless_end_rows, value_rows}
-use Rattle.benc.specs.Fails.{Due, a_key_or_end, a_value, a_value_or_end, item_fault as table_fault}
+use Rattle.benc.specs.Table.{Row, first_row, has_leading_zero, has_ended, digit_rows, integer_rows, is_zero, key_rows, length_rows, string_bytes, string_rows, unless_end, value_rows}
+use Rattle.benc.specs.Fails.{Due, a_key_or_end, a_value, a_value_or_end, item_fault}
 use Rattle.benc.specs.declared.fault.FaultKind.{FaultKind}
 use Rattle.benc.specs.declared.fault.FaultKind.TheVariants.{Truncated, BadStart, BadInteger, IntegerRange, BadLength, KeyOrder, TooDeep}
 use Rattle.benc.proofs.Turns.{is_other}
@@ -24,15 +24,15 @@ value_fault left (c ∷ rest) =
     else (if (c == 108) || (c == 100) then (if left == 0 then Some TooDeep else None)
     else (if is_digit c then fault_of (string_at (c ∷ rest)) else Some BadStart))
 
-abbrev pub unless_end : List ℕ → Option FaultKind → Option FaultKind
-unless_end [] f = f
-unless_end (c ∷ rest) f = if c == 101 then None else f
+abbrev pub fault_unless_end : List ℕ → Option FaultKind → Option FaultKind
+fault_unless_end [] f = f
+fault_unless_end (c ∷ rest) f = if c == 101 then None else f
 
 -- what reading an item that is due fails with
-abbrev pub item_fault : Due → ℕ → List ℕ → Option FaultKind
-item_fault a_value left bytes = value_fault left bytes
-item_fault a_value_or_end left bytes = unless_end bytes (value_fault left bytes)
-item_fault (a_key_or_end before) left bytes = unless_end bytes (fault_of (key_at before bytes))
+abbrev pub scanned_fault : Due → ℕ → List ℕ → Option FaultKind
+scanned_fault a_value left bytes = value_fault left bytes
+scanned_fault a_value_or_end left bytes = fault_unless_end bytes (value_fault left bytes)
+scanned_fault (a_key_or_end before) left bytes = fault_unless_end bytes (fault_of (key_at before bytes))
 
 -- a run is in its one form exactly if it is not empty and has no leading zero
 plain_is : (run : List ℕ) → is_plain run ≡ not (has_ended run || has_leading_zero run)
@@ -171,7 +171,7 @@ keys_told before (c ∷ rest) = by_digit (is_digit c) refl
     by_digit true e = key_told (digits_of_front (c ∷ rest)) (after_digits (c ∷ rest)) before (starts c rest e)
     by_digit false e = refl
 
-end_told : (bytes : List ℕ) (f : Option FaultKind) (rows : List Row) → f ≡ first_row rows → unless_end bytes f ≡ first_row (unless_end_rows bytes rows)
+end_told : (bytes : List ℕ) (f : Option FaultKind) (rows : List Row) → f ≡ first_row rows → fault_unless_end bytes f ≡ first_row (unless_end bytes rows)
 end_told [] f rows e = e
 end_told (c ∷ rest) f rows e = by_end (eqb c 101)
   where
@@ -180,7 +180,7 @@ end_told (c ∷ rest) f rows e = by_end (eqb c 101)
     by_end false = e
 
 -- reading fails with the fault that the table has
-pub table_is : (due : Due) (left : ℕ) (bytes : List ℕ) → item_fault due left bytes ≡ table_fault due left bytes
+pub table_is : (due : Due) (left : ℕ) (bytes : List ℕ) → scanned_fault due left bytes ≡ item_fault due left bytes
 table_is a_value left bytes = value_told left bytes
 table_is a_value_or_end left bytes = end_told bytes (value_fault left bytes) (value_rows left bytes) (value_told left bytes)
 table_is (a_key_or_end before) left bytes = end_told bytes (fault_of (key_at before bytes)) (key_rows before bytes) (keys_told before bytes)

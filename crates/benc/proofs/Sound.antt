@@ -157,8 +157,8 @@ key_takes before (c ∷ bytes) k rest e =
     guarded false h = absurd cc
 
 -- what a reader took from the front
-abbrev pub Takes : {A : Type 0} → (A → List ℕ → Type 0) → List ℕ → A → List ℕ → Type 0
-Takes S bytes x rest = (front : List ℕ) × (bytes ≡ front ++ rest) × S x front
+abbrev pub TakesFront : {A : Type 0} → (A → List ℕ → Type 0) → List ℕ → A → List ℕ → Type 0
+TakesFront S bytes x rest = (front : List ℕ) × (bytes ≡ front ++ rest) × S x front
 
 bind_ok : {A B : Type 0} (r : Result A Failed) (f : A → Result B Failed) (y : B) → (r >>= f) ≡ Ok y → (x : A) × (r ≡ Ok x) × (f x ≡ Ok y)
 bind_ok (Ok x) f y e = (x, refl, e)
@@ -174,7 +174,7 @@ pub began : {A : Type 0} (start : List ℕ) (r : Result A FaultKind) (x : A) →
 began start (Ok y) x e = ap (λ z. Ok z) (ok_of y x e)
 began start (Err f) x e = absurd cc
 
-module _ (room : ℕ) (read : List ℕ → Parsed Bencode) (sound : (b : List ℕ) (x : Bencode × List ℕ) → read b ≡ Ok x → Takes (Spelled room) b x.0 x.1) where
+module _ (room : ℕ) (read : List ℕ → Parsed Bencode) (sound : (b : List ℕ) (x : Bencode × List ℕ) → read b ≡ Ok x → TakesFront (Spelled room) b x.0 x.1) where
   -- the items, and the end mark behind them
   abbrev Inner : List ℕ → Items × List ℕ → Type 0
   Inner bytes x = (inner : List ℕ) × (bytes ≡ inner ++ 101 ∷ x.1) × SpelledItems room x.0 inner
@@ -228,49 +228,49 @@ module _ (room : ℕ) (read : List ℕ → Parsed Bencode) (sound : (b : List �
 module _ (room : ℕ) (ls : List ℕ → List ℕ → Parsed Items) (ds : List ℕ → List ℕ → Parsed Pairs)
     (list_sound : (s b : List ℕ) (x : Items × List ℕ) → ls s b ≡ Ok x → (0 < room) × (inner : List ℕ) × (b ≡ inner ++ 101 ∷ x.1) × SpelledItems (room - 1) x.0 inner)
     (dict_sound : (s b : List ℕ) (x : Pairs × List ℕ) → ds s b ≡ Ok x → (0 < room) × (inner : List ℕ) × (b ≡ inner ++ 101 ∷ x.1) × SpelledPairs (room - 1) None x.0 inner) where
-  level_takes : (bytes : List ℕ) (x : Bencode × List ℕ) → value_with ls ds bytes ≡ Ok x → Takes (Spelled room) bytes x.0 x.1
+  level_takes : (bytes : List ℕ) (x : Bencode × List ℕ) → value_with ls ds bytes ≡ Ok x → TakesFront (Spelled room) bytes x.0 x.1
   level_takes [] x e = absurd cc
   level_takes (c ∷ bytes) x e = by_i (eqb c 105) refl e
     where
       Goal : Bencode × List ℕ → Type 0
-      Goal y = Takes (Spelled room) (c ∷ bytes) y.0 y.1
+      Goal y = TakesFront (Spelled room) (c ∷ bytes) y.0 y.1
 
-      by_digit : (m : Bool) → is_digit c ≡ m → cond m (begun_at (c ∷ bytes) (string_at (c ∷ bytes)) >>= λ y. Ok (text y.0, y.1)) (Err (BadStart, c ∷ bytes)) ≡ Ok x → Takes (Spelled room) (c ∷ bytes) x.0 x.1
+      by_digit : (m : Bool) → is_digit c ≡ m → cond m (begun_at (c ∷ bytes) (string_at (c ∷ bytes)) >>= λ y. Ok (text y.0, y.1)) (Err (BadStart, c ∷ bytes)) ≡ Ok x → TakesFront (Spelled room) (c ∷ bytes) x.0 x.1
       by_digit false m f = absurd cc
       by_digit true m f =
           let a = bind_ok (begun_at (c ∷ bytes) (string_at (c ∷ bytes))) (λ y. Ok (text y.0, y.1)) x f in
           let t = string_takes (c ∷ bytes) a.0.0 a.0.1 (began (c ∷ bytes) (string_at (c ∷ bytes)) a.0 a.1) in
-          subst (λ (y : Bencode × List ℕ). Takes (Spelled room) (c ∷ bytes) y.0 y.1) (ok_of (text a.0.0, a.0.1) x a.2) (string a.0.0, t.1, (t.0, refl))
+          subst (λ (y : Bencode × List ℕ). TakesFront (Spelled room) (c ∷ bytes) y.0 y.1) (ok_of (text a.0.0, a.0.1) x a.2) (string a.0.0, t.1, (t.0, refl))
 
       by_d : (m : Bool) → eqb c 100 ≡ m → cond m (ds (c ∷ bytes) bytes >>= λ y. Ok (dict y.0, y.1)) (cond (is_digit c) (begun_at (c ∷ bytes) (string_at (c ∷ bytes)) >>= λ y. Ok (text y.0, y.1)) (Err (BadStart, c ∷ bytes))) ≡ Ok x
-          → Takes (Spelled room) (c ∷ bytes) x.0 x.1
+          → TakesFront (Spelled room) (c ∷ bytes) x.0 x.1
       by_d true m f =
           let a = bind_ok (ds (c ∷ bytes) bytes) (λ y. Ok (dict y.0, y.1)) x f in
           let t = dict_sound (c ∷ bytes) bytes a.0 a.1 in
-          subst (λ (y : Bencode × List ℕ). Takes (Spelled room) (c ∷ bytes) y.0 y.1) (ok_of (dict a.0.0, a.0.1) x a.2)
+          subst (λ (y : Bencode × List ℕ). TakesFront (Spelled room) (c ∷ bytes) y.0 y.1) (ok_of (dict a.0.0, a.0.1) x a.2)
           (100 ∷ (t.1 ++ 101 ∷ []), ap (λ d. d ∷ bytes) (eqb-true c 100 m) ∙ ap (λ z. 100 ∷ z) (t.2 ∙ sym (append_assoc t.1 (101 ∷ []) a.0.1)), (t.0, t.1, refl, t.3))
       by_d false m f = by_digit (is_digit c) refl f
 
       by_l : (m : Bool) → eqb c 108 ≡ m
           → cond m (ls (c ∷ bytes) bytes >>= λ y. Ok (list y.0, y.1)) (cond (eqb c 100) (ds (c ∷ bytes) bytes >>= λ y. Ok (dict y.0, y.1)) (cond (is_digit c) (begun_at (c ∷ bytes) (string_at (c ∷ bytes)) >>= λ y. Ok (text y.0, y.1)) (Err (BadStart, c ∷ bytes)))) ≡ Ok x
-          → Takes (Spelled room) (c ∷ bytes) x.0 x.1
+          → TakesFront (Spelled room) (c ∷ bytes) x.0 x.1
       by_l true m f =
           let a = bind_ok (ls (c ∷ bytes) bytes) (λ y. Ok (list y.0, y.1)) x f in
           let t = list_sound (c ∷ bytes) bytes a.0 a.1 in
-          subst (λ (y : Bencode × List ℕ). Takes (Spelled room) (c ∷ bytes) y.0 y.1) (ok_of (list a.0.0, a.0.1) x a.2)
+          subst (λ (y : Bencode × List ℕ). TakesFront (Spelled room) (c ∷ bytes) y.0 y.1) (ok_of (list a.0.0, a.0.1) x a.2)
           (108 ∷ (t.1 ++ 101 ∷ []), ap (λ d. d ∷ bytes) (eqb-true c 108 m) ∙ ap (λ z. 108 ∷ z) (t.2 ∙ sym (append_assoc t.1 (101 ∷ []) a.0.1)), (t.0, t.1, refl, t.3))
       by_l false m f = by_d (eqb c 100) refl f
 
       by_i : (m : Bool) → eqb c 105 ≡ m
           → cond m (begun_at (c ∷ bytes) (integer_at bytes) >>= λ y. Ok (int y.0, y.1)) (cond (eqb c 108) (ls (c ∷ bytes) bytes >>= λ y. Ok (list y.0, y.1)) (cond (eqb c 100) (ds (c ∷ bytes) bytes >>= λ y. Ok (dict y.0, y.1)) (cond (is_digit c) (begun_at (c ∷ bytes) (string_at (c ∷ bytes)) >>= λ y. Ok (text y.0, y.1)) (Err (BadStart, c ∷ bytes))))) ≡ Ok x
-          → Takes (Spelled room) (c ∷ bytes) x.0 x.1
+          → TakesFront (Spelled room) (c ∷ bytes) x.0 x.1
       by_i true m f =
           let a = bind_ok (begun_at (c ∷ bytes) (integer_at bytes)) (λ y. Ok (int y.0, y.1)) x f in
           let t = integer_takes bytes a.0.0 a.0.1 (began (c ∷ bytes) (integer_at bytes) a.0 a.1) in
-          subst (λ (y : Bencode × List ℕ). Takes (Spelled room) (c ∷ bytes) y.0 y.1) (ok_of (int a.0.0, a.0.1) x a.2) (integer a.0.0, ap (λ d. d ∷ bytes) (eqb-true c 105 m) ∙ t.1, (t.0, refl))
+          subst (λ (y : Bencode × List ℕ). TakesFront (Spelled room) (c ∷ bytes) y.0 y.1) (ok_of (int a.0.0, a.0.1) x a.2) (integer a.0.0, ap (λ d. d ∷ bytes) (eqb-true c 105 m) ∙ t.1, (t.0, refl))
       by_i false m f = by_l (eqb c 108) refl f
 
-pub value_takes : (room : ℕ) (bytes : List ℕ) (x : Bencode × List ℕ) → value_at room bytes ≡ Ok x → Takes (Spelled room) bytes x.0 x.1
+pub value_takes : (room : ℕ) (bytes : List ℕ) (x : Bencode × List ℕ) → value_at room bytes ≡ Ok x → TakesFront (Spelled room) bytes x.0 x.1
 unfolding value_at
 value_takes zero bytes x e = level_takes 0 (λ s b. Err (TooDeep, s)) (λ s b. Err (TooDeep, s)) (λ s b y h. absurd cc) (λ s b y h. absurd cc) bytes x e
 value_takes (suc room) bytes x e =
@@ -280,7 +280,7 @@ value_takes (suc room) bytes x e =
     (λ s b y h. let t = pairs_take room (value_at room) (λ d z g. value_takes room d z g) (length b) None b y h in (omega arith, t.0, t.1, rw less t.2)) bytes x e
 
 -- the part that was taken, by its length
-pub taken : {A : Type 0} (S : A → List ℕ → Type 0) (bytes : List ℕ) (x : A) (rest : List ℕ) → Takes S bytes x rest → S x (take (length bytes - length rest) bytes)
+pub taken : {A : Type 0} (S : A → List ℕ → Type 0) (bytes : List ℕ) (x : A) (rest : List ℕ) → TakesFront S bytes x rest → S x (take (length bytes - length rest) bytes)
 taken S bytes x rest t =
     let used : length t.0 ≡ length bytes - length rest = omega (arith, ap length t.1, length-append t.0 rest) in
     let front : take (length bytes - length rest) bytes ≡ t.0 = ap (take (length bytes - length rest)) t.1 ∙ take_at t.0 rest (length bytes - length rest) used in

@@ -10,7 +10,7 @@ use Rattle.benc.specs.Spelling.{string, Spells, SpelledItems, SpelledPairs}
 use Rattle.benc.specs.Digits.{is_digit}
 use Rattle.benc.specs.Items.{integer_at, string_at, key_at}
 use Rattle.benc.specs.Fails.{Due, Level, in_list, in_dict, at_value, last_key, IsLevel, Begun, Stops, Trails, Fails}
-use Rattle.benc.proofs.Scanned.{fault_of, item_fault, table_is, unless_end, value_fault}
+use Rattle.benc.proofs.Scanned.{fault_of, scanned_fault, table_is, fault_unless_end, value_fault}
 use Rattle.benc.specs.Parser.{◌>>=◌, Parsed, Failed, begun_at, items_at, pairs_at, value_at}
 use Rattle.benc.proofs.Turns.{is_other}
 use Rattle.benc.proofs.Values.{lists, dicts, value_is, value_items, value_pairs}
@@ -58,14 +58,14 @@ end_no : (b : Bool) (f : Option FaultKind) (k : FaultKind) → cond b None f ≡
 end_no true f k h = absurd cc
 end_no false f k h = (refl, h)
 
-items_fault : (room n : ℕ) (t : List ℕ) (k : FaultKind) → length t ≤ n → unless_end t (value_fault room t) ≡ Some k → items_at (value_at room) n t ≡ Err (k, t)
+items_fault : (room n : ℕ) (t : List ℕ) (k : FaultKind) → length t ≤ n → fault_unless_end t (value_fault room t) ≡ Some k → items_at (value_at room) n t ≡ Err (k, t)
 unfolding items_at
 items_fault room zero [] k le h = let e : Truncated ≡ k = cc in ap (λ z. Err (z, [])) e
 items_fault room (suc n) [] k le h = let e : Truncated ≡ k = cc in ap (λ z. Err (z, [])) e
 items_fault room zero (c ∷ t) k le h = absurd (omega arith)
 items_fault room (suc n) (c ∷ t) k le h = let g = end_no (eqb c 101) (value_fault room (c ∷ t)) k h in rw (g.0, value_fault_reads room (c ∷ t) k g.1) refl
 
-pairs_fault : (room n : ℕ) (before : Option (List ℕ)) (t : List ℕ) (k : FaultKind) → length t ≤ n → unless_end t (fault_of (key_at before t)) ≡ Some k → pairs_at (value_at room) n before t ≡ Err (k, t)
+pairs_fault : (room n : ℕ) (before : Option (List ℕ)) (t : List ℕ) (k : FaultKind) → length t ≤ n → fault_unless_end t (fault_of (key_at before t)) ≡ Some k → pairs_at (value_at room) n before t ≡ Err (k, t)
 unfolding pairs_at
 pairs_fault room zero before [] k le h = let e : Truncated ≡ k = cc in ap (λ z. Err (z, [])) e
 pairs_fault room (suc n) before [] k le h = let e : Truncated ≡ k = cc in ap (λ z. Err (z, [])) e
@@ -165,18 +165,18 @@ begun_head (in_dict ps) (m ∷ ls) room p due left b = absurd b.6
 begun_head (at_value ps k) (m ∷ ls) room p due left b = (100, (b.5.0 ++ string k) ++ b.2, b.4 ∙ ap (λ x. x ++ b.2) b.5.1, λ e. omega arith)
 
 -- what begins and then fails is read up to there
-begun_reads : (ls : List Level) (room : ℕ) (front rest : List ℕ) (due : Due) (left : ℕ) (kind : FaultKind) → Begun room ls front due left → item_fault due left rest ≡ Some kind → value_at room (front ++ rest) ≡ Err (kind, rest)
+begun_reads : (ls : List Level) (room : ℕ) (front rest : List ℕ) (due : Due) (left : ℕ) (kind : FaultKind) → Begun room ls front due left → scanned_fault due left rest ≡ Some kind → value_at room (front ++ rest) ≡ Err (kind, rest)
 begun_reads [] room front rest due left kind b f =
-    let here : value_fault room rest ≡ Some kind = subst (λ n. value_fault n rest ≡ Some kind) b.2 (subst (λ d. item_fault d left rest ≡ Some kind) b.1 f) in
+    let here : value_fault room rest ≡ Some kind = subst (λ n. value_fault n rest ≡ Some kind) b.2 (subst (λ d. scanned_fault d left rest ≡ Some kind) b.1 f) in
     ap (λ p. value_at room (p ++ rest)) b.0 ∙ value_fault_reads room rest kind here
 begun_reads (in_list vs ∷ []) room front rest due left kind b f =
-    let here : unless_end rest (value_fault b.0 rest) ≡ Some kind = subst (λ n. unless_end rest (value_fault n rest) ≡ Some kind) b.4 (subst (λ d. item_fault d left rest ≡ Some kind) b.3 f) in
+    let here : fault_unless_end rest (value_fault b.0 rest) ≡ Some kind = subst (λ n. fault_unless_end rest (value_fault n rest) ≡ Some kind) b.4 (subst (λ d. scanned_fault d left rest ≡ Some kind) b.3 f) in
     ap (λ r. value_at r (front ++ rest)) b.1 ∙ list_reads b.0 vs front rest (kind, rest) b.2 (λ m le. items_fault b.0 m rest kind le here)
 begun_reads (in_dict ps ∷ []) room front rest due left kind b f =
-    let here : unless_end rest (fault_of (key_at (last_key None ps) rest)) ≡ Some kind = subst (λ d. item_fault d left rest ≡ Some kind) b.3 f in
+    let here : fault_unless_end rest (fault_of (key_at (last_key None ps) rest)) ≡ Some kind = subst (λ d. scanned_fault d left rest ≡ Some kind) b.3 f in
     ap (λ r. value_at r (front ++ rest)) b.1 ∙ dict_reads b.0 ps front rest (kind, rest) b.2 (λ m le. pairs_fault b.0 m (last_key None ps) rest kind le here)
 begun_reads (at_value ps k ∷ []) room front rest due left kind b f =
-    let here : value_fault b.0 rest ≡ Some kind = subst (λ n. value_fault n rest ≡ Some kind) b.4 (subst (λ d. item_fault d left rest ≡ Some kind) b.3 f) in
+    let here : value_fault b.0 rest ≡ Some kind = subst (λ n. value_fault n rest ≡ Some kind) b.4 (subst (λ d. scanned_fault d left rest ≡ Some kind) b.3 f) in
     ap (λ r. value_at r (front ++ rest)) b.1 ∙ pair_reads b.0 ps k front rest (kind, rest) b.2 (value_fault_reads b.0 rest kind here)
 begun_reads (in_list vs ∷ m ∷ ls) room front rest due left kind b f =
     let inside = begun_reads (m ∷ ls) b.0 b.2 rest due left kind b.7 f in

@@ -8,7 +8,7 @@ use Rattle.metainfo.specs.Description.{Description, FileEntry, Version1}
 use Rattle.metainfo.specs.Sound.{IsSound}
 use Rattle.folders.specs.declared.report.FileVerdict.{FileVerdict}
 use Rattle.pieces.specs.declared.v1_feed.V1Feed.{V1Feed}
-use Rattle.metainfo.specs.Feeding.{given}
+use Rattle.metainfo.specs.Feeding.{bytes_given}
 use Rattle.folders.specs.Content.{HasPlaceFor, part_of}
 use Rattle.folders.specs.Folder.{Contents, start_of}
 use Rattle.folders.specs.Pass.{FindsVerdict, IsStreamPart}
@@ -20,7 +20,7 @@ use Rattle.folders.proofs.Places.{place_before, start_is, ends_before_next, piec
 -- where the stream goes on, it has not passed this place
 abbrev pub IsNotPast : Option V1Feed → ℕ → Type 0
 IsNotPast None n = Unit {0}
-IsNotPast (Some r) n = given r ≤ n
+IsNotPast (Some r) n = bytes_given r ≤ n
 
 -- the verdicts of the first n files, and where the stream stands after them
 pub record IsPassed (t : Description) (n : ℕ) (files : List FileVerdict) (running : Option V1Feed) : Type 0 where
@@ -58,8 +58,8 @@ pub takes_part : (t : Description) (n : ℕ) (f : FileEntry) (bytes : List ℕ) 
     → (from : ℕ) × StandsAt old from × (from ≤ start_of t f) × Takes old new (part_of from (start_of t f) bytes)
 takes_part t n f bytes None new sound is place part = (0, tt, omega arith, part.streamed 0 tt (omega arith))
 takes_part t n f bytes (Some r) new sound is place part =
-    let before : given r ≤ start_of t f = omega (arith, place, start_is t n f sound is) in
-    (given r, refl, before, part.streamed (given r) refl before)
+    let before : bytes_given r ≤ start_of t f = omega (arith, place, start_is t n f sound is) in
+    (bytes_given r, refl, before, part.streamed (bytes_given r) refl before)
 
 length-part_of : (from start : ℕ) (bytes : List ℕ) → from ≤ start → from + length (part_of from start bytes) ≤ start + length bytes
 length-part_of from start [] le = omega arith

@@ -26,7 +26,7 @@ use Rattle.metainfo.specs.Pieces.{IsPieceLength}
 use Rattle.metainfo.specs.Sound.{IsSound, IsSoundTree, piece_layer}
 use Rattle.pieces.specs.declared.v1_feed.V1Feed.{V1Feed}
 use Rattle.folders.specs.declared.stream.Stream.{Stream}
-use Rattle.metainfo.specs.Feeding.{given, total}
+use Rattle.metainfo.specs.Feeding.{bytes_given, total}
 use Rattle.folders.specs.Content.{HasPlaceFor, IsComparedLayer, IsToldOf, part_of}
 use Rattle.folders.specs.Folder.{start_of, tree_of}
 use Rattle.folders.specs.Pass.{IsEmptyContent, IsOpenedVerdict}
@@ -130,8 +130,8 @@ filled_room None None start len place fill = tt
 filled_room None (Some s) start len place fill = let no : ⊥ = cc ((fill 0 tt (omega arith)).goes_on) in absurd no
 filled_room (Some r) None start len place fill = tt
 filled_room (Some r) (Some s) start len place fill =
-    let takes = fill (given r) refl place.0 in
-    omega (arith, takes.stands (given r) refl, takes.ends (total r) refl, length-replicate {A = ℕ} (start - given r) 0, place.0, place.1)
+    let takes = fill (bytes_given r) refl place.0 in
+    omega (arith, takes.stands (bytes_given r) refl, takes.ends (total r) refl, length-replicate {A = ℕ} (start - bytes_given r) 0, place.0, place.1)
 
 part_is : (from start : ℕ) (bytes : List ℕ) → 0 < length bytes → replicate (start - from) 0 ++ bytes ≡ part_of from start bytes
 part_is from start [] some = absurd (omega arith)

@@ -3,7 +3,7 @@ use Rattle.std.specs.Prelude.{◌≡◌, ℕ, ◌+◌, ◌-◌, ◌<◌, ◌≤�
 use Rattle.hashtree.specs.Tree.{block_count, height, layer_of, root_of}
 use Rattle.hashtree.specs.Difference.{IsComparison}
 use Rattle.metainfo.specs.Description.{TreeEntry}
-use Rattle.metainfo.specs.Feeding.{given, total}
+use Rattle.metainfo.specs.Feeding.{bytes_given, total}
 use Rattle.metainfo.specs.Sound.{piece_layer}
 use Rattle.pieces.specs.declared.v1_feed.V1Feed.{V1Feed}
 
@@ -37,4 +37,4 @@ part_of from start (b ∷ bytes) = replicate (start - from) 0 ++ (b ∷ bytes)
 -- file's
 abbrev pub HasPlaceFor : Option V1Feed → ℕ → ℕ → Type 0
 HasPlaceFor None start len = ⊤
-HasPlaceFor (Some f) start len = (given f ≤ start) × (start + len ≤ total f)
+HasPlaceFor (Some f) start len = (bytes_given f ≤ start) × (start + len ≤ total f)

@@ -1,7 +1,7 @@
 -- The version 1 stream, as a check feeds it.
 use Rattle.std.specs.Prelude.{◌≡◌, ℕ, ◌+◌, ◌-◌, ◌≤◌, ◌++◌, List, length, replicate, Bool, is_some, Option, Some, None, ⊤}
 use Rattle.metainfo.specs.Cuts.{cut_digests}
-use Rattle.metainfo.specs.Feeding.{IsFeedGiven, given, total}
+use Rattle.metainfo.specs.Feeding.{IsFeedGiven, bytes_given, total}
 use Rattle.pieces.specs.declared.v1_feed.V1Feed.{V1Feed}
 use Rattle.folders.specs.Compared.{IsDigestVerdict}
 use Rattle.folders.specs.declared.report.V1Verdict.{V1Verdict}
@@ -14,7 +14,7 @@ goes_on s = is_some s.feed
 -- if the stream goes on, it stands at this place
 abbrev pub StandsAt : Option V1Feed → ℕ → Type 0
 StandsAt None n = ⊤
-StandsAt (Some f) n = given f ≡ n
+StandsAt (Some f) n = bytes_given f ≡ n
 
 -- if the stream goes on, its end is at this place
 abbrev pub StreamEndsAt : Option V1Feed → ℕ → Type 0
@@ -24,12 +24,12 @@ StreamEndsAt (Some f) n = total f ≡ n
 -- if the stream goes on, this many bytes more are not past its end
 abbrev pub HasStreamRoom : Option V1Feed → ℕ → Type 0
 HasStreamRoom None n = ⊤
-HasStreamRoom (Some f) n = given f + n ≤ total f
+HasStreamRoom (Some f) n = bytes_given f + n ≤ total f
 
 -- if the stream goes on, this place is not before where it stands, and not past its end
 abbrev pub CanFillTo : Option V1Feed → ℕ → Type 0
 CanFillTo None place = ⊤
-CanFillTo (Some f) place = (given f ≤ place) × (place ≤ total f)
+CanFillTo (Some f) place = (bytes_given f ≤ place) × (place ≤ total f)
 
 -- if the stream goes on, it compares with these pieces, and was given this content
 abbrev pub IsStreamGiven : Option V1Feed → List (List ℕ) → ℕ → List ℕ → Type 0

@@ -4,7 +4,7 @@ use Rattle.std.proofs.lemmas.List.{length-append}
 use Rattle.hashtree.specs.RootBuilder.{IsFed}
 use Rattle.hashtree.specs.declared.RootBuilder.{RootBuilder}
 use Rattle.hashtree.specs.PieceCheck.{IsFedCheck}
-use Rattle.metainfo.specs.Feeding.{given, total}
+use Rattle.metainfo.specs.Feeding.{bytes_given, total}
 use Rattle.folders.specs.Feeding.{Builds, CanBuild, CanFeed, FeedsBoth}
 use Rattle.folders.specs.declared.file_check.FileCheck.{FileCheck}
 use Rattle.folders.specs.Streaming.{HasStreamRoom, IsStreamGiven, StandsAt, Takes}
@@ -19,7 +19,7 @@ takes_room None None part n m takes room fits = tt
 takes_room None (Some s) part n m takes room fits = let no : ⊥ = cc (takes.goes_on) in absurd no
 takes_room (Some r) None part n m takes room fits = tt
 takes_room (Some r) (Some s) part n m takes room fits =
-    omega (arith, takes.stands (given r) refl, takes.ends (total r) refl)
+    omega (arith, takes.stands (bytes_given r) refl, takes.ends (total r) refl)
 
 pub takes_append : (a b c : Option V1Feed) (xs ys : List ℕ)
     → Takes a b xs → Takes b c ys → Takes a c (xs ++ ys)

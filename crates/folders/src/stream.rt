@@ -1,6 +1,6 @@
 //! The version 1 stream of a hybrid, fed file by file.
 ghost use Rattle.std.specs.Prelude.{◌≡◌, ℕ, ◌<◌, ◌≤◌, [], length, is_some, IfSome, Some, None, true};
-ghost use Rattle.metainfo.specs.Feeding.{given, total};
+ghost use Rattle.metainfo.specs.Feeding.{bytes_given, total};
 ghost use Rattle.folders.specs.Streaming.{IsStreamVerdict};
 ghost use Rattle.folders.specs.Verdicts.{is_checked};
 
@@ -84,7 +84,7 @@ impl<'a> Stream<'a> {
 // Goes on with zeros to the end of the stream, and tells what was found.
 fn finish(mut feed: V1Feed<'_>) -> V1Verdict
     ensures checked { is_checked result ≡ true }
-    ensures within { given feed.entry ≤ total feed.entry }
+    ensures within { bytes_given feed.entry ≤ total feed.entry }
     ensures compared { IsStreamVerdict (Some feed.entry) result }
 {
     feed.zeros(feed.total() - feed.given());

@@ -23,10 +23,10 @@ none_complete b layer none =
     ap (λ n. climb layer (block_hashes [] n)) none ∙ nil_from_length (climb layer []) (climb_nil layer)
 
 -- the node that comes next, if there is one, is kept
-pub kept : (b q : LayerBuilder) (mid : RootBuilder) (file more : List ℕ) (node : Option (List ℕ)) → IsFedLayer b file → IsFed mid more
+pub keeps_node : (b q : LayerBuilder) (mid : RootBuilder) (file more : List ℕ) (node : Option (List ℕ)) → IsFedLayer b file → IsFed mid more
     → complete_nodes mid more b.layer ≡ complete_nodes b.builder file b.layer ++ option_to_list node
     → q.builder ≡ mid → q.layer ≡ b.layer → q.hashes.items ≡ b.hashes.items ++ option_to_list node → IsFedLayer q more
-kept b q mid file more node at fed completed builder layer hashes = record {
+keeps_node b q mid file more node at fed completed builder layer hashes = record {
   fed = subst (λ r. IsFed r more) (sym builder) fed;
   hashes_are =
       hashes

@@ -176,17 +176,6 @@ within-at h f l i at = cond-true _ _ _ (and_from _ _ (le-leb l h at.0) (lt-ltb i
 pub look-within : (h : ℕ) (f : PartialTree) (l i : ℕ) → look (tabulate h (within h f)) l i ≡ within h f l i
 look-within h f l i = look-tabulate h (within h f) (within-inside h f) l i
 
--- cells that read alike make one map
-pub tabulate-same : (h : ℕ) (f g : PartialTree) → ((l i : ℕ) → IsTreePlace h l i → f l i ≡ g l i) → tabulate h (within h f) ≡ tabulate h (within h g)
-tabulate-same h f g same = ap (tabulate h) (λ k l i. at l i k)
-  where
-    at : (l i : ℕ) → within h f l i ≡ within h g l i
-    at l i = read (leb l h && ltb i (2 ^ (h - l))) refl
-      where
-        read : (b : Bool) → (leb l h && ltb i (2 ^ (h - l))) ≡ b → cond b (f l i) None ≡ cond b (g l i) None
-        read true t = let both = and_parts (leb l h) (ltb i (2 ^ (h - l))) t in same l i (leb-true l h both.0, ltb-true i (2 ^ (h - l)) both.1)
-        read false t = refl
-
 -- a write to the cell of one place is an insertion
 pub tabulate-put : (h : ℕ) (f g : PartialTree) (l i : ℕ) (v : Hash) → IsTreePlace h l i → g l i ≡ Some v → ((l' i' : ℕ) → (l' ≢ l) ⊎ (i' ≢ i) → g l' i' ≡ f l' i')
     → tabulate h (within h g) ≡ insert (tabulate h (within h f)) (l, i) v

@@ -11,7 +11,7 @@ use Rattle.std.proofs.lemmas.List.{get_or-set_same, get_or-set_other}
 use Rattle.std.specs.Bool.{OnTrue}
 use Rattle.std.specs.Option.{option_map}
 use Rattle.std.specs.List.{insert, remove}
-use Rattle.node_maps.specs.Rising.{AreRising, IsAt, IsGapFor, page_numbered}
+use Rattle.node_maps.specs.Rising.{AreRising, IsNumberAt, IsGapFor, page_numbered}
 use Rattle.node_maps.proofs.Rising.{stands, found_gap, set-found, set-beside, insert-found, remove-found, within_items}
 use Rattle.node_maps.specs.Pages.{Numbered, page_within, find_under, cell_of, cell_in, is_among, is_spare, AreAlike, IsChanged, IsPut, AreSpare}
 
@@ -139,19 +139,19 @@ module _ {D : Type 0} (find : D → Numbered) (ns : List ℕ) (ds : List D) (ris
   abbrev key : ℕ
   key = q / 2 ^ shift
 
-  pub under_there : IsAt ns (q / 2 ^ shift) at → (d : D) → d ≡ get_or ds at d → find_under find ns ds shift q ≡ find d q
+  pub under_there : IsNumberAt ns (q / 2 ^ shift) at → (d : D) → d ≡ get_or ds at d → find_under find ns ds shift q ≡ find d q
   under_there is d here = ap (λ o. page_within find o q) (stands ns ds rising beside key at is d here)
 
   pub under_gap : IsGapFor ns (q / 2 ^ shift) at → find_under find ns ds shift q ≡ None
   under_gap gap = ap (λ o. page_within find o q) (found_gap ns ds key at gap)
 
-  pub under-set : IsAt ns (q / 2 ^ shift) at → (d w : D) → d ≡ get_or ds at d → (page : Option Page) → IsChanged q page (find d) (find w)
+  pub under-set : IsNumberAt ns (q / 2 ^ shift) at → (d w : D) → d ≡ get_or ds at d → (page : Option Page) → IsChanged q page (find d) (find w)
       → IsChanged q page (find_under find ns ds shift) (find_under find ns (set ds at w) shift)
   under-set is d w here page below =
       under_changed find (λ n. n / 2 ^ shift) (page_numbered ns ds) (page_numbered ns (set ds at w)) q (Some w) page (set-found ns ds rising beside key at is w)
       (subst (λ o. IsChanged q page (page_within find o) (find w)) (sym (stands ns ds rising beside key at is d here)) below)
 
-  pub under-alike : IsAt ns (q / 2 ^ shift) at → (d w : D) → d ≡ get_or ds at d → AreAlike (find d) (find w)
+  pub under-alike : IsNumberAt ns (q / 2 ^ shift) at → (d w : D) → d ≡ get_or ds at d → AreAlike (find d) (find w)
       → AreAlike (find_under find ns ds shift) (find_under find ns (set ds at w) shift)
   under-alike is d w here alike =
       changed-alike q (find d q) (find_under find ns ds shift) (find_under find ns (set ds at w) shift) (sym (under_there is d here))
@@ -164,7 +164,7 @@ module _ {D : Type 0} (find : D → Numbered) (ns : List ℕ) (ds : List D) (ris
       (λ n. below n ∙ ap (cond (eqb q n) page) (none n ∙ sym (ap (λ o. page_within find o n) (found_gap ns ds key at gap))))
 
   -- a directory that is empty is given back
-  under-remove : IsAt ns (q / 2 ^ shift) at → (d : D) → d ≡ get_or ds at d → ((n : ℕ) → find d n ≡ None)
+  under-remove : IsNumberAt ns (q / 2 ^ shift) at → (d : D) → d ≡ get_or ds at d → ((n : ℕ) → find d n ≡ None)
       → IsChanged q None (find_under find ns ds shift) (find_under find (remove ns at) (remove ds at) shift)
   under-remove is d here none =
       under_changed find (λ n. n / 2 ^ shift) (page_numbered ns ds) (page_numbered (remove ns at) (remove ds at)) q None None (remove-found ns ds rising beside key at is)
@@ -176,7 +176,7 @@ module _ {D : Type 0} (find : D → Numbered) (ns : List ℕ) (ds : List D) (ris
 
 -- a directory whose last page is given back goes with it
 pub under-emptied : {D : Type 0} (find : D → Numbered) (ns : List ℕ) (ds : List D) (rising : AreRising ns) (beside : length ds ≡ length ns) (shift q at : ℕ)
-    → IsAt ns (q / 2 ^ shift) at → (d w : D) → d ≡ get_or ds at d → IsChanged q None (find d) (find w) → ((n : ℕ) → find w n ≡ None)
+    → IsNumberAt ns (q / 2 ^ shift) at → (d w : D) → d ≡ get_or ds at d → IsChanged q None (find d) (find w) → ((n : ℕ) → find w n ≡ None)
     → IsChanged q None (find_under find ns ds shift) (find_under find (remove ns at) (remove (set ds at w) at) shift)
 under-emptied find ns ds rising beside shift q at is d w here below none =
     let beside' : length (set ds at w) ≡ length ns = set-beside ns ds rising beside (q / 2 ^ shift) at w in

@@ -8,7 +8,7 @@ use Rattle.std.proofs.lemmas.List.Edits.{length-insert, get_or-insert_below, get
 use Rattle.std.proofs.lemmas.Bool.{cases_lt, eq-eqb}
 use Rattle.std.proofs.lemmas.Bool.Decides.{nat_tests}
 use Rattle.std.proofs.Math.ListN.{length-set}
-use Rattle.node_maps.specs.Rising.{AreRising, IsAt, IsGapFor, page_numbered}
+use Rattle.node_maps.specs.Rising.{AreRising, IsNumberAt, IsGapFor, page_numbered}
 
 -- no number before place i is q
 abbrev pub NotBefore : List ℕ → ℕ → ℕ → Type 0
@@ -17,7 +17,7 @@ NotBefore ns q i = (j : ℕ) → j < i → get_or ns j 0 ≢ q
 tail_before : (n : ℕ) (ns : List ℕ) (q i : ℕ) → NotBefore (n ∷ ns) q (suc i) → NotBefore ns q i
 tail_before n ns q i free j lt = free (suc j) (omega arith)
 
-tail_at : (n : ℕ) (ns : List ℕ) (q i : ℕ) → IsAt (n ∷ ns) q (suc i) → IsAt ns q i
+tail_at : (n : ℕ) (ns : List ℕ) (q i : ℕ) → IsNumberAt (n ∷ ns) q (suc i) → IsNumberAt ns q i
 tail_at n ns q i at = record { in_range = omega (arith, at.in_range); is_number = at.is_number }
 
 -- a number that does not stand there has no item
@@ -27,7 +27,7 @@ found_absent (n ∷ ns) [] q free = refl
 found_absent (n ∷ ns) (p ∷ ps) q free = grind (arith, nat_tests, free 0 (omega arith), found_absent ns ps q (tail_before n ns q _ free))
 
 -- the first number that is q has the item beside it
-pub found_present : {A : Type 0} (ns : List ℕ) (ps : List A) (q i : ℕ) (d : A) → length ps ≡ length ns → IsAt ns q i → NotBefore ns q i → page_numbered ns ps q ≡ Some (get_or ps i d)
+pub found_present : {A : Type 0} (ns : List ℕ) (ps : List A) (q i : ℕ) (d : A) → length ps ≡ length ns → IsNumberAt ns q i → NotBefore ns q i → page_numbered ns ps q ≡ Some (get_or ps i d)
 found_present [] ps q i d beside at free = absurd (omega (arith, at.in_range))
 found_present (n ∷ ns) [] q i d beside at free = absurd (omega arith)
 found_present (n ∷ ns) (p ∷ ps) q zero d beside at free = grind (arith, nat_tests, at.is_number)
@@ -35,7 +35,7 @@ found_present (n ∷ ns) (p ∷ ps) q (suc i) d beside at free =
     grind (arith, nat_tests, free 0 (omega arith), found_present ns ps q i d (omega arith) (tail_at n ns q i at) (tail_before n ns q i free))
 
 -- a number that stands there has an item
-pub found_some : {A : Type 0} (ns : List ℕ) (ps : List A) (q i : ℕ) → length ps ≡ length ns → IsAt ns q i → IsSome (page_numbered ns ps q)
+pub found_some : {A : Type 0} (ns : List ℕ) (ps : List A) (q i : ℕ) → length ps ≡ length ns → IsNumberAt ns q i → IsSome (page_numbered ns ps q)
 found_some [] ps q i beside at = absurd (omega (arith, at.in_range))
 found_some (n ∷ ns) [] q i beside at = absurd (omega arith)
 found_some (n ∷ ns) (p ∷ ps) q zero beside at = ap (λ b. is_some (cond b (Some p) (page_numbered ns ps q))) (eq-eqb n q at.is_number)
@@ -45,7 +45,7 @@ found_some (n ∷ ns) (p ∷ ps) q (suc i) beside at = elim (eqb n q) as (λ b. 
 ]
 
 -- an item that is written
-pub found-set : {A : Type 0} (ns : List ℕ) (ps : List A) (q i : ℕ) (w : A) → length ps ≡ length ns → IsAt ns q i → NotBefore ns q i
+pub found-set : {A : Type 0} (ns : List ℕ) (ps : List A) (q i : ℕ) (w : A) → length ps ≡ length ns → IsNumberAt ns q i → NotBefore ns q i
     → (r : ℕ) → page_numbered ns (set ps i w) r ≡ cond (eqb q r) (Some w) (page_numbered ns ps r)
 found-set [] ps q i w beside at free r = absurd (omega (arith, at.in_range))
 found-set (n ∷ ns) [] q i w beside at free r = absurd (omega arith)
@@ -64,7 +64,7 @@ found-insert (n ∷ ns) (p ∷ ps) q (suc i) w beside free r =
     grind (arith, nat_tests, free 0 (omega arith), found-insert ns ps q i w (omega arith) (tail_before n ns q i free) r)
 
 -- an item that is taken out
-pub found-remove : {A : Type 0} (ns : List ℕ) (ps : List A) (q i : ℕ) → length ps ≡ length ns → IsAt ns q i → ((j : ℕ) → j < length ns → j ≢ i → get_or ns j 0 ≢ q)
+pub found-remove : {A : Type 0} (ns : List ℕ) (ps : List A) (q i : ℕ) → length ps ≡ length ns → IsNumberAt ns q i → ((j : ℕ) → j < length ns → j ≢ i → get_or ns j 0 ≢ q)
     → (r : ℕ) → page_numbered (remove ns i) (remove ps i) r ≡ cond (eqb q r) None (page_numbered ns ps r)
 found-remove [] ps q i beside at free r = absurd (omega (arith, at.in_range))
 found-remove (n ∷ ns) [] q i beside at free r = absurd (omega arith)
@@ -75,21 +75,21 @@ found-remove (n ∷ ns) (p ∷ ps) q (suc i) beside at free r =
 
 module _ (ns : List ℕ) (rising : AreRising ns) where
   -- what a binary search answers
-  pub searched_at : (q : ℕ) (r : Result ℕ ℕ) → IsBinarySearchResult (λ y. nat_cmp y q) ns r → record { at : IfOk r (IsAt ns q); gap : IfErr r (IsGapFor ns q) }
+  pub searched_at : (q : ℕ) (r : Result ℕ ℕ) → IsBinarySearchResult (λ y. nat_cmp y q) ns r → record { at : IfOk r (IsNumberAt ns q); gap : IfErr r (IsGapFor ns q) }
   searched_at q r is = read r (searched ns q r is (λ i j le low. by_order i j low (cases_lt i j) le))
     where
       by_order : (i j : ℕ) → j < length ns → (i < j) ⊎ (j ≤ i) → i ≤ j → get_or ns i 0 ≤ get_or ns j 0
       by_order i j low (inl less) le = omega (arith, rising i j less low)
       by_order i j low (inr more) le = let same : i ≡ j = omega arith in omega (arith, ap (λ k. get_or ns k 0) same)
 
-      read : (r : Result ℕ ℕ) → MatchResult r (λ i. (i < length ns) × (get_or ns i 0 ≡ q)) (λ i. (i ≤ length ns) × ((k : ℕ) → k < i → get_or ns k 0 < q) × ((k : ℕ) → i ≤ k → k < length ns → q < get_or ns k 0)) → record { at : IfOk r (IsAt ns q); gap : IfErr r (IsGapFor ns q) }
+      read : (r : Result ℕ ℕ) → MatchResult r (λ i. (i < length ns) × (get_or ns i 0 ≡ q)) (λ i. (i ≤ length ns) × ((k : ℕ) → k < i → get_or ns k 0 < q) × ((k : ℕ) → i ≤ k → k < length ns → q < get_or ns k 0)) → record { at : IfOk r (IsNumberAt ns q); gap : IfErr r (IsGapFor ns q) }
       read (Ok i) h = record { at = record { in_range = h.0; is_number = h.1 }; gap = tt }
       read (Err i) h = record { at = tt; gap = record { in_range = h.0; below = h.1; above = h.2 } }
 
-  pub not_before_at : (q i : ℕ) → IsAt ns q i → NotBefore ns q i
+  pub not_before_at : (q i : ℕ) → IsNumberAt ns q i → NotBefore ns q i
   not_before_at q i at j lt same = omega (arith, rising j i lt at.in_range, at.is_number)
 
-  pub not_elsewhere : (q i : ℕ) → IsAt ns q i → (j : ℕ) → j < length ns → j ≢ i → get_or ns j 0 ≢ q
+  pub not_elsewhere : (q i : ℕ) → IsNumberAt ns q i → (j : ℕ) → j < length ns → j ≢ i → get_or ns j 0 ≢ q
   not_elsewhere q i at j low other same = elim (cases_lt j i) [
     | inl less ↦ omega (arith, rising j i less at.in_range, at.is_number)
     | inr more ↦ (let above : i < j = omega arith in omega (arith, rising i j above low, at.is_number))
@@ -123,13 +123,13 @@ rising-remove ns at inside rising i j lt in_range =
 -- ---- an item at a number that a search told
 
 module _ {A : Type 0} (ns : List ℕ) (xs : List A) (rising : AreRising ns) (beside : length xs ≡ length ns) (q at : ℕ) where
-  pub stands : IsAt ns q at → (x : A) → x ≡ get_or xs at x → page_numbered ns xs q ≡ Some x
+  pub stands : IsNumberAt ns q at → (x : A) → x ≡ get_or xs at x → page_numbered ns xs q ≡ Some x
   stands is x here = found_present ns xs q at x beside is (not_before_at ns rising q at is) ∙ ap Some (sym here)
 
-  pub within_items : IsAt ns q at → at < length xs
+  pub within_items : IsNumberAt ns q at → at < length xs
   within_items is = omega (arith, is.in_range, beside)
 
-  pub set-found : IsAt ns q at → (w : A) (r : ℕ) → page_numbered ns (set xs at w) r ≡ cond (eqb q r) (Some w) (page_numbered ns xs r)
+  pub set-found : IsNumberAt ns q at → (w : A) (r : ℕ) → page_numbered ns (set xs at w) r ≡ cond (eqb q r) (Some w) (page_numbered ns xs r)
   set-found is w = found-set ns xs q at w beside is (not_before_at ns rising q at is)
 
   pub set-beside : (w : A) → length (set xs at w) ≡ length ns
@@ -141,10 +141,10 @@ module _ {A : Type 0} (ns : List ℕ) (xs : List A) (rising : AreRising ns) (bes
   pub insert-beside : IsGapFor ns q at → (w : A) → length (insert xs at w) ≡ length (insert ns at q)
   insert-beside gap w = length-insert xs at w (omega (arith, gap.in_range, beside)) ∙ ap (λ n. n + 1) beside ∙ sym (length-insert ns at q gap.in_range)
 
-  pub remove-found : IsAt ns q at → (r : ℕ) → page_numbered (remove ns at) (remove xs at) r ≡ cond (eqb q r) None (page_numbered ns xs r)
+  pub remove-found : IsNumberAt ns q at → (r : ℕ) → page_numbered (remove ns at) (remove xs at) r ≡ cond (eqb q r) None (page_numbered ns xs r)
   remove-found is = found-remove ns xs q at beside is (not_elsewhere ns rising q at is)
 
-  pub remove-beside : IsAt ns q at → length (remove xs at) ≡ length (remove ns at)
+  pub remove-beside : IsNumberAt ns q at → length (remove xs at) ≡ length (remove ns at)
   remove-beside is =
       let inside : at < length xs = within_items is in
       omega (arith, length-remove xs at inside, length-remove ns at is.in_range, beside)

@@ -9,6 +9,7 @@ use Rattle.node_maps.specs.Places.{PartialTree, IsTreePlace}
 use Rattle.node_maps.specs.Known.{Marked}
 use Rattle.node_maps.specs.Runs.{LayerHashes}
 
+-- a row of cells of one layer, each of which holds a hash or nothing
 abbrev pub FlatRow : Type 0
 FlatRow = Vec (Option Hash) Global
 
@@ -17,17 +18,17 @@ abbrev pub cells : List FlatRow → PartialTree
 cells rows l i =
     option_and_then (λ row. option_and_then (λ o. o) (slice_get row.items i)) (slice_get rows l)
 
--- the hash in a cell of a list
-abbrev pub hash_in : List (Option Hash) → LayerHashes
-hash_in row i = slice_index_or row i None
+-- the hash in a cell of a row
+abbrev pub hash_in_row : List (Option Hash) → LayerHashes
+hash_in_row row i = slice_index_or row i None
 
 -- every place has the cell that it had
-abbrev pub AreSameCells : List FlatRow → List FlatRow → Type 0
-AreSameCells old new = (l i : ℕ) → cells new l i ≡ cells old l i
+abbrev pub AreSameFlatCells : List FlatRow → List FlatRow → Type 0
+AreSameFlatCells old new = (l i : ℕ) → cells new l i ≡ cells old l i
 
 -- every place but this one has the cell that it had
-abbrev pub AreSameCellsBut : ℕ → ℕ → List FlatRow → List FlatRow → Type 0
-AreSameCellsBut layer index old new =
+abbrev pub AreSameFlatCellsBut : ℕ → ℕ → List FlatRow → List FlatRow → Type 0
+AreSameFlatCellsBut layer index old new =
     (l i : ℕ) → (l ≢ layer) ⊎ (i ≢ index) → cells new l i ≡ cells old l i
 
 -- how many cells the row of a layer has

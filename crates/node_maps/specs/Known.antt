@@ -22,9 +22,11 @@ Known = FinMap place_cmp Hash
 abbrev pub Marked : Type 0
 Marked = set.FinSet nat_cmp
 
+-- the known places, written as one value
 abbrev pub known_code : Coded Known
 known_code = map.code (coded× coded_ℕ coded_ℕ) (coded_list coded_ℕ)
 
+-- the marked leaves, written as one value
 abbrev pub marked_code : Coded Marked
 marked_code = set.code coded_ℕ
 

@@ -57,12 +57,12 @@ pub record AreTrimmed (rows : List PagedRow) (top : ℕ) : Type 0 where
       → AreSpare (pages_of row) []
 
 -- every place has the cell that it had
-abbrev pub AreSameCells : List PagedRow → List PagedRow → Type 0
-AreSameCells old new = (l i : ℕ) → cell_at new l i ≡ cell_at old l i
+abbrev pub AreSamePagedCells : List PagedRow → List PagedRow → Type 0
+AreSamePagedCells old new = (l i : ℕ) → cell_at new l i ≡ cell_at old l i
 
 -- every place but this one has the cell that it had
-abbrev pub AreSameCellsBut : ℕ → ℕ → List PagedRow → List PagedRow → Type 0
-AreSameCellsBut layer index old new =
+abbrev pub AreSamePagedCellsBut : ℕ → ℕ → List PagedRow → List PagedRow → Type 0
+AreSamePagedCellsBut layer index old new =
     (l i : ℕ) → (l ≢ layer) ⊎ (i ≢ index) → cell_at new l i ≡ cell_at old l i
 
 -- each page that was there is there

@@ -24,12 +24,12 @@ abbrev pub HasNumber : PagedRow → ℕ → Type 0
 HasNumber row n = IsSome (pages_of row n)
 
 -- every place has the cell that it had
-abbrev pub AreSameCells : PagedRow → PagedRow → Type 0
-AreSameCells old new = (i : ℕ) → cell_of_row new i ≡ cell_of_row old i
+abbrev pub AreSameRowCells : PagedRow → PagedRow → Type 0
+AreSameRowCells old new = (i : ℕ) → cell_of_row new i ≡ cell_of_row old i
 
 -- every place but this one has the cell that it had
-abbrev pub AreSameCellsBut : ℕ → PagedRow → PagedRow → Type 0
-AreSameCellsBut index old new = (i : ℕ) → i ≢ index → cell_of_row new i ≡ cell_of_row old i
+abbrev pub AreSameRowCellsBut : ℕ → PagedRow → PagedRow → Type 0
+AreSameRowCellsBut index old new = (i : ℕ) → i ≢ index → cell_of_row new i ≡ cell_of_row old i
 
 -- each page that was there is there
 abbrev pub KeepsPages : PagedRow → PagedRow → Type 0

@@ -6,7 +6,7 @@ abbrev pub AreRising : List ℕ → Type 0
 AreRising ns = (i j : ℕ) → i < j → j < length ns → slice_index_or ns i 0 < slice_index_or ns j 0
 
 -- the number stands at place i
-pub record IsAt (ns : List ℕ) (n i : ℕ) : Type 0 where
+pub record IsNumberAt (ns : List ℕ) (n i : ℕ) : Type 0 where
   pub in_range : i < length ns
   pub is_number : slice_index_or ns i 0 ≡ n
 

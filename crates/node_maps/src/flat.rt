@@ -6,7 +6,7 @@ ghost use Rattle.std.specs.FinMap.{insert};
 ghost use Rattle.node_maps.specs.Places.{tree_height, IsTreePlace};
 ghost use Rattle.node_maps.specs.Known.{tabulate, within};
 ghost use Rattle.node_maps.specs.Needed.{nothing_needed};
-ghost use Rattle.node_maps.specs.Flat.{AreSameCells, AreSameCellsBut, FlatRow, cells, row_cells, HasCell, HasTreeCells, hash_in, marked_leaves};
+ghost use Rattle.node_maps.specs.Flat.{AreSameFlatCells, AreSameFlatCellsBut, FlatRow, cells, row_cells, HasCell, HasTreeCells, hash_in_row, marked_leaves};
 ghost use Rattle.node_maps.specs.Runs.{AreKnown, hashes_from};
 
 use crate::node_map::NodeMap;
@@ -112,7 +112,7 @@ fn read_cell(rows: &[Vec<Option<Hash>>], layer: u32, index: u64) -> Option<Hash>
 
 // The cells of a layer.
 fn row_of(rows: &[Vec<Option<Hash>>], layer: u32) -> &[Option<Hash>]
-    ensures { (i : ℕ) → hash_in result.now i ≡ cells rows.now layer i }
+    ensures { (i : ℕ) → hash_in_row result.now i ≡ cells rows.now layer i }
 {
     let layer = layer as usize;
     if layer < rows.len() {
@@ -125,7 +125,7 @@ fn row_of(rows: &[Vec<Option<Hash>>], layer: u32) -> &[Option<Hash>]
 // Whether `count` cells hold a hash, from one on.
 fn are_known(row: &[Option<Hash>], from: u64, count: u64) -> bool
     requires { from + count < 2 ^ 64 }
-    ensures { IsTrue result ↔ AreKnown (hash_in row.now) from count }
+    ensures { IsTrue result ↔ AreKnown (hash_in_row row.now) from count }
 {
     let (from, end) = (from as usize, (from + count) as usize);
     if from == end {
@@ -139,7 +139,7 @@ fn are_known(row: &[Option<Hash>], from: u64, count: u64) -> bool
 
 // Whether each cell holds a hash.
 fn all_hold_hashes(row: &[Option<Hash>]) -> bool
-    ensures { IsTrue result ↔ AreKnown (hash_in row.now) 0 (length row.now) }
+    ensures { IsTrue result ↔ AreKnown (hash_in_row row.now) 0 (length row.now) }
 {
     'cells: for cell in row {
         if cell.is_none() {
@@ -152,9 +152,9 @@ fn all_hold_hashes(row: &[Option<Hash>]) -> bool
 // Appends the hashes of `count` cells that hold one, from one on, to a list that has room for them.
 fn copy_hashes(row: &[Option<Hash>], from: u64, count: u64, out: &mut Vec<Hash>)
     requires range { from + count < 2 ^ 64 }
-    requires known { AreKnown (hash_in row.now) from count }
+    requires known { AreKnown (hash_in_row row.now) from count }
     requires room { vec_len out.old + count ≤ vec_capacity out.old }
-    ensures copied { out.new.items ≡ out.old.items ++ hashes_from (hash_in row.now) from count }
+    ensures copied { out.new.items ≡ out.old.items ++ hashes_from (hash_in_row row.now) from count }
     ensures no_memory { vec_capacity out.new ≡ vec_capacity out.old }
 {
     let (from, end) = (from as usize, (from + count) as usize);
@@ -165,10 +165,10 @@ fn copy_hashes(row: &[Option<Hash>], from: u64, count: u64, out: &mut Vec<Hash>)
 
 // Appends the hashes of cells that hold one to a list that has room for them.
 fn append_hashes(row: &[Option<Hash>], out: &mut Vec<Hash>)
-    requires known { AreKnown (hash_in row.now) 0 (length row.now) }
+    requires known { AreKnown (hash_in_row row.now) 0 (length row.now) }
     requires room { vec_len out.old + length row.now ≤ vec_capacity out.old }
     ensures copied { out.new.items
-        ≡ out.old.items ++ hashes_from (hash_in row.now) 0 (length row.now) }
+        ≡ out.old.items ++ hashes_from (hash_in_row row.now) 0 (length row.now) }
     ensures no_memory { vec_capacity out.new ≡ vec_capacity out.old }
 {
     'cells: for cell in row {
@@ -182,7 +182,7 @@ fn append_hashes(row: &[Option<Hash>], out: &mut Vec<Hash>)
 fn put_cell(rows: &mut Vec<Vec<Option<Hash>>>, layer: u32, index: u64, hash: Hash)
     requires { HasCell rows.old.items layer index }
     ensures here { cells rows.new.items layer index ≡ Some hash }
-    ensures others { AreSameCellsBut layer index rows.old.items rows.new.items }
+    ensures others { AreSameFlatCellsBut layer index rows.old.items rows.new.items }
     ensures same { (l : ℕ) → row_cells rows.new.items l ≡ row_cells rows.old.items l }
 {
     let row = &mut rows[layer as usize];
@@ -191,7 +191,7 @@ fn put_cell(rows: &mut Vec<Vec<Option<Hash>>>, layer: u32, index: u64, hash: Has
 
 // Makes rows up to that of a layer.
 fn add_rows(alloc: Global, rows: &mut Vec<Vec<Option<Hash>>>, layer: usize) -> Result<(), NoMemory>
-    ensures cells { AreSameCells rows.old.items rows.new.items }
+    ensures cells { AreSameFlatCells rows.old.items rows.new.items }
     ensures same { (l : ℕ) → row_cells rows.new.items l ≡ row_cells rows.old.items l }
     ensures ok { OnOk result (layer < vec_len rows.new) }
     ensures no_memory { layer < vec_len rows.old → IsOk result }
@@ -205,7 +205,7 @@ fn add_rows(alloc: Global, rows: &mut Vec<Vec<Option<Hash>>>, layer: usize) -> R
 // Makes a row as long as `end`, if it is shorter.
 fn lengthen(rows: &mut Vec<Vec<Option<Hash>>>, layer: usize, end: usize) -> Result<(), NoMemory>
     requires { layer < vec_len rows.old }
-    ensures cells { AreSameCells rows.old.items rows.new.items }
+    ensures cells { AreSameFlatCells rows.old.items rows.new.items }
     ensures others { (l : ℕ) → l ≢ layer → row_cells rows.new.items l ≡ row_cells rows.old.items l }
     ensures longer { row_cells rows.old.items layer ≤ row_cells rows.new.items layer }
     ensures most { (row_cells rows.new.items layer ≤ end)

@@ -7,7 +7,7 @@ ghost use Rattle.node_maps.specs.declared.page.Cell.TheVariants.{Empty};
 ghost use Rattle.node_maps.specs.Cell.{mark_of, with_hash};
 ghost use Rattle.node_maps.specs.Known.{tabulate, within};
 ghost use Rattle.node_maps.specs.Held.{page_count};
-ghost use Rattle.node_maps.specs.Paged.{AreAsMany, AreSameCells, AreSameCellsBut, HasPages, KeepPages, page_at, cell_at, hashes, HasPage, HoldsTree, marked_cells, row_pages, held_below, held_pages, AreTrimmed};
+ghost use Rattle.node_maps.specs.Paged.{AreAsMany, AreSamePagedCells, AreSamePagedCellsBut, HasPages, KeepPages, page_at, cell_at, hashes, HasPage, HoldsTree, marked_cells, row_pages, held_below, held_pages, AreTrimmed};
 ghost use Rattle.node_maps.specs.Needed.{needs_few_pages};
 ghost use Rattle.node_maps.specs.Runs.{AreKnown, hashes_from};
 
@@ -146,7 +146,7 @@ fn write_cell(rows: &mut Vec<PagedRow>, layer: u32, index: u64, hash: Hash, mark
     requires page { IsSome (page_at rows.old.items layer (index / 512)) }
     ensures here { cell_at rows.new.items layer index
         ≡ with_hash (cell_at rows.old.items layer index) hash mark }
-    ensures others { AreSameCellsBut layer index rows.old.items rows.new.items }
+    ensures others { AreSamePagedCellsBut layer index rows.old.items rows.new.items }
     ensures keeps { KeepPages rows.old.items rows.new.items }
     ensures same { AreAsMany rows.old.items rows.new.items }
     ensures len { vec_len rows.new ≡ vec_len rows.old }
@@ -176,7 +176,7 @@ fn add_rows(alloc: Global, rows: &mut Vec<PagedRow>, layer: usize) -> Result<(),
 fn add_pages(rows: &mut Vec<PagedRow>, layer: usize, first: u64, end: u64) -> Result<(), NoMemory>
     requires layer { layer < vec_len rows.old }
     requires end { end ≤ 2 ^ 32 }
-    ensures cells { AreSameCells rows.old.items rows.new.items }
+    ensures cells { AreSamePagedCells rows.old.items rows.new.items }
     ensures keeps { KeepPages rows.old.items rows.new.items }
     ensures len { vec_len rows.new ≡ vec_len rows.old }
     ensures ok { OnOk result (HasPages rows.new.items layer first end) }
@@ -189,7 +189,7 @@ fn add_pages(rows: &mut Vec<PagedRow>, layer: usize, first: u64, end: u64) -> Re
 
 // Gives back the pages that hold nothing.
 fn trim_rows(rows: &mut Vec<PagedRow>)
-    ensures cells { AreSameCells rows.old.items rows.new.items }
+    ensures cells { AreSamePagedCells rows.old.items rows.new.items }
     ensures len { vec_len rows.new ≡ vec_len rows.old }
     ensures trimmed { AreTrimmed rows.new.items (vec_len rows.new) }
 {

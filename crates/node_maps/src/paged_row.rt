@@ -31,7 +31,7 @@ pub struct PagedRow {
 }
 
 impl PagedRow {
-    ghost use Rattle.node_maps.specs.PagedRow.{pages_of, AreSameCells, AreSameCellsBut, HasNumber, HasNumbers, KeepsPages, cell_of_row, row_hashes};
+    ghost use Rattle.node_maps.specs.PagedRow.{pages_of, AreSameRowCells, AreSameRowCellsBut, HasNumber, HasNumbers, KeepsPages, cell_of_row, row_hashes};
 
     /// No page.
     #[tactic(auto, unfolding(crate::specs::PagedRow::pages_of))]
@@ -117,7 +117,7 @@ impl PagedRow {
         ensures count { self.new.count ≡ self.old.count }
         ensures here { cell_of_row self.new index
             ≡ with_hash (cell_of_row self.old index) hash mark }
-        ensures others { AreSameCellsBut index self.old self.new }
+        ensures others { AreSameRowCellsBut index self.old self.new }
         ensures same { KeepsPages self.old self.new }
     {
         let place = (index % PAGE_LENGTH as u64) as usize;
@@ -130,7 +130,7 @@ impl PagedRow {
     #[tactic(auto, unfolding(crate::specs::PagedRow::pages_of))]
     pub fn reserve(&mut self, first: u64, end: u64) -> Result<(), NoMemory>
         requires { end ≤ 2 ^ 32 }
-        ensures cells { AreSameCells self.old self.new }
+        ensures cells { AreSameRowCells self.old self.new }
         ensures keeps { KeepsPages self.old self.new }
         ensures ok { OnOk result (HasNumbers self.new first end) }
         ensures err { OnErr result (self.new.count ≡ self.old.count) }
@@ -150,7 +150,7 @@ impl PagedRow {
     #[tactic(auto, unfolding(crate::specs::PagedRow::pages_of))]
     fn make(&mut self, number: u64) -> Result<(), NoMemory>
         requires { number < 2 ^ 32 }
-        ensures cells { AreSameCells self.old self.new }
+        ensures cells { AreSameRowCells self.old self.new }
         ensures keeps { KeepsPages self.old self.new }
         ensures grown { IsGrownByOne (pages_of self.old) self.old.fresh.items self.old.count
             (pages_of self.new) self.new.fresh.items self.new.count }
@@ -171,7 +171,7 @@ impl PagedRow {
     /// Gives back the pages that hold nothing.
     #[tactic(auto, unfolding(crate::specs::PagedRow::pages_of))]
     pub fn trim(&mut self)
-        ensures cells { AreSameCells self.old self.new }
+        ensures cells { AreSameRowCells self.old self.new }
         ensures full { AreSpare (pages_of self.new) [] }
     {
         self.give_back(0);
@@ -180,7 +180,7 @@ impl PagedRow {
     // Gives back the pages that hold nothing and that were made since so many were fresh.
     #[tactic(auto, unfolding(crate::specs::PagedRow::pages_of))]
     fn give_back(&mut self, before: usize)
-        ensures cells { AreSameCells self.old self.new }
+        ensures cells { AreSameRowCells self.old self.new }
         ensures fresh { length self.new.fresh.items ≤ before }
         ensures restored { (base : Numbered) (fresh : List ℕ) (count : ℕ) → length fresh ≡ before
             → IsGrown base fresh count (pages_of self.old) self.old.fresh.items self.old.count

@@ -2,7 +2,7 @@
 
 ghost use Rattle.std.specs.Prelude.{◌≡◌, ◌+◌, ◌<◌, ◌≤◌, IfOk, IfErr, OnOk, vec_len, vec_capacity};
 ghost use Rattle.std.specs.List.{insert};
-ghost use Rattle.node_maps.specs.Rising.{AreRising, IsAt, IsGapFor};
+ghost use Rattle.node_maps.specs.Rising.{AreRising, IsNumberAt, IsGapFor};
 
 use hashtree::NoMemory;
 
@@ -10,7 +10,7 @@ use hashtree::NoMemory;
 /// looked at first, since most work is there. Condition: the numbers ascend.
 pub fn search(numbers: &[u64], last: usize, number: u64) -> Result<usize, usize>
     requires { AreRising numbers.now }
-    ensures at { IfOk result (IsAt numbers.now number) }
+    ensures at { IfOk result (IsNumberAt numbers.now number) }
     ensures gap { IfErr result (IsGapFor numbers.now number) }
 {
     let len = numbers.len();

@@ -21,14 +21,6 @@ pub there_or_not : (o : Option ℕ) → (o ≡ None) ⊎ ((i : ℕ) × (o ≡ So
 there_or_not None = inl refl
 there_or_not (Some i) = inr (i, refl)
 
-pub first_bad_none : (n : ℕ) (pieces : List (List ℕ)) (content : List ℕ) → IsFirstBad n pieces content 0 None
-first_bad_none n pieces content = record {
-  none = λ _ k lt. absurd (omega arith);
-  before = λ i is. absurd (none-some i is);
-  within = λ i is. absurd (none-some i is);
-  differs = λ i is. absurd (none-some i is);
-}
-
 -- whole cuts stay as they are
 pub first_bad_append : (n : ℕ) (pieces : List (List ℕ)) (content more : List ℕ) (c : ℕ) (bad : Option ℕ) → n * c ≤ length content
     → IsFirstBad n pieces content c bad → IsFirstBad n pieces (content ++ more) c bad

@@ -1,6 +1,5 @@
 -- The cuts of one file as its bytes come.
-use Rattle.std.proofs.Common.{◌≡◌, ℕ, ◌+◌, ◌-◌, ◌*◌, ◌/◌, ◌<◌, ◌≤◌, List, [], ◌∷◌, ◌++◌, length, map, vec_len, inl, inr, refl, sym, ap, ◌∙◌, arith, length-append}
-use Rattle.std.proofs.Math.Nat.{le-div_iff_mul-le, mul-add}
+use Rattle.std.proofs.Common.{◌≡◌, ℕ, ◌+◌, ◌-◌, ◌*◌, ◌<◌, ◌≤◌, List, [], ◌∷◌, ◌++◌, length, map, vec_len, inl, inr, refl, sym, ap, ◌∙◌, arith, length-append}
 use Rattle.std.proofs.lemmas.List.{append_assoc, append-nil}
 use Rattle.std.proofs.lemmas.Bool.{cases_lt}
 use Rattle.std.specs.List.{range_with_len}
@@ -123,16 +122,3 @@ ends_empty c f positive none items = λ p content fed.
       cuts = items ∙ at.cuts_are ∙ ap (cut_digests p) (no_content at.front (omega arith) ∙ sym (no_content content nothing));
       padded = λ some. absurd (omega arith);
     }
-
--- ---- memory
-
--- a cut that is full when a byte comes after it is one more than can be kept
-pub closes_more : (p closed before filled start len spare : ℕ) → 0 < p → p * closed + p ≡ p * before + filled + start → before ≤ closed → start < len
-    → spare ≤ closed - before → spare < (filled + len - 1) / p
-closes_more p closed before filled start len spare some count rise more short =
-    let k : ℕ = closed - before in
-    let sum : before + k ≡ closed = omega arith in
-    let parts : p * closed ≡ p * before + p * k = ap (λ n. p * n) (sym sum) ∙ mul-add p before k in
-    let whole : (k + 1) * p ≤ filled + len - 1 = omega (arith, parts) in
-    let least : k + 1 ≤ (filled + len - 1) / p = (le-div_iff_mul-le {k = p} {x = k + 1} {y = filled + len - 1} some).1 whole in
-    omega arith

@@ -1,5 +1,5 @@
--- What a version 1 feed holds. Contracts of users cite `total`, `given` and `IsFeedGiven` alone,
--- and need nothing of how they are defined.
+-- What a version 1 feed holds. Contracts of users cite `total`, `bytes_given` and `IsFeedGiven`
+-- alone, and need nothing of how they are defined.
 use Rattle.std.specs.Prelude.{◌≡◌, ◌≢◌, ℕ, ◌*◌, ◌<◌, ◌≤◌, List, length, drop, slice_get, Option, Some, None}
 use Rattle.sha1.specs.Sha1.{sha1}
 use Rattle.pieces.specs.Cuts.{cut}
@@ -11,8 +11,8 @@ abbrev pub total : V1Feed → ℕ
 total f = f.total
 
 -- how many bytes of the stream the feed was given, which is its place in the stream
-abbrev pub given : V1Feed → ℕ
-given f = f.given
+abbrev pub bytes_given : V1Feed → ℕ
+bytes_given f = f.given
 
 -- the digest of this cut of the content is the one that is listed for it
 abbrev pub IsCutListed : ℕ → List (List ℕ) → List ℕ → ℕ → Type 0

@@ -25,14 +25,14 @@ pub struct V1Feed<'a> {
 
 impl<'a> V1Feed<'a> {
     ghost use Rattle.pieces.specs.Cutting.{IsCutting};
-    ghost use Rattle.pieces.specs.Feeding.{IsFeedAt, IsFeedGiven, IsFirstBad, given, total};
+    ghost use Rattle.pieces.specs.Feeding.{IsFeedAt, IsFeedGiven, IsFirstBad, bytes_given, total};
 
     /// A feed that was given nothing, for a stream of the length that the hybrid states. Condition:
     /// the piece length is above 0.
     pub fn new(v: &V1<'a>, piece_length: u64) -> V1Feed<'a>
         requires { 0 < piece_length }
         ensures total { total result ≡ v.now.total }
-        ensures given { given result ≡ 0 }
+        ensures given { bytes_given result ≡ 0 }
         ensures content { IsFeedGiven result v.now.pieces.now piece_length [] }
     {
         V1Feed {
@@ -55,7 +55,7 @@ impl<'a> V1Feed<'a> {
     /// How many bytes of the stream came so far: the place in the stream at which the next ones
     /// stand. It is at most `total()`.
     pub fn given(&self) -> u64
-        ensures value { result ≡ given self.now }
+        ensures value { result ≡ bytes_given self.now }
         ensures bound { result ≤ total self.now }
         ensures content { (pieces : List (List ℕ)) (piece_length : ℕ) (content : List ℕ)
             → IsFeedGiven self.now pieces piece_length content → result ≡ length content }
@@ -65,9 +65,9 @@ impl<'a> V1Feed<'a> {
 
     /// Takes the stream's next bytes. Condition: no more of them than are still to come.
     pub fn push(&mut self, bytes: &[u8])
-        requires { given self.old + length bytes.now ≤ total self.old }
+        requires { bytes_given self.old + length bytes.now ≤ total self.old }
         ensures total { total self.new ≡ total self.old }
-        ensures given { given self.new ≡ given self.old + length bytes.now }
+        ensures given { bytes_given self.new ≡ bytes_given self.old + length bytes.now }
         ensures content { (pieces : List (List ℕ)) (piece_length : ℕ) (content : List ℕ)
             → IsFeedGiven self.old pieces piece_length content
             → IsFeedGiven self.new pieces piece_length (content ++ bytes.now) }
@@ -81,9 +81,9 @@ impl<'a> V1Feed<'a> {
     /// Takes this many zero bytes, as stand between two files. Condition: no more of them than are
     /// still to come.
     pub fn zeros(&mut self, n: u64)
-        requires { given self.old + n ≤ total self.old }
+        requires { bytes_given self.old + n ≤ total self.old }
         ensures total { total self.new ≡ total self.old }
-        ensures given { given self.new ≡ given self.old + n }
+        ensures given { bytes_given self.new ≡ bytes_given self.old + n }
         ensures content { (pieces : List (List ℕ)) (piece_length : ℕ) (content : List ℕ)
             → IsFeedGiven self.old pieces piece_length content
             → IsFeedGiven self.new pieces piece_length (content ++ replicate n 0) }
@@ -119,11 +119,11 @@ impl<'a> V1Feed<'a> {
     // Takes the first of these bytes, at most as many as there is room for in the running cut.
     fn take_part(&mut self, bytes: &[u8]) -> usize
         requires some { 0 < length bytes.now }
-        requires room { given self.old + length bytes.now ≤ total self.old }
+        requires room { bytes_given self.old + length bytes.now ≤ total self.old }
         ensures some { 0 < result }
         ensures bound { result ≤ length bytes.now }
         ensures total { total self.new ≡ total self.old }
-        ensures given { given self.new ≡ given self.old + result }
+        ensures given { bytes_given self.new ≡ bytes_given self.old + result }
         ensures content { (pieces : List (List ℕ)) (piece_length : ℕ) (content : List ℕ)
             → IsFeedGiven self.old pieces piece_length content
             → IsFeedGiven self.new pieces piece_length (content ++ take result bytes.now) }
@@ -139,7 +139,7 @@ impl<'a> V1Feed<'a> {
     // Closes the running cut if it is full.
     fn make_room(&mut self)
         ensures total { total self.new ≡ total self.old }
-        ensures given { given self.new ≡ given self.old }
+        ensures given { bytes_given self.new ≡ bytes_given self.old }
         ensures open { self.new.cutter.filled < self.new.cutter.piece_length }
         ensures content { (pieces : List (List ℕ)) (piece_length : ℕ) (content : List ℕ)
             → IsFeedGiven self.old pieces piece_length content
@@ -153,12 +153,12 @@ impl<'a> V1Feed<'a> {
     // Takes the first of these bytes into the running cut, as many as there is room for in it.
     fn fill(&mut self, bytes: &[u8]) -> usize
         requires some { 0 < length bytes.now }
-        requires room { given self.old + length bytes.now ≤ total self.old }
+        requires room { bytes_given self.old + length bytes.now ≤ total self.old }
         requires open { self.old.cutter.filled < self.old.cutter.piece_length }
         ensures some { 0 < result }
         ensures bound { result ≤ length bytes.now }
         ensures total { total self.new ≡ total self.old }
-        ensures given { given self.new ≡ given self.old + result }
+        ensures given { bytes_given self.new ≡ bytes_given self.old + result }
         ensures content { (pieces : List (List ℕ)) (piece_length : ℕ) (content : List ℕ)
             → IsFeedAt self.old pieces piece_length content → self.old.bad ≡ None
             → IsFeedGiven self.new pieces piece_length (content ++ take result bytes.now) }
@@ -171,9 +171,9 @@ impl<'a> V1Feed<'a> {
     // Counts this many bytes, after a bad cut.
     fn skip(&mut self, n: u64)
         requires bad { is_some self.old.bad ≡ true }
-        requires room { given self.old + n ≤ total self.old }
+        requires room { bytes_given self.old + n ≤ total self.old }
         ensures total { total self.new ≡ total self.old }
-        ensures given { given self.new ≡ given self.old + n }
+        ensures given { bytes_given self.new ≡ bytes_given self.old + n }
         ensures content { (pieces : List (List ℕ)) (piece_length : ℕ) (content more : List ℕ)
             → IsFeedAt self.old pieces piece_length content → length more ≡ n
             → IsFeedGiven self.new pieces piece_length (content ++ more) }
@@ -185,7 +185,7 @@ impl<'a> V1Feed<'a> {
     fn close_cut(&mut self)
         requires { 0 < self.old.cutter.filled }
         ensures total { total self.new ≡ total self.old }
-        ensures given { given self.new ≡ given self.old }
+        ensures given { bytes_given self.new ≡ bytes_given self.old }
         ensures cut { self.new.cut ≡ self.old.cut + 1 }
         ensures piece_length { self.new.cutter.piece_length ≡ self.old.cutter.piece_length }
         ensures empty { self.new.cutter.filled ≡ 0 }

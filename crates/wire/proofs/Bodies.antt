@@ -3,12 +3,9 @@ use Rattle.std.proofs.Common.{◌≡◌, ℕ, ◌+◌, ◌-◌, List, ◌∷◌,
 use Rattle.std.specs.List.{flat_map}
 use Rattle.std.proofs.lemmas.List.{append-nil, drop_all, take_rest}
 use Rattle.wire.specs.declared.message.Ask.{Ask}
-use Rattle.wire.specs.Meaning.{IsRightSize, IsPieceSize, IsHashesSize, IsAsk, IsHash, IsAskBody, IsHashesBody, ask_bytes}
+use Rattle.wire.specs.Meaning.{IsRightSize, IsHashesSize, IsAsk, IsHash, IsAskBody, IsHashesBody, ask_bytes}
 
 -- the right size at each id
-pub size_of_piece : (size : ℕ) → IsRightSize 7 size → IsPieceSize size
-size_of_piece size h = elim h [ inl p ↦ p.1 | inr q ↦ elim q [ inl p ↦ absurd (omega (arith, p.0)) | inr r ↦ elim r [ inl p ↦ absurd (omega (arith, p.0)) | inr p ↦ absurd (omega (arith, p.0)) ] ] ]
-
 pub size_of_request : (size : ℕ) → IsRightSize 21 size → size ≡ 49
 size_of_request size h = elim h [ inl p ↦ absurd (omega (arith, p.0)) | inr q ↦ elim q [ inl p ↦ p.1 | inr r ↦ elim r [ inl p ↦ absurd (omega (arith, p.0)) | inr p ↦ absurd (omega (arith, p.0)) ] ] ]
 

@@ -1,5 +1,5 @@
 -- What a source gave in several calls.
-use Rattle.std.proofs.Common.{◌≡◌, ℕ, ◌+◌, ◌-◌, ◌≤◌, List, [], ◌++◌, length, take, drop, arith, ap, refl, subst, sym, ◌∙◌}
+use Rattle.std.proofs.Common.{◌≡◌, ℕ, ◌+◌, ◌-◌, ◌≤◌, List, [], ◌++◌, length, take, drop, arith, ap, subst, sym, ◌∙◌}
 use Rattle.std.proofs.lemmas.List.{length-append, length-take-le, take-append-le, take_all, take-take}
 use Rattle.std.proofs.Math.Seq.{take-append-add}
 use borrow.Rule.Slice.PartMut.{put_mid}
@@ -40,10 +40,6 @@ Failed-at_once b c why e p q n = record {
 -- one read
 pub Gave-take : (a b : SourceSeen) (n : ℕ) (buf : List ℕ) → n ≤ length buf → Consumes a.left b.left (take n buf) → b.limit + n ≡ a.limit → Gave a b (take n buf)
 Gave-take a b n buf fits p e = record { given = p; falls = omega (arith, e, length-take-le n buf fits) }
-
--- the same with no call that failed
-pub Faultless-nil : (s : SourceSeen) → GaveFaultless s s []
-Faultless-nil s = record { gave = Gave-nil s; faults = refl }
 
 pub Faultless-trans : (a b c : SourceSeen) (xs ys : List ℕ) → GaveFaultless a b xs → GaveFaultless b c ys → GaveFaultless a c (xs ++ ys)
 Faultless-trans a b c xs ys p q = record { gave = Gave-trans a b c xs ys p.gave q.gave; faults = q.faults ∙ p.faults }

@@ -1,5 +1,5 @@
 -- The parts of a record that a source gave, and why no further frame came.
-use Rattle.std.proofs.Common.{◌≡◌, ◌≢◌, ℕ, suc, zero, ◌+◌, ◌-◌, ◌^◌, ◌<◌, ◌≤◌, List, [], ◌∷◌, ◌++◌, length, take, drop, get_or, codes, nat_eq, true, false, Option, Some, None, inl, inr, ap, refl, subst, sym, arith, ◌∙◌}
+use Rattle.std.proofs.Common.{◌≡◌, ◌≢◌, ℕ, suc, zero, ◌+◌, ◌-◌, ◌^◌, ◌<◌, ◌≤◌, List, [], ◌∷◌, ◌++◌, length, take, drop, get_or, codes, nat_eq, true, false, Option, Some, None, inr, ap, refl, subst, sym, arith, ◌∙◌}
 use Rattle.std.proofs.lemmas.List.{append_assoc, length-append, take_at}
 use Rattle.std.specs.Cmp.Lexicographic.{pointwise, same_text}
 use Rattle.std.proofs.lemmas.Bool.{false≢true}
@@ -13,7 +13,7 @@ use Rattle.wire.specs.declared.fault.FrameFault.{FrameFault}
 use Rattle.wire.specs.declared.fault.FrameFault.TheVariants as fault
 use Rattle.wire.specs.Frames.{IsBody, IsPartial, four_bytes, frame}
 use Rattle.wire.specs.Meaning.{IsRightSize}
-use Rattle.wire.specs.Reading.{Gave, GaveFaultless, GaveUntil, CountsRead, StopsShort, StopsInLength, StopsInBody, StopsInFrame}
+use Rattle.wire.specs.Reading.{Gave, GaveFaultless, CountsRead, StopsShort, StopsInLength, StopsInBody, StopsInFrame}
 use Rattle.wire.specs.Records.{Directed, HasForm, direction_byte, header, record_frame}
 use Rattle.wire.specs.RecordReading.{GavePart, GaveFrame, EndsRecord, StopsAt, StopsInRecord, GivesNext}
 use Rattle.wire.proofs.FourBytes.{length-four_bytes, same_from_four_bytes}
@@ -91,9 +91,6 @@ frame_directed d len a b c bound size start rest =
 
 pub ends_later : (form : Form) (a b : SourceSeen) → GaveFaultless a b [] → IsAtEnd b.left → EndsRecord (Some form) form a b
 ends_later form a b gave end = record { part = later_part form [] a b gave.gave; faults = gave.faults; at_end = end }
-
-pub ends_first : (a b : SourceSeen) → GaveFaultless a b [] → IsAtEnd b.left → EndsRecord None One a b
-ends_first a b gave end = record { part = first_part [] a b (one_from_short [] (omega arith)) gave.gave; faults = gave.faults; at_end = end }
 
 -- a header, of which each half was read alone
 pub gave_header : (a b c : SourceSeen) (half : List ℕ) → half ≡ codes "BTH2" → GaveFaultless a b (four_bytes 4294967295) → GaveFaultless b c half → GaveFaultless a c header
@@ -192,17 +189,6 @@ stops_at_other byte behind a b not_in not_out few gave = record {
   faults = gave.faults;
   ended = λ e. let no : ⊥ = cc in absurd no;
   stops = record { byte = byte; behind = behind; begins = refl; few = few; not_in = not_in; not_out = not_out };
-}
-
--- before a direction
-pub stops_before : (a b : SourceSeen) (why : FrameFault) → why ≡ fault.Read → GaveUntil a b [] why → StopsInRecord (Some Two) a b why
-stops_before a b why is gave = record {
-  form = Two;
-  rest = [];
-  part = later_part Two [] a b gave.gave;
-  faults = gave.faults;
-  ended = gave.ended;
-  stops = subst (StopsAt Two []) (sym is) (inl refl);
 }
 
 -- behind a header

@@ -8,26 +8,28 @@ use Rattle.wire.specs.declared.frame.Frame.{Frame}
 use Rattle.wire.specs.declared.frame.Frame.TheVariants as told
 use Rattle.wire.specs.declared.message.Message.{Message}
 use Rattle.wire.specs.declared.message.Message.TheVariants as message
-use Rattle.wire.specs.Meaning.{max_body}
+use Rattle.wire.specs.Meaning.{ask_size, hashes_id, max_body, request_id}
 use Rattle.wire.specs.Records.{Directed, header, record_frame}
 
--- whether a body is a hashes message of right size
+-- whether a hashes message may have this size
 abbrev pub is_hashes_size : ℕ → Bool
-is_hashes_size size = leb 49 size && (leb size max_body && eqb ((size - 49) % 32) 0)
+is_hashes_size size = leb ask_size size && (leb size max_body && eqb ((size - ask_size) % 32) 0)
 
+-- whether a body is a hashes message of right size
 abbrev pub is_hashes : List ℕ → Bool
 is_hashes [] = false
-is_hashes (id ∷ rest) = eqb id 22 && is_hashes_size (length (id ∷ rest))
+is_hashes (id ∷ rest) = eqb id hashes_id && is_hashes_size (length (id ∷ rest))
 
 -- the request with the five fields that stand after a body's id
 abbrev pub request_of : List ℕ → List ℕ
-request_of body = 21 ∷ take 48 (drop 1 body)
+request_of body = request_id ∷ take 48 (drop 1 body)
 
 -- a frame that came in, after the request that it answers
 abbrev pub converted : List ℕ → List (Directed (List ℕ))
 converted body =
     cond (is_hashes body) ((Out, request_of body) ∷ (In, body) ∷ []) ((In, body) ∷ [])
 
+-- frames that came in, one after the other, each hashes message after the request that it answers
 abbrev pub conversion : List (List ℕ) → List (Directed (List ℕ))
 conversion bodies = flat_map converted bodies
 
@@ -35,15 +37,17 @@ conversion bodies = flat_map converted bodies
 abbrev pub conversion_bytes : List (List ℕ) → List ℕ
 conversion_bytes bodies = header ++ flat_map (record_frame Two) (conversion bodies)
 
--- the same for what bodies mean
+-- a message that came in, after the request that it answers, if it is a hashes message
 abbrev pub converted_message : Message → List (Directed Message)
 converted_message (message.Hashes ask hashes) =
     (Out, message.Request ask) ∷ (In, message.Hashes ask hashes) ∷ []
 converted_message m = (In, m) ∷ []
 
+-- messages that came in, each hashes message after the request that it answers
 abbrev pub converted_messages : List Message → List (Directed Message)
 converted_messages ms = flat_map converted_message ms
 
+-- what is told of a frame that came in, after the request that a hashes message answers
 abbrev pub converted_frame : Frame → List (Directed Frame)
 converted_frame (told.Message (message.Hashes ask hashes)) =
     (Out, told.Message (message.Request ask)) ∷ (In, told.Message (message.Hashes ask hashes)) ∷

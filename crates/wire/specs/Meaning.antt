@@ -13,9 +13,33 @@ use Rattle.wire.specs.declared.frame.Frame.TheVariants as frame
 abbrev pub max_body : ℕ
 max_body = 263217
 
--- the ids of the messages that are read: piece (BEP 3), hash request, hashes, hash reject (BEP 52)
+-- the most bytes that are kept of a body, which is all but its id
+abbrev pub max_kept : ℕ
+max_kept = 263216
+
+-- the id of a block of a piece (BEP 3)
+abbrev pub piece_id : ℕ
+piece_id = 7
+
+-- the id of a hash request (BEP 52)
+abbrev pub request_id : ℕ
+request_id = 21
+
+-- the id of a hashes message (BEP 52)
+abbrev pub hashes_id : ℕ
+hashes_id = 22
+
+-- the id of a hash reject (BEP 52)
+abbrev pub reject_id : ℕ
+reject_id = 23
+
+-- the size of the id and the five fields of a hash request
+abbrev pub ask_size : ℕ
+ask_size = 49
+
+-- whether the message of this id is read
 abbrev pub IsRead : ℕ → Type 0
-IsRead id = (id ≡ 7) ⊎ (id ≡ 21) ⊎ (id ≡ 22) ⊎ (id ≡ 23)
+IsRead id = (id ≡ piece_id) ⊎ (id ≡ request_id) ⊎ (id ≡ hashes_id) ⊎ (id ≡ reject_id)
 
 -- the id, the two fields, and a block that may be empty
 abbrev pub IsPieceSize : ℕ → Type 0
@@ -23,14 +47,15 @@ IsPieceSize size = (9 ≤ size) × (size ≤ max_body)
 
 -- the id, the five fields, and whole hashes
 abbrev pub IsHashesSize : ℕ → Type 0
-IsHashesSize size = (49 ≤ size) × (size ≤ max_body) × ((size - 49) % 32 ≡ 0)
+IsHashesSize size = (ask_size ≤ size) × (size ≤ max_body) × ((size - ask_size) % 32 ≡ 0)
 
 -- the right sizes of a body, by its id
 abbrev pub IsRightSize : ℕ → ℕ → Type 0
 IsRightSize id size =
-    ((id ≡ 7) × IsPieceSize size) ⊎ ((id ≡ 21) × (size ≡ 49))
-    ⊎ ((id ≡ 22) × IsHashesSize size) ⊎ ((id ≡ 23) × (size ≡ 49))
+    ((id ≡ piece_id) × IsPieceSize size) ⊎ ((id ≡ request_id) × (size ≡ ask_size))
+    ⊎ ((id ≡ hashes_id) × IsHashesSize size) ⊎ ((id ≡ reject_id) × (size ≡ ask_size))
 
+-- as long as a SHA-256 digest
 abbrev pub IsHash : List ℕ → Type 0
 IsHash hash = length hash ≡ 32
 
@@ -53,17 +78,19 @@ pub record IsAskBody (id : ℕ) (body : List ℕ) (ask : Ask) : Type 0 where
   pub fields : IsAsk ask
   pub bytes : body ≡ id ∷ ask_bytes ask
 
+-- the body of a block of a piece: the piece's number, where the block begins in it, and the bytes
 pub record IsPieceBody (body : List ℕ) (index begin : ℕ) (block : List ℕ) : Type 0 where
   pub index_fits : index < 2 ^ 32
   pub begin_fits : begin < 2 ^ 32
   pub size : IsPieceSize (length body)
-  pub bytes : body ≡ 7 ∷ (four_bytes index ++ (four_bytes begin ++ block))
+  pub bytes : body ≡ piece_id ∷ (four_bytes index ++ (four_bytes begin ++ block))
 
+-- the body of a hashes message: the five fields of the request, and the hashes
 pub record IsHashesBody (body : List ℕ) (ask : Ask) (hashes : List (List ℕ)) : Type 0 where
   pub fields : IsAsk ask
   pub each : All IsHash hashes
   pub size : IsHashesSize (length body)
-  pub bytes : body ≡ 22 ∷ (ask_bytes ask ++ flat_map (λ hash. hash) hashes)
+  pub bytes : body ≡ hashes_id ∷ (ask_bytes ask ++ flat_map (λ hash. hash) hashes)
 
 -- a body that begins with this id, and its length
 pub record IsOf (body : List ℕ) (id len : ℕ) : Type 0 where
@@ -71,12 +98,13 @@ pub record IsOf (body : List ℕ) (id len : ℕ) : Type 0 where
   pub bytes : body ≡ id ∷ rest
   pub size : len ≡ length body
 
+-- what a body means, if it is one message
 abbrev pub MeansMessage : List ℕ → Message → Type 0
 MeansMessage body message.KeepAlive = body ≡ []
 MeansMessage body (message.Piece index begin block) = IsPieceBody body index begin block.now
-MeansMessage body (message.Request ask) = IsAskBody 21 body ask
+MeansMessage body (message.Request ask) = IsAskBody request_id body ask
 MeansMessage body (message.Hashes ask hashes) = IsHashesBody body ask hashes.now
-MeansMessage body (message.Reject ask) = IsAskBody 23 body ask
+MeansMessage body (message.Reject ask) = IsAskBody reject_id body ask
 MeansMessage body (message.Other id len) = IsOf body id len × ¬ IsRead id
 
 -- what a body means: one message, or a wrong size of a message that is read

@@ -4,6 +4,7 @@ use Rattle.std.specs.Prelude.{◌≡◌, ℕ, ◌≤◌, List, length, Option, N
 use Rattle.std.specs.Global.{Vec}
 use Rattle.benc.specs.Device.{SourceSeen}
 use Rattle.wire.specs.Head.{Holds}
+use Rattle.wire.specs.Meaning.{max_kept}
 use Rattle.wire.specs.Reading.{Gives}
 use Rattle.wire.specs.declared.fault.FrameFault.{FrameFault}
 use Rattle.wire.specs.declared.fault.FrameFault.TheVariants as fault
@@ -36,7 +37,7 @@ room reader = vec_capacity reader.kept
 
 -- the reader's room holds the longest body that is kept, its id aside
 abbrev pub HasRoom : {S : Type 0} → FrameReader S (Vec ℕ) → Type 0
-HasRoom reader = 263216 ≤ room reader
+HasRoom reader = max_kept ≤ room reader
 
 -- nothing has changed but the room
 pub record IsSameButRoom {S : Type 0} (old new : FrameReader S (Vec ℕ)) : Type 0 where
@@ -58,6 +59,6 @@ pub record AsksNext {S X : Type 0} (seen : S → SourceSeen) (old new : FrameRea
   pub failed_again :
       (why : FrameFault) → HasFailed old why
       → (result ≡ Err why) × (new.source.now ≡ old.source.now)
-  pub bounded : kept_len old ≤ 263216 → kept_len new ≤ 263216
+  pub bounded : kept_len old ≤ max_kept → kept_len new ≤ max_kept
   pub memory : IsOpen old → IsErrOf result fault.NoMemory → ¬ HasRoom old
   pub has_room : HasRoom old → HasRoom new

@@ -11,6 +11,7 @@ use Rattle.wire.specs.declared.head.Head.{Head}
 use Rattle.wire.specs.declared.reader.FrameReader.{FrameReader}
 use Rattle.wire.specs.declared.record_reader.RecordReader.{RecordReader}
 use Rattle.wire.specs.Head.{Holds}
+use Rattle.wire.specs.Meaning.{max_kept}
 use Rattle.wire.specs.Reader.{IsOpen, HasEnded, HasFailed, HasRoom, HoldsBody, kept_len}
 use Rattle.wire.specs.RecordReading.{GivesNext, StopsInRecord}
 use Rattle.wire.specs.Records.{Directed, MeansDirected}
@@ -47,6 +48,6 @@ pub record AsksNextInRecord {S : Type 0} (seen : S → SourceSeen) (old new : Re
   pub failed_again :
       (why : FrameFault) → HasFailed (frames old) why → (result ≡ Err why)
       × (new.source.now ≡ old.source.now) × (new.form ≡ old.form)
-  pub bounded : kept_len (frames old) ≤ 263216 → kept_len (frames new) ≤ 263216
+  pub bounded : kept_len (frames old) ≤ max_kept → kept_len (frames new) ≤ max_kept
   pub memory : IsOpen (frames old) → IsErrOf result fault.NoMemory → ¬ HasRoom (frames old)
   pub has_room : HasRoom (frames old) → HasRoom (frames new)

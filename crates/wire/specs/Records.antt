@@ -25,6 +25,7 @@ Directed X = Direction × X
 abbrev pub header : List ℕ
 header = 255 ∷ 255 ∷ 255 ∷ 255 ∷ codes "BTH2"
 
+-- what a record of this form begins with
 abbrev pub heading : Form → List ℕ
 heading One = []
 heading Two = header

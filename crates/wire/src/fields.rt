@@ -3,9 +3,10 @@ ghost use Rattle.std.specs.Prelude.{◌≡◌, ◌+◌, ◌*◌, ◌^◌, ◌<�
 ghost use Rattle.arrayvec.specs.ArrayVec.{array_vec_len};
 ghost use Rattle.wire.specs.Frames.{four_bytes};
 ghost use Rattle.wire.specs.Kind.{id_of};
-ghost use Rattle.wire.specs.Meaning.{IsAsk, ask_bytes};
+ghost use Rattle.wire.specs.Meaning.{IsAsk, ask_bytes, ask_size, piece_id};
+ghost use Rattle.wire.specs.Writable.{max_block, max_hashes};
 
-use crate::kind::Kind;
+use crate::kind::{ASK_SIZE, Kind, MIN_PIECE};
 use crate::message::Ask;
 use arrayvec::ArrayVec;
 use byteorder::{BigEndian, ByteOrder};
@@ -15,13 +16,13 @@ pub(crate) type Fields = ArrayVec<u8, 53>;
 
 /// The fields of a frame with a block of this length.
 pub(crate) fn piece_fields(index: u32, begin: u32, len: u32) -> Fields
-    requires { len ≤ 263208 }
+    requires { len ≤ max_block }
     ensures fits { (index < 2 ^ 32) × (begin < 2 ^ 32) }
     ensures bytes { result.items
-        ≡ four_bytes (9 + len) ++ (7 ∷ (four_bytes index ++ four_bytes begin)) }
+        ≡ four_bytes (9 + len) ++ (piece_id ∷ (four_bytes index ++ four_bytes begin)) }
 {
     let mut fields = Fields::new();
-    put_number(&mut fields, 9 + len);
+    put_number(&mut fields, MIN_PIECE + len);
     put(&mut fields, &[Kind::Piece.id()]);
     put_number(&mut fields, index);
     put_number(&mut fields, begin);
@@ -31,13 +32,13 @@ pub(crate) fn piece_fields(index: u32, begin: u32, len: u32) -> Fields
 /// The fields of a frame with an ask, and with so many hashes.
 #[tactic(auto, unfolding(crate::specs::Meaning::ask_bytes))]
 pub(crate) fn ask_fields(kind: Kind, ask: &Ask, hashes: u32) -> Fields
-    requires { hashes ≤ 8224 }
+    requires { hashes ≤ max_hashes }
     ensures fits { IsAsk ask.now }
     ensures bytes { result.items
-        ≡ four_bytes (49 + hashes * 32) ++ (id_of kind ∷ ask_bytes ask.now) }
+        ≡ four_bytes (ask_size + hashes * 32) ++ (id_of kind ∷ ask_bytes ask.now) }
 {
     let mut fields = Fields::new();
-    put_number(&mut fields, 49 + hashes * 32);
+    put_number(&mut fields, ASK_SIZE + hashes * 32);
     put(&mut fields, &[kind.id()]);
     put(&mut fields, &ask.root);
     put_number(&mut fields, ask.base);

@@ -1,6 +1,7 @@
 //! One frame from a source.
 ghost use Rattle.std.specs.Prelude.{◌≡◌, ◌≤◌, ◌<◌, ◌-◌, ℕ, [], List, length, take, MatchResult, OnOk, IsErrOf, vec_capacity};
 ghost use Rattle.wire.specs.Head.{Holds};
+ghost use Rattle.wire.specs.Meaning.{max_kept};
 ghost use Rattle.wire.specs.Reading.{GaveFaultless, GivesAll, StopsInBody, Gives};
 
 use crate::bytes::{read_exact, read_length, skip};
@@ -19,9 +20,9 @@ pub(crate) fn read_frame<R: Source>(
 ) -> Result<Option<Head>, FrameFault>
     ensures bytes { Gives (R.seen source.old) (R.seen source.new)
         (λ body head. Holds head kept.new.items body) result }
-    ensures bounded { length kept.old.items ≤ 263216 → length kept.new.items ≤ 263216 }
+    ensures bounded { length kept.old.items ≤ max_kept → length kept.new.items ≤ max_kept }
     ensures capacity { vec_capacity kept.old ≤ vec_capacity kept.new }
-    ensures memory { IsErrOf result FrameFault.NoMemory → vec_capacity kept.old < 263216 }
+    ensures memory { IsErrOf result FrameFault.NoMemory → vec_capacity kept.old < max_kept }
 {
     match read_length(source)? {
         None => Ok(None),
@@ -39,9 +40,9 @@ pub(crate) fn read_body<R: Source>(
         (λ head. (body : List ℕ) × GaveFaultless (R.seen source.old) (R.seen source.new) body
         × (length body ≡ len) × Holds head kept.new.items body)
         (StopsInBody (R.seen source.old) (R.seen source.new) len) }
-    ensures bounded { length kept.old.items ≤ 263216 → length kept.new.items ≤ 263216 }
+    ensures bounded { length kept.old.items ≤ max_kept → length kept.new.items ≤ max_kept }
     ensures capacity { vec_capacity kept.old ≤ vec_capacity kept.new }
-    ensures memory { IsErrOf result FrameFault.NoMemory → vec_capacity kept.old < 263216 }
+    ensures memory { IsErrOf result FrameFault.NoMemory → vec_capacity kept.old < max_kept }
 {
     if len == 0 {
         return Ok(Head::KeepAlive);
@@ -59,13 +60,13 @@ pub(crate) fn read_body<R: Source>(
 // Reads so many bytes to the front of what is kept. The first call makes the room.
 fn keep<R: Source>(source: &mut R, kept: &mut Vec<u8>, count: u32) -> Result<(), FrameFault>
     requires some { 0 < count }
-    requires bounded { count ≤ 263216 }
+    requires bounded { count ≤ max_kept }
     ensures bytes { GivesAll (R.seen source.old) (R.seen source.new) (take count kept.new.items)
         count result }
     ensures room { OnOk result (count ≤ length kept.new.items) }
-    ensures bounded { length kept.old.items ≤ 263216 → length kept.new.items ≤ 263216 }
+    ensures bounded { length kept.old.items ≤ max_kept → length kept.new.items ≤ max_kept }
     ensures capacity { vec_capacity kept.old ≤ vec_capacity kept.new }
-    ensures memory { IsErrOf result FrameFault.NoMemory → vec_capacity kept.old < 263216 }
+    ensures memory { IsErrOf result FrameFault.NoMemory → vec_capacity kept.old < max_kept }
 {
     kept.resize(MAX_KEPT, 0)?;
     fill_front(source, kept.as_mut_slice(), count as usize)

@@ -1,7 +1,7 @@
 //! What is remembered of a frame beside the bytes that are kept.
 ghost use Rattle.std.specs.Prelude.{◌≡◌, ◌↔◌, ℕ, List, IsTrue};
 ghost use Rattle.wire.specs.Head.{Holds, IsHead};
-ghost use Rattle.wire.specs.Meaning.{IsHashesSize, Means};
+ghost use Rattle.wire.specs.Meaning.{IsHashesSize, Means, hashes_id};
 
 use crate::frame::Frame;
 use crate::kind::Kind;
@@ -51,7 +51,7 @@ impl Head {
 
 /// Whether a body with this id and this length is a hashes message of right size (BEP 52).
 pub fn is_hashes(id: u8, len: u32) -> bool
-    ensures { IsTrue result ↔ ((id ≡ 22) × IsHashesSize len) }
+    ensures { IsTrue result ↔ ((id ≡ hashes_id) × IsHashesSize len) }
 {
     id == Kind::Hashes.id() && Kind::Hashes.takes(len)
 }

@@ -5,6 +5,20 @@ ghost use Rattle.wire.specs.Meaning.{IsRead, IsRightSize};
 /// The longest body that is kept, in bytes.
 pub(crate) const MAX_BODY: u32 = 263_217;
 
+/// The id, the index and the begin of a block of a piece, in bytes.
+pub(crate) const MIN_PIECE: u32 = 9;
+
+/// The id and the five fields of a hash request, in bytes.
+pub(crate) const ASK_SIZE: u32 = 49;
+
+const PIECE_ID: u8 = 7;
+
+const REQUEST_ID: u8 = 21;
+
+const HASHES_ID: u8 = 22;
+
+const REJECT_ID: u8 = 23;
+
 /// A message that is read.
 #[derive(Clone, Copy, Debug, PartialEq, Eq)]
 pub(crate) enum Kind {
@@ -26,10 +40,10 @@ impl Kind {
         ensures { MatchOption result (¬ IsRead id) (λ kind. id ≡ id_of kind) }
     {
         match id {
-            7 => Some(Kind::Piece),
-            21 => Some(Kind::Request),
-            22 => Some(Kind::Hashes),
-            23 => Some(Kind::Reject),
+            PIECE_ID => Some(Kind::Piece),
+            REQUEST_ID => Some(Kind::Request),
+            HASHES_ID => Some(Kind::Hashes),
+            REJECT_ID => Some(Kind::Reject),
             _ => None,
         }
     }
@@ -39,10 +53,10 @@ impl Kind {
         ensures { result ≡ id_of self }
     {
         match self {
-            Kind::Piece => 7,
-            Kind::Request => 21,
-            Kind::Hashes => 22,
-            Kind::Reject => 23,
+            Kind::Piece => PIECE_ID,
+            Kind::Request => REQUEST_ID,
+            Kind::Hashes => HASHES_ID,
+            Kind::Reject => REJECT_ID,
         }
     }
 
@@ -51,9 +65,9 @@ impl Kind {
         ensures { IsTrue result ↔ IsRightSize (id_of self) len }
     {
         match self {
-            Kind::Piece => 9 <= len && len <= MAX_BODY,
-            Kind::Hashes => 49 <= len && len <= MAX_BODY && (len - 49) % 32 == 0,
-            Kind::Request | Kind::Reject => len == 49,
+            Kind::Piece => MIN_PIECE <= len && len <= MAX_BODY,
+            Kind::Hashes => { ASK_SIZE <= len && len <= MAX_BODY && (len - ASK_SIZE) % 32 == 0 },
+            Kind::Request | Kind::Reject => len == ASK_SIZE,
         }
     }
 }

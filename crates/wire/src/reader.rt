@@ -6,7 +6,7 @@ ghost use Rattle.std.specs.Borrow.{sem};
 ghost use Rattle.std.specs.Io.BufRead.{Rests};
 ghost use Rattle.std.specs.Io.KnownBytes.{IsAtEnd};
 ghost use Rattle.wire.specs.Frames.{IsBody, frame};
-ghost use Rattle.wire.specs.Meaning.{Means};
+ghost use Rattle.wire.specs.Meaning.{Means, max_kept};
 ghost use Rattle.wire.specs.Reading.{GaveFaultless, StopsInFrame};
 ghost use Rattle.wire.specs.Rows.{bytes_row};
 ghost use Rattle.wire.specs.contracts.reader.FrameReader.{the_row};
@@ -111,7 +111,7 @@ impl<'r, R: Source> FrameReader<'r, R> {
         ensures ended_again { HasEnded self.old → (result ≡ Ok false) × (self.new ≡ self.old) }
         ensures failed_again { (why : FrameFault) → HasFailed self.old why
             → (result ≡ Err why) × (self.new ≡ self.old) }
-        ensures bounded { kept_len self.old ≤ 263216 → kept_len self.new ≤ 263216 }
+        ensures bounded { kept_len self.old ≤ max_kept → kept_len self.new ≤ max_kept }
         ensures memory { IsOpen self.old → IsErrOf result FrameFault.NoMemory
             → ¬ HasRoom self.old }
         ensures has_room { HasRoom self.old → HasRoom self.new }
@@ -149,11 +149,11 @@ impl<'r, R: Source> FrameReader<'r, R> {
 
 /// Takes the room for the longest body that is kept, if the reader has not answered `NoMemory`.
 pub(crate) fn take_room(state: State, kept: &mut Vec<u8>) -> Result<(), NoMemory>
-    ensures room { OnOk result ((263216 ≤ vec_capacity kept.new)
+    ensures room { OnOk result ((max_kept ≤ vec_capacity kept.new)
         × (state ≢ State.Failed FrameFault.NoMemory)) }
     ensures refused { OnErr result (vec_capacity kept.new ≡ vec_capacity kept.old) }
     ensures memory { OnErr result ((state ≡ State.Failed FrameFault.NoMemory)
-        ⊎ (vec_capacity kept.old < 263216)) }
+        ⊎ (vec_capacity kept.old < max_kept)) }
     ensures unchanged { kept.new.items ≡ kept.old.items }
 {
     if let State::Failed(FrameFault::NoMemory) = state {

@@ -2,6 +2,7 @@
 ghost use Rattle.std.specs.Prelude.{◌≡◌, ◌≢◌, ◌≤◌, ◌<◌, ℕ, List, length, Some, None, MatchResult, IsErrOf, vec_capacity};
 ghost use Rattle.benc.specs.Device.{SourceSeen};
 ghost use Rattle.wire.specs.Frames.{four_bytes};
+ghost use Rattle.wire.specs.Meaning.{max_kept};
 ghost use Rattle.wire.specs.Reading.{GaveFaultless};
 ghost use Rattle.wire.specs.RecordReading.{GivesNext, GivesStart, StopsInRecord};
 ghost use Rattle.wire.specs.RecordReader.{HoldsFrom};
@@ -28,9 +29,9 @@ pub(crate) fn read_next<R: Source>(
         (λ next. GivesNext form next.0 (R.seen source.old) (R.seen source.new)
         (HoldsFrom kept.new.items) next.1)
         (StopsInRecord form (R.seen source.old) (R.seen source.new)) }
-    ensures bounded { length kept.old.items ≤ 263216 → length kept.new.items ≤ 263216 }
+    ensures bounded { length kept.old.items ≤ max_kept → length kept.new.items ≤ max_kept }
     ensures capacity { vec_capacity kept.old ≤ vec_capacity kept.new }
-    ensures memory { IsErrOf result FrameFault.NoMemory → vec_capacity kept.old < 263216 }
+    ensures memory { IsErrOf result FrameFault.NoMemory → vec_capacity kept.old < max_kept }
 {
     match form {
         None => read_first(source, kept),
@@ -45,9 +46,9 @@ fn read_first<R: Source>(source: &mut R, kept: &mut Vec<u8>) -> Result<(Form, Fo
         (λ next. GivesNext None next.0 (R.seen source.old) (R.seen source.new)
         (HoldsFrom kept.new.items) next.1)
         (StopsInRecord None (R.seen source.old) (R.seen source.new)) }
-    ensures bounded { length kept.old.items ≤ 263216 → length kept.new.items ≤ 263216 }
+    ensures bounded { length kept.old.items ≤ max_kept → length kept.new.items ≤ max_kept }
     ensures capacity { vec_capacity kept.old ≤ vec_capacity kept.new }
-    ensures memory { IsErrOf result FrameFault.NoMemory → vec_capacity kept.old < 263216 }
+    ensures memory { IsErrOf result FrameFault.NoMemory → vec_capacity kept.old < max_kept }
 {
     match read_length(source)? {
         None => Ok((Form::One, None)),
@@ -66,9 +67,9 @@ fn read_marked<R: Source>(source: &mut R, kept: &mut Vec<u8>) -> Result<(Form, F
         (λ next. GivesNext None next.0 start (R.seen source.new)
         (HoldsFrom kept.new.items) next.1)
         (StopsInRecord None start (R.seen source.new)) }
-    ensures bounded { length kept.old.items ≤ 263216 → length kept.new.items ≤ 263216 }
+    ensures bounded { length kept.old.items ≤ max_kept → length kept.new.items ≤ max_kept }
     ensures capacity { vec_capacity kept.old ≤ vec_capacity kept.new }
-    ensures memory { IsErrOf result FrameFault.NoMemory → vec_capacity kept.old < 263216 }
+    ensures memory { IsErrOf result FrameFault.NoMemory → vec_capacity kept.old < max_kept }
 {
     let mut half = [0u8; 4];
     read_exact(source, &mut half)?;
@@ -89,9 +90,9 @@ fn read_incoming<R: Source>(source: &mut R, kept: &mut Vec<u8>) -> Result<Found,
         (GivesNext (Some Form.One) Form.One (R.seen source.old) (R.seen source.new)
         (HoldsFrom kept.new.items))
         (StopsInRecord (Some Form.One) (R.seen source.old) (R.seen source.new)) }
-    ensures bounded { length kept.old.items ≤ 263216 → length kept.new.items ≤ 263216 }
+    ensures bounded { length kept.old.items ≤ max_kept → length kept.new.items ≤ max_kept }
     ensures capacity { vec_capacity kept.old ≤ vec_capacity kept.new }
-    ensures memory { IsErrOf result FrameFault.NoMemory → vec_capacity kept.old < 263216 }
+    ensures memory { IsErrOf result FrameFault.NoMemory → vec_capacity kept.old < max_kept }
 {
     match read_frame(source, kept)? {
         None => Ok(None),
@@ -105,9 +106,9 @@ fn read_directed<R: Source>(source: &mut R, kept: &mut Vec<u8>) -> Result<Found,
         (GivesNext (Some Form.Two) Form.Two (R.seen source.old) (R.seen source.new)
         (HoldsFrom kept.new.items))
         (StopsInRecord (Some Form.Two) (R.seen source.old) (R.seen source.new)) }
-    ensures bounded { length kept.old.items ≤ 263216 → length kept.new.items ≤ 263216 }
+    ensures bounded { length kept.old.items ≤ max_kept → length kept.new.items ≤ max_kept }
     ensures capacity { vec_capacity kept.old ≤ vec_capacity kept.new }
-    ensures memory { IsErrOf result FrameFault.NoMemory → vec_capacity kept.old < 263216 }
+    ensures memory { IsErrOf result FrameFault.NoMemory → vec_capacity kept.old < max_kept }
 {
     match read_start(source)? {
         None => Ok(None),

@@ -5,7 +5,7 @@ ghost use Rattle.std.specs.Bool.{OnTrue, OnFalse};
 ghost use Rattle.std.specs.Borrow.{sem};
 ghost use Rattle.std.specs.Io.BufRead.{Rests};
 ghost use Rattle.wire.specs.declared.form.Form.{Form as FormOf};
-ghost use Rattle.wire.specs.Meaning.{Means};
+ghost use Rattle.wire.specs.Meaning.{Means, max_kept};
 ghost use Rattle.wire.specs.RecordReading.{EndsRecord, GaveFrame, StopsInRecord};
 ghost use Rattle.wire.specs.Records.{Directed, MeansDirected, form_number};
 ghost use Rattle.wire.specs.Rows.{bytes_row};
@@ -129,8 +129,8 @@ impl<'r, R: Source> RecordReader<'r, R> {
             → (result ≡ Ok false) × (self.new ≡ self.old) }
         ensures failed_again { (why : FrameFault) → HasFailed (frames self.old) why
             → (result ≡ Err why) × (self.new ≡ self.old) }
-        ensures bounded { kept_len (frames self.old) ≤ 263216
-            → kept_len (frames self.new) ≤ 263216 }
+        ensures bounded { kept_len (frames self.old) ≤ max_kept
+            → kept_len (frames self.new) ≤ max_kept }
         ensures memory { IsOpen (frames self.old) → IsErrOf result FrameFault.NoMemory
             → ¬ HasRoom (frames self.old) }
         ensures has_room { HasRoom (frames self.old) → HasRoom (frames self.new) }

@@ -30,15 +30,6 @@ impl Message<'_> {
     }
 }
 
-// Writes bytes and then more.
-fn put<W: Sink>(out: &mut W, first: &[u8], rest: &[u8]) -> Result<(), WriteFault>
-    ensures { Wrote (W.seen out.old) (W.seen out.new) result (first.now ++ rest.now) }
-{
-    write_all(out, first)?;
-    write_all(out, rest)?;
-    Ok(())
-}
-
 /// Writes the frame of a message. It takes no memory and does not flush. After a fault a prefix of
 /// the frame went out. Condition: [`Message::is_writable`] holds of the message.
 pub fn write<W: Sink>(m: &Message<'_>, w: &mut W) -> Result<(), WriteFault>
@@ -66,4 +57,13 @@ pub fn write<W: Sink>(m: &Message<'_>, w: &mut W) -> Result<(), WriteFault>
         Message::Reject(ask) => put(w, ask_fields(Kind::Reject, ask, 0).as_slice(), &[]),
         Message::Other { .. } => unreachable!(),
     }
+}
+
+// Writes bytes and then more.
+fn put<W: Sink>(out: &mut W, first: &[u8], rest: &[u8]) -> Result<(), WriteFault>
+    ensures { Wrote (W.seen out.old) (W.seen out.new) result (first.now ++ rest.now) }
+{
+    write_all(out, first)?;
+    write_all(out, rest)?;
+    Ok(())
 }

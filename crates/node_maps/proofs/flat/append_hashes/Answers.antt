@@ -1,13 +1,13 @@
 use Rattle.std.proofs.Common.{vec_len, sym, ap, ◌∙◌, arith}
 use Rattle.std.specs.Vec.{vec_capacity}
-use Rattle.node_maps.specs.Flat.{hash_in}
+use Rattle.node_maps.specs.Flat.{hash_in_row}
 use Rattle.node_maps.proofs.Runs.{from-start, run-pushed}
 use Rattle.node_maps.proofs.flat.append_hashes.Goals as goal
 use Rattle.node_maps.proofs.flat.append_hashes.Goals.{in-Some, in_default}
 
 pub cells-preserved : goal.cells-preserved
 cells-preserved c =
-    let f = hash_in c.args.row.now in
+    let f = hash_in_row c.args.row.now in
     let i = c.cells.cell-index in
     elim c.match-cell.branch [
       | in-Some w ↦ record {

@@ -3,13 +3,13 @@ use Rattle.std.proofs.lemmas.Bool.{cases_lt}
 use Rattle.std.proofs.lemmas.Option.{none-some}
 use Rattle.std.proofs.lemmas.List.{get_or_past}
 use Rattle.node_maps.specs.Digest.{Hash}
-use Rattle.node_maps.specs.Flat.{hash_in}
+use Rattle.node_maps.specs.Flat.{hash_in_row}
 use Rattle.node_maps.specs.Runs.{AreKnown}
 use Rattle.node_maps.proofs.Runs.{known-in_part, hashes-in_part}
 use Rattle.node_maps.proofs.flat.copy_hashes.Goals as goal
 
 -- known places lie inside
-inside : (row : List (Option Hash)) (from count : ℕ) → AreKnown (hash_in row) from count → from < from + count → from + count ≤ length row
+inside : (row : List (Option Hash)) (from count : ℕ) → AreKnown (hash_in_row row) from count → from < from + count → from + count ≤ length row
 inside row from count known some = elim (cases_lt (length row) (from + count)) [
   | inr fits ↦ fits
   | inl short ↦

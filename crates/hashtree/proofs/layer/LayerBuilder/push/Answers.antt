@@ -2,7 +2,7 @@ use Rattle.std.proofs.Common.{arith, inr, Result, Ok, Err, OnErr, ap, sym, subst
 use Rattle.std.proofs.lemmas.List.{take_rest, length-drop}
 use Rattle.hashtree.specs.RootBuilder as root
 use Rattle.hashtree.specs.LayerBuilder.{IsFedLayer}
-use Rattle.hashtree.proofs.Keeping.{kept, node_takes_memory}
+use Rattle.hashtree.proofs.Keeping.{keeps_node, node_takes_memory}
 use Rattle.hashtree.proofs.Feeding.{next_part}
 use Rattle.hashtree.proofs.layer.LayerBuilder.push.Goals as goal
 
@@ -19,7 +19,7 @@ parts-preserved c =
       content = λ file fed.
           let at = c.parts.invariant.content file fed in
           subst (IsFedLayer c.keep.new.self) (next_part file bytes start taken)
-          (kept c.parts.self c.keep.new.self mid (file ++ take start bytes) _ c.take_part-taken.result.1 at
+          (keeps_node c.parts.self c.keep.new.self mid (file ++ take start bytes) _ c.take_part-taken.result.1 at
           (c.take_part-taken.ensures.content (file ++ take start bytes) at.fed)
           (c.take_part-taken.ensures.node (file ++ take start bytes) at.fed)
           c.in_ok-keep.ensures.builder c.in_ok-keep.ensures.layer c.in_ok-keep.ensures.ok);

@@ -1,7 +1,7 @@
 use Rattle.std.proofs.Common.{◌≡◌, ℕ, List, is_some, sym, ap, ◌∙◌, subst}
 use Rattle.std.specs.List.{insert}
 use Rattle.std.proofs.lemmas.Bool.{false≢true}
-use Rattle.node_maps.specs.Rising.{IsAt, IsGapFor, page_numbered}
+use Rattle.node_maps.specs.Rising.{IsNumberAt, IsGapFor, page_numbered}
 use Rattle.node_maps.specs.declared.page.Page.{Page}
 use Rattle.node_maps.proofs.Rising.{insert-found, found_some}
 use Rattle.node_maps.proofs.shelf.ShelfDirectory.add.Goals as goal
@@ -20,5 +20,5 @@ returns-in-Err-clause-ok c =
 pub returns-in_default-clause-ok : goal.returns-in_default-clause-ok
 returns-in_default-clause-ok c =
     let s = c.args.self.now in
-    let is = subst (λ xs. IsAt xs c.args.number c.in_default.field-0) (c.deref.ensures.value ∙ c.make_room.ensures.numbers) c.in_default.ensures.at in
+    let is = subst (λ xs. IsNumberAt xs c.args.number c.in_default.field-0) (c.deref.ensures.value ∙ c.make_room.ensures.numbers) c.in_default.ensures.at in
     absurd (false≢true (sym (ap is_some c.requires) ∙ found_some s.numbers.items s.pages.items c.args.number c.in_default.field-0 s.beside is))

@@ -1,7 +1,7 @@
 use Rattle.std.proofs.Common.{ℕ, List, Some, is_some, set, sym, ap, ◌∙◌, subst}
 use Rattle.std.proofs.lemmas.Bool.{false≢true}
 use Rattle.node_maps.specs.declared.page.Page.{Page}
-use Rattle.node_maps.specs.Rising.{IsAt, IsGapFor, page_numbered}
+use Rattle.node_maps.specs.Rising.{IsNumberAt, IsGapFor, page_numbered}
 use Rattle.node_maps.proofs.Rising.{stands, set-found, found_gap}
 use Rattle.node_maps.proofs.Pages.{put-is, put-changed, changed-self}
 use Rattle.node_maps.proofs.shelf.ShelfDirectory.put.Goals as goal
@@ -11,7 +11,7 @@ returns-in-Ok-clause-here c =
     let s = c.args.self.now in
     let ns : List ℕ = s.numbers.items in
     let ps : List Page = s.pages.items in
-    let is = subst (λ xs. IsAt xs c.args.number c.in-Ok.at) c.deref.ensures.value c.in-Ok.ensures.at in
+    let is = subst (λ xs. IsNumberAt xs c.args.number c.in-Ok.at) c.deref.ensures.value c.in-Ok.ensures.at in
     let p : Page = c.index_mut-page.result.now in
     let w : Page = c.put.new.self in
     put-changed c.args.place c.args.hash c.args.mark c.args.number (page_numbered ns ps) (page_numbered ns (set ps c.in-Ok.at w)) p w
@@ -24,7 +24,7 @@ returns-in-Ok-clause-others c =
     let s = c.args.self.now in
     let ns : List ℕ = s.numbers.items in
     let ps : List Page = s.pages.items in
-    let is = subst (λ xs. IsAt xs c.args.number c.in-Ok.at) c.deref.ensures.value c.in-Ok.ensures.at in
+    let is = subst (λ xs. IsNumberAt xs c.args.number c.in-Ok.at) c.deref.ensures.value c.in-Ok.ensures.at in
     let w : Page = c.put.new.self in
     changed-self c.args.number (Some w) (page_numbered ns ps) (page_numbered ns (set ps c.in-Ok.at w)) (set-found ns ps s.rising s.beside c.args.number c.in-Ok.at is w)
 

@@ -1,7 +1,7 @@
 use Rattle.std.proofs.Common.{◌≡◌, ℕ, ◌/◌, ◌^◌, Some, length, sym, ap, ◌∙◌, subst}
 use Rattle.std.specs.List.{insert}
 use Rattle.std.proofs.lemmas.Result.{on_ok_weaker, on_err_weaker}
-use Rattle.node_maps.specs.Rising.{AreRising, IsAt, IsGapFor}
+use Rattle.node_maps.specs.Rising.{AreRising, IsNumberAt, IsGapFor}
 use Rattle.node_maps.specs.Pages.{find_under}
 use Rattle.node_maps.proofs.Rising.{rising-insert, insert-beside}
 use Rattle.node_maps.proofs.Pages.{under_there, under-set, under-alike, under-insert}
@@ -10,7 +10,7 @@ use Rattle.node_maps.proofs.shelves.ShelvesDirectory.add.Goals as goal
 pub add-requires : goal.add-requires
 add-requires g c =
     let s = c.args.self.now in
-    let is = subst (λ ns. IsAt ns (c.args.number / 2 ^ s.shift) c.in-Ok.at) c.deref.ensures.value c.in-Ok.ensures.at in
+    let is = subst (λ ns. IsNumberAt ns (c.args.number / 2 ^ s.shift) c.in-Ok.at) c.deref.ensures.value c.in-Ok.ensures.at in
     sym (under_there g.D.Directory.find s.numbers.items s.shelves.items s.rising s.beside s.shift c.args.number c.in-Ok.at is c.index_mut-shelf.result.now c.index_mut-shelf.ensures.value) ∙ c.requires
 
 pub invariant_of-self-in-Err : goal.invariant_of-self-in-Err
@@ -29,14 +29,14 @@ invariant_of-self-in-Err g c =
 pub returns-in-Ok-clause-ok : goal.returns-in-Ok-clause-ok
 returns-in-Ok-clause-ok g c =
     let s = c.args.self.now in
-    let is = subst (λ ns. IsAt ns (c.args.number / 2 ^ s.shift) c.in-Ok.at) c.deref.ensures.value c.in-Ok.ensures.at in
+    let is = subst (λ ns. IsNumberAt ns (c.args.number / 2 ^ s.shift) c.in-Ok.at) c.deref.ensures.value c.in-Ok.ensures.at in
     on_ok_weaker c.add.result (λ changed. under-set g.D.Directory.find s.numbers.items s.shelves.items s.rising s.beside s.shift c.args.number c.in-Ok.at is
     c.index_mut-shelf.result.now c.add.new.self c.index_mut-shelf.ensures.value (Some c.args.page) changed) c.add.ensures.ok
 
 pub returns-in-Ok-clause-err : goal.returns-in-Ok-clause-err
 returns-in-Ok-clause-err g c =
     let s = c.args.self.now in
-    let is = subst (λ ns. IsAt ns (c.args.number / 2 ^ s.shift) c.in-Ok.at) c.deref.ensures.value c.in-Ok.ensures.at in
+    let is = subst (λ ns. IsNumberAt ns (c.args.number / 2 ^ s.shift) c.in-Ok.at) c.deref.ensures.value c.in-Ok.ensures.at in
     on_err_weaker c.add.result (λ alike. under-alike g.D.Directory.find s.numbers.items s.shelves.items s.rising s.beside s.shift c.args.number c.in-Ok.at is
     c.index_mut-shelf.result.now c.add.new.self c.index_mut-shelf.ensures.value alike) c.add.ensures.err
 

@@ -1,6 +1,6 @@
 use Rattle.std.proofs.Common.{ℕ, ◌/◌, ◌^◌, IsSome, is_some, set, sym, ap, ◌∙◌, subst}
 use Rattle.std.proofs.lemmas.Bool.{false≢true}
-use Rattle.node_maps.specs.Rising.{IsAt, IsGapFor}
+use Rattle.node_maps.specs.Rising.{IsNumberAt, IsGapFor}
 use Rattle.node_maps.specs.Pages.{find_under, IsPut}
 use Rattle.node_maps.proofs.Pages.{under_there, under_gap, under-set, changed-self, changed_here}
 use Rattle.node_maps.proofs.shelves.ShelvesDirectory.put.Goals as goal
@@ -8,14 +8,14 @@ use Rattle.node_maps.proofs.shelves.ShelvesDirectory.put.Goals as goal
 pub put-requires-clause-there : goal.put-requires-clause-there
 put-requires-clause-there g c =
     let s = c.args.self.now in
-    let is = subst (λ ns. IsAt ns (c.args.number / 2 ^ s.shift) c.in-Ok.at) c.deref.ensures.value c.in-Ok.ensures.at in
+    let is = subst (λ ns. IsNumberAt ns (c.args.number / 2 ^ s.shift) c.in-Ok.at) c.deref.ensures.value c.in-Ok.ensures.at in
     subst IsSome (under_there g.D.Directory.find s.numbers.items s.shelves.items s.rising s.beside s.shift c.args.number c.in-Ok.at is c.index_mut-shelf.result.now c.index_mut-shelf.ensures.value) c.requires.there
 
 pub returns-in-Ok-clause-here : goal.returns-in-Ok-clause-here
 returns-in-Ok-clause-here g c =
     let s = c.args.self.now in
     let find = g.D.Directory.find in
-    let is = subst (λ ns. IsAt ns (c.args.number / 2 ^ s.shift) c.in-Ok.at) c.deref.ensures.value c.in-Ok.ensures.at in
+    let is = subst (λ ns. IsNumberAt ns (c.args.number / 2 ^ s.shift) c.in-Ok.at) c.deref.ensures.value c.in-Ok.ensures.at in
     let d = c.index_mut-shelf.result.now in
     let w = c.put.new.self in
     let q : ℕ = c.args.number in
@@ -30,7 +30,7 @@ pub returns-in-Ok-clause-others : goal.returns-in-Ok-clause-others
 returns-in-Ok-clause-others g c =
     let s = c.args.self.now in
     let find = g.D.Directory.find in
-    let is = subst (λ ns. IsAt ns (c.args.number / 2 ^ s.shift) c.in-Ok.at) c.deref.ensures.value c.in-Ok.ensures.at in
+    let is = subst (λ ns. IsNumberAt ns (c.args.number / 2 ^ s.shift) c.in-Ok.at) c.deref.ensures.value c.in-Ok.ensures.at in
     let w = c.put.new.self in
     changed-self c.args.number (find w c.args.number) (find_under find s.numbers.items s.shelves.items s.shift) (find_under find s.numbers.items (set s.shelves.items c.in-Ok.at w) s.shift)
     (under-set find s.numbers.items s.shelves.items s.rising s.beside s.shift c.args.number c.in-Ok.at is c.index_mut-shelf.result.now w c.index_mut-shelf.ensures.value (find w c.args.number) c.put.ensures.others)

@@ -1,6 +1,6 @@
 use Rattle.std.proofs.Common.{◌≡◌, ℕ, ◌/◌, ◌^◌, None, length, set, sym, ap, ◌∙◌, subst}
 use Rattle.std.specs.List.{remove}
-use Rattle.node_maps.specs.Rising.{AreRising, IsAt, IsGapFor}
+use Rattle.node_maps.specs.Rising.{AreRising, IsNumberAt, IsGapFor}
 use Rattle.node_maps.specs.Pages.{find_under}
 use Rattle.node_maps.proofs.Rising.{rising-remove, remove-beside, set-beside}
 use Rattle.node_maps.proofs.Pages.{under_gap, under-set, under-emptied, absent-changed, on_true}
@@ -10,7 +10,7 @@ pub invariant_of-self : goal.invariant_of-self
 invariant_of-self g c =
     let s = c.args.self.now in
     let key : ℕ = c.args.number / 2 ^ s.shift in
-    let is = subst (λ ns. IsAt ns key c.in-Ok.at) c.deref.ensures.value c.in-Ok.ensures.at in
+    let is = subst (λ ns. IsNumberAt ns key c.in-Ok.at) c.deref.ensures.value c.in-Ok.ensures.at in
     let ds = set s.shelves.items c.in-Ok.at c.remove.new.self in
     let numbers : c.remove-then-is_empty.new.self.items ≡ remove s.numbers.items c.in-Ok.at = c.remove-then-is_empty.ensures.items in
     let shelves : c.remove-then-is_empty-2.new.self.items ≡ remove ds c.in-Ok.at = c.remove-then-is_empty-2.ensures.items in
@@ -26,7 +26,7 @@ pub returns-then-is_empty : goal.returns-then-is_empty
 returns-then-is_empty g c =
     let s = c.args.self.now in
     let find = g.D.Directory.find in
-    let is = subst (λ ns. IsAt ns (c.args.number / 2 ^ s.shift) c.in-Ok.at) c.deref.ensures.value c.in-Ok.ensures.at in
+    let is = subst (λ ns. IsNumberAt ns (c.args.number / 2 ^ s.shift) c.in-Ok.at) c.deref.ensures.value c.in-Ok.ensures.at in
     let w = c.remove.new.self in
     let none = on_true c.is_empty.result ((n : ℕ) → find w n ≡ None) c.is_empty.ensures c.if-is_empty.true in
     λ n. ap (λ xs. find_under find xs c.remove-then-is_empty-2.new.self.items s.shift n) c.remove-then-is_empty.ensures.items
@@ -36,7 +36,7 @@ returns-then-is_empty g c =
 pub returns-else-is_empty : goal.returns-else-is_empty
 returns-else-is_empty g c =
     let s = c.args.self.now in
-    let is = subst (λ ns. IsAt ns (c.args.number / 2 ^ s.shift) c.in-Ok.at) c.deref.ensures.value c.in-Ok.ensures.at in
+    let is = subst (λ ns. IsNumberAt ns (c.args.number / 2 ^ s.shift) c.in-Ok.at) c.deref.ensures.value c.in-Ok.ensures.at in
     under-set g.D.Directory.find s.numbers.items s.shelves.items s.rising s.beside s.shift c.args.number c.in-Ok.at is c.index_mut-shelf.result.now c.remove.new.self c.index_mut-shelf.ensures.value None c.remove.ensures
 
 pub returns-in_default : goal.returns-in_default
