@@ -4,9 +4,9 @@ use Rattle.std.specs.List.{list_any}
 use Rattle.std.specs.Prelude.{codes, nat_lt, nat_le, ◌==◌, is_none, unwrap_or}
 use Rattle.std.specs.Str.{IsUtf8, bytes_eq}
 use Rattle.benc.specs.Value.{Bencode, int, text, list, Pairs, no_pairs, pair}
-use Rattle.drafts.proofs.Building.{AreFiles}
+use Rattle.drafts.proofs.Building.{AreOutlineFiles}
 use Rattle.drafts.specs.Outline.{Outline, OutlineFile, IsOutline, IsOutlineFile, listed_file}
-use Rattle.drafts.specs.Written.{file_tree_of, file_value, walk_of, list_pair, last_pairs, pieces_pair, is_single, info_value, value_of, entries_value, first_length}
+use Rattle.drafts.specs.Written.{file_tree_of, file_value, walk_to_file, list_pair, last_pairs, pieces_pair, is_single, info_value, value_of, entries_value, first_length}
 use Rattle.filetree.proofs.Bytes.{true_or_false}
 use Rattle.filetree.specs.Dictionary.{get, under, as_int}
 use Rattle.filetree.specs.FileTree.{Walk, is_symlink, length_at, length_of, lacks_root, root_at, stated_root, listed, is_directory, HasBadPath}
@@ -110,20 +110,20 @@ root_same f long =
     root_is_in : (f : OutlineFile) → nat_lt 0 f.length ≡ true → length f.root ≡ 32 → (if nat_lt 0 f.length then root_at (file_value f) else None) ≡ Some f.root
     root_is_in f some long = ap (λ b. if b then root_at (file_value f) else None) some ∙ root_is f some long
 
-pub listed_is : (p : ℕ) (f : OutlineFile) → IsOutlineFile p f → listed (walk_of f) ≡ listed_file f
+pub listed_is : (p : ℕ) (f : OutlineFile) → IsOutlineFile p f → listed (walk_to_file f) ≡ listed_file f
 listed_is p f o =
     ap (λ n. record { path = f.path; length = n; root = stated_root n (file_value f) }) (size_is f o.bound)
     ∙ ap (λ (r : Option (List ℕ)). record { path = f.path; length = f.length; root = r }) (root_same f o.root_length)
 
-pub all_listed : (p : ℕ) (fs : List OutlineFile) → AreFiles p fs → map listed (map walk_of fs) ≡ map listed_file fs
+pub all_listed : (p : ℕ) (fs : List OutlineFile) → AreOutlineFiles p fs → map listed (map walk_to_file fs) ≡ map listed_file fs
 all_listed p [] files = refl
 all_listed p (f ∷ fs) files =
-    ap (λ (x : ListedFile). x ∷ map listed (map walk_of fs)) (listed_is p f (files 0 f refl)) ∙ ap (λ xs. listed_file f ∷ xs) (all_listed p fs (λ n g e. files (suc n) g e))
+    ap (λ (x : ListedFile). x ∷ map listed (map walk_to_file fs)) (listed_is p f (files 0 f refl)) ∙ ap (λ xs. listed_file f ∷ xs) (all_listed p fs (λ n g e. files (suc n) g e))
 
-no_any : (p : ℕ) (test : Walk → Bool) (fs : List OutlineFile) → AreFiles p fs → ((f : OutlineFile) → IsOutlineFile p f → test (walk_of f) ≡ false) → list_any test (map walk_of fs) ≡ true → ⊥
+no_any : (p : ℕ) (test : Walk → Bool) (fs : List OutlineFile) → AreOutlineFiles p fs → ((f : OutlineFile) → IsOutlineFile p f → test (walk_to_file f) ≡ false) → list_any test (map walk_to_file fs) ≡ true → ⊥
 no_any p test [] files none any = cc
 no_any p test (f ∷ fs) files none any =
-    let first : test (walk_of f) ≡ false = none f (files 0 f refl) in
+    let first : test (walk_to_file f) ≡ false = none f (files 0 f refl) in
     no_any p test fs (λ n g e. files (suc n) g e) none (rw first at any)
 
 no_size : (p : ℕ) (f : OutlineFile) → IsOutlineFile p f → is_none (length_at (file_value f)) ≡ false
@@ -136,7 +136,7 @@ no_root p f o = ap (λ n. nat_lt 0 n && is_none (root_at (file_value f))) (size_
       | inr none ↦ rw none refl
     ]
 
-pub file_none : (p : ℕ) (fs : List OutlineFile) → AreFiles p fs → NoneHolds (file_rows (map walk_of fs))
+pub file_none : (p : ℕ) (fs : List OutlineFile) → AreOutlineFiles p fs → NoneHolds (file_rows (map walk_to_file fs))
 file_none p fs files = (
   no_any p (λ w. is_symlink w.file) fs files (λ f o. no_link f),
   (no_any p (λ w. is_none (length_at w.file)) fs files (λ f o. no_size p f o), (no_any p (λ w. lacks_root w.file) fs files (λ f o. no_root p f o), tt)),

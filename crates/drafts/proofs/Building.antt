@@ -11,7 +11,7 @@ use Rattle.std.specs.declared.cmp.Ordering.TheVariants.{Less, Equal, Greater}
 use Rattle.benc.specs.Value.{Bencode, int, text, list, dict, Items, no_items, item, Pairs, no_pairs, pair}
 use Rattle.benc.specs.Spelling.{IsAbove}
 use Rattle.drafts.specs.Outline.{IsOutlineFile, OutlineFile}
-use Rattle.drafts.specs.Written.{with_first, tree_of, file_value, walk_of, file_tree_of}
+use Rattle.drafts.specs.Written.{with_first, tree_of_walks, file_value, walk_to_file, file_tree_of}
 use Rattle.filetree.proofs.Bytes.{true_or_false, same_bytes, equal_bytes}
 use Rattle.filetree.proofs.Paths.{cmp_equal, not_same, paths_of}
 use Rattle.filetree.specs.Dictionary.{pairs_in}
@@ -58,9 +58,9 @@ first_walk (k ∷ ks) v (pair l w ps) good =
           rw (differs, some) (ap (λ us. map (below k) us ++ walks (pair l w ps)) (first_walk ks v no_pairs good.1))
     ]
 
-pub tree_walks : (ws : List Walk) → ((n : ℕ) (w : Walk) → slice_get ws n ≡ Some w → AreComponents w.path) → walks (tree_of ws) ≡ ws
+pub tree_walks : (ws : List Walk) → ((n : ℕ) (w : Walk) → slice_get ws n ≡ Some w → AreComponents w.path) → walks (tree_of_walks ws) ≡ ws
 tree_walks [] good = refl
-tree_walks (w ∷ ws) good = first_walk w.path w.file (tree_of ws) (good 0 w refl) ∙ ap (λ us. w ∷ us) (tree_walks ws (λ n u e. good (suc n) u e))
+tree_walks (w ∷ ws) good = first_walk w.path w.file (tree_of_walks ws) (good 0 w refl) ∙ ap (λ us. w ∷ us) (tree_walks ws (λ n u e. good (suc n) u e))
 
 -- ---- values but for the lengths of byte strings
 
@@ -211,10 +211,10 @@ put_built : (room : ℕ) (p : List (List ℕ)) (v : Bencode) (ps : Pairs) → Is
 put_built room [] v ps path large file built first = absurd (path.some refl)
 put_built room (k ∷ ks) v ps path large file built first = let short = path.short in first_built room None k ks v ps (are_components (k ∷ ks) path.components) (omega arith) file tt built first
 
-first_before : (w : Walk) (ws : List Walk) → AreInOrder (paths_of (w ∷ ws)) → ComesBefore w.path (tree_of ws)
+first_before : (w : Walk) (ws : List Walk) → AreInOrder (paths_of (w ∷ ws)) → ComesBefore w.path (tree_of_walks ws)
 unfolding IsStrictlySortedBy
 first_before w [] a = tt
-first_before w (x ∷ ws) a = comes_before w.path x.path x.file (tree_of ws) a.0.0
+first_before w (x ∷ ws) a = comes_before w.path x.path x.file (tree_of_walks ws) a.0.0
 
 rest_in_order : (w : Walk) (ws : List Walk) → AreInOrder (paths_of (w ∷ ws)) → AreInOrder (paths_of ws)
 unfolding IsStrictlySortedBy
@@ -224,11 +224,11 @@ rest_in_order w ws a = a.1
 abbrev pub AreFileWalks : List Walk → Type 0
 AreFileWalks ws = (n : ℕ) (w : Walk) → slice_get ws n ≡ Some w → IsFilePath w.path × IsFileValue w.file
 
-pub tree_built : (room : ℕ) (ws : List Walk) → AreInOrder (paths_of ws) → AreFileWalks ws → 124 < room → IsBuilt room None (tree_of ws)
+pub tree_built : (room : ℕ) (ws : List Walk) → AreInOrder (paths_of ws) → AreFileWalks ws → 124 < room → IsBuilt room None (tree_of_walks ws)
 tree_built room [] order files large = tt
 tree_built room (w ∷ ws) order files large =
     let this = files 0 w refl in
-    put_built room w.path w.file (tree_of ws) this.0 large this.1 (tree_built room ws (rest_in_order w ws order) (λ n u e. files (suc n) u e) large) (first_before w ws order)
+    put_built room w.path w.file (tree_of_walks ws) this.0 large this.1 (tree_built room ws (rest_in_order w ws order) (λ n u e. files (suc n) u e) large) (first_before w ws order)
 
 and_true : (a b : Bool) → a ≡ true → b ≡ true → a && b ≡ true
 and_true true b e f = f
@@ -318,32 +318,32 @@ file_value_is f bound = record {
 }
 
 -- each file of a list is one that a draft may hold
-abbrev pub AreFiles : ℕ → List OutlineFile → Type 0
-AreFiles p fs = (n : ℕ) (f : OutlineFile) → slice_get fs n ≡ Some f → IsOutlineFile p f
+abbrev pub AreOutlineFiles : ℕ → List OutlineFile → Type 0
+AreOutlineFiles p fs = (n : ℕ) (f : OutlineFile) → slice_get fs n ≡ Some f → IsOutlineFile p f
 
-pub walks_are : (p : ℕ) (fs : List OutlineFile) → AreFiles p fs → AreFileWalks (map walk_of fs)
+pub walks_are : (p : ℕ) (fs : List OutlineFile) → AreOutlineFiles p fs → AreFileWalks (map walk_to_file fs)
 walks_are p [] files n w e = cc
 walks_are p (f ∷ fs) files zero w e =
-    let same : walk_of f ≡ w = cc in
+    let same : walk_to_file f ≡ w = cc in
     let this = files 0 f refl in
     subst (λ (x : Walk). IsFilePath x.path × IsFileValue x.file) same (this.path, file_value_is f this.bound)
 walks_are p (f ∷ fs) files (suc n) w e = walks_are p fs (λ k g at. files (suc k) g at) n w e
 
-pub walk_paths : (fs : List OutlineFile) → paths_of (map walk_of fs) ≡ map (λ (f : OutlineFile). f.path) fs
+pub walk_paths : (fs : List OutlineFile) → paths_of (map walk_to_file fs) ≡ map (λ (f : OutlineFile). f.path) fs
 walk_paths [] = refl
 walk_paths (f ∷ fs) = ap (λ ps. f.path ∷ ps) (walk_paths fs)
 
-pub walks_in_order : (fs : List OutlineFile) → AreInOrder (map (λ (f : OutlineFile). f.path) fs) → AreInOrder (paths_of (map walk_of fs))
+pub walks_in_order : (fs : List OutlineFile) → AreInOrder (map (λ (f : OutlineFile). f.path) fs) → AreInOrder (paths_of (map walk_to_file fs))
 walks_in_order fs order = subst AreInOrder (sym (walk_paths fs)) order
 
-pub file_tree_built : (p room : ℕ) (fs : List OutlineFile) → AreInOrder (map (λ (f : OutlineFile). f.path) fs) → AreFiles p fs → 124 < room → IsBuilt room None (file_tree_of fs)
-file_tree_built p room fs order files large = tree_built room (map walk_of fs) (walks_in_order fs order) (walks_are p fs files) large
+pub file_tree_built : (p room : ℕ) (fs : List OutlineFile) → AreInOrder (map (λ (f : OutlineFile). f.path) fs) → AreOutlineFiles p fs → 124 < room → IsBuilt room None (file_tree_of fs)
+file_tree_built p room fs order files large = tree_built room (map walk_to_file fs) (walks_in_order fs order) (walks_are p fs files) large
 
-pub file_tree_walks : (p : ℕ) (fs : List OutlineFile) → AreFiles p fs → walks (file_tree_of fs) ≡ map walk_of fs
-file_tree_walks p fs files = tree_walks (map walk_of fs) (λ n w e. are_components w.path (walks_are p fs files n w e).0.components)
+pub file_tree_walks : (p : ℕ) (fs : List OutlineFile) → AreOutlineFiles p fs → walks (file_tree_of fs) ≡ map walk_to_file fs
+file_tree_walks p fs files = tree_walks (map walk_to_file fs) (λ n w e. are_components w.path (walks_are p fs files n w e).0.components)
 
-pub built_tree_has_walks : (p : ℕ) (fs : List OutlineFile) → AreInOrder (map (λ (f : OutlineFile). f.path) fs) → AreFiles p fs
-    → (walks (file_tree_of fs) ≡ map walk_of fs) × (is_directory (file_tree_of fs) ≡ true) × (HasBadPath (file_tree_of fs) → ⊥)
+pub built_tree_has_walks : (p : ℕ) (fs : List OutlineFile) → AreInOrder (map (λ (f : OutlineFile). f.path) fs) → AreOutlineFiles p fs
+    → (walks (file_tree_of fs) ≡ map walk_to_file fs) × (is_directory (file_tree_of fs) ≡ true) × (HasBadPath (file_tree_of fs) → ⊥)
 built_tree_has_walks p fs order files =
     let built = file_tree_built p 125 fs order files (omega arith) in
     (file_tree_walks p fs files, built_directory 125 None (file_tree_of fs) built, built_good 125 None (file_tree_of fs) built)

@@ -1,7 +1,6 @@
 -- Where the last file that is not empty stands.
 use Rattle.std.proofs.Common.{◌≡◌, ℕ, ◌+◌, ◌<◌, ◌≤◌, Bool, true, false, ◌||◌, ◌&&◌, if◌then◌else◌, List, [], ◌∷◌, ◌++◌, append_assoc, length, zero, suc, map, get_or, Some, slice_get, drop, inl, inr, refl, sym, ap, ◌∙◌, arith}
 use Rattle.std.proofs.lemmas.Bool.{cases_lt}
-use Rattle.std.proofs.Math.ListN.{drop_of_length-le}
 use Rattle.std.specs.Prelude.{nat_lt}
 use Rattle.drafts.specs.DraftSeen.{outline_file}
 use Rattle.drafts.specs.Outline.{OutlineFile}
@@ -14,18 +13,12 @@ use Rattle.benc.specs.Value.{Items, item, no_items}
 use Rattle.drafts.specs.Written.{digests_in, digests_of, entries_value, entry_value, filled_cuts, gap, has_content, pad_value}
 
 -- of the first i files, those from here on are empty, and one before is not
-pub record EndsAt (fs : List OutlineFile) (i end : ℕ) : Type 0 where
+pub record IsContentEnd (fs : List OutlineFile) (i end : ℕ) : Type 0 where
   pub before : (k : ℕ) → k < end → has_content (drop k fs) ≡ true
   pub behind : (k : ℕ) → end ≤ k → k ≤ i → has_content (drop k fs) ≡ has_content (drop i fs)
 
-pub ends_first : (fs : List OutlineFile) → EndsAt fs 0 0
-ends_first fs = record {
-  before = λ k less. absurd (omega arith);
-  behind = λ k low high. let none : k ≡ 0 = omega arith in ap (λ n. has_content (drop n fs)) none;
-}
-
 -- a file that is not empty
-pub ends_here : (fs : List OutlineFile) (i end : ℕ) (f : OutlineFile) → EndsAt fs i end → drop i fs ≡ f ∷ drop (i + 1) fs → nat_lt 0 f.length ≡ true → EndsAt fs (i + 1) (i + 1)
+pub ends_here : (fs : List OutlineFile) (i end : ℕ) (f : OutlineFile) → IsContentEnd fs i end → drop i fs ≡ f ∷ drop (i + 1) fs → nat_lt 0 f.length ≡ true → IsContentEnd fs (i + 1) (i + 1)
 ends_here fs i end f so at some =
     let here : has_content (drop i fs) ≡ true = ap has_content at ∙ ap (λ b. b || has_content (drop (i + 1) fs)) some in
     record {
@@ -37,7 +30,7 @@ ends_here fs i end f so at some =
     }
 
 -- an empty file
-pub ends_before : (fs : List OutlineFile) (i end : ℕ) (f : OutlineFile) → EndsAt fs i end → drop i fs ≡ f ∷ drop (i + 1) fs → nat_lt 0 f.length ≡ false → EndsAt fs (i + 1) end
+pub ends_before : (fs : List OutlineFile) (i end : ℕ) (f : OutlineFile) → IsContentEnd fs i end → drop i fs ≡ f ∷ drop (i + 1) fs → nat_lt 0 f.length ≡ false → IsContentEnd fs (i + 1) end
 ends_before fs i end f so at none =
     let here : has_content (drop i fs) ≡ has_content (drop (i + 1) fs) = ap has_content at ∙ ap (λ b. b || has_content (drop (i + 1) fs)) none in
     record {
@@ -47,18 +40,6 @@ ends_before fs i end f so at none =
         | inr within ↦ so.behind k low within ∙ here
       ];
     }
-
-pub ends_all : (fs : List OutlineFile) (i end : ℕ) → EndsAt fs i end → length fs ≤ i → (k : ℕ) → has_content (drop k fs) ≡ nat_lt k end
-ends_all fs i end so all k =
-    elim (cases_lt k end) [
-      | inl front ↦ let yes : nat_lt k end ≡ true = grind arith in so.before k front ∙ sym yes
-      | inr later ↦
-          let no : nat_lt k end ≡ false = grind arith in
-          elim (cases_lt i k) [
-            | inl past ↦ ap has_content (drop_of_length-le fs (omega arith)) ∙ sym no
-            | inr within ↦ so.behind k later within ∙ ap has_content (drop_of_length-le fs all) ∙ sym no
-          ]
-    ]
 
 -- ---- what is put of one file after the other
 

@@ -11,7 +11,7 @@ use Rattle.std.specs.declared.cmp.Ordering.TheVariants.{Less}
 use Rattle.benc.specs.Value.{text}
 use Rattle.drafts.proofs.Accepted.{listed_at, rooted_file}
 use Rattle.drafts.specs.Outline.{AreOfLength, IsOutline, Outline, OutlineLayer, listed_file}
-use Rattle.drafts.specs.Written.{drafted_tree, hashes_under, layer_pairs}
+use Rattle.drafts.specs.Written.{drafted_tree, hashes_under, pairs_of_layers}
 use Rattle.filetree.proofs.Bytes.{true_or_false, equal_bytes}
 use Rattle.filetree.proofs.Paths.{not_same}
 use Rattle.filetree.specs.Dictionary.{under}
@@ -66,7 +66,7 @@ later_above k (x ∷ es) zero e above at = let same : x ≡ e = cc in not_same k
 later_above k (x ∷ es) (suc n) e above at = later_above k es n e above.1 at
 
 under_layer : (es : List OutlineLayer) (n : ℕ) (e : OutlineLayer) → IsStrictlySortedBy (slice_cmp nat_cmp) (roots_of es) → slice_get es n ≡ Some e
-    → (under e.root (layer_pairs es) ≡ Some (text (concat e.hashes))) × (hashes_under e.root es ≡ e.hashes)
+    → (under e.root (pairs_of_layers es) ≡ Some (text (concat e.hashes))) × (hashes_under e.root es ≡ e.hashes)
 unfolding IsStrictlySortedBy
 under_layer [] n e order at = cc
 under_layer (x ∷ es) zero e order at =
@@ -113,8 +113,8 @@ root_used fs n t at = elim (used_from [] fs n t at) [ inl none ↦ absurd (let b
 
 record IsFound (d : Outline) (t : Root) : Type 0 where
   hashes : List (List ℕ)
-  under_root : under t.root (layer_pairs d.layers) ≡ Some (text (concat hashes))
-  digests : layer_at d.piece_length (layer_pairs d.layers) t ≡ Some hashes
+  under_root : under t.root (pairs_of_layers d.layers) ≡ Some (text (concat hashes))
+  digests : layer_at d.piece_length (pairs_of_layers d.layers) t ≡ Some hashes
   leads : leads_to d.piece_length t hashes ≡ t.root
   kept : hashes_under t.root d.layers ≡ hashes
 
@@ -128,7 +128,7 @@ found d o n t at long =
     let has = o.layers_there used.there.0 file.0 file.1 (omega (arith, more, size)) in
     let key : has.layer.root ≡ t.root = has.is.root ∙ root.1 in
     let both = under_layer d.layers has.number has.layer o.layers_ascend has.there in
-    let below : under t.root (layer_pairs d.layers) ≡ Some (text (concat has.layer.hashes)) = subst (λ k. under k (layer_pairs d.layers) ≡ Some (text (concat has.layer.hashes))) key both.0 in
+    let below : under t.root (pairs_of_layers d.layers) ≡ Some (text (concat has.layer.hashes)) = subst (λ k. under k (pairs_of_layers d.layers) ≡ Some (text (concat has.layer.hashes))) key both.0 in
     record {
       hashes = has.layer.hashes;
       under_root = below;
@@ -144,49 +144,49 @@ no_any_root : (test : Root → Bool) (ts : List Root) → ((n : ℕ) (t : Root) 
 no_any_root test [] none any = cc
 no_any_root test (t ∷ ts) none any = let first : test t ≡ false = none 0 t refl in no_any_root test ts (λ n u e. none (suc n) u e) (rw first at any)
 
-has_layer : (d : Outline) → IsOutline d → (n : ℕ) (t : Root) → slice_get (roots_in (map listed_file d.files)) n ≡ Some t → lacks_layer d.piece_length (layer_pairs d.layers) t ≡ false
+has_layer : (d : Outline) → IsOutline d → (n : ℕ) (t : Root) → slice_get (roots_in (map listed_file d.files)) n ≡ Some t → lacks_layer d.piece_length (pairs_of_layers d.layers) t ≡ false
 has_layer d o n t at =
     elim (true_or_false (nat_lt d.piece_length t.length)) [
       | inl long ↦ rw (long, (found d o n t at long).under_root) refl
       | inr short ↦ rw short refl
     ]
 
-has_size : (d : Outline) → IsOutline d → (n : ℕ) (t : Root) → slice_get (roots_in (map listed_file d.files)) n ≡ Some t → lacks_size d.piece_length (layer_pairs d.layers) t ≡ false
+has_size : (d : Outline) → IsOutline d → (n : ℕ) (t : Root) → slice_get (roots_in (map listed_file d.files)) n ≡ Some t → lacks_size d.piece_length (pairs_of_layers d.layers) t ≡ false
 has_size d o n t at =
     elim (true_or_false (nat_lt d.piece_length t.length)) [
       | inl long ↦ rw (long, (found d o n t at long).digests) refl
       | inr short ↦ rw short refl
     ]
 
-matches : (d : Outline) → IsOutline d → (n : ℕ) (t : Root) → slice_get (roots_in (map listed_file d.files)) n ≡ Some t → mismatches d.piece_length (layer_pairs d.layers) t ≡ false
+matches : (d : Outline) → IsOutline d → (n : ℕ) (t : Root) → slice_get (roots_in (map listed_file d.files)) n ≡ Some t → mismatches d.piece_length (pairs_of_layers d.layers) t ≡ false
 matches d o n t at =
     elim (true_or_false (nat_lt d.piece_length t.length)) [
       | inl long ↦ let f = found d o n t at long in rw (long, f.digests) (ap not (equal_bytes (leads_to d.piece_length t f.hashes) t.root f.leads))
       | inr short ↦ rw short refl
     ]
 
-pub layer_none : (d : Outline) → IsOutline d → NoneHolds (layer_rows d.piece_length (layer_pairs d.layers) (roots_in (map listed_file d.files)))
+pub layer_none : (d : Outline) → IsOutline d → NoneHolds (layer_rows d.piece_length (pairs_of_layers d.layers) (roots_in (map listed_file d.files)))
 layer_none d o = (
-  no_any_root (lacks_layer d.piece_length (layer_pairs d.layers)) (roots_in (map listed_file d.files)) (has_layer d o),
+  no_any_root (lacks_layer d.piece_length (pairs_of_layers d.layers)) (roots_in (map listed_file d.files)) (has_layer d o),
   (
-    no_any_root (lacks_size d.piece_length (layer_pairs d.layers)) (roots_in (map listed_file d.files)) (has_size d o),
-    (no_any_root (mismatches d.piece_length (layer_pairs d.layers)) (roots_in (map listed_file d.files)) (matches d o), tt),
+    no_any_root (lacks_size d.piece_length (pairs_of_layers d.layers)) (roots_in (map listed_file d.files)) (has_size d o),
+    (no_any_root (mismatches d.piece_length (pairs_of_layers d.layers)) (roots_in (map listed_file d.files)) (matches d o), tt),
   ),
 )
 
 -- ---- the trees
 
-tree_is : (d : Outline) → IsOutline d → (n : ℕ) (t : Root) → slice_get (roots_in (map listed_file d.files)) n ≡ Some t → drafted_tree d t ≡ tree_at d.piece_length (layer_pairs d.layers) t
+tree_is : (d : Outline) → IsOutline d → (n : ℕ) (t : Root) → slice_get (roots_in (map listed_file d.files)) n ≡ Some t → drafted_tree d t ≡ tree_at d.piece_length (pairs_of_layers d.layers) t
 tree_is d o n t at =
     elim (true_or_false (nat_lt d.piece_length t.length)) [
       | inl long ↦
           let f = found d o n t at long in
           let mine : (drafted_tree d t).layer ≡ f.hashes = rw long f.kept in
-          let told : (tree_at d.piece_length (layer_pairs d.layers) t).layer ≡ f.hashes = rw (long, f.digests) refl in
+          let told : (tree_at d.piece_length (pairs_of_layers d.layers) t).layer ≡ f.hashes = rw (long, f.digests) refl in
           ap (λ (l : List (List ℕ)). record { root = t.root; length = t.length; layer = l }) (mine ∙ sym told)
       | inr short ↦
           let mine : (drafted_tree d t).layer ≡ [] = rw short refl in
-          let told : (tree_at d.piece_length (layer_pairs d.layers) t).layer ≡ [] = rw short refl in
+          let told : (tree_at d.piece_length (pairs_of_layers d.layers) t).layer ≡ [] = rw short refl in
           ap (λ (l : List (List ℕ)). record { root = t.root; length = t.length; layer = l }) (mine ∙ sym told)
     ]
 
@@ -194,5 +194,5 @@ same_map : {A B : Type 0} (f g : A → B) (xs : List A) → ((n : ℕ) (x : A) �
 same_map f g [] each = refl
 same_map f g (x ∷ xs) each = ap (λ y. y ∷ map f xs) (each 0 x refl) ∙ ap (λ ys. g x ∷ ys) (same_map f g xs (λ n y e. each (suc n) y e))
 
-pub trees_are : (d : Outline) → IsOutline d → map (drafted_tree d) (roots_in (map listed_file d.files)) ≡ map (tree_at d.piece_length (layer_pairs d.layers)) (roots_in (map listed_file d.files))
-trees_are d o = same_map (drafted_tree d) (tree_at d.piece_length (layer_pairs d.layers)) (roots_in (map listed_file d.files)) (tree_is d o)
+pub trees_are : (d : Outline) → IsOutline d → map (drafted_tree d) (roots_in (map listed_file d.files)) ≡ map (tree_at d.piece_length (pairs_of_layers d.layers)) (roots_in (map listed_file d.files))
+trees_are d o = same_map (drafted_tree d) (tree_at d.piece_length (pairs_of_layers d.layers)) (roots_in (map listed_file d.files)) (tree_is d o)

@@ -11,7 +11,7 @@ use Rattle.std.specs.Prelude.{codes, nat_lt, nat_le, is_some, option_and_then, u
 use Rattle.std.specs.Str.{bytes_eq}
 use Rattle.benc.specs.Value.{Bencode, int, text, list, Pairs, no_pairs, pair}
 use Rattle.drafts.proofs.Accepted.{pieces_there}
-use Rattle.drafts.proofs.Building.{AreFiles}
+use Rattle.drafts.proofs.Building.{AreOutlineFiles}
 use Rattle.drafts.proofs.DraftLayers.{digests_again}
 use Rattle.drafts.proofs.Tidy.{gap_below, legal_some}
 use Rattle.drafts.specs.Outline.{AreOfLength, IsOutline, IsOutlineFile, Outline, OutlineFile, listed_file}
@@ -66,7 +66,7 @@ pad_part_is n bound =
 gap_bound : (p n : ℕ) → IsPieceLength p → gap p n ≤ 2 ^ 46
 gap_bound p n legal = let some = legal_some p legal in let less = gap_below p n some.0 in let most : p ≤ 2 ^ 30 = some.1 in omega (arith, less, most)
 
-pub parts_are : (p : ℕ) (fs : List OutlineFile) → IsPieceLength p → AreFiles p fs → parts_of (entries_value p fs) ≡ Some (draft_parts p fs)
+pub parts_are : (p : ℕ) (fs : List OutlineFile) → IsPieceLength p → AreOutlineFiles p fs → parts_of (entries_value p fs) ≡ Some (draft_parts p fs)
 parts_are p [] legal files = refl
 parts_are p (f ∷ fs) legal files =
     let rest = parts_are p fs legal (λ n g e. files (suc n) g e) in
@@ -234,7 +234,7 @@ digests_in_length p f fs o =
       | inr none ↦ rw none tt
     ]
 
-pub digests_length : (p : ℕ) (fs : List OutlineFile) → AreFiles p fs → AreOfLength 20 (digests_of fs)
+pub digests_length : (p : ℕ) (fs : List OutlineFile) → AreOutlineFiles p fs → AreOfLength 20 (digests_of fs)
 digests_length p [] files = tt
 digests_length p (f ∷ fs) files = of_length_append 20 (digests_in f fs) (digests_of fs) (digests_in_length p f fs (files 0 f refl)) (digests_length p fs (λ n g e. files (suc n) g e))
 

@@ -15,7 +15,7 @@ use Rattle.drafts.specs.DraftSeen.{Entries, outline_file, outline_layers}
 use Rattle.drafts.specs.Outline.{IsOutline, Outline, listed_file}
 use Rattle.drafts.specs.declared.draft.DraftFile.{DraftFile}
 use Rattle.drafts.specs.declared.draft.KeptRoot.{KeptRoot}
-use Rattle.drafts.specs.Written.{digests_of, entries_value, first_length, is_single, last_pairs, layer_pairs, list_pair, pieces_pair}
+use Rattle.drafts.specs.Written.{digests_of, entries_value, first_length, is_single, last_pairs, pairs_of_layers, list_pair, pieces_pair}
 use Rattle.filetree.proofs.Bytes.{true_or_false}
 use Rattle.opening.specs.Trees.{pieces_in}
 
@@ -25,10 +25,10 @@ before a b rest = simp (append_assoc, append-nil)
 -- ---- layers
 
 pub layers_step : (p : ℕ) (e : List ℕ × KeptRoot) (es : Entries)
-    → pairs_spelling (layer_pairs (outline_layers p (e ∷ es))) ≡ pairs_spelling (layer_pairs (outline_layers p (e ∷ []))) ++ pairs_spelling (layer_pairs (outline_layers p es))
+    → pairs_spelling (pairs_of_layers (outline_layers p (e ∷ es))) ≡ pairs_spelling (pairs_of_layers (outline_layers p (e ∷ []))) ++ pairs_spelling (pairs_of_layers (outline_layers p es))
 layers_step p e es =
     elim (true_or_false (nat_lt p e.1.length)) [
-      | inl long ↦ rw long (before (string e.0) (string (concat e.1.layer.items)) (pairs_spelling (layer_pairs (outline_layers p es))))
+      | inl long ↦ rw long (before (string e.0) (string (concat e.1.layer.items)) (pairs_spelling (pairs_of_layers (outline_layers p es))))
       | inr short ↦ rw short refl
     ]
 
@@ -48,9 +48,9 @@ pub single_text : (d : Outline) (n : ℕ) → d.hybrid ≡ true → is_single d.
 single_text d n hybrid single same =
     rw (hybrid, single, length_key) (ap (λ m. codes "6:length" ++ integer (pos m)) same ∙ ap (λ t. codes "6:length" ++ t) (sym (append-nil (integer (pos (first_length d.files))))))
 
-pub files_text : (d : Outline) → d.hybrid ≡ true → is_single d.name d.files ≡ false
+pub file_list_text : (d : Outline) → d.hybrid ≡ true → is_single d.name d.files ≡ false
     → codes "5:filesl" ++ (items_spelling (entries_value d.piece_length d.files) ++ codes "e") ≡ pairs_spelling (if d.hybrid then list_pair d no_pairs else no_pairs)
-files_text d hybrid many =
+file_list_text d hybrid many =
     rw (hybrid, many, files_key) (ap (λ t. codes "5:files" ++ t) (sym (append-nil (108 ∷ (items_spelling (entries_value d.piece_length d.files) ++ 101 ∷ [])))))
 
 -- the list of a hybrid stands before what follows

@@ -9,7 +9,7 @@ use Rattle.drafts.proofs.DraftLayers.{layer_none, trees_are}
 use Rattle.drafts.proofs.DraftStream.{hybrid_none, v1_is}
 use Rattle.drafts.proofs.Tidy.{value_canonical}
 use Rattle.drafts.specs.Outline.{IsOutline, Outline, listed_file}
-use Rattle.drafts.specs.Written.{info_value, torrent_of, value_of, walk_of, layer_pairs}
+use Rattle.drafts.specs.Written.{info_value, torrent_of, value_of, walk_to_file, pairs_of_layers}
 use Rattle.filetree.proofs.Tables.{none_both}
 use Rattle.filetree.specs.FileTree.{listed}
 use Rattle.filetree.specs.Tests.{NoneHolds}
@@ -33,7 +33,7 @@ length_is d = ap (λ o. number_in (or_empty o)) (length_there d)
 name_is : (d : Outline) → name_in (value_of d) ≡ d.name
 name_is d = ap (λ o. text_in (or_empty o)) (name_is_there d)
 
-walks_are : (d : Outline) → IsOutline d → walks_of (value_of d) ≡ map walk_of d.files
+walks_are : (d : Outline) → IsOutline d → walks_of (value_of d) ≡ map walk_to_file d.files
 walks_are d o = file_tree_walks d.piece_length d.files o.files
 
 files_are : (d : Outline) → IsOutline d → files_of (value_of d) ≡ map listed_file d.files
@@ -73,7 +73,7 @@ draft_accepted d o some =
     (shape_none d.piece_length d.files built.1 built.2)
     (subst (λ ws. NoneHolds (file_rows ws)) (sym (walks_are d o)) (file_none d.piece_length d.files o.files))
     (subst (λ n. NoneHolds (count_rows n (files_of (value_of d)))) p (subst (λ gs. NoneHolds (count_rows d.piece_length gs)) fs (count_none d o some)))
-    (subst (λ n. NoneHolds (layer_rows n (layer_pairs d.layers) (roots_in (files_of (value_of d))))) p (subst (λ gs. NoneHolds (layer_rows d.piece_length (layer_pairs d.layers) (roots_in gs))) fs (layer_none d o)))
+    (subst (λ n. NoneHolds (layer_rows n (pairs_of_layers d.layers) (roots_in (files_of (value_of d))))) p (subst (λ gs. NoneHolds (layer_rows d.piece_length (pairs_of_layers d.layers) (roots_in gs))) fs (layer_none d o)))
     (subst (λ n. NoneHolds (hybrid_rows n (info_value d) (name_in (value_of d)) (files_of (value_of d)))) p
     (subst (λ s. NoneHolds (hybrid_rows d.piece_length (info_value d) s (files_of (value_of d)))) (sym (name_is d))
     (subst (λ gs. NoneHolds (hybrid_rows d.piece_length (info_value d) d.name gs)) fs (hybrid_none d o))))
@@ -89,7 +89,7 @@ draft_described d o =
       piece_length = p;
       files = subst (λ n. AreFiles n (files_of (value_of d)) (torrent_of d).files) p
           (subst (λ gs. AreFiles d.piece_length gs (torrent_of d).files) fs (are_files d.piece_length (map listed_file d.files) (torrent_of d).files refl));
-      trees = trees_are d o ∙ ap (λ gs. map (tree_at d.piece_length (layer_pairs d.layers)) (roots_in gs)) fs ∙ ap (λ n. map (tree_at n (layer_pairs d.layers)) (roots_in (files_of (value_of d)))) p;
+      trees = trees_are d o ∙ ap (λ gs. map (tree_at d.piece_length (pairs_of_layers d.layers)) (roots_in gs)) fs ∙ ap (λ n. map (tree_at n (pairs_of_layers d.layers)) (roots_in (files_of (value_of d)))) p;
       info_hash_v2 = refl;
       info_hash_v1 = refl;
       v1 = v1_is d o ∙ ap (λ n. if is_hybrid (info_value d) then Some (version1_of n (the_parts (parts_in (info_value d) d.name)) (info_value d)) else None) p

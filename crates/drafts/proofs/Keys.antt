@@ -84,9 +84,9 @@ entry_parts : (k m n path : List ℕ) → (100 ∷ k) ++ (n ++ ((m ++ 108 ∷ []
     ≡ 100 ∷ ((k ++ (n ++ (m ++ ((108 ∷ (path ++ 101 ∷ [])) ++ [])))) ++ 101 ∷ [])
 entry_parts k m n path = simp (append_assoc, append-nil)
 
-pub entry_text : (n path : List ℕ) → codes "d6:length" ++ (n ++ (codes "4:pathl" ++ (path ++ codes "ee")))
+pub list_entry_text : (n path : List ℕ) → codes "d6:length" ++ (n ++ (codes "4:pathl" ++ (path ++ codes "ee")))
     ≡ 100 ∷ ((string (codes "length") ++ (n ++ (string (codes "path") ++ ((108 ∷ (path ++ 101 ∷ [])) ++ [])))) ++ 101 ∷ [])
-entry_text n path = rw (length_key, path_key) (entry_parts (codes "6:length") (codes "4:path") n path)
+list_entry_text n path = rw (length_key, path_key) (entry_parts (codes "6:length") (codes "4:path") n path)
 
 pad_parts : (a b k m o n name : List ℕ) → (100 ∷ (a ++ (b ++ k))) ++ (n ++ ((m ++ 108 ∷ o) ++ (name ++ 101 ∷ (101 ∷ []))))
     ≡ 100 ∷ ((a ++ (b ++ (k ++ (n ++ (m ++ ((108 ∷ ((o ++ (name ++ [])) ++ 101 ∷ [])) ++ [])))))) ++ 101 ∷ [])

@@ -8,7 +8,7 @@ use Rattle.filetree.specs.Tests.{First, NoneHolds}
 use Rattle.filetree.specs.declared.refusal.Refusal.TheVariants as refusals
 use Rattle.pieces.specs.Pieces.{pieces_of}
 use Rattle.pieces.specs.declared.v1_cuts.V1File.{V1File}
-use Rattle.drafts.specs.Adding.{Clashes, FitsLayer, HasCuts, IsGiven, ReusesRoot, given, add_rows, pieces_in_all}
+use Rattle.drafts.specs.Adding.{Clashes, FitsLayer, HasCuts, IsGiven, ReusesRoot, given_file, add_rows, pieces_in_all}
 use Rattle.drafts.specs.Orders.{IsPlaceOf, Ties}
 use Rattle.drafts.specs.Outline.{AreOfLength, Outline, OutlineFile}
 use Rattle.drafts.proofs.Ordering.{begins_tie, no_clash, tie_begins}
@@ -59,7 +59,7 @@ lengths_are width [] all = tt
 lengths_are width (h ∷ hs) all = (all 0 h (omega arith), lengths_are width hs (λ i d low. all (suc i) d (omega arith)))
 
 pub fits_given : (d : Outline) (path : List (List ℕ)) (n : ℕ) (root : List ℕ) (v1 : V1File) (layer : List (List ℕ)) → length root ≡ 32 → All (λ h. length h ≡ 20) v1.cuts.items → length v1.padded ≡ 20
-    → HasCuts d (given d path n root v1) → FitsLayer d (given d path n root v1) layer → IsGiven d (given d path n root v1) layer
+    → HasCuts d (given_file d path n root v1) → FitsLayer d (given_file d path n root v1) layer → IsGiven d (given_file d path n root v1) layer
 fits_given d path n root v1 layer root_length cut_lengths padded_length cuts fits = record {
   root_length = λ _. root_length;
   cut_lengths = chosen (d.hybrid && nat_lt 0 n);

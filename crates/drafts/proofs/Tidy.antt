@@ -9,9 +9,9 @@ use Rattle.std.specs.Int.{w64}
 use Rattle.benc.specs.Value.{Bencode, int, text, list, dict, Items, no_items, item, Pairs, no_pairs, pair}
 use Rattle.benc.specs.Spelling.{string, IsAbove}
 use Rattle.benc.specs.Text.{spelling, items_spelling, pairs_spelling, Fits, ItemsFit, PairsFit, IsCanonical}
-use Rattle.drafts.proofs.Building.{AreFiles, IsTidy, AreTidy, ArePairsTidy, above_less, built_tidy, file_tree_built, length_fits}
+use Rattle.drafts.proofs.Building.{AreOutlineFiles, IsTidy, AreTidy, ArePairsTidy, above_less, built_tidy, file_tree_built, length_fits}
 use Rattle.drafts.specs.Outline.{Outline, OutlineFile, OutlineLayer, IsOutline}
-use Rattle.drafts.specs.Written.{file_tree_of, layer_pairs, entry_value, pad_value, texts_value, entries_value, gap, needs_pad, list_pair, last_pairs, is_single, first_length, info_value, value_of}
+use Rattle.drafts.specs.Written.{file_tree_of, pairs_of_layers, entry_value, pad_value, texts_value, entries_value, gap, needs_pad, list_pair, last_pairs, is_single, first_length, info_value, value_of}
 use Rattle.filetree.proofs.Bytes.{true_or_false}
 use Rattle.pieces.specs.Pieces.{IsPieceLength}
 
@@ -55,7 +55,7 @@ mutual
 -- ---- the value of a draft
 
 layers_tidy : (room : ℕ) (before : Option (List ℕ)) (es : List OutlineLayer) → IsStrictlySortedBy (slice_cmp nat_cmp) (map (λ (e : OutlineLayer). e.root) es)
-    → ((e : OutlineLayer) → slice_get es 0 ≡ Some e → IsAbove e.root before) → ArePairsTidy room before (layer_pairs es)
+    → ((e : OutlineLayer) → slice_get es 0 ≡ Some e → IsAbove e.root before) → ArePairsTidy room before (pairs_of_layers es)
 unfolding IsStrictlySortedBy
 layers_tidy room before [] order first = tt
 layers_tidy room before (e ∷ []) order first = (first e refl, tt, tt)
@@ -88,7 +88,7 @@ entry_tidy f bound = (omega arith, (tt, length_fits f.length bound, (refl, (omeg
 pad_tidy : (p n : ℕ) → IsPieceLength p → IsTidy 125 (pad_value (gap p n))
 pad_tidy p n legal = (omega arith, (tt, tt, (refl, gap_fits p n legal, (refl, (omega arith, (tt, (tt, tt))), tt))))
 
-entries_tidy : (p : ℕ) (fs : List OutlineFile) → IsPieceLength p → AreFiles p fs → AreTidy 125 (entries_value p fs)
+entries_tidy : (p : ℕ) (fs : List OutlineFile) → IsPieceLength p → AreOutlineFiles p fs → AreTidy 125 (entries_value p fs)
 entries_tidy p [] legal files = tt
 entries_tidy p (f ∷ fs) legal files =
     let this = files 0 f refl in
@@ -100,7 +100,7 @@ entries_tidy p (f ∷ fs) legal files =
       ],
     )
 
-first_bound : (p : ℕ) (fs : List OutlineFile) → AreFiles p fs → first_length fs ≤ 2 ^ 46
+first_bound : (p : ℕ) (fs : List OutlineFile) → AreOutlineFiles p fs → first_length fs ≤ 2 ^ 46
 first_bound p [] files = omega arith
 first_bound p (f ∷ fs) files = (files 0 f refl).bound
 
@@ -124,7 +124,7 @@ last_tidy d before legal above =
       ),
     )
 
-list_tidy : (d : Outline) → IsPieceLength d.piece_length → AreFiles d.piece_length d.files → ArePairsTidy 126 (Some (codes "file tree")) (list_pair d (last_pairs d))
+list_tidy : (d : Outline) → IsPieceLength d.piece_length → AreOutlineFiles d.piece_length d.files → ArePairsTidy 126 (Some (codes "file tree")) (list_pair d (last_pairs d))
 list_tidy d legal files =
     elim (true_or_false (is_single d.name d.files)) [
       | inl single ↦ rw single (refl, length_fits (first_length d.files) (first_bound d.piece_length d.files files), last_tidy d (codes "length") legal refl)

@@ -12,7 +12,7 @@ use Rattle.benc.specs.Spelling.{string}
 use Rattle.benc.specs.Text.{pairs_spelling, spelling}
 use Rattle.benc.specs.Value.{Bencode, dict, Pairs, no_pairs, pair}
 use Rattle.drafts.specs.TreeText.{closed, opened, shared}
-use Rattle.drafts.specs.Written.{tree_of, with_first}
+use Rattle.drafts.specs.Written.{tree_of_walks, with_first}
 use Rattle.filetree.proofs.Bytes.{true_or_false, same_bytes}
 use Rattle.filetree.proofs.Paths.{cmp_same, paths_of}
 use Rattle.filetree.specs.Dictionary.{pairs_in}
@@ -24,13 +24,13 @@ abbrev pub leaf_text : Bencode → List ℕ
 leaf_text v = pairs_spelling (pair (codes "") v no_pairs)
 
 -- what follows the file at this path in front of a tree
-abbrev pub behind : List (List ℕ) → Pairs → List ℕ
-behind [] t = pairs_spelling t
-behind (k ∷ ks) no_pairs = behind ks no_pairs ++ 101 ∷ []
-behind (k ∷ ks) (pair l v ps) =
+abbrev pub text_behind : List (List ℕ) → Pairs → List ℕ
+text_behind [] t = pairs_spelling t
+text_behind (k ∷ ks) no_pairs = text_behind ks no_pairs ++ 101 ∷ []
+text_behind (k ∷ ks) (pair l v ps) =
     if bytes_eq k l
-    then behind ks (pairs_in v) ++ 101 ∷ pairs_spelling ps
-    else behind ks no_pairs ++ 101 ∷ pairs_spelling (pair l v ps)
+    then text_behind ks (pairs_in v) ++ 101 ∷ pairs_spelling ps
+    else text_behind ks no_pairs ++ 101 ∷ pairs_spelling (pair l v ps)
 
 -- what is put for files, where the directories of a path are open
 abbrev pub rest_text : List (List ℕ) → List Walk → List ℕ
@@ -38,7 +38,7 @@ rest_text p [] = closed (length p)
 rest_text p (w ∷ ws) =
     closed (length p - shared p w.path) ++ (opened (drop (shared p w.path) w.path) ++ (leaf_text w.file ++ rest_text w.path ws))
 
-ends : (p : List (List ℕ)) → behind p no_pairs ≡ closed (length p)
+ends : (p : List (List ℕ)) → text_behind p no_pairs ≡ closed (length p)
 ends [] = refl
 ends (k ∷ ks) =
     let more : length ks + 1 ≡ suc (length ks) = omega arith in
@@ -49,7 +49,7 @@ record Node (l : List ℕ) (ls : List (List ℕ)) (v : Bencode) (t : Pairs) : Ty
   pub deeper : Pairs
   pub later : Pairs
   pub tree_is : with_first (l ∷ ls) v t ≡ pair l (dict (with_first ls v deeper)) later
-  pub behind_is : behind (l ∷ ls) t ≡ behind ls deeper ++ 101 ∷ pairs_spelling later
+  pub behind_is : text_behind (l ∷ ls) t ≡ text_behind ls deeper ++ 101 ∷ pairs_spelling later
 
 node : (l : List ℕ) (ls : List (List ℕ)) (v : Bencode) (t : Pairs) → Node l ls v t
 node l ls v no_pairs = record { deeper = no_pairs; later = no_pairs; tree_is = refl; behind_is = refl }
@@ -71,12 +71,12 @@ around a inner o leaf b later e = ap (λ t. a ++ ((100 ∷ (t ++ 101 ∷ [])) ++
 alone : (a b t : List ℕ) → a ++ (b ++ t) ≡ ([] ++ (a ++ (b ++ []))) ++ t
 alone a b t = simp append_assoc
 
-first_text : (p : List (List ℕ)) (v : Bencode) (t : Pairs) → pairs_spelling (with_first p v t) ≡ (opened p ++ leaf_text v) ++ behind p t
+first_text : (p : List (List ℕ)) (v : Bencode) (t : Pairs) → pairs_spelling (with_first p v t) ≡ (opened p ++ leaf_text v) ++ text_behind p t
 first_text [] v t = alone (string []) (spelling v) (pairs_spelling t)
 first_text (k ∷ ks) v t =
     let n = node k ks v t in
     ap pairs_spelling n.tree_is
-    ∙ around (string k) (pairs_spelling (with_first ks v n.deeper)) (opened ks) (leaf_text v) (behind ks n.deeper) (pairs_spelling n.later) (first_text ks v n.deeper)
+    ∙ around (string k) (pairs_spelling (with_first ks v n.deeper)) (opened ks) (leaf_text v) (text_behind ks n.deeper) (pairs_spelling n.later) (first_text ks v n.deeper)
     ∙ ap (λ b. (opened (k ∷ ks) ++ leaf_text v) ++ b) (sym n.behind_is)
 
 below_same : (k l : List ℕ) (ks ls : List (List ℕ)) → path_cmp (k ∷ ks) (l ∷ ls) ≡ Less → k ≡ l → path_cmp ks ls ≡ Less
@@ -92,24 +92,24 @@ outside : (c e o leaf b t : List ℕ) → c ++ 101 ∷ [] ≡ e → t ≡ (o ++ 
 outside c e o leaf b t f g = sym (append_assoc c (101 ∷ []) t) ∙ ap (λ x. x ++ t) f ∙ ap (λ x. e ++ x) (g ∙ append_assoc o leaf b)
 
 behind_text : (p q : List (List ℕ)) (v : Bencode) (t : Pairs) → path_cmp p q ≡ Less
-    → behind p (with_first q v t) ≡ closed (length p - shared p q) ++ (opened (drop (shared p q) q) ++ (leaf_text v ++ behind q t))
+    → text_behind p (with_first q v t) ≡ closed (length p - shared p q) ++ (opened (drop (shared p q) q) ++ (leaf_text v ++ text_behind q t))
 behind_text [] q v t less = cc
 behind_text (k ∷ ks) [] v t less = cc
 behind_text (k ∷ ks) (l ∷ ls) v t less =
     let n = node l ls v t in
     let whole = pair l (dict (with_first ls v n.deeper)) n.later in
-    let here = ap (behind (k ∷ ks)) n.tree_is in
+    let here = ap (text_behind (k ∷ ks)) n.tree_is in
     elim (true_or_false (bytes_eq k l)) [
       | inl same ↦
           let ih = behind_text ks ls v n.deeper (below_same k l ks ls less (same_bytes k l same)) in
           let count : suc (length ks) - suc (shared ks ls) ≡ length ks - shared ks ls = omega arith in
           here ∙ rw same (ap (λ x. x ++ 101 ∷ pairs_spelling n.later) ih
-          ∙ inside (closed (length ks - shared ks ls)) (opened (drop (shared ks ls) ls)) (leaf_text v) (behind ls n.deeper) (pairs_spelling n.later)
+          ∙ inside (closed (length ks - shared ks ls)) (opened (drop (shared ks ls) ls)) (leaf_text v) (text_behind ls n.deeper) (pairs_spelling n.later)
           ∙ ap (λ b. closed (length ks - shared ks ls) ++ (opened (drop (shared ks ls) ls) ++ (leaf_text v ++ b))) (sym n.behind_is)
-          ∙ ap (λ m. closed m ++ (opened (drop (shared ks ls) ls) ++ (leaf_text v ++ behind (l ∷ ls) t))) (sym count))
+          ∙ ap (λ m. closed m ++ (opened (drop (shared ks ls) ls) ++ (leaf_text v ++ text_behind (l ∷ ls) t))) (sym count))
       | inr other ↦
           let count : suc (length ks) ≡ suc (length ks) - 0 = omega arith in
-          here ∙ rw other (outside (behind ks no_pairs) (closed (suc (length ks) - 0)) (opened (l ∷ ls)) (leaf_text v) (behind (l ∷ ls) t) (pairs_spelling whole)
+          here ∙ rw other (outside (text_behind ks no_pairs) (closed (suc (length ks) - 0)) (opened (l ∷ ls)) (leaf_text v) (text_behind (l ∷ ls) t) (pairs_spelling whole)
           (ends (k ∷ ks) ∙ ap closed count) (sym (ap pairs_spelling n.tree_is) ∙ first_text (l ∷ ls) v t))
     ]
 
@@ -122,17 +122,17 @@ later_order : (w : Walk) (vs : List Walk) → AreInOrder (paths_of (w ∷ vs)) �
 unfolding IsStrictlySortedBy
 later_order w vs a = a.1
 
-rest_is : (p : List (List ℕ)) (ws : List Walk) → ((w : Walk) (vs : List Walk) → ws ≡ w ∷ vs → path_cmp p w.path ≡ Less) → AreInOrder (paths_of ws) → behind p (tree_of ws) ≡ rest_text p ws
+rest_is : (p : List (List ℕ)) (ws : List Walk) → ((w : Walk) (vs : List Walk) → ws ≡ w ∷ vs → path_cmp p w.path ≡ Less) → AreInOrder (paths_of ws) → text_behind p (tree_of_walks ws) ≡ rest_text p ws
 rest_is p [] first order = ends p
 rest_is p (w ∷ ws) first order =
-    behind_text p w.path w.file (tree_of ws) (first w ws refl)
+    behind_text p w.path w.file (tree_of_walks ws) (first w ws refl)
     ∙ ap (λ b. closed (length p - shared p w.path) ++ (opened (drop (shared p w.path) w.path) ++ (leaf_text w.file ++ b))) (rest_is w.path ws (next_less w ws order) (later_order w ws order))
 
 -- the text of a tree, from its first file on
-pub tree_text : (ws : List Walk) → AreInOrder (paths_of ws) → pairs_spelling (tree_of ws) ≡ rest_text [] ws
+pub tree_text : (ws : List Walk) → AreInOrder (paths_of ws) → pairs_spelling (tree_of_walks ws) ≡ rest_text [] ws
 tree_text [] order = refl
 tree_text (w ∷ ws) order =
-    first_text w.path w.file (tree_of ws)
+    first_text w.path w.file (tree_of_walks ws)
     ∙ ap (λ b. (opened w.path ++ leaf_text w.file) ++ b) (rest_is w.path ws (next_less w ws order) (later_order w ws order))
     ∙ append_assoc (opened w.path) (leaf_text w.file) (rest_text w.path ws)
 

@@ -4,7 +4,7 @@ use Rattle.std.specs.Cmp.Lexicographic.{slice_cmp}
 use Rattle.std.specs.Ordering.{match_ordering, nat_cmp}
 use Rattle.drafts.specs.Outline.{AreOfLength, IsLayerOf, Outline, OutlineFile, OutlineLayer, listed_file}
 use Rattle.filetree.specs.Paths.{IsFilePath, AreInOrder, IsPrefix}
-use Rattle.filetree.specs.Tests.{Row}
+use Rattle.filetree.specs.Tests.{TestRow}
 use Rattle.opening.specs.Trees.{pieces_in}
 use Rattle.pieces.specs.Pieces.{pieces_of}
 use Rattle.pieces.specs.declared.v1_cuts.V1File.{V1File}
@@ -33,7 +33,7 @@ abbrev pub pieces_in_all : Outline → ℕ
 pieces_in_all d = pieces_in d.piece_length (map listed_file d.files)
 
 -- the tests of a file that is to be added, in their order
-abbrev pub add_rows : Outline → OutlineFile → List Row
+abbrev pub add_rows : Outline → OutlineFile → List TestRow
 add_rows d f =
     record { holds = IsFilePath f.path → ⊥; answer = refusals.Path }
     ∷ record { holds = 2 ^ 46 < f.length; answer = refusals.Length }
@@ -48,8 +48,8 @@ add_rows d f =
 -- ---- what the caller gives
 
 -- a file as it is given: digests of cuts are those of a hybrid's file that is not empty
-abbrev pub given : Outline → List (List ℕ) → ℕ → List ℕ → V1File → OutlineFile
-given d path n root v1 = record {
+abbrev pub given_file : Outline → List (List ℕ) → ℕ → List ℕ → V1File → OutlineFile
+given_file d path n root v1 = record {
   path = path;
   length = n;
   root = root;

@@ -30,30 +30,33 @@ with_first (k ∷ ks) file (pair l v ps) =
     else pair k (dict (with_first ks file no_pairs)) (pair l v ps)
 
 -- the tree of these files, whose paths are in order
-abbrev pub tree_of : List Walk → Pairs
-tree_of [] = no_pairs
-tree_of (w ∷ ws) = with_first w.path w.file (tree_of ws)
+abbrev pub tree_of_walks : List Walk → Pairs
+tree_of_walks [] = no_pairs
+tree_of_walks (w ∷ ws) = with_first w.path w.file (tree_of_walks ws)
 
 -- a file's dictionary: its length, and its root if it is not empty
 abbrev pub file_value : OutlineFile → Bencode
 file_value f = dict (pair (codes "length") (int (pos f.length))
     (if nat_lt 0 f.length then pair (codes "pieces root") (text f.root) no_pairs else no_pairs))
 
-abbrev pub walk_of : OutlineFile → Walk
-walk_of f = record { path = f.path; file = file_value f }
+-- the walk to a file of a draft: its path, and its dictionary
+abbrev pub walk_to_file : OutlineFile → Walk
+walk_to_file f = record { path = f.path; file = file_value f }
 
+-- the file tree of a draft
 abbrev pub file_tree_of : List OutlineFile → Pairs
-file_tree_of fs = tree_of (map walk_of fs)
+file_tree_of fs = tree_of_walks (map walk_to_file fs)
 
 -- ---- piece layers
 
 -- each root with the hashes of its layer, joined
-abbrev pub layer_pairs : List OutlineLayer → Pairs
-layer_pairs [] = no_pairs
-layer_pairs (e ∷ es) = pair e.root (text (concat e.hashes)) (layer_pairs es)
+abbrev pub pairs_of_layers : List OutlineLayer → Pairs
+pairs_of_layers [] = no_pairs
+pairs_of_layers (e ∷ es) = pair e.root (text (concat e.hashes)) (pairs_of_layers es)
 
 -- ---- the version 1 part of a hybrid
 
+-- one of the files is not empty
 abbrev pub has_content : List OutlineFile → Bool
 has_content fs = list_any (λ f. nat_lt 0 f.length) fs
 
@@ -61,10 +64,12 @@ has_content fs = list_any (λ f. nat_lt 0 f.length) fs
 abbrev pub gap : ℕ → ℕ → ℕ
 gap piece_length n = pieces_of piece_length n * piece_length - n
 
+-- a list of byte strings
 abbrev pub texts_value : List (List ℕ) → Items
 texts_value [] = no_items
 texts_value (k ∷ ks) = item (text k) (texts_value ks)
 
+-- the entry of a file in the version 1 list: its length and its path
 abbrev pub entry_value : OutlineFile → Bencode
 entry_value f = dict (pair (codes "length") (int (pos f.length))
     (pair (codes "path") (list (texts_value f.path)) no_pairs))
@@ -78,6 +83,7 @@ pad_value n = dict (pair (codes "attr") (text (codes "p")) (pair (codes "length"
 abbrev pub needs_pad : ℕ → OutlineFile → List OutlineFile → Bool
 needs_pad piece_length f later = nat_lt 0 (gap piece_length f.length) && has_content later
 
+-- the entries of the version 1 list, with their pads
 abbrev pub entries_value : ℕ → List OutlineFile → Items
 entries_value piece_length [] = no_items
 entries_value piece_length (f ∷ fs) =
@@ -117,6 +123,7 @@ is_single name (f ∷ []) = is_named f.path
     is_named (k ∷ (l ∷ ls)) = false
 is_single name (f ∷ (g ∷ fs)) = false
 
+-- the length of the first file
 abbrev pub first_length : List OutlineFile → ℕ
 first_length [] = 0
 first_length (f ∷ fs) = f.length
@@ -130,15 +137,18 @@ list_pair d rest =
 
 -- ---- the whole
 
+-- `pieces`, which a hybrid alone has
 abbrev pub pieces_pair : Outline → Pairs
 pieces_pair d = if d.hybrid
     then pair (codes "pieces") (text (concat (digests_of d.files))) no_pairs
     else no_pairs
 
+-- the pairs of the info dictionary that come last
 abbrev pub last_pairs : Outline → Pairs
 last_pairs d = pair (codes "meta version") (int (pos 2)) (pair (codes "name") (text d.name)
     (pair (codes "piece length") (int (pos d.piece_length)) (pieces_pair d)))
 
+-- the info dictionary of a draft
 abbrev pub info_value : Outline → Bencode
 info_value d = dict (pair (codes "file tree") (dict (file_tree_of d.files))
     (if d.hybrid then list_pair d (last_pairs d) else last_pairs d))
@@ -146,7 +156,7 @@ info_value d = dict (pair (codes "file tree") (dict (file_tree_of d.files))
 -- the value that a draft writes
 abbrev pub value_of : Outline → Bencode
 value_of d = dict (pair (codes "info") (info_value d)
-    (pair (codes "piece layers") (dict (layer_pairs d.layers)) no_pairs))
+    (pair (codes "piece layers") (dict (pairs_of_layers d.layers)) no_pairs))
 
 -- ---- the torrent that it describes
 
@@ -155,6 +165,7 @@ abbrev pub hashes_under : List ℕ → List OutlineLayer → List (List ℕ)
 hashes_under root [] = []
 hashes_under root (e ∷ es) = if bytes_eq e.root root then e.hashes else hashes_under root es
 
+-- a tree of a draft: its root, its length, and its layer if it is longer than a piece
 abbrev pub drafted_tree : Outline → Root → TreeEntry
 drafted_tree d t = record {
   root = t.root;

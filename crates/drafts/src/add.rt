@@ -3,9 +3,9 @@
 ghost use Rattle.std.specs.Prelude.{◌≡◌, ◌≢◌, ◌<◌, ◌≤◌, ◌+◌, ◌^◌, All, List, length, map, MatchResult, IfErr, OnErr, OnOk};
 ghost use Rattle.std.specs.String.{string_bytes};
 ghost use Rattle.filetree.specs.Paths.{IsFilePath};
-ghost use Rattle.filetree.specs.Tests.{NoneHolds, PassesUnlessNoMemory, UnlessNoMemory};
+ghost use Rattle.filetree.specs.Tests.{NoneHolds, PassesUnlessNoMemory, GivesUnlessNoMemory};
 ghost use Rattle.pieces.specs.Pieces.{pieces_of};
-ghost use Rattle.drafts.specs.Adding.{FitsLayer, HasCuts, IsGiven, IsWith, ReusesRoot, add_rows, given, pieces_in_all};
+ghost use Rattle.drafts.specs.Adding.{FitsLayer, HasCuts, IsGiven, IsWith, ReusesRoot, add_rows, given_file, pieces_in_all};
 ghost use Rattle.drafts.specs.Orders.{IsPlaceOf};
 ghost use Rattle.drafts.specs.Outline.{Outline, OutlineFile};
 ghost use Rattle.drafts.specs.DraftSeen.{AreRootsOf, KeepsRoot, outline_file};
@@ -46,15 +46,16 @@ impl Draft {
         v1: &V1File,
     ) -> Result<(), Refusal>
         requires cuts { HasCuts self.old
-            (given self.old (map (λ s. s.now) path.now) length root v1.now) }
+            (given_file self.old (map (λ s. s.now) path.now) length root v1.now) }
         requires layer { FitsLayer self.old
-            (given self.old (map (λ s. s.now) path.now) length root v1.now) layer.now }
-        ensures added { let f = given self.old (map (λ s. s.now) path.now) length root v1.now in
+            (given_file self.old (map (λ s. s.now) path.now) length root v1.now) layer.now }
+        ensures added { let f = given_file self.old
+            (map (λ s. s.now) path.now) length root v1.now in
             PassesUnlessNoMemory (add_rows self.old f)
             (λ _. IsWith self.old self.new f layer.now) result }
         ensures memory { IfErr result (λ r. r ≡ Refusal.NoMemory → NoneHolds
             (add_rows self.old
-            (given self.old (map (λ s. s.now) path.now) length root v1.now))) }
+            (given_file self.old (map (λ s. s.now) path.now) length root v1.now))) }
         ensures unchanged { OnErr result (self.new ≡ self.old) }
     {
         test_path(path)?;
@@ -103,8 +104,8 @@ impl Draft {
         root: Hash,
         v1: &V1File,
     ) -> Result<DraftFile, Refusal>
-        ensures { UnlessNoMemory result (λ f. outline_file f
-            ≡ given self.now (map (λ s. s.now) path.now) length root v1.now) }
+        ensures { GivesUnlessNoMemory result (λ f. outline_file f
+            ≡ given_file self.now (map (λ s. s.now) path.now) length root v1.now) }
     {
         let path = texts(self.alloc, path)?;
         let mut cuts = Vec::new(self.alloc);
@@ -173,8 +174,8 @@ fn kept_root(
     layer: &[Hash],
     piece_length: u64,
 ) -> Result<KeptRoot, Refusal>
-    ensures length { UnlessNoMemory result (λ k. k.length ≡ length) }
-    ensures layer { UnlessNoMemory result
+    ensures length { GivesUnlessNoMemory result (λ k. k.length ≡ length) }
+    ensures layer { GivesUnlessNoMemory result
         (λ k. piece_length < length → k.layer.items ≡ layer.now) }
 {
     let layer = if length > piece_length {
@@ -187,7 +188,7 @@ fn kept_root(
 
 // Copies of texts.
 fn texts(alloc: Global, parts: &[&str]) -> Result<Vec<String>, Refusal>
-    ensures { UnlessNoMemory result
+    ensures { GivesUnlessNoMemory result
         (λ ts. map string_bytes ts.items ≡ map (λ s. s.now) parts.now) }
 {
     let mut texts = Vec::with_capacity(alloc, parts.len())?;

@@ -8,18 +8,6 @@ use filetree::Refusal;
 // The most components of a path: 128 lists and dictionaries may be open at once.
 const MAX_COMPONENTS: usize = 124;
 
-// Tells whether a path may have this component.
-fn is_component(name: &str) -> bool
-    ensures { IsTrue result ↔ IsComponent name.now }
-{
-    let bytes = name.as_bytes();
-    !bytes.is_empty()
-        && bytes != b".".as_slice()
-        && bytes != b"..".as_slice()
-        && !bytes.contains(&b'/')
-        && !bytes.contains(&0)
-}
-
 /// Tests a path: at least one component and at most 124, none of them empty or bad.
 pub(crate) fn test_path(path: &[&str]) -> Result<(), Refusal>
     ensures { MatchResult result (λ _. IsFilePath (map (λ s. s.now) path.now))
@@ -34,4 +22,16 @@ pub(crate) fn test_path(path: &[&str]) -> Result<(), Refusal>
         }
     }
     Ok(())
+}
+
+// Tells whether a path may have this component.
+fn is_component(name: &str) -> bool
+    ensures { IsTrue result ↔ IsComponent name.now }
+{
+    let bytes = name.as_bytes();
+    !bytes.is_empty()
+        && bytes != b".".as_slice()
+        && bytes != b"..".as_slice()
+        && !bytes.contains(&b'/')
+        && !bytes.contains(&0)
 }

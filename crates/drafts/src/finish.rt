@@ -10,7 +10,7 @@ ghost use Rattle.opening.specs.Refusals.{max_torrent};
 ghost use Rattle.drafts.specs.DraftSeen.{outline_layers};
 ghost use Rattle.drafts.specs.Finishing.{finish_rows};
 ghost use Rattle.drafts.specs.Pen.{Put};
-ghost use Rattle.drafts.specs.Written.{info_value, layer_pairs, list_pair, pieces_pair, torrent_of, value_of};
+ghost use Rattle.drafts.specs.Written.{info_value, pairs_of_layers, list_pair, pieces_pair, torrent_of, value_of};
 
 use crate::draft::{Draft, KeptRoot};
 use crate::hybrid_text::{is_single, put_digests, put_entries};
@@ -153,7 +153,7 @@ fn put_layers<W: Sink>(
     w: &mut W,
 )
     ensures { Put pen.old (W.seen w.old) pen.new (W.seen w.new)
-        (pairs_spelling (layer_pairs (outline_layers piece_length roots.now.entries))) }
+        (pairs_spelling (pairs_of_layers (outline_layers piece_length roots.now.entries))) }
 {
     'roots: for (root, kept) in roots {
         put_layer(root, kept, piece_length, pen, w);
@@ -162,7 +162,7 @@ fn put_layers<W: Sink>(
 
 // Puts the layer of a root whose files are longer than a piece.
 fn put_layer<W: Sink>(root: &Hash, kept: &KeptRoot, piece_length: u64, pen: &mut Pen, w: &mut W)
-    ensures { Put pen.old (W.seen w.old) pen.new (W.seen w.new) (pairs_spelling (layer_pairs
+    ensures { Put pen.old (W.seen w.old) pen.new (W.seen w.new) (pairs_spelling (pairs_of_layers
         (outline_layers piece_length ((root.now, kept.now) ∷ [])))) }
 {
     if kept.length > piece_length {

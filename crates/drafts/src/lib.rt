@@ -6,7 +6,7 @@ mod component;
 mod draft;
 mod finish;
 mod hybrid_text;
-mod laws;
+pub mod laws;
 mod path_order;
 mod pen;
 #[cfg(test)]
@@ -14,4 +14,3 @@ mod tests;
 mod tree_text;
 
 pub use draft::Draft;
-pub use laws::{draft_describes, draft_is_outline};

@@ -10,20 +10,6 @@ ghost use Rattle.filetree.specs.Paths.{AreInOrder, path_cmp};
 use crate::draft::DraftFile;
 use std::cmp::Ordering;
 
-// Two paths by the first component in which they differ; `Equal` if one is a prefix of the other.
-fn path_cmp(own: &[String], path: &[&str]) -> Ordering
-    ensures { result ≡ path_cmp (map string_bytes own.now) (map (λ s. s.now) path.now) }
-{
-    let count = own.len().min(path.len());
-    'parts: for i in 0..count {
-        let order = own[i].as_str().cmp(path[i]);
-        if order.is_ne() {
-            return order;
-        }
-    }
-    Ordering::Equal
-}
-
 /// The place of a path among files whose paths are in order; `None` if it is there, or if it or one
 /// that is there is a prefix of the other.
 pub(crate) fn place_among(files: &[DraftFile], path: &[&str]) -> Option<usize>
@@ -38,4 +24,18 @@ pub(crate) fn place_among(files: &[DraftFile], path: &[&str]) -> Option<usize>
     files
         .binary_search_by(|file| path_cmp(&file.path, path))
         .err()
+}
+
+// Two paths by the first component in which they differ; `Equal` if one is a prefix of the other.
+fn path_cmp(own: &[String], path: &[&str]) -> Ordering
+    ensures { result ≡ path_cmp (map string_bytes own.now) (map (λ s. s.now) path.now) }
+{
+    let count = own.len().min(path.len());
+    'parts: for i in 0..count {
+        let order = own[i].as_str().cmp(path[i]);
+        if order.is_ne() {
+            return order;
+        }
+    }
+    Ordering::Equal
 }

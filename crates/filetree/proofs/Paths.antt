@@ -17,9 +17,6 @@ use Rattle.filetree.specs.Dictionary.{keys_in}
 use Rattle.filetree.proofs.Ascending.{AllAbove, above_all}
 use Rattle.filetree.proofs.Bytes.{equal_bytes, same_bytes, true_or_false}
 
-abbrev pub path_of : Walk → List (List ℕ)
-path_of w = w.path
-
 abbrev pub paths_of : List Walk → List (List (List ℕ))
 paths_of ws = map (λ (w : Walk). w.path) ws
 

@@ -1,13 +1,12 @@
 -- The nodes of a folder, and how deep the values in it may be.
-use Rattle.std.proofs.Common.{◌≡◌, ℕ, ◌+◌, ◌-◌, ◌<◌, true, false, not, ◌&&◌, ◌||◌, List, [], ◌∷◌, ◌++◌, length, drop, get_or, Option, None, inl, inr, arith, subst, sym, ap, ◌∙◌}
-use Rattle.std.proofs.lemmas.List.{length-append}
-use Rattle.benc.specs.Text.{Fits, PairsFit}
-use Rattle.benc.specs.Value.{Bencode, Pairs, dict, pair}
+use Rattle.std.proofs.Common.{◌≡◌, ℕ, ◌+◌, ◌-◌, ◌<◌, true, not, ◌&&◌, List, length, drop, get_or, Option, None, arith, subst}
+use Rattle.benc.specs.Text.{PairsFit}
+use Rattle.benc.specs.Value.{Pairs, pair}
 use Rattle.benc.specs.View.{pair_view, pairs_view}
 use Rattle.benc.specs.declared.value.Pair.{Pair}
-use Rattle.filetree.specs.FileTree.{is_directory, is_file, is_nil, is_node}
+use Rattle.filetree.specs.FileTree.{is_directory, is_nil, is_node}
 use Rattle.filetree.specs.Walked.{IsFolderAt, IsNodeBelow}
-use Rattle.filetree.proofs.Paths.{and_both, not_is, or_one}
+use Rattle.filetree.proofs.Paths.{and_both, not_is}
 use Rattle.filetree.proofs.Views.{pairs_next}
 
 -- the pairs of a folder from some pair on
@@ -40,18 +39,3 @@ left_behind path xs i x lt is h =
     let next = next_left path xs i x lt is h in
     let both = and_both (not (is_nil (pair_view x).0) && is_node (pair_view x).1) (is_directory (pairs_view (drop (i + 1) xs))) next.shape in
     record { room = next.room; deep = next.deep; before = _; fits = next.fits.3; shape = both.1 }
-
--- a node that is no file is a folder
-pub folder_below : (path longer : List (List ℕ)) (name key : List ℕ) (v : Bencode) (ps : Pairs) → longer ≡ path ++ name ∷ [] → v ≡ dict ps → is_file ps ≡ false → IsNodeBelow path (key, v) → IsFolderAt longer ps
-folder_below path longer name key v ps is inner other h =
-    let one : length longer ≡ length path + 1 = ap length is ∙ length-append path (name ∷ []) in
-    let node : is_file ps || is_directory ps ≡ true = subst (λ u. is_node u ≡ true) inner h.shape in
-    record {
-      room = h.room;
-      deep = omega (arith, one, h.deep);
-      fits = subst (Fits h.room) inner h.fits;
-      shape = elim (or_one (is_file ps) (is_directory ps) node) [ inl file ↦ absurd (differ (sym other ∙ file)) | inr d ↦ d ];
-    }
-  where
-    differ : false ≡ true → ⊥
-    differ e = cc

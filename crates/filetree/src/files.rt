@@ -6,7 +6,7 @@ ghost use Rattle.std.specs.List.{list_any};
 ghost use Rattle.benc.specs.View.{view};
 ghost use Rattle.filetree.specs.FileTree.{has_attribute, is_symlink, length_at, lacks_root, listed, root_at};
 ghost use Rattle.filetree.specs.TreeTests.{file_rows};
-ghost use Rattle.filetree.specs.Tests.{Passes, Tests, UnlessNoMemory};
+ghost use Rattle.filetree.specs.Tests.{Passes, Tests, GivesUnlessNoMemory};
 ghost use Rattle.filetree.specs.Walked.{walk_of};
 
 use crate::path::Path;
@@ -52,16 +52,6 @@ pub fn length(file: &Value<'_>) -> Option<u64>
     }
 }
 
-// The root under `pieces root`, if that is a byte string of 32 bytes.
-fn root(file: &Value<'_>) -> Option<Hash>
-    ensures { result ≡ root_at (view file.now) }
-{
-    match file.get(b"pieces root") {
-        Some(Value::Bytes(bytes)) => Hash::try_from(*bytes).ok(),
-        _ => None,
-    }
-}
-
 /// Tests the files: symlinks, lengths, roots.
 pub(crate) fn test(files: &[Found<'_, '_>]) -> Result<(), Refusal>
     ensures { Passes (file_rows (map walk_of files.now)) (λ _. Unit {0}) result }
@@ -69,6 +59,21 @@ pub(crate) fn test(files: &[Found<'_, '_>]) -> Result<(), Refusal>
     test_symlinks(files)?;
     test_lengths(files)?;
     test_roots(files)
+}
+
+/// The files with their lengths and roots.
+pub(crate) fn list<'a>(
+    alloc: Global,
+    files: Vec<Found<'_, 'a>>,
+) -> Result<Vec<ListedFile<'a>>, Refusal>
+    ensures { GivesUnlessNoMemory result
+        (λ fs. fs.items ≡ map listed (map walk_of files.entry.items)) }
+{
+    let mut listed = Vec::with_capacity(alloc, files.len())?;
+    'files: for file in files {
+        listed.push(listed_file(file))?;
+    }
+    Ok(listed)
 }
 
 fn test_symlinks(files: &[Found<'_, '_>]) -> Result<(), Refusal>
@@ -114,20 +119,6 @@ fn lacks_root(file: &Value<'_>) -> bool
     length(file).unwrap_or(0) > 0 && root(file).is_none()
 }
 
-/// The files with their lengths and roots.
-pub(crate) fn list<'a>(
-    alloc: Global,
-    files: Vec<Found<'_, 'a>>,
-) -> Result<Vec<ListedFile<'a>>, Refusal>
-    ensures { UnlessNoMemory result (λ fs. fs.items ≡ map listed (map walk_of files.entry.items)) }
-{
-    let mut listed = Vec::with_capacity(alloc, files.len())?;
-    'files: for file in files {
-        listed.push(listed_file(file))?;
-    }
-    Ok(listed)
-}
-
 fn listed_file<'a>(file: Found<'_, 'a>) -> ListedFile<'a>
     ensures { result ≡ listed (walk_of file.entry) }
 {
@@ -135,4 +126,14 @@ fn listed_file<'a>(file: Found<'_, 'a>) -> ListedFile<'a>
     let length = length(file).unwrap_or(0);
     let root = if length > 0 { root(file) } else { None };
     ListedFile { path, length, root }
+}
+
+// The root under `pieces root`, if that is a byte string of 32 bytes.
+fn root(file: &Value<'_>) -> Option<Hash>
+    ensures { result ≡ root_at (view file.now) }
+{
+    match file.get(b"pieces root") {
+        Some(Value::Bytes(bytes)) => Hash::try_from(*bytes).ok(),
+        _ => None,
+    }
 }

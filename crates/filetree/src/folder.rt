@@ -2,7 +2,7 @@
 
 ghost use Rattle.std.specs.Prelude.{◌≡◌, ◌+◌, ◌≤◌, ◌++◌, ◌∷◌, [], length, map};
 ghost use Rattle.filetree.specs.Folders.{names_to, names_of};
-ghost use Rattle.filetree.specs.Tests.{UnlessNoMemory};
+ghost use Rattle.filetree.specs.Tests.{GivesUnlessNoMemory};
 
 use crate::path::Parts;
 use crate::refusal::Refusal;
@@ -42,7 +42,7 @@ impl Folders {
 
     /// The folder `name` below this one.
     pub(crate) fn join(&self, alloc: Global, name: &str) -> Result<Folders, Refusal>
-        ensures { UnlessNoMemory result (λ f. f ≡ self.now ++ name.now ∷ []) }
+        ensures { GivesUnlessNoMemory result (λ f. f ≡ self.now ++ name.now ∷ []) }
     {
         let above = shared(&self.last)?;
         let name = String::from_str(alloc, name)?;
@@ -52,7 +52,7 @@ impl Folders {
 
     /// The same folders.
     pub(crate) fn share(&self) -> Result<Folders, Refusal>
-        ensures { UnlessNoMemory result (λ f. f ≡ self.now) }
+        ensures { GivesUnlessNoMemory result (λ f. f ≡ self.now) }
     {
         Ok(Folders {
             last: shared(&self.last)?,
@@ -72,7 +72,7 @@ impl Folders {
 
 // One more owner of a folder and those above it.
 fn shared(last: &Option<Rc<Folder>>) -> Result<Option<Rc<Folder>>, Refusal>
-    ensures { UnlessNoMemory result (λ copy. names_of copy ≡ names_of last.now) }
+    ensures { GivesUnlessNoMemory result (λ copy. names_of copy ≡ names_of last.now) }
 {
     match last {
         Some(last) => Ok(Some(last.clone()?)),

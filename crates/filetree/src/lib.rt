@@ -4,7 +4,7 @@
 
 mod files;
 mod folder;
-mod laws;
+pub mod laws;
 mod path;
 mod reading;
 mod refusal;
@@ -12,7 +12,6 @@ mod shape;
 mod walk;
 
 pub use files::{ListedFile, has_attribute, length};
-pub use laws::{order_is_apart, shape_is_told, walks_are_all, walks_are_safe};
 pub use path::{Parts, Path};
 pub use reading::read_tree;
 pub use refusal::{Key, Refusal};

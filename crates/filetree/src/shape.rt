@@ -19,22 +19,22 @@ pub(crate) fn is_directory(pairs: &[Pair<'_>]) -> bool
     true
 }
 
-#[cycle(shape)]
-fn is_node(value: &Value<'_>) -> bool
-    ensures { result ≡ is_node (view value.now) }
-{
-    match value {
-        Value::Dict(pairs) => is_file(pairs) || is_directory(pairs),
-        _ => false,
-    }
-}
-
 /// The zero-length key alone, with a dictionary.
 pub(crate) fn is_file(pairs: &[Pair<'_>]) -> bool
     ensures { result ≡ is_file (pairs_view pairs.now) }
 {
     match pairs {
         [only] => only.key.is_empty() && matches!(&only.value, Value::Dict(_)),
+        _ => false,
+    }
+}
+
+#[cycle(shape)]
+fn is_node(value: &Value<'_>) -> bool
+    ensures { result ≡ is_node (view value.now) }
+{
+    match value {
+        Value::Dict(pairs) => is_file(pairs) || is_directory(pairs),
         _ => false,
     }
 }

@@ -3,7 +3,7 @@ use Rattle.std.proofs.Common.{◌≡◌, ℕ, suc, ◌<◌, ◌≤◌, Bool, tru
 use Rattle.std.specs.List.{All}
 use Rattle.std.specs.Prelude.{nat_lt}
 use Rattle.std.proofs.lemmas.Bool.{lt-ltb, ltb-true}
-use Rattle.drafts.specs.Adding.{FitsLayer, HasCuts, IsWith, add_rows, given}
+use Rattle.drafts.specs.Adding.{FitsLayer, HasCuts, IsWith, add_rows, given_file}
 use Rattle.drafts.specs.Outline.{AreOfLength, Outline, OutlineFile}
 use Rattle.filetree.specs.Tests.{NoneHolds}
 use Rattle.folders.proofs.Layers.{layer_is_low, length-layer_of, root_over_layer, whole_layer}
@@ -25,7 +25,7 @@ chosen false b xs ys same = refl
 
 -- what is given is the file of the content
 pub given_is : (d : Outline) (path : List (List ℕ)) (content : List ℕ) (told : FileHashes) → AreHashesOf d.piece_length d.hybrid content told
-    → IsFileOf d.piece_length d.hybrid path content (given d path told.length told.root told.v1)
+    → IsFileOf d.piece_length d.hybrid path content (given_file d path told.length told.root told.v1)
 given_is d path content told hashes = record {
   path_is = refl;
   length_is = hashes.length_is;

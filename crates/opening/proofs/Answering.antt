@@ -14,7 +14,7 @@ use Rattle.opening.specs.Describes.{Describes, IsDescribed}
 use Rattle.opening.specs.Description.{Description, FileEntry, TreeEntry, Version1}
 use Rattle.filetree.specs.declared.files.ListedFile.{ListedFile}
 use Rattle.opening.specs.PieceLayers.{tree_at}
-use Rattle.filetree.specs.Tests.{First, NoneHolds, Row}
+use Rattle.filetree.specs.Tests.{First, NoneHolds, TestRow}
 use Rattle.opening.specs.Refusals.{RefusesTorrent, files_of, info_in, layers_in, max_torrent, name_in, parts_of_torrent, piece_length_in, table}
 use Rattle.opening.specs.Rooted.{entries_from}
 use Rattle.opening.specs.Stream.{is_hybrid, version1_of}
@@ -25,11 +25,11 @@ use Rattle.opening.proofs.InStream.{listed_at}
 use Rattle.opening.proofs.Listing.{are_files}
 use Rattle.opening.proofs.Telling.{table_told}
 
-none_first : (rows : List Row) (r : Refusal) → NoneHolds rows → First rows r → ⊥
+none_first : (rows : List TestRow) (r : Refusal) → NoneHolds rows → First rows r → ⊥
 none_first [] r none first = first
 none_first (x ∷ xs) r none first = elim first [ inl here ↦ none.0 here.0 | inr later ↦ none_first xs r none.1 later.1 ]
 
-first_one : (rows : List Row) (r s : Refusal) → First rows r → First rows s → r ≡ s
+first_one : (rows : List TestRow) (r s : Refusal) → First rows r → First rows s → r ≡ s
 first_one [] r s one other = absurd one
 first_one (x ∷ xs) r s one other = elim one [
   | inl here ↦ elim other [ inl there ↦ here.1 ∙ sym there.1 | inr there ↦ absurd (there.0 here.0) ]

@@ -30,7 +30,7 @@ use Rattle.opening.proofs.Sounding.{IsSized, all_sized}
 use Rattle.filetree.proofs.Tables.{first_behind, first_front, none_both}
 
 -- what was read of a value up to its files
-pub record IsRead (v : Bencode) (k : ℕ) (info : Bencode) (name : List ℕ) (tree layers : Pairs) (fs : List ListedFile) : Type 0 where
+pub record IsReadFrom (v : Bencode) (k : ℕ) (info : Bencode) (name : List ℕ) (tree layers : Pairs) (fs : List ListedFile) : Type 0 where
   pub info_is : info ≡ info_in v
   pub name_is : name ≡ name_in v
   pub tree_is : tree ≡ file_tree_in v
@@ -61,7 +61,7 @@ tree_refused v tree r keys is first =
 front_none : (v : Bencode) (tree : Pairs) → NoneHolds (all_key_rows v) → tree ≡ file_tree_in v → NoneHolds (tree_rows tree) → NoneHolds (all_key_rows v ++ tree_rows (file_tree_in v))
 front_none v tree keys is rows = none_both (all_key_rows v) (tree_rows (file_tree_in v)) keys (subst (λ t. NoneHolds (tree_rows t)) is rows)
 
-pub files_refused : (v : Bencode) (k : ℕ) (info : Bencode) (name : List ℕ) (tree layers : Pairs) (fs : List ListedFile) (r : Refusal) → IsRead v k info name tree layers fs
+pub files_refused : (v : Bencode) (k : ℕ) (info : Bencode) (name : List ℕ) (tree layers : Pairs) (fs : List ListedFile) (r : Refusal) → IsReadFrom v k info name tree layers fs
     → First (content_rows k layers fs) r → First (table v) r
 files_refused v k info name tree layers fs r h first =
     let content = content_rows (piece_length_in v) (layers_in v) (files_of v) in
@@ -70,14 +70,14 @@ files_refused v k info name tree layers fs r h first =
     (subst (λ ls. First (content_rows k ls (files_of v)) r) h.layers_is (subst (λ gs. First (content_rows k layers gs) r) (all_files v tree fs h.tree_is h.files_are) first)) in
     first_behind (all_key_rows v ++ tree_rows (file_tree_in v)) (content ++ hybrid) r (front_none v tree h.keys h.tree_is h.trees) (first_front content hybrid r moved)
 
-content_none : (v : Bencode) (k : ℕ) (info : Bencode) (name : List ℕ) (tree layers : Pairs) (fs : List ListedFile) → IsRead v k info name tree layers fs
+content_none : (v : Bencode) (k : ℕ) (info : Bencode) (name : List ℕ) (tree layers : Pairs) (fs : List ListedFile) → IsReadFrom v k info name tree layers fs
     → NoneHolds (content_rows k layers fs) → NoneHolds ((all_key_rows v ++ tree_rows (file_tree_in v)) ++ content_rows (piece_length_in v) (layers_in v) (files_of v))
 content_none v k info name tree layers fs h rows =
     let moved = subst (λ n. NoneHolds (content_rows n (layers_in v) (files_of v))) h.length_is
     (subst (λ ls. NoneHolds (content_rows k ls (files_of v))) h.layers_is (subst (λ gs. NoneHolds (content_rows k layers gs)) (all_files v tree fs h.tree_is h.files_are) rows)) in
     none_both (all_key_rows v ++ tree_rows (file_tree_in v)) (content_rows (piece_length_in v) (layers_in v) (files_of v)) (front_none v tree h.keys h.tree_is h.trees) moved
 
-pub hybrid_refused : (v : Bencode) (k : ℕ) (info : Bencode) (name : List ℕ) (tree layers : Pairs) (fs : List ListedFile) (r : Refusal) → IsRead v k info name tree layers fs
+pub hybrid_refused : (v : Bencode) (k : ℕ) (info : Bencode) (name : List ℕ) (tree layers : Pairs) (fs : List ListedFile) (r : Refusal) → IsReadFrom v k info name tree layers fs
     → NoneHolds (content_rows k layers fs) → First (hybrid_rows k info name fs) r → First (table v) r
 hybrid_refused v k info name tree layers fs r h rows first =
     let moved = subst (λ n. First (hybrid_rows n (info_in v) (name_in v) (files_of v)) r) h.length_is
@@ -86,7 +86,7 @@ hybrid_refused v k info name tree layers fs r h rows first =
     first_behind ((all_key_rows v ++ tree_rows (file_tree_in v)) ++ content_rows (piece_length_in v) (layers_in v) (files_of v)) (hybrid_rows (piece_length_in v) (info_in v) (name_in v) (files_of v)) r
     (content_none v k info name tree layers fs h rows) moved
 
-pub none_holds : (v : Bencode) (k : ℕ) (info : Bencode) (name : List ℕ) (tree layers : Pairs) (fs : List ListedFile) → IsRead v k info name tree layers fs
+pub none_holds : (v : Bencode) (k : ℕ) (info : Bencode) (name : List ℕ) (tree layers : Pairs) (fs : List ListedFile) → IsReadFrom v k info name tree layers fs
     → NoneHolds (content_rows k layers fs) → NoneHolds (hybrid_rows k info name fs) → NoneHolds (table v)
 none_holds v k info name tree layers fs h rows last =
     let moved = subst (λ n. NoneHolds (hybrid_rows n (info_in v) (name_in v) (files_of v))) h.length_is
@@ -107,7 +107,7 @@ fits k fs small few = subst (λ n. n * k < 2 ^ 64) (sym (sum_named k fs)) (produ
 names_are : (k : ℕ) (fs : List ListedFile) (es : List FileEntry) → es ≡ entries_from k (roots_in fs) 0 fs → map named_entry es ≡ map named fs
 names_are k fs es is = ap (map named_entry) is ∙ named_entries k (roots_in fs) 0 fs
 
-pub is_described : (v : Bencode) (k : ℕ) (info : Bencode) (name : List ℕ) (tree layers : Pairs) (fs : List ListedFile) (t : Description) → IsRead v k info name tree layers fs
+pub is_described : (v : Bencode) (k : ℕ) (info : Bencode) (name : List ℕ) (tree layers : Pairs) (fs : List ListedFile) (t : Description) → IsReadFrom v k info name tree layers fs
     → t.name ≡ name → t.piece_length ≡ k → t.files ≡ entries_from k (roots_in fs) 0 fs → t.trees ≡ map (tree_at k layers) (roots_in fs)
     → t.info_hash_v2 ≡ sha256 (spelling info) → t.info_hash_v1 ≡ sha1 (spelling info) → IsVersion1 k info name t.v1 → IsDescribed v t
 is_described v k info name tree layers fs t h name_is length_is files trees two one version =

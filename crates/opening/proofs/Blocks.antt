@@ -1,5 +1,5 @@
 -- Runs of blocks: how long they are, and that one size is one run.
-use Rattle.std.proofs.Common.{◌≡◌, ℕ, zero, suc, ◌+◌, ◌-◌, ◌*◌, ◌/◌, ◌%◌, ◌<◌, ◌≤◌, ◌↔◌, inl, inr, refl, sym, ap, subst, ◌∙◌, arith}
+use Rattle.std.proofs.Common.{◌≡◌, ℕ, zero, suc, ◌+◌, ◌-◌, ◌*◌, ◌/◌, ◌%◌, ◌<◌, ◌≤◌, inl, inr, refl, sym, ap, subst, ◌∙◌, arith}
 use Rattle.std.proofs.lemmas.Bool.{cases_eq}
 use Rattle.hashtree.specs.Tree.{block_count}
 use Rattle.opening.specs.Blocks.{block_size, run_size, most_bytes, IsBlockRun}
@@ -32,14 +32,6 @@ at_most_seventeen len b size zero p = omega arith
 at_most_seventeen len b size (suc k) p =
     let last : size ≡ 16384 * k + block_size len (b + k) = last_of_run len b size k p in
     omega (arith, last, p.inside, p.carried)
-
--- a run of one is a block of its size
-pub run_of_one : (len b size : ℕ)
-    → IsBlockRun len b size 1 ↔ ((b < block_count len) × (size ≡ block_size len b))
-run_of_one len b size = (
-  λ r. (omega (arith, r.inside), (let last : size ≡ 16384 * 0 + block_size len (b + 0) = last_of_run len b size 0 r in omega arith)),
-  λ h. record { some = omega arith; inside = omega (arith, h.0); sizes = (let e : size ≡ 0 + block_size len (b + 0) = omega (arith, h.1) in e); carried = omega (arith, h.1) },
-)
 
 -- ---- which sizes are runs
 

@@ -21,9 +21,9 @@ pub is_none : {A : Type 0} (o : Option A) → Decided (o ≡ None)
 is_none None = inl refl
 is_none (Some x) = inr (λ is. cc)
 
-pub is_empty : {A : Type 0} (xs : List A) → Decided (xs ≡ [])
-is_empty [] = inl refl
-is_empty (x ∷ xs) = inr (λ is. cc)
+pub empty_decided : {A : Type 0} (xs : List A) → Decided (xs ≡ [])
+empty_decided [] = inl refl
+empty_decided (x ∷ xs) = inr (λ is. cc)
 
 pub is_below : (m n : ℕ) → Decided (m < n)
 is_below m n = elim (cases_lt m n) [ inl less ↦ inl less | inr more ↦ inr (λ less. omega (arith, less, more)) ]
@@ -35,10 +35,10 @@ pub neither : {P : Type 0} → Decided P → Decided (P → ⊥)
 neither (inl p) = inr (λ never. never p)
 neither (inr never) = inl never
 
-pub both : {P Q : Type 0} → Decided P → Decided Q → Decided (P × Q)
-both (inl p) (inl q) = inl (p, q)
-both (inl p) (inr never) = inr (λ pq. never pq.1)
-both (inr never) d = inr (λ pq. never pq.0)
+pub both_decided : {P Q : Type 0} → Decided P → Decided Q → Decided (P × Q)
+both_decided (inl p) (inl q) = inl (p, q)
+both_decided (inl p) (inr never) = inr (λ pq. never pq.1)
+both_decided (inr never) d = inr (λ pq. never pq.0)
 
 pub either : {P Q : Type 0} → Decided P → Decided Q → Decided (P ⊎ Q)
 either (inl p) d = inl (inl p)
@@ -56,9 +56,9 @@ last_or_before k n lt = grind arith
 abbrev pub SomeBelow : (ℕ → Type 0) → ℕ → Type 0
 SomeBelow P n = (k : ℕ) × (k < n) × P k
 
-pub below : (P : ℕ → Type 0) → ((k : ℕ) → Decided (P k)) → (n : ℕ) → Decided (SomeBelow P n)
-below P decided zero = inr (λ found. omega (arith, found.1))
-below P decided (suc n) = elim (decided n) [
+pub below_decided : (P : ℕ → Type 0) → ((k : ℕ) → Decided (P k)) → (n : ℕ) → Decided (SomeBelow P n)
+below_decided P decided zero = inr (λ found. omega (arith, found.1))
+below_decided P decided (suc n) = elim (decided n) [
   | inl here ↦ inl (n, omega arith, here)
   | inr never ↦ moved (SomeBelow P n) (SomeBelow P (suc n))
       (λ found. (found.0, omega (arith, found.1), found.2))
@@ -66,7 +66,7 @@ below P decided (suc n) = elim (decided n) [
         | inl before ↦ (found.0, before, found.2)
         | inr last ↦ absurd (never (subst P last found.2))
       ])
-      (below P decided n)
+      (below_decided P decided n)
 ]
 
 -- two lists of what is decided to be one or not

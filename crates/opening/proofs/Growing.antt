@@ -2,18 +2,18 @@
 use Rattle.std.proofs.Common.{◌≡◌, ℕ, ◌≤◌, List, [], ◌∷◌, length, Result, Ok, Err, IfErr, inl, inr}
 use Rattle.benc.specs.Spelling.{Spells}
 use Rattle.benc.specs.Value.{Bencode}
-use Rattle.filetree.specs.Tests.{First, NoneHolds, Row}
+use Rattle.filetree.specs.Tests.{First, NoneHolds, TestRow}
 use Rattle.filetree.specs.declared.refusal.Refusal.{Refusal}
 use Rattle.filetree.specs.declared.refusal.Refusal.TheVariants as refusals
 use Rattle.opening.specs.Description.{Description}
 use Rattle.opening.specs.Refusals.{OpeningTakesMemory, all_key_rows, max_torrent}
 
 -- an answer that no row has is not told
-abbrev NoRow : List Row → Refusal → Type 0
+abbrev NoRow : List TestRow → Refusal → Type 0
 NoRow [] r = Unit {0}
 NoRow (t ∷ ts) r = (r ≡ t.answer → ⊥) × NoRow ts r
 
-never : (ts : List Row) (r : Refusal) → NoRow ts r → First ts r → ⊥
+never : (ts : List TestRow) (r : Refusal) → NoRow ts r → First ts r → ⊥
 never [] r none told = told
 never (t ∷ ts) r none told = elim told [ inl here ↦ none.0 here.1 | inr later ↦ never ts r none.1 later.1 ]
 

@@ -103,19 +103,19 @@ parts_more v vs ps is e =
     ∙ ap (option_and_then (λ (qs : List Part). Some (entry_part v ∷ qs))) e
 
 -- a list that begins with an entry
-pub record Begins (v : Bencode) (vs : Items) (ps : List Part) : Type 0 where
+pub record BeginsWithPart (v : Bencode) (vs : Items) (ps : List Part) : Type 0 where
   pub rest : List Part
   pub is_dictionary : is_dict v ≡ true
   pub behind : parts_of vs ≡ Some rest
   pub parts : ps ≡ entry_part v ∷ rest
 
 part_back : (v : Bencode) (vs : Items) (b : Bool) (o : Option (List Part)) (ps : List Part) → is_dict v ≡ b → parts_of vs ≡ o
-    → (if b then option_and_then (λ (qs : List Part). Some (entry_part v ∷ qs)) o else None) ≡ Some ps → Begins v vs ps
+    → (if b then option_and_then (λ (qs : List Part). Some (entry_part v ∷ qs)) o else None) ≡ Some ps → BeginsWithPart v vs ps
 part_back v vs false o ps is at e = let bad : ⊥ = cc in absurd bad
 part_back v vs true None ps is at e = let bad : ⊥ = cc in absurd bad
 part_back v vs true (Some qs) ps is at e = let same : ps ≡ entry_part v ∷ qs = cc in record { rest = qs; is_dictionary = is; behind = at; parts = same }
 
-pub parts_back : (v : Bencode) (vs : Items) (ps : List Part) → parts_of (item v vs) ≡ Some ps → Begins v vs ps
+pub parts_back : (v : Bencode) (vs : Items) (ps : List Part) → parts_of (item v vs) ≡ Some ps → BeginsWithPart v vs ps
 parts_back v vs ps e = part_back v vs (is_dict v) (parts_of vs) ps refl refl e
 
 pub files_pad : (p : Part) (ps : List Part) → p.is_pad ≡ true → files_in (p ∷ ps) ≡ files_in ps

@@ -30,8 +30,8 @@ block_inside : (x n : ℕ) → x % 16384 ≡ 0 → x / 16384 < block_count n →
 block_inside x n e lt = omega (arith, e, lt)
 
 -- the address lies in the file's pieces
-abbrev pub Covers : ℕ → ℕ → FileEntry → Type 0
-Covers p a f = (f.first_piece * p ≤ a) × (a < (f.first_piece + pieces_of p f.length) * p)
+abbrev pub IsInPieces : ℕ → ℕ → FileEntry → Type 0
+IsInPieces p a f = (f.first_piece * p ≤ a) × (a < (f.first_piece + pieces_of p f.length) * p)
 
 both_true : (x y z : Bool) → (x && y && z) ≡ true → (x ≡ true) × (y ≡ true) × (z ≡ true)
 both_true true true true e = (refl, refl, refl)
@@ -39,7 +39,7 @@ both_true true true false e = cc
 both_true true false z e = cc
 both_true false y z e = cc
 
-pub covers : (p a : ℕ) (f : FileEntry) → 0 < p → begins_in p a f ≡ true → Covers p a f
+pub covers : (p a : ℕ) (f : FileEntry) → 0 < p → begins_in p a f ≡ true → IsInPieces p a f
 covers p a f h e =
     let parts = both_true (nat_le (f.first_piece * p) a) (((a - f.first_piece * p) % 16384) == 0) (nat_lt ((a - f.first_piece * p) / 16384) (block_count f.length)) e in
     let from : f.first_piece * p ≤ a = grind (arith, nat_tests, parts.0) in
@@ -125,7 +125,7 @@ begins_place p a f e =
     (in_file, omega (arith, from, at_block))
 
 -- no two files cover an address
-pub one_covers : (p a i j : ℕ) (fs : List FileEntry) (f g : FileEntry) → AreLaidOut p fs → slice_get fs i ≡ Some f → slice_get fs j ≡ Some g → i < j → Covers p a f → Covers p a g → ⊥
+pub one_covers : (p a i j : ℕ) (fs : List FileEntry) (f g : FileEntry) → AreLaidOut p fs → slice_get fs i ≡ Some f → slice_get fs j ≡ Some g → i < j → IsInPieces p a f → IsInPieces p a g → ⊥
 one_covers p a i j fs f g laid e e' lt cover cover' =
     let grows = sum_grows p i j fs f e lt in
     let ends : f.first_piece + pieces_of p f.length ≤ g.first_piece = omega (arith, grows, laid.first_pieces i f e, laid.first_pieces j g e') in

@@ -1,5 +1,5 @@
 -- Roots in the order of first use.
-use Rattle.std.proofs.Common.{◌≡◌, ◌≢◌, ℕ, zero, suc, ◌+◌, ◌<◌, ◌≤◌, drop, get_or, Bool, true, false, cond, List, [], ◌∷◌, ◌++◌, length, Option, Some, None, option_map, map, ◌⊎◌, inl, inr, refl, sym, ap, subst, ◌∙◌}
+use Rattle.std.proofs.Common.{◌≡◌, ◌≢◌, ℕ, zero, suc, ◌+◌, ◌<◌, drop, get_or, Bool, true, false, cond, List, [], ◌∷◌, ◌++◌, length, Option, Some, None, option_map, map, ◌⊎◌, inl, inr, refl, sym, ap, subst, ◌∙◌}
 use Rattle.std.specs.Prelude.{◌==◌, slice_get, fold, take, if◌then◌else◌, IfSome}
 use Rattle.std.specs.Cmp.Lexicographic.{slice_cmp}
 use Rattle.std.specs.Ordering.{nat_cmp, is_eq}
@@ -20,7 +20,7 @@ use Rattle.opening.specs.PieceLayers.{tree_at}
 use Rattle.benc.specs.Value.{Pairs}
 use Rattle.std.specs.Prelude.{option_and_then}
 use Rattle.std.proofs.Common.{append_assoc}
-use Rattle.std.proofs.lemmas.List.{drop_more, drop_all, take_more, take-append-drop}
+use Rattle.std.proofs.lemmas.List.{drop_more, take_more, take-append-drop}
 use Rattle.std.proofs.lemmas.List.Sums.{sum_by-cons}
 
 behind_one : (o : Option ℕ) (n : ℕ) → option_map suc o ≡ Some n → (m : ℕ) × (o ≡ Some m) × (n ≡ suc m)
@@ -41,8 +41,8 @@ place_at (t ∷ ts) s n e =
           let rest = place_at ts s later.0 later.1 in (rest.0, subst (λ m. slice_get (t ∷ ts) m ≡ Some rest.0) (sym later.2) rest.1, rest.2)
     ]
 
-pub place_below : (ts : List Root) (s : List ℕ) (n : ℕ) → place_in ts s ≡ Some n → n < length ts
-place_below ts s n e = let there = place_at ts s n e in slice_get_within ts n there.0 there.1
+pub place_within : (ts : List Root) (s : List ℕ) (n : ℕ) → place_in ts s ≡ Some n → n < length ts
+place_within ts s n e = let there = place_at ts s n e in slice_get_within ts n there.0 there.1
 
 pub place_push_new : (ts : List Root) (t : Root) (s : List ℕ) → place_in ts s ≡ None → t.root ≡ s → place_in (ts ++ t ∷ []) s ≡ Some (length ts)
 place_push_new [] t s e same = rw (equal_bytes t.root s same) refl
@@ -92,8 +92,8 @@ numbered_push g h ts t none places more q =
           let tied : is_eq (slice_cmp nat_cmp t.root q) ≡ true = subst (λ k. is_eq (slice_cmp nat_cmp t.root k) ≡ true) same (ap is_eq (tied_itself nat_list_cmp_total t.root)) in cc)))
     ]
 
-pub root_at : (ts : List Root) (s : List ℕ) (n size : ℕ) (t : Root) → place_in ts s ≡ Some n → slice_get ts n ≡ Some t → t.length ≡ size → IsRootAt ts s size
-root_at ts s n size t place there same = record { number = n; at = t; place = place; there = there; same = same }
+pub root_is_at : (ts : List Root) (s : List ℕ) (n size : ℕ) (t : Root) → place_in ts s ≡ Some n → slice_get ts n ≡ Some t → t.length ≡ size → IsRootAt ts s size
+root_is_at ts s n size t place there same = record { number = n; at = t; place = place; there = there; same = same }
 
 pub last_of : {A : Type 0} (xs : List A) (x : A) → slice_get (xs ++ x ∷ []) (length xs) ≡ Some x
 last_of [] x = refl
@@ -108,9 +108,6 @@ pub pieces_next : (p : ℕ) (xs : List ListedFile) (i : ℕ) (x : ListedFile) �
 pieces_next p xs i x lt is =
     let here : drop i xs ≡ x ∷ drop (i + 1) xs = drop_more xs i x lt ∙ ap (λ y. y ∷ drop (i + 1) xs) (sym is) in
     ap (λ ys. pieces_in p ys) here ∙ sum_by-cons (λ f. pieces_of p f.length) x (drop (i + 1) xs)
-
-pub pieces_done : (p : ℕ) (xs : List ListedFile) (i : ℕ) → length xs ≤ i → pieces_in p (drop i xs) ≡ 0
-pieces_done p xs i le = ap (λ ys. pieces_in p ys) (drop_all i xs le)
 
 -- ---- the trees by their roots
 
@@ -250,8 +247,8 @@ none_reused fs ts h r =
 
 -- ---- files as they lie in memory
 
-pub one_more : (xs : List ListedFile) (i : ℕ) (x : ListedFile) → i < length xs → x ≡ get_or xs i x → (take (i + 1) xs) ≡ (take i xs) ++ x ∷ []
-one_more xs i x lt is = take_more xs i x lt ∙ ap (λ y. take i xs ++ y ∷ []) (sym is)
+pub take_next : (xs : List ListedFile) (i : ℕ) (x : ListedFile) → i < length xs → x ≡ get_or xs i x → (take (i + 1) xs) ≡ (take i xs) ++ x ∷ []
+take_next xs i x lt is = take_more xs i x lt ∙ ap (λ y. take i xs ++ y ∷ []) (sym is)
 
 pub item_in : (xs : List ListedFile) (i : ℕ) (x : ListedFile) → i < length xs → x ≡ get_or xs i x → IsIn xs x
 item_in xs i x lt is = (i, slice_get_read xs (length xs) i x refl lt is)

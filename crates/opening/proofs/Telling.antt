@@ -12,7 +12,7 @@ use Rattle.benc.specs.Value.{Bencode, int, text, list, dict, Pairs, no_pairs, pa
 use Rattle.filetree.specs.Dictionary.{as_dict, as_int}
 use Rattle.filetree.specs.FileTree.{HasBadPath, HasBadPathIn, IsBadComponent, Walk, is_nil}
 use Rattle.filetree.specs.declared.files.ListedFile.{ListedFile}
-use Rattle.filetree.specs.Tests.{First, NoneHolds, Row}
+use Rattle.filetree.specs.Tests.{First, NoneHolds, TestRow}
 use Rattle.opening.specs.Refusals.{IsName, IsOther, count_rows, file_tree_in, files_of, hybrid_rows, info_in, kind_rows, layer_rows, layers_in, layers_rows, name_in, piece_length_in, piece_length_rows, present_rows, table, top_rows, version_rows, walks_of}
 use Rattle.pieces.specs.Pieces.{IsPieceLength}
 use Rattle.filetree.specs.TreeTests.{file_rows, shape_rows}
@@ -21,30 +21,30 @@ use Rattle.opening.specs.Trees.{IsIn, IsReused, pieces_in, roots_in}
 use Rattle.opening.specs.declared.roots.Root.{Root}
 use Rattle.pieces.specs.Pieces.{pieces_of}
 use Rattle.filetree.specs.declared.refusal.Refusal.{Refusal}
-use Rattle.opening.proofs.Deciding.{Decided, SomeBelow, below, both, by_test, either, is_at_most, is_below, is_bool, is_empty, is_none, moved, neither, same_list}
+use Rattle.opening.proofs.Deciding.{Decided, SomeBelow, below_decided, both_decided, by_test, either, is_at_most, is_below, is_bool, empty_decided, is_none, moved, neither, same_list}
 use Rattle.filetree.proofs.Tables.{first_behind, first_front, none_both}
 
 -- a test of the table holds, or none does
-pub record Told (rows : List Row) : Type 0 where
+pub record Told (rows : List TestRow) : Type 0 where
   pub which : ((r : Refusal) × First rows r) ⊎ NoneHolds rows
 
 nothing : Told []
 nothing = record { which = inr tt }
 
-row_which : (t : Row) (ts : List Row) → Decided t.holds → ((r : Refusal) × First ts r) ⊎ NoneHolds ts → ((r : Refusal) × First (t ∷ ts) r) ⊎ NoneHolds (t ∷ ts)
+row_which : (t : TestRow) (ts : List TestRow) → Decided t.holds → ((r : Refusal) × First ts r) ⊎ NoneHolds ts → ((r : Refusal) × First (t ∷ ts) r) ⊎ NoneHolds (t ∷ ts)
 row_which t ts (inl holds) rest = inl (t.answer, inl (holds, refl))
 row_which t ts (inr never) (inl later) = inl (later.0, inr (never, later.1))
 row_which t ts (inr never) (inr none) = inr (never, none)
 
-row : (t : Row) (ts : List Row) → Decided t.holds → Told ts → Told (t ∷ ts)
+row : (t : TestRow) (ts : List TestRow) → Decided t.holds → Told ts → Told (t ∷ ts)
 row t ts decided rest = record { which = row_which t ts decided rest.which }
 
-both_which : (xs ys : List Row) → ((r : Refusal) × First xs r) ⊎ NoneHolds xs → ((r : Refusal) × First ys r) ⊎ NoneHolds ys → ((r : Refusal) × First (xs ++ ys) r) ⊎ NoneHolds (xs ++ ys)
+both_which : (xs ys : List TestRow) → ((r : Refusal) × First xs r) ⊎ NoneHolds xs → ((r : Refusal) × First ys r) ⊎ NoneHolds ys → ((r : Refusal) × First (xs ++ ys) r) ⊎ NoneHolds (xs ++ ys)
 both_which xs ys (inl first) rest = inl (first.0, first_front xs ys first.0 first.1)
 both_which xs ys (inr none) (inl later) = inl (later.0, first_behind xs ys later.0 none later.1)
 both_which xs ys (inr none) (inr rest) = inr (none_both xs ys none rest)
 
-behind : (xs ys : List Row) → Told xs → Told ys → Told (xs ++ ys)
+behind : (xs ys : List TestRow) → Told xs → Told ys → Told (xs ++ ys)
 behind xs ys one other = record { which = both_which xs ys one.which other.which }
 
 bytes : (xs ys : List ℕ) → Decided (xs ≡ ys)
@@ -88,7 +88,7 @@ power : (n : ℕ) → Decided (IsPieceLength n)
 power n = moved (SomeBelow (IsPower n) 31) (IsPieceLength n)
     (λ found. (found.0, found.2.0, omega (arith, found.1), found.2.1))
     (λ found. (found.0, omega (arith, found.2), (found.1, found.3)))
-    (below (IsPower n) (λ k. both (is_at_most 14 k) (cases_eq n (2 ^ k))) 31)
+    (below_decided (IsPower n) (λ k. both_decided (is_at_most 14 k) (cases_eq n (2 ^ k))) 31)
 
 top_told : (v : Bencode) → Told (top_rows v)
 top_told v = row _ _ (is_none (as_dict v)) (row _ _ (is_none _) (row _ _ (other_kind as_dict _) nothing))
@@ -119,7 +119,7 @@ component k = either (bytes k _) (either (bytes k _) (either (holds_byte k 47) (
 mutual
   bad_path : (ps : Pairs) → Decided (HasBadPath ps)
   bad_path no_pairs = inr (λ never. never)
-  bad_path (pair k v ps) = either (both (is_bool (is_nil k) false) (either (component k) (bad_path_in v))) (bad_path ps)
+  bad_path (pair k v ps) = either (both_decided (is_bool (is_nil k) false) (either (component k) (bad_path_in v))) (bad_path ps)
 
   bad_path_in : (v : Bencode) → Decided (HasBadPathIn v)
   bad_path_in (int z) = inr (λ never. never)
@@ -168,7 +168,7 @@ abbrev Clash : ListedFile → ListedFile → Type 0
 Clash f g = OneRoot f.root g.root × (f.length ≢ g.length)
 
 clash : (f g : ListedFile) → Decided (Clash f g)
-clash f g = both (one_root f.root g.root) (neither (cases_eq f.length g.length))
+clash f g = both_decided (one_root f.root g.root) (neither (cases_eq f.length g.length))
 
 reused : (fs : List ListedFile) → Decided (IsReused fs)
 reused fs = moved
@@ -187,7 +187,7 @@ reused fs = moved
     (some_file (λ f. SomeFile (Clash f) fs) (λ f. some_file (Clash f) (clash f) fs) fs)
 
 count_told : (p : ℕ) (fs : List ListedFile) → Told (count_rows p fs)
-count_told p fs = row _ _ (reused fs) (row _ _ (is_empty fs) (row _ _ (is_at_most (2 ^ 32) (pieces_in p fs)) nothing))
+count_told p fs = row _ _ (reused fs) (row _ _ (empty_decided fs) (row _ _ (is_at_most (2 ^ 32) (pieces_in p fs)) nothing))
 
 layer_told : (p : ℕ) (layers : Pairs) (ts : List Root) → Told (layer_rows p layers ts)
 layer_told p layers ts = row _ _ (is_bool _ true) (row _ _ (is_bool _ true) (row _ _ (is_bool _ true) nothing))
@@ -198,7 +198,7 @@ same_named : (f g : Named) → Decided (f ≡ g)
 same_named f g = moved ((f.path ≡ g.path) × (f.length ≡ g.length)) (f ≡ g)
     (λ same. ap (λ (p : List (List ℕ)). make p f.length) same.0 ∙ ap (λ (n : ℕ). make g.path n) same.1)
     (λ same. (ap (λ (h : Named). h.path) same, ap (λ (h : Named). h.length) same))
-    (both (same_list bytes f.path g.path) (cases_eq f.length g.length))
+    (both_decided (same_list bytes f.path g.path) (cases_eq f.length g.length))
   where
     make : List (List ℕ) → ℕ → Named
     make p n = record { path = p; length = n }
@@ -219,13 +219,13 @@ part_misplaced p ps n (Some part) there = moved
     (λ holds. (part, there, holds.0, holds.1.0, holds.1.1))
     (λ found. let same : found.0 ≡ part = same_Some found.0 part (sym found.1 ∙ there) in
     (ap (λ (q : Part). q.is_pad) (sym same) ∙ found.2, (subst (λ (q : Part). 0 < length_in q) same found.3, found.4)))
-    (both (is_bool part.is_pad false) (both (is_below 0 (length_in part)) (neither (cases_eq _ _))))
+    (both_decided (is_bool part.is_pad false) (both_decided (is_below 0 (length_in part)) (neither (cases_eq _ _))))
 
 misplaced : (p : ℕ) (ps : List Part) → Decided (IsMisplaced p ps)
 misplaced p ps = moved (SomeBelow (IsMisplacedAt p ps) (length ps)) (IsMisplaced p ps)
     (λ found. record { number = found.0; part = found.2.0; there = found.2.1; no_pad = found.2.2; some = found.2.3; elsewhere = found.2.4 })
     (λ h. (h.number, slice_get_within ps h.number h.part h.there, (h.part, h.there, h.no_pad, h.some, h.elsewhere)))
-    (below (IsMisplacedAt p ps) (λ n. part_misplaced p ps n (slice_get ps n) refl) (length ps))
+    (below_decided (IsMisplacedAt p ps) (λ n. part_misplaced p ps n (slice_get ps n) refl) (length ps))
 
 too_long : (p : ℕ) (ps : List Part) → Decided (IsTooLong p ps)
 too_long p ps = is_below (sum_by (λ f. pieces_of p f.length) (files_in ps) * p) (stream_length ps)
@@ -234,8 +234,8 @@ hybrid_told : (p : ℕ) (info : Bencode) (name : List ℕ) (fs : List ListedFile
 hybrid_told p info name fs =
     let parts = the_parts (parts_in info name) in
     let hybrid = is_bool (is_hybrid info) true in
-    row _ _ (both hybrid (differs fs (parts_in info name))) (row _ _ (both hybrid (either (misplaced p parts) (too_long p parts)))
-    (row _ _ (both hybrid (is_none (cuts_in p parts info))) nothing))
+    row _ _ (both_decided hybrid (differs fs (parts_in info name))) (row _ _ (both_decided hybrid (either (misplaced p parts) (too_long p parts)))
+    (row _ _ (both_decided hybrid (is_none (cuts_in p parts info))) nothing))
 
 -- ---- all of it
 

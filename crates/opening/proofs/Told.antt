@@ -1,16 +1,13 @@
 -- What the keys of a torrent file tell.
-use Rattle.std.proofs.Common.{◌≡◌, ℤ, List, ℕ, Some, refl, ap, arith, codes}
+use Rattle.std.proofs.Common.{◌≡◌, List, ℕ, Some, refl, arith, codes}
 use Rattle.benc.specs.Text.{Fits, IsCanonical}
-use Rattle.benc.specs.Value.{Bencode, dict, int}
+use Rattle.benc.specs.Value.{Bencode, dict}
 use Rattle.filetree.specs.Dictionary.{get, value_at}
 use Rattle.filetree.proofs.Ascending.{pairs_fit, value_fits}
-use Rattle.opening.specs.Refusals.{file_tree_in, info_in, number_in}
+use Rattle.opening.specs.Refusals.{file_tree_in, info_in}
 
 pub value_found : (key : List ℕ) (v w : Bencode) → get key v ≡ Some w → value_at key v ≡ w
 value_found key v w is = rw is refl
-
-pub number_found : (key : List ℕ) (v : Bencode) (z : ℤ) → get key v ≡ Some (int z) → number_in (value_at key v) ≡ number_in (int z)
-number_found key v z is = ap number_in (value_found key v (int z) is)
 
 -- the file tree may be part of a spelled value
 pub tree_fits : (v : Bencode) → IsCanonical v → Fits 126 (dict (file_tree_in v))

@@ -6,7 +6,7 @@ use Rattle.benc.specs.View.{view, pairs_view}
 use Rattle.filetree.specs.Dictionary.{get}
 use Rattle.filetree.specs.declared.files.ListedFile.{ListedFile}
 use Rattle.opening.specs.PieceLayers.{tree_at}
-use Rattle.filetree.specs.Tests.{Row}
+use Rattle.filetree.specs.Tests.{TestRow}
 use Rattle.opening.specs.Refusals.{count_rows, file_tree_in, info_in, layer_rows, layers_in, name_in, number_in, piece_length_in}
 use Rattle.opening.specs.Rooted.{AreNumbers, AreRoots, entries_from}
 use Rattle.opening.specs.Seen.{file_entry, tree_entry}
@@ -16,7 +16,7 @@ use Rattle.opening.specs.declared.info.Keys.{Keys}
 use Rattle.opening.specs.declared.open.Contents.{Contents}
 
 -- the tests of the files together, and of their layers
-abbrev pub content_rows : ℕ → Pairs → List ListedFile → List Row
+abbrev pub content_rows : ℕ → Pairs → List ListedFile → List TestRow
 content_rows piece_length layers fs =
     count_rows piece_length fs ++ layer_rows piece_length layers (roots_in fs)
 

@@ -9,7 +9,7 @@ use Rattle.benc.specs.Fails as benc
 use Rattle.benc.specs.declared.fault.Fault.{Fault}
 use Rattle.filetree.specs.Dictionary.{get, value_at, pairs_in, as_int, as_text, as_dict}
 use Rattle.pieces.specs.Pieces.{IsPieceLength}
-use Rattle.filetree.specs.Tests.{Row, First, NoneHolds}
+use Rattle.filetree.specs.Tests.{TestRow, First, NoneHolds}
 use Rattle.filetree.specs.TreeTests.{shape_rows, file_rows}
 use Rattle.filetree.specs.FileTree.{Walk, walks, listed}
 use Rattle.filetree.specs.declared.files.ListedFile.{ListedFile}
@@ -86,22 +86,22 @@ IsName (Some v) = IsTextOf (as_text v)
     IsTextOf None = ⊥
     IsTextOf (Some s) = IsUtf8 s
 
-abbrev pub missing : Key → Bencode → Row
+abbrev pub missing : Key → Bencode → TestRow
 missing key v = record { holds = lacks key v; answer = refusals.Missing key }
 
-abbrev pub wrong : {A : Type 0} → (Bencode → Option A) → Key → Bencode → Row
+abbrev pub wrong : {A : Type 0} → (Bencode → Option A) → Key → Bencode → TestRow
 wrong kind key v = record { holds = Other kind key v; answer = refusals.WrongType key }
 
 -- the steps on keys: the info dictionary, the version, the other keys of the info dictionary, the
 -- piece layers and the piece length
-abbrev pub top_rows : Bencode → List Row
+abbrev pub top_rows : Bencode → List TestRow
 top_rows v =
     record { holds = as_dict v ≡ None; answer = refusals.WrongType keys.Top }
     ∷ missing keys.Info v
     ∷ wrong as_dict keys.Info v
     ∷ []
 
-abbrev pub version_rows : Bencode → List Row
+abbrev pub version_rows : Bencode → List TestRow
 version_rows info =
     missing keys.MetaVersion info
     ∷ wrong as_int keys.MetaVersion info
@@ -112,40 +112,40 @@ version_rows info =
     }
     ∷ []
 
-abbrev pub present_rows : Bencode → List Row
+abbrev pub present_rows : Bencode → List TestRow
 present_rows info =
     missing keys.FileTree info
     ∷ missing keys.Name info
     ∷ missing keys.PieceLength info
     ∷ []
 
-abbrev pub kind_rows : Bencode → List Row
+abbrev pub kind_rows : Bencode → List TestRow
 kind_rows info =
     wrong as_dict keys.FileTree info
     ∷ record { holds = IsName (get (codes "name") info) → ⊥; answer = refusals.WrongType keys.Name }
     ∷ wrong as_int keys.PieceLength info
     ∷ []
 
-abbrev pub layers_rows : Bencode → List Row
+abbrev pub layers_rows : Bencode → List TestRow
 layers_rows v = wrong as_dict keys.PieceLayers v ∷ []
 
-abbrev pub piece_length_rows : ℕ → List Row
+abbrev pub piece_length_rows : ℕ → List TestRow
 piece_length_rows n = record { holds = IsPieceLength n → ⊥; answer = refusals.PieceLength } ∷ []
 
 -- the tests of the info dictionary's keys
-abbrev pub told_rows : Bencode → List Row
+abbrev pub told_rows : Bencode → List TestRow
 told_rows info = version_rows info ++ (present_rows info ++ kind_rows info)
 
 -- the tests of the keys, but for what the piece length is
-abbrev pub head_rows : Bencode → List Row
+abbrev pub head_rows : Bencode → List TestRow
 head_rows v = top_rows v ++ (told_rows (info_in v) ++ layers_rows v)
 
 -- the tests of all keys
-abbrev pub all_key_rows : Bencode → List Row
+abbrev pub all_key_rows : Bencode → List TestRow
 all_key_rows v = top_rows v
     ++ (told_rows (info_in v) ++ (layers_rows v ++ piece_length_rows (piece_length_in v)))
 
-abbrev pub count_rows : ℕ → List ListedFile → List Row
+abbrev pub count_rows : ℕ → List ListedFile → List TestRow
 count_rows piece_length fs =
     record { holds = IsReused fs; answer = refusals.RootReused }
     ∷ record { holds = fs ≡ []; answer = refusals.NoFiles }
@@ -153,7 +153,7 @@ count_rows piece_length fs =
     ∷ []
 
 -- the steps on piece layers, each of any one tree
-abbrev pub layer_rows : ℕ → Pairs → List Root → List Row
+abbrev pub layer_rows : ℕ → Pairs → List Root → List TestRow
 layer_rows piece_length layers ts =
     record {
       holds = list_any (lacks_layer piece_length layers) ts
@@ -173,7 +173,7 @@ layer_rows piece_length layers ts =
     ∷ []
 
 -- the steps on the version 1 part, of hybrids alone
-abbrev pub hybrid_rows : ℕ → Bencode → List ℕ → List ListedFile → List Row
+abbrev pub hybrid_rows : ℕ → Bencode → List ℕ → List ListedFile → List TestRow
 hybrid_rows piece_length info name fs =
     record {
       holds = IsTrue (is_hybrid info) × DiffersFromFiles fs (parts_in info name);
@@ -191,12 +191,12 @@ hybrid_rows piece_length info name fs =
     ∷ []
 
 -- tables, one behind the other
-abbrev joined_rows : List (List Row) → List Row
+abbrev joined_rows : List (List TestRow) → List TestRow
 joined_rows [] = []
 joined_rows (rows ∷ tables) = rows ++ joined_rows tables
 
 -- the tests of a value, in their order
-abbrev pub table : Bencode → List Row
+abbrev pub table : Bencode → List TestRow
 table v = joined_rows (
     top_rows v
     ∷ version_rows (info_in v)

@@ -6,7 +6,7 @@ use Rattle.benc.specs.View.{view, pairs_view}
 use Rattle.benc.specs.declared.value.Pair.{Pair}
 use Rattle.filetree.specs.Dictionary.{get}
 use Rattle.opening.specs.declared.info.Present.{Present}
-use Rattle.opening.specs.declared.info.Told.{Told}
+use Rattle.opening.specs.declared.info.InfoKeys.{InfoKeys}
 
 -- the values under the keys of an info dictionary
 pub record ArePresent (info : Bencode) (p : Present) : Type 0 where
@@ -14,8 +14,8 @@ pub record ArePresent (info : Bencode) (p : Present) : Type 0 where
   pub name : get (codes "name") info ≡ Some (view p.name.now)
   pub piece_length : get (codes "piece length") info ≡ Some (view p.piece_length.now)
 
--- and what they tell
-pub record AreOfKind (info : Bencode) (t : Told) : Type 0 where
+-- the file tree, the name and the piece length of an info dictionary
+pub record AreOfKind (info : Bencode) (t : InfoKeys) : Type 0 where
   pub tree : get (codes "file tree") info ≡ Some (dict (pairs_view t.tree.now))
   pub name : get (codes "name") info ≡ Some (text t.name.now)
   pub piece_length : get (codes "piece length") info ≡ Some (int t.piece_length)

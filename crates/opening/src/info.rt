@@ -33,7 +33,7 @@ pub(crate) fn read_keys<'v, 'a>(top: &'v Value<'a>) -> Result<Keys<'v, 'a>, Refu
     ensures { Passes (head_rows (view top.now)) (AreKeys (view top.now)) result }
 {
     let info = info(top)?;
-    let Told {
+    let InfoKeys {
         tree,
         name,
         piece_length,
@@ -46,6 +46,115 @@ pub(crate) fn read_keys<'v, 'a>(top: &'v Value<'a>) -> Result<Keys<'v, 'a>, Refu
         layers,
         piece_length,
     })
+}
+
+/// Tests the piece length.
+pub(crate) fn piece_length(number: i64) -> Result<PieceLength, Refusal>
+    ensures { Passes (piece_length_rows (number_in (int number)))
+        (λ n. (n ≡ number_in (int number)) × IsPieceLength n) result }
+{
+    if number < 0 {
+        return Err(Refusal::PieceLength);
+    }
+    PieceLength::new(number as u64).ok_or(Refusal::PieceLength)
+}
+
+// The info dictionary.
+fn info<'v, 'a>(top: &'v Value<'a>) -> Result<&'v Value<'a>, Refusal>
+    ensures { Passes (top_rows (view top.now))
+        (λ i. get (codes "info") (view top.now) ≡ Some (view i.now)) result }
+{
+    dictionary(top, Key::Top)?;
+    let info = required(top, Key::Info)?;
+    dictionary(info, Key::Info)?;
+    Ok(info)
+}
+
+fn read_info<'v, 'a>(info: &'v Value<'a>) -> Result<InfoKeys<'v, 'a>, Refusal>
+    ensures { Passes (told_rows (view info.now)) (AreOfKind (view info.now)) result }
+{
+    version(info)?;
+    let present = all_present(info)?;
+    all_of_kind(present)
+}
+
+// Tests the version before all other keys of the info dictionary.
+fn version(info: &Value<'_>) -> Result<(), Refusal>
+    ensures { Passes (version_rows (view info.now)) (λ _. Unit {0}) result }
+{
+    let version = required(info, Key::MetaVersion)?;
+    if integer(version, Key::MetaVersion)? != 2 {
+        return Err(Refusal::Version);
+    }
+    Ok(())
+}
+
+// The values of the other keys that have to be there.
+struct Present<'v, 'a> {
+    tree: &'v Value<'a>,
+    name: &'v Value<'a>,
+    piece_length: &'v Value<'a>,
+}
+
+fn all_present<'v, 'a>(info: &'v Value<'a>) -> Result<Present<'v, 'a>, Refusal>
+    ensures { Passes (present_rows (view info.now)) (ArePresent (view info.now)) result }
+{
+    let tree = required(info, Key::FileTree)?;
+    let name = required(info, Key::Name)?;
+    let piece_length = required(info, Key::PieceLength)?;
+    Ok(Present {
+        tree,
+        name,
+        piece_length,
+    })
+}
+
+// What the info dictionary tells beside the version.
+struct InfoKeys<'v, 'a> {
+    tree: &'v [Pair<'a>],
+    name: &'a str,
+    piece_length: i64,
+}
+
+fn all_of_kind<'v, 'a>(values: Present<'v, 'a>) -> Result<InfoKeys<'v, 'a>, Refusal>
+    ensures { (info : Bencode) → ArePresent info values.entry
+        → Passes (kind_rows info) (AreOfKind info) result }
+{
+    let Present {
+        tree,
+        name,
+        piece_length,
+    } = values;
+    let tree = dictionary(tree, Key::FileTree)?;
+    let name = text(name, Key::Name)?;
+    let piece_length = integer(piece_length, Key::PieceLength)?;
+    Ok(InfoKeys {
+        tree,
+        name,
+        piece_length,
+    })
+}
+
+// The pairs of `piece layers`, which may be absent.
+fn layers<'v, 'a>(top: &'v Value<'a>) -> Result<Option<&'v [Pair<'a>]>, Refusal>
+    ensures { Passes (layers_rows (view top.now))
+        (λ ls. pairs_seen ls ≡ layers_in (view top.now)) result }
+{
+    match top.get(Key::PieceLayers.text().as_bytes()) {
+        Some(value) => Ok(Some(dictionary(value, Key::PieceLayers)?)),
+        None => Ok(None),
+    }
+}
+
+// The value under a key that has to be there.
+fn required<'v, 'a>(v: &'v Value<'a>, key: Key) -> Result<&'v Value<'a>, Refusal>
+    ensures { MatchResult result (λ w. get (key_text key) (view v.now) ≡ Some (view w.now))
+        (λ r. (get (key_text key) (view v.now) ≡ None) × (r ≡ Refusal.Missing key)) }
+{
+    match v.get(key.text().as_bytes()) {
+        Some(value) => Ok(value),
+        None => Err(Refusal::Missing(key)),
+    }
 }
 
 // The pairs of a dictionary.
@@ -82,113 +191,4 @@ fn text<'a>(v: &Value<'a>, key: Key) -> Result<&'a str, Refusal>
         },
         _ => Err(Refusal::WrongType(key)),
     }
-}
-
-// The value under a key that has to be there.
-fn required<'v, 'a>(v: &'v Value<'a>, key: Key) -> Result<&'v Value<'a>, Refusal>
-    ensures { MatchResult result (λ w. get (key_text key) (view v.now) ≡ Some (view w.now))
-        (λ r. (get (key_text key) (view v.now) ≡ None) × (r ≡ Refusal.Missing key)) }
-{
-    match v.get(key.text().as_bytes()) {
-        Some(value) => Ok(value),
-        None => Err(Refusal::Missing(key)),
-    }
-}
-
-// The info dictionary.
-fn info<'v, 'a>(top: &'v Value<'a>) -> Result<&'v Value<'a>, Refusal>
-    ensures { Passes (top_rows (view top.now))
-        (λ i. get (codes "info") (view top.now) ≡ Some (view i.now)) result }
-{
-    dictionary(top, Key::Top)?;
-    let info = required(top, Key::Info)?;
-    dictionary(info, Key::Info)?;
-    Ok(info)
-}
-
-// Tests the version before all other keys of the info dictionary.
-fn version(info: &Value<'_>) -> Result<(), Refusal>
-    ensures { Passes (version_rows (view info.now)) (λ _. Unit {0}) result }
-{
-    let version = required(info, Key::MetaVersion)?;
-    if integer(version, Key::MetaVersion)? != 2 {
-        return Err(Refusal::Version);
-    }
-    Ok(())
-}
-
-// The values of the other keys that have to be there.
-struct Present<'v, 'a> {
-    tree: &'v Value<'a>,
-    name: &'v Value<'a>,
-    piece_length: &'v Value<'a>,
-}
-
-fn all_present<'v, 'a>(info: &'v Value<'a>) -> Result<Present<'v, 'a>, Refusal>
-    ensures { Passes (present_rows (view info.now)) (ArePresent (view info.now)) result }
-{
-    let tree = required(info, Key::FileTree)?;
-    let name = required(info, Key::Name)?;
-    let piece_length = required(info, Key::PieceLength)?;
-    Ok(Present {
-        tree,
-        name,
-        piece_length,
-    })
-}
-
-// What the info dictionary tells beside the version.
-struct Told<'v, 'a> {
-    tree: &'v [Pair<'a>],
-    name: &'a str,
-    piece_length: i64,
-}
-
-fn all_of_kind<'v, 'a>(values: Present<'v, 'a>) -> Result<Told<'v, 'a>, Refusal>
-    ensures { (info : Bencode) → ArePresent info values.entry
-        → Passes (kind_rows info) (AreOfKind info) result }
-{
-    let Present {
-        tree,
-        name,
-        piece_length,
-    } = values;
-    let tree = dictionary(tree, Key::FileTree)?;
-    let name = text(name, Key::Name)?;
-    let piece_length = integer(piece_length, Key::PieceLength)?;
-    Ok(Told {
-        tree,
-        name,
-        piece_length,
-    })
-}
-
-// The pairs of `piece layers`, which may be absent.
-fn layers<'v, 'a>(top: &'v Value<'a>) -> Result<Option<&'v [Pair<'a>]>, Refusal>
-    ensures { Passes (layers_rows (view top.now))
-        (λ ls. pairs_seen ls ≡ layers_in (view top.now)) result }
-{
-    match top.get(Key::PieceLayers.text().as_bytes()) {
-        Some(value) => Ok(Some(dictionary(value, Key::PieceLayers)?)),
-        None => Ok(None),
-    }
-}
-
-/// Tests the piece length.
-pub(crate) fn piece_length(number: i64) -> Result<PieceLength, Refusal>
-    ensures { Passes (piece_length_rows (number_in (int number)))
-        (λ n. (n ≡ number_in (int number)) × IsPieceLength n) result }
-{
-    if number < 0 {
-        return Err(Refusal::PieceLength);
-    }
-    PieceLength::new(number as u64).ok_or(Refusal::PieceLength)
-}
-
-fn read_info<'v, 'a>(info: &'v Value<'a>) -> Result<Told<'v, 'a>, Refusal>
-    ensures { Passes (told_rows (view info.now)) (AreOfKind (view info.now)) result }
-{
-    version(info)?;
-    let present = all_present(info)?;
-    all_of_kind(present)
 }

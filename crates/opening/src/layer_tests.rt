@@ -3,7 +3,7 @@
 ghost use Rattle.std.specs.Prelude.{◌≡◌, ◌<◌, ◌≤◌, ◌^◌, All, length, map};
 ghost use Rattle.std.specs.List.{list_any};
 ghost use Rattle.std.specs.Str.{bytes_eq};
-ghost use Rattle.filetree.specs.Tests.{Passes, Tests, UnlessNoMemory};
+ghost use Rattle.filetree.specs.Tests.{Passes, Tests, GivesUnlessNoMemory};
 ghost use Rattle.opening.specs.Layered.{layer_pairs};
 ghost use Rattle.opening.specs.PieceLayers.{lacks_layer, lacks_size, leads_to, mismatches, tree_at};
 ghost use Rattle.opening.specs.Refusals.{layer_rows};
@@ -120,7 +120,7 @@ pub(crate) fn infos<'a>(
     layers: &Layers<'_, 'a>,
     piece_length: PieceLength,
 ) -> Result<Vec<TreeInfo<'a>>, Refusal>
-    ensures { UnlessNoMemory result
+    ensures { GivesUnlessNoMemory result
         (λ ts. map tree_entry ts.items
         ≡ map (tree_at piece_length (layer_pairs layers.now)) trees.now) }
 {

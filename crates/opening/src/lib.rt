@@ -3,7 +3,7 @@
 
 mod block_run;
 mod info;
-mod laws;
+pub mod laws;
 mod layer_tests;
 mod layers;
 mod open;
@@ -14,7 +14,6 @@ mod tests;
 mod torrent;
 mod version1;
 
-pub use laws::{refusal_is_one, torrent_is_not_refused, torrent_is_one, torrent_or_refusal};
 pub use open::MAX_TORRENT;
 pub use roots::Root;
 pub use torrent::{File, Torrent, TreeInfo};

@@ -1,7 +1,7 @@
 //! The trees of a torrent: the distinct roots of its files (BEP 52, "pieces root").
 
 ghost use Rattle.std.specs.Prelude.{◌≡◌, ◌≢◌, ◌<◌, ◌^◌, [], map, Some, MatchResult, OnOk, nat_le};
-ghost use Rattle.filetree.specs.Tests.{PassesUnlessNoMemory, Tests, UnlessNoMemory};
+ghost use Rattle.filetree.specs.Tests.{PassesUnlessNoMemory, Tests, GivesUnlessNoMemory};
 ghost use Rattle.opening.specs.Refusals.{count_rows};
 ghost use Rattle.opening.specs.Rooted.{AreNumbers, AreRoots, AreTrees, IsRootAt, IsRootRefused, entries_from};
 ghost use Rattle.opening.specs.Seen.{file_entry};
@@ -47,6 +47,21 @@ impl Model for Roots {
 }
 
 impl Roots {
+    /// The roots in the order of first use.
+    pub(crate) fn as_slice(&self) -> &[Root]
+        ensures { result.now ≡ self.now }
+    {
+        &self.list
+    }
+
+    /// The number of each root.
+    pub(crate) fn into_numbers(self) -> BTreeMap<Hash, usize>
+        ensures { AreNumbers result self }
+    {
+        let Roots { numbers, list: _ } = self;
+        numbers
+    }
+
     fn new(alloc: Global) -> Roots
         ensures { result ≡ [] }
     {
@@ -56,26 +71,11 @@ impl Roots {
         }
     }
 
-    /// The roots in the order of first use.
-    pub(crate) fn as_slice(&self) -> &[Root]
-        ensures { result.now ≡ self.now }
-    {
-        &self.list
-    }
-
     // The number of a root.
     fn number(&self, root: &Hash) -> Option<usize>
         ensures { result ≡ place_in self.now root.now }
     {
         self.numbers.get(root).copied()
-    }
-
-    /// The number of each root.
-    pub(crate) fn into_numbers(self) -> BTreeMap<Hash, usize>
-        ensures { AreNumbers result self }
-    {
-        let Roots { numbers, list: _ } = self;
-        numbers
     }
 
     // Adds a root unless it is there with this length.
@@ -118,6 +118,36 @@ pub(crate) fn roots_of(
     Ok(roots)
 }
 
+/// The files, each with the number of its tree and its first piece.
+pub(crate) fn place_files<'a>(
+    alloc: Global,
+    listed: Vec<ListedFile<'a>>,
+    roots: &Roots,
+    piece_length: PieceLength,
+) -> Result<Vec<File<'a>>, Refusal>
+    requires { pieces_in piece_length listed.items < 2 ^ 32 }
+    ensures { GivesUnlessNoMemory result
+        (λ fs. map file_entry fs.items ≡ entries_from piece_length roots.now 0 listed.entry.items) }
+{
+    let mut files = Vec::with_capacity(alloc, listed.len())?;
+    let mut first_piece = 0;
+    'listed: for file in listed {
+        let ListedFile { path, length, root } = file;
+        let tree = match root {
+            Some(root) => roots.number(&root),
+            None => None,
+        };
+        files.push(File {
+            path,
+            length,
+            tree,
+            first_piece,
+        })?;
+        first_piece += piece_length.pieces(length);
+    }
+    Ok(files)
+}
+
 // The distinct roots of the files, each of one length.
 fn distinct(alloc: Global, files: &[ListedFile<'_>]) -> Result<Roots, Refusal>
     ensures { MatchResult result (AreRoots files.now)
@@ -146,34 +176,4 @@ fn test_pieces(files: &[ListedFile<'_>], piece_length: PieceLength) -> Result<()
         pieces += more;
     }
     Ok(())
-}
-
-/// The files, each with the number of its tree and its first piece.
-pub(crate) fn place_files<'a>(
-    alloc: Global,
-    listed: Vec<ListedFile<'a>>,
-    roots: &Roots,
-    piece_length: PieceLength,
-) -> Result<Vec<File<'a>>, Refusal>
-    requires { pieces_in piece_length listed.items < 2 ^ 32 }
-    ensures { UnlessNoMemory result
-        (λ fs. map file_entry fs.items ≡ entries_from piece_length roots.now 0 listed.entry.items) }
-{
-    let mut files = Vec::with_capacity(alloc, listed.len())?;
-    let mut first_piece = 0;
-    'listed: for file in listed {
-        let ListedFile { path, length, root } = file;
-        let tree = match root {
-            Some(root) => roots.number(&root),
-            None => None,
-        };
-        files.push(File {
-            path,
-            length,
-            tree,
-            first_piece,
-        })?;
-        first_piece += piece_length.pieces(length);
-    }
-    Ok(files)
 }

@@ -2,7 +2,7 @@ use Rattle.std.proofs.Common.{◌≡◌, ◌+◌, ◌∷◌, true, false, drop, 
 use Rattle.std.proofs.lemmas.List.{drop-map, drop_more}
 use Rattle.std.specs.Prelude.{nat_lt}
 use Rattle.drafts.specs.DraftSeen.{outline_file}
-use Rattle.drafts.proofs.Contents.{EndsAt, ends_before, ends_here}
+use Rattle.drafts.proofs.Contents.{IsContentEnd, ends_before, ends_here}
 use Rattle.drafts.proofs.hybrid_text.content_end.Goals as goal
 use Rattle.drafts.proofs.hybrid_text.content_end.Goals.{then-file-gt0, else-file-gt0}
 
@@ -17,8 +17,8 @@ files-preserved c =
     elim c.if-file-gt0.branch [
       | then-file-gt0 w ↦
           let some : nat_lt 0 x.length ≡ true = grind arith in
-          subst (EndsAt fs (i + 1)) (sym w.end-is) (ends_here fs i c.files.end (outline_file x) c.files.invariant at some)
+          subst (IsContentEnd fs (i + 1)) (sym w.end-is) (ends_here fs i c.files.end (outline_file x) c.files.invariant at some)
       | else-file-gt0 w ↦
           let none : nat_lt 0 x.length ≡ false = grind arith in
-          subst (EndsAt fs (i + 1)) (sym w.end-is) (ends_before fs i c.files.end (outline_file x) c.files.invariant at none)
+          subst (IsContentEnd fs (i + 1)) (sym w.end-is) (ends_before fs i c.files.end (outline_file x) c.files.invariant at none)
     ]

@@ -4,7 +4,7 @@ use Rattle.std.proofs.Math.ListN.{drop_of_length-le}
 use Rattle.std.specs.String.{string_bytes}
 use Rattle.drafts.specs.DraftSeen.{outline_file}
 use Rattle.drafts.specs.TreeText.{closed, opened, shared}
-use Rattle.drafts.specs.Written.{file_value, walk_of}
+use Rattle.drafts.specs.Written.{file_value, walk_to_file}
 use Rattle.drafts.proofs.Building.{walks_in_order}
 use Rattle.drafts.proofs.Penned.{put_as, put_both, put_last, put_on, put_start}
 use Rattle.drafts.proofs.TreeTexts.{leaf_text, rest_text, tree_text}
@@ -16,7 +16,7 @@ three a b c later = simp append_assoc
 pub files-init : goal.files-init
 files-init g c =
     let fs = map outline_file c.args.files.now in
-    put_start _ _ (tree_text (map walk_of fs) (walks_in_order fs c.requires))
+    put_start _ _ (tree_text (map walk_to_file fs) (walks_in_order fs c.requires))
 
 pub files-preserved : goal.files-preserved
 files-preserved g c =
@@ -28,7 +28,7 @@ files-preserved g c =
     let own = c.as_slice-path.result.now in
     let path = map string_bytes own in
     let kept = shared before path in
-    let walks = map walk_of (map outline_file (drop (l.file-index + 1) xs)) in
+    let walks = map walk_to_file (map outline_file (drop (l.file-index + 1) xs)) in
     let file = file_value (outline_file x) in
     let is = c.shared_count-kept.ensures.value in
     let count : length l.before.now - c.shared_count-kept.result ≡ length before - kept = omega (arith, is, length-map l.before.now string_bytes) in
@@ -38,7 +38,7 @@ files-preserved g c =
     let ends = put_as (closed (length before - kept)) c.put_ends.ensures (ap closed count) in
     let begun = put_as (opened (drop kept path)) c.put_opened.ensures parts in
     put_on (rest_text path walks) l.invariant (put_both ends (put_both begun c.put_file.ensures))
-    (ap (λ ys. rest_text before (map walk_of (map outline_file ys))) here
+    (ap (λ ys. rest_text before (map walk_to_file (map outline_file ys))) here
     ∙ ap (λ (p : List (List ℕ)). rest_text before (record { path = p; file = file } ∷ walks)) (ap (map string_bytes) (sym c.as_slice-path.ensures.value))
     ∙ three (closed (length before - kept)) (opened (drop kept path)) (leaf_text file) (rest_text path walks))
 
@@ -46,4 +46,4 @@ pub returns : goal.returns
 returns g c =
     let before = map string_bytes c.files.before.now in
     put_last c.files.invariant c.put_ends-2.ensures
-    (ap (λ ys. rest_text before (map walk_of (map outline_file ys))) (drop_of_length-le c.args.files.now (omega arith)) ∙ ap closed (length-map c.files.before.now string_bytes))
+    (ap (λ ys. rest_text before (map walk_to_file (map outline_file ys))) (drop_of_length-le c.args.files.now (omega arith)) ∙ ap closed (length-map c.files.before.now string_bytes))

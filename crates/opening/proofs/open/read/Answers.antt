@@ -23,7 +23,7 @@ use Rattle.opening.specs.Seen.{described, file_entry}
 use Rattle.opening.specs.Steps.{pairs_seen}
 use Rattle.opening.specs.Trees.{root_of_tree, roots_in}
 use Rattle.opening.specs.declared.info.Keys.{Keys}
-use Rattle.opening.proofs.Assembling.{IsRead, files_refused, fits_stream, hybrid_refused, is_described, keys_refused, none_holds, sizes_of, tree_refused}
+use Rattle.opening.proofs.Assembling.{IsReadFrom, files_refused, fits_stream, hybrid_refused, is_described, keys_refused, none_holds, sizes_of, tree_refused}
 use Rattle.opening.proofs.Growing.{keys_take_none}
 use Rattle.opening.proofs.Rooting.{roots_back}
 use Rattle.opening.proofs.Sounding.{sound, tree_paths}
@@ -33,7 +33,7 @@ use Rattle.opening.proofs.open.read.Goals as goal
 -- what the keys and the file tree gave
 is_read : (v : Bencode) (keys : Keys) (k n : ℕ) (layers : Pairs) (fs : List ListedFile) → NoneHolds (head_rows v) → AreKeys v keys → NoneHolds (piece_length_rows n) → k ≡ n → n ≡ piece_length_in v
     → layers ≡ layers_in v → NoneHolds (tree_rows (pairs_view keys.tree.now)) → fs ≡ map listed (walks (pairs_view keys.tree.now))
-    → IsRead v k (view keys.info.now) keys.name.now (pairs_view keys.tree.now) layers fs
+    → IsReadFrom v k (view keys.info.now) keys.name.now (pairs_view keys.tree.now) layers fs
 is_read v keys k n layers fs head are number length told same trees files = record {
   info_is = are.info;
   name_is = are.name;

@@ -1,7 +1,7 @@
 use Rattle.std.proofs.Common.{◌≡◌, ◌+◌, take, None, sym, subst, inl, inr, arith}
 use Rattle.std.proofs.lemmas.Result.{err_from_is_err_and}
 use Rattle.opening.specs.Rooted.{AreRoots}
-use Rattle.opening.proofs.Rooting.{roots_none, roots_some, reused, one_more, item_in, taken_in, none_left}
+use Rattle.opening.proofs.Rooting.{roots_none, roots_some, reused, take_next, item_in, taken_in, none_left}
 use Rattle.opening.proofs.roots.distinct.Goals as goal
 use Rattle.opening.proofs.roots.distinct.Goals.{in-Some+in_ok-add, in_default}
 
@@ -21,7 +21,7 @@ files-preserved c =
     let xs = c.args.files.now in
     let i = c.files.file-index in
     let x = c.file-item.result in
-    let more = one_more xs i x (omega arith) c.file-item.is in
+    let more = take_next xs i x (omega arith) c.file-item.is in
     elim c.match-file.branch [
       | in-Some+in_ok-add w ↦
           let roots = roots_some (take i xs) c.files.roots w.add.new.self x w.in-Some.root w.in-Some.is w.in_ok-add.ensures.added w.in_ok-add.ensures.there c.files.invariant in

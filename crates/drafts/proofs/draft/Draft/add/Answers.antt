@@ -1,10 +1,10 @@
 use Rattle.std.proofs.Common.{◌≡◌, ◌∙◌, List, map, length, Result, Ok, Err, sym, ap, subst, arith, rules}
 use Rattle.std.specs.List.{All}
 use Rattle.std.specs.Prelude.{IfErr, OnOk}
-use Rattle.filetree.specs.Tests.{NoneHolds, PassesUnlessNoMemory, Row}
+use Rattle.filetree.specs.Tests.{NoneHolds, PassesUnlessNoMemory, TestRow}
 use Rattle.filetree.specs.declared.refusal.Refusal.{Refusal}
 use Rattle.filetree.specs.declared.refusal.Refusal.TheVariants as refusals
-use Rattle.drafts.specs.Adding.{IsGiven, IsWith, add_rows, given}
+use Rattle.drafts.specs.Adding.{IsGiven, IsWith, add_rows, given_file}
 use Rattle.drafts.specs.DraftSeen.{outline_file}
 use Rattle.drafts.specs.Orders.{IsPlaceOf, Ties}
 use Rattle.drafts.specs.Outline.{OutlineFile}
@@ -16,13 +16,13 @@ if_err : {A : Type 0} (P : Type 0) (r : Result A Refusal) → P → IfErr r (λ 
 if_err P (Ok x) p = tt
 if_err P (Err e) p = λ _. p
 
-passes : (rows : List Row) (Q : Type 0) (r : Result Unit Refusal) → NoneHolds rows → OnOk r Q → IfErr r (λ e. e ≡ refusals.NoMemory) → PassesUnlessNoMemory rows (λ _. Q) r
+passes : (rows : List TestRow) (Q : Type 0) (r : Result Unit Refusal) → NoneHolds rows → OnOk r Q → IfErr r (λ e. e ≡ refusals.NoMemory) → PassesUnlessNoMemory rows (λ _. Q) r
 passes rows Q (Ok x) none ok err = (none, ok)
 passes rows Q (Err e) none ok err = λ not. absurd (not err)
 
 pub returns-in_default-clause-added : goal.returns-in_default-clause-added
 returns-in_default-clause-added c =
-    let f = given c.args.self.now (map (λ s. s.now) c.args.path.now) c.args.length c.args.root c.args.v1.now in
+    let f = given_file c.args.self.now (map (λ s. s.now) c.args.path.now) c.args.length c.args.root c.args.v1.now in
     let passed : Passed c.args.self.now f = record { path = c.in_ok-test_path.ensures; bound = omega (arith, c.if-length-gt-MAX_LENGTH.false); root = c.in_ok-test_root.ensures; pieces = c.in_ok-test_pieces.ensures } in
     let paths : map (λ (g : OutlineFile). g.path) (map outline_file c.deref.result.now) ≡ paths_in c.args.self.now =
     ap (λ (fs : List DraftFile). map (λ (g : OutlineFile). g.path) (map outline_file fs)) c.deref.ensures.value ∙ ap paths_in c.self.view_is
@@ -31,7 +31,7 @@ returns-in_default-clause-added c =
 
 pub returns-in_err-file-clause-memory : goal.returns-in_err-file-clause-memory
 returns-in_err-file-clause-memory c =
-    let f = given c.args.self.now (map (λ s. s.now) c.args.path.now) c.args.length c.args.root c.args.v1.now in
+    let f = given_file c.args.self.now (map (λ s. s.now) c.args.path.now) c.args.length c.args.root c.args.v1.now in
     let passed : Passed c.args.self.now f = record { path = c.in_ok-test_path.ensures; bound = omega (arith, c.if-length-gt-MAX_LENGTH.false); root = c.in_ok-test_root.ensures; pieces = c.in_ok-test_pieces.ensures } in
     let paths : map (λ (g : OutlineFile). g.path) (map outline_file c.deref.result.now) ≡ paths_in c.args.self.now =
     ap (λ (fs : List DraftFile). map (λ (g : OutlineFile). g.path) (map outline_file fs)) c.deref.ensures.value ∙ ap paths_in c.self.view_is
@@ -40,7 +40,7 @@ returns-in_err-file-clause-memory c =
 
 pub insert-requires-clause-tests : goal.insert-requires-clause-tests
 insert-requires-clause-tests c =
-    let f = given c.args.self.now (map (λ s. s.now) c.args.path.now) c.args.length c.args.root c.args.v1.now in
+    let f = given_file c.args.self.now (map (λ s. s.now) c.args.path.now) c.args.length c.args.root c.args.v1.now in
     let passed : Passed c.args.self.now f = record { path = c.in_ok-test_path.ensures; bound = omega (arith, c.if-length-gt-MAX_LENGTH.false); root = c.in_ok-test_root.ensures; pieces = c.in_ok-test_pieces.ensures } in
     let paths : map (λ (g : OutlineFile). g.path) (map outline_file c.deref.result.now) ≡ paths_in c.args.self.now =
     ap (λ (fs : List DraftFile). map (λ (g : OutlineFile). g.path) (map outline_file fs)) c.deref.ensures.value ∙ ap paths_in c.self.view_is
@@ -57,7 +57,7 @@ insert-requires-clause-fits c =
 
 pub returns-clause-added : goal.returns-clause-added
 returns-clause-added c =
-    let f = given c.args.self.now (map (λ s. s.now) c.args.path.now) c.args.length c.args.root c.args.v1.now in
+    let f = given_file c.args.self.now (map (λ s. s.now) c.args.path.now) c.args.length c.args.root c.args.v1.now in
     let passed : Passed c.args.self.now f = record { path = c.in_ok-test_path.ensures; bound = omega (arith, c.if-length-gt-MAX_LENGTH.false); root = c.in_ok-test_root.ensures; pieces = c.in_ok-test_pieces.ensures } in
     let paths : map (λ (g : OutlineFile). g.path) (map outline_file c.deref.result.now) ≡ paths_in c.args.self.now =
     ap (λ (fs : List DraftFile). map (λ (g : OutlineFile). g.path) (map outline_file fs)) c.deref.ensures.value ∙ ap paths_in c.self.view_is
@@ -69,7 +69,7 @@ returns-clause-added c =
 
 pub returns-clause-memory : goal.returns-clause-memory
 returns-clause-memory c =
-    let f = given c.args.self.now (map (λ s. s.now) c.args.path.now) c.args.length c.args.root c.args.v1.now in
+    let f = given_file c.args.self.now (map (λ s. s.now) c.args.path.now) c.args.length c.args.root c.args.v1.now in
     let passed : Passed c.args.self.now f = record { path = c.in_ok-test_path.ensures; bound = omega (arith, c.if-length-gt-MAX_LENGTH.false); root = c.in_ok-test_root.ensures; pieces = c.in_ok-test_pieces.ensures } in
     let paths : map (λ (g : OutlineFile). g.path) (map outline_file c.deref.result.now) ≡ paths_in c.args.self.now =
     ap (λ (fs : List DraftFile). map (λ (g : OutlineFile). g.path) (map outline_file fs)) c.deref.ensures.value ∙ ap paths_in c.self.view_is

@@ -7,7 +7,7 @@ use Rattle.drafts.specs.Outline.{Outline}
 use Rattle.drafts.specs.Pen.{Put}
 use Rattle.drafts.specs.Written.{entries_value, is_single, list_pair}
 use Rattle.drafts.specs.declared.draft.DraftFile.{DraftFile}
-use Rattle.drafts.proofs.DraftText.{files_text, first_is, single_text}
+use Rattle.drafts.proofs.DraftText.{file_list_text, first_is, single_text}
 use Rattle.drafts.proofs.Penned.{put_as, put_both}
 use Rattle.drafts.proofs.draft.Draft.put_list.Goals as goal
 
@@ -35,4 +35,4 @@ returns-else-is_single g c =
     in
     let entries = put_as (items_spelling (entries_value d.piece_length d.files)) c.put_entries.ensures (ap (λ (fs : List DraftFile). items_spelling (entries_value d.piece_length (map outline_file fs))) c.deref-else-is_single.ensures.value) in
     subst (λ (o : Outline). Put c.args.pen.now (g.W.Sink.seen c.args.w.now) c.put-else-is_single-2.new.self (g.W.Sink.seen c.put-else-is_single-2.new.w) (pairs_spelling (if o.hybrid then list_pair o no_pairs else no_pairs))) c.self.view_is
-    (put_as (pairs_spelling (if d.hybrid then list_pair d no_pairs else no_pairs)) (put_both c.put-else-is_single.ensures (put_both entries c.put-else-is_single-2.ensures)) (files_text d c.if-not-self.false many))
+    (put_as (pairs_spelling (if d.hybrid then list_pair d no_pairs else no_pairs)) (put_both c.put-else-is_single.ensures (put_both entries c.put-else-is_single-2.ensures)) (file_list_text d c.if-not-self.false many))

@@ -7,14 +7,14 @@ use Rattle.std.proofs.lemmas.Option.{slice_get_read}
 use Rattle.opening.specs.Rooted.{IsRootAt}
 use Rattle.opening.specs.Trees.{place_in}
 use Rattle.opening.specs.declared.roots.Root.{Root}
-use Rattle.opening.proofs.Rooting.{place_below, root_at, place_push_new, numbered_push, last_of}
+use Rattle.opening.proofs.Rooting.{place_within, root_is_at, place_push_new, numbered_push, last_of}
 use Rattle.opening.proofs.roots.Roots.add.Goals as goal
 
 pub index-requires : goal.index-requires
 index-requires c =
     let items = c.self.inside.list.items in
     let place : place_in items c.args.root ≡ Some c.in-Some.number.now = sym (c.self.invariant c.args.root) ∙ sym c.in-Some.ensures.value in
-    let below = place_below items c.args.root c.in-Some.number.now place in
+    let below = place_within items c.args.root c.in-Some.number.now place in
     omega (arith, below, c.self.inside.list.ok.0)
 
 pub returns-then-index-length-clause-there : goal.returns-then-index-length-clause-there
@@ -22,7 +22,7 @@ returns-then-index-length-clause-there c =
     let items = c.self.inside.list.items in
     let x = c.index.result.now in
     let place : place_in items c.args.root ≡ Some c.in-Some.number.now = sym (c.self.invariant c.args.root) ∙ sym c.in-Some.ensures.value in
-    let below = place_below items c.args.root c.in-Some.number.now place in
+    let below = place_within items c.args.root c.in-Some.number.now place in
     let there : slice_get items c.in-Some.number.now ≡ Some x = slice_get_read items (length items) c.in-Some.number.now x refl below c.index.ensures in
     inl (
       refl,
@@ -40,9 +40,9 @@ returns-else-index-length-clause-there c =
     let items = c.self.inside.list.items in
     let x = c.index.result.now in
     let place : place_in items c.args.root ≡ Some c.in-Some.number.now = sym (c.self.invariant c.args.root) ∙ sym c.in-Some.ensures.value in
-    let below = place_below items c.args.root c.in-Some.number.now place in
+    let below = place_within items c.args.root c.in-Some.number.now place in
     let there : slice_get items c.in-Some.number.now ≡ Some x = slice_get_read items (length items) c.in-Some.number.now x refl below c.index.ensures in
-    subst (λ ts. IsRootAt ts c.args.root c.args.length) c.self.view_is (root_at items c.args.root c.in-Some.number.now c.args.length x place there c.if-index-length.false)
+    subst (λ ts. IsRootAt ts c.args.root c.args.length) c.self.view_is (root_is_at items c.args.root c.in-Some.number.now c.args.length x place there c.if-index-length.false)
 
 pub invariant_of-self-in-None : goal.invariant_of-self-in-None
 invariant_of-self-in-None c =
@@ -64,4 +64,4 @@ returns-in_ok-push-in-None-clause-there c =
     let kept : c.reserve.new.self.items ≡ items = c.in_ok-reserve-in-None.ensures.items in
     let after : c.push.new.self.items ≡ items ++ one ∷ [] = c.in_ok-push-in-None.ensures.items ∙ ap (λ xs. xs ++ one ∷ []) kept in
     subst (λ ts. IsRootAt ts c.args.root c.args.length) (sym after)
-    (root_at (items ++ one ∷ []) c.args.root (length items) c.args.length one (place_push_new items one c.args.root none refl) (last_of items one) refl)
+    (root_is_at (items ++ one ∷ []) c.args.root (length items) c.args.length one (place_push_new items one c.args.root none refl) (last_of items one) refl)
