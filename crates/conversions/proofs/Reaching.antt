@@ -1,5 +1,5 @@
 -- How far a conversion has come.
-use Rattle.std.proofs.Common.{◌≡◌, ◌≢◌, ◌⊎◌, ℕ, ◌+◌, ◌-◌, ◌^◌, ◌<◌, ◌≤◌, Bool, true, false, List, [], ◌∷◌, ◌++◌, length, take, drop, All, inl, inr, refl, sym, ap, ◌∙◌, arith, subst}
+use Rattle.std.proofs.Common.{◌≡◌, ◌⊎◌, ℕ, ◌+◌, ◌-◌, ◌<◌, ◌≤◌, List, [], ◌∷◌, ◌++◌, length, take, drop, All, inl, inr, refl, sym, ap, ◌∙◌, arith, subst}
 use Rattle.std.specs.List.{flat_map, AllByRecursion}
 use Rattle.std.proofs.lemmas.Bool.{cases_lt}
 use Rattle.std.proofs.lemmas.List.{append_assoc, append-nil, length-append, length-drop, length-take-le, nil_from_length, take_rest}
@@ -9,11 +9,11 @@ use Rattle.std.proofs.lemmas.List.Elements.{All-append, All-cons, All-nil, recur
 use Rattle.benc.specs.Device.{SinkSeen, Sent}
 use Rattle.wire.specs.declared.form.Form.TheVariants.{Two}
 use Rattle.wire.specs.Conversion.{conversion, conversion_bytes, converted}
-use Rattle.wire.specs.Frames.{Frames, IsBody, IsPartial, frame}
-use Rattle.wire.specs.Records.{Directed, header, record_frame}
+use Rattle.wire.specs.Frames.{Frames, IsBody, frame}
+use Rattle.wire.specs.Records.{header, record_frame}
 use Rattle.wire.proofs.OneReading.{same_from_frame}
 use Rattle.wire.proofs.Partial.{length-frame}
-use Rattle.conversions.specs.Steps.{BreaksOff, IsConvertedFrame, IsHeadOf, IsPrefixOf, IsSoundText, BeginsFrame, Reached, Sends, Stands, Waits, converted_bytes}
+use Rattle.conversions.specs.Steps.{BreaksOff, IsHeadOf, IsPrefixOf, IsSoundText, BeginsFrame, Reached, Sends, Stands, Waits, converted_bytes}
 use Rattle.conversions.proofs.Opening.{opens_more, opens_none, opens_partial, opens_sound}
 
 -- ---- conversions of more frames

@@ -1,9 +1,9 @@
 -- Why a record was not converted, and what went out.
-use Rattle.std.proofs.Common.{◌≡◌, ◌≢◌, ℕ, ◌<◌, ◌≤◌, Bool, true, false, nat_eq, Result, Ok, Err, List, [], ◌++◌, length, take, inl, inr, refl, sym, ap, ◌∙◌, subst, arith, MatchResult}
-use Rattle.std.specs.Io.KnownBytes.{Appends, IsAtEnd, Keeps}
-use Rattle.std.proofs.lemmas.Bool.{cases_Bool, eqb-true, eq-eqb, false≢true}
-use Rattle.std.proofs.lemmas.List.{append-nil, length-take-le}
-use Rattle.benc.specs.Device.{SinkSeen, SourceSeen, BrokeOrUnflushed, Sent, SentAndFlushed, one_more}
+use Rattle.std.proofs.Common.{◌≡◌, ℕ, ◌≤◌, Bool, true, false, nat_eq, Result, Ok, Err, List, [], ◌++◌, length, take, inl, inr, refl, sym, ap, ◌∙◌, subst, arith, MatchResult}
+use Rattle.std.specs.Io.KnownBytes.{Keeps}
+use Rattle.std.proofs.lemmas.Bool.{eqb-true, eq-eqb, false≢true}
+use Rattle.std.proofs.lemmas.List.{length-take-le}
+use Rattle.benc.specs.Device.{SinkSeen, SourceSeen, Sent, one_more}
 use Rattle.benc.proofs.Known.{Appends-keeps, Appends_whole}
 use Rattle.wire.specs.declared.form.Form.TheVariants.{One}
 use Rattle.wire.specs.Conversion.{conversion_bytes}
@@ -13,7 +13,7 @@ use Rattle.wire.specs.Records.{HasForm, header}
 use Rattle.conversions.specs.declared.fault.ConvertFault.{ConvertFault}
 use Rattle.conversions.specs.declared.fault.ConvertFault.TheVariants as fault
 use Rattle.conversions.specs.Converting.{Converts, FailsToWrite, IsCutShort, FailsToConvert}
-use Rattle.conversions.specs.Steps.{RecordEnds, ReadingEnds, EndsForm1, FlushesOnce, IsPrefixOf, TellsForm, Waits}
+use Rattle.conversions.specs.Steps.{ReadingEnds, EndsForm1, IsPrefixOf, TellsForm, Waits}
 use Rattle.conversions.proofs.Ending.{Tells, ends, so_far_first}
 use Rattle.conversions.proofs.Fronts.{no_prefix, one_from_short, one_whatever_follows, prefix_partial}
 

@@ -1,5 +1,5 @@
 -- What goes out when a record of form 1 is converted.
-use Rattle.std.specs.Prelude.{◌≡◌, ◌≢◌, ◌⊎◌, ℕ, List, [], ◌++◌}
+use Rattle.std.specs.Prelude.{◌≡◌, ◌≢◌, ◌⊎◌, ℕ, List, []}
 use Rattle.std.specs.Io.KnownBytes.{IsAtEnd}
 use Rattle.benc.specs.Device.{SinkSeen, SourceSeen, BrokeOrUnflushed, SentAndFlushed, one_more}
 use Rattle.wire.specs.declared.form.Form.TheVariants.{One, Two}
