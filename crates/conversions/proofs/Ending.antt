@@ -1,16 +1,15 @@
 -- How far the conversion of a record has come, and how it ends.
-use Rattle.std.proofs.Common.{◌≡◌, ◌≢◌, ℕ, ◌+◌, ◌-◌, ◌<◌, ◌≤◌, Bool, true, false, nat_eq, List, [], ◌++◌, length, take, drop, refl, sym, ap, ◌∙◌, arith, subst}
+use Rattle.std.proofs.Common.{◌≡◌, ◌≢◌, ℕ, ◌≤◌, Bool, true, false, nat_eq, List, [], ◌++◌, length, take, drop, refl, sym, ap, ◌∙◌, subst}
 use Rattle.std.specs.Io.KnownBytes.{IsAtEnd, Keeps}
 use Rattle.std.proofs.lemmas.Bool.{eq-eqb, eqb-true, false≢true}
 use Rattle.std.proofs.lemmas.List.{append_assoc, append-nil, length-take-le, take-append-drop}
 use Rattle.benc.specs.Device.{SinkSeen, SourceSeen, Sent, one_more}
-use Rattle.wire.specs.Conversion.{conversion_bytes}
 use Rattle.wire.specs.declared.fault.FrameFault.TheVariants as fault
 use Rattle.wire.specs.Reading.{Gave, GaveFaultless, GaveUntil}
 use Rattle.wire.specs.Records.{header}
 use Rattle.wire.proofs.Giving.{Failed-at_once, Faultless-trans, Gave-trans}
-use Rattle.conversions.specs.Steps.{BreaksInText, BreaksOff, Ends, IsSound, Reached, Sends, Waits}
-use Rattle.conversions.proofs.Reaching.{Stopped, reach_nothing, reach_sound, sends_of, sound_more, stopped}
+use Rattle.conversions.specs.Steps.{BreaksInText, BreaksOff, RecordEnds, IsSoundText, Reached, Sends, Waits}
+use Rattle.conversions.proofs.Reaching.{MayEnd, reach_nothing, reach_sound, sends_of, sound_more, may_end}
 
 -- what was fed to the conversion and what waits in the buffer is all that the source gave
 pub record SoFar (first now : SourceSeen) (start out : SinkSeen) (left : ℕ) (front waiting : List ℕ) : Type 0 where
@@ -61,7 +60,7 @@ breaks_in_text first now start out out' left front waiting s b =
       subst (GaveFaultless first now) s.begins s.gave,
       record {
         text = b.text;
-        sound = subst (λ t. IsSound t b.text) all (sound_more (s.fed ++ take b.count waiting) (drop b.count waiting) b.text (reach_sound b.left (s.fed ++ take b.count waiting) b.text b.reached));
+        sound = subst (λ t. IsSoundText t b.text) all (sound_more (s.fed ++ take b.count waiting) (drop b.count waiting) b.text (reach_sound b.left (s.fed ++ take b.count waiting) b.text b.reached));
         broke = b.broke;
       },
     )
@@ -70,7 +69,7 @@ breaks_in_text first now start out out' left front waiting s b =
 
 pub sends_front : (first now : SourceSeen) (start out : SinkSeen) (left : ℕ) (front waiting : List ℕ) (s : SoFar first now start out left front waiting) → Waits left waiting → Sends (front ++ s.more) start out
 sends_front first now start out left front waiting s w =
-    subst (λ b. Sends b start out) s.begins (sends_of left s.fed waiting s.text start out s.reached s.sent (stopped left s.fed waiting s.text s.reached w))
+    subst (λ b. Sends b start out) s.begins (sends_of left s.fed waiting s.text start out s.reached s.sent (may_end left s.fed waiting s.text s.reached w))
 
 -- what is told at the end
 pub record Tells (whole : Bool) (left : ℕ) (waiting : List ℕ) : Type 0 where
@@ -78,9 +77,9 @@ pub record Tells (whole : Bool) (left : ℕ) (waiting : List ℕ) : Type 0 where
   pub no : whole ≡ false → (left ≡ 0) × (waiting ≡ []) → ⊥
 
 pub ends : (whole : Bool) (first now : SourceSeen) (start out : SinkSeen) (left : ℕ) (front waiting : List ℕ) (s : SoFar first now start out left front waiting) → Waits left waiting → IsAtEnd now.left → Tells whole left waiting
-    → Ends whole first now (s.fed ++ waiting) start out
+    → RecordEnds whole first now (s.fed ++ waiting) start out
 ends whole first now start out left front waiting s w end told =
-    let stop : Stopped left s.fed waiting s.text = stopped left s.fed waiting s.text s.reached w in
+    let stop : MayEnd left s.fed waiting s.text = may_end left s.fed waiting s.text s.reached w in
     record {
       gave = s.gave;
       at_end = end;
@@ -90,9 +89,9 @@ ends whole first now start out left front waiting s w end told =
     }
 
 pub ends_front : (whole : Bool) (first now : SourceSeen) (start out : SinkSeen) (left : ℕ) (front waiting : List ℕ) (s : SoFar first now start out left front waiting) → Waits left waiting → IsAtEnd now.left → Tells whole left waiting
-    → (more : List ℕ) × Ends whole first now (front ++ more) start out
+    → (more : List ℕ) × RecordEnds whole first now (front ++ more) start out
 ends_front whole first now start out left front waiting s w end told =
-    (s.more, subst (λ b. Ends whole first now b start out) s.begins (ends whole first now start out left front waiting s w end told))
+    (s.more, subst (λ b. RecordEnds whole first now b start out) s.begins (ends whole first now start out left front waiting s w end told))
 
 -- a call that failed gave nothing
 pub read_fails : (first now now' : SourceSeen) (start out : SinkSeen) (left : ℕ) (front waiting : List ℕ) (s : SoFar first now start out left front waiting) → Waits left waiting

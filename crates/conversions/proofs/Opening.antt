@@ -1,12 +1,12 @@
 -- A frame that has begun, and its conversion.
-use Rattle.std.proofs.Common.{◌≡◌, ◌≢◌, ℕ, ◌+◌, ◌-◌, ◌^◌, ◌<◌, ◌≤◌, min, Bool, true, false, cond, List, [], ◌∷◌, ◌++◌, length, take, drop, get_or, replicate, ⊎_elim, inl, inr, refl, sym, ap, ◌∙◌, arith, subst}
+use Rattle.std.proofs.Common.{◌≡◌, ℕ, ◌+◌, ◌-◌, ◌^◌, ◌<◌, ◌≤◌, min, true, false, cond, List, [], ◌∷◌, ◌++◌, length, take, drop, get_or, replicate, inl, inr, refl, sym, ap, ◌∙◌, arith, subst}
 use Rattle.std.specs.List.{flat_map}
 use Rattle.std.proofs.lemmas.Bool.{cases_Bool, cases_lt}
 use Rattle.std.proofs.lemmas.List.{append_assoc, append-nil, length-append, length-replicate, length-drop, length-take-le, take-append-drop, take_at, drop_at}
 use Rattle.std.proofs.Math.Seq.{take-add}
 use Rattle.wire.specs.declared.form.Form.TheVariants.{Two}
 use Rattle.wire.specs.declared.direction.Direction.TheVariants.{In, Out}
-use Rattle.wire.specs.Conversion.{converted, is_hashes, request_of}
+use Rattle.wire.specs.Conversion.{is_hashes, request_of}
 use Rattle.wire.specs.Frames.{IsBody, IsPartial, four_bytes, frame}
 use Rattle.wire.specs.Meaning.{IsHashesSize}
 use Rattle.wire.specs.Records.{record_frame}
@@ -15,7 +15,7 @@ use Rattle.wire.proofs.FourBytes.{length-four_bytes, same_from_four_bytes}
 use Rattle.wire.proofs.Meanings.{same_heads}
 use Rattle.wire.proofs.OneReading.{same_from_frame}
 use Rattle.wire.proofs.Partial.{IsPartial-from_short, IsPartial-from_unfinished}
-use Rattle.conversions.specs.Steps.{BeginsHashes, Completes, GoesBefore, IsHeadOf, Opens, converted_bytes}
+use Rattle.conversions.specs.Steps.{BeginsHashes, IsConvertedFrame, GoesBefore, IsHeadOf, BeginsFrame, converted_bytes}
 
 -- ---- the conversion of one frame
 
@@ -34,7 +34,7 @@ frame_of len front rest e = append_assoc (four_bytes len) front rest ∙ ap (λ 
 
 -- no hashes message
 pub opens_plain : (len left : ℕ) (head front : List ℕ) → len < 2 ^ 32 → head ≡ four_bytes len ++ front → left + length front ≡ len
-    → ((rest : List ℕ) → length rest ≡ left → is_hashes (front ++ rest) ≡ false) → Opens left head (0 ∷ head)
+    → ((rest : List ℕ) → length rest ≡ left → is_hashes (front ++ rest) ≡ false) → BeginsFrame left head (0 ∷ head)
 opens_plain len left head front fits is size plain = record {
   some = omega (arith, ap length is, length-append (four_bytes len) front, length-four_bytes len);
   completes = λ rest e.
@@ -61,7 +61,7 @@ request_frame fields rest e =
 
 -- a hashes message
 pub opens_asked : (len left : ℕ) (head fields : List ℕ) → len < 2 ^ 32 → head ≡ four_bytes len ++ (22 ∷ fields) → left + 49 ≡ len → length fields ≡ 48 → IsHashesSize len
-    → Opens left head ((request_head ++ fields) ++ (0 ∷ head))
+    → BeginsFrame left head ((request_head ++ fields) ++ (0 ∷ head))
 opens_asked len left head fields fits is size forty_eight right = record {
   some = omega (arith, ap length is, length-append (four_bytes len) (22 ∷ fields), length-four_bytes len);
   completes = λ rest e.
@@ -94,7 +94,7 @@ left_is len head h fits e = omega (arith, read_len len h.len head h.front fits h
 pub head_within : (len : ℕ) (head : List ℕ) → IsHeadOf head (length head) → len < 2 ^ 32 → four_bytes len ≡ take 4 head → length head ≤ len + 4
 head_within len head h fits e = omega (arith, read_len len h.len head h.front fits h.fits h.head_is e, h.size_is)
 
-pub goes_opens : (head request : List ℕ) (h : IsHeadOf head (length head)) → GoesBefore head request → Opens (h.len + 4 - length head) head (request ++ (0 ∷ head))
+pub goes_opens : (head request : List ℕ) (h : IsHeadOf head (length head)) → GoesBefore head request → BeginsFrame (h.len + 4 - length head) head (request ++ (0 ∷ head))
 goes_opens head request h g = g h.len h.fits (sym (ap (take 4) h.head_is ∙ take_at (four_bytes h.len) h.front 4 (length-four_bytes h.len)))
 
 pub goes_nothing : (head : List ℕ) (h : IsHeadOf head (length head)) → ¬ BeginsHashes h.len h.front → GoesBefore head []
@@ -119,7 +119,7 @@ goes_request head h b = λ len fits e.
     let size : length (22 ∷ fields) ≡ 49 = ap length (sym b.0.1) ∙ omega (arith, h.front_is, b.1.0) in
     let after : drop 5 head ≡ fields = ap (drop 5) (is ∙ sym (append_assoc (four_bytes h.len) (22 ∷ []) fields))
     ∙ drop_at (four_bytes h.len ++ 22 ∷ []) fields 5 (omega (arith, length-append (four_bytes h.len) (22 ∷ []), length-four_bytes h.len)) in
-    subst (λ xs. Opens (len + 4 - length head) head ((request_head ++ xs) ++ (0 ∷ head))) (sym after)
+    subst (λ xs. BeginsFrame (len + 4 - length head) head ((request_head ++ xs) ++ (0 ∷ head))) (sym after)
     (opens_asked h.len (len + 4 - length head) head fields h.fits is (omega (arith, left_is len head h fits e, ap length b.0.1, size)) (omega (arith, size)) b.1)
 
 -- the byte behind the length
@@ -161,7 +161,7 @@ whole_head bytes len fits e enough = record {
 -- ---- a frame that has begun
 
 -- more of its bytes
-pub opens_more : (left : ℕ) (part sent xs : List ℕ) → Opens left part sent → length xs ≤ left → Opens (left - length xs) (part ++ xs) (sent ++ xs)
+pub opens_more : (left : ℕ) (part sent xs : List ℕ) → BeginsFrame left part sent → length xs ≤ left → BeginsFrame (left - length xs) (part ++ xs) (sent ++ xs)
 opens_more left part sent xs o fits = record {
   some = omega (arith, o.some, length-append part xs);
   completes = λ rest e.
@@ -176,11 +176,11 @@ opens_more left part sent xs o fits = record {
 }
 
 -- all of them
-pub opens_none : (part sent : List ℕ) → Opens 0 part sent → Completes part sent
-opens_none part sent o = subst (λ p. Completes p sent) (append-nil part) (subst (λ s. Completes (part ++ []) s) (append-nil sent) (o.completes [] refl))
+pub opens_none : (part sent : List ℕ) → BeginsFrame 0 part sent → IsConvertedFrame part sent
+opens_none part sent o = subst (λ p. IsConvertedFrame p sent) (append-nil part) (subst (λ s. IsConvertedFrame (part ++ []) s) (append-nil sent) (o.completes [] refl))
 
 -- less than a frame
-pub opens_partial : (left : ℕ) (part sent : List ℕ) → 0 < left → Opens left part sent → IsPartial part
+pub opens_partial : (left : ℕ) (part sent : List ℕ) → 0 < left → BeginsFrame left part sent → IsPartial part
 unfolding IsPartial
 opens_partial left part sent some o = λ body rest fits e.
     let zeros : List ℕ = replicate left 0 in
@@ -190,7 +190,7 @@ opens_partial left part sent some o = λ body rest fits e.
     omega (arith, ap length none, length-append rest zeros, length-replicate {A = ℕ} left 0, some)
 
 -- whichever frame it is, the text is a prefix of its conversion
-pub opens_sound : (left : ℕ) (part sent more : List ℕ) (body after : List ℕ) → Opens left part sent → IsBody body → part ++ more ≡ frame body ++ after
+pub opens_sound : (left : ℕ) (part sent more : List ℕ) (body after : List ℕ) → BeginsFrame left part sent → IsBody body → part ++ more ≡ frame body ++ after
     → (rest : List ℕ) × (converted_bytes body ≡ sent ++ rest)
 opens_sound left part sent more body after o fits e = elim (cases_lt (length more) left) [
   | inl short ↦

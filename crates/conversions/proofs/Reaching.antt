@@ -1,5 +1,5 @@
 -- How far a conversion has come.
-use Rattle.std.proofs.Common.{◌≡◌, ◌≢◌, ◌⊎◌, ℕ, ◌+◌, ◌-◌, ◌^◌, ◌<◌, ◌≤◌, Bool, true, false, List, [], ◌∷◌, ◌++◌, length, take, drop, All, inl, inr, refl, sym, ap, ◌∙◌, arith, subst}
+use Rattle.std.proofs.Common.{◌≡◌, ◌⊎◌, ℕ, ◌+◌, ◌-◌, ◌<◌, ◌≤◌, List, [], ◌∷◌, ◌++◌, length, take, drop, All, inl, inr, refl, sym, ap, ◌∙◌, arith, subst}
 use Rattle.std.specs.List.{flat_map, AllByRecursion}
 use Rattle.std.proofs.lemmas.Bool.{cases_lt}
 use Rattle.std.proofs.lemmas.List.{append_assoc, append-nil, length-append, length-drop, length-take-le, nil_from_length, take_rest}
@@ -9,11 +9,11 @@ use Rattle.std.proofs.lemmas.List.Elements.{All-append, All-cons, All-nil, recur
 use Rattle.benc.specs.Device.{SinkSeen, Sent}
 use Rattle.wire.specs.declared.form.Form.TheVariants.{Two}
 use Rattle.wire.specs.Conversion.{conversion, conversion_bytes, converted}
-use Rattle.wire.specs.Frames.{Frames, IsBody, IsPartial, frame}
-use Rattle.wire.specs.Records.{Directed, header, record_frame}
+use Rattle.wire.specs.Frames.{Frames, IsBody, frame}
+use Rattle.wire.specs.Records.{header, record_frame}
 use Rattle.wire.proofs.OneReading.{same_from_frame}
 use Rattle.wire.proofs.Partial.{length-frame}
-use Rattle.conversions.specs.Steps.{BreaksOff, Completes, IsHeadOf, IsPrefixOf, IsSound, Opens, Reached, Sends, Stands, Waits, converted_bytes}
+use Rattle.conversions.specs.Steps.{BreaksOff, IsHeadOf, IsPrefixOf, IsSoundText, BeginsFrame, Reached, Sends, Stands, Waits, converted_bytes}
 use Rattle.conversions.proofs.Opening.{opens_more, opens_none, opens_partial, opens_sound}
 
 -- ---- conversions of more frames
@@ -43,12 +43,12 @@ pub reach_nothing : Reached 0 [] header
 reach_nothing = record { bodies = []; each = All-nil IsBody; part = []; sent = []; fed_is = refl; text_is = refl; stands = inl (refl, refl, refl) }
 
 -- a frame has begun, or it is whole
-settle : (left : ℕ) (bodies : List (List ℕ)) (part sent fed text : List ℕ) → All IsBody bodies → Opens left part sent → fed ≡ flat_map frame bodies ++ part → text ≡ conversion_bytes bodies ++ sent → Reached left fed text
+settle : (left : ℕ) (bodies : List (List ℕ)) (part sent fed text : List ℕ) → All IsBody bodies → BeginsFrame left part sent → fed ≡ flat_map frame bodies ++ part → text ≡ conversion_bytes bodies ++ sent → Reached left fed text
 settle left bodies part sent fed text each o fed_is text_is = elim (cases_lt 0 left) [
   | inl some ↦ record { bodies = bodies; each = each; part = part; sent = sent; fed_is = fed_is; text_is = text_is; stands = inr (some, o) }
   | inr none ↦
       let zero' : left ≡ 0 = omega arith in
-      let c = opens_none part sent (subst (λ n. Opens n part sent) zero' o) in
+      let c = opens_none part sent (subst (λ n. BeginsFrame n part sent) zero' o) in
       record {
         bodies = bodies ++ c.body ∷ [];
         each = All-append IsBody bodies (c.body ∷ []) each (All-cons IsBody c.body [] c.fits (All-nil IsBody));
@@ -61,7 +61,7 @@ settle left bodies part sent fed text each o fed_is text_is = elim (cases_lt 0 l
 ]
 
 -- a head
-pub reach_head : (left : ℕ) (fed text head sent : List ℕ) → Reached 0 fed text → Opens left head sent → Reached left (fed ++ head) (text ++ sent)
+pub reach_head : (left : ℕ) (fed text head sent : List ℕ) → Reached 0 fed text → BeginsFrame left head sent → Reached left (fed ++ head) (text ++ sent)
 reach_head left fed text head sent r o = elim r.stands [
   | inl none ↦ settle left r.bodies head sent (fed ++ head) (text ++ sent) r.each o
       (ap (λ t. t ++ head) (r.fed_is ∙ ap (λ t. flat_map frame r.bodies ++ t) none.1 ∙ append-nil (flat_map frame r.bodies)))
@@ -135,7 +135,7 @@ follow (b ∷ bodies) (c ∷ bs) xs p q e =
     let f = follow bodies bs xs p.1 q.1 same.1 in
     record { later = f.later; each = f.each; are = ap (λ x. x ∷ bs) (sym same.0) ∙ ap (λ t. b ∷ t) f.are; rest_is = f.rest_is }
 
-sound_begun : (left : ℕ) (part sent more : List ℕ) (later : List (List ℕ)) → AllByRecursion IsBody later → Opens left part sent → part ++ more ≡ flat_map frame later → IsPrefixOf sent (converted_frames later)
+sound_begun : (left : ℕ) (part sent more : List ℕ) (later : List (List ℕ)) → AllByRecursion IsBody later → BeginsFrame left part sent → part ++ more ≡ flat_map frame later → IsPrefixOf sent (converted_frames later)
 sound_begun left part sent more [] each o e = absurd (omega (arith, o.some, ap length e, length-append part more))
 sound_begun left part sent more (c ∷ later) each o e =
     let s = opens_sound left part sent more c (flat_map frame later) o each.0 e in
@@ -145,7 +145,7 @@ sound_part : (left : ℕ) (part sent more : List ℕ) (later : List (List ℕ)) 
 sound_part left part sent more later each (inl none) e = (converted_frames later, ap (λ t. t ++ converted_frames later) (sym none.2))
 sound_part left part sent more later each (inr some) e = sound_begun left part sent more later each some.1 e
 
-pub reach_sound : (left : ℕ) (fed text : List ℕ) → Reached left fed text → IsSound fed text
+pub reach_sound : (left : ℕ) (fed text : List ℕ) → Reached left fed text → IsSoundText fed text
 reach_sound left fed text r = λ more bs frames.
     let whole : flat_map frame r.bodies ++ (r.part ++ more) ≡ flat_map frame bs =
     sym (append_assoc (flat_map frame r.bodies) r.part more) ∙ ap (λ t. t ++ more) (sym r.fed_is) ∙ frames.whole ∙ append-nil (flat_map frame bs) in
@@ -157,13 +157,13 @@ reach_sound left fed text r = λ more bs frames.
     )
 
 -- what is read on changes nothing of it
-pub sound_more : (bytes more text : List ℕ) → IsSound bytes text → IsSound (bytes ++ more) text
+pub sound_more : (bytes more text : List ℕ) → IsSoundText bytes text → IsSoundText (bytes ++ more) text
 sound_more bytes more text s = λ rest bs frames. s (more ++ rest) bs (subst (λ b. Frames b bs []) (append_assoc bytes more rest) frames)
 
 -- ---- what went out, at the end
 
 -- what was fed, what waits behind it, and whether the record may end so
-pub record Stopped (left : ℕ) (fed rest text : List ℕ) : Type 0 where
+pub record MayEnd (left : ℕ) (fed rest text : List ℕ) : Type 0 where
   pub bodies : List (List ℕ)
   pub part : List ℕ
   pub frames : Frames (fed ++ rest) bodies part
@@ -174,8 +174,8 @@ pub record Stopped (left : ℕ) (fed rest text : List ℕ) : Type 0 where
 nothing_left : (left : ℕ) (rest : List ℕ) → 0 < left → Waits left rest → rest ≡ []
 nothing_left left rest some w = elim w.none [ inl none ↦ absurd (omega (arith, none, some)) | inr none ↦ none ]
 
-pub stopped : (left : ℕ) (fed rest text : List ℕ) → Reached left fed text → Waits left rest → Stopped left fed rest text
-stopped left fed rest text r w = elim r.stands [
+pub may_end : (left : ℕ) (fed rest text : List ℕ) → Reached left fed text → Waits left rest → MayEnd left fed rest text
+may_end left fed rest text r w = elim r.stands [
   | inl none ↦
       let fed_is : fed ≡ flat_map frame r.bodies = r.fed_is ∙ ap (λ t. flat_map frame r.bodies ++ t) none.1 ∙ append-nil (flat_map frame r.bodies) in
       let text_is : text ≡ conversion_bytes r.bodies = r.text_is ∙ ap (λ t. conversion_bytes r.bodies ++ t) none.2 ∙ append-nil (conversion_bytes r.bodies) in
@@ -199,7 +199,7 @@ stopped left fed rest text r w = elim r.stands [
       }
 ]
 
-abbrev pub sends_of : (left : ℕ) (fed rest text : List ℕ) (start now : SinkSeen) → Reached left fed text → Sent start now text → (s : Stopped left fed rest text) → Sends (fed ++ rest) start now
+abbrev pub sends_of : (left : ℕ) (fed rest text : List ℕ) (start now : SinkSeen) → Reached left fed text → Sent start now text → (s : MayEnd left fed rest text) → Sends (fed ++ rest) start now
 sends_of left fed rest text start now r sent s = record {
   bodies = s.bodies;
   rest = s.part;

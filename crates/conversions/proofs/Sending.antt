@@ -14,9 +14,6 @@ broke_more a b xs ys p = Wrote-part failed 0 a b xs ys (xs ++ ys) refl refl p
 pub broke_after : (a b c : SinkSeen) (xs ys : List ℕ) → Sent a b xs → Broke b c ys → Broke a c (xs ++ ys)
 broke_after a b c xs ys p q = Wrote-then failed a b c xs ys (xs ++ ys) refl p q
 
-pub held_more : (start now : SinkSeen) (gathered text bytes : List ℕ) → Held start now gathered text → Held start now (gathered ++ bytes) (text ++ bytes)
-held_more start now gathered text bytes h = record { sent = h.sent; out = h.out; text_is = ap (λ t. t ++ bytes) h.text_is ∙ append_assoc h.sent gathered bytes }
-
 pub held_sent : (start mid now : SinkSeen) (gathered text : List ℕ) → Held start mid gathered text → Sent mid now gathered → Held start now [] text
 held_sent start mid now gathered text h p = record { sent = h.sent ++ gathered; out = Sent-append start mid now h.sent gathered h.out p; text_is = h.text_is ∙ sym (append-nil (h.sent ++ gathered)) }
 

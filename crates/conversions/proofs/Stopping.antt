@@ -1,9 +1,9 @@
 -- Why a record was not converted, and what went out.
-use Rattle.std.proofs.Common.{◌≡◌, ◌≢◌, ℕ, ◌<◌, ◌≤◌, Bool, true, false, nat_eq, Result, Ok, Err, List, [], ◌++◌, length, take, inl, inr, refl, sym, ap, ◌∙◌, subst, arith, MatchResult}
-use Rattle.std.specs.Io.KnownBytes.{Appends, IsAtEnd, Keeps}
-use Rattle.std.proofs.lemmas.Bool.{cases_Bool, eqb-true, eq-eqb, false≢true}
-use Rattle.std.proofs.lemmas.List.{append-nil, length-take-le}
-use Rattle.benc.specs.Device.{SinkSeen, SourceSeen, BrokeOrUnflushed, Sent, SentAndFlushed, one_more}
+use Rattle.std.proofs.Common.{◌≡◌, ℕ, ◌≤◌, Bool, true, false, nat_eq, Result, Ok, Err, List, [], ◌++◌, length, take, inl, inr, refl, sym, ap, ◌∙◌, subst, arith, MatchResult}
+use Rattle.std.specs.Io.KnownBytes.{Keeps}
+use Rattle.std.proofs.lemmas.Bool.{eqb-true, eq-eqb, false≢true}
+use Rattle.std.proofs.lemmas.List.{length-take-le}
+use Rattle.benc.specs.Device.{SinkSeen, SourceSeen, Sent, one_more}
 use Rattle.benc.proofs.Known.{Appends-keeps, Appends_whole}
 use Rattle.wire.specs.declared.form.Form.TheVariants.{One}
 use Rattle.wire.specs.Conversion.{conversion_bytes}
@@ -12,22 +12,22 @@ use Rattle.wire.specs.Reading.{GaveFaultless}
 use Rattle.wire.specs.Records.{HasForm, header}
 use Rattle.conversions.specs.declared.fault.ConvertFault.{ConvertFault}
 use Rattle.conversions.specs.declared.fault.ConvertFault.TheVariants as fault
-use Rattle.conversions.specs.Converting.{Converts, FailsToWrite, IsCutShort, Stops}
-use Rattle.conversions.specs.Steps.{Ends, EndsAt, EndsForm1, Flushed, IsPrefixOf, TellsForm, Waits}
+use Rattle.conversions.specs.Converting.{Converts, FailsToWrite, IsCutShort, FailsToConvert}
+use Rattle.conversions.specs.Steps.{ReadingEnds, EndsForm1, IsPrefixOf, TellsForm, Waits}
 use Rattle.conversions.proofs.Ending.{Tells, ends, so_far_first}
 use Rattle.conversions.proofs.Fronts.{no_prefix, one_from_short, one_whatever_follows, prefix_partial}
 
 -- ---- more came
 
 stops_later : (first now : SourceSeen) (start out : SinkSeen) (front : List ℕ) → (IsPrefixOf front header → 8 ≤ length front) → HasForm front One → (why : ConvertFault)
-    → EndsAt first now start out front (Err why) → Stops first now start out why
+    → ReadingEnds first now start out front (Err why) → FailsToConvert first now start out why
 stops_later first now start out front tells has fault.Truncated e = absurd e
 stops_later first now start out front tells has fault.Read e = record { bytes = front ++ e.0; gave = e.1; counted = e.2; went_out = inr (no_prefix front e.0 tells has, e.3) }
 stops_later first now start out front tells has fault.AlreadyForm2 e = absurd e
 stops_later first now start out front tells has fault.Write e = record { bytes = front ++ e.0; gave = e.1; went_out = inl e.2 }
 
-pub ends_later : (first now : SourceSeen) (start out : SinkSeen) (front : List ℕ) → (IsPrefixOf front header → 8 ≤ length front) → HasForm front One → (r : Result Bool ConvertFault) → EndsAt first now start out front r
-    → MatchResult r (λ whole. EndsForm1 whole first now start out) (Stops first now start out)
+pub ends_later : (first now : SourceSeen) (start out : SinkSeen) (front : List ℕ) → (IsPrefixOf front header → 8 ≤ length front) → HasForm front One → (r : Result Bool ConvertFault) → ReadingEnds first now start out front r
+    → MatchResult r (λ whole. EndsForm1 whole first now start out) (FailsToConvert first now start out)
 ends_later first now start out front tells has (Ok whole) e = (front ++ e.0, e.1, one_whatever_follows front e.0 tells has)
 ends_later first now start out front tells has (Err why) e = stops_later first now start out front tells has why e
 

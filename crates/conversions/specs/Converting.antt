@@ -1,5 +1,5 @@
 -- What goes out when a record of form 1 is converted.
-use Rattle.std.specs.Prelude.{◌≡◌, ◌≢◌, ◌⊎◌, ℕ, List, [], ◌++◌}
+use Rattle.std.specs.Prelude.{◌≡◌, ◌≢◌, ◌⊎◌, ℕ, List, []}
 use Rattle.std.specs.Io.KnownBytes.{IsAtEnd}
 use Rattle.benc.specs.Device.{SinkSeen, SourceSeen, BrokeOrUnflushed, SentAndFlushed, one_more}
 use Rattle.wire.specs.declared.form.Form.TheVariants.{One, Two}
@@ -61,8 +61,8 @@ pub record FailsToWrite (old new : SourceSeen) (out out' : SinkSeen) : Type 0 wh
   pub went_out : BreaksInText bytes out out' ⊎ FailsToFlush bytes new out out'
 
 -- why the record was not converted, and what went out
-abbrev pub Stops : SourceSeen → SourceSeen → SinkSeen → SinkSeen → ConvertFault → Type 0
-Stops old new out out' fault.Truncated = IsCutShort old new out out'
-Stops old new out out' fault.Read = FailsToRead old new out out'
-Stops old new out out' fault.AlreadyForm2 = IsForm2 old new out out'
-Stops old new out out' fault.Write = FailsToWrite old new out out'
+abbrev pub FailsToConvert : SourceSeen → SourceSeen → SinkSeen → SinkSeen → ConvertFault → Type 0
+FailsToConvert old new out out' fault.Truncated = IsCutShort old new out out'
+FailsToConvert old new out out' fault.Read = FailsToRead old new out out'
+FailsToConvert old new out out' fault.AlreadyForm2 = IsForm2 old new out out'
+FailsToConvert old new out out' fault.Write = FailsToWrite old new out out'

@@ -17,8 +17,8 @@ IsPrefixOf front whole = (rest : List ℕ) × (whole ≡ front ++ rest)
 
 -- the text stands at the front of the conversion of every record of whole frames that begins with
 -- these bytes
-abbrev pub IsSound : List ℕ → List ℕ → Type 0
-IsSound bytes text = (more : List ℕ) (bodies : List (List ℕ)) → Frames (bytes ++ more) bodies []
+abbrev pub IsSoundText : List ℕ → List ℕ → Type 0
+IsSoundText bytes text = (more : List ℕ) (bodies : List (List ℕ)) → Frames (bytes ++ more) bodies []
     → IsPrefixOf text (conversion_bytes bodies)
 
 -- what went out for these bytes: the conversion of the whole frames among them, and no more than
@@ -29,14 +29,14 @@ pub record Sends (bytes : List ℕ) (old new : SinkSeen) : Type 0 where
   pub frames : Frames bytes bodies rest
   pub text : List ℕ
   pub begins : IsPrefixOf (conversion_bytes bodies) text
-  pub sound : IsSound bytes text
+  pub sound : IsSoundText bytes text
   pub sent : Sent old new text
 
 -- The sink failed, after a prefix of a text that stands at the front of the conversion of every
 -- record of whole frames that begins so.
 pub record BreaksInText (bytes : List ℕ) (out out' : SinkSeen) : Type 0 where
   pub text : List ℕ
-  pub sound : IsSound bytes text
+  pub sound : IsSoundText bytes text
   pub broke : Broke out out' text
 
 -- ---- one frame
@@ -46,7 +46,7 @@ abbrev pub converted_bytes : List ℕ → List ℕ
 converted_bytes body = flat_map (record_frame Two) (converted body)
 
 -- these bytes are a whole frame, and this text is its conversion
-pub record Completes (bytes text : List ℕ) : Type 0 where
+pub record IsConvertedFrame (bytes text : List ℕ) : Type 0 where
   pub body : List ℕ
   pub fits : IsBody body
   pub is_frame : bytes ≡ frame body
@@ -54,10 +54,10 @@ pub record Completes (bytes text : List ℕ) : Type 0 where
 
 -- a frame has begun, of which so many bytes are left: whichever they are, they complete it, and its
 -- conversion too
-pub record Opens (left : ℕ) (part sent : List ℕ) : Type 0 where
+pub record BeginsFrame (left : ℕ) (part sent : List ℕ) : Type 0 where
   pub some : 0 < length part
   pub completes :
-      (rest : List ℕ) → length rest ≡ left → Completes (part ++ rest) (sent ++ rest)
+      (rest : List ℕ) → length rest ≡ left → IsConvertedFrame (part ++ rest) (sent ++ rest)
 
 -- a length, and as much of the body as a request is made of
 pub record IsHeadOf (head : List ℕ) (size : ℕ) : Type 0 where
@@ -75,14 +75,14 @@ BeginsHashes len front = ((fields : List ℕ) × (front ≡ 22 ∷ fields)) × I
 -- the request that goes before the frame with this head, or nothing
 abbrev pub GoesBefore : List ℕ → List ℕ → Type 0
 GoesBefore head request = (len : ℕ) → len < 2 ^ 32 → four_bytes len ≡ take 4 head
-    → Opens (len + 4 - length head) head (request ++ (0 ∷ head))
+    → BeginsFrame (len + 4 - length head) head (request ++ (0 ∷ head))
 
 -- ---- frames, one after the other
 
 -- a frame has begun, or none has
 abbrev pub Stands : ℕ → List ℕ → List ℕ → Type 0
 Stands left part sent =
-    ((left ≡ 0) × (part ≡ []) × (sent ≡ [])) ⊎ ((0 < left) × Opens left part sent)
+    ((left ≡ 0) × (part ≡ []) × (sent ≡ [])) ⊎ ((0 < left) × BeginsFrame left part sent)
 
 -- the bytes that were fed, of which so many are left of a body, and the text for them
 pub record Reached (left : ℕ) (fed text : List ℕ) : Type 0 where
@@ -138,12 +138,12 @@ pub record FailsInFront (old new : SourceSeen) : Type 0 where
   pub prefix : IsPrefixOf bytes header
 
 -- one flush, and nothing else
-abbrev pub Flushed : {A E : Type 0} → SinkSeen → SinkSeen → Result A E → Type 0
-Flushed old new r = Keeps old.written new.written × (new.flushes ≡ one_more old.flushes)
+abbrev pub FlushesOnce : {A E : Type 0} → SinkSeen → SinkSeen → Result A E → Type 0
+FlushesOnce old new r = Keeps old.written new.written × (new.flushes ≡ one_more old.flushes)
     × CountsFault old.faults new.faults r × OnOk r (new.is_flushed ≡ true)
 
 -- the source has ended, in a record of whole frames or inside a frame
-pub record Ends (whole : Bool) (first now : SourceSeen) (bytes : List ℕ)
+pub record RecordEnds (whole : Bool) (first now : SourceSeen) (bytes : List ℕ)
     (start out : SinkSeen) : Type 0 where
   pub gave : GaveFaultless first now bytes
   pub at_end : IsAtEnd now.left
@@ -154,18 +154,18 @@ pub record Ends (whole : Bool) (first now : SourceSeen) (bytes : List ℕ)
 -- and it was a record of form 1
 abbrev pub EndsForm1 : Bool → SourceSeen → SourceSeen → SinkSeen → SinkSeen → Type 0
 EndsForm1 whole first now start out =
-    (bytes : List ℕ) × Ends whole first now bytes start out × HasForm bytes One
+    (bytes : List ℕ) × RecordEnds whole first now bytes start out × HasForm bytes One
 
 -- how the reading of a record that begins with these bytes ended
-abbrev pub EndsAt : SourceSeen → SourceSeen → SinkSeen → SinkSeen → List ℕ
+abbrev pub ReadingEnds : SourceSeen → SourceSeen → SinkSeen → SinkSeen → List ℕ
     → Result Bool ConvertFault → Type 0
-EndsAt first now start out front (Ok whole) =
-    (more : List ℕ) × Ends whole first now (front ++ more) start out
-EndsAt first now start out front (Err fault.Read) =
+ReadingEnds first now start out front (Ok whole) =
+    (more : List ℕ) × RecordEnds whole first now (front ++ more) start out
+ReadingEnds first now start out front (Err fault.Read) =
     (more : List ℕ) × Gave first now (front ++ more) × (now.faults ≡ one_more first.faults)
     × Sends (front ++ more) start out
-EndsAt first now start out front (Err fault.Write) =
+ReadingEnds first now start out front (Err fault.Write) =
     (more : List ℕ) × GaveFaultless first now (front ++ more)
     × BreaksInText (front ++ more) start out
-EndsAt first now start out front (Err fault.Truncated) = ⊥
-EndsAt first now start out front (Err fault.AlreadyForm2) = ⊥
+ReadingEnds first now start out front (Err fault.Truncated) = ⊥
+ReadingEnds first now start out front (Err fault.AlreadyForm2) = ⊥

@@ -6,8 +6,8 @@ ghost use Rattle.wire.specs.Records.{HasForm, header};
 ghost use Rattle.wire.specs.declared.form.Form.TheVariants as FormOf;
 ghost use Rattle.wire.specs.RecordLaws.{ConversionIsRecord, ConversionMeans};
 ghost use Rattle.session.specs.NotedLaws.{ConversionReplaysAsFormOne, ConversionTellsTheSame};
-ghost use Rattle.conversions.specs.Converting.{Converts, Stops};
-ghost use Rattle.conversions.specs.Steps.{BreaksOff, EndsAt, EndsForm1, FailsInFront, Flushed, Reached, TellsForm, Waits};
+ghost use Rattle.conversions.specs.Converting.{Converts, FailsToConvert};
+ghost use Rattle.conversions.specs.Steps.{BreaksOff, ReadingEnds, EndsForm1, FailsInFront, FlushesOnce, Reached, TellsForm, Waits};
 
 use crate::fault::ConvertFault;
 use crate::gathering::{Gathered, ROOM, send};
@@ -35,7 +35,7 @@ const HEADER: [u8; 8] = *b"\xff\xff\xff\xffBTH2";
 pub fn convert<R: Source, W: Sink>(source: &mut R, out: &mut W) -> Result<(), ConvertFault>
     ensures converts { IfOk result (λ _. Converts (R.seen source.old) (R.seen source.new)
         (W.seen out.old) (W.seen out.new)) }
-    ensures stops { IfErr result (Stops (R.seen source.old) (R.seen source.new)
+    ensures stops { IfErr result (FailsToConvert (R.seen source.old) (R.seen source.new)
         (W.seen out.old) (W.seen out.new)) }
 
     // What went out is a record of form 2, whose frames mean what the frames of form 1 do, with the
@@ -56,7 +56,7 @@ pub fn convert<R: Source, W: Sink>(source: &mut R, out: &mut W) -> Result<(), Co
 fn convert_record<R: Source, W: Sink>(source: &mut R, out: &mut W) -> Result<(), ConvertFault>
     ensures converts { IfOk result (λ _. Converts (R.seen source.old) (R.seen source.new)
         (W.seen out.old) (W.seen out.new)) }
-    ensures stops { IfErr result (Stops (R.seen source.old) (R.seen source.new)
+    ensures stops { IfErr result (FailsToConvert (R.seen source.old) (R.seen source.new)
         (W.seen out.old) (W.seen out.new)) }
 {
     let mut buffer = [0u8; READ];
@@ -118,7 +118,7 @@ fn convert_rest<R: Source, W: Sink>(
         → HasForm (take held buffer.old) FormOf.One → Sent start (W.seen out.old) header
         → MatchResult result
         (λ whole. EndsForm1 whole first (R.seen source.new) start (W.seen out.new))
-        (Stops first (R.seen source.new) start (W.seen out.new)) }
+        (FailsToConvert first (R.seen source.new) start (W.seen out.new)) }
 {
     if more {
         convert_frames(source, out, buffer, held)
@@ -140,7 +140,7 @@ fn convert_frames<R: Source, W: Sink>(
     ensures { (first : SourceSeen) (start : SinkSeen)
         → GaveFaultless first (R.seen source.old) (take held buffer.old)
         → Sent start (W.seen out.old) header
-        → EndsAt first (R.seen source.new) start (W.seen out.new) (take held buffer.old) result }
+        → ReadingEnds first (R.seen source.new) start (W.seen out.new) (take held buffer.old) result }
 {
     let mut gathered = Gathered::new();
     let mut left = 0;
@@ -196,7 +196,7 @@ fn move_to_front(buffer: &mut [u8], start: usize, end: usize) -> usize
 }
 
 fn flush<W: Sink>(out: &mut W) -> Result<(), WriteFault>
-    ensures { Flushed (W.seen out.old) (W.seen out.new) result }
+    ensures { FlushesOnce (W.seen out.old) (W.seen out.new) result }
 {
     out.flush()?;
     Ok(())

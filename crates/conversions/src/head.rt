@@ -2,7 +2,7 @@
 ghost use Rattle.std.specs.Prelude.{◌≡◌, ◌+◌, ◌^◌, ◌<◌, ◌≤◌, ◌++◌, ℕ, List, length, take, MatchBool, MatchOption, MatchResult};
 ghost use Rattle.benc.specs.Device.{Broke, SinkSeen};
 ghost use Rattle.wire.specs.Frames.{IsPartial, four_bytes};
-ghost use Rattle.conversions.specs.Steps.{BeginsHashes, GoesBefore, Held, IsHeadOf, Opens};
+ghost use Rattle.conversions.specs.Steps.{BeginsHashes, GoesBefore, Held, IsHeadOf, BeginsFrame};
 
 use crate::gathering::{Gathered, put};
 use benc::{Sink, WriteFault};
@@ -33,9 +33,9 @@ pub(crate) fn convert_head<W: Sink>(
     requires { IsHeadOf head.now (length head.now) }
     ensures { (start : SinkSeen) (text : List ℕ)
         → Held start (W.seen out.old) gathered.old.items text → MatchResult result
-        (λ left. (sent : List ℕ) × Opens left head.now sent
+        (λ left. (sent : List ℕ) × BeginsFrame left head.now sent
         × Held start (W.seen out.new) gathered.new.items (text ++ sent))
-        (λ _. (left : ℕ) × (sent : List ℕ) × Opens left head.now sent
+        (λ _. (left : ℕ) × (sent : List ℕ) × BeginsFrame left head.now sent
         × Broke start (W.seen out.new) (text ++ sent)) }
 {
     put_request(out, gathered, head)?;

@@ -14,7 +14,7 @@ use Rattle.partial_tree.specs.declared.refusal.HashRefusal.TheVariants.{Mismatch
 use Rattle.partial_tree.specs.Claims.{IsMismatch, IsAgreed, joined}
 use Rattle.partial_tree.specs.Fill.{fill_claims}
 use Rattle.partial_tree.specs.Joins.{TakesLayer, RefusesLayer}
-use Rattle.partial_tree.specs.Grown.{AgreeInTree, GrownTree, HaveHashSize, IsGrown, grown, leaves_in}
+use Rattle.partial_tree.specs.Grown.{AgreeInTree, GrownTree, HaveHashSize, FollowsFromLeaves, grown, leaves_in}
 use Rattle.partial_tree.specs.Kept.{KeptTree, IsGoodTree, kept}
 use Rattle.node_maps.specs.Digest.{Hash}
 use Rattle.node_maps.proofs.Places.{two_halves}
@@ -73,7 +73,7 @@ carried-all old M n few is = same_set nat_cmp_total nat_cmp-IsAntisymmetric M ol
 
 -- ---- the nodes
 
-module _ (n : ℕ) (K K' : Known) (is : IsGrown n (block_count n) K') (in_tree : (l i : ℕ) (v : List ℕ) → look K l i ≡ Some v → IsTreePlace (tree_height n) l i) where
+module _ (n : ℕ) (K K' : Known) (is : FollowsFromLeaves n (block_count n) K') (in_tree : (l i : ℕ) (v : List ℕ) → look K l i ≡ Some v → IsTreePlace (tree_height n) l i) where
   right : length (leaves_in K' (block_count n)) ≡ block_count n
   right = length-leaves K' (block_count n)
 
@@ -121,7 +121,7 @@ module _ (n : ℕ) (K K' : Known) (is : IsGrown n (block_count n) K') (in_tree :
 -- ---- as trees keep them
 
 module _ (n : ℕ) (root : Hash) (K K' : Known) (M : Marked) (old : KeptTree) (new : GrownTree) (old_is : kept root n K M ≡ old) (new_is : grown n (leaves_in K' (block_count n)) ≡ new)
-    (good : IsGoodTree old) (is : IsGrown n (block_count n) K') where
+    (good : IsGoodTree old) (is : FollowsFromLeaves n (block_count n) K') where
   inside : (l i : ℕ) (v : Hash) → look K l i ≡ Some v → IsTreePlace (tree_height n) l i
   inside l i v e = (subst IsGoodTree (sym old_is) good).closed.in_tree l i v e
 

@@ -12,14 +12,14 @@ use Rattle.node_maps.specs.Places.{tree_height, PartialTree, IsKnown}
 use Rattle.node_maps.specs.Digest.{Hash}
 use Rattle.hashtree.specs.Tree.{pad_leaf}
 use Rattle.partial_tree.specs.Closed.{IsFamily, IsClosed, Collision}
-use Rattle.partial_tree.specs.Claims.{span, cover, above, sibling, base_hash, uncle_hash, top_layer, top_index, GoodCount, IsAccepted, IsToldBy, value_at, answer_uncles, answer_of, CanAnswer}
+use Rattle.partial_tree.specs.Claims.{span, cover, above, sibling, base_hash, uncle_hash, top_layer, top_index, GoodCount, IsAccepted, IsToldBy, hash_or_pad, answer_uncles, answer_of, CanAnswer}
 use Rattle.partial_tree.proofs.Powers.{exponent_le, div_small, spans-some}
 use Rattle.partial_tree.proofs.Agree.{left_or_right}
 use Rattle.partial_tree.proofs.Claimed.{either, base-read, uncle-read}
 use Rattle.partial_tree.proofs.Stored.{stored_or_collision}
 
 -- what a known place has is what is told of it
-pub value-known : (K : PartialTree) (l i : ℕ) → IsKnown K l i → K l i ≡ Some (value_at K l i)
+pub value-known : (K : PartialTree) (l i : ℕ) → IsKnown K l i → K l i ≡ Some (hash_or_pad K l i)
 value-known K l i (v, e) = e ∙ ap Some (sym (ap (λ o. unwrap_or o pad_leaf) e))
 
 -- with a place, its ancestors are known, d layers up
@@ -46,16 +46,16 @@ sibling-known t K closed l i below (v, e) =
 module _ (t : TreeRoot) (J : PartialTree) (ask : Ask) (closed : IsClosed t J) (can : CanAnswer (tree_height t.length) J ask) where
   -- the parts of the answer
   base_value : ℕ → Hash
-  base_value j = value_at J ask.base (ask.index + j)
+  base_value j = hash_or_pad J ask.base (ask.index + j)
 
   uncle_value : ℕ → Hash
-  uncle_value j = value_at J (cover ask + j) (sibling (above ask (cover ask + j)))
+  uncle_value j = hash_or_pad J (cover ask + j) (sibling (above ask (cover ask + j)))
 
   pub answer-length : length (answer_of (tree_height t.length) J ask) ≡ ask.length + answer_uncles (tree_height t.length) ask
   answer-length =
-      length-append (map (λ j. value_at J ask.base (ask.index + j)) (range_with_len 0 ask.length)) _
-      ∙ ap₂ (λ a b. a + b) (length-map-range_with_len (λ j. value_at J ask.base (ask.index + j)) 0 ask.length)
-      (length-map-range_with_len (λ j. value_at J (cover ask + j) (sibling (above ask (cover ask + j)))) 0 (answer_uncles (tree_height t.length) ask))
+      length-append (map (λ j. hash_or_pad J ask.base (ask.index + j)) (range_with_len 0 ask.length)) _
+      ∙ ap₂ (λ a b. a + b) (length-map-range_with_len (λ j. hash_or_pad J ask.base (ask.index + j)) 0 ask.length)
+      (length-map-range_with_len (λ j. hash_or_pad J (cover ask + j) (sibling (above ask (cover ask + j)))) 0 (answer_uncles (tree_height t.length) ask))
 
   pub cover-inside : cover ask ≤ tree_height t.length
   cover-inside =
@@ -73,21 +73,21 @@ module _ (t : TreeRoot) (J : PartialTree) (ask : Ask) (closed : IsClosed t J) (c
   base-read_back : (k : ℕ) (v : Hash) → k < ask.length → slice_get (answer_of (tree_height t.length) J ask) k ≡ Some v → base_value k ≡ v
   unfolding base_value
   base-read_back k v inside e =
-      let first : List Hash = map (λ j. value_at J ask.base (ask.index + j)) (range_with_len 0 ask.length) in
-      let len : length first ≡ ask.length = length-map-range_with_len (λ j. value_at J ask.base (ask.index + j)) 0 ask.length in
-      sym (get_or-map-range_with_len (λ j. value_at J ask.base (ask.index + j)) 0 ask.length k k pad_leaf inside (omega arith))
-      ∙ sym (get_or_append_left first (map (λ j. value_at J (cover ask + j) (sibling (above ask (cover ask + j)))) (range_with_len 0 (answer_uncles (tree_height t.length) ask))) pad_leaf k (omega arith))
+      let first : List Hash = map (λ j. hash_or_pad J ask.base (ask.index + j)) (range_with_len 0 ask.length) in
+      let len : length first ≡ ask.length = length-map-range_with_len (λ j. hash_or_pad J ask.base (ask.index + j)) 0 ask.length in
+      sym (get_or-map-range_with_len (λ j. hash_or_pad J ask.base (ask.index + j)) 0 ask.length k k pad_leaf inside (omega arith))
+      ∙ sym (get_or_append_left first (map (λ j. hash_or_pad J (cover ask + j) (sibling (above ask (cover ask + j)))) (range_with_len 0 (answer_uncles (tree_height t.length) ask))) pad_leaf k (omega arith))
       ∙ get_or_from_slice_get (answer_of (tree_height t.length) J ask) k v pad_leaf e
 
   uncle-read_back : (j : ℕ) (v : Hash) → j < answer_uncles (tree_height t.length) ask → slice_get (answer_of (tree_height t.length) J ask) (ask.length + j) ≡ Some v → uncle_value j ≡ v
   unfolding uncle_value
   uncle-read_back j v inside e =
-      let first : List Hash = map (λ k. value_at J ask.base (ask.index + k)) (range_with_len 0 ask.length) in
-      let len : length first ≡ ask.length = length-map-range_with_len (λ k. value_at J ask.base (ask.index + k)) 0 ask.length in
+      let first : List Hash = map (λ k. hash_or_pad J ask.base (ask.index + k)) (range_with_len 0 ask.length) in
+      let len : length first ≡ ask.length = length-map-range_with_len (λ k. hash_or_pad J ask.base (ask.index + k)) 0 ask.length in
       let back : ask.length + j - ask.length ≡ j = omega arith in
-      sym (get_or-map-range_with_len (λ k. value_at J (cover ask + k) (sibling (above ask (cover ask + k)))) 0 (answer_uncles (tree_height t.length) ask) j j pad_leaf inside (omega arith))
-      ∙ sym (get_or-append_right first (map (λ k. value_at J (cover ask + k) (sibling (above ask (cover ask + k)))) (range_with_len 0 (answer_uncles (tree_height t.length) ask))) ask.length (ask.length + j) pad_leaf len (omega arith)
-      ∙ ap (λ k. get_or (map (λ k. value_at J (cover ask + k) (sibling (above ask (cover ask + k)))) (range_with_len 0 (answer_uncles (tree_height t.length) ask))) k pad_leaf) back)
+      sym (get_or-map-range_with_len (λ k. hash_or_pad J (cover ask + k) (sibling (above ask (cover ask + k)))) 0 (answer_uncles (tree_height t.length) ask) j j pad_leaf inside (omega arith))
+      ∙ sym (get_or-append_right first (map (λ k. hash_or_pad J (cover ask + k) (sibling (above ask (cover ask + k)))) (range_with_len 0 (answer_uncles (tree_height t.length) ask))) ask.length (ask.length + j) pad_leaf len (omega arith)
+      ∙ ap (λ k. get_or (map (λ k. hash_or_pad J (cover ask + k) (sibling (above ask (cover ask + k)))) (range_with_len 0 (answer_uncles (tree_height t.length) ask))) k pad_leaf) back)
       ∙ get_or_from_slice_get (answer_of (tree_height t.length) J ask) (ask.length + j) v pad_leaf e
 
   -- the nodes above the base range are known
@@ -121,7 +121,7 @@ module _ (t : TreeRoot) (J : PartialTree) (ask : Ask) (closed : IsClosed t J) (c
         let there : IsKnown J l (sibling (above ask l)) = sibling-known t J closed l (above ask l) below (path-known l (omega arith) (omega arith)) in
         ap (J l) at
         ∙ value-known J l (sibling (above ask l)) there
-        ∙ ap Some (sym (ap (λ k. value_at J k (sibling (above ask k))) layer) ∙ uncle-read_back (l - cover ask) v inside got)
+        ∙ ap Some (sym (ap (λ k. hash_or_pad J k (sibling (above ask k))) layer) ∙ uncle-read_back (l - cover ask) v inside got)
   ]
 
   -- with enough proof layers the answer reaches the root

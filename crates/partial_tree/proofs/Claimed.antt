@@ -104,7 +104,7 @@ pub record IsUnder (ask : Ask) (l i : ℕ) : Type 0 where
   pub under : i / 2 ^ (cover ask - l) ≡ ask.index / 2 ^ span ask
 
 -- (l, i) is the cover or lies above it, not past the top
-pub record IsAbove (ask : Ask) (hashes : List Hash) (l i : ℕ) : Type 0 where
+pub record IsOnPath (ask : Ask) (hashes : List Hash) (l i : ℕ) : Type 0 where
   pub from_cover : cover ask ≤ l
   pub to_top : l ≤ top_layer ask hashes
   pub is_above : i ≡ above ask l
@@ -117,7 +117,7 @@ pub record IsBeside (ask : Ask) (hashes : List Hash) (l i : ℕ) : Type 0 where
 
 pub data IsClaimed (ask : Ask) (hashes : List Hash) (l i : ℕ) : Type 0 where
   under : IsUnder ask l i → IsClaimed ask hashes l i
-  on_path : IsAbove ask hashes l i → IsClaimed ask hashes l i
+  on_path : IsOnPath ask hashes l i → IsClaimed ask hashes l i
   beside : IsBeside ask hashes l i → IsClaimed ask hashes l i
 
 module _ (ask : Ask) (hashes : List Hash) (spans : 1 ≤ span ask) (power : 2 ^ span ask ≡ ask.length)

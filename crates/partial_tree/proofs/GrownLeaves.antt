@@ -24,7 +24,7 @@ use Rattle.node_maps.proofs.Runs.{hashes-one, hashes-alike}
 use Rattle.partial_tree.specs.TreeRoot.{TreeRoot}
 use Rattle.partial_tree.specs.Claims.{claims, given, base_hash, uncle_hash, cover, join_both}
 use Rattle.partial_tree.specs.Fill.{fill_ask, fill_hashes, fill_claims, pad_from}
-use Rattle.partial_tree.specs.Grown.{AddsRow, GrownTree, HaveHashSize, IsGrowing, IsGrown, grown, leaves_in, parents_of}
+use Rattle.partial_tree.specs.Grown.{AddsRow, GrownTree, HaveHashSize, IsGrowing, FollowsFromLeaves, grown, leaves_in, parents_of}
 use Rattle.partial_tree.proofs.Claimed.{either, there_or_not, first_of_two, second_of_two, base-read, uncle-read, claims-given}
 use Rattle.partial_tree.proofs.Layers.{layer-leads}
 use Rattle.partial_tree.proofs.Ranges.{pow_more}
@@ -253,7 +253,7 @@ module _ (n : ℕ) (K : Known) (is : IsGrowing (block_count n) K) where
   pub leaves-same : (K' : Known) → IsUpTo n (leaves_in K (block_count n)) (tree_height n) K' → leaves_in K' (block_count n) ≡ leaves_in K (block_count n)
   leaves-same K' done = hashes-alike (look K' 0) (look K 0) 0 0 (block_count n) (record { at = λ j low. done.same 0 (0 + j) (omega arith) ∙ sym (known-leaf (0 + j) (omega (arith, low))) })
 
-  pub grown-whole : (K' : Known) → IsUpTo n (leaves_in K (block_count n)) (tree_height n) K' → IsGrown n (block_count n) K'
+  pub grown-whole : (K' : Known) → IsUpTo n (leaves_in K (block_count n)) (tree_height n) K' → FollowsFromLeaves n (block_count n) K'
   grown-whole K' done = record {
     claimed = λ l i. all-same n (leaves_in K (block_count n)) right K' done l i ∙ ap (λ xs. fill_claims n 0 xs l i) (sym (leaves-same K' done));
     hashes = subst HaveHashSize (sym (leaves-same K' done)) is.hashes;
@@ -280,12 +280,12 @@ module _ (n count : ℕ) (K : Known) (t : GrownTree) (view_is : grown n (leaves_
       seen 0 K' (pads-same n K every K' (subst (λ k. AddsRow K 0 k (2 ^ tree_height n) (λ _. Some pad_leaf) K') all (subst (λ k. AddsRow K 0 count k (λ _. Some pad_leaf) K') whole adds)))
 
   pub ended : (layer : ℕ) (K' K'' : Known) → layer ≡ tree_height n → IsUpTo t.length t.leaves layer K' → K'' ≡ K'
-      → (len K'' + 1 ≡ 2 ^ suc (tree_height n)) × IsGrown n (block_count n) K'' × (leaves_in K'' (block_count n) ≡ t.leaves)
+      → (len K'' + 1 ≡ 2 ^ suc (tree_height n)) × FollowsFromLeaves n (block_count n) K'' × (leaves_in K'' (block_count n) ≡ t.leaves)
   ended layer K' K'' top up same =
-      subst (λ m. (len m + 1 ≡ 2 ^ suc (tree_height n)) × IsGrown n (block_count n) m × (leaves_in m (block_count n) ≡ t.leaves)) (sym same)
+      subst (λ m. (len m + 1 ≡ 2 ^ suc (tree_height n)) × FollowsFromLeaves n (block_count n) m × (leaves_in m (block_count n) ≡ t.leaves)) (sym same)
       (one (subst (λ k. IsUpTo n (leaves_in K (block_count n)) k K') top (unseen layer K' up)))
     where
-      one : IsUpTo n (leaves_in K (block_count n)) (tree_height n) K' → (len K' + 1 ≡ 2 ^ suc (tree_height n)) × IsGrown n (block_count n) K' × (leaves_in K' (block_count n) ≡ t.leaves)
+      one : IsUpTo n (leaves_in K (block_count n)) (tree_height n) K' → (len K' + 1 ≡ 2 ^ suc (tree_height n)) × FollowsFromLeaves n (block_count n) K' × (leaves_in K' (block_count n) ≡ t.leaves)
       one done =
           let none_left : tree_height n - tree_height n ≡ 0 = omega arith in
           let single : 2 ^ (tree_height n - tree_height n) ≡ 2 ^ 0 = ap (λ k. 2 ^ k) none_left in (

@@ -1,5 +1,5 @@
 -- Powers of two, and their logarithm.
-use Rattle.std.proofs.Common.{◌≡◌, ℕ, ◌+◌, ◌-◌, ◌*◌, ◌/◌, ◌^◌, ◌<◌, ◌≤◌, inl, inr, sym, ap, ◌∙◌, arith, pow-add, le_antisymm}
+use Rattle.std.proofs.Common.{◌≡◌, ℕ, ◌+◌, ◌*◌, ◌/◌, ◌^◌, ◌<◌, ◌≤◌, inl, inr, sym, ap, ◌∙◌, arith, le_antisymm}
 use Rattle.std.proofs.lemmas.Bool.{cases_lt}
 use Rattle.std.proofs.lemmas.Nat.{pow_below, div-mul-add}
 use Rattle.wire.specs.declared.message.Ask.{Ask}
@@ -20,10 +20,6 @@ height_pow k = le_antisymm (height_least (2 ^ k) k (le_here (2 ^ k))) (exponent_
   where
     le_here : (n : ℕ) → n ≤ n
     le_here n = omega arith
-
--- a power splits into a product
-pub pow_split : (j h : ℕ) → j ≤ h → 2 ^ (h - j) * 2 ^ j ≡ 2 ^ h
-pow_split j h le = let e : h ≡ (h - j) + j = omega arith in sym (pow-add 2 (h - j) j) ∙ sym (ap (λ k. 2 ^ k) e)
 
 -- a quotient by a power that is not passed is 0
 pub div_small : (n w : ℕ) → n < w → n / w ≡ 0

@@ -24,9 +24,9 @@ pub record Opened (e : Evidence) (l i : ℕ) : Type 0 where
   pub left : IsKnown (claimed_by e) (l - 1) (2 * i)
   pub right : IsKnown (claimed_by e) (l - 1) (2 * i + 1)
 
-pub opened : (e : Evidence) (l i : ℕ) → IsKnown (claimed_by e) l i → given_by e l i ≡ None → Opened e l i
-opened e zero i (v, is) none = absurd (none-some v (sym none ∙ sym (claims-zero (range_of e) (hashes_of e) i) ∙ is))
-opened e (suc l) i (v, is) none = elim (claims-read (range_of e) (hashes_of e) l i v is) [
+pub rests_on : (e : Evidence) (l i : ℕ) → IsKnown (claimed_by e) l i → given_by e l i ≡ None → Opened e l i
+rests_on e zero i (v, is) none = absurd (none-some v (sym none ∙ sym (claims-zero (range_of e) (hashes_of e) i) ∙ is))
+rests_on e (suc l) i (v, is) none = elim (claims-read (range_of e) (hashes_of e) l i v is) [
   | inl g ↦ absurd (none-some v (sym none ∙ g))
   | inr (n, (a, b, p, q, w)) ↦
       let down : l ≡ suc l - 1 = omega arith in
@@ -48,12 +48,12 @@ child_right h (suc l) i some at = let down : l ≡ suc l - 1 = omega arith in su
 -- the children of a claimed place that is not given are claimed
 pub left_claimed : (h : ℕ) (e : Evidence) (l i : ℕ) → IsClaimedPlace h e l i → given_by e l i ≡ None → IsClaimedPlace h e (l - 1) (2 * i)
 left_claimed h e l i at none =
-    let o : Opened e l i = opened e l i at.claimed none in
+    let o : Opened e l i = rests_on e l i at.claimed none in
     record { low = at.low; inside = at.inside; place = child_left h l i o.above_leaves at.place; pruned = at.pruned; claimed = o.left }
 
 pub right_claimed : (h : ℕ) (e : Evidence) (l i : ℕ) → IsClaimedPlace h e l i → given_by e l i ≡ None → IsClaimedPlace h e (l - 1) (2 * i + 1)
 right_claimed h e l i at none =
-    let o : Opened e l i = opened e l i at.claimed none in
+    let o : Opened e l i = rests_on e l i at.claimed none in
     record { low = at.low; inside = at.inside; place = child_right h l i o.above_leaves at.place; pruned = at.pruned; claimed = o.right }
 
 -- a given hash is claimed

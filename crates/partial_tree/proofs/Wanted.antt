@@ -11,8 +11,8 @@ use Rattle.hashtree.specs.Tree.{block_count, height, node}
 use Rattle.partial_tree.specs.Closed.{Keeps, IsClosed, Collision, whole}
 use Rattle.partial_tree.specs.Claims.{span, claims, joined, GoodRange, CanAnswer, IsAccepted, answer_of}
 use Rattle.partial_tree.specs.Gaps.{window, is_missing, is_gap, gaps, want_ask}
-use Rattle.hashtree.proofs.Heights.{height_enough}
-use Rattle.partial_tree.proofs.Powers.{height_pow, pow_split, spans-some}
+use Rattle.hashtree.proofs.Heights.{height_enough, pow_split}
+use Rattle.partial_tree.proofs.Powers.{height_pow, spans-some}
 use Rattle.partial_tree.proofs.Whole.{whole-at, whole-closed}
 use Rattle.partial_tree.proofs.Claimed.{first_of_two, second_of_two, there_or_not, claimed-base, base-claims}
 use Rattle.partial_tree.proofs.Answers.{answer-stored}
@@ -39,7 +39,7 @@ pub windows-fill : (len : ℕ) → 2 ^ tree_height len / window len * window len
 windows-fill len =
     let m : ℕ = min 9 (tree_height len) in
     let le : min 9 (tree_height len) ≤ tree_height len = omega arith in
-    let split : 2 ^ (tree_height len - m) * 2 ^ m ≡ 2 ^ tree_height len = pow_split m (tree_height len) le in
+    let split : 2 ^ (tree_height len - m) * 2 ^ m ≡ 2 ^ tree_height len = pow_split (tree_height len) m le in
     let quotient : 2 ^ tree_height len / 2 ^ m ≡ 2 ^ (tree_height len - m) = ap (λ k. k / 2 ^ m) (sym split) ∙ shl-shr (2 ^ (tree_height len - m)) m in
     ap (λ w. 2 ^ tree_height len / w * w) (window-pow len) ∙ ap (λ q. q * 2 ^ m) quotient ∙ split
 

@@ -14,8 +14,8 @@ use Rattle.hashtree.specs.Tree.{pad_leaf, block_count, zero_hash}
 use Rattle.partial_tree.specs.Closed.{IsClosed}
 use Rattle.partial_tree.specs.Claims.{span, cover, given, base_hash, uncle_hash, joined, top_layer, IsAgreed}
 use Rattle.partial_tree.specs.Fill.{fill_ask, fill_hashes, fill_claims, pad_from}
-use Rattle.hashtree.proofs.Heights.{height_enough}
-use Rattle.partial_tree.proofs.Powers.{height_pow, div_small, pow_split}
+use Rattle.hashtree.proofs.Heights.{height_enough, pow_split}
+use Rattle.partial_tree.proofs.Powers.{height_pow, div_small}
 use Rattle.hashtree.proofs.Zeros.{zero_hash-zero, zero_hash-suc}
 use Rattle.partial_tree.proofs.Digests.{is_hash}
 use Rattle.partial_tree.proofs.Whole.{pad-is_hash}
@@ -34,7 +34,7 @@ module _ (t : TreeRoot) (K : PartialTree) (l : ℕ) (hashes : List Hash) (layer_
   short : length hashes ≤ 2 ^ (tree_height t.length - l)
   short =
       let enough : block_count t.length ≤ 2 ^ tree_height t.length = height_enough (block_count t.length) in
-      let split : 2 ^ (tree_height t.length - l) * 2 ^ l ≡ 2 ^ tree_height t.length = pow_split l (tree_height t.length) layer_inside in
+      let split : 2 ^ (tree_height t.length - l) * 2 ^ l ≡ 2 ^ tree_height t.length = pow_split (tree_height t.length) l layer_inside in
       let some' : 0 < 2 ^ l = pow_pos l in
       let low : (block_count t.length + (2 ^ l - 1)) / 2 ^ l < suc (2 ^ (tree_height t.length - l)) =
       div_below (block_count t.length + (2 ^ l - 1)) (2 ^ l) (suc (2 ^ (tree_height t.length - l))) some' (omega arith) in

@@ -147,8 +147,8 @@ abbrev pub joined : PartialTree → PartialTree → PartialTree
 joined K C l i = option_or (K l i) (C l i)
 
 -- the value at a place; the pad leaf if there is none
-abbrev pub value_at : PartialTree → ℕ → ℕ → Hash
-value_at K l i = unwrap_or (K l i) pad_leaf
+abbrev pub hash_or_pad : PartialTree → ℕ → ℕ → Hash
+hash_or_pad K l i = unwrap_or (K l i) pad_leaf
 
 -- the base range of an ask is good and known
 pub record CanAnswer (h : ℕ) (K : PartialTree) (ask : Ask) : Type 0 where
@@ -163,8 +163,8 @@ answer_uncles h ask = min (ask.proof - (span ask - 1)) (h - ask.base - span ask)
 -- the hashes of an answer: the base range, and then the uncles, the one nearest the root last
 abbrev pub answer_of : ℕ → PartialTree → Ask → List Hash
 answer_of h K ask =
-    map (λ j. value_at K ask.base (ask.index + j)) (range_with_len 0 ask.length)
-    ++ map (λ j. value_at K (cover ask + j) (sibling (above ask (cover ask + j))))
+    map (λ j. hash_or_pad K ask.base (ask.index + j)) (range_with_len 0 ask.length)
+    ++ map (λ j. hash_or_pad K (cover ask + j) (sibling (above ask (cover ask + j))))
     (range_with_len 0 (answer_uncles h ask))
 
 -- each hash that the message gives is what J has at its place

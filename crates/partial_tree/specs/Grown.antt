@@ -33,7 +33,7 @@ pub record IsGrowing (count : ℕ) (K : Known) : Type 0 where
   pub counted : len K ≡ count
 
 -- what is known is what follows from the leaves, so many, and the pads after them
-pub record IsGrown (files count : ℕ) (K : Known) : Type 0 where
+pub record FollowsFromLeaves (files count : ℕ) (K : Known) : Type 0 where
   pub claimed : (l i : ℕ) → look K l i ≡ fill_claims files 0 (leaves_in K count) l i
   pub leaves_known : AreKnown (look K 0) 0 count
   pub hashes : HaveHashSize (leaves_in K count)

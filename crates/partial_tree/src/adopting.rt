@@ -27,37 +27,6 @@ pub fn agree<N: NodeMap>(old: &N, new: &N, height: u32) -> bool
     true
 }
 
-// The same of the first places of a layer, so many.
-fn agree_in_row<N: NodeMap>(old: &N, new: &N, layer: u32, count: u64) -> bool
-    ensures same { OnTrue result
-        (AgreeInRow (look (N.known old.now)) (look (N.known new.now)) layer count) }
-    ensures differs { OnFalse result
-        (IsMismatch (look (N.known old.now)) (look (N.known new.now))) }
-{
-    'places: for index in 0..count {
-        if !agree_at(old, new, layer, index) {
-            return false;
-        }
-    }
-    true
-}
-
-// The same of one place.
-fn agree_at<N: NodeMap>(old: &N, new: &N, layer: u32, index: u64) -> bool
-    ensures same { OnTrue result
-        (AgreeAt (look (N.known old.now)) (look (N.known new.now)) layer index) }
-    ensures differs { OnFalse result
-        (IsMismatch (look (N.known old.now)) (look (N.known new.now))) }
-{
-    let Some(was) = old.get(layer, index) else {
-        return true;
-    };
-    match new.get(layer, index) {
-        Some(is) => was == is,
-        None => true,
-    }
-}
-
 /// Marks in a map without marks the leaves that another one has marked, which are among the first
 /// `count`. They are known.
 pub fn carry_marks<N: NodeMap>(old: &N, new: &mut N, count: u64)
@@ -73,5 +42,37 @@ pub fn carry_marks<N: NodeMap>(old: &N, new: &mut N, count: u64)
         if old.is_marked(index) {
             new.mark(index);
         }
+    }
+}
+
+// Whether they have one hash at each of the first `count` places of a layer, wherever both have
+// one.
+fn agree_in_row<N: NodeMap>(old: &N, new: &N, layer: u32, count: u64) -> bool
+    ensures same { OnTrue result
+        (AgreeInRow (look (N.known old.now)) (look (N.known new.now)) layer count) }
+    ensures differs { OnFalse result
+        (IsMismatch (look (N.known old.now)) (look (N.known new.now))) }
+{
+    'places: for index in 0..count {
+        if !agree_at(old, new, layer, index) {
+            return false;
+        }
+    }
+    true
+}
+
+// Whether they have one hash at a place, or not both have one.
+fn agree_at<N: NodeMap>(old: &N, new: &N, layer: u32, index: u64) -> bool
+    ensures same { OnTrue result
+        (AgreeAt (look (N.known old.now)) (look (N.known new.now)) layer index) }
+    ensures differs { OnFalse result
+        (IsMismatch (look (N.known old.now)) (look (N.known new.now))) }
+{
+    let Some(was) = old.get(layer, index) else {
+        return true;
+    };
+    match new.get(layer, index) {
+        Some(is) => was == is,
+        None => true,
     }
 }

@@ -2,7 +2,7 @@
 
 ghost use Rattle.std.specs.Prelude.{◌≡◌, ◌+◌, ◌^◌, ◌≤◌, IfOk};
 ghost use Rattle.node_maps.specs.Known.{look};
-ghost use Rattle.partial_tree.specs.Claims.{value_at, answer_of, CanAnswer};
+ghost use Rattle.partial_tree.specs.Claims.{hash_or_pad, answer_of, CanAnswer};
 
 use crate::evidence::sibling;
 use hashtree::{Hash, NoMemory};
@@ -48,7 +48,7 @@ pub fn answer_hashes<N: NodeMap>(
 
 // The hash at a place; the pad leaf if it is not known.
 fn known_or_pad<N: NodeMap>(nodes: &N, layer: u32, index: u64) -> Hash
-    ensures { result ≡ value_at (look (N.known nodes.now)) layer index }
+    ensures { result ≡ hash_or_pad (look (N.known nodes.now)) layer index }
 {
     nodes.get(layer, index).unwrap_or([0; 32])
 }

@@ -12,19 +12,6 @@ use crate::refusal::HashRefusal;
 use hashtree::Hash;
 use wire::Ask;
 
-// The power of two that a length from 2 to 8192 is, if it is one.
-fn span_of(length: u32) -> Option<u32>
-    ensures found { IfSome result (λ k. (2 ^ k ≡ length) × (1 ≤ k) × (k ≤ 13)) }
-    ensures none { IfNone result ((k : ℕ) → 1 ≤ k → k ≤ 13 → 2 ^ k ≢ length) }
-{
-    for span in 1..14u32 {
-        if length == 1 << span {
-            return Some(span);
-        }
-    }
-    None
-}
-
 /// The span of a base range that lies in a tree of this height, at a multiple of its length.
 pub fn check_range(height: u32, ask: &Ask) -> Result<u32, HashRefusal>
     requires { height ≤ 32 }
@@ -93,17 +80,6 @@ pub fn base_pads_fit(blocks: u64, base: u32, index: u64, hashes: &[Hash], pads: 
     true
 }
 
-// Whether a hash that covers the leaves from `start` on is that over pads, if these leaves cover
-// nothing of the file.
-fn pad_fits(blocks: u64, start: u64, hash: &Hash, layer: u32, pads: &mut Pads) -> bool
-    requires low { layer ≤ 32 }
-    requires upward { pads.old.layer ≤ layer }
-    ensures fits { IsTrue result ↔ (blocks ≤ start → hash.now ≡ zero_hash layer) }
-    ensures upward { pads.new.layer ≤ layer }
-{
-    start < blocks || *hash == pads.at(layer)
-}
-
 /// Whether each uncle above a node that covers nothing of the file is the hash over pads.
 pub fn uncle_pads_fit(blocks: u64, cover: u32, node: u64, uncles: &[Hash], pads: &mut Pads) -> bool
     requires layers { cover + length uncles.now ≤ 32 }
@@ -125,4 +101,28 @@ pub fn uncle_pads_fit(blocks: u64, cover: u32, node: u64, uncles: &[Hash], pads:
         above /= 2;
     }
     true
+}
+
+// The power of two that a length from 2 to 8192 is, if it is one.
+fn span_of(length: u32) -> Option<u32>
+    ensures found { IfSome result (λ k. (2 ^ k ≡ length) × (1 ≤ k) × (k ≤ 13)) }
+    ensures none { IfNone result ((k : ℕ) → 1 ≤ k → k ≤ 13 → 2 ^ k ≢ length) }
+{
+    for span in 1..14u32 {
+        if length == 1 << span {
+            return Some(span);
+        }
+    }
+    None
+}
+
+// Whether a hash that covers the leaves from `start` on is that over pads, if these leaves cover
+// nothing of the file.
+fn pad_fits(blocks: u64, start: u64, hash: &Hash, layer: u32, pads: &mut Pads) -> bool
+    requires low { layer ≤ 32 }
+    requires upward { pads.old.layer ≤ layer }
+    ensures fits { IsTrue result ↔ (blocks ≤ start → hash.now ≡ zero_hash layer) }
+    ensures upward { pads.new.layer ≤ layer }
+{
+    start < blocks || *hash == pads.at(layer)
 }

@@ -13,22 +13,31 @@ use crate::found::{Claim, Found};
 use hashtree::{Hash, parent};
 use node_maps::NodeMap;
 
-// Compares the hash that is claimed for a place with the known one, or notes the claim. False if
-// the two differ.
-fn compare<N: NodeMap>(map: &N, found: &mut Found, claim: Claim) -> bool
-    ensures same { OnTrue result (IsHandledClaim (N.known map.now) found.new claim) }
-    ensures differs { OnFalse result (DiffersFrom (N.known map.now) claim) }
+/// The hash that is claimed for a place, if what is claimed from there down differs nowhere from
+/// what is known. Notes the claims of places that are not known.
+#[cycle(trace)]
+pub fn trace<N: NodeMap>(
+    map: &N,
+    evidence: &Evidence,
+    found: &mut Found,
+    layer: u32,
+    index: u64,
+) -> Option<Hash>
+    requires at { IsClaimedPlace (tree_height (N.length map.now)) evidence.now layer index }
+    requires sound { AreClaims (claimed_by evidence.now) found.old.claims.items }
+    ensures value { IfSome result (λ v. claimed_by evidence.now layer index ≡ Some v) }
+    ensures handled { OnSome result (AllHandled (claimed_by evidence.now)
+        (look (N.known map.now)) found.new layer index) }
+    ensures differs { IfNone result (IsMismatch (look (N.known map.now))
+        (claimed_by evidence.now)) }
     ensures grows { Grows found.old found.new }
-    ensures sound { (C : PartialTree) → C claim.layer claim.index ≡ Some claim.hash
-        → AreClaims C found.old.claims.items → AreClaims C found.new.claims.items }
+    ensures sound { AreClaims (claimed_by evidence.now) found.new.claims.items }
 {
-    match map.get(claim.layer, claim.index) {
-        Some(known) => known == claim.hash,
-        None => {
-            found.note(claim);
-            true
-        }
+    let hash = derive(map, evidence, found, layer, index)?;
+    if !compare(map, found, Claim { layer, index, hash }) {
+        return None;
     }
+    Some(hash)
 }
 
 // The hash that is claimed for a place, given or computed, if what is claimed below it differs
@@ -61,29 +70,20 @@ fn derive<N: NodeMap>(
     }
 }
 
-/// The hash that is claimed for a place, if what is claimed from there down differs nowhere from
-/// what is known. Notes the claims of places that are not known.
-#[cycle(trace)]
-pub fn trace<N: NodeMap>(
-    map: &N,
-    evidence: &Evidence,
-    found: &mut Found,
-    layer: u32,
-    index: u64,
-) -> Option<Hash>
-    requires at { IsClaimedPlace (tree_height (N.length map.now)) evidence.now layer index }
-    requires sound { AreClaims (claimed_by evidence.now) found.old.claims.items }
-    ensures value { IfSome result (λ v. claimed_by evidence.now layer index ≡ Some v) }
-    ensures handled { OnSome result (AllHandled (claimed_by evidence.now)
-        (look (N.known map.now)) found.new layer index) }
-    ensures differs { IfNone result (IsMismatch (look (N.known map.now))
-        (claimed_by evidence.now)) }
+// Compares the hash that is claimed for a place with the known one, or notes the claim. False if
+// the two differ.
+fn compare<N: NodeMap>(map: &N, found: &mut Found, claim: Claim) -> bool
+    ensures same { OnTrue result (IsHandledClaim (N.known map.now) found.new claim) }
+    ensures differs { OnFalse result (DiffersFrom (N.known map.now) claim) }
     ensures grows { Grows found.old found.new }
-    ensures sound { AreClaims (claimed_by evidence.now) found.new.claims.items }
+    ensures sound { (C : PartialTree) → C claim.layer claim.index ≡ Some claim.hash
+        → AreClaims C found.old.claims.items → AreClaims C found.new.claims.items }
 {
-    let hash = derive(map, evidence, found, layer, index)?;
-    if !compare(map, found, Claim { layer, index, hash }) {
-        return None;
+    match map.get(claim.layer, claim.index) {
+        Some(known) => known == claim.hash,
+        None => {
+            found.note(claim);
+            true
+        }
     }
-    Some(hash)
 }

@@ -101,7 +101,7 @@ impl<N: NodeMap> Model for GrownTree<N> {
     ghost use Rattle.std.specs.FinSet.{empty};
     ghost use Rattle.hashtree.specs.Tree.{block_count};
     ghost use Rattle.node_maps.specs.Places.{tree_height};
-    ghost use Rattle.partial_tree.specs.Grown.{GrownTree as Grown, IsGrown, grown, leaves_in};
+    ghost use Rattle.partial_tree.specs.Grown.{GrownTree as Grown, FollowsFromLeaves, grown, leaves_in};
     ghost use Rattle.partial_tree.specs.Codes.{grown_tree_code};
 
     ghost Value = { Grown };
@@ -114,5 +114,5 @@ impl<N: NodeMap> Model for GrownTree<N> {
         × (N.marked t.nodes ≡ empty)
         × (N.held t.nodes ≡ N.needed (N.known t.nodes))
         × (len (N.known t.nodes) + 1 ≡ 2 ^ suc (tree_height t.shape))
-        × IsGrown t.shape (block_count t.shape) (N.known t.nodes) };
+        × FollowsFromLeaves t.shape (block_count t.shape) (N.known t.nodes) };
 }

@@ -14,38 +14,6 @@ use crate::found::Claim;
 use hashtree::{Hash, parent};
 use node_maps::NodeMap;
 
-// Sets the hash of a claim, unless its place is known, and tells how many places are new.
-fn put_absent<N: NodeMap>(map: &mut N, claim: &Claim) -> u64
-    requires { N.has_room map.old claim.now.layer claim.now.index }
-    ensures length { N.length map.new ≡ N.length map.old }
-    ensures known { N.known map.new ≡ with_new (N.known map.old) claim.now }
-    ensures marked { N.marked map.new ≡ N.marked map.old }
-    ensures gained { finite.len (N.known map.new) ≡ finite.len (N.known map.old) + result }
-    ensures one { result ≤ 1 }
-    ensures keeps { (l i : ℕ) → N.has_room map.old l i → N.has_room map.new l i }
-{
-    if map.get(claim.layer, claim.index).is_some() {
-        return 0;
-    }
-    map.put(claim.layer, claim.index, claim.hash);
-    1
-}
-
-/// Sets the hashes of claims at places that are not known, and tells how many are new.
-pub fn put_new<N: NodeMap>(map: &mut N, claims: &[Claim]) -> u64
-    requires { All (λ (c : Claimed). N.has_room map.old c.layer c.index) claims.now }
-    ensures length { N.length map.new ≡ N.length map.old }
-    ensures known { N.known map.new ≡ insert_new (N.known map.old) claims.now }
-    ensures marked { N.marked map.new ≡ N.marked map.old }
-    ensures gained { finite.len (N.known map.new) ≡ finite.len (N.known map.old) + result }
-{
-    let mut gained = 0;
-    for claim in claims {
-        gained += put_absent(map, claim);
-    }
-    gained
-}
-
 /// Writes the claims from a place down that are not known, and tells the place's hash and how many
 /// are new.
 #[cycle(write)]
@@ -71,6 +39,21 @@ pub fn write_claimed<N: NodeMap>(
     (hash, below + here)
 }
 
+/// Sets the hashes of claims at places that are not known, and tells how many are new.
+pub fn put_new<N: NodeMap>(map: &mut N, claims: &[Claim]) -> u64
+    requires { All (λ (c : Claimed). N.has_room map.old c.layer c.index) claims.now }
+    ensures length { N.length map.new ≡ N.length map.old }
+    ensures known { N.known map.new ≡ insert_new (N.known map.old) claims.now }
+    ensures marked { N.marked map.new ≡ N.marked map.old }
+    ensures gained { finite.len (N.known map.new) ≡ finite.len (N.known map.old) + result }
+{
+    let mut gained = 0;
+    for claim in claims {
+        gained += put_absent(map, claim);
+    }
+    gained
+}
+
 // Writes the claims below a place that are not known, and tells the place's hash and how many are
 // new.
 #[cycle(write)]
@@ -94,4 +77,21 @@ fn write_below<N: NodeMap>(map: &mut N, evidence: &Evidence, layer: u32, index: 
             (parent(&left, &right), before + after)
         }
     }
+}
+
+// Sets the hash of a claim, unless its place is known, and tells how many places are new.
+fn put_absent<N: NodeMap>(map: &mut N, claim: &Claim) -> u64
+    requires { N.has_room map.old claim.now.layer claim.now.index }
+    ensures length { N.length map.new ≡ N.length map.old }
+    ensures known { N.known map.new ≡ with_new (N.known map.old) claim.now }
+    ensures marked { N.marked map.new ≡ N.marked map.old }
+    ensures gained { finite.len (N.known map.new) ≡ finite.len (N.known map.old) + result }
+    ensures one { result ≤ 1 }
+    ensures keeps { (l i : ℕ) → N.has_room map.old l i → N.has_room map.new l i }
+{
+    if map.get(claim.layer, claim.index).is_some() {
+        return 0;
+    }
+    map.put(claim.layer, claim.index, claim.hash);
+    1
 }

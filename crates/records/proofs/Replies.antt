@@ -24,7 +24,7 @@ use Rattle.wire.specs.declared.message.Message.TheVariants as message
 use Rattle.node_maps.specs.Digest.{Hash}
 use Rattle.node_maps.specs.Known.{look}
 use Rattle.node_maps.specs.Places.{tree_height, PartialTree}
-use Rattle.partial_tree.specs.Claims.{answer_of, answer_uncles, cover, sibling, above, value_at}
+use Rattle.partial_tree.specs.Claims.{answer_of, answer_uncles, cover, sibling, above, hash_or_pad}
 use Rattle.partial_tree.specs.declared.answer.Answer.{Answer}
 use Rattle.partial_tree.specs.declared.answer.Answer.TheVariants as answer
 use Rattle.session.specs.Answers.{IsAnswerTo}
@@ -48,8 +48,8 @@ low_height len bound = height_least (block_count len) 32 (omega arith)
 
 answer_count : (h : ℕ) (K : PartialTree) (ask : Ask) → length (answer_of h K ask) ≡ ask.length + answer_uncles h ask
 answer_count h K ask =
-    let base : ℕ → Hash = λ j. value_at K ask.base (ask.index + j) in
-    let uncle : ℕ → Hash = λ j. value_at K (cover ask + j) (sibling (above ask (cover ask + j))) in
+    let base : ℕ → Hash = λ j. hash_or_pad K ask.base (ask.index + j) in
+    let uncle : ℕ → Hash = λ j. hash_or_pad K (cover ask + j) (sibling (above ask (cover ask + j))) in
     length-append (map base (range_with_len 0 ask.length)) (map uncle (range_with_len 0 (answer_uncles h ask)))
     ∙ ap (λ n. n + length (map uncle (range_with_len 0 (answer_uncles h ask)))) (length-map-range_with_len base 0 ask.length)
     ∙ ap (λ n. ask.length + n) (length-map-range_with_len uncle 0 (answer_uncles h ask))

@@ -21,6 +21,21 @@ pub fn line_of_frame(number: u64, told: &Told) -> Line
     line
 }
 
+/// A refusal: a letter, its number and its name.
+pub fn put_refused(line: &mut Line, letter: &[u8], number: u32, name: &str)
+    requires line { length line.old ≤ 21 }
+    requires letter { length letter.now ≤ 1 }
+    requires name { length name.now ≤ 11 }
+    ensures text { line.new ≡ line.old ++ refused_text letter.now number name.now }
+    ensures bound { length line.new ≤ length line.old + 60 }
+{
+    line.put(b"refused ");
+    line.put(letter);
+    line.put_number(u64::from(number));
+    line.put(b" ");
+    line.put(name.as_bytes());
+}
+
 fn put_told(line: &mut Line, told: &Told)
     requires { length line.old ≤ 21 }
     ensures text { line.new ≡ line.old ++ told_text told.now }
@@ -76,19 +91,4 @@ fn put_counted(line: &mut Line, word: &[u8], number: u64)
 {
     line.put(word);
     line.put_number(number);
-}
-
-/// A refusal: a letter, its number and its name.
-pub fn put_refused(line: &mut Line, letter: &[u8], number: u32, name: &str)
-    requires line { length line.old ≤ 21 }
-    requires letter { length letter.now ≤ 1 }
-    requires name { length name.now ≤ 11 }
-    ensures text { line.new ≡ line.old ++ refused_text letter.now number name.now }
-    ensures bound { length line.new ≤ length line.old + 60 }
-{
-    line.put(b"refused ");
-    line.put(letter);
-    line.put_number(u64::from(number));
-    line.put(b" ");
-    line.put(name.as_bytes());
 }

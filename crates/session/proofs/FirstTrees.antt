@@ -98,9 +98,9 @@ ArePlanted p w entries ts = (k : ℕ) (e : TreeEntry) (a : KeptTree) → k < len
 pub no_trees : (p : ℕ) (w : Bool) (entries : List TreeEntry) (ts : List KeptTree) → ts ≡ [] → ArePlanted p w entries ts
 no_trees p w entries ts none = λ k e a inside. absurd (omega (arith, ap length none, inside))
 
-pub one_more : (p : ℕ) (w : Bool) (infos : List TreeInfo) (ts : List KeptTree) (i : ℕ) (x : TreeInfo) (b : KeptTree) → i < length infos → length ts ≡ i
+pub planted_one_more : (p : ℕ) (w : Bool) (infos : List TreeInfo) (ts : List KeptTree) (i : ℕ) (x : TreeInfo) (b : KeptTree) → i < length infos → length ts ≡ i
     → IsPlanted p w (tree_entry (get_or infos i x)) b → ArePlanted p w (map tree_entry infos) ts → ArePlanted p w (map tree_entry infos) (ts ++ b ∷ [])
-one_more p w infos ts i x b low count here before = λ k e a inside. elim (cases_lt k (length ts)) [
+planted_one_more p w infos ts i x b low count here before = λ k e a inside. elim (cases_lt k (length ts)) [
   | inl earlier ↦ subst (IsPlanted p w (get_or (map tree_entry infos) k e)) (sym (get_or_append_left ts (b ∷ []) a k earlier)) (before k e a earlier)
   | inr last ↦
       let same : k ≡ length ts = omega (arith, length_push ts b) in

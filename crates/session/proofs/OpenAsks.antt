@@ -72,9 +72,6 @@ module _ (before after : List Ask) (k : Ask) where
 pub opened_contains : (s : AskSet) (k : Ask) → set.contains (set.insert s k) k ≡ true
 opened_contains s k = set.contains-insert ask_total s k k ∙ ap (λ o. is_eq o || set.contains s k) (tied_itself ask_total k)
 
-pub closed_contains : (s : AskSet) (k : Ask) → set.contains (set.remove s k) k ≡ false
-closed_contains s k = set.contains-remove ask_total s k k ∙ ap (λ o. not (is_eq o) && set.contains s k) (tied_itself ask_total k)
-
 -- an open ask that is opened again changes nothing
 pub opened_again : (s : AskSet) (k : Ask) → set.contains s k ≡ true → set.insert s k ≡ s
 opened_again s k there = set.same_set ask_total ask_antisymmetric _ _ (λ q. set.contains-insert ask_total s k q ∙ by_case q (eq_by_cmp ask_cmp q k) refl)

@@ -40,8 +40,8 @@ parts_code = coded× bytes_code (coded× coded_ℕ (coded× (coded_list file_cod
     (coded× (coded_list tree_code) (coded× bytes_code (coded× bytes_code
     (coded_option version_code))))))
 
-abbrev parts_of : Description → Parts
-parts_of d =
+abbrev description_parts : Description → Parts
+description_parts d =
     (d.name, (d.piece_length, (d.files, (d.trees, (d.info_hash_v2, (d.info_hash_v1, d.v1))))))
 
 abbrev of_parts : Parts → Description
@@ -56,7 +56,7 @@ of_parts p = record {
 }
 
 abbrev pub description_code : Coded Description
-description_code = code_by Parts parts_code parts_of of_parts (λ _. refl)
+description_code = code_by Parts parts_code description_parts of_parts (λ _. refl)
 
 abbrev pub session_code : Coded SessionSeen
 session_code = code_by (Description × (List TreeState × AskSet))

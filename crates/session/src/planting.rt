@@ -1,13 +1,12 @@
 //! The trees of a new session.
 
 ghost use Rattle.std.specs.Prelude.{◌<◌, true, false, IfOk, OnOk};
-ghost use Rattle.metainfo.specs.Pieces.{IsPieceLength};
 ghost use Rattle.metainfo.specs.Seen.{tree_entry};
 ghost use Rattle.metainfo.specs.Sound.{IsSoundTree};
 ghost use Rattle.session.specs.Fresh.{IsPlanted};
 
 use hashtree::{NoMemory, Shape};
-use metainfo::TreeInfo;
+use metainfo::{PieceLength, TreeInfo};
 use node_maps::NodeMap;
 use partial_tree::Tree;
 use std::alloc::Global;
@@ -17,15 +16,14 @@ use std::alloc::Global;
 pub fn planted<N: NodeMap>(
     alloc: Global,
     info: &TreeInfo<'_>,
-    piece_length: u64,
+    piece_length: PieceLength,
     with_layers: bool,
 ) -> Result<Tree<N>, NoMemory>
-    requires legal { IsPieceLength piece_length }
-    requires sound { IsSoundTree piece_length (tree_entry info.now) }
+    requires { IsSoundTree piece_length (tree_entry info.now) }
     ensures { IfOk result (λ t. IsPlanted piece_length with_layers (tree_entry info.now) t) }
 {
     let mut tree = Tree::new(alloc, info.root, Shape::of(info.length).unwrap())?;
-    if with_layers && info.length > piece_length {
+    if with_layers && info.length > piece_length.bytes() {
         add_layers(&mut tree, info, piece_length)?;
     }
     Ok(tree)
@@ -36,15 +34,14 @@ pub fn planted<N: NodeMap>(
 fn add_layers<N: NodeMap>(
     tree: &mut Tree<N>,
     info: &TreeInfo<'_>,
-    piece_length: u64,
+    piece_length: PieceLength,
 ) -> Result<(), NoMemory>
-    requires legal { IsPieceLength piece_length }
     requires sound { IsSoundTree piece_length (tree_entry info.now) }
     requires longer { piece_length < info.now.length }
     requires planted { IsPlanted piece_length false (tree_entry info.now) tree.old }
     ensures { OnOk result (IsPlanted piece_length true (tree_entry info.now) tree.new) }
 {
-    let layer = Shape::of(piece_length).unwrap().height();
+    let layer = Shape::of(piece_length.bytes()).unwrap().height();
     tree.plant(layer, info.layer)?;
     Ok(())
 }

@@ -30,7 +30,7 @@ use crate::open_asks::OpenAsks;
 use crate::planting::planted;
 use crate::verdict::Verdict;
 use hashtree::{BLOCK_LENGTH, Hash, NoMemory};
-use metainfo::Torrent;
+use metainfo::{PieceLength, Torrent};
 use node_maps::NodeMap;
 use partial_tree::{Answer, BlockRefusal, GrownTree, HashRefusal, Tree};
 use std::alloc::Global;
@@ -74,7 +74,7 @@ impl<'t, N: NodeMap> Session<'t, N> {
     {
         torrent.sound();
         let infos = torrent.trees();
-        let piece_length = torrent.piece_length();
+        let piece_length = PieceLength::new(torrent.piece_length()).unwrap();
         let mut trees = Vec::with_capacity(alloc, infos.len())?;
         'infos: for info in infos {
             trees.push_reserved(planted(alloc, info, piece_length, with_layers)?);

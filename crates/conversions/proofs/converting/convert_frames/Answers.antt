@@ -1,7 +1,6 @@
-use Rattle.std.proofs.Common.{◌≡◌, ◌≢◌, ◌+◌, ◌-◌, ◌<◌, ◌≤◌, ◌++◌, [], true, false, nat_eq, ℕ, List, length, take, drop, subst, sym, arith}
+use Rattle.std.proofs.Common.{◌≡◌, ◌-◌, ◌<◌, ◌≤◌, length, take, drop, subst, sym, arith}
 use Rattle.std.proofs.lemmas.List.{length-drop, length-take}
 use Rattle.std.proofs.lemmas.Result.{err_from_is_err_and}
-use Rattle.wire.specs.Reading.{GaveFaultless}
 use Rattle.wire.proofs.Giving.{Faultless-take, le-length-put, take-put_more}
 use Rattle.conversions.proofs.Ending.{SoFar, breaks_in_text, ended_here, ends_front, read_fails, so_far_converted, so_far_first, so_far_read, tells_held, tells_left}
 use Rattle.conversions.proofs.Fronts.{read_none}

@@ -1,6 +1,5 @@
-use Rattle.std.proofs.Common.{◌≡◌, true, false, length, take, subst, sym, ◌∙◌}
+use Rattle.std.proofs.Common.{take, subst, sym, ◌∙◌}
 use Rattle.std.proofs.lemmas.Result.{err_from_is_err_and}
-use Rattle.wire.specs.Reading.{GaveFaultless}
 use Rattle.conversions.specs.Steps.{EndsForm1}
 use Rattle.conversions.proofs.Fronts.{one_from_test}
 use Rattle.conversions.proofs.Stopping.{cut_short, fails_to_flush}

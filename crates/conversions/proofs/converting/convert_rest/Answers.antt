@@ -1,4 +1,4 @@
-use Rattle.std.proofs.Common.{◌≡◌, true, false, length, take, subst, sym}
+use Rattle.std.proofs.Common.{true, false, take, subst}
 use Rattle.conversions.specs.Steps.{TellsForm}
 use Rattle.conversions.proofs.Stopping.{ends_at_once, ends_later}
 use Rattle.conversions.proofs.converting.convert_rest.Goals as goal

@@ -1,6 +1,5 @@
-use Rattle.std.proofs.Common.{◌≡◌, ℕ, List, refl, ◌<◌, ◌≤◌, ◌^◌, true, false, length, take, get_or, inl, inr, subst, sym, ap, ◌∙◌, arith, MatchBool}
+use Rattle.std.proofs.Common.{◌≡◌, ℕ, List, refl, ◌<◌, ◌^◌, length, get_or, inl, inr, subst, sym, ◌∙◌, arith, MatchBool}
 use Rattle.std.proofs.lemmas.Bool.{cases_Bool, false≢true, le-ltb}
-use Rattle.wire.specs.Frames.{four_bytes}
 use Rattle.wire.specs.Meaning.{IsHashesSize}
 use Rattle.conversions.specs.Steps.{BeginsHashes}
 use Rattle.conversions.proofs.Opening.{begins_as, begins_none, begins_with, read_len}

@@ -1,5 +1,4 @@
-use Rattle.std.proofs.Common.{◌≡◌, ◌+◌, ◌<◌, ◌≤◌, ◌^◌, min, length, take, subst, sym, arith}
-use Rattle.wire.specs.Frames.{four_bytes}
+use Rattle.std.proofs.Common.{◌≡◌, ◌+◌, ◌<◌, ◌^◌, min, take, subst, sym, arith}
 use Rattle.conversions.specs.Steps.{IsHeadOf}
 use Rattle.conversions.proofs.Opening.{cut_head, short_head, whole_head}
 use Rattle.conversions.proofs.head.head_len.Goals as goal

@@ -1,4 +1,4 @@
-use Rattle.std.proofs.Common.{◌≡◌, ◌-◌, ◌++◌, [], List, ℕ, length, take, drop, subst, sym}
+use Rattle.std.proofs.Common.{◌-◌, ◌++◌, [], List, ℕ, length, take, drop, subst, sym}
 use Rattle.std.proofs.lemmas.List.{append-nil, append_assoc, take_rest}
 use Rattle.std.proofs.lemmas.Result.{err_from_is_err_and}
 use Rattle.benc.specs.Device.{Broke}

@@ -1,4 +1,4 @@
-use Rattle.std.proofs.Common.{◌≡◌, ◌-◌, ◌≤◌, ◌++◌, ℕ, List, length, take}
+use Rattle.std.proofs.Common.{◌-◌, ◌≤◌, ◌++◌, ℕ, List, length, take}
 use Rattle.benc.specs.Device.{SinkSeen}
 use Rattle.conversions.specs.Steps.{Advances, Held, Reached}
 use Rattle.conversions.proofs.parts.convert_part.Given as goal

@@ -6,7 +6,7 @@ use Rattle.node_maps.specs.Digest.{Hash}
 use Rattle.node_maps.specs.Places.{PartialTree}
 use Rattle.node_maps.specs.Known.{look}
 use Rattle.node_maps.specs.Runs.{AreKnown, hashes_from}
-use Rattle.partial_tree.specs.Claims.{span, cover, above, sibling, value_at, answer_uncles}
+use Rattle.partial_tree.specs.Claims.{span, cover, above, sibling, hash_or_pad, answer_uncles}
 use Rattle.partial_tree.proofs.Powers.{height_pow}
 use Rattle.partial_tree.proofs.answering.answer_hashes.Goals as goal
 
@@ -25,7 +25,7 @@ uncles-init g c =
     let items : c.copy_to.new.out.items ≡ first = c.copy_to.ensures.copied
     ∙ ap (λ xs. xs ++ hashes_from (K ask.base) c.from.result c.from-2.result) c.in_ok-hashes.ensures.items
     ∙ ap₂ (hashes_from (K ask.base)) c.from.ensures c.from-2.ensures in
-    let long : length first ≡ ask.length = length-map-range_with_len (λ k. value_at K ask.base (ask.index + k)) 0 ask.length in
+    let long : length first ≡ ask.length = length-map-range_with_len (λ k. hash_or_pad K ask.base (ask.index + k)) 0 ask.length in
     record {
       answer = items ∙ sym (append-nil first);
       room = omega (arith, ap length items, long, c.copy_to.new.out.ok.0, c.copy_to.ensures.no_memory, c.in_ok-hashes.ensures.capacity);
@@ -35,8 +35,8 @@ pub uncles-preserved : goal.uncles-preserved
 uncles-preserved g c =
     let ask = c.args.ask.now in
     let K : PartialTree = look (g.N.NodeMap.known c.args.nodes.now) in
-    let first : List Hash = map (λ k. value_at K ask.base (ask.index + k)) (range_with_len 0 ask.length) in
-    let f : ℕ → Hash = λ k. value_at K (cover ask + k) (sibling (above ask (cover ask + k))) in
+    let first : List Hash = map (λ k. hash_or_pad K ask.base (ask.index + k)) (range_with_len 0 ask.length) in
+    let f : ℕ → Hash = λ k. hash_or_pad K (cover ask + k) (sibling (above ask (cover ask + k))) in
     let spans : span ask ≡ c.args.span = ap height (sym c.requires.span) ∙ height_pow c.args.span in
     let layer : ask.base + c.args.span + c.uncles.j ≡ cover ask + c.uncles.j = ap (λ k. ask.base + k + c.uncles.j) (sym spans) in
     let exponent : c.args.span + c.uncles.j ≡ cover ask + c.uncles.j - ask.base = omega (arith, layer) in
@@ -46,7 +46,7 @@ uncles-preserved g c =
       answer = c.push_reserved.ensures.items
           ∙ ap (λ t. t ++ c.known_or_pad.result ∷ []) c.uncles.invariant.answer
           ∙ append_assoc first (map f (range_with_len 0 c.uncles.j)) (c.known_or_pad.result ∷ [])
-          ∙ ap (λ x. first ++ (map f (range_with_len 0 c.uncles.j) ++ x ∷ [])) (c.known_or_pad.ensures ∙ ap₂ (λ l i. value_at K l i) layer place)
+          ∙ ap (λ x. first ++ (map f (range_with_len 0 c.uncles.j) ++ x ∷ [])) (c.known_or_pad.ensures ∙ ap₂ (λ l i. hash_or_pad K l i) layer place)
           ∙ ap (λ t. first ++ t) (sym (map-range_with_len_more f 0 c.uncles.j c.uncles.j (omega arith)));
       room = omega (arith, c.push_reserved.ensures.len, c.push_reserved.ensures.capacity, c.uncles.invariant.room, c.uncles-test.true);
     }
@@ -55,8 +55,8 @@ pub returns : goal.returns
 returns g c =
     let ask = c.args.ask.now in
     let K : PartialTree = look (g.N.NodeMap.known c.args.nodes.now) in
-    let first : List Hash = map (λ k. value_at K ask.base (ask.index + k)) (range_with_len 0 ask.length) in
-    let f : ℕ → Hash = λ k. value_at K (cover ask + k) (sibling (above ask (cover ask + k))) in
+    let first : List Hash = map (λ k. hash_or_pad K ask.base (ask.index + k)) (range_with_len 0 ask.length) in
+    let f : ℕ → Hash = λ k. hash_or_pad K (cover ask + k) (sibling (above ask (cover ask + k))) in
     let spans : span ask ≡ c.args.span = ap height (sym c.requires.span) ∙ height_pow c.args.span in
     let count : c.uncles.j ≡ answer_uncles c.args.height ask = omega (arith, spans, c.min-uncles.ensures, c.saturating_sub.ensures, c.uncles-test.false, c.uncles.auto.j-end) in
     c.uncles.invariant.answer ∙ ap (λ n. first ++ map f (range_with_len 0 n)) count

@@ -2,7 +2,7 @@ use Rattle.std.proofs.Common.{arith, sym, ap, ◌∙◌, Some}
 use Rattle.node_maps.specs.Places.{tree_height}
 use Rattle.node_maps.specs.Known.{look}
 use Rattle.partial_tree.specs.Evidence.{claimed_by}
-use Rattle.partial_tree.proofs.Tracing.{Opened, opened, left_claimed, right_claimed, given_claimed, join_claimed, below-children}
+use Rattle.partial_tree.proofs.Tracing.{Opened, rests_on, left_claimed, right_claimed, given_claimed, join_claimed, below-children}
 use Rattle.partial_tree.proofs.comparing.+trace.Goals as goal
 
 pub derive-returns-in-Some-clause-value : goal.derive-returns-in-Some-clause-value
@@ -10,26 +10,26 @@ derive-returns-in-Some-clause-value g t c =
     given_claimed c.args.evidence.now c.args.layer c.args.index c.in-Some.hash (sym c.in-Some.ensures)
 
 pub derive-overflow_sub-layer : goal.derive-overflow_sub-layer
-derive-overflow_sub-layer g t c = (opened c.args.evidence.now c.args.layer c.args.index c.requires.at.claimed (sym c.in-None.ensures)).above_leaves
+derive-overflow_sub-layer g t c = (rests_on c.args.evidence.now c.args.layer c.args.index c.requires.at.claimed (sym c.in-None.ensures)).above_leaves
 
 pub derive-trace-requires : goal.derive-trace-requires
 derive-trace-requires g t c κs within =
-    let o : Opened c.args.evidence.now c.args.layer c.args.index = opened c.args.evidence.now c.args.layer c.args.index c.requires.at.claimed (sym c.in-None.ensures) in
+    let o : Opened c.args.evidence.now c.args.layer c.args.index = rests_on c.args.evidence.now c.args.layer c.args.index c.requires.at.claimed (sym c.in-None.ensures) in
     let at = left_claimed (tree_height (g.N.NodeMap.length c.args.map.now)) c.args.evidence.now c.args.layer c.args.index c.requires.at (sym c.in-None.ensures) in
     (omega (arith, o.above_leaves), (within, (at, c.requires.sound)))
 
 pub derive-overflow_sub-layer-in-None : goal.derive-overflow_sub-layer-in-None
-derive-overflow_sub-layer-in-None g t c = (opened c.args.evidence.now c.args.layer c.args.index c.requires.at.claimed (sym c.in-None.ensures)).above_leaves
+derive-overflow_sub-layer-in-None g t c = (rests_on c.args.evidence.now c.args.layer c.args.index c.requires.at.claimed (sym c.in-None.ensures)).above_leaves
 
 pub derive-trace-requires-in-None : goal.derive-trace-requires-in-None
 derive-trace-requires-in-None g t c κs within =
-    let o : Opened c.args.evidence.now c.args.layer c.args.index = opened c.args.evidence.now c.args.layer c.args.index c.requires.at.claimed (sym c.in-None.ensures) in
+    let o : Opened c.args.evidence.now c.args.layer c.args.index = rests_on c.args.evidence.now c.args.layer c.args.index c.requires.at.claimed (sym c.in-None.ensures) in
     let at = right_claimed (tree_height (g.N.NodeMap.length c.args.map.now)) c.args.evidence.now c.args.layer c.args.index c.requires.at (sym c.in-None.ensures) in
     (omega (arith, o.above_leaves), (within, (at, c.trace.ensures.sound)))
 
 pub derive-returns-in_ok-right-in-None-clause-value : goal.derive-returns-in_ok-right-in-None-clause-value
 derive-returns-in_ok-right-in-None-clause-value g t c =
-    let o : Opened c.args.evidence.now c.args.layer c.args.index = opened c.args.evidence.now c.args.layer c.args.index c.requires.at.claimed (sym c.in-None.ensures) in
+    let o : Opened c.args.evidence.now c.args.layer c.args.index = rests_on c.args.evidence.now c.args.layer c.args.index c.requires.at.claimed (sym c.in-None.ensures) in
     join_claimed c.args.evidence.now c.args.layer c.args.index _ _ o.above_leaves (sym c.in-None.ensures) c.in_ok-left-in-None.ensures.value c.in_ok-right-in-None.ensures.value
     ∙ ap Some (sym c.parent.ensures)
 

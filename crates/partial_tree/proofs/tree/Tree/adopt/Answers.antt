@@ -4,7 +4,7 @@ use Rattle.hashtree.specs.Tree.{block_count}
 use Rattle.node_maps.specs.Known.{Known, Marked, look}
 use Rattle.node_maps.specs.Digest.{Hash}
 use Rattle.node_maps.specs.Places.{tree_height}
-use Rattle.partial_tree.specs.Grown.{AgreeInTree, GrownTree, IsGrown, grown, leaves_in}
+use Rattle.partial_tree.specs.Grown.{AgreeInTree, GrownTree, FollowsFromLeaves, grown, leaves_in}
 use Rattle.partial_tree.specs.Kept.{KeptTree, kept}
 use Rattle.partial_tree.proofs.Adopted.{first-known, fewer, adopted, good-adopted, not-adopted, places_of}
 use Rattle.partial_tree.proofs.GrownLeaves.{shifted}
@@ -23,7 +23,7 @@ returns-then-not-agree-clause-refused g c =
     let M = g.N.NodeMap.marked old.nodes in
     let same : new.shape ≡ old.shape = one_length old.shape new.shape old.root K K' M c.args.self.now c.args.grown c.self.view_is c.grown.view_is c.requires.length in
     let new_is : grown old.shape (leaves_in K' (block_count old.shape)) ≡ c.args.grown = subst (λ n. grown n (leaves_in K' (block_count n)) ≡ c.args.grown) same c.grown.view_is in
-    let is : IsGrown old.shape (block_count old.shape) K' = subst (λ n. IsGrown n (block_count n) K') same c.grown.invariant.4 in
+    let is : FollowsFromLeaves old.shape (block_count old.shape) K' = subst (λ n. FollowsFromLeaves n (block_count n) K') same c.grown.invariant.4 in
     not-adopted old.shape old.root K K' M c.args.self.now c.args.grown c.self.view_is new_is c.requires.good is c.if-not-agree.ensures.differs
 
 pub carry_marks-requires-clause-known : goal.carry_marks-requires-clause-known
@@ -35,7 +35,7 @@ carry_marks-requires-clause-known g c =
     let M = g.N.NodeMap.marked old.nodes in
     let same : new.shape ≡ old.shape = one_length old.shape new.shape old.root K K' M c.args.self.now c.args.grown c.self.view_is c.grown.view_is c.requires.length in
     let new_is : grown old.shape (leaves_in K' (block_count old.shape)) ≡ c.args.grown = subst (λ n. grown n (leaves_in K' (block_count n)) ≡ c.args.grown) same c.grown.view_is in
-    let is : IsGrown old.shape (block_count old.shape) K' = subst (λ n. IsGrown n (block_count n) K') same c.grown.invariant.4 in
+    let is : FollowsFromLeaves old.shape (block_count old.shape) K' = subst (λ n. FollowsFromLeaves n (block_count n) K') same c.grown.invariant.4 in
     let wide = shifted old.height c.self.invariant.1.low ∙ ap (λ k. 2 ^ k) c.self.invariant.1.height_is in
     λ j low. first-known old.shape old.root K K' M c.args.self.now c.args.grown c.self.view_is new_is c.requires.good is j (omega (arith, low, wide))
 
@@ -48,7 +48,7 @@ overflow_sub-gained g c =
     let M = g.N.NodeMap.marked old.nodes in
     let same : new.shape ≡ old.shape = one_length old.shape new.shape old.root K K' M c.args.self.now c.args.grown c.self.view_is c.grown.view_is c.requires.length in
     let new_is : grown old.shape (leaves_in K' (block_count old.shape)) ≡ c.args.grown = subst (λ n. grown n (leaves_in K' (block_count n)) ≡ c.args.grown) same c.grown.view_is in
-    let is : IsGrown old.shape (block_count old.shape) K' = subst (λ n. IsGrown n (block_count n) K') same c.grown.invariant.4 in
+    let is : FollowsFromLeaves old.shape (block_count old.shape) K' = subst (λ n. FollowsFromLeaves n (block_count n) K') same c.grown.invariant.4 in
     let most = fewer old.shape old.root K K' M c.args.self.now c.args.grown c.self.view_is new_is c.requires.good is in
     let places : 2 * 2 ^ old.height % 18446744073709551616 ≡ 2 ^ suc (tree_height old.shape) = places_of old.height c.self.invariant.1.low ∙ ap (λ h. 2 ^ suc h) c.self.invariant.1.height_is in
     omega (arith, most, places, c.self.invariant.1.known_is)
@@ -62,7 +62,7 @@ returns-clause-adopted g c =
     let M = g.N.NodeMap.marked old.nodes in
     let same : new.shape ≡ old.shape = one_length old.shape new.shape old.root K K' M c.args.self.now c.args.grown c.self.view_is c.grown.view_is c.requires.length in
     let new_is : grown old.shape (leaves_in K' (block_count old.shape)) ≡ c.args.grown = subst (λ n. grown n (leaves_in K' (block_count n)) ≡ c.args.grown) same c.grown.view_is in
-    let is : IsGrown old.shape (block_count old.shape) K' = subst (λ n. IsGrown n (block_count n) K') same c.grown.invariant.4 in
+    let is : FollowsFromLeaves old.shape (block_count old.shape) K' = subst (λ n. FollowsFromLeaves n (block_count n) K') same c.grown.invariant.4 in
     let most = fewer old.shape old.root K K' M c.args.self.now c.args.grown c.self.view_is new_is c.requires.good is in
     let places : 2 * 2 ^ old.height % 18446744073709551616 ≡ 2 ^ suc (tree_height old.shape) = places_of old.height c.self.invariant.1.low ∙ ap (λ h. 2 ^ suc h) c.self.invariant.1.height_is in
     let agreed : AgreeInTree (look K) (look K') (tree_height old.shape) = subst (AgreeInTree (look K) (look K')) c.self.invariant.1.height_is c.if-not-agree.ensures.same in
@@ -79,7 +79,7 @@ returns-clause-good g c =
     let M = g.N.NodeMap.marked old.nodes in
     let same : new.shape ≡ old.shape = one_length old.shape new.shape old.root K K' M c.args.self.now c.args.grown c.self.view_is c.grown.view_is c.requires.length in
     let new_is : grown old.shape (leaves_in K' (block_count old.shape)) ≡ c.args.grown = subst (λ n. grown n (leaves_in K' (block_count n)) ≡ c.args.grown) same c.grown.view_is in
-    let is : IsGrown old.shape (block_count old.shape) K' = subst (λ n. IsGrown n (block_count n) K') same c.grown.invariant.4 in
+    let is : FollowsFromLeaves old.shape (block_count old.shape) K' = subst (λ n. FollowsFromLeaves n (block_count n) K') same c.grown.invariant.4 in
     let after = g.N.NodeMap.known c.carry_marks.new.new in
     let end : KeptTree = kept old.root old.shape after (g.N.NodeMap.marked c.carry_marks.new.new) in
     good-adopted old.shape old.root K K' M c.args.self.now c.args.grown c.self.view_is new_is c.requires.good is (2 * 2 ^ old.height % 18446744073709551616 - 1 - old.known) after end
