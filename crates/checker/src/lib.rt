@@ -3,8 +3,8 @@
 
 pub use conversions::{ConvertFault, convert};
 pub use folders::{
-    FileVerdict, MemFile, MemShelf, NoMemory, Report, RootFault, Shelf, ShelfFault, V1Verdict,
-    check, print_report, root_line,
+    FileVerdict, NoMemory, Report, RootFault, Shelf, ShelfFault, V1Verdict, check, memory,
+    print_report, root_line,
 };
 pub use gathering::{GatherFault, gather};
 pub use lines::{Fault, fault_line, refusal_line, show};

@@ -50,11 +50,6 @@ both_found None name rows n r =
     cc
 both_found (Some b) name rows n r = cc
 
--- nothing was found
-pub none_found : {Z : Type 0} (o : Option (Box SubCommand Z)) → option_map (λ p. p.1) (subcommand_rows o) ≡ None → subcommand_rows o ≡ None
-none_found None e = refl
-none_found (Some b) e = cc
-
 -- what an action of the command that was found asks for is what was found
 pub asked_of : (found : Option (Text × List Row)) (name : Text) (rows : List Row) (r : Option Action)
     → found ≡ Some (name, rows) → IsActionOf name rows r → IsAskedOf found r

@@ -12,56 +12,23 @@ use crate::help::{
 use clap::{Arg, ArgAction, Command, Error, value_parser};
 use std::alloc::Global;
 
-// An argument that has to be there, with what it means.
-fn needed<'a>(alloc: Global, name: &'a str, help: &'a str) -> Arg<'a>
-    ensures { IsArgument (needed name.entry.now) result }
+/// The program's command, with its subcommands.
+pub(crate) fn command<'a>(alloc: Global) -> Result<Command<'a>, Error>
+    ensures made { IfOk result (IsApp program) }
+    ensures refused { IfErr result (λ e. kind_of e ≡ OutOfMemory) }
 {
-    Arg::new(alloc, name)
-        .required(true)
-        .action(ArgAction::Set)
-        .help(help)
-}
-
-// An option that is there or not, with what it means.
-fn flag<'a>(alloc: Global, name: &'a str, help: &'a str) -> Arg<'a>
-    ensures { IsArgument (flag name.entry.now) result }
-{
-    Arg::new(alloc, name)
-        .long(name)
-        .action(ArgAction::SetTrue)
-        .help(help)
-}
-
-// An option with a value, with the value's name and what it means.
-fn option<'a>(alloc: Global, name: &'a str, value: &'a str, help: &'a str) -> Arg<'a>
-    ensures { IsArgument (option name.entry.now) result }
-{
-    Arg::new(alloc, name)
-        .long(name)
-        .value_name(value)
-        .action(ArgAction::Set)
-        .help(help)
-}
-
-// An option with a value that has to be there.
-fn needed_option<'a>(alloc: Global, name: &'a str, value: &'a str, help: &'a str) -> Arg<'a>
-    ensures { IsArgument (needed_option name.entry.now) result }
-{
-    option(alloc, name, value, help).required(true)
-}
-
-// The same, whose value is a number of 64 bits.
-fn needed_number<'a>(alloc: Global, name: &'a str, value: &'a str, help: &'a str) -> Arg<'a>
-    ensures { IsArgument (needed_number name.entry.now) result }
-{
-    needed_option(alloc, name, value, help).value_parser(value_parser!(u64))
-}
-
-// A command without commands below it, with what it does and more help on it.
-fn leaf<'a>(alloc: Global, name: &'a str, about: &'a str, help: &'a str) -> Command<'a>
-    ensures { IsLeaf (command name.entry.now []) result }
-{
-    Command::new(alloc, name).about(about).after_help(help)
+    let command = Command::new(alloc, "btcheck")
+        .version(VERSION)
+        .about(ABOUT)
+        .after_help(STATUSES)
+        .after_long_help(EXAMPLES)
+        .subcommand(root_command(alloc)?)?
+        .subcommand(show_command(alloc)?)?
+        .subcommand(check_command(alloc)?)?
+        .subcommand(create_command(alloc)?)?
+        .subcommand(replay_command(alloc)?)?
+        .subcommand(convert_command(alloc)?)?;
+    Ok(command.subcommand_required(true))
 }
 
 fn root_command<'a>(alloc: Global) -> Result<Command<'a>, Error>
@@ -111,16 +78,6 @@ fn create_command<'a>(alloc: Global) -> Result<Command<'a>, Error>
     Ok(command)
 }
 
-fn convert_command<'a>(alloc: Global) -> Result<Command<'a>, Error>
-    ensures made { IfOk result (IsLeaf convert_command) }
-    ensures refused { IfErr result (λ e. kind_of e ≡ OutOfMemory) }
-{
-    let command = leaf(alloc, "convert", CONVERT_ABOUT, CONVERT_HELP)
-        .arg(needed(alloc, "RECORD", "The record, a file or a pipe"))?
-        .arg(needed(alloc, "OUT", "The record that is written"))?;
-    Ok(command)
-}
-
 fn replay_command<'a>(alloc: Global) -> Result<Command<'a>, Error>
     ensures made { IfOk result (IsLeaf replay_command) }
     ensures refused { IfErr result (λ e. kind_of e ≡ OutOfMemory) }
@@ -134,21 +91,64 @@ fn replay_command<'a>(alloc: Global) -> Result<Command<'a>, Error>
     Ok(command)
 }
 
-/// The program's command, with its subcommands.
-pub(crate) fn command<'a>(alloc: Global) -> Result<Command<'a>, Error>
-    ensures made { IfOk result (IsApp program) }
+fn convert_command<'a>(alloc: Global) -> Result<Command<'a>, Error>
+    ensures made { IfOk result (IsLeaf convert_command) }
     ensures refused { IfErr result (λ e. kind_of e ≡ OutOfMemory) }
 {
-    let command = Command::new(alloc, "btcheck")
-        .version(VERSION)
-        .about(ABOUT)
-        .after_help(STATUSES)
-        .after_long_help(EXAMPLES)
-        .subcommand(root_command(alloc)?)?
-        .subcommand(show_command(alloc)?)?
-        .subcommand(check_command(alloc)?)?
-        .subcommand(create_command(alloc)?)?
-        .subcommand(replay_command(alloc)?)?
-        .subcommand(convert_command(alloc)?)?;
-    Ok(command.subcommand_required(true))
+    let command = leaf(alloc, "convert", CONVERT_ABOUT, CONVERT_HELP)
+        .arg(needed(alloc, "RECORD", "The record, a file or a pipe"))?
+        .arg(needed(alloc, "OUT", "The record that is written"))?;
+    Ok(command)
+}
+
+// A command without commands below it, with what it does and more help on it.
+fn leaf<'a>(alloc: Global, name: &'a str, about: &'a str, help: &'a str) -> Command<'a>
+    ensures { IsLeaf (command name.entry.now []) result }
+{
+    Command::new(alloc, name).about(about).after_help(help)
+}
+
+// An argument that has to be there, with what it means.
+fn needed<'a>(alloc: Global, name: &'a str, help: &'a str) -> Arg<'a>
+    ensures { IsArgument (needed name.entry.now) result }
+{
+    Arg::new(alloc, name)
+        .required(true)
+        .action(ArgAction::Set)
+        .help(help)
+}
+
+// An option that is there or not, with what it means.
+fn flag<'a>(alloc: Global, name: &'a str, help: &'a str) -> Arg<'a>
+    ensures { IsArgument (flag name.entry.now) result }
+{
+    Arg::new(alloc, name)
+        .long(name)
+        .action(ArgAction::SetTrue)
+        .help(help)
+}
+
+// An option with a value, with the value's name and what it means.
+fn option<'a>(alloc: Global, name: &'a str, value: &'a str, help: &'a str) -> Arg<'a>
+    ensures { IsArgument (option name.entry.now) result }
+{
+    Arg::new(alloc, name)
+        .long(name)
+        .value_name(value)
+        .action(ArgAction::Set)
+        .help(help)
+}
+
+// An option with a value that has to be there.
+fn needed_option<'a>(alloc: Global, name: &'a str, value: &'a str, help: &'a str) -> Arg<'a>
+    ensures { IsArgument (needed_option name.entry.now) result }
+{
+    option(alloc, name, value, help).required(true)
+}
+
+// The same, whose value is a number of 64 bits.
+fn needed_number<'a>(alloc: Global, name: &'a str, value: &'a str, help: &'a str) -> Arg<'a>
+    ensures { IsArgument (needed_number name.entry.now) result }
+{
+    needed_option(alloc, name, value, help).value_parser(value_parser!(u64))
 }

@@ -9,7 +9,7 @@ ghost use Rattle.checker.specs.Gathering.{Gathers};
 ghost use Rattle.checker.specs.Refused.{refusal_text};
 ghost use Rattle.checker.specs.Show.{show_text};
 ghost use Rattle.checker.specs.Replay.{replay_seen};
-ghost use Rattle.checker.specs.Seeding.{IsSeeded, both};
+ghost use Rattle.checker.specs.Seeding.{IsSeeded, shelf_and_session};
 ghost use Rattle.drafts.specs.Finishing.{finish_rows};
 ghost use Rattle.drafts.specs.Written.{value_of};
 ghost use Rattle.metainfo.specs.Tests.{First};
@@ -112,7 +112,7 @@ pub fn seed<'a, N: NodeMap, S: Shelf, W: Sink>(
     out: &mut W,
 ) -> Result<(), Fault<'a>>
     ensures { OnOk result (IsSeeded S.opens S.closes S.faults S.under S.File.seen
-        (both shelf.old session.old) (both shelf.new session.new)
+        (shelf_and_session shelf.old session.old) (shelf_and_session shelf.new session.new)
         (W.seen out.old) (W.seen out.new)) }
 {
     match checker::seed(alloc, session, shelf, out) {
@@ -192,18 +192,6 @@ pub fn gather<'a, S: Shelf, W: Sink>(
     }
 }
 
-// Why the folder with this path could not be listed.
-fn listing_fault<'a>(fault: ShelfFault, dir: &'a str) -> Fault<'a>
-    ensures { IsToldAs (Fault.Read dir.entry) (GatherFault.List fault) result }
-{
-    match fault {
-        ShelfFault::Device => Fault::Read(dir),
-        ShelfFault::Name => Fault::NotUtf8,
-        ShelfFault::Special(path) => Fault::Special(path),
-        ShelfFault::NoMemory => Fault::NoMemory,
-    }
-}
-
 /// Writes the torrent of a draft to the sink with this path, or prints a refusal.
 pub fn write_torrent<'a, W: Sink, O: Sink>(
     draft: &Draft,
@@ -243,6 +231,18 @@ pub fn convert<'a, R: Source, W: Sink, O: Sink>(
         Err(ConvertFault::Read) => Err(Fault::Read(record)),
         Err(ConvertFault::Write) => Err(Fault::Write(path)),
         Err(ConvertFault::AlreadyForm2) => refuse_form_2(out),
+    }
+}
+
+// Why the folder with this path could not be listed.
+fn listing_fault<'a>(fault: ShelfFault, dir: &'a str) -> Fault<'a>
+    ensures { IsToldAs (Fault.Read dir.entry) (GatherFault.List fault) result }
+{
+    match fault {
+        ShelfFault::Device => Fault::Read(dir),
+        ShelfFault::Name => Fault::NotUtf8,
+        ShelfFault::Special(path) => Fault::Special(path),
+        ShelfFault::NoMemory => Fault::NoMemory,
     }
 }
 

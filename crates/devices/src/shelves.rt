@@ -1,9 +1,8 @@
 //! Shelves and files that fail.
 use crate::trial::{count, judge, sink};
 use crate::world::World;
-use checker::{
-    FileVerdict, GatherFault, MemFile, MemShelf, Report, Shelf, ShelfFault, check, gather, seed,
-};
+use checker::memory::{MemFile, MemShelf};
+use checker::{FileVerdict, GatherFault, Report, Shelf, ShelfFault, check, gather, seed};
 use session::{Flat, Session};
 use std::io;
 

@@ -1,7 +1,7 @@
 //! What the calls are given.
 ghost use Rattle.std.specs.Prelude.{◌<◌};
 
-use checker::MemFile;
+use checker::memory::MemFile;
 use metainfo::Torrent;
 
 /// A torrent of the files `a` and `c`, its text, a record, the contents of the files, and how many

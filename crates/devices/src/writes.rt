@@ -5,9 +5,10 @@ use crate::trial::{broke, count, is_whole, judge, sink};
 use crate::world::World;
 use benc::memory::{MemSink, MemSource};
 use benc::{Sink, decode, encode, write_all};
+use checker::memory::MemShelf;
 use checker::{
-    Fault, MemShelf, check, convert, fault_line, gather, print_report, refusal_line, replay,
-    root_line, seed, show,
+    Fault, check, convert, fault_line, gather, print_report, refusal_line, replay, root_line, seed,
+    show,
 };
 use lines::{flush_after, write_escaped, write_line, write_path};
 use metainfo::{Key, Refusal};

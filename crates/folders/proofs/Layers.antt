@@ -10,6 +10,7 @@ use Rattle.hashtree.specs.Tree.{block_count, filled, first_pad, height, layer_co
 use Rattle.hashtree.proofs.Heights.{height_enough, height_is, height_least}
 use Rattle.hashtree.proofs.Nodes.{leaf_at, node_over-suc, pads_are_zero_hashes, top_is_root}
 use Rattle.hashtree.proofs.Pairs.{two-pow}
+use Rattle.folders.proofs.Orders.{last_or_before}
 
 -- ---- the root over a layer of a file's tree is the file's root
 
@@ -114,13 +115,10 @@ one_at_root len some = first_pad_at_root (block_count len) (let p : 0 < block_co
 
 pow_less : (k m : ℕ) → k < m → 2 ^ k < 2 ^ m
 pow_less k zero lt = absurd (omega arith)
-pow_less k (suc m) lt = elim (last_or_before k m lt) [
+pow_less k (suc m) lt = elim (last_or_before k m (omega (arith, lt))) [
   | inl before ↦ omega (arith, pow_less k m before, two-pow m)
   | inr last ↦ omega (arith, ap (λ e. 2 ^ e) last, two-pow m, pow_pos m)
 ]
-  where
-    last_or_before : (k c : ℕ) → k < suc c → (k < c) ⊎ (k ≡ c)
-    last_or_before k c lt = grind arith
 
 height_of_power : (m : ℕ) → height (2 ^ m) ≡ m
 height_of_power m = sym (height_is (2 ^ m) m (let r : 2 ^ m ≤ 2 ^ m = omega arith in r) (λ k lt. pow_less k m lt))

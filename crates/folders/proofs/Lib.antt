@@ -1,3 +1,4 @@
+pub mod Orders
 pub mod RootLines
 pub mod Places
 pub mod Prefixes

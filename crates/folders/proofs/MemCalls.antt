@@ -2,7 +2,7 @@
 use Rattle.std.proofs.Common.{◌≡◌, ℕ, Option, Some, refl, ap, sym, ◌∙◌, subst}
 use Rattle.benc.specs.declared.memory.source.MemSource.{MemSource}
 use Rattle.folders.specs.MemShelfCalls.{IsOpenedAs, IsSourceOf, MemShelfSeen}
-use Rattle.folders.specs.declared.mem_shelf.MemFile.{MemFile}
+use Rattle.folders.specs.declared.memory.file.MemFile.{MemFile}
 
 pub same_faults : (s : MemShelfSeen) (a b : ℕ) → a ≡ b → record s { faults = a } ≡ record s { faults = b }
 same_faults s a b e = ap (λ n. record s { faults = n }) e

@@ -14,7 +14,8 @@ use Rattle.folders.specs.Folder.{Contents, start_of}
 use Rattle.folders.specs.Pass.{FindsVerdict, IsStreamPart}
 use Rattle.folders.specs.Streaming.{StreamEndsAt, IsStreamGiven, StandsAt, Takes}
 use Rattle.folders.specs.Verdicts.{AreVerdicts, IsVerdict, is_whole}
-use Rattle.folders.proofs.Prefixes.{IsPrefix, prefix_none, prefix_zeros, prefix_file, prefix_empty}
+use Rattle.folders.proofs.Orders.{last_or_before}
+use Rattle.folders.proofs.Prefixes.{IsStreamPrefix, prefix_empty, prefix_file, prefix_none, prefix_zeros}
 use Rattle.folders.proofs.Places.{place_before, start_is, ends_before_next, pieces_are_positive}
 
 -- where the stream goes on, it has not passed this place
@@ -33,7 +34,7 @@ pub record IsPassed (t : Description) (n : ℕ) (files : List FileVerdict) (runn
 pub record IsTold (t : Description) (contents : Contents) (n : ℕ) (files : List FileVerdict) (running : Option V1Feed) : Type 0 where
   pub each : AreVerdicts t contents files
   pub stream : (v : Version1) → t.v1 ≡ Some v → is_some running ≡ true
-      → (front : List ℕ) × StandsAt running (length front) × IsStreamGiven running v.pieces t.piece_length front × IsPrefix t contents n front
+      → (front : List ℕ) × StandsAt running (length front) × IsStreamGiven running v.pieces t.piece_length front × IsStreamPrefix t contents n front
 
 there_or_not : {A : Type 0} (o : Option A) → (is_some o ≡ false) ⊎ ((v : A) × (o ≡ Some v))
 there_or_not None = inl refl
@@ -146,18 +147,15 @@ each_push t contents n files v f count is verdict each k g w there found =
           subst (λ j. IsVerdict t g (contents j) w) (sym at)
           (subst (λ h. IsVerdict t h (contents n) w) same (subst (IsVerdict t f (contents n)) same_verdict verdict))
     ]
-  where
-    last_or_before : (k c : ℕ) → k < c + 1 → (k < c) ⊎ (k ≡ c)
-    last_or_before k c lt = grind arith
 
 part_begins : (t : Description) (contents : Contents) (n : ℕ) (f : FileEntry) (front bytes : List ℕ) → slice_get t.files n ≡ Some f
-    → contents n ≡ Some bytes → length front ≤ start_of t f → IsPrefix t contents n front
-    → IsPrefix t contents (n + 1) (front ++ part_of (length front) (start_of t f) bytes)
+    → contents n ≡ Some bytes → length front ≤ start_of t f → IsStreamPrefix t contents n front
+    → IsStreamPrefix t contents (n + 1) (front ++ part_of (length front) (start_of t f) bytes)
 part_begins t contents n f front [] is content le so_far =
-    subst (IsPrefix t contents (n + 1)) (sym (append-nil front)) (prefix_empty t contents n front f so_far is content)
+    subst (IsStreamPrefix t contents (n + 1)) (sym (append-nil front)) (prefix_empty t contents n front f so_far is content)
 part_begins t contents n f front (b ∷ bytes) is content le so_far =
     let gap : ℕ = start_of t f - length front in
-    subst (IsPrefix t contents (n + 1)) (append_assoc front (replicate gap 0) (b ∷ bytes))
+    subst (IsStreamPrefix t contents (n + 1)) (append_assoc front (replicate gap 0) (b ∷ bytes))
     (prefix_file t contents n (front ++ replicate gap 0) f (b ∷ bytes) (prefix_zeros t contents n front gap so_far) is content
     (omega (arith, length-append front (replicate gap 0), length-replicate {A = ℕ} gap 0)))
 

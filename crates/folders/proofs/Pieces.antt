@@ -28,7 +28,7 @@ use Rattle.pieces.specs.declared.v1_feed.V1Feed.{V1Feed}
 use Rattle.folders.specs.declared.stream.Stream.{Stream}
 use Rattle.metainfo.specs.Feeding.{bytes_given, total}
 use Rattle.folders.specs.Content.{HasPlaceFor, IsComparedLayer, IsToldOf, part_of}
-use Rattle.folders.specs.Folder.{start_of, tree_of}
+use Rattle.folders.specs.Folder.{start_of, tree_entry_of}
 use Rattle.folders.specs.Pass.{IsEmptyContent, IsOpenedVerdict}
 use Rattle.folders.specs.Streaming.{HasStreamRoom, StandsAt, Takes}
 use Rattle.folders.specs.Verdicts.{IsFirstBadPiece, IsVerdict, is_unreadable}
@@ -238,12 +238,12 @@ empty_opened t f left old false v none content good other = subst (IsOpenedVerdi
 })
 
 -- it was read whole, and is as long as stated
-pub opened : (t : Description) (f : FileEntry) (source source' : SourceSeen) (bound count : ℕ) (before after : FileCheck) (old mid new : Option V1Feed) (v : FileVerdict)
+pub opened_verdict : (t : Description) (f : FileEntry) (source source' : SourceSeen) (bound count : ℕ) (before after : FileCheck) (old mid new : Option V1Feed) (v : FileVerdict)
     → (read : TookAll FeedsBoth source source' bound before after count) → count ≡ f.length → 0 < f.length
     → before.stream.feed ≡ mid → after.stream.feed ≡ new
     → ((from : ℕ) → StandsAt old from → from ≤ start_of t f → Takes old mid (replicate (start_of t f - from) 0))
     → is_unreadable v ≡ false → IsVerdict t f (Some read.bytes) v → IsOpenedVerdict t f source.left old new v
-opened t f source source' bound count before after old mid new v read whole some begins ends fill readable verdict = record {
+opened_verdict t f source source' bound count before after old mid new v read whole some begins ends fill readable verdict = record {
   bytes = read.bytes;
   agrees = λ known is. all_given source source' read.bytes known read.gave read.ended is;
   verdict = verdict;
@@ -256,22 +256,21 @@ opened t f source source' bound count before after old mid new v read whole some
 }
 
 -- what the check told at the end
-pub finished : (pl actual bound count : ℕ) (e : TreeEntry) (source source' : SourceSeen) (before after : FileCheck) (told : ℕ) (root : List ℕ) (place : Option ℕ)
-    → (read : TookAll FeedsBoth source source' bound before after count) → e.length ≡ count → pl ≡ actual
+pub finished : (pl bound count : ℕ) (e : TreeEntry) (source source' : SourceSeen) (before after : FileCheck) (told : ℕ) (root : List ℕ) (place : Option ℕ)
+    → (read : TookAll FeedsBoth source source' bound before after count) → e.length ≡ count
     → IsComparedLayer pl e (chosen_layer before.pieces) (given_hashes before.pieces) → IsFedCheck before.pieces []
     → ((file : List ℕ) → IsFedCheck after.pieces file
     → (told ≡ length file) × (root ≡ root_of file) × IsFirstBadNode after.pieces file place)
-    → IsToldOf actual e read.bytes root place
-finished pl actual bound count e source source' before after told root place read same is of fresh finish =
+    → IsToldOf pl e read.bytes root place
+finished pl bound count e source source' before after told root place read same of fresh finish =
     let end = finish read.bytes (read.taken.fed [] fresh) in
     let layer = chosen_layer after.pieces in
     record {
       layer = layer;
       hashes = given_hashes after.pieces;
       of =
-          subst (λ p. IsComparedLayer p e layer (given_hashes after.pieces)) is
-          (subst (λ l. IsComparedLayer pl e l (given_hashes after.pieces)) (sym read.taken.layer)
-          (subst (λ hs. IsComparedLayer pl e (chosen_layer before.pieces) hs) (sym read.taken.hashes) of));
+          subst (λ l. IsComparedLayer pl e l (given_hashes after.pieces)) (sym read.taken.layer)
+          (subst (λ hs. IsComparedLayer pl e (chosen_layer before.pieces) hs) (sym read.taken.hashes) of);
       length_is = read.count_is ∙ sym same;
       root_is = end.1;
       size_is = end.2.size_is;
@@ -287,12 +286,12 @@ place_is_small pl e bytes root k end bound =
     let other = difference_within (layer_of bytes end.layer) end.hashes k end.size_is end.other in
     omega (arith, other.0, few_nodes bytes end.layer, end.length_is)
 
-pub good_tree : (t : Description) (f : FileEntry) (e : TreeEntry) (bytes root : List ℕ) (place : Option ℕ) → tree_of t f ≡ Some e → 0 < f.length
+pub good_tree : (t : Description) (f : FileEntry) (e : TreeEntry) (bytes root : List ℕ) (place : Option ℕ) → tree_entry_of t f ≡ Some e → 0 < f.length
     → IsToldOf t.piece_length e bytes root place → root ≡ e.root → IsVerdict t f (Some bytes) file.Good
 good_tree t f e bytes root place found some end is =
     (bytes, refl, record { empty = λ none. absurd (omega arith); fits = λ _. (e, found, record { length_is = end.length_is; root_is = sym end.root_is ∙ is }) })
 
-pub bad_tree : (t : Description) (f : FileEntry) (e : TreeEntry) (bytes root : List ℕ) (k : ℕ) → IsSound t → tree_of t f ≡ Some e → e.length ≡ f.length
+pub bad_tree : (t : Description) (f : FileEntry) (e : TreeEntry) (bytes root : List ℕ) (k : ℕ) → IsSound t → tree_entry_of t f ≡ Some e → e.length ≡ f.length
     → IsSoundTree t.piece_length e → IsToldOf t.piece_length e bytes root (Some k) → (root ≡ e.root → ⊥) → IsVerdict t f (Some bytes) (file.Bad (f.first_piece + k))
 bad_tree t f e bytes root k sound found same tree end differs = (
   bytes,

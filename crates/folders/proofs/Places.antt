@@ -11,7 +11,7 @@ use Rattle.metainfo.specs.TreeInfo.{TreeInfo}
 use Rattle.metainfo.specs.Description.{Description, FileEntry}
 use Rattle.metainfo.specs.Sound.{IsSound, IsSoundFile}
 use Rattle.metainfo.specs.Pieces.{pieces_of}
-use Rattle.folders.specs.Folder.{start_of, tree_of}
+use Rattle.folders.specs.Folder.{start_of, tree_entry_of}
 
 -- how many pieces the first n files have
 abbrev pub pieces_before : Description → ℕ → ℕ
@@ -67,7 +67,7 @@ tree_inside t f n trees is sound at =
     omega (arith, slice_get_within t.trees n tree.0 tree.1, ap length is, length-map trees tree_entry)
 
 pub tree_there : (t : Description) (f : FileEntry) (n : ℕ) (trees : List TreeInfo) (d : TreeInfo) → map tree_entry trees ≡ t.trees → IsSoundFile t f → f.tree ≡ Some n
-    → tree_of t f ≡ Some (tree_entry (get_or trees n d))
+    → tree_entry_of t f ≡ Some (tree_entry (get_or trees n d))
 tree_there t f n trees d is sound at =
     let inside = tree_inside t f n trees is sound at in
     ap (option_and_then (slice_get t.trees)) at

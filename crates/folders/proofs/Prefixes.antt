@@ -4,14 +4,15 @@ use Rattle.std.proofs.lemmas.List.{length-append, length-take, length-drop, leng
 use Rattle.std.proofs.lemmas.Option.{same_Some, slice_get_within}
 use Rattle.metainfo.specs.Description.{Description, FileEntry}
 use Rattle.folders.specs.Folder.{Contents, Covers, IsStream, start_of}
+use Rattle.folders.proofs.Orders.{last_or_before}
 
 -- this prefix of the stream holds each of the first n files that is not empty, and zeros elsewhere
-pub record IsPrefix (t : Description) (contents : Contents) (n : ℕ) (front : List ℕ) : Type 0 where
+pub record IsStreamPrefix (t : Description) (contents : Contents) (n : ℕ) (front : List ℕ) : Type 0 where
   pub file_at : (k : ℕ) → k < n → (f : FileEntry) (bytes : List ℕ) → slice_get t.files k ≡ Some f → contents k ≡ Some bytes → 0 < length bytes
       → take (length bytes) (drop (start_of t f) front) ≡ bytes
   pub zeros : (i : ℕ) → i < length front → (Covers t contents i → ⊥) → get_or front i 0 ≡ 0
 
-pub prefix_none : (t : Description) (contents : Contents) → IsPrefix t contents 0 []
+pub prefix_none : (t : Description) (contents : Contents) → IsStreamPrefix t contents 0 []
 prefix_none t contents = record {
   file_at = λ k lt. absurd (omega arith);
   zeros = λ i lt. absurd (omega arith);
@@ -31,8 +32,8 @@ file_stays front more bytes start some is =
     ∙ is
 
 -- zeros follow
-pub prefix_zeros : (t : Description) (contents : Contents) (n : ℕ) (front : List ℕ) (m : ℕ) → IsPrefix t contents n front
-    → IsPrefix t contents n (front ++ replicate m 0)
+pub prefix_zeros : (t : Description) (contents : Contents) (n : ℕ) (front : List ℕ) (m : ℕ) → IsStreamPrefix t contents n front
+    → IsStreamPrefix t contents n (front ++ replicate m 0)
 prefix_zeros t contents n front m so_far = record {
   file_at = λ k lt f bytes there content some. file_stays front (replicate m 0) bytes (start_of t f) some (so_far.file_at k lt f bytes there content some);
   zeros = λ i lt uncovered. elim (before_or_after i (length front)) [
@@ -42,13 +43,10 @@ prefix_zeros t contents n front m so_far = record {
   ];
 }
 
-last_or_before : (k c : ℕ) → k < c + 1 → (k < c) ⊎ (k ≡ c)
-last_or_before k c lt = grind arith
-
 -- the next file follows, at its start
 pub prefix_file : (t : Description) (contents : Contents) (n : ℕ) (front : List ℕ) (f : FileEntry) (bytes : List ℕ)
-    → IsPrefix t contents n front → slice_get t.files n ≡ Some f → contents n ≡ Some bytes → length front ≡ start_of t f
-    → IsPrefix t contents (n + 1) (front ++ bytes)
+    → IsStreamPrefix t contents n front → slice_get t.files n ≡ Some f → contents n ≡ Some bytes → length front ≡ start_of t f
+    → IsStreamPrefix t contents (n + 1) (front ++ bytes)
 prefix_file t contents n front f bytes so_far is content at = record {
   file_at = λ k lt g others there its some. elim (last_or_before k n lt) [
     | inl before ↦ file_stays front bytes others (start_of t g) some (so_far.file_at k before g others there its some)
@@ -68,8 +66,8 @@ prefix_file t contents n front f bytes so_far is content at = record {
 }
 
 -- an empty file has no part
-pub prefix_empty : (t : Description) (contents : Contents) (n : ℕ) (front : List ℕ) (f : FileEntry) → IsPrefix t contents n front
-    → slice_get t.files n ≡ Some f → contents n ≡ Some [] → IsPrefix t contents (n + 1) front
+pub prefix_empty : (t : Description) (contents : Contents) (n : ℕ) (front : List ℕ) (f : FileEntry) → IsStreamPrefix t contents n front
+    → slice_get t.files n ≡ Some f → contents n ≡ Some [] → IsStreamPrefix t contents (n + 1) front
 prefix_empty t contents n front f so_far is content = record {
   file_at = λ k lt g others there its some. elim (last_or_before k n lt) [
     | inl before ↦ so_far.file_at k before g others there its some
@@ -82,7 +80,7 @@ prefix_empty t contents n front f so_far is content = record {
 }
 
 -- all files are there: it is the stream, once zeros fill it to its end
-pub prefix_all : (t : Description) (contents : Contents) (front : List ℕ) (total : ℕ) → IsPrefix t contents (length t.files) front → length front ≤ total
+pub prefix_all : (t : Description) (contents : Contents) (front : List ℕ) (total : ℕ) → IsStreamPrefix t contents (length t.files) front → length front ≤ total
     → IsStream t contents total (front ++ replicate (total - length front) 0)
 prefix_all t contents front total so_far fits =
     let all = prefix_zeros t contents (length t.files) front (total - length front) so_far in

@@ -12,10 +12,10 @@ use Rattle.folders.specs.declared.report.V1Verdict.{V1Verdict}
 use Rattle.folders.specs.declared.report.V1Verdict.TheVariants as version1
 use Rattle.pieces.specs.declared.v1_feed.V1Feed.{V1Feed}
 use Rattle.folders.specs.Compared.{IsDigestVerdict}
-use Rattle.folders.specs.Folder.{Contents, GoodFolder, IsGoodFile, IsStream, V1Good, tree_of}
+use Rattle.folders.specs.Folder.{Contents, GoodFolder, IsGoodFile, IsStream, V1Good, tree_entry_of}
 use Rattle.folders.specs.Streaming.{StreamEndsAt, IsStreamVerdict, StandsAt}
 use Rattle.folders.specs.Verdicts.{HasVerdicts, IsBad, IsV1Verdict, IsVerdict, TellsContents, fault_count, is_checked, is_good, is_unreadable, is_whole, is_yes, stream_is_good, unreadable_count}
-use Rattle.folders.proofs.Prefixes.{prefix_all, IsPrefix}
+use Rattle.folders.proofs.Prefixes.{IsStreamPrefix, prefix_all}
 use Rattle.folders.proofs.Passes.{IsPassed, IsTold}
 use Rattle.folders.proofs.Streaming.{one_stream}
 
@@ -69,7 +69,7 @@ yes_is_sure t contents files v1 has tells said =
 -- ---- a good folder gets a yes
 
 -- the tree of a file has the file's length
-pub has_tree : (t : Description) (n : ℕ) (f : FileEntry) (e : TreeEntry) → IsSound t → slice_get t.files n ≡ Some f → tree_of t f ≡ Some e
+pub has_tree : (t : Description) (n : ℕ) (f : FileEntry) (e : TreeEntry) → IsSound t → slice_get t.files n ≡ Some f → tree_entry_of t f ≡ Some e
     → (e.length ≡ f.length) × (0 < f.length)
 has_tree t n f e sound there found = by_tree f.tree refl
   where
@@ -83,7 +83,7 @@ has_tree t n f e sound there found = by_tree f.tree refl
         (len, omega (arith, (sound.trees k e at).some))
 
 -- and it is sound
-pub sound_tree : (t : Description) (f : FileEntry) (e : TreeEntry) → IsSound t → tree_of t f ≡ Some e → IsSoundTree t.piece_length e
+pub sound_tree : (t : Description) (f : FileEntry) (e : TreeEntry) → IsSound t → tree_entry_of t f ≡ Some e → IsSoundTree t.piece_length e
 sound_tree t f e sound found = by_tree f.tree refl
   where
     by_tree : (o : Option ℕ) → f.tree ≡ o → IsSoundTree t.piece_length e
@@ -181,7 +181,7 @@ compared_stream : (t : Description) (contents : Contents) (n : ℕ) (files : Lis
 compared_stream t contents n files running v verdict all passed told hybrid on within compared =
     let given = told.stream v hybrid on in (
       given.0 ++ replicate (v.total - length given.0) 0,
-      prefix_all t contents given.0 v.total (subst (λ k. IsPrefix t contents k given.0) all given.3)
+      prefix_all t contents given.0 v.total (subst (λ k. IsStreamPrefix t contents k given.0) all given.3)
           (within (length given.0) v.total on given.1 (passed.ends v hybrid)),
       compared (length given.0) v.total v.pieces t.piece_length given.0 given.1 (passed.ends v hybrid) given.2,
     )

@@ -38,9 +38,6 @@ count_push p q paths = sum_by_push (λ x. cond (is_path p x) 1 0) paths q
 any_push : (p q : List (List ℕ)) (listed : List (List (List ℕ))) → list_any (is_path p) (listed ++ q ∷ []) ≡ (list_any (is_path p) listed || (is_path p q || false))
 any_push p q listed = list_any-append (is_path p) listed (q ∷ [])
 
-pub each_once_none : IsEachOnce [] []
-each_once_none p = refl
-
 one_more_false : (n : ℕ) (any : Bool) → any ≡ false → n ≡ cond any 1 0 → n + 1 ≡ cond (any || (true || false)) 1 0
 one_more_false n any none is = subst (λ b. n + 1 ≡ cond (b || (true || false)) 1 0) (sym none) (let e : n ≡ 0 = is ∙ ap (λ b. cond b 1 0) none in omega (arith, e))
 

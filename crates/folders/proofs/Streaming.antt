@@ -4,12 +4,9 @@ use Rattle.std.proofs.lemmas.List.{ext_get_or, get_or-take, get_or-drop}
 use Rattle.std.proofs.lemmas.Option.{same_Some, slice_get_within, none-some}
 use Rattle.metainfo.specs.Description.{Description, FileEntry}
 use Rattle.folders.specs.Folder.{Contents, Covers, IsStream, start_of}
+use Rattle.folders.proofs.Orders.{last_or_before}
 
--- one of the first n files covers this byte, or none does
-record IsCoveredBefore (t : Description) (contents : Contents) (i n : ℕ) : Type 0 where
-  covers : Covers t contents i
-  before : covers.number < n
-
+-- file n covers this byte, or it does not
 here_or_not : (t : Description) (contents : Contents) (i n : ℕ) (f : Option FileEntry) → slice_get t.files n ≡ f
     → ((c : Covers t contents i) × (c.number ≡ n)) ⊎ ((c : Covers t contents i) → c.number ≡ n → ⊥)
 here_or_not t contents i n None is = inr (λ c at. none-some c.file (sym is ∙ ap (slice_get t.files) (sym at) ∙ c.there))
@@ -34,18 +31,16 @@ here_or_not t contents i n (Some f) is = content_covers (contents n) refl
       ]
     ]
 
+-- one of the files covers this byte, or none of the first n does
 covered_or_not : (t : Description) (contents : Contents) (i n : ℕ) → Covers t contents i ⊎ ((c : Covers t contents i) → c.number < n → ⊥)
 covered_or_not t contents i zero = inr (λ c lt. omega arith)
 covered_or_not t contents i (suc n) = elim (covered_or_not t contents i n) [
   | inl c ↦ inl c
   | inr none ↦ elim (here_or_not t contents i n (slice_get t.files n) refl) [
     | inl here ↦ inl here.0
-    | inr not_here ↦ inr (λ c lt. elim (last_or_before c.number n lt) [ inl before ↦ none c before | inr last ↦ not_here c last ])
+    | inr not_here ↦ inr (λ c lt. elim (last_or_before c.number n (omega (arith, lt))) [ inl before ↦ none c before | inr last ↦ not_here c last ])
   ]
 ]
-  where
-    last_or_before : (k c : ℕ) → k < suc c → (k < c) ⊎ (k ≡ c)
-    last_or_before k c lt = grind arith
 
 -- a covered byte is the file's
 covered_byte : (t : Description) (contents : Contents) (total : ℕ) (stream : List ℕ) (i : ℕ) → IsStream t contents total stream → (c : Covers t contents i)

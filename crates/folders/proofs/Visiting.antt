@@ -14,6 +14,7 @@ use Rattle.folders.specs.Folder.{Contents}
 use Rattle.folders.specs.Pass.{FindsVerdict, IsOpenedVerdict, IsStreamPart}
 use Rattle.folders.specs.Shelf.{IsFound}
 use Rattle.folders.specs.Verdicts.{AgreeWith, Agrees, is_whole}
+use Rattle.folders.proofs.Orders.{last_or_before}
 use Rattle.folders.proofs.Passes.{IsPassed, IsTold, told_one}
 
 -- ---- one file
@@ -97,9 +98,6 @@ pub record HasFound (t : Description) (under : List (List ℕ) → Option (Optio
   pub count : length seen ≡ n
   pub agree : (k : ℕ) (f : FileEntry) (c : Option (List ℕ)) → slice_get t.files k ≡ Some f → slice_get seen k ≡ Some c → Agrees (under f.path) c
   pub told : (contents : Contents) → Extends seen contents → IsTold t contents n files running
-
-last_or_before : (k c : ℕ) → k < c + 1 → (k < c) ⊎ (k ≡ c)
-last_or_before k c lt = grind arith
 
 -- an item of a list that one more was pushed to
 pushed_at : {A : Type 0} (xs : List A) (x y : A) (k : ℕ) → slice_get (xs ++ x ∷ []) k ≡ Some y → (slice_get xs k ≡ Some y) ⊎ ((k ≡ length xs) × (x ≡ y))

@@ -9,8 +9,8 @@ abbrev pub Contents : Type 0
 Contents = ℕ → Option (List ℕ)
 
 -- the tree of a file; an empty file has none
-abbrev pub tree_of : Description → FileEntry → Option TreeEntry
-tree_of t f = option_and_then (slice_get t.trees) f.tree
+abbrev pub tree_entry_of : Description → FileEntry → Option TreeEntry
+tree_entry_of t f = option_and_then (slice_get t.trees) f.tree
 
 -- these bytes fit the tree: they have its length, and the tree over their leaves has its root
 pub record FitsTree (e : TreeEntry) (bytes : List ℕ) : Type 0 where
@@ -20,7 +20,7 @@ pub record FitsTree (e : TreeEntry) (bytes : List ℕ) : Type 0 where
 -- these bytes are the file: none if its length is 0, else bytes that fit its tree
 pub record IsGoodFile (t : Description) (f : FileEntry) (bytes : List ℕ) : Type 0 where
   pub empty : f.length ≡ 0 → bytes ≡ []
-  pub fits : 0 < f.length → (e : TreeEntry) × (tree_of t f ≡ Some e) × FitsTree e bytes
+  pub fits : 0 < f.length → (e : TreeEntry) × (tree_entry_of t f ≡ Some e) × FitsTree e bytes
 
 -- where the file begins in the version 1 stream: at its first piece
 abbrev pub start_of : Description → FileEntry → ℕ

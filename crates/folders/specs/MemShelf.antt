@@ -1,7 +1,7 @@
 -- What a shelf in memory holds.
 use Rattle.std.specs.Prelude.{ℕ, List, map, find, Bool, Option, option_map}
 use Rattle.folders.specs.Shelf.{Listing, is_path}
-use Rattle.folders.specs.declared.mem_shelf.MemFile.{MemFile}
+use Rattle.folders.specs.declared.memory.file.MemFile.{MemFile}
 
 -- the bytes of a file's path components
 abbrev pub path_of : MemFile → List (List ℕ)

@@ -8,8 +8,8 @@ use Rattle.benc.specs.declared.device.DeviceFault.{DeviceFault}
 use Rattle.benc.specs.declared.memory.source.MemSource.{MemSource}
 use Rattle.folders.specs.MemShelf.{first_with, listing_of}
 use Rattle.folders.specs.Shelf.{CountsListing, IsListed, more}
-use Rattle.folders.specs.declared.mem_shelf.MemFile.{MemFile}
-use Rattle.folders.specs.declared.mem_shelf.MemShelf.{MemShelf}
+use Rattle.folders.specs.declared.memory.file.MemFile.{MemFile}
+use Rattle.folders.specs.declared.memory.shelf.MemShelf.{MemShelf}
 use Rattle.folders.specs.declared.shelf_fault.ShelfFault.{ShelfFault}
 use Rattle.folders.specs.declared.shelf_fault.ShelfFault.TheVariants as fault
 

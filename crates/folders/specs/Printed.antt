@@ -17,14 +17,14 @@ verdict_words file.WrongLength = codes "wrong length "
 verdict_words (file.Bad p) = codes "bad " ++ decimal p ++ codes " "
 
 -- the line of a file: its verdict and its path
-abbrev pub verdict_text : FileVerdict → FileEntry → List ℕ
-verdict_text v f = verdict_words v ++ (path_text f.path ++ codes "\n")
+abbrev pub file_verdict_text : FileVerdict → FileEntry → List ℕ
+file_verdict_text v f = verdict_words v ++ (path_text f.path ++ codes "\n")
 
 -- the lines of the files, each with its verdict
 abbrev pub verdicts_text : List FileVerdict → List FileEntry → List ℕ
 verdicts_text [] fs = []
 verdicts_text (v ∷ vs) [] = []
-verdicts_text (v ∷ vs) (f ∷ fs) = verdict_text v f ++ verdicts_text vs fs
+verdicts_text (v ∷ vs) (f ∷ fs) = file_verdict_text v f ++ verdicts_text vs fs
 
 -- the line of the version 1 pieces, for a hybrid alone
 abbrev pub stream_text : Option V1Verdict → List ℕ

@@ -74,8 +74,8 @@ built_less b m n room le = omega (arith, room, le)
 
 -- ---- the check of a tree together with the stream
 
-pub fed_none : (c : FileCheck) → FeedsBoth c [] c
-fed_none c = record {
+pub fed_no_bytes : (c : FileCheck) → FeedsBoth c [] c
+fed_no_bytes c = record {
   count = omega arith;
   shape = refl;
   layer = refl;

@@ -5,7 +5,7 @@ use Rattle.hashtree.specs.Tree.{root_of, node}
 use Rattle.metainfo.specs.Description.{Description, FileEntry, TreeEntry, Version1}
 use Rattle.metainfo.specs.Sound.{piece_layer}
 use Rattle.metainfo.specs.Cuts.{cut_digests, IsFirstDifference}
-use Rattle.folders.specs.Folder.{Contents, GoodFolder, IsGoodFile, IsStream, V1Good, tree_of}
+use Rattle.folders.specs.Folder.{Contents, GoodFolder, IsGoodFile, IsStream, V1Good, tree_entry_of}
 use Rattle.folders.specs.declared.report.FileVerdict.{FileVerdict}
 use Rattle.folders.specs.declared.report.FileVerdict.TheVariants as file
 use Rattle.folders.specs.declared.report.V1Verdict.{V1Verdict}
@@ -29,7 +29,7 @@ pub record IsFirstBadPiece (piece_length : ℕ) (e : TreeEntry) (bytes : List �
 -- bytes of the right length and with another root, whose first bad piece is this one of the torrent
 pub record IsBad (t : Description) (f : FileEntry) (bytes : List ℕ) (p : ℕ) : Type 0 where
   pub tree : TreeEntry
-  pub tree_is : tree_of t f ≡ Some tree
+  pub tree_is : tree_entry_of t f ≡ Some tree
   pub length_is : length bytes ≡ f.length
   pub root_differs : root_of bytes ≢ tree.root
   pub place : ℕ

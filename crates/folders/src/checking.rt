@@ -3,11 +3,10 @@
 ghost use Rattle.std.specs.Prelude.{◌≡◌, ℕ, ◌+◌, ◌*◌, ◌^◌, ◌<◌, ◌≤◌, List, [], length, map, Option, Some, None, true, false, IfOk, OnErr};
 ghost use Rattle.benc.specs.Device.{CountsFault};
 ghost use Rattle.hashtree.specs.PieceCheck.{IsFedCheck, byte_count, chosen_layer, chosen_shape, given_hashes};
-ghost use Rattle.metainfo.specs.Pieces.{IsPieceLength};
 ghost use Rattle.metainfo.specs.Seen.{file_entry, tree_entry};
 ghost use Rattle.metainfo.specs.Sound.{IsSoundTree};
 ghost use Rattle.folders.specs.Content.{HasPlaceFor, IsComparedLayer, IsToldOf};
-ghost use Rattle.folders.specs.Folder.{start_of, tree_of};
+ghost use Rattle.folders.specs.Folder.{start_of, tree_entry_of};
 ghost use Rattle.folders.specs.Pass.{FindsVerdict, IsEmptyContent, IsOpenedVerdict};
 ghost use Rattle.folders.specs.Shelf.{more};
 ghost use Rattle.folders.specs.TakeAll.{IsReadWithin};
@@ -22,7 +21,7 @@ use crate::shelf::Shelf;
 use crate::stream::Stream;
 use crate::taking::take_all;
 use benc::{DeviceFault, Source};
-use hashtree::{Hash, PieceCheck, Shape};
+use hashtree::{BLOCK_LENGTH, Hash, PieceCheck, Shape};
 use metainfo::{File, Torrent, TreeInfo};
 use std::alloc::Global;
 use std::slice;
@@ -152,7 +151,7 @@ fn check_tree<F: Source>(
     stream: &mut Stream<'_>,
 ) -> Result<FileVerdict, DeviceFault>
     requires file { IsFileOf torrent.now (file_entry file.now) }
-    requires tree { tree_of torrent.now (file_entry file.now) ≡ Some (tree_entry tree.now) }
+    requires tree { tree_entry_of torrent.now (file_entry file.now) ≡ Some (tree_entry tree.now) }
     requires place { HasPlaceFor stream.old.feed
         (start_of torrent.now (file_entry file.now)) file.now.length }
     ensures verdict { IfOk result (IsOpenedVerdict torrent.now (file_entry file.now)
@@ -165,10 +164,10 @@ fn check_tree<F: Source>(
     let piece_length = torrent.piece_length();
     stream.fill_to(file.first_piece * piece_length);
     let mut feed = FileCheck {
-        pieces: piece_check(tree, piece_length),
+        pieces: piece_check(torrent, tree),
         stream: stream.take(),
     };
-    let mut buffer = [0u8; 16384];
+    let mut buffer = [0u8; BLOCK_LENGTH as usize];
     if take_all(source, file.length, &mut buffer, &mut feed)? != Some(file.length) {
         return Ok(FileVerdict::WrongLength);
     }
@@ -191,7 +190,7 @@ fn tree_verdict(
     tree: &TreeInfo<'_>,
 ) -> FileVerdict
     requires file { IsFileOf torrent.now (file_entry file.now) }
-    requires tree { tree_of torrent.now (file_entry file.now) ≡ Some (tree_entry tree.now) }
+    requires tree { tree_entry_of torrent.now (file_entry file.now) ≡ Some (tree_entry tree.now) }
     requires told { (bytes : List ℕ)
         × IsToldOf torrent.now.piece_length (tree_entry tree.now) bytes root.now place }
     ensures readable { is_unreadable result ≡ false }
@@ -210,15 +209,16 @@ fn tree_verdict(
 }
 
 // The check of a tree against its piece layer, or against its root if its files have one piece.
-fn piece_check<'t>(tree: &'t TreeInfo<'_>, piece_length: u64) -> PieceCheck<'t>
-    requires sound { IsSoundTree piece_length (tree_entry tree.now) }
-    requires legal { IsPieceLength piece_length }
+fn piece_check<'t>(torrent: &Torrent<'_>, tree: &'t TreeInfo<'_>) -> PieceCheck<'t>
+    requires { IsSoundTree torrent.now.piece_length (tree_entry tree.now) }
     ensures count { byte_count result ≡ 0 }
     ensures shape { chosen_shape result ≡ tree.now.length }
-    ensures layer { IsComparedLayer piece_length (tree_entry tree.now) (chosen_layer result)
-        (given_hashes result) }
+    ensures layer { IsComparedLayer torrent.now.piece_length (tree_entry tree.now)
+        (chosen_layer result) (given_hashes result) }
     ensures content { IsFedCheck result [] }
 {
+    torrent.sound();
+    let piece_length = torrent.piece_length();
     let shape = Shape::of(tree.length).unwrap();
     if tree.length <= piece_length {
         PieceCheck::new(shape, shape.height(), slice::from_ref(&tree.root))

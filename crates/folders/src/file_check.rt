@@ -16,7 +16,7 @@ pub struct FileCheck<'t, 'v> {
 
 impl<'t, 'v> Taker for FileCheck<'t, 'v> {
     ghost use Rattle.folders.specs.Feeding.{CanFeed, FeedsBoth};
-    ghost use Rattle.folders.specs.TakerLaws.{fed_none, fed_both, fed_room, fed_less};
+    ghost use Rattle.folders.specs.TakerLaws.{fed_both, fed_less, fed_no_bytes, fed_room};
 
     ghost has_room = { CanFeed };
 
@@ -27,7 +27,7 @@ impl<'t, 'v> Taker for FileCheck<'t, 'v> {
         self.stream.push(part);
     }
 
-    ghost none = { fed_none };
+    ghost none = { fed_no_bytes };
 
     ghost joins = { fed_both };
 

@@ -5,7 +5,7 @@
 mod checking;
 mod file_check;
 mod layer;
-mod mem_shelf;
+pub mod memory;
 mod read_fault;
 mod report;
 mod report_lines;
@@ -17,7 +17,6 @@ mod taking;
 
 pub use checking::check;
 pub use layer::finish_layer;
-pub use mem_shelf::{MemFile, MemShelf};
 pub use read_fault::ReadFault;
 pub use report::{FileVerdict, Report, V1Verdict};
 pub use report_lines::print_report;

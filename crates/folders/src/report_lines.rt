@@ -2,7 +2,7 @@
 ghost use Rattle.std.specs.Prelude.{◌≡◌, length, map, is_some, OnOk, true};
 ghost use Rattle.benc.specs.Device.{Wrote, WroteAndFlushed};
 ghost use Rattle.metainfo.specs.Seen.{file_entry};
-ghost use Rattle.folders.specs.Printed.{answer_text, report_text, stream_text, verdict_text, verdict_words, verdicts_text};
+ghost use Rattle.folders.specs.Printed.{answer_text, file_verdict_text, report_text, stream_text, verdict_words, verdicts_text};
 
 use crate::report::{FileVerdict, Report, V1Verdict};
 use benc::{DeviceFault, Sink, WriteFault, write_all};
@@ -62,7 +62,7 @@ fn write_verdict<W: Sink>(
     out: &mut W,
 ) -> Result<(), DeviceFault>
     ensures { Wrote (W.seen out.old) (W.seen out.new) result
-        (verdict_text verdict (file_entry file.now)) }
+        (file_verdict_text verdict (file_entry file.now)) }
 {
     write_all(out, words(verdict).as_slice())?;
     write_path(out, &file.path.parts())?;

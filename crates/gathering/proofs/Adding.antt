@@ -7,7 +7,7 @@ use Rattle.drafts.specs.Adding.{FitsLayer, HasCuts, IsWith, add_rows, given_file
 use Rattle.drafts.specs.Outline.{AreOfLength, Outline, OutlineFile}
 use Rattle.filetree.specs.Tests.{NoneHolds}
 use Rattle.folders.proofs.Layers.{layer_is_low, length-layer_of, root_over_layer, whole_layer}
-use Rattle.gathering.specs.Gathered.{Adds, IsFileOf, piece_hashes}
+use Rattle.gathering.specs.Gathered.{DraftAdds, IsDraftFile, piece_hashes}
 use Rattle.gathering.specs.Hashing.{AreHashesOf}
 use Rattle.gathering.specs.declared.hashing.FileHashes.{FileHashes}
 use Rattle.hashtree.specs.Tree.{block_count, height, root_of, root_over}
@@ -25,7 +25,7 @@ chosen false b xs ys same = refl
 
 -- what is given is the file of the content
 pub given_is : (d : Outline) (path : List (List ℕ)) (content : List ℕ) (told : FileHashes) → AreHashesOf d.piece_length d.hybrid content told
-    → IsFileOf d.piece_length d.hybrid path content (given_file d path told.length told.root told.v1)
+    → IsDraftFile d.piece_length d.hybrid path content (given_file d path told.length told.root told.v1)
 given_is d path content told hashes = record {
   path_is = refl;
   length_is = hashes.length_is;
@@ -47,7 +47,7 @@ lengths_are : (width : ℕ) (hs : List (List ℕ)) → All (λ h. length h ≡ w
 lengths_are width [] all = tt
 lengths_are width (h ∷ hs) all = (all 0 h (omega arith), lengths_are width hs (λ i d low. all (suc i) d (omega arith)))
 
-pub has_cuts : (d : Outline) (path : List (List ℕ)) (content : List ℕ) (f : OutlineFile) → IsFileOf d.piece_length d.hybrid path content f → HasCuts d f
+pub has_cuts : (d : Outline) (path : List (List ℕ)) (content : List ℕ) (f : OutlineFile) → IsDraftFile d.piece_length d.hybrid path content f → HasCuts d f
 has_cuts d path content f file is some =
     let there : 0 < length content = subst (λ n. 0 < n) file.length_is some in
     ap length (file.cuts_are ∙ all_cuts d.hybrid (nat_lt 0 (length content)) (cut_digests d.piece_length content) is (lt-ltb 0 (length content) there))
@@ -55,7 +55,7 @@ has_cuts d path content f file is some =
     ∙ ap (pieces_of d.piece_length) (sym file.length_is)
 
 pub fits_layer : (d : Outline) (path : List (List ℕ)) (content : List ℕ) (f : OutlineFile) (hashes : List (List ℕ)) → IsPieceLength d.piece_length
-    → IsFileOf d.piece_length d.hybrid path content f → hashes ≡ piece_hashes d.piece_length content → All (λ h. length h ≡ 32) hashes → FitsLayer d f hashes
+    → IsDraftFile d.piece_length d.hybrid path content f → hashes ≡ piece_hashes d.piece_length content → All (λ h. length h ≡ 32) hashes → FitsLayer d f hashes
 fits_layer d path content f hashes legal file are widths longer =
     let n : ℕ = length content in
     let layer : ℕ = piece_layer d.piece_length in
@@ -76,8 +76,8 @@ fits_layer d path content f hashes legal file are widths longer =
 
 -- ---- what the draft made of it
 
-pub added_is : (d e : Outline) (path : List (List ℕ)) (content : List ℕ) (f : OutlineFile) (hashes : List (List ℕ)) → IsFileOf d.piece_length d.hybrid path content f
-    → hashes ≡ piece_hashes d.piece_length content → NoneHolds (add_rows d f) → IsWith d e f hashes → Adds d path content e
+pub added_is : (d e : Outline) (path : List (List ℕ)) (content : List ℕ) (f : OutlineFile) (hashes : List (List ℕ)) → IsDraftFile d.piece_length d.hybrid path content f
+    → hashes ≡ piece_hashes d.piece_length content → NoneHolds (add_rows d f) → IsWith d e f hashes → DraftAdds d path content e
 added_is d e path content f hashes file are none with_it = record { file = f; is = file; passes = none; added = subst (IsWith d e f) are with_it }
 
 -- what was hashed for a kind of torrent was hashed for the draft of this kind

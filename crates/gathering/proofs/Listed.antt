@@ -14,7 +14,7 @@ use Rattle.benc.specs.declared.device.DeviceFault.{DeviceFault}
 use Rattle.drafts.specs.Outline.{Outline}
 use Rattle.folders.specs.Shelf.{IsListed, Listing, is_path, path_bytes}
 use Rattle.folders.specs.declared.shelf_fault.ShelfFault.{ShelfFault}
-use Rattle.gathering.specs.Gathering.{AreContents, Fails, Gathers, GathersAll, HasGathered, IsListedAs, IsSortedListing, LacksMemoryAt, Misses, RefusesAt, StopsAt}
+use Rattle.gathering.specs.Gathering.{AreContentsUnder, Fails, Gathers, GathersAll, HasGathered, IsListedAs, IsSortedListing, LacksMemoryAt, Misses, RefusesAt, StopsAtPath}
 use Rattle.gathering.specs.Steps.{Stops, StopsBefore}
 use Rattle.gathering.specs.Stopping.{at_path}
 use Rattle.gathering.specs.declared.file_fault.FileFault.{FileFault}
@@ -75,7 +75,7 @@ listed_as listing lists old base paths sorted answered listed moved up = record 
 
 -- ---- what was gathered
 
-are_under : (u v : List (List ℕ) → Option (Option (List ℕ))) (ps : List (List (List ℕ))) (cs : List (List ℕ)) → ((p : List (List ℕ)) → u p ≡ v p) → AreContents u ps cs → AreContents v ps cs
+are_under : (u v : List (List ℕ) → Option (Option (List ℕ))) (ps : List (List (List ℕ))) (cs : List (List ℕ)) → ((p : List (List ℕ)) → u p ≡ v p) → AreContentsUnder u ps cs → AreContentsUnder v ps cs
 are_under u v [] [] same are = tt
 are_under u v [] (c ∷ cs) same are = absurd are
 are_under u v (p ∷ ps) [] same are = absurd are
@@ -105,7 +105,7 @@ module _ {S F : Type 0} (opens : S → List (List ℕ) → Result (Option F) Dev
 
   -- what is told of a path at which it stopped
   told_at : (old new mid : S) (d : Outline) (f : FileFault) (v : Vec (String Global))
-      → ((Why : Outline → S → Type 0) → Why d mid → StopsAt opens closes faults under seen listing lists name piece_length hybrid old (path_bytes v) Why)
+      → ((Why : Outline → S → Type 0) → Why d mid → StopsAtPath opens closes faults under seen listing lists name piece_length hybrid old (path_bytes v) Why)
       → Stops opens closes faults under seen f d mid (path_bytes v) new → Gathers opens closes faults under seen listing lists name piece_length hybrid old new (Err (at_path f v))
   told_at old new mid d (why.Refused r) v at stops = inr (at (λ e s. RefusesAt opens closes faults under seen e (path_bytes v) r s new) stops)
   told_at old new mid d why.Device v at stops = at (λ e s. Fails opens closes faults under seen s (path_bytes v) new) stops

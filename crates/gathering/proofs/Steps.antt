@@ -11,8 +11,8 @@ use Rattle.drafts.specs.Outline.{Outline, empty_outline}
 use Rattle.folders.specs.Shelf.{Listing}
 use Rattle.folders.specs.declared.shelf_fault.ShelfFault.{ShelfFault}
 use Rattle.folders.specs.Verdicts.{Agrees}
-use Rattle.gathering.specs.Gathered.{Adds}
-use Rattle.gathering.specs.Gathering.{AreContents, HasGathered, Reads}
+use Rattle.gathering.specs.Gathered.{DraftAdds}
+use Rattle.gathering.specs.Gathering.{AreContentsUnder, HasGathered, Reads}
 
 -- the item of a list that another list is made of
 pub item_of : {A B : Type 0} (f : A → B) (xs : List A) (n : ℕ) (d : A) → n < length xs → slice_get (map f xs) n ≡ Some (f (get_or xs n d))
@@ -33,7 +33,7 @@ within_more paths k old now here there up long so_far n path low at = elim (low_
 ]
 
 are_more : (under : List (List ℕ) → Option (Option (List ℕ))) (ps : List (List (List ℕ))) (cs : List (List ℕ)) (p : List (List ℕ)) (c : List ℕ)
-    → AreContents under ps cs → Agrees (under p) (Some c) → AreContents under (ps ++ p ∷ []) (cs ++ c ∷ [])
+    → AreContentsUnder under ps cs → Agrees (under p) (Some c) → AreContentsUnder under (ps ++ p ∷ []) (cs ++ c ∷ [])
 are_more under [] [] p c are agrees = (agrees, tt)
 are_more under [] (d ∷ cs) p c are agrees = absurd are
 are_more under (q ∷ ps) [] p c are agrees = absurd are
@@ -52,7 +52,7 @@ module _ {S F : Type 0} (opens : S → List (List ℕ) → Result (Option F) Dev
   -- one more
   pub gathered_more : (old mid new : S) (paths : List (List (List ℕ))) (n : ℕ) (path : List (List ℕ)) (content : List ℕ) (d e : Outline)
       → slice_get paths n ≡ Some path → HasGathered opens closes faults under seen listing lists name piece_length hybrid old old (take n paths) mid d
-      → Reads opens closes faults under seen mid path content new → Adds d path content e → ((p : List (List ℕ)) → under new p ≡ under mid p)
+      → Reads opens closes faults under seen mid path content new → DraftAdds d path content e → ((p : List (List ℕ)) → under new p ≡ under mid p)
       → HasGathered opens closes faults under seen listing lists name piece_length hybrid old old (take (n + 1) paths) new e
   gathered_more old mid new paths n path content d e there so_far reads adds kept =
       let inside : n < length paths = slice_get_within paths n path there in
@@ -61,10 +61,10 @@ module _ {S F : Type 0} (opens : S → List (List ℕ) → Result (Option F) Dev
         contents = so_far.contents ++ content ∷ [];
         read = Chain-next (Reads opens closes faults under seen) old mid new paths n so_far.contents path content inside so_far.read
             (subst (λ p. Reads opens closes faults under seen mid p content new) (sym at) reads);
-        are = subst (λ ps. AreContents (under old) ps (so_far.contents ++ content ∷ [])) (sym (taken_more paths n path there))
+        are = subst (λ ps. AreContentsUnder (under old) ps (so_far.contents ++ content ∷ [])) (sym (taken_more paths n path there))
             (are_more (under old) (take n paths) so_far.contents path content so_far.are (subst (λ t. Agrees t (Some content)) (so_far.kept path) reads.agrees));
-        gathered = Chain-next Adds (empty_outline name piece_length hybrid) d e paths n so_far.contents path content inside so_far.gathered
-            (subst (λ p. Adds d p content e) (sym at) adds);
+        gathered = Chain-next DraftAdds (empty_outline name piece_length hybrid) d e paths n so_far.contents path content inside so_far.gathered
+            (subst (λ p. DraftAdds d p content e) (sym at) adds);
         quiet = reads.quiet ∙ so_far.quiet;
         kept = λ p. kept p ∙ so_far.kept p;
       }

@@ -7,7 +7,7 @@ use Rattle.drafts.specs.Outline.{Outline, OutlineFile}
 use Rattle.filetree.specs.Tests.{First, NoneHolds}
 use Rattle.filetree.specs.declared.refusal.Refusal.{Refusal}
 use Rattle.filetree.specs.declared.refusal.Refusal.TheVariants as refusals
-use Rattle.gathering.specs.Gathered.{Adds, IsFileOf, KeepsDigests}
+use Rattle.gathering.specs.Gathered.{DraftAdds, IsDraftFile, KeepsDigests}
 use Rattle.gathering.specs.Gathering.{Reads}
 use Rattle.gathering.specs.Steps.{AddsPath, Stops, VisitsFile}
 use Rattle.gathering.specs.Stopping.{IsRefusal}
@@ -30,7 +30,7 @@ module _ {S F : Type 0} (opens : S → List (List ℕ) → Result (Option F) Dev
   stops_visit d piece_length hybrid s path s' why.Changed same kind misses = misses
 
   -- the draft refused it
-  pub stops_add : (d : Outline) (s : S) (path : List (List ℕ)) (s' : S) (content : List ℕ) (file : OutlineFile) (r : Refusal) (f : FileFault) → IsFileOf d.piece_length d.hybrid path content file
+  pub stops_add : (d : Outline) (s : S) (path : List (List ℕ)) (s' : S) (content : List ℕ) (file : OutlineFile) (r : Refusal) (f : FileFault) → IsDraftFile d.piece_length d.hybrid path content file
       → length content ≤ 2 ^ 46 → Reads opens closes faults under seen s path content s' → IsRefusal r f → (r ≢ refusals.NoMemory → First (add_rows d file) r)
       → (r ≡ refusals.NoMemory → NoneHolds (add_rows d file)) → Stops opens closes faults under seen f d s path s'
   stops_add d s path s' content file r f is short reads told refused memory = elim told [
@@ -42,18 +42,18 @@ module _ {S F : Type 0} (opens : S → List (List ℕ) → Result (Option F) Dev
 
   -- the same of the answer, where the path is that of the visit and that of the file
   pub refused_path : (d e : Outline) (s s' : S) (p q path : List (List ℕ)) (content : List ℕ) (file : OutlineFile) (r : Refusal) (f : FileFault) (result : Result (Unit {0}) FileFault)
-      → p ≡ path → q ≡ path → IsFileOf d.piece_length d.hybrid q content file → length content ≤ 2 ^ 46 → Reads opens closes faults under seen s p content s'
+      → p ≡ path → q ≡ path → IsDraftFile d.piece_length d.hybrid q content file → length content ≤ 2 ^ 46 → Reads opens closes faults under seen s p content s'
       → IsRefusal r f → (r ≢ refusals.NoMemory → First (add_rows d file) r) → (r ≡ refusals.NoMemory → NoneHolds (add_rows d file)) → result ≡ Err f
       → AddsPath opens closes faults under seen d s path e s' result
   refused_path d e s s' p q path content file r f result one two is short reads told refused memory at =
       subst (AddsPath opens closes faults under seen d s path e s') (sym at)
-      (stops_add d s path s' content file r f (subst (λ x. IsFileOf d.piece_length d.hybrid x content file) two is) short
+      (stops_add d s path s' content file r f (subst (λ x. IsDraftFile d.piece_length d.hybrid x content file) two is) short
       (subst (λ x. Reads opens closes faults under seen s x content s') one reads) told refused memory)
 
   pub added_path : (d e : Outline) (s s' : S) (p q path : List (List ℕ)) (content : List ℕ) → p ≡ path → q ≡ path → Reads opens closes faults under seen s p content s'
-      → Adds d q content e → AddsPath opens closes faults under seen d s path e s' (Ok tt)
+      → DraftAdds d q content e → AddsPath opens closes faults under seen d s path e s' (Ok tt)
   added_path d e s s' p q path content one two reads adds = (
     content,
     subst (λ x. Reads opens closes faults under seen s x content s') one reads,
-    subst (λ x. Adds d x content e) two adds,
+    subst (λ x. DraftAdds d x content e) two adds,
   )

@@ -16,7 +16,7 @@ use Rattle.pieces.specs.Cuts.{cut_digests, filled_up, last_cut_of}
 
 -- a file of a draft that was made of this content; an empty file has no root, and digests of cuts
 -- are those of a hybrid's file that is not empty
-pub record IsFileOf (piece_length : ℕ) (hybrid : Bool) (path : List (List ℕ)) (content : List ℕ)
+pub record IsDraftFile (piece_length : ℕ) (hybrid : Bool) (path : List (List ℕ)) (content : List ℕ)
     (f : OutlineFile) : Type 0 where
   pub path_is : f.path ≡ path
   pub length_is : f.length ≡ length content
@@ -31,31 +31,32 @@ abbrev pub piece_hashes : ℕ → List ℕ → List (List ℕ)
 piece_hashes piece_length content = layer_of content (piece_layer piece_length)
 
 -- the draft d takes the file of this path and content
-pub record Takes (d : Outline) (path : List (List ℕ)) (content : List ℕ) : Type 0 where
+pub record DraftTakes (d : Outline) (path : List (List ℕ)) (content : List ℕ) : Type 0 where
   pub file : OutlineFile
-  pub is : IsFileOf d.piece_length d.hybrid path content file
+  pub is : IsDraftFile d.piece_length d.hybrid path content file
   pub passes : NoneHolds (add_rows d file)
 
 -- the draft d takes the file of this path and content, and is e with it
-pub record Adds (d : Outline) (path : List (List ℕ)) (content : List ℕ) (e : Outline) : Type 0 where
+pub record DraftAdds (d : Outline) (path : List (List ℕ)) (content : List ℕ) (e : Outline)
+    : Type 0 where
   pub file : OutlineFile
-  pub is : IsFileOf d.piece_length d.hybrid path content file
+  pub is : IsDraftFile d.piece_length d.hybrid path content file
   pub passes : NoneHolds (add_rows d file)
   pub added : IsWith d e file (piece_hashes d.piece_length content)
 
 -- the draft d refuses the file of this path and content with the answer of its first test that
 -- holds
-pub record Refuses (d : Outline) (path : List (List ℕ)) (content : List ℕ) (r : Refusal) : Type 0
-  where
-    pub file : OutlineFile
-    pub is : IsFileOf d.piece_length d.hybrid path content file
-    pub first : First (add_rows d file) r
+pub record DraftRefuses (d : Outline) (path : List (List ℕ)) (content : List ℕ) (r : Refusal)
+    : Type 0 where
+  pub file : OutlineFile
+  pub is : IsDraftFile d.piece_length d.hybrid path content file
+  pub first : First (add_rows d file) r
 
 -- a content above 2^46 bytes is refused for its length, and any other as the draft refuses it
 abbrev pub RefusesContent : Outline → List (List ℕ) → List ℕ → Refusal → Type 0
 RefusesContent d path content r =
     ((2 ^ 46 < length content) × (r ≡ refusals.Length))
-    ⊎ ((length content ≤ 2 ^ 46) × Refuses d path content r)
+    ⊎ ((length content ≤ 2 ^ 46) × DraftRefuses d path content r)
 
 -- ---- all files
 
@@ -63,7 +64,7 @@ RefusesContent d path content r =
 -- of which was taken behind those before it
 abbrev pub Gathered : List ℕ → ℕ → Bool → List (List (List ℕ)) → List (List ℕ) → Outline → Type 0
 Gathered name piece_length hybrid paths contents d =
-    Chain Adds (empty_outline name piece_length hybrid) paths contents d
+    Chain DraftAdds (empty_outline name piece_length hybrid) paths contents d
 
 -- ---- memory
 

@@ -15,7 +15,7 @@ use Rattle.folders.specs.Shelf.{CountsListing, IsEachOnce, IsListed, Listing, pa
 use Rattle.folders.specs.TakeAll.{IsReadWithin}
 use Rattle.folders.specs.Verdicts.{Agrees}
 use Rattle.folders.specs.declared.shelf_fault.ShelfFault.{ShelfFault}
-use Rattle.gathering.specs.Gathered.{Gathered, KeepsDigests, RefusesContent, Takes}
+use Rattle.gathering.specs.Gathered.{DraftTakes, Gathered, KeepsDigests, RefusesContent}
 use Rattle.gathering.specs.declared.gather_fault.GatherFault.{GatherFault}
 use Rattle.gathering.specs.declared.gather_fault.GatherFault.TheVariants as fault
 use Rattle.pieces.specs.Pieces.{IsPieceLength}
@@ -50,12 +50,12 @@ HasComponents paths =
     (n : ℕ) × (path : List (List ℕ)) × (slice_get paths n ≡ Some path) × (0 < length path)
 
 -- each path has its content, which is the one that the shelf tells if it does
-abbrev pub AreContents : (List (List ℕ) → Option (Option (List ℕ))) → List (List (List ℕ))
+abbrev pub AreContentsUnder : (List (List ℕ) → Option (Option (List ℕ))) → List (List (List ℕ))
     → List (List ℕ) → Type 0
-AreContents under [] [] = Unit {0}
-AreContents under [] (c ∷ cs) = ⊥
-AreContents under (p ∷ ps) [] = ⊥
-AreContents under (p ∷ ps) (c ∷ cs) = Agrees (under p) (Some c) × AreContents under ps cs
+AreContentsUnder under [] [] = Unit {0}
+AreContentsUnder under [] (c ∷ cs) = ⊥
+AreContentsUnder under (p ∷ ps) [] = ⊥
+AreContentsUnder under (p ∷ ps) (c ∷ cs) = Agrees (under p) (Some c) × AreContentsUnder under ps cs
 
 -- `opens`, `closes`, `faults` and `under` are those of the shelf's type, `seen` that of its files
 module _ {S F : Type 0} (opens : S → List (List ℕ) → Result (Option F) DeviceFault → S → Type 0)
@@ -104,7 +104,7 @@ module _ {S F : Type 0} (opens : S → List (List ℕ) → Result (Option F) Dev
     pub content : List ℕ
     pub reads : Reads s path content s'
     pub short : length content ≤ 2 ^ 46
-    pub takes : KeepsDigests d.piece_length d.hybrid content ⊎ Takes d path content
+    pub takes : KeepsDigests d.piece_length d.hybrid content ⊎ DraftTakes d path content
 
   -- ---- all files
 
@@ -118,7 +118,7 @@ module _ {S F : Type 0} (opens : S → List (List ℕ) → Result (Option F) Dev
         : Type 0 where
       pub contents : List (List ℕ)
       pub read : Chain Reads listed paths contents s
-      pub are : AreContents (under old) paths contents
+      pub are : AreContentsUnder (under old) paths contents
       pub gathered : Gathered name piece_length hybrid paths contents d
       pub quiet : faults s ≡ faults old
       pub kept : (p : List (List ℕ)) → under s p ≡ under old p
@@ -132,7 +132,8 @@ module _ {S F : Type 0} (opens : S → List (List ℕ) → Result (Option F) Dev
       pub all : HasGathered old listed paths new d
 
     -- the files before one of the listed paths were gathered, and this happened at that path
-    pub record StopsAt (old : S) (path : List (List ℕ)) (Why : Outline → S → Type 0) : Type 0 where
+    pub record StopsAtPath (old : S) (path : List (List ℕ)) (Why : Outline → S → Type 0)
+        : Type 0 where
       pub legal : IsPieceLength piece_length
       pub paths : List (List (List ℕ))
       pub listed : S
@@ -174,17 +175,17 @@ module _ {S F : Type 0} (opens : S → List (List ℕ) → Result (Option F) Dev
     LacksMemory old new =
         (IsPieceLength piece_length × (new ≡ old))
         ⊎ (LacksMemoryForPaths old new
-        ⊎ ((path : List (List ℕ)) × StopsAt old path (λ d mid. LacksMemoryAt d path mid new)))
+        ⊎ ((path : List (List ℕ)) × StopsAtPath old path (λ d mid. LacksMemoryAt d path mid new)))
 
     -- what `gather` did, by its answer
     abbrev pub Gathers : S → S → Result Outline GatherFault → Type 0
     Gathers old new (Ok d) = GathersAll old new d
     Gathers old new (Err (fault.Refused r path)) =
         RefusesAll old new (path_bytes path) r
-        ⊎ StopsAt old (path_bytes path) (λ d mid. RefusesAt d (path_bytes path) r mid new)
+        ⊎ StopsAtPath old (path_bytes path) (λ d mid. RefusesAt d (path_bytes path) r mid new)
     Gathers old new (Err (fault.Device path)) =
-        StopsAt old (path_bytes path) (λ d mid. Fails mid (path_bytes path) new)
+        StopsAtPath old (path_bytes path) (λ d mid. Fails mid (path_bytes path) new)
     Gathers old new (Err (fault.List f)) = IsUnlisted old new f
     Gathers old new (Err fault.NoMemory) = LacksMemory old new
     Gathers old new (Err (fault.Changed path)) =
-        StopsAt old (path_bytes path) (λ d mid. Misses mid (path_bytes path) new)
+        StopsAtPath old (path_bytes path) (λ d mid. Misses mid (path_bytes path) new)

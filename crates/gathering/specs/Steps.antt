@@ -6,7 +6,7 @@ use Rattle.benc.specs.Device.{SourceSeen}
 use Rattle.benc.specs.declared.device.DeviceFault.{DeviceFault}
 use Rattle.drafts.specs.Outline.{Outline}
 use Rattle.filetree.specs.declared.refusal.Refusal.TheVariants as refusals
-use Rattle.gathering.specs.Gathered.{Adds, KeepsDigests}
+use Rattle.gathering.specs.Gathered.{DraftAdds, KeepsDigests}
 use Rattle.gathering.specs.Gathering.{Fails, HasGathered, LacksMemoryAt, Misses, Reads, RefusesAt}
 use Rattle.gathering.specs.Hashing.{AreHashesOf}
 use Rattle.gathering.specs.declared.file_fault.FileFault.{FileFault}
@@ -53,7 +53,7 @@ module _ {S F : Type 0} (opens : S → List (List ℕ) → Result (Option F) Dev
       → Type 0
   AddsPath d s path e s' (Ok u) =
       (content : List ℕ) × Reads opens closes faults under seen s path content s'
-      × Adds d path content e
+      × DraftAdds d path content e
   AddsPath d s path e s' (Err f) = Stops f d s path s'
 
   module _ (listing : S → Option Listing)

@@ -6,7 +6,6 @@ ghost use Rattle.drafts.specs.Outline.{empty_outline};
 ghost use Rattle.folders.specs.Shelf.{path_bytes};
 ghost use Rattle.gathering.specs.Gathering.{Gathers, HasComponents};
 ghost use Rattle.gathering.specs.Steps.{AddsAll, AddsPath, AreWithin};
-ghost use Rattle.pieces.specs.Pieces.{IsPieceLength};
 
 use crate::file_fault::FileFault;
 use crate::gather_fault::GatherFault;
@@ -14,7 +13,9 @@ use crate::hashing::are_hashes;
 use crate::kind::Kind;
 use crate::visiting::hash_file;
 use drafts::Draft;
+use filetree::Refusal;
 use folders::Shelf;
+use hashtree::BLOCK_LENGTH;
 use std::alloc::Global;
 
 // Why not all files were added: the number of the path at which it stopped, and what happened.
@@ -52,11 +53,13 @@ pub fn gather<S: Shelf>(
         name.now piece_length hybrid shelf.old shelf.new result }
     ensures kept { (p : List (List ℕ)) → S.under shelf.new p ≡ S.under shelf.old p }
 {
+    let Some(kind) = Kind::new(piece_length, hybrid) else {
+        return Err(GatherFault::Refused(Refusal::PieceLength, Vec::new(alloc)));
+    };
     let mut draft = match Draft::new(alloc, name, piece_length, hybrid) {
         Ok(draft) => draft,
         Err(refusal) => return Err(FileFault::from(refusal).at(Vec::new(alloc))),
     };
-    let kind = Kind::new(piece_length, hybrid);
     let mut paths = match shelf.list() {
         Ok(paths) => paths,
         Err(fault) => return Err(GatherFault::List(fault)),
@@ -96,7 +99,6 @@ fn add_files<'p, S: Shelf>(
     kind: &Kind,
 ) -> Result<(), Stop>
     requires room { AreWithin (map path_bytes paths.now) (vec_capacity parts) }
-    requires legal { IsPieceLength kind.now.piece_length }
     requires empty { draft.old
         ≡ empty_outline draft.old.name kind.now.piece_length kind.now.hybrid }
     ensures adds { AddsAll S.opens S.closes S.faults S.under S.File.seen S.listing S.lists
@@ -104,7 +106,7 @@ fn add_files<'p, S: Shelf>(
         draft.new shelf.new result }
     ensures kept { (p : List (List ℕ)) → S.under shelf.new p ≡ S.under shelf.old p }
 {
-    let mut buffer = [0u8; 65536];
+    let mut buffer = [0u8; BLOCK_LENGTH as usize];
     'paths: for number in 0..paths.len() {
         put_parts(&paths[number], &mut parts);
         if let Err(fault) = add_file(alloc, shelf, draft, &parts, kind, &mut buffer) {
@@ -124,7 +126,6 @@ fn add_file<S: Shelf>(
     buffer: &mut [u8],
 ) -> Result<(), FileFault>
     requires some { 0 < length buffer.old }
-    requires legal { IsPieceLength kind.now.piece_length }
     requires piece_length { draft.old.piece_length ≡ kind.now.piece_length }
     requires hybrid { draft.old.hybrid ≡ kind.now.hybrid }
     ensures adds { AddsPath S.opens S.closes S.faults S.under S.File.seen draft.old shelf.old
@@ -133,6 +134,7 @@ fn add_file<S: Shelf>(
     ensures buffer { length buffer.new ≡ length buffer.old }
 {
     let hashes = hash_file(alloc, shelf, path, kind, buffer)?;
+    kind.is_legal();
     are_hashes(&hashes.layer);
     draft.add(path, hashes.length, hashes.root, &hashes.layer, &hashes.v1)?;
     Ok(())

@@ -36,14 +36,6 @@ impl FileHashes {
     }
 }
 
-// What is told of a file that has no cuts, or of which none are wanted.
-fn no_cuts(alloc: Global) -> V1File {
-    V1File {
-        cuts: Vec::new(alloc),
-        padded: [0; 20],
-    }
-}
-
 /// Hashes the bytes of one file as they come. Once memory was refused, it takes no more.
 #[derive(Drop)]
 pub(crate) struct Hashing {
@@ -78,28 +70,6 @@ impl Hashing {
     }
 }
 
-// The digests of a hybrid's cuts.
-fn cuts_of(alloc: Global, kind: &Kind) -> Option<V1Cuts>
-    ensures { BeginsCuts kind.now.piece_length kind.now.hybrid result }
-{
-    if kind.hybrid {
-        Some(V1Cuts::new(alloc, kind.piece_length.bytes()))
-    } else {
-        None
-    }
-}
-
-// What the digests of a hybrid's cuts tell, if memory was not refused.
-fn finish_cuts(alloc: Global, cuts: Option<V1Cuts>) -> Result<V1File, NoMemory>
-    ensures told { IfOk result (EndsWithCuts cuts) }
-    ensures memory { OnErr result (IsSome cuts) }
-{
-    match cuts {
-        Some(cuts) => cuts.finish(),
-        None => Ok(no_cuts(alloc)),
-    }
-}
-
 impl Taker for Hashing {
     ghost use Rattle.gathering.specs.Hashing.{CanHash, Hashes};
     ghost use Rattle.gathering.specs.HashingLaws.{hashed_none, hashed_both, hashed_room, hashed_less};
@@ -128,3 +98,33 @@ impl Taker for Hashing {
 pub(crate) fn are_hashes(hashes: &[Hash])
     ensures { All (λ h. length h ≡ 32) hashes.now }
 {}
+
+// The digests of a hybrid's cuts.
+fn cuts_of(alloc: Global, kind: &Kind) -> Option<V1Cuts>
+    ensures { BeginsCuts kind.now.piece_length kind.now.hybrid result }
+{
+    if kind.hybrid {
+        Some(V1Cuts::new(alloc, kind.piece_length.bytes()))
+    } else {
+        None
+    }
+}
+
+// What the digests of a hybrid's cuts tell, if memory was not refused.
+fn finish_cuts(alloc: Global, cuts: Option<V1Cuts>) -> Result<V1File, NoMemory>
+    ensures told { IfOk result (EndsWithCuts cuts) }
+    ensures memory { OnErr result (IsSome cuts) }
+{
+    match cuts {
+        Some(cuts) => cuts.finish(),
+        None => Ok(no_cuts(alloc)),
+    }
+}
+
+// What is told of a file that has no cuts, or of which none are wanted.
+fn no_cuts(alloc: Global) -> V1File {
+    V1File {
+        cuts: Vec::new(alloc),
+        padded: [0; 20],
+    }
+}

@@ -1,5 +1,5 @@
 //! What kind of torrent is made.
-ghost use Rattle.std.specs.Prelude.{◌≡◌};
+ghost use Rattle.std.specs.Prelude.{◌≡◌, SomeIff};
 ghost use Rattle.opening.specs.PieceLayers.{piece_layer};
 ghost use Rattle.pieces.specs.Pieces.{IsPieceLength};
 
@@ -14,19 +14,23 @@ pub(crate) struct Kind {
 }
 
 impl Kind {
-    /// The kind of this piece length in bytes, which must be one.
-    pub(crate) fn new(piece_length: u64, hybrid: bool) -> Kind
-        requires { IsPieceLength piece_length }
-        ensures piece_length { result.piece_length ≡ piece_length }
-        ensures hybrid { result.hybrid ≡ hybrid }
+    /// The kind of this piece length in bytes; `None` unless it is one.
+    pub(crate) fn new(piece_length: u64, hybrid: bool) -> Option<Kind>
+        ensures { SomeIff result (IsPieceLength piece_length)
+            (record { piece_length = piece_length; hybrid = hybrid }) }
     {
-        let Some(piece_length) = PieceLength::new(piece_length) else {
-            unreachable!();
-        };
-        Kind {
+        let piece_length = PieceLength::new(piece_length)?;
+        Some(Kind {
             piece_length,
             hybrid,
-        }
+        })
+    }
+
+    /// Its piece length is one, as its type says.
+    pub(crate) fn is_legal(&self)
+        ensures { IsPieceLength self.now.piece_length }
+    {
+        self.piece_length.bytes();
     }
 
     /// The layer in which one hash covers a piece.

@@ -4,9 +4,8 @@ use crate::drafting::print_draft;
 use crate::given::Given;
 use crate::state::{State, compare};
 use benc::memory::MemSink;
-use checker::{
-    GatherFault, MemFile, MemShelf, NoMemory, SeedFault, ShelfFault, check, gather, seed,
-};
+use checker::memory::{MemFile, MemShelf};
+use checker::{GatherFault, NoMemory, SeedFault, ShelfFault, check, gather, seed};
 use metainfo::{Draft, Torrent};
 use session::{NodeMap, Session};
 use std::io;

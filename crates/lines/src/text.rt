@@ -6,23 +6,6 @@ ghost use Rattle.lines.specs.Text.{escape_of, escaped, is_special, path_text};
 use benc::{DeviceFault, Sink, WriteFault, write_all};
 use std::convert::AsStr;
 
-// Whether a byte is not printed as it stands.
-fn is_special(byte: u8) -> bool
-    ensures { result ≡ is_special byte }
-{
-    byte < 0x20 || byte == 0x7f || byte == b'\\'
-}
-
-// `\x` and two digits.
-fn escape(byte: u8) -> [u8; 4]
-    requires { is_special byte ≡ true }
-    ensures { result ≡ escape_of byte }
-{
-    let mut digits = [0u8; 2];
-    let _ = hex::encode_to_slice(&[byte], &mut digits);
-    [b'\\', b'x', digits[0], digits[1]]
-}
-
 /// Writes a text as it is printed: the bytes below 0x20, 0x7F and the backslash as `\x` and two
 /// hexadecimal digits, and between these all bytes as they are.
 pub fn write_escaped<W: Sink>(out: &mut W, text: &[u8]) -> Result<(), DeviceFault>
@@ -70,4 +53,21 @@ pub fn flush_after<W: Sink>(out: &mut W, written: Result<(), DeviceFault>) -> Re
     written?;
     out.flush()?;
     Ok(())
+}
+
+// Whether a byte is not printed as it stands.
+fn is_special(byte: u8) -> bool
+    ensures { result ≡ is_special byte }
+{
+    byte < 0x20 || byte == 0x7f || byte == b'\\'
+}
+
+// `\x` and two digits.
+fn escape(byte: u8) -> [u8; 4]
+    requires { is_special byte ≡ true }
+    ensures { result ≡ escape_of byte }
+{
+    let mut digits = [0u8; 2];
+    let _ = hex::encode_to_slice(&[byte], &mut digits);
+    [b'\\', b'x', digits[0], digits[1]]
 }

@@ -70,39 +70,39 @@ module _ (p : ℕ) (hybrid : Bool) (under : List (List ℕ) → Option (Option (
 
 -- ---- each root of a file is among the roots
 
-abbrev IsPlaced : List Root → List ℕ → Type 0
-IsPlaced ts s = (k : ℕ) × (place_in ts s ≡ Some k)
+abbrev IsRootPlaced : List Root → List ℕ → Type 0
+IsRootPlaced ts s = (k : ℕ) × (place_in ts s ≡ Some k)
 
 placed_or_not : (o : Option ℕ) → (o ≡ None) ⊎ ((k : ℕ) × (o ≡ Some k))
 placed_or_not None = inl refl
 placed_or_not (Some k) = inr (k, refl)
 
-keeps_one : (ts : List Root) (n : ℕ) (o : Option (List ℕ)) (s : List ℕ) → IsPlaced ts s → IsPlaced (with_root ts n o) s
+keeps_one : (ts : List Root) (n : ℕ) (o : Option (List ℕ)) (s : List ℕ) → IsRootPlaced ts s → IsRootPlaced (with_root ts n o) s
 keeps_one ts n None s there = there
 keeps_one ts n (Some r) s there =
     elim (with_cases ts n r) [
-      | inl same ↦ subst (λ us. IsPlaced us s) (sym same) there
-      | inr new ↦ subst (λ us. IsPlaced us s) (sym new.1) (there.0, place_push_there ts (record { root = r; length = n }) s there.0 there.1)
+      | inl same ↦ subst (λ us. IsRootPlaced us s) (sym same) there
+      | inr new ↦ subst (λ us. IsRootPlaced us s) (sym new.1) (there.0, place_push_there ts (record { root = r; length = n }) s there.0 there.1)
     ]
 
-keeps_all : (ts : List Root) (fs : List ListedFile) (s : List ℕ) → IsPlaced ts s → IsPlaced (fold with_file ts fs) s
+keeps_all : (ts : List Root) (fs : List ListedFile) (s : List ℕ) → IsRootPlaced ts s → IsRootPlaced (fold with_file ts fs) s
 keeps_all ts [] s there = there
 keeps_all ts (f ∷ fs) s there = keeps_all (with_file ts f) fs s (keeps_one ts f.length f.root s there)
 
-placed_here : (ts : List Root) (n : ℕ) (s : List ℕ) → IsPlaced (with_root ts n (Some s)) s
+placed_here : (ts : List Root) (n : ℕ) (s : List ℕ) → IsRootPlaced (with_root ts n (Some s)) s
 placed_here ts n s =
     elim (placed_or_not (place_in ts s)) [
       | inl none ↦
           let r : Root = record { root = s; length = n } in
           let new : with_root ts n (Some s) ≡ ts ++ r ∷ [] = rw none refl in
-          subst (λ us. IsPlaced us s) (sym new) (length ts, place_push_new ts r s none refl)
+          subst (λ us. IsRootPlaced us s) (sym new) (length ts, place_push_new ts r s none refl)
       | inr there ↦ keeps_one ts n (Some s) s there
     ]
 
-pub root_placed : (ts : List Root) (fs : List ListedFile) (n : ℕ) (f : ListedFile) (s : List ℕ) → slice_get fs n ≡ Some f → f.root ≡ Some s → IsPlaced (fold with_file ts fs) s
+pub root_placed : (ts : List Root) (fs : List ListedFile) (n : ℕ) (f : ListedFile) (s : List ℕ) → slice_get fs n ≡ Some f → f.root ≡ Some s → IsRootPlaced (fold with_file ts fs) s
 root_placed ts [] n f s at root = cc
 root_placed ts (x ∷ fs) zero f s at root =
     let same : x ≡ f = cc in
     let own : x.root ≡ Some s = ap (λ (y : ListedFile). y.root) same ∙ root in
-    keeps_all (with_file ts x) fs s (subst (λ o. IsPlaced (with_root ts x.length o) s) (sym own) (placed_here ts x.length s))
+    keeps_all (with_file ts x) fs s (subst (λ o. IsRootPlaced (with_root ts x.length o) s) (sym own) (placed_here ts x.length s))
 root_placed ts (x ∷ fs) (suc n) f s at root = root_placed (with_file ts x) fs n f s at root

@@ -7,8 +7,8 @@ use Rattle.drafts.specs.Written.{torrent_of}
 use Rattle.std.proofs.lemmas.Bool.{cases_lt}
 use Rattle.opening.specs.Refusals.{max_torrent}
 use Rattle.folders.specs.Verdicts.{Agrees}
-use Rattle.gathering.specs.Gathered.{Adds, IsFileOf}
-use Rattle.gathering.specs.Gathering.{AreContents}
+use Rattle.gathering.specs.Gathered.{DraftAdds, IsDraftFile}
+use Rattle.gathering.specs.Gathering.{AreContentsUnder}
 use Rattle.round_trips.proofs.Made.{AreMade, Made, put_made}
 use Rattle.round_trips.proofs.Good.{good_folder}
 use Rattle.round_trips.specs.RoundTrip.{ChecksGood, IsGatheredFrom, Telling, TellsEach}
@@ -18,7 +18,7 @@ told_is : (told : Option (Option (List ℕ))) (c : List ℕ) → Agrees told (So
 told_is None c agrees some = absurd (some refl)
 told_is (Some there) c agrees some = ap Some (agrees there refl)
 
-made : (p : ℕ) (hybrid : Bool) (under : Telling) (path : List (List ℕ)) (c : List ℕ) (f : OutlineFile) → IsFileOf p hybrid path c f → under path ≡ Some (Some c) → Made p hybrid under f c
+made : (p : ℕ) (hybrid : Bool) (under : Telling) (path : List (List ℕ)) (c : List ℕ) (f : OutlineFile) → IsDraftFile p hybrid path c f → under path ≡ Some (Some c) → Made p hybrid under f c
 made p hybrid under path c f is told = record {
   length_is = is.length_is;
   root_is = is.root_is;
@@ -34,10 +34,10 @@ record AreMadeIn (p : ℕ) (hybrid : Bool) (under : Telling) (d : Outline) : Typ
   pub kind_is : d.hybrid ≡ hybrid
   pub made : AreMade p hybrid under d.files contents
 
-one_more : (p : ℕ) (hybrid : Bool) (under : Telling) (d e : Outline) (path : List (List ℕ)) (c : List ℕ) → Adds d path c e → under path ≡ Some (Some c) → AreMadeIn p hybrid under d → AreMadeIn p hybrid under e
+one_more : (p : ℕ) (hybrid : Bool) (under : Telling) (d e : Outline) (path : List (List ℕ)) (c : List ℕ) → DraftAdds d path c e → under path ≡ Some (Some c) → AreMadeIn p hybrid under d → AreMadeIn p hybrid under e
 one_more p hybrid under d e path c adds told so =
     let f = adds.file in
-    let here = subst (λ h. IsFileOf p h path c f) so.kind_is (subst (λ k. IsFileOf k d.hybrid path c f) so.length_is adds.is) in
+    let here = subst (λ h. IsDraftFile p h path c f) so.kind_is (subst (λ k. IsDraftFile k d.hybrid path c f) so.length_is adds.is) in
     let place = adds.added.place in
     record {
       contents = take place so.contents ++ c ∷ drop place so.contents;
@@ -47,7 +47,7 @@ one_more p hybrid under d e path c adds told so =
           (put_made p hybrid under place f c d.files so.contents (made p hybrid under path c f here told) so.made);
     }
 
-all_made : (p : ℕ) (hybrid : Bool) (under : Telling) (d e : Outline) (paths : List (List (List ℕ))) (cs : List (List ℕ)) → Chain Adds d paths cs e → AreContents under paths cs → TellsEach under paths
+all_made : (p : ℕ) (hybrid : Bool) (under : Telling) (d e : Outline) (paths : List (List (List ℕ))) (cs : List (List ℕ)) → Chain DraftAdds d paths cs e → AreContentsUnder under paths cs → TellsEach under paths
     → AreMadeIn p hybrid under d → AreMadeIn p hybrid under e
 all_made p hybrid under d e [] [] chain are told so = subst (AreMadeIn p hybrid under) (sym chain) so
 all_made p hybrid under d e [] (c ∷ cs) chain are told so = absurd chain
@@ -62,5 +62,5 @@ checks_good under d o from files v1 tells readable =
     let all = subst (λ h. AreMade d.piece_length h under d.files so.contents) (sym so.kind_is) (subst (λ k. AreMade k from.hybrid under d.files so.contents) (sym so.length_is) so.made) in
     tells.enough (good_folder d so.contents under o all tells.contents tells.agree) readable
 
-pub within : (n : ℕ) → (max_torrent < n → ⊥) → n ≤ max_torrent
-within n not = elim (cases_lt max_torrent n) [ inl less ↦ absurd (not less) | inr most ↦ most ]
+pub fits_max_torrent : (n : ℕ) → (max_torrent < n → ⊥) → n ≤ max_torrent
+fits_max_torrent n not = elim (cases_lt max_torrent n) [ inl less ↦ absurd (not less) | inr most ↦ most ]

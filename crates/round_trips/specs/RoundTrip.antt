@@ -9,7 +9,7 @@ use Rattle.folders.specs.Verdicts.{TellsFolder, is_yes, unreadable_count}
 use Rattle.folders.specs.declared.report.FileVerdict.{FileVerdict}
 use Rattle.folders.specs.declared.report.V1Verdict.{V1Verdict}
 use Rattle.gathering.specs.Gathered.{Gathered}
-use Rattle.gathering.specs.Gathering.{AreContents}
+use Rattle.gathering.specs.Gathering.{AreContentsUnder}
 use Rattle.opening.specs.Describes.{Describes}
 use Rattle.opening.specs.Description.{Description}
 
@@ -30,7 +30,7 @@ pub record IsGatheredFrom (under : Telling) (d : Outline) : Type 0 where
   pub paths : List (List (List ℕ))
   pub contents : List (List ℕ)
   pub gathered : Gathered name piece_length hybrid paths contents d
-  pub are : AreContents under paths contents
+  pub are : AreContentsUnder under paths contents
   pub told : TellsEach under paths
 
 -- each report that a check of this torrent gives of what the shelf tells, if no file was

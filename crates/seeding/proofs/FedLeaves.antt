@@ -15,7 +15,7 @@ use Rattle.hashtree.proofs.Blocks.{length-block_hashes}
 use Rattle.hashtree.proofs.Feeding.{next_part}
 use Rattle.metainfo.specs.Description.{TreeEntry}
 use Rattle.partial_tree.specs.Grown.{GrownTree}
-use Rattle.seeding.specs.Leaves.{Ends, HasRefused, HasRoom, IsFedLeaves, IsFull, Pushes, ReadsLeaves}
+use Rattle.seeding.specs.Leaves.{EndsWithTree, HasRefused, HasRoomForBytes, IsFedLeaves, IsFull, Pushes, ReadsLeaves}
 use Rattle.seeding.specs.declared.leaves.Leaves.{Leaves}
 
 climb-none : (xs : List (List ℕ)) → climb zero xs ≡ xs
@@ -50,7 +50,7 @@ kept-leaf l q mid content more leaf at fed completed builder leaves = record {
 }
 
 -- so many bytes of what is taken are within the file's length
-pub part-fits : {N : Type 0} (old : Leaves N) (part : List ℕ) (start taken len : ℕ) (room : HasRoom old (length part)) → start + taken ≤ length part → len ≡ old.tree.length
+pub part-fits : {N : Type 0} (old : Leaves N) (part : List ℕ) (start taken len : ℕ) (room : HasRoomForBytes old (length part)) → start + taken ≤ length part → len ≡ old.tree.length
     → length ((room.content ++ take start part) ++ take taken (take (length part - start) (drop start part))) ≤ len
 part-fits old part start taken len room within same =
     let whole = ap length (next_part room.content part start taken) ∙ length-append room.content (take (start + taken) part) in
@@ -100,7 +100,7 @@ module _ {N : Type 0} (e : TreeEntry) (source source' : SourceSeen) (before afte
     }
   ]
 
-  pub found : (t : Option GrownTree) → ((content : List ℕ) → IsFull after content → Ends after e.root content t) → ReadsLeaves e source.left (option_map (λ (x : GrownTree). x.leaves) t)
+  pub found : (t : Option GrownTree) → ((content : List ℕ) → IsFull after content → EndsWithTree after e.root content t) → ReadsLeaves e source.left (option_map (λ (x : GrownTree). x.leaves) t)
   found (Some t) ends =
       let end = ends read.bytes full in (
         read.bytes,

@@ -6,11 +6,11 @@ use Rattle.node_maps.specs.Digest.{Hash}
 use Rattle.std.proofs.lemmas.Option.{same_Some}
 use Rattle.folders.specs.Folder.{FitsTree}
 use Rattle.folders.specs.Shelf.{IsFound, more}
-use Rattle.seeding.specs.Seeding.{Finds, HasLength}
-use Rattle.folders.specs.TakeAll.{ReadAll, TookAll}
+use Rattle.seeding.specs.Seeding.{Finds}
+use Rattle.folders.specs.TakeAll.{ReadAll}
 use Rattle.folders.proofs.Pieces.{all_given, longer_content}
 use Rattle.folders.proofs.Visiting.{agrees_opened}
-use Rattle.seeding.specs.Leaves.{GivesLength, ReadsLeaves}
+use Rattle.seeding.specs.Leaves.{ReadsLeaves}
 
 -- a source of another length
 pub other_length : {T : Type 0} (e : TreeEntry) (took : T → List ℕ → T → Type 0) (source source' : SourceSeen) (before after : T) (r : Option ℕ)
@@ -21,17 +21,7 @@ other_length e took source source' before after None read other =
 other_length e took source source' before after (Some count) read other =
     (read.bytes, λ known is. all_given source source' read.bytes known read.gave read.ended is, λ fits. other (ap Some (sym read.count_is ∙ fits.length_is)))
 
--- a source of this length
-pub this_length : {T : Type 0} (len : ℕ) (took : T → List ℕ → T → Type 0) (source source' : SourceSeen) (before after : T) → TookAll took source source' len before after len
-    → GivesLength source.left len
-this_length len took source source' before after read =
-    (read.bytes, λ known is. all_given source source' read.bytes known read.gave read.ended is, read.count_is)
-
 -- ---- what a shelf tells
-
--- memory was refused for a file that was read
-pub length_read : (told : Option (Option (List ℕ))) (left : Option (List ℕ)) (len : ℕ) → IsFound told (Some left) → GivesLength left len → HasLength told len
-length_read told left len at (bytes, is, long) = (bytes, agrees_opened told left bytes at is, long)
 
 -- a file was opened, read without a fault, and handed back
 pub finds_read : (told : Option (Option (List ℕ))) (left : Option (List ℕ)) (e : TreeEntry) (found : Option (List Hash)) (old mid new own own' : ℕ)

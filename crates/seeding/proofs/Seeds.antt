@@ -13,7 +13,7 @@ use Rattle.metainfo.specs.Description.{FileEntry, TreeEntry}
 use Rattle.node_maps.specs.Digest.{Hash}
 use Rattle.folders.specs.Shelf.{more}
 use Rattle.session.specs.Session.{SessionSeen}
-use Rattle.seeding.specs.Seeding.{Fills, Finds, HasLength, OpensOnce, SeedStep, SeedsAll, SeedsTree, StopsAt, both, seed_line, seed_lines}
+use Rattle.seeding.specs.Seeding.{Fills, Finds, HasLength, OpensOnce, SeedStep, SeedsAll, SeedsTree, StopsAtFile, seed_line, seed_lines, shelf_and_session}
 
 -- ---- lines
 
@@ -38,7 +38,7 @@ module _ {S F : Type 0} (opens : S → List (List ℕ) → Result (Option F) Dev
   pub seeds_filled : (seeded : Bool) (s s' : S) (K K' : SessionSeen) (f : FileEntry) (n : ℕ) (e : TreeEntry) (leaves : List Hash)
       → slice_get K.torrent.trees n ≡ Some e → e.length ≡ f.length → OpensOnce opens closes seen s f.path (e.length + 1) s' → Found s f e (Some leaves) s'
       → ((p : List (List ℕ)) → under s' p ≡ under s p) → Fills K n (Some leaves) seeded K'
-      → SeedsTree opens closes faults under seen (both s K) f n seeded (both s' K')
+      → SeedsTree opens closes faults under seen (shelf_and_session s K) f n seeded (shelf_and_session s' K')
   seeds_filled seeded s s' K K' f n e leaves tree same visited found kept fills = record {
     tree = e;
     tree_is = tree;
@@ -54,7 +54,7 @@ module _ {S F : Type 0} (opens : S → List (List ℕ) → Result (Option F) Dev
   -- a file's leaves were not found
   pub seeds_nothing : (s s' : S) (K : SessionSeen) (f : FileEntry) (n : ℕ) (e : TreeEntry) → slice_get K.torrent.trees n ≡ Some e → e.length ≡ f.length
       → OpensOnce opens closes seen s f.path (e.length + 1) s' → Found s f e None s' → ((p : List (List ℕ)) → under s' p ≡ under s p)
-      → SeedsTree opens closes faults under seen (both s K) f n false (both s' K)
+      → SeedsTree opens closes faults under seen (shelf_and_session s K) f n false (shelf_and_session s' K)
   seeds_nothing s s' K f n e tree same visited found kept = record {
     tree = e;
     tree_is = tree;
@@ -69,7 +69,7 @@ module _ {S F : Type 0} (opens : S → List (List ℕ) → Result (Option F) Dev
 
   -- memory was refused while a file was read
   pub stops_reading : (s s' : S) (K : SessionSeen) (f : FileEntry) (n len : ℕ) → f.tree ≡ Some n → len ≡ f.length → OpensOnce opens closes seen s f.path (len + 1) s'
-      → (faults s' ≡ faults s) × HasLength (under s f.path) len → StopsAt opens closes faults under seen (both s K) f (both s' K)
+      → (faults s' ≡ faults s) × HasLength (under s f.path) len → StopsAtFile opens closes faults under seen (shelf_and_session s K) f (shelf_and_session s' K)
   stops_reading s s' K f n len tree same visited (counted, long) = record {
     not_empty = λ is. none-some n (sym is ∙ tree);
     visited = subst (λ k. OpensOnce opens closes seen s f.path (k + 1) s') same visited;

@@ -16,9 +16,9 @@ pub record IsTreeAt (t : Description) (f : FileEntry) (n : ℕ) (e : TreeEntry) 
   pub some : 0 < e.length
   pub small : e.length ≤ 2 ^ 46
 
-pub tree_at : (t : Description) (f : FileEntry) (n : ℕ) (trees : List TreeInfo) (d : TreeInfo) → map tree_entry trees ≡ t.trees → IsSound t → IsFileOf t f
+pub found_tree : (t : Description) (f : FileEntry) (n : ℕ) (trees : List TreeInfo) (d : TreeInfo) → map tree_entry trees ≡ t.trees → IsSound t → IsFileOf t f
     → f.tree ≡ Some n → (n < length trees) × IsTreeAt t f n (tree_entry (get_or trees n d))
-tree_at t f n trees d is sound file at =
+found_tree t f n trees d is sound file at =
     let fine = sound.files file.0 f file.1 in
     let inside = tree_inside t f n trees is fine at in
     let e : TreeEntry = tree_entry (get_or trees n d) in

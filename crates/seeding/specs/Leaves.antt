@@ -26,7 +26,7 @@ pub record Pushes {N : Type 0} (old : Leaves N) (bytes : List ℕ) (new : Leaves
       ⊎ ((file : List ℕ) → IsFedLeaves old file → IsFedLeaves new (file ++ bytes))
 
 -- so many more bytes are within the length of the tree's files
-pub record HasRoom {N : Type 0} (l : Leaves N) (n : ℕ) : Type 0 where
+pub record HasRoomForBytes {N : Type 0} (l : Leaves N) (n : ℕ) : Type 0 where
   pub content : List ℕ
   pub fed : IsFedLeaves l content
   pub fits : length content + n ≤ l.tree.length
@@ -34,7 +34,7 @@ pub record HasRoom {N : Type 0} (l : Leaves N) (n : ℕ) : Type 0 where
 
 -- there is room for so many bytes, or they are not taken
 abbrev pub CanPush : {N : Type 0} → Leaves N → ℕ → Type 0
-CanPush l n = HasRefused l ⊎ HasRoom l n
+CanPush l n = HasRefused l ⊎ HasRoomForBytes l n
 
 -- a content of the right length was given
 pub record IsFull {N : Type 0} (l : Leaves N) (content : List ℕ) : Type 0 where
@@ -44,10 +44,10 @@ pub record IsFull {N : Type 0} (l : Leaves N) (content : List ℕ) : Type 0 wher
 
 -- what stands at the end, for a tree of this root: the whole tree over the content's leaves if it
 -- has that root, and else nothing
-abbrev pub Ends : {N : Type 0} → Leaves N → List ℕ → List ℕ → Option GrownTree → Type 0
-Ends l root content (Some t) =
+abbrev pub EndsWithTree : {N : Type 0} → Leaves N → List ℕ → List ℕ → Option GrownTree → Type 0
+EndsWithTree l root content (Some t) =
     (root ≡ root_of content) × (t.length ≡ l.tree.length) × (t.leaves ≡ layer_of content 0)
-Ends l root content None = root ≢ root_of content
+EndsWithTree l root content None = root ≢ root_of content
 
 -- what reading a source told that had this to give: the leaves of its content if that fits the
 -- tree, and else nothing

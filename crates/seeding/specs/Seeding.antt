@@ -22,12 +22,12 @@ use Rattle.seeding.specs.declared.seed_fault.SeedFault.TheVariants as fault
 
 -- What follows an opening that was answered so: a file was read, no more bytes than these, and
 -- handed back; else the shelf stays.
-abbrev pub HandsBack : {S F : Type 0} → (S → F → S → Type 0) → (F → SourceSeen) → ℕ → S
+abbrev pub FollowsOpening : {S F : Type 0} → (S → F → S → Type 0) → (F → SourceSeen) → ℕ → S
     → Result (Option F) DeviceFault → S → Type 0
-HandsBack closes seen bound s (Ok (Some file)) s' =
+FollowsOpening closes seen bound s (Ok (Some file)) s' =
     (read : _) × IsReadWithin bound (seen file) (seen read) × closes s read s'
-HandsBack closes seen bound s (Ok None) s' = s' ≡ s
-HandsBack closes seen bound s (Err fault) s' = s' ≡ s
+FollowsOpening closes seen bound s (Ok None) s' = s' ≡ s
+FollowsOpening closes seen bound s (Err fault) s' = s' ≡ s
 
 -- the path was opened once, and no more bytes than these were read. `opens`, `closes` and `seen`
 -- are those of the shelf's type and of its files.
@@ -38,7 +38,7 @@ pub record OpensOnce {S F : Type 0}
   pub answer : Result (Option F) DeviceFault
   pub after : S
   pub opened : opens s path answer after
-  pub follows : HandsBack closes seen bound after answer s'
+  pub follows : FollowsOpening closes seen bound after answer s'
 
 -- what stands at a path does not fit the tree: nothing, or other bytes
 abbrev pub DoesNotFit : TreeEntry → Option (List ℕ) → Type 0
@@ -83,8 +83,8 @@ seed_lines (f ∷ fs) [] = []
 seed_lines (f ∷ fs) (seeded ∷ told) = seed_line f seeded ++ seed_lines fs told
 
 -- a shelf and a session
-abbrev pub both : {S : Type 0} → S → SessionSeen → S × SessionSeen
-both s K = (s, K)
+abbrev pub shelf_and_session : {S : Type 0} → S → SessionSeen → S × SessionSeen
+shelf_and_session s K = (s, K)
 
 -- `opens`, `closes`, `faults` and `under` are those of the shelf's type, `seen` that of its files
 module _ {S F : Type 0} (opens : S → List (List ℕ) → Result (Option F) DeviceFault → S → Type 0)
@@ -116,7 +116,8 @@ module _ {S F : Type 0} (opens : S → List (List ℕ) → Result (Option F) Dev
 
   -- memory was refused for a file that is not empty, and has the stated length: it was handed back,
   -- and the session stays
-  pub record StopsAt (old : S × SessionSeen) (f : FileEntry) (new : S × SessionSeen) : Type 0 where
+  pub record StopsAtFile (old : S × SessionSeen) (f : FileEntry) (new : S × SessionSeen)
+      : Type 0 where
     pub not_empty : f.tree ≢ None
     pub visited : OpensOnce opens closes seen old.0 f.path (f.length + 1) new.0
     pub counted : faults new.0 ≡ faults old.0
@@ -149,11 +150,11 @@ module _ {S F : Type 0} (opens : S → List (List ℕ) → Result (Option F) Dev
     pub file_is : slice_get old.1.torrent.files count ≡ Some file
     pub mid : S × SessionSeen
     pub run : SeedsAll old (take count old.1.torrent.files) told mid
-    pub stops : StopsAt mid file new
+    pub stops : StopsAtFile mid file new
     pub sent : Sent report report' (seed_lines (take count old.1.torrent.files) told)
 
   -- the line of a file broke off, after those before it
-  pub record IsCutInLine (old new : S × SessionSeen) (report report' : SinkSeen) : Type 0 where
+  pub record IsCutInSeedLine (old new : S × SessionSeen) (report report' : SinkSeen) : Type 0 where
     pub told : List Bool
     pub count : ℕ
     pub file : FileEntry
@@ -167,7 +168,7 @@ module _ {S F : Type 0} (opens : S → List (List ℕ) → Result (Option F) Dev
     pub broke : Broke mid report' (seed_line file seeded)
 
   -- all lines went out, and the flush failed
-  pub record IsCutInFlush (old new : S × SessionSeen) (report report' : SinkSeen) : Type 0 where
+  pub record IsCutInSeedFlush (old new : S × SessionSeen) (report report' : SinkSeen) : Type 0 where
     pub told : List Bool
     pub run : SeedsAll old old.1.torrent.files told new
     pub sent : Unflushed (seed_lines old.1.torrent.files told) report report'
@@ -177,7 +178,7 @@ module _ {S F : Type 0} (opens : S → List (List ℕ) → Result (Option F) Dev
       → Result (Unit {0}) SeedFault → Type 0
   SeedsFiles old new report report' (Ok u) = SeedsWhole old new report report'
   SeedsFiles old new report report' (Err fault.NoMemory) = IsOutOfMemory old new report report'
-  SeedsFiles old new report report' (Err fault.Write) = IsCutInLine old new report report'
+  SeedsFiles old new report report' (Err fault.Write) = IsCutInSeedLine old new report report'
 
   -- what `seed` did, by its answer
   abbrev pub Seeds : S × SessionSeen → S × SessionSeen → SinkSeen → SinkSeen
@@ -185,4 +186,4 @@ module _ {S F : Type 0} (opens : S → List (List ℕ) → Result (Option F) Dev
   Seeds old new report report' (Ok u) = IsSeeded old new report report'
   Seeds old new report report' (Err fault.NoMemory) = IsOutOfMemory old new report report'
   Seeds old new report report' (Err fault.Write) =
-      IsCutInLine old new report report' ⊎ IsCutInFlush old new report report'
+      IsCutInSeedLine old new report report' ⊎ IsCutInSeedFlush old new report report'

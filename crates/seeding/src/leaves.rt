@@ -5,7 +5,7 @@ ghost use Rattle.hashtree.specs.Tree.{block_count};
 ghost use Rattle.metainfo.specs.Seen.{tree_entry};
 ghost use Rattle.folders.specs.TakeAll.{CountsReading, IsReadWithin};
 ghost use Rattle.folders.specs.declared.read_fault.ReadFault.TheVariants as fault;
-ghost use Rattle.seeding.specs.Leaves.{Ends, GivesLength, HasRefused, IsFedLeaves, IsFull, ReadsLeaves};
+ghost use Rattle.seeding.specs.Leaves.{EndsWithTree, GivesLength, HasRefused, IsFedLeaves, IsFull, ReadsLeaves};
 
 use benc::Source;
 use folders::{ReadFault, Taker, take_all};
@@ -84,7 +84,7 @@ impl<N: NodeMap> Leaves<N> {
         requires { HasRefused self ⊎ ((content : List ℕ) × IsFull self content) }
         ensures works { OnOk result (HasRefused self → ⊥) }
         ensures ends { IfOk result (λ found. (content : List ℕ) → IsFull self content
-            → Ends self root.now content found) }
+            → EndsWithTree self root.now content found) }
     {
         if self.is_refused {
             return Err(NoMemory);

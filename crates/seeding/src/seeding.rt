@@ -5,7 +5,7 @@ ghost use Rattle.metainfo.specs.Description.{TreeEntry};
 ghost use Rattle.metainfo.specs.Seen.{file_entry, tree_entry};
 ghost use Rattle.folders.specs.Shelf.{more};
 ghost use Rattle.folders.specs.Verdicts.{IsFileOf};
-ghost use Rattle.seeding.specs.Seeding.{Fills, Finds, HasLength, OpensOnce, SeedStep, Seeds, SeedsFiles, SeedsTree, StopsAt, both, seed_line, seed_words};
+ghost use Rattle.seeding.specs.Seeding.{Fills, Finds, HasLength, OpensOnce, SeedStep, Seeds, SeedsFiles, SeedsTree, StopsAtFile, seed_line, seed_words, shelf_and_session};
 
 use crate::leaves::read_tree;
 use crate::seed_fault::SeedFault;
@@ -37,7 +37,7 @@ pub fn seed<N: NodeMap, S: Shelf, W: Sink>(
     report: &mut W,
 ) -> Result<(), SeedFault>
     ensures { Seeds S.opens S.closes S.faults S.under S.File.seen
-        (both shelf.old session.old) (both shelf.new session.new)
+        (shelf_and_session shelf.old session.old) (shelf_and_session shelf.new session.new)
         (W.seen report.old) (W.seen report.new) result }
 {
     seed_files(alloc, session, shelf, report)?;
@@ -55,7 +55,7 @@ fn seed_files<N: NodeMap, S: Shelf, W: Sink>(
     report: &mut W,
 ) -> Result<(), SeedFault>
     ensures { SeedsFiles S.opens S.closes S.faults S.under S.File.seen
-        (both shelf.old session.old) (both shelf.new session.new)
+        (shelf_and_session shelf.old session.old) (shelf_and_session shelf.new session.new)
         (W.seen report.old) (W.seen report.new) result }
 {
     let torrent = session.torrent();
@@ -80,9 +80,11 @@ fn seed_file<N: NodeMap, S: Shelf>(
 ) -> Result<bool, NoMemory>
     requires { IsFileOf session.old.torrent (file_entry file.now) }
     ensures seeds { IfOk result (λ seeded. SeedStep S.opens S.closes S.faults S.under S.File.seen
-        (both shelf.old session.old) (file_entry file.now) seeded (both shelf.new session.new)) }
-    ensures no_memory { OnErr result (StopsAt S.opens S.closes S.faults S.under S.File.seen
-        (both shelf.old session.old) (file_entry file.now) (both shelf.new session.new)) }
+        (shelf_and_session shelf.old session.old) (file_entry file.now) seeded
+        (shelf_and_session shelf.new session.new)) }
+    ensures no_memory { OnErr result (StopsAtFile S.opens S.closes S.faults S.under S.File.seen
+        (shelf_and_session shelf.old session.old) (file_entry file.now)
+        (shelf_and_session shelf.new session.new)) }
     ensures torrent { session.new.torrent ≡ session.old.torrent }
 {
     let torrent = session.torrent();
@@ -117,10 +119,11 @@ fn seed_tree<N: NodeMap, S: Shelf>(
     requires some { 0 < tree.now.length }
     requires small { tree.now.length ≤ 2 ^ 46 }
     ensures seeds { IfOk result (λ seeded. SeedsTree S.opens S.closes S.faults S.under S.File.seen
-        (both shelf.old session.old) (file_entry file.now) number seeded
-        (both shelf.new session.new)) }
-    ensures no_memory { OnErr result (StopsAt S.opens S.closes S.faults S.under S.File.seen
-        (both shelf.old session.old) (file_entry file.now) (both shelf.new session.new)) }
+        (shelf_and_session shelf.old session.old) (file_entry file.now) number seeded
+        (shelf_and_session shelf.new session.new)) }
+    ensures no_memory { OnErr result (StopsAtFile S.opens S.closes S.faults S.under S.File.seen
+        (shelf_and_session shelf.old session.old) (file_entry file.now)
+        (shelf_and_session shelf.new session.new)) }
     ensures torrent { session.new.torrent ≡ session.old.torrent }
 {
     let Ok(found) = find_tree(alloc, shelf, file, tree) else {

@@ -1,5 +1,6 @@
 //! Reports of worked folders, over shelves in memory.
-use crate::{MemFile, MemShelf, Shelf, check, print_report};
+use crate::memory::{MemFile, MemShelf};
+use crate::{Shelf, check, print_report};
 use benc::memory::MemSink;
 use metainfo::Torrent;
 use std::test::Fail;

@@ -7,7 +7,8 @@ use benc::DeviceFault;
 use benc::memory::MemSource;
 use drafts::Draft;
 use filetree::Refusal;
-use folders::{MemFile, MemShelf, Shelf, ShelfFault};
+use folders::memory::{MemFile, MemShelf};
+use folders::{Shelf, ShelfFault};
 use std::test::Fail;
 
 // A file of two blocks.

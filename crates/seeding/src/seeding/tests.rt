@@ -1,7 +1,8 @@
 //! Seeding from the torrent of one file, whose content is `abc`.
 use crate::seeding::seed;
 use benc::memory::MemSink;
-use folders::{MemFile, MemShelf, Shelf};
+use folders::Shelf;
+use folders::memory::{MemFile, MemShelf};
 use metainfo::Torrent;
 use session::{Flat, Session};
 use std::test::Fail;

@@ -1,18 +1,14 @@
-use Rattle.std.proofs.Common.{◌≡◌, ◌*◌, ap, refl, sym, subst, arith}
-use Rattle.metainfo.specs.Description.{TreeEntry}
+use Rattle.std.proofs.Common.{◌≡◌, ◌*◌, ap, refl, arith}
 use Rattle.metainfo.specs.Seen.{file_entry, tree_entry}
-use Rattle.metainfo.specs.Sound.{IsSoundTree}
 use Rattle.folders.specs.Feeding.{FeedsBoth}
 use Rattle.folders.proofs.Places.{start_fits}
-use Rattle.folders.proofs.Pieces.{filled_to, finished, opened, other_count, read_whole, room_for_all, wrong_length}
+use Rattle.folders.proofs.Pieces.{filled_to, finished, opened_verdict, other_count, read_whole, room_for_all, wrong_length}
 use Rattle.folders.proofs.Reports.{has_tree, sound_tree}
 use Rattle.folders.proofs.checking.check_tree.Goals as goal
 
-pub piece_check-requires-clause-sound : goal.piece_check-requires-clause-sound
-piece_check-requires-clause-sound g c =
-    let e : TreeEntry = tree_entry c.args.tree.now in
-    subst (λ p. IsSoundTree p e) (sym c.piece_length-piece_length.ensures)
-    (sound_tree c.args.torrent.now (file_entry c.args.file.now) e c.sound.ensures c.requires.tree)
+pub piece_check-requires : goal.piece_check-requires
+piece_check-requires g c =
+    sound_tree c.args.torrent.now (file_entry c.args.file.now) (tree_entry c.args.tree.now) c.sound.ensures c.requires.tree
 
 pub overflow_mul-file : goal.overflow_mul-file
 overflow_mul-file g c =
@@ -41,7 +37,7 @@ tree_verdict-requires-clause-told g c =
     let tree = has_tree c.args.torrent.now c.requires.file.0 (file_entry c.args.file.now) e c.sound.ensures c.requires.file.1 c.requires.tree in
     let read = read_whole FeedsBoth _ _ _ _ _ _ _ c.if-ne.false c.ne.ensures c.in_ok-take_all.ensures.read in (
       read.bytes,
-      finished _ c.args.torrent.now.piece_length _ _ e _ _ _ _ _ _ _ read tree.0 c.piece_length-piece_length.ensures
+      finished c.args.torrent.now.piece_length _ _ e _ _ _ _ _ _ _ read tree.0
           c.piece_check.ensures.layer c.piece_check.ensures.content c.finish-place.ensures,
     )
 
@@ -57,9 +53,9 @@ returns-clause-verdict g c =
     let e = tree_entry c.args.tree.now in
     let tree = has_tree t c.requires.file.0 f e c.sound.ensures c.requires.file.1 c.requires.tree in
     let read = read_whole FeedsBoth _ _ _ _ _ _ _ c.if-ne.false c.ne.ensures c.in_ok-take_all.ensures.read in
-    let told = finished _ t.piece_length _ _ e _ _ _ _ _ c.finish-place.result.1 c.finish-place.result.2 read tree.0 c.piece_length-piece_length.ensures
+    let told = finished t.piece_length _ _ e _ _ _ _ _ c.finish-place.result.1 c.finish-place.result.2 read tree.0
     c.piece_check.ensures.layer c.piece_check.ensures.content c.finish-place.ensures in
-    opened t f _ _ _ _ _ _ c.args.stream.now.feed c.fill_to.new.self.feed _ _ read refl tree.1
+    opened_verdict t f _ _ _ _ _ _ c.args.stream.now.feed c.fill_to.new.self.feed _ _ read refl tree.1
     (ap (λ s. s.feed) c.take.ensures.taken) refl
     (filled_to c.args.file.now.first_piece _ _ _ _ c.piece_length-piece_length.ensures c.fill_to.ensures)
     c.tree_verdict.ensures.readable (c.tree_verdict.ensures.verdict read.bytes told)

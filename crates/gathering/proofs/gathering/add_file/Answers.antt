@@ -18,7 +18,7 @@ add-requires-clause-layer g c =
     let visits = c.in_ok-hashes.ensures.visits in
     let d = c.args.draft.now in
     let hashes = of_draft d _ _ _ _ c.requires.piece_length c.requires.hybrid visits.3 in
-    fits_layer d _ visits.0 _ c.deref-2.result.now (subst IsPieceLength (sym c.requires.piece_length) c.requires.legal)
+    fits_layer d _ visits.0 _ c.deref-2.result.now (subst IsPieceLength (sym c.requires.piece_length) c.is_legal.ensures)
     (given_is d (map (λ s. s.now) c.args.path.now) visits.0 c.in_ok-hashes.hashes hashes)
     (c.deref-2.ensures.value ∙ hashes.layer_is)
     (subst (All (λ h. length h ≡ 32)) (c.deref.ensures.value ∙ sym c.deref-2.ensures.value) c.are_hashes.ensures)

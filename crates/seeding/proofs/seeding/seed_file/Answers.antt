@@ -1,12 +1,12 @@
 use Rattle.std.proofs.Common.{[], ap, subst, ◌∙◌, rules}
 use Rattle.metainfo.specs.Seen.{file_entry}
 use Rattle.metainfo.specs.Sound.{IsSound}
-use Rattle.seeding.proofs.Trees.{tree_at}
+use Rattle.seeding.proofs.Trees.{found_tree}
 use Rattle.seeding.proofs.seeding.seed_file.Goals as goal
 
 pub bounds-trees-number : goal.bounds-trees-number
 bounds-trees-number g c =
-    (tree_at c.args.session.now.torrent (file_entry c.args.file.now) c.in-Some.number c.trees.result.now (record { root = []; length = 0; layer = record { ref_ptr = (0, 0); now = [] } })
+    (found_tree c.args.session.now.torrent (file_entry c.args.file.now) c.in-Some.number c.trees.result.now (record { root = []; length = 0; layer = record { ref_ptr = (0, 0); now = [] } })
     (c.trees.ensures ∙ ap (λ t. t.trees) c.torrent-torrent.ensures) (subst IsSound c.torrent-torrent.ensures c.sound.ensures) c.requires c.in-Some.is).0
 
 pub offset_bounds-trees-number : goal.offset_bounds-trees-number
@@ -14,20 +14,20 @@ offset_bounds-trees-number g c = let lt = bounds-trees-number g c in search rule
 
 pub seed_tree-requires-clause-tree : goal.seed_tree-requires-clause-tree
 seed_tree-requires-clause-tree g c =
-    (tree_at c.args.session.now.torrent (file_entry c.args.file.now) c.in-Some.number c.trees.result.now _
+    (found_tree c.args.session.now.torrent (file_entry c.args.file.now) c.in-Some.number c.trees.result.now _
     (c.trees.ensures ∙ ap (λ t. t.trees) c.torrent-torrent.ensures) (subst IsSound c.torrent-torrent.ensures c.sound.ensures) c.requires c.in-Some.is).1.there
 
 pub seed_tree-requires-clause-same : goal.seed_tree-requires-clause-same
 seed_tree-requires-clause-same g c =
-    (tree_at c.args.session.now.torrent (file_entry c.args.file.now) c.in-Some.number c.trees.result.now _
+    (found_tree c.args.session.now.torrent (file_entry c.args.file.now) c.in-Some.number c.trees.result.now _
     (c.trees.ensures ∙ ap (λ t. t.trees) c.torrent-torrent.ensures) (subst IsSound c.torrent-torrent.ensures c.sound.ensures) c.requires c.in-Some.is).1.same
 
 pub seed_tree-requires-clause-some : goal.seed_tree-requires-clause-some
 seed_tree-requires-clause-some g c =
-    (tree_at c.args.session.now.torrent (file_entry c.args.file.now) c.in-Some.number c.trees.result.now _
+    (found_tree c.args.session.now.torrent (file_entry c.args.file.now) c.in-Some.number c.trees.result.now _
     (c.trees.ensures ∙ ap (λ t. t.trees) c.torrent-torrent.ensures) (subst IsSound c.torrent-torrent.ensures c.sound.ensures) c.requires c.in-Some.is).1.some
 
 pub seed_tree-requires-clause-small : goal.seed_tree-requires-clause-small
 seed_tree-requires-clause-small g c =
-    (tree_at c.args.session.now.torrent (file_entry c.args.file.now) c.in-Some.number c.trees.result.now _
+    (found_tree c.args.session.now.torrent (file_entry c.args.file.now) c.in-Some.number c.trees.result.now _
     (c.trees.ensures ∙ ap (λ t. t.trees) c.torrent-torrent.ensures) (subst IsSound c.torrent-torrent.ensures c.sound.ensures) c.requires c.in-Some.is).1.small

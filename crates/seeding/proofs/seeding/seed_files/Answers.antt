@@ -1,7 +1,7 @@
 use Rattle.std.proofs.Common.{ap, ◌∙◌}
 use Rattle.metainfo.specs.Seen.{file_entry}
 use Rattle.folders.proofs.Places.{file_there}
-use Rattle.seeding.specs.Seeding.{both}
+use Rattle.seeding.specs.Seeding.{shelf_and_session}
 use Rattle.seeding.proofs.Seeds.{in_seed_more}
 use Rattle.seeding.proofs.seeding.seed_files.Goals as goal
 
@@ -14,7 +14,7 @@ returns-in_default g c =
       count = c.files.file-index;
       file = file_entry c.file-item.result;
       file_is = file_there c.args.session.now.torrent c.files-entries.result.now c.files.file-index c.file-item.result files c.files-test.true c.file-item.is;
-      mid = both c.files.shelf c.files.session;
+      mid = shelf_and_session c.files.shelf c.files.session;
       run = so_far.run;
       stops = c.in_default.ensures.no_memory;
       sent = so_far.sent;
@@ -30,7 +30,7 @@ returns-in_default-write_line_of g c =
       file = file_entry c.file-item.result;
       file_is = file_there c.args.session.now.torrent c.files-entries.result.now c.files.file-index c.file-item.result files c.files-test.true c.file-item.is;
       seeded = c.in-Ok.seeded;
-      between = both c.files.shelf c.files.session;
+      between = shelf_and_session c.files.shelf c.files.session;
       run = so_far.run;
       last = c.in-Ok.ensures.seeds;
       mid = g.W.Sink.seen c.files.report;
@@ -44,7 +44,7 @@ files-preserved g c =
     record {
       same = c.in-Ok.ensures.torrent ∙ c.files.invariant.same;
       so_far = in_seed_more g.S.Shelf.opens g.S.Shelf.closes g.S.Shelf.faults g.S.Shelf.under g.S.File.Source.seen
-          (both c.args.shelf.now c.args.session.now) (both c.files.shelf c.files.session) (both c.seed_file.new.shelf c.seed_file.new.session)
+          (shelf_and_session c.args.shelf.now c.args.session.now) (shelf_and_session c.files.shelf c.files.session) (shelf_and_session c.seed_file.new.shelf c.seed_file.new.session)
           (g.W.Sink.seen c.args.report.now) (g.W.Sink.seen c.files.report) (g.W.Sink.seen c.write_line_of.new.out)
           c.args.session.now.torrent.files c.files.file-index (file_entry c.file-item.result) c.in-Ok.seeded
           (file_there c.args.session.now.torrent c.files-entries.result.now c.files.file-index c.file-item.result files c.files-test.true c.file-item.is)

@@ -3,8 +3,8 @@ use Rattle.std.proofs.lemmas.List.{map-append}
 use Rattle.folders.specs.MemShelf.{path_of}
 use Rattle.folders.specs.Shelf.{IsEachOnce, path_bytes}
 use Rattle.folders.proofs.Shelves.{listed_again, listed_push}
-use Rattle.folders.proofs.mem_shelf.paths_of.Goals as goal
-use Rattle.folders.proofs.mem_shelf.paths_of.Goals.{then-is_none+in_ok-owned+in_ok-push, else-is_none}
+use Rattle.folders.proofs.memory.shelf.paths_of.Goals as goal
+use Rattle.folders.proofs.memory.shelf.paths_of.Goals.{then-is_none+in_ok-owned+in_ok-push, else-is_none}
 
 pub files-preserved : goal.files-preserved
 files-preserved c =

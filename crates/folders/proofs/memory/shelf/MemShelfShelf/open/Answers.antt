@@ -1,7 +1,7 @@
 use Rattle.std.proofs.Common.{◌∙◌, ap, sym, option_map}
 use Rattle.folders.proofs.MemCalls.{opened_as, same_calls}
 use Rattle.folders.specs.MemShelfCalls.{seen_of}
-use Rattle.folders.proofs.mem_shelf.MemShelfShelf.open.Goals as goal
+use Rattle.folders.proofs.memory.shelf.MemShelfShelf.open.Goals as goal
 
 pub returns-in-Some-clause-opens : goal.returns-in-Some-clause-opens
 returns-in-Some-clause-opens c = (

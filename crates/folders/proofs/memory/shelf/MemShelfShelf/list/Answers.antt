@@ -1,7 +1,7 @@
 use Rattle.std.proofs.Common.{map, rules}
 use Rattle.folders.specs.Shelf.{path_bytes}
 use Rattle.folders.proofs.Shelves.{first_is_there, none_without_first}
-use Rattle.folders.proofs.mem_shelf.MemShelfShelf.list.Goals as goal
+use Rattle.folders.proofs.memory.shelf.MemShelfShelf.list.Goals as goal
 
 pub returns-in_ok-owned-in-Some-clause-listed : goal.returns-in_ok-owned-in-Some-clause-listed
 returns-in_ok-owned-in-Some-clause-listed c =

@@ -2,7 +2,7 @@ use Rattle.std.proofs.Common.{◌+◌, ◌%◌, ◌^◌, ◌<◌, ◌∙◌, ap,
 use Rattle.folders.proofs.Counts.{more_is}
 use Rattle.folders.proofs.MemCalls.{same_faults}
 use Rattle.folders.specs.MemShelfCalls.{seen_of}
-use Rattle.folders.proofs.mem_shelf.MemShelfShelf.close.Goals as goal
+use Rattle.folders.proofs.memory.shelf.MemShelfShelf.close.Goals as goal
 
 pub returns-clause-counts : goal.returns-clause-counts
 returns-clause-counts c =

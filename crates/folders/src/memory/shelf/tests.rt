@@ -1,5 +1,6 @@
 //! What a shelf in memory lists and opens.
-use crate::{MemFile, MemShelf, Shelf, ShelfFault};
+use crate::memory::{MemFile, MemShelf};
+use crate::{Shelf, ShelfFault};
 use benc::Source;
 use std::test::Fail;
 

@@ -1,99 +1,14 @@
-//! A shelf over memory, for tests: it counts its openings, and fails at a set call.
+//! A shelf over memory: it counts its openings, and fails at a set call.
 ghost use Rattle.std.specs.Prelude.{◌≡◌, ◌-◌, ◌^◌, ◌<◌, [], map, Some, None, option_map, IfOk, true, false};
 ghost use Rattle.folders.specs.MemShelf.{first_with, path_of};
-ghost use Rattle.folders.specs.Shelf.{IsEachOnce, is_path, path_bytes};
+ghost use Rattle.folders.specs.Shelf.{IsEachOnce, path_bytes};
 
+use crate::memory::file::MemFile;
 use crate::shelf::Shelf;
 use crate::shelf_fault::ShelfFault;
 use benc::memory::{Calls, MemSource};
 use benc::{DeviceFault, Source};
 use std::alloc::{AllocError, Global};
-
-/// A file of a shelf in memory.
-#[derive(Clone, Copy, Drop)]
-pub struct MemFile<'a> {
-    path: &'a [&'a str],
-    content: &'a [u8],
-    before_fault: Option<u64>,
-}
-
-impl<'a> MemFile<'a> {
-    ghost use Rattle.folders.specs.MemShelfCalls.{IsSourceOf};
-
-    /// A file with these path components and these bytes, whose reads never fail.
-    pub fn new(path: &'a [&'a str], content: &'a [u8]) -> MemFile<'a>
-        ensures path { path_of result ≡ map (λ s. s.now) path.entry.now }
-        ensures content { result.content.now ≡ content.entry.now }
-        ensures succeeds { result.before_fault ≡ None }
-    {
-        MemFile {
-            path,
-            content,
-            before_fault: None,
-        }
-    }
-
-    /// Whenever it is opened, so many reads succeed, and the one after them fails and gives
-    /// nothing. Later ones succeed.
-    pub fn fails_after(mut self, calls: u64) -> MemFile<'a>
-        ensures fails { result.before_fault ≡ Some calls }
-        ensures path { path_of result ≡ path_of self.entry }
-        ensures content { result.content.now ≡ self.entry.content.now }
-    {
-        self.before_fault = Some(calls);
-        self
-    }
-
-    fn has_path(&self, path: &[&str]) -> bool
-        ensures { result ≡ is_path (map (λ s. s.now) path.now) (path_of self.now) }
-    {
-        path == self.path
-    }
-
-    // The file opened, whose reads give at most so many bytes.
-    fn source(&self, at_most: usize) -> MemSource<'a>
-        requires { 0 < at_most }
-        ensures { IsSourceOf self.now at_most result }
-    {
-        let source = MemSource::new(self.content).at_most(at_most);
-        match self.before_fault {
-            Some(calls) => source.fails_after(calls),
-            None => source,
-        }
-    }
-}
-
-// The first of the files that has this path.
-fn find<'f, 'a>(files: &'f [MemFile<'a>], path: &[&str]) -> Option<&'f MemFile<'a>>
-    ensures { option_map (λ f. f.now) result ≡ first_with (map (λ s. s.now) path.now) files.now }
-{
-    files.iter().find(|file| file.has_path(path))
-}
-
-// A path of one's own.
-fn owned(alloc: Global, path: &[&str]) -> Result<Vec<String>, AllocError>
-    ensures { IfOk result (λ owned. path_bytes owned ≡ map (λ s. s.now) path.now) }
-{
-    let mut owned = Vec::new(alloc);
-    'parts: for part in path {
-        owned.push(String::from_str(alloc, part)?)?;
-    }
-    Ok(owned)
-}
-
-// Each path that one of the files has, once.
-fn paths_of(alloc: Global, files: &[MemFile<'_>]) -> Result<Vec<Vec<String>>, AllocError>
-    ensures { IfOk result (λ paths.
-        IsEachOnce (map path_of files.now) (map path_bytes paths.items)) }
-{
-    let mut paths = Vec::new(alloc);
-    'files: for i in 0..files.len() {
-        if find(&files[..i], files[i].path).is_none() {
-            paths.push(owned(alloc, files[i].path)?)?;
-        }
-    }
-    Ok(paths)
-}
 
 /// A shelf that holds these files. Of two with one path it holds the first.
 #[derive(Drop)]
@@ -234,6 +149,38 @@ impl<'a> Shelf for MemShelf<'a> {
     fn failures(&self) -> u64 {
         self.calls.faults
     }
+}
+
+// The first of the files that has this path.
+fn find<'f, 'a>(files: &'f [MemFile<'a>], path: &[&str]) -> Option<&'f MemFile<'a>>
+    ensures { option_map (λ f. f.now) result ≡ first_with (map (λ s. s.now) path.now) files.now }
+{
+    files.iter().find(|file| file.has_path(path))
+}
+
+// A path of one's own.
+fn owned(alloc: Global, path: &[&str]) -> Result<Vec<String>, AllocError>
+    ensures { IfOk result (λ owned. path_bytes owned ≡ map (λ s. s.now) path.now) }
+{
+    let mut owned = Vec::new(alloc);
+    'parts: for part in path {
+        owned.push(String::from_str(alloc, part)?)?;
+    }
+    Ok(owned)
+}
+
+// Each path that one of the files has, once.
+fn paths_of(alloc: Global, files: &[MemFile<'_>]) -> Result<Vec<Vec<String>>, AllocError>
+    ensures { IfOk result (λ paths.
+        IsEachOnce (map path_of files.now) (map path_bytes paths.items)) }
+{
+    let mut paths = Vec::new(alloc);
+    'files: for i in 0..files.len() {
+        if find(&files[..i], files[i].path).is_none() {
+            paths.push(owned(alloc, files[i].path)?)?;
+        }
+    }
+    Ok(paths)
 }
 
 #[cfg(test)]
