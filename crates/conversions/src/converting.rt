@@ -140,7 +140,8 @@ fn convert_frames<R: Source, W: Sink>(
     ensures { (first : SourceSeen) (start : SinkSeen)
         → GaveFaultless first (R.seen source.old) (take held buffer.old)
         → Sent start (W.seen out.old) header
-        → ReadingEnds first (R.seen source.new) start (W.seen out.new) (take held buffer.old) result }
+        → ReadingEnds first (R.seen source.new) start (W.seen out.new) (take held buffer.old)
+        result }
 {
     let mut gathered = Gathered::new();
     let mut left = 0;
