@@ -31,10 +31,12 @@ def sources(crate):
 
 
 def exported(crate):
-    """The names that a library exports, and the modules that it exports whole."""
+    """The names that a library and its public modules export, and those modules, which it exports whole."""
     root = text_of(CRATES, crate, "src", "lib.rt")
-    listed = " ".join(re.findall(r"^pub use (?:\w+::)*([^;]*);", root, re.M))
-    return set(WORD.findall(listed)), set(re.findall(r"^pub mod (\w+);", root, re.M))
+    modules = set(re.findall(r"^pub mod (\w+);", root, re.M))
+    texts = [root, *(text_of(CRATES, crate, "src", f"{name}.rt") for name in modules)]
+    listed = re.findall(r"^pub use (?:\w+::)*([^;]*);", "\n".join(texts), re.M)
+    return set(WORD.findall(" ".join(listed))), modules
 
 
 def public_contracts(text, names, is_exported):
