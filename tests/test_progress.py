@@ -154,11 +154,11 @@ def test_convert():
         assert status == 2 and len(drawn(sent)) > 1, sent
         assert screen(sent) == ["fault: record is truncated: /dev/stdin", ""], sent
         # the bytes in all are those of the record, which is so long that it takes far more than a tenth of a second
-        long = zeros(place, "long", 512 * MIB)
+        long = zeros(place, "long", 256 * MIB)
         status, out, sent = on_terminal("convert", long, "/dev/null", columns=500)
         checks = [OF_ALL.fullmatch(line) for line in drawn(sent)]
         assert (status, out) == (0, "") and checks and all(checks) and screen(sent) == [""], (out, sent)
-        assert {(match[2], match[5]) for match in checks} == {("512.0 MiB", f": {long}")}, sent
+        assert {(match[2], match[5]) for match in checks} == {("256.0 MiB", f": {long}")}, sent
         done = run("convert", long, "/dev/null")
         assert (done.returncode, done.stdout, done.stderr) == (0, b"", b"")
 

@@ -17,9 +17,11 @@ pub use Rattle.folders.specs.Pass
 pub use Rattle.folders.specs.Printed
 pub use Rattle.folders.specs.Visits
 pub use Rattle.folders.specs.TakeAll
+pub use Rattle.folders.specs.declared.shelf_fault.ShelfFault
 pub use Rattle.folders.specs.Feeding
 pub use Rattle.gathering.specs.Gathered
 pub use Rattle.gathering.specs.Gathering
+pub use Rattle.gathering.specs.declared.gather_fault.GatherFault
 pub use Rattle.records.specs.Answering
 pub use Rattle.records.specs.Replay
 pub use Rattle.records.specs.ReplayLines

@@ -1,5 +1,6 @@
 //! What each command answers over any devices: what goes out, and the exit status that follows.
-ghost use Rattle.std.specs.Prelude.{◌≡◌, ◌≢◌, ◌^◌, ◌≤◌, ◌↔◌, ℕ, List, None, Some, Ok, IfErr, IfOk, OnOk, codes, length, map, not, true, false};
+ghost use Rattle.std.specs.Prelude.{◌≡◌, ◌≢◌, ◌^◌, ◌≤◌, ◌↔◌, ℕ, List, [], None, Some, Ok, Err, IfErr, IfOk, OnOk, String, codes, length, map, not, true, false};
+ghost use Rattle.std.specs.Global.{Global, Vec};
 ghost use Rattle.std.specs.String.{string_bytes};
 ghost use Rattle.benc.specs.Device.{SentAndFlushed};
 ghost use Rattle.benc.specs.Text.{spelling};
@@ -9,9 +10,12 @@ ghost use Rattle.checker.specs.Refused.{refusal_text};
 ghost use Rattle.checker.specs.Show.{show_text};
 ghost use Rattle.checker.specs.Replay.{replay_seen};
 ghost use Rattle.checker.specs.Seeding.{IsSeeded, shelf_and_session};
+ghost use Rattle.drafts.specs.Finishing.{finish_rows};
 ghost use Rattle.drafts.specs.Written.{value_of};
+ghost use Rattle.metainfo.specs.Tests.{First};
+ghost use Rattle.checker.specs.Shelf.{path_bytes};
 ghost use Rattle.session.specs.Fresh.{IsFresh};
-ghost use Rattle.commands.specs.Answers.{IsChecked, IsReplayed, answer_status};
+ghost use Rattle.commands.specs.Answers.{IsChecked, IsReplayed, IsToldAs, IsUnprinted, answer_status};
 
 use benc::memory::MemSink;
 use benc::{Sink, Source};
@@ -59,6 +63,7 @@ pub fn refuse<'a, W: Sink>(refusal: &Refusal, path: &[String], out: &mut W) -> R
     ensures status { IfOk result (λ s. s ≡ answer_status false) }
     ensures line { OnOk result (SentAndFlushed (W.seen out.old) (W.seen out.new)
         (refusal_text refusal.now (map string_bytes path.now))) }
+    ensures fault { IfErr result IsUnprinted }
 {
     match refusal {
         Refusal::NoMemory => Err(Fault::NoMemory),
@@ -168,7 +173,14 @@ pub fn gather<'a, S: Shelf, W: Sink>(
     ensures gathered { IfOk result (λ found. IfOk found (λ draft. Gathers S.opens S.closes S.faults
         S.under S.File.seen S.listing S.lists asked.now.name.now asked.now.piece_length
         asked.now.hybrid shelf.old shelf.new (Ok draft))) }
-    ensures refused { IfOk result (λ found. IfErr found (λ s. s ≡ answer_status false)) }
+    ensures refused { IfOk result (λ found. IfErr found (λ s. (s ≡ answer_status false)
+        × (r : Refusal) × (path : Vec (String Global)) × Gathers S.opens S.closes S.faults S.under
+        S.File.seen S.listing S.lists asked.now.name.now asked.now.piece_length asked.now.hybrid
+        shelf.old shelf.new (Err (GatherFault.Refused r path)) × SentAndFlushed (W.seen out.old)
+        (W.seen out.new) (refusal_text r (path_bytes path)))) }
+    ensures fault { IfErr result (λ f. (g : GatherFault) × Gathers S.opens S.closes S.faults S.under
+        S.File.seen S.listing S.lists asked.now.name.now asked.now.piece_length asked.now.hybrid
+        shelf.old shelf.new (Err g) × IsToldAs (Fault.Read asked.now.dir) g f) }
 {
     match checker::gather(alloc, shelf, asked.name, asked.piece_length, asked.hybrid) {
         Ok(draft) => Ok(Ok(draft)),
@@ -189,8 +201,9 @@ pub fn write_torrent<'a, W: Sink, O: Sink>(
 ) -> Result<u8, Fault<'a>>
     ensures written { IfOk result (λ s. s ≡ answer_status true → SentAndFlushed
         (W.seen torrent.old) (W.seen torrent.new) (spelling (value_of draft.now))) }
-    ensures refused { IfOk result (λ s. s ≢ answer_status true → W.seen torrent.new
-        ≡ W.seen torrent.old) }
+    ensures refused { IfOk result (λ s. s ≢ answer_status true → (W.seen torrent.new
+        ≡ W.seen torrent.old) × (r : Refusal) × First (finish_rows draft.now) r
+        × SentAndFlushed (O.seen out.old) (O.seen out.new) (refusal_text r [])) }
 {
     match draft.finish(torrent) {
         Ok(()) => Ok(status(true)),
@@ -222,7 +235,9 @@ pub fn convert<'a, R: Source, W: Sink, O: Sink>(
 }
 
 // Why the folder with this path could not be listed.
-fn listing_fault<'a>(fault: ShelfFault, dir: &'a str) -> Fault<'a> {
+fn listing_fault<'a>(fault: ShelfFault, dir: &'a str) -> Fault<'a>
+    ensures { IsToldAs (Fault.Read dir.entry) (GatherFault.List fault) result }
+{
     match fault {
         ShelfFault::Device => Fault::Read(dir),
         ShelfFault::Name => Fault::NotUtf8,
