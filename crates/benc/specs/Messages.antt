@@ -7,12 +7,15 @@ use Rattle.benc.specs.declared.fault.Fault.{Fault}
 use Rattle.benc.specs.declared.fault.FaultKind.{FaultKind}
 use Rattle.benc.specs.declared.fault.FaultKind.TheVariants as kinds
 
+-- what is printed of a device fault
 abbrev pub device_fault_text : DeviceFault → List ℕ
 device_fault_text fault = codes "the device failed"
 
+-- what is printed of a write fault
 abbrev pub write_fault_text : WriteFault → List ℕ
 write_fault_text Write = codes "cannot write"
 
+-- the printed name of a kind of bencoding fault
 abbrev pub kind_name : FaultKind → List ℕ
 kind_name kinds.Truncated = codes "Truncated"
 kind_name kinds.BadStart = codes "BadStart"

@@ -15,6 +15,7 @@ key_text keys.Name = codes "name"
 key_text keys.PieceLength = codes "piece length"
 key_text keys.PieceLayers = codes "piece layers"
 
+-- the printed number of a refusal of a torrent
 abbrev pub refusal_number : Refusal → ℕ
 refusal_number refusals.TooLarge = 1
 refusal_number (refusals.NotBencode f) = 2
@@ -40,6 +41,7 @@ refusal_number refusals.NoMemory = 21
 refusal_number refusals.PathClash = 22
 refusal_number refusals.Write = 23
 
+-- the printed name of a refusal of a torrent
 abbrev pub refusal_name : Refusal → List ℕ
 refusal_name refusals.TooLarge = codes "TooLarge"
 refusal_name (refusals.NotBencode f) = codes "NotBencode"

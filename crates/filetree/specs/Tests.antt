@@ -13,6 +13,7 @@ abbrev pub First : List TestRow → Refusal → Type 0
 First [] r = ⊥
 First (t ∷ ts) r = (t.holds × (r ≡ t.answer)) ⊎ ((t.holds → ⊥) × First ts r)
 
+-- none of these tests holds
 abbrev pub NoneHolds : List TestRow → Type 0
 NoneHolds [] = Unit {0}
 NoneHolds (t ∷ ts) = (t.holds → ⊥) × NoneHolds ts

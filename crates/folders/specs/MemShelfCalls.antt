@@ -24,6 +24,7 @@ pub record MemShelfSeen : Type 0 where
   pub faults : ℕ
   pub openings : ℕ
 
+-- a shelf in memory as a test sees it
 abbrev pub seen_of : MemShelf → MemShelfSeen
 seen_of s = record {
   files = s.files.now;

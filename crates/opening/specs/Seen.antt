@@ -5,6 +5,7 @@ use Rattle.opening.specs.declared.torrent.File.{File}
 use Rattle.opening.specs.declared.torrent.TreeInfo.{TreeInfo}
 use Rattle.pieces.specs.declared.v1.V1.{V1}
 
+-- a file of a torrent, without where it lies in memory
 abbrev pub file_entry : File → FileEntry
 file_entry f = record {
   path = f.path;
@@ -13,9 +14,11 @@ file_entry f = record {
   first_piece = f.first_piece;
 }
 
+-- a tree of a torrent, without where it lies in memory
 abbrev pub tree_entry : TreeInfo → TreeEntry
 tree_entry t = record { root = t.root; length = t.length; layer = t.layer.now }
 
+-- the version 1 part of a torrent, without where it lies in memory
 abbrev pub version1 : V1 → Version1
 version1 v = record { pieces = v.pieces.now; total = v.total }
 

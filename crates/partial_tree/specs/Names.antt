@@ -16,6 +16,7 @@ hash_refusal_number Mismatch = 6
 hash_refusal_number NoMemory = 7
 hash_refusal_number Unasked = 8
 
+-- the printed name of a refusal of hashes
 abbrev pub hash_refusal_name : HashRefusal → List ℕ
 hash_refusal_name UnknownRoot = codes "UnknownRoot"
 hash_refusal_name BadRange = codes "BadRange"
@@ -26,12 +27,14 @@ hash_refusal_name Mismatch = codes "Mismatch"
 hash_refusal_name NoMemory = codes "NoMemory"
 hash_refusal_name Unasked = codes "Unasked"
 
+-- the printed number of a refusal of a block
 abbrev pub block_refusal_number : BlockRefusal → ℕ
 block_refusal_number BadPlace = 1
 block_refusal_number BadSize = 2
 block_refusal_number Unproved = 3
 block_refusal_number BadBlock = 4
 
+-- the printed name of a refusal of a block
 abbrev pub block_refusal_name : BlockRefusal → List ℕ
 block_refusal_name BadPlace = codes "BadPlace"
 block_refusal_name BadSize = codes "BadSize"

@@ -130,10 +130,11 @@ Finishes old new answers answers' line (Err e) =
     (BrokeOrUnflushed old new line × (answers' ≡ answers))
     ⊎ (SentAndFlushed old new line × IsWanted FailedFlush answers answers')
 
--- what callers see of a sink that may be left out, before a call and after it
+-- what callers see, before a call, of a sink that may be left out
 abbrev pub sink_before : {A : Type 0} → (A → SinkSeen) → Option (MutBor A) → Option SinkSeen
 sink_before seen out = option_map (λ a. seen a.now) out
 
+-- what callers see, after a call, of a sink that may be left out
 abbrev pub sink_after : {A : Type 0} → (A → SinkSeen) → Unit {0} ⊎ ((MutBor A × Unit {0}) ⊎ ⊥)
     → Option SinkSeen
 sink_after seen (inl u) = None

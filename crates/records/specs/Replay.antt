@@ -153,6 +153,7 @@ pub record ReplaySeen : Type 0 where
   pub report : SinkSeen
   pub answers : Option SinkSeen
 
+-- the state of a replay, of the states of its parts
 abbrev pub replay_seen : SourceSeen → SessionSeen → SinkSeen → Option SinkSeen → ReplaySeen
 replay_seen source session report answers =
     record { source = source; session = session; report = report; answers = answers }
