@@ -7,11 +7,11 @@ use hashtree::PieceCheck;
 
 /// The check of a file's tree and the version 1 stream, fed together.
 #[derive(Drop)]
-pub struct FileCheck<'t, 'v> {
+pub(crate) struct FileCheck<'t, 'v> {
     /// The check of the file's tree.
-    pub pieces: PieceCheck<'t>,
+    pub(crate) pieces: PieceCheck<'t>,
     /// The stream, filled up to the file's start.
-    pub stream: Stream<'v>,
+    pub(crate) stream: Stream<'v>,
 }
 
 impl<'t, 'v> Taker for FileCheck<'t, 'v> {

@@ -11,7 +11,7 @@ use std::mem;
 /// The version 1 stream, which goes on while each file is read whole. That of a torrent that is not
 /// a hybrid does not begin.
 #[derive(Drop)]
-pub struct Stream<'a> {
+pub(crate) struct Stream<'a> {
     feed: Option<V1Feed<'a>>,
 }
 
@@ -19,7 +19,7 @@ impl<'a> Stream<'a> {
     ghost use Rattle.folders.specs.Streaming.{StreamEndsAt, FillsTo, HasStreamRoom, IsStreamGiven, CanFillTo, StandsAt, Takes, goes_on};
 
     /// The stream of a hybrid, at its start.
-    pub fn of(v1: Option<&V1<'a>>, piece_length: u64) -> Stream<'a>
+    pub(crate) fn of(v1: Option<&V1<'a>>, piece_length: u64) -> Stream<'a>
         requires { 0 < piece_length }
         ensures begins { goes_on result ≡ is_some v1.entry }
         ensures stands { StandsAt result.feed 0 }
@@ -33,7 +33,7 @@ impl<'a> Stream<'a> {
     }
 
     /// Takes zeros up to this place, which it has not passed and which is not past its end.
-    pub fn fill_to(&mut self, place: u64)
+    pub(crate) fn fill_to(&mut self, place: u64)
         requires { CanFillTo self.old.feed place }
         ensures { FillsTo self.old.feed place self.new.feed }
     {
@@ -43,7 +43,7 @@ impl<'a> Stream<'a> {
     }
 
     /// Takes these bytes, no more than are still to come.
-    pub fn push(&mut self, bytes: &[u8])
+    pub(crate) fn push(&mut self, bytes: &[u8])
         requires { HasStreamRoom self.old.feed (length bytes.now) }
         ensures { Takes self.old.feed self.new.feed bytes.now }
     {
@@ -53,7 +53,7 @@ impl<'a> Stream<'a> {
     }
 
     /// Hands the stream out, and is ended until it is put back.
-    pub fn take(&mut self) -> Stream<'a>
+    pub(crate) fn take(&mut self) -> Stream<'a>
         ensures taken { result ≡ self.old }
         ensures ended { self.new.feed ≡ None }
     {
@@ -61,14 +61,14 @@ impl<'a> Stream<'a> {
     }
 
     /// Ends the stream: a file was not read whole.
-    pub fn stop(&mut self)
+    pub(crate) fn stop(&mut self)
         ensures { self.new.feed ≡ None }
     {
         self.feed = None;
     }
 
     /// Takes zeros to the end, and tells what was found.
-    pub fn finish(self) -> V1Verdict
+    pub(crate) fn finish(self) -> V1Verdict
         ensures checked { is_checked result ≡ goes_on self.entry }
         ensures within { (from total : ℕ) → goes_on self.entry ≡ true
             → StandsAt self.entry.feed from → StreamEndsAt self.entry.feed total → from ≤ total }

@@ -9,7 +9,7 @@ use hashtree::{Hash, NoMemory};
 use std::alloc::Global;
 
 /// Pages by their numbers, however they are kept.
-pub trait Directory: Drop {
+pub(crate) trait Directory: Drop {
     /// The page of a number, if there is one.
     ghost find: { Self → Numbered };
 

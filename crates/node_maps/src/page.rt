@@ -10,11 +10,11 @@ use hashtree::{Hash, NoMemory};
 use std::alloc::Global;
 
 /// How many places a page holds.
-pub const PAGE_LENGTH: usize = 512;
+pub(crate) const PAGE_LENGTH: usize = 512;
 
 /// What is known at a place, and whether its leaf is marked.
 #[derive(Clone, Copy)]
-pub enum Cell {
+pub(crate) enum Cell {
     Empty,
     Known(Hash),
     Marked(Hash),
@@ -24,7 +24,7 @@ impl Cell {
     ghost use Rattle.node_maps.specs.Cell.{hash_of, mark_of};
 
     /// The hash, if there is one.
-    pub fn hash(self) -> Option<Hash>
+    pub(crate) fn hash(self) -> Option<Hash>
         ensures { result ≡ hash_of self }
     {
         match self {
@@ -35,7 +35,7 @@ impl Cell {
     }
 
     /// Whether the leaf is marked.
-    pub fn is_marked(self) -> bool
+    pub(crate) fn is_marked(self) -> bool
         ensures { result ≡ mark_of self }
     {
         match self {
@@ -45,7 +45,7 @@ impl Cell {
     }
 
     /// The cell with a hash, and with a mark, if it has one or is to have one.
-    pub fn with_hash(self, hash: Hash, mark: bool) -> Cell
+    pub(crate) fn with_hash(self, hash: Hash, mark: bool) -> Cell
         ensures { result ≡ with_hash self hash mark }
     {
         if mark || self.is_marked() {
@@ -58,14 +58,14 @@ impl Cell {
 
 /// The cells of 512 places side by side.
 #[derive(Drop)]
-pub struct Page {
+pub(crate) struct Page {
     cells: Vec<Cell>,
     ghost long: { length cells.items ≡ 512 },
 }
 
 impl Page {
     /// A page that holds nothing. It is filled on the heap.
-    pub fn blank(alloc: Global) -> Result<Page, NoMemory>
+    pub(crate) fn blank(alloc: Global) -> Result<Page, NoMemory>
         ensures { IfOk result (λ page. page.cells.items ≡ replicate 512 Empty) }
     {
         let mut cells = Vec::with_capacity(alloc, PAGE_LENGTH)?;
@@ -74,7 +74,7 @@ impl Page {
     }
 
     /// The cell of a place. Condition: the place is below 512.
-    pub fn cell(&self, place: usize) -> Cell
+    pub(crate) fn cell(&self, place: usize) -> Cell
         requires { place < 512 }
         ensures { result ≡ slice_index_or self.now.cells.items place Empty }
     {
@@ -82,7 +82,7 @@ impl Page {
     }
 
     /// Whether `count` places hold a hash, from one on. Condition: `first + count` is at most 512.
-    pub fn knows(&self, first: usize, count: usize) -> bool
+    pub(crate) fn knows(&self, first: usize, count: usize) -> bool
         requires { first + count ≤ 512 }
         ensures { IsTrue result ↔ AreKnown (hash_in self.now.cells.items) first count }
     {
@@ -91,7 +91,7 @@ impl Page {
 
     /// Appends the hashes of `count` places that hold one, from one on, to a list that has room for
     /// them. Condition: `first + count` is at most 512.
-    pub fn copy_to(&self, first: usize, count: usize, out: &mut Vec<Hash>)
+    pub(crate) fn copy_to(&self, first: usize, count: usize, out: &mut Vec<Hash>)
         requires inside { first + count ≤ 512 }
         requires known { AreKnown (hash_in self.now.cells.items) first count }
         requires room { vec_len out.old + count ≤ vec_capacity out.old }
@@ -105,7 +105,7 @@ impl Page {
 
     /// Writes the hash of a place, and marks it, if `mark` says so. A mark that is there stays.
     /// Condition: the place is below 512.
-    pub fn put(&mut self, place: usize, hash: Hash, mark: bool)
+    pub(crate) fn put(&mut self, place: usize, hash: Hash, mark: bool)
         requires { place < 512 }
         ensures { self.new.cells.items ≡ set self.old.cells.items place
             (with_hash (slice_index_or self.old.cells.items place Empty) hash mark) }
@@ -114,7 +114,7 @@ impl Page {
     }
 
     /// Whether the page holds nothing.
-    pub fn is_blank(&self) -> bool
+    pub(crate) fn is_blank(&self) -> bool
         ensures { result ≡ is_blank self.now.cells.items }
     {
         holds_nothing(&self.cells)

@@ -21,7 +21,7 @@ const NUMBER_BITS: u32 = 24;
 /// The pages of one layer. Page p holds the places from 512 p on. Pages that hold nothing are among
 /// the fresh ones.
 #[derive(Drop)]
-pub struct PagedRow {
+pub(crate) struct PagedRow {
     alloc: Global,
     pages: Shelves<Shelves<Shelf>>,
     fresh: Vec<u64>,
@@ -35,7 +35,7 @@ impl PagedRow {
 
     /// No page.
     #[tactic(auto, unfolding(crate::specs::PagedRow::pages_of))]
-    pub fn new(alloc: Global) -> PagedRow
+    pub(crate) fn new(alloc: Global) -> PagedRow
         ensures pages { (n : ℕ) → pages_of result n ≡ None }
         ensures count { result.count ≡ 0 }
     {
@@ -49,7 +49,7 @@ impl PagedRow {
 
     /// How many pages there are.
     #[tactic(auto, unfolding(crate::specs::PagedRow::pages_of))]
-    pub fn len(&self) -> u64
+    pub(crate) fn len(&self) -> u64
         ensures value { result ≡ self.now.count }
         ensures small { result ≤ 2 ^ 32 }
     {
@@ -58,7 +58,7 @@ impl PagedRow {
 
     /// The cell of a place; an empty one if there is no page.
     #[tactic(auto, unfolding(crate::specs::PagedRow::pages_of))]
-    pub fn cell(&self, index: u64) -> Cell
+    pub(crate) fn cell(&self, index: u64) -> Cell
         ensures { result ≡ cell_of_row self.now index }
     {
         match self.pages.page(index / PAGE_LENGTH as u64) {
@@ -70,7 +70,7 @@ impl PagedRow {
     /// Whether the hashes of `count` places are known, from one on. Condition: `from + count` is
     /// below 2^64.
     #[tactic(auto, unfolding(crate::specs::PagedRow::pages_of))]
-    pub fn knows(&self, from: u64, count: u64) -> bool
+    pub(crate) fn knows(&self, from: u64, count: u64) -> bool
         requires { from + count < 2 ^ 64 }
         ensures { IsTrue result ↔ AreKnown (row_hashes self.now) from count }
     {
@@ -91,7 +91,7 @@ impl PagedRow {
     /// Appends the hashes of `count` known places, from one on, to a list that has room for them.
     /// Condition: `from + count` is below 2^64.
     #[tactic(auto, unfolding(crate::specs::PagedRow::pages_of))]
-    pub fn copy_to(&self, from: u64, count: u64, out: &mut Vec<Hash>)
+    pub(crate) fn copy_to(&self, from: u64, count: u64, out: &mut Vec<Hash>)
         requires range { from + count < 2 ^ 64 }
         requires known { AreKnown (row_hashes self.now) from count }
         requires room { vec_len out.old + count ≤ vec_capacity out.old }
@@ -112,7 +112,7 @@ impl PagedRow {
     /// Writes the hash of a place that has a page, and marks it, if `mark` says so. A mark that is
     /// there stays.
     #[tactic(auto, unfolding(crate::specs::PagedRow::pages_of))]
-    pub fn put(&mut self, index: u64, hash: Hash, mark: bool)
+    pub(crate) fn put(&mut self, index: u64, hash: Hash, mark: bool)
         requires { HasNumber self.old (index / 512) }
         ensures count { self.new.count ≡ self.old.count }
         ensures here { cell_of_row self.new index
@@ -128,7 +128,7 @@ impl PagedRow {
     /// Makes the pages from one number on up to another that are not there, all or none of them.
     /// What there is stays. Condition: `end` is at most 2^32.
     #[tactic(auto, unfolding(crate::specs::PagedRow::pages_of))]
-    pub fn reserve(&mut self, first: u64, end: u64) -> Result<(), NoMemory>
+    pub(crate) fn reserve(&mut self, first: u64, end: u64) -> Result<(), NoMemory>
         requires { end ≤ 2 ^ 32 }
         ensures cells { AreSameRowCells self.old self.new }
         ensures keeps { KeepsPages self.old self.new }
@@ -170,7 +170,7 @@ impl PagedRow {
 
     /// Gives back the pages that hold nothing.
     #[tactic(auto, unfolding(crate::specs::PagedRow::pages_of))]
-    pub fn trim(&mut self)
+    pub(crate) fn trim(&mut self)
         ensures cells { AreSameRowCells self.old self.new }
         ensures full { AreSpare (pages_of self.new) [] }
     {

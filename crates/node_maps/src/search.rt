@@ -8,7 +8,7 @@ use hashtree::NoMemory;
 
 /// Where the number stands, or where it would go. The place of the last write and the end are
 /// looked at first, since most work is there. Condition: the numbers ascend.
-pub fn search(numbers: &[u64], last: usize, number: u64) -> Result<usize, usize>
+pub(crate) fn search(numbers: &[u64], last: usize, number: u64) -> Result<usize, usize>
     requires { AreRising numbers.now }
     ensures at { IfOk result (IsNumberAt numbers.now number) }
     ensures gap { IfErr result (IsGapFor numbers.now number) }
@@ -24,7 +24,7 @@ pub fn search(numbers: &[u64], last: usize, number: u64) -> Result<usize, usize>
 }
 
 /// Makes room for one number and one item more.
-pub fn make_room<T: Drop>(numbers: &mut Vec<u64>, items: &mut Vec<T>) -> Result<(), NoMemory>
+pub(crate) fn make_room<T: Drop>(numbers: &mut Vec<u64>, items: &mut Vec<T>) -> Result<(), NoMemory>
     ensures numbers { numbers.new.items ≡ numbers.old.items }
     ensures items { items.new.items ≡ items.old.items }
     ensures ok { OnOk result ((vec_len numbers.new < vec_capacity numbers.new)
@@ -35,7 +35,7 @@ pub fn make_room<T: Drop>(numbers: &mut Vec<u64>, items: &mut Vec<T>) -> Result<
 }
 
 /// Puts an item at a place of a list that has room for it.
-pub fn insert_reserved<T: Drop>(items: &mut Vec<T>, at: usize, item: T)
+pub(crate) fn insert_reserved<T: Drop>(items: &mut Vec<T>, at: usize, item: T)
     requires within { at ≤ vec_len items.old }
     requires room { vec_len items.old < vec_capacity items.old }
     ensures items { items.new.items ≡ insert items.old.items at item }

@@ -11,7 +11,7 @@ use std::alloc::Global;
 
 /// Pages in the order of their numbers.
 #[derive(Drop)]
-pub struct Shelf {
+pub(crate) struct Shelf {
     numbers: Vec<u64>,
     pages: Vec<Page>,
     // where the last write was

@@ -16,7 +16,7 @@ const BITS: u32 = 8;
 
 /// Directories in the order of the bits that their pages' numbers begin with.
 #[derive(Drop)]
-pub struct Shelves<D: Drop> {
+pub(crate) struct Shelves<D: Drop> {
     alloc: Global,
     // how many bits the directories are for
     shift: u32,

@@ -12,7 +12,12 @@ use hashtree::{Hash, NoMemory, parent, zero};
 use node_maps::NodeMap;
 
 /// Sets the hash at a place that is not known.
-pub fn add<N: NodeMap>(map: &mut N, layer: u32, index: u64, hash: Hash) -> Result<(), NoMemory>
+pub(crate) fn add<N: NodeMap>(
+    map: &mut N,
+    layer: u32,
+    index: u64,
+    hash: Hash,
+) -> Result<(), NoMemory>
     requires place { IsTreePlace (tree_height (N.length map.old)) layer index }
     requires absent { look (N.known map.old) layer index ≡ None }
     ensures length { N.length map.new ≡ N.length map.old }
@@ -29,7 +34,7 @@ pub fn add<N: NodeMap>(map: &mut N, layer: u32, index: u64, hash: Hash) -> Resul
 }
 
 /// Sets pad leaves, from one place to another.
-pub fn add_pads<N: NodeMap>(map: &mut N, from: u64, to: u64) -> Result<(), NoMemory>
+pub(crate) fn add_pads<N: NodeMap>(map: &mut N, from: u64, to: u64) -> Result<(), NoMemory>
     requires range { from ≤ to }
     requires inside { to ≤ 2 ^ tree_height (N.length map.old) }
     requires absent { (i : ℕ) → from ≤ i → look (N.known map.old) 0 i ≡ None }
@@ -46,7 +51,7 @@ pub fn add_pads<N: NodeMap>(map: &mut N, from: u64, to: u64) -> Result<(), NoMem
 }
 
 /// Sets the parents of all nodes of a layer, of which there are twice `count`.
-pub fn add_parents<N: NodeMap>(map: &mut N, layer: u32, count: u64) -> Result<(), NoMemory>
+pub(crate) fn add_parents<N: NodeMap>(map: &mut N, layer: u32, count: u64) -> Result<(), NoMemory>
     requires layer { layer < tree_height (N.length map.old) }
     requires low { tree_height (N.length map.old) ≤ 32 }
     requires inside { count ≤ 2 ^ (tree_height (N.length map.old) - suc layer) }

@@ -12,7 +12,7 @@ ghost use Rattle.partial_tree.specs.Grown.{AgreeAt, AgreeInRow, AgreeInTree};
 use node_maps::NodeMap;
 
 /// Whether two maps of a tree of this height have one hash wherever both have one.
-pub fn agree<N: NodeMap>(old: &N, new: &N, height: u32) -> bool
+pub(crate) fn agree<N: NodeMap>(old: &N, new: &N, height: u32) -> bool
     requires { height ≤ 32 }
     ensures same { OnTrue result
         (AgreeInTree (look (N.known old.now)) (look (N.known new.now)) height) }
@@ -29,7 +29,7 @@ pub fn agree<N: NodeMap>(old: &N, new: &N, height: u32) -> bool
 
 /// Marks in a map without marks the leaves that another one has marked, which are among the first
 /// `count`. They are known.
-pub fn carry_marks<N: NodeMap>(old: &N, new: &mut N, count: u64)
+pub(crate) fn carry_marks<N: NodeMap>(old: &N, new: &mut N, count: u64)
     requires none { N.marked new.old ≡ set.empty }
     requires known { AreKnown (look (N.known new.old) 0) 0 count }
     requires few { (i : ℕ) → set.contains (N.marked old.now) i ≡ true → i < count }

@@ -12,7 +12,7 @@ use wire::Ask;
 
 /// The hashes of the base range of an ask, and then as many uncles as it asks for beside those that
 /// the range itself gives, the one nearest the root last.
-pub fn answer_hashes<N: NodeMap>(
+pub(crate) fn answer_hashes<N: NodeMap>(
     alloc: Global,
     nodes: &N,
     height: u32,

@@ -13,7 +13,7 @@ use hashtree::Hash;
 use wire::Ask;
 
 /// The span of a base range that lies in a tree of this height, at a multiple of its length.
-pub fn check_range(height: u32, ask: &Ask) -> Result<u32, HashRefusal>
+pub(crate) fn check_range(height: u32, ask: &Ask) -> Result<u32, HashRefusal>
     requires { height ≤ 32 }
     ensures good { IfOk result (λ k. GoodRange height ask.now × (2 ^ k ≡ ask.now.length) × (1 ≤ k)
         × (k ≤ 13)) }
@@ -37,7 +37,12 @@ pub fn check_range(height: u32, ask: &Ask) -> Result<u32, HashRefusal>
 
 /// The layer of the top, if no base hash is missing and the uncles are no more than were asked for
 /// and do not pass the root.
-pub fn check_count(height: u32, ask: &Ask, span: u32, hashes: &[Hash]) -> Result<u32, HashRefusal>
+pub(crate) fn check_count(
+    height: u32,
+    ask: &Ask,
+    span: u32,
+    hashes: &[Hash],
+) -> Result<u32, HashRefusal>
     requires height { height ≤ 32 }
     requires base { ask.now.base ≤ height }
     requires span { 2 ^ span ≡ ask.now.length }
@@ -63,7 +68,13 @@ pub fn check_count(height: u32, ask: &Ask, span: u32, hashes: &[Hash]) -> Result
 }
 
 /// Whether each hash of a layer from a place on that covers nothing of the file is that over pads.
-pub fn base_pads_fit(blocks: u64, base: u32, index: u64, hashes: &[Hash], pads: &mut Pads) -> bool
+pub(crate) fn base_pads_fit(
+    blocks: u64,
+    base: u32,
+    index: u64,
+    hashes: &[Hash],
+    pads: &mut Pads,
+) -> bool
     requires base { base ≤ 32 }
     requires inside { (index + length hashes.now) * 2 ^ base ≤ 2 ^ 32 }
     requires upward { pads.old.layer ≤ base }
@@ -81,7 +92,13 @@ pub fn base_pads_fit(blocks: u64, base: u32, index: u64, hashes: &[Hash], pads: 
 }
 
 /// Whether each uncle above a node that covers nothing of the file is the hash over pads.
-pub fn uncle_pads_fit(blocks: u64, cover: u32, node: u64, uncles: &[Hash], pads: &mut Pads) -> bool
+pub(crate) fn uncle_pads_fit(
+    blocks: u64,
+    cover: u32,
+    node: u64,
+    uncles: &[Hash],
+    pads: &mut Pads,
+) -> bool
     requires layers { cover + length uncles.now ≤ 32 }
     requires node { node * 2 ^ cover < 2 ^ 32 }
     requires upward { pads.old.layer ≤ cover }

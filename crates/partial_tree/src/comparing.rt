@@ -16,7 +16,7 @@ use node_maps::NodeMap;
 /// The hash that is claimed for a place, if what is claimed from there down differs nowhere from
 /// what is known. Notes the claims of places that are not known.
 #[cycle(trace)]
-pub fn trace<N: NodeMap>(
+pub(crate) fn trace<N: NodeMap>(
     map: &N,
     evidence: &Evidence,
     found: &mut Found,

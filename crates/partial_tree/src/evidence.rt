@@ -22,21 +22,21 @@ use hashtree::Hash;
 /// Hashes as evidence: a base range of `2 ^ span` places, whose hashes may stop early, and then the
 /// uncles.
 #[derive(Clone, Copy)]
-pub struct Evidence<'a> {
+pub(crate) struct Evidence<'a> {
     /// The layer of the base range.
-    pub base: u32,
+    pub(crate) base: u32,
     /// The number of its first place.
-    pub index: u64,
+    pub(crate) index: u64,
     /// Its length is two to this power.
-    pub span: u32,
+    pub(crate) span: u32,
     /// The hashes of the base range, and then the uncles.
-    pub hashes: &'a [Hash],
+    pub(crate) hashes: &'a [Hash],
     /// Stands for the hashes that the base range lacks at its end.
-    pub pad: Hash,
+    pub(crate) pad: Hash,
 }
 
 /// The other child of a place's parent.
-pub fn sibling(index: u64) -> u64
+pub(crate) fn sibling(index: u64) -> u64
     requires { index < 2 ^ 63 }
     ensures { result ≡ sibling index }
 {
@@ -47,7 +47,7 @@ impl<'a> Evidence<'a> {
     ghost use Rattle.partial_tree.specs.Evidence.{range_of, hashes_of, given_by, row_first, row_height};
 
     /// The hash that is given for a place, if there is one.
-    pub fn given(&self, layer: u32, index: u64) -> Option<Hash>
+    pub(crate) fn given(&self, layer: u32, index: u64) -> Option<Hash>
         requires index { self.now.index < 2 ^ 32 }
         requires base { self.now.base ≤ 32 }
         requires span { self.now.span ≤ 32 }
@@ -65,7 +65,7 @@ impl<'a> Evidence<'a> {
     /// The row of places, as the first and their count, that holds all claims of a layer: what lies
     /// under the node that covers the base range, and from that node's layer up the node over the
     /// range beside its sibling.
-    pub fn row(&self, layer: u32) -> (u64, u64)
+    pub(crate) fn row(&self, layer: u32) -> (u64, u64)
         requires from_base { self.now.base ≤ layer }
         requires index { self.now.index < 2 ^ 32 }
         requires base { self.now.base ≤ 32 }

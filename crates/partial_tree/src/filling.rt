@@ -14,7 +14,7 @@ use node_maps::NodeMap;
 use std::alloc::Global;
 
 /// Takes a whole layer into the nodes of a tree, and tells how many places are newly known.
-pub fn fill_layer<N: NodeMap>(
+pub(crate) fn fill_layer<N: NodeMap>(
     alloc: Global,
     shape: Shape,
     height: u32,
@@ -52,7 +52,7 @@ pub fn fill_layer<N: NodeMap>(
 
 /// Takes a whole layer that is accepted into the nodes of a tree, and tells how many places are
 /// newly known. Each digest is computed once.
-pub fn plant_layer<N: NodeMap>(
+pub(crate) fn plant_layer<N: NodeMap>(
     shape: Shape,
     height: u32,
     nodes: &mut N,

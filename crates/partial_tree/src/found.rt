@@ -7,18 +7,18 @@ use std::alloc::Global;
 
 /// A place with its hash.
 #[derive(Clone, Copy)]
-pub struct Claim {
-    pub layer: u32,
-    pub index: u64,
-    pub hash: Hash,
+pub(crate) struct Claim {
+    pub(crate) layer: u32,
+    pub(crate) index: u64,
+    pub(crate) hash: Hash,
 }
 
 /// The claims of places that are not known, as far as there is room to list them.
 #[derive(Drop)]
-pub struct Found {
-    pub claims: Vec<Claim>,
+pub(crate) struct Found {
+    pub(crate) claims: Vec<Claim>,
     /// A claim is not listed.
-    pub incomplete: bool,
+    pub(crate) incomplete: bool,
 }
 
 impl Found {
@@ -26,7 +26,7 @@ impl Found {
     ghost use Rattle.node_maps.specs.Places.{PartialTree};
 
     /// Nothing yet, with room for so many claims, or for none if memory is refused.
-    pub fn new(alloc: Global, most: usize) -> Found
+    pub(crate) fn new(alloc: Global, most: usize) -> Found
         ensures claims { result.claims.items ≡ [] }
         ensures complete { result.incomplete ≡ false }
     {
@@ -41,7 +41,7 @@ impl Found {
     }
 
     /// Lists a claim, if there is room.
-    pub fn note(&mut self, claim: Claim)
+    pub(crate) fn note(&mut self, claim: Claim)
         ensures noted { IsNoted self.new claim.layer claim.index claim.hash }
         ensures grows { Grows self.old self.new }
         ensures sound { (C : PartialTree) → C claim.layer claim.index ≡ Some claim.hash

@@ -7,7 +7,7 @@ use hashtree::{Hash, parent};
 
 /// The hash over pads on the layer that was asked for last; each layer above costs one digest.
 #[derive(Drop)]
-pub struct Pads {
+pub(crate) struct Pads {
     layer: u32,
     hash: Hash,
     ghost low: { layer ≤ 32 },
@@ -16,7 +16,7 @@ pub struct Pads {
 
 impl Pads {
     /// The pad leaf.
-    pub fn new() -> Pads
+    pub(crate) fn new() -> Pads
         ensures { result.layer ≡ 0 }
     {
         Pads {
@@ -26,7 +26,7 @@ impl Pads {
     }
 
     /// The hash over pads on a layer that is no lower than the one before.
-    pub fn at(&mut self, layer: u32) -> Hash
+    pub(crate) fn at(&mut self, layer: u32) -> Hash
         requires low { layer ≤ 32 }
         requires upward { self.old.layer ≤ layer }
         ensures value { result ≡ zero_hash layer }

@@ -24,7 +24,7 @@ const MOST_LISTED: usize = 2 * 8192 + 2 * 32;
 /// Stores what the evidence claims, which leads to the place, and tells how many places are newly
 /// known. What is new is listed while it is compared, up to what the longest message claims; more
 /// is computed once more to be written. Room that was made and not used is given back.
-pub fn store<N: NodeMap>(
+pub(crate) fn store<N: NodeMap>(
     alloc: Global,
     map: &mut N,
     evidence: &Evidence,
@@ -61,7 +61,7 @@ pub fn store<N: NodeMap>(
 /// Stores what the evidence claims, which leads to the place and differs nowhere from what is
 /// known, and tells how many places are newly known. Each digest is computed once, and nothing is
 /// listed. Room that was made and not used is given back.
-pub fn store_agreed<N: NodeMap>(
+pub(crate) fn store_agreed<N: NodeMap>(
     map: &mut N,
     evidence: &Evidence,
     layer: u32,

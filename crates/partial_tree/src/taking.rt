@@ -18,7 +18,7 @@ use std::alloc::Global;
 use wire::Ask;
 
 /// Takes a hashes message into the nodes of a tree, and tells how many places are newly known.
-pub fn take_message<N: NodeMap>(
+pub(crate) fn take_message<N: NodeMap>(
     alloc: Global,
     shape: Shape,
     height: u32,

@@ -17,7 +17,7 @@ use node_maps::NodeMap;
 /// Writes the claims from a place down that are not known, and tells the place's hash and how many
 /// are new.
 #[cycle(write)]
-pub fn write_claimed<N: NodeMap>(
+pub(crate) fn write_claimed<N: NodeMap>(
     map: &mut N,
     evidence: &Evidence,
     layer: u32,
@@ -40,7 +40,7 @@ pub fn write_claimed<N: NodeMap>(
 }
 
 /// Sets the hashes of claims at places that are not known, and tells how many are new.
-pub fn put_new<N: NodeMap>(map: &mut N, claims: &[Claim]) -> u64
+pub(crate) fn put_new<N: NodeMap>(map: &mut N, claims: &[Claim]) -> u64
     requires { All (λ (c : Claimed). N.has_room map.old c.layer c.index) claims.now }
     ensures length { N.length map.new ≡ N.length map.old }
     ensures known { N.known map.new ≡ insert_new (N.known map.old) claims.now }

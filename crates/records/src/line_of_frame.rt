@@ -10,7 +10,7 @@ use lines::Line;
 use session::Verdict;
 
 /// The line of the frame of this number, which is no message of blocks.
-pub fn line_of_frame(number: u64, told: &Told) -> Line
+pub(crate) fn line_of_frame(number: u64, told: &Told) -> Line
     ensures { result ≡ line_text number (told_text told.now) }
 {
     let mut line = Line::new();
@@ -22,7 +22,7 @@ pub fn line_of_frame(number: u64, told: &Told) -> Line
 }
 
 /// A refusal: a letter, its number and its name.
-pub fn put_refused(line: &mut Line, letter: &[u8], number: u32, name: &str)
+pub(crate) fn put_refused(line: &mut Line, letter: &[u8], number: u32, name: &str)
     requires line { length line.old ≤ 21 }
     requires letter { length letter.now ≤ 1 }
     requires name { length name.now ≤ 11 }

@@ -9,7 +9,7 @@ use lines::Line;
 use session::{BlockRefusal, Blocks};
 
 /// Writes a line for each block of the message in the frame of this number.
-pub fn write_blocks<W: Sink>(
+pub(crate) fn write_blocks<W: Sink>(
     report: &mut W,
     number: u64,
     blocks: &Blocks,

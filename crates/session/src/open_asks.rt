@@ -12,7 +12,7 @@ use wire::Ask;
 /// The open asks, in the order of their fields: a look-up compares an ask with as many others as
 /// the logarithm of how many are open. Contracts see them as the set.
 #[derive(Drop)]
-pub struct OpenAsks {
+pub(crate) struct OpenAsks {
     asks: BTreeSet<Ask>,
 }
 
@@ -29,7 +29,7 @@ impl Model for OpenAsks {
 
 impl OpenAsks {
     /// No ask is open.
-    pub fn new(alloc: Global) -> OpenAsks
+    pub(crate) fn new(alloc: Global) -> OpenAsks
         ensures { result ≡ set.empty }
     {
         OpenAsks {
@@ -38,7 +38,7 @@ impl OpenAsks {
     }
 
     /// Whether an ask is open.
-    pub fn contains(&self, ask: &Ask) -> bool
+    pub(crate) fn contains(&self, ask: &Ask) -> bool
         ensures { result ≡ set.contains self.now ask.now }
     {
         self.asks.contains(ask)
@@ -46,7 +46,7 @@ impl OpenAsks {
 
     /// Opens an ask. One that is open takes no memory and changes nothing. Fails only if memory was
     /// refused, and then nothing has changed.
-    pub fn insert(&mut self, ask: Ask) -> Result<(), NoMemory>
+    pub(crate) fn insert(&mut self, ask: Ask) -> Result<(), NoMemory>
         ensures opened { OnOk result (self.new ≡ set.insert self.old ask) }
         ensures unchanged { OnErr result (self.new ≡ self.old) }
         ensures no_memory { set.contains self.old ask ≡ true → IsOk result }
@@ -56,7 +56,7 @@ impl OpenAsks {
     }
 
     /// Closes an ask. Takes no memory.
-    pub fn remove(&mut self, ask: &Ask)
+    pub(crate) fn remove(&mut self, ask: &Ask)
         ensures { self.new ≡ set.remove self.old ask.now }
     {
         self.asks.remove(ask);

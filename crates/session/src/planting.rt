@@ -13,7 +13,7 @@ use std::alloc::Global;
 
 /// A tree as a new session knows it: by its root alone, or with layers also from its piece layer
 /// up, if its files are longer than a piece. Fails only if memory was refused.
-pub fn planted<N: NodeMap>(
+pub(crate) fn planted<N: NodeMap>(
     alloc: Global,
     info: &TreeInfo<'_>,
     piece_length: PieceLength,
