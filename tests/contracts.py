@@ -23,10 +23,10 @@ def libraries():
 
 
 def sources(crate):
-    """Each source file of a crate that is no test, with its module's name."""
+    """Each source file of a crate, with its module's name."""
     for folder, _, files in os.walk(f"{CRATES}/{crate}/src"):
         for name in sorted(files):
-            if name.endswith(".rt") and name != "tests.rt":
+            if name.endswith(".rt"):
                 yield name.removesuffix(".rt"), text_of(folder, name)
 
 

@@ -22,6 +22,3 @@ pub use encoding::encode;
 pub use fault::{Fault, FaultKind};
 pub use measuring::spelling_len;
 pub use value::{Pair, Value};
-
-#[cfg(test)]
-mod tests;

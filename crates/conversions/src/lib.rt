@@ -9,6 +9,3 @@ mod parts;
 
 pub use converting::convert;
 pub use fault::ConvertFault;
-
-#[cfg(test)]
-mod tests;

@@ -9,8 +9,6 @@ mod hybrid_text;
 pub mod laws;
 mod path_order;
 mod pen;
-#[cfg(test)]
-mod tests;
 mod tree_text;
 
 pub use draft::Draft;

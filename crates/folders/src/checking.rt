@@ -226,6 +226,3 @@ fn piece_check<'t>(torrent: &Torrent<'_>, tree: &'t TreeInfo<'_>) -> PieceCheck<
         PieceCheck::new(shape, Shape::of(piece_length).unwrap().height(), tree.layer)
     }
 }
-
-#[cfg(test)]
-mod tests;

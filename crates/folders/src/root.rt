@@ -121,6 +121,3 @@ impl Taker for RootBuilder {
 
     ghost room_for_less = { built_less };
 }
-
-#[cfg(test)]
-mod tests;

@@ -151,6 +151,3 @@ fn put_parts<'p>(path: &'p [String], parts: &mut Vec<&'p str>)
         parts.push_reserved(part.as_str());
     }
 }
-
-#[cfg(test)]
-mod tests;

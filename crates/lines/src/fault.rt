@@ -6,9 +6,6 @@ ghost use Rattle.lines.specs.declared.fault.Fault.TheVariants.{NoMemory};
 ghost use Rattle.lines.specs.Fault.{fault_reason, fault_line};
 ghost use Rattle.lines.specs.Text.{escaped, path_text};
 
-#[cfg(test)]
-mod tests;
-
 use crate::text::{flush_after, write_escaped, write_path};
 use benc::{DeviceFault, Sink, WriteFault, write_all};
 use std::alloc::AllocError;

@@ -82,6 +82,3 @@ fn put_word(line: &mut Line, word: &str)
     line.put(b" ");
     line.put(word.as_bytes());
 }
-
-#[cfg(test)]
-mod tests;

@@ -14,6 +14,3 @@ mod shelves;
 pub use flat::Flat;
 pub use node_map::NodeMap;
 pub use paged::Paged;
-
-#[cfg(test)]
-mod tests;

@@ -9,8 +9,6 @@ mod layers;
 mod open;
 mod place;
 mod roots;
-#[cfg(test)]
-mod tests;
 mod torrent;
 mod version1;
 

@@ -4,8 +4,6 @@
 
 mod cutter;
 mod piece_length;
-#[cfg(test)]
-mod tests;
 mod v1;
 mod v1_cuts;
 mod v1_feed;

@@ -2,9 +2,6 @@
 ghost use Rattle.std.specs.Prelude.{◌≡◌, ◌+◌, ◌≤◌, ◌++◌, length, codes, decimal};
 ghost use Rattle.records.specs.ReplayLines.{line_text, refused_text, told_text, verdict_text};
 
-#[cfg(test)]
-mod tests;
-
 use crate::told::Told;
 use lines::Line;
 use session::Verdict;

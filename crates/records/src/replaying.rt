@@ -10,9 +10,6 @@ ghost use Rattle.wire.specs.RecordReader.{frames};
 ghost use Rattle.wire.specs.Records.{form_number};
 ghost use Rattle.wire.specs.declared.form.Form.{Form as FormOf};
 
-#[cfg(test)]
-mod tests;
-
 use crate::answering::{AnswerFault, Answering, Unwanted};
 use crate::ending::Ending;
 use crate::line_of_frame::line_of_frame;

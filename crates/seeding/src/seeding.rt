@@ -198,6 +198,3 @@ fn words(seeded: bool) -> &'static [u8]
 {
     if seeded { b"seeded " } else { b"not seeded " }
 }
-
-#[cfg(test)]
-mod tests;

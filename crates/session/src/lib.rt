@@ -16,6 +16,3 @@ pub use node_maps::{Flat, NodeMap, Paged};
 pub use partial_tree::{Answer, BlockRefusal, GrowingTree, GrownTree, HashRefusal};
 pub use session::Session;
 pub use verdict::Verdict;
-
-#[cfg(test)]
-mod tests;

@@ -32,6 +32,3 @@ pub use record_reader::RecordReader;
 /// What `reserve` answers if memory was refused.
 pub use std::alloc::AllocError as NoMemory;
 pub use writing::write;
-
-#[cfg(test)]
-mod tests;

@@ -182,6 +182,3 @@ fn paths_of(alloc: Global, files: &[MemFile<'_>]) -> Result<Vec<Vec<String>>, Al
     }
     Ok(paths)
 }
-
-#[cfg(test)]
-mod tests;
