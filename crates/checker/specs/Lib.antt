@@ -17,6 +17,7 @@ pub use Rattle.folders.specs.Pass
 pub use Rattle.folders.specs.Printed
 pub use Rattle.folders.specs.Visits
 pub use Rattle.folders.specs.TakeAll
+pub use Rattle.folders.specs.declared.root.RootFault
 pub use Rattle.folders.specs.declared.shelf_fault.ShelfFault
 pub use Rattle.folders.specs.Feeding
 pub use Rattle.gathering.specs.Gathered
@@ -28,3 +29,4 @@ pub use Rattle.records.specs.ReplayLines
 pub use Rattle.records.specs.Outcome
 pub use Rattle.seeding.specs.Leaves
 pub use Rattle.seeding.specs.Seeding
+pub use Rattle.seeding.specs.declared.seed_fault.SeedFault

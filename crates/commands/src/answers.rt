@@ -1,21 +1,22 @@
 //! What each command answers over any devices: what goes out, and the exit status that follows.
-ghost use Rattle.std.specs.Prelude.{◌≡◌, ◌≢◌, ◌^◌, ◌≤◌, ◌↔◌, ℕ, List, [], None, Some, Ok, Err, IfErr, IfOk, OnOk, String, codes, length, map, not, true, false};
+ghost use Rattle.std.specs.Prelude.{◌≡◌, ◌≢◌, ◌⊎◌, ◌^◌, ◌≤◌, ◌↔◌, ℕ, Bool, IsTrue, List, [], None, Some, Ok, Err, IfErr, IfOk, OnErr, OnOk, String, length, map, not, true, false};
 ghost use Rattle.std.specs.Global.{Global, Vec};
 ghost use Rattle.std.specs.String.{string_bytes};
-ghost use Rattle.benc.specs.Device.{SentAndFlushed};
+ghost use Rattle.benc.specs.Device.{BrokeOrUnflushed, SentAndFlushed, WroteAndFlushed};
 ghost use Rattle.benc.specs.Text.{spelling};
-ghost use Rattle.conversions.specs.Converting.{Converts};
+ghost use Rattle.conversions.specs.Converting.{Converts, FailsToConvert};
 ghost use Rattle.checker.specs.Gathering.{Gathers};
 ghost use Rattle.checker.specs.Refused.{refusal_text};
 ghost use Rattle.checker.specs.Show.{show_text};
-ghost use Rattle.checker.specs.Replay.{replay_seen};
-ghost use Rattle.checker.specs.Seeding.{IsSeeded, shelf_and_session};
+ghost use Rattle.checker.specs.Replay.{IsCutReport, replay_seen};
+ghost use Rattle.checker.specs.Root.{root_line_of};
+ghost use Rattle.checker.specs.Seeding.{IsSeeded, Seeds, shelf_and_session};
 ghost use Rattle.drafts.specs.Finishing.{finish_rows};
 ghost use Rattle.drafts.specs.Written.{value_of};
-ghost use Rattle.metainfo.specs.Tests.{First};
+ghost use Rattle.metainfo.specs.Tests.{First, NoneHolds};
 ghost use Rattle.checker.specs.Shelf.{path_bytes};
 ghost use Rattle.session.specs.Fresh.{IsFresh};
-ghost use Rattle.commands.specs.Answers.{IsChecked, IsReplayed, IsToldAs, IsUnprinted, answer_status};
+ghost use Rattle.commands.specs.Answers.{BlamesOne, Checks, IsRefusalCut, IsReplayed, IsToldOfConverting, IsToldOfGathering, IsToldOfListing, IsToldOfSeeding, IsTorrentCut, IsUnprinted, NamesOutput, NamesSink, answer_status, form_2_text};
 
 use benc::memory::MemSink;
 use benc::{Sink, Source};
@@ -36,8 +37,16 @@ pub fn root<'a, R: Source, W: Sink>(
     source: &mut R,
     out: &mut W,
 ) -> Result<u8, Fault<'a>>
-    ensures { (file : List ℕ) → (R.seen source.old).left ≡ Some file
-        → IfOk result (λ s. (s ≡ 0) ↔ (length file ≤ 2 ^ 46)) }
+    ensures line { (file : List ℕ) → (R.seen source.old).left ≡ Some file → OnOk result
+        (SentAndFlushed (W.seen out.old) (W.seen out.new) (root_line_of file)) }
+    ensures status { (file : List ℕ) → (R.seen source.old).left ≡ Some file
+        → IfOk result (λ s. (within : Bool) × (s ≡ answer_status within)
+        × (IsTrue within ↔ (length file ≤ 2 ^ 46))) }
+    ensures fault { IfErr result (BlamesOne path.now (R.seen source.old) (R.seen source.new)
+        (W.seen out.old) (W.seen out.new)) }
+    ensures prefix { (file : List ℕ) → (R.seen source.old).left ≡ Some file → IfErr result
+        (λ f. NamesOutput f
+        → BrokeOrUnflushed (W.seen out.old) (W.seen out.new) (root_line_of file)) }
 {
     match root_line(source, out) {
         Ok(within) => Ok(status(within)),
@@ -49,8 +58,9 @@ pub fn root<'a, R: Source, W: Sink>(
 /// Prints what a torrent holds.
 pub fn show<'a, W: Sink>(torrent: &Torrent<'_>, out: &mut W) -> Result<u8, Fault<'a>>
     ensures status { IfOk result (λ s. s ≡ answer_status true) }
-    ensures lines { OnOk result (SentAndFlushed (W.seen out.old) (W.seen out.new)
-        (show_text torrent.now)) }
+    ensures lines { WroteAndFlushed (W.seen out.old) (W.seen out.new) result
+        (show_text torrent.now) }
+    ensures fault { IfErr result NamesOutput }
 {
     match checker::show(torrent, out) {
         Ok(()) => Ok(status(true)),
@@ -63,7 +73,10 @@ pub fn refuse<'a, W: Sink>(refusal: &Refusal, path: &[String], out: &mut W) -> R
     ensures status { IfOk result (λ s. s ≡ answer_status false) }
     ensures line { OnOk result (SentAndFlushed (W.seen out.old) (W.seen out.new)
         (refusal_text refusal.now (map string_bytes path.now))) }
-    ensures fault { IfErr result IsUnprinted }
+    ensures told { OnOk result ((refusal.now ≢ Refusal.NoMemory) × (refusal.now ≢ Refusal.Write)) }
+    ensures fault { IfErr result (IsUnprinted refusal.now
+        (refusal_text refusal.now (map string_bytes path.now))
+        (W.seen out.old) (W.seen out.new)) }
 {
     match refusal {
         Refusal::NoMemory => Err(Fault::NoMemory),
@@ -83,8 +96,9 @@ pub fn check<'a, S: Shelf, W: Sink>(
     shelf: &mut S,
     out: &mut W,
 ) -> Result<u8, Fault<'a>>
-    ensures { IfOk result (IsChecked torrent.now (S.under shelf.old)
-        (W.seen out.old) (W.seen out.new)) }
+    ensures checks { Checks torrent.now (S.under shelf.old)
+        (W.seen out.old) (W.seen out.new) result }
+    ensures no_memory { IfErr result (λ f. f ≡ Fault.NoMemory → shelf.new ≡ shelf.old) }
 {
     let report = checker::check(alloc, torrent, shelf)?;
     match print_report(&report, torrent, out) {
@@ -99,7 +113,8 @@ pub fn new_session<'t, 'a>(
     torrent: &'t Torrent<'t>,
     info_only: bool,
 ) -> Result<Session<'t, Paged>, Fault<'a>>
-    ensures { IfOk result (IsFresh torrent.now (not info_only)) }
+    ensures fresh { IfOk result (IsFresh torrent.now (not info_only)) }
+    ensures fault { IfErr result (λ f. f ≡ Fault.NoMemory) }
 {
     Ok(Session::new(alloc, torrent, !info_only)?)
 }
@@ -111,9 +126,13 @@ pub fn seed<'a, N: NodeMap, S: Shelf, W: Sink>(
     shelf: &mut S,
     out: &mut W,
 ) -> Result<(), Fault<'a>>
-    ensures { OnOk result (IsSeeded S.opens S.closes S.faults S.under S.File.seen
+    ensures seeded { OnOk result (IsSeeded S.opens S.closes S.faults S.under S.File.seen
         (shelf_and_session shelf.old session.old) (shelf_and_session shelf.new session.new)
         (W.seen out.old) (W.seen out.new)) }
+    ensures fault { IfErr result (λ f. (e : SeedFault) × Seeds S.opens S.closes S.faults S.under
+        S.File.seen (shelf_and_session shelf.old session.old)
+        (shelf_and_session shelf.new session.new) (W.seen out.old) (W.seen out.new) (Err e)
+        × IsToldOfSeeding e f) }
 {
     match checker::seed(alloc, session, shelf, out) {
         Ok(()) => Ok(()),
@@ -129,9 +148,13 @@ pub fn replay<'a, N: NodeMap, R: Source, W: Sink>(
     source: &mut R,
     out: &mut W,
 ) -> Result<u8, Fault<'a>>
-    ensures { IfOk result (IsReplayed
+    ensures replayed { IfOk result (IsReplayed
         (replay_seen (R.seen source.old) session.old (W.seen out.old) None)
         (replay_seen (R.seen source.new) session.new (W.seen out.new) None)) }
+    ensures cut { OnErr result (IsCutReport
+        (replay_seen (R.seen source.old) session.old (W.seen out.old) None)
+        (replay_seen (R.seen source.new) session.new (W.seen out.new) None)) }
+    ensures fault { IfErr result NamesOutput }
 {
     let Ok(outcome) = checker::replay(alloc, session, source, out, None::<&mut MemSink>) else {
         return Err(Fault::Write("-"));
@@ -149,11 +172,19 @@ pub fn replay_and_answer<'a, N: NodeMap, R: Source, W: Sink, A: Sink>(
     path: &'a str,
     answers: &mut A,
 ) -> Result<u8, Fault<'a>>
-    ensures { IfOk result (IsReplayed
+    ensures replayed { IfOk result (IsReplayed
         (replay_seen (R.seen source.old) session.old (W.seen out.old)
         (Some (A.seen answers.old)))
         (replay_seen (R.seen source.new) session.new (W.seen out.new)
         (Some (A.seen answers.new)))) }
+    ensures cut { OnErr result (IsCutReport
+        (replay_seen (R.seen source.old) session.old (W.seen out.old)
+        (Some (A.seen answers.old)))
+        (replay_seen (R.seen source.new) session.new (W.seen out.new)
+        (Some (A.seen answers.new)))) }
+    ensures output { (W.seen out.new).faults ≢ (W.seen out.old).faults → IfErr result NamesOutput }
+    ensures answers { (W.seen out.new).faults ≡ (W.seen out.old).faults
+        → IfErr result (NamesSink path.now) }
 {
     let faults = out.failures();
     match checker::replay(alloc, session, source, out, Some(answers)) {
@@ -180,7 +211,8 @@ pub fn gather<'a, S: Shelf, W: Sink>(
         (W.seen out.new) (refusal_text r (path_bytes path)))) }
     ensures fault { IfErr result (λ f. (g : GatherFault) × Gathers S.opens S.closes S.faults S.under
         S.File.seen S.listing S.lists asked.now.name.now asked.now.piece_length asked.now.hybrid
-        shelf.old shelf.new (Err g) × IsToldAs (Fault.Read asked.now.dir) g f) }
+        shelf.old shelf.new (Err g) × IsToldOfGathering (Fault.Read asked.now.dir)
+        (W.seen out.old) (W.seen out.new) g f) }
 {
     match checker::gather(alloc, shelf, asked.name, asked.piece_length, asked.hybrid) {
         Ok(draft) => Ok(Ok(draft)),
@@ -199,11 +231,17 @@ pub fn write_torrent<'a, W: Sink, O: Sink>(
     torrent: &mut W,
     out: &mut O,
 ) -> Result<u8, Fault<'a>>
-    ensures written { IfOk result (λ s. s ≡ answer_status true → SentAndFlushed
-        (W.seen torrent.old) (W.seen torrent.new) (spelling (value_of draft.now))) }
-    ensures refused { IfOk result (λ s. s ≢ answer_status true → (W.seen torrent.new
-        ≡ W.seen torrent.old) × (r : Refusal) × First (finish_rows draft.now) r
+    ensures written { IfOk result (λ s. s ≡ answer_status true → NoneHolds (finish_rows draft.now)
+        × SentAndFlushed (W.seen torrent.old) (W.seen torrent.new) (spelling (value_of draft.now))
+        × (O.seen out.new ≡ O.seen out.old)) }
+    ensures refused { IfOk result (λ s. s ≢ answer_status true → (s ≡ answer_status false)
+        × (W.seen torrent.new ≡ W.seen torrent.old)
+        × (r : Refusal) × First (finish_rows draft.now) r
         × SentAndFlushed (O.seen out.old) (O.seen out.new) (refusal_text r [])) }
+    ensures fault { IfErr result (λ f. IsTorrentCut (finish_rows draft.now)
+        (spelling (value_of draft.now)) path.now (W.seen torrent.old) (W.seen torrent.new)
+        (O.seen out.old) (O.seen out.new) f ⊎ IsRefusalCut (finish_rows draft.now)
+        (W.seen torrent.old) (W.seen torrent.new) (O.seen out.old) (O.seen out.new) f) }
 {
     match draft.finish(torrent) {
         Ok(()) => Ok(status(true)),
@@ -221,9 +259,15 @@ pub fn convert<'a, R: Source, W: Sink, O: Sink>(
     out: &mut O,
 ) -> Result<u8, Fault<'a>>
     ensures converts { IfOk result (λ s. s ≡ answer_status true → Converts (R.seen source.old)
-        (R.seen source.new) (W.seen converted.old) (W.seen converted.new)) }
-    ensures refused { IfOk result (λ s. s ≢ answer_status true → SentAndFlushed (O.seen out.old)
-        (O.seen out.new) (codes "refused 3 AlreadyForm2\n")) }
+        (R.seen source.new) (W.seen converted.old) (W.seen converted.new)
+        × (O.seen out.new ≡ O.seen out.old)) }
+    ensures refused { IfOk result (λ s. s ≢ answer_status true → (s ≡ answer_status false)
+        × FailsToConvert (R.seen source.old) (R.seen source.new) (W.seen converted.old)
+        (W.seen converted.new) ConvertFault.AlreadyForm2
+        × SentAndFlushed (O.seen out.old) (O.seen out.new) form_2_text) }
+    ensures fault { IfErr result (λ f. (e : ConvertFault) × FailsToConvert (R.seen source.old)
+        (R.seen source.new) (W.seen converted.old) (W.seen converted.new) e
+        × IsToldOfConverting «record».now path.now (O.seen out.old) (O.seen out.new) e f) }
 {
     match checker::convert(source, converted) {
         Ok(()) => Ok(status(true)),
@@ -236,7 +280,7 @@ pub fn convert<'a, R: Source, W: Sink, O: Sink>(
 
 // Why the folder with this path could not be listed.
 fn listing_fault<'a>(fault: ShelfFault, dir: &'a str) -> Fault<'a>
-    ensures { IsToldAs (Fault.Read dir.entry) (GatherFault.List fault) result }
+    ensures { IsToldOfListing (Fault.Read dir.entry) fault result }
 {
     match fault {
         ShelfFault::Device => Fault::Read(dir),
@@ -249,8 +293,8 @@ fn listing_fault<'a>(fault: ShelfFault, dir: &'a str) -> Fault<'a>
 // Prints that a record is of form 2 already.
 fn refuse_form_2<'a, W: Sink>(out: &mut W) -> Result<u8, Fault<'a>>
     ensures status { IfOk result (λ s. s ≡ answer_status false) }
-    ensures line { OnOk result (SentAndFlushed (W.seen out.old) (W.seen out.new)
-        (codes "refused 3 AlreadyForm2\n")) }
+    ensures line { WroteAndFlushed (W.seen out.old) (W.seen out.new) result form_2_text }
+    ensures fault { IfErr result NamesOutput }
 {
     if write_line(out, b"refused 3 AlreadyForm2\n").is_err() {
         return Err(Fault::Write("-"));
