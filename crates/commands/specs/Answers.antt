@@ -1,5 +1,5 @@
 -- What a command ends with: the exit status that follows from the library's answer, or the fault.
-use Rattle.std.specs.Prelude.{◌≡◌, ◌≢◌, ◌⊎◌, ℕ, Bool, true, false, List, [], Option, Result, Ok, Err, codes}
+use Rattle.std.specs.Prelude.{◌≡◌, ◌≢◌, ℕ, Bool, true, false, List, [], Option, Result, Ok, Err, codes}
 use Rattle.benc.specs.Device.{SourceSeen, SinkSeen, SentAndFlushed, BrokeOrUnflushed}
 use Rattle.checker.specs.GatherFault.{GatherFault}
 use Rattle.checker.specs.GatherFault.TheVariants as gathering
