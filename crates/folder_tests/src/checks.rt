@@ -9,23 +9,29 @@ use std::test::Fail;
 const HYBRID: &[u8] = b"d4:infod9:file treed1:ad0:d6:lengthi16385e11:pieces root32:\
     n\x19Z\x83\x11\xdcr\x9e\x1d \xfa\x89\x1dJ\xfc>\xf6\xa3(&\xf4\xb6h\x1a\x8d\x1d%2x\x81\x87\xe1\
     ee1:cd0:d6:lengthi3e11:pieces root32:\
-    \xbax\x16\xbf\x8f\x01\xcf\xeaAA@\xde]\xae\"#\xb0\x03a\xa3\x96\x17z\x9c\xb4\x10\xffa\xf2\x00\x15\xad\
+    \xbax\x16\xbf\x8f\x01\xcf\xeaAA@\xde]\xae\"#\xb0\x03a\xa3\x96\x17z\x9c\xb4\x10\xffa\xf2\x00\
+    \x15\xad\
     eee\
-    5:filesld6:lengthi16385e4:pathl1:aeed4:attr1:p6:lengthi16383e4:pathl4:.pad5:16383eed6:lengthi3e4:pathl1:ceee\
+    5:filesld6:lengthi16385e4:pathl1:aeed4:attr1:p6:lengthi16383e4:pathl4:.pad5:16383eed6:lengthi\
+    3e4:pathl1:ceee\
     12:meta versioni2e4:name1:x12:piece lengthi32768e6:pieces40:\
     \xf7\xeb\x81\xbc6\x1e[\xd4\x9b0j\xc01\x8f\xc5\xfdg\xec@\xf2\
     \xa9\x99>6G\x06\x81j\xba>%qxP\xc2l\x9c\xd0\xd8\x9d\
     e12:piece layersdee";
 
-// A torrent of `a`, `abc`, of `b/d`, 40,000 bytes 9, and of `e`, empty, with pieces of 16,384 bytes.
+// A torrent of `a`, `abc`, of `b/d`, 40,000 bytes 9, and of `e`, empty, with pieces of 16,384
+// bytes.
 const LAYERED: &[u8] = b"d4:infod9:file treed1:ad0:d6:lengthi3e11:pieces root32:\
-    \xbax\x16\xbf\x8f\x01\xcf\xeaAA@\xde]\xae\"#\xb0\x03a\xa3\x96\x17z\x9c\xb4\x10\xffa\xf2\x00\x15\xad\
+    \xbax\x16\xbf\x8f\x01\xcf\xeaAA@\xde]\xae\"#\xb0\x03a\xa3\x96\x17z\x9c\xb4\x10\xffa\xf2\x00\
+    \x15\xad\
     ee1:bd1:dd0:d6:lengthi40000e11:pieces root32:\
-    \x1c\x11)\xce\x1a\xb5\xc4\xa1\xe0F\xcc\xe5\x95\xf1D\xf9\x1d\x1f\xab\x7f\xe5\xd0\x14|\x07B\xa7\xe2B\x9fK\xb4\
+    \x1c\x11)\xce\x1a\xb5\xc4\xa1\xe0F\xcc\xe5\x95\xf1D\xf9\x1d\x1f\xab\x7f\xe5\xd0\x14|\x07B\xa7\
+    \xe2B\x9fK\xb4\
     eee1:ed0:d6:lengthi0eeee\
     12:meta versioni2e4:name1:x12:piece lengthi16384ee\
     12:piece layersd32:\
-    \x1c\x11)\xce\x1a\xb5\xc4\xa1\xe0F\xcc\xe5\x95\xf1D\xf9\x1d\x1f\xab\x7f\xe5\xd0\x14|\x07B\xa7\xe2B\x9fK\xb4\
+    \x1c\x11)\xce\x1a\xb5\xc4\xa1\xe0F\xcc\xe5\x95\xf1D\xf9\x1d\x1f\xab\x7f\xe5\xd0\x14|\x07B\xa7\
+    \xe2B\x9fK\xb4\
     96:\
     \xcf`j}5\xc9\x8e.\xff\xc0zdw\xad\xc0\xad\xb4\xfe\x90\x93\x1fi2\xbe\x10\xd00!\x90\xe8\xb6'\
     \xcf`j}5\xc9\x8e.\xff\xc0zdw\xad\xc0\xad\xb4\xfe\x90\x93\x1fi2\xbe\x10\xd00!\x90\xe8\xb6'\
@@ -52,8 +58,8 @@ fn report_of(rt: &HostRuntime, torrent: &[u8], shelf: &mut MemShelf<'_>) -> Resu
     Ok(out)
 }
 
-// Whether a check of this torrent over these files prints this report, opens so many paths, and has so many faults,
-// however few bytes a read gives.
+// Whether a check of this torrent over these files prints this report, opens so many paths, and has
+// so many faults, however few bytes a read gives.
 fn tells(
     rt: &HostRuntime,
     torrent: &[u8],

@@ -133,7 +133,8 @@ fn listed() -> [Opened; 6] {
             edits: &[
                 (
                     FILE,
-                    "1:ad0:d6:lengthi16385e11:pieces root32:<two>ee1:bd0:d6:lengthi0eee1:cd0:d6:lengthi3e11:pieces root32:<abc>ee",
+                    "1:ad0:d6:lengthi16385e11:pieces root32:<two>ee1:bd0:d6:lengthi0eee\
+                     1:cd0:d6:lengthi3e11:pieces root32:<abc>ee",
                 ),
                 ("i16384e", "i32768e"),
             ],
@@ -161,7 +162,8 @@ fn listed() -> [Opened; 6] {
             text: ABC,
             edits: &[(
                 FILE,
-                "1:ad1:bd0:d6:lengthi3e11:pieces root32:<abc>eee5:a.txtd0:d6:lengthi3e11:pieces root32:<abc>ee",
+                "1:ad1:bd0:d6:lengthi3e11:pieces root32:<abc>eee5:a.txtd0:d6:lengthi3e\
+                 11:pieces root32:<abc>ee",
             )],
             files: &[(&["a", "b"], 3, Some(0), 0), (&["a.txt"], 3, Some(0), 1)],
             trees: &[(digests::ABC, 3, &[])],

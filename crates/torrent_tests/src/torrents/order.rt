@@ -77,7 +77,8 @@ fn keys_and_files() -> [Refused; 15] {
             "a file without a root, and one root of two lengths",
             &[(
                 FILE,
-                "1:ad0:d6:lengthi1e11:pieces root32:<abc>ee1:bd0:d6:lengthi2e11:pieces root32:<abc>ee1:cd0:d6:lengthi1eee",
+                "1:ad0:d6:lengthi1e11:pieces root32:<abc>ee1:bd0:d6:lengthi2e11:pieces root32:\
+                 <abc>ee1:cd0:d6:lengthi1eee",
             )],
             Refusal::Root,
         ),
@@ -85,7 +86,8 @@ fn keys_and_files() -> [Refused; 15] {
             "one root of two lengths, and too many pieces",
             &[(
                 FILE,
-                "1:ad0:d6:lengthi1e11:pieces root32:<abc>ee1:bd0:d6:lengthi70368744177664e11:pieces root32:<abc>ee",
+                "1:ad0:d6:lengthi1e11:pieces root32:<abc>ee1:bd0:d6:lengthi70368744177664e\
+                 11:pieces root32:<abc>ee",
             )],
             Refusal::RootReused,
         ),
@@ -140,7 +142,8 @@ fn hybrids() -> [Refused; 3] {
         (
             "no file, and another list of version 1",
             &[(
-                "treed1:ad0:d6:lengthi16385e11:pieces root32:<two>ee1:cd0:d6:lengthi3e11:pieces root32:<abc>eee",
+                "treed1:ad0:d6:lengthi16385e11:pieces root32:<two>ee1:cd0:d6:lengthi3e\
+                 11:pieces root32:<abc>eee",
                 "treede",
             )],
             Refusal::NoFiles,

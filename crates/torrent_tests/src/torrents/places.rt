@@ -29,7 +29,8 @@ fn are_places(
 const APART: Edits = &[
     (
         FILE,
-        "1:ad0:d6:lengthi16385e11:pieces root32:<two>ee1:bd0:d6:lengthi0eee1:cd0:d6:lengthi3e11:pieces root32:<abc>ee",
+        "1:ad0:d6:lengthi16385e11:pieces root32:<two>ee1:bd0:d6:lengthi0eee1:cd0:d6:lengthi3e\
+         11:pieces root32:<abc>ee",
     ),
     ("i16384e", "i32768e"),
 ];
@@ -77,7 +78,9 @@ fn blocks_of_one_file(rt: HostRuntime) -> Result<(), AllocError> {
 const FAR: Edits = &[
     (
         FILE,
-        "1:ad0:d6:lengthi3e11:pieces root32:<abc>ee1:bd0:d6:lengthi3e11:pieces root32:<abc>ee1:cd0:d6:lengthi3e11:pieces root32:<abc>ee1:dd0:d6:lengthi1073741824e11:pieces root32:<five>ee",
+        "1:ad0:d6:lengthi3e11:pieces root32:<abc>ee1:bd0:d6:lengthi3e11:pieces root32:<abc>ee\
+         1:cd0:d6:lengthi3e11:pieces root32:<abc>ee1:dd0:d6:lengthi1073741824e11:pieces root32:\
+         <five>ee",
     ),
     ("i16384e", "i1073741824e"),
 ];
