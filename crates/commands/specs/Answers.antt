@@ -67,6 +67,8 @@ pub record IsUnprinted (r : Refusal) (text : List ℕ) (out out' : SinkSeen) (f 
   pub memory : r ≡ refusals.NoMemory → f ≡ faults.NoMemory
   pub output : r ≢ refusals.NoMemory → NamesOutput f
   pub broke : r ≢ refusals.NoMemory → r ≢ refusals.Write → BrokeOrUnflushed out out' text
+  pub silent_out_of_memory : r ≡ refusals.NoMemory → out' ≡ out
+  pub silent_at_a_sink : r ≡ refusals.Write → out' ≡ out
 
 -- ---- check
 

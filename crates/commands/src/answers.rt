@@ -203,7 +203,7 @@ pub fn gather<'a, S: Shelf, W: Sink>(
 ) -> Result<Result<Draft, u8>, Fault<'a>>
     ensures gathered { IfOk result (λ found. IfOk found (λ draft. Gathers S.opens S.closes S.faults
         S.under S.File.seen S.listing S.lists asked.now.name.now asked.now.piece_length
-        asked.now.hybrid shelf.old shelf.new (Ok draft))) }
+        asked.now.hybrid shelf.old shelf.new (Ok draft) × (W.seen out.new ≡ W.seen out.old))) }
     ensures refused { IfOk result (λ found. IfErr found (λ s. (s ≡ answer_status false)
         × (r : Refusal) × (path : Vec (String Global)) × Gathers S.opens S.closes S.faults S.under
         S.File.seen S.listing S.lists asked.now.name.now asked.now.piece_length asked.now.hybrid
