@@ -192,6 +192,65 @@ CASES = [
     (PAD_ALONE, "a pad and no file that is not empty", "19 HybridAlign", []),
 ]
 
+# What two tests refuse, one after the other in their order: the first of them answers.
+TWO_FAULTS = [
+    (ABC, "bytes after an integer", "2 NotBencode Trailing 3", [(ABC, "i1ex")]),
+    (ABC, "info without a version", "4 WrongType info", [(ABC, "d4:infolee")]),
+    (ABC, "a text for the version, and an integer for the name", "4 WrongType meta version", [
+        ("versioni2e4:name3:abc", "version1:34:namei1e"),
+    ]),
+    (ABC, "version 3 and no name", "5 Version", [("versioni2e4:name3:abc", "versioni3e")]),
+    (ABC, "no name, and a list for the file tree", "3 Missing name", [
+        ("treed7:abc.txt", "treel7:abc.txt"),
+        ("4:name3:abc", ""),
+    ]),
+    (ABC, "a list for piece layers, and a piece length of 16,385", "4 WrongType piece layers", [
+        ("layersde", "layersle"),
+        ("i16384e", "i16385e"),
+    ]),
+    (ABC, "a piece length of 16,385, and an integer for a component", "6 PieceLength", [
+        ("i16384e", "i16385e"),
+        ("d0:d", "d0:i1e1:xd"),
+    ]),
+    (ABC, "an integer for a component, and the path ..", "7 Shape", [(FILE, "2:..i1e")]),
+    (ABC, "the path .., and a symlink", "8 Path", [("7:abc.txt", "2:.."), ("6:length", "4:attr1:l6:length")]),
+    (ABC, "a symlink, and a length below zero", "9 Symlink", [("6:lengthi3e", "4:attr1:l6:lengthi-1e")]),
+    (ABC, "a length below zero, and another file without a root", "10 Length", [
+        (FILE, "1:ad0:d6:lengthi-1e11:pieces root32:<abc>ee1:bd0:d6:lengthi1eee"),
+    ]),
+    (ABC, "a file without a root, and one root of two lengths", "11 Root", [
+        (FILE,
+         "1:ad0:d6:lengthi1e11:pieces root32:<abc>ee1:bd0:d6:lengthi2e11:pieces root32:<abc>ee1:cd0:d6:lengthi1eee"),
+    ]),
+    (ABC, "one root of two lengths, and too many pieces", "12 RootReused", [
+        (FILE, "1:ad0:d6:lengthi1e11:pieces root32:<abc>ee1:bd0:d6:lengthi70368744177664e11:pieces root32:<abc>ee"),
+    ]),
+    (ABC, "too many pieces, and no layer", "14 TooManyPieces", [("i3e", "i70368744177664e")]),
+    (FIVE, "no layer for one file, and a short one for another", "15 LayerMissing", [
+        ("d4:five", "d1:dd0:d6:lengthi65637e11:pieces root32:<two>ee4:five"),
+        ("96:<pair><next><end>", "64:<pair><next>"),
+    ]),
+    (FIVE, "a short layer for one file, and another root over another's", "16 LayerSize", [
+        ("d4:five", "d1:dd0:d6:lengthi65637e11:pieces root32:<two>ee4:five"),
+        ("32:<five>96:<pair><next><end>", "32:<five>96:<next><pair><end>32:<two>64:<pair><next>"),
+    ]),
+    (FIVE, "another root over a layer, and no list of version 1", "17 LayerMismatch", [
+        ("<next><end>", "<next><turned>"),
+        ("i32768ee", "i32768e6:pieces20:<cut>e"),
+    ]),
+    (HYBRID, "no file, and another list of version 1", "13 NoFiles", [
+        ("treed1:ad0:d6:lengthi16385e11:pieces root32:<two>ee1:cd0:d6:lengthi3e11:pieces root32:<abc>eee", "treede"),
+    ]),
+    (HYBRID, "another length, at a place that is not its own", "18 HybridFiles", [
+        ("lengthi3e4:path", "lengthi4e4:path"),
+        ("i16383e", "i16382e"),
+    ]),
+    (HYBRID, "a file at a place that is not its own, and a digest more", "19 HybridAlign", [
+        ("i16383e", "i16382e"),
+        ("40:<cut>", "60:<cut><cut>"),
+    ]),
+]
+
 
 def bytes_of(text):
     parts = re.split("<([^>]*)>", text)
@@ -212,7 +271,7 @@ def test_texts_open():
 
 def test_refused():
     with folder() as place:
-        for text, what, refusal, changes in CASES:
+        for text, what, refusal, changes in CASES + TWO_FAULTS:
             for old, new in changes:
                 assert old in text, what
                 text = text.replace(old, new)

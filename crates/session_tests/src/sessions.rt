@@ -5,5 +5,3 @@ mod blocks;
 mod fills;
 mod hashes;
 mod made;
-mod noted;
-mod runs;

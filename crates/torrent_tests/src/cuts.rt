@@ -1,5 +1,4 @@
 //! A version 1 stream beside its digests.
 
-mod digests;
 mod feed;
 mod file_cuts;

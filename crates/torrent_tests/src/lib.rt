@@ -1,15 +1,16 @@
-//! Tests of the hash trees and cuts of files, of opening and writing torrents, and of the lines
-//! about refusals and faults.
+//! Tests of the hash trees and cuts of files, of opening and making torrents, and of shelves.
 #![tactic(auto)]
 
 #[cfg(test)]
 mod cuts;
 #[cfg(test)]
+mod digests;
+#[cfg(test)]
 mod drafting;
 #[cfg(test)]
-mod fault_lines;
+mod gathered;
 #[cfg(test)]
-mod refusal_lines;
+mod shelves;
 #[cfg(test)]
 mod torrents;
 #[cfg(test)]

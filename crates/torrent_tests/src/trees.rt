@@ -36,51 +36,49 @@ fn join(left: &Hash, right: &Hash) -> Hash {
     Sha256::digest(&both)
 }
 
-// Length and root of a content that comes in two pieces.
-fn root_in_two(content: &[u8], cut: usize) -> (u64, Hash)
-    requires some { 0 < length content.now }
+// Length and root of a content that comes in two pieces, if it is not empty.
+fn root_in_two(content: &[u8], cut: usize) -> Option<(u64, Hash)>
     requires bound { length content.now ≤ 2 ^ 46 }
-    requires cut { cut ≤ length content.now }
 {
+    if content.is_empty() {
+        return None;
+    }
+    let (first, last) = content.split_at(cut.min(content.len()));
     let mut builder = RootBuilder::new();
-    builder.push(&content[..cut]);
-    builder.push(&content[cut..]);
-    builder.finish()
+    builder.push(first);
+    builder.push(last);
+    Some(builder.finish())
 }
 
 #[test]
-fn roots_of_short_files(rt: HostRuntime) {
+fn roots_of_worked_files(rt: HostRuntime) {
     let mut twice = [0u8; 64];
     twice[..32].copy_from_slice(&Z1);
     twice[32..].copy_from_slice(&Z1);
-    assert_eq!(rt; root_in_two(b"abc", 0), (3, ABC));
-    assert_eq!(rt; root_in_two(b"abc", 2), (3, ABC));
-    assert_eq!(rt; root_in_two(&[0; 64], 10), (64, Z1));
-    assert_eq!(rt; root_in_two(&twice, 32), (64, Z2));
-}
-
-#[test]
-fn roots_by_joins(rt: HostRuntime) {
     let content = [7u8; 65636];
     let full: Hash = Sha256::digest(&content[..16384]);
     let one: Hash = Sha256::digest(&content[..1]);
     let third: Hash = Sha256::digest(&content[..7232]);
     let fifth: Hash = Sha256::digest(&content[..100]);
     let two = join(&full, &full);
-    let four = join(&two, &two);
-    let pads = join(&join(&fifth, &Z0), &Z1);
-
-    assert_eq!(rt; root_in_two(&content[..16384], 16384), (16384, full));
-    assert_eq!(rt;
-        root_in_two(&content[..16385], 16384),
-        (16385, join(&full, &one))
-    );
-    assert_eq!(rt;
-        root_in_two(&content[..40000], 1),
-        (40000, join(&two, &join(&third, &Z0)))
-    );
-    assert_eq!(rt; root_in_two(&content, 20000), (65636, join(&four, &pads)));
-    assert_eq!(rt; root_in_two(&content, 65536), (65636, join(&four, &pads)));
+    let three = join(&two, &join(&third, &Z0));
+    let five = join(&join(&two, &two), &join(&join(&fifth, &Z0), &Z1));
+    for (content, cut, root) in [
+        (b"abc" as &[u8], 0, ABC),
+        (b"abc", 2, ABC),
+        (&[0; 64], 10, Z1),
+        (&twice, 32, Z2),
+        (&content[..16384], 16384, full),
+        (&content[..16385], 16384, join(&full, &one)),
+        (&content[..40000], 1, three),
+        (&content, 20000, five),
+        (&content, 65536, five),
+    ] {
+        assert_eq!(rt;
+            root_in_two(content, cut),
+            Some((content.len() as u64, root))
+        );
+    }
 }
 
 // The root over a layer, if the layer and its number of hashes are those of the shape.
@@ -99,10 +97,14 @@ fn root_over_each_layer_of_five_blocks(rt: HostRuntime) {
     let [left, middle, right] = [join(&l0, &l1), join(&l2, &l3), join(&l4, &Z0)];
     let [four, pads] = [join(&left, &middle), join(&right, &Z1)];
     let root = join(&four, &pads);
-    assert_eq!(rt; root_over(shape, 0, &[l0, l1, l2, l3, l4]), Some(root));
-    assert_eq!(rt; root_over(shape, 1, &[left, middle, right]), Some(root));
-    assert_eq!(rt; root_over(shape, 2, &[four, pads]), Some(root));
-    assert_eq!(rt; root_over(shape, 3, &[root]), Some(root));
+    for (layer, hashes) in [
+        (0, &[l0, l1, l2, l3, l4] as &[Hash]),
+        (1, &[left, middle, right]),
+        (2, &[four, pads]),
+        (3, &[root]),
+    ] {
+        assert_eq!(rt; root_over(shape, layer, hashes), Some(root));
+    }
 }
 
 #[test]
@@ -119,10 +121,8 @@ fn shapes(rt: HostRuntime) {
         (1 << 46, 1 << 32, 32, 16384),
     ] {
         let shape = Shape::of(length).expect(&rt, "a shape");
-        assert_eq!(rt; shape.length(), length);
-        assert_eq!(rt; shape.blocks(), blocks);
-        assert_eq!(rt; shape.height(), height);
-        assert_eq!(rt; shape.block_len(shape.blocks() - 1), last);
+        assert!(rt; shape.length() == length && shape.blocks() == blocks);
+        assert!(rt; shape.height() == height && shape.block_len(shape.blocks() - 1) == last);
     }
 }
 
@@ -152,11 +152,11 @@ fn layer_in_two(
 ) -> Result<(u64, Hash, Vec<Hash>), NoMemory>
     requires some { 0 < length content.now }
     requires bound { length content.now ≤ 2 ^ 46 }
-    requires cut { cut ≤ length content.now }
 {
+    let (first, last) = content.split_at(cut.min(content.len()));
     let mut builder = LayerBuilder::with_capacity(alloc, layer, 1)?;
-    builder.push(&content[..cut])?;
-    builder.push(&content[cut..])?;
+    builder.push(first)?;
+    builder.push(last)?;
     builder.finish()
 }
 
@@ -205,15 +205,16 @@ fn one_layer_of_two_blocks(rt: HostRuntime) {
     let full: Hash = Sha256::digest(&content[..16384]);
     let one: Hash = Sha256::digest(&content[..1]);
     let root = join(&full, &one);
-    let (length, found, hashes) = layer_in_two(rt.alloc(), 0, &content, 9).expect(&rt, "memory");
-    assert_eq!(rt; (length, found), (16385, root));
-    assert_eq!(rt; hashes.as_slice(), [full, one].as_slice());
-    let (_, _, hashes) = layer_in_two(rt.alloc(), 0, &content, 0).expect(&rt, "an empty part");
-    assert_eq!(rt; hashes.as_slice(), [full, one].as_slice());
-    let (_, _, hashes) = layer_in_two(rt.alloc(), 1, &content, 16384).expect(&rt, "memory");
-    assert_eq!(rt; hashes.as_slice(), [root].as_slice());
-    let (_, _, hashes) = layer_in_two(rt.alloc(), 2, &content, 1).expect(&rt, "memory");
-    assert!(rt; hashes.is_empty());
+    for (layer, cut, expected) in [
+        (0, 9, &[full, one] as &[Hash]),
+        (0, 0, &[full, one]),
+        (1, 16384, &[root]),
+        (2, 1, &[]),
+    ] {
+        let told = layer_in_two(rt.alloc(), layer, &content, cut);
+        let (length, found, hashes) = told.expect(&rt, "memory");
+        assert!(rt; length == 16385 && found == root && hashes.as_slice() == expected);
+    }
 }
 
 #[test]
@@ -225,10 +226,14 @@ fn levels_of_five_blocks(rt: HostRuntime) {
     let shape = Shape::of(65636).unwrap();
     let levels = levels_over(rt.alloc(), shape, 0, &[leaf; 5]).expect(&rt, "memory");
     assert_eq!(rt; levels.len(), 4);
-    assert!(rt; is_level(&levels, 0, &[leaf; 5]));
-    assert!(rt; is_level(&levels, 1, &[two, two, end]));
-    assert!(rt; is_level(&levels, 2, &[four, pads]));
-    assert!(rt; is_level(&levels, 3, &[root]));
+    for (k, level) in [
+        (0, &[leaf; 5] as &[Hash]),
+        (1, &[two, two, end]),
+        (2, &[four, pads]),
+        (3, &[root]),
+    ] {
+        assert!(rt; is_level(&levels, k, level));
+    }
     let levels = levels_over(rt.alloc(), shape, 3, &[root]).expect(&rt, "memory");
     assert_eq!(rt; levels.len(), 1);
     assert!(rt; is_level(&levels, 0, &[root]));
@@ -241,21 +246,15 @@ fn first_other_place(rt: HostRuntime) {
     let one: Hash = Sha256::digest(&content[..1]);
     let root = join(&full, &one);
     let shape = Shape::of(16385).unwrap();
-    // layer, its hashes, the first place that differs
-    assert_eq!(rt;
-        check_whole(shape, 0, &[full, one], &content),
-        Some((16385, root, None))
-    );
-    assert_eq!(rt;
-        check_whole(shape, 0, &[full, full], &content),
-        Some((16385, root, Some(1)))
-    );
-    assert_eq!(rt;
-        check_whole(shape, 0, &[one, full], &content),
-        Some((16385, root, Some(0)))
-    );
-    assert_eq!(rt;
-        check_whole(shape, 1, &[root], &content),
-        Some((16385, root, None))
-    );
+    for (layer, hashes, place) in [
+        (0, &[full, one] as &[Hash], None),
+        (0, &[full, full], Some(1)),
+        (0, &[one, full], Some(0)),
+        (1, &[root], None),
+    ] {
+        assert_eq!(rt;
+            check_whole(shape, layer, hashes, &content),
+            Some((16385, root, place))
+        );
+    }
 }

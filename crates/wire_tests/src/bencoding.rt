@@ -132,8 +132,7 @@ fn writes(v: &Value<'_>, out: &mut MemSink) -> bool {
     v.is_canonical() && encode(v, out).is_ok()
 }
 
-// The spelling that is read is written, by a sink that takes a byte a call, and by one that fails
-// at each call in turn.
+// The spelling that is read is written, by a sink that takes a byte a call, until it is full.
 #[test]
 fn writes_what_was_read(rt: HostRuntime) -> Result<(), AllocError> {
     let text: &[u8] = b"d0:i-12e1:ali0e3:abcdeee";
@@ -144,14 +143,6 @@ fn writes_what_was_read(rt: HostRuntime) -> Result<(), AllocError> {
     assert!(rt; whole.written() == text && whole.failures() == 0);
     assert!(rt; !whole.is_flushed() && whole.flushes() == 0);
     assert!(rt; whole.flush().is_ok() && whole.is_flushed() && whole.flushes() == 1);
-    for calls in 0..24 {
-        let mut out = MemSink::with_room(rt.alloc(), 64)?
-            .at_most(1)
-            .fails_after(calls);
-        assert!(rt; !writes(&v, &mut out));
-        assert!(rt; text.starts_with(out.written()) && out.written().len() as u64 == calls);
-        assert_eq!(rt; (out.failures(), out.flushes()), (1, 0));
-    }
     let mut small = MemSink::with_room(rt.alloc(), 5)?;
     assert!(rt; !writes(&v, &mut small));
     assert!(rt; small.written() == b"d0:i-".as_slice());

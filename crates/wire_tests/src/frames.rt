@@ -10,22 +10,6 @@ use std::process::Abort;
 use std::test::*;
 use wire::*;
 
-// The answers of eight calls, printed.
-fn told<R: Source>(alloc: Global, source: &mut R) -> Result<String, AllocError> {
-    let mut reader = FrameReader::new(alloc, source);
-    let mut text = String::new(alloc);
-    for _ in 0..8u8 {
-        let answer = match reader.next() {
-            Ok(Some(Frame::Message(m))) => format!(in alloc; "{m:?};")?,
-            Ok(Some(bad)) => format!(in alloc; "{bad:?};")?,
-            Ok(None) => format!(in alloc; "end;")?,
-            Err(fault) => format!(in alloc; "{fault:?};")?,
-        };
-        text.push_str(&answer)?;
-    }
-    Ok(text)
-}
-
 // A loop over `advance` knows that what it met are the frames of the record.
 fn count_frames<R: Source>(alloc: Global, source: &mut R) -> Result<u64, FrameFault>
     ensures { IfOk result (λ n. (bytes : List ℕ) → (R.seen source.old).left ≡ Some bytes
@@ -55,15 +39,6 @@ fn count_directed<R: Source>(alloc: Global, source: &mut R) -> Result<u64, Frame
     Ok(n)
 }
 
-// The same however the record is cut.
-fn expect(rt: &impl Abort, alloc: Global, record: &[u8], answers: &str) {
-    for at_most in [1, 7, usize::MAX] {
-        let mut source = MemSource::new(record).at_most(at_most);
-        let text = told(alloc, &mut source).expect(rt, "memory");
-        assert!(rt; text.starts_with(answers), "{text}");
-    }
-}
-
 // A frame of zeros after its id.
 fn frame(alloc: Global, id: u8, len: u32) -> Result<Vec<u8>, AllocError> {
     let mut bytes = Vec::from_slice(alloc, &len.to_be_bytes())?;
@@ -77,72 +52,11 @@ const RECORD: [u8; 31] = [
 ];
 
 #[test]
-fn a_record_is_read_however_it_is_cut(rt: HostRuntime) {
-    let three =
-        "KeepAlive;Piece { index: 0, begin: 0, block: [97, 98, 99] };Other { id: 4, len: 5 };";
-    let end = "end;end;end;end;end;";
-    let cut = "Truncated;Truncated;Truncated;Truncated;Truncated;";
-    expect(
-        &rt,
-        rt.alloc(),
-        &RECORD,
-        &format!(in rt.alloc(); "{three}{cut}").expect(&rt, "memory"),
-    );
-    expect(
-        &rt,
-        rt.alloc(),
-        &RECORD[..29],
-        &format!(in rt.alloc(); "{three}{end}").expect(&rt, "memory"),
-    );
-    expect(
-        &rt,
-        rt.alloc(),
-        &RECORD[..28],
-        "KeepAlive;Piece { index: 0, begin: 0, block: [97, 98, 99] };Truncated;Truncated;",
-    );
-    expect(&rt, rt.alloc(), &[], "end;end;end;");
-    for bytes in [
-        &[255u8; 4] as &[u8],
-        &[255, 255, 255, 255, 7],
-        &[255, 255, 255, 255, 4, 1, 2],
-        &[0],
-    ] {
-        expect(&rt, rt.alloc(), bytes, "Truncated;Truncated;");
-    }
-    let mut source = MemSource::new(&RECORD).fails_after(1);
-    let text = told(rt.alloc(), &mut source).expect(&rt, "memory");
-    assert!(rt;
-        text.as_str() == "KeepAlive;Read;Read;Read;Read;Read;Read;Read;",
-        "{text}"
-    );
-}
-
-#[test]
 fn a_record_has_so_many_frames(rt: HostRuntime) {
     for (end, count) in [(0, Ok(0)), (29, Ok(3)), (30, Err(FrameFault::Truncated))] {
         let mut source = MemSource::new(&RECORD[..end]);
         assert!(rt; count_frames(rt.alloc(), &mut source) == count);
     }
-}
-
-#[test]
-fn frames_of_a_wrong_size_are_skipped(rt: HostRuntime) {
-    let mut record = Vec::from_slice(rt.alloc(), &[0u8, 0, 0, 2, 21, 0, 0, 0, 0, 1, 7]).expect(
-        &rt, "memory",
-    );
-    record
-        .extend_from_slice(&frame(rt.alloc(), 22, 80).expect(&rt, "memory"))
-        .expect(&rt, "memory");
-    record
-        .extend_from_slice(&frame(rt.alloc(), 7, 263_218).expect(&rt, "memory"))
-        .expect(&rt, "memory");
-    expect(
-        &rt,
-        rt.alloc(),
-        &record,
-        "BadSize { id: 21, len: 2 };BadSize { id: 7, len: 1 };BadSize { id: 22, len: 80 };\
-         BadSize { id: 7, len: 263218 };end;end;",
-    );
 }
 
 // Whether the first frame has a message.
@@ -251,21 +165,6 @@ fn room_is_taken_once(rt: HostRuntime) {
     assert!(rt; is_read);
 }
 
-// A frame that is skipped, and then one that is kept.
-#[test]
-fn a_skipped_frame_first(rt: HostRuntime) {
-    let mut record = frame(rt.alloc(), 20, 900).expect(&rt, "memory");
-    record
-        .extend_from_slice(&frame(rt.alloc(), 7, 10).expect(&rt, "memory"))
-        .expect(&rt, "memory");
-    expect(
-        &rt,
-        rt.alloc(),
-        &record,
-        "Other { id: 20, len: 900 };Piece { index: 0, begin: 0, block: [0] };end;",
-    );
-}
-
 #[test]
 fn a_request_to_the_byte(rt: HostRuntime) -> Result<(), AllocError> {
     let fields = [0, 0, 0, 0, 0, 0, 2, 0, 0, 0, 2, 0, 0, 0, 0, 9];
@@ -291,16 +190,6 @@ fn printed_faults(rt: HostRuntime) -> Result<(), AllocError> {
         assert!(rt; format!(in rt.alloc(); "{fault}")?.as_str() == text);
     }
     Ok(())
-}
-
-#[test]
-fn a_sink_that_fails_has_a_prefix(rt: HostRuntime) {
-    let mut sink = MemSink::with_room(rt.alloc(), 53)
-        .expect(&rt, "memory")
-        .at_most(4)
-        .fails_after(1);
-    assert!(rt; write(&Message::Reject(ASK), &mut sink).is_err());
-    assert!(rt; sink.written() == [0, 0, 0, 0x31].as_slice());
 }
 
 // The answers of five calls over a record, each with the form that is known then.
@@ -334,6 +223,18 @@ fn expect_record(rt: &impl Abort, alloc: Global, record: &[u8], answers: &str) {
 fn records_in_both_forms(rt: HostRuntime) {
     for (record, answers) in [
         (&[] as &[u8], "None:end Some(1);end Some(1);"),
+        (
+            &RECORD,
+            "None:In KeepAlive Some(1);\
+             In Piece { index: 0, begin: 0, block: [97, 98, 99] } Some(1);\
+             In Other { id: 4, len: 5 } Some(1);Truncated Some(1);Truncated Some(1);",
+        ),
+        (
+            &RECORD[..28],
+            "None:In KeepAlive Some(1);\
+             In Piece { index: 0, begin: 0, block: [97, 98, 99] } Some(1);\
+             Truncated Some(1);",
+        ),
         (&RECORD[..4], "None:In KeepAlive Some(1);end Some(1);"),
         (
             &[255, 255, 255, 255, 66, 84, 72],

@@ -1,9 +1,7 @@
-//! Tests of bencoding, of devices, of frames and records, and of the conversion of records.
+//! Tests of bencoding, of devices, and of frames and records.
 #![tactic(auto)]
 
 #[cfg(test)]
 mod bencoding;
-#[cfg(test)]
-mod conversion;
 #[cfg(test)]
 mod frames;

@@ -1,7 +1,7 @@
 //! The cuts of a file that comes in parts.
 ghost use Rattle.std.specs.Prelude.{◌<◌};
 
-use super::digests;
+use crate::digests;
 use hashtree::NoMemory;
 use pieces::{V1Cuts, V1File};
 use std::alloc::Global;

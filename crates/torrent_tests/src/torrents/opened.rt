@@ -1,7 +1,7 @@
 //! What is told of torrents that open.
 
-use super::digests::{self, LAYER};
 use super::text::{ABC, Edits, FILE, FIVE, HYBRID, edited};
+use crate::digests::{self, LAYER};
 use opening::{File, Torrent, TreeInfo};
 use pieces::V1;
 use std::alloc::{AllocError, Global};

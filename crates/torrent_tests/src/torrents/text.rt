@@ -1,8 +1,6 @@
 //! Torrents as text, in which `<abc>` and the like stand for bytes.
 
-use super::digests;
-use filetree::Refusal;
-use opening::Torrent;
+use crate::digests;
 use std::alloc::{AllocError, Global};
 use std::process::Abort;
 
@@ -85,24 +83,4 @@ pub(super) fn edited(
         text = text.replace(alloc, *old, new)?;
     }
     bytes(alloc, &text)
-}
-
-/// What a torrent shows, how it is made of another, and why it is turned away.
-pub(super) type Refused = (&'static str, Edits, Refusal);
-
-/// Each of these is refused so.
-pub(super) fn are_refused(
-    rt: &impl Abort,
-    alloc: Global,
-    text: &str,
-    cases: &[Refused],
-) -> Result<(), AllocError> {
-    for (what, edits, refusal) in cases.iter() {
-        let torrent = edited(rt, alloc, text, *edits)?;
-        match Torrent::open(alloc, &torrent) {
-            Ok(_) => panic!(rt; "opened: {what}"),
-            Err(found) => assert!(rt; found == *refusal, "{what}: {found:?}"),
-        }
-    }
-    Ok(())
 }

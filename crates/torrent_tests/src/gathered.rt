@@ -1,4 +1,4 @@
-//! Drafts that are gathered from shelves in memory, and why none is.
+//! Why no draft is gathered from a shelf in memory.
 ghost use Rattle.std.specs.Prelude.{⊤, None};
 
 use benc::DeviceFault;
@@ -32,34 +32,6 @@ fn is_refused(draft: &Result<Draft, GatherFault>, refusal: Refusal, parts: &[&st
         Err(GatherFault::Refused(found, path)) => *found == refusal && is(path, parts),
         _ => false,
     }
-}
-
-fn is_unreadable(draft: &Result<Draft, GatherFault>, parts: &[&str]) -> bool {
-    match draft {
-        Err(GatherFault::Device(path)) => is(path, parts),
-        _ => false,
-    }
-}
-
-#[test]
-fn takes_all_files(rt: HostRuntime) -> Result<(), Fail> {
-    let files = [
-        MemFile::new(&["c"], b"abc"),
-        MemFile::new(&["a.txt"], b""),
-        MemFile::new(&["a", "b"], TWO_BLOCKS),
-        MemFile::new(&["b"], TWO_BLOCKS),
-    ];
-    for hybrid in [false, true] {
-        for piece_length in [16384, 32768, 65536] {
-            let mut shelf = MemShelf::new(rt.alloc(), &files).at_most(1000);
-            let draft = gather(rt.alloc(), &mut shelf, "name", piece_length, hybrid);
-            assert!(rt; draft.is_ok());
-            assert_eq!(rt; (shelf.openings(), shelf.failures()), (4, 0));
-        }
-    }
-    let mut empty = MemShelf::new(rt.alloc(), &[]);
-    assert!(rt; gather(rt.alloc(), &mut empty, "name", 16384, false).is_ok());
-    Ok(())
 }
 
 #[test]
@@ -98,30 +70,6 @@ fn refuses_files(rt: HostRuntime) -> Result<(), Fail> {
         assert!(rt; is_refused(&draft, *refusal, path));
         assert_eq!(rt; shelf.failures(), 0);
     }
-    Ok(())
-}
-
-#[test]
-fn tells_what_fails(rt: HostRuntime) -> Result<(), Fail> {
-    let whole = MemFile::new(&["a"], b"abc");
-    for reads in 0..2 {
-        let files = [whole, MemFile::new(&["b"], b"abc").fails_after(reads)];
-        let mut shelf = MemShelf::new(rt.alloc(), &files);
-        let draft = gather(rt.alloc(), &mut shelf, "name", 16384, false);
-        assert!(rt; is_unreadable(&draft, &["b"]));
-        assert_eq!(rt; (shelf.openings(), shelf.failures()), (2, 1));
-    }
-    let files = [whole];
-    let mut closed = MemShelf::new(rt.alloc(), &files).fails_after(1);
-    let draft = gather(rt.alloc(), &mut closed, "name", 16384, false);
-    assert!(rt; is_unreadable(&draft, &["a"]));
-    assert_eq!(rt; (closed.openings(), closed.failures()), (1, 1));
-    let mut unlisted = MemShelf::new(rt.alloc(), &files).fails_after(0);
-    let draft = gather(rt.alloc(), &mut unlisted, "name", 16385, false);
-    assert!(rt; is_refused(&draft, Refusal::PieceLength, &[]));
-    let draft = gather(rt.alloc(), &mut unlisted, "name", 16384, false);
-    assert!(rt; matches!(draft, Err(GatherFault::List(ShelfFault::Device))));
-    assert_eq!(rt; (unlisted.openings(), unlisted.failures()), (0, 1));
     Ok(())
 }
 
