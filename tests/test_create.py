@@ -203,6 +203,9 @@ def test_refused_before_the_torrent_is_opened():
         os.mkdir(f"{content}/a\nb")
         os.rename(f"{content}/second", f"{content}/a\nb/c")
         expect_untouched(create(content, out), out, 1, "refused 12 RootReused first\n")
+        os.mkdir(f"{content}/b\\\n\x7fé")
+        os.rename(f"{content}/first", f"{content}/b\\\n\x7fé/first")
+        expect_untouched(create(content, out), out, 1, "refused 12 RootReused b\\x5c\\x0a\\x7fé/first\n")
         for words in (["--piece-length", "16384"], ["--name", "x"], ["--name", "x", "--piece-length", "K"],
                       ["--name", "x", "--piece-length", "-1"], ["--name", "x", "--piece-length", str(2 ** 64)]):
             done = run("create", content, out, *words)

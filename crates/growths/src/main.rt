@@ -13,6 +13,7 @@ mod replaying;
 mod runs;
 mod shelving;
 mod state;
+mod wanting;
 
 use again::{decode_again, open_again};
 use drafting::draft_again;

@@ -3,6 +3,7 @@ use crate::given::{Call, Given, OUT_OF_MEMORY};
 use crate::keeping::{Directed, keep_messages, lend_messages};
 use crate::runs::run_messages;
 use crate::state::{State, compare};
+use crate::wanting::want_each;
 use metainfo::Torrent;
 use session::{Answer, NoMemory, NodeMap, Session};
 use std::io;
@@ -24,6 +25,7 @@ pub(crate) fn take_record<N: NodeMap>(
     };
     match call {
         "run" => run_messages::<N>(rt, &given, 1),
+        "want" => want_each::<N>(rt, &given),
         "run of all" | "run_noted" => run_messages::<N>(rt, &given, usize::MAX),
         _ => take_messages::<N>(rt, &given),
     }
