@@ -1,13 +1,14 @@
-"""Torrents that do not open, as `btcheck show` tells: each is the text of one that opens, with some changes.
+"""Torrents that open and that do not, as `btcheck show` tells: each is the text of one that opens, with some changes.
 
 In a text `<abc>` and the like stand for the bytes that have this name in `BYTES`.
 """
 import hashlib
 import re
 
+import messages
 from support import expect, folder, run, write
 from torrents import TWO, bencoded, entry, file, info, pad
-from trees import layer, root_of, sha256
+from trees import BLOCK, layer, root_of, sha256
 
 CONTENT = bytes(i % 251 for i in range(65636))
 LAYER = layer(CONTENT, 2)
@@ -252,6 +253,70 @@ TWO_FAULTS = [
 ]
 
 
+# A text that opens with these changes, and the lines of its files.
+OPENED = [
+    (FIVE, "three pieces", ["65636 <five> five"], []),
+    (FIVE, "a layer that no file needs", ["65636 <five> five"], [("d32:<five>", "d32:<zeros>1:x32:<five>")]),
+    (FIVE, "one piece, and a layer that it does not need", ["65636 <five> five"], [("i32768e", "i131072e")]),
+    (FIVE, "one piece, and no layers", ["65636 <five> five"], [
+        ("i32768e", "i131072e"),
+        ("12:piece layersd32:<five>96:<pair><next><end>e", ""),
+    ]),
+    (ABC, "an empty file between two others", ["16385 <two> a", "0 - b", "3 <abc> c"], [
+        (FILE, "1:ad0:d6:lengthi16385e11:pieces root32:<two>ee1:bd0:d6:lengthi0eee"
+               "1:cd0:d6:lengthi3e11:pieces root32:<abc>ee"),
+        ("i16384e", "i32768e"),
+    ]),
+    (ABC, "an empty file at the end", ["3 <abc> a", "0 - b"], [
+        (FILE, "1:ad0:d6:lengthi3e11:pieces root32:<abc>ee1:bd0:d6:lengthi0eee"),
+    ]),
+    (ABC, "a folder before a file whose name goes on, and two equal files", ["3 <abc> a/b", "3 <abc> a.txt"], [
+        (FILE, "1:ad1:bd0:d6:lengthi3e11:pieces root32:<abc>eee5:a.txtd0:d6:lengthi3e11:pieces root32:<abc>ee"),
+    ]),
+    (ABC, "an empty folder", ["3 <abc> abc.txt"], [(FILE, FILE + "2:zzde")]),
+    (ABC, "an empty file alone, whose root is ignored", ["0 - a"], [(FILE, "1:ad0:d6:lengthi0e11:pieces rooti1eee")]),
+    (ABC, "names beyond ASCII", ["3 <abc> 文件"], [("7:abc.txt", "6:文件")]),
+    (ABC, "keys that no test looks at", ["3 <abc> abc.txt"], [
+        ("6:lengthi3e", "6:lengthi3e5:mtimei1e"),
+        ("i16384ee", "i16384e7:privatei1e6:source3:abce"),
+        ("d4:info", "d8:announce1:x7:comment1:y10:created by1:z4:info"),
+    ]),
+    (ABC, "an executable file", ["3 <abc> abc.txt"], [("6:lengthi3e", "4:attr1:x6:lengthi3e")]),
+    (ABC, "a hidden executable file", ["3 <abc> abc.txt"], [("6:lengthi3e", "4:attr2:hx6:lengthi3e")]),
+    (ABC, "attributes that are no text", ["3 <abc> abc.txt"], [("6:lengthi3e", "4:attrl1:le6:lengthi3e")]),
+    (ABC, "the greatest piece length", ["3 <abc> abc.txt"], [("i16384e", "i1073741824e")]),
+    (HYBRID, "no pad at the end", ["16385 <two> a", "3 <abc> c"], []),
+    (HYBRID, "a pad at the end", ["16385 <two> a", "3 <abc> c"], [
+        (LAST, LAST + "d4:attr1:p6:lengthi32765e4:pathl4:.pad5:32765ee"),
+        ("<cut><abc cut>", "<cut><padded cut>"),
+    ]),
+    (HYBRID, "two pads without paths for one", ["16385 <two> a", "3 <abc> c"], [
+        (PADDING, "d4:attr1:p6:lengthi16000eed4:attr2:hp6:lengthi383ee"),
+    ]),
+    (ABC, "a hybrid with one file in a list", ["3 <abc> abc.txt"], [
+        ("12:meta", "5:filesld6:lengthi3e4:pathl7:abc.txteee12:meta"),
+        ("i16384ee", "i16384e6:pieces20:<abc cut>e"),
+    ]),
+    (ABC, "a hybrid with one file by its length, with its name", ["3 <abc> abc.txt"], [
+        ("12:meta", "6:lengthi3e12:meta"),
+        ("4:name3:abc", "4:name7:abc.txt"),
+        ("i16384ee", "i16384e6:pieces20:<abc cut>e"),
+    ]),
+    (ABC, "a hybrid with an empty file alone", ["0 - a"], [
+        (FILE, "1:ad0:d6:lengthi0eee"),
+        ("12:meta", "5:filesld6:lengthi0e4:pathl1:aeee12:meta"),
+        ("i16384ee", "i16384e6:pieces0:e"),
+    ]),
+]
+
+
+def changed(text, what, changes):
+    for old, new in changes:
+        assert old in text, what
+        text = text.replace(old, new)
+    return bytes_of(text)
+
+
 def bytes_of(text):
     parts = re.split("<([^>]*)>", text)
     return b"".join(BYTES[part] if i % 2 else part.encode() for i, part in enumerate(parts))
@@ -263,19 +328,55 @@ def opens(place, content):
     return done.stdout
 
 
-def test_texts_open():
+def test_opened():
     with folder() as place:
-        for text in (ABC, FIVE, HYBRID):
-            opens(place, bytes_of(text))
+        for text, what, files, changes in OPENED:
+            content = changed(text, what, changes)
+            lines = [re.sub("<([^>]*)>", lambda name: BYTES[name[1]].hex(), line) for line in [f"files: {len(files)}", *files]]
+            shown = opens(place, content).decode().splitlines()
+            assert shown[-len(lines):] == lines, (what, shown)
+            hashes = [line.split()[2] for line in shown if line.startswith("info hash")]
+            assert len(hashes) == (2 if b"6:pieces" in content else 1), (what, shown)
+
+
+# Three files of three bytes, and one of 2^30 bytes behind them, each in a piece of its own.
+FAR = [(FILE, "".join(f"1:{name}d0:d6:lengthi3e11:pieces root32:<abc>ee" for name in "abc")
+        + "1:dd0:d6:lengthi1073741824e11:pieces root32:<five>ee"), ("i16384e", "i1073741824e")]
+
+
+def test_places_of_blocks():
+    """The piece index and the begin of a message are those of a block, or of none, however large they are."""
+    two = bytes(2 * BLOCK)
+    none, unproved = ["refused P1 BadPlace"], "refused P3 Unproved"
+    apart = [
+        (0, 0, TWO, [f"{unproved} 0 0", f"{unproved} 0 1"]), (0, BLOCK, TWO[BLOCK:], [unproved]),
+        (0, BLOCK + 1, b"abc", none), (0, 1, b"abc", none), (1, 0, b"abc", ["verified 2 0"]),
+        (0, 2 * BLOCK, b"abc", ["verified 2 0"]), (1, BLOCK, b"abc", none), (2, 0, b"abc", none), (0, 4 * BLOCK, b"abc", none)]
+    far = [
+        (2, 0, b"abc", ["verified 2 0"]), (0, 3 << 30, two, [f"{unproved} 3 0", f"{unproved} 3 1"]),
+        (3, (1 << 30) - 2 * BLOCK, two, [f"{unproved} 3 65534", f"{unproved} 3 65535"]),
+        (0, (1 << 32) - 2 * BLOCK, two, [f"{unproved} 3 65534", f"{unproved} 3 65535"]),
+        (3, (1 << 30) - BLOCK, two, ["refused P2 BadSize"]), (3, 1 << 30, two, none), (0, (1 << 32) - 1, two, none),
+        ((1 << 32) - 1, 0, two, none), ((1 << 32) - 1, (1 << 32) - 1, two, none)]
+    five = [(2, 0, CONTENT[-100:], [unproved]), (1, BLOCK, CONTENT[3 * BLOCK:], [f"{unproved} 0 3", f"{unproved} 0 4"]),
+            (0, 0, CONTENT, [f"{unproved} 0 {block}" for block in range(5)]), (2, BLOCK, CONTENT[-100:], none)]
+    five += [(0, 0, CONTENT[:size] + bytes(max(size - len(CONTENT), 0)), ["refused P2 BadSize"])
+             for size in (0, 1, BLOCK - 1, 2 * BLOCK + 1, len(CONTENT) + 1)]
+    between = [(text, changes) for text, what, _, changes in OPENED if what == "an empty file between two others"]
+    with folder() as place:
+        for (text, changes), rows in ((between[0], apart), ((ABC, FAR), far), ((FIVE, []), five)):
+            torrent = write(f"{place}/torrent", changed(text, "places", changes))
+            for index, begin, carried, told in rows:
+                record = write(f"{place}/record", messages.piece(index, begin, carried))
+                lines = "".join(f"1 {line}\n" for line in told)
+                status = 0 if told[0].startswith("verified") else 1
+                expect(run("replay", torrent, record, "--info-only"), status, f"{lines}end\n")
 
 
 def test_refused():
     with folder() as place:
         for text, what, refusal, changes in CASES + TWO_FAULTS:
-            for old, new in changes:
-                assert old in text, what
-                text = text.replace(old, new)
-            expect(run("show", write(f"{place}/t", bytes_of(text))), 1, f"refused {refusal}\n")
+            expect(run("show", write(f"{place}/t", changed(text, what, changes))), 1, f"refused {refusal}\n")
 
 
 def test_limit_of_bytes():
