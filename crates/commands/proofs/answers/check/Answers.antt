@@ -1,0 +1,12 @@
+use Rattle.std.proofs.Common.{ap, ◌∙◌}
+use Rattle.commands.specs.Answers.{answer_status}
+use Rattle.commands.proofs.answers.check.Goals as goal
+
+pub returns-in-Ok-clause-checks : goal.returns-in-Ok-clause-checks
+returns-in-Ok-clause-checks g c = (
+  c.in_ok-report.report.files.items,
+  c.in_ok-report.report.v1,
+  c.in_ok-report.ensures.verdicts,
+  c.in_ok-report.ensures.tells,
+  (c.in-Ok.ensures, c.status.ensures ∙ ap answer_status c.yes.ensures),
+)
