@@ -1,12 +1,13 @@
 # make                 proves every crate that the program needs and builds build/btcheck
 # make check           runs what the merge gate runs: proofs, must-fail edits, all tests
 # make test            runs the built program on real files
-# make bench           measures the commands and what they stand on, beside what they cannot do without
+# make bench           measures the commands and what they stand on, compared with the digests alone
 # make install         puts the program, its manual page and its completions below PREFIX (and DESTDIR)
 # make uninstall       removes them
-# make static          links what was proved with a static C library: build/static/btcheck, one file that runs anywhere
-# make dist            packs that program with manual, completions, licences and the recorder of real traffic, and a list
-#                      of SHA-256 digests
+# make static          links what was proved with a static C library: build/static/btcheck, one file that needs no
+#                      library
+# make dist            packs that program with manual, completions, documents, examples, licences and the relay
+#                      `tools/record`, and a list of SHA-256 digests
 # make clean           removes all that was built, kept proofs too
 # make CPU=x86-64-v3   builds for a newer processor (after make clean)
 
@@ -39,7 +40,7 @@ build/growths build/devices: $(SOURCES)
 
 check:
 	$(need_toolchain)
-	.ci/run
+	RT=$(RT) .ci/run
 
 test: build/btcheck build/growths build/devices
 	tests/run
@@ -87,8 +88,8 @@ PACKED = build/dist/$(RELEASE)
 dist: build/static/btcheck
 	rm -rf build/dist
 	$(MAKE) -s -o build/btcheck install BUILT=build/static/btcheck DESTDIR=build/dist/tree PREFIX=
-	install -D -m 644 -t build/dist/tree/share/doc/btcheck README.md docs/MANY.md docs/RECORDING.md \
-	  LICENSE-MIT LICENSE-APACHE
+	install -D -m 644 -t build/dist/tree/share/doc/btcheck README.md LICENSE-MIT LICENSE-APACHE
+	cp -r docs examples build/dist/tree/share/doc/btcheck
 	install -D -m 755 -t build/dist/tree/tools tools/record
 	cd build/dist/tree && find . -type f | LC_ALL=C sort | xargs sha256sum > ../SHA256SUMS && mv ../SHA256SUMS .
 	mv build/dist/tree $(PACKED)

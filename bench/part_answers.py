@@ -1,6 +1,6 @@
-"""`btcheck replay --answers` and `--seed`. 2,048 requests of 512 leaves with their uncles, eight times each, are answered
-from a tree of 2^20 leaves, beside copying the bytes of the answers; what a replay without a request takes, for the
-session, is left out. And a session is filled from a file, beside the bare digests of its blocks, and in little more
+"""`btcheck replay --answers` and `--seed`. 2,048 requests of 512 leaves with their uncles, eight times each, are
+answered from a tree of 2^20 leaves, beside copying the bytes of the answers; what a replay without a request takes, for
+the session, is left out. And a session is filled from a file, beside the bare digests of its blocks, and in little more
 memory than what it then knows takes."""
 import os
 import statistics

@@ -1,7 +1,7 @@
-"""`btcheck check` of a folder with one file of random bytes, and of one with many files of one block, each by a torrent of
-version 2 and by a hybrid: beside the bare digests of the same bytes (SHA-256; SHA-256 and SHA-1), and beside libtorrent,
-which checks the same folder with one thread (recheck.py; it needs Debian's python3-libtorrent). Its memory is held against
-that of `btcheck show`, which has the same torrent and no file."""
+"""`btcheck check` of a folder with one file of random bytes, and of one with many files of one block, each by a torrent
+of version 2 and by a hybrid: beside the bare digests of the same bytes (SHA-256; SHA-256 and SHA-1), and beside
+libtorrent, which checks the same folder with one thread (recheck.py; it needs Debian's python3-libtorrent). Its memory
+is held against that of `btcheck show`, which has the same torrent and no file."""
 import os
 import shutil
 import sys
@@ -19,7 +19,8 @@ MEMORY_MARK = 8
 
 
 def one_file(folder, words):
-    """A folder with one file of random bytes. Gives what a torrent is made of, its piece length, and the size in MiB."""
+    """A folder with one file of random bytes. Gives what a torrent is made of, its piece length, and the size in
+    MiB."""
     path = os.path.join(folder, "content")
     write_random(path, words.size)
     return path, 1 << 20, words.size

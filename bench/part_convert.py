@@ -1,5 +1,5 @@
-"""`btcheck convert` of piece messages of one block each, beside copying the record by `cat`; and `btcheck replay` of the
-first of them, verified by piece layers, as a record of form 2 and as one of form 1."""
+"""`btcheck convert` of piece messages of one block each, beside copying the record by `cat`; and `btcheck replay` of
+the first of them, verified by piece layers, as a record of form 2 and as one of form 1."""
 import os
 import sys
 

@@ -1,7 +1,7 @@
-"""`btcheck create` of a folder with one file of random bytes, and of one with many files of one block, each as a torrent of
-version 2 and as a hybrid: beside the bare digests of the same bytes (SHA-256; SHA-256 and SHA-1), and beside libtorrent,
-which makes a torrent of the same folder with one thread (remake.py; it needs Debian's python3-libtorrent). Its memory is
-held against that of `btcheck show` of what it made."""
+"""`btcheck create` of a folder with one file of random bytes, and of one with many files of one block, each as a
+torrent of version 2 and as a hybrid: beside the bare digests of the same bytes (SHA-256; SHA-256 and SHA-1), and beside
+libtorrent, which makes a torrent of the same folder with one thread (remake.py; it needs Debian's python3-libtorrent).
+Its memory is held against that of `btcheck show` of what it made."""
 import os
 import shutil
 import sys

@@ -1,5 +1,5 @@
-"""16,384 piece messages of one block each out of a file, beside the bare digests of the same blocks; and the same as records
-of both forms."""
+"""16,384 piece messages of one block each out of a file, beside the bare digests of the same blocks; and the same as
+records of both forms."""
 import os
 
 from measuring import BARE, BLOCK, READERS, measured, build_bare, build_readers, missed_marks, report, see_answer
@@ -13,8 +13,8 @@ ROUNDS = 5  # for each round that was asked for, since records are read fast
 
 
 def write_frames(folder):
-    """Random blocks, the same blocks each in a piece message (BEP 3), and these as a record of form 2, all of which came
-    in."""
+    """Random blocks, the same blocks each in a piece message (BEP 3), and these as a record of form 2, all of which
+    came in."""
     paths = [os.path.join(folder, name) for name in ("blocks", "frames", "form-2")]
     with open(paths[0], "wb") as bare, open(paths[1], "wb") as frames, open(paths[2], "wb") as record:
         record.write(HEADER)

@@ -1,8 +1,8 @@
 """`btcheck replay` on records. One has 16,384 piece messages of one block each and the hashes of their leaves before
 them, another the same in messages of 16 blocks, beside the bare digests of the same blocks. One has 2,048 answers of
-512 leaves with their uncles over a tree of 2^20 leaves, beside the bare digests of the pairs that lead to the root. And on
-an empty record a torrent of 1,000,000 pieces: what its layers cost a new session, beside the bare digests of the pairs
-above them."""
+512 leaves with their uncles over a tree of 2^20 leaves, beside the bare digests of the pairs that lead to the root. And
+on an empty record a torrent of 1,000,000 pieces: what its layers cost a new session, beside the bare digests of the
+pairs above them."""
 import os
 import statistics
 import sys

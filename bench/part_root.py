@@ -1,5 +1,5 @@
-"""`btcheck root` on one file of random bytes, beside the bare digests of its blocks; and on a file of 16 MiB in many short
-rounds, whose ratio hardly sees the other work on the machine."""
+"""`btcheck root` on one file of random bytes, beside the bare digests of its blocks; and on a file of 16 MiB in many
+short rounds, whose ratio hardly sees the other work on the machine."""
 import os
 import shutil
 

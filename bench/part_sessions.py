@@ -1,6 +1,6 @@
-"""2,048 answers of 512 leaves with their uncles, over a tree of 2^20 leaves, given to a session by value: without a frame
-and without a line, in the order of their places, from the end, and in another. Beside it stand the bare digests of the
-pairs that lead to the root."""
+"""2,048 answers of 512 leaves with their uncles, over a tree of 2^20 leaves, given to a session by value: without a
+frame and without a line, in the order of their places, from the end, and in another. Beside it stand the bare digests
+of the pairs that lead to the root."""
 import os
 
 from measuring import BARE, BLOCK, SESSIONS, measured, build_bare, build_sessions, missed_marks, report, see_answer

@@ -1,6 +1,6 @@
 """`btcheck show` on torrents of 25,000, 50,000 and 100,000 files, so that a cost that is not proportional to the files
-shows, with names, roots and layers as an enemy would choose them; and on one with a piece layer of 250,000 hashes, beside
-the bare digests of the same pairs."""
+shows, with names, roots and layers as an enemy would choose them; and on one with a piece layer of 250,000 hashes,
+beside the bare digests of the same pairs."""
 import functools
 import os
 import sys

@@ -1,5 +1,5 @@
-"""remake.py CONTENT OUT PIECE_LENGTH v2|hybrid: lets libtorrent make a torrent of a file or a folder with one thread, which
-is what it does by itself."""
+"""remake.py CONTENT OUT PIECE_LENGTH v2|hybrid: lets libtorrent make a torrent of a file or a folder with one thread,
+which is what it does by itself."""
 import os
 import sys
 

@@ -32,7 +32,7 @@ complete -c btcheck -n '__fish_seen_subcommand_from create; and test (__btcheck_
     -a '(__fish_complete_directories)'
 complete -c btcheck -n '__fish_seen_subcommand_from create; and test (__btcheck_arguments) -eq 1' -F
 complete -c btcheck -n '__fish_seen_subcommand_from create' -l name -x -d 'The display name'
-complete -c btcheck -n '__fish_seen_subcommand_from create' -l piece-length -x -d 'Bytes a piece'
+complete -c btcheck -n '__fish_seen_subcommand_from create' -l piece-length -x -d 'Bytes per piece'
 complete -c btcheck -n '__fish_seen_subcommand_from create' -l hybrid -d 'Make a hybrid'
 
 complete -c btcheck -n $none -a convert -d 'Make a record with directions of one without'
@@ -44,7 +44,7 @@ complete -c btcheck -n '__fish_seen_subcommand_from replay; and test (__btcheck_
 complete -c btcheck -n '__fish_seen_subcommand_from replay; and test (__btcheck_arguments) -eq 1' -F
 complete -c btcheck -n '__fish_seen_subcommand_from replay' -l info-only -d 'Start from the roots alone'
 complete -c btcheck -n '__fish_seen_subcommand_from replay' -l seed -r \
-    -a '(__fish_complete_directories)' -d 'Start from the files of a folder too'
+    -a '(__fish_complete_directories)' -d 'Also start from the files of a folder'
 complete -c btcheck -n '__fish_seen_subcommand_from replay' -l answers -r -F \
     -d 'Write the answers to hash requests'
 

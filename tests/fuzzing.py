@@ -229,7 +229,8 @@ class Fuzz:
         self.compare("torrent", opening_model.shown(content), "show", f"{self.place}/torrent")
 
     def drawn_record(self, draw, rate):
-        """A torrent's files, its piece length, whether its layers are known, and a record, at this rate with directions."""
+        """A torrent's files, its piece length, whether its layers are known, and a record, at this rate with
+        directions."""
         piece_length = draw.choice(PIECE_LENGTHS)
         files = [(name, content_of(draw.choice([*SIZES, 9 * 16384]), draw.randrange(3))) for name in "abc"]
         files[0] = ("a", files[0][1] or b"abc")
@@ -305,8 +306,8 @@ def damage(draw, path, content):
 
 
 def bent_record(draw, frames, has_directions):
-    """The frames, some of them changed, doubled, moved or dropped, joined to a record of one of the forms; the whole seldom
-    cut or with bytes changed."""
+    """The frames, some of them changed, doubled, moved or dropped, joined to a record of one of the forms; the whole
+    seldom cut or with bytes changed."""
     frames = list(frames)
     for _ in range(draw.choice([0, 1, 1, 2, 5])):
         at = draw.randrange(len(frames))

@@ -63,8 +63,8 @@ def pump(source, sink, change):
 
 
 class Liar:
-    """Turns a bit in some of the frames that the holder sends. Behind the relay it turns them back, since libtorrent hangs
-    up on a liar."""
+    """Turns a bit in some of the frames that the holder sends. Behind the relay it turns them back, since libtorrent
+    hangs up on a liar."""
 
     def __init__(self):
         self.rest, self.has_greeted, self.count, self.counts = b"", False, 0, {7: 0, 22: 0}
@@ -92,8 +92,8 @@ class Liar:
         return given
 
     def bent(self, frame):
-        """Of every ninth block a bit of its own or of its place is turned, of two hashes messages in three one of a hash
-        or of the proof layers."""
+        """Of every ninth block a bit of its own or of its place is turned, of two hashes messages in three one of a
+        hash or of the proof layers."""
         self.count += 1
         kind = frame[4] if len(frame) > 4 else None
         if kind not in self.counts:

@@ -1,4 +1,5 @@
-"""A plain model of torrents: what bytes spell (BEP 3), and what opens, with the tests in the order of docs/FORMATS.md."""
+"""A plain model of torrents: what bytes spell (BEP 3), and what opens, with the tests in the order of
+docs/FORMATS.md."""
 import hashlib
 import re
 

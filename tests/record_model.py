@@ -1,5 +1,5 @@
-"""A plain model of `replay` and `convert`: the frames of a record (BEP 3) in both forms, and the line of each by a session
-of session_model."""
+"""A plain model of `replay` and `convert`: the frames of a record (BEP 3) in both forms, and the line of each by a
+session of session_model."""
 
 MOST_OF_BODY = 49 + 32 * (8192 + 32)
 MESSAGES = (7, 21, 22, 23)
@@ -109,8 +109,8 @@ def converted(record):
 
 
 def conversion(record, path):
-    """What `convert` of this record at this path is to do: its status, what it prints, what it tells on standard error, and
-    with what OUT begins. With status 0 this is all of OUT."""
+    """What `convert` of this record at this path is to do: its status, what it prints, what it tells on standard error,
+    and with what OUT begins. With status 0 this is all of OUT."""
     if record.startswith(FORM_2):
         return 1, b"refused 3 AlreadyForm2\n", b"", b""
     is_whole = read(record)[1] == "end"

@@ -4,20 +4,21 @@ import errno
 import os
 import subprocess
 
-from support import BTCHECK, TOP, LeftOut, folder, run, write
+from support import BTCHECK, TOP, LeftOut, folder, need, run, write
 
 
 class Shim:
     """A compiled shim in a folder."""
 
     def __init__(self, place):
+        need("gcc")
         self.library, self.counts = f"{place}/shim.so", f"{place}/shim.counts"
         subprocess.run(["gcc", "-shared", "-fPIC", "-O1", "-Wall", "-o", self.library, f"{TOP}/tests/shim.c"], check=True)
 
     def run(self, kind, at, *arguments, onward=False, error=errno.EIO, change=None, one_byte=False, out=None, **options):
         """Runs the program; call `at` of this kind fails, and with `onward` all later ones too; 0 fails none. With a
-        `change`, a path and a length, that file gets this length instead. A file `out` holds `before` at the start. Tells
-        how many calls there were, and how the run ended."""
+        `change`, a path and a length, that file gets this length instead. A file `out` holds `before` at the start.
+        Tells how many calls there were, and how the run ended."""
         if out:
             write(out, b"before")
         with open(self.counts, "wb") as file:
@@ -34,7 +35,8 @@ class Shim:
         return calls, done
 
     def each(self, kind, *arguments, **more):
-        """The runs in which call 1, 2, and so on of this kind fails, until one meets no failure: the ample run first."""
+        """The runs in which call 1, 2, and so on of this kind fails, until one meets no failure: the ample run
+        first."""
         yield self.run(kind, 0, *arguments, **more)[1]
         at = 1
         while True:

@@ -1,6 +1,7 @@
 """What the tests share: runs of the program, folders, and torrents that libtorrent makes."""
 import json
 import os
+import shutil
 import subprocess
 import sys
 import tempfile
@@ -13,9 +14,16 @@ class LeftOut(Exception):
     """A test, or the rest of one, needs what is not here; the text says what."""
 
 
+def need(*commands):
+    """A test that uses these commands is left out without them."""
+    for command in commands:
+        if not shutil.which(command):
+            raise LeftOut(f"there is no {command} here")
+
+
 def run(*arguments, **options):
-    """Runs the program, or another one, with these arguments, bytes or text. A shell limits it to so many KiB of `memory`,
-    since to copy this process for that takes longer. All other options are those of subprocess.run."""
+    """Runs the program, or another one, with these arguments, bytes or text. A shell limits it to so many KiB of
+    `memory`, since to copy this process for that takes longer. All other options are those of subprocess.run."""
     words = [options.pop("program", BTCHECK), *arguments]
     memory = options.pop("memory", None)
     if memory:
@@ -78,7 +86,7 @@ def made_by_libtorrent(orders):
     """What libtorrent tells of the torrents that it makes by these orders (maker.py)."""
     python = python_with_libtorrent()
     if python is None:
-        raise RuntimeError("no Python here has libtorrent: install the Debian package python3-libtorrent")
+        raise LeftOut("no Python here has libtorrent: the Debian package is python3-libtorrent")
     maker = os.path.join(os.path.dirname(os.path.abspath(__file__)), "maker.py")
     done = subprocess.run([python, maker], input=json.dumps(orders), stdout=subprocess.PIPE, text=True, check=True)
     return json.loads(done.stdout)

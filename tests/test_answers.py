@@ -5,10 +5,8 @@ import random
 from messages import KEEP_ALIVE, hashes, piece, reject, request
 from poison import Peers
 from support import expect, folder, run, write
-from torrents import ABC, torrent_of
+from torrents import ABC, FIVE, torrent_of
 from trees import BLOCK, Tree
-
-FIVE = bytes(range(256)) * 256 + bytes(100)  # 65,636 bytes: five blocks, the last of 100 bytes
 
 
 def answered(place, torrent, record, *flags, **options):

@@ -1,6 +1,7 @@
 """Arguments that are refused, help, and the version."""
 import os
 import re
+import shutil
 
 from support import TOP, expect, run
 
@@ -115,3 +116,5 @@ def test_the_version_is_that_of_the_documents():
         version = re.search(r"^## ([0-9.]+)", file.read(), re.M)[1]
     for flag in ["--version", "-V"]:
         expect(run(flag), 0, f"btcheck {version} (proved with {kit})\n", b"")
+    if shutil.which("rt"):
+        expect(run("version", program="rt"), 0, f"{kit}\n", None)

@@ -7,7 +7,7 @@ import subprocess
 import messages
 import record_model
 from session_model import Session
-from support import BTCHECK, TOP, folder, write
+from support import BTCHECK, TOP, folder, need, write
 from torrents import ABC
 
 HANDSHAKE = b"\x13BitTorrent protocol" + bytes(48)
@@ -64,6 +64,7 @@ def segments(source, target, start, stream, size):
 
 def recorded(place, packets):
     """What the page's recipe makes of a capture of these packets: the record, and the run of `replay`."""
+    need("tcpflow")
     write(f"{place}/capture.pcap", capture(packets))
     write(f"{place}/TORRENT", ABC)
     os.mkdir(f"{place}/bin")

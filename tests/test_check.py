@@ -371,7 +371,7 @@ def test_names_that_no_file_can_have():
             expect(run("check", torrent, place), 1, f"unreadable {'/'.join(path)}\nno\n")
 
 
-def test_files_without_leave_to_read():
+def test_files_without_permission():
     nobody = {"preexec_fn": lambda: os.setuid(65534)} if os.geteuid() == 0 else {}
     with folder() as place:
         os.chmod(place, 0o755)

@@ -14,7 +14,6 @@ from shim import shimmed
 from support import BTCHECK, TOP, expect, folder, made_by_libtorrent, python_with_libtorrent, run, write, written
 from trees import BLOCK, sha256
 
-TWO = bytes(at % 251 for at in range(16385))
 
 # Files of a folder: hidden ones, empty ones, equal ones, and names around the order of paths.
 FILES = {
@@ -79,7 +78,7 @@ def test_one_small_file():
 
 def test_a_pad_between_two_files():
     with folder() as place:
-        content = make_folder(f"{place}/content", {"a": TWO, "c": b"abc"})
+        content = make_folder(f"{place}/content", {"a": torrents.TWO, "c": b"abc"})
         expect(create(content, f"{place}/out", "x", 32768, True), 0)
         assert written(f"{place}/out") == torrents.torrent(torrents.hybrid())
         assert b"d4:attr1:p6:lengthi16383e4:pathl4:.pad5:16383ee" in written(f"{place}/out")
@@ -299,7 +298,7 @@ def test_listings_that_fail():
         assert calls > 20 and written(out) == torrent_of(contents, "x", 16384, False), calls
 
 
-def test_files_without_leave_to_read():
+def test_files_without_permission():
     nobody = {"preexec_fn": lambda: os.setuid(65534)} if os.geteuid() == 0 else {}
     with folder() as place:
         os.chmod(place, 0o777)
@@ -345,7 +344,7 @@ def test_torrents_that_cannot_be_written():
 def test_files_that_vanish():
     """A file that is gone when it is opened, one that cannot be read on, and one that shrinks or grows meanwhile."""
     with shimmed() as (place, shim):
-        contents = {"a": TWO, "b/c": b"abc"}
+        contents = {"a": torrents.TWO, "b/c": b"abc"}
         content, out = make_folder(f"{place}/content", contents), write(f"{place}/out", b"before")
         arguments = ["create", content, out, "--name", "x", "--piece-length", "16384"]
         told = set()
@@ -362,12 +361,12 @@ def test_files_that_vanish():
         assert told == {f"fault: cannot {'write' if name == out else 'read'} {name}\n" for name in names}, told
         for length in (0, 1, 16384, 16386, 100000):
             for at in range(1, 5):
-                write(f"{content}/a", TWO)
+                write(f"{content}/a", torrents.TWO)
                 _, done = shim.run("read", at, *arguments, change=(f"{content}/a", length))
                 expect(done, 0)
                 size = decoded(written(out))[0][b"info"][b"file tree"][b"a"][b""][b"length"]
                 # it changed before the first block was read, after that one, or after the last byte
-                assert size in (length, max(length, 16384), len(TWO)), (length, at, size)
+                assert size in (length, max(length, 16384), len(torrents.TWO)), (length, at, size)
                 assert run("show", out).returncode == 0
 
 
@@ -375,7 +374,7 @@ def test_libtorrent_takes_the_torrents():
     """A session of libtorrent finds the folder complete; roots, layers and pieces are those that it makes itself."""
     with folder() as place:
         orders, pairs, ours = [], [], []
-        for number, contents in enumerate([FILES, {"one": TWO}, {"a": TWO, "c": b"abc"}]):
+        for number, contents in enumerate([FILES, {"one": torrents.TWO}, {"a": torrents.TWO, "c": b"abc"}]):
             contents = {path: content for path, content in contents.items() if "\\" not in path}
             content = make_folder(f"{place}/{number}/content", contents)
             for piece_length in (16384, 65536):

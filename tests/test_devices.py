@@ -9,10 +9,9 @@ import record_model
 from session_model import Session
 from shim import shimmed
 from support import BTCHECK, expect, folder, run, write, written
-from torrents import ABC, hybrid, torrent, torrent_of
+from torrents import ABC, TWO, hybrid, torrent, torrent_of
 from trees import Tree, root_line
 
-TWO = bytes(at % 251 for at in range(16385))
 LONG = bytes(200000)
 CANNOT_WRITE = "fault: cannot write -\n"
 
@@ -115,8 +114,8 @@ def test_reads_that_are_interrupted():
 
 
 def test_writes_that_fail():
-    """What went out is a prefix of the answer, and the fault is told. It may be all of it: a buffer tries once more as it
-    is dropped."""
+    """What went out is a prefix of the answer, and the fault is told. It may be all of it: a buffer tries once more as
+    it is dropped."""
     with shimmed() as (place, shim):
         world = World(place)
         for command in world.commands:
@@ -199,9 +198,9 @@ def test_seeds_and_answers_that_fail():
 
 
 def test_answers_that_cannot_be_written():
-    """Each write in turn: what went out of the report and of the answers is a prefix of each. The fault names that which
-    failed: standard output behind the answers of all requests that were told, or the file of answers behind the line of
-    the request."""
+    """Each write in turn: what went out of the report and of the answers is a prefix of each. The fault names that
+    which failed: standard output behind the answers of all requests that were told, or the file of answers behind the
+    line of the request."""
     with shimmed() as (place, shim):
         world = World(place)
         arguments, _ = world.commands["seeded"]
@@ -270,8 +269,8 @@ def test_files_that_change_while_they_are_read():
 
 
 def contents_of(whole, length, reads):
-    """What a reader may see of a file that gets this length before one of its reads, which take so much each: first what
-    it sees if that is the first one."""
+    """What a reader may see of a file that gets this length before one of its reads, which take so much each: first
+    what it sees if that is the first one."""
     later = whole[:length] + bytes(max(0, length - len(whole)))
     return [whole[:size] + later[size:] for size in [*range(0, len(whole), reads), len(whole)]]
 

@@ -43,6 +43,8 @@ def test_the_readme_counts_hostile_input():
 
 def test_every_cited_definition_is_explained():
     assert not definitions.missing(), definitions.missing()
+    told = contracts.text_of(definitions.DOCUMENT).split(definitions.MARK)[1]
+    assert told == "".join(definitions.sections()), "run tests/definitions.py --write"
 
 
 def promised(text, count):
@@ -57,8 +59,8 @@ def promised(text, count):
 
 
 def test_the_promises_are_those_of_the_contracts():
-    """Each label that PROVED.md or README.md tells is one of those calls, and PROVED.md names each public function with a
-    contract."""
+    """Each label that PROVED.md or README.md tells is one of those calls, and PROVED.md names each public function with
+    a contract."""
     labels = {}
     for _, _, name, told in contracts.promises():
         labels.setdefault(name, set()).update(told)
@@ -68,6 +70,23 @@ def test_the_promises_are_those_of_the_contracts():
              if not any(label in labels.get(call, ()) for call in calls)]
     assert not wrong, wrong
     assert labels.keys() <= named, sorted(labels.keys() - named)
+
+
+def rows_of(crate, text):
+    """The rows of PROVED.md below the headings that name this crate."""
+    sections = [section for section in text.split("\n## ") if f"`{crate}`" in section.split("\n")[0]]
+    return [row for section in sections for row in promised(section, 3)]
+
+
+def test_every_clause_is_told():
+    """PROVED.md tells each label of each public function's clauses in the section of its crate, if that tells
+    labels."""
+    proved, lacking = contracts.text_of(TOP, "docs", "PROVED.md"), []
+    for crate, _, name, labels in contracts.promises():
+        rows = rows_of(crate, proved)
+        told = set().union(*(words for calls, words in rows if name in calls))
+        lacking += [(crate, name, label) for label in labels if rows and label and label not in told]
+    assert not lacking, lacking
 
 
 def documents():

@@ -171,8 +171,9 @@ def test_nobody_else_makes_us_keep_asks():
 
 
 def fits(session, record, lines):
-    """Each line is what the model says of its frame in the state that the frames before it left. Or it says that memory was
-    refused for hashes that would be stored, or for an ask that would be opened, which leaves the state as it was."""
+    """Each line is what the model says of its frame in the state that the frames before it left. Or it says that memory
+    was refused for hashes that would be stored, or for an ask that would be opened, which leaves the state as it
+    was."""
     for number, (way, body) in enumerate(record_model.read(record)[0][:len(lines)], 1):
         known, asks = {root: dict(tree["known"]) for root, tree in session.trees.items()}, set(session.open)
         if way == record_model.WENT_OUT:

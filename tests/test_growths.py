@@ -1,5 +1,5 @@
-"""Memory that is refused: each growth of a run in turn, and from each on all that follow. Every run ends with the answer
-of ample memory, or says that memory was refused."""
+"""Memory that is refused: each growth of a run in turn, and from each on all that follow. Every run ends with the
+answer of ample memory, or says that memory was refused."""
 import os
 import re
 
@@ -10,12 +10,10 @@ from record_cases import large
 from session_model import Session
 from shim import shimmed
 from support import write, written
-from torrents import ABC, bencoded, file, hybrid, info, layer, torrent, torrent_of
+from torrents import ABC, FIVE, TWO, bencoded, file, hybrid, info, layer, torrent, torrent_of
 from trees import Tree, blocks_of, root_of
 
 NO_MEMORY = (2, b"", b"fault: no memory\n")
-FIVE = bytes(range(256)) * 256 + bytes(100)
-TWO = bytes(at % 251 for at in range(16385))
 
 
 def outcome(done):
@@ -120,9 +118,9 @@ def test_check():
 
 
 def fits(session, record, lines):
-    """Each frame carries one block at most, and has one line. Each line is what the model says of its frame in the state
-    that the frames before it left, or says that memory was refused for hashes that it would store, which leaves the state
-    as it was."""
+    """Each frame carries one block at most, and has one line. Each line is what the model says of its frame in the
+    state that the frames before it left, or says that memory was refused for hashes that it would store, which leaves
+    the state as it was."""
     for number, body in enumerate(record_model.bodies(record)[0], 1):
         if number > len(lines):
             return True

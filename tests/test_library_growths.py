@@ -12,21 +12,19 @@ from session_model import Session
 from shim import shimmed
 from support import TOP, write
 from test_growths import fits
-from torrents import ABC, file, hybrid, info, layer, torrent, torrent_of
+from torrents import ABC, FIVE, LARGE, TWO, file, hybrid, info, layer, torrent, torrent_of
 from trees import Tree, blocks_of, root_of
 
 GROWTHS = os.path.join(TOP, "build", "growths")
-FIVE = bytes(range(256)) * 256 + bytes(100)
-TWO = bytes(at % 251 for at in range(16385))
-LARGE = bytes(1 << 24)
 CALL = re.compile(r"refused: (.*)")
 OF_RUN = re.compile(r"message (\d+) of run")
 BYTES = re.compile(rb"\[[\d, ]*\]")
+DECODED = re.compile(rb"^decoded .*\n", re.M)
 
 
 def calls_refused(shim, name, *arguments, judge=None):
-    """Refuses each growth in turn, compares what is printed, and tells how many growths each call has. Each run that does
-    not end early is judged too."""
+    """Refuses each growth in turn, compares what is printed, and tells how many growths each call has. Each run that
+    does not end early is judged too."""
     runs = shim.each("growth", *arguments, program=GROWTHS)
     ample = next(runs)
     assert ample.returncode == 0 and not ample.stderr, (name, ample)
@@ -58,8 +56,8 @@ def has_refusal_amid(counts, call, length):
 
 
 def printed(text):
-    """The lists of bytes that a text has."""
-    return [bytes(json.loads(found)) for found in BYTES.findall(text)]
+    """The lists of bytes that a text has, without those of the decoded torrent."""
+    return [bytes(json.loads(found)) for found in BYTES.findall(DECODED.sub(b"", text))]
 
 
 def test_decode_and_open():
@@ -141,8 +139,8 @@ def answers_of(session, record, lines):
 
 
 def test_replay():
-    """A report and answers in which memory was refused are those of the frames before, and of the frames behind as if the
-    refused hashes had not come."""
+    """A report and answers in which memory was refused are those of the frames before, and of the frames behind as if
+    the refused hashes had not come."""
     _, files, piece_length, frames = next(records())
     record, seen = b"".join(frames), collections.Counter()
 

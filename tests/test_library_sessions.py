@@ -1,5 +1,5 @@
-"""Calls on sessions that no command makes, and what a session knows after each message. The program of crates/growths takes
-messages over either map, and prints what each came to and how much is known and marked."""
+"""Calls on sessions that no command makes, and what a session knows after each message. The program of crates/growths
+takes messages over either map, and prints what each came to and how much is known and marked."""
 import re
 import subprocess
 
@@ -26,13 +26,15 @@ def made(place, files, piece_length, frames, over, call):
 
 
 def short(verdict):
-    """What a message came to, without the brackets of a run; of a message of one block its file, its number and its refusal."""
+    """What a message came to, without the brackets of a run; of a message of one block its file, its number and its
+    refusal."""
     block = BLOCKS.search(verdict)
     return (block[4] or f"Verified {block[1]} {block[2]}") if block else verdict.strip("[]")
 
 
 def steps(place, files, piece_length, frames, call="step"):
-    """What each message comes to, how many places are known then, and how many leaves marked: over both maps the same."""
+    """What each message comes to, how many places are known then, and how many leaves marked: over both maps the
+    same."""
     found = []
     for over in ("flat", "paged"):
         lines = [line for line in made(place, files, piece_length, frames, over, call) if not line.startswith(("[[", "rejected"))]

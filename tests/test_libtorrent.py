@@ -65,8 +65,8 @@ class World:
         return {None: "keep-alive", 22: "stored"}.get(kind, f"skipped {kind}")
 
     def place_of(self, frame):
-        """The file and the block that a piece message of one block is of, and whether the holder filled it up with zeros,
-        as libtorrent does with the last block of a file, unlike BEP 52."""
+        """The file and the block that a piece message of one block is of, and whether the holder filled it up with
+        zeros, as libtorrent does with the last block of a file, unlike BEP 52."""
         place = number_at(frame, 5) * self.piece_length + number_at(frame, 9)
         for number, (_, content) in enumerate(self.files):
             if place < len(content):
@@ -153,8 +153,8 @@ def test_our_answers_are_those_of_libtorrent():
 
 
 def test_pieces_of_several_blocks():
-    """Their blocks are unproved, since libtorrent does not ask for the hashes of blocks; seeded from what was loaded, they
-    are verified."""
+    """Their blocks are unproved, since libtorrent does not ask for the hashes of blocks; seeded from what was loaded,
+    they are verified."""
     with folder() as place:
         world = World(place, FILES, 4 * BLOCK, False, 11)
         record, _ = world.record()

@@ -7,7 +7,7 @@ import shutil
 import subprocess
 
 import torrents
-from support import BTCHECK, TOP, folder, run, write
+from support import BTCHECK, TOP, folder, need, run, write
 from trees import root_of
 
 MANUAL = f"{TOP}/man/btcheck.1"
@@ -143,7 +143,8 @@ def texts_of_the_definitions():
 
 
 def test_no_printed_line_is_forgotten():
-    """Each text and each refusal of the definitions is in a line above, and `docs/FORMATS.md` has each of these lines."""
+    """Each text and each refusal of the definitions is in a line above, and `docs/FORMATS.md` has each of these
+    lines."""
     lines = {fixed(line) for lines in PRINTED.values() for line in lines}
     found = set(texts_of_the_definitions()) - NO_LINES
     assert len(found) >= 40, found
@@ -161,6 +162,7 @@ def test_no_printed_line_is_forgotten():
 
 
 def test_manual_is_well_formed():
+    need("mandoc", "groff", "man")
     for words in (["mandoc", "-Tlint", "-W", "warning"], ["groff", "-ww", "-mandoc", "-Tutf8", "-z"]):
         done = subprocess.run([*words, MANUAL], stdout=subprocess.PIPE, stderr=subprocess.STDOUT, text=True)
         assert (done.returncode, done.stdout) == (0, ""), (words, done.stdout)

@@ -8,7 +8,7 @@ import subprocess
 import time
 
 import torrents
-from support import BTCHECK, TOP, folder, write
+from support import BTCHECK, TOP, folder, need, write
 
 # How many torrents of the archive have which state.
 GOOD = 17
@@ -54,6 +54,7 @@ class Archive:
     """An archive as the page wants it, in a temporary folder, with its scripts and a path that finds the program."""
 
     def __init__(self, place, slow=False):
+        need("parallel")
         self.place = place
         for name in ["bin", "user/.parallel", "torrents", "content"]:
             os.makedirs(f"{place}/{name}")
@@ -171,7 +172,8 @@ def stopped(archive, code, how):
 
 
 def test_a_run_that_is_stopped_goes_on():
-    """Whatever stops it: no torrent is lost, none that the log names is checked again, and each has one whole report."""
+    """Whatever stops it: no torrent is lost, none that the log names is checked again, and each has one whole
+    report."""
     for how in [signal.SIGKILL, signal.SIGINT, signal.SIGTERM]:
         with folder() as place:
             archive = Archive(place, slow=True)

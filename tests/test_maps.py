@@ -9,12 +9,11 @@ from poison import Peers
 from support import TOP, folder, write
 from test_library_growths import records
 from test_pages import LONGEST, pair
-from torrents import torrent_of
+from torrents import LARGE, torrent_of
 from trees import Tree
 
 GROWTHS = os.path.join(TOP, "build", "growths")
 PAGES = re.compile(rb", pages: (\d+) }")
-LARGE = bytes(1 << 24)
 
 
 def taken(place, content, frames, over, call="step"):

@@ -6,7 +6,7 @@ import subprocess
 from messages import KEEP_ALIVE, frame, hashes, piece, reject, request
 from poison import Peers
 from support import BTCHECK, expect, folder, run, write
-from torrents import ABC, info, torrent, torrent_of
+from torrents import ABC, FIVE, info, torrent, torrent_of
 from trees import BLOCK, Tree, blocks_of, sha256
 
 
@@ -77,9 +77,6 @@ def test_lines_appear_as_frames_come():
         assert program.stdout.read() == b"end\n"
         assert program.wait(timeout=60) == 1
         program.stdout.close()
-
-
-FIVE = bytes(range(256)) * 256 + bytes(100)  # 65,636 bytes: five blocks, the last of 100 bytes
 
 
 def test_five_blocks():

@@ -6,10 +6,8 @@ from messages import KEEP_ALIVE, hashes, piece, request
 from poison import Peers, numbered
 from session_model import Session
 from support import expect, folder, run, write
-from torrents import torrent_of
+from torrents import FIVE, torrent_of
 from trees import BLOCK, Tree, blocks_of
-
-FIVE = bytes(range(256)) * 256 + bytes(100)  # 65,636 bytes: five blocks, the last of 100 bytes
 
 
 def lines(*texts):
@@ -62,6 +60,18 @@ def test_worked_seeds():
         expect(world.replay(out, "--info-only"), 0, lines("1 stored 6", "end"))
 
 
+# What makes a file no longer right, by its path and content.
+DAMAGES = {
+    "missing": lambda path, _: os.remove(path),
+    "short": lambda path, content: write(path, content[:-1]),
+    "long": lambda path, content: write(path, content + b"x"),
+    "changed": lambda path, content: write(path, bytes([content[0] ^ 1]) + content[1:]),
+    "a folder": lambda path, _: (os.remove(path), os.mkdir(path)),
+    "a link to nothing": lambda path, _: (os.remove(path), os.symlink("nothing", path)),
+    "a pipe": lambda path, _: (os.remove(path), os.mkfifo(path)),
+}
+
+
 def test_files_that_are_not_right():
     """Each damage to a file makes it `not seeded`, and leaves the others; an empty file is never seeded."""
     files = [("a", FIVE), ("b", b"abc"), ("c", b""), ("d", FIVE), ("e", bytes(16385))]
@@ -74,20 +84,11 @@ def test_files_that_are_not_right():
         verdicts = [f"{number} {'answered' if name in known else 'rejected'}" for number, name in enumerate(asks, 1)]
         expect(world.replay(record, "--info-only", "--seed", world.folder), 0, lines(*report, *verdicts, "end"))
 
-    damages = {
-        "missing": lambda path, _: os.remove(path),
-        "short": lambda path, content: write(path, content[:-1]),
-        "long": lambda path, content: write(path, content + b"x"),
-        "changed": lambda path, content: write(path, bytes([content[0] ^ 1]) + content[1:]),
-        "a folder": lambda path, _: (os.remove(path), os.mkdir(path)),
-        "a link to nothing": lambda path, _: (os.remove(path), os.symlink("nothing", path)),
-        "a pipe": lambda path, _: (os.remove(path), os.mkfifo(path)),
-    }
     with folder() as place:
         world = World(place, files, 262144)
         good = {"a", "b", "d", "e"}
         told(world, good, {"a", "d", "e"})
-        for kind, damage in damages.items():
+        for kind, damage in DAMAGES.items():
             for name in ["b", "e"]:
                 path, content = f"{world.folder}/{name}", dict(files)[name]
                 damage(path, content)
@@ -115,7 +116,8 @@ def test_the_order():
         bad, missing = write(f"{place}/bad", b"x"), f"{place}/missing"
         record = write(f"{place}/record", b"")
         seed = ["--seed", world.folder]
-        expect(run("replay", bad, missing, *seed, "--answers", f"{place}/no/out"), 1, "refused 2 NotBencode BadStart 0\n")
+        expect(run("replay", bad, missing, *seed, "--answers", f"{place}/no/out"), 1,
+               "refused 2 NotBencode BadStart 0\n")
         expect(run("replay", world.torrent, missing, *seed, "--answers", f"{place}/no/out"), 2, "",
                f"fault: cannot read {missing}\n")
         expect(run("replay", world.torrent, record, *seed, "--answers", f"{place}/no/out"), 2, "",
@@ -133,7 +135,8 @@ def test_the_order():
 
 def test_poison_at_a_seeded_session():
     chance = random.Random(41)
-    files = [("a", chance.randbytes(16385)), ("large", chance.randbytes(600 * BLOCK + 77)), ("nine", chance.randbytes(9 * BLOCK))]
+    files = [("a", chance.randbytes(16385)), ("large", chance.randbytes(600 * BLOCK + 77)),
+             ("nine", chance.randbytes(9 * BLOCK))]
     with folder() as place:
         world = World(place, files, 32768)
         os.remove(f"{world.folder}/nine")
@@ -144,6 +147,21 @@ def test_poison_at_a_seeded_session():
             done, out = world.answers(b"".join(record), *flags)
             expect(done, 1, lines(*seeded, *report, "end"))
             assert out == b"".join(peers.answers)
+
+
+def wants(model, chance):
+    """Of each tree that lacks leaves, what it wants for one of these."""
+    for root, tree in model.trees.items():
+        unknown = [at for at in range(tree["whole"].leaf_count) if (0, at) not in tree["known"]]
+        if unknown:
+            yield model.want(root, chance.choice(unknown))
+
+
+def all_blocks(model):
+    """A message for each block of each file, and what the model says of it."""
+    for _, content, _, first in model.files:
+        for at, block in enumerate(blocks_of(content)):
+            yield piece(first, at * BLOCK, block), model.blocks(first, at * BLOCK, block)
 
 
 def exchange(files, piece_length, seed):
@@ -158,11 +176,7 @@ def exchange(files, piece_length, seed):
         roots = list(model.trees)
         promised, rounds = sum(map(model.gaps, roots)), 0
         while any(map(model.gaps, roots)):
-            wanted = []
-            for root in roots:
-                unknown = [at for at in range(model.trees[root]["whole"].leaf_count) if (0, at) not in model.trees[root]["known"]]
-                if unknown:
-                    wanted.append(model.want(root, peers.chance.choice(unknown)))
+            wanted = list(wants(model, peers.chance))
             done, out = world.answers(b"".join(request(*ask) for ask in wanted), "--info-only")
             expect(done, 0, lines(*seeded, *(f"{at + 1} answered" for at in range(len(wanted))), "end"))
             true = [hashes(*ask, given=seeder.hashes(*ask)) for ask in wanted]
@@ -178,12 +192,10 @@ def exchange(files, piece_length, seed):
             done = world.replay(record, "--info-only")
             expect(done, done.returncode, lines(*numbered(report), "end"))
         # nothing is wanted any more: each block is verified
-        for _, content, _, first in model.files:
-            for at, block in enumerate(blocks_of(content)):
-                place_of = (first, at * BLOCK)
-                record += piece(*place_of, block)
-                report.append(model.blocks(*place_of, block))
-                assert report[-1][0].startswith("verified "), report[-1]
+        for message, told in all_blocks(model):
+            record += message
+            report.append(told)
+            assert told[0].startswith("verified "), told
         done = world.replay(record, "--info-only")
         expect(done, done.returncode, lines(*numbered(report), "end"))
         return rounds, promised

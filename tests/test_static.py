@@ -46,7 +46,7 @@ def test_dist():
         there = {f"{at.replace(below, '.', 1)}/{file}" for at, _, files in os.walk(below) for file in files}
         assert there - listed == {"./SHA256SUMS"} and listed < there, there ^ listed
         assert {"./bin/btcheck", "./share/man/man1/btcheck.1", "./share/doc/btcheck/LICENSE-MIT", "./tools/record",
-                "./share/doc/btcheck/RECORDING.md"} < listed, listed
+                "./share/doc/btcheck/docs/RECORDING.md", "./share/doc/btcheck/examples/pair.torrent"} < listed, listed
         done = subprocess.run([f"{below}/bin/btcheck", "root", "/dev/null"], stdout=subprocess.PIPE, check=True)
         assert done.stdout == b"0 -\n"
         subprocess.run([f"{below}/tools/record", "--help"], stdout=subprocess.DEVNULL, check=True)

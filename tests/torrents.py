@@ -48,6 +48,10 @@ def pad(length):
     return entry(length, ".pad", str(length), attr="p")
 
 
+# A file of five blocks, the last of 100 bytes, and one that is long and takes no time to make.
+FIVE = bytes(range(256)) * 256 + bytes(100)
+LARGE = bytes(1 << 24)
+
 # A file of two blocks and one of three bytes, and the list of version 1 that joins them.
 TWO = bytes(i % 251 for i in range(16385))
 FILES = {"a": file(TWO), "c": file(b"abc")}

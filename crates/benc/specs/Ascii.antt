@@ -5,24 +5,27 @@ use Rattle.std.specs.Prelude.{ℕ}
 abbrev pub minus_sign : ℕ
 minus_sign = 45
 
--- '0' and '9'
+-- '0'
 abbrev pub digit_zero : ℕ
 digit_zero = 48
 
+-- '9'
 abbrev pub digit_nine : ℕ
 digit_nine = 57
 
--- ':', behind the length of a byte string
+-- ':', after the length of a byte string
 abbrev pub colon : ℕ
 colon = 58
 
--- 'd', 'i' and 'l', which begin a dictionary, an integer and a list
+-- 'd', which begins a dictionary
 abbrev pub dict_mark : ℕ
 dict_mark = 100
 
+-- 'i', which begins an integer
 abbrev pub integer_mark : ℕ
 integer_mark = 105
 
+-- 'l', which begins a list
 abbrev pub list_mark : ℕ
 list_mark = 108
 

@@ -3,6 +3,7 @@ use Rattle.std.specs.Prelude.{ℕ, zero, suc, ◌<◌, ◌^◌, ℤ, pos, negsuc
 use Rattle.std.specs.List.{prefix_len}
 use Rattle.benc.specs.Ascii.{digit_zero, digit_nine}
 
+-- a digit in base ten
 abbrev pub is_digit : ℕ → Bool
 is_digit c = nat_le digit_zero c && nat_le c digit_nine
 

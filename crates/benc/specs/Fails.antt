@@ -34,7 +34,7 @@ IsLevel room (at_value ps k) b =
     (inner : List ℕ) × (b ≡ dict_mark ∷ (inner ++ string k)) × SpelledPairs room None ps inner
     × (length k < 10 ^ 10) × IsAbove k (last_key None ps)
 
--- what is due behind a level, which is the innermost
+-- what is due after a level, which is the innermost
 abbrev pub due_in : Level → Due
 due_in (in_list vs) = a_value_or_end
 due_in (in_dict ps) = a_key_or_end (last_key None ps)
@@ -62,7 +62,7 @@ item_fault a_value left bytes = first_row (value_rows left bytes)
 item_fault a_value_or_end left bytes = first_row (unless_end bytes (value_rows left bytes))
 item_fault (a_key_or_end before) left bytes = first_row (unless_end bytes (key_rows before bytes))
 
--- The bytes before `offset` are begun, and the item that is due there fails.
+-- the bytes before `offset` are begun, and the item that is due there fails
 pub record Stops (b : List ℕ) (kind : FaultKind) (offset : ℕ) : Type 0 where
   pub levels : List Level
   pub due : Due
@@ -74,7 +74,7 @@ pub record Stops (b : List ℕ) (kind : FaultKind) (offset : ℕ) : Type 0 where
   pub begun : Begun max_open levels front due left
   pub fails : item_fault due left rest ≡ Some kind
 
--- The bytes before `offset` are a spelling, and bytes follow.
+-- the bytes before `offset` are a spelling, and bytes follow
 pub record Trails (b : List ℕ) (kind : FaultKind) (offset : ℕ) : Type 0 where
   pub value : Bencode
   pub front : List ℕ
@@ -85,6 +85,7 @@ pub record Trails (b : List ℕ) (kind : FaultKind) (offset : ℕ) : Type 0 wher
   pub more : 0 < length rest
   pub is : kind ≡ Trailing
 
+-- this is the input's first fault: an item fails at the offset, or bytes follow a whole spelling
 abbrev pub Fails : List ℕ → FaultKind → ℕ → Type 0
 Fails b kind offset = Stops b kind offset ⊎ Trails b kind offset
 
@@ -113,7 +114,7 @@ Reaches room bytes start =
     × (bytes ≡ front ++ start) × Begun room levels front due left
     × TakesOne due × (0 < left) × StartsGrowing (left - 1) start
 
--- The bytes before `offset` are begun, and a list or dictionary begins there that has to grow.
+-- the bytes before `offset` are begun, and a list or dictionary begins there that has to grow
 abbrev pub Opens : List ℕ → ℕ → Type 0
 Opens b offset =
     (start : List ℕ) × (offset ≡ length b - length start) × Reaches max_open b start

@@ -1,5 +1,6 @@
--- Reading one item from the front (BEP 3, "bencoding"): what it is and what follows it, or its
--- fault.
+-- The parser's own contracts cite these, no public clause does; the table and `Fails` are the
+-- definition. Reading one item from the front (BEP 3, "bencoding"): what it is and what follows it,
+-- or its fault.
 use Rattle.std.specs.Prelude.{◌≡◌, ℕ, ℤ, Bool, true, false, not, ◌&&◌, ◌||◌, ◌==◌, nat_lt, if◌then◌else◌, List, [], ◌∷◌, length, take, drop, slice_index, Option, Result, Ok, Err}
 use Rattle.std.specs.Str.Parse.{digits_value}
 use Rattle.benc.specs.Ascii.{colon, digit_zero, end_mark, minus_sign}
@@ -22,14 +23,16 @@ integer_of minus run (c ∷ rest) =
     if is_bad then Err BadInteger
     else (if in_range minus n then Ok (signed minus n, rest) else Err IntegerRange)
 
+-- an integer, after its sign
 abbrev pub digits_at : Bool → List ℕ → Result (ℤ × List ℕ) FaultKind
 digits_at minus bytes = integer_of minus (digits_of_front bytes) (after_digits bytes)
 
--- an integer, behind its `i`
+-- an integer, after its `i`
 abbrev pub integer_at : List ℕ → Result (ℤ × List ℕ) FaultKind
 integer_at [] = digits_at false []
 integer_at (c ∷ rest) = if c == minus_sign then digits_at true rest else digits_at false (c ∷ rest)
 
+-- the digits of the length have been read: the bytes after the colon, and what follows them
 abbrev pub string_of : List ℕ → List ℕ → Result (List ℕ × List ℕ) FaultKind
 string_of run [] = Err Truncated
 string_of run (c ∷ rest) =
@@ -41,6 +44,7 @@ string_of run (c ∷ rest) =
 abbrev pub string_at : List ℕ → Result (List ℕ × List ℕ) FaultKind
 string_at bytes = string_of (digits_of_front bytes) (after_digits bytes)
 
+-- a key that was read, if it is above the one before it
 abbrev pub in_order : Option (List ℕ) → Result (List ℕ × List ℕ) FaultKind
     → Result (List ℕ × List ℕ) FaultKind
 in_order before (Ok k) = if is_above k.0 before then Ok k else Err KeyOrder

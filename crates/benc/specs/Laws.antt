@@ -29,8 +29,7 @@ SpellsOrFails =
 -- what spells a value has no fault
 abbrev pub SpellingHasNoFault : Type 0
 SpellingHasNoFault =
-    (b : List ℕ) (v : Bencode) (kind : FaultKind) (offset : ℕ) → Spells v b
-    → Fails b kind offset → ⊥
+    (b : List ℕ) (v : Bencode) (kind : FaultKind) (offset : ℕ) → Spells v b → ¬ Fails b kind offset
 
 -- no input has two faults
 abbrev pub FaultIsOne : Type 0

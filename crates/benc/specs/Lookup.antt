@@ -26,7 +26,7 @@ span_of key v = option_map spelling (get key v)
 abbrev pub if_key : List ℕ → List ℕ → List ℕ → Option (List ℕ)
 if_key key name bytes = if bytes_eq name key then Some bytes else None
 
--- the bytes stand in the input, directly behind the key
+-- the bytes stand in the input, directly after the key
 abbrev pub StandsUnder : List ℕ → List ℕ → List ℕ → Type 0
 StandsUnder input key bytes =
     (front rest : List ℕ) × (input ≡ front ++ (string key ++ (bytes ++ rest)))

@@ -1,5 +1,6 @@
--- Reading from left to right: the value at the front and what follows it, or the first fault and
--- what is left from the failing item on.
+-- The parser's own contracts cite these, no public clause does; the table and `Fails` are the
+-- definition. Reading from left to right: the value at the front and what follows it, or the first
+-- fault and what is left from the failing item on.
 use Rattle.std.specs.Prelude.{◌≡◌, ℕ, zero, suc, ◌<◌, ◌^◌, ◌==◌, ◌⊎◌, if◌then◌else◌, List, [], ◌∷◌, ◌++◌, length, Option, Some, None, IfSome, Result, Ok, Err}
 use Rattle.std.specs.Borrow.{Bor}
 use Rattle.std.specs.Option.{option_copied}
@@ -19,9 +20,11 @@ use Rattle.benc.specs.declared.stop.Stop.TheVariants as stops
 abbrev pub Failed : Type 0
 Failed = FaultKind × List ℕ
 
+-- what is read and what follows it, or a fault
 abbrev pub Parsed : Type 0 → Type 0
 Parsed A = Result (A × List ℕ) Failed
 
+-- goes on with what is read, unless there is a fault
 infixl 10 ◌>>=◌
 abbrev pub ◌>>=◌ : {A B : Type 0} → Result A Failed → (A → Result B Failed) → Result B Failed
 (Ok x) >>= f = f x
@@ -40,6 +43,8 @@ items_at read (suc n) (c ∷ rest) =
     if c == end_mark then Ok (no_items, rest)
     else (read (c ∷ rest) >>= λ x. items_at read n x.1 >>= λ y. Ok (item x.0 y.0, y.1))
 
+-- `pairs_at read n before bytes`: pairs, after the key `before`, and the end mark, in at most n
+-- turns
 unfoldable pub pairs_at : (List ℕ → Parsed Bencode) → ℕ → Option (List ℕ) → List ℕ → Parsed Pairs
 pairs_at read n before [] = Err (Truncated, [])
 pairs_at read zero before (c ∷ rest) = Err (Truncated, [])
@@ -48,6 +53,7 @@ pairs_at read (suc n) before (c ∷ rest) =
     else (begun_at (c ∷ rest) (key_at before (c ∷ rest)) >>= λ k. read k.1
     >>= λ x. pairs_at read n (Some k.0) x.1 >>= λ y. Ok (pair k.0 x.0 y.0, y.1))
 
+-- a value, by what reads the items of a list and the pairs of a dictionary
 abbrev pub value_with :
     (List ℕ → List ℕ → Parsed Items) → (List ℕ → List ℕ → Parsed Pairs) → List ℕ → Parsed Bencode
 value_with items pairs [] = Err (Truncated, [])
@@ -66,18 +72,20 @@ value_at (suc room) = value_with
     (λ start rest. items_at (value_at room) (length rest) rest)
     (λ start rest. pairs_at (value_at room) (length rest) None rest)
 
--- behind the mark of a list, and behind that of a dictionary
+-- the items and the end mark, after the mark of a list
 abbrev pub items_behind : ℕ → List ℕ → Parsed Items
 items_behind room bytes = items_at (value_at room) (length bytes) bytes
 
+-- the pairs and the end mark, after the mark of a dictionary
 abbrev pub pairs_behind : ℕ → List ℕ → Parsed Pairs
 pairs_behind room bytes = pairs_at (value_at room) (length bytes) None bytes
 
--- What a function returned, seen by view, is what reading gives, unless memory ran out.
+-- reading gives the fault that a function of the code returned, unless memory ran out
 abbrev pub Stopped : {Y : Type 0} → Stop → Result Y Failed → Type 0
 Stopped (stops.Memory rest) read = Unit {0}
 Stopped (stops.Fault f rest) read = read ≡ Err (f, rest.now)
 
+-- what it returned, seen by `view`, is what reading gives, unless memory ran out
 abbrev pub ParsesAs : {X Y : Type 0} → (X → Y) → Result X Stop → Result Y Failed → Type 0
 ParsesAs view (Ok x) read = read ≡ Ok (view x)
 ParsesAs view (Err e) read = Stopped e read
@@ -99,20 +107,20 @@ HasPair room bytes =
     (k : List ℕ) × (v : Bencode) × (inner rest : List ℕ) × (bytes ≡ inner ++ rest)
     × SpelledPairs room None (pair k v no_pairs) inner
 
--- behind some finished items a container is reached
+-- after some finished items a container is reached
 abbrev pub ReachesItem : ℕ → List ℕ → List ℕ → Type 0
 ReachesItem room bytes start =
     (vs : Items) × (inner rest : List ℕ) × (bytes ≡ inner ++ rest)
     × SpelledItems room vs inner × Reaches room rest start
 
--- behind some finished pairs and a key one is reached
+-- after some finished pairs and a key one is reached
 abbrev pub ReachesPair : ℕ → List ℕ → List ℕ → Type 0
 ReachesPair room bytes start =
     (ps : Pairs) × (k inner rest : List ℕ) × (bytes ≡ inner ++ (string k ++ rest))
     × SpelledPairs room None ps inner × (length k < 10 ^ 10) × IsAbove k (last_key None ps)
     × Reaches room rest start
 
--- at `there` a list begins that has to grow: the one that begins at `start`, or one behind some
+-- at `there` a list begins that has to grow: the one that begins at `start`, or one after some
 -- finished items
 abbrev pub GrowsForItem : ℕ → List ℕ → List ℕ → List ℕ → Type 0
 GrowsForItem room start bytes there =
@@ -127,7 +135,7 @@ GrowsForPair room start bytes there =
 abbrev pub IsSpanOf : Option (Bor (List ℕ)) → Bencode → Option (Bor (List ℕ)) → Type 0
 IsSpanOf asked v span = IfSome (option_copied asked) (λ key. option_copied span ≡ span_of key v)
 
--- they stand in the input, behind that key
+-- they stand in the input, after that key
 abbrev pub StandsIn : List ℕ → Option (Bor (List ℕ)) → Option (Bor (List ℕ)) → Type 0
 StandsIn input asked span =
     IfSome (option_copied asked) (λ key. IfSome (option_copied span) (StandsUnder input key))

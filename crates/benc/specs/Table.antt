@@ -9,6 +9,7 @@ use Rattle.benc.specs.Spelling.{is_above}
 use Rattle.benc.specs.declared.fault.FaultKind.{FaultKind}
 use Rattle.benc.specs.declared.fault.FaultKind.TheVariants.{Truncated, BadStart, BadInteger, IntegerRange, BadLength, KeyOrder, TooDeep}
 
+-- whether the test of the row holds, and its fault
 abbrev pub Row : Type 0
 Row = Bool × FaultKind
 
@@ -22,10 +23,12 @@ abbrev pub has_ended : List ℕ → Bool
 has_ended [] = true
 has_ended (c ∷ rest) = false
 
+-- the next byte is this one
 abbrev pub starts_with : ℕ → List ℕ → Bool
 starts_with byte [] = false
 starts_with byte (c ∷ rest) = c == byte
 
+-- the next byte is a digit
 abbrev pub starts_with_digit : List ℕ → Bool
 starts_with_digit [] = false
 starts_with_digit (c ∷ rest) = is_digit c
@@ -42,7 +45,7 @@ is_zero [] = false
 is_zero (d ∷ []) = d == digit_zero
 is_zero (d ∷ e ∷ run) = false
 
--- an integer: behind `i` and an optional `-` the longest run of digits, and what follows it
+-- an integer, after `i` and an optional `-`: the longest run of digits, and what follows it
 abbrev pub digit_rows : Bool → List ℕ → List ℕ → List Row
 digit_rows minus run after =
     (has_ended after, Truncated)
@@ -54,13 +57,14 @@ digit_rows minus run after =
     ∷ (not (in_range minus (digits_value 10 run)), IntegerRange)
     ∷ []
 
+-- an integer, after its `i`
 abbrev pub integer_rows : List ℕ → List Row
 integer_rows bytes =
     let minus = starts_with minus_sign bytes in
     let number = if minus then drop 1 bytes else bytes in
     digit_rows minus (digits_of_front number) (after_digits number)
 
--- a byte string: the longest run of digits, and what follows it
+-- a byte string: the longest run of digits at its front, and what follows it
 abbrev pub length_rows : List ℕ → List ℕ → List Row
 length_rows run after =
     (has_ended after, Truncated)
@@ -68,10 +72,11 @@ length_rows run after =
     ∷ (nat_lt (length (drop 1 after)) (digits_value 10 run), Truncated)
     ∷ []
 
+-- a byte string
 abbrev pub string_rows : List ℕ → List Row
 string_rows bytes = length_rows (digits_of_front bytes) (after_digits bytes)
 
--- the bytes behind the colon, as many as the run says
+-- the bytes after the colon, as many as the run says
 abbrev pub string_bytes : List ℕ → List ℕ
 string_bytes bytes = take (digits_value 10 (digits_of_front bytes)) (drop 1 (after_digits bytes))
 
@@ -83,7 +88,7 @@ value_rows left (c ∷ rest) =
     else (if is_digit c then string_rows (c ∷ rest)
     else (not ((c == list_mark) || (c == dict_mark)), BadStart) ∷ (left == 0, TooDeep) ∷ [])
 
--- a key, behind the one before it
+-- a key, after the one before it
 abbrev pub key_rows : Option (List ℕ) → List ℕ → List Row
 key_rows before bytes =
     (has_ended bytes, Truncated)

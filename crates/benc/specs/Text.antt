@@ -5,6 +5,7 @@ use Rattle.benc.specs.Ascii.{dict_mark, end_mark, list_mark}
 use Rattle.benc.specs.Value.{Bencode, int, text, list, dict, Items, no_items, item, Pairs, no_pairs, pair}
 use Rattle.benc.specs.Spelling.{max_open, string, integer, IsAbove}
 
+-- the spelling of a value, which `encode` writes
 abbrev mutual
   pub spelling : Bencode → List ℕ
   spelling (int z) = integer z
@@ -12,10 +13,12 @@ abbrev mutual
   spelling (list vs) = list_mark ∷ (items_spelling vs ++ end_mark ∷ [])
   spelling (dict ps) = dict_mark ∷ (pairs_spelling ps ++ end_mark ∷ [])
 
+  -- the spellings of the items, one after another
   pub items_spelling : Items → List ℕ
   items_spelling no_items = []
   items_spelling (item v vs) = spelling v ++ items_spelling vs
 
+  -- the keys and the spellings of their values, one after another
   pub pairs_spelling : Pairs → List ℕ
   pairs_spelling no_pairs = []
   pairs_spelling (pair k v ps) = string k ++ (spelling v ++ pairs_spelling ps)

@@ -34,6 +34,7 @@ impl<R: Read> FromRead<R> {
         self.reader
     }
 
+    // Counts a fault.
     fn fault(&mut self) -> DeviceFault
         ensures counts { self.new.faults ≡ one_more self.old.faults }
         ensures reader { self.new.reader ≡ self.old.reader }
@@ -103,6 +104,7 @@ impl<W: Write> FromWrite<W> {
         self.writer
     }
 
+    // Counts a fault.
     fn fault(&mut self) -> DeviceFault
         ensures counts { self.new.faults ≡ one_more self.old.faults }
         ensures writer { self.new.writer ≡ self.old.writer }

@@ -1,9 +1,6 @@
 //! Which values have a spelling.
-ghost use Rattle.std.specs.Prelude.{◌≡◌, ◌<◌, ◌^◌, ◌++◌, ◌↔◌, IsTrue, FitsSigned, List, ℕ, None, length};
-ghost use Rattle.std.specs.Int.{w64};
-ghost use Rattle.benc.specs.Spelling.{Spells};
-ghost use Rattle.benc.specs.Text.{spelling, IsCanonical, Fits, ItemsFit, PairsFit};
-ghost use Rattle.benc.specs.Value.{Bencode};
+ghost use Rattle.std.specs.Prelude.{◌<◌, ◌^◌, ◌↔◌, IsTrue, None, length};
+ghost use Rattle.benc.specs.Text.{IsCanonical, Fits, ItemsFit, PairsFit};
 ghost use Rattle.benc.specs.View.{view, items_view, pairs_view};
 
 use crate::scan::is_above;
@@ -11,6 +8,9 @@ use crate::value::{Pair, Value};
 
 /// At most so many lists and dictionaries are open at once, the innermost counted.
 pub(crate) const MAX_OPEN: u32 = 128;
+
+// The least length of more than ten digits.
+const TOO_LONG: u64 = 10_000_000_000;
 
 impl<'a> Value<'a> {
     /// Whether the value has a spelling: its keys ascend strictly, its byte strings and keys are
@@ -22,12 +22,14 @@ impl<'a> Value<'a> {
     }
 }
 
+// Whether the value has a spelling with at most `room` lists and dictionaries open at once.
 #[cycle(fits)]
 fn fits(v: &Value<'_>, room: u32) -> bool
     ensures { IsTrue result ↔ Fits room (view v.now) }
 {
     match v {
         Value::Int(n) => {
+            // The prover knows an integer's range where it is read.
             let _fits_64_bits = *n;
             true
         }
@@ -37,6 +39,7 @@ fn fits(v: &Value<'_>, room: u32) -> bool
     }
 }
 
+// Whether each item has such a spelling.
 #[cycle(fits)]
 fn items_fit(items: &Vec<Value<'_>>, room: u32) -> bool
     ensures { IsTrue result ↔ ItemsFit room (items_view items.now.items) }
@@ -49,6 +52,7 @@ fn items_fit(items: &Vec<Value<'_>>, room: u32) -> bool
     true
 }
 
+// Whether each key and value has such a spelling, and the keys ascend strictly.
 #[cycle(fits)]
 fn pairs_fit(pairs: &Vec<Pair<'_>>, room: u32) -> bool
     ensures { IsTrue result ↔ PairsFit room None (pairs_view pairs.now.items) }
@@ -63,9 +67,9 @@ fn pairs_fit(pairs: &Vec<Pair<'_>>, room: u32) -> bool
     true
 }
 
-// The length of a byte string has at most ten digits.
+// Whether the length of a byte string has at most ten digits.
 fn is_short(text: &[u8]) -> bool
     ensures { IsTrue result ↔ (length text.now < 10 ^ 10) }
 {
-    (text.len() as u64) < 10_000_000_000
+    (text.len() as u64) < TOO_LONG
 }

@@ -1,6 +1,6 @@
 //! Decoding: the value that bytes spell, or their first fault (BEP 3, "bencoding", canonical form
 //! alone).
-ghost use Rattle.std.specs.Prelude.{◌≡◌, ◌≢◌, ◌≤◌, ◌++◌, ◌⊎◌, List, ℕ, length, take, IfOk, IfErr, IfSome, MatchResult};
+ghost use Rattle.std.specs.Prelude.{◌≡◌, ◌≤◌, ◌++◌, List, ℕ, length, take, IfOk, IfErr, IfSome};
 ghost use Rattle.std.specs.Option.{option_copied};
 ghost use Rattle.benc.specs.Answers.{AnswersFault, IsAtGrowth, IsFaultOf, UnlessNoMemory};
 ghost use Rattle.benc.specs.Fails.{Stops, Fails};
@@ -24,7 +24,7 @@ use std::alloc::Global;
 /// Items are read from left to right and the first fault is answered, with the offset in bytes at
 /// which the failing item starts; `FaultKind` says when each comes. `NoMemory` comes only if a list
 /// or dictionary could not grow, and its offset is where that one starts. After a fault there is no
-/// value. The time is linear in the input's length.
+/// value.
 pub fn decode<'a>(alloc: Global, input: &'a [u8]) -> Result<Value<'a>, Fault>
     ensures found { IfOk result (λ v. Spells (view v) input.now) }
     ensures fault { IfErr result (IsFaultOf (Fails input.now)) }
@@ -67,7 +67,7 @@ pub fn decode_with_span<'a>(
 ) -> Result<(Value<'a>, Option<&'a [u8]>), Fault>
     ensures found { IfOk result (λ x. Spells (view x.0) input.now) }
     ensures span { IfOk result (λ x. option_copied x.1 ≡ span_of key.now (view x.0)) }
-    // The bytes stand in the input, behind the key.
+    // The bytes stand in the input, after the key.
     ensures stands { IfOk result (λ x. IfSome (option_copied x.1) (StandsUnder input.now key.now)) }
     ensures fault { IfErr result (IsFaultOf (Fails input.now)) }
     ensures memory { IfErr result (IsAtGrowth input.now) }
@@ -86,7 +86,7 @@ pub fn decode_with_span<'a>(
 pub fn span<'a>(alloc: Global, input: &'a [u8], key: &[u8]) -> Result<Option<&'a [u8]>, Fault>
     ensures found { IfOk result (λ s. (v : Bencode) × Spells v input.now
         × (option_copied s ≡ span_of key.now v)) }
-    // The bytes stand in the input, behind the key.
+    // The bytes stand in the input, after the key.
     ensures stands { IfOk result (λ s. IfSome (option_copied s) (StandsUnder input.now key.now)) }
     ensures fault { IfErr result (IsFaultOf (Fails input.now)) }
     ensures memory { IfErr result (IsAtGrowth input.now) }

@@ -1,5 +1,5 @@
 //! Devices that bytes come from and go to. Each counts the calls that it answered with a fault.
-ghost use Rattle.std.specs.Prelude.{◌≡◌, ◌+◌, ◌-◌, ◌%◌, ◌^◌, ◌<◌, ◌≤◌, length, IfOk, OnOk, true};
+ghost use Rattle.std.specs.Prelude.{◌≡◌, ◌+◌, ◌-◌, ◌^◌, ◌<◌, ◌≤◌, length, IfOk, OnOk, true};
 ghost use Rattle.std.specs.Io.KnownBytes.{Keeps, ReadConsumes, WriteAppends};
 ghost use Rattle.benc.specs.Device.{CountsFault, FallsBy, Wrote, one_more};
 ghost use Rattle.benc.specs.declared.device.WriteFault.TheVariants.{Write};
@@ -24,7 +24,7 @@ impl fmt::Display for DeviceFault {
 
 impl Error for DeviceFault {}
 
-/// A text did not go out whole.
+/// A sink failed: a text did not go out whole, or was not flushed.
 #[derive(Clone, Copy, Debug, PartialEq, Eq)]
 pub enum WriteFault {
     /// The sink failed.
@@ -62,7 +62,7 @@ pub trait Source {
     ghost seen: { Self → SourceSeen };
 
     /// Fills a prefix of `buf` and answers its length, which is 0 only at the end or if `buf` is
-    /// empty.
+    /// empty. A call that fails moves nothing, and is counted.
     fn read(&mut self, buf: &mut [u8]) -> Result<usize, DeviceFault>
         ensures bound { IfOk result (λ n. n ≤ length buf.new) }
         ensures bytes { ReadConsumes (seen self.old).left (seen self.new).left result buf.new }
@@ -83,7 +83,8 @@ pub trait Sink {
     /// What callers see of it. No clause of `write` speaks of `is_flushed`.
     ghost seen: { Self → SinkSeen };
 
-    /// Takes a prefix of `buf` and answers its length, which is 0 only if `buf` is empty.
+    /// Takes a prefix of `buf` and answers its length, which is 0 only if `buf` is empty. A call
+    /// that fails moves nothing, and is counted.
     fn write(&mut self, buf: &[u8]) -> Result<usize, DeviceFault>
         ensures bound { IfOk result (λ n. n ≤ length buf.now) }
         ensures some { IfOk result (λ n. 0 < length buf.now → 0 < n) }
@@ -92,7 +93,7 @@ pub trait Sink {
         ensures counts { CountsFault (seen self.old).faults (seen self.new).faults result }
         ensures flushes { (seen self.new).flushes ≡ (seen self.old).flushes };
 
-    /// Hands on what was written, and is counted whether it fails or not. Nothing is written by it.
+    /// Passes on what was written, and is counted whether it fails or not. It writes nothing.
     fn flush(&mut self) -> Result<(), DeviceFault>
         ensures bytes { Keeps (seen self.old).written (seen self.new).written }
         ensures flushed { OnOk result ((seen self.new).is_flushed ≡ true) }

@@ -19,6 +19,7 @@ pub fn encode<W: Sink>(v: &Value<'_>, w: &mut W) -> Result<(), WriteFault>
     Ok(())
 }
 
+// Writes the spelling of a value, canonical or not.
 #[cycle(write)]
 fn write_value<W: Sink>(v: &Value<'_>, w: &mut W) -> Result<(), DeviceFault>
     ensures { Wrote (W.seen w.old) (W.seen w.new) result (spelling (view v.now)) }
@@ -31,6 +32,7 @@ fn write_value<W: Sink>(v: &Value<'_>, w: &mut W) -> Result<(), DeviceFault>
     }
 }
 
+// Writes the spelling of a list.
 #[cycle(write)]
 fn write_list<W: Sink>(items: &Vec<Value<'_>>, w: &mut W) -> Result<(), DeviceFault>
     ensures { Wrote (W.seen w.old) (W.seen w.new) result
@@ -43,6 +45,7 @@ fn write_list<W: Sink>(items: &Vec<Value<'_>>, w: &mut W) -> Result<(), DeviceFa
     write_all(w, b"e")
 }
 
+// Writes the spelling of a dictionary, its pairs in the order in which they stand.
 #[cycle(write)]
 fn write_dict<W: Sink>(pairs: &Vec<Pair<'_>>, w: &mut W) -> Result<(), DeviceFault>
     ensures { Wrote (W.seen w.old) (W.seen w.new) result
@@ -56,6 +59,7 @@ fn write_dict<W: Sink>(pairs: &Vec<Pair<'_>>, w: &mut W) -> Result<(), DeviceFau
     write_all(w, b"e")
 }
 
+// Writes the spelling of an integer.
 fn write_integer<W: Sink>(n: i64, w: &mut W) -> Result<(), DeviceFault>
     ensures { Wrote (W.seen w.old) (W.seen w.new) result (integer n) }
 {
@@ -65,6 +69,7 @@ fn write_integer<W: Sink>(n: i64, w: &mut W) -> Result<(), DeviceFault>
     write_all(w, b"e")
 }
 
+// Writes the spelling of a byte string.
 fn write_string<W: Sink>(text: &[u8], w: &mut W) -> Result<(), DeviceFault>
     ensures { Wrote (W.seen w.old) (W.seen w.new) result (string text.now) }
 {

@@ -1,5 +1,4 @@
 //! The laws of canonical bencoding (BEP 3). A function that calls one of these knows its law.
-
 ghost use Rattle.benc.specs.Laws.{CanonicalHasSpelling, SpellingIsOfCanonical, NoSpellingBeginsAnother, SpellsOrFails, SpellingHasNoFault, FaultIsOne};
 
 /// Each canonical value has a spelling.

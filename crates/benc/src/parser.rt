@@ -1,7 +1,6 @@
 //! From bytes to a value.
-
-ghost use Rattle.std.specs.Prelude.{◌≡◌, ℕ, suc, ◌<◌, ◌≤◌, ◌++◌, ◌∷◌, [], length, ◌⊎◌, OnOk, IfOk, IfErr, IfSome, Some, None, if◌then◌else◌};
-ghost use Rattle.std.specs.Option.{option_copied, option_map};
+ghost use Rattle.std.specs.Prelude.{◌≡◌, ◌<◌, ◌++◌, ◌∷◌, [], length, OnOk, IfOk, IfErr, IfSome};
+ghost use Rattle.std.specs.Option.{option_copied};
 ghost use Rattle.benc.specs.Lookup.{if_key};
 ghost use Rattle.benc.specs.Value.{dict};
 ghost use Rattle.benc.specs.View.{view, items_view, pairs_view};

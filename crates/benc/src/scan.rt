@@ -1,19 +1,20 @@
 //! Items: integers and byte strings.
-
-ghost use Rattle.std.specs.Prelude.{◌≡◌, [], ◌∷◌, ℕ, ◌<◌, ◌≤◌, ◌^◌, IsTrue, length, IfOk, IfSome, FitsSigned, IfErr, MatchOption, MatchResult, Ok, Err, slice_index, EachIndex};
-ghost use Rattle.std.specs.Option.{option_copied};
-ghost use Rattle.std.specs.Option.{SomeIff};
+ghost use Rattle.std.specs.Prelude.{◌≡◌, [], ◌∷◌, ◌<◌, ◌≤◌, ◌^◌, IsTrue, length, IfOk, IfSome, FitsSigned, MatchOption};
+ghost use Rattle.std.specs.Option.{SomeIff, option_copied};
 ghost use Rattle.std.specs.Int.{w64};
-ghost use Rattle.std.specs.List.{prefix_len, list_all};
+ghost use Rattle.std.specs.List.{prefix_len};
 ghost use Rattle.std.specs.Str.Parse.{digits_value};
 ghost use Rattle.benc.specs.Digits.{is_digit, digits_of_front, after_digits, in_range, signed, IsRun};
 ghost use Rattle.benc.specs.Spelling.{is_above};
-ghost use Rattle.benc.specs.Items.{is_plain, integer_at, integer_of, digits_at, string_at, string_of, key_at, ReadsAs};
+ghost use Rattle.benc.specs.Items.{is_plain, integer_at, digits_at, string_at, key_at, ReadsAs};
 
 use crate::fault::FaultKind;
 use std::cmp::Ordering;
 
-/// An integer, behind its `i`.
+// Digits in the longest length of a byte string.
+const MAX_DIGITS: usize = 10;
+
+/// An integer, after its `i`.
 pub(crate) fn integer(bytes: &[u8]) -> Result<(i64, &[u8]), FaultKind>
     ensures read { ReadsAs (λ x. (x.0, x.1.now)) result (integer_at bytes.now) }
     ensures fits { IfOk result (λ x. FitsSigned w64 x.0) }
@@ -34,7 +35,7 @@ pub(crate) fn string(bytes: &[u8]) -> Result<(&[u8], &[u8]), FaultKind>
     let [mark, rest @ ..] = after else {
         return Err(FaultKind::Truncated);
     };
-    if *mark != b':' || !is_plain_number(run) || run.len() > 10 {
+    if *mark != b':' || !is_plain_number(run) || run.len() > MAX_DIGITS {
         return Err(FaultKind::BadLength);
     }
     match number(run) {
@@ -87,7 +88,7 @@ pub(crate) fn split_front(bytes: &[u8]) -> Option<(u8, &[u8])>
     }
 }
 
-// An integer, behind its sign.
+// An integer, after its sign.
 fn digits(minus: bool, bytes: &[u8]) -> Result<(i64, &[u8]), FaultKind>
     ensures read { ReadsAs (λ x. (x.0, x.1.now)) result (digits_at minus bytes.now) }
     ensures fits { IfOk result (λ x. FitsSigned w64 x.0) }

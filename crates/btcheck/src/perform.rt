@@ -1,11 +1,13 @@
 //! What each command does, on real files.
+ghost use Rattle.std.specs.Prelude.{◌≢◌, IfErr};
+
 use crate::streams::hold_closed_streams;
 use crate::torrent_file::read_torrent;
 use benc::{FromRead, FromWrite, Sink};
 use checker::Fault;
 use command_line::command::{Action, Convert, Create, Replay};
 use commands::{Folder, answers};
-use metainfo::{Draft, Torrent};
+use metainfo::{Draft, Refusal, Torrent};
 use progress::{Cleared, Counted, Progress};
 use std::fs::File;
 use std::io::{self, BufWriter, IsTerminal, Printer};
@@ -44,7 +46,7 @@ fn length_of(file: &File) -> Option<u64> {
 fn show<'a>(rt: &HostRuntime, path: &'a str) -> Result<u8, Fault<'a>> {
     let bytes = read_torrent(rt, path)?;
     let mut out = buffered_output(rt)?;
-    match Torrent::open(rt.alloc(), bytes.as_slice()) {
+    match open(rt, bytes.as_slice()) {
         Ok(torrent) => answers::show(&torrent, &mut out),
         Err(refusal) => answers::refuse(&refusal, &[], &mut out),
     }
@@ -53,7 +55,7 @@ fn show<'a>(rt: &HostRuntime, path: &'a str) -> Result<u8, Fault<'a>> {
 fn check<'a>(rt: &HostRuntime, path: &'a str, dir: &str) -> Result<u8, Fault<'a>> {
     let bytes = read_torrent(rt, path)?;
     let mut out = buffered_output(rt)?;
-    match Torrent::open(rt.alloc(), bytes.as_slice()) {
+    match open(rt, bytes.as_slice()) {
         Ok(torrent) => check_folder(rt, &torrent, dir, out),
         Err(refusal) => answers::refuse(&refusal, &[], &mut out),
     }
@@ -160,7 +162,7 @@ fn convert_to<'a, W: Sink>(
 fn replay<'a>(rt: &HostRuntime, asked: &Replay<'a>) -> Result<u8, Fault<'a>> {
     let bytes = read_torrent(rt, asked.torrent)?;
     let mut out = FromWrite::new(io::writer(rt));
-    match Torrent::open(rt.alloc(), bytes.as_slice()) {
+    match open(rt, bytes.as_slice()) {
         Ok(torrent) => {
             let progress = Progress::new(rt, Some(all_bytes(&torrent)));
             let mut out = Cleared::new(out, &progress);
@@ -214,6 +216,13 @@ fn created<'a>(
         Ok(file) => Ok(Some((path, file))),
         Err(_) => Err(Fault::Write(path)),
     }
+}
+
+// Opens a torrent. It writes nothing, so no refusal is that of a sink.
+fn open<'t>(rt: &HostRuntime, bytes: &'t [u8]) -> Result<Torrent<'t>, Refusal>
+    ensures { IfErr result (λ r. r ≢ Refusal.Write) }
+{
+    Torrent::open(rt.alloc(), bytes)
 }
 
 // Standard output with a buffer, for text of many small parts.

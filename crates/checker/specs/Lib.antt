@@ -1,25 +1,22 @@
--- The definitions that contracts of the printed lines, of folders and of records cite.
+-- The definitions that the contracts of this crate's calls cite.
+pub use Rattle.conversions.specs.Converting
+pub use Rattle.conversions.specs.declared.fault.ConvertFault
+pub use Rattle.lines.specs.Cut
 pub use Rattle.lines.specs.Text
 pub use Rattle.lines.specs.Refused
 pub use Rattle.lines.specs.Fault
 pub use Rattle.lines.specs.Show
 pub use Rattle.folders.specs.Root
-pub use Rattle.folders.specs.Reading
 pub use Rattle.folders.specs.Shelf
 pub use Rattle.folders.specs.MemShelf
 pub use Rattle.folders.specs.MemShelfCalls
 pub use Rattle.folders.specs.Folder
 pub use Rattle.folders.specs.Verdicts
-pub use Rattle.folders.specs.Compared
-pub use Rattle.folders.specs.Streaming
-pub use Rattle.folders.specs.Content
-pub use Rattle.folders.specs.Pass
 pub use Rattle.folders.specs.Printed
 pub use Rattle.folders.specs.Visits
 pub use Rattle.folders.specs.TakeAll
 pub use Rattle.folders.specs.declared.root.RootFault
 pub use Rattle.folders.specs.declared.shelf_fault.ShelfFault
-pub use Rattle.folders.specs.Feeding
 pub use Rattle.gathering.specs.Gathered
 pub use Rattle.gathering.specs.Gathering
 pub use Rattle.gathering.specs.declared.gather_fault.GatherFault
@@ -27,6 +24,5 @@ pub use Rattle.records.specs.Answering
 pub use Rattle.records.specs.Replay
 pub use Rattle.records.specs.ReplayLines
 pub use Rattle.records.specs.Outcome
-pub use Rattle.seeding.specs.Leaves
 pub use Rattle.seeding.specs.Seeding
 pub use Rattle.seeding.specs.declared.seed_fault.SeedFault

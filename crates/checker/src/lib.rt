@@ -8,5 +8,5 @@ pub use folders::{
 };
 pub use gathering::{GatherFault, gather};
 pub use lines::{Fault, fault_line, refusal_line, show};
-pub use records::{Ending, Outcome, Told, replay};
+pub use records::{Outcome, replay};
 pub use seeding::{SeedFault, seed};

@@ -13,7 +13,9 @@ use clap::Error;
 use clap::error::ErrorKind;
 use std::alloc::Global;
 
-/// Reads the command line, the program's name first.
+/// Reads the command line, whose first argument is the program's name. The error is `clap`'s: help
+/// or the version was asked for, the arguments are wrong, or memory was refused, and no other if
+/// the arguments are right. `explain` prints it.
 pub fn action<'a>(alloc: Global, line: &'a [&'a str]) -> Result<Action<'a>, Error>
     ensures asked { IfOk result (IsAskedBy (map (λ s. s.now) line.now)) }
     ensures refused { IfErr result (λ e. takes program (map (λ s. s.now) line.now) ≡ true

@@ -1,6 +1,6 @@
 //! What help says.
 
-pub(crate) const VERSION: &str = "0.2.0 (proved with rattle-kit-13b logic dac8208d650f15bf)";
+pub(crate) const VERSION: &str = "0.2.0 (proved with rattle-kit-13f logic dac8208d650f15bf)";
 
 pub(crate) const ABOUT: &str =
     "Checks BitTorrent version 2: torrents, folders and messages of peers";
@@ -63,8 +63,9 @@ Symbolic links, pipes and devices in DIR are a fault.";
 pub(crate) const CONVERT_ABOUT: &str = "Makes a record with directions of one without";
 
 pub(crate) const CONVERT_HELP: &str = "\
-Writes a record in which each frame has a direction: every frame of RECORD came in, and before each
-hashes message went out the request that it answers. OUT is emptied first, so it must not be RECORD.
+Writes a record in which each frame has a direction. It marks every frame of RECORD as incoming, and
+adds before each hashes message, as outgoing, the request that it answers. OUT is emptied first, so
+it must not be RECORD.
 A record that has directions already prints `refused 3 AlreadyForm2`, status 1.";
 
 pub(crate) const REPLAY_ABOUT: &str =
@@ -80,13 +81,14 @@ pub(crate) const INFO_ONLY_HELP: &str =
     "Start from the roots alone, without the torrent's piece layers";
 
 pub(crate) const SEED_HELP: &str =
-    "Start from the hashes of the files that this folder holds right, too";
+    "Also start from the hashes of every complete and correct file in this folder";
 
 pub(crate) const ANSWERS_HELP: &str =
     "Write the answers to hash requests to this file, which is emptied first";
 
 pub(crate) const NAME_HELP: &str = "The display name that the torrent suggests";
 
-pub(crate) const PIECE_LENGTH_HELP: &str = "Bytes a piece: a power of two from 16384 to 1073741824";
+pub(crate) const PIECE_LENGTH_HELP: &str =
+    "Bytes per piece: a power of two from 16384 to 1073741824";
 
 pub(crate) const HYBRID_HELP: &str = "Make a hybrid, which clients of version 1 can use too";

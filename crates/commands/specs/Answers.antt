@@ -11,6 +11,8 @@ use Rattle.checker.specs.ShelfFault.{ShelfFault}
 use Rattle.checker.specs.ShelfFault.TheVariants as listing
 use Rattle.conversions.specs.declared.fault.ConvertFault.{ConvertFault}
 use Rattle.conversions.specs.declared.fault.ConvertFault.TheVariants as converting
+use Rattle.folders.specs.declared.report.FileVerdict.{FileVerdict}
+use Rattle.folders.specs.declared.report.V1Verdict.{V1Verdict}
 use Rattle.lines.specs.declared.fault.Fault.{Fault}
 use Rattle.lines.specs.declared.fault.Fault.TheVariants as faults
 use Rattle.metainfo.specs.Description.{Description}
@@ -21,8 +23,8 @@ use Rattle.checker.specs.Outcome.{status_of}
 use Rattle.checker.specs.Printed.{report_text}
 use Rattle.checker.specs.Refused.{refusal_text}
 use Rattle.checker.specs.Replay.{IsReport, ReplaySeen}
-use Rattle.checker.specs.Shelf.{path_bytes}
-use Rattle.checker.specs.Verdicts.{HasVerdicts, TellsFolder, is_yes}
+use Rattle.checker.specs.Shelf.{more, path_bytes}
+use Rattle.checker.specs.Verdicts.{HasVerdicts, TellsFolder, is_yes, unreadable_count}
 
 -- ---- statuses
 
@@ -52,43 +54,52 @@ NamesSink name fault = ⊥
 abbrev pub NamesOutput : Fault → Type 0
 NamesOutput = NamesSink (codes "-")
 
--- the fault names the device that failed: the source with this path, or standard output
-abbrev pub BlamesOne : List ℕ → SourceSeen → SourceSeen → SinkSeen → SinkSeen → Fault → Type 0
-BlamesOne name source source' out out' (faults.Read path) =
+-- no device failed, or the fault names the one that did: the source with this path, or standard
+-- output
+abbrev pub BlamesOne : List ℕ → SourceSeen → SourceSeen → SinkSeen → SinkSeen → Result ℕ Fault
+    → Type 0
+BlamesOne name source source' out out' (Ok status) =
+    (source'.faults ≡ source.faults) × (out'.faults ≡ out.faults)
+BlamesOne name source source' out out' (Err (faults.Read path)) =
     (path.now ≡ name) × Blames source source' out out' (Err root.Read)
-BlamesOne name source source' out out' (faults.Write path) =
+BlamesOne name source source' out out' (Err (faults.Write path)) =
     (path.now ≡ codes "-") × Blames source source' out out' (Err root.Write)
-BlamesOne name source source' out out' fault = ⊥
+BlamesOne name source source' out out' (Err fault) = ⊥
 
--- the line of a refusal was not printed: it is out of memory or a failed sink, which no line tells,
--- or the line broke off
+-- the line of a refusal was not printed: it is out of memory, which no line tells, or the line
+-- broke off
 pub record IsUnprinted (r : Refusal) (text : List ℕ) (out out' : SinkSeen) (f : Fault)
     : Type 0 where
-  pub memory : r ≡ refusals.NoMemory → f ≡ faults.NoMemory
-  pub output : r ≢ refusals.NoMemory → NamesOutput f
-  pub broke : r ≢ refusals.NoMemory → r ≢ refusals.Write → BrokeOrUnflushed out out' text
-  pub silent_out_of_memory : r ≡ refusals.NoMemory → out' ≡ out
-  pub silent_at_a_sink : r ≡ refusals.Write → out' ≡ out
+  pub memory : r ≡ refusals.NoMemory → (f ≡ faults.NoMemory) × (out' ≡ out)
+  pub broke : r ≢ refusals.NoMemory → NamesOutput f × BrokeOrUnflushed out out' text
 
 -- ---- check
 
--- what a check did before its report: what it found under the torrent's paths, and the report went
--- out so
-abbrev pub IsChecked : Description → (List (List ℕ) → Option (Option (List ℕ)))
-    → (List ℕ → Bool → Type 0) → Type 0
-IsChecked t under WentOut = (files : _) × (v1 : _) × HasVerdicts t files v1
-    × TellsFolder t under files v1 × WentOut (report_text t.files files v1) (is_yes files v1)
+-- the counts of a shelf's failures before and after a check tell this of its verdicts: one failure
+-- for each unreadable file, and no unreadable file if the count stays
+pub record HasTold (old new : ℕ) (files : List FileVerdict) : Type 0 where
+  pub counted : new ≡ more old (unreadable_count files)
+  pub readable : new ≡ old → unreadable_count files ≡ 0
 
--- What a check did, by its answer: a report on what stands under the torrent's paths went out, and
--- the status is that of its last line; or the report broke off; or memory was refused before it.
-abbrev pub Checks : Description → (List (List ℕ) → Option (Option (List ℕ))) → SinkSeen → SinkSeen
-    → Result ℕ Fault → Type 0
-Checks t under out out' (Ok status) =
-    IsChecked t under (λ text yes. SentAndFlushed out out' text × (status ≡ answer_status yes))
-Checks t under out out' (Err (faults.Write path)) = (path.now ≡ codes "-")
-    × IsChecked t under (λ text yes. BrokeOrUnflushed out out' text)
-Checks t under out out' (Err faults.NoMemory) = out' ≡ out
-Checks t under out out' (Err fault) = ⊥
+-- what a check did before its report: it found these verdicts, went to the shelf so, found this
+-- under the torrent's paths, and the report went out so
+abbrev pub IsChecked : Description → (List (List ℕ) → Option (Option (List ℕ)))
+    → (List FileVerdict → Type 0) → (List ℕ → Bool → Type 0) → Type 0
+IsChecked t under Went WentOut = (files : List FileVerdict) × (v1 : Option V1Verdict)
+    × HasVerdicts t files v1 × TellsFolder t under files v1 × Went files
+    × WentOut (report_text t.files files v1) (is_yes files v1)
+
+-- What a check did, by its answer: it went to the shelf so, a report on what stands under the
+-- torrent's paths went out, and the status is that of its last line; or the report broke off; or
+-- memory was refused before it.
+abbrev pub Checks : Description → (List (List ℕ) → Option (Option (List ℕ)))
+    → (List FileVerdict → Type 0) → SinkSeen → SinkSeen → Result ℕ Fault → Type 0
+Checks t under Went out out' (Ok status) = IsChecked t under Went
+    (λ text yes. SentAndFlushed out out' text × (status ≡ answer_status yes))
+Checks t under Went out out' (Err (faults.Write path)) = (path.now ≡ codes "-")
+    × IsChecked t under Went (λ text yes. BrokeOrUnflushed out out' text)
+Checks t under Went out out' (Err faults.NoMemory) = out' ≡ out
+Checks t under Went out out' (Err fault) = ⊥
 
 -- ---- seeds, new torrents and conversions
 

@@ -1,10 +1,11 @@
 //! What each command answers over any devices: what goes out, and the exit status that follows.
-ghost use Rattle.std.specs.Prelude.{◌≡◌, ◌≢◌, ◌⊎◌, ◌^◌, ◌≤◌, ◌↔◌, ℕ, Bool, IsTrue, List, [], None, Some, Ok, Err, IfErr, IfOk, OnErr, OnOk, String, length, map, not, true, false};
+ghost use Rattle.std.specs.Prelude.{◌≡◌, ◌≢◌, ◌⊎◌, ◌^◌, ◌+◌, ◌≤◌, ◌↔◌, ℕ, Bool, IsTrue, List, [], None, Some, Ok, Err, IfErr, IfOk, OnErr, OnOk, String, length, map, not, true, false};
 ghost use Rattle.std.specs.Global.{Global, Vec};
 ghost use Rattle.std.specs.String.{string_bytes};
 ghost use Rattle.benc.specs.Device.{BrokeOrUnflushed, SentAndFlushed, WroteAndFlushed};
 ghost use Rattle.benc.specs.Text.{spelling};
 ghost use Rattle.conversions.specs.Converting.{Converts, FailsToConvert};
+ghost use Rattle.chains.specs.Chain.{Chain};
 ghost use Rattle.checker.specs.Gathering.{Gathers};
 ghost use Rattle.checker.specs.Refused.{refusal_text};
 ghost use Rattle.checker.specs.Show.{show_text};
@@ -12,11 +13,14 @@ ghost use Rattle.checker.specs.Replay.{IsCutReport, replay_seen};
 ghost use Rattle.checker.specs.Root.{root_line_of};
 ghost use Rattle.checker.specs.Seeding.{IsSeeded, Seeds, shelf_and_session};
 ghost use Rattle.drafts.specs.Finishing.{finish_rows};
+ghost use Rattle.drafts.specs.Outline.{empty_outline};
 ghost use Rattle.drafts.specs.Written.{value_of};
 ghost use Rattle.metainfo.specs.Tests.{First, NoneHolds};
 ghost use Rattle.checker.specs.Shelf.{path_bytes};
+ghost use Rattle.checker.specs.TakeAll.{IsReadWithin};
+ghost use Rattle.checker.specs.Visits.{Visits};
 ghost use Rattle.session.specs.Fresh.{IsFresh};
-ghost use Rattle.commands.specs.Answers.{BlamesOne, Checks, IsRefusalCut, IsReplayed, IsToldOfConverting, IsToldOfGathering, IsToldOfListing, IsToldOfSeeding, IsTorrentCut, IsUnprinted, NamesOutput, NamesSink, answer_status, form_2_text};
+ghost use Rattle.commands.specs.Answers.{BlamesOne, Checks, HasTold, IsRefusalCut, IsReplayed, IsToldOfConverting, IsToldOfGathering, IsToldOfListing, IsToldOfSeeding, IsTorrentCut, IsUnprinted, NamesOutput, NamesSink, answer_status, form_2_text};
 
 use benc::memory::MemSink;
 use benc::{Sink, Source};
@@ -42,8 +46,9 @@ pub fn root<'a, R: Source, W: Sink>(
     ensures status { (file : List ℕ) → (R.seen source.old).left ≡ Some file
         → IfOk result (λ s. (within : Bool) × (s ≡ answer_status within)
         × (IsTrue within ↔ (length file ≤ 2 ^ 46))) }
-    ensures fault { IfErr result (BlamesOne path.now (R.seen source.old) (R.seen source.new)
-        (W.seen out.old) (W.seen out.new)) }
+    ensures no_further { IsReadWithin (2 ^ 46 + 1) (R.seen source.old) (R.seen source.new) }
+    ensures faults { BlamesOne path.now (R.seen source.old) (R.seen source.new)
+        (W.seen out.old) (W.seen out.new) result }
     ensures prefix { (file : List ℕ) → (R.seen source.old).left ≡ Some file → IfErr result
         (λ f. NamesOutput f
         → BrokeOrUnflushed (W.seen out.old) (W.seen out.new) (root_line_of file)) }
@@ -55,7 +60,8 @@ pub fn root<'a, R: Source, W: Sink>(
     }
 }
 
-/// Prints what a torrent holds.
+/// Prints what a torrent holds, status 0. The one fault is a failed write to `out`, after a prefix
+/// of the text.
 pub fn show<'a, W: Sink>(torrent: &Torrent<'_>, out: &mut W) -> Result<u8, Fault<'a>>
     ensures status { IfOk result (λ s. s ≡ answer_status true) }
     ensures lines { WroteAndFlushed (W.seen out.old) (W.seen out.new) result
@@ -68,19 +74,20 @@ pub fn show<'a, W: Sink>(torrent: &Torrent<'_>, out: &mut W) -> Result<u8, Fault
     }
 }
 
-/// Prints why a torrent was refused, or a file with this path that was to be in it.
+/// Prints why a torrent was refused, or the file with this path that was to be in one, status 1. A
+/// refusal out of memory prints nothing, and is that fault.
 pub fn refuse<'a, W: Sink>(refusal: &Refusal, path: &[String], out: &mut W) -> Result<u8, Fault<'a>>
+    requires sink { refusal.now ≢ Refusal.Write }
     ensures status { IfOk result (λ s. s ≡ answer_status false) }
     ensures line { OnOk result (SentAndFlushed (W.seen out.old) (W.seen out.new)
         (refusal_text refusal.now (map string_bytes path.now))) }
-    ensures told { OnOk result ((refusal.now ≢ Refusal.NoMemory) × (refusal.now ≢ Refusal.Write)) }
+    ensures told { OnOk result (refusal.now ≢ Refusal.NoMemory) }
     ensures fault { IfErr result (IsUnprinted refusal.now
         (refusal_text refusal.now (map string_bytes path.now))
         (W.seen out.old) (W.seen out.new)) }
 {
     match refusal {
         Refusal::NoMemory => Err(Fault::NoMemory),
-        Refusal::Write => Err(Fault::Write("-")),
         _ => match refusal_line(refusal, path, out) {
             Ok(()) => Ok(status(false)),
             Err(_) => Err(Fault::Write("-")),
@@ -97,6 +104,8 @@ pub fn check<'a, S: Shelf, W: Sink>(
     out: &mut W,
 ) -> Result<u8, Fault<'a>>
     ensures checks { Checks torrent.now (S.under shelf.old)
+        (λ files. Chain (Visits S.Shelf S.File.seen) shelf.old torrent.now.files files
+        shelf.new × HasTold (S.faults shelf.old) (S.faults shelf.new) files)
         (W.seen out.old) (W.seen out.new) result }
     ensures no_memory { IfErr result (λ f. f ≡ Fault.NoMemory → shelf.new ≡ shelf.old) }
 {
@@ -107,7 +116,8 @@ pub fn check<'a, S: Shelf, W: Sink>(
     }
 }
 
-/// A session that knows the torrent's piece layers, or its roots alone.
+/// A session that knows the torrent's piece layers, or with `info_only` its roots alone. The one
+/// fault is out of memory.
 pub fn new_session<'t, 'a>(
     alloc: Global,
     torrent: &'t Torrent<'t>,
@@ -126,13 +136,12 @@ pub fn seed<'a, N: NodeMap, S: Shelf, W: Sink>(
     shelf: &mut S,
     out: &mut W,
 ) -> Result<(), Fault<'a>>
-    ensures seeded { OnOk result (IsSeeded S.opens S.closes S.faults S.under S.File.seen
+    ensures seeded { OnOk result (IsSeeded S.Shelf S.File.seen
         (shelf_and_session shelf.old session.old) (shelf_and_session shelf.new session.new)
         (W.seen out.old) (W.seen out.new)) }
-    ensures fault { IfErr result (λ f. (e : SeedFault) × Seeds S.opens S.closes S.faults S.under
-        S.File.seen (shelf_and_session shelf.old session.old)
-        (shelf_and_session shelf.new session.new) (W.seen out.old) (W.seen out.new) (Err e)
-        × IsToldOfSeeding e f) }
+    ensures fault { IfErr result (λ f. (e : SeedFault) × Seeds S.Shelf S.File.seen
+        (shelf_and_session shelf.old session.old) (shelf_and_session shelf.new session.new)
+        (W.seen out.old) (W.seen out.new) (Err e) × IsToldOfSeeding e f) }
 {
     match checker::seed(alloc, session, shelf, out) {
         Ok(()) => Ok(()),
@@ -194,23 +203,25 @@ pub fn replay_and_answer<'a, N: NodeMap, R: Source, W: Sink, A: Sink>(
     }
 }
 
-/// Gathers a draft of all files on a shelf. Or prints a refusal, and gives the exit status.
+/// Gathers a draft of all files on a shelf. If they cannot be a torrent, it prints the refusal and
+/// answers the exit status, 1. A fault names the file that could not be read, or tells why the
+/// shelf was not listed.
 pub fn gather<'a, S: Shelf, W: Sink>(
     alloc: Global,
     asked: &Create<'a>,
     shelf: &mut S,
     out: &mut W,
 ) -> Result<Result<Draft, u8>, Fault<'a>>
-    ensures gathered { IfOk result (λ found. IfOk found (λ draft. Gathers S.opens S.closes S.faults
-        S.under S.File.seen S.listing S.lists asked.now.name.now asked.now.piece_length
-        asked.now.hybrid shelf.old shelf.new (Ok draft) × (W.seen out.new ≡ W.seen out.old))) }
+    ensures gathered { IfOk result (λ found. IfOk found (λ draft. Gathers S.Shelf S.File.seen
+        (empty_outline asked.now.name.now asked.now.piece_length asked.now.hybrid)
+        shelf.old shelf.new (Ok draft) × (W.seen out.new ≡ W.seen out.old))) }
     ensures refused { IfOk result (λ found. IfErr found (λ s. (s ≡ answer_status false)
-        × (r : Refusal) × (path : Vec (String Global)) × Gathers S.opens S.closes S.faults S.under
-        S.File.seen S.listing S.lists asked.now.name.now asked.now.piece_length asked.now.hybrid
+        × (r : Refusal) × (path : Vec (String Global)) × Gathers S.Shelf S.File.seen
+        (empty_outline asked.now.name.now asked.now.piece_length asked.now.hybrid)
         shelf.old shelf.new (Err (GatherFault.Refused r path)) × SentAndFlushed (W.seen out.old)
         (W.seen out.new) (refusal_text r (path_bytes path)))) }
-    ensures fault { IfErr result (λ f. (g : GatherFault) × Gathers S.opens S.closes S.faults S.under
-        S.File.seen S.listing S.lists asked.now.name.now asked.now.piece_length asked.now.hybrid
+    ensures fault { IfErr result (λ f. (g : GatherFault) × Gathers S.Shelf S.File.seen
+        (empty_outline asked.now.name.now asked.now.piece_length asked.now.hybrid)
         shelf.old shelf.new (Err g) × IsToldOfGathering (Fault.Read asked.now.dir)
         (W.seen out.old) (W.seen out.new) g f) }
 {
@@ -224,7 +235,8 @@ pub fn gather<'a, S: Shelf, W: Sink>(
     }
 }
 
-/// Writes the torrent of a draft to the sink with this path, or prints a refusal.
+/// Writes the torrent of a draft to the sink with this path, status 0; or prints why there is none,
+/// status 1, and writes nothing to that sink.
 pub fn write_torrent<'a, W: Sink, O: Sink>(
     draft: &Draft,
     path: &'a str,
@@ -250,7 +262,9 @@ pub fn write_torrent<'a, W: Sink, O: Sink>(
     }
 }
 
-/// Converts the record with the first path, and writes it to the sink with the second.
+/// Converts the record with the first path and writes it to the sink with the second, status 0. A
+/// record of form 2 prints its refusal, status 1. A fault names the record, the sink, or standard
+/// output.
 pub fn convert<'a, R: Source, W: Sink, O: Sink>(
     record: &'a str,
     source: &mut R,

@@ -8,7 +8,8 @@ use Rattle.wire.specs.declared.fault.FrameFault.TheVariants as fault
 use Rattle.wire.specs.Reading.{Gave, GaveFaultless, GaveUntil}
 use Rattle.wire.specs.Records.{header}
 use Rattle.wire.proofs.Giving.{Failed-at_once, Faultless-trans, Gave-trans}
-use Rattle.conversions.specs.Steps.{BreaksInText, BreaksOff, RecordEnds, IsSoundText, Reached, Sends, Waits}
+use Rattle.conversions.specs.Converting.{BreaksInText, IsSoundText, Sends}
+use Rattle.conversions.specs.Steps.{BreaksOff, RecordEnds, Reached, Waits}
 use Rattle.conversions.proofs.Reaching.{MayEnd, reach_nothing, reach_sound, sends_of, sound_more, may_end}
 
 -- what was fed to the conversion and what waits in the buffer is all that the source gave

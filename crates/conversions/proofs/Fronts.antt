@@ -14,7 +14,8 @@ use Rattle.wire.specs.Frames.{IsPartial, four_bytes}
 use Rattle.wire.proofs.Partial.{IsPartial-from_short, IsPartial-from_unfinished}
 use Rattle.wire.proofs.RecordParts.{longest}
 use Rattle.wire.proofs.Giving.{Failed-at_once, Faultless-take, Gave-trans, take-put_more}
-use Rattle.conversions.specs.Steps.{FailsInFront, IsPrefixOf}
+use Rattle.conversions.specs.Converting.{IsPrefixOf}
+use Rattle.conversions.specs.Steps.{FailsInFront}
 
 same_as_itself : (xs : List ℕ) → pointwise nat_eq xs xs ≡ true
 same_as_itself [] = refl
@@ -78,9 +79,6 @@ no_prefix front more tells has = λ p.
     let enough : 8 ≤ length front = tells (more ++ p.0, whole) in
     let none : more ++ p.0 ≡ [] = nil_from_length (more ++ p.0) (omega (arith, enough, ap length whole, length-append front (more ++ p.0))) in
     has [] (sym (append-nil front) ∙ ap (λ t. front ++ t) (sym none) ∙ sym whole)
-
-pub one_from_short : (bytes : List ℕ) → length bytes < 8 → HasForm bytes One
-one_from_short bytes short = λ rest e. omega (arith, short, ap length e, length-append header rest)
 
 pub one_from_test : (bytes : List ℕ) → pointwise nat_eq header (take 8 bytes) ≡ false → HasForm bytes One
 one_from_test bytes e = λ rest is.

@@ -6,7 +6,7 @@ use Rattle.std.proofs.lemmas.List.{append_assoc, append-nil, length-append, leng
 use Rattle.std.proofs.Math.Seq.{take-add}
 use Rattle.wire.specs.declared.form.Form.TheVariants.{Two}
 use Rattle.wire.specs.declared.direction.Direction.TheVariants.{In, Out}
-use Rattle.wire.specs.Conversion.{is_hashes, request_of}
+use Rattle.wire.specs.Conversion.{is_hashes_body, request_of}
 use Rattle.wire.specs.Frames.{IsBody, IsPartial, four_bytes, frame}
 use Rattle.wire.specs.Meaning.{IsHashesSize}
 use Rattle.wire.specs.Records.{record_frame}
@@ -19,10 +19,10 @@ use Rattle.conversions.specs.Steps.{BeginsHashes, IsConvertedFrame, GoesBefore, 
 
 -- ---- the conversion of one frame
 
-plain_bytes : (body : List ℕ) → is_hashes body ≡ false → converted_bytes body ≡ 0 ∷ frame body
+plain_bytes : (body : List ℕ) → is_hashes_body body ≡ false → converted_bytes body ≡ 0 ∷ frame body
 plain_bytes body e = ap (λ b. flat_map (record_frame Two) (cond b ((Out, request_of body) ∷ (In, body) ∷ []) ((In, body) ∷ []))) e ∙ append-nil (0 ∷ frame body)
 
-asked_bytes : (body : List ℕ) → is_hashes body ≡ true → converted_bytes body ≡ (1 ∷ frame (request_of body)) ++ (0 ∷ frame body)
+asked_bytes : (body : List ℕ) → is_hashes_body body ≡ true → converted_bytes body ≡ (1 ∷ frame (request_of body)) ++ (0 ∷ frame body)
 asked_bytes body e = ap (λ b. flat_map (record_frame Two) (cond b ((Out, request_of body) ∷ (In, body) ∷ []) ((In, body) ∷ []))) e
     ∙ ap (λ t. (1 ∷ frame (request_of body)) ++ t) (append-nil (0 ∷ frame body))
 
@@ -34,7 +34,7 @@ frame_of len front rest e = append_assoc (four_bytes len) front rest ∙ ap (λ 
 
 -- no hashes message
 pub opens_plain : (len left : ℕ) (head front : List ℕ) → len < 2 ^ 32 → head ≡ four_bytes len ++ front → left + length front ≡ len
-    → ((rest : List ℕ) → length rest ≡ left → is_hashes (front ++ rest) ≡ false) → BeginsFrame left head (0 ∷ head)
+    → ((rest : List ℕ) → length rest ≡ left → is_hashes_body (front ++ rest) ≡ false) → BeginsFrame left head (0 ∷ head)
 opens_plain len left head front fits is size plain = record {
   some = omega (arith, ap length is, length-append (four_bytes len) front, length-four_bytes len);
   completes = λ rest e.
@@ -85,9 +85,6 @@ read_len len n head front p q is e =
     let same : four_bytes len ≡ four_bytes n = e ∙ ap (take 4) is ∙ take_at (four_bytes n) front 4 (length-four_bytes n) in
     (same_from_four_bytes len n [] [] p q (ap (λ t. t ++ []) same)).0
 
-head_size : (head : List ℕ) (h : IsHeadOf head (length head)) → length head ≡ 4 + length h.front
-head_size head h = omega (arith, h.size_is, h.front_is)
-
 left_is : (len : ℕ) (head : List ℕ) (h : IsHeadOf head (length head)) → len < 2 ^ 32 → four_bytes len ≡ take 4 head → (len + 4 - length head) + length h.front ≡ h.len
 left_is len head h fits e = omega (arith, read_len len h.len head h.front fits h.fits h.head_is e, h.size_is, h.front_is)
 
@@ -99,7 +96,7 @@ goes_opens head request h g = g h.len h.fits (sym (ap (take 4) h.head_is ∙ tak
 
 pub goes_nothing : (head : List ℕ) (h : IsHeadOf head (length head)) → ¬ BeginsHashes h.len h.front → GoesBefore head []
 goes_nothing head h not = λ len fits e. opens_plain h.len (len + 4 - length head) head h.front h.fits h.head_is (left_is len head h fits e)
-    (λ rest size. elim (cases_Bool (is_hashes (h.front ++ rest))) [
+    (λ rest size. elim (cases_Bool (is_hashes_body (h.front ++ rest))) [
       | inl yes' ↦
           let are = hashes_are (h.front ++ rest) yes' in
           let whole : length (h.front ++ rest) ≡ h.len = omega (arith, length-append h.front rest, size, left_is len head h fits e) in

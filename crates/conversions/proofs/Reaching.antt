@@ -13,7 +13,8 @@ use Rattle.wire.specs.Frames.{Frames, IsBody, frame}
 use Rattle.wire.specs.Records.{header, record_frame}
 use Rattle.wire.proofs.OneReading.{same_from_frame}
 use Rattle.wire.proofs.Partial.{length-frame}
-use Rattle.conversions.specs.Steps.{BreaksOff, IsHeadOf, IsPrefixOf, IsSoundText, BeginsFrame, Reached, Sends, Stands, Waits, converted_bytes}
+use Rattle.conversions.specs.Converting.{IsPrefixOf, IsSoundText, Sends}
+use Rattle.conversions.specs.Steps.{BreaksOff, IsHeadOf, BeginsFrame, Reached, Stands, Waits, converted_bytes}
 use Rattle.conversions.proofs.Opening.{opens_more, opens_none, opens_partial, opens_sound}
 
 -- ---- conversions of more frames

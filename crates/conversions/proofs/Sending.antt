@@ -14,17 +14,17 @@ broke_more a b xs ys p = Wrote-part failed 0 a b xs ys (xs ++ ys) refl refl p
 pub broke_after : (a b c : SinkSeen) (xs ys : List ℕ) → Sent a b xs → Broke b c ys → Broke a c (xs ++ ys)
 broke_after a b c xs ys p q = Wrote-then failed a b c xs ys (xs ++ ys) refl p q
 
-pub held_sent : (start mid now : SinkSeen) (gathered text : List ℕ) → Held start mid gathered text → Sent mid now gathered → Held start now [] text
-held_sent start mid now gathered text h p = record { sent = h.sent ++ gathered; out = Sent-append start mid now h.sent gathered h.out p; text_is = h.text_is ∙ sym (append-nil (h.sent ++ gathered)) }
+pub held_sent : (start mid now : SinkSeen) (outgoing text : List ℕ) → Held start mid outgoing text → Sent mid now outgoing → Held start now [] text
+held_sent start mid now outgoing text h p = record { sent = h.sent ++ outgoing; out = Sent-append start mid now h.sent outgoing h.out p; text_is = h.text_is ∙ sym (append-nil (h.sent ++ outgoing)) }
 
-pub held_broke : (start mid now : SinkSeen) (gathered text : List ℕ) → Held start mid gathered text → Broke mid now gathered → Broke start now text
-held_broke start mid now gathered text h p = subst (Broke start now) (sym h.text_is) (broke_after start mid now h.sent gathered h.out p)
+pub held_broke : (start mid now : SinkSeen) (outgoing text : List ℕ) → Held start mid outgoing text → Broke mid now outgoing → Broke start now text
+held_broke start mid now outgoing text h p = subst (Broke start now) (sym h.text_is) (broke_after start mid now h.sent outgoing h.out p)
 
-pub sent_held : (start now : SinkSeen) (gathered text : List ℕ) → gathered ≡ [] → Sent start now text → Held start now gathered text
-sent_held start now gathered text none p = record { sent = text; out = p; text_is = sym (append-nil text) ∙ ap (λ t. text ++ t) (sym none) }
+pub sent_held : (start now : SinkSeen) (outgoing text : List ℕ) → outgoing ≡ [] → Sent start now text → Held start now outgoing text
+sent_held start now outgoing text none p = record { sent = text; out = p; text_is = sym (append-nil text) ∙ ap (λ t. text ++ t) (sym none) }
 
-pub held_is_sent : (start now : SinkSeen) (gathered text : List ℕ) → gathered ≡ [] → Held start now gathered text → Sent start now text
-held_is_sent start now gathered text none h = subst (Sent start now) (sym (h.text_is ∙ ap (λ t. h.sent ++ t) none ∙ append-nil h.sent)) h.out
+pub held_is_sent : (start now : SinkSeen) (outgoing text : List ℕ) → outgoing ≡ [] → Held start now outgoing text → Sent start now text
+held_is_sent start now outgoing text none h = subst (Sent start now) (sym (h.text_is ∙ ap (λ t. h.sent ++ t) none ∙ append-nil h.sent)) h.out
 
 -- a request, a direction, and a head
 pub three_parts : (text request head : List ℕ) → ((text ++ request) ++ (0 ∷ [])) ++ head ≡ text ++ (request ++ (0 ∷ head))

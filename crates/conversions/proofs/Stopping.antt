@@ -12,10 +12,11 @@ use Rattle.wire.specs.Reading.{GaveFaultless}
 use Rattle.wire.specs.Records.{HasForm, header}
 use Rattle.conversions.specs.declared.fault.ConvertFault.{ConvertFault}
 use Rattle.conversions.specs.declared.fault.ConvertFault.TheVariants as fault
-use Rattle.conversions.specs.Converting.{Converts, FailsToWrite, IsCutShort, FailsToConvert}
-use Rattle.conversions.specs.Steps.{ReadingEnds, EndsForm1, IsPrefixOf, TellsForm, Waits}
+use Rattle.conversions.specs.Converting.{Converts, FailsToConvert, FailsToWrite, IsCutShort, IsPrefixOf}
+use Rattle.conversions.specs.Steps.{ReadingEnds, EndsForm1, TellsForm, Waits}
 use Rattle.conversions.proofs.Ending.{Tells, ends, so_far_first}
-use Rattle.conversions.proofs.Fronts.{no_prefix, one_from_short, one_whatever_follows, prefix_partial}
+use Rattle.wire.proofs.RecordParts.{one_from_short}
+use Rattle.conversions.proofs.Fronts.{no_prefix, one_whatever_follows, prefix_partial}
 
 -- ---- more came
 

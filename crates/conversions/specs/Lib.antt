@@ -1,3 +1,3 @@
 -- What contracts of the conversion of a record cite.
-pub mod Steps
 pub mod Converting
+pub mod Steps

@@ -3,41 +3,16 @@ use Rattle.std.specs.Prelude.{◌≡◌, ◌≢◌, ◌⊎◌, ℕ, ◌+◌, ◌
 use Rattle.std.specs.List.{All, flat_map}
 use Rattle.std.specs.Io.KnownBytes.{IsAtEnd, Keeps}
 use Rattle.benc.specs.Device.{SinkSeen, SourceSeen, Broke, CountsFault, Sent, one_more}
+use Rattle.wire.specs.declared.direction.Direction.TheVariants.{In}
 use Rattle.wire.specs.declared.form.Form.TheVariants.{One, Two}
 use Rattle.wire.specs.Conversion.{conversion_bytes, converted}
-use Rattle.wire.specs.Frames.{Frames, IsBody, IsPartial, four_bytes, frame}
-use Rattle.wire.specs.Meaning.{IsHashesSize}
+use Rattle.wire.specs.Frames.{IsBody, IsPartial, four_bytes, frame}
+use Rattle.wire.specs.Meaning.{IsHashesSize, ask_size, hashes_id}
 use Rattle.wire.specs.Reading.{Gave, GaveFaultless}
-use Rattle.wire.specs.Records.{HasForm, header, record_frame}
+use Rattle.wire.specs.Records.{HasForm, direction_byte, header, record_frame}
+use Rattle.conversions.specs.Converting.{BreaksInText, IsPrefixOf, Sends}
 use Rattle.conversions.specs.declared.fault.ConvertFault.{ConvertFault}
 use Rattle.conversions.specs.declared.fault.ConvertFault.TheVariants as fault
-
-abbrev pub IsPrefixOf : List ℕ → List ℕ → Type 0
-IsPrefixOf front whole = (rest : List ℕ) × (whole ≡ front ++ rest)
-
--- the text stands at the front of the conversion of every record of whole frames that begins with
--- these bytes
-abbrev pub IsSoundText : List ℕ → List ℕ → Type 0
-IsSoundText bytes text = (more : List ℕ) (bodies : List (List ℕ)) → Frames (bytes ++ more) bodies []
-    → IsPrefixOf text (conversion_bytes bodies)
-
--- what went out for these bytes: the conversion of the whole frames among them, and no more than
--- what stands there for every record that begins so
-pub record Sends (bytes : List ℕ) (old new : SinkSeen) : Type 0 where
-  pub bodies : List (List ℕ)
-  pub rest : List ℕ
-  pub frames : Frames bytes bodies rest
-  pub text : List ℕ
-  pub begins : IsPrefixOf (conversion_bytes bodies) text
-  pub sound : IsSoundText bytes text
-  pub sent : Sent old new text
-
--- The sink failed, after a prefix of a text that stands at the front of the conversion of every
--- record of whole frames that begins so.
-pub record BreaksInText (bytes : List ℕ) (out out' : SinkSeen) : Type 0 where
-  pub text : List ℕ
-  pub sound : IsSoundText bytes text
-  pub broke : Broke out out' text
 
 -- ---- one frame
 
@@ -52,12 +27,16 @@ pub record IsConvertedFrame (bytes text : List ℕ) : Type 0 where
   pub is_frame : bytes ≡ frame body
   pub is_converted : text ≡ converted_bytes body
 
--- a frame has begun, of which so many bytes are left: whichever they are, they complete it, and its
--- conversion too
+-- a frame has begun, of which this many bytes are left: whichever they are, they complete it, and
+-- its conversion too
 pub record BeginsFrame (left : ℕ) (part sent : List ℕ) : Type 0 where
   pub some : 0 < length part
   pub completes :
       (rest : List ℕ) → length rest ≡ left → IsConvertedFrame (part ++ rest) (sent ++ rest)
+
+-- how many bytes a head has at most: a length, and the size of a request
+abbrev pub longest_head : ℕ
+longest_head = 4 + ask_size
 
 -- a length, and as much of the body as a request is made of
 pub record IsHeadOf (head : List ℕ) (size : ℕ) : Type 0 where
@@ -65,17 +44,17 @@ pub record IsHeadOf (head : List ℕ) (size : ℕ) : Type 0 where
   pub front : List ℕ
   pub fits : len < 2 ^ 32
   pub head_is : head ≡ four_bytes len ++ front
-  pub front_is : length front ≡ min len 49
-  pub size_is : size ≡ 4 + min len 49
+  pub front_is : length front ≡ min len ask_size
+  pub size_is : size ≡ 4 + min len ask_size
 
 -- a body of this length that begins so is a hashes message of right size
 abbrev pub BeginsHashes : ℕ → List ℕ → Type 0
-BeginsHashes len front = ((fields : List ℕ) × (front ≡ 22 ∷ fields)) × IsHashesSize len
+BeginsHashes len front = ((fields : List ℕ) × (front ≡ hashes_id ∷ fields)) × IsHashesSize len
 
 -- the request that goes before the frame with this head, or nothing
 abbrev pub GoesBefore : List ℕ → List ℕ → Type 0
 GoesBefore head request = (len : ℕ) → len < 2 ^ 32 → four_bytes len ≡ take 4 head
-    → BeginsFrame (len + 4 - length head) head (request ++ (0 ∷ head))
+    → BeginsFrame (len + 4 - length head) head (request ++ (direction_byte In ∷ head))
 
 -- ---- frames, one after the other
 
@@ -84,7 +63,7 @@ abbrev pub Stands : ℕ → List ℕ → List ℕ → Type 0
 Stands left part sent =
     ((left ≡ 0) × (part ≡ []) × (sent ≡ [])) ⊎ ((0 < left) × BeginsFrame left part sent)
 
--- the bytes that were fed, of which so many are left of a body, and the text for them
+-- the bytes that were fed, of which this many are left of a body, and the text for them
 pub record Reached (left : ℕ) (fed text : List ℕ) : Type 0 where
   pub bodies : List (List ℕ)
   pub each : All IsBody bodies
@@ -97,23 +76,23 @@ pub record Reached (left : ℕ) (fed text : List ℕ) : Type 0 where
 -- what was not fed is less than a head, and nothing if a frame has begun
 pub record Waits (left : ℕ) (rest : List ℕ) : Type 0 where
   pub partial : IsPartial rest
-  pub short : length rest < 53
+  pub short : length rest < longest_head
   pub none : (left ≡ 0) ⊎ (rest ≡ [])
 
 -- ---- the text on its way out
 
--- the text went out but for what is gathered
-pub record Held (start now : SinkSeen) (gathered text : List ℕ) : Type 0 where
+-- the text went out but for what is still outgoing
+pub record Held (start now : SinkSeen) (outgoing text : List ℕ) : Type 0 where
   pub sent : List ℕ
   pub out : Sent start now sent
-  pub text_is : text ≡ sent ++ gathered
+  pub text_is : text ≡ sent ++ outgoing
 
 -- the text for all that was fed is on its way
-pub record Advances (start now : SinkSeen) (gathered : List ℕ) (left : ℕ) (fed : List ℕ)
+pub record Advances (start now : SinkSeen) (outgoing : List ℕ) (left : ℕ) (fed : List ℕ)
     : Type 0 where
   pub text : List ℕ
   pub reached : Reached left fed text
-  pub held : Held start now gathered text
+  pub held : Held start now outgoing text
 
 -- the sink failed in the text for some of these bytes
 pub record BreaksOff (start now : SinkSeen) (fed more : List ℕ) : Type 0 where

@@ -1,5 +1,5 @@
 //! The conversion of a record.
-ghost use Rattle.std.specs.Prelude.{◌≡◌, ◌+◌, ◌<◌, ◌≤◌, ◌++◌, ℕ, List, [], length, take, drop, IfOk, IfErr, MatchResult};
+ghost use Rattle.std.specs.Prelude.{◌≡◌, ◌+◌, ◌<◌, ◌≤◌, ◌++◌, ℕ, List, [], length, take, drop, IfOk, IfErr, MatchResult, OnOk};
 ghost use Rattle.benc.specs.Device.{Sent, SinkSeen, SourceSeen, Wrote};
 ghost use Rattle.wire.specs.Reading.{GaveFaultless};
 ghost use Rattle.wire.specs.Records.{HasForm, header};
@@ -10,28 +10,24 @@ ghost use Rattle.conversions.specs.Converting.{Converts, FailsToConvert};
 ghost use Rattle.conversions.specs.Steps.{BreaksOff, ReadingEnds, EndsForm1, FailsInFront, FlushesOnce, Reached, TellsForm, Waits};
 
 use crate::fault::ConvertFault;
-use crate::gathering::{Gathered, ROOM, send};
 use crate::head::LONGEST_HEAD;
+use crate::outgoing::{Outgoing, READ, ROOM, send};
 use crate::parts::convert_part;
 use benc::{DeviceFault, Sink, Source, WriteFault, write_all};
 use session::laws::conversion_replays_as_form_1;
-
-// How many bytes are read at once, at most.
-const READ: usize = 65_536;
-
-// What a record of form 2 begins with.
-const HEADER: [u8; 8] = *b"\xff\xff\xff\xffBTH2";
+use wire::HEADER;
 
 /// Writes the record of form 2 that a record of form 1 is: a header, and then each frame as it
-/// stands, marked as one that came in. Directly before each hashes message of right size goes the
-/// request that it answers, marked as one that went out. At last it flushes. It takes no memory.
+/// stands, marked as one that came in. Directly before each "hashes" message of right size (BEP 52)
+/// goes the "hash request" that it answers, marked as one that went out. At last it flushes. It
+/// takes no memory.
 ///
-/// `AlreadyForm2` comes as soon as the eight bytes of the header were read, and `Read` if the
-/// source fails: then nothing went out if what was read is a prefix of the header. `Truncated`
-/// comes if the record ends inside a frame. After it, and after any other `Read`, what went out
-/// begins with the conversion of all whole frames. After `Write` it is a prefix of the conversion
-/// of every record of whole frames that begins with what was read. After a fault nothing is
-/// flushed.
+/// `AlreadyForm2` comes if the record begins with the eight bytes of the header; then nothing went
+/// out. `Read` comes if the source fails: nothing went out if what was read is a prefix of the
+/// header. `Truncated` comes if the record ends inside a frame. After it, and after any other
+/// `Read`, what went out begins with the conversion of all whole frames. After `Write` it is a
+/// prefix of the conversion of every record of whole frames that begins with what was read. After a
+/// fault nothing is flushed.
 pub fn convert<R: Source, W: Sink>(source: &mut R, out: &mut W) -> Result<(), ConvertFault>
     ensures converts { IfOk result (λ _. Converts (R.seen source.old) (R.seen source.new)
         (W.seen out.old) (W.seen out.new)) }
@@ -143,10 +139,10 @@ fn convert_frames<R: Source, W: Sink>(
         → ReadingEnds first (R.seen source.new) start (W.seen out.new) (take held buffer.old)
         result }
 {
-    let mut gathered = Gathered::new();
+    let mut outgoing = Outgoing::new();
     let mut left = 0;
     'parts: loop {
-        held = convert_held(out, &mut gathered, buffer, held, &mut left)?;
+        held = convert_held(out, &mut outgoing, buffer, held, &mut left)?;
         match source.read(&mut buffer[held..])? {
             0 => return Ok(held == 0 && left == 0),
             count => held += count,
@@ -158,15 +154,15 @@ fn convert_frames<R: Source, W: Sink>(
 // how many bytes it has.
 fn convert_held<W: Sink>(
     out: &mut W,
-    gathered: &mut Gathered,
+    outgoing: &mut Outgoing,
     buffer: &mut [u8],
     held: usize,
     left: &mut usize,
 ) -> Result<usize, WriteFault>
     requires held { held ≤ length buffer.old }
     requires room { length buffer.old ≤ ROOM }
-    requires empty { gathered.old.items ≡ [] }
-    ensures empty { MatchResult result (λ _. gathered.new.items ≡ []) (λ _. Unit {0}) }
+    requires empty { outgoing.old.items ≡ [] }
+    ensures empty { OnOk result (outgoing.new.items ≡ []) }
     ensures waits { IfOk result (λ rest. Waits left.new (take rest buffer.new)
         × (rest < LONGEST_HEAD)) }
     ensures converts { (start : SinkSeen) (fed text : List ℕ) → Reached left.old fed text
@@ -176,8 +172,8 @@ fn convert_held<W: Sink>(
         × (done ++ take rest buffer.new ≡ fed ++ take held buffer.old))
         (λ _. BreaksOff start (W.seen out.new) fed (take held buffer.old)) }
 {
-    let done = convert_part(out, gathered, &buffer[..held], left)?;
-    send(out, gathered)?;
+    let done = convert_part(out, outgoing, &buffer[..held], left)?;
+    send(out, outgoing)?;
     Ok(move_to_front(buffer, done, held))
 }
 

@@ -4,12 +4,27 @@ ghost use Rattle.benc.specs.Device.{Broke, SinkSeen};
 ghost use Rattle.wire.specs.Frames.{IsPartial, four_bytes};
 ghost use Rattle.conversions.specs.Steps.{BeginsHashes, GoesBefore, Held, IsHeadOf, BeginsFrame};
 
-use crate::gathering::{Gathered, put};
+use crate::outgoing::{Outgoing, put};
 use benc::{Sink, WriteFault};
-use wire::{is_hashes, number_at};
+use wire::{Direction, is_hashes, number_at};
 
-/// How many bytes a head has at most: a length, an id and the five fields of a hash request.
-pub(crate) const LONGEST_HEAD: usize = 53;
+// How many bytes the length of a frame has.
+const LENGTH: usize = 4;
+
+// The id of a hash request.
+const REQUEST_ID: u8 = 21;
+
+// The id and the five fields of a hash request, in bytes.
+const REQUEST_SIZE: u32 = 49;
+
+// The byte of the direction of a frame that went out.
+const WENT_OUT: u8 = 1;
+
+// What stands before the fields of a hash request that went out: a direction, a length and an id.
+const REQUEST: [u8; 6] = [WENT_OUT, 0, 0, 0, REQUEST_SIZE as u8, REQUEST_ID];
+
+/// How many bytes a head has at most: a length, and the size of a hash request.
+pub(crate) const LONGEST_HEAD: usize = LENGTH + REQUEST_SIZE as usize;
 
 /// How many bytes the head of the frame has that begins here, if they are all there.
 pub(crate) fn head_len(bytes: &[u8]) -> Option<usize>
@@ -20,49 +35,46 @@ pub(crate) fn head_len(bytes: &[u8]) -> Option<usize>
     if bytes.len() < 4 {
         return None;
     }
-    let size = 4 + number_at(bytes).min(49) as usize;
+    let size = LENGTH + number_at(bytes).min(REQUEST_SIZE) as usize;
     if bytes.len() < size { None } else { Some(size) }
 }
 
 /// Converts a head, and answers how many bytes of its body follow.
 pub(crate) fn convert_head<W: Sink>(
     out: &mut W,
-    gathered: &mut Gathered,
+    outgoing: &mut Outgoing,
     head: &[u8],
 ) -> Result<usize, WriteFault>
     requires { IsHeadOf head.now (length head.now) }
     ensures { (start : SinkSeen) (text : List ℕ)
-        → Held start (W.seen out.old) gathered.old.items text → MatchResult result
+        → Held start (W.seen out.old) outgoing.old.items text → MatchResult result
         (λ left. (sent : List ℕ) × BeginsFrame left head.now sent
-        × Held start (W.seen out.new) gathered.new.items (text ++ sent))
+        × Held start (W.seen out.new) outgoing.new.items (text ++ sent))
         (λ _. (left : ℕ) × (sent : List ℕ) × BeginsFrame left head.now sent
         × Broke start (W.seen out.new) (text ++ sent)) }
 {
-    put_request(out, gathered, head)?;
-    put(out, gathered, &[0])?;
-    put(out, gathered, head)?;
-    Ok(number_at(head) as usize + 4 - head.len())
+    put_request(out, outgoing, head)?;
+    put(out, outgoing, &[Direction::In.byte()])?;
+    put(out, outgoing, head)?;
+    Ok(number_at(head) as usize + LENGTH - head.len())
 }
 
 // Takes the request that goes before a hashes message, if the head is that of one.
-fn put_request<W: Sink>(out: &mut W, gathered: &mut Gathered, head: &[u8]) -> Result<(), WriteFault>
+fn put_request<W: Sink>(out: &mut W, outgoing: &mut Outgoing, head: &[u8]) -> Result<(), WriteFault>
     requires { IsHeadOf head.now (length head.now) }
     ensures { (start : SinkSeen) (text : List ℕ)
-        → Held start (W.seen out.old) gathered.old.items text → MatchResult result
+        → Held start (W.seen out.old) outgoing.old.items text → MatchResult result
         (λ _. (request : List ℕ) × GoesBefore head.now request
-        × Held start (W.seen out.new) gathered.new.items (text ++ request))
+        × Held start (W.seen out.new) outgoing.new.items (text ++ request))
         (λ _. (request : List ℕ) × GoesBefore head.now request
         × Broke start (W.seen out.new) (text ++ request)) }
 {
     if begins_hashes(head) {
-        put(out, gathered, &REQUEST)?;
-        put(out, gathered, &head[5..])?;
+        put(out, outgoing, &REQUEST)?;
+        put(out, outgoing, &head[LENGTH + 1..])?;
     }
     Ok(())
 }
-
-// A direction, a length and an id: a hash request went out.
-const REQUEST: [u8; 6] = [1, 0, 0, 0, 49, 21];
 
 // Whether the head is that of a hashes message of right size.
 fn begins_hashes(head: &[u8]) -> bool

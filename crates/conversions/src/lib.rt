@@ -3,8 +3,8 @@
 
 mod converting;
 mod fault;
-mod gathering;
 mod head;
+mod outgoing;
 mod parts;
 
 pub use converting::convert;

@@ -1,37 +1,36 @@
 //! The conversion of bytes as they come.
-ghost use Rattle.std.specs.Prelude.{◌≡◌, ◌+◌, ◌≤◌, ◌++◌, ◌⊎◌, ℕ, List, length, take, drop, MatchResult};
+ghost use Rattle.std.specs.Prelude.{◌≡◌, ◌+◌, ◌≤◌, ◌++◌, ◌⊎◌, ℕ, List, length, take, drop, IfOk, MatchResult};
 ghost use Rattle.benc.specs.Device.{SinkSeen};
 ghost use Rattle.conversions.specs.Steps.{Advances, BreaksOff, Held, Reached, Waits};
 
-use crate::gathering::{Gathered, ROOM, put};
 use crate::head::{convert_head, head_len};
+use crate::outgoing::{Outgoing, ROOM, put};
 use benc::{Sink, WriteFault};
 
 /// Converts these bytes, after so many that are left of a body, and answers how many of them: the
 /// others are less than the head of a frame.
 pub(crate) fn convert_part<W: Sink>(
     out: &mut W,
-    gathered: &mut Gathered,
+    outgoing: &mut Outgoing,
     part: &[u8],
     left: &mut usize,
 ) -> Result<usize, WriteFault>
     requires { length part.now ≤ ROOM }
-    ensures within { MatchResult result (λ done. done ≤ length part.now) (λ _. Unit {0}) }
-    ensures waits { MatchResult result (λ done. Waits left.new (drop done part.now))
-        (λ _. Unit {0}) }
+    ensures within { IfOk result (λ done. done ≤ length part.now) }
+    ensures waits { IfOk result (λ done. Waits left.new (drop done part.now)) }
     ensures converts { (start : SinkSeen) (fed text : List ℕ) → Reached left.old fed text
-        → Held start (W.seen out.old) gathered.old.items text → MatchResult result
-        (λ done. Advances start (W.seen out.new) gathered.new.items left.new
+        → Held start (W.seen out.old) outgoing.old.items text → MatchResult result
+        (λ done. Advances start (W.seen out.new) outgoing.new.items left.new
         (fed ++ take done part.now))
         (λ _. BreaksOff start (W.seen out.new) fed part.now) }
 {
     let mut done = 0;
     'frames: loop {
-        done += pass_on(out, gathered, &part[done..], left)?;
+        done += pass_on(out, outgoing, &part[done..], left)?;
         let Some(size) = head_len(&part[done..]) else {
             return Ok(done);
         };
-        *left = convert_head(out, gathered, &part[done..done + size])?;
+        *left = convert_head(out, outgoing, &part[done..done + size])?;
         done += size;
     }
 }
@@ -39,22 +38,21 @@ pub(crate) fn convert_part<W: Sink>(
 // Passes on what is there of the body that has begun.
 fn pass_on<W: Sink>(
     out: &mut W,
-    gathered: &mut Gathered,
+    outgoing: &mut Outgoing,
     bytes: &[u8],
     left: &mut usize,
 ) -> Result<usize, WriteFault>
     requires { length bytes.now ≤ ROOM }
-    ensures counts { MatchResult result
-        (λ count. (count ≤ length bytes.now) × (left.new + count ≡ left.old)
-        × (left.new ≡ 0 ⊎ count ≡ length bytes.now)) (λ _. Unit {0}) }
+    ensures counts { IfOk result (λ count. (count ≤ length bytes.now)
+        × (left.new + count ≡ left.old) × (left.new ≡ 0 ⊎ count ≡ length bytes.now)) }
     ensures converts { (start : SinkSeen) (fed text : List ℕ) → Reached left.old fed text
-        → Held start (W.seen out.old) gathered.old.items text → MatchResult result
-        (λ count. Advances start (W.seen out.new) gathered.new.items left.new
+        → Held start (W.seen out.old) outgoing.old.items text → MatchResult result
+        (λ count. Advances start (W.seen out.new) outgoing.new.items left.new
         (fed ++ take count bytes.now))
         (λ _. BreaksOff start (W.seen out.new) fed bytes.now) }
 {
     let count = bytes.len().min(*left);
-    put(out, gathered, &bytes[..count])?;
+    put(out, outgoing, &bytes[..count])?;
     *left -= count;
     Ok(count)
 }

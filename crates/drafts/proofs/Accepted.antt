@@ -3,7 +3,7 @@ use Rattle.std.proofs.Common.{◌≡◌, ◌≢◌, ℕ, zero, suc, ◌<◌, ◌
 use Rattle.std.specs.List.{list_any}
 use Rattle.std.specs.Prelude.{codes, nat_lt, nat_le, ◌==◌, is_none, unwrap_or}
 use Rattle.std.specs.Str.{IsUtf8, bytes_eq}
-use Rattle.benc.specs.Value.{Bencode, int, text, list, Pairs, no_pairs, pair}
+use Rattle.benc.specs.Value.{Bencode, int, text, list, Pairs, pair}
 use Rattle.drafts.proofs.Building.{AreOutlineFiles}
 use Rattle.drafts.specs.Outline.{Outline, OutlineFile, IsOutline, IsOutlineFile, listed_file}
 use Rattle.drafts.specs.Written.{file_tree_of, file_value, walk_to_file, list_pair, last_pairs, pieces_pair, is_single, info_value, value_of, entries_value, first_length}
@@ -91,9 +91,6 @@ length_is f bound = let e : nat_le f.length (2 ^ 46) ≡ true = grind arith in r
 pub size_is : (f : OutlineFile) → f.length ≤ 2 ^ 46 → length_of (file_value f) ≡ f.length
 size_is f bound = ap (λ o. unwrap_or o 0) (length_is f bound)
 
-root_pair : (f : OutlineFile) → Pairs
-root_pair f = if nat_lt 0 f.length then pair (codes "pieces root") (text f.root) no_pairs else no_pairs
-
 pub no_link : (f : OutlineFile) → is_symlink (file_value f) ≡ false
 no_link f = elim (true_or_false (nat_lt 0 f.length)) [ inl some ↦ rw some refl | inr none ↦ rw none refl ]
 
@@ -110,7 +107,7 @@ root_same f long =
     root_is_in : (f : OutlineFile) → nat_lt 0 f.length ≡ true → length f.root ≡ 32 → (if nat_lt 0 f.length then root_at (file_value f) else None) ≡ Some f.root
     root_is_in f some long = ap (λ b. if b then root_at (file_value f) else None) some ∙ root_is f some long
 
-pub listed_is : (p : ℕ) (f : OutlineFile) → IsOutlineFile p f → listed (walk_to_file f) ≡ listed_file f
+pub listed_is : (p : ℕ) (f : OutlineFile) → IsOutlineFile f → listed (walk_to_file f) ≡ listed_file f
 listed_is p f o =
     ap (λ n. record { path = f.path; length = n; root = stated_root n (file_value f) }) (size_is f o.bound)
     ∙ ap (λ (r : Option (List ℕ)). record { path = f.path; length = f.length; root = r }) (root_same f o.root_length)
@@ -120,16 +117,16 @@ all_listed p [] files = refl
 all_listed p (f ∷ fs) files =
     ap (λ (x : ListedFile). x ∷ map listed (map walk_to_file fs)) (listed_is p f (files 0 f refl)) ∙ ap (λ xs. listed_file f ∷ xs) (all_listed p fs (λ n g e. files (suc n) g e))
 
-no_any : (p : ℕ) (test : Walk → Bool) (fs : List OutlineFile) → AreOutlineFiles p fs → ((f : OutlineFile) → IsOutlineFile p f → test (walk_to_file f) ≡ false) → list_any test (map walk_to_file fs) ≡ true → ⊥
+no_any : (p : ℕ) (test : Walk → Bool) (fs : List OutlineFile) → AreOutlineFiles p fs → ((f : OutlineFile) → IsOutlineFile f → test (walk_to_file f) ≡ false) → list_any test (map walk_to_file fs) ≡ true → ⊥
 no_any p test [] files none any = cc
 no_any p test (f ∷ fs) files none any =
     let first : test (walk_to_file f) ≡ false = none f (files 0 f refl) in
     no_any p test fs (λ n g e. files (suc n) g e) none (rw first at any)
 
-no_size : (p : ℕ) (f : OutlineFile) → IsOutlineFile p f → is_none (length_at (file_value f)) ≡ false
+no_size : (p : ℕ) (f : OutlineFile) → IsOutlineFile f → is_none (length_at (file_value f)) ≡ false
 no_size p f o = ap is_none (length_is f o.bound)
 
-no_root : (p : ℕ) (f : OutlineFile) → IsOutlineFile p f → lacks_root (file_value f) ≡ false
+no_root : (p : ℕ) (f : OutlineFile) → IsOutlineFile f → lacks_root (file_value f) ≡ false
 no_root p f o = ap (λ n. nat_lt 0 n && is_none (root_at (file_value f))) (size_is f o.bound) ∙
     elim (true_or_false (nat_lt 0 f.length)) [
       | inl some ↦ ap (λ r. nat_lt 0 f.length && is_none r) (root_is f some (o.root_length (let more : 0 < f.length = grind arith in more))) ∙ rw some refl

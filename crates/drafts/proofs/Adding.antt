@@ -239,7 +239,7 @@ made_outline d f layer place o t given order = record {
   name = o.name;
   legal = o.legal;
   files = λ n g at. elim (put_back place f d.files n g at) [
-    | inl same ↦ subst (IsOutlineFile d.piece_length) same (record { path = t.path; bound = t.bound; root_length = given.root_length; cut_lengths = given.cut_lengths; padded_length = given.padded_length })
+    | inl same ↦ subst IsOutlineFile same (record { path = t.path; bound = t.bound; root_length = given.root_length; cut_lengths = given.cut_lengths; padded_length = given.padded_length })
     | inr old ↦ o.files old.0 g old.1
   ];
   cuts = λ n g at hybrid some. elim (put_back place f d.files n g at) [

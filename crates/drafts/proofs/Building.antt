@@ -319,7 +319,7 @@ file_value_is f bound = record {
 
 -- each file of a list is one that a draft may hold
 abbrev pub AreOutlineFiles : ℕ → List OutlineFile → Type 0
-AreOutlineFiles p fs = (n : ℕ) (f : OutlineFile) → slice_get fs n ≡ Some f → IsOutlineFile p f
+AreOutlineFiles p fs = (n : ℕ) (f : OutlineFile) → slice_get fs n ≡ Some f → IsOutlineFile f
 
 pub walks_are : (p : ℕ) (fs : List OutlineFile) → AreOutlineFiles p fs → AreFileWalks (map walk_to_file fs)
 walks_are p [] files n w e = cc

@@ -50,7 +50,7 @@ some_path (k ∷ ks) some = refl
 path_is : (ks : List (List ℕ)) → ks ≢ [] → as_path (list (texts_value ks)) ≡ Some ks
 path_is ks some = ap (λ o. option_and_then some_texts o) (texts_are ks) ∙ some_path ks some
 
-file_part_is : (p : ℕ) (f : OutlineFile) → IsOutlineFile p f → entry_part (entry_value f) ≡ file_part f
+file_part_is : (p : ℕ) (f : OutlineFile) → IsOutlineFile f → entry_part (entry_value f) ≡ file_part f
 file_part_is p f o =
     let e : nat_le f.length (2 ^ 46) ≡ true = let bound = o.bound in grind arith in
     let size : length_at (entry_value f) ≡ Some f.length = rw e refl in
@@ -224,7 +224,7 @@ of_length_take width zero xs a = tt
 of_length_take width (suc n) [] a = tt
 of_length_take width (suc n) (x ∷ xs) a = (a.0, of_length_take width n xs a.1)
 
-digests_in_length : (p : ℕ) (f : OutlineFile) (fs : List OutlineFile) → IsOutlineFile p f → AreOfLength 20 (digests_in f fs)
+digests_in_length : (p : ℕ) (f : OutlineFile) (fs : List OutlineFile) → IsOutlineFile f → AreOfLength 20 (digests_in f fs)
 digests_in_length p f fs o =
     elim (true_or_false (nat_lt 0 f.length)) [
       | inl some ↦ elim (true_or_false (has_content fs)) [

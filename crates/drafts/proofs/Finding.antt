@@ -30,10 +30,6 @@ path_at [] n f at = cc
 path_at (g ∷ fs) zero f at = let same : g ≡ f = cc in ap (λ (x : DraftFile). Some (path_in x)) same
 path_at (g ∷ fs) (suc n) f at = path_at fs n f at
 
-paths_length : (fs : List DraftFile) → length (paths_in fs) ≡ length fs
-paths_length [] = refl
-paths_length (f ∷ fs) = ap suc (paths_length fs)
-
 get_path : (fs : List DraftFile) (n : ℕ) (d : DraftFile) → n < length fs → slice_get (paths_in fs) n ≡ Some (path_in (get_or fs n d))
 get_path fs n d within = path_at fs n (get_or fs n d) (slice_get-get_or fs n d within)
 

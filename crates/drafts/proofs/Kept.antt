@@ -127,12 +127,6 @@ reuses d es n root k roots at some differ =
       differ = λ same. differ (sym used.length_is ∙ same);
     }
 
--- a root is found with this length, or is not found
-pub not_reused : (d : Outline) (es : Entries) (n : ℕ) (root : List ℕ) → AreRootsOf d.files es → ((k : KeptRoot) → kept_at root es ≡ Some k → k.length ≡ n) → ReusesRoot d n root → ⊥
-not_reused d es n root roots all r =
-    let has = roots.each r.number r.other r.there r.other_some in
-    r.differ (sym has.length_is ∙ all has.kept (ap (λ s. kept_at s es) (sym r.same) ∙ has.there))
-
 -- the file's root is kept with its length
 pub root_there : (d : Outline) (es : Entries) (f : OutlineFile) (k : KeptRoot) → AreRootsOf d.files es → 0 < f.length → (ReusesRoot d f.length f.root → ⊥) → kept_at f.root es ≡ Some k → HasRoot es f
 root_there d es f k roots some not at = record {

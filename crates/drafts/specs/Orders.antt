@@ -1,4 +1,5 @@
--- Where a path belongs among paths in order (BEP 52, "file tree").
+-- Where a path belongs among paths in order (BEP 52, "file tree"). Public clauses do not name
+-- these.
 use Rattle.std.specs.Prelude.{◌≡◌, ℕ, List, take, drop, Some, slice_get}
 use Rattle.std.specs.List.{AllByRecursion}
 use Rattle.std.specs.declared.cmp.Ordering.TheVariants.{Less, Equal, Greater}

@@ -46,7 +46,7 @@ abbrev pub AreOfLength : ℕ → List (List ℕ) → Type 0
 AreOfLength width [] = Unit {0}
 AreOfLength width (h ∷ hs) = (length h ≡ width) × AreOfLength width hs
 
-pub record IsOutlineFile (piece_length : ℕ) (f : OutlineFile) : Type 0 where
+pub record IsOutlineFile (f : OutlineFile) : Type 0 where
   pub path : IsFilePath f.path
   pub bound : f.length ≤ 2 ^ 46
   pub root_length : 0 < f.length → length f.root ≡ 32
@@ -71,7 +71,7 @@ pub record IsOutline (d : Outline) : Type 0 where
   pub name : IsUtf8 d.name
   pub legal : IsPieceLength d.piece_length
   pub files : (n : ℕ) (f : OutlineFile) → slice_get d.files n ≡ Some f
-      → IsOutlineFile d.piece_length f
+      → IsOutlineFile f
   pub cuts : (n : ℕ) (f : OutlineFile) → slice_get d.files n ≡ Some f → d.hybrid ≡ true
       → 0 < f.length → length f.cuts ≡ pieces_of d.piece_length f.length
   pub in_order : AreInOrder (map (λ (f : OutlineFile). f.path) d.files)

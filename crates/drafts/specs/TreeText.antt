@@ -15,6 +15,6 @@ abbrev pub opened : List (List ℕ) → List ℕ
 opened [] = []
 opened (k ∷ ks) = string k ++ dict_mark ∷ opened ks
 
--- so many dictionaries end
+-- this many dictionaries end
 abbrev pub closed : ℕ → List ℕ
 closed n = replicate n end_mark

@@ -12,7 +12,8 @@ use Rattle.drafts.specs.Outline.{Outline, OutlineFile, OutlineLayer, listed_file
 use Rattle.filetree.specs.Dictionary.{pairs_in}
 use Rattle.filetree.specs.FileTree.{Walk}
 use Rattle.opening.specs.Description.{Description, TreeEntry}
-use Rattle.opening.specs.Rooted.{entries_from}
+use Rattle.opening.specs.Trees.{entries_from}
+use Rattle.opening.specs.Stream.{is_named}
 use Rattle.opening.specs.Trees.{roots_in}
 use Rattle.opening.specs.declared.roots.Root.{Root}
 use Rattle.pieces.specs.Pieces.{pieces_of}
@@ -60,7 +61,7 @@ pairs_of_layers (e ∷ es) = pair e.root (text (concat e.hashes)) (pairs_of_laye
 abbrev pub has_content : List OutlineFile → Bool
 has_content fs = list_any (λ f. nat_lt 0 f.length) fs
 
--- how far it is from the end of so many bytes to the next piece boundary
+-- how far it is from the end of this many bytes to the next piece boundary
 abbrev pub gap : ℕ → ℕ → ℕ
 gap piece_length n = pieces_of piece_length n * piece_length - n
 
@@ -79,7 +80,7 @@ abbrev pub pad_value : ℕ → Bencode
 pad_value n = dict (pair (codes "attr") (text (codes "p")) (pair (codes "length") (int (pos n))
     (pair (codes "path") (list (texts_value (codes ".pad" ∷ decimal n ∷ []))) no_pairs)))
 
--- a pad stands behind a file that ends within a piece, if a file that is not empty comes later
+-- a pad follows a file that ends within a piece, if a file that is not empty comes later
 abbrev pub needs_pad : ℕ → OutlineFile → List OutlineFile → Bool
 needs_pad piece_length f later = nat_lt 0 (gap piece_length f.length) && has_content later
 
@@ -115,12 +116,7 @@ stream_of piece_length (f ∷ fs) = if has_content fs
 -- one file, whose path is the torrent's name
 abbrev pub is_single : List ℕ → List OutlineFile → Bool
 is_single name [] = false
-is_single name (f ∷ []) = is_named f.path
-  where
-    is_named : List (List ℕ) → Bool
-    is_named [] = false
-    is_named (k ∷ []) = bytes_eq k name
-    is_named (k ∷ (l ∷ ls)) = false
+is_single name (f ∷ []) = is_named name f.path
 is_single name (f ∷ (g ∷ fs)) = false
 
 -- the length of the first file

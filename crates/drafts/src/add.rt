@@ -1,6 +1,6 @@
 //! Adding a file to a draft: its tests in their order, and its place (BEP 52, "file tree").
 
-ghost use Rattle.std.specs.Prelude.{◌≡◌, ◌≢◌, ◌<◌, ◌≤◌, ◌+◌, ◌^◌, All, List, length, map, MatchResult, IfErr, OnErr, OnOk};
+ghost use Rattle.std.specs.Prelude.{◌≡◌, ◌<◌, ◌≤◌, ◌+◌, ◌^◌, All, List, length, map, MatchResult, IfErr, OnErr, OnOk};
 ghost use Rattle.std.specs.String.{string_bytes};
 ghost use Rattle.filetree.specs.Paths.{IsFilePath};
 ghost use Rattle.filetree.specs.Tests.{NoneHolds, PassesUnlessNoMemory, GivesUnlessNoMemory};
@@ -15,12 +15,9 @@ use crate::draft::{Draft, DraftFile, KeptRoot};
 use crate::path_order::place_among;
 use filetree::Refusal;
 use hashtree::{Hash, MAX_LENGTH};
-use pieces::V1File;
+use pieces::{MAX_PIECES, V1File};
 use std::alloc::Global;
 use std::collections::BTreeMap;
-
-// The most pieces that the files of a torrent have in all.
-const MAX_PIECES: u64 = 4_294_967_295;
 
 impl Draft {
     /// Adds a file with this path, length in bytes and pieces root. `root` is ignored for an empty

@@ -89,7 +89,7 @@ fn put_strings<W: Sink>(parts: &[String], pen: &mut Pen, w: &mut W)
     }
 }
 
-// Puts the entry of a pad behind a file that ends within a piece, if one that is not empty comes
+// Puts the entry of a pad after a file that ends within a piece, if one that is not empty comes
 // later.
 fn put_pad<W: Sink>(
     file: &DraftFile,
@@ -109,7 +109,7 @@ fn put_pad<W: Sink>(
     }
 }
 
-// Puts the entry of a pad of so many zeros.
+// Puts the entry of a pad of this many zeros.
 fn put_zeros<W: Sink>(zeros: u64, pen: &mut Pen, w: &mut W)
     ensures { Put pen.old (W.seen w.old) pen.new (W.seen w.new) (spelling (pad_value zeros)) }
 {

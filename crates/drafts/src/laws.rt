@@ -1,4 +1,4 @@
-//! What holds of each draft. A proof that calls one of these has its law.
+//! What holds of each draft. A function that calls one of these knows its law.
 
 ghost use Rattle.drafts.specs.DraftLaws.{DraftDescribes};
 ghost use Rattle.drafts.specs.Outline.{IsOutline};

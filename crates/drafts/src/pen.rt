@@ -19,7 +19,7 @@ pub(crate) enum Pen {
 }
 
 impl Pen {
-    /// Puts these bytes behind the text so far.
+    /// Appends these bytes to the text.
     pub(crate) fn put<W: Sink>(&mut self, w: &mut W, part: &[u8])
         ensures { Put self.old (W.seen w.old) self.new (W.seen w.new) part.now }
     {

@@ -1,8 +1,8 @@
 //! The text of a draft's file tree, file by file (BEP 52, "file tree").
 
-ghost use Rattle.std.specs.Prelude.{◌≡◌, ◌<◌, ◌≤◌, codes, drop, if◌then◌else◌, length, map, nat_lt};
+ghost use Rattle.std.specs.Prelude.{◌≡◌, ◌<◌, ◌≤◌, codes, if◌then◌else◌, length, map, nat_lt};
 ghost use Rattle.std.specs.String.{string_bytes};
-ghost use Rattle.benc.specs.Text.{pairs_spelling, spelling};
+ghost use Rattle.benc.specs.Text.{pairs_spelling};
 ghost use Rattle.benc.specs.Value.{no_pairs, pair, text};
 ghost use Rattle.filetree.specs.Paths.{AreInOrder};
 ghost use Rattle.drafts.specs.DraftSeen.{outline_file};
@@ -49,7 +49,7 @@ fn shared_count(one: &[String], other: &[String]) -> usize
     count
 }
 
-// Ends so many dictionaries.
+// Ends this many dictionaries.
 fn put_ends<W: Sink>(count: usize, pen: &mut Pen, w: &mut W)
     ensures { Put pen.old (W.seen w.old) pen.new (W.seen w.new) (closed count) }
 {

@@ -34,10 +34,14 @@ abbrev mutual
   is_node (list vs) = false
   is_node (dict ps) = is_file ps || is_directory ps
 
+-- '/', which parts the components of a path
+abbrev pub slash : ℕ
+slash = 47
+
 -- a component that no path may have
 abbrev pub IsBadComponent : List ℕ → Type 0
 IsBadComponent k =
-    (k ≡ codes ".") ⊎ (k ≡ codes "..") ⊎ Contains k 47 ⊎ Contains k 0 ⊎ (IsUtf8 k → ⊥)
+    (k ≡ codes ".") ⊎ (k ≡ codes "..") ⊎ Contains k slash ⊎ Contains k 0 ⊎ (IsUtf8 k → ⊥)
 
 -- some component, of a directory too, is bad
 abbrev mutual
@@ -84,9 +88,16 @@ has_attribute letter file = is_letter_of (option_and_then as_text (get (codes "a
     is_letter_of None = false
     is_letter_of (Some s) = list_any (λ c. c == letter) s
 
+-- the letters of `attr` for a symlink, 'l', and for a pad file, 'p' (BEP 47)
+abbrev pub symlink_letter : ℕ
+symlink_letter = 108
+
+abbrev pub pad_letter : ℕ
+pad_letter = 112
+
 -- a symlink has the attribute `l`
 abbrev pub is_symlink : Bencode → Bool
-is_symlink file = has_attribute 108 file
+is_symlink file = has_attribute symlink_letter file
 
 -- a length is an integer from 0 to 2 ^ 46
 abbrev pub as_length : Bencode → Option ℕ

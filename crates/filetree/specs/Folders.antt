@@ -1,4 +1,5 @@
--- The folders on the way to a file, each of which keeps those above it.
+-- The folders on the way to a file, each of which keeps those above it. Public clauses do not name
+-- these.
 use Rattle.std.specs.Prelude.{ℕ, List, [], ◌∷◌, ◌++◌, Option, None, Some, string_bytes}
 use Rattle.std.specs.declared.alloc.Global.{Global}
 use Rattle.std.specs.declared.rc.Rc.{Rc}

@@ -2,7 +2,7 @@
 pub mod Dictionary
 pub mod FileTree
 pub mod Folders
-pub mod Laws
+pub mod TreeLaws
 pub mod Names
 pub mod Paths
 pub mod Shape

@@ -1,6 +1,6 @@
--- What was found on the walk of the file tree, without where it lies in memory.
-use Rattle.std.specs.Prelude.{◌≡◌, ◌≢◌, ℕ, false, true, List, [], ◌∷◌, ◌++◌, map, Result, Ok, Err, ◌⊎◌, if◌then◌else◌, ◌+◌, ◌<◌, ◌≤◌, length}
-use Rattle.std.specs.Prelude.{Vec}
+-- What was found on the walk of the file tree, without where it lies in memory. Public clauses do
+-- not name these.
+use Rattle.std.specs.Prelude.{◌≡◌, ◌≢◌, ℕ, false, true, List, [], ◌∷◌, ◌++◌, map, Result, Ok, Err, ◌⊎◌, if◌then◌else◌, ◌+◌, ◌<◌, ◌≤◌, length, Vec}
 use Rattle.std.specs.declared.alloc.Global.{Global}
 use Rattle.benc.specs.Text.{Fits}
 use Rattle.benc.specs.Value.{Bencode, Pairs, dict}
@@ -29,7 +29,7 @@ pub record IsNodeBelow (path : List (List ℕ)) (p : List ℕ × Bencode) : Type
   pub named : is_nil p.0 ≡ false
   pub shape : is_node p.1 ≡ true
 
--- a walk behind the components that lead to a directory
+-- a walk after the components that lead to a directory
 abbrev pub behind : List (List ℕ) → Walk → Walk
 behind path w = record { path = path ++ w.path; file = w.file }
 

@@ -76,6 +76,7 @@ pub(crate) fn list<'a>(
     Ok(listed)
 }
 
+// Tests that no file is a symlink.
 fn test_symlinks(files: &[Found<'_, '_>]) -> Result<(), Refusal>
     ensures { Tests (list_any
         (λ w. is_symlink w.file) (map walk_of files.now)) Refusal.Symlink result }
@@ -88,6 +89,7 @@ fn test_symlinks(files: &[Found<'_, '_>]) -> Result<(), Refusal>
     Ok(())
 }
 
+// Tests that each file has a length in range.
 fn test_lengths(files: &[Found<'_, '_>]) -> Result<(), Refusal>
     ensures { Tests (list_any
         (λ w. is_none (length_at w.file)) (map walk_of files.now)) Refusal.Length result }
@@ -100,6 +102,7 @@ fn test_lengths(files: &[Found<'_, '_>]) -> Result<(), Refusal>
     Ok(())
 }
 
+// Tests that each file that is not empty has a root.
 fn test_roots(files: &[Found<'_, '_>]) -> Result<(), Refusal>
     ensures { Tests (list_any (λ w. lacks_root w.file) (map walk_of files.now))
         Refusal.Root result }
@@ -112,13 +115,14 @@ fn test_roots(files: &[Found<'_, '_>]) -> Result<(), Refusal>
     Ok(())
 }
 
-// A file that is not empty has no root.
+// Tells whether a file that is not empty has no root.
 fn lacks_root(file: &Value<'_>) -> bool
     ensures { result ≡ lacks_root (view file.now) }
 {
     length(file).unwrap_or(0) > 0 && root(file).is_none()
 }
 
+// The file with its length and root.
 fn listed_file<'a>(file: Found<'_, 'a>) -> ListedFile<'a>
     ensures { result ≡ listed (walk_of file.entry) }
 {

@@ -1,6 +1,6 @@
-//! What holds of each file tree. A proof that calls one of these has its law.
+//! What holds of each file tree. A function that calls one of these knows its law.
 
-ghost use Rattle.filetree.specs.Laws.{OrderIsApart, ShapeIsTold, WalksAreAll, WalksAreSafe};
+ghost use Rattle.filetree.specs.TreeLaws.{OrderIsApart, ShapeIsTold, WalksAreAll, WalksAreSafe};
 
 /// The walks of a file tree are all that lead to a file, each once and in order.
 pub fn walks_are_all()

@@ -6,11 +6,12 @@ use crate::folder::Folders;
 use arrayvec::ArrayVec;
 use std::marker::Model;
 
-/// The most components of a path: a spelled value has at most 128 dictionaries open at once.
-pub(crate) const MAX_COMPONENTS: usize = 128;
+/// Room for the components of a path: more than the 124 that a path may have, one for each open
+/// dictionary.
+pub(crate) const ROOM_OF_PARTS: usize = 128;
 
 /// The components of a path, from the torrent's root down.
-pub type Parts<'p> = ArrayVec<&'p str, MAX_COMPONENTS>;
+pub type Parts<'p> = ArrayVec<&'p str, ROOM_OF_PARTS>;
 
 /// A file's path below the torrent's root. Contracts see it as the list of its components.
 #[derive(Debug, Drop)]

@@ -1,4 +1,4 @@
-//! Why a torrent is turned away.
+//! Why a torrent is refused.
 
 ghost use Rattle.std.specs.Prelude.{◌≡◌};
 
@@ -48,7 +48,7 @@ impl Key {
 /// Why bytes are no torrent, or why a draft takes no file.
 ///
 /// The numbers are only names: the tests of opening have another order, in which `Missing` and
-/// `WrongType` stand both before `Version` and behind it.
+/// `WrongType` are tested both before `Version` and after it.
 #[derive(Clone, Copy, Debug, PartialEq, Eq)]
 pub enum Refusal {
     /// The torrent file has more than 67,108,864 bytes.
@@ -57,21 +57,25 @@ pub enum Refusal {
     NotBencode(Fault),
     /// This key is absent.
     Missing(Key),
-    /// The value under this key is of another kind.
+    /// The value under this key is of another kind; of `name`, also a byte string that is not
+    /// UTF-8.
     WrongType(Key),
     /// `meta version` is not 2.
     Version,
     /// The piece length is not a power of two from 16,384 to 2^30.
     PieceLength,
-    /// The file tree is no tree of directories and files.
+    /// The file tree has the empty key at its root; or in it the value of a component is not a
+    /// dictionary, an empty key has a sibling, or its value is not a dictionary.
     Shape,
-    /// A component of a path is `.` or `..`, holds `/` or a zero byte, or is not UTF-8.
+    /// A component of a path is `.` or `..`, holds `/` or a zero byte, or is not UTF-8. Of a draft
+    /// also: there is no component, there are more than 124, or one is empty.
     Path,
     /// A file is a symlink.
     Symlink,
     /// A file's length is absent, no integer, below 0 or above 2^46.
     Length,
-    /// The `pieces root` of a file that is not empty is absent or not 32 bytes.
+    /// The `pieces root` of a file that is not empty is absent, not a byte string, or not 32 bytes
+    /// long.
     Root,
     /// Two files have one root and different lengths.
     RootReused,
@@ -81,14 +85,14 @@ pub enum Refusal {
     TooManyPieces,
     /// A file longer than the piece length has no entry in `piece layers`.
     LayerMissing,
-    /// Such an entry has not one hash for each piece.
+    /// Such an entry is not a byte string, or not one hash for each piece.
     LayerSize,
     /// The tree over such an entry has another root.
     LayerMismatch,
     /// The version 1 list is malformed, or differs from the file tree.
     HybridFiles,
-    /// A file does not start at its first piece in the version 1 stream, or too much follows the
-    /// last file.
+    /// A file that is not empty does not start at its first piece in the version 1 stream, or too
+    /// much follows the last file.
     HybridAlign,
     /// `pieces` has not one SHA-1 digest for each cut of the version 1 stream.
     HybridPieces,

@@ -19,7 +19,7 @@ pub(crate) fn is_directory(pairs: &[Pair<'_>]) -> bool
     true
 }
 
-/// The zero-length key alone, with a dictionary.
+/// Tells whether there is the zero-length key alone, with a dictionary.
 pub(crate) fn is_file(pairs: &[Pair<'_>]) -> bool
     ensures { result ≡ is_file (pairs_view pairs.now) }
 {
@@ -29,6 +29,7 @@ pub(crate) fn is_file(pairs: &[Pair<'_>]) -> bool
     }
 }
 
+// Tells whether the value is a file's node or a directory.
 #[cycle(shape)]
 fn is_node(value: &Value<'_>) -> bool
     ensures { result ≡ is_node (view value.now) }

@@ -1,9 +1,8 @@
 //! The walks of a file tree, each to one file (BEP 52, "file tree").
 
-ghost use Rattle.std.specs.Prelude.{◌≡◌, false, MatchResult};
-ghost use Rattle.benc.specs.Value.{dict};
+ghost use Rattle.std.specs.Prelude.{◌≡◌, MatchResult};
 ghost use Rattle.benc.specs.View.{pairs_view, pair_view};
-ghost use Rattle.filetree.specs.FileTree.{IsBadComponent, is_nil};
+ghost use Rattle.filetree.specs.FileTree.{IsBadComponent};
 ghost use Rattle.filetree.specs.Walked.{AddsWalks, AddsWalksAt, IsFolderAt, IsNodeBelow};
 
 use crate::folder::Folders;
@@ -39,6 +38,7 @@ pub(crate) fn walk<'v, 'a>(
     Ok(())
 }
 
+// Adds the file of a pair, or those below it, to the files found.
 #[cycle(walk)]
 fn walk_pair<'v, 'a>(
     alloc: Global,

@@ -34,7 +34,9 @@ use Rattle.folders.specs.Streaming.{HasStreamRoom, StandsAt, Takes}
 use Rattle.folders.specs.Verdicts.{IsFirstBadPiece, IsVerdict, is_unreadable}
 use Rattle.folders.specs.declared.report.FileVerdict.{FileVerdict}
 use Rattle.folders.specs.declared.report.FileVerdict.TheVariants as file
-use Rattle.folders.proofs.Layers.{layer_is_low, layer_of_at, length-layer_of, one_at_root, root_over_layer, whole_layer}
+use Rattle.folders.proofs.Layers.{layer_is_low, layer_of_at, one_at_root, whole_layer}
+use Rattle.hashtree.proofs.Comparing.{length-layer_of}
+use Rattle.hashtree.proofs.Leading.{layers_lead_to_root}
 use Rattle.folders.specs.TakerLaws.{takes_append, takes_nothing}
 
 short_or_long : (a b : ℕ) → (a ≤ b) ⊎ (b < a)
@@ -48,7 +50,7 @@ same_root piece_length e layer hashes bytes of sound len same = elim (short_or_l
       let at = of.at_root short in
       let h : ℕ = height (block_count (length bytes)) in
       let top : layer ≡ h = at.0 ∙ ap (λ n. height (block_count n)) (sym len) in
-      let one : length (layer_of bytes h) ≡ 1 = length-layer_of bytes h (omega arith) ∙ one_at_root (length bytes) (omega (arith, sound.some)) in
+      let one : length (layer_of bytes h) ≡ 1 = length-layer_of bytes (length bytes) h refl (omega arith) ∙ one_at_root (length bytes) (omega (arith, sound.some)) in
       sym (top_is_root bytes)
       ∙ sym (layer_of_at bytes h 0 (omega arith))
       ∙ ap (λ l. get_or (layer_of bytes l) 0 []) (sym top)
@@ -57,7 +59,7 @@ same_root piece_length e layer hashes bytes of sound len same = elim (short_or_l
       let at = of.at_pieces long in
       let low : layer ≤ height (block_count (length bytes)) =
       omega (arith, at.0, layer_is_low piece_length e.length (omega arith), ap (λ n. height (block_count n)) len) in
-      sym (root_over_layer bytes layer low)
+      sym (layers_lead_to_root bytes layer low)
       ∙ ap (root_over (height (block_count (length bytes))) layer) (same ∙ at.1)
       ∙ ap (λ l. root_over (height (block_count (length bytes))) l e.layer) at.0
       ∙ ap (λ n. root_over (height (block_count n)) (piece_layer piece_length) e.layer) len
@@ -72,7 +74,7 @@ first_bad piece_length e layer hashes bytes k of sound legal len size differ = l
       let at = of.at_root short in
       let h : ℕ = height (block_count (length bytes)) in
       let top : layer ≡ h = at.0 ∙ ap (λ n. height (block_count n)) (sym len) in
-      let one : length (layer_of bytes h) ≡ 1 = length-layer_of bytes h (omega arith) ∙ one_at_root (length bytes) (omega (arith, sound.some)) in
+      let one : length (layer_of bytes h) ≡ 1 = length-layer_of bytes (length bytes) h refl (omega arith) ∙ one_at_root (length bytes) (omega (arith, sound.some)) in
       omega (arith, other.0, ap (λ l. length (layer_of bytes l)) top);
   same_before = λ long j lt.
       let at = of.at_pieces long in
@@ -93,7 +95,7 @@ first_bad piece_length e layer hashes bytes k of sound legal len size differ = l
         let at = of.at_pieces long in
         let low : layer ≤ height (block_count (length bytes)) =
         omega (arith, at.0, layer_is_low piece_length e.length (omega arith), ap (λ n. height (block_count n)) len) in
-        length-layer_of bytes layer low
+        length-layer_of bytes (length bytes) layer refl low
         ∙ ap (λ n. first_pad (block_count n) layer) len
         ∙ sym (whole_layer e.length piece_length legal.0 layer (length e.layer) legal.1 legal.3 at.0 (sound.layer_length long))
 

@@ -15,5 +15,3 @@ pub mod Visits
 pub mod TakeAll
 pub mod Feeding
 pub mod TakerLaws
-pub mod Collecting
-pub mod CollectingLaws

@@ -36,7 +36,8 @@ seen_of s = record {
   openings = s.opened;
 }
 
--- a source gives a file's bytes, at most so many a read, and fails where the file is to
+-- a source gives a file's bytes, at most this many per read, and fails at the call at which the
+-- file is to
 pub record IsSourceOf (file : MemFile) (at_most : ℕ) (source : MemSource) : Type 0 where
   pub bytes : bytes_left source ≡ file.content.now
   pub bound : most_given source ≡ at_most

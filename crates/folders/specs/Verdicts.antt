@@ -45,6 +45,7 @@ IsVerdict t f content file.WrongLength =
 IsVerdict t f content (file.Bad p) = (bytes : List ℕ) × (content ≡ Some bytes) × IsBad t f bytes p
 IsVerdict t f content file.Good = (bytes : List ℕ) × (content ≡ Some bytes) × IsGoodFile t f bytes
 
+-- its content is the file
 abbrev pub is_good : FileVerdict → Bool
 is_good file.Good = true
 is_good file.Missing = false
@@ -60,6 +61,7 @@ is_whole file.Unreadable = false
 is_whole file.WrongLength = false
 is_whole (file.Bad p) = true
 
+-- its opening or one of its reads failed
 abbrev pub is_unreadable : FileVerdict → Bool
 is_unreadable file.Good = false
 is_unreadable file.Missing = false
@@ -79,6 +81,7 @@ IsV1Verdict t v contents version1.Good = V1Good t v contents
 IsV1Verdict t v contents (version1.Bad i) = IsFirstBadV1Piece t v contents i
 IsV1Verdict t v contents version1.NotChecked = ⊤
 
+-- the version 1 pieces were compared
 abbrev pub is_checked : V1Verdict → Bool
 is_checked version1.Good = true
 is_checked (version1.Bad i) = true
@@ -103,8 +106,8 @@ unreadable_count files = count_by is_unreadable files
 abbrev pub fault_count : FileVerdict → ℕ
 fault_count v = (if is_unreadable v then 1 else 0)
 
--- a verdict for each file, and for a hybrid one on its version 1 pieces, which were checked where
--- all files were read whole
+-- a verdict for each file, and for a hybrid one on its version 1 pieces, which were checked
+-- exactly if all files were read whole
 pub record HasVerdicts (t : Description) (files : List FileVerdict) (v1 : Option V1Verdict) : Type 0
   where
     pub count : length files ≡ length t.files

@@ -26,9 +26,10 @@ use metainfo::{File, Torrent, TreeInfo};
 use std::alloc::Global;
 use std::slice;
 
-/// Checks that the shelf holds the torrent's files, each under its own path. Each path is opened
-/// once, and each file is read once, to its end or to one byte past its stated length, and handed
-/// back. Files that the torrent does not name are not looked at.
+/// Checks that the shelf holds the torrent's files, each under its own path (BEP 52, "pieces root",
+/// "piece layers"; for a hybrid BEP 3, "pieces", and BEP 47 too). Each path is opened once, and
+/// each file is read once, one byte past its stated length at most, and handed back. Files that the
+/// torrent does not name are not looked at.
 ///
 /// It takes memory for the report alone, before the first path is opened: if that is refused,
 /// the shelf stays as it is. A file is unreadable if its opening or one of its own reads failed,
@@ -41,8 +42,8 @@ pub fn check<S: Shelf>(
     ensures verdicts { IfOk result (λ r. HasVerdicts torrent.now r.files.items r.v1) }
     ensures tells { IfOk result (λ r.
         TellsFolder torrent.now (S.under shelf.old) r.files.items r.v1) }
-    ensures once { IfOk result (λ r. Chain (Visits S.opens S.closes S.File.seen) shelf.old
-        torrent.now.files r.files.items shelf.new) }
+    ensures once { IfOk result (λ r. Chain (Visits S.Shelf S.File.seen) shelf.old torrent.now.files
+        r.files.items shelf.new) }
     ensures unreadable { IfOk result (λ r.
         S.faults shelf.new ≡ more (S.faults shelf.old) (unreadable_count r.files.items)) }
     ensures readable { IfOk result (λ r.
@@ -76,8 +77,7 @@ fn check_file<S: Shelf>(
         (start_of torrent.now (file_entry file.now)) file.now.length }
     ensures found { FindsVerdict torrent.now (file_entry file.now) (S.under shelf.old file.now.path)
         stream.old.feed stream.new.feed result }
-    ensures visits { Visits S.opens S.closes S.File.seen shelf.old (file_entry file.now) result
-        shelf.new }
+    ensures visits { Visits S.Shelf S.File.seen shelf.old (file_entry file.now) result shelf.new }
     ensures counts { S.faults shelf.new ≡ more (S.faults shelf.old) (fault_count result) }
     ensures kept { (p : List (List ℕ)) → S.under shelf.new p ≡ S.under shelf.old p }
 {

@@ -4,7 +4,6 @@
 
 mod checking;
 mod file_check;
-mod layer;
 pub mod memory;
 mod read_fault;
 mod report;
@@ -16,7 +15,6 @@ mod stream;
 mod taking;
 
 pub use checking::check;
-pub use layer::finish_layer;
 pub use read_fault::ReadFault;
 pub use report::{FileVerdict, Report, V1Verdict};
 pub use report_lines::print_report;

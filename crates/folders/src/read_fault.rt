@@ -6,8 +6,8 @@ use benc::DeviceFault;
 use std::alloc::AllocError;
 use thiserror::Error;
 
-/// Why an opened file was not read, or nothing is told of what it has.
-#[derive(Clone, Copy, Debug, Drop, Error)]
+/// Why an opened file was not read, or what it holds could not be kept.
+#[derive(Clone, Copy, Debug, PartialEq, Eq, Drop, Error)]
 pub enum ReadFault {
     /// A read failed.
     #[error("the file cannot be read")]

@@ -19,7 +19,7 @@ pub enum FileVerdict {
     Bad(u64),
 }
 
-/// What a check found of the version 1 pieces of a hybrid.
+/// What a check found of the version 1 pieces of a hybrid (BEP 3, "pieces"; BEP 47).
 #[derive(Clone, Copy, Debug, PartialEq, Eq, Drop)]
 pub enum V1Verdict {
     /// The digests of the pieces are those that the torrent lists.
@@ -42,7 +42,7 @@ pub struct Report {
 
 impl FileVerdict {
     /// Whether the file was read whole and has the right length.
-    pub fn is_whole(&self) -> bool
+    pub(crate) fn is_whole(&self) -> bool
         ensures { result ≡ is_whole self.now }
     {
         matches!(self, FileVerdict::Good | FileVerdict::Bad(_))

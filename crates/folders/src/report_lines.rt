@@ -10,9 +10,9 @@ use lines::{Line, flush_after, write_path};
 use metainfo::{File, Torrent};
 
 /// Writes what a check of this torrent's folder found, and flushes: a line for each file, for a
-/// hybrid a line on its version 1 pieces, and `yes` or `no`. The report has a verdict for each
-/// file, and one on the version 1 pieces exactly if the torrent is a hybrid. It takes no memory.
-/// After `WriteFault` a prefix of these lines went out.
+/// hybrid a line on its version 1 pieces, and `yes` or `no`. It takes no memory. After `WriteFault`
+/// a prefix of these lines went out. Conditions: the report has a verdict for each file of the
+/// torrent, and one on the version 1 pieces exactly if the torrent is a hybrid.
 pub fn print_report<W: Sink>(
     report: &Report,
     torrent: &Torrent<'_>,

@@ -12,7 +12,7 @@ use lines::{Line, write_line};
 use thiserror::Error;
 
 /// Why no line was written whole.
-#[derive(Debug, Drop, Error)]
+#[derive(Clone, Copy, Debug, PartialEq, Eq, Drop, Error)]
 pub enum RootFault {
     /// The source failed, and nothing was written.
     #[error("the source failed")]

@@ -35,8 +35,9 @@ pub trait Shelf {
     ghost faults: { Self → ℕ };
 
     /// Lists the files, those in folders too: the path of each, once, in any order. It refuses with
-    /// `Name` if a name is not UTF-8, and with `Special` if something is neither a regular
-    /// file nor a folder. The shelf stays as it is.
+    /// `Name` if a name is not UTF-8, with `Special` if something is neither a regular file nor a
+    /// folder, with `Device` if the shelf failed, which is counted, and with `NoMemory`. What is on
+    /// the shelf stays.
     fn list(&mut self) -> Result<Vec<Vec<String>>, ShelfFault>
         ensures listed { IsListed (listing self.old) result }
         ensures counts { CountsListing (faults self.old) (faults self.new) result }
@@ -44,7 +45,8 @@ pub trait Shelf {
         ensures listing { listing self.new ≡ listing self.old }
         ensures kept { (p : List (List ℕ)) → under self.new p ≡ under self.old p };
 
-    /// Opens the file with these path components. It answers `None` if nothing has that name.
+    /// Opens the file with these path components. It answers `None` if nothing has that name. A
+    /// fault is counted. What is on the shelf stays.
     fn open(&mut self, path: &[&str]) -> Result<Option<Self::File>, DeviceFault>
         ensures found { IfOk result (λ found. IsFound (under self.old (map (λ s. s.now) path.now))
             (option_map (λ f. (Self.File.seen f).left) found)) }

@@ -47,9 +47,10 @@ impl Taker for () {
     ghost room_for_less = { λ _ _ _ _ _. tt };
 }
 
-/// Reads a source through the buffer to its end, or to one byte past the bound, and hands on what
-/// it reads but the last part of a source that is longer. It tells whether the source ended. The
-/// buffer is not empty, the taker has room for the bound, and the bound is below 2^63.
+/// Reads a source through the buffer to its end, or to one byte past the bound. `Some`: it ended,
+/// and all its bytes, this many, went to the taker. `None`: it has more bytes than the bound; after
+/// that and after a fault nothing is said of the taker. Conditions: the buffer is not empty, the
+/// taker has room for the bound, and the bound is below 2^63.
 pub fn take_all<F: Source, T: Taker>(
     source: &mut F,
     bound: u64,

@@ -6,7 +6,9 @@ use Rattle.std.proofs.lemmas.Bool.{lt-ltb, ltb-true}
 use Rattle.drafts.specs.Adding.{FitsLayer, HasCuts, IsWith, add_rows, given_file}
 use Rattle.drafts.specs.Outline.{AreOfLength, Outline, OutlineFile}
 use Rattle.filetree.specs.Tests.{NoneHolds}
-use Rattle.folders.proofs.Layers.{layer_is_low, length-layer_of, root_over_layer, whole_layer}
+use Rattle.folders.proofs.Layers.{layer_is_low, whole_layer}
+use Rattle.hashtree.proofs.Comparing.{length-layer_of}
+use Rattle.hashtree.proofs.Leading.{layers_lead_to_root}
 use Rattle.gathering.specs.Gathered.{DraftAdds, IsDraftFile, piece_hashes}
 use Rattle.gathering.specs.Hashing.{AreHashesOf}
 use Rattle.gathering.specs.declared.hashing.FileHashes.{FileHashes}
@@ -64,13 +66,13 @@ fits_layer d path content f hashes legal file are widths longer =
     let root : f.root ≡ root_of content = file.root_is (omega (arith, over)) in
     record {
       root = refl;
-      count = ap length are ∙ length-layer_of content layer low
+      count = ap length are ∙ length-layer_of content (length content) layer refl low
           ∙ sym (whole_layer n d.piece_length legal.0 layer (pieces_of d.piece_length n) legal.1 legal.3 refl refl)
           ∙ ap (pieces_of d.piece_length) (sym file.length_is);
       hash_lengths = lengths_are 32 hashes widths;
       leads = ap (λ k. root_over (height (block_count k)) layer hashes) file.length_is
           ∙ ap (root_over (height (block_count n)) layer) are
-          ∙ root_over_layer content layer low
+          ∙ layers_lead_to_root content layer low
           ∙ sym root;
     }
 

@@ -5,12 +5,12 @@ use Rattle.std.specs.List.{range_with_len}
 use Rattle.std.proofs.Math.Nat.{div-eq_of_lt-le, div-mul-le_self, mul-le-mul_right}
 use Rattle.std.proofs.Math.Pow.{pow_mono}
 use Rattle.std.proofs.lemmas.Nat.{le-div, pow_pos}
-use Rattle.folders.proofs.Layers.{length-layer_of}
+use Rattle.hashtree.proofs.Comparing.{length-layer_of}
 use Rattle.hashtree.proofs.Heights.{height_enough}
 use Rattle.hashtree.proofs.Pairs.{two-pow}
-use Rattle.folders.specs.Collecting.{Collects}
+use Rattle.gathering.specs.Collecting.{Collects, MayFinish}
 use Rattle.gathering.specs.Gathered.{KeepsDigests, piece_hashes}
-use Rattle.gathering.specs.Hashing.{AreHashesOf, Begins, BeginsCuts, Cuts, CutsIf, EndsWithCuts, EndsWithHashes, Hashes, MayEndWithout}
+use Rattle.gathering.specs.Hashing.{AreHashesOf, Begins, BeginsCuts, CutsBytes, CutsIf, EndsWithCuts, EndsWithHashes, Hashes, MayEndWithout}
 use Rattle.gathering.specs.declared.hashing.FileHashes.{FileHashes}
 use Rattle.gathering.specs.declared.hashing.Hashing.{Hashing}
 use Rattle.hashtree.specs.LayerBuilder.{HasRefused, IsFedLayer, byte_count, chosen_layer, complete_count}
@@ -53,7 +53,7 @@ fed_whole before after content nothing works builds = elim builds.fed [
   | inr fed ↦ fed.1 [] nothing
 ]
 
-cut_whole : (before after : V1Cuts) (content : List ℕ) (piece_length : ℕ) → IsFedCuts before piece_length [] → (cut.HasRefused after → ⊥) → Cuts before content after
+cut_whole : (before after : V1Cuts) (content : List ℕ) (piece_length : ℕ) → IsFedCuts before piece_length [] → (cut.HasRefused after → ⊥) → CutsBytes before content after
     → IsFedCuts after piece_length content
 cut_whole before after content piece_length nothing works cuts = elim cuts.fed [
   | inl refused ↦ absurd (works refused)
@@ -110,7 +110,7 @@ low_has_hash content layer some low =
     let n : ℕ = block_count (length content) in
     let d : ℕ = 2 ^ layer in
     let one : 1 ≤ first_pad n layer = le-div 1 (n + (d - 1)) d (pow_pos layer) (omega (arith, pow_pos layer)) in
-    not_nil (layer_of content layer) (omega (arith, length-layer_of content layer low, one))
+    not_nil (layer_of content layer) (omega (arith, length-layer_of content (length content) layer refl low, one))
 
 is_hybrid : (piece_length : ℕ) (hybrid : Bool) (before after : Option V1Cuts) (content : List ℕ) → BeginsCuts piece_length hybrid before → CutsIf before content after → IsSome after
     → hybrid ≡ true
@@ -132,22 +132,26 @@ early piece_length hybrid before after content begins hashes some refused = elim
       (complete_is_low (chosen_layer before.tree) (length content) (subst (λ n. 0 < complete_count (chosen_layer before.tree) n) count node)))
 ]
 
--- where memory was refused, digests were to be kept
+-- bytes came, or memory was refused
+pub may_finish : (before after : Hashing) (content : List ℕ) → Hashes before content after → 0 < length content → MayFinish after.tree
+may_finish before after content hashes some = elim hashes.tree.fed [
+  | inl refused ↦ inl refused
+  | inr fed ↦ inr (omega (arith, fed.0, some))
+]
+
+-- if memory was refused, digests were to be kept
 pub kept_digests : (piece_length : ℕ) (hybrid : Bool) (before after : Hashing) (content : List ℕ) → Begins piece_length hybrid before → Hashes before content after → 0 < length content
     → MayEndWithout after → KeepsDigests piece_length hybrid content
 kept_digests piece_length hybrid before after content begins hashes some why = elim why [
   | inl there ↦ inr (is_hybrid piece_length hybrid before.cuts after.cuts content begins.cuts hashes.cuts there, some)
   | inr tree ↦ elim tree [
     | inl refused ↦ inl (early piece_length hybrid before after content begins hashes some refused)
-    | inr end ↦ elim hashes.tree.fed [
+    | inr last ↦ elim hashes.tree.fed [
       | inl refused ↦ inl (early piece_length hybrid before after content begins hashes some refused)
       | inr fed ↦
           let count : byte_count after.tree ≡ length content = omega (arith, fed.0, begins.count) in
-          elim end [
-            | inl none ↦ absurd (omega (arith, none, count, some))
-            | inr last ↦ inl (layer_kept piece_length (chosen_layer after.tree) content (hashes.tree.layer ∙ begins.layer)
-                (low_has_hash content (chosen_layer after.tree) some (subst (λ n. chosen_layer after.tree ≤ height (block_count n)) count last.has_layer)))
-          ]
+          inl (layer_kept piece_length (chosen_layer after.tree) content (hashes.tree.layer ∙ begins.layer)
+          (low_has_hash content (chosen_layer after.tree) some (subst (λ n. chosen_layer after.tree ≤ height (block_count n)) count last.has_layer)))
     ]
   ]
 ]

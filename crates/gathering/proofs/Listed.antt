@@ -1,5 +1,5 @@
 -- The order of listed paths, and what was gathered of a shelf that was listed.
-use Rattle.std.proofs.Common.{◌≡◌, inr, ℕ, ◌+◌, ◌<◌, Bool, cond, List, [], ◌∷◌, length, map, take, get_or, Option, Some, Result, Ok, Err, refl, sym, ◌∙◌, ap, subst, arith}
+use Rattle.std.proofs.Common.{◌≡◌, inr, ℕ, ◌+◌, ◌<◌, cond, List, [], ◌∷◌, length, map, take, get_or, Option, Some, Ok, Err, refl, sym, ◌∙◌, ap, subst, arith}
 use Rattle.std.specs.Prelude.{String, slice_get}
 use Rattle.std.specs.Global.{Global, Vec}
 use Rattle.std.specs.String.{string_bytes}
@@ -9,11 +9,10 @@ use Rattle.std.specs.Ordering.{is_lt, nat_cmp, ordering_then}
 use Rattle.std.proofs.lemmas.List.{get_or-map, length-map}
 use Rattle.std.proofs.lemmas.List.Sorted.{IsPermutation-map, sum_by-IsPermutation}
 use Rattle.std.proofs.lemmas.Option.{same_Some, slice_get_within}
+use Rattle.folders.specs.declared.shelf.Shelf.{Ghosts}
 use Rattle.benc.specs.Device.{SourceSeen}
-use Rattle.benc.specs.declared.device.DeviceFault.{DeviceFault}
 use Rattle.drafts.specs.Outline.{Outline}
 use Rattle.folders.specs.Shelf.{IsListed, Listing, is_path, path_bytes}
-use Rattle.folders.specs.declared.shelf_fault.ShelfFault.{ShelfFault}
 use Rattle.gathering.specs.Gathering.{AreContentsUnder, Fails, Gathers, GathersAll, HasGathered, IsListedAs, IsSortedListing, LacksMemoryAt, Misses, RefusesAt, StopsAtPath}
 use Rattle.gathering.specs.Steps.{Stops, StopsBefore}
 use Rattle.gathering.specs.Stopping.{at_path}
@@ -63,14 +62,14 @@ sorted_listing told paths sorted listed moved up = record {
 }
 
 -- the shelf was listed, and its answer sorted
-pub listed_as : {S : Type 0} (listing : S → Option Listing) (lists : S → Result (Vec (Vec (String Global))) ShelfFault → S → Type 0) (old base : S) (paths : Vec (Vec (String Global))) (sorted : Paths) → lists old (Ok paths) base → IsListed (listing old) (Ok paths) → IsPermutation paths.items sorted
+pub listed_as : {S F : Type 0} (shelf : Ghosts S F) (old base : S) (paths : Vec (Vec (String Global))) (sorted : Paths) → shelf.lists old (Ok paths) base → IsListed (shelf.listing old) (Ok paths) → IsPermutation paths.items sorted
     → IsSorted (λ v w. slice_cmp (λ a b. slice_cmp nat_cmp (string_bytes a) (string_bytes b)) v.items w.items) sorted
-    → IsListedAs listing lists old (map path_bytes sorted) base
-listed_as listing lists old base paths sorted answered listed moved up = record {
+    → IsListedAs shelf old (map path_bytes sorted) base
+listed_as shelf old base paths sorted answered listed moved up = record {
   answer = paths;
   answered = answered;
   these = IsPermutation-map path_bytes paths.items sorted moved;
-  sorted = sorted_listing (listing old) paths sorted listed moved up;
+  sorted = sorted_listing (shelf.listing old) paths sorted listed moved up;
 }
 
 -- ---- what was gathered
@@ -81,50 +80,49 @@ are_under u v [] (c ∷ cs) same are = absurd are
 are_under u v (p ∷ ps) [] same are = absurd are
 are_under u v (p ∷ ps) (c ∷ cs) same (first, rest) = (subst (λ t. Agrees t (Some c)) (same p) first, are_under u v ps cs same rest)
 
-module _ {S F : Type 0} (opens : S → List (List ℕ) → Result (Option F) DeviceFault → S → Type 0) (closes : S → F → S → Type 0) (faults : S → ℕ)
-    (under : S → List (List ℕ) → Option (Option (List ℕ))) (seen : F → SourceSeen) (listing : S → Option Listing) (lists : S → Result (Vec (Vec (String Global))) ShelfFault → S → Type 0) (name : List ℕ) (piece_length : ℕ) (hybrid : Bool) where
+module _ {S F : Type 0} (shelf : Ghosts S F) (seen : F → SourceSeen) (empty : Outline) where
   -- the listing left the shelf as it was
-  gathered_before : (old base s : S) (paths : List (List (List ℕ))) (d : Outline) → faults base ≡ faults old → ((p : List (List ℕ)) → under base p ≡ under old p)
-      → HasGathered opens closes faults under seen listing lists name piece_length hybrid base base paths s d → HasGathered opens closes faults under seen listing lists name piece_length hybrid old base paths s d
+  gathered_before : (old base s : S) (paths : List (List (List ℕ))) (d : Outline) → shelf.faults base ≡ shelf.faults old → ((p : List (List ℕ)) → shelf.under base p ≡ shelf.under old p)
+      → HasGathered shelf seen empty base base paths s d → HasGathered shelf seen empty old base paths s d
   gathered_before old base s paths d quiet kept so_far = record {
     contents = so_far.contents;
     read = so_far.read;
-    are = are_under (under base) (under old) paths so_far.contents kept so_far.are;
+    are = are_under (shelf.under base) (shelf.under old) paths so_far.contents kept so_far.are;
     gathered = so_far.gathered;
     quiet = so_far.quiet ∙ quiet;
     kept = λ p. so_far.kept p ∙ kept p;
   }
 
-  pub gathers_all : (old base new : S) (sorted : Paths) (d : Outline) → IsPieceLength piece_length
-      → IsListedAs listing lists old (map path_bytes sorted) base
-      → faults base ≡ faults old → ((p : List (List ℕ)) → under base p ≡ under old p)
-      → HasGathered opens closes faults under seen listing lists name piece_length hybrid base base (map path_bytes sorted) new d
-      → GathersAll opens closes faults under seen listing lists name piece_length hybrid old new d
+  pub gathers_all : (old base new : S) (sorted : Paths) (d : Outline) → IsPieceLength empty.piece_length
+      → IsListedAs shelf old (map path_bytes sorted) base
+      → shelf.faults base ≡ shelf.faults old → ((p : List (List ℕ)) → shelf.under base p ≡ shelf.under old p)
+      → HasGathered shelf seen empty base base (map path_bytes sorted) new d
+      → GathersAll shelf seen empty old new d
   gathers_all old base new sorted d legal listed quiet kept all =
       record { legal = legal; paths = map path_bytes sorted; listed = base; listing_is = listed; all = gathered_before old base new (map path_bytes sorted) d quiet kept all }
 
   -- what is told of a path at which it stopped
   told_at : (old new mid : S) (d : Outline) (f : FileFault) (v : Vec (String Global))
-      → ((Why : Outline → S → Type 0) → Why d mid → StopsAtPath opens closes faults under seen listing lists name piece_length hybrid old (path_bytes v) Why)
-      → Stops opens closes faults under seen f d mid (path_bytes v) new → Gathers opens closes faults under seen listing lists name piece_length hybrid old new (Err (at_path f v))
-  told_at old new mid d (why.Refused r) v at stops = inr (at (λ e s. RefusesAt opens closes faults under seen e (path_bytes v) r s new) stops)
-  told_at old new mid d why.Device v at stops = at (λ e s. Fails opens closes faults under seen s (path_bytes v) new) stops
+      → ((Why : Outline → S → Type 0) → Why d mid → StopsAtPath shelf seen empty old (path_bytes v) Why)
+      → Stops shelf seen f d mid (path_bytes v) new → Gathers shelf seen empty old new (Err (at_path f v))
+  told_at old new mid d (why.Refused r) v at stops = inr (at (λ e s. RefusesAt shelf seen e (path_bytes v) r s new) stops)
+  told_at old new mid d why.Device v at stops = at (λ e s. Fails shelf seen s (path_bytes v) new) stops
   told_at old new mid d why.NoMemory v at stops =
-      inr (inr (path_bytes v, at (λ e s. LacksMemoryAt opens closes faults under seen e (path_bytes v) s new) stops))
-  told_at old new mid d why.Changed v at stops = at (λ e s. Misses opens closes faults under seen s (path_bytes v) new) stops
+      inr (inr (path_bytes v, at (λ e s. LacksMemoryAt shelf seen e (path_bytes v) s new) stops))
+  told_at old new mid d why.Changed v at stops = at (λ e s. Misses shelf seen s (path_bytes v) new) stops
 
   taken : (sorted : Paths) (n : ℕ) (path : List (List ℕ)) (v : Vec (String Global)) → slice_get (map path_bytes sorted) n ≡ Some path → v ≡ get_or sorted n v → path ≡ path_bytes v
   taken sorted n path v there is =
       let inside : n < length sorted = omega (arith, slice_get_within (map path_bytes sorted) n path there, length-map sorted path_bytes) in
       same_Some path (path_bytes v) (sym there ∙ item_of path_bytes sorted n v inside ∙ ap (λ w. Some (path_bytes w)) (sym is))
 
-  pub stopped_at : (old base new : S) (sorted : Paths) (stop : Stop) (v : Vec (String Global)) (told : GatherFault) → IsPieceLength piece_length
-      → IsListedAs listing lists old (map path_bytes sorted) base → faults base ≡ faults old → ((p : List (List ℕ)) → under base p ≡ under old p)
-      → StopsBefore opens closes faults under seen listing lists name piece_length hybrid base (map path_bytes sorted) new stop → v ≡ get_or sorted stop.number v → told ≡ at_path stop.fault v
-      → Gathers opens closes faults under seen listing lists name piece_length hybrid old new (Err told)
+  pub stopped_at : (old base new : S) (sorted : Paths) (stop : Stop) (v : Vec (String Global)) (told : GatherFault) → IsPieceLength empty.piece_length
+      → IsListedAs shelf old (map path_bytes sorted) base → shelf.faults base ≡ shelf.faults old → ((p : List (List ℕ)) → shelf.under base p ≡ shelf.under old p)
+      → StopsBefore shelf seen empty base (map path_bytes sorted) new stop → v ≡ get_or sorted stop.number v → told ≡ at_path stop.fault v
+      → Gathers shelf seen empty old new (Err told)
   stopped_at old base new sorted stop v told legal listed quiet kept stops is answer =
       let path : stops.path ≡ path_bytes v = taken sorted stop.number stops.path v stops.there is in
-      subst (λ f. Gathers opens closes faults under seen listing lists name piece_length hybrid old new (Err f)) (sym answer)
+      subst (λ f. Gathers shelf seen empty old new (Err f)) (sym answer)
       (told_at old new stops.mid stops.draft stop.fault v (λ Why holds. record {
         legal = legal;
         paths = map path_bytes sorted;
@@ -136,4 +134,4 @@ module _ {S F : Type 0} (opens : S → List (List ℕ) → Result (Option F) Dev
         mid = stops.mid;
         before = gathered_before old base stops.mid (take stop.number (map path_bytes sorted)) stops.draft quiet kept stops.before;
         why = holds;
-      }) (subst (λ p. Stops opens closes faults under seen stop.fault stops.draft stops.mid p new) path stops.why))
+      }) (subst (λ p. Stops shelf seen stop.fault stops.draft stops.mid p new) path stops.why))

@@ -1,15 +1,12 @@
 -- Paths that were gathered one after the other.
-use Rattle.std.proofs.Common.{◌≡◌, ◌⊎◌, inl, inr, ℕ, ◌+◌, ◌<◌, ◌≤◌, Bool, List, [], ◌∷◌, ◌++◌, length, map, take, get_or, Option, Some, option_map, Result, refl, sym, ◌∙◌, ap, subst, add-one, arith}
-use Rattle.std.specs.Prelude.{String, slice_get}
-use Rattle.std.specs.Global.{Global, Vec}
+use Rattle.std.proofs.Common.{◌≡◌, ◌⊎◌, inl, inr, ℕ, ◌+◌, ◌<◌, ◌≤◌, List, [], ◌∷◌, ◌++◌, length, map, take, get_or, Option, Some, option_map, refl, sym, ◌∙◌, ap, subst, add-one, arith}
+use Rattle.std.specs.Prelude.{slice_get}
 use Rattle.std.proofs.Math.Seq.{take-suc}
 use Rattle.std.proofs.lemmas.Option.{get_or_from_slice_get, same_Some, slice_get-get_or, slice_get-map, slice_get_within}
+use Rattle.folders.specs.declared.shelf.Shelf.{Ghosts}
 use Rattle.benc.specs.Device.{SourceSeen}
-use Rattle.benc.specs.declared.device.DeviceFault.{DeviceFault}
 use Rattle.chains.proofs.Chains.{Chain-next}
-use Rattle.drafts.specs.Outline.{Outline, empty_outline}
-use Rattle.folders.specs.Shelf.{Listing}
-use Rattle.folders.specs.declared.shelf_fault.ShelfFault.{ShelfFault}
+use Rattle.drafts.specs.Outline.{Outline}
 use Rattle.folders.specs.Verdicts.{Agrees}
 use Rattle.gathering.specs.Gathered.{DraftAdds}
 use Rattle.gathering.specs.Gathering.{AreContentsUnder, HasGathered, Reads}
@@ -43,27 +40,26 @@ taken_more : {A : Type 0} (xs : List A) (n : ℕ) (x : A) → slice_get xs n ≡
 taken_more xs n x there =
     ap (λ k. take k xs) (add-one n) ∙ take-suc xs n x (slice_get_within xs n x there) ∙ ap (λ y. take n xs ++ y ∷ []) (get_or_from_slice_get xs n x x there)
 
-module _ {S F : Type 0} (opens : S → List (List ℕ) → Result (Option F) DeviceFault → S → Type 0) (closes : S → F → S → Type 0) (faults : S → ℕ)
-    (under : S → List (List ℕ) → Option (Option (List ℕ))) (seen : F → SourceSeen) (listing : S → Option Listing) (lists : S → Result (Vec (Vec (String Global))) ShelfFault → S → Type 0) (name : List ℕ) (piece_length : ℕ) (hybrid : Bool) where
+module _ {S F : Type 0} (shelf : Ghosts S F) (seen : F → SourceSeen) (empty : Outline) where
   -- none yet
-  pub gathered_none : (s : S) (d : Outline) → d ≡ empty_outline name piece_length hybrid → HasGathered opens closes faults under seen listing lists name piece_length hybrid s s [] s d
-  gathered_none s d empty = record { contents = []; read = refl; are = tt; gathered = empty; quiet = refl; kept = λ p. refl }
+  pub gathered_none : (s : S) → HasGathered shelf seen empty s s [] s empty
+  gathered_none s = record { contents = []; read = refl; are = tt; gathered = refl; quiet = refl; kept = λ p. refl }
 
   -- one more
   pub gathered_more : (old mid new : S) (paths : List (List (List ℕ))) (n : ℕ) (path : List (List ℕ)) (content : List ℕ) (d e : Outline)
-      → slice_get paths n ≡ Some path → HasGathered opens closes faults under seen listing lists name piece_length hybrid old old (take n paths) mid d
-      → Reads opens closes faults under seen mid path content new → DraftAdds d path content e → ((p : List (List ℕ)) → under new p ≡ under mid p)
-      → HasGathered opens closes faults under seen listing lists name piece_length hybrid old old (take (n + 1) paths) new e
+      → slice_get paths n ≡ Some path → HasGathered shelf seen empty old old (take n paths) mid d
+      → Reads shelf seen mid path content new → DraftAdds d path content e → ((p : List (List ℕ)) → shelf.under new p ≡ shelf.under mid p)
+      → HasGathered shelf seen empty old old (take (n + 1) paths) new e
   gathered_more old mid new paths n path content d e there so_far reads adds kept =
       let inside : n < length paths = slice_get_within paths n path there in
       let at : get_or paths n path ≡ path = get_or_from_slice_get paths n path path there in
       record {
         contents = so_far.contents ++ content ∷ [];
-        read = Chain-next (Reads opens closes faults under seen) old mid new paths n so_far.contents path content inside so_far.read
-            (subst (λ p. Reads opens closes faults under seen mid p content new) (sym at) reads);
-        are = subst (λ ps. AreContentsUnder (under old) ps (so_far.contents ++ content ∷ [])) (sym (taken_more paths n path there))
-            (are_more (under old) (take n paths) so_far.contents path content so_far.are (subst (λ t. Agrees t (Some content)) (so_far.kept path) reads.agrees));
-        gathered = Chain-next DraftAdds (empty_outline name piece_length hybrid) d e paths n so_far.contents path content inside so_far.gathered
+        read = Chain-next (Reads shelf seen) old mid new paths n so_far.contents path content inside so_far.read
+            (subst (λ p. Reads shelf seen mid p content new) (sym at) reads);
+        are = subst (λ ps. AreContentsUnder (shelf.under old) ps (so_far.contents ++ content ∷ [])) (sym (taken_more paths n path there))
+            (are_more (shelf.under old) (take n paths) so_far.contents path content so_far.are (subst (λ t. Agrees t (Some content)) (so_far.kept path) reads.agrees));
+        gathered = Chain-next DraftAdds empty d e paths n so_far.contents path content inside so_far.gathered
             (subst (λ p. DraftAdds d p content e) (sym at) adds);
         quiet = reads.quiet ∙ so_far.quiet;
         kept = λ p. kept p ∙ so_far.kept p;

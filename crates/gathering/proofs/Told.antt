@@ -1,11 +1,12 @@
 -- What reading a source and visiting a path told.
 use Rattle.std.proofs.Common.{◌≡◌, inr, ℕ, ◌+◌, ◌^◌, ◌<◌, Bool, List, [], ◌∷◌, length, Option, Some, None, Result, Ok, Err, refl, sym, ◌∙◌, ap, subst, arith}
+use Rattle.folders.specs.declared.shelf.Shelf.{Ghosts}
 use Rattle.benc.specs.Device.{SourceSeen, one_more}
-use Rattle.benc.specs.declared.device.DeviceFault.{DeviceFault}
 use Rattle.folders.specs.Shelf.{IsFound, more}
 use Rattle.folders.specs.TakeAll.{GaveMore, IsReadWithin, TookAll}
 use Rattle.folders.specs.Verdicts.{Agrees}
 use Rattle.folders.proofs.Pieces.{all_given, longer_content}
+use Rattle.gathering.specs.Collecting.{MayFinish}
 use Rattle.gathering.specs.Gathering.{HandsBack, Reads}
 use Rattle.gathering.specs.Hashing.{AreHashesOf, Begins, EndsWithHashes, Hashes, MayEndWithout}
 use Rattle.folders.specs.TakeAll.{CountsReading}
@@ -16,7 +17,7 @@ use Rattle.gathering.specs.Reading.{ReadsFile, visit_of}
 use Rattle.gathering.specs.Steps.{VisitsFile}
 use Rattle.gathering.specs.declared.hashing.FileHashes.{FileHashes}
 use Rattle.gathering.specs.declared.hashing.Hashing.{Hashing}
-use Rattle.gathering.proofs.Digests.{kept_digests, told_whole}
+use Rattle.gathering.proofs.Digests.{kept_digests, may_finish, told_whole}
 
 -- ---- a source
 
@@ -51,6 +52,15 @@ whole_read piece_length hybrid source source' before after count told read begin
   told_whole piece_length hybrid before after read.bytes told begins read.taken ends,
 )
 
+positive : (count n : ℕ) → (count ≡ 0 → ⊥) → n ≡ count → 0 < n
+positive count n some is = grind (arith, some, is)
+
+-- it may be told of
+pub read_may_finish : (source source' : SourceSeen) (before after : Hashing) (count : ℕ) → TookAll Hashes source source' (2 ^ 46) before after count → (count ≡ 0 → ⊥)
+    → MayFinish after.tree
+read_may_finish source source' before after count read some =
+    may_finish before after read.bytes read.taken (positive count (length read.bytes) some read.count_is)
+
 -- memory was refused
 pub refused_read : (piece_length : ℕ) (hybrid : Bool) (source source' : SourceSeen) (before after : Hashing) (count : ℕ)
     → TookAll Hashes source source' (2 ^ 46) before after count → (count ≡ 0 → ⊥) → Begins piece_length hybrid before → MayEndWithout after
@@ -61,44 +71,40 @@ refused_read piece_length hybrid source source' before after count read some beg
   omega (arith, read.count_is, read.within),
   kept_digests piece_length hybrid before after read.bytes begins read.taken (positive count (length read.bytes) some read.count_is) why,
 )
-  where
-    positive : (count n : ℕ) → (count ≡ 0 → ⊥) → n ≡ count → 0 < n
-    positive count n some is = grind (arith, some, is)
 
 -- ---- a shelf
 
-module _ {S F : Type 0} (opens : S → List (List ℕ) → Result (Option F) DeviceFault → S → Type 0) (closes : S → F → S → Type 0) (faults : S → ℕ)
-    (under : S → List (List ℕ) → Option (Option (List ℕ))) (seen : F → SourceSeen) where
+module _ {S F : Type 0} (shelf : Ghosts S F) (seen : F → SourceSeen) where
   -- a file was opened, read and handed back
   pub record IsVisit (s : S) (path : List (List ℕ)) (mid : S) (file read : F) (s' : S) : Type 0 where
-    pub opened : opens s path (Ok (Some file)) mid
-    pub found : IsFound (under s path) (Some (seen file).left)
+    pub opened : shelf.opens s path (Ok (Some file)) mid
+    pub found : IsFound (shelf.under s path) (Some (seen file).left)
     pub fresh : (seen file).faults ≡ 0
-    pub steady : faults mid ≡ faults s
+    pub steady : shelf.faults mid ≡ shelf.faults s
     pub within : IsReadWithin (2 ^ 46 + 1) (seen file) (seen read)
-    pub closed : closes mid read s'
-    pub added : faults s' ≡ more (faults mid) (seen read).faults
+    pub closed : shelf.closes mid read s'
+    pub added : shelf.faults s' ≡ more (shelf.faults mid) (seen read).faults
 
-  handed : (s : S) (path : List (List ℕ)) (mid : S) (file read : F) (s' : S) → IsVisit s path mid file read s' → HandsBack opens closes faults under seen s path file s'
+  handed : (s : S) (path : List (List ℕ)) (mid : S) (file read : F) (s' : S) → IsVisit s path mid file read s' → HandsBack shelf seen s path file s'
   handed s path mid file read s' v = record { between = mid; opened = v.opened; read = read; within = v.within; closed = v.closed }
 
   reads : (s : S) (path : List (List ℕ)) (mid : S) (file read : F) (s' : S) (content : List ℕ) → IsVisit s path mid file read s' → Agrees (seen file).left content
-      → (seen read).faults ≡ (seen file).faults → Reads opens closes faults under seen s path content s'
+      → (seen read).faults ≡ (seen file).faults → Reads shelf seen s path content s'
   reads s path mid file read s' content v told quiet = record {
     file = file;
     handed = handed s path mid file read s' v;
     gave = told;
-    agrees = agrees_opened (under s path) (seen file).left content v.found told;
-    quiet = v.added ∙ ap (more (faults mid)) (quiet ∙ v.fresh) ∙ v.steady;
+    agrees = agrees_opened (shelf.under s path) (seen file).left content v.found told;
+    quiet = v.added ∙ ap (more (shelf.faults mid)) (quiet ∙ v.fresh) ∙ v.steady;
   }
 
   pub visited : (piece_length : ℕ) (hybrid : Bool) (s : S) (path : List (List ℕ)) (mid : S) (file read : F) (s' : S) (r : Result (Option FileHashes) ReadFault) → IsVisit s path mid file read s'
       → ReadsFile piece_length hybrid (seen file).left r → CountsReading (seen file).faults (seen read).faults r
-      → VisitsFile opens closes faults under seen piece_length hybrid s path s' (visit_of r)
+      → VisitsFile shelf seen piece_length hybrid s path s' (visit_of r)
   visited piece_length hybrid s path mid file read s' (Ok (Some told)) v (content, is, short, hashes) quiet = (content, reads s path mid file read s' content v is quiet, short, hashes)
   visited piece_length hybrid s path mid file read s' (Ok None) v (content, is, long) quiet = (refl, content, reads s path mid file read s' content v is quiet, long)
   visited piece_length hybrid s path mid file read s' (Err fault.Device) v read_is counted = record {
-    counted = v.added ∙ ap (more (faults mid)) (counted ∙ ap one_more v.fresh) ∙ ap one_more v.steady;
+    counted = v.added ∙ ap (more (shelf.faults mid)) (counted ∙ ap one_more v.fresh) ∙ ap one_more v.steady;
     failed = inr (file, handed s path mid file read s' v);
   }
   visited piece_length hybrid s path mid file read s' (Err fault.NoMemory) v (content, is, short, kept) quiet = (content, reads s path mid file read s' content v is quiet, short, kept)

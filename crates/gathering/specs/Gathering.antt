@@ -1,5 +1,7 @@
 -- How a draft is gathered from a shelf: it is listed once, and each listed path is opened once, in
--- the order of the file tree, read once, and handed back.
+-- the order of the file tree, read once, and handed back. `shelf` stands for what the shelf's type
+-- tells of its shelves, `seen` for what its files tell, and `empty` is the draft without files, of
+-- the name, piece length and kind that were asked for.
 use Rattle.std.specs.Prelude.{◌≡◌, ◌⊎◌, ℕ, ◌+◌, ◌^◌, ◌<◌, ◌≤◌, Bool, false, List, [], ◌∷◌, length, map, take, slice_get, Option, Some, None, Result, Ok, Err, String}
 use Rattle.std.specs.Cmp.Lexicographic.{slice_cmp}
 use Rattle.std.specs.Global.{Global, Vec}
@@ -14,6 +16,7 @@ use Rattle.filetree.specs.declared.refusal.Refusal.TheVariants as refusals
 use Rattle.folders.specs.Shelf.{CountsListing, IsEachOnce, IsListed, Listing, path_bytes}
 use Rattle.folders.specs.TakeAll.{IsReadWithin}
 use Rattle.folders.specs.Verdicts.{Agrees}
+use Rattle.folders.specs.declared.shelf.Shelf.{Ghosts}
 use Rattle.folders.specs.declared.shelf_fault.ShelfFault.{ShelfFault}
 use Rattle.gathering.specs.Gathered.{DraftTakes, Gathered, KeepsDigests, RefusesContent}
 use Rattle.gathering.specs.declared.gather_fault.GatherFault.{GatherFault}
@@ -34,15 +37,13 @@ pub record IsSortedListing (told : Option Listing) (paths : List (List (List ℕ
   pub listed : (there : Listing) → told ≡ Some there → ListsOnce there paths
 
 -- the shelf was listed, and nothing else: it answered these paths, which here stand in the order of
--- the file tree, and which are those that it tells, if it does. `listing` and `lists` are those of
--- the shelf's type
-pub record IsListedAs {S : Type 0} (listing : S → Option Listing)
-    (lists : S → Result (Vec (Vec (String Global))) ShelfFault → S → Type 0)
-    (old : S) (paths : List (List (List ℕ))) (new : S) : Type 0 where
+-- the file tree, and which are those that it tells, if it does
+pub record IsListedAs {S F : Type 0} (shelf : Ghosts S F) (old : S) (paths : List (List (List ℕ)))
+    (new : S) : Type 0 where
   pub answer : Vec (Vec (String Global))
-  pub answered : lists old (Ok answer) new
+  pub answered : shelf.lists old (Ok answer) new
   pub these : IsPermutation (map path_bytes answer.items) paths
-  pub sorted : IsSortedListing (listing old) paths
+  pub sorted : IsSortedListing (shelf.listing old) paths
 
 -- one of the paths has a component
 abbrev pub HasComponents : List (List (List ℕ)) → Type 0
@@ -57,40 +58,37 @@ AreContentsUnder under [] (c ∷ cs) = ⊥
 AreContentsUnder under (p ∷ ps) [] = ⊥
 AreContentsUnder under (p ∷ ps) (c ∷ cs) = Agrees (under p) (Some c) × AreContentsUnder under ps cs
 
--- `opens`, `closes`, `faults` and `under` are those of the shelf's type, `seen` that of its files
-module _ {S F : Type 0} (opens : S → List (List ℕ) → Result (Option F) DeviceFault → S → Type 0)
-    (closes : S → F → S → Type 0) (faults : S → ℕ)
-    (under : S → List (List ℕ) → Option (Option (List ℕ))) (seen : F → SourceSeen) where
+module _ {S F : Type 0} (shelf : Ghosts S F) (seen : F → SourceSeen) where
   -- ---- one file
 
   -- the path was opened, and what was opened was read, a byte past the longest file at most, and
   -- handed back
   pub record HandsBack (s : S) (path : List (List ℕ)) (file : F) (s' : S) : Type 0 where
     pub between : S
-    pub opened : opens s path (Ok (Some file)) between
+    pub opened : shelf.opens s path (Ok (Some file)) between
     pub read : F
     pub within : IsReadWithin (2 ^ 46 + 1) (seen file) (seen read)
-    pub closed : closes between read s'
+    pub closed : shelf.closes between read s'
 
   -- and without a fault: it has this content, which is the known one
   pub record Reads (s : S) (path : List (List ℕ)) (content : List ℕ) (s' : S) : Type 0 where
     pub file : F
     pub handed : HandsBack s path file s'
-    pub gave : (known : List ℕ) → (seen file).left ≡ Some known → known ≡ content
-    pub agrees : Agrees (under s path) (Some content)
-    pub quiet : faults s' ≡ faults s
+    pub gave : Agrees (seen file).left content
+    pub agrees : Agrees (shelf.under s path) (Some content)
+    pub quiet : shelf.faults s' ≡ shelf.faults s
 
   -- the opening failed, or a read did; that is one fault
   pub record Fails (s : S) (path : List (List ℕ)) (s' : S) : Type 0 where
-    pub counted : faults s' ≡ one_more (faults s)
-    pub failed : ((e : DeviceFault) × opens s path (Err e) s')
+    pub counted : shelf.faults s' ≡ one_more (shelf.faults s)
+    pub failed : ((e : DeviceFault) × shelf.opens s path (Err e) s')
         ⊎ ((file : F) × HandsBack s path file s')
 
   -- nothing was there
   pub record Misses (s : S) (path : List (List ℕ)) (s' : S) : Type 0 where
-    pub opened : opens s path (Ok None) s'
-    pub agrees : Agrees (under s path) None
-    pub quiet : faults s' ≡ faults s
+    pub opened : shelf.opens s path (Ok None) s'
+    pub agrees : Agrees (shelf.under s path) None
+    pub quiet : shelf.faults s' ≡ shelf.faults s
 
   -- the path was read, and the draft d refuses its content
   pub record RefusesAt (d : Outline) (path : List (List ℕ)) (r : Refusal) (s s' : S) : Type 0 where
@@ -108,36 +106,32 @@ module _ {S F : Type 0} (opens : S → List (List ℕ) → Result (Option F) Dev
 
   -- ---- all files
 
-  -- `listing` and `lists` are those of the shelf's type, and the draft has this name, piece length
-  -- and kind
-  module _ (listing : S → Option Listing)
-      (lists : S → Result (Vec (Vec (String Global))) ShelfFault → S → Type 0)
-      (name : List ℕ) (piece_length : ℕ) (hybrid : Bool) where
+  module _ (empty : Outline) where
     -- once the shelf was listed, these paths were read in turn and gathered in the draft d
     pub record HasGathered (old listed : S) (paths : List (List (List ℕ))) (s : S) (d : Outline)
         : Type 0 where
       pub contents : List (List ℕ)
       pub read : Chain Reads listed paths contents s
-      pub are : AreContentsUnder (under old) paths contents
-      pub gathered : Gathered name piece_length hybrid paths contents d
-      pub quiet : faults s ≡ faults old
-      pub kept : (p : List (List ℕ)) → under s p ≡ under old p
+      pub are : AreContentsUnder (shelf.under old) paths contents
+      pub gathered : Gathered empty paths contents d
+      pub quiet : shelf.faults s ≡ shelf.faults old
+      pub kept : (p : List (List ℕ)) → shelf.under s p ≡ shelf.under old p
 
     -- all listed files are in the draft d, and no other
     pub record GathersAll (old new : S) (d : Outline) : Type 0 where
-      pub legal : IsPieceLength piece_length
+      pub legal : IsPieceLength empty.piece_length
       pub paths : List (List (List ℕ))
       pub listed : S
-      pub listing_is : IsListedAs listing lists old paths listed
+      pub listing_is : IsListedAs shelf old paths listed
       pub all : HasGathered old listed paths new d
 
     -- the files before one of the listed paths were gathered, and this happened at that path
     pub record StopsAtPath (old : S) (path : List (List ℕ)) (Why : Outline → S → Type 0)
         : Type 0 where
-      pub legal : IsPieceLength piece_length
+      pub legal : IsPieceLength empty.piece_length
       pub paths : List (List (List ℕ))
       pub listed : S
-      pub listing_is : IsListedAs listing lists old paths listed
+      pub listing_is : IsListedAs shelf old paths listed
       pub number : ℕ
       pub there : slice_get paths number ≡ Some path
       pub draft : Outline
@@ -147,33 +141,33 @@ module _ {S F : Type 0} (opens : S → List (List ℕ) → Result (Option F) Dev
 
     -- there is no draft of this piece length, and the shelf was not looked at
     pub record RefusesAll (old new : S) (path : List (List ℕ)) (r : Refusal) : Type 0 where
-      pub illegal : IsPieceLength piece_length → ⊥
+      pub illegal : IsPieceLength empty.piece_length → ⊥
       pub answer : r ≡ refusals.PieceLength
       pub no_path : path ≡ []
       pub untouched : new ≡ old
 
     -- the shelf was asked for its listing, answered with this fault, and was asked nothing else
     pub record IsUnlisted (old new : S) (f : ShelfFault) : Type 0 where
-      pub legal : IsPieceLength piece_length
-      pub answered : lists old (Err f) new
-      pub told : IsListed (listing old) (Err f)
-      pub counted : CountsListing (faults old) (faults new) (Err f)
+      pub legal : IsPieceLength empty.piece_length
+      pub answered : shelf.lists old (Err f) new
+      pub told : IsListed (shelf.listing old) (Err f)
+      pub counted : CountsListing (shelf.faults old) (shelf.faults new) (Err f)
 
     -- memory was refused for the components of the longest listed path: the shelf was listed, and
     -- nothing else
     pub record LacksMemoryForPaths (old new : S) : Type 0 where
-      pub legal : IsPieceLength piece_length
+      pub legal : IsPieceLength empty.piece_length
       pub paths : List (List (List ℕ))
-      pub listing_is : IsListedAs listing lists old paths new
+      pub listing_is : IsListedAs shelf old paths new
       pub some : HasComponents paths
-      pub quiet : faults new ≡ faults old
-      pub kept : (p : List (List ℕ)) → under new p ≡ under old p
+      pub quiet : shelf.faults new ≡ shelf.faults old
+      pub kept : (p : List (List ℕ)) → shelf.under new p ≡ shelf.under old p
 
     -- memory was refused: for the draft, before the shelf was looked at; once for the components of
     -- the paths, before the first was opened; or at a path, once it was read
     abbrev pub LacksMemory : S → S → Type 0
     LacksMemory old new =
-        (IsPieceLength piece_length × (new ≡ old))
+        (IsPieceLength empty.piece_length × (new ≡ old))
         ⊎ (LacksMemoryForPaths old new
         ⊎ ((path : List (List ℕ)) × StopsAtPath old path (λ d mid. LacksMemoryAt d path mid new)))
 

@@ -1,7 +1,7 @@
 -- The hashing of one file's bytes, as they are read: for its root and its piece layer, and for a
 -- hybrid for the digests of its cuts.
 use Rattle.std.specs.Prelude.{◌≡◌, ◌⊎◌, ℕ, ◌<◌, Bool, true, false, List, [], length, Option, Some, None, IsSome, ⊤}
-use Rattle.folders.specs.Collecting.{CanCollect, Collects, EndsWithWhole, MayLackMemory}
+use Rattle.gathering.specs.Collecting.{CanCollect, Collects, EndsWithWhole, MayLackMemory}
 use Rattle.gathering.specs.Gathered.{piece_hashes}
 use Rattle.gathering.specs.declared.hashing.FileHashes.{FileHashes}
 use Rattle.gathering.specs.declared.hashing.Hashing.{Hashing}
@@ -31,7 +31,7 @@ pub record Begins (piece_length : ℕ) (hybrid : Bool) (h : Hashing) : Type 0 wh
 -- ---- parts
 
 -- digests of cuts were pushed these bytes, or memory was refused to them
-pub record Cuts (old : V1Cuts) (bytes : List ℕ) (new : V1Cuts) : Type 0 where
+pub record CutsBytes (old : V1Cuts) (bytes : List ℕ) (new : V1Cuts) : Type 0 where
   pub again : cut.HasRefused old → cut.HasRefused new
   pub fed : cut.HasRefused new ⊎ FeedsCuts old new bytes
 
@@ -40,7 +40,7 @@ abbrev pub CutsIf : Option V1Cuts → List ℕ → Option V1Cuts → Type 0
 CutsIf None bytes None = ⊤
 CutsIf None bytes (Some new) = ⊥
 CutsIf (Some old) bytes None = ⊥
-CutsIf (Some old) bytes (Some new) = Cuts old bytes new
+CutsIf (Some old) bytes (Some new) = CutsBytes old bytes new
 
 -- these bytes were hashed, unless memory was refused
 pub record Hashes (old : Hashing) (bytes : List ℕ) (new : Hashing) : Type 0 where

@@ -1,7 +1,7 @@
 -- The laws of the hashing of a file's bytes: several parts are one, and leave room for less.
 use Rattle.std.proofs.Common.{◌⊎◌, inl, inr, ℕ, ◌+◌, ◌≤◌, ◌++◌, List, [], length, Option, Some, None, sym, subst, append_assoc, append-nil}
-use Rattle.folders.specs.CollectingLaws.{collected_both, collected_less, collected_none, collected_room}
-use Rattle.gathering.specs.Hashing.{CanHash, Cuts, CutsIf, Hashes}
+use Rattle.gathering.specs.CollectingLaws.{collected_both, collected_less, collected_none, collected_room}
+use Rattle.gathering.specs.Hashing.{CanHash, CutsBytes, CutsIf, Hashes}
 use Rattle.gathering.specs.declared.hashing.Hashing.{Hashing}
 use Rattle.pieces.specs.FileCuts.{FeedsCuts, IsFedCuts}
 use Rattle.pieces.specs.FileCuts as cut
@@ -9,13 +9,13 @@ use Rattle.pieces.specs.declared.v1_cuts.V1Cuts.{V1Cuts}
 
 -- ---- digests of cuts
 
-cut_none : (c : V1Cuts) → Cuts c [] c
+cut_none : (c : V1Cuts) → CutsBytes c [] c
 cut_none c = record {
   again = λ refused. refused;
   fed = inr (λ piece_length file fed. subst (IsFedCuts c piece_length) (sym (append-nil file)) fed);
 }
 
-both_cut : (a b c : V1Cuts) (x y : List ℕ) → Cuts a x b → Cuts b y c
+both_cut : (a b c : V1Cuts) (x y : List ℕ) → CutsBytes a x b → CutsBytes b y c
     → cut.HasRefused c ⊎ FeedsCuts a c (x ++ y)
 both_cut a b c x y one two = elim two.fed [
   | inl refused ↦ inl refused

@@ -13,52 +13,48 @@ use Rattle.gathering.specs.declared.file_fault.FileFault.{FileFault}
 use Rattle.gathering.specs.declared.file_fault.FileFault.TheVariants as file
 use Rattle.gathering.specs.declared.gathering.Stop.{Stop}
 use Rattle.gathering.specs.declared.hashing.FileHashes.{FileHashes}
-use Rattle.folders.specs.Shelf.{Listing}
-use Rattle.folders.specs.declared.shelf_fault.ShelfFault.{ShelfFault}
+use Rattle.folders.specs.declared.shelf.Shelf.{Ghosts}
 
 -- no path has more components than this
 abbrev pub AreWithin : List (List (List ℕ)) → ℕ → Type 0
 AreWithin paths room = (n : ℕ) (path : List (List ℕ)) → slice_get paths n ≡ Some path
     → length path ≤ room
 
-module _ {S F : Type 0} (opens : S → List (List ℕ) → Result (Option F) DeviceFault → S → Type 0)
-    (closes : S → F → S → Type 0) (faults : S → ℕ)
-    (under : S → List (List ℕ) → Option (Option (List ℕ))) (seen : F → SourceSeen) where
+module _ {S F : Type 0} (shelf : Ghosts S F) (seen : F → SourceSeen) where
   -- what visiting a path told of its content
   abbrev pub VisitsFile : ℕ → Bool → S → List (List ℕ) → S → Result FileHashes FileFault → Type 0
   VisitsFile piece_length hybrid s path s' (Ok told) =
-      (content : List ℕ) × Reads opens closes faults under seen s path content s'
+      (content : List ℕ) × Reads shelf seen s path content s'
       × (length content ≤ 2 ^ 46) × AreHashesOf piece_length hybrid content told
   VisitsFile piece_length hybrid s path s' (Err (file.Refused r)) =
       (r ≡ refusals.Length)
-      × (content : List ℕ) × Reads opens closes faults under seen s path content s'
+      × (content : List ℕ) × Reads shelf seen s path content s'
       × (2 ^ 46 < length content)
   VisitsFile piece_length hybrid s path s' (Err file.Device) =
-      Fails opens closes faults under seen s path s'
+      Fails shelf seen s path s'
   VisitsFile piece_length hybrid s path s' (Err file.NoMemory) =
-      (content : List ℕ) × Reads opens closes faults under seen s path content s'
+      (content : List ℕ) × Reads shelf seen s path content s'
       × (length content ≤ 2 ^ 46) × KeepsDigests piece_length hybrid content
   VisitsFile piece_length hybrid s path s' (Err file.Changed) =
-      Misses opens closes faults under seen s path s'
+      Misses shelf seen s path s'
 
   -- why a path was not added to the draft d
   abbrev pub Stops : FileFault → Outline → S → List (List ℕ) → S → Type 0
-  Stops (file.Refused r) d s path s' = RefusesAt opens closes faults under seen d path r s s'
-  Stops file.Device d s path s' = Fails opens closes faults under seen s path s'
-  Stops file.NoMemory d s path s' = LacksMemoryAt opens closes faults under seen d path s s'
-  Stops file.Changed d s path s' = Misses opens closes faults under seen s path s'
+  Stops (file.Refused r) d s path s' = RefusesAt shelf seen d path r s s'
+  Stops file.Device d s path s' = Fails shelf seen s path s'
+  Stops file.NoMemory d s path s' = LacksMemoryAt shelf seen d path s s'
+  Stops file.Changed d s path s' = Misses shelf seen s path s'
 
   -- a path was added to the draft d, which is e then, or why not
   abbrev pub AddsPath : Outline → S → List (List ℕ) → Outline → S → Result (Unit {0}) FileFault
       → Type 0
   AddsPath d s path e s' (Ok u) =
-      (content : List ℕ) × Reads opens closes faults under seen s path content s'
+      (content : List ℕ) × Reads shelf seen s path content s'
       × DraftAdds d path content e
   AddsPath d s path e s' (Err f) = Stops f d s path s'
 
-  module _ (listing : S → Option Listing)
-      (lists : S → Result (Vec (Vec (String Global))) ShelfFault → S → Type 0)
-      (name : List ℕ) (piece_length : ℕ) (hybrid : Bool) where
+  -- the draft that was given is `empty`
+  module _ (empty : Outline) where
     -- the first paths were added, and it stopped at the next one
     pub record StopsBefore (old : S) (paths : List (List (List ℕ))) (new : S) (stop : Stop) : Type 0
       where
@@ -66,13 +62,11 @@ module _ {S F : Type 0} (opens : S → List (List ℕ) → Result (Option F) Dev
         pub there : slice_get paths stop.number ≡ Some path
         pub draft : Outline
         pub mid : S
-        pub before : HasGathered opens closes faults under seen listing lists name piece_length
-            hybrid old old (take stop.number paths) mid draft
+        pub before : HasGathered shelf seen empty old old (take stop.number paths) mid draft
         pub why : Stops stop.fault draft mid path new
 
     -- all paths were added, or it stopped at one
     abbrev pub AddsAll : S → List (List (List ℕ)) → Outline → S → Result (Unit {0}) Stop → Type 0
     AddsAll old paths d new (Ok u) =
-        HasGathered opens closes faults under seen listing lists name piece_length hybrid old old
-        paths new d
+        HasGathered shelf seen empty old old paths new d
     AddsAll old paths d new (Err stop) = StopsBefore old paths new stop

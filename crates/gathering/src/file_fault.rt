@@ -1,11 +1,9 @@
 //! Why one file was not added to a draft.
 ghost use Rattle.std.specs.Prelude.{◌≡◌};
-ghost use Rattle.gathering.specs.declared.file_fault.FileFault.TheVariants as fault;
 ghost use Rattle.gathering.specs.Stopping.{IsRefusal, at_path};
 
 use crate::gather_fault::GatherFault;
 use filetree::Refusal;
-use std::alloc::AllocError;
 
 /// Why one file was not added to a draft.
 #[derive(Debug, Drop)]
@@ -31,14 +29,6 @@ impl FileFault {
             FileFault::NoMemory => GatherFault::NoMemory,
             FileFault::Changed => GatherFault::Changed(path),
         }
-    }
-}
-
-impl From<AllocError> for FileFault {
-    ghost from_gives = { λ _ e. e ≡ fault.NoMemory };
-
-    fn from(_error: AllocError) -> FileFault {
-        FileFault::NoMemory
     }
 }
 

@@ -8,13 +8,13 @@ use thiserror::Error;
 pub enum GatherFault {
     /// The draft refused the file under this path; or there is no draft of the piece length, and
     /// then the path is empty.
-    #[error("a file is refused")]
+    #[error("a file is refused: {0}")]
     Refused(Refusal, Vec<String>),
     /// The file under this path could not be opened, or not be read to its end.
     #[error("a file cannot be read")]
     Device(Vec<String>),
     /// The shelf could not be listed.
-    #[error("the shelf cannot be listed")]
+    #[error("{0}")]
     List(ShelfFault),
     /// Memory was refused.
     #[error("no memory")]

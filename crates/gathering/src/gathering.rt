@@ -25,7 +25,8 @@ struct Stop {
     fault: FileFault,
 }
 
-/// Gathers a draft of this display name, and piece length in bytes, from all files of a shelf.
+/// Gathers a draft of this display name, and piece length in bytes, from all files of a shelf
+/// (BEP 52, "pieces root", "piece layers"; for a hybrid BEP 3, "pieces", and BEP 47 too).
 ///
 /// Once there is a draft, the shelf is listed, once. Each listed path is opened once, in the order
 /// of the file tree, read once, through one buffer that feeds the tree and for a hybrid the digests
@@ -49,8 +50,8 @@ pub fn gather<S: Shelf>(
     piece_length: u64,
     hybrid: bool,
 ) -> Result<Draft, GatherFault>
-    ensures gathers { Gathers S.opens S.closes S.faults S.under S.File.seen S.listing S.lists
-        name.now piece_length hybrid shelf.old shelf.new result }
+    ensures gathers { Gathers S.Shelf S.File.seen (empty_outline name.now piece_length hybrid)
+        shelf.old shelf.new result }
     ensures kept { (p : List (List ℕ)) → S.under shelf.new p ≡ S.under shelf.old p }
 {
     let Some(kind) = Kind::new(piece_length, hybrid) else {
@@ -99,10 +100,9 @@ fn add_files<'p, S: Shelf>(
     kind: &Kind,
 ) -> Result<(), Stop>
     requires room { AreWithin (map path_bytes paths.now) (vec_capacity parts) }
-    requires empty { draft.old
-        ≡ empty_outline draft.old.name kind.now.piece_length kind.now.hybrid }
-    ensures adds { AddsAll S.opens S.closes S.faults S.under S.File.seen S.listing S.lists
-        draft.old.name kind.now.piece_length kind.now.hybrid shelf.old (map path_bytes paths.now)
+    requires piece_length { draft.old.piece_length ≡ kind.now.piece_length }
+    requires hybrid { draft.old.hybrid ≡ kind.now.hybrid }
+    ensures adds { AddsAll S.Shelf S.File.seen draft.old shelf.old (map path_bytes paths.now)
         draft.new shelf.new result }
     ensures kept { (p : List (List ℕ)) → S.under shelf.new p ≡ S.under shelf.old p }
 {
@@ -128,7 +128,7 @@ fn add_file<S: Shelf>(
     requires some { 0 < length buffer.old }
     requires piece_length { draft.old.piece_length ≡ kind.now.piece_length }
     requires hybrid { draft.old.hybrid ≡ kind.now.hybrid }
-    ensures adds { AddsPath S.opens S.closes S.faults S.under S.File.seen draft.old shelf.old
+    ensures adds { AddsPath S.Shelf S.File.seen draft.old shelf.old
         (map (λ s. s.now) path.now) draft.new shelf.new result }
     ensures kept { (p : List (List ℕ)) → S.under shelf.new p ≡ S.under shelf.old p }
     ensures buffer { length buffer.new ≡ length buffer.old }

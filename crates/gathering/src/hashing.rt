@@ -1,10 +1,11 @@
 //! The hashing of one file, for its root, its piece layer, and for a hybrid the digests of its
 //! cuts.
 ghost use Rattle.std.specs.Prelude.{[], All, IfOk, IsSome, OnErr, length, ◌≡◌};
+ghost use Rattle.gathering.specs.Collecting.{EndsWithWhole, MayFinish, MayLackMemory};
 ghost use Rattle.gathering.specs.Hashing.{Begins, BeginsCuts, EndsWithCuts, EndsWithHashes, MayEndWithout};
 
 use crate::kind::Kind;
-use folders::{Taker, finish_layer};
+use folders::Taker;
 use hashtree::{Hash, LayerBuilder, NoMemory};
 use pieces::{V1Cuts, V1File};
 use std::alloc::Global;
@@ -54,8 +55,10 @@ impl Hashing {
         }
     }
 
-    /// What came tells this, if memory was not refused.
+    /// What came tells this, if memory was not refused. Condition: memory was refused to the tree,
+    /// or at least one byte came.
     pub(crate) fn finish(self, alloc: Global) -> Result<FileHashes, NoMemory>
+        requires { MayFinish self.tree }
         ensures told { IfOk result (EndsWithHashes self) }
         ensures memory { OnErr result (MayEndWithout self) }
     {
@@ -79,7 +82,7 @@ impl Taker for Hashing {
     ghost took = { Hashes };
 
     fn take(&mut self, part: &[u8]) {
-        self.tree.take(part);
+        let _ = self.tree.push(part);
         if let Some(cuts) = &mut self.cuts {
             let _ = cuts.push(part);
         }
@@ -98,6 +101,19 @@ impl Taker for Hashing {
 pub(crate) fn are_hashes(hashes: &[Hash])
     ensures { All (λ h. length h ≡ 32) hashes.now }
 {}
+
+// The length, the root and the layer of the file whose bytes the builder took, if memory was not
+// refused to it. A builder that took nothing was refused memory.
+fn finish_layer(builder: LayerBuilder) -> Result<(u64, Hash, Vec<Hash>), NoMemory>
+    requires { MayFinish builder }
+    ensures told { IfOk result (λ found. EndsWithWhole builder found.0 found.1 found.2.items) }
+    ensures memory { OnErr result (MayLackMemory builder) }
+{
+    if builder.is_empty() {
+        return Err(NoMemory);
+    }
+    builder.finish()
+}
 
 // The digests of a hybrid's cuts.
 fn cuts_of(alloc: Global, kind: &Kind) -> Option<V1Cuts>

@@ -20,8 +20,8 @@ pub(crate) fn hash_file<S: Shelf>(
     buffer: &mut [u8],
 ) -> Result<FileHashes, FileFault>
     requires { 0 < length buffer.old }
-    ensures visits { VisitsFile S.opens S.closes S.faults S.under S.File.seen kind.now.piece_length
-        kind.now.hybrid shelf.old (map (λ s. s.now) path.now) shelf.new result }
+    ensures visits { VisitsFile S.Shelf S.File.seen kind.now.piece_length kind.now.hybrid
+        shelf.old (map (λ s. s.now) path.now) shelf.new result }
     ensures kept { (p : List (List ℕ)) → S.under shelf.new p ≡ S.under shelf.old p }
     ensures buffer { length buffer.new ≡ length buffer.old }
 {

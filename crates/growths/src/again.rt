@@ -1,5 +1,5 @@
 //! Calls on bytes, made again if memory was refused.
-use benc::{FaultKind, decode, spelling_len};
+use benc::{FaultKind, decode};
 use metainfo::{Refusal, Torrent};
 use session::{NoMemory, NodeMap, Session};
 use std::io;
@@ -9,7 +9,7 @@ pub(crate) fn tell(rt: &HostRuntime, call: &str) -> io::Result<()> {
     eprintln!(rt; "refused: {call}")
 }
 
-/// Decodes the bytes, and prints how long the value's spelling is.
+/// Decodes the bytes, and prints the value.
 pub(crate) fn decode_again(rt: &HostRuntime, bytes: &[u8]) -> io::Result<()> {
     let mut answer = decode(rt.alloc(), bytes);
     if let Err(fault) = answer
@@ -19,7 +19,7 @@ pub(crate) fn decode_again(rt: &HostRuntime, bytes: &[u8]) -> io::Result<()> {
         answer = decode(rt.alloc(), bytes);
     }
     match answer {
-        Ok(value) => println!(rt; "decoded {}", spelling_len(&value)),
+        Ok(value) => println!(rt; "decoded {value:?}"),
         Err(fault) => println!(rt; "{fault}"),
     }
 }

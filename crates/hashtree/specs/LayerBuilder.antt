@@ -7,7 +7,7 @@ use Rattle.hashtree.specs.RootBuilder.{IsFed, complete_nodes}
 use Rattle.hashtree.specs.RootBuilder as root
 use Rattle.hashtree.specs.declared.layer.LayerBuilder.{LayerBuilder}
 
--- how many bytes the builder was given; after a refusal, no more than these
+-- how many bytes the builder has taken; after a refusal some of the last call may be missing
 abbrev pub byte_count : LayerBuilder → ℕ
 byte_count b = root.byte_count b.builder
 

@@ -1,4 +1,4 @@
-//! What holds of the tree of each file. A proof that calls one of these has its law.
+//! What holds of the tree of each file. A function that calls one of these knows its law.
 
 ghost use Rattle.hashtree.specs.Laws.{LeavesAreDigests, NodesJoinChildren, PadsAreZeroHashes, TopIsRoot, LayersLeadToRoot};
 

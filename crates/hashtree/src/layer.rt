@@ -28,7 +28,7 @@ impl LayerBuilder {
         ensures count { byte_count result ≡ 0 }
         ensures layer { chosen_layer result ≡ layer }
         ensures content { IsFedLayer result [] }
-        ensures works { HasRefused result → ⊥ }
+        ensures works { ¬ HasRefused result }
         ensures no_memory { spare result ≡ 0 }
     {
         LayerBuilder {
@@ -37,24 +37,6 @@ impl LayerBuilder {
             hashes: Vec::new(alloc),
             is_refused: false,
         }
-    }
-
-    /// A builder of this layer that was given nothing, with room for so many hashes. It fails only
-    /// if memory for these is refused, and the builder takes memory only for more.
-    pub fn with_capacity(alloc: Global, layer: u32, hashes: usize) -> Result<LayerBuilder, NoMemory>
-        ensures count { IfOk result (λ builder. byte_count builder ≡ 0) }
-        ensures layer { IfOk result (λ builder. chosen_layer builder ≡ layer) }
-        ensures content { IfOk result (λ builder. IsFedLayer builder []) }
-        ensures works { IfOk result (λ builder. HasRefused builder → ⊥) }
-        ensures room { IfOk result (λ builder. hashes ≤ spare builder) }
-        ensures no_memory { OnErr result (0 < hashes) }
-    {
-        Ok(LayerBuilder {
-            builder: RootBuilder::new(),
-            layer,
-            hashes: Vec::with_capacity(alloc, hashes)?,
-            is_refused: false,
-        })
     }
 
     /// How many bytes were pushed; after a failure, at least as many as before it.
@@ -85,7 +67,7 @@ impl LayerBuilder {
         ensures content { OnOk result (FeedsLayer self.old self.new bytes.now) }
         ensures refused { OnErr result (HasRefused self.new) }
         ensures again { HasRefused self.old → IsErr result }
-        ensures works { OnOk result (HasRefused self.new → ⊥) }
+        ensures works { OnOk result (¬ HasRefused self.new) }
         ensures memory { OnErr result ((file : List ℕ) → IsFedLayer self.old file
             → HasRefused self.old ⊎ TakesMemory self.old (length bytes.now)) }
         // After a refusal too a caller may go on, and finish.

@@ -1,6 +1,6 @@
 //! The root of a file's tree, from its bytes.
 
-ghost use Rattle.std.specs.Prelude.{◌≡◌, ℕ, ◌+◌, ◌*◌, ◌^◌, ◌<◌, ◌≤◌, ◌↔◌, ◌++◌, [], IsSome, IsTrue, List, OnSome, length, take};
+ghost use Rattle.std.specs.Prelude.{◌≡◌, ℕ, ◌+◌, ◌*◌, ◌^◌, ◌<◌, ◌≤◌, ◌↔◌, ◌++◌, [], IsTrue, List, OnSome, length, take};
 ghost use Rattle.hashtree.specs.Tree.{block_count, height, layer_of};
 
 use crate::node::{Hash, PAD_LEAF};
@@ -8,6 +8,7 @@ use crate::peaks::Peaks;
 use crate::shape::{BLOCK_LENGTH, Shape};
 use sha2::{Digest, Sha256};
 
+// Bytes in a block, as slices count them.
 const BLOCK: usize = BLOCK_LENGTH as usize;
 
 /// Computes the length and the root of a file's tree from its bytes, which come in parts of any

@@ -1,6 +1,6 @@
 //! The shape of a file's tree, which its length alone decides.
 
-ghost use Rattle.std.specs.Prelude.{◌≡◌, ℕ, ◌+◌, ◌-◌, ◌*◌, ◌/◌, ◌^◌, ◌<◌, ◌≤◌, List, length, IfSome, IsSome, ◌↔◌, min};
+ghost use Rattle.std.specs.Prelude.{◌≡◌, ℕ, ◌-◌, ◌*◌, ◌^◌, ◌<◌, ◌≤◌, List, length, IfSome, IsSome, ◌↔◌, min};
 ghost use Rattle.hashtree.specs.Tree.{block, block_count, first_pad, height};
 
 use std::marker::Model;
@@ -10,6 +10,9 @@ pub const BLOCK_LENGTH: u64 = 16384;
 
 /// Bytes in the longest file that has a tree here: 2^32 blocks, so a tree of height 32.
 pub const MAX_LENGTH: u64 = 1 << 46;
+
+// The height of the highest tree.
+const MAX_HEIGHT: u32 = 32;
 
 /// The shape of a file's tree. Contracts see it as the file's length in bytes.
 #[derive(Clone, Copy, Debug, PartialEq, Eq)]
@@ -70,12 +73,12 @@ impl Shape {
         ensures bound { result ≤ 32 }
     {
         let blocks = self.blocks();
-        for height in 0..32u32 {
+        for height in 0..MAX_HEIGHT {
             if blocks <= 1u64 << height {
                 return height;
             }
         }
-        32
+        MAX_HEIGHT
     }
 
     /// How many bytes the block of this number has. Condition: the number is below

@@ -5,6 +5,7 @@ use Rattle.std.proofs.Math.Seq.{take-length}
 use Rattle.std.proofs.lemmas.Grind.{flat_map-append}
 use Rattle.std.specs.List.{flat_map, join_with_byte}
 use Rattle.hex.specs.Hex.{encode_lower}
+use Rattle.metainfo.specs.FileTree.{slash}
 use Rattle.lines.specs.Text.{is_special, escape_of, escaped, path_text}
 
 -- what is escaped of the first bytes, and what is to come
@@ -33,7 +34,7 @@ part_more text start i le l =
     ap (λ k. take k (drop start text)) n ∙ take_more (drop start text) (i - start) 0 there
     ∙ ap (λ b. take (i - start) (drop start text) ++ b ∷ []) (get_or-drop start text (i - start) 0 ∙ ap (slice_index text) at)
 
--- the text, cut at one byte, where what is escaped so far is cut into what went out and a part that is to come
+-- the text, cut at one byte, if what is escaped so far is what went out and a part that is to come
 pub cut_at : (text : List ℕ) (i : ℕ) (sent part : List ℕ) → escaped (take i text) ≡ sent ++ part → escaped text ≡ sent ++ (part ++ escaped (drop i text))
 cut_at text i sent part e = escaped_split text i ∙ ap (λ t. t ++ escaped (drop i text)) e ∙ append_assoc sent part (escaped (drop i text))
 
@@ -64,13 +65,13 @@ pub at_end : (text : List ℕ) (i start : ℕ) (sent : List ℕ) → i ≡ lengt
 at_end text i start sent all e =
     ap escaped (sym (take-length text)) ∙ ap (λ k. escaped (take k text)) (sym all) ∙ e ∙ ap (λ k. sent ++ take (k - start) (drop start text)) all
 
--- components of a path behind the first one
+-- components of a path after the first one
 abbrev pub tail_text : List (List ℕ) → List ℕ
-tail_text parts = flat_map (λ part. 47 ∷ escaped part) parts
+tail_text parts = flat_map (λ part. slash ∷ escaped part) parts
 
--- a path is its first component and those behind it
+-- a path is its first component and those after it
 pub path_text-cons : (first : List ℕ) (others : List (List ℕ)) → path_text (first ∷ others) ≡ escaped first ++ tail_text others
 path_text-cons first [] = sym (append-nil (escaped first))
 path_text-cons first (next ∷ others) =
-    flat_map-append escape_of first (47 ∷ join_with_byte 47 (next ∷ others))
-    ∙ ap (λ t. escaped first ++ (47 ∷ t)) (path_text-cons next others)
+    flat_map-append escape_of first (slash ∷ join_with_byte slash (next ∷ others))
+    ∙ ap (λ t. escaped first ++ (slash ∷ t)) (path_text-cons next others)

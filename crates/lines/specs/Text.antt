@@ -2,10 +2,13 @@
 use Rattle.std.specs.Prelude.{ℕ, List, [], ◌∷◌, ◌++◌, codes, Bool, nat_lt, ◌==◌, ◌||◌, if◌then◌else◌}
 use Rattle.std.specs.List.{flat_map, join_with_byte}
 use Rattle.hex.specs.Hex.{encode_lower}
+use Rattle.lines.specs.Ascii.{backslash, delete, space}
+use Rattle.metainfo.specs.FileTree.{slash}
 
--- the byte is not printed as it stands: it is below 0x20, 0x7F or the backslash
+-- the byte is not printed as it stands: it is below the space, the
+-- delete character or the backslash
 abbrev pub is_special : ℕ → Bool
-is_special b = nat_lt b 32 || (b == 127 || b == 92)
+is_special b = nat_lt b space || (b == delete || b == backslash)
 
 -- a byte as it is printed: a special one as `\x` and two hexadecimal digits
 abbrev pub escape_of : ℕ → List ℕ
@@ -17,4 +20,4 @@ escaped text = flat_map escape_of text
 
 -- a path as it is printed: its components, joined by `/`
 abbrev pub path_text : List (List ℕ) → List ℕ
-path_text path = escaped (join_with_byte 47 path)
+path_text path = escaped (join_with_byte slash path)

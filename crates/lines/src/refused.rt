@@ -1,7 +1,6 @@
 //! The line of a refusal.
-ghost use Rattle.std.specs.Prelude.{◌≡◌, ◌≢◌, ◌+◌, ◌++◌, ◌∷◌, ◌≤◌, length, map, OnOk, string_bytes, true};
+ghost use Rattle.std.specs.Prelude.{◌≡◌, ◌≢◌, ◌+◌, ◌++◌, ◌≤◌, codes, length, map, OnOk, string_bytes, true};
 ghost use Rattle.benc.specs.Device.{Wrote, WroteAndFlushed};
-ghost use Rattle.metainfo.specs.Names.{refusal_number};
 ghost use Rattle.lines.specs.Refused.{detail_text, path_part, refusal_head, refusal_text};
 
 use crate::line::Line;
@@ -14,8 +13,8 @@ use metainfo::Refusal;
 ///
 /// Condition: the refusal is neither `NoMemory` nor `Write`, which are no answers about a torrent.
 pub fn refusal_line<W: Sink>(r: &Refusal, path: &[String], out: &mut W) -> Result<(), WriteFault>
-    requires memory { refusal_number r.now ≢ 21 }
-    requires sink { refusal_number r.now ≢ 23 }
+    requires memory { r.now ≢ Refusal.NoMemory }
+    requires sink { r.now ≢ Refusal.Write }
     ensures { WroteAndFlushed (W.seen out.old) (W.seen out.new) result
         (refusal_text r.now (map string_bytes path.now)) }
 {
@@ -32,7 +31,7 @@ fn write_refusal<W: Sink>(r: &Refusal, path: &[String], out: &mut W) -> Result<(
     write_all(out, b"\n")
 }
 
-// Writes the path behind a space, if there is one.
+// Writes the path after a space, if there is one.
 fn write_path_part<W: Sink>(path: &[String], out: &mut W) -> Result<(), DeviceFault>
     ensures { Wrote (W.seen out.old) (W.seen out.new) result
         (path_part (map string_bytes path.now)) }
@@ -76,7 +75,7 @@ fn head(r: &Refusal) -> Line
 // Puts a space and a word at the end.
 fn put_word(line: &mut Line, word: &str)
     requires { length line.old + length word.now ≤ 200 }
-    ensures text { line.new ≡ line.old ++ 32 ∷ word.now }
+    ensures text { line.new ≡ line.old ++ (codes " " ++ word.now) }
     ensures len { length line.new ≡ length line.old + 1 + length word.now }
 {
     line.put(b" ");

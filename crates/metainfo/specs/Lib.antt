@@ -1,13 +1,21 @@
 -- What contracts of torrents cite.
+pub use Rattle.drafts.specs.Adding
+pub use Rattle.drafts.specs.DraftLaws
+pub use Rattle.drafts.specs.Finishing
+pub use Rattle.drafts.specs.Outline
+pub use Rattle.drafts.specs.Written
 pub use Rattle.filetree.specs.Dictionary
 pub use Rattle.filetree.specs.FileTree
 pub use Rattle.filetree.specs.Names
 pub use Rattle.filetree.specs.Paths
+pub use Rattle.filetree.specs.Shape
 pub use Rattle.filetree.specs.Tests
+pub use Rattle.filetree.specs.TreeLaws
 pub use Rattle.filetree.specs.TreeTests
 pub use Rattle.opening.specs.Blocks
 pub use Rattle.opening.specs.Description
 pub use Rattle.opening.specs.Describes
+pub use Rattle.opening.specs.Laws
 pub use Rattle.opening.specs.PieceLayers
 pub use Rattle.opening.specs.Places
 pub use Rattle.opening.specs.Refusals
@@ -15,7 +23,6 @@ pub use Rattle.opening.specs.Seen
 pub use Rattle.opening.specs.Sound
 pub use Rattle.opening.specs.Stream
 pub use Rattle.opening.specs.Trees
-pub use Rattle.opening.specs.Laws
 pub use Rattle.pieces.specs.Cuts
 pub use Rattle.pieces.specs.Feeding
 pub use Rattle.pieces.specs.FileCuts

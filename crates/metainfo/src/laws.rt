@@ -4,5 +4,6 @@
 pub use drafts::laws::{draft_describes, draft_is_outline};
 pub use filetree::laws::{order_is_apart, shape_is_told, walks_are_all, walks_are_safe};
 pub use opening::laws::{
-    refusal_is_one, torrent_is_not_refused, torrent_is_one, torrent_or_refusal,
+    place_is_block_place, refusal_is_one, torrent_is_not_refused, torrent_is_one,
+    torrent_or_refusal,
 };

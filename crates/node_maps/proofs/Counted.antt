@@ -1,12 +1,12 @@
 -- The pages of trimmed rows are those that have a known place.
-use Rattle.std.proofs.Common.{◌≡◌, ◌⊎◌, ℕ, zero, suc, ◌+◌, ◌*◌, ◌/◌, ◌%◌, ◌^◌, ◌<◌, Bool, true, false, cond, eqb, ◌&&◌, ◌||◌, List, [], ◌∷◌, length, get_or, Option, Some, None, IsSome, is_some, Ordering, Less, Equal, Greater, inl, inr, refl, sym, ap, ap₂, ◌∙◌, subst, arith}
+use Rattle.std.proofs.Common.{◌≡◌, ◌⊎◌, ℕ, zero, suc, ◌+◌, ◌*◌, ◌/◌, ◌%◌, ◌^◌, ◌<◌, Bool, true, false, cond, eqb, ◌&&◌, ◌||◌, List, [], ◌∷◌, length, get_or, Option, Some, None, IsSome, is_some, inl, inr, refl, sym, ap, ap₂, ◌∙◌, subst, arith}
 use Rattle.std.specs.Prelude.{slice_get}
 use Rattle.std.specs.Option.{option_and_then, option_map, unwrap_or}
 use Rattle.std.specs.List.{list_any}
 use Rattle.std.specs.FinMap as map
 use Rattle.std.specs.FinSet as set
 use Rattle.std.specs.FinSet.{same_set, nat_cmp-IsAntisymmetric}
-use Rattle.std.specs.Ordering.{nat_cmp, eq_by_cmp, is_eq, ordering_then}
+use Rattle.std.specs.Ordering.{nat_cmp, eq_by_cmp}
 use Rattle.std.specs.Cmp.{nat_cmp_total}
 use Rattle.std.proofs.lemmas.Bool.{cases_eq, eq-eqb, ne_eqb, false≢true, and_parts}
 use Rattle.std.proofs.lemmas.Bool.Decides.{nat_tests}
@@ -21,22 +21,14 @@ use Rattle.node_maps.specs.Pages.{Numbered, marks_where, cell_of, cell_in, is_am
 use Rattle.node_maps.specs.PagedRow.{pages_of}
 use Rattle.node_maps.proofs.Numbers.{counted-none, counted-are}
 use Rattle.node_maps.specs.Paged.{hashes, HoldsTree, row_pages, held_below, held_pages, AreTrimmed}
-use Rattle.node_maps.proofs.Known.{nat_equal}
+use Rattle.node_maps.proofs.Known.{nat_equal, same_place}
+use Rattle.node_maps.proofs.Pages.{or_right}
 use Rattle.node_maps.proofs.Paging.{look-hashes}
 
 both_ways : (a b : Bool) → (a ≡ true → b ≡ true) → (b ≡ true → a ≡ true) → a ≡ b
 both_ways true b f g = sym (f refl)
 both_ways false true f g = g refl
 both_ways false false f g = refl
-
-then_equal : (o p : Ordering) → is_eq (ordering_then o p) ≡ (is_eq o && is_eq p)
-then_equal Less p = refl
-then_equal Equal p = refl
-then_equal Greater p = refl
-
--- the test of a place
-same_place : (l i l' i' : ℕ) → eq_by_cmp place_cmp (l', i') (l, i) ≡ (eqb l' l && eqb i' i)
-same_place l i l' i' = then_equal (nat_cmp l' l) (nat_cmp i' i) ∙ ap₂ ◌&&◌ (nat_equal l' l) (nat_equal i' i)
 
 eqb-turned : (a b : ℕ) → eqb a b ≡ eqb b a
 eqb-turned a b = grind (arith, nat_tests)
@@ -55,10 +47,6 @@ or_first : (a b : Bool) → a ≡ true → (a || b) ≡ true
 or_first true b e = refl
 or_first false b e = absurd (false≢true e)
 
-or_second : (a b : Bool) → b ≡ true → (a || b) ≡ true
-or_second true b e = refl
-or_second false b e = e
-
 same_numbers : (a b : ℕ) → eqb a b ≡ true → a ≡ b
 same_numbers a b e = elim (cases_eq a b) [ inl same ↦ same | inr other ↦ absurd (false≢true (sym (ne_eqb a b other) ∙ e)) ]
 
@@ -72,7 +60,7 @@ number-place l q [] e = absurd (false≢true e)
 number-place l q (place ∷ places) e = by_layer (number-place l q places) (eqb place.0 l) refl e
   where
     later : ((i : ℕ) × (i / 512 ≡ q) × (place_there l i places ≡ true)) → (i : ℕ) × (i / 512 ≡ q) × (place_there l i (place ∷ places) ≡ true)
-    later (i, is, there) = (i, is, or_second (eq_by_cmp place_cmp (l, i) place) (list_any (eq_by_cmp place_cmp (l, i)) places) there)
+    later (i, is, there) = (i, is, or_right (eq_by_cmp place_cmp (l, i) place) (list_any (eq_by_cmp place_cmp (l, i)) places) there)
 
     by_layer : (is_among q (numbers_on l places) ≡ true → (i : ℕ) × (i / 512 ≡ q) × (place_there l i places ≡ true)) → (b : Bool) → eqb place.0 l ≡ b
         → is_among q (cond b (place.1 / 512 ∷ numbers_on l places) (numbers_on l places)) ≡ true → (i : ℕ) × (i / 512 ≡ q) × (place_there l i (place ∷ places) ≡ true)
@@ -97,7 +85,7 @@ place-number l i (place ∷ places) e = by_layer (place-number l i places) (eqb 
     by_layer rest true is (inl here) =
         let parts = and_parts (eqb l place.0) (eqb i place.1) (sym (same_place place.0 place.1 l i) ∙ here) in
         or_first (eqb (place.1 / 512) (i / 512)) (is_among (i / 512) (numbers_on l places)) (eq-eqb (place.1 / 512) (i / 512) (ap (λ k. k / 512) (sym (same_numbers i place.1 parts.1))))
-    by_layer rest true is (inr more) = or_second (eqb (place.1 / 512) (i / 512)) (is_among (i / 512) (numbers_on l places)) (rest more)
+    by_layer rest true is (inr more) = or_right (eqb (place.1 / 512) (i / 512)) (is_among (i / 512) (numbers_on l places)) (rest more)
     by_layer rest false is (inl here) =
         let parts = and_parts (eqb l place.0) (eqb i place.1) (sym (same_place place.0 place.1 l i) ∙ here) in
         absurd (false≢true (sym is ∙ eqb-turned place.0 l ∙ parts.0))

@@ -39,7 +39,7 @@ nat_equal a b = elim (cases_lt a b) [
     by_test false = refl
 
 -- the test of a place
-same_place : (l i l' i' : ℕ) → eq_by_cmp place_cmp (l', i') (l, i) ≡ (eqb l' l && eqb i' i)
+pub same_place : (l i l' i' : ℕ) → eq_by_cmp place_cmp (l', i') (l, i) ≡ (eqb l' l && eqb i' i)
 same_place l i l' i' = then_equal (nat_cmp l' l) (nat_cmp i' i) ∙ ap₂ ◌&&◌ (nat_equal l' l) (nat_equal i' i)
 
 pub look-insert : (m : Known) (l i : ℕ) (h : Hash) (l' i' : ℕ) → look (insert m (l, i) h) l' i' ≡ cond (eqb l' l && eqb i' i) (Some h) (look m l' i')

@@ -6,7 +6,7 @@ use Rattle.node_maps.specs.declared.page.Cell.{Cell}
 use Rattle.node_maps.specs.declared.page.Cell.TheVariants.{Empty, Known, Marked}
 use Rattle.node_maps.specs.declared.page.Page.{Page}
 use Rattle.node_maps.specs.Digest.{Hash}
-use Rattle.node_maps.specs.Cell.{is_blank, is_empty, mark_of, with_hash}
+use Rattle.node_maps.specs.Cell.{is_blank, mark_of, with_hash}
 use Rattle.std.proofs.lemmas.List.{get_or-set_same, get_or-set_other}
 use Rattle.std.specs.Bool.{OnTrue}
 use Rattle.std.specs.Option.{option_map}
@@ -32,11 +32,17 @@ still_among r q left other e = or-false-right (is_among r left) (eqb q r) (ne_eq
     or-false-right true b f e = refl
     or-false-right false b f e = absurd (false≢true (sym f ∙ e))
 
-or_right : (a b : Bool) → b ≡ true → (a || b) ≡ true
+pub or_right : (a b : Bool) → b ≡ true → (a || b) ≡ true
 or_right true b e = refl
 or_right false b e = e
 
 -- ---- cells
+
+-- whether the cell holds nothing
+abbrev is_empty : Cell → Bool
+is_empty Empty = true
+is_empty (Known h) = false
+is_empty (Marked h) = false
 
 pub blank-empty : (cs : List Cell) (o : ℕ) → is_blank cs ≡ true → get_or cs o Empty ≡ Empty
 blank-empty [] o e = refl

@@ -4,6 +4,10 @@ use Rattle.node_maps.specs.declared.page.Cell.{Cell}
 use Rattle.node_maps.specs.declared.page.Cell.TheVariants.{Empty, Known, Marked}
 use Rattle.node_maps.specs.Digest.{Hash}
 
+-- how many cells a page has
+abbrev pub page_length : ℕ
+page_length = 512
+
 -- the hash of a cell
 abbrev pub hash_of : Cell → Option Hash
 hash_of Empty = None
@@ -23,12 +27,6 @@ mark_of (Marked h) = true
 -- the cell with a hash, and with a mark, if it has one or is to have one
 abbrev pub with_hash : Cell → Hash → Bool → Cell
 with_hash cell hash mark = (if mark || mark_of cell then Marked hash else Known hash)
-
--- whether the cell holds nothing
-abbrev pub is_empty : Cell → Bool
-is_empty Empty = true
-is_empty (Known h) = false
-is_empty (Marked h) = false
 
 -- whether no cell holds anything
 abbrev pub is_blank : List Cell → Bool

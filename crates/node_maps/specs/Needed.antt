@@ -1,4 +1,5 @@
--- How many pages a content takes.
+-- How many pages a content takes. Its lemmas stand here, since the ways to keep a tree cite the
+-- last two of them, and code may cite no file of its own crate's proofs.
 use Rattle.std.proofs.Common.{◌≡◌, ℕ, zero, suc, ◌+◌, ◌≤◌, Bool, true, false, if◌then◌else◌, List, [], ◌∷◌, length, sym, ap, ◌∙◌, arith}
 use Rattle.std.specs.FinMap as map
 use Rattle.std.specs.FinSet as set

@@ -5,9 +5,9 @@ use Rattle.std.specs.Option.{option_and_then, option_map, unwrap_or}
 use Rattle.node_maps.specs.declared.paged_row.PagedRow.{PagedRow}
 use Rattle.node_maps.specs.declared.page.Cell.{Cell}
 use Rattle.node_maps.specs.Digest.{Hash}
-use Rattle.node_maps.specs.Places.{PartialTree, IsTreePlace}
+use Rattle.node_maps.specs.Places.{PartialTree, IsTreePlace, most_layers}
 use Rattle.node_maps.specs.Known.{Marked}
-use Rattle.node_maps.specs.Cell.{hash_of, mark_of}
+use Rattle.node_maps.specs.Cell.{hash_of, mark_of, page_length}
 use Rattle.node_maps.specs.declared.page.Page.{Page}
 use Rattle.node_maps.specs.Pages.{marks_where, cell_of, AreSpare}
 use Rattle.node_maps.specs.PagedRow.{pages_of}
@@ -19,7 +19,7 @@ page_at rows l n =
 
 -- the cell of a place
 abbrev pub cell_at : List PagedRow → ℕ → ℕ → Cell
-cell_at rows l i = cell_of (page_at rows l (i / 512)) (i % 512)
+cell_at rows l i = cell_of (page_at rows l (i / page_length)) (i % page_length)
 
 -- the hashes that the cells hold
 abbrev pub hashes : List PagedRow → PartialTree
@@ -28,7 +28,7 @@ hashes rows l i = hash_of (cell_at rows l i)
 -- the place lies in a tree of height h and has a page
 pub record HasPage (h : ℕ) (rows : List PagedRow) (l i : ℕ) : Type 0 where
   pub place : IsTreePlace h l i
-  pub page : IsSome (page_at rows l (i / 512))
+  pub page : IsSome (page_at rows l (i / page_length))
 
 -- each cell that holds a hash is that of a place of a tree of height h
 pub record HoldsTree (h : ℕ) (rows : List PagedRow) : Type 0 where
@@ -49,7 +49,7 @@ held_below rows (suc l) = held_below rows l + row_pages rows l
 
 -- how many pages there are
 unfoldable pub held_pages : List PagedRow → ℕ
-held_pages rows = held_below rows 33
+held_pages rows = held_below rows most_layers
 
 -- no page is there that holds nothing
 pub record AreTrimmed (rows : List PagedRow) (top : ℕ) : Type 0 where

@@ -20,8 +20,8 @@ abbrev pub row_hashes : PagedRow → LayerHashes
 row_hashes row i = hash_of (cell_of_row row i)
 
 -- there is a page of this number
-abbrev pub HasNumber : PagedRow → ℕ → Type 0
-HasNumber row n = IsSome (pages_of row n)
+abbrev pub HasRowPage : PagedRow → ℕ → Type 0
+HasRowPage row n = IsSome (pages_of row n)
 
 -- every place has the cell that it had
 abbrev pub AreSameRowCells : PagedRow → PagedRow → Type 0
@@ -32,9 +32,9 @@ abbrev pub AreSameRowCellsBut : ℕ → PagedRow → PagedRow → Type 0
 AreSameRowCellsBut index old new = (i : ℕ) → i ≢ index → cell_of_row new i ≡ cell_of_row old i
 
 -- each page that was there is there
-abbrev pub KeepsPages : PagedRow → PagedRow → Type 0
-KeepsPages old new = (n : ℕ) → HasNumber old n → HasNumber new n
+abbrev pub KeepsRowPages : PagedRow → PagedRow → Type 0
+KeepsRowPages old new = (n : ℕ) → HasRowPage old n → HasRowPage new n
 
 -- the pages from one number on up to another are there
-abbrev pub HasNumbers : PagedRow → ℕ → ℕ → Type 0
-HasNumbers row first end = (n : ℕ) → first ≤ n → n < end → HasNumber row n
+abbrev pub HasRowPages : PagedRow → ℕ → ℕ → Type 0
+HasRowPages row first end = (n : ℕ) → first ≤ n → n < end → HasRowPage row n

@@ -4,7 +4,7 @@ use Rattle.std.specs.FinSet as set
 use Rattle.node_maps.specs.declared.page.Cell.{Cell}
 use Rattle.node_maps.specs.declared.page.Cell.TheVariants.{Empty}
 use Rattle.node_maps.specs.declared.page.Page.{Page}
-use Rattle.node_maps.specs.Cell.{is_blank, with_hash}
+use Rattle.node_maps.specs.Cell.{is_blank, page_length, with_hash}
 use Rattle.node_maps.specs.Digest.{Hash}
 use Rattle.node_maps.specs.Known.{Marked}
 use Rattle.node_maps.specs.Rising.{page_numbered}
@@ -34,7 +34,7 @@ is_spare (Some p) = is_blank p.cells.items
 
 -- the cell of a place of the layer
 abbrev pub cell_in : Numbered → ℕ → Cell
-cell_in pages i = cell_of (pages (i / 512)) (i % 512)
+cell_in pages i = cell_of (pages (i / page_length)) (i % page_length)
 
 -- each number has the page that it had
 abbrev pub AreAlike : Numbered → Numbered → Type 0

@@ -7,6 +7,10 @@ use Rattle.node_maps.specs.Digest.{Hash}
 abbrev pub tree_height : ℕ → ℕ
 tree_height len = height (block_count len)
 
+-- how many layers a tree has at most: its height is at most 32
+abbrev pub most_layers : ℕ
+most_layers = 33
+
 -- what is known at the place (layer, index)
 abbrev pub PartialTree : Type 0
 PartialTree = ℕ → ℕ → Option Hash

@@ -2,6 +2,7 @@
 
 ghost use Rattle.std.specs.Prelude.{◌≡◌, ℕ, ◌<◌, Some, None, IsSome, OnOk, OnErr, option_map};
 ghost use Rattle.std.specs.Bool.{OnTrue};
+ghost use Rattle.node_maps.specs.Cell.{page_length};
 ghost use Rattle.node_maps.specs.Pages.{Numbered, IsChanged, AreAlike, IsPut};
 
 use crate::page::Page;
@@ -13,8 +14,8 @@ pub(crate) trait Directory: Drop {
     /// The page of a number, if there is one.
     ghost find: { Self → Numbered };
 
-    /// No page. It is for numbers that differ in their last `bits` bits alone, but serves all.
-    /// Takes no memory. Condition: `bits` is below 64.
+    /// No page. It is fast for numbers that differ only in their last `bits` bits, and right for
+    /// all. Takes no memory. Condition: `bits` is below 64.
     fn new(alloc: Global, bits: u32) -> Self
     where
         Self: Sized,
@@ -29,7 +30,7 @@ pub(crate) trait Directory: Drop {
     /// a page of this number, and the place is below 512.
     fn put(&mut self, number: u64, place: usize, hash: Hash, mark: bool)
         requires there { IsSome (find self.old number) }
-        requires place { place < 512 }
+        requires place { place < page_length }
         ensures here { IsPut place hash mark (find self.old number) (find self.new number) }
         ensures others { IsChanged number (find self.new number) (find self.old)
             (find self.new) };

@@ -5,11 +5,11 @@ mod directory;
 mod flat;
 mod node_map;
 mod page;
+mod page_list;
+mod page_lists;
 mod paged;
 mod paged_row;
 mod search;
-mod shelf;
-mod shelves;
 
 pub use flat::Flat;
 pub use node_map::NodeMap;

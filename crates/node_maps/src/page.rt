@@ -3,7 +3,7 @@
 ghost use Rattle.std.specs.Prelude.{◌≡◌, ◌≢◌, ◌+◌, ◌<◌, ◌≤◌, ◌++◌, ◌↔◌, replicate, length, set, slice_index_or, Some, IfOk, IsTrue, vec_len};
 ghost use Rattle.std.specs.Vec.{vec_capacity};
 ghost use Rattle.node_maps.specs.declared.page.Cell.TheVariants.{Empty};
-ghost use Rattle.node_maps.specs.Cell.{hash_in, is_blank, with_hash};
+ghost use Rattle.node_maps.specs.Cell.{hash_in, is_blank, page_length, with_hash};
 ghost use Rattle.node_maps.specs.Runs.{AreKnown, hashes_from};
 
 use hashtree::{Hash, NoMemory};
@@ -60,13 +60,13 @@ impl Cell {
 #[derive(Drop)]
 pub(crate) struct Page {
     cells: Vec<Cell>,
-    ghost long: { length cells.items ≡ 512 },
+    ghost long: { length cells.items ≡ page_length },
 }
 
 impl Page {
     /// A page that holds nothing. It is filled on the heap.
     pub(crate) fn blank(alloc: Global) -> Result<Page, NoMemory>
-        ensures { IfOk result (λ page. page.cells.items ≡ replicate 512 Empty) }
+        ensures { IfOk result (λ page. page.cells.items ≡ replicate page_length Empty) }
     {
         let mut cells = Vec::with_capacity(alloc, PAGE_LENGTH)?;
         cells.resize(PAGE_LENGTH, Cell::Empty)?;
@@ -75,7 +75,7 @@ impl Page {
 
     /// The cell of a place. Condition: the place is below 512.
     pub(crate) fn cell(&self, place: usize) -> Cell
-        requires { place < 512 }
+        requires { place < page_length }
         ensures { result ≡ slice_index_or self.now.cells.items place Empty }
     {
         self.cells[place]
@@ -83,7 +83,7 @@ impl Page {
 
     /// Whether `count` places hold a hash, from one on. Condition: `first + count` is at most 512.
     pub(crate) fn knows(&self, first: usize, count: usize) -> bool
-        requires { first + count ≤ 512 }
+        requires { first + count ≤ page_length }
         ensures { IsTrue result ↔ AreKnown (hash_in self.now.cells.items) first count }
     {
         all_hold_hashes(&self.cells[first..first + count])
@@ -92,7 +92,7 @@ impl Page {
     /// Appends the hashes of `count` places that hold one, from one on, to a list that has room for
     /// them. Condition: `first + count` is at most 512.
     pub(crate) fn copy_to(&self, first: usize, count: usize, out: &mut Vec<Hash>)
-        requires inside { first + count ≤ 512 }
+        requires inside { first + count ≤ page_length }
         requires known { AreKnown (hash_in self.now.cells.items) first count }
         requires room { vec_len out.old + count ≤ vec_capacity out.old }
         ensures copied { out.new.items
@@ -106,7 +106,7 @@ impl Page {
     /// Writes the hash of a place, and marks it, if `mark` says so. A mark that is there stays.
     /// Condition: the place is below 512.
     pub(crate) fn put(&mut self, place: usize, hash: Hash, mark: bool)
-        requires { place < 512 }
+        requires { place < page_length }
         ensures { self.new.cells.items ≡ set self.old.cells.items place
             (with_hash (slice_index_or self.old.cells.items place Empty) hash mark) }
     {

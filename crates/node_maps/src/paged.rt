@@ -2,9 +2,9 @@
 
 ghost use Rattle.std.specs.Prelude.{◌≡◌, ◌≢◌, ◌⊎◌, ℕ, ◌+◌, ◌-◌, ◌/◌, ◌%◌, ◌^◌, ◌<◌, ◌≤◌, ◌++◌, ◌↔◌, Some, IsSome, IsOk, IsTrue, OnOk, OnErr, length, vec_len};
 ghost use Rattle.std.specs.Vec.{vec_capacity};
-ghost use Rattle.node_maps.specs.Places.{tree_height};
+ghost use Rattle.node_maps.specs.Places.{most_layers, tree_height};
 ghost use Rattle.node_maps.specs.declared.page.Cell.TheVariants.{Empty};
-ghost use Rattle.node_maps.specs.Cell.{mark_of, with_hash};
+ghost use Rattle.node_maps.specs.Cell.{mark_of, page_length, with_hash};
 ghost use Rattle.node_maps.specs.Known.{tabulate, within};
 ghost use Rattle.node_maps.specs.Held.{page_count};
 ghost use Rattle.node_maps.specs.Paged.{AreAsMany, AreSamePagedCells, AreSamePagedCellsBut, HasPages, KeepPages, page_at, cell_at, hashes, HasPage, HoldsTree, marked_cells, row_pages, held_below, held_pages, AreTrimmed};
@@ -143,7 +143,7 @@ fn copy_hashes(rows: &[PagedRow], layer: u32, from: u64, count: u64, out: &mut V
 
 // Writes the hash of a place that has a page, and marks it, if `mark` says so.
 fn write_cell(rows: &mut Vec<PagedRow>, layer: u32, index: u64, hash: Hash, mark: bool)
-    requires page { IsSome (page_at rows.old.items layer (index / 512)) }
+    requires page { IsSome (page_at rows.old.items layer (index / page_length)) }
     ensures here { cell_at rows.new.items layer index
         ≡ with_hash (cell_at rows.old.items layer index) hash mark }
     ensures others { AreSamePagedCellsBut layer index rows.old.items rows.new.items }
@@ -201,7 +201,7 @@ fn trim_rows(rows: &mut Vec<PagedRow>)
 
 // How many pages there are.
 fn count_pages(rows: &[PagedRow]) -> u64
-    requires { length rows.now ≤ 33 }
+    requires { length rows.now ≤ most_layers }
     ensures { result ≡ held_pages rows.now }
 {
     let mut count = 0;

@@ -2,7 +2,7 @@
 
 ghost use Rattle.std.specs.Prelude.{◌≡◌, ◌≢◌, ℕ, ◌+◌, ◌/◌, ◌%◌, ◌^◌, ◌<◌, ◌≤◌, ◌++◌, ◌↔◌, [], Some, None, List, length, option_map, IsSome, IsOk, IsTrue, OnOk, OnErr, vec_len};
 ghost use Rattle.std.specs.Vec.{vec_capacity};
-ghost use Rattle.node_maps.specs.Cell.{with_hash};
+ghost use Rattle.node_maps.specs.Cell.{page_length, with_hash};
 ghost use Rattle.node_maps.specs.Pages.{Numbered, is_spare, AreAlike, AreSpare, AreCounted};
 ghost use Rattle.node_maps.specs.Directories.{on_rows};
 ghost use Rattle.node_maps.specs.Growth.{IsGrown, IsGrownByOne};
@@ -10,8 +10,8 @@ ghost use Rattle.node_maps.specs.Runs.{AreKnown, hashes_from};
 
 use crate::directory::Directory;
 use crate::page::{Cell, PAGE_LENGTH, Page};
-use crate::shelf::Shelf;
-use crate::shelves::Shelves;
+use crate::page_list::PageList;
+use crate::page_lists::PageLists;
 use hashtree::{Hash, NoMemory};
 use std::alloc::Global;
 
@@ -23,7 +23,7 @@ const NUMBER_BITS: u32 = 24;
 #[derive(Drop)]
 pub(crate) struct PagedRow {
     alloc: Global,
-    pages: Shelves<Shelves<Shelf>>,
+    pages: PageLists<PageLists<PageList>>,
     fresh: Vec<u64>,
     count: u64,
     ghost counted: { AreCounted (on_rows pages) count },
@@ -31,7 +31,7 @@ pub(crate) struct PagedRow {
 }
 
 impl PagedRow {
-    ghost use Rattle.node_maps.specs.PagedRow.{pages_of, AreSameRowCells, AreSameRowCellsBut, HasNumber, HasNumbers, KeepsPages, cell_of_row, row_hashes};
+    ghost use Rattle.node_maps.specs.PagedRow.{pages_of, AreSameRowCells, AreSameRowCellsBut, HasRowPage, HasRowPages, KeepsRowPages, cell_of_row, row_hashes};
 
     /// No page.
     #[tactic(auto, unfolding(crate::specs::PagedRow::pages_of))]
@@ -113,12 +113,12 @@ impl PagedRow {
     /// there stays.
     #[tactic(auto, unfolding(crate::specs::PagedRow::pages_of))]
     pub(crate) fn put(&mut self, index: u64, hash: Hash, mark: bool)
-        requires { HasNumber self.old (index / 512) }
+        requires { HasRowPage self.old (index / page_length) }
         ensures count { self.new.count ≡ self.old.count }
         ensures here { cell_of_row self.new index
             ≡ with_hash (cell_of_row self.old index) hash mark }
         ensures others { AreSameRowCellsBut index self.old self.new }
-        ensures same { KeepsPages self.old self.new }
+        ensures same { KeepsRowPages self.old self.new }
     {
         let place = (index % PAGE_LENGTH as u64) as usize;
         self.pages
@@ -131,10 +131,10 @@ impl PagedRow {
     pub(crate) fn reserve(&mut self, first: u64, end: u64) -> Result<(), NoMemory>
         requires { end ≤ 2 ^ 32 }
         ensures cells { AreSameRowCells self.old self.new }
-        ensures keeps { KeepsPages self.old self.new }
-        ensures ok { OnOk result (HasNumbers self.new first end) }
+        ensures keeps { KeepsRowPages self.old self.new }
+        ensures ok { OnOk result (HasRowPages self.new first end) }
         ensures err { OnErr result (self.new.count ≡ self.old.count) }
-        ensures no_memory { HasNumbers self.old first end → IsOk result }
+        ensures no_memory { HasRowPages self.old first end → IsOk result }
     {
         let before = self.fresh.len();
         'numbers: for number in first..end {
@@ -151,11 +151,11 @@ impl PagedRow {
     fn make(&mut self, number: u64) -> Result<(), NoMemory>
         requires { number < 2 ^ 32 }
         ensures cells { AreSameRowCells self.old self.new }
-        ensures keeps { KeepsPages self.old self.new }
+        ensures keeps { KeepsRowPages self.old self.new }
         ensures grown { IsGrownByOne (pages_of self.old) self.old.fresh.items self.old.count
             (pages_of self.new) self.new.fresh.items self.new.count }
-        ensures ok { OnOk result (HasNumber self.new number) }
-        ensures no_memory { HasNumber self.old number → IsOk result }
+        ensures ok { OnOk result (HasRowPage self.new number) }
+        ensures no_memory { HasRowPage self.old number → IsOk result }
     {
         if self.pages.page(number).is_some() {
             return Ok(());
@@ -210,11 +210,11 @@ impl Part {
     // What of `count` places, from one on, is on the page of the first.
     fn first_of(from: u64, count: u64) -> Part
         requires { 0 < count }
-        ensures number { result.number ≡ from / 512 }
-        ensures first { result.first ≡ from % 512 }
+        ensures number { result.number ≡ from / page_length }
+        ensures first { result.first ≡ from % page_length }
         ensures some { 0 < result.count }
         ensures most { result.count ≤ count }
-        ensures inside { result.first + result.count ≤ 512 }
+        ensures inside { result.first + result.count ≤ page_length }
     {
         let first = from % PAGE_LENGTH as u64;
         Part {

@@ -8,8 +8,8 @@ use Rattle.std.proofs.lemmas.List.{length-drop, map-append}
 use Rattle.std.proofs.lemmas.List.Elements.{filter-append}
 use Rattle.std.proofs.lemmas.List.Sums.{sum_by-append}
 use Rattle.benc.specs.Value.{Bencode, Items, no_items, item}
-use Rattle.filetree.specs.FileTree.{has_attribute}
-use Rattle.opening.specs.Matching.{after_entry, ends_of, entry_length, is_misplaced}
+use Rattle.filetree.specs.FileTree.{length_of, has_attribute}
+use Rattle.opening.specs.Matching.{after_entry, ends_of, is_misplaced}
 use Rattle.opening.specs.Stream.{Part, Named, entry_part, parts_of, named_part, files_in, length_in, stream_length, IsMisplaced}
 use Rattle.pieces.specs.Pieces.{pieces_of}
 use Rattle.opening.specs.declared.version1.Ends.{Ends}
@@ -75,21 +75,21 @@ abbrev pub AreEnds : ℕ → List Part → Option Ends → Type 0
 AreEnds k all None = IsMisplaced k all
 AreEnds k all (Some e) = (e.stream ≡ stream_length all) × (e.pieces ≡ pieces_end k all) × (IsMisplaced k all → ⊥)
 
-placed_here : (v : Bencode) (e : Ends) → is_misplaced v e ≡ false → has_attribute 112 v ≡ false → 0 < entry_length v → e.stream ≡ e.pieces
-placed_here v e right file some = elim (and_cases (not (has_attribute 112 v) && nat_lt 0 (entry_length v)) (not (nat_eq e.stream e.pieces)) right) [
+placed_here : (v : Bencode) (e : Ends) → is_misplaced v e ≡ false → has_attribute 112 v ≡ false → 0 < length_of v → e.stream ≡ e.pieces
+placed_here v e right file some = elim (and_cases (not (has_attribute 112 v) && nat_lt 0 (length_of v)) (not (nat_eq e.stream e.pieces)) right) [
   | inl other ↦ absurd (grind (arith, other, file, some))
   | inr same ↦ eqb-true e.stream e.pieces (grind (arith, same))
 ]
 
 pieces_by : (k : ℕ) (e : Ends) (v : Bencode) (pad : Bool) → has_attribute 112 v ≡ pad
-    → (if pad then e.pieces else e.pieces + pieces_of k (entry_length v) * k) ≡ e.pieces + pieces_end k (entry_part v ∷ [])
+    → (if pad then e.pieces else e.pieces + pieces_of k (length_of v) * k) ≡ e.pieces + pieces_end k (entry_part v ∷ [])
 pieces_by k e v true pad = sym (ap (λ t. e.pieces + t) (pieces_one k (entry_part v) true pad) ∙ add-zero e.pieces)
 pieces_by k e v false pad = ap (λ t. e.pieces + t) (sym (pieces_one k (entry_part v) false pad))
 
 one_more : (k : ℕ) (all : List Part) (i : ℕ) (e : Ends) (v : Bencode) → is_misplaced v e ≡ false → slice_get all i ≡ Some (entry_part v)
     → take (suc i) all ≡ take i all ++ entry_part v ∷ [] → IsEnd k all i e → IsEnd k all (suc i) (after_entry k v e)
 one_more k all i e v right here before h = record {
-  stream_is = ap (λ t. t + entry_length v) h.stream_is ∙ sym (ap stream_length before ∙ stream_after (take i all) (entry_part v));
+  stream_is = ap (λ t. t + length_of v) h.stream_is ∙ sym (ap stream_length before ∙ stream_after (take i all) (entry_part v));
   pieces_is = pieces_by k e v (has_attribute 112 v) refl ∙ ap (λ t. t + pieces_end k (entry_part v ∷ [])) h.pieces_is
       ∙ sym (ap (pieces_end k) before ∙ pieces_after k (take i all) (entry_part v));
   placed = λ j p lt at file some. elim (lt_or_same j i lt) [
@@ -98,7 +98,7 @@ one_more k all i e v right here before h = record {
         let same : Some p ≡ Some (entry_part v) = sym at ∙ ap (slice_get all) is ∙ here in
         let part : p ≡ entry_part v = cc in
         let of_file : has_attribute 112 v ≡ false = ap (λ (q : Part). q.is_pad) (sym part) ∙ file in
-        let positive : 0 < entry_length v = subst (λ (q : Part). 0 < length_in q) part some in
+        let positive : 0 < length_of v = subst (λ (q : Part). 0 < length_in q) part some in
         ap (λ n. stream_length (take n all)) is ∙ sym h.stream_is ∙ placed_here v e right of_file positive ∙ h.pieces_is ∙ ap (λ n. pieces_end k (take n all)) (sym is))
   ];
 }
@@ -109,14 +109,14 @@ one_more k all i e v right here before h = record {
 misplaced_here : (k : ℕ) (all : List Part) (i : ℕ) (e : Ends) (v : Bencode) → is_misplaced v e ≡ true → slice_get all i ≡ Some (entry_part v)
     → IsEnd k all i e → IsMisplaced k all
 misplaced_here k all i e v wrong here h =
-    let parts = and_true (not (has_attribute 112 v) && nat_lt 0 (entry_length v)) (not (nat_eq e.stream e.pieces)) wrong in
-    let inner = and_true (not (has_attribute 112 v)) (nat_lt 0 (entry_length v)) parts.0 in
+    let parts = and_true (not (has_attribute 112 v) && nat_lt 0 (length_of v)) (not (nat_eq e.stream e.pieces)) wrong in
+    let inner = and_true (not (has_attribute 112 v)) (nat_lt 0 (length_of v)) parts.0 in
     record {
       number = i;
       part = entry_part v;
       there = here;
       no_pad = not_true (has_attribute 112 v) inner.0;
-      some = ltb-true 0 (entry_length v) inner.1;
+      some = ltb-true 0 (length_of v) inner.1;
       elsewhere = λ same. eqb-false e.stream e.pieces (not_true (nat_eq e.stream e.pieces) parts.1) (h.stream_is ∙ same ∙ sym h.pieces_is);
     }
   where

@@ -16,7 +16,7 @@ use Rattle.filetree.specs.declared.files.ListedFile.{ListedFile}
 use Rattle.opening.specs.PieceLayers.{tree_at}
 use Rattle.filetree.specs.Tests.{First, NoneHolds, TestRow}
 use Rattle.opening.specs.Refusals.{RefusesTorrent, files_of, info_in, layers_in, max_torrent, name_in, parts_of_torrent, piece_length_in, table}
-use Rattle.opening.specs.Rooted.{entries_from}
+use Rattle.opening.specs.Trees.{entries_from}
 use Rattle.opening.specs.Stream.{is_hybrid, version1_of}
 use Rattle.opening.specs.Trees.{AreFiles, roots_in}
 use Rattle.filetree.specs.declared.refusal.Refusal.{Refusal}

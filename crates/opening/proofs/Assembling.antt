@@ -18,7 +18,7 @@ use Rattle.filetree.specs.TreeTests.{tree_rows}
 use Rattle.opening.specs.PieceLayers.{tree_at}
 use Rattle.filetree.specs.Tests.{First, NoneHolds}
 use Rattle.opening.specs.Refusals.{files_of, file_tree_in, hybrid_rows, info_in, layers_in, name_in, piece_length_in, table}
-use Rattle.opening.specs.Rooted.{entries_from}
+use Rattle.opening.specs.Trees.{entries_from}
 use Rattle.opening.specs.Stream.{IsVersion1, Named, named}
 use Rattle.opening.specs.Trees.{IsIn, pieces_in, roots_in}
 use Rattle.pieces.specs.Pieces.{IsPieceLength, pieces_of}

@@ -6,7 +6,7 @@ use Rattle.opening.specs.Description.{FileEntry}
 use Rattle.filetree.specs.declared.files.ListedFile.{ListedFile}
 use Rattle.opening.specs.Matching.{named_entry}
 use Rattle.opening.specs.Places.{AreLaidOut}
-use Rattle.opening.specs.Rooted.{entries_from}
+use Rattle.opening.specs.Trees.{entries_from}
 use Rattle.opening.specs.Stream.{named}
 use Rattle.opening.specs.Trees.{AreFiles, place_in, pieces_in, roots_in}
 use Rattle.opening.specs.declared.roots.Root.{Root}

@@ -11,17 +11,17 @@ use Rattle.std.proofs.lemmas.Map.Lookups.{exact_bytes}
 use Rattle.std.proofs.lemmas.Option.{slice_get_within, slice_get_read, slice_get-map}
 use Rattle.filetree.specs.declared.files.ListedFile.{ListedFile}
 use Rattle.filetree.proofs.Bytes.{equal_bytes, same_bytes, true_or_false}
-use Rattle.opening.specs.Trees.{IsIn, IsTreeWithRoot, place_in, root_of_tree, tree_with_root, with_root, with_file, roots_in, IsReused, pieces_in}
+use Rattle.opening.specs.Trees.{IsIn, IsTreeWithRoot, place_in, root_of_tree, tree_with_root, with_root, with_file, roots_in, IsReused}
 use Rattle.opening.specs.declared.roots.Root.{Root}
 use Rattle.pieces.specs.Pieces.{pieces_of}
-use Rattle.opening.specs.Rooted.{IsRootAt, AreRoots, entries_from}
+use Rattle.opening.specs.Rooted.{IsRootAt, AreRoots}
+use Rattle.opening.specs.Trees.{entries_from}
 use Rattle.opening.specs.Description.{FileEntry, TreeEntry}
 use Rattle.opening.specs.PieceLayers.{tree_at}
 use Rattle.benc.specs.Value.{Pairs}
 use Rattle.std.specs.Prelude.{option_and_then}
 use Rattle.std.proofs.Common.{append_assoc}
-use Rattle.std.proofs.lemmas.List.{drop_more, take_more, take-append-drop}
-use Rattle.std.proofs.lemmas.List.Sums.{sum_by-cons}
+use Rattle.std.proofs.lemmas.List.{take_more, take-append-drop}
 
 behind_one : (o : Option ℕ) (n : ℕ) → option_map suc o ≡ Some n → (m : ℕ) × (o ≡ Some m) × (n ≡ suc m)
 behind_one None n e = cc
@@ -103,11 +103,6 @@ front_of : {A : Type 0} (xs ys : List A) (n : ℕ) (x : A) → slice_get xs n �
 front_of [] ys n x e = cc
 front_of (z ∷ xs) ys zero x e = e
 front_of (z ∷ xs) ys (suc n) x e = front_of xs ys n x e
-
-pub pieces_next : (p : ℕ) (xs : List ListedFile) (i : ℕ) (x : ListedFile) → i < length xs → x ≡ get_or xs i x → pieces_in p (drop i xs) ≡ pieces_of p x.length + pieces_in p (drop (i + 1) xs)
-pieces_next p xs i x lt is =
-    let here : drop i xs ≡ x ∷ drop (i + 1) xs = drop_more xs i x lt ∙ ap (λ y. y ∷ drop (i + 1) xs) (sym is) in
-    ap (λ ys. pieces_in p ys) here ∙ sum_by-cons (λ f. pieces_of p f.length) x (drop (i + 1) xs)
 
 -- ---- the trees by their roots
 

@@ -14,7 +14,7 @@ use Rattle.benc.specs.View.{Seen, view, pair_view, pairs_view}
 use Rattle.benc.specs.declared.value.Pair.{Pair}
 use Rattle.filetree.specs.Dictionary.{Ascends, keys_in, under}
 use Rattle.filetree.proofs.Bytes.{equal_bytes, same_bytes, true_or_false}
-use Rattle.filetree.proofs.Views.{view-Pair}
+use Rattle.benc.proofs.Values.{view-Pair}
 
 seen_key : (x : Pair) → (pair_view x).0 ≡ x.key.now
 seen_key x = ap (λ (s : Seen). s.0) (view-Pair x.key x.value)

@@ -19,7 +19,8 @@ use Rattle.opening.specs.Places.{AreLaidOut}
 use Rattle.pieces.specs.Pieces.{IsPieceLength}
 use Rattle.filetree.specs.Tests.{NoneHolds}
 use Rattle.opening.specs.Refusals.{hybrid_rows, layer_rows}
-use Rattle.opening.specs.Rooted.{AreRoots, entries_from}
+use Rattle.opening.specs.Rooted.{AreRoots}
+use Rattle.opening.specs.Trees.{entries_from}
 use Rattle.filetree.specs.Paths.{AreInOrder, IsFilePath}
 use Rattle.filetree.proofs.Paths.{walks_are_all}
 use Rattle.filetree.proofs.Safe.{walks_are_safe}

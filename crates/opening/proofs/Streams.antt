@@ -10,11 +10,11 @@ use Rattle.opening.specs.Description.{FileEntry, Version1}
 use Rattle.filetree.specs.Dictionary.{get, as_list}
 use Rattle.filetree.specs.FileTree.{length_at}
 use Rattle.filetree.specs.declared.files.ListedFile.{ListedFile}
-use Rattle.opening.specs.Matching.{aligned_length, are_same, ends_of, is_length, is_named, many_lengths, named_entry, nowhere, one_length, or_else, stream_under}
+use Rattle.opening.specs.Matching.{aligned_length, are_same, ends_of, is_length, many_lengths, named_entry, nowhere, one_length, or_else, stream_under}
 use Rattle.opening.specs.PieceLayers.{as_digests}
 use Rattle.filetree.specs.Tests.{First, NoneHolds}
 use Rattle.opening.specs.Refusals.{hybrid_rows}
-use Rattle.opening.specs.Stream.{Part, Named, DiffersFromFiles, IsMisplaced, IsTooLong, IsVersion1, cuts_in, files_in, is_broken, is_hybrid, named, named_part, parts_in, parts_of, stream_length, the_parts, version1_of}
+use Rattle.opening.specs.Stream.{is_named, Part, Named, DiffersFromFiles, IsMisplaced, IsTooLong, IsVersion1, cuts_in, files_in, is_broken, is_hybrid, named, named_part, parts_in, parts_of, stream_length, the_parts, version1_of}
 use Rattle.pieces.specs.Pieces.{pieces_of}
 use Rattle.filetree.specs.declared.refusal.Refusal.{Refusal}
 use Rattle.filetree.specs.declared.refusal.Refusal.TheVariants as refusals

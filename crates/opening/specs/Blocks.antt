@@ -15,7 +15,7 @@ run_size len b (suc k) = run_size len b k + block_size len (b + k)
 abbrev pub most_bytes : ℕ
 most_bytes = 263208
 
--- so many bytes are k consecutive blocks of a file of this length, at least one, from block b on
+-- this many bytes are k consecutive blocks of a file of this length, at least one, from block b on
 pub record IsBlockRun (len b size k : ℕ) : Type 0 where
   pub some : 1 ≤ k
   pub inside : b + k ≤ block_count len

@@ -1,8 +1,10 @@
 -- The laws of torrent files: what their bytes describe, and why they are refused.
-use Rattle.std.specs.Prelude.{◌≡◌, ◌⊎◌, ℕ, List}
+use Rattle.std.specs.Prelude.{◌≡◌, ◌⊎◌, ◌↔◌, ℕ, List, Some}
 use Rattle.opening.specs.Describes.{Describes}
 use Rattle.opening.specs.Description.{Description}
+use Rattle.opening.specs.Places.{IsBlockPlace, place_of}
 use Rattle.opening.specs.Refusals.{RefusesTorrent}
+use Rattle.opening.specs.Sound.{IsSound}
 use Rattle.filetree.specs.declared.refusal.Refusal.{Refusal}
 
 -- bytes that describe a torrent describe no other
@@ -22,3 +24,8 @@ RefusalIsOne = (b : List ℕ) (r s : Refusal) → RefusesTorrent b r → Refuses
 abbrev pub TorrentOrRefusal : Type 0
 TorrentOrRefusal =
     (b : List ℕ) → ((t : Description) × Describes b t) ⊎ ((r : Refusal) × RefusesTorrent b r)
+
+-- of a torrent, the place that is computed is the file and block that stand there
+abbrev pub PlaceIsBlockPlace : Type 0
+PlaceIsBlockPlace = (t : Description) (index begin f b : ℕ) → IsSound t
+    → (place_of t index begin ≡ Some (f, b)) ↔ IsBlockPlace t index begin f b

@@ -2,6 +2,8 @@
 pub mod Blocks
 pub mod Description
 pub mod Describes
+pub mod Laws
+pub mod Layered
 pub mod Matching
 pub mod Opening
 pub mod PieceLayers
@@ -13,5 +15,3 @@ pub mod Sound
 pub mod Steps
 pub mod Stream
 pub mod Trees
-pub mod Laws
-pub mod Layered

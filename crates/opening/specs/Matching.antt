@@ -1,13 +1,13 @@
 -- The version 1 list of a hybrid beside the files of the file tree, entry by entry. Public clauses
 -- do not name these.
-use Rattle.std.specs.Prelude.{◌≡◌, ◌<◌, map, sum_by, ℕ, ◌+◌, ◌*◌, Bool, true, false, not, ◌&&◌, ◌==◌, nat_lt, if◌then◌else◌, List, [], ◌∷◌, Option, Some, None, is_some, codes, unwrap_or, ◌^◌, Result, Ok, Err}
+use Rattle.std.specs.Prelude.{◌≡◌, ◌<◌, map, sum_by, ℕ, ◌+◌, ◌*◌, Bool, true, false, not, ◌&&◌, ◌==◌, nat_lt, if◌then◌else◌, List, [], ◌∷◌, Option, Some, None, is_some, codes, ◌^◌, Result, Ok, Err}
 use Rattle.std.specs.Str.{bytes_eq}
 use Rattle.benc.specs.Value.{Bencode, int, text, list, dict, Items, no_items, item}
 use Rattle.opening.specs.Description.{FileEntry}
 use Rattle.filetree.specs.Dictionary.{get}
-use Rattle.filetree.specs.FileTree.{has_attribute, length_at, is_dict}
+use Rattle.filetree.specs.FileTree.{has_attribute, length_at, length_of, is_dict, pad_letter}
 use Rattle.filetree.specs.declared.files.ListedFile.{ListedFile}
-use Rattle.opening.specs.Stream.{Named, named}
+use Rattle.opening.specs.Stream.{Named, is_named, named}
 use Rattle.pieces.specs.Pieces.{pieces_of}
 use Rattle.filetree.specs.declared.refusal.Refusal.{Refusal}
 use Rattle.filetree.specs.declared.refusal.Refusal.TheVariants as refusals
@@ -64,34 +64,31 @@ begins v rest (f ∷ fs) = is_entry_of v f && rest fs
 abbrev pub is_sized : Bencode → Bool
 is_sized v = is_dict v && is_some (length_at v)
 
--- dictionaries with a length, and those that are no pads are just these files
+-- dictionaries with a length, and those that are no pads are exactly these files
 abbrev pub are_same : Items → List FileEntry → Bool
 are_same no_items [] = true
 are_same no_items (f ∷ fs) = false
 are_same (item v vs) fs =
-    if is_sized v then (if has_attribute 112 v then are_same vs fs else begins v (are_same vs) fs)
-    else false
+    if is_sized v then (if has_attribute pad_letter v then are_same vs fs
+    else begins v (are_same vs) fs) else false
 
 -- the ends of a stream of no entries
 abbrev pub nowhere : Ends
 nowhere = record { stream = 0; pieces = 0 }
 
-abbrev pub entry_length : Bencode → ℕ
-entry_length v = unwrap_or (length_at v) 0
-
 abbrev pub after_entry : ℕ → Bencode → Ends → Ends
 after_entry piece_length v e = record {
-  stream = e.stream + entry_length v;
-  pieces = if has_attribute 112 v then e.pieces
-      else e.pieces + pieces_of piece_length (entry_length v) * piece_length;
+  stream = e.stream + length_of v;
+  pieces = if has_attribute pad_letter v then e.pieces
+      else e.pieces + pieces_of piece_length (length_of v) * piece_length;
 }
 
 -- a file that is not empty begins elsewhere than at the end of the pieces before it
 abbrev pub is_misplaced : Bencode → Ends → Bool
 is_misplaced v e =
-    not (has_attribute 112 v) && nat_lt 0 (entry_length v) && not (e.stream == e.pieces)
+    not (has_attribute pad_letter v) && nat_lt 0 (length_of v) && not (e.stream == e.pieces)
 
--- the ends behind the entries, if none is misplaced
+-- the ends after the entries, if none is misplaced
 abbrev pub ends_of : ℕ → Items → Ends → Option Ends
 ends_of piece_length no_items e = Some e
 ends_of piece_length (item v vs) e =
@@ -103,12 +100,6 @@ aligned_length None = None
 aligned_length (Some e) =
     if nat_lt e.pieces e.stream then None
     else (if nat_lt e.stream (2 ^ 64) then Some e.stream else None)
-
--- a path of this name alone
-abbrev pub is_named : List ℕ → List (List ℕ) → Bool
-is_named name [] = false
-is_named name (s ∷ []) = bytes_eq s name
-is_named name (s ∷ (t ∷ ts)) = false
 
 -- the length of the one file
 abbrev pub one_length : Bencode → List ℕ → List FileEntry → Option ℕ

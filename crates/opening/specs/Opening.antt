@@ -8,7 +8,8 @@ use Rattle.filetree.specs.declared.files.ListedFile.{ListedFile}
 use Rattle.opening.specs.PieceLayers.{tree_at}
 use Rattle.filetree.specs.Tests.{TestRow}
 use Rattle.opening.specs.Refusals.{count_rows, file_tree_in, info_in, layer_rows, layers_in, name_in, number_in, piece_length_in}
-use Rattle.opening.specs.Rooted.{AreNumbers, AreRoots, entries_from}
+use Rattle.opening.specs.Rooted.{AreNumbers, AreRoots}
+use Rattle.opening.specs.Trees.{entries_from}
 use Rattle.opening.specs.Seen.{file_entry, tree_entry}
 use Rattle.opening.specs.Steps.{pairs_seen}
 use Rattle.opening.specs.Trees.{pieces_in, roots_in}

@@ -27,7 +27,8 @@ place_from piece_length address k (f ∷ fs) =
     then Some (k, (address - f.first_piece * piece_length) / 16384)
     else place_from piece_length address (suc k) fs
 
--- the one file and block at index and begin
+-- the one file and block at index and begin, computed; by the law `PlaceIsBlockPlace` it is exactly
+-- the one of `IsBlockPlace`
 abbrev pub place_of : Description → ℕ → ℕ → Option (ℕ × ℕ)
 place_of t index begin = place_from t.piece_length (index * t.piece_length + begin) 0 t.files
 

@@ -190,7 +190,7 @@ hybrid_rows piece_length info name fs =
     }
     ∷ []
 
--- tables, one behind the other
+-- tables, one after the other
 abbrev joined_rows : List (List TestRow) → List TestRow
 joined_rows [] = []
 joined_rows (rows ∷ tables) = rows ++ joined_rows tables

@@ -1,13 +1,12 @@
 -- Files and the roots found so far. Public clauses do not name these.
-use Rattle.std.specs.Prelude.{◌≡◌, ◌≢◌, ◌⊎◌, ◌+◌, ◌<◌, ◌^◌, ℕ, List, [], ◌∷◌, None, Some, option_and_then, slice_get}
+use Rattle.std.specs.Prelude.{◌≡◌, ◌≢◌, ◌⊎◌, ◌<◌, ◌^◌, ℕ, List, None, Some, slice_get}
 use Rattle.std.specs.BTreeMap.{BTreeMap, get}
 use Rattle.std.specs.Cmp.Lexicographic.{slice_cmp}
 use Rattle.std.specs.Ordering.{nat_cmp}
 use Rattle.filetree.specs.declared.files.ListedFile.{ListedFile}
 use Rattle.filetree.specs.declared.refusal.Refusal.{Refusal}
 use Rattle.filetree.specs.declared.refusal.Refusal.TheVariants as refusals
-use Rattle.pieces.specs.Pieces.{pieces_of}
-use Rattle.opening.specs.Description.{FileEntry}
+pub use Rattle.opening.specs.Trees.{entries_from}
 use Rattle.opening.specs.Trees.{IsIn, place_in, roots_in, pieces_in}
 use Rattle.opening.specs.declared.roots.Root.{Root}
 
@@ -48,15 +47,3 @@ pub record AreRoots (fs : List ListedFile) (ts : List Root) : Type 0 where
 pub record AreTrees (piece_length : ℕ) (fs : List ListedFile) (ts : List Root) : Type 0 where
   pub roots : AreRoots fs ts
   pub pieces : pieces_in piece_length fs < 2 ^ 32
-
--- the files from this piece on, one after the other
-abbrev pub entries_from : ℕ → List Root → ℕ → List ListedFile → List FileEntry
-entries_from piece_length ts first [] = []
-entries_from piece_length ts first (f ∷ fs) =
-    record {
-      path = f.path;
-      length = f.length;
-      tree = option_and_then (place_in ts) f.root;
-      first_piece = first;
-    }
-    ∷ entries_from piece_length ts (first + pieces_of piece_length f.length) fs

@@ -2,10 +2,11 @@
 -- stream (BEP 3, "info dictionary"; BEP 47, "Padding Files"; BEP 52, "Upgrade Path").
 use Rattle.std.specs.Prelude.{◌≡◌, ◌≢◌, ℕ, ◌*◌, ◌<◌, Bool, false, not, ◌&&◌, ◌||◌, if◌then◌else◌, List, [], ◌∷◌, map, take, filter, sum_by, Option, Some, None, is_some, is_none, option_and_then, unwrap_or, ◌⊎◌, codes, slice_get, IsTrue}
 use Rattle.std.specs.List.{list_any}
+use Rattle.std.specs.Str.{bytes_eq}
 use Rattle.benc.specs.Value.{Bencode, Items, no_items, item}
 use Rattle.opening.specs.Description.{Version1}
 use Rattle.filetree.specs.Dictionary.{get, as_list, as_text}
-use Rattle.filetree.specs.FileTree.{has_attribute, length_at, is_dict}
+use Rattle.filetree.specs.FileTree.{has_attribute, length_at, is_dict, pad_letter}
 use Rattle.filetree.specs.declared.files.ListedFile.{ListedFile}
 use Rattle.opening.specs.PieceLayers.{as_digests}
 use Rattle.pieces.specs.Pieces.{pieces_of}
@@ -38,11 +39,17 @@ some_texts (s ∷ ss) = Some (s ∷ ss)
 abbrev pub as_path : Bencode → Option (List (List ℕ))
 as_path v = option_and_then some_texts (option_and_then texts_in (as_list v))
 
+-- a path of this name alone
+abbrev pub is_named : List ℕ → List (List ℕ) → Bool
+is_named name [] = false
+is_named name (s ∷ []) = bytes_eq s name
+is_named name (s ∷ (t ∷ ts)) = false
+
 -- an entry of `files`: a dictionary, and a pad if `attr` has the letter `p`
 abbrev pub entry_part : Bencode → Part
 entry_part entry =
     record {
-      is_pad = has_attribute 112 entry;
+      is_pad = has_attribute pad_letter entry;
       length = length_at entry;
       path = option_and_then as_path (get (codes "path") entry);
     }
@@ -53,7 +60,8 @@ parts_of no_items = Some []
 parts_of (item v vs) =
     if is_dict v then option_and_then (λ ps. Some (entry_part v ∷ ps)) (parts_of vs) else None
 
--- the list: the entries of `files`, or the one file of `length`, if just one of these keys is there
+-- the list: the entries of `files`, or the one file of `length`, if exactly one of these keys is
+-- there
 abbrev pub parts_in : Bencode → List ℕ → Option (List Part)
 parts_in info name =
     if has_key (codes "length") info then (if has_key (codes "files") info then None

@@ -1,6 +1,6 @@
 -- The trees of a torrent: the distinct roots of files that are not empty, in the order of first use
 -- (BEP 52, "pieces root"), and the pieces of files (BEP 52, "piece length").
-use Rattle.std.specs.Prelude.{◌≡◌, ◌≢◌, ℕ, is_some, if◌then◌else◌, List, [], ◌∷◌, ◌++◌, length, map, take, fold, sum_by, Option, Some, None, suc, option_map, option_and_then, slice_get}
+use Rattle.std.specs.Prelude.{◌≡◌, ◌≢◌, ℕ, ◌+◌, is_some, if◌then◌else◌, List, [], ◌∷◌, ◌++◌, length, map, take, fold, sum_by, Option, Some, None, suc, option_map, option_and_then, slice_get}
 use Rattle.std.specs.Str.{bytes_eq}
 use Rattle.pieces.specs.Pieces.{pieces_of}
 use Rattle.filetree.specs.declared.files.ListedFile.{ListedFile}
@@ -64,6 +64,18 @@ entry_at piece_length fs k f = record {
   tree = option_and_then (place_in (roots_in fs)) f.root;
   first_piece = pieces_in piece_length (take k fs);
 }
+
+-- the files from this piece on, one after the other
+abbrev pub entries_from : ℕ → List Root → ℕ → List ListedFile → List FileEntry
+entries_from piece_length ts first [] = []
+entries_from piece_length ts first (f ∷ fs) =
+    record {
+      path = f.path;
+      length = f.length;
+      tree = option_and_then (place_in ts) f.root;
+      first_piece = first;
+    }
+    ∷ entries_from piece_length ts (first + pieces_of piece_length f.length) fs
 
 -- the files of the description, one for each file of the file tree
 pub record AreFiles (piece_length : ℕ) (fs : List ListedFile) (es : List FileEntry) : Type 0 where

@@ -1,4 +1,4 @@
-//! Runs of blocks: which consecutive blocks of a file so many bytes are (BEP 3, "piece").
+//! Runs of blocks: which consecutive blocks of a file this many bytes are (BEP 3, "piece").
 
 ghost use Rattle.std.specs.Prelude.{◌≡◌, ℕ, ◌<◌, ◌≤◌, IfSome, Some, length, slice_get};
 ghost use Rattle.hashtree.specs.Tree.{block_count};
@@ -11,7 +11,6 @@ use hashtree::BLOCK_LENGTH;
 const MOST_BYTES: u64 = 263_208;
 
 impl<'a> Torrent<'a> {
-    ghost use Rattle.opening.specs.Blocks.{IsBlockRun};
     ghost use Rattle.opening.specs.Description.{FileEntry};
 
     /// How many consecutive blocks of the file, from this one on, have lengths that sum to `size`
@@ -32,7 +31,7 @@ impl<'a> Torrent<'a> {
     }
 }
 
-// How many consecutive blocks of a file of this length so many bytes are, from this block on.
+// How many consecutive blocks of a file of this length this many bytes are, from this block on.
 fn run_in(length: u64, block: u64, size: u64) -> Option<u64>
     requires { block < block_count length }
     ensures found { IfSome result (λ k. IsBlockRun length block size k) }

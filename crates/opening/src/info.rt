@@ -70,6 +70,7 @@ fn info<'v, 'a>(top: &'v Value<'a>) -> Result<&'v Value<'a>, Refusal>
     Ok(info)
 }
 
+// The keys of the info dictionary, the version first.
 fn read_info<'v, 'a>(info: &'v Value<'a>) -> Result<InfoKeys<'v, 'a>, Refusal>
     ensures { Passes (told_rows (view info.now)) (AreOfKind (view info.now)) result }
 {
@@ -96,6 +97,7 @@ struct Present<'v, 'a> {
     piece_length: &'v Value<'a>,
 }
 
+// The values under the other keys, each of which has to be there.
 fn all_present<'v, 'a>(info: &'v Value<'a>) -> Result<Present<'v, 'a>, Refusal>
     ensures { Passes (present_rows (view info.now)) (ArePresent (view info.now)) result }
 {
@@ -116,6 +118,7 @@ struct InfoKeys<'v, 'a> {
     piece_length: i64,
 }
 
+// What these values tell, each of which has to be of its kind.
 fn all_of_kind<'v, 'a>(values: Present<'v, 'a>) -> Result<InfoKeys<'v, 'a>, Refusal>
     ensures { (info : Bencode) → ArePresent info values.entry
         → Passes (kind_rows info) (AreOfKind info) result }
@@ -168,6 +171,7 @@ fn dictionary<'v, 'a>(v: &'v Value<'a>, key: Key) -> Result<&'v [Pair<'a>], Refu
     }
 }
 
+// An integer.
 fn integer(v: &Value<'_>, key: Key) -> Result<i64, Refusal>
     ensures { MatchResult result (λ z. as_int (view v.now) ≡ Some z)
         (λ r. (as_int (view v.now) ≡ None) × (r ≡ Refusal.WrongType key)) }

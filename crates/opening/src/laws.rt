@@ -1,6 +1,6 @@
-//! What holds of each torrent file. A proof that calls one of these has its law.
+//! What holds of each torrent file. A function that calls one of these knows its law.
 
-ghost use Rattle.opening.specs.Laws.{TorrentIsOne, TorrentIsNotRefused, RefusalIsOne, TorrentOrRefusal};
+ghost use Rattle.opening.specs.Laws.{TorrentIsOne, TorrentIsNotRefused, PlaceIsBlockPlace, RefusalIsOne, TorrentOrRefusal};
 
 use benc::laws::{
     fault_is_one, no_spelling_begins_another, spelling_has_no_fault, spells_or_fails,
@@ -36,3 +36,8 @@ pub fn torrent_or_refusal()
 {
     spells_or_fails();
 }
+
+/// In a torrent the place that `place_of` computes is the file and block that stand there.
+pub fn place_is_block_place()
+    ensures { PlaceIsBlockPlace }
+{}

@@ -30,9 +30,10 @@ pub(crate) fn test(
 {
     test_missing(trees, layers, piece_length)?;
     test_sizes(trees, layers, piece_length)?;
-    test_roots(trees, layers, piece_length)
+    test_layer_roots(trees, layers, piece_length)
 }
 
+// Tests that each layer that is needed is there.
 fn test_missing(
     trees: &[Root],
     layers: &Layers<'_, '_>,
@@ -49,6 +50,7 @@ fn test_missing(
     Ok(())
 }
 
+// Tests that each layer has one hash for each piece.
 fn test_sizes(
     trees: &[Root],
     layers: &Layers<'_, '_>,
@@ -65,7 +67,8 @@ fn test_sizes(
     Ok(())
 }
 
-fn test_roots(
+// Tests that each layer leads to its root.
+fn test_layer_roots(
     trees: &[Root],
     layers: &Layers<'_, '_>,
     piece_length: PieceLength,
@@ -82,7 +85,7 @@ fn test_roots(
     Ok(())
 }
 
-// A tree needs a layer, and has one that leads to another root.
+// Tells whether a tree needs a layer, and has one that leads to another root.
 fn mismatches(tree: &Root, layers: &Layers<'_, '_>, piece_length: PieceLength) -> bool
     requires { tree.now.length ≤ 2 ^ 46 }
     ensures { result ≡ mismatches piece_length (layer_pairs layers.now) tree.now }
@@ -96,7 +99,7 @@ fn mismatches(tree: &Root, layers: &Layers<'_, '_>, piece_length: PieceLength) -
     }
 }
 
-// The tree over a layer has the tree's root.
+// Tells whether the tree over a layer has the tree's root.
 fn leads(tree: &Root, hashes: &[Hash], piece_length: PieceLength) -> bool
     requires longer { piece_length < tree.now.length }
     requires bound { tree.now.length ≤ 2 ^ 46 }
@@ -126,12 +129,13 @@ pub(crate) fn infos<'a>(
 {
     let mut infos = Vec::with_capacity(alloc, trees.len())?;
     'trees: for tree in trees {
-        infos.push(info(tree, layers, piece_length))?;
+        infos.push(tree_info(tree, layers, piece_length))?;
     }
     Ok(infos)
 }
 
-fn info<'a>(tree: &Root, layers: &Layers<'_, 'a>, piece_length: PieceLength) -> TreeInfo<'a>
+// The tree with its layer.
+fn tree_info<'a>(tree: &Root, layers: &Layers<'_, 'a>, piece_length: PieceLength) -> TreeInfo<'a>
     ensures { tree_entry result ≡ tree_at piece_length (layer_pairs layers.now) tree.now }
 {
     let layer = if tree.length > piece_length.bytes() {

@@ -1,7 +1,7 @@
 //! Opening a torrent file: its tests in their order, and the torrent that it describes (BEP 52,
 //! "metainfo files").
 
-ghost use Rattle.std.specs.Prelude.{◌≡◌, ◌≢◌, ◌≤◌, ◌^◌, ℕ, List, Some, IfErr, IfOk, MatchResult, codes, true};
+ghost use Rattle.std.specs.Prelude.{◌≡◌, ◌≢◌, ◌≤◌, ◌^◌, Some, IfErr, IfOk, MatchResult, codes};
 ghost use Rattle.sha2.specs.Sha256.{sha256};
 ghost use Rattle.benc.specs.Text.{IsCanonical, spelling};
 ghost use Rattle.benc.specs.Value.{Bencode};
@@ -33,8 +33,45 @@ use sha2::{Digest, Sha256};
 use std::alloc::Global;
 use std::collections::BTreeMap;
 
-/// The most bytes that a torrent file has.
+/// The most bytes that a torrent file may have.
 pub const MAX_TORRENT: usize = 67_108_864;
+
+impl<'a> Torrent<'a> {
+    ghost use Rattle.opening.specs.Describes.{Describes};
+    ghost use Rattle.opening.specs.Description.{Description};
+    ghost use Rattle.opening.specs.Refusals.{RefusesTorrent, OpeningTakesMemory};
+
+    /// Opens a torrent file, and borrows its bytes.
+    ///
+    /// The tests come in a fixed order: `TooLarge` past 67,108,864
+    /// bytes, `NotBencode` with the first fault, the keys (`Missing`, `WrongType`, `Version` before
+    /// all other keys of the info dictionary, `PieceLength`), the file tree (`Shape`, `Path`), its
+    /// files (`Symlink`, `Length`, `Root`), the files together (`RootReused`, `NoFiles`,
+    /// `TooManyPieces`), the piece layers (`LayerMissing`, `LayerSize`, `LayerMismatch`), and for a
+    /// hybrid its version 1 part (`HybridFiles`, `HybridAlign`, `HybridPieces`).
+    ///
+    /// # Errors
+    ///
+    /// The first test that holds is told, and `NoMemory` comes only if memory was refused.
+    pub fn open(alloc: Global, input: &'a [u8]) -> Result<Torrent<'a>, Refusal>
+        ensures described { IfOk result (λ t. Describes input.now t) }
+        ensures refused { IfErr result (λ r. r ≢ Refusal.NoMemory → RefusesTorrent input.now r) }
+        // Bytes that describe a torrent open as that one.
+        ensures only { (t : Description) → Describes input.now t
+            → MatchResult result (λ u. u ≡ t) (λ r. r ≡ Refusal.NoMemory) }
+        // Bytes that are refused are refused with that answer.
+        ensures first { (r : Refusal) → RefusesTorrent input.now r
+            → MatchResult result (λ _. ⊥) (λ s. s ≢ Refusal.NoMemory → s ≡ r) }
+        // Out of memory is possible only for bytes within the limit that hold a list or dictionary
+        // with an item.
+        ensures memory { IfErr result (λ r. r ≡ Refusal.NoMemory → OpeningTakesMemory input.now) }
+    {
+        torrent_is_one();
+        torrent_is_not_refused();
+        refusal_is_one();
+        open_bytes(alloc, input)
+    }
+}
 
 // The files and trees of a torrent, and the number of each tree by its root.
 #[derive(Drop)]
@@ -107,13 +144,15 @@ fn read<'a>(alloc: Global, top: &Value<'a>, info_bytes: &[u8]) -> Result<Torrent
     ))
 }
 
+// The SHA-256 digest of the bytes of an info dictionary.
 fn info_hash_v2(info: &[u8]) -> Hash
     ensures { result ≡ sha256 info.now }
 {
     Sha256::digest(info)
 }
 
-fn refused(fault: Fault) -> Refusal
+// The refusal for a fault of the bytes.
+fn refusal_of(fault: Fault) -> Refusal
     ensures memory { fault.kind ≡ FaultKind.NoMemory → result ≡ Refusal.NoMemory }
     ensures memory_only { result ≡ Refusal.NoMemory → fault.kind ≡ FaultKind.NoMemory }
     ensures other { fault.kind ≢ FaultKind.NoMemory → result ≡ Refusal.NotBencode fault }
@@ -125,7 +164,7 @@ fn refused(fault: Fault) -> Refusal
 }
 
 // The torrent that bytes describe, or why they describe none.
-fn opened<'a>(alloc: Global, input: &'a [u8]) -> Result<Torrent<'a>, Refusal>
+fn open_bytes<'a>(alloc: Global, input: &'a [u8]) -> Result<Torrent<'a>, Refusal>
     ensures described { IfOk result (λ t. Describes input.now t) }
     ensures refused { IfErr result (λ r. r ≢ Refusal.NoMemory → RefusesTorrent input.now r) }
     ensures memory { IfErr result (λ r. r ≡ Refusal.NoMemory → OpeningTakesMemory input.now) }
@@ -136,41 +175,7 @@ fn opened<'a>(alloc: Global, input: &'a [u8]) -> Result<Torrent<'a>, Refusal>
     }
     let (top, span) = match decode_with_span(alloc, input, b"info") {
         Ok(decoded) => decoded,
-        Err(fault) => return Err(refused(fault)),
+        Err(fault) => return Err(refusal_of(fault)),
     };
     read(alloc, &top, span.unwrap_or(b""))
-}
-
-impl<'a> Torrent<'a> {
-    ghost use Rattle.opening.specs.Describes.{Describes};
-    ghost use Rattle.opening.specs.Description.{Description};
-    ghost use Rattle.opening.specs.Refusals.{RefusesTorrent, OpeningTakesMemory};
-
-    /// Opens a torrent file, and borrows its bytes.
-    ///
-    /// The tests come in a fixed order and the first that holds is told: `TooLarge` past 67,108,864
-    /// bytes, `NotBencode` with the first fault, the keys (`Missing`, `WrongType`, `Version` before
-    /// all other keys of the info dictionary, `PieceLength`), the file tree (`Shape`, `Path`), its
-    /// files (`Symlink`, `Length`, `Root`), the files together (`RootReused`, `NoFiles`,
-    /// `TooManyPieces`), the piece layers (`LayerMissing`, `LayerSize`, `LayerMismatch`), and for a
-    /// hybrid its version 1 part (`HybridFiles`, `HybridAlign`, `HybridPieces`). `NoMemory` comes
-    /// only if memory was refused.
-    pub fn open(alloc: Global, input: &'a [u8]) -> Result<Torrent<'a>, Refusal>
-        ensures described { IfOk result (λ t. Describes input.now t) }
-        ensures refused { IfErr result (λ r. r ≢ Refusal.NoMemory → RefusesTorrent input.now r) }
-        // Bytes that describe a torrent open as that one.
-        ensures only { (t : Description) → Describes input.now t
-            → MatchResult result (λ u. u ≡ t) (λ r. r ≡ Refusal.NoMemory) }
-        // Bytes that are refused are refused with that answer.
-        ensures first { (r : Refusal) → RefusesTorrent input.now r
-            → MatchResult result (λ _. ⊥) (λ s. s ≢ Refusal.NoMemory → s ≡ r) }
-        // Memory is refused only while a list or a dictionary of the bytes grows, or behind all
-        // keys.
-        ensures memory { IfErr result (λ r. r ≡ Refusal.NoMemory → OpeningTakesMemory input.now) }
-    {
-        torrent_is_one();
-        torrent_is_not_refused();
-        refusal_is_one();
-        opened(alloc, input)
-    }
 }

@@ -1,14 +1,32 @@
-//! The place of a block: which file and block stand at a piece's index and an offset behind it.
+//! The place of a block: which file and block stand at a piece index and an offset.
 
-ghost use Rattle.std.specs.Prelude.{◌≡◌, ℕ, ◌+◌, ◌-◌, ◌*◌, ◌/◌, ◌^◌, ◌<◌, ◌≤◌, List, length, map, nat_le, true, false, if◌then◌else◌, Option, Some, None, IfSome};
+ghost use Rattle.std.specs.Prelude.{◌≡◌, ℕ, ◌+◌, ◌-◌, ◌*◌, ◌/◌, ◌^◌, ◌<◌, ◌≤◌, length, map, if◌then◌else◌, Option, Some, None, IfSome};
 ghost use Rattle.std.specs.List.Sorted.{IsNonDecreasingBy, IsPartitionPoint};
 ghost use Rattle.hashtree.specs.Tree.{block_count};
-ghost use Rattle.opening.specs.Description.{FileEntry};
 ghost use Rattle.opening.specs.Places.{AreLaidOut, begins_in, place_from};
 ghost use Rattle.opening.specs.Seen.{file_entry};
 
 use crate::torrent::{File, Torrent};
 use hashtree::BLOCK_LENGTH;
+
+impl<'a> Torrent<'a> {
+    ghost use Rattle.opening.specs.Places.{IsBlockPlace, place_of};
+
+    /// The one file and block at the address `index * piece length + begin`. A file begins at its
+    /// first piece times the piece length, and its block b stands at `16384 * b` after that. `None`
+    /// if no block begins there. Only the sum counts, so `begin` may pass the piece length.
+    pub fn place(&self, index: u32, begin: u32) -> Option<(usize, u64)>
+        ensures value { result ≡ place_of self.now index begin }
+        ensures found { IfSome result (λ x. IsBlockPlace self.now index begin x.0 x.1) }
+        ensures only { (f b : ℕ) → IsBlockPlace self.now index begin f b
+            → result ≡ Some (record { 0 = f; 1 = b }) }
+    {
+        self.sound();
+        let piece_length = self.piece_length();
+        let address = u64::from(index) * piece_length + u64::from(begin);
+        place_at(self.files(), piece_length, address)
+    }
+}
 
 // How many files begin at this piece or before it, if first pieces ascend.
 fn begun(files: &[File<'_>], piece: u64) -> usize
@@ -48,24 +66,5 @@ fn place_at(files: &[File<'_>], piece_length: u64, address: u64) -> Option<(usiz
     match block_at(&files[begun - 1], piece_length, address) {
         None => None,
         Some(block) => Some((begun - 1, block)),
-    }
-}
-
-impl<'a> Torrent<'a> {
-    ghost use Rattle.opening.specs.Places.{IsBlockPlace, place_of};
-
-    /// The one file and block at the address `index * piece length + begin`. A file begins at its
-    /// first piece times the piece length, and its block b stands at `16384 * b` after that. `None`
-    /// if no block begins there. Only the sum counts, so `begin` may pass the piece length.
-    pub fn place(&self, index: u32, begin: u32) -> Option<(usize, u64)>
-        ensures value { result ≡ place_of self.now index begin }
-        ensures found { IfSome result (λ x. IsBlockPlace self.now index begin x.0 x.1) }
-        ensures only { (f b : ℕ) → IsBlockPlace self.now index begin f b
-            → result ≡ Some (record { 0 = f; 1 = b }) }
-    {
-        self.sound();
-        let piece_length = self.piece_length();
-        let address = u64::from(index) * piece_length + u64::from(begin);
-        place_at(self.files(), piece_length, address)
     }
 }

@@ -3,22 +3,21 @@
 ghost use Rattle.std.specs.Prelude.{◌≡◌, ◌≢◌, ◌<◌, ◌^◌, [], map, Some, MatchResult, OnOk, nat_le};
 ghost use Rattle.filetree.specs.Tests.{PassesUnlessNoMemory, Tests, GivesUnlessNoMemory};
 ghost use Rattle.opening.specs.Refusals.{count_rows};
-ghost use Rattle.opening.specs.Rooted.{AreNumbers, AreRoots, AreTrees, IsRootAt, IsRootRefused, entries_from};
+ghost use Rattle.opening.specs.Rooted.{AreNumbers, AreRoots, AreTrees, IsRootAt, IsRootRefused};
+ghost use Rattle.opening.specs.Trees.{entries_from};
 ghost use Rattle.opening.specs.Seen.{file_entry};
 ghost use Rattle.opening.specs.Trees.{IsReused, pieces_in, place_in, with_root};
 
 use crate::torrent::File;
 use filetree::{ListedFile, Refusal};
 use hashtree::Hash;
-use pieces::PieceLength;
+use pieces::{MAX_PIECES, PieceLength};
 use std::alloc::Global;
 use std::collections::BTreeMap;
 use std::marker::Model;
 
-// The most pieces that the files of a torrent have in all.
-const MAX_PIECES: u64 = 4_294_967_295;
-
-/// A distinct root of a torrent's files, as what is said of trees names it.
+/// A distinct root of a torrent's files, and their length. It is public because definitions cite
+/// it; no public call takes or gives one.
 #[derive(Clone, Copy)]
 pub struct Root {
     /// The pieces root.
@@ -62,6 +61,7 @@ impl Roots {
         numbers
     }
 
+    // No roots.
     fn new(alloc: Global) -> Roots
         ensures { result ≡ [] }
     {

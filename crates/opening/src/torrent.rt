@@ -1,8 +1,5 @@
 //! An opened torrent.
 
-ghost use Rattle.std.specs.Prelude.{◌≡◌, ℕ, List, map, option_map};
-ghost use Rattle.opening.specs.Description.{Description, FileEntry, TreeEntry};
-
 use filetree::Path;
 use hashtree::Hash;
 use pieces::{PieceLength, V1};
@@ -68,13 +65,13 @@ impl<'a> Model for Torrent<'a> {
 }
 
 impl<'a> Torrent<'a> {
-    ghost use Rattle.std.specs.Prelude.{◌≡◌, ◌<◌, ℕ, List, length, map, option_map, slice_get, IfSome, Some, None};
+    ghost use Rattle.std.specs.Prelude.{◌≡◌, ◌<◌, ℕ, length, map, option_map, slice_get, IfSome, Some};
     ghost use Rattle.opening.specs.Description.{FileEntry};
     ghost use Rattle.opening.specs.Seen.{file_entry, tree_entry, version1};
     ghost use Rattle.opening.specs.Sound.{IsSound};
     ghost use Rattle.opening.specs.Seen.{described};
     ghost use Rattle.opening.specs.Rooted.{AreNumbers};
-    ghost use Rattle.opening.specs.Trees.{IsTreeWithRoot, root_of_tree, tree_with_root};
+    ghost use Rattle.opening.specs.Trees.{IsTreeWithRoot, root_of_tree};
 
     /// A torrent of these parts. Contracts see what it describes.
     pub(crate) fn new(
@@ -167,14 +164,15 @@ impl<'a> Torrent<'a> {
 
     /// The number of the tree that has this root; `None` if no tree has it. Takes no memory.
     pub fn tree_with_root(&self, root: &Hash) -> Option<usize>
-        ensures value { result ≡ tree_with_root self.now.trees root.now }
         ensures found { IfSome result (IsTreeWithRoot self.now.trees root.now) }
         ensures only { (n : ℕ) → IsTreeWithRoot self.now.trees root.now n → result ≡ Some n }
     {
         self.numbers.get(root).copied()
     }
 
-    /// What holds of every torrent.
+    /// What holds of every torrent: paths that lead to no other place, in order; distinct roots;
+    /// layers that lead to their roots; files laid out piece after piece. A function that calls it
+    /// knows that.
     pub fn sound(&self)
         ensures { IsSound self.now }
     {

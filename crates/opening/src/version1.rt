@@ -2,16 +2,17 @@
 //! "Upgrade Path"): its list of files and pads, how these lie in the stream that their contents
 //! join to, and the digests of the stream's cuts.
 
-ghost use Rattle.std.specs.Prelude.{◌≡◌, ◌≢◌, ◌⊎◌, ◌+◌, ◌*◌, ◌^◌, ◌<◌, ◌≤◌, ℕ, List, length, map, sum_by, Option, Some, None, option_map, MatchOption, MatchResult, IsTrue, if◌then◌else◌};
+ghost use Rattle.std.specs.Prelude.{◌≡◌, ◌+◌, ◌^◌, ◌≤◌, List, map, option_map};
 ghost use Rattle.benc.specs.View.{view, items_view};
 ghost use Rattle.filetree.specs.Dictionary.{get};
-ghost use Rattle.opening.specs.Matching.{FitsStream, after_entry, aligned_length, are_same, are_texts, ends_of, entry_length, is_named, many_lengths, named_entry, one_length, stream_at, is_entry_of, is_misplaced, is_path_value, is_sized, is_text, nowhere};
+ghost use Rattle.filetree.specs.FileTree.{length_of};
+ghost use Rattle.opening.specs.Matching.{FitsStream, after_entry, aligned_length, are_same, are_texts, ends_of, many_lengths, one_length, stream_at, is_entry_of, is_misplaced, is_path_value, is_sized, is_text, nowhere};
 ghost use Rattle.opening.specs.PieceLayers.{as_digests};
 ghost use Rattle.filetree.specs.declared.files.ListedFile.{ListedFile};
 ghost use Rattle.opening.specs.Refusals.{hybrid_rows};
 ghost use Rattle.opening.specs.Seen.{file_entry, version1};
 ghost use Rattle.filetree.specs.Tests.{Passes};
-ghost use Rattle.opening.specs.Stream.{IsVersion1, named};
+ghost use Rattle.opening.specs.Stream.{IsVersion1, is_named};
 ghost use Rattle.pieces.specs.Pieces.{pieces_of};
 
 use crate::torrent::File;
@@ -43,12 +44,13 @@ pub(crate) fn version1<'a>(
         return Ok(None);
     };
     let total = stream(info, name, files, piece_length)?;
-    let Some(pieces) = cuts(pieces, total, piece_length) else {
+    let Some(pieces) = cut_digests(pieces, total, piece_length) else {
         return Err(Refusal::HybridPieces);
     };
     Ok(Some(V1 { pieces, total }))
 }
 
+// Tells whether the value is this byte string.
 fn is_text(value: &Value<'_>, text: &str) -> bool
     ensures { result ≡ is_text (view value.now) text.now }
 {
@@ -58,14 +60,14 @@ fn is_text(value: &Value<'_>, text: &str) -> bool
     }
 }
 
-// Whether the entry is a dictionary with a length.
+// Tells whether the entry is a dictionary with a length.
 fn is_sized(entry: &Value<'_>) -> bool
     ensures { result ≡ is_sized (view entry.now) }
 {
     matches!(entry, Value::Dict(_)) && length(entry).is_some()
 }
 
-// Whether the values are just these byte strings.
+// Tells whether the values are exactly these byte strings.
 fn are_texts(values: &[Value<'_>], texts: &[&str]) -> bool
     ensures { result ≡ are_texts (items_view values.now) (map (λ s. s.now) texts.now) }
 {
@@ -82,7 +84,7 @@ fn are_texts(values: &[Value<'_>], texts: &[&str]) -> bool
     next == texts.len()
 }
 
-// Whether the value is a list of just these byte strings, at least one.
+// Tells whether the value is a list of exactly these byte strings, at least one.
 fn is_path_value(value: Option<&Value<'_>>, path: &[&str]) -> bool
     ensures { result
         ≡ is_path_value (map (λ s. s.now) path.now) (option_map (λ v. view v.now) value.entry) }
@@ -93,15 +95,15 @@ fn is_path_value(value: Option<&Value<'_>>, path: &[&str]) -> bool
     }
 }
 
-// Whether the entry has the length and the path of the file.
+// Tells whether the entry has the length and the path of the file.
 fn is_entry_of(entry: &Value<'_>, file: &File<'_>) -> bool
     ensures { result ≡ is_entry_of (view entry.now) (file_entry file.now) }
 {
     length(entry) == Some(file.length) && is_path_value(entry.get(b"path"), &file.path.parts())
 }
 
-// Whether the entries are dictionaries with a length, and those that are no pads just these files
-// in their order.
+// Tells whether the entries are dictionaries with a length, and those that are no pads exactly
+// these files in their order.
 fn are_same(entries: &[Value<'_>], files: &[File<'_>]) -> bool
     ensures { result ≡ are_same (items_view entries.now) (map file_entry files.now) }
 {
@@ -132,19 +134,21 @@ struct Ends {
 
 // The length of an entry in bytes, 0 if it has none.
 fn entry_length(entry: &Value<'_>) -> u64
-    ensures value { result ≡ entry_length (view entry.now) }
+    ensures value { result ≡ length_of (view entry.now) }
     ensures bound { result ≤ 2 ^ 46 }
 {
     length(entry).unwrap_or(0)
 }
 
-// Whether the entry is a file that is not empty and begins elsewhere than at a piece of its own.
+// Tells whether the entry is a file that is not empty and begins elsewhere than at a piece of its
+// own.
 fn is_misplaced(entry: &Value<'_>, ends: Ends) -> bool
     ensures { result ≡ is_misplaced (view entry.now) ends }
 {
     !has_attribute(entry, PAD) && entry_length(entry) > 0 && ends.stream != ends.pieces
 }
 
+// The ends after this entry.
 fn after_entry(entry: &Value<'_>, piece_length: PieceLength, ends: Ends) -> Ends
     requires stream { ends.stream ≤ 2 ^ 120 }
     requires pieces { ends.pieces ≤ 2 ^ 120 }
@@ -182,7 +186,7 @@ fn ends_of(entries: &[Value<'_>], piece_length: PieceLength) -> Option<Ends>
 
 // The length of the stream in bytes; `None` if a file is misplaced, or the stream goes on after the
 // last piece.
-fn aligned(entries: &[Value<'_>], piece_length: PieceLength) -> Option<u64>
+fn aligned_length(entries: &[Value<'_>], piece_length: PieceLength) -> Option<u64>
     ensures { result ≡ aligned_length (ends_of piece_length (items_view entries.now) nowhere) }
 {
     let ends = ends_of(entries, piece_length)?;
@@ -192,7 +196,7 @@ fn aligned(entries: &[Value<'_>], piece_length: PieceLength) -> Option<u64>
     u64::try_from(ends.stream).ok()
 }
 
-// Whether the path is this name alone.
+// Tells whether the path is this name alone.
 fn is_named(path: &[&str], name: &str) -> bool
     ensures { result ≡ is_named name.now (map (λ s. s.now) path.now) }
 {
@@ -226,7 +230,7 @@ fn many_files(
     if !are_same(entries, files) {
         return Err(Refusal::HybridFiles);
     }
-    aligned(entries, piece_length).ok_or(Refusal::HybridAlign)
+    aligned_length(entries, piece_length).ok_or(Refusal::HybridAlign)
 }
 
 // The length of the stream in bytes, if the list without pads is that of the file tree and each
@@ -247,7 +251,11 @@ fn stream(
 }
 
 // The digests of the stream's cuts: 20 bytes for each.
-fn cuts<'a>(pieces: &Value<'a>, total: u64, piece_length: PieceLength) -> Option<&'a [[u8; 20]]>
+fn cut_digests<'a>(
+    pieces: &Value<'a>,
+    total: u64,
+    piece_length: PieceLength,
+) -> Option<&'a [[u8; 20]]>
     ensures { option_map (λ h. h.now) result
         ≡ as_digests 20 (pieces_of piece_length total) (view pieces.now) }
 {

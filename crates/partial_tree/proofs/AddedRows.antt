@@ -20,13 +20,6 @@ len-absent m l i h none =
     len-new m c None (sym none) refl
 
 module _ (old : Known) (layer from : ℕ) (f : ℕ → Option Hash) where
-  pub adds-none : AddsRow old layer from from f old
-  adds-none = record {
-    row = λ i low high. absurd (omega arith);
-    rest = λ l i other. refl;
-    gained = refl;
-  }
-
   pub adds-one : (mid new : Known) (n : ℕ) (h : Hash) → from ≤ n → AddsRow old layer from n f mid → f n ≡ Some h → new ≡ insert mid (layer, n) h → len new ≡ len mid + 1
       → AddsRow old layer from (n + 1) f new
   adds-one mid new n h low adds is put more = record {

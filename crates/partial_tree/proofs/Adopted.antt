@@ -11,10 +11,10 @@ use Rattle.node_maps.specs.Known.{Known, Marked, look}
 use Rattle.node_maps.specs.Places.{IsTreePlace, IsKnown, tree_height}
 use Rattle.node_maps.proofs.Known.{nat_equal, len-known}
 use Rattle.partial_tree.specs.declared.refusal.HashRefusal.TheVariants.{Mismatch}
-use Rattle.partial_tree.specs.Claims.{IsMismatch, IsAgreed, joined}
+use Rattle.partial_tree.specs.Claims.{AreHashes, IsMismatch, IsAgreed, joined}
 use Rattle.partial_tree.specs.Fill.{fill_claims}
 use Rattle.partial_tree.specs.Joins.{TakesLayer, RefusesLayer}
-use Rattle.partial_tree.specs.Grown.{AgreeInTree, GrownTree, HaveHashSize, FollowsFromLeaves, grown, leaves_in}
+use Rattle.partial_tree.specs.Grown.{AgreeInTree, GrownTree, FollowsFromLeaves, grown, leaves_in}
 use Rattle.partial_tree.specs.Kept.{KeptTree, IsGoodTree, kept}
 use Rattle.node_maps.specs.Digest.{Hash}
 use Rattle.node_maps.proofs.Places.{two_halves}
@@ -131,12 +131,6 @@ module _ (n : ℕ) (root : Hash) (K K' : Known) (M : Marked) (old : KeptTree) (n
       let power : 2 ^ (tree_height n - 0) ≡ 2 ^ tree_height n = ap (λ k. 2 ^ k) all in
       place-known n K K' is inside 0 (0 + j) (omega arith, omega (arith, power, low))
 
-  pub few-marks : (i : ℕ) → set.contains M i ≡ true → i < 2 ^ tree_height n
-  few-marks i marked =
-      let there = (subst IsGoodTree (sym old_is) good).marks i marked in
-      let all : tree_height n - 0 ≡ tree_height n = omega arith in
-      subst (λ k. i < 2 ^ k) all (inside 0 i there.0 there.1).1
-
   pub fewer : len K < 2 ^ suc (tree_height n)
   fewer = len-known (tree_height n) K inside
 
@@ -155,7 +149,7 @@ module _ (n : ℕ) (root : Hash) (K K' : Known) (M : Marked) (old : KeptTree) (n
   pub good-adopted : (c : ℕ) (after : Known) (new-tree : KeptTree) → new-tree.root ≡ old.root → new-tree.length ≡ old.length → new-tree.state.marked ≡ old.state.marked → new-tree.state.known ≡ after
       → TakesLayer old.length 0 new.leaves old.state.known c after → IsGoodTree new-tree
   good-adopted c after new-tree root_is length_is marks is_after taken =
-      let sizes : HaveHashSize new.leaves = subst (λ (t : GrownTree). HaveHashSize t.leaves) new_is is.hashes in
+      let sizes : AreHashes new.leaves = subst (λ (t : GrownTree). AreHashes t.leaves) new_is is.hashes in
       let taken' : TakesLayer old.length 0 new.leaves old.state.known c new-tree.state.known = subst (λ m. TakesLayer old.length 0 new.leaves old.state.known c m) (sym is_after) taken in
       good_filled old new-tree 0 new.leaves c good sizes root_is length_is marks taken'.0 taken'.1
 

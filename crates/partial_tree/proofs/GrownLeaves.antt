@@ -14,7 +14,7 @@ use Rattle.std.proofs.lemmas.Nat.{mod_below}
 use Rattle.hashtree.specs.Tree.{pad_leaf, block_count, zero_hash}
 use Rattle.hashtree.proofs.Zeros.{zero_hash-zero}
 use Rattle.hashtree.proofs.Heights.{height_enough}
-use Rattle.node_maps.specs.Digest.{Hash}
+use Rattle.node_maps.specs.Digest.{Hash, IsHash}
 use Rattle.node_maps.specs.Known.{Known, look, place_cmp}
 use Rattle.node_maps.specs.Places.{PartialTree, IsTreePlace, IsKnown, tree_height}
 use Rattle.node_maps.specs.Runs.{AreKnown}
@@ -22,9 +22,9 @@ use Rattle.node_maps.proofs.Known.{look-insert_same, look-insert_other}
 use Rattle.node_maps.proofs.Places.{two_halves}
 use Rattle.node_maps.proofs.Runs.{hashes-one, hashes-alike}
 use Rattle.partial_tree.specs.TreeRoot.{TreeRoot}
-use Rattle.partial_tree.specs.Claims.{claims, given, base_hash, uncle_hash, cover, join_both}
+use Rattle.partial_tree.specs.Claims.{AreHashes, claims, given, base_hash, uncle_hash, cover, join_both}
 use Rattle.partial_tree.specs.Fill.{fill_ask, fill_hashes, fill_claims, pad_from}
-use Rattle.partial_tree.specs.Grown.{AddsRow, GrownTree, HaveHashSize, IsGrowing, FollowsFromLeaves, grown, leaves_in, parents_of}
+use Rattle.partial_tree.specs.Grown.{AddsRow, GrownTree, IsGrowing, FollowsFromLeaves, grown, leaves_in, parents_of}
 use Rattle.partial_tree.proofs.Claimed.{either, there_or_not, first_of_two, second_of_two, base-read, uncle-read, claims-given}
 use Rattle.partial_tree.proofs.Layers.{layer-leads}
 use Rattle.partial_tree.proofs.Ranges.{pow_more}
@@ -60,7 +60,7 @@ leaves-more K K' n h put =
 -- one leaf more
 pub growing-more : (K K' : Known) (n : ℕ) (h : Hash) → IsGrowing n K → length h ≡ 32 → K' ≡ insert K (0, n) h → len K' ≡ len K + 1 → IsGrowing (n + 1) K'
 growing-more K K' n h is size put more = record {
-  hashes = subst HaveHashSize (sym (leaves-more K K' n h put)) (All-push (λ x. length x ≡ 32) (leaves_in K n) h is.hashes size);
+  hashes = subst AreHashes (sym (leaves-more K K' n h put)) (All-push IsHash (leaves_in K n) h is.hashes (record { size = size }));
   leaves_known = λ j low. known j low (cases_eq j n);
   none_else = λ l i other. ap (λ m. look m l i) put ∙ look-insert_other K 0 n h l i (apart l i other) ∙ is.none_else l i (wider l i other);
   counted = omega (arith, more, is.counted);
@@ -256,7 +256,7 @@ module _ (n : ℕ) (K : Known) (is : IsGrowing (block_count n) K) where
   pub grown-whole : (K' : Known) → IsUpTo n (leaves_in K (block_count n)) (tree_height n) K' → FollowsFromLeaves n (block_count n) K'
   grown-whole K' done = record {
     claimed = λ l i. all-same n (leaves_in K (block_count n)) right K' done l i ∙ ap (λ xs. fill_claims n 0 xs l i) (sym (leaves-same K' done));
-    hashes = subst HaveHashSize (sym (leaves-same K' done)) is.hashes;
+    hashes = subst AreHashes (sym (leaves-same K' done)) is.hashes;
     leaves_known = λ j low. (let there = is.leaves_known j low in (there.0, done.same 0 (0 + j) (omega arith) ∙ sym (known-leaf (0 + j) (omega (arith, low))) ∙ there.1));
   }
 

@@ -1,33 +1,29 @@
 -- The calls of one tree keep it good.
-use Rattle.std.proofs.Common.{◌≡◌, true, Some, inl, inr, Result, Ok, Err, IfOk, IfErr, ℕ, List, length, sym, ap, ◌∙◌, subst}
+use Rattle.std.proofs.Common.{◌≡◌, true, Some, inl, inr, Result, Ok, Err, IfOk, IfErr, ℕ, List, sym, ap, ◌∙◌, subst}
 use Rattle.std.specs.Ordering.{nat_cmp, eq_by_cmp}
 use Rattle.std.specs.Cmp.{nat_cmp_total}
 use Rattle.std.proofs.lemmas.Bool.{or_cases, eqb-true}
 use Rattle.node_maps.proofs.Known.{nat_equal}
-use Rattle.std.specs.List.{All}
 use Rattle.std.specs.FinSet as set
 use Rattle.sha2.specs.Sha256.{sha256}
 use Rattle.wire.specs.declared.message.Ask.{Ask}
-use Rattle.node_maps.specs.Digest.{Hash, IsHash}
+use Rattle.node_maps.specs.Digest.{Hash}
 use Rattle.partial_tree.specs.TreeRoot.{TreeRoot}
 use Rattle.node_maps.specs.Places.{PartialTree, IsKnown}
 use Rattle.partial_tree.specs.Closed.{IsClosed}
 use Rattle.partial_tree.specs.declared.refusal.HashRefusal.{HashRefusal}
-use Rattle.partial_tree.specs.Claims.{claims, joined, IsAccepted, TreeRefuses}
+use Rattle.partial_tree.specs.Claims.{AreHashes, claims, joined, IsAccepted, TreeRefuses}
 use Rattle.partial_tree.specs.Fill.{fill_claims, IsFillAccepted, FillRefuses}
-use Rattle.node_maps.specs.Known.{Known, Marked, look}
+use Rattle.node_maps.specs.Known.{look}
 use Rattle.partial_tree.specs.Joins.{Joins}
-use Rattle.partial_tree.specs.Kept.{TreeState, KeptTree, info_of, IsGoodTree, IsMarked}
+use Rattle.partial_tree.specs.Kept.{TreeState, KeptTree, kept, info_of, IsGoodTree, IsMarked}
 use Rattle.partial_tree.proofs.Joining.{joined-closed, joined-keeps}
 use Rattle.partial_tree.proofs.WholeLayers.{fill-closed}
 
-abbrev made : Hash → ℕ → Known → Marked → KeptTree
-made r l k m = record { root = r; length = l; state = record { known = k; marked = m } }
-
 pub same_tree : (a b : KeptTree) → b.root ≡ a.root → b.length ≡ a.length → b.state.known ≡ a.state.known → b.state.marked ≡ a.state.marked → b ≡ a
 same_tree a b r l k m =
-    ap (λ x. made x b.length b.state.known b.state.marked) r ∙ ap (λ x. made a.root x b.state.known b.state.marked) l
-    ∙ ap (λ x. made a.root a.length x b.state.marked) k ∙ ap (λ x. made a.root a.length a.state.known x) m
+    ap (λ x. kept x b.length b.state.known b.state.marked) r ∙ ap (λ x. kept a.root x b.state.known b.state.marked) l
+    ∙ ap (λ x. kept a.root a.length x b.state.marked) k ∙ ap (λ x. kept a.root a.length a.state.known x) m
 
 pub good_same : (a b : KeptTree) → b.root ≡ a.root → b.length ≡ a.length → b.state.known ≡ a.state.known → b.state.marked ≡ a.state.marked → IsGoodTree a → IsGoodTree b
 good_same a b r l k m good = subst IsGoodTree (sym (same_tree a b r l k m)) good
@@ -58,21 +54,18 @@ good_joined a b C c good r l m closed joins = record {
       (known.0, joins.joined_is 0 i ∙ joined-keeps (look a.state.known) C 0 i known.0 known.1);
 }
 
-pub are_hashes : (hashes : List Hash) → All (λ (h : List ℕ). length h ≡ 32) hashes → All IsHash hashes
-are_hashes hashes sizes = λ k d in'. record { size = sizes k d in' }
-
-pub good_taken : (a b : KeptTree) (ask : Ask) (hashes : List Hash) (c : ℕ) → IsGoodTree a → All (λ (h : List ℕ). length h ≡ 32) hashes
+pub good_taken : (a b : KeptTree) (ask : Ask) (hashes : List Hash) (c : ℕ) → IsGoodTree a → AreHashes hashes
     → b.root ≡ a.root → b.length ≡ a.length → b.state.marked ≡ a.state.marked
     → IsAccepted a.length (look a.state.known) ask hashes → Joins (claims ask hashes) a.state.known b.state.known c → IsGoodTree b
 good_taken a b ask hashes c good sizes r l m ok joins =
-    good_joined a b (claims ask hashes) c good r l m (joined-closed (info_of a) (look a.state.known) ask hashes good.closed (are_hashes hashes sizes) ok) joins
+    good_joined a b (claims ask hashes) c good r l m (joined-closed (info_of a) (look a.state.known) ask hashes good.closed sizes ok) joins
 
-pub good_filled : (a b : KeptTree) (layer : ℕ) (hashes : List Hash) (c : ℕ) → IsGoodTree a → All (λ (h : List ℕ). length h ≡ 32) hashes
+pub good_filled : (a b : KeptTree) (layer : ℕ) (hashes : List Hash) (c : ℕ) → IsGoodTree a → AreHashes hashes
     → b.root ≡ a.root → b.length ≡ a.length → b.state.marked ≡ a.state.marked
     → IsFillAccepted a.length (look a.state.known) layer hashes → Joins (fill_claims a.length layer hashes) a.state.known b.state.known c → IsGoodTree b
 good_filled a b layer hashes c good sizes r l m ok joins =
     good_joined a b (fill_claims a.length layer hashes) c good r l m
-    (fill-closed (info_of a) (look a.state.known) layer hashes ok.layer_inside ok.right_count good.closed (are_hashes hashes sizes) ok.agrees) joins
+    (fill-closed (info_of a) (look a.state.known) layer hashes ok.layer_inside ok.right_count good.closed sizes ok.agrees) joins
 
 pub good_marked : (a b : KeptTree) (i : ℕ) (bytes : List ℕ) → IsGoodTree a → b.root ≡ a.root → b.length ≡ a.length → b.state.known ≡ a.state.known
     → IsMarked a.length a.state i bytes b.state → IsGoodTree b
@@ -83,14 +76,14 @@ good_marked a b i bytes good r l k ok = record {
       (known.0, ap (λ m. look m 0 j) k ∙ known.1);
 }
 
-pub good_after_take : (a b : KeptTree) (ask : Ask) (hashes : List Hash) (r : Result ℕ HashRefusal) → IsGoodTree a → All (λ (h : List ℕ). length h ≡ 32) hashes
+pub good_after_take : (a b : KeptTree) (ask : Ask) (hashes : List Hash) (r : Result ℕ HashRefusal) → IsGoodTree a → AreHashes hashes
     → b.root ≡ a.root → b.length ≡ a.length → b.state.marked ≡ a.state.marked
     → IfOk r (λ c. IsAccepted a.length (look a.state.known) ask hashes × Joins (claims ask hashes) a.state.known b.state.known c)
     → IfErr r (λ x. TreeRefuses a.length (look a.state.known) ask hashes x × (b.state.known ≡ a.state.known)) → IsGoodTree b
 good_after_take a b ask hashes (Ok c) good sizes r l m taken refused = good_taken a b ask hashes c good sizes r l m taken.0 taken.1
 good_after_take a b ask hashes (Err x) good sizes r l m taken refused = subst IsGoodTree (sym (same_tree a b r l refused.1 m)) good
 
-pub good_after_fill : (a b : KeptTree) (layer : ℕ) (hashes : List Hash) (r : Result ℕ HashRefusal) → IsGoodTree a → All (λ (h : List ℕ). length h ≡ 32) hashes
+pub good_after_fill : (a b : KeptTree) (layer : ℕ) (hashes : List Hash) (r : Result ℕ HashRefusal) → IsGoodTree a → AreHashes hashes
     → b.root ≡ a.root → b.length ≡ a.length → b.state.marked ≡ a.state.marked
     → IfOk r (λ c. IsFillAccepted a.length (look a.state.known) layer hashes × Joins (fill_claims a.length layer hashes) a.state.known b.state.known c)
     → IfErr r (λ x. FillRefuses a.length (look a.state.known) layer hashes x × (b.state.known ≡ a.state.known)) → IsGoodTree b

@@ -5,17 +5,15 @@ use Rattle.std.specs.FinMap.{len}
 use Rattle.std.specs.List.{All}
 use Rattle.hashtree.specs.Tree.{zero_hash}
 use Rattle.partial_tree.specs.declared.evidence.Evidence.{Evidence}
-use Rattle.partial_tree.specs.declared.refusal.HashRefusal.{HashRefusal}
-use Rattle.partial_tree.specs.declared.refusal.HashRefusal.TheVariants.{UnknownRoot, BadRange, BadCount, BadPad, Unanchored, Mismatch, NoMemory, Unasked}
 use Rattle.node_maps.specs.Digest.{Hash, IsHash}
 use Rattle.partial_tree.specs.TreeRoot.{TreeRoot}
 use Rattle.node_maps.specs.Places.{tree_height, PartialTree}
 use Rattle.partial_tree.specs.Closed.{IsClosed}
 use Rattle.partial_tree.specs.Claims.{top_layer, top_index}
-use Rattle.partial_tree.specs.Fill.{fill_ask, fill_hashes, fill_claims, pad_from, IsFillAccepted, FillRefuses}
+use Rattle.partial_tree.specs.Fill.{fill_ask, fill_hashes, fill_claims, pad_from, IsFillAccepted}
 use Rattle.node_maps.specs.Known.{Known, look}
 use Rattle.partial_tree.specs.Joins.{Joins}
-use Rattle.partial_tree.specs.Evidence.{LeadsTo, StoreFault}
+use Rattle.partial_tree.specs.Evidence.{LeadsTo}
 use Rattle.node_maps.proofs.Known.{len-known}
 use Rattle.partial_tree.proofs.Powers.{div_small}
 use Rattle.partial_tree.proofs.Leading.{message-leads}
@@ -60,16 +58,6 @@ module _ (t : TreeRoot) (K : PartialTree) (l : ℕ) (given_hashes : Bor (List Ha
   -- it leads to the root
   pub layer-leads : LeadsTo layer_evidence (tree_height t.length) 0
   layer-leads = elim (eq-or-lt_of_le layer_inside) [ inl root ↦ of-root root | inr below ↦ below-root below ]
-
-fill_fault : (t : TreeRoot) (l : ℕ) (hashes : List Hash) (K : PartialTree) (r : HashRefusal) → l ≤ tree_height t.length → length hashes ≡ pad_from t.length l → StoreFault K (fill_claims t.length l hashes) r → FillRefuses t.length K l hashes r
-fill_fault t l hashes K Mismatch inside count f = (inside, count, f)
-fill_fault t l hashes K NoMemory inside count f = record { layer_inside = inside; right_count = count; agrees = f }
-fill_fault t l hashes K UnknownRoot inside count f = absurd f
-fill_fault t l hashes K BadRange inside count f = absurd f
-fill_fault t l hashes K BadCount inside count f = absurd f
-fill_fault t l hashes K BadPad inside count f = absurd f
-fill_fault t l hashes K Unanchored inside count f = absurd f
-fill_fault t l hashes K Unasked inside count f = absurd f
 
 -- what is known after a whole layer is bounded by the tree
 pub filled-len : (t : TreeRoot) (before after : Known) (l : ℕ) (hashes : List Hash) (c : ℕ) → IsClosed t (look before) → All IsHash hashes → IsFillAccepted t.length (look before) l hashes

@@ -25,7 +25,7 @@ use Rattle.partial_tree.proofs.Ranges.{span_at, pow_more}
 use Rattle.node_maps.proofs.Known.{len-known}
 use Rattle.partial_tree.proofs.Joining.{joined-closed}
 use Rattle.partial_tree.proofs.Leading.{claims-same, message-leads}
-use Rattle.partial_tree.proofs.Deciding.{pads_or_not, first_range, first_mismatch}
+use Rattle.partial_tree.proofs.Deciding.{pads_or_not, first_mismatch}
 use Rattle.partial_tree.proofs.Claimed.{either, first_of_two, second_of_two, base-read, uncle-read}
 
 -- what the tests of pads compare, from places and numbers that a body computes
@@ -164,16 +164,13 @@ module _ (ev : Evidence) (ask : Ask) (hashes : List Hash) (base : ev.base ≡ as
 -- ---- what refuses a message, test by test
 
 module _ (t : TreeRoot) (K : PartialTree) (ask : Ask) (hashes : List Hash) where
-  pub refuses_range : ¬ GoodRange (tree_height t.length) ask → TreeRefuses t.length K ask hashes BadRange
-  refuses_range wrong = record { fault = wrong; first = first_range t K ask hashes }
-
   pub accepts : GoodRange (tree_height t.length) ask → GoodCount (tree_height t.length) ask hashes → ArePadsRight t.length ask hashes → IsKnown K (top_layer ask hashes) (top_index ask hashes) → IsAgreed K (claims ask hashes) → IsAccepted t.length K ask hashes
   accepts range count pads top agreed = record { range = range; count = count; pads = pads; top_known = top; agrees = agreed }
 
   pub refuses_store : GoodRange (tree_height t.length) ask → GoodCount (tree_height t.length) ask hashes → ArePadsRight t.length ask hashes → IsKnown K (top_layer ask hashes) (top_index ask hashes)
       → (r : HashRefusal) → StoreFault K (claims ask hashes) r → TreeRefuses t.length K ask hashes r
   refuses_store range count pads top Mismatch f = record { fault = f; first = first_mismatch t K ask hashes range count pads top }
-  refuses_store range count pads top NoMemory f = accepts range count pads top f
+  refuses_store range count pads top NoMemory f = (accepts range count pads top f.0, f.1)
   refuses_store range count pads top UnknownRoot f = absurd f
   refuses_store range count pads top BadRange f = absurd f
   refuses_store range count pads top BadCount f = absurd f

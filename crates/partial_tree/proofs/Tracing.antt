@@ -1,5 +1,5 @@
 -- How the claims of evidence follow from one another, from a place down.
-use Rattle.std.proofs.Common.{◌≡◌, ◌⊎◌, ℕ, zero, suc, ◌+◌, ◌-◌, ◌*◌, ◌/◌, ◌^◌, ◌<◌, ◌≤◌, true, false, Option, is_some, Some, None, Result, Ok, Err, inl, inr, sym, ap, ◌∙◌, subst, arith, shr-shr}
+use Rattle.std.proofs.Common.{◌≡◌, ◌⊎◌, ℕ, zero, suc, ◌+◌, ◌-◌, ◌*◌, ◌/◌, ◌^◌, ◌<◌, ◌≤◌, ◌↔◌, Bool, IsTrue, true, false, Option, is_some, Some, None, Result, Ok, Err, inl, inr, sym, ap, ◌∙◌, subst, arith, shr-shr}
 use Rattle.std.specs.Option.{OnSome}
 use Rattle.std.specs.Result.{OnOk, is_err}
 use Rattle.std.specs.FinMap.{len}
@@ -11,8 +11,8 @@ use Rattle.node_maps.specs.Digest.{Hash, join}
 use Rattle.node_maps.specs.Places.{PartialTree, IsKnown, IsTreePlace}
 use Rattle.node_maps.specs.Known.{Known, look}
 use Rattle.partial_tree.specs.Joins.{insert_new, Joins}
-use Rattle.partial_tree.specs.Claims.{IsMismatch, IsAgreed}
-use Rattle.partial_tree.specs.Evidence.{range_of, hashes_of, given_by, claimed_by, IsClaimedPlace, LiesUnder, IsNoted, Grows, IsHandled, AllHandled, BelowHandled, DiffersFrom, LeadsTo, AreClaims, HasClaim}
+use Rattle.partial_tree.specs.Claims.{HasNew, IsAgreed}
+use Rattle.partial_tree.specs.Evidence.{range_of, hashes_of, given_by, claimed_by, IsClaimedPlace, LiesUnder, IsNoted, Grows, IsHandled, AllHandled, BelowHandled, LeadsTo, AreClaims, HasClaim, IsEmpty, NotesNew}
 use Rattle.partial_tree.proofs.Noting.{insert_new-joined}
 use Rattle.partial_tree.proofs.Agree.{left_or_right}
 use Rattle.node_maps.proofs.Places.{place_left, place_right}
@@ -96,10 +96,6 @@ below-children C K first second layer index grows left right = record {
   ];
 }
 
--- a claim that differs from what is known
-pub mismatch : (C : PartialTree) (m : Known) (layer index : ℕ) (h : Hash) → C layer index ≡ Some h → DiffersFrom m (record { layer = layer; index = index; hash = h }) → IsMismatch (look m) C
-mismatch C m layer index h is (v, known, other) = record { layer = layer; index = index; in_J = v; in_K = h; J_known = known; K_known = is; differ = other }
-
 -- ---- what holds where all that leads to a place is handled
 
 pub on_some : (o : Option Hash) (P : Type 0) → OnSome o P → is_some o ≡ true → P
@@ -133,3 +129,14 @@ handled-joins e m found layer index c after leads handled ok sound is gained = r
       | inl known ↦ inl known
       | inr (none, noted) ↦ inr (none, listed l i v noted)
     ]
+
+-- if no claim is noted, what was known has all that is claimed
+pub nothing-joins : (e : Evidence) (m : Known) (found : Found) (layer index : ℕ) → LeadsTo e layer index → AllHandled (claimed_by e) (look m) found layer index
+    → IsEmpty found → AreClaims (claimed_by e) found.claims.items → Joins (claimed_by e) m m 0
+nothing-joins e m found layer index leads handled empty sound =
+    handled-joins e m found layer index 0 m leads handled empty.complete sound (sym (ap (insert_new m) empty.none)) (omega arith)
+
+-- if one is noted, a place is new
+pub new_if_noted : (K C : PartialTree) (found : Found) (b : Bool) → IsTrue b ↔ IsEmpty found → b ≡ false → NotesNew K C found → HasNew K C
+new_if_noted K C found b is some (inl empty) = absurd (false≢true (sym some ∙ is.1 empty))
+new_if_noted K C found b is some (inr new) = new

@@ -1,14 +1,26 @@
 -- What a hashes message claims (BEP 52, "hash request", "hashes"), and when it is refused.
-use Rattle.std.specs.Prelude.{◌≡◌, ◌≢◌, ℕ, zero, suc, ◌+◌, ◌-◌, ◌*◌, ◌/◌, ◌%◌, ◌^◌, ◌<◌, ◌≤◌, min, leb, ltb, eqb, cond, ◌&&◌, List, ◌++◌, map, length, slice_get, Option, Some, None}
+use Rattle.std.specs.Prelude.{◌≡◌, ◌≢◌, ℕ, zero, suc, ◌+◌, ◌-◌, ◌*◌, ◌/◌, ◌%◌, ◌^◌, ◌<◌, ◌≤◌, min, nat_le, nat_lt, ◌==◌, if◌then◌else◌, ◌&&◌, List, ◌++◌, map, length, slice_get, Option, Some, None}
 use Rattle.std.specs.Option.{option_or, unwrap_or}
-use Rattle.std.specs.List.{range_with_len}
+use Rattle.std.specs.List.{All, range_with_len}
 use Rattle.wire.specs.declared.message.Ask.{Ask}
 use Rattle.node_maps.specs.Places.{tree_height, PartialTree, IsKnown}
 use Rattle.partial_tree.specs.Names.{hash_refusal_number}
 use Rattle.partial_tree.specs.declared.refusal.HashRefusal.{HashRefusal}
 use Rattle.partial_tree.specs.declared.refusal.HashRefusal.TheVariants.{UnknownRoot, BadRange, BadCount, BadPad, Unanchored, Mismatch, NoMemory, Unasked}
-use Rattle.node_maps.specs.Digest.{Hash, join}
+use Rattle.node_maps.specs.Digest.{Hash, IsHash, join}
 use Rattle.hashtree.specs.Tree.{pad_leaf, block_count, height, zero_hash}
+
+-- each of them is a hash
+abbrev pub AreHashes : List Hash → Type 0
+AreHashes = All IsHash
+
+-- the longest base range
+abbrev pub most_asked : ℕ
+most_asked = 8192
+
+-- it spans so many layers
+abbrev pub most_span : ℕ
+most_span = 13
 
 -- how many layers the base range spans: its length is 2 ^ span
 abbrev pub span : Ask → ℕ
@@ -33,14 +45,14 @@ uncles ask hashes = length hashes - ask.length
 -- the base hash of a place, if it has one
 abbrev pub base_hash : Ask → List Hash → PartialTree
 base_hash ask hashes l i =
-    cond (eqb l ask.base && (leb ask.index i && ltb i (ask.index + ask.length)))
-    (slice_get hashes (i - ask.index)) None
+    (if l == ask.base && (nat_le ask.index i && nat_lt i (ask.index + ask.length))
+    then slice_get hashes (i - ask.index) else None)
 
 -- the uncle of a place, if it has one: the sibling of a node above the base range
 abbrev pub uncle_hash : Ask → List Hash → PartialTree
 uncle_hash ask hashes l i =
-    cond (leb (cover ask) l && eqb i (sibling (above ask l)))
-    (slice_get hashes (ask.length + (l - cover ask))) None
+    (if nat_le (cover ask) l && i == sibling (above ask l)
+    then slice_get hashes (ask.length + (l - cover ask)) else None)
 
 -- the hash that the message gives for a place
 abbrev pub given : Ask → List Hash → PartialTree
@@ -60,19 +72,20 @@ claims ask hashes (suc l) i =
     option_or (given ask hashes (suc l) i)
     (join_both (claims ask hashes l (2 * i)) (claims ask hashes l (2 * i + 1)))
 
--- the last place that follows: the node above the base range over the last uncle
+-- the layer of the last place that follows: of the node above the base range over the last uncle
 abbrev pub top_layer : Ask → List Hash → ℕ
 top_layer ask hashes = cover ask + uncles ask hashes
 
+-- and its number on that layer
 abbrev pub top_index : Ask → List Hash → ℕ
 top_index ask hashes = above ask (top_layer ask hashes)
 
 -- the base range lies in a tree of height h, at a multiple of its length, a power of two from 2 to
--- 8192
+-- `most_asked`
 pub record GoodRange (h : ℕ) (ask : Ask) : Type 0 where
   pub power_of_two : 2 ^ span ask ≡ ask.length
   pub least : 2 ≤ ask.length
-  pub most : ask.length ≤ 8192
+  pub most : ask.length ≤ most_asked
   pub aligned : ask.index % ask.length ≡ 0
   pub base_inside : ask.base ≤ h
   pub range_inside : ask.index + ask.length ≤ 2 ^ (h - ask.base)
@@ -111,6 +124,14 @@ pub record IsMismatch (J K : PartialTree) : Type 0 where
   pub K_known : K layer index ≡ Some in_K
   pub differ : in_J ≢ in_K
 
+-- C has a value at a place where K has none
+pub record HasNew (K C : PartialTree) : Type 0 where
+  pub layer : ℕ
+  pub index : ℕ
+  pub value : Hash
+  pub claimed : C layer index ≡ Some value
+  pub absent : K layer index ≡ None
+
 -- what each refusal says of a message for a tree of files of this length, of which K is known
 abbrev pub Fault : ℕ → PartialTree → Ask → List Hash → HashRefusal → Type 0
 Fault len K ask hashes UnknownRoot = ⊥
@@ -137,9 +158,11 @@ pub record IsAccepted (len : ℕ) (K : PartialTree) (ask : Ask) (hashes : List H
   pub top_known : IsKnown K (top_layer ask hashes) (top_index ask hashes)
   pub agrees : IsAgreed K (claims ask hashes)
 
--- why a message is refused: the first test that fails, or out of memory if none does
+-- why a message is refused: the first test that fails; or out of memory, if none does and a place
+-- is new
 abbrev pub TreeRefuses : ℕ → PartialTree → Ask → List Hash → HashRefusal → Type 0
 TreeRefuses len K ask hashes NoMemory = IsAccepted len K ask hashes
+    × HasNew K (claims ask hashes)
 TreeRefuses len K ask hashes r = Refuses len K ask hashes r
 
 -- K and what is claimed beside it

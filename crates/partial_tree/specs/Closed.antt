@@ -1,9 +1,10 @@
 -- Closed partial trees: each known node stands with its sibling and its parent, up to the root.
-use Rattle.std.specs.Prelude.{◌≡◌, ◌≢◌, ℕ, suc, ◌+◌, ◌-◌, ◌*◌, ◌/◌, ◌^◌, ◌<◌, ◌≤◌, leb, ltb, cond, ◌&&◌, List, ◌++◌, length, Some, None}
+use Rattle.std.specs.Prelude.{◌≡◌, ◌≢◌, ℕ, suc, ◌+◌, ◌*◌, ◌/◌, ◌^◌, ◌<◌, ◌≤◌, List, ◌++◌, length, Some}
 use Rattle.sha2.specs.Sha256.{sha256}
 use Rattle.partial_tree.specs.TreeRoot.{TreeRoot}
 use Rattle.node_maps.specs.Places.{PartialTree, IsTreePlace, tree_height}
 use Rattle.node_maps.specs.Digest.{Hash, IsHash, join}
+use Rattle.node_maps.specs.Known.{within}
 use Rattle.hashtree.specs.Tree.{block, block_count, node, zero_hash}
 
 -- what is known in K is known in L
@@ -12,8 +13,7 @@ Keeps K L = (l i : ℕ) (v : Hash) → K l i ≡ Some v → L l i ≡ Some v
 
 -- the whole tree of a file
 abbrev pub whole : List ℕ → PartialTree
-whole f l i = cond (leb l (tree_height (length f)) && ltb i (2 ^ (tree_height (length f) - l)))
-    (Some (node f l i)) None
+whole f = within (tree_height (length f)) (λ l i. Some (node f l i))
 
 -- the place (l + 1, j) and its two children are known, and its value is the join of theirs
 pub record IsFamily (K : PartialTree) (l j : ℕ) : Type 0 where

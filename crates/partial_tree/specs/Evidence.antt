@@ -1,5 +1,5 @@
 -- Hashes as evidence of the nodes of a tree, and what was found in them that is not known yet.
-use Rattle.std.specs.Prelude.{◌≡◌, ◌≢◌, ◌⊎◌, ℕ, suc, ◌+◌, ◌-◌, ◌*◌, ◌/◌, ◌%◌, ◌^◌, ◌<◌, ◌≤◌, true, List, [], ◌∷◌, ◌++◌, length, replicate, Some, None}
+use Rattle.std.specs.Prelude.{◌≡◌, ◌≢◌, ◌⊎◌, ℕ, suc, ◌+◌, ◌-◌, ◌*◌, ◌/◌, ◌%◌, ◌^◌, ◌<◌, ◌≤◌, true, false, List, [], ◌∷◌, ◌++◌, length, replicate, Some, None}
 use Rattle.std.specs.List.{All}
 use Rattle.wire.specs.declared.message.Ask.{Ask}
 use Rattle.partial_tree.specs.declared.evidence.Evidence.{Evidence}
@@ -10,7 +10,7 @@ use Rattle.partial_tree.specs.declared.refusal.HashRefusal.TheVariants.{Mismatch
 use Rattle.node_maps.specs.Digest.{Hash}
 use Rattle.node_maps.specs.Places.{PartialTree, IsKnown, IsTreePlace}
 use Rattle.node_maps.specs.Known.{Known, look}
-use Rattle.partial_tree.specs.Claims.{given, claims, joined, IsAgreed, IsMismatch}
+use Rattle.partial_tree.specs.Claims.{given, claims, joined, HasNew, IsAgreed, IsMismatch}
 
 -- the fields are small
 pub record IsInside (e : Evidence) : Type 0 where
@@ -26,9 +26,11 @@ range_of e = record { root = []; base = e.base; index = e.index; length = 2 ^ e.
 abbrev pub hashes_of : Evidence → List Hash
 hashes_of e = e.hashes.now ++ replicate (2 ^ e.span - length e.hashes.now) e.pad
 
+-- the hash that is given for a place
 abbrev pub given_by : Evidence → PartialTree
 given_by e = given (range_of e) (hashes_of e)
 
+-- the hash that is claimed for a place
 abbrev pub claimed_by : Evidence → PartialTree
 claimed_by e = claims (range_of e) (hashes_of e)
 
@@ -83,6 +85,15 @@ IsNoted found l i v = (found.incomplete ≡ true) ⊎ HasClaim found.claims.item
 pub record Grows (before after : Found) : Type 0 where
   pub keeps : (l i : ℕ) (v : Hash) → IsNoted before l i v → IsNoted after l i v
 
+-- no claim is noted
+pub record IsEmpty (found : Found) : Type 0 where
+  pub complete : found.incomplete ≡ false
+  pub none : found.claims.items ≡ []
+
+-- if a claim is noted, C has a value at a place where K has none
+abbrev pub NotesNew : PartialTree → PartialTree → Found → Type 0
+NotesNew K C found = IsEmpty found ⊎ HasNew K C
+
 -- each claim is one of C
 abbrev pub AreClaims : PartialTree → List Claim → Type 0
 AreClaims C cs = All (λ (c : Claim). C c.layer c.index ≡ Some c.hash) cs
@@ -127,5 +138,5 @@ pub record IsWrittenBelow (C : PartialTree) (layer index : ℕ) (before after : 
 -- why claims are not stored
 abbrev pub StoreFault : PartialTree → PartialTree → HashRefusal → Type 0
 StoreFault K C Mismatch = IsMismatch K C
-StoreFault K C NoMemory = IsAgreed K C
+StoreFault K C NoMemory = IsAgreed K C × HasNew K C
 StoreFault K C r = ⊥

@@ -6,7 +6,7 @@ use Rattle.partial_tree.specs.declared.refusal.HashRefusal.{HashRefusal}
 use Rattle.partial_tree.specs.declared.refusal.HashRefusal.TheVariants.{BadRange, BadCount, Mismatch, NoMemory}
 use Rattle.node_maps.specs.Digest.{Hash}
 use Rattle.hashtree.specs.Tree.{block_count, first_pad, zero_hash}
-use Rattle.partial_tree.specs.Claims.{claims, IsAgreed, IsMismatch}
+use Rattle.partial_tree.specs.Claims.{claims, HasNew, IsAgreed, IsMismatch}
 
 -- the first place of a layer wholly past the file's end
 abbrev pub pad_from : ℕ → ℕ → ℕ
@@ -33,7 +33,8 @@ pub record IsFillAccepted (len : ℕ) (K : PartialTree) (l : ℕ) (hashes : List
   pub right_count : length hashes ≡ pad_from len l
   pub agrees : IsAgreed K (fill_claims len l hashes)
 
--- why a whole layer is refused: the first test that fails, or out of memory if none does
+-- why a whole layer is refused: the first test that fails; or out of memory, if none does and a
+-- place is new
 abbrev pub FillRefuses : ℕ → PartialTree → ℕ → List Hash → HashRefusal → Type 0
 FillRefuses len K l hashes BadRange = tree_height len < l
 FillRefuses len K l hashes BadCount = (l ≤ tree_height len) × (length hashes ≢ pad_from len l)
@@ -41,4 +42,5 @@ FillRefuses len K l hashes Mismatch =
     (l ≤ tree_height len) × (length hashes ≡ pad_from len l)
     × IsMismatch K (fill_claims len l hashes)
 FillRefuses len K l hashes NoMemory = IsFillAccepted len K l hashes
+    × HasNew K (fill_claims len l hashes)
 FillRefuses len K l hashes r = ⊥

@@ -1,5 +1,5 @@
 -- What is still to be asked for: aligned ranges of leaves, as a client asks for them.
-use Rattle.std.specs.Prelude.{ℕ, zero, suc, ◌+◌, ◌-◌, ◌*◌, ◌/◌, ◌^◌, min, Bool, true, false, ltb, ◌&&◌, ◌||◌, is_none, cond, Option, Some, None}
+use Rattle.std.specs.Prelude.{ℕ, zero, suc, ◌+◌, ◌-◌, ◌*◌, ◌/◌, ◌^◌, min, Bool, true, false, nat_lt, ◌&&◌, ◌||◌, is_none, if◌then◌else◌, Option, Some, None}
 use Rattle.wire.specs.declared.message.Ask.{Ask}
 use Rattle.partial_tree.specs.TreeRoot.{TreeRoot}
 use Rattle.node_maps.specs.Places.{tree_height, PartialTree}
@@ -20,13 +20,17 @@ abbrev pub some_below : (ℕ → Bool) → ℕ → Bool
 some_below p zero = false
 some_below p (suc n) = some_below p n || p n
 
--- how many leaves are asked for at once: 512, or all if there are fewer
+-- the most leaves that are asked for at once
+abbrev pub most_wanted : ℕ
+most_wanted = 512
+
+-- how many leaves are asked for at once: the most, or all if there are fewer
 abbrev pub window : ℕ → ℕ
-window len = min 512 (2 ^ tree_height len)
+window len = min most_wanted (2 ^ tree_height len)
 
 -- block i of the file has no known leaf
 abbrev pub is_missing : ℕ → PartialTree → ℕ → Bool
-is_missing len K i = ltb i (block_count len) && is_none (K 0 i)
+is_missing len K i = nat_lt i (block_count len) && is_none (K 0 i)
 
 -- range r of the leaves, from r * w on, has a block with no known leaf
 abbrev pub is_gap : ℕ → PartialTree → ℕ → Bool
@@ -48,4 +52,4 @@ want_ask t b = record {
 
 -- what to ask for to learn the leaf of block b: nothing exactly if it is known
 abbrev pub want_of : TreeRoot → PartialTree → ℕ → Option Ask
-want_of tree K b = cond (is_none (K 0 b)) (Some (want_ask tree b)) None
+want_of tree K b = (if is_none (K 0 b) then Some (want_ask tree b) else None)

@@ -1,12 +1,11 @@
 -- A tree that grows from its leaves, the first one first: BEP 52, "pieces root".
-use Rattle.std.specs.Prelude.{◌≡◌, ◌≢◌, ◌⊎◌, ℕ, ◌+◌, ◌*◌, ◌<◌, ◌≤◌, List, length, Option, Some, None}
+use Rattle.std.specs.Prelude.{◌≡◌, ◌≢◌, ◌⊎◌, ℕ, ◌+◌, ◌*◌, ◌<◌, ◌≤◌, List, Option, Some, None}
 use Rattle.std.specs.FinMap.{len}
-use Rattle.std.specs.List.{All}
 use Rattle.node_maps.specs.Digest.{Hash}
 use Rattle.node_maps.specs.Known.{Known, look}
 use Rattle.node_maps.specs.Places.{PartialTree, IsTreePlace}
 use Rattle.node_maps.specs.Runs.{AreKnown, hashes_from}
-use Rattle.partial_tree.specs.Claims.{join_both}
+use Rattle.partial_tree.specs.Claims.{AreHashes, join_both}
 use Rattle.partial_tree.specs.Fill.{fill_claims}
 
 -- what contracts see of it: the length of the tree's files, and the leaves that it was given
@@ -14,6 +13,7 @@ pub record GrownTree : Type 0 where
   pub length : ℕ
   pub leaves : List Hash
 
+-- a growing tree by its parts
 abbrev pub grown : ℕ → List Hash → GrownTree
 grown length leaves = record { length = length; leaves = leaves }
 
@@ -21,14 +21,10 @@ grown length leaves = record { length = length; leaves = leaves }
 abbrev pub leaves_in : Known → ℕ → List Hash
 leaves_in K count = hashes_from (look K 0) 0 count
 
--- each has the size of a digest
-abbrev pub HaveHashSize : List Hash → Type 0
-HaveHashSize hashes = All (λ h. length h ≡ 32) hashes
-
 -- the first leaves are known, so many, and nothing else
 pub record IsGrowing (count : ℕ) (K : Known) : Type 0 where
   pub leaves_known : AreKnown (look K 0) 0 count
-  pub hashes : HaveHashSize (leaves_in K count)
+  pub hashes : AreHashes (leaves_in K count)
   pub none_else : (l i : ℕ) → (l ≢ 0) ⊎ (count ≤ i) → look K l i ≡ None
   pub counted : len K ≡ count
 
@@ -36,7 +32,7 @@ pub record IsGrowing (count : ℕ) (K : Known) : Type 0 where
 pub record FollowsFromLeaves (files count : ℕ) (K : Known) : Type 0 where
   pub claimed : (l i : ℕ) → look K l i ≡ fill_claims files 0 (leaves_in K count) l i
   pub leaves_known : AreKnown (look K 0) 0 count
-  pub hashes : HaveHashSize (leaves_in K count)
+  pub hashes : AreHashes (leaves_in K count)
 
 -- the places from one to another of a layer got what f says, and were not known; the rest stays
 pub record AddsRow (old : Known) (layer from to : ℕ) (f : ℕ → Option Hash) (new : Known)

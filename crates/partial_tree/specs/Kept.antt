@@ -1,4 +1,4 @@
--- What contracts see of a session: its trees, and what is known and marked of each.
+-- What contracts see of a tree: what is known and marked of it.
 use Rattle.std.specs.Prelude.{◌≡◌, ◌≢◌, ℕ, ◌-◌, ◌*◌, ◌≤◌, min, true, List, length, Some, None}
 use Rattle.std.specs.FinMap.{insert, empty}
 use Rattle.std.specs.FinMap as map
@@ -23,6 +23,7 @@ pub record KeptTree : Type 0 where
   pub length : ℕ
   pub state : TreeState
 
+-- a tree by its parts
 abbrev pub kept : Hash → ℕ → Known → Marked → KeptTree
 kept root length known marked =
     record { root = root; length = length; state = record { known = known; marked = marked } }

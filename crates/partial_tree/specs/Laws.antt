@@ -1,14 +1,13 @@
 -- The laws of partial trees.
 use Rattle.std.specs.Prelude.{◌≡◌, ℕ, ◌+◌, ◌-◌, ◌/◌, ◌<◌, ◌≤◌, ◌⊎◌, List, None, Some}
-use Rattle.std.specs.List.{All}
 use Rattle.sha2.specs.Sha256.{sha256}
 use Rattle.wire.specs.declared.message.Ask.{Ask as Asked}
 use Rattle.partial_tree.specs.TreeRoot.{TreeRoot as Tree, Fits}
-use Rattle.node_maps.specs.Digest.{Hash, IsHash}
+use Rattle.node_maps.specs.Digest.{Hash}
 use Rattle.hashtree.specs.Tree.{block, block_count}
 use Rattle.node_maps.specs.Places.{tree_height, PartialTree, IsKnown, IsTreePlace}
 use Rattle.partial_tree.specs.Closed.{IsClosed, Keeps, Collision, BlockCollision, whole}
-use Rattle.partial_tree.specs.Claims.{claims, joined, top_layer, top_index, GoodRange, GoodCount, IsAccepted, IsToldBy, CanAnswer, answer_of, Refuses}
+use Rattle.partial_tree.specs.Claims.{AreHashes, claims, joined, top_layer, top_index, GoodRange, GoodCount, IsAccepted, IsToldBy, CanAnswer, answer_of, Refuses}
 use Rattle.partial_tree.specs.declared.refusal.HashRefusal.{HashRefusal as Refusal}
 use Rattle.partial_tree.specs.Fill.{fill_claims, IsFillAccepted}
 use Rattle.partial_tree.specs.Gaps.{gaps, window, want_ask}
@@ -33,7 +32,7 @@ KnownLeafNamesBlock = (t : Tree) (K : PartialTree) (f : List ℕ) → IsClosed t
 -- a partial tree stays closed when an accepted message is joined to it
 abbrev pub JoinedStaysClosed : Type 0
 JoinedStaysClosed = (t : Tree) (K : PartialTree) (ask : Asked) (hashes : List Hash) → IsClosed t K
-    → All IsHash hashes
+    → AreHashes hashes
     → IsAccepted t.length K ask hashes → IsClosed t (joined K (claims ask hashes))
 
 -- what is joined to a partial tree keeps what it has
@@ -43,7 +42,7 @@ JoinedKeeps = (K C : PartialTree) → Keeps K (joined K C)
 -- a partial tree stays closed when an accepted whole layer is joined to it
 abbrev pub FilledStaysClosed : Type 0
 FilledStaysClosed = (t : Tree) (K : PartialTree) (l : ℕ) (hashes : List Hash) → IsClosed t K
-    → All IsHash hashes
+    → AreHashes hashes
     → IsFillAccepted t.length K l hashes → IsClosed t (joined K (fill_claims t.length l hashes))
 
 -- a message with what a closed tree has is accepted by each closed tree that knows its top, or a

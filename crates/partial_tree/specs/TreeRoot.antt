@@ -5,6 +5,7 @@ use Rattle.hashtree.specs.Tree.{leaves, tree}
 use Rattle.node_maps.specs.Places.{tree_height}
 use Rattle.node_maps.specs.Digest.{Hash}
 
+-- a tree's root and the length of its files
 pub record TreeRoot : Type 0 where
   pub root : Hash
   pub length : ℕ

@@ -2,10 +2,10 @@
 
 ghost use Rattle.std.specs.Prelude.{◌≡◌, ◌+◌, ◌^◌, ◌≤◌, IfOk};
 ghost use Rattle.node_maps.specs.Known.{look};
-ghost use Rattle.partial_tree.specs.Claims.{hash_or_pad, answer_of, CanAnswer};
+ghost use Rattle.partial_tree.specs.Claims.{most_span, hash_or_pad, answer_of, CanAnswer};
 
 use crate::evidence::sibling;
-use hashtree::{Hash, NoMemory};
+use hashtree::{Hash, NoMemory, zero};
 use node_maps::NodeMap;
 use std::alloc::Global;
 use wire::Ask;
@@ -23,7 +23,7 @@ pub(crate) fn answer_hashes<N: NodeMap>(
     requires known { CanAnswer height (look (N.known nodes.now)) ask.now }
     requires span { 2 ^ span ≡ ask.now.length }
     requires some { 1 ≤ span }
-    requires small { span ≤ 13 }
+    requires small { span ≤ most_span }
     requires inside { ask.now.base + span ≤ height }
     ensures { IfOk result (λ hashes. hashes.items ≡ answer_of height
         (look (N.known nodes.now)) ask.now) }
@@ -50,5 +50,5 @@ pub(crate) fn answer_hashes<N: NodeMap>(
 fn known_or_pad<N: NodeMap>(nodes: &N, layer: u32, index: u64) -> Hash
     ensures { result ≡ hash_or_pad (look (N.known nodes.now)) layer index }
 {
-    nodes.get(layer, index).unwrap_or([0; 32])
+    nodes.get(layer, index).unwrap_or(zero(0))
 }

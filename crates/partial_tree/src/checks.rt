@@ -1,22 +1,28 @@
 //! The tests of a hashes message that need nothing of what is known.
 
-ghost use Rattle.std.specs.Prelude.{◌≡◌, ◌≢◌, ℕ, ◌+◌, ◌-◌, ◌*◌, ◌/◌, ◌%◌, ◌^◌, ◌<◌, ◌≤◌, ◌↔◌, List, [], length, get_or, IsTrue, IfOk, IfErr, Some, IfSome, IfNone};
+ghost use Rattle.std.specs.Prelude.{◌≡◌, ◌≢◌, ℕ, ◌+◌, ◌-◌, ◌*◌, ◌/◌, ◌%◌, ◌^◌, ◌<◌, ◌≤◌, ◌↔◌, List, [], length, slice_index_or, IsTrue, IfOk, IfErr, Some, IfSome, IfNone};
 ghost use Rattle.wire.specs.declared.message.Ask.{Ask as Asked};
 ghost use Rattle.partial_tree.specs.declared.refusal.HashRefusal.TheVariants.{BadRange, BadCount};
 ghost use Rattle.hashtree.specs.Tree.{zero_hash};
-ghost use Rattle.partial_tree.specs.Claims.{sibling, top_layer, GoodRange, GoodCount};
+ghost use Rattle.partial_tree.specs.Claims.{AreHashes, most_span, sibling, top_layer, GoodRange, GoodCount};
 
 use crate::evidence::sibling;
+use crate::limits::MOST_SPAN;
 use crate::pads::Pads;
 use crate::refusal::HashRefusal;
 use hashtree::Hash;
 use wire::Ask;
 
+/// Each hash has 32 bytes, as its type says.
+pub fn are_hashes(hashes: &[Hash])
+    ensures { AreHashes hashes.now }
+{}
+
 /// The span of a base range that lies in a tree of this height, at a multiple of its length.
 pub(crate) fn check_range(height: u32, ask: &Ask) -> Result<u32, HashRefusal>
     requires { height ≤ 32 }
     ensures good { IfOk result (λ k. GoodRange height ask.now × (2 ^ k ≡ ask.now.length) × (1 ≤ k)
-        × (k ≤ 13)) }
+        × (k ≤ most_span)) }
     ensures bad { IfErr result (λ r. (r ≡ BadRange) × ¬ GoodRange height ask.now) }
 {
     let span = match span_of(ask.length) {
@@ -46,7 +52,7 @@ pub(crate) fn check_count(
     requires height { height ≤ 32 }
     requires base { ask.now.base ≤ height }
     requires span { 2 ^ span ≡ ask.now.length }
-    requires small { span ≤ 13 }
+    requires small { span ≤ most_span }
     ensures good { IfOk result (λ top. GoodCount height ask.now hashes.now
         × (top ≡ top_layer ask.now hashes.now)) }
     ensures bad { IfErr result (λ r. (r ≡ BadCount) × ¬ GoodCount height ask.now hashes.now) }
@@ -79,7 +85,7 @@ pub(crate) fn base_pads_fit(
     requires inside { (index + length hashes.now) * 2 ^ base ≤ 2 ^ 32 }
     requires upward { pads.old.layer ≤ base }
     ensures fit { IsTrue result ↔ ((j : ℕ) → j < length hashes.now
-        → blocks ≤ (index + j) * 2 ^ base → get_or hashes.now j [] ≡ zero_hash base) }
+        → blocks ≤ (index + j) * 2 ^ base → slice_index_or hashes.now j [] ≡ zero_hash base) }
     ensures upward { pads.new.layer ≤ base }
 {
     let width = 1u64 << base;
@@ -104,7 +110,7 @@ pub(crate) fn uncle_pads_fit(
     requires upward { pads.old.layer ≤ cover }
     ensures { IsTrue result ↔ ((j : ℕ) → j < length uncles.now
         → blocks ≤ sibling (node / 2 ^ j) * 2 ^ (cover + j)
-        → get_or uncles.now j [] ≡ zero_hash (cover + j)) }
+        → slice_index_or uncles.now j [] ≡ zero_hash (cover + j)) }
 {
     let mut layer = cover;
     let mut width = 1u64 << cover;
@@ -122,10 +128,10 @@ pub(crate) fn uncle_pads_fit(
 
 // The power of two that a length from 2 to 8192 is, if it is one.
 fn span_of(length: u32) -> Option<u32>
-    ensures found { IfSome result (λ k. (2 ^ k ≡ length) × (1 ≤ k) × (k ≤ 13)) }
-    ensures none { IfNone result ((k : ℕ) → 1 ≤ k → k ≤ 13 → 2 ^ k ≢ length) }
+    ensures found { IfSome result (λ k. (2 ^ k ≡ length) × (1 ≤ k) × (k ≤ most_span)) }
+    ensures none { IfNone result ((k : ℕ) → 1 ≤ k → k ≤ most_span → 2 ^ k ≢ length) }
 {
-    for span in 1..14u32 {
+    for span in 1..MOST_SPAN + 1 {
         if length == 1 << span {
             return Some(span);
         }

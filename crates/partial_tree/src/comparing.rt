@@ -6,7 +6,7 @@ ghost use Rattle.std.specs.Bool.{OnTrue, OnFalse};
 ghost use Rattle.node_maps.specs.Places.{tree_height, PartialTree};
 ghost use Rattle.node_maps.specs.Known.{look};
 ghost use Rattle.partial_tree.specs.Claims.{IsMismatch};
-ghost use Rattle.partial_tree.specs.Evidence.{claimed_by, IsClaimedPlace, AllHandled, BelowHandled, Grows, AreClaims, IsHandledClaim, DiffersFrom};
+ghost use Rattle.partial_tree.specs.Evidence.{claimed_by, IsClaimedPlace, AllHandled, BelowHandled, Grows, AreClaims, NotesNew, IsHandledClaim, DiffersFrom};
 
 use crate::evidence::Evidence;
 use crate::found::{Claim, Found};
@@ -25,6 +25,7 @@ pub(crate) fn trace<N: NodeMap>(
 ) -> Option<Hash>
     requires at { IsClaimedPlace (tree_height (N.length map.now)) evidence.now layer index }
     requires sound { AreClaims (claimed_by evidence.now) found.old.claims.items }
+    requires notes_new { NotesNew (look (N.known map.now)) (claimed_by evidence.now) found.old }
     ensures value { IfSome result (λ v. claimed_by evidence.now layer index ≡ Some v) }
     ensures handled { OnSome result (AllHandled (claimed_by evidence.now)
         (look (N.known map.now)) found.new layer index) }
@@ -32,6 +33,7 @@ pub(crate) fn trace<N: NodeMap>(
         (claimed_by evidence.now)) }
     ensures grows { Grows found.old found.new }
     ensures sound { AreClaims (claimed_by evidence.now) found.new.claims.items }
+    ensures notes_new { NotesNew (look (N.known map.now)) (claimed_by evidence.now) found.new }
 {
     let hash = derive(map, evidence, found, layer, index)?;
     if !compare(map, found, Claim { layer, index, hash }) {
@@ -52,6 +54,7 @@ fn derive<N: NodeMap>(
 ) -> Option<Hash>
     requires at { IsClaimedPlace (tree_height (N.length map.now)) evidence.now layer index }
     requires sound { AreClaims (claimed_by evidence.now) found.old.claims.items }
+    requires notes_new { NotesNew (look (N.known map.now)) (claimed_by evidence.now) found.old }
     ensures value { IfSome result (λ v. claimed_by evidence.now layer index ≡ Some v) }
     ensures handled { OnSome result (BelowHandled (claimed_by evidence.now)
         (look (N.known map.now)) found.new layer index) }
@@ -59,6 +62,7 @@ fn derive<N: NodeMap>(
         (claimed_by evidence.now)) }
     ensures grows { Grows found.old found.new }
     ensures sound { AreClaims (claimed_by evidence.now) found.new.claims.items }
+    ensures notes_new { NotesNew (look (N.known map.now)) (claimed_by evidence.now) found.new }
 {
     match evidence.given(layer, index) {
         Some(hash) => Some(hash),
@@ -78,6 +82,9 @@ fn compare<N: NodeMap>(map: &N, found: &mut Found, claim: Claim) -> bool
     ensures grows { Grows found.old found.new }
     ensures sound { (C : PartialTree) → C claim.layer claim.index ≡ Some claim.hash
         → AreClaims C found.old.claims.items → AreClaims C found.new.claims.items }
+    ensures notes_new { (C : PartialTree) → C claim.layer claim.index ≡ Some claim.hash
+        → NotesNew (look (N.known map.now)) C found.old
+        → NotesNew (look (N.known map.now)) C found.new }
 {
     match map.get(claim.layer, claim.index) {
         Some(known) => known == claim.hash,

@@ -35,14 +35,6 @@ pub(crate) struct Evidence<'a> {
     pub(crate) pad: Hash,
 }
 
-/// The other child of a place's parent.
-pub(crate) fn sibling(index: u64) -> u64
-    requires { index < 2 ^ 63 }
-    ensures { result ≡ sibling index }
-{
-    if index % 2 == 0 { index + 1 } else { index - 1 }
-}
-
 impl<'a> Evidence<'a> {
     ghost use Rattle.partial_tree.specs.Evidence.{range_of, hashes_of, given_by, row_first, row_height};
 
@@ -117,4 +109,12 @@ impl<'a> Evidence<'a> {
             None
         }
     }
+}
+
+/// The other child of a place's parent.
+pub(crate) fn sibling(index: u64) -> u64
+    requires { index < 2 ^ 63 }
+    ensures { result ≡ sibling index }
+{
+    if index % 2 == 0 { index + 1 } else { index - 1 }
 }

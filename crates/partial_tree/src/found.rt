@@ -1,6 +1,6 @@
 //! What hashes claim of a tree and is not known yet.
 
-ghost use Rattle.std.specs.Prelude.{◌≡◌, ◌⊎◌, ℕ, ◌++◌, ◌∷◌, [], true, false};
+ghost use Rattle.std.specs.Prelude.{◌≡◌, ◌⊎◌, ℕ, ◌↔◌, ◌++◌, ◌∷◌, [], true, false, IsTrue};
 
 use hashtree::Hash;
 use std::alloc::Global;
@@ -22,7 +22,7 @@ pub(crate) struct Found {
 }
 
 impl Found {
-    ghost use Rattle.partial_tree.specs.Evidence.{IsNoted, Grows, AreClaims};
+    ghost use Rattle.partial_tree.specs.Evidence.{IsEmpty, IsNoted, Grows, AreClaims};
     ghost use Rattle.node_maps.specs.Places.{PartialTree};
 
     /// Nothing yet, with room for so many claims, or for none if memory is refused.
@@ -38,6 +38,13 @@ impl Found {
             claims,
             incomplete: false,
         }
+    }
+
+    /// Whether no claim is noted.
+    pub(crate) fn is_empty(&self) -> bool
+        ensures { IsTrue result ↔ IsEmpty self.now }
+    {
+        !self.incomplete && self.claims.is_empty()
     }
 
     /// Lists a claim, if there is room.

@@ -13,6 +13,7 @@ mod filling;
 mod found;
 mod growing;
 pub mod laws;
+mod limits;
 mod pads;
 mod refusal;
 mod storing;
@@ -21,6 +22,7 @@ mod tree;
 mod writing;
 
 pub use answer::Answer;
+pub use checks::are_hashes;
 pub use growing::{GrowingTree, GrownTree};
 pub use hashtree::NoMemory;
 pub use refusal::{BlockRefusal, HashRefusal};

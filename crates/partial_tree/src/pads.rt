@@ -3,7 +3,7 @@
 ghost use Rattle.std.specs.Prelude.{◌≡◌, ◌≤◌};
 ghost use Rattle.hashtree.specs.Tree.{zero_hash};
 
-use hashtree::{Hash, parent};
+use hashtree::{Hash, parent, zero};
 
 /// The hash over pads on the layer that was asked for last; each layer above costs one digest.
 #[derive(Drop)]
@@ -21,7 +21,7 @@ impl Pads {
     {
         Pads {
             layer: 0,
-            hash: [0; 32],
+            hash: zero(0),
         }
     }
 

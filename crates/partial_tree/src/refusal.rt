@@ -2,9 +2,9 @@
 
 use thiserror::Error;
 
-/// Why hashes are refused. Whether they were asked for is tested first, if that counts; the other
-/// tests run in the order of the numbers. The first test that fails is told. A refusal leaves
-/// content and marks as they were.
+/// Why hashes are refused. The tests run in the order of the numbers, but `Unasked` comes first, if
+/// requests are noted. The first that fails is the answer. A refusal leaves content and marks as
+/// they were.
 #[derive(Clone, Copy, Debug, PartialEq, Eq, Error)]
 pub enum HashRefusal {
     /// No tree has the root.
@@ -15,7 +15,7 @@ pub enum HashRefusal {
     #[error("the hashes are for no range of the tree")]
     BadRange,
     /// Hashes are missing, or the uncles are more than were asked for or lead past the root; for a
-    /// whole layer: there are not as many hashes as the layer has over the file.
+    /// whole layer: there is not one hash for each place that covers a part of the file.
     #[error("the number of hashes is wrong")]
     BadCount,
     /// A hash wholly past the file's end is not the one over pads alone.
@@ -27,10 +27,10 @@ pub enum HashRefusal {
     /// A given or computed hash differs from a known one.
     #[error("a hash differs from a known one")]
     Mismatch,
-    /// Out of memory, and nothing else is wrong.
+    /// Out of memory: nothing else is wrong, and a place is new.
     #[error("out of memory")]
     NoMemory,
-    /// Nobody asked for them; a tree never tells this.
+    /// No open ask has these five fields. Only a session that notes its requests answers this.
     #[error("nobody asked for the hashes")]
     Unasked,
 }

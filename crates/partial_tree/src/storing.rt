@@ -11,6 +11,7 @@ ghost use Rattle.partial_tree.specs.Evidence.{claimed_by, LeadsTo, IsInside, Are
 use crate::comparing::trace;
 use crate::evidence::Evidence;
 use crate::found::Found;
+use crate::limits::{MAX_HEIGHT, MOST_ASKED};
 use crate::refusal::HashRefusal;
 use crate::writing::{put_new, write_claimed};
 use hashtree::NoMemory;
@@ -19,7 +20,7 @@ use std::alloc::Global;
 
 // How many claims are listed at most: those of the longest message. They take less than a
 // mebibyte.
-const MOST_LISTED: usize = 2 * 8192 + 2 * 32;
+const MOST_LISTED: usize = 2 * MOST_ASKED + 2 * MAX_HEIGHT;
 
 /// Stores what the evidence claims, which leads to the place, and tells how many places are newly
 /// known. What is new is listed while it is compared, up to what the longest message claims; more
@@ -48,6 +49,9 @@ pub(crate) fn store<N: NodeMap>(
     let mut found = Found::new(alloc, room_for(evidence));
     if trace(map, evidence, &mut found, layer, index).is_none() {
         return Err(HashRefusal::Mismatch);
+    }
+    if found.is_empty() {
+        return Ok(0);
     }
     if reserve_claimed(map, evidence, layer, index).is_err() {
         map.trim();
@@ -120,7 +124,7 @@ fn put_found<N: NodeMap>(
 fn room_for(evidence: &Evidence) -> usize
     requires { IsInside evidence.now }
 {
-    let most = (2usize << evidence.span) + 2 * 32;
+    let most = (2usize << evidence.span) + 2 * MAX_HEIGHT;
     if most <= MOST_LISTED { most } else { 0 }
 }
 

@@ -3,7 +3,7 @@
 ghost use Rattle.std.specs.Prelude.{◌≡◌, ℕ, ◌+◌, ◌-◌, ◌/◌, ◌^◌, ◌<◌, ◌≤◌, IfOk, IfErr, length};
 ghost use Rattle.std.specs.Bool.{OnTrue, OnFalse};
 ghost use Rattle.node_maps.specs.Places.{tree_height, IsKnown, IsTreePlace};
-ghost use Rattle.partial_tree.specs.Claims.{IsBadPad, ArePadsRight, GoodRange, GoodCount};
+ghost use Rattle.partial_tree.specs.Claims.{most_span, IsBadPad, ArePadsRight, GoodRange, GoodCount};
 ghost use Rattle.node_maps.specs.Known.{look};
 ghost use Rattle.partial_tree.specs.Joins.{TakesHashes, RefusesHashes};
 
@@ -12,7 +12,7 @@ use crate::evidence::Evidence;
 use crate::pads::Pads;
 use crate::refusal::HashRefusal;
 use crate::storing::store;
-use hashtree::{Hash, Shape};
+use hashtree::{Hash, Shape, zero};
 use node_maps::NodeMap;
 use std::alloc::Global;
 use wire::Ask;
@@ -53,7 +53,7 @@ pub(crate) fn take_message<N: NodeMap>(
         index: u64::from(ask.index),
         span,
         hashes,
-        pad: [0; 32],
+        pad: zero(0),
     };
     store(alloc, nodes, &evidence, top, index)
 }
@@ -64,7 +64,7 @@ fn pads_fit(shape: Shape, ask: &Ask, span: u32, hashes: &[Hash]) -> bool
     requires low { tree_height shape ≤ 32 }
     requires span { 2 ^ span ≡ ask.now.length }
     requires some { 1 ≤ span }
-    requires small { span ≤ 13 }
+    requires small { span ≤ most_span }
     requires count { GoodCount (tree_height shape) ask.now hashes.now }
     ensures fit { OnTrue result (ArePadsRight shape ask.now hashes.now) }
     ensures not { OnFalse result (IsBadPad shape ask.now hashes.now) }

@@ -14,7 +14,6 @@
 //! ```
 
 ghost use Rattle.std.specs.Prelude.{◌≡◌, ℕ, ◌+◌, ◌^◌, ◌<◌, ◌≤◌, ◌↔◌, IfOk, IfErr, OnErr, IsTrue, length};
-ghost use Rattle.std.specs.List.{All};
 ghost use Rattle.std.specs.FinMap as finite;
 ghost use Rattle.std.specs.FinSet as set;
 ghost use Rattle.hashtree.specs.Tree.{block_count};
@@ -31,9 +30,10 @@ ghost use Rattle.partial_tree.specs.Kept.{info_of, root_alone, IsGoodTree, IsMar
 use crate::adopting::{agree, carry_marks};
 use crate::answer::Answer;
 use crate::answering::answer_hashes;
-use crate::checks::check_range;
+use crate::checks::{are_hashes, check_range};
 use crate::filling::{fill_layer, plant_layer};
 use crate::growing::GrownTree;
+use crate::limits::MOST_WANTED;
 use crate::refusal::{BlockRefusal, HashRefusal};
 use crate::taking::take_message;
 use hashtree::{Hash, NoMemory, Shape, leaf};
@@ -117,8 +117,9 @@ impl<N: NodeMap> Tree<N> {
         self.marked
     }
 
-    /// Takes a hashes message that names this tree's root, and tells how many places are newly
-    /// known. A refusal leaves the tree unchanged. Condition: the tree is good.
+    /// Takes a hashes message that names this tree's root. Returns how many places are newly known.
+    /// A refusal leaves the tree unchanged; it is out of memory only if a place is new. Condition:
+    /// the tree is good.
     pub fn take(&mut self, ask: &Ask, hashes: &[Hash]) -> Result<u64, HashRefusal>
         requires { IsGoodTree self.old }
         ensures root { self.new.root ≡ self.old.root }
@@ -142,8 +143,9 @@ impl<N: NodeMap> Tree<N> {
         Ok(gained)
     }
 
-    /// Takes a whole layer, given without the pads at its end, and tells how many places are newly
-    /// known. A refusal leaves the tree unchanged. Condition: the tree is good.
+    /// Takes a whole layer, given without the pads at its end. Returns how many places are newly
+    /// known. A refusal leaves the tree unchanged; it is out of memory only if a place is new.
+    /// Condition: the tree is good.
     pub fn fill(&mut self, layer: u32, hashes: &[Hash]) -> Result<u64, HashRefusal>
         requires { IsGoodTree self.old }
         ensures root { self.new.root ≡ self.old.root }
@@ -167,11 +169,10 @@ impl<N: NodeMap> Tree<N> {
         Ok(gained)
     }
 
-    /// Takes a whole layer that would be accepted, and tells how many places are newly known. So
-    /// nothing has to be compared, and each digest is computed once. Fails only if memory was
-    /// refused; the tree is then unchanged. Conditions: the tree is good, the layer is one of its
-    /// own, given without the pads at its end, and what follows from it differs nowhere from what
-    /// is known.
+    /// Takes a whole layer that would be accepted. Returns how many places are newly known. Nothing
+    /// has to be compared, and each digest is computed once. Fails only if memory was refused; the
+    /// tree is then unchanged. Conditions: the tree is good, the layer is one of its own, given
+    /// without the pads at its end, and what follows from it differs nowhere from what is known.
     pub fn plant(&mut self, layer: u32, hashes: &[Hash]) -> Result<u64, NoMemory>
         requires good { IsGoodTree self.old }
         requires accepted { IsFillAccepted self.old.length (look self.old.state.known) layer
@@ -189,8 +190,8 @@ impl<N: NodeMap> Tree<N> {
         Ok(gained)
     }
 
-    /// Takes over a whole tree that grew from its leaves, and tells how many places are newly
-    /// known: what [`Tree::fill`] with these leaves would do, but the hashes stay where they are.
+    /// Takes over a whole tree that grew from its leaves. Returns how many places are newly known.
+    /// It does what [`Tree::fill`] with these leaves would do, but the hashes stay where they are.
     /// It takes no memory, and refuses only a tree that differs from what is known; this tree is
     /// then unchanged. Conditions: this tree is good, and both are of files of one length.
     pub fn adopt(&mut self, grown: GrownTree<N>) -> Result<u64, HashRefusal>
@@ -203,7 +204,7 @@ impl<N: NodeMap> Tree<N> {
             self.old.state.known c self.new.state.known) }
         ensures refused { IfErr result (λ r. RefusesLayer self.old.length 0 grown.leaves
             self.old.state.known r self.new.state.known) }
-        ensures no_memory { IfErr result (λ r. r ≡ Mismatch) }
+        ensures only_mismatch { IfErr result (λ r. r ≡ Mismatch) }
         ensures good { IsGoodTree self.new }
     {
         let mut nodes = grown.nodes;
@@ -261,7 +262,7 @@ impl<N: NodeMap> Tree<N> {
         }
         let blocks = self.shape.blocks();
         prove!(block < blocks);
-        let length = 512u64.min(1 << self.height);
+        let length = MOST_WANTED.min(1 << self.height);
         Some(Ask {
             root: self.root,
             base: 0,
@@ -300,11 +301,6 @@ impl<N: NodeMap> Tree<N> {
         Ok(())
     }
 }
-
-// Each hash has 32 bytes, as its type says.
-fn are_hashes(hashes: &[Hash])
-    ensures { All (λ h. length h ≡ 32) hashes.now }
-{}
 
 // Marks a known leaf, and tells how many more are marked.
 fn mark_leaf<N: NodeMap>(nodes: &mut N, block: u64) -> u64

@@ -26,8 +26,7 @@ pub record IsFirstBad (piece_length : ℕ) (pieces : List (List ℕ)) (content :
   pub none : bad ≡ None → (k : ℕ) → k < n → IsCutListed piece_length pieces content k
   pub before : (i : ℕ) → bad ≡ Some i → (k : ℕ) → k < i → IsCutListed piece_length pieces content k
   pub within : (i : ℕ) → bad ≡ Some i → i < n
-  pub differs : (i : ℕ) → bad ≡ Some i
-      → slice_get pieces i ≢ Some (sha1 (cut piece_length content i))
+  pub differs : (i : ℕ) → bad ≡ Some i → IsCutListed piece_length pieces content i → ⊥
 
 -- the feed compares with these pieces at this piece length, knows of all cuts before the running
 -- one, and holds that, unless one was bad

@@ -8,7 +8,7 @@ mod v1;
 mod v1_cuts;
 mod v1_feed;
 
-pub use piece_length::PieceLength;
+pub use piece_length::{MAX_PIECES, PieceLength};
 pub use v1::V1;
 pub use v1_cuts::{V1Cuts, V1File};
 pub use v1_feed::V1Feed;

@@ -1,7 +1,7 @@
 //! The digests of one file's cuts, as a hybrid lists them (BEP 3, "pieces"; BEP 47, "Padding
 //! Files").
 
-ghost use Rattle.std.specs.Prelude.{◌≡◌, ◌⊎◌, ℕ, ◌*◌, ◌+◌, ◌<◌, ◌≤◌, ◌++◌, [], List, length, take, true, IsErr, IfOk, OnOk, OnErr, vec_len};
+ghost use Rattle.std.specs.Prelude.{◌≡◌, ◌⊎◌, ℕ, ◌*◌, ◌+◌, ◌<◌, ◌≤◌, [], List, length, take, true, IsErr, IfOk, OnOk, OnErr, vec_len};
 ghost use Rattle.std.specs.Vec.{vec_capacity};
 
 use crate::cutter::Cutter;
@@ -13,8 +13,8 @@ use std::alloc::Global;
 pub struct V1File {
     /// The digests of the file's own cuts of piece length; the last cut may be shorter.
     pub cuts: Vec<[u8; 20]>,
-    /// The digest of the last cut, filled up with zeros to the piece length; 20 zeros if the file
-    /// is empty.
+    /// The digest of the last cut, filled up with zeros to the piece length. Of an empty file it
+    /// means nothing.
     pub padded: [u8; 20],
 }
 

@@ -1,6 +1,6 @@
 //! The version 1 stream of a hybrid, compared with its digests as its bytes come (BEP 3, "pieces").
 
-ghost use Rattle.std.specs.Prelude.{◌≡◌, ℕ, ◌+◌, ◌-◌, ◌*◌, ◌^◌, ◌<◌, ◌≤◌, ◌++◌, [], List, length, take, replicate, slice_get, Some, None, is_some, true, IsTrue, ◌↔◌};
+ghost use Rattle.std.specs.Prelude.{◌≡◌, ℕ, ◌+◌, ◌-◌, ◌*◌, ◌<◌, ◌≤◌, ◌++◌, [], List, length, take, replicate, slice_get, Some, None, is_some, true, IsTrue, ◌↔◌};
 ghost use Rattle.pieces.specs.Cuts.{IsComparison, IsNext, cut_digests};
 
 use crate::cutter::{Cutter, ZEROS};

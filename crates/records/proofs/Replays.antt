@@ -1,5 +1,5 @@
 -- The loop of a replay: one more frame, and the end.
-use Rattle.std.proofs.Common.{◌≡◌, ◌≤◌, ◌+◌, ◌++◌, ◌||◌, ℕ, suc, Bool, false, List, [], ◌∷◌, length, Option, Some, None, Result, Ok, Err, IfOk, OnErr, refl, sym, ap, ◌∙◌, append_assoc, subst, subst₂, inl, inr, arith}
+use Rattle.std.proofs.Common.{◌≡◌, ◌≤◌, ◌+◌, ◌++◌, ◌||◌, ℕ, suc, Bool, false, List, [], ◌∷◌, length, Option, Some, None, Result, Ok, Err, IfOk, OnErr, refl, sym, ap, ◌∙◌, append_assoc, subst, inl, inr, arith}
 use Rattle.std.specs.Prelude.{is_some}
 use Rattle.std.specs.List.{list_any}
 use Rattle.std.proofs.lemmas.List.{append-nil, length-append, map-append}
@@ -24,9 +24,9 @@ use Rattle.wire.specs.declared.form.Form.TheVariants.{One, Two}
 use Rattle.wire.specs.Reading.{Gave}
 use Rattle.wire.specs.RecordReading.{EndsRecord, GavePart, StopsAt, StopsInRecord}
 use Rattle.wire.specs.Records.{Directed, MayStand}
-use Rattle.session.specs.Chain.{Chain}
+use Rattle.chains.specs.Chain.{Chain}
 use Rattle.session.specs.Session.{SessionSeen}
-use Rattle.session.proofs.Chains.{Chain-more}
+use Rattle.chains.proofs.Chains.{Chain-more}
 use Rattle.records.specs.declared.told.Told.{Told}
 use Rattle.records.specs.declared.ending.Ending.{Ending}
 use Rattle.records.specs.declared.ending.Ending.TheVariants as ending
@@ -98,25 +98,25 @@ run_at wanted None form part a b c S S' ds hs r p run =
 run_at wanted (Some k) form part a b c S S' ds hs r p run =
     subst (λ f. Chain (Handles wanted f) S ds hs S') (sym p.reads.0) run
 
-nothing_read : (s : SourceSeen) → GaveRecord s s One [] []
-nothing_read s = record {
+nothing_read : (a b : SourceSeen) → b ≡ a → GaveRecord a b One [] []
+nothing_read a b e = record {
   bytes = [];
-  gave = Gave-nil s;
+  gave = subst (λ s. Gave a s []) (sym e) (Gave-nil a);
   whole = record { has_form = λ rest e. let no : ⊥ = cc in no; whole = refl; each = All-nil (MayStand One); cut = cut-nothing One };
 }
 
 -- out of memory before the first frame
-replayed_nothing : (wanted : Bool) (s : SourceSeen) (S : SessionSeen) → Replayed wanted s s S S [] (Some (ending.Fault fault.NoMemory))
+replayed_nothing : (old new : ReplaySeen) → new.source ≡ old.source → new.session ≡ old.session → Replayed old new [] (Some (ending.Fault fault.NoMemory))
 unfolding nothing_read
-replayed_nothing wanted s S = record {
+replayed_nothing old new source session = record {
   form = One;
   frames = [];
   rest = [];
-  read = nothing_read s;
-  run = refl;
+  read = nothing_read old.source new.source source;
+  run = session;
   ended = refl;
   unread = λ e. refl;
-  counted = refl;
+  counted = ap (λ s. s.faults) source;
 }
 
 record_of : (a c : SourceSeen) (form : Form) (ds : List (Directed (List ℕ))) (part : List ℕ) → HasReadTo a c form ds part → GaveRecord a c form ds part
@@ -134,22 +134,22 @@ no_frames a b ds r = record {
 }
 
 -- a replay that has not ended
-replayed_of : (wanted : Bool) (known : Option Form) (old now : SourceSeen) (S S' : SessionSeen) (hs : List Handled) → SoFar wanted known old now S S' hs → Replayed wanted old now S S' hs None
-replayed_of wanted None old now S S' hs s = record {
+replayed_of : (known : Option Form) (old now : ReplaySeen) (hs : List Handled) → SoFar (is_some old.answers) known old.source now.source old.session now.session hs → Replayed old now hs None
+replayed_of None old now hs s = record {
   form = One;
   frames = [];
   rest = [];
-  read = no_frames old now s.frames s.read;
-  run = subst (λ ys. Chain (Handles wanted One) S [] ys S') (sym s.run.0) s.run.1;
+  read = no_frames old.source now.source s.frames s.read;
+  run = subst (λ ys. Chain (Handles (is_some old.answers) One) old.session [] ys now.session) (sym s.run.0) s.run.1;
   ended = refl;
   unread = λ e. let no : ⊥ = cc in absurd no;
   counted = s.counted;
 }
-replayed_of wanted (Some form) old now S S' hs s = record {
+replayed_of (Some form) old now hs s = record {
   form = form;
   frames = s.frames;
   rest = [];
-  read = whole_so_far old now form s.frames s.read;
+  read = whole_so_far old.source now.source form s.frames s.read;
   run = s.run;
   ended = refl;
   unread = λ e. let no : ⊥ = cc in absurd no;
@@ -168,17 +168,18 @@ so_far_more wanted known form old mid new S S' S'' hs h s next = record {
 }
 
 -- less than a frame, and then the end
-replayed_ends : (wanted : Bool) (known : Option Form) (old mid new : SourceSeen) (S S' S'' : SessionSeen) (hs : List Handled) (e : Ending)
-    → SoFar wanted known old mid S S' hs → TellsEnding known mid new e → S'' ≡ S' → Replayed wanted old new S S'' hs (Some e)
-replayed_ends wanted known old mid new S S' S'' hs e s next stays = record {
+replayed_ends : (known : Option Form) (old mid new : ReplaySeen) (hs : List Handled) (e : Ending)
+    → SoFar (is_some old.answers) known old.source mid.source old.session mid.session hs → TellsEnding known mid.source new.source e → new.session ≡ mid.session → Replayed old new hs (Some e)
+replayed_ends known old mid new hs e s next stays = record {
   form = next.form;
   frames = s.frames;
   rest = next.part;
-  read = record_of old new next.form s.frames next.part (read_to old mid new known next.form s.frames next.part s.read next.gave next.cut);
-  run = subst (Chain (Handles wanted next.form) S s.frames hs) (sym stays) (run_at wanted known next.form next.part old mid new S S' s.frames hs s.read next.gave s.run);
+  read = record_of old.source new.source next.form s.frames next.part (read_to old.source mid.source new.source known next.form s.frames next.part s.read next.gave next.cut);
+  run = subst (Chain (Handles (is_some old.answers) next.form) old.session s.frames hs) (sym stays)
+      (run_at (is_some old.answers) known next.form next.part old.source mid.source new.source old.session mid.session s.frames hs s.read next.gave s.run);
   ended = next.ended;
   unread = λ is. absurd (next.had_room (same_Some e (ending.Fault fault.NoMemory) is));
-  counted = subst (λ n. CountsEnding n new.faults (Some e)) s.counted next.counted;
+  counted = subst (λ n. CountsEnding n new.source.faults (Some e)) s.counted next.counted;
 }
 
 -- the end of the source between two frames
@@ -341,7 +342,7 @@ cut_in_answer {old} {mid} {known} {form} {n} {o} {d} {r} new so_far next wrote (
     let cut : IsCutInAnswer old new = record {
       before = hs;
       last = h;
-      handles = replayed_of (is_some old.answers) (Some form) old.source new.source old.session new.session (hs ++ h ∷ []) (handled_more new bytes so_far next replies);
+      handles = replayed_of (Some form) old new (hs ++ h ∷ []) (handled_more new bytes so_far next replies);
       lines = subst (Sent old.report new.report) (sym lines)
           (Sent-append old.report mid.report new.report (lines_from 1 hs) (lines_of (n + 1) d) so_far.sent wrote);
       broke = broke_after old.answers mid.answers new.answers (answers_of hs) bytes so_far.answered broke;
@@ -364,8 +365,7 @@ pub in_end_at_once : (old new : ReplaySeen) (o : Outcome) → new.source ≡ old
     → InEnd old old new (ending.Fault fault.NoMemory) o
 in_end_at_once old new o source session refused no_memory = record {
   handled = [];
-  ends = inl (subst₂ (λ s S. Replayed (is_some old.answers) old.source s old.session S [] (Some (ending.Fault fault.NoMemory))) (sym source) (sym session)
-      (replayed_nothing (is_some old.answers) old.source old.session));
+  ends = inl (replayed_nothing old new source session);
   sent = record { bytes = Appends_nothing old.report.written; faults = refl; flushes = refl };
   answered = none_sent old.answers;
   refused_is = refused;
@@ -377,7 +377,7 @@ pub in_end_of_record : {old mid new : ReplaySeen} {known : Option Form} {n : ℕ
     → new.session ≡ mid.session → InEnd old mid new e o
 in_end_of_record {old} {mid} {new} {known} {n} {o} {e} so_far next stays = record {
   handled = so_far.handled;
-  ends = inl (replayed_ends (is_some old.answers) known old.source mid.source new.source old.session mid.session new.session so_far.handled e so_far.so_far next stays);
+  ends = inl (replayed_ends known old mid new so_far.handled e so_far.so_far next stays);
   sent = so_far.sent;
   answered = so_far.answered;
   refused_is = so_far.refused_is;

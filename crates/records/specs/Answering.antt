@@ -15,6 +15,7 @@ use Rattle.wire.specs.Frames.{IsBody}
 use Rattle.wire.specs.Frames as stream
 use Rattle.wire.specs.Meaning.{MeansMessage}
 use Rattle.wire.specs.Records.{Directed}
+use Rattle.wire.specs.Writable.{max_hashes}
 use Rattle.node_maps.specs.Digest.{Hash}
 use Rattle.partial_tree.specs.declared.answer.Answer.{Answer}
 use Rattle.partial_tree.specs.declared.answer.Answer.TheVariants as answer
@@ -45,7 +46,7 @@ IsAnswerFrame ask answer.Reject bytes = IsFrameOf (message.Reject ask) bytes
 
 -- the answer fits a frame
 abbrev pub HasFewHashes : Answer → Type 0
-HasFewHashes (answer.Hashes hashes) = length hashes.items ≤ 8224
+HasFewHashes (answer.Hashes hashes) = length hashes.items ≤ max_hashes
 HasFewHashes answer.Reject = Unit {0}
 
 -- the frame that answers a request in this state: of the hashes that are asked for, if they are

@@ -17,7 +17,7 @@ use Rattle.wire.specs.RecordReading.{GaveFrame, GavePart, IsOtherStart, IsPart}
 use Rattle.wire.specs.Records.{Directed, IsCut, MeansDirected, RecordFrames}
 use Rattle.session.specs.declared.verdict.Verdict.{Verdict}
 use Rattle.session.specs.declared.verdict.Verdict.TheVariants as verdict
-use Rattle.session.specs.Chain.{Chain}
+use Rattle.chains.specs.Chain.{Chain}
 use Rattle.session.specs.Noted.{IsSafeNotedStep}
 use Rattle.session.specs.SafeStep.{IsSafeStep}
 use Rattle.session.specs.Session.{SessionSeen}
@@ -117,19 +117,32 @@ pub record GaveRecord (old new : SourceSeen) (form : Form) (frames : List (Direc
   pub gave : Gave old new bytes
   pub whole : RecordFrames bytes form frames rest
 
--- From old to new the source gave the whole frames of which this was made, and then less than a
--- frame; their messages took the session from S to S'; and the record has ended so, if it has
--- ended. Out of memory comes before anything is read.
-pub record Replayed (wanted : Bool) (old new : SourceSeen) (S S' : SessionSeen)
-    (handled : List Handled) (e : Option Ending) : Type 0 where
-  pub form : Form
-  pub frames : List (Directed (List ℕ))
-  pub rest : List ℕ
-  pub read : GaveRecord old new form frames rest
-  pub run : Chain (Handles wanted form) S frames handled S'
-  pub ended : IsEnding form new.left rest e
-  pub unread : e ≡ Some (ending.Fault fault.NoMemory) → read.bytes ≡ []
-  pub counted : CountsEnding old.faults new.faults e
+-- what callers see of all that a replay changes; there is a sink for answers if they are wanted
+pub record ReplaySeen : Type 0 where
+  pub source : SourceSeen
+  pub session : SessionSeen
+  pub report : SinkSeen
+  pub answers : Option SinkSeen
+
+-- the state of a replay, of the states of its parts
+abbrev pub replay_seen : SourceSeen → SessionSeen → SinkSeen → Option SinkSeen → ReplaySeen
+replay_seen source session report answers =
+    record { source = source; session = session; report = report; answers = answers }
+
+-- The source gave the whole frames of which this was made, and then less than a frame; their
+-- messages took the session from its old state to the new one, and were answered if answers are
+-- wanted; and the record has ended so, if it has ended. Out of memory comes before anything is
+-- read.
+pub record Replayed (old new : ReplaySeen) (handled : List Handled) (e : Option Ending) : Type 0
+  where
+    pub form : Form
+    pub frames : List (Directed (List ℕ))
+    pub rest : List ℕ
+    pub read : GaveRecord old.source new.source form frames rest
+    pub run : Chain (Handles (is_some old.answers) form) old.session frames handled new.session
+    pub ended : IsEnding form new.source.left rest e
+    pub unread : e ≡ Some (ending.Fault fault.NoMemory) → read.bytes ≡ []
+    pub counted : CountsEnding old.source.faults new.source.faults e
 
 -- ---- the outputs
 
@@ -146,25 +159,7 @@ tolds_of hs = map (λ h. h.told) hs
 abbrev pub answers_of : List Handled → List ℕ
 answers_of hs = flat_map (λ h. h.answer) hs
 
--- what callers see of all that a replay changes; there is a sink for answers if they are wanted
-pub record ReplaySeen : Type 0 where
-  pub source : SourceSeen
-  pub session : SessionSeen
-  pub report : SinkSeen
-  pub answers : Option SinkSeen
-
--- the state of a replay, of the states of its parts
-abbrev pub replay_seen : SourceSeen → SessionSeen → SinkSeen → Option SinkSeen → ReplaySeen
-replay_seen source session report answers =
-    record { source = source; session = session; report = report; answers = answers }
-
--- these frames were handled, and answered if answers are wanted; and the record has ended so, if
--- it has ended
-abbrev pub HandlesAll : ReplaySeen → ReplaySeen → List Handled → Option Ending → Type 0
-HandlesAll old new handled e = Replayed (is_some old.answers)
-    old.source new.source old.session new.session handled e
-
--- the same of the frames before the last; the last was handled, and nothing was answered to it
+-- these frames were handled, and the last one too, and nothing was answered to that one
 pub record HandlesButLast (old new : ReplaySeen) (before : List Handled) (last : Handled) : Type 0
   where
     pub form : Form
@@ -191,7 +186,7 @@ pub record EndsUnanswered (old new : ReplaySeen) (handled : List Handled) (e : E
 -- these frames were handled, and the report ends so: as the record does, or out of memory for an
 -- answer
 abbrev pub Ends : ReplaySeen → ReplaySeen → List Handled → Ending → Type 0
-Ends old new handled e = HandlesAll old new handled (Some e) ⊎ EndsUnanswered old new handled e
+Ends old new handled e = Replayed old new handled (Some e) ⊎ EndsUnanswered old new handled e
 
 -- the answers to these frames went out, if answers are wanted
 abbrev pub Answered : ReplaySeen → ReplaySeen → List Handled → Type 0
@@ -221,7 +216,7 @@ pub record IsCutInLine (old new : ReplaySeen) : Type 0 where
 pub record IsCutInAnswer (old new : ReplaySeen) : Type 0 where
   pub before : List Handled
   pub last : Handled
-  pub handles : HandlesAll old new (before ++ last ∷ []) None
+  pub handles : Replayed old new (before ++ last ∷ []) None
   pub lines : Sent old.report new.report (lines_from 1 (before ++ last ∷ []))
   pub broke : IsWanted (BrokeAfter (answers_of before) last.answer) old.answers new.answers
 

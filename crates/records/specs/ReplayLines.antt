@@ -38,6 +38,11 @@ abbrev pub told_text : Told → List ℕ
 told_text (told.Verdict v) = verdict_text v
 told_text (told.BadFrame id len) = codes "bad frame " ++ decimal id ++ codes " " ++ decimal len
 
+-- one line tells all of it: it is no message of blocks
+abbrev pub IsOneLine : Told → Type 0
+IsOneLine (told.Verdict (verdict.Blocks v)) = ⊥
+IsOneLine t = Unit {0}
+
 -- a line of frame n
 abbrev pub line_text : ℕ → List ℕ → List ℕ
 line_text n text = decimal n ++ codes " " ++ text ++ codes "\n"

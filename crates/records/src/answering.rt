@@ -18,6 +18,17 @@ pub(crate) enum AnswerFault {
     Write,
 }
 
+impl From<WriteFault> for AnswerFault {
+    ghost use Rattle.std.specs.Prelude.{◌≡◌};
+    ghost use Rattle.records.specs.declared.answering.AnswerFault.TheVariants.{Write};
+
+    ghost from_gives = { λ _ fault. fault ≡ Write };
+
+    fn from(_: WriteFault) -> AnswerFault {
+        AnswerFault::Write
+    }
+}
+
 /// Where answers go: to a sink, or nowhere.
 pub(crate) trait Answering {
     ghost use Rattle.std.specs.Prelude.{Option};
@@ -87,10 +98,10 @@ fn send_reply<N: NodeMap, A: Sink>(
 {
     match reply {
         Reply::Hashes(ask) => send_hashes(out, session, ask),
-        Reply::Reject(ask) => match write(&Message::Reject(ask), out) {
-            Ok(()) => Ok(()),
-            Err(_) => Err(AnswerFault::Write),
-        },
+        Reply::Reject(ask) => {
+            write(&Message::Reject(ask), out)?;
+            Ok(())
+        }
         Reply::Nothing => Ok(()),
     }
 }
@@ -108,10 +119,8 @@ fn send_hashes<N: NodeMap, A: Sink>(
     let Ok(answer) = session.answer(&ask) else {
         return Err(AnswerFault::NoMemory);
     };
-    match write_answer(out, ask, &answer) {
-        Ok(()) => Ok(()),
-        Err(_) => Err(AnswerFault::Write),
-    }
+    write_answer(out, ask, &answer)?;
+    Ok(())
 }
 
 // Writes the frame of an answer.

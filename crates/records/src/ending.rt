@@ -15,7 +15,7 @@ impl Ending {
     ghost use Rattle.records.specs.Outcome.{is_fault};
 
     /// Whether the last line tells of a fault.
-    pub fn is_fault(&self) -> bool
+    pub(crate) fn is_fault(&self) -> bool
         ensures { result ≡ is_fault self.now }
     {
         matches!(self, Ending::Fault(_))

@@ -1,6 +1,6 @@
 //! What a replay prints of one frame.
 ghost use Rattle.std.specs.Prelude.{◌≡◌, ◌+◌, ◌≤◌, ◌++◌, length, codes, decimal};
-ghost use Rattle.records.specs.ReplayLines.{line_text, refused_text, told_text, verdict_text};
+ghost use Rattle.records.specs.ReplayLines.{IsOneLine, line_text, refused_text, told_text, verdict_text};
 
 use crate::told::Told;
 use lines::Line;
@@ -8,6 +8,7 @@ use session::Verdict;
 
 /// The line of the frame of this number, which is no message of blocks.
 pub(crate) fn line_of_frame(number: u64, told: &Told) -> Line
+    requires { IsOneLine told.now }
     ensures { result ≡ line_text number (told_text told.now) }
 {
     let mut line = Line::new();
@@ -34,7 +35,8 @@ pub(crate) fn put_refused(line: &mut Line, letter: &[u8], number: u32, name: &st
 }
 
 fn put_told(line: &mut Line, told: &Told)
-    requires { length line.old ≤ 21 }
+    requires line { length line.old ≤ 21 }
+    requires told { IsOneLine told.now }
     ensures text { line.new ≡ line.old ++ told_text told.now }
     ensures bound { length line.new ≤ length line.old + 60 }
 {
@@ -56,7 +58,8 @@ fn put_bad_frame(line: &mut Line, id: u8, len: u32)
 }
 
 fn put_verdict(line: &mut Line, verdict: &Verdict)
-    requires { length line.old ≤ 21 }
+    requires line { length line.old ≤ 21 }
+    requires verdict { IsOneLine (Told.Verdict verdict.now) }
     ensures text { line.new ≡ line.old ++ verdict_text verdict.now }
     ensures bound { length line.new ≤ length line.old + 60 }
 {
@@ -65,7 +68,7 @@ fn put_verdict(line: &mut Line, verdict: &Verdict)
         Verdict::HashRefused(refusal) => {
             put_refused(line, b"H", refusal.number(), refusal.name());
         }
-        Verdict::Blocks(_) => {}
+        Verdict::Blocks(_) => unreachable!(),
         Verdict::BlockRefused(refusal) => {
             put_refused(line, b"P", refusal.number(), refusal.name());
         }

@@ -18,7 +18,7 @@ pub struct Outcome {
 
 impl Outcome {
     /// With the line of one more frame.
-    pub fn note(&mut self, told: &Told)
+    pub(crate) fn note(&mut self, told: &Told)
         ensures refused { self.new.refused ≡ (self.old.refused || is_refusal told.now) }
         ensures no_memory { self.new.no_memory ≡ (self.old.no_memory || is_no_memory told.now) }
         ensures fault { self.new.fault ≡ self.old.fault }

@@ -6,7 +6,7 @@ ghost use Rattle.records.specs.Outcome.{is_fault};
 ghost use Rattle.records.specs.ReplayLines.{lines_of, ending_line_of};
 ghost use Rattle.records.specs.Replay.{IsCutReport, IsReport, Meets, RespondsNext, StepsBy, TellsEnding, replay_seen};
 ghost use Rattle.wire.specs.Reader.{HasRoom, IsOpen};
-ghost use Rattle.wire.specs.RecordReader.{frames};
+ghost use Rattle.wire.specs.RecordReader.{form_of, frame_reader, source_of};
 ghost use Rattle.wire.specs.Records.{form_number};
 ghost use Rattle.wire.specs.declared.form.Form.{Form as FormOf};
 
@@ -29,9 +29,9 @@ const OUT_OF_MEMORY: Ending = Ending::Fault(FrameFault::NoMemory);
 /// Reads the frames of a record of either form to its end or to a fault, and gives each message to
 /// the session. In form 1 each came in. In form 2 a request that went out is noted, and hashes that
 /// came in are taken only in answer to it. Writes one line for each frame as it comes, and at last
-/// how the record ended. If there is a sink for answers, the frame that answers a hash request that
-/// came in goes there, after its line: the hashes that are asked for, if they are known, and else a
-/// reject. At last the report is flushed, and then the answers.
+/// how the record ended. If there is a sink for answers, the frame that answers a "hash request"
+/// that came in goes there, after its line: "hashes" with those that are asked for, if they are
+/// known, and else a "hash reject" (BEP 52). At last the report is flushed, and then the answers.
 ///
 /// All memory but that of answers is taken before the first frame is read. If it is refused, the
 /// report is the line `fault NoMemory`, and nothing is read. If memory is refused for an answer,
@@ -70,18 +70,18 @@ fn replay_reader<N: NodeMap, R: Source, W: Sink, B: Answering>(
     report: &mut W,
     answers: &mut B,
 ) -> Result<Outcome, WriteFault>
-    requires open { IsOpen (frames reader.old) }
-    requires fresh { reader.old.form ≡ None }
+    requires open { IsOpen (frame_reader reader.old) }
+    requires fresh { form_of reader.old ≡ None }
     ensures same_reference { reader.new.source.ghost_name ≡ reader.old.source.ghost_name }
     ensures ok { IfOk result (IsReport
-        (replay_seen (R.seen reader.old.source.now) session.old (W.seen report.old)
+        (replay_seen (R.seen (source_of reader.old)) session.old (W.seen report.old)
         (B.seen answers.old))
-        (replay_seen (R.seen reader.new.source.now) session.new (W.seen report.new)
+        (replay_seen (R.seen (source_of reader.new)) session.new (W.seen report.new)
         (B.seen answers.new))) }
     ensures err { OnErr result (IsCutReport
-        (replay_seen (R.seen reader.old.source.now) session.old (W.seen report.old)
+        (replay_seen (R.seen (source_of reader.old)) session.old (W.seen report.old)
         (B.seen answers.old))
-        (replay_seen (R.seen reader.new.source.now) session.new (W.seen report.new)
+        (replay_seen (R.seen (source_of reader.new)) session.new (W.seen report.new)
         (B.seen answers.new))) }
 {
     match reader.reserve() {
@@ -97,19 +97,19 @@ fn replay_frames<N: NodeMap, R: Source, W: Sink, B: Answering>(
     report: &mut W,
     answers: &mut B,
 ) -> Result<Outcome, WriteFault>
-    requires open { IsOpen (frames reader.old) }
-    requires fresh { reader.old.form ≡ None }
-    requires room { HasRoom (frames reader.old) }
+    requires open { IsOpen (frame_reader reader.old) }
+    requires fresh { form_of reader.old ≡ None }
+    requires room { HasRoom (frame_reader reader.old) }
     ensures same_reference { reader.new.source.ghost_name ≡ reader.old.source.ghost_name }
     ensures ok { IfOk result (IsReport
-        (replay_seen (R.seen reader.old.source.now) session.old (W.seen report.old)
+        (replay_seen (R.seen (source_of reader.old)) session.old (W.seen report.old)
         (B.seen answers.old))
-        (replay_seen (R.seen reader.new.source.now) session.new (W.seen report.new)
+        (replay_seen (R.seen (source_of reader.new)) session.new (W.seen report.new)
         (B.seen answers.new))) }
     ensures err { OnErr result (IsCutReport
-        (replay_seen (R.seen reader.old.source.now) session.old (W.seen report.old)
+        (replay_seen (R.seen (source_of reader.old)) session.old (W.seen report.old)
         (B.seen answers.old))
-        (replay_seen (R.seen reader.new.source.now) session.new (W.seen report.new)
+        (replay_seen (R.seen (source_of reader.new)) session.new (W.seen report.new)
         (B.seen answers.new))) }
 {
     let mut outcome = Outcome::default();
@@ -137,17 +137,17 @@ fn next_response<N: NodeMap, R: Source>(
     session: &mut Session<'_, N>,
     reader: &mut RecordReader<'_, R>,
 ) -> Result<Response, Ending>
-    requires open { IsOpen (frames reader.old) }
-    requires room { HasRoom (frames reader.old) }
+    requires open { IsOpen (frame_reader reader.old) }
+    requires room { HasRoom (frame_reader reader.old) }
     ensures same_reference { reader.new.source.ghost_name ≡ reader.old.source.ghost_name }
-    ensures frame { IfOk result (λ r. (form : FormOf) × (reader.new.form ≡ Some form)
-        × RespondsNext reader.old.form form
-        (R.seen reader.old.source.now) (R.seen reader.new.source.now)
+    ensures frame { IfOk result (λ r. (form : FormOf) × (form_of reader.new ≡ Some form)
+        × RespondsNext (form_of reader.old) form
+        (R.seen (source_of reader.old)) (R.seen (source_of reader.new))
         session.old session.new r.told r.reply) }
-    ensures open { OnOk result (IsOpen (frames reader.new)) }
-    ensures room { HasRoom (frames reader.new) }
-    ensures ending { IfErr result (TellsEnding reader.old.form (R.seen reader.old.source.now)
-        (R.seen reader.new.source.now)) }
+    ensures open { OnOk result (IsOpen (frame_reader reader.new)) }
+    ensures room { HasRoom (frame_reader reader.new) }
+    ensures ending { IfErr result (TellsEnding (form_of reader.old) (R.seen (source_of reader.old))
+        (R.seen (source_of reader.new))) }
     ensures stays { OnErr result (session.new ≡ session.old) }
 {
     match reader.advance() {

@@ -6,7 +6,7 @@ use session::Verdict;
 pub enum Told {
     /// The session's verdict on the frame's message.
     Verdict(Verdict),
-    /// The frame has the id of a message that is read, and another size: it holds no message.
+    /// The frame has the id of a message of a known kind, and a wrong size: it holds no message.
     BadFrame {
         /// The id, the body's first byte.
         id: u8,

@@ -2,7 +2,7 @@
 use Rattle.std.specs.Prelude.{◌≡◌, ◌≢◌, ℕ, Bool, true, List, Option, Some, None, slice_get}
 use Rattle.benc.specs.Text.{spelling}
 use Rattle.drafts.specs.Finishing.{finish_rows}
-use Rattle.drafts.specs.Outline.{Outline}
+use Rattle.drafts.specs.Outline.{Outline, empty_outline}
 use Rattle.drafts.specs.Written.{torrent_of, value_of}
 use Rattle.filetree.specs.Tests.{NoneHolds}
 use Rattle.folders.specs.Verdicts.{TellsFolder, is_yes, unreadable_count}
@@ -29,7 +29,7 @@ pub record IsGatheredFrom (under : Telling) (d : Outline) : Type 0 where
   pub hybrid : Bool
   pub paths : List (List (List ℕ))
   pub contents : List (List ℕ)
-  pub gathered : Gathered name piece_length hybrid paths contents d
+  pub gathered : Gathered (empty_outline name piece_length hybrid) paths contents d
   pub are : AreContentsUnder under paths contents
   pub told : TellsEach under paths
 

@@ -1,12 +1,11 @@
 -- Seeding, file by file.
-use Rattle.std.proofs.Common.{◌≡◌, ℕ, suc, ◌+◌, ◌<◌, ◌≤◌, ◌++◌, Bool, false, List, [], ◌∷◌, length, take, Option, Some, None, Result, refl, sym, ap, ◌∙◌, subst, append_assoc, arith}
+use Rattle.std.proofs.Common.{◌≡◌, ℕ, suc, ◌+◌, ◌<◌, ◌≤◌, ◌++◌, Bool, false, List, [], ◌∷◌, length, take, Option, Some, None, refl, sym, ap, ◌∙◌, subst, append_assoc, arith}
 use Rattle.std.specs.Prelude.{slice_get}
 use Rattle.std.proofs.lemmas.List.{append-nil, length_push, length-take-le}
 use Rattle.std.proofs.lemmas.Option.{none-some, slice_get_within, get_or_from_slice_get}
 use Rattle.std.proofs.Math.Seq.{take-suc}
+use Rattle.folders.specs.declared.shelf.Shelf.{Ghosts}
 use Rattle.benc.specs.Device.{SourceSeen, SinkSeen, Sent}
-use Rattle.benc.specs.declared.device.DeviceFault.{DeviceFault}
-use Rattle.benc.proofs.Known.{Appends_nothing}
 use Rattle.benc.proofs.Out.{Sent-append}
 use Rattle.chains.proofs.Chains.{Chain-next}
 use Rattle.metainfo.specs.Description.{FileEntry, TreeEntry}
@@ -28,23 +27,22 @@ lines_more (g ∷ fs) (c ∷ told) f b same =
 
 -- ---- one file
 
-module _ {S F : Type 0} (opens : S → List (List ℕ) → Result (Option F) DeviceFault → S → Type 0) (closes : S → F → S → Type 0) (faults : S → ℕ)
-    (under : S → List (List ℕ) → Option (Option (List ℕ))) (seen : F → SourceSeen) where
+module _ {S F : Type 0} (shelf : Ghosts S F) (seen : F → SourceSeen) where
   -- what was found of a file's leaves, and with how many faults
   abbrev pub Found : S → FileEntry → TreeEntry → Option (List Hash) → S → Type 0
-  Found s f e leaves s' = (k : ℕ) × (faults s' ≡ more (faults s) k) × Finds (under s f.path) e leaves k
+  Found s f e leaves s' = (k : ℕ) × (shelf.faults s' ≡ more (shelf.faults s) k) × Finds (shelf.under s f.path) e leaves k
 
   -- a file's leaves were found
   pub seeds_filled : (seeded : Bool) (s s' : S) (K K' : SessionSeen) (f : FileEntry) (n : ℕ) (e : TreeEntry) (leaves : List Hash)
-      → slice_get K.torrent.trees n ≡ Some e → e.length ≡ f.length → OpensOnce opens closes seen s f.path (e.length + 1) s' → Found s f e (Some leaves) s'
-      → ((p : List (List ℕ)) → under s' p ≡ under s p) → Fills K n (Some leaves) seeded K'
-      → SeedsTree opens closes faults under seen (shelf_and_session s K) f n seeded (shelf_and_session s' K')
+      → slice_get K.torrent.trees n ≡ Some e → e.length ≡ f.length → OpensOnce shelf seen s f.path (e.length + 1) s' → Found s f e (Some leaves) s'
+      → ((p : List (List ℕ)) → shelf.under s' p ≡ shelf.under s p) → Fills K n (Some leaves) seeded K'
+      → SeedsTree shelf seen (shelf_and_session s K) f n seeded (shelf_and_session s' K')
   seeds_filled seeded s s' K K' f n e leaves tree same visited found kept fills = record {
     tree = e;
     tree_is = tree;
-    visited = subst (λ k. OpensOnce opens closes seen s f.path (k + 1) s') same visited;
+    visited = subst (λ k. OpensOnce shelf seen s f.path (k + 1) s') same visited;
     found = Some leaves;
-    fault_count = found.0;
+    faults_in_it = found.0;
     counted = found.1;
     finds = found.2;
     kept = kept;
@@ -53,14 +51,14 @@ module _ {S F : Type 0} (opens : S → List (List ℕ) → Result (Option F) Dev
 
   -- a file's leaves were not found
   pub seeds_nothing : (s s' : S) (K : SessionSeen) (f : FileEntry) (n : ℕ) (e : TreeEntry) → slice_get K.torrent.trees n ≡ Some e → e.length ≡ f.length
-      → OpensOnce opens closes seen s f.path (e.length + 1) s' → Found s f e None s' → ((p : List (List ℕ)) → under s' p ≡ under s p)
-      → SeedsTree opens closes faults under seen (shelf_and_session s K) f n false (shelf_and_session s' K)
+      → OpensOnce shelf seen s f.path (e.length + 1) s' → Found s f e None s' → ((p : List (List ℕ)) → shelf.under s' p ≡ shelf.under s p)
+      → SeedsTree shelf seen (shelf_and_session s K) f n false (shelf_and_session s' K)
   seeds_nothing s s' K f n e tree same visited found kept = record {
     tree = e;
     tree_is = tree;
-    visited = subst (λ k. OpensOnce opens closes seen s f.path (k + 1) s') same visited;
+    visited = subst (λ k. OpensOnce shelf seen s f.path (k + 1) s') same visited;
     found = None;
-    fault_count = found.0;
+    faults_in_it = found.0;
     counted = found.1;
     finds = found.2;
     kept = kept;
@@ -68,13 +66,13 @@ module _ {S F : Type 0} (opens : S → List (List ℕ) → Result (Option F) Dev
   }
 
   -- memory was refused while a file was read
-  pub stops_reading : (s s' : S) (K : SessionSeen) (f : FileEntry) (n len : ℕ) → f.tree ≡ Some n → len ≡ f.length → OpensOnce opens closes seen s f.path (len + 1) s'
-      → (faults s' ≡ faults s) × HasLength (under s f.path) len → StopsAtFile opens closes faults under seen (shelf_and_session s K) f (shelf_and_session s' K)
+  pub stops_reading : (s s' : S) (K : SessionSeen) (f : FileEntry) (n len : ℕ) → f.tree ≡ Some n → len ≡ f.length → OpensOnce shelf seen s f.path (len + 1) s'
+      → (shelf.faults s' ≡ shelf.faults s) × HasLength (shelf.under s f.path) len → StopsAtFile shelf seen (shelf_and_session s K) f (shelf_and_session s' K)
   stops_reading s s' K f n len tree same visited (counted, long) = record {
     not_empty = λ is. none-some n (sym is ∙ tree);
-    visited = subst (λ k. OpensOnce opens closes seen s f.path (k + 1) s') same visited;
+    visited = subst (λ k. OpensOnce shelf seen s f.path (k + 1) s') same visited;
     counted = counted;
-    long_enough = subst (HasLength (under s f.path)) same long;
+    long_enough = subst (HasLength (shelf.under s f.path)) same long;
     stays = refl;
   }
 
@@ -84,19 +82,11 @@ module _ {S F : Type 0} (opens : S → List (List ℕ) → Result (Option F) Dev
   pub record InSeed (old new : S × SessionSeen) (report report' : SinkSeen) (files : List FileEntry) (n : ℕ) : Type 0 where
     pub told : List Bool
     pub count : length told ≡ n
-    pub run : SeedsAll opens closes faults under seen old (take n files) told new
+    pub run : SeedsAll shelf seen old (take n files) told new
     pub sent : Sent report report' (seed_lines (take n files) told)
 
-  pub in_seed_none : (old : S × SessionSeen) (report : SinkSeen) (files : List FileEntry) → InSeed old old report report files 0
-  in_seed_none old report files = record {
-    told = [];
-    count = refl;
-    run = refl;
-    sent = record { bytes = Appends_nothing report.written; faults = refl; flushes = refl };
-  }
-
   pub in_seed_more : (old mid new : S × SessionSeen) (report between report' : SinkSeen) (files : List FileEntry) (n : ℕ) (f : FileEntry) (seeded : Bool)
-      → slice_get files n ≡ Some f → InSeed old mid report between files n → SeedStep opens closes faults under seen mid f seeded new
+      → slice_get files n ≡ Some f → InSeed old mid report between files n → SeedStep shelf seen mid f seeded new
       → Sent between report' (seed_line f seeded) → InSeed old new report report' files (n + 1)
   in_seed_more old mid new report between report' files n f seeded there so_far step went =
       let inside : n < length files = slice_get_within files n f there in
@@ -107,8 +97,8 @@ module _ {S F : Type 0} (opens : S → List (List ℕ) → Result (Option F) Dev
       record {
         told = so_far.told ++ seeded ∷ [];
         count = length_push so_far.told seeded ∙ ap (λ k. k + 1) so_far.count;
-        run = Chain-next (SeedStep opens closes faults under seen) old mid new files n so_far.told f seeded inside so_far.run
-            (subst (λ h. SeedStep opens closes faults under seen mid h seeded new) (sym at) step);
+        run = Chain-next (SeedStep shelf seen) old mid new files n so_far.told f seeded inside so_far.run
+            (subst (λ h. SeedStep shelf seen mid h seeded new) (sym at) step);
         sent = subst (Sent report report')
             (sym (ap (λ fs. seed_lines fs (so_far.told ++ seeded ∷ [])) next ∙ lines_more (take n files) so_far.told f seeded same))
             (Sent-append report between report' (seed_lines (take n files) so_far.told) (seed_line f seeded) so_far.sent went);

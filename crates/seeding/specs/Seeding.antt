@@ -1,4 +1,5 @@
--- What seeding a session from a shelf does: to each file of its torrent once, in order.
+-- What seeding a session from a shelf does: to each file of its torrent once, in order. `shelf`
+-- stands for what the shelf's type tells of its shelves, and `seen` for what its files tell.
 use Rattle.std.specs.Prelude.{◌≡◌, ◌≢◌, ◌⊎◌, ℕ, ◌+◌, ◌++◌, Bool, true, false, List, [], ◌∷◌, length, take, slice_get, codes, Option, Some, None, Result, Ok, Err}
 use Rattle.benc.specs.Device.{SourceSeen, SinkSeen, Sent, Broke, SentAndFlushed}
 use Rattle.benc.specs.declared.device.DeviceFault.{DeviceFault}
@@ -12,6 +13,7 @@ use Rattle.folders.specs.Folder.{FitsTree}
 use Rattle.folders.specs.Shelf.{more}
 use Rattle.folders.specs.TakeAll.{IsReadWithin}
 use Rattle.folders.specs.Verdicts.{Agrees}
+use Rattle.folders.specs.declared.shelf.Shelf.{Ghosts}
 use Rattle.partial_tree.specs.declared.refusal.HashRefusal.{HashRefusal}
 use Rattle.partial_tree.specs.declared.refusal.HashRefusal.TheVariants.{NoMemory}
 use Rattle.session.specs.Session.{IsFilled, IsFillRefused, SessionSeen}
@@ -20,25 +22,21 @@ use Rattle.seeding.specs.declared.seed_fault.SeedFault.TheVariants as fault
 
 -- ---- the shelf
 
--- What follows an opening that was answered so: a file was read, no more bytes than these, and
--- handed back; else the shelf stays.
-abbrev pub FollowsOpening : {S F : Type 0} → (S → F → S → Type 0) → (F → SourceSeen) → ℕ → S
-    → Result (Option F) DeviceFault → S → Type 0
-FollowsOpening closes seen bound s (Ok (Some file)) s' =
-    (read : _) × IsReadWithin bound (seen file) (seen read) × closes s read s'
-FollowsOpening closes seen bound s (Ok None) s' = s' ≡ s
-FollowsOpening closes seen bound s (Err fault) s' = s' ≡ s
+module _ {S F : Type 0} (shelf : Ghosts S F) (seen : F → SourceSeen) where
+  -- What follows an opening that was answered so: a file was read, no more bytes than these, and
+  -- handed back; else the shelf stays.
+  abbrev pub FollowsOpening : ℕ → S → Result (Option F) DeviceFault → S → Type 0
+  FollowsOpening bound s (Ok (Some file)) s' =
+      (read : F) × IsReadWithin bound (seen file) (seen read) × shelf.closes s read s'
+  FollowsOpening bound s (Ok None) s' = s' ≡ s
+  FollowsOpening bound s (Err fault) s' = s' ≡ s
 
--- the path was opened once, and no more bytes than these were read. `opens`, `closes` and `seen`
--- are those of the shelf's type and of its files.
-pub record OpensOnce {S F : Type 0}
-    (opens : S → List (List ℕ) → Result (Option F) DeviceFault → S → Type 0)
-    (closes : S → F → S → Type 0) (seen : F → SourceSeen)
-    (s : S) (path : List (List ℕ)) (bound : ℕ) (s' : S) : Type 0 where
-  pub answer : Result (Option F) DeviceFault
-  pub after : S
-  pub opened : opens s path answer after
-  pub follows : FollowsOpening closes seen bound after answer s'
+  -- the path was opened once, and no more bytes than these were read
+  pub record OpensOnce (s : S) (path : List (List ℕ)) (bound : ℕ) (s' : S) : Type 0 where
+    pub answer : Result (Option F) DeviceFault
+    pub after : S
+    pub opened : shelf.opens s path answer after
+    pub follows : FollowsOpening bound after answer s'
 
 -- what stands at a path does not fit the tree: nothing, or other bytes
 abbrev pub DoesNotFit : TreeEntry → Option (List ℕ) → Type 0
@@ -68,6 +66,7 @@ Fills S n None seeded S' = (seeded ≡ false) × (S' ≡ S)
 
 -- ---- lines
 
+-- what the line of a file begins with
 abbrev pub seed_words : Bool → List ℕ
 seed_words true = codes "seeded "
 seed_words false = codes "not seeded "
@@ -86,10 +85,7 @@ seed_lines (f ∷ fs) (seeded ∷ told) = seed_line f seeded ++ seed_lines fs to
 abbrev pub shelf_and_session : {S : Type 0} → S → SessionSeen → S × SessionSeen
 shelf_and_session s K = (s, K)
 
--- `opens`, `closes`, `faults` and `under` are those of the shelf's type, `seen` that of its files
-module _ {S F : Type 0} (opens : S → List (List ℕ) → Result (Option F) DeviceFault → S → Type 0)
-    (closes : S → F → S → Type 0) (faults : S → ℕ)
-    (under : S → List (List ℕ) → Option (Option (List ℕ))) (seen : F → SourceSeen) where
+module _ {S F : Type 0} (shelf : Ghosts S F) (seen : F → SourceSeen) where
   -- ---- one file
 
   -- a file of tree n was looked for on the shelf, and its leaves were filled in if it is whole
@@ -97,12 +93,12 @@ module _ {S F : Type 0} (opens : S → List (List ℕ) → Result (Option F) Dev
       (new : S × SessionSeen) : Type 0 where
     pub tree : TreeEntry
     pub tree_is : slice_get old.1.torrent.trees n ≡ Some tree
-    pub visited : OpensOnce opens closes seen old.0 f.path (f.length + 1) new.0
+    pub visited : OpensOnce shelf seen old.0 f.path (f.length + 1) new.0
     pub found : Option (List Hash)
-    pub fault_count : ℕ
-    pub counted : faults new.0 ≡ more (faults old.0) fault_count
-    pub finds : Finds (under old.0 f.path) tree found fault_count
-    pub kept : (p : List (List ℕ)) → under new.0 p ≡ under old.0 p
+    pub faults_in_it : ℕ
+    pub counted : shelf.faults new.0 ≡ more (shelf.faults old.0) faults_in_it
+    pub finds : Finds (shelf.under old.0 f.path) tree found faults_in_it
+    pub kept : (p : List (List ℕ)) → shelf.under new.0 p ≡ shelf.under old.0 p
     pub fills : Fills old.1 n found seeded new.1
 
   -- the same by the file's tree; an empty file has none: it is not seeded, and not opened
@@ -119,9 +115,9 @@ module _ {S F : Type 0} (opens : S → List (List ℕ) → Result (Option F) Dev
   pub record StopsAtFile (old : S × SessionSeen) (f : FileEntry) (new : S × SessionSeen)
       : Type 0 where
     pub not_empty : f.tree ≢ None
-    pub visited : OpensOnce opens closes seen old.0 f.path (f.length + 1) new.0
-    pub counted : faults new.0 ≡ faults old.0
-    pub long_enough : HasLength (under old.0 f.path) f.length
+    pub visited : OpensOnce shelf seen old.0 f.path (f.length + 1) new.0
+    pub counted : shelf.faults new.0 ≡ shelf.faults old.0
+    pub long_enough : HasLength (shelf.under old.0 f.path) f.length
     pub stays : new.1 ≡ old.1
 
   -- ---- all files

@@ -23,9 +23,10 @@ use std::alloc::Global;
 /// missing, unreadable, of another length or another root, or whose leaves differ from what is
 /// known. At last it flushes once. Nothing is marked.
 ///
-/// Each file that is not empty is opened once, read once, to its end or to one byte past its stated
-/// length, and handed back; the shelf's count of failures grows by one for each that was
-/// unreadable.
+/// Each file that is not empty is opened once, read once, one byte past its stated length at most,
+/// and handed back; the shelf's count of failures grows by one for each that was unreadable.
+///
+/// # Errors
 ///
 /// After a fault the files before it stay filled, and their lines were written: `NoMemory` if
 /// memory for the leaves of a file was refused, which has its stated length and is not filled, and
@@ -36,7 +37,7 @@ pub fn seed<N: NodeMap, S: Shelf, W: Sink>(
     shelf: &mut S,
     report: &mut W,
 ) -> Result<(), SeedFault>
-    ensures { Seeds S.opens S.closes S.faults S.under S.File.seen
+    ensures { Seeds S.Shelf S.File.seen
         (shelf_and_session shelf.old session.old) (shelf_and_session shelf.new session.new)
         (W.seen report.old) (W.seen report.new) result }
 {
@@ -54,7 +55,7 @@ fn seed_files<N: NodeMap, S: Shelf, W: Sink>(
     shelf: &mut S,
     report: &mut W,
 ) -> Result<(), SeedFault>
-    ensures { SeedsFiles S.opens S.closes S.faults S.under S.File.seen
+    ensures { SeedsFiles S.Shelf S.File.seen
         (shelf_and_session shelf.old session.old) (shelf_and_session shelf.new session.new)
         (W.seen report.old) (W.seen report.new) result }
 {
@@ -79,10 +80,10 @@ fn seed_file<N: NodeMap, S: Shelf>(
     file: &File<'_>,
 ) -> Result<bool, NoMemory>
     requires { IsFileOf session.old.torrent (file_entry file.now) }
-    ensures seeds { IfOk result (λ seeded. SeedStep S.opens S.closes S.faults S.under S.File.seen
+    ensures seeds { IfOk result (λ seeded. SeedStep S.Shelf S.File.seen
         (shelf_and_session shelf.old session.old) (file_entry file.now) seeded
         (shelf_and_session shelf.new session.new)) }
-    ensures no_memory { OnErr result (StopsAtFile S.opens S.closes S.faults S.under S.File.seen
+    ensures no_memory { OnErr result (StopsAtFile S.Shelf S.File.seen
         (shelf_and_session shelf.old session.old) (file_entry file.now)
         (shelf_and_session shelf.new session.new)) }
     ensures torrent { session.new.torrent ≡ session.old.torrent }
@@ -118,10 +119,10 @@ fn seed_tree<N: NodeMap, S: Shelf>(
     requires same { tree.now.length ≡ file.now.length }
     requires some { 0 < tree.now.length }
     requires small { tree.now.length ≤ 2 ^ 46 }
-    ensures seeds { IfOk result (λ seeded. SeedsTree S.opens S.closes S.faults S.under S.File.seen
+    ensures seeds { IfOk result (λ seeded. SeedsTree S.Shelf S.File.seen
         (shelf_and_session shelf.old session.old) (file_entry file.now) number seeded
         (shelf_and_session shelf.new session.new)) }
-    ensures no_memory { OnErr result (StopsAtFile S.opens S.closes S.faults S.under S.File.seen
+    ensures no_memory { OnErr result (StopsAtFile S.Shelf S.File.seen
         (shelf_and_session shelf.old session.old) (file_entry file.now)
         (shelf_and_session shelf.new session.new)) }
     ensures torrent { session.new.torrent ≡ session.old.torrent }
@@ -145,8 +146,8 @@ fn find_tree<N: NodeMap, S: Shelf>(
 ) -> Result<Option<GrownTree<N>>, NoMemory>
     requires some { 0 < tree.now.length }
     requires small { tree.now.length ≤ 2 ^ 46 }
-    ensures visited { OpensOnce S.opens S.closes S.File.seen shelf.old file.now.path
-        (tree.now.length + 1) shelf.new }
+    ensures visited { OpensOnce S.Shelf S.File.seen shelf.old file.now.path (tree.now.length + 1)
+        shelf.new }
     ensures found { IfOk result (λ grown. (n : ℕ)
         × (S.faults shelf.new ≡ more (S.faults shelf.old) n)
         × Finds (S.under shelf.old file.now.path) (tree_entry tree.now)
@@ -187,13 +188,13 @@ fn write_line_of<W: Sink>(out: &mut W, file: &File<'_>, seeded: bool) -> Result<
     ensures { Wrote (W.seen out.old) (W.seen out.new) result
         (seed_line (file_entry file.now) seeded) }
 {
-    write_all(out, words(seeded))?;
+    write_all(out, seed_text(seeded))?;
     write_path(out, &file.path.parts())?;
     write_all(out, b"\n")
 }
 
 // What a file's line begins with.
-fn words(seeded: bool) -> &'static [u8]
+fn seed_text(seeded: bool) -> &'static [u8]
     ensures { result.now ≡ seed_words seeded }
 {
     if seeded { b"seeded " } else { b"not seeded " }

@@ -51,11 +51,9 @@ module _ (o : AskSet) where
   stored_asking : (S : SessionSeen) (ask : Ask) (hashes : List Hash) (c : ℕ) (S' : SessionSeen) → IsStored S ask hashes c S' → IsStored (asking o S) ask hashes c (asking o S')
   stored_asking S ask hashes c S' h = record {
     asked = asked_asking o S ask h.asked;
-    accepted = h.accepted;
     after = h.after;
-    known_after = h.known_after;
+    taken = h.taken;
     marks_stay = h.marks_stay;
-    gained = h.gained;
     state_after = ap (asking o) h.state_after;
   }
 

@@ -93,7 +93,7 @@ module _ (p : ℕ) (e : TreeEntry) (legal : IsPieceLength p) (sound : IsSoundTre
     planted_layers b c r n m joins = record {
       root_is = r ∙ planted.root_is;
       length_is = n ∙ planted.length_is;
-      good = good_filled a b l e.layer c planted.good (λ k d inside. sound.hash_lengths k (get_or e.layer k d) (slice_get-get_or e.layer k d inside)) r n m accepted joins;
+      good = good_filled a b l e.layer c planted.good (λ k d inside. record { size = sound.hash_lengths k (get_or e.layer k d) (slice_get-get_or e.layer k d inside) }) r n m accepted joins;
       known = record {
         root_alone = λ w. elim w [ inl off ↦ absurd (false≢true (sym off)) | inr short ↦ absurd (omega (arith, short, longer)) ];
         layers = λ on more.

@@ -222,8 +222,8 @@ noted-round-fewer S distinct ms vs S' closed_trees all run n f r =
         | inr lacks ↦
             inr (inr (inl (subst (LacksMemoryToNote S r.before r.ask r.noted) (sym at_end.outputs_are) (lacks_in_all S r.before r.ask r.noted at_end.earlier at_end.last lacks))))
         | inl noted ↦
-            elim (noted_round S noted.after at_end.middle S' distinct noted.same_torrent noted.rest noted.verdicts n r.tree r.state r.block r.ask f closed_trees noted.closed_trees noted.learns noted.hashes
-            r.is_tree r.inside r.wanted r.fits noted.is_open noted.run r.answer r.is_answer at_end.last (lacks_memory-not at_end.last has) at_end.step) [
+            elim (noted_round S noted.after at_end.middle S' distinct noted.same_torrent noted.rest noted.verdicts n r.wants.tree r.wants.state r.wants.block r.ask f closed_trees noted.closed_trees noted.learns noted.hashes
+            r.wants.is_tree r.wants.inside r.wants.wanted r.wants.fits noted.is_open noted.run r.answer r.wants.is_answer at_end.last (lacks_memory-not at_end.last has) at_end.step) [
               | inl fewer ↦ inl fewer
               | inr collides ↦ inr (inr (inr collides))
             ]
@@ -240,11 +240,3 @@ incoming-opens S (m ∷ ms) (v ∷ vs) S' (M, step, rest) ask now = noted-opens 
 
 pub noted-keeps : (S : SessionSeen) (ms : List (Directed Message)) (vs : List Verdict) (S' : SessionSeen) → HasClosedTrees S → All HasDirectedHashes ms → Chain NotedStep S ms vs S' → HasClosedTrees S' × HasNoMoreGaps S S'
 noted-keeps S ms vs S' closed_trees all run = (run-noted-closed S ms vs S' closed_trees all run, run-noted-gaps S ms vs S' run)
-
-pub noted-round-law : (S M N S' : SessionSeen) → HasDistinctRoots S → (ms ns : List (Directed Message)) (vs ws : List Verdict) (n : ℕ) (tree : TreeRoot) (s : TreeState) (b : ℕ) (ask : Ask) (f : List ℕ)
-    → HasClosedTrees S → All HasDirectedHashes ms → All HasDirectedHashes ns → IsTree S n tree s → b < block_count tree.length → want_of tree (look s.known) b ≡ Some ask → Fits f tree
-    → Chain NotedStep S ms vs M → IsOpenAsk M ask → Chain NotedStep M ns ws N → (hashes : Bor (List Hash)) → hashes.now ≡ answer_of (tree_height tree.length) (whole f) ask
-    → (v : Verdict) → v ≢ verdict.HashRefused NoMemory → NotedStep N (In, message.Hashes ask hashes) v S' → HasFewerGaps S' n tree (look s.known) ⊎ Collides S' n f
-noted-round-law S M N S' distinct ms ns vs ws n tree s b ask f closed_trees all_m all_n at inside wanted fits run was run' hashes is_answer v memory step =
-    noted_round S M N S' distinct (run-noted-torrent S ms vs M run) ns ws n tree s b ask f closed_trees (run-noted-closed S ms vs M closed_trees all_m run) (run-noted-learns S ms vs M run) all_n
-    at inside wanted fits was run' hashes is_answer v memory step

@@ -59,11 +59,9 @@ same_asking S S' e = λ i. record S' { asks = e i }
 pub answer-stored : (S : SessionSeen) (ask : Ask) (hashes : List Hash) (c : ℕ) (S' : SessionSeen) → IsAnswerStored S ask hashes c S' → IsStored S ask hashes c (asking S.asks S')
 answer-stored S ask hashes c S' h = record {
   asked = h.stored.asked;
-  accepted = h.stored.accepted;
   after = h.stored.after;
-  known_after = h.stored.known_after;
+  taken = h.stored.taken;
   marks_stay = h.stored.marks_stay;
-  gained = h.stored.gained;
   state_after = ap (asking S.asks) (h.state_after ∙ ap (λ U. without_ask U ask) h.stored.state_after);
 }
 
@@ -151,11 +149,11 @@ stored_base S ask hashes c S' h =
     record {
       asked = record { number = h.asked.number; tree = h.asked.tree; state = h.after; is_tree = at; has_root = h.asked.has_root };
       known = λ j low.
-          let ok = h.accepted in
+          let ok = h.taken.0 in
           let claim = base-claims ask hashes (spans-some (tree_height h.asked.tree.length) ask ok.range) ok.range.power_of_two ok.range.aligned ok.count.enough (ask.index + j) (omega arith) (omega arith) in
           elim (there_or_not (look h.asked.state.known ask.base (ask.index + j))) [
-            | inl (v, known) ↦ (v, h.known_after ask.base (ask.index + j) ∙ first_of_two (look h.asked.state.known ask.base (ask.index + j)) _ v known)
-            | inr none ↦ (claim.0, h.known_after ask.base (ask.index + j) ∙ second_of_two (look h.asked.state.known ask.base (ask.index + j)) _ none ∙ claim.1)
+            | inl (v, known) ↦ (v, h.taken.1.joined_is ask.base (ask.index + j) ∙ first_of_two (look h.asked.state.known ask.base (ask.index + j)) _ v known)
+            | inr none ↦ (claim.0, h.taken.1.joined_is ask.base (ask.index + j) ∙ second_of_two (look h.asked.state.known ask.base (ask.index + j)) _ none ∙ claim.1)
           ];
     }
 

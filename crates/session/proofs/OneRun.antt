@@ -105,20 +105,20 @@ module _ (S : SessionSeen) (distinct : HasDistinctRoots S) (ask : Ask) (hashes :
   stored_not_refused : (c : ℕ) (S' : SessionSeen) (r : HashRefusal) → r ≢ NoMemory → IsStored S ask hashes c S' → IsHashRefused S ask hashes r → ⊥
   stored_not_refused c S' r memory h k = elim (refused_cases S ask hashes r memory k) [
     | inl (e, unknown) ↦ not_unknown unknown h.asked
-    | inr (a, refused) ↦ accepted-no_fault h.asked.tree (look h.asked.state.known) ask hashes r h.accepted (at_one a h.asked r refused).fault
+    | inr (a, refused) ↦ accepted-no_fault h.asked.tree (look h.asked.state.known) ask hashes r h.taken.0 (at_one a h.asked r refused).fault
   ]
 
   stored_one : (c d : ℕ) (S' T : SessionSeen) → IsStored S ask hashes c S' → IsStored S ask hashes d T → (c ≡ d) × (S' ≡ T)
   stored_one c d S' T h k =
       let (number, tree, state) = asked-is S ask k.asked.number k.asked.tree k.asked.state distinct k.asked.is_tree k.asked.has_root h.asked in
       let known : h.after.known ≡ k.after.known = same_known h.after.known k.after.known
-      (λ l i. h.known_after l i ∙ ap (λ (st : TreeState). joined (look st.known) (claims ask hashes) l i) state ∙ sym (k.known_after l i)) in
+      (λ l i. h.taken.1.joined_is l i ∙ ap (λ (st : TreeState). joined (look st.known) (claims ask hashes) l i) state ∙ sym (k.taken.1.joined_is l i)) in
       let marked : h.after.marked ≡ k.after.marked = h.marks_stay ∙ ap (λ (st : TreeState). st.marked) state ∙ sym k.marks_stay in
       let make : Known → Marked → TreeState = λ x y. record { known = x; marked = y } in
       let after : h.after ≡ k.after = ap₂ make known marked in
       let before : len h.asked.state.known ≡ len k.asked.state.known = ap (λ (st : TreeState). len st.known) state in
       let more : len h.after.known ≡ len k.after.known = ap (λ (m : Known). len m) known in
-      (omega (arith, h.gained, k.gained, before, more), h.state_after ∙ ap₂ (λ (n : ℕ) (a : TreeState). record S { trees = set S.trees n a }) number after ∙ sym k.state_after)
+      (omega (arith, h.taken.1.gained, k.taken.1.gained, before, more), h.state_after ∙ ap₂ (λ (n : ℕ) (a : TreeState). record S { trees = set S.trees n a }) number after ∙ sym k.state_after)
 
 -- ---- one entry of a piece message
 

@@ -66,7 +66,7 @@ run-closes n f = record {
   closed = λ S M closed r. (run-true S r.messages r.verdicts M closed r.hashes r.run).1;
   learns = λ S M r tree s at. run-learns S r.messages r.verdicts M r.run n tree s at;
   fewer = λ S M distinct closed r tree s at. elim (round-fewer S distinct r.messages r.verdicts M closed r.hashes r.run n f r.round) [
-    | inl fewer ↦ inl (same-gaps r.round.is_tree at fewer)
+    | inl fewer ↦ inl (same-gaps r.round.wants.is_tree at fewer)
     | inr other ↦ elim other [ inl lacks ↦ absurd (r.memory lacks) | inr collides ↦ inr collides ]
   ];
 }
@@ -87,7 +87,7 @@ noted-closes n f = record {
   closed = λ S M closed r. run-noted-closed S r.messages r.verdicts M closed r.hashes r.run;
   learns = λ S M r tree s at. run-noted-learns S r.messages r.verdicts M r.run n tree s at;
   fewer = λ S M distinct closed r tree s at. elim (noted-round-fewer S distinct r.messages r.verdicts M closed r.hashes r.run n f r.round) [
-    | inl fewer ↦ inl (same-gaps r.round.is_tree at fewer)
+    | inl fewer ↦ inl (same-gaps r.round.wants.is_tree at fewer)
     | inr (inl lacks) ↦ absurd (r.memory lacks)
     | inr (inr (inl lacks)) ↦ absurd (r.memory_to_note lacks)
     | inr (inr (inr collides)) ↦ inr collides

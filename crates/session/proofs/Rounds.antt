@@ -58,7 +58,7 @@ module _ (n : ℕ) (tree : TreeRoot) (b : ℕ) (in' : b < block_count tree.lengt
     stored-fewer c h =
         let (same, one, state) = asked-is S (want_ask tree b) n tree s distinct at refl h.asked in
         let after : look h.after.known ≡ joined (look s.known) (claims (want_ask tree b) hashes) =
-        λ i l j. (h.known_after l j ∙ ap (λ st. joined (look st.known) (claims (want_ask tree b) hashes) l j) state) i in (
+        λ i l j. (h.taken.1.joined_is l j ∙ ap (λ st. joined (look st.known) (claims (want_ask tree b) hashes) l j) state) i in (
           h.after,
           record {
             tree_is = ap (λ U. slice_get (roots U) n) h.state_after ∙ at.tree_is;

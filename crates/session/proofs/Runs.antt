@@ -50,13 +50,13 @@ module _ (S : SessionSeen) (closed_trees : HasClosedTrees S) where
   stored-closed : (ask : Ask) (hashes : List Hash) (c : ℕ) (S' : SessionSeen) → All IsHash hashes → (h : IsStored S ask hashes c S')
       → IsClosed h.asked.tree (look h.after.known)
   stored-closed ask hashes c S' all h =
-      closed-same h.asked.tree (joined (look h.asked.state.known) (claims ask hashes)) (look h.after.known) (λ l i. sym (h.known_after l i))
+      closed-same h.asked.tree (joined (look h.asked.state.known) (claims ask hashes)) (look h.after.known) (λ l i. sym (h.taken.1.joined_is l i))
       (joined-closed h.asked.tree (look h.asked.state.known) ask hashes
-      (closed_trees.closed h.asked.number h.asked.tree h.asked.state h.asked.is_tree) all h.accepted)
+      (closed_trees.closed h.asked.number h.asked.tree h.asked.state h.asked.is_tree) all h.taken.0)
 
   stored-keeps : (ask : Ask) (hashes : List Hash) (c : ℕ) (S' : SessionSeen) → (h : IsStored S ask hashes c S')
       → (l i : ℕ) (v : Hash) → look h.asked.state.known l i ≡ Some v → look h.after.known l i ≡ Some v
-  stored-keeps ask hashes c S' h l i v e = h.known_after l i ∙ joined-keeps (look h.asked.state.known) (claims ask hashes) l i v e
+  stored-keeps ask hashes c S' h l i v e = h.taken.1.joined_is l i ∙ joined-keeps (look h.asked.state.known) (claims ask hashes) l i v e
 
   -- the torrent's trees stay
   before : {S' : SessionSeen} {ts : List TreeState} (k : ℕ) (tree : TreeRoot) → S' ≡ record S { trees = ts } → slice_get (roots S') k ≡ Some tree → slice_get (roots S) k ≡ Some tree
@@ -106,7 +106,7 @@ step-learns S m S' (stored ask hashes c has h) n tree s at = elim (cases_eq n h.
       tree_is = ap (λ U. slice_get (roots U) n) h.state_after ∙ at.tree_is;
       state_is = ap₂ (λ U i. slice_get U.trees i) h.state_after same ∙ set-write S.trees h.asked.number h.after h.asked.state h.asked.is_tree.state_is;
     };
-    keeps = λ l i v k. h.known_after l i ∙ joined-keeps (look h.asked.state.known) (claims ask hashes) l i v
+    keeps = λ l i v k. h.taken.1.joined_is l i ∙ joined-keeps (look h.asked.state.known) (claims ask hashes) l i v
         (ap (λ st. look st.known l i) (same_Some h.asked.state s (sym h.asked.is_tree.state_is ∙ sym (ap (slice_get S.trees) same) ∙ at.state_is)) ∙ k);
   }
   | inr other ↦ record {

@@ -86,11 +86,9 @@ module _ (d : Description) (ts : List KeptTree) (kept : AreKept d ts) where
       → IsStored (seen d o ts) ask hashes c (seen d o (set ts n b))
   stored_in o n a b ask hashes c e root m ok joins = record {
     asked = record { number = n; tree = info_of a; state = a.state; is_tree = tree_at o n a e; has_root = root };
-    accepted = ok;
     after = b.state;
-    known_after = joins.joined_is;
+    taken = (ok, joins);
     marks_stay = m;
-    gained = joins.gained;
     state_after = ap (with_trees d o) (map-set state_of ts n b);
   }
 
@@ -209,8 +207,7 @@ module _ (d : Description) (ts : List KeptTree) (kept : AreKept d ts) where
     before = a.state;
     after = b.state;
     is_tree = tree_at d ts kept o n a e;
-    accepted = h.0;
-    joins = h.1;
+    taken = h;
     marks_stay = m;
     state_after = ap (with_trees d o) (map-set state_of ts n b);
   }
@@ -243,7 +240,7 @@ module _ (d : Description) (ts : List KeptTree) (kept : AreKept d ts) where
       → IfOk r (IsTreeAnswer (tree_height a.length) (look a.state.known) ask) → IfOk r (IsAnswerTo (seen d o ts) ask)
   answer_all o sound n a ask (Err x) e root h = tt
   answer_all o sound n a ask (Ok (answer.Hashes hashes)) e root h =
-      (record { number = n; tree = info_of a; state = a.state; is_tree = tree_at d ts kept o n a e; has_root = root }, h.0, h.1)
+      (record { number = n; tree = info_of a; state = a.state; is_tree = tree_at d ts kept o n a e; has_root = root }, h)
   answer_all o sound n a ask (Ok answer.Reject) e root h = λ answered. h (answered_in d ts kept sound o n a ask e root answered)
 
   pub answer_memory : (o : AskSet) → {E : Type 0} (n : ℕ) (a : KeptTree) (ask : Ask) (r : Result Answer E) → slice_get ts n ≡ Some a → a.root ≡ ask.root

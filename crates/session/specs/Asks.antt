@@ -19,6 +19,7 @@ ask_cmp a b = ordering_then (slice_cmp nat_cmp a.root b.root)
 abbrev pub AskSet : Type 0
 AskSet = finite.FinSet ask_cmp
 
+-- an ask written as its five fields
 abbrev ask_code : Coded Ask
 ask_code = code_by (List ℕ × (ℕ × (ℕ × (ℕ × ℕ))))
     (coded× (coded_list coded_ℕ) (coded× coded_ℕ (coded× coded_ℕ (coded× coded_ℕ coded_ℕ))))
@@ -32,5 +33,6 @@ ask_code = code_by (List ℕ × (ℕ × (ℕ × (ℕ × ℕ))))
     })
     (λ _. refl)
 
+-- a set of asks written as one value
 abbrev pub asks_code : Coded AskSet
 asks_code = finite.code ask_code

@@ -19,6 +19,10 @@ abbrev pub entry_of : BlocksSeen → ℕ → Option BlockRefusal → Result (ℕ
 entry_of v m None = Ok (place_of_entry v m)
 entry_of v m (Some r) = Err r
 
+-- how many bytes a block has that is not its file's last (BEP 52)
+abbrev pub block_length : ℕ
+block_length = 16384
+
 -- a block of a file by its number, and the bytes that a message has for it
 pub record Cut : Type 0 where
   pub number : ℕ

@@ -1,12 +1,10 @@
 -- The laws of sessions that note what they ask for, and of the replay of a conversion.
-use Rattle.std.specs.Prelude.{◌≡◌, ◌≢◌, ◌⊎◌, ℕ, ◌+◌, ◌<◌, ◌≤◌, List, [], ◌∷◌, Some}
-use Rattle.std.specs.Borrow.{Bor}
+use Rattle.std.specs.Prelude.{◌≡◌, ◌≢◌, ◌⊎◌, ℕ, ◌+◌, ◌<◌, ◌≤◌, List, [], ◌∷◌}
 use Rattle.std.specs.List.{All, AllZip, AllByRecursion}
 use Rattle.wire.specs.declared.direction.Direction.TheVariants.{In, Out}
 use Rattle.wire.specs.declared.frame.Frame.{Frame as Told}
 use Rattle.wire.specs.declared.message.Ask.{Ask as Asked}
 use Rattle.wire.specs.declared.message.Message.{Message as Sent}
-use Rattle.wire.specs.declared.message.Message.TheVariants.{Hashes}
 use Rattle.wire.specs.Meaning.{Means}
 use Rattle.wire.specs.Records.{Directed, MeansDirected, messages_in, directed_messages}
 use Rattle.wire.specs.Conversion.{conversion, converted_messages}
@@ -14,19 +12,16 @@ use Rattle.session.specs.declared.verdict.Verdict.{Verdict as Said}
 use Rattle.session.specs.declared.verdict.Verdict.TheVariants.{HashRefused}
 use Rattle.partial_tree.specs.declared.refusal.HashRefusal.TheVariants.{NoMemory}
 use Rattle.hashtree.specs.Tree.{block_count}
-use Rattle.node_maps.specs.Digest.{Hash}
-use Rattle.node_maps.specs.Places.{tree_height, IsKnown}
+use Rattle.node_maps.specs.Places.{IsKnown}
 use Rattle.node_maps.specs.Known.{look}
-use Rattle.partial_tree.specs.TreeRoot.{TreeRoot as Tree, Fits}
-use Rattle.partial_tree.specs.Closed.{whole}
-use Rattle.partial_tree.specs.Claims.{answer_of}
-use Rattle.partial_tree.specs.Gaps.{gaps, want_of}
+use Rattle.partial_tree.specs.TreeRoot.{TreeRoot as Tree}
+use Rattle.partial_tree.specs.Gaps.{gaps}
 use Rattle.chains.specs.Chain.{Chain}
 use Rattle.session.specs.Asks.{AskSet}
-use Rattle.session.specs.Session.{SessionSeen, TreeState, IsTree, HasClosedTrees, HasDistinctRoots, HasFewerGaps, Step}
+use Rattle.session.specs.Session.{SessionSeen, TreeState, IsTree, HasClosedTrees, HasDistinctRoots, Step}
 use Rattle.session.specs.Rounds.{HasNoMoreGaps, Collides}
 use Rattle.session.specs.Noted.{IsOpenAsk, NotedStep, KeepsOpen}
-use Rattle.session.specs.NotedRounds.{HasDirectedHashes, NotedRounds}
+use Rattle.session.specs.NotedRounds.{HasDirectedHashes, NotedRoundLeavesFewer, NotedRounds}
 
 -- ---- memory aside
 
@@ -118,18 +113,13 @@ NotedRunKeeps =
     → HasClosedTrees S → All HasDirectedHashes ms → Chain NotedStep S ms vs S'
     → HasClosedTrees S' × HasNoMoreGaps S S'
 
--- what was wanted before the first message is open at some message, and at last its true answer
--- comes: then the gaps are fewer, unless memory was refused for the answer or a collision is named
-abbrev pub NotedRoundLeavesFewerGaps : Type 0
-NotedRoundLeavesFewerGaps = (S M N S' : SessionSeen) → HasDistinctRoots S
-    → (ms ns : List (Directed Sent)) (vs ws : List Said)
-    (n : ℕ) (tree : Tree) (s : TreeState) (b : ℕ) (ask : Asked) (f : List ℕ)
-    → HasClosedTrees S → All HasDirectedHashes ms → All HasDirectedHashes ns
-    → IsTree S n tree s → b < block_count tree.length → want_of tree (look s.known) b ≡ Some ask
-    → Fits f tree → Chain NotedStep S ms vs M → IsOpenAsk M ask → Chain NotedStep M ns ws N
-    → (hashes : Bor (List Hash)) → hashes.now ≡ answer_of (tree_height tree.length) (whole f) ask
-    → (v : Said) → v ≢ HashRefused NoMemory → NotedStep N (In, Hashes ask hashes) v S'
-    → HasFewerGaps S' n tree (look s.known) ⊎ Collides S' n f
+-- a run over a round leaves fewer gaps, unless memory was refused for its answer or for noting its
+-- request, or a collision is named
+abbrev pub NotedRoundsCloseGaps : Type 0
+NotedRoundsCloseGaps = (S : SessionSeen) → HasDistinctRoots S
+    → (ms : List (Directed Sent)) (vs : List Said) (S' : SessionSeen)
+    → HasClosedTrees S → All HasDirectedHashes ms
+    → Chain NotedStep S ms vs S' → NotedRoundLeavesFewer S ms vs S'
 
 -- k rounds, one after the other, leave k gaps fewer, or a collision is named
 abbrev pub NotedRoundsAreAtMostGaps : Type 0

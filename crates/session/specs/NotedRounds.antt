@@ -1,9 +1,9 @@
 -- Rounds of a session that notes what it asks for: messages that end with the true answer to what
 -- was wanted before them, and noted before that answer.
-use Rattle.std.specs.Prelude.{◌≡◌, ◌⊎◌, ℕ, ◌<◌, List, [], ◌∷◌, ◌++◌, Some, slice_get}
+use mathlib.Core.Logic.{inl, inr}
+use Rattle.std.specs.Prelude.{◌≡◌, ◌⊎◌, ℕ, List, [], ◌∷◌, ◌++◌, Some, slice_get}
 use Rattle.std.specs.Borrow.{Bor}
 use Rattle.std.specs.List.{All}
-use Rattle.std.proofs.Common.{inl, inr}
 use Rattle.wire.specs.declared.direction.Direction.TheVariants.{In, Out}
 use Rattle.wire.specs.declared.message.Ask.{Ask}
 use Rattle.wire.specs.declared.message.Message.{Message}
@@ -13,15 +13,9 @@ use Rattle.partial_tree.specs.declared.refusal.HashRefusal.TheVariants.{NoMemory
 use Rattle.session.specs.declared.verdict.Verdict.{Verdict}
 use Rattle.session.specs.declared.verdict.Verdict.TheVariants as verdict
 use Rattle.node_maps.specs.Digest.{Hash}
-use Rattle.hashtree.specs.Tree.{block_count}
-use Rattle.partial_tree.specs.TreeRoot.{TreeRoot, Fits}
-use Rattle.node_maps.specs.Places.{tree_height}
-use Rattle.partial_tree.specs.Closed.{whole}
-use Rattle.partial_tree.specs.Claims.{answer_of}
-use Rattle.partial_tree.specs.Gaps.{want_of}
 use Rattle.node_maps.specs.Known.{look}
-use Rattle.session.specs.Session.{SessionSeen, TreeState, IsTree, HasFewerGaps, HasHashes}
-use Rattle.session.specs.Rounds.{LacksMemoryAtLast, Collides, Repeated}
+use Rattle.session.specs.Session.{SessionSeen, HasFewerGaps, HasHashes}
+use Rattle.session.specs.Rounds.{IsWantedAnswer, LacksMemoryAtLast, Collides, Repeated}
 use Rattle.session.specs.Noted.{IsOpenAsk, NotedStep}
 use Rattle.chains.specs.Chain.{Chain}
 
@@ -41,17 +35,10 @@ IsAskedFor S ms ask = IsOpenAsk S ask ⊎ ((k : ℕ) × IsAskedAt ms ask k)
 -- first, and that was noted before the answer
 pub record IsNotedRound (S : SessionSeen) (n : ℕ) (f : List ℕ) (ms : List (Directed Message))
     : Type 0 where
-  pub tree : TreeRoot
-  pub state : TreeState
-  pub is_tree : IsTree S n tree state
-  pub fits : Fits f tree
-  pub block : ℕ
-  pub inside : block < block_count tree.length
   pub ask : Ask
-  pub wanted : want_of tree (look state.known) block ≡ Some ask
-  pub before : List (Directed Message)
   pub answer : Bor (List Hash)
-  pub is_answer : answer.now ≡ answer_of (tree_height tree.length) (whole f) ask
+  pub wants : IsWantedAnswer S n f ask answer.now
+  pub before : List (Directed Message)
   pub ends : ms ≡ before ++ (In, message.Hashes ask answer) ∷ []
   pub noted : IsAskedFor S before ask
 
@@ -66,7 +53,7 @@ LacksMemoryToNote S ms ask (inr (k, at)) vs = slice_get vs k ≡ Some (verdict.H
 abbrev pub NotedRoundLeavesFewer : SessionSeen → List (Directed Message) → List Verdict
     → SessionSeen → Type 0
 NotedRoundLeavesFewer S ms vs S' = (n : ℕ) (f : List ℕ) (round : IsNotedRound S n f ms)
-    → HasFewerGaps S' n round.tree (look round.state.known) ⊎ (LacksMemoryAtLast vs
+    → HasFewerGaps S' n round.wants.tree (look round.wants.state.known) ⊎ (LacksMemoryAtLast vs
     ⊎ (LacksMemoryToNote S round.before round.ask round.noted vs ⊎ Collides S' n f))
 
 -- a run over a round, with memory for its answer and for noting its request

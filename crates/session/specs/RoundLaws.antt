@@ -43,8 +43,8 @@ RunGapsNeverRise = (S : SessionSeen) (ms : List Sent) (vs : List Said) (S' : Ses
 
 -- a run over a round leaves fewer gaps, unless memory was refused for its answer or a collision
 -- is named
-abbrev pub RoundRunLeavesFewerGaps : Type 0
-RoundRunLeavesFewerGaps = (S : SessionSeen) → HasDistinctRoots S
+abbrev pub RoundsCloseGaps : Type 0
+RoundsCloseGaps = (S : SessionSeen) → HasDistinctRoots S
     → (ms : List Sent) (vs : List Said) (S' : SessionSeen) → HasClosedTrees S → All HasHashes ms
     → Chain Step S ms vs S' → RoundLeavesFewer S ms vs S'
 

@@ -19,21 +19,25 @@ use Rattle.node_maps.specs.Known.{look}
 use Rattle.session.specs.Session.{SessionSeen, TreeState, IsTree, HasFewerGaps, HasHashes, Step}
 use Rattle.chains.specs.Chain.{Chain}
 
--- messages that end with the true answer for f to an ask that was wanted of tree n before the
--- first
-pub record IsRound (S : SessionSeen) (n : ℕ) (f : List ℕ)
-    (ms : List Message) : Type 0 where
+-- the hashes are the true answer for f to an ask that is wanted of tree n
+pub record IsWantedAnswer (S : SessionSeen) (n : ℕ) (f : List ℕ) (ask : Ask) (hashes : List Hash)
+    : Type 0 where
   pub tree : TreeRoot
   pub state : TreeState
   pub is_tree : IsTree S n tree state
   pub fits : Fits f tree
   pub block : ℕ
   pub inside : block < block_count tree.length
-  pub ask : Ask
   pub wanted : want_of tree (look state.known) block ≡ Some ask
-  pub before : List Message
+  pub is_answer : hashes ≡ answer_of (tree_height tree.length) (whole f) ask
+
+-- messages that end with the true answer for f to an ask that was wanted of tree n before the
+-- first
+pub record IsRound (S : SessionSeen) (n : ℕ) (f : List ℕ) (ms : List Message) : Type 0 where
+  pub ask : Ask
   pub answer : Bor (List Hash)
-  pub is_answer : answer.now ≡ answer_of (tree_height tree.length) (whole f) ask
+  pub wants : IsWantedAnswer S n f ask answer.now
+  pub before : List Message
   pub ends : ms ≡ before ++ message.Hashes ask answer ∷ []
 
 -- memory was refused for the last message
@@ -56,7 +60,7 @@ HasNoMoreGaps S S' = (n : ℕ) (tree : TreeRoot) (s : TreeState) → IsTree S n 
 -- answer, or a collision is named
 abbrev pub RoundLeavesFewer : SessionSeen → List Message → List Verdict → SessionSeen → Type 0
 RoundLeavesFewer S ms vs S' = (n : ℕ) (f : List ℕ) (round : IsRound S n f ms)
-    → HasFewerGaps S' n round.tree (look round.state.known)
+    → HasFewerGaps S' n round.wants.tree (look round.wants.state.known)
     ⊎ (LacksMemoryAtLast vs ⊎ Collides S' n f)
 
 -- a run over a round, with memory for its answer

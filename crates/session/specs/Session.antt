@@ -1,28 +1,26 @@
 -- A session: a closed partial tree and marked leaves for each tree of a torrent, and its steps.
 use Rattle.std.specs.Prelude.{◌≡◌, ◌≢◌, ◌⊎◌, ℕ, ◌+◌, ◌<◌, List, length, set, slice_get, true, Option, Some, None}
-use Rattle.std.specs.FinMap.{len}
 use Rattle.std.specs.FinSet as leaves
 use Rattle.sha2.specs.Sha256.{sha256}
 use Rattle.partial_tree.specs.TreeRoot.{TreeRoot, Fits}
 use Rattle.node_maps.specs.Places.{tree_height, PartialTree, IsKnown}
 use Rattle.wire.specs.declared.message.Ask.{Ask}
 use Rattle.partial_tree.specs.declared.refusal.HashRefusal.{HashRefusal}
-use Rattle.partial_tree.specs.declared.refusal.HashRefusal.TheVariants.{UnknownRoot, NoMemory}
+use Rattle.partial_tree.specs.declared.refusal.HashRefusal.TheVariants.{UnknownRoot}
 use Rattle.partial_tree.specs.declared.refusal.BlockRefusal.{BlockRefusal}
 use Rattle.partial_tree.specs.declared.refusal.BlockRefusal.TheVariants.{BadPlace, BadSize}
 use Rattle.wire.specs.declared.message.Message.{Message}
 use Rattle.wire.specs.declared.message.Message.TheVariants as message
 use Rattle.session.specs.declared.verdict.Verdict.{Verdict}
 use Rattle.session.specs.declared.verdict.Verdict.TheVariants as verdict
-use Rattle.std.specs.List.{All}
-use Rattle.node_maps.specs.Digest.{Hash, IsHash}
+use Rattle.node_maps.specs.Digest.{Hash}
 use Rattle.hashtree.specs.Tree.{block, block_count}
 use Rattle.partial_tree.specs.Closed.{IsClosed, Collision, BlockCollision, whole}
-use Rattle.partial_tree.specs.Claims.{claims, joined, IsAccepted, Refuses, CanAnswer}
+use Rattle.partial_tree.specs.Claims.{AreHashes, TreeRefuses, CanAnswer}
 use Rattle.partial_tree.specs.Gaps.{gaps}
 use Rattle.node_maps.specs.Known.{look}
-use Rattle.partial_tree.specs.Joins.{Joins}
-use Rattle.partial_tree.specs.Fill.{fill_claims, IsFillAccepted, FillRefuses}
+use Rattle.partial_tree.specs.Joins.{TakesHashes, TakesLayer}
+use Rattle.partial_tree.specs.Fill.{FillRefuses}
 use Rattle.metainfo.specs.Places.{place_of}
 use Rattle.metainfo.specs.Blocks.{IsBlockRun}
 use Rattle.chains.specs.Chain.{Chain}
@@ -55,26 +53,21 @@ pub record IsAsked (S : SessionSeen) (ask : Ask) : Type 0 where
   pub is_tree : IsTree S number tree state
   pub has_root : tree.root ≡ ask.root
 
--- the message has no fault, and what it claims is joined to its tree, with c more places
+-- the tree that the ask names takes the message, with c more places
 pub record IsStored (S : SessionSeen) (ask : Ask) (hashes : List Hash) (c : ℕ) (S' : SessionSeen)
     : Type 0 where
   pub asked : IsAsked S ask
-  pub accepted : IsAccepted asked.tree.length (look asked.state.known) ask hashes
   pub after : TreeState
-  pub known_after : (l i : ℕ) → look after.known l i
-      ≡ joined (look asked.state.known) (claims ask hashes) l i
+  pub taken : TakesHashes asked.tree.length ask hashes asked.state.known c after.known
   pub marks_stay : after.marked ≡ asked.state.marked
-  pub gained : len after.known ≡ len asked.state.known + c
   pub state_after : S' ≡ record S { trees = set S.trees asked.number after }
 
--- r is the first fault; a message that is refused out of memory has none
+-- no tree has the root that the ask names, or that tree refuses the message
 abbrev pub IsHashRefused : SessionSeen → Ask → List Hash → HashRefusal → Type 0
 IsHashRefused S ask hashes UnknownRoot = (n : ℕ) (tree : TreeRoot)
     → slice_get (roots S) n ≡ Some tree → tree.root ≢ ask.root
-IsHashRefused S ask hashes NoMemory = (a : IsAsked S ask)
-    × IsAccepted a.tree.length (look a.state.known) ask hashes
 IsHashRefused S ask hashes r = (a : IsAsked S ask)
-    × Refuses a.tree.length (look a.state.known) ask hashes r
+    × TreeRefuses a.tree.length (look a.state.known) ask hashes r
 
 -- ---- blocks
 
@@ -143,19 +136,18 @@ IsBlockRefused S index begin bytes r = (p : IsPlaced S index begin)
 
 -- ---- whole layers
 
--- a whole layer is accepted, and what follows from it is joined to tree n, with c more places
+-- tree n takes a whole layer, with c more places
 pub record IsFilled (S : SessionSeen) (n layer : ℕ) (hashes : List Hash) (c : ℕ) (S' : SessionSeen)
     : Type 0 where
   pub tree : TreeRoot
   pub before : TreeState
   pub after : TreeState
   pub is_tree : IsTree S n tree before
-  pub accepted : IsFillAccepted tree.length (look before.known) layer hashes
-  pub joins : Joins (fill_claims tree.length layer hashes) before.known after.known c
+  pub taken : TakesLayer tree.length layer hashes before.known c after.known
   pub marks_stay : after.marked ≡ before.marked
   pub state_after : S' ≡ record S { trees = set S.trees n after }
 
--- the first test of a whole layer for tree n that fails, or out of memory if none does
+-- tree n refuses a whole layer
 pub record IsFillRefused (S : SessionSeen) (n layer : ℕ) (hashes : List Hash) (r : HashRefusal)
     : Type 0 where
   pub tree : TreeRoot
@@ -193,7 +185,7 @@ Step S m v S' = ⊥
 
 -- the hashes of a message have 32 bytes each, as their type says
 abbrev pub HasHashes : Message → Type 0
-HasHashes (message.Hashes ask hashes) = All IsHash hashes.now
+HasHashes (message.Hashes ask hashes) = AreHashes hashes.now
 HasHashes m = Unit {0}
 
 -- ---- progress

@@ -1,12 +1,15 @@
 //! What a session says of the blocks of one piece message.
 
-ghost use Rattle.std.specs.Prelude.{◌≡◌, ◌+◌, ◌^◌, ◌<◌, [], ◌∷◌, ◌++◌, length, slice_get, is_some, Option, Some};
+ghost use Rattle.std.specs.Prelude.{◌≡◌, ◌+◌, ◌^◌, ◌<◌, ◌≤◌, [], ◌∷◌, ◌++◌, length, slice_get, is_some, Option, Some};
 ghost use Rattle.std.specs.List.{list_any};
 ghost use Rattle.session.specs.Blocks.{entry_of, most_blocks, place_of_entry};
 ghost use Rattle.partial_tree.specs.declared.refusal.BlockRefusal.{BlockRefusal as Why};
 
 use partial_tree::BlockRefusal;
 use std::marker::Model;
+
+// The most blocks that one piece message carries.
+const MOST_BLOCKS: usize = 17;
 
 /// What a session says of the blocks of one piece message, which are consecutive blocks of one
 /// file: an entry for each, from 1 to 17. An entry is verified, and then the leaf is marked, or it
@@ -16,7 +19,7 @@ pub struct Blocks {
     file: usize,
     first: u64,
     count: usize,
-    refusals: [Option<BlockRefusal>; 17],
+    refusals: [Option<BlockRefusal>; MOST_BLOCKS],
 }
 
 impl Model for Blocks {
@@ -55,7 +58,7 @@ impl Blocks {
             file,
             first,
             count: 0,
-            refusals: [None; 17],
+            refusals: [None; MOST_BLOCKS],
         }
     }
 
@@ -68,9 +71,10 @@ impl Blocks {
         self.count += 1;
     }
 
-    /// How many entries there are: as many as the message has blocks.
+    /// How many entries there are: as many as the message has blocks, 17 at most.
     pub fn len(&self) -> usize
-        ensures { result ≡ length self.now.refusals }
+        ensures count { result ≡ length self.now.refusals }
+        ensures few { result ≤ most_blocks }
     {
         self.count
     }

@@ -1,8 +1,8 @@
 //! The laws of runs of messages, each as the contract of a function that does nothing.
 
-ghost use Rattle.session.specs.Laws.{RunKeepsPromises, RoundLeavesFewerGaps};
-ghost use Rattle.session.specs.NotedLaws.{ConversionRunsAsFormOne, FormOneRunsAsConversion, ConversionReplaysAsFormOne, OneRunWithMemory, ConversionTellsTheSame, NotedStaysOpen, IncomingOpensNothing, NotedRunKeeps, NotedRoundLeavesFewerGaps, NotedRoundsAreAtMostGaps, NotedRoundsMakeAllKnown};
-ghost use Rattle.session.specs.RoundLaws.{NoGapMeansNothingWanted, NothingWantedMeansNoGap, WantedAnswerLeadsToRoot, RunGapsNeverRise, RoundRunLeavesFewerGaps, RoundsAreAtMostGaps, RoundsMakeAllKnown};
+ghost use Rattle.session.specs.Laws.{RunKeepsPromises};
+ghost use Rattle.session.specs.NotedLaws.{ConversionRunsAsFormOne, FormOneRunsAsConversion, ConversionReplaysAsFormOne, OneRunWithMemory, ConversionTellsTheSame, NotedStaysOpen, IncomingOpensNothing, NotedRunKeeps, NotedRoundsCloseGaps, NotedRoundsAreAtMostGaps, NotedRoundsMakeAllKnown};
+ghost use Rattle.session.specs.RoundLaws.{NoGapMeansNothingWanted, NothingWantedMeansNoGap, WantedAnswerLeadsToRoot, RunGapsNeverRise, RoundsCloseGaps, RoundsAreAtMostGaps, RoundsMakeAllKnown};
 
 /// A run keeps all trees closed, and each block that it verifies is the block of every file that
 /// fits, or a collision is named.
@@ -10,18 +10,12 @@ pub fn run_keeps_promises()
     ensures { RunKeepsPromises }
 {}
 
-/// A run that ends with the true answer to what was wanted before it leaves fewer gaps, unless
-/// memory was refused for that answer or a collision is named.
-pub fn round_leaves_fewer_gaps()
-    ensures { RoundLeavesFewerGaps }
-{}
-
 /// A round leaves fewer gaps, whatever else it holds, unless memory was refused for its answer or a
 /// collision is named; so with memory there are at most as many rounds as gaps, and after that many
 /// each block's leaf is known.
 pub fn rounds_close_gaps()
     ensures never_rise { RunGapsNeverRise }
-    ensures round { RoundRunLeavesFewerGaps }
+    ensures round { RoundsCloseGaps }
     ensures all { RoundsAreAtMostGaps }
     ensures done { RoundsMakeAllKnown }
 {}
@@ -46,15 +40,15 @@ pub fn conversion_replays_as_form_1()
 {}
 
 /// A noted ask is open until the hashes of its base range are known, and what comes in opens none.
-/// A run that notes keeps all trees closed, and no tree has more gaps after it. If what was wanted
-/// was noted before its true answer comes, there are fewer, unless memory was refused for that
-/// answer or a collision is named; so with memory there are at most as many such rounds as gaps,
-/// and after that many each block's leaf is known.
+/// A run that notes keeps all trees closed, and no tree has more gaps after it. A round leaves
+/// fewer if what was wanted was noted before its true answer comes, unless memory was refused for
+/// that answer or to note it, or a collision is named; so with memory there are at most as many
+/// such rounds as gaps, and after that many each block's leaf is known.
 pub fn noted_asks_close_gaps()
     ensures stays { NotedStaysOpen }
     ensures ours { IncomingOpensNothing }
     ensures keeps { NotedRunKeeps }
-    ensures round { NotedRoundLeavesFewerGaps }
+    ensures round { NotedRoundsCloseGaps }
     ensures all { NotedRoundsAreAtMostGaps }
     ensures done { NotedRoundsMakeAllKnown }
 {}

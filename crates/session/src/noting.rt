@@ -1,6 +1,6 @@
 //! A session that notes what it asks for, and takes hashes only in answer to an open ask.
 
-ghost use Rattle.std.specs.Prelude.{◌≡◌, ◌↔◌, IfOk, IfErr, OnOk, OnErr, IsOk, IsTrue};
+ghost use Rattle.std.specs.Prelude.{◌≡◌, ◌<◌, ◌↔◌, IfOk, IfErr, OnOk, OnErr, IsOk, IsTrue, length};
 ghost use Rattle.chains.specs.Chain.{Chain};
 ghost use Rattle.session.specs.SafeStep.{KeepsKnown, StoresTrueHashes, StoresAnswers};
 ghost use Rattle.session.specs.Noted.{IsOpenAsk, IsAnswerStored, IsAnswerRefused, StepIn, StepOut, IsSafeNotedStep, KeepsOpen, with_ask};
@@ -35,7 +35,7 @@ impl<'t, N: NodeMap> Session<'t, N> {
         self.asks.contains(ask)
     }
 
-    /// Takes a hashes message that answers an open ask, which is closed by it, and tells how many
+    /// Takes a hashes message that answers an open ask, which is closed by it. Returns how many
     /// places are newly known, those past the file's end counted. Hashes that nobody asked for are
     /// refused before any other test. A refusal closes nothing, and leaves the session unchanged.
     pub fn take_answer(&mut self, ask: &Ask, hashes: &[Hash]) -> Result<u64, HashRefusal>
@@ -62,8 +62,12 @@ impl<'t, N: NodeMap> Session<'t, N> {
 
     /// Takes one message that came in or went out, and tells what it makes of it. What came in is
     /// taken as by `step`, but hashes as by `take_answer`. Of what went out a request is noted, and
-    /// all else is told as sent. Only our own requests open an ask. A refusal leaves the session
-    /// unchanged.
+    /// all else is told as sent. What it tells verified is that block of every file with the tree's
+    /// length and root, or two inputs with one digest are named. What is known stays known. True
+    /// hashes that lead to a known node and whose ask is open are stored, unless memory is refused
+    /// or a collision is named; the true block of a known leaf is verified, or a collision is
+    /// named. Only our own requests open an ask, and it stays open until its base range is known. A
+    /// refusal leaves the session unchanged.
     pub fn step_noted(&mut self, direction: Direction, message: &Message<'_>) -> Verdict
         ensures verified_is_the_block { IsSafeNotedStep self.old (direction, message.now) result
             self.new }
@@ -100,13 +104,16 @@ impl<'t, N: NodeMap> Session<'t, N> {
         }
     }
 
-    /// Takes messages that came in or went out, one after the other, and tells what it makes of
-    /// each. No tree has more gaps afterwards, and an open ask is still open unless its base range
-    /// is known. If the messages end with the true answer to what `want` gave before the first of
-    /// them, and that ask was noted before its answer, there are fewer gaps, whatever else the
-    /// messages hold, unless memory was refused for that answer or to note it, or two inputs with
-    /// one digest are named. Room for the verdicts is made first; if memory is refused for it, the
-    /// session is unchanged.
+    /// Takes messages that came in or went out, one after the other, each as by `step_noted`, and
+    /// tells what it makes of each. What it tells verified is that block of every file with the
+    /// tree's length and root, or two inputs with one digest are named. What is known stays known;
+    /// true blocks and true hashes whose ask is open are taken, whatever came before them, unless
+    /// memory is refused or a collision is named. No tree has more gaps afterwards, and an open ask
+    /// is still open unless its base range is known. If the messages end with the true answer to
+    /// what `want` gave before the first of them, and that ask was noted before its answer, there
+    /// are fewer gaps, whatever else the messages hold, unless memory was refused for that answer
+    /// or to note it, or two inputs with one digest are named. Room for the verdicts is made first;
+    /// if memory is refused for it, the session is unchanged. No messages take no memory.
     pub fn run_noted(
         &mut self,
         messages: &[(Direction, Message<'_>)],
@@ -117,7 +124,8 @@ impl<'t, N: NodeMap> Session<'t, N> {
         ensures keeps_open { IfOk result (λ _. KeepsOpen self.old self.new) }
         ensures round { IfOk result
             (λ vs. NotedRoundLeavesFewer self.old messages.now vs.items self.new) }
-        ensures no_memory { OnErr result (self.new ≡ self.old) }
+        ensures unchanged { OnErr result (self.new ≡ self.old) }
+        ensures no_memory { OnErr result (0 < length messages.now) }
     {
         self.closed_trees();
         self.distinct_roots();

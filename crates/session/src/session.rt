@@ -6,7 +6,6 @@
 //! and `block_or_collision` in `partial_tree`'s `proofs/Headline.antt` proves it.
 
 ghost use Rattle.std.specs.Prelude.{◌≡◌, ◌<◌, ◌≤◌, ◌↔◌, IfOk, IfErr, OnErr, IsTrue, length, slice_get, ◌*◌, ◌≤◌, Some};
-ghost use Rattle.std.specs.List.{All};
 ghost use Rattle.std.specs.FinMap as finite;
 ghost use Rattle.std.specs.FinSet as set;
 ghost use Rattle.metainfo.specs.Description.{TreeEntry};
@@ -17,7 +16,7 @@ ghost use Rattle.node_maps.specs.Known.{look};
 ghost use Rattle.partial_tree.specs.TreeRoot.{TreeRoot};
 ghost use Rattle.partial_tree.specs.Gaps.{want_of};
 ghost use Rattle.hashtree.specs.Tree.{block};
-ghost use Rattle.session.specs.Blocks.{cuts};
+ghost use Rattle.session.specs.Blocks.{block_length, cuts};
 ghost use Rattle.session.specs.Layouts.{IsBlockOf, HasBlock, HasRun};
 ghost use Rattle.session.specs.Answers.{IsAnswerTo};
 ghost use Rattle.session.specs.Rounds.{HasNoMoreGaps, RoundLeavesFewer};
@@ -32,7 +31,7 @@ use crate::verdict::Verdict;
 use hashtree::{BLOCK_LENGTH, Hash, NoMemory};
 use metainfo::{PieceLength, Torrent};
 use node_maps::NodeMap;
-use partial_tree::{Answer, BlockRefusal, GrownTree, HashRefusal, Tree};
+use partial_tree::{Answer, BlockRefusal, GrownTree, HashRefusal, Tree, are_hashes};
 use std::alloc::Global;
 use std::marker::Model;
 use wire::{Ask, Message};
@@ -62,15 +61,16 @@ impl<'t, N: NodeMap> Model for Session<'t, N> {
 
 impl<'t, N: NodeMap> Session<'t, N> {
     /// A session that knows the root of each tree of the torrent. With layers it also knows what
-    /// lies from each piece layer up, the pads past a file's end among it; a file that is no longer
-    /// than a piece has no piece layer. Nothing is marked, and no ask is open. Fails only if memory
-    /// was refused.
+    /// lies from each piece layer up, the pads past a file's end among them; a file that is no
+    /// longer than a piece has no piece layer. Nothing is marked, and no ask is open. Fails only if
+    /// memory was refused. A torrent without trees, whose files are all empty, takes none.
     pub fn new(
         alloc: Global,
         torrent: &'t Torrent<'t>,
         with_layers: bool,
     ) -> Result<Session<'t, N>, NoMemory>
-        ensures { IfOk result (IsFresh torrent.now with_layers) }
+        ensures fresh { IfOk result (IsFresh torrent.now with_layers) }
+        ensures no_memory { OnErr result (0 < length torrent.now.trees) }
     {
         torrent.sound();
         let infos = torrent.trees();
@@ -110,10 +110,10 @@ impl<'t, N: NodeMap> Session<'t, N> {
         self.torrent.sound();
     }
 
-    /// Takes a hashes message, and tells how many places are newly known, those past the file's end
-    /// counted. A refusal leaves content and marks as they were; room that was made for places may
-    /// stay. What is known stays known, and true hashes that lead to a known node are stored,
-    /// whatever came before.
+    /// Takes a hashes message. Returns how many places are newly known, those past the file's end
+    /// counted. A refusal leaves content and marks as they were; it is out of memory only if a
+    /// place is new, and then room that was made for places may stay. What is known stays known,
+    /// and true hashes that lead to a known node are stored, whatever came before.
     pub fn take_hashes(&mut self, ask: &Ask, hashes: &[Hash]) -> Result<u64, HashRefusal>
         ensures stored { IfOk result (λ c. IsStored self.old ask.now hashes.now c self.new) }
         ensures refused { IfErr result (λ r. IsHashRefused self.old ask.now hashes.now r
@@ -139,9 +139,9 @@ impl<'t, N: NodeMap> Session<'t, N> {
         }
     }
 
-    /// Takes a whole layer of a tree, given without the pads at its end, and tells how many places
-    /// are newly known. A refusal leaves content and marks as they were. Condition: there are more
-    /// than `tree` trees.
+    /// Takes a whole layer of a tree, given without the pads at its end. Returns how many places
+    /// are newly known. A refusal leaves content and marks as they were; it is out of memory only
+    /// if a place is new. Condition: there are more than `tree` trees.
     pub fn fill(&mut self, tree: usize, layer: u32, hashes: &[Hash]) -> Result<u64, HashRefusal>
         requires { tree < length self.old.torrent.trees }
         ensures filled { IfOk result (λ c. IsFilled self.old tree layer hashes.now c self.new) }
@@ -152,11 +152,11 @@ impl<'t, N: NodeMap> Session<'t, N> {
         self.trees[tree].fill(layer, hashes)
     }
 
-    /// Takes over a whole tree that grew from its leaves, and tells how many places are newly
-    /// known: what [`Session::fill`] with these leaves would do, but the hashes stay where they
+    /// Takes over a whole tree that grew from its leaves. Returns how many places are newly known:
+    /// it does what [`Session::fill`] with these leaves would do, but the hashes stay where they
     /// are. It takes no memory, and refuses only a tree that differs from what is known; content
-    /// and marks then stay. Conditions: there are more than `tree` trees, and that one has files
-    /// of the length for which the other one grew.
+    /// and marks then stay. Conditions: there are more than `tree` trees, and that one has files of
+    /// the length for which the other one grew.
     pub fn adopt(&mut self, tree: usize, grown: GrownTree<N>) -> Result<u64, HashRefusal>
         requires inside { tree < length self.old.torrent.trees }
         requires length { (e : TreeEntry) → slice_get self.old.torrent.trees tree ≡ Some e
@@ -164,7 +164,7 @@ impl<'t, N: NodeMap> Session<'t, N> {
         ensures adopted { IfOk result (λ c. IsFilled self.old tree 0 grown.leaves c self.new) }
         ensures refused { IfErr result (λ r. IsFillRefused self.old tree 0 grown.leaves r
             × (self.new ≡ self.old)) }
-        ensures no_memory { IfErr result (λ r. r ≡ Mismatch) }
+        ensures only_mismatch { IfErr result (λ r. r ≡ Mismatch) }
     {
         self.trees[tree].adopt(grown)
     }
@@ -250,7 +250,7 @@ impl<'t, N: NodeMap> Session<'t, N> {
         }
     }
 
-    // Takes bytes that are so many blocks of a file, from this one on.
+    // Takes bytes that are `count` blocks of a file, from block `first` on.
     fn mark_run(&mut self, file: usize, first: u64, bytes: &[u8], count: u64) -> Blocks
         requires { HasRun self.old.torrent file first (length bytes.now) count }
         ensures file { result.file ≡ file }
@@ -348,8 +348,11 @@ impl<'t, N: NodeMap> Session<'t, N> {
         self.trees[tree].marked()
     }
 
-    /// Takes one message, and tells what it makes of it. A refusal leaves content and marks as they
-    /// were.
+    /// Takes one message, and tells what it makes of it. What it tells verified is that block of
+    /// every file with the tree's length and root, or two inputs with one digest are named. What is
+    /// known stays known. True hashes that lead to a known node are stored, unless memory is
+    /// refused or a collision is named; the true block of a known leaf is verified, or a collision
+    /// is named. A refusal leaves content and marks as they were.
     pub fn step(&mut self, message: &Message<'_>) -> Verdict
         ensures verified_is_the_block { IsSafeStep self.old message.now result self.new }
     {
@@ -387,18 +390,22 @@ impl<'t, N: NodeMap> Session<'t, N> {
         }
     }
 
-    /// Takes messages one after the other, and tells what it makes of each. No tree has more gaps
-    /// afterwards; and if the messages end with the true answer to what `want` gave before the
-    /// first of them, there are fewer, whatever else they hold, unless memory was refused for that
-    /// answer or two inputs with one digest are named. Room for the verdicts is made first; if
-    /// memory is refused for it, the session is unchanged.
+    /// Takes messages one after the other, each as by `step`, and tells what it makes of each. What
+    /// it tells verified is that block of every file with the tree's length and root, or two inputs
+    /// with one digest are named. What is known stays known; true hashes and true blocks are taken,
+    /// whatever came before them, unless memory is refused or a collision is named. No tree has
+    /// more gaps afterwards. If the messages end with the true answer to what `want` gave before
+    /// the first of them, there are fewer, whatever else they hold, unless memory was refused for
+    /// that answer or two inputs with one digest are named. Room for the verdicts is made first; if
+    /// memory is refused for it, the session is unchanged. No messages take no memory.
     pub fn run(&mut self, messages: &[Message<'_>]) -> Result<Vec<Verdict>, NoMemory>
         ensures verified_is_the_block { IfOk result
             (λ vs. Chain IsSafeStep self.old messages.now vs.items self.new) }
         ensures gaps { IfOk result (λ _. HasNoMoreGaps self.old self.new) }
         ensures round { IfOk result
             (λ vs. RoundLeavesFewer self.old messages.now vs.items self.new) }
-        ensures no_memory { OnErr result (self.new ≡ self.old) }
+        ensures unchanged { OnErr result (self.new ≡ self.old) }
+        ensures no_memory { OnErr result (0 < length messages.now) }
     {
         self.closed_trees();
         self.distinct_roots();
@@ -423,14 +430,9 @@ pub(crate) fn has_hashes(message: &Message<'_>)
 
 // A block of a message's bytes: 16,384 of them, and at the end fewer.
 fn block_of(bytes: &[u8], number: u64) -> &[u8]
-    requires { 16384 * number ≤ length bytes.now }
+    requires { block_length * number ≤ length bytes.now }
     ensures { result.now ≡ block bytes.now number }
 {
     let rest = &bytes[(BLOCK_LENGTH * number) as usize..];
     &rest[..rest.len().min(BLOCK_LENGTH as usize)]
 }
-
-// Each hash has 32 bytes, as its type says.
-fn are_hashes(hashes: &[Hash])
-    ensures { All (λ h. length h ≡ 32) hashes.now }
-{}

@@ -6,7 +6,7 @@ use partial_tree::{BlockRefusal, HashRefusal};
 /// What a session says of one message.
 #[derive(Clone, Copy, Debug, PartialEq, Eq)]
 pub enum Verdict {
-    /// Hashes were taken: so many places are newly known, those past the file's end counted.
+    /// Hashes were taken: the number of places newly known, those past the file's end counted.
     Stored(u64),
     /// Hashes were refused, and nothing has changed.
     HashRefused(HashRefusal),
@@ -17,11 +17,11 @@ pub enum Verdict {
     BlockRefused(BlockRefusal),
     /// The hashes that are asked for are known.
     Answered,
-    /// They are not, or there are none such.
+    /// The range is none of a tree's, or not all of its hashes are known.
     Rejected,
-    /// A peer rejects an ask.
+    /// A peer rejected our request.
     RejectNoted,
-    /// Keeps the connection alive.
+    /// A message that only keeps the connection alive.
     KeepAlive,
     /// A message of another id.
     Skipped(u8),

@@ -13,7 +13,7 @@ use Rattle.wire.specs.declared.message.Message.TheVariants as message
 use Rattle.wire.specs.Frames.{IsBody}
 use Rattle.wire.specs.Meaning.{max_body, IsHashesSize, IsAskBody, IsHashesBody, Means, ask_bytes}
 use Rattle.wire.specs.Records.{header, record_frame, MayStand, IsCut, RecordFrames, MeansDirected}
-use Rattle.wire.specs.Conversion.{is_hashes_size, is_hashes, request_of, converted, conversion, conversion_bytes, converted_frame}
+use Rattle.wire.specs.Conversion.{is_hashes_size, is_hashes_body, request_of, converted, conversion, conversion_bytes, converted_frame}
 use Rattle.wire.proofs.Meanings.{same_heads}
 use Rattle.wire.proofs.Written.{length-ask_bytes}
 
@@ -30,17 +30,17 @@ size_is n e =
     (leb-true 49 n a.0, leb-true n max_body b.0, eqb-true ((n - 49) % 32) 0 b.1)
 
 -- the body begins with this id, and has a right size
-pub hashes_are : (body : List ℕ) → is_hashes body ≡ true → ((rest : List ℕ) × (body ≡ 22 ∷ rest)) × IsHashesSize (length body)
+pub hashes_are : (body : List ℕ) → is_hashes_body body ≡ true → ((rest : List ℕ) × (body ≡ 22 ∷ rest)) × IsHashesSize (length body)
 hashes_are [] e = absurd (false≢true e)
 hashes_are (id ∷ rest) e =
     let both = and_parts (eqb id 22) (is_hashes_size (length (id ∷ rest))) e in
     ((rest, ap (λ i. i ∷ rest) (eqb-true id 22 both.0)), size_is (length (id ∷ rest)) both.1)
 
-pub hashes_told : (body rest : List ℕ) → body ≡ 22 ∷ rest → IsHashesSize (length body) → is_hashes body ≡ true
+pub hashes_told : (body rest : List ℕ) → body ≡ 22 ∷ rest → IsHashesSize (length body) → is_hashes_body body ≡ true
 hashes_told body rest is size =
-    ap is_hashes is ∙ and_from (eqb 22 22) _ (eq-eqb 22 22 refl) (ap is_hashes_size (ap length (sym is)) ∙ size_told (length body) size)
+    ap is_hashes_body is ∙ and_from (eqb 22 22) _ (eq-eqb 22 22 refl) (ap is_hashes_size (ap length (sym is)) ∙ size_told (length body) size)
 
-other_id : (body : List ℕ) (id : ℕ) (rest : List ℕ) → body ≡ id ∷ rest → id ≢ 22 → is_hashes body ≡ true → ⊥
+other_id : (body : List ℕ) (id : ℕ) (rest : List ℕ) → body ≡ id ∷ rest → id ≢ 22 → is_hashes_body body ≡ true → ⊥
 other_id body id rest is other e =
     let first = (hashes_are body e).0 in
     other (same_heads id 22 rest first.0 (sym is ∙ first.1)).0
@@ -54,8 +54,8 @@ request_means body ask hashes p = record {
       ∙ ap (λ xs. 21 ∷ xs) (take_at (ask_bytes ask) (flat_map (λ hash. hash) hashes) 48 (length-ask_bytes ask p.fields));
 }
 
-alone : (body : List ℕ) (f : Frame) → Means body f → (is_hashes body ≡ true → ⊥) → AllZip MeansDirected (converted body) ((In, f) ∷ [])
-alone body f means not = elim (cases_Bool (is_hashes body)) [
+alone : (body : List ℕ) (f : Frame) → Means body f → (is_hashes_body body ≡ true → ⊥) → AllZip MeansDirected (converted body) ((In, f) ∷ [])
+alone body f means not = elim (cases_Bool (is_hashes_body body)) [
   | inl yes' ↦ absurd (not yes')
   | inr no' ↦ subst (λ b. AllZip MeansDirected (cond b ((Out, request_of body) ∷ (In, body) ∷ []) ((In, body) ∷ [])) ((In, f) ∷ [])) (sym no') ((refl, means), tt)
 ]
@@ -97,7 +97,7 @@ one_fits false body fits = All-cons (MayStand Two) (In, body) [] fits (All-nil (
 
 all_fit : (bodies : List (List ℕ)) → All IsBody bodies → All (MayStand Two) (conversion bodies)
 all_fit [] all = All-nil (MayStand Two)
-all_fit (b ∷ bs) all = All-append (MayStand Two) (converted b) (conversion bs) (one_fits (is_hashes b) b (All-head IsBody b bs all)) (all_fit bs (All-tail IsBody b bs all))
+all_fit (b ∷ bs) all = All-append (MayStand Two) (converted b) (conversion bs) (one_fits (is_hashes_body b) b (All-head IsBody b bs all)) (all_fit bs (All-tail IsBody b bs all))
 
 nothing_cut : IsCut Two []
 unfolding IsCut

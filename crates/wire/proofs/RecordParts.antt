@@ -188,7 +188,7 @@ stops_at_other byte behind a b not_in not_out few gave = record {
   part = later_part Two (byte ∷ behind) a b gave.gave;
   faults = gave.faults;
   ended = λ e. let no : ⊥ = cc in absurd no;
-  stops = record { byte = byte; behind = behind; begins = refl; few = few; not_in = not_in; not_out = not_out };
+  stops = record { bad = record { byte = byte; more = behind; begins = refl; not_in = not_in; not_out = not_out }; few = omega (arith, few) };
 }
 
 -- behind a header

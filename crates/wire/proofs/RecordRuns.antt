@@ -70,7 +70,7 @@ cut-from_stop form part fault.Truncated s = cut-from_part form part s.0
 cut-from_stop form part fault.Read s = cut-from_part form part s
 cut-from_stop form part fault.NoMemory s = cut-kept_head form part s
 cut-from_stop One part fault.BadDirection s = absurd s
-cut-from_stop Two part fault.BadDirection s = subst (IsCut Two) (sym s.begins) (cut-other_byte s.byte s.behind s.not_in s.not_out)
+cut-from_stop Two part fault.BadDirection s = subst (IsCut Two) (sym s.bad.begins) (cut-other_byte s.bad.byte s.bad.more s.bad.not_in s.bad.not_out)
 
 -- ---- the form
 

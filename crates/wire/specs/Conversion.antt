@@ -1,6 +1,6 @@
 -- The conversion of a record of form 1: each frame came in, and directly before each hashes frame
 -- the request that it answers went out.
-use Rattle.std.specs.Prelude.{ℕ, ◌-◌, ◌%◌, leb, eqb, cond, ◌&&◌, Bool, false, List, [], ◌∷◌, ◌++◌, length, take, drop}
+use Rattle.std.specs.Prelude.{ℕ, ◌-◌, ◌%◌, nat_le, ◌==◌, if◌then◌else◌, ◌&&◌, Bool, false, List, [], ◌∷◌, ◌++◌, length, take, drop}
 use Rattle.std.specs.List.{flat_map}
 use Rattle.wire.specs.declared.form.Form.TheVariants.{Two}
 use Rattle.wire.specs.declared.direction.Direction.TheVariants.{In, Out}
@@ -11,23 +11,24 @@ use Rattle.wire.specs.declared.message.Message.TheVariants as message
 use Rattle.wire.specs.Meaning.{ask_size, hashes_id, max_body, request_id}
 use Rattle.wire.specs.Records.{Directed, header, record_frame}
 
--- whether a hashes message may have this size
+-- whether a hashes message may have this size: IsHashesSize as a test
 abbrev pub is_hashes_size : ℕ → Bool
-is_hashes_size size = leb ask_size size && (leb size max_body && eqb ((size - ask_size) % 32) 0)
+is_hashes_size size =
+    nat_le ask_size size && (nat_le size max_body && ((size - ask_size) % 32 == 0))
 
 -- whether a body is a hashes message of right size
-abbrev pub is_hashes : List ℕ → Bool
-is_hashes [] = false
-is_hashes (id ∷ rest) = eqb id hashes_id && is_hashes_size (length (id ∷ rest))
+abbrev pub is_hashes_body : List ℕ → Bool
+is_hashes_body [] = false
+is_hashes_body (id ∷ rest) = (id == hashes_id) && is_hashes_size (length (id ∷ rest))
 
 -- the request with the five fields that stand after a body's id
 abbrev pub request_of : List ℕ → List ℕ
-request_of body = request_id ∷ take 48 (drop 1 body)
+request_of body = request_id ∷ take (ask_size - 1) (drop 1 body)
 
 -- a frame that came in, after the request that it answers
 abbrev pub converted : List ℕ → List (Directed (List ℕ))
 converted body =
-    cond (is_hashes body) ((Out, request_of body) ∷ (In, body) ∷ []) ((In, body) ∷ [])
+    if is_hashes_body body then (Out, request_of body) ∷ (In, body) ∷ [] else (In, body) ∷ []
 
 -- frames that came in, one after the other, each hashes message after the request that it answers
 abbrev pub conversion : List (List ℕ) → List (Directed (List ℕ))

@@ -1,7 +1,7 @@
 -- What a reader remembers of a frame, and how a body goes with it.
 use Rattle.std.specs.Prelude.{◌≡◌, ℕ, ◌-◌, List, [], ◌∷◌, length, take}
 use Rattle.wire.specs.Kind.{id_of}
-use Rattle.wire.specs.Meaning.{IsOf, IsRead, IsRightSize}
+use Rattle.wire.specs.Meaning.{IsOf, IsKnownId, IsRightSize}
 use Rattle.wire.specs.declared.head.Head.{Head}
 use Rattle.wire.specs.declared.head.Head.TheVariants.{KeepAlive, Kept, BadSize, Other}
 
@@ -9,13 +9,13 @@ use Rattle.wire.specs.declared.head.Head.TheVariants.{KeepAlive, Kept, BadSize, 
 abbrev pub IsHead : ℕ → ℕ → Head → Type 0
 IsHead id len KeepAlive = ⊥
 IsHead id len (Kept kind n) = (id ≡ id_of kind) × (n ≡ len) × IsRightSize id len
-IsHead id len (BadSize i n) = (i ≡ id) × (n ≡ len) × IsRead id × ¬ IsRightSize id len
-IsHead id len (Other i n) = (i ≡ id) × (n ≡ len) × ¬ IsRead id
+IsHead id len (BadSize i n) = (i ≡ id) × (n ≡ len) × IsKnownId id × ¬ IsRightSize id len
+IsHead id len (Other i n) = (i ≡ id) × (n ≡ len) × ¬ IsKnownId id
 
--- the body has this head, and what follows its id is kept, if its message is read
+-- the body has this head, and what follows its id is kept, if its message is of a known kind
 abbrev pub Holds : Head → List ℕ → List ℕ → Type 0
 Holds KeepAlive kept body = body ≡ []
 Holds (Kept kind n) kept body =
     IsRightSize (id_of kind) n × (n ≡ length body) × (body ≡ id_of kind ∷ take (n - 1) kept)
-Holds (BadSize id n) kept body = IsOf body id n × IsRead id × ¬ IsRightSize id n
-Holds (Other id n) kept body = IsOf body id n × ¬ IsRead id
+Holds (BadSize id n) kept body = IsOf body id n × IsKnownId id × ¬ IsRightSize id n
+Holds (Other id n) kept body = IsOf body id n × ¬ IsKnownId id

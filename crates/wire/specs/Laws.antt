@@ -4,7 +4,7 @@ use Rattle.std.specs.List.{All, flat_map}
 use Rattle.wire.specs.Frames.{Frames, IsBody, frame}
 use Rattle.wire.specs.Meaning.{Means, MeansMessage, SameFrame}
 use Rattle.wire.specs.declared.message.Message.{Message}
-use Rattle.wire.specs.declared.frame.Frame.TheVariants as frames
+use Rattle.wire.specs.declared.frame.Frame.TheVariants as told
 use Rattle.wire.specs.declared.frame.Frame.{Frame as Told}
 
 -- a stream has one list of frames and one rest
@@ -37,4 +37,4 @@ WrittenIsRead =
     (m : Message) (body rest : List ℕ) (found : Told) (read after : List ℕ) → IsBody body
     → MeansMessage body m → IsBody read → Means read found
     → frame body ++ rest ≡ frame read ++ after
-    → SameFrame found (frames.Message m) × (after ≡ rest)
+    → SameFrame found (told.Message m) × (after ≡ rest)

@@ -7,7 +7,7 @@ use Rattle.wire.specs.declared.message.Ask.{Ask}
 use Rattle.wire.specs.declared.message.Message.{Message}
 use Rattle.wire.specs.declared.message.Message.TheVariants as message
 use Rattle.wire.specs.declared.frame.Frame.{Frame}
-use Rattle.wire.specs.declared.frame.Frame.TheVariants as frame
+use Rattle.wire.specs.declared.frame.Frame.TheVariants as told
 
 -- the longest body that is kept: 8192 hashes and 32 uncles, with the fields before them
 abbrev pub max_body : ℕ
@@ -15,7 +15,7 @@ max_body = 263217
 
 -- the most bytes that are kept of a body, which is all but its id
 abbrev pub max_kept : ℕ
-max_kept = 263216
+max_kept = max_body - 1
 
 -- the id of a block of a piece (BEP 3)
 abbrev pub piece_id : ℕ
@@ -37,13 +37,17 @@ reject_id = 23
 abbrev pub ask_size : ℕ
 ask_size = 49
 
--- whether the message of this id is read
-abbrev pub IsRead : ℕ → Type 0
-IsRead id = (id ≡ piece_id) ⊎ (id ≡ request_id) ⊎ (id ≡ hashes_id) ⊎ (id ≡ reject_id)
+-- the size of the id and the two fields before a block of a piece
+abbrev pub min_piece : ℕ
+min_piece = 9
+
+-- whether a message of this id is of a known kind
+abbrev pub IsKnownId : ℕ → Type 0
+IsKnownId id = (id ≡ piece_id) ⊎ (id ≡ request_id) ⊎ (id ≡ hashes_id) ⊎ (id ≡ reject_id)
 
 -- the id, the two fields, and a block that may be empty
 abbrev pub IsPieceSize : ℕ → Type 0
-IsPieceSize size = (9 ≤ size) × (size ≤ max_body)
+IsPieceSize size = (min_piece ≤ size) × (size ≤ max_body)
 
 -- the id, the five fields, and whole hashes
 abbrev pub IsHashesSize : ℕ → Type 0
@@ -105,12 +109,12 @@ MeansMessage body (message.Piece index begin block) = IsPieceBody body index beg
 MeansMessage body (message.Request ask) = IsAskBody request_id body ask
 MeansMessage body (message.Hashes ask hashes) = IsHashesBody body ask hashes.now
 MeansMessage body (message.Reject ask) = IsAskBody reject_id body ask
-MeansMessage body (message.Other id len) = IsOf body id len × ¬ IsRead id
+MeansMessage body (message.Other id len) = IsOf body id len × ¬ IsKnownId id
 
--- what a body means: one message, or a wrong size of a message that is read
+-- what a body means: one message, or a message of a known kind with a wrong size
 abbrev pub Means : List ℕ → Frame → Type 0
-Means body (frame.Message m) = MeansMessage body m
-Means body (frame.BadSize id len) = IsOf body id len × IsRead id × ¬ IsRightSize id len
+Means body (told.Message m) = MeansMessage body m
+Means body (told.BadSize id len) = IsOf body id len × IsKnownId id × ¬ IsRightSize id len
 
 -- the same message, wherever its block or its hashes lie
 abbrev pub SameMessage : Message → Message → Type 0
@@ -124,6 +128,6 @@ SameMessage _ _ = ⊥
 
 -- the same frame, in that sense
 abbrev pub SameFrame : Frame → Frame → Type 0
-SameFrame (frame.Message m) (frame.Message n) = SameMessage m n
-SameFrame (frame.BadSize i m) (frame.BadSize j n) = (i ≡ j) × (m ≡ n)
+SameFrame (told.Message m) (told.Message n) = SameMessage m n
+SameFrame (told.BadSize i m) (told.BadSize j n) = (i ≡ j) × (m ≡ n)
 SameFrame _ _ = ⊥

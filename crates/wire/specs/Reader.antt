@@ -11,6 +11,10 @@ use Rattle.wire.specs.declared.fault.FrameFault.TheVariants as fault
 use Rattle.wire.specs.declared.reader.FrameReader.{FrameReader}
 use Rattle.wire.specs.declared.reader.State.TheVariants.{Open, Ended, Failed}
 
+-- the source that the reader reads
+abbrev pub source_of : {S B : Type 0} → FrameReader S B → S
+source_of reader = reader.source.now
+
 -- the reader has met neither the end of its source nor a fault
 abbrev pub IsOpen : {S B : Type 0} → FrameReader S B → Type 0
 IsOpen reader = reader.state ≡ Open
@@ -50,15 +54,15 @@ pub record IsSameButRoom {S : Type 0} (old new : FrameReader S (Vec ℕ)) : Type
 pub record AsksNext {S X : Type 0} (seen : S → SourceSeen) (old new : FrameReader S (Vec ℕ))
     (Fits : List ℕ → X → Type 0) (result : Result (Option X) FrameFault) : Type 0 where
   pub same_reference : new.source.ghost_name ≡ old.source.ghost_name
-  pub gives : IsOpen old → Gives (seen old.source.now) (seen new.source.now) Fits result
+  pub gives : IsOpen old → Gives (seen (source_of old)) (seen (source_of new)) Fits result
   pub stands :
       MatchResult result
       (λ found. MatchOption found (HasEnded new) (λ _. IsOpen new))
       (HasFailed new)
-  pub ended_again : HasEnded old → (result ≡ Ok None) × (new.source.now ≡ old.source.now)
+  pub ended_again : HasEnded old → (result ≡ Ok None) × (source_of new ≡ source_of old)
   pub failed_again :
       (why : FrameFault) → HasFailed old why
-      → (result ≡ Err why) × (new.source.now ≡ old.source.now)
+      → (result ≡ Err why) × (source_of new ≡ source_of old)
   pub bounded : kept_len old ≤ max_kept → kept_len new ≤ max_kept
   pub memory : IsOpen old → IsErrOf result fault.NoMemory → ¬ HasRoom old
   pub has_room : HasRoom old → HasRoom new

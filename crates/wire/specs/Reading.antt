@@ -1,5 +1,5 @@
 -- What a source gave on the way to an answer.
-use Rattle.std.specs.Prelude.{◌≡◌, ◌≢◌, ℕ, ◌+◌, ◌<◌, List, [], ◌∷◌, ◌++◌, length, Option, Result, MatchResult, MatchOption}
+use Rattle.std.specs.Prelude.{◌≡◌, ◌≢◌, ℕ, ◌+◌, ◌^◌, ◌<◌, List, [], ◌∷◌, ◌++◌, length, Option, Result, MatchResult, MatchOption}
 use Rattle.std.specs.Io.KnownBytes.{Consumes, IsAtEnd}
 use Rattle.benc.specs.Device.{SourceSeen, one_more}
 use Rattle.wire.specs.Frames.{IsBody, IsPartial, four_bytes, frame}
@@ -32,13 +32,25 @@ pub record GaveUntil (old new : SourceSeen) (bytes : List ℕ) (why : FrameFault
   pub ended : why ≡ fault.Truncated → IsAtEnd new.left
   pub no_direction : why ≢ fault.BadDirection
 
--- so many bytes were wanted, and this came before the last of them. Out of memory comes before the
--- first
+-- this many bytes were wanted, and this came before the last of them. Out of memory comes before
+-- the first
 pub record StopsShort (old new : SourceSeen) (wanted : ℕ) (why : FrameFault) : Type 0 where
   pub bytes : List ℕ
   pub gave : GaveUntil old new bytes why
   pub short : length bytes < wanted
   pub untouched : why ≡ fault.NoMemory → bytes ≡ []
+
+-- the four bytes of a length came, or nothing came, at the end of the source
+abbrev pub GivesLength : SourceSeen → SourceSeen → Option ℕ → Type 0
+GivesLength old new found = MatchOption found
+    (GaveFaultless old new [] × IsAtEnd new.left)
+    (λ len. GaveFaultless old new (four_bytes len) × (len < 2 ^ 32))
+
+-- a body of this length came, with an answer that fits it
+abbrev pub GivesBody : {X : Type 0} → SourceSeen → SourceSeen → ℕ → (List ℕ → X → Type 0) → X
+    → Type 0
+GivesBody old new len Fits x = (body : List ℕ) × GaveFaultless old new body
+    × (length body ≡ len) × Fits body x
 
 -- these bytes came, or stopped short
 abbrev pub GivesAll : {A : Type 0} → SourceSeen → SourceSeen → List ℕ → ℕ → Result A FrameFault
@@ -46,8 +58,8 @@ abbrev pub GivesAll : {A : Type 0} → SourceSeen → SourceSeen → List ℕ �
 GivesAll old new bytes wanted result =
     MatchResult result (λ _. GaveFaultless old new bytes) (StopsShort old new wanted)
 
--- a body of this length stopped short. Out of memory comes behind the id of a message that is read,
--- if its body may have this length
+-- a body of this length stopped short. Out of memory comes after the id of a message of a known
+-- kind, if its body may have this length
 pub record StopsInBody (old new : SourceSeen) (len : ℕ) (why : FrameFault) : Type 0 where
   pub bytes : List ℕ
   pub gave : GaveUntil old new bytes why
@@ -61,7 +73,7 @@ pub record StopsInLength (old new : SourceSeen) (why : FrameFault) : Type 0 wher
   pub short : length bytes < 4
   pub begun : why ≢ fault.Read → bytes ≢ []
 
--- no whole frame came, and this is why. Out of memory comes behind the length and the id of a frame
+-- no whole frame came, and this is why. Out of memory comes after the length and the id of a frame
 -- whose body is to be kept
 pub record StopsInFrame (old new : SourceSeen) (why : FrameFault) : Type 0 where
   pub bytes : List ℕ

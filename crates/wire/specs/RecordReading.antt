@@ -10,7 +10,7 @@ use Rattle.wire.specs.declared.fault.FrameFault.TheVariants as fault
 use Rattle.wire.specs.Frames.{IsPartial, four_bytes}
 use Rattle.wire.specs.Meaning.{IsRightSize}
 use Rattle.wire.specs.Reading.{Gave, GaveFaultless, CountsRead}
-use Rattle.wire.specs.Records.{Directed, HasForm, IsCutFrame, MayStand, direction_byte, heading, record_frame}
+use Rattle.wire.specs.Records.{Directed, HasForm, IsBadDirection, IsCutFrame, MayStand, direction_byte, heading, record_frame}
 
 -- what a call reads of a record: before the form is known, what the form begins with and then this
 -- part, and these bytes have the form; later this part alone, in the form that is known
@@ -56,17 +56,13 @@ pub record IsKeptHead (form : Form) (part : List ℕ) : Type 0 where
   pub bytes : part ≡ mark form direction ++ (four_bytes len ++ id ∷ [])
   pub kept : IsRightSize id len
 
--- a byte that is no direction, and at most the four behind it, where a length would stand
+-- a byte that is no direction, and at most the four after it, where a length would stand
 pub record IsOtherStart (part : List ℕ) : Type 0 where
-  pub byte : ℕ
-  pub behind : List ℕ
-  pub begins : part ≡ byte ∷ behind
-  pub few : length behind ≤ 4
-  pub not_in : byte ≢ 0
-  pub not_out : byte ≢ 1
+  pub bad : IsBadDirection part
+  pub few : length part ≤ 5
 
 -- what was read when this fault came. A byte that is no direction is told before a body is read;
--- out of memory comes behind the id of a frame whose body is to be kept
+-- out of memory comes after the id of a frame whose body is to be kept
 abbrev pub StopsAt : Form → List ℕ → FrameFault → Type 0
 StopsAt form part fault.Truncated = IsPart form part × (part ≢ [])
 StopsAt form part fault.Read = IsPart form part
@@ -91,7 +87,7 @@ GivesNext before form old new Fits found = MatchOption found
     (EndsRecord before form old new)
     (λ x. (d : Directed (List ℕ)) × GaveFrame before form d old new × Fits d x)
 
--- a direction and the length behind it, or the end of the source
+-- a direction and the length after it, or the end of the source
 abbrev pub GivesStart : SourceSeen → SourceSeen → Option (Direction × ℕ) → Type 0
 GivesStart old new found = MatchOption found
     (GaveFaultless old new [] × IsAtEnd new.left)

@@ -69,7 +69,7 @@ pub record RecordFrames (bytes : List ℕ) (form : Form) (frames : List (Directe
 abbrev pub came_in : {X : Type 0} → X → Directed X
 came_in x = (In, x)
 
--- the rest of a record of form 2 begins with a byte that is no direction
+-- these bytes of a record of form 2 begin with a byte that is no direction
 pub record IsBadDirection (rest : List ℕ) : Type 0 where
   pub byte : ℕ
   pub more : List ℕ

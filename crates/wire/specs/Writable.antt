@@ -1,15 +1,16 @@
 -- What may be written.
-use Rattle.std.specs.Prelude.{ℕ, ◌≤◌, length}
+use Rattle.std.specs.Prelude.{ℕ, ◌-◌, ◌/◌, ◌≤◌, length}
+use Rattle.wire.specs.Meaning.{ask_size, max_body, min_piece}
 use Rattle.wire.specs.declared.message.Message.{Message}
 use Rattle.wire.specs.declared.message.Message.TheVariants as message
 
 -- the most bytes of a block that is written
 abbrev pub max_block : ℕ
-max_block = 263208
+max_block = max_body - min_piece
 
 -- the most hashes of a hashes message that is written
 abbrev pub max_hashes : ℕ
-max_hashes = 8224
+max_hashes = (max_body - ask_size) / 32
 
 -- a message whose body is no longer than what a reader keeps
 abbrev pub IsWritable : Message → Type 0

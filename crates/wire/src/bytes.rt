@@ -1,12 +1,13 @@
-//! Bytes from a source, as many as are wanted or none.
-ghost use Rattle.std.specs.Prelude.{◌≡◌, ◌≢◌, ℕ, ◌^◌, ◌<◌, [], List, length, MatchResult, MatchOption, IsErrOf};
-ghost use Rattle.std.specs.Io.KnownBytes.{IsAtEnd};
-ghost use Rattle.wire.specs.Frames.{four_bytes};
-ghost use Rattle.wire.specs.Reading.{GaveFaultless, GivesAll, StopsShort, StopsInLength};
+//! Bytes from a source: as many as are wanted, or why fewer came.
+ghost use Rattle.std.specs.Prelude.{◌≡◌, ◌≢◌, ℕ, List, length, MatchResult, IsErrOf};
+ghost use Rattle.wire.specs.Reading.{GaveFaultless, GivesAll, GivesLength, StopsShort, StopsInLength};
 
 use crate::fault::FrameFault;
 use crate::number::number_at;
 use benc::Source;
+
+// How many bytes are skipped at once, at most.
+const SCRATCH: usize = 4096;
 
 /// Fills the buffer.
 pub(crate) fn read_exact<R: Source>(source: &mut R, buf: &mut [u8]) -> Result<(), FrameFault>
@@ -26,12 +27,7 @@ pub(crate) fn read_exact<R: Source>(source: &mut R, buf: &mut [u8]) -> Result<()
 
 /// The length of the next frame, or `None` at the end of the source.
 pub(crate) fn read_length<R: Source>(source: &mut R) -> Result<Option<u32>, FrameFault>
-    ensures bytes { MatchResult result
-        (λ found. MatchOption found
-        (GaveFaultless (R.seen source.old) (R.seen source.new) []
-        × IsAtEnd (R.seen source.new).left)
-        (λ len. GaveFaultless (R.seen source.old) (R.seen source.new) (four_bytes len)
-        × (len < 2 ^ 32)))
+    ensures bytes { MatchResult result (GivesLength (R.seen source.old) (R.seen source.new))
         (StopsInLength (R.seen source.old) (R.seen source.new)) }
     ensures no_memory { ¬ IsErrOf result FrameFault.NoMemory }
 {
@@ -44,9 +40,7 @@ pub(crate) fn read_length<R: Source>(source: &mut R) -> Result<Option<u32>, Fram
     Ok(Some(number_at(&bytes)))
 }
 
-const SCRATCH: usize = 4096;
-
-/// Reads so many bytes and forgets them.
+/// Reads this many bytes and forgets them.
 pub(crate) fn skip<R: Source>(source: &mut R, count: u32) -> Result<(), FrameFault>
     ensures bytes { MatchResult result
         (λ _. (bytes : List ℕ) × GaveFaultless (R.seen source.old) (R.seen source.new) bytes

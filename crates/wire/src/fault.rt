@@ -12,7 +12,7 @@ pub enum FrameFault {
     /// The source answered a fault.
     #[error("the source failed")]
     Read,
-    /// Memory for the body of a message that is read was refused.
+    /// Memory for the body of a message of a known kind was refused.
     #[error("out of memory")]
     NoMemory,
     /// Before a frame of a record of form 2 stood a byte that is no direction. Only a

@@ -2,6 +2,9 @@
 ghost use Rattle.std.specs.Prelude.{◌≡◌};
 ghost use Rattle.wire.specs.Records.{form_number};
 
+/// What a record of form 2 begins with.
+pub const HEADER: [u8; 8] = *b"\xff\xff\xff\xffBTH2";
+
 /// The form of a record.
 #[derive(Clone, Copy, Debug, PartialEq, Eq)]
 pub(crate) enum Form {

@@ -2,7 +2,7 @@
 ghost use Rattle.std.specs.Prelude.{◌≡◌, ◌≤◌, ◌<◌, ◌-◌, ℕ, [], List, length, take, MatchResult, OnOk, IsErrOf, vec_capacity};
 ghost use Rattle.wire.specs.Head.{Holds};
 ghost use Rattle.wire.specs.Meaning.{max_kept};
-ghost use Rattle.wire.specs.Reading.{GaveFaultless, GivesAll, StopsInBody, Gives};
+ghost use Rattle.wire.specs.Reading.{GivesAll, GivesBody, StopsInBody, Gives};
 
 use crate::bytes::{read_exact, read_length, skip};
 use crate::fault::FrameFault;
@@ -37,8 +37,8 @@ pub(crate) fn read_body<R: Source>(
     len: u32,
 ) -> Result<Head, FrameFault>
     ensures bytes { MatchResult result
-        (λ head. (body : List ℕ) × GaveFaultless (R.seen source.old) (R.seen source.new) body
-        × (length body ≡ len) × Holds head kept.new.items body)
+        (GivesBody (R.seen source.old) (R.seen source.new) len
+        (λ body head. Holds head kept.new.items body))
         (StopsInBody (R.seen source.old) (R.seen source.new) len) }
     ensures bounded { length kept.old.items ≤ max_kept → length kept.new.items ≤ max_kept }
     ensures capacity { vec_capacity kept.old ≤ vec_capacity kept.new }
@@ -57,7 +57,7 @@ pub(crate) fn read_body<R: Source>(
     Ok(head)
 }
 
-// Reads so many bytes to the front of what is kept. The first call makes the room.
+// Reads this many bytes to the front of what is kept. The first call makes the room.
 fn keep<R: Source>(source: &mut R, kept: &mut Vec<u8>, count: u32) -> Result<(), FrameFault>
     requires some { 0 < count }
     requires bounded { count ≤ max_kept }
@@ -72,7 +72,7 @@ fn keep<R: Source>(source: &mut R, kept: &mut Vec<u8>, count: u32) -> Result<(),
     fill_front(source, kept.as_mut_slice(), count as usize)
 }
 
-// Reads so many bytes to the front of the room.
+// Reads this many bytes to the front of the room.
 fn fill_front<R: Source>(source: &mut R, room: &mut [u8], count: usize) -> Result<(), FrameFault>
     requires { count ≤ length room.old }
     ensures bytes { GivesAll (R.seen source.old) (R.seen source.new) (take count room.new) count

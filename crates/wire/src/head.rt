@@ -13,14 +13,14 @@ use crate::parse::message_of;
 pub(crate) enum Head {
     /// No body.
     KeepAlive,
-    /// A message that is read.
+    /// A message of a known kind.
     Kept {
         /// Which one.
         kind: Kind,
         /// The length of its body.
         len: u32,
     },
-    /// A message that is read elsewhere, of a wrong size here.
+    /// A message of a known kind with a wrong size.
     BadSize {
         /// Its id.
         id: u8,

@@ -1,6 +1,6 @@
-//! The messages that are read, by their ids.
+//! The messages of a known kind, by their ids.
 ghost use Rattle.std.specs.Prelude.{◌≡◌, ◌↔◌, IsTrue, MatchOption};
-ghost use Rattle.wire.specs.Meaning.{IsRead, IsRightSize};
+ghost use Rattle.wire.specs.Meaning.{IsKnownId, IsRightSize};
 
 /// The longest body that is kept, in bytes.
 pub(crate) const MAX_BODY: u32 = 263_217;
@@ -11,6 +11,9 @@ pub(crate) const MIN_PIECE: u32 = 9;
 /// The id and the five fields of a hash request, in bytes.
 pub(crate) const ASK_SIZE: u32 = 49;
 
+/// One hash, in bytes.
+pub(crate) const HASH_SIZE: u32 = 32;
+
 const PIECE_ID: u8 = 7;
 
 const REQUEST_ID: u8 = 21;
@@ -19,7 +22,7 @@ const HASHES_ID: u8 = 22;
 
 const REJECT_ID: u8 = 23;
 
-/// A message that is read.
+/// The kind of a message.
 #[derive(Clone, Copy, Debug, PartialEq, Eq)]
 pub(crate) enum Kind {
     /// A block of a piece.
@@ -35,9 +38,9 @@ pub(crate) enum Kind {
 impl Kind {
     ghost use Rattle.wire.specs.Kind.{id_of};
 
-    /// The message of an id, if it is read.
+    /// The kind of a message with this id, if it is known.
     pub(crate) fn of(id: u8) -> Option<Kind>
-        ensures { MatchOption result (¬ IsRead id) (λ kind. id ≡ id_of kind) }
+        ensures { MatchOption result (¬ IsKnownId id) (λ kind. id ≡ id_of kind) }
     {
         match id {
             PIECE_ID => Some(Kind::Piece),
@@ -66,7 +69,9 @@ impl Kind {
     {
         match self {
             Kind::Piece => MIN_PIECE <= len && len <= MAX_BODY,
-            Kind::Hashes => { ASK_SIZE <= len && len <= MAX_BODY && (len - ASK_SIZE) % 32 == 0 },
+            Kind::Hashes => {
+                ASK_SIZE <= len && len <= MAX_BODY && (len - ASK_SIZE) % HASH_SIZE == 0
+            },
             Kind::Request | Kind::Reject => len == ASK_SIZE,
         }
     }

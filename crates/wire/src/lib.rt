@@ -23,6 +23,7 @@ mod writing;
 pub use benc::WriteFault;
 pub use direction::Direction;
 pub use fault::FrameFault;
+pub use form::HEADER;
 pub use frame::Frame;
 pub use head::is_hashes;
 pub use message::{Ask, Hash, Message};

@@ -30,7 +30,7 @@ pub(crate) enum State {
 }
 
 /// Reads the frames of a source, one after the other. It keeps at most one body, of 263,217 bytes
-/// at most.
+/// at most. `B` is the type of its buffer; write `FrameReader<'r, R>`.
 pub struct FrameReader<'r, R: Source, B: Drop = Vec<u8>> {
     source: &'r mut R,
     state: State,
@@ -39,12 +39,12 @@ pub struct FrameReader<'r, R: Source, B: Drop = Vec<u8>> {
 }
 
 impl<'r, R: Source> FrameReader<'r, R> {
-    ghost use Rattle.wire.specs.Reader.{AsksNext, HasEnded, HasFailed, HasRoom, HoldsBody, IsOpen, IsSameButRoom, kept_len, room};
+    ghost use Rattle.wire.specs.Reader.{AsksNext, HasEnded, HasFailed, HasRoom, HoldsBody, IsOpen, IsSameButRoom, kept_len, room, source_of};
 
     /// A reader of what the source gives from here on. It takes no memory yet.
     pub fn new(alloc: Global, source: &'r mut R) -> FrameReader<'r, R>
         ensures same_reference { result.source.ghost_name ≡ source.entry.ghost_name }
-        ensures source { result.source.now ≡ source.old }
+        ensures source { source_of result ≡ source.old }
         ensures open { IsOpen result }
         ensures kept { kept_len result ≡ 0 }
         ensures no_memory { room result ≡ 0 }
@@ -71,8 +71,8 @@ impl<'r, R: Source> FrameReader<'r, R> {
     }
 
     /// The next frame, or `None` at the end of the source. After `None` and after a fault each
-    /// later call answers the same and reads nothing. `NoMemory` comes only from the first growth
-    /// of the reader's buffer, behind the length and the id of a message that is read.
+    /// later call answers the same and reads nothing. `NoMemory` comes only while the buffer has no
+    /// room for the longest body, after the length and the id of a message of a known kind.
     pub fn next(&mut self) -> Result<Option<Frame<'_>>, FrameFault>
         ensures means { IfOk result (λ found. IfSome found (λ f. (body : List ℕ) × Means body f)) }
         ensures* after_loan { sem 𝓛 (Rests
@@ -94,17 +94,17 @@ impl<'r, R: Source> FrameReader<'r, R> {
         // The frame that stands next, whole, and its body.
         ensures frame { IsOpen self.old → IfOk result (λ more. OnTrue more
             ((body : List ℕ) × IsBody body
-            × GaveFaultless (R.seen self.old.source.now) (R.seen self.new.source.now) (frame body)
+            × GaveFaultless (R.seen (source_of self.old)) (R.seen (source_of self.new)) (frame body)
             × HoldsBody self.new body)) }
 
         // Nothing stands next.
         ensures end { IsOpen self.old → IfOk result (λ more. OnFalse more
-            (GaveFaultless (R.seen self.old.source.now) (R.seen self.new.source.now) []
-            × IsAtEnd (R.seen self.new.source.now).left)) }
+            (GaveFaultless (R.seen (source_of self.old)) (R.seen (source_of self.new)) []
+            × IsAtEnd (R.seen (source_of self.new)).left)) }
 
         // No whole frame was lost.
         ensures fault { IsOpen self.old → IfErr result
-            (StopsInFrame (R.seen self.old.source.now) (R.seen self.new.source.now)) }
+            (StopsInFrame (R.seen (source_of self.old)) (R.seen (source_of self.new))) }
         ensures stands { MatchResult result
             (λ more. MatchBool more (IsOpen self.new) (HasEnded self.new))
             (HasFailed self.new) }
@@ -147,6 +147,19 @@ impl<'r, R: Source> FrameReader<'r, R> {
     }
 }
 
+impl<R: Source, B: Drop> Drop for FrameReader<'_, R, B> {
+    fn drop(self)
+        ensures { self.exit.0.now ≡ self.entry.source.now }
+    {
+        let FrameReader {
+            source: _,
+            state: _,
+            head: _,
+            kept: _,
+        } = self;
+    }
+}
+
 /// Takes the room for the longest body that is kept, if the reader has not answered `NoMemory`.
 pub(crate) fn take_room(state: State, kept: &mut Vec<u8>) -> Result<(), NoMemory>
     ensures room { OnOk result ((max_kept ≤ vec_capacity kept.new)
@@ -163,17 +176,4 @@ pub(crate) fn take_room(state: State, kept: &mut Vec<u8>) -> Result<(), NoMemory
         kept.reserve(MAX_KEPT)?;
     }
     Ok(())
-}
-
-impl<R: Source, B: Drop> Drop for FrameReader<'_, R, B> {
-    fn drop(self)
-        ensures { self.exit.0.now ≡ self.entry.source.now }
-    {
-        let FrameReader {
-            source: _,
-            state: _,
-            head: _,
-            kept: _,
-        } = self;
-    }
 }

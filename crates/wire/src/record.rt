@@ -1,5 +1,5 @@
 //! One frame of a record from a source.
-ghost use Rattle.std.specs.Prelude.{◌≡◌, ◌≢◌, ◌≤◌, ◌<◌, ℕ, List, length, Some, None, MatchResult, IsErrOf, vec_capacity};
+ghost use Rattle.std.specs.Prelude.{◌≡◌, ◌≢◌, ◌≤◌, ◌<◌, ◌^◌, ◌-◌, ℕ, List, length, Some, None, MatchResult, IsErrOf, vec_capacity};
 ghost use Rattle.benc.specs.Device.{SourceSeen};
 ghost use Rattle.wire.specs.Frames.{four_bytes};
 ghost use Rattle.wire.specs.Meaning.{max_kept};
@@ -10,11 +10,14 @@ ghost use Rattle.wire.specs.RecordReader.{HoldsFrom};
 use crate::bytes::{read_exact, read_length, skip};
 use crate::direction::Direction;
 use crate::fault::FrameFault;
-use crate::form::Form;
+use crate::form::{Form, HEADER};
 use crate::framing::{read_body, read_frame};
 use crate::head::Head;
 use crate::number::number_at;
 use benc::Source;
+
+// The second half of a header. The first half is a length as well.
+const SECOND_HALF: [u8; 4] = [HEADER[4], HEADER[5], HEADER[6], HEADER[7]];
 
 /// A frame's direction and head, or `None` at the end of the source.
 pub(crate) type Found = Option<(Direction, Head)>;
@@ -63,7 +66,7 @@ fn read_first<R: Source>(source: &mut R, kept: &mut Vec<u8>) -> Result<(Form, Fo
 // Reads on after the first half of a header, which is a length as well.
 fn read_marked<R: Source>(source: &mut R, kept: &mut Vec<u8>) -> Result<(Form, Found), FrameFault>
     ensures bytes { (start : SourceSeen)
-        → GaveFaultless start (R.seen source.old) (four_bytes 4294967295) → MatchResult result
+        → GaveFaultless start (R.seen source.old) (four_bytes (2 ^ 32 - 1)) → MatchResult result
         (λ next. GivesNext None next.0 start (R.seen source.new)
         (HoldsFrom kept.new.items) next.1)
         (StopsInRecord None start (R.seen source.new)) }
@@ -73,7 +76,7 @@ fn read_marked<R: Source>(source: &mut R, kept: &mut Vec<u8>) -> Result<(Form, F
 {
     let mut half = [0u8; 4];
     read_exact(source, &mut half)?;
-    if half == *b"BTH2" {
+    if half == SECOND_HALF {
         Ok((Form::Two, read_directed(source, kept)?))
     } else {
         skip(source, u32::MAX - 4)?;
@@ -100,7 +103,7 @@ fn read_incoming<R: Source>(source: &mut R, kept: &mut Vec<u8>) -> Result<Found,
     }
 }
 
-// Reads a direction and the frame behind it.
+// Reads a direction and the frame after it.
 fn read_directed<R: Source>(source: &mut R, kept: &mut Vec<u8>) -> Result<Found, FrameFault>
     ensures bytes { MatchResult result
         (GivesNext (Some Form.Two) Form.Two (R.seen source.old) (R.seen source.new)
@@ -116,7 +119,7 @@ fn read_directed<R: Source>(source: &mut R, kept: &mut Vec<u8>) -> Result<Found,
     }
 }
 
-// Reads a direction and the length behind it, or `None` at the end of the source. One read is
+// Reads a direction and the length after it, or `None` at the end of the source. One read is
 // enough if the source gives both at once.
 fn read_start<R: Source>(source: &mut R) -> Result<Option<(Direction, u32)>, FrameFault>
     ensures bytes { MatchResult result

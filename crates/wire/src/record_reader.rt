@@ -24,6 +24,7 @@ use std::alloc::{AllocError as NoMemory, Global};
 /// Reads the frames of a record, one after the other, with their directions. It tells the form by
 /// the first bytes: a record of form 2 begins with the eight bytes `ffffffff42544832`, and every
 /// other record is of form 1, whose frames all came in. It keeps what a `FrameReader` keeps.
+/// `B` is the type of its buffer; write `RecordReader<'r, R>`.
 pub struct RecordReader<'r, R: Source, B: Drop = Vec<u8>> {
     source: &'r mut R,
     state: State,
@@ -35,16 +36,16 @@ pub struct RecordReader<'r, R: Source, B: Drop = Vec<u8>> {
 
 impl<'r, R: Source> RecordReader<'r, R> {
     ghost use Rattle.wire.specs.Reader.{HasEnded, HasFailed, HasRoom, IsOpen, IsSameButRoom, kept_len, room};
-    ghost use Rattle.wire.specs.RecordReader.{AsksNextInRecord, HoldsDirected, frames};
+    ghost use Rattle.wire.specs.RecordReader.{AsksNextInRecord, HoldsDirected, form_of, frame_reader, source_of};
 
     /// A reader of the record that the source gives from here on. It takes no memory yet.
     pub fn new(alloc: Global, source: &'r mut R) -> RecordReader<'r, R>
         ensures same_reference { result.source.ghost_name ≡ source.entry.ghost_name }
-        ensures source { result.source.now ≡ source.old }
-        ensures open { IsOpen (frames result) }
-        ensures form { result.form ≡ None }
-        ensures kept { kept_len (frames result) ≡ 0 }
-        ensures no_memory { room (frames result) ≡ 0 }
+        ensures source { source_of result ≡ source.old }
+        ensures open { IsOpen (frame_reader result) }
+        ensures form { form_of result ≡ None }
+        ensures kept { kept_len (frame_reader result) ≡ 0 }
+        ensures no_memory { room (frame_reader result) ≡ 0 }
     {
         RecordReader {
             source,
@@ -59,7 +60,7 @@ impl<'r, R: Source> RecordReader<'r, R> {
     /// The number of the record's form, 1 or 2: `None` before the first frame was asked for, and if
     /// that call answered a fault.
     pub fn form(&self) -> Option<u8>
-        ensures { result ≡ option_map form_number self.now.form }
+        ensures { result ≡ option_map form_number (form_of self.now) }
     {
         self.form.map(|form| form.number())
     }
@@ -68,22 +69,24 @@ impl<'r, R: Source> RecordReader<'r, R> {
     /// reader that has answered `NoMemory` answers it again. After a refusal the reader is
     /// unchanged.
     pub fn reserve(&mut self) -> Result<(), NoMemory>
-        ensures room { OnOk result (HasRoom (frames self.new)
-            × ¬ HasFailed (frames self.old) FrameFault.NoMemory) }
-        ensures refused { OnErr result (room (frames self.new) ≡ room (frames self.old)) }
+        ensures room { OnOk result (HasRoom (frame_reader self.new)
+            × ¬ HasFailed (frame_reader self.old) FrameFault.NoMemory) }
+        ensures refused { OnErr result
+            (room (frame_reader self.new) ≡ room (frame_reader self.old)) }
         ensures memory { OnErr result
-            (HasFailed (frames self.old) FrameFault.NoMemory ⊎ ¬ HasRoom (frames self.old)) }
-        ensures unchanged { IsSameButRoom (frames self.old) (frames self.new)
-            × (self.new.form ≡ self.old.form) × (self.new.direction ≡ self.old.direction) }
+            (HasFailed (frame_reader self.old) FrameFault.NoMemory
+            ⊎ ¬ HasRoom (frame_reader self.old)) }
+        ensures unchanged { IsSameButRoom (frame_reader self.old) (frame_reader self.new)
+            × (form_of self.new ≡ form_of self.old) × (self.new.direction ≡ self.old.direction) }
     {
         take_room(self.state, &mut self.kept)
     }
 
     /// The next frame with its direction, or `None` at the end of the record. `Truncated` comes if
-    /// the record ends inside a frame, or behind a direction; `BadDirection` at a byte that is no
-    /// direction, behind which up to four bytes may have been read. After `None` and after a fault
-    /// each later call answers the same and reads nothing. `NoMemory` comes only from the first
-    /// growth of the reader's buffer, behind the length and the id of a message that is read.
+    /// the record ends inside a frame, or after a direction; `BadDirection` at a byte that is no
+    /// direction, after which up to four bytes may have been read. After `None` and after a fault
+    /// each later call answers the same and reads nothing. `NoMemory` comes only while the buffer
+    /// has no room for the longest body, after the length and the id of a message of a known kind.
     pub fn next(&mut self) -> Result<Option<(Direction, Frame<'_>)>, FrameFault>
         ensures means { IfOk result (λ found. IfSome found (λ f. (body : List ℕ)
             × Means body f.1)) }
@@ -105,35 +108,36 @@ impl<'r, R: Source> RecordReader<'r, R> {
             ≡ self.old.source.ghost_name }
 
         // The frame that stands next, whole, with its direction.
-        ensures frame { IsOpen (frames self.old) → IfOk result (λ more. OnTrue more
-            ((form : FormOf) × (d : Directed (List ℕ)) × (self.new.form ≡ Some form)
-            × GaveFrame self.old.form form d (R.seen self.old.source.now)
-            (R.seen self.new.source.now)
+        ensures frame { IsOpen (frame_reader self.old) → IfOk result (λ more. OnTrue more
+            ((form : FormOf) × (d : Directed (List ℕ)) × (form_of self.new ≡ Some form)
+            × GaveFrame (form_of self.old) form d (R.seen (source_of self.old))
+            (R.seen (source_of self.new))
             × HoldsDirected self.new d)) }
 
         // Nothing stands next.
-        ensures end { IsOpen (frames self.old) → IfOk result (λ more. OnFalse more
-            ((form : FormOf) × (self.new.form ≡ Some form)
-            × EndsRecord self.old.form form (R.seen self.old.source.now)
-            (R.seen self.new.source.now))) }
+        ensures end { IsOpen (frame_reader self.old) → IfOk result (λ more. OnFalse more
+            ((form : FormOf) × (form_of self.new ≡ Some form)
+            × EndsRecord (form_of self.old) form (R.seen (source_of self.old))
+            (R.seen (source_of self.new)))) }
 
         // No whole frame was lost.
-        ensures fault { IsOpen (frames self.old) → IfErr result (λ why.
-            (self.new.form ≡ self.old.form)
-            × StopsInRecord self.old.form (R.seen self.old.source.now)
-            (R.seen self.new.source.now) why) }
+        ensures fault { IsOpen (frame_reader self.old) → IfErr result (λ why.
+            (form_of self.new ≡ form_of self.old)
+            × StopsInRecord (form_of self.old) (R.seen (source_of self.old))
+            (R.seen (source_of self.new)) why) }
         ensures stands { MatchResult result
-            (λ more. MatchBool more (IsOpen (frames self.new)) (HasEnded (frames self.new)))
-            (HasFailed (frames self.new)) }
-        ensures ended_again { HasEnded (frames self.old)
+            (λ more. MatchBool more (IsOpen (frame_reader self.new))
+            (HasEnded (frame_reader self.new)))
+            (HasFailed (frame_reader self.new)) }
+        ensures ended_again { HasEnded (frame_reader self.old)
             → (result ≡ Ok false) × (self.new ≡ self.old) }
-        ensures failed_again { (why : FrameFault) → HasFailed (frames self.old) why
+        ensures failed_again { (why : FrameFault) → HasFailed (frame_reader self.old) why
             → (result ≡ Err why) × (self.new ≡ self.old) }
-        ensures bounded { kept_len (frames self.old) ≤ max_kept
-            → kept_len (frames self.new) ≤ max_kept }
-        ensures memory { IsOpen (frames self.old) → IsErrOf result FrameFault.NoMemory
-            → ¬ HasRoom (frames self.old) }
-        ensures has_room { HasRoom (frames self.old) → HasRoom (frames self.new) }
+        ensures bounded { kept_len (frame_reader self.old) ≤ max_kept
+            → kept_len (frame_reader self.new) ≤ max_kept }
+        ensures memory { IsOpen (frame_reader self.old) → IsErrOf result FrameFault.NoMemory
+            → ¬ HasRoom (frame_reader self.old) }
+        ensures has_room { HasRoom (frame_reader self.old) → HasRoom (frame_reader self.new) }
     {
         match self.state {
             State::Open => {}

@@ -7,13 +7,15 @@ ghost use Rattle.wire.specs.Writable.{IsWritable};
 
 use crate::fields::{ask_fields, piece_fields};
 use crate::hashes::bytes_of;
-use crate::kind::Kind;
+use crate::kind::{ASK_SIZE, HASH_SIZE, Kind, MAX_BODY, MIN_PIECE};
 use crate::message::Message;
 use benc::{Sink, WriteFault, write_all};
 
-const MAX_BLOCK: usize = 263_208;
+// The longest block of a body that is kept, in bytes.
+const MAX_BLOCK: usize = (MAX_BODY - MIN_PIECE) as usize;
 
-const MAX_HASHES: usize = 8_224;
+// The most hashes of a body that is kept.
+const MAX_HASHES: usize = ((MAX_BODY - ASK_SIZE) / HASH_SIZE) as usize;
 
 impl Message<'_> {
     /// Whether `write` takes it: not a message of another id, nor a block of more than 263,208

@@ -29,7 +29,7 @@ impl<'a> MemFile<'a> {
         }
     }
 
-    /// Whenever it is opened, so many reads succeed, and the one after them fails and gives
+    /// Each time it is opened, the first `calls` reads succeed, and the next one fails and gives
     /// nothing. Later ones succeed.
     pub fn fails_after(mut self, calls: u64) -> MemFile<'a>
         ensures fails { result.before_fault ≡ Some calls }
@@ -47,7 +47,7 @@ impl<'a> MemFile<'a> {
         path == self.path
     }
 
-    /// The file opened, whose reads give at most so many bytes. Condition: they are one at least.
+    /// The file opened, whose reads give at most `at_most` bytes. Condition: that is at least 1.
     pub(crate) fn source(&self, at_most: usize) -> MemSource<'a>
         requires { 0 < at_most }
         ensures { IsSourceOf self.now at_most result }

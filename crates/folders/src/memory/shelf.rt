@@ -75,7 +75,8 @@ impl<'a> MemShelf<'a> {
         }
     }
 
-    /// From here on a read of a file gives at most so many bytes, one at least.
+    /// From here on each read of a file gives at most `count` bytes. Condition: `count` is at least
+    /// 1.
     pub fn at_most(mut self, count: usize) -> MemShelf<'a>
         requires { 0 < count }
         ensures { seen_of result ≡ record (seen_of self.entry) { at_most = count } }
@@ -84,8 +85,8 @@ impl<'a> MemShelf<'a> {
         self
     }
 
-    /// So many further calls of `list` and `open` succeed, and the one after them fails. Later ones
-    /// succeed.
+    /// The next `calls` calls of `list` and `open` succeed, and the one after them fails. Later
+    /// ones succeed.
     pub fn fails_after(mut self, calls: u64) -> MemShelf<'a>
         ensures { seen_of result ≡ record (seen_of self.entry) { before_fault = Some calls } }
     {

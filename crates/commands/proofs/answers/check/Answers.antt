@@ -8,5 +8,12 @@ returns-in-Ok-clause-checks g c = (
   c.in_ok-report.report.v1,
   c.in_ok-report.ensures.verdicts,
   c.in_ok-report.ensures.tells,
+  (
+    c.in_ok-report.ensures.once,
+    record {
+      counted = c.in_ok-report.ensures.unreadable;
+      readable = c.in_ok-report.ensures.readable;
+    },
+  ),
   (c.in-Ok.ensures, c.status.ensures ∙ ap answer_status c.yes.ensures),
 )

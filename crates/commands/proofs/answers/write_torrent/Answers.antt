@@ -13,10 +13,10 @@ returns-in-Err g c =
       written = search rules;
       refused = search rules;
       fault = IfErr-weaker c.refuse.result _ _ (λ f told. inr (record {
-        named = told.output some_memory;
+        named = (told.broke some_memory).0;
         refusal = c.in-Err.refusal;
         first = refused.0;
-        broke = told.broke some_memory not_write;
+        broke = (told.broke some_memory).1;
         unwritten = refused.1;
       })) c.refuse.ensures.fault;
     }

@@ -11,7 +11,7 @@ parts-init g c =
     let S = g.R.Source in
     record {
       within = c.requires.held;
-      empty = c.new-gathered.ensures;
+      empty = c.new-outgoing.ensures;
       converts = λ first start gave sent. so_far_first first (S.seen c.args.source.now) start (g.W.Sink.seen c.args.out.now) (take c.args.held c.args.buffer.now) gave sent;
     }
 

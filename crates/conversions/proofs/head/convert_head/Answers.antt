@@ -30,7 +30,7 @@ returns-in_err-put g c = λ start text h.
       r.0 ++ (0 ∷ head),
       goes_opens head r.0 c.requires r.1,
       subst (Broke start (S.seen c.put.new.out)) (three_parts text r.0 head)
-          (broke_more start (S.seen c.put.new.out) ((text ++ r.0) ++ (0 ∷ [])) head (c.in_err-put.ensures start (text ++ r.0) r.2)),
+          (broke_more start (S.seen c.put.new.out) ((text ++ r.0) ++ (0 ∷ [])) head (rw c.byte.ensures at (c.in_err-put.ensures start (text ++ r.0) r.2))),
     )
 
 pub returns-in_err-put-2 : goal.returns-in_err-put-2
@@ -44,7 +44,7 @@ returns-in_err-put-2 g c = λ start text h.
       r.0 ++ (0 ∷ head),
       goes_opens head r.0 c.requires r.1,
       subst (Broke start (S.seen c.put-2.new.out)) (three_parts text r.0 head)
-          (c.in_err-put-2.ensures start ((text ++ r.0) ++ (0 ∷ [])) (c.in_ok-put.ensures start (text ++ r.0) r.2)),
+          (c.in_err-put-2.ensures start ((text ++ r.0) ++ (0 ∷ [])) (rw c.byte.ensures at (c.in_ok-put.ensures start (text ++ r.0) r.2))),
     )
 
 pub overflow_sub-result : goal.overflow_sub-result
@@ -60,6 +60,6 @@ returns g c = λ start text h.
     let bound : c.number_at.result < 2 ^ 32 = omega (arith, c.number_at.type_inv) in (
       r.0 ++ (0 ∷ head),
       r.1 c.number_at.result bound c.number_at.ensures,
-      subst (Held start (S.seen c.put-2.new.out) c.put-2.new.gathered.items) (three_parts text r.0 head)
-          (c.in_ok-put-2.ensures start ((text ++ r.0) ++ (0 ∷ [])) (c.in_ok-put.ensures start (text ++ r.0) r.2)),
+      subst (Held start (S.seen c.put-2.new.out) c.put-2.new.outgoing.items) (three_parts text r.0 head)
+          (c.in_ok-put-2.ensures start ((text ++ r.0) ++ (0 ∷ [])) (rw c.byte.ensures at (c.in_ok-put.ensures start (text ++ r.0) r.2))),
     )

@@ -36,8 +36,8 @@ returns-in_ok-put-2 g c = λ start text h.
     let begins = c.if-begins_hashes.ensures c.requires.len c.requires.front c.requires.fits c.requires.head_is in (
       request_head ++ drop 5 head,
       goes_request head c.requires begins,
-      subst (λ (xs : List ℕ). Held start (S.seen c.put-then-begins_hashes.new.out) c.put-then-begins_hashes.new.gathered.items (text ++ (request_head ++ xs))) (take_rest head 5)
-          (subst (Held start (S.seen c.put-then-begins_hashes.new.out) c.put-then-begins_hashes.new.gathered.items) (append_assoc text request_head (take (length head - 5) (drop 5 head)))
+      subst (λ (xs : List ℕ). Held start (S.seen c.put-then-begins_hashes.new.out) c.put-then-begins_hashes.new.outgoing.items (text ++ (request_head ++ xs))) (take_rest head 5)
+          (subst (Held start (S.seen c.put-then-begins_hashes.new.out) c.put-then-begins_hashes.new.outgoing.items) (append_assoc text request_head (take (length head - 5) (drop 5 head)))
           (c.in_ok-put-2.ensures start (text ++ request_head) (c.in_ok-put.ensures start text h))),
     )
 
@@ -45,4 +45,4 @@ pub returns-else-begins_hashes : goal.returns-else-begins_hashes
 returns-else-begins_hashes g c = λ start text h.
     let S = g.W.Sink in
     let not = c.if-begins_hashes.ensures c.requires.len c.requires.front c.requires.fits c.requires.head_is in
-    ([], goes_nothing c.args.head.now c.requires not, subst (Held start (S.seen c.args.out.now) c.args.gathered.now.items) (sym (append-nil text)) h)
+    ([], goes_nothing c.args.head.now c.requires not, subst (Held start (S.seen c.args.out.now) c.args.outgoing.now.items) (sym (append-nil text)) h)

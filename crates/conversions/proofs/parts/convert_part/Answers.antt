@@ -21,7 +21,7 @@ returns-in_default-clause-converts g c = λ start fed text r h.
     let done = c.frames.done in
     let count = c.in_ok-done.field-0 in
     let a = c.frames.invariant.converts start fed text r h in
-    subst (Advances start (S.seen c.pass_on.new.out) c.pass_on.new.gathered.items c.pass_on.new.left) (fed_later fed part done count)
+    subst (Advances start (S.seen c.pass_on.new.out) c.pass_on.new.outgoing.items c.pass_on.new.left) (fed_later fed part done count)
     (c.in_ok-done.ensures.converts start (fed ++ take done part) a.text a.reached a.held)
 
 pub returns-in_err-left-clause-converts : goal.returns-in_err-left-clause-converts

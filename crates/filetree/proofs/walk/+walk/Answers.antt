@@ -5,7 +5,8 @@ use Rattle.benc.specs.View.{view, pairs_view, pair_view, Seen}
 use Rattle.filetree.specs.FileTree.{is_file, is_nil}
 use Rattle.filetree.specs.Walked.{walk_of, IsOnWay, Adds, HasBadPathAt, walks_at}
 use Rattle.std.proofs.lemmas.List.{map-append}
-use Rattle.filetree.proofs.Views.{pairs_next, view-Pair, view-Dict}
+use Rattle.benc.proofs.Values.{view-Pair, view-Dict}
+use Rattle.filetree.proofs.Views.{pairs_next}
 use Rattle.filetree.proofs.Rooms.{all_left, left_behind}
 use Rattle.filetree.proofs.Walking.{file_node, walked_err, walked_file, walked_ok, walked_inner}
 use Rattle.filetree.proofs.walk.+walk.Goals as goal

@@ -29,7 +29,7 @@ returns-clause-adds g c =
     let d = c.args.draft.now in
     let hashes = of_draft d _ _ _ _ c.requires.piece_length c.requires.hybrid visits.3 in
     let file = given_is d (map (λ s. s.now) c.args.path.now) visits.0 c.in_ok-hashes.hashes hashes in
-    added_path g.S.Shelf.opens g.S.Shelf.closes g.S.Shelf.faults g.S.Shelf.under g.S.File.Source.seen d _ _ _ _ _ _ visits.0 refl refl visits.1
+    added_path g.S.Shelf g.S.File.Source.seen d _ _ _ _ _ _ visits.0 refl refl visits.1
     (added_is d _ _ visits.0 _ c.deref-2.result.now file (c.deref-2.ensures.value ∙ hashes.layer_is) c.in_ok-add.ensures.added.0 c.in_ok-add.ensures.added.1)
 
 pub returns-in_err-add-clause-adds : goal.returns-in_err-add-clause-adds
@@ -39,5 +39,5 @@ returns-in_err-add-clause-adds g c =
     let hashes = of_draft d _ _ _ _ c.requires.piece_length c.requires.hybrid visits.3 in
     let file = given_is d (map (λ s. s.now) c.args.path.now) visits.0 c.in_ok-hashes.hashes hashes in
     let p = err_from_is_err_and c.from_residual-in_err-add.result c.from_residual-in_err-add.ensures.1 in
-    refused_path g.S.Shelf.opens g.S.Shelf.closes g.S.Shelf.faults g.S.Shelf.under g.S.File.Source.seen d _ _ _ _ _ _ visits.0 _ _ p.0 _ refl refl file visits.2 visits.1 p.2
+    refused_path g.S.Shelf g.S.File.Source.seen d _ _ _ _ _ _ visits.0 _ _ p.0 _ refl refl file visits.2 visits.1 p.2
     c.in_err-add.ensures.added c.in_err-add.ensures.memory p.1

@@ -1,7 +1,6 @@
 use Rattle.std.proofs.Common.{◌≡◌, ◌∙◌, Some, map, refl, sym, ap, subst, arith, take_all}
 use Rattle.std.specs.String.{string_bytes}
 use Rattle.std.proofs.lemmas.List.{length-map}
-use Rattle.drafts.specs.Outline.{Outline}
 use Rattle.folders.specs.Shelf.{path_bytes}
 use Rattle.gathering.specs.Gathering.{HasGathered}
 use Rattle.gathering.proofs.Steps.{gathered_more, gathered_none, item_of}
@@ -9,11 +8,11 @@ use Rattle.gathering.proofs.gathering.add_files.Goals as goal
 
 pub paths-init : goal.paths-init
 paths-init g c = record {
-  piece_length = ap (λ (d : Outline). d.piece_length) c.requires.empty;
-  hybrid = ap (λ (d : Outline). d.hybrid) c.requires.empty;
+  piece_length = c.requires.piece_length;
+  hybrid = c.requires.hybrid;
   capacity = refl;
   kept = λ p. refl;
-  so_far = gathered_none g.S.Shelf.opens g.S.Shelf.closes g.S.Shelf.faults g.S.Shelf.under g.S.File.Source.seen g.S.Shelf.listing g.S.Shelf.lists _ _ _ _ _ c.requires.empty;
+  so_far = gathered_none g.S.Shelf g.S.File.Source.seen _ c.args.shelf.now;
 }
 
 pub returns-in-Err-clause-adds : goal.returns-in-Err-clause-adds
@@ -41,7 +40,7 @@ paths-preserved g c =
       hybrid = adds.2.added.hybrid ∙ c.paths.invariant.hybrid;
       capacity = c.put_parts.ensures.no_memory ∙ c.paths.invariant.capacity;
       kept = λ p. c.in_default.ensures.kept p ∙ c.paths.invariant.kept p;
-      so_far = gathered_more g.S.Shelf.opens g.S.Shelf.closes g.S.Shelf.faults g.S.Shelf.under g.S.File.Source.seen g.S.Shelf.listing g.S.Shelf.lists _ _ _ _ _ _ (map path_bytes c.args.paths.now) c.paths.number _ adds.0 _ _
+      so_far = gathered_more g.S.Shelf g.S.File.Source.seen _ _ _ _ (map path_bytes c.args.paths.now) c.paths.number _ adds.0 _ _
           (item_of path_bytes c.args.paths.now c.paths.number _ inside ∙ ap Some (ap (λ v. path_bytes v) (sym is) ∙ sym (ap (map string_bytes) c.deref.ensures.value) ∙ sym seen))
           c.paths.invariant.so_far adds.1 adds.2 c.in_default.ensures.kept;
     }
@@ -49,8 +48,7 @@ paths-preserved g c =
 pub returns-clause-adds : goal.returns-clause-adds
 returns-clause-adds g c =
     let all = take_all c.paths.number (map path_bytes c.args.paths.now) (omega (arith, c.paths-test.false, length-map c.args.paths.now (λ v. path_bytes v))) in
-    subst (λ ps. HasGathered g.S.Shelf.opens g.S.Shelf.closes g.S.Shelf.faults g.S.Shelf.under g.S.File.Source.seen g.S.Shelf.listing g.S.Shelf.lists c.args.draft.now.name c.args.kind.now.piece_length
-    c.args.kind.now.hybrid c.args.shelf.now c.args.shelf.now ps c.paths.shelf c.paths.draft) all c.paths.invariant.so_far
+    subst (λ ps. HasGathered g.S.Shelf g.S.File.Source.seen c.args.draft.now c.args.shelf.now c.args.shelf.now ps c.paths.shelf c.paths.draft) all c.paths.invariant.so_far
 
 pub put_parts-requires : goal.put_parts-requires
 put_parts-requires g c =

@@ -10,6 +10,5 @@ invariant-paths g l = record {
   hybrid : l.draft.hybrid ≡ l.kind.hybrid;
   capacity : vec_capacity l.parts ≡ vec_capacity l.fn.parts;
   kept : (p : List (List ℕ)) → g.S.Shelf.under l.shelf p ≡ g.S.Shelf.under l.fn.shelf p;
-  so_far : HasGathered g.S.Shelf.opens g.S.Shelf.closes g.S.Shelf.faults g.S.Shelf.under g.S.File.Source.seen g.S.Shelf.listing g.S.Shelf.lists l.fn.draft.name l.kind.piece_length l.kind.hybrid
-      l.fn.shelf l.fn.shelf (take l.number (map path_bytes l.paths)) l.shelf l.draft;
+  so_far : HasGathered g.S.Shelf g.S.File.Source.seen l.fn.draft l.fn.shelf l.fn.shelf (take l.number (map path_bytes l.paths)) l.shelf l.draft;
 }

@@ -1,7 +1,7 @@
 use Rattle.std.proofs.Common.{◌∙◌, Err, sym, subst}
 use Rattle.std.proofs.lemmas.Result.{err_from_is_err_and}
 use Rattle.gathering.specs.Reading.{ReadsFile}
-use Rattle.gathering.proofs.Told.{empty_read, refused_read, too_long, whole_read}
+use Rattle.gathering.proofs.Told.{empty_read, read_may_finish, refused_read, too_long, whole_read}
 use Rattle.gathering.proofs.reading.read_file.Goals as goal
 
 pub returns-in_err-finish-in-Some-clause-read : goal.returns-in_err-finish-in-Some-clause-read
@@ -25,3 +25,8 @@ returns-in-Some-eq0-clause-read g c =
 pub returns-in_ok-finish-in-Some-clause-read : goal.returns-in_ok-finish-in-Some-clause-read
 returns-in_ok-finish-in-Some-clause-read g c =
     whole_read c.args.kind.now.piece_length c.args.kind.now.hybrid (g.F.Source.seen c.args.source.now) _ _ _ _ _ (rw c.in-Some.is at c.in_ok-take_all.ensures.read) c.new-hashing.ensures c.in_ok-finish-in-Some.ensures.told
+
+pub finish-requires : goal.finish-requires
+finish-requires g c =
+    read_may_finish (g.F.Source.seen c.args.source.now) _ _ _ _ (rw c.in-Some.is at c.in_ok-take_all.ensures.read)
+    (λ none. c.in-Some.field-0-test.1 (c.in-Some.field-0-is ∙ none))

@@ -5,8 +5,8 @@ use Rattle.gathering.proofs.visiting.hash_file.Goals as goal
 
 pub returns-in-Ok-Some-clause-visits : goal.returns-in-Ok-Some-clause-visits
 returns-in-Ok-Some-clause-visits g c =
-    subst (VisitsFile g.S.Shelf.opens g.S.Shelf.closes g.S.Shelf.faults g.S.Shelf.under g.S.File.Source.seen c.args.kind.now.piece_length c.args.kind.now.hybrid c.args.shelf.now _ _) (sym c.told.ensures)
-    (visited g.S.Shelf.opens g.S.Shelf.closes g.S.Shelf.faults g.S.Shelf.under g.S.File.Source.seen c.args.kind.now.piece_length c.args.kind.now.hybrid c.args.shelf.now _ _ _ _ _ c.read_file-read.result
+    subst (VisitsFile g.S.Shelf g.S.File.Source.seen c.args.kind.now.piece_length c.args.kind.now.hybrid c.args.shelf.now _ _) (sym c.told.ensures)
+    (visited g.S.Shelf g.S.File.Source.seen c.args.kind.now.piece_length c.args.kind.now.hybrid c.args.shelf.now _ _ _ _ _ c.read_file-read.result
     (record {
       opened = rw c.in-Ok-Some.field-0-is at c.in-Ok-Some.ensures.opens;
       found = rw c.in-Ok-Some.field-0-is at c.in-Ok-Some.ensures.found;

@@ -1,6 +1,7 @@
 use Rattle.std.proofs.Common.{◌≡◌, ℕ, List, ◌+◌, ◌<◌, [], ◌∷◌, get_or, length, ◌++◌, drop, map, refl, sym, ap, ◌∙◌, arith}
 use Rattle.std.proofs.lemmas.Result.{err_from_is_err_and}
 use Rattle.benc.proofs.Out.{Wrote-part}
+use Rattle.metainfo.specs.FileTree.{slash}
 use Rattle.lines.specs.Text.{escaped, path_text}
 use Rattle.lines.proofs.Escapes.{path_text-cons, tail_text}
 use Rattle.lines.proofs.Parts.{item_next, sent_fault, sent_next}
@@ -12,11 +13,11 @@ from_first : {S : Type 0} (text_of : S → List ℕ) (path : List S) (first : S)
 from_first text_of path first others text is same =
     ap (λ ps. path_text (map text_of ps)) is ∙ path_text-cons (text_of first) (map text_of others) ∙ ap (λ t. escaped t ++ tail_text (map text_of others)) (sym same)
 
--- the component at an index, and those behind it
+-- the component at an index, and those after it
 next_part : {S : Type 0} (text_of : S → List ℕ) (parts : List S) (i : ℕ) (part : S) (text : List ℕ) → i < length parts → part ≡ get_or parts i part → text ≡ text_of part
-    → tail_text (map text_of (drop i parts)) ≡ (47 ∷ []) ++ (escaped text ++ tail_text (map text_of (drop (i + 1) parts)))
+    → tail_text (map text_of (drop i parts)) ≡ (slash ∷ []) ++ (escaped text ++ tail_text (map text_of (drop (i + 1) parts)))
 next_part text_of parts i part text lt there is =
-    ap (λ ps. tail_text (map text_of ps)) (item_next parts i part lt there) ∙ ap (λ t. 47 ∷ (escaped t ++ tail_text (map text_of (drop (i + 1) parts)))) (sym is)
+    ap (λ ps. tail_text (map text_of ps)) (item_next parts i part lt there) ∙ ap (λ t. slash ∷ (escaped t ++ tail_text (map text_of (drop (i + 1) parts)))) (sym is)
 
 pub returns-in_err-write_escaped : goal.returns-in_err-write_escaped
 returns-in_err-write_escaped g c =

@@ -7,7 +7,8 @@ use Rattle.opening.specs.Layered.{layer_pairs}
 use Rattle.opening.specs.Opening.{AreContents, content_rows}
 use Rattle.opening.specs.PieceLayers.{tree_at}
 use Rattle.opening.specs.Refusals.{count_rows, layer_rows}
-use Rattle.opening.specs.Rooted.{AreNumbers, AreRoots, AreTrees, entries_from}
+use Rattle.opening.specs.Rooted.{AreNumbers, AreRoots, AreTrees}
+use Rattle.opening.specs.Trees.{entries_from}
 use Rattle.opening.specs.Seen.{file_entry, tree_entry}
 use Rattle.opening.specs.Trees.{IsIn, roots_in}
 use Rattle.opening.specs.declared.open.Contents.{Contents}

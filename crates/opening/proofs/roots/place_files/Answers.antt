@@ -5,7 +5,7 @@ use Rattle.std.proofs.lemmas.List.{map-append}
 use Rattle.std.proofs.lemmas.List.Sums.{sum_by-cons}
 use Rattle.filetree.specs.declared.files.ListedFile.{ListedFile}
 use Rattle.opening.specs.Description.{FileEntry}
-use Rattle.opening.specs.Rooted.{entries_from}
+use Rattle.opening.specs.Trees.{entries_from}
 use Rattle.opening.specs.Seen.{file_entry}
 use Rattle.opening.specs.Trees.{place_in, pieces_in}
 use Rattle.pieces.specs.Pieces.{pieces_of}

@@ -1,6 +1,6 @@
 use Rattle.std.proofs.Common.{◌≡◌, ◌+◌, ◌++◌, map}
 use Rattle.std.specs.Vec.Iter.{into_iter_items}
-use Rattle.opening.specs.Rooted.{entries_from}
+use Rattle.opening.specs.Trees.{entries_from}
 use Rattle.opening.specs.Seen.{file_entry}
 use Rattle.opening.specs.Trees.{pieces_in}
 use Rattle.opening.proofs.roots.place_files.Given as goal

@@ -21,15 +21,15 @@ returns-in_err-total c =
 pub returns : goal.returns
 returns c = λ fs fits.
     let at = streamed c.args.piece_length fs (map file_entry c.args.files.now) (view c.args.info.now) c.args.name.now fits.some fits.names fits.short in
-    hybrid_read c.args.piece_length (view c.args.info.now) (view c.in-Some.pieces.now) c.args.name.now fs c.in_ok-total.total c.in-Some-cuts.pieces.now
+    hybrid_read c.args.piece_length (view c.args.info.now) (view c.in-Some.pieces.now) c.args.name.now fs c.in_ok-total.total c.in-Some-cut_digests.pieces.now
     (sym c.in-Some.ensures)
     (subst (Streamed c.args.piece_length fs (parts_in (view c.args.info.now) c.args.name.now)) (sym c.in_ok-total.ensures) at)
-    (sym c.in-Some-cuts.ensures)
+    (sym c.in-Some-cut_digests.ensures)
 
-pub returns-in_default-cuts : goal.returns-in_default-cuts
-returns-in_default-cuts c = λ fs fits.
+pub returns-in_default-cut_digests : goal.returns-in_default-cut_digests
+returns-in_default-cut_digests c = λ fs fits.
     let at = streamed c.args.piece_length fs (map file_entry c.args.files.now) (view c.args.info.now) c.args.name.now fits.some fits.names fits.short in
     cuts_refused c.args.piece_length (view c.args.info.now) (view c.in-Some.pieces.now) c.args.name.now fs c.in_ok-total.total
     (sym c.in-Some.ensures)
     (subst (Streamed c.args.piece_length fs (parts_in (view c.args.info.now) c.args.name.now)) (sym c.in_ok-total.ensures) at)
-    (sym c.in_default-cuts.ensures)
+    (sym c.in_default-cut_digests.ensures)

@@ -2,13 +2,16 @@ use Rattle.std.proofs.Common.{◌∙◌, sym, ap, subst, not}
 use Rattle.node_maps.specs.Known.{Known, look}
 use Rattle.partial_tree.specs.Joins.{Joins}
 use Rattle.partial_tree.specs.Evidence.{claimed_by, AllHandled}
-use Rattle.partial_tree.proofs.Tracing.{on_some, on_ok, handled-agreed}
+use Rattle.partial_tree.proofs.Tracing.{on_some, on_ok, handled-agreed, new_if_noted, nothing-joins}
 use Rattle.partial_tree.proofs.storing.store.Goals as goal
 
 pub returns-then-is_err-clause-refused : goal.returns-then-is_err-clause-refused
 returns-then-is_err-clause-refused g c = (
-  handled-agreed c.args.evidence.now (g.N.NodeMap.known c.args.map.now) c.trace.new.found c.args.layer c.args.index c.requires.leads
-      (on_some c.trace.result _ c.trace.ensures.handled (c.is_none.ensures ∙ ap not c.if-is_none.false)),
+  (
+    handled-agreed c.args.evidence.now (g.N.NodeMap.known c.args.map.now) c.trace.new.found c.args.layer c.args.index c.requires.leads
+        (on_some c.trace.result _ c.trace.ensures.handled (c.is_none.ensures ∙ ap not c.if-is_none.false)),
+    new_if_noted _ _ c.trace.new.found c.is_empty.result c.is_empty.ensures c.if-is_empty.false c.trace.ensures.notes_new,
+  ),
   c.trim.ensures.known ∙ c.reserve_claimed.ensures.known,
 )
 
@@ -24,3 +27,9 @@ pub returns-clause-stored : goal.returns-clause-stored
 returns-clause-stored g c =
     subst (λ (m : Known). Joins (claimed_by c.args.evidence.now) (g.N.NodeMap.known c.args.map.now) m c.put_found-gained.result) (sym c.trim-2.ensures.known)
     (subst (λ (m : Known). Joins (claimed_by c.args.evidence.now) m (g.N.NodeMap.known c.put_found-gained.new.map) c.put_found-gained.result) c.reserve_claimed.ensures.known c.put_found-gained.ensures.stored)
+
+pub returns-then-is_empty-clause-stored : goal.returns-then-is_empty-clause-stored
+returns-then-is_empty-clause-stored g c =
+    nothing-joins c.args.evidence.now (g.N.NodeMap.known c.args.map.now) c.trace.new.found c.args.layer c.args.index c.requires.leads
+    (on_some c.trace.result _ c.trace.ensures.handled (c.is_none.ensures ∙ ap not c.if-is_none.false))
+    (c.is_empty.ensures.0 c.if-is_empty.true) c.trace.ensures.sound

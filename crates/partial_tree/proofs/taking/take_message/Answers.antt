@@ -1,4 +1,4 @@
-use Rattle.std.proofs.Common.{[], ◌-◌, ◌/◌, ◌^◌, not, refl, sym, ap, ap₂, ◌∙◌, subst, replicate}
+use Rattle.std.proofs.Common.{[], ◌-◌, ◌/◌, ◌^◌, not, refl, sym, ap, ap₂, ◌∙◌, subst}
 use Rattle.partial_tree.specs.declared.evidence.Evidence.{Evidence}
 use Rattle.partial_tree.specs.TreeRoot.{TreeRoot}
 use Rattle.node_maps.specs.Places.{tree_height, IsTreePlace, IsKnown}
@@ -20,7 +20,7 @@ pub store-requires-clause-leads : goal.store-requires-clause-leads
 store-requires-clause-leads g c =
     let ask = c.args.ask.now in
     let hashes = c.args.hashes.now in
-    let ev : Evidence = record { base = ask.base; index = c.from-2.result; span = c.in_ok-span.span; hashes = c.args.hashes; pad = replicate 32 0 } in
+    let ev : Evidence = record { base = ask.base; index = c.from-2.result; span = c.in_ok-span.span; hashes = c.args.hashes; pad = c.zero.result } in
     let range = c.in_ok-span.ensures.good in
     let count = c.in_ok-top.ensures.good in
     let at : LeadsTo ev (top_layer ask hashes) (top_index ask hashes) = leads ev ask hashes refl c.from-2.ensures range.1 refl count.0.enough range.2 range.0.aligned in
@@ -32,7 +32,7 @@ returns-clause-taken g c =
     let ask = c.args.ask.now in
     let hashes = c.args.hashes.now in
     let K = look (g.N.NodeMap.known c.args.nodes.now) in
-    let ev : Evidence = record { base = ask.base; index = c.from-2.result; span = c.in_ok-span.span; hashes = c.args.hashes; pad = replicate 32 0 } in
+    let ev : Evidence = record { base = ask.base; index = c.from-2.result; span = c.in_ok-span.span; hashes = c.args.hashes; pad = c.zero.result } in
     let range = c.in_ok-span.ensures.good in
     let count = c.in_ok-top.ensures.good in
     let t : TreeRoot = record { root = []; length = c.args.shape } in
@@ -49,7 +49,7 @@ returns-clause-refused g c =
     let ask = c.args.ask.now in
     let hashes = c.args.hashes.now in
     let K = look (g.N.NodeMap.known c.args.nodes.now) in
-    let ev : Evidence = record { base = ask.base; index = c.from-2.result; span = c.in_ok-span.span; hashes = c.args.hashes; pad = replicate 32 0 } in
+    let ev : Evidence = record { base = ask.base; index = c.from-2.result; span = c.in_ok-span.span; hashes = c.args.hashes; pad = c.zero.result } in
     let range = c.in_ok-span.ensures.good in
     let count = c.in_ok-top.ensures.good in
     let t : TreeRoot = record { root = []; length = c.args.shape } in

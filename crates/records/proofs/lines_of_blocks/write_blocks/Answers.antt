@@ -36,6 +36,6 @@ entries-preserved g c =
 
 pub returns : goal.returns
 returns g c =
-    let none = no_entry c.args.number c.args.blocks.now c.entries.entry (omega (arith, c.entries-test.false, c.len-entry-end.ensures)) in
+    let none = no_entry c.args.number c.args.blocks.now c.entries.entry (omega (arith, c.entries-test.false, c.len-entry-end.ensures.count)) in
     subst (Sent (g.W.Sink.seen c.args.report.now) (g.W.Sink.seen c.entries.report))
     (sym (c.entries.invariant.1 ∙ ap (λ t. c.entries.invariant.0 ++ t) none ∙ append-nil c.entries.invariant.0)) c.entries.invariant.2

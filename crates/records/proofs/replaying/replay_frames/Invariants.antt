@@ -1,6 +1,6 @@
 use Rattle.std.proofs.Common.{◌≡◌}
 use Rattle.wire.specs.Reader.{HasRoom, IsOpen}
-use Rattle.wire.specs.RecordReader.{frames}
+use Rattle.wire.specs.RecordReader.{frame_reader}
 use Rattle.records.specs.Replay.{replay_seen}
 use Rattle.records.proofs.Replays.{InReplay}
 use Rattle.records.proofs.replaying.replay_frames.Given as goal
@@ -8,8 +8,8 @@ use Rattle.records.proofs.replaying.replay_frames.Given as goal
 abbrev pub invariant-frames : goal.invariant-frames
 invariant-frames g l = record {
   same_source : l.reader.source.ghost_name ≡ l.fn.reader.source.ghost_name;
-  going : IsOpen (frames l.reader);
-  room : HasRoom (frames l.reader);
+  going : IsOpen (frame_reader l.reader);
+  room : HasRoom (frame_reader l.reader);
   so_far : InReplay
       (replay_seen (g.R.Source.seen l.fn.reader.source.now) l.fn.session (g.W.Sink.seen l.fn.report) (g.B.Answering.seen l.fn.answers))
       (replay_seen (g.R.Source.seen l.reader.source.now) l.session (g.W.Sink.seen l.report) (g.B.Answering.seen l.answers))

@@ -43,7 +43,7 @@ files-preserved g c =
     let files = c.files-entries.ensures ∙ ap (λ t. t.files) c.torrent-torrent.ensures in
     record {
       same = c.in-Ok.ensures.torrent ∙ c.files.invariant.same;
-      so_far = in_seed_more g.S.Shelf.opens g.S.Shelf.closes g.S.Shelf.faults g.S.Shelf.under g.S.File.Source.seen
+      so_far = in_seed_more g.S.Shelf g.S.File.Source.seen
           (shelf_and_session c.args.shelf.now c.args.session.now) (shelf_and_session c.files.shelf c.files.session) (shelf_and_session c.seed_file.new.shelf c.seed_file.new.session)
           (g.W.Sink.seen c.args.report.now) (g.W.Sink.seen c.files.report) (g.W.Sink.seen c.write_line_of.new.out)
           c.args.session.now.torrent.files c.files.file-index (file_entry c.file-item.result) c.in-Ok.seeded

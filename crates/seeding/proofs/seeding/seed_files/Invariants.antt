@@ -6,7 +6,7 @@ use Rattle.seeding.proofs.seeding.seed_files.Given as goal
 abbrev pub invariant-files : goal.invariant-files
 invariant-files g l = record {
   same : l.session.torrent ≡ l.fn.session.torrent;
-  so_far : InSeed g.S.Shelf.opens g.S.Shelf.closes g.S.Shelf.faults g.S.Shelf.under g.S.File.Source.seen
+  so_far : InSeed g.S.Shelf g.S.File.Source.seen
       (shelf_and_session l.fn.shelf l.fn.session) (shelf_and_session l.shelf l.session) (g.W.Sink.seen l.fn.report) (g.W.Sink.seen l.report)
       l.fn.session.torrent.files l.file-index;
 }

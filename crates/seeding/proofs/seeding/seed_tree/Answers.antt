@@ -14,16 +14,16 @@ take_over-requires-clause-length g c =
 
 pub returns-in_default-clause-no_memory : goal.returns-in_default-clause-no_memory
 returns-in_default-clause-no_memory g c =
-    stops_reading g.S.Shelf.opens g.S.Shelf.closes g.S.Shelf.faults g.S.Shelf.under g.S.File.Source.seen _ _ c.args.session.now (file_entry c.args.file.now) c.args.number _
+    stops_reading g.S.Shelf g.S.File.Source.seen _ _ c.args.session.now (file_entry c.args.file.now) c.args.number _
     c.requires.number c.requires.same c.find_tree.ensures.visited (rw c.in_default.is at c.find_tree.ensures.no_memory)
 
 pub returns-in-Some-clause-seeds : goal.returns-in-Some-clause-seeds
 returns-in-Some-clause-seeds g c =
-    seeds_filled g.S.Shelf.opens g.S.Shelf.closes g.S.Shelf.faults g.S.Shelf.under g.S.File.Source.seen c.take_over.result _ _ c.args.session.now _ (file_entry c.args.file.now) c.args.number
+    seeds_filled g.S.Shelf g.S.File.Source.seen c.take_over.result _ _ c.args.session.now _ (file_entry c.args.file.now) c.args.number
     (tree_entry c.args.tree.now) _ c.requires.tree c.requires.same c.find_tree.ensures.visited (rw c.in-Some.is at c.in-Ok.ensures.found) c.find_tree.ensures.kept
     c.take_over.ensures.fills
 
 pub returns-in-None-clause-seeds : goal.returns-in-None-clause-seeds
 returns-in-None-clause-seeds g c =
-    seeds_nothing g.S.Shelf.opens g.S.Shelf.closes g.S.Shelf.faults g.S.Shelf.under g.S.File.Source.seen _ _ c.args.session.now (file_entry c.args.file.now) c.args.number
+    seeds_nothing g.S.Shelf g.S.File.Source.seen _ _ c.args.session.now (file_entry c.args.file.now) c.args.number
     (tree_entry c.args.tree.now) c.requires.tree c.requires.same c.find_tree.ensures.visited (rw c.in-None.is at c.in-Ok.ensures.found) c.find_tree.ensures.kept

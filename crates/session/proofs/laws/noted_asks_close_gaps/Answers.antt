@@ -1,4 +1,4 @@
-use Rattle.session.proofs.NotedRounds.{run-noted-open, incoming-opens, noted-keeps, noted-round-law}
+use Rattle.session.proofs.NotedRounds.{run-noted-open, incoming-opens, noted-keeps, noted-round-fewer}
 use Rattle.session.proofs.RepeatedRounds.{noted-rounds-count, noted-rounds-done}
 use Rattle.session.proofs.laws.noted_asks_close_gaps.Goals as goal
 
@@ -7,7 +7,7 @@ returns c = record {
   stays = run-noted-open;
   ours = incoming-opens;
   keeps = noted-keeps;
-  round = noted-round-law;
+  round = noted-round-fewer;
   all = noted-rounds-count;
   done = noted-rounds-done;
 }

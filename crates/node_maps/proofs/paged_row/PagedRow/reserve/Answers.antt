@@ -1,6 +1,6 @@
 use Rattle.std.proofs.Common.{◌≡◌, ◌≤◌, IsSome, inl, inr, sym, ◌∙◌, subst, arith, length, eq-or-lt_of_le}
 use Rattle.node_maps.specs.Pages.{AreAlike}
-use Rattle.node_maps.specs.PagedRow.{pages_of, HasNumber}
+use Rattle.node_maps.specs.PagedRow.{pages_of, HasRowPage}
 use Rattle.node_maps.proofs.Growth.{grown-one}
 use Rattle.node_maps.proofs.paged_row.PagedRow.reserve.Goals as goal
 
@@ -33,7 +33,7 @@ numbers-preserved c =
       cells = λ i. now.cells i ∙ before.cells i;
       keeps = λ n was. now.keeps n (before.keeps n was);
       done = λ n low high. elim (eq-or-lt_of_le (let to : n ≤ c.numbers.number = omega arith in to)) [
-        | inl same ↦ subst (HasNumber c.make.new.self) (sym same) c.in_default.ensures.ok
+        | inl same ↦ subst (HasRowPage c.make.new.self) (sym same) c.in_default.ensures.ok
         | inr less ↦ now.keeps n (before.done n low less)
       ];
       grown = grown-one (pages_of row) row.fresh.items row.count (pages_of c.numbers.self) c.numbers.self.fresh.items c.numbers.self.count (pages_of c.make.new.self) c.make.new.self.fresh.items c.make.new.self.count before.grown now.grown;

@@ -1,7 +1,5 @@
-use Rattle.std.proofs.Common.{◌≡◌, ℕ, suc, ◌+◌, ◌^◌, ◌<◌, ◌≤◌, List, length, ◌∙◌, sym, subst, arith}
-use Rattle.std.specs.List.{All}
+use Rattle.std.proofs.Common.{suc, ◌+◌, ◌^◌, ◌<◌, ◌≤◌, ◌∙◌, sym, subst, arith}
 use Rattle.std.specs.FinMap.{len}
-use Rattle.node_maps.specs.Digest.{IsHash}
 use Rattle.partial_tree.specs.TreeRoot.{TreeRoot}
 use Rattle.node_maps.specs.Places.{tree_height}
 use Rattle.partial_tree.specs.Fill.{fill_claims, IsFillAccepted}
@@ -29,10 +27,8 @@ overflow_add-self g c =
     let kept : KeptTree = record { root = old.root; length = old.shape; state = record { known = g.N.NodeMap.known old.nodes; marked = g.N.NodeMap.marked old.nodes } } in
     let good : IsGoodTree kept = subst IsGoodTree (sym c.self.view_is) c.requires in
     let filled = c.in_ok-gained.ensures.filled in
-    let sizes : All (λ (h : List ℕ). length h ≡ 32) c.args.hashes.now = c.are_hashes.ensures in
-    let all : All IsHash c.args.hashes.now = λ k d in'. record { size = sizes k d in' } in
     let fewer : len (g.N.NodeMap.known old.nodes) + c.in_ok-gained.gained < 2 ^ suc (tree_height old.shape) =
-    filled-len t (g.N.NodeMap.known old.nodes) (g.N.NodeMap.known c.fill_layer.new.nodes) c.args.layer c.args.hashes.now c.in_ok-gained.gained good.closed all filled.0 filled.1 in
+    filled-len t (g.N.NodeMap.known old.nodes) (g.N.NodeMap.known c.fill_layer.new.nodes) c.args.layer c.args.hashes.now c.in_ok-gained.gained good.closed c.are_hashes.ensures filled.0 filled.1 in
     let low : suc (tree_height old.shape) ≤ 33 = omega (arith, c.self.invariant.1.height_is, c.self.invariant.1.low) in
     let wide : 2 ^ suc (tree_height old.shape) ≤ 2 ^ 33 = pow_more (suc (tree_height old.shape)) 33 low in
     omega (arith, fewer, wide, c.self.invariant.1.known_is)

@@ -43,8 +43,8 @@ invariant_of-result g c =
     subst₂ (λ p es. ArePlanted p c.args.with_layers es c.infos.trees.items) same c.trees-infos.ensures c.infos.invariant.planted in
     kept_all c.args.torrent.now c.sound.ensures c.trees-infos.result.now c.trees-infos.ensures c.args.with_layers c.infos.info-index c.infos.trees.items c.infos-test.false c.infos.invariant.same planted
 
-pub returns : goal.returns
-returns g c =
+pub returns-clause-fresh : goal.returns-clause-fresh
+returns-clause-fresh g c =
     let same : c.unwrap-piece_length.result ≡ c.args.torrent.now.piece_length = piece_length_is _ _ _ _ c.unwrap-piece_length.ensures c.new.ensures c.piece_length.ensures in
     let planted : ArePlanted c.args.torrent.now.piece_length c.args.with_layers c.args.torrent.now.trees c.infos.trees.items =
     subst₂ (λ p es. ArePlanted p c.args.with_layers es c.infos.trees.items) same c.trees-infos.ensures c.infos.invariant.planted in

@@ -1,6 +1,6 @@
 use Rattle.std.proofs.Common.{◌≡◌, Ok, true, ap, refl, ◌∙◌}
 use Rattle.wire.specs.Reader.{IsOpen}
-use Rattle.wire.specs.RecordReader.{frames}
+use Rattle.wire.specs.RecordReader.{frame_reader}
 use Rattle.wire.proofs.RecordReaders.{was_open}
 use Rattle.wire.proofs.record_reader.RecordReader+R.next.Goals as goal
 
@@ -9,7 +9,7 @@ returns-then-branch g c =
     let e = c.in_ok-advance.ensures in
     let all = c.advance.ensures in
     let got : c.advance.result ≡ Ok true = c.in_ok-advance.was ∙ ap (λ b. Ok b) c.if-branch.true in
-    let is_open : IsOpen (frames c.args.self.now) =
+    let is_open : IsOpen (frame_reader c.args.self.now) =
     was_open c.args.self.now.state c.advance.result (λ p. (all.ended_again p).0) (λ why p. (all.failed_again why p).0) got in
     let found = rw c.if-branch.true at e.frame is_open in (
       (

@@ -1,0 +1,94 @@
+-- The laws of what takes a file's bytes for a layer of its tree: several parts are one, and leave
+-- room for less.
+use Rattle.std.proofs.Common.{◌≡◌, ◌⊎◌, inl, inr, ℕ, ◌+◌, ◌-◌, ◌*◌, ◌/◌, ◌^◌, ◌<◌, ◌≤◌, ◌++◌, List, [], length, refl, sym, ◌∙◌, subst, append_assoc, append-nil, arith}
+use Rattle.std.proofs.Math.Nat.{div-mul-le_self}
+use Rattle.std.proofs.lemmas.List.{length-append}
+use Rattle.std.proofs.lemmas.Nat.{le-div, pow_pos}
+use Rattle.hashtree.specs.LayerBuilder.{FeedsLayer, HasRefused, IsFedLayer, byte_count, chosen_layer, complete_count}
+use Rattle.hashtree.specs.declared.layer.LayerBuilder.{LayerBuilder}
+use Rattle.gathering.specs.Collecting.{CanCollect, Collects}
+
+pub collected_none : (b : LayerBuilder) → Collects b [] b
+collected_none b = record {
+  layer = refl;
+  at_most = omega arith;
+  at_least = omega arith;
+  again = λ refused. refused;
+  fed = inr (
+    let e : byte_count b ≡ byte_count b + 0 = omega arith in e,
+    λ file fed. subst (IsFedLayer b) (sym (append-nil file)) fed,
+  );
+  why = λ refused file fed. inl refused;
+}
+
+less_divided : (k m n : ℕ) → 0 < k → m ≤ n → m / k ≤ n / k
+less_divided k m n some le =
+    le-div (m / k) n k some (let e : m / k * k ≤ n = omega (arith, div-mul-le_self m k, le) in e)
+
+-- more bytes complete no fewer nodes
+more_complete : (layer m n : ℕ) → m ≤ n → 0 < complete_count layer m → 0 < complete_count layer n
+more_complete layer m n le some =
+    let a : (m - 1) / 16384 ≤ (n - 1) / 16384 =
+    less_divided 16384 (m - 1) (n - 1) (omega arith) (omega arith) in
+    let b : (m - 1) / 16384 / 2 ^ layer ≤ (n - 1) / 16384 / 2 ^ layer =
+    less_divided (2 ^ layer) ((m - 1) / 16384) ((n - 1) / 16384) (pow_pos layer) a in
+    omega (arith, b, some)
+
+both_fed : (a b c : LayerBuilder) (x y : List ℕ) → Collects a x b → Collects b y c
+    → HasRefused c ⊎ ((byte_count c ≡ byte_count a + length (x ++ y)) × FeedsLayer a c (x ++ y))
+both_fed a b c x y one two = elim two.fed [
+  | inl refused ↦ inl refused
+  | inr next ↦ elim one.fed [
+    | inl refused ↦ inl (two.again refused)
+    | inr first ↦ inr (
+      let e : byte_count c ≡ byte_count a + length (x ++ y) =
+          omega (arith, next.0, first.0, length-append x y) in e,
+      λ file fed. subst (IsFedLayer c) (append_assoc file x y)
+          (next.1 (file ++ x) (first.1 file fed)),
+    )
+  ]
+]
+
+-- why memory was refused in the first part
+in_first : (a b : LayerBuilder) (x y : List ℕ) → Collects a x b → HasRefused b
+    → (file : List ℕ) → IsFedLayer a file
+    → HasRefused a ⊎ (0 < complete_count (chosen_layer a) (byte_count a + length (x ++ y)))
+in_first a b x y one refused file fed = elim (one.why refused file fed) [
+  | inl before ↦ inl before
+  | inr some ↦ inr (more_complete (chosen_layer a) (byte_count a + length x)
+      (byte_count a + length (x ++ y)) (omega (arith, length-append x y)) some)
+]
+
+both_why : (a b c : LayerBuilder) (x y : List ℕ) → Collects a x b → Collects b y c → HasRefused c
+    → (file : List ℕ) → IsFedLayer a file
+    → HasRefused a ⊎ (0 < complete_count (chosen_layer a) (byte_count a + length (x ++ y)))
+both_why a b c x y one two refused file fed = elim one.fed [
+  | inl early ↦ in_first a b x y one early file fed
+  | inr first ↦ elim (two.why refused (file ++ x) (first.1 file fed)) [
+    | inl early ↦ in_first a b x y one early file fed
+    | inr some ↦ inr (
+        let e : byte_count b + length y ≡ byte_count a + length (x ++ y) =
+        omega (arith, first.0, length-append x y) in
+        subst (λ n. 0 < complete_count (chosen_layer a) n) e
+        (subst (λ l. 0 < complete_count l (byte_count b + length y)) one.layer some)
+        )
+  ]
+]
+
+pub collected_both : (a b c : LayerBuilder) (x y : List ℕ) → Collects a x b → Collects b y c
+    → Collects a (x ++ y) c
+collected_both a b c x y one two = record {
+  layer = two.layer ∙ one.layer;
+  at_most = omega (arith, one.at_most, two.at_most, length-append x y);
+  at_least = omega (arith, one.at_least, two.at_least);
+  again = λ refused. two.again (one.again refused);
+  fed = both_fed a b c x y one two;
+  why = both_why a b c x y one two;
+}
+
+pub collected_room : (a b : LayerBuilder) (x : List ℕ) (n : ℕ)
+    → Collects a x b → CanCollect a (length x + n) → CanCollect b n
+collected_room a b x n one room = omega (arith, one.at_most, room)
+
+pub collected_less : (b : LayerBuilder) (m n : ℕ) → CanCollect b n → m ≤ n → CanCollect b m
+collected_less b m n room le = omega (arith, room, le)

@@ -1,0 +1,48 @@
+use Rattle.std.proofs.Common.{◌<◌, ◌^◌, ◌∷◌, [], ◌++◌, ap, refl, arith, ◌∙◌}
+use Rattle.std.proofs.lemmas.List.{length_push}
+use Rattle.std.proofs.lemmas.List.Elements.{All-nil}
+use Rattle.wire.specs.Frames.{IsBody}
+use Rattle.wire.proofs.Partial.{length-frame, IsPartial-from_short}
+use Rattle.wire.proofs.Runs.{All-push, Gave-no_frame, Gave-one_more, Frames-from_run, length-frames}
+use Rattle.library_tests.proofs.frames.count_frames.Goals as goal
+
+pub frames-init : goal.frames-init
+frames-init g c = record {
+  stands = c.new-reader.ensures.open;
+  same = refl;
+  read = ([], All-nil IsBody, refl, Gave-no_frame (g.R.Source.seen c.args.source.now) (g.R.Source.seen c.new-reader.result.source.now) (ap g.R.Source.seen c.new-reader.ensures.source));
+}
+
+pub overflow_add-n : goal.overflow_add-n
+overflow_add-n g c =
+    let read = c.frames.invariant.read in
+    let fin : (g.R.Source.seen c.args.source.now).limit < 2 ^ 64 = g.met.R.Source.finite c.args.source.now in
+    omega (arith, read.2, read.3.falls, length-frames read.0, fin)
+
+pub frames-smaller : goal.frames-smaller
+frames-smaller g c =
+    let next = rw c.if-branch.true at c.in_ok-advance.ensures.frame c.frames.invariant.stands in
+    omega (arith, next.2.gave.falls, length-frame next.0)
+
+pub frames-preserved : goal.frames-preserved
+frames-preserved g c =
+    let S = g.R.Source in
+    let read = c.frames.invariant.read in
+    let next = rw c.if-branch.true at c.in_ok-advance.ensures.frame c.frames.invariant.stands in
+    record {
+      stands = rw c.if-branch.true at c.in_ok-advance.ensures.stands;
+      same = c.in_ok-advance.ensures.same_reference ∙ c.frames.invariant.same;
+      read = (
+        read.0 ++ next.0 ∷ [],
+        All-push read.0 next.0 read.1 next.1,
+        omega (arith, read.2, length_push read.0 next.0),
+        Gave-one_more (S.seen c.args.source.now) (S.seen c.frames.reader.source.now) (S.seen c.advance.new.self.source.now) read.0 next.0 read.3 next.2.gave,
+      );
+    }
+
+pub returns : goal.returns
+returns g c = λ bytes known.
+    let S = g.R.Source in
+    let read = c.frames.invariant.read in
+    let end = rw c.if-branch.false at c.in_ok-advance.ensures.end c.frames.invariant.stands in
+    (read.0, Frames-from_run (S.seen c.args.source.now) (S.seen c.frames.reader.source.now) (S.seen c.advance.new.self.source.now) bytes read.0 [] known read.1 read.3 end.0.gave end.1 (IsPartial-from_short [] (omega arith)), read.2)

@@ -1,0 +1,302 @@
+ghost use Rattle.std.specs.Prelude.{◌≡◌, ℕ, [], List, length, Some, IfOk};
+ghost use Rattle.wire.specs.Frames.{Frames};
+ghost use Rattle.wire.specs.declared.form.Form.{Form as FormOf};
+ghost use Rattle.wire.specs.Records.{Directed, RecordFrames};
+
+use benc::Source;
+use benc::memory::{MemSink, MemSource};
+use std::alloc::{AllocError, Global};
+use std::process::Abort;
+use std::test::*;
+use wire::*;
+
+// A loop over `advance` knows that what it met are the frames of the record.
+fn count_frames<R: Source>(alloc: Global, source: &mut R) -> Result<u64, FrameFault>
+    ensures { IfOk result (λ n. (bytes : List ℕ) → (R.seen source.old).left ≡ Some bytes
+        → (bodies : List (List ℕ)) × Frames bytes bodies [] × (length bodies ≡ n)) }
+{
+    let mut reader = FrameReader::new(alloc, source);
+    let mut n = 0u64;
+    'frames: while reader.advance()? {
+        let _ = reader.frame();
+        n += 1;
+    }
+    Ok(n)
+}
+
+// The same over a record in either form.
+fn count_directed<R: Source>(alloc: Global, source: &mut R) -> Result<u64, FrameFault>
+    ensures { IfOk result (λ n. (bytes : List ℕ) → (R.seen source.old).left ≡ Some bytes
+        → (form : FormOf) × (frames : List (Directed (List ℕ)))
+        × RecordFrames bytes form frames [] × (length frames ≡ n)) }
+{
+    let mut reader = RecordReader::new(alloc, source);
+    let mut n = 0u64;
+    'frames: while reader.advance()? {
+        let _ = reader.frame();
+        n += 1;
+    }
+    Ok(n)
+}
+
+// A frame of zeros after its id.
+fn frame(alloc: Global, id: u8, len: u32) -> Result<Vec<u8>, AllocError> {
+    let mut bytes = Vec::from_slice(alloc, &len.to_be_bytes())?;
+    bytes.push(id)?;
+    bytes.resize(len as usize + 4, 0)?;
+    Ok(bytes)
+}
+
+const RECORD: [u8; 31] = [
+    0, 0, 0, 0, 0, 0, 0, 12, 7, 0, 0, 0, 0, 0, 0, 0, 0, 97, 98, 99, 0, 0, 0, 5, 4, 0, 0, 0, 0, 0, 0,
+];
+
+#[test]
+fn a_record_has_so_many_frames(rt: HostRuntime) {
+    for (record, count) in [
+        (&RECORD[..0], Ok(0)),
+        (&RECORD[..29], Ok(3)),
+        (&RECORD[..30], Err(FrameFault::Truncated)),
+    ] {
+        let mut source = MemSource::new(record);
+        assert!(rt; count_frames(rt.alloc(), &mut source) == count);
+        let mut source = MemSource::new(record);
+        assert!(rt; count_directed(rt.alloc(), &mut source) == count);
+    }
+    let mut source = MemSource::new(b"\xff\xff\xff\xffBTH2");
+    assert!(rt; count_directed(rt.alloc(), &mut source) == Ok(0));
+}
+
+// Whether the first frame has a message.
+fn has_message<R: Source>(alloc: Global, source: &mut R) -> bool {
+    let mut reader = FrameReader::new(alloc, source);
+    matches!(reader.next(), Ok(Some(Frame::Message(_))))
+}
+
+#[test]
+fn each_size_is_right_or_wrong(rt: HostRuntime) {
+    for (id, len, right) in [
+        (7, 8, false),
+        (7, 9, true),
+        (7, 263_217, true),
+        (7, 263_218, false),
+        (21, 48, false),
+        (21, 49, true),
+        (21, 50, false),
+        (22, 48, false),
+        (22, 49, true),
+        (22, 50, false),
+        (22, 80, false),
+        (22, 81, true),
+        (22, 263_217, true),
+        (22, 263_249, false),
+        (23, 48, false),
+        (23, 49, true),
+        (23, 50, false),
+    ] {
+        let bytes = frame(rt.alloc(), id, len).expect(&rt, "memory");
+        let mut source = MemSource::new(&bytes);
+        let is_message = has_message(rt.alloc(), &mut source);
+        assert!(rt; is_message == right, "id {id}, {len} bytes");
+    }
+}
+
+const ASK: Ask = Ask {
+    root: [9; 32],
+    base: 0,
+    index: 512,
+    length: 512,
+    proof: 9,
+};
+
+// Whether a message is written and read back as it was, however the frame is cut.
+fn comes_back(rt: &impl Abort, alloc: Global, m: Message<'_>, room: usize) -> bool {
+    let mut sink = MemSink::with_room(alloc, room)
+        .expect(rt, "memory")
+        .at_most(7);
+    if !m.is_writable() || write(&m, &mut sink).is_err() || sink.written().len() != room {
+        return false;
+    }
+    for at_most in [1, 7, usize::MAX] {
+        let mut source = MemSource::new(sink.written()).at_most(at_most);
+        if !gives(alloc, &mut source, &m) {
+            return false;
+        }
+    }
+    true
+}
+
+// Whether the source's one frame has this message.
+fn gives<R: Source>(alloc: Global, source: &mut R, m: &Message<'_>) -> bool {
+    let mut reader = FrameReader::new(alloc, source);
+    let is_first = match reader.next() {
+        Ok(Some(Frame::Message(found))) => found == *m,
+        _ => false,
+    };
+    is_first && matches!(reader.next(), Ok(None))
+}
+
+#[test]
+fn what_is_written_is_read(rt: HostRuntime) {
+    let hashes = vec![in rt.alloc(); [7u8; 32]; 513].expect(&rt, "memory");
+    let block = vec![in rt.alloc(); 5u8; 100].expect(&rt, "memory");
+    let piece = Message::Piece {
+        index: 3,
+        begin: 16_384,
+        block: &block,
+    };
+    let answer = Message::Hashes {
+        ask: ASK,
+        hashes: &hashes,
+    };
+    assert!(rt; comes_back(&rt, rt.alloc(), Message::KeepAlive, 4));
+    assert!(rt; comes_back(&rt, rt.alloc(), piece, 113));
+    assert!(rt; comes_back(&rt, rt.alloc(), Message::Request(ASK), 53));
+    assert!(rt; comes_back(&rt, rt.alloc(), answer, 16_469));
+    assert!(rt; comes_back(&rt, rt.alloc(), Message::Reject(ASK), 53));
+    assert!(rt; !Message::Other { id: 4, len: 5 }.is_writable());
+}
+
+// Whether a source's one frame is read by a reader that takes its room before and after.
+fn reads_with_room<R: Source>(alloc: Global, source: &mut R) -> bool {
+    let mut reader = FrameReader::new(alloc, source);
+    let is_taken = reader.reserve().is_ok();
+    let is_read = matches!(reader.next(), Ok(Some(Frame::Message(_))));
+    is_taken && is_read && reader.reserve().is_ok() && matches!(reader.next(), Ok(None))
+}
+
+#[test]
+fn room_is_taken_once(rt: HostRuntime) {
+    let bytes = frame(rt.alloc(), 7, 10).expect(&rt, "memory");
+    let mut source = MemSource::new(&bytes);
+    let is_read = reads_with_room(rt.alloc(), &mut source);
+    assert!(rt; is_read);
+}
+
+#[test]
+fn a_request_to_the_byte(rt: HostRuntime) -> Result<(), AllocError> {
+    let fields = [0, 0, 0, 0, 0, 0, 2, 0, 0, 0, 2, 0, 0, 0, 0, 9];
+    let mut sink = MemSink::with_room(rt.alloc(), 53)?;
+    assert!(rt; write(&Message::Request(ASK), &mut sink).is_ok());
+    assert!(rt; sink.written().starts_with(&[0, 0, 0, 0x31, 0x15]));
+    assert!(rt; sink.written().iter().skip(5).take(32).all(|b| *b == 9));
+    assert!(rt; sink.written().ends_with(&fields));
+    Ok(())
+}
+
+#[test]
+fn printed_faults(rt: HostRuntime) -> Result<(), AllocError> {
+    for (fault, text) in [
+        (FrameFault::Truncated, "the input ends inside a frame"),
+        (FrameFault::Read, "the source failed"),
+        (FrameFault::NoMemory, "out of memory"),
+        (
+            FrameFault::BadDirection,
+            "a byte before a frame is no direction",
+        ),
+    ] {
+        assert!(rt; format!(in rt.alloc(); "{fault}")?.as_str() == text);
+    }
+    Ok(())
+}
+
+// The answers of five calls over a record, each with the form that is known then.
+fn told_of_record<R: Source>(alloc: Global, source: &mut R) -> Result<String, AllocError> {
+    let mut reader = RecordReader::new(alloc, source);
+    let mut text = format!(in alloc; "{:?}:", reader.form())?;
+    for _ in 0..5u8 {
+        let answer = match reader.next() {
+            Ok(Some((direction, Frame::Message(m)))) => {
+                format!(in alloc; "{direction:?} {m:?}")?
+            }
+            Ok(Some((direction, bad))) => format!(in alloc; "{direction:?} {bad:?}")?,
+            Ok(None) => format!(in alloc; "end")?,
+            Err(fault) => format!(in alloc; "{fault:?}")?,
+        };
+        text.push_str(&format!(in alloc; "{answer} {:?};", reader.form())?)?;
+    }
+    Ok(text)
+}
+
+// The same however the record is cut.
+fn expect_record(rt: &impl Abort, alloc: Global, record: &[u8], answers: &str) {
+    for at_most in [1, 7, usize::MAX] {
+        let mut source = MemSource::new(record).at_most(at_most);
+        let text = told_of_record(alloc, &mut source).expect(rt, "memory");
+        assert!(rt; text.starts_with(answers), "{text}");
+    }
+}
+
+#[test]
+fn records_of_form_1(rt: HostRuntime) {
+    for (record, answers) in [
+        (&[] as &[u8], "None:end Some(1);end Some(1);"),
+        (
+            &RECORD,
+            "None:In KeepAlive Some(1);\
+             In Piece { index: 0, begin: 0, block: [97, 98, 99] } Some(1);\
+             In Other { id: 4, len: 5 } Some(1);Truncated Some(1);Truncated Some(1);",
+        ),
+        (
+            &RECORD[..28],
+            "None:In KeepAlive Some(1);\
+             In Piece { index: 0, begin: 0, block: [97, 98, 99] } Some(1);\
+             Truncated Some(1);",
+        ),
+        (&RECORD[..4], "None:In KeepAlive Some(1);end Some(1);"),
+    ] {
+        expect_record(&rt, rt.alloc(), record, answers);
+    }
+}
+
+#[test]
+fn records_of_form_2(rt: HostRuntime) {
+    for (record, answers) in [
+        (
+            b"\xff\xff\xff\xffBTH" as &[u8],
+            "None:Truncated None;Truncated None;",
+        ),
+        (
+            b"\xff\xff\xff\xffBTH3\0",
+            "None:Truncated None;Truncated None;",
+        ),
+        (b"\xff\xff\xff\xffBTH2", "None:end Some(2);end Some(2);"),
+        (
+            b"\xff\xff\xff\xffBTH2\0\0\0\0\0\x01\0\0\0\x02\x15\0",
+            "None:In KeepAlive Some(2);Out BadSize { id: 21, len: 2 } Some(2);end Some(2);",
+        ),
+        (
+            b"\xff\xff\xff\xffBTH2\x02",
+            "None:BadDirection None;BadDirection None;",
+        ),
+        (
+            b"\xff\xff\xff\xffBTH2\x01\0\0\0\0\x02\0",
+            "None:Out KeepAlive Some(2);BadDirection Some(2);BadDirection Some(2);",
+        ),
+        (
+            b"\xff\xff\xff\xffBTH2\0",
+            "None:Truncated None;Truncated None;",
+        ),
+    ] {
+        expect_record(&rt, rt.alloc(), record, answers);
+    }
+}
+
+// Whether a record's one frame is read by a reader that takes its room before.
+fn reads_record_with_room<R: Source>(alloc: Global, source: &mut R) -> bool {
+    let mut reader = RecordReader::new(alloc, source);
+    reader.reserve().is_ok()
+        && matches!(
+            reader.next(),
+            Ok(Some((Direction::In, Frame::Message(Message::Piece { .. }))))
+        )
+        && matches!(reader.next(), Ok(None))
+}
+
+#[test]
+fn a_record_is_read_with_room(rt: HostRuntime) {
+    let bytes = frame(rt.alloc(), 7, 10).expect(&rt, "memory");
+    let mut source = MemSource::new(&bytes);
+    let is_read = reads_record_with_room(rt.alloc(), &mut source);
+    assert!(rt; is_read);
+}
