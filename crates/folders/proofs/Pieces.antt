@@ -265,14 +265,14 @@ pub finished : (pl bound count : ℕ) (e : TreeEntry) (source source' : SourceSe
     → (told ≡ length file) × (root ≡ root_of file) × IsFirstBadNode after.pieces file place)
     → IsToldOf pl e read.bytes root place
 finished pl bound count e source source' before after told root place read same of fresh finish =
-    let end = finish read.bytes (read.taken.fed [] fresh) in
+    let end = finish read.bytes (read.taken.tree.fed [] fresh) in
     let layer = chosen_layer after.pieces in
     record {
       layer = layer;
       hashes = given_hashes after.pieces;
       of =
-          subst (λ l. IsComparedLayer pl e l (given_hashes after.pieces)) (sym read.taken.layer)
-          (subst (λ hs. IsComparedLayer pl e (chosen_layer before.pieces) hs) (sym read.taken.hashes) of);
+          subst (λ l. IsComparedLayer pl e l (given_hashes after.pieces)) (sym read.taken.tree.layer)
+          (subst (λ hs. IsComparedLayer pl e (chosen_layer before.pieces) hs) (sym read.taken.tree.hashes) of);
       length_is = read.count_is ∙ sym same;
       root_is = end.1;
       size_is = end.2.size_is;

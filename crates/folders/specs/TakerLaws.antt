@@ -1,11 +1,11 @@
 -- The laws of what takes a file's bytes: several parts are one, and leave room for less.
 use Rattle.std.proofs.Common.{◌≡◌, ℕ, ◌+◌, ◌≤◌, ◌++◌, List, [], length, Option, Some, None, refl, sym, ◌∙◌, subst, append_assoc, append-nil, arith}
 use Rattle.std.proofs.lemmas.List.{length-append}
-use Rattle.hashtree.specs.RootBuilder.{IsFed}
+use Rattle.hashtree.specs.RootBuilder.{Feeds, IsFed}
 use Rattle.hashtree.specs.declared.RootBuilder.{RootBuilder}
 use Rattle.hashtree.specs.PieceCheck.{IsFedCheck}
 use Rattle.metainfo.specs.Feeding.{bytes_given, total}
-use Rattle.folders.specs.Feeding.{Builds, CanBuild, CanFeed, FeedsBoth}
+use Rattle.folders.specs.Feeding.{CanBuild, CanFeed, FeedsBoth}
 use Rattle.folders.specs.declared.file_check.FileCheck.{FileCheck}
 use Rattle.folders.specs.Streaming.{HasStreamRoom, IsStreamGiven, StandsAt, Takes}
 use Rattle.pieces.specs.declared.v1_feed.V1Feed.{V1Feed}
@@ -51,14 +51,14 @@ takes_less (Some r) m n room le = omega (arith, room, le)
 
 -- ---- a builder of a root
 
-pub built_none : (b : RootBuilder) → Builds b [] b
+pub built_none : (b : RootBuilder) → Feeds b [] b
 built_none b = record {
   count = omega arith;
   fed = λ file fed. subst (IsFed b) (sym (append-nil file)) fed;
 }
 
 pub built_both : (a b c : RootBuilder) (x y : List ℕ)
-    → Builds a x b → Builds b y c → Builds a (x ++ y) c
+    → Feeds a x b → Feeds b y c → Feeds a (x ++ y) c
 built_both a b c x y one two = record {
   count = omega (arith, one.count, two.count, length-append x y);
   fed = λ file fed.
@@ -66,7 +66,7 @@ built_both a b c x y one two = record {
 }
 
 pub built_room : (a b : RootBuilder) (x : List ℕ) (n : ℕ)
-    → Builds a x b → CanBuild a (length x + n) → CanBuild b n
+    → Feeds a x b → CanBuild a (length x + n) → CanBuild b n
 built_room a b x n one room = omega (arith, one.count, room)
 
 pub built_less : (b : RootBuilder) (m n : ℕ) → CanBuild b n → m ≤ n → CanBuild b m
@@ -76,30 +76,35 @@ built_less b m n room le = omega (arith, room, le)
 
 pub fed_no_bytes : (c : FileCheck) → FeedsBoth c [] c
 fed_no_bytes c = record {
-  count = omega arith;
-  shape = refl;
-  layer = refl;
-  hashes = refl;
-  fed = λ file fed. subst (IsFedCheck c.pieces) (sym (append-nil file)) fed;
+  tree = record {
+    count = omega arith;
+    shape = refl;
+    layer = refl;
+    hashes = refl;
+    fed = λ file fed. subst (IsFedCheck c.pieces) (sym (append-nil file)) fed;
+  };
   streamed = takes_nothing c.stream.feed;
 }
 
 pub fed_both : (a b c : FileCheck) (x y : List ℕ) → FeedsBoth a x b → FeedsBoth b y c
     → FeedsBoth a (x ++ y) c
 fed_both a b c x y one two = record {
-  count = omega (arith, one.count, two.count, length-append x y);
-  shape = two.shape ∙ one.shape;
-  layer = two.layer ∙ one.layer;
-  hashes = two.hashes ∙ one.hashes;
-  fed = λ file fed.
-      subst (IsFedCheck c.pieces) (append_assoc file x y) (two.fed (file ++ x) (one.fed file fed));
+  tree = record {
+    count = omega (arith, one.tree.count, two.tree.count, length-append x y);
+    shape = two.tree.shape ∙ one.tree.shape;
+    layer = two.tree.layer ∙ one.tree.layer;
+    hashes = two.tree.hashes ∙ one.tree.hashes;
+    fed = λ file fed.
+        subst (IsFedCheck c.pieces) (append_assoc file x y)
+        (two.tree.fed (file ++ x) (one.tree.fed file fed));
+  };
   streamed = takes_append a.stream.feed b.stream.feed c.stream.feed x y one.streamed two.streamed;
 }
 
 pub fed_room : (a b : FileCheck) (x : List ℕ) (n : ℕ)
     → FeedsBoth a x b → CanFeed a (length x + n) → CanFeed b n
 fed_room a b x n one room = (
-  omega (arith, one.count, one.shape, room.0),
+  omega (arith, one.tree.count, one.tree.shape, room.0),
   takes_room a.stream.feed b.stream.feed x n (length x + n) one.streamed room.1 (omega arith),
 )
 

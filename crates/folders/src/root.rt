@@ -102,12 +102,13 @@ fn read_content<R: Source>(source: &mut R) -> Result<Reading, DeviceFault>
 }
 
 impl Taker for RootBuilder {
-    ghost use Rattle.folders.specs.Feeding.{Builds, CanBuild};
+    ghost use Rattle.hashtree.specs.RootBuilder.{Feeds};
+    ghost use Rattle.folders.specs.Feeding.{CanBuild};
     ghost use Rattle.folders.specs.TakerLaws.{built_none, built_both, built_room, built_less};
 
     ghost has_room = { CanBuild };
 
-    ghost took = { Builds };
+    ghost took = { Feeds };
 
     fn take(&mut self, part: &[u8]) {
         self.push(part);

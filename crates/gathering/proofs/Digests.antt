@@ -50,7 +50,7 @@ empty_told told none no_hashes piece_length hybrid = record {
 fed_whole : (before after : LayerBuilder) (content : List ℕ) → IsFedLayer before [] → (HasRefused after → ⊥) → Collects before content after → IsFedLayer after content
 fed_whole before after content nothing works builds = elim builds.fed [
   | inl refused ↦ absurd (works refused)
-  | inr fed ↦ fed.1 [] nothing
+  | inr fed ↦ fed.fed [] nothing
 ]
 
 cut_whole : (before after : V1Cuts) (content : List ℕ) (piece_length : ℕ) → IsFedCuts before piece_length [] → (cut.HasRefused after → ⊥) → CutsBytes before content after
@@ -71,11 +71,11 @@ v1_told piece_length hybrid (Some b) (Some c) content v1 begins takes ends is =
 pub told_whole : (piece_length : ℕ) (hybrid : Bool) (before after : Hashing) (content : List ℕ) (told : FileHashes) → Begins piece_length hybrid before → Hashes before content after
     → EndsWithHashes after told → AreHashesOf piece_length hybrid content told
 told_whole piece_length hybrid before after content told begins hashes ends =
-    let tree = ends.tree.1 content (fed_whole before.tree after.tree content begins.tree ends.tree.0 hashes.tree) in
+    let tree = ends.tree.1 content (fed_whole before.tree after.tree content begins.tree.fed ends.tree.0 hashes.tree) in
     record {
       length_is = tree.0;
       root_is = λ _. tree.1;
-      layer_is = tree.2 ∙ ap (layer_of content) (hashes.tree.layer ∙ begins.layer);
+      layer_is = tree.2 ∙ ap (layer_of content) (hashes.tree.layer ∙ begins.tree.layer_is);
       v1_is = λ is some. v1_told piece_length hybrid before.cuts after.cuts content told.v1 begins.cuts hashes.cuts ends.cuts is;
     }
 
@@ -123,11 +123,11 @@ layer_kept piece_length layer content is some none = some (ap (layer_of content)
 
 early : (piece_length : ℕ) (hybrid : Bool) (before after : Hashing) (content : List ℕ) → Begins piece_length hybrid before → Hashes before content after → 0 < length content
     → HasRefused after.tree → piece_hashes piece_length content ≡ [] → ⊥
-early piece_length hybrid before after content begins hashes some refused = elim (hashes.tree.why refused [] begins.tree) [
-  | inl first ↦ λ _. begins.works first
+early piece_length hybrid before after content begins hashes some refused = elim (hashes.tree.why refused [] begins.tree.fed) [
+  | inl first ↦ λ _. begins.tree.works first
   | inr node ↦
-      let count : byte_count before.tree + length content ≡ length content = omega (arith, begins.count) in
-      layer_kept piece_length (chosen_layer before.tree) content begins.layer
+      let count : byte_count before.tree + length content ≡ length content = omega (arith, begins.tree.count) in
+      layer_kept piece_length (chosen_layer before.tree) content begins.tree.layer_is
       (low_has_hash content (chosen_layer before.tree) some
       (complete_is_low (chosen_layer before.tree) (length content) (subst (λ n. 0 < complete_count (chosen_layer before.tree) n) count node)))
 ]
@@ -136,7 +136,7 @@ early piece_length hybrid before after content begins hashes some refused = elim
 pub may_finish : (before after : Hashing) (content : List ℕ) → Hashes before content after → 0 < length content → MayFinish after.tree
 may_finish before after content hashes some = elim hashes.tree.fed [
   | inl refused ↦ inl refused
-  | inr fed ↦ inr (omega (arith, fed.0, some))
+  | inr fed ↦ inr (omega (arith, fed.count, some))
 ]
 
 -- if memory was refused, digests were to be kept
@@ -149,8 +149,8 @@ kept_digests piece_length hybrid before after content begins hashes some why = e
     | inr last ↦ elim hashes.tree.fed [
       | inl refused ↦ inl (early piece_length hybrid before after content begins hashes some refused)
       | inr fed ↦
-          let count : byte_count after.tree ≡ length content = omega (arith, fed.0, begins.count) in
-          inl (layer_kept piece_length (chosen_layer after.tree) content (hashes.tree.layer ∙ begins.layer)
+          let count : byte_count after.tree ≡ length content = omega (arith, fed.count, begins.tree.count) in
+          inl (layer_kept piece_length (chosen_layer after.tree) content (hashes.tree.layer ∙ begins.tree.layer_is)
           (low_has_hash content (chosen_layer after.tree) some (subst (λ n. chosen_layer after.tree ≤ height (block_count n)) count last.has_layer)))
     ]
   ]

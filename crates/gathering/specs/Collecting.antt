@@ -11,8 +11,7 @@ pub record Collects (old : LayerBuilder) (bytes : List ℕ) (new : LayerBuilder)
   pub at_most : byte_count new ≤ byte_count old + length bytes
   pub at_least : byte_count old ≤ byte_count new
   pub again : HasRefused old → HasRefused new
-  pub fed : HasRefused new
-      ⊎ ((byte_count new ≡ byte_count old + length bytes) × FeedsLayer old new bytes)
+  pub fed : HasRefused new ⊎ FeedsLayer old bytes new
   pub why : HasRefused new → (file : List ℕ) → IsFedLayer old file
       → HasRefused old
       ⊎ (0 < complete_count (chosen_layer old) (byte_count old + length bytes))

@@ -1,6 +1,6 @@
 -- The laws of what takes a file's bytes for a layer of its tree: several parts are one, and leave
 -- room for less.
-use Rattle.std.proofs.Common.{◌≡◌, ◌⊎◌, inl, inr, ℕ, ◌+◌, ◌-◌, ◌*◌, ◌/◌, ◌^◌, ◌<◌, ◌≤◌, ◌++◌, List, [], length, refl, sym, ◌∙◌, subst, append_assoc, append-nil, arith}
+use Rattle.std.proofs.Common.{◌≡◌, ◌⊎◌, inl, inr, Bool, true, false, ℕ, ◌+◌, ◌-◌, ◌*◌, ◌/◌, ◌^◌, ◌<◌, ◌≤◌, ◌++◌, List, [], length, refl, sym, ◌∙◌, subst, append_assoc, append-nil, arith}
 use Rattle.std.proofs.Math.Nat.{div-mul-le_self}
 use Rattle.std.proofs.lemmas.List.{length-append}
 use Rattle.std.proofs.lemmas.Nat.{le-div, pow_pos}
@@ -8,16 +8,25 @@ use Rattle.hashtree.specs.LayerBuilder.{FeedsLayer, HasRefused, IsFedLayer, byte
 use Rattle.hashtree.specs.declared.layer.LayerBuilder.{LayerBuilder}
 use Rattle.gathering.specs.Collecting.{CanCollect, Collects}
 
+refused_or_not : (flag : Bool) → (flag ≡ true) ⊎ (flag ≡ true → ⊥)
+refused_or_not true = inl refl
+refused_or_not false = inr (λ e. absurd cc)
+
 pub collected_none : (b : LayerBuilder) → Collects b [] b
 collected_none b = record {
   layer = refl;
   at_most = omega arith;
   at_least = omega arith;
   again = λ refused. refused;
-  fed = inr (
-    let e : byte_count b ≡ byte_count b + 0 = omega arith in e,
-    λ file fed. subst (IsFedLayer b) (sym (append-nil file)) fed,
-  );
+  fed = elim (refused_or_not b.is_refused) [
+    | inl refused ↦ inl refused
+    | inr works ↦ inr (record {
+      count = omega arith;
+      layer = refl;
+      fed = λ file fed. subst (IsFedLayer b) (sym (append-nil file)) fed;
+      works = works;
+    })
+  ];
   why = λ refused file fed. inl refused;
 }
 
@@ -35,17 +44,18 @@ more_complete layer m n le some =
     omega (arith, b, some)
 
 both_fed : (a b c : LayerBuilder) (x y : List ℕ) → Collects a x b → Collects b y c
-    → HasRefused c ⊎ ((byte_count c ≡ byte_count a + length (x ++ y)) × FeedsLayer a c (x ++ y))
+    → HasRefused c ⊎ FeedsLayer a (x ++ y) c
 both_fed a b c x y one two = elim two.fed [
   | inl refused ↦ inl refused
   | inr next ↦ elim one.fed [
     | inl refused ↦ inl (two.again refused)
-    | inr first ↦ inr (
-      let e : byte_count c ≡ byte_count a + length (x ++ y) =
-          omega (arith, next.0, first.0, length-append x y) in e,
-      λ file fed. subst (IsFedLayer c) (append_assoc file x y)
-          (next.1 (file ++ x) (first.1 file fed)),
-    )
+    | inr first ↦ inr (record {
+      count = omega (arith, next.count, first.count, length-append x y);
+      layer = next.layer ∙ first.layer;
+      fed = λ file fed. subst (IsFedLayer c) (append_assoc file x y)
+          (next.fed (file ++ x) (first.fed file fed));
+      works = next.works;
+    })
   ]
 ]
 
@@ -64,11 +74,11 @@ both_why : (a b c : LayerBuilder) (x y : List ℕ) → Collects a x b → Collec
     → HasRefused a ⊎ (0 < complete_count (chosen_layer a) (byte_count a + length (x ++ y)))
 both_why a b c x y one two refused file fed = elim one.fed [
   | inl early ↦ in_first a b x y one early file fed
-  | inr first ↦ elim (two.why refused (file ++ x) (first.1 file fed)) [
+  | inr first ↦ elim (two.why refused (file ++ x) (first.fed file fed)) [
     | inl early ↦ in_first a b x y one early file fed
     | inr some ↦ inr (
         let e : byte_count b + length y ≡ byte_count a + length (x ++ y) =
-        omega (arith, first.0, length-append x y) in
+        omega (arith, first.count, length-append x y) in
         subst (λ n. 0 < complete_count (chosen_layer a) n) e
         (subst (λ l. 0 < complete_count l (byte_count b + length y)) one.layer some)
         )

@@ -5,7 +5,7 @@ use Rattle.gathering.specs.Collecting.{CanCollect, Collects, EndsWithWhole, MayL
 use Rattle.gathering.specs.Gathered.{piece_hashes}
 use Rattle.gathering.specs.declared.hashing.FileHashes.{FileHashes}
 use Rattle.gathering.specs.declared.hashing.Hashing.{Hashing}
-use Rattle.hashtree.specs.LayerBuilder.{HasRefused, IsFedLayer, byte_count, chosen_layer}
+use Rattle.hashtree.specs.LayerBuilder.{BeginsLayer}
 use Rattle.hashtree.specs.Tree.{root_of}
 use Rattle.opening.specs.PieceLayers.{piece_layer}
 use Rattle.pieces.specs.FileCuts.{EndsWithFile, FeedsCuts, IsFedCuts, IsV1File}
@@ -22,10 +22,7 @@ BeginsCuts piece_length hybrid (Some c) = (hybrid ≡ true) × IsFedCuts c piece
 
 -- nothing was hashed yet of a file
 pub record Begins (piece_length : ℕ) (hybrid : Bool) (h : Hashing) : Type 0 where
-  pub count : byte_count h.tree ≡ 0
-  pub layer : chosen_layer h.tree ≡ piece_layer piece_length
-  pub tree : IsFedLayer h.tree []
-  pub works : HasRefused h.tree → ⊥
+  pub tree : BeginsLayer (piece_layer piece_length) h.tree
   pub cuts : BeginsCuts piece_length hybrid h.cuts
 
 -- ---- parts

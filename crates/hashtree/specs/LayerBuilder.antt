@@ -1,6 +1,6 @@
 -- What the builder of a layer was given. Contracts of users cite these, and need nothing of how
 -- they are defined.
-use Rattle.std.specs.Prelude.{◌≡◌, ℕ, ◌+◌, ◌-◌, ◌/◌, ◌^◌, ◌<◌, ◌≤◌, ◌++◌, List, length, true, vec_len}
+use Rattle.std.specs.Prelude.{◌≡◌, ◌⊎◌, ℕ, ◌+◌, ◌-◌, ◌/◌, ◌^◌, ◌<◌, ◌≤◌, ◌++◌, [], List, length, true, vec_len}
 use Rattle.std.specs.Vec.{vec_capacity}
 use Rattle.hashtree.specs.Tree.{block_count, height, layer_of, root_of}
 use Rattle.hashtree.specs.RootBuilder.{IsFed, complete_nodes}
@@ -43,10 +43,31 @@ pub record IsFedLayer (b : LayerBuilder) (content : List ℕ) : Type 0 where
   pub fed : IsFed b.builder content
   pub hashes_are : b.hashes.items ≡ complete_nodes b.builder content b.layer
 
--- the builder was given these further bytes
-abbrev pub FeedsLayer : LayerBuilder → LayerBuilder → List ℕ → Type 0
-FeedsLayer old new bytes =
-    (file : List ℕ) → IsFedLayer old file → IsFedLayer new (file ++ bytes)
+-- nothing was given yet to a builder of this layer, and no memory was taken
+pub record BeginsLayer (layer : ℕ) (b : LayerBuilder) : Type 0 where
+  pub count : byte_count b ≡ 0
+  pub layer_is : chosen_layer b ≡ layer
+  pub fed : IsFedLayer b []
+  pub works : HasRefused b → ⊥
+  pub no_memory : spare b ≡ 0
+
+-- the builder was given these further bytes, and no memory was refused
+pub record FeedsLayer (old : LayerBuilder) (bytes : List ℕ) (new : LayerBuilder) : Type 0 where
+  pub count : byte_count new ≡ byte_count old + length bytes
+  pub layer : chosen_layer new ≡ chosen_layer old
+  pub fed : (file : List ℕ) → IsFedLayer old file → IsFedLayer new (file ++ bytes)
+  pub works : HasRefused new → ⊥
+
+-- memory was refused, now or before, and at most these further bytes were taken; if it was not
+-- refused before, keeping the nodes that they complete takes memory
+pub record FeedsUntilRefused (old : LayerBuilder) (bytes : List ℕ) (new : LayerBuilder)
+    : Type 0 where
+  pub refused : HasRefused new
+  pub layer : chosen_layer new ≡ chosen_layer old
+  pub at_most : byte_count new ≤ byte_count old + length bytes
+  pub at_least : byte_count old ≤ byte_count new
+  pub why : (file : List ℕ) → IsFedLayer old file
+      → HasRefused old ⊎ TakesMemory old (length bytes)
 
 -- this is the length, the root and the layer of the content that the builder was given
 abbrev pub EndsWithLayer : LayerBuilder → ℕ → List ℕ → List (List ℕ) → Type 0

@@ -1,6 +1,6 @@
 -- What a check against a layer was given. Contracts of users cite these, and need nothing of how
 -- they are defined.
-use Rattle.std.specs.Prelude.{◌≡◌, ℕ, ◌≤◌, ◌++◌, List, Option, length}
+use Rattle.std.specs.Prelude.{◌≡◌, ℕ, ◌+◌, ◌≤◌, ◌++◌, [], List, Option, length}
 use Rattle.hashtree.specs.Tree.{block_count, first_pad, height, layer_of}
 use Rattle.hashtree.specs.Difference.{IsCompared, IsComparison}
 use Rattle.hashtree.specs.RootBuilder.{IsFed, complete_nodes}
@@ -30,10 +30,21 @@ pub record IsFedCheck (c : PieceCheck) (content : List ℕ) : Type 0 where
   pub whole : length c.hashes.now ≡ first_pad (block_count c.shape) c.layer
   pub nodes : IsCompared c.hashes.now (complete_nodes c.builder content c.layer) c.place c.other
 
+-- nothing was given yet to a check of a file of this length against the hashes of this layer
+pub record BeginsCheck (shape layer : ℕ) (hashes : List (List ℕ)) (c : PieceCheck) : Type 0 where
+  pub count : byte_count c ≡ 0
+  pub shape_is : chosen_shape c ≡ shape
+  pub layer_is : chosen_layer c ≡ layer
+  pub hashes_are : given_hashes c ≡ hashes
+  pub fed : IsFedCheck c []
+
 -- the check was given these further bytes
-abbrev pub FeedsCheck : PieceCheck → PieceCheck → List ℕ → Type 0
-FeedsCheck old new bytes =
-    (file : List ℕ) → IsFedCheck old file → IsFedCheck new (file ++ bytes)
+pub record FeedsCheck (old : PieceCheck) (bytes : List ℕ) (new : PieceCheck) : Type 0 where
+  pub count : byte_count new ≡ byte_count old + length bytes
+  pub shape : chosen_shape new ≡ chosen_shape old
+  pub layer : chosen_layer new ≡ chosen_layer old
+  pub hashes : given_hashes new ≡ given_hashes old
+  pub fed : (file : List ℕ) → IsFedCheck old file → IsFedCheck new (file ++ bytes)
 
 -- the first place of the checked layer of this file whose node is not the given hash, if any
 pub record IsFirstBadNode (c : PieceCheck) (file : List ℕ) (other : Option ℕ) : Type 0 where

@@ -27,12 +27,13 @@ abbrev pub complete_nodes : RootBuilder → List ℕ → ℕ → List (List ℕ)
 complete_nodes b content layer = climb layer (block_hashes content b.peaks.count)
 
 -- the builder was given these further bytes
-abbrev pub Feeds : RootBuilder → RootBuilder → List ℕ → Type 0
-Feeds old new bytes = (file : List ℕ) → IsFed old file → IsFed new (file ++ bytes)
+pub record Feeds (old : RootBuilder) (bytes : List ℕ) (new : RootBuilder) : Type 0 where
+  pub count : byte_count new ≡ byte_count old + length bytes
+  pub fed : (file : List ℕ) → IsFed old file → IsFed new (file ++ bytes)
 
 -- the further bytes complete this node of a layer, or none
-abbrev pub Completes : RootBuilder → RootBuilder → List ℕ → ℕ → Option (List ℕ) → Type 0
-Completes old new bytes layer node = (file : List ℕ) → IsFed old file
+abbrev pub Completes : RootBuilder → List ℕ → RootBuilder → ℕ → Option (List ℕ) → Type 0
+Completes old bytes new layer node = (file : List ℕ) → IsFed old file
     → complete_nodes new (file ++ bytes) layer
     ≡ complete_nodes old file layer ++ option_to_list node
 

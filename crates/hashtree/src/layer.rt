@@ -21,15 +21,11 @@ pub struct LayerBuilder {
 }
 
 impl LayerBuilder {
-    ghost use Rattle.hashtree.specs.LayerBuilder.{EndTakesMemory, EndsWithLayer, FeedsLayer, HasRefused, IsFedLayer, TakesMemory, byte_count, chosen_layer, spare};
+    ghost use Rattle.hashtree.specs.LayerBuilder.{BeginsLayer, EndTakesMemory, EndsWithLayer, FeedsLayer, HasRefused, FeedsUntilRefused, byte_count};
 
     /// A builder of this layer that was given nothing. It takes no memory.
     pub fn new(alloc: Global, layer: u32) -> LayerBuilder
-        ensures count { byte_count result ≡ 0 }
-        ensures layer { chosen_layer result ≡ layer }
-        ensures content { IsFedLayer result [] }
-        ensures works { ¬ HasRefused result }
-        ensures no_memory { spare result ≡ 0 }
+        ensures { BeginsLayer layer result }
     {
         LayerBuilder {
             builder: RootBuilder::new(),
@@ -62,17 +58,9 @@ impl LayerBuilder {
     /// earlier one.
     pub fn push(&mut self, bytes: &[u8]) -> Result<(), NoMemory>
         requires { byte_count self.old + length bytes.now ≤ 2 ^ 46 }
-        ensures layer { chosen_layer self.new ≡ chosen_layer self.old }
-        ensures count { OnOk result (byte_count self.new ≡ byte_count self.old + length bytes.now) }
-        ensures content { OnOk result (FeedsLayer self.old self.new bytes.now) }
-        ensures refused { OnErr result (HasRefused self.new) }
+        ensures fed { OnOk result (FeedsLayer self.old bytes.now self.new) }
+        ensures refused { OnErr result (FeedsUntilRefused self.old bytes.now self.new) }
         ensures again { HasRefused self.old → IsErr result }
-        ensures works { OnOk result (¬ HasRefused self.new) }
-        ensures memory { OnErr result ((file : List ℕ) → IsFedLayer self.old file
-            → HasRefused self.old ⊎ TakesMemory self.old (length bytes.now)) }
-        // After a refusal too a caller may go on, and finish.
-        ensures at_most { byte_count self.new ≤ byte_count self.old + length bytes.now }
-        ensures at_least { byte_count self.old ≤ byte_count self.new }
     {
         if self.is_refused {
             return Err(NoMemory);

@@ -24,7 +24,7 @@ pub struct PieceCheck<'a> {
 }
 
 impl<'a> PieceCheck<'a> {
-    ghost use Rattle.hashtree.specs.PieceCheck.{FeedsCheck, IsFedCheck, IsFirstBadNode, byte_count, chosen_layer, chosen_shape, given_hashes};
+    ghost use Rattle.hashtree.specs.PieceCheck.{BeginsCheck, FeedsCheck, IsFedCheck, IsFirstBadNode, byte_count, chosen_shape};
 
     /// A check that was given nothing yet: of a file of this shape, against the hashes of this
     /// layer without its pads. Conditions: the layer is at most [`Shape::height`], and there are as
@@ -32,11 +32,7 @@ impl<'a> PieceCheck<'a> {
     pub fn new(shape: Shape, layer: u32, hashes: &'a [Hash]) -> PieceCheck<'a>
         requires in_tree { layer ≤ height (block_count shape) }
         requires whole { length hashes.now ≡ first_pad (block_count shape) layer }
-        ensures count { byte_count result ≡ 0 }
-        ensures shape { chosen_shape result ≡ shape }
-        ensures layer { chosen_layer result ≡ layer }
-        ensures hashes { given_hashes result ≡ hashes.entry.now }
-        ensures content { IsFedCheck result [] }
+        ensures { BeginsCheck shape layer hashes.entry.now result }
     {
         PieceCheck {
             builder: RootBuilder::new(),
@@ -66,11 +62,7 @@ impl<'a> PieceCheck<'a> {
     /// most the shape's length.
     pub fn push(&mut self, bytes: &[u8])
         requires { byte_count self.old + length bytes.now ≤ chosen_shape self.old }
-        ensures count { byte_count self.new ≡ byte_count self.old + length bytes.now }
-        ensures shape { chosen_shape self.new ≡ chosen_shape self.old }
-        ensures layer { chosen_layer self.new ≡ chosen_layer self.old }
-        ensures hashes { given_hashes self.new ≡ given_hashes self.old }
-        ensures content { FeedsCheck self.old self.new bytes.now }
+        ensures { FeedsCheck self.old bytes.now self.new }
     {
         let mut start = 0;
         'parts: while start < bytes.len() {

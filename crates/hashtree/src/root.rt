@@ -59,8 +59,7 @@ impl RootBuilder {
     /// 2^46 together.
     pub fn push(&mut self, bytes: &[u8])
         requires { byte_count self.old + length bytes.now ≤ 2 ^ 46 }
-        ensures count { byte_count self.new ≡ byte_count self.old + length bytes.now }
-        ensures content { Feeds self.old self.new bytes.now }
+        ensures { Feeds self.old bytes.now self.new }
     {
         let mut start = 0;
         'parts: while start < bytes.len() {
@@ -112,9 +111,8 @@ impl RootBuilder {
         requires room { byte_count self.old + length bytes.now ≤ 2 ^ 46 }
         ensures some { 0 < result.0 }
         ensures bound { result.0 ≤ length bytes.now }
-        ensures count { byte_count self.new ≡ byte_count self.old + result.0 }
-        ensures content { Feeds self.old self.new (take result.0 bytes.now) }
-        ensures node { Completes self.old self.new (take result.0 bytes.now) layer result.1 }
+        ensures fed { Feeds self.old (take result.0 bytes.now) self.new }
+        ensures node { Completes self.old (take result.0 bytes.now) self.new layer result.1 }
     {
         let completed = if self.filled == BLOCK {
             self.close_block(layer)

@@ -4,12 +4,18 @@ use Rattle.hashtree.specs.Difference.{IsCompared}
 use Rattle.hashtree.proofs.Keeping.{none_complete}
 use Rattle.hashtree.proofs.piece_check.PieceCheck.new.Goals as goal
 
-pub returns-clause-content : goal.returns-clause-content
-returns-clause-content c =
+pub returns : goal.returns
+returns c =
     let none : complete_nodes c.new.result [] c.args.layer ≡ [] = none_complete c.new.result c.args.layer (omega (arith, c.new.ensures.count)) in
     record {
-      fed = c.new.ensures.content;
-      in_tree = c.requires.in_tree;
-      whole = c.requires.whole;
-      nodes = subst (λ t. IsCompared c.args.hashes.now t 0 None) (sym none) (record { place_is = refl; compared = refl });
+      count = c.new.ensures.count;
+      shape_is = refl;
+      layer_is = refl;
+      hashes_are = refl;
+      fed = record {
+        fed = c.new.ensures.content;
+        in_tree = c.requires.in_tree;
+        whole = c.requires.whole;
+        nodes = subst (λ t. IsCompared c.args.hashes.now t 0 None) (sym none) (record { place_is = refl; compared = refl });
+      };
     }

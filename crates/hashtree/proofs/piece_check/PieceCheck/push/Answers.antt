@@ -4,7 +4,7 @@ use Rattle.std.proofs.lemmas.List.{length-append, take_all, take_rest, length-dr
 use Rattle.hashtree.specs.Tree.{block_count, first_pad}
 use Rattle.hashtree.specs.RootBuilder.{byte_count, complete_nodes}
 use Rattle.hashtree.specs.PieceCheck.{IsFedCheck}
-use Rattle.hashtree.proofs.Feeding.{next_part}
+use Rattle.hashtree.proofs.Feeding.{length_part, next_part}
 use Rattle.hashtree.proofs.Comparing.{checked, room_for_nodes}
 use Rattle.hashtree.proofs.piece_check.PieceCheck.push.Goals as goal
 
@@ -15,27 +15,35 @@ parts-preserved c =
     let taken = c.take_part-taken.result.0 in
     let mid = c.take_part-taken.new.self in
     let layer = c.parts.self.layer in
+    let fed = c.take_part-taken.ensures.fed in
+    let size = length_part bytes start taken c.take_part-taken.ensures.bound in
     record {
       within = omega (arith, c.take_part-taken.ensures.bound, ap length (take_rest bytes start), length-drop start bytes);
-      count = omega (arith, c.take_part-taken.ensures.count, c.parts.invariant.count);
+      count = omega (arith, fed.count, size, c.parts.invariant.count);
       shape = c.parts.invariant.shape;
       layer = c.parts.invariant.layer;
       hashes = c.parts.invariant.hashes;
-      content = λ file fed.
+      content = λ file is_fed.
           let part = take taken (take (length bytes - start) (drop start bytes)) in
-          let at = c.parts.invariant.content file fed in
+          let at = c.parts.invariant.content file is_fed in
           let xs = complete_nodes c.parts.self.builder (file ++ take start bytes) layer in
           let done = c.take_part-taken.ensures.node (file ++ take start bytes) at.fed in
-          let more = c.take_part-taken.ensures.content (file ++ take start bytes) at.fed in
-          let len : byte_count mid ≤ c.parts.self.shape = omega (arith, c.take_part-taken.ensures.count, c.take_part-taken.ensures.bound, ap length (take_rest bytes start), length-drop start bytes, c.parts.invariant.count, c.parts.invariant.shape, c.requires) in
+          let more = fed.fed (file ++ take start bytes) at.fed in
+          let len : byte_count mid ≤ c.parts.self.shape = omega (arith, fed.count, size, c.take_part-taken.ensures.bound, ap length (take_rest bytes start), length-drop start bytes, c.parts.invariant.count, c.parts.invariant.shape, c.requires) in
           let room : length (complete_nodes mid ((file ++ take start bytes) ++ part) layer) ≤ first_pad (block_count c.parts.self.shape) layer =
-          room_for_nodes mid ((file ++ take start bytes) ++ part) c.parts.self.shape layer more (omega (arith, c.take_part-taken.ensures.count, c.take_part-taken.ensures.some)) mid.in_block len in
+          room_for_nodes mid ((file ++ take start bytes) ++ part) c.parts.self.shape layer more (omega (arith, fed.count, size, c.take_part-taken.ensures.some)) mid.in_block len in
           let found = c.compare.ensures xs at.nodes (omega (arith, ap length done, at.whole, room, length-append xs (option_to_list c.take_part-taken.result.1))) in
           subst (IsFedCheck _) (next_part file bytes start taken)
           (checked c.parts.self _ (file ++ take start bytes) ((file ++ take start bytes) ++ part) c.take_part-taken.result.1 at more done refl refl
           refl found);
     }
 
-pub returns-clause-content : goal.returns-clause-content
-returns-clause-content c = λ file fed.
-    subst (λ t. IsFedCheck c.parts.self (file ++ t)) (take_all c.parts.start c.args.bytes.now c.parts-test.false) (c.parts.invariant.content file fed)
+pub returns : goal.returns
+returns c = record {
+  count = omega (arith, c.parts.invariant.count, c.parts.invariant.within, c.parts-test.false);
+  shape = c.parts.invariant.shape;
+  layer = c.parts.invariant.layer;
+  hashes = c.parts.invariant.hashes;
+  fed = λ file fed.
+      subst (λ t. IsFedCheck c.parts.self (file ++ t)) (take_all c.parts.start c.args.bytes.now c.parts-test.false) (c.parts.invariant.content file fed);
+}

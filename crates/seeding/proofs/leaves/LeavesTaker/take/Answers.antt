@@ -19,7 +19,7 @@ keep-requires g c =
           | inr fed ↦
               let at = fed room.content room.fed in
               leaf-fits c.parts.self c.take_part-taken.new.self (room.content ++ take start part) _ c.take_part-taken.result.1 at
-              (c.take_part-taken.ensures.content (room.content ++ take start part) at.fed) (c.take_part-taken.ensures.node (room.content ++ take start part) at.fed)
+              (c.take_part-taken.ensures.fed.fed (room.content ++ take start part) at.fed) (c.take_part-taken.ensures.node (room.content ++ take start part) at.fed)
               (part-fits c.args.self.now part start taken c.parts.self.tree.length room within c.parts.invariant.same_length)
         ]
       ];
@@ -42,7 +42,7 @@ parts-preserved g c =
               let at = fed file was in
               subst (IsFedLeaves c.keep.new.self) (next_part file part start taken)
               (kept-leaf c.parts.self c.keep.new.self c.take_part-taken.new.self (file ++ take start part) _ c.take_part-taken.result.1 at
-              (c.take_part-taken.ensures.content (file ++ take start part) at.fed) (c.take_part-taken.ensures.node (file ++ take start part) at.fed)
+              (c.take_part-taken.ensures.fed.fed (file ++ take start part) at.fed) (c.take_part-taken.ensures.node (file ++ take start part) at.fed)
               c.keep.ensures.builder leaves))
         ]
       ];
