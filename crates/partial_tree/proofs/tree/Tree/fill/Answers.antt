@@ -1,11 +1,8 @@
-use Rattle.std.proofs.Common.{suc, ◌+◌, ◌^◌, ◌<◌, ◌≤◌, ◌∙◌, sym, subst, arith}
+use Rattle.std.proofs.Common.{suc, ◌+◌, ◌^◌, ◌<◌, ◌≤◌, ◌∙◌, sym, ap, subst, arith}
 use Rattle.std.specs.FinMap.{len}
 use Rattle.partial_tree.specs.TreeRoot.{TreeRoot}
 use Rattle.node_maps.specs.Places.{tree_height}
-use Rattle.partial_tree.specs.Fill.{fill_claims, IsFillAccepted}
-use Rattle.node_maps.specs.Known.{look}
-use Rattle.partial_tree.specs.Joins.{Joins}
-use Rattle.partial_tree.specs.Kept.{KeptTree, IsGoodTree}
+use Rattle.partial_tree.specs.Kept.{KeptTree, kept, IsGoodTree, TreeTakesLayer}
 use Rattle.partial_tree.proofs.Ranges.{pow_more}
 use Rattle.partial_tree.proofs.Layers.{filled-len}
 use Rattle.partial_tree.proofs.Counting.{counted_more, counted_same}
@@ -44,5 +41,7 @@ invariant_of-self-2 g c =
 
 pub returns-clause-filled : goal.returns-clause-filled
 returns-clause-filled g c =
-    subst (λ (v : KeptTree). IsFillAccepted v.length (look v.state.known) c.args.layer c.args.hashes.now × Joins (fill_claims v.length c.args.layer c.args.hashes.now) v.state.known (g.N.NodeMap.known c.fill_layer.new.nodes) c.in_ok-gained.gained)
-    c.self.view_is c.in_ok-gained.ensures.filled
+    let old = c.self.inside in
+    let after = g.N.NodeMap.known c.fill_layer.new.nodes in
+    subst (λ v. TreeTakesLayer v c.args.layer c.args.hashes.now c.in_ok-gained.gained (kept old.root old.shape after (g.N.NodeMap.marked c.fill_layer.new.nodes)))
+    c.self.view_is (c.in_ok-gained.ensures.filled, ap (kept old.root old.shape after) c.fill_layer.ensures.marked)

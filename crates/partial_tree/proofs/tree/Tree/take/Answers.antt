@@ -1,11 +1,8 @@
-use Rattle.std.proofs.Common.{suc, ◌+◌, ◌^◌, ◌<◌, ◌≤◌, ◌∙◌, sym, subst, arith}
+use Rattle.std.proofs.Common.{suc, ◌+◌, ◌^◌, ◌<◌, ◌≤◌, ◌∙◌, sym, ap, subst, arith}
 use Rattle.std.specs.FinMap.{len}
 use Rattle.partial_tree.specs.TreeRoot.{TreeRoot}
 use Rattle.node_maps.specs.Places.{tree_height}
-use Rattle.partial_tree.specs.Claims.{claims, IsAccepted}
-use Rattle.node_maps.specs.Known.{look}
-use Rattle.partial_tree.specs.Joins.{Joins}
-use Rattle.partial_tree.specs.Kept.{KeptTree, IsGoodTree}
+use Rattle.partial_tree.specs.Kept.{KeptTree, kept, IsGoodTree, TreeTakesHashes}
 use Rattle.partial_tree.proofs.Ranges.{pow_more}
 use Rattle.partial_tree.proofs.Messages.{joined-len}
 use Rattle.partial_tree.proofs.Counting.{counted_more, counted_same}
@@ -44,5 +41,7 @@ invariant_of-self-2 g c =
 
 pub returns-clause-taken : goal.returns-clause-taken
 returns-clause-taken g c =
-    subst (λ (v : KeptTree). IsAccepted v.length (look v.state.known) c.args.ask.now c.args.hashes.now × Joins (claims c.args.ask.now c.args.hashes.now) v.state.known (g.N.NodeMap.known c.take_message.new.nodes) c.in_ok-gained.gained)
-    c.self.view_is c.in_ok-gained.ensures.taken
+    let old = c.self.inside in
+    let after = g.N.NodeMap.known c.take_message.new.nodes in
+    subst (λ v. TreeTakesHashes v c.args.ask.now c.args.hashes.now c.in_ok-gained.gained (kept old.root old.shape after (g.N.NodeMap.marked c.take_message.new.nodes)))
+    c.self.view_is (c.in_ok-gained.ensures.taken, ap (kept old.root old.shape after) c.take_message.ensures.marked)
