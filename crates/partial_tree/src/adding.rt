@@ -42,6 +42,7 @@ pub(crate) fn add_pads<N: NodeMap>(map: &mut N, from: u64, to: u64) -> Result<()
     ensures marked { N.marked map.new ≡ N.marked map.old }
     ensures added { OnOk result
         (AddsRow (N.known map.old) 0 from to (λ _. Some pad_leaf) (N.known map.new)) }
+    ensures no_memory { OnErr result (from < to) }
 {
     let pad = zero(0);
     'places: for index in from..to {

@@ -67,15 +67,17 @@ impl<N: NodeMap> GrowingTree<N> {
     }
 
     /// The whole tree over the leaves, with the pads past the file's end. It fails only if memory
-    /// was refused. Condition: there is a leaf for each block.
+    /// was refused; the tree of one block takes none. Condition: there is a leaf for each block.
     pub fn finish(self) -> Result<GrownTree<N>, NoMemory>
         requires { length self.leaves ≡ block_count self.length }
         ensures length { IfOk result (λ tree. tree.length ≡ self.length) }
         ensures leaves { IfOk result (λ tree. tree.leaves ≡ self.leaves) }
+        ensures no_memory { OnErr result (1 < block_count self.length) }
     {
         let height = self.shape.height();
+        let blocks = self.shape.blocks();
         let mut nodes = self.nodes;
-        add_pads(&mut nodes, self.count, 1 << height)?;
+        add_pads(&mut nodes, blocks, 1 << height)?;
         'layers: for layer in 0..height {
             add_parents(&mut nodes, layer, 1 << (height - layer - 1))?;
         }

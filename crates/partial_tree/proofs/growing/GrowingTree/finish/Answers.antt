@@ -1,9 +1,10 @@
-use Rattle.std.proofs.Common.{◌≡◌, suc, ◌+◌, ◌-◌, ◌*◌, ◌^◌, ◌<◌, sym, ap, ◌∙◌, subst, arith}
+use Rattle.std.proofs.Common.{◌≡◌, ℕ, suc, ◌+◌, ◌-◌, ◌*◌, ◌^◌, ◌<◌, ◌≤◌, Result, Ok, Err, OnErr, sym, ap, ◌∙◌, subst, arith}
+use Rattle.hashtree.specs.Tree.{block_count}
 use Rattle.node_maps.specs.Known.{look}
 use Rattle.node_maps.specs.Places.{tree_height}
 use Rattle.node_maps.specs.Runs.{AreKnown}
 use Rattle.partial_tree.specs.Grown.{GrownTree}
-use Rattle.partial_tree.proofs.GrownLeaves.{children-known, ended, next_layer, padded, shifted}
+use Rattle.partial_tree.proofs.GrownLeaves.{children-known, ended, has_pads, next_layer, padded, shifted}
 use Rattle.partial_tree.proofs.growing.GrowingTree.finish.Goals as goal
 
 pub layers-init : goal.layers-init
@@ -13,7 +14,8 @@ layers-init g c =
     record {
       length = c.add_pads.ensures.length ∙ c.self.invariant.0 ∙ ap (λ (t : GrownTree). t.length) c.self.view_is;
       marked = c.add_pads.ensures.marked ∙ c.self.invariant.2;
-      up_to = padded old.shape old.count (g.N.NodeMap.known old.nodes) c.args.self c.self.view_is c.requires c.self.invariant.3 _ (g.N.NodeMap.known c.add_pads.new.map) wide c.in_ok-add_pads.ensures.added;
+      up_to = padded old.shape old.count (g.N.NodeMap.known old.nodes) c.args.self c.self.view_is c.requires c.self.invariant.3 _ _ (g.N.NodeMap.known c.add_pads.new.map)
+          c.blocks-blocks.ensures.value wide c.in_ok-add_pads.ensures.added;
     }
 
 pub add_parents-requires-clause-known : goal.add_parents-requires-clause-known
@@ -57,3 +59,18 @@ returns-clause-leaves g c =
     let old = c.self.inside in
     let top : c.layers.layer ≡ tree_height old.shape = (let reached : c.layers.layer ≡ c.height-height.result = omega (arith, c.layers-test.false, c.layers.auto.layer-end) in reached ∙ c.height-height.ensures.value) in
     (ended old.shape old.count (g.N.NodeMap.known old.nodes) c.args.self c.self.view_is c.requires c.self.invariant.3 c.layers.layer (g.N.NodeMap.known c.layers.nodes) (g.N.NodeMap.known c.trim.new.self) top c.layers.invariant.up_to c.trim.ensures.known).2
+
+on_err : {A E : Type 0} (P : Type 0) (r : Result A E) → P → OnErr r P
+on_err P (Ok x) p = tt
+on_err P (Err e) p = p
+
+pub returns-in_err-add_pads-clause-no_memory : goal.returns-in_err-add_pads-clause-no_memory
+returns-in_err-add_pads-clause-no_memory g c =
+    let height = c.height-height.ensures in
+    let blocks = c.blocks-blocks.ensures in
+    let same : c.blocks-blocks.result ≡ block_count c.args.self.length =
+    blocks.value ∙ ap (λ (t : GrownTree). block_count t.length) c.self.view_is in
+    let least : (k : ℕ) → c.blocks-blocks.result ≤ 2 ^ k → c.height-height.result ≤ k =
+    λ k fits. height.least k (omega (arith, fits, blocks.value)) in
+    on_err _ _ (subst (λ n. 1 < n) same
+    (has_pads _ _ blocks.some least height.bound c.in_err-add_pads.ensures.no_memory))
