@@ -5,6 +5,7 @@ use Rattle.std.specs.FinMap as map
 use Rattle.std.specs.FinSet as set
 use Rattle.sha2.specs.Sha256.{sha256}
 use Rattle.wire.specs.declared.message.Ask.{Ask}
+use Rattle.partial_tree.specs.declared.answer.Answer.{Answer}
 use Rattle.partial_tree.specs.declared.refusal.HashRefusal.{HashRefusal}
 use Rattle.partial_tree.specs.declared.refusal.BlockRefusal.{BlockRefusal}
 use Rattle.partial_tree.specs.declared.refusal.BlockRefusal.TheVariants.{BadPlace, BadSize, Unproved, BadBlock}
@@ -12,7 +13,8 @@ use Rattle.node_maps.specs.Digest.{Hash}
 use Rattle.partial_tree.specs.TreeRoot.{TreeRoot}
 use Rattle.node_maps.specs.Places.{tree_height, PartialTree, IsKnown}
 use Rattle.partial_tree.specs.Closed.{IsClosed}
-use Rattle.partial_tree.specs.Claims.{TreeRefuses}
+use Rattle.partial_tree.specs.Claims.{TreeRefuses, CanAnswer}
+use Rattle.partial_tree.specs.Answers.{IsTreeAnswer}
 use Rattle.partial_tree.specs.Fill.{FillRefuses}
 use Rattle.partial_tree.specs.Joins.{Joins, TakesHashes, TakesLayer}
 use Rattle.node_maps.specs.Known.{Known, Marked, look}
@@ -84,7 +86,8 @@ TreeTakesHashes before ask hashes c after =
     TakesHashes before.length ask hashes before.state.known c after.state.known
     × ChangesKnownAlone before after
 
--- why a tree refuses a message
+-- why a tree refuses a message: the first test that fails; or out of memory, if none does and a
+-- place is new
 abbrev pub TreeRefusesHashes : KeptTree → Ask → List Hash → HashRefusal → Type 0
 TreeRefusesHashes t ask hashes r = TreeRefuses t.length (look t.state.known) ask hashes r
 
@@ -95,7 +98,8 @@ TreeTakesLayer before layer hashes c after =
     TakesLayer before.length layer hashes before.state.known c after.state.known
     × ChangesKnownAlone before after
 
--- why a tree refuses a whole layer
+-- why a tree refuses a whole layer: the first test that fails; or out of memory, if none does and
+-- a place is new
 abbrev pub TreeRefusesLayer : KeptTree → ℕ → List Hash → HashRefusal → Type 0
 TreeRefusesLayer t layer hashes r = FillRefuses t.length (look t.state.known) layer hashes r
 
@@ -107,6 +111,14 @@ pub record TreeMarks (before : KeptTree) (b : ℕ) (bytes : List ℕ) (after : K
   pub marks : after
       ≡ kept before.root before.length before.state.known (set.insert before.state.marked b)
 
--- why a tree refuses a block
+-- why a tree refuses a block: the first test that fails
 abbrev pub TreeRefusesBlock : KeptTree → ℕ → List ℕ → BlockRefusal → Type 0
 TreeRefusesBlock t b bytes r = RefusesBlock t.length (look t.state.known) b bytes r
+
+-- the base range of an ask is good for a tree, and known
+abbrev pub TreeCanAnswer : KeptTree → Ask → Type 0
+TreeCanAnswer t ask = CanAnswer (tree_height t.length) (look t.state.known) ask
+
+-- what a tree answers to an ask: the hashes of a good and known range and its uncles, else a reject
+abbrev pub TreeAnswers : KeptTree → Ask → Answer → Type 0
+TreeAnswers t ask answer = IsTreeAnswer (tree_height t.length) (look t.state.known) ask answer

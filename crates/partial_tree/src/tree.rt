@@ -13,18 +13,16 @@
 //!     0      a   b   .   .        a, b   known together, and nothing below d
 //! ```
 
-ghost use Rattle.std.specs.Prelude.{◌≡◌, ℕ, ◌+◌, ◌^◌, ◌<◌, ◌≤◌, ◌↔◌, IfOk, IfErr, OnErr, IsTrue, length};
+ghost use Rattle.std.specs.Prelude.{◌≡◌, ◌+◌, ◌<◌, ◌≤◌, ◌↔◌, IfOk, IfErr, OnErr, IsTrue};
 ghost use Rattle.std.specs.FinMap as finite;
 ghost use Rattle.std.specs.FinSet as set;
 ghost use Rattle.hashtree.specs.Tree.{block_count};
-ghost use Rattle.node_maps.specs.Places.{tree_height, IsKnown};
+ghost use Rattle.node_maps.specs.Places.{IsKnown};
 ghost use Rattle.partial_tree.specs.declared.refusal.HashRefusal.TheVariants.{Mismatch};
-ghost use Rattle.partial_tree.specs.Claims.{CanAnswer};
-ghost use Rattle.partial_tree.specs.Answers.{IsTreeAnswer};
 ghost use Rattle.partial_tree.specs.Gaps.{want_of};
 ghost use Rattle.node_maps.specs.Known.{look};
 ghost use Rattle.partial_tree.specs.Fill.{fill_claims, IsFillAccepted};
-ghost use Rattle.partial_tree.specs.Kept.{info_of, root_only, IsGoodTree, TreeJoins, TreeTakesHashes, TreeRefusesHashes, TreeTakesLayer, TreeRefusesLayer, TreeMarks, TreeRefusesBlock};
+ghost use Rattle.partial_tree.specs.Kept.{info_of, root_only, IsGoodTree, TreeJoins, TreeTakesHashes, TreeRefusesHashes, TreeTakesLayer, TreeRefusesLayer, TreeMarks, TreeRefusesBlock, TreeCanAnswer, TreeAnswers};
 
 use crate::adopting::{agree, carry_marks};
 use crate::answer::Answer;
@@ -203,8 +201,7 @@ impl<N: NodeMap> Tree<N> {
 
     /// Whether the hashes that are asked for are known.
     pub fn can_answer(&self, ask: &Ask) -> bool
-        ensures { IsTrue result ↔ CanAnswer (tree_height self.now.length)
-            (look self.now.state.known) ask.now }
+        ensures { IsTrue result ↔ TreeCanAnswer self.now ask.now }
     {
         match check_range(self.height, ask) {
             Err(_) => false,
@@ -217,10 +214,8 @@ impl<N: NodeMap> Tree<N> {
     /// What it answers to a hash request: the hashes if they are known, else a reject. Fails only
     /// if memory for the hashes was refused.
     pub fn answer(&self, ask: &Ask) -> Result<Answer, NoMemory>
-        ensures answer { IfOk result (IsTreeAnswer (tree_height self.now.length)
-            (look self.now.state.known) ask.now) }
-        ensures no_memory { OnErr result (CanAnswer (tree_height self.now.length)
-            (look self.now.state.known) ask.now) }
+        ensures answer { IfOk result (TreeAnswers self.now ask.now) }
+        ensures no_memory { OnErr result (TreeCanAnswer self.now ask.now) }
     {
         let Ok(span) = check_range(self.height, ask) else {
             return Ok(Answer::Reject);
