@@ -2,6 +2,7 @@
 pub mod Digest
 pub mod Places
 pub mod Known
+pub mod Nodes
 pub mod Runs
 pub mod Flat
 pub mod Cell

@@ -21,6 +21,7 @@ ghost use Rattle.node_maps.specs.Places.{IsKnown};
 ghost use Rattle.partial_tree.specs.declared.refusal.HashRefusal.TheVariants.{Mismatch};
 ghost use Rattle.partial_tree.specs.Gaps.{want_of};
 ghost use Rattle.node_maps.specs.Known.{look};
+ghost use Rattle.node_maps.specs.Nodes.{with_mark};
 ghost use Rattle.partial_tree.specs.Fill.{fill_claims, IsFillAccepted};
 ghost use Rattle.partial_tree.specs.Kept.{info_of, root_only, IsGoodTree, TreeJoins, TreeTakesHashes, TreeRefusesHashes, TreeTakesLayer, TreeRefusesLayer, TreeMarks, TreeRefusesBlock, TreeCanAnswer, TreeAnswers};
 
@@ -61,11 +62,11 @@ impl<N: NodeMap> Model for Tree<N> {
 
     ghost coded = { kept_tree_code };
 
-    ghost view = { λ t. kept t.root t.shape (N.known t.nodes) (N.marked t.nodes) };
+    ghost view = { λ t. kept t.root t.shape (N.seen t.nodes).known (N.seen t.nodes).marked };
 
-    ghost invariant = { λ t. (N.length t.nodes ≡ t.shape)
-        × IsCounted t.height t.known t.marked t.shape (N.known t.nodes) (N.marked t.nodes)
-        × (N.held t.nodes ≡ N.needed (N.known t.nodes)) };
+    ghost invariant = { λ t. ((N.seen t.nodes).length ≡ t.shape)
+        × IsCounted t.height t.known t.marked t.shape (N.seen t.nodes).known (N.seen t.nodes).marked
+        × (N.held t.nodes ≡ N.needed (N.seen t.nodes).known) };
 }
 
 impl<N: NodeMap> Tree<N> {
@@ -276,13 +277,12 @@ impl<N: NodeMap> Tree<N> {
 
 // Marks a known leaf, and tells how many more are marked.
 fn mark_leaf<N: NodeMap>(nodes: &mut N, block: u64) -> u64
-    requires { IsKnown (look (N.known nodes.old)) 0 block }
-    ensures length { N.length nodes.new ≡ N.length nodes.old }
-    ensures known { N.known nodes.new ≡ N.known nodes.old }
-    ensures marked { N.marked nodes.new ≡ set.insert (N.marked nodes.old) block }
+    requires { IsKnown (look (N.seen nodes.old).known) 0 block }
+    ensures seen { N.seen nodes.new ≡ with_mark (N.seen nodes.old) block }
     ensures held { N.held nodes.new ≡ N.held nodes.old }
     ensures one { result ≤ 1 }
-    ensures count { set.len (N.marked nodes.new) ≡ set.len (N.marked nodes.old) + result }
+    ensures count { set.len (N.seen nodes.new).marked
+        ≡ set.len (N.seen nodes.old).marked + result }
 {
     let before = nodes.is_marked(block);
     nodes.mark(block);
