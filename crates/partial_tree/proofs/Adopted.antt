@@ -12,8 +12,8 @@ use Rattle.node_maps.specs.Places.{IsTreePlace, IsKnown, tree_height}
 use Rattle.node_maps.proofs.Known.{nat_equal, len-known}
 use Rattle.partial_tree.specs.declared.refusal.HashRefusal.TheVariants.{Mismatch}
 use Rattle.partial_tree.specs.Claims.{AreHashes, IsMismatch, IsAgreed, joined}
-use Rattle.partial_tree.specs.Fill.{fill_claims}
-use Rattle.partial_tree.specs.Joins.{TakesLayer, RefusesLayer}
+use Rattle.partial_tree.specs.Fill.{fill_claims, FillRefuses}
+use Rattle.partial_tree.specs.Joins.{TakesLayer}
 use Rattle.partial_tree.specs.Grown.{AgreeInTree, GrownTree, FollowsFromLeaves, grown, leaves_in}
 use Rattle.partial_tree.specs.Kept.{KeptTree, IsGoodTree, TreeTakesLayer, TreeRefusesLayer, kept}
 use Rattle.node_maps.specs.Digest.{Hash}
@@ -100,22 +100,19 @@ module _ (n : ℕ) (K K' : Known) (is : FollowsFromLeaves n (block_count n) K') 
     record { agreed = agrees same; joined_is = same-joined same; gained = gained },
   )
 
-  pub refuses-grown : IsMismatch (look K) (look K') → RefusesLayer n 0 (leaves_in K' (block_count n)) K Mismatch K
+  pub refuses-grown : IsMismatch (look K) (look K') → FillRefuses n (look K) 0 (leaves_in K' (block_count n)) Mismatch
   refuses-grown m = (
-    (
-      omega arith,
-      all_given n (leaves_in K' (block_count n)) right,
-      record {
-        layer = m.layer;
-        index = m.index;
-        in_J = m.in_J;
-        in_K = m.in_K;
-        J_known = m.J_known;
-        K_known = sym (is.claimed m.layer m.index) ∙ m.K_known;
-        differ = m.differ;
-      },
-    ),
-    refl,
+    omega arith,
+    all_given n (leaves_in K' (block_count n)) right,
+    record {
+      layer = m.layer;
+      index = m.index;
+      in_J = m.in_J;
+      in_K = m.in_K;
+      J_known = m.J_known;
+      K_known = sym (is.claimed m.layer m.index) ∙ m.K_known;
+      differ = m.differ;
+    },
   )
 
 -- ---- as trees keep them
@@ -144,7 +141,7 @@ module _ (n : ℕ) (root : Hash) (K K' : Known) (M : Marked) (old : KeptTree) (n
   pub not-adopted : IsMismatch (look K) (look K') → TreeRefusesLayer old 0 new.leaves Mismatch
   not-adopted m =
       subst (λ t. TreeRefusesLayer t 0 new.leaves Mismatch) old_is
-      (subst (λ (t : GrownTree). TreeRefusesLayer (kept root n K M) 0 t.leaves Mismatch) new_is (refuses-grown n K K' is inside m).0)
+      (subst (λ (t : GrownTree). TreeRefusesLayer (kept root n K M) 0 t.leaves Mismatch) new_is (refuses-grown n K K' is inside m))
 
   -- the tree that took over is good
   pub good-adopted : (c : ℕ) (after : KeptTree) → TreeTakesLayer old 0 new.leaves c after → IsGoodTree after

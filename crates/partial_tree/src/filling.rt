@@ -4,8 +4,8 @@ ghost use Rattle.std.specs.Prelude.{◌≡◌, ◌≤◌, OnErr, IfOk, IfErr};
 ghost use Rattle.node_maps.specs.Places.{tree_height};
 ghost use Rattle.node_maps.specs.Known.{look};
 ghost use Rattle.node_maps.specs.Nodes.{KeepsMarks};
-ghost use Rattle.partial_tree.specs.Fill.{fill_claims, IsFillAccepted};
-ghost use Rattle.partial_tree.specs.Joins.{Joins, TakesLayer, RefusesLayer};
+ghost use Rattle.partial_tree.specs.Fill.{fill_claims, FillRefuses, IsFillAccepted};
+ghost use Rattle.partial_tree.specs.Joins.{Joins, TakesLayer};
 
 use crate::evidence::Evidence;
 use crate::refusal::HashRefusal;
@@ -31,8 +31,9 @@ pub(crate) fn fill_layer<N: NodeMap>(
     ensures trimmed { N.held nodes.new ≡ N.needed (N.seen nodes.new).known }
     ensures filled { IfOk result (λ c. TakesLayer shape layer hashes.now (N.seen nodes.old).known c
         (N.seen nodes.new).known) }
-    ensures refused { IfErr result (λ r. RefusesLayer shape layer hashes.now
-        (N.seen nodes.old).known r (N.seen nodes.new).known) }
+    ensures refused { IfErr result (λ r.
+        FillRefuses shape (look (N.seen nodes.old).known) layer hashes.now r
+        × (N.seen nodes.new ≡ N.seen nodes.old)) }
 {
     if layer > height {
         return Err(HashRefusal::BadRange);

@@ -44,7 +44,7 @@ pub(crate) fn store<N: NodeMap>(
         (N.seen map.new).known c) }
     ensures refused { IfErr result (λ r. StoreFault (look (N.seen map.old).known)
         (claimed_by evidence.now) r
-        × ((N.seen map.new).known ≡ (N.seen map.old).known)) }
+        × (N.seen map.new ≡ N.seen map.old)) }
 {
     let mut found = Found::new(alloc, room_for(evidence));
     if trace(map, evidence, &mut found, layer, index).is_none() {

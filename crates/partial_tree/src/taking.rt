@@ -3,10 +3,10 @@
 ghost use Rattle.std.specs.Prelude.{◌≡◌, ℕ, ◌+◌, ◌-◌, ◌/◌, ◌^◌, ◌<◌, ◌≤◌, IfOk, IfErr, length};
 ghost use Rattle.std.specs.Bool.{OnTrue, OnFalse};
 ghost use Rattle.node_maps.specs.Places.{tree_height, IsKnown, IsTreePlace};
-ghost use Rattle.partial_tree.specs.Claims.{most_span, IsBadPad, ArePadsRight, GoodRange, GoodCount};
+ghost use Rattle.partial_tree.specs.Claims.{most_span, IsBadPad, ArePadsRight, GoodRange, GoodCount, TreeRefuses};
 ghost use Rattle.node_maps.specs.Known.{look};
 ghost use Rattle.node_maps.specs.Nodes.{KeepsMarks};
-ghost use Rattle.partial_tree.specs.Joins.{TakesHashes, RefusesHashes};
+ghost use Rattle.partial_tree.specs.Joins.{TakesHashes};
 
 use crate::checks::{base_pads_fit, check_count, check_range, uncle_pads_fit};
 use crate::evidence::Evidence;
@@ -37,8 +37,9 @@ pub(crate) fn take_message<N: NodeMap>(
     ensures trimmed { N.held nodes.new ≡ N.needed (N.seen nodes.new).known }
     ensures taken { IfOk result (λ c. TakesHashes shape ask.now hashes.now
         (N.seen nodes.old).known c (N.seen nodes.new).known) }
-    ensures refused { IfErr result (λ r. RefusesHashes shape ask.now hashes.now
-        (N.seen nodes.old).known r (N.seen nodes.new).known) }
+    ensures refused { IfErr result (λ r.
+        TreeRefuses shape (look (N.seen nodes.old).known) ask.now hashes.now r
+        × (N.seen nodes.new ≡ N.seen nodes.old)) }
 {
     let span = check_range(height, ask)?;
     let top = check_count(height, ask, span, hashes)?;

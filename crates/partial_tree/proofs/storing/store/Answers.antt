@@ -13,7 +13,7 @@ returns-then-is_err-clause-refused g c = (
         (on_some c.trace.result _ c.trace.ensures.handled (c.is_none.ensures ∙ ap not c.if-is_none.false)),
     new_if_noted _ _ c.trace.new.found c.is_empty.result c.is_empty.ensures c.if-is_empty.false c.trace.ensures.notes_new,
   ),
-  (known-of c.trim.ensures.seen) ∙ (known-of c.reserve_claimed.ensures.seen),
+  c.trim.ensures.seen ∙ c.reserve_claimed.ensures.seen,
 )
 
 pub put_found-gained-requires-clause-room : goal.put_found-gained-requires-clause-room

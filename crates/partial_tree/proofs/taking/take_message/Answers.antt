@@ -1,4 +1,4 @@
-use Rattle.std.proofs.Common.{[], ◌-◌, ◌/◌, ◌^◌, not, refl, sym, ap, ap₂, ◌∙◌, subst}
+use Rattle.std.proofs.Common.{◌≡◌, [], ◌-◌, ◌/◌, ◌^◌, not, refl, sym, ap, ap₂, ◌∙◌, subst}
 use Rattle.partial_tree.specs.declared.evidence.Evidence.{Evidence}
 use Rattle.partial_tree.specs.TreeRoot.{TreeRoot}
 use Rattle.node_maps.specs.Places.{tree_height, IsTreePlace, IsKnown}
@@ -56,7 +56,7 @@ returns-clause-refused g c =
     let v = known_of c.get.result (c.is_none.ensures ∙ ap not c.if-is_none.false) in
     let top : IsKnown K (top_layer ask hashes) (top_index ask hashes) =
     (v.0, ap₂ K (sym count.1) (ap₂ (λ i l. i / 2 ^ (l - ask.base)) (sym c.from.ensures) (sym count.1)) ∙ sym c.get.ensures ∙ v.1) in
-    refused_by ev t (g.N.NodeMap.seen c.args.nodes.now).known (g.N.NodeMap.seen c.store.new.map).known ask hashes c.store.result
+    refused_by ev t (g.N.NodeMap.seen c.args.nodes.now).known (g.N.NodeMap.seen c.store.new.map ≡ g.N.NodeMap.seen c.args.nodes.now) ask hashes c.store.result
     (same_claims ev ask hashes refl c.from-2.ensures range.1 refl count.0.enough)
     (subst (λ h. GoodRange h ask) c.requires.height range.0) (subst (λ h. GoodCount h ask hashes) c.requires.height count.0)
     (c.if-not-pads_fit.ensures.fit) top c.store.ensures.refused

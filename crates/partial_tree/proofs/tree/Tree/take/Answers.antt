@@ -1,5 +1,6 @@
 use Rattle.std.proofs.Common.{suc, ◌+◌, ◌^◌, ◌<◌, ◌≤◌, ◌∙◌, sym, ap, subst, arith}
 use Rattle.std.specs.FinMap.{len}
+use Rattle.node_maps.proofs.Nodes.{known-of}
 use Rattle.partial_tree.specs.TreeRoot.{TreeRoot}
 use Rattle.node_maps.specs.Places.{tree_height}
 use Rattle.partial_tree.specs.Kept.{KeptTree, kept, IsGoodTree, TreeTakesHashes}
@@ -13,7 +14,7 @@ invariant_of-self g c =
     let old = c.self.inside in (
       c.take_message.ensures.stays.length ∙ c.self.invariant.0,
       counted_same old.height old.known old.marked old.shape (g.N.NodeMap.seen old.nodes).known (g.N.NodeMap.seen c.take_message.new.nodes).known (g.N.NodeMap.seen old.nodes).marked (g.N.NodeMap.seen c.take_message.new.nodes).marked
-          c.self.invariant.1 c.in_err-gained.ensures.refused.1 c.take_message.ensures.stays.marked,
+          c.self.invariant.1 (known-of c.in_err-gained.ensures.refused.1) c.take_message.ensures.stays.marked,
       c.take_message.ensures.trimmed,
     )
 
