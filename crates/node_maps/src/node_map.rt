@@ -7,6 +7,7 @@ ghost use Rattle.std.specs.FinSet as set;
 ghost use Rattle.node_maps.specs.Places.{tree_height, IsKnown};
 ghost use Rattle.node_maps.specs.Known.{Known, look};
 ghost use Rattle.node_maps.specs.Nodes.{Nodes, no_nodes, with_mark, with_node};
+ghost use Rattle.node_maps.specs.Room.{Room, HasRoomInRow, KeepsRoom};
 ghost use Rattle.node_maps.specs.Runs.{AreKnown, hashes_from};
 
 use hashtree::{Hash, NoMemory, Shape};
@@ -24,8 +25,8 @@ pub trait NodeMap: Drop {
     /// How many pages a content takes, if no page is held that it does not need.
     ghost needed: { Known → ℕ };
 
-    /// The place has room: a `put` there cannot fail.
-    ghost has_room: { Self → ℕ → ℕ → Type 0 };
+    /// The places that have room: a `put` there cannot fail.
+    ghost has_room: { Self → Room };
 
     /// Nothing is known or marked. Takes no memory.
     fn empty(alloc: Global, shape: Shape) -> Self
@@ -63,26 +64,24 @@ pub trait NodeMap: Drop {
         requires layer { layer ≤ tree_height (seen self.old).length }
         requires range { from + count ≤ 2 ^ (tree_height (seen self.old).length - layer) }
         ensures seen { seen self.new ≡ seen self.old }
-        ensures keeps { (l i : ℕ) → has_room self.old l i → has_room self.new l i }
-        ensures ok { OnOk result ((i : ℕ) → from ≤ i → i < from + count
-            → has_room self.new layer i) }
+        ensures keeps { KeepsRoom (has_room self.old) (has_room self.new) }
+        ensures ok { OnOk result (HasRoomInRow (has_room self.new) layer from count) }
         ensures refused { OnErr result (held self.new ≡ held self.old) }
-        ensures no_memory { ((i : ℕ) → from ≤ i → i < from + count → has_room self.old layer i)
-            → IsOk result };
+        ensures no_memory { HasRoomInRow (has_room self.old) layer from count → IsOk result };
 
     /// Sets the hash at a place. Condition: the place has room.
     fn put(&mut self, layer: u32, index: u64, hash: Hash)
         requires { has_room self.old layer index }
         ensures seen { seen self.new ≡ with_node (seen self.old) layer index hash }
         ensures held { held self.new ≡ held self.old }
-        ensures keeps { (l i : ℕ) → has_room self.old l i → has_room self.new l i };
+        ensures keeps { KeepsRoom (has_room self.old) (has_room self.new) };
 
     /// Marks a leaf. Condition: it is known.
     fn mark(&mut self, index: u64)
         requires { IsKnown (look (seen self.old).known) 0 index }
         ensures seen { seen self.new ≡ with_mark (seen self.old) index }
         ensures held { held self.new ≡ held self.old }
-        ensures keeps { (l i : ℕ) → has_room self.old l i → has_room self.new l i };
+        ensures keeps { KeepsRoom (has_room self.old) (has_room self.new) };
 
     /// Whether a leaf is marked.
     fn is_marked(&self, index: u64) -> bool

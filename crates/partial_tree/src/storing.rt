@@ -2,9 +2,10 @@
 //! written.
 
 ghost use Rattle.std.specs.Prelude.{◌≡◌, ◌⊎◌, ℕ, ◌≤◌, OnOk, OnErr, IfOk, IfErr};
-ghost use Rattle.node_maps.specs.Places.{tree_height, IsTreePlace, IsKnown};
+ghost use Rattle.node_maps.specs.Places.{tree_height, IsTreePlace};
 ghost use Rattle.node_maps.specs.Known.{look};
 ghost use Rattle.node_maps.specs.Nodes.{KeepsMarks};
+ghost use Rattle.node_maps.specs.Room.{HasRoomFor};
 ghost use Rattle.partial_tree.specs.Claims.{IsAgreed};
 ghost use Rattle.partial_tree.specs.Joins.{Joins};
 ghost use Rattle.partial_tree.specs.Evidence.{claimed_by, LeadsTo, IsInside, AreClaims, AllHandled, StoreFault};
@@ -105,7 +106,7 @@ fn put_found<N: NodeMap>(
     requires inside { IsInside evidence.now }
     requires place { IsTreePlace (tree_height (N.seen map.old).length) layer index }
     requires leads { LeadsTo evidence.now layer index }
-    requires room { (l i : ℕ) → IsKnown (claimed_by evidence.now) l i → N.has_room map.old l i }
+    requires room { HasRoomFor (claimed_by evidence.now) (N.has_room map.old) }
     requires sound { AreClaims (claimed_by evidence.now) found.now.claims.items }
     requires handled { AllHandled (claimed_by evidence.now) (look (N.seen map.old).known) found.now
         layer index }
@@ -139,8 +140,7 @@ fn reserve_claimed<N: NodeMap>(
     requires place { IsTreePlace (tree_height (N.seen map.old).length) layer index }
     requires leads { LeadsTo evidence.now layer index }
     ensures seen { N.seen map.new ≡ N.seen map.old }
-    ensures ok { OnOk result ((l i : ℕ) → IsKnown (claimed_by evidence.now) l i
-        → N.has_room map.new l i) }
+    ensures ok { OnOk result (HasRoomFor (claimed_by evidence.now) (N.has_room map.new)) }
 {
     'rows: for below in evidence.base..layer {
         let (first, count) = evidence.row(below);

@@ -3,9 +3,10 @@
 ghost use Rattle.std.specs.Prelude.{◌≡◌, ℕ, suc, ◌+◌, ◌^◌, ◌<◌, ◌≤◌, Some};
 ghost use Rattle.std.specs.List.{All};
 ghost use Rattle.std.specs.FinMap as finite;
-ghost use Rattle.node_maps.specs.Places.{tree_height, IsKnown};
+ghost use Rattle.node_maps.specs.Places.{tree_height};
 ghost use Rattle.node_maps.specs.Known.{look};
 ghost use Rattle.node_maps.specs.Nodes.{KeepsMarks};
+ghost use Rattle.node_maps.specs.Room.{HasRoomFor, KeepsRoom};
 ghost use Rattle.partial_tree.specs.declared.found.Claim.{Claim as Claimed};
 ghost use Rattle.partial_tree.specs.Joins.{with_new, insert_new};
 ghost use Rattle.partial_tree.specs.Evidence.{claimed_by, IsClaimedPlace, IsWritten, IsWrittenBelow};
@@ -25,10 +26,10 @@ pub(crate) fn write_claimed<N: NodeMap>(
     index: u64,
 ) -> (Hash, u64)
     requires at { IsClaimedPlace (tree_height (N.seen map.old).length) evidence.now layer index }
-    requires room { (l i : ℕ) → IsKnown (claimed_by evidence.now) l i → N.has_room map.old l i }
+    requires room { HasRoomFor (claimed_by evidence.now) (N.has_room map.old) }
     ensures value { claimed_by evidence.now layer index ≡ Some result.0 }
     ensures stays { KeepsMarks (N.seen map.old) (N.seen map.new) }
-    ensures keeps { (l i : ℕ) → N.has_room map.old l i → N.has_room map.new l i }
+    ensures keeps { KeepsRoom (N.has_room map.old) (N.has_room map.new) }
     ensures written { IsWritten (claimed_by evidence.now) layer index (look (N.seen map.old).known)
         (look (N.seen map.new).known) }
     ensures gained { finite.len (N.seen map.new).known
@@ -60,10 +61,10 @@ pub(crate) fn put_new<N: NodeMap>(map: &mut N, claims: &[Claim]) -> u64
 #[cycle(write)]
 fn write_below<N: NodeMap>(map: &mut N, evidence: &Evidence, layer: u32, index: u64) -> (Hash, u64)
     requires at { IsClaimedPlace (tree_height (N.seen map.old).length) evidence.now layer index }
-    requires room { (l i : ℕ) → IsKnown (claimed_by evidence.now) l i → N.has_room map.old l i }
+    requires room { HasRoomFor (claimed_by evidence.now) (N.has_room map.old) }
     ensures value { claimed_by evidence.now layer index ≡ Some result.0 }
     ensures stays { KeepsMarks (N.seen map.old) (N.seen map.new) }
-    ensures keeps { (l i : ℕ) → N.has_room map.old l i → N.has_room map.new l i }
+    ensures keeps { KeepsRoom (N.has_room map.old) (N.has_room map.new) }
     ensures written { IsWrittenBelow (claimed_by evidence.now) layer index
         (look (N.seen map.old).known) (look (N.seen map.new).known) }
     ensures gained { finite.len (N.seen map.new).known
@@ -88,7 +89,7 @@ fn put_absent<N: NodeMap>(map: &mut N, claim: &Claim) -> u64
     ensures gained { finite.len (N.seen map.new).known
         ≡ finite.len (N.seen map.old).known + result }
     ensures one { result ≤ 1 }
-    ensures keeps { (l i : ℕ) → N.has_room map.old l i → N.has_room map.new l i }
+    ensures keeps { KeepsRoom (N.has_room map.old) (N.has_room map.new) }
 {
     if map.get(claim.layer, claim.index).is_some() {
         return 0;
