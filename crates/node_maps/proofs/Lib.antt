@@ -1,5 +1,6 @@
 pub mod Places
 pub mod Known
+pub mod Nodes
 pub mod Runs
 pub mod Cells
 pub mod Rising

@@ -14,7 +14,7 @@ use Rattle.node_maps.specs.declared.page.Cell.{Cell}
 use Rattle.node_maps.specs.declared.page.Cell.TheVariants.{Empty, Known, Marked}
 use Rattle.node_maps.specs.Cell.{hash_of, mark_of, with_hash}
 use Rattle.node_maps.specs.Digest.{Hash}
-use Rattle.node_maps.specs.Places.{IsTreePlace}
+use Rattle.node_maps.specs.Places.{PartialTree, IsTreePlace}
 use Rattle.node_maps.specs.Known.{place_cmp, look, within, tabulate}
 use Rattle.node_maps.specs.Paged.{cell_at, hashes, HoldsTree, marked_cells, row_pages, held_below, held_pages, AreTrimmed}
 use Rattle.node_maps.specs.Pages.{marks_where, cell_of}
@@ -120,6 +120,15 @@ module _ (h : ℕ) (old new : List PagedRow) (l i : ℕ) (c : Cell) (here : cell
 
   pub put-known : (v : Hash) → IsTreePlace h l i → hash_of c ≡ Some v → tabulate h (within h (hashes new)) ≡ insert (tabulate h (within h (hashes old))) (l, i) v
   put-known v at is = tabulate-put h (hashes old) (hashes new) l i v at (ap hash_of here ∙ is) (λ l' i' other. ap hash_of (others l' i' other))
+
+  pub put-known-same : hash_of c ≡ hashes old l i → tabulate h (within h (hashes new)) ≡ tabulate h (within h (hashes old))
+  put-known-same is = ap (λ (f : PartialTree). tabulate h (within h f)) (λ k l' i'. at l' i' k)
+    where
+      at : (l' i' : ℕ) → hashes new l' i' ≡ hashes old l' i'
+      at l' i' = elim (here_or_not l' i') [
+        | inl (p, q) ↦ ap₂ (hashes new) p q ∙ ap hash_of here ∙ is ∙ sym (ap₂ (hashes old) p q)
+        | inr other ↦ ap hash_of (others l' i' other)
+      ]
 
   pub put-marked-same : mark_of c ≡ mark_of (cell_at old l i) → marked_cells h new ≡ marked_cells h old
   put-marked-same is = ap (λ f. marks_where f (2 ^ h)) (λ k i'. at i' k)

@@ -2,6 +2,8 @@
 pub mod Digest
 pub mod Places
 pub mod Known
+pub mod Nodes
+pub mod Room
 pub mod Runs
 pub mod Flat
 pub mod Cell

@@ -5,6 +5,7 @@ ghost use Rattle.std.specs.Vec.{vec_capacity};
 ghost use Rattle.std.specs.FinMap.{insert};
 ghost use Rattle.node_maps.specs.Places.{tree_height, IsTreePlace};
 ghost use Rattle.node_maps.specs.Known.{tabulate, within};
+ghost use Rattle.node_maps.specs.Nodes.{nodes};
 ghost use Rattle.node_maps.specs.Needed.{nothing_needed};
 ghost use Rattle.node_maps.specs.Flat.{AreSameFlatCells, AreSameFlatCellsBut, FlatRow, cells, row_cells, HasCell, HasTreeCells, hash_in_row, marked_leaves};
 ghost use Rattle.node_maps.specs.Runs.{AreKnown, hashes_from};
@@ -29,11 +30,8 @@ pub struct Flat {
 }
 
 impl NodeMap for Flat {
-    ghost length = { λ f. f.shape };
-
-    ghost known = { λ f. tabulate f.height (within f.height (cells f.rows.items)) };
-
-    ghost marked = { λ f. marked_leaves f.marks.items };
+    ghost seen = { λ f. nodes f.shape (tabulate f.height (within f.height (cells f.rows.items)))
+        (marked_leaves f.marks.items) };
 
     ghost held = { λ _. 0 };
 

@@ -5,7 +5,9 @@ ghost use Rattle.std.specs.Vec.{vec_capacity};
 ghost use Rattle.std.specs.FinMap as finite;
 ghost use Rattle.std.specs.FinSet as set;
 ghost use Rattle.node_maps.specs.Places.{tree_height, IsKnown};
-ghost use Rattle.node_maps.specs.Known.{Known, Marked, look};
+ghost use Rattle.node_maps.specs.Known.{Known, look};
+ghost use Rattle.node_maps.specs.Nodes.{Nodes, no_nodes, with_mark, with_node};
+ghost use Rattle.node_maps.specs.Room.{Room, HasRoomInRow, KeepsRoom};
 ghost use Rattle.node_maps.specs.Runs.{AreKnown, hashes_from};
 
 use hashtree::{Hash, NoMemory, Shape};
@@ -13,14 +15,9 @@ use std::alloc::Global;
 
 /// The known nodes and the marked leaves of one tree, however they are kept.
 pub trait NodeMap: Drop {
-    /// The length of the tree's files, which fixes its places.
-    ghost length: { Self → ℕ };
-
-    /// The known places, with their hashes.
-    ghost known: { Self → Known };
-
-    /// The marked leaves.
-    ghost marked: { Self → Marked };
+    /// The length of the tree's files, which fixes its places, the known places with their hashes,
+    /// and the marked leaves.
+    ghost seen: { Self → Nodes };
 
     /// How many pages are held.
     ghost held: { Self → ℕ };
@@ -28,37 +25,35 @@ pub trait NodeMap: Drop {
     /// How many pages a content takes, if no page is held that it does not need.
     ghost needed: { Known → ℕ };
 
-    /// The place has room: a `put` there cannot fail.
-    ghost has_room: { Self → ℕ → ℕ → Type 0 };
+    /// The places that have room: a `put` there cannot fail.
+    ghost has_room: { Self → Room };
 
     /// Nothing is known or marked. Takes no memory.
     fn empty(alloc: Global, shape: Shape) -> Self
     where
         Self: Sized,
-        ensures length { length result ≡ shape }
-        ensures known { known result ≡ finite.empty }
-        ensures marked { marked result ≡ set.empty }
-        ensures held { held result ≡ needed (known result) };
+        ensures seen { seen result ≡ no_nodes shape }
+        ensures held { held result ≡ needed (seen result).known };
 
     /// The hash at a place, if it is known.
     fn get(&self, layer: u32, index: u64) -> Option<Hash>
-        ensures { result ≡ look (known self.now) layer index };
+        ensures { result ≡ look (seen self.now).known layer index };
 
     /// Whether the hashes of `count` places of a layer are known, from one on. Condition:
     /// `from + count` is below 2^64.
     fn knows(&self, layer: u32, from: u64, count: u64) -> bool
         requires { from + count < 2 ^ 64 }
-        ensures { IsTrue result ↔ AreKnown (look (known self.now) layer) from count };
+        ensures { IsTrue result ↔ AreKnown (look (seen self.now).known layer) from count };
 
     /// Appends the hashes of `count` places of a layer, from one on, to a list. Takes no memory.
     /// Conditions: `from + count` is below 2^64, the hashes are known, and the list has room for
     /// them.
     fn copy_to(&self, layer: u32, from: u64, count: u64, out: &mut Vec<Hash>)
         requires range { from + count < 2 ^ 64 }
-        requires known { AreKnown (look (known self.now) layer) from count }
+        requires known { AreKnown (look (seen self.now).known layer) from count }
         requires room { vec_len out.old + count ≤ vec_capacity out.old }
         ensures copied { out.new.items
-            ≡ out.old.items ++ hashes_from (look (known self.now) layer) from count }
+            ≡ out.old.items ++ hashes_from (look (seen self.now).known layer) from count }
         ensures no_memory { vec_capacity out.new ≡ vec_capacity out.old };
 
     /// Makes room for `count` places of a layer, from one on. Content, marks and the room that
@@ -66,47 +61,37 @@ pub trait NodeMap: Drop {
     /// takes no memory and cannot fail. Conditions: the layer is at most the tree's height, and
     /// `from + count` is at most the number of its places, 2^(height - layer).
     fn reserve(&mut self, layer: u32, from: u64, count: u64) -> Result<(), NoMemory>
-        requires layer { layer ≤ tree_height (length self.old) }
-        requires range { from + count ≤ 2 ^ (tree_height (length self.old) - layer) }
-        ensures length { length self.new ≡ length self.old }
-        ensures known { known self.new ≡ known self.old }
-        ensures marked { marked self.new ≡ marked self.old }
-        ensures keeps { (l i : ℕ) → has_room self.old l i → has_room self.new l i }
-        ensures ok { OnOk result ((i : ℕ) → from ≤ i → i < from + count
-            → has_room self.new layer i) }
+        requires layer { layer ≤ tree_height (seen self.old).length }
+        requires range { from + count ≤ 2 ^ (tree_height (seen self.old).length - layer) }
+        ensures seen { seen self.new ≡ seen self.old }
+        ensures keeps { KeepsRoom (has_room self.old) (has_room self.new) }
+        ensures ok { OnOk result (HasRoomInRow (has_room self.new) layer from count) }
         ensures refused { OnErr result (held self.new ≡ held self.old) }
-        ensures no_memory { ((i : ℕ) → from ≤ i → i < from + count → has_room self.old layer i)
-            → IsOk result };
+        ensures no_memory { HasRoomInRow (has_room self.old) layer from count → IsOk result };
 
     /// Sets the hash at a place. Condition: the place has room.
     fn put(&mut self, layer: u32, index: u64, hash: Hash)
         requires { has_room self.old layer index }
-        ensures length { length self.new ≡ length self.old }
-        ensures known { known self.new ≡ finite.insert (known self.old) (layer, index) hash }
-        ensures marked { marked self.new ≡ marked self.old }
+        ensures seen { seen self.new ≡ with_node (seen self.old) layer index hash }
         ensures held { held self.new ≡ held self.old }
-        ensures keeps { (l i : ℕ) → has_room self.old l i → has_room self.new l i };
+        ensures keeps { KeepsRoom (has_room self.old) (has_room self.new) };
 
     /// Marks a leaf. Condition: it is known.
     fn mark(&mut self, index: u64)
-        requires { IsKnown (look (known self.old)) 0 index }
-        ensures length { length self.new ≡ length self.old }
-        ensures known { known self.new ≡ known self.old }
-        ensures marked { marked self.new ≡ set.insert (marked self.old) index }
+        requires { IsKnown (look (seen self.old).known) 0 index }
+        ensures seen { seen self.new ≡ with_mark (seen self.old) index }
         ensures held { held self.new ≡ held self.old }
-        ensures keeps { (l i : ℕ) → has_room self.old l i → has_room self.new l i };
+        ensures keeps { KeepsRoom (has_room self.old) (has_room self.new) };
 
     /// Whether a leaf is marked.
     fn is_marked(&self, index: u64) -> bool
-        ensures { result ≡ set.contains (marked self.now) index };
+        ensures { result ≡ set.contains (seen self.now).marked index };
 
     /// Gives back the pages that hold no hash. Content and marks stay; room may go. Takes no
     /// memory.
     fn trim(&mut self)
-        ensures length { length self.new ≡ length self.old }
-        ensures known { known self.new ≡ known self.old }
-        ensures marked { marked self.new ≡ marked self.old }
-        ensures held { held self.new ≡ needed (known self.new) };
+        ensures seen { seen self.new ≡ seen self.old }
+        ensures held { held self.new ≡ needed (seen self.new).known };
 
     /// How many pages are held. Takes no memory.
     fn pages(&self) -> u64

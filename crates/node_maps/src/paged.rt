@@ -6,6 +6,7 @@ ghost use Rattle.node_maps.specs.Places.{most_layers, tree_height};
 ghost use Rattle.node_maps.specs.declared.page.Cell.TheVariants.{Empty};
 ghost use Rattle.node_maps.specs.Cell.{mark_of, page_length, with_hash};
 ghost use Rattle.node_maps.specs.Known.{tabulate, within};
+ghost use Rattle.node_maps.specs.Nodes.{nodes};
 ghost use Rattle.node_maps.specs.Held.{page_count};
 ghost use Rattle.node_maps.specs.Paged.{AreAsMany, AreSamePagedCells, AreSamePagedCellsBut, HasPages, KeepPages, page_at, cell_at, hashes, HasPage, HoldsTree, marked_cells, row_pages, held_below, held_pages, AreTrimmed};
 ghost use Rattle.node_maps.specs.Needed.{needs_few_pages};
@@ -32,11 +33,8 @@ pub struct Paged {
 }
 
 impl NodeMap for Paged {
-    ghost length = { λ f. f.shape };
-
-    ghost known = { λ f. tabulate f.height (within f.height (hashes f.rows.items)) };
-
-    ghost marked = { λ f. marked_cells f.height f.rows.items };
+    ghost seen = { λ f. nodes f.shape (tabulate f.height (within f.height (hashes f.rows.items)))
+        (marked_cells f.height f.rows.items) };
 
     ghost held = { λ f. held_pages f.rows.items };
 

@@ -12,10 +12,10 @@ use Rattle.node_maps.specs.Places.{IsTreePlace, IsKnown, tree_height}
 use Rattle.node_maps.proofs.Known.{nat_equal, len-known}
 use Rattle.partial_tree.specs.declared.refusal.HashRefusal.TheVariants.{Mismatch}
 use Rattle.partial_tree.specs.Claims.{AreHashes, IsMismatch, IsAgreed, joined}
-use Rattle.partial_tree.specs.Fill.{fill_claims}
-use Rattle.partial_tree.specs.Joins.{TakesLayer, RefusesLayer}
+use Rattle.partial_tree.specs.Fill.{fill_claims, FillRefuses}
+use Rattle.partial_tree.specs.Joins.{TakesLayer}
 use Rattle.partial_tree.specs.Grown.{AgreeInTree, GrownTree, FollowsFromLeaves, grown, leaves_in}
-use Rattle.partial_tree.specs.Kept.{KeptTree, IsGoodTree, kept}
+use Rattle.partial_tree.specs.Kept.{KeptTree, IsGoodTree, TreeTakesLayer, TreeRefusesLayer, kept}
 use Rattle.node_maps.specs.Digest.{Hash}
 use Rattle.node_maps.proofs.Places.{two_halves}
 use Rattle.partial_tree.proofs.Keeping.{good_filled}
@@ -100,22 +100,19 @@ module _ (n : ℕ) (K K' : Known) (is : FollowsFromLeaves n (block_count n) K') 
     record { agreed = agrees same; joined_is = same-joined same; gained = gained },
   )
 
-  pub refuses-grown : IsMismatch (look K) (look K') → RefusesLayer n 0 (leaves_in K' (block_count n)) K Mismatch K
+  pub refuses-grown : IsMismatch (look K) (look K') → FillRefuses n (look K) 0 (leaves_in K' (block_count n)) Mismatch
   refuses-grown m = (
-    (
-      omega arith,
-      all_given n (leaves_in K' (block_count n)) right,
-      record {
-        layer = m.layer;
-        index = m.index;
-        in_J = m.in_J;
-        in_K = m.in_K;
-        J_known = m.J_known;
-        K_known = sym (is.claimed m.layer m.index) ∙ m.K_known;
-        differ = m.differ;
-      },
-    ),
-    refl,
+    omega arith,
+    all_given n (leaves_in K' (block_count n)) right,
+    record {
+      layer = m.layer;
+      index = m.index;
+      in_J = m.in_J;
+      in_K = m.in_K;
+      J_known = m.J_known;
+      K_known = sym (is.claimed m.layer m.index) ∙ m.K_known;
+      differ = m.differ;
+    },
   )
 
 -- ---- as trees keep them
@@ -134,24 +131,23 @@ module _ (n : ℕ) (root : Hash) (K K' : Known) (M : Marked) (old : KeptTree) (n
   pub fewer : len K < 2 ^ suc (tree_height n)
   fewer = len-known (tree_height n) K inside
 
-  pub adopted : (c : ℕ) (after : Known) → AgreeInTree (look K) (look K') (tree_height n) → after ≡ K' → len K' ≡ len K + c → TakesLayer old.length 0 new.leaves old.state.known c after
-  adopted c after same stays gained =
-      subst (λ m. TakesLayer old.length 0 new.leaves old.state.known c m) (sym stays)
-      (subst (λ (t : KeptTree). TakesLayer t.length 0 new.leaves t.state.known c K') old_is
-      (subst (λ (t : GrownTree). TakesLayer n 0 t.leaves K c K') new_is (takes-grown n K K' is inside c same gained)))
+  pub adopted : (c : ℕ) (after : Known) (marks : Marked) → AgreeInTree (look K) (look K') (tree_height n) → after ≡ K' → marks ≡ M → len K' ≡ len K + c → TreeTakesLayer old 0 new.leaves c (kept root n after marks)
+  adopted c after marks same stays carried gained =
+      subst (λ J. TreeTakesLayer old 0 new.leaves c (kept root n J marks)) (sym stays)
+      (subst (λ m. TreeTakesLayer old 0 new.leaves c (kept root n K' m)) (sym carried)
+      (subst (λ t. TreeTakesLayer t 0 new.leaves c (kept root n K' M)) old_is
+      (subst (λ (t : GrownTree). TreeTakesLayer (kept root n K M) 0 t.leaves c (kept root n K' M)) new_is (takes-grown n K K' is inside c same gained, refl))))
 
-  pub not-adopted : IsMismatch (look K) (look K') → RefusesLayer old.length 0 new.leaves old.state.known Mismatch old.state.known
+  pub not-adopted : IsMismatch (look K) (look K') → TreeRefusesLayer old 0 new.leaves Mismatch
   not-adopted m =
-      subst (λ (t : KeptTree). RefusesLayer t.length 0 new.leaves t.state.known Mismatch t.state.known) old_is
-      (subst (λ (t : GrownTree). RefusesLayer n 0 t.leaves K Mismatch K) new_is (refuses-grown n K K' is inside m))
+      subst (λ t. TreeRefusesLayer t 0 new.leaves Mismatch) old_is
+      (subst (λ (t : GrownTree). TreeRefusesLayer (kept root n K M) 0 t.leaves Mismatch) new_is (refuses-grown n K K' is inside m))
 
   -- the tree that took over is good
-  pub good-adopted : (c : ℕ) (after : Known) (new-tree : KeptTree) → new-tree.root ≡ old.root → new-tree.length ≡ old.length → new-tree.state.marked ≡ old.state.marked → new-tree.state.known ≡ after
-      → TakesLayer old.length 0 new.leaves old.state.known c after → IsGoodTree new-tree
-  good-adopted c after new-tree root_is length_is marks is_after taken =
+  pub good-adopted : (c : ℕ) (after : KeptTree) → TreeTakesLayer old 0 new.leaves c after → IsGoodTree after
+  good-adopted c after taken =
       let sizes : AreHashes new.leaves = subst (λ (t : GrownTree). AreHashes t.leaves) new_is is.hashes in
-      let taken' : TakesLayer old.length 0 new.leaves old.state.known c new-tree.state.known = subst (λ m. TakesLayer old.length 0 new.leaves old.state.known c m) (sym is_after) taken in
-      good_filled old new-tree 0 new.leaves c good sizes root_is length_is marks taken'.0 taken'.1
+      good_filled old after 0 new.leaves c good sizes taken
 
 -- the number of a tree's places, as it is computed
 pub places_of : (h : ℕ) → h ≤ 32 → 2 * 2 ^ h % 18446744073709551616 ≡ 2 ^ suc h

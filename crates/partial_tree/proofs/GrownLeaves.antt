@@ -1,6 +1,6 @@
 -- A tree that grows from its leaves: first the leaves, then the pads after them, then the layers
 -- above, one after the other.
-use Rattle.std.proofs.Common.{◌≡◌, ◌≢◌, ◌⊎◌, ℕ, zero, suc, ◌+◌, ◌-◌, ◌*◌, ◌/◌, ◌%◌, ◌^◌, ◌<◌, ◌≤◌, List, [], ◌∷◌, ◌++◌, length, get_or, Some, None, inl, inr, refl, sym, ap, ap₂, ◌∙◌, subst, arith, pow_pos, div-one, div-add-mod', mod-eq_of_lt}
+use Rattle.std.proofs.Common.{◌≡◌, ◌≢◌, ◌⊎◌, ℕ, zero, suc, ◌+◌, ◌-◌, ◌*◌, ◌/◌, ◌%◌, ◌^◌, ◌<◌, ◌≤◌, List, [], ◌∷◌, ◌++◌, length, get_or, Some, None, inl, inr, refl, sym, ap, ap₂, ◌∙◌, subst, subst₂, arith, pow_pos, div-one, div-add-mod', mod-eq_of_lt}
 use Rattle.std.specs.FinMap.{insert, len, empty, len-empty, get-empty}
 use Rattle.std.specs.Prelude.{slice_get}
 use Rattle.std.specs.Option.{unwrap_or}
@@ -275,9 +275,10 @@ module _ (n count : ℕ) (K : Known) (t : GrownTree) (view_is : grown n (leaves_
   unseen : (layer : ℕ) (K' : Known) → IsUpTo t.length t.leaves layer K' → IsUpTo n (leaves_in K (block_count n)) layer K'
   unseen layer K' up = subst (λ k. IsUpTo n (leaves_in K k) layer K') all (subst (λ (x : GrownTree). IsUpTo x.length x.leaves layer K') (sym view_is) up)
 
-  pub padded : (to : ℕ) (K' : Known) → to ≡ 2 ^ tree_height n → AddsRow K 0 count to (λ _. Some pad_leaf) K' → IsUpTo t.length t.leaves 0 K'
-  padded to K' whole adds =
-      seen 0 K' (pads-same n K every K' (subst (λ k. AddsRow K 0 k (2 ^ tree_height n) (λ _. Some pad_leaf) K') all (subst (λ k. AddsRow K 0 count k (λ _. Some pad_leaf) K') whole adds)))
+  pub padded : (from to : ℕ) (K' : Known) → from ≡ block_count n → to ≡ 2 ^ tree_height n
+      → AddsRow K 0 from to (λ _. Some pad_leaf) K' → IsUpTo t.length t.leaves 0 K'
+  padded from to K' past whole adds =
+      seen 0 K' (pads-same n K every K' (subst₂ (λ j k. AddsRow K 0 j k (λ _. Some pad_leaf) K') past whole adds))
 
   pub ended : (layer : ℕ) (K' K'' : Known) → layer ≡ tree_height n → IsUpTo t.length t.leaves layer K' → K'' ≡ K'
       → (len K'' + 1 ≡ 2 ^ suc (tree_height n)) × FollowsFromLeaves n (block_count n) K'' × (leaves_in K'' (block_count n) ≡ t.leaves)
@@ -308,3 +309,15 @@ shifted k low =
     let small : 2 ^ k ≤ 2 ^ 32 = pow_more k 32 low in
     let same : 1 * 2 ^ k ≡ 2 ^ k = omega arith in
     mod-eq_of_lt (omega arith) ∙ same
+
+-- pads stand only beside more leaves than one
+pub has_pads : (blocks h : ℕ) → 0 < blocks → ((k : ℕ) → blocks ≤ 2 ^ k → h ≤ k) → h ≤ 32
+    → blocks < 1 * 2 ^ h % 18446744073709551616 → 1 < blocks
+has_pads blocks h some least low pads = elim (cases_lt 1 blocks) [
+  | inl more ↦ more
+  | inr one ↦
+      let flat : h ≤ 0 = least 0 (omega (arith, one)) in
+      let none : h ≡ 0 = omega (arith, flat) in
+      let single : 2 ^ h ≡ 2 ^ 0 = ap (λ k. 2 ^ k) none in
+      absurd (omega (arith, pads, shifted h low, single, some))
+]

@@ -12,26 +12,13 @@ use Rattle.partial_tree.specs.TreeRoot.{TreeRoot}
 use Rattle.node_maps.specs.Places.{PartialTree, IsKnown}
 use Rattle.partial_tree.specs.Closed.{IsClosed}
 use Rattle.partial_tree.specs.declared.refusal.HashRefusal.{HashRefusal}
-use Rattle.partial_tree.specs.Claims.{AreHashes, claims, joined, IsAccepted, TreeRefuses}
-use Rattle.partial_tree.specs.Fill.{fill_claims, IsFillAccepted, FillRefuses}
+use Rattle.partial_tree.specs.declared.refusal.BlockRefusal.{BlockRefusal}
+use Rattle.partial_tree.specs.Claims.{AreHashes, claims, joined}
+use Rattle.partial_tree.specs.Fill.{fill_claims}
 use Rattle.node_maps.specs.Known.{look}
-use Rattle.partial_tree.specs.Joins.{Joins}
-use Rattle.partial_tree.specs.Kept.{TreeState, KeptTree, kept, info_of, IsGoodTree, IsMarked}
+use Rattle.partial_tree.specs.Kept.{TreeState, KeptTree, info_of, IsGoodTree, TreeJoins, TreeTakesHashes, TreeRefusesHashes, TreeTakesLayer, TreeRefusesLayer, TreeMarks, TreeRefusesBlock}
 use Rattle.partial_tree.proofs.Joining.{joined-closed, joined-keeps}
 use Rattle.partial_tree.proofs.WholeLayers.{fill-closed}
-
-pub same_tree : (a b : KeptTree) → b.root ≡ a.root → b.length ≡ a.length → b.state.known ≡ a.state.known → b.state.marked ≡ a.state.marked → b ≡ a
-same_tree a b r l k m =
-    ap (λ x. kept x b.length b.state.known b.state.marked) r ∙ ap (λ x. kept a.root x b.state.known b.state.marked) l
-    ∙ ap (λ x. kept a.root a.length x b.state.marked) k ∙ ap (λ x. kept a.root a.length a.state.known x) m
-
-pub good_same : (a b : KeptTree) → b.root ≡ a.root → b.length ≡ a.length → b.state.known ≡ a.state.known → b.state.marked ≡ a.state.marked → IsGoodTree a → IsGoodTree b
-good_same a b r l k m good = subst IsGoodTree (sym (same_tree a b r l k m)) good
-
-pub same_info : (a b : KeptTree) → b.root ≡ a.root → b.length ≡ a.length → info_of b ≡ info_of a
-same_info a b r l =
-    let info : Hash → ℕ → TreeRoot = λ x y. record { root = x; length = y } in
-    ap (λ x. info x b.length) r ∙ ap (λ y. info a.root y) l
 
 pub closed-same : (t : TreeRoot) (K L : PartialTree) → ((l i : ℕ) → K l i ≡ L l i) → IsClosed t K → IsClosed t L
 closed-same t K L same closed = subst (IsClosed t) (λ i l j. same l j i) closed
@@ -44,48 +31,55 @@ marked-known s b i leaf known old e =
       | inr before ↦ old before
     ]
 
-pub good_joined : (a b : KeptTree) (C : PartialTree) (c : ℕ) → IsGoodTree a → b.root ≡ a.root → b.length ≡ a.length → b.state.marked ≡ a.state.marked
-    → IsClosed (info_of a) (joined (look a.state.known) C) → Joins C a.state.known b.state.known c → IsGoodTree b
-good_joined a b C c good r l m closed joins = record {
-  closed = subst (λ t. IsClosed t (look b.state.known)) (sym (same_info a b r l))
+pub good_joined : (a b : KeptTree) (C : PartialTree) (c : ℕ) → IsGoodTree a → IsClosed (info_of a) (joined (look a.state.known) C) → TreeJoins C a c b → IsGoodTree b
+good_joined a b C c good closed (joins, rest) = record {
+  closed = subst (λ t. IsClosed t (look b.state.known)) (sym (ap info_of rest))
       (closed-same (info_of a) (joined (look a.state.known) C) (look b.state.known) (λ y i. sym (joins.joined_is y i)) closed);
   marks = λ i e.
-      let known : IsKnown (look a.state.known) 0 i = good.marks i (ap (λ s. set.contains s i) (sym m) ∙ e) in
+      let known : IsKnown (look a.state.known) 0 i = good.marks i (ap (λ (t : KeptTree). set.contains t.state.marked i) (sym rest) ∙ e) in
       (known.0, joins.joined_is 0 i ∙ joined-keeps (look a.state.known) C 0 i known.0 known.1);
 }
 
-pub good_taken : (a b : KeptTree) (ask : Ask) (hashes : List Hash) (c : ℕ) → IsGoodTree a → AreHashes hashes
-    → b.root ≡ a.root → b.length ≡ a.length → b.state.marked ≡ a.state.marked
-    → IsAccepted a.length (look a.state.known) ask hashes → Joins (claims ask hashes) a.state.known b.state.known c → IsGoodTree b
-good_taken a b ask hashes c good sizes r l m ok joins =
-    good_joined a b (claims ask hashes) c good r l m (joined-closed (info_of a) (look a.state.known) ask hashes good.closed sizes ok) joins
+pub good_taken : (a b : KeptTree) (ask : Ask) (hashes : List Hash) (c : ℕ) → IsGoodTree a → AreHashes hashes → TreeTakesHashes a ask hashes c b → IsGoodTree b
+good_taken a b ask hashes c good sizes ((ok, joins), rest) =
+    good_joined a b (claims ask hashes) c good (joined-closed (info_of a) (look a.state.known) ask hashes good.closed sizes ok) (joins, rest)
 
-pub good_filled : (a b : KeptTree) (layer : ℕ) (hashes : List Hash) (c : ℕ) → IsGoodTree a → AreHashes hashes
-    → b.root ≡ a.root → b.length ≡ a.length → b.state.marked ≡ a.state.marked
-    → IsFillAccepted a.length (look a.state.known) layer hashes → Joins (fill_claims a.length layer hashes) a.state.known b.state.known c → IsGoodTree b
-good_filled a b layer hashes c good sizes r l m ok joins =
-    good_joined a b (fill_claims a.length layer hashes) c good r l m
-    (fill-closed (info_of a) (look a.state.known) layer hashes ok.layer_inside ok.right_count good.closed sizes ok.agrees) joins
+pub good_filled : (a b : KeptTree) (layer : ℕ) (hashes : List Hash) (c : ℕ) → IsGoodTree a → AreHashes hashes → TreeTakesLayer a layer hashes c b → IsGoodTree b
+good_filled a b layer hashes c good sizes ((ok, joins), rest) =
+    good_joined a b (fill_claims a.length layer hashes) c good
+    (fill-closed (info_of a) (look a.state.known) layer hashes ok.layer_inside ok.right_count good.closed sizes ok.agrees) (joins, rest)
 
-pub good_marked : (a b : KeptTree) (i : ℕ) (bytes : List ℕ) → IsGoodTree a → b.root ≡ a.root → b.length ≡ a.length → b.state.known ≡ a.state.known
-    → IsMarked a.length a.state i bytes b.state → IsGoodTree b
-good_marked a b i bytes good r l k ok = record {
-  closed = subst (λ t. IsClosed t (look b.state.known)) (sym (same_info a b r l)) (subst (λ m. IsClosed (info_of a) (look m)) (sym k) good.closed);
-  marks = λ j e.
-      let known : IsKnown (look a.state.known) 0 j = marked-known a.state i j (sha256 bytes) ok.leaf_known (good.marks j) (ap (λ s. set.contains s j) (sym ok.marks) ∙ e) in
-      (known.0, ap (λ m. look m 0 j) k ∙ known.1);
-}
+pub good_marked : (a b : KeptTree) (i : ℕ) (bytes : List ℕ) → IsGoodTree a → TreeMarks a i bytes b → IsGoodTree b
+good_marked a b i bytes good ok = subst IsGoodTree (sym ok.marks) (record {
+  closed = good.closed;
+  marks = λ j e. marked-known a.state i j (sha256 bytes) ok.leaf_known (good.marks j) e;
+})
+
+-- ---- after a call, whether it took what it was given or refused it
+
+-- a good tree of the same root and length
+abbrev pub StaysGood : KeptTree → KeptTree → Type 0
+StaysGood a b = (info_of b ≡ info_of a) × IsGoodTree b
+
+same-stays_good : (a b : KeptTree) → IsGoodTree a → b ≡ a → StaysGood a b
+same-stays_good a b good same = (ap info_of same, subst IsGoodTree (sym same) good)
 
 pub good_after_take : (a b : KeptTree) (ask : Ask) (hashes : List Hash) (r : Result ℕ HashRefusal) → IsGoodTree a → AreHashes hashes
-    → b.root ≡ a.root → b.length ≡ a.length → b.state.marked ≡ a.state.marked
-    → IfOk r (λ c. IsAccepted a.length (look a.state.known) ask hashes × Joins (claims ask hashes) a.state.known b.state.known c)
-    → IfErr r (λ x. TreeRefuses a.length (look a.state.known) ask hashes x × (b.state.known ≡ a.state.known)) → IsGoodTree b
-good_after_take a b ask hashes (Ok c) good sizes r l m taken refused = good_taken a b ask hashes c good sizes r l m taken.0 taken.1
-good_after_take a b ask hashes (Err x) good sizes r l m taken refused = subst IsGoodTree (sym (same_tree a b r l refused.1 m)) good
+    → IfOk r (λ c. TreeTakesHashes a ask hashes c b) → IfErr r (λ x. TreeRefusesHashes a ask hashes x × (b ≡ a)) → StaysGood a b
+good_after_take a b ask hashes (Ok c) good sizes taken refused = (ap info_of taken.1, good_taken a b ask hashes c good sizes taken)
+good_after_take a b ask hashes (Err x) good sizes taken refused = same-stays_good a b good refused.1
 
 pub good_after_fill : (a b : KeptTree) (layer : ℕ) (hashes : List Hash) (r : Result ℕ HashRefusal) → IsGoodTree a → AreHashes hashes
-    → b.root ≡ a.root → b.length ≡ a.length → b.state.marked ≡ a.state.marked
-    → IfOk r (λ c. IsFillAccepted a.length (look a.state.known) layer hashes × Joins (fill_claims a.length layer hashes) a.state.known b.state.known c)
-    → IfErr r (λ x. FillRefuses a.length (look a.state.known) layer hashes x × (b.state.known ≡ a.state.known)) → IsGoodTree b
-good_after_fill a b layer hashes (Ok c) good sizes r l m filled refused = good_filled a b layer hashes c good sizes r l m filled.0 filled.1
-good_after_fill a b layer hashes (Err x) good sizes r l m filled refused = good_same a b r l refused.1 m good
+    → IfOk r (λ c. TreeTakesLayer a layer hashes c b) → IfErr r (λ x. TreeRefusesLayer a layer hashes x × (b ≡ a)) → StaysGood a b
+good_after_fill a b layer hashes (Ok c) good sizes filled refused = (ap info_of filled.1, good_filled a b layer hashes c good sizes filled)
+good_after_fill a b layer hashes (Err x) good sizes filled refused = same-stays_good a b good refused.1
+
+pub stays_good_adopted : (a b : KeptTree) (leaves : List Hash) (r : Result ℕ HashRefusal)
+    → IfOk r (λ c. TreeTakesLayer a 0 leaves c b) → IfErr r (λ x. TreeRefusesLayer a 0 leaves x × (b ≡ a)) → IsGoodTree b → StaysGood a b
+stays_good_adopted a b leaves (Ok c) adopted refused good = (ap info_of adopted.1, good)
+stays_good_adopted a b leaves (Err x) adopted refused good = (ap info_of refused.1, good)
+
+pub good_after_block : {X : Type 0} (a b : KeptTree) (i : ℕ) (bytes : List ℕ) (r : Result X BlockRefusal) → IsGoodTree a
+    → IfOk r (λ _. TreeMarks a i bytes b) → IfErr r (λ x. TreeRefusesBlock a i bytes x × (b ≡ a)) → StaysGood a b
+good_after_block a b i bytes (Ok x) good taken refused = (ap info_of taken.marks, good_marked a b i bytes good taken)
+good_after_block a b i bytes (Err x) good taken refused = same-stays_good a b good refused.1

@@ -198,9 +198,9 @@ taken_by ev t before after ask hashes (Ok c) same range count pads top joins =
     (accepts t (look before) ask hashes range count pads top moved.agreed, moved)
 taken_by ev t before after ask hashes (Err r) same range count pads top joins = tt
 
-pub refused_by : (ev : Evidence) (t : TreeRoot) (before after : Known) (ask : Ask) (hashes : List Hash) (r : Result ℕ HashRefusal) → claimed_by ev ≡ claims ask hashes
+pub refused_by : (ev : Evidence) (t : TreeRoot) (before : Known) (Stays : Type 0) (ask : Ask) (hashes : List Hash) (r : Result ℕ HashRefusal) → claimed_by ev ≡ claims ask hashes
     → GoodRange (tree_height t.length) ask → GoodCount (tree_height t.length) ask hashes → ArePadsRight t.length ask hashes → IsKnown (look before) (top_layer ask hashes) (top_index ask hashes)
-    → IfErr r (λ x. StoreFault (look before) (claimed_by ev) x × (after ≡ before)) → IfErr r (λ x. TreeRefuses t.length (look before) ask hashes x × (after ≡ before))
-refused_by ev t before after ask hashes (Ok c) same range count pads top fault = tt
-refused_by ev t before after ask hashes (Err r) same range count pads top fault =
+    → IfErr r (λ x. StoreFault (look before) (claimed_by ev) x × Stays) → IfErr r (λ x. TreeRefuses t.length (look before) ask hashes x × Stays)
+refused_by ev t before Stays ask hashes (Ok c) same range count pads top fault = tt
+refused_by ev t before Stays ask hashes (Err r) same range count pads top fault =
     (refuses_store t (look before) ask hashes range count pads top r (subst (λ (C : PartialTree). StoreFault (look before) C r) same fault.0), fault.1)

@@ -6,9 +6,8 @@ use Rattle.node_maps.specs.Places.{PartialTree}
 use Rattle.node_maps.specs.Known.{Known, look}
 use Rattle.partial_tree.specs.declared.found.Claim.{Claim}
 use Rattle.wire.specs.declared.message.Ask.{Ask}
-use Rattle.partial_tree.specs.declared.refusal.HashRefusal.{HashRefusal}
-use Rattle.partial_tree.specs.Claims.{claims, joined, IsAgreed, IsAccepted, TreeRefuses}
-use Rattle.partial_tree.specs.Fill.{fill_claims, IsFillAccepted, FillRefuses}
+use Rattle.partial_tree.specs.Claims.{claims, joined, IsAgreed, IsAccepted}
+use Rattle.partial_tree.specs.Fill.{fill_claims, IsFillAccepted}
 
 -- with this hash at a place, if it has none
 abbrev pub insert_absent : Known → ℕ × ℕ → Hash → Option Hash → Known
@@ -36,18 +35,8 @@ abbrev pub TakesHashes : ℕ → Ask → List Hash → Known → ℕ → Known �
 TakesHashes len ask hashes before c after = IsAccepted len (look before) ask hashes
     × Joins (claims ask hashes) before after c
 
--- a message is refused, and what is known stays
-abbrev pub RefusesHashes : ℕ → Ask → List Hash → Known → HashRefusal → Known → Type 0
-RefusesHashes len ask hashes before r after = TreeRefuses len (look before) ask hashes r
-    × (after ≡ before)
-
 -- a whole layer is accepted for a tree of files of this length, and what follows is joined to what
 -- was known
 abbrev pub TakesLayer : ℕ → ℕ → List Hash → Known → ℕ → Known → Type 0
 TakesLayer len l hashes before c after = IsFillAccepted len (look before) l hashes
     × Joins (fill_claims len l hashes) before after c
-
--- a whole layer is refused, and what is known stays
-abbrev pub RefusesLayer : ℕ → ℕ → List Hash → Known → HashRefusal → Known → Type 0
-RefusesLayer len l hashes before r after = FillRefuses len (look before) l hashes r
-    × (after ≡ before)

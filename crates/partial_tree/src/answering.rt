@@ -20,13 +20,13 @@ pub(crate) fn answer_hashes<N: NodeMap>(
     span: u32,
 ) -> Result<Vec<Hash>, NoMemory>
     requires low { height ≤ 32 }
-    requires known { CanAnswer height (look (N.known nodes.now)) ask.now }
+    requires known { CanAnswer height (look (N.seen nodes.now).known) ask.now }
     requires span { 2 ^ span ≡ ask.now.length }
     requires some { 1 ≤ span }
     requires small { span ≤ most_span }
     requires inside { ask.now.base + span ≤ height }
     ensures { IfOk result (λ hashes. hashes.items ≡ answer_of height
-        (look (N.known nodes.now)) ask.now) }
+        (look (N.seen nodes.now).known) ask.now) }
 {
     let uncles = ask
         .proof
@@ -48,7 +48,7 @@ pub(crate) fn answer_hashes<N: NodeMap>(
 
 // The hash at a place; the pad leaf if it is not known.
 fn known_or_pad<N: NodeMap>(nodes: &N, layer: u32, index: u64) -> Hash
-    ensures { result ≡ hash_or_pad (look (N.known nodes.now)) layer index }
+    ensures { result ≡ hash_or_pad (look (N.seen nodes.now).known) layer index }
 {
     nodes.get(layer, index).unwrap_or(zero(0))
 }

@@ -23,17 +23,18 @@ pub(crate) fn trace<N: NodeMap>(
     layer: u32,
     index: u64,
 ) -> Option<Hash>
-    requires at { IsClaimedPlace (tree_height (N.length map.now)) evidence.now layer index }
+    requires at { IsClaimedPlace (tree_height (N.seen map.now).length) evidence.now layer index }
     requires sound { AreClaims (claimed_by evidence.now) found.old.claims.items }
-    requires notes_new { NotesNew (look (N.known map.now)) (claimed_by evidence.now) found.old }
+    requires notes_new { NotesNew (look (N.seen map.now).known) (claimed_by evidence.now)
+        found.old }
     ensures value { IfSome result (λ v. claimed_by evidence.now layer index ≡ Some v) }
     ensures handled { OnSome result (AllHandled (claimed_by evidence.now)
-        (look (N.known map.now)) found.new layer index) }
-    ensures differs { IfNone result (IsMismatch (look (N.known map.now))
+        (look (N.seen map.now).known) found.new layer index) }
+    ensures differs { IfNone result (IsMismatch (look (N.seen map.now).known)
         (claimed_by evidence.now)) }
     ensures grows { Grows found.old found.new }
     ensures sound { AreClaims (claimed_by evidence.now) found.new.claims.items }
-    ensures notes_new { NotesNew (look (N.known map.now)) (claimed_by evidence.now) found.new }
+    ensures notes_new { NotesNew (look (N.seen map.now).known) (claimed_by evidence.now) found.new }
 {
     let hash = derive(map, evidence, found, layer, index)?;
     if !compare(map, found, Claim { layer, index, hash }) {
@@ -52,17 +53,18 @@ fn derive<N: NodeMap>(
     layer: u32,
     index: u64,
 ) -> Option<Hash>
-    requires at { IsClaimedPlace (tree_height (N.length map.now)) evidence.now layer index }
+    requires at { IsClaimedPlace (tree_height (N.seen map.now).length) evidence.now layer index }
     requires sound { AreClaims (claimed_by evidence.now) found.old.claims.items }
-    requires notes_new { NotesNew (look (N.known map.now)) (claimed_by evidence.now) found.old }
+    requires notes_new { NotesNew (look (N.seen map.now).known) (claimed_by evidence.now)
+        found.old }
     ensures value { IfSome result (λ v. claimed_by evidence.now layer index ≡ Some v) }
     ensures handled { OnSome result (BelowHandled (claimed_by evidence.now)
-        (look (N.known map.now)) found.new layer index) }
-    ensures differs { IfNone result (IsMismatch (look (N.known map.now))
+        (look (N.seen map.now).known) found.new layer index) }
+    ensures differs { IfNone result (IsMismatch (look (N.seen map.now).known)
         (claimed_by evidence.now)) }
     ensures grows { Grows found.old found.new }
     ensures sound { AreClaims (claimed_by evidence.now) found.new.claims.items }
-    ensures notes_new { NotesNew (look (N.known map.now)) (claimed_by evidence.now) found.new }
+    ensures notes_new { NotesNew (look (N.seen map.now).known) (claimed_by evidence.now) found.new }
 {
     match evidence.given(layer, index) {
         Some(hash) => Some(hash),
@@ -77,14 +79,14 @@ fn derive<N: NodeMap>(
 // Compares the hash that is claimed for a place with the known one, or notes the claim. False if
 // the two differ.
 fn compare<N: NodeMap>(map: &N, found: &mut Found, claim: Claim) -> bool
-    ensures same { OnTrue result (IsHandledClaim (N.known map.now) found.new claim) }
-    ensures differs { OnFalse result (DiffersFrom (N.known map.now) claim) }
+    ensures same { OnTrue result (IsHandledClaim (N.seen map.now).known found.new claim) }
+    ensures differs { OnFalse result (DiffersFrom (N.seen map.now).known claim) }
     ensures grows { Grows found.old found.new }
     ensures sound { (C : PartialTree) → C claim.layer claim.index ≡ Some claim.hash
         → AreClaims C found.old.claims.items → AreClaims C found.new.claims.items }
     ensures notes_new { (C : PartialTree) → C claim.layer claim.index ≡ Some claim.hash
-        → NotesNew (look (N.known map.now)) C found.old
-        → NotesNew (look (N.known map.now)) C found.new }
+        → NotesNew (look (N.seen map.now).known) C found.old
+        → NotesNew (look (N.seen map.now).known) C found.new }
 {
     match map.get(claim.layer, claim.index) {
         Some(known) => known == claim.hash,

@@ -3,8 +3,9 @@
 ghost use Rattle.std.specs.Prelude.{◌≡◌, ◌≤◌, OnErr, IfOk, IfErr};
 ghost use Rattle.node_maps.specs.Places.{tree_height};
 ghost use Rattle.node_maps.specs.Known.{look};
-ghost use Rattle.partial_tree.specs.Fill.{fill_claims, IsFillAccepted};
-ghost use Rattle.partial_tree.specs.Joins.{Joins, TakesLayer, RefusesLayer};
+ghost use Rattle.node_maps.specs.Nodes.{KeepsMarks};
+ghost use Rattle.partial_tree.specs.Fill.{fill_claims, FillRefuses, IsFillAccepted};
+ghost use Rattle.partial_tree.specs.Joins.{Joins, TakesLayer};
 
 use crate::evidence::Evidence;
 use crate::refusal::HashRefusal;
@@ -22,17 +23,17 @@ pub(crate) fn fill_layer<N: NodeMap>(
     layer: u32,
     hashes: &[Hash],
 ) -> Result<u64, HashRefusal>
-    requires shape { N.length nodes.old ≡ shape }
+    requires shape { (N.seen nodes.old).length ≡ shape }
     requires height { height ≡ tree_height shape }
     requires low { height ≤ 32 }
-    requires trimmed { N.held nodes.old ≡ N.needed (N.known nodes.old) }
-    ensures length { N.length nodes.new ≡ N.length nodes.old }
-    ensures marked { N.marked nodes.new ≡ N.marked nodes.old }
-    ensures trimmed { N.held nodes.new ≡ N.needed (N.known nodes.new) }
-    ensures filled { IfOk result (λ c. TakesLayer shape layer hashes.now (N.known nodes.old) c
-        (N.known nodes.new)) }
-    ensures refused { IfErr result (λ r. RefusesLayer shape layer hashes.now (N.known nodes.old) r
-        (N.known nodes.new)) }
+    requires trimmed { N.held nodes.old ≡ N.needed (N.seen nodes.old).known }
+    ensures stays { KeepsMarks (N.seen nodes.old) (N.seen nodes.new) }
+    ensures trimmed { N.held nodes.new ≡ N.needed (N.seen nodes.new).known }
+    ensures filled { IfOk result (λ c. TakesLayer shape layer hashes.now (N.seen nodes.old).known c
+        (N.seen nodes.new).known) }
+    ensures refused { IfErr result (λ r.
+        FillRefuses shape (look (N.seen nodes.old).known) layer hashes.now r
+        × (N.seen nodes.new ≡ N.seen nodes.old)) }
 {
     if layer > height {
         return Err(HashRefusal::BadRange);
@@ -59,17 +60,16 @@ pub(crate) fn plant_layer<N: NodeMap>(
     layer: u32,
     hashes: &[Hash],
 ) -> Result<u64, NoMemory>
-    requires shape { N.length nodes.old ≡ shape }
+    requires shape { (N.seen nodes.old).length ≡ shape }
     requires height { height ≡ tree_height shape }
     requires low { height ≤ 32 }
-    requires accepted { IsFillAccepted shape (look (N.known nodes.old)) layer hashes.now }
-    requires trimmed { N.held nodes.old ≡ N.needed (N.known nodes.old) }
-    ensures length { N.length nodes.new ≡ N.length nodes.old }
-    ensures marked { N.marked nodes.new ≡ N.marked nodes.old }
-    ensures trimmed { N.held nodes.new ≡ N.needed (N.known nodes.new) }
+    requires accepted { IsFillAccepted shape (look (N.seen nodes.old).known) layer hashes.now }
+    requires trimmed { N.held nodes.old ≡ N.needed (N.seen nodes.old).known }
+    ensures stays { KeepsMarks (N.seen nodes.old) (N.seen nodes.new) }
+    ensures trimmed { N.held nodes.new ≡ N.needed (N.seen nodes.new).known }
     ensures planted { IfOk result (λ c. Joins (fill_claims shape layer hashes.now)
-        (N.known nodes.old) (N.known nodes.new) c) }
-    ensures refused { OnErr result (N.known nodes.new ≡ N.known nodes.old) }
+        (N.seen nodes.old).known (N.seen nodes.new).known c) }
+    ensures refused { OnErr result (N.seen nodes.new ≡ N.seen nodes.old) }
 {
     let evidence = Evidence {
         base: layer,

@@ -32,12 +32,12 @@ impl<N: NodeMap> Model for GrowingTree<N> {
 
     ghost coded = { grown_tree_code };
 
-    ghost view = { λ t. grown t.shape (leaves_in (N.known t.nodes) t.count) };
+    ghost view = { λ t. grown t.shape (leaves_in (N.seen t.nodes).known t.count) };
 
-    ghost invariant = { λ t. (N.length t.nodes ≡ t.shape)
+    ghost invariant = { λ t. ((N.seen t.nodes).length ≡ t.shape)
         × (t.count ≤ block_count t.shape)
-        × (N.marked t.nodes ≡ empty)
-        × IsGrowing t.count (N.known t.nodes) };
+        × ((N.seen t.nodes).marked ≡ empty)
+        × IsGrowing t.count (N.seen t.nodes).known };
 }
 
 impl<N: NodeMap> GrowingTree<N> {
@@ -67,15 +67,17 @@ impl<N: NodeMap> GrowingTree<N> {
     }
 
     /// The whole tree over the leaves, with the pads past the file's end. It fails only if memory
-    /// was refused. Condition: there is a leaf for each block.
+    /// was refused; the tree of one block takes none. Condition: there is a leaf for each block.
     pub fn finish(self) -> Result<GrownTree<N>, NoMemory>
         requires { length self.leaves ≡ block_count self.length }
         ensures length { IfOk result (λ tree. tree.length ≡ self.length) }
         ensures leaves { IfOk result (λ tree. tree.leaves ≡ self.leaves) }
+        ensures no_memory { OnErr result (1 < block_count self.length) }
     {
         let height = self.shape.height();
+        let blocks = self.shape.blocks();
         let mut nodes = self.nodes;
-        add_pads(&mut nodes, self.count, 1 << height)?;
+        add_pads(&mut nodes, blocks, 1 << height)?;
         'layers: for layer in 0..height {
             add_parents(&mut nodes, layer, 1 << (height - layer - 1))?;
         }
@@ -108,11 +110,11 @@ impl<N: NodeMap> Model for GrownTree<N> {
 
     ghost coded = { grown_tree_code };
 
-    ghost view = { λ t. grown t.shape (leaves_in (N.known t.nodes) (block_count t.shape)) };
+    ghost view = { λ t. grown t.shape (leaves_in (N.seen t.nodes).known (block_count t.shape)) };
 
-    ghost invariant = { λ t. (N.length t.nodes ≡ t.shape)
-        × (N.marked t.nodes ≡ empty)
-        × (N.held t.nodes ≡ N.needed (N.known t.nodes))
-        × (len (N.known t.nodes) + 1 ≡ 2 ^ suc (tree_height t.shape))
-        × FollowsFromLeaves t.shape (block_count t.shape) (N.known t.nodes) };
+    ghost invariant = { λ t. ((N.seen t.nodes).length ≡ t.shape)
+        × ((N.seen t.nodes).marked ≡ empty)
+        × (N.held t.nodes ≡ N.needed (N.seen t.nodes).known)
+        × (len (N.seen t.nodes).known + 1 ≡ 2 ^ suc (tree_height t.shape))
+        × FollowsFromLeaves t.shape (block_count t.shape) (N.seen t.nodes).known };
 }

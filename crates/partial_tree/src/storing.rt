@@ -2,8 +2,10 @@
 //! written.
 
 ghost use Rattle.std.specs.Prelude.{◌≡◌, ◌⊎◌, ℕ, ◌≤◌, OnOk, OnErr, IfOk, IfErr};
-ghost use Rattle.node_maps.specs.Places.{tree_height, IsTreePlace, IsKnown};
+ghost use Rattle.node_maps.specs.Places.{tree_height, IsTreePlace};
 ghost use Rattle.node_maps.specs.Known.{look};
+ghost use Rattle.node_maps.specs.Nodes.{KeepsMarks};
+ghost use Rattle.node_maps.specs.Room.{HasRoomFor};
 ghost use Rattle.partial_tree.specs.Claims.{IsAgreed};
 ghost use Rattle.partial_tree.specs.Joins.{Joins};
 ghost use Rattle.partial_tree.specs.Evidence.{claimed_by, LeadsTo, IsInside, AreClaims, AllHandled, StoreFault};
@@ -32,19 +34,18 @@ pub(crate) fn store<N: NodeMap>(
     layer: u32,
     index: u64,
 ) -> Result<u64, HashRefusal>
-    requires low { tree_height (N.length map.old) ≤ 32 }
+    requires low { tree_height (N.seen map.old).length ≤ 32 }
     requires inside { IsInside evidence.now }
-    requires place { IsTreePlace (tree_height (N.length map.old)) layer index }
+    requires place { IsTreePlace (tree_height (N.seen map.old).length) layer index }
     requires leads { LeadsTo evidence.now layer index }
-    requires trimmed { N.held map.old ≡ N.needed (N.known map.old) }
-    ensures length { N.length map.new ≡ N.length map.old }
-    ensures marked { N.marked map.new ≡ N.marked map.old }
-    ensures trimmed { N.held map.new ≡ N.needed (N.known map.new) }
-    ensures stored { IfOk result (λ c. Joins (claimed_by evidence.now) (N.known map.old)
-        (N.known map.new) c) }
-    ensures refused { IfErr result (λ r. StoreFault (look (N.known map.old))
+    requires trimmed { N.held map.old ≡ N.needed (N.seen map.old).known }
+    ensures stays { KeepsMarks (N.seen map.old) (N.seen map.new) }
+    ensures trimmed { N.held map.new ≡ N.needed (N.seen map.new).known }
+    ensures stored { IfOk result (λ c. Joins (claimed_by evidence.now) (N.seen map.old).known
+        (N.seen map.new).known c) }
+    ensures refused { IfErr result (λ r. StoreFault (look (N.seen map.old).known)
         (claimed_by evidence.now) r
-        × (N.known map.new ≡ N.known map.old)) }
+        × (N.seen map.new ≡ N.seen map.old)) }
 {
     let mut found = Found::new(alloc, room_for(evidence));
     if trace(map, evidence, &mut found, layer, index).is_none() {
@@ -71,18 +72,17 @@ pub(crate) fn store_agreed<N: NodeMap>(
     layer: u32,
     index: u64,
 ) -> Result<u64, NoMemory>
-    requires low { tree_height (N.length map.old) ≤ 32 }
+    requires low { tree_height (N.seen map.old).length ≤ 32 }
     requires inside { IsInside evidence.now }
-    requires place { IsTreePlace (tree_height (N.length map.old)) layer index }
+    requires place { IsTreePlace (tree_height (N.seen map.old).length) layer index }
     requires leads { LeadsTo evidence.now layer index }
-    requires agreed { IsAgreed (look (N.known map.old)) (claimed_by evidence.now) }
-    requires trimmed { N.held map.old ≡ N.needed (N.known map.old) }
-    ensures length { N.length map.new ≡ N.length map.old }
-    ensures marked { N.marked map.new ≡ N.marked map.old }
-    ensures trimmed { N.held map.new ≡ N.needed (N.known map.new) }
-    ensures stored { IfOk result (λ c. Joins (claimed_by evidence.now) (N.known map.old)
-        (N.known map.new) c) }
-    ensures refused { OnErr result (N.known map.new ≡ N.known map.old) }
+    requires agreed { IsAgreed (look (N.seen map.old).known) (claimed_by evidence.now) }
+    requires trimmed { N.held map.old ≡ N.needed (N.seen map.old).known }
+    ensures stays { KeepsMarks (N.seen map.old) (N.seen map.new) }
+    ensures trimmed { N.held map.new ≡ N.needed (N.seen map.new).known }
+    ensures stored { IfOk result (λ c. Joins (claimed_by evidence.now) (N.seen map.old).known
+        (N.seen map.new).known c) }
+    ensures refused { OnErr result (N.seen map.new ≡ N.seen map.old) }
 {
     if let Err(refused) = reserve_claimed(map, evidence, layer, index) {
         map.trim();
@@ -102,17 +102,17 @@ fn put_found<N: NodeMap>(
     layer: u32,
     index: u64,
 ) -> u64
-    requires low { tree_height (N.length map.old) ≤ 32 }
+    requires low { tree_height (N.seen map.old).length ≤ 32 }
     requires inside { IsInside evidence.now }
-    requires place { IsTreePlace (tree_height (N.length map.old)) layer index }
+    requires place { IsTreePlace (tree_height (N.seen map.old).length) layer index }
     requires leads { LeadsTo evidence.now layer index }
-    requires room { (l i : ℕ) → IsKnown (claimed_by evidence.now) l i → N.has_room map.old l i }
+    requires room { HasRoomFor (claimed_by evidence.now) (N.has_room map.old) }
     requires sound { AreClaims (claimed_by evidence.now) found.now.claims.items }
-    requires handled { AllHandled (claimed_by evidence.now) (look (N.known map.old)) found.now layer
-        index }
-    ensures length { N.length map.new ≡ N.length map.old }
-    ensures marked { N.marked map.new ≡ N.marked map.old }
-    ensures stored { Joins (claimed_by evidence.now) (N.known map.old) (N.known map.new) result }
+    requires handled { AllHandled (claimed_by evidence.now) (look (N.seen map.old).known) found.now
+        layer index }
+    ensures stays { KeepsMarks (N.seen map.old) (N.seen map.new) }
+    ensures stored { Joins (claimed_by evidence.now) (N.seen map.old).known (N.seen map.new).known
+        result }
 {
     if found.incomplete {
         return write_claimed(map, evidence, layer, index).1;
@@ -135,15 +135,12 @@ fn reserve_claimed<N: NodeMap>(
     layer: u32,
     index: u64,
 ) -> Result<(), NoMemory>
-    requires low { tree_height (N.length map.old) ≤ 32 }
+    requires low { tree_height (N.seen map.old).length ≤ 32 }
     requires inside { IsInside evidence.now }
-    requires place { IsTreePlace (tree_height (N.length map.old)) layer index }
+    requires place { IsTreePlace (tree_height (N.seen map.old).length) layer index }
     requires leads { LeadsTo evidence.now layer index }
-    ensures length { N.length map.new ≡ N.length map.old }
-    ensures known { N.known map.new ≡ N.known map.old }
-    ensures marked { N.marked map.new ≡ N.marked map.old }
-    ensures ok { OnOk result ((l i : ℕ) → IsKnown (claimed_by evidence.now) l i
-        → N.has_room map.new l i) }
+    ensures seen { N.seen map.new ≡ N.seen map.old }
+    ensures ok { OnOk result (HasRoomFor (claimed_by evidence.now) (N.has_room map.new)) }
 {
     'rows: for below in evidence.base..layer {
         let (first, count) = evidence.row(below);

@@ -3,9 +3,10 @@
 ghost use Rattle.std.specs.Prelude.{◌≡◌, ℕ, ◌+◌, ◌-◌, ◌/◌, ◌^◌, ◌<◌, ◌≤◌, IfOk, IfErr, length};
 ghost use Rattle.std.specs.Bool.{OnTrue, OnFalse};
 ghost use Rattle.node_maps.specs.Places.{tree_height, IsKnown, IsTreePlace};
-ghost use Rattle.partial_tree.specs.Claims.{most_span, IsBadPad, ArePadsRight, GoodRange, GoodCount};
+ghost use Rattle.partial_tree.specs.Claims.{most_span, IsBadPad, ArePadsRight, GoodRange, GoodCount, TreeRefuses};
 ghost use Rattle.node_maps.specs.Known.{look};
-ghost use Rattle.partial_tree.specs.Joins.{TakesHashes, RefusesHashes};
+ghost use Rattle.node_maps.specs.Nodes.{KeepsMarks};
+ghost use Rattle.partial_tree.specs.Joins.{TakesHashes};
 
 use crate::checks::{base_pads_fit, check_count, check_range, uncle_pads_fit};
 use crate::evidence::Evidence;
@@ -26,18 +27,19 @@ pub(crate) fn take_message<N: NodeMap>(
     ask: &Ask,
     hashes: &[Hash],
 ) -> Result<u64, HashRefusal>
-    requires shape { N.length nodes.old ≡ shape }
+    requires shape { (N.seen nodes.old).length ≡ shape }
     requires height { height ≡ tree_height shape }
     requires low { height ≤ 32 }
-    requires places { (l i : ℕ) → IsKnown (look (N.known nodes.old)) l i → IsTreePlace height l i }
-    requires trimmed { N.held nodes.old ≡ N.needed (N.known nodes.old) }
-    ensures length { N.length nodes.new ≡ N.length nodes.old }
-    ensures marked { N.marked nodes.new ≡ N.marked nodes.old }
-    ensures trimmed { N.held nodes.new ≡ N.needed (N.known nodes.new) }
-    ensures taken { IfOk result (λ c. TakesHashes shape ask.now hashes.now (N.known nodes.old) c
-        (N.known nodes.new)) }
-    ensures refused { IfErr result (λ r. RefusesHashes shape ask.now hashes.now
-        (N.known nodes.old) r (N.known nodes.new)) }
+    requires places { (l i : ℕ) → IsKnown (look (N.seen nodes.old).known) l i
+        → IsTreePlace height l i }
+    requires trimmed { N.held nodes.old ≡ N.needed (N.seen nodes.old).known }
+    ensures stays { KeepsMarks (N.seen nodes.old) (N.seen nodes.new) }
+    ensures trimmed { N.held nodes.new ≡ N.needed (N.seen nodes.new).known }
+    ensures taken { IfOk result (λ c. TakesHashes shape ask.now hashes.now
+        (N.seen nodes.old).known c (N.seen nodes.new).known) }
+    ensures refused { IfErr result (λ r.
+        TreeRefuses shape (look (N.seen nodes.old).known) ask.now hashes.now r
+        × (N.seen nodes.new ≡ N.seen nodes.old)) }
 {
     let span = check_range(height, ask)?;
     let top = check_count(height, ask, span, hashes)?;

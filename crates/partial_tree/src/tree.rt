@@ -13,19 +13,17 @@
 //!     0      a   b   .   .        a, b   known together, and nothing below d
 //! ```
 
-ghost use Rattle.std.specs.Prelude.{◌≡◌, ℕ, ◌+◌, ◌^◌, ◌<◌, ◌≤◌, ◌↔◌, IfOk, IfErr, OnErr, IsTrue, length};
+ghost use Rattle.std.specs.Prelude.{◌≡◌, ◌+◌, ◌<◌, ◌≤◌, ◌↔◌, IfOk, IfErr, OnErr, IsTrue};
 ghost use Rattle.std.specs.FinMap as finite;
 ghost use Rattle.std.specs.FinSet as set;
 ghost use Rattle.hashtree.specs.Tree.{block_count};
-ghost use Rattle.node_maps.specs.Places.{tree_height, IsKnown};
+ghost use Rattle.node_maps.specs.Places.{IsKnown};
 ghost use Rattle.partial_tree.specs.declared.refusal.HashRefusal.TheVariants.{Mismatch};
-ghost use Rattle.partial_tree.specs.Claims.{CanAnswer};
-ghost use Rattle.partial_tree.specs.Answers.{IsTreeAnswer};
 ghost use Rattle.partial_tree.specs.Gaps.{want_of};
 ghost use Rattle.node_maps.specs.Known.{look};
+ghost use Rattle.node_maps.specs.Nodes.{with_mark};
 ghost use Rattle.partial_tree.specs.Fill.{fill_claims, IsFillAccepted};
-ghost use Rattle.partial_tree.specs.Joins.{Joins, TakesHashes, RefusesHashes, TakesLayer, RefusesLayer};
-ghost use Rattle.partial_tree.specs.Kept.{info_of, root_alone, IsGoodTree, IsMarked, TreeRefusesBlock};
+ghost use Rattle.partial_tree.specs.Kept.{info_of, root_only, IsGoodTree, TreeJoins, TreeTakesHashes, TreeRefusesHashes, TreeTakesLayer, TreeRefusesLayer, TreeMarks, TreeRefusesBlock, TreeCanAnswer, TreeAnswers};
 
 use crate::adopting::{agree, carry_marks};
 use crate::answer::Answer;
@@ -64,20 +62,17 @@ impl<N: NodeMap> Model for Tree<N> {
 
     ghost coded = { kept_tree_code };
 
-    ghost view = { λ t. kept t.root t.shape (N.known t.nodes) (N.marked t.nodes) };
+    ghost view = { λ t. kept t.root t.shape (N.seen t.nodes).known (N.seen t.nodes).marked };
 
-    ghost invariant = { λ t. (N.length t.nodes ≡ t.shape)
-        × IsCounted t.height t.known t.marked t.shape (N.known t.nodes) (N.marked t.nodes)
-        × (N.held t.nodes ≡ N.needed (N.known t.nodes)) };
+    ghost invariant = { λ t. ((N.seen t.nodes).length ≡ t.shape)
+        × IsCounted t.height t.known t.marked t.shape (N.seen t.nodes).known (N.seen t.nodes).marked
+        × (N.held t.nodes ≡ N.needed (N.seen t.nodes).known) };
 }
 
 impl<N: NodeMap> Tree<N> {
     /// A tree of which the root alone is known.
     pub fn new(alloc: Global, root: Hash, shape: Shape) -> Result<Tree<N>, NoMemory>
-        ensures root { IfOk result (λ t. t.root ≡ root) }
-        ensures length { IfOk result (λ t. t.length ≡ shape) }
-        ensures known { IfOk result (λ t. t.state.known ≡ root_alone t) }
-        ensures marked { IfOk result (λ t. t.state.marked ≡ set.empty) }
+        ensures { IfOk result (λ t. t ≡ root_only root shape) }
     {
         let height = shape.height();
         let mut nodes = N::empty(alloc, shape);
@@ -122,13 +117,10 @@ impl<N: NodeMap> Tree<N> {
     /// the tree is good.
     pub fn take(&mut self, ask: &Ask, hashes: &[Hash]) -> Result<u64, HashRefusal>
         requires { IsGoodTree self.old }
-        ensures root { self.new.root ≡ self.old.root }
-        ensures length { self.new.length ≡ self.old.length }
-        ensures marked { self.new.state.marked ≡ self.old.state.marked }
-        ensures taken { IfOk result (λ c. TakesHashes self.old.length ask.now hashes.now
-            self.old.state.known c self.new.state.known) }
-        ensures refused { IfErr result (λ r. RefusesHashes self.old.length ask.now hashes.now
-            self.old.state.known r self.new.state.known) }
+        ensures taken { IfOk result
+            (λ c. TreeTakesHashes self.old ask.now hashes.now c self.new) }
+        ensures refused { IfErr result (λ r. TreeRefusesHashes self.old ask.now hashes.now r
+            × (self.new ≡ self.old)) }
     {
         are_hashes(hashes);
         let gained = take_message(
@@ -148,13 +140,9 @@ impl<N: NodeMap> Tree<N> {
     /// Condition: the tree is good.
     pub fn fill(&mut self, layer: u32, hashes: &[Hash]) -> Result<u64, HashRefusal>
         requires { IsGoodTree self.old }
-        ensures root { self.new.root ≡ self.old.root }
-        ensures length { self.new.length ≡ self.old.length }
-        ensures marked { self.new.state.marked ≡ self.old.state.marked }
-        ensures filled { IfOk result (λ c. TakesLayer self.old.length layer hashes.now
-            self.old.state.known c self.new.state.known) }
-        ensures refused { IfErr result (λ r. RefusesLayer self.old.length layer hashes.now
-            self.old.state.known r self.new.state.known) }
+        ensures filled { IfOk result (λ c. TreeTakesLayer self.old layer hashes.now c self.new) }
+        ensures refused { IfErr result (λ r. TreeRefusesLayer self.old layer hashes.now r
+            × (self.new ≡ self.old)) }
     {
         are_hashes(hashes);
         let gained = fill_layer(
@@ -177,12 +165,9 @@ impl<N: NodeMap> Tree<N> {
         requires good { IsGoodTree self.old }
         requires accepted { IsFillAccepted self.old.length (look self.old.state.known) layer
             hashes.now }
-        ensures root { self.new.root ≡ self.old.root }
-        ensures length { self.new.length ≡ self.old.length }
-        ensures marked { self.new.state.marked ≡ self.old.state.marked }
-        ensures planted { IfOk result (λ c. Joins (fill_claims self.old.length layer hashes.now)
-            self.old.state.known self.new.state.known c) }
-        ensures refused { OnErr result (self.new.state.known ≡ self.old.state.known) }
+        ensures planted { IfOk result (λ c. TreeJoins
+            (fill_claims self.old.length layer hashes.now) self.old c self.new) }
+        ensures refused { OnErr result (self.new ≡ self.old) }
     {
         are_hashes(hashes);
         let gained = plant_layer(self.shape, self.height, &mut self.nodes, layer, hashes)?;
@@ -197,13 +182,9 @@ impl<N: NodeMap> Tree<N> {
     pub fn adopt(&mut self, grown: GrownTree<N>) -> Result<u64, HashRefusal>
         requires good { IsGoodTree self.old }
         requires length { grown.length ≡ self.old.length }
-        ensures root { self.new.root ≡ self.old.root }
-        ensures length { self.new.length ≡ self.old.length }
-        ensures marked { self.new.state.marked ≡ self.old.state.marked }
-        ensures adopted { IfOk result (λ c. TakesLayer self.old.length 0 grown.leaves
-            self.old.state.known c self.new.state.known) }
-        ensures refused { IfErr result (λ r. RefusesLayer self.old.length 0 grown.leaves
-            self.old.state.known r self.new.state.known) }
+        ensures adopted { IfOk result (λ c. TreeTakesLayer self.old 0 grown.leaves c self.new) }
+        ensures refused { IfErr result (λ r. TreeRefusesLayer self.old 0 grown.leaves r
+            × (self.new ≡ self.old)) }
         ensures only_mismatch { IfErr result (λ r. r ≡ Mismatch) }
         ensures good { IsGoodTree self.new }
     {
@@ -221,8 +202,7 @@ impl<N: NodeMap> Tree<N> {
 
     /// Whether the hashes that are asked for are known.
     pub fn can_answer(&self, ask: &Ask) -> bool
-        ensures { IsTrue result ↔ CanAnswer (tree_height self.now.length)
-            (look self.now.state.known) ask.now }
+        ensures { IsTrue result ↔ TreeCanAnswer self.now ask.now }
     {
         match check_range(self.height, ask) {
             Err(_) => false,
@@ -235,10 +215,8 @@ impl<N: NodeMap> Tree<N> {
     /// What it answers to a hash request: the hashes if they are known, else a reject. Fails only
     /// if memory for the hashes was refused.
     pub fn answer(&self, ask: &Ask) -> Result<Answer, NoMemory>
-        ensures answer { IfOk result (IsTreeAnswer (tree_height self.now.length)
-            (look self.now.state.known) ask.now) }
-        ensures no_memory { OnErr result (CanAnswer (tree_height self.now.length)
-            (look self.now.state.known) ask.now) }
+        ensures answer { IfOk result (TreeAnswers self.now ask.now) }
+        ensures no_memory { OnErr result (TreeCanAnswer self.now ask.now) }
     {
         let Ok(span) = check_range(self.height, ask) else {
             return Ok(Answer::Reject);
@@ -277,14 +255,9 @@ impl<N: NodeMap> Tree<N> {
     pub fn take_block(&mut self, block: u64, bytes: &[u8]) -> Result<(), BlockRefusal>
         requires good { IsGoodTree self.old }
         requires inside { block < block_count self.old.length }
-        ensures root { self.new.root ≡ self.old.root }
-        ensures length { self.new.length ≡ self.old.length }
-        ensures known { self.new.state.known ≡ self.old.state.known }
-        ensures taken { IfOk result
-            (λ _. IsMarked self.old.length self.old.state block bytes.now self.new.state) }
-        ensures refused { IfErr result (λ r.
-            TreeRefusesBlock self.old.length (look self.old.state.known) block bytes.now r
-            × (self.new.state.marked ≡ self.old.state.marked)) }
+        ensures taken { IfOk result (λ _. TreeMarks self.old block bytes.now self.new) }
+        ensures refused { IfErr result (λ r. TreeRefusesBlock self.old block bytes.now r
+            × (self.new ≡ self.old)) }
     {
         if bytes.len() as u64 != self.shape.block_len(block) {
             return Err(BlockRefusal::BadSize);
@@ -304,13 +277,12 @@ impl<N: NodeMap> Tree<N> {
 
 // Marks a known leaf, and tells how many more are marked.
 fn mark_leaf<N: NodeMap>(nodes: &mut N, block: u64) -> u64
-    requires { IsKnown (look (N.known nodes.old)) 0 block }
-    ensures length { N.length nodes.new ≡ N.length nodes.old }
-    ensures known { N.known nodes.new ≡ N.known nodes.old }
-    ensures marked { N.marked nodes.new ≡ set.insert (N.marked nodes.old) block }
+    requires { IsKnown (look (N.seen nodes.old).known) 0 block }
+    ensures seen { N.seen nodes.new ≡ with_mark (N.seen nodes.old) block }
     ensures held { N.held nodes.new ≡ N.held nodes.old }
     ensures one { result ≤ 1 }
-    ensures count { set.len (N.marked nodes.new) ≡ set.len (N.marked nodes.old) + result }
+    ensures count { set.len (N.seen nodes.new).marked
+        ≡ set.len (N.seen nodes.old).marked + result }
 {
     let before = nodes.is_marked(block);
     nodes.mark(block);

@@ -3,8 +3,10 @@
 ghost use Rattle.std.specs.Prelude.{◌≡◌, ℕ, suc, ◌+◌, ◌^◌, ◌<◌, ◌≤◌, Some};
 ghost use Rattle.std.specs.List.{All};
 ghost use Rattle.std.specs.FinMap as finite;
-ghost use Rattle.node_maps.specs.Places.{tree_height, IsKnown};
+ghost use Rattle.node_maps.specs.Places.{tree_height};
 ghost use Rattle.node_maps.specs.Known.{look};
+ghost use Rattle.node_maps.specs.Nodes.{KeepsMarks};
+ghost use Rattle.node_maps.specs.Room.{HasRoomFor, KeepsRoom};
 ghost use Rattle.partial_tree.specs.declared.found.Claim.{Claim as Claimed};
 ghost use Rattle.partial_tree.specs.Joins.{with_new, insert_new};
 ghost use Rattle.partial_tree.specs.Evidence.{claimed_by, IsClaimedPlace, IsWritten, IsWrittenBelow};
@@ -23,15 +25,15 @@ pub(crate) fn write_claimed<N: NodeMap>(
     layer: u32,
     index: u64,
 ) -> (Hash, u64)
-    requires at { IsClaimedPlace (tree_height (N.length map.old)) evidence.now layer index }
-    requires room { (l i : ℕ) → IsKnown (claimed_by evidence.now) l i → N.has_room map.old l i }
+    requires at { IsClaimedPlace (tree_height (N.seen map.old).length) evidence.now layer index }
+    requires room { HasRoomFor (claimed_by evidence.now) (N.has_room map.old) }
     ensures value { claimed_by evidence.now layer index ≡ Some result.0 }
-    ensures length { N.length map.new ≡ N.length map.old }
-    ensures marked { N.marked map.new ≡ N.marked map.old }
-    ensures keeps { (l i : ℕ) → N.has_room map.old l i → N.has_room map.new l i }
-    ensures written { IsWritten (claimed_by evidence.now) layer index (look (N.known map.old))
-        (look (N.known map.new)) }
-    ensures gained { finite.len (N.known map.new) ≡ finite.len (N.known map.old) + result.1 }
+    ensures stays { KeepsMarks (N.seen map.old) (N.seen map.new) }
+    ensures keeps { KeepsRoom (N.has_room map.old) (N.has_room map.new) }
+    ensures written { IsWritten (claimed_by evidence.now) layer index (look (N.seen map.old).known)
+        (look (N.seen map.new).known) }
+    ensures gained { finite.len (N.seen map.new).known
+        ≡ finite.len (N.seen map.old).known + result.1 }
     ensures few { result.1 + 1 ≤ 2 ^ suc layer }
 {
     let (hash, below) = write_below(map, evidence, layer, index);
@@ -42,10 +44,10 @@ pub(crate) fn write_claimed<N: NodeMap>(
 /// Sets the hashes of claims at places that are not known, and tells how many are new.
 pub(crate) fn put_new<N: NodeMap>(map: &mut N, claims: &[Claim]) -> u64
     requires { All (λ (c : Claimed). N.has_room map.old c.layer c.index) claims.now }
-    ensures length { N.length map.new ≡ N.length map.old }
-    ensures known { N.known map.new ≡ insert_new (N.known map.old) claims.now }
-    ensures marked { N.marked map.new ≡ N.marked map.old }
-    ensures gained { finite.len (N.known map.new) ≡ finite.len (N.known map.old) + result }
+    ensures stays { KeepsMarks (N.seen map.old) (N.seen map.new) }
+    ensures known { (N.seen map.new).known ≡ insert_new (N.seen map.old).known claims.now }
+    ensures gained { finite.len (N.seen map.new).known
+        ≡ finite.len (N.seen map.old).known + result }
 {
     let mut gained = 0;
     for claim in claims {
@@ -58,15 +60,15 @@ pub(crate) fn put_new<N: NodeMap>(map: &mut N, claims: &[Claim]) -> u64
 // new.
 #[cycle(write)]
 fn write_below<N: NodeMap>(map: &mut N, evidence: &Evidence, layer: u32, index: u64) -> (Hash, u64)
-    requires at { IsClaimedPlace (tree_height (N.length map.old)) evidence.now layer index }
-    requires room { (l i : ℕ) → IsKnown (claimed_by evidence.now) l i → N.has_room map.old l i }
+    requires at { IsClaimedPlace (tree_height (N.seen map.old).length) evidence.now layer index }
+    requires room { HasRoomFor (claimed_by evidence.now) (N.has_room map.old) }
     ensures value { claimed_by evidence.now layer index ≡ Some result.0 }
-    ensures length { N.length map.new ≡ N.length map.old }
-    ensures marked { N.marked map.new ≡ N.marked map.old }
-    ensures keeps { (l i : ℕ) → N.has_room map.old l i → N.has_room map.new l i }
-    ensures written { IsWrittenBelow (claimed_by evidence.now) layer index (look (N.known map.old))
-        (look (N.known map.new)) }
-    ensures gained { finite.len (N.known map.new) ≡ finite.len (N.known map.old) + result.1 }
+    ensures stays { KeepsMarks (N.seen map.old) (N.seen map.new) }
+    ensures keeps { KeepsRoom (N.has_room map.old) (N.has_room map.new) }
+    ensures written { IsWrittenBelow (claimed_by evidence.now) layer index
+        (look (N.seen map.old).known) (look (N.seen map.new).known) }
+    ensures gained { finite.len (N.seen map.new).known
+        ≡ finite.len (N.seen map.old).known + result.1 }
     ensures few { result.1 + 2 ≤ 2 ^ suc layer }
 {
     match evidence.given(layer, index) {
@@ -82,12 +84,12 @@ fn write_below<N: NodeMap>(map: &mut N, evidence: &Evidence, layer: u32, index: 
 // Sets the hash of a claim, unless its place is known, and tells how many places are new.
 fn put_absent<N: NodeMap>(map: &mut N, claim: &Claim) -> u64
     requires { N.has_room map.old claim.now.layer claim.now.index }
-    ensures length { N.length map.new ≡ N.length map.old }
-    ensures known { N.known map.new ≡ with_new (N.known map.old) claim.now }
-    ensures marked { N.marked map.new ≡ N.marked map.old }
-    ensures gained { finite.len (N.known map.new) ≡ finite.len (N.known map.old) + result }
+    ensures stays { KeepsMarks (N.seen map.old) (N.seen map.new) }
+    ensures known { (N.seen map.new).known ≡ with_new (N.seen map.old).known claim.now }
+    ensures gained { finite.len (N.seen map.new).known
+        ≡ finite.len (N.seen map.old).known + result }
     ensures one { result ≤ 1 }
-    ensures keeps { (l i : ℕ) → N.has_room map.old l i → N.has_room map.new l i }
+    ensures keeps { KeepsRoom (N.has_room map.old) (N.has_room map.new) }
 {
     if map.get(claim.layer, claim.index).is_some() {
         return 0;

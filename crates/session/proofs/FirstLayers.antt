@@ -15,8 +15,7 @@ use Rattle.node_maps.specs.Places.{tree_height, PartialTree, IsTreePlace}
 use Rattle.partial_tree.specs.Claims.{joined, IsAgreed}
 use Rattle.partial_tree.specs.Fill.{fill_claims, pad_from, IsFillAccepted}
 use Rattle.node_maps.specs.Known.{look}
-use Rattle.partial_tree.specs.Joins.{Joins}
-use Rattle.partial_tree.specs.Kept.{KeptTree, info_of}
+use Rattle.partial_tree.specs.Kept.{KeptTree, info_of, TreeJoins}
 use Rattle.session.specs.Layouts.{root_of_entry}
 use Rattle.session.specs.Fresh.{KnowsRoot, KnowsFrom, IsPlanted}
 use Rattle.partial_tree.proofs.Claimed.{either, there_or_not, first_of_two, second_of_two}
@@ -88,17 +87,16 @@ module _ (p : ℕ) (e : TreeEntry) (legal : IsPieceLength p) (sound : IsSoundTre
         }))
 
     -- and once it is taken, the tree is as a session with layers begins
-    pub planted_layers : (b : KeptTree) (c : ℕ) → b.root ≡ a.root → b.length ≡ a.length → b.state.marked ≡ a.state.marked
-        → Joins (fill_claims a.length l e.layer) a.state.known b.state.known c → IsPlanted p true e b
-    planted_layers b c r n m joins = record {
-      root_is = r ∙ planted.root_is;
-      length_is = n ∙ planted.length_is;
-      good = good_filled a b l e.layer c planted.good (λ k d inside. record { size = sound.hash_lengths k (get_or e.layer k d) (slice_get-get_or e.layer k d inside) }) r n m accepted joins;
+    pub planted_layers : (b : KeptTree) (c : ℕ) → TreeJoins (fill_claims a.length l e.layer) a c b → IsPlanted p true e b
+    planted_layers b c (joins, rest) = record {
+      root_is = ap (λ (t : KeptTree). t.root) rest ∙ planted.root_is;
+      length_is = ap (λ (t : KeptTree). t.length) rest ∙ planted.length_is;
+      good = good_filled a b l e.layer c planted.good (λ k d inside. record { size = sound.hash_lengths k (get_or e.layer k d) (slice_get-get_or e.layer k d inside) }) ((accepted, joins), rest);
       known = record {
         root_alone = λ w. elim w [ inl off ↦ absurd (false≢true (sym off)) | inr short ↦ absurd (omega (arith, short, longer)) ];
         layers = λ on more.
             joined-knows (root_of_entry e) (look a.state.known) (piece_layer p) e.layer in_tree right_count (sound.layer_root longer) (planted.known.root_alone (inl refl)) (look b.state.known)
             (λ k i. joins.joined_is k i ∙ ap (λ j. joined (look a.state.known) (fill_claims a.length j e.layer) k i) at ∙ ap (λ t. joined (look a.state.known) (fill_claims t.length (piece_layer p) e.layer) k i) same);
       };
-      marked = m ∙ planted.marked;
+      marked = ap (λ (t : KeptTree). t.state.marked) rest ∙ planted.marked;
     }

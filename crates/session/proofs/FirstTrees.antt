@@ -17,7 +17,7 @@ use Rattle.partial_tree.specs.TreeRoot.{TreeRoot}
 use Rattle.node_maps.specs.Places.{tree_height}
 use Rattle.partial_tree.specs.Closed.{IsClosed}
 use Rattle.node_maps.specs.Known.{Known, look, place_cmp}
-use Rattle.partial_tree.specs.Kept.{KeptTree, info_of, root_alone}
+use Rattle.partial_tree.specs.Kept.{KeptTree, info_of, root_only}
 use Rattle.session.specs.Asks.{AskSet}
 use Rattle.session.specs.Layouts.{root_of_entry, seen, state_of, AreKept}
 use Rattle.session.specs.Fresh.{KnowsRoot, IsFirstKnown, IsFresh, IsPlanted}
@@ -55,25 +55,20 @@ knows_root t K is = record {
       (at.0, at.1);
 }
 
-abbrev entry_root : Hash → ℕ → TreeRoot
-entry_root r n = record { root = r; length = n }
-
-pub planted_root : (p : ℕ) (e : TreeEntry) (a : KeptTree) → IsSoundTree p e → a.root ≡ e.root → a.length ≡ e.length → a.state.known ≡ root_alone a → a.state.marked ≡ leaves.empty
-    → IsPlanted p false e a
-planted_root p e a sound r l known marked = record {
-  root_is = r;
-  length_is = l;
+pub planted_root : (p : ℕ) (e : TreeEntry) (a : KeptTree) → IsSoundTree p e → a ≡ root_only e.root e.length → IsPlanted p false e a
+planted_root p e a sound is = subst (IsPlanted p false e) (sym is) (record {
+  root_is = refl;
+  length_is = refl;
   good = record {
-    closed = subst (λ m. IsClosed (info_of a) (look m)) (sym known) (closed_root (info_of a) (subst (λ n. 0 < n) (sym l) sound.some) (ap length r ∙ sound.root_length));
-    marks = λ i x. absurd (false≢true (sym (leaves.contains-empty nat_cmp i) ∙ ap (λ s. leaves.contains s i) (sym marked) ∙ x));
+    closed = closed_root (root_of_entry e) sound.some sound.root_length;
+    marks = λ i x. absurd (false≢true (sym (leaves.contains-empty nat_cmp i) ∙ x));
   };
   known = record {
-    root_alone = λ _. subst (λ n. KnowsRoot (entry_root e.root n) (look a.state.known)) l
-        (subst (λ x. KnowsRoot (entry_root x a.length) (look a.state.known)) r (knows_root (info_of a) a.state.known known));
+    root_alone = λ _. knows_root (root_of_entry e) _ refl;
     layers = λ x. absurd (false≢true x);
   };
-  marked = marked;
-}
+  marked = refl;
+})
 
 -- a tree that has no layer of its own, or a session that begins without layers
 pub planted_as_root : (p : ℕ) (w : Bool) (e : TreeEntry) (a : KeptTree) → ((w ≡ true) → p < e.length → ⊥) → IsPlanted p false e a → IsPlanted p w e a

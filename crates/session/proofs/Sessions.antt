@@ -22,10 +22,9 @@ use Rattle.node_maps.specs.Digest.{Hash}
 use Rattle.partial_tree.specs.TreeRoot.{TreeRoot}
 use Rattle.node_maps.specs.Places.{tree_height, IsKnown}
 use Rattle.partial_tree.specs.Closed.{IsClosed}
-use Rattle.partial_tree.specs.Claims.{claims, IsAccepted, TreeRefuses, CanAnswer}
-use Rattle.node_maps.specs.Known.{Known, Marked, look}
-use Rattle.partial_tree.specs.Joins.{Joins}
-use Rattle.partial_tree.specs.Kept.{TreeState, KeptTree, info_of, IsGoodTree, IsMarked, TreeRefusesBlock}
+use Rattle.partial_tree.specs.Claims.{TreeRefuses, CanAnswer}
+use Rattle.node_maps.specs.Known.{look}
+use Rattle.partial_tree.specs.Kept.{TreeState, KeptTree, info_of, IsGoodTree, TreeTakesHashes, TreeRefusesHashes, TreeTakesLayer, TreeRefusesLayer, TreeMarks, TreeRefusesBlock}
 use Rattle.session.specs.Session.{IsTree, HasClosedTrees, HasDistinctRoots, IsStored, IsHashRefused, IsAnswered, IsInFile, IsMarkedBlock, IsUnmarkedBlock, BlockStep, AreTaken, IsBlockRefused, IsFilled, IsFillRefused}
 use Rattle.partial_tree.specs.declared.answer.Answer.{Answer}
 use Rattle.partial_tree.specs.declared.answer.Answer.TheVariants as answer
@@ -33,8 +32,7 @@ use Rattle.partial_tree.specs.Answers.{IsTreeAnswer}
 use Rattle.session.specs.Answers.{IsAnswerTo}
 use Rattle.session.specs.Asks.{AskSet}
 use Rattle.session.specs.Layouts.{IsBlockOf, SessionSeen, seen, root_of_entry, tree_number, state_of, AreKept}
-use Rattle.partial_tree.specs.Fill.{fill_claims, IsFillAccepted, FillRefuses}
-use Rattle.partial_tree.proofs.Keeping.{same_info, good_same, good_marked}
+use Rattle.partial_tree.proofs.Keeping.{StaysGood}
 
 abbrev pub with_trees : Description → AskSet → List TreeState → SessionSeen
 with_trees d o states = record { torrent = d; trees = states; asks = o }
@@ -75,20 +73,19 @@ module _ (d : Description) (ts : List KeptTree) (kept : AreKept d ts) where
         subst (λ st. (i : ℕ) → leaves.contains st.marked i ≡ true → IsKnown (look st.known) 0 i) x.3 ((good_at n x.0 x.1).marks);
   }
 
-  pub kept-after : (n : ℕ) (a b : KeptTree) → slice_get ts n ≡ Some a → b.root ≡ a.root → b.length ≡ a.length → IsGoodTree b → AreKept d (set ts n b)
-  kept-after n a b e r l good = record {
-    same = map-set_same info_of ts n b a (same_info a b r l ∙ ap info_of (sym (get_or_from_slice_get ts n a a e))) ∙ kept.same;
+  pub kept-after : (n : ℕ) (a b : KeptTree) → slice_get ts n ≡ Some a → StaysGood a b → AreKept d (set ts n b)
+  kept-after n a b e (same, good) = record {
+    same = map-set_same info_of ts n b a (same ∙ ap info_of (sym (get_or_from_slice_get ts n a a e))) ∙ kept.same;
     good = All-set IsGoodTree ts n b good kept.good;
   }
 
   pub stored_in : (o : AskSet) → (n : ℕ) (a b : KeptTree) (ask : Ask) (hashes : List Hash) (c : ℕ) → slice_get ts n ≡ Some a → a.root ≡ ask.root
-      → b.state.marked ≡ a.state.marked → IsAccepted a.length (look a.state.known) ask hashes → Joins (claims ask hashes) a.state.known b.state.known c
-      → IsStored (seen d o ts) ask hashes c (seen d o (set ts n b))
-  stored_in o n a b ask hashes c e root m ok joins = record {
+      → TreeTakesHashes a ask hashes c b → IsStored (seen d o ts) ask hashes c (seen d o (set ts n b))
+  stored_in o n a b ask hashes c e root (taken, rest) = record {
     asked = record { number = n; tree = info_of a; state = a.state; is_tree = tree_at o n a e; has_root = root };
     after = b.state;
-    taken = (ok, joins);
-    marks_stay = m;
+    taken = taken;
+    marks_stay = ap (λ (t : KeptTree). t.state.marked) rest;
     state_after = ap (with_trees d o) (map-set state_of ts n b);
   }
 
@@ -111,25 +108,19 @@ module _ (d : Description) (ts : List KeptTree) (kept : AreKept d ts) where
       none n x.0 x.1 (ap (λ t. t.root) x.2 ∙ root)
 
 -- a tree that stays leaves the state
-pub state_stays : (ts : List KeptTree) (n : ℕ) (a b : KeptTree) → slice_get ts n ≡ Some a → b.state.known ≡ a.state.known → b.state.marked ≡ a.state.marked
-    → map state_of (set ts n b) ≡ map state_of ts
-state_stays ts n a b e k m =
-    let state : Known → Marked → TreeState = λ x y. record { known = x; marked = y } in
-    let same : b.state ≡ a.state = ap (λ x. state x b.state.marked) k ∙ ap (λ y. state a.state.known y) m in
-    map-set_same state_of ts n b a (same ∙ ap state_of (sym (get_or_from_slice_get ts n a a e)))
+pub state_stays : (ts : List KeptTree) (n : ℕ) (a b : KeptTree) → slice_get ts n ≡ Some a → b ≡ a → map state_of (set ts n b) ≡ map state_of ts
+state_stays ts n a b e same = map-set_same state_of ts n b a (ap state_of (same ∙ sym (get_or_from_slice_get ts n a a e)))
 
 module _ (d : Description) (ts : List KeptTree) (kept : AreKept d ts) where
   pub stored_all : (o : AskSet) → (n : ℕ) (a b : KeptTree) (ask : Ask) (hashes : List Hash) (r : Result ℕ HashRefusal) → slice_get ts n ≡ Some a → a.root ≡ ask.root
-      → b.state.marked ≡ a.state.marked → IfOk r (λ c. IsAccepted a.length (look a.state.known) ask hashes × Joins (claims ask hashes) a.state.known b.state.known c)
-      → IfOk r (λ c. IsStored (seen d o ts) ask hashes c (seen d o (set ts n b)))
-  stored_all o n a b ask hashes (Ok c) e root m h = stored_in d ts kept o n a b ask hashes c e root m h.0 h.1
-  stored_all o n a b ask hashes (Err x) e root m h = tt
+      → IfOk r (λ c. TreeTakesHashes a ask hashes c b) → IfOk r (λ c. IsStored (seen d o ts) ask hashes c (seen d o (set ts n b)))
+  stored_all o n a b ask hashes (Ok c) e root h = stored_in d ts kept o n a b ask hashes c e root h
+  stored_all o n a b ask hashes (Err x) e root h = tt
 
   pub refused_all : (o : AskSet) → (n : ℕ) (a b : KeptTree) (ask : Ask) (hashes : List Hash) (r : Result ℕ HashRefusal) → slice_get ts n ≡ Some a → a.root ≡ ask.root
-      → b.state.marked ≡ a.state.marked → IfErr r (λ x. TreeRefuses a.length (look a.state.known) ask hashes x × (b.state.known ≡ a.state.known))
-      → IfErr r (λ x. IsHashRefused (seen d o ts) ask hashes x × (seen d o (set ts n b) ≡ seen d o ts))
-  refused_all o n a b ask hashes (Ok c) e root m h = tt
-  refused_all o n a b ask hashes (Err x) e root m h = (refused_in d ts kept o n a ask hashes x e root h.0, ap (with_trees d o) (state_stays ts n a b e h.1 m))
+      → IfErr r (λ x. TreeRefusesHashes a ask hashes x × (b ≡ a)) → IfErr r (λ x. IsHashRefused (seen d o ts) ask hashes x × (seen d o (set ts n b) ≡ seen d o ts))
+  refused_all o n a b ask hashes (Ok c) e root h = tt
+  refused_all o n a b ask hashes (Err x) e root h = (refused_in d ts kept o n a ask hashes x e root h.0, ap (with_trees d o) (state_stays ts n a b e h.1))
 
   pub asked_in : (o : AskSet) → (n : ℕ) (a : KeptTree) (ask : Ask) → slice_get ts n ≡ Some a → a.root ≡ ask.root
       → CanAnswer (tree_height a.length) (look a.state.known) ask → IsAnswered (seen d o ts) ask
@@ -176,49 +167,42 @@ module _ (d : Description) (ts : List KeptTree) (kept : AreKept d ts) where
       inside = low;
     }
 
-    pub marked_all : (o : AskSet) → {X : Type 0} (next : KeptTree) (bytes : List ℕ) (r : Result X BlockRefusal) → next.state.known ≡ a.state.known
-        → IfOk r (λ _. IsMarked a.length a.state b bytes next.state)
+    pub marked_all : (o : AskSet) → {X : Type 0} (next : KeptTree) (bytes : List ℕ) (r : Result X BlockRefusal) → IfOk r (λ _. TreeMarks a b bytes next)
         → IfOk r (λ _. IsMarkedBlock (seen d o ts) file b bytes (seen d o (set ts tr next)))
-    marked_all o next bytes (Err x) k ok = tt
-    marked_all o next bytes (Ok x) k ok =
-        let state : Known → Marked → TreeState = λ x y. record { known = x; marked = y } in
-        let after : next.state ≡ state a.state.known (leaves.insert a.state.marked b) = ap (λ x. state x next.state.marked) k ∙ ap (λ y. state a.state.known y) ok.marks in
-        record {
-          in_file = in_file o;
-          size = ok.size;
-          leaf_known = ok.leaf_known;
-          state_after = ap (with_trees d o) (map-set state_of ts tr next ∙ ap (set (map state_of ts) tr) after);
-        }
+    marked_all o next bytes (Err x) ok = tt
+    marked_all o next bytes (Ok x) ok = record {
+      in_file = in_file o;
+      size = ok.size;
+      leaf_known = ok.leaf_known;
+      state_after = ap (with_trees d o) (map-set state_of ts tr next ∙ ap (λ t. set (map state_of ts) tr (state_of t)) ok.marks);
+    }
 
-    pub unmarked_all : (o : AskSet) → {X : Type 0} (next : KeptTree) (bytes : List ℕ) (r : Result X BlockRefusal) → next.state.known ≡ a.state.known
-        → IfErr r (λ x. TreeRefusesBlock a.length (look a.state.known) b bytes x × (next.state.marked ≡ a.state.marked))
+    pub unmarked_all : (o : AskSet) → {X : Type 0} (next : KeptTree) (bytes : List ℕ) (r : Result X BlockRefusal) → IfErr r (λ x. TreeRefusesBlock a b bytes x × (next ≡ a))
         → IfErr r (λ x. IsUnmarkedBlock (seen d o ts) file b bytes x × (seen d o (set ts tr next) ≡ seen d o ts))
-    unmarked_all o next bytes (Ok x) k refused = tt
-    unmarked_all o next bytes (Err x) k refused = ((in_file o, refused.0), ap (with_trees d o) (state_stays ts tr a next e k refused.1))
+    unmarked_all o next bytes (Ok x) refused = tt
+    unmarked_all o next bytes (Err x) refused = ((in_file o, refused.0), ap (with_trees d o) (state_stays ts tr a next e refused.1))
 
 -- ---- whole layers
 
 module _ (d : Description) (ts : List KeptTree) (kept : AreKept d ts) where
-  pub filled_all : (o : AskSet) → (n : ℕ) (a b : KeptTree) (layer : ℕ) (hashes : List Hash) (r : Result ℕ HashRefusal) → slice_get ts n ≡ Some a → b.state.marked ≡ a.state.marked
-      → IfOk r (λ c. IsFillAccepted a.length (look a.state.known) layer hashes × Joins (fill_claims a.length layer hashes) a.state.known b.state.known c)
-      → IfOk r (λ c. IsFilled (seen d o ts) n layer hashes c (seen d o (set ts n b)))
-  filled_all o n a b layer hashes (Ok c) e m h = record {
+  pub filled_all : (o : AskSet) → (n : ℕ) (a b : KeptTree) (layer : ℕ) (hashes : List Hash) (r : Result ℕ HashRefusal) → slice_get ts n ≡ Some a
+      → IfOk r (λ c. TreeTakesLayer a layer hashes c b) → IfOk r (λ c. IsFilled (seen d o ts) n layer hashes c (seen d o (set ts n b)))
+  filled_all o n a b layer hashes (Ok c) e (taken, rest) = record {
     tree = info_of a;
     before = a.state;
     after = b.state;
     is_tree = tree_at d ts kept o n a e;
-    taken = h;
-    marks_stay = m;
+    taken = taken;
+    marks_stay = ap (λ (t : KeptTree). t.state.marked) rest;
     state_after = ap (with_trees d o) (map-set state_of ts n b);
   }
-  filled_all o n a b layer hashes (Err x) e m h = tt
+  filled_all o n a b layer hashes (Err x) e h = tt
 
-  pub fill_refused_all : (o : AskSet) → (n : ℕ) (a b : KeptTree) (layer : ℕ) (hashes : List Hash) (r : Result ℕ HashRefusal) → slice_get ts n ≡ Some a → b.state.marked ≡ a.state.marked
-      → IfErr r (λ x. FillRefuses a.length (look a.state.known) layer hashes x × (b.state.known ≡ a.state.known))
-      → IfErr r (λ x. IsFillRefused (seen d o ts) n layer hashes x × (seen d o (set ts n b) ≡ seen d o ts))
-  fill_refused_all o n a b layer hashes (Ok c) e m h = tt
-  fill_refused_all o n a b layer hashes (Err x) e m h =
-      (record { tree = info_of a; before = a.state; is_tree = tree_at d ts kept o n a e; refuses = h.0 }, ap (with_trees d o) (state_stays ts n a b e h.1 m))
+  pub fill_refused_all : (o : AskSet) → (n : ℕ) (a b : KeptTree) (layer : ℕ) (hashes : List Hash) (r : Result ℕ HashRefusal) → slice_get ts n ≡ Some a
+      → IfErr r (λ x. TreeRefusesLayer a layer hashes x × (b ≡ a)) → IfErr r (λ x. IsFillRefused (seen d o ts) n layer hashes x × (seen d o (set ts n b) ≡ seen d o ts))
+  fill_refused_all o n a b layer hashes (Ok c) e h = tt
+  fill_refused_all o n a b layer hashes (Err x) e h =
+      (record { tree = info_of a; before = a.state; is_tree = tree_at d ts kept o n a e; refuses = h.0 }, ap (with_trees d o) (state_stays ts n a b e h.1))
 
   -- the length of a tree's files is that of its entry
   pub length_at : (o : AskSet) (n k : ℕ) (a : KeptTree) → slice_get ts n ≡ Some a → ((e : TreeEntry) → slice_get d.trees n ≡ Some e → k ≡ e.length) → k ≡ a.length
@@ -268,13 +252,6 @@ has_tree d sound file b f there low = elim (none_or_some f.tree) [
       let empty : f.length ≡ 0 = (sound.files file f there).no_tree none in
       absurd (let below : b < block_count 0 = subst (λ len. b < block_count len) empty low in omega (arith, below))
 ]
-
--- a tree is good after a block, whether it was marked or refused
-pub good_after_block : {X : Type 0} (a b : KeptTree) (i : ℕ) (bytes : List ℕ) (r : Result X BlockRefusal) → IsGoodTree a → b.root ≡ a.root → b.length ≡ a.length
-    → b.state.known ≡ a.state.known → IfOk r (λ _. IsMarked a.length a.state i bytes b.state)
-    → IfErr r (λ x. TreeRefusesBlock a.length (look a.state.known) i bytes x × (b.state.marked ≡ a.state.marked)) → IsGoodTree b
-good_after_block a b i bytes (Ok x) good r l k taken refused = good_marked a b i bytes good r l k taken
-good_after_block a b i bytes (Err x) good r l k taken refused = good_same a b r l k refused.1 good
 
 -- the tree of a block of a file
 pub in_file_of : (o : AskSet) → (d : Description) (ts : List KeptTree) (kept : AreKept d ts) (sound : IsSound d) (file b : ℕ) (f : FileEntry) → slice_get d.files file ≡ Some f → b < block_count f.length

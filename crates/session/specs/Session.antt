@@ -24,7 +24,7 @@ use Rattle.partial_tree.specs.Fill.{FillRefuses}
 use Rattle.metainfo.specs.Places.{place_of}
 use Rattle.metainfo.specs.Blocks.{IsBlockRun}
 use Rattle.chains.specs.Chain.{Chain}
-use Rattle.partial_tree.specs.Kept.{HasBlockSize, TreeRefusesBlock}
+use Rattle.partial_tree.specs.Kept.{HasBlockSize, RefusesBlock}
 use Rattle.session.specs.Blocks.{BlocksSeen, Cut, cuts}
 use Rattle.session.specs.Layouts.{roots, tree_of}
 pub use Rattle.partial_tree.specs.Kept.{TreeState}
@@ -101,7 +101,7 @@ pub record IsMarkedBlock (S : SessionSeen) (file b : ℕ) (bytes : List ℕ) (S'
 -- the first test of the bytes for a block of a file that fails
 abbrev pub IsUnmarkedBlock : SessionSeen → ℕ → ℕ → List ℕ → BlockRefusal → Type 0
 IsUnmarkedBlock S file b bytes r =
-    (p : IsInFile S file b) × TreeRefusesBlock p.tree.length (look p.state.known) b bytes r
+    (p : IsInFile S file b) × RefusesBlock p.tree.length (look p.state.known) b bytes r
 
 -- the step of one block of a message: it is marked, or refused by itself
 abbrev pub BlockStep : ℕ → SessionSeen → Cut → Option BlockRefusal → SessionSeen → Type 0
@@ -132,7 +132,7 @@ IsVerified S index begin bytes file b S' = (place_of S.torrent index begin ≡ S
 abbrev pub IsBlockRefused : SessionSeen → ℕ → ℕ → List ℕ → BlockRefusal → Type 0
 IsBlockRefused S index begin bytes BadPlace = place_of S.torrent index begin ≡ None
 IsBlockRefused S index begin bytes r = (p : IsPlaced S index begin)
-    × TreeRefusesBlock p.in_file.tree.length (look p.in_file.state.known) p.number bytes r
+    × RefusesBlock p.in_file.tree.length (look p.in_file.state.known) p.number bytes r
 
 -- ---- whole layers
 

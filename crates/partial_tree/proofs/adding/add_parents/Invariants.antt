@@ -1,10 +1,10 @@
-use Rattle.std.proofs.Common.{◌≡◌, ◌+◌}
+use Rattle.std.proofs.Common.{◌+◌}
+use Rattle.node_maps.specs.Nodes.{KeepsMarks}
 use Rattle.partial_tree.specs.Grown.{AddsRow, parents_of}
 use Rattle.partial_tree.proofs.adding.add_parents.Given as goal
 
 abbrev pub invariant-places : goal.invariant-places
 invariant-places g l = record {
-  length : g.N.NodeMap.length l.map ≡ g.N.NodeMap.length l.fn.map;
-  marked : g.N.NodeMap.marked l.map ≡ g.N.NodeMap.marked l.fn.map;
-  adds : AddsRow (g.N.NodeMap.known l.fn.map) (l.fn.layer + 1) 0 l.index (parents_of (g.N.NodeMap.known l.fn.map) l.fn.layer) (g.N.NodeMap.known l.map);
+  stays : KeepsMarks (g.N.NodeMap.seen l.fn.map) (g.N.NodeMap.seen l.map);
+  adds : AddsRow (g.N.NodeMap.seen l.fn.map).known (l.fn.layer + 1) 0 l.index (parents_of (g.N.NodeMap.seen l.fn.map).known l.fn.layer) (g.N.NodeMap.seen l.map).known;
 }

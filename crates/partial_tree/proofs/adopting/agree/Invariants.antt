@@ -5,4 +5,4 @@ use Rattle.partial_tree.proofs.adopting.agree.Given as goal
 
 abbrev pub invariant-layers : goal.invariant-layers
 invariant-layers g l = (k : ℕ) → k < l.layer
-    → AgreeInRow (look (g.N.NodeMap.known l.fn.old)) (look (g.N.NodeMap.known l.fn.new)) k (2 ^ (l.fn.height - k))
+    → AgreeInRow (look (g.N.NodeMap.seen l.fn.old).known) (look (g.N.NodeMap.seen l.fn.new).known) k (2 ^ (l.fn.height - k))

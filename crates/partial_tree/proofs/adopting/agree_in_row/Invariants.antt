@@ -3,4 +3,4 @@ use Rattle.partial_tree.specs.Grown.{AgreeInRow}
 use Rattle.partial_tree.proofs.adopting.agree_in_row.Given as goal
 
 abbrev pub invariant-places : goal.invariant-places
-invariant-places g l = AgreeInRow (look (g.N.NodeMap.known l.fn.old)) (look (g.N.NodeMap.known l.fn.new)) l.fn.layer l.index
+invariant-places g l = AgreeInRow (look (g.N.NodeMap.seen l.fn.old).known) (look (g.N.NodeMap.seen l.fn.new).known) l.fn.layer l.index

@@ -13,14 +13,14 @@ use Rattle.partial_tree.proofs.answering.answer_hashes.Goals as goal
 pub copy_to-requires-clause-known : goal.copy_to-requires-clause-known
 copy_to-requires-clause-known g c =
     let ask = c.args.ask.now in
-    let K : PartialTree = look (g.N.NodeMap.known c.args.nodes.now) in
+    let K : PartialTree = look (g.N.NodeMap.seen c.args.nodes.now).known in
     subst (λ a. AreKnown (K ask.base) a c.from-2.result) (sym c.from.ensures)
     (subst (AreKnown (K ask.base) ask.index) (sym c.from-2.ensures) c.requires.known.base_known)
 
 pub uncles-init : goal.uncles-init
 uncles-init g c =
     let ask = c.args.ask.now in
-    let K : PartialTree = look (g.N.NodeMap.known c.args.nodes.now) in
+    let K : PartialTree = look (g.N.NodeMap.seen c.args.nodes.now).known in
     let first : List Hash = hashes_from (K ask.base) ask.index ask.length in
     let items : c.copy_to.new.out.items ≡ first = c.copy_to.ensures.copied
     ∙ ap (λ xs. xs ++ hashes_from (K ask.base) c.from.result c.from-2.result) c.in_ok-hashes.ensures.items
@@ -34,7 +34,7 @@ uncles-init g c =
 pub uncles-preserved : goal.uncles-preserved
 uncles-preserved g c =
     let ask = c.args.ask.now in
-    let K : PartialTree = look (g.N.NodeMap.known c.args.nodes.now) in
+    let K : PartialTree = look (g.N.NodeMap.seen c.args.nodes.now).known in
     let first : List Hash = map (λ k. hash_or_pad K ask.base (ask.index + k)) (range_with_len 0 ask.length) in
     let f : ℕ → Hash = λ k. hash_or_pad K (cover ask + k) (sibling (above ask (cover ask + k))) in
     let spans : span ask ≡ c.args.span = ap height (sym c.requires.span) ∙ height_pow c.args.span in
@@ -54,7 +54,7 @@ uncles-preserved g c =
 pub returns : goal.returns
 returns g c =
     let ask = c.args.ask.now in
-    let K : PartialTree = look (g.N.NodeMap.known c.args.nodes.now) in
+    let K : PartialTree = look (g.N.NodeMap.seen c.args.nodes.now).known in
     let first : List Hash = map (λ k. hash_or_pad K ask.base (ask.index + k)) (range_with_len 0 ask.length) in
     let f : ℕ → Hash = λ k. hash_or_pad K (cover ask + k) (sibling (above ask (cover ask + k))) in
     let spans : span ask ≡ c.args.span = ap height (sym c.requires.span) ∙ height_pow c.args.span in

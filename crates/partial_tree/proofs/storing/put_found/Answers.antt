@@ -12,14 +12,14 @@ put_new-requires g c =
 
 pub returns-clause-stored : goal.returns-clause-stored
 returns-clause-stored g c =
-    handled-joins c.args.evidence.now (g.N.NodeMap.known c.args.map.now) c.args.found.now c.args.layer c.args.index c.put_new.result
-    (g.N.NodeMap.known c.put_new.new.map) c.requires.leads c.requires.handled c.if-found.false c.requires.sound
-    (c.put_new.ensures.known ∙ ap (insert_new (g.N.NodeMap.known c.args.map.now)) c.deref.ensures.value)
+    handled-joins c.args.evidence.now (g.N.NodeMap.seen c.args.map.now).known c.args.found.now c.args.layer c.args.index c.put_new.result
+    (g.N.NodeMap.seen c.put_new.new.map).known c.requires.leads c.requires.handled c.if-found.false c.requires.sound
+    (c.put_new.ensures.known ∙ ap (insert_new (g.N.NodeMap.seen c.args.map.now).known) c.deref.ensures.value)
     c.put_new.ensures.gained
 
 pub returns-then-found-clause-stored : goal.returns-then-found-clause-stored
 returns-then-found-clause-stored g c =
-    written-joins c.args.evidence.now (g.N.NodeMap.known c.args.map.now) c.args.layer c.args.index c.write_claimed.result.1
-    (g.N.NodeMap.known c.write_claimed.new.map) c.requires.leads
-    (handled-agreed c.args.evidence.now (g.N.NodeMap.known c.args.map.now) c.args.found.now c.args.layer c.args.index c.requires.leads c.requires.handled)
+    written-joins c.args.evidence.now (g.N.NodeMap.seen c.args.map.now).known c.args.layer c.args.index c.write_claimed.result.1
+    (g.N.NodeMap.seen c.write_claimed.new.map).known c.requires.leads
+    (handled-agreed c.args.evidence.now (g.N.NodeMap.seen c.args.map.now).known c.args.found.now c.args.layer c.args.index c.requires.leads c.requires.handled)
     c.write_claimed.ensures.written c.write_claimed.ensures.gained

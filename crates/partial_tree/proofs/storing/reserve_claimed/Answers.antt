@@ -1,6 +1,7 @@
 use Rattle.std.proofs.Common.{◌≡◌, ◌+◌, ◌-◌, ◌/◌, ◌^◌, ◌<◌, ◌≤◌, inl, inr, sym, ap, ◌∙◌, subst, refl, arith, div-one, eq-or-lt_of_le}
 use Rattle.std.proofs.lemmas.Result.{on_ok_weaker}
 use Rattle.node_maps.specs.Places.{tree_height}
+use Rattle.node_maps.proofs.Nodes.{length-of}
 use Rattle.partial_tree.specs.Evidence.{row_first, row_height}
 use Rattle.partial_tree.proofs.Rows.{claim-in_row, row-inside}
 use Rattle.partial_tree.proofs.storing.reserve_claimed.Goals as goal
@@ -8,18 +9,16 @@ use Rattle.partial_tree.proofs.storing.reserve_claimed.Goals as goal
 pub rows-init : goal.rows-init
 rows-init g c =
     record {
-      length = refl;
-      known = refl;
-      marked = refl;
+      seen = refl;
       room = λ k i is less. absurd (omega (arith, (claim-in_row c.args.evidence.now c.requires.leads.is_over.aligned k i is).0));
     }
 
 pub reserve-requires-clause-range : goal.reserve-requires-clause-range
 reserve-requires-clause-range g c =
-    let h = tree_height (g.N.NodeMap.length c.args.map.now) in
+    let h = tree_height (g.N.NodeMap.seen c.args.map.now).length in
     let inside : row_first c.args.evidence.now c.rows.below + 2 ^ row_height c.args.evidence.now c.rows.below ≤ 2 ^ (h - c.rows.below) =
     row-inside h c.args.evidence.now c.args.layer c.args.index c.rows.below c.requires.leads.is_over c.requires.place c.rows.auto.below c.rows-test.true in
-    let same : tree_height (g.N.NodeMap.length c.rows.map) ≡ h = ap tree_height c.rows.invariant.length in
+    let same : tree_height (g.N.NodeMap.seen c.rows.map).length ≡ h = ap tree_height (length-of c.rows.invariant.seen) in
     subst (λ k. c.row-first.result.0 + c.row-first.result.1 ≤ 2 ^ (k - c.rows.below)) (sym same) (omega (arith, inside, c.row-first.ensures.first, c.row-first.ensures.count))
 
 pub rows-preserved : goal.rows-preserved
@@ -29,9 +28,7 @@ rows-preserved g c =
     let now = c.in_ok-reserve.ensures in
     let has = g.N.NodeMap.has_room c.reserve.new.self in
     record {
-      length = now.length ∙ before.length;
-      known = now.known ∙ before.known;
-      marked = now.marked ∙ before.marked;
+      seen = now.seen ∙ before.seen;
       room = λ k i is less. elim (eq-or-lt_of_le (let to : k ≤ c.rows.below = omega arith in to)) [
         | inl same ↦
             let at = claim-in_row e c.requires.leads.is_over.aligned k i is in

@@ -8,8 +8,6 @@ abbrev pub invariant-rows : goal.invariant-rows
 invariant-rows g l =
     let M = g.N.NodeMap in
     record {
-      length : M.length l.map ≡ M.length l.initial.map;
-      known : M.known l.map ≡ M.known l.initial.map;
-      marked : M.marked l.map ≡ M.marked l.initial.map;
+      seen : M.seen l.map ≡ M.seen l.initial.map;
       room : (k i : ℕ) → IsKnown (claimed_by l.initial.evidence) k i → k < l.below → M.has_room l.map k i;
     }

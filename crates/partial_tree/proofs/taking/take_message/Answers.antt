@@ -1,4 +1,4 @@
-use Rattle.std.proofs.Common.{[], ◌-◌, ◌/◌, ◌^◌, not, refl, sym, ap, ap₂, ◌∙◌, subst}
+use Rattle.std.proofs.Common.{◌≡◌, [], ◌-◌, ◌/◌, ◌^◌, not, refl, sym, ap, ap₂, ◌∙◌, subst}
 use Rattle.partial_tree.specs.declared.evidence.Evidence.{Evidence}
 use Rattle.partial_tree.specs.TreeRoot.{TreeRoot}
 use Rattle.node_maps.specs.Places.{tree_height, IsTreePlace, IsKnown}
@@ -10,7 +10,7 @@ use Rattle.partial_tree.proofs.taking.take_message.Goals as goal
 
 pub store-requires-clause-place : goal.store-requires-clause-place
 store-requires-clause-place g c =
-    let K = look (g.N.NodeMap.known c.args.nodes.now) in
+    let K = look (g.N.NodeMap.seen c.args.nodes.now).known in
     let index = c.from.result / 2 ^ (c.in_ok-top.top - c.args.ask.now.base) in
     let v = known_of c.get.result (c.is_none.ensures ∙ ap not c.if-is_none.false) in
     let at : IsTreePlace c.args.height c.in_ok-top.top index = c.requires.places c.in_ok-top.top index (v.0, sym c.get.ensures ∙ v.1) in
@@ -31,7 +31,7 @@ pub returns-clause-taken : goal.returns-clause-taken
 returns-clause-taken g c =
     let ask = c.args.ask.now in
     let hashes = c.args.hashes.now in
-    let K = look (g.N.NodeMap.known c.args.nodes.now) in
+    let K = look (g.N.NodeMap.seen c.args.nodes.now).known in
     let ev : Evidence = record { base = ask.base; index = c.from-2.result; span = c.in_ok-span.span; hashes = c.args.hashes; pad = c.zero.result } in
     let range = c.in_ok-span.ensures.good in
     let count = c.in_ok-top.ensures.good in
@@ -39,7 +39,7 @@ returns-clause-taken g c =
     let v = known_of c.get.result (c.is_none.ensures ∙ ap not c.if-is_none.false) in
     let top : IsKnown K (top_layer ask hashes) (top_index ask hashes) =
     (v.0, ap₂ K (sym count.1) (ap₂ (λ i l. i / 2 ^ (l - ask.base)) (sym c.from.ensures) (sym count.1)) ∙ sym c.get.ensures ∙ v.1) in
-    taken_by ev t (g.N.NodeMap.known c.args.nodes.now) (g.N.NodeMap.known c.store.new.map) ask hashes c.store.result
+    taken_by ev t (g.N.NodeMap.seen c.args.nodes.now).known (g.N.NodeMap.seen c.store.new.map).known ask hashes c.store.result
     (same_claims ev ask hashes refl c.from-2.ensures range.1 refl count.0.enough)
     (subst (λ h. GoodRange h ask) c.requires.height range.0) (subst (λ h. GoodCount h ask hashes) c.requires.height count.0)
     (c.if-not-pads_fit.ensures.fit) top c.store.ensures.stored
@@ -48,7 +48,7 @@ pub returns-clause-refused : goal.returns-clause-refused
 returns-clause-refused g c =
     let ask = c.args.ask.now in
     let hashes = c.args.hashes.now in
-    let K = look (g.N.NodeMap.known c.args.nodes.now) in
+    let K = look (g.N.NodeMap.seen c.args.nodes.now).known in
     let ev : Evidence = record { base = ask.base; index = c.from-2.result; span = c.in_ok-span.span; hashes = c.args.hashes; pad = c.zero.result } in
     let range = c.in_ok-span.ensures.good in
     let count = c.in_ok-top.ensures.good in
@@ -56,7 +56,7 @@ returns-clause-refused g c =
     let v = known_of c.get.result (c.is_none.ensures ∙ ap not c.if-is_none.false) in
     let top : IsKnown K (top_layer ask hashes) (top_index ask hashes) =
     (v.0, ap₂ K (sym count.1) (ap₂ (λ i l. i / 2 ^ (l - ask.base)) (sym c.from.ensures) (sym count.1)) ∙ sym c.get.ensures ∙ v.1) in
-    refused_by ev t (g.N.NodeMap.known c.args.nodes.now) (g.N.NodeMap.known c.store.new.map) ask hashes c.store.result
+    refused_by ev t (g.N.NodeMap.seen c.args.nodes.now).known (g.N.NodeMap.seen c.store.new.map ≡ g.N.NodeMap.seen c.args.nodes.now) ask hashes c.store.result
     (same_claims ev ask hashes refl c.from-2.ensures range.1 refl count.0.enough)
     (subst (λ h. GoodRange h ask) c.requires.height range.0) (subst (λ h. GoodCount h ask hashes) c.requires.height count.0)
     (c.if-not-pads_fit.ensures.fit) top c.store.ensures.refused

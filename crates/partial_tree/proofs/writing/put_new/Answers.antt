@@ -1,4 +1,5 @@
 use Rattle.std.proofs.Common.{◌+◌, [], ap, ◌∙◌, drop, arith}
+use Rattle.node_maps.proofs.Nodes.{stays-both}
 use Rattle.partial_tree.specs.declared.found.Claim.{Claim}
 use Rattle.partial_tree.specs.Joins.{insert_new}
 use Rattle.partial_tree.proofs.Noting.{insert_new-step}
@@ -11,11 +12,10 @@ loop-claim-preserved g c =
     let put = c.put_absent-gained.ensures in
     let cs = c.args.claims.now in
     record {
-      length = put.length ∙ before.length;
+      stays = stays-both put.stays before.stays;
       known = ap (λ m. insert_new m (drop (c.loop-claim.claim-index + 1) cs)) put.known
-          ∙ insert_new-step (g.N.NodeMap.known c.loop-claim.map) cs c.loop-claim.claim-index none c.loop-claim-test.true
+          ∙ insert_new-step (g.N.NodeMap.seen c.loop-claim.map).known cs c.loop-claim.claim-index none c.loop-claim-test.true
           ∙ before.known;
-      marked = put.marked ∙ before.marked;
       gained = omega (arith, put.gained, before.gained);
       bound = omega (arith, put.one, before.bound);
       room = λ k d in'. put.keeps _ _ (before.room k d in');

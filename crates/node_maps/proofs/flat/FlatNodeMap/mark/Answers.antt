@@ -1,5 +1,7 @@
-use Rattle.std.proofs.Common.{◌≤◌, ◌<◌, arith, sym, ◌∙◌, vec_len}
-use Rattle.node_maps.specs.Flat.{row_cells}
+use Rattle.std.proofs.Common.{◌≤◌, ◌<◌, arith, sym, ap, ◌∙◌, vec_len}
+use Rattle.node_maps.specs.Known.{tabulate, within}
+use Rattle.node_maps.specs.Nodes.{nodes}
+use Rattle.node_maps.specs.Flat.{cells, row_cells}
 use Rattle.node_maps.proofs.Cells.{cell_there, look-cells, marked-set}
 use Rattle.node_maps.proofs.flat.FlatNodeMap.mark.Goals as goal
 
@@ -11,10 +13,11 @@ index_mut-requires c =
     let enough : row_cells flat.rows.items 0 ≤ vec_len flat.marks = flat.leaves_have_marks in
     omega arith
 
-pub returns-clause-marked : goal.returns-clause-marked
-returns-clause-marked c =
+pub returns-clause-seen : goal.returns-clause-seen
+returns-clause-seen c =
     let flat = c.args.self.now in
     let there : c.args.index < row_cells flat.rows.items 0 =
     cell_there flat.rows.items 0 c.args.index c.requires.0 (sym (look-cells flat.height flat.rows.items flat.in_tree 0 c.args.index) ∙ c.requires.1) in
     let enough : row_cells flat.rows.items 0 ≤ vec_len flat.marks = flat.leaves_have_marks in
-    marked-set flat.marks.items c.args.index (omega (arith, flat.marks.ok.0))
+    ap (nodes flat.shape (tabulate flat.height (within flat.height (cells flat.rows.items))))
+    (marked-set flat.marks.items c.args.index (omega (arith, flat.marks.ok.0)))

@@ -1,5 +1,6 @@
-use Rattle.std.proofs.Common.{arith}
-use Rattle.node_maps.specs.Flat.{cells}
+use Rattle.std.proofs.Common.{ap, arith}
+use Rattle.node_maps.specs.Nodes.{nodes}
+use Rattle.node_maps.specs.Flat.{cells, marked_leaves}
 use Rattle.node_maps.proofs.Known.{tabulate-put}
 use Rattle.node_maps.proofs.Cells.{same_lengths-in_tree}
 use Rattle.node_maps.proofs.flat.FlatNodeMap.put.Goals as goal
@@ -12,7 +13,9 @@ invariant_of-self c = record {
   leaves_have_marks = omega (arith, c.put_cell.ensures.same 0, c.args.self.now.leaves_have_marks);
 }
 
-pub returns-clause-known : goal.returns-clause-known
-returns-clause-known c =
-    tabulate-put c.args.self.now.height (cells c.args.self.now.rows.items) (cells c.put_cell.new.rows.items) c.args.layer c.args.index c.args.hash
-    (c.args.self.now.in_tree.place c.args.layer c.args.index c.requires) c.put_cell.ensures.here c.put_cell.ensures.others
+pub returns-clause-seen : goal.returns-clause-seen
+returns-clause-seen c =
+    let map = c.args.self.now in
+    ap (λ known. nodes map.shape known (marked_leaves map.marks.items))
+    (tabulate-put map.height (cells map.rows.items) (cells c.put_cell.new.rows.items) c.args.layer c.args.index c.args.hash
+    (map.in_tree.place c.args.layer c.args.index c.requires) c.put_cell.ensures.here c.put_cell.ensures.others)

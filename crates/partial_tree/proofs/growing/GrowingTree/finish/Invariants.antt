@@ -5,7 +5,7 @@ use Rattle.partial_tree.proofs.growing.GrowingTree.finish.Given as goal
 
 abbrev pub invariant-layers : goal.invariant-layers
 invariant-layers g l = record {
-  length : g.N.NodeMap.length l.nodes ≡ l.fn.self.length;
-  marked : g.N.NodeMap.marked l.nodes ≡ empty;
-  up_to : IsUpTo l.fn.self.length l.fn.self.leaves l.layer (g.N.NodeMap.known l.nodes);
+  length : (g.N.NodeMap.seen l.nodes).length ≡ l.fn.self.length;
+  marked : (g.N.NodeMap.seen l.nodes).marked ≡ empty;
+  up_to : IsUpTo l.fn.self.length l.fn.self.leaves l.layer (g.N.NodeMap.seen l.nodes).known;
 }

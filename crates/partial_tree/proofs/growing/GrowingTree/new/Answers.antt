@@ -1,11 +1,12 @@
 use Rattle.std.proofs.Common.{arith}
+use Rattle.node_maps.proofs.Nodes.{known-of, length-of, marked-of}
 use Rattle.partial_tree.proofs.GrownLeaves.{growing-none}
 use Rattle.partial_tree.proofs.growing.GrowingTree.new.Goals as goal
 
 pub invariant_of-result : goal.invariant_of-result
 invariant_of-result g c = (
-  c.empty.ensures.length,
+  (length-of c.empty.ensures.seen),
   omega arith,
-  c.empty.ensures.marked,
-  growing-none (g.N.NodeMap.known c.empty.result) c.empty.ensures.known,
+  (marked-of c.empty.ensures.seen),
+  growing-none (g.N.NodeMap.seen c.empty.result).known (known-of c.empty.ensures.seen),
 )

@@ -4,6 +4,7 @@ use Rattle.hashtree.specs.Tree.{block_count}
 use Rattle.node_maps.specs.Known.{Known, Marked, look}
 use Rattle.node_maps.specs.Digest.{Hash}
 use Rattle.node_maps.specs.Places.{tree_height}
+use Rattle.node_maps.proofs.Nodes.{known-of, marked-of}
 use Rattle.partial_tree.specs.Grown.{AgreeInTree, GrownTree, FollowsFromLeaves, grown, leaves_in}
 use Rattle.partial_tree.specs.Kept.{KeptTree, kept}
 use Rattle.partial_tree.proofs.Adopted.{first-known, fewer, adopted, good-adopted, not-adopted, places_of}
@@ -18,21 +19,21 @@ pub returns-then-not-agree-clause-refused : goal.returns-then-not-agree-clause-r
 returns-then-not-agree-clause-refused g c =
     let old = c.self.inside in
     let new = c.grown.inside in
-    let K = g.N.NodeMap.known old.nodes in
-    let K' = g.N.NodeMap.known new.nodes in
-    let M = g.N.NodeMap.marked old.nodes in
+    let K = (g.N.NodeMap.seen old.nodes).known in
+    let K' = (g.N.NodeMap.seen new.nodes).known in
+    let M = (g.N.NodeMap.seen old.nodes).marked in
     let same : new.shape ≡ old.shape = one_length old.shape new.shape old.root K K' M c.args.self.now c.args.grown c.self.view_is c.grown.view_is c.requires.length in
     let new_is : grown old.shape (leaves_in K' (block_count old.shape)) ≡ c.args.grown = subst (λ n. grown n (leaves_in K' (block_count n)) ≡ c.args.grown) same c.grown.view_is in
     let is : FollowsFromLeaves old.shape (block_count old.shape) K' = subst (λ n. FollowsFromLeaves n (block_count n) K') same c.grown.invariant.4 in
-    not-adopted old.shape old.root K K' M c.args.self.now c.args.grown c.self.view_is new_is c.requires.good is c.if-not-agree.ensures.differs
+    (not-adopted old.shape old.root K K' M c.args.self.now c.args.grown c.self.view_is new_is c.requires.good is c.if-not-agree.ensures.differs, refl)
 
 pub carry_marks-requires-clause-known : goal.carry_marks-requires-clause-known
 carry_marks-requires-clause-known g c =
     let old = c.self.inside in
     let new = c.grown.inside in
-    let K = g.N.NodeMap.known old.nodes in
-    let K' = g.N.NodeMap.known new.nodes in
-    let M = g.N.NodeMap.marked old.nodes in
+    let K = (g.N.NodeMap.seen old.nodes).known in
+    let K' = (g.N.NodeMap.seen new.nodes).known in
+    let M = (g.N.NodeMap.seen old.nodes).marked in
     let same : new.shape ≡ old.shape = one_length old.shape new.shape old.root K K' M c.args.self.now c.args.grown c.self.view_is c.grown.view_is c.requires.length in
     let new_is : grown old.shape (leaves_in K' (block_count old.shape)) ≡ c.args.grown = subst (λ n. grown n (leaves_in K' (block_count n)) ≡ c.args.grown) same c.grown.view_is in
     let is : FollowsFromLeaves old.shape (block_count old.shape) K' = subst (λ n. FollowsFromLeaves n (block_count n) K') same c.grown.invariant.4 in
@@ -43,9 +44,9 @@ pub overflow_sub-gained : goal.overflow_sub-gained
 overflow_sub-gained g c =
     let old = c.self.inside in
     let new = c.grown.inside in
-    let K = g.N.NodeMap.known old.nodes in
-    let K' = g.N.NodeMap.known new.nodes in
-    let M = g.N.NodeMap.marked old.nodes in
+    let K = (g.N.NodeMap.seen old.nodes).known in
+    let K' = (g.N.NodeMap.seen new.nodes).known in
+    let M = (g.N.NodeMap.seen old.nodes).marked in
     let same : new.shape ≡ old.shape = one_length old.shape new.shape old.root K K' M c.args.self.now c.args.grown c.self.view_is c.grown.view_is c.requires.length in
     let new_is : grown old.shape (leaves_in K' (block_count old.shape)) ≡ c.args.grown = subst (λ n. grown n (leaves_in K' (block_count n)) ≡ c.args.grown) same c.grown.view_is in
     let is : FollowsFromLeaves old.shape (block_count old.shape) K' = subst (λ n. FollowsFromLeaves n (block_count n) K') same c.grown.invariant.4 in
@@ -57,9 +58,9 @@ pub returns-clause-adopted : goal.returns-clause-adopted
 returns-clause-adopted g c =
     let old = c.self.inside in
     let new = c.grown.inside in
-    let K = g.N.NodeMap.known old.nodes in
-    let K' = g.N.NodeMap.known new.nodes in
-    let M = g.N.NodeMap.marked old.nodes in
+    let K = (g.N.NodeMap.seen old.nodes).known in
+    let K' = (g.N.NodeMap.seen new.nodes).known in
+    let M = (g.N.NodeMap.seen old.nodes).marked in
     let same : new.shape ≡ old.shape = one_length old.shape new.shape old.root K K' M c.args.self.now c.args.grown c.self.view_is c.grown.view_is c.requires.length in
     let new_is : grown old.shape (leaves_in K' (block_count old.shape)) ≡ c.args.grown = subst (λ n. grown n (leaves_in K' (block_count n)) ≡ c.args.grown) same c.grown.view_is in
     let is : FollowsFromLeaves old.shape (block_count old.shape) K' = subst (λ n. FollowsFromLeaves n (block_count n) K') same c.grown.invariant.4 in
@@ -67,21 +68,18 @@ returns-clause-adopted g c =
     let places : 2 * 2 ^ old.height % 18446744073709551616 ≡ 2 ^ suc (tree_height old.shape) = places_of old.height c.self.invariant.1.low ∙ ap (λ h. 2 ^ suc h) c.self.invariant.1.height_is in
     let agreed : AgreeInTree (look K) (look K') (tree_height old.shape) = subst (AgreeInTree (look K) (look K')) c.self.invariant.1.height_is c.if-not-agree.ensures.same in
     let all : len K' + 1 ≡ 2 ^ suc (tree_height old.shape) = subst (λ n. len K' + 1 ≡ 2 ^ suc (tree_height n)) same c.grown.invariant.3 in
-    adopted old.shape old.root K K' M c.args.self.now c.args.grown c.self.view_is new_is c.requires.good is (2 * 2 ^ old.height % 18446744073709551616 - 1 - old.known) (g.N.NodeMap.known c.carry_marks.new.new) agreed c.carry_marks.ensures.known
+    adopted old.shape old.root K K' M c.args.self.now c.args.grown c.self.view_is new_is c.requires.good is (2 * 2 ^ old.height % 18446744073709551616 - 1 - old.known) (g.N.NodeMap.seen c.carry_marks.new.new).known (g.N.NodeMap.seen c.carry_marks.new.new).marked agreed (known-of c.carry_marks.ensures.carried) (marked-of c.carry_marks.ensures.carried)
     (omega (arith, most, places, all, c.self.invariant.1.known_is))
 
 pub returns-clause-good : goal.returns-clause-good
 returns-clause-good g c =
     let old = c.self.inside in
     let new = c.grown.inside in
-    let K = g.N.NodeMap.known old.nodes in
-    let K' = g.N.NodeMap.known new.nodes in
-    let M = g.N.NodeMap.marked old.nodes in
+    let K = (g.N.NodeMap.seen old.nodes).known in
+    let K' = (g.N.NodeMap.seen new.nodes).known in
+    let M = (g.N.NodeMap.seen old.nodes).marked in
     let same : new.shape ≡ old.shape = one_length old.shape new.shape old.root K K' M c.args.self.now c.args.grown c.self.view_is c.grown.view_is c.requires.length in
     let new_is : grown old.shape (leaves_in K' (block_count old.shape)) ≡ c.args.grown = subst (λ n. grown n (leaves_in K' (block_count n)) ≡ c.args.grown) same c.grown.view_is in
     let is : FollowsFromLeaves old.shape (block_count old.shape) K' = subst (λ n. FollowsFromLeaves n (block_count n) K') same c.grown.invariant.4 in
-    let after = g.N.NodeMap.known c.carry_marks.new.new in
-    let end : KeptTree = kept old.root old.shape after (g.N.NodeMap.marked c.carry_marks.new.new) in
-    good-adopted old.shape old.root K K' M c.args.self.now c.args.grown c.self.view_is new_is c.requires.good is (2 * 2 ^ old.height % 18446744073709551616 - 1 - old.known) after end
-    (ap (λ (t : KeptTree). t.root) c.self.view_is) (ap (λ (t : KeptTree). t.length) c.self.view_is)
-    (c.carry_marks.ensures.marked ∙ ap (λ (t : KeptTree). t.state.marked) c.self.view_is) refl (returns-clause-adopted g c)
+    let end : KeptTree = kept old.root old.shape (g.N.NodeMap.seen c.carry_marks.new.new).known (g.N.NodeMap.seen c.carry_marks.new.new).marked in
+    good-adopted old.shape old.root K K' M c.args.self.now c.args.grown c.self.view_is new_is c.requires.good is (2 * 2 ^ old.height % 18446744073709551616 - 1 - old.known) end (returns-clause-adopted g c)

@@ -5,6 +5,7 @@ use Rattle.partial_tree.specs.Kept.{KeptTree}
 use Rattle.session.specs.Layouts.{SessionSeen, seen}
 use Rattle.session.specs.Session.{IsFilled, IsFillRefused}
 use Rattle.session.proofs.Sessions.{found_at, good_at, kept-after, filled_all, fill_refused_all, inside_kept, length_at}
+use Rattle.partial_tree.proofs.Keeping.{stays_good_adopted}
 use Rattle.session.proofs.session.Session.adopt.Goals as goal
 
 pub adopt-requires-clause-good : goal.adopt-requires-clause-good
@@ -33,7 +34,8 @@ invariant_of-self g c =
     let a : KeptTree = c.index_mut.result.now in
     let low : c.args.tree < length d.trees = subst (λ (v : SessionSeen). c.args.tree < length v.torrent.trees) (sym c.self.view_is) c.requires.inside in
     let at : slice_get ts c.args.tree ≡ Some a = found_at ts c.args.tree a (inside_kept d ts c.self.invariant c.args.tree low) c.index_mut.ensures.value in
-    kept-after d ts c.self.invariant c.args.tree a c.adopt.new.self at c.adopt.ensures.root c.adopt.ensures.length c.adopt.ensures.good
+    kept-after d ts c.self.invariant c.args.tree a c.adopt.new.self at
+    (stays_good_adopted a c.adopt.new.self c.args.grown.leaves c.adopt.result c.adopt.ensures.adopted c.adopt.ensures.refused c.adopt.ensures.good)
 
 pub returns-clause-adopted : goal.returns-clause-adopted
 returns-clause-adopted g c =
@@ -43,7 +45,7 @@ returns-clause-adopted g c =
     let low : c.args.tree < length d.trees = subst (λ (v : SessionSeen). c.args.tree < length v.torrent.trees) (sym c.self.view_is) c.requires.inside in
     let at : slice_get ts c.args.tree ≡ Some a = found_at ts c.args.tree a (inside_kept d ts c.self.invariant c.args.tree low) c.index_mut.ensures.value in
     subst (λ (v : SessionSeen). IfOk c.adopt.result (λ n. IsFilled v c.args.tree 0 c.args.grown.leaves n (seen d c.self.inside.asks (set ts c.args.tree c.adopt.new.self)))) c.self.view_is
-    (filled_all d ts c.self.invariant c.self.inside.asks c.args.tree a c.adopt.new.self 0 c.args.grown.leaves c.adopt.result at c.adopt.ensures.marked c.adopt.ensures.adopted)
+    (filled_all d ts c.self.invariant c.self.inside.asks c.args.tree a c.adopt.new.self 0 c.args.grown.leaves c.adopt.result at c.adopt.ensures.adopted)
 
 pub returns-clause-refused : goal.returns-clause-refused
 returns-clause-refused g c =
@@ -53,4 +55,4 @@ returns-clause-refused g c =
     let low : c.args.tree < length d.trees = subst (λ (v : SessionSeen). c.args.tree < length v.torrent.trees) (sym c.self.view_is) c.requires.inside in
     let at : slice_get ts c.args.tree ≡ Some a = found_at ts c.args.tree a (inside_kept d ts c.self.invariant c.args.tree low) c.index_mut.ensures.value in
     subst (λ (v : SessionSeen). IfErr c.adopt.result (λ r. IsFillRefused v c.args.tree 0 c.args.grown.leaves r × (seen d c.self.inside.asks (set ts c.args.tree c.adopt.new.self) ≡ v))) c.self.view_is
-    (fill_refused_all d ts c.self.invariant c.self.inside.asks c.args.tree a c.adopt.new.self 0 c.args.grown.leaves c.adopt.result at c.adopt.ensures.marked c.adopt.ensures.refused)
+    (fill_refused_all d ts c.self.invariant c.self.inside.asks c.args.tree a c.adopt.new.self 0 c.args.grown.leaves c.adopt.result at c.adopt.ensures.refused)

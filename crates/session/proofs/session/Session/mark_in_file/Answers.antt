@@ -6,7 +6,8 @@ use Rattle.metainfo.specs.Description.{Description}
 use Rattle.partial_tree.specs.Kept.{KeptTree}
 use Rattle.session.specs.Session.{IsMarkedBlock, IsUnmarkedBlock}
 use Rattle.session.specs.Layouts.{SessionSeen, seen, HasBlock}
-use Rattle.session.proofs.Sessions.{has_tree, found_at, good_at, good_after_block, kept-after, tree_for, same_length, marked_all, unmarked_all}
+use Rattle.partial_tree.proofs.Keeping.{good_after_block}
+use Rattle.session.proofs.Sessions.{has_tree, found_at, good_at, kept-after, tree_for, same_length, marked_all, unmarked_all}
 use Rattle.session.proofs.session.Session.mark_in_file.Goals as goal
 
 pub unwrap-tree-requires : goal.unwrap-tree-requires
@@ -63,9 +64,9 @@ invariant_of-self g c =
     let a : KeptTree = c.index_mut.result.now in
     let e : slice_get ts tr ≡ Some a = found_at ts tr a (slice_get_within ts tr x.0 x.1) c.index_mut.ensures.value in
     let b : KeptTree = c.take_block.new.self in
-    kept-after d ts c.self.invariant tr a b e c.take_block.ensures.root c.take_block.ensures.length
-    (good_after_block a b c.args.block c.args.bytes.now c.take_block.result (good_at d ts c.self.invariant tr a e) c.take_block.ensures.root c.take_block.ensures.length
-    c.take_block.ensures.known c.take_block.ensures.taken c.take_block.ensures.refused)
+    kept-after d ts c.self.invariant tr a b e
+    (good_after_block a b c.args.block c.args.bytes.now c.take_block.result (good_at d ts c.self.invariant tr a e)
+    c.take_block.ensures.taken c.take_block.ensures.refused)
 
 pub returns-clause-marked : goal.returns-clause-marked
 returns-clause-marked g c =
@@ -80,7 +81,7 @@ returns-clause-marked g c =
     let low : c.args.block < block_count a.length = subst (λ n. c.args.block < block_count n) (sym (same_length d ts c.self.invariant c.sound.ensures c.args.file tr has.0 a has.1 is e)) has.2 in
     let b : KeptTree = c.take_block.new.self in
     subst (λ (v : SessionSeen). IfOk c.take_block.result (λ _. IsMarkedBlock v c.args.file c.args.block c.args.bytes.now (seen d c.self.inside.asks (set ts tr b)))) c.self.view_is
-    (marked_all d ts c.self.invariant c.args.file c.args.block tr has.0 a has.1 is e low c.self.inside.asks b c.args.bytes.now c.take_block.result c.take_block.ensures.known c.take_block.ensures.taken)
+    (marked_all d ts c.self.invariant c.args.file c.args.block tr has.0 a has.1 is e low c.self.inside.asks b c.args.bytes.now c.take_block.result c.take_block.ensures.taken)
 
 pub returns-clause-refused : goal.returns-clause-refused
 returns-clause-refused g c =
@@ -95,4 +96,4 @@ returns-clause-refused g c =
     let low : c.args.block < block_count a.length = subst (λ n. c.args.block < block_count n) (sym (same_length d ts c.self.invariant c.sound.ensures c.args.file tr has.0 a has.1 is e)) has.2 in
     let b : KeptTree = c.take_block.new.self in
     subst (λ (v : SessionSeen). IfErr c.take_block.result (λ r. IsUnmarkedBlock v c.args.file c.args.block c.args.bytes.now r × (seen d c.self.inside.asks (set ts tr b) ≡ v))) c.self.view_is
-    (unmarked_all d ts c.self.invariant c.args.file c.args.block tr has.0 a has.1 is e low c.self.inside.asks b c.args.bytes.now c.take_block.result c.take_block.ensures.known c.take_block.ensures.refused)
+    (unmarked_all d ts c.self.invariant c.args.file c.args.block tr has.0 a has.1 is e low c.self.inside.asks b c.args.bytes.now c.take_block.result c.take_block.ensures.refused)

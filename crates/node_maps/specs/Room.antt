@@ -1,0 +1,19 @@
+-- The places of a tree that have room in a node map: a `put` there cannot fail.
+use Rattle.std.specs.Prelude.{ℕ, ◌+◌, ◌<◌, ◌≤◌}
+use Rattle.node_maps.specs.Places.{PartialTree, IsKnown}
+
+-- the places that have room
+abbrev pub Room : Type 1
+Room = ℕ → ℕ → Type 0
+
+-- each place that had room has room
+abbrev pub KeepsRoom : Room → Room → Type 0
+KeepsRoom old new = (l i : ℕ) → old l i → new l i
+
+-- `count` places of a layer have room, from one on
+abbrev pub HasRoomInRow : Room → ℕ → ℕ → ℕ → Type 0
+HasRoomInRow room layer from count = (i : ℕ) → from ≤ i → i < from + count → room layer i
+
+-- each place at which K has a value has room
+abbrev pub HasRoomFor : PartialTree → Room → Type 0
+HasRoomFor K room = (l i : ℕ) → IsKnown K l i → room l i
