@@ -134,20 +134,25 @@ module _ (n : ℕ) (root : Hash) (K K' : Known) (M : Marked) (old : KeptTree) (n
   pub fewer : len K < 2 ^ suc (tree_height n)
   fewer = len-known (tree_height n) K inside
 
-  pub adopted : (c : ℕ) (after : Known) (marks : Marked) → AgreeInTree (look K) (look K') (tree_height n) → after ≡ K' → marks ≡ M → len K' ≡ len K + c → TreeTakesLayer old 0 new.leaves c (kept root n after marks)
+  pub adopted : (c : ℕ) (after : Known) (marks : Marked)
+      → AgreeInTree (look K) (look K') (tree_height n) → after ≡ K' → marks ≡ M
+      → len K' ≡ len K + c → TreeTakesLayer old 0 new.leaves c (kept root n after marks)
   adopted c after marks same stays carried gained =
       subst (λ J. TreeTakesLayer old 0 new.leaves c (kept root n J marks)) (sym stays)
       (subst (λ m. TreeTakesLayer old 0 new.leaves c (kept root n K' m)) (sym carried)
       (subst (λ t. TreeTakesLayer t 0 new.leaves c (kept root n K' M)) old_is
-      (subst (λ (t : GrownTree). TreeTakesLayer (kept root n K M) 0 t.leaves c (kept root n K' M)) new_is (takes-grown n K K' is inside c same gained, refl))))
+      (subst (λ (t : GrownTree). TreeTakesLayer (kept root n K M) 0 t.leaves c (kept root n K' M))
+      new_is (takes-grown n K K' is inside c same gained, refl))))
 
   pub not-adopted : IsMismatch (look K) (look K') → TreeRefusesLayer old 0 new.leaves Mismatch
   not-adopted m =
       subst (λ t. TreeRefusesLayer t 0 new.leaves Mismatch) old_is
-      (subst (λ (t : GrownTree). TreeRefusesLayer (kept root n K M) 0 t.leaves Mismatch) new_is (refuses-grown n K K' is inside m).0)
+      (subst (λ (t : GrownTree). TreeRefusesLayer (kept root n K M) 0 t.leaves Mismatch) new_is
+      (refuses-grown n K K' is inside m).0)
 
   -- the tree that took over is good
-  pub good-adopted : (c : ℕ) (after : KeptTree) → TreeTakesLayer old 0 new.leaves c after → IsGoodTree after
+  pub good-adopted : (c : ℕ) (after : KeptTree) → TreeTakesLayer old 0 new.leaves c after
+      → IsGoodTree after
   good-adopted c after taken =
       let sizes : AreHashes new.leaves = subst (λ (t : GrownTree). AreHashes t.leaves) new_is is.hashes in
       good_filled old after 0 new.leaves c good sizes taken

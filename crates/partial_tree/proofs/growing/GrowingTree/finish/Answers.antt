@@ -14,7 +14,8 @@ layers-init g c =
     record {
       length = c.add_pads.ensures.length ∙ c.self.invariant.0 ∙ ap (λ (t : GrownTree). t.length) c.self.view_is;
       marked = c.add_pads.ensures.marked ∙ c.self.invariant.2;
-      up_to = padded old.shape old.count (g.N.NodeMap.known old.nodes) c.args.self c.self.view_is c.requires c.self.invariant.3 _ _ (g.N.NodeMap.known c.add_pads.new.map)
+      up_to = padded old.shape old.count (g.N.NodeMap.known old.nodes) c.args.self c.self.view_is
+          c.requires c.self.invariant.3 _ _ (g.N.NodeMap.known c.add_pads.new.map)
           c.blocks-blocks.ensures.value wide c.in_ok-add_pads.ensures.added;
     }
 

@@ -43,5 +43,10 @@ pub returns-clause-filled : goal.returns-clause-filled
 returns-clause-filled g c =
     let old = c.self.inside in
     let after = g.N.NodeMap.known c.fill_layer.new.nodes in
-    subst (λ v. TreeTakesLayer v c.args.layer c.args.hashes.now c.in_ok-gained.gained (kept old.root old.shape after (g.N.NodeMap.marked c.fill_layer.new.nodes)))
-    c.self.view_is (c.in_ok-gained.ensures.filled, ap (kept old.root old.shape after) c.fill_layer.ensures.marked)
+    subst (λ v. TreeTakesLayer v c.args.layer c.args.hashes.now c.in_ok-gained.gained
+    (kept old.root old.shape after (g.N.NodeMap.marked c.fill_layer.new.nodes)))
+    c.self.view_is (
+      c.in_ok-gained.ensures.filled,
+      ap (kept old.root old.shape after)
+          c.fill_layer.ensures.marked,
+    )

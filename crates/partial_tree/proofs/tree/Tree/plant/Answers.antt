@@ -46,5 +46,11 @@ pub returns-clause-planted : goal.returns-clause-planted
 returns-clause-planted g c =
     let old = c.self.inside in
     let after = g.N.NodeMap.known c.plant_layer.new.nodes in
-    subst (λ (v : KeptTree). TreeJoins (fill_claims v.length c.args.layer c.args.hashes.now) v c.in_ok-gained.gained (kept old.root old.shape after (g.N.NodeMap.marked c.plant_layer.new.nodes)))
-    c.self.view_is (c.in_ok-gained.ensures.planted, ap (kept old.root old.shape after) c.plant_layer.ensures.marked)
+    subst (λ (v : KeptTree). TreeJoins (fill_claims v.length c.args.layer c.args.hashes.now) v
+    c.in_ok-gained.gained (kept old.root old.shape after
+    (g.N.NodeMap.marked c.plant_layer.new.nodes)))
+    c.self.view_is (
+      c.in_ok-gained.ensures.planted,
+      ap (kept old.root old.shape after)
+          c.plant_layer.ensures.marked,
+    )

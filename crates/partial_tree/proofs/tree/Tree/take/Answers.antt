@@ -43,5 +43,10 @@ pub returns-clause-taken : goal.returns-clause-taken
 returns-clause-taken g c =
     let old = c.self.inside in
     let after = g.N.NodeMap.known c.take_message.new.nodes in
-    subst (λ v. TreeTakesHashes v c.args.ask.now c.args.hashes.now c.in_ok-gained.gained (kept old.root old.shape after (g.N.NodeMap.marked c.take_message.new.nodes)))
-    c.self.view_is (c.in_ok-gained.ensures.taken, ap (kept old.root old.shape after) c.take_message.ensures.marked)
+    subst (λ v. TreeTakesHashes v c.args.ask.now c.args.hashes.now c.in_ok-gained.gained
+    (kept old.root old.shape after (g.N.NodeMap.marked c.take_message.new.nodes)))
+    c.self.view_is (
+      c.in_ok-gained.ensures.taken,
+      ap (kept old.root old.shape after)
+          c.take_message.ensures.marked,
+    )
