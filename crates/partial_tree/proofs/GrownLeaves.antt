@@ -278,7 +278,8 @@ module _ (n count : ℕ) (K : Known) (t : GrownTree) (view_is : grown n (leaves_
   pub padded : (from to : ℕ) (K' : Known) → from ≡ block_count n → to ≡ 2 ^ tree_height n
       → AddsRow K 0 from to (λ _. Some pad_leaf) K' → IsUpTo t.length t.leaves 0 K'
   padded from to K' past whole adds =
-      seen 0 K' (pads-same n K every K' (subst₂ (λ j k. AddsRow K 0 j k (λ _. Some pad_leaf) K') past whole adds))
+      seen 0 K' (pads-same n K every K' (subst₂ (λ j k. AddsRow K 0 j k (λ _. Some pad_leaf) K')
+      past whole adds))
 
   pub ended : (layer : ℕ) (K' K'' : Known) → layer ≡ tree_height n → IsUpTo t.length t.leaves layer K' → K'' ≡ K'
       → (len K'' + 1 ≡ 2 ^ suc (tree_height n)) × FollowsFromLeaves n (block_count n) K'' × (leaves_in K'' (block_count n) ≡ t.leaves)

@@ -31,25 +31,33 @@ marked-known s b i leaf known old e =
       | inr before ↦ old before
     ]
 
-pub good_joined : (a b : KeptTree) (C : PartialTree) (c : ℕ) → IsGoodTree a → IsClosed (info_of a) (joined (look a.state.known) C) → TreeJoins C a c b → IsGoodTree b
+pub good_joined : (a b : KeptTree) (C : PartialTree) (c : ℕ) → IsGoodTree a
+    → IsClosed (info_of a) (joined (look a.state.known) C) → TreeJoins C a c b → IsGoodTree b
 good_joined a b C c good closed (joins, rest) = record {
   closed = subst (λ t. IsClosed t (look b.state.known)) (sym (ap info_of rest))
       (closed-same (info_of a) (joined (look a.state.known) C) (look b.state.known) (λ y i. sym (joins.joined_is y i)) closed);
   marks = λ i e.
-      let known : IsKnown (look a.state.known) 0 i = good.marks i (ap (λ (t : KeptTree). set.contains t.state.marked i) (sym rest) ∙ e) in
+      let known : IsKnown (look a.state.known) 0 i = good.marks i
+      (ap (λ (t : KeptTree). set.contains t.state.marked i) (sym rest) ∙ e) in
       (known.0, joins.joined_is 0 i ∙ joined-keeps (look a.state.known) C 0 i known.0 known.1);
 }
 
-pub good_taken : (a b : KeptTree) (ask : Ask) (hashes : List Hash) (c : ℕ) → IsGoodTree a → AreHashes hashes → TreeTakesHashes a ask hashes c b → IsGoodTree b
+pub good_taken : (a b : KeptTree) (ask : Ask) (hashes : List Hash) (c : ℕ) → IsGoodTree a
+    → AreHashes hashes → TreeTakesHashes a ask hashes c b → IsGoodTree b
 good_taken a b ask hashes c good sizes ((ok, joins), rest) =
-    good_joined a b (claims ask hashes) c good (joined-closed (info_of a) (look a.state.known) ask hashes good.closed sizes ok) (joins, rest)
+    good_joined a b (claims ask hashes) c good
+    (joined-closed (info_of a) (look a.state.known) ask hashes good.closed sizes ok)
+    (joins, rest)
 
-pub good_filled : (a b : KeptTree) (layer : ℕ) (hashes : List Hash) (c : ℕ) → IsGoodTree a → AreHashes hashes → TreeTakesLayer a layer hashes c b → IsGoodTree b
+pub good_filled : (a b : KeptTree) (layer : ℕ) (hashes : List Hash) (c : ℕ) → IsGoodTree a
+    → AreHashes hashes → TreeTakesLayer a layer hashes c b → IsGoodTree b
 good_filled a b layer hashes c good sizes ((ok, joins), rest) =
     good_joined a b (fill_claims a.length layer hashes) c good
-    (fill-closed (info_of a) (look a.state.known) layer hashes ok.layer_inside ok.right_count good.closed sizes ok.agrees) (joins, rest)
+    (fill-closed (info_of a) (look a.state.known) layer hashes ok.layer_inside ok.right_count
+    good.closed sizes ok.agrees) (joins, rest)
 
-pub good_marked : (a b : KeptTree) (i : ℕ) (bytes : List ℕ) → IsGoodTree a → TreeMarks a i bytes b → IsGoodTree b
+pub good_marked : (a b : KeptTree) (i : ℕ) (bytes : List ℕ) → IsGoodTree a → TreeMarks a i bytes b
+    → IsGoodTree b
 good_marked a b i bytes good ok = subst IsGoodTree (sym ok.marks) (record {
   closed = good.closed;
   marks = λ j e. marked-known a.state i j (sha256 bytes) ok.leaf_known (good.marks j) e;
@@ -65,21 +73,30 @@ same-stays_good : (a b : KeptTree) → IsGoodTree a → b ≡ a → StaysGood a 
 same-stays_good a b good same = (ap info_of same, subst IsGoodTree (sym same) good)
 
 pub good_after_take : (a b : KeptTree) (ask : Ask) (hashes : List Hash) (r : Result ℕ HashRefusal) → IsGoodTree a → AreHashes hashes
-    → IfOk r (λ c. TreeTakesHashes a ask hashes c b) → IfErr r (λ x. TreeRefusesHashes a ask hashes x × (b ≡ a)) → StaysGood a b
-good_after_take a b ask hashes (Ok c) good sizes taken refused = (ap info_of taken.1, good_taken a b ask hashes c good sizes taken)
+    → IfOk r (λ c. TreeTakesHashes a ask hashes c b)
+    → IfErr r (λ x. TreeRefusesHashes a ask hashes x × (b ≡ a)) → StaysGood a b
+good_after_take a b ask hashes (Ok c) good sizes taken refused =
+    (ap info_of taken.1, good_taken a b ask hashes c good sizes taken)
 good_after_take a b ask hashes (Err x) good sizes taken refused = same-stays_good a b good refused.1
 
 pub good_after_fill : (a b : KeptTree) (layer : ℕ) (hashes : List Hash) (r : Result ℕ HashRefusal) → IsGoodTree a → AreHashes hashes
-    → IfOk r (λ c. TreeTakesLayer a layer hashes c b) → IfErr r (λ x. TreeRefusesLayer a layer hashes x × (b ≡ a)) → StaysGood a b
-good_after_fill a b layer hashes (Ok c) good sizes filled refused = (ap info_of filled.1, good_filled a b layer hashes c good sizes filled)
-good_after_fill a b layer hashes (Err x) good sizes filled refused = same-stays_good a b good refused.1
+    → IfOk r (λ c. TreeTakesLayer a layer hashes c b)
+    → IfErr r (λ x. TreeRefusesLayer a layer hashes x × (b ≡ a)) → StaysGood a b
+good_after_fill a b layer hashes (Ok c) good sizes filled refused =
+    (ap info_of filled.1, good_filled a b layer hashes c good sizes filled)
+good_after_fill a b layer hashes (Err x) good sizes filled refused = same-stays_good a b good
+    refused.1
 
 pub stays_good_adopted : (a b : KeptTree) (leaves : List Hash) (r : Result ℕ HashRefusal)
-    → IfOk r (λ c. TreeTakesLayer a 0 leaves c b) → IfErr r (λ x. TreeRefusesLayer a 0 leaves x × (b ≡ a)) → IsGoodTree b → StaysGood a b
+    → IfOk r (λ c. TreeTakesLayer a 0 leaves c b)
+    → IfErr r (λ x. TreeRefusesLayer a 0 leaves x × (b ≡ a)) → IsGoodTree b → StaysGood a b
 stays_good_adopted a b leaves (Ok c) adopted refused good = (ap info_of adopted.1, good)
 stays_good_adopted a b leaves (Err x) adopted refused good = (ap info_of refused.1, good)
 
-pub good_after_block : {X : Type 0} (a b : KeptTree) (i : ℕ) (bytes : List ℕ) (r : Result X BlockRefusal) → IsGoodTree a
-    → IfOk r (λ _. TreeMarks a i bytes b) → IfErr r (λ x. TreeRefusesBlock a i bytes x × (b ≡ a)) → StaysGood a b
-good_after_block a b i bytes (Ok x) good taken refused = (ap info_of taken.marks, good_marked a b i bytes good taken)
+pub good_after_block : {X : Type 0} (a b : KeptTree) (i : ℕ) (bytes : List ℕ)
+    (r : Result X BlockRefusal) → IsGoodTree a
+    → IfOk r (λ _. TreeMarks a i bytes b) → IfErr r (λ x. TreeRefusesBlock a i bytes x × (b ≡ a))
+    → StaysGood a b
+good_after_block a b i bytes (Ok x) good taken refused =
+    (ap info_of taken.marks, good_marked a b i bytes good taken)
 good_after_block a b i bytes (Err x) good taken refused = same-stays_good a b good refused.1

@@ -118,7 +118,8 @@ step-says file S c None S' h n tree s of' at =
       subst (λ (st : TreeState). look st.known 0 c.number ≡ Some (sha256 c.bytes)) state h.leaf_known,
     )
 step-says file S c (Some r) S' ((p, refused), same) n tree s of' at =
-    subst₂ (λ (tr : TreeRoot) (st : TreeState). RefusesBlock tr.length (look st.known) c.number c.bytes r)
+    subst₂ (λ (tr : TreeRoot) (st : TreeState). RefusesBlock tr.length (look st.known) c.number
+    c.bytes r)
     (same_tree S file c.number n tree s of' at p) (same_state S file c.number n tree s of' at p) refused
 
 -- a marked block is the file's, or a collision is named
@@ -135,7 +136,9 @@ module _ (S : SessionSeen) (closed_trees : HasClosedTrees S) (file b : ℕ) (byt
   has_size : HasBlockSize p.tree.length b bytes
   has_size = ap length is_block ∙ block-size f b ∙ ap (λ n. min 16384 (n - 16384 * b)) fits.same_length
 
-  pub never-refused : (r : BlockRefusal) → RefusesBlock p.tree.length (look p.state.known) b bytes r → Collision (whole f) (look p.state.known)
+  pub never-refused : (r : BlockRefusal)
+      → RefusesBlock p.tree.length (look p.state.known) b bytes r
+      → Collision (whole f) (look p.state.known)
   never-refused BadPlace h = absurd h
   never-refused BadSize wrong = absurd (wrong has_size)
   never-refused Unproved (size, none) = absurd (none-some known.0 (sym none ∙ known.1))
@@ -150,7 +153,8 @@ pub says-taken : (S : SessionSeen) → HasClosedTrees S → (file : ℕ) (c : Cu
 says-taken S closed_trees file c n tree s None of' at says = λ p f fits is_block known. inl refl
 says-taken S closed_trees file c n tree s (Some r) of' at says = λ p f fits is_block known.
     inr (never-refused S closed_trees file c.number c.bytes p f fits is_block known r
-    (subst₂ (λ (tr : TreeRoot) (st : TreeState). RefusesBlock tr.length (look st.known) c.number c.bytes r)
+    (subst₂ (λ (tr : TreeRoot) (st : TreeState). RefusesBlock tr.length (look st.known) c.number
+    c.bytes r)
     (sym (same_tree S file c.number n tree s of' at p)) (sym (same_state S file c.number n tree s of' at p)) says))
 
 -- ---- all blocks of a message

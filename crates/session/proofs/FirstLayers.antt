@@ -87,11 +87,16 @@ module _ (p : ℕ) (e : TreeEntry) (legal : IsPieceLength p) (sound : IsSoundTre
         }))
 
     -- and once it is taken, the tree is as a session with layers begins
-    pub planted_layers : (b : KeptTree) (c : ℕ) → TreeJoins (fill_claims a.length l e.layer) a c b → IsPlanted p true e b
+    pub planted_layers : (b : KeptTree) (c : ℕ) → TreeJoins (fill_claims a.length l e.layer) a c b
+        → IsPlanted p true e b
     planted_layers b c (joins, rest) = record {
       root_is = ap (λ (t : KeptTree). t.root) rest ∙ planted.root_is;
       length_is = ap (λ (t : KeptTree). t.length) rest ∙ planted.length_is;
-      good = good_filled a b l e.layer c planted.good (λ k d inside. record { size = sound.hash_lengths k (get_or e.layer k d) (slice_get-get_or e.layer k d inside) }) ((accepted, joins), rest);
+      good = good_filled a b l e.layer c planted.good
+          (λ k d inside. record {
+            size = sound.hash_lengths k (get_or e.layer k d)
+                (slice_get-get_or e.layer k d inside);
+          }) ((accepted, joins), rest);
       known = record {
         root_alone = λ w. elim w [ inl off ↦ absurd (false≢true (sym off)) | inr short ↦ absurd (omega (arith, short, longer)) ];
         layers = λ on more.

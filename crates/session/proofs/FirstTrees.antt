@@ -55,7 +55,8 @@ knows_root t K is = record {
       (at.0, at.1);
 }
 
-pub planted_root : (p : ℕ) (e : TreeEntry) (a : KeptTree) → IsSoundTree p e → a ≡ root_only e.root e.length → IsPlanted p false e a
+pub planted_root : (p : ℕ) (e : TreeEntry) (a : KeptTree) → IsSoundTree p e
+    → a ≡ root_only e.root e.length → IsPlanted p false e a
 planted_root p e a sound is = subst (IsPlanted p false e) (sym is) (record {
   root_is = refl;
   length_is = refl;

@@ -122,7 +122,8 @@ module _ (S : SessionSeen) (distinct : HasDistinctRoots S) (ask : Ask) (hashes :
 
 -- ---- one entry of a piece message
 
-tree_one : (n : ℕ) (K : PartialTree) (b : ℕ) (bytes : List ℕ) (r q : BlockRefusal) → RefusesBlock n K b bytes r → RefusesBlock n K b bytes q → r ≡ q
+tree_one : (n : ℕ) (K : PartialTree) (b : ℕ) (bytes : List ℕ) (r q : BlockRefusal)
+    → RefusesBlock n K b bytes r → RefusesBlock n K b bytes q → r ≡ q
 tree_one n K b bytes BadPlace q h k = absurd h
 tree_one n K b bytes BadSize BadPlace h k = absurd k
 tree_one n K b bytes BadSize BadSize h k = refl
@@ -138,12 +139,16 @@ tree_one n K b bytes BadBlock Unproved h k = absurd (none-some h.1.0 (sym k.1 �
 tree_one n K b bytes BadBlock BadBlock h k = refl
 
 module _ (S : SessionSeen) (file b : ℕ) (bytes : List ℕ) where
-  at_file : (p q : IsInFile S file b) (r : BlockRefusal) → RefusesBlock p.tree.length (look p.state.known) b bytes r → RefusesBlock q.tree.length (look q.state.known) b bytes r
+  at_file : (p q : IsInFile S file b) (r : BlockRefusal)
+      → RefusesBlock p.tree.length (look p.state.known) b bytes r
+      → RefusesBlock q.tree.length (look q.state.known) b bytes r
   at_file p q r refused =
       subst₂ (λ (tr : TreeRoot) (st : TreeState). RefusesBlock tr.length (look st.known) b bytes r)
       (same_tree S file b q.tree_number q.tree q.state q.of_file q.is_tree p) (same_state S file b q.tree_number q.tree q.state q.of_file q.is_tree p) refused
 
-  marked_not_refused : (S' : SessionSeen) (r : BlockRefusal) → (h : IsMarkedBlock S file b bytes S') → RefusesBlock h.in_file.tree.length (look h.in_file.state.known) b bytes r → ⊥
+  marked_not_refused : (S' : SessionSeen) (r : BlockRefusal)
+      → (h : IsMarkedBlock S file b bytes S')
+      → RefusesBlock h.in_file.tree.length (look h.in_file.state.known) b bytes r → ⊥
   marked_not_refused S' BadPlace h k = k
   marked_not_refused S' BadSize h k = k h.size
   marked_not_refused S' Unproved h (size, none) = none-some (sha256 bytes) (sym none ∙ h.leaf_known)

@@ -139,18 +139,22 @@ module _ (S : SessionSeen) (index begin : ℕ) (p q : IsPlaced S index begin) wh
   placed_state : q.in_file.state ≡ p.in_file.state
   placed_state = same_state S q.file q.number p.in_file.tree_number p.in_file.tree p.in_file.state of_placed p.in_file.is_tree q.in_file
 
-  refused_there : (bytes : List ℕ) (r : BlockRefusal) → RefusesBlock q.in_file.tree.length (look q.in_file.state.known) q.number bytes r
+  refused_there : (bytes : List ℕ) (r : BlockRefusal)
+      → RefusesBlock q.in_file.tree.length (look q.in_file.state.known) q.number bytes r
       → RefusesBlock p.in_file.tree.length (look p.in_file.state.known) p.number bytes r
   refused_there bytes r refused =
-      subst (λ b. RefusesBlock p.in_file.tree.length (look p.in_file.state.known) b bytes r) same_block_number
-      (subst₂ (λ (tr : TreeRoot) (st : TreeState). RefusesBlock tr.length (look st.known) q.number bytes r) placed_tree placed_state refused)
+      subst (λ b. RefusesBlock p.in_file.tree.length (look p.in_file.state.known) b bytes r)
+      same_block_number
+      (subst₂ (λ (tr : TreeRoot) (st : TreeState). RefusesBlock tr.length (look st.known) q.number
+      bytes r) placed_tree placed_state refused)
 
   pub run_there : (size k : ℕ) → IsBlockRun p.in_file.tree.length p.number size k → IsBlockRun q.in_file.tree.length q.number size k
   run_there size k run = subst₂ (λ (tr : TreeRoot) b. IsBlockRun tr.length b size k) (sym placed_tree) (sym same_block_number) run
 
 module _ (S : SessionSeen) (closed_trees : HasClosedTrees S) (index begin : ℕ) (bytes : List ℕ) (p : IsPlaced S index begin) (f : List ℕ)
     (fits : Fits f p.in_file.tree) (is_block : bytes ≡ block f p.number) (known : IsKnown (look p.in_file.state.known) 0 p.number) where
-  refused_elsewhere : (r : BlockRefusal) → (q : IsPlaced S index begin) → RefusesBlock q.in_file.tree.length (look q.in_file.state.known) q.number bytes r
+  refused_elsewhere : (r : BlockRefusal) → (q : IsPlaced S index begin)
+      → RefusesBlock q.in_file.tree.length (look q.in_file.state.known) q.number bytes r
       → Collision (whole f) (look p.in_file.state.known)
   refused_elsewhere r q refused = never-refused S closed_trees p.file p.number bytes p.in_file f fits is_block known r (refused_there S index begin p q bytes r refused)
 

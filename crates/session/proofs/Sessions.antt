@@ -73,14 +73,17 @@ module _ (d : Description) (ts : List KeptTree) (kept : AreKept d ts) where
         subst (λ st. (i : ℕ) → leaves.contains st.marked i ≡ true → IsKnown (look st.known) 0 i) x.3 ((good_at n x.0 x.1).marks);
   }
 
-  pub kept-after : (n : ℕ) (a b : KeptTree) → slice_get ts n ≡ Some a → StaysGood a b → AreKept d (set ts n b)
+  pub kept-after : (n : ℕ) (a b : KeptTree) → slice_get ts n ≡ Some a → StaysGood a b
+      → AreKept d (set ts n b)
   kept-after n a b e (same, good) = record {
-    same = map-set_same info_of ts n b a (same ∙ ap info_of (sym (get_or_from_slice_get ts n a a e))) ∙ kept.same;
+    same = map-set_same info_of ts n b a (same ∙ ap info_of
+        (sym (get_or_from_slice_get ts n a a e))) ∙ kept.same;
     good = All-set IsGoodTree ts n b good kept.good;
   }
 
   pub stored_in : (o : AskSet) → (n : ℕ) (a b : KeptTree) (ask : Ask) (hashes : List Hash) (c : ℕ) → slice_get ts n ≡ Some a → a.root ≡ ask.root
-      → TreeTakesHashes a ask hashes c b → IsStored (seen d o ts) ask hashes c (seen d o (set ts n b))
+      → TreeTakesHashes a ask hashes c b
+      → IsStored (seen d o ts) ask hashes c (seen d o (set ts n b))
   stored_in o n a b ask hashes c e root (taken, rest) = record {
     asked = record { number = n; tree = info_of a; state = a.state; is_tree = tree_at o n a e; has_root = root };
     after = b.state;
@@ -108,19 +111,28 @@ module _ (d : Description) (ts : List KeptTree) (kept : AreKept d ts) where
       none n x.0 x.1 (ap (λ t. t.root) x.2 ∙ root)
 
 -- a tree that stays leaves the state
-pub state_stays : (ts : List KeptTree) (n : ℕ) (a b : KeptTree) → slice_get ts n ≡ Some a → b ≡ a → map state_of (set ts n b) ≡ map state_of ts
-state_stays ts n a b e same = map-set_same state_of ts n b a (ap state_of (same ∙ sym (get_or_from_slice_get ts n a a e)))
+pub state_stays : (ts : List KeptTree) (n : ℕ) (a b : KeptTree) → slice_get ts n ≡ Some a → b ≡ a
+    → map state_of (set ts n b) ≡ map state_of ts
+state_stays ts n a b e same = map-set_same state_of ts n b a
+    (ap state_of (same ∙ sym (get_or_from_slice_get ts n a a e)))
 
 module _ (d : Description) (ts : List KeptTree) (kept : AreKept d ts) where
   pub stored_all : (o : AskSet) → (n : ℕ) (a b : KeptTree) (ask : Ask) (hashes : List Hash) (r : Result ℕ HashRefusal) → slice_get ts n ≡ Some a → a.root ≡ ask.root
-      → IfOk r (λ c. TreeTakesHashes a ask hashes c b) → IfOk r (λ c. IsStored (seen d o ts) ask hashes c (seen d o (set ts n b)))
+      → IfOk r (λ c. TreeTakesHashes a ask hashes c b)
+      → IfOk r (λ c. IsStored (seen d o ts) ask hashes c (seen d o (set ts n b)))
   stored_all o n a b ask hashes (Ok c) e root h = stored_in d ts kept o n a b ask hashes c e root h
   stored_all o n a b ask hashes (Err x) e root h = tt
 
   pub refused_all : (o : AskSet) → (n : ℕ) (a b : KeptTree) (ask : Ask) (hashes : List Hash) (r : Result ℕ HashRefusal) → slice_get ts n ≡ Some a → a.root ≡ ask.root
-      → IfErr r (λ x. TreeRefusesHashes a ask hashes x × (b ≡ a)) → IfErr r (λ x. IsHashRefused (seen d o ts) ask hashes x × (seen d o (set ts n b) ≡ seen d o ts))
+      → IfErr r (λ x. TreeRefusesHashes a ask hashes x × (b ≡ a))
+      → IfErr r (λ x. IsHashRefused (seen d o ts) ask hashes x ×
+      (seen d o (set ts n b) ≡ seen d o ts))
   refused_all o n a b ask hashes (Ok c) e root h = tt
-  refused_all o n a b ask hashes (Err x) e root h = (refused_in d ts kept o n a ask hashes x e root h.0, ap (with_trees d o) (state_stays ts n a b e h.1))
+  refused_all o n a b ask hashes (Err x) e root h = (
+    refused_in d ts kept o n a ask hashes x e root h.0,
+    ap (with_trees d o)
+        (state_stays ts n a b e h.1),
+  )
 
   pub asked_in : (o : AskSet) → (n : ℕ) (a : KeptTree) (ask : Ask) → slice_get ts n ≡ Some a → a.root ≡ ask.root
       → CanAnswer (tree_height a.length) (look a.state.known) ask → IsAnswered (seen d o ts) ask
@@ -167,26 +179,35 @@ module _ (d : Description) (ts : List KeptTree) (kept : AreKept d ts) where
       inside = low;
     }
 
-    pub marked_all : (o : AskSet) → {X : Type 0} (next : KeptTree) (bytes : List ℕ) (r : Result X BlockRefusal) → IfOk r (λ _. TreeMarks a b bytes next)
+    pub marked_all : (o : AskSet)
+        → {X : Type 0} (next : KeptTree) (bytes : List ℕ) (r : Result X BlockRefusal)
+        → IfOk r (λ _. TreeMarks a b bytes next)
         → IfOk r (λ _. IsMarkedBlock (seen d o ts) file b bytes (seen d o (set ts tr next)))
     marked_all o next bytes (Err x) ok = tt
     marked_all o next bytes (Ok x) ok = record {
       in_file = in_file o;
       size = ok.size;
       leaf_known = ok.leaf_known;
-      state_after = ap (with_trees d o) (map-set state_of ts tr next ∙ ap (λ t. set (map state_of ts) tr (state_of t)) ok.marks);
+      state_after = ap (with_trees d o) (map-set state_of ts tr next ∙ ap
+          (λ t. set (map state_of ts) tr (state_of t)) ok.marks);
     }
 
-    pub unmarked_all : (o : AskSet) → {X : Type 0} (next : KeptTree) (bytes : List ℕ) (r : Result X BlockRefusal) → IfErr r (λ x. TreeRefusesBlock a b bytes x × (next ≡ a))
+    pub unmarked_all : (o : AskSet)
+        → {X : Type 0} (next : KeptTree) (bytes : List ℕ) (r : Result X BlockRefusal)
+        → IfErr r (λ x. TreeRefusesBlock a b bytes x × (next ≡ a))
         → IfErr r (λ x. IsUnmarkedBlock (seen d o ts) file b bytes x × (seen d o (set ts tr next) ≡ seen d o ts))
     unmarked_all o next bytes (Ok x) refused = tt
-    unmarked_all o next bytes (Err x) refused = ((in_file o, refused.0), ap (with_trees d o) (state_stays ts tr a next e refused.1))
+    unmarked_all o next bytes (Err x) refused =
+        ((in_file o, refused.0), ap (with_trees d o) (state_stays ts tr a next e refused.1))
 
 -- ---- whole layers
 
 module _ (d : Description) (ts : List KeptTree) (kept : AreKept d ts) where
-  pub filled_all : (o : AskSet) → (n : ℕ) (a b : KeptTree) (layer : ℕ) (hashes : List Hash) (r : Result ℕ HashRefusal) → slice_get ts n ≡ Some a
-      → IfOk r (λ c. TreeTakesLayer a layer hashes c b) → IfOk r (λ c. IsFilled (seen d o ts) n layer hashes c (seen d o (set ts n b)))
+  pub filled_all : (o : AskSet)
+      → (n : ℕ) (a b : KeptTree) (layer : ℕ) (hashes : List Hash) (r : Result ℕ HashRefusal)
+      → slice_get ts n ≡ Some a
+      → IfOk r (λ c. TreeTakesLayer a layer hashes c b)
+      → IfOk r (λ c. IsFilled (seen d o ts) n layer hashes c (seen d o (set ts n b)))
   filled_all o n a b layer hashes (Ok c) e (taken, rest) = record {
     tree = info_of a;
     before = a.state;
@@ -198,11 +219,23 @@ module _ (d : Description) (ts : List KeptTree) (kept : AreKept d ts) where
   }
   filled_all o n a b layer hashes (Err x) e h = tt
 
-  pub fill_refused_all : (o : AskSet) → (n : ℕ) (a b : KeptTree) (layer : ℕ) (hashes : List Hash) (r : Result ℕ HashRefusal) → slice_get ts n ≡ Some a
-      → IfErr r (λ x. TreeRefusesLayer a layer hashes x × (b ≡ a)) → IfErr r (λ x. IsFillRefused (seen d o ts) n layer hashes x × (seen d o (set ts n b) ≡ seen d o ts))
+  pub fill_refused_all : (o : AskSet)
+      → (n : ℕ) (a b : KeptTree) (layer : ℕ) (hashes : List Hash) (r : Result ℕ HashRefusal)
+      → slice_get ts n ≡ Some a
+      → IfErr r (λ x. TreeRefusesLayer a layer hashes x × (b ≡ a))
+      → IfErr r (λ x. IsFillRefused (seen d o ts) n layer hashes x ×
+      (seen d o (set ts n b) ≡ seen d o ts))
   fill_refused_all o n a b layer hashes (Ok c) e h = tt
-  fill_refused_all o n a b layer hashes (Err x) e h =
-      (record { tree = info_of a; before = a.state; is_tree = tree_at d ts kept o n a e; refuses = h.0 }, ap (with_trees d o) (state_stays ts n a b e h.1))
+  fill_refused_all o n a b layer hashes (Err x) e h = (
+    record {
+      tree = info_of a;
+      before = a.state;
+      is_tree = tree_at d ts kept o n a e;
+      refuses =
+          h.0;
+    },
+    ap (with_trees d o) (state_stays ts n a b e h.1),
+  )
 
   -- the length of a tree's files is that of its entry
   pub length_at : (o : AskSet) (n k : ℕ) (a : KeptTree) → slice_get ts n ≡ Some a → ((e : TreeEntry) → slice_get d.trees n ≡ Some e → k ≡ e.length) → k ≡ a.length

@@ -10,13 +10,15 @@ use Rattle.session.proofs.planting.planted.Goals.{then-with_layers+then-info-byt
 pub add_layers-requires-clause-planted : goal.add_layers-requires-clause-planted
 add_layers-requires-clause-planted g c =
     let shape : c.unwrap.result ≡ c.args.info.now.length = subst (λ o. IfSome o (λ s. s ≡ c.args.info.now.length)) c.unwrap.ensures c.of.ensures.value in
-    planted_root c.args.piece_length (tree_entry c.args.info.now) c.in_ok-tree.tree c.requires (c.in_ok-tree.ensures ∙ ap (root_only c.args.info.now.root) shape)
+    planted_root c.args.piece_length (tree_entry c.args.info.now) c.in_ok-tree.tree c.requires
+    (c.in_ok-tree.ensures ∙ ap (root_only c.args.info.now.root) shape)
 
 pub returns : goal.returns
 returns g c =
     let shape : c.unwrap.result ≡ c.args.info.now.length = subst (λ o. IfSome o (λ s. s ≡ c.args.info.now.length)) c.unwrap.ensures c.of.ensures.value in
     let root : IsPlanted c.args.piece_length false (tree_entry c.args.info.now) c.in_ok-tree.tree =
-    planted_root c.args.piece_length (tree_entry c.args.info.now) c.in_ok-tree.tree c.requires (c.in_ok-tree.ensures ∙ ap (root_only c.args.info.now.root) shape) in
+    planted_root c.args.piece_length (tree_entry c.args.info.now) c.in_ok-tree.tree c.requires
+    (c.in_ok-tree.ensures ∙ ap (root_only c.args.info.now.root) shape) in
     elim c.if-with_layers.branch [
       | then-with_layers+then-info-bytes+in_ok-add_layers w ↦
           subst (IsPlanted c.args.piece_length c.args.with_layers (tree_entry c.args.info.now)) (sym w.tree-is)

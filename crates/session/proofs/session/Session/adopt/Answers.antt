@@ -35,7 +35,8 @@ invariant_of-self g c =
     let low : c.args.tree < length d.trees = subst (λ (v : SessionSeen). c.args.tree < length v.torrent.trees) (sym c.self.view_is) c.requires.inside in
     let at : slice_get ts c.args.tree ≡ Some a = found_at ts c.args.tree a (inside_kept d ts c.self.invariant c.args.tree low) c.index_mut.ensures.value in
     kept-after d ts c.self.invariant c.args.tree a c.adopt.new.self at
-    (stays_good_adopted a c.adopt.new.self c.args.grown.leaves c.adopt.result c.adopt.ensures.adopted c.adopt.ensures.refused c.adopt.ensures.good)
+    (stays_good_adopted a c.adopt.new.self c.args.grown.leaves c.adopt.result
+    c.adopt.ensures.adopted c.adopt.ensures.refused c.adopt.ensures.good)
 
 pub returns-clause-adopted : goal.returns-clause-adopted
 returns-clause-adopted g c =
@@ -45,7 +46,8 @@ returns-clause-adopted g c =
     let low : c.args.tree < length d.trees = subst (λ (v : SessionSeen). c.args.tree < length v.torrent.trees) (sym c.self.view_is) c.requires.inside in
     let at : slice_get ts c.args.tree ≡ Some a = found_at ts c.args.tree a (inside_kept d ts c.self.invariant c.args.tree low) c.index_mut.ensures.value in
     subst (λ (v : SessionSeen). IfOk c.adopt.result (λ n. IsFilled v c.args.tree 0 c.args.grown.leaves n (seen d c.self.inside.asks (set ts c.args.tree c.adopt.new.self)))) c.self.view_is
-    (filled_all d ts c.self.invariant c.self.inside.asks c.args.tree a c.adopt.new.self 0 c.args.grown.leaves c.adopt.result at c.adopt.ensures.adopted)
+    (filled_all d ts c.self.invariant c.self.inside.asks c.args.tree a c.adopt.new.self 0
+    c.args.grown.leaves c.adopt.result at c.adopt.ensures.adopted)
 
 pub returns-clause-refused : goal.returns-clause-refused
 returns-clause-refused g c =
@@ -55,4 +57,5 @@ returns-clause-refused g c =
     let low : c.args.tree < length d.trees = subst (λ (v : SessionSeen). c.args.tree < length v.torrent.trees) (sym c.self.view_is) c.requires.inside in
     let at : slice_get ts c.args.tree ≡ Some a = found_at ts c.args.tree a (inside_kept d ts c.self.invariant c.args.tree low) c.index_mut.ensures.value in
     subst (λ (v : SessionSeen). IfErr c.adopt.result (λ r. IsFillRefused v c.args.tree 0 c.args.grown.leaves r × (seen d c.self.inside.asks (set ts c.args.tree c.adopt.new.self) ≡ v))) c.self.view_is
-    (fill_refused_all d ts c.self.invariant c.self.inside.asks c.args.tree a c.adopt.new.self 0 c.args.grown.leaves c.adopt.result at c.adopt.ensures.refused)
+    (fill_refused_all d ts c.self.invariant c.self.inside.asks c.args.tree a c.adopt.new.self 0
+    c.args.grown.leaves c.adopt.result at c.adopt.ensures.refused)

@@ -26,7 +26,9 @@ invariant_of-self g c =
     let at : slice_get ts c.args.tree ≡ Some a = found_at ts c.args.tree a (inside_kept d ts c.self.invariant c.args.tree low) c.index_mut.ensures.value in
     let b : KeptTree = c.fill.new.self in
     kept-after d ts c.self.invariant c.args.tree a b at
-    (good_after_fill a b c.args.layer c.args.hashes.now c.fill.result (good_at d ts c.self.invariant c.args.tree a at) c.are_hashes.ensures c.fill.ensures.filled c.fill.ensures.refused)
+    (good_after_fill a b c.args.layer c.args.hashes.now c.fill.result
+    (good_at d ts c.self.invariant c.args.tree a at) c.are_hashes.ensures c.fill.ensures.filled
+    c.fill.ensures.refused)
 
 pub returns-clause-filled : goal.returns-clause-filled
 returns-clause-filled g c =
@@ -36,7 +38,8 @@ returns-clause-filled g c =
     let low : c.args.tree < length d.trees = subst (λ (v : SessionSeen). c.args.tree < length v.torrent.trees) (sym c.self.view_is) c.requires in
     let at : slice_get ts c.args.tree ≡ Some a = found_at ts c.args.tree a (inside_kept d ts c.self.invariant c.args.tree low) c.index_mut.ensures.value in
     subst (λ (v : SessionSeen). IfOk c.fill.result (λ n. IsFilled v c.args.tree c.args.layer c.args.hashes.now n (seen d c.self.inside.asks (set ts c.args.tree c.fill.new.self)))) c.self.view_is
-    (filled_all d ts c.self.invariant c.self.inside.asks c.args.tree a c.fill.new.self c.args.layer c.args.hashes.now c.fill.result at c.fill.ensures.filled)
+    (filled_all d ts c.self.invariant c.self.inside.asks c.args.tree a c.fill.new.self c.args.layer
+    c.args.hashes.now c.fill.result at c.fill.ensures.filled)
 
 pub returns-clause-refused : goal.returns-clause-refused
 returns-clause-refused g c =
@@ -46,4 +49,5 @@ returns-clause-refused g c =
     let low : c.args.tree < length d.trees = subst (λ (v : SessionSeen). c.args.tree < length v.torrent.trees) (sym c.self.view_is) c.requires in
     let at : slice_get ts c.args.tree ≡ Some a = found_at ts c.args.tree a (inside_kept d ts c.self.invariant c.args.tree low) c.index_mut.ensures.value in
     subst (λ (v : SessionSeen). IfErr c.fill.result (λ r. IsFillRefused v c.args.tree c.args.layer c.args.hashes.now r × (seen d c.self.inside.asks (set ts c.args.tree c.fill.new.self) ≡ v))) c.self.view_is
-    (fill_refused_all d ts c.self.invariant c.self.inside.asks c.args.tree a c.fill.new.self c.args.layer c.args.hashes.now c.fill.result at c.fill.ensures.refused)
+    (fill_refused_all d ts c.self.invariant c.self.inside.asks c.args.tree a c.fill.new.self
+    c.args.layer c.args.hashes.now c.fill.result at c.fill.ensures.refused)

@@ -51,7 +51,8 @@ returns-in-Some-clause-stored g c =
     let at : slice_get ts c.in-Some.number ≡ Some a = found_at ts c.in-Some.number a inside c.index_mut.ensures.value in
     let root : a.root ≡ c.args.ask.now.root = (some_number c.self.inside.torrent.now ts c.self.invariant c.args.ask.now.root c.tree_with_root.result c.in-Some.number c.tree_with_root.ensures.found c.in-Some.is).1 a at in
     subst (λ (v : SessionSeen). IfOk c.take.result (λ n. IsStored v c.args.ask.now c.args.hashes.now n (seen c.self.inside.torrent.now c.self.inside.asks (set ts c.in-Some.number b)))) c.self.view_is
-    (stored_all c.self.inside.torrent.now ts c.self.invariant c.self.inside.asks c.in-Some.number a b c.args.ask.now c.args.hashes.now c.take.result at root c.take.ensures.taken)
+    (stored_all c.self.inside.torrent.now ts c.self.invariant c.self.inside.asks c.in-Some.number a
+    b c.args.ask.now c.args.hashes.now c.take.result at root c.take.ensures.taken)
 
 pub returns-in-Some-clause-refused : goal.returns-in-Some-clause-refused
 returns-in-Some-clause-refused g c =
@@ -62,4 +63,5 @@ returns-in-Some-clause-refused g c =
     let at : slice_get ts c.in-Some.number ≡ Some a = found_at ts c.in-Some.number a inside c.index_mut.ensures.value in
     let root : a.root ≡ c.args.ask.now.root = (some_number c.self.inside.torrent.now ts c.self.invariant c.args.ask.now.root c.tree_with_root.result c.in-Some.number c.tree_with_root.ensures.found c.in-Some.is).1 a at in
     subst (λ (v : SessionSeen). IfErr c.take.result (λ r. IsHashRefused v c.args.ask.now c.args.hashes.now r × (seen c.self.inside.torrent.now c.self.inside.asks (set ts c.in-Some.number b) ≡ v))) c.self.view_is
-    (refused_all c.self.inside.torrent.now ts c.self.invariant c.self.inside.asks c.in-Some.number a b c.args.ask.now c.args.hashes.now c.take.result at root c.take.ensures.refused)
+    (refused_all c.self.inside.torrent.now ts c.self.invariant c.self.inside.asks c.in-Some.number
+    a b c.args.ask.now c.args.hashes.now c.take.result at root c.take.ensures.refused)
