@@ -25,7 +25,7 @@ pub struct V1Feed<'a> {
 
 impl<'a> V1Feed<'a> {
     ghost use Rattle.pieces.specs.Cutting.{IsCutting};
-    ghost use Rattle.pieces.specs.Feeding.{IsFeedAt, IsFeedGiven, IsFirstBad, bytes_given, total};
+    ghost use Rattle.pieces.specs.Feeding.{Feeds, IsFeedAt, IsFeedGiven, IsFirstBad, bytes_given, total};
 
     /// A feed that was given nothing, for a stream of the length that the hybrid states. Condition:
     /// the piece length is above 0.
@@ -66,11 +66,7 @@ impl<'a> V1Feed<'a> {
     /// Takes the stream's next bytes. Condition: no more of them than are still to come.
     pub fn push(&mut self, bytes: &[u8])
         requires { bytes_given self.old + length bytes.now ≤ total self.old }
-        ensures total { total self.new ≡ total self.old }
-        ensures given { bytes_given self.new ≡ bytes_given self.old + length bytes.now }
-        ensures content { (pieces : List (List ℕ)) (piece_length : ℕ) (content : List ℕ)
-            → IsFeedGiven self.old pieces piece_length content
-            → IsFeedGiven self.new pieces piece_length (content ++ bytes.now) }
+        ensures { Feeds self.old self.new bytes.now }
     {
         let mut start = 0;
         'parts: while start < bytes.len() {
@@ -82,11 +78,7 @@ impl<'a> V1Feed<'a> {
     /// still to come.
     pub fn zeros(&mut self, n: u64)
         requires { bytes_given self.old + n ≤ total self.old }
-        ensures total { total self.new ≡ total self.old }
-        ensures given { bytes_given self.new ≡ bytes_given self.old + n }
-        ensures content { (pieces : List (List ℕ)) (piece_length : ℕ) (content : List ℕ)
-            → IsFeedGiven self.old pieces piece_length content
-            → IsFeedGiven self.new pieces piece_length (content ++ replicate n 0) }
+        ensures { Feeds self.old self.new (replicate n 0) }
     {
         let zeros = [0u8; ZEROS];
         let mut done = 0;
@@ -122,11 +114,7 @@ impl<'a> V1Feed<'a> {
         requires room { bytes_given self.old + length bytes.now ≤ total self.old }
         ensures some { 0 < result }
         ensures bound { result ≤ length bytes.now }
-        ensures total { total self.new ≡ total self.old }
-        ensures given { bytes_given self.new ≡ bytes_given self.old + result }
-        ensures content { (pieces : List (List ℕ)) (piece_length : ℕ) (content : List ℕ)
-            → IsFeedGiven self.old pieces piece_length content
-            → IsFeedGiven self.new pieces piece_length (content ++ take result bytes.now) }
+        ensures feeds { Feeds self.old self.new (take result bytes.now) }
     {
         self.make_room();
         if self.bad.is_some() {
@@ -172,11 +160,7 @@ impl<'a> V1Feed<'a> {
     fn skip(&mut self, n: u64)
         requires bad { is_some self.old.bad ≡ true }
         requires room { bytes_given self.old + n ≤ total self.old }
-        ensures total { total self.new ≡ total self.old }
-        ensures given { bytes_given self.new ≡ bytes_given self.old + n }
-        ensures content { (pieces : List (List ℕ)) (piece_length : ℕ) (content more : List ℕ)
-            → IsFeedAt self.old pieces piece_length content → length more ≡ n
-            → IsFeedGiven self.new pieces piece_length (content ++ more) }
+        ensures { (bytes : List ℕ) → length bytes ≡ n → Feeds self.old self.new bytes }
     {
         self.given += n;
     }
