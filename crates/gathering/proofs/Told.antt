@@ -78,7 +78,7 @@ module _ {S F : Type 0} (shelf : Ghosts S F) (seen : F → SourceSeen) where
   -- a file was opened, read and handed back
   pub record IsVisit (s : S) (path : List (List ℕ)) (mid : S) (file read : F) (s' : S) : Type 0 where
     pub opened : shelf.opens s path (Ok (Some file)) mid
-    pub found : IsFound (shelf.under s path) (Some (seen file).left)
+    pub found : IsFound ((shelf.contents s).under path) (Some (seen file).left)
     pub fresh : (seen file).faults ≡ 0
     pub steady : shelf.faults mid ≡ shelf.faults s
     pub within : IsReadWithin (2 ^ 46 + 1) (seen file) (seen read)
@@ -94,7 +94,7 @@ module _ {S F : Type 0} (shelf : Ghosts S F) (seen : F → SourceSeen) where
     file = file;
     handed = handed s path mid file read s' v;
     gave = told;
-    agrees = agrees_opened (shelf.under s path) (seen file).left content v.found told;
+    agrees = agrees_opened ((shelf.contents s).under path) (seen file).left content v.found told;
     quiet = v.added ∙ ap (more (shelf.faults mid)) (quiet ∙ v.fresh) ∙ v.steady;
   }
 
