@@ -16,6 +16,7 @@ use Rattle.filetree.specs.declared.refusal.Refusal.TheVariants as refusals
 use Rattle.folders.specs.Shelf.{CountsListing, IsEachOnce, IsListed, Listing, path_bytes}
 use Rattle.folders.specs.TakeAll.{IsReadWithin}
 use Rattle.folders.specs.Verdicts.{Agrees}
+use Rattle.folders.specs.Visits.{HandsBack}
 use Rattle.folders.specs.declared.shelf.Shelf.{Ghosts}
 use Rattle.folders.specs.declared.shelf_fault.ShelfFault.{ShelfFault}
 use Rattle.gathering.specs.Gathered.{DraftTakes, Gathered, KeepsDigests, RefusesContent}
@@ -61,19 +62,11 @@ AreContentsUnder under (p ∷ ps) (c ∷ cs) = Agrees (under p) (Some c) × AreC
 module _ {S F : Type 0} (shelf : Ghosts S F) (seen : F → SourceSeen) where
   -- ---- one file
 
-  -- the path was opened, and what was opened was read, a byte past the longest file at most, and
-  -- handed back
-  pub record HandsBack (s : S) (path : List (List ℕ)) (file : F) (s' : S) : Type 0 where
-    pub between : S
-    pub opened : shelf.opens s path (Ok (Some file)) between
-    pub read : F
-    pub within : IsReadWithin (2 ^ 46 + 1) (seen file) (seen read)
-    pub closed : shelf.closes between read s'
-
-  -- and without a fault: it has this content, which is the known one
+  -- the path was read without a fault, a byte past the longest file at most: it has this content,
+  -- which is the known one
   pub record Reads (s : S) (path : List (List ℕ)) (content : List ℕ) (s' : S) : Type 0 where
     pub file : F
-    pub handed : HandsBack s path file s'
+    pub handed : HandsBack shelf seen (IsReadWithin (2 ^ 46 + 1)) s path file s'
     pub gave : Agrees (seen file).left content
     pub agrees : Agrees ((shelf.contents s).under path) (Some content)
     pub quiet : shelf.faults s' ≡ shelf.faults s
@@ -82,7 +75,7 @@ module _ {S F : Type 0} (shelf : Ghosts S F) (seen : F → SourceSeen) where
   pub record Fails (s : S) (path : List (List ℕ)) (s' : S) : Type 0 where
     pub counted : shelf.faults s' ≡ one_more (shelf.faults s)
     pub failed : ((e : DeviceFault) × shelf.opens s path (Err e) s')
-        ⊎ ((file : F) × HandsBack s path file s')
+        ⊎ ((file : F) × HandsBack shelf seen (IsReadWithin (2 ^ 46 + 1)) s path file s')
 
   -- nothing was there
   pub record Misses (s : S) (path : List (List ℕ)) (s' : S) : Type 0 where

@@ -5,7 +5,8 @@ ghost use Rattle.metainfo.specs.Description.{TreeEntry};
 ghost use Rattle.metainfo.specs.Seen.{file_entry, tree_entry};
 ghost use Rattle.folders.specs.Shelf.{more};
 ghost use Rattle.folders.specs.Verdicts.{IsFileOf};
-ghost use Rattle.seeding.specs.Seeding.{Fills, Finds, HasLength, OpensOnce, SeedStep, Seeds, SeedsFiles, SeedsTree, StopsAtFile, seed_line, seed_words, shelf_and_session};
+ghost use Rattle.folders.specs.Visits.{OpensOnce};
+ghost use Rattle.seeding.specs.Seeding.{Fills, Finds, HasLength, SeedStep, Seeds, SeedsFiles, SeedsTree, StopsAtFile, seed_line, seed_words, shelf_and_session};
 
 use crate::leaves::read_tree;
 use crate::seed_fault::SeedFault;
@@ -150,12 +151,12 @@ fn find_tree<N: NodeMap, S: Shelf>(
         shelf.new }
     ensures found { IfOk result (λ grown. (n : ℕ)
         × (S.faults shelf.new ≡ more (S.faults shelf.old) n)
-        × Finds (S.under shelf.old file.now.path) (tree_entry tree.now)
+        × Finds ((S.contents shelf.old).under file.now.path) (tree_entry tree.now)
         (option_map (λ t. t.leaves) grown) n) }
     ensures length { IfOk result (λ grown. IfSome grown (λ t. t.length ≡ tree.now.length)) }
     ensures no_memory { OnErr result ((S.faults shelf.new ≡ S.faults shelf.old)
-        × HasLength (S.under shelf.old file.now.path) tree.now.length) }
-    ensures kept { (p : List (List ℕ)) → S.under shelf.new p ≡ S.under shelf.old p }
+        × HasLength ((S.contents shelf.old).under file.now.path) tree.now.length) }
+    ensures stays { S.contents shelf.new ≡ S.contents shelf.old }
 {
     match shelf.open(&file.path.parts()) {
         Ok(Some(mut source)) => {

@@ -20,10 +20,10 @@ returns-in_default-clause-no_memory g c =
 pub returns-in-Some-clause-seeds : goal.returns-in-Some-clause-seeds
 returns-in-Some-clause-seeds g c =
     seeds_filled g.S.Shelf g.S.File.Source.seen c.take_over.result _ _ c.args.session.now _ (file_entry c.args.file.now) c.args.number
-    (tree_entry c.args.tree.now) _ c.requires.tree c.requires.same c.find_tree.ensures.visited (rw c.in-Some.is at c.in-Ok.ensures.found) c.find_tree.ensures.kept
+    (tree_entry c.args.tree.now) _ c.requires.tree c.requires.same c.find_tree.ensures.visited (rw c.in-Some.is at c.in-Ok.ensures.found) c.find_tree.ensures.stays
     c.take_over.ensures.fills
 
 pub returns-in-None-clause-seeds : goal.returns-in-None-clause-seeds
 returns-in-None-clause-seeds g c =
     seeds_nothing g.S.Shelf g.S.File.Source.seen _ _ c.args.session.now (file_entry c.args.file.now) c.args.number
-    (tree_entry c.args.tree.now) c.requires.tree c.requires.same c.find_tree.ensures.visited (rw c.in-None.is at c.in-Ok.ensures.found) c.find_tree.ensures.kept
+    (tree_entry c.args.tree.now) c.requires.tree c.requires.same c.find_tree.ensures.visited (rw c.in-None.is at c.in-Ok.ensures.found) c.find_tree.ensures.stays
