@@ -24,11 +24,13 @@ takes_room (Some r) (Some s) part n m takes room fits =
 
 pub takes_append : (a b c : Option V1Feed) (xs ys : List ℕ)
     → Takes a b xs → Takes b c ys → Takes a c (xs ++ ys)
-takes_append None None c xs ys one two = two
+takes_append None None None xs ys one two = tt
+takes_append None None (Some h) xs ys one two = absurd two
 takes_append None (Some g) c xs ys one two = absurd one
 takes_append (Some f) None c xs ys one two = absurd one
 takes_append (Some f) (Some g) None xs ys one two = absurd two
-takes_append (Some f) (Some g) (Some h) xs ys one two = feeds_both f g h xs ys (xs ++ ys) refl one two
+takes_append (Some f) (Some g) (Some h) xs ys one two =
+    feeds_both f g h xs ys (xs ++ ys) refl one two
 
 pub takes_nothing : (a : Option V1Feed) → Takes a a []
 takes_nothing None = tt

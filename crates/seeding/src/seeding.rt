@@ -12,7 +12,7 @@ use crate::leaves::read_tree;
 use crate::seed_fault::SeedFault;
 use benc::{DeviceFault, Sink, write_all};
 use folders::{ReadFault, Shelf};
-use hashtree::NoMemory;
+use hashtree::{NoMemory, Shape};
 use lines::write_path;
 use metainfo::{File, TreeInfo};
 use partial_tree::GrownTree;
@@ -43,10 +43,8 @@ pub fn seed<N: NodeMap, S: Shelf, W: Sink>(
         (W.seen report.old) (W.seen report.new) result }
 {
     seed_files(alloc, session, shelf, report)?;
-    match report.flush() {
-        Ok(()) => Ok(()),
-        Err(_) => Err(SeedFault::Write),
-    }
+    report.flush()?;
+    Ok(())
 }
 
 // Seeds from each file in turn, and writes its line.
@@ -63,12 +61,8 @@ fn seed_files<N: NodeMap, S: Shelf, W: Sink>(
     let torrent = session.torrent();
     let entries = torrent.files();
     'files: for file in entries {
-        let Ok(seeded) = seed_file(alloc, session, shelf, file) else {
-            return Err(SeedFault::NoMemory);
-        };
-        let Ok(()) = write_line_of(report, file, seeded) else {
-            return Err(SeedFault::Write);
-        };
+        let seeded = seed_file(alloc, session, shelf, file)?;
+        write_line_of(report, file, seeded)?;
     }
     Ok(())
 }
@@ -93,14 +87,9 @@ fn seed_file<N: NodeMap, S: Shelf>(
     torrent.sound();
     match file.tree {
         Some(number) => {
-            seed_tree(
-                alloc,
-                session,
-                shelf,
-                file,
-                number,
-                &torrent.trees()[number],
-            )
+            let tree = &torrent.trees()[number];
+            let shape = Shape::of(tree.length).unwrap();
+            seed_tree(alloc, session, shelf, file, number, tree, shape)
         }
         None => Ok(false),
     }
@@ -114,12 +103,12 @@ fn seed_tree<N: NodeMap, S: Shelf>(
     file: &File<'_>,
     number: usize,
     tree: &TreeInfo<'_>,
+    shape: Shape,
 ) -> Result<bool, NoMemory>
     requires number { file.now.tree ≡ Some number }
     requires tree { slice_get session.old.torrent.trees number ≡ Some (tree_entry tree.now) }
+    requires shape { shape ≡ tree.now.length }
     requires same { tree.now.length ≡ file.now.length }
-    requires some { 0 < tree.now.length }
-    requires small { tree.now.length ≤ 2 ^ 46 }
     ensures seeds { IfOk result (λ seeded. SeedsTree S.Shelf S.File.seen
         (shelf_and_session shelf.old session.old) (file_entry file.now) number seeded
         (shelf_and_session shelf.new session.new)) }
@@ -128,10 +117,7 @@ fn seed_tree<N: NodeMap, S: Shelf>(
         (shelf_and_session shelf.new session.new)) }
     ensures torrent { session.new.torrent ≡ session.old.torrent }
 {
-    let Ok(found) = find_tree(alloc, shelf, file, tree) else {
-        return Err(NoMemory);
-    };
-    match found {
+    match find_tree(alloc, shelf, file, tree, shape)? {
         Some(grown) => Ok(take_over(session, number, grown)),
         None => Ok(false),
     }
@@ -144,9 +130,9 @@ fn find_tree<N: NodeMap, S: Shelf>(
     shelf: &mut S,
     file: &File<'_>,
     tree: &TreeInfo<'_>,
+    shape: Shape,
 ) -> Result<Option<GrownTree<N>>, NoMemory>
-    requires some { 0 < tree.now.length }
-    requires small { tree.now.length ≤ 2 ^ 46 }
+    requires { shape ≡ tree.now.length }
     ensures visited { OpensOnce S.Shelf S.File.seen shelf.old file.now.path (tree.now.length + 1)
         shelf.new }
     ensures found { IfOk result (λ grown. (n : ℕ)
@@ -160,7 +146,7 @@ fn find_tree<N: NodeMap, S: Shelf>(
 {
     match shelf.open(&file.path.parts()) {
         Ok(Some(mut source)) => {
-            let read = read_tree(alloc, &mut source, tree);
+            let read = read_tree(alloc, &mut source, tree, shape);
             shelf.close(source);
             match read {
                 Ok(grown) => Ok(grown),
