@@ -38,23 +38,23 @@ pub record IsTold (t : Description) (contents : Contents) (n : ℕ) (files : Lis
 
 -- ---- what the stream took
 
-takes_goes_on : (old new : Option V1Feed) (part : List ℕ) → Takes old new part → is_some new ≡ is_some old
+takes_goes_on : (old new : Option V1Feed) (part : List ℕ) → Takes old part new → is_some new ≡ is_some old
 takes_goes_on None None part takes = refl
 takes_goes_on None (Some s) part takes = absurd takes
 takes_goes_on (Some r) None part takes = absurd takes
 takes_goes_on (Some r) (Some s) part takes = refl
 
-takes_stands : (old new : Option V1Feed) (part : List ℕ) (n : ℕ) → Takes old new part → StandsAt old n → StandsAt new (n + length part)
+takes_stands : (old new : Option V1Feed) (part : List ℕ) (n : ℕ) → Takes old part new → StandsAt old n → StandsAt new (n + length part)
 takes_stands old None part n takes at = tt
 takes_stands None (Some s) part n takes at = absurd takes
 takes_stands (Some r) (Some s) part n takes at = omega (arith, takes.given_is, at)
 
-takes_ends : (old new : Option V1Feed) (part : List ℕ) (n : ℕ) → Takes old new part → StreamEndsAt old n → StreamEndsAt new n
+takes_ends : (old new : Option V1Feed) (part : List ℕ) (n : ℕ) → Takes old part new → StreamEndsAt old n → StreamEndsAt new n
 takes_ends old None part n takes at = tt
 takes_ends None (Some s) part n takes at = absurd takes
 takes_ends (Some r) (Some s) part n takes at = takes.same_total ∙ at
 
-takes_given : (old new : Option V1Feed) (part : List ℕ) (pieces : List (List ℕ)) (piece_length : ℕ) (content : List ℕ) → Takes old new part
+takes_given : (old new : Option V1Feed) (part : List ℕ) (pieces : List (List ℕ)) (piece_length : ℕ) (content : List ℕ) → Takes old part new
     → IsStreamGiven old pieces piece_length content → IsStreamGiven new pieces piece_length (content ++ part)
 takes_given old None part pieces piece_length content takes given = tt
 takes_given None (Some s) part pieces piece_length content takes given = absurd takes
@@ -82,7 +82,7 @@ has_place t n files (Some r) f sound passed is some = elim (there_or_not t.v1) [
 -- where the stream stands before the next file, and what it takes of it
 pub takes_part : (t : Description) (n : ℕ) (f : FileEntry) (bytes : List ℕ) (old new : Option V1Feed) → IsSound t
     → slice_get t.files n ≡ Some f → IsNotPast old (place_before t n) → IsStreamPart t f bytes old new
-    → (from : ℕ) × StandsAt old from × (from ≤ start_of t f) × Takes old new (part_of from (start_of t f) bytes)
+    → (from : ℕ) × StandsAt old from × (from ≤ start_of t f) × Takes old (part_of from (start_of t f) bytes) new
 takes_part t n f bytes None new sound is place part = (0, tt, omega arith, part.streamed 0 tt (omega arith))
 takes_part t n f bytes (Some r) new sound is place part =
     let before : bytes_given r ≤ start_of t f = omega (arith, place, start_is t n f sound is) in
@@ -200,7 +200,7 @@ told_one t contents n files v f shelf old new sound is found here passed told = 
         let given = told.stream w hybrid before in
         let at : length given.0 ≤ start_of t f = front_before old (length given.0) (place_before t n) (start_of t f) before given.1 passed.not_past (start_is t n f sound is) in
         let more : List ℕ = part_of (length given.0) (start_of t f) bytes in
-        let takes : Takes old new more = part.2.streamed (length given.0) given.1 at in (
+        let takes : Takes old more new = part.2.streamed (length given.0) given.1 at in (
           given.0 ++ more,
           subst (StandsAt new) (sym (length-append given.0 more)) (takes_stands old new more (length given.0) takes given.1),
           takes_given old new more w.pieces t.piece_length given.0 takes given.2,

@@ -26,7 +26,7 @@ use Rattle.metainfo.specs.Pieces.{IsPieceLength}
 use Rattle.metainfo.specs.Sound.{IsSound, IsSoundTree, piece_layer}
 use Rattle.pieces.specs.declared.v1_feed.V1Feed.{V1Feed}
 use Rattle.folders.specs.declared.stream.Stream.{Stream}
-use Rattle.metainfo.specs.Feeding.{bytes_given, total}
+use Rattle.metainfo.specs.Feeding.{bytes_given}
 use Rattle.folders.specs.Content.{HasPlaceFor, IsComparedLayer, IsToldOf, part_of}
 use Rattle.folders.specs.Folder.{start_of, tree_entry_of}
 use Rattle.folders.specs.Pass.{IsEmptyContent, IsOpenedVerdict}
@@ -123,10 +123,10 @@ pub filled_to : (first pl actual : ℕ) (old new : Option V1Feed) → pl ≡ act
 filled_to first pl actual old new is fill = subst (λ p. FillsTo old (first * p) new) is fill
 
 -- what it was given for that, where it stood at this place
-filled_from : (old new : Option V1Feed) (from place : ℕ) → StandsAt old from → FillsTo old place new → Takes old new (replicate (place - from) 0)
+filled_from : (old new : Option V1Feed) (from place : ℕ) → StandsAt old from → FillsTo old place new → Takes old (replicate (place - from) 0) new
 filled_from None None from place at fill = tt
 filled_from None (Some s) from place at fill = absurd fill
-filled_from (Some r) new from place at fill = subst (λ k. Takes (Some r) new (replicate (place - k) 0)) at fill
+filled_from (Some r) new from place at fill = subst (λ k. Takes (Some r) (replicate (place - k) 0) new) at fill
 
 -- there is room for the file, once the stream is at its start
 pub filled_room : (old new : Option V1Feed) (start len : ℕ) → HasPlaceFor old start len → FillsTo old start new → HasStreamRoom new len
@@ -141,10 +141,10 @@ part_is from start [] some = absurd (omega arith)
 part_is from start (b ∷ bytes) some = refl
 
 -- the stream takes zeros up to the file, and the file
-pub takes_file : (old mid new : Option V1Feed) (start from : ℕ) (bytes : List ℕ) → 0 < length bytes → Takes old mid (replicate (start - from) 0) → Takes mid new bytes
-    → Takes old new (part_of from start bytes)
+pub takes_file : (old mid new : Option V1Feed) (start from : ℕ) (bytes : List ℕ) → 0 < length bytes → Takes old (replicate (start - from) 0) mid → Takes mid bytes new
+    → Takes old (part_of from start bytes) new
 takes_file old mid new start from bytes some zeros file =
-    subst (Takes old new) (part_is from start bytes some) (takes_append old mid new (replicate (start - from) 0) bytes zeros file)
+    subst (λ part. Takes old part new) (part_is from start bytes some) (takes_append old mid new (replicate (start - from) 0) bytes zeros file)
 
 -- ---- an opened file, read to its end or to one byte past its length
 
@@ -254,7 +254,7 @@ opened_verdict t f source source' bound count before after old mid new v read wh
   taken = λ _. record {
     length_is = read.count_is ∙ whole;
     streamed = λ from at le. takes_file old mid new (start_of t f) from read.bytes (omega (arith, read.count_is, whole)) (filled_from old mid from (start_of t f) at fill)
-        (subst (λ o. Takes o new read.bytes) begins (subst (λ o. Takes before.stream.feed o read.bytes) ends read.taken.streamed));
+        (subst (λ o. Takes o read.bytes new) begins (subst (λ o. Takes before.stream.feed read.bytes o) ends read.taken.streamed));
   };
 }
 

@@ -24,7 +24,7 @@ pub record FeedsBoth (old : FileCheck) (bytes : List ℕ) (new : FileCheck) : Ty
   pub layer : chosen_layer new.pieces ≡ chosen_layer old.pieces
   pub hashes : given_hashes new.pieces ≡ given_hashes old.pieces
   pub fed : (file : List ℕ) → IsFedCheck old.pieces file → IsFedCheck new.pieces (file ++ bytes)
-  pub streamed : Takes old.stream.feed new.stream.feed bytes
+  pub streamed : Takes old.stream.feed bytes new.stream.feed
 
 -- neither the file nor the stream is full before so many bytes more
 abbrev pub CanFeed : FileCheck → ℕ → Type 0

@@ -1,10 +1,9 @@
 -- The laws of what takes a file's bytes: several parts are one, and leave room for less.
-use Rattle.std.proofs.Common.{◌≡◌, ℕ, ◌+◌, ◌≤◌, ◌++◌, List, [], length, Option, Some, None, refl, sym, ◌∙◌, subst, append_assoc, append-nil, arith}
+use Rattle.std.proofs.Common.{ℕ, ◌+◌, ◌≤◌, ◌++◌, List, [], length, Option, Some, None, refl, sym, ◌∙◌, subst, append_assoc, append-nil, arith}
 use Rattle.std.proofs.lemmas.List.{length-append}
 use Rattle.hashtree.specs.RootBuilder.{IsFed}
 use Rattle.hashtree.specs.declared.RootBuilder.{RootBuilder}
 use Rattle.hashtree.specs.PieceCheck.{IsFedCheck}
-use Rattle.metainfo.specs.Feeding.{bytes_given, total}
 use Rattle.folders.specs.Feeding.{Builds, CanBuild, CanFeed, FeedsBoth}
 use Rattle.folders.specs.declared.file_check.FileCheck.{FileCheck}
 use Rattle.folders.specs.Streaming.{HasStreamRoom, Takes}
@@ -15,7 +14,7 @@ use Rattle.pieces.specs.declared.v1_feed.V1Feed.{V1Feed}
 
 -- what is left of the room
 pub takes_room : (old new : Option V1Feed) (part : List ℕ) (n m : ℕ)
-    → Takes old new part → HasStreamRoom old m → length part + n ≤ m → HasStreamRoom new n
+    → Takes old part new → HasStreamRoom old m → length part + n ≤ m → HasStreamRoom new n
 takes_room None None part n m takes room fits = tt
 takes_room None (Some s) part n m takes room fits = absurd takes
 takes_room (Some r) None part n m takes room fits = absurd takes
@@ -23,7 +22,7 @@ takes_room (Some r) (Some s) part n m takes room fits =
     omega (arith, takes.given_is, takes.same_total)
 
 pub takes_append : (a b c : Option V1Feed) (xs ys : List ℕ)
-    → Takes a b xs → Takes b c ys → Takes a c (xs ++ ys)
+    → Takes a xs b → Takes b ys c → Takes a (xs ++ ys) c
 takes_append None None None xs ys one two = tt
 takes_append None None (Some h) xs ys one two = absurd two
 takes_append None (Some g) c xs ys one two = absurd one
@@ -32,7 +31,7 @@ takes_append (Some f) (Some g) None xs ys one two = absurd two
 takes_append (Some f) (Some g) (Some h) xs ys one two =
     feeds_both f g h xs ys (xs ++ ys) refl one two
 
-pub takes_nothing : (a : Option V1Feed) → Takes a a []
+pub takes_nothing : (a : Option V1Feed) → Takes a [] a
 takes_nothing None = tt
 takes_nothing (Some f) = feeds_nothing f
 

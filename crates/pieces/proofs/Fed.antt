@@ -8,7 +8,7 @@ use Rattle.pieces.specs.Pieces.{pieces_of}
 use Rattle.pieces.specs.declared.cutter.Cutter.{Cutter}
 use Rattle.pieces.specs.declared.v1_feed.V1Feed.{V1Feed}
 use Rattle.pieces.specs.Cutting.{IsCutting}
-use Rattle.pieces.specs.Feeding.{Feeds, IsFeedAt, IsFeedGiven, IsFirstBad}
+use Rattle.pieces.specs.Feeding.{FeedsStream, IsFeedAt, IsFeedGiven, IsFirstBad}
 use Rattle.pieces.proofs.Cutting.{last_cut, cut_count_is, cut_count_least, cut_count_none}
 use Rattle.pieces.proofs.Comparing.{first_bad_append, some_from, there_or_not}
 
@@ -99,7 +99,7 @@ given_stopped f pieces n content at bad = record { at = at; started = λ none. a
 
 -- ---- what a feed was given, as a whole
 
-pub feeds_nothing : (f : V1Feed) → Feeds f f []
+pub feeds_nothing : (f : V1Feed) → FeedsStream f [] f
 feeds_nothing f = record {
   same_total = refl;
   given_is = omega arith;
@@ -107,7 +107,7 @@ feeds_nothing f = record {
 }
 
 -- two parts are one
-pub feeds_both : (a b c : V1Feed) (x y both : List ℕ) → x ++ y ≡ both → Feeds a b x → Feeds b c y → Feeds a c both
+pub feeds_both : (a b c : V1Feed) (x y both : List ℕ) → x ++ y ≡ both → FeedsStream a x b → FeedsStream b y c → FeedsStream a both c
 feeds_both a b c x y both joined one two = record {
   same_total = two.same_total ∙ one.same_total;
   given_is = omega (arith, one.given_is, two.given_is, length-append x y, ap length joined);

@@ -1,4 +1,4 @@
-use Rattle.std.proofs.Common.{◌≡◌, ◌≤◌, ℕ, List, length, take, vec_capacity}
+use Rattle.std.proofs.Common.{◌≡◌, ◌≤◌, length, take, vec_capacity}
 use Rattle.chains.specs.Chain.{Chain}
 use Rattle.folders.specs.Shelf.{more}
 use Rattle.folders.specs.Visits.{Visits}

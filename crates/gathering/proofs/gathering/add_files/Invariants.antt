@@ -1,4 +1,4 @@
-use Rattle.std.proofs.Common.{◌≡◌, ℕ, List, map, take}
+use Rattle.std.proofs.Common.{◌≡◌, map, take}
 use Rattle.std.specs.Vec.{vec_capacity}
 use Rattle.folders.specs.Shelf.{path_bytes}
 use Rattle.gathering.specs.Gathering.{HasGathered}

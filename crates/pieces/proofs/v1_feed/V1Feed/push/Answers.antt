@@ -1,7 +1,7 @@
 use Rattle.std.proofs.Common.{arith, drop, take, ◌+◌, ◌-◌, ◌∙◌, ◌≡◌, ap, sym, length, subst, ◌++◌}
 use Rattle.std.proofs.lemmas.List.{take_all, take_rest, length-drop, length-take-le}
 use Rattle.std.proofs.Math.Seq.{take-add}
-use Rattle.pieces.specs.Feeding.{Feeds, bytes_given, total}
+use Rattle.pieces.specs.Feeding.{FeedsStream}
 use Rattle.pieces.proofs.Fed.{feeds_both, feeds_nothing}
 use Rattle.pieces.proofs.v1_feed.V1Feed.push.Goals as goal
 
@@ -30,4 +30,4 @@ parts-preserved c =
     }
 
 pub returns : goal.returns
-returns c = subst (Feeds c.args.self.now c.parts.self) (take_all c.parts.start c.args.bytes.now (omega arith)) c.parts.invariant.feeds
+returns c = subst (λ part. FeedsStream c.args.self.now part c.parts.self) (take_all c.parts.start c.args.bytes.now (omega arith)) c.parts.invariant.feeds

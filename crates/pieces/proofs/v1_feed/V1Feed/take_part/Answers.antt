@@ -1,6 +1,6 @@
-use Rattle.std.proofs.Common.{refl, subst, sym, length, take, arith, ◌∙◌}
+use Rattle.std.proofs.Common.{refl, subst, sym, length, arith, ◌∙◌}
 use Rattle.std.proofs.lemmas.List.{length-take-le, take_all}
-use Rattle.pieces.specs.Feeding.{Feeds}
+use Rattle.pieces.specs.Feeding.{FeedsStream}
 use Rattle.pieces.proofs.Comparing.{none_from}
 use Rattle.pieces.proofs.Fed.{given_stopped}
 use Rattle.pieces.proofs.v1_feed.V1Feed.take_part.Goals as goal
@@ -10,13 +10,13 @@ returns-then-is_some-clause-feeds c =
     let bytes = c.args.bytes.now in
     let room = c.make_room.ensures in
     let skipped = c.skip.ensures bytes refl in
-    let all : Feeds c.args.self.now c.skip.new.self bytes = record {
+    let all : FeedsStream c.args.self.now bytes c.skip.new.self = record {
       same_total = skipped.same_total ∙ room.total;
       given_is = omega (arith, skipped.given_is, room.given);
       content = λ pieces n content fed.
           skipped.content pieces n content (given_stopped c.make_room.new.self pieces n content (room.content pieces n content fed) (sym c.if-is_some.ensures));
     } in
-    subst (Feeds c.args.self.now c.skip.new.self) (sym (take_all (length bytes) bytes (omega arith))) all
+    subst (λ part. FeedsStream c.args.self.now part c.skip.new.self) (sym (take_all (length bytes) bytes (omega arith))) all
 
 pub returns-clause-feeds : goal.returns-clause-feeds
 returns-clause-feeds c =

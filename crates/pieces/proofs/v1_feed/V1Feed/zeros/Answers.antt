@@ -1,6 +1,6 @@
-use Rattle.std.proofs.Common.{arith, ◌≡◌, ◌≤◌, ◌-◌, ℕ, replicate, subst, ap, take}
+use Rattle.std.proofs.Common.{arith, ◌≡◌, ◌≤◌, ◌-◌, ℕ, replicate, subst, take}
 use Rattle.std.proofs.lemmas.List.{length-replicate}
-use Rattle.pieces.specs.Feeding.{Feeds}
+use Rattle.pieces.specs.Feeding.{FeedsStream}
 use Rattle.pieces.proofs.Fed.{feeds_both, feeds_nothing, length-zeros, zeros_more, zeros_rest}
 use Rattle.pieces.proofs.v1_feed.V1Feed.zeros.Goals as goal
 
@@ -40,4 +40,4 @@ returns-then-is_some c =
 pub returns : goal.returns
 returns c =
     let all : c.parts.done ≡ c.args.n = omega (arith, c.parts.invariant.within) in
-    subst (λ k. Feeds c.args.self.now c.parts.self (replicate k 0)) all c.parts.invariant.feeds
+    subst (λ k. FeedsStream c.args.self.now (replicate k 0) c.parts.self) all c.parts.invariant.feeds
