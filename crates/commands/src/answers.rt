@@ -103,7 +103,7 @@ pub fn check<'a, S: Shelf, W: Sink>(
     shelf: &mut S,
     out: &mut W,
 ) -> Result<u8, Fault<'a>>
-    ensures checks { Checks torrent.now (S.under shelf.old)
+    ensures checks { Checks torrent.now (S.contents shelf.old).under
         (λ files. Chain (Visits S.Shelf S.File.seen) shelf.old torrent.now.files files
         shelf.new × HasTold (S.faults shelf.old) (S.faults shelf.new) files)
         (W.seen out.old) (W.seen out.new) result }

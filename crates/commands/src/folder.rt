@@ -207,9 +207,7 @@ impl<'a> Shelf for Folder<'a> {
     type File = Counted<'a, FromRead<File>, String>;
 
     // What the file system holds is not known.
-    ghost under = { λ _ _. None };
-
-    ghost listing = { λ _. None };
+    ghost contents = { λ _. record { under = λ _. None; listing = None } };
 
     ghost lists = { λ _ _ _. ⊤ };
 

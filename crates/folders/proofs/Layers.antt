@@ -4,7 +4,7 @@ use Rattle.std.proofs.Math.Nat.{div-eq_of_lt-le, lt-div-mul-add, div-mul-le_self
 use Rattle.std.proofs.lemmas.Nat.{pow_pos}
 use Rattle.std.proofs.Common.{pow-add}
 use Rattle.std.proofs.lemmas.List.FromFn.{length-map-range_with_len, get_or-map-range_with_len}
-use Rattle.hashtree.specs.Tree.{block_count, first_pad, height, layer_count, layer_of, node, tree}
+use Rattle.hashtree.specs.Tree.{block_count, first_pad, height, layer_count, layer_of, node}
 use Rattle.hashtree.proofs.Heights.{height_enough, height_is, height_least}
 use Rattle.hashtree.proofs.Pairs.{two-pow}
 use Rattle.folders.proofs.Orders.{last_or_before}

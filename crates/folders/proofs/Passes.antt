@@ -36,6 +36,32 @@ pub record IsTold (t : Description) (contents : Contents) (n : ℕ) (files : Lis
   pub stream : (v : Version1) → t.v1 ≡ Some v → is_some running ≡ true
       → (front : List ℕ) × StandsAt running (length front) × IsStreamGiven running v.pieces t.piece_length front × IsStreamPrefix t contents n front
 
+-- ---- what the stream took
+
+takes_goes_on : (old new : Option V1Feed) (part : List ℕ) → Takes old part new → is_some new ≡ is_some old
+takes_goes_on None None part takes = refl
+takes_goes_on None (Some s) part takes = absurd takes
+takes_goes_on (Some r) None part takes = absurd takes
+takes_goes_on (Some r) (Some s) part takes = refl
+
+takes_stands : (old new : Option V1Feed) (part : List ℕ) (n : ℕ) → Takes old part new → StandsAt old n → StandsAt new (n + length part)
+takes_stands old None part n takes at = tt
+takes_stands None (Some s) part n takes at = absurd takes
+takes_stands (Some r) (Some s) part n takes at = omega (arith, takes.given_is, at)
+
+takes_ends : (old new : Option V1Feed) (part : List ℕ) (n : ℕ) → Takes old part new → StreamEndsAt old n → StreamEndsAt new n
+takes_ends old None part n takes at = tt
+takes_ends None (Some s) part n takes at = absurd takes
+takes_ends (Some r) (Some s) part n takes at = takes.same_total ∙ at
+
+takes_given : (old new : Option V1Feed) (part : List ℕ) (pieces : List (List ℕ)) (piece_length : ℕ) (content : List ℕ) → Takes old part new
+    → IsStreamGiven old pieces piece_length content → IsStreamGiven new pieces piece_length (content ++ part)
+takes_given old None part pieces piece_length content takes given = tt
+takes_given None (Some s) part pieces piece_length content takes given = absurd takes
+takes_given (Some r) (Some s) part pieces piece_length content takes given = takes.content pieces piece_length content given
+
+-- ---- the next file
+
 there_or_not : {A : Type 0} (o : Option A) → (is_some o ≡ false) ⊎ ((v : A) × (o ≡ Some v))
 there_or_not None = inl refl
 there_or_not (Some v) = inr (v, refl)
@@ -56,7 +82,7 @@ has_place t n files (Some r) f sound passed is some = elim (there_or_not t.v1) [
 -- where the stream stands before the next file, and what it takes of it
 pub takes_part : (t : Description) (n : ℕ) (f : FileEntry) (bytes : List ℕ) (old new : Option V1Feed) → IsSound t
     → slice_get t.files n ≡ Some f → IsNotPast old (place_before t n) → IsStreamPart t f bytes old new
-    → (from : ℕ) × StandsAt old from × (from ≤ start_of t f) × Takes old new (part_of from (start_of t f) bytes)
+    → (from : ℕ) × StandsAt old from × (from ≤ start_of t f) × Takes old (part_of from (start_of t f) bytes) new
 takes_part t n f bytes None new sound is place part = (0, tt, omega arith, part.streamed 0 tt (omega arith))
 takes_part t n f bytes (Some r) new sound is place part =
     let before : bytes_given r ≤ start_of t f = omega (arith, place, start_is t n f sound is) in
@@ -82,13 +108,13 @@ pub passed_whole : (t : Description) (n : ℕ) (files : List FileVerdict) (v : F
     → IsSound t → slice_get t.files n ≡ Some f → is_whole v ≡ true → IsStreamPart t f bytes old new → IsPassed t n files old → IsPassed t (n + 1) (files ++ v ∷ []) new
 passed_whole t n files v f bytes old new sound is whole part passed =
     let took = takes_part t n f bytes old new sound is passed.not_past part in
-    let takes : Takes old new (part_of took.0 (start_of t f) bytes) = took.3 in
+    let more : List ℕ = part_of took.0 (start_of t f) bytes in
     record {
       count = length_push files v ∙ ap (λ k. k + 1) passed.count;
-      goes_on = takes.goes_on ∙ passed.goes_on ∙ same (is_some t.v1) (list_all is_whole files) (is_whole v) whole ∙ ap (λ b. is_some t.v1 && b) (sym (list_all_push files v));
-      not_past = stays_before new (took.0 + length (part_of took.0 (start_of t f) bytes)) (place_before t (n + 1)) (takes.stands took.0 took.1)
+      goes_on = takes_goes_on old new more took.3 ∙ passed.goes_on ∙ same (is_some t.v1) (list_all is_whole files) (is_whole v) whole ∙ ap (λ b. is_some t.v1 && b) (sym (list_all_push files v));
+      not_past = stays_before new (took.0 + length more) (place_before t (n + 1)) (takes_stands old new more took.0 took.3 took.1)
           (omega (arith, length-part_of took.0 (start_of t f) bytes took.2, part.length_is, ends_before_next t n f sound (pieces_are_positive t sound) is));
-      ends = λ w hybrid. takes.ends w.total (passed.ends w hybrid);
+      ends = λ w hybrid. takes_ends old new more w.total took.3 (passed.ends w hybrid);
     }
   where
     same : (a b c : Bool) → c ≡ true → (a && b) ≡ (a && (b && c))
@@ -169,13 +195,15 @@ told_one t contents n files v f shelf old new sound is found here passed told = 
     | inl whole ↦
         let part = found.taken whole in
         let bytes : List ℕ = part.0 in
-        let before : is_some old ≡ true = sym (went (takes_part t n f bytes old new sound is passed.not_past part.2)) ∙ on in
+        let took = takes_part t n f bytes old new sound is passed.not_past part.2 in
+        let before : is_some old ≡ true = sym (takes_goes_on old new (part_of took.0 (start_of t f) bytes) took.3) ∙ on in
         let given = told.stream w hybrid before in
         let at : length given.0 ≤ start_of t f = front_before old (length given.0) (place_before t n) (start_of t f) before given.1 passed.not_past (start_is t n f sound is) in
-        let takes : Takes old new (part_of (length given.0) (start_of t f) bytes) = part.2.streamed (length given.0) given.1 at in (
-          given.0 ++ part_of (length given.0) (start_of t f) bytes,
-          subst (StandsAt new) (sym (length-append given.0 (part_of (length given.0) (start_of t f) bytes))) (takes.stands (length given.0) given.1),
-          takes.given w.pieces t.piece_length given.0 given.2,
+        let more : List ℕ = part_of (length given.0) (start_of t f) bytes in
+        let takes : Takes old more new = part.2.streamed (length given.0) given.1 at in (
+          given.0 ++ more,
+          subst (StandsAt new) (sym (length-append given.0 more)) (takes_stands old new more (length given.0) takes given.1),
+          takes_given old new more w.pieces t.piece_length given.0 takes given.2,
           part_begins t contents n f given.0 bytes is (here ∙ part.1) at given.3,
         )
   ];
@@ -188,9 +216,6 @@ told_one t contents n files v f shelf old new sound is found here passed told = 
     gone : (o : Option V1Feed) → o ≡ None → is_some o ≡ true → ⊥
     gone None e h = cc
     gone (Some r) e h = cc
-
-    went : {old new : Option V1Feed} {P Q : ℕ → Type 0} {part : ℕ → List ℕ} → ((from : ℕ) × P from × Q from × Takes old new (part from)) → is_some new ≡ is_some old
-    went took = took.3.goes_on
 
     front_before : (o : Option V1Feed) (at place start : ℕ) → is_some o ≡ true → StandsAt o at → IsNotPast o place → start ≡ place → at ≤ start
     front_before None at place start on stands past is = let no : ⊥ = cc in absurd no

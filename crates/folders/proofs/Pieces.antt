@@ -26,11 +26,11 @@ use Rattle.metainfo.specs.Pieces.{IsPieceLength}
 use Rattle.metainfo.specs.Sound.{IsSound, IsSoundTree, piece_layer}
 use Rattle.pieces.specs.declared.v1_feed.V1Feed.{V1Feed}
 use Rattle.folders.specs.declared.stream.Stream.{Stream}
-use Rattle.metainfo.specs.Feeding.{bytes_given, total}
+use Rattle.metainfo.specs.Feeding.{bytes_given}
 use Rattle.folders.specs.Content.{HasPlaceFor, IsComparedLayer, IsToldOf, part_of}
 use Rattle.folders.specs.Folder.{start_of, tree_entry_of}
 use Rattle.folders.specs.Pass.{IsEmptyContent, IsOpenedVerdict}
-use Rattle.folders.specs.Streaming.{HasStreamRoom, StandsAt, Takes}
+use Rattle.folders.specs.Streaming.{FillsTo, HasStreamRoom, StandsAt, Takes}
 use Rattle.folders.specs.Verdicts.{IsFirstBadPiece, IsVerdict, is_unreadable}
 use Rattle.folders.specs.declared.report.FileVerdict.{FileVerdict}
 use Rattle.folders.specs.declared.report.FileVerdict.TheVariants as file
@@ -119,31 +119,32 @@ few_nodes bytes layer =
     ]
 
 -- the stream is filled up to the start of a file
-pub filled_to : (first pl actual : ℕ) (old new : Option V1Feed) → pl ≡ actual
-    → ((from : ℕ) → StandsAt old from → from ≤ first * pl → Takes old new (replicate (first * pl - from) 0))
-    → (from : ℕ) → StandsAt old from → from ≤ first * actual → Takes old new (replicate (first * actual - from) 0)
-filled_to first pl actual old new is fill =
-    subst (λ p. (from : ℕ) → StandsAt old from → from ≤ first * p → Takes old new (replicate (first * p - from) 0)) is fill
+pub filled_to : (first pl actual : ℕ) (old new : Option V1Feed) → pl ≡ actual → FillsTo old (first * pl) new → FillsTo old (first * actual) new
+filled_to first pl actual old new is fill = subst (λ p. FillsTo old (first * p) new) is fill
+
+-- what it was given for that, where it stood at this place
+filled_from : (old new : Option V1Feed) (from place : ℕ) → StandsAt old from → FillsTo old place new → Takes old (replicate (place - from) 0) new
+filled_from None None from place at fill = tt
+filled_from None (Some s) from place at fill = absurd fill
+filled_from (Some r) new from place at fill = subst (λ k. Takes (Some r) (replicate (place - k) 0) new) at fill
 
 -- there is room for the file, once the stream is at its start
-pub filled_room : (old new : Option V1Feed) (start len : ℕ) → HasPlaceFor old start len
-    → ((from : ℕ) → StandsAt old from → from ≤ start → Takes old new (replicate (start - from) 0)) → HasStreamRoom new len
+pub filled_room : (old new : Option V1Feed) (start len : ℕ) → HasPlaceFor old start len → FillsTo old start new → HasStreamRoom new len
 filled_room None None start len place fill = tt
-filled_room None (Some s) start len place fill = let no : ⊥ = cc ((fill 0 tt (omega arith)).goes_on) in absurd no
+filled_room None (Some s) start len place fill = absurd fill
 filled_room (Some r) None start len place fill = tt
 filled_room (Some r) (Some s) start len place fill =
-    let takes = fill (bytes_given r) refl place.0 in
-    omega (arith, takes.stands (bytes_given r) refl, takes.ends (total r) refl, length-replicate {A = ℕ} (start - bytes_given r) 0, place.0, place.1)
+    omega (arith, fill.given_is, fill.same_total, length-replicate {A = ℕ} (start - bytes_given r) 0, place.0, place.1)
 
 part_is : (from start : ℕ) (bytes : List ℕ) → 0 < length bytes → replicate (start - from) 0 ++ bytes ≡ part_of from start bytes
 part_is from start [] some = absurd (omega arith)
 part_is from start (b ∷ bytes) some = refl
 
 -- the stream takes zeros up to the file, and the file
-pub takes_file : (old mid new : Option V1Feed) (start from : ℕ) (bytes : List ℕ) → 0 < length bytes → Takes old mid (replicate (start - from) 0) → Takes mid new bytes
-    → Takes old new (part_of from start bytes)
+pub takes_file : (old mid new : Option V1Feed) (start from : ℕ) (bytes : List ℕ) → 0 < length bytes → Takes old (replicate (start - from) 0) mid → Takes mid bytes new
+    → Takes old (part_of from start bytes) new
 takes_file old mid new start from bytes some zeros file =
-    subst (Takes old new) (part_is from start bytes some) (takes_append old mid new (replicate (start - from) 0) bytes zeros file)
+    subst (λ part. Takes old part new) (part_is from start bytes some) (takes_append old mid new (replicate (start - from) 0) bytes zeros file)
 
 -- ---- an opened file, read to its end or to one byte past its length
 
@@ -203,7 +204,7 @@ read_whole took source source' before after r len b equal told read =
 
 -- there is room for the file, once the stream is at its start and was handed out
 pub room_for_all : (old mid : Option V1Feed) (out stream : Stream) (start len : ℕ) → HasPlaceFor old start len
-    → ((from : ℕ) → StandsAt old from → from ≤ start → Takes old mid (replicate (start - from) 0)) → stream.feed ≡ mid → out ≡ stream → HasStreamRoom out.feed len
+    → FillsTo old start mid → stream.feed ≡ mid → out ≡ stream → HasStreamRoom out.feed len
 room_for_all old mid out stream start len place fill is same =
     subst (λ o. HasStreamRoom o len) (sym is ∙ ap (λ s. s.feed) (sym same)) (filled_room old mid start len place fill)
 
@@ -243,7 +244,7 @@ empty_opened t f left old false v none content good other = subst (IsOpenedVerdi
 pub opened_verdict : (t : Description) (f : FileEntry) (source source' : SourceSeen) (bound count : ℕ) (before after : FileCheck) (old mid new : Option V1Feed) (v : FileVerdict)
     → (read : TookAll FeedsBoth source source' bound before after count) → count ≡ f.length → 0 < f.length
     → before.stream.feed ≡ mid → after.stream.feed ≡ new
-    → ((from : ℕ) → StandsAt old from → from ≤ start_of t f → Takes old mid (replicate (start_of t f - from) 0))
+    → FillsTo old (start_of t f) mid
     → is_unreadable v ≡ false → IsVerdict t f (Some read.bytes) v → IsOpenedVerdict t f source.left old new v
 opened_verdict t f source source' bound count before after old mid new v read whole some begins ends fill readable verdict = record {
   bytes = read.bytes;
@@ -252,8 +253,8 @@ opened_verdict t f source source' bound count before after old mid new v read wh
   readable = readable;
   taken = λ _. record {
     length_is = read.count_is ∙ whole;
-    streamed = λ from at le. takes_file old mid new (start_of t f) from read.bytes (omega (arith, read.count_is, whole)) (fill from at le)
-        (subst (λ o. Takes o new read.bytes) begins (subst (λ o. Takes before.stream.feed o read.bytes) ends read.taken.streamed));
+    streamed = λ from at le. takes_file old mid new (start_of t f) from read.bytes (omega (arith, read.count_is, whole)) (filled_from old mid from (start_of t f) at fill)
+        (subst (λ o. Takes o read.bytes new) begins (subst (λ o. Takes before.stream.feed read.bytes o) ends read.taken.streamed));
   };
 }
 

@@ -15,7 +15,7 @@ CanBuild b n = byte_count b + n ≤ 2 ^ 46
 -- the check of a tree and the version 1 stream were given these bytes
 pub record FeedsBoth (old : FileCheck) (bytes : List ℕ) (new : FileCheck) : Type 0 where
   pub tree : FeedsCheck old.pieces bytes new.pieces
-  pub streamed : Takes old.stream.feed new.stream.feed bytes
+  pub streamed : Takes old.stream.feed bytes new.stream.feed
 
 -- neither the file nor the stream is full before so many bytes more
 abbrev pub CanFeed : FileCheck → ℕ → Type 0

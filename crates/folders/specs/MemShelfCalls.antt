@@ -6,8 +6,8 @@ use Rattle.benc.specs.Device.{one_more}
 use Rattle.benc.specs.MemDevices.{bytes_left, most_given, source_calls}
 use Rattle.benc.specs.declared.device.DeviceFault.{DeviceFault}
 use Rattle.benc.specs.declared.memory.source.MemSource.{MemSource}
-use Rattle.folders.specs.MemShelf.{first_with, listing_of}
-use Rattle.folders.specs.Shelf.{CountsListing, IsListed, more}
+use Rattle.folders.specs.MemShelf.{content_under, first_with, listing_of}
+use Rattle.folders.specs.Shelf.{CountsListing, IsListed, ShelfContents, more}
 use Rattle.folders.specs.declared.memory.file.MemFile.{MemFile}
 use Rattle.folders.specs.declared.memory.shelf.MemShelf.{MemShelf}
 use Rattle.folders.specs.declared.shelf_fault.ShelfFault.{ShelfFault}
@@ -34,6 +34,13 @@ seen_of s = record {
   before_fault = s.calls.before_fault;
   faults = s.calls.faults;
   openings = s.opened;
+}
+
+-- what stands on it, all of which it tells
+abbrev pub contents_of : MemShelfSeen → ShelfContents
+contents_of s = record {
+  under = λ p. Some (content_under s.files p);
+  listing = Some (listing_of s.files s.has_odd_name s.specials);
 }
 
 -- a source gives a file's bytes, at most this many per read, and fails at the call at which the
@@ -82,6 +89,6 @@ ListsInTurn turn (Err fault.NoMemory) = turn ≢ Some 0
 pub record Lists (s : MemShelfSeen) (answer : Result (Vec (Vec (String Global))) ShelfFault)
     (s' : MemShelfSeen) : Type 0 where
   pub fails : ListsInTurn s.before_fault answer
-  pub told : IsListed (Some (listing_of s.files s.has_odd_name s.specials)) answer
+  pub told : IsListed (contents_of s).listing answer
   pub counts : CountsListing s.faults s'.faults answer
   pub stays : s' ≡ record s { before_fault = after_call s.before_fault; faults = s'.faults }

@@ -13,7 +13,7 @@ pub record IsStreamPart (t : Description) (f : FileEntry) (bytes : List ℕ) (ol
     : Type 0 where
   pub length_is : length bytes ≡ f.length
   pub streamed : (from : ℕ) → StandsAt old from → from ≤ start_of t f
-      → Takes old new (part_of from (start_of t f) bytes)
+      → Takes old (part_of from (start_of t f) bytes) new
 
 -- the bytes of a source that had this to give: none, or some
 abbrev pub IsEmptyContent : Option (List ℕ) → Bool → Type 0

@@ -15,6 +15,12 @@ pub record Listing : Type 0 where
   pub has_odd_name : Bool
   pub specials : List (List (List ℕ))
 
+-- what stands on a shelf, as far as it tells that: under each path nothing, or a file with these
+-- bytes; and the listing
+pub record ShelfContents : Type 0 where
+  pub under : List (List ℕ) → Option (Option (List ℕ))
+  pub listing : Option Listing
+
 -- `open` found this under a path of which the shelf tells what is there: nothing, or a file's bytes
 abbrev pub IsFound : Option (Option (List ℕ)) → Option (Option (List ℕ)) → Type 0
 IsFound None found = ⊤

@@ -1,7 +1,7 @@
 -- The version 1 stream, as a check feeds it.
-use Rattle.std.specs.Prelude.{◌≡◌, ℕ, ◌+◌, ◌-◌, ◌≤◌, ◌++◌, List, length, replicate, Bool, is_some, Option, Some, None, ⊤}
+use Rattle.std.specs.Prelude.{◌≡◌, ℕ, ◌+◌, ◌-◌, ◌≤◌, ◌++◌, List, [], replicate, Bool, is_some, Option, Some, None, ⊤}
 use Rattle.metainfo.specs.Cuts.{cut_digests}
-use Rattle.metainfo.specs.Feeding.{IsFeedGiven, bytes_given, total}
+use Rattle.metainfo.specs.Feeding.{FeedsStream, IsFeedGiven, bytes_given, total}
 use Rattle.pieces.specs.declared.v1_feed.V1Feed.{V1Feed}
 use Rattle.folders.specs.Compared.{IsDigestVerdict}
 use Rattle.folders.specs.declared.report.V1Verdict.{V1Verdict}
@@ -36,19 +36,17 @@ abbrev pub IsStreamGiven : Option V1Feed → List (List ℕ) → ℕ → List �
 IsStreamGiven None pieces piece_length content = ⊤
 IsStreamGiven (Some f) pieces piece_length content = IsFeedGiven f pieces piece_length content
 
--- the stream was given this part
-pub record Takes (old new : Option V1Feed) (part : List ℕ) : Type 0 where
-  pub goes_on : is_some new ≡ is_some old
-  pub stands : (n : ℕ) → StandsAt old n → StandsAt new (n + length part)
-  pub ends : (n : ℕ) → StreamEndsAt old n → StreamEndsAt new n
-  pub given : (pieces : List (List ℕ)) (piece_length : ℕ) (content : List ℕ)
-      → IsStreamGiven old pieces piece_length content
-      → IsStreamGiven new pieces piece_length (content ++ part)
+-- the stream was given these further bytes, if it goes on
+abbrev pub Takes : Option V1Feed → List ℕ → Option V1Feed → Type 0
+Takes None bytes None = ⊤
+Takes None bytes (Some g) = ⊥
+Takes (Some f) bytes None = ⊥
+Takes (Some f) bytes (Some g) = FeedsStream f bytes g
 
--- the stream was given zeros up to this place
+-- the stream was given zeros up to this place, if it goes on
 abbrev pub FillsTo : Option V1Feed → ℕ → Option V1Feed → Type 0
-FillsTo old place new = (from : ℕ) → StandsAt old from → from ≤ place
-    → Takes old new (replicate (place - from) 0)
+FillsTo None place new = Takes None [] new
+FillsTo (Some f) place new = Takes (Some f) (replicate (place - bytes_given f) 0) new
 
 -- comparing the stream, filled up with zeros to its end, told this
 abbrev pub IsStreamVerdict : Option V1Feed → V1Verdict → Type 0

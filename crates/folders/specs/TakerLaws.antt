@@ -1,48 +1,39 @@
 -- The laws of what takes a file's bytes: several parts are one, and leave room for less.
-use Rattle.std.proofs.Common.{◌≡◌, ℕ, ◌+◌, ◌≤◌, ◌++◌, List, [], length, Option, Some, None, refl, sym, ◌∙◌, subst, append_assoc, append-nil, arith}
+use Rattle.std.proofs.Common.{ℕ, ◌+◌, ◌≤◌, ◌++◌, List, [], length, Option, Some, None, refl, sym, ◌∙◌, subst, append_assoc, append-nil, arith}
 use Rattle.std.proofs.lemmas.List.{length-append}
 use Rattle.hashtree.specs.RootBuilder.{Feeds, IsFed}
 use Rattle.hashtree.specs.declared.RootBuilder.{RootBuilder}
 use Rattle.hashtree.specs.PieceCheck.{IsFedCheck}
-use Rattle.metainfo.specs.Feeding.{bytes_given, total}
 use Rattle.folders.specs.Feeding.{CanBuild, CanFeed, FeedsBoth}
 use Rattle.folders.specs.declared.file_check.FileCheck.{FileCheck}
-use Rattle.folders.specs.Streaming.{HasStreamRoom, IsStreamGiven, StandsAt, Takes}
+use Rattle.folders.specs.Streaming.{HasStreamRoom, Takes}
+use Rattle.pieces.proofs.Fed.{feeds_both, feeds_nothing}
 use Rattle.pieces.specs.declared.v1_feed.V1Feed.{V1Feed}
 
 -- ---- the version 1 stream
 
 -- what is left of the room
 pub takes_room : (old new : Option V1Feed) (part : List ℕ) (n m : ℕ)
-    → Takes old new part → HasStreamRoom old m → length part + n ≤ m → HasStreamRoom new n
+    → Takes old part new → HasStreamRoom old m → length part + n ≤ m → HasStreamRoom new n
 takes_room None None part n m takes room fits = tt
-takes_room None (Some s) part n m takes room fits = let no : ⊥ = cc (takes.goes_on) in absurd no
-takes_room (Some r) None part n m takes room fits = tt
+takes_room None (Some s) part n m takes room fits = absurd takes
+takes_room (Some r) None part n m takes room fits = absurd takes
 takes_room (Some r) (Some s) part n m takes room fits =
-    omega (arith, takes.stands (bytes_given r) refl, takes.ends (total r) refl)
+    omega (arith, takes.given_is, takes.same_total)
 
 pub takes_append : (a b c : Option V1Feed) (xs ys : List ℕ)
-    → Takes a b xs → Takes b c ys → Takes a c (xs ++ ys)
-takes_append a b c xs ys one two = record {
-  goes_on = two.goes_on ∙ one.goes_on;
-  stands = λ n at.
-      let e : n + length xs + length ys ≡ n + length (xs ++ ys) =
-      omega (arith, length-append xs ys) in
-      subst (StandsAt c) e (two.stands (n + length xs) (one.stands n at));
-  ends = λ n at. two.ends n (one.ends n at);
-  given = λ pieces piece_length content given.
-      subst (IsStreamGiven c pieces piece_length) (append_assoc content xs ys)
-      (two.given pieces piece_length (content ++ xs) (one.given pieces piece_length content given));
-}
+    → Takes a xs b → Takes b ys c → Takes a (xs ++ ys) c
+takes_append None None None xs ys one two = tt
+takes_append None None (Some h) xs ys one two = absurd two
+takes_append None (Some g) c xs ys one two = absurd one
+takes_append (Some f) None c xs ys one two = absurd one
+takes_append (Some f) (Some g) None xs ys one two = absurd two
+takes_append (Some f) (Some g) (Some h) xs ys one two =
+    feeds_both f g h xs ys (xs ++ ys) refl one two
 
-pub takes_nothing : (a : Option V1Feed) → Takes a a []
-takes_nothing a = record {
-  goes_on = refl;
-  stands = λ n at. subst (StandsAt a) (let e : n ≡ n + 0 = omega arith in e) at;
-  ends = λ n at. at;
-  given = λ pieces piece_length content given.
-      subst (IsStreamGiven a pieces piece_length) (sym (append-nil content)) given;
-}
+pub takes_nothing : (a : Option V1Feed) → Takes a [] a
+takes_nothing None = tt
+takes_nothing (Some f) = feeds_nothing f
 
 -- if there is room, there is room for less
 pub takes_less : (a : Option V1Feed) (m n : ℕ) → HasStreamRoom a n → m ≤ n → HasStreamRoom a m

@@ -1,6 +1,7 @@
--- How a check goes to a shelf: to each file of a torrent once, in order. `shelf` stands for what
--- the shelf's type tells of its shelves, and `seen` for what its files tell.
-use Rattle.std.specs.Prelude.{◌≡◌, ℕ, ◌+◌, Option, Some, None, Result, Ok, Err}
+-- How a path of a shelf is visited: it is opened once, and what was opened is read and handed back.
+-- A check visits each file of a torrent once, in order. `shelf` stands for what the shelf's type
+-- tells of its shelves, and `seen` for what its files tell.
+use Rattle.std.specs.Prelude.{◌≡◌, ℕ, ◌+◌, List, Option, Some, None, Result, Ok, Err, ⊤}
 use Rattle.benc.specs.Device.{SourceSeen}
 use Rattle.benc.specs.declared.device.DeviceFault.{DeviceFault}
 use Rattle.metainfo.specs.Description.{FileEntry}
@@ -16,18 +17,41 @@ pub record IsReadFor (bound : ℕ) (v : FileVerdict) (old new : SourceSeen) : Ty
   pub within : IsReadWithin bound old new
   pub own_fault : new.faults ≡ more old.faults (fault_count v)
 
-module _ {S F : Type 0} (shelf : Ghosts S F) (seen : F → SourceSeen) where
-  -- What follows an opening that was answered so. A file was read and handed back. If nothing is
-  -- there, that is told; if the opening failed, the file is unreadable; and the shelf stays.
-  abbrev pub Follows : ℕ → FileVerdict → S → Result (Option F) DeviceFault → S → Type 0
-  Follows bound v s (Ok (Some file)) s' =
-      (read : F) × IsReadFor bound v (seen file) (seen read) × shelf.closes s read s'
-  Follows bound v s (Ok None) s' = (v ≡ Missing) × (s' ≡ s)
-  Follows bound v s (Err fault) s' = (v ≡ Unreadable) × (s' ≡ s)
+-- if nothing was there, a file is missing, and if the opening failed, it is unreadable
+abbrev pub FollowsAnswer : {F : Type 0} → Result (Option F) DeviceFault → FileVerdict → Type 0
+FollowsAnswer (Ok (Some file)) v = ⊤
+FollowsAnswer (Ok None) v = v ≡ Missing
+FollowsAnswer (Err fault) v = v ≡ Unreadable
 
-  -- the path of a file was opened once, and at most a byte past the file's length was read
+module _ {S F : Type 0} (shelf : Ghosts S F) (seen : F → SourceSeen) where
+  -- ---- any visit
+
+  -- the file that stands at this path was opened, read so, and handed back
+  pub record HandsBack (IsRead : SourceSeen → SourceSeen → Type 0) (s : S) (path : List (List ℕ))
+      (file : F) (s' : S) : Type 0 where
+    pub between : S
+    pub opened : shelf.opens s path (Ok (Some file)) between
+    pub read : F
+    pub reading : IsRead (seen file) (seen read)
+    pub closed : shelf.closes between read s'
+
+  -- the path was opened, which was answered so; a file that was found was read so, and handed back
+  abbrev pub Opened : (SourceSeen → SourceSeen → Type 0) → S → List (List ℕ)
+      → Result (Option F) DeviceFault → S → Type 0
+  Opened IsRead s path (Ok (Some file)) s' = HandsBack IsRead s path file s'
+  Opened IsRead s path (Ok None) s' = shelf.opens s path (Ok None) s'
+  Opened IsRead s path (Err fault) s' = shelf.opens s path (Err fault) s'
+
+  -- the path was opened once, and no more bytes than these were read
+  pub record OpensOnce (s : S) (path : List (List ℕ)) (bound : ℕ) (s' : S) : Type 0 where
+    pub answer : Result (Option F) DeviceFault
+    pub opened : Opened (IsReadWithin bound) s path answer s'
+
+  -- ---- the visits of a check
+
+  -- the path of a file was opened once, at most a byte past the file's length was read, and this is
+  -- the verdict
   pub record Visits (s : S) (file : FileEntry) (v : FileVerdict) (s' : S) : Type 0 where
     pub answer : Result (Option F) DeviceFault
-    pub after : S
-    pub opened : shelf.opens s file.path answer after
-    pub follows : Follows (file.length + 1) v after answer s'
+    pub opened : Opened (IsReadFor (file.length + 1) v) s file.path answer s'
+    pub follows : FollowsAnswer answer v

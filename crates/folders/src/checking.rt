@@ -41,7 +41,7 @@ pub fn check<S: Shelf>(
 ) -> Result<Report, NoMemory>
     ensures verdicts { IfOk result (λ r. HasVerdicts torrent.now r.files.items r.v1) }
     ensures tells { IfOk result (λ r.
-        TellsFolder torrent.now (S.under shelf.old) r.files.items r.v1) }
+        TellsFolder torrent.now (S.contents shelf.old).under r.files.items r.v1) }
     ensures once { IfOk result (λ r. Chain (Visits S.Shelf S.File.seen) shelf.old torrent.now.files
         r.files.items shelf.new) }
     ensures unreadable { IfOk result (λ r.
@@ -49,7 +49,7 @@ pub fn check<S: Shelf>(
     ensures readable { IfOk result (λ r.
         S.faults shelf.new ≡ S.faults shelf.old → unreadable_count r.files.items ≡ 0) }
     ensures no_memory { OnErr result (shelf.new ≡ shelf.old) }
-    ensures kept { (p : List (List ℕ)) → S.under shelf.new p ≡ S.under shelf.old p }
+    ensures stays { S.contents shelf.new ≡ S.contents shelf.old }
 {
     torrent.sound();
     let entries = torrent.files();
@@ -75,11 +75,11 @@ fn check_file<S: Shelf>(
     requires file { IsFileOf torrent.now (file_entry file.now) }
     requires place { 0 < file.now.length → HasPlaceFor stream.old.feed
         (start_of torrent.now (file_entry file.now)) file.now.length }
-    ensures found { FindsVerdict torrent.now (file_entry file.now) (S.under shelf.old file.now.path)
-        stream.old.feed stream.new.feed result }
+    ensures found { FindsVerdict torrent.now (file_entry file.now)
+        ((S.contents shelf.old).under file.now.path) stream.old.feed stream.new.feed result }
     ensures visits { Visits S.Shelf S.File.seen shelf.old (file_entry file.now) result shelf.new }
     ensures counts { S.faults shelf.new ≡ more (S.faults shelf.old) (fault_count result) }
-    ensures kept { (p : List (List ℕ)) → S.under shelf.new p ≡ S.under shelf.old p }
+    ensures stays { S.contents shelf.new ≡ S.contents shelf.old }
 {
     let verdict = match shelf.open(&file.path.parts()) {
         Ok(Some(mut source)) => {

@@ -13,7 +13,7 @@ pub enum ReadFault {
     #[error("the file cannot be read")]
     Device,
     /// Memory for what is kept of the file was refused.
-    #[error("no memory")]
+    #[error("out of memory")]
     NoMemory,
 }
 

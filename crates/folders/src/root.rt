@@ -18,7 +18,7 @@ pub enum RootFault {
     #[error("the source failed")]
     Read,
     /// The sink failed, and a prefix of the line went out.
-    #[error("the sink failed")]
+    #[error("cannot write")]
     Write,
 }
 

@@ -1,7 +1,7 @@
 //! Shelves: where a torrent's files lie, each under its path.
 ghost use Rattle.std.specs.Prelude.{◌≡◌, ℕ, List, map, Option, option_map, IfOk, IfSome};
 ghost use Rattle.benc.specs.Device.{CountsFault};
-ghost use Rattle.folders.specs.Shelf.{CountsListing, IsFound, IsListed, Listing, more};
+ghost use Rattle.folders.specs.Shelf.{CountsListing, IsFound, IsListed, ShelfContents, more};
 
 use crate::shelf_fault::ShelfFault;
 use benc::{DeviceFault, Source};
@@ -16,11 +16,8 @@ pub trait Shelf {
     /// An opened file.
     type File: Source;
 
-    // What is under each path, if that is known: nothing, or a file with these bytes.
-    ghost under: { Self → List (List ℕ) → Option (Option (List ℕ)) };
-
-    // What is on the shelf, if that is known.
-    ghost listing: { Self → Option Listing };
+    // What is on the shelf, as far as that is known.
+    ghost contents: { Self → ShelfContents };
 
     // What a call of `list` may answer, and the shelf after it.
     ghost lists: { Self → Result (Vec (Vec (String Global))) ShelfFault → Self → Type 0 };
@@ -39,29 +36,27 @@ pub trait Shelf {
     /// folder, with `Device` if the shelf failed, which is counted, and with `NoMemory`. What is on
     /// the shelf stays.
     fn list(&mut self) -> Result<Vec<Vec<String>>, ShelfFault>
-        ensures listed { IsListed (listing self.old) result }
+        ensures listed { IsListed (contents self.old).listing result }
         ensures counts { CountsListing (faults self.old) (faults self.new) result }
         ensures lists { lists self.old result self.new }
-        ensures listing { listing self.new ≡ listing self.old }
-        ensures kept { (p : List (List ℕ)) → under self.new p ≡ under self.old p };
+        ensures stays { contents self.new ≡ contents self.old };
 
     /// Opens the file with these path components. It answers `None` if nothing has that name. A
     /// fault is counted. What is on the shelf stays.
     fn open(&mut self, path: &[&str]) -> Result<Option<Self::File>, DeviceFault>
-        ensures found { IfOk result (λ found. IsFound (under self.old (map (λ s. s.now) path.now))
+        ensures found { IfOk result (λ found.
+            IsFound ((contents self.old).under (map (λ s. s.now) path.now))
             (option_map (λ f. (Self.File.seen f).left) found)) }
         ensures fresh { IfOk result (λ found. IfSome found (λ f. (Self.File.seen f).faults ≡ 0)) }
         ensures counts { CountsFault (faults self.old) (faults self.new) result }
         ensures opens { opens self.old (map (λ s. s.now) path.now) result self.new }
-        ensures listing { listing self.new ≡ listing self.old }
-        ensures kept { (p : List (List ℕ)) → under self.new p ≡ under self.old p };
+        ensures stays { contents self.new ≡ contents self.old };
 
     /// Takes a file back, and adds its count of faults.
     fn close(&mut self, file: Self::File)
         ensures counts { faults self.new ≡ more (faults self.old) (Self.File.seen file).faults }
         ensures closes { closes self.old file self.new }
-        ensures listing { listing self.new ≡ listing self.old }
-        ensures kept { (p : List (List ℕ)) → under self.new p ≡ under self.old p };
+        ensures stays { contents self.new ≡ contents self.old };
 
     /// How many calls were answered with a fault, modulo 2^64, those on files that were handed back
     /// among them.

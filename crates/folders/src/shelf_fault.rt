@@ -6,7 +6,7 @@ use std::alloc::AllocError;
 use thiserror::Error;
 
 /// Why a shelf could not be listed.
-#[derive(Debug, Drop, Error)]
+#[derive(Debug, PartialEq, Drop, Error)]
 pub enum ShelfFault {
     /// The shelf failed.
     #[error("the shelf cannot be listed")]
@@ -18,7 +18,7 @@ pub enum ShelfFault {
     #[error("neither a file nor a folder")]
     Special(Vec<String>),
     /// Out of memory.
-    #[error("no memory")]
+    #[error("out of memory")]
     NoMemory,
 }
 

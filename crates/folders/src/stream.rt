@@ -45,7 +45,7 @@ impl<'a> Stream<'a> {
     /// Takes these bytes, no more than are still to come.
     pub(crate) fn push(&mut self, bytes: &[u8])
         requires { HasStreamRoom self.old.feed (length bytes.now) }
-        ensures { Takes self.old.feed self.new.feed bytes.now }
+        ensures { Takes self.old.feed bytes.now self.new.feed }
     {
         if let Some(feed) = &mut self.feed {
             feed.push(bytes);

@@ -12,7 +12,7 @@ use Rattle.std.proofs.lemmas.Option.{same_Some, slice_get_within}
 use Rattle.folders.specs.declared.shelf.Shelf.{Ghosts}
 use Rattle.benc.specs.Device.{SourceSeen}
 use Rattle.drafts.specs.Outline.{Outline}
-use Rattle.folders.specs.Shelf.{IsListed, Listing, is_path, path_bytes}
+use Rattle.folders.specs.Shelf.{IsListed, Listing, ShelfContents, is_path, path_bytes}
 use Rattle.gathering.specs.Gathering.{AreContentsUnder, Fails, Gathers, GathersAll, HasGathered, IsListedAs, IsSortedListing, LacksMemoryAt, Misses, RefusesAt, StopsAtPath}
 use Rattle.gathering.specs.Steps.{Stops, StopsBefore}
 use Rattle.gathering.specs.Stopping.{at_path}
@@ -21,7 +21,6 @@ use Rattle.gathering.specs.declared.file_fault.FileFault.TheVariants as why
 use Rattle.gathering.specs.declared.gather_fault.GatherFault.{GatherFault}
 use Rattle.gathering.specs.declared.gathering.Stop.{Stop}
 use Rattle.gathering.proofs.Steps.{item_of}
-use Rattle.folders.specs.Verdicts.{Agrees}
 use Rattle.pieces.specs.Pieces.{IsPieceLength}
 
 -- ---- the listing
@@ -62,44 +61,38 @@ sorted_listing told paths sorted listed moved up = record {
 }
 
 -- the shelf was listed, and its answer sorted
-pub listed_as : {S F : Type 0} (shelf : Ghosts S F) (old base : S) (paths : Vec (Vec (String Global))) (sorted : Paths) → shelf.lists old (Ok paths) base → IsListed (shelf.listing old) (Ok paths) → IsPermutation paths.items sorted
+pub listed_as : {S F : Type 0} (shelf : Ghosts S F) (old base : S) (paths : Vec (Vec (String Global))) (sorted : Paths) → shelf.lists old (Ok paths) base → IsListed (shelf.contents old).listing (Ok paths) → IsPermutation paths.items sorted
     → IsSorted (λ v w. slice_cmp (λ a b. slice_cmp nat_cmp (string_bytes a) (string_bytes b)) v.items w.items) sorted
     → IsListedAs shelf old (map path_bytes sorted) base
 listed_as shelf old base paths sorted answered listed moved up = record {
   answer = paths;
   answered = answered;
   these = IsPermutation-map path_bytes paths.items sorted moved;
-  sorted = sorted_listing (shelf.listing old) paths sorted listed moved up;
+  sorted = sorted_listing (shelf.contents old).listing paths sorted listed moved up;
 }
 
 -- ---- what was gathered
 
-are_under : (u v : List (List ℕ) → Option (Option (List ℕ))) (ps : List (List (List ℕ))) (cs : List (List ℕ)) → ((p : List (List ℕ)) → u p ≡ v p) → AreContentsUnder u ps cs → AreContentsUnder v ps cs
-are_under u v [] [] same are = tt
-are_under u v [] (c ∷ cs) same are = absurd are
-are_under u v (p ∷ ps) [] same are = absurd are
-are_under u v (p ∷ ps) (c ∷ cs) same (first, rest) = (subst (λ t. Agrees t (Some c)) (same p) first, are_under u v ps cs same rest)
-
 module _ {S F : Type 0} (shelf : Ghosts S F) (seen : F → SourceSeen) (empty : Outline) where
   -- the listing left the shelf as it was
-  gathered_before : (old base s : S) (paths : List (List (List ℕ))) (d : Outline) → shelf.faults base ≡ shelf.faults old → ((p : List (List ℕ)) → shelf.under base p ≡ shelf.under old p)
+  gathered_before : (old base s : S) (paths : List (List (List ℕ))) (d : Outline) → shelf.faults base ≡ shelf.faults old → shelf.contents base ≡ shelf.contents old
       → HasGathered shelf seen empty base base paths s d → HasGathered shelf seen empty old base paths s d
-  gathered_before old base s paths d quiet kept so_far = record {
+  gathered_before old base s paths d quiet stays so_far = record {
     contents = so_far.contents;
     read = so_far.read;
-    are = are_under (shelf.under base) (shelf.under old) paths so_far.contents kept so_far.are;
+    are = subst (λ (on : ShelfContents). AreContentsUnder on.under paths so_far.contents) stays so_far.are;
     gathered = so_far.gathered;
     quiet = so_far.quiet ∙ quiet;
-    kept = λ p. so_far.kept p ∙ kept p;
+    stays = so_far.stays ∙ stays;
   }
 
   pub gathers_all : (old base new : S) (sorted : Paths) (d : Outline) → IsPieceLength empty.piece_length
       → IsListedAs shelf old (map path_bytes sorted) base
-      → shelf.faults base ≡ shelf.faults old → ((p : List (List ℕ)) → shelf.under base p ≡ shelf.under old p)
+      → shelf.faults base ≡ shelf.faults old → shelf.contents base ≡ shelf.contents old
       → HasGathered shelf seen empty base base (map path_bytes sorted) new d
       → GathersAll shelf seen empty old new d
-  gathers_all old base new sorted d legal listed quiet kept all =
-      record { legal = legal; paths = map path_bytes sorted; listed = base; listing_is = listed; all = gathered_before old base new (map path_bytes sorted) d quiet kept all }
+  gathers_all old base new sorted d legal listed quiet stays all =
+      record { legal = legal; paths = map path_bytes sorted; listed = base; listing_is = listed; all = gathered_before old base new (map path_bytes sorted) d quiet stays all }
 
   -- what is told of a path at which it stopped
   told_at : (old new mid : S) (d : Outline) (f : FileFault) (v : Vec (String Global))
@@ -117,10 +110,10 @@ module _ {S F : Type 0} (shelf : Ghosts S F) (seen : F → SourceSeen) (empty : 
       same_Some path (path_bytes v) (sym there ∙ item_of path_bytes sorted n v inside ∙ ap (λ w. Some (path_bytes w)) (sym is))
 
   pub stopped_at : (old base new : S) (sorted : Paths) (stop : Stop) (v : Vec (String Global)) (told : GatherFault) → IsPieceLength empty.piece_length
-      → IsListedAs shelf old (map path_bytes sorted) base → shelf.faults base ≡ shelf.faults old → ((p : List (List ℕ)) → shelf.under base p ≡ shelf.under old p)
+      → IsListedAs shelf old (map path_bytes sorted) base → shelf.faults base ≡ shelf.faults old → shelf.contents base ≡ shelf.contents old
       → StopsBefore shelf seen empty base (map path_bytes sorted) new stop → v ≡ get_or sorted stop.number v → told ≡ at_path stop.fault v
       → Gathers shelf seen empty old new (Err told)
-  stopped_at old base new sorted stop v told legal listed quiet kept stops is answer =
+  stopped_at old base new sorted stop v told legal listed quiet stays stops is answer =
       let path : stops.path ≡ path_bytes v = taken sorted stop.number stops.path v stops.there is in
       subst (λ f. Gathers shelf seen empty old new (Err f)) (sym answer)
       (told_at old new stops.mid stops.draft stop.fault v (λ Why holds. record {
@@ -132,6 +125,6 @@ module _ {S F : Type 0} (shelf : Ghosts S F) (seen : F → SourceSeen) (empty : 
         there = stops.there ∙ ap Some path;
         draft = stops.draft;
         mid = stops.mid;
-        before = gathered_before old base stops.mid (take stop.number (map path_bytes sorted)) stops.draft quiet kept stops.before;
+        before = gathered_before old base stops.mid (take stop.number (map path_bytes sorted)) stops.draft quiet stays stops.before;
         why = holds;
       }) (subst (λ p. Stops shelf seen stop.fault stops.draft stops.mid p new) path stops.why))

@@ -7,6 +7,7 @@ use Rattle.folders.specs.declared.shelf.Shelf.{Ghosts}
 use Rattle.benc.specs.Device.{SourceSeen}
 use Rattle.chains.proofs.Chains.{Chain-next}
 use Rattle.drafts.specs.Outline.{Outline}
+use Rattle.folders.specs.Shelf.{ShelfContents}
 use Rattle.folders.specs.Verdicts.{Agrees}
 use Rattle.gathering.specs.Gathered.{DraftAdds}
 use Rattle.gathering.specs.Gathering.{AreContentsUnder, HasGathered, Reads}
@@ -43,24 +44,24 @@ taken_more xs n x there =
 module _ {S F : Type 0} (shelf : Ghosts S F) (seen : F → SourceSeen) (empty : Outline) where
   -- none yet
   pub gathered_none : (s : S) → HasGathered shelf seen empty s s [] s empty
-  gathered_none s = record { contents = []; read = refl; are = tt; gathered = refl; quiet = refl; kept = λ p. refl }
+  gathered_none s = record { contents = []; read = refl; are = tt; gathered = refl; quiet = refl; stays = refl }
 
   -- one more
   pub gathered_more : (old mid new : S) (paths : List (List (List ℕ))) (n : ℕ) (path : List (List ℕ)) (content : List ℕ) (d e : Outline)
       → slice_get paths n ≡ Some path → HasGathered shelf seen empty old old (take n paths) mid d
-      → Reads shelf seen mid path content new → DraftAdds d path content e → ((p : List (List ℕ)) → shelf.under new p ≡ shelf.under mid p)
+      → Reads shelf seen mid path content new → DraftAdds d path content e → shelf.contents new ≡ shelf.contents mid
       → HasGathered shelf seen empty old old (take (n + 1) paths) new e
-  gathered_more old mid new paths n path content d e there so_far reads adds kept =
+  gathered_more old mid new paths n path content d e there so_far reads adds stays =
       let inside : n < length paths = slice_get_within paths n path there in
       let at : get_or paths n path ≡ path = get_or_from_slice_get paths n path path there in
       record {
         contents = so_far.contents ++ content ∷ [];
         read = Chain-next (Reads shelf seen) old mid new paths n so_far.contents path content inside so_far.read
             (subst (λ p. Reads shelf seen mid p content new) (sym at) reads);
-        are = subst (λ ps. AreContentsUnder (shelf.under old) ps (so_far.contents ++ content ∷ [])) (sym (taken_more paths n path there))
-            (are_more (shelf.under old) (take n paths) so_far.contents path content so_far.are (subst (λ t. Agrees t (Some content)) (so_far.kept path) reads.agrees));
+        are = subst (λ ps. AreContentsUnder (shelf.contents old).under ps (so_far.contents ++ content ∷ [])) (sym (taken_more paths n path there))
+            (are_more (shelf.contents old).under (take n paths) so_far.contents path content so_far.are (subst (λ (on : ShelfContents). Agrees (on.under path) (Some content)) so_far.stays reads.agrees));
         gathered = Chain-next DraftAdds empty d e paths n so_far.contents path content inside so_far.gathered
             (subst (λ p. DraftAdds d p content e) (sym at) adds);
         quiet = reads.quiet ∙ so_far.quiet;
-        kept = λ p. kept p ∙ so_far.kept p;
+        stays = stays ∙ so_far.stays;
       }

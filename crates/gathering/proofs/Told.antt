@@ -5,9 +5,10 @@ use Rattle.benc.specs.Device.{SourceSeen, one_more}
 use Rattle.folders.specs.Shelf.{IsFound, more}
 use Rattle.folders.specs.TakeAll.{GaveMore, IsReadWithin, TookAll}
 use Rattle.folders.specs.Verdicts.{Agrees}
+use Rattle.folders.specs.Visits.{HandsBack}
 use Rattle.folders.proofs.Pieces.{all_given, longer_content}
 use Rattle.gathering.specs.Collecting.{MayFinish}
-use Rattle.gathering.specs.Gathering.{HandsBack, Reads}
+use Rattle.gathering.specs.Gathering.{Reads}
 use Rattle.gathering.specs.Hashing.{AreHashesOf, Begins, EndsWithHashes, Hashes, MayEndWithout}
 use Rattle.folders.specs.TakeAll.{CountsReading}
 use Rattle.folders.specs.declared.read_fault.ReadFault.{ReadFault}
@@ -78,15 +79,15 @@ module _ {S F : Type 0} (shelf : Ghosts S F) (seen : F → SourceSeen) where
   -- a file was opened, read and handed back
   pub record IsVisit (s : S) (path : List (List ℕ)) (mid : S) (file read : F) (s' : S) : Type 0 where
     pub opened : shelf.opens s path (Ok (Some file)) mid
-    pub found : IsFound (shelf.under s path) (Some (seen file).left)
+    pub found : IsFound ((shelf.contents s).under path) (Some (seen file).left)
     pub fresh : (seen file).faults ≡ 0
     pub steady : shelf.faults mid ≡ shelf.faults s
     pub within : IsReadWithin (2 ^ 46 + 1) (seen file) (seen read)
     pub closed : shelf.closes mid read s'
     pub added : shelf.faults s' ≡ more (shelf.faults mid) (seen read).faults
 
-  handed : (s : S) (path : List (List ℕ)) (mid : S) (file read : F) (s' : S) → IsVisit s path mid file read s' → HandsBack shelf seen s path file s'
-  handed s path mid file read s' v = record { between = mid; opened = v.opened; read = read; within = v.within; closed = v.closed }
+  handed : (s : S) (path : List (List ℕ)) (mid : S) (file read : F) (s' : S) → IsVisit s path mid file read s' → HandsBack shelf seen (IsReadWithin (2 ^ 46 + 1)) s path file s'
+  handed s path mid file read s' v = record { between = mid; opened = v.opened; read = read; reading = v.within; closed = v.closed }
 
   reads : (s : S) (path : List (List ℕ)) (mid : S) (file read : F) (s' : S) (content : List ℕ) → IsVisit s path mid file read s' → Agrees (seen file).left content
       → (seen read).faults ≡ (seen file).faults → Reads shelf seen s path content s'
@@ -94,7 +95,7 @@ module _ {S F : Type 0} (shelf : Ghosts S F) (seen : F → SourceSeen) where
     file = file;
     handed = handed s path mid file read s' v;
     gave = told;
-    agrees = agrees_opened (shelf.under s path) (seen file).left content v.found told;
+    agrees = agrees_opened ((shelf.contents s).under path) (seen file).left content v.found told;
     quiet = v.added ∙ ap (more (shelf.faults mid)) (quiet ∙ v.fresh) ∙ v.steady;
   }
 

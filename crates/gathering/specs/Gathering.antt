@@ -16,6 +16,7 @@ use Rattle.filetree.specs.declared.refusal.Refusal.TheVariants as refusals
 use Rattle.folders.specs.Shelf.{CountsListing, IsEachOnce, IsListed, Listing, path_bytes}
 use Rattle.folders.specs.TakeAll.{IsReadWithin}
 use Rattle.folders.specs.Verdicts.{Agrees}
+use Rattle.folders.specs.Visits.{HandsBack}
 use Rattle.folders.specs.declared.shelf.Shelf.{Ghosts}
 use Rattle.folders.specs.declared.shelf_fault.ShelfFault.{ShelfFault}
 use Rattle.gathering.specs.Gathered.{DraftTakes, Gathered, KeepsDigests, RefusesContent}
@@ -43,7 +44,7 @@ pub record IsListedAs {S F : Type 0} (shelf : Ghosts S F) (old : S) (paths : Lis
   pub answer : Vec (Vec (String Global))
   pub answered : shelf.lists old (Ok answer) new
   pub these : IsPermutation (map path_bytes answer.items) paths
-  pub sorted : IsSortedListing (shelf.listing old) paths
+  pub sorted : IsSortedListing (shelf.contents old).listing paths
 
 -- one of the paths has a component
 abbrev pub HasComponents : List (List (List ℕ)) → Type 0
@@ -61,33 +62,25 @@ AreContentsUnder under (p ∷ ps) (c ∷ cs) = Agrees (under p) (Some c) × AreC
 module _ {S F : Type 0} (shelf : Ghosts S F) (seen : F → SourceSeen) where
   -- ---- one file
 
-  -- the path was opened, and what was opened was read, a byte past the longest file at most, and
-  -- handed back
-  pub record HandsBack (s : S) (path : List (List ℕ)) (file : F) (s' : S) : Type 0 where
-    pub between : S
-    pub opened : shelf.opens s path (Ok (Some file)) between
-    pub read : F
-    pub within : IsReadWithin (2 ^ 46 + 1) (seen file) (seen read)
-    pub closed : shelf.closes between read s'
-
-  -- and without a fault: it has this content, which is the known one
+  -- the path was read without a fault, a byte past the longest file at most: it has this content,
+  -- which is the known one
   pub record Reads (s : S) (path : List (List ℕ)) (content : List ℕ) (s' : S) : Type 0 where
     pub file : F
-    pub handed : HandsBack s path file s'
+    pub handed : HandsBack shelf seen (IsReadWithin (2 ^ 46 + 1)) s path file s'
     pub gave : Agrees (seen file).left content
-    pub agrees : Agrees (shelf.under s path) (Some content)
+    pub agrees : Agrees ((shelf.contents s).under path) (Some content)
     pub quiet : shelf.faults s' ≡ shelf.faults s
 
   -- the opening failed, or a read did; that is one fault
   pub record Fails (s : S) (path : List (List ℕ)) (s' : S) : Type 0 where
     pub counted : shelf.faults s' ≡ one_more (shelf.faults s)
     pub failed : ((e : DeviceFault) × shelf.opens s path (Err e) s')
-        ⊎ ((file : F) × HandsBack s path file s')
+        ⊎ ((file : F) × HandsBack shelf seen (IsReadWithin (2 ^ 46 + 1)) s path file s')
 
   -- nothing was there
   pub record Misses (s : S) (path : List (List ℕ)) (s' : S) : Type 0 where
     pub opened : shelf.opens s path (Ok None) s'
-    pub agrees : Agrees (shelf.under s path) None
+    pub agrees : Agrees ((shelf.contents s).under path) None
     pub quiet : shelf.faults s' ≡ shelf.faults s
 
   -- the path was read, and the draft d refuses its content
@@ -112,10 +105,10 @@ module _ {S F : Type 0} (shelf : Ghosts S F) (seen : F → SourceSeen) where
         : Type 0 where
       pub contents : List (List ℕ)
       pub read : Chain Reads listed paths contents s
-      pub are : AreContentsUnder (shelf.under old) paths contents
+      pub are : AreContentsUnder (shelf.contents old).under paths contents
       pub gathered : Gathered empty paths contents d
       pub quiet : shelf.faults s ≡ shelf.faults old
-      pub kept : (p : List (List ℕ)) → shelf.under s p ≡ shelf.under old p
+      pub stays : shelf.contents s ≡ shelf.contents old
 
     -- all listed files are in the draft d, and no other
     pub record GathersAll (old new : S) (d : Outline) : Type 0 where
@@ -150,7 +143,7 @@ module _ {S F : Type 0} (shelf : Ghosts S F) (seen : F → SourceSeen) where
     pub record IsUnlisted (old new : S) (f : ShelfFault) : Type 0 where
       pub legal : IsPieceLength empty.piece_length
       pub answered : shelf.lists old (Err f) new
-      pub told : IsListed (shelf.listing old) (Err f)
+      pub told : IsListed (shelf.contents old).listing (Err f)
       pub counted : CountsListing (shelf.faults old) (shelf.faults new) (Err f)
 
     -- memory was refused for the components of the longest listed path: the shelf was listed, and
@@ -161,7 +154,7 @@ module _ {S F : Type 0} (shelf : Ghosts S F) (seen : F → SourceSeen) where
       pub listing_is : IsListedAs shelf old paths new
       pub some : HasComponents paths
       pub quiet : shelf.faults new ≡ shelf.faults old
-      pub kept : (p : List (List ℕ)) → shelf.under new p ≡ shelf.under old p
+      pub stays : shelf.contents new ≡ shelf.contents old
 
     -- memory was refused: for the draft, before the shelf was looked at; once for the components of
     -- the paths, before the first was opened; or at a path, once it was read

@@ -30,7 +30,7 @@ pub record Begins (piece_length : ℕ) (hybrid : Bool) (h : Hashing) : Type 0 wh
 -- digests of cuts were pushed these bytes, or memory was refused to them
 pub record CutsBytes (old : V1Cuts) (bytes : List ℕ) (new : V1Cuts) : Type 0 where
   pub again : cut.HasRefused old → cut.HasRefused new
-  pub fed : cut.HasRefused new ⊎ FeedsCuts old new bytes
+  pub fed : cut.HasRefused new ⊎ FeedsCuts old bytes new
 
 -- the same of a hybrid; else there are none
 abbrev pub CutsIf : Option V1Cuts → List ℕ → Option V1Cuts → Type 0

@@ -52,7 +52,7 @@ pub fn gather<S: Shelf>(
 ) -> Result<Draft, GatherFault>
     ensures gathers { Gathers S.Shelf S.File.seen (empty_outline name.now piece_length hybrid)
         shelf.old shelf.new result }
-    ensures kept { (p : List (List ℕ)) → S.under shelf.new p ≡ S.under shelf.old p }
+    ensures stays { S.contents shelf.new ≡ S.contents shelf.old }
 {
     let Some(kind) = Kind::new(piece_length, hybrid) else {
         return Err(GatherFault::Refused(Refusal::PieceLength, Vec::new(alloc)));
@@ -104,7 +104,7 @@ fn add_files<'p, S: Shelf>(
     requires hybrid { draft.old.hybrid ≡ kind.now.hybrid }
     ensures adds { AddsAll S.Shelf S.File.seen draft.old shelf.old (map path_bytes paths.now)
         draft.new shelf.new result }
-    ensures kept { (p : List (List ℕ)) → S.under shelf.new p ≡ S.under shelf.old p }
+    ensures stays { S.contents shelf.new ≡ S.contents shelf.old }
 {
     let mut buffer = [0u8; BLOCK_LENGTH as usize];
     'paths: for number in 0..paths.len() {
@@ -130,7 +130,7 @@ fn add_file<S: Shelf>(
     requires hybrid { draft.old.hybrid ≡ kind.now.hybrid }
     ensures adds { AddsPath S.Shelf S.File.seen draft.old shelf.old
         (map (λ s. s.now) path.now) draft.new shelf.new result }
-    ensures kept { (p : List (List ℕ)) → S.under shelf.new p ≡ S.under shelf.old p }
+    ensures stays { S.contents shelf.new ≡ S.contents shelf.old }
     ensures buffer { length buffer.new ≡ length buffer.old }
 {
     let hashes = hash_file(alloc, shelf, path, kind, buffer)?;

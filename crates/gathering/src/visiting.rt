@@ -22,7 +22,7 @@ pub(crate) fn hash_file<S: Shelf>(
     requires { 0 < length buffer.old }
     ensures visits { VisitsFile S.Shelf S.File.seen kind.now.piece_length kind.now.hybrid
         shelf.old (map (λ s. s.now) path.now) shelf.new result }
-    ensures kept { (p : List (List ℕ)) → S.under shelf.new p ≡ S.under shelf.old p }
+    ensures stays { S.contents shelf.new ≡ S.contents shelf.old }
     ensures buffer { length buffer.new ≡ length buffer.old }
 {
     match shelf.open(path) {

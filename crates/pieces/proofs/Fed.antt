@@ -1,14 +1,14 @@
 -- What a version 1 feed holds, as it takes bytes.
 use Rattle.std.proofs.Common.{◌≡◌, ℕ, zero, suc, ◌+◌, ◌-◌, ◌*◌, ◌<◌, ◌≤◌, List, [], ◌++◌, length, take, drop, replicate, None, is_some, Bool, true, false, inl, inr, refl, ap, sym, ◌∙◌, subst, arith}
 use Rattle.std.proofs.lemmas.Option.{none-some}
-use Rattle.std.proofs.lemmas.List.{append_assoc, length-append, length-replicate, drop-append-le, length-drop, drop_all, take-replicate, replicate-append-replicate}
+use Rattle.std.proofs.lemmas.List.{append_assoc, append-nil, length-append, length-replicate, drop-append-le, length-drop, drop_all, take-replicate, replicate-append-replicate}
 use Rattle.sha1.specs.Sha1.{sha1}
 use Rattle.pieces.specs.Cuts.{cut}
 use Rattle.pieces.specs.Pieces.{pieces_of}
 use Rattle.pieces.specs.declared.cutter.Cutter.{Cutter}
 use Rattle.pieces.specs.declared.v1_feed.V1Feed.{V1Feed}
 use Rattle.pieces.specs.Cutting.{IsCutting}
-use Rattle.pieces.specs.Feeding.{IsFeedAt, IsFeedGiven, IsFirstBad}
+use Rattle.pieces.specs.Feeding.{FeedsStream, IsFeedAt, IsFeedGiven, IsFirstBad}
 use Rattle.pieces.proofs.Cutting.{last_cut, cut_count_is, cut_count_least, cut_count_none}
 use Rattle.pieces.proofs.Comparing.{first_bad_append, some_from, there_or_not}
 
@@ -93,6 +93,30 @@ fed_skipped f g pieces n content more at bad counted same_pieces same_cutter sam
       started = λ none. absurd (no none);
     }
 
+-- after a bad cut nothing runs, so that nothing is missing from the running cut
+pub given_stopped : (f : V1Feed) (pieces : List (List ℕ)) (n : ℕ) (content : List ℕ) → IsFeedAt f pieces n content → is_some f.bad ≡ true → IsFeedGiven f pieces n content
+given_stopped f pieces n content at bad = record { at = at; started = λ none. absurd (some_from f.bad bad none) }
+
+-- ---- what a feed was given, as a whole
+
+pub feeds_nothing : (f : V1Feed) → FeedsStream f [] f
+feeds_nothing f = record {
+  same_total = refl;
+  given_is = omega arith;
+  content = λ pieces n content fed. subst (IsFeedGiven f pieces n) (sym (append-nil content)) fed;
+}
+
+-- two parts are one
+pub feeds_both : (a b c : V1Feed) (x y both : List ℕ) → x ++ y ≡ both → FeedsStream a x b → FeedsStream b y c → FeedsStream a both c
+feeds_both a b c x y both joined one two = record {
+  same_total = two.same_total ∙ one.same_total;
+  given_is = omega (arith, one.given_is, two.given_is, length-append x y, ap length joined);
+  content = λ pieces n content fed.
+      subst (IsFeedGiven c pieces n) (append_assoc content x y ∙ ap (λ t. content ++ t) joined) (two.content pieces n (content ++ x) (one.content pieces n content fed));
+}
+
+-- ---- the end
+
 -- the digest of the running cut
 pub digest_of_last : (f : V1Feed) (pieces : List (List ℕ)) (n : ℕ) (content digest : List ℕ) → IsFeedAt f pieces n content → f.bad ≡ None → f.cutter.filled ≤ f.cutter.piece_length
     → digest ≡ sha1 (drop (n * f.cut) content) → digest ≡ sha1 (cut n content f.cut)
@@ -150,19 +174,16 @@ whole_none f pieces n content fed empty some = record {
 }
 
 -- some zeros more
-pub zeros_more : (content : List ℕ) (done part n : ℕ) → part ≤ n → (content ++ replicate done 0) ++ take part (replicate n 0) ≡ content ++ replicate (done + part) 0
-zeros_more content done part n h =
-    ap (λ t. (content ++ replicate done 0) ++ t) (take-replicate part n 0 h)
-    ∙ append_assoc content (replicate done 0) (replicate part 0)
-    ∙ ap (λ t. content ++ t) (replicate-append-replicate done part 0)
+pub zeros_more : (done part n : ℕ) → part ≤ n → ◌++◌ {A = ℕ} (replicate done 0) (take part (replicate n 0)) ≡ replicate (done + part) 0
+zeros_more done part n h =
+    ap (λ (t : List ℕ). replicate done 0 ++ t) (take-replicate part n 0 h)
+    ∙ replicate-append-replicate done part 0
 
 pub length-zeros : (part n : ℕ) → part ≤ n → length {A = ℕ} (take part (replicate n 0)) ≡ part
 length-zeros part n h = ap (length {A = ℕ}) (take-replicate part n 0 h) ∙ length-replicate {A = ℕ} part 0
 
 -- the rest of the zeros
-pub zeros_rest : (content : List ℕ) (done n : ℕ) → done ≤ n → (content ++ replicate done 0) ++ replicate (n - done) 0 ≡ content ++ replicate n 0
-zeros_rest content done n h =
+pub zeros_rest : (done n : ℕ) → done ≤ n → ◌++◌ {A = ℕ} (replicate done 0) (replicate (n - done) 0) ≡ replicate n 0
+zeros_rest done n h =
     let all : done + (n - done) ≡ n = omega arith in
-    append_assoc content (replicate done 0) (replicate (n - done) 0)
-    ∙ ap (λ t. content ++ t) (replicate-append-replicate done (n - done) 0)
-    ∙ ap (λ k. content ++ replicate k 0) all
+    replicate-append-replicate done (n - done) 0 ∙ ap (λ k. replicate k 0) all

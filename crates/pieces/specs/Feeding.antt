@@ -1,6 +1,6 @@
--- What a version 1 feed holds. Contracts of users cite `total`, `bytes_given` and `IsFeedGiven`
--- alone, and need nothing of how they are defined.
-use Rattle.std.specs.Prelude.{◌≡◌, ◌≢◌, ℕ, ◌*◌, ◌<◌, ◌≤◌, List, length, drop, slice_get, Option, Some, None}
+-- What a version 1 feed holds. Contracts of users need nothing of how `total`, `bytes_given` and
+-- `IsFeedGiven` are defined.
+use Rattle.std.specs.Prelude.{◌≡◌, ◌≢◌, ℕ, ◌+◌, ◌*◌, ◌<◌, ◌≤◌, ◌++◌, List, [], length, drop, slice_get, Option, Some, None}
 use Rattle.sha1.specs.Sha1.{sha1}
 use Rattle.pieces.specs.Cuts.{cut}
 use Rattle.pieces.specs.Cutting.{IsCutting}
@@ -45,3 +45,18 @@ pub record IsFeedGiven (f : V1Feed) (pieces : List (List ℕ)) (piece_length : �
     : Type 0 where
   pub at : IsFeedAt f pieces piece_length content
   pub started : f.bad ≡ None → 0 < length content → 0 < f.cutter.filled
+
+-- nothing was given yet to a feed of a stream of this length, which compares it with these pieces
+pub record BeginsStream (length_of_all : ℕ) (pieces : List (List ℕ)) (piece_length : ℕ) (f : V1Feed)
+    : Type 0 where
+  pub total_is : total f ≡ length_of_all
+  pub given_is : bytes_given f ≡ 0
+  pub content : IsFeedGiven f pieces piece_length []
+
+-- the feed was given these further bytes of the stream
+pub record FeedsStream (old : V1Feed) (bytes : List ℕ) (new : V1Feed) : Type 0 where
+  pub same_total : total new ≡ total old
+  pub given_is : bytes_given new ≡ bytes_given old + length bytes
+  pub content : (pieces : List (List ℕ)) (piece_length : ℕ) (content : List ℕ)
+      → IsFeedGiven old pieces piece_length content
+      → IsFeedGiven new pieces piece_length (content ++ bytes)

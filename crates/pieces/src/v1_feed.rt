@@ -25,15 +25,13 @@ pub struct V1Feed<'a> {
 
 impl<'a> V1Feed<'a> {
     ghost use Rattle.pieces.specs.Cutting.{IsCutting};
-    ghost use Rattle.pieces.specs.Feeding.{IsFeedAt, IsFeedGiven, IsFirstBad, bytes_given, total};
+    ghost use Rattle.pieces.specs.Feeding.{BeginsStream, FeedsStream, IsFeedAt, IsFeedGiven, IsFirstBad, bytes_given, total};
 
     /// A feed that was given nothing, for a stream of the length that the hybrid states. Condition:
     /// the piece length is above 0.
     pub fn new(v: &V1<'a>, piece_length: u64) -> V1Feed<'a>
         requires { 0 < piece_length }
-        ensures total { total result ≡ v.now.total }
-        ensures given { bytes_given result ≡ 0 }
-        ensures content { IsFeedGiven result v.now.pieces.now piece_length [] }
+        ensures { BeginsStream v.now.total v.now.pieces.now piece_length result }
     {
         V1Feed {
             pieces: v.pieces,
@@ -66,11 +64,7 @@ impl<'a> V1Feed<'a> {
     /// Takes the stream's next bytes. Condition: no more of them than are still to come.
     pub fn push(&mut self, bytes: &[u8])
         requires { bytes_given self.old + length bytes.now ≤ total self.old }
-        ensures total { total self.new ≡ total self.old }
-        ensures given { bytes_given self.new ≡ bytes_given self.old + length bytes.now }
-        ensures content { (pieces : List (List ℕ)) (piece_length : ℕ) (content : List ℕ)
-            → IsFeedGiven self.old pieces piece_length content
-            → IsFeedGiven self.new pieces piece_length (content ++ bytes.now) }
+        ensures { FeedsStream self.old bytes.now self.new }
     {
         let mut start = 0;
         'parts: while start < bytes.len() {
@@ -82,11 +76,7 @@ impl<'a> V1Feed<'a> {
     /// still to come.
     pub fn zeros(&mut self, n: u64)
         requires { bytes_given self.old + n ≤ total self.old }
-        ensures total { total self.new ≡ total self.old }
-        ensures given { bytes_given self.new ≡ bytes_given self.old + n }
-        ensures content { (pieces : List (List ℕ)) (piece_length : ℕ) (content : List ℕ)
-            → IsFeedGiven self.old pieces piece_length content
-            → IsFeedGiven self.new pieces piece_length (content ++ replicate n 0) }
+        ensures { FeedsStream self.old (replicate n 0) self.new }
     {
         let zeros = [0u8; ZEROS];
         let mut done = 0;
@@ -122,11 +112,7 @@ impl<'a> V1Feed<'a> {
         requires room { bytes_given self.old + length bytes.now ≤ total self.old }
         ensures some { 0 < result }
         ensures bound { result ≤ length bytes.now }
-        ensures total { total self.new ≡ total self.old }
-        ensures given { bytes_given self.new ≡ bytes_given self.old + result }
-        ensures content { (pieces : List (List ℕ)) (piece_length : ℕ) (content : List ℕ)
-            → IsFeedGiven self.old pieces piece_length content
-            → IsFeedGiven self.new pieces piece_length (content ++ take result bytes.now) }
+        ensures feeds { FeedsStream self.old (take result bytes.now) self.new }
     {
         self.make_room();
         if self.bad.is_some() {
@@ -172,11 +158,7 @@ impl<'a> V1Feed<'a> {
     fn skip(&mut self, n: u64)
         requires bad { is_some self.old.bad ≡ true }
         requires room { bytes_given self.old + n ≤ total self.old }
-        ensures total { total self.new ≡ total self.old }
-        ensures given { bytes_given self.new ≡ bytes_given self.old + n }
-        ensures content { (pieces : List (List ℕ)) (piece_length : ℕ) (content more : List ℕ)
-            → IsFeedAt self.old pieces piece_length content → length more ≡ n
-            → IsFeedGiven self.new pieces piece_length (content ++ more) }
+        ensures { (bytes : List ℕ) → length bytes ≡ n → FeedsStream self.old bytes self.new }
     {
         self.given += n;
     }

@@ -88,8 +88,8 @@ all-there l t content last full nodes is same =
     ap length (all-leaves l t content last full nodes is) ∙ length-leaves content ∙ ap block_count (full.length_is ∙ sym same)
 
 -- a source of the right length was read
-module _ {N : Type 0} (e : TreeEntry) (source source' : SourceSeen) (before after : Leaves N) (read : TookAll Pushes source source' e.length before after e.length)
-    (nothing : IsFedLeaves before []) (length_is : before.tree.length ≡ e.length) (some : 0 < e.length) (works : HasRefused after → ⊥) where
+module _ {N : Type 0} (e : TreeEntry) (len : ℕ) (of : len ≡ e.length) (source source' : SourceSeen) (before after : Leaves N) (read : TookAll Pushes source source' len before after len)
+    (nothing : IsFedLeaves before []) (length_is : before.tree.length ≡ len) (some : 0 < len) (works : HasRefused after → ⊥) where
   pub full : IsFull after read.bytes
   full = elim read.taken.fed [
     | inl refused ↦ absurd (works refused)
@@ -105,7 +105,7 @@ module _ {N : Type 0} (e : TreeEntry) (source source' : SourceSeen) (before afte
       let end = ends read.bytes full in (
         read.bytes,
         λ known is. all_given source source' read.bytes known read.gave read.ended is,
-        record { length_is = read.count_is; root_is = sym end.0 },
+        record { length_is = read.count_is ∙ of; root_is = sym end.0 },
         end.2,
       )
   found None ends = (

@@ -13,13 +13,13 @@ use Rattle.folders.proofs.Visiting.{agrees_opened}
 use Rattle.seeding.specs.Leaves.{ReadsLeaves}
 
 -- a source of another length
-pub other_length : {T : Type 0} (e : TreeEntry) (took : T → List ℕ → T → Type 0) (source source' : SourceSeen) (before after : T) (r : Option ℕ)
-    → ReadAll took source source' e.length before after r → (r ≡ Some e.length → ⊥) → ReadsLeaves e source.left None
-other_length e took source source' before after None read other =
+pub other_length : {T : Type 0} (e : TreeEntry) (len : ℕ) (took : T → List ℕ → T → Type 0) (source source' : SourceSeen) (before after : T) (r : Option ℕ)
+    → len ≡ e.length → ReadAll took source source' len before after r → (r ≡ Some len → ⊥) → ReadsLeaves e source.left None
+other_length e len took source source' before after None of read other =
     let longer = longer_content source.left source'.left read.0 read.1.given in
-    (longer.0, longer.2, λ fits. omega (arith, longer.1, read.2, fits.length_is))
-other_length e took source source' before after (Some count) read other =
-    (read.bytes, λ known is. all_given source source' read.bytes known read.gave read.ended is, λ fits. other (ap Some (sym read.count_is ∙ fits.length_is)))
+    (longer.0, longer.2, λ fits. omega (arith, longer.1, read.2, fits.length_is, of))
+other_length e len took source source' before after (Some count) of read other =
+    (read.bytes, λ known is. all_given source source' read.bytes known read.gave read.ended is, λ fits. other (ap Some (sym read.count_is ∙ fits.length_is ∙ sym of)))
 
 -- ---- what a shelf tells
 

@@ -11,8 +11,9 @@ use Rattle.chains.proofs.Chains.{Chain-next}
 use Rattle.metainfo.specs.Description.{FileEntry, TreeEntry}
 use Rattle.node_maps.specs.Digest.{Hash}
 use Rattle.folders.specs.Shelf.{more}
+use Rattle.folders.specs.Visits.{OpensOnce}
 use Rattle.session.specs.Session.{SessionSeen}
-use Rattle.seeding.specs.Seeding.{Fills, Finds, HasLength, OpensOnce, SeedStep, SeedsAll, SeedsTree, StopsAtFile, seed_line, seed_lines, shelf_and_session}
+use Rattle.seeding.specs.Seeding.{Fills, Finds, HasLength, SeedStep, SeedsAll, SeedsTree, StopsAtFile, seed_line, seed_lines, shelf_and_session}
 
 -- ---- lines
 
@@ -30,14 +31,14 @@ lines_more (g ∷ fs) (c ∷ told) f b same =
 module _ {S F : Type 0} (shelf : Ghosts S F) (seen : F → SourceSeen) where
   -- what was found of a file's leaves, and with how many faults
   abbrev pub Found : S → FileEntry → TreeEntry → Option (List Hash) → S → Type 0
-  Found s f e leaves s' = (k : ℕ) × (shelf.faults s' ≡ more (shelf.faults s) k) × Finds (shelf.under s f.path) e leaves k
+  Found s f e leaves s' = (k : ℕ) × (shelf.faults s' ≡ more (shelf.faults s) k) × Finds ((shelf.contents s).under f.path) e leaves k
 
   -- a file's leaves were found
   pub seeds_filled : (seeded : Bool) (s s' : S) (K K' : SessionSeen) (f : FileEntry) (n : ℕ) (e : TreeEntry) (leaves : List Hash)
       → slice_get K.torrent.trees n ≡ Some e → e.length ≡ f.length → OpensOnce shelf seen s f.path (e.length + 1) s' → Found s f e (Some leaves) s'
-      → ((p : List (List ℕ)) → shelf.under s' p ≡ shelf.under s p) → Fills K n (Some leaves) seeded K'
+      → shelf.contents s' ≡ shelf.contents s → Fills K n (Some leaves) seeded K'
       → SeedsTree shelf seen (shelf_and_session s K) f n seeded (shelf_and_session s' K')
-  seeds_filled seeded s s' K K' f n e leaves tree same visited found kept fills = record {
+  seeds_filled seeded s s' K K' f n e leaves tree same visited found stays fills = record {
     tree = e;
     tree_is = tree;
     visited = subst (λ k. OpensOnce shelf seen s f.path (k + 1) s') same visited;
@@ -45,15 +46,15 @@ module _ {S F : Type 0} (shelf : Ghosts S F) (seen : F → SourceSeen) where
     faults_in_it = found.0;
     counted = found.1;
     finds = found.2;
-    kept = kept;
+    stays = stays;
     fills = fills;
   }
 
   -- a file's leaves were not found
   pub seeds_nothing : (s s' : S) (K : SessionSeen) (f : FileEntry) (n : ℕ) (e : TreeEntry) → slice_get K.torrent.trees n ≡ Some e → e.length ≡ f.length
-      → OpensOnce shelf seen s f.path (e.length + 1) s' → Found s f e None s' → ((p : List (List ℕ)) → shelf.under s' p ≡ shelf.under s p)
+      → OpensOnce shelf seen s f.path (e.length + 1) s' → Found s f e None s' → shelf.contents s' ≡ shelf.contents s
       → SeedsTree shelf seen (shelf_and_session s K) f n false (shelf_and_session s' K)
-  seeds_nothing s s' K f n e tree same visited found kept = record {
+  seeds_nothing s s' K f n e tree same visited found stays = record {
     tree = e;
     tree_is = tree;
     visited = subst (λ k. OpensOnce shelf seen s f.path (k + 1) s') same visited;
@@ -61,18 +62,18 @@ module _ {S F : Type 0} (shelf : Ghosts S F) (seen : F → SourceSeen) where
     faults_in_it = found.0;
     counted = found.1;
     finds = found.2;
-    kept = kept;
+    stays = stays;
     fills = (refl, refl);
   }
 
   -- memory was refused while a file was read
   pub stops_reading : (s s' : S) (K : SessionSeen) (f : FileEntry) (n len : ℕ) → f.tree ≡ Some n → len ≡ f.length → OpensOnce shelf seen s f.path (len + 1) s'
-      → (shelf.faults s' ≡ shelf.faults s) × HasLength (shelf.under s f.path) len → StopsAtFile shelf seen (shelf_and_session s K) f (shelf_and_session s' K)
+      → (shelf.faults s' ≡ shelf.faults s) × HasLength ((shelf.contents s).under f.path) len → StopsAtFile shelf seen (shelf_and_session s K) f (shelf_and_session s' K)
   stops_reading s s' K f n len tree same visited (counted, long) = record {
     not_empty = λ is. none-some n (sym is ∙ tree);
     visited = subst (λ k. OpensOnce shelf seen s f.path (k + 1) s') same visited;
     counted = counted;
-    long_enough = subst (HasLength (shelf.under s f.path)) same long;
+    long_enough = subst (HasLength ((shelf.contents s).under f.path)) same long;
     stays = refl;
   }
 

@@ -2,7 +2,6 @@
 -- stands for what the shelf's type tells of its shelves, and `seen` for what its files tell.
 use Rattle.std.specs.Prelude.{◌≡◌, ◌≢◌, ◌⊎◌, ℕ, ◌+◌, ◌++◌, Bool, true, false, List, [], ◌∷◌, length, take, slice_get, codes, Option, Some, None, Result, Ok, Err}
 use Rattle.benc.specs.Device.{SourceSeen, SinkSeen, Sent, Broke, SentAndFlushed}
-use Rattle.benc.specs.declared.device.DeviceFault.{DeviceFault}
 use Rattle.chains.specs.Chain.{Chain}
 use Rattle.hashtree.specs.Tree.{layer_of}
 use Rattle.lines.specs.Cut.{Unflushed}
@@ -11,8 +10,8 @@ use Rattle.metainfo.specs.Description.{FileEntry, TreeEntry}
 use Rattle.node_maps.specs.Digest.{Hash}
 use Rattle.folders.specs.Folder.{FitsTree}
 use Rattle.folders.specs.Shelf.{more}
-use Rattle.folders.specs.TakeAll.{IsReadWithin}
 use Rattle.folders.specs.Verdicts.{Agrees}
+use Rattle.folders.specs.Visits.{OpensOnce}
 use Rattle.folders.specs.declared.shelf.Shelf.{Ghosts}
 use Rattle.partial_tree.specs.declared.refusal.HashRefusal.{HashRefusal}
 use Rattle.partial_tree.specs.declared.refusal.HashRefusal.TheVariants.{NoMemory}
@@ -21,22 +20,6 @@ use Rattle.seeding.specs.declared.seed_fault.SeedFault.{SeedFault}
 use Rattle.seeding.specs.declared.seed_fault.SeedFault.TheVariants as fault
 
 -- ---- the shelf
-
-module _ {S F : Type 0} (shelf : Ghosts S F) (seen : F → SourceSeen) where
-  -- What follows an opening that was answered so: a file was read, no more bytes than these, and
-  -- handed back; else the shelf stays.
-  abbrev pub FollowsOpening : ℕ → S → Result (Option F) DeviceFault → S → Type 0
-  FollowsOpening bound s (Ok (Some file)) s' =
-      (read : F) × IsReadWithin bound (seen file) (seen read) × shelf.closes s read s'
-  FollowsOpening bound s (Ok None) s' = s' ≡ s
-  FollowsOpening bound s (Err fault) s' = s' ≡ s
-
-  -- the path was opened once, and no more bytes than these were read
-  pub record OpensOnce (s : S) (path : List (List ℕ)) (bound : ℕ) (s' : S) : Type 0 where
-    pub answer : Result (Option F) DeviceFault
-    pub after : S
-    pub opened : shelf.opens s path answer after
-    pub follows : FollowsOpening bound after answer s'
 
 -- what stands at a path does not fit the tree: nothing, or other bytes
 abbrev pub DoesNotFit : TreeEntry → Option (List ℕ) → Type 0
@@ -97,8 +80,8 @@ module _ {S F : Type 0} (shelf : Ghosts S F) (seen : F → SourceSeen) where
     pub found : Option (List Hash)
     pub faults_in_it : ℕ
     pub counted : shelf.faults new.0 ≡ more (shelf.faults old.0) faults_in_it
-    pub finds : Finds (shelf.under old.0 f.path) tree found faults_in_it
-    pub kept : (p : List (List ℕ)) → shelf.under new.0 p ≡ shelf.under old.0 p
+    pub finds : Finds ((shelf.contents old.0).under f.path) tree found faults_in_it
+    pub stays : shelf.contents new.0 ≡ shelf.contents old.0
     pub fills : Fills old.1 n found seeded new.1
 
   -- the same by the file's tree; an empty file has none: it is not seeded, and not opened
@@ -117,7 +100,7 @@ module _ {S F : Type 0} (shelf : Ghosts S F) (seen : F → SourceSeen) where
     pub not_empty : f.tree ≢ None
     pub visited : OpensOnce shelf seen old.0 f.path (f.length + 1) new.0
     pub counted : shelf.faults new.0 ≡ shelf.faults old.0
-    pub long_enough : HasLength (shelf.under old.0 f.path) f.length
+    pub long_enough : HasLength ((shelf.contents old.0).under f.path) f.length
     pub stays : new.1 ≡ old.1
 
   -- ---- all files

@@ -108,9 +108,9 @@ pub(crate) fn read_tree<N: NodeMap, F: Source>(
     alloc: Global,
     source: &mut F,
     tree: &TreeInfo<'_>,
+    shape: Shape,
 ) -> Result<Option<GrownTree<N>>, ReadFault>
-    requires some { 0 < tree.now.length }
-    requires small { tree.now.length ≤ 2 ^ 46 }
+    requires { shape ≡ tree.now.length }
     ensures read { IfOk result (λ found. ReadsLeaves (tree_entry tree.now) (F.seen source.old).left
         (option_map (λ grown. grown.leaves) found)) }
     ensures length { IfOk result (λ found. IfSome found (λ grown.
@@ -121,16 +121,11 @@ pub(crate) fn read_tree<N: NodeMap, F: Source>(
     ensures no_further { IsReadWithin (tree.now.length + 1) (F.seen source.old)
         (F.seen source.new) }
 {
-    let mut leaves = Leaves::new(alloc, Shape::of(tree.length).unwrap());
+    let mut leaves = Leaves::new(alloc, shape);
     let mut buffer = [0u8; 65536];
-    let Ok(count) = take_all(source, tree.length, &mut buffer, &mut leaves) else {
-        return Err(ReadFault::Device);
-    };
-    if count != Some(tree.length) {
+    let length = shape.length();
+    if take_all(source, length, &mut buffer, &mut leaves)? != Some(length) {
         return Ok(None);
     }
-    match leaves.finish(&tree.root) {
-        Ok(found) => Ok(found),
-        Err(_) => Err(ReadFault::NoMemory),
-    }
+    Ok(leaves.finish(&tree.root)?)
 }

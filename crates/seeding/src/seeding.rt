@@ -5,13 +5,14 @@ ghost use Rattle.metainfo.specs.Description.{TreeEntry};
 ghost use Rattle.metainfo.specs.Seen.{file_entry, tree_entry};
 ghost use Rattle.folders.specs.Shelf.{more};
 ghost use Rattle.folders.specs.Verdicts.{IsFileOf};
-ghost use Rattle.seeding.specs.Seeding.{Fills, Finds, HasLength, OpensOnce, SeedStep, Seeds, SeedsFiles, SeedsTree, StopsAtFile, seed_line, seed_words, shelf_and_session};
+ghost use Rattle.folders.specs.Visits.{OpensOnce};
+ghost use Rattle.seeding.specs.Seeding.{Fills, Finds, HasLength, SeedStep, Seeds, SeedsFiles, SeedsTree, StopsAtFile, seed_line, seed_words, shelf_and_session};
 
 use crate::leaves::read_tree;
 use crate::seed_fault::SeedFault;
 use benc::{DeviceFault, Sink, write_all};
 use folders::{ReadFault, Shelf};
-use hashtree::NoMemory;
+use hashtree::{NoMemory, Shape};
 use lines::write_path;
 use metainfo::{File, TreeInfo};
 use partial_tree::GrownTree;
@@ -42,10 +43,8 @@ pub fn seed<N: NodeMap, S: Shelf, W: Sink>(
         (W.seen report.old) (W.seen report.new) result }
 {
     seed_files(alloc, session, shelf, report)?;
-    match report.flush() {
-        Ok(()) => Ok(()),
-        Err(_) => Err(SeedFault::Write),
-    }
+    report.flush()?;
+    Ok(())
 }
 
 // Seeds from each file in turn, and writes its line.
@@ -62,12 +61,8 @@ fn seed_files<N: NodeMap, S: Shelf, W: Sink>(
     let torrent = session.torrent();
     let entries = torrent.files();
     'files: for file in entries {
-        let Ok(seeded) = seed_file(alloc, session, shelf, file) else {
-            return Err(SeedFault::NoMemory);
-        };
-        let Ok(()) = write_line_of(report, file, seeded) else {
-            return Err(SeedFault::Write);
-        };
+        let seeded = seed_file(alloc, session, shelf, file)?;
+        write_line_of(report, file, seeded)?;
     }
     Ok(())
 }
@@ -92,14 +87,9 @@ fn seed_file<N: NodeMap, S: Shelf>(
     torrent.sound();
     match file.tree {
         Some(number) => {
-            seed_tree(
-                alloc,
-                session,
-                shelf,
-                file,
-                number,
-                &torrent.trees()[number],
-            )
+            let tree = &torrent.trees()[number];
+            let shape = Shape::of(tree.length).unwrap();
+            seed_tree(alloc, session, shelf, file, number, tree, shape)
         }
         None => Ok(false),
     }
@@ -113,12 +103,12 @@ fn seed_tree<N: NodeMap, S: Shelf>(
     file: &File<'_>,
     number: usize,
     tree: &TreeInfo<'_>,
+    shape: Shape,
 ) -> Result<bool, NoMemory>
     requires number { file.now.tree ≡ Some number }
     requires tree { slice_get session.old.torrent.trees number ≡ Some (tree_entry tree.now) }
+    requires shape { shape ≡ tree.now.length }
     requires same { tree.now.length ≡ file.now.length }
-    requires some { 0 < tree.now.length }
-    requires small { tree.now.length ≤ 2 ^ 46 }
     ensures seeds { IfOk result (λ seeded. SeedsTree S.Shelf S.File.seen
         (shelf_and_session shelf.old session.old) (file_entry file.now) number seeded
         (shelf_and_session shelf.new session.new)) }
@@ -127,10 +117,7 @@ fn seed_tree<N: NodeMap, S: Shelf>(
         (shelf_and_session shelf.new session.new)) }
     ensures torrent { session.new.torrent ≡ session.old.torrent }
 {
-    let Ok(found) = find_tree(alloc, shelf, file, tree) else {
-        return Err(NoMemory);
-    };
-    match found {
+    match find_tree(alloc, shelf, file, tree, shape)? {
         Some(grown) => Ok(take_over(session, number, grown)),
         None => Ok(false),
     }
@@ -143,23 +130,23 @@ fn find_tree<N: NodeMap, S: Shelf>(
     shelf: &mut S,
     file: &File<'_>,
     tree: &TreeInfo<'_>,
+    shape: Shape,
 ) -> Result<Option<GrownTree<N>>, NoMemory>
-    requires some { 0 < tree.now.length }
-    requires small { tree.now.length ≤ 2 ^ 46 }
+    requires { shape ≡ tree.now.length }
     ensures visited { OpensOnce S.Shelf S.File.seen shelf.old file.now.path (tree.now.length + 1)
         shelf.new }
     ensures found { IfOk result (λ grown. (n : ℕ)
         × (S.faults shelf.new ≡ more (S.faults shelf.old) n)
-        × Finds (S.under shelf.old file.now.path) (tree_entry tree.now)
+        × Finds ((S.contents shelf.old).under file.now.path) (tree_entry tree.now)
         (option_map (λ t. t.leaves) grown) n) }
     ensures length { IfOk result (λ grown. IfSome grown (λ t. t.length ≡ tree.now.length)) }
     ensures no_memory { OnErr result ((S.faults shelf.new ≡ S.faults shelf.old)
-        × HasLength (S.under shelf.old file.now.path) tree.now.length) }
-    ensures kept { (p : List (List ℕ)) → S.under shelf.new p ≡ S.under shelf.old p }
+        × HasLength ((S.contents shelf.old).under file.now.path) tree.now.length) }
+    ensures stays { S.contents shelf.new ≡ S.contents shelf.old }
 {
     match shelf.open(&file.path.parts()) {
         Ok(Some(mut source)) => {
-            let read = read_tree(alloc, &mut source, tree);
+            let read = read_tree(alloc, &mut source, tree, shape);
             shelf.close(source);
             match read {
                 Ok(grown) => Ok(grown),

@@ -105,13 +105,9 @@ impl<'a> MemShelf<'a> {
 impl<'a> Shelf for MemShelf<'a> {
     type File = MemSource<'a>;
 
-    ghost use Rattle.folders.specs.MemShelf.{content_under, listing_of};
-    ghost use Rattle.folders.specs.MemShelfCalls.{Closes, Lists, OpensFile, seen_of};
+    ghost use Rattle.folders.specs.MemShelfCalls.{Closes, Lists, OpensFile, contents_of, seen_of};
 
-    ghost under = { λ s p. Some (content_under (seen_of s).files p) };
-
-    ghost listing = { λ s. Some (listing_of (seen_of s).files
-        (seen_of s).has_odd_name (seen_of s).specials) };
+    ghost contents = { λ s. contents_of (seen_of s) };
 
     ghost lists = { λ s r t. Lists (seen_of s) r (seen_of t) };
 

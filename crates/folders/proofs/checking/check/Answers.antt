@@ -9,7 +9,7 @@ use Rattle.metainfo.specs.Seen.{file_entry, version1}
 use Rattle.folders.specs.Pass.{FindsVerdict}
 use Rattle.chains.specs.Chain.{Chain}
 use Rattle.chains.proofs.Chains.{Chain-next}
-use Rattle.folders.specs.Shelf.{more}
+use Rattle.folders.specs.Shelf.{ShelfContents, more}
 use Rattle.folders.specs.Visits.{Visits}
 use Rattle.folders.specs.Verdicts.{IsV1Verdict, TellsContents, is_checked, is_unreadable, is_whole, unreadable_count}
 use Rattle.folders.proofs.Counts.{unreadable_push, more_none}
@@ -39,7 +39,7 @@ files-init g c = record {
   room = search rules;
   counted = search rules;
   visited = search rules;
-  kept = λ p. refl;
+  stays = refl;
   passed = search rules;
   found = record {
     seen = [];
@@ -58,10 +58,10 @@ files-preserved g c =
     let old = c.files.stream.feed in
     let new = c.check_file.new.stream.feed in
     let v = c.check_file.result in
-    let under = g.S.Shelf.under c.args.shelf.now in
+    let under = (g.S.Shelf.contents c.args.shelf.now).under in
     let there = file_there t c.files-entries.result.now n c.file-item.result c.files-entries.ensures c.files-test.true c.file-item.is in
     let pushed = sym c.push_reserved.ensures.items in
-    let found : FindsVerdict t f (under f.path) old new v = subst (λ told. FindsVerdict t f told old new v) (c.files.invariant.kept f.path) c.check_file.ensures.found in
+    let found : FindsVerdict t f (under f.path) old new v = subst (λ (on : ShelfContents). FindsVerdict t f (on.under f.path) old new v) c.files.invariant.stays c.check_file.ensures.found in
     record {
       room = omega (arith, c.files.invariant.room, c.push_reserved.ensures.capacity);
       counted = subst (λ xs. g.S.Shelf.faults c.check_file.new.shelf ≡ more (g.S.Shelf.faults c.args.shelf.now) (unreadable_count xs)) pushed
@@ -71,7 +71,7 @@ files-preserved g c =
           (Chain-next (Visits g.S.Shelf g.S.File.Source.seen) c.args.shelf.now c.files.shelf c.check_file.new.shelf t.files n c.files.files.items f v
           (slice_get_within t.files n f there) c.files.invariant.visited
           (subst (λ h. Visits g.S.Shelf g.S.File.Source.seen c.files.shelf h v c.check_file.new.shelf) (sym (get_or_from_slice_get t.files n f f there)) c.check_file.ensures.visits));
-      kept = λ p. c.check_file.ensures.kept p ∙ c.files.invariant.kept p;
+      stays = c.check_file.ensures.stays ∙ c.files.invariant.stays;
       passed = subst (λ xs. IsPassed t (n + 1) xs new) pushed
           (passed_one t n c.files.files.items v f (under f.path) old new c.sound.ensures there found c.files.invariant.passed);
       found = subst (λ xs. HasFound t under (n + 1) xs new) pushed
@@ -125,7 +125,7 @@ returns-clause-tells g c =
     let has = returns-clause-verdicts g c in
     record {
       contents = contents;
-      agree = contents_agree t (g.S.Shelf.under c.args.shelf.now) c.files.file-index files c.files.stream.feed all found;
+      agree = contents_agree t (g.S.Shelf.contents c.args.shelf.now).under c.files.file-index files c.files.stream.feed all found;
       tells = tells;
       sure = yes_is_sure t contents files c.match-v1.v1 has tells;
       enough = good_is_enough t contents files c.match-v1.v1 c.sound.ensures has tells;

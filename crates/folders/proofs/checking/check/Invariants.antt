@@ -1,4 +1,4 @@
-use Rattle.std.proofs.Common.{◌≡◌, ◌≤◌, ℕ, List, length, take, vec_capacity}
+use Rattle.std.proofs.Common.{◌≡◌, ◌≤◌, length, take, vec_capacity}
 use Rattle.chains.specs.Chain.{Chain}
 use Rattle.folders.specs.Shelf.{more}
 use Rattle.folders.specs.Visits.{Visits}
@@ -12,7 +12,7 @@ invariant-files g l = record {
   room : length l.entries ≤ vec_capacity l.files;
   counted : g.S.Shelf.faults l.shelf ≡ more (g.S.Shelf.faults l.fn.shelf) (unreadable_count l.files.items);
   visited : Chain (Visits g.S.Shelf g.S.File.Source.seen) l.fn.shelf (take l.file-index l.torrent.files) l.files.items l.shelf;
-  kept : (p : List (List ℕ)) → g.S.Shelf.under l.shelf p ≡ g.S.Shelf.under l.fn.shelf p;
+  stays : g.S.Shelf.contents l.shelf ≡ g.S.Shelf.contents l.fn.shelf;
   passed : IsPassed l.torrent l.file-index l.files.items l.stream.feed;
-  found : HasFound l.torrent (g.S.Shelf.under l.fn.shelf) l.file-index l.files.items l.stream.feed;
+  found : HasFound l.torrent (g.S.Shelf.contents l.fn.shelf).under l.file-index l.files.items l.stream.feed;
 }

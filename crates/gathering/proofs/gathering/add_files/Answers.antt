@@ -11,7 +11,7 @@ paths-init g c = record {
   piece_length = c.requires.piece_length;
   hybrid = c.requires.hybrid;
   capacity = refl;
-  kept = λ p. refl;
+  stays = refl;
   so_far = gathered_none g.S.Shelf g.S.File.Source.seen _ c.args.shelf.now;
 }
 
@@ -39,10 +39,10 @@ paths-preserved g c =
       piece_length = adds.2.added.piece_length ∙ c.paths.invariant.piece_length;
       hybrid = adds.2.added.hybrid ∙ c.paths.invariant.hybrid;
       capacity = c.put_parts.ensures.no_memory ∙ c.paths.invariant.capacity;
-      kept = λ p. c.in_default.ensures.kept p ∙ c.paths.invariant.kept p;
+      stays = c.in_default.ensures.stays ∙ c.paths.invariant.stays;
       so_far = gathered_more g.S.Shelf g.S.File.Source.seen _ _ _ _ (map path_bytes c.args.paths.now) c.paths.number _ adds.0 _ _
           (item_of path_bytes c.args.paths.now c.paths.number _ inside ∙ ap Some (ap (λ v. path_bytes v) (sym is) ∙ sym (ap (map string_bytes) c.deref.ensures.value) ∙ sym seen))
-          c.paths.invariant.so_far adds.1 adds.2 c.in_default.ensures.kept;
+          c.paths.invariant.so_far adds.1 adds.2 c.in_default.ensures.stays;
     }
 
 pub returns-clause-adds : goal.returns-clause-adds

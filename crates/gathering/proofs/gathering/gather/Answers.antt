@@ -11,14 +11,14 @@ pub returns-in-Ok-add_files-clause-gathers : goal.returns-in-Ok-add_files-clause
 returns-in-Ok-add_files-clause-gathers g c =
     let sorted = listed_as g.S.Shelf c.args.shelf.now _ c.in-Ok-list.paths c.sort_unstable.new.self.items c.in-Ok-list.ensures.lists c.in-Ok-list.ensures.listed c.sort_unstable.ensures.permutation c.sort_unstable.ensures.sorted in
     gathers_all g.S.Shelf g.S.File.Source.seen (empty_outline c.args.name.now c.args.piece_length c.args.hybrid) c.args.shelf.now _ _
-    c.sort_unstable.new.self.items _ c.in-Ok.ensures.empty.0 sorted c.in-Ok-list.ensures.counts c.list.ensures.kept
+    c.sort_unstable.new.self.items _ c.in-Ok.ensures.empty.0 sorted c.in-Ok-list.ensures.counts c.list.ensures.stays
     (rw c.in-Ok.ensures.empty.1 at rw c.deref-2.ensures.value at c.in-Ok-add_files.ensures.adds)
 
 pub returns-in-Err-add_files-clause-gathers : goal.returns-in-Err-add_files-clause-gathers
 returns-in-Err-add_files-clause-gathers g c =
     let sorted = listed_as g.S.Shelf c.args.shelf.now _ c.in-Ok-list.paths c.sort_unstable.new.self.items c.in-Ok-list.ensures.lists c.in-Ok-list.ensures.listed c.sort_unstable.ensures.permutation c.sort_unstable.ensures.sorted in
     stopped_at g.S.Shelf g.S.File.Source.seen (empty_outline c.args.name.now c.args.piece_length c.args.hybrid) c.args.shelf.now _ _
-    c.sort_unstable.new.self.items c.in-Err-add_files.stop c.swap_remove.result _ c.in-Ok.ensures.empty.0 sorted c.in-Ok-list.ensures.counts c.list.ensures.kept
+    c.sort_unstable.new.self.items c.in-Err-add_files.stop c.swap_remove.result _ c.in-Ok.ensures.empty.0 sorted c.in-Ok-list.ensures.counts c.list.ensures.stays
     (rw c.in-Ok.ensures.empty.1 at rw c.deref-2.ensures.value at c.in-Err-add_files.ensures.adds)
     c.swap_remove.ensures.value c.at-in-Err-add_files.ensures
 
@@ -33,7 +33,7 @@ returns-in_default-with_capacity-clause-gathers g c =
       listing_is = listed_as g.S.Shelf c.args.shelf.now _ c.in-Ok-list.paths c.sort_unstable.new.self.items c.in-Ok-list.ensures.lists c.in-Ok-list.ensures.listed c.sort_unstable.ensures.permutation c.sort_unstable.ensures.sorted;
       some = subst HasComponents (ap (map path_bytes) c.deref.ensures.value) (c.longest.ensures.some (positive c.longest.result (λ none. let is : _ = c.in_default-with_capacity.ensures.succeeds none in let no : ⊥ = cc in no)));
       quiet = c.in-Ok-list.ensures.counts;
-      kept = c.list.ensures.kept;
+      stays = c.list.ensures.stays;
     }))
 
 pub swap_remove-requires : goal.swap_remove-requires

@@ -1,6 +1,7 @@
 use Rattle.std.proofs.Common.{[], ap, subst, ◌∙◌, rules}
 use Rattle.metainfo.specs.Seen.{file_entry}
 use Rattle.metainfo.specs.Sound.{IsSound}
+use Rattle.folders.proofs.Layers.{unwrapped}
 use Rattle.seeding.proofs.Trees.{found_tree}
 use Rattle.seeding.proofs.seeding.seed_file.Goals as goal
 
@@ -22,12 +23,11 @@ seed_tree-requires-clause-same g c =
     (found_tree c.args.session.now.torrent (file_entry c.args.file.now) c.in-Some.number c.trees.result.now _
     (c.trees.ensures ∙ ap (λ t. t.trees) c.torrent-torrent.ensures) (subst IsSound c.torrent-torrent.ensures c.sound.ensures) c.requires c.in-Some.is).1.same
 
-pub seed_tree-requires-clause-some : goal.seed_tree-requires-clause-some
-seed_tree-requires-clause-some g c =
-    (found_tree c.args.session.now.torrent (file_entry c.args.file.now) c.in-Some.number c.trees.result.now _
-    (c.trees.ensures ∙ ap (λ t. t.trees) c.torrent-torrent.ensures) (subst IsSound c.torrent-torrent.ensures c.sound.ensures) c.requires c.in-Some.is).1.some
+pub unwrap-shape-requires : goal.unwrap-shape-requires
+unwrap-shape-requires g c =
+    let at = (found_tree c.args.session.now.torrent (file_entry c.args.file.now) c.in-Some.number c.trees.result.now _
+    (c.trees.ensures ∙ ap (λ t. t.trees) c.torrent-torrent.ensures) (subst IsSound c.torrent-torrent.ensures c.sound.ensures) c.requires c.in-Some.is).1 in
+    c.of.ensures.some.1 (at.some, at.small)
 
-pub seed_tree-requires-clause-small : goal.seed_tree-requires-clause-small
-seed_tree-requires-clause-small g c =
-    (found_tree c.args.session.now.torrent (file_entry c.args.file.now) c.in-Some.number c.trees.result.now _
-    (c.trees.ensures ∙ ap (λ t. t.trees) c.torrent-torrent.ensures) (subst IsSound c.torrent-torrent.ensures c.sound.ensures) c.requires c.in-Some.is).1.small
+pub seed_tree-requires-clause-shape : goal.seed_tree-requires-clause-shape
+seed_tree-requires-clause-shape g c = unwrapped c.of.result c.unwrap-shape.result _ c.unwrap-shape.ensures c.of.ensures.value

@@ -2,6 +2,8 @@ use Rattle.std.proofs.Common.{ap, sym, ◌∙◌}
 use Rattle.std.proofs.lemmas.Option.{same_Some, slice_get_within}
 use Rattle.metainfo.specs.Description.{TreeEntry}
 use Rattle.metainfo.specs.Seen.{file_entry, tree_entry}
+use Rattle.benc.proofs.Known.{OnErr_anyway}
+use Rattle.seeding.specs.Seeding.{StopsAtFile, shelf_and_session}
 use Rattle.seeding.proofs.Seeds.{seeds_filled, seeds_nothing, stops_reading}
 use Rattle.seeding.proofs.seeding.seed_tree.Goals as goal
 
@@ -10,20 +12,22 @@ take_over-requires-clause-inside g c = slice_get_within c.args.session.now.torre
 
 pub take_over-requires-clause-length : goal.take_over-requires-clause-length
 take_over-requires-clause-length g c =
-    λ e there. (rw c.in-Some.is at c.in-Ok.ensures.length) ∙ ap (λ (x : TreeEntry). x.length) (same_Some (tree_entry c.args.tree.now) e (sym c.requires.tree ∙ there))
+    λ e there. (rw c.in-Some.is at c.in_ok-grown.ensures.length) ∙ ap (λ (x : TreeEntry). x.length) (same_Some (tree_entry c.args.tree.now) e (sym c.requires.tree ∙ there))
 
-pub returns-in_default-clause-no_memory : goal.returns-in_default-clause-no_memory
-returns-in_default-clause-no_memory g c =
-    stops_reading g.S.Shelf g.S.File.Source.seen _ _ c.args.session.now (file_entry c.args.file.now) c.args.number _
-    c.requires.number c.requires.same c.find_tree.ensures.visited (rw c.in_default.is at c.find_tree.ensures.no_memory)
+pub returns-in_err-grown-clause-no_memory : goal.returns-in_err-grown-clause-no_memory
+returns-in_err-grown-clause-no_memory g c =
+    OnErr_anyway (StopsAtFile g.S.Shelf g.S.File.Source.seen (shelf_and_session c.args.shelf.now c.args.session.now) (file_entry c.args.file.now)
+    (shelf_and_session c.find_tree.new.shelf c.args.session.now)) c.from_residual.result
+    (stops_reading g.S.Shelf g.S.File.Source.seen _ _ c.args.session.now (file_entry c.args.file.now) c.args.number _
+    c.requires.number c.requires.same c.find_tree.ensures.visited c.in_err-grown.ensures.no_memory)
 
 pub returns-in-Some-clause-seeds : goal.returns-in-Some-clause-seeds
 returns-in-Some-clause-seeds g c =
     seeds_filled g.S.Shelf g.S.File.Source.seen c.take_over.result _ _ c.args.session.now _ (file_entry c.args.file.now) c.args.number
-    (tree_entry c.args.tree.now) _ c.requires.tree c.requires.same c.find_tree.ensures.visited (rw c.in-Some.is at c.in-Ok.ensures.found) c.find_tree.ensures.kept
+    (tree_entry c.args.tree.now) _ c.requires.tree c.requires.same c.find_tree.ensures.visited (rw c.in-Some.is at c.in_ok-grown.ensures.found) c.find_tree.ensures.stays
     c.take_over.ensures.fills
 
 pub returns-in-None-clause-seeds : goal.returns-in-None-clause-seeds
 returns-in-None-clause-seeds g c =
     seeds_nothing g.S.Shelf g.S.File.Source.seen _ _ c.args.session.now (file_entry c.args.file.now) c.args.number
-    (tree_entry c.args.tree.now) c.requires.tree c.requires.same c.find_tree.ensures.visited (rw c.in-None.is at c.in-Ok.ensures.found) c.find_tree.ensures.kept
+    (tree_entry c.args.tree.now) c.requires.tree c.requires.same c.find_tree.ensures.visited (rw c.in-None.is at c.in_ok-grown.ensures.found) c.find_tree.ensures.stays

@@ -1,23 +1,33 @@
 use Rattle.std.proofs.Common.{arith, drop, take, ◌+◌, ◌-◌, ◌∙◌, ◌≡◌, ap, sym, length, subst, ◌++◌}
-use Rattle.std.proofs.lemmas.List.{append_assoc, take_rest, length-drop}
+use Rattle.std.proofs.lemmas.List.{take_all, take_rest, length-drop, length-take-le}
 use Rattle.std.proofs.Math.Seq.{take-add}
-use Rattle.pieces.specs.Feeding.{IsFeedGiven}
+use Rattle.pieces.specs.Feeding.{FeedsStream}
+use Rattle.pieces.proofs.Fed.{feeds_both, feeds_nothing}
 use Rattle.pieces.proofs.v1_feed.V1Feed.push.Goals as goal
+
+pub take_part-start-requires-clause-room : goal.take_part-start-requires-clause-room
+take_part-start-requires-clause-room c =
+    let bytes = c.args.bytes.now in
+    let start = c.parts.start in
+    let feeds = c.parts.invariant.feeds in
+    omega (arith, c.requires, feeds.given_is, feeds.same_total, c.parts.invariant.within, length-take-le start bytes c.parts.invariant.within, ap length (take_rest bytes start), length-drop start bytes)
+
+pub parts-init : goal.parts-init
+parts-init c = record { within = omega arith; feeds = feeds_nothing c.args.self.now }
 
 pub parts-preserved : goal.parts-preserved
 parts-preserved c =
     let bytes = c.args.bytes.now in
     let start = c.parts.start in
     let taken = c.take_part-start.result in
+    let rest = take (length bytes - start) (drop start bytes) in
+    let joined : take start bytes ++ take taken rest ≡ take (start + taken) bytes =
+    ap (λ t. take start bytes ++ take taken t) (take_rest bytes start) ∙ sym (take-add start taken bytes) in
     record {
       within = omega (arith, c.take_part-start.ensures.bound, ap length (take_rest bytes start), length-drop start bytes);
-      total = c.take_part-start.ensures.total ∙ c.parts.invariant.total;
-      given = omega (arith, c.take_part-start.ensures.given, c.parts.invariant.given);
-      content = λ pieces piece_length content fed.
-          let joined : (content ++ take start bytes) ++ take taken (take (length bytes - start) (drop start bytes)) ≡ content ++ take (start + taken) bytes =
-          append_assoc content (take start bytes) (take taken (take (length bytes - start) (drop start bytes)))
-          ∙ ap (λ t. content ++ (take start bytes ++ take taken t)) (take_rest bytes start)
-          ∙ ap (λ t. content ++ t) (sym (take-add start taken bytes)) in
-          subst (IsFeedGiven c.take_part-start.new.self pieces piece_length) joined
-          (c.take_part-start.ensures.content pieces piece_length (content ++ take start bytes) (c.parts.invariant.content pieces piece_length content fed));
+      feeds = feeds_both c.args.self.now c.parts.self c.take_part-start.new.self (take start bytes) (take taken rest) _ joined
+          c.parts.invariant.feeds c.take_part-start.ensures.feeds;
     }
+
+pub returns : goal.returns
+returns c = subst (λ part. FeedsStream c.args.self.now part c.parts.self) (take_all c.parts.start c.args.bytes.now (omega arith)) c.parts.invariant.feeds

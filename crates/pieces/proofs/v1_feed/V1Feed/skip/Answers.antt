@@ -2,6 +2,11 @@ use Rattle.std.proofs.Common.{refl, ap, sym, ◌+◌}
 use Rattle.pieces.proofs.Fed.{fed_skipped}
 use Rattle.pieces.proofs.v1_feed.V1Feed.skip.Goals as goal
 
-pub returns-clause-content : goal.returns-clause-content
-returns-clause-content c = λ pieces n content more at counted.
-    fed_skipped c.args.self.now _ pieces n content more at c.requires.bad (ap (λ k. c.args.self.now.given + k) (sym counted)) refl refl refl refl
+pub returns : goal.returns
+returns c = λ bytes counted.
+    let given = ap (λ k. c.args.self.now.given + k) (sym counted) in
+    record {
+      same_total = refl;
+      given_is = given;
+      content = λ pieces n content fed. fed_skipped c.args.self.now _ pieces n content bytes fed.at c.requires.bad given refl refl refl refl;
+    }

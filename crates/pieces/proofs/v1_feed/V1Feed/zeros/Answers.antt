@@ -1,8 +1,23 @@
-use Rattle.std.proofs.Common.{arith, ◌≤◌, ◌-◌, ℕ, replicate, subst, ◌++◌, ◌∙◌}
+use Rattle.std.proofs.Common.{arith, ◌≡◌, ◌≤◌, ◌-◌, ℕ, replicate, subst, take}
 use Rattle.std.proofs.lemmas.List.{length-replicate}
-use Rattle.pieces.specs.Feeding.{IsFeedGiven}
-use Rattle.pieces.proofs.Fed.{length-zeros, zeros_more, zeros_rest}
+use Rattle.pieces.specs.Feeding.{FeedsStream}
+use Rattle.pieces.proofs.Fed.{feeds_both, feeds_nothing, length-zeros, zeros_more, zeros_rest}
 use Rattle.pieces.proofs.v1_feed.V1Feed.zeros.Goals as goal
+
+pub parts-init : goal.parts-init
+parts-init c = record { within = omega arith; feeds = feeds_nothing c.args.self.now }
+
+pub skip-requires-clause-room : goal.skip-requires-clause-room
+skip-requires-clause-room c =
+    let feeds = c.parts.invariant.feeds in
+    omega (arith, c.requires, c.parts.invariant.within, feeds.given_is, feeds.same_total, length-replicate {A = ℕ} c.parts.done 0)
+
+pub push-requires : goal.push-requires
+push-requires c =
+    let feeds = c.parts.invariant.feeds in
+    let part = c.min-part.result in
+    let bound : part ≤ 16384 = omega (arith, c.min-part.ensures) in
+    omega (arith, c.requires, c.min-part.ensures, feeds.given_is, feeds.same_total, length-replicate {A = ℕ} c.parts.done 0, length-zeros part 16384 bound)
 
 pub parts-preserved : goal.parts-preserved
 parts-preserved c =
@@ -11,17 +26,18 @@ parts-preserved c =
     let bound : part ≤ 16384 = omega (arith, c.min-part.ensures) in
     record {
       within = omega (arith, c.min-part.ensures);
-      total = c.push.ensures.total ∙ c.parts.invariant.total;
-      given = omega (arith, c.push.ensures.given, c.parts.invariant.given, length-zeros part 16384 bound);
-      content = λ pieces n content fed.
-          subst (IsFeedGiven c.push.new.self pieces n) (zeros_more content done part 16384 bound)
-          (c.push.ensures.content pieces n (content ++ replicate done 0) (c.parts.invariant.content pieces n content fed));
+      feeds = feeds_both c.args.self.now c.parts.self c.push.new.self (replicate done 0) (take part (replicate 16384 0)) _ (zeros_more done part 16384 bound)
+          c.parts.invariant.feeds c.push.ensures;
     }
 
-pub returns-then-is_some-clause-content : goal.returns-then-is_some-clause-content
-returns-then-is_some-clause-content c = λ pieces n content fed.
+pub returns-then-is_some : goal.returns-then-is_some
+returns-then-is_some c =
     let done = c.parts.done in
     let rest = c.args.n - done in
-    subst (IsFeedGiven c.skip.new.self pieces n) (zeros_rest content done c.args.n c.parts.invariant.within)
-    (c.skip.ensures.content pieces n (content ++ replicate done 0) (replicate rest 0)
-    (c.parts.invariant.content pieces n content fed).at (length-replicate {A = ℕ} rest 0))
+    feeds_both c.args.self.now c.parts.self c.skip.new.self (replicate done 0) (replicate rest 0) _ (zeros_rest done c.args.n c.parts.invariant.within)
+    c.parts.invariant.feeds (c.skip.ensures (replicate rest 0) (length-replicate {A = ℕ} rest 0))
+
+pub returns : goal.returns
+returns c =
+    let all : c.parts.done ≡ c.args.n = omega (arith, c.parts.invariant.within) in
+    subst (λ k. FeedsStream c.args.self.now (replicate k 0) c.parts.self) all c.parts.invariant.feeds
