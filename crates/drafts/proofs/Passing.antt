@@ -55,7 +55,7 @@ clash_first d f passed tie =
     )
 
 -- what is given of a file fits, since digests have their lengths
-lengths_are : (width : ℕ) (hs : List (List ℕ)) → All (λ h. length h ≡ width) hs → AreOfLength width hs
+pub lengths_are : (width : ℕ) (hs : List (List ℕ)) → All (λ h. length h ≡ width) hs → AreOfLength width hs
 lengths_are width [] all = tt
 lengths_are width (h ∷ hs) all = (all 0 h (omega arith), lengths_are width hs (λ i d low. all (suc i) d (omega arith)))
 

@@ -49,7 +49,7 @@ impl<'v, 'a> Layers<'v, 'a> {
             ≡ layer_at piece_length (layer_pairs self.now) tree.now }
     {
         match self.under(&tree.root) {
-            Some(value) => digests::<32>(value, piece_length.pieces(tree.length)),
+            Some(value) => digests(value, piece_length.pieces(tree.length)),
             None => None,
         }
     }

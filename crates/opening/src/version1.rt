@@ -43,7 +43,7 @@ pub(crate) fn version1<'a>(
         return Ok(None);
     };
     let total = stream(info, name, files, piece_length)?;
-    let Some(pieces) = digests::<20>(pieces, piece_length.pieces(total)) else {
+    let Some(pieces) = digests(pieces, piece_length.pieces(total)) else {
         return Err(Refusal::HybridPieces);
     };
     Ok(Some(V1 { pieces, total }))
