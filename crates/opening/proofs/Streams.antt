@@ -1,11 +1,10 @@
 -- The three tests of a hybrid's version 1 part, by the stream's length as it is read.
-use Rattle.std.proofs.Common.{zero-add, zero-mul, inl, inr, ◌⊎◌, ◌≡◌, ◌≢◌, ℕ, zero, suc, ◌+◌, ◌-◌, ◌*◌, ◌<◌, ◌≤◌, ◌^◌, Bool, true, false, ◌&&◌, ◌||◌, if◌then◌else◌, nat_lt, is_some, is_none, List, [], ◌∷◌, take, map, Option, Some, None, option_and_then, unwrap_or, Result, Ok, Err, refl, sym, ap, ◌∙◌, subst, arith, codes, slice_get, sum_by, IsTrue}
+use Rattle.std.proofs.Common.{zero-add, zero-mul, inl, inr, ◌⊎◌, ◌≡◌, ◌≢◌, ℕ, zero, suc, ◌*◌, ◌<◌, ◌≤◌, ◌^◌, Bool, true, false, ◌&&◌, ◌||◌, if◌then◌else◌, nat_lt, is_some, is_none, List, [], ◌∷◌, take, map, Option, Some, None, option_and_then, unwrap_or, Result, Ok, Err, refl, sym, ap, ◌∙◌, subst, arith, codes, slice_get, sum_by, IsTrue}
 use Rattle.opening.proofs.Placing.{pieces_cover}
 use Rattle.std.specs.List.{list_any}
 use Rattle.std.proofs.lemmas.Slice.Eq.{bytes_eq-Decides}
 use Rattle.std.proofs.lemmas.Bool.{and_from, and_parts}
 use borrow.Author.Tests.{ltb-true}
-use Rattle.std.proofs.Math.Nat.{lt-div-mul-add}
 use Rattle.benc.specs.Value.{Bencode, int, text, list, dict, Items}
 use Rattle.opening.specs.Description.{FileEntry, Version1}
 use Rattle.filetree.specs.Dictionary.{get, as_list}

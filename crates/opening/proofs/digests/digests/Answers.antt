@@ -1,4 +1,4 @@
-use Rattle.std.proofs.Common.{◌≡◌, ◌==◌, ◌%◌, ◌*◌, ◌/◌, ◌<◌, ℕ, true, false, List, None, length, inl, inr, refl, sym, ap, ◌∙◌}
+use Rattle.std.proofs.Common.{◌≡◌, ◌==◌, ◌%◌, ◌*◌, ◌/◌, ◌<◌, ℕ, true, false, List, None, length, refl, sym, ap, ◌∙◌}
 use Rattle.std.proofs.Math.Nat.{mul-div_cancel_left, mul-mod_right}
 use Rattle.std.proofs.lemmas.Bool.{false≢true, ne_eqb}
 use Rattle.benc.proofs.Values.{view-Bytes}
