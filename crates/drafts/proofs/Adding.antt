@@ -224,7 +224,7 @@ own_layer d f layer place o t given long =
       layer = has.0;
       there = number.1;
       is = elim has.3 [
-        | inl same ↦ subst (λ x. IsLayerOf d.piece_length x f) same (given.fits long)
+        | inl same ↦ subst (λ x. IsLayerOf d.piece_length x f) same (given.may.fits long)
         | inr old ↦
             let used = o.layers_used old.0 has.0 old.1 in
             let root : used.1.root ≡ f.root = sym used.4.root ∙ has.2 in
@@ -243,7 +243,7 @@ made_outline d f layer place o t given order = record {
     | inr old ↦ o.files old.0 g old.1
   ];
   cuts = λ n g at hybrid some. elim (put_back place f d.files n g at) [
-    | inl same ↦ subst (λ (x : OutlineFile). length x.cuts ≡ pieces_of d.piece_length x.length) same (given.cuts hybrid (subst (λ (x : OutlineFile). 0 < x.length) (sym same) some))
+    | inl same ↦ subst (λ (x : OutlineFile). length x.cuts ≡ pieces_of d.piece_length x.length) same (given.may.cuts hybrid (subst (λ (x : OutlineFile). 0 < x.length) (sym same) some))
     | inr old ↦ o.cuts old.0 g old.1 hybrid some
   ];
   in_order = order;
@@ -268,7 +268,7 @@ made_outline d f layer place o t given order = record {
     | inr old ↦ old_layer d f g layer place (o.layers_there old.0 g old.1 long)
   ];
   layers_used = λ n x at. elim (back d f layer n x at) [
-    | inl own ↦ let here = put_here place f d.files in (here.0, f, here.1, own.0, subst (λ y. IsLayerOf d.piece_length y f) own.1 (given.fits own.0))
+    | inl own ↦ let here = put_here place f d.files in (here.0, f, here.1, own.0, subst (λ y. IsLayerOf d.piece_length y f) own.1 (given.may.fits own.0))
     | inr old ↦
         let used = o.layers_used old.0 x old.1 in
         let there = put_kept place f d.files used.0 used.1 used.2 in (there.0, used.1, there.1, used.3, used.4)

@@ -1,13 +1,14 @@
 -- The file tree that is built of files in order.
-use Rattle.std.proofs.Common.{◌≡◌, ℕ, zero, suc, ◌-◌, ◌<◌, ◌≤◌, Bool, true, false, not, ◌&&◌, ◌||◌, List, [], ◌∷◌, ◌++◌, length, map, Option, Some, None, slice_get, inl, inr, refl, sym, ap, subst, ◌∙◌, arith, ◌⊎◌}
+use Rattle.std.proofs.Common.{◌≡◌, ℕ, zero, suc, ◌-◌, ◌<◌, ◌≤◌, true, false, not, ◌&&◌, List, [], ◌∷◌, ◌++◌, length, map, Option, Some, None, slice_get, inl, inr, refl, sym, ap, subst, ◌∙◌, arith, ◌⊎◌}
+use Rattle.drafts.proofs.Ordering.{decided}
+use Rattle.std.proofs.lemmas.Bool.{and_from, or_left, or_right}
 use Rattle.std.specs.Cmp.Lexicographic.{slice_cmp}
 use Rattle.std.specs.List.Sorted.{IsStrictlySortedBy}
-use Rattle.std.specs.Ordering.{nat_cmp, is_lt, ordering_then}
+use Rattle.std.specs.Ordering.{nat_cmp, is_lt}
 use Rattle.std.specs.Prelude.{◌^◌, IsTrue, FitsSigned, pos, nat_lt}
 use Rattle.std.specs.Int.{w64}
 use Rattle.std.specs.Str.{bytes_eq}
-use Rattle.std.specs.declared.cmp.Ordering.{Ordering}
-use Rattle.std.specs.declared.cmp.Ordering.TheVariants.{Less, Equal, Greater}
+use Rattle.std.specs.declared.cmp.Ordering.TheVariants.{Less}
 use Rattle.benc.specs.Value.{Bencode, int, text, list, dict, Items, no_items, item, Pairs, no_pairs, pair}
 use Rattle.benc.specs.Spelling.{IsAbove}
 use Rattle.drafts.specs.Outline.{IsOutlineFile, OutlineFile}
@@ -121,12 +122,6 @@ first_some [] v ps = tt
 first_some (k ∷ ks) v no_pairs = tt
 first_some (k ∷ ks) v (pair l w ps) = elim (true_or_false (bytes_eq k l)) [ inl same ↦ rw same tt | inr other ↦ rw other tt ]
 
--- the order of two, by the first difference
-decided : (o a : Ordering) → ordering_then o a ≡ Less → (o ≡ Less) ⊎ ((o ≡ Equal) × (a ≡ Less))
-decided Less a e = inl refl
-decided Equal a e = inr (refl, e)
-decided Greater a e = cc
-
 by_heads : (k l : List ℕ) (ks ls : List (List ℕ)) (ps : Pairs) → path_cmp (k ∷ ks) (l ∷ ls) ≡ Less → (path_cmp ks ls ≡ Less → ComesBefore ks ps)
     → (slice_cmp nat_cmp k l ≡ Less) ⊎ ((k ≡ l) × ComesBefore ks ps)
 by_heads k l ks ls ps less inner =
@@ -216,7 +211,7 @@ unfolding IsStrictlySortedBy
 first_before w [] a = tt
 first_before w (x ∷ ws) a = comes_before w.path x.path x.file (tree_of_walks ws) a.0.0
 
-rest_in_order : (w : Walk) (ws : List Walk) → AreInOrder (paths_of (w ∷ ws)) → AreInOrder (paths_of ws)
+pub rest_in_order : (w : Walk) (ws : List Walk) → AreInOrder (paths_of (w ∷ ws)) → AreInOrder (paths_of ws)
 unfolding IsStrictlySortedBy
 rest_in_order w ws a = a.1
 
@@ -230,18 +225,6 @@ tree_built room (w ∷ ws) order files large =
     let this = files 0 w refl in
     put_built room w.path w.file (tree_of_walks ws) this.0 large this.1 (tree_built room ws (rest_in_order w ws order) (λ n u e. files (suc n) u e) large) (first_before w ws order)
 
-and_true : (a b : Bool) → a ≡ true → b ≡ true → a && b ≡ true
-and_true true b e f = f
-and_true false b e f = cc
-
-or_right : (a b : Bool) → b ≡ true → a || b ≡ true
-or_right true b e = refl
-or_right false b e = e
-
-or_left : (a b : Bool) → a ≡ true → a || b ≡ true
-or_left true b e = refl
-or_left false b e = cc
-
 file_node : (room : ℕ) (ps : Pairs) → IsFileNode room ps → is_file ps ≡ true
 file_node room ps node = rw (node.is) (node.good.is)
 
@@ -249,7 +232,7 @@ mutual
   pub built_directory : (room : ℕ) (before : Option (List ℕ)) (ps : Pairs) → IsBuilt room before ps → is_directory ps ≡ true
   built_directory room before no_pairs built = refl
   built_directory room before (pair k v ps) built =
-      and_true (not (is_nil k) && is_node v) (is_directory ps) (and_true (not (is_nil k)) (is_node v) (ap not built.0.0) (built_node room v built.2)) (built_directory room (Some k) ps built.3)
+      and_from (not (is_nil k) && is_node v) (is_directory ps) (and_from (not (is_nil k)) (is_node v) (ap not built.0.0) (built_node room v built.2)) (built_directory room (Some k) ps built.3)
 
   built_node : (room : ℕ) (v : Bencode) → IsBuiltIn room v → is_node v ≡ true
   built_node room (int z) built = absurd built

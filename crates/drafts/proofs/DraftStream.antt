@@ -1,5 +1,6 @@
 -- No test of the version 1 part holds for a hybrid draft's value, and that part is the draft's.
 use Rattle.std.proofs.Common.{◌≡◌, ◌≢◌, ℕ, zero, suc, ◌+◌, ◌-◌, ◌*◌, ◌/◌, ◌<◌, ◌≤◌, ◌^◌, Bool, true, false, ◌&&◌, ◌||◌, if◌then◌else◌, List, [], ◌∷◌, ◌++◌, length, map, take, Option, Some, None, pos, slice_get, sum_by, inl, inr, refl, sym, ap, subst, ◌∙◌, arith, ◌⊎◌, length-append, add_assoc, add-zero, zero-mul}
+use Rattle.std.proofs.lemmas.Bool.{or_right}
 use Rattle.std.proofs.Math.Nat.{add-mul, mul-add-div_right}
 use Rattle.std.proofs.lemmas.List.{length-take}
 use Rattle.std.proofs.lemmas.List.Sums.{sum_by-cons}
@@ -112,10 +113,6 @@ filled p n some = let cover = pieces_cover p n some in omega (arith, cover)
 no_gap : (p n : ℕ) → 0 < p → nat_lt 0 (gap p n) ≡ false → n ≡ pieces_of p n * p
 no_gap p n some none = let cover = filled p n some in let zero_gap : gap p n ≡ 0 = grind (arith, none) in omega (arith, cover, zero_gap)
 
-or_some : (a b : Bool) → b ≡ true → a || b ≡ true
-or_some true b e = refl
-or_some false b e = e
-
 -- what holds at each place of the rest of a list holds behind a pad too, which is no file
 behind_pad : (p n : ℕ) (f : OutlineFile) (fs : List OutlineFile) (part : Part) (Q : ℕ → Type 0) → part.is_pad ≡ false
     → ((k : ℕ) → slice_get (draft_parts p fs) k ≡ Some part → Q (suc k)) → slice_get (pad_part (gap p f.length) ∷ draft_parts p fs) n ≡ Some part → Q n
@@ -131,7 +128,7 @@ content_at p (f ∷ fs) zero part at no_pad some =
     let more : 0 < f.length = subst (λ (x : Part). 0 < length_in x) (sym same) some in
     let e : nat_lt 0 f.length ≡ true = grind arith in rw e refl
 content_at p (f ∷ fs) (suc n) part at no_pad some =
-    or_some (nat_lt 0 f.length) (has_content fs) (elim (true_or_false (needs_pad p f fs)) [
+    or_right (nat_lt 0 f.length) (has_content fs) (elim (true_or_false (needs_pad p f fs)) [
       | inl pad ↦ behind_pad p n f fs part (λ k. has_content fs ≡ true) no_pad (λ k there. content_at p fs k part there no_pad some) (rw pad at at)
       | inr none ↦ content_at p fs n part (rw none at at) no_pad some
     ])

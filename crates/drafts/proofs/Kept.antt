@@ -1,5 +1,6 @@
 -- What a draft keeps of its roots.
 use Rattle.std.proofs.Common.{◌≡◌, ◌≢◌, inl, inr, ℕ, zero, suc, ◌+◌, ◌<◌, Bool, true, false, cond, List, [], ◌∷◌, ◌++◌, map, take, drop, None, Some, refl, sym, ap, subst, ◌∙◌, arith}
+use Rattle.filetree.proofs.Paths.{is_equal}
 use Rattle.std.specs.Prelude.{nat_lt}
 use Rattle.std.specs.BTreeMap.{insert_entry, is_at}
 use Rattle.std.specs.Cmp.Lexicographic.{slice_cmp}
@@ -7,7 +8,6 @@ use Rattle.std.specs.List.{AllByRecursion, insert}
 use Rattle.std.specs.List.Sorted.{IsStrictlySortedBy}
 use Rattle.std.specs.Map.{keys_of}
 use Rattle.std.specs.Ordering.{is_eq, nat_cmp}
-use Rattle.std.specs.declared.cmp.Ordering.{Ordering}
 use Rattle.std.specs.declared.cmp.Ordering.TheVariants.{Less, Equal, Greater}
 use Rattle.std.proofs.lemmas.Cmp.{nat_list_cmp_total, tied_itself}
 use Rattle.std.proofs.lemmas.Map.Keys.{sorted_head, sorted_tail}
@@ -108,11 +108,6 @@ layers_kept p r hs k (e ∷ es) order at long =
 
 -- ---- roots
 
-equal_from : (o : Ordering) → is_eq o ≡ true → o ≡ Equal
-equal_from Less e = cc
-equal_from Equal e = refl
-equal_from Greater e = cc
-
 -- a root is found with another length
 pub reuses : (d : Outline) (es : Entries) (n : ℕ) (root : List ℕ) (k : KeptRoot) → AreRootsOf d.files es → kept_at root es ≡ Some k → 0 < n → k.length ≢ n → ReusesRoot d n root
 reuses d es n root k roots at some differ =
@@ -160,7 +155,7 @@ roots_inserted fs es xs i f k roots some none length_is order updates = record {
     | inr old ↦ let has = roots.each old.0 g old.1 full in record {
       kept = has.kept;
       there = updates g.root ∙ elim (true_or_false (is_eq (slice_cmp nat_cmp f.root g.root))) [
-        | inl same ↦ absurd (none-some has.kept (sym none ∙ ap (λ s. kept_at s es) (exact_bytes f.root g.root (equal_from (slice_cmp nat_cmp f.root g.root) same)) ∙ has.there))
+        | inl same ↦ absurd (none-some has.kept (sym none ∙ ap (λ s. kept_at s es) (exact_bytes f.root g.root (is_equal (slice_cmp nat_cmp f.root g.root) same)) ∙ has.there))
         | inr other ↦ rw other has.there
       ];
       length_is = has.length_is;
@@ -175,7 +170,7 @@ roots_inserted fs es xs i f k roots some none length_is order updates = record {
           file = f;
           there = here.1;
           some = some;
-          root_is = exact_bytes f.root root (equal_from (slice_cmp nat_cmp f.root root) same);
+          root_is = exact_bytes f.root root (is_equal (slice_cmp nat_cmp f.root root) same);
           length_is = sym length_is ∙ ap (λ (x : KeptRoot). x.length) one;
         }
     | inr other ↦

@@ -14,7 +14,7 @@ use Rattle.filetree.proofs.Paths.{cmp_equal, begins_ties, order_at}
 use Rattle.filetree.specs.Paths.{AreInOrder, IsPrefix, path_cmp}
 
 -- the order of two, by the first difference
-decided : (o a : Ordering) → ordering_then o a ≡ Less → (o ≡ Less) ⊎ ((o ≡ Equal) × (a ≡ Less))
+pub decided : (o a : Ordering) → ordering_then o a ≡ Less → (o ≡ Less) ⊎ ((o ≡ Equal) × (a ≡ Less))
 decided Less a e = inl refl
 decided Equal a e = inr (refl, e)
 decided Greater a e = cc

@@ -2,13 +2,14 @@
 use Rattle.std.proofs.Common.{◌≡◌, inl, inr, Bool, true, false, ◌&&◌, length, ℕ, zero, suc, [], ◌∷◌, ◌+◌, ◌^◌, ◌<◌, ◌≤◌, List, map, Some, slice_get, refl, ap, ◌∙◌, arith}
 use Rattle.std.proofs.lemmas.Option.{slice_get-map, same_Some}
 use Rattle.std.specs.List.{All}
-use Rattle.std.specs.Prelude.{if◌then◌else◌, nat_lt, option_map}
+use Rattle.std.specs.Prelude.{if◌then◌else◌, nat_lt, option_map, Result, Ok, Err, IfErr, OnErr, OnOk}
 use Rattle.filetree.specs.Paths.{IsFilePath, path_cmp}
 use Rattle.filetree.specs.Tests.{First, NoneHolds}
+use Rattle.filetree.specs.declared.refusal.Refusal.{Refusal}
 use Rattle.filetree.specs.declared.refusal.Refusal.TheVariants as refusals
 use Rattle.pieces.specs.Pieces.{pieces_of}
 use Rattle.pieces.specs.declared.v1_cuts.V1File.{V1File}
-use Rattle.drafts.specs.Adding.{Clashes, FitsLayer, HasCuts, IsGiven, ReusesRoot, given_file, add_rows, pieces_in_all}
+use Rattle.drafts.specs.Adding.{Adds, Clashes, IsGiven, IsWith, MayAdd, ReusesRoot, given_file, add_rows, pieces_in_all}
 use Rattle.drafts.specs.Orders.{IsPlaceOf, Ties}
 use Rattle.drafts.specs.Outline.{AreOfLength, Outline, OutlineFile}
 use Rattle.drafts.proofs.Ordering.{begins_tie, no_clash, tie_begins}
@@ -54,20 +55,29 @@ clash_first d f passed tie =
     )
 
 -- what is given of a file fits, since digests have their lengths
-lengths_are : (width : ℕ) (hs : List (List ℕ)) → All (λ h. length h ≡ width) hs → AreOfLength width hs
+pub lengths_are : (width : ℕ) (hs : List (List ℕ)) → All (λ h. length h ≡ width) hs → AreOfLength width hs
 lengths_are width [] all = tt
 lengths_are width (h ∷ hs) all = (all 0 h (omega arith), lengths_are width hs (λ i d low. all (suc i) d (omega arith)))
 
 pub fits_given : (d : Outline) (path : List (List ℕ)) (n : ℕ) (root : List ℕ) (v1 : V1File) (layer : List (List ℕ)) → length root ≡ 32 → All (λ h. length h ≡ 20) v1.cuts.items → length v1.padded ≡ 20
-    → HasCuts d (given_file d path n root v1) → FitsLayer d (given_file d path n root v1) layer → IsGiven d (given_file d path n root v1) layer
-fits_given d path n root v1 layer root_length cut_lengths padded_length cuts fits = record {
+    → MayAdd d (given_file d path n root v1) layer → IsGiven d (given_file d path n root v1) layer
+fits_given d path n root v1 layer root_length cut_lengths padded_length may = record {
   root_length = λ _. root_length;
   cut_lengths = chosen (d.hybrid && nat_lt 0 n);
   padded_length = padded_length;
-  cuts = cuts;
-  fits = fits;
+  may = may;
 }
   where
     chosen : (b : Bool) → AreOfLength 20 (if b then v1.cuts.items else [])
     chosen true = lengths_are 20 v1.cuts.items cut_lengths
     chosen false = tt
+
+-- ---- what comes of adding it
+
+pub answers : (d e : Outline) (f : OutlineFile) (layer : List (List ℕ)) (r : Result (Unit {0}) Refusal) → NoneHolds (add_rows d f) → OnOk r (IsWith d e f layer)
+    → IfErr r (λ x. x ≡ refusals.NoMemory) → OnErr r (e ≡ d) → Adds d f layer e r
+answers d e f layer (Ok x) none with_it memory same = record { added = (none, with_it); memory = tt; unchanged = tt }
+answers d e f layer (Err x) none with_it memory same = record { added = λ other. absurd (other memory); memory = λ _. none; unchanged = same }
+
+pub clashes : (d : Outline) (f : OutlineFile) (layer : List (List ℕ)) → Passed d f → Ties f.path (paths_in d) → Adds d f layer d (Err refusals.PathClash)
+clashes d f layer passed tie = record { added = λ _. clash_first d f passed tie; memory = λ is. absurd cc; unchanged = refl }

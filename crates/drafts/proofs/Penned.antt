@@ -5,19 +5,13 @@ use Rattle.std.specs.Io.KnownBytes.{Keeps}
 use Rattle.std.specs.Prelude.{OnOk, true}
 use Rattle.benc.specs.Device.{Broke, CountsFault, Sent, SinkSeen, WroteAndFlushed, one_more}
 use Rattle.benc.proofs.Known.{Appends-keeps, Appends_nothing, Appends_whole}
-use Rattle.benc.proofs.Out.{Sent-append, Wrote-part, Wrote-then}
+use Rattle.benc.proofs.Out.{Broke-append, Broke-front, Sent-append}
 use Rattle.drafts.specs.Pen.{Put}
 use Rattle.drafts.specs.declared.pen.Pen.{Pen}
 
 -- the same text
 pub put_as : {p q : Pen} {s t : SinkSeen} {x : List ℕ} (y : List ℕ) → Put p s q t x → x ≡ y → Put p s q t y
 put_as {p} {q} {s} {t} y put e = subst (λ z. Put p s q t z) e put
-
-broke_later : (s t u : SinkSeen) (x y : List ℕ) → Sent s t x → Broke t u y → Broke s u (x ++ y)
-broke_later s t u x y a b = Wrote-then {A = ℕ} {E = ℕ} (Err 0) s t u x y (x ++ y) refl a b
-
-broke_first : (s t : SinkSeen) (x y : List ℕ) → Broke s t x → Broke s t (x ++ y)
-broke_first s t x y a = Wrote-part {A = ℕ} {E = ℕ} (Err 0) 0 s t x y (x ++ y) refl refl a
 
 added : (m n k : ℕ) (x y : List ℕ) → min n (2 ^ 64 - 1) ≡ min (m + length x) (2 ^ 64 - 1) → min k (2 ^ 64 - 1) ≡ min (n + length y) (2 ^ 64 - 1)
     → min k (2 ^ 64 - 1) ≡ min (m + length (x ++ y)) (2 ^ 64 - 1)
@@ -33,11 +27,11 @@ put_both {p} {q} {r} {s} {t} {u} {x} {y} a b = record {
   written = λ is. elim (a.written is) [
     | inl sent ↦ elim (b.written sent.0) [
       | inl both ↦ inl (both.0, Sent-append s t u x y sent.1 both.1)
-      | inr broke ↦ inr (broke.0, broke_later s t u x y sent.1 broke.1)
+      | inr broke ↦ inr (broke.0, Broke-append s t u x y sent.1 broke.1)
     ]
     | inr broke ↦
         let later = b.broken broke.0 in
-        inr (later.0, subst (λ v. Broke s v (x ++ y)) (sym later.1) (broke_first s t x y broke.1))
+        inr (later.0, subst (λ v. Broke s v (x ++ y)) (sym later.1) (Broke-front s t x y broke.1))
   ];
   broken = λ is. let one = a.broken is in let two = b.broken one.0 in (two.0, two.1 ∙ one.1);
 }

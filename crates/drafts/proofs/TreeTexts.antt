@@ -1,5 +1,6 @@
 -- The text of a file tree is put file by file.
 use Rattle.std.proofs.Common.{◌≡◌, ℕ, suc, ◌+◌, ◌-◌, Bool, List, [], ◌∷◌, ◌++◌, length, drop, replicate, if◌then◌else◌, inl, inr, refl, sym, ap, subst, ◌∙◌, append_assoc, arith, get_or, ◌<◌, ◌≤◌, ◌⊎◌}
+use Rattle.drafts.proofs.Building.{rest_in_order}
 use Rattle.std.proofs.Math.ListN.{drop_of_length-le}
 use Rattle.std.proofs.lemmas.List.{drop_more, replicate_more}
 use Rattle.std.specs.Prelude.{codes}
@@ -118,22 +119,18 @@ unfolding IsStrictlySortedBy
 next_less w [] a x us e = cc
 next_less w (y ∷ vs) a x us e = let same : y ≡ x = cc in subst (λ (z : Walk). path_cmp w.path z.path ≡ Less) same a.0.0
 
-later_order : (w : Walk) (vs : List Walk) → AreInOrder (paths_of (w ∷ vs)) → AreInOrder (paths_of vs)
-unfolding IsStrictlySortedBy
-later_order w vs a = a.1
-
 rest_is : (p : List (List ℕ)) (ws : List Walk) → ((w : Walk) (vs : List Walk) → ws ≡ w ∷ vs → path_cmp p w.path ≡ Less) → AreInOrder (paths_of ws) → text_behind p (tree_of_walks ws) ≡ rest_text p ws
 rest_is p [] first order = ends p
 rest_is p (w ∷ ws) first order =
     behind_text p w.path w.file (tree_of_walks ws) (first w ws refl)
-    ∙ ap (λ b. closed (length p - shared p w.path) ++ (opened (drop (shared p w.path) w.path) ++ (leaf_text w.file ++ b))) (rest_is w.path ws (next_less w ws order) (later_order w ws order))
+    ∙ ap (λ b. closed (length p - shared p w.path) ++ (opened (drop (shared p w.path) w.path) ++ (leaf_text w.file ++ b))) (rest_is w.path ws (next_less w ws order) (rest_in_order w ws order))
 
 -- the text of a tree, from its first file on
 pub tree_text : (ws : List Walk) → AreInOrder (paths_of ws) → pairs_spelling (tree_of_walks ws) ≡ rest_text [] ws
 tree_text [] order = refl
 tree_text (w ∷ ws) order =
     first_text w.path w.file (tree_of_walks ws)
-    ∙ ap (λ b. (opened w.path ++ leaf_text w.file) ++ b) (rest_is w.path ws (next_less w ws order) (later_order w ws order))
+    ∙ ap (λ b. (opened w.path ++ leaf_text w.file) ++ b) (rest_is w.path ws (next_less w ws order) (rest_in_order w ws order))
     ∙ append_assoc (opened w.path) (leaf_text w.file) (rest_text w.path ws)
 
 -- ---- how many first components two paths share, one by one

@@ -1,13 +1,14 @@
 -- Adding a file to a draft: the tests in their order, and what stands afterwards.
-use Rattle.std.specs.Prelude.{◌≡◌, ◌≢◌, ℕ, ◌&&◌, ◌+◌, ◌^◌, ◌<◌, ◌≤◌, ◌⊎◌, true, nat_lt, if◌then◌else◌, List, [], ◌∷◌, ◌++◌, length, map, take, drop, Some, slice_get}
+use Rattle.std.specs.Prelude.{◌≡◌, ◌≢◌, ℕ, ◌&&◌, ◌+◌, ◌^◌, ◌<◌, ◌≤◌, ◌⊎◌, true, nat_lt, if◌then◌else◌, List, [], ◌∷◌, ◌++◌, length, map, take, drop, Some, slice_get, Result, IfErr, OnErr}
 use Rattle.std.specs.Cmp.Lexicographic.{slice_cmp}
 use Rattle.std.specs.Ordering.{match_ordering, nat_cmp}
 use Rattle.drafts.specs.Outline.{AreOfLength, IsLayerOf, Outline, OutlineFile, OutlineLayer, listed_file}
 use Rattle.filetree.specs.Paths.{IsFilePath, AreInOrder, IsPrefix}
-use Rattle.filetree.specs.Tests.{TestRow}
+use Rattle.filetree.specs.Tests.{NoneHolds, PassesUnlessNoMemory, TestRow}
 use Rattle.opening.specs.Trees.{pieces_in}
 use Rattle.pieces.specs.Pieces.{pieces_of}
 use Rattle.pieces.specs.declared.v1_cuts.V1File.{V1File}
+use Rattle.filetree.specs.declared.refusal.Refusal.{Refusal}
 use Rattle.filetree.specs.declared.refusal.Refusal.TheVariants as refusals
 
 -- neither a file of this length and root nor one of the draft is empty, they have one root and
@@ -66,13 +67,17 @@ abbrev pub FitsLayer : Outline → OutlineFile → List (List ℕ) → Type 0
 FitsLayer d f layer = d.piece_length < f.length
     → IsLayerOf d.piece_length (record { root = f.root; hashes = layer }) f
 
--- what is given of a file fits, and digests have their lengths
+-- what is given of a file fits it: the digests of its cuts, and its layer
+pub record MayAdd (d : Outline) (f : OutlineFile) (layer : List (List ℕ)) : Type 0 where
+  pub cuts : HasCuts d f
+  pub fits : FitsLayer d f layer
+
+-- the same, and digests have their lengths
 pub record IsGiven (d : Outline) (f : OutlineFile) (layer : List (List ℕ)) : Type 0 where
   pub root_length : 0 < f.length → length f.root ≡ 32
   pub cut_lengths : AreOfLength 20 f.cuts
   pub padded_length : length f.padded ≡ 20
-  pub cuts : HasCuts d f
-  pub fits : FitsLayer d f layer
+  pub may : MayAdd d f layer
 
 -- ---- what stands afterwards
 
@@ -96,3 +101,12 @@ pub record IsWith (d e : Outline) (f : OutlineFile) (layer : List (List ℕ)) : 
   pub in_order : AreInOrder (map (λ (g : OutlineFile). g.path) e.files)
   pub layers : e.layers
       ≡ (if nat_lt d.piece_length f.length then with_layer f.root layer d.layers else d.layers)
+
+-- what comes of adding the file f with its layer to the draft d, which is e afterwards: f is added,
+-- or the first test that holds is answered; it is out of memory only if none holds; a draft that
+-- refused the file is as before
+pub record Adds (d : Outline) (f : OutlineFile) (layer : List (List ℕ)) (e : Outline)
+    (result : Result (Unit {0}) Refusal) : Type 0 where
+  pub added : PassesUnlessNoMemory (add_rows d f) (λ _. IsWith d e f layer) result
+  pub memory : IfErr result (λ r. r ≡ refusals.NoMemory → NoneHolds (add_rows d f))
+  pub unchanged : OnErr result (e ≡ d)

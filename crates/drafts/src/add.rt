@@ -3,9 +3,9 @@
 ghost use Rattle.std.specs.Prelude.{◌≡◌, ◌<◌, ◌≤◌, ◌+◌, ◌^◌, All, List, length, map, MatchResult, IfErr, OnErr, OnOk};
 ghost use Rattle.std.specs.String.{string_bytes};
 ghost use Rattle.filetree.specs.Paths.{IsFilePath};
-ghost use Rattle.filetree.specs.Tests.{NoneHolds, PassesUnlessNoMemory, GivesUnlessNoMemory};
+ghost use Rattle.filetree.specs.Tests.{NoneHolds, GivesUnlessNoMemory};
 ghost use Rattle.pieces.specs.Pieces.{pieces_of};
-ghost use Rattle.drafts.specs.Adding.{FitsLayer, HasCuts, IsGiven, IsWith, ReusesRoot, add_rows, given_file, pieces_in_all};
+ghost use Rattle.drafts.specs.Adding.{Adds, IsGiven, IsWith, MayAdd, ReusesRoot, add_rows, given_file, pieces_in_all};
 ghost use Rattle.drafts.specs.Orders.{IsPlaceOf};
 ghost use Rattle.drafts.specs.Outline.{Outline, OutlineFile};
 ghost use Rattle.drafts.specs.DraftSeen.{AreRootsOf, KeepsRoot, outline_file};
@@ -42,18 +42,10 @@ impl Draft {
         layer: &[Hash],
         v1: &V1File,
     ) -> Result<(), Refusal>
-        requires cuts { HasCuts self.old
-            (given_file self.old (map (λ s. s.now) path.now) length root v1.now) }
-        requires layer { FitsLayer self.old
+        requires { MayAdd self.old
             (given_file self.old (map (λ s. s.now) path.now) length root v1.now) layer.now }
-        ensures added { let f = given_file self.old
-            (map (λ s. s.now) path.now) length root v1.now in
-            PassesUnlessNoMemory (add_rows self.old f)
-            (λ _. IsWith self.old self.new f layer.now) result }
-        ensures memory { IfErr result (λ r. r ≡ Refusal.NoMemory → NoneHolds
-            (add_rows self.old
-            (given_file self.old (map (λ s. s.now) path.now) length root v1.now))) }
-        ensures unchanged { OnErr result (self.new ≡ self.old) }
+        ensures { Adds self.old (given_file self.old (map (λ s. s.now) path.now) length root v1.now)
+            layer.now self.new result }
     {
         test_path(path)?;
         if length > MAX_LENGTH {

@@ -3,7 +3,7 @@
 ghost use Rattle.std.specs.Prelude.{◌≡◌, ◌↔◌, IsTrue, MatchResult, map};
 ghost use Rattle.filetree.specs.Paths.{IsComponent, IsFilePath};
 
-use filetree::Refusal;
+use filetree::{Refusal, is_bad_component};
 
 // The most components of a path: 128 lists and dictionaries may be open at once.
 const MAX_COMPONENTS: usize = 124;
@@ -28,10 +28,5 @@ pub(crate) fn test_path(path: &[&str]) -> Result<(), Refusal>
 fn is_component(name: &str) -> bool
     ensures { IsTrue result ↔ IsComponent name.now }
 {
-    let bytes = name.as_bytes();
-    !bytes.is_empty()
-        && bytes != b".".as_slice()
-        && bytes != b"..".as_slice()
-        && !bytes.contains(&b'/')
-        && !bytes.contains(&0)
+    !name.is_empty() && !is_bad_component(name)
 }

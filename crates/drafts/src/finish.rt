@@ -24,6 +24,9 @@ use itoa::Buffer;
 use opening::MAX_TORRENT;
 use std::collections::BTreeMap;
 
+// Bytes in a SHA-1 digest.
+const DIGEST_LENGTH: u64 = 20;
+
 impl Draft {
     /// Writes the torrent file, and flushes. The text is measured before a byte of it is written.
     /// It takes no memory.
@@ -139,7 +142,7 @@ impl Draft {
         }
         let mut digits = Buffer::new();
         pen.put(w, b"6:pieces");
-        pen.put(w, digits.format(20 * self.pieces).as_bytes());
+        pen.put(w, digits.format(DIGEST_LENGTH * self.pieces).as_bytes());
         pen.put(w, b":");
         put_digests(&self.files, pen, w);
     }

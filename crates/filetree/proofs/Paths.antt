@@ -22,7 +22,7 @@ paths_of ws = map (λ (w : Walk). w.path) ws
 
 -- ---- comparing components
 
-is_equal : (o : Ordering) → is_eq o ≡ true → o ≡ Equal
+pub is_equal : (o : Ordering) → is_eq o ≡ true → o ≡ Equal
 is_equal Less e = cc
 is_equal Equal e = refl
 is_equal Greater e = cc

@@ -1,5 +1,6 @@
 -- The test of the shape in the words of the standard.
-use Rattle.std.proofs.Common.{◌≡◌, ◌⊎◌, ℕ, Bool, true, false, not, ◌&&◌, ◌||◌, List, [], ◌∷◌, length, inl, inr, refl, sym, subst, ◌∙◌, arith}
+use Rattle.std.proofs.Common.{◌≡◌, ◌⊎◌, ℕ, Bool, true, false, not, ◌&&◌, List, [], ◌∷◌, length, inl, inr, refl, sym, subst, ◌∙◌, arith}
+use Rattle.std.proofs.lemmas.Bool.{or_parts}
 use Rattle.benc.specs.Value.{Bencode, int, text, list, dict, Pairs, no_pairs, pair}
 use Rattle.filetree.specs.Dictionary.{keys_in}
 use Rattle.filetree.specs.FileTree.{is_dict, is_directory, is_file, is_nil, is_node}
@@ -9,10 +10,6 @@ use Rattle.filetree.proofs.Paths.{and_both, not_is, or_one}
 
 abbrev Within : Pairs → Pairs → Type 0
 Within ps all = (k : List ℕ) (v : Bencode) → HoldsPair ps k v → HoldsPair all k v
-
-pub or_none : (a b : Bool) → a || b ≡ false → (a ≡ false) × (b ≡ false)
-or_none true b e = cc
-or_none false b e = (refl, e)
 
 -- ---- what is no directory has a fault
 
@@ -46,7 +43,7 @@ mutual
   bad_node all k (text s) some there odd = record { path = []; dir = all; reached = refl; fault = inl (record { component = k; value = text s; some = some; there = there; odd = refl }) }
   bad_node all k (list vs) some there odd = record { path = []; dir = all; reached = refl; fault = inl (record { component = k; value = list vs; some = some; there = there; odd = refl }) }
   bad_node all k (dict ps) some there odd =
-      let both = or_none (is_file ps) (is_directory ps) odd in
+      let both = or_parts (is_file ps) (is_directory ps) odd in
       elim (bad_pairs ps ps (λ l w h. h) both.1) [
         | inl file ↦ record { path = k ∷ []; dir = ps; reached = (ps, some, there, refl); fault = inr (file_fault ps file.0 file.1 both.0) }
         | inr deeper ↦ record { path = k ∷ deeper.path; dir = deeper.dir; reached = (ps, some, there, deeper.reached); fault = deeper.fault }

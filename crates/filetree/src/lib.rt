@@ -2,6 +2,7 @@
 //! refused.
 #![tactic(auto)]
 
+mod component;
 mod files;
 mod folder;
 pub mod laws;
@@ -11,6 +12,7 @@ mod refusal;
 mod shape;
 mod walk;
 
+pub use component::is_bad_component;
 pub use files::{ListedFile, has_attribute, length};
 pub use path::{Parts, Path};
 pub use reading::read_tree;

@@ -5,6 +5,7 @@ ghost use Rattle.benc.specs.View.{pairs_view, pair_view};
 ghost use Rattle.filetree.specs.FileTree.{IsBadComponent};
 ghost use Rattle.filetree.specs.Walked.{AddsWalks, AddsWalksAt, IsFolderAt, IsNodeBelow};
 
+use crate::component::is_bad_component;
 use crate::folder::Folders;
 use crate::path::Path;
 use crate::refusal::Refusal;
@@ -70,15 +71,8 @@ fn component(key: &[u8]) -> Result<&str, Refusal>
     ensures { MatchResult result (λ s. (s.now ≡ key.now) × (IsBadComponent key.now → ⊥))
         (λ r. (r ≡ Refusal.Path) × IsBadComponent key.now) }
 {
-    if key == b".".as_slice()
-        || key == b"..".as_slice()
-        || key.contains(&b'/')
-        || key.contains(&0)
-    {
-        return Err(Refusal::Path);
-    }
     match str::from_utf8(key) {
-        Ok(name) => Ok(name),
-        Err(_) => Err(Refusal::Path),
+        Ok(name) if !is_bad_component(name) => Ok(name),
+        _ => Err(Refusal::Path),
     }
 }

@@ -1,5 +1,6 @@
 -- What is given to a draft of a file, and what it made of it.
 use Rattle.std.proofs.Common.{◌≡◌, ℕ, suc, ◌<◌, ◌≤◌, Bool, true, false, ◌&&◌, cond, List, [], ◌∷◌, length, refl, sym, ◌∙◌, ap, subst, arith}
+use Rattle.drafts.proofs.Passing.{lengths_are}
 use Rattle.std.specs.List.{All}
 use Rattle.std.specs.Prelude.{nat_lt}
 use Rattle.std.proofs.lemmas.Bool.{lt-ltb, ltb-true}
@@ -44,10 +45,6 @@ all_cuts : (h b : Bool) (xs : List (List ℕ)) → h ≡ true → b ≡ true →
 all_cuts true true xs is some = refl
 all_cuts true false xs is some = absurd cc
 all_cuts false b xs is some = absurd cc
-
-lengths_are : (width : ℕ) (hs : List (List ℕ)) → All (λ h. length h ≡ width) hs → AreOfLength width hs
-lengths_are width [] all = tt
-lengths_are width (h ∷ hs) all = (all 0 h (omega arith), lengths_are width hs (λ i d low. all (suc i) d (omega arith)))
 
 pub has_cuts : (d : Outline) (path : List (List ℕ)) (content : List ℕ) (f : OutlineFile) → IsDraftFile d.piece_length d.hybrid path content f → HasCuts d f
 has_cuts d path content f file is some =

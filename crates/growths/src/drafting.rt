@@ -1,6 +1,6 @@
 //! A draft whose calls are made again if memory was refused.
 ghost use Rattle.std.specs.Prelude.{◌≡◌, ◌<◌, IfOk, length, map};
-ghost use Rattle.drafts.specs.Adding.{FitsLayer, HasCuts, given_file};
+ghost use Rattle.drafts.specs.Adding.{MayAdd, given_file};
 ghost use Rattle.metainfo.specs.Pieces.{pieces_of};
 ghost use Rattle.metainfo.specs.Seen.{tree_entry};
 ghost use Rattle.metainfo.specs.Sound.{IsSoundTree};
@@ -101,9 +101,7 @@ fn add_again(
     tree: &TreeInfo<'_>,
     v1: &V1File,
 ) -> io::Result<()>
-    requires cuts { HasCuts draft.old
-        (given_file draft.old (map (λ s. s.now) path.now) tree.now.length tree.now.root v1.now) }
-    requires layer { FitsLayer draft.old
+    requires { MayAdd draft.old
         (given_file draft.old (map (λ s. s.now) path.now) tree.now.length tree.now.root v1.now)
         tree.now.layer.now }
     ensures { draft.new.piece_length ≡ draft.old.piece_length }

@@ -2,7 +2,7 @@
 use Rattle.std.proofs.Common.{zero-add, add-zero, zero-mul, inl, inr, ◌⊎◌, ◌≡◌, ℕ, zero, suc, ◌+◌, ◌*◌, ◌<◌, ◌≤◌, Bool, true, false, not, cond, ◌&&◌, if◌then◌else◌, nat_eq, nat_lt, List, [], ◌∷◌, ◌++◌, length, take, drop, map, filter, Option, Some, None, refl, sym, ap, ◌∙◌, subst, arith, slice_get, sum_by}
 use Rattle.std.proofs.Math.Nat.{add-mul}
 use Rattle.std.proofs.lemmas.Option.{slice_get_within}
-use Rattle.std.proofs.lemmas.Bool.{eqb-true, eqb-false, and_cases}
+use Rattle.std.proofs.lemmas.Bool.{eqb-true, eqb-false, and_cases, and_parts}
 use borrow.Author.Tests.{ltb-true}
 use Rattle.std.proofs.lemmas.List.{length-drop, map-append}
 use Rattle.std.proofs.lemmas.List.Elements.{filter-append}
@@ -13,7 +13,7 @@ use Rattle.opening.specs.Matching.{after_entry, ends_of, is_misplaced}
 use Rattle.opening.specs.Stream.{Part, Named, entry_part, parts_of, named_part, files_in, length_in, stream_length, IsMisplaced}
 use Rattle.pieces.specs.Pieces.{pieces_of}
 use Rattle.opening.specs.declared.version1.Ends.{Ends}
-use Rattle.opening.proofs.Hybrids.{parts_back, and_true}
+use Rattle.opening.proofs.Hybrids.{parts_back}
 
 -- where the last piece of the files of a list ends
 abbrev pub pieces_end : ℕ → List Part → ℕ
@@ -109,8 +109,8 @@ one_more k all i e v right here before h = record {
 misplaced_here : (k : ℕ) (all : List Part) (i : ℕ) (e : Ends) (v : Bencode) → is_misplaced v e ≡ true → slice_get all i ≡ Some (entry_part v)
     → IsEnd k all i e → IsMisplaced k all
 misplaced_here k all i e v wrong here h =
-    let parts = and_true (not (has_attribute 112 v) && nat_lt 0 (length_of v)) (not (nat_eq e.stream e.pieces)) wrong in
-    let inner = and_true (not (has_attribute 112 v)) (nat_lt 0 (length_of v)) parts.0 in
+    let parts = and_parts (not (has_attribute 112 v) && nat_lt 0 (length_of v)) (not (nat_eq e.stream e.pieces)) wrong in
+    let inner = and_parts (not (has_attribute 112 v)) (nat_lt 0 (length_of v)) parts.0 in
     record {
       number = i;
       part = entry_part v;

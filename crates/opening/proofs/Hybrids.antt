@@ -3,7 +3,7 @@ use Rattle.std.proofs.Common.{inl, inr, ◌≡◌, ℕ, Bool, true, false, not, 
 use Rattle.std.specs.List.{list_any}
 use Rattle.std.specs.Str.{bytes_eq}
 use Rattle.std.proofs.lemmas.Slice.Eq.{bytes_eq-Decides}
-use Rattle.std.proofs.lemmas.Bool.{eqb-true, and_from, and_cases}
+use Rattle.std.proofs.lemmas.Bool.{eqb-true, and_from, and_cases, and_parts, or_parts}
 use Rattle.benc.specs.Value.{Bencode, int, text, list, dict, Items, no_items, item}
 use Rattle.opening.specs.Description.{FileEntry}
 use Rattle.filetree.specs.Dictionary.{get, as_text}
@@ -12,14 +12,6 @@ use Rattle.opening.specs.Matching.{is_text, are_texts, is_path_value, is_length,
 use Rattle.opening.specs.Stream.{Part, Named, texts_in, some_texts, as_path, entry_part, parts_of, is_broken, named_part, files_in}
 
 -- ---- tests that hold of both
-
-pub and_true : (x y : Bool) → (x && y) ≡ true → (x ≡ true) × (y ≡ true)
-and_true true y e = (refl, e)
-and_true false y e = let bad : ⊥ = cc in absurd bad
-
-or_false : (x y : Bool) → (x || y) ≡ false → (x ≡ false) × (y ≡ false)
-or_false true y e = let bad : ⊥ = cc in absurd bad
-or_false false y e = (refl, e)
 
 -- ---- paths
 
@@ -34,7 +26,7 @@ texts_are no_items [] e = refl
 texts_are no_items (s ∷ ss) e = let bad : ⊥ = cc in absurd bad
 texts_are (item v vs) [] e = let bad : ⊥ = cc in absurd bad
 texts_are (item v vs) (s ∷ ss) e =
-    let both = and_true (is_text v s) (are_texts vs ss) e in
+    let both = and_parts (is_text v s) (are_texts vs ss) e in
     ap (λ o. option_and_then (λ (t : List ℕ). option_and_then (λ (ts : List (List ℕ)). Some (t ∷ ts)) (texts_in vs)) o) (text_is v s both.0)
     ∙ ap (λ o. option_and_then (λ (ts : List (List ℕ)). Some (s ∷ ts)) o) (texts_are vs ss both.1)
 
@@ -88,7 +80,7 @@ length_back n (Some m) e = let same : m ≡ n = cc in ap (λ k. nat_eq k n) same
 
 entry_is : (v : Bencode) (f : FileEntry) → is_entry_of v f ≡ true → (length_at v ≡ Some f.length) × ((entry_part v).path ≡ Some f.path)
 entry_is v f e =
-    let both = and_true (is_length f.length (length_at v)) (is_path_value f.path (get (codes "path") v)) e in
+    let both = and_parts (is_length f.length (length_at v)) (is_path_value f.path (get (codes "path") v)) e in
     (length_is f.length (length_at v) both.0, path_is f.path (get (codes "path") v) both.1)
 
 entry_back : (v : Bencode) (f : FileEntry) → length_at v ≡ Some f.length → (entry_part v).path ≡ Some f.path → is_entry_of v f ≡ true
@@ -139,19 +131,19 @@ pub record AreParts (vs : Items) (fs : List FileEntry) : Type 0 where
 
 pad_whole : (v : Bencode) → is_sized v ≡ true → has_attribute 112 v ≡ true → is_broken (entry_part v) ≡ false
 pad_whole v sized pad =
-    ap (λ t. t || (not (has_attribute 112 v) && is_none (entry_part v).path)) (is_none_at (length_at v) (and_true _ _ sized).1)
+    ap (λ t. t || (not (has_attribute 112 v) && is_none (entry_part v).path)) (is_none_at (length_at v) (and_parts _ _ sized).1)
     ∙ ap (λ t. not t && is_none (entry_part v).path) pad
 
 file_whole : (v : Bencode) (path : List (List ℕ)) → is_sized v ≡ true → has_attribute 112 v ≡ false → (entry_part v).path ≡ Some path → is_broken (entry_part v) ≡ false
 file_whole v path sized file at =
-    ap (λ t. t || (not (has_attribute 112 v) && is_none (entry_part v).path)) (is_none_at (length_at v) (and_true _ _ sized).1)
+    ap (λ t. t || (not (has_attribute 112 v) && is_none (entry_part v).path)) (is_none_at (length_at v) (and_parts _ _ sized).1)
     ∙ ap (λ t. not t && is_none (entry_part v).path) file
     ∙ ap is_none at
 
 pad_added : (v : Bencode) (vs : Items) (fs : List FileEntry) → is_sized v ≡ true → has_attribute 112 v ≡ true → AreParts vs fs → AreParts (item v vs) fs
 pad_added v vs fs sized pad h = record {
   parts = entry_part v ∷ h.parts;
-  listed = parts_more v vs h.parts (and_true _ _ sized).0 h.listed;
+  listed = parts_more v vs h.parts (and_parts _ _ sized).0 h.listed;
   whole = ap (λ t. t || list_any is_broken h.parts) (pad_whole v sized pad) ∙ h.whole;
   same = files_pad (entry_part v) h.parts pad ∙ h.same;
 }
@@ -165,7 +157,7 @@ file_added v vs f fs sized file is h =
     ∙ ap (λ (o : Option ℕ). let r : Named = record { path = f.path; length = unwrap_or o 0 } in r) at.0 in
     record {
       parts = entry_part v ∷ h.parts;
-      listed = parts_more v vs h.parts (and_true _ _ sized).0 h.listed;
+      listed = parts_more v vs h.parts (and_parts _ _ sized).0 h.listed;
       whole = ap (λ t. t || list_any is_broken h.parts) (file_whole v f.path sized file at.1) ∙ h.whole;
       same = files_file (entry_part v) h.parts file ∙ ap (λ t. t ∷ files_in h.parts) named ∙ ap (λ t. named_entry f ∷ t) h.same;
     }
@@ -177,7 +169,7 @@ same_step v vs fs false pad s p e rest = let bad : ⊥ = cc in absurd bad
 same_step v vs fs true true s p e rest = pad_added v vs fs s p (rest fs e)
 same_step v vs [] true false s p e rest = let bad : ⊥ = cc in absurd bad
 same_step v vs (f ∷ fs) true false s p e rest =
-    let both = and_true (is_entry_of v f) (are_same vs fs) e in file_added v vs f fs s p both.0 (rest fs both.1)
+    let both = and_parts (is_entry_of v f) (are_same vs fs) e in file_added v vs f fs s p both.0 (rest fs both.1)
 
 pub same_parts : (vs : Items) (fs : List FileEntry) → are_same vs fs ≡ true → AreParts vs fs
 same_parts no_items [] e = record { parts = []; listed = refl; whole = refl; same = refl }
@@ -205,11 +197,11 @@ some_number (Some p) e = refl
 head_is : (v : Bencode) (f : FileEntry) → is_sized v ≡ true → has_attribute 112 v ≡ false → is_broken (entry_part v) ≡ false
     → named_part (entry_part v) ≡ named_entry f → is_entry_of v f ≡ true
 head_is v f sized file whole named =
-    let parts = or_false (is_none (length_at v)) (not (has_attribute 112 v) && is_none (entry_part v).path) whole in
+    let parts = or_parts (is_none (length_at v)) (not (has_attribute 112 v) && is_none (entry_part v).path) whole in
     let has_path : is_none (entry_part v).path ≡ false = ap (λ t. not t && is_none (entry_part v).path) (sym file) ∙ parts.1 in
     let path : unwrap_or (entry_part v).path [] ≡ f.path = ap (λ (n : Named). n.path) named in
     let size : unwrap_or (length_at v) 0 ≡ f.length = ap (λ (n : Named). n.length) named in
-    entry_back v f (some_number (length_at v) (and_true _ _ sized).1 ∙ ap Some size) (some_path (entry_part v).path has_path ∙ ap Some path)
+    entry_back v f (some_number (length_at v) (and_parts _ _ sized).1 ∙ ap Some size) (some_path (entry_part v).path has_path ∙ ap Some path)
 
 other_step : (v : Bencode) (vs : Items) (fs : List FileEntry) (sized pad : Bool) → is_sized v ≡ sized → has_attribute 112 v ≡ pad
     → (if sized then (if pad then are_same vs fs else begins v (are_same vs) fs) else false) ≡ false
@@ -217,13 +209,13 @@ other_step : (v : Bencode) (vs : Items) (fs : List FileEntry) (sized pad : Bool)
 other_step v vs fs false pad s p e rest ps listed whole same =
     let b = parts_back v vs ps listed in
     let broken : list_any is_broken (entry_part v ∷ b.rest) ≡ false = ap (list_any is_broken) (sym b.parts) ∙ whole in
-    let sized : is_none (length_at v) ≡ false = (or_false _ _ (or_false (is_broken (entry_part v)) _ broken).0).0 in
+    let sized : is_none (length_at v) ≡ false = (or_parts _ _ (or_parts (is_broken (entry_part v)) _ broken).0).0 in
     let bad : true ≡ false = sym (and_from _ _ b.is_dictionary (some_length (length_at v) sized)) ∙ s in
     let no_way : ⊥ = cc in no_way
 other_step v vs fs true true s p e rest ps listed whole same =
     let b = parts_back v vs ps listed in
     let unbroken : list_any is_broken (entry_part v ∷ b.rest) ≡ false = ap (list_any is_broken) (sym b.parts) ∙ whole in
-    rest fs e b.rest b.behind (or_false (is_broken (entry_part v)) _ unbroken).1 (sym (files_pad (entry_part v) b.rest p) ∙ ap files_in (sym b.parts) ∙ same)
+    rest fs e b.rest b.behind (or_parts (is_broken (entry_part v)) _ unbroken).1 (sym (files_pad (entry_part v) b.rest p) ∙ ap files_in (sym b.parts) ∙ same)
 other_step v vs [] true false s p e rest ps listed whole same =
     let b = parts_back v vs ps listed in
     let none : named_part (entry_part v) ∷ files_in b.rest ≡ [] = sym (files_file (entry_part v) b.rest p) ∙ ap files_in (sym b.parts) ∙ same in
@@ -235,8 +227,8 @@ other_step v vs (f ∷ fs) true false s p e rest ps listed whole same =
     let head : named_part (entry_part v) ≡ named_entry f = cc in
     let tail : files_in b.rest ≡ map named_entry fs = cc in
     elim (and_cases (is_entry_of v f) (are_same vs fs) e) [
-      | inl other ↦ (let bad : true ≡ false = sym (head_is v f s p (or_false (is_broken (entry_part v)) _ unbroken).0 head) ∙ other in let no_way : ⊥ = cc in no_way)
-      | inr other ↦ rest fs other b.rest b.behind (or_false (is_broken (entry_part v)) _ unbroken).1 tail
+      | inl other ↦ (let bad : true ≡ false = sym (head_is v f s p (or_parts (is_broken (entry_part v)) _ unbroken).0 head) ∙ other in let no_way : ⊥ = cc in no_way)
+      | inr other ↦ rest fs other b.rest b.behind (or_parts (is_broken (entry_part v)) _ unbroken).1 tail
     ]
 
 pub other_parts : (vs : Items) (fs : List FileEntry) → are_same vs fs ≡ false → AreOther vs fs

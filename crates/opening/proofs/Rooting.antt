@@ -1,10 +1,9 @@
 -- Roots in the order of first use.
 use Rattle.std.proofs.Common.{◌≡◌, ◌≢◌, ℕ, zero, suc, ◌+◌, ◌<◌, drop, get_or, Bool, true, false, cond, List, [], ◌∷◌, ◌++◌, length, Option, Some, None, option_map, map, ◌⊎◌, inl, inr, refl, sym, ap, subst, ◌∙◌}
+use Rattle.filetree.proofs.Paths.{is_equal}
 use Rattle.std.specs.Prelude.{◌==◌, slice_get, fold, take, if◌then◌else◌, IfSome}
 use Rattle.std.specs.Cmp.Lexicographic.{slice_cmp}
 use Rattle.std.specs.Ordering.{nat_cmp, is_eq}
-use Rattle.std.specs.declared.cmp.Ordering.{Ordering}
-use Rattle.std.specs.declared.cmp.Ordering.TheVariants.{Less, Equal, Greater}
 use Rattle.std.specs.Str.{bytes_eq}
 use Rattle.std.proofs.lemmas.Cmp.{nat_list_cmp_total, tied_itself}
 use Rattle.std.proofs.lemmas.Map.Lookups.{exact_bytes}
@@ -73,11 +72,6 @@ place_push_there (u ∷ ts) t s n e =
           let later = behind_one (place_in ts s) n is in
           rw other (ap (option_map suc) (place_push_there ts t s later.0 later.1) ∙ ap Some (sym later.2))
     ]
-
-is_equal : (o : Ordering) → is_eq o ≡ true → o ≡ Equal
-is_equal Less e = cc
-is_equal Equal e = refl
-is_equal Greater e = cc
 
 -- a map that leads to the places still does with one root more
 pub numbered_push : (g h : List ℕ → Option ℕ) (ts : List Root) (t : Root) → place_in ts t.root ≡ None → ((q : List ℕ) → g q ≡ place_in ts q)

@@ -1,10 +1,10 @@
 -- The three tests of a hybrid's version 1 part, by the stream's length as it is read.
-use Rattle.std.proofs.Common.{zero-add, zero-mul, inl, inr, ◌⊎◌, ◌≡◌, ◌≢◌, ℕ, zero, suc, ◌+◌, ◌-◌, ◌*◌, ◌<◌, ◌≤◌, ◌^◌, Bool, true, false, ◌&&◌, ◌||◌, if◌then◌else◌, nat_lt, is_some, is_none, List, [], ◌∷◌, take, map, Option, Some, None, option_and_then, unwrap_or, Result, Ok, Err, refl, sym, ap, ◌∙◌, subst, arith, codes, slice_get, sum_by, IsTrue}
+use Rattle.std.proofs.Common.{zero-add, zero-mul, inl, inr, ◌⊎◌, ◌≡◌, ◌≢◌, ℕ, zero, suc, ◌*◌, ◌<◌, ◌≤◌, ◌^◌, Bool, true, false, ◌&&◌, ◌||◌, if◌then◌else◌, nat_lt, is_some, is_none, List, [], ◌∷◌, take, map, Option, Some, None, option_and_then, unwrap_or, Result, Ok, Err, refl, sym, ap, ◌∙◌, subst, arith, codes, slice_get, sum_by, IsTrue}
+use Rattle.opening.proofs.Placing.{pieces_cover}
 use Rattle.std.specs.List.{list_any}
 use Rattle.std.proofs.lemmas.Slice.Eq.{bytes_eq-Decides}
-use Rattle.std.proofs.lemmas.Bool.{and_from}
+use Rattle.std.proofs.lemmas.Bool.{and_from, and_parts}
 use borrow.Author.Tests.{ltb-true}
-use Rattle.std.proofs.Math.Nat.{lt-div-mul-add}
 use Rattle.benc.specs.Value.{Bencode, int, text, list, dict, Items}
 use Rattle.opening.specs.Description.{FileEntry, Version1}
 use Rattle.filetree.specs.Dictionary.{get, as_list}
@@ -20,7 +20,7 @@ use Rattle.filetree.specs.declared.refusal.Refusal.{Refusal}
 use Rattle.filetree.specs.declared.refusal.Refusal.TheVariants as refusals
 use Rattle.opening.specs.declared.version1.Ends.{Ends}
 use Rattle.opening.proofs.Aligned.{AreEnds, IsEnd, ends_are, pieces_end}
-use Rattle.opening.proofs.Hybrids.{AreParts, and_true, length_back, length_is, other_parts, same_parts}
+use Rattle.opening.proofs.Hybrids.{AreParts, length_back, length_is, other_parts, same_parts}
 
 -- the stream's length, or the first of the first two tests that holds
 abbrev pub Streamed : ℕ → List ListedFile → Option (List Part) → Result ℕ Refusal → Type 0
@@ -95,8 +95,6 @@ named_back : (name : List ℕ) (path : List (List ℕ)) → path ≡ name ∷ []
 named_back name path e = ap (is_named name) e ∙ (bytes_eq-Decides name name).1 refl
 
 -- whole pieces are at least as long as what they hold
-whole_length : (k n : ℕ) → 0 < k → n ≤ pieces_of k n * k
-whole_length k n some = let t = lt-div-mul-add {a = n + (k - 1)} {b = k} some in omega (arith, t)
 
 one_fits : (k : ℕ) (fs : List ListedFile) (f : FileEntry) (info : Bencode) (name : List ℕ) → 0 < k → map named_entry (f ∷ []) ≡ map named fs
     → length_at info ≡ Some f.length → f.path ≡ name ∷ [] → Streamed k fs (Some (one_part info name ∷ [])) (Ok f.length)
@@ -106,7 +104,7 @@ one_fits k fs f info name some names size path = (
         let bad : true ≡ false = sym broken ∙ whole in let no_way : ⊥ = cc in no_way)
     | inr differ ↦ differ (ap (λ (t : Named). t ∷ []) same ∙ names)
   ]),
-  (λ wrong. elim wrong [ inl m ↦ misplaced m.number m.there m.elsewhere | inr long ↦ absurd (omega (arith, long, whole_length k f.length some, length_is_one, pieces_are)) ]),
+  (λ wrong. elim wrong [ inl m ↦ misplaced m.number m.there m.elsewhere | inr long ↦ absurd (omega (arith, long, pieces_cover k f.length some, length_is_one, pieces_are)) ]),
   sym length_is_one,
 )
   where
@@ -148,7 +146,7 @@ one k fs (f ∷ []) info name some names = by_test (is_length f.length (length_a
     by_test : (b : Bool) → (is_length f.length (length_at info) && is_named name f.path) ≡ b
         → Streamed k fs (Some (one_part info name ∷ [])) (or_else (if b then Some f.length else None) refusals.HybridFiles)
     by_test true is =
-        let both = and_true _ _ is in
+        let both = and_parts _ _ is in
         one_fits k fs f info name some names (length_is f.length (length_at info) both.0) (named_is name f.path both.1)
     by_test false other = inl (refl, one_differs k fs f info name names other)
 one k fs (f ∷ (g ∷ es)) info name some names =

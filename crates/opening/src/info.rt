@@ -18,6 +18,9 @@ use filetree::{Key, Refusal};
 use pieces::PieceLength;
 use std::str;
 
+// The version of BitTorrent that is opened here, as `meta version` states it.
+const META_VERSION: i64 = 2;
+
 /// What the keys of a torrent file tell.
 pub(crate) struct Keys<'v, 'a> {
     pub(crate) info: &'v Value<'a>,
@@ -84,7 +87,7 @@ fn version(info: &Value<'_>) -> Result<(), Refusal>
     ensures { Passes (version_rows (view info.now)) (λ _. Unit {0}) result }
 {
     let version = required(info, Key::MetaVersion)?;
-    if integer(version, Key::MetaVersion)? != 2 {
+    if integer(version, Key::MetaVersion)? != META_VERSION {
         return Err(Refusal::Version);
     }
     Ok(())

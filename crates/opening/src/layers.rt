@@ -3,10 +3,11 @@
 ghost use Rattle.std.specs.Prelude.{◌≡◌, IfSome, length, option_map};
 ghost use Rattle.benc.specs.View.{view, pairs_view};
 ghost use Rattle.filetree.specs.Dictionary.{Ascends, under};
-ghost use Rattle.opening.specs.PieceLayers.{as_digests, ascends_prop, layer_at};
+ghost use Rattle.opening.specs.PieceLayers.{ascends_prop, layer_at};
 ghost use Rattle.opening.specs.Steps.{pairs_seen};
 ghost use Rattle.pieces.specs.Pieces.{pieces_of};
 
+use crate::digests::digests;
 use crate::roots::Root;
 use benc::{Pair, Value};
 use hashtree::Hash;
@@ -51,19 +52,6 @@ impl<'v, 'a> Layers<'v, 'a> {
             Some(value) => digests(value, piece_length.pieces(tree.length)),
             None => None,
         }
-    }
-}
-
-// The digests of a byte string of this many, joined.
-fn digests<'a>(value: &Value<'a>, count: u64) -> Option<&'a [Hash]>
-    ensures value { option_map (λ hs. hs.now) result ≡ as_digests 32 count (view value.now) }
-    ensures count { IfSome result (λ hs. length hs.now ≡ count) }
-{
-    match value {
-        Value::Bytes(bytes) if bytes.len() % 32 == 0 && (bytes.len() / 32) as u64 == count => {
-            Some(bytes.as_chunks::<32>().0)
-        }
-        _ => None,
     }
 }
 

@@ -2,6 +2,7 @@
 #![tactic(auto)]
 
 mod block_run;
+mod digests;
 mod info;
 pub mod laws;
 mod layer_tests;

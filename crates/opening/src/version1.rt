@@ -7,14 +7,13 @@ ghost use Rattle.benc.specs.View.{view, items_view};
 ghost use Rattle.filetree.specs.Dictionary.{get};
 ghost use Rattle.filetree.specs.FileTree.{length_of};
 ghost use Rattle.opening.specs.Matching.{FitsStream, after_entry, aligned_length, are_same, are_texts, ends_of, many_lengths, one_length, stream_at, is_entry_of, is_misplaced, is_path_value, is_sized, is_text, nowhere};
-ghost use Rattle.opening.specs.PieceLayers.{as_digests};
 ghost use Rattle.filetree.specs.declared.files.ListedFile.{ListedFile};
 ghost use Rattle.opening.specs.Refusals.{hybrid_rows};
 ghost use Rattle.opening.specs.Seen.{file_entry, version1};
 ghost use Rattle.filetree.specs.Tests.{Passes};
 ghost use Rattle.opening.specs.Stream.{IsVersion1, is_named};
-ghost use Rattle.pieces.specs.Pieces.{pieces_of};
 
+use crate::digests::digests;
 use crate::torrent::File;
 use benc::Value;
 use filetree::{Refusal, has_attribute, length};
@@ -44,7 +43,7 @@ pub(crate) fn version1<'a>(
         return Ok(None);
     };
     let total = stream(info, name, files, piece_length)?;
-    let Some(pieces) = cut_digests(pieces, total, piece_length) else {
+    let Some(pieces) = digests(pieces, piece_length.pieces(total)) else {
         return Err(Refusal::HybridPieces);
     };
     Ok(Some(V1 { pieces, total }))
@@ -247,23 +246,5 @@ fn stream(
         (Some(_), None) => one_file(info, name, files).ok_or(Refusal::HybridFiles),
         (None, Some(Value::List(entries))) => many_files(entries, files, piece_length),
         _ => Err(Refusal::HybridFiles),
-    }
-}
-
-// The digests of the stream's cuts: 20 bytes for each.
-fn cut_digests<'a>(
-    pieces: &Value<'a>,
-    total: u64,
-    piece_length: PieceLength,
-) -> Option<&'a [[u8; 20]]>
-    ensures { option_map (λ h. h.now) result
-        ≡ as_digests 20 (pieces_of piece_length total) (view pieces.now) }
-{
-    let count = piece_length.pieces(total);
-    match pieces {
-        Value::Bytes(bytes) if bytes.len() % 20 == 0 && (bytes.len() / 20) as u64 == count => {
-            Some(bytes.as_chunks::<20>().0)
-        }
-        _ => None,
     }
 }

@@ -6,22 +6,18 @@ use Rattle.gathering.proofs.Adding.{added_is, fits_layer, given_is, has_cuts, of
 use Rattle.gathering.proofs.Stopped.{added_path, refused_path}
 use Rattle.gathering.proofs.gathering.add_file.Goals as goal
 
-pub add-requires-clause-cuts : goal.add-requires-clause-cuts
-add-requires-clause-cuts g c =
+pub add-requires : goal.add-requires
+add-requires g c =
     let visits = c.in_ok-hashes.ensures.visits in
     let d = c.args.draft.now in
     let hashes = of_draft d _ _ _ _ c.requires.piece_length c.requires.hybrid visits.3 in
-    has_cuts d _ _ _ (given_is d (map (λ s. s.now) c.args.path.now) visits.0 c.in_ok-hashes.hashes hashes)
-
-pub add-requires-clause-layer : goal.add-requires-clause-layer
-add-requires-clause-layer g c =
-    let visits = c.in_ok-hashes.ensures.visits in
-    let d = c.args.draft.now in
-    let hashes = of_draft d _ _ _ _ c.requires.piece_length c.requires.hybrid visits.3 in
-    fits_layer d _ visits.0 _ c.deref-2.result.now (subst IsPieceLength (sym c.requires.piece_length) c.is_legal.ensures)
-    (given_is d (map (λ s. s.now) c.args.path.now) visits.0 c.in_ok-hashes.hashes hashes)
-    (c.deref-2.ensures.value ∙ hashes.layer_is)
-    (subst (All (λ h. length h ≡ 32)) (c.deref.ensures.value ∙ sym c.deref-2.ensures.value) c.are_hashes.ensures)
+    let file = given_is d (map (λ s. s.now) c.args.path.now) visits.0 c.in_ok-hashes.hashes hashes in
+    record {
+      cuts = has_cuts d _ _ _ file;
+      fits = fits_layer d _ visits.0 _ c.deref-2.result.now (subst IsPieceLength (sym c.requires.piece_length) c.is_legal.ensures) file
+          (c.deref-2.ensures.value ∙ hashes.layer_is)
+          (subst (All (λ h. length h ≡ 32)) (c.deref.ensures.value ∙ sym c.deref-2.ensures.value) c.are_hashes.ensures);
+    }
 
 pub returns-clause-adds : goal.returns-clause-adds
 returns-clause-adds g c =

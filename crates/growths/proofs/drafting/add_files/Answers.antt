@@ -1,7 +1,10 @@
-use Rattle.std.proofs.Common.{refl}
+use Rattle.std.proofs.Common.{refl, rules}
 use Rattle.metainfo.specs.Seen.{tree_entry}
 use Rattle.growths.proofs.Told.{fits_layer}
 use Rattle.growths.proofs.drafting.add_files.Goals as goal
 
-pub add_again-requires-clause-layer : goal.add_again-requires-clause-layer
-add_again-requires-clause-layer c = fits_layer c.files.draft _ (tree_entry c.tree_of-tree.result) c.args.torrent.now.piece_length refl refl c.files.invariant c.tree_of-tree.ensures
+pub add_again-requires : goal.add_again-requires
+add_again-requires c = record {
+  cuts = search rules;
+  fits = fits_layer c.files.draft _ (tree_entry c.tree_of-tree.result) c.args.torrent.now.piece_length refl refl c.files.invariant c.tree_of-tree.ensures;
+}

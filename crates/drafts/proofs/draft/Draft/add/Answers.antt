@@ -1,42 +1,35 @@
-use Rattle.std.proofs.Common.{◌≡◌, ◌∙◌, List, map, length, Result, Ok, Err, sym, ap, subst, arith, rules}
+use Rattle.std.proofs.Common.{◌≡◌, ◌∙◌, List, map, length, Err, refl, sym, ap, subst, arith, rules}
+use Rattle.std.proofs.lemmas.Result.{err_from_is_err_and}
 use Rattle.std.specs.List.{All}
-use Rattle.std.specs.Prelude.{IfErr, OnOk}
-use Rattle.filetree.specs.Tests.{NoneHolds, PassesUnlessNoMemory, TestRow}
-use Rattle.filetree.specs.declared.refusal.Refusal.{Refusal}
-use Rattle.filetree.specs.declared.refusal.Refusal.TheVariants as refusals
-use Rattle.drafts.specs.Adding.{IsGiven, IsWith, add_rows, given_file}
+use Rattle.std.specs.Prelude.{OnOk}
+use Rattle.filetree.specs.Tests.{NoneHolds}
+use Rattle.drafts.specs.Adding.{Adds, IsGiven, IsWith, add_rows, given_file}
 use Rattle.drafts.specs.DraftSeen.{outline_file}
 use Rattle.drafts.specs.Orders.{IsPlaceOf, Ties}
 use Rattle.drafts.specs.Outline.{OutlineFile}
 use Rattle.drafts.specs.declared.draft.DraftFile.{DraftFile}
-use Rattle.drafts.proofs.Passing.{Passed, clash_first, fits_given, none_holds, paths_in}
+use Rattle.drafts.proofs.Passing.{Passed, answers, clashes, fits_given, none_holds, paths_in}
 use Rattle.drafts.proofs.draft.Draft.add.Goals as goal
 
-if_err : {A : Type 0} (P : Type 0) (r : Result A Refusal) → P → IfErr r (λ e. e ≡ refusals.NoMemory → P)
-if_err P (Ok x) p = tt
-if_err P (Err e) p = λ _. p
-
-passes : (rows : List TestRow) (Q : Type 0) (r : Result Unit Refusal) → NoneHolds rows → OnOk r Q → IfErr r (λ e. e ≡ refusals.NoMemory) → PassesUnlessNoMemory rows (λ _. Q) r
-passes rows Q (Ok x) none ok err = (none, ok)
-passes rows Q (Err e) none ok err = λ not. absurd (not err)
-
-pub returns-in_default-clause-added : goal.returns-in_default-clause-added
-returns-in_default-clause-added c =
+pub returns-in_default : goal.returns-in_default
+returns-in_default c =
     let f = given_file c.args.self.now (map (λ s. s.now) c.args.path.now) c.args.length c.args.root c.args.v1.now in
     let passed : Passed c.args.self.now f = record { path = c.in_ok-test_path.ensures; bound = omega (arith, c.if-length-gt-MAX_LENGTH.false); root = c.in_ok-test_root.ensures; pieces = c.in_ok-test_pieces.ensures } in
     let paths : map (λ (g : OutlineFile). g.path) (map outline_file c.deref.result.now) ≡ paths_in c.args.self.now =
     ap (λ (fs : List DraftFile). map (λ (g : OutlineFile). g.path) (map outline_file fs)) c.deref.ensures.value ∙ ap paths_in c.self.view_is
     in
-    λ _. clash_first c.args.self.now f passed (subst (λ ps. Ties f.path ps) paths c.in_default.ensures.place)
+    clashes c.args.self.now f c.args.layer.now passed (subst (λ ps. Ties f.path ps) paths c.in_default.ensures.place)
 
-pub returns-in_err-file-clause-memory : goal.returns-in_err-file-clause-memory
-returns-in_err-file-clause-memory c =
+pub returns-in_err-file : goal.returns-in_err-file
+returns-in_err-file c =
     let f = given_file c.args.self.now (map (λ s. s.now) c.args.path.now) c.args.length c.args.root c.args.v1.now in
     let passed : Passed c.args.self.now f = record { path = c.in_ok-test_path.ensures; bound = omega (arith, c.if-length-gt-MAX_LENGTH.false); root = c.in_ok-test_root.ensures; pieces = c.in_ok-test_pieces.ensures } in
     let paths : map (λ (g : OutlineFile). g.path) (map outline_file c.deref.result.now) ≡ paths_in c.args.self.now =
     ap (λ (fs : List DraftFile). map (λ (g : OutlineFile). g.path) (map outline_file fs)) c.deref.ensures.value ∙ ap paths_in c.self.view_is
     in
-    if_err _ c.from_residual-in_err-file.result (none_holds c.args.self.now f c.in-Some.place passed (subst (λ ps. IsPlaceOf f.path ps c.in-Some.place) paths c.in-Some.ensures.place))
+    let p = err_from_is_err_and c.from_residual-in_err-file.result c.from_residual-in_err-file.ensures.1 in
+    subst (Adds c.args.self.now f c.args.layer.now c.args.self.now) (sym p.1)
+    (answers c.args.self.now c.args.self.now f c.args.layer.now (Err p.0) (none_holds c.args.self.now f c.in-Some.place passed (subst (λ ps. IsPlaceOf f.path ps c.in-Some.place) paths c.in-Some.ensures.place)) tt (p.2 ∙ c.in_err-file.ensures) refl)
 
 pub insert-requires-clause-tests : goal.insert-requires-clause-tests
 insert-requires-clause-tests c =
@@ -53,25 +46,16 @@ insert-requires-clause-fits c =
     let root_length : length c.args.root ≡ 32 = search rules in
     let padded_length : length c.args.v1.now.padded ≡ 20 = search rules in
     subst (λ g. IsGiven c.args.self.now g c.args.layer.now) (sym c.in_ok-file.ensures)
-    (fits_given c.args.self.now (map (λ s. s.now) c.args.path.now) c.args.length c.args.root c.args.v1.now c.args.layer.now root_length (subst (All (λ h. length h ≡ 20)) c.deref-2.ensures.value c.are_digests.ensures) padded_length c.requires.cuts c.requires.layer)
+    (fits_given c.args.self.now (map (λ s. s.now) c.args.path.now) c.args.length c.args.root c.args.v1.now c.args.layer.now root_length (subst (All (λ h. length h ≡ 20)) c.deref-2.ensures.value c.are_digests.ensures) padded_length c.requires)
 
-pub returns-clause-added : goal.returns-clause-added
-returns-clause-added c =
+pub returns : goal.returns
+returns c =
     let f = given_file c.args.self.now (map (λ s. s.now) c.args.path.now) c.args.length c.args.root c.args.v1.now in
     let passed : Passed c.args.self.now f = record { path = c.in_ok-test_path.ensures; bound = omega (arith, c.if-length-gt-MAX_LENGTH.false); root = c.in_ok-test_root.ensures; pieces = c.in_ok-test_pieces.ensures } in
     let paths : map (λ (g : OutlineFile). g.path) (map outline_file c.deref.result.now) ≡ paths_in c.args.self.now =
     ap (λ (fs : List DraftFile). map (λ (g : OutlineFile). g.path) (map outline_file fs)) c.deref.ensures.value ∙ ap paths_in c.self.view_is
     in
-    passes (add_rows c.args.self.now f) _ c.insert.result
+    answers c.args.self.now _ f c.args.layer.now c.insert.result
     (none_holds c.args.self.now f c.in-Some.place passed (subst (λ ps. IsPlaceOf f.path ps c.in-Some.place) paths c.in-Some.ensures.place))
     (subst (λ g. OnOk c.insert.result (IsWith c.args.self.now c.insert.new.self g c.args.layer.now)) c.in_ok-file.ensures c.insert.ensures.added)
-    c.insert.ensures.refused
-
-pub returns-clause-memory : goal.returns-clause-memory
-returns-clause-memory c =
-    let f = given_file c.args.self.now (map (λ s. s.now) c.args.path.now) c.args.length c.args.root c.args.v1.now in
-    let passed : Passed c.args.self.now f = record { path = c.in_ok-test_path.ensures; bound = omega (arith, c.if-length-gt-MAX_LENGTH.false); root = c.in_ok-test_root.ensures; pieces = c.in_ok-test_pieces.ensures } in
-    let paths : map (λ (g : OutlineFile). g.path) (map outline_file c.deref.result.now) ≡ paths_in c.args.self.now =
-    ap (λ (fs : List DraftFile). map (λ (g : OutlineFile). g.path) (map outline_file fs)) c.deref.ensures.value ∙ ap paths_in c.self.view_is
-    in
-    if_err _ c.insert.result (none_holds c.args.self.now f c.in-Some.place passed (subst (λ ps. IsPlaceOf f.path ps c.in-Some.place) paths c.in-Some.ensures.place))
+    c.insert.ensures.refused c.insert.ensures.unchanged
