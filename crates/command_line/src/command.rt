@@ -1,7 +1,7 @@
 //! What the program can be asked for.
 
 /// What the command line asks for.
-#[derive(Drop)]
+#[derive(Debug, Drop, PartialEq, Eq)]
 pub enum Action<'a> {
     /// Print a file's length and pieces root.
     Root {
@@ -29,7 +29,7 @@ pub enum Action<'a> {
 }
 
 /// Of what a torrent is made, and how.
-#[derive(Drop)]
+#[derive(Debug, Drop, PartialEq, Eq)]
 pub struct Create<'a> {
     /// The folder's path.
     pub dir: &'a str,
@@ -44,7 +44,7 @@ pub struct Create<'a> {
 }
 
 /// What is replayed, and how.
-#[derive(Drop)]
+#[derive(Debug, Drop, PartialEq, Eq)]
 pub struct Replay<'a> {
     /// The torrent file's path.
     pub torrent: &'a str,
@@ -59,7 +59,7 @@ pub struct Replay<'a> {
 }
 
 /// What is converted.
-#[derive(Drop)]
+#[derive(Debug, Drop, PartialEq, Eq)]
 pub struct Convert<'a> {
     /// The record's path.
     pub record: &'a str,

@@ -9,11 +9,13 @@ use clap::Error;
 use clap::error::ErrorKind;
 
 /// Why it could not be told.
-#[derive(Debug, Drop)]
+#[derive(Debug, Drop, thiserror::Error)]
 pub enum ExplainFault {
     /// Out of memory while the arguments were read.
+    #[error("no memory")]
     NoMemory,
     /// Help or the version could not be written to standard output.
+    #[error("cannot write -")]
     Write,
 }
 

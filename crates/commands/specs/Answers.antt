@@ -1,6 +1,8 @@
 -- What a command ends with: the exit status that follows from the library's answer, or the fault.
 use Rattle.std.specs.Prelude.{◌≡◌, ◌≢◌, ℕ, Bool, true, false, List, [], Option, Result, Ok, Err, codes}
 use Rattle.benc.specs.Device.{SourceSeen, SinkSeen, SentAndFlushed, BrokeOrUnflushed}
+use Rattle.checker.specs.ConvertFault.{ConvertFault}
+use Rattle.checker.specs.ConvertFault.TheVariants as converting
 use Rattle.checker.specs.GatherFault.{GatherFault}
 use Rattle.checker.specs.GatherFault.TheVariants as gathering
 use Rattle.checker.specs.Root.{Blames}
@@ -9,8 +11,6 @@ use Rattle.checker.specs.SeedFault.{SeedFault}
 use Rattle.checker.specs.SeedFault.TheVariants as seeding
 use Rattle.checker.specs.ShelfFault.{ShelfFault}
 use Rattle.checker.specs.ShelfFault.TheVariants as listing
-use Rattle.conversions.specs.declared.fault.ConvertFault.{ConvertFault}
-use Rattle.conversions.specs.declared.fault.ConvertFault.TheVariants as converting
 use Rattle.folders.specs.declared.report.FileVerdict.{FileVerdict}
 use Rattle.folders.specs.declared.report.V1Verdict.{V1Verdict}
 use Rattle.lines.specs.declared.fault.Fault.{Fault}

@@ -4,7 +4,7 @@ ghost use Rattle.std.specs.Global.{Global, Vec};
 ghost use Rattle.std.specs.String.{string_bytes};
 ghost use Rattle.benc.specs.Device.{BrokeOrUnflushed, SentAndFlushed, WroteAndFlushed};
 ghost use Rattle.benc.specs.Text.{spelling};
-ghost use Rattle.conversions.specs.Converting.{Converts, FailsToConvert};
+ghost use Rattle.checker.specs.Converting.{Converts, FailsToConvert};
 ghost use Rattle.chains.specs.Chain.{Chain};
 ghost use Rattle.checker.specs.Gathering.{Gathers};
 ghost use Rattle.checker.specs.Refused.{refusal_text};
@@ -12,9 +12,9 @@ ghost use Rattle.checker.specs.Show.{show_text};
 ghost use Rattle.checker.specs.Replay.{IsCutReport, replay_seen};
 ghost use Rattle.checker.specs.Root.{root_line_of};
 ghost use Rattle.checker.specs.Seeding.{IsSeeded, Seeds, shelf_and_session};
-ghost use Rattle.drafts.specs.Finishing.{finish_rows};
-ghost use Rattle.drafts.specs.Outline.{empty_outline};
-ghost use Rattle.drafts.specs.Written.{value_of};
+ghost use Rattle.metainfo.specs.Finishing.{finish_rows};
+ghost use Rattle.metainfo.specs.Outline.{empty_outline};
+ghost use Rattle.metainfo.specs.Written.{value_of};
 ghost use Rattle.metainfo.specs.Tests.{First, NoneHolds};
 ghost use Rattle.checker.specs.Shelf.{path_bytes};
 ghost use Rattle.checker.specs.TakeAll.{IsReadWithin};
@@ -31,8 +31,7 @@ use checker::{
 use command_line::command::Create;
 use lines::write_line;
 use metainfo::{Draft, Refusal, Torrent};
-use node_maps::Paged;
-use session::{NodeMap, Session};
+use session::{NodeMap, Paged, Session};
 use std::alloc::Global;
 
 /// Prints the length and root of the file at this path. The status is 1 if the file is too long.

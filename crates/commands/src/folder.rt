@@ -1,9 +1,9 @@
 //! A folder of the file system as a shelf.
 ghost use Rattle.std.specs.Prelude.{◌≡◌, [], ◌∷◌, ◌++◌, None, IfOk, ⊤, map, string_bytes};
-ghost use Rattle.commands.specs.Places.{place_below};
+ghost use Rattle.commands.specs.SystemPaths.{system_path_below};
 ghost use Rattle.benc.specs.Device.{one_more};
 
-use crate::places::Places;
+use crate::offsets::Offsets;
 use benc::{DeviceFault, FromRead, Source};
 use checker::{Shelf, ShelfFault};
 use metainfo::Torrent;
@@ -23,7 +23,7 @@ pub struct Folder<'a> {
     dir: &'a str,
     faults: u64,
     // None if the files are read one behind the other.
-    places: Option<Places<'a>>,
+    offsets: Option<Offsets<'a>>,
     progress: &'a Progress,
 }
 
@@ -37,7 +37,7 @@ impl<'a> Folder<'a> {
             rt,
             dir,
             faults: 0,
-            places: None,
+            offsets: None,
             progress,
         }
     }
@@ -56,7 +56,7 @@ impl<'a> Folder<'a> {
             rt,
             dir,
             faults: 0,
-            places: Some(Places::new(torrent)),
+            offsets: Some(Offsets::new(torrent)),
             progress,
         }
     }
@@ -69,16 +69,16 @@ impl<'a> Folder<'a> {
     }
 
     // The file system's path of what has these path components here.
-    fn place_of(&self, path: &[&str]) -> Result<String, AllocError>
-        ensures { IfOk result (λ place. string_bytes place
-            ≡ place_below self.now.dir.now (map (λ s. s.now) path.now)) }
+    fn system_path(&self, path: &[&str]) -> Result<String, AllocError>
+        ensures { IfOk result (λ text. string_bytes text
+            ≡ system_path_below self.now.dir.now (map (λ s. s.now) path.now)) }
     {
-        let mut place = String::from_str(self.rt.alloc(), self.dir)?;
+        let mut text = String::from_str(self.rt.alloc(), self.dir)?;
         'parts: for part in path {
-            place.push('/')?;
-            place.push_str(part)?;
+            text.push('/')?;
+            text.push_str(part)?;
         }
-        Ok(place)
+        Ok(text)
     }
 
     // Opens the file with these path components, and gives its path with it, or answers that the
@@ -87,28 +87,28 @@ impl<'a> Folder<'a> {
         if self.dir.is_empty() {
             return Ok(None);
         }
-        let place = self.place_of(path)?;
-        match self.open_regular(place.as_str()) {
-            Ok(file) => Ok(Some((file, place))),
+        let system_path = self.system_path(path)?;
+        match self.open_regular(system_path.as_str()) {
+            Ok(file) => Ok(Some((file, system_path))),
             Err(error) if error.kind() == ErrorKind::NotFound => Ok(None),
             Err(error) => Err(error),
         }
     }
 
     // Opens a regular file, and fails without opening if it is of another kind.
-    fn open_regular(&self, place: &str) -> io::Result<File> {
-        if !fs::metadata(self.rt, place)?.is_file() {
+    fn open_regular(&self, system_path: &str) -> io::Result<File> {
+        if !fs::metadata(self.rt, system_path)?.is_file() {
             return Err(io::Error::from(ErrorKind::InvalidInput));
         }
-        File::open(self.rt, place)
+        File::open(self.rt, system_path)
     }
 
     // How many bytes stand before the file with this path.
     fn bytes_before(&mut self, path: &[&str]) -> u64
         ensures { self.new.faults ≡ self.old.faults }
     {
-        match &mut self.places {
-            Some(places) => places.before(path),
+        match &mut self.offsets {
+            Some(offsets) => offsets.before(path),
             None => self.progress.read(),
         }
     }
@@ -134,8 +134,8 @@ impl<'a> Folder<'a> {
             .iter()
             .map(|part| part.as_str())
             .collect::<Vec<&str>>(alloc)?;
-        let place = self.place_of(parts.as_slice())?;
-        for entry in fs::read_dir(self.rt, place).map_err(listing_fault)? {
+        let system_path = self.system_path(parts.as_slice())?;
+        for entry in fs::read_dir(self.rt, system_path).map_err(listing_fault)? {
             let entry = entry.map_err(listing_fault)?;
             let path = path_in(alloc, folder, entry.file_name())?;
             walk.note(path, &entry)?;

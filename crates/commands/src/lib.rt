@@ -4,7 +4,7 @@
 pub mod answers;
 mod fault;
 mod folder;
-mod places;
+mod offsets;
 
 pub use fault::print_fault;
 pub use folder::Folder;

@@ -1,24 +1,15 @@
 -- The text on its way out.
-use Rattle.std.proofs.Common.{◌≡◌, ℕ, List, [], ◌∷◌, ◌++◌, Result, Err, refl, sym, ap, ◌∙◌, subst}
+use Rattle.std.proofs.Common.{◌≡◌, ℕ, List, [], ◌∷◌, ◌++◌, sym, ap, ◌∙◌, subst}
 use Rattle.std.proofs.lemmas.List.{append_assoc, append-nil}
 use Rattle.benc.specs.Device.{SinkSeen, Broke, Sent}
-use Rattle.benc.proofs.Out.{Sent-append, Wrote-then, Wrote-part}
+use Rattle.benc.proofs.Out.{Broke-append, Sent-append}
 use Rattle.conversions.specs.Steps.{Held}
-
-abbrev failed : Result ℕ ℕ
-failed = Err 0
-
-pub broke_more : (a b : SinkSeen) (xs ys : List ℕ) → Broke a b xs → Broke a b (xs ++ ys)
-broke_more a b xs ys p = Wrote-part failed 0 a b xs ys (xs ++ ys) refl refl p
-
-pub broke_after : (a b c : SinkSeen) (xs ys : List ℕ) → Sent a b xs → Broke b c ys → Broke a c (xs ++ ys)
-broke_after a b c xs ys p q = Wrote-then failed a b c xs ys (xs ++ ys) refl p q
 
 pub held_sent : (start mid now : SinkSeen) (outgoing text : List ℕ) → Held start mid outgoing text → Sent mid now outgoing → Held start now [] text
 held_sent start mid now outgoing text h p = record { sent = h.sent ++ outgoing; out = Sent-append start mid now h.sent outgoing h.out p; text_is = h.text_is ∙ sym (append-nil (h.sent ++ outgoing)) }
 
 pub held_broke : (start mid now : SinkSeen) (outgoing text : List ℕ) → Held start mid outgoing text → Broke mid now outgoing → Broke start now text
-held_broke start mid now outgoing text h p = subst (Broke start now) (sym h.text_is) (broke_after start mid now h.sent outgoing h.out p)
+held_broke start mid now outgoing text h p = subst (Broke start now) (sym h.text_is) (Broke-append start mid now h.sent outgoing h.out p)
 
 pub sent_held : (start now : SinkSeen) (outgoing text : List ℕ) → outgoing ≡ [] → Sent start now text → Held start now outgoing text
 sent_held start now outgoing text none p = record { sent = text; out = p; text_is = sym (append-nil text) ∙ ap (λ t. text ++ t) (sym none) }

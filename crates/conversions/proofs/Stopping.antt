@@ -1,10 +1,10 @@
 -- Why a record was not converted, and what went out.
-use Rattle.std.proofs.Common.{◌≡◌, ℕ, ◌≤◌, Bool, true, false, nat_eq, Result, Ok, Err, List, [], ◌++◌, length, take, inl, inr, refl, sym, ap, ◌∙◌, subst, arith, MatchResult}
-use Rattle.std.specs.Io.KnownBytes.{Keeps}
+use Rattle.std.proofs.Common.{ℕ, ◌≤◌, Bool, true, false, nat_eq, Result, Ok, Err, List, [], ◌++◌, length, take, inl, inr, refl, sym, ap, ◌∙◌, subst, arith, MatchResult}
 use Rattle.std.proofs.lemmas.Bool.{eqb-true, eq-eqb, false≢true}
 use Rattle.std.proofs.lemmas.List.{length-take-le}
 use Rattle.benc.specs.Device.{SinkSeen, SourceSeen, Sent, one_more}
 use Rattle.benc.proofs.Known.{Appends-keeps, Appends_whole}
+use Rattle.lines.specs.Cut.{FailedFlush, Flushed}
 use Rattle.wire.specs.declared.form.Form.TheVariants.{One}
 use Rattle.wire.specs.Conversion.{conversion_bytes}
 use Rattle.wire.specs.Frames.{Frames}
@@ -57,9 +57,8 @@ whole_frames first now start out e = subst (Frames e.0 e.1.sends.bodies) (e.1.wh
 whole_text : (first now : SourceSeen) (start out : SinkSeen) (e : EndsForm1 true first now start out) → Sent start out (conversion_bytes e.1.sends.bodies)
 whole_text first now start out e = subst (Sent start out) (e.1.whole_is refl).1 e.1.sends.sent
 
-pub converts : (first now : SourceSeen) (start out out' : SinkSeen) → EndsForm1 true first now start out → Keeps out.written out'.written → out'.flushes ≡ one_more out.flushes → out'.faults ≡ out.faults → out'.is_flushed ≡ true
-    → Converts first now start out'
-converts first now start out out' e kept flushes faults last =
+pub converts : (first now : SourceSeen) (start out out' : SinkSeen) → EndsForm1 true first now start out → Flushed out out' → Converts first now start out'
+converts first now start out out' e f =
     let sent = whole_text first now start out e in
     record {
       bytes = e.0;
@@ -69,16 +68,15 @@ converts first now start out out' e kept flushes faults last =
       bodies = e.1.sends.bodies;
       frames = whole_frames first now start out e;
       wrote = record {
-        bytes = Appends-keeps start.written out.written out'.written (conversion_bytes e.1.sends.bodies) sent.bytes kept;
-        faults = faults ∙ sent.faults;
-        flushes = flushes ∙ ap one_more sent.flushes;
-        last = last;
+        bytes = Appends-keeps start.written out.written out'.written (conversion_bytes e.1.sends.bodies) sent.bytes f.bytes;
+        faults = f.faults ∙ sent.faults;
+        flushes = f.flushes ∙ ap one_more sent.flushes;
+        last = f.last;
       };
     }
 
-pub fails_to_flush : (first now : SourceSeen) (start out out' : SinkSeen) → EndsForm1 true first now start out → Keeps out.written out'.written → out'.flushes ≡ one_more out.flushes → out'.faults ≡ one_more out.faults
-    → FailsToWrite first now start out'
-fails_to_flush first now start out out' e kept flushes faults =
+pub fails_to_flush : (first now : SourceSeen) (start out out' : SinkSeen) → EndsForm1 true first now start out → FailedFlush out out' → FailsToWrite first now start out'
+fails_to_flush first now start out out' e f =
     let sent = whole_text first now start out e in
     let text = conversion_bytes e.1.sends.bodies in
     record {
@@ -89,9 +87,9 @@ fails_to_flush first now start out out' e kept flushes faults =
         bodies = e.1.sends.bodies;
         frames = whole_frames first now start out e;
         unflushed = record {
-          bytes = Appends_whole start.written out.written out'.written text sent.bytes kept;
-          faults = faults ∙ ap one_more sent.faults;
-          flushes = inr (Appends-keeps start.written out.written out'.written text sent.bytes kept, flushes ∙ ap one_more sent.flushes);
+          bytes = Appends_whole start.written out.written out'.written text sent.bytes f.bytes;
+          faults = f.faults ∙ ap one_more sent.faults;
+          flushes = inr (Appends-keeps start.written out.written out'.written text sent.bytes f.bytes, f.flushes ∙ ap one_more sent.flushes);
         };
       });
     }

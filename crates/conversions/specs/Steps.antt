@@ -1,8 +1,8 @@
 -- How far a conversion has come: the bytes of the record that it was fed, and the text for them.
-use Rattle.std.specs.Prelude.{◌≡◌, ◌≢◌, ◌⊎◌, ℕ, ◌+◌, ◌-◌, ◌<◌, ◌≤◌, ◌^◌, min, Bool, true, false, List, [], ◌∷◌, ◌++◌, length, take, Result, Ok, Err, OnOk}
+use Rattle.std.specs.Prelude.{◌≡◌, ◌≢◌, ◌⊎◌, ℕ, ◌+◌, ◌-◌, ◌<◌, ◌≤◌, ◌^◌, min, Bool, true, false, List, [], ◌∷◌, ◌++◌, length, take, Result, Ok, Err}
 use Rattle.std.specs.List.{All, flat_map}
-use Rattle.std.specs.Io.KnownBytes.{IsAtEnd, Keeps}
-use Rattle.benc.specs.Device.{SinkSeen, SourceSeen, Broke, CountsFault, Sent, one_more}
+use Rattle.std.specs.Io.KnownBytes.{IsAtEnd}
+use Rattle.benc.specs.Device.{SinkSeen, SourceSeen, Broke, Sent, one_more}
 use Rattle.wire.specs.declared.direction.Direction.TheVariants.{In}
 use Rattle.wire.specs.declared.form.Form.TheVariants.{One, Two}
 use Rattle.wire.specs.Conversion.{conversion_bytes, converted}
@@ -115,11 +115,6 @@ pub record FailsInFront (old new : SourceSeen) : Type 0 where
   pub gave : Gave old new bytes
   pub counted : new.faults ≡ one_more old.faults
   pub prefix : IsPrefixOf bytes header
-
--- one flush, and nothing else
-abbrev pub FlushesOnce : {A E : Type 0} → SinkSeen → SinkSeen → Result A E → Type 0
-FlushesOnce old new r = Keeps old.written new.written × (new.flushes ≡ one_more old.flushes)
-    × CountsFault old.faults new.faults r × OnOk r (new.is_flushed ≡ true)
 
 -- the source has ended, in a record of whole frames or inside a frame
 pub record RecordEnds (whole : Bool) (first now : SourceSeen) (bytes : List ℕ)

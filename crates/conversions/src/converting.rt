@@ -1,13 +1,14 @@
 //! The conversion of a record.
 ghost use Rattle.std.specs.Prelude.{◌≡◌, ◌+◌, ◌<◌, ◌≤◌, ◌++◌, ℕ, List, [], length, take, drop, IfOk, IfErr, MatchResult, OnOk};
 ghost use Rattle.benc.specs.Device.{Sent, SinkSeen, SourceSeen, Wrote};
+ghost use Rattle.lines.specs.Cut.{FailedFlush, Flushed};
 ghost use Rattle.wire.specs.Reading.{GaveFaultless};
 ghost use Rattle.wire.specs.Records.{HasForm, header};
 ghost use Rattle.wire.specs.declared.form.Form.TheVariants as FormOf;
 ghost use Rattle.wire.specs.RecordLaws.{ConversionIsRecord, ConversionMeans};
 ghost use Rattle.session.specs.NotedLaws.{ConversionReplaysAsFormOne, ConversionTellsTheSame};
 ghost use Rattle.conversions.specs.Converting.{Converts, FailsToConvert};
-ghost use Rattle.conversions.specs.Steps.{BreaksOff, ReadingEnds, EndsForm1, FailsInFront, FlushesOnce, Reached, TellsForm, Waits};
+ghost use Rattle.conversions.specs.Steps.{BreaksOff, ReadingEnds, EndsForm1, FailsInFront, Reached, TellsForm, Waits};
 
 use crate::fault::ConvertFault;
 use crate::head::LONGEST_HEAD;
@@ -193,7 +194,9 @@ fn move_to_front(buffer: &mut [u8], start: usize, end: usize) -> usize
 }
 
 fn flush<W: Sink>(out: &mut W) -> Result<(), WriteFault>
-    ensures { FlushesOnce (W.seen out.old) (W.seen out.new) result }
+    ensures { MatchResult result
+        (λ _. Flushed (W.seen out.old) (W.seen out.new))
+        (λ _. FailedFlush (W.seen out.old) (W.seen out.new)) }
 {
     out.flush()?;
     Ok(())

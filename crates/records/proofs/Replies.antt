@@ -37,8 +37,8 @@ use Rattle.session.proofs.Sessions.{mapped}
 use Rattle.records.specs.declared.told.Told.{Told}
 use Rattle.records.specs.declared.told.Told.TheVariants as told
 use Rattle.records.specs.declared.reply.Reply.TheVariants as reply
-use Rattle.records.specs.Answering.{Answers, AnswersAsk, Flushed, FailedFlush, HasFewHashes, IfWanted, IsReply, IsWanted, reply_of, reply_to}
-use Rattle.lines.specs.Cut.{BrokeAfter, Unflushed}
+use Rattle.records.specs.Answering.{Answers, AnswersAsk, HasFewHashes, IfWanted, IsReply, IsWanted, reply_of, reply_to}
+use Rattle.lines.specs.Cut.{BrokeAfter, FailedFlush, Flushed, Unflushed}
 use Rattle.records.specs.Replay.{Meets, StepsBy}
 
 -- ---- how many hashes an answer has

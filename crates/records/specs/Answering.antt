@@ -3,8 +3,8 @@
 use Rattle.std.proofs.Common.{inl, inr}
 use Rattle.std.specs.Prelude.{◌≡◌, ◌⊎◌, ℕ, ◌≤◌, List, [], length, Option, Some, None, option_map, is_some, Bool, true, false, Result, Ok, Err}
 use Rattle.std.specs.Borrow.{Bor, MutBor}
-use Rattle.std.specs.Io.KnownBytes.{Keeps}
-use Rattle.benc.specs.Device.{SinkSeen, Sent, Broke, SentAndFlushed, BrokeOrUnflushed, one_more}
+use Rattle.benc.specs.Device.{SinkSeen, Sent, Broke, SentAndFlushed, BrokeOrUnflushed}
+use Rattle.lines.specs.Cut.{FailedFlush, Flushed}
 use Rattle.wire.specs.declared.direction.Direction.TheVariants.{In}
 use Rattle.wire.specs.declared.frame.Frame.{Frame}
 use Rattle.wire.specs.declared.frame.Frame.TheVariants as frame
@@ -91,19 +91,6 @@ abbrev pub IsWanted : (SinkSeen → SinkSeen → Type 0) → Option SinkSeen →
 IsWanted Happens None new = ⊥
 IsWanted Happens (Some old) None = ⊥
 IsWanted Happens (Some old) (Some new) = Happens old new
-
--- nothing was written, and one flush was made
-pub record Flushed (old new : SinkSeen) : Type 0 where
-  pub bytes : Keeps old.written new.written
-  pub faults : new.faults ≡ old.faults
-  pub flushes : new.flushes ≡ one_more old.flushes
-  pub last : new.is_flushed ≡ true
-
--- nothing was written, and one flush failed
-pub record FailedFlush (old new : SinkSeen) : Type 0 where
-  pub bytes : Keeps old.written new.written
-  pub faults : new.faults ≡ one_more old.faults
-  pub flushes : new.flushes ≡ one_more old.flushes
 
 -- The answer went out whole, if answers are wanted; or a prefix of it, and the sink failed; or
 -- nothing of it, since memory was refused for the hashes.

@@ -3,7 +3,7 @@ use wire::FrameFault;
 
 /// How the reading of a record ended.
 #[derive(Clone, Copy, Debug, PartialEq, Eq)]
-pub enum Ending {
+pub(crate) enum Ending {
     /// The record ended between two frames.
     End,
     /// No further frame could be read.

@@ -11,7 +11,5 @@ mod reply;
 mod response;
 mod told;
 
-pub use ending::Ending;
 pub use outcome::Outcome;
 pub use replaying::replay;
-pub use told::Told;

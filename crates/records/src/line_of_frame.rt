@@ -6,6 +6,18 @@ use crate::told::Told;
 use lines::Line;
 use session::Verdict;
 
+/// How many bytes the number of a frame has at most, with the space after it.
+pub(crate) const NUMBER: usize = 21;
+
+/// How many bytes at most one line tells of a frame, after its number.
+pub(crate) const TOLD: usize = 60;
+
+// How many bytes the name of a refusal has at most.
+const NAME: usize = 11;
+
+// How many bytes the word before a count has at most, with the space after it.
+const WORD: usize = 8;
+
 /// The line of the frame of this number, which is no message of blocks.
 pub(crate) fn line_of_frame(number: u64, told: &Told) -> Line
     requires { IsOneLine told.now }
@@ -21,11 +33,11 @@ pub(crate) fn line_of_frame(number: u64, told: &Told) -> Line
 
 /// A refusal: a letter, its number and its name.
 pub(crate) fn put_refused(line: &mut Line, letter: &[u8], number: u32, name: &str)
-    requires line { length line.old ≤ 21 }
+    requires line { length line.old ≤ NUMBER }
     requires letter { length letter.now ≤ 1 }
-    requires name { length name.now ≤ 11 }
+    requires name { length name.now ≤ NAME }
     ensures text { line.new ≡ line.old ++ refused_text letter.now number name.now }
-    ensures bound { length line.new ≤ length line.old + 60 }
+    ensures bound { length line.new ≤ length line.old + TOLD }
 {
     line.put(b"refused ");
     line.put(letter);
@@ -35,10 +47,10 @@ pub(crate) fn put_refused(line: &mut Line, letter: &[u8], number: u32, name: &st
 }
 
 fn put_told(line: &mut Line, told: &Told)
-    requires line { length line.old ≤ 21 }
+    requires line { length line.old ≤ NUMBER }
     requires told { IsOneLine told.now }
     ensures text { line.new ≡ line.old ++ told_text told.now }
-    ensures bound { length line.new ≤ length line.old + 60 }
+    ensures bound { length line.new ≤ length line.old + TOLD }
 {
     match told {
         Told::Verdict(verdict) => put_verdict(line, verdict),
@@ -47,9 +59,9 @@ fn put_told(line: &mut Line, told: &Told)
 }
 
 fn put_bad_frame(line: &mut Line, id: u8, len: u32)
-    requires { length line.old ≤ 21 }
+    requires { length line.old ≤ NUMBER }
     ensures text { line.new ≡ line.old ++ told_text (Told.BadFrame id len) }
-    ensures bound { length line.new ≤ length line.old + 60 }
+    ensures bound { length line.new ≤ length line.old + TOLD }
 {
     line.put(b"bad frame ");
     line.put_number(u64::from(id));
@@ -58,10 +70,10 @@ fn put_bad_frame(line: &mut Line, id: u8, len: u32)
 }
 
 fn put_verdict(line: &mut Line, verdict: &Verdict)
-    requires line { length line.old ≤ 21 }
+    requires line { length line.old ≤ NUMBER }
     requires verdict { IsOneLine (Told.Verdict verdict.now) }
     ensures text { line.new ≡ line.old ++ verdict_text verdict.now }
-    ensures bound { length line.new ≤ length line.old + 60 }
+    ensures bound { length line.new ≤ length line.old + TOLD }
 {
     match verdict {
         Verdict::Stored(count) => put_counted(line, b"stored ", *count),
@@ -84,10 +96,10 @@ fn put_verdict(line: &mut Line, verdict: &Verdict)
 
 // A word, and a number after it.
 fn put_counted(line: &mut Line, word: &[u8], number: u64)
-    requires line { length line.old ≤ 21 }
-    requires word { length word.now ≤ 8 }
+    requires line { length line.old ≤ NUMBER }
+    requires word { length word.now ≤ WORD }
     ensures text { line.new ≡ line.old ++ (word.now ++ decimal number) }
-    ensures bound { length line.new ≤ length line.old + 60 }
+    ensures bound { length line.new ≤ length line.old + TOLD }
 {
     line.put(word);
     line.put_number(number);

@@ -3,10 +3,13 @@ ghost use Rattle.std.specs.Prelude.{◌≡◌, ◌+◌, ◌≤◌, ◌<◌, ◌+
 ghost use Rattle.benc.specs.Device.{Wrote};
 ghost use Rattle.records.specs.ReplayLines.{entry_lines, entry_text, line_text, place_text};
 
-use crate::line_of_frame::put_refused;
+use crate::line_of_frame::{NUMBER, TOLD, put_refused};
 use benc::{DeviceFault, Sink, write_all};
 use lines::Line;
 use session::{BlockRefusal, Blocks};
+
+// How many bytes the place of a block has at most: two numbers and a space.
+const PLACE: usize = 41;
 
 /// Writes a line for each block of the message in the frame of this number.
 pub(crate) fn write_blocks<W: Sink>(
@@ -38,10 +41,10 @@ fn line_of_entry(number: u64, blocks: &Blocks, entry: usize, refusal: Option<Blo
 
 // A verified block's place, or why it is refused, with its place if there are several.
 fn put_entry(line: &mut Line, blocks: &Blocks, entry: usize, refusal: Option<BlockRefusal>)
-    requires line { length line.old ≤ 21 }
+    requires line { length line.old ≤ NUMBER }
     requires entry { entry < length blocks.now.refusals }
     ensures text { line.new ≡ line.old ++ entry_text blocks.now entry refusal }
-    ensures bound { length line.new ≤ length line.old + 110 }
+    ensures bound { length line.new ≤ length line.old + TOLD + 1 + PLACE }
 {
     match refusal {
         None => {
@@ -59,10 +62,10 @@ fn put_entry(line: &mut Line, blocks: &Blocks, entry: usize, refusal: Option<Blo
 }
 
 fn put_place(line: &mut Line, blocks: &Blocks, entry: usize)
-    requires line { length line.old ≤ 90 }
+    requires line { length line.old ≤ NUMBER + TOLD + 1 }
     requires entry { entry < length blocks.now.refusals }
     ensures text { line.new ≡ line.old ++ place_text blocks.now entry }
-    ensures bound { length line.new ≤ length line.old + 41 }
+    ensures bound { length line.new ≤ length line.old + PLACE }
 {
     let (file, block) = blocks.place(entry);
     line.put_number(file as u64);

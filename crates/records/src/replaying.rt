@@ -5,7 +5,7 @@ ghost use Rattle.records.specs.Answering.{Finishes, reply_to, sink_after, sink_b
 ghost use Rattle.records.specs.Outcome.{is_fault};
 ghost use Rattle.records.specs.ReplayLines.{lines_of, ending_line_of};
 ghost use Rattle.records.specs.Replay.{IsCutReport, IsReport, Meets, RespondsNext, StepsBy, TellsEnding, replay_seen};
-ghost use Rattle.wire.specs.Reader.{HasRoom, IsOpen};
+ghost use Rattle.wire.specs.Reader.{HasRoom, IsOpen, KeepsSource};
 ghost use Rattle.wire.specs.RecordReader.{form_of, frame_reader, source_of};
 ghost use Rattle.wire.specs.Records.{form_number};
 ghost use Rattle.wire.specs.declared.form.Form.{Form as FormOf};
@@ -72,7 +72,7 @@ fn replay_reader<N: NodeMap, R: Source, W: Sink, B: Answering>(
 ) -> Result<Outcome, WriteFault>
     requires open { IsOpen (frame_reader reader.old) }
     requires fresh { form_of reader.old ≡ None }
-    ensures same_reference { reader.new.source.ghost_name ≡ reader.old.source.ghost_name }
+    ensures source { KeepsSource (frame_reader reader.old) (frame_reader reader.new) }
     ensures ok { IfOk result (IsReport
         (replay_seen (R.seen (source_of reader.old)) session.old (W.seen report.old)
         (B.seen answers.old))
@@ -100,7 +100,7 @@ fn replay_frames<N: NodeMap, R: Source, W: Sink, B: Answering>(
     requires open { IsOpen (frame_reader reader.old) }
     requires fresh { form_of reader.old ≡ None }
     requires room { HasRoom (frame_reader reader.old) }
-    ensures same_reference { reader.new.source.ghost_name ≡ reader.old.source.ghost_name }
+    ensures source { KeepsSource (frame_reader reader.old) (frame_reader reader.new) }
     ensures ok { IfOk result (IsReport
         (replay_seen (R.seen (source_of reader.old)) session.old (W.seen report.old)
         (B.seen answers.old))
@@ -139,7 +139,7 @@ fn next_response<N: NodeMap, R: Source>(
 ) -> Result<Response, Ending>
     requires open { IsOpen (frame_reader reader.old) }
     requires room { HasRoom (frame_reader reader.old) }
-    ensures same_reference { reader.new.source.ghost_name ≡ reader.old.source.ghost_name }
+    ensures source { KeepsSource (frame_reader reader.old) (frame_reader reader.new) }
     ensures frame { IfOk result (λ r. (form : FormOf) × (form_of reader.new ≡ Some form)
         × RespondsNext (form_of reader.old) form
         (R.seen (source_of reader.old)) (R.seen (source_of reader.new))

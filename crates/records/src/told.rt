@@ -3,7 +3,7 @@ use session::Verdict;
 
 /// What a replay tells of one frame of a record.
 #[derive(Clone, Copy, Debug, PartialEq, Eq)]
-pub enum Told {
+pub(crate) enum Told {
     /// The session's verdict on the frame's message.
     Verdict(Verdict),
     /// The frame has the id of a message of a known kind, and a wrong size: it holds no message.

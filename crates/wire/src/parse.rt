@@ -4,9 +4,15 @@ ghost use Rattle.wire.specs.Kind.{id_of};
 ghost use Rattle.wire.specs.Meaning.{IsAsk, IsRightSize, MeansMessage, ask_bytes};
 
 use crate::hashes::hashes_of;
-use crate::kind::Kind;
+use crate::kind::{ASK_SIZE, HASH_SIZE, Kind};
 use crate::message::{Ask, Message};
 use crate::number::number_at;
+
+// The pieces root, the first field of a hash request, in bytes.
+const ROOT: usize = HASH_SIZE as usize;
+
+// The five fields of a hash request, in bytes.
+const FIELDS: usize = ASK_SIZE as usize - 1;
 
 /// The message of a body of the right size, from the bytes after its id.
 pub(crate) fn message_of(kind: Kind, fields: &[u8]) -> Message<'_>
@@ -22,25 +28,25 @@ pub(crate) fn message_of(kind: Kind, fields: &[u8]) -> Message<'_>
         Kind::Request => Message::Request(ask_at(fields)),
         Kind::Hashes => Message::Hashes {
             ask: ask_at(fields),
-            hashes: hashes_of(&fields[48..]),
+            hashes: hashes_of(&fields[FIELDS..]),
         },
         Kind::Reject => Message::Reject(ask_at(fields)),
     }
 }
 
-// The five fields of the first 48 bytes.
+// The five fields that stand at the front of these bytes.
 fn ask_at(bytes: &[u8]) -> Ask
-    requires { 48 ≤ length bytes.now }
+    requires { FIELDS ≤ length bytes.now }
     ensures fields { IsAsk result }
-    ensures bytes { bytes.now ≡ ask_bytes result ++ drop 48 bytes.now }
+    ensures bytes { bytes.now ≡ ask_bytes result ++ drop FIELDS bytes.now }
 {
-    let mut root = [0u8; 32];
-    root.copy_from_slice(&bytes[..32]);
+    let mut root = [0u8; ROOT];
+    root.copy_from_slice(&bytes[..ROOT]);
     Ask {
         root,
-        base: number_at(&bytes[32..]),
-        index: number_at(&bytes[36..]),
-        length: number_at(&bytes[40..]),
-        proof: number_at(&bytes[44..]),
+        base: number_at(&bytes[ROOT..]),
+        index: number_at(&bytes[ROOT + 4..]),
+        length: number_at(&bytes[ROOT + 8..]),
+        proof: number_at(&bytes[ROOT + 12..]),
     }
 }

@@ -1,13 +1,9 @@
 //! A reader of frames that lends its own buffer.
 ghost use mir.Syntax.{named};
-ghost use Rattle.std.specs.Prelude.{◌≡◌, ◌≢◌, ◌≤◌, ◌<◌, ◌⊎◌, vec_capacity, OnOk, OnErr, ℕ, List, [], true, false, Ok, Err, IfOk, IfErr, IfSome, IsErrOf, MatchResult, MatchBool};
-ghost use Rattle.std.specs.Bool.{OnTrue, OnFalse};
+ghost use Rattle.std.specs.Prelude.{◌≡◌, ◌≢◌, ◌≤◌, ◌<◌, ◌⊎◌, vec_capacity, OnOk, OnErr, ℕ, List, [], IfOk, IfSome};
 ghost use Rattle.std.specs.Borrow.{sem};
 ghost use Rattle.std.specs.Io.BufRead.{Rests};
-ghost use Rattle.std.specs.Io.KnownBytes.{IsAtEnd};
-ghost use Rattle.wire.specs.Frames.{IsBody, frame};
 ghost use Rattle.wire.specs.Meaning.{Means, max_kept};
-ghost use Rattle.wire.specs.Reading.{GaveFaultless, StopsInFrame};
 ghost use Rattle.wire.specs.Rows.{bytes_row};
 ghost use Rattle.wire.specs.contracts.reader.FrameReader.{the_row};
 
@@ -39,11 +35,11 @@ pub struct FrameReader<'r, R: Source, B: Drop = Vec<u8>> {
 }
 
 impl<'r, R: Source> FrameReader<'r, R> {
-    ghost use Rattle.wire.specs.Reader.{AsksNext, HasEnded, HasFailed, HasRoom, HoldsBody, IsOpen, IsSameButRoom, kept_len, room, source_of};
+    ghost use Rattle.wire.specs.Reader.{Advances, AsksNext, HasFailed, HasRoom, HoldsBody, IsOpen, IsSameButRoom, ReadsThrough, kept_len, room, source_of};
 
     /// A reader of what the source gives from here on. It takes no memory yet.
     pub fn new(alloc: Global, source: &'r mut R) -> FrameReader<'r, R>
-        ensures same_reference { result.source.ghost_name ≡ source.entry.ghost_name }
+        ensures same_reference { ReadsThrough result source.entry }
         ensures source { source_of result ≡ source.old }
         ensures open { IsOpen result }
         ensures kept { kept_len result ≡ 0 }
@@ -77,7 +73,7 @@ impl<'r, R: Source> FrameReader<'r, R> {
         ensures means { IfOk result (λ found. IfSome found (λ f. (body : List ℕ) × Means body f)) }
         ensures* after_loan { sem 𝓛 (Rests
             (the_row (record { mir = named 1; lft = [] }) R.row bytes_row) self.entry
-            (λ new. AsksNext R.seen self.entry.now new Means result)) }
+            (λ new. AsksNext R.seen self.entry.now result new)) }
     {
         if self.advance()? {
             Ok(Some(self.frame()))
@@ -89,32 +85,7 @@ impl<'r, R: Source> FrameReader<'r, R> {
     /// Reads the next frame, and answers whether there is one: `false` is the end of the source.
     /// The frame is then `frame()`. It is `next` in two steps, of which only the second borrows.
     pub fn advance(&mut self) -> Result<bool, FrameFault>
-        ensures same_reference { self.new.source.ghost_name ≡ self.old.source.ghost_name }
-
-        // The frame that stands next, whole, and its body.
-        ensures frame { IsOpen self.old → IfOk result (λ more. OnTrue more
-            ((body : List ℕ) × IsBody body
-            × GaveFaultless (R.seen (source_of self.old)) (R.seen (source_of self.new)) (frame body)
-            × HoldsBody self.new body)) }
-
-        // Nothing stands next.
-        ensures end { IsOpen self.old → IfOk result (λ more. OnFalse more
-            (GaveFaultless (R.seen (source_of self.old)) (R.seen (source_of self.new)) []
-            × IsAtEnd (R.seen (source_of self.new)).left)) }
-
-        // No whole frame was lost.
-        ensures fault { IsOpen self.old → IfErr result
-            (StopsInFrame (R.seen (source_of self.old)) (R.seen (source_of self.new))) }
-        ensures stands { MatchResult result
-            (λ more. MatchBool more (IsOpen self.new) (HasEnded self.new))
-            (HasFailed self.new) }
-        ensures ended_again { HasEnded self.old → (result ≡ Ok false) × (self.new ≡ self.old) }
-        ensures failed_again { (why : FrameFault) → HasFailed self.old why
-            → (result ≡ Err why) × (self.new ≡ self.old) }
-        ensures bounded { kept_len self.old ≤ max_kept → kept_len self.new ≤ max_kept }
-        ensures memory { IsOpen self.old → IsErrOf result FrameFault.NoMemory
-            → ¬ HasRoom self.old }
-        ensures has_room { HasRoom self.old → HasRoom self.new }
+        ensures { Advances R.seen self.old result self.new }
     {
         match self.state {
             State::Open => {}

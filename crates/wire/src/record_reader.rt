@@ -1,12 +1,9 @@
 //! A reader of records in both forms that lends its own buffer.
 ghost use mir.Syntax.{named};
-ghost use Rattle.std.specs.Prelude.{◌≡◌, ◌≤◌, ◌⊎◌, OnOk, OnErr, ℕ, List, [], None, Some, Ok, Err, IfOk, IfErr, IfSome, IsErrOf, MatchResult, MatchBool, true, false, option_map};
-ghost use Rattle.std.specs.Bool.{OnTrue, OnFalse};
+ghost use Rattle.std.specs.Prelude.{◌≡◌, ◌⊎◌, OnOk, OnErr, ℕ, List, [], None, IfOk, IfSome, option_map};
 ghost use Rattle.std.specs.Borrow.{sem};
 ghost use Rattle.std.specs.Io.BufRead.{Rests};
-ghost use Rattle.wire.specs.declared.form.Form.{Form as FormOf};
-ghost use Rattle.wire.specs.Meaning.{Means, max_kept};
-ghost use Rattle.wire.specs.RecordReading.{EndsRecord, GaveFrame, StopsInRecord};
+ghost use Rattle.wire.specs.Meaning.{Means};
 ghost use Rattle.wire.specs.Records.{Directed, MeansDirected, form_number};
 ghost use Rattle.wire.specs.Rows.{bytes_row};
 ghost use Rattle.wire.specs.contracts.record_reader.RecordReader.{the_row};
@@ -35,12 +32,12 @@ pub struct RecordReader<'r, R: Source, B: Drop = Vec<u8>> {
 }
 
 impl<'r, R: Source> RecordReader<'r, R> {
-    ghost use Rattle.wire.specs.Reader.{HasEnded, HasFailed, HasRoom, IsOpen, IsSameButRoom, kept_len, room};
-    ghost use Rattle.wire.specs.RecordReader.{AsksNextInRecord, HoldsDirected, form_of, frame_reader, source_of};
+    ghost use Rattle.wire.specs.Reader.{HasFailed, HasRoom, IsOpen, IsSameButRoom, ReadsThrough, kept_len, room};
+    ghost use Rattle.wire.specs.RecordReader.{AdvancesInRecord, AsksNextInRecord, HoldsDirected, form_of, frame_reader, source_of};
 
     /// A reader of the record that the source gives from here on. It takes no memory yet.
     pub fn new(alloc: Global, source: &'r mut R) -> RecordReader<'r, R>
-        ensures same_reference { result.source.ghost_name ≡ source.entry.ghost_name }
+        ensures same_reference { ReadsThrough (frame_reader result) source.entry }
         ensures source { source_of result ≡ source.old }
         ensures open { IsOpen (frame_reader result) }
         ensures form { form_of result ≡ None }
@@ -92,7 +89,7 @@ impl<'r, R: Source> RecordReader<'r, R> {
             × Means body f.1)) }
         ensures* after_loan { sem 𝓛 (Rests
             (the_row (record { mir = named 1; lft = [] }) R.row bytes_row) self.entry
-            (λ new. AsksNextInRecord R.seen self.entry.now new result)) }
+            (λ new. AsksNextInRecord R.seen self.entry.now result new)) }
     {
         if self.advance()? {
             Ok(Some(self.frame()))
@@ -104,40 +101,7 @@ impl<'r, R: Source> RecordReader<'r, R> {
     /// Reads the next frame, and answers whether there is one: `false` is the end of the record.
     /// The frame is then `frame()`. It is `next` in two steps, of which only the second borrows.
     pub fn advance(&mut self) -> Result<bool, FrameFault>
-        ensures same_reference { self.new.source.ghost_name
-            ≡ self.old.source.ghost_name }
-
-        // The frame that stands next, whole, with its direction.
-        ensures frame { IsOpen (frame_reader self.old) → IfOk result (λ more. OnTrue more
-            ((form : FormOf) × (d : Directed (List ℕ)) × (form_of self.new ≡ Some form)
-            × GaveFrame (form_of self.old) form d (R.seen (source_of self.old))
-            (R.seen (source_of self.new))
-            × HoldsDirected self.new d)) }
-
-        // Nothing stands next.
-        ensures end { IsOpen (frame_reader self.old) → IfOk result (λ more. OnFalse more
-            ((form : FormOf) × (form_of self.new ≡ Some form)
-            × EndsRecord (form_of self.old) form (R.seen (source_of self.old))
-            (R.seen (source_of self.new)))) }
-
-        // No whole frame was lost.
-        ensures fault { IsOpen (frame_reader self.old) → IfErr result (λ why.
-            (form_of self.new ≡ form_of self.old)
-            × StopsInRecord (form_of self.old) (R.seen (source_of self.old))
-            (R.seen (source_of self.new)) why) }
-        ensures stands { MatchResult result
-            (λ more. MatchBool more (IsOpen (frame_reader self.new))
-            (HasEnded (frame_reader self.new)))
-            (HasFailed (frame_reader self.new)) }
-        ensures ended_again { HasEnded (frame_reader self.old)
-            → (result ≡ Ok false) × (self.new ≡ self.old) }
-        ensures failed_again { (why : FrameFault) → HasFailed (frame_reader self.old) why
-            → (result ≡ Err why) × (self.new ≡ self.old) }
-        ensures bounded { kept_len (frame_reader self.old) ≤ max_kept
-            → kept_len (frame_reader self.new) ≤ max_kept }
-        ensures memory { IsOpen (frame_reader self.old) → IsErrOf result FrameFault.NoMemory
-            → ¬ HasRoom (frame_reader self.old) }
-        ensures has_room { HasRoom (frame_reader self.old) → HasRoom (frame_reader self.new) }
+        ensures { AdvancesInRecord R.seen self.old result self.new }
     {
         match self.state {
             State::Open => {}

@@ -1,9 +1,10 @@
 use Rattle.std.proofs.Common.{◌+◌, ◌-◌, ◌^◌, ◌<◌, ◌++◌, ◌∷◌, [], length, subst, arith}
 use Rattle.std.proofs.lemmas.Result.{err_from_is_err_and}
 use Rattle.benc.specs.Device.{Broke}
+use Rattle.benc.proofs.Out.{Broke-front}
 use Rattle.conversions.specs.Steps.{Held}
 use Rattle.conversions.proofs.Opening.{goes_opens, head_within}
-use Rattle.conversions.proofs.Sending.{broke_more, broke_joined, three_parts}
+use Rattle.conversions.proofs.Sending.{broke_joined, three_parts}
 use Rattle.conversions.proofs.head.convert_head.Goals as goal
 
 pub returns-in_err-put_request : goal.returns-in_err-put_request
@@ -16,7 +17,7 @@ returns-in_err-put_request g c = λ start text h.
       c.requires.len + 4 - length head,
       r.0 ++ (0 ∷ head),
       goes_opens head r.0 c.requires r.1,
-      broke_joined start (S.seen c.put_request.new.out) text r.0 (0 ∷ head) (broke_more start (S.seen c.put_request.new.out) (text ++ r.0) (0 ∷ head) r.2),
+      broke_joined start (S.seen c.put_request.new.out) text r.0 (0 ∷ head) (Broke-front start (S.seen c.put_request.new.out) (text ++ r.0) (0 ∷ head) r.2),
     )
 
 pub returns-in_err-put : goal.returns-in_err-put
@@ -30,7 +31,7 @@ returns-in_err-put g c = λ start text h.
       r.0 ++ (0 ∷ head),
       goes_opens head r.0 c.requires r.1,
       subst (Broke start (S.seen c.put.new.out)) (three_parts text r.0 head)
-          (broke_more start (S.seen c.put.new.out) ((text ++ r.0) ++ (0 ∷ [])) head (rw c.byte.ensures at (c.in_err-put.ensures start (text ++ r.0) r.2))),
+          (Broke-front start (S.seen c.put.new.out) ((text ++ r.0) ++ (0 ∷ [])) head (rw c.byte.ensures at (c.in_err-put.ensures start (text ++ r.0) r.2))),
     )
 
 pub returns-in_err-put-2 : goal.returns-in_err-put-2

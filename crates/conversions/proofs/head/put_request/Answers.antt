@@ -2,9 +2,10 @@ use Rattle.std.proofs.Common.{◌-◌, ◌++◌, [], List, ℕ, length, take, dr
 use Rattle.std.proofs.lemmas.List.{append-nil, append_assoc, take_rest}
 use Rattle.std.proofs.lemmas.Result.{err_from_is_err_and}
 use Rattle.benc.specs.Device.{Broke}
+use Rattle.benc.proofs.Out.{Broke-front}
 use Rattle.conversions.specs.Steps.{Held}
 use Rattle.conversions.proofs.Opening.{goes_nothing, goes_request, request_head}
-use Rattle.conversions.proofs.Sending.{broke_more, broke_joined}
+use Rattle.conversions.proofs.Sending.{broke_joined}
 use Rattle.conversions.proofs.head.put_request.Goals as goal
 
 pub returns-in_err-put : goal.returns-in_err-put
@@ -13,7 +14,7 @@ returns-in_err-put g c = λ start text h.
     let p = err_from_is_err_and c.from_residual.result c.from_residual.ensures.1 in
     let head = c.args.head.now in
     let begins = c.if-begins_hashes.ensures c.requires.len c.requires.front c.requires.fits c.requires.head_is in
-    rw p.1 (request_head ++ drop 5 head, goes_request head c.requires begins, broke_joined start (S.seen c.put.new.out) text request_head (drop 5 head) (broke_more start (S.seen c.put.new.out) (text ++ request_head) (drop 5 head) (c.in_err-put.ensures start text h)))
+    rw p.1 (request_head ++ drop 5 head, goes_request head c.requires begins, broke_joined start (S.seen c.put.new.out) text request_head (drop 5 head) (Broke-front start (S.seen c.put.new.out) (text ++ request_head) (drop 5 head) (c.in_err-put.ensures start text h)))
 
 pub returns-in_err-put-2 : goal.returns-in_err-put-2
 returns-in_err-put-2 g c = λ start text h.

@@ -17,27 +17,27 @@ frames-init g c =
 pub overflow_add-n : goal.overflow_add-n
 overflow_add-n g c =
     let fin : (g.R.Source.seen c.args.source.now).limit < 2 ^ 64 = g.met.R.Source.finite c.args.source.now in
-    let next = rw c.if-branch.true at c.in_ok-advance.ensures.frame c.frames.invariant.stands in
-    omega (arith, c.frames.invariant.room, frame_falls _ _ _ _ _ next.3, fin)
+    let next = rw c.if-branch.true at (c.in_ok-advance.ensures.reads c.frames.invariant.stands) in
+    omega (arith, c.frames.invariant.room, frame_falls _ _ _ _ _ next.gave, fin)
 
 pub frames-smaller : goal.frames-smaller
 frames-smaller g c =
-    let next = rw c.if-branch.true at c.in_ok-advance.ensures.frame c.frames.invariant.stands in
-    omega (arith, frame_falls _ _ _ _ _ next.3)
+    let next = rw c.if-branch.true at (c.in_ok-advance.ensures.reads c.frames.invariant.stands) in
+    omega (arith, frame_falls _ _ _ _ _ next.gave)
 
 pub frames-preserved : goal.frames-preserved
 frames-preserved g c =
     let S = g.R.Source in
     let read = c.frames.invariant.read in
-    let next = rw c.if-branch.true at c.in_ok-advance.ensures.frame c.frames.invariant.stands in
+    let next = rw c.if-branch.true at (c.in_ok-advance.ensures.reads c.frames.invariant.stands) in
     record {
-      stands = rw c.if-branch.true at c.in_ok-advance.ensures.stands;
-      same = c.in_ok-advance.ensures.same_reference ∙ c.frames.invariant.same;
-      room = omega (arith, c.frames.invariant.room, frame_falls _ _ _ _ _ next.3);
+      stands = next.stays;
+      same = c.in_ok-advance.ensures.source ∙ c.frames.invariant.same;
+      room = omega (arith, c.frames.invariant.room, frame_falls _ _ _ _ _ next.gave);
       read = (
-        read.0 ++ next.1 ∷ [],
-        omega (arith, read.1, length_push read.0 next.1),
-        subst (λ f. HasRead (S.seen c.args.source.now) (S.seen c.advance.new.self.source.now) f (read.0 ++ next.1 ∷ [])) (sym next.2) (read_more (S.seen c.args.source.now) (S.seen c.frames.reader.source.now) (S.seen c.advance.new.self.source.now) c.frames.reader.form next.0 read.0 next.1 read.2 next.3),
+        read.0 ++ next.directed ∷ [],
+        omega (arith, read.1, length_push read.0 next.directed),
+        subst (λ f. HasRead (S.seen c.args.source.now) (S.seen c.advance.new.self.source.now) f (read.0 ++ next.directed ∷ [])) (sym next.known) (read_more (S.seen c.args.source.now) (S.seen c.frames.reader.source.now) (S.seen c.advance.new.self.source.now) c.frames.reader.form next.form read.0 next.directed read.2 next.gave),
       );
     }
 
@@ -45,6 +45,6 @@ pub returns : goal.returns
 returns g c = λ bytes known.
     let S = g.R.Source in
     let read = c.frames.invariant.read in
-    let end = rw c.if-branch.false at c.in_ok-advance.ensures.end c.frames.invariant.stands in
-    let to = read_to (S.seen c.args.source.now) (S.seen c.frames.reader.source.now) (S.seen c.advance.new.self.source.now) c.frames.reader.form end.0 read.0 [] read.2 end.2.part (cut-nothing end.0) in
-    (end.0, read.0, read_whole (S.seen c.args.source.now) (S.seen c.advance.new.self.source.now) bytes end.0 read.0 [] known to end.2.at_end, read.1)
+    let end = rw c.if-branch.false at (c.in_ok-advance.ensures.reads c.frames.invariant.stands) in
+    let to = read_to (S.seen c.args.source.now) (S.seen c.frames.reader.source.now) (S.seen c.advance.new.self.source.now) c.frames.reader.form end.form read.0 [] read.2 end.ends.part (cut-nothing end.form) in
+    (end.form, read.0, read_whole (S.seen c.args.source.now) (S.seen c.advance.new.self.source.now) bytes end.form read.0 [] known to end.ends.at_end, read.1)

@@ -21,22 +21,22 @@ overflow_add-n g c =
 
 pub frames-smaller : goal.frames-smaller
 frames-smaller g c =
-    let next = rw c.if-branch.true at c.in_ok-advance.ensures.frame c.frames.invariant.stands in
-    omega (arith, next.2.gave.falls, length-frame next.0)
+    let next = rw c.if-branch.true at (c.in_ok-advance.ensures.reads c.frames.invariant.stands) in
+    omega (arith, next.gave.gave.falls, length-frame next.body)
 
 pub frames-preserved : goal.frames-preserved
 frames-preserved g c =
     let S = g.R.Source in
     let read = c.frames.invariant.read in
-    let next = rw c.if-branch.true at c.in_ok-advance.ensures.frame c.frames.invariant.stands in
+    let next = rw c.if-branch.true at (c.in_ok-advance.ensures.reads c.frames.invariant.stands) in
     record {
-      stands = rw c.if-branch.true at c.in_ok-advance.ensures.stands;
-      same = c.in_ok-advance.ensures.same_reference ∙ c.frames.invariant.same;
+      stands = next.stays;
+      same = c.in_ok-advance.ensures.source ∙ c.frames.invariant.same;
       read = (
-        read.0 ++ next.0 ∷ [],
-        All-push read.0 next.0 read.1 next.1,
-        omega (arith, read.2, length_push read.0 next.0),
-        Gave-one_more (S.seen c.args.source.now) (S.seen c.frames.reader.source.now) (S.seen c.advance.new.self.source.now) read.0 next.0 read.3 next.2.gave,
+        read.0 ++ next.body ∷ [],
+        All-push read.0 next.body read.1 next.fits,
+        omega (arith, read.2, length_push read.0 next.body),
+        Gave-one_more (S.seen c.args.source.now) (S.seen c.frames.reader.source.now) (S.seen c.advance.new.self.source.now) read.0 next.body read.3 next.gave.gave,
       );
     }
 
@@ -44,5 +44,5 @@ pub returns : goal.returns
 returns g c = λ bytes known.
     let S = g.R.Source in
     let read = c.frames.invariant.read in
-    let end = rw c.if-branch.false at c.in_ok-advance.ensures.end c.frames.invariant.stands in
-    (read.0, Frames-from_run (S.seen c.args.source.now) (S.seen c.frames.reader.source.now) (S.seen c.advance.new.self.source.now) bytes read.0 [] known read.1 read.3 end.0.gave end.1 (IsPartial-from_short [] (omega arith)), read.2)
+    let end = rw c.if-branch.false at (c.in_ok-advance.ensures.reads c.frames.invariant.stands) in
+    (read.0, Frames-from_run (S.seen c.args.source.now) (S.seen c.frames.reader.source.now) (S.seen c.advance.new.self.source.now) bytes read.0 [] known read.1 read.3 end.gave.gave end.at_end (IsPartial-from_short [] (omega arith)), read.2)

@@ -6,7 +6,7 @@ use Rattle.records.proofs.replaying.replay_frames.Goals as goal
 
 pub frames-init : goal.frames-init
 frames-init g c = record {
-  same_source = refl;
+  source = refl;
   going = c.requires.open;
   room = c.requires.room;
   so_far =
@@ -25,7 +25,7 @@ frames-smaller g c = omega (arith, frame_falls c.in-Ok.ensures.frame.2)
 
 pub frames-preserved : goal.frames-preserved
 frames-preserved g c = record {
-  same_source = c.in-Ok.ensures.same_reference ∙ c.frames.invariant.same_source;
+  source = c.in-Ok.ensures.source ∙ c.frames.invariant.source;
   going = c.in-Ok.ensures.open;
   room = c.in-Ok.ensures.room;
   so_far =

@@ -1,5 +1,4 @@
-use Rattle.std.proofs.Common.{◌≡◌}
-use Rattle.wire.specs.Reader.{HasRoom, IsOpen}
+use Rattle.wire.specs.Reader.{HasRoom, IsOpen, KeepsSource}
 use Rattle.wire.specs.RecordReader.{frame_reader}
 use Rattle.records.specs.Replay.{replay_seen}
 use Rattle.records.proofs.Replays.{InReplay}
@@ -7,7 +6,7 @@ use Rattle.records.proofs.replaying.replay_frames.Given as goal
 
 abbrev pub invariant-frames : goal.invariant-frames
 invariant-frames g l = record {
-  same_source : l.reader.source.ghost_name ≡ l.fn.reader.source.ghost_name;
+  source : KeepsSource (frame_reader l.fn.reader) (frame_reader l.reader);
   going : IsOpen (frame_reader l.reader);
   room : HasRoom (frame_reader l.reader);
   so_far : InReplay

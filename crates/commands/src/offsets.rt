@@ -1,18 +1,18 @@
-//! Where the files of a torrent lie in all its bytes.
+//! Where the files of a torrent begin in all its bytes.
 use metainfo::{File, Torrent};
 
-/// The places of files that are asked for in the torrent's order.
+/// The offsets of files that are asked for in the torrent's order.
 #[derive(Drop)]
-pub(crate) struct Places<'a> {
+pub(crate) struct Offsets<'a> {
     files: &'a [File<'a>],
     next: usize,
     passed: u64,
 }
 
-impl<'a> Places<'a> {
-    /// The places of all files of this torrent.
-    pub(crate) fn new(torrent: &'a Torrent<'a>) -> Places<'a> {
-        Places {
+impl<'a> Offsets<'a> {
+    /// The offsets of all files of this torrent.
+    pub(crate) fn new(torrent: &'a Torrent<'a>) -> Offsets<'a> {
+        Offsets {
             files: torrent.files(),
             next: 0,
             passed: 0,

@@ -1,0 +1,7 @@
+use Rattle.std.proofs.Common.{◌≡◌, map, take, string_bytes}
+use Rattle.commands.specs.SystemPaths.{system_path_below}
+use Rattle.commands.proofs.folder.Folder.system_path.Given as goal
+
+-- the components so far stand behind the folder
+abbrev pub invariant-parts : goal.invariant-parts
+invariant-parts l = string_bytes l.text ≡ system_path_below l.self.dir.now (map (λ s. s.now) (take l.part-index l.path))
