@@ -1,8 +1,11 @@
 -- What a command ends with: the exit status that follows from the library's answer, or the fault.
-use Rattle.std.specs.Prelude.{◌≡◌, ◌≢◌, ℕ, Bool, true, false, List, [], Option, Result, Ok, Err, codes}
+use Rattle.std.specs.Global.{Global, Vec}
+use Rattle.std.specs.Prelude.{◌≡◌, ◌≢◌, ◌⊎◌, ℕ, Bool, true, false, List, [], Option, Result, Ok, Err, String, codes}
 use Rattle.benc.specs.Device.{SourceSeen, SinkSeen, SentAndFlushed, BrokeOrUnflushed}
+use Rattle.benc.specs.Text.{spelling}
 use Rattle.checker.specs.ConvertFault.{ConvertFault}
 use Rattle.checker.specs.ConvertFault.TheVariants as converting
+use Rattle.checker.specs.Converting.{Converts, FailsToConvert}
 use Rattle.checker.specs.GatherFault.{GatherFault}
 use Rattle.checker.specs.GatherFault.TheVariants as gathering
 use Rattle.checker.specs.Root.{Blames}
@@ -15,10 +18,14 @@ use Rattle.folders.specs.declared.report.FileVerdict.{FileVerdict}
 use Rattle.folders.specs.declared.report.V1Verdict.{V1Verdict}
 use Rattle.lines.specs.declared.fault.Fault.{Fault}
 use Rattle.lines.specs.declared.fault.Fault.TheVariants as faults
+use Rattle.command_line.specs.declared.command.Create.{Create}
 use Rattle.metainfo.specs.Description.{Description}
+use Rattle.metainfo.specs.Finishing.{finish_rows}
+use Rattle.metainfo.specs.Outline.{Outline, empty_outline}
 use Rattle.metainfo.specs.Refusal.{Refusal}
 use Rattle.metainfo.specs.Refusal.TheVariants as refusals
 use Rattle.metainfo.specs.Tests.{First, NoneHolds, TestRow}
+use Rattle.metainfo.specs.Written.{value_of}
 use Rattle.checker.specs.Outcome.{status_of}
 use Rattle.checker.specs.Printed.{report_text}
 use Rattle.checker.specs.Refused.{refusal_text}
@@ -128,6 +135,21 @@ IsToldOfGathering unlisted out out' (gathering.List fault) f =
     IsToldOfListing unlisted fault f × (out' ≡ out)
 IsToldOfGathering unlisted out out' gathering.NoMemory f = (f ≡ faults.NoMemory) × (out' ≡ out)
 
+-- a draft of no files, as `create` was asked for it
+abbrev pub wanted_draft : Create → Outline
+wanted_draft asked = empty_outline asked.name.now asked.piece_length asked.hybrid
+
+-- What making a draft of a folder did, by its answer: it gathered all files, and printed nothing;
+-- or a refusal, which was printed, with status 1; or what the fault tells.
+abbrev pub MakesDraft : (Result Outline GatherFault → Type 0) → Fault → SinkSeen → SinkSeen
+    → Result (Result Outline ℕ) Fault → Type 0
+MakesDraft Gathered unlisted out out' (Ok (Ok draft)) = Gathered (Ok draft) × (out' ≡ out)
+MakesDraft Gathered unlisted out out' (Ok (Err status)) = (status ≡ answer_status false)
+    × (r : Refusal) × (path : Vec (String Global)) × Gathered (Err (gathering.Refused r path))
+    × SentAndFlushed out out' (refusal_text r (path_bytes path))
+MakesDraft Gathered unlisted out out' (Err f) = (g : GatherFault) × Gathered (Err g)
+    × IsToldOfGathering unlisted out out' g f
+
 -- No test of a draft holds, but its torrent with this text broke off. Nothing was printed.
 pub record IsTorrentCut (rows : List TestRow) (text path : List ℕ)
     (torrent torrent' out out' : SinkSeen) (f : Fault) : Type 0 where
@@ -144,6 +166,20 @@ pub record IsRefusalCut (rows : List TestRow) (torrent torrent' out out' : SinkS
   pub first : First rows refusal
   pub broke : BrokeOrUnflushed out out' (refusal_text refusal [])
   pub unwritten : torrent' ≡ torrent
+
+-- What writing a draft's torrent to the sink with this path did, by its answer: the torrent went out
+-- and nothing was printed, status 0; or the refusal was printed and no torrent written, status 1; or
+-- the torrent broke off, or the line of the refusal did.
+abbrev pub WritesTorrent : Outline → List ℕ → SinkSeen → SinkSeen → SinkSeen → SinkSeen
+    → Result ℕ Fault → Type 0
+WritesTorrent draft path torrent torrent' out out' (Ok status) =
+    ((status ≡ answer_status true) × NoneHolds (finish_rows draft)
+    × SentAndFlushed torrent torrent' (spelling (value_of draft)) × (out' ≡ out))
+    ⊎ ((status ≡ answer_status false) × (torrent' ≡ torrent) × (r : Refusal)
+    × First (finish_rows draft) r × SentAndFlushed out out' (refusal_text r []))
+WritesTorrent draft path torrent torrent' out out' (Err f) =
+    IsTorrentCut (finish_rows draft) (spelling (value_of draft)) path torrent torrent' out out' f
+    ⊎ IsRefusalCut (finish_rows draft) torrent torrent' out out' f
 
 -- what is printed of a record that is of form 2 already
 abbrev pub form_2_text : List ℕ
@@ -163,3 +199,15 @@ IsToldOfConverting from path out out' converting.Read f = NamesSource from f × 
 IsToldOfConverting from path out out' converting.Write f = NamesSink path f × (out' ≡ out)
 IsToldOfConverting from path out out' converting.AlreadyForm2 f =
     NamesOutput f × BrokeOrUnflushed out out' form_2_text
+
+-- What converting the record with the first path to the sink with the second did, by its answer: the
+-- conversion went out and nothing was printed, status 0; or the record is of form 2, which was
+-- printed, status 1; or what the fault tells.
+abbrev pub ConvertsRecord : List ℕ → List ℕ → SourceSeen → SourceSeen → SinkSeen → SinkSeen
+    → SinkSeen → SinkSeen → Result ℕ Fault → Type 0
+ConvertsRecord from path old new to to' out out' (Ok status) =
+    ((status ≡ answer_status true) × Converts old new to to' × (out' ≡ out))
+    ⊎ ((status ≡ answer_status false) × FailsToConvert old new to to' converting.AlreadyForm2
+    × SentAndFlushed out out' form_2_text)
+ConvertsRecord from path old new to to' out out' (Err f) = (e : ConvertFault)
+    × FailsToConvert old new to to' e × IsToldOfConverting from path out out' e f

@@ -1,10 +1,7 @@
 //! What each command answers over any devices: what goes out, and the exit status that follows.
-ghost use Rattle.std.specs.Prelude.{◌≡◌, ◌≢◌, ◌⊎◌, ◌^◌, ◌+◌, ◌≤◌, ◌↔◌, ℕ, Bool, IsTrue, List, [], None, Some, Ok, Err, IfErr, IfOk, OnErr, OnOk, String, length, map, not, true, false};
-ghost use Rattle.std.specs.Global.{Global, Vec};
+ghost use Rattle.std.specs.Prelude.{◌≡◌, ◌≢◌, ◌^◌, ◌+◌, ◌≤◌, ◌↔◌, ℕ, Bool, IsTrue, List, [], None, Some, Ok, Err, IfErr, IfOk, OnErr, OnOk, String, length, map, not, true, false};
 ghost use Rattle.std.specs.String.{string_bytes};
 ghost use Rattle.benc.specs.Device.{BrokeOrUnflushed, SentAndFlushed, WroteAndFlushed};
-ghost use Rattle.benc.specs.Text.{spelling};
-ghost use Rattle.checker.specs.Converting.{Converts, FailsToConvert};
 ghost use Rattle.chains.specs.Chain.{Chain};
 ghost use Rattle.checker.specs.Gathering.{Gathers};
 ghost use Rattle.checker.specs.Refused.{refusal_text};
@@ -12,15 +9,10 @@ ghost use Rattle.checker.specs.Show.{show_text};
 ghost use Rattle.checker.specs.Replay.{IsCutReport, replay_seen};
 ghost use Rattle.checker.specs.Root.{root_line_of};
 ghost use Rattle.checker.specs.Seeding.{IsSeeded, Seeds, shelf_and_session};
-ghost use Rattle.metainfo.specs.Finishing.{finish_rows};
-ghost use Rattle.metainfo.specs.Outline.{empty_outline};
-ghost use Rattle.metainfo.specs.Written.{value_of};
-ghost use Rattle.metainfo.specs.Tests.{First, NoneHolds};
-ghost use Rattle.checker.specs.Shelf.{path_bytes};
 ghost use Rattle.checker.specs.TakeAll.{IsReadWithin};
 ghost use Rattle.checker.specs.Visits.{Visits};
 ghost use Rattle.session.specs.Fresh.{IsFresh};
-ghost use Rattle.commands.specs.Answers.{BlamesOne, Checks, HasTold, IsRefusalCut, IsReplayed, IsToldOfConverting, IsToldOfGathering, IsToldOfListing, IsToldOfSeeding, IsTorrentCut, IsUnprinted, NamesOutput, NamesSink, answer_status, form_2_text};
+ghost use Rattle.commands.specs.Answers.{BlamesOne, Checks, ConvertsRecord, HasTold, IsReplayed, IsToldOfListing, IsToldOfSeeding, IsUnprinted, MakesDraft, NamesOutput, NamesSink, WritesTorrent, answer_status, form_2_text, wanted_draft};
 
 use benc::memory::MemSink;
 use benc::{Sink, Source};
@@ -211,18 +203,8 @@ pub fn gather<'a, S: Shelf, W: Sink>(
     shelf: &mut S,
     out: &mut W,
 ) -> Result<Result<Draft, u8>, Fault<'a>>
-    ensures gathered { IfOk result (λ found. IfOk found (λ draft. Gathers S.Shelf S.File.seen
-        (empty_outline asked.now.name.now asked.now.piece_length asked.now.hybrid)
-        shelf.old shelf.new (Ok draft) × (W.seen out.new ≡ W.seen out.old))) }
-    ensures refused { IfOk result (λ found. IfErr found (λ s. (s ≡ answer_status false)
-        × (r : Refusal) × (path : Vec (String Global)) × Gathers S.Shelf S.File.seen
-        (empty_outline asked.now.name.now asked.now.piece_length asked.now.hybrid)
-        shelf.old shelf.new (Err (GatherFault.Refused r path)) × SentAndFlushed (W.seen out.old)
-        (W.seen out.new) (refusal_text r (path_bytes path)))) }
-    ensures fault { IfErr result (λ f. (g : GatherFault) × Gathers S.Shelf S.File.seen
-        (empty_outline asked.now.name.now asked.now.piece_length asked.now.hybrid)
-        shelf.old shelf.new (Err g) × IsToldOfGathering (Fault.Read asked.now.dir)
-        (W.seen out.old) (W.seen out.new) g f) }
+    ensures { MakesDraft (Gathers S.Shelf S.File.seen (wanted_draft asked.now) shelf.old shelf.new)
+        (Fault.Read asked.now.dir) (W.seen out.old) (W.seen out.new) result }
 {
     match checker::gather(alloc, shelf, asked.name, asked.piece_length, asked.hybrid) {
         Ok(draft) => Ok(Ok(draft)),
@@ -242,17 +224,8 @@ pub fn write_torrent<'a, W: Sink, O: Sink>(
     torrent: &mut W,
     out: &mut O,
 ) -> Result<u8, Fault<'a>>
-    ensures written { IfOk result (λ s. s ≡ answer_status true → NoneHolds (finish_rows draft.now)
-        × SentAndFlushed (W.seen torrent.old) (W.seen torrent.new) (spelling (value_of draft.now))
-        × (O.seen out.new ≡ O.seen out.old)) }
-    ensures refused { IfOk result (λ s. s ≢ answer_status true → (s ≡ answer_status false)
-        × (W.seen torrent.new ≡ W.seen torrent.old)
-        × (r : Refusal) × First (finish_rows draft.now) r
-        × SentAndFlushed (O.seen out.old) (O.seen out.new) (refusal_text r [])) }
-    ensures fault { IfErr result (λ f. IsTorrentCut (finish_rows draft.now)
-        (spelling (value_of draft.now)) path.now (W.seen torrent.old) (W.seen torrent.new)
-        (O.seen out.old) (O.seen out.new) f ⊎ IsRefusalCut (finish_rows draft.now)
-        (W.seen torrent.old) (W.seen torrent.new) (O.seen out.old) (O.seen out.new) f) }
+    ensures { WritesTorrent draft.now path.now (W.seen torrent.old) (W.seen torrent.new)
+        (O.seen out.old) (O.seen out.new) result }
 {
     match draft.finish(torrent) {
         Ok(()) => Ok(status(true)),
@@ -271,16 +244,8 @@ pub fn convert<'a, R: Source, W: Sink, O: Sink>(
     converted: &mut W,
     out: &mut O,
 ) -> Result<u8, Fault<'a>>
-    ensures converts { IfOk result (λ s. s ≡ answer_status true → Converts (R.seen source.old)
-        (R.seen source.new) (W.seen converted.old) (W.seen converted.new)
-        × (O.seen out.new ≡ O.seen out.old)) }
-    ensures refused { IfOk result (λ s. s ≢ answer_status true → (s ≡ answer_status false)
-        × FailsToConvert (R.seen source.old) (R.seen source.new) (W.seen converted.old)
-        (W.seen converted.new) ConvertFault.AlreadyForm2
-        × SentAndFlushed (O.seen out.old) (O.seen out.new) form_2_text) }
-    ensures fault { IfErr result (λ f. (e : ConvertFault) × FailsToConvert (R.seen source.old)
-        (R.seen source.new) (W.seen converted.old) (W.seen converted.new) e
-        × IsToldOfConverting «record».now path.now (O.seen out.old) (O.seen out.new) e f) }
+    ensures { ConvertsRecord «record».now path.now (R.seen source.old) (R.seen source.new)
+        (W.seen converted.old) (W.seen converted.new) (O.seen out.old) (O.seen out.new) result }
 {
     match checker::convert(source, converted) {
         Ok(()) => Ok(status(true)),

@@ -2,9 +2,8 @@ use Rattle.std.proofs.Common.{refl, rules}
 use Rattle.commands.proofs.answers.gather.Goals as goal
 
 -- src/answers.rt:198:1
-pub returns-in_ok-refuse-in-Err-Refused-clause-refused :
-    goal.returns-in_ok-refuse-in-Err-Refused-clause-refused
-returns-in_ok-refuse-in-Err-Refused-clause-refused g c = (
+pub returns-in_ok-refuse-in-Err-Refused : goal.returns-in_ok-refuse-in-Err-Refused
+returns-in_ok-refuse-in-Err-Refused g c = (
   c.in_ok-refuse-in-Err-Refused.ensures.status,
   c.in-Err-Refused.refusal,
   c.in-Err-Refused.path,
@@ -13,5 +12,5 @@ returns-in_ok-refuse-in-Err-Refused-clause-refused g c = (
 )
 
 -- src/answers.rt:198:1
-pub returns-in-Ok-clause-gathered : goal.returns-in-Ok-clause-gathered
-returns-in-Ok-clause-gathered g c = (c.in-Ok.ensures.gathers, refl)
+pub returns-in-Ok : goal.returns-in-Ok
+returns-in-Ok g c = (c.in-Ok.ensures.gathers, refl)
