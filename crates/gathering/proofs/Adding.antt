@@ -1,11 +1,11 @@
 -- What is given to a draft of a file, and what it made of it.
-use Rattle.std.proofs.Common.{◌≡◌, ℕ, suc, ◌<◌, ◌≤◌, Bool, true, false, ◌&&◌, cond, List, [], ◌∷◌, length, refl, sym, ◌∙◌, ap, subst, arith}
+use Rattle.std.proofs.Common.{◌≡◌, ℕ, ◌<◌, ◌≤◌, Bool, true, false, ◌&&◌, cond, List, [], length, refl, sym, ◌∙◌, ap, subst, arith}
 use Rattle.drafts.proofs.Passing.{lengths_are}
 use Rattle.std.specs.List.{All}
 use Rattle.std.specs.Prelude.{nat_lt}
 use Rattle.std.proofs.lemmas.Bool.{lt-ltb, ltb-true}
 use Rattle.drafts.specs.Adding.{FitsLayer, HasCuts, IsWith, add_rows, given_file}
-use Rattle.drafts.specs.Outline.{AreOfLength, Outline, OutlineFile}
+use Rattle.drafts.specs.Outline.{Outline, OutlineFile}
 use Rattle.filetree.specs.Tests.{NoneHolds}
 use Rattle.folders.proofs.Layers.{layer_is_low, whole_layer}
 use Rattle.hashtree.proofs.Comparing.{length-layer_of}

@@ -12,7 +12,6 @@ use Rattle.gathering.specs.Gathering.{Reads}
 use Rattle.gathering.specs.Steps.{AddsPath, Stops}
 use Rattle.gathering.specs.Stopping.{IsRefusal}
 use Rattle.gathering.specs.declared.file_fault.FileFault.{FileFault}
-use Rattle.gathering.specs.declared.file_fault.FileFault.TheVariants as why
 
 module _ {S F : Type 0} (shelf : Ghosts S F) (seen : F → SourceSeen) where
   -- the draft refused it

@@ -2,7 +2,7 @@
 -- the order of the file tree, read once, and handed back. `shelf` stands for what the shelf's type
 -- tells of its shelves, `seen` for what its files tell, and `empty` is the draft without files, of
 -- the name, piece length and kind that were asked for.
-use Rattle.std.specs.Prelude.{◌≡◌, ◌⊎◌, ℕ, ◌+◌, ◌^◌, ◌<◌, ◌≤◌, Bool, false, List, [], ◌∷◌, length, map, take, slice_get, Option, Some, None, Result, Ok, Err, String}
+use Rattle.std.specs.Prelude.{◌≡◌, ◌⊎◌, ℕ, ◌+◌, ◌^◌, ◌<◌, ◌≤◌, false, List, [], ◌∷◌, length, map, take, slice_get, Option, Some, None, Result, Ok, Err, String}
 use Rattle.std.specs.Cmp.Lexicographic.{slice_cmp}
 use Rattle.std.specs.Global.{Global, Vec}
 use Rattle.std.specs.List.Sorted.{IsPermutation, IsSorted}

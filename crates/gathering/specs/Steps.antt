@@ -1,9 +1,7 @@
 -- What visiting one path of a shelf told, and what was added to a draft. Public clauses do not name
 -- these.
-use Rattle.std.specs.Prelude.{◌≡◌, ℕ, ◌^◌, ◌<◌, ◌≤◌, Bool, List, length, take, slice_get, Option, Some, Result, Ok, Err, String}
-use Rattle.std.specs.Global.{Global, Vec}
+use Rattle.std.specs.Prelude.{◌≡◌, ℕ, ◌^◌, ◌<◌, ◌≤◌, Bool, List, length, take, slice_get, Some, Result, Ok, Err}
 use Rattle.benc.specs.Device.{SourceSeen}
-use Rattle.benc.specs.declared.device.DeviceFault.{DeviceFault}
 use Rattle.drafts.specs.Outline.{Outline}
 use Rattle.filetree.specs.declared.refusal.Refusal.TheVariants as refusals
 use Rattle.gathering.specs.Gathered.{DraftAdds, KeepsDigests}
