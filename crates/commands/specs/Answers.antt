@@ -167,9 +167,9 @@ pub record IsRefusalCut (rows : List TestRow) (torrent torrent' out out' : SinkS
   pub broke : BrokeOrUnflushed out out' (refusal_text refusal [])
   pub unwritten : torrent' ≡ torrent
 
--- What writing a draft's torrent to the sink with this path did, by its answer: the torrent went out
--- and nothing was printed, status 0; or the refusal was printed and no torrent written, status 1; or
--- the torrent broke off, or the line of the refusal did.
+-- What writing a draft's torrent to the sink with this path did, by its answer: the torrent went
+-- out and nothing was printed, status 0; or the refusal was printed and no torrent written, status
+-- 1; or the torrent broke off, or the line of the refusal did.
 abbrev pub WritesTorrent : Outline → List ℕ → SinkSeen → SinkSeen → SinkSeen → SinkSeen
     → Result ℕ Fault → Type 0
 WritesTorrent draft path torrent torrent' out out' (Ok status) =
@@ -200,8 +200,8 @@ IsToldOfConverting from path out out' converting.Write f = NamesSink path f × (
 IsToldOfConverting from path out out' converting.AlreadyForm2 f =
     NamesOutput f × BrokeOrUnflushed out out' form_2_text
 
--- What converting the record with the first path to the sink with the second did, by its answer: the
--- conversion went out and nothing was printed, status 0; or the record is of form 2, which was
+-- What converting the record with the first path to the sink with the second did, by its answer:
+-- the conversion went out and nothing was printed, status 0; or the record is of form 2, which was
 -- printed, status 1; or what the fault tells.
 abbrev pub ConvertsRecord : List ℕ → List ℕ → SourceSeen → SourceSeen → SinkSeen → SinkSeen
     → SinkSeen → SinkSeen → Result ℕ Fault → Type 0

@@ -60,7 +60,7 @@ pub record IsCutShort (old new : SourceSeen) (out out' : SinkSeen) : Type 0 wher
 
 -- The source failed. If what it gave is a prefix of the header, the form was not known and nothing
 -- went out.
-pub record FailsToRead (old new : SourceSeen) (out out' : SinkSeen) : Type 0 where
+pub record FailsAtRead (old new : SourceSeen) (out out' : SinkSeen) : Type 0 where
   pub bytes : List ℕ
   pub gave : Gave old new bytes
   pub counted : new.faults ≡ one_more old.faults
@@ -91,6 +91,6 @@ pub record FailsToWrite (old new : SourceSeen) (out out' : SinkSeen) : Type 0 wh
 -- why the record was not converted, and what went out
 abbrev pub FailsToConvert : SourceSeen → SourceSeen → SinkSeen → SinkSeen → ConvertFault → Type 0
 FailsToConvert old new out out' fault.Truncated = IsCutShort old new out out'
-FailsToConvert old new out out' fault.Read = FailsToRead old new out out'
+FailsToConvert old new out out' fault.Read = FailsAtRead old new out out'
 FailsToConvert old new out out' fault.AlreadyForm2 = IsForm2 old new out out'
 FailsToConvert old new out out' fault.Write = FailsToWrite old new out out'

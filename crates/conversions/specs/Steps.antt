@@ -88,7 +88,7 @@ pub record Held (start now : SinkSeen) (outgoing text : List ℕ) : Type 0 where
   pub text_is : text ≡ sent ++ outgoing
 
 -- the text for all that was fed is on its way
-pub record Advances (start now : SinkSeen) (outgoing : List ℕ) (left : ℕ) (fed : List ℕ)
+pub record ConvertsFurther (start now : SinkSeen) (outgoing : List ℕ) (left : ℕ) (fed : List ℕ)
     : Type 0 where
   pub text : List ℕ
   pub reached : Reached left fed text

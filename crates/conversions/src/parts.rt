@@ -1,7 +1,7 @@
 //! The conversion of bytes as they come.
 ghost use Rattle.std.specs.Prelude.{◌≡◌, ◌+◌, ◌≤◌, ◌++◌, ◌⊎◌, ℕ, List, length, take, drop, IfOk, MatchResult};
 ghost use Rattle.benc.specs.Device.{SinkSeen};
-ghost use Rattle.conversions.specs.Steps.{Advances, BreaksOff, Held, Reached, Waits};
+ghost use Rattle.conversions.specs.Steps.{ConvertsFurther, BreaksOff, Held, Reached, Waits};
 
 use crate::head::{convert_head, head_len};
 use crate::outgoing::{Outgoing, ROOM, put};
@@ -20,7 +20,7 @@ pub(crate) fn convert_part<W: Sink>(
     ensures waits { IfOk result (λ done. Waits left.new (drop done part.now)) }
     ensures converts { (start : SinkSeen) (fed text : List ℕ) → Reached left.old fed text
         → Held start (W.seen out.old) outgoing.old.items text → MatchResult result
-        (λ done. Advances start (W.seen out.new) outgoing.new.items left.new
+        (λ done. ConvertsFurther start (W.seen out.new) outgoing.new.items left.new
         (fed ++ take done part.now))
         (λ _. BreaksOff start (W.seen out.new) fed part.now) }
 {
@@ -47,7 +47,7 @@ fn pass_on<W: Sink>(
         × (left.new + count ≡ left.old) × (left.new ≡ 0 ⊎ count ≡ length bytes.now)) }
     ensures converts { (start : SinkSeen) (fed text : List ℕ) → Reached left.old fed text
         → Held start (W.seen out.old) outgoing.old.items text → MatchResult result
-        (λ count. Advances start (W.seen out.new) outgoing.new.items left.new
+        (λ count. ConvertsFurther start (W.seen out.new) outgoing.new.items left.new
         (fed ++ take count bytes.now))
         (λ _. BreaksOff start (W.seen out.new) fed bytes.now) }
 {

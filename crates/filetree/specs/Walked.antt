@@ -34,16 +34,17 @@ abbrev pub behind : List (List ℕ) → Walk → Walk
 behind path w = record { path = path ++ w.path; file = w.file }
 
 -- the walks were added to those before, or some component is bad
-abbrev pub Adds : Type 0 → List (List ℕ) → List Walk → List Walk → List Walk → Result Unit Refusal
-    → Type 0
-Adds bad path ws old new (Ok x) = (new ≡ old ++ map (behind path) ws) × (bad → ⊥)
-Adds bad path ws old new (Err r) = r ≢ refusals.NoMemory → (r ≡ refusals.Path) × bad
+abbrev pub AddsBehind : Type 0 → List (List ℕ) → List Walk → List Walk → List Walk
+    → Result Unit Refusal → Type 0
+AddsBehind bad path ws old new (Ok x) = (new ≡ old ++ map (behind path) ws) × (bad → ⊥)
+AddsBehind bad path ws old new (Err r) = r ≢ refusals.NoMemory → (r ≡ refusals.Path) × bad
 
 -- the walks of a directory were added to the files found before
 abbrev pub AddsWalks : Pairs → List (List ℕ) → Vec Found Global → Vec Found Global
     → Result Unit Refusal → Type 0
 AddsWalks ps path old new result =
-    Adds (HasBadPath ps) path (walks ps) (map walk_of old.items) (map walk_of new.items) result
+    AddsBehind (HasBadPath ps) path (walks ps) (map walk_of old.items) (map walk_of new.items)
+    result
 
 -- the walks and the bad components of one pair
 abbrev pub walks_at : List ℕ × Bencode → List Walk
@@ -57,7 +58,8 @@ HasBadPathAt p = (is_nil p.0 ≡ false) × (IsBadComponent p.0 ⊎ HasBadPathIn 
 abbrev pub AddsWalksAt : List ℕ × Bencode → List (List ℕ) → Vec Found Global → Vec Found Global
     → Result Unit Refusal → Type 0
 AddsWalksAt p path old new result =
-    Adds (HasBadPathAt p) path (walks_at p) (map walk_of old.items) (map walk_of new.items) result
+    AddsBehind (HasBadPathAt p) path (walks_at p) (map walk_of old.items)
+    (map walk_of new.items) result
 
 -- some pairs of a directory were walked, and the rest is left
 pub record IsOnWay (path : List (List ℕ)) (all rest : Pairs) (old new : List Walk) : Type 0 where

@@ -13,8 +13,8 @@ use Rattle.folders.specs.declared.shelf.Shelf.{Ghosts}
 use Rattle.benc.specs.Device.{SourceSeen}
 use Rattle.drafts.specs.Outline.{Outline}
 use Rattle.folders.specs.Shelf.{IsListed, Listing, ShelfContents, is_path, path_bytes}
-use Rattle.gathering.specs.Gathering.{AreContentsUnder, Fails, Gathers, GathersAll, HasGathered, IsListedAs, IsSortedListing, LacksMemoryAt, Misses, RefusesAt, StopsAtPath}
-use Rattle.gathering.specs.Steps.{Stops, StopsBefore}
+use Rattle.gathering.specs.Gathering.{AreContentsUnder, FailsAt, Gathers, GathersAll, HasGathered, IsListedAs, IsSortedListing, LacksMemoryAt, Misses, RefusesAt, StopsAtPath}
+use Rattle.gathering.specs.Steps.{StopsWith, StopsBefore}
 use Rattle.gathering.specs.Stopping.{at_path}
 use Rattle.gathering.specs.declared.file_fault.FileFault.{FileFault}
 use Rattle.gathering.specs.declared.file_fault.FileFault.TheVariants as why
@@ -97,9 +97,9 @@ module _ {S F : Type 0} (shelf : Ghosts S F) (seen : F → SourceSeen) (empty : 
   -- what is told of a path at which it stopped
   told_at : (old new mid : S) (d : Outline) (f : FileFault) (v : Vec (String Global))
       → ((Why : Outline → S → Type 0) → Why d mid → StopsAtPath shelf seen empty old (path_bytes v) Why)
-      → Stops shelf seen f d mid (path_bytes v) new → Gathers shelf seen empty old new (Err (at_path f v))
+      → StopsWith shelf seen f d mid (path_bytes v) new → Gathers shelf seen empty old new (Err (at_path f v))
   told_at old new mid d (why.Refused r) v at stops = inr (at (λ e s. RefusesAt shelf seen e (path_bytes v) r s new) stops)
-  told_at old new mid d why.Device v at stops = at (λ e s. Fails shelf seen s (path_bytes v) new) stops
+  told_at old new mid d why.Device v at stops = at (λ e s. FailsAt shelf seen s (path_bytes v) new) stops
   told_at old new mid d why.NoMemory v at stops =
       inr (inr (path_bytes v, at (λ e s. LacksMemoryAt shelf seen e (path_bytes v) s new) stops))
   told_at old new mid d why.Changed v at stops = at (λ e s. Misses shelf seen s (path_bytes v) new) stops
@@ -127,4 +127,4 @@ module _ {S F : Type 0} (shelf : Ghosts S F) (seen : F → SourceSeen) (empty : 
         mid = stops.mid;
         before = gathered_before old base stops.mid (take stop.number (map path_bytes sorted)) stops.draft quiet stays stops.before;
         why = holds;
-      }) (subst (λ p. Stops shelf seen stop.fault stops.draft stops.mid p new) path stops.why))
+      }) (subst (λ p. StopsWith shelf seen stop.fault stops.draft stops.mid p new) path stops.why))

@@ -9,7 +9,7 @@ use Rattle.filetree.specs.declared.refusal.Refusal.{Refusal}
 use Rattle.filetree.specs.declared.refusal.Refusal.TheVariants as refusals
 use Rattle.gathering.specs.Gathered.{DraftAdds, IsDraftFile}
 use Rattle.gathering.specs.Gathering.{Reads}
-use Rattle.gathering.specs.Steps.{AddsPath, Stops}
+use Rattle.gathering.specs.Steps.{AddsPath, StopsWith}
 use Rattle.gathering.specs.Stopping.{IsRefusal}
 use Rattle.gathering.specs.declared.file_fault.FileFault.{FileFault}
 
@@ -17,11 +17,11 @@ module _ {S F : Type 0} (shelf : Ghosts S F) (seen : F → SourceSeen) where
   -- the draft refused it
   pub stops_add : (d : Outline) (s : S) (path : List (List ℕ)) (s' : S) (content : List ℕ) (file : OutlineFile) (r : Refusal) (f : FileFault) → IsDraftFile d.piece_length d.hybrid path content file
       → length content ≤ 2 ^ 46 → Reads shelf seen s path content s' → IsRefusal r f → (r ≢ refusals.NoMemory → First (add_rows d file) r)
-      → (r ≡ refusals.NoMemory → NoneHolds (add_rows d file)) → Stops shelf seen f d s path s'
+      → (r ≡ refusals.NoMemory → NoneHolds (add_rows d file)) → StopsWith shelf seen f d s path s'
   stops_add d s path s' content file r f is short reads told refused memory = elim told [
-    | inl lacks ↦ subst (λ x. Stops shelf seen x d s path s') (sym lacks.1)
+    | inl lacks ↦ subst (λ x. StopsWith shelf seen x d s path s') (sym lacks.1)
         (record { content = content; reads = reads; short = short; takes = inr (record { file = file; is = is; passes = memory lacks.0 }) })
-    | inr other ↦ subst (λ x. Stops shelf seen x d s path s') (sym other.1)
+    | inr other ↦ subst (λ x. StopsWith shelf seen x d s path s') (sym other.1)
         (record { content = content; reads = reads; refuses = inr (short, record { file = file; is = is; first = refused other.0 }) })
   ]
 

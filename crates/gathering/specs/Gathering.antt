@@ -72,7 +72,7 @@ module _ {S F : Type 0} (shelf : Ghosts S F) (seen : F → SourceSeen) where
     pub quiet : shelf.faults s' ≡ shelf.faults s
 
   -- the opening failed, or a read did; that is one fault
-  pub record Fails (s : S) (path : List (List ℕ)) (s' : S) : Type 0 where
+  pub record FailsAt (s : S) (path : List (List ℕ)) (s' : S) : Type 0 where
     pub counted : shelf.faults s' ≡ one_more (shelf.faults s)
     pub failed : ((e : DeviceFault) × shelf.opens s path (Err e) s')
         ⊎ ((file : F) × HandsBack shelf seen (IsReadWithin (2 ^ 46 + 1)) s path file s')
@@ -171,7 +171,7 @@ module _ {S F : Type 0} (shelf : Ghosts S F) (seen : F → SourceSeen) where
         RefusesAll old new (path_bytes path) r
         ⊎ StopsAtPath old (path_bytes path) (λ d mid. RefusesAt d (path_bytes path) r mid new)
     Gathers old new (Err (fault.Device path)) =
-        StopsAtPath old (path_bytes path) (λ d mid. Fails mid (path_bytes path) new)
+        StopsAtPath old (path_bytes path) (λ d mid. FailsAt mid (path_bytes path) new)
     Gathers old new (Err (fault.List f)) = IsUnlisted old new f
     Gathers old new (Err fault.NoMemory) = LacksMemory old new
     Gathers old new (Err (fault.Changed path)) =

@@ -5,7 +5,7 @@ use Rattle.benc.specs.Device.{SourceSeen}
 use Rattle.drafts.specs.Outline.{Outline}
 use Rattle.filetree.specs.declared.refusal.Refusal.TheVariants as refusals
 use Rattle.gathering.specs.Gathered.{DraftAdds, KeepsDigests}
-use Rattle.gathering.specs.Gathering.{Fails, HasGathered, LacksMemoryAt, Misses, Reads, RefusesAt}
+use Rattle.gathering.specs.Gathering.{FailsAt, HasGathered, LacksMemoryAt, Misses, Reads, RefusesAt}
 use Rattle.gathering.specs.Hashing.{AreHashesOf}
 use Rattle.gathering.specs.declared.file_fault.FileFault.{FileFault}
 use Rattle.gathering.specs.declared.file_fault.FileFault.TheVariants as file
@@ -29,7 +29,7 @@ module _ {S F : Type 0} (shelf : Ghosts S F) (seen : F → SourceSeen) where
       × (content : List ℕ) × Reads shelf seen s path content s'
       × (2 ^ 46 < length content)
   VisitsFile piece_length hybrid s path s' (Err file.Device) =
-      Fails shelf seen s path s'
+      FailsAt shelf seen s path s'
   VisitsFile piece_length hybrid s path s' (Err file.NoMemory) =
       (content : List ℕ) × Reads shelf seen s path content s'
       × (length content ≤ 2 ^ 46) × KeepsDigests piece_length hybrid content
@@ -37,11 +37,11 @@ module _ {S F : Type 0} (shelf : Ghosts S F) (seen : F → SourceSeen) where
       Misses shelf seen s path s'
 
   -- why a path was not added to the draft d
-  abbrev pub Stops : FileFault → Outline → S → List (List ℕ) → S → Type 0
-  Stops (file.Refused r) d s path s' = RefusesAt shelf seen d path r s s'
-  Stops file.Device d s path s' = Fails shelf seen s path s'
-  Stops file.NoMemory d s path s' = LacksMemoryAt shelf seen d path s s'
-  Stops file.Changed d s path s' = Misses shelf seen s path s'
+  abbrev pub StopsWith : FileFault → Outline → S → List (List ℕ) → S → Type 0
+  StopsWith (file.Refused r) d s path s' = RefusesAt shelf seen d path r s s'
+  StopsWith file.Device d s path s' = FailsAt shelf seen s path s'
+  StopsWith file.NoMemory d s path s' = LacksMemoryAt shelf seen d path s s'
+  StopsWith file.Changed d s path s' = Misses shelf seen s path s'
 
   -- a path was added to the draft d, which is e then, or why not
   abbrev pub AddsPath : Outline → S → List (List ℕ) → Outline → S → Result (Unit {0}) FileFault
@@ -49,7 +49,7 @@ module _ {S F : Type 0} (shelf : Ghosts S F) (seen : F → SourceSeen) where
   AddsPath d s path e s' (Ok u) =
       (content : List ℕ) × Reads shelf seen s path content s'
       × DraftAdds d path content e
-  AddsPath d s path e s' (Err f) = Stops f d s path s'
+  AddsPath d s path e s' (Err f) = StopsWith f d s path s'
 
   -- the draft that was given is `empty`
   module _ (empty : Outline) where
@@ -61,7 +61,7 @@ module _ {S F : Type 0} (shelf : Ghosts S F) (seen : F → SourceSeen) where
         pub draft : Outline
         pub mid : S
         pub before : HasGathered shelf seen empty old old (take stop.number paths) mid draft
-        pub why : Stops stop.fault draft mid path new
+        pub why : StopsWith stop.fault draft mid path new
 
     -- all paths were added, or it stopped at one
     abbrev pub AddsAll : S → List (List (List ℕ)) → Outline → S → Result (Unit {0}) Stop → Type 0

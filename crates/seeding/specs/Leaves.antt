@@ -57,5 +57,5 @@ ReadsLeaves e left (Some leaves) =
 ReadsLeaves e left None = (bytes : List ℕ) × Agrees left bytes × ¬ FitsTree e bytes
 
 -- a source that had this to give gave so many bytes
-abbrev pub GivesLength : Option (List ℕ) → ℕ → Type 0
-GivesLength left len = (bytes : List ℕ) × Agrees left bytes × (length bytes ≡ len)
+abbrev pub HadLength : Option (List ℕ) → ℕ → Type 0
+HadLength left len = (bytes : List ℕ) × Agrees left bytes × (length bytes ≡ len)

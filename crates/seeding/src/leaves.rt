@@ -5,7 +5,7 @@ ghost use Rattle.hashtree.specs.Tree.{block_count};
 ghost use Rattle.metainfo.specs.Seen.{tree_entry};
 ghost use Rattle.folders.specs.TakeAll.{CountsReading, IsReadWithin};
 ghost use Rattle.folders.specs.declared.read_fault.ReadFault.TheVariants as fault;
-ghost use Rattle.seeding.specs.Leaves.{EndsWithTree, GivesLength, HasRefused, IsFedLeaves, IsFull, ReadsLeaves};
+ghost use Rattle.seeding.specs.Leaves.{EndsWithTree, HadLength, HasRefused, IsFedLeaves, IsFull, ReadsLeaves};
 
 use benc::Source;
 use folders::{ReadFault, Taker, take_all};
@@ -116,7 +116,7 @@ pub(crate) fn read_tree<N: NodeMap, F: Source>(
     ensures length { IfOk result (λ found. IfSome found (λ grown.
         grown.length ≡ tree.now.length)) }
     ensures memory { IfErr result (λ why. why ≡ fault.NoMemory
-        → GivesLength (F.seen source.old).left tree.now.length) }
+        → HadLength (F.seen source.old).left tree.now.length) }
     ensures counts { CountsReading (F.seen source.old).faults (F.seen source.new).faults result }
     ensures no_further { IsReadWithin (tree.now.length + 1) (F.seen source.old)
         (F.seen source.new) }

@@ -1,7 +1,7 @@
 use Rattle.std.proofs.Common.{◌≡◌, ◌-◌, ◌+◌, ◌++◌, length, take, drop, ap, subst, arith}
 use Rattle.std.proofs.lemmas.List.{length-drop, take_rest}
 use Rattle.std.proofs.lemmas.Result.{err_from_is_err_and}
-use Rattle.conversions.specs.Steps.{Advances, Reached}
+use Rattle.conversions.specs.Steps.{ConvertsFurther, Reached}
 use Rattle.conversions.proofs.Reaching.{breaks_later, fed_head, fed_later, none_left, reach_head}
 use Rattle.conversions.proofs.parts.convert_part.Goals as goal
 
@@ -21,7 +21,7 @@ returns-in_default-clause-converts g c = λ start fed text r h.
     let done = c.frames.done in
     let count = c.in_ok-done.field-0 in
     let a = c.frames.invariant.converts start fed text r h in
-    subst (Advances start (S.seen c.pass_on.new.out) c.pass_on.new.outgoing.items c.pass_on.new.left) (fed_later fed part done count)
+    subst (ConvertsFurther start (S.seen c.pass_on.new.out) c.pass_on.new.outgoing.items c.pass_on.new.left) (fed_later fed part done count)
     (c.in_ok-done.ensures.converts start (fed ++ take done part) a.text a.reached a.held)
 
 pub returns-in_err-left-clause-converts : goal.returns-in_err-left-clause-converts

@@ -3,7 +3,7 @@ use Rattle.std.proofs.lemmas.Result.{err_from_is_err_and}
 use Rattle.benc.specs.Value.{dict, pair, no_pairs}
 use Rattle.benc.specs.View.{view, pairs_view, pair_view, Seen}
 use Rattle.filetree.specs.FileTree.{is_file, is_nil}
-use Rattle.filetree.specs.Walked.{walk_of, IsOnWay, Adds, HasBadPathAt, walks_at}
+use Rattle.filetree.specs.Walked.{walk_of, IsOnWay, AddsBehind, HasBadPathAt, walks_at}
 use Rattle.std.proofs.lemmas.List.{map-append}
 use Rattle.benc.proofs.Values.{view-Pair, view-Dict}
 use Rattle.filetree.proofs.Views.{pairs_next}
@@ -42,7 +42,7 @@ walk_pair-returns t c =
     let new = map walk_of c.walk.new.files.items in
     let farther : c.in_ok-below.below ≡ path ++ x.key.now ∷ [] = c.in_ok-below.ensures ∙ ap (λ n. path ++ n ∷ []) c.in_ok-name.ensures.0 in
     let inner : view x.value ≡ dict (pairs_view c.deref-2.result.now) = ap view c.in-Dict.is ∙ view-Dict c.in-Dict.inner ∙ ap (λ ps. dict (pairs_view ps)) (sym c.deref-2.ensures.value) in
-    subst (λ (p : Seen). Adds (HasBadPathAt p) path (walks_at p) old new c.walk.result) (sym seen)
+    subst (λ (p : Seen). AddsBehind (HasBadPathAt p) path (walks_at p) old new c.walk.result) (sym seen)
     (walked_inner path c.in_ok-below.below x.key.now (pairs_view c.deref-2.result.now) (view x.value) old new c.walk.result some farther inner c.in_ok-name.ensures.1 c.walk.ensures)
 
 pub walk_pair-returns-then-is_file : goal.walk_pair-returns-then-is_file
@@ -60,5 +60,5 @@ walk_pair-returns-then-is_file t c =
     let there : c.new-path.result ≡ path ++ x.key.now ∷ [] = c.new-path.ensures ∙ ap (λ f. f ++ c.in_ok-name.name.now ∷ []) c.in_ok-share.ensures ∙ ap (λ n. path ++ n ∷ []) c.in_ok-name.ensures.0 in
     let added : new ≡ old ++ record { path = path ++ x.key.now ∷ []; file = view y.value } ∷ [] = ap (map walk_of) c.in_ok-push.ensures.items ∙ map-append walk_of c.args.files.now.items _
     ∙ ap (λ (p : List (List ℕ)). old ++ record { path = p; file = view y.value } ∷ []) there in
-    subst (λ (p : Seen). Adds (HasBadPathAt p) path (walks_at p) old new (Ok tt)) (sym (view-Pair x.key x.value))
+    subst (λ (p : Seen). AddsBehind (HasBadPathAt p) path (walks_at p) old new (Ok tt)) (sym (view-Pair x.key x.value))
     (walked_file path x.key.now y.key.now (view x.value) (view y.value) old new some c.in_ok-name.ensures.1 whole nil added)
