@@ -1,4 +1,4 @@
-# make                 proves every crate that the program needs and builds build/btcheck
+# make                 proves every crate that the program needs, says how far it is, and builds build/btcheck
 # make check           runs what the merge gate runs: proofs, must-fail edits, all tests
 # make test            runs the built program on real files
 # make bench           measures the commands and what they stand on, compared with the digests alone
@@ -29,11 +29,12 @@ all: build/btcheck
 
 build/btcheck: $(SOURCES)
 	$(need_toolchain)
+	@RT="$(RT)" tools/prove btcheck
 	cd crates/btcheck && $(RT) run $(if $(CPU),--cpu=$(CPU)) -- root /dev/null
 	install -D -m 755 crates/btcheck/out/btcheck $@
 
 # Programs for the tests alone: they make the libraries' calls with memory refused, and over devices that fail.
-build/growths build/devices: $(SOURCES)
+build/memory_tests build/device_tests: $(SOURCES)
 	$(need_toolchain)
 	cd crates/$(@F) && $(RT) run $(if $(CPU),--cpu=$(CPU))
 	install -D -m 755 crates/$(@F)/out/$(@F) $@
@@ -42,7 +43,7 @@ check:
 	$(need_toolchain)
 	RT=$(RT) .ci/run
 
-test: build/btcheck build/growths build/devices
+test: build/btcheck build/memory_tests build/device_tests
 	tests/run
 
 bench: build/btcheck

@@ -35,7 +35,7 @@ complete -c btcheck -n '__fish_seen_subcommand_from create' -l name -x -d 'The d
 complete -c btcheck -n '__fish_seen_subcommand_from create' -l piece-length -x -d 'Bytes per piece'
 complete -c btcheck -n '__fish_seen_subcommand_from create' -l hybrid -d 'Make a hybrid'
 
-complete -c btcheck -n $none -a convert -d 'Make a record with directions of one without'
+complete -c btcheck -n $none -a convert -d 'Add directions to a record that has none'
 complete -c btcheck -n '__fish_seen_subcommand_from convert; and test (__btcheck_arguments) -lt 2' -F
 
 complete -c btcheck -n $none -a replay -d 'Check recorded messages of peers'
@@ -43,7 +43,7 @@ complete -c btcheck -n '__fish_seen_subcommand_from replay; and test (__btcheck_
     -k -a '(__fish_complete_suffix .torrent)'
 complete -c btcheck -n '__fish_seen_subcommand_from replay; and test (__btcheck_arguments) -eq 1' -F
 complete -c btcheck -n '__fish_seen_subcommand_from replay' -l info-only -d 'Start from the roots alone'
-complete -c btcheck -n '__fish_seen_subcommand_from replay' -l seed -r \
+complete -c btcheck -n '__fish_seen_subcommand_from replay' -l seed -x \
     -a '(__fish_complete_directories)' -d 'Also start from the files of a folder'
 complete -c btcheck -n '__fish_seen_subcommand_from replay' -l answers -r -F \
     -d 'Write the answers to hash requests'

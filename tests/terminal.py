@@ -16,10 +16,20 @@ def width_of(letter):
     return 2 if unicodedata.east_asian_width(letter) in "WF" else 1
 
 
-def screen(text):
-    """The lines that a terminal without a right edge shows of this text."""
-    lines, column = [{}], 0
-    for letter in text:
+NO_WRAP, WRAP = "\x1b[?7l", "\x1b[?7h"
+
+
+def screen(text, columns=None):
+    """The lines that a terminal of so many columns shows of this text, or one without a right edge. Between the two
+    control sequences it begins no new line at that edge, but writes on in the last column."""
+    lines, column, wraps = [{}], 0, True
+    for letter in text.replace(NO_WRAP, "\x0e").replace(WRAP, "\x0f"):
+        if letter in "\x0e\x0f":
+            wraps = letter == "\x0f"
+            continue
+        if columns and width_of(letter) > 0 and letter not in "\r\n" and column + width_of(letter) > columns:
+            lines += [{}] * wraps
+            column = 0 if wraps else columns - width_of(letter)
         if letter == "\r":
             column = 0
         elif letter == "\n":
@@ -35,12 +45,13 @@ def screen(text):
 
 def drawn(text):
     """The lines that were drawn over one another, without the spaces that hide earlier ones."""
+    text = text.replace(NO_WRAP, "").replace(WRAP, "")
     return [line.rstrip(" ") for line in text.split("\r") if line.strip(" \n")]
 
 
 def on_terminal(*arguments, columns=None, term="xterm", both=False, feed=None, **environment):
     """Runs the program with a terminal for standard error, and with `both` for standard output too. `feed` is given
-    the file that standard input comes from. Tells the status, standard output, and what the terminal was sent."""
+    the file that standard input comes from. Gives the status, standard output, and what the terminal was sent."""
     known = {name: text for name, text in os.environ.items() if name not in ("COLUMNS", "TERM")}
     known |= {name: str(text) for name, text in [("COLUMNS", columns), ("TERM", term)] if text is not None} | environment
     ours, theirs = pty.openpty()

@@ -4,7 +4,7 @@ import random
 
 from messages import KEEP_ALIVE, hashes, piece, reject, request
 from poison import Peers
-from support import expect, folder, run, write
+from support import expect, folder, run, write, written
 from torrents import ABC, FIVE, torrent_of
 from trees import BLOCK, Tree
 
@@ -94,12 +94,39 @@ def test_the_file_of_the_answers():
         with open("/dev/full", "wb") as full:
             done = run("replay", path, record, "--answers", out, stdout=full)
         assert (done.returncode, done.stderr, os.path.getsize(out)) == (2, b"fault: cannot write -\n", 0), done
-        # one that is the record itself is emptied before it is read
-        expect(run("replay", path, record, "--answers", record), 0, "end\n")
-        assert os.path.getsize(record) == 0
         # twice, or without its file
         for wrong in [["--answers", out, "--answers", out], ["--answers"]]:
             expect(run("replay", path, out, *wrong), 2, "", None)
+
+
+def test_no_file_that_is_read_takes_the_answers():
+    """By whatever path: not the torrent, the record, nor a file that the session is seeded from."""
+    tree, torrent = Tree.of(FIVE), torrent_of([("five", FIVE)], 32768)
+    with folder() as place:
+        path, record = write(f"{place}/torrent", torrent), write(f"{place}/record", request(tree.root, 1, 0, 2, 1))
+        os.mkdir(f"{place}/files")
+        seed = write(f"{place}/files/five", FIVE)
+        beside = write(f"{place}/files/other", b"other")
+        before = {name: written(name) for name in [path, record, seed]}
+        for name in before:
+            os.link(name, f"{name}.link")
+            os.symlink(f"{name}.link", f"{name}.soft")
+            for out in [name, f"{name}.link", f"{name}.soft", os.path.relpath(name)]:
+                done = run("replay", path, record, "--seed", f"{place}/files", "--answers", out)
+                expect(done, 2, "", f"fault: cannot write {out}\n")
+        for out in (path, record):
+            expect(run("replay", path, record, "--answers", out), 2, "", f"fault: cannot write {out}\n")
+        with open(record, "rb") as source:
+            done = run("replay", path, "/dev/stdin", "--answers", record, stdin=source)
+        expect(done, 2, "", f"fault: cannot write {record}\n")
+        assert before == {name: written(name) for name in before}
+        # the record is opened before that, and without seeds a file of the torrent is one like others
+        missing = f"{place}/missing"
+        expect(run("replay", path, missing, "--answers", path), 2, "", f"fault: cannot read {missing}\n")
+        expect(run("replay", path, record, "--seed", "", "--answers", beside), 0, lines("not seeded five", "1 answered", "end"))
+        done = run("replay", path, record, "--seed", f"{place}/files", "--answers", beside)
+        expect(done, 0, lines("seeded five", "1 answered", "end"))
+        expect(run("replay", path, record, "--answers", "/dev/null"), 0, lines("1 answered", "end"))
 
 
 def test_a_record_that_ends_badly():

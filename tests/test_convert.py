@@ -1,4 +1,5 @@
 """`btcheck convert RECORD OUT`: a record of form 1 becomes one of form 2."""
+import itertools
 import os
 import random
 
@@ -7,7 +8,7 @@ import record_model
 from poison import Peers
 from record_cases import FRAMES, large, replay, started, worlds
 from record_model import FORM_2
-from support import expect, folder, run, write
+from support import expect, folder, run, write, written
 from torrents import torrent_of
 
 
@@ -74,6 +75,26 @@ def test_faults_of_conversions():
         for text in (b"", b"".join(FRAMES), b"".join(FRAMES) * 10000):
             expect(run("convert", write(record, text), "/dev/full"), 2, "", "fault: cannot write /dev/full\n")
         expect(run("convert", write(record, FORM_2), "/dev/full"), 1, "refused 3 AlreadyForm2\n")
+
+
+def test_the_record_is_not_overwritten():
+    """By whatever path; and a record that is not there leaves OUT empty, as one of form 2 does."""
+    text = b"".join(FRAMES)
+    with folder() as place:
+        record, link, soft = write(f"{place}/record", text), f"{place}/link", f"{place}/soft"
+        os.link(record, link)
+        os.symlink("link", soft)
+        for one, other in itertools.product([record, link, soft], repeat=2):
+            expect(run("convert", one, other), 2, "", f"fault: cannot write {other}\n")
+        with open(record, "rb") as source, open(record, "ab") as out:
+            expect(run("convert", "/dev/stdin", soft, stdin=source), 2, "", f"fault: cannot write {soft}\n")
+            expect(run("convert", link, "/dev/stdout", stdout=out), 2, None, "fault: cannot write /dev/stdout\n")
+        assert written(record) == text
+        # devices are no files that could be lost
+        expect(run("convert", "/dev/null", "/dev/null"), 0)
+        # a copy is another file
+        expect(run("convert", record, write(f"{place}/copy", text)), 0)
+        assert (written(record), written(f"{place}/copy")) == (text, record_model.converted(text))
 
 
 def test_conversions_through_pipes():

@@ -319,13 +319,48 @@ def test_files_without_permission():
 
 
 def test_the_torrent_in_the_folder():
-    """A torrent that is there already is a file of the folder, hashed before it is written anew."""
+    """A torrent below the folder that is not there yet is made; one that was listed stays as it is."""
     with folder() as place:
-        content = make_folder(f"{place}/content", {"b": b"abc"})
-        out = f"{content}/out"
-        expect_created(content, out, {"b": b"abc"})
-        expect_created(content, out, {"b": b"abc", "out": written(out)})
-        expect_created(content, f"{content}/b", {"b": b"abc", "out": written(out)})
+        content = make_folder(f"{place}/content", {"b": b"abc", "d/e": b"def"})
+        out = f"{content}/d/out"
+        expect_created(content, out, {"b": b"abc", "d/e": b"def"})
+        expect_unwritten(content, out)
+
+
+def expect_unwritten(content, out):
+    """OUT is a file of the folder, which stays as it is."""
+    before = written(out)
+    expect(create(content, out), 2, b"", f"fault: cannot write {out}\n")
+    assert written(out) == before, out
+
+
+def test_no_file_of_the_folder_is_overwritten():
+    """By whatever path: its own, a hard link, symlinks, or standard output that goes there."""
+    with folder() as place:
+        content = make_folder(f"{place}/content", {"b": b"abc", "d/e": b"def"})
+        os.symlink(content, f"{place}/same")
+        os.symlink("content/b", f"{place}/to-b")
+        os.symlink("to-b", f"{place}/to-to-b")
+        os.link(f"{content}/d/e", f"{place}/link")
+        for out in [f"{content}/b", f"{content}/d/e", f"{content}/d/../b", f"{place}/same/d/e", f"{place}/to-b",
+                    f"{place}/to-to-b", f"{place}/link"]:
+            expect_unwritten(content, out)
+            expect_unwritten(f"{place}/same", out)
+        with open(f"{content}/b", "ab") as there:
+            expect(create(content, "/dev/stdout", stdout=there), 2, None, "fault: cannot write /dev/stdout\n")
+        assert (written(f"{content}/b"), written(f"{content}/d/e")) == (b"abc", b"def")
+        # a symlink beside the folder to a file that is no part of it, and a name that leads nowhere yet
+        other = write(f"{place}/other", b"before")
+        os.symlink("other", f"{place}/to-other")
+        os.symlink("new", f"{place}/to-new")
+        for out, real in [(f"{place}/to-other", other), (f"{place}/to-new", f"{place}/new")]:
+            expect_created(content, out, {"b": b"abc", "d/e": b"def"})
+            assert written(real) == written(out) and os.path.islink(out)
+        # a file that is refused, or cannot be read, is told before OUT is looked at
+        expect(create(content, f"{content}/b", piece_length=1), 1, b"refused 6 PieceLength\n")
+        os.symlink("nothing", f"{content}/odd")
+        expect(create(content, f"{content}/b"), 2, b"", "fault: not a file or folder: odd\n")
+        assert written(f"{content}/b") == b"abc"
 
 
 def test_torrents_that_cannot_be_written():

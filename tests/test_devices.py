@@ -192,7 +192,8 @@ def test_seeds_and_answers_that_fail():
             assert sorted(seen, key=told.index) == seen, (error, seen)
         for error in (errno.EMFILE, errno.EACCES, errno.ENOENT):
             assert failures_of("open", error) == [no_torrent, no_record, no_answers, *without], error
-            assert failures_of("stat", error) == without, error
+            # a look that only tells whether the answers would go to a file that is read may fail
+            assert [end for end in failures_of("stat", error) if end != ample] == without, error
         assert set(failures_of("close")) == {ample}
         assert outcome(shim.run("read", 0, *arguments, one_byte=True)[1]) == ample[:3] and written(world.answers) == ample[3]
 

@@ -199,6 +199,7 @@ def test_the_answer_of_a_seeded_session():
         path, record = write(f"{place}/torrent", torrent_bytes), write(f"{place}/record", messages.request(*ask))
         out, seen = f"{place}/out", []
         arguments = ["replay", path, record, "--info-only", "--seed", f"{place}/folder", "--answers", out]
+        write(out, b"")  # so that each run asks whether it is an input
         calls, done = shim.run("growth", 0, *arguments)
         assert outcome(done) == (0, b"seeded file\n1 answered\nend\n", b"") and shim.failed == 0, outcome(done)
         assert written(out) == messages.hashes(*ask, given=tree.hashes(*ask[1:4], 1)) and os.path.getsize(out) == 16469

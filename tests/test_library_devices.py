@@ -1,4 +1,4 @@
-"""Devices that fail under calls of the libraries. The program of crates/devices makes each call that takes a device
+"""Devices that fail under calls of the libraries. The program of crates/device_tests makes each call that takes a device
 over ones in memory that fail at their first call, their second, and so on, until a run meets no fault, whole and one
 byte a call. It prints how many calls of its devices each call makes, and `wrong` where a fault is told otherwise than
 promised: what went out is a prefix of the text, one fault is counted, and later calls answer as promised."""
@@ -11,7 +11,7 @@ from support import TOP, folder, run, write
 from torrents import TWO, entry, file, hybrid, info, pad, torrent
 from trees import Tree
 
-DEVICES = os.path.join(TOP, "build", "devices")
+DEVICES = os.path.join(TOP, "build", "device_tests")
 COUNT = re.compile(r"(.+): (\d+) of (.+)")
 
 # The calls, with each device that they take.

@@ -1,4 +1,4 @@
-"""Memory that is refused to calls of the libraries: each growth in turn. The program of crates/growths makes each call
+"""Memory that is refused to calls of the libraries: each growth in turn. The program of crates/memory_tests makes each call
 again that failed for memory, and says if it left something behind; so it prints what it prints with ample memory."""
 import collections
 import json
@@ -15,7 +15,7 @@ from test_growths import fits
 from torrents import ABC, FIVE, LARGE, TWO, file, hybrid, info, layer, torrent, torrent_of
 from trees import Tree, blocks_of, root_of
 
-GROWTHS = os.path.join(TOP, "build", "growths")
+GROWTHS = os.path.join(TOP, "build", "memory_tests")
 CALL = re.compile(r"refused: (.*)")
 OF_RUN = re.compile(r"message (\d+) of run")
 BYTES = re.compile(rb"\[[\d, ]*\]")

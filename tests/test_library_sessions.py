@@ -1,4 +1,4 @@
-"""Calls on sessions that no command makes, and what a session knows after each message. The program of crates/growths
+"""Calls on sessions that no command makes, and what a session knows after each message. The program of crates/memory_tests
 takes messages over either map, and prints what each came to and how much is known and marked."""
 import re
 import subprocess

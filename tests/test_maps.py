@@ -1,4 +1,4 @@
-"""Both maps of known nodes. The program of crates/growths takes messages over flat rows or over pages, and prints after
+"""Both maps of known nodes. The program of crates/memory_tests takes messages over flat rows or over pages, and prints after
 each what it came to and how much is known and marked, and how many pages are held."""
 import os
 import re
@@ -12,7 +12,7 @@ from test_pages import LONGEST, pair
 from torrents import LARGE, torrent_of
 from trees import Tree
 
-GROWTHS = os.path.join(TOP, "build", "growths")
+GROWTHS = os.path.join(TOP, "build", "memory_tests")
 PAGES = re.compile(rb", pages: (\d+) }")
 
 

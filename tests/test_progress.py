@@ -8,7 +8,7 @@ import record_model
 import torrents
 from shim import shimmed
 from support import folder, run, write
-from terminal import drawn, on_terminal, screen, width_of
+from terminal import NO_WRAP, WRAP, drawn, on_terminal, screen, width_of
 from trees import sha256
 
 MIB = 1 << 20
@@ -16,6 +16,7 @@ PIECE = 65536
 
 AMOUNT = r"\d+ B|\d+\.\d (?:Ki|Mi|Gi|Ti|Pi|Ei)B"
 OF_ALL = re.compile(rf"({AMOUNT}) of ({AMOUNT}), ({AMOUNT})/s, (\d+:\d\d(?::\d\d)?) left(: .*)?")
+OF_ALL_SHORT = re.compile(rf"({AMOUNT}) of ({AMOUNT}), (\d+:\d\d(?::\d\d)?) left(: .*)?")
 OF_SOME = re.compile(rf"({AMOUNT}), ({AMOUNT})/s(: .*)?")
 
 
@@ -148,7 +149,8 @@ def test_convert():
             assert file.read() == record_model.converted(keep_alives)
         status, out, sent = on_terminal("convert", "/dev/stdin", "/dev/stderr", feed=slowly(8, 0.15))
         assert (status, out) == (0, "") and sent.count("\r") >= 6, (out, sent.count("\r"))
-        assert re.sub("\r[^\r]*\r +\r", "", sent).encode(errors="surrogateescape") == record_model.converted(keep_alives)
+        plain = re.sub("\r[^\r]*\r +\r", "", sent.replace(NO_WRAP, "").replace(WRAP, ""))
+        assert plain.encode(errors="surrogateescape") == record_model.converted(keep_alives)
         # the line is gone before a fault, and before a refusal
         status, _, sent = on_terminal("convert", "/dev/stdin", f"{place}/out", both=True, feed=cut)
         assert status == 2 and len(drawn(sent)) > 1, sent
@@ -192,7 +194,7 @@ def test_widths():
             path = zeros(place, name, 128 * MIB)
             for columns in widths:
                 status, _, sent = on_terminal("root", path, columns=columns)
-                wide = int(columns) if str(columns).isdigit() and 0 < int(columns) < 10 ** 8 else 80
+                wide = int(columns) if str(columns).isdigit() and 0 < int(columns) < 10 ** 8 else 45
                 assert status == 0 and screen(sent) == [""], (name, columns, sent)
                 for line in drawn(sent):
                     assert sum(map(width_of, line)) < min(wide, 500), (columns, line)
@@ -200,6 +202,22 @@ def test_widths():
                 assert wide < 12 or drawn(sent), (name, columns)
                 if wide >= 80 and name == "short":
                     assert all(line.endswith("short") for line in drawn(sent)), sent
+                elif wide >= 60:
+                    assert all(OF_ALL.match(line) for line in drawn(sent)), sent
+                elif wide >= 45:  # without the rate, if that does not fit
+                    assert all(OF_ALL.match(line) or OF_ALL_SHORT.match(line) for line in drawn(sent)), sent
+
+
+def test_narrow_terminals():
+    """Nothing scrolls, though nobody says how narrow the terminal is."""
+    with folder() as place:
+        path = zeros(place, "long", 256 * MIB)
+        for columns in (1, 2, 20, 44, 45, 60, 80):
+            status, _, sent = on_terminal("root", path)
+            assert status == 0 and drawn(sent), (columns, sent)
+            assert screen(sent, columns) == [""], (columns, sent)
+            # each line that is drawn is one write of the program, from the one control sequence to the other
+            assert re.fullmatch(f"(\r{re.escape(NO_WRAP)}[^\r]*{re.escape(WRAP)})+\r", sent), sent
 
 
 def test_files_that_fail():
@@ -214,10 +232,10 @@ def test_files_that_fail():
                 file.write(bytes(16))
             return {"LD_PRELOAD": shim.library, "SHIM_COUNTS": shim.counts, "SHIM_KIND": "read", "SHIM_AT": str(at),
                     "SHIM_ERRNO": "5", "SHIM_ONWARD": "0", "SHIM_ONE_BYTE": "0"}
-        status, out, sent = on_terminal("root", paths[0], both=True, **failing(1900))
+        status, out, sent = on_terminal("root", paths[0], both=True, **failing(900))
         assert status == 2 and len(drawn(sent)) > 1, sent
         assert screen(sent) == [f"fault: cannot read {paths[0]}", ""], sent
-        status, out, sent = on_terminal("check", path, f"{place}/all", **failing(1900))
+        status, out, sent = on_terminal("check", path, f"{place}/all", **failing(900))
         assert (status, out) == (1, "unreadable a\ngood b\nno\n") and drawn(sent), (out, sent)
         assert screen(sent) == [""], sent
         # standard output fails behind the line

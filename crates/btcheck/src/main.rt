@@ -1,13 +1,9 @@
 //! Checks the hash trees of BitTorrent version 2.
 #![tactic(auto)]
 
-mod perform;
-mod streams;
-mod torrent_file;
-
-use checker::Fault;
 use command_line::{ExplainFault, action, explain};
-use commands::print_fault;
+use commands::{perform, print_fault};
+use printing::Fault;
 use std::process::ExitCode;
 use std::{env, io};
 
@@ -20,10 +16,10 @@ fn all_arguments(rt: &HostRuntime) -> Result<Vec<String>, Fault<'static>> {
     }
 }
 
-// Does what the arguments ask for, or tells why they were refused. Gives the exit status.
+// Does what the arguments ask for, or says why they were refused. Gives the exit status.
 fn run<'a>(rt: &HostRuntime, line: &'a [&'a str]) -> Result<u8, Fault<'a>> {
     match action(rt.alloc(), line) {
-        Ok(action) => perform::perform(rt, &action),
+        Ok(action) => perform(rt, &action),
         Err(error) => match explain(rt, &error) {
             Ok(status) => Ok(status),
             Err(ExplainFault::NoMemory) => Err(Fault::NoMemory),

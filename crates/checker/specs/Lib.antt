@@ -1,11 +1,11 @@
 -- The definitions that the contracts of this crate's calls cite.
 pub use Rattle.conversions.specs.Converting
 pub use Rattle.conversions.specs.declared.fault.ConvertFault
-pub use Rattle.lines.specs.Cut
-pub use Rattle.lines.specs.Text
-pub use Rattle.lines.specs.Refused
-pub use Rattle.lines.specs.Fault
-pub use Rattle.lines.specs.Show
+pub use Rattle.printing.specs.Cut
+pub use Rattle.printing.specs.Text
+pub use Rattle.printing.specs.Refused
+pub use Rattle.printing.specs.Fault
+pub use Rattle.printing.specs.Show
 pub use Rattle.folders.specs.Root
 pub use Rattle.folders.specs.Shelf
 pub use Rattle.folders.specs.MemShelf
@@ -20,9 +20,9 @@ pub use Rattle.folders.specs.declared.shelf_fault.ShelfFault
 pub use Rattle.gathering.specs.Gathered
 pub use Rattle.gathering.specs.Gathering
 pub use Rattle.gathering.specs.declared.gather_fault.GatherFault
-pub use Rattle.records.specs.Answering
-pub use Rattle.records.specs.Replay
-pub use Rattle.records.specs.ReplayLines
-pub use Rattle.records.specs.Outcome
+pub use Rattle.replays.specs.Answering
+pub use Rattle.replays.specs.Replay
+pub use Rattle.replays.specs.ReplayLines
+pub use Rattle.replays.specs.Outcome
 pub use Rattle.seeding.specs.Seeding
 pub use Rattle.seeding.specs.declared.seed_fault.SeedFault

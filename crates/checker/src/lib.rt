@@ -7,6 +7,6 @@ pub use folders::{
     print_report, root_line,
 };
 pub use gathering::{GatherFault, gather};
-pub use lines::{Fault, fault_line, refusal_line, show};
-pub use records::{Outcome, replay};
+pub use printing::{Fault, fault_line, refusal_line, show};
+pub use replays::{Outcome, replay};
 pub use seeding::{SeedFault, seed};

@@ -1,15 +1,19 @@
 -- What the program's command line is to clap, and what it asks for. Words are the arguments as
 -- texts, the program's name first; rows are what clap's definition of simple commands finds in
 -- them.
-use Rattle.std.specs.Prelude.{◌≡◌, ◌⊎◌, ℕ, List, [], ◌∷◌, Bool, true, false, Option, Some, None, codes, option_map, ◌<◌, ◌^◌}
+use Rattle.std.specs.Prelude.{◌≡◌, ◌⊎◌, ℕ, List, [], ◌∷◌, Bool, true, false, Option, Some, None, codes, option_map, ◌<◌, ◌^◌, ◌++◌, Result, MatchResult}
 use Rattle.std.specs.Borrow.{Bor}
 use Rattle.clap.specs.Walk.{Row, Rule, Text, first_of, one_of, rule_of}
 use Rattle.clap.specs.Simple.{App, Shape, app_of, new_rule, new_shape, subcommand_of}
+use Rattle.clap.specs.Kinds.{IsAmong}
+use Rattle.clap.specs.Faults.{fault_of}
 use Rattle.clap.specs.declared.builder.arg.Arg.{Arg}
 use Rattle.clap.specs.declared.builder.command.Command.{Command}
 use Rattle.clap.specs.declared.builder.command.Command.TheViews.{out-Command}
+use Rattle.clap.specs.Values.{kind_of}
+use Rattle.clap.specs.declared.error.Error.{Error}
 use Rattle.clap.specs.declared.error.kind.ErrorKind.{ErrorKind}
-use Rattle.clap.specs.declared.error.kind.ErrorKind.TheVariants.{DisplayHelp, DisplayVersion}
+use Rattle.clap.specs.declared.error.kind.ErrorKind.TheVariants.{DisplayHelp, DisplayVersion, MissingSubcommand, OutOfMemory}
 use Rattle.clap.specs.declared.builder.action.ArgAction.TheVariants.{Set, SetTrue}
 use Rattle.clap.specs.declared.builder.value_parser.ValueParser.TheVariants as vp
 use Rattle.std.specs.Str.Parse.{IsNumeral, digits_value, without_leading_plus}
@@ -90,9 +94,17 @@ IsArgument rule arg = (rule_of arg ≡ rule) × (arg.global ≡ false)
 abbrev pub IsLeaf : Shape → Command → Type 0
 IsLeaf shape c = IsApp (record { top = shape; subs = [] }) c
 
+-- the command with this rule for one more argument
+abbrev pub with_more : Shape → Rule → Shape
+with_more shape rule = record shape { rules = shape.rules ++ rule ∷ [] }
+
+-- such a command, or memory was refused
+abbrev pub IsMade : (Command → Type 0) → Result Command Error → Type 0
+IsMade Is made = MatchResult made Is (λ e. kind_of e ≡ OutOfMemory)
+
 -- ---- what is asked for
 
--- an option that is there or not, as clap tells it
+-- an option that is there or not, as clap gives it
 abbrev pub IsFlag : Text → List Row → Bool → Type 0
 IsFlag name rows given =
     (one_of name rows ≡ Some (codes "true") → given ≡ true)
@@ -168,10 +180,25 @@ IsAskedOf found (Some a) = IsAskedIn found a
 IsAskedOf found None = (a : Action) → IsAskedIn found a → ⊥
 
 -- the action is what clap's definition finds in these words
-abbrev pub IsAskedBy : List Text → Action → Type 0
-IsAskedBy words a = IsAskedIn (subcommand_of program words) a
+abbrev pub IsFoundIn : List Text → Action → Type 0
+IsFoundIn words a = IsAskedIn (subcommand_of program words) a
 
--- ---- what is told of arguments that ask for no action
+-- clap's definition has no fault to find with these words
+abbrev pub IsTaken : List Text → Type 0
+IsTaken words = fault_of program words ≡ []
+
+-- the words are taken, and the action is what is found in them
+abbrev pub IsAskedBy : List Text → Action → Type 0
+IsAskedBy words a = IsTaken words × IsFoundIn words a
+
+-- Why these words ask for no action: out of memory; or one of the kinds that clap's definition
+-- gives for their first fault, as that help is asked for; or they are taken, and no action is
+-- found in them, as if the command were missing.
+abbrev pub IsRefusalOf : List Text → ErrorKind → Type 0
+IsRefusalOf words kind = ((kind ≡ OutOfMemory) ⊎ IsAmong kind (fault_of program words))
+    ⊎ (IsTaken words × ((a : Action) → IsFoundIn words a → ⊥) × (kind ≡ MissingSubcommand))
+
+-- ---- what is printed of arguments that ask for no action
 
 -- help or the version, which go to standard output
 abbrev pub IsShown : ErrorKind → Type 0

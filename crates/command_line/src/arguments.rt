@@ -4,7 +4,7 @@ ghost use Rattle.clap.specs.Takes.{takes};
 ghost use Rattle.clap.specs.Values.{kind_of};
 ghost use Rattle.clap.specs.declared.error.kind.ErrorKind.TheVariants.{OutOfMemory};
 ghost use Rattle.command_line.specs.declared.command.Action.{Action};
-ghost use Rattle.command_line.specs.CommandLine.{IsAskedBy, program};
+ghost use Rattle.command_line.specs.CommandLine.{IsAskedBy, IsFoundIn, IsRefusalOf, program};
 
 use crate::command::Action;
 use crate::definition::command;
@@ -13,13 +13,14 @@ use clap::Error;
 use clap::error::ErrorKind;
 use std::alloc::Global;
 
-/// Reads the command line, whose first argument is the program's name. The error is `clap`'s: help
-/// or the version was asked for, the arguments are wrong, or memory was refused, and no other if
-/// the arguments are right. `explain` prints it.
+/// Reads the command line, whose first argument is the program's name. The error is `clap`'s, of
+/// one of the kinds that its own definition gives for the arguments: help or the version was asked
+/// for, the first argument that is wrong, or out of memory. `explain` prints it.
 pub fn action<'a>(alloc: Global, line: &'a [&'a str]) -> Result<Action<'a>, Error>
     ensures asked { IfOk result (IsAskedBy (map (λ s. s.now) line.now)) }
-    ensures refused { IfErr result (λ e. takes program (map (λ s. s.now) line.now) ≡ true
-        → (asked : Action) → IsAskedBy (map (λ s. s.now) line.now) asked
+    ensures refused { IfErr result (λ e. IsRefusalOf (map (λ s. s.now) line.now) (kind_of e)) }
+    ensures memory { IfErr result (λ e. takes program (map (λ s. s.now) line.now) ≡ true
+        → (asked : Action) → IsFoundIn (map (λ s. s.now) line.now) asked
         → kind_of e ≡ OutOfMemory) }
 {
     let matches = command(alloc)?.try_get_matches_from(line)?;

@@ -1,8 +1,8 @@
 //! The command line, by `clap`.
-ghost use Rattle.std.specs.Prelude.{◌≡◌, [], IfErr, IfOk};
-ghost use Rattle.clap.specs.Values.{kind_of};
-ghost use Rattle.clap.specs.declared.error.kind.ErrorKind.TheVariants.{OutOfMemory};
-ghost use Rattle.command_line.specs.CommandLine.{IsApp, IsArgument, IsLeaf, check_command, command, convert_command, create_command, flag, needed, needed_number, needed_option, option, program, replay_command, root_command, show_command};
+ghost use Rattle.std.specs.Prelude.{[]};
+ghost use Rattle.clap.specs.Simple.{App, Shape, with_subcommand};
+ghost use Rattle.clap.specs.Walk.{Rule};
+ghost use Rattle.command_line.specs.CommandLine.{IsApp, IsArgument, IsLeaf, IsMade, check_command, command, convert_command, create_command, flag, needed, needed_number, needed_option, option, program, replay_command, root_command, show_command, with_more};
 
 use crate::help::{
     ABOUT, ANSWERS_HELP, CHECK_ABOUT, CHECK_HELP, CONVERT_ABOUT, CONVERT_HELP, CREATE_ABOUT,
@@ -14,91 +14,113 @@ use std::alloc::Global;
 
 /// The program's command, with its subcommands.
 pub(crate) fn command<'a>(alloc: Global) -> Result<Command<'a>, Error>
-    ensures made { IfOk result (IsApp program) }
-    ensures refused { IfErr result (λ e. kind_of e ≡ OutOfMemory) }
+    ensures { IsMade (IsApp program) result }
 {
     let command = Command::new(alloc, "btcheck")
         .version(VERSION)
         .about(ABOUT)
         .after_help(STATUSES)
         .after_long_help(EXAMPLES)
-        .subcommand(root_command(alloc)?)?
-        .subcommand(show_command(alloc)?)?
-        .subcommand(check_command(alloc)?)?
-        .subcommand(create_command(alloc)?)?
-        .subcommand(replay_command(alloc)?)?
-        .subcommand(convert_command(alloc)?)?;
-    Ok(command.subcommand_required(true))
+        .subcommand_required(true);
+    let command = with_command(Ok(command), root_command(alloc));
+    let command = with_command(command, show_command(alloc));
+    let command = with_command(command, check_command(alloc));
+    let command = with_command(command, create_command(alloc));
+    let command = with_command(command, replay_command(alloc));
+    with_command(command, convert_command(alloc))
 }
 
 fn root_command<'a>(alloc: Global) -> Result<Command<'a>, Error>
-    ensures made { IfOk result (IsLeaf root_command) }
-    ensures refused { IfErr result (λ e. kind_of e ≡ OutOfMemory) }
+    ensures { IsMade (IsLeaf root_command) result }
 {
-    let command = leaf(alloc, "root", ROOT_ABOUT, ROOT_HELP).arg(needed(
-        alloc,
-        "FILE",
-        "The file to hash",
-    ))?;
-    Ok(command)
+    let command = Ok(leaf(alloc, "root", ROOT_ABOUT, ROOT_HELP));
+    with_argument(command, needed(alloc, "FILE", "The file to hash"))
 }
 
 fn show_command<'a>(alloc: Global) -> Result<Command<'a>, Error>
-    ensures made { IfOk result (IsLeaf show_command) }
-    ensures refused { IfErr result (λ e. kind_of e ≡ OutOfMemory) }
+    ensures { IsMade (IsLeaf show_command) result }
 {
-    let command = leaf(alloc, "show", SHOW_ABOUT, SHOW_HELP).arg(needed(
-        alloc,
-        "TORRENT",
-        "The torrent file",
-    ))?;
-    Ok(command)
+    let command = Ok(leaf(alloc, "show", SHOW_ABOUT, SHOW_HELP));
+    with_argument(command, needed(alloc, "TORRENT", "The torrent file"))
 }
 
 fn check_command<'a>(alloc: Global) -> Result<Command<'a>, Error>
-    ensures made { IfOk result (IsLeaf check_command) }
-    ensures refused { IfErr result (λ e. kind_of e ≡ OutOfMemory) }
+    ensures { IsMade (IsLeaf check_command) result }
 {
-    let command = leaf(alloc, "check", CHECK_ABOUT, CHECK_HELP)
-        .arg(needed(alloc, "TORRENT", "The torrent file"))?
-        .arg(needed(alloc, "DIR", "The folder that holds the files"))?;
-    Ok(command)
+    let command = Ok(leaf(alloc, "check", CHECK_ABOUT, CHECK_HELP));
+    let command = with_argument(command, needed(alloc, "TORRENT", "The torrent file"));
+    with_argument(
+        command,
+        needed(alloc, "DIR", "The folder that holds the files"),
+    )
 }
 
 fn create_command<'a>(alloc: Global) -> Result<Command<'a>, Error>
-    ensures made { IfOk result (IsLeaf create_command) }
-    ensures refused { IfErr result (λ e. kind_of e ≡ OutOfMemory) }
+    ensures { IsMade (IsLeaf create_command) result }
 {
-    let command = leaf(alloc, "create", CREATE_ABOUT, CREATE_HELP)
-        .arg(needed(alloc, "DIR", "The folder that holds the files"))?
-        .arg(needed(alloc, "OUT", "The torrent file that is written"))?
-        .arg(needed_option(alloc, "name", "N", NAME_HELP))?
-        .arg(needed_number(alloc, "piece-length", "K", PIECE_LENGTH_HELP))?
-        .arg(flag(alloc, "hybrid", HYBRID_HELP))?;
-    Ok(command)
+    let command = Ok(leaf(alloc, "create", CREATE_ABOUT, CREATE_HELP));
+    let command = with_argument(
+        command,
+        needed(alloc, "DIR", "The folder that holds the files"),
+    );
+    let command = with_argument(
+        command,
+        needed(alloc, "OUT", "The torrent file that is written"),
+    );
+    let command = with_argument(command, needed_option(alloc, "name", "N", NAME_HELP));
+    let command = with_argument(
+        command,
+        needed_number(alloc, "piece-length", "K", PIECE_LENGTH_HELP),
+    );
+    with_argument(command, flag(alloc, "hybrid", HYBRID_HELP))
 }
 
 fn replay_command<'a>(alloc: Global) -> Result<Command<'a>, Error>
-    ensures made { IfOk result (IsLeaf replay_command) }
-    ensures refused { IfErr result (λ e. kind_of e ≡ OutOfMemory) }
+    ensures { IsMade (IsLeaf replay_command) result }
 {
-    let command = leaf(alloc, "replay", REPLAY_ABOUT, REPLAY_HELP)
-        .arg(needed(alloc, "TORRENT", "The torrent file"))?
-        .arg(needed(alloc, "RECORD", "The record, a file or a pipe"))?
-        .arg(flag(alloc, "info-only", INFO_ONLY_HELP))?
-        .arg(option(alloc, "seed", "DIR", SEED_HELP))?
-        .arg(option(alloc, "answers", "OUT", ANSWERS_HELP))?;
-    Ok(command)
+    let command = Ok(leaf(alloc, "replay", REPLAY_ABOUT, REPLAY_HELP));
+    let command = with_argument(command, needed(alloc, "TORRENT", "The torrent file"));
+    let command = with_argument(
+        command,
+        needed(alloc, "RECORD", "The record, a file or a pipe"),
+    );
+    let command = with_argument(command, flag(alloc, "info-only", INFO_ONLY_HELP));
+    let command = with_argument(command, option(alloc, "seed", "DIR", SEED_HELP));
+    with_argument(command, option(alloc, "answers", "OUT", ANSWERS_HELP))
 }
 
 fn convert_command<'a>(alloc: Global) -> Result<Command<'a>, Error>
-    ensures made { IfOk result (IsLeaf convert_command) }
-    ensures refused { IfErr result (λ e. kind_of e ≡ OutOfMemory) }
+    ensures { IsMade (IsLeaf convert_command) result }
 {
-    let command = leaf(alloc, "convert", CONVERT_ABOUT, CONVERT_HELP)
-        .arg(needed(alloc, "RECORD", "The record, a file or a pipe"))?
-        .arg(needed(alloc, "OUT", "The record that is written"))?;
-    Ok(command)
+    let command = Ok(leaf(alloc, "convert", CONVERT_ABOUT, CONVERT_HELP));
+    let command = with_argument(
+        command,
+        needed(alloc, "RECORD", "The record, a file or a pipe"),
+    );
+    with_argument(command, needed(alloc, "OUT", "The record that is written"))
+}
+
+// The command with this command below it. An error goes on, so that no caller has an exit for it.
+fn with_command<'a>(
+    command: Result<Command<'a>, Error>,
+    below: Result<Command<'a>, Error>,
+) -> Result<Command<'a>, Error>
+    ensures { (app : App) → (sub : Shape) → IsMade (IsApp app) command.entry
+        → IsMade (IsLeaf sub) below.entry → IsMade (IsApp (with_subcommand app sub)) result }
+{
+    let command = command?;
+    Ok(command.subcommand(below?)?)
+}
+
+// The command with this argument. An error goes on.
+fn with_argument<'a>(
+    command: Result<Command<'a>, Error>,
+    argument: Arg<'a>,
+) -> Result<Command<'a>, Error>
+    ensures { (shape : Shape) → (rule : Rule) → IsMade (IsLeaf shape) command.entry
+        → IsArgument rule argument.entry → IsMade (IsLeaf (with_more shape rule)) result }
+{
+    Ok(command?.arg(argument)?)
 }
 
 // A command without commands below it, with what it does and more help on it.

@@ -1,6 +1,6 @@
 //! What help says.
 
-pub(crate) const VERSION: &str = "0.2.0 (proved with rattle-kit-13f logic dac8208d650f15bf)";
+pub(crate) const VERSION: &str = "0.2.0 (proved with logic dac8208d650f15bf)";
 
 pub(crate) const ABOUT: &str =
     "Checks BitTorrent version 2: torrents, folders and messages of peers";
@@ -10,13 +10,13 @@ Exit status: 0 yes or done, 1 no or refused, 2 a fault of the arguments, of file
 
 pub(crate) const EXAMPLES: &str = "\
 Examples:
-  btcheck root movie.mkv                  the length and pieces root of a file
-  btcheck show some.torrent               what a torrent holds
-  btcheck check some.torrent Downloads    whether a folder holds it
+  btcheck root movie.mkv                     the length and pieces root of a file
+  btcheck show some.torrent                  what a torrent holds
+  btcheck check some.torrent Downloads/some  whether a folder holds it
   btcheck create some some.torrent --name some --piece-length 1048576
-                                          makes a torrent of a folder
-  btcheck convert record directed         gives each frame of a record its direction
-  btcheck replay some.torrent record      which blocks of recorded messages are right
+                                             makes a torrent of a folder
+  btcheck convert record directed            gives each frame of a record its direction
+  btcheck replay some.torrent record         which blocks of recorded messages are right
 
 Exit status:
   0  yes, or done
@@ -25,13 +25,13 @@ Exit status:
 
 Faults, and what to do:
   fault: cannot read PATH             it is missing, a folder, or not yours to read
-  fault: cannot write PATH            the disk is full, or PATH is not yours to write
+  fault: cannot write PATH            the disk is full, PATH is not yours to write, or is an input
   fault: name is not UTF-8            give the file a name in UTF-8
   fault: not a file or folder: PATH   put the file itself in place of the link, pipe or device
   fault: record is truncated: PATH    it ends inside a frame; the frames before are in OUT
   fault: no memory                    raise the limit (`ulimit -v`), or run fewer at once
 
-What is refused is told by a number and a name; `man btcheck` explains each.";
+Each refusal has a number and a name; `man btcheck` explains them.";
 
 pub(crate) const ROOT_ABOUT: &str = "Prints the length and the pieces root of a file";
 
@@ -60,12 +60,12 @@ Hashes all files below DIR, hidden ones too, then writes the torrent to OUT and 
 A folder that cannot be a torrent prints `refused NUMBER NAME`, and the path of the file, status 1.
 Symbolic links, pipes and devices in DIR are a fault.";
 
-pub(crate) const CONVERT_ABOUT: &str = "Makes a record with directions of one without";
+pub(crate) const CONVERT_ABOUT: &str = "Adds directions to a record that has none";
 
 pub(crate) const CONVERT_HELP: &str = "\
 Writes a record in which each frame has a direction. It marks every frame of RECORD as incoming, and
-adds before each hashes message, as outgoing, the request that it answers. OUT is emptied first, so
-it must not be RECORD.
+adds before each hashes message, as outgoing, the request that it answers. OUT is emptied first; it
+cannot be RECORD.
 A record that has directions already prints `refused 3 AlreadyForm2`, status 1.";
 
 pub(crate) const REPLAY_ABOUT: &str =

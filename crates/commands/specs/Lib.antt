@@ -1,3 +1,3 @@
 -- What the program makes of the file system, and of the library's answers.
-pub mod Answers
+pub mod Outcomes
 pub mod SystemPaths

@@ -3,7 +3,7 @@ ghost use Rattle.std.specs.Prelude.{◌≡◌};
 ghost use Rattle.std.specs.Process.{exit_status};
 
 use benc::FromWrite;
-use checker::{Fault, fault_line};
+use printing::{Fault, fault_line};
 use std::process::ExitCode;
 
 /// Prints the fault's line on standard error, and gives the exit status of a fault. A line that

@@ -3,10 +3,11 @@ ghost use Rattle.std.specs.Prelude.{◌≡◌, [], ◌∷◌, ◌++◌, None, If
 ghost use Rattle.commands.specs.SystemPaths.{system_path_below};
 ghost use Rattle.benc.specs.Device.{one_more};
 
+use crate::identity::Identity;
 use crate::offsets::Offsets;
 use benc::{DeviceFault, FromRead, Source};
-use checker::{Shelf, ShelfFault};
-use metainfo::Torrent;
+use folders::{Shelf, ShelfFault};
+use opening::Torrent;
 use progress::{Counted, Progress};
 use std::alloc::{AllocError, Global};
 use std::fs::{self, DirEntry, File};
@@ -24,6 +25,8 @@ pub struct Folder<'a> {
     faults: u64,
     // None if the files are read one behind the other.
     offsets: Option<Offsets<'a>>,
+    // The files that the last listing found.
+    listed: Vec<Identity>,
     progress: &'a Progress,
 }
 
@@ -38,6 +41,7 @@ impl<'a> Folder<'a> {
             dir,
             faults: 0,
             offsets: None,
+            listed: Vec::new(rt.alloc()),
             progress,
         }
     }
@@ -57,8 +61,32 @@ impl<'a> Folder<'a> {
             dir,
             faults: 0,
             offsets: Some(Offsets::new(torrent)),
+            listed: Vec::new(rt.alloc()),
             progress,
         }
+    }
+
+    /// Whether what has this path is one of the files that the last listing found.
+    pub fn has_listed(&self, path: &str) -> bool {
+        match Identity::at(self.rt, path) {
+            Some(file) => self.listed.as_slice().contains(&file),
+            None => false,
+        }
+    }
+
+    /// Whether what has this path is one of the torrent's files here. `Err` is out of memory.
+    pub fn holds(&self, torrent: &Torrent<'_>, path: &str) -> Result<bool, AllocError> {
+        let wanted = Identity::at(self.rt, path);
+        if wanted.is_none() || self.dir.is_empty() {
+            return Ok(false);
+        }
+        'files: for file in torrent.files() {
+            let system_path = self.system_path(file.path.parts().as_slice())?;
+            if Identity::at(self.rt, system_path.as_str()) == wanted {
+                return Ok(true);
+            }
+        }
+        Ok(false)
     }
 
     fn fault(&mut self) -> DeviceFault
@@ -114,13 +142,12 @@ impl<'a> Folder<'a> {
     }
 
     // Lists all files, folder by folder.
-    fn list_files(&self) -> Result<Vec<Vec<String>>, ShelfFault> {
+    fn walk(&self) -> Result<Walk, ShelfFault> {
         let alloc = self.rt.alloc();
         let mut walk = Walk::from_top(alloc)?;
         for _ in 0..u64::MAX {
             let Some(folder) = walk.folders.pop() else {
-                self.progress.expect(walk.bytes);
-                return Ok(walk.files);
+                return Ok(walk);
             };
             self.list_folder(folder.as_slice(), &mut walk)?;
         }
@@ -171,6 +198,8 @@ fn listing_fault(error: io::Error) -> ShelfFault {
 #[derive(Drop)]
 struct Walk {
     files: Vec<Vec<String>>,
+    // The same files.
+    identities: Vec<Identity>,
     folders: Vec<Vec<String>>,
     // The lengths of the files in all.
     bytes: u64,
@@ -183,6 +212,7 @@ impl Walk {
         folders.push(Vec::new(alloc))?;
         Ok(Walk {
             files: Vec::new(alloc),
+            identities: Vec::new(alloc),
             folders,
             bytes: 0,
         })
@@ -191,8 +221,9 @@ impl Walk {
     // Takes up what has this path. Symlinks are not followed.
     fn note(&mut self, path: Vec<String>, entry: &DirEntry) -> Result<(), ShelfFault> {
         let found = entry.metadata().map_err(listing_fault)?;
-        if found.is_file() {
+        if let Some(identity) = Identity::of(&found) {
             self.bytes = self.bytes.saturating_add(found.len());
+            self.identities.push(identity).map_err(AllocError::from)?;
             self.files.push(path).map_err(AllocError::from)?;
         } else if found.is_dir() {
             self.folders.push(path).map_err(AllocError::from)?;
@@ -218,11 +249,14 @@ impl<'a> Shelf for Folder<'a> {
     ghost faults = { λ s. s.faults };
 
     fn list(&mut self) -> Result<Vec<Vec<String>>, ShelfFault> {
-        let listed = self.list_files();
-        if matches!(listed, Err(ShelfFault::Device)) {
+        let walk = self.walk();
+        if matches!(walk, Err(ShelfFault::Device)) {
             self.fault();
         }
-        listed
+        let walk = walk?;
+        self.progress.expect(walk.bytes);
+        self.listed = walk.identities;
+        Ok(walk.files)
     }
 
     fn open(&mut self, path: &[&str]) -> Result<Option<Self::File>, DeviceFault> {

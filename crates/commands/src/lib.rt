@@ -1,10 +1,16 @@
-//! What each command of `btcheck` answers over any devices, and the files that it works on.
+//! What each command of `btcheck` answers over any devices, and what it does on real files.
 #![tactic(auto)]
 
-pub mod answers;
 mod fault;
 mod folder;
+mod identity;
 mod offsets;
+pub mod outcomes;
+mod output;
+mod performing;
+mod streams;
+mod torrent_file;
 
 pub use fault::print_fault;
 pub use folder::Folder;
+pub use performing::perform;

@@ -1,5 +1,5 @@
 //! Where the files of a torrent begin in all its bytes.
-use metainfo::{File, Torrent};
+use opening::{File, Torrent};
 
 /// The offsets of files that are asked for in the torrent's order.
 #[derive(Drop)]

@@ -4,7 +4,7 @@ use Rattle.std.proofs.lemmas.Bool.{eqb-true, eq-eqb, false≢true}
 use Rattle.std.proofs.lemmas.List.{length-take-le}
 use Rattle.benc.specs.Device.{SinkSeen, SourceSeen, Sent, one_more}
 use Rattle.benc.proofs.Known.{Appends-keeps, Appends_whole}
-use Rattle.lines.specs.Cut.{FailedFlush, Flushed}
+use Rattle.printing.specs.Cut.{FailedFlush, Flushed}
 use Rattle.wire.specs.declared.form.Form.TheVariants.{One}
 use Rattle.wire.specs.Conversion.{conversion_bytes}
 use Rattle.wire.specs.Frames.{Frames}

@@ -1,12 +1,12 @@
 //! The conversion of a record.
 ghost use Rattle.std.specs.Prelude.{◌≡◌, ◌+◌, ◌<◌, ◌≤◌, ◌++◌, ℕ, List, [], length, take, drop, IfOk, IfErr, MatchResult, OnOk};
 ghost use Rattle.benc.specs.Device.{Sent, SinkSeen, SourceSeen, Wrote};
-ghost use Rattle.lines.specs.Cut.{FailedFlush, Flushed};
+ghost use Rattle.printing.specs.Cut.{FailedFlush, Flushed};
 ghost use Rattle.wire.specs.Reading.{GaveFaultless};
 ghost use Rattle.wire.specs.Records.{HasForm, header};
 ghost use Rattle.wire.specs.declared.form.Form.TheVariants as FormOf;
 ghost use Rattle.wire.specs.RecordLaws.{ConversionIsRecord, ConversionMeans};
-ghost use Rattle.session.specs.NotedLaws.{ConversionReplaysAsFormOne, ConversionTellsTheSame};
+ghost use Rattle.session.specs.NotedLaws.{ConversionReplaysAsFormOne, ConversionGivesTheSame};
 ghost use Rattle.conversions.specs.Converting.{Converts, FailsToConvert};
 ghost use Rattle.conversions.specs.Steps.{BreaksOff, ReadingEnds, EndsForm1, FailsInFront, Reached, TellsForm, Waits};
 
@@ -43,7 +43,7 @@ pub fn convert<R: Source, W: Sink>(source: &mut R, out: &mut W) -> Result<(), Co
     // Its replay gives what came in the verdicts of form 1, unless memory is refused for a request,
     // and with memory for all the same last trees and marks.
     ensures replays { ConversionReplaysAsFormOne }
-    ensures tells { ConversionTellsTheSame }
+    ensures tells { ConversionGivesTheSame }
 {
     conversion_replays_as_form_1();
     convert_record(source, out)

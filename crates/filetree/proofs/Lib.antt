@@ -1,6 +1,7 @@
 -- Lemmas on file trees.
 pub mod Ascending
 pub mod Bytes
+pub mod Components
 pub mod Folders
 pub mod Paths
 pub mod Rooms

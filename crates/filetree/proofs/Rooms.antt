@@ -1,11 +1,11 @@
 -- The nodes of a folder, and how deep the values in it may be.
-use Rattle.std.proofs.Common.{◌≡◌, ℕ, ◌+◌, ◌-◌, ◌<◌, true, not, ◌&&◌, List, length, drop, get_or, Option, None, arith, subst}
+use Rattle.std.proofs.Common.{◌≡◌, ℕ, ◌+◌, ◌-◌, ◌<◌, true, not, ◌&&◌, List, length, drop, get_or, Option, None, arith, subst, inl, inr}
 use Rattle.benc.specs.Text.{PairsFit}
 use Rattle.benc.specs.Value.{Pairs, pair}
 use Rattle.benc.specs.View.{pair_view, pairs_view}
 use Rattle.benc.specs.declared.value.Pair.{Pair}
 use Rattle.filetree.specs.FileTree.{is_directory, is_nil, is_node}
-use Rattle.filetree.specs.Walked.{IsFolderAt, IsNodeBelow}
+use Rattle.filetree.specs.Walked.{HasGoodPaths, IsFolderAt, IsNodeBelow}
 use Rattle.filetree.proofs.Paths.{and_both, not_is}
 use Rattle.filetree.proofs.Views.{pairs_next}
 
@@ -16,11 +16,12 @@ pub record AreLeft (path : List (List ℕ)) (ps : Pairs) : Type 0 where
   pub before : Option (List ℕ)
   pub fits : PairsFit room before ps
   pub shape : is_directory ps ≡ true
+  pub good : HasGoodPaths ps
 
 pub all_left : (path : List (List ℕ)) (ps : Pairs) → IsFolderAt path ps → AreLeft path ps
 all_left path ps h =
     let some : 0 < h.room = h.fits.0 in
-    record { room = h.room - 1; deep = omega (arith, some, h.deep); before = None; fits = h.fits.1; shape = h.shape }
+    record { room = h.room - 1; deep = omega (arith, some, h.deep); before = None; fits = h.fits.1; shape = h.shape; good = h.good }
 
 next_left : (path : List (List ℕ)) (xs : List Pair) (i : ℕ) (x : Pair) → i < length xs → x ≡ get_or xs i x → AreLeft path (pairs_view (drop i xs))
     → AreLeft path (pair (pair_view x).0 (pair_view x).1 (pairs_view (drop (i + 1) xs)))
@@ -32,10 +33,10 @@ node_at path xs i x lt is h =
     let next = next_left path xs i x lt is h in
     let both = and_both (not (is_nil (pair_view x).0) && is_node (pair_view x).1) (is_directory (pairs_view (drop (i + 1) xs))) next.shape in
     let here = and_both (not (is_nil (pair_view x).0)) (is_node (pair_view x).1) both.0 in
-    record { room = next.room; deep = next.deep; fits = next.fits.2; named = not_is (is_nil (pair_view x).0) here.0; shape = here.1 }
+    record { room = next.room; deep = next.deep; fits = next.fits.2; named = not_is (is_nil (pair_view x).0) here.0; shape = here.1; good = record { good = λ bad. next.good.good (inl bad) } }
 
 pub left_behind : (path : List (List ℕ)) (xs : List Pair) (i : ℕ) (x : Pair) → i < length xs → x ≡ get_or xs i x → AreLeft path (pairs_view (drop i xs)) → AreLeft path (pairs_view (drop (i + 1) xs))
 left_behind path xs i x lt is h =
     let next = next_left path xs i x lt is h in
     let both = and_both (not (is_nil (pair_view x).0) && is_node (pair_view x).1) (is_directory (pairs_view (drop (i + 1) xs))) next.shape in
-    record { room = next.room; deep = next.deep; before = _; fits = next.fits.3; shape = both.1 }
+    record { room = next.room; deep = next.deep; before = _; fits = next.fits.3; shape = both.1; good = record { good = λ bad. next.good.good (inr bad) } }

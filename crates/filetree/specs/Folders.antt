@@ -3,16 +3,16 @@
 use Rattle.std.specs.Prelude.{ℕ, List, [], ◌∷◌, ◌++◌, Option, None, Some, string_bytes}
 use Rattle.std.specs.declared.alloc.Global.{Global}
 use Rattle.std.specs.declared.rc.Rc.{Rc}
-use Rattle.filetree.specs.declared.folder.Folder.{Folder, Folder', Held-Folder-above, None', Some'}
+use Rattle.filetree.specs.declared.folder.TreeFolder.{TreeFolder, TreeFolder', Held-TreeFolder-above, None', Some'}
 
 abbrev mutual
-  pub names_to : Folder → List (List ℕ)
-  names_to (Folder' above name) = names_above above ++ string_bytes name ∷ []
+  pub names_to : TreeFolder → List (List ℕ)
+  names_to (TreeFolder' above name) = names_above above ++ string_bytes name ∷ []
 
-  pub names_above : Held-Folder-above → List (List ℕ)
+  pub names_above : Held-TreeFolder-above → List (List ℕ)
   names_above None' = []
   names_above (Some' p f) = names_to f
 
-abbrev pub names_of : Option (Rc Folder Global) → List (List ℕ)
+abbrev pub names_of : Option (Rc TreeFolder Global) → List (List ℕ)
 names_of None = []
 names_of (Some f) = names_to f.value

@@ -1,5 +1,6 @@
--- The texts of keys, and the numbers and names of refusals.
-use Rattle.std.specs.Prelude.{ℕ, List, codes}
+-- The texts of keys, and the numbers, names and texts of refusals.
+use Rattle.std.specs.Prelude.{ℕ, List, [], ◌++◌, codes, decimal}
+use Rattle.benc.specs.Messages.{kind_name}
 use Rattle.filetree.specs.declared.refusal.Key.{Key}
 use Rattle.filetree.specs.declared.refusal.Key.TheVariants as keys
 use Rattle.filetree.specs.declared.refusal.Refusal.{Refusal}
@@ -66,3 +67,16 @@ refusal_name refusals.HybridPieces = codes "HybridPieces"
 refusal_name refusals.NoMemory = codes "NoMemory"
 refusal_name refusals.PathClash = codes "PathClash"
 refusal_name refusals.Write = codes "Write"
+
+-- what is printed after the name: the kind of a fault of bencoding and where it is, or a key
+abbrev pub refusal_detail : Refusal → List ℕ
+refusal_detail (refusals.NotBencode f) =
+    codes " " ++ (kind_name f.kind ++ (codes " " ++ decimal f.offset))
+refusal_detail (refusals.Missing k) = codes " " ++ key_text k
+refusal_detail (refusals.WrongType k) = codes " " ++ key_text k
+refusal_detail _ = []
+
+-- the printed text of a refusal: its number, its name, and what belongs to it
+abbrev pub refusal_text : Refusal → List ℕ
+refusal_text r =
+    decimal (refusal_number r) ++ (codes " " ++ (refusal_name r ++ refusal_detail r))

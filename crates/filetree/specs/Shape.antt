@@ -1,8 +1,8 @@
--- The shape of a file tree in the words of the standard (BEP 52, "file tree").
+-- The shape of a file tree, and its components, in the words of the standard (BEP 52, "file tree").
 use Rattle.std.specs.Prelude.{◌≡◌, ◌⊎◌, ◌≤◌, ℕ, false, true, List, [], ◌∷◌, length}
 use Rattle.benc.specs.Value.{Bencode, Pairs, dict, no_pairs, pair}
 use Rattle.filetree.specs.Dictionary.{keys_in}
-use Rattle.filetree.specs.FileTree.{is_dict, is_nil}
+use Rattle.filetree.specs.FileTree.{IsBadComponent, is_dict, is_nil}
 
 -- a dictionary has this pair
 abbrev pub HoldsPair : Pairs → List ℕ → Bencode → Type 0
@@ -52,3 +52,14 @@ pub record HasFault (tree : Pairs) : Type 0 where
 -- a file tree is none: its root has the zero-length key, or one of the other three conditions holds
 abbrev pub IsMisshapen : Pairs → Type 0
 IsMisshapen tree = ((file : Bencode) × HasFile tree file) ⊎ HasFault tree
+
+-- somewhere in a file tree a component is bad, of a file or of a directory
+pub record HasBadComponent (tree : Pairs) : Type 0 where
+  pub path : List (List ℕ)
+  pub dir : Pairs
+  pub reached : LeadsToDirectory tree path dir
+  pub component : List ℕ
+  pub value : Bencode
+  pub some : is_nil component ≡ false
+  pub there : HoldsPair dir component value
+  pub bad : IsBadComponent component

@@ -3,7 +3,7 @@ use Rattle.std.specs.Prelude.{◌≡◌, ℕ, false, true, List, Some, slice_get
 use Rattle.benc.specs.Text.{Fits}
 use Rattle.benc.specs.Value.{Pairs, dict}
 use Rattle.filetree.specs.FileTree.{HasBadPath, Walk, is_directory, walks}
-use Rattle.filetree.specs.Shape.{IsMisshapen}
+use Rattle.filetree.specs.Shape.{HasBadComponent, IsMisshapen}
 use Rattle.filetree.specs.Paths.{AreAllWalks, AreInOrder, ArePathsApart, FitsInTorrent, IsFilePath}
 
 -- the walks of a file tree that may be part of a spelled value are all that lead to a file, each
@@ -28,3 +28,9 @@ WalksAreSafe = (ps : Pairs) → FitsInTorrent ps → is_directory ps ≡ true �
 abbrev pub ShapeIsTold : Type 0
 ShapeIsTold = (ps : Pairs)
     → (is_directory ps ≡ false → IsMisshapen ps) × (IsMisshapen ps → is_directory ps ≡ false)
+
+-- a file tree is refused for a path exactly if one of its components is bad, of a file or of a
+-- directory
+abbrev pub BadPathIsBadComponent : Type 0
+BadPathIsBadComponent = (ps : Pairs)
+    → (HasBadPath ps → HasBadComponent ps) × (HasBadComponent ps → HasBadPath ps)

@@ -1,12 +1,12 @@
 //! The files of a file tree: their lengths and roots (BEP 52, "file tree"), and their attributes
 //! (BEP 47, "Extended File Attributes").
 
-ghost use Rattle.std.specs.Prelude.{◌≡◌, map, is_none};
+ghost use Rattle.std.specs.Prelude.{◌≡◌, map, is_none, IfErr, IfOk};
 ghost use Rattle.std.specs.List.{list_any};
 ghost use Rattle.benc.specs.View.{view};
 ghost use Rattle.filetree.specs.FileTree.{has_attribute, is_symlink, length_at, lacks_root, listed, root_at};
 ghost use Rattle.filetree.specs.TreeTests.{file_rows};
-ghost use Rattle.filetree.specs.Tests.{Passes, Tests, GivesUnlessNoMemory};
+ghost use Rattle.filetree.specs.Tests.{NoneHolds, Passes, PassesUnlessNoMemory, Tests};
 ghost use Rattle.filetree.specs.Walked.{walk_of};
 
 use crate::path::Path;
@@ -14,7 +14,7 @@ use crate::refusal::Refusal;
 use crate::walk::Found;
 use benc::Value;
 use hashtree::{Hash, MAX_LENGTH};
-use std::alloc::Global;
+use std::alloc::{AllocError, Global};
 
 /// A file of a file tree.
 #[derive(Debug, Drop)]
@@ -30,7 +30,7 @@ pub struct ListedFile<'a> {
 // The letter of `attr` that marks a symlink.
 const SYMLINK: u8 = b'l';
 
-/// Tells whether `attr` is a byte string with this letter (BEP 47, "Extended File Attributes").
+/// Whether `attr` is a byte string with this letter (BEP 47, "Extended File Attributes").
 pub fn has_attribute(file: &Value<'_>, letter: u8) -> bool
     ensures { result ≡ has_attribute letter (view file.now) }
 {
@@ -52,8 +52,22 @@ pub fn length(file: &Value<'_>) -> Option<u64>
     }
 }
 
-/// Tests the files: symlinks, lengths, roots.
-pub(crate) fn test(files: &[Found<'_, '_>]) -> Result<(), Refusal>
+/// The files with their lengths and roots, once none fails its tests: symlinks, lengths, roots.
+pub(crate) fn read<'a>(
+    alloc: Global,
+    files: Vec<Found<'_, 'a>>,
+) -> Result<Vec<ListedFile<'a>>, Refusal>
+    ensures passes { PassesUnlessNoMemory (file_rows (map walk_of files.entry.items))
+        (λ fs. fs.items ≡ map listed (map walk_of files.entry.items)) result }
+    ensures memory { IfErr result
+        (λ r. r ≡ Refusal.NoMemory → NoneHolds (file_rows (map walk_of files.entry.items))) }
+{
+    test(&files)?;
+    Ok(list(alloc, files)?)
+}
+
+// Tests the files: symlinks, lengths, roots.
+fn test(files: &[Found<'_, '_>]) -> Result<(), Refusal>
     ensures { Passes (file_rows (map walk_of files.now)) (λ _. Unit {0}) result }
 {
     test_symlinks(files)?;
@@ -61,13 +75,9 @@ pub(crate) fn test(files: &[Found<'_, '_>]) -> Result<(), Refusal>
     test_roots(files)
 }
 
-/// The files with their lengths and roots.
-pub(crate) fn list<'a>(
-    alloc: Global,
-    files: Vec<Found<'_, 'a>>,
-) -> Result<Vec<ListedFile<'a>>, Refusal>
-    ensures { GivesUnlessNoMemory result
-        (λ fs. fs.items ≡ map listed (map walk_of files.entry.items)) }
+// The files with their lengths and roots.
+fn list<'a>(alloc: Global, files: Vec<Found<'_, 'a>>) -> Result<Vec<ListedFile<'a>>, AllocError>
+    ensures { IfOk result (λ fs. fs.items ≡ map listed (map walk_of files.entry.items)) }
 {
     let mut listed = Vec::with_capacity(alloc, files.len())?;
     'files: for file in files {
@@ -115,7 +125,7 @@ fn test_roots(files: &[Found<'_, '_>]) -> Result<(), Refusal>
     Ok(())
 }
 
-// Tells whether a file that is not empty has no root.
+// Whether a file that is not empty has no root.
 fn lacks_root(file: &Value<'_>) -> bool
     ensures { result ≡ lacks_root (view file.now) }
 {

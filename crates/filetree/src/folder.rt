@@ -1,26 +1,24 @@
 //! The folders on the way to a file.
 
-ghost use Rattle.std.specs.Prelude.{◌≡◌, ◌+◌, ◌≤◌, ◌++◌, ◌∷◌, [], length, map};
+ghost use Rattle.std.specs.Prelude.{◌≡◌, ◌+◌, ◌≤◌, ◌++◌, ◌∷◌, [], length, map, IfOk};
 ghost use Rattle.filetree.specs.Folders.{names_to, names_of};
-ghost use Rattle.filetree.specs.Tests.{GivesUnlessNoMemory};
 
 use crate::path::Parts;
-use crate::refusal::Refusal;
-use std::alloc::Global;
+use std::alloc::{AllocError, Global};
 use std::marker::Model;
 use std::rc::Rc;
 
 // A folder, and the folders that it lies in, which it shares with those beside it.
 #[derive(Debug, Drop)]
-struct Folder {
-    above: Option<Rc<Folder>>,
+struct TreeFolder {
+    above: Option<Rc<TreeFolder>>,
     name: String,
 }
 
 /// The folders from the torrent's root down to one of them. Contracts see them as their names.
 #[derive(Debug, Drop)]
 pub(crate) struct Folders {
-    last: Option<Rc<Folder>>,
+    last: Option<Rc<TreeFolder>>,
 }
 
 impl Model for Folders {
@@ -41,18 +39,18 @@ impl Folders {
     }
 
     /// The folder `name` below this one.
-    pub(crate) fn join(&self, alloc: Global, name: &str) -> Result<Folders, Refusal>
-        ensures { GivesUnlessNoMemory result (λ f. f ≡ self.now ++ name.now ∷ []) }
+    pub(crate) fn join(&self, alloc: Global, name: &str) -> Result<Folders, AllocError>
+        ensures { IfOk result (λ f. f ≡ self.now ++ name.now ∷ []) }
     {
         let above = shared(&self.last)?;
         let name = String::from_str(alloc, name)?;
-        let last = Rc::new(alloc, Folder { above, name })?;
+        let last = Rc::new(alloc, TreeFolder { above, name })?;
         Ok(Folders { last: Some(last) })
     }
 
     /// The same folders.
-    pub(crate) fn share(&self) -> Result<Folders, Refusal>
-        ensures { GivesUnlessNoMemory result (λ f. f ≡ self.now) }
+    pub(crate) fn share(&self) -> Result<Folders, AllocError>
+        ensures { IfOk result (λ f. f ≡ self.now) }
     {
         Ok(Folders {
             last: shared(&self.last)?,
@@ -71,8 +69,8 @@ impl Folders {
 }
 
 // One more owner of a folder and those above it.
-fn shared(last: &Option<Rc<Folder>>) -> Result<Option<Rc<Folder>>, Refusal>
-    ensures { GivesUnlessNoMemory result (λ copy. names_of copy ≡ names_of last.now) }
+fn shared(last: &Option<Rc<TreeFolder>>) -> Result<Option<Rc<TreeFolder>>, AllocError>
+    ensures { IfOk result (λ copy. names_of copy ≡ names_of last.now) }
 {
     match last {
         Some(last) => Ok(Some(last.clone()?)),
@@ -81,7 +79,7 @@ fn shared(last: &Option<Rc<Folder>>) -> Result<Option<Rc<Folder>>, Refusal>
 }
 
 // Puts the names down to this folder at the end.
-fn put<'p>(last: &'p Folder, parts: &mut Parts<'p>)
+fn put<'p>(last: &'p TreeFolder, parts: &mut Parts<'p>)
     requires { length parts.old.items + length (names_to last.now) ≤ 128 }
     ensures { map (λ s. s.now) parts.new.items
         ≡ map (λ s. s.now) parts.old.items ++ names_to last.now }

@@ -1,6 +1,6 @@
 //! What holds of each file tree. A function that calls one of these knows its law.
 
-ghost use Rattle.filetree.specs.TreeLaws.{OrderIsApart, ShapeIsTold, WalksAreAll, WalksAreSafe};
+ghost use Rattle.filetree.specs.TreeLaws.{BadPathIsBadComponent, OrderIsApart, ShapeIsTold, WalksAreAll, WalksAreSafe};
 
 /// The walks of a file tree are all that lead to a file, each once and in order.
 pub fn walks_are_all()
@@ -23,4 +23,10 @@ pub fn walks_are_safe()
 /// value is no dictionary, or a zero-length key has a sibling or a value that is no dictionary.
 pub fn shape_is_told()
     ensures { ShapeIsTold }
+{}
+
+/// The test of the components is that of the standard: one of them, of a file or of a directory, is
+/// bad.
+pub fn bad_path_is_bad_component()
+    ensures { BadPathIsBadComponent }
 {}

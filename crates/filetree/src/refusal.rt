@@ -173,6 +173,11 @@ impl Refusal {
 
 /// The number and the name, and what a fault of bencoding or a key adds, as it is printed.
 impl fmt::Display for Refusal {
+    ghost use Rattle.std.specs.Prelude.{Some};
+    ghost use Rattle.filetree.specs.Names.{refusal_text};
+
+    ghost output = { λ refusal. Some (refusal_text refusal) };
+
     fn fmt<W: fmt::Write>(&self, f: &mut fmt::Formatter<W>) -> fmt::Result {
         write!(f, "{} {}", self.number(), self.name())?;
         match self {

@@ -6,7 +6,7 @@ ghost use Rattle.filetree.specs.FileTree.{is_directory, is_file, is_node};
 
 use benc::{Pair, Value};
 
-/// Tells whether each key is a component, whose value is a file's node or a directory.
+/// Whether each key is a component, whose value is a file's node or a directory.
 #[cycle(shape)]
 pub(crate) fn is_directory(pairs: &[Pair<'_>]) -> bool
     ensures { result ≡ is_directory (pairs_view pairs.now) }
@@ -19,7 +19,7 @@ pub(crate) fn is_directory(pairs: &[Pair<'_>]) -> bool
     true
 }
 
-/// Tells whether there is the zero-length key alone, with a dictionary.
+/// Whether there is the zero-length key alone, with a dictionary.
 pub(crate) fn is_file(pairs: &[Pair<'_>]) -> bool
     ensures { result ≡ is_file (pairs_view pairs.now) }
 {
@@ -29,7 +29,7 @@ pub(crate) fn is_file(pairs: &[Pair<'_>]) -> bool
     }
 }
 
-// Tells whether the value is a file's node or a directory.
+// Whether the value is a file's node or a directory.
 #[cycle(shape)]
 fn is_node(value: &Value<'_>) -> bool
     ensures { result ≡ is_node (view value.now) }

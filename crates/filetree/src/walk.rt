@@ -1,17 +1,15 @@
 //! The walks of a file tree, each to one file (BEP 52, "file tree").
 
-ghost use Rattle.std.specs.Prelude.{◌≡◌, MatchResult};
+ghost use Rattle.std.specs.Prelude.{◌≡◌, OnOk};
 ghost use Rattle.benc.specs.View.{pairs_view, pair_view};
 ghost use Rattle.filetree.specs.FileTree.{IsBadComponent};
 ghost use Rattle.filetree.specs.Walked.{AddsWalks, AddsWalksAt, IsFolderAt, IsNodeBelow};
 
-use crate::component::is_bad_component;
 use crate::folder::Folders;
 use crate::path::Path;
-use crate::refusal::Refusal;
 use crate::shape::is_file;
 use benc::{Pair, Value};
-use std::alloc::Global;
+use std::alloc::{AllocError, Global};
 use std::str;
 
 /// A file of the file tree: its path, and the value under its zero-length key.
@@ -23,15 +21,14 @@ pub(crate) struct Found<'v, 'a> {
 
 /// Adds the files below a folder to those found, in the order of their paths.
 #[cycle(walk)]
-#[tactic(auto, using(crate::proofs::Rooms::node_at))]
 pub(crate) fn walk<'v, 'a>(
     alloc: Global,
     pairs: &'v [Pair<'a>],
     folder: &Folders,
     files: &mut Vec<Found<'v, 'a>>,
-) -> Result<(), Refusal>
+) -> Result<(), AllocError>
     requires { IsFolderAt folder.now (pairs_view pairs.now) }
-    ensures { AddsWalks (pairs_view pairs.now) folder.now files.old files.new result }
+    ensures { OnOk result (AddsWalks (pairs_view pairs.now) folder.now files.old files.new) }
 {
     'pairs: for pair in pairs {
         walk_pair(alloc, pair, folder, files)?;
@@ -46,11 +43,11 @@ fn walk_pair<'v, 'a>(
     pair: &'v Pair<'a>,
     folder: &Folders,
     files: &mut Vec<Found<'v, 'a>>,
-) -> Result<(), Refusal>
+) -> Result<(), AllocError>
     requires { IsNodeBelow folder.now (pair_view pair.now) }
-    ensures { AddsWalksAt (pair_view pair.now) folder.now files.old files.new result }
+    ensures { OnOk result (AddsWalksAt (pair_view pair.now) folder.now files.old files.new) }
 {
-    let name = component(pair.key)?;
+    let name = component(pair.key);
     let Value::Dict(inner) = &pair.value else {
         return Ok(());
     };
@@ -66,13 +63,13 @@ fn walk_pair<'v, 'a>(
     walk(alloc, inner, &below, files)
 }
 
-// A component of a path; no name is changed to make it one.
-fn component(key: &[u8]) -> Result<&str, Refusal>
-    ensures { MatchResult result (λ s. (s.now ≡ key.now) × (IsBadComponent key.now → ⊥))
-        (λ r. (r ≡ Refusal.Path) × IsBadComponent key.now) }
+// A component that is not bad, which is UTF-8.
+fn component(key: &[u8]) -> &str
+    requires { IsBadComponent key.now → ⊥ }
+    ensures { result.now ≡ key.now }
 {
     match str::from_utf8(key) {
-        Ok(name) if !is_bad_component(name) => Ok(name),
-        _ => Err(Refusal::Path),
+        Ok(name) => name,
+        Err(_) => unreachable!(),
     }
 }

@@ -4,11 +4,11 @@ use Rattle.std.specs.List.{list_all}
 use Rattle.std.proofs.lemmas.List.{length-append, length-replicate, length_push, get_or_push, get_or_append_left}
 use Rattle.std.proofs.lemmas.List.Folds.{list_all-append}
 use Rattle.std.proofs.lemmas.Option.{none-some, same_Some, slice_get_within, slice_get-get_or, get_or_from_slice_get}
-use Rattle.metainfo.specs.Description.{Description, FileEntry, Version1}
-use Rattle.metainfo.specs.Sound.{IsSound}
+use Rattle.opening.specs.Description.{Description, FileEntry, Version1}
+use Rattle.opening.specs.Sound.{IsSound}
 use Rattle.folders.specs.declared.report.FileVerdict.{FileVerdict}
 use Rattle.pieces.specs.declared.v1_feed.V1Feed.{V1Feed}
-use Rattle.metainfo.specs.Feeding.{bytes_given}
+use Rattle.pieces.specs.Feeding.{bytes_given}
 use Rattle.folders.specs.Content.{HasPlaceFor, part_of}
 use Rattle.folders.specs.Folder.{Contents, start_of}
 use Rattle.folders.specs.Pass.{FindsVerdict, IsStreamPart}

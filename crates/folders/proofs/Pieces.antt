@@ -21,23 +21,23 @@ use Rattle.std.specs.Io.KnownBytes.{Consumes}
 use Rattle.folders.specs.declared.file_check.FileCheck.{FileCheck}
 use Rattle.folders.specs.Feeding.{FeedsBoth}
 use Rattle.folders.specs.TakeAll.{ReadAll, TookAll}
-use Rattle.metainfo.specs.Description.{Description, FileEntry, TreeEntry}
-use Rattle.metainfo.specs.Pieces.{IsPieceLength}
-use Rattle.metainfo.specs.Sound.{IsSound, IsSoundTree, piece_layer}
+use Rattle.opening.specs.Description.{Description, FileEntry, TreeEntry}
+use Rattle.pieces.specs.Pieces.{IsPieceLength}
+use Rattle.opening.specs.Sound.{IsSound, IsSoundTree, piece_layer}
 use Rattle.pieces.specs.declared.v1_feed.V1Feed.{V1Feed}
 use Rattle.folders.specs.declared.stream.Stream.{Stream}
-use Rattle.metainfo.specs.Feeding.{bytes_given}
+use Rattle.pieces.specs.Feeding.{bytes_given}
 use Rattle.folders.specs.Content.{HasPlaceFor, IsComparedLayer, IsToldOf, part_of}
 use Rattle.folders.specs.Folder.{start_of, tree_entry_of}
 use Rattle.folders.specs.Pass.{IsEmptyContent, IsOpenedVerdict}
 use Rattle.folders.specs.Streaming.{FillsTo, HasStreamRoom, StandsAt, Takes}
-use Rattle.folders.specs.Verdicts.{IsFirstBadPiece, IsVerdict, is_unreadable}
+use Rattle.folders.specs.Verdicts.{IsFirstBadPiece, IsVerdict, is_unreadable, is_whole}
 use Rattle.folders.specs.declared.report.FileVerdict.{FileVerdict}
 use Rattle.folders.specs.declared.report.FileVerdict.TheVariants as file
 use Rattle.folders.proofs.Layers.{layer_is_low, layer_of_at, one_at_root, whole_layer}
 use Rattle.hashtree.proofs.Comparing.{length-layer_of}
 use Rattle.hashtree.proofs.Leading.{layers_lead_to_root}
-use Rattle.folders.specs.TakerLaws.{takes_append, takes_nothing}
+use Rattle.folders.specs.ConsumerLaws.{takes_append, takes_nothing}
 
 short_or_long : (a b : ℕ) → (a ≤ b) ⊎ (b < a)
 short_or_long a b = grind arith
@@ -176,22 +176,30 @@ same_count (Some k) n b equal told = ap Some (eqb-true k n (by_test (eqb k n) (s
     by_test false e = sym e
 
 -- it has another length than the one that is stated
-pub wrong_length : {T : Type 0} (t : Description) (f : FileEntry) (took : T → List ℕ → T → Type 0) (source source' : SourceSeen) (before after : T) (r : Option ℕ)
-    (old new : Option V1Feed) → ReadAll took source source' f.length before after r → (r ≡ Some f.length → ⊥)
-    → IsOpenedVerdict t f source.left old new file.WrongLength
+pub wrong_length : {T : Type 0} (t : Description) (f : FileEntry) (took : T → List ℕ → T → Type 0) (source source' : SourceSeen)
+    (before after : T) (r : Option ℕ) (old new : Option V1Feed) → ReadAll took source source' f.length before after r
+    → (r ≡ Some f.length → ⊥) → IsOpenedVerdict t f source source' old new file.WrongLength
 wrong_length t f took source source' before after None old new read other =
     let longer = longer_content source.left source'.left read.0 read.1.given in
     record {
-      bytes = longer.0;
-      agrees = longer.2;
-      verdict = (longer.0, refl, λ is. omega (arith, longer.1, read.2, is));
+      gives = record {
+        bytes = longer.0;
+        agrees = longer.2;
+        verdict = (longer.0, refl, λ is. omega (arith, longer.1, read.2, is));
+        whole = λ whole. let no : ⊥ = cc in absurd no;
+        other = λ _ is. omega (arith, read.1.falls, read.2, is);
+      };
       readable = refl;
       taken = λ whole. let no : ⊥ = cc in absurd no;
     }
 wrong_length t f took source source' before after (Some count) old new read other = record {
-  bytes = read.bytes;
-  agrees = λ known is. all_given source source' read.bytes known read.gave read.ended is;
-  verdict = (read.bytes, refl, λ is. other (ap Some (sym read.count_is ∙ is)));
+  gives = record {
+    bytes = read.bytes;
+    agrees = λ known is. all_given source source' read.bytes known read.gave read.ended is;
+    verdict = (read.bytes, refl, λ is. other (ap Some (sym read.count_is ∙ is)));
+    whole = λ whole. let no : ⊥ = cc in absurd no;
+    other = λ _ is. other (ap Some (let same : count ≡ f.length = omega (arith, read.gave.falls, read.count_is, is) in same));
+  };
   readable = refl;
   taken = λ whole. let no : ⊥ = cc in absurd no;
 }
@@ -208,48 +216,67 @@ pub room_for_all : (old mid : Option V1Feed) (out stream : Stream) (start len : 
 room_for_all old mid out stream start len place fill is same =
     subst (λ o. HasStreamRoom o len) (sym is ∙ ap (λ s. s.feed) (sym same)) (filled_room old mid start len place fill)
 
--- a source that is to be empty, and what reading it told
-pub told_empty : {T : Type 0} (took : T → List ℕ → T → Type 0) (source source' : SourceSeen) (before after : T) (r : Option ℕ) (b : Bool)
-    → ReadAll took source source' 0 before after r → b ≡ is_some r → IsEmptyContent source.left b
-told_empty took source source' before after None b read is =
+-- a source that is to be empty, and what reading it found
+pub found_empty : {T : Type 0} (took : T → List ℕ → T → Type 0) (source source' : SourceSeen) (before after : T) (r : Option ℕ) (b : Bool)
+    → ReadAll took source source' 0 before after r → b ≡ is_some r → IsEmptyContent source source' b
+found_empty took source source' before after None b read is =
     let longer = longer_content source.left source'.left read.0 read.1.given in
-    subst (IsEmptyContent source.left) (sym is) (longer.0, omega (arith, longer.1, read.2), longer.2)
-told_empty took source source' before after (Some count) b read is =
-    subst (IsEmptyContent source.left) (sym is) (λ file known.
-    all_given source source' read.bytes file read.gave read.ended known ∙ none read.bytes (omega (arith, read.count_is, read.within)))
+    subst (IsEmptyContent source source') (sym is)
+    (longer.0, omega (arith, longer.1, read.2), longer.2, λ same. omega (arith, read.1.falls, read.2, same))
+found_empty took source source' before after (Some count) b read is =
+    let none_is : read.bytes ≡ [] = none read.bytes (omega (arith, read.count_is, read.within)) in
+    subst (IsEmptyContent source source') (sym is) (
+      λ file known. all_given source source' read.bytes file read.gave read.ended known ∙ none_is,
+      omega (arith, read.gave.falls, read.count_is, read.within),
+    )
   where
     none : (xs : List ℕ) → length xs ≤ 0 → xs ≡ []
     none [] le = refl
     none (x ∷ xs) le = absurd (omega arith)
 
 -- an opened file that is to be empty
-pub empty_opened : (t : Description) (f : FileEntry) (left : Option (List ℕ)) (old : Option V1Feed) (b : Bool) (v : FileVerdict) → f.length ≡ 0
-    → IsEmptyContent left b → (b ≡ true → v ≡ file.Good) → (b ≡ false → v ≡ file.WrongLength) → IsOpenedVerdict t f left old old v
-empty_opened t f left old true v none content good other = subst (IsOpenedVerdict t f left old old) (sym (good refl)) (record {
-  bytes = [];
-  agrees = content;
-  verdict = ([], refl, record { empty = λ _. refl; fits = λ some. absurd (omega arith) });
-  readable = refl;
-  taken = λ _. record { length_is = sym none; streamed = λ from at le. takes_nothing old };
-})
-empty_opened t f left old false v none content good other = subst (IsOpenedVerdict t f left old old) (sym (other refl)) (record {
-  bytes = content.0;
-  agrees = content.2;
-  verdict = (content.0, refl, λ is. omega (arith, content.1, is, none));
-  readable = refl;
-  taken = λ whole. let no : ⊥ = cc in absurd no;
-})
+pub empty_opened : (t : Description) (f : FileEntry) (source source' : SourceSeen) (old : Option V1Feed) (b : Bool) (v : FileVerdict)
+    → f.length ≡ 0 → IsEmptyContent source source' b → (b ≡ true → v ≡ file.Good) → (b ≡ false → v ≡ file.WrongLength)
+    → IsOpenedVerdict t f source source' old old v
+empty_opened t f source source' old true v none content good other =
+    subst (IsOpenedVerdict t f source source' old old) (sym (good refl)) (record {
+      gives = record {
+        bytes = [];
+        agrees = content.0;
+        verdict = ([], refl, record { empty = λ _. refl; fits = λ some. absurd (omega arith) });
+        whole = λ _. omega (arith, content.1, none);
+        other = λ no. let never : ⊥ = cc in absurd never;
+      };
+      readable = refl;
+      taken = λ _. record { length_is = sym none; streamed = λ from at le. takes_nothing old };
+    })
+empty_opened t f source source' old false v none content good other =
+    subst (IsOpenedVerdict t f source source' old old) (sym (other refl)) (record {
+      gives = record {
+        bytes = content.0;
+        agrees = content.2;
+        verdict = (content.0, refl, λ is. omega (arith, content.1, is, none));
+        whole = λ whole. let no : ⊥ = cc in absurd no;
+        other = λ _ is. content.3 (omega (arith, is, none));
+      };
+      readable = refl;
+      taken = λ whole. let no : ⊥ = cc in absurd no;
+    })
 
 -- it was read whole, and is as long as stated
 pub opened_verdict : (t : Description) (f : FileEntry) (source source' : SourceSeen) (bound count : ℕ) (before after : FileCheck) (old mid new : Option V1Feed) (v : FileVerdict)
-    → (read : TookAll FeedsBoth source source' bound before after count) → count ≡ f.length → 0 < f.length
+    → (read : TookAll FeedsBoth source source' bound before after count) → count ≡ f.length → 0 < f.length → is_whole v ≡ true
     → before.stream.feed ≡ mid → after.stream.feed ≡ new
     → FillsTo old (start_of t f) mid
-    → is_unreadable v ≡ false → IsVerdict t f (Some read.bytes) v → IsOpenedVerdict t f source.left old new v
-opened_verdict t f source source' bound count before after old mid new v read whole some begins ends fill readable verdict = record {
-  bytes = read.bytes;
-  agrees = λ known is. all_given source source' read.bytes known read.gave read.ended is;
-  verdict = verdict;
+    → is_unreadable v ≡ false → IsVerdict t f (Some read.bytes) v → IsOpenedVerdict t f source source' old new v
+opened_verdict t f source source' bound count before after old mid new v read whole some is begins ends fill readable verdict = record {
+  gives = record {
+    bytes = read.bytes;
+    agrees = λ known there. all_given source source' read.bytes known read.gave read.ended there;
+    verdict = verdict;
+    whole = λ _. omega (arith, read.gave.falls, read.count_is, whole);
+    other = λ no. let never : true ≡ false = sym is ∙ no in cc;
+  };
   readable = readable;
   taken = λ _. record {
     length_is = read.count_is ∙ whole;

@@ -5,12 +5,12 @@ use Rattle.std.proofs.lemmas.Nat.{pow_pos}
 use Rattle.std.proofs.lemmas.List.{length-map}
 use Rattle.std.proofs.lemmas.List.Sums.{sum_by_more, sum_by-take-le}
 use Rattle.std.proofs.lemmas.Option.{slice_get_within, get_or_from_slice_get, slice_get-get_or, slice_get-map, slice_get_read}
-use Rattle.metainfo.specs.File.{File}
-use Rattle.metainfo.specs.Seen.{file_entry, tree_entry}
-use Rattle.metainfo.specs.TreeInfo.{TreeInfo}
-use Rattle.metainfo.specs.Description.{Description, FileEntry}
-use Rattle.metainfo.specs.Sound.{IsSound, IsSoundFile}
-use Rattle.metainfo.specs.Pieces.{pieces_of}
+use Rattle.opening.specs.declared.torrent.File.{File}
+use Rattle.opening.specs.Seen.{file_entry, tree_entry}
+use Rattle.opening.specs.declared.torrent.TreeInfo.{TreeInfo}
+use Rattle.opening.specs.Description.{Description, FileEntry}
+use Rattle.opening.specs.Sound.{IsSound, IsSoundFile}
+use Rattle.pieces.specs.Pieces.{pieces_of}
 use Rattle.folders.specs.Folder.{start_of, tree_entry_of}
 
 -- how many pieces the first n files have

@@ -3,9 +3,9 @@ use Rattle.std.proofs.Common.{◌≡◌, ℕ, zero, suc, ◌-◌, ◌<◌, ◌�
 use Rattle.std.specs.List.{list_all}
 use Rattle.std.proofs.lemmas.List.Sums.{sum_by-cons}
 use Rattle.std.proofs.lemmas.Option.{same_Some, slice_get_within, none-some}
-use Rattle.metainfo.specs.Description.{Description, FileEntry, TreeEntry, Version1}
-use Rattle.metainfo.specs.Sound.{IsSound, IsSoundTree}
-use Rattle.metainfo.specs.Cuts.{cut_digests}
+use Rattle.opening.specs.Description.{Description, FileEntry, TreeEntry, Version1}
+use Rattle.opening.specs.Sound.{IsSound, IsSoundTree}
+use Rattle.pieces.specs.Cuts.{cut_digests}
 use Rattle.folders.specs.declared.report.FileVerdict.{FileVerdict}
 use Rattle.folders.specs.declared.report.FileVerdict.TheVariants as file
 use Rattle.folders.specs.declared.report.V1Verdict.{V1Verdict}

@@ -2,7 +2,7 @@
 use Rattle.std.proofs.Common.{◌≡◌, ◌⊎◌, inl, inr, ℕ, zero, suc, ◌+◌, ◌-◌, ◌<◌, ◌≤◌, List, length, drop, get_or, slice_get, Option, Some, None, refl, ap, sym, ◌∙◌, arith}
 use Rattle.std.proofs.lemmas.List.{ext_get_or, get_or-take, get_or-drop}
 use Rattle.std.proofs.lemmas.Option.{same_Some, slice_get_within, none-some}
-use Rattle.metainfo.specs.Description.{Description, FileEntry}
+use Rattle.opening.specs.Description.{Description, FileEntry}
 use Rattle.folders.specs.Folder.{Contents, Covers, IsStream, start_of}
 use Rattle.folders.proofs.Orders.{last_or_before}
 

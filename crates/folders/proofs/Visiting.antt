@@ -1,19 +1,22 @@
 -- What a check found of one file, by how its opening was answered, and of the first files together.
-use Rattle.std.proofs.Common.{◌≡◌, ◌⊎◌, inl, inr, ℕ, zero, suc, ◌+◌, ◌<◌, Bool, true, false, List, [], ◌∷◌, ◌++◌, length, slice_get, Option, Some, None, option_map, Result, Ok, Err, IfOk, refl, ap, sym, ◌∙◌, subst, arith}
+use Rattle.std.proofs.Common.{◌≡◌, ◌⊎◌, inl, inr, ℕ, zero, suc, ◌+◌, ◌<◌, Bool, true, false, List, [], ◌∷◌, ◌++◌, length, slice_get, Option, Some, None, option_map, Result, Ok, Err, IfOk, OnErr, cond, refl, ap, sym, ◌∙◌, subst, arith}
 use Rattle.std.specs.Option.{unwrap_or}
 use Rattle.std.specs.Result.{result_unwrap_or}
+use Rattle.benc.specs.Device.{CountsFault, SourceSeen}
 use Rattle.benc.specs.declared.device.DeviceFault.{DeviceFault}
 use Rattle.std.proofs.lemmas.List.{length_push, get_or_push, get_or_append_left}
 use Rattle.std.proofs.lemmas.Option.{same_Some, slice_get_within, slice_get-get_or, get_or_from_slice_get}
-use Rattle.metainfo.specs.Description.{Description, FileEntry}
-use Rattle.metainfo.specs.Sound.{IsSound}
+use Rattle.opening.specs.Description.{Description, FileEntry}
+use Rattle.opening.specs.Sound.{IsSound}
 use Rattle.folders.specs.declared.report.FileVerdict.{FileVerdict}
 use Rattle.folders.specs.declared.report.FileVerdict.TheVariants as file
 use Rattle.pieces.specs.declared.v1_feed.V1Feed.{V1Feed}
 use Rattle.folders.specs.Folder.{Contents}
 use Rattle.folders.specs.Pass.{FindsVerdict, IsOpenedVerdict, IsStreamPart}
-use Rattle.folders.specs.Shelf.{IsFound}
+use Rattle.folders.specs.Shelf.{IsFound, more}
+use Rattle.folders.specs.TakeAll.{IsReadWithin}
 use Rattle.folders.specs.Verdicts.{AgreeWith, Agrees, is_whole}
+use Rattle.folders.specs.Visits.{IsReadFor}
 use Rattle.folders.proofs.Orders.{last_or_before}
 use Rattle.folders.proofs.Passes.{IsPassed, IsTold, told_one}
 
@@ -59,25 +62,46 @@ finds_unreadable t f told old new stopped = record {
 }
 
 -- the file was opened and read without a fault
-pub finds_opened : (t : Description) (f : FileEntry) (told : Option (Option (List ℕ))) (left : Option (List ℕ)) (old new end : Option V1Feed) (v : FileVerdict)
-    → IsFound told (Some left) → IsOpenedVerdict t f left old new v → (is_whole v ≡ true → end ≡ new) → (is_whole v ≡ false → end ≡ None)
+pub finds_opened : (t : Description) (f : FileEntry) (told : Option (Option (List ℕ))) (source source' : SourceSeen) (old new end : Option V1Feed) (v : FileVerdict)
+    → IsFound told (Some source.left) → IsOpenedVerdict t f source source' old new v → (is_whole v ≡ true → end ≡ new) → (is_whole v ≡ false → end ≡ None)
     → FindsVerdict t f told old end v
-finds_opened t f told left old new end v found is goes stopped = record {
-  content = Some is.bytes;
-  agrees = agrees_opened told left is.bytes found is.agrees;
-  verdict = is.verdict;
-  taken = λ whole. (is.bytes, refl, subst (λ o. IsStreamPart t f is.bytes old o) (sym (goes whole)) (is.taken whole));
-  stopped = stopped;
-}
+finds_opened t f told source source' old new end v found is goes stopped =
+    let bytes = is.gives.bytes in
+    record {
+      content = Some bytes;
+      agrees = agrees_opened told source.left bytes found is.gives.agrees;
+      verdict = is.gives.verdict;
+      taken = λ whole. (bytes, refl, subst (λ o. IsStreamPart t f bytes old o) (sym (goes whole)) (is.taken whole));
+      stopped = stopped;
+    }
 
 -- the same, of how the reading was answered
-pub finds_read : (t : Description) (f : FileEntry) (told : Option (Option (List ℕ))) (left : Option (List ℕ)) (old new end : Option V1Feed) (r : Result FileVerdict DeviceFault) (v : FileVerdict)
-    → IsFound told (Some left) → IfOk r (IsOpenedVerdict t f left old new) → v ≡ result_unwrap_or r file.Unreadable
+pub finds_read : (t : Description) (f : FileEntry) (told : Option (Option (List ℕ))) (source source' : SourceSeen) (old new end : Option V1Feed)
+    (r : Result FileVerdict DeviceFault) (v : FileVerdict)
+    → IsFound told (Some source.left) → IfOk r (IsOpenedVerdict t f source source' old new) → v ≡ result_unwrap_or r file.Unreadable
     → (is_whole v ≡ true → end ≡ new) → (is_whole v ≡ false → end ≡ None) → FindsVerdict t f told old end v
-finds_read t f told left old new end (Ok w) v found is same goes stopped =
-    finds_opened t f told left old new end v found (subst (IsOpenedVerdict t f left old new) (sym same) is) goes stopped
-finds_read t f told left old new end (Err e) v found is same goes stopped =
+finds_read t f told source source' old new end (Ok w) v found is same goes stopped =
+    finds_opened t f told source source' old new end v found (subst (IsOpenedVerdict t f source source' old new) (sym same) is) goes stopped
+finds_read t f told source source' old new end (Err e) v found is same goes stopped =
     subst (FindsVerdict t f told old end) (sym same) (finds_unreadable t f told old end (stopped (ap is_whole same)))
+
+-- how an opened file was read for its verdict
+pub read_for : (t : Description) (f : FileEntry) (source source' : SourceSeen) (old new : Option V1Feed) (r : Result FileVerdict DeviceFault) (v : FileVerdict)
+    → IfOk r (IsOpenedVerdict t f source source' old new) → OnErr r (IsReadWithin f.length source source')
+    → CountsFault source.faults source'.faults r → IsReadWithin (f.length + 1) source source'
+    → v ≡ result_unwrap_or r file.Unreadable → IsReadFor t f v source source'
+read_for t f source source' old new (Ok w) v is blamed counts within same = subst (λ u. IsReadFor t f u source source') (sym same) (record {
+  within = within;
+  own_fault = counts ∙ sym (ap (λ b. more source.faults (cond b 1 0)) is.readable);
+  gives = λ _. is.gives;
+  early = λ no. let never : true ≡ false = sym no ∙ is.readable in cc;
+})
+read_for t f source source' old new (Err e) v is blamed counts within same = subst (λ u. IsReadFor t f u source source') (sym same) (record {
+  within = within;
+  own_fault = counts;
+  gives = λ no. let never : ⊥ = cc in absurd never;
+  early = λ _. blamed;
+})
 
 -- a file that was not read whole was, and the other way round
 pub never_whole : (v : FileVerdict) (b : Bool) (x y : Option V1Feed) → b ≡ is_whole v → b ≡ false → is_whole v ≡ true → x ≡ y

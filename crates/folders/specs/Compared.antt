@@ -1,6 +1,6 @@
 -- What comparing the digests of the version 1 stream's cuts with those that are listed told.
 use Rattle.std.specs.Prelude.{◌≡◌, ℕ, List}
-use Rattle.metainfo.specs.Cuts.{IsFirstDifference}
+use Rattle.pieces.specs.Cuts.{IsFirstDifference}
 use Rattle.folders.specs.declared.report.V1Verdict.{V1Verdict}
 use Rattle.folders.specs.declared.report.V1Verdict.TheVariants.{Good, Bad, NotChecked}
 

@@ -2,9 +2,9 @@
 use Rattle.std.specs.Prelude.{◌≡◌, ℕ, ◌+◌, ◌-◌, ◌<◌, ◌≤◌, List, [], ◌∷◌, ◌++◌, length, replicate, Option, Some, None, ⊤}
 use Rattle.hashtree.specs.Tree.{block_count, height, layer_of, root_of}
 use Rattle.hashtree.specs.Difference.{IsComparison}
-use Rattle.metainfo.specs.Description.{TreeEntry}
-use Rattle.metainfo.specs.Feeding.{bytes_given, total}
-use Rattle.metainfo.specs.Sound.{piece_layer}
+use Rattle.opening.specs.Description.{TreeEntry}
+use Rattle.pieces.specs.Feeding.{bytes_given, total}
+use Rattle.opening.specs.Sound.{piece_layer}
 use Rattle.pieces.specs.declared.v1_feed.V1Feed.{V1Feed}
 
 -- a tree is compared at its piece layer; that of a file with one piece, which has none, at its root

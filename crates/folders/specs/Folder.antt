@@ -1,8 +1,8 @@
 -- What it means that a folder holds a torrent's files (BEP 52; for a hybrid BEP 3 and BEP 47 too).
 use Rattle.std.specs.Prelude.{◌≡◌, ℕ, ◌+◌, ◌*◌, ◌<◌, ◌≤◌, List, [], length, take, drop, slice_index, slice_get, Option, Some, option_and_then}
 use Rattle.hashtree.specs.Tree.{root_of}
-use Rattle.metainfo.specs.Description.{Description, FileEntry, TreeEntry, Version1}
-use Rattle.metainfo.specs.Cuts.{cut_digests}
+use Rattle.opening.specs.Description.{Description, FileEntry, TreeEntry, Version1}
+use Rattle.pieces.specs.Cuts.{cut_digests}
 
 -- what stands at the path of each file of a torrent, by the file's number: its bytes, or nothing
 abbrev pub Contents : Type 0

@@ -14,4 +14,4 @@ pub mod Printed
 pub mod Visits
 pub mod TakeAll
 pub mod Feeding
-pub mod TakerLaws
+pub mod ConsumerLaws

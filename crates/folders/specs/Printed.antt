@@ -1,7 +1,7 @@
 -- What `print_report` prints of a report.
 use Rattle.std.specs.Prelude.{ℕ, Bool, true, false, List, [], ◌∷◌, ◌++◌, codes, decimal, Option, Some, None}
-use Rattle.metainfo.specs.Description.{FileEntry}
-use Rattle.lines.specs.Text.{path_text}
+use Rattle.opening.specs.Description.{FileEntry}
+use Rattle.printing.specs.Text.{path_text}
 use Rattle.folders.specs.Verdicts.{is_yes}
 use Rattle.folders.specs.declared.report.FileVerdict.{FileVerdict}
 use Rattle.folders.specs.declared.report.FileVerdict.TheVariants as file

@@ -1,9 +1,10 @@
 -- The line that `root` prints.
-use Rattle.std.specs.Prelude.{◌≡◌, Bool, Result, Ok, Err, ℕ, ◌^◌, ◌++◌, List, [], ◌∷◌, length, nat_le, if◌then◌else◌, codes, decimal}
+use Rattle.std.specs.Prelude.{◌≡◌, ◌↔◌, Bool, IsTrue, Result, Ok, Err, ℕ, ◌+◌, ◌^◌, ◌≤◌, ◌++◌, List, [], ◌∷◌, length, nat_le, if◌then◌else◌, codes, decimal}
 use Rattle.std.specs.Io.KnownBytes.{Keeps}
-use Rattle.benc.specs.Device.{SinkSeen, SourceSeen, one_more}
+use Rattle.benc.specs.Device.{BrokeOrUnflushed, SentAndFlushed, SinkSeen, SourceSeen, one_more}
 use Rattle.hex.specs.Hex.{encode_lower}
 use Rattle.hashtree.specs.Tree.{root_of}
+use Rattle.folders.specs.Verdicts.{Agrees}
 use Rattle.folders.specs.declared.root.RootFault.{RootFault}
 use Rattle.folders.specs.declared.root.RootFault.TheVariants as fault
 
@@ -28,3 +29,31 @@ Blames source source' out out' (Err fault.Read) =
     × Keeps out.written out'.written × (out'.flushes ≡ out.flushes)
 Blames source source' out out' (Err fault.Write) =
     (source'.faults ≡ source.faults) × (out'.faults ≡ one_more out.faults)
+
+-- a file, which is what the source tells as far as it does; all of it was taken if it is not above
+-- 2^46 bytes
+pub record IsFileOfSource (source source' : SourceSeen) (file : List ℕ) : Type 0 where
+  pub agrees : Agrees source.left file
+  pub taken : length file ≤ 2 ^ 46 → source'.limit + length file ≡ source.limit
+
+-- the source's file was read, and its line went out, with one flush
+pub record PrintsRoot (source source' : SourceSeen) (out out' : SinkSeen) (within : Bool) : Type 0
+  where
+    pub file : List ℕ
+    pub is_file : IsFileOfSource source source' file
+    pub is_within : IsTrue within ↔ (length file ≤ 2 ^ 46)
+    pub sent : SentAndFlushed out out' (root_line_of file)
+
+-- the source's file was read, and its line broke off, or was not flushed
+pub record BreaksRootLine (source source' : SourceSeen) (out out' : SinkSeen) : Type 0 where
+  pub file : List ℕ
+  pub is_file : IsFileOfSource source source' file
+  pub broke : BrokeOrUnflushed out out' (root_line_of file)
+
+-- what became of the line, by the answer; a fault of the source comes before the first byte past
+-- 2^46
+abbrev pub EndsRootLine : SourceSeen → SourceSeen → SinkSeen → SinkSeen → Result Bool RootFault
+    → Type 0
+EndsRootLine source source' out out' (Ok within) = PrintsRoot source source' out out' within
+EndsRootLine source source' out out' (Err fault.Read) = source.limit ≤ source'.limit + 2 ^ 46
+EndsRootLine source source' out out' (Err fault.Write) = BreaksRootLine source source' out out'

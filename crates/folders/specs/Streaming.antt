@@ -1,7 +1,7 @@
 -- The version 1 stream, as a check feeds it.
 use Rattle.std.specs.Prelude.{◌≡◌, ℕ, ◌+◌, ◌-◌, ◌≤◌, ◌++◌, List, [], replicate, Bool, is_some, Option, Some, None, ⊤}
-use Rattle.metainfo.specs.Cuts.{cut_digests}
-use Rattle.metainfo.specs.Feeding.{FeedsStream, IsFeedGiven, bytes_given, total}
+use Rattle.pieces.specs.Cuts.{cut_digests}
+use Rattle.pieces.specs.Feeding.{FeedsStream, IsFeedGiven, bytes_given, total}
 use Rattle.pieces.specs.declared.v1_feed.V1Feed.{V1Feed}
 use Rattle.folders.specs.Compared.{IsDigestVerdict}
 use Rattle.folders.specs.declared.report.V1Verdict.{V1Verdict}

@@ -1,5 +1,5 @@
--- What reading a source to its end told, and what took the bytes.
-use Rattle.std.specs.Prelude.{◌≡◌, ℕ, ◌+◌, ◌<◌, ◌≤◌, List, length, Option, Some, None, Result, Ok, Err}
+-- What reading a source to its end found, and what took the bytes.
+use Rattle.std.specs.Prelude.{◌≡◌, ℕ, ◌+◌, ◌<◌, ◌≤◌, List, length, take, Option, Some, None, Result, Ok, Err}
 use Rattle.std.specs.Io.KnownBytes.{IsAtEnd}
 use Rattle.benc.specs.Device.{SourceSeen, one_more}
 use Rattle.folders.specs.declared.read_fault.ReadFault.{ReadFault}
@@ -10,7 +10,13 @@ use Rattle.wire.specs.Reading.{Gave}
 abbrev pub IsReadWithin : ℕ → SourceSeen → SourceSeen → Type 0
 IsReadWithin bound old new = old.limit ≤ new.limit + bound
 
--- all that the source had, and so many bytes, at most as many as the bound, went to the taker
+-- the source filled so much of the buffer; less than all of it only at its end
+pub record Fills (old new : SourceSeen) (buffer : List ℕ) (count : ℕ) : Type 0 where
+  pub bound : count ≤ length buffer
+  pub gave : Gave old new (take count buffer)
+  pub ended : count < length buffer → IsAtEnd new.left
+
+-- all that the source had, and so many bytes, at most as many as the bound, went to the consumer
 pub record TookAll {T : Type 0} (took : T → List ℕ → T → Type 0) (old new : SourceSeen) (bound : ℕ)
     (before after : T) (count : ℕ) : Type 0 where
   pub bytes : List ℕ

@@ -2,9 +2,9 @@
 use Rattle.std.specs.Prelude.{◌≡◌, ◌≢◌, ℕ, ◌+◌, ◌<◌, ◌≤◌, Bool, true, false, ◌&&◌, List, length, slice_get, Option, Some, None, is_some, ⊤, count_by, if◌then◌else◌}
 use Rattle.std.specs.List.{list_all}
 use Rattle.hashtree.specs.Tree.{root_of, node}
-use Rattle.metainfo.specs.Description.{Description, FileEntry, TreeEntry, Version1}
-use Rattle.metainfo.specs.Sound.{piece_layer}
-use Rattle.metainfo.specs.Cuts.{cut_digests, IsFirstDifference}
+use Rattle.opening.specs.Description.{Description, FileEntry, TreeEntry, Version1}
+use Rattle.opening.specs.Sound.{piece_layer}
+use Rattle.pieces.specs.Cuts.{cut_digests, IsFirstDifference}
 use Rattle.folders.specs.Folder.{Contents, GoodFolder, IsGoodFile, IsStream, V1Good, tree_entry_of}
 use Rattle.folders.specs.declared.report.FileVerdict.{FileVerdict}
 use Rattle.folders.specs.declared.report.FileVerdict.TheVariants as file

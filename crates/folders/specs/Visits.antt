@@ -1,21 +1,36 @@
 -- How a path of a shelf is visited: it is opened once, and what was opened is read and handed back.
 -- A check visits each file of a torrent once, in order. `shelf` stands for what the shelf's type
 -- tells of its shelves, and `seen` for what its files tell.
-use Rattle.std.specs.Prelude.{◌≡◌, ℕ, ◌+◌, List, Option, Some, None, Result, Ok, Err, ⊤}
+use Rattle.std.specs.Prelude.{◌≡◌, ◌≢◌, ℕ, ◌+◌, true, false, List, Option, Some, None, Result, Ok, Err, ⊤}
 use Rattle.benc.specs.Device.{SourceSeen}
 use Rattle.benc.specs.declared.device.DeviceFault.{DeviceFault}
-use Rattle.metainfo.specs.Description.{FileEntry}
+use Rattle.opening.specs.Description.{Description, FileEntry}
 use Rattle.folders.specs.Shelf.{more}
 use Rattle.folders.specs.TakeAll.{IsReadWithin}
-use Rattle.folders.specs.Verdicts.{fault_count}
+use Rattle.folders.specs.Verdicts.{Agrees, IsVerdict, fault_count, is_unreadable, is_whole}
 use Rattle.folders.specs.declared.report.FileVerdict.{FileVerdict}
 use Rattle.folders.specs.declared.report.FileVerdict.TheVariants.{Missing, Unreadable}
 use Rattle.folders.specs.declared.shelf.Shelf.{Ghosts}
 
--- a file was read: no more bytes than these, and it failed once if it is unreadable, and else never
-pub record IsReadFor (bound : ℕ) (v : FileVerdict) (old new : SourceSeen) : Type 0 where
-  pub within : IsReadWithin bound old new
+-- An opened file was read without a fault. What it has is what it is known to have, as far as that
+-- is known, and the verdict is true of that. Exactly the file's length was taken if that is how
+-- long it is, and else another number of bytes.
+pub record GivesVerdict (t : Description) (f : FileEntry) (v : FileVerdict) (old new : SourceSeen)
+    : Type 0 where
+  pub bytes : List ℕ
+  pub agrees : Agrees old.left bytes
+  pub verdict : IsVerdict t f (Some bytes) v
+  pub whole : is_whole v ≡ true → new.limit + f.length ≡ old.limit
+  pub other : is_whole v ≡ false → new.limit + f.length ≢ old.limit
+
+-- an opened file was read for this verdict, at most a byte past its stated length; it is unreadable
+-- if a read failed, which was before that byte
+pub record IsReadFor (t : Description) (f : FileEntry) (v : FileVerdict) (old new : SourceSeen)
+    : Type 0 where
+  pub within : IsReadWithin (f.length + 1) old new
   pub own_fault : new.faults ≡ more old.faults (fault_count v)
+  pub gives : is_unreadable v ≡ false → GivesVerdict t f v old new
+  pub early : is_unreadable v ≡ true → IsReadWithin f.length old new
 
 -- if nothing was there, a file is missing, and if the opening failed, it is unreadable
 abbrev pub FollowsAnswer : {F : Type 0} → Result (Option F) DeviceFault → FileVerdict → Type 0
@@ -49,9 +64,10 @@ module _ {S F : Type 0} (shelf : Ghosts S F) (seen : F → SourceSeen) where
 
   -- ---- the visits of a check
 
-  -- the path of a file was opened once, at most a byte past the file's length was read, and this is
-  -- the verdict
-  pub record Visits (s : S) (file : FileEntry) (v : FileVerdict) (s' : S) : Type 0 where
-    pub answer : Result (Option F) DeviceFault
-    pub opened : Opened (IsReadFor (file.length + 1) v) s file.path answer s'
-    pub follows : FollowsAnswer answer v
+  -- the path of a file of this torrent was opened once, what was opened was read for this verdict,
+  -- and handed back
+  pub record Visits (t : Description) (s : S) (file : FileEntry) (v : FileVerdict) (s' : S) : Type 0
+    where
+      pub answer : Result (Option F) DeviceFault
+      pub opened : Opened (IsReadFor t file v) s file.path answer s'
+      pub follows : FollowsAnswer answer v

@@ -3,8 +3,8 @@
 ghost use Rattle.std.specs.Prelude.{◌≡◌, ℕ, ◌+◌, ◌*◌, ◌^◌, ◌<◌, ◌≤◌, List, [], length, map, Option, Some, None, true, false, IfOk, OnErr};
 ghost use Rattle.benc.specs.Device.{CountsFault};
 ghost use Rattle.hashtree.specs.PieceCheck.{IsFedCheck, byte_count, chosen_layer, chosen_shape, given_hashes};
-ghost use Rattle.metainfo.specs.Seen.{file_entry, tree_entry};
-ghost use Rattle.metainfo.specs.Sound.{IsSoundTree};
+ghost use Rattle.opening.specs.Seen.{file_entry, tree_entry};
+ghost use Rattle.opening.specs.Sound.{IsSoundTree};
 ghost use Rattle.folders.specs.Content.{HasPlaceFor, IsComparedLayer, IsToldOf};
 ghost use Rattle.folders.specs.Folder.{start_of, tree_entry_of};
 ghost use Rattle.folders.specs.Pass.{FindsVerdict, IsEmptyContent, IsOpenedVerdict};
@@ -12,17 +12,17 @@ ghost use Rattle.folders.specs.Shelf.{more};
 ghost use Rattle.folders.specs.TakeAll.{IsReadWithin};
 ghost use Rattle.folders.specs.Visits.{Visits};
 ghost use Rattle.chains.specs.Chain.{Chain};
-ghost use Rattle.folders.specs.Verdicts.{HasVerdicts, IsFileOf, IsVerdict, TellsFolder, fault_count, is_unreadable, unreadable_count};
+ghost use Rattle.folders.specs.Verdicts.{HasVerdicts, IsFileOf, IsVerdict, TellsFolder, fault_count, is_unreadable, is_whole, unreadable_count};
 
 use crate::NoMemory;
 use crate::file_check::FileCheck;
 use crate::report::{FileVerdict, Report};
 use crate::shelf::Shelf;
 use crate::stream::Stream;
-use crate::taking::take_all;
+use crate::taking::{BUFFER_LENGTH, take_all};
 use benc::{DeviceFault, Source};
-use hashtree::{BLOCK_LENGTH, Hash, PieceCheck, Shape};
-use metainfo::{File, Torrent, TreeInfo};
+use hashtree::{Hash, PieceCheck, Shape};
+use opening::{File, Torrent, TreeInfo};
 use std::alloc::Global;
 use std::slice;
 
@@ -42,8 +42,8 @@ pub fn check<S: Shelf>(
     ensures verdicts { IfOk result (λ r. HasVerdicts torrent.now r.files.items r.v1) }
     ensures tells { IfOk result (λ r.
         TellsFolder torrent.now (S.contents shelf.old).under r.files.items r.v1) }
-    ensures once { IfOk result (λ r. Chain (Visits S.Shelf S.File.seen) shelf.old torrent.now.files
-        r.files.items shelf.new) }
+    ensures once { IfOk result (λ r. Chain (Visits S.Shelf S.File.seen torrent.now) shelf.old
+        torrent.now.files r.files.items shelf.new) }
     ensures unreadable { IfOk result (λ r.
         S.faults shelf.new ≡ more (S.faults shelf.old) (unreadable_count r.files.items)) }
     ensures readable { IfOk result (λ r.
@@ -55,8 +55,9 @@ pub fn check<S: Shelf>(
     let entries = torrent.files();
     let mut files = Vec::with_capacity(alloc, entries.len())?;
     let mut stream = Stream::of(torrent.v1(), torrent.piece_length());
+    let mut buffer = [0u8; BUFFER_LENGTH];
     'files: for file in entries {
-        files.push_reserved(check_file(shelf, torrent, file, &mut stream));
+        files.push_reserved(check_file(shelf, torrent, file, &mut stream, &mut buffer));
     }
     let v1 = match torrent.v1() {
         Some(_) => Some(stream.finish()),
@@ -71,19 +72,22 @@ fn check_file<S: Shelf>(
     torrent: &Torrent<'_>,
     file: &File<'_>,
     stream: &mut Stream<'_>,
+    buffer: &mut [u8],
 ) -> FileVerdict
+    requires some { 0 < length buffer.old }
     requires file { IsFileOf torrent.now (file_entry file.now) }
     requires place { 0 < file.now.length → HasPlaceFor stream.old.feed
         (start_of torrent.now (file_entry file.now)) file.now.length }
     ensures found { FindsVerdict torrent.now (file_entry file.now)
         ((S.contents shelf.old).under file.now.path) stream.old.feed stream.new.feed result }
-    ensures visits { Visits S.Shelf S.File.seen shelf.old (file_entry file.now) result shelf.new }
+    ensures visits { Visits S.Shelf S.File.seen torrent.now shelf.old (file_entry file.now) result
+        shelf.new }
     ensures counts { S.faults shelf.new ≡ more (S.faults shelf.old) (fault_count result) }
     ensures stays { S.contents shelf.new ≡ S.contents shelf.old }
 {
     let verdict = match shelf.open(&file.path.parts()) {
         Ok(Some(mut source)) => {
-            let verdict = check_content(&mut source, torrent, file, stream).unwrap_or(
+            let verdict = check_content(&mut source, torrent, file, stream, buffer).unwrap_or(
                 FileVerdict::Unreadable,
             );
             shelf.close(source);
@@ -104,19 +108,30 @@ fn check_content<F: Source>(
     torrent: &Torrent<'_>,
     file: &File<'_>,
     stream: &mut Stream<'_>,
+    buffer: &mut [u8],
 ) -> Result<FileVerdict, DeviceFault>
+    requires some { 0 < length buffer.old }
     requires file { IsFileOf torrent.now (file_entry file.now) }
     requires place { 0 < file.now.length → HasPlaceFor stream.old.feed
         (start_of torrent.now (file_entry file.now)) file.now.length }
     ensures verdict { IfOk result (IsOpenedVerdict torrent.now (file_entry file.now)
-        (F.seen source.old).left stream.old.feed stream.new.feed) }
+        (F.seen source.old) (F.seen source.new) stream.old.feed stream.new.feed) }
+    ensures blamed { OnErr result (IsReadWithin file.now.length (F.seen source.old)
+        (F.seen source.new)) }
     ensures no_further { IsReadWithin (file.now.length + 1) (F.seen source.old)
         (F.seen source.new) }
     ensures counts { CountsFault (F.seen source.old).faults (F.seen source.new).faults result }
 {
     torrent.sound();
     match file.tree {
-        Some(number) => check_tree(source, torrent, file, &torrent.trees()[number], stream),
+        Some(number) => check_tree(
+            source,
+            torrent,
+            file,
+            &torrent.trees()[number],
+            stream,
+            buffer,
+        ),
         None => Ok(empty_verdict(is_empty(source)?)),
     }
 }
@@ -133,9 +148,10 @@ fn empty_verdict(is_empty: bool) -> FileVerdict
     }
 }
 
-// Tells whether a source has no bytes.
+// Whether a source has no bytes.
 fn is_empty<F: Source>(source: &mut F) -> Result<bool, DeviceFault>
-    ensures empty { IfOk result (IsEmptyContent (F.seen source.old).left) }
+    ensures empty { IfOk result (IsEmptyContent (F.seen source.old) (F.seen source.new)) }
+    ensures blamed { OnErr result (IsReadWithin 0 (F.seen source.old) (F.seen source.new)) }
     ensures no_further { IsReadWithin 1 (F.seen source.old) (F.seen source.new) }
     ensures counts { CountsFault (F.seen source.old).faults (F.seen source.new).faults result }
 {
@@ -149,13 +165,17 @@ fn check_tree<F: Source>(
     file: &File<'_>,
     tree: &TreeInfo<'_>,
     stream: &mut Stream<'_>,
+    buffer: &mut [u8],
 ) -> Result<FileVerdict, DeviceFault>
+    requires some { 0 < length buffer.old }
     requires file { IsFileOf torrent.now (file_entry file.now) }
     requires tree { tree_entry_of torrent.now (file_entry file.now) ≡ Some (tree_entry tree.now) }
     requires place { HasPlaceFor stream.old.feed
         (start_of torrent.now (file_entry file.now)) file.now.length }
     ensures verdict { IfOk result (IsOpenedVerdict torrent.now (file_entry file.now)
-        (F.seen source.old).left stream.old.feed stream.new.feed) }
+        (F.seen source.old) (F.seen source.new) stream.old.feed stream.new.feed) }
+    ensures blamed { OnErr result (IsReadWithin file.now.length (F.seen source.old)
+        (F.seen source.new)) }
     ensures no_further { IsReadWithin (file.now.length + 1) (F.seen source.old)
         (F.seen source.new) }
     ensures counts { CountsFault (F.seen source.old).faults (F.seen source.new).faults result }
@@ -167,8 +187,7 @@ fn check_tree<F: Source>(
         pieces: piece_check(torrent, tree),
         stream: stream.take(),
     };
-    let mut buffer = [0u8; BLOCK_LENGTH as usize];
-    if take_all(source, file.length, &mut buffer, &mut feed)? != Some(file.length) {
+    if take_all(source, file.length, buffer, &mut feed)? != Some(file.length) {
         return Ok(FileVerdict::WrongLength);
     }
     let FileCheck {
@@ -180,7 +199,7 @@ fn check_tree<F: Source>(
     Ok(tree_verdict(&root, place, torrent, file, tree))
 }
 
-// The verdict on a content of the stated length, of which a check told this root and this first
+// The verdict on a content of the stated length, of which a check found this root and this first
 // place.
 fn tree_verdict(
     root: &Hash,
@@ -194,6 +213,7 @@ fn tree_verdict(
     requires told { (bytes : List ℕ)
         × IsToldOf torrent.now.piece_length (tree_entry tree.now) bytes root.now place }
     ensures readable { is_unreadable result ≡ false }
+    ensures whole { is_whole result ≡ true }
     ensures verdict { (bytes : List ℕ)
         → IsToldOf torrent.now.piece_length (tree_entry tree.now) bytes root.now place
         → IsVerdict torrent.now (file_entry file.now) (Some bytes) result }

@@ -2,7 +2,7 @@
 ghost use Rattle.std.specs.Prelude.{◌≡◌};
 
 use crate::stream::Stream;
-use crate::taking::Taker;
+use crate::taking::Consumer;
 use hashtree::PieceCheck;
 
 /// The check of a file's tree and the version 1 stream, fed together.
@@ -14,9 +14,9 @@ pub(crate) struct FileCheck<'t, 'v> {
     pub(crate) stream: Stream<'v>,
 }
 
-impl<'t, 'v> Taker for FileCheck<'t, 'v> {
+impl<'t, 'v> Consumer for FileCheck<'t, 'v> {
     ghost use Rattle.folders.specs.Feeding.{CanFeed, FeedsBoth};
-    ghost use Rattle.folders.specs.TakerLaws.{fed_both, fed_less, fed_no_bytes, fed_room};
+    ghost use Rattle.folders.specs.ConsumerLaws.{fed_both, fed_less, fed_no_bytes, fed_room};
 
     ghost has_room = { CanFeed };
 

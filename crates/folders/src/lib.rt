@@ -22,4 +22,4 @@ pub use root::{RootFault, root_line};
 pub use shelf::Shelf;
 pub use shelf_fault::ShelfFault;
 pub use std::alloc::AllocError as NoMemory;
-pub use taking::{Taker, take_all};
+pub use taking::{BUFFER_LENGTH, Consumer, fill, take_all};

@@ -1,13 +1,13 @@
 //! The lines of a report.
 ghost use Rattle.std.specs.Prelude.{◌≡◌, length, map, is_some, OnOk, true};
 ghost use Rattle.benc.specs.Device.{Wrote, WroteAndFlushed};
-ghost use Rattle.metainfo.specs.Seen.{file_entry};
+ghost use Rattle.opening.specs.Seen.{file_entry};
 ghost use Rattle.folders.specs.Printed.{answer_text, file_verdict_text, report_text, stream_text, verdict_words, verdicts_text};
 
 use crate::report::{FileVerdict, Report, V1Verdict};
 use benc::{DeviceFault, Sink, WriteFault, write_all};
-use lines::{Line, flush_after, write_path};
-use metainfo::{File, Torrent};
+use opening::{File, Torrent};
+use printing::{Line, flush_after, write_path};
 
 /// Writes what a check of this torrent's folder found, and flushes: a line for each file, for a
 /// hybrid a line on its version 1 pieces, and `yes` or `no`. It takes no memory. After `WriteFault`

@@ -1,14 +1,14 @@
-//! The line that tells a file's length and its pieces root.
-ghost use Rattle.std.specs.Prelude.{◌≡◌, ◌↔◌, ℕ, ◌+◌, ◌^◌, ◌≤◌, List, length, Some, Err, IfOk, OnErr, OnOk, IsTrue, true};
-ghost use Rattle.benc.specs.Device.{BrokeOrUnflushed, CountsFault, SentAndFlushed};
+//! The line of a file: its length and its pieces root.
+ghost use Rattle.std.specs.Prelude.{◌≡◌, ℕ, ◌+◌, ◌^◌, List, IfOk, OnErr};
+ghost use Rattle.benc.specs.Device.{CountsFault};
 ghost use Rattle.folders.specs.Reading.{IsReadingOf};
-ghost use Rattle.folders.specs.Root.{Blames, root_line_of};
+ghost use Rattle.folders.specs.Root.{Blames, EndsRootLine, IsFileOfSource, root_line_of};
 ghost use Rattle.folders.specs.TakeAll.{IsReadWithin};
 
-use crate::taking::{Taker, take_all};
+use crate::taking::{BUFFER_LENGTH, Consumer, take_all};
 use benc::{DeviceFault, Sink, Source};
 use hashtree::{Hash, MAX_LENGTH, RootBuilder};
-use lines::{Line, write_line};
+use printing::{Line, write_line};
 use thiserror::Error;
 
 /// Why no line was written whole.
@@ -22,7 +22,7 @@ pub enum RootFault {
     Write,
 }
 
-// What reading a source told.
+// What reading a source found.
 #[derive(Drop)]
 enum Reading {
     Empty,
@@ -30,29 +30,24 @@ enum Reading {
     TooLong,
 }
 
-/// Reads a file's content from the source, writes the line that tells its length in bytes and its
-/// pieces root (BEP 52), and flushes once. It takes no memory.
+/// Reads a file's content from the source, writes the line with its length in bytes and its pieces
+/// root (BEP 52), and flushes once. It takes no memory.
 ///
 /// The line is `LENGTH ROOT`, the root in hexadecimal, or `0 -` for an empty file, and the answer
 /// is true. Above 2^46 bytes it is `refused 10 Length`, the answer is false, and no byte after
 /// number 2^46 + 1 was read.
 ///
-/// The first fault of a device ends it: `Read` if the source failed, and then nothing was
-/// written or flushed, and `Write` if the sink failed, and then a prefix of the line went
-/// out. No flush comes before all of it did.
+/// The first fault of a device ends it: `Read` if the source failed before it had given more than
+/// 2^46 bytes, and then nothing was written or flushed, and `Write` if the sink failed, and then a
+/// prefix of the line went out. No flush comes before all of it did.
 pub fn root_line<R: Source, W: Sink>(source: &mut R, out: &mut W) -> Result<bool, RootFault>
-    ensures line { (file : List ℕ) → (R.seen source.old).left ≡ Some file → OnOk result
-        (SentAndFlushed (W.seen out.old) (W.seen out.new) (root_line_of file)) }
-    ensures within { (file : List ℕ) → (R.seen source.old).left ≡ Some file → IfOk result
-        (λ within. IsTrue within ↔ (length file ≤ 2 ^ 46)) }
+    ensures ends { EndsRootLine (R.seen source.old) (R.seen source.new)
+        (W.seen out.old) (W.seen out.new) result }
     ensures no_further { IsReadWithin (2 ^ 46 + 1) (R.seen source.old) (R.seen source.new) }
 
     // A fault is answered only if that device had one, and the other had none.
     ensures faults { Blames (R.seen source.old) (R.seen source.new)
         (W.seen out.old) (W.seen out.new) result }
-    ensures prefix { (file : List ℕ) → (R.seen source.old).left ≡ Some file
-        → result ≡ Err RootFault.Write
-        → BrokeOrUnflushed (W.seen out.old) (W.seen out.new) (root_line_of file) }
 {
     let Ok(reading) = read_content(source) else {
         return Err(RootFault::Read);
@@ -64,7 +59,7 @@ pub fn root_line<R: Source, W: Sink>(source: &mut R, out: &mut W) -> Result<bool
     }
 }
 
-// The line that tells this.
+// The line of what was read.
 fn reading_line(reading: &Reading) -> Line
     ensures { (file : List ℕ) → IsReadingOf file reading.now → result ≡ root_line_of file }
 {
@@ -84,12 +79,13 @@ fn reading_line(reading: &Reading) -> Line
 
 // Reads the source to its end, or to one byte past the greatest length.
 fn read_content<R: Source>(source: &mut R) -> Result<Reading, DeviceFault>
-    ensures content { (file : List ℕ) → (R.seen source.old).left ≡ Some file
-        → IfOk result (IsReadingOf file) }
+    ensures content { IfOk result (λ reading. (file : List ℕ)
+        × IsFileOfSource (R.seen source.old) (R.seen source.new) file × IsReadingOf file reading) }
+    ensures blamed { OnErr result (IsReadWithin (2 ^ 46) (R.seen source.old) (R.seen source.new)) }
     ensures counts { CountsFault (R.seen source.old).faults (R.seen source.new).faults result }
     ensures no_further { IsReadWithin (2 ^ 46 + 1) (R.seen source.old) (R.seen source.new) }
 {
-    let mut buffer = [0u8; 65536];
+    let mut buffer = [0u8; BUFFER_LENGTH];
     let mut builder = RootBuilder::new();
     match take_all(source, MAX_LENGTH, &mut buffer, &mut builder)? {
         None => Ok(Reading::TooLong),
@@ -101,10 +97,10 @@ fn read_content<R: Source>(source: &mut R) -> Result<Reading, DeviceFault>
     }
 }
 
-impl Taker for RootBuilder {
+impl Consumer for RootBuilder {
     ghost use Rattle.hashtree.specs.RootBuilder.{Feeds};
     ghost use Rattle.folders.specs.Feeding.{CanBuild};
-    ghost use Rattle.folders.specs.TakerLaws.{built_none, built_both, built_room, built_less};
+    ghost use Rattle.folders.specs.ConsumerLaws.{built_none, built_both, built_room, built_less};
 
     ghost has_room = { CanBuild };
 

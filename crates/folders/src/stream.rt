@@ -1,11 +1,11 @@
 //! The version 1 stream of a hybrid, fed file by file.
 ghost use Rattle.std.specs.Prelude.{◌≡◌, ℕ, ◌<◌, ◌≤◌, [], length, is_some, IfSome, Some, None, true};
-ghost use Rattle.metainfo.specs.Feeding.{bytes_given, total};
+ghost use Rattle.pieces.specs.Feeding.{bytes_given, total};
 ghost use Rattle.folders.specs.Streaming.{IsStreamVerdict};
 ghost use Rattle.folders.specs.Verdicts.{is_checked};
 
 use crate::report::V1Verdict;
-use metainfo::{V1, V1Feed};
+use pieces::{V1, V1Feed};
 use std::mem;
 
 /// The version 1 stream, which goes on while each file is read whole. That of a torrent that is not

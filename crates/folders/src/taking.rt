@@ -1,12 +1,12 @@
 //! One reading of a source to its end, whatever takes the bytes.
-ghost use Rattle.std.specs.Prelude.{◌≡◌, ℕ, ◌+◌, ◌-◌, ◌^◌, ◌<◌, ◌≤◌, List, [], ◌++◌, length, IfOk};
+ghost use Rattle.std.specs.Prelude.{◌≡◌, ℕ, ◌+◌, ◌-◌, ◌^◌, ◌<◌, ◌≤◌, List, [], ◌++◌, length, IfOk, OnErr};
 ghost use Rattle.benc.specs.Device.{CountsFault};
-ghost use Rattle.folders.specs.TakeAll.{IsReadWithin, ReadAll};
+ghost use Rattle.folders.specs.TakeAll.{Fills, IsReadWithin, ReadAll};
 
 use benc::{DeviceFault, Source};
 
 /// What takes the bytes of a reading, part by part.
-pub trait Taker {
+pub trait Consumer {
     // There is room for so many bytes more.
     ghost has_room: { Self → ℕ → Type 0 };
 
@@ -29,7 +29,7 @@ pub trait Taker {
 }
 
 // Nothing takes the bytes.
-impl Taker for () {
+impl Consumer for () {
     ghost use Rattle.std.specs.Prelude.{⊤};
 
     ghost has_room = { λ _ _. ⊤ };
@@ -47,35 +47,61 @@ impl Taker for () {
     ghost room_for_less = { λ _ _ _ _ _. tt };
 }
 
+/// The length of a buffer through which files are read: eight blocks, which their hashing takes at
+/// once.
+pub const BUFFER_LENGTH: usize = 131072;
+
 /// Reads a source through the buffer to its end, or to one byte past the bound. `Some`: it ended,
-/// and all its bytes, this many, went to the taker. `None`: it has more bytes than the bound; after
-/// that and after a fault nothing is said of the taker. Conditions: the buffer is not empty, the
-/// taker has room for the bound, and the bound is below 2^63.
-pub fn take_all<F: Source, T: Taker>(
+/// and all its bytes, this many, went to the consumer, a full buffer at a time. `None`: it has more
+/// bytes than the bound; after that and after a fault nothing is said of the consumer. A fault
+/// comes before the bound is passed. Conditions: the buffer is not empty, the consumer has room for
+/// the bound, and the bound is below 2^63.
+pub fn take_all<F: Source, T: Consumer>(
     source: &mut F,
     bound: u64,
     buffer: &mut [u8],
-    taker: &mut T,
+    consumer: &mut T,
 ) -> Result<Option<u64>, DeviceFault>
     requires some { 0 < length buffer.old }
-    requires room { T.has_room taker.old bound }
+    requires room { T.has_room consumer.old bound }
     requires small { bound < 2 ^ 63 }
     ensures no_further { IsReadWithin (bound + 1) (F.seen source.old) (F.seen source.new) }
+    ensures blamed { OnErr result (IsReadWithin bound (F.seen source.old) (F.seen source.new)) }
     ensures counts { CountsFault (F.seen source.old).faults (F.seen source.new).faults result }
     ensures read { IfOk result (ReadAll T.took (F.seen source.old) (F.seen source.new) bound
-        taker.old taker.new) }
+        consumer.old consumer.new) }
 {
     let mut count = 0;
     'parts: loop {
         let room = (bound - count + 1).min(buffer.len() as u64) as usize;
-        let taken = source.read(&mut buffer[..room])?;
-        if taken == 0 {
-            return Ok(Some(count));
-        }
+        let taken = fill(source, &mut buffer[..room])?;
         count += taken as u64;
         if count > bound {
             return Ok(None);
         }
-        taker.take(&buffer[..taken]);
+        consumer.take(&buffer[..taken]);
+        if taken < room {
+            return Ok(Some(count));
+        }
     }
+}
+
+/// Reads until the buffer is full or the source ends: how many bytes of the buffer are filled. A
+/// fault comes before it is full.
+pub fn fill<F: Source>(source: &mut F, buffer: &mut [u8]) -> Result<usize, DeviceFault>
+    ensures filled { IfOk result (Fills (F.seen source.old) (F.seen source.new) buffer.new) }
+    ensures no_further { IsReadWithin (length buffer.old) (F.seen source.old)
+        (F.seen source.new) }
+    ensures blamed { OnErr result
+        ((F.seen source.old).limit < (F.seen source.new).limit + length buffer.old) }
+    ensures counts { CountsFault (F.seen source.old).faults (F.seen source.new).faults result }
+{
+    let mut filled = 0;
+    'reads: while filled < buffer.len() {
+        match source.read(&mut buffer[filled..])? {
+            0 => break 'reads,
+            count => filled += count,
+        }
+    }
+    Ok(filled)
 }

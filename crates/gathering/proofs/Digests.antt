@@ -1,6 +1,5 @@
 -- What is told of a file, by what was hashed of it.
 use Rattle.std.proofs.Common.{◌≡◌, ◌⊎◌, inl, inr, ℕ, suc, ◌+◌, ◌-◌, ◌*◌, ◌/◌, ◌^◌, ◌<◌, ◌≤◌, Bool, true, false, cond, List, [], length, map, Option, Some, None, refl, sym, ◌∙◌, ap, subst, arith}
-use Rattle.std.specs.Prelude.{IsSome}
 use Rattle.std.specs.List.{range_with_len}
 use Rattle.std.proofs.Math.Nat.{div-eq_of_lt-le, div-mul-le_self, mul-le-mul_right}
 use Rattle.std.proofs.Math.Pow.{pow_mono}
@@ -10,7 +9,7 @@ use Rattle.hashtree.proofs.Heights.{height_enough}
 use Rattle.hashtree.proofs.Pairs.{two-pow}
 use Rattle.gathering.specs.Collecting.{Collects, MayFinish}
 use Rattle.gathering.specs.Gathered.{KeepsDigests, piece_hashes}
-use Rattle.gathering.specs.Hashing.{AreHashesOf, Begins, BeginsCuts, CutsBytes, CutsIf, EndsWithCuts, EndsWithHashes, Hashes, MayEndWithout}
+use Rattle.gathering.specs.Hashing.{AreHashesOf, Begins, BeginsCuts, CutsBytes, CutsIf, CutsMayLackMemory, EndsWithCuts, EndsWithHashes, Hashes, MayEndWithout}
 use Rattle.gathering.specs.declared.hashing.FileHashes.{FileHashes}
 use Rattle.gathering.specs.declared.hashing.Hashing.{Hashing}
 use Rattle.hashtree.specs.LayerBuilder.{HasRefused, IsFedLayer, byte_count, chosen_layer, complete_count}
@@ -112,11 +111,11 @@ low_has_hash content layer some low =
     let one : 1 ≤ first_pad n layer = le-div 1 (n + (d - 1)) d (pow_pos layer) (omega (arith, pow_pos layer)) in
     not_nil (layer_of content layer) (omega (arith, length-layer_of content (length content) layer refl low, one))
 
-is_hybrid : (piece_length : ℕ) (hybrid : Bool) (before after : Option V1Cuts) (content : List ℕ) → BeginsCuts piece_length hybrid before → CutsIf before content after → IsSome after
-    → hybrid ≡ true
-is_hybrid piece_length hybrid None None content begins takes there = absurd cc
-is_hybrid piece_length hybrid None (Some c) content begins takes there = absurd takes
-is_hybrid piece_length hybrid (Some b) after content begins takes there = begins.0
+is_hybrid : (piece_length : ℕ) (hybrid : Bool) (before after : Option V1Cuts) (content : List ℕ) → BeginsCuts piece_length hybrid before → CutsIf before content after
+    → CutsMayLackMemory after → hybrid ≡ true
+is_hybrid piece_length hybrid None None content begins takes why = absurd why
+is_hybrid piece_length hybrid None (Some c) content begins takes why = absurd takes
+is_hybrid piece_length hybrid (Some b) after content begins takes why = begins.0
 
 layer_kept : (piece_length layer : ℕ) (content : List ℕ) → layer ≡ piece_layer piece_length → (layer_of content layer ≡ [] → ⊥) → piece_hashes piece_length content ≡ [] → ⊥
 layer_kept piece_length layer content is some none = some (ap (layer_of content) is ∙ none)

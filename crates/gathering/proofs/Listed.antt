@@ -19,7 +19,7 @@ use Rattle.gathering.specs.Stopping.{at_path}
 use Rattle.gathering.specs.declared.file_fault.FileFault.{FileFault}
 use Rattle.gathering.specs.declared.file_fault.FileFault.TheVariants as why
 use Rattle.gathering.specs.declared.gather_fault.GatherFault.{GatherFault}
-use Rattle.gathering.specs.declared.gathering.Stop.{Stop}
+use Rattle.gathering.specs.declared.gathering.StoppedAt.{StoppedAt}
 use Rattle.gathering.proofs.Steps.{item_of}
 use Rattle.pieces.specs.Pieces.{IsPieceLength}
 
@@ -109,7 +109,7 @@ module _ {S F : Type 0} (shelf : Ghosts S F) (seen : F → SourceSeen) (empty : 
       let inside : n < length sorted = omega (arith, slice_get_within (map path_bytes sorted) n path there, length-map sorted path_bytes) in
       same_Some path (path_bytes v) (sym there ∙ item_of path_bytes sorted n v inside ∙ ap (λ w. Some (path_bytes w)) (sym is))
 
-  pub stopped_at : (old base new : S) (sorted : Paths) (stop : Stop) (v : Vec (String Global)) (told : GatherFault) → IsPieceLength empty.piece_length
+  pub stopped_at : (old base new : S) (sorted : Paths) (stop : StoppedAt) (v : Vec (String Global)) (told : GatherFault) → IsPieceLength empty.piece_length
       → IsListedAs shelf old (map path_bytes sorted) base → shelf.faults base ≡ shelf.faults old → shelf.contents base ≡ shelf.contents old
       → StopsBefore shelf seen empty base (map path_bytes sorted) new stop → v ≡ get_or sorted stop.number v → told ≡ at_path stop.fault v
       → Gathers shelf seen empty old new (Err told)

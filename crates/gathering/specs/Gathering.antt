@@ -1,6 +1,6 @@
 -- How a draft is gathered from a shelf: it is listed once, and each listed path is opened once, in
 -- the order of the file tree, read once, and handed back. `shelf` stands for what the shelf's type
--- tells of its shelves, `seen` for what its files tell, and `empty` is the draft without files, of
+-- says of its shelves, `seen` for what its files say, and `empty` is the draft without files, of
 -- the name, piece length and kind that were asked for.
 use Rattle.std.specs.Prelude.{◌≡◌, ◌⊎◌, ℕ, ◌+◌, ◌^◌, ◌<◌, ◌≤◌, false, List, [], ◌∷◌, length, map, take, slice_get, Option, Some, None, Result, Ok, Err, String}
 use Rattle.std.specs.Cmp.Lexicographic.{slice_cmp}
@@ -32,13 +32,13 @@ pub record ListsOnce (there : Listing) (paths : List (List (List ℕ))) : Type 0
   pub regular : there.specials ≡ []
   pub each_once : IsEachOnce there.files paths
 
--- these are the paths that a shelf lists, if it tells them, in the order of the file tree
+-- these are the paths that a shelf lists, if they are known, in the order of the file tree
 pub record IsSortedListing (told : Option Listing) (paths : List (List (List ℕ))) : Type 0 where
   pub in_order : IsSorted (slice_cmp (slice_cmp nat_cmp)) paths
   pub listed : (there : Listing) → told ≡ Some there → ListsOnce there paths
 
 -- the shelf was listed, and nothing else: it answered these paths, which here stand in the order of
--- the file tree, and which are those that it tells, if it does
+-- the file tree, and which are those that it holds, if these are known
 pub record IsListedAs {S F : Type 0} (shelf : Ghosts S F) (old : S) (paths : List (List (List ℕ)))
     (new : S) : Type 0 where
   pub answer : Vec (Vec (String Global))
@@ -51,7 +51,7 @@ abbrev pub HasComponents : List (List (List ℕ)) → Type 0
 HasComponents paths =
     (n : ℕ) × (path : List (List ℕ)) × (slice_get paths n ≡ Some path) × (0 < length path)
 
--- each path has its content, which is the one that the shelf tells if it does
+-- each path has its content, which is the one that the shelf holds if that is known
 abbrev pub AreContentsUnder : (List (List ℕ) → Option (Option (List ℕ))) → List (List (List ℕ))
     → List (List ℕ) → Type 0
 AreContentsUnder under [] [] = Unit {0}

@@ -1,6 +1,6 @@
 -- The hashing of one file's bytes, as they are read: for its root and its piece layer, and for a
 -- hybrid for the digests of its cuts.
-use Rattle.std.specs.Prelude.{◌≡◌, ◌⊎◌, ℕ, ◌<◌, Bool, true, false, List, [], length, Option, Some, None, IsSome, ⊤}
+use Rattle.std.specs.Prelude.{◌≡◌, ◌⊎◌, ℕ, ◌<◌, Bool, true, false, List, [], length, Option, Some, None, ⊤}
 use Rattle.gathering.specs.Collecting.{CanCollect, Collects, EndsWithWhole, MayLackMemory}
 use Rattle.gathering.specs.Gathered.{piece_hashes}
 use Rattle.gathering.specs.declared.hashing.FileHashes.{FileHashes}
@@ -55,18 +55,24 @@ abbrev pub EndsWithCuts : Option V1Cuts → V1File → Type 0
 EndsWithCuts None v1 = ⊤
 EndsWithCuts (Some c) v1 = (cut.HasRefused c → ⊥) × EndsWithFile c v1
 
--- what was hashed tells this
+-- this follows from what was hashed
 pub record EndsWithHashes (h : Hashing) (told : FileHashes) : Type 0 where
   pub tree : EndsWithWhole h.tree told.length told.root told.layer.items
   pub cuts : EndsWithCuts h.cuts told.v1
 
--- memory may be refused: in a hybrid, or after a refusal, or for the last node of the layer
+-- memory may be refused to the digests of a hybrid's cuts at the end: after a refusal, or for the
+-- digest of the last cut
+abbrev pub CutsMayLackMemory : Option V1Cuts → Type 0
+CutsMayLackMemory None = ⊥
+CutsMayLackMemory (Some c) = cut.HasRefused c ⊎ cut.EndTakesMemory c
+
+-- memory may be refused to the digests of cuts, or to the layer
 abbrev pub MayEndWithout : Hashing → Type 0
-MayEndWithout h = IsSome h.cuts ⊎ MayLackMemory h.tree
+MayEndWithout h = CutsMayLackMemory h.cuts ⊎ MayLackMemory h.tree
 
 -- ---- a whole file
 
--- this is told of a content
+-- a draft is given this of a content
 pub record AreHashesOf (piece_length : ℕ) (hybrid : Bool) (content : List ℕ) (told : FileHashes)
     : Type 0 where
   pub length_is : told.length ≡ length content

@@ -1,4 +1,4 @@
--- What reading one opened file told. Public clauses do not name these.
+-- What reading one opened file gave. Public clauses do not name these.
 use Rattle.std.specs.Prelude.{ℕ, ◌^◌, ◌<◌, ◌≤◌, Bool, List, length, Option, Some, None, Result, Ok, Err}
 use Rattle.filetree.specs.declared.refusal.Refusal.TheVariants as refusals
 use Rattle.folders.specs.Verdicts.{Agrees}
@@ -10,7 +10,7 @@ use Rattle.gathering.specs.declared.file_fault.FileFault.{FileFault}
 use Rattle.gathering.specs.declared.file_fault.FileFault.TheVariants as file
 use Rattle.gathering.specs.declared.hashing.FileHashes.{FileHashes}
 
--- what reading a source told that had this to give; nothing of a content above 2^46 bytes
+-- what came of reading a source that had this to give; nothing of a content above 2^46 bytes
 abbrev pub ReadsFile : ℕ → Bool → Option (List ℕ) → Result (Option FileHashes) ReadFault → Type 0
 ReadsFile piece_length hybrid left (Ok (Some told)) =
     (content : List ℕ) × Agrees left content × (length content ≤ 2 ^ 46)
@@ -22,7 +22,7 @@ ReadsFile piece_length hybrid left (Err fault.NoMemory) =
     (content : List ℕ) × Agrees left content × (length content ≤ 2 ^ 46)
     × KeepsDigests piece_length hybrid content
 
--- what is told of a file that was read so: one above 2^46 bytes is refused for its length
+-- the answer for a file that was read so: one above 2^46 bytes is refused for its length
 abbrev pub visit_of : Result (Option FileHashes) ReadFault → Result FileHashes FileFault
 visit_of (Ok (Some told)) = Ok told
 visit_of (Ok None) = Err (file.Refused refusals.Length)

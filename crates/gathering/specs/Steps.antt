@@ -1,4 +1,4 @@
--- What visiting one path of a shelf told, and what was added to a draft. Public clauses do not name
+-- What visiting one path of a shelf gave, and what was added to a draft. Public clauses do not name
 -- these.
 use Rattle.std.specs.Prelude.{◌≡◌, ℕ, ◌^◌, ◌<◌, ◌≤◌, Bool, List, length, take, slice_get, Some, Result, Ok, Err}
 use Rattle.benc.specs.Device.{SourceSeen}
@@ -9,7 +9,7 @@ use Rattle.gathering.specs.Gathering.{FailsAt, HasGathered, LacksMemoryAt, Misse
 use Rattle.gathering.specs.Hashing.{AreHashesOf}
 use Rattle.gathering.specs.declared.file_fault.FileFault.{FileFault}
 use Rattle.gathering.specs.declared.file_fault.FileFault.TheVariants as file
-use Rattle.gathering.specs.declared.gathering.Stop.{Stop}
+use Rattle.gathering.specs.declared.gathering.StoppedAt.{StoppedAt}
 use Rattle.gathering.specs.declared.hashing.FileHashes.{FileHashes}
 use Rattle.folders.specs.declared.shelf.Shelf.{Ghosts}
 
@@ -19,7 +19,7 @@ AreWithin paths room = (n : ℕ) (path : List (List ℕ)) → slice_get paths n 
     → length path ≤ room
 
 module _ {S F : Type 0} (shelf : Ghosts S F) (seen : F → SourceSeen) where
-  -- what visiting a path told of its content
+  -- what visiting a path gave of its content
   abbrev pub VisitsFile : ℕ → Bool → S → List (List ℕ) → S → Result FileHashes FileFault → Type 0
   VisitsFile piece_length hybrid s path s' (Ok told) =
       (content : List ℕ) × Reads shelf seen s path content s'
@@ -54,17 +54,18 @@ module _ {S F : Type 0} (shelf : Ghosts S F) (seen : F → SourceSeen) where
   -- the draft that was given is `empty`
   module _ (empty : Outline) where
     -- the first paths were added, and it stopped at the next one
-    pub record StopsBefore (old : S) (paths : List (List (List ℕ))) (new : S) (stop : Stop) : Type 0
-      where
-        pub path : List (List ℕ)
-        pub there : slice_get paths stop.number ≡ Some path
-        pub draft : Outline
-        pub mid : S
-        pub before : HasGathered shelf seen empty old old (take stop.number paths) mid draft
-        pub why : StopsWith stop.fault draft mid path new
+    pub record StopsBefore (old : S) (paths : List (List (List ℕ))) (new : S) (stop : StoppedAt)
+        : Type 0 where
+      pub path : List (List ℕ)
+      pub there : slice_get paths stop.number ≡ Some path
+      pub draft : Outline
+      pub mid : S
+      pub before : HasGathered shelf seen empty old old (take stop.number paths) mid draft
+      pub why : StopsWith stop.fault draft mid path new
 
     -- all paths were added, or it stopped at one
-    abbrev pub AddsAll : S → List (List (List ℕ)) → Outline → S → Result (Unit {0}) Stop → Type 0
+    abbrev pub AddsAll : S → List (List (List ℕ)) → Outline → S → Result (Unit {0}) StoppedAt
+        → Type 0
     AddsAll old paths d new (Ok u) =
         HasGathered shelf seen empty old old paths new d
     AddsAll old paths d new (Err stop) = StopsBefore old paths new stop

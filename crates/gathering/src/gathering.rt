@@ -10,17 +10,16 @@ ghost use Rattle.gathering.specs.Steps.{AddsAll, AddsPath, AreWithin};
 use crate::file_fault::FileFault;
 use crate::gather_fault::GatherFault;
 use crate::hashing::are_hashes;
-use crate::kind::Kind;
+use crate::kind::TorrentKind;
 use crate::visiting::hash_file;
 use drafts::Draft;
 use filetree::Refusal;
-use folders::Shelf;
-use hashtree::BLOCK_LENGTH;
+use folders::{BUFFER_LENGTH, Shelf};
 use std::alloc::Global;
 
 // Why not all files were added: the number of the path at which it stopped, and what happened.
 #[derive(Drop)]
-struct Stop {
+struct StoppedAt {
     number: usize,
     fault: FileFault,
 }
@@ -54,7 +53,7 @@ pub fn gather<S: Shelf>(
         shelf.old shelf.new result }
     ensures stays { S.contents shelf.new ≡ S.contents shelf.old }
 {
-    let Some(kind) = Kind::new(piece_length, hybrid) else {
+    let Some(kind) = TorrentKind::new(piece_length, hybrid) else {
         return Err(GatherFault::Refused(Refusal::PieceLength, Vec::new(alloc)));
     };
     let mut draft = match Draft::new(alloc, name, piece_length, hybrid) {
@@ -97,8 +96,8 @@ fn add_files<'p, S: Shelf>(
     draft: &mut Draft,
     paths: &'p [Vec<String>],
     mut parts: Vec<&'p str>,
-    kind: &Kind,
-) -> Result<(), Stop>
+    kind: &TorrentKind,
+) -> Result<(), StoppedAt>
     requires room { AreWithin (map path_bytes paths.now) (vec_capacity parts) }
     requires piece_length { draft.old.piece_length ≡ kind.now.piece_length }
     requires hybrid { draft.old.hybrid ≡ kind.now.hybrid }
@@ -106,11 +105,11 @@ fn add_files<'p, S: Shelf>(
         draft.new shelf.new result }
     ensures stays { S.contents shelf.new ≡ S.contents shelf.old }
 {
-    let mut buffer = [0u8; BLOCK_LENGTH as usize];
+    let mut buffer = [0u8; BUFFER_LENGTH];
     'paths: for number in 0..paths.len() {
         put_parts(&paths[number], &mut parts);
         if let Err(fault) = add_file(alloc, shelf, draft, &parts, kind, &mut buffer) {
-            return Err(Stop { number, fault });
+            return Err(StoppedAt { number, fault });
         }
     }
     Ok(())
@@ -122,7 +121,7 @@ fn add_file<S: Shelf>(
     shelf: &mut S,
     draft: &mut Draft,
     path: &[&str],
-    kind: &Kind,
+    kind: &TorrentKind,
     buffer: &mut [u8],
 ) -> Result<(), FileFault>
     requires some { 0 < length buffer.old }

@@ -1,16 +1,16 @@
 //! The hashing of one file, for its root, its piece layer, and for a hybrid the digests of its
 //! cuts.
-ghost use Rattle.std.specs.Prelude.{[], All, IfOk, IsSome, OnErr, length, ◌≡◌};
+ghost use Rattle.std.specs.Prelude.{[], All, IfOk, OnErr, length, ◌≡◌};
 ghost use Rattle.gathering.specs.Collecting.{EndsWithWhole, MayFinish, MayLackMemory};
-ghost use Rattle.gathering.specs.Hashing.{Begins, BeginsCuts, EndsWithCuts, EndsWithHashes, MayEndWithout};
+ghost use Rattle.gathering.specs.Hashing.{Begins, BeginsCuts, CutsMayLackMemory, EndsWithCuts, EndsWithHashes, MayEndWithout};
 
-use crate::kind::Kind;
-use folders::Taker;
+use crate::kind::TorrentKind;
+use folders::Consumer;
 use hashtree::{Hash, LayerBuilder, NoMemory};
 use pieces::{V1Cuts, V1File};
 use std::alloc::Global;
 
-/// What a draft is told of a file.
+/// What a draft is given of a file.
 #[derive(Drop)]
 pub(crate) struct FileHashes {
     pub(crate) length: u64,
@@ -23,7 +23,7 @@ impl FileHashes {
     ghost use Rattle.gathering.specs.Hashing.{AreHashesOf};
     ghost use Rattle.std.specs.Prelude.{ℕ, Bool};
 
-    /// What is told of an empty file. It takes no memory.
+    /// What a draft is given of an empty file. It takes no memory.
     pub(crate) fn empty(alloc: Global) -> FileHashes
         ensures { (piece_length : ℕ) (hybrid : Bool)
             → AreHashesOf piece_length hybrid [] result }
@@ -46,7 +46,7 @@ pub(crate) struct Hashing {
 
 impl Hashing {
     /// Nothing came yet. It takes no memory.
-    pub(crate) fn new(alloc: Global, kind: &Kind) -> Hashing
+    pub(crate) fn new(alloc: Global, kind: &TorrentKind) -> Hashing
         ensures { Begins kind.now.piece_length kind.now.hybrid result }
     {
         Hashing {
@@ -55,11 +55,11 @@ impl Hashing {
         }
     }
 
-    /// What came tells this, if memory was not refused. Condition: memory was refused to the tree,
+    /// The hashes of the bytes, unless out of memory. Condition: memory was refused to the tree,
     /// or at least one byte came.
     pub(crate) fn finish(self, alloc: Global) -> Result<FileHashes, NoMemory>
         requires { MayFinish self.tree }
-        ensures told { IfOk result (EndsWithHashes self) }
+        ensures gives { IfOk result (EndsWithHashes self) }
         ensures memory { OnErr result (MayEndWithout self) }
     {
         let (length, root, layer) = finish_layer(self.tree)?;
@@ -73,7 +73,7 @@ impl Hashing {
     }
 }
 
-impl Taker for Hashing {
+impl Consumer for Hashing {
     ghost use Rattle.gathering.specs.Hashing.{CanHash, Hashes};
     ghost use Rattle.gathering.specs.HashingLaws.{hashed_none, hashed_both, hashed_room, hashed_less};
 
@@ -106,7 +106,7 @@ pub(crate) fn are_hashes(hashes: &[Hash])
 // refused to it. A builder that took nothing was refused memory.
 fn finish_layer(builder: LayerBuilder) -> Result<(u64, Hash, Vec<Hash>), NoMemory>
     requires { MayFinish builder }
-    ensures told { IfOk result (λ found. EndsWithWhole builder found.0 found.1 found.2.items) }
+    ensures gives { IfOk result (λ found. EndsWithWhole builder found.0 found.1 found.2.items) }
     ensures memory { OnErr result (MayLackMemory builder) }
 {
     if builder.is_empty() {
@@ -116,7 +116,7 @@ fn finish_layer(builder: LayerBuilder) -> Result<(u64, Hash, Vec<Hash>), NoMemor
 }
 
 // The digests of a hybrid's cuts.
-fn cuts_of(alloc: Global, kind: &Kind) -> Option<V1Cuts>
+fn cuts_of(alloc: Global, kind: &TorrentKind) -> Option<V1Cuts>
     ensures { BeginsCuts kind.now.piece_length kind.now.hybrid result }
 {
     if kind.hybrid {
@@ -128,8 +128,8 @@ fn cuts_of(alloc: Global, kind: &Kind) -> Option<V1Cuts>
 
 // What the digests of a hybrid's cuts tell, if memory was not refused.
 fn finish_cuts(alloc: Global, cuts: Option<V1Cuts>) -> Result<V1File, NoMemory>
-    ensures told { IfOk result (EndsWithCuts cuts) }
-    ensures memory { OnErr result (IsSome cuts) }
+    ensures gives { IfOk result (EndsWithCuts cuts) }
+    ensures memory { OnErr result (CutsMayLackMemory cuts) }
 {
     match cuts {
         Some(cuts) => cuts.finish(),
@@ -137,7 +137,7 @@ fn finish_cuts(alloc: Global, cuts: Option<V1Cuts>) -> Result<V1File, NoMemory>
     }
 }
 
-// What is told of a file that has no cuts, or of which none are wanted.
+// No digests: of a file without cuts, or of which none are wanted.
 fn no_cuts(alloc: Global) -> V1File {
     V1File {
         cuts: Vec::new(alloc),

@@ -8,19 +8,19 @@ use pieces::PieceLength;
 
 /// What kind of torrent is made: of this piece length, and whether it is a hybrid.
 #[derive(Drop)]
-pub(crate) struct Kind {
+pub(crate) struct TorrentKind {
     pub(crate) piece_length: PieceLength,
     pub(crate) hybrid: bool,
 }
 
-impl Kind {
+impl TorrentKind {
     /// The kind of this piece length in bytes; `None` unless it is one.
-    pub(crate) fn new(piece_length: u64, hybrid: bool) -> Option<Kind>
+    pub(crate) fn new(piece_length: u64, hybrid: bool) -> Option<TorrentKind>
         ensures { SomeIff result (IsPieceLength piece_length)
             (record { piece_length = piece_length; hybrid = hybrid }) }
     {
         let piece_length = PieceLength::new(piece_length)?;
-        Some(Kind {
+        Some(TorrentKind {
             piece_length,
             hybrid,
         })

@@ -4,18 +4,18 @@ ghost use Rattle.folders.specs.TakeAll.{CountsReading, IsReadWithin};
 ghost use Rattle.gathering.specs.Reading.{ReadsFile};
 
 use crate::hashing::{FileHashes, Hashing};
-use crate::kind::Kind;
+use crate::kind::TorrentKind;
 use benc::Source;
 use folders::{ReadFault, take_all};
 use hashtree::MAX_LENGTH;
 use std::alloc::Global;
 
-/// Reads a source through the buffer to its end, or to one byte past the greatest length, and tells
-/// what a draft is told of its content; `None` of a content above that length.
+/// Reads a source through the buffer to its end, or to one byte past the greatest length. Returns
+/// what a draft is given of its content; `None` of a content above that length.
 pub(crate) fn read_file<F: Source>(
     alloc: Global,
     source: &mut F,
-    kind: &Kind,
+    kind: &TorrentKind,
     buffer: &mut [u8],
 ) -> Result<Option<FileHashes>, ReadFault>
     requires { 0 < length buffer.old }

@@ -5,7 +5,7 @@ ghost use Rattle.gathering.specs.Steps.{VisitsFile};
 
 use crate::file_fault::FileFault;
 use crate::hashing::FileHashes;
-use crate::kind::Kind;
+use crate::kind::TorrentKind;
 use crate::reading::read_file;
 use filetree::Refusal;
 use folders::{ReadFault, Shelf};
@@ -16,7 +16,7 @@ pub(crate) fn hash_file<S: Shelf>(
     alloc: Global,
     shelf: &mut S,
     path: &[&str],
-    kind: &Kind,
+    kind: &TorrentKind,
     buffer: &mut [u8],
 ) -> Result<FileHashes, FileFault>
     requires { 0 < length buffer.old }
@@ -29,15 +29,15 @@ pub(crate) fn hash_file<S: Shelf>(
         Ok(Some(mut source)) => {
             let read = read_file(alloc, &mut source, kind, buffer);
             shelf.close(source);
-            told(read)
+            hashes_or_fault(read)
         }
         Ok(None) => Err(FileFault::Changed),
         Err(_) => Err(FileFault::Device),
     }
 }
 
-// What a visit tells of what reading the file told.
-fn told(read: Result<Option<FileHashes>, ReadFault>) -> Result<FileHashes, FileFault>
+// The answer of a visit, by that of reading the file.
+fn hashes_or_fault(read: Result<Option<FileHashes>, ReadFault>) -> Result<FileHashes, FileFault>
     ensures { result ≡ visit_of read }
 {
     match read {

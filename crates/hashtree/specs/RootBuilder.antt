@@ -1,7 +1,8 @@
 -- What the builder of a root holds of the bytes that it was given. Contracts of users cite `IsFed`
 -- and `byte_count`, and need nothing of how `IsFed` is defined.
-use Rattle.std.specs.Prelude.{◌≡◌, ℕ, ◌+◌, ◌*◌, ◌<◌, ◌++◌, List, Option, length, drop}
+use Rattle.std.specs.Prelude.{◌≡◌, ℕ, ◌+◌, ◌*◌, ◌<◌, ◌++◌, List, [], Option, length, drop}
 use Rattle.std.specs.Option.{option_to_list}
+use Rattle.sha2.specs.Sha256.{sha256}
 use Rattle.sha2.specs.Hashers.{Holds256}
 use Rattle.hashtree.specs.Tree.{block_hashes, root_of}
 use Rattle.hashtree.specs.Climb.{HoldsLeaves, climb}
@@ -11,10 +12,13 @@ use Rattle.hashtree.specs.declared.root.RootBuilder.{RootBuilder}
 abbrev pub byte_count : RootBuilder → ℕ
 byte_count b = 16384 * b.peaks.count + b.filled
 
--- the peaks hold the digests of the content's first blocks, and the hasher the bytes after these
+-- the peaks hold the digests of the content's first blocks; the bytes after these are in the
+-- hasher, or they are a whole block, whose digest is kept
 pub record IsAt (b : RootBuilder) (content : List ℕ) : Type 0 where
   pub length_is : byte_count b ≡ length content
-  pub rest_held : Holds256 b.hasher (drop (16384 * b.peaks.count) content)
+  pub rest_held : b.filled < 16384 → Holds256 b.hasher (drop (16384 * b.peaks.count) content)
+  pub none_held : b.filled ≡ 16384 → Holds256 b.hasher []
+  pub last_kept : b.filled ≡ 16384 → b.last ≡ sha256 (drop (16384 * b.peaks.count) content)
   pub leaves_held : HoldsLeaves b.peaks (block_hashes content b.peaks.count)
 
 -- the builder was given this content

@@ -1,12 +1,16 @@
 //! The leaves so far, as the roots of whole subtrees: at most one a layer.
 
 ghost use Rattle.std.specs.Prelude.{◌≡◌, ℕ, ◌+◌, ◌-◌, ◌^◌, ◌<◌, ◌≤◌, ◌∷◌, ◌++◌, [], List, length, replicate};
+ghost use Rattle.std.specs.Option.{option_to_list};
 ghost use Rattle.hashtree.specs.Tree.{tree};
 
 use crate::node::{Hash, PAD_LEAF, parent};
 
 // Layers of the highest tree, the root's included.
 const LAYERS: usize = 33;
+
+/// A layer that no tree has: no leaf completes a node of it.
+pub(crate) const ABOVE_ROOT: u32 = LAYERS as u32;
 
 /// A row of leaves that grows, as what is needed of it to go on: at each layer of odd length the
 /// last node, which has no sibling yet.
@@ -17,8 +21,7 @@ pub(crate) struct Peaks {
 }
 
 impl Peaks {
-    ghost use Rattle.std.specs.Option.{option_to_list};
-    ghost use Rattle.hashtree.specs.Climb.{AddsLeaf, HoldsLeaves, LeafCompletes, climb, layer_with, padded};
+    ghost use Rattle.hashtree.specs.Climb.{AddsLeaf, AddsLeaves, HoldsLeaves, LeafCompletes, LeavesComplete, climb, layer_with, padded};
 
     /// A row of no leaves.
     pub(crate) fn new() -> Peaks
@@ -56,6 +59,24 @@ impl Peaks {
         completed
     }
 
+    /// Takes the next leaves, at most eight, as [`Peaks::push`] does. Returns the node of `layer`
+    /// that they complete: at most one, since it stands over eight leaves or more.
+    pub(crate) fn push_all(&mut self, leaves: &[Hash], layer: u32) -> Option<Hash>
+        requires room { self.old.count + length leaves.now < 2 ^ 33 }
+        requires few { length leaves.now ≤ 8 }
+        requires high { 3 ≤ layer }
+        ensures count { self.new.count ≡ self.old.count + length leaves.now }
+        ensures leaves { AddsLeaves self.old self.new leaves.now }
+        ensures node { LeavesComplete self.old leaves.now layer result }
+    {
+        let mut completed = None;
+        for leaf in leaves {
+            let node = self.push(*leaf, layer);
+            completed = either(completed, node);
+        }
+        completed
+    }
+
     /// The node of this layer over the leaves and `last`, if copies of `pad` come after these.
     pub(crate) fn last_node(&self, last: Hash, pad: Hash, layer: u32) -> Hash
         requires { layer ≤ 32 }
@@ -78,5 +99,16 @@ impl Peaks {
             width /= 2;
         }
         node
+    }
+}
+
+/// The node that one of two steps completes, if not both do.
+pub(crate) fn either(first: Option<Hash>, second: Option<Hash>) -> Option<Hash>
+    ensures { length (option_to_list first) + length (option_to_list second) ≤ 1
+        → option_to_list result ≡ option_to_list first ++ option_to_list second }
+{
+    match first {
+        Some(node) => Some(node),
+        None => second,
     }
 }

@@ -4,23 +4,28 @@ ghost use Rattle.std.specs.Prelude.{◌≡◌, ℕ, ◌+◌, ◌*◌, ◌^◌, �
 ghost use Rattle.hashtree.specs.Tree.{block_count, height, layer_of};
 
 use crate::node::{Hash, PAD_LEAF};
-use crate::peaks::Peaks;
+use crate::peaks::{ABOVE_ROOT, Peaks, either};
 use crate::shape::{BLOCK_LENGTH, Shape};
 use sha2::{Digest, Sha256};
+use sha256_lanes::digests;
 
 // Bytes in a block, as slices count them.
 const BLOCK: usize = BLOCK_LENGTH as usize;
+// Bytes in eight blocks, which are hashed side by side.
+const GROUP: usize = 8 * BLOCK;
 
 /// Computes the length and the root of a file's tree from its bytes, which come in parts of any
-/// size. It keeps 33 hashes and one running digest, takes no memory and cannot fail.
+/// size. It keeps 34 hashes and one running digest, takes no memory and cannot fail. Eight whole
+/// blocks that come in one part, on a block's edge, are hashed side by side.
 ///
-/// A block that is full becomes a leaf only when a further byte comes, so that the last block is
-/// always the one in the hasher.
+/// A block that is full is hashed, but becomes a leaf only when a further byte comes, so that the
+/// last block is always outside the row of leaves: in the hasher, or as `last` once it is full.
 #[derive(Drop)]
 pub struct RootBuilder {
     peaks: Peaks,
     hasher: Sha256,
     filled: usize,
+    last: Hash,
     ghost in_block: { filled ≤ 16384 },
     ghost in_file: { 16384 * peaks.count + filled ≤ 2 ^ 46 },
 }
@@ -38,6 +43,7 @@ impl RootBuilder {
             peaks: Peaks::new(),
             hasher: Sha256::new(),
             filled: 0,
+            last: PAD_LEAF,
         }
     }
 
@@ -63,7 +69,7 @@ impl RootBuilder {
     {
         let mut start = 0;
         'parts: while start < bytes.len() {
-            let (taken, _) = self.take_part(&bytes[start..], 0);
+            let (taken, _) = self.take_part(&bytes[start..], ABOVE_ROOT);
             start += taken;
         }
     }
@@ -91,7 +97,11 @@ impl RootBuilder {
         ensures in_tree { OnSome result.2 (layer ≤ height (block_count (byte_count self))) }
     {
         let length = self.len();
-        let last = self.hasher.finalize();
+        let last = if self.filled == BLOCK {
+            self.last
+        } else {
+            self.hasher.finalize()
+        };
         let height = Shape::of(length).unwrap().height();
         let root = self.peaks.last_node(last, PAD_LEAF, height);
         let node = if layer <= height {
@@ -102,10 +112,10 @@ impl RootBuilder {
         (length, root, node)
     }
 
-    /// Takes the first of these bytes, at most as many as the last block still takes, for a caller
-    /// that keeps the nodes of a layer itself. Returns how many, and the node of `layer` that the
-    /// blocks before them complete, if they do. Conditions: there is a byte, and
-    /// [`RootBuilder::len`] and the number of bytes are at most 2^46 together.
+    /// Takes the first of these bytes, for a caller that keeps the nodes of a layer itself: at most
+    /// as many as the last block still takes, or eight whole blocks. Returns how many, and the node
+    /// of `layer` that the blocks before the last one complete, if they do. Conditions: there is a
+    /// byte, and [`RootBuilder::len`] and the number of bytes are at most 2^46 together.
     pub fn take_part(&mut self, bytes: &[u8], layer: u32) -> (usize, Option<Hash>)
         requires some { 0 < length bytes.now }
         requires room { byte_count self.old + length bytes.now ≤ 2 ^ 46 }
@@ -119,24 +129,66 @@ impl RootBuilder {
         } else {
             None
         };
-        let taken = bytes.len().min(BLOCK - self.filled);
-        self.hasher.update(&bytes[..taken]);
-        self.filled += taken;
-        (taken, completed)
+        if self.filled == 0 && layer >= 3 && bytes.len() >= GROUP {
+            let node = self.take_group(&bytes[..GROUP], layer);
+            return (GROUP, either(completed, node));
+        }
+        (self.fill_block(bytes), completed)
     }
 
     // Makes a leaf of the last block, which is full. Returns the node of `layer` that it completes.
     fn close_block(&mut self, layer: u32) -> Option<Hash>
         requires { self.old.filled ≡ 16384 }
         ensures empty { self.new.filled ≡ 0 }
-        ensures count { byte_count self.new ≡ byte_count self.old }
+        ensures one { self.new.peaks.count ≡ self.old.peaks.count + 1 }
         ensures content { (file : List ℕ) → IsAt self.old file → IsAt self.new file }
         ensures node { (file : List ℕ) → IsAt self.old file
             → complete_nodes self.new file layer
             ≡ complete_nodes self.old file layer ++ option_to_list result }
     {
-        let leaf = self.hasher.finalize_reset();
         self.filled = 0;
-        self.peaks.push(leaf, layer)
+        self.peaks.push(self.last, layer)
+    }
+
+    // Takes as many of these bytes as the last block still takes.
+    fn fill_block(&mut self, bytes: &[u8]) -> usize
+        requires open { self.old.filled < 16384 }
+        requires some { 0 < length bytes.now }
+        requires room { byte_count self.old + length bytes.now ≤ 2 ^ 46 }
+        ensures some { 0 < result }
+        ensures bound { result ≤ length bytes.now }
+        ensures peaks { self.new.peaks ≡ self.old.peaks }
+        ensures filled { self.new.filled ≡ self.old.filled + result }
+        ensures content { (file : List ℕ) → IsAt self.old file
+            → IsAt self.new (file ++ take result bytes.now) }
+    {
+        let taken = bytes.len().min(BLOCK - self.filled);
+        self.hasher.update(&bytes[..taken]);
+        self.filled += taken;
+        if self.filled == BLOCK {
+            self.last = self.hasher.finalize_reset();
+        }
+        taken
+    }
+
+    // Takes eight whole blocks, hashed side by side; the last of them stays open for more. Returns
+    // the node of `layer` that the seven before it complete.
+    fn take_group(&mut self, group: &[u8], layer: u32) -> Option<Hash>
+        requires empty { self.old.filled ≡ 0 }
+        requires whole { length group.now ≡ 131072 }
+        requires high { 3 ≤ layer }
+        requires room { byte_count self.old + length group.now ≤ 2 ^ 46 }
+        ensures full { self.new.filled ≡ 16384 }
+        ensures seven { self.new.peaks.count ≡ self.old.peaks.count + 7 }
+        ensures content { (file : List ℕ) → IsAt self.old file → IsAt self.new (file ++ group.now) }
+        ensures node { (file : List ℕ) → IsAt self.old file
+            → complete_nodes self.new (file ++ group.now) layer
+            ≡ complete_nodes self.old file layer ++ option_to_list result }
+    {
+        let leaves = digests(group, BLOCK);
+        let completed = self.peaks.push_all(&leaves[..7], layer);
+        self.last = leaves[7];
+        self.filled = BLOCK;
+        completed
     }
 }

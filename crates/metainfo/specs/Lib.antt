@@ -15,6 +15,7 @@ pub use Rattle.filetree.specs.TreeTests
 pub use Rattle.opening.specs.Blocks
 pub use Rattle.opening.specs.Description
 pub use Rattle.opening.specs.Describes
+pub use Rattle.opening.specs.FirstUse
 pub use Rattle.opening.specs.Laws
 pub use Rattle.opening.specs.PieceLayers
 pub use Rattle.opening.specs.Places

@@ -1,5 +1,5 @@
 -- Rows of pages, when they grow, when a cell is written, and when they are trimmed.
-use Rattle.std.proofs.Common.{◌≡◌, ◌≢◌, ◌⊎◌, ℕ, zero, suc, ◌+◌, ◌-◌, ◌/◌, ◌%◌, ◌^◌, ◌<◌, ◌≤◌, Bool, true, false, cond, ltb, ◌&&◌, ◌||◌, List, [], ◌∷◌, length, get_or, Option, Some, None, Result, Ok, Err, OnErr, inl, inr, refl, sym, ap, ap₂, ◌∙◌, subst, arith}
+use Rattle.std.proofs.Common.{◌≡◌, ◌≢◌, ◌⊎◌, ℕ, zero, suc, ◌+◌, ◌-◌, ◌/◌, ◌%◌, ◌^◌, ◌<◌, ◌≤◌, Bool, true, false, cond, eqb, ltb, ◌&&◌, ◌||◌, List, [], ◌∷◌, length, get_or, Option, Some, None, Result, Ok, Err, OnErr, inl, inr, refl, sym, ap, ap₂, ◌∙◌, subst, arith}
 use Rattle.std.specs.Prelude.{slice_get}
 use Rattle.std.specs.Option.{option_and_then, option_map, unwrap_or}
 use Rattle.std.specs.FinMap.{empty, insert, get-empty}
@@ -7,7 +7,8 @@ use Rattle.std.specs.FinSet as set
 use Rattle.std.specs.FinSet.{same_set, contains-insert, nat_cmp-IsAntisymmetric}
 use Rattle.std.specs.Ordering.{nat_cmp, eq_by_cmp}
 use Rattle.std.specs.Cmp.{nat_cmp_total}
-use Rattle.std.proofs.lemmas.Bool.{cases_lt, cases_eq, or_left, eq-eqb, ne_eqb, lt-ltb, false≢true}
+use Rattle.std.proofs.lemmas.Bool.Decides.{nat_tests}
+use Rattle.std.proofs.lemmas.Bool.{cases_lt, cases_eq, cond-false, or_left, eq-eqb, ne_eqb, lt-ltb, false≢true}
 use Rattle.std.proofs.lemmas.Option.{none-some, slice_get_past, slice_get_read}
 use Rattle.node_maps.specs.declared.paged_row.PagedRow.{PagedRow}
 use Rattle.node_maps.specs.declared.page.Cell.{Cell}
@@ -16,7 +17,8 @@ use Rattle.node_maps.specs.Cell.{hash_of, mark_of, with_hash}
 use Rattle.node_maps.specs.Digest.{Hash}
 use Rattle.node_maps.specs.Places.{PartialTree, IsTreePlace}
 use Rattle.node_maps.specs.Known.{place_cmp, look, within, tabulate}
-use Rattle.node_maps.specs.Paged.{cell_at, hashes, HoldsTree, marked_cells, row_pages, held_below, held_pages, AreTrimmed}
+use Rattle.node_maps.specs.Room.{page_span}
+use Rattle.node_maps.specs.Paged.{cell_at, hashes, HoldsTree, marked_cells, row_pages, held_below, held_pages, AreTrimmed, AreNotMore, GrowsBy}
 use Rattle.node_maps.specs.Pages.{marks_where, cell_of}
 use Rattle.node_maps.specs.PagedRow.{pages_of, row_hashes}
 use Rattle.node_maps.proofs.Numbers.{contains-marks_where}
@@ -190,3 +192,27 @@ in_rows xs l x e = elim (cases_lt l (length xs)) [ inl low ↦ low | inr past �
 
 pub no_rows-trimmed : (rows : List PagedRow) (top : ℕ) → rows ≡ [] → AreTrimmed rows top
 no_rows-trimmed rows top none = record { full = λ l row low e. absurd (none-some row (sym (ap (λ rs. slice_get rs l) none) ∙ e)) }
+
+-- a layer that gets pages
+held_below-more : (layer more : ℕ) (old new : List PagedRow) → GrowsBy layer more old new → (top : ℕ) → held_below new top ≤ held_below old top + cond (ltb layer top) more 0
+held_below-more layer more old new grows zero = omega arith
+held_below-more layer more old new grows (suc l) = elim (cases_eq l layer) [
+  | inl same ↦ grind (arith, nat_tests, held_below-more layer more old new grows l, subst (λ k. row_pages new k ≤ row_pages old k + more) (sym same) grows.here)
+  | inr other ↦ grind (arith, nat_tests, held_below-more layer more old new grows l, grows.others l other)
+]
+
+pub held-more : (layer more : ℕ) (old new : List PagedRow) → GrowsBy layer more old new → held_pages new ≤ held_pages old + more
+unfolding held_pages
+held-more layer more old new grows = grind (arith, nat_tests, held_below-more layer more old new grows 33)
+
+held_below-fewer : (old new : List PagedRow) → AreNotMore old new → (top : ℕ) → held_below new top ≤ held_below old top
+held_below-fewer old new fewer zero = omega arith
+held_below-fewer old new fewer (suc l) = omega (arith, held_below-fewer old new fewer l, fewer l)
+
+-- rows that are trimmed
+pub held-fewer : (old new : List PagedRow) → AreNotMore old new → held_pages new ≤ held_pages old
+unfolding held_pages
+held-fewer old new fewer = held_below-fewer old new fewer 33
+
+pub page_span-some : (from count : ℕ) → count ≢ 0 → page_span from count ≡ (from + count - 1) / 512 + 1 - from / 512
+page_span-some from count some = cond-false (eqb count 0) 0 ((from + count - 1) / 512 + 1 - from / 512) (ne_eqb count 0 some)

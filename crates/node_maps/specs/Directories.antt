@@ -1,8 +1,9 @@
 -- The pages of a layer, as they are kept.
+use Rattle.std.specs.Prelude.{length}
 use Rattle.node_maps.specs.declared.page_list.PageList.{PageList}
 use Rattle.node_maps.specs.declared.page_lists.PageLists.{PageLists}
 use Rattle.node_maps.specs.Rising.{page_numbered}
-use Rattle.node_maps.specs.Pages.{Numbered, find_under}
+use Rattle.node_maps.specs.Pages.{Numbered, find_under, AreInUse}
 
 -- the pages of a page list
 abbrev pub on_list : PageList → Numbered
@@ -15,3 +16,13 @@ on_lists s = find_under on_list s.numbers.items s.lists.items s.shift
 -- the pages of rows of page lists
 abbrev pub on_rows : PageLists (PageLists PageList) → Numbered
 on_rows s = find_under on_lists s.numbers.items s.lists.items s.shift
+
+-- each of these page lists has a page
+abbrev pub AreListsInUse : PageLists PageList → Type 0
+AreListsInUse s =
+    AreInUse (λ (list : PageList). length list.numbers.items) (λ _. Unit {0}) s.lists.items
+
+-- each of these rows has a page list, and each of its page lists a page
+abbrev pub AreRowsInUse : PageLists (PageLists PageList) → Type 0
+AreRowsInUse s =
+    AreInUse (λ (row : PageLists PageList). length row.numbers.items) AreListsInUse s.lists.items

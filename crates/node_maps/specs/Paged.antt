@@ -73,6 +73,15 @@ KeepPages old new = (l n : ℕ) → IsSome (page_at old l n) → IsSome (page_at
 abbrev pub AreAsMany : List PagedRow → List PagedRow → Type 0
 AreAsMany old new = (l : ℕ) → row_pages new l ≡ row_pages old l
 
+-- no layer has more pages than before
+abbrev pub AreNotMore : List PagedRow → List PagedRow → Type 0
+AreNotMore old new = (l : ℕ) → row_pages new l ≤ row_pages old l
+
+-- a layer has at most so many pages more, and each other as many as before
+pub record GrowsBy (layer more : ℕ) (old new : List PagedRow) : Type 0 where
+  pub here : row_pages new layer ≤ row_pages old layer + more
+  pub others : (l : ℕ) → l ≢ layer → row_pages new l ≡ row_pages old l
+
 -- the layer has the pages from one number on up to another
 abbrev pub HasPages : List PagedRow → ℕ → ℕ → ℕ → Type 0
 HasPages rows layer first end =

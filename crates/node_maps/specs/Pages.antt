@@ -1,6 +1,7 @@
 -- The pages of one layer by their numbers: page p has the places from 512 p on.
 use Rattle.std.specs.Prelude.{◌≡◌, ◌≢◌, ℕ, zero, suc, ◌/◌, ◌%◌, ◌^◌, ◌<◌, Bool, true, false, ◌==◌, if◌then◌else◌, ◌||◌, List, [], ◌∷◌, slice_index_or, Option, Some, None, IsSome, is_some}
 use Rattle.std.specs.FinSet as set
+use Rattle.std.specs.List.{All}
 use Rattle.node_maps.specs.declared.page.Cell.{Cell}
 use Rattle.node_maps.specs.declared.page.Cell.TheVariants.{Empty}
 use Rattle.node_maps.specs.declared.page.Page.{Page}
@@ -21,6 +22,10 @@ page_within find (Some d) n = find d n
 -- the page of a number, in the directory of the number's first bits
 abbrev pub find_under : {D : Type 0} → (D → Numbered) → List ℕ → List D → ℕ → Numbered
 find_under find ns ds shift n = page_within find (page_numbered ns ds (n / 2 ^ shift)) n
+
+-- each directory has an entry, and so has each in it
+abbrev pub AreInUse : {D : Type 0} → (D → ℕ) → (D → Type 0) → List D → Type 0
+AreInUse entries in_use directories = All (λ d. (0 < entries d) × in_use d) directories
 
 -- the cell at a place of a page, if there is one
 abbrev pub cell_of : Option Page → ℕ → Cell

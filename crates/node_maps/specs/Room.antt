@@ -1,5 +1,6 @@
 -- The places of a tree that have room in a node map: a `put` there cannot fail.
-use Rattle.std.specs.Prelude.{ℕ, ◌+◌, ◌<◌, ◌≤◌}
+use Rattle.std.specs.Prelude.{ℕ, ◌+◌, ◌-◌, ◌/◌, ◌<◌, ◌≤◌, ◌==◌, if◌then◌else◌}
+use Rattle.node_maps.specs.Cell.{page_length}
 use Rattle.node_maps.specs.Places.{PartialTree, IsKnown}
 
 -- the places that have room
@@ -17,3 +18,8 @@ HasRoomInRow room layer from count = (i : ℕ) → from ≤ i → i < from + cou
 -- each place at which K has a value has room
 abbrev pub HasRoomFor : PartialTree → Room → Type 0
 HasRoomFor K room = (l i : ℕ) → IsKnown K l i → room l i
+
+-- how many pages have one of `count` places of a layer, from one on
+abbrev pub page_span : ℕ → ℕ → ℕ
+page_span from count =
+    (if count == 0 then 0 else (from + count - 1) / page_length + 1 - from / page_length)

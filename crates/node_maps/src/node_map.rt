@@ -7,7 +7,7 @@ ghost use Rattle.std.specs.FinSet as set;
 ghost use Rattle.node_maps.specs.Places.{tree_height, IsKnown};
 ghost use Rattle.node_maps.specs.Known.{Known, look};
 ghost use Rattle.node_maps.specs.Nodes.{Nodes, no_nodes, with_mark, with_node};
-ghost use Rattle.node_maps.specs.Room.{Room, HasRoomInRow, KeepsRoom};
+ghost use Rattle.node_maps.specs.Room.{Room, HasRoomInRow, KeepsRoom, page_span};
 ghost use Rattle.node_maps.specs.Runs.{AreKnown, hashes_from};
 
 use hashtree::{Hash, NoMemory, Shape};
@@ -57,15 +57,17 @@ pub trait NodeMap: Drop {
         ensures no_memory { vec_capacity out.new ≡ vec_capacity out.old };
 
     /// Makes room for `count` places of a layer, from one on. Content, marks and the room that
-    /// there is stay. A refusal gives back the pages that it made. If there is room already, it
-    /// takes no memory and cannot fail. Conditions: the layer is at most the tree's height, and
-    /// `from + count` is at most the number of its places, 2^(height - layer).
+    /// there is stay. It makes no more pages than have one of these places, and a refusal gives
+    /// back those that it made. If there is room already, it takes no memory and cannot fail.
+    /// Conditions: the layer is at most the tree's height, and `from + count` is at most the number
+    /// of its places, 2^(height - layer).
     fn reserve(&mut self, layer: u32, from: u64, count: u64) -> Result<(), NoMemory>
         requires layer { layer ≤ tree_height (seen self.old).length }
         requires range { from + count ≤ 2 ^ (tree_height (seen self.old).length - layer) }
         ensures seen { seen self.new ≡ seen self.old }
         ensures keeps { KeepsRoom (has_room self.old) (has_room self.new) }
         ensures ok { OnOk result (HasRoomInRow (has_room self.new) layer from count) }
+        ensures few { OnOk result (held self.new ≤ held self.old + page_span from count) }
         ensures refused { OnErr result (held self.new ≡ held self.old) }
         ensures no_memory { HasRoomInRow (has_room self.old) layer from count → IsOk result };
 
@@ -91,7 +93,8 @@ pub trait NodeMap: Drop {
     /// memory.
     fn trim(&mut self)
         ensures seen { seen self.new ≡ seen self.old }
-        ensures held { held self.new ≡ needed (seen self.new).known };
+        ensures held { held self.new ≡ needed (seen self.new).known }
+        ensures few { held self.new ≤ held self.old };
 
     /// How many pages are held. Takes no memory.
     fn pages(&self) -> u64

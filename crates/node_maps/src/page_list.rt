@@ -23,6 +23,10 @@ pub(crate) struct PageList {
 impl Directory for PageList {
     ghost find = { λ s. page_numbered s.numbers.items s.pages.items };
 
+    ghost entries = { λ s. length s.numbers.items };
+
+    ghost in_use = { λ _. Unit {0} };
+
     fn new(alloc: Global, _bits: u32) -> PageList {
         PageList {
             numbers: Vec::new(alloc),

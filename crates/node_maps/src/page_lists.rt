@@ -2,7 +2,7 @@
 
 ghost use Rattle.std.specs.Prelude.{◌≡◌, ◌<◌, length};
 ghost use Rattle.node_maps.specs.Rising.{AreRising};
-ghost use Rattle.node_maps.specs.Pages.{find_under};
+ghost use Rattle.node_maps.specs.Pages.{find_under, AreInUse};
 
 use crate::directory::Directory;
 use crate::page::Page;
@@ -31,6 +31,10 @@ pub(crate) struct PageLists<D: Drop> {
 
 impl<D: Directory> Directory for PageLists<D> {
     ghost find = { λ s. find_under D.find s.numbers.items s.lists.items s.shift };
+
+    ghost entries = { λ s. length s.numbers.items };
+
+    ghost in_use = { λ s. AreInUse D.entries D.in_use s.lists.items };
 
     fn new(alloc: Global, bits: u32) -> PageLists<D> {
         PageLists {

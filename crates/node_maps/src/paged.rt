@@ -8,7 +8,7 @@ ghost use Rattle.node_maps.specs.Cell.{mark_of, page_length, with_hash};
 ghost use Rattle.node_maps.specs.Known.{tabulate, within};
 ghost use Rattle.node_maps.specs.Nodes.{nodes};
 ghost use Rattle.node_maps.specs.Held.{page_count};
-ghost use Rattle.node_maps.specs.Paged.{AreAsMany, AreSamePagedCells, AreSamePagedCellsBut, HasPages, KeepPages, page_at, cell_at, hashes, HasPage, HoldsTree, marked_cells, row_pages, held_below, held_pages, AreTrimmed};
+ghost use Rattle.node_maps.specs.Paged.{AreAsMany, AreNotMore, GrowsBy, AreSamePagedCells, AreSamePagedCellsBut, HasPages, KeepPages, page_at, cell_at, hashes, HasPage, HoldsTree, marked_cells, row_pages, held_below, held_pages, AreTrimmed};
 ghost use Rattle.node_maps.specs.Needed.{needs_few_pages};
 ghost use Rattle.node_maps.specs.Runs.{AreKnown, hashes_from};
 
@@ -178,6 +178,7 @@ fn add_pages(rows: &mut Vec<PagedRow>, layer: usize, first: u64, end: u64) -> Re
     ensures keeps { KeepPages rows.old.items rows.new.items }
     ensures len { vec_len rows.new ≡ vec_len rows.old }
     ensures ok { OnOk result (HasPages rows.new.items layer first end) }
+    ensures few { OnOk result (GrowsBy layer (end - first) rows.old.items rows.new.items) }
     ensures refused { OnErr result (AreAsMany rows.old.items rows.new.items) }
     ensures no_memory { HasPages rows.old.items layer first end → IsOk result }
 {
@@ -190,6 +191,7 @@ fn trim_rows(rows: &mut Vec<PagedRow>)
     ensures cells { AreSamePagedCells rows.old.items rows.new.items }
     ensures len { vec_len rows.new ≡ vec_len rows.old }
     ensures trimmed { AreTrimmed rows.new.items (vec_len rows.new) }
+    ensures few { AreNotMore rows.old.items rows.new.items }
 {
     'rows: for layer in 0..rows.len() {
         let row = &mut rows[layer];

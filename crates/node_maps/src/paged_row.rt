@@ -1,10 +1,10 @@
 //! The pages of one layer, found by their numbers.
 
-ghost use Rattle.std.specs.Prelude.{◌≡◌, ◌≢◌, ℕ, ◌+◌, ◌/◌, ◌%◌, ◌^◌, ◌<◌, ◌≤◌, ◌++◌, ◌↔◌, [], Some, None, List, length, option_map, IsSome, IsOk, IsTrue, OnOk, OnErr, vec_len};
+ghost use Rattle.std.specs.Prelude.{◌≡◌, ◌≢◌, ℕ, ◌+◌, ◌-◌, ◌/◌, ◌%◌, ◌^◌, ◌<◌, ◌≤◌, ◌++◌, ◌↔◌, [], Some, None, List, length, option_map, IsSome, IsOk, IsTrue, OnOk, OnErr, vec_len};
 ghost use Rattle.std.specs.Vec.{vec_capacity};
 ghost use Rattle.node_maps.specs.Cell.{page_length, with_hash};
 ghost use Rattle.node_maps.specs.Pages.{Numbered, is_spare, AreAlike, AreSpare, AreCounted};
-ghost use Rattle.node_maps.specs.Directories.{on_rows};
+ghost use Rattle.node_maps.specs.Directories.{on_rows, AreRowsInUse};
 ghost use Rattle.node_maps.specs.Growth.{IsGrown, IsGrownByOne};
 ghost use Rattle.node_maps.specs.Runs.{AreKnown, hashes_from};
 
@@ -19,7 +19,7 @@ use std::alloc::Global;
 const NUMBER_BITS: u32 = 24;
 
 /// The pages of one layer. Page p holds the places from 512 p on. Pages that hold nothing are among
-/// the fresh ones.
+/// the fresh ones. No list is kept without a page.
 #[derive(Drop)]
 pub(crate) struct PagedRow {
     alloc: Global,
@@ -28,6 +28,7 @@ pub(crate) struct PagedRow {
     count: u64,
     ghost counted: { AreCounted (on_rows pages) count },
     ghost spare: { AreSpare (on_rows pages) fresh.items },
+    ghost in_use: { AreRowsInUse pages },
 }
 
 impl PagedRow {
@@ -133,6 +134,7 @@ impl PagedRow {
         ensures cells { AreSameRowCells self.old self.new }
         ensures keeps { KeepsRowPages self.old self.new }
         ensures ok { OnOk result (HasRowPages self.new first end) }
+        ensures few { OnOk result (self.new.count ≤ self.old.count + (end - first)) }
         ensures err { OnErr result (self.new.count ≡ self.old.count) }
         ensures no_memory { HasRowPages self.old first end → IsOk result }
     {
@@ -155,6 +157,7 @@ impl PagedRow {
         ensures grown { IsGrownByOne (pages_of self.old) self.old.fresh.items self.old.count
             (pages_of self.new) self.new.fresh.items self.new.count }
         ensures ok { OnOk result (HasRowPage self.new number) }
+        ensures few { self.new.count ≤ self.old.count + 1 }
         ensures no_memory { HasRowPage self.old number → IsOk result }
     {
         if self.pages.page(number).is_some() {
@@ -173,6 +176,7 @@ impl PagedRow {
     pub(crate) fn trim(&mut self)
         ensures cells { AreSameRowCells self.old self.new }
         ensures full { AreSpare (pages_of self.new) [] }
+        ensures few { self.new.count ≤ self.old.count }
     {
         self.give_back(0);
     }
@@ -182,6 +186,7 @@ impl PagedRow {
     fn give_back(&mut self, before: usize)
         ensures cells { AreSameRowCells self.old self.new }
         ensures fresh { length self.new.fresh.items ≤ before }
+        ensures few { self.new.count ≤ self.old.count }
         ensures restored { (base : Numbered) (fresh : List ℕ) (count : ℕ) → length fresh ≡ before
             → IsGrown base fresh count (pages_of self.old) self.old.fresh.items self.old.count
             → AreAlike base (pages_of self.new) × (self.new.count ≡ count) }

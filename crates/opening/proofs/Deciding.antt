@@ -49,7 +49,7 @@ pub moved : (P Q : Type 0) → (P → Q) → (Q → P) → Decided P → Decided
 moved P Q to from (inl p) = inl (to p)
 moved P Q to from (inr never) = inr (λ q. never (from q))
 
-last_or_before : (k n : ℕ) → k < suc n → (k < n) ⊎ (k ≡ n)
+pub last_or_before : (k n : ℕ) → k < suc n → (k < n) ⊎ (k ≡ n)
 last_or_before k n lt = grind arith
 
 -- some number below a bound has a property

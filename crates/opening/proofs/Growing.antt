@@ -1,12 +1,14 @@
 -- Where memory is taken.
-use Rattle.std.proofs.Common.{◌≡◌, ℕ, ◌≤◌, List, [], ◌∷◌, length, Result, Ok, Err, IfErr, inl, inr}
+use Rattle.std.proofs.Common.{◌≡◌, ℕ, ◌≤◌, List, [], ◌∷◌, length, Result, Ok, Err, IfErr, inl, inr, subst}
 use Rattle.benc.specs.Spelling.{Spells}
-use Rattle.benc.specs.Value.{Bencode}
+use Rattle.benc.specs.Value.{Bencode, Pairs}
 use Rattle.filetree.specs.Tests.{First, NoneHolds, TestRow}
+use Rattle.filetree.specs.TreeTests.{shape_rows, tree_rows}
+use Rattle.filetree.proofs.Tables.{none_both}
 use Rattle.filetree.specs.declared.refusal.Refusal.{Refusal}
 use Rattle.filetree.specs.declared.refusal.Refusal.TheVariants as refusals
 use Rattle.opening.specs.Description.{Description}
-use Rattle.opening.specs.Refusals.{OpeningTakesMemory, all_key_rows, max_torrent}
+use Rattle.opening.specs.Refusals.{OpeningTakesMemory, all_key_rows, file_tree_in, max_torrent, plain_rows}
 
 -- an answer that no row has is not told
 abbrev NoRow : List TestRow → Refusal → Type 0
@@ -22,8 +24,16 @@ pub keys_take_none : (v : Bencode) → First (all_key_rows v) refusals.NoMemory 
 keys_take_none v told = never (all_key_rows v) refusals.NoMemory
     ((λ e. cc), ((λ e. cc), ((λ e. cc), ((λ e. cc), ((λ e. cc), ((λ e. cc), ((λ e. cc), ((λ e. cc), ((λ e. cc), ((λ e. cc), ((λ e. cc), ((λ e. cc), ((λ e. cc), ((λ e. cc), tt)))))))))))))) told
 
--- what is refused behind the keys is refused of a value for which none of their tests holds
-pub wants_memory : (b : List ℕ) (v : Bencode) → length b ≤ max_torrent → Spells v b → (result : Result Description Refusal) → IfErr result (λ r. r ≡ refusals.NoMemory → NoneHolds (all_key_rows v))
+-- the tests of the keys, and of the shape and the paths of this file tree
+pub plain_pass : (v : Bencode) (tree : Pairs) → NoneHolds (all_key_rows v) → tree ≡ file_tree_in v → NoneHolds (shape_rows tree) → NoneHolds (plain_rows v)
+plain_pass v tree keys is rows = none_both (all_key_rows v) (shape_rows (file_tree_in v)) keys (subst (λ t. NoneHolds (shape_rows t)) is rows)
+
+-- the same of a file tree for which no test of its files holds either
+pub plain_passed : (v : Bencode) (tree : Pairs) → NoneHolds (all_key_rows v) → tree ≡ file_tree_in v → NoneHolds (tree_rows tree) → NoneHolds (plain_rows v)
+plain_passed v tree keys is rows = plain_pass v tree keys is (rows.0, (rows.1.0, tt))
+
+-- what is refused out of memory is a value for which none of the tests without memory holds
+pub wants_memory : (b : List ℕ) (v : Bencode) → length b ≤ max_torrent → Spells v b → (result : Result Description Refusal) → IfErr result (λ r. r ≡ refusals.NoMemory → NoneHolds (plain_rows v))
     → IfErr result (λ r. r ≡ refusals.NoMemory → OpeningTakesMemory b)
 wants_memory b v small spelled (Ok t) told = told
 wants_memory b v small spelled (Err r) told = λ memory. record { small = small; where_taken = inr (v, spelled, told memory) }

@@ -1,5 +1,6 @@
 -- Lemmas on torrents.
 pub mod Deciding
+pub mod FirstUse
 pub mod Growing
 pub mod Aligned
 pub mod Answering

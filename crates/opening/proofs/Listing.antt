@@ -49,7 +49,7 @@ sum_entries p ts first (suc k) (f ∷ fs) =
     ∙ ap (λ n. pieces_of p f.length + n) (sum_entries p ts (first + pieces_of p f.length) k fs)
     ∙ sym (sum_by-cons (λ (g : ListedFile). pieces_of p g.length) f (take k fs))
 
-sum_all : (p : ℕ) (ts : List Root) (first : ℕ) (fs : List ListedFile) → sum_by (λ (g : FileEntry). pieces_of p g.length) (entries_from p ts first fs) ≡ pieces_in p fs
+pub sum_all : (p : ℕ) (ts : List Root) (first : ℕ) (fs : List ListedFile) → sum_by (λ (g : FileEntry). pieces_of p g.length) (entries_from p ts first fs) ≡ pieces_in p fs
 sum_all p ts first [] = refl
 sum_all p ts first (f ∷ fs) =
     sum_by-cons (λ (g : FileEntry). pieces_of p g.length) (entry ts first f) (entries_from p ts (first + pieces_of p f.length) fs)

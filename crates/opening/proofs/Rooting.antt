@@ -155,7 +155,7 @@ fold_push : (ts : List Root) (fs : List ListedFile) (f : ListedFile) → fold wi
 fold_push ts [] f = refl
 fold_push ts (g ∷ fs) f = fold_push (with_file ts g) fs f
 
-some_or_none : (o : Option ℕ) → ((n : ℕ) × (o ≡ Some n)) ⊎ (o ≡ None)
+pub some_or_none : (o : Option ℕ) → ((n : ℕ) × (o ≡ Some n)) ⊎ (o ≡ None)
 some_or_none None = inr refl
 some_or_none (Some n) = inl (n, refl)
 

@@ -1,5 +1,5 @@
 -- What sessions stand on, of the files and trees for which no test holds.
-use Rattle.std.proofs.Common.{◌≡◌, ℕ, zero, suc, ◌+◌, ◌*◌, ◌^◌, ◌<◌, ◌≤◌, Bool, true, false, not, nat_lt, nat_le, is_none, List, [], ◌∷◌, ◌++◌, length, take, drop, map, Option, Some, None, option_map, inl, inr, ◌⊎◌, refl, sym, ap, subst, ◌∙◌, arith, slice_get, codes}
+use Rattle.std.proofs.Common.{◌≡◌, ℕ, zero, suc, ◌+◌, ◌*◌, ◌^◌, ◌<◌, ◌≤◌, Bool, true, false, not, nat_lt, nat_le, is_none, List, [], ◌∷◌, ◌++◌, length, take, drop, map, Option, Some, None, option_map, inl, inr, ◌⊎◌, refl, sym, ap, subst, ◌∙◌, arith, slice_get, sum_by, codes}
 use Rattle.std.specs.Prelude.{fold, option_and_then, unwrap_or, if◌then◌else◌, pos, negsuc}
 use Rattle.std.specs.List.{list_any}
 use Rattle.std.specs.Simd.{first_chunks}
@@ -30,8 +30,8 @@ use Rattle.opening.specs.Stream.{IsVersion1, is_hybrid, parts_in, stream_length,
 use Rattle.opening.specs.Trees.{IsIn, pieces_in, place_in, roots_in, with_file, with_root}
 use Rattle.opening.specs.declared.roots.Root.{Root}
 use Rattle.pieces.specs.Pieces.{pieces_of}
-use Rattle.opening.proofs.InStream.{hybrid_in_stream}
-use Rattle.opening.proofs.Listing.{are_files, entries_back, laid_out}
+use Rattle.opening.proofs.InStream.{hybrid_in_pieces, hybrid_in_stream}
+use Rattle.opening.proofs.Listing.{are_files, entries_back, laid_out, sum_all}
 use Rattle.opening.proofs.Rooting.{place_push_new, place_push_there, with_cases}
 
 -- ---- files
@@ -118,7 +118,7 @@ all_sized ws none f there =
 abbrev ArePlaced : List Root → Type 0
 ArePlaced ts = (n : ℕ) (t : Root) → slice_get ts n ≡ Some t → place_in ts t.root ≡ Some n
 
-push_at : {A : Type 0} (xs : List A) (y : A) (n : ℕ) (x : A) → slice_get (xs ++ y ∷ []) n ≡ Some x → (slice_get xs n ≡ Some x) ⊎ ((y ≡ x) × (length xs ≡ n))
+pub push_at : {A : Type 0} (xs : List A) (y : A) (n : ℕ) (x : A) → slice_get (xs ++ y ∷ []) n ≡ Some x → (slice_get xs n ≡ Some x) ⊎ ((y ≡ x) × (length xs ≡ n))
 push_at [] y zero x at = let same : y ≡ x = cc in inr (same, refl)
 push_at [] y (suc n) x at = cc
 push_at (z ∷ xs) y zero x at = inl at
@@ -147,7 +147,7 @@ none_placed n t at = cc
 roots_placed : (fs : List ListedFile) → ArePlaced (roots_in fs)
 roots_placed fs = placed_fold [] fs none_placed
 
-tree_there : (k : ℕ) (layers : Pairs) (ts : List Root) (n : ℕ) (e : TreeEntry) → slice_get (map (tree_at k layers) ts) n ≡ Some e → (t : Root) × (slice_get ts n ≡ Some t) × (tree_at k layers t ≡ e)
+pub tree_there : (k : ℕ) (layers : Pairs) (ts : List Root) (n : ℕ) (e : TreeEntry) → slice_get (map (tree_at k layers) ts) n ≡ Some e → (t : Root) × (slice_get ts n ≡ Some t) × (tree_at k layers t ≡ e)
 tree_there k layers [] n e at = cc
 tree_there k layers (t ∷ ts) zero e at = let same : tree_at k layers t ≡ e = cc in (t, refl, same)
 tree_there k layers (t ∷ ts) (suc n) e at = tree_there k layers ts n e at
@@ -303,7 +303,7 @@ a_tree : (ts : List Root) (o : Option (List ℕ)) (n : ℕ) → option_and_then 
 a_tree ts None n is = cc
 a_tree ts (Some s) n is = (s, refl, is)
 
-tree_of : (k : ℕ) (layers : Pairs) (ts : List Root) (n : ℕ) (t : Root) → slice_get ts n ≡ Some t → slice_get (map (tree_at k layers) ts) n ≡ Some (tree_at k layers t)
+pub tree_of : (k : ℕ) (layers : Pairs) (ts : List Root) (n : ℕ) (t : Root) → slice_get ts n ≡ Some t → slice_get (map (tree_at k layers) ts) n ≡ Some (tree_at k layers t)
 tree_of k layers ts n t there = slice_get-map (tree_at k layers) ts n ∙ ap (option_map (tree_at k layers)) there
 
 pub sound_files : (k : ℕ) (layers : Pairs) (fs : List ListedFile) (t : Description) → ArePaths fs → t.trees ≡ map (tree_at k layers) (roots_in fs) → ((f : ListedFile) → IsIn fs f → IsSized f) → AreRoots fs (roots_in fs)
@@ -365,6 +365,8 @@ sound k info name layers fs t legal length_is paths some sizes roots pieces file
   cuts = λ v is. subst (λ p. length v.pieces ≡ pieces_of p v.total) (sym length_is) (cuts_of k info name fs v hybrid (subst (IsVersion1 k info name) is version));
   in_stream = λ v n f is at some. subst (λ p. f.first_piece * p + f.length ≤ v.total) (sym length_is)
       (hybrid_in_stream k info name fs t.files v hybrid (subst (IsVersion1 k info name) is version) (are_files k fs t.files files) n f at some);
+  in_pieces = λ v is. subst (λ p. v.total ≤ sum_by (λ (f : FileEntry). pieces_of p f.length) t.files * p) (sym length_is)
+      (subst (λ n. v.total ≤ n * k) (sym (ap (sum_by (λ (f : FileEntry). pieces_of k f.length)) files ∙ sum_all k (roots_in fs) 0 fs)) (hybrid_in_pieces k info name fs v hybrid (subst (IsVersion1 k info name) is version)));
 }
   where
     in_trees : (n : ℕ) (e : TreeEntry) → slice_get t.trees n ≡ Some e → slice_get (map (tree_at k layers) (roots_in fs)) n ≡ Some e

@@ -2,8 +2,9 @@
 use Rattle.std.specs.Prelude.{◌≡◌, ◌⊎◌, ◌↔◌, ℕ, List, Some}
 use Rattle.opening.specs.Describes.{Describes}
 use Rattle.opening.specs.Description.{Description}
+use Rattle.opening.specs.FirstUse.{AreTreesOf}
 use Rattle.opening.specs.Places.{IsBlockPlace, place_of}
-use Rattle.opening.specs.Refusals.{RefusesTorrent}
+use Rattle.opening.specs.Refusals.{RefusesTorrent, files_of}
 use Rattle.opening.specs.Sound.{IsSound}
 use Rattle.filetree.specs.declared.refusal.Refusal.{Refusal}
 
@@ -29,3 +30,10 @@ TorrentOrRefusal =
 abbrev pub PlaceIsBlockPlace : Type 0
 PlaceIsBlockPlace = (t : Description) (index begin f b : ℕ) → IsSound t
     → (place_of t index begin ≡ Some (f, b)) ↔ IsBlockPlace t index begin f b
+
+-- the trees of a torrent are the distinct roots of its files that are not empty, in the order of
+-- first use, each with the length of its files; each such file has the tree of its root, and an
+-- empty file has none
+abbrev pub TreesAreRoots : Type 0
+TreesAreRoots = (b : List ℕ) (t : Description) → (d : Describes b t)
+    → AreTreesOf (files_of d.value) t

@@ -2,6 +2,7 @@
 pub mod Blocks
 pub mod Description
 pub mod Describes
+pub mod FirstUse
 pub mod Laws
 pub mod Layered
 pub mod Matching

@@ -14,6 +14,7 @@ use Rattle.opening.specs.Seen.{file_entry, tree_entry}
 use Rattle.opening.specs.Steps.{pairs_seen}
 use Rattle.opening.specs.Trees.{pieces_in, roots_in}
 use Rattle.opening.specs.declared.info.Keys.{Keys}
+use Rattle.opening.specs.declared.roots.Root.{Root}
 use Rattle.opening.specs.declared.open.Contents.{Contents}
 
 -- the tests of the files together, and of their layers
@@ -30,7 +31,14 @@ pub record AreKeys (v : Bencode) (k : Keys) : Type 0 where
   pub layers : pairs_seen k.layers ≡ layers_in v
   pub piece_length : number_in (int k.piece_length) ≡ piece_length_in v
 
--- the files and trees, and the numbers of the trees by their roots
+-- the files and trees over these roots, and the numbers of the trees by their roots
+pub record AreFilledIn (piece_length : ℕ) (layers : Pairs) (fs : List ListedFile) (ts : List Root)
+    (c : Contents) : Type 0 where
+  pub files : map file_entry c.files.items ≡ entries_from piece_length ts 0 fs
+  pub trees : map tree_entry c.trees.items ≡ map (tree_at piece_length layers) ts
+  pub numbers : AreNumbers c.numbers ts
+
+-- the same over the roots of the files
 pub record AreContents (piece_length : ℕ) (layers : Pairs) (fs : List ListedFile) (c : Contents)
     : Type 0 where
   pub files : map file_entry c.files.items ≡ entries_from piece_length (roots_in fs) 0 fs

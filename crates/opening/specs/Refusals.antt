@@ -145,6 +145,10 @@ abbrev pub all_key_rows : Bencode → List TestRow
 all_key_rows v = top_rows v
     ++ (told_rows (info_in v) ++ (layers_rows v ++ piece_length_rows (piece_length_in v)))
 
+-- the tests that take no memory: those of the keys, and of the shape and the paths of the file tree
+abbrev pub plain_rows : Bencode → List TestRow
+plain_rows v = all_key_rows v ++ shape_rows (file_tree_in v)
+
 abbrev pub count_rows : ℕ → List ListedFile → List TestRow
 count_rows piece_length fs =
     record { holds = IsReused fs; answer = refusals.RootReused }
@@ -222,8 +226,8 @@ RefusesTorrent b r = ((max_torrent < length b) × (r ≡ refusals.TooLarge))
     ⊎ ((v : Bencode) × Spells v b × First (table v) r)))
 
 -- opening these bytes may take memory: they are not too many, and decoding comes to a list or a
--- dictionary that has to grow, or no test of a key holds
+-- dictionary that has to grow, or no test of the keys, of the shape and of the paths holds
 pub record OpeningTakesMemory (b : List ℕ) : Type 0 where
   pub small : length b ≤ max_torrent
   pub where_taken : ((offset : ℕ) × benc.Opens b offset)
-      ⊎ ((v : Bencode) × Spells v b × NoneHolds (all_key_rows v))
+      ⊎ ((v : Bencode) × Spells v b × NoneHolds (plain_rows v))

@@ -1,5 +1,5 @@
 -- What holds of each opened torrent, and what sessions stand on.
-use Rattle.std.specs.Prelude.{◌≡◌, ◌≢◌, ℕ, ◌+◌, ◌*◌, ◌^◌, ◌<◌, ◌≤◌, List, [], length, map, Some, None, slice_get}
+use Rattle.std.specs.Prelude.{◌≡◌, ◌≢◌, ℕ, ◌+◌, ◌*◌, ◌^◌, ◌<◌, ◌≤◌, List, [], length, map, sum_by, Some, None, slice_get}
 use Rattle.hashtree.specs.Tree.{block_count, height}
 use Rattle.filetree.specs.Paths.{AreInOrder, IsFilePath}
 use Rattle.pieces.specs.Pieces.{IsPieceLength, pieces_of}
@@ -41,3 +41,7 @@ pub record IsSound (t : Description) : Type 0 where
   pub in_stream : (v : Version1) (n : ℕ) (f : FileEntry) → t.v1 ≡ Some v
       → slice_get t.files n ≡ Some f
       → 0 < f.length → f.first_piece * t.piece_length + f.length ≤ v.total
+  -- the version 1 stream ends with the last piece of the files at the latest
+  pub in_pieces : (v : Version1) → t.v1 ≡ Some v
+      → v.total
+      ≤ sum_by (λ (f : FileEntry). pieces_of t.piece_length f.length) t.files * t.piece_length

@@ -1,6 +1,6 @@
 //! What holds of each torrent file. A function that calls one of these knows its law.
 
-ghost use Rattle.opening.specs.Laws.{TorrentIsOne, TorrentIsNotRefused, PlaceIsBlockPlace, RefusalIsOne, TorrentOrRefusal};
+ghost use Rattle.opening.specs.Laws.{TorrentIsOne, TorrentIsNotRefused, PlaceIsBlockPlace, RefusalIsOne, TreesAreRoots, TorrentOrRefusal};
 
 use benc::laws::{
     fault_is_one, no_spelling_begins_another, spelling_has_no_fault, spells_or_fails,
@@ -40,4 +40,11 @@ pub fn torrent_or_refusal()
 /// In a torrent the place that `place_of` computes is the file and block that stand there.
 pub fn place_is_block_place()
     ensures { PlaceIsBlockPlace }
+{}
+
+/// The trees of a torrent are the distinct roots of its files that are not empty, in the order of
+/// first use, each with the length of its files. Each such file has the tree of its root, and an
+/// empty file has none.
+pub fn trees_are_roots()
+    ensures { TreesAreRoots }
 {}

@@ -1,9 +1,9 @@
 //! The tests of the piece layers, and the trees with their layers (BEP 52, "piece layers").
 
-ghost use Rattle.std.specs.Prelude.{◌≡◌, ◌<◌, ◌≤◌, ◌^◌, All, length, map};
+ghost use Rattle.std.specs.Prelude.{◌≡◌, ◌<◌, ◌≤◌, ◌^◌, All, IfOk, length, map};
 ghost use Rattle.std.specs.List.{list_any};
 ghost use Rattle.std.specs.Str.{bytes_eq};
-ghost use Rattle.filetree.specs.Tests.{Passes, Tests, GivesUnlessNoMemory};
+ghost use Rattle.filetree.specs.Tests.{Passes, Tests};
 ghost use Rattle.opening.specs.Layered.{layer_pairs};
 ghost use Rattle.opening.specs.PieceLayers.{lacks_layer, lacks_size, leads_to, mismatches, tree_at};
 ghost use Rattle.opening.specs.Refusals.{layer_rows};
@@ -16,7 +16,7 @@ use crate::torrent::TreeInfo;
 use filetree::Refusal;
 use hashtree::{Hash, Shape, layer_root};
 use pieces::PieceLength;
-use std::alloc::Global;
+use std::alloc::{AllocError, Global};
 
 /// Tests the layers: each that is needed is there, has its size, and leads to its root.
 pub(crate) fn test(
@@ -85,7 +85,7 @@ fn test_layer_roots(
     Ok(())
 }
 
-// Tells whether a tree needs a layer, and has one that leads to another root.
+// Whether a tree needs a layer, and has one that leads to another root.
 fn mismatches(tree: &Root, layers: &Layers<'_, '_>, piece_length: PieceLength) -> bool
     requires { tree.now.length ≤ 2 ^ 46 }
     ensures { result ≡ mismatches piece_length (layer_pairs layers.now) tree.now }
@@ -99,7 +99,7 @@ fn mismatches(tree: &Root, layers: &Layers<'_, '_>, piece_length: PieceLength) -
     }
 }
 
-// Tells whether the tree over a layer has the tree's root.
+// Whether the tree over a layer has the tree's root.
 fn leads(tree: &Root, hashes: &[Hash], piece_length: PieceLength) -> bool
     requires longer { piece_length < tree.now.length }
     requires bound { tree.now.length ≤ 2 ^ 46 }
@@ -122,8 +122,8 @@ pub(crate) fn infos<'a>(
     trees: &[Root],
     layers: &Layers<'_, 'a>,
     piece_length: PieceLength,
-) -> Result<Vec<TreeInfo<'a>>, Refusal>
-    ensures { GivesUnlessNoMemory result
+) -> Result<Vec<TreeInfo<'a>>, AllocError>
+    ensures { IfOk result
         (λ ts. map tree_entry ts.items
         ≡ map (tree_at piece_length (layer_pairs layers.now)) trees.now) }
 {

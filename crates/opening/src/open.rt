@@ -1,7 +1,7 @@
 //! Opening a torrent file: its tests in their order, and the torrent that it describes (BEP 52,
 //! "metainfo files").
 
-ghost use Rattle.std.specs.Prelude.{◌≡◌, ◌≢◌, ◌≤◌, ◌^◌, Some, IfErr, IfOk, MatchResult, codes};
+ghost use Rattle.std.specs.Prelude.{◌≡◌, ◌≢◌, ◌≤◌, ◌^◌, Some, All, ◌<◌, IfErr, IfOk, MatchResult, codes};
 ghost use Rattle.sha2.specs.Sha256.{sha256};
 ghost use Rattle.benc.specs.Text.{IsCanonical, spelling};
 ghost use Rattle.benc.specs.Value.{Bencode};
@@ -12,15 +12,15 @@ ghost use Rattle.filetree.specs.Tests.{NoneHolds, PassesUnlessNoMemory};
 ghost use Rattle.filetree.specs.declared.files.ListedFile.{ListedFile};
 ghost use Rattle.opening.specs.Describes.{Describes, IsDescribed};
 ghost use Rattle.opening.specs.Layered.{layer_pairs};
-ghost use Rattle.opening.specs.Opening.{AreContents, content_rows};
-ghost use Rattle.opening.specs.Refusals.{RefusesTorrent, OpeningTakesMemory, all_key_rows, table};
-ghost use Rattle.opening.specs.Trees.{IsIn};
+ghost use Rattle.opening.specs.Opening.{AreContents, AreFilledIn, content_rows};
+ghost use Rattle.opening.specs.Refusals.{RefusesTorrent, OpeningTakesMemory, layer_rows, plain_rows, table};
+ghost use Rattle.opening.specs.Trees.{IsIn, pieces_in};
 
 use crate::info::{self, Keys, read_keys};
 use crate::laws::{refusal_is_one, torrent_is_not_refused, torrent_is_one};
 use crate::layer_tests;
 use crate::layers::Layers;
-use crate::roots::{place_files, roots_of};
+use crate::roots::{Roots, place_files, roots_of};
 use crate::torrent::{File, Torrent, TreeInfo};
 use crate::version1::version1;
 use benc::laws::spelling_is_of_canonical;
@@ -52,7 +52,7 @@ impl<'a> Torrent<'a> {
     ///
     /// # Errors
     ///
-    /// The first test that holds is told, and `NoMemory` comes only if memory was refused.
+    /// The first test that holds is answered. `NoMemory` comes only out of memory.
     pub fn open(alloc: Global, input: &'a [u8]) -> Result<Torrent<'a>, Refusal>
         ensures described { IfOk result (λ t. Describes input.now t) }
         ensures refused { IfErr result (λ r. r ≢ Refusal.NoMemory → RefusesTorrent input.now r) }
@@ -62,8 +62,9 @@ impl<'a> Torrent<'a> {
         // Bytes that are refused are refused with that answer.
         ensures first { (r : Refusal) → RefusesTorrent input.now r
             → MatchResult result (λ _. ⊥) (λ s. s ≢ Refusal.NoMemory → s ≡ r) }
-        // Out of memory is possible only for bytes within the limit that hold a list or dictionary
-        // with an item.
+        // Out of memory is possible only for bytes within the limit, and then only where decoding
+        // comes to a list or dictionary with an item, or where no test of the keys, of the shape
+        // and of the paths holds.
         ensures memory { IfErr result (λ r. r ≡ Refusal.NoMemory → OpeningTakesMemory input.now) }
     {
         torrent_is_one();
@@ -94,6 +95,24 @@ fn read_contents<'a>(
         (AreContents piece_length (layer_pairs layers.now) listed.entry.items) result }
 {
     let roots = roots_of(alloc, &listed, piece_length)?;
+    with_layers(alloc, listed, roots, layers, piece_length)
+}
+
+// The files, and the trees with their layers, once these pass their tests.
+fn with_layers<'a>(
+    alloc: Global,
+    listed: Vec<ListedFile<'a>>,
+    roots: Roots,
+    layers: &Layers<'_, 'a>,
+    piece_length: PieceLength,
+) -> Result<Contents<'a>, Refusal>
+    requires bound { All (λ t. t.length ≤ 2 ^ 46) roots }
+    requires pieces { pieces_in piece_length listed.items < 2 ^ 32 }
+    ensures passes { PassesUnlessNoMemory (layer_rows piece_length (layer_pairs layers.now) roots)
+        (AreFilledIn piece_length (layer_pairs layers.now) listed.entry.items roots) result }
+    ensures memory { IfErr result (λ r. r ≡ Refusal.NoMemory
+        → NoneHolds (layer_rows piece_length (layer_pairs layers.now) roots)) }
+{
     layer_tests::test(roots.as_slice(), layers, piece_length)?;
     let trees = layer_tests::infos(alloc, roots.as_slice(), layers, piece_length)?;
     let files = place_files(alloc, listed, &roots, piece_length)?;
@@ -112,7 +131,7 @@ fn read<'a>(alloc: Global, top: &Value<'a>, info_bytes: &[u8]) -> Result<Torrent
     ensures passes { PassesUnlessNoMemory (table (view top.now))
         (IsDescribed (view top.now)) result }
     ensures memory { IfErr result
-        (λ r. r ≡ Refusal.NoMemory → NoneHolds (all_key_rows (view top.now))) }
+        (λ r. r ≡ Refusal.NoMemory → NoneHolds (plain_rows (view top.now))) }
 {
     let Keys {
         info,

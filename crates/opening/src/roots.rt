@@ -1,7 +1,7 @@
 //! The trees of a torrent: the distinct roots of its files (BEP 52, "pieces root").
 
-ghost use Rattle.std.specs.Prelude.{◌≡◌, ◌≢◌, ◌<◌, ◌^◌, [], map, Some, MatchResult, OnOk, nat_le};
-ghost use Rattle.filetree.specs.Tests.{PassesUnlessNoMemory, Tests, GivesUnlessNoMemory};
+ghost use Rattle.std.specs.Prelude.{◌≡◌, ◌≢◌, ◌<◌, ◌^◌, [], map, Some, MatchResult, IfErr, IfOk, OnOk, nat_le};
+ghost use Rattle.filetree.specs.Tests.{PassesUnlessNoMemory, Tests};
 ghost use Rattle.opening.specs.Refusals.{count_rows};
 ghost use Rattle.opening.specs.Rooted.{AreNumbers, AreRoots, AreTrees, IsRootAt, IsRootRefused};
 ghost use Rattle.opening.specs.Trees.{entries_from};
@@ -12,7 +12,7 @@ use crate::torrent::File;
 use filetree::{ListedFile, Refusal};
 use hashtree::Hash;
 use pieces::{MAX_PIECES, PieceLength};
-use std::alloc::Global;
+use std::alloc::{AllocError, Global};
 use std::collections::BTreeMap;
 use std::marker::Model;
 
@@ -107,13 +107,14 @@ pub(crate) fn roots_of(
     files: &[ListedFile<'_>],
     piece_length: PieceLength,
 ) -> Result<Roots, Refusal>
-    ensures { PassesUnlessNoMemory (count_rows piece_length files.now)
+    ensures passes { PassesUnlessNoMemory (count_rows piece_length files.now)
         (AreTrees piece_length files.now) result }
+    ensures memory { IfErr result (λ r. r ≡ Refusal.NoMemory → files.now ≢ []) }
 {
-    let roots = distinct(alloc, files)?;
     if files.is_empty() {
         return Err(Refusal::NoFiles);
     }
+    let roots = distinct(alloc, files)?;
     test_pieces(files, piece_length)?;
     Ok(roots)
 }
@@ -124,9 +125,9 @@ pub(crate) fn place_files<'a>(
     listed: Vec<ListedFile<'a>>,
     roots: &Roots,
     piece_length: PieceLength,
-) -> Result<Vec<File<'a>>, Refusal>
+) -> Result<Vec<File<'a>>, AllocError>
     requires { pieces_in piece_length listed.items < 2 ^ 32 }
-    ensures { GivesUnlessNoMemory result
+    ensures { IfOk result
         (λ fs. map file_entry fs.items ≡ entries_from piece_length roots.now 0 listed.entry.items) }
 {
     let mut files = Vec::with_capacity(alloc, listed.len())?;

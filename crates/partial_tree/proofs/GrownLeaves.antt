@@ -58,9 +58,9 @@ leaves-more K K' n h put =
     ∙ ap (λ o. leaves_in K n ++ unwrap_or o pad_leaf ∷ []) (ap (look K' 0) (zero-more n) ∙ ap (λ m. look m 0 n) put ∙ look-insert_same K 0 n h)
 
 -- one leaf more
-pub growing-more : (K K' : Known) (n : ℕ) (h : Hash) → IsGrowing n K → length h ≡ 32 → K' ≡ insert K (0, n) h → len K' ≡ len K + 1 → IsGrowing (n + 1) K'
-growing-more K K' n h is size put more = record {
-  hashes = subst AreHashes (sym (leaves-more K K' n h put)) (All-push IsHash (leaves_in K n) h is.hashes (record { size = size }));
+pub growing-more : (K K' : Known) (n : ℕ) (h : Hash) → IsGrowing n K → IsHash h → K' ≡ insert K (0, n) h → len K' ≡ len K + 1 → IsGrowing (n + 1) K'
+growing-more K K' n h is hash put more = record {
+  hashes = subst AreHashes (sym (leaves-more K K' n h put)) (All-push IsHash (leaves_in K n) h is.hashes hash);
   leaves_known = λ j low. known j low (cases_eq j n);
   none_else = λ l i other. ap (λ m. look m l i) put ∙ look-insert_other K 0 n h l i (apart l i other) ∙ is.none_else l i (wider l i other);
   counted = omega (arith, more, is.counted);

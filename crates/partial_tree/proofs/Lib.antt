@@ -11,6 +11,7 @@ pub mod Answers
 pub mod Gaps
 pub mod Wanted
 pub mod Rows
+pub mod MessagePages
 pub mod Deciding
 pub mod WholeLayers
 pub mod Over
@@ -23,7 +24,9 @@ pub mod Ranges
 pub mod Messages
 pub mod Counting
 pub mod Layers
+pub mod Planted
 pub mod Keeping
 pub mod AddedRows
 pub mod GrownLeaves
 pub mod Adopted
+pub mod Trusted

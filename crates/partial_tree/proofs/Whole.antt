@@ -3,6 +3,7 @@ use Rattle.std.proofs.Common.{◌≡◌, ℕ, zero, suc, ◌+◌, ◌-◌, ◌*�
 use Rattle.std.proofs.lemmas.Option.{cond_some}
 use Rattle.std.proofs.lemmas.Bool.{cases_lt, and_parts, and_from, leb-true, ltb-true, le-leb, lt-ltb, cond-true}
 use Rattle.std.proofs.lemmas.List.{length-replicate, drop-take, get_or-take}
+use Rattle.std.proofs.lemmas.List.Elements.{All-replicate}
 use Rattle.partial_tree.specs.TreeRoot.{TreeRoot, Fits}
 use Rattle.node_maps.specs.Places.{tree_height, IsTreePlace}
 use Rattle.node_maps.specs.Digest.{Hash, IsHash, join}
@@ -26,7 +27,7 @@ whole-inside f l i v e =
     ((leb-true _ _ tests.0, ltb-true _ _ tests.1), both.1)
 
 pub pad-is_hash : IsHash pad_leaf
-pad-is_hash = record { size = length-replicate {A = ℕ} 32 0 }
+pad-is_hash = record { size = length-replicate {A = ℕ} 32 0; bytes = All-replicate (λ b. b < 256) 32 0 (omega arith) }
 
 -- each node is a hash
 pub node-is_hash : (f : List ℕ) (l i : ℕ) → IsTreePlace (tree_height (length f)) l i → IsHash (node f l i)

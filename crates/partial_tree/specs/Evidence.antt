@@ -10,6 +10,7 @@ use Rattle.partial_tree.specs.declared.refusal.HashRefusal.TheVariants.{Mismatch
 use Rattle.node_maps.specs.Digest.{Hash}
 use Rattle.node_maps.specs.Places.{PartialTree, IsKnown, IsTreePlace}
 use Rattle.node_maps.specs.Known.{Known, look}
+use Rattle.partial_tree.specs.MessagePages.{row_height_of, row_first_of, pages_up_to}
 use Rattle.partial_tree.specs.Claims.{given, claims, joined, HasNew, IsAgreed, IsMismatch}
 
 -- the fields are small
@@ -53,11 +54,15 @@ pub record IsClaimedPlace (h : ℕ) (e : Evidence) (layer index : ℕ) : Type 0 
 
 -- how far above a layer stands the node under which all claims of that layer lie
 abbrev pub row_height : Evidence → ℕ → ℕ
-row_height e l = 1 + (e.base + e.span - suc l)
+row_height e l = row_height_of e.base e.span l
 
 -- the first place of the layer under that node, of 2 ^ row_height many
 abbrev pub row_first : Evidence → ℕ → ℕ
-row_first e l = e.index / 2 ^ (l - e.base) / 2 ^ row_height e l * 2 ^ row_height e l
+row_first e l = row_first_of e.base e.index e.span l
+
+-- how many pages have the places of these rows, below the layer `top` and with the top itself
+abbrev pub claimed_pages : Evidence → ℕ → ℕ
+claimed_pages e top = pages_up_to e.base e.index e.span top
 
 -- the place stands over the whole base range, which begins at a multiple of its length
 pub record IsOver (e : Evidence) (layer index : ℕ) : Type 0 where

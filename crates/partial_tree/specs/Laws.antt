@@ -1,9 +1,9 @@
 -- The laws of partial trees.
-use Rattle.std.specs.Prelude.{◌≡◌, ℕ, ◌+◌, ◌-◌, ◌/◌, ◌<◌, ◌≤◌, ◌⊎◌, List, None, Some}
+use Rattle.std.specs.Prelude.{◌≡◌, ℕ, ◌+◌, ◌-◌, ◌/◌, ◌<◌, ◌≤◌, ◌⊎◌, Bool, List, None, Some}
 use Rattle.sha2.specs.Sha256.{sha256}
 use Rattle.wire.specs.declared.message.Ask.{Ask as Asked}
 use Rattle.partial_tree.specs.TreeRoot.{TreeRoot as Tree, Fits}
-use Rattle.node_maps.specs.Digest.{Hash}
+use Rattle.node_maps.specs.Digest.{Hash, AreBytes}
 use Rattle.hashtree.specs.Tree.{block, block_count}
 use Rattle.node_maps.specs.Places.{tree_height, PartialTree, IsKnown, IsTreePlace}
 use Rattle.partial_tree.specs.Closed.{IsClosed, Keeps, Collision, BlockCollision, whole}
@@ -11,6 +11,7 @@ use Rattle.partial_tree.specs.Claims.{AreHashes, claims, joined, top_layer, top_
 use Rattle.partial_tree.specs.declared.refusal.HashRefusal.{HashRefusal as Refusal}
 use Rattle.partial_tree.specs.Fill.{fill_claims, IsFillAccepted}
 use Rattle.partial_tree.specs.Gaps.{gaps, window, want_ask}
+use Rattle.partial_tree.specs.Trust.{Passes, HasNoCollision, AreJoinsOf, AreInputsOf}
 
 -- the whole tree of a file that fits a tree is closed
 abbrev pub WholeIsClosed : Type 0
@@ -101,3 +102,29 @@ abbrev pub MessageIsAcceptedOrRefused : Type 0
 MessageIsAcceptedOrRefused = (t : Tree) (K : PartialTree) (ask : Asked) (hashes : List Hash)
     → ((l i : ℕ) (v : Hash) → K l i ≡ Some v → IsTreePlace (tree_height t.length) l i)
     → IsAccepted t.length K ask hashes ⊎ ((r : Refusal) × Refuses t.length K ask hashes r)
+
+-- ---- to one who trusts SHA-256
+
+-- no collision of two trees is named, if no two different inputs that pass a test have one digest,
+-- and each two siblings of either tree, joined, pass
+abbrev pub TrustedTreesNameNone : Type 0
+TrustedTreesNameNone = (test : List ℕ → Bool) (J K : PartialTree) → HasNoCollision (Passes test)
+    → AreJoinsOf (Passes test) J → AreJoinsOf (Passes test) K → ¬ Collision J K
+
+-- none of a block of a file and other bytes is named, if both pass such a test
+abbrev pub TrustedBlockNamesNone : Type 0
+TrustedBlockNamesNone = (test : List ℕ → Bool) (f : List ℕ) (i : ℕ) (b : List ℕ)
+    → HasNoCollision (Passes test) → Passes test (block f i) → Passes test b
+    → ¬ BlockCollision f i b
+
+-- each two known siblings of a closed tree, joined, are bytes, and so an input of SHA-256
+abbrev pub ClosedTreesJoinBytes : Type 0
+ClosedTreesJoinBytes = (t : Tree) (K : PartialTree) → IsClosed t K → AreJoinsOf AreBytes K
+
+-- so are each two siblings of the whole tree of a file
+abbrev pub WholeTreesJoinBytes : Type 0
+WholeTreesJoinBytes = (f : List ℕ) → AreJoinsOf AreBytes (whole f)
+
+-- and all that is hashed for a file of bytes
+abbrev pub FilesOfBytesGiveBytes : Type 0
+FilesOfBytesGiveBytes = (f : List ℕ) → AreBytes f → AreInputsOf AreBytes f

@@ -7,8 +7,10 @@ pub mod Gaps
 pub mod Grown
 pub mod Answers
 pub mod Joins
+pub mod MessagePages
 pub mod Evidence
 pub mod Kept
 pub mod Codes
 pub mod Names
+pub mod Trust
 pub mod Laws

@@ -1,4 +1,4 @@
--- The numbers and names of refusals, as they are printed.
+-- The numbers, names and texts of refusals, as they are printed.
 use Rattle.std.specs.Prelude.{ℕ, List, codes}
 use Rattle.partial_tree.specs.declared.refusal.HashRefusal.{HashRefusal}
 use Rattle.partial_tree.specs.declared.refusal.HashRefusal.TheVariants.{UnknownRoot, BadRange, BadCount, BadPad, Unanchored, Mismatch, NoMemory, Unasked}
@@ -40,3 +40,21 @@ block_refusal_name BadPlace = codes "BadPlace"
 block_refusal_name BadSize = codes "BadSize"
 block_refusal_name Unproved = codes "Unproved"
 block_refusal_name BadBlock = codes "BadBlock"
+
+-- what `{}` prints of a refusal of hashes
+abbrev pub hash_refusal_text : HashRefusal → List ℕ
+hash_refusal_text UnknownRoot = codes "no tree of the torrent has this root"
+hash_refusal_text BadRange = codes "the hashes are for no range of the tree"
+hash_refusal_text BadCount = codes "the number of hashes is wrong"
+hash_refusal_text BadPad = codes "a hash past the end of the file is not the one over pads"
+hash_refusal_text Unanchored = codes "the hashes lead to no known node"
+hash_refusal_text Mismatch = codes "a hash differs from a known one"
+hash_refusal_text NoMemory = codes "out of memory"
+hash_refusal_text Unasked = codes "nobody asked for the hashes"
+
+-- what `{}` prints of a refusal of a block
+abbrev pub block_refusal_text : BlockRefusal → List ℕ
+block_refusal_text BadPlace = codes "there is no block at this place"
+block_refusal_text BadSize = codes "the block has another size"
+block_refusal_text Unproved = codes "the hash of the block is not known yet"
+block_refusal_text BadBlock = codes "the block has another hash"

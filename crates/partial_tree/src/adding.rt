@@ -1,14 +1,16 @@
 //! The rows of a tree that grows: its leaves, the pads after them, and the parents above.
 
-ghost use Rattle.std.specs.Prelude.{◌≡◌, ℕ, suc, ◌+◌, ◌-◌, ◌*◌, ◌^◌, ◌<◌, ◌≤◌, Some, None, OnOk, OnErr, length};
+ghost use Rattle.std.specs.Prelude.{◌≡◌, ℕ, suc, ◌+◌, ◌-◌, ◌*◌, ◌^◌, ◌<◌, ◌≤◌, Some, None, OnOk, OnErr};
 ghost use Rattle.std.specs.FinMap as finite;
 ghost use Rattle.hashtree.specs.Tree.{pad_leaf};
+ghost use Rattle.node_maps.specs.Digest.{IsHash};
 ghost use Rattle.node_maps.specs.Known.{look};
 ghost use Rattle.node_maps.specs.Nodes.{KeepsMarks, with_node};
 ghost use Rattle.node_maps.specs.Places.{tree_height, IsTreePlace};
 ghost use Rattle.node_maps.specs.Runs.{AreKnown};
 ghost use Rattle.partial_tree.specs.Grown.{AddsRow, parents_of};
 
+use crate::bytes::is_hash;
 use hashtree::{Hash, NoMemory, parent, zero};
 use node_maps::NodeMap;
 
@@ -22,11 +24,12 @@ pub(crate) fn add<N: NodeMap>(
     requires place { IsTreePlace (tree_height (N.seen map.old).length) layer index }
     requires absent { look (N.seen map.old).known layer index ≡ None }
     ensures added { OnOk result (N.seen map.new ≡ with_node (N.seen map.old) layer index hash) }
-    ensures hash { length hash ≡ 32 }
+    ensures hash { IsHash hash }
     ensures one { OnOk result
         (finite.len (N.seen map.new).known ≡ finite.len (N.seen map.old).known + 1) }
     ensures refused { OnErr result (N.seen map.new ≡ N.seen map.old) }
 {
+    is_hash(&hash);
     map.reserve(layer, index, 1)?;
     map.put(layer, index, hash);
     Ok(())

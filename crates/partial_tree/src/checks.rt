@@ -4,7 +4,7 @@ ghost use Rattle.std.specs.Prelude.{◌≡◌, ◌≢◌, ℕ, ◌+◌, ◌-◌,
 ghost use Rattle.wire.specs.declared.message.Ask.{Ask as Asked};
 ghost use Rattle.partial_tree.specs.declared.refusal.HashRefusal.TheVariants.{BadRange, BadCount};
 ghost use Rattle.hashtree.specs.Tree.{zero_hash};
-ghost use Rattle.partial_tree.specs.Claims.{AreHashes, most_span, sibling, top_layer, GoodRange, GoodCount};
+ghost use Rattle.partial_tree.specs.Claims.{most_span, sibling, top_layer, GoodRange, GoodCount};
 
 use crate::evidence::sibling;
 use crate::limits::MOST_SPAN;
@@ -12,11 +12,6 @@ use crate::pads::Pads;
 use crate::refusal::HashRefusal;
 use hashtree::Hash;
 use wire::Ask;
-
-/// Each hash has 32 bytes, as its type says.
-pub fn are_hashes(hashes: &[Hash])
-    ensures { AreHashes hashes.now }
-{}
 
 /// The span of a base range that lies in a tree of this height, at a multiple of its length.
 pub(crate) fn check_range(height: u32, ask: &Ask) -> Result<u32, HashRefusal>

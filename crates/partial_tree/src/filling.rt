@@ -1,9 +1,10 @@
 //! Taking a whole layer, given without the pads at its end.
 
-ghost use Rattle.std.specs.Prelude.{◌≡◌, ◌≤◌, OnErr, IfOk, IfErr};
-ghost use Rattle.node_maps.specs.Places.{tree_height};
+ghost use Rattle.std.specs.Prelude.{◌≡◌, ℕ, suc, ◌*◌, ◌<◌, ◌≤◌, OnErr, IfOk, IfErr};
+ghost use Rattle.node_maps.specs.Places.{tree_height, IsKnown};
 ghost use Rattle.node_maps.specs.Known.{look};
 ghost use Rattle.node_maps.specs.Nodes.{KeepsMarks};
+ghost use Rattle.partial_tree.specs.Claims.{HasNew};
 ghost use Rattle.partial_tree.specs.Fill.{fill_claims, FillRefuses, IsFillAccepted};
 ghost use Rattle.partial_tree.specs.Joins.{Joins, TakesLayer};
 
@@ -14,7 +15,7 @@ use hashtree::{Hash, NoMemory, Shape, zero};
 use node_maps::NodeMap;
 use std::alloc::Global;
 
-/// Takes a whole layer into the nodes of a tree, and tells how many places are newly known.
+/// Takes a whole layer into the nodes of a tree, and returns how many places are newly known.
 pub(crate) fn fill_layer<N: NodeMap>(
     alloc: Global,
     shape: Shape,
@@ -51,8 +52,8 @@ pub(crate) fn fill_layer<N: NodeMap>(
     store(alloc, nodes, &evidence, height, 0)
 }
 
-/// Takes a whole layer that is accepted into the nodes of a tree, and tells how many places are
-/// newly known. Each digest is computed once.
+/// Takes a whole layer that is accepted into the nodes of a tree, and returns how many places are
+/// newly known. Each digest is computed once, and none if the layer is known.
 pub(crate) fn plant_layer<N: NodeMap>(
     shape: Shape,
     height: u32,
@@ -64,13 +65,21 @@ pub(crate) fn plant_layer<N: NodeMap>(
     requires height { height ≡ tree_height shape }
     requires low { height ≤ 32 }
     requires accepted { IsFillAccepted shape (look (N.seen nodes.old).known) layer hashes.now }
+    requires upward { (l i : ℕ) → l < height
+        → IsKnown (look (N.seen nodes.old).known) l (2 * i)
+        → IsKnown (look (N.seen nodes.old).known) (suc l) i }
     requires trimmed { N.held nodes.old ≡ N.needed (N.seen nodes.old).known }
     ensures stays { KeepsMarks (N.seen nodes.old) (N.seen nodes.new) }
     ensures trimmed { N.held nodes.new ≡ N.needed (N.seen nodes.new).known }
     ensures planted { IfOk result (λ c. Joins (fill_claims shape layer hashes.now)
         (N.seen nodes.old).known (N.seen nodes.new).known c) }
     ensures refused { OnErr result (N.seen nodes.new ≡ N.seen nodes.old) }
+    ensures no_memory { OnErr result
+        (HasNew (look (N.seen nodes.old).known) (fill_claims shape layer hashes.now)) }
 {
+    if nodes.knows(layer, 0, 1 << (height - layer)) {
+        return Ok(0);
+    }
     let evidence = Evidence {
         base: layer,
         index: 0,

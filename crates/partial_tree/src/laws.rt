@@ -1,6 +1,7 @@
 //! The laws of partial trees, each as the contract of a function that does nothing.
 
-ghost use Rattle.partial_tree.specs.Laws.{WholeIsClosed, ClosedTreesAgree, KnownLeafNamesBlock, JoinedStaysClosed, JoinedKeeps, FilledStaysClosed, TrueMessageIsAccepted, AnswerIsAccepted, GapsNeverRise, GapsAreAtMostWindows, NoGapMeansAllKnown, AllKnownMeansNoGap, AnswerClosesOneGap, AnswerLeavesFewerGaps, MessageIsAcceptedOrRefused};
+ghost use Rattle.partial_tree.specs.MessagePages.{MessageNeedsFewPages};
+ghost use Rattle.partial_tree.specs.Laws.{WholeIsClosed, ClosedTreesAgree, KnownLeafNamesBlock, JoinedStaysClosed, JoinedKeeps, FilledStaysClosed, TrueMessageIsAccepted, AnswerIsAccepted, GapsNeverRise, GapsAreAtMostWindows, NoGapMeansAllKnown, AllKnownMeansNoGap, AnswerClosesOneGap, AnswerLeavesFewerGaps, MessageIsAcceptedOrRefused, TrustedTreesNameNone, TrustedBlockNamesNone, ClosedTreesJoinBytes, WholeTreesJoinBytes, FilesOfBytesGiveBytes};
 
 /// The whole tree of a file that fits a tree is closed.
 pub fn whole_is_closed()
@@ -60,4 +61,21 @@ pub fn answer_closes_gap()
 /// Each message is accepted, or refused by the first refusal that holds of it.
 pub fn message_is_accepted_or_refused()
     ensures { MessageIsAcceptedOrRefused }
+{}
+
+/// The places of which a hashes message claims something, and those beside them that room is made
+/// for before it is stored, lie on at most 59 pages.
+pub fn message_needs_few_pages()
+    ensures { MessageNeedsFewPages }
+{}
+
+/// Trees and blocks name no collision, for every test on inputs within which no two different ones
+/// have one digest, if what is hashed for them passes it. What is hashed for closed trees, and for
+/// files of bytes, is bytes: a collision of them would be one of real inputs of SHA-256.
+pub fn trusted_digests_name_no_collision()
+    ensures trees { TrustedTreesNameNone }
+    ensures block { TrustedBlockNamesNone }
+    ensures closed { ClosedTreesJoinBytes }
+    ensures whole { WholeTreesJoinBytes }
+    ensures files { FilesOfBytesGiveBytes }
 {}

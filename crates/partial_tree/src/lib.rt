@@ -6,6 +6,7 @@ mod adding;
 mod adopting;
 mod answer;
 mod answering;
+mod bytes;
 mod checks;
 mod comparing;
 mod evidence;
@@ -22,7 +23,7 @@ mod tree;
 mod writing;
 
 pub use answer::Answer;
-pub use checks::are_hashes;
+pub use bytes::{are_bytes, are_hashes, is_hash};
 pub use growing::{GrowingTree, GrownTree};
 pub use hashtree::NoMemory;
 pub use refusal::{BlockRefusal, HashRefusal};

@@ -1,14 +1,14 @@
 //! Storing what hashes claim: all of it is compared first, then room is made, and only then is it
 //! written.
 
-ghost use Rattle.std.specs.Prelude.{◌≡◌, ◌⊎◌, ℕ, ◌≤◌, OnOk, OnErr, IfOk, IfErr};
+ghost use Rattle.std.specs.Prelude.{◌≡◌, ◌⊎◌, ℕ, ◌+◌, ◌≤◌, OnOk, OnErr, IfOk, IfErr};
 ghost use Rattle.node_maps.specs.Places.{tree_height, IsTreePlace};
 ghost use Rattle.node_maps.specs.Known.{look};
 ghost use Rattle.node_maps.specs.Nodes.{KeepsMarks};
 ghost use Rattle.node_maps.specs.Room.{HasRoomFor};
 ghost use Rattle.partial_tree.specs.Claims.{IsAgreed};
 ghost use Rattle.partial_tree.specs.Joins.{Joins};
-ghost use Rattle.partial_tree.specs.Evidence.{claimed_by, LeadsTo, IsInside, AreClaims, AllHandled, StoreFault};
+ghost use Rattle.partial_tree.specs.Evidence.{claimed_by, claimed_pages, LeadsTo, IsInside, AreClaims, AllHandled, StoreFault};
 
 use crate::comparing::trace;
 use crate::evidence::Evidence;
@@ -24,9 +24,9 @@ use std::alloc::Global;
 // mebibyte.
 const MOST_LISTED: usize = 2 * MOST_ASKED + 2 * MAX_HEIGHT;
 
-/// Stores what the evidence claims, which leads to the place, and tells how many places are newly
-/// known. What is new is listed while it is compared, up to what the longest message claims; more
-/// is computed once more to be written. Room that was made and not used is given back.
+/// Stores what the evidence claims, which leads to the place, and returns how many places are
+/// newly known. What is new is listed while it is compared, up to what the longest message claims;
+/// more is computed once more to be written. Room that was made and not used is given back.
 pub(crate) fn store<N: NodeMap>(
     alloc: Global,
     map: &mut N,
@@ -41,6 +41,7 @@ pub(crate) fn store<N: NodeMap>(
     requires trimmed { N.held map.old ≡ N.needed (N.seen map.old).known }
     ensures stays { KeepsMarks (N.seen map.old) (N.seen map.new) }
     ensures trimmed { N.held map.new ≡ N.needed (N.seen map.new).known }
+    ensures few { OnOk result (N.held map.new ≤ N.held map.old + claimed_pages evidence.now layer) }
     ensures stored { IfOk result (λ c. Joins (claimed_by evidence.now) (N.seen map.old).known
         (N.seen map.new).known c) }
     ensures refused { IfErr result (λ r. StoreFault (look (N.seen map.old).known)
@@ -64,7 +65,7 @@ pub(crate) fn store<N: NodeMap>(
 }
 
 /// Stores what the evidence claims, which leads to the place and differs nowhere from what is
-/// known, and tells how many places are newly known. Each digest is computed once, and nothing is
+/// known, and returns how many places are newly known. Each digest is computed once, and nothing is
 /// listed. Room that was made and not used is given back.
 pub(crate) fn store_agreed<N: NodeMap>(
     map: &mut N,
@@ -93,8 +94,8 @@ pub(crate) fn store_agreed<N: NodeMap>(
     Ok(gained)
 }
 
-// Writes what was found new, or all that the evidence claims if the list is incomplete, and tells
-// how many places are newly known.
+// Writes what was found new, or all that the evidence claims if the list is incomplete, and
+// returns how many places are newly known.
 fn put_found<N: NodeMap>(
     map: &mut N,
     evidence: &Evidence,
@@ -111,6 +112,7 @@ fn put_found<N: NodeMap>(
     requires handled { AllHandled (claimed_by evidence.now) (look (N.seen map.old).known) found.now
         layer index }
     ensures stays { KeepsMarks (N.seen map.old) (N.seen map.new) }
+    ensures held { N.held map.new ≡ N.held map.old }
     ensures stored { Joins (claimed_by evidence.now) (N.seen map.old).known (N.seen map.new).known
         result }
 {
@@ -128,7 +130,8 @@ fn room_for(evidence: &Evidence) -> usize
     if most <= MOST_LISTED { most } else { 0 }
 }
 
-// Makes room for all that the evidence claims, which leads to the place: for each layer in one go.
+// Makes room for all that the evidence claims, which leads to the place: for each layer in one go,
+// and on no page that has no place of these rows.
 fn reserve_claimed<N: NodeMap>(
     map: &mut N,
     evidence: &Evidence,
@@ -141,6 +144,7 @@ fn reserve_claimed<N: NodeMap>(
     requires leads { LeadsTo evidence.now layer index }
     ensures seen { N.seen map.new ≡ N.seen map.old }
     ensures ok { OnOk result (HasRoomFor (claimed_by evidence.now) (N.has_room map.new)) }
+    ensures few { OnOk result (N.held map.new ≤ N.held map.old + claimed_pages evidence.now layer) }
 {
     'rows: for below in evidence.base..layer {
         let (first, count) = evidence.row(below);

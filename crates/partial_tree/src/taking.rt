@@ -1,12 +1,13 @@
 //! Taking a hashes message: its tests in order, and then what it claims (BEP 52, "hashes").
 
-ghost use Rattle.std.specs.Prelude.{◌≡◌, ℕ, ◌+◌, ◌-◌, ◌/◌, ◌^◌, ◌<◌, ◌≤◌, IfOk, IfErr, length};
+ghost use Rattle.std.specs.Prelude.{◌≡◌, ℕ, ◌+◌, ◌-◌, ◌/◌, ◌^◌, ◌<◌, ◌≤◌, OnOk, IfOk, IfErr, length};
 ghost use Rattle.std.specs.Bool.{OnTrue, OnFalse};
 ghost use Rattle.node_maps.specs.Places.{tree_height, IsKnown, IsTreePlace};
 ghost use Rattle.partial_tree.specs.Claims.{most_span, IsBadPad, ArePadsRight, GoodRange, GoodCount, TreeRefuses};
 ghost use Rattle.node_maps.specs.Known.{look};
 ghost use Rattle.node_maps.specs.Nodes.{KeepsMarks};
 ghost use Rattle.partial_tree.specs.Joins.{TakesHashes};
+ghost use Rattle.partial_tree.specs.MessagePages.{most_pages};
 
 use crate::checks::{base_pads_fit, check_count, check_range, uncle_pads_fit};
 use crate::evidence::Evidence;
@@ -18,7 +19,7 @@ use node_maps::NodeMap;
 use std::alloc::Global;
 use wire::Ask;
 
-/// Takes a hashes message into the nodes of a tree, and tells how many places are newly known.
+/// Takes a hashes message into the nodes of a tree, and returns how many places are newly known.
 pub(crate) fn take_message<N: NodeMap>(
     alloc: Global,
     shape: Shape,
@@ -35,6 +36,7 @@ pub(crate) fn take_message<N: NodeMap>(
     requires trimmed { N.held nodes.old ≡ N.needed (N.seen nodes.old).known }
     ensures stays { KeepsMarks (N.seen nodes.old) (N.seen nodes.new) }
     ensures trimmed { N.held nodes.new ≡ N.needed (N.seen nodes.new).known }
+    ensures few { OnOk result (N.held nodes.new ≤ N.held nodes.old + most_pages) }
     ensures taken { IfOk result (λ c. TakesHashes shape ask.now hashes.now
         (N.seen nodes.old).known c (N.seen nodes.new).known) }
     ensures refused { IfErr result (λ r.

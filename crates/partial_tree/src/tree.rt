@@ -13,22 +13,25 @@
 //!     0      a   b   .   .        a, b   known together, and nothing below d
 //! ```
 
-ghost use Rattle.std.specs.Prelude.{◌≡◌, ◌+◌, ◌<◌, ◌≤◌, ◌↔◌, IfOk, IfErr, OnErr, IsTrue};
+ghost use Rattle.std.specs.Prelude.{◌≡◌, ◌+◌, ◌<◌, ◌≤◌, ◌↔◌, IfOk, IfErr, OnOk, OnErr, IsTrue};
 ghost use Rattle.std.specs.FinMap as finite;
 ghost use Rattle.std.specs.FinSet as set;
 ghost use Rattle.hashtree.specs.Tree.{block_count};
 ghost use Rattle.node_maps.specs.Places.{IsKnown};
 ghost use Rattle.partial_tree.specs.declared.refusal.HashRefusal.TheVariants.{Mismatch};
 ghost use Rattle.partial_tree.specs.Gaps.{want_of};
+ghost use Rattle.partial_tree.specs.MessagePages.{most_pages};
 ghost use Rattle.node_maps.specs.Known.{look};
 ghost use Rattle.node_maps.specs.Nodes.{with_mark};
+ghost use Rattle.partial_tree.specs.Claims.{HasNew};
 ghost use Rattle.partial_tree.specs.Fill.{fill_claims, IsFillAccepted};
 ghost use Rattle.partial_tree.specs.Kept.{info_of, root_only, IsGoodTree, TreeJoins, TreeTakesHashes, TreeRefusesHashes, TreeTakesLayer, TreeRefusesLayer, TreeMarks, TreeRefusesBlock, TreeCanAnswer, TreeAnswers};
 
 use crate::adopting::{agree, carry_marks};
 use crate::answer::Answer;
 use crate::answering::answer_hashes;
-use crate::checks::{are_hashes, check_range};
+use crate::bytes::are_hashes;
+use crate::checks::check_range;
 use crate::filling::{fill_layer, plant_layer};
 use crate::growing::GrownTree;
 use crate::limits::MOST_WANTED;
@@ -113,12 +116,14 @@ impl<N: NodeMap> Tree<N> {
     }
 
     /// Takes a hashes message that names this tree's root. Returns how many places are newly known.
-    /// A refusal leaves the tree unchanged; it is out of memory only if a place is new. Condition:
-    /// the tree is good.
+    /// A refusal leaves the tree unchanged; it is out of memory only if a place is new. At most 59
+    /// pages are added. Condition: the tree is good.
     pub fn take(&mut self, ask: &Ask, hashes: &[Hash]) -> Result<u64, HashRefusal>
         requires { IsGoodTree self.old }
         ensures taken { IfOk result
             (λ c. TreeTakesHashes self.old ask.now hashes.now c self.new) }
+        ensures few { OnOk result
+            (N.needed self.new.state.known ≤ N.needed self.old.state.known + most_pages) }
         ensures refused { IfErr result (λ r. TreeRefusesHashes self.old ask.now hashes.now r
             × (self.new ≡ self.old)) }
     {
@@ -158,9 +163,10 @@ impl<N: NodeMap> Tree<N> {
     }
 
     /// Takes a whole layer that would be accepted. Returns how many places are newly known. Nothing
-    /// has to be compared, and each digest is computed once. Fails only if memory was refused; the
-    /// tree is then unchanged. Conditions: the tree is good, the layer is one of its own, given
-    /// without the pads at its end, and what follows from it differs nowhere from what is known.
+    /// has to be compared, and each digest is computed once. Fails only if memory was refused and a
+    /// place is new; the tree is then unchanged. Conditions: the tree is good, the layer is one of
+    /// its own, given without the pads at its end, and what follows from it differs nowhere from
+    /// what is known.
     pub fn plant(&mut self, layer: u32, hashes: &[Hash]) -> Result<u64, NoMemory>
         requires good { IsGoodTree self.old }
         requires accepted { IsFillAccepted self.old.length (look self.old.state.known) layer
@@ -168,6 +174,8 @@ impl<N: NodeMap> Tree<N> {
         ensures planted { IfOk result (λ c. TreeJoins
             (fill_claims self.old.length layer hashes.now) self.old c self.new) }
         ensures refused { OnErr result (self.new ≡ self.old) }
+        ensures no_memory { OnErr result (HasNew (look self.old.state.known)
+            (fill_claims self.old.length layer hashes.now)) }
     {
         are_hashes(hashes);
         let gained = plant_layer(self.shape, self.height, &mut self.nodes, layer, hashes)?;
@@ -275,7 +283,7 @@ impl<N: NodeMap> Tree<N> {
     }
 }
 
-// Marks a known leaf, and tells how many more are marked.
+// Marks a known leaf, and returns how many more are marked.
 fn mark_leaf<N: NodeMap>(nodes: &mut N, block: u64) -> u64
     requires { IsKnown (look (N.seen nodes.old).known) 0 block }
     ensures seen { N.seen nodes.new ≡ with_mark (N.seen nodes.old) block }

@@ -16,8 +16,8 @@ use crate::found::Claim;
 use hashtree::{Hash, parent};
 use node_maps::NodeMap;
 
-/// Writes the claims from a place down that are not known, and tells the place's hash and how many
-/// are new.
+/// Writes the claims from a place down that are not known, and returns the place's hash and how
+/// many are new.
 #[cycle(write)]
 pub(crate) fn write_claimed<N: NodeMap>(
     map: &mut N,
@@ -30,6 +30,7 @@ pub(crate) fn write_claimed<N: NodeMap>(
     ensures value { claimed_by evidence.now layer index ≡ Some result.0 }
     ensures stays { KeepsMarks (N.seen map.old) (N.seen map.new) }
     ensures keeps { KeepsRoom (N.has_room map.old) (N.has_room map.new) }
+    ensures held { N.held map.new ≡ N.held map.old }
     ensures written { IsWritten (claimed_by evidence.now) layer index (look (N.seen map.old).known)
         (look (N.seen map.new).known) }
     ensures gained { finite.len (N.seen map.new).known
@@ -41,10 +42,11 @@ pub(crate) fn write_claimed<N: NodeMap>(
     (hash, below + here)
 }
 
-/// Sets the hashes of claims at places that are not known, and tells how many are new.
+/// Sets the hashes of claims at places that are not known, and returns how many are new.
 pub(crate) fn put_new<N: NodeMap>(map: &mut N, claims: &[Claim]) -> u64
     requires { All (λ (c : Claimed). N.has_room map.old c.layer c.index) claims.now }
     ensures stays { KeepsMarks (N.seen map.old) (N.seen map.new) }
+    ensures held { N.held map.new ≡ N.held map.old }
     ensures known { (N.seen map.new).known ≡ insert_new (N.seen map.old).known claims.now }
     ensures gained { finite.len (N.seen map.new).known
         ≡ finite.len (N.seen map.old).known + result }
@@ -56,8 +58,8 @@ pub(crate) fn put_new<N: NodeMap>(map: &mut N, claims: &[Claim]) -> u64
     gained
 }
 
-// Writes the claims below a place that are not known, and tells the place's hash and how many are
-// new.
+// Writes the claims below a place that are not known, and returns the place's hash and how many
+// are new.
 #[cycle(write)]
 fn write_below<N: NodeMap>(map: &mut N, evidence: &Evidence, layer: u32, index: u64) -> (Hash, u64)
     requires at { IsClaimedPlace (tree_height (N.seen map.old).length) evidence.now layer index }
@@ -65,6 +67,7 @@ fn write_below<N: NodeMap>(map: &mut N, evidence: &Evidence, layer: u32, index: 
     ensures value { claimed_by evidence.now layer index ≡ Some result.0 }
     ensures stays { KeepsMarks (N.seen map.old) (N.seen map.new) }
     ensures keeps { KeepsRoom (N.has_room map.old) (N.has_room map.new) }
+    ensures held { N.held map.new ≡ N.held map.old }
     ensures written { IsWrittenBelow (claimed_by evidence.now) layer index
         (look (N.seen map.old).known) (look (N.seen map.new).known) }
     ensures gained { finite.len (N.seen map.new).known
@@ -81,10 +84,11 @@ fn write_below<N: NodeMap>(map: &mut N, evidence: &Evidence, layer: u32, index: 
     }
 }
 
-// Sets the hash of a claim, unless its place is known, and tells how many places are new.
+// Sets the hash of a claim, unless its place is known, and returns how many places are new.
 fn put_absent<N: NodeMap>(map: &mut N, claim: &Claim) -> u64
     requires { N.has_room map.old claim.now.layer claim.now.index }
     ensures stays { KeepsMarks (N.seen map.old) (N.seen map.new) }
+    ensures held { N.held map.new ≡ N.held map.old }
     ensures known { (N.seen map.new).known ≡ with_new (N.seen map.old).known claim.now }
     ensures gained { finite.len (N.seen map.new).known
         ≡ finite.len (N.seen map.old).known + result }

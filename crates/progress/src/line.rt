@@ -36,48 +36,68 @@ impl Figures {
         self.read.saturating_mul(1000) / milliseconds.max(1)
     }
 
-    // The figures by themselves.
+    // All figures.
     fn text(&self) -> Text {
-        let mut text = Text::new();
+        let mut text = self.first_text();
         let rate = self.rate();
         let _ = match self.all {
-            None => write!(text, "{}, {}/s", Amount(self.done), Amount(rate)),
-            Some(all) => write!(
-                text,
-                "{} of {}, {}/s, {} left",
-                Amount(self.done),
-                Amount(all),
-                Amount(rate),
-                Span(all.saturating_sub(self.done) / rate.max(1))
-            ),
+            None => write!(text, ", {}/s", Amount(rate)),
+            Some(_) => write!(text, ", {}/s, {} left", Amount(rate), self.left()),
         };
         text
     }
 
-    // The first of them.
+    // The same without the rate, if the time that is left says it too.
     fn short_text(&self) -> Text {
+        let mut text = self.first_text();
+        if self.all.is_some() {
+            let _ = write!(text, ", {} left", self.left());
+        }
+        text
+    }
+
+    // What is done, of all if that is known.
+    fn first_text(&self) -> Text {
+        let mut text = self.done_text();
+        if let Some(all) = self.all {
+            let _ = write!(text, " of {}", Amount(all));
+        }
+        text
+    }
+
+    // What is done.
+    fn done_text(&self) -> Text {
         let mut text = Text::new();
         let _ = write!(text, "{}", Amount(self.done));
         text
     }
+
+    // The time that is left at this rate.
+    fn left(&self) -> Span {
+        let all = self.all.unwrap_or(self.done);
+        Span(all.saturating_sub(self.done) / self.rate().max(1))
+    }
 }
 
 /// The line with these figures and the name of the file at hand, which loses its start if it is too
-/// long. In few columns it has the figures alone, in fewer the first of them, and then nothing.
+/// long. In few columns it lacks first the name, then the rate, and then all but what is done.
 pub(crate) fn line_of(figures: &Figures, name: &str, columns: usize) -> Text
     ensures { str_width false (chars result.bytes) ≤ columns }
 {
     let text = figures.text();
-    let whole = with_name(&text, name, columns);
-    if whole.as_str().width() <= columns {
-        return whole;
-    }
-    if text.as_str().width() <= columns {
-        return text;
-    }
     let short = figures.short_text();
-    if short.as_str().width() <= columns {
-        return short;
+    let forms = [
+        with_name(&text, name, columns),
+        text,
+        with_name(&short, name, columns),
+        short,
+        figures.first_text(),
+        figures.done_text(),
+    ];
+    'forms: for form in forms {
+        if form.as_str().width() <= columns {
+            return form;
+        }
     }
     Text::new()
 }

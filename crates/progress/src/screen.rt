@@ -12,7 +12,12 @@ const BYTES_BETWEEN_LOOKS: u64 = 65_536;
 // The line is drawn at most ten times a second.
 const MILLISECONDS_BETWEEN_LINES: u64 = 100;
 
-/// A line on standard error that tells how far a command has come. There is none if standard error
+// At a line between these a terminal begins no new one, however narrow it is.
+const NO_WRAP: &str = "\x1b[?7l";
+
+const WRAP: &str = "\x1b[?7h";
+
+/// A line on standard error that says how far a command has come. There is none if standard error
 /// is no terminal or `TERM` is `dumb`; then no clock is read either. It goes when this is dropped.
 pub struct Progress {
     rt: HostRuntime,
@@ -103,11 +108,13 @@ impl Progress {
     fn draw(&self, screen: &Screen, line: &str) {
         let mut text = Text::new();
         let _ = text.try_push('\r');
+        let _ = text.try_push_str(NO_WRAP);
         let _ = text.try_push_str(line);
         let width = line.width();
         'rest: for _ in width..screen.width.get() {
             let _ = text.try_push(' ');
         }
+        let _ = text.try_push_str(WRAP);
         screen.width.set(width);
         self.write(text.as_str());
     }

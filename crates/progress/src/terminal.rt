@@ -3,8 +3,8 @@ use std::env::Env;
 use std::io::IsTerminal;
 use std::str;
 
-// So many if the environment does not say how many there are.
-const USUAL_COLUMNS: usize = 80;
+// So many if the environment does not say how many there are: few terminals are narrower.
+const USUAL_COLUMNS: usize = 45;
 
 // More are left empty.
 const MOST_COLUMNS: usize = 500;
@@ -17,8 +17,8 @@ pub(crate) fn columns(rt: &HostRuntime) -> Option<usize> {
     if !rt.stderr().is_terminal() || variable(rt, "TERM", &mut term) == Some("dumb") {
         return None;
     }
-    let told = variable(rt, "COLUMNS", &mut columns).and_then(|text| text.parse::<usize>().ok());
-    match told {
+    let stated = variable(rt, "COLUMNS", &mut columns).and_then(|text| text.parse::<usize>().ok());
+    match stated {
         None | Some(0) => Some(USUAL_COLUMNS),
         Some(count) => Some(count.min(MOST_COLUMNS)),
     }

@@ -1,5 +1,5 @@
 -- What takes a file's bytes for its leaves: how many leaves its tree has, and what stands at the end.
-use Rattle.std.proofs.Common.{◌≡◌, ℕ, zero, ◌+◌, ◌-◌, ◌*◌, ◌<◌, ◌≤◌, ◌++◌, List, [], ◌∷◌, length, take, drop, Option, Some, None, OnSome, inl, inr, refl, sym, ap, ◌∙◌, subst, arith, div-one, option_map}
+use Rattle.std.proofs.Common.{◌≡◌, ◌⊎◌, ℕ, zero, ◌+◌, ◌-◌, ◌*◌, ◌<◌, ◌≤◌, ◌++◌, List, [], ◌∷◌, length, take, drop, Option, Some, None, OnSome, Result, Ok, Err, IfErr, inl, inr, refl, sym, ap, ◌∙◌, subst, arith, div-one, option_map}
 use Rattle.std.specs.Option.{option_to_list}
 use Rattle.std.proofs.lemmas.List.{length-append, length-take-le}
 use Rattle.std.proofs.lemmas.List.FromFn.{length-map-range_with_len}
@@ -10,13 +10,18 @@ use Rattle.folders.proofs.Pieces.{all_given}
 use Rattle.hashtree.specs.declared.root.RootBuilder.{RootBuilder}
 use Rattle.hashtree.specs.Climb.{climb}
 use Rattle.hashtree.specs.RootBuilder.{IsFed, complete_nodes}
-use Rattle.hashtree.specs.Tree.{block_count, block_hashes, height, layer_count, layer_of, node}
+use Rattle.hashtree.specs.Tree.{block_count, block_hashes, height, layer_count, layer_of, node, root_of}
 use Rattle.hashtree.proofs.Blocks.{length-block_hashes}
 use Rattle.hashtree.proofs.Feeding.{next_part}
-use Rattle.metainfo.specs.Description.{TreeEntry}
+use Rattle.opening.specs.Description.{TreeEntry}
 use Rattle.partial_tree.specs.Grown.{GrownTree}
-use Rattle.seeding.specs.Leaves.{EndsWithTree, HasRefused, HasRoomForBytes, IsFedLeaves, IsFull, Pushes, ReadsLeaves}
+use Rattle.seeding.specs.Leaves.{EndsWithTree, HadFitting, HasRefused, HasRoomForBytes, IsFedLeaves, IsFull, Pushes, ReadsLeaves}
 use Rattle.seeding.specs.declared.leaves.Leaves.{Leaves}
+
+-- what holds of each error holds of the one that is answered
+pub at_err : {A E : Type 0} (P : E → Type 0) (r : Result A E) → ((why : E) → P why) → IfErr r P
+at_err P (Ok x) all = tt
+at_err P (Err why) all = all why
 
 climb-none : (xs : List (List ℕ)) → climb zero xs ≡ xs
 unfolding climb
@@ -26,27 +31,43 @@ climb-none xs = refl
 complete-length : (b : RootBuilder) (content : List ℕ) → length (complete_nodes b content 0) ≡ b.peaks.count
 complete-length b content = ap length (climb-none (block_hashes content b.peaks.count)) ∙ length-block_hashes content b.peaks.count
 
+-- where memory was never refused, all leaves are kept
+pub kept-leaves : {N : Type 0} (l : Leaves N) (content : List ℕ) → IsFedLeaves l content → (HasRefused l → ⊥)
+    → l.tree.leaves ≡ complete_nodes l.builder content 0
+kept-leaves l content at works = elim at.leaves_are [
+  | inl refused ↦ absurd (works refused)
+  | inr are ↦ are
+]
+
 -- the next leaf is one of the file's
 pub leaf-fits : {N : Type 0} (l : Leaves N) (mid : RootBuilder) (content more : List ℕ) (leaf : Option (List ℕ)) → IsFedLeaves l content → IsFed mid more
     → complete_nodes mid more 0 ≡ complete_nodes l.builder content 0 ++ option_to_list leaf → length more ≤ l.tree.length
-    → OnSome leaf (length l.tree.leaves < block_count l.tree.length)
+    → OnSome leaf (HasRefused l ⊎ (length l.tree.leaves < block_count l.tree.length))
 leaf-fits l mid content more None at fed completed fits = tt
 leaf-fits l mid content more (Some x) at fed completed fits =
     let count : length (complete_nodes mid more 0) ≡ mid.peaks.count = complete-length mid more in
     let one : length (complete_nodes mid more 0) ≡ length (complete_nodes l.builder content 0) + 1 = ap length completed ∙ length-append (complete_nodes l.builder content 0) (x ∷ []) in
-    let had : length l.tree.leaves ≡ length (complete_nodes l.builder content 0) = ap length at.leaves_are in
     let bytes : 16384 * mid.peaks.count + mid.filled ≡ length more = fed.at.length_is in
     let some : 0 < length more = omega (arith, count, one, bytes) in
     let begun : 0 < mid.filled = fed.started some in
-    omega (arith, count, one, had, bytes, begun, fits)
+    elim at.leaves_are [
+      | inl refused ↦ inl refused
+      | inr are ↦ inr (
+          let had : length l.tree.leaves ≡ length (complete_nodes l.builder content 0) = ap length are in
+          omega (arith, count, one, had, bytes, begun, fits))
+    ]
 
 -- one leaf more, or none
 pub kept-leaf : {N : Type 0} (l q : Leaves N) (mid : RootBuilder) (content more : List ℕ) (leaf : Option (List ℕ)) → IsFedLeaves l content → IsFed mid more
     → complete_nodes mid more 0 ≡ complete_nodes l.builder content 0 ++ option_to_list leaf
-    → q.builder ≡ mid → q.tree.leaves ≡ l.tree.leaves ++ option_to_list leaf → IsFedLeaves q more
-kept-leaf l q mid content more leaf at fed completed builder leaves = record {
+    → q.builder ≡ mid → HasRefused q ⊎ ((HasRefused l → ⊥) × (q.tree.leaves ≡ l.tree.leaves ++ option_to_list leaf)) → IsFedLeaves q more
+kept-leaf l q mid content more leaf at fed completed builder kept = record {
   fed = subst (λ b. IsFed b more) (sym builder) fed;
-  leaves_are = leaves ∙ ap (λ t. t ++ option_to_list leaf) at.leaves_are ∙ sym completed ∙ ap (λ b. complete_nodes b more 0) (sym builder);
+  leaves_are = elim kept [
+    | inl refused ↦ inl refused
+    | inr (works, leaves) ↦ inr (leaves ∙ ap (λ t. t ++ option_to_list leaf) (kept-leaves l content at works)
+        ∙ sym completed ∙ ap (λ b. complete_nodes b more 0) (sym builder))
+  ];
 }
 
 -- so many bytes of what is taken are within the file's length
@@ -66,39 +87,43 @@ length-leaves content =
     length-map-range_with_len (node content 0) 0 (layer_count n 0) ∙ cond-true _ _ _ (le-leb 0 (height n) (omega arith)) ∙ div-one (n + 0) ∙ none_more
 
 -- the last leaf is one of the file's
-pub last-fits : {N : Type 0} (l : Leaves N) (content : List ℕ) (last : Option (List ℕ)) (leaf : List ℕ) → IsFull l content
+pub last-fits : {N : Type 0} (l : Leaves N) (content : List ℕ) (last : Option (List ℕ)) (leaf : List ℕ) → IsFull l content → (HasRefused l → ⊥)
     → complete_nodes l.builder content 0 ++ option_to_list last ≡ layer_of content 0 → last ≡ Some leaf → length l.tree.leaves < block_count l.tree.length
-last-fits l content last leaf full nodes is =
+last-fits l content last leaf full works nodes is =
     let all : length (layer_of content 0) ≡ block_count (length content) = length-leaves content in
     let one : length (layer_of content 0) ≡ length (complete_nodes l.builder content 0) + 1 =
     ap length (sym nodes) ∙ ap (λ o. length (complete_nodes l.builder content 0 ++ option_to_list o)) is ∙ length-append (complete_nodes l.builder content 0) (leaf ∷ []) in
-    let had : length l.tree.leaves ≡ length (complete_nodes l.builder content 0) = ap length full.fed.leaves_are in
+    let had : length l.tree.leaves ≡ length (complete_nodes l.builder content 0) = ap length (kept-leaves l content full.fed works) in
     let same : block_count (length content) ≡ block_count l.tree.length = ap block_count full.length_is in
     omega (arith, all, one, had, same)
 
 -- with the last leaf the file's leaves are all there
-pub all-leaves : {N : Type 0} (l : Leaves N) (t : GrownTree) (content : List ℕ) (last : Option (List ℕ)) → IsFull l content
+pub all-leaves : {N : Type 0} (l : Leaves N) (t : GrownTree) (content : List ℕ) (last : Option (List ℕ)) → IsFull l content → (HasRefused l → ⊥)
     → complete_nodes l.builder content 0 ++ option_to_list last ≡ layer_of content 0 → t.leaves ≡ l.tree.leaves ++ option_to_list last → t.leaves ≡ layer_of content 0
-all-leaves l t content last full nodes is = is ∙ ap (λ xs. xs ++ option_to_list last) full.fed.leaves_are ∙ nodes
+all-leaves l t content last full works nodes is = is ∙ ap (λ xs. xs ++ option_to_list last) (kept-leaves l content full.fed works) ∙ nodes
 
-pub all-there : {N : Type 0} (l : Leaves N) (t : GrownTree) (content : List ℕ) (last : Option (List ℕ)) → IsFull l content
+pub all-there : {N : Type 0} (l : Leaves N) (t : GrownTree) (content : List ℕ) (last : Option (List ℕ)) → IsFull l content → (HasRefused l → ⊥)
     → complete_nodes l.builder content 0 ++ option_to_list last ≡ layer_of content 0 → t.leaves ≡ l.tree.leaves ++ option_to_list last → t.length ≡ l.tree.length
     → length t.leaves ≡ block_count t.length
-all-there l t content last full nodes is same =
-    ap length (all-leaves l t content last full nodes is) ∙ length-leaves content ∙ ap block_count (full.length_is ∙ sym same)
+all-there l t content last full works nodes is same =
+    ap length (all-leaves l t content last full works nodes is) ∙ length-leaves content ∙ ap block_count (full.length_is ∙ sym same)
 
 -- a source of the right length was read
 module _ {N : Type 0} (e : TreeEntry) (len : ℕ) (of : len ≡ e.length) (source source' : SourceSeen) (before after : Leaves N) (read : TookAll Pushes source source' len before after len)
-    (nothing : IsFedLeaves before []) (length_is : before.tree.length ≡ len) (some : 0 < len) (works : HasRefused after → ⊥) where
+    (nothing : IsFedLeaves before []) (length_is : before.tree.length ≡ len) (some : 0 < len) where
   pub full : IsFull after read.bytes
-  full = elim read.taken.fed [
-    | inl refused ↦ absurd (works refused)
-    | inr fed ↦ record {
-      fed = fed [] nothing;
-      length_is = read.count_is ∙ sym length_is ∙ sym read.taken.same_length;
-      some = omega (arith, read.count_is, some);
-    }
-  ]
+  full = record {
+    fed = read.taken.fed [] nothing;
+    length_is = read.count_is ∙ sym length_is ∙ sym read.taken.same_length;
+    some = omega (arith, read.count_is, some);
+  }
+
+  pub fitting : ((content : List ℕ) → IsFull after content → e.root ≡ root_of content) → HadFitting e source.left
+  fitting same = (
+    read.bytes,
+    λ known is. all_given source source' read.bytes known read.gave read.ended is,
+    record { length_is = read.count_is ∙ of; root_is = sym (same read.bytes full) },
+  )
 
   pub found : (t : Option GrownTree) → ((content : List ℕ) → IsFull after content → EndsWithTree after e.root content t) → ReadsLeaves e source.left (option_map (λ (x : GrownTree). x.leaves) t)
   found (Some t) ends =

@@ -1,7 +1,7 @@
 -- What reading a file for its leaves told.
 use Rattle.std.proofs.Common.{◌≡◌, inr, ℕ, List, Option, Some, None, refl, sym, ◌∙◌, ap, subst, arith}
 use Rattle.benc.specs.Device.{SourceSeen}
-use Rattle.metainfo.specs.Description.{TreeEntry}
+use Rattle.opening.specs.Description.{TreeEntry}
 use Rattle.node_maps.specs.Digest.{Hash}
 use Rattle.std.proofs.lemmas.Option.{same_Some}
 use Rattle.folders.specs.Folder.{FitsTree}

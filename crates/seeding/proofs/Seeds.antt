@@ -2,18 +2,18 @@
 use Rattle.std.proofs.Common.{◌≡◌, ℕ, suc, ◌+◌, ◌<◌, ◌≤◌, ◌++◌, Bool, false, List, [], ◌∷◌, length, take, Option, Some, None, refl, sym, ap, ◌∙◌, subst, append_assoc, arith}
 use Rattle.std.specs.Prelude.{slice_get}
 use Rattle.std.proofs.lemmas.List.{append-nil, length_push, length-take-le}
-use Rattle.std.proofs.lemmas.Option.{none-some, slice_get_within, get_or_from_slice_get}
+use Rattle.std.proofs.lemmas.Option.{slice_get_within, get_or_from_slice_get}
 use Rattle.std.proofs.Math.Seq.{take-suc}
 use Rattle.folders.specs.declared.shelf.Shelf.{Ghosts}
 use Rattle.benc.specs.Device.{SourceSeen, SinkSeen, Sent}
 use Rattle.benc.proofs.Out.{Sent-append}
 use Rattle.chains.proofs.Chains.{Chain-next}
-use Rattle.metainfo.specs.Description.{FileEntry, TreeEntry}
+use Rattle.opening.specs.Description.{FileEntry, TreeEntry}
 use Rattle.node_maps.specs.Digest.{Hash}
 use Rattle.folders.specs.Shelf.{more}
 use Rattle.folders.specs.Visits.{OpensOnce}
 use Rattle.session.specs.Session.{SessionSeen}
-use Rattle.seeding.specs.Seeding.{Fills, Finds, HasLength, SeedStep, SeedsAll, SeedsTree, StopsAtFile, seed_line, seed_lines, shelf_and_session}
+use Rattle.seeding.specs.Seeding.{Fills, Finds, HasFitting, SeedStep, SeedsAll, SeedsTree, StopsAtFile, seed_line, seed_lines, shelf_and_session}
 
 -- ---- lines
 
@@ -67,13 +67,18 @@ module _ {S F : Type 0} (shelf : Ghosts S F) (seen : F → SourceSeen) where
   }
 
   -- memory was refused while a file was read
-  pub stops_reading : (s s' : S) (K : SessionSeen) (f : FileEntry) (n len : ℕ) → f.tree ≡ Some n → len ≡ f.length → OpensOnce shelf seen s f.path (len + 1) s'
-      → (shelf.faults s' ≡ shelf.faults s) × HasLength ((shelf.contents s).under f.path) len → StopsAtFile shelf seen (shelf_and_session s K) f (shelf_and_session s' K)
-  stops_reading s s' K f n len tree same visited (counted, long) = record {
-    not_empty = λ is. none-some n (sym is ∙ tree);
+  pub stops_reading : (s s' : S) (K : SessionSeen) (f : FileEntry) (n : ℕ) (e : TreeEntry) → f.tree ≡ Some n → slice_get K.torrent.trees n ≡ Some e
+      → e.length ≡ f.length → OpensOnce shelf seen s f.path (e.length + 1) s'
+      → (shelf.faults s' ≡ shelf.faults s) × HasFitting ((shelf.contents s).under f.path) e
+      → StopsAtFile shelf seen (shelf_and_session s K) f (shelf_and_session s' K)
+  stops_reading s s' K f n e at tree same visited (counted, fits) = record {
+    number = n;
+    number_is = at;
+    tree = e;
+    tree_is = tree;
     visited = subst (λ k. OpensOnce shelf seen s f.path (k + 1) s') same visited;
     counted = counted;
-    long_enough = subst (HasLength ((shelf.contents s).under f.path)) same long;
+    fits = fits;
     stays = refl;
   }
 

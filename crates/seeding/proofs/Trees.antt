@@ -2,10 +2,10 @@
 use Rattle.std.proofs.Common.{◌≡◌, ℕ, ◌<◌, ◌≤◌, ◌^◌, List, length, map, get_or, Some, option_map, sym, ap, ◌∙◌, subst}
 use Rattle.std.specs.Prelude.{slice_get}
 use Rattle.std.proofs.lemmas.Option.{same_Some, slice_get-get_or, slice_get-map}
-use Rattle.metainfo.specs.Description.{Description, FileEntry, TreeEntry}
-use Rattle.metainfo.specs.Seen.{tree_entry}
-use Rattle.metainfo.specs.Sound.{IsSound}
-use Rattle.metainfo.specs.TreeInfo.{TreeInfo}
+use Rattle.opening.specs.Description.{Description, FileEntry, TreeEntry}
+use Rattle.opening.specs.Seen.{tree_entry}
+use Rattle.opening.specs.Sound.{IsSound}
+use Rattle.opening.specs.declared.torrent.TreeInfo.{TreeInfo}
 use Rattle.folders.specs.Verdicts.{IsFileOf}
 use Rattle.folders.proofs.Places.{tree_inside}
 

@@ -2,28 +2,27 @@
 use Rattle.std.specs.Prelude.{◌≡◌, ◌≢◌, ◌⊎◌, ℕ, ◌+◌, ◌^◌, ◌<◌, ◌≤◌, ◌++◌, List, length, true, Option, Some, None}
 use Rattle.hashtree.specs.RootBuilder.{IsFed, complete_nodes}
 use Rattle.hashtree.specs.Tree.{layer_of, root_of}
-use Rattle.metainfo.specs.Description.{TreeEntry}
+use Rattle.opening.specs.Description.{TreeEntry}
 use Rattle.node_maps.specs.Digest.{Hash}
 use Rattle.folders.specs.Folder.{FitsTree}
 use Rattle.folders.specs.Verdicts.{Agrees}
 use Rattle.partial_tree.specs.Grown.{GrownTree}
 use Rattle.seeding.specs.declared.leaves.Leaves.{Leaves}
 
--- memory was refused for a leaf, and no further byte is taken
+-- memory was refused for a leaf, and no further leaf is kept
 abbrev pub HasRefused : {N : Type 0} → Leaves N → Type 0
 HasRefused l = l.is_refused ≡ true
 
--- this content was given, and the tree has the leaves of its blocks that are complete
+-- this content was given, and the tree has the leaves of its blocks that are complete, unless
+-- memory was refused
 pub record IsFedLeaves {N : Type 0} (l : Leaves N) (content : List ℕ) : Type 0 where
   pub fed : IsFed l.builder content
-  pub leaves_are : l.tree.leaves ≡ complete_nodes l.builder content 0
+  pub leaves_are : HasRefused l ⊎ (l.tree.leaves ≡ complete_nodes l.builder content 0)
 
--- these further bytes were given, or memory was refused
+-- these further bytes were given
 pub record Pushes {N : Type 0} (old : Leaves N) (bytes : List ℕ) (new : Leaves N) : Type 0 where
   pub same_length : new.tree.length ≡ old.tree.length
-  pub again : HasRefused old → HasRefused new
-  pub fed : HasRefused new
-      ⊎ ((file : List ℕ) → IsFedLeaves old file → IsFedLeaves new (file ++ bytes))
+  pub fed : (file : List ℕ) → IsFedLeaves old file → IsFedLeaves new (file ++ bytes)
 
 -- so many more bytes are within the length of the tree's files
 pub record HasRoomForBytes {N : Type 0} (l : Leaves N) (n : ℕ) : Type 0 where
@@ -31,10 +30,6 @@ pub record HasRoomForBytes {N : Type 0} (l : Leaves N) (n : ℕ) : Type 0 where
   pub fed : IsFedLeaves l content
   pub fits : length content + n ≤ l.tree.length
   pub bound : l.tree.length ≤ 2 ^ 46
-
--- there is room for so many bytes, or they are not taken
-abbrev pub CanPush : {N : Type 0} → Leaves N → ℕ → Type 0
-CanPush l n = HasRefused l ⊎ HasRoomForBytes l n
 
 -- a content of the right length was given
 pub record IsFull {N : Type 0} (l : Leaves N) (content : List ℕ) : Type 0 where
@@ -56,6 +51,6 @@ ReadsLeaves e left (Some leaves) =
     (bytes : List ℕ) × Agrees left bytes × FitsTree e bytes × (leaves ≡ layer_of bytes 0)
 ReadsLeaves e left None = (bytes : List ℕ) × Agrees left bytes × ¬ FitsTree e bytes
 
--- a source that had this to give gave so many bytes
-abbrev pub HadLength : Option (List ℕ) → ℕ → Type 0
-HadLength left len = (bytes : List ℕ) × Agrees left bytes × (length bytes ≡ len)
+-- a source that had this to give has a content that fits the tree
+abbrev pub HadFitting : TreeEntry → Option (List ℕ) → Type 0
+HadFitting e left = (bytes : List ℕ) × Agrees left bytes × FitsTree e bytes

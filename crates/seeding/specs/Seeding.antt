@@ -4,9 +4,9 @@ use Rattle.std.specs.Prelude.{◌≡◌, ◌≢◌, ◌⊎◌, ℕ, ◌+◌, ◌
 use Rattle.benc.specs.Device.{SourceSeen, SinkSeen, Sent, Broke, SentAndFlushed}
 use Rattle.chains.specs.Chain.{Chain}
 use Rattle.hashtree.specs.Tree.{layer_of}
-use Rattle.lines.specs.Cut.{Unflushed}
-use Rattle.lines.specs.Text.{path_text}
-use Rattle.metainfo.specs.Description.{FileEntry, TreeEntry}
+use Rattle.printing.specs.Cut.{Unflushed}
+use Rattle.printing.specs.Text.{path_text}
+use Rattle.opening.specs.Description.{FileEntry, TreeEntry}
 use Rattle.node_maps.specs.Digest.{Hash}
 use Rattle.folders.specs.Folder.{FitsTree}
 use Rattle.folders.specs.Shelf.{more}
@@ -33,9 +33,9 @@ Finds told e (Some leaves) faults = (faults ≡ 0) × (bytes : List ℕ) × Agre
 Finds told e None faults = (faults ≡ 1)
     ⊎ ((faults ≡ 0) × (content : Option (List ℕ)) × Agrees told content × DoesNotFit e content)
 
--- what stands at a path of which the shelf tells this has so many bytes
-abbrev pub HasLength : Option (Option (List ℕ)) → ℕ → Type 0
-HasLength told len = (bytes : List ℕ) × Agrees told (Some bytes) × (length bytes ≡ len)
+-- what stands at a path of which the shelf tells this fits the tree
+abbrev pub HasFitting : Option (Option (List ℕ)) → TreeEntry → Type 0
+HasFitting told e = (bytes : List ℕ) × Agrees told (Some bytes) × FitsTree e bytes
 
 -- ---- the session
 
@@ -93,14 +93,17 @@ module _ {S F : Type 0} (shelf : Ghosts S F) (seen : F → SourceSeen) where
   abbrev pub SeedStep : S × SessionSeen → FileEntry → Bool → S × SessionSeen → Type 0
   SeedStep old f seeded new = SeedsFile old f f.tree seeded new
 
-  -- memory was refused for a file that is not empty, and has the stated length: it was handed back,
-  -- and the session stays
+  -- memory was refused for the leaves of a file that is not empty, and fits its tree: it was handed
+  -- back, and the session stays
   pub record StopsAtFile (old : S × SessionSeen) (f : FileEntry) (new : S × SessionSeen)
       : Type 0 where
-    pub not_empty : f.tree ≢ None
+    pub number : ℕ
+    pub number_is : f.tree ≡ Some number
+    pub tree : TreeEntry
+    pub tree_is : slice_get old.1.torrent.trees number ≡ Some tree
     pub visited : OpensOnce shelf seen old.0 f.path (f.length + 1) new.0
     pub counted : shelf.faults new.0 ≡ shelf.faults old.0
-    pub long_enough : HasLength ((shelf.contents old.0).under f.path) f.length
+    pub fits : HasFitting ((shelf.contents old.0).under f.path) tree
     pub stays : new.1 ≡ old.1
 
   -- ---- all files

@@ -1,22 +1,22 @@
 //! The leaves of a file's tree, from a source.
-ghost use Rattle.std.specs.Prelude.{◌≡◌, ◌⊎◌, ℕ, ◌+◌, ◌^◌, ◌<◌, ◌≤◌, ◌++◌, [], List, false, length, option_map, IfErr, IfOk, IfSome, OnOk, OnSome};
+ghost use Rattle.std.specs.Prelude.{◌≡◌, ◌⊎◌, ℕ, ◌+◌, ◌^◌, ◌<◌, ◌≤◌, ◌++◌, [], List, false, length, option_map, IfErr, IfOk, IfSome, OnErr, OnSome};
 ghost use Rattle.std.specs.Option.{option_to_list};
-ghost use Rattle.hashtree.specs.Tree.{block_count};
-ghost use Rattle.metainfo.specs.Seen.{tree_entry};
+ghost use Rattle.hashtree.specs.Tree.{block_count, root_of};
+ghost use Rattle.opening.specs.Seen.{tree_entry};
 ghost use Rattle.folders.specs.TakeAll.{CountsReading, IsReadWithin};
 ghost use Rattle.folders.specs.declared.read_fault.ReadFault.TheVariants as fault;
-ghost use Rattle.seeding.specs.Leaves.{EndsWithTree, HadLength, HasRefused, IsFedLeaves, IsFull, ReadsLeaves};
+ghost use Rattle.seeding.specs.Leaves.{EndsWithTree, HadFitting, HasRefused, IsFedLeaves, IsFull, ReadsLeaves};
 
 use benc::Source;
-use folders::{ReadFault, Taker, take_all};
+use folders::{Consumer, ReadFault, take_all};
 use hashtree::{Hash, NoMemory, RootBuilder, Shape};
-use metainfo::TreeInfo;
 use node_maps::NodeMap;
+use opening::TreeInfo;
 use partial_tree::{GrowingTree, GrownTree};
 use std::alloc::Global;
 
-/// What takes a file's bytes for its leaves, which go where they will stay. Once memory was
-/// refused, it takes no more.
+/// What takes a file's bytes for its leaves, which go where they will stay. Once memory was refused
+/// it keeps no more leaves, and goes on with the root.
 #[derive(Drop)]
 pub(crate) struct Leaves<N: NodeMap> {
     builder: RootBuilder,
@@ -24,17 +24,17 @@ pub(crate) struct Leaves<N: NodeMap> {
     is_refused: bool,
 }
 
-impl<N: NodeMap> Taker for Leaves<N> {
-    ghost use Rattle.seeding.specs.Leaves.{CanPush, Pushes};
+impl<N: NodeMap> Consumer for Leaves<N> {
+    ghost use Rattle.seeding.specs.Leaves.{HasRoomForBytes, Pushes};
     ghost use Rattle.seeding.specs.LeavesLaws.{pushed_none, pushed_both, pushed_room, pushed_less};
 
-    ghost has_room = { CanPush };
+    ghost has_room = { HasRoomForBytes };
 
     ghost took = { Pushes };
 
     fn take(&mut self, part: &[u8]) {
         let mut start = 0;
-        'parts: while start < part.len() && !self.is_refused {
+        'parts: while start < part.len() {
             let (taken, leaf) = self.builder.take_part(&part[start..], 0);
             self.keep(leaf);
             start += taken;
@@ -64,34 +64,35 @@ impl<N: NodeMap> Leaves<N> {
         }
     }
 
-    // Gives the tree its next leaf, if a block is complete.
+    // Gives the tree its next leaf, if a block is complete and no memory was refused.
     fn keep(&mut self, leaf: Option<Hash>)
-        requires room { OnSome leaf
-            (length self.old.tree.leaves < block_count self.old.tree.length) }
+        requires room { OnSome leaf (HasRefused self.old
+            ⊎ (length self.old.tree.leaves < block_count self.old.tree.length)) }
         ensures builder { self.new.builder ≡ self.old.builder }
         ensures length { self.new.tree.length ≡ self.old.tree.length }
-        ensures kept { HasRefused self.new
-            ⊎ (self.new.tree.leaves ≡ self.old.tree.leaves ++ option_to_list leaf) }
+        ensures kept { HasRefused self.new ⊎ ((HasRefused self.old → ⊥)
+            × (self.new.tree.leaves ≡ self.old.tree.leaves ++ option_to_list leaf)) }
     {
         if let Some(leaf) = leaf {
-            self.is_refused = self.tree.push(leaf).is_err();
+            self.is_refused = self.is_refused || self.tree.push(leaf).is_err();
         }
     }
 
-    // The whole tree, if it has this root. Condition: as many bytes as the file has were taken, or
-    // memory was refused.
+    // The whole tree, if it has this root, in which case memory may be refused. Condition: as many
+    // bytes as the file has were taken.
     fn finish(self, root: &Hash) -> Result<Option<GrownTree<N>>, NoMemory>
-        requires { HasRefused self ⊎ ((content : List ℕ) × IsFull self content) }
-        ensures works { OnOk result (HasRefused self → ⊥) }
+        requires { (content : List ℕ) × IsFull self content }
         ensures ends { IfOk result (λ found. (content : List ℕ) → IsFull self content
             → EndsWithTree self root.now content found) }
+        ensures no_memory { OnErr result ((content : List ℕ) → IsFull self content
+            → root.now ≡ root_of content) }
     {
-        if self.is_refused {
-            return Err(NoMemory);
-        }
         let (_, found, last) = self.builder.finish_layer(0);
         if found != *root {
             return Ok(None);
+        }
+        if self.is_refused {
+            return Err(NoMemory);
         }
         let mut tree = self.tree;
         if let Some(leaf) = last {
@@ -101,30 +102,31 @@ impl<N: NodeMap> Leaves<N> {
     }
 }
 
-/// Reads a source to its end, or to one byte past the length of the tree's files: the whole tree
-/// over its content's leaves if that fits the tree, and else `None`. Memory for the leaves is taken
-/// as they come, and that it was refused is told only of a content of that length.
+/// Reads a source through the buffer to its end, or to one byte past the length of the tree's
+/// files: the whole tree over its content's leaves if that fits the tree, and else `None`. Memory
+/// for the leaves is taken as they come; that it was refused is answered only of a content that
+/// fits.
 pub(crate) fn read_tree<N: NodeMap, F: Source>(
     alloc: Global,
     source: &mut F,
     tree: &TreeInfo<'_>,
-    shape: Shape,
+    buffer: &mut [u8],
 ) -> Result<Option<GrownTree<N>>, ReadFault>
-    requires { shape ≡ tree.now.length }
+    requires some { 0 < length buffer.old }
+    requires tree { (0 < tree.now.length) × (tree.now.length ≤ 2 ^ 46) }
     ensures read { IfOk result (λ found. ReadsLeaves (tree_entry tree.now) (F.seen source.old).left
         (option_map (λ grown. grown.leaves) found)) }
     ensures length { IfOk result (λ found. IfSome found (λ grown.
         grown.length ≡ tree.now.length)) }
     ensures memory { IfErr result (λ why. why ≡ fault.NoMemory
-        → HadLength (F.seen source.old).left tree.now.length) }
+        → HadFitting (tree_entry tree.now) (F.seen source.old).left) }
     ensures counts { CountsReading (F.seen source.old).faults (F.seen source.new).faults result }
     ensures no_further { IsReadWithin (tree.now.length + 1) (F.seen source.old)
         (F.seen source.new) }
 {
+    let shape = Shape::of(tree.length).unwrap();
     let mut leaves = Leaves::new(alloc, shape);
-    let mut buffer = [0u8; 65536];
-    let length = shape.length();
-    if take_all(source, length, &mut buffer, &mut leaves)? != Some(length) {
+    if take_all(source, tree.length, buffer, &mut leaves)? != Some(tree.length) {
         return Ok(None);
     }
     Ok(leaves.finish(&tree.root)?)

@@ -1,21 +1,21 @@
 //! The seeding of a session: its files one after the other.
 ghost use Rattle.std.specs.Prelude.{◌≡◌, ◌<◌, ◌≤◌, ◌+◌, ◌^◌, ℕ, List, Some, length, option_map, slice_get, IfOk, IfSome, OnErr};
 ghost use Rattle.benc.specs.Device.{Wrote};
-ghost use Rattle.metainfo.specs.Description.{TreeEntry};
-ghost use Rattle.metainfo.specs.Seen.{file_entry, tree_entry};
+ghost use Rattle.opening.specs.Description.{TreeEntry};
+ghost use Rattle.opening.specs.Seen.{file_entry, tree_entry};
 ghost use Rattle.folders.specs.Shelf.{more};
 ghost use Rattle.folders.specs.Verdicts.{IsFileOf};
 ghost use Rattle.folders.specs.Visits.{OpensOnce};
-ghost use Rattle.seeding.specs.Seeding.{Fills, Finds, HasLength, SeedStep, Seeds, SeedsFiles, SeedsTree, StopsAtFile, seed_line, seed_words, shelf_and_session};
+ghost use Rattle.seeding.specs.Seeding.{Fills, Finds, HasFitting, SeedStep, Seeds, SeedsFiles, SeedsTree, StopsAtFile, seed_line, seed_words, shelf_and_session};
 
 use crate::leaves::read_tree;
 use crate::seed_fault::SeedFault;
 use benc::{DeviceFault, Sink, write_all};
-use folders::{ReadFault, Shelf};
-use hashtree::{NoMemory, Shape};
-use lines::write_path;
-use metainfo::{File, TreeInfo};
+use folders::{BUFFER_LENGTH, ReadFault, Shelf};
+use hashtree::NoMemory;
+use opening::{File, TreeInfo};
 use partial_tree::GrownTree;
+use printing::write_path;
 use session::{NodeMap, Session};
 use std::alloc::Global;
 
@@ -30,8 +30,9 @@ use std::alloc::Global;
 /// # Errors
 ///
 /// After a fault the files before it stay filled, and their lines were written: `NoMemory` if
-/// memory for the leaves of a file was refused, which has its stated length and is not filled, and
-/// `Write` if the report failed, in the line of a file that may be filled, or at the flush.
+/// memory for the leaves of a file was refused, which has its stated length and root and is not
+/// filled, and `Write` if the report failed, in the line of a file that may be filled, or at the
+/// flush.
 pub fn seed<N: NodeMap, S: Shelf, W: Sink>(
     alloc: Global,
     session: &mut Session<'_, N>,
@@ -60,21 +61,24 @@ fn seed_files<N: NodeMap, S: Shelf, W: Sink>(
 {
     let torrent = session.torrent();
     let entries = torrent.files();
+    let mut buffer = [0u8; BUFFER_LENGTH];
     'files: for file in entries {
-        let seeded = seed_file(alloc, session, shelf, file)?;
+        let seeded = seed_file(alloc, session, shelf, file, &mut buffer)?;
         write_line_of(report, file, seeded)?;
     }
     Ok(())
 }
 
-// Seeds from one file, and tells whether it was seeded.
+// Seeds from one file: whether it was seeded.
 fn seed_file<N: NodeMap, S: Shelf>(
     alloc: Global,
     session: &mut Session<'_, N>,
     shelf: &mut S,
     file: &File<'_>,
+    buffer: &mut [u8],
 ) -> Result<bool, NoMemory>
-    requires { IsFileOf session.old.torrent (file_entry file.now) }
+    requires some { 0 < length buffer.old }
+    requires file { IsFileOf session.old.torrent (file_entry file.now) }
     ensures seeds { IfOk result (λ seeded. SeedStep S.Shelf S.File.seen
         (shelf_and_session shelf.old session.old) (file_entry file.now) seeded
         (shelf_and_session shelf.new session.new)) }
@@ -88,8 +92,7 @@ fn seed_file<N: NodeMap, S: Shelf>(
     match file.tree {
         Some(number) => {
             let tree = &torrent.trees()[number];
-            let shape = Shape::of(tree.length).unwrap();
-            seed_tree(alloc, session, shelf, file, number, tree, shape)
+            seed_tree(alloc, session, shelf, file, number, tree, buffer)
         }
         None => Ok(false),
     }
@@ -103,11 +106,12 @@ fn seed_tree<N: NodeMap, S: Shelf>(
     file: &File<'_>,
     number: usize,
     tree: &TreeInfo<'_>,
-    shape: Shape,
+    buffer: &mut [u8],
 ) -> Result<bool, NoMemory>
+    requires some { 0 < length buffer.old }
     requires number { file.now.tree ≡ Some number }
     requires tree { slice_get session.old.torrent.trees number ≡ Some (tree_entry tree.now) }
-    requires shape { shape ≡ tree.now.length }
+    requires bounds { (0 < tree.now.length) × (tree.now.length ≤ 2 ^ 46) }
     requires same { tree.now.length ≡ file.now.length }
     ensures seeds { IfOk result (λ seeded. SeedsTree S.Shelf S.File.seen
         (shelf_and_session shelf.old session.old) (file_entry file.now) number seeded
@@ -117,7 +121,7 @@ fn seed_tree<N: NodeMap, S: Shelf>(
         (shelf_and_session shelf.new session.new)) }
     ensures torrent { session.new.torrent ≡ session.old.torrent }
 {
-    match find_tree(alloc, shelf, file, tree, shape)? {
+    match find_tree(alloc, shelf, file, tree, buffer)? {
         Some(grown) => Ok(take_over(session, number, grown)),
         None => Ok(false),
     }
@@ -130,9 +134,10 @@ fn find_tree<N: NodeMap, S: Shelf>(
     shelf: &mut S,
     file: &File<'_>,
     tree: &TreeInfo<'_>,
-    shape: Shape,
+    buffer: &mut [u8],
 ) -> Result<Option<GrownTree<N>>, NoMemory>
-    requires { shape ≡ tree.now.length }
+    requires some { 0 < length buffer.old }
+    requires bounds { (0 < tree.now.length) × (tree.now.length ≤ 2 ^ 46) }
     ensures visited { OpensOnce S.Shelf S.File.seen shelf.old file.now.path (tree.now.length + 1)
         shelf.new }
     ensures found { IfOk result (λ grown. (n : ℕ)
@@ -141,12 +146,12 @@ fn find_tree<N: NodeMap, S: Shelf>(
         (option_map (λ t. t.leaves) grown) n) }
     ensures length { IfOk result (λ grown. IfSome grown (λ t. t.length ≡ tree.now.length)) }
     ensures no_memory { OnErr result ((S.faults shelf.new ≡ S.faults shelf.old)
-        × HasLength ((S.contents shelf.old).under file.now.path) tree.now.length) }
+        × HasFitting ((S.contents shelf.old).under file.now.path) (tree_entry tree.now)) }
     ensures stays { S.contents shelf.new ≡ S.contents shelf.old }
 {
     match shelf.open(&file.path.parts()) {
         Ok(Some(mut source)) => {
-            let read = read_tree(alloc, &mut source, tree, shape);
+            let read = read_tree(alloc, &mut source, tree, buffer);
             shelf.close(source);
             match read {
                 Ok(grown) => Ok(grown),
@@ -159,7 +164,7 @@ fn find_tree<N: NodeMap, S: Shelf>(
     }
 }
 
-// Gives a tree the nodes of a whole one, and tells whether they were accepted.
+// Gives a tree the nodes of a whole one: whether they were accepted.
 fn take_over<N: NodeMap>(session: &mut Session<'_, N>, tree: usize, grown: GrownTree<N>) -> bool
     requires inside { tree < length session.old.torrent.trees }
     requires length { (e : TreeEntry) → slice_get session.old.torrent.trees tree ≡ Some e

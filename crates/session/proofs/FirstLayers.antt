@@ -1,15 +1,16 @@
 -- A tree of a new session with layers: the piece layer of an opened torrent is taken, since it leads to the root.
-use Rattle.std.proofs.Common.{◌≡◌, ℕ, ◌+◌, ◌-◌, ◌^◌, ◌<◌, ◌≤◌, true, false, List, length, get_or, Some, inl, inr, refl, sym, ap, ap₂, ◌∙◌, subst, arith}
+use Rattle.std.proofs.Common.{◌≡◌, ℕ, ◌+◌, ◌-◌, ◌^◌, ◌<◌, ◌≤◌, true, false, List, length, Some, inl, inr, refl, sym, ap, ap₂, ◌∙◌, subst, arith}
 use Rattle.std.proofs.lemmas.Bool.{false≢true}
-use Rattle.std.proofs.lemmas.Option.{same_Some, slice_get-get_or}
+use Rattle.std.proofs.lemmas.Option.{same_Some}
 use Rattle.hashtree.specs.Tree.{block_count, root_over}
 use Rattle.hashtree.proofs.Heights.{height_enough, height_least}
-use Rattle.metainfo.specs.Description.{TreeEntry}
-use Rattle.metainfo.specs.PieceLayers.{piece_layer}
-use Rattle.metainfo.specs.Pieces.{IsPieceLength}
-use Rattle.metainfo.specs.Sound.{IsSoundTree}
-use Rattle.metainfo.proofs.Layering.{piece_is, layer_is, layer_within, whole_layer}
+use Rattle.opening.specs.Description.{TreeEntry}
+use Rattle.opening.specs.PieceLayers.{piece_layer}
+use Rattle.pieces.specs.Pieces.{IsPieceLength}
+use Rattle.opening.specs.Sound.{IsSoundTree}
+use Rattle.opening.proofs.Layering.{piece_is, layer_is, layer_within, whole_layer}
 use Rattle.node_maps.specs.Digest.{Hash}
+use Rattle.partial_tree.specs.Claims.{AreHashes}
 use Rattle.partial_tree.specs.TreeRoot.{TreeRoot}
 use Rattle.node_maps.specs.Places.{tree_height, PartialTree, IsTreePlace}
 use Rattle.partial_tree.specs.Claims.{joined, IsAgreed}
@@ -87,16 +88,13 @@ module _ (p : ℕ) (e : TreeEntry) (legal : IsPieceLength p) (sound : IsSoundTre
         }))
 
     -- and once it is taken, the tree is as a session with layers begins
-    pub planted_layers : (b : KeptTree) (c : ℕ) → TreeJoins (fill_claims a.length l e.layer) a c b
-        → IsPlanted p true e b
-    planted_layers b c (joins, rest) = record {
+    pub planted_layers : (b : KeptTree) (c : ℕ) → AreHashes e.layer
+        → TreeJoins (fill_claims a.length l e.layer) a c b → IsPlanted p true e b
+    planted_layers b c hashes (joins, rest) = record {
       root_is = ap (λ (t : KeptTree). t.root) rest ∙ planted.root_is;
       length_is = ap (λ (t : KeptTree). t.length) rest ∙ planted.length_is;
       good = good_filled a b l e.layer c planted.good
-          (λ k d inside. record {
-            size = sound.hash_lengths k (get_or e.layer k d)
-                (slice_get-get_or e.layer k d inside);
-          }) ((accepted, joins), rest);
+          hashes ((accepted, joins), rest);
       known = record {
         root_alone = λ w. elim w [ inl off ↦ absurd (false≢true (sym off)) | inr short ↦ absurd (omega (arith, short, longer)) ];
         layers = λ on more.

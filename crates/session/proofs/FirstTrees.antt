@@ -8,11 +8,11 @@ use Rattle.std.proofs.lemmas.Bool.{and_parts, eqb-true, false≢true, cases_lt}
 use Rattle.std.proofs.lemmas.Option.{none-some, same_Some, slice_get-get_or, slice_get_within, get_or_from_slice_get, slice_get-map}
 use Rattle.std.proofs.lemmas.List.{take_all, length-map, length_push, map-append, get_or_append_left}
 use Rattle.std.proofs.Math.Seq.{take-suc, get_or-append_seam}
-use Rattle.metainfo.specs.Description.{Description, TreeEntry}
-use Rattle.metainfo.specs.Seen.{tree_entry}
-use Rattle.metainfo.specs.Sound.{IsSound, IsSoundTree}
-use Rattle.metainfo.specs.TreeInfo.{TreeInfo}
-use Rattle.node_maps.specs.Digest.{Hash}
+use Rattle.opening.specs.Description.{Description, TreeEntry}
+use Rattle.opening.specs.Seen.{tree_entry}
+use Rattle.opening.specs.Sound.{IsSound, IsSoundTree}
+use Rattle.opening.specs.declared.torrent.TreeInfo.{TreeInfo}
+use Rattle.node_maps.specs.Digest.{Hash, IsHash}
 use Rattle.partial_tree.specs.TreeRoot.{TreeRoot}
 use Rattle.node_maps.specs.Places.{tree_height}
 use Rattle.partial_tree.specs.Closed.{IsClosed}
@@ -31,14 +31,14 @@ only_root h r l i v e = by_case (eqb l h && eqb i 0) refl (sym (look-insert empt
     by_case true t is = let both = and_parts (eqb l h) (eqb i 0) t in (eqb-true l h both.0, eqb-true i 0 both.1, sym (same_Some r v is))
     by_case false t is = absurd (none-some v (sym (get-empty place_cmp (l, i)) ∙ is))
 
-closed_root : (t : TreeRoot) → 0 < t.length → length t.root ≡ 32 → IsClosed t (look (insert empty (tree_height t.length, 0) t.root))
-closed_root t some size = record {
+closed_root : (t : TreeRoot) → 0 < t.length → IsHash t.root → IsClosed t (look (insert empty (tree_height t.length, 0) t.root))
+closed_root t some hash = record {
   root_known = look-insert_same empty (tree_height t.length) 0 t.root;
   in_tree = λ l i v e.
       let at = only_root (tree_height t.length) t.root l i v e in
       let none : tree_height t.length - l ≡ 0 = omega (arith, at.0) in
       (omega (arith, at.0), subst (λ k. i < 2 ^ k) (sym none) (omega (arith, at.1)));
-  hashes = λ l i v e. let at = only_root (tree_height t.length) t.root l i v e in record { size = ap length at.2 ∙ size };
+  hashes = λ l i v e. let at = only_root (tree_height t.length) t.root l i v e in subst IsHash (sym at.2) hash;
   families = λ l i v e below. let at = only_root (tree_height t.length) t.root l i v e in absurd (omega (arith, at.0, below));
   pads = λ l i v e past.
       let at = only_root (tree_height t.length) t.root l i v e in
@@ -55,13 +55,13 @@ knows_root t K is = record {
       (at.0, at.1);
 }
 
-pub planted_root : (p : ℕ) (e : TreeEntry) (a : KeptTree) → IsSoundTree p e
+pub planted_root : (p : ℕ) (e : TreeEntry) (a : KeptTree) → IsSoundTree p e → IsHash e.root
     → a ≡ root_only e.root e.length → IsPlanted p false e a
-planted_root p e a sound is = subst (IsPlanted p false e) (sym is) (record {
+planted_root p e a sound hash is = subst (IsPlanted p false e) (sym is) (record {
   root_is = refl;
   length_is = refl;
   good = record {
-    closed = closed_root (root_of_entry e) sound.some sound.root_length;
+    closed = closed_root (root_of_entry e) sound.some hash;
     marks = λ i x. absurd (false≢true (sym (leaves.contains-empty nat_cmp i) ∙ x));
   };
   known = record {

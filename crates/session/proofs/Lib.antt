@@ -1,10 +1,11 @@
 pub use Rattle.chains.proofs.Chains
 pub mod States
 pub mod Entries
-pub mod Marking
+pub mod MessageBlocks
 pub mod Runs
 pub mod Rounds
 pub mod RoundRuns
+pub mod OneGap
 pub mod Sessions
 pub mod SafeSteps
 pub mod Numbering
@@ -12,9 +13,10 @@ pub mod FirstTrees
 pub mod FirstLayers
 pub mod Arrays
 pub mod OpenAsks
-pub mod Asking
+pub mod OtherAsks
 pub mod NotedSteps
 pub mod NotedRounds
 pub mod RepeatedRounds
 pub mod Replayed
 pub mod OneRun
+pub mod Trusting

@@ -32,7 +32,7 @@ use Rattle.session.specs.NotedRounds.{HasDirectedHashes, IsAskedAt, IsAskedFor, 
 use Rattle.partial_tree.proofs.Wanted.{gaps-fall, gaps-fewer, true_answer-accepted}
 use Rattle.session.proofs.OpenAsks.{opened_contains}
 use Rattle.session.specs.NotedLaws.{asking}
-use Rattle.session.proofs.Asking.{tree_asking}
+use Rattle.session.proofs.OtherAsks.{tree_asking}
 use Rattle.session.proofs.Runs.{Learns, step-learns, unchanged}
 use Rattle.session.proofs.Rounds.{asked-is, want-tall, answer-fewer}
 use Rattle.session.proofs.RoundRuns.{lacks_memory, lacks_memory-is, lacks_memory-not, collision-keeps, later-distinct, wanted-is}

@@ -1,5 +1,5 @@
 -- Steps of a session that notes what it asks for.
-use Rattle.std.proofs.Common.{◌≡◌, ℕ, ◌+◌, Bool, true, false, not, ◌&&◌, ◌||◌, List, [], ◌∷◌, Option, Some, None, inl, inr, refl, sym, ap, ap₂, ◌∙◌, subst, arith}
+use Rattle.std.proofs.Common.{◌≡◌, ℕ, ◌+◌, Bool, true, false, not, ◌&&◌, ◌||◌, List, [], ◌∷◌, Option, Some, None, Result, Ok, Err, inl, inr, refl, sym, ap, ap₂, ◌∙◌, subst, arith}
 use Rattle.std.specs.Prelude.{slice_get}
 use Rattle.std.specs.Ordering.{eq_by_cmp}
 use Rattle.std.specs.FinSet as set
@@ -13,7 +13,7 @@ use Rattle.partial_tree.specs.declared.refusal.HashRefusal.{HashRefusal}
 use Rattle.partial_tree.specs.declared.refusal.HashRefusal.TheVariants.{NoMemory, Unasked}
 use Rattle.partial_tree.specs.declared.refusal.BlockRefusal.{BlockRefusal}
 use Rattle.node_maps.specs.Digest.{Hash}
-use Rattle.node_maps.specs.Places.{tree_height}
+use Rattle.node_maps.specs.Places.{tree_height, PartialTree}
 use Rattle.node_maps.specs.Known.{look}
 use Rattle.partial_tree.specs.TreeRoot.{TreeRoot}
 use Rattle.partial_tree.proofs.Claimed.{first_of_two, second_of_two, there_or_not, base-claims}
@@ -26,11 +26,12 @@ use Rattle.session.specs.Blocks.{Cut}
 use Rattle.session.specs.Layouts.{roots}
 use Rattle.session.specs.Session.{SessionSeen, TreeState, IsTree, HasClosedTrees, IsStored, IsHashRefused, BlockStep, HasDistinctRoots, HasHashes, Step}
 use Rattle.session.specs.SafeStep.{KeepsKnown}
-use Rattle.session.specs.Noted.{IsOpenAsk, without_ask, IsAnswerStored, IsAnswerRefused, StepIn, StepOut, NotedStep, IsTrueNotedVerdict, TakesWhatIsTrueAndAsked, IsBaseKnown, OpensOnlyOurs, KeepsOpen, IsSafeNotedStep}
+use Rattle.session.specs.Noted.{IsOpenAsk, without_ask, IsAnswerStored, IsAnswerRefused, StepIn, StepOut, NotedStep, IsTrueNotedVerdict, TakesWhatIsTrueAndAsked, IsBaseKnown, ClosesOneGapIfAsked, OpensOnlyOurs, KeepsOpen, IsSafeNotedStep}
+use Rattle.session.specs.Wanted.{HasOneGapFewer, WantedClosesOneGap}
 use Rattle.session.proofs.States.{set-write}
 use Rattle.session.proofs.OpenAsks.{ask_total, same_ask}
 use Rattle.session.specs.NotedLaws.{asking}
-use Rattle.session.proofs.Asking.{tree_asking, closed_asking}
+use Rattle.session.proofs.OtherAsks.{tree_asking, closed_asking}
 use Rattle.session.proofs.Runs.{Effect, unchanged, stored, taken, effect, Learns, step-closed, step-learns, effect-torrent, verdict-true}
 use Rattle.session.proofs.SafeSteps.{safe_step}
 
@@ -122,6 +123,30 @@ noted-takes S (In, message.Hashes ask hashes) v S' closed_trees distinct h = λ 
 noted-takes S (In, m) v S' closed_trees distinct h = (safe_step S closed_trees distinct m v S' h).takes_what_is_true
 noted-takes S (Out, m) v S' closed_trees distinct h = tt
 
+-- the trees are the same whatever asks are open
+pub one_gap-asking : (o : AskSet) (S S' : SessionSeen) (n : ℕ) (tree : TreeRoot) (K : PartialTree)
+    → HasOneGapFewer S' n tree K → HasOneGapFewer (asking o S') n tree K
+one_gap-asking o S S' n tree K (s, at, fewer) = (s, tree_asking o S' n tree s at, fewer)
+
+pub closes-asking : (o : AskSet) (S : SessionSeen) (ask : Ask) (hashes : List Hash) (r : Result ℕ HashRefusal) (S' : SessionSeen)
+    → WantedClosesOneGap S ask hashes r S' → WantedClosesOneGap S ask hashes r (asking o S')
+closes-asking o S ask hashes r S' closes n f w = elim (closes n f w) [
+  | inl fewer ↦ inl (one_gap-asking o S S' n w.tree (look w.state.known) fewer)
+  | inr other ↦ inr other
+]
+
+noted-closes : (S : SessionSeen) (x : Directed Message) (v : Verdict) (S' : SessionSeen) → HasClosedTrees S → HasDistinctRoots S
+    → NotedStep S x v S' → ClosesOneGapIfAsked S x v S'
+noted-closes S (In, message.Hashes ask hashes) (verdict.Stored c) S' closed_trees distinct h = λ was.
+    closes-asking S'.asks S ask hashes.now (Ok c) (asking S.asks S') (safe_step S closed_trees distinct (message.Hashes ask hashes)
+    (verdict.Stored c) (asking S.asks S') (in_hashes S ask hashes (verdict.Stored c) S' was h)).closes_one_gap
+noted-closes S (In, message.Hashes ask hashes) (verdict.HashRefused r) S' closed_trees distinct h = λ was.
+    closes-asking S'.asks S ask hashes.now (Err r) (asking S.asks S') (safe_step S closed_trees distinct (message.Hashes ask hashes)
+    (verdict.HashRefused r) (asking S.asks S') (in_hashes S ask hashes (verdict.HashRefused r) S' was h)).closes_one_gap
+noted-closes S (In, message.Hashes ask hashes) v S' closed_trees distinct h = absurd h
+noted-closes S (In, m) v S' closed_trees distinct h = tt
+noted-closes S (Out, m) v S' closed_trees distinct h = tt
+
 -- ---- open asks
 
 same_open : (S S' : SessionSeen) (ask : Ask) → S'.asks ≡ S.asks → IsOpenAsk S ask → IsOpenAsk S' ask
@@ -209,6 +234,7 @@ safe_noted_step S closed_trees distinct x v S' step = record {
   verified_is_the_block = noted-true S x v S' closed_trees step;
   keeps_known = learns-keeps S S' (noted-learns S x v S' step);
   takes_what_is_true = noted-takes S x v S' closed_trees distinct step;
+  closes_one_gap = noted-closes S x v S' closed_trees distinct step;
   opens_only_ours = noted-opens S x v S' step;
   keeps_open = noted-open S x v S' step;
 }

@@ -3,8 +3,8 @@ use Rattle.std.proofs.Common.{◌≡◌, ◌≢◌, ℕ, ◌<◌, List, length, 
 use Rattle.std.specs.Prelude.{slice_get, IfSome}
 use Rattle.std.specs.FinSet as leaves
 use Rattle.std.proofs.lemmas.Option.{none-some, same_Some, slice_get_within, slice_get-map}
-use Rattle.metainfo.specs.Description.{Description, TreeEntry}
-use Rattle.metainfo.specs.Trees.{IsTreeWithRoot}
+use Rattle.opening.specs.Description.{Description, TreeEntry}
+use Rattle.opening.specs.Trees.{IsTreeWithRoot}
 use Rattle.node_maps.specs.Digest.{Hash}
 use Rattle.partial_tree.specs.TreeRoot.{TreeRoot}
 use Rattle.partial_tree.specs.Kept.{KeptTree, info_of}

@@ -14,8 +14,8 @@ use Rattle.wire.specs.declared.message.Message.TheVariants as message
 use Rattle.wire.specs.Meaning.{Means}
 use Rattle.wire.specs.Records.{Directed, MeansDirected, messages_in, directed_messages}
 use Rattle.wire.specs.Conversion.{conversion}
-use Rattle.metainfo.specs.Blocks.{IsBlockRun}
-use Rattle.metainfo.proofs.Blocks.{one_block_run}
+use Rattle.opening.specs.Blocks.{IsBlockRun}
+use Rattle.opening.proofs.Blocks.{one_block_run}
 use Rattle.partial_tree.specs.declared.refusal.HashRefusal.{HashRefusal}
 use Rattle.partial_tree.specs.declared.refusal.HashRefusal.TheVariants.{UnknownRoot, BadRange, BadCount, BadPad, Unanchored, Mismatch, NoMemory, Unasked}
 use Rattle.partial_tree.specs.declared.refusal.BlockRefusal.{BlockRefusal}

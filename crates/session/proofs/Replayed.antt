@@ -22,7 +22,7 @@ use Rattle.session.specs.Session.{SessionSeen, AreTaken, AreRefused, Step}
 use Rattle.session.specs.Noted.{IsOpenAsk, with_ask, without_ask, IsAnswerStored, IsAnswerRefused, StepIn, StepOut, NotedStep}
 use Rattle.session.specs.NotedLaws.{asking, incoming, AllNoted, HadMemory}
 use Rattle.session.proofs.OpenAsks.{opened_contains}
-use Rattle.session.proofs.Asking.{step_asking, run_asking}
+use Rattle.session.proofs.OtherAsks.{step_asking, run_asking}
 use Rattle.session.proofs.NotedSteps.{in_hashes, step-asks}
 
 run-asks : (S : SessionSeen) (ms : List Message) (vs : List Verdict) (S' : SessionSeen) → Chain Step S ms vs S' → S'.asks ≡ S.asks

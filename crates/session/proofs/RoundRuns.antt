@@ -29,7 +29,7 @@ use Rattle.partial_tree.proofs.Whole.{whole-closed}
 use Rattle.partial_tree.proofs.Answers.{answer-reaches, answer-root}
 use Rattle.partial_tree.proofs.Wanted.{want-range, whole-can_answer, gaps-fall, gaps-none, gaps-all_known}
 use Rattle.session.proofs.Runs.{Learns, run-learns}
-use Rattle.metainfo.specs.Description.{Description}
+use Rattle.opening.specs.Description.{Description}
 use Rattle.session.specs.Layouts.{root_of_entry}
 use Rattle.session.proofs.Rounds.{want-tall, round}
 

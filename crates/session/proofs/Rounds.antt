@@ -1,5 +1,5 @@
 -- A round: whatever the messages before it did, the true answer to what was wanted leaves fewer gaps.
-use Rattle.std.proofs.Common.{◌≡◌, ◌≢◌, ◌⊎◌, ℕ, ◌^◌, ◌<◌, ◌≤◌, List, map, None, inl, inr, refl, sym, ap, ap₂, ◌∙◌, subst, subst₂, arith, Bor}
+use Rattle.std.proofs.Common.{◌≡◌, ◌≢◌, ◌⊎◌, ℕ, ◌+◌, ◌^◌, ◌<◌, ◌≤◌, List, map, None, inl, inr, refl, sym, ap, ap₂, ◌∙◌, subst, subst₂, arith, Bor}
 use Rattle.std.specs.Prelude.{slice_get}
 use Rattle.std.specs.List.{All}
 use Rattle.std.proofs.lemmas.Option.{same_Some, none-some}
@@ -20,12 +20,13 @@ use Rattle.partial_tree.specs.Claims.{claims, joined, Refuses, IsAccepted, answe
 use Rattle.partial_tree.specs.Gaps.{gaps, want_ask}
 use Rattle.node_maps.specs.Known.{look}
 use Rattle.session.specs.Session.{HasHashes, SessionSeen, TreeState, IsTree, HasClosedTrees, IsAsked, IsStored, IsHashRefused, HasDistinctRoots, HasFewerGaps, Step}
-use Rattle.metainfo.specs.Description.{Description}
+use Rattle.opening.specs.Description.{Description}
 use Rattle.session.specs.Layouts.{roots, root_of_entry}
+use Rattle.session.specs.Wanted.{HasOneGapFewer}
 use Rattle.chains.specs.Chain.{Chain}
 use Rattle.hashtree.proofs.Heights.{height_enough}
 use Rattle.partial_tree.proofs.Joining.{accepted-no_fault}
-use Rattle.partial_tree.proofs.Wanted.{true_answer-accepted, want-fewer}
+use Rattle.partial_tree.proofs.Wanted.{true_answer-accepted, want-fewer, want-one_fewer}
 use Rattle.session.proofs.Runs.{Learns, run-true, run-learns, run-torrent}
 use Rattle.session.proofs.States.{set-write}
 
@@ -54,17 +55,36 @@ asked-is S ask n tree s distinct at root a =
 module _ (n : ℕ) (tree : TreeRoot) (b : ℕ) (in' : b < block_count tree.length) (K : PartialTree) where
   module _ (S S' : SessionSeen) (distinct : HasDistinctRoots S) (s : TreeState) (at : IsTree S n tree s) (tall : 1 ≤ tree_height tree.length) (keeps : Keeps K (look s.known)) (none : K 0 b ≡ None)
       (hashes : List Hash) (ok : IsAccepted tree.length (look s.known) (want_ask tree b) hashes) where
-    stored-fewer : (c : ℕ) → IsStored S (want_ask tree b) hashes c S' → HasFewerGaps S' n tree K
-    stored-fewer c h =
-        let (same, one, state) = asked-is S (want_ask tree b) n tree s distinct at refl h.asked in
-        let after : look h.after.known ≡ joined (look s.known) (claims (want_ask tree b) hashes) =
-        λ i l j. (h.taken.1.joined_is l j ∙ ap (λ st. joined (look st.known) (claims (want_ask tree b) hashes) l j) state) i in (
+    stored-joined : (c : ℕ) → IsStored S (want_ask tree b) hashes c S' → (later : TreeState) × IsTree S' n tree later
+        × (look later.known ≡ joined (look s.known) (claims (want_ask tree b) hashes))
+    stored-joined c h =
+        let (same, one, state) = asked-is S (want_ask tree b) n tree s distinct at refl h.asked in (
           h.after,
           record {
             tree_is = ap (λ U. slice_get (roots U) n) h.state_after ∙ at.tree_is;
-            state_is = ap₂ (λ U i. slice_get U.trees i) h.state_after (sym same) ∙ set-write S.trees h.asked.number h.after h.asked.state h.asked.is_tree.state_is;
+            state_is = ap₂ (λ U i. slice_get U.trees i) h.state_after (sym same)
+                ∙ set-write S.trees h.asked.number h.after h.asked.state h.asked.is_tree.state_is;
           },
-          subst (λ L. gaps tree.length L < gaps tree.length K) (sym after) (want-fewer tree b tall in' (look s.known) hashes ok K keeps none),
+          λ i l j. (h.taken.1.joined_is l j ∙ ap (λ st. joined (look st.known) (claims (want_ask tree b) hashes) l j) state) i,
+        )
+
+    stored-fewer : (c : ℕ) → IsStored S (want_ask tree b) hashes c S' → HasFewerGaps S' n tree K
+    stored-fewer c h =
+        let (later, later_is, after) = stored-joined c h in (
+          later,
+          later_is,
+          subst (λ L. gaps tree.length L < gaps tree.length K) (sym after)
+              (want-fewer tree b tall in' (look s.known) hashes ok K keeps none),
+        )
+
+    pub stored-one_fewer : (c : ℕ) → IsStored S (want_ask tree b) hashes c S' → look s.known 0 b ≡ None
+        → HasOneGapFewer S' n tree (look s.known)
+    stored-one_fewer c h now =
+        let (later, later_is, after) = stored-joined c h in (
+          later,
+          later_is,
+          subst (λ L. gaps tree.length L + 1 ≡ gaps tree.length (look s.known)) (sym after)
+              (want-one_fewer tree b tall in' (look s.known) hashes ok now),
         )
 
     fault-never : (r : HashRefusal) → (a : IsAsked S (want_ask tree b)) → Refuses a.tree.length (look a.state.known) (want_ask tree b) hashes r → ⊥
@@ -73,22 +93,22 @@ module _ (n : ℕ) (tree : TreeRoot) (b : ℕ) (in' : b < block_count tree.lengt
         accepted-no_fault a.tree (look a.state.known) (want_ask tree b) hashes r
         (subst₂ (λ tr st. IsAccepted tr.length (look st.known) (want_ask tree b) hashes) (sym one) (sym state) ok) refused.fault
 
-    refused-never : (r : HashRefusal) → r ≢ NoMemory → IsHashRefused S (want_ask tree b) hashes r → ⊥
-    refused-never UnknownRoot memory h = h n tree at.tree_is refl
-    refused-never NoMemory memory h = memory refl
-    refused-never BadRange memory (a, h) = fault-never BadRange a h
-    refused-never BadCount memory (a, h) = fault-never BadCount a h
-    refused-never BadPad memory (a, h) = fault-never BadPad a h
-    refused-never Unanchored memory (a, h) = fault-never Unanchored a h
-    refused-never Mismatch memory (a, h) = fault-never Mismatch a h
-    refused-never Unasked memory (a, h) = fault-never Unasked a h
+    pub only-memory : (r : HashRefusal) → IsHashRefused S (want_ask tree b) hashes r → r ≡ NoMemory
+    only-memory UnknownRoot h = absurd (h n tree at.tree_is refl)
+    only-memory NoMemory h = refl
+    only-memory BadRange (a, h) = absurd (fault-never BadRange a h)
+    only-memory BadCount (a, h) = absurd (fault-never BadCount a h)
+    only-memory BadPad (a, h) = absurd (fault-never BadPad a h)
+    only-memory Unanchored (a, h) = absurd (fault-never Unanchored a h)
+    only-memory Mismatch (a, h) = absurd (fault-never Mismatch a h)
+    only-memory Unasked (a, h) = absurd (fault-never Unasked a h)
 
   pub answer-fewer : (S S' : SessionSeen) → HasDistinctRoots S → (s : TreeState) → IsTree S n tree s → 1 ≤ tree_height tree.length → Keeps K (look s.known) → K 0 b ≡ None
       → (hs : Bor (List Hash)) → IsAccepted tree.length (look s.known) (want_ask tree b) hs.now
       → (v : Verdict) → v ≢ verdict.HashRefused NoMemory → Step S (message.Hashes (want_ask tree b) hs) v S' → HasFewerGaps S' n tree K
   answer-fewer S S' distinct s at tall keeps none hs ok (verdict.Stored c) memory h = stored-fewer S S' distinct s at tall keeps none hs.now ok c h
   answer-fewer S S' distinct s at tall keeps none hs ok (verdict.HashRefused r) memory h =
-      absurd (refused-never S S' distinct s at tall keeps none hs.now ok r (λ e. memory (ap verdict.HashRefused e)) h.0)
+      absurd (memory (ap verdict.HashRefused (only-memory S S' distinct s at tall keeps none hs.now ok r h.0)))
   answer-fewer S S' distinct s at tall keeps none hs ok v memory h = absurd h
 
 -- a run of messages that ends with the true answer, not refused out of memory, leaves fewer gaps, or a collision is named

@@ -3,7 +3,7 @@ use Rattle.std.proofs.Common.{◌≡◌, ◌⊎◌, ℕ, Result, Ok, Err, IfOk, 
 use Rattle.std.specs.Prelude.{map, slice_get}
 use Rattle.std.specs.FinMap.{empty}
 use Rattle.std.specs.FinSet as leaves
-use Rattle.metainfo.specs.Description.{Description}
+use Rattle.opening.specs.Description.{Description}
 use Rattle.std.specs.Borrow.{Bor}
 use Rattle.std.proofs.lemmas.Option.{same_Some, none-some, slice_get_within, slice_get-get_or}
 use Rattle.wire.specs.declared.message.Ask.{Ask}
@@ -30,9 +30,11 @@ use Rattle.partial_tree.proofs.Stored.{stored_or_collision}
 use Rattle.partial_tree.proofs.Answers.{answer-stored}
 use Rattle.partial_tree.proofs.Joining.{accepted-no_fault}
 use Rattle.partial_tree.specs.Kept.{RefusesBlock}
-use Rattle.metainfo.specs.Blocks.{IsBlockRun}
+use Rattle.opening.specs.Blocks.{IsBlockRun}
 use Rattle.session.proofs.Entries.{Later, same_tree, same_state, step-known, never-refused, says-block, chain-known, taken-blocks, taken-true}
 use Rattle.session.proofs.Runs.{run-learns, verdict-true}
+use Rattle.session.proofs.OneGap.{wanted-closes}
+use Rattle.session.specs.Wanted.{ClosesOneGap}
 use Rattle.session.specs.SafeStep.{KeepsKnown, AreTrueHashes, StoresTrueHashes, IsAnswerFrom, StoresAnswers, IsNoRun, VerifiesTrueBlock, VerifiesTrueBlocks, TakesWhatIsTrue, IsSafeStep}
 
 keeps_known : (S : SessionSeen) (m : Message) (v : Verdict) (S' : SessionSeen) → Step S m v S' → KeepsKnown S S'
@@ -231,10 +233,20 @@ takes_true S closed_trees distinct (message.Hashes ask hashes) v S' step = absur
 takes_true S closed_trees distinct (message.Piece index begin bytes) v S' step = absurd step
 takes_true S closed_trees distinct m v S' step = tt
 
+closes_one_gap : (S : SessionSeen) → HasClosedTrees S → HasDistinctRoots S → (m : Message) (v : Verdict) (S' : SessionSeen)
+    → Step S m v S' → ClosesOneGap S m v S'
+closes_one_gap S closed_trees distinct (message.Hashes ask hashes) (verdict.Stored c) S' step =
+    wanted-closes S closed_trees distinct ask hashes.now (Ok c) S' step tt
+closes_one_gap S closed_trees distinct (message.Hashes ask hashes) (verdict.HashRefused r) S' step =
+    wanted-closes S closed_trees distinct ask hashes.now (Err r) S' tt step
+closes_one_gap S closed_trees distinct (message.Hashes ask hashes) v S' step = absurd step
+closes_one_gap S closed_trees distinct m v S' step = tt
+
 pub safe_step : (S : SessionSeen) → HasClosedTrees S → HasDistinctRoots S → (m : Message) (v : Verdict) (S' : SessionSeen) → Step S m v S' → IsSafeStep S m v S'
 safe_step S closed_trees distinct m v S' step = record {
   allowed = step;
   verified_is_the_block = verdict-true S m v S' closed_trees step;
   keeps_known = keeps_known S m v S' step;
   takes_what_is_true = takes_true S closed_trees distinct m v S' step;
+  closes_one_gap = closes_one_gap S closed_trees distinct m v S' step;
 }

@@ -7,10 +7,10 @@ use Rattle.std.proofs.lemmas.List.{length-map, map-set}
 use Rattle.std.proofs.lemmas.List.Elements.{All-get_or, All-set}
 use Rattle.std.proofs.Math.Seq.{map-set_same}
 use Rattle.hashtree.specs.Tree.{block_count}
-use Rattle.metainfo.specs.Description.{Description, FileEntry, TreeEntry}
-use Rattle.metainfo.specs.Sound.{IsSound}
-use Rattle.metainfo.specs.Blocks.{IsBlockRun}
-use Rattle.metainfo.specs.Places.{place_of}
+use Rattle.opening.specs.Description.{Description, FileEntry, TreeEntry}
+use Rattle.opening.specs.Sound.{IsSound}
+use Rattle.opening.specs.Blocks.{IsBlockRun}
+use Rattle.opening.specs.Places.{place_of}
 use Rattle.chains.specs.Chain.{Chain}
 use Rattle.session.specs.Blocks.{BlocksSeen, cuts}
 use Rattle.partial_tree.specs.declared.refusal.BlockRefusal.TheVariants.{BadPlace, BadSize, Unproved, BadBlock}

@@ -1,7 +1,7 @@
 -- How what callers see of a session is written as one value: what a model of it needs.
 use Rattle.std.specs.Prelude.{ℕ, List, Option, refl}
 use Rattle.std.specs.Coded.{Coded, code_by, coded×, coded_list, coded_option, coded_ℕ}
-use Rattle.metainfo.specs.Description.{Description, FileEntry, TreeEntry, Version1}
+use Rattle.opening.specs.Description.{Description, FileEntry, TreeEntry, Version1}
 use Rattle.partial_tree.specs.Kept.{TreeState}
 use Rattle.partial_tree.specs.Codes.{tree_state_code}
 use Rattle.session.specs.Asks.{AskSet, asks_code}

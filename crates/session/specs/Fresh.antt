@@ -2,8 +2,8 @@
 use Rattle.std.specs.Prelude.{◌≡◌, ◌⊎◌, ℕ, ◌-◌, ◌<◌, ◌≤◌, Bool, true, false, List, length, slice_get, Some}
 use Rattle.std.specs.FinSet as finite
 use Rattle.hashtree.specs.Tree.{filled, node_over}
-use Rattle.metainfo.specs.Description.{Description, TreeEntry}
-use Rattle.metainfo.specs.PieceLayers.{piece_layer}
+use Rattle.opening.specs.Description.{Description, TreeEntry}
+use Rattle.opening.specs.PieceLayers.{piece_layer}
 use Rattle.node_maps.specs.Digest.{Hash}
 use Rattle.partial_tree.specs.TreeRoot.{TreeRoot}
 use Rattle.node_maps.specs.Places.{tree_height, PartialTree, IsTreePlace}

@@ -2,8 +2,8 @@
 use Rattle.std.specs.Prelude.{◌≡◌, ◌<◌, ℕ, List, map, slice_get, Option, Some, None}
 use Rattle.std.specs.List.{All}
 use Rattle.hashtree.specs.Tree.{block_count}
-use Rattle.metainfo.specs.Blocks.{IsBlockRun}
-use Rattle.metainfo.specs.Description.{Description, FileEntry, TreeEntry}
+use Rattle.opening.specs.Blocks.{IsBlockRun}
+use Rattle.opening.specs.Description.{Description, FileEntry, TreeEntry}
 use Rattle.partial_tree.specs.TreeRoot.{TreeRoot}
 use Rattle.partial_tree.specs.Kept.{TreeState, KeptTree, info_of, IsGoodTree}
 use Rattle.session.specs.Asks.{AskSet}

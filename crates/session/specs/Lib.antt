@@ -3,6 +3,7 @@ pub use Rattle.chains.specs.Chain
 pub mod Blocks
 pub mod Asks
 pub mod Session
+pub mod Wanted
 pub mod SafeStep
 pub mod Noted
 pub mod Answers
@@ -14,3 +15,5 @@ pub mod Fresh
 pub mod Laws
 pub mod RoundLaws
 pub mod NotedLaws
+pub mod Trusted
+pub mod TrustLaws

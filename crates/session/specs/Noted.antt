@@ -16,6 +16,7 @@ use Rattle.session.specs.declared.verdict.Verdict.{Verdict}
 use Rattle.session.specs.declared.verdict.Verdict.TheVariants as verdict
 use Rattle.session.specs.Session.{SessionSeen, IsAsked, IsStored, IsHashRefused, Step, IsTrueVerdict}
 use Rattle.session.specs.SafeStep.{KeepsKnown, TakesWhatIsTrue}
+use Rattle.session.specs.Wanted.{ClosesOneGap}
 
 -- a request of our own for this went out, and no hashes have answered it yet
 abbrev pub IsOpenAsk : SessionSeen → Ask → Type 0
@@ -79,6 +80,12 @@ TakesWhatIsTrueAndAsked S (In, message.Hashes ask hashes) v =
 TakesWhatIsTrueAndAsked S (In, m) v = TakesWhatIsTrue S m v
 TakesWhatIsTrueAndAsked S (Out, m) v = Unit {0}
 
+-- the true answer to what is wanted closes exactly one gap, if its ask is open
+abbrev pub ClosesOneGapIfAsked : SessionSeen → Directed Message → Verdict → SessionSeen → Type 0
+ClosesOneGapIfAsked S (In, message.Hashes ask hashes) v S' =
+    IsOpenAsk S ask → ClosesOneGap S (message.Hashes ask hashes) v S'
+ClosesOneGapIfAsked S x v S' = Unit {0}
+
 -- the hashes that are asked for are known, so far as the base range goes
 pub record IsBaseKnown (S : SessionSeen) (ask : Ask) : Type 0 where
   pub asked : IsAsked S ask
@@ -93,13 +100,15 @@ OpensOnlyOurs S (Out, m) S' = Unit {0}
 abbrev pub KeepsOpen : SessionSeen → SessionSeen → Type 0
 KeepsOpen S S' = (ask : Ask) → IsOpenAsk S ask → IsOpenAsk S' ask ⊎ IsBaseKnown S' ask
 
--- a step that is allowed, verifies nothing but the block itself, is not harmed by poison, and lets
--- nobody else open an ask, or close it without its answer
+-- a step that is allowed, verifies nothing but the block itself, is not harmed by poison, closes
+-- exactly one gap where the true answer to what is wanted and asked came, and lets nobody else open
+-- an ask, or close it without its answer
 pub record IsSafeNotedStep (S : SessionSeen) (x : Directed Message) (v : Verdict)
     (S' : SessionSeen) : Type 0 where
   pub allowed : NotedStep S x v S'
   pub verified_is_the_block : IsTrueNotedVerdict S x v
   pub keeps_known : KeepsKnown S S'
   pub takes_what_is_true : TakesWhatIsTrueAndAsked S x v
+  pub closes_one_gap : ClosesOneGapIfAsked S x v S'
   pub opens_only_ours : OpensOnlyOurs S x S'
   pub keeps_open : KeepsOpen S S'

@@ -2,7 +2,7 @@
 use Rattle.std.specs.Prelude.{◌≡◌, ◌≢◌, ◌⊎◌, ℕ, ◌+◌, ◌<◌, ◌≤◌, List, [], ◌∷◌}
 use Rattle.std.specs.List.{All, AllZip, AllByRecursion}
 use Rattle.wire.specs.declared.direction.Direction.TheVariants.{In, Out}
-use Rattle.wire.specs.declared.frame.Frame.{Frame as Told}
+use Rattle.wire.specs.declared.frame.Frame.{Frame as FrameRead}
 use Rattle.wire.specs.declared.message.Ask.{Ask as Asked}
 use Rattle.wire.specs.declared.message.Message.{Message as Sent}
 use Rattle.wire.specs.Meaning.{Means}
@@ -20,7 +20,7 @@ use Rattle.chains.specs.Chain.{Chain}
 use Rattle.session.specs.Asks.{AskSet}
 use Rattle.session.specs.Session.{SessionSeen, TreeState, IsTree, HasClosedTrees, HasDistinctRoots, Step}
 use Rattle.session.specs.Rounds.{HasNoMoreGaps, Collides}
-use Rattle.session.specs.Noted.{IsOpenAsk, NotedStep, KeepsOpen}
+use Rattle.session.specs.Noted.{IsOpenAsk, NotedStep, IsSafeNotedStep, KeepsOpen}
 use Rattle.session.specs.NotedRounds.{HasDirectedHashes, NotedRoundLeavesFewer, NotedRounds}
 
 -- ---- memory aside
@@ -70,7 +70,7 @@ FormOneRunsAsConversion =
 -- of the bodies, with the same verdicts on what came in, and the same last trees and marks
 abbrev pub ConversionReplaysAsFormOne : Type 0
 ConversionReplaysAsFormOne = (S : SessionSeen) (bodies : List (List ℕ))
-    (fs : List Told) (gs : List (Directed Told)) (vs : List Said) (S' : SessionSeen)
+    (fs : List FrameRead) (gs : List (Directed FrameRead)) (vs : List Said) (S' : SessionSeen)
     → AllZip Means bodies fs → AllZip MeansDirected (conversion bodies) gs
     → Chain NotedStep S (directed_messages gs) vs S' → AllNoted (directed_messages gs) vs
     → Chain Step S (messages_in fs) (incoming (directed_messages gs) vs) (asking S.asks S')
@@ -84,9 +84,9 @@ OneRunWithMemory = (S : SessionSeen) → HasDistinctRoots S
 
 -- with memory for all, a conversion gives what came in the verdicts of form 1, in order, and the
 -- same last trees and marks
-abbrev pub ConversionTellsTheSame : Type 0
-ConversionTellsTheSame = (S : SessionSeen) → HasDistinctRoots S → (bodies : List (List ℕ))
-    (fs : List Told) (gs : List (Directed Told)) (vs ws : List Said) (T S' : SessionSeen)
+abbrev pub ConversionGivesTheSame : Type 0
+ConversionGivesTheSame = (S : SessionSeen) → HasDistinctRoots S → (bodies : List (List ℕ))
+    (fs : List FrameRead) (gs : List (Directed FrameRead)) (vs ws : List Said) (T S' : SessionSeen)
     → AllZip Means bodies fs → AllZip MeansDirected (conversion bodies) gs
     → Chain Step S (messages_in fs) vs T → HadMemory vs
     → Chain NotedStep S (directed_messages gs) ws S' → HadMemory ws
@@ -139,3 +139,9 @@ NotedRoundsMakeAllKnown = (S S' : SessionSeen) → HasDistinctRoots S
     → ((later : TreeState) × IsTree S' n tree later
     × ((b : ℕ) → b < block_count tree.length → IsKnown (look later.known) 0 b))
     ⊎ Collides S' n f
+
+-- a run of safe steps, as `Session::run_noted` gives it, is such a run
+abbrev pub SafeNotedRunIsRun : Type 0
+SafeNotedRunIsRun =
+    (S : SessionSeen) (ms : List (Directed Sent)) (vs : List Said) (S' : SessionSeen)
+    → Chain IsSafeNotedStep S ms vs S' → Chain NotedStep S ms vs S'

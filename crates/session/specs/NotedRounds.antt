@@ -15,7 +15,8 @@ use Rattle.session.specs.declared.verdict.Verdict.TheVariants as verdict
 use Rattle.node_maps.specs.Digest.{Hash}
 use Rattle.node_maps.specs.Known.{look}
 use Rattle.session.specs.Session.{SessionSeen, HasFewerGaps, HasHashes}
-use Rattle.session.specs.Rounds.{IsWantedAnswer, LacksMemoryAtLast, Collides, Repeated}
+use Rattle.session.specs.Wanted.{IsWantedAnswer}
+use Rattle.session.specs.Rounds.{LacksMemoryAtLast, Collides, Repeated}
 use Rattle.session.specs.Noted.{IsOpenAsk, NotedStep}
 use Rattle.chains.specs.Chain.{Chain}
 

@@ -13,6 +13,7 @@ use Rattle.partial_tree.specs.Gaps.{gaps, want_ask, want_of}
 use Rattle.node_maps.specs.Known.{look}
 use Rattle.session.specs.Session.{SessionSeen, TreeState, IsTree, HasClosedTrees, HasDistinctRoots, HasHashes, Step}
 use Rattle.chains.specs.Chain.{Chain}
+use Rattle.session.specs.SafeStep.{IsSafeStep}
 use Rattle.session.specs.Rounds.{Rounds, HasNoMoreGaps, RoundLeavesFewer, Collides}
 
 -- if no gap is left, nothing is wanted
@@ -66,3 +67,8 @@ RoundsMakeAllKnown = (S S' : SessionSeen) → HasDistinctRoots S
     → ((later : TreeState) × IsTree S' n tree later
     × ((b : ℕ) → b < block_count tree.length → IsKnown (look later.known) 0 b))
     ⊎ Collides S' n f
+
+-- a run of safe steps, as `Session::run` gives it, is a run
+abbrev pub SafeRunIsRun : Type 0
+SafeRunIsRun = (S : SessionSeen) (ms : List Sent) (vs : List Said) (S' : SessionSeen)
+    → Chain IsSafeStep S ms vs S' → Chain Step S ms vs S'

@@ -1,5 +1,5 @@
 -- Rounds: messages that end with the true answer to what was wanted before them.
-use Rattle.std.specs.Prelude.{◌≡◌, ◌⊎◌, ℕ, zero, suc, ◌<◌, ◌≤◌, List, [], ◌∷◌, ◌++◌, Some}
+use Rattle.std.specs.Prelude.{◌≡◌, ◌⊎◌, ℕ, zero, suc, ◌≤◌, List, [], ◌∷◌, ◌++◌}
 use Rattle.std.specs.Borrow.{Bor}
 use Rattle.std.specs.List.{All}
 use Rattle.wire.specs.declared.message.Ask.{Ask}
@@ -9,27 +9,13 @@ use Rattle.partial_tree.specs.declared.refusal.HashRefusal.TheVariants.{NoMemory
 use Rattle.session.specs.declared.verdict.Verdict.{Verdict}
 use Rattle.session.specs.declared.verdict.Verdict.TheVariants as verdict
 use Rattle.node_maps.specs.Digest.{Hash}
-use Rattle.hashtree.specs.Tree.{block_count}
-use Rattle.partial_tree.specs.TreeRoot.{TreeRoot, Fits}
-use Rattle.node_maps.specs.Places.{tree_height}
+use Rattle.partial_tree.specs.TreeRoot.{TreeRoot}
 use Rattle.partial_tree.specs.Closed.{Collision, whole}
-use Rattle.partial_tree.specs.Claims.{answer_of}
-use Rattle.partial_tree.specs.Gaps.{gaps, want_of}
+use Rattle.partial_tree.specs.Gaps.{gaps}
 use Rattle.node_maps.specs.Known.{look}
 use Rattle.session.specs.Session.{SessionSeen, TreeState, IsTree, HasFewerGaps, HasHashes, Step}
+use Rattle.session.specs.Wanted.{IsWantedAnswer}
 use Rattle.chains.specs.Chain.{Chain}
-
--- the hashes are the true answer for f to an ask that is wanted of tree n
-pub record IsWantedAnswer (S : SessionSeen) (n : ℕ) (f : List ℕ) (ask : Ask) (hashes : List Hash)
-    : Type 0 where
-  pub tree : TreeRoot
-  pub state : TreeState
-  pub is_tree : IsTree S n tree state
-  pub fits : Fits f tree
-  pub block : ℕ
-  pub inside : block < block_count tree.length
-  pub wanted : want_of tree (look state.known) block ≡ Some ask
-  pub is_answer : hashes ≡ answer_of (tree_height tree.length) (whole f) ask
 
 -- messages that end with the true answer for f to an ask that was wanted of tree n before the
 -- first

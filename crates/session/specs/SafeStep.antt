@@ -12,13 +12,14 @@ use Rattle.hashtree.specs.Tree.{block}
 use Rattle.node_maps.specs.Digest.{Hash}
 use Rattle.node_maps.specs.Places.{tree_height, IsKnown}
 use Rattle.node_maps.specs.Known.{look}
-use Rattle.metainfo.specs.Description.{Description}
-use Rattle.metainfo.specs.Blocks.{IsBlockRun}
+use Rattle.opening.specs.Description.{Description}
+use Rattle.opening.specs.Blocks.{IsBlockRun}
 use Rattle.partial_tree.specs.TreeRoot.{TreeRoot, Fits}
 use Rattle.partial_tree.specs.Closed.{Keeps, Collision, whole}
 use Rattle.partial_tree.specs.Claims.{top_layer, top_index, GoodRange, GoodCount, IsToldBy, CanAnswer, answer_of}
 use Rattle.session.specs.Session.{SessionSeen, TreeState, IsTree, HasClosedTrees, IsAsked, IsInFile, IsPlaced, Step, IsTrueVerdict}
 use Rattle.session.specs.Blocks.{BlocksSeen}
+use Rattle.session.specs.Wanted.{ClosesOneGap}
 
 -- each known place of each tree keeps its value
 abbrev pub KeepsKnown : SessionSeen → SessionSeen → Type 0
@@ -98,10 +99,12 @@ TakesWhatIsTrue S (message.Piece index begin bytes) (verdict.BlockRefused r) =
     IsNoRun S index begin bytes.now
 TakesWhatIsTrue S m v = Unit {0}
 
--- a step that is allowed, verifies nothing but the block itself, and is not harmed by poison
+-- a step that is allowed, verifies nothing but the block itself, is not harmed by poison, and
+-- closes exactly one gap where the true answer to what is wanted came
 pub record IsSafeStep (S : SessionSeen) (m : Message) (v : Verdict) (S' : SessionSeen)
     : Type 0 where
   pub allowed : Step S m v S'
   pub verified_is_the_block : IsTrueVerdict S m v
   pub keeps_known : KeepsKnown S S'
   pub takes_what_is_true : TakesWhatIsTrue S m v
+  pub closes_one_gap : ClosesOneGap S m v S'

@@ -21,8 +21,8 @@ use Rattle.partial_tree.specs.Gaps.{gaps}
 use Rattle.node_maps.specs.Known.{look}
 use Rattle.partial_tree.specs.Joins.{TakesHashes, TakesLayer}
 use Rattle.partial_tree.specs.Fill.{FillRefuses}
-use Rattle.metainfo.specs.Places.{place_of}
-use Rattle.metainfo.specs.Blocks.{IsBlockRun}
+use Rattle.opening.specs.Places.{place_of}
+use Rattle.opening.specs.Blocks.{IsBlockRun}
 use Rattle.chains.specs.Chain.{Chain}
 use Rattle.partial_tree.specs.Kept.{HasBlockSize, RefusesBlock}
 use Rattle.session.specs.Blocks.{BlocksSeen, Cut, cuts}

@@ -2,11 +2,15 @@
 //! that peers send.
 #![tactic(auto)]
 
+mod asking;
 mod blocks;
+mod hashes;
 pub mod laws;
+mod marking;
 mod noting;
 mod open_asks;
 mod planting;
+mod running;
 mod session;
 mod verdict;
 
@@ -14,5 +18,6 @@ pub use blocks::Blocks;
 pub use hashtree::NoMemory;
 pub use node_maps::{Flat, NodeMap, Paged};
 pub use partial_tree::{Answer, BlockRefusal, GrowingTree, GrownTree, HashRefusal};
+pub use running::has_hashes;
 pub use session::Session;
 pub use verdict::Verdict;

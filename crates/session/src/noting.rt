@@ -5,9 +5,11 @@ ghost use Rattle.chains.specs.Chain.{Chain};
 ghost use Rattle.session.specs.SafeStep.{KeepsKnown, StoresTrueHashes, StoresAnswers};
 ghost use Rattle.session.specs.Noted.{IsOpenAsk, IsAnswerStored, IsAnswerRefused, StepIn, StepOut, IsSafeNotedStep, KeepsOpen, with_ask};
 ghost use Rattle.session.specs.NotedRounds.{NotedRoundLeavesFewer};
+ghost use Rattle.session.specs.Wanted.{WantedClosesOneGap};
 ghost use Rattle.session.specs.Rounds.{HasNoMoreGaps};
 
-use crate::session::{Session, has_hashes};
+use crate::running::has_hashes;
+use crate::session::Session;
 use crate::verdict::Verdict;
 use hashtree::{Hash, NoMemory};
 use node_maps::NodeMap;
@@ -38,6 +40,8 @@ impl<'t, N: NodeMap> Session<'t, N> {
     /// Takes a hashes message that answers an open ask, which is closed by it. Returns how many
     /// places are newly known, those past the file's end counted. Hashes that nobody asked for are
     /// refused before any other test. A refusal closes nothing, and leaves the session unchanged.
+    /// The true answer to what [`Session::want`] gives now leaves exactly one gap fewer, unless
+    /// memory is refused for it or two inputs with one digest are named.
     pub fn take_answer(&mut self, ask: &Ask, hashes: &[Hash]) -> Result<u64, HashRefusal>
         ensures stored { IfOk result (λ c. IsAnswerStored self.old ask.now hashes.now c self.new) }
         ensures refused { IfErr result (λ r. IsAnswerRefused self.old ask.now hashes.now r
@@ -47,6 +51,8 @@ impl<'t, N: NodeMap> Session<'t, N> {
             → StoresTrueHashes self.old ask.now hashes.now result }
         ensures stores_answers { IsOpenAsk self.old ask.now
             → StoresAnswers self.old ask.now hashes.now result }
+        ensures closes_one_gap { IsOpenAsk self.old ask.now
+            → WantedClosesOneGap self.old ask.now hashes.now result self.new }
     {
         if !self.is_open(ask) {
             return Err(HashRefusal::Unasked);
@@ -60,9 +66,9 @@ impl<'t, N: NodeMap> Session<'t, N> {
         }
     }
 
-    /// Takes one message that came in or went out, and tells what it makes of it. What came in is
+    /// Takes one message that came in or went out, and returns what it makes of it. What came in is
     /// taken as by `step`, but hashes as by `take_answer`. Of what went out a request is noted, and
-    /// all else is told as sent. What it tells verified is that block of every file with the tree's
+    /// all else is only sent. What it verifies is that block of every file with the tree's
     /// length and root, or two inputs with one digest are named. What is known stays known. True
     /// hashes that lead to a known node and whose ask is open are stored, unless memory is refused
     /// or a collision is named; the true block of a known leaf is verified, or a collision is
@@ -80,6 +86,7 @@ impl<'t, N: NodeMap> Session<'t, N> {
         }
     }
 
+    // Apart from `step_noted`, so that what each step keeps is proved of one verdict.
     fn take_in(&mut self, message: &Message<'_>) -> Verdict
         ensures { StepIn self.old message.now result self.new }
     {
@@ -105,7 +112,7 @@ impl<'t, N: NodeMap> Session<'t, N> {
     }
 
     /// Takes messages that came in or went out, one after the other, each as by `step_noted`, and
-    /// tells what it makes of each. What it tells verified is that block of every file with the
+    /// returns what it makes of each. What it verifies is that block of every file with the
     /// tree's length and root, or two inputs with one digest are named. What is known stays known;
     /// true blocks and true hashes whose ask is open are taken, whatever came before them, unless
     /// memory is refused or a collision is named. No tree has more gaps afterwards, and an open ask

@@ -1,14 +1,15 @@
 //! The trees of a new session.
 
 ghost use Rattle.std.specs.Prelude.{◌<◌, true, false, IfOk, OnOk};
-ghost use Rattle.metainfo.specs.Seen.{tree_entry};
-ghost use Rattle.metainfo.specs.Sound.{IsSoundTree};
+ghost use Rattle.opening.specs.Seen.{tree_entry};
+ghost use Rattle.opening.specs.Sound.{IsSoundTree};
 ghost use Rattle.session.specs.Fresh.{IsPlanted};
 
 use hashtree::{NoMemory, Shape};
-use metainfo::{PieceLength, TreeInfo};
 use node_maps::NodeMap;
-use partial_tree::Tree;
+use opening::TreeInfo;
+use partial_tree::{Tree, are_hashes, is_hash};
+use pieces::PieceLength;
 use std::alloc::Global;
 
 /// A tree as a new session knows it: by its root alone, or with layers also from its piece layer
@@ -22,6 +23,7 @@ pub(crate) fn planted<N: NodeMap>(
     requires { IsSoundTree piece_length (tree_entry info.now) }
     ensures { IfOk result (λ t. IsPlanted piece_length with_layers (tree_entry info.now) t) }
 {
+    is_hash(&info.root);
     let mut tree = Tree::new(alloc, info.root, Shape::of(info.length).unwrap())?;
     if with_layers && info.length > piece_length.bytes() {
         add_layers(&mut tree, info, piece_length)?;
@@ -42,6 +44,7 @@ fn add_layers<N: NodeMap>(
     ensures { OnOk result (IsPlanted piece_length true (tree_entry info.now) tree.new) }
 {
     let layer = Shape::of(piece_length.bytes()).unwrap().height();
+    are_hashes(info.layer);
     tree.plant(layer, info.layer)?;
     Ok(())
 }

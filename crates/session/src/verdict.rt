@@ -10,7 +10,7 @@ pub enum Verdict {
     Stored(u64),
     /// Hashes were refused, and nothing has changed.
     HashRefused(HashRefusal),
-    /// What is made of each block of a piece message: it is the one that its leaf tells, and is
+    /// What is made of each block of a piece message: its digest is its known leaf, and it is
     /// marked, or it is refused by itself.
     Blocks(Blocks),
     /// A piece message was refused whole, and nothing has changed.

@@ -9,6 +9,7 @@ use Rattle.wire.specs.Frames.{IsBody, frame}
 use Rattle.wire.specs.Head.{Holds}
 use Rattle.wire.specs.Meaning.{Means, max_kept}
 use Rattle.wire.specs.Reading.{GaveFaultless, StopsInFrame}
+use Rattle.wire.specs.Room.{RoomAfter, RoomAfterFault}
 use Rattle.wire.specs.declared.fault.FrameFault.{FrameFault}
 use Rattle.wire.specs.declared.fault.FrameFault.TheVariants as fault
 use Rattle.wire.specs.declared.frame.Frame.{Frame}
@@ -70,6 +71,7 @@ pub record ReadsFrame {S : Type 0} (seen : S → SourceSeen) (old new : FrameRea
   pub gave : GaveFaultless (seen (source_of old)) (seen (source_of new)) (frame body)
   pub holds : HoldsBody new body
   pub stays : IsOpen new
+  pub room : RoomAfter new.head (room old) (room new)
 
 -- nothing was read, since the source has ended
 pub record ReadsEnd {S : Type 0} (seen : S → SourceSeen) (old new : FrameReader S (Vec ℕ))
@@ -77,6 +79,7 @@ pub record ReadsEnd {S : Type 0} (seen : S → SourceSeen) (old new : FrameReade
   pub gave : GaveFaultless (seen (source_of old)) (seen (source_of new)) []
   pub at_end : IsAtEnd (seen (source_of new)).left
   pub ended : HasEnded new
+  pub room : room new ≡ room old
 
 -- no whole frame was read, and this is why. Out of memory comes only without room
 pub record FailsToRead {S : Type 0} (seen : S → SourceSeen) (old new : FrameReader S (Vec ℕ))
@@ -84,6 +87,7 @@ pub record FailsToRead {S : Type 0} (seen : S → SourceSeen) (old new : FrameRe
   pub stops : StopsInFrame (seen (source_of old)) (seen (source_of new)) why
   pub failed : HasFailed new why
   pub memory : why ≡ fault.NoMemory → ¬ HasRoom old
+  pub room : RoomAfterFault why (room old) (room new)
 
 -- what an open reader does: it reads the next frame, or the end, or it fails
 abbrev pub ReadsNext : {S : Type 0} → (S → SourceSeen) → FrameReader S (Vec ℕ)
@@ -101,7 +105,7 @@ pub record Advances {S : Type 0} (seen : S → SourceSeen) (old : FrameReader S 
   pub failed_again : (why : FrameFault) → HasFailed old why → (result ≡ Err why) × (new ≡ old)
   pub source : KeepsSource old new
   pub bounded : kept_len old ≤ max_kept → kept_len new ≤ max_kept
-  pub has_room : HasRoom old → HasRoom new
+  pub has_room : HasRoom old → room new ≡ room old
 
 -- whether there is a frame, if the call did not fail
 abbrev pub is_there : {X : Type 0} → Result (Option X) FrameFault → Result Bool FrameFault

@@ -12,7 +12,8 @@ use Rattle.wire.specs.declared.reader.FrameReader.{FrameReader}
 use Rattle.wire.specs.declared.record_reader.RecordReader.{RecordReader}
 use Rattle.wire.specs.Head.{Holds}
 use Rattle.wire.specs.Meaning.{max_kept}
-use Rattle.wire.specs.Reader.{IsOpen, HasEnded, HasFailed, HasRoom, HoldsBody, KeepsSource, is_there, kept_len}
+use Rattle.wire.specs.Reader.{IsOpen, HasEnded, HasFailed, HasRoom, HoldsBody, KeepsSource, is_there, kept_len, room}
+use Rattle.wire.specs.Room.{RoomAfter, RoomAfterFault}
 use Rattle.wire.specs.RecordReading.{EndsRecord, GaveFrame, StopsInRecord}
 use Rattle.wire.specs.Records.{Directed, MeansDirected}
 
@@ -47,6 +48,7 @@ pub record ReadsDirected {S : Type 0} (seen : S → SourceSeen) (old new : Recor
       GaveFrame (form_of old) form directed (seen (source_of old)) (seen (source_of new))
   pub holds : HoldsDirected new directed
   pub stays : IsOpen (frame_reader new)
+  pub room : RoomAfter new.head (room (frame_reader old)) (room (frame_reader new))
 
 -- no further frame was read, since the record has ended, between two frames
 pub record ReadsRecordEnd {S : Type 0} (seen : S → SourceSeen) (old new : RecordReader S (Vec ℕ))
@@ -55,6 +57,7 @@ pub record ReadsRecordEnd {S : Type 0} (seen : S → SourceSeen) (old new : Reco
   pub known : form_of new ≡ Some form
   pub ends : EndsRecord (form_of old) form (seen (source_of old)) (seen (source_of new))
   pub ended : HasEnded (frame_reader new)
+  pub room : room (frame_reader new) ≡ room (frame_reader old)
 
 -- no whole frame was read, and this is why. Out of memory comes only without room
 pub record FailsInRecord {S : Type 0} (seen : S → SourceSeen) (old new : RecordReader S (Vec ℕ))
@@ -63,6 +66,7 @@ pub record FailsInRecord {S : Type 0} (seen : S → SourceSeen) (old new : Recor
   pub stops : StopsInRecord (form_of old) (seen (source_of old)) (seen (source_of new)) why
   pub failed : HasFailed (frame_reader new) why
   pub memory : why ≡ fault.NoMemory → ¬ HasRoom (frame_reader old)
+  pub room : RoomAfterFault why (room (frame_reader old)) (room (frame_reader new))
 
 -- what an open reader does: it reads the next frame, or the end of the record, or it fails
 abbrev pub ReadsNextInRecord : {S : Type 0} → (S → SourceSeen) → RecordReader S (Vec ℕ)
@@ -81,7 +85,8 @@ pub record AdvancesInRecord {S : Type 0} (seen : S → SourceSeen) (old : Record
       (why : FrameFault) → HasFailed (frame_reader old) why → (result ≡ Err why) × (new ≡ old)
   pub source : KeepsSource (frame_reader old) (frame_reader new)
   pub bounded : kept_len (frame_reader old) ≤ max_kept → kept_len (frame_reader new) ≤ max_kept
-  pub has_room : HasRoom (frame_reader old) → HasRoom (frame_reader new)
+  pub has_room :
+      HasRoom (frame_reader old) → room (frame_reader new) ≡ room (frame_reader old)
 
 -- what a call that asks for the next frame of a record answers, and what it leaves: the frame that
 -- it answers has the direction that the reader then holds, and is what its body means

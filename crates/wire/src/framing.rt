@@ -1,17 +1,19 @@
 //! One frame from a source.
-ghost use Rattle.std.specs.Prelude.{◌≡◌, ◌≤◌, ◌<◌, ◌-◌, ℕ, [], List, length, take, MatchResult, OnOk, IsErrOf, vec_capacity};
+ghost use Rattle.std.specs.Prelude.{◌≡◌, ◌≤◌, ◌<◌, ◌-◌, ℕ, [], List, length, take, MatchResult, OnOk, OnErr, IsErrOf, vec_capacity, vec_len};
 ghost use Rattle.wire.specs.Head.{Holds};
 ghost use Rattle.wire.specs.Meaning.{max_kept};
 ghost use Rattle.wire.specs.Reading.{GivesAll, GivesBody, StopsInBody, Gives};
+ghost use Rattle.wire.specs.Room.{GrowsToBound, RoomAfter, RoomAfterCall, RoomAfterFault};
 
 use crate::bytes::{read_exact, read_length, skip};
 use crate::fault::FrameFault;
 use crate::head::Head;
 use crate::kind::MAX_BODY;
 use benc::Source;
+use std::alloc::AllocError as NoMemory;
 
-/// What is kept of the longest body: all but its id.
-pub(crate) const MAX_KEPT: usize = MAX_BODY as usize - 1;
+// What is kept of the longest body: all but its id.
+const MAX_KEPT: usize = MAX_BODY as usize - 1;
 
 /// Reads the next frame, or `None` at the end of the source.
 pub(crate) fn read_frame<R: Source>(
@@ -21,7 +23,10 @@ pub(crate) fn read_frame<R: Source>(
     ensures bytes { Gives (R.seen source.old) (R.seen source.new)
         (λ body head. Holds head kept.new.items body) result }
     ensures bounded { length kept.old.items ≤ max_kept → length kept.new.items ≤ max_kept }
-    ensures capacity { vec_capacity kept.old ≤ vec_capacity kept.new }
+    ensures room { RoomAfterCall (λ head. head) (vec_capacity kept.old) (vec_capacity kept.new)
+        result }
+    ensures enough { max_kept ≤ vec_capacity kept.old
+        → vec_capacity kept.new ≡ vec_capacity kept.old }
     ensures memory { IsErrOf result FrameFault.NoMemory → vec_capacity kept.old < max_kept }
 {
     match read_length(source)? {
@@ -41,7 +46,11 @@ pub(crate) fn read_body<R: Source>(
         (λ body head. Holds head kept.new.items body))
         (StopsInBody (R.seen source.old) (R.seen source.new) len) }
     ensures bounded { length kept.old.items ≤ max_kept → length kept.new.items ≤ max_kept }
-    ensures capacity { vec_capacity kept.old ≤ vec_capacity kept.new }
+    ensures room { MatchResult result
+        (λ head. RoomAfter head (vec_capacity kept.old) (vec_capacity kept.new))
+        (λ why. RoomAfterFault why (vec_capacity kept.old) (vec_capacity kept.new)) }
+    ensures enough { max_kept ≤ vec_capacity kept.old
+        → vec_capacity kept.new ≡ vec_capacity kept.old }
     ensures memory { IsErrOf result FrameFault.NoMemory → vec_capacity kept.old < max_kept }
 {
     if len == 0 {
@@ -57,6 +66,19 @@ pub(crate) fn read_body<R: Source>(
     Ok(head)
 }
 
+/// Takes the room for the longest body that is kept.
+pub(crate) fn take_room(kept: &mut Vec<u8>) -> Result<(), NoMemory>
+    ensures grows { OnOk result (GrowsToBound (vec_capacity kept.old) (vec_capacity kept.new)) }
+    ensures refused { OnErr result (vec_capacity kept.new ≡ vec_capacity kept.old) }
+    ensures memory { OnErr result (vec_capacity kept.old < max_kept) }
+    ensures unchanged { kept.new.items ≡ kept.old.items }
+{
+    if kept.capacity() < MAX_KEPT {
+        kept.reserve_exact(MAX_KEPT - kept.len())?;
+    }
+    Ok(())
+}
+
 // Reads this many bytes to the front of what is kept. The first call makes the room.
 fn keep<R: Source>(source: &mut R, kept: &mut Vec<u8>, count: u32) -> Result<(), FrameFault>
     requires some { 0 < count }
@@ -65,11 +87,26 @@ fn keep<R: Source>(source: &mut R, kept: &mut Vec<u8>, count: u32) -> Result<(),
         count result }
     ensures room { OnOk result (count ≤ length kept.new.items) }
     ensures bounded { length kept.old.items ≤ max_kept → length kept.new.items ≤ max_kept }
-    ensures capacity { vec_capacity kept.old ≤ vec_capacity kept.new }
+    ensures grows { OnOk result (GrowsToBound (vec_capacity kept.old) (vec_capacity kept.new)) }
+    ensures fault { MatchResult result (λ _. Unit {0})
+        (λ why. RoomAfterFault why (vec_capacity kept.old) (vec_capacity kept.new)) }
     ensures memory { IsErrOf result FrameFault.NoMemory → vec_capacity kept.old < max_kept }
 {
-    kept.resize(MAX_KEPT, 0)?;
+    take_room(kept)?;
+    lengthen(kept);
     fill_front(source, kept.as_mut_slice(), count as usize)
+}
+
+// Makes what is kept as long as the longest body, for which there is room.
+fn lengthen(kept: &mut Vec<u8>)
+    requires { max_kept ≤ vec_capacity kept.old }
+    ensures long { max_kept ≤ vec_len kept.new }
+    ensures bounded { length kept.old.items ≤ max_kept → length kept.new.items ≤ max_kept }
+    ensures capacity { vec_capacity kept.new ≡ vec_capacity kept.old }
+{
+    'zeros: while kept.len() < MAX_KEPT {
+        kept.push_reserved(0);
+    }
 }
 
 // Reads this many bytes to the front of the room.

@@ -1,6 +1,10 @@
 //! Laws of frames and of what they mean.
+ghost use Rattle.std.specs.Prelude.{◌≡◌};
 ghost use Rattle.wire.specs.Laws.{OneListOfFrames, EachStreamHasFrames, FramesAfterFrames, OneMeaning, WrittenIsRead};
 ghost use Rattle.wire.specs.RecordLaws.{OneReadingOfRecord, EachRecordHasFrames, FormOneIsStream, RestOfRecord, ConversionIsRecord, ConversionMeans};
+ghost use Rattle.wire.specs.Records.{header};
+
+use crate::form::HEADER;
 
 /// A stream has one list of frames and one rest.
 pub fn one_list_of_frames()
@@ -37,6 +41,11 @@ pub fn records_have_frames()
     ensures each { EachRecordHasFrames }
     ensures stream { FormOneIsStream }
     ensures rest { RestOfRecord }
+{}
+
+/// The constant is what a record of form 2 begins with.
+pub fn header_begins_form_2()
+    ensures { HEADER ≡ header }
 {}
 
 /// The conversion of whole frames is a record of form 2, whose frames mean what the converted

@@ -1,15 +1,16 @@
 //! A reader of frames that lends its own buffer.
 ghost use mir.Syntax.{named};
-ghost use Rattle.std.specs.Prelude.{◌≡◌, ◌≢◌, ◌≤◌, ◌<◌, ◌⊎◌, vec_capacity, OnOk, OnErr, ℕ, List, [], IfOk, IfSome};
+ghost use Rattle.std.specs.Prelude.{◌≡◌, vec_capacity, ℕ, List, [], IfOk, IfSome};
 ghost use Rattle.std.specs.Borrow.{sem};
 ghost use Rattle.std.specs.Io.BufRead.{Rests};
-ghost use Rattle.wire.specs.Meaning.{Means, max_kept};
+ghost use Rattle.wire.specs.Meaning.{Means};
+ghost use Rattle.wire.specs.Reserving.{Reserves};
 ghost use Rattle.wire.specs.Rows.{bytes_row};
 ghost use Rattle.wire.specs.contracts.reader.FrameReader.{the_row};
 
 use crate::fault::FrameFault;
 use crate::frame::Frame;
-use crate::framing::{MAX_KEPT, read_frame};
+use crate::framing::{read_frame, take_room};
 use crate::head::{Head, frame_of};
 use benc::Source;
 use std::alloc::{AllocError as NoMemory, Global};
@@ -53,17 +54,15 @@ impl<'r, R: Source> FrameReader<'r, R> {
         }
     }
 
-    /// Takes all the room that the reader will need: after `Ok` no call answers `NoMemory`. A
+    /// Takes all the room that the reader will need, and no more: after `Ok` no call answers
+    /// `NoMemory`. After the end and after a fault the reader needs none, and this is `Ok`; but a
     /// reader that has answered `NoMemory` answers it again. After a refusal the reader is
     /// unchanged.
     pub fn reserve(&mut self) -> Result<(), NoMemory>
-        ensures room { OnOk result (HasRoom self.new × ¬ HasFailed self.old FrameFault.NoMemory) }
-        ensures refused { OnErr result (room self.new ≡ room self.old) }
-        ensures memory { OnErr result
-            (HasFailed self.old FrameFault.NoMemory ⊎ ¬ HasRoom self.old) }
+        ensures room { Reserves self.old.state (room self.old) result (room self.new) }
         ensures unchanged { IsSameButRoom self.old self.new }
     {
-        take_room(self.state, &mut self.kept)
+        reserve(self.state, &mut self.kept)
     }
 
     /// The next frame, or `None` at the end of the source. After `None` and after a fault each
@@ -131,20 +130,15 @@ impl<R: Source, B: Drop> Drop for FrameReader<'_, R, B> {
     }
 }
 
-/// Takes the room for the longest body that is kept, if the reader has not answered `NoMemory`.
-pub(crate) fn take_room(state: State, kept: &mut Vec<u8>) -> Result<(), NoMemory>
-    ensures room { OnOk result ((max_kept ≤ vec_capacity kept.new)
-        × (state ≢ State.Failed FrameFault.NoMemory)) }
-    ensures refused { OnErr result (vec_capacity kept.new ≡ vec_capacity kept.old) }
-    ensures memory { OnErr result ((state ≡ State.Failed FrameFault.NoMemory)
-        ⊎ (vec_capacity kept.old < max_kept)) }
+/// Takes the room that an open reader will need; a closed one needs none. One that has answered
+/// `NoMemory` answers it again.
+pub(crate) fn reserve(state: State, kept: &mut Vec<u8>) -> Result<(), NoMemory>
+    ensures room { Reserves state (vec_capacity kept.old) result (vec_capacity kept.new) }
     ensures unchanged { kept.new.items ≡ kept.old.items }
 {
-    if let State::Failed(FrameFault::NoMemory) = state {
-        return Err(NoMemory);
+    match state {
+        State::Open => take_room(kept),
+        State::Failed(FrameFault::NoMemory) => Err(NoMemory),
+        State::Ended | State::Failed(_) => Ok(()),
     }
-    if kept.capacity() < MAX_KEPT {
-        kept.reserve(MAX_KEPT)?;
-    }
-    Ok(())
 }

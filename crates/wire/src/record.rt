@@ -6,6 +6,7 @@ ghost use Rattle.wire.specs.Meaning.{max_kept};
 ghost use Rattle.wire.specs.Reading.{GaveFaultless};
 ghost use Rattle.wire.specs.RecordReading.{GivesNext, GivesStart, StopsInRecord};
 ghost use Rattle.wire.specs.RecordReader.{HoldsFrom};
+ghost use Rattle.wire.specs.Room.{RoomAfterCall, RoomAfterNext};
 
 use crate::bytes::{read_exact, read_length, skip};
 use crate::direction::Direction;
@@ -33,7 +34,9 @@ pub(crate) fn read_next<R: Source>(
         (HoldsFrom kept.new.items) next.1)
         (StopsInRecord form (R.seen source.old) (R.seen source.new)) }
     ensures bounded { length kept.old.items ≤ max_kept → length kept.new.items ≤ max_kept }
-    ensures capacity { vec_capacity kept.old ≤ vec_capacity kept.new }
+    ensures room { RoomAfterNext (vec_capacity kept.old) (vec_capacity kept.new) result }
+    ensures enough { max_kept ≤ vec_capacity kept.old
+        → vec_capacity kept.new ≡ vec_capacity kept.old }
     ensures memory { IsErrOf result FrameFault.NoMemory → vec_capacity kept.old < max_kept }
 {
     match form {
@@ -50,7 +53,9 @@ fn read_first<R: Source>(source: &mut R, kept: &mut Vec<u8>) -> Result<(Form, Fo
         (HoldsFrom kept.new.items) next.1)
         (StopsInRecord None (R.seen source.old) (R.seen source.new)) }
     ensures bounded { length kept.old.items ≤ max_kept → length kept.new.items ≤ max_kept }
-    ensures capacity { vec_capacity kept.old ≤ vec_capacity kept.new }
+    ensures room { RoomAfterNext (vec_capacity kept.old) (vec_capacity kept.new) result }
+    ensures enough { max_kept ≤ vec_capacity kept.old
+        → vec_capacity kept.new ≡ vec_capacity kept.old }
     ensures memory { IsErrOf result FrameFault.NoMemory → vec_capacity kept.old < max_kept }
 {
     match read_length(source)? {
@@ -71,7 +76,9 @@ fn read_marked<R: Source>(source: &mut R, kept: &mut Vec<u8>) -> Result<(Form, F
         (HoldsFrom kept.new.items) next.1)
         (StopsInRecord None start (R.seen source.new)) }
     ensures bounded { length kept.old.items ≤ max_kept → length kept.new.items ≤ max_kept }
-    ensures capacity { vec_capacity kept.old ≤ vec_capacity kept.new }
+    ensures room { RoomAfterNext (vec_capacity kept.old) (vec_capacity kept.new) result }
+    ensures enough { max_kept ≤ vec_capacity kept.old
+        → vec_capacity kept.new ≡ vec_capacity kept.old }
     ensures memory { IsErrOf result FrameFault.NoMemory → vec_capacity kept.old < max_kept }
 {
     let mut half = [0u8; 4];
@@ -94,7 +101,9 @@ fn read_incoming<R: Source>(source: &mut R, kept: &mut Vec<u8>) -> Result<Found,
         (HoldsFrom kept.new.items))
         (StopsInRecord (Some Form.One) (R.seen source.old) (R.seen source.new)) }
     ensures bounded { length kept.old.items ≤ max_kept → length kept.new.items ≤ max_kept }
-    ensures capacity { vec_capacity kept.old ≤ vec_capacity kept.new }
+    ensures room { RoomAfterCall (λ f. f.1) (vec_capacity kept.old) (vec_capacity kept.new) result }
+    ensures enough { max_kept ≤ vec_capacity kept.old
+        → vec_capacity kept.new ≡ vec_capacity kept.old }
     ensures memory { IsErrOf result FrameFault.NoMemory → vec_capacity kept.old < max_kept }
 {
     match read_frame(source, kept)? {
@@ -110,7 +119,9 @@ fn read_directed<R: Source>(source: &mut R, kept: &mut Vec<u8>) -> Result<Found,
         (HoldsFrom kept.new.items))
         (StopsInRecord (Some Form.Two) (R.seen source.old) (R.seen source.new)) }
     ensures bounded { length kept.old.items ≤ max_kept → length kept.new.items ≤ max_kept }
-    ensures capacity { vec_capacity kept.old ≤ vec_capacity kept.new }
+    ensures room { RoomAfterCall (λ f. f.1) (vec_capacity kept.old) (vec_capacity kept.new) result }
+    ensures enough { max_kept ≤ vec_capacity kept.old
+        → vec_capacity kept.new ≡ vec_capacity kept.old }
     ensures memory { IsErrOf result FrameFault.NoMemory → vec_capacity kept.old < max_kept }
 {
     match read_start(source)? {

@@ -5,6 +5,7 @@ ghost use Rattle.std.specs.Borrow.{sem};
 ghost use Rattle.std.specs.Io.BufRead.{Rests};
 ghost use Rattle.wire.specs.Meaning.{Means};
 ghost use Rattle.wire.specs.Records.{Directed, MeansDirected, form_number};
+ghost use Rattle.wire.specs.Reserving.{Reserves};
 ghost use Rattle.wire.specs.Rows.{bytes_row};
 ghost use Rattle.wire.specs.contracts.record_reader.RecordReader.{the_row};
 
@@ -13,7 +14,7 @@ use crate::fault::FrameFault;
 use crate::form::Form;
 use crate::frame::Frame;
 use crate::head::{Head, frame_of};
-use crate::reader::{State, take_room};
+use crate::reader::{State, reserve};
 use crate::record::read_next;
 use benc::Source;
 use std::alloc::{AllocError as NoMemory, Global};
@@ -62,21 +63,17 @@ impl<'r, R: Source> RecordReader<'r, R> {
         self.form.map(|form| form.number())
     }
 
-    /// Takes all the room that the reader will need: after `Ok` no call answers `NoMemory`. A
+    /// Takes all the room that the reader will need, and no more: after `Ok` no call answers
+    /// `NoMemory`. After the end and after a fault the reader needs none, and this is `Ok`; but a
     /// reader that has answered `NoMemory` answers it again. After a refusal the reader is
     /// unchanged.
     pub fn reserve(&mut self) -> Result<(), NoMemory>
-        ensures room { OnOk result (HasRoom (frame_reader self.new)
-            × ¬ HasFailed (frame_reader self.old) FrameFault.NoMemory) }
-        ensures refused { OnErr result
-            (room (frame_reader self.new) ≡ room (frame_reader self.old)) }
-        ensures memory { OnErr result
-            (HasFailed (frame_reader self.old) FrameFault.NoMemory
-            ⊎ ¬ HasRoom (frame_reader self.old)) }
+        ensures room { Reserves self.old.state (room (frame_reader self.old)) result
+            (room (frame_reader self.new)) }
         ensures unchanged { IsSameButRoom (frame_reader self.old) (frame_reader self.new)
             × (form_of self.new ≡ form_of self.old) × (self.new.direction ≡ self.old.direction) }
     {
-        take_room(self.state, &mut self.kept)
+        reserve(self.state, &mut self.kept)
     }
 
     /// The next frame with its direction, or `None` at the end of the record. `Truncated` comes if

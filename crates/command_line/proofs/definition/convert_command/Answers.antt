@@ -1,7 +1,6 @@
-use Rattle.command_line.proofs.CommandLine.{with_argument}
 use Rattle.command_line.proofs.definition.convert_command.Goals as goal
 
-pub returns-clause-made : goal.returns-clause-made
-returns-clause-made c =
-    let one = with_argument _ _ _ _ _ c.leaf.ensures c.needed.ensures c.in_ok-arg.ensures in
-    with_argument _ _ _ _ _ one c.needed-2.ensures c.in_ok-command.ensures
+pub returns : goal.returns
+returns c =
+    let one = c.with_argument-command.ensures _ _ c.leaf.ensures c.needed.ensures in
+    c.with_argument.ensures _ _ one c.needed-2.ensures

@@ -1,10 +1,9 @@
-use Rattle.command_line.proofs.CommandLine.{with_argument}
 use Rattle.command_line.proofs.definition.replay_command.Goals as goal
 
-pub returns-clause-made : goal.returns-clause-made
-returns-clause-made c =
-    let one = with_argument _ _ _ _ _ c.leaf.ensures c.needed.ensures c.in_ok-arg.ensures in
-    let two = with_argument _ _ _ _ _ one c.needed-2.ensures c.in_ok-arg-2.ensures in
-    let three = with_argument _ _ _ _ _ two c.flag.ensures c.in_ok-arg-3.ensures in
-    let four = with_argument _ _ _ _ _ three c.option.ensures c.in_ok-arg-4.ensures in
-    with_argument _ _ _ _ _ four c.option-2.ensures c.in_ok-command.ensures
+pub returns : goal.returns
+returns c =
+    let one = c.with_argument-command.ensures _ _ c.leaf.ensures c.needed.ensures in
+    let two = c.with_argument-command-2.ensures _ _ one c.needed-2.ensures in
+    let three = c.with_argument-command-3.ensures _ _ two c.flag.ensures in
+    let four = c.with_argument-command-4.ensures _ _ three c.option.ensures in
+    c.with_argument.ensures _ _ four c.option-2.ensures

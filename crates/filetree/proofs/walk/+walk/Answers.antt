@@ -1,33 +1,28 @@
-use Rattle.std.proofs.Common.{◌≡◌, ◌∷◌, [], ◌++◌, ◌+◌, map, drop, ℕ, List, Ok, true, false, ap, subst, sym, ◌∙◌, rules, arith}
-use Rattle.std.proofs.lemmas.Result.{err_from_is_err_and}
+use Rattle.std.proofs.Common.{◌≡◌, ◌∷◌, [], ◌++◌, ◌+◌, map, drop, ℕ, List, true, false, ap, subst, sym, ◌∙◌, rules, arith}
 use Rattle.benc.specs.Value.{dict, pair, no_pairs}
 use Rattle.benc.specs.View.{view, pairs_view, pair_view, Seen}
 use Rattle.filetree.specs.FileTree.{is_file, is_nil}
-use Rattle.filetree.specs.Walked.{walk_of, IsOnWay, AddsBehind, HasBadPathAt, walks_at}
+use Rattle.filetree.specs.Walked.{walk_of, IsOnWay, AddsBehind, walks_at}
 use Rattle.std.proofs.lemmas.List.{map-append}
 use Rattle.benc.proofs.Values.{view-Pair, view-Dict}
 use Rattle.filetree.proofs.Views.{pairs_next}
-use Rattle.filetree.proofs.Rooms.{all_left, left_behind}
-use Rattle.filetree.proofs.Walking.{file_node, walked_err, walked_file, walked_ok, walked_inner}
+use Rattle.filetree.proofs.Rooms.{all_left, left_behind, node_at}
+use Rattle.benc.specs.declared.value.Value.{the_lemmas}
+use Rattle.filetree.proofs.Walking.{file_node, walked_file, walked_on, walked_inner}
+use Rattle.std.proofs.lemmas.Result.{on_ok_weaker}
 use Rattle.filetree.proofs.walk.+walk.Goals as goal
-
-pub walk-returns-in_err-walk_pair : goal.walk-returns-in_err-walk_pair
-walk-returns-in_err-walk_pair t c =
-    let x = c.pair-item.result in
-    let xs = c.args.pairs.now in
-    let path = c.args.folder.now in
-    let way = subst (λ ps. IsOnWay path (pairs_view xs) ps (map walk_of c.args.files.now.items) (map walk_of c.pairs.files.items)) (pairs_next xs c.pairs.pair-index x (omega arith) c.pair-item.is) c.pairs.invariant.0 in
-    let told = walked_err path (pairs_view xs) (pairs_view (drop (c.pairs.pair-index + 1) xs)) (pair_view x) (map walk_of c.args.files.now.items) (map walk_of c.pairs.files.items) (map walk_of c.walk_pair.new.files.items) (map walk_of c.walk_pair.new.files.items) c.in_err-walk_pair.field-0.0 way c.in_err-walk_pair.ensures in
-    let p = err_from_is_err_and c.from_residual.result c.from_residual.ensures.1 in
-    rw (p.1, p.2) told
 
 pub walk-pairs-preserved : goal.walk-pairs-preserved
 walk-pairs-preserved t c =
     let x = c.pair-item.result in
     let xs = c.args.pairs.now in
     let path = c.args.folder.now in
-    let way = subst (λ ps. IsOnWay path (pairs_view xs) ps (map walk_of c.args.files.now.items) (map walk_of c.pairs.files.items)) (pairs_next xs c.pairs.pair-index x (omega arith) c.pair-item.is) c.pairs.invariant.0 in
-    (walked_ok path (pairs_view xs) (pairs_view (drop (c.pairs.pair-index + 1) xs)) (pair_view x) (map walk_of c.args.files.now.items) (map walk_of c.pairs.files.items) (map walk_of c.walk_pair.new.files.items) way c.in_ok-walk_pair.ensures, left_behind path xs c.pairs.pair-index x (omega arith) c.pair-item.is c.pairs.invariant.1)
+    let before = map walk_of c.args.files.now.items in
+    let found = map walk_of c.pairs.files.items in
+    let way = subst (λ ps. IsOnWay path (pairs_view xs) ps before found) (pairs_next xs c.pairs.pair-index x (omega arith) c.pair-item.is) c.pairs.invariant.0 in (
+      walked_on path (pairs_view xs) (pairs_view (drop (c.pairs.pair-index + 1) xs)) (pair_view x) before found (map walk_of c.walk_pair.new.files.items) way c.in_ok-walk_pair.ensures,
+      left_behind path xs c.pairs.pair-index x (omega arith) c.pair-item.is c.pairs.invariant.1,
+    )
 
 pub walk-pairs-init : goal.walk-pairs-init
 walk-pairs-init t c = (search rules, all_left c.args.folder.now (pairs_view c.args.pairs.now) c.requires)
@@ -36,14 +31,13 @@ pub walk_pair-returns : goal.walk_pair-returns
 walk_pair-returns t c =
     let x = c.args.pair.now in
     let path = c.args.folder.now in
-    let seen = view-Pair x.key x.value in
-    let some : is_nil x.key.now ≡ false = search rules in
+    let some : is_nil x.key.now ≡ false = subst (λ (p : Seen). is_nil p.0 ≡ false) (view-Pair x.key x.value) c.requires.named in
     let old = map walk_of c.args.files.now.items in
     let new = map walk_of c.walk.new.files.items in
-    let farther : c.in_ok-below.below ≡ path ++ x.key.now ∷ [] = c.in_ok-below.ensures ∙ ap (λ n. path ++ n ∷ []) c.in_ok-name.ensures.0 in
+    let farther : c.in_ok-below.below ≡ path ++ x.key.now ∷ [] = c.in_ok-below.ensures ∙ ap (λ n. path ++ n ∷ []) c.component-name.ensures in
     let inner : view x.value ≡ dict (pairs_view c.deref-2.result.now) = ap view c.in-Dict.is ∙ view-Dict c.in-Dict.inner ∙ ap (λ ps. dict (pairs_view ps)) (sym c.deref-2.ensures.value) in
-    subst (λ (p : Seen). AddsBehind (HasBadPathAt p) path (walks_at p) old new c.walk.result) (sym seen)
-    (walked_inner path c.in_ok-below.below x.key.now (pairs_view c.deref-2.result.now) (view x.value) old new c.walk.result some farther inner c.in_ok-name.ensures.1 c.walk.ensures)
+    on_ok_weaker c.walk.result (λ adds. subst (λ (p : Seen). AddsBehind path (walks_at p) old new) (sym (view-Pair x.key x.value))
+    (walked_inner path c.in_ok-below.below x.key.now (pairs_view c.deref-2.result.now) (view x.value) old new some farther inner adds)) c.walk.ensures
 
 pub walk_pair-returns-then-is_file : goal.walk_pair-returns-then-is_file
 walk_pair-returns-then-is_file t c =
@@ -57,8 +51,11 @@ walk_pair-returns-then-is_file t c =
     let node = file_node c.in-Dict.inner.items y file c.index.ensures in
     let whole : view x.value ≡ dict (pair y.key.now (view y.value) no_pairs) = ap view c.in-Dict.is ∙ view-Dict c.in-Dict.inner ∙ ap dict (node.0 ∙ ap (λ (p : Seen). pair p.0 p.1 no_pairs) (view-Pair y.key y.value)) in
     let nil : is_nil y.key.now ≡ true = subst (λ (p : Seen). is_nil p.0 ≡ true) (view-Pair y.key y.value) node.1 in
-    let there : c.new-path.result ≡ path ++ x.key.now ∷ [] = c.new-path.ensures ∙ ap (λ f. f ++ c.in_ok-name.name.now ∷ []) c.in_ok-share.ensures ∙ ap (λ n. path ++ n ∷ []) c.in_ok-name.ensures.0 in
+    let name = c.component-name.result.now in
+    let there : c.new-path.result ≡ path ++ x.key.now ∷ [] = c.new-path.ensures ∙ ap (λ f. f ++ name ∷ []) c.in_ok-share.ensures ∙ ap (λ n. path ++ n ∷ []) c.component-name.ensures in
     let added : new ≡ old ++ record { path = path ++ x.key.now ∷ []; file = view y.value } ∷ [] = ap (map walk_of) c.in_ok-push.ensures.items ∙ map-append walk_of c.args.files.now.items _
     ∙ ap (λ (p : List (List ℕ)). old ++ record { path = p; file = view y.value } ∷ []) there in
-    subst (λ (p : Seen). AddsBehind (HasBadPathAt p) path (walks_at p) old new (Ok tt)) (sym (view-Pair x.key x.value))
-    (walked_file path x.key.now y.key.now (view x.value) (view y.value) old new some c.in_ok-name.ensures.1 whole nil added)
+    subst (λ (p : Seen). AddsBehind path (walks_at p) old new) (sym (view-Pair x.key x.value)) (walked_file path x.key.now y.key.now (view x.value) (view y.value) old new some whole nil added)
+
+pub walk-walk_pair-requires : goal.walk-walk_pair-requires
+walk-walk_pair-requires t c = (search (rules, the_lemmas), node_at c.args.folder.now c.args.pairs.now c.pairs.pair-index c.pair-item.result (omega arith) c.pair-item.is c.pairs.invariant.1)

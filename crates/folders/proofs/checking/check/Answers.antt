@@ -1,11 +1,11 @@
 use Rattle.std.proofs.Common.{rules, [], refl, ◌≡◌, ◌∙◌, ◌+◌, ◌≤◌, ◌<◌, ◌^◌, ◌&&◌, ℕ, List, length, map, take, Option, option_map, is_some, ap, sym, subst, Some, None, arith}
 use Rattle.std.specs.List.{list_all}
 use Rattle.std.proofs.lemmas.Option.{same_Some, none-some, slice_get_within, get_or_from_slice_get}
-use Rattle.metainfo.specs.Description.{Description}
-use Rattle.metainfo.specs.File.{File}
+use Rattle.opening.specs.Description.{Description}
+use Rattle.opening.specs.declared.torrent.File.{File}
 use Rattle.std.proofs.lemmas.List.{length-map, take_all}
 use Rattle.std.proofs.lemmas.List.Sums.{count_by-le-length}
-use Rattle.metainfo.specs.Seen.{file_entry, version1}
+use Rattle.opening.specs.Seen.{file_entry, version1}
 use Rattle.folders.specs.Pass.{FindsVerdict}
 use Rattle.chains.specs.Chain.{Chain}
 use Rattle.chains.proofs.Chains.{Chain-next}
@@ -67,10 +67,10 @@ files-preserved g c =
       counted = subst (λ xs. g.S.Shelf.faults c.check_file.new.shelf ≡ more (g.S.Shelf.faults c.args.shelf.now) (unreadable_count xs)) pushed
           (unreadable_push (g.S.Shelf.faults c.args.shelf.now) (g.S.Shelf.faults c.files.shelf) (g.S.Shelf.faults c.check_file.new.shelf) c.files.files.items v
           c.files.invariant.counted c.check_file.ensures.counts);
-      visited = subst (λ vs. Chain (Visits g.S.Shelf g.S.File.Source.seen) c.args.shelf.now (take (n + 1) t.files) vs c.check_file.new.shelf) pushed
-          (Chain-next (Visits g.S.Shelf g.S.File.Source.seen) c.args.shelf.now c.files.shelf c.check_file.new.shelf t.files n c.files.files.items f v
+      visited = subst (λ vs. Chain (Visits g.S.Shelf g.S.File.Source.seen t) c.args.shelf.now (take (n + 1) t.files) vs c.check_file.new.shelf) pushed
+          (Chain-next (Visits g.S.Shelf g.S.File.Source.seen t) c.args.shelf.now c.files.shelf c.check_file.new.shelf t.files n c.files.files.items f v
           (slice_get_within t.files n f there) c.files.invariant.visited
-          (subst (λ h. Visits g.S.Shelf g.S.File.Source.seen c.files.shelf h v c.check_file.new.shelf) (sym (get_or_from_slice_get t.files n f f there)) c.check_file.ensures.visits));
+          (subst (λ h. Visits g.S.Shelf g.S.File.Source.seen t c.files.shelf h v c.check_file.new.shelf) (sym (get_or_from_slice_get t.files n f f there)) c.check_file.ensures.visits));
       stays = c.check_file.ensures.stays ∙ c.files.invariant.stays;
       passed = subst (λ xs. IsPassed t (n + 1) xs new) pushed
           (passed_one t n c.files.files.items v f (under f.path) old new c.sound.ensures there found c.files.invariant.passed);
@@ -143,5 +143,5 @@ returns-clause-once g c =
     let t = c.args.torrent.now in
     let n = c.files.file-index in
     let all : n ≡ length t.files = all_passed t n c.files-entries.result.now c.files-entries.ensures c.files-test.false c.files.auto.file-index-end in
-    subst (λ fs. Chain (Visits g.S.Shelf g.S.File.Source.seen) c.args.shelf.now fs c.files.files.items c.files.shelf)
+    subst (λ fs. Chain (Visits g.S.Shelf g.S.File.Source.seen t) c.args.shelf.now fs c.files.files.items c.files.shelf)
     (take_all n t.files (omega (arith, all))) c.files.invariant.visited

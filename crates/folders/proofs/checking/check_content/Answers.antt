@@ -1,5 +1,5 @@
 use Rattle.std.proofs.Common.{rules, ◌≡◌, ◌<◌, ℕ, arith}
-use Rattle.metainfo.specs.Seen.{file_entry}
+use Rattle.opening.specs.Seen.{file_entry}
 use Rattle.folders.proofs.Pieces.{empty_opened}
 use Rattle.folders.proofs.Places.{tree_inside, tree_there}
 use Rattle.folders.proofs.checking.check_content.Goals as goal
@@ -16,7 +16,7 @@ check_tree-requires-clause-place g c =
 pub returns-in_ok-is_empty-in-None-clause-verdict : goal.returns-in_ok-is_empty-in-None-clause-verdict
 returns-in_ok-is_empty-in-None-clause-verdict g c =
     let file = c.requires.file in
-    empty_opened c.args.torrent.now (file_entry c.args.file.now) _ c.args.stream.now.feed _ _
+    empty_opened c.args.torrent.now (file_entry c.args.file.now) _ _ c.args.stream.now.feed _ _
     ((c.sound.ensures.files file.0 (file_entry c.args.file.now) file.1).no_tree c.in-None.is)
     c.in_ok-is_empty-in-None.ensures.empty c.empty_verdict.ensures.good c.empty_verdict.ensures.other
 

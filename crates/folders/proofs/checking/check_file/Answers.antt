@@ -1,9 +1,10 @@
-use Rattle.std.proofs.Common.{◌∙◌, ap, sym, subst, map, Some, None}
-use Rattle.metainfo.specs.Seen.{file_entry}
+use Rattle.std.proofs.Common.{◌∙◌, ap, sym, subst, map, Option, Some, None, Result, Ok, Err}
+use Rattle.benc.specs.declared.device.DeviceFault.{DeviceFault}
+use Rattle.opening.specs.Seen.{file_entry}
 use Rattle.folders.specs.Pass.{FindsVerdict}
 use Rattle.folders.specs.Shelf.{IsFound}
 use Rattle.folders.specs.Verdicts.{is_whole}
-use Rattle.folders.proofs.Visiting.{finds_missing, finds_read, finds_unreadable, never_broken, never_whole}
+use Rattle.folders.proofs.Visiting.{finds_missing, finds_read, finds_unreadable, never_broken, never_whole, read_for}
 use Rattle.folders.proofs.checking.check_file.Goals as goal
 use Rattle.folders.proofs.checking.check_file.Goals.{in-Ok-Some, in-Ok-None, in-Err}
 
@@ -16,10 +17,10 @@ returns-then-not-is_whole-clause-found g c =
     let told = (g.S.Shelf.contents c.args.shelf.now).under c.args.file.now.path in
     elim c.match-open.branch [
       | in-Ok-Some w ↦
-          let source = (g.S.File.Source.seen w.in-Ok-Some.source).left in
-          let there : IsFound told (Some source) =
-          subst (λ p. IsFound ((g.S.Shelf.contents c.args.shelf.now).under p) (Some source)) (ap (map (λ s. s.now)) c.deref.ensures.0 ∙ c.parts.ensures) (rw w.in-Ok-Some.field-0-is at w.in-Ok-Some.ensures.found) in
-          finds_read t f told source old w.check_content.new.stream.feed end w.check_content.result c.match-open.verdict there w.check_content.ensures.verdict
+          let source = g.S.File.Source.seen w.in-Ok-Some.source in
+          let there : IsFound told (Some source.left) =
+          subst (λ p. IsFound ((g.S.Shelf.contents c.args.shelf.now).under p) (Some source.left)) (ap (map (λ s. s.now)) c.deref.ensures.0 ∙ c.parts.ensures) (rw w.in-Ok-Some.field-0-is at w.in-Ok-Some.ensures.found) in
+          finds_read t f told source _ old w.check_content.new.stream.feed end w.check_content.result c.match-open.verdict there w.check_content.ensures.verdict
           (w.verdict-is ∙ w.unwrap_or-verdict.ensures)
           (never_whole c.match-open.verdict c.is_whole.result end w.check_content.new.stream.feed c.is_whole.ensures c.if-not-is_whole.true)
           (λ _. c.stop.ensures)
@@ -38,10 +39,10 @@ returns-else-not-is_whole-clause-found g c =
     let told = (g.S.Shelf.contents c.args.shelf.now).under c.args.file.now.path in
     elim c.match-open.branch [
       | in-Ok-Some w ↦
-          let source = (g.S.File.Source.seen w.in-Ok-Some.source).left in
-          let there : IsFound told (Some source) =
-          subst (λ p. IsFound ((g.S.Shelf.contents c.args.shelf.now).under p) (Some source)) (ap (map (λ s. s.now)) c.deref.ensures.0 ∙ c.parts.ensures) (rw w.in-Ok-Some.field-0-is at w.in-Ok-Some.ensures.found) in
-          finds_read t f told source old w.check_content.new.stream.feed end w.check_content.result c.match-open.verdict there w.check_content.ensures.verdict
+          let source = g.S.File.Source.seen w.in-Ok-Some.source in
+          let there : IsFound told (Some source.left) =
+          subst (λ p. IsFound ((g.S.Shelf.contents c.args.shelf.now).under p) (Some source.left)) (ap (map (λ s. s.now)) c.deref.ensures.0 ∙ c.parts.ensures) (rw w.in-Ok-Some.field-0-is at w.in-Ok-Some.ensures.found) in
+          finds_read t f told source _ old w.check_content.new.stream.feed end w.check_content.result c.match-open.verdict there w.check_content.ensures.verdict
           (w.verdict-is ∙ w.unwrap_or-verdict.ensures) (λ _. ap (λ s. s.feed) w.stream-is)
           (never_broken c.match-open.verdict c.is_whole.result end None c.is_whole.ensures c.if-not-is_whole.false)
       | in-Ok-None w ↦
@@ -50,4 +51,88 @@ returns-else-not-is_whole-clause-found g c =
           (finds_missing t f told old end there (never_broken c.match-open.verdict c.is_whole.result end None c.is_whole.ensures c.if-not-is_whole.false (ap is_whole w.verdict-is)))
       | in-Err w ↦ subst (FindsVerdict t f told old end) (sym w.verdict-is)
           (finds_unreadable t f told old end (never_broken c.match-open.verdict c.is_whole.result end None c.is_whole.ensures c.if-not-is_whole.false (ap is_whole w.verdict-is)))
+    ]
+
+pub returns-then-not-is_whole-clause-visits : goal.returns-then-not-is_whole-clause-visits
+returns-then-not-is_whole-clause-visits g c =
+    let t = c.args.torrent.now in
+    let f = file_entry c.args.file.now in
+    let same = ap (map (λ s. s.now)) c.deref.ensures.0 ∙ c.parts.ensures in
+    let opens = subst (λ p. g.S.Shelf.opens c.args.shelf.now p c.open.result c.open.new.self) same c.open.ensures.opens in
+    elim c.match-open.branch [
+      | in-Ok-Some w ↦
+          let source = w.in-Ok-Some.source in
+          let read = w.check_content.new.source in
+          let reading = read_for t f (g.S.File.Source.seen source) (g.S.File.Source.seen read) _ _ _ _ w.check_content.ensures.verdict
+          w.check_content.ensures.blamed w.check_content.ensures.counts w.check_content.ensures.no_further
+          (w.verdict-is ∙ w.unwrap_or-verdict.ensures) in
+          record {
+            answer = Ok (Some source);
+            opened = record {
+              between = c.open.new.self;
+              opened = subst (λ (a : Result (Option g.row.S-File.Denot) DeviceFault).
+                  g.S.Shelf.opens c.args.shelf.now f.path a c.open.new.self)
+                  (w.in-Ok-Some.is ∙ ap Ok w.in-Ok-Some.field-0-is) opens;
+              read = read;
+              reading = reading;
+              closed = subst (λ (s : g.row.S.Denot). g.S.Shelf.closes c.open.new.self read s) (sym w.shelf-is) w.close.ensures.closes;
+            };
+            follows = tt;
+          }
+      | in-Ok-None w ↦ record {
+        answer = Ok None;
+        opened = subst (λ (s : g.row.S.Denot). g.S.Shelf.opens c.args.shelf.now f.path (Ok None) s) (sym w.shelf-is)
+            (subst (λ (a : Result (Option g.row.S-File.Denot) DeviceFault).
+            g.S.Shelf.opens c.args.shelf.now f.path a c.open.new.self) (w.in-Ok-None.is ∙ ap Ok w.in-Ok-None.field-0-is) opens);
+        follows = w.verdict-is;
+      }
+      | in-Err w ↦ record {
+        answer = Err w.in-Err.field-0;
+        opened = subst (λ (s : g.row.S.Denot). g.S.Shelf.opens c.args.shelf.now f.path (Err w.in-Err.field-0) s) (sym w.shelf-is)
+            (subst (λ (a : Result (Option g.row.S-File.Denot) DeviceFault).
+            g.S.Shelf.opens c.args.shelf.now f.path a c.open.new.self) w.in-Err.is opens);
+        follows = w.verdict-is;
+      }
+    ]
+
+pub returns-else-not-is_whole-clause-visits : goal.returns-else-not-is_whole-clause-visits
+returns-else-not-is_whole-clause-visits g c =
+    let t = c.args.torrent.now in
+    let f = file_entry c.args.file.now in
+    let same = ap (map (λ s. s.now)) c.deref.ensures.0 ∙ c.parts.ensures in
+    let opens = subst (λ p. g.S.Shelf.opens c.args.shelf.now p c.open.result c.open.new.self) same c.open.ensures.opens in
+    elim c.match-open.branch [
+      | in-Ok-Some w ↦
+          let source = w.in-Ok-Some.source in
+          let read = w.check_content.new.source in
+          let reading = read_for t f (g.S.File.Source.seen source) (g.S.File.Source.seen read) _ _ _ _ w.check_content.ensures.verdict
+          w.check_content.ensures.blamed w.check_content.ensures.counts w.check_content.ensures.no_further
+          (w.verdict-is ∙ w.unwrap_or-verdict.ensures) in
+          record {
+            answer = Ok (Some source);
+            opened = record {
+              between = c.open.new.self;
+              opened = subst (λ (a : Result (Option g.row.S-File.Denot) DeviceFault).
+                  g.S.Shelf.opens c.args.shelf.now f.path a c.open.new.self)
+                  (w.in-Ok-Some.is ∙ ap Ok w.in-Ok-Some.field-0-is) opens;
+              read = read;
+              reading = reading;
+              closed = subst (λ (s : g.row.S.Denot). g.S.Shelf.closes c.open.new.self read s) (sym w.shelf-is) w.close.ensures.closes;
+            };
+            follows = tt;
+          }
+      | in-Ok-None w ↦ record {
+        answer = Ok None;
+        opened = subst (λ (s : g.row.S.Denot). g.S.Shelf.opens c.args.shelf.now f.path (Ok None) s) (sym w.shelf-is)
+            (subst (λ (a : Result (Option g.row.S-File.Denot) DeviceFault).
+            g.S.Shelf.opens c.args.shelf.now f.path a c.open.new.self) (w.in-Ok-None.is ∙ ap Ok w.in-Ok-None.field-0-is) opens);
+        follows = w.verdict-is;
+      }
+      | in-Err w ↦ record {
+        answer = Err w.in-Err.field-0;
+        opened = subst (λ (s : g.row.S.Denot). g.S.Shelf.opens c.args.shelf.now f.path (Err w.in-Err.field-0) s) (sym w.shelf-is)
+            (subst (λ (a : Result (Option g.row.S-File.Denot) DeviceFault).
+            g.S.Shelf.opens c.args.shelf.now f.path a c.open.new.self) w.in-Err.is opens);
+        follows = w.verdict-is;
+      }
     ]

@@ -1,5 +1,5 @@
 use Rattle.std.proofs.Common.{◌≡◌, ◌*◌, ap, refl, arith}
-use Rattle.metainfo.specs.Seen.{file_entry, tree_entry}
+use Rattle.opening.specs.Seen.{file_entry, tree_entry}
 use Rattle.folders.specs.Feeding.{FeedsBoth}
 use Rattle.folders.proofs.Places.{start_fits}
 use Rattle.folders.proofs.Pieces.{filled_to, finished, opened_verdict, other_count, read_whole, room_for_all, wrong_length}
@@ -55,7 +55,7 @@ returns-clause-verdict g c =
     let read = read_whole FeedsBoth _ _ _ _ _ _ _ c.if-ne.false c.ne.ensures c.in_ok-take_all.ensures.read in
     let told = finished t.piece_length _ _ e _ _ _ _ _ c.finish-place.result.1 c.finish-place.result.2 read tree.0
     c.piece_check.ensures.layer c.piece_check.ensures.content c.finish-place.ensures in
-    opened_verdict t f _ _ _ _ _ _ c.args.stream.now.feed c.fill_to.new.self.feed _ _ read refl tree.1
+    opened_verdict t f _ _ _ _ _ _ c.args.stream.now.feed c.fill_to.new.self.feed _ _ read refl tree.1 c.tree_verdict.ensures.whole
     (ap (λ s. s.feed) c.take.ensures.taken) refl
     (filled_to c.args.file.now.first_piece _ _ _ _ c.piece_length-piece_length.ensures c.fill_to.ensures)
     c.tree_verdict.ensures.readable (c.tree_verdict.ensures.verdict read.bytes told)

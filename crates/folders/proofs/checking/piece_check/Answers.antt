@@ -1,7 +1,7 @@
 use Rattle.std.proofs.Common.{◌≡◌, ◌∙◌, ap, sym, subst, arith}
-use Rattle.metainfo.specs.Pieces.{IsPieceLength}
-use Rattle.metainfo.specs.Seen.{tree_entry}
-use Rattle.metainfo.specs.Sound.{IsSoundTree}
+use Rattle.pieces.specs.Pieces.{IsPieceLength}
+use Rattle.opening.specs.Seen.{tree_entry}
+use Rattle.opening.specs.Sound.{IsSoundTree}
 use Rattle.hashtree.specs.Tree.{block_count, first_pad, height}
 use Rattle.folders.proofs.Layers.{layer_is_low, unwrapped, whole_layer}
 use Rattle.folders.proofs.checking.piece_check.Goals as goal

@@ -1,6 +1,6 @@
 use Rattle.std.proofs.Common.{true≢false, ◌∙◌, sym, subst, arith}
 use Rattle.std.proofs.lemmas.Slice.Eq.{bytes_eq-Decides}
-use Rattle.metainfo.specs.Seen.{file_entry, tree_entry}
+use Rattle.opening.specs.Seen.{file_entry, tree_entry}
 use Rattle.folders.specs.Content.{IsToldOf}
 use Rattle.folders.proofs.Places.{start_fits}
 use Rattle.folders.proofs.Pieces.{bad_tree, good_tree, place_is_small, root_or_place}

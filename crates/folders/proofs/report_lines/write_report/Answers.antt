@@ -1,8 +1,8 @@
 use Rattle.std.proofs.Common.{◌≡◌, ◌++◌, ◌∙◌, List, ℕ, Option, map, ap, sym, refl}
 use Rattle.std.proofs.lemmas.Result.{err_from_is_err_and}
 use Rattle.benc.proofs.Out.{Wrote-then, Wrote-part}
-use Rattle.metainfo.specs.Description.{FileEntry}
-use Rattle.metainfo.specs.Seen.{file_entry}
+use Rattle.opening.specs.Description.{FileEntry}
+use Rattle.opening.specs.Seen.{file_entry}
 use Rattle.folders.specs.declared.report.FileVerdict.{FileVerdict}
 use Rattle.folders.specs.declared.report.V1Verdict.{V1Verdict}
 use Rattle.folders.specs.Printed.{answer_text, report_text, stream_text, verdicts_text}

@@ -2,7 +2,7 @@ use Rattle.std.proofs.Common.{◌≡◌, ◌++◌, ◌∙◌, List, ℕ, codes, 
 use Rattle.std.proofs.lemmas.Result.{err_from_is_err_and}
 use Rattle.benc.proofs.Out.{Wrote-then, Wrote-part}
 use Rattle.folders.specs.declared.report.FileVerdict.{FileVerdict}
-use Rattle.lines.specs.Text.{path_text}
+use Rattle.printing.specs.Text.{path_text}
 use Rattle.folders.specs.Printed.{verdict_words}
 use Rattle.folders.proofs.report_lines.write_verdict.Goals as goal
 

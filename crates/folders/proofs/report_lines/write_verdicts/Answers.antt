@@ -1,12 +1,12 @@
 use Rattle.std.proofs.Common.{◌≡◌, ◌+◌, ◌<◌, ◌++◌, ◌∷◌, ◌∙◌, List, ℕ, drop, map, length, get_or, ap, arith}
 use Rattle.std.proofs.lemmas.List.{drop_more}
 use Rattle.std.proofs.lemmas.Result.{err_from_is_err_and}
-use Rattle.metainfo.specs.File.{File}
-use Rattle.metainfo.specs.Seen.{file_entry}
+use Rattle.opening.specs.declared.torrent.File.{File}
+use Rattle.opening.specs.Seen.{file_entry}
 use Rattle.folders.specs.declared.report.FileVerdict.{FileVerdict}
 use Rattle.folders.specs.declared.report.FileVerdict.TheVariants.{Good}
 use Rattle.folders.specs.Printed.{file_verdict_text, verdicts_text}
-use Rattle.lines.proofs.Parts.{item_next, sent_fault, sent_next}
+use Rattle.printing.proofs.Parts.{item_next, sent_fault, sent_next}
 use Rattle.folders.proofs.report_lines.write_verdicts.Goals as goal
 
 -- the line at an index, and those behind it

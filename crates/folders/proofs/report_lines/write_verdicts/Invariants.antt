@@ -1,7 +1,7 @@
 use Rattle.std.proofs.Common.{drop, map}
-use Rattle.metainfo.specs.Seen.{file_entry}
+use Rattle.opening.specs.Seen.{file_entry}
 use Rattle.folders.specs.Printed.{verdicts_text}
-use Rattle.lines.proofs.Parts.{SentBut}
+use Rattle.printing.proofs.Parts.{SentBut}
 use Rattle.folders.proofs.report_lines.write_verdicts.Given as goal
 
 -- the lines of some first files went out

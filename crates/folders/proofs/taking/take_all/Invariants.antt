@@ -9,8 +9,8 @@ invariant-parts g l = record {
   falls : (g.F.Source.seen l.source).limit + l.count ≡ (g.F.Source.seen l.fn.source).limit;
   counted : (g.F.Source.seen l.source).faults ≡ (g.F.Source.seen l.fn.source).faults;
   so_far : (bytes : List ℕ) × (length bytes ≡ l.count) × Gave (g.F.Source.seen l.fn.source) (g.F.Source.seen l.source) bytes
-      × g.T.Taker.took l.fn.taker bytes l.taker;
-  room : g.T.Taker.has_room l.taker (l.bound - l.count);
+      × g.T.Consumer.took l.fn.consumer bytes l.consumer;
+  room : g.T.Consumer.has_room l.consumer (l.bound - l.count);
 }
 
 abbrev pub decreases-parts : goal.decreases-parts

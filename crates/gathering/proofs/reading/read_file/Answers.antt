@@ -24,7 +24,7 @@ returns-in-Some-eq0-clause-read g c =
 
 pub returns-in_ok-finish-in-Some-clause-read : goal.returns-in_ok-finish-in-Some-clause-read
 returns-in_ok-finish-in-Some-clause-read g c =
-    whole_read c.args.kind.now.piece_length c.args.kind.now.hybrid (g.F.Source.seen c.args.source.now) _ _ _ _ _ (rw c.in-Some.is at c.in_ok-take_all.ensures.read) c.new-hashing.ensures c.in_ok-finish-in-Some.ensures.told
+    whole_read c.args.kind.now.piece_length c.args.kind.now.hybrid (g.F.Source.seen c.args.source.now) _ _ _ _ _ (rw c.in-Some.is at c.in_ok-take_all.ensures.read) c.new-hashing.ensures c.in_ok-finish-in-Some.ensures.gives
 
 pub finish-requires : goal.finish-requires
 finish-requires g c =

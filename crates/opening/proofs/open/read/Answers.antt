@@ -24,7 +24,7 @@ use Rattle.opening.specs.Steps.{pairs_seen}
 use Rattle.opening.specs.Trees.{root_of_tree, roots_in}
 use Rattle.opening.specs.declared.info.Keys.{Keys}
 use Rattle.opening.proofs.Assembling.{IsReadFrom, files_refused, fits_stream, hybrid_refused, is_described, keys_refused, none_holds, sizes_of, tree_refused}
-use Rattle.opening.proofs.Growing.{keys_take_none}
+use Rattle.opening.proofs.Growing.{keys_take_none, plain_pass, plain_passed}
 use Rattle.opening.proofs.Rooting.{roots_back}
 use Rattle.opening.proofs.Sounding.{sound, tree_paths}
 use Rattle.opening.proofs.Told.{tree_fits}
@@ -78,7 +78,7 @@ returns-in_err-listed-clause-passes c =
     let same : n ≡ piece_length_in v = ap (λ z. number_in (int z)) (sym c.in_ok-info.piece_length-is) ∙ c.in_ok-info.ensures.1.piece_length in
     let passed : NoneHolds (piece_length_rows n) × ((c.in_ok-piece_length.piece_length ≡ n) × IsPieceLength c.in_ok-piece_length.piece_length) = search rules in
     let number = subst (λ m. NoneHolds (piece_length_rows m)) same passed.0 in
-    rw (p.1, p.2) (λ memory. tree_refused v (pairs_view keys.tree.now) c.in_err-listed.field-0.0 (none_both (head_rows v) (piece_length_rows (piece_length_in v)) c.in_ok-info.ensures.0 number) c.in_ok-info.ensures.1.tree (c.in_err-listed.ensures memory))
+    rw (p.1, p.2) (λ memory. tree_refused v (pairs_view keys.tree.now) c.in_err-listed.field-0.0 (none_both (head_rows v) (piece_length_rows (piece_length_in v)) c.in_ok-info.ensures.0 number) c.in_ok-info.ensures.1.tree (c.in_err-listed.ensures.passes memory))
 
 pub read_tree-requires : goal.read_tree-requires
 read_tree-requires c =
@@ -92,7 +92,7 @@ of-layers-requires c =
 
 pub read_contents-requires : goal.read_contents-requires
 read_contents-requires c = λ f there.
-    (sizes_of (pairs_view c.in_ok-info.field-0.tree.now) c.in_ok-listed.listed.items c.in_ok-listed.ensures.0 c.in_ok-listed.ensures.1 f there).bound
+    (sizes_of (pairs_view c.in_ok-info.field-0.tree.now) c.in_ok-listed.listed.items c.in_ok-listed.ensures.passes.0 c.in_ok-listed.ensures.passes.1 f there).bound
 
 pub returns-in_err-files-clause-passes : goal.returns-in_err-files-clause-passes
 returns-in_err-files-clause-passes c =
@@ -105,7 +105,7 @@ returns-in_err-files-clause-passes c =
     let same : n ≡ piece_length_in v = ap (λ z. number_in (int z)) (sym c.in_ok-info.piece_length-is) ∙ c.in_ok-info.ensures.1.piece_length in
     let passed : NoneHolds (piece_length_rows n) × ((c.in_ok-piece_length.piece_length ≡ n) × IsPieceLength c.in_ok-piece_length.piece_length) = search rules in
     let h = is_read v keys k n ls fs c.in_ok-info.ensures.0 c.in_ok-info.ensures.1 passed.0 passed.1.0 same
-    (layers_are v keys ls c.in_ok-info.ensures.1 c.of-layers.ensures) c.in_ok-listed.ensures.0 c.in_ok-listed.ensures.1 in
+    (layers_are v keys ls c.in_ok-info.ensures.1 c.of-layers.ensures) c.in_ok-listed.ensures.passes.0 c.in_ok-listed.ensures.passes.1 in
     let p = err_from_is_err_and c.from_residual-in_err-files.result c.from_residual-in_err-files.ensures.1 in
     rw (p.1, p.2) (λ memory. files_refused v k (view keys.info.now) keys.name.now (pairs_view keys.tree.now) ls fs c.in_err-files.field-0.0 h (c.in_err-files.ensures memory))
 
@@ -120,7 +120,7 @@ returns-in_err-v1-clause-passes c =
     let same : n ≡ piece_length_in v = ap (λ z. number_in (int z)) (sym c.in_ok-info.piece_length-is) ∙ c.in_ok-info.ensures.1.piece_length in
     let passed : NoneHolds (piece_length_rows n) × ((c.in_ok-piece_length.piece_length ≡ n) × IsPieceLength c.in_ok-piece_length.piece_length) = search rules in
     let h = is_read v keys k n ls fs c.in_ok-info.ensures.0 c.in_ok-info.ensures.1 passed.0 passed.1.0 same
-    (layers_are v keys ls c.in_ok-info.ensures.1 c.of-layers.ensures) c.in_ok-listed.ensures.0 c.in_ok-listed.ensures.1 in
+    (layers_are v keys ls c.in_ok-info.ensures.1 c.of-layers.ensures) c.in_ok-listed.ensures.passes.0 c.in_ok-listed.ensures.passes.1 in
     let content = c.in_ok-files.ensures in
     let told = c.in_err-v1.ensures fs (fits_stream k fs (map file_entry c.deref.result.now) passed.1.1 content.1.pieces (ap (map file_entry) c.deref.ensures.value ∙ content.1.files)) in
     let p = err_from_is_err_and c.from_residual-in_err-v1.result c.from_residual-in_err-v1.ensures.1 in
@@ -143,13 +143,13 @@ new-requires-clause-sound c =
     let passed : NoneHolds (piece_length_rows n) × ((c.in_ok-piece_length.piece_length ≡ n) × IsPieceLength c.in_ok-piece_length.piece_length) = search rules in
     let legal = passed.1.1 in
     let content = c.in_ok-files.ensures in
-    let rows = c.in_ok-listed.ensures.0 in
+    let rows = c.in_ok-listed.ensures.passes.0 in
     let told = c.in_ok-v1.ensures fs (fits_stream k fs (map file_entry c.deref.result.now) legal content.1.pieces (ap (map file_entry) c.deref.ensures.value ∙ content.1.files)) in
     let fits : Fits 126 (dict tree) = subst (λ ps. Fits 126 (dict ps)) (sym c.in_ok-info.ensures.1.tree) (tree_fits v c.requires.canonical) in
     sound k (view keys.info.now) keys.name.now (layer_pairs c.of-layers.result) fs
     (described keys.name.now k c.in_ok-files.field-0.files.items c.in_ok-files.field-0.trees.items c.info_hash_v2-hash_v2.result c.digest-hash_v1.result c.in_ok-v1.v1)
-    legal refl (tree_paths tree fs fits (not_false (is_directory tree) rows.0) rows.1.0 c.in_ok-listed.ensures.1) content.0.1.0
-    (sizes_of tree fs rows c.in_ok-listed.ensures.1) content.1.roots content.1.pieces content.1.files content.1.trees content.0.1.1.1 told.0 told.1
+    legal refl (tree_paths tree fs fits (not_false (is_directory tree) rows.0) rows.1.0 c.in_ok-listed.ensures.passes.1) content.0.1.0
+    (sizes_of tree fs rows c.in_ok-listed.ensures.passes.1) content.1.roots content.1.pieces content.1.files content.1.trees content.0.1.1.1 told.0 told.1
 
 pub returns-clause-passes : goal.returns-clause-passes
 returns-clause-passes c =
@@ -162,7 +162,7 @@ returns-clause-passes c =
     let same : n ≡ piece_length_in v = ap (λ z. number_in (int z)) (sym c.in_ok-info.piece_length-is) ∙ c.in_ok-info.ensures.1.piece_length in
     let passed : NoneHolds (piece_length_rows n) × ((c.in_ok-piece_length.piece_length ≡ n) × IsPieceLength c.in_ok-piece_length.piece_length) = search rules in
     let h = is_read v keys k n ls fs c.in_ok-info.ensures.0 c.in_ok-info.ensures.1 passed.0 passed.1.0 same
-    (layers_are v keys ls c.in_ok-info.ensures.1 c.of-layers.ensures) c.in_ok-listed.ensures.0 c.in_ok-listed.ensures.1 in
+    (layers_are v keys ls c.in_ok-info.ensures.1 c.of-layers.ensures) c.in_ok-listed.ensures.passes.0 c.in_ok-listed.ensures.passes.1 in
     let content = c.in_ok-files.ensures in
     let told = c.in_ok-v1.ensures fs (fits_stream k fs (map file_entry c.deref.result.now) passed.1.1 content.1.pieces (ap (map file_entry) c.deref.ensures.value ∙ content.1.files)) in
     let t = described keys.name.now k c.in_ok-files.field-0.files.items c.in_ok-files.field-0.trees.items c.info_hash_v2-hash_v2.result c.digest-hash_v1.result c.in_ok-v1.v1 in
@@ -198,7 +198,8 @@ returns-in_err-listed-clause-memory c =
     let same : n ≡ piece_length_in v = ap (λ z. number_in (int z)) (sym c.in_ok-info.piece_length-is) ∙ c.in_ok-info.ensures.1.piece_length in
     let passed : NoneHolds (piece_length_rows n) × ((c.in_ok-piece_length.piece_length ≡ n) × IsPieceLength c.in_ok-piece_length.piece_length) = search rules in
     let p = err_from_is_err_and c.from_residual-in_err-listed.result c.from_residual-in_err-listed.ensures.1 in
-    rw (p.1, p.2) (λ _. none_both (head_rows v) (piece_length_rows (piece_length_in v)) c.in_ok-info.ensures.0 (subst (λ m. NoneHolds (piece_length_rows m)) same passed.0))
+    let keys = none_both (head_rows v) (piece_length_rows (piece_length_in v)) c.in_ok-info.ensures.0 (subst (λ m. NoneHolds (piece_length_rows m)) same passed.0) in
+    rw (p.1, p.2) (λ memory. plain_pass v (pairs_view c.in_ok-info.field-0.tree.now) keys c.in_ok-info.ensures.1.tree (c.in_err-listed.ensures.memory memory))
 
 pub returns-in_err-files-clause-memory : goal.returns-in_err-files-clause-memory
 returns-in_err-files-clause-memory c =
@@ -207,7 +208,8 @@ returns-in_err-files-clause-memory c =
     let same : n ≡ piece_length_in v = ap (λ z. number_in (int z)) (sym c.in_ok-info.piece_length-is) ∙ c.in_ok-info.ensures.1.piece_length in
     let passed : NoneHolds (piece_length_rows n) × ((c.in_ok-piece_length.piece_length ≡ n) × IsPieceLength c.in_ok-piece_length.piece_length) = search rules in
     let p = err_from_is_err_and c.from_residual-in_err-files.result c.from_residual-in_err-files.ensures.1 in
-    rw (p.1, p.2) (λ _. none_both (head_rows v) (piece_length_rows (piece_length_in v)) c.in_ok-info.ensures.0 (subst (λ m. NoneHolds (piece_length_rows m)) same passed.0))
+    let keys = none_both (head_rows v) (piece_length_rows (piece_length_in v)) c.in_ok-info.ensures.0 (subst (λ m. NoneHolds (piece_length_rows m)) same passed.0) in
+    rw (p.1, p.2) (λ _. plain_passed v (pairs_view c.in_ok-info.field-0.tree.now) keys c.in_ok-info.ensures.1.tree c.in_ok-listed.ensures.passes.0)
 
 pub returns-in_err-v1-clause-memory : goal.returns-in_err-v1-clause-memory
 returns-in_err-v1-clause-memory c =
@@ -216,4 +218,5 @@ returns-in_err-v1-clause-memory c =
     let same : n ≡ piece_length_in v = ap (λ z. number_in (int z)) (sym c.in_ok-info.piece_length-is) ∙ c.in_ok-info.ensures.1.piece_length in
     let passed : NoneHolds (piece_length_rows n) × ((c.in_ok-piece_length.piece_length ≡ n) × IsPieceLength c.in_ok-piece_length.piece_length) = search rules in
     let p = err_from_is_err_and c.from_residual-in_err-v1.result c.from_residual-in_err-v1.ensures.1 in
-    rw (p.1, p.2) (λ _. none_both (head_rows v) (piece_length_rows (piece_length_in v)) c.in_ok-info.ensures.0 (subst (λ m. NoneHolds (piece_length_rows m)) same passed.0))
+    let keys = none_both (head_rows v) (piece_length_rows (piece_length_in v)) c.in_ok-info.ensures.0 (subst (λ m. NoneHolds (piece_length_rows m)) same passed.0) in
+    rw (p.1, p.2) (λ _. plain_passed v (pairs_view c.in_ok-info.field-0.tree.now) keys c.in_ok-info.ensures.1.tree c.in_ok-listed.ensures.passes.0)

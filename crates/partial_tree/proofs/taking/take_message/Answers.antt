@@ -1,10 +1,12 @@
-use Rattle.std.proofs.Common.{◌≡◌, [], ◌-◌, ◌/◌, ◌^◌, not, refl, sym, ap, ap₂, ◌∙◌, subst}
+use Rattle.std.proofs.Common.{◌≡◌, [], ◌-◌, ◌/◌, ◌^◌, not, refl, sym, ap, ap₂, ◌∙◌, subst, arith}
 use Rattle.partial_tree.specs.declared.evidence.Evidence.{Evidence}
 use Rattle.partial_tree.specs.TreeRoot.{TreeRoot}
 use Rattle.node_maps.specs.Places.{tree_height, IsTreePlace, IsKnown}
 use Rattle.node_maps.specs.Known.{look}
 use Rattle.partial_tree.specs.Claims.{top_layer, top_index, GoodRange, GoodCount}
 use Rattle.partial_tree.specs.Evidence.{LeadsTo}
+use Rattle.std.proofs.lemmas.Result.{on_ok_weaker}
+use Rattle.partial_tree.proofs.MessagePages.{few-up_to}
 use Rattle.partial_tree.proofs.Messages.{known_of, same_claims, leads, taken_by, refused_by}
 use Rattle.partial_tree.proofs.taking.take_message.Goals as goal
 
@@ -60,3 +62,9 @@ returns-clause-refused g c =
     (same_claims ev ask hashes refl c.from-2.ensures range.1 refl count.0.enough)
     (subst (λ h. GoodRange h ask) c.requires.height range.0) (subst (λ h. GoodCount h ask hashes) c.requires.height count.0)
     (c.if-not-pads_fit.ensures.fit) top c.store.ensures.refused
+
+pub returns-clause-few : goal.returns-clause-few
+returns-clause-few g c = on_ok_weaker c.store.result (λ few.
+    let range = c.in_ok-span.ensures.good in
+    let count = c.in_ok-top.ensures.good in
+    omega (arith, few, few-up_to c.args.ask.now.base c.from-2.result c.in_ok-span.span c.in_ok-top.top range.3 (omega (arith, count.1, count.0.top_inside, c.requires.low)))) c.store.ensures.few

@@ -11,6 +11,7 @@ invariant-loop-claim g l =
     let M = g.N.NodeMap in
     record {
       stays : KeepsMarks (M.seen l.initial.map) (M.seen l.map);
+      held : M.held l.map ≡ M.held l.initial.map;
       known : insert_new (M.seen l.map).known (drop l.claim-index l.claims) ≡ insert_new (M.seen l.initial.map).known l.claims;
       gained : len (M.seen l.map).known ≡ len (M.seen l.initial.map).known + l.gained;
       bound : l.gained ≤ l.claim-index;

@@ -1,20 +1,32 @@
-use Rattle.std.proofs.Common.{◌≡◌, ◌∙◌, sym}
-use Rattle.metainfo.specs.Seen.{tree_entry}
+use Rattle.std.proofs.Common.{◌≡◌, ◌∙◌, refl, sym}
+use Rattle.opening.specs.Seen.{tree_entry}
+use Rattle.folders.proofs.Layers.{unwrapped}
 use Rattle.folders.proofs.Pieces.{other_count, read_whole}
 use Rattle.seeding.specs.Leaves.{Pushes}
-use Rattle.seeding.proofs.FedLeaves.{found}
+use Rattle.seeding.proofs.FedLeaves.{at_err, fitting, found}
 use Rattle.seeding.proofs.LeafReads.{other_length}
 use Rattle.seeding.proofs.leaves.read_tree.Goals as goal
 
 pub returns-then-ne-clause-read : goal.returns-then-ne-clause-read
 returns-then-ne-clause-read g c =
-    other_length (tree_entry c.args.tree.now) c.length-length.result Pushes _ _ _ _ _ (c.length-length.ensures.value ∙ c.requires)
+    other_length (tree_entry c.args.tree.now) c.args.tree.now.length Pushes _ _ _ _ _ refl
     c.in_ok-take_all.ensures.read (other_count _ _ _ c.if-ne.true c.ne.ensures)
 
 pub returns-clause-read : goal.returns-clause-read
 returns-clause-read g c =
-    let of : c.length-length.result ≡ c.args.tree.now.length = c.length-length.ensures.value ∙ c.requires in
-    found (tree_entry c.args.tree.now) c.length-length.result of _ _ c.new-leaves.result _
+    let shape : c.unwrap-shape.result ≡ c.args.tree.now.length =
+    unwrapped c.of.result c.unwrap-shape.result _ c.unwrap-shape.ensures c.of.ensures.value in
+    found (tree_entry c.args.tree.now) c.args.tree.now.length refl _ _ c.new-leaves.result _
     (read_whole Pushes _ _ _ _ _ _ _ c.if-ne.false c.ne.ensures c.in_ok-take_all.ensures.read)
-    c.new-leaves.ensures.content (c.new-leaves.ensures.length ∙ sym c.length-length.ensures.value) c.length-length.ensures.some
-    c.in_ok-finish.ensures.works c.in_ok-finish.field-0 c.in_ok-finish.ensures.ends
+    c.new-leaves.ensures.content (c.new-leaves.ensures.length ∙ shape) c.requires.tree.0
+    c.in_ok-finish.field-0 c.in_ok-finish.ensures.ends
+
+pub returns-in_err-finish-clause-memory : goal.returns-in_err-finish-clause-memory
+returns-in_err-finish-clause-memory g c =
+    let shape : c.unwrap-shape.result ≡ c.args.tree.now.length =
+    unwrapped c.of.result c.unwrap-shape.result _ c.unwrap-shape.ensures c.of.ensures.value in
+    let fits = fitting (tree_entry c.args.tree.now) c.args.tree.now.length refl _ _ c.new-leaves.result _
+    (read_whole Pushes _ _ _ _ _ _ _ c.if-ne.false c.ne.ensures c.in_ok-take_all.ensures.read)
+    c.new-leaves.ensures.content (c.new-leaves.ensures.length ∙ shape) c.requires.tree.0
+    c.in_err-finish.ensures.no_memory in
+    at_err _ c.from_residual-in_err-finish.result (λ why is. fits)

@@ -1,5 +1,5 @@
 use Rattle.std.proofs.Common.{◌∙◌, ap, map, Some, subst}
-use Rattle.metainfo.specs.Seen.{tree_entry}
+use Rattle.opening.specs.Seen.{tree_entry}
 use Rattle.folders.specs.Shelf.{IsFound}
 use Rattle.seeding.proofs.LeafReads.{finds_read}
 use Rattle.seeding.proofs.seeding.find_tree.Goals as goal

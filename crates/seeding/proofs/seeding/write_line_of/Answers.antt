@@ -2,7 +2,7 @@ use Rattle.std.proofs.Common.{◌≡◌, ◌++◌, ◌∙◌, List, ℕ, codes, 
 use Rattle.std.proofs.lemmas.Result.{err_from_is_err_and}
 use Rattle.benc.proofs.Out.{Wrote-then, Wrote-part}
 use Rattle.std.specs.Prelude.{Bool}
-use Rattle.lines.specs.Text.{path_text}
+use Rattle.printing.specs.Text.{path_text}
 use Rattle.seeding.specs.Seeding.{seed_words}
 use Rattle.seeding.proofs.seeding.write_line_of.Goals as goal
 

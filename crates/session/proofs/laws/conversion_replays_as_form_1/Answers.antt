@@ -8,5 +8,5 @@ returns c = record {
   back = form_1_runs;
   replays = conversion_replays;
   one = one_run;
-  tells = conversion_tells;
+  same = conversion_tells;
 }

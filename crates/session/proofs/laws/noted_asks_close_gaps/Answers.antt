@@ -1,3 +1,5 @@
+use Rattle.chains.proofs.Chains.{Chain-weaker}
+use Rattle.session.specs.Noted.{NotedStep, IsSafeNotedStep}
 use Rattle.session.proofs.NotedRounds.{run-noted-open, incoming-opens, noted-keeps, noted-round-fewer}
 use Rattle.session.proofs.RepeatedRounds.{noted-rounds-count, noted-rounds-done}
 use Rattle.session.proofs.laws.noted_asks_close_gaps.Goals as goal
@@ -10,4 +12,5 @@ returns c = record {
   round = noted-round-fewer;
   all = noted-rounds-count;
   done = noted-rounds-done;
+  safe = Chain-weaker IsSafeNotedStep NotedStep (λ S x v S' s. s.allowed);
 }

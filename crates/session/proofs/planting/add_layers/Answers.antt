@@ -1,7 +1,7 @@
 use Rattle.std.proofs.Common.{◌≡◌, IfSome, ap, ◌∙◌, subst}
 use Rattle.hashtree.specs.Tree.{block_count, height}
-use Rattle.metainfo.specs.Pieces.{IsPieceLength}
-use Rattle.metainfo.specs.PieceLayers.{piece_layer}
+use Rattle.pieces.specs.Pieces.{IsPieceLength}
+use Rattle.opening.specs.PieceLayers.{piece_layer}
 use Rattle.session.proofs.FirstLayers.{accepted, planted_layers}
 use Rattle.session.proofs.planting.add_layers.Goals as goal
 
@@ -14,4 +14,4 @@ pub returns : goal.returns
 returns g c =
     let at : c.height-layer.result ≡ piece_layer c.args.piece_length = c.height-layer.ensures.value ∙ ap (λ n. height (block_count n)) (subst (λ o. IfSome o (λ s. s ≡ c.bytes.result)) c.unwrap.ensures c.of.ensures.value ∙ c.bytes.ensures.value) in
     planted_layers c.args.piece_length _ (subst IsPieceLength c.bytes.ensures.value c.bytes.ensures.legal) c.requires.sound c.requires.longer c.args.tree.now c.requires.planted c.height-layer.result at
-    c.plant.new.self _ c.in_ok-plant.ensures.planted
+    c.plant.new.self _ c.are_hashes.ensures c.in_ok-plant.ensures.planted

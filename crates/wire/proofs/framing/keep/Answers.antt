@@ -1,12 +1,12 @@
-use Rattle.std.proofs.Common.{◌≡◌, length, arith, ◌∙◌, subst, sym}
+use Rattle.std.proofs.Common.{◌≡◌, ◌≤◌, length, arith, ◌∙◌, subst, sym}
 use Rattle.std.proofs.lemmas.Result.{err_from_is_err_and, MatchResult-weaker}
 use Rattle.wire.specs.Reading.{GaveFaultless}
 use Rattle.wire.proofs.Giving.{take-written}
 use Rattle.wire.proofs.Stopping.{StopsShort-at_once}
 use Rattle.wire.proofs.framing.keep.Goals as goal
 
-pub returns-in_err-resize-clause-bytes : goal.returns-in_err-resize-clause-bytes
-returns-in_err-resize-clause-bytes g c =
+pub returns-in_err-take_room-clause-bytes : goal.returns-in_err-take_room-clause-bytes
+returns-in_err-take_room-clause-bytes g c =
     let S = g.R.Source in
     let p = err_from_is_err_and c.from_residual.result c.from_residual.ensures.1 in
     rw p.1 (StopsShort-at_once (S.seen c.args.source.now) c.args.count p.0 c.requires.some p.2)
@@ -15,9 +15,10 @@ pub returns-clause-bytes : goal.returns-clause-bytes
 returns-clause-bytes g c =
     let S = g.R.Source in
     let new = c.fill_front.new.room in
-    let grown = c.resize.new.self in
-    let size : grown.len ≡ 263216 = c.in_ok-resize.ensures.len in
-    let same : length new ≡ 263216 = c.fill_front.auto.room ∙ c.as_mut_slice.ensures.len ∙ c.in_ok-resize.ensures.len in
+    let grown = c.lengthen.new.kept in
+    let long : 263216 ≤ grown.len = c.lengthen.ensures.long in
+    let same : length new ≡ grown.len = c.fill_front.auto.room ∙ c.as_mut_slice.ensures.len in
     MatchResult-weaker c.fill_front.result c.fill_front.ensures.bytes
-    (λ _ gave. subst (GaveFaultless (S.seen c.args.source.now) (S.seen c.fill_front.new.source)) (sym (take-written c.args.count grown.len new grown.items (omega (arith, c.requires.bounded)) (omega (arith, c.requires.bounded)))) gave)
+    (λ _ gave. subst (GaveFaultless (S.seen c.args.source.now) (S.seen c.fill_front.new.source))
+    (sym (take-written c.args.count grown.len new grown.items (omega (arith, c.requires.bounded)) (omega (arith, c.requires.bounded)))) gave)
     (λ _ s. s)

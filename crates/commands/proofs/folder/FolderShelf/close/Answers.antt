@@ -1,5 +1,5 @@
 use Rattle.std.proofs.Common.{◌+◌, ◌%◌, ◌^◌, ◌<◌, ◌∙◌, ap, sym, arith}
-use Rattle.checker.proofs.Counts.{more_is}
+use Rattle.folders.proofs.Counts.{more_is}
 use Rattle.commands.proofs.folder.FolderShelf.close.Goals as goal
 
 pub returns-clause-counts : goal.returns-clause-counts

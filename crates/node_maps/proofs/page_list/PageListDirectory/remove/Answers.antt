@@ -19,8 +19,8 @@ invariant_of-self c =
       beside = ap length pages ∙ remove-beside ns ps s.rising s.beside c.args.number c.in-Ok.at is ∙ sym (ap length numbers);
     }
 
-pub returns-in-Ok : goal.returns-in-Ok
-returns-in-Ok c =
+pub returns-in-Ok-clause-gone : goal.returns-in-Ok-clause-gone
+returns-in-Ok-clause-gone c =
     let s = c.args.self.now in
     let ns : List ℕ = s.numbers.items in
     let ps : List Page = s.pages.items in
@@ -28,8 +28,8 @@ returns-in-Ok c =
     λ n. ap (λ xs. page_numbered xs c.remove-in-Ok.new.self.items n) c.remove.ensures.items ∙ ap (λ ys. page_numbered (remove ns c.in-Ok.at) ys n) c.remove-in-Ok.ensures.items
     ∙ remove-found ns ps s.rising s.beside c.args.number c.in-Ok.at is n
 
-pub returns-in_default : goal.returns-in_default
-returns-in_default c =
+pub returns-in_default-clause-gone : goal.returns-in_default-clause-gone
+returns-in_default-clause-gone c =
     let s = c.args.self.now in
     let gap = subst (λ xs. IsGapFor xs c.args.number c.in_default.field-0) c.deref.ensures.value c.in_default.ensures.gap in
     absent-changed c.args.number (page_numbered s.numbers.items s.pages.items) (found_gap s.numbers.items s.pages.items c.args.number c.in_default.field-0 gap)

@@ -49,5 +49,5 @@ returns-in_ok-add-in-Err-clause-ok g c =
     let numbers : c.insert_reserved.new.items.items ≡ insert s.numbers.items c.in-Err.at key = c.insert_reserved.ensures.items ∙ ap (λ xs. insert xs c.in-Err.at key) c.make_room.ensures.numbers in
     let lists : c.insert_reserved-in-Err.new.items.items ≡ insert s.lists.items c.in-Err.at c.add-in-Err.new.self = c.insert_reserved-in-Err.ensures.items ∙ ap (λ xs. insert xs c.in-Err.at c.add-in-Err.new.self) c.make_room.ensures.items in
     λ n. ap (λ xs. find_under find xs c.insert_reserved-in-Err.new.items.items s.shift n) numbers ∙ ap (λ ys. find_under find (insert s.numbers.items c.in-Err.at key) ys s.shift n) lists
-    ∙ under-insert find s.numbers.items s.lists.items s.rising s.beside s.shift c.args.number c.in-Err.at gap (find c.new-list.result) c.new-list.ensures c.add-in-Err.new.self (Some c.args.page)
+    ∙ under-insert find s.numbers.items s.lists.items s.rising s.beside s.shift c.args.number c.in-Err.at gap (find c.new-list.result) c.new-list.ensures.none c.add-in-Err.new.self (Some c.args.page)
     c.in_ok-add-in-Err.ensures.ok n

@@ -22,25 +22,25 @@ invariant_of-self g c =
           ∙ sym (ap length numbers);
     }
 
-pub returns-then-is_empty : goal.returns-then-is_empty
-returns-then-is_empty g c =
+pub returns-then-is_empty-clause-gone : goal.returns-then-is_empty-clause-gone
+returns-then-is_empty-clause-gone g c =
     let s = c.args.self.now in
     let find = g.D.Directory.find in
     let is = subst (λ ns. IsNumberAt ns (c.args.number / 2 ^ s.shift) c.in-Ok.at) c.deref.ensures.value c.in-Ok.ensures.at in
     let w = c.remove.new.self in
-    let none = on_true c.is_empty.result ((n : ℕ) → find w n ≡ None) c.is_empty.ensures c.if-is_empty.true in
+    let none = on_true c.is_empty.result ((n : ℕ) → find w n ≡ None) c.is_empty.ensures.none c.if-is_empty.true in
     λ n. ap (λ xs. find_under find xs c.remove-then-is_empty-2.new.self.items s.shift n) c.remove-then-is_empty.ensures.items
     ∙ ap (λ ys. find_under find (remove s.numbers.items c.in-Ok.at) ys s.shift n) c.remove-then-is_empty-2.ensures.items
-    ∙ under-emptied find s.numbers.items s.lists.items s.rising s.beside s.shift c.args.number c.in-Ok.at is c.index_mut-list.result.now w c.index_mut-list.ensures.value c.remove.ensures none n
+    ∙ under-emptied find s.numbers.items s.lists.items s.rising s.beside s.shift c.args.number c.in-Ok.at is c.index_mut-list.result.now w c.index_mut-list.ensures.value c.remove.ensures.gone none n
 
-pub returns-else-is_empty : goal.returns-else-is_empty
-returns-else-is_empty g c =
+pub returns-else-is_empty-clause-gone : goal.returns-else-is_empty-clause-gone
+returns-else-is_empty-clause-gone g c =
     let s = c.args.self.now in
     let is = subst (λ ns. IsNumberAt ns (c.args.number / 2 ^ s.shift) c.in-Ok.at) c.deref.ensures.value c.in-Ok.ensures.at in
-    under-set g.D.Directory.find s.numbers.items s.lists.items s.rising s.beside s.shift c.args.number c.in-Ok.at is c.index_mut-list.result.now c.remove.new.self c.index_mut-list.ensures.value None c.remove.ensures
+    under-set g.D.Directory.find s.numbers.items s.lists.items s.rising s.beside s.shift c.args.number c.in-Ok.at is c.index_mut-list.result.now c.remove.new.self c.index_mut-list.ensures.value None c.remove.ensures.gone
 
-pub returns-in_default : goal.returns-in_default
-returns-in_default g c =
+pub returns-in_default-clause-gone : goal.returns-in_default-clause-gone
+returns-in_default-clause-gone g c =
     let s = c.args.self.now in
     let gap = subst (λ ns. IsGapFor ns (c.args.number / 2 ^ s.shift) c.in_default.field-0) c.deref.ensures.value c.in_default.ensures.gap in
     absent-changed c.args.number (find_under g.D.Directory.find s.numbers.items s.lists.items s.shift)

@@ -1,8 +1,8 @@
 use Rattle.std.proofs.Common.{◌≡◌, ◌*◌, ◌/◌, ◌∙◌, IsSome, inl, inr, sym, subst, arith}
 use Rattle.std.proofs.lemmas.Bool.{cases_lt}
 use Rattle.node_maps.specs.Paged.{page_at}
-use Rattle.std.proofs.lemmas.Result.{on_err_weaker}
-use Rattle.node_maps.proofs.Paging.{on_err, held-same}
+use Rattle.std.proofs.lemmas.Result.{on_ok_weaker, on_err_weaker}
+use Rattle.node_maps.proofs.Paging.{on_err, held-same, held-more, page_span-some}
 use Rattle.node_maps.proofs.paged.PagedNodeMap.reserve.Goals as goal
 
 pub returns-in_err-add_rows-clause-refused : goal.returns-in_err-add_rows-clause-refused
@@ -22,3 +22,11 @@ returns-clause-no_memory c = λ room. c.add_pages.ensures.no_memory (λ n low hi
           let number : 512 * n / 512 ≡ n = omega arith in
           subst (λ k. IsSome (page_at c.args.self.now.rows.items c.args.layer k)) number (room (512 * n) after (omega arith)).page
     ]))
+
+pub returns-clause-few : goal.returns-clause-few
+returns-clause-few c = on_ok_weaker c.add_pages.result (λ grows. omega (
+  arith,
+  held-more _ _ c.add_rows.new.rows.items c.add_pages.new.rows.items grows,
+  held-same c.args.self.now.rows.items c.add_rows.new.rows.items c.add_rows.ensures.same,
+  page_span-some c.args.from c.args.count c.if-count-eq0.false,
+)) c.add_pages.ensures.few

@@ -25,8 +25,9 @@ invariant_of-self c =
     let q : ℕ = c.in-Some.number in
     let spare : is_spare (f q) ≡ true = sym (ap is_spare c.page.ensures) ∙ sym c.is_spare.ensures ∙ c.if-is_spare.true in
     record {
-      counted = counted-less f g q row.count row.counted (spare-some (f q) spare) c.remove.ensures;
-      spare = gone-spare f g q c.remove.ensures row.fresh.items c.pop.new.self.items c.in-Some.ensures.items row.spare;
+      in_use = c.remove.ensures.in_use row.in_use;
+      counted = counted-less f g q row.count row.counted (spare-some (f q) spare) c.remove.ensures.gone;
+      spare = gone-spare f g q c.remove.ensures.gone row.fresh.items c.pop.new.self.items c.in-Some.ensures.items row.spare;
     }
 
 pub fresh-preserved-then-is_spare : goal.fresh-preserved-then-is_spare
@@ -39,11 +40,12 @@ fresh-preserved-then-is_spare c =
     let spare : is_spare (f q) ≡ true = sym (ap is_spare c.page.ensures) ∙ sym c.is_spare.ensures ∙ c.if-is_spare.true in
     let some : 1 ≤ row.count = counted-some f q row.count row.counted (spare-some (f q) spare) in
     record {
-      cells = λ i. gone-cells f g q c.remove.ensures spare i ∙ c.fresh.invariant.cells i;
+      cells = λ i. gone-cells f g q c.remove.ensures.gone spare i ∙ c.fresh.invariant.cells i;
+      few = omega (arith, c.fresh.invariant.few);
       left = λ base fresh count long made.
           let more : length fresh < length row.fresh.items = omega (arith, long, c.fresh-test.true, row.fresh.ok.0) in
           let less : row.count ≡ (row.count - 1) + 1 = omega (arith, some) in
-          last-gone base fresh count f row.fresh.items c.pop.new.self.items row.count q (c.fresh.invariant.left base fresh count long made) more c.in-Some.ensures.items g (row.count - 1) c.remove.ensures less;
+          last-gone base fresh count f row.fresh.items c.pop.new.self.items row.count q (c.fresh.invariant.left base fresh count long made) more c.in-Some.ensures.items g (row.count - 1) c.remove.ensures.gone less;
     }
 
 pub invariant_of-self-else-is_spare : goal.invariant_of-self-else-is_spare
@@ -53,6 +55,7 @@ invariant_of-self-else-is_spare c =
     let f = on_rows row.pages in
     let full : is_spare (f c.in-Some.number) ≡ false = sym (ap is_spare c.page.ensures) ∙ sym c.is_spare.ensures ∙ c.if-is_spare.false in
     record {
+      in_use = row.in_use;
       counted = row.counted;
       spare = kept-spare f c.in-Some.number row.fresh.items c.pop.new.self.items c.in-Some.ensures.items full row.spare;
     }
@@ -66,6 +69,7 @@ fresh-preserved c =
     let full : is_spare (f q) ≡ false = sym (ap is_spare c.page.ensures) ∙ sym c.is_spare.ensures ∙ c.if-is_spare.false in
     record {
       cells = c.fresh.invariant.cells;
+      few = c.fresh.invariant.few;
       left = λ base fresh count long made.
           let more : length fresh < length row.fresh.items = omega (arith, long, c.fresh-test.true, row.fresh.ok.0) in
           absurd (false≢true (sym full ∙ last-spare base fresh count f row.fresh.items c.pop.new.self.items row.count q (c.fresh.invariant.left base fresh count long made) more c.in-Some.ensures.items));

@@ -20,6 +20,7 @@ invariant_of-self-2 c =
     let g = on_rows c.add.new.self in
     let none : f c.args.number ≡ None = absent c.page.result (f c.args.number) c.page.ensures (sym c.is_some.ensures ∙ c.if-is_some.false) in
     record {
+      in_use = c.add.ensures.in_use row.in_use;
       counted = counted-more f g c.args.number row.count c.in_ok-page.page row.counted none c.in_ok-add.ensures.ok c.requires;
       spare = subst (AreSpare g) (sym (c.push_reserved.ensures.items ∙ ap (λ xs. xs ++ c.args.number ∷ []) c.reserve.ensures.items))
           (added-spare f g c.args.number c.in_ok-page.page none c.in_ok-add.ensures.ok c.in_ok-page.ensures row.fresh.items row.spare);

@@ -36,5 +36,6 @@ numbers-preserved c =
         | inl same ↦ subst (HasRowPage c.make.new.self) (sym same) c.in_default.ensures.ok
         | inr less ↦ now.keeps n (before.done n low less)
       ];
+      few = omega (arith, before.few, now.few);
       grown = grown-one (pages_of row) row.fresh.items row.count (pages_of c.numbers.self) c.numbers.self.fresh.items c.numbers.self.count (pages_of c.make.new.self) c.make.new.self.fresh.items c.make.new.self.count before.grown now.grown;
     }

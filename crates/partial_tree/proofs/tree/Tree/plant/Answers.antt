@@ -8,6 +8,9 @@ use Rattle.node_maps.specs.Known.{look}
 use Rattle.partial_tree.specs.Kept.{KeptTree, kept, IsGoodTree, TreeJoins}
 use Rattle.partial_tree.proofs.Ranges.{pow_more}
 use Rattle.partial_tree.proofs.Layers.{filled-len}
+use Rattle.node_maps.proofs.Paging.{on_err}
+use Rattle.partial_tree.specs.Claims.{HasNew}
+use Rattle.partial_tree.proofs.Planted.{closed-upward}
 use Rattle.partial_tree.proofs.Counting.{counted_more, counted_same}
 use Rattle.partial_tree.proofs.tree.Tree.plant.Goals as goal
 
@@ -49,3 +52,14 @@ returns-clause-planted g c =
     let after = (g.N.NodeMap.seen c.plant_layer.new.nodes).known in
     subst (λ (v : KeptTree). TreeJoins (fill_claims v.length c.args.layer c.args.hashes.now) v c.in_ok-gained.gained (kept old.root old.shape after (g.N.NodeMap.seen c.plant_layer.new.nodes).marked))
     c.self.view_is (c.in_ok-gained.ensures.planted, ap (kept old.root old.shape after) c.plant_layer.ensures.stays.marked)
+
+pub plant_layer-requires-clause-upward : goal.plant_layer-requires-clause-upward
+plant_layer-requires-clause-upward g c =
+    let old = c.self.inside in
+    let kept : KeptTree = record { root = old.root; length = old.shape; state = record { known = (g.N.NodeMap.seen old.nodes).known; marked = (g.N.NodeMap.seen old.nodes).marked } } in
+    let good : IsGoodTree kept = subst IsGoodTree (sym c.self.view_is) c.requires.good in
+    λ k i low at. closed-upward (record { root = old.root; length = old.shape }) (look (g.N.NodeMap.seen old.nodes).known) good.closed k i (subst (λ h. k < h) c.self.invariant.1.height_is low) at
+
+pub returns-in_err-gained-clause-no_memory : goal.returns-in_err-gained-clause-no_memory
+returns-in_err-gained-clause-no_memory g c =
+    on_err c.from_residual.result (subst (λ (v : KeptTree). HasNew (look v.state.known) (fill_claims v.length c.args.layer c.args.hashes.now)) c.self.view_is c.in_err-gained.ensures.no_memory)

@@ -1,6 +1,6 @@
 use Rattle.std.proofs.Common.{◌≡◌, ◌<◌, List, length, set, Some, IfOk, IfErr, sym, subst}
 use Rattle.std.specs.Prelude.{slice_get}
-use Rattle.metainfo.specs.Description.{Description}
+use Rattle.opening.specs.Description.{Description}
 use Rattle.partial_tree.specs.Kept.{KeptTree}
 use Rattle.session.specs.Layouts.{SessionSeen, seen}
 use Rattle.session.specs.Session.{IsFilled, IsFillRefused}

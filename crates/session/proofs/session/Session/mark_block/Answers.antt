@@ -1,5 +1,5 @@
 use Rattle.std.proofs.Common.{◌≡◌, Some, sym, ap, ◌∙◌}
-use Rattle.metainfo.specs.Places.{place_of}
+use Rattle.opening.specs.Places.{place_of}
 use Rattle.session.specs.Layouts.{SessionSeen}
 use Rattle.session.proofs.Sessions.{refused_at}
 use Rattle.session.proofs.session.Session.mark_block.Goals as goal

@@ -1,8 +1,8 @@
 use Rattle.std.proofs.Common.{◌≡◌, ℕ, List, length, Some, refl, sym, ◌∙◌, subst}
 use Rattle.std.proofs.lemmas.Option.{none-some}
-use Rattle.metainfo.specs.Blocks.{IsBlockRun}
-use Rattle.metainfo.specs.Description.{Description}
-use Rattle.metainfo.specs.Places.{IsBlockPlace, place_of}
+use Rattle.opening.specs.Blocks.{IsBlockRun}
+use Rattle.opening.specs.Description.{Description}
+use Rattle.opening.specs.Places.{IsBlockPlace, place_of}
 use Rattle.partial_tree.specs.Kept.{KeptTree}
 use Rattle.session.specs.Layouts.{SessionSeen, seen}
 use Rattle.session.specs.Session.{IsInFile, AreRefused}

@@ -2,7 +2,7 @@ use Rattle.std.proofs.Common.{◌≡◌, ◌<◌, ℕ, List, length, set, Option
 use Rattle.std.specs.Prelude.{slice_get, IsSome}
 use Rattle.std.proofs.lemmas.Option.{slice_get_within}
 use Rattle.hashtree.specs.Tree.{block_count}
-use Rattle.metainfo.specs.Description.{Description}
+use Rattle.opening.specs.Description.{Description}
 use Rattle.partial_tree.specs.Kept.{KeptTree}
 use Rattle.session.specs.Session.{IsMarkedBlock, IsUnmarkedBlock}
 use Rattle.session.specs.Layouts.{SessionSeen, seen, HasBlock}

@@ -1,13 +1,13 @@
 use Rattle.std.proofs.Common.{◌≡◌, ◌<◌, ◌+◌, ◌^◌, List, [], ◌∷◌, ◌++◌, length, Option, sym, ap, ◌∙◌, subst, arith, length-append}
-use Rattle.metainfo.specs.Description.{Description}
+use Rattle.opening.specs.Description.{Description}
 use Rattle.partial_tree.specs.declared.refusal.BlockRefusal.{BlockRefusal}
 use Rattle.chains.specs.Chain.{Chain}
 use Rattle.session.specs.Blocks.{BlocksSeen, cuts}
 use Rattle.session.specs.Layouts.{SessionSeen, HasBlock, HasRun}
 use Rattle.session.specs.Session.{BlockStep}
-use Rattle.metainfo.proofs.Blocks.{at_most_seventeen}
+use Rattle.opening.proofs.Blocks.{at_most_seventeen}
 use Rattle.session.proofs.Entries.{chain-torrent}
-use Rattle.session.proofs.Marking.{run-offset, run-has, run-first, no_block, next_block}
+use Rattle.session.proofs.MessageBlocks.{run-offset, run-has, run-first, no_block, next_block}
 use Rattle.session.proofs.session.Session.mark_run.Goals as goal
 
 pub new-blocks-requires : goal.new-blocks-requires

@@ -1,6 +1,6 @@
 use Rattle.std.proofs.Common.{◌≡◌, ℕ, ◌+◌, ◌∙◌, Option, Some, SomeIff, List, map, take, length, ap, sym, subst, subst₂, arith}
-use Rattle.metainfo.specs.Pieces.{IsPieceLength}
-use Rattle.metainfo.specs.Seen.{tree_entry}
+use Rattle.pieces.specs.Pieces.{IsPieceLength}
+use Rattle.opening.specs.Seen.{tree_entry}
 use Rattle.partial_tree.specs.Kept.{KeptTree, info_of}
 use Rattle.session.specs.Layouts.{root_of_entry}
 use Rattle.session.proofs.FirstTrees.{ArePlanted, sound_at, same_more, kept_all, planted_one_more, no_trees, fresh}

@@ -1,5 +1,5 @@
 use Rattle.std.proofs.Common.{◌≡◌, ◌≤◌, length, map, take, vec_len, vec_capacity}
-use Rattle.metainfo.specs.Seen.{tree_entry}
+use Rattle.opening.specs.Seen.{tree_entry}
 use Rattle.partial_tree.specs.Kept.{info_of}
 use Rattle.session.specs.Layouts.{root_of_entry}
 use Rattle.session.proofs.FirstTrees.{ArePlanted}

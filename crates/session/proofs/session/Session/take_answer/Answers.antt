@@ -1,9 +1,11 @@
-use Rattle.std.proofs.Common.{sym, ap, ◌∙◌, subst}
+use Rattle.std.proofs.Common.{Ok, sym, ap, ◌∙◌, subst}
 use Rattle.session.specs.Asks.{AskSet}
 use Rattle.session.specs.Layouts.{SessionSeen, seen}
 use Rattle.session.specs.Noted.{without_ask}
 use Rattle.session.specs.SafeStep.{KeepsKnown}
-use Rattle.session.proofs.Asking.{keeps_asking}
+use Rattle.session.specs.Wanted.{WantedClosesOneGap}
+use Rattle.session.proofs.OtherAsks.{keeps_asking}
+use Rattle.session.proofs.NotedSteps.{closes-asking}
 use Rattle.session.proofs.session.Session.take_answer.Goals as goal
 
 pub returns-in-Ok-clause-stored : goal.returns-in-Ok-clause-stored
@@ -14,7 +16,18 @@ returns-in-Ok-clause-stored g c = record {
   state_after = ap (λ (o : AskSet). seen c.self.inside.torrent.now o c.self.inside.trees.items) c.remove.ensures ∙ ap (λ (v : SessionSeen). without_ask v c.args.ask.now) c.self.view_is;
 }
 
+-- closing the ask leaves the trees
 pub returns-in-Ok-clause-keeps_known : goal.returns-in-Ok-clause-keeps_known
 returns-in-Ok-clause-keeps_known g c =
-    subst (KeepsKnown c.args.self.now) (sym (ap (λ (o : AskSet). seen c.self.inside.torrent.now o c.self.inside.trees.items) c.remove.ensures ∙ ap (λ (v : SessionSeen). without_ask v c.args.ask.now) c.self.view_is))
+    subst (KeepsKnown c.args.self.now)
+    (sym (ap (λ (o : AskSet). seen c.self.inside.torrent.now o c.self.inside.trees.items) c.remove.ensures
+    ∙ ap (λ (v : SessionSeen). without_ask v c.args.ask.now) c.self.view_is))
     (keeps_asking _ c.args.self.now c.take_hashes.new.self c.in-Ok.ensures.keeps_known)
+
+pub returns-in-Ok-clause-closes_one_gap : goal.returns-in-Ok-clause-closes_one_gap
+returns-in-Ok-clause-closes_one_gap g c = λ was.
+    subst (WantedClosesOneGap c.args.self.now c.args.ask.now c.args.hashes.now (Ok c.in-Ok.count))
+    (sym (ap (λ (o : AskSet). seen c.self.inside.torrent.now o c.self.inside.trees.items) c.remove.ensures
+    ∙ ap (λ (v : SessionSeen). without_ask v c.args.ask.now) c.self.view_is))
+    (closes-asking _ c.args.self.now c.args.ask.now c.args.hashes.now (Ok c.in-Ok.count) c.take_hashes.new.self
+    c.in-Ok.ensures.closes_one_gap)

@@ -1,4 +1,5 @@
 use Rattle.session.proofs.SafeSteps.{hashes-stored, hashes-keep, answers-stored}
+use Rattle.session.proofs.OneGap.{wanted-closes}
 use Rattle.session.proofs.session.Session.take_hashes.Goals as goal
 
 pub returns-clause-keeps_known : goal.returns-clause-keeps_known
@@ -14,4 +15,9 @@ returns-clause-stores_true_hashes g c =
 pub returns-clause-stores_answers : goal.returns-clause-stores_answers
 returns-clause-stores_answers g c =
     answers-stored c.args.self.now c.closed_trees.ensures c.distinct_roots.ensures c.args.ask.now c.args.hashes.now c.join_hashes.result
+    c.join_hashes.new.self c.join_hashes.ensures.stored c.join_hashes.ensures.refused
+
+pub returns-clause-closes_one_gap : goal.returns-clause-closes_one_gap
+returns-clause-closes_one_gap g c =
+    wanted-closes c.args.self.now c.closed_trees.ensures c.distinct_roots.ensures c.args.ask.now c.args.hashes.now c.join_hashes.result
     c.join_hashes.new.self c.join_hashes.ensures.stored c.join_hashes.ensures.refused

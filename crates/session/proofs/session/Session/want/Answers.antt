@@ -1,6 +1,6 @@
 use Rattle.std.proofs.Common.{◌≡◌, ◌<◌, List, length, Some, sym, subst}
 use Rattle.std.specs.Prelude.{slice_get}
-use Rattle.metainfo.specs.Description.{Description}
+use Rattle.opening.specs.Description.{Description}
 use Rattle.partial_tree.specs.Kept.{KeptTree, info_of}
 use Rattle.session.specs.Session.{IsTree}
 use Rattle.session.specs.Layouts.{SessionSeen, IsBlockOf}

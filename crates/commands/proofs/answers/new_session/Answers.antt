@@ -1,4 +1,0 @@
-use Rattle.commands.proofs.answers.new_session.Goals as goal
-
-pub returns-clause-fresh : goal.returns-clause-fresh
-returns-clause-fresh c = c.in_ok-new.ensures.fresh

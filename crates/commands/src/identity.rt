@@ -1,0 +1,29 @@
+//! Which file it is, whatever its path.
+use std::fs::{self, Metadata};
+use std::os::unix::fs::MetadataExt;
+
+/// A regular file, by its device and its number there. All hard links of a file have one identity.
+#[derive(Clone, Copy, PartialEq, Eq)]
+pub(crate) struct Identity {
+    device: u64,
+    inode: u64,
+}
+
+impl Identity {
+    /// The file with this path, if it is a regular one. Symlinks are followed.
+    pub(crate) fn at(rt: &HostRuntime, path: &str) -> Option<Identity> {
+        let found = fs::metadata(rt, path).ok()?;
+        Identity::of(&found)
+    }
+
+    /// What this was found to be, if it is a regular file.
+    pub(crate) fn of(found: &Metadata) -> Option<Identity> {
+        if !found.is_file() {
+            return None;
+        }
+        Some(Identity {
+            device: found.dev(),
+            inode: found.ino(),
+        })
+    }
+}

@@ -1,0 +1,284 @@
+//! What each command answers over any devices: what goes out, and the exit status that follows.
+ghost use Rattle.std.specs.Prelude.{◌≡◌, ◌≢◌, ◌^◌, ◌+◌, ◌≤◌, ◌↔◌, ℕ, Bool, IsTrue, List, [], None, Some, Ok, Err, IfErr, IfOk, OnErr, OnOk, String, length, map, not, true, false};
+ghost use Rattle.std.specs.String.{string_bytes};
+ghost use Rattle.benc.specs.Device.{BrokeOrUnflushed, SentAndFlushed, WroteAndFlushed};
+ghost use Rattle.chains.specs.Chain.{Chain};
+ghost use Rattle.gathering.specs.Gathering.{Gathers};
+ghost use Rattle.printing.specs.Refused.{refusal_text};
+ghost use Rattle.printing.specs.Show.{show_text};
+ghost use Rattle.replays.specs.Replay.{IsCutReport, replay_seen};
+ghost use Rattle.folders.specs.Root.{root_line_of};
+ghost use Rattle.seeding.specs.Seeding.{IsSeeded, Seeds, shelf_and_session};
+ghost use Rattle.folders.specs.TakeAll.{IsReadWithin};
+ghost use Rattle.folders.specs.Visits.{Visits};
+ghost use Rattle.session.specs.Fresh.{IsFresh};
+ghost use Rattle.commands.specs.Outcomes.{BlamesOne, Checks, ConvertsRecord, EndsRoot, HasTold, IsReplayed, IsToldOfListing, IsToldOfSeeding, IsUnprinted, MakesDraft, NamesOutput, NamesSink, WritesTorrent, answer_status, form_2_text, wanted_draft};
+
+use benc::memory::MemSink;
+use benc::{Sink, Source};
+use command_line::command::Create;
+use conversions::ConvertFault;
+use drafts::Draft;
+use filetree::Refusal;
+use folders::{RootFault, Shelf, ShelfFault, print_report, root_line};
+use gathering::GatherFault;
+use opening::Torrent;
+use printing::{Fault, refusal_line, write_line};
+use seeding::SeedFault;
+use session::{NodeMap, Paged, Session};
+use std::alloc::Global;
+
+/// Prints the length and root of the file with this path. The status is 1 if the file is too long.
+pub fn root<'a, R: Source, W: Sink>(
+    path: &'a str,
+    source: &mut R,
+    out: &mut W,
+) -> Result<u8, Fault<'a>>
+    ensures ends { EndsRoot (R.seen source.old) (R.seen source.new)
+        (W.seen out.old) (W.seen out.new) result }
+    ensures no_further { IsReadWithin (2 ^ 46 + 1) (R.seen source.old) (R.seen source.new) }
+    ensures faults { BlamesOne path.now (R.seen source.old) (R.seen source.new)
+        (W.seen out.old) (W.seen out.new) result }
+{
+    match root_line(source, out) {
+        Ok(within) => Ok(status(within)),
+        Err(RootFault::Read) => Err(Fault::Read(path)),
+        Err(RootFault::Write) => Err(Fault::Write("-")),
+    }
+}
+
+/// Prints what a torrent holds, status 0. The one fault is a failed write to `out`, after a prefix
+/// of the text.
+pub fn show<'a, W: Sink>(torrent: &Torrent<'_>, out: &mut W) -> Result<u8, Fault<'a>>
+    ensures status { IfOk result (λ s. s ≡ answer_status true) }
+    ensures lines { WroteAndFlushed (W.seen out.old) (W.seen out.new) result
+        (show_text torrent.now) }
+    ensures fault { IfErr result NamesOutput }
+{
+    match printing::show(torrent, out) {
+        Ok(()) => Ok(status(true)),
+        Err(_) => Err(Fault::Write("-")),
+    }
+}
+
+/// Prints why a torrent was refused, or the file with this path that was to be in one, status 1. A
+/// refusal out of memory prints nothing, and is that fault.
+pub fn refuse<'a, W: Sink>(refusal: &Refusal, path: &[String], out: &mut W) -> Result<u8, Fault<'a>>
+    requires sink { refusal.now ≢ Refusal.Write }
+    ensures status { IfOk result (λ s. s ≡ answer_status false) }
+    ensures line { OnOk result (SentAndFlushed (W.seen out.old) (W.seen out.new)
+        (refusal_text refusal.now (map string_bytes path.now))) }
+    ensures told { OnOk result (refusal.now ≢ Refusal.NoMemory) }
+    ensures fault { IfErr result (IsUnprinted refusal.now
+        (refusal_text refusal.now (map string_bytes path.now))
+        (W.seen out.old) (W.seen out.new)) }
+{
+    match refusal {
+        Refusal::NoMemory => Err(Fault::NoMemory),
+        _ => match refusal_line(refusal, path, out) {
+            Ok(()) => Ok(status(false)),
+            Err(_) => Err(Fault::Write("-")),
+        },
+    }
+}
+
+/// Checks that a shelf holds the torrent's files, and prints what it found. The status is 0 for
+/// `yes` and 1 for `no`.
+pub fn check<'a, S: Shelf, W: Sink>(
+    alloc: Global,
+    torrent: &Torrent<'_>,
+    shelf: &mut S,
+    out: &mut W,
+) -> Result<u8, Fault<'a>>
+    ensures checks { Checks torrent.now (S.contents shelf.old).under
+        (λ files. Chain (Visits S.Shelf S.File.seen torrent.now) shelf.old torrent.now.files
+        files shelf.new × HasTold (S.faults shelf.old) (S.faults shelf.new) files)
+        (W.seen out.old) (W.seen out.new) result }
+    ensures no_memory { IfErr result (λ f. f ≡ Fault.NoMemory → shelf.new ≡ shelf.old) }
+{
+    let report = folders::check(alloc, torrent, shelf)?;
+    match print_report(&report, torrent, out) {
+        Ok(()) => Ok(status(report.yes())),
+        Err(_) => Err(Fault::Write("-")),
+    }
+}
+
+/// A session that knows the torrent's piece layers, or with `info_only` its roots alone. The one
+/// fault is out of memory.
+pub fn new_session<'t, 'a>(
+    alloc: Global,
+    torrent: &'t Torrent<'t>,
+    info_only: bool,
+) -> Result<Session<'t, Paged>, Fault<'a>>
+    ensures fresh { IfOk result (IsFresh torrent.now (not info_only)) }
+    ensures fault { IfErr result (λ f. f ≡ Fault.NoMemory) }
+{
+    Ok(Session::new(alloc, torrent, !info_only)?)
+}
+
+/// Fills a session from a shelf, and prints a line for each file of the torrent.
+pub fn seed<'a, N: NodeMap, S: Shelf, W: Sink>(
+    alloc: Global,
+    session: &mut Session<'_, N>,
+    shelf: &mut S,
+    out: &mut W,
+) -> Result<(), Fault<'a>>
+    ensures seeded { OnOk result (IsSeeded S.Shelf S.File.seen
+        (shelf_and_session shelf.old session.old) (shelf_and_session shelf.new session.new)
+        (W.seen out.old) (W.seen out.new)) }
+    ensures fault { IfErr result (λ f. (e : SeedFault) × Seeds S.Shelf S.File.seen
+        (shelf_and_session shelf.old session.old) (shelf_and_session shelf.new session.new)
+        (W.seen out.old) (W.seen out.new) (Err e) × IsToldOfSeeding e f) }
+{
+    match seeding::seed(alloc, session, shelf, out) {
+        Ok(()) => Ok(()),
+        Err(SeedFault::NoMemory) => Err(Fault::NoMemory),
+        Err(SeedFault::Write) => Err(Fault::Write("-")),
+    }
+}
+
+/// Replays a record over a session. Each line goes out as its frame comes.
+pub fn replay<'a, N: NodeMap, R: Source, W: Sink>(
+    alloc: Global,
+    session: &mut Session<'_, N>,
+    source: &mut R,
+    out: &mut W,
+) -> Result<u8, Fault<'a>>
+    ensures replayed { IfOk result (IsReplayed
+        (replay_seen (R.seen source.old) session.old (W.seen out.old) None)
+        (replay_seen (R.seen source.new) session.new (W.seen out.new) None)) }
+    ensures cut { OnErr result (IsCutReport
+        (replay_seen (R.seen source.old) session.old (W.seen out.old) None)
+        (replay_seen (R.seen source.new) session.new (W.seen out.new) None)) }
+    ensures fault { IfErr result NamesOutput }
+{
+    let Ok(outcome) = replays::replay(alloc, session, source, out, None::<&mut MemSink>) else {
+        return Err(Fault::Write("-"));
+    };
+    Ok(outcome.status())
+}
+
+/// Replays a record over a session, and writes the answers to its hash requests to the sink with
+/// this path.
+pub fn replay_and_answer<'a, N: NodeMap, R: Source, W: Sink, A: Sink>(
+    alloc: Global,
+    session: &mut Session<'_, N>,
+    source: &mut R,
+    out: &mut W,
+    path: &'a str,
+    answers: &mut A,
+) -> Result<u8, Fault<'a>>
+    ensures replayed { IfOk result (IsReplayed
+        (replay_seen (R.seen source.old) session.old (W.seen out.old)
+        (Some (A.seen answers.old)))
+        (replay_seen (R.seen source.new) session.new (W.seen out.new)
+        (Some (A.seen answers.new)))) }
+    ensures cut { OnErr result (IsCutReport
+        (replay_seen (R.seen source.old) session.old (W.seen out.old)
+        (Some (A.seen answers.old)))
+        (replay_seen (R.seen source.new) session.new (W.seen out.new)
+        (Some (A.seen answers.new)))) }
+    ensures output { (W.seen out.new).faults ≢ (W.seen out.old).faults → IfErr result NamesOutput }
+    ensures answers { (W.seen out.new).faults ≡ (W.seen out.old).faults
+        → IfErr result (NamesSink path.now) }
+{
+    let faults = out.failures();
+    match replays::replay(alloc, session, source, out, Some(answers)) {
+        Ok(outcome) => Ok(outcome.status()),
+        Err(_) if out.failures() != faults => Err(Fault::Write("-")),
+        Err(_) => Err(Fault::Write(path)),
+    }
+}
+
+/// Gathers a draft of all files on a shelf. If they cannot be a torrent, it prints the refusal and
+/// answers the exit status, 1. A fault names the file that could not be read, or tells why the
+/// shelf was not listed.
+pub fn gather<'a, S: Shelf, W: Sink>(
+    alloc: Global,
+    asked: &Create<'a>,
+    shelf: &mut S,
+    out: &mut W,
+) -> Result<Result<Draft, u8>, Fault<'a>>
+    ensures { MakesDraft (Gathers S.Shelf S.File.seen (wanted_draft asked.now) shelf.old shelf.new)
+        (Fault.Read asked.now.dir) (W.seen out.old) (W.seen out.new) result }
+{
+    match gathering::gather(alloc, shelf, asked.name, asked.piece_length, asked.hybrid) {
+        Ok(draft) => Ok(Ok(draft)),
+        Err(GatherFault::Refused(refusal, path)) => Ok(Err(refuse(&refusal, &path, out)?)),
+        Err(GatherFault::Device(path)) => Err(Fault::ReadBelow(path)),
+        Err(GatherFault::Changed(path)) => Err(Fault::ReadBelow(path)),
+        Err(GatherFault::List(fault)) => Err(listing_fault(fault, asked.dir)),
+        Err(GatherFault::NoMemory) => Err(Fault::NoMemory),
+    }
+}
+
+/// Writes the torrent of a draft to the sink with this path, status 0; or prints why there is none,
+/// status 1, and writes nothing to that sink.
+pub fn write_torrent<'a, W: Sink, O: Sink>(
+    draft: &Draft,
+    path: &'a str,
+    torrent: &mut W,
+    out: &mut O,
+) -> Result<u8, Fault<'a>>
+    ensures { WritesTorrent draft.now path.now (W.seen torrent.old) (W.seen torrent.new)
+        (O.seen out.old) (O.seen out.new) result }
+{
+    match draft.finish(torrent) {
+        Ok(()) => Ok(status(true)),
+        Err(Refusal::Write) => Err(Fault::Write(path)),
+        Err(refusal) => refuse(&refusal, &[], out),
+    }
+}
+
+/// Converts the record with the first path and writes it to the sink with the second, status 0. A
+/// record of form 2 prints its refusal, status 1. A fault names the record, the sink, or standard
+/// output.
+pub fn convert<'a, R: Source, W: Sink, O: Sink>(
+    record: &'a str,
+    source: &mut R,
+    path: &'a str,
+    converted: &mut W,
+    out: &mut O,
+) -> Result<u8, Fault<'a>>
+    ensures { ConvertsRecord «record».now path.now (R.seen source.old) (R.seen source.new)
+        (W.seen converted.old) (W.seen converted.new) (O.seen out.old) (O.seen out.new) result }
+{
+    match conversions::convert(source, converted) {
+        Ok(()) => Ok(status(true)),
+        Err(ConvertFault::Truncated) => Err(Fault::Truncated(record)),
+        Err(ConvertFault::Read) => Err(Fault::Read(record)),
+        Err(ConvertFault::Write) => Err(Fault::Write(path)),
+        Err(ConvertFault::AlreadyForm2) => refuse_form_2(out),
+    }
+}
+
+// Why the folder with this path could not be listed.
+fn listing_fault<'a>(fault: ShelfFault, dir: &'a str) -> Fault<'a>
+    ensures { IsToldOfListing (Fault.Read dir.entry) fault result }
+{
+    match fault {
+        ShelfFault::Device => Fault::Read(dir),
+        ShelfFault::Name => Fault::NotUtf8,
+        ShelfFault::Special(path) => Fault::Special(path),
+        ShelfFault::NoMemory => Fault::NoMemory,
+    }
+}
+
+// Prints that a record is of form 2 already.
+fn refuse_form_2<'a, W: Sink>(out: &mut W) -> Result<u8, Fault<'a>>
+    ensures status { IfOk result (λ s. s ≡ answer_status false) }
+    ensures line { WroteAndFlushed (W.seen out.old) (W.seen out.new) result form_2_text }
+    ensures fault { IfErr result NamesOutput }
+{
+    if write_line(out, b"refused 3 AlreadyForm2\n").is_err() {
+        return Err(Fault::Write("-"));
+    }
+    Ok(status(false))
+}
+
+// The exit status of an answer: 0 for yes or done, 1 for no or a refusal.
+fn status(yes: bool) -> u8
+    ensures { result ≡ answer_status yes }
+{
+    if yes { 0 } else { 1 }
+}

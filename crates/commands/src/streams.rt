@@ -1,0 +1,35 @@
+//! The standard streams, which a program may be started without.
+use printing::Fault;
+use std::fs::File;
+use std::os::fd::AsFd;
+
+/// What stands in the places of standard streams that were closed when the program began. As long
+/// as it is there, no other file gets such a place, and so no file gets what is printed.
+#[derive(Drop)]
+pub(crate) struct Placeholders {
+    _stdin: Option<File>,
+    _stdout: Option<File>,
+    _stderr: Option<File>,
+}
+
+/// Takes the places of the standard streams that are closed, in the order of their numbers, since
+/// the system gives a new file the least number that is free.
+pub(crate) fn hold_closed_streams(rt: &HostRuntime) -> Result<Placeholders, Fault<'static>> {
+    Ok(Placeholders {
+        _stdin: placeholder(rt, &rt.stdin())?,
+        _stdout: placeholder(rt, &rt.stdout())?,
+        _stderr: placeholder(rt, &rt.stderr())?,
+    })
+}
+
+// A file in place of this stream, if that is closed. It is a folder that is always there, so that
+// reading and writing fail as they do at a closed stream.
+fn placeholder<S: AsFd>(rt: &HostRuntime, stream: &S) -> Result<Option<File>, Fault<'static>> {
+    if stream.as_fd().try_clone_to_owned().is_ok() {
+        return Ok(None);
+    }
+    match File::open(rt, "/") {
+        Ok(folder) => Ok(Some(folder)),
+        Err(_) => Err(Fault::Read("/")),
+    }
+}

@@ -1,0 +1,67 @@
+//! Makes calls of the libraries over devices in memory that fail at their first call, then at their
+//! second, and so on, until a run meets no fault. Prints how many calls of its devices each call
+//! makes, and `wrong` where a fault is told otherwise than promised.
+#![tactic(auto)]
+
+ghost use Rattle.std.specs.Prelude.{◌<◌};
+
+mod reads;
+mod shelves;
+mod trial;
+mod world;
+mod writes;
+
+use opening::Torrent;
+use std::{env, fs, io};
+use world::World;
+
+fn try_all(rt: &HostRuntime, world: &World<'_, '_>) -> io::Result<()> {
+    writes::try_all(rt, world)?;
+    reads::try_all(rt, world)?;
+    shelves::try_all(rt, world)
+}
+
+fn try_torrent(
+    rt: &HostRuntime,
+    text: &[u8],
+    record: &[u8],
+    a: &[u8],
+    c: &[u8],
+    at_most: usize,
+) -> io::Result<()>
+    requires { 0 < at_most }
+{
+    match Torrent::open(rt.alloc(), text) {
+        Ok(torrent) => {
+            let world = World {
+                text,
+                torrent: &torrent,
+                record,
+                a,
+                c,
+                at_most,
+            };
+            try_all(rt, &world)
+        }
+        Err(refusal) => println!(rt; "refused {}", refusal.number()),
+    }
+}
+
+fn main(rt: HostRuntime) -> io::Result<()> {
+    let mut arguments = env::args(&rt)?.skip(1);
+    let (Some(torrent), Some(record), Some(a), Some(c), Some(at_most)) = (
+        arguments.next(),
+        arguments.next(),
+        arguments.next(),
+        arguments.next(),
+        arguments.next(),
+    ) else {
+        return eprintln!(rt; "usage: devices TORRENT RECORD A C BYTES");
+    };
+    let text = fs::read(&rt, torrent.as_str())?;
+    let record = fs::read(&rt, record.as_str())?;
+    let a = fs::read(&rt, a.as_str())?;
+    let c = fs::read(&rt, c.as_str())?;
+    let at_most = at_most.as_str().parse::<usize>().unwrap_or(1).max(1);
+    try_torrent(&rt, &text, &record, &a, &c, at_most)
+}

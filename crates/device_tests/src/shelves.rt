@@ -1,0 +1,126 @@
+//! Shelves and files that fail.
+use crate::trial::{count, judge, sink};
+use crate::world::World;
+use folders::memory::{MemFile, MemShelf};
+use folders::{FileVerdict, Report, Shelf, ShelfFault, check};
+use gathering::{GatherFault, gather};
+use seeding::seed;
+use session::{Flat, Session};
+use std::io;
+
+/// A call that opens the files of a shelf.
+#[derive(Clone, Copy)]
+enum Call {
+    Check,
+    Seed,
+    Gather,
+}
+
+const CALLS: [Call; 3] = [Call::Check, Call::Seed, Call::Gather];
+
+// Whether the call opens no file after one that failed.
+fn stops(call: Call) -> bool {
+    match call {
+        Call::Gather => true,
+        _ => false,
+    }
+}
+
+fn name(call: Call) -> &'static str {
+    match call {
+        Call::Check => "check",
+        Call::Seed => "seed",
+        Call::Gather => "gather",
+    }
+}
+
+/// Tries each call over a shelf whose calls fail, and over files whose reads fail.
+pub(crate) fn try_all(rt: &HostRuntime, world: &World<'_, '_>) -> io::Result<()> {
+    for call in CALLS {
+        try_shelf(rt, world, call)?;
+        try_file(rt, world, call)?;
+    }
+    Ok(())
+}
+
+fn try_shelf(rt: &HostRuntime, world: &World<'_, '_>, call: Call) -> io::Result<()> {
+    let files = world.files();
+    for at in 0..u64::MAX {
+        let mut shelf = MemShelf::new(rt.alloc(), &files)
+            .at_most(world.at_most)
+            .fails_after(at);
+        let lost = make(rt, world, call, &mut shelf)?;
+        judge(rt, name(call), "the shelf", at, lost == shelf.failures())?;
+        if lost == 0 {
+            return count(rt, name(call), "the shelf", at);
+        }
+    }
+    Ok(())
+}
+
+fn try_file(rt: &HostRuntime, world: &World<'_, '_>, call: Call) -> io::Result<()> {
+    for at in 0..u64::MAX {
+        let files = [
+            MemFile::new(&["a"], world.a).fails_after(at),
+            MemFile::new(&["c"], world.c),
+        ];
+        let mut shelf = MemShelf::new(rt.alloc(), &files).at_most(world.at_most);
+        let lost = make(rt, world, call, &mut shelf)?;
+        judge(rt, name(call), "a file", at, lost == shelf.failures())?;
+        judge(
+            rt,
+            name(call),
+            "a file",
+            at,
+            shelf.openings() == 2 || stops(call),
+        )?;
+        if lost == 0 {
+            return count(rt, name(call), "a file", at);
+        }
+    }
+    Ok(())
+}
+
+// Makes a call, and counts the files that it could not read.
+fn make(
+    rt: &HostRuntime,
+    world: &World<'_, '_>,
+    call: Call,
+    shelf: &mut MemShelf<'_>,
+) -> io::Result<u64> {
+    match call {
+        Call::Check => Ok(unreadable(&check(rt.alloc(), world.torrent, shelf)?)),
+        Call::Seed => make_seed(rt, world, shelf),
+        Call::Gather => Ok(make_gather(rt, shelf)),
+    }
+}
+
+fn unreadable(report: &Report) -> u64 {
+    let mut count: u64 = 0;
+    for verdict in &report.files {
+        if *verdict == FileVerdict::Unreadable {
+            count = count.wrapping_add(1);
+        }
+    }
+    count
+}
+
+// The files that are seeded have all their leaves known: here each file that was read.
+fn make_seed(rt: &HostRuntime, world: &World<'_, '_>, shelf: &mut MemShelf<'_>) -> io::Result<u64> {
+    let mut session: Session<'_, Flat> = Session::new(rt.alloc(), world.torrent, true)?;
+    let mut out = sink(rt)?;
+    match seed(rt.alloc(), &mut session, shelf, &mut out) {
+        Ok(()) if out.written() == b"seeded a\nseeded c\n".as_slice() => Ok(0),
+        Ok(()) => Ok(1),
+        Err(_) => Ok(2),
+    }
+}
+
+// The first fault ends it.
+fn make_gather(rt: &HostRuntime, shelf: &mut MemShelf<'_>) -> u64 {
+    match gather(rt.alloc(), shelf, "x", 16384, true) {
+        Ok(_) => 0,
+        Err(GatherFault::Device(_) | GatherFault::List(ShelfFault::Device)) => 1,
+        Err(_) => 2,
+    }
+}

@@ -1,0 +1,218 @@
+//! Sinks that fail.
+ghost use Rattle.std.specs.Prelude.{◌<◌};
+
+use crate::trial::{broke, count, is_whole, judge, sink};
+use crate::world::World;
+use benc::memory::{MemSink, MemSource};
+use benc::{Sink, decode, encode, write_all};
+use conversions::convert;
+use filetree::{Key, Refusal};
+use folders::memory::MemShelf;
+use folders::{check, print_report, root_line};
+use gathering::gather;
+use printing::{
+    Fault, fault_line, flush_after, refusal_line, show, write_escaped, write_line, write_path,
+};
+use replays::replay;
+use seeding::seed;
+use session::{Flat, Session};
+use std::io;
+use wire::{Ask, Message, write};
+
+/// A call that writes to a sink.
+#[derive(Clone, Copy)]
+enum Call {
+    WriteAll,
+    WriteEscaped,
+    WritePath,
+    WriteLine,
+    FlushAfter,
+    Encode,
+    WriteMessage,
+    RootLine,
+    Show,
+    RefusalLine,
+    FaultLine,
+    PrintReport,
+    Seed,
+    ReplayReport,
+    ReplayAnswers,
+    Finish,
+    Convert,
+}
+
+const CALLS: [Call; 17] = [
+    Call::WriteAll,
+    Call::WriteEscaped,
+    Call::WritePath,
+    Call::WriteLine,
+    Call::FlushAfter,
+    Call::Encode,
+    Call::WriteMessage,
+    Call::RootLine,
+    Call::Show,
+    Call::RefusalLine,
+    Call::FaultLine,
+    Call::PrintReport,
+    Call::Seed,
+    Call::ReplayReport,
+    Call::ReplayAnswers,
+    Call::Finish,
+    Call::Convert,
+];
+
+fn name(call: Call) -> &'static str {
+    match call {
+        Call::WriteAll => "write_all",
+        Call::WriteEscaped => "write_escaped",
+        Call::WritePath => "write_path",
+        Call::WriteLine => "write_line",
+        Call::FlushAfter => "flush_after",
+        Call::Encode => "encode",
+        Call::WriteMessage => "write",
+        Call::RootLine => "root_line",
+        Call::Show => "show",
+        Call::RefusalLine => "refusal_line",
+        Call::FaultLine => "fault_line",
+        Call::PrintReport => "print_report",
+        Call::Seed => "seed",
+        Call::ReplayReport => "replay",
+        Call::ReplayAnswers => "replay with answers",
+        Call::Finish => "finish",
+        Call::Convert => "convert",
+    }
+}
+
+/// Tries each call.
+pub(crate) fn try_all(rt: &HostRuntime, world: &World<'_, '_>) -> io::Result<()> {
+    for call in CALLS {
+        try_call(rt, world, call, 1)?;
+        try_call(rt, world, call, usize::MAX)?;
+    }
+    Ok(())
+}
+
+// Tries a call over sinks that take at most so many bytes a call.
+fn try_call(rt: &HostRuntime, world: &World<'_, '_>, call: Call, at_most: usize) -> io::Result<()>
+    requires { 0 < at_most }
+{
+    let mut whole = sink(rt)?;
+    let done = make(rt, world, call, &mut whole)?;
+    judge(rt, name(call), "the sink", 0, done)?;
+    for at in 0..u64::MAX {
+        let mut out = sink(rt)?.at_most(at_most).fails_after(at);
+        if make(rt, world, call, &mut out)? {
+            judge(
+                rt,
+                name(call),
+                "the sink",
+                at,
+                is_written(call, &out, whole.written()),
+            )?;
+            return count(rt, name(call), "the sink", at);
+        }
+        judge(rt, name(call), "the sink", at, broke(&out, whole.written()))?;
+    }
+    Ok(())
+}
+
+// Some leave the flush to their callers.
+fn is_written(call: Call, out: &MemSink, text: &[u8]) -> bool {
+    match call {
+        Call::WriteAll | Call::WriteEscaped | Call::WritePath | Call::Encode | Call::WriteMessage =>
+            out.failures() == 0 && text == out.written(),
+        _ => is_whole(out, text),
+    }
+}
+
+// Makes a call, and tells whether it answered no write fault.
+fn make(
+    rt: &HostRuntime,
+    world: &World<'_, '_>,
+    call: Call,
+    out: &mut MemSink,
+) -> io::Result<bool> {
+    match call {
+        Call::WriteAll => Ok(write_all(out, world.text).is_ok()),
+        Call::WriteEscaped => Ok(write_escaped(out, ODD.as_bytes()).is_ok()),
+        Call::WritePath => Ok(write_path(out, &["a", ODD, "b"]).is_ok()),
+        Call::WriteLine => Ok(write_line(out, b"a line\n").is_ok()),
+        Call::FlushAfter => Ok(flush_after(out, Ok(())).is_ok()),
+        Call::Encode => make_encode(rt, world, out),
+        Call::WriteMessage => Ok(write(&Message::Reject(ask()), out).is_ok()),
+        Call::RootLine => Ok(root_line(&mut MemSource::new(world.a), out).is_ok()),
+        Call::Show => Ok(show(world.torrent, out).is_ok()),
+        Call::RefusalLine => Ok(refusal_line(&Refusal::Missing(Key::Name), &[], out).is_ok()),
+        Call::FaultLine => Ok(fault_line(&Fault::Truncated(ODD), out).is_ok()),
+        Call::PrintReport => make_report(rt, world, out),
+        Call::Seed => make_seed(rt, world, out),
+        Call::ReplayReport => make_replay(rt, world, out, &mut sink(rt)?),
+        Call::ReplayAnswers => make_replay(rt, world, &mut sink(rt)?, out),
+        Call::Finish => make_finish(rt, world, out),
+        Call::Convert => Ok(convert(&mut MemSource::new(world.record), out).is_ok()),
+    }
+}
+
+// A name of which some bytes are not printed as they stand.
+const ODD: &str = "a\\b\n";
+
+fn ask() -> Ask {
+    Ask {
+        root: [7; 32],
+        base: 0,
+        index: 2,
+        length: 2,
+        proof: 1,
+    }
+}
+
+fn make_encode(rt: &HostRuntime, world: &World<'_, '_>, out: &mut MemSink) -> io::Result<bool> {
+    match decode(rt.alloc(), world.text) {
+        Ok(value) if value.is_canonical() => Ok(encode(&value, out).is_ok()),
+        _ => Ok(false),
+    }
+}
+
+fn make_report(rt: &HostRuntime, world: &World<'_, '_>, out: &mut MemSink) -> io::Result<bool> {
+    let files = world.files();
+    let report = check(
+        rt.alloc(),
+        world.torrent,
+        &mut MemShelf::new(rt.alloc(), &files),
+    )?;
+    Ok(print_report(&report, world.torrent, out).is_ok())
+}
+
+fn make_seed(rt: &HostRuntime, world: &World<'_, '_>, out: &mut MemSink) -> io::Result<bool> {
+    let files = world.files();
+    let mut session: Session<'_, Flat> = Session::new(rt.alloc(), world.torrent, true)?;
+    let mut shelf = MemShelf::new(rt.alloc(), &files);
+    Ok(seed(rt.alloc(), &mut session, &mut shelf, out).is_ok())
+}
+
+// Replays the record to a seeded session.
+fn make_replay(
+    rt: &HostRuntime,
+    world: &World<'_, '_>,
+    report: &mut MemSink,
+    answers: &mut MemSink,
+) -> io::Result<bool> {
+    let files = world.files();
+    let mut session: Session<'_, Flat> = Session::new(rt.alloc(), world.torrent, true)?;
+    let mut shelf = MemShelf::new(rt.alloc(), &files);
+    let mut source = MemSource::new(world.record);
+    if seed(rt.alloc(), &mut session, &mut shelf, &mut sink(rt)?).is_err() {
+        return Ok(false);
+    }
+    Ok(replay(rt.alloc(), &mut session, &mut source, report, Some(answers)).is_ok())
+}
+
+// Writes the torrent of the two files.
+fn make_finish(rt: &HostRuntime, world: &World<'_, '_>, out: &mut MemSink) -> io::Result<bool> {
+    let files = world.files();
+    let mut shelf = MemShelf::new(rt.alloc(), &files);
+    match gather(rt.alloc(), &mut shelf, "x", 16384, true) {
+        Ok(draft) => Ok(draft.finish(out).is_ok()),
+        Err(_) => Ok(false),
+    }
+}

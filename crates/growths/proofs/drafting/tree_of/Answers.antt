@@ -1,5 +1,0 @@
-use Rattle.growths.proofs.Told.{sound_at}
-use Rattle.growths.proofs.drafting.tree_of.Goals as goal
-
-pub returns-in-Some : goal.returns-in-Some
-returns-in-Some c = λ _. sound_at c.args.torrent.now c.trees-trees.result.now c.in-Some.number _ c.trees-trees.ensures c.sound.ensures c.if-number-trees.true

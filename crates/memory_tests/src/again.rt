@@ -1,0 +1,54 @@
+//! Calls on bytes, made again if memory was refused.
+use benc::{FaultKind, decode};
+use filetree::Refusal;
+use opening::Torrent;
+use session::{NoMemory, NodeMap, Session};
+use std::io;
+
+/// Names a call that failed.
+pub(crate) fn tell(rt: &HostRuntime, call: &str) -> io::Result<()> {
+    eprintln!(rt; "refused: {call}")
+}
+
+/// Decodes the bytes, and prints the value.
+pub(crate) fn decode_again(rt: &HostRuntime, bytes: &[u8]) -> io::Result<()> {
+    let mut answer = decode(rt.alloc(), bytes);
+    if let Err(fault) = answer
+        && fault.kind == FaultKind::NoMemory
+    {
+        tell(rt, "decode")?;
+        answer = decode(rt.alloc(), bytes);
+    }
+    match answer {
+        Ok(value) => println!(rt; "decoded {value:?}"),
+        Err(fault) => println!(rt; "{fault}"),
+    }
+}
+
+/// Opens the torrent.
+pub(crate) fn open_again<'a>(
+    rt: &HostRuntime,
+    bytes: &'a [u8],
+) -> io::Result<Result<Torrent<'a>, Refusal>> {
+    let answer = Torrent::open(rt.alloc(), bytes);
+    if let Err(Refusal::NoMemory) = answer {
+        tell(rt, "open")?;
+        return Ok(Torrent::open(rt.alloc(), bytes));
+    }
+    Ok(answer)
+}
+
+/// A new session of the torrent.
+pub(crate) fn new_again<'t, N: NodeMap>(
+    rt: &HostRuntime,
+    torrent: &'t Torrent<'t>,
+    with_layers: bool,
+) -> io::Result<Session<'t, N>> {
+    match Session::new(rt.alloc(), torrent, with_layers) {
+        Ok(session) => Ok(session),
+        Err(NoMemory) => {
+            tell(rt, "new")?;
+            Ok(Session::new(rt.alloc(), torrent, with_layers)?)
+        }
+    }
+}

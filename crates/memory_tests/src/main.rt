@@ -1,0 +1,66 @@
+//! Makes calls of the libraries, and makes a call again if memory was refused for it. Prints what
+//! the calls answer, and `changed` if one that failed left something behind; standard error names
+//! each call that failed. So if memory for one growth is refused, it prints what it prints with
+//! ample memory. Tests refuse each growth in turn.
+#![tactic(auto)]
+
+mod again;
+mod drafting;
+mod given;
+mod keeping;
+mod messages;
+mod replaying;
+mod runs;
+mod shelving;
+mod state;
+mod wanting;
+
+use again::{decode_again, open_again};
+use drafting::draft_again;
+use messages::take_record;
+use node_maps::{Flat, Paged};
+use opening::Torrent;
+use replaying::replay_again;
+use session::NodeMap;
+use shelving::{check_again, gather_again, seed_again};
+use std::{env, fs, io};
+
+// Makes the call. To a call on folders the record is the content of a file.
+fn make_call<N: NodeMap>(
+    rt: &HostRuntime,
+    torrent: &Torrent<'_>,
+    record: &[u8],
+    call: &str,
+) -> io::Result<()> {
+    match call {
+        "draft" => draft_again(rt, torrent, false),
+        "hybrid draft" => draft_again(rt, torrent, true),
+        "gather" => gather_again(rt, record),
+        "check" => check_again(rt, torrent, record),
+        "seed" => seed_again::<N>(rt, torrent, record),
+        "replay" => replay_again::<N>(rt, torrent, record),
+        _ => take_record::<N>(rt, torrent, record, call),
+    }
+}
+
+fn main(rt: HostRuntime) -> io::Result<()> {
+    let mut words = env::args(&rt)?.skip(1);
+    let (Some(torrent), Some(record), Some(map), Some(call)) = (
+        words.next(),
+        words.next(),
+        words.next(),
+        words.next(),
+    ) else {
+        return eprintln!(rt; "usage: growths TORRENT RECORD flat|paged CALL");
+    };
+    let bytes = fs::read(&rt, torrent.as_str())?;
+    let record = fs::read(&rt, record.as_str())?;
+    decode_again(&rt, &bytes)?;
+    match open_again(&rt, &bytes)? {
+        Ok(torrent) => match map.as_str() {
+            "flat" => make_call::<Flat>(&rt, &torrent, &record, call.as_str()),
+            _ => make_call::<Paged>(&rt, &torrent, &record, call.as_str()),
+        },
+        Err(refusal) => println!(rt; "refused {}", refusal.number()),
+    }
+}

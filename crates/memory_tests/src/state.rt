@@ -1,0 +1,116 @@
+//! What a refused call must leave as it was.
+ghost use Rattle.std.specs.Prelude.{◌<◌, length};
+
+use crate::again::tell;
+use crate::given::Given;
+use crate::keeping::Directed;
+use opening::TreeInfo;
+use session::{Answer, NoMemory, NodeMap, Session};
+use std::io;
+use wire::{Ask, Message};
+
+/// How many places are known, leaves marked, and pages held, in all trees.
+#[derive(Clone, Copy, Debug, PartialEq, Eq)]
+pub(crate) struct State {
+    known: u64,
+    marked: u64,
+    pages: u64,
+}
+
+impl State {
+    /// The state of a session.
+    pub(crate) fn of<N: NodeMap>(session: &Session<'_, N>) -> State {
+        let mut state = State {
+            known: 0,
+            marked: 0,
+            pages: 0,
+        };
+        for tree in 0..session.torrent().trees().len() {
+            state.known = state.known.wrapping_add(session.known(tree));
+            state.marked = state.marked.wrapping_add(session.marked(tree));
+            state.pages = state.pages.wrapping_add(session.pages(tree));
+        }
+        state
+    }
+}
+
+/// Names a call that failed, and prints `changed` if the session is not as one that took so many of
+/// the messages, and no others.
+pub(crate) fn compare<N: NodeMap>(
+    rt: &HostRuntime,
+    call: &str,
+    session: &Session<'_, N>,
+    given: &Given<'_, '_>,
+    count: usize,
+) -> io::Result<()> {
+    tell(rt, call)?;
+    let other: Session<'_, N> = given.session_after(rt.alloc(), count)?;
+    if !are_alike(session, &other, &given.messages)? {
+        println!(rt; "changed by {call}")?;
+    }
+    Ok(())
+}
+
+/// Whether two sessions of a torrent have the same state, answer each ask alike, and have the same
+/// asks of these messages open.
+pub(crate) fn are_alike<N: NodeMap>(
+    one: &Session<'_, N>,
+    other: &Session<'_, N>,
+    messages: &[Directed<'_>],
+) -> Result<bool, NoMemory> {
+    for tree in one.torrent().trees() {
+        if !answer_alike(one, other, tree)? {
+            return Ok(false);
+        }
+    }
+    Ok(State::of(one) == State::of(other) && await_alike(one, other, messages))
+}
+
+// What is known of a tree are the root and pairs of places. Each pair is asked for, with all
+// uncles; an ask past the last pair of a layer is rejected.
+fn answer_alike<N: NodeMap>(
+    one: &Session<'_, N>,
+    other: &Session<'_, N>,
+    tree: &TreeInfo<'_>,
+) -> Result<bool, NoMemory> {
+    let mut pairs = u32::try_from(tree.length / 16384).unwrap_or(u32::MAX);
+    for base in 0..46 {
+        for pair in 0..=pairs {
+            let ask = Ask {
+                root: tree.root,
+                base,
+                index: pair.wrapping_mul(2),
+                length: 2,
+                proof: 46,
+            };
+            if !are_same(&one.answer(&ask)?, &other.answer(&ask)?) {
+                return Ok(false);
+            }
+        }
+        pairs /= 2;
+    }
+    Ok(true)
+}
+
+fn are_same(one: &Answer, other: &Answer) -> bool {
+    match (one, other) {
+        (Answer::Hashes(hashes), Answer::Hashes(others)) => hashes.as_slice() == others.as_slice(),
+        (Answer::Reject, Answer::Reject) => true,
+        _ => false,
+    }
+}
+
+fn await_alike<N: NodeMap>(
+    one: &Session<'_, N>,
+    other: &Session<'_, N>,
+    messages: &[Directed<'_>],
+) -> bool {
+    for (_, message) in messages {
+        if let Message::Request(ask) = message
+            && one.is_open(ask) != other.is_open(ask)
+        {
+            return false;
+        }
+    }
+    true
+}

@@ -1,3 +1,0 @@
--- Lemmas that crates above cite.
-pub use Rattle.opening.proofs.Layering
-pub use Rattle.opening.proofs.Blocks

@@ -1,0 +1,34 @@
+//! What the type of hashes says of them, as contracts: each is 32 bytes. The functions do nothing,
+//! and name this for what calls them.
+
+ghost use Rattle.std.specs.Prelude.{◌≡◌, length};
+ghost use Rattle.std.specs.List.{All};
+ghost use Rattle.node_maps.specs.Digest.{AreBytes, IsHash};
+ghost use Rattle.partial_tree.specs.Claims.{AreHashes};
+
+use hashtree::Hash;
+
+/// Each number is a byte.
+pub fn are_bytes(bytes: &[u8])
+    ensures { AreBytes bytes.now }
+{}
+
+/// A hash is 32 bytes.
+pub fn is_hash(hash: &Hash)
+    ensures { IsHash hash.now }
+{
+    are_bytes(hash.as_slice());
+}
+
+/// Each hash is 32 bytes.
+pub fn are_hashes(hashes: &[Hash])
+    ensures { AreHashes hashes.now }
+{
+    have_sizes(hashes);
+    are_bytes(hashes.as_flattened());
+}
+
+// Each hash has as many numbers as a digest has bytes.
+fn have_sizes(hashes: &[Hash])
+    ensures { All (λ h. length h ≡ 32) hashes.now }
+{}

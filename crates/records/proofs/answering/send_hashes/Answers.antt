@@ -1,8 +1,0 @@
-use Rattle.std.proofs.Common.{subst}
-use Rattle.metainfo.specs.Sound.{IsSound}
-use Rattle.records.proofs.Replies.{few_hashes}
-use Rattle.records.proofs.answering.send_hashes.Goals as goal
-
-pub write_answer-requires : goal.write_answer-requires
-write_answer-requires g c =
-    few_hashes c.args.session.now c.args.ask c.in-Ok.answer (subst IsSound c.torrent.ensures c.sound.ensures) c.in-Ok.ensures.answer

@@ -1,0 +1,8 @@
+use Rattle.std.proofs.Common.{subst}
+use Rattle.opening.specs.Sound.{IsSound}
+use Rattle.replays.proofs.Replies.{few_hashes}
+use Rattle.replays.proofs.answering.send_hashes.Goals as goal
+
+pub write_answer-requires : goal.write_answer-requires
+write_answer-requires g c =
+    few_hashes c.args.session.now c.args.ask c.in-Ok.answer (subst IsSound c.torrent.ensures c.sound.ensures) c.in-Ok.ensures.answer

@@ -1,0 +1,106 @@
+//! What a replay prints of one frame.
+ghost use Rattle.std.specs.Prelude.{◌≡◌, ◌+◌, ◌≤◌, ◌++◌, length, codes, decimal};
+ghost use Rattle.replays.specs.ReplayLines.{IsOneLine, line_text, refused_text, told_text, verdict_text};
+
+use crate::told::Told;
+use printing::Line;
+use session::Verdict;
+
+/// How many bytes the number of a frame has at most, with the space after it.
+pub(crate) const NUMBER: usize = 21;
+
+/// How many bytes at most one line tells of a frame, after its number.
+pub(crate) const TOLD: usize = 60;
+
+// How many bytes the name of a refusal has at most.
+const NAME: usize = 11;
+
+// How many bytes the word before a count has at most, with the space after it.
+const WORD: usize = 8;
+
+/// The line of the frame of this number, which is no message of blocks.
+pub(crate) fn line_of_frame(number: u64, told: &Told) -> Line
+    requires { IsOneLine told.now }
+    ensures { result ≡ line_text number (told_text told.now) }
+{
+    let mut line = Line::new();
+    line.put_number(number);
+    line.put(b" ");
+    put_told(&mut line, told);
+    line.put(b"\n");
+    line
+}
+
+/// A refusal: a letter, its number and its name.
+pub(crate) fn put_refused(line: &mut Line, letter: &[u8], number: u32, name: &str)
+    requires line { length line.old ≤ NUMBER }
+    requires letter { length letter.now ≤ 1 }
+    requires name { length name.now ≤ NAME }
+    ensures text { line.new ≡ line.old ++ refused_text letter.now number name.now }
+    ensures bound { length line.new ≤ length line.old + TOLD }
+{
+    line.put(b"refused ");
+    line.put(letter);
+    line.put_number(u64::from(number));
+    line.put(b" ");
+    line.put(name.as_bytes());
+}
+
+fn put_told(line: &mut Line, told: &Told)
+    requires line { length line.old ≤ NUMBER }
+    requires told { IsOneLine told.now }
+    ensures text { line.new ≡ line.old ++ told_text told.now }
+    ensures bound { length line.new ≤ length line.old + TOLD }
+{
+    match told {
+        Told::Verdict(verdict) => put_verdict(line, verdict),
+        Told::BadFrame { id, len } => put_bad_frame(line, *id, *len),
+    }
+}
+
+fn put_bad_frame(line: &mut Line, id: u8, len: u32)
+    requires { length line.old ≤ NUMBER }
+    ensures text { line.new ≡ line.old ++ told_text (Told.BadFrame id len) }
+    ensures bound { length line.new ≤ length line.old + TOLD }
+{
+    line.put(b"bad frame ");
+    line.put_number(u64::from(id));
+    line.put(b" ");
+    line.put_number(u64::from(len));
+}
+
+fn put_verdict(line: &mut Line, verdict: &Verdict)
+    requires line { length line.old ≤ NUMBER }
+    requires verdict { IsOneLine (Told.Verdict verdict.now) }
+    ensures text { line.new ≡ line.old ++ verdict_text verdict.now }
+    ensures bound { length line.new ≤ length line.old + TOLD }
+{
+    match verdict {
+        Verdict::Stored(count) => put_counted(line, b"stored ", *count),
+        Verdict::HashRefused(refusal) => {
+            put_refused(line, b"H", refusal.number(), refusal.name());
+        }
+        Verdict::Blocks(_) => unreachable!(),
+        Verdict::BlockRefused(refusal) => {
+            put_refused(line, b"P", refusal.number(), refusal.name());
+        }
+        Verdict::Answered => line.put(b"answered"),
+        Verdict::Rejected => line.put(b"rejected"),
+        Verdict::RejectNoted => line.put(b"reject noted"),
+        Verdict::KeepAlive => line.put(b"keep-alive"),
+        Verdict::Skipped(id) => put_counted(line, b"skipped ", u64::from(*id)),
+        Verdict::Noted => line.put(b"sent request"),
+        Verdict::Sent => line.put(b"sent"),
+    }
+}
+
+// A word, and a number after it.
+fn put_counted(line: &mut Line, word: &[u8], number: u64)
+    requires line { length line.old ≤ NUMBER }
+    requires word { length word.now ≤ WORD }
+    ensures text { line.new ≡ line.old ++ (word.now ++ decimal number) }
+    ensures bound { length line.new ≤ length line.old + TOLD }
+{
+    line.put(word);
+    line.put_number(number);
+}

@@ -1,0 +1,42 @@
+//! What is to be answered to a frame.
+ghost use Rattle.std.specs.Prelude.{◌≡◌};
+ghost use Rattle.replays.specs.Answering.{reply_of, reply_to};
+ghost use Rattle.wire.specs.declared.frame.Frame.TheVariants as Frame;
+ghost use Rattle.replays.specs.declared.told.Told.TheVariants as Told;
+
+use session::Verdict;
+use wire::{Ask, Direction, Message};
+
+/// What is to be answered to a frame, if answers are wanted.
+#[derive(Clone, Copy)]
+pub(crate) enum Reply {
+    /// The hashes that are asked for, which are known.
+    Hashes(Ask),
+    /// A reject: the hashes are not known, or there are none such.
+    Reject(Ask),
+    /// Nothing: the frame is no request.
+    Nothing,
+}
+
+impl Reply {
+    /// What is to be answered to a message with this verdict: nothing, if it went out.
+    pub(crate) fn of(direction: Direction, message: &Message<'_>, verdict: &Verdict) -> Reply
+        ensures { result ≡ reply_to (direction, Frame.Message message.now)
+            (Told.Verdict verdict.now) }
+    {
+        match direction {
+            Direction::In => Reply::to_incoming(message, verdict),
+            Direction::Out => Reply::Nothing,
+        }
+    }
+
+    fn to_incoming(message: &Message<'_>, verdict: &Verdict) -> Reply
+        ensures { result ≡ reply_of message.now verdict.now }
+    {
+        match (message, verdict) {
+            (Message::Request(ask), Verdict::Answered) => Reply::Hashes(*ask),
+            (Message::Request(ask), Verdict::Rejected) => Reply::Reject(*ask),
+            _ => Reply::Nothing,
+        }
+    }
+}

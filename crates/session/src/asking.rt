@@ -1,0 +1,58 @@
+//! What a session asks for, and what it answers.
+
+ghost use Rattle.std.specs.Prelude.{◌≡◌, ◌<◌, ◌↔◌, IfOk, OnErr, IsTrue, length, Some};
+ghost use Rattle.partial_tree.specs.Kept.{TreeState};
+ghost use Rattle.session.specs.Session.{IsTree, IsAnswered};
+ghost use Rattle.node_maps.specs.Known.{look};
+ghost use Rattle.partial_tree.specs.TreeRoot.{TreeRoot};
+ghost use Rattle.partial_tree.specs.Gaps.{want_of};
+ghost use Rattle.hashtree.specs.Tree.{block};
+ghost use Rattle.session.specs.Layouts.{IsBlockOf};
+ghost use Rattle.session.specs.Answers.{IsAnswerTo};
+
+use crate::session::Session;
+use hashtree::NoMemory;
+use node_maps::NodeMap;
+use partial_tree::Answer;
+use wire::Ask;
+
+impl<'t, N: NodeMap> Session<'t, N> {
+    /// What to ask for next to learn the leaf of a block: the aligned range of at most 512 leaves
+    /// that holds it, with proof up to the root. `None` exactly if the leaf is known. Takes no
+    /// memory. Conditions: there are more than `tree` trees, and its files have more than `block`
+    /// blocks.
+    pub fn want(&self, tree: usize, block: u64) -> Option<Ask>
+        requires tree { tree < length self.now.torrent.trees }
+        requires block { IsBlockOf self.now.torrent tree block }
+        ensures { (root : TreeRoot) × (s : TreeState) × IsTree self.now tree root s
+            × (result ≡ want_of root (look s.known) block) }
+    {
+        self.trees[tree].want(block)
+    }
+
+    /// Whether the hashes that are asked for are known.
+    pub fn can_answer(&self, ask: &Ask) -> bool
+        ensures { IsTrue result ↔ IsAnswered self.now ask.now }
+    {
+        self.torrent.sound();
+        match self.torrent.tree_with_root(&ask.root) {
+            None => false,
+            Some(number) => self.trees[number].can_answer(ask),
+        }
+    }
+
+    /// What the session answers to a hash request: the hashes of the base range, pads among them,
+    /// and then the uncles that the range itself does not give, the one nearest the root last; or a
+    /// reject, exactly if `can_answer` is false. Takes memory for the hashes alone, and fails only
+    /// if that is refused.
+    pub fn answer(&self, ask: &Ask) -> Result<Answer, NoMemory>
+        ensures answer { IfOk result (IsAnswerTo self.now ask.now) }
+        ensures no_memory { OnErr result (IsAnswered self.now ask.now) }
+    {
+        self.torrent.sound();
+        match self.torrent.tree_with_root(&ask.root) {
+            None => Ok(Answer::Reject),
+            Some(number) => self.trees[number].answer(ask),
+        }
+    }
+}

@@ -1,0 +1,139 @@
+//! How a session takes the blocks of a piece message.
+
+ghost use Rattle.std.specs.Prelude.{◌≡◌, ◌<◌, ◌≤◌, IfOk, IfErr, length, ◌*◌, Some};
+ghost use Rattle.session.specs.Session.{IsVerified, IsBlockRefused, IsBlock, IsMarkedBlock, IsUnmarkedBlock, BlockStep, AreTaken, AreRefused, AreBlocks};
+ghost use Rattle.hashtree.specs.Tree.{block};
+ghost use Rattle.session.specs.Blocks.{block_length, cuts};
+ghost use Rattle.session.specs.Layouts.{HasBlock, HasRun};
+ghost use Rattle.chains.specs.Chain.{Chain};
+ghost use Rattle.session.specs.SafeStep.{KeepsKnown, VerifiesTrueBlock, VerifiesTrueBlocks};
+
+use crate::blocks::Blocks;
+use crate::session::Session;
+use hashtree::BLOCK_LENGTH;
+use node_maps::NodeMap;
+use partial_tree::BlockRefusal;
+
+impl<'t, N: NodeMap> Session<'t, N> {
+    /// Takes a block of a piece message, marks its leaf, and returns the file and the block, both
+    /// numbered from 0. What it verifies is that block of every file that has the tree's length and
+    /// root, or two inputs with one digest are named. A repeat is verified again; a refusal leaves
+    /// the session as it was. Takes no memory.
+    pub fn take_block(
+        &mut self,
+        index: u32,
+        begin: u32,
+        block: &[u8],
+    ) -> Result<(usize, u64), BlockRefusal>
+        ensures verified { IfOk result
+            (λ p. IsVerified self.old index begin block.now p.0 p.1 self.new) }
+        ensures refused { IfErr result (λ r. IsBlockRefused self.old index begin block.now r
+            × (self.new ≡ self.old)) }
+        ensures verified_is_the_block { IfOk result
+            (λ p. IsBlock self.old index begin block.now p.0 p.1) }
+        ensures keeps_known { KeepsKnown self.old self.new }
+        ensures verifies_true_block { VerifiesTrueBlock self.old index begin block.now result }
+    {
+        self.closed_trees();
+        self.mark_block(index, begin, block)
+    }
+
+    // Apart from `take_block`, so that what follows of closed trees is proved of one result.
+    fn mark_block(
+        &mut self,
+        index: u32,
+        begin: u32,
+        block: &[u8],
+    ) -> Result<(usize, u64), BlockRefusal>
+        ensures verified { IfOk result
+            (λ p. IsVerified self.old index begin block.now p.0 p.1 self.new) }
+        ensures refused { IfErr result (λ r. IsBlockRefused self.old index begin block.now r
+            × (self.new ≡ self.old)) }
+    {
+        let Some((file, number)) = self.torrent.place(index, begin) else {
+            return Err(BlockRefusal::BadPlace);
+        };
+        match self.mark_in_file(file, number, block) {
+            Ok(()) => Ok((file, number)),
+            Err(refusal) => Err(refusal),
+        }
+    }
+
+    /// Takes the blocks of a piece message, which may be several: consecutive blocks of one file.
+    /// Each is marked if its digest is its known leaf, or refused by itself. The whole message is
+    /// refused if no block begins at its place, or if its bytes are no blocks of the file from
+    /// there on: at least one, and 263,208 bytes at most; then the session stays as it was. What it
+    /// verifies is that block of every file that has the tree's length and root, or two inputs
+    /// with one digest are named. Takes no memory.
+    pub fn take_blocks(
+        &mut self,
+        index: u32,
+        begin: u32,
+        bytes: &[u8],
+    ) -> Result<Blocks, BlockRefusal>
+        ensures taken { IfOk result (λ v. AreTaken self.old index begin bytes.now v self.new) }
+        ensures refused { IfErr result (λ r. AreRefused self.old index begin bytes.now r
+            × (self.new ≡ self.old)) }
+        ensures verified_are_the_blocks { IfOk result (AreBlocks self.old index begin bytes.now) }
+        ensures keeps_known { KeepsKnown self.old self.new }
+        ensures verifies_true_blocks { IfOk result (VerifiesTrueBlocks self.old bytes.now) }
+    {
+        self.closed_trees();
+        self.mark_blocks(index, begin, bytes)
+    }
+
+    // Apart from `take_blocks`, so that what follows of closed trees is proved of one result.
+    fn mark_blocks(&mut self, index: u32, begin: u32, bytes: &[u8]) -> Result<Blocks, BlockRefusal>
+        ensures taken { IfOk result (λ v. AreTaken self.old index begin bytes.now v self.new) }
+        ensures refused { IfErr result (λ r. AreRefused self.old index begin bytes.now r
+            × (self.new ≡ self.old)) }
+    {
+        self.torrent.sound();
+        let Some((file, first)) = self.torrent.place(index, begin) else {
+            return Err(BlockRefusal::BadPlace);
+        };
+        match self.torrent.block_run(file, first, bytes.len() as u64) {
+            None => Err(BlockRefusal::BadSize),
+            Some(count) => Ok(self.mark_run(file, first, bytes, count)),
+        }
+    }
+
+    // Takes bytes that are `count` blocks of a file, from block `first` on.
+    fn mark_run(&mut self, file: usize, first: u64, bytes: &[u8], count: u64) -> Blocks
+        requires { HasRun self.old.torrent file first (length bytes.now) count }
+        ensures file { result.file ≡ file }
+        ensures first { result.first ≡ first }
+        ensures count { length result.refusals ≡ count }
+        ensures each { Chain (BlockStep file) self.old (cuts first bytes.now count)
+            result.refusals self.new }
+    {
+        self.torrent.sound();
+        let mut blocks = Blocks::new(file, first);
+        'numbers: for number in 0..count {
+            let marked = self.mark_in_file(file, first + number, block_of(bytes, number));
+            blocks.push(marked.err());
+        }
+        blocks
+    }
+
+    // Marks a block of a file if its digest is its known leaf.
+    fn mark_in_file(&mut self, file: usize, block: u64, bytes: &[u8]) -> Result<(), BlockRefusal>
+        requires { HasBlock self.old.torrent file block }
+        ensures marked { IfOk result (λ _. IsMarkedBlock self.old file block bytes.now self.new) }
+        ensures refused { IfErr result (λ r. IsUnmarkedBlock self.old file block bytes.now r
+            × (self.new ≡ self.old)) }
+    {
+        self.torrent.sound();
+        let tree = self.torrent.tree_of(file).unwrap();
+        self.trees[tree].take_block(block, bytes)
+    }
+}
+
+// A block of a message's bytes: 16,384 of them, and at the end fewer.
+fn block_of(bytes: &[u8], number: u64) -> &[u8]
+    requires { block_length * number ≤ length bytes.now }
+    ensures { result.now ≡ block bytes.now number }
+{
+    let rest = &bytes[(BLOCK_LENGTH * number) as usize..];
+    &rest[..rest.len().min(BLOCK_LENGTH as usize)]
+}

@@ -1,0 +1,4 @@
+mod Bits
+mod Eight
+mod InRow
+mod PaddingSchedule

@@ -1,0 +1,8 @@
+use Rattle.std.proofs.Common.{◌≡◌, ℕ, ◌<◌, ◌*◌}
+use Rattle.sha2.specs.Sha256.{padding, rounds, schedule}
+use Rattle.sha256_lanes.specs.Lanes.{state_in}
+use Rattle.sha256_lanes.proofs.compression.compress_padding.Given as goal
+
+abbrev pub invariant-turns : goal.invariant-turns
+invariant-turns l = (j : ℕ) → j < 8
+    → state_in j l.v ≡ rounds (state_in j l.fn.state) (schedule (padding 64) 48) (4 * l.turn)

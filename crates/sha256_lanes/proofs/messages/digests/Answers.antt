@@ -1,0 +1,7 @@
+use Rattle.std.proofs.Common.{ℕ, List, ap, ◌∙◌}
+use Rattle.sha2.specs.Sha256.{digest_bytes, sha256}
+use Rattle.sha256_lanes.proofs.messages.digests.Goals as goal
+
+pub returns : goal.returns
+unfolding sha256
+returns c j lt = c.digests_of.ensures j lt ∙ ap (λ (h : List ℕ). digest_bytes h 8) (c.hash_values-state.ensures j lt)

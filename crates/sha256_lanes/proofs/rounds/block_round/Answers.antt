@@ -1,0 +1,11 @@
+use Rattle.std.proofs.Common.{refl, sym}
+use Rattle.sha2.proofs.Schedule256.{rounds_first}
+use Rattle.sha256_lanes.specs.Lanes.{lane, state_in}
+use Rattle.sha256_lanes.proofs.Eight.{lane_at}
+use Rattle.sha256_lanes.proofs.rounds.block_round.Goals as goal
+
+pub returns : goal.returns
+returns c j lt b h window held =
+    let ring = c.args.ring.now in
+    rounds_first b h (lane j ring) (state_in j c.args.v) c.args.t _ _ _ c.requires window held refl
+    (sym (lane_at j ring c.args.t)) (c.round.ensures j lt)

@@ -1,0 +1,63 @@
+//! Digests put out as bytes (FIPS 180-4, 6.2.2).
+
+ghost use Rattle.std.specs.Prelude.{◌≡◌, ℕ, ◌<◌, [], slice_index_or};
+ghost use Rattle.sha2.specs.Sha256.{digest_bytes};
+ghost use Rattle.sha256_lanes.specs.Lanes.{state_in};
+
+use crate::rounds::State;
+
+// The bytes of a hash value, the high byte of each word first.
+#[inline(always)]
+fn bytes_of(words: &[u32; 8]) -> [u8; 32]
+    ensures { result ≡ digest_bytes words.now 8 }
+{
+    let mut bytes = [0; 32];
+    'words: for k in 0..8 {
+        bytes[4 * k..4 * k + 4].copy_from_slice(&words[k].to_be_bytes());
+    }
+    bytes
+}
+
+// The hash value of one message.
+#[inline(always)]
+fn words_of(state: &State, message: usize) -> [u32; 8]
+    requires { message < 8 }
+    ensures { result ≡ state_in message state.now }
+{
+    [
+        state[0].to_array()[message],
+        state[1].to_array()[message],
+        state[2].to_array()[message],
+        state[3].to_array()[message],
+        state[4].to_array()[message],
+        state[5].to_array()[message],
+        state[6].to_array()[message],
+        state[7].to_array()[message],
+    ]
+}
+
+// The digest of one message.
+#[inline(always)]
+fn digest_of(state: &State, message: usize) -> [u8; 32]
+    requires { message < 8 }
+    ensures { result ≡ digest_bytes (state_in message state.now) 8 }
+{
+    bytes_of(&words_of(state, message))
+}
+
+/// The digest of each message.
+pub(crate) fn digests_of(state: &State) -> [[u8; 32]; 8]
+    ensures { (j : ℕ) → j < 8
+        → slice_index_or result j [] ≡ digest_bytes (state_in j state.now) 8 }
+{
+    [
+        digest_of(state, 0),
+        digest_of(state, 1),
+        digest_of(state, 2),
+        digest_of(state, 3),
+        digest_of(state, 4),
+        digest_of(state, 5),
+        digest_of(state, 6),
+        digest_of(state, 7),
+    ]
+}
