@@ -1,5 +1,6 @@
 -- What is spelled so is read, whatever follows.
-use Rattle.std.proofs.Common.{◌≡◌, ◌≢◌, ℕ, zero, suc, ◌+◌, ◌-◌, ◌<◌, ◌≤◌, ◌^◌, true, false, cond, eqb, leb, ltb, List, [], ◌∷◌, ◌++◌, length, get_or, Option, Some, None, Ok, Err, ℤ, pos, negsuc, refl, sym, ap, ap₂, ◌∙◌, subst, append_assoc, arith}
+use Rattle.std.proofs.Common.{◌≡◌, ◌≢◌, ℕ, zero, suc, ◌+◌, ◌-◌, ◌<◌, ◌≤◌, ◌^◌, true, false, cond, eqb, leb, ltb, List, [], ◌∷◌, ◌++◌, length, get_or, Option}
+use Rattle.std.proofs.Common.{Some, None, Ok, Err, ℤ, pos, negsuc, refl, sym, ap, ap₂, ◌∙◌, subst, append_assoc, arith}
 use Rattle.std.specs.Prelude.{FitsSigned}
 use Rattle.std.specs.Int.{w64}
 use Rattle.std.specs.List.{prefix_len}
@@ -65,7 +66,8 @@ plus_again n rest small =
     let numeral = decimal_is_IsNumeral n (omega arith) in
     let other = stops_digits 101 (omega arith) in
     let inside : ltb n (2 ^ 63) ≡ true = grind (arith, nat_tests, small) in
-    ap₂ (integer_of false) (front_is run 101 rest numeral.0.1 other) (after_is run 101 rest numeral.0.1 other) ∙ rw (decimal_plain n (omega arith), numeral.1, inside) refl
+    ap₂ (integer_of false) (front_is run 101 rest numeral.0.1 other) (after_is run 101 rest numeral.0.1 other)
+        ∙ rw (decimal_plain n (omega arith), numeral.1, inside) refl
 
 minus_again : (n : ℕ) (rest : List ℕ) → n < 2 ^ 63 → digits_at true (decimal (suc n) ++ 101 ∷ rest) ≡ Ok (negsuc n, rest)
 minus_again n rest small =
@@ -75,7 +77,8 @@ minus_again n rest small =
     let inside : leb (suc n) (2 ^ 63) ≡ true = grind (arith, nat_tests, small) in
     let first = first_decimal (suc n) (omega arith) (omega arith) in
     let head : eqb (get_or run 0 0) 48 ≡ false = is_other _ _ (λ e. omega arith) in
-    ap₂ (integer_of true) (front_is run 101 rest numeral.0.1 other) (after_is run 101 rest numeral.0.1 other) ∙ rw (decimal_plain (suc n) (omega arith), head, numeral.1, inside) refl
+    ap₂ (integer_of true) (front_is run 101 rest numeral.0.1 other) (after_is run 101 rest numeral.0.1 other)
+        ∙ rw (decimal_plain (suc n) (omega arith), head, numeral.1, inside) refl
 
 unsigned_at : (run rest : List ℕ) → AllDigits 10 run → 0 < length run → integer_at (run ++ rest) ≡ digits_at false (run ++ rest)
 unsigned_at [] rest h long = absurd (omega arith)
@@ -105,7 +108,8 @@ key_again before k rest small above =
     let run = decimal (length k) in
     let numeral = decimal_is_IsNumeral (length k) (omega arith) in
     let regrouped : string k ++ rest ≡ run ++ (58 ∷ (k ++ rest)) = append_assoc run (58 ∷ k) rest in
-    ap (key_at before) regrouped ∙ key_cons before run (58 ∷ (k ++ rest)) numeral.0.1 numeral.0.0 ∙ ap (λ b. in_order before (string_at b)) (sym regrouped) ∙ ap (in_order before) (string_again k rest small)
+    ap (key_at before) regrouped ∙ key_cons before run (58 ∷ (k ++ rest)) numeral.0.1 numeral.0.0 ∙ ap (λ b. in_order before (string_at b)) (sym regrouped)
+        ∙ ap (in_order before) (string_again k rest small)
     ∙ ap (λ b. cond b (Ok (k, rest)) (Err KeyOrder)) (above_is k before above)
 
 pub spelled_head : (room : ℕ) (v : Bencode) (b : List ℕ) → Spelled room v b → (c : ℕ) × (t : List ℕ) × (b ≡ c ∷ t) × (c ≢ 101)
@@ -122,16 +126,19 @@ unfolding items_at
 items_stop_at p zero b rest h e = absurd (omega arith)
 items_stop_at p (suc n) b rest h e = rw e refl
 
-items_step_at : (p : List ℕ → Parsed Bencode) (n c : ℕ) (b t rest : List ℕ) (v : Bencode) (vs : Items) (end : List ℕ) → b ≡ c ∷ t → c ≢ 101 → p b ≡ Ok (v, rest) → items_at p n rest ≡ Ok (vs, end) → items_at p (suc n) b ≡ Ok (item v vs, end)
+items_step_at : (p : List ℕ → Parsed Bencode) (n c : ℕ) (b t rest : List ℕ) (v : Bencode) (vs : Items) (end : List ℕ) → b ≡ c ∷ t → c ≢ 101 → p b ≡ Ok (v, rest)
+    → items_at p n rest ≡ Ok (vs, end) → items_at p (suc n) b ≡ Ok (item v vs, end)
 unfolding items_at
 items_step_at p n c b t rest v vs end e ne first more = ap (items_at p (suc n)) e ∙ rw (is_other c 101 ne, ← e, first, more) refl
 
-pairs_stop_at : (p : List ℕ → Parsed Bencode) (n : ℕ) (before : Option (List ℕ)) (b rest : List ℕ) → 0 < n → b ≡ 101 ∷ rest → pairs_at p n before b ≡ Ok (no_pairs, rest)
+pairs_stop_at : (p : List ℕ → Parsed Bencode) (n : ℕ) (before : Option (List ℕ)) (b rest : List ℕ) → 0 < n → b ≡ 101 ∷ rest
+    → pairs_at p n before b ≡ Ok (no_pairs, rest)
 unfolding pairs_at
 pairs_stop_at p zero before b rest h e = absurd (omega arith)
 pairs_stop_at p (suc n) before b rest h e = rw e refl
 
-pairs_step_at : (p : List ℕ → Parsed Bencode) (n c : ℕ) (before : Option (List ℕ)) (b t k behind rest : List ℕ) (v : Bencode) (ps : Pairs) (end : List ℕ) → b ≡ c ∷ t → c ≢ 101 → key_at before b ≡ Ok (k, behind) → p behind ≡ Ok (v, rest)
+pairs_step_at : (p : List ℕ → Parsed Bencode) (n c : ℕ) (before : Option (List ℕ)) (b t k behind rest : List ℕ) (v : Bencode) (ps : Pairs) (end : List ℕ)
+    → b ≡ c ∷ t → c ≢ 101 → key_at before b ≡ Ok (k, behind) → p behind ≡ Ok (v, rest)
     → pairs_at p n (Some k) rest ≡ Ok (ps, end) → pairs_at p (suc n) before b ≡ Ok (pair k v ps, end)
 unfolding pairs_at
 pairs_step_at p n c before b t k behind rest v ps end e ne key first more =
@@ -141,23 +148,30 @@ pairs_step_at p n c before b t k behind rest v ps end e ne key first more =
 mutual
   pub value_again : (v : Bencode) (room : ℕ) (front rest : List ℕ) → Spelled room v front → value_at room (front ++ rest) ≡ Ok (v, rest)
   value_again (int z) room front rest s =
-      let whole : front ++ rest ≡ 105 ∷ (signed_decimal z ++ 101 ∷ rest) = ap (λ t. t ++ rest) s.1 ∙ ap (λ t. 105 ∷ t) (append_assoc (signed_decimal z) (101 ∷ []) rest) in
-      value_integer room (front ++ rest) (signed_decimal z ++ 101 ∷ rest) whole ∙ ap (λ r. begun_at (front ++ rest) r >>= λ x. Ok (int x.0, x.1)) (integer_again z rest s.0)
+      let whole : front ++ rest ≡ 105 ∷ (signed_decimal z ++ 101 ∷ rest) = ap (λ t. t ++ rest) s.1
+          ∙ ap (λ t. 105 ∷ t) (append_assoc (signed_decimal z) (101 ∷ []) rest) in
+      value_integer room (front ++ rest) (signed_decimal z ++ 101 ∷ rest) whole
+          ∙ ap (λ r. begun_at (front ++ rest) r >>= λ x. Ok (int x.0, x.1)) (integer_again z rest s.0)
   value_again (text t) room front rest s =
       let numeral = decimal_is_IsNumeral (length t) (omega (arith, s.0)) in
       let h = digits_head (decimal (length t)) (58 ∷ (t ++ rest)) numeral.0.1 numeral.0.0 in
       let same : front ++ rest ≡ string t ++ rest = ap (λ b. b ++ rest) s.1 in
       let whole : front ++ rest ≡ h.0 ∷ h.1 = same ∙ append_assoc (decimal (length t)) (58 ∷ t) rest ∙ h.2 in
-      value_text room (front ++ rest) h.1 h.0 h.3 h.4 whole ∙ ap (λ r. begun_at (front ++ rest) r >>= λ x. Ok (text x.0, x.1)) (ap string_at same ∙ string_again t rest s.0)
+      value_text room (front ++ rest) h.1 h.0 h.3 h.4 whole ∙ ap (λ r. begun_at (front ++ rest) r >>= λ x. Ok (text x.0, x.1)) (ap string_at same
+          ∙ string_again t rest s.0)
   value_again (list vs) room front rest s =
       let whole : front ++ rest ≡ 108 ∷ (s.1 ++ 101 ∷ rest) = ap (λ t. t ++ rest) s.2 ∙ ap (λ t. 108 ∷ t) (append_assoc s.1 (101 ∷ []) rest) in
-      value_items room (front ++ rest) (s.1 ++ 101 ∷ rest) s.0 whole ∙ ap (λ r. r >>= λ x. Ok (list x.0, x.1)) (items_again vs (room - 1) (length (s.1 ++ 101 ∷ rest)) s.1 rest s.3 (omega arith))
+      value_items room (front ++ rest) (s.1 ++ 101 ∷ rest) s.0 whole
+          ∙ ap (λ r. r >>= λ x. Ok (list x.0, x.1)) (items_again vs (room - 1) (length (s.1 ++ 101 ∷ rest)) s.1 rest s.3 (omega arith))
   value_again (dict ps) room front rest s =
       let whole : front ++ rest ≡ 100 ∷ (s.1 ++ 101 ∷ rest) = ap (λ t. t ++ rest) s.2 ∙ ap (λ t. 100 ∷ t) (append_assoc s.1 (101 ∷ []) rest) in
-      value_pairs room (front ++ rest) (s.1 ++ 101 ∷ rest) s.0 whole ∙ ap (λ r. r >>= λ x. Ok (dict x.0, x.1)) (pairs_again ps (room - 1) None (length (s.1 ++ 101 ∷ rest)) s.1 rest s.3 (omega arith))
+      value_pairs room (front ++ rest) (s.1 ++ 101 ∷ rest) s.0 whole
+          ∙ ap (λ r. r >>= λ x. Ok (dict x.0, x.1)) (pairs_again ps (room - 1) None (length (s.1 ++ 101 ∷ rest)) s.1 rest s.3 (omega arith))
 
-  items_again : (vs : Items) (room n : ℕ) (inner rest : List ℕ) → SpelledItems room vs inner → length (inner ++ 101 ∷ rest) ≤ n → items_at (value_at room) n (inner ++ 101 ∷ rest) ≡ Ok (vs, rest)
-  items_again no_items room n inner rest s le = items_stop_at (value_at room) n (inner ++ 101 ∷ rest) rest (omega (arith, length-append inner (101 ∷ rest))) (ap (λ t. t ++ 101 ∷ rest) s)
+  items_again : (vs : Items) (room n : ℕ) (inner rest : List ℕ) → SpelledItems room vs inner → length (inner ++ 101 ∷ rest) ≤ n
+      → items_at (value_at room) n (inner ++ 101 ∷ rest) ≡ Ok (vs, rest)
+  items_again no_items room n inner rest s le = items_stop_at (value_at room) n (inner ++ 101 ∷ rest) rest (omega (arith, length-append inner (101 ∷ rest)))
+      (ap (λ t. t ++ 101 ∷ rest) s)
   items_again (item v vs) room zero inner rest s le = absurd (omega (arith, length-append inner (101 ∷ rest)))
   items_again (item v vs) room (suc n) inner rest s le =
       let first = s.0 in
@@ -167,21 +181,27 @@ mutual
       let size : length (inner ++ 101 ∷ rest) ≡ length first + length after = ap length whole ∙ length-append first after in
       let long : 0 < length first = omega (arith, ap length head.2) in
       let starts : inner ++ 101 ∷ rest ≡ head.0 ∷ (head.1 ++ after) = whole ∙ ap (λ t. t ++ after) head.2 in
-      items_step_at (value_at room) n head.0 (inner ++ 101 ∷ rest) (head.1 ++ after) after v vs rest starts head.3 (ap (value_at room) whole ∙ value_again v room first after s.3) (items_again vs room n s.1 rest s.4 (omega arith))
+      items_step_at (value_at room) n head.0 (inner ++ 101 ∷ rest) (head.1 ++ after) after v vs rest starts head.3 (ap (value_at room) whole
+          ∙ value_again v room first after s.3) (items_again vs room n s.1 rest s.4 (omega arith))
 
-  pairs_again : (ps : Pairs) (room : ℕ) (before : Option (List ℕ)) (n : ℕ) (inner rest : List ℕ) → SpelledPairs room before ps inner → length (inner ++ 101 ∷ rest) ≤ n → pairs_at (value_at room) n before (inner ++ 101 ∷ rest) ≡ Ok (ps, rest)
-  pairs_again no_pairs room before n inner rest s le = pairs_stop_at (value_at room) n before (inner ++ 101 ∷ rest) rest (omega (arith, length-append inner (101 ∷ rest))) (ap (λ t. t ++ 101 ∷ rest) s)
+  pairs_again : (ps : Pairs) (room : ℕ) (before : Option (List ℕ)) (n : ℕ) (inner rest : List ℕ) → SpelledPairs room before ps inner
+      → length (inner ++ 101 ∷ rest) ≤ n → pairs_at (value_at room) n before (inner ++ 101 ∷ rest) ≡ Ok (ps, rest)
+  pairs_again no_pairs room before n inner rest s le = pairs_stop_at (value_at room) n before (inner ++ 101 ∷ rest) rest
+      (omega (arith, length-append inner (101 ∷ rest))) (ap (λ t. t ++ 101 ∷ rest) s)
   pairs_again (pair k v ps) room before zero inner rest s le = absurd (omega (arith, length-append inner (101 ∷ rest)))
   pairs_again (pair k v ps) room before (suc n) inner rest s le =
       let first = s.0 in
       let after = s.1 ++ 101 ∷ rest in
       let numeral = decimal_is_IsNumeral (length k) (omega (arith, s.3)) in
       let head = digits_head (decimal (length k)) (58 ∷ (k ++ (first ++ after))) numeral.0.1 numeral.0.0 in
-      let whole : inner ++ 101 ∷ rest ≡ string k ++ (first ++ after) = ap (λ t. t ++ 101 ∷ rest) s.2 ∙ append_assoc (string k) (first ++ s.1) (101 ∷ rest) ∙ ap (λ t. string k ++ t) (append_assoc first s.1 (101 ∷ rest)) in
-      let size : length (inner ++ 101 ∷ rest) ≡ length (string k) + (length first + length after) = ap length whole ∙ length-append (string k) (first ++ after) ∙ ap (λ m. length (string k) + m) (length-append first after) in
+      let whole : inner ++ 101 ∷ rest ≡ string k ++ (first ++ after) = ap (λ t. t ++ 101 ∷ rest) s.2 ∙ append_assoc (string k) (first ++ s.1) (101 ∷ rest)
+          ∙ ap (λ t. string k ++ t) (append_assoc first s.1 (101 ∷ rest)) in
+      let size : length (inner ++ 101 ∷ rest) ≡ length (string k) + (length first + length after) = ap length whole ∙ length-append (string k) (first ++ after)
+          ∙ ap (λ m. length (string k) + m) (length-append first after) in
       let long : 0 < length (string k) = omega (arith, length-append (decimal (length k)) (58 ∷ k)) in
       let starts : inner ++ 101 ∷ rest ≡ head.0 ∷ head.1 = whole ∙ append_assoc (decimal (length k)) (58 ∷ k) (first ++ after) ∙ head.2 in
-      pairs_step_at (value_at room) n head.0 before (inner ++ 101 ∷ rest) head.1 k (first ++ after) after v ps rest starts (λ e. omega arith) (ap (key_at before) whole ∙ key_again before k (first ++ after) s.3 s.4)
+      pairs_step_at (value_at room) n head.0 before (inner ++ 101 ∷ rest) head.1 k (first ++ after) after v ps rest starts (λ e. omega arith)
+          (ap (key_at before) whole ∙ key_again before k (first ++ after) s.3 s.4)
       (value_again v room first after s.5) (pairs_again ps room (Some k) n s.1 rest s.6 (omega arith))
 
 -- one value and one rest
@@ -193,7 +213,8 @@ one_reading room v w a b x y s t e =
     (ap (λ (p : Bencode × List ℕ). p.0) same, append_cancel_right a b y (ap (λ z. a ++ z) (sym rests) ∙ e))
 
 -- what was read is the one value that the input begins with
-pub only_reading : (room : ℕ) (v : Bencode) (front rest bytes : List ℕ) (x : Bencode × List ℕ) → bytes ≡ front ++ rest → Spelled room v front → value_at room bytes ≡ Ok x → (x.0 ≡ v) × (length bytes - length x.1 ≡ length front)
+pub only_reading : (room : ℕ) (v : Bencode) (front rest bytes : List ℕ) (x : Bencode × List ℕ) → bytes ≡ front ++ rest → Spelled room v front
+    → value_at room bytes ≡ Ok x → (x.0 ≡ v) × (length bytes - length x.1 ≡ length front)
 only_reading room v front rest bytes x e s h =
     let both : fine x ≡ fine (v, rest) = sym h ∙ ap (value_at room) e ∙ value_again v room front rest s in
     let same = ok_of x (v, rest) both in
@@ -203,7 +224,8 @@ only_reading room v front rest bytes x e s h =
 absurd_ok : (x : Bencode × List ℕ) (d : Failed) → fine x ≡ Err d → ⊥
 absurd_ok x d k = absurd cc
 
-pub never_fails : (room : ℕ) (v : Bencode) (front rest bytes : List ℕ) (d : Failed) → bytes ≡ front ++ rest → Spelled room v front → value_at room bytes ≡ Err d → ⊥
+pub never_fails : (room : ℕ) (v : Bencode) (front rest bytes : List ℕ) (d : Failed) → bytes ≡ front ++ rest → Spelled room v front → value_at room bytes ≡ Err d
+    → ⊥
 never_fails room v front rest bytes d e s h =
     let both : value_at room bytes ≡ Ok (v, rest) = ap (value_at room) e ∙ value_again v room front rest s in
     absurd_ok (v, rest) d (sym both ∙ h)

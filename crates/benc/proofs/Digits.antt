@@ -21,7 +21,8 @@ digit_high c h = grind (arith, nat_tests)
 pub digit_value_is : (c : ℕ) → IsTrue (is_digit c) → digit_value c ≡ c - 48
 digit_value_is c h = let low = digit_low c h in let high = digit_high c h in grind (arith, nat_tests, low, high)
 
-pub run_step : (run : List ℕ) (i : ℕ) → IsRun run → i < length run → digits_value 10 (take (i + 1) run) ≡ digits_value 10 (take i run) * 10 + (get_or run i 0 - 48)
+pub run_step : (run : List ℕ) (i : ℕ) → IsRun run → i < length run
+    → digits_value 10 (take (i + 1) run) ≡ digits_value 10 (take i run) * 10 + (get_or run i 0 - 48)
 run_step run i digits lt = digits_value_more 10 run i lt ∙ ap (λ d. digits_value 10 (take i run) * 10 + d) (digit_value_is (get_or run i 0) (digits i lt))
 
 pub run_le : (run : List ℕ) (i : ℕ) → digits_value 10 (take i run) ≤ digits_value 10 run

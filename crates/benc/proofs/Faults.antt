@@ -1,5 +1,6 @@
 -- Where reading stops, the item that is due there fails.
-use Rattle.std.proofs.Common.{◌≡◌, ℕ, zero, suc, ◌+◌, ◌-◌, ◌<◌, ◌≤◌, ◌^◌, Bool, true, false, ◌||◌, cond, eqb, List, [], ◌∷◌, ◌++◌, length, Option, Some, None, Result, Ok, Err, ◌⊎◌, refl, sym, ap, ◌∙◌, subst, inl, inr, append_assoc, arith}
+use Rattle.std.proofs.Common.{◌≡◌, ℕ, zero, suc, ◌+◌, ◌-◌, ◌<◌, ◌≤◌, ◌^◌, Bool, true, false, ◌||◌, cond, eqb, List, [], ◌∷◌, ◌++◌, length, Option, Some, None}
+use Rattle.std.proofs.Common.{Result, Ok, Err, ◌⊎◌, refl, sym, ap, ◌∙◌, subst, inl, inr, append_assoc, arith}
 use Rattle.std.proofs.lemmas.Bool.{eqb-true}
 use Rattle.std.specs.Fmt.{decimal}
 use Rattle.std.proofs.lemmas.List.{length-append}
@@ -18,7 +19,8 @@ use Rattle.benc.proofs.Sound.{TakesFront, began, value_takes, key_takes}
 abbrev pub Further : ℕ → Due → List ℕ → Failed → Type 0
 Further room d bytes e =
     ((bytes ≡ e.1) × (scanned_fault d room bytes ≡ Some e.0))
-    ⊎ ((l : Level) × (ls : List Level) × (due : Due) × (left : ℕ) × (front : List ℕ) × (bytes ≡ front ++ e.1) × Begun room (l ∷ ls) front due left × (scanned_fault due left e.1 ≡ Some e.0))
+    ⊎ ((l : Level) × (ls : List Level) × (due : Due) × (left : ℕ) × (front : List ℕ) × (bytes ≡ front ++ e.1) × Begun room (l ∷ ls) front due left
+        × (scanned_fault due left e.1 ≡ Some e.0))
 
 abbrev bad : {A : Type 0} → Failed → Result A Failed
 bad e = Err e
@@ -26,7 +28,8 @@ bad e = Err e
 err_of : {A : Type 0} (x y : Failed) → bad {A = A} x ≡ bad y → x ≡ y
 err_of x y e = cc
 
-began_err : {A B : Type 0} (start : List ℕ) (r : Result A FaultKind) (g : A → B) (e : Failed) → (begun_at start r >>= λ x. Ok (g x)) ≡ Err e → (f : FaultKind) × (r ≡ Err f) × ((f, start) ≡ e)
+began_err : {A B : Type 0} (start : List ℕ) (r : Result A FaultKind) (g : A → B) (e : Failed) → (begun_at start r >>= λ x. Ok (g x)) ≡ Err e
+    → (f : FaultKind) × (r ≡ Err f) × ((f, start) ≡ e)
 began_err start (Ok x) g e h = absurd cc
 began_err {A} {B} start (Err f) g e h = (f, refl, err_of {A = B} (f, start) e h)
 
@@ -35,7 +38,8 @@ mapped_err (Ok x) g e h = absurd cc
 mapped_err {A} {B} (Err d) g e h = ap (λ z. Err z) (err_of {A = B} d e h)
 
 -- a step that failed, or the one after it did
-bind_err : {A B : Type 0} (r : Result A Failed) (f : A → Result B Failed) (e : Failed) → (r >>= f) ≡ Err e → (r ≡ Err e) ⊎ ((x : A) × (r ≡ Ok x) × (f x ≡ Err e))
+bind_err : {A B : Type 0} (r : Result A Failed) (f : A → Result B Failed) (e : Failed) → (r >>= f) ≡ Err e → (r ≡ Err e)
+    ⊎ ((x : A) × (r ≡ Ok x) × (f x ≡ Err e))
 bind_err (Ok x) f e h = inr (x, refl, h)
 bind_err {A} {B} (Err d) f e h = inl (ap (λ z. Err z) (err_of {A = B} d e h))
 
@@ -48,17 +52,21 @@ in_items : (room : ℕ) (c : ℕ) (bytes : List ℕ) (e : Failed) → eqb c 101 
 in_items room c bytes e m (inl p) = inl (p.0, rw m p.1)
 in_items room c bytes e m (inr p) = inr p
 
-module _ (room : ℕ) (read : List ℕ → Parsed Bencode) (sound : (b : List ℕ) (x : Bencode × List ℕ) → read b ≡ Ok x → TakesFront (Spelled room) b x.0 x.1) (shorter : (b : List ℕ) (x : Bencode × List ℕ) → read b ≡ Ok x → length x.1 < length b)
+module _ (room : ℕ) (read : List ℕ → Parsed Bencode) (sound : (b : List ℕ) (x : Bencode × List ℕ) → read b ≡ Ok x → TakesFront (Spelled room) b x.0 x.1)
+    (shorter : (b : List ℕ) (x : Bencode × List ℕ) → read b ≡ Ok x → length x.1 < length b)
     (stops : (b : List ℕ) (e : Failed) → read b ≡ Err e → Further room a_value b e) where
   items_stop : (n : ℕ) (bytes : List ℕ) (e : Failed) → length bytes ≤ n → items_at read n bytes ≡ Err e → ItemsStop room bytes e
   unfolding items_at
-  items_stop zero [] e le h = subst (λ x. ItemsStop room [] x) (err_of {A = Items × List ℕ} (Truncated, []) e h) (no_items, [], [], refl, refl, inl (refl, refl))
-  items_stop (suc n) [] e le h = subst (λ x. ItemsStop room [] x) (err_of {A = Items × List ℕ} (Truncated, []) e h) (no_items, [], [], refl, refl, inl (refl, refl))
+  items_stop zero [] e le h = subst (λ x. ItemsStop room [] x) (err_of {A = Items × List ℕ} (Truncated, []) e h) (no_items, [], [], refl, refl,
+      inl (refl, refl))
+  items_stop (suc n) [] e le h = subst (λ x. ItemsStop room [] x) (err_of {A = Items × List ℕ} (Truncated, []) e h) (no_items, [], [], refl, refl,
+      inl (refl, refl))
   items_stop zero (c ∷ bytes) e le h = absurd (omega arith)
   items_stop (suc n) (c ∷ bytes) e le h = by_mark (λ b d l g. items_stop n b d l g) (eqb c 101) refl h
     where
       by_mark : ((b : List ℕ) (d : Failed) → length b ≤ n → items_at read n b ≡ Err d → ItemsStop room b d) → (m : Bool) → eqb c 101 ≡ m
-          → cond {A = Parsed Items} m (Ok (no_items, bytes)) (read (c ∷ bytes) >>= λ y. items_at read n y.1 >>= λ z. Ok (item y.0 z.0, z.1)) ≡ Err e → ItemsStop room (c ∷ bytes) e
+          → cond {A = Parsed Items} m (Ok (no_items, bytes)) (read (c ∷ bytes) >>= λ y. items_at read n y.1 >>= λ z. Ok (item y.0 z.0, z.1)) ≡ Err e
+          → ItemsStop room (c ∷ bytes) e
       by_mark again true m f = absurd cc
       by_mark again false m f =
           elim (bind_err (read (c ∷ bytes)) (λ y. items_at read n y.1 >>= λ z. Ok (item y.0 z.0, z.1)) e f) [
@@ -67,7 +75,8 @@ module _ (room : ℕ) (read : List ℕ → Parsed Bencode) (sound : (b : List �
                 let less = shorter (c ∷ bytes) p.0 p.1 in
                 let first = sound (c ∷ bytes) p.0 p.1 in
                 let k = again p.0.1 e (omega arith) (mapped_err (items_at read n p.0.1) (λ z. (item p.0.0 z.0, z.1)) e p.2) in
-                (item p.0.0 k.0, first.0 ++ k.1, k.2, first.1 ∙ ap (λ t. first.0 ++ t) k.3 ∙ sym (append_assoc first.0 k.1 k.2), (first.0, k.1, refl, first.2, k.4), k.5)
+                (item p.0.0 k.0, first.0 ++ k.1, k.2, first.1 ∙ ap (λ t. first.0 ++ t) k.3
+                    ∙ sym (append_assoc first.0 k.1 k.2), (first.0, k.1, refl, first.2, k.4), k.5)
           ]
 
 -- a list that stopped, behind its mark
@@ -76,9 +85,11 @@ list_stops room bytes e k = by_place k.5
   where
     by_place : Further room a_value_or_end k.2 e → Further (suc room) a_value (108 ∷ bytes) e
     by_place (inl p) =
-        inr (in_list k.0, [], a_value_or_end, room, 108 ∷ k.1, ap (λ t. 108 ∷ t) (k.3 ∙ ap (λ t. k.1 ++ t) p.0), (room, refl, (k.1, refl, k.4), refl, refl), subst (λ t. scanned_fault a_value_or_end room t ≡ Some e.0) p.0 p.1)
+        inr (in_list k.0, [], a_value_or_end, room, 108 ∷ k.1, ap (λ t. 108 ∷ t) (k.3 ∙ ap (λ t. k.1 ++ t) p.0), (room, refl, (k.1, refl, k.4), refl, refl),
+            subst (λ t. scanned_fault a_value_or_end room t ≡ Some e.0) p.0 p.1)
     by_place (inr (l, ls, due, left, front, parts, begun, fails)) =
-        inr (in_list k.0, l ∷ ls, due, left, (108 ∷ k.1) ++ front, ap (λ t. 108 ∷ t) (k.3 ∙ ap (λ t. k.1 ++ t) parts ∙ sym (append_assoc k.1 front e.1)), (room, 108 ∷ k.1, front, refl, refl, (k.1, refl, k.4), tt, begun), fails)
+        inr (in_list k.0, l ∷ ls, due, left, (108 ∷ k.1) ++ front, ap (λ t. 108 ∷ t) (k.3 ∙ ap (λ t. k.1 ++ t) parts ∙ sym (append_assoc k.1 front e.1)),
+            (room, 108 ∷ k.1, front, refl, refl, (k.1, refl, k.4), tt, begun), fails)
 
 began_only : {A : Type 0} (start : List ℕ) (r : Result A FaultKind) (e : Failed) → begun_at start r ≡ Err e → (f : FaultKind) × (r ≡ Err f) × ((f, start) ≡ e)
 began_only start (Ok x) e h = absurd cc
@@ -91,19 +102,26 @@ PairFurther room last rest e =
     ⊎ ((k behind : List ℕ) × (rest ≡ string k ++ behind) × (length k < 10 ^ 10) × IsAbove k last × Further room a_value behind e)
 
 abbrev PairsStop : ℕ → Option (List ℕ) → List ℕ → Failed → Type 0
-PairsStop room before bytes e = (ps : Pairs) × (inner rest : List ℕ) × (bytes ≡ inner ++ rest) × SpelledPairs room before ps inner × PairFurther room (last_key before ps) rest e
+PairsStop room before bytes e = (ps : Pairs) × (inner rest : List ℕ) × (bytes ≡ inner ++ rest) × SpelledPairs room before ps inner
+    × PairFurther room (last_key before ps) rest e
 
-module _ (room : ℕ) (read : List ℕ → Parsed Bencode) (sound : (b : List ℕ) (x : Bencode × List ℕ) → read b ≡ Ok x → TakesFront (Spelled room) b x.0 x.1) (shorter : (b : List ℕ) (x : Bencode × List ℕ) → read b ≡ Ok x → length x.1 < length b)
+module _ (room : ℕ) (read : List ℕ → Parsed Bencode) (sound : (b : List ℕ) (x : Bencode × List ℕ) → read b ≡ Ok x → TakesFront (Spelled room) b x.0 x.1)
+    (shorter : (b : List ℕ) (x : Bencode × List ℕ) → read b ≡ Ok x → length x.1 < length b)
     (stops : (b : List ℕ) (e : Failed) → read b ≡ Err e → Further room a_value b e) where
-  pairs_stop : (n : ℕ) (before : Option (List ℕ)) (bytes : List ℕ) (e : Failed) → length bytes ≤ n → pairs_at read n before bytes ≡ Err e → PairsStop room before bytes e
+  pairs_stop : (n : ℕ) (before : Option (List ℕ)) (bytes : List ℕ) (e : Failed) → length bytes ≤ n → pairs_at read n before bytes ≡ Err e
+      → PairsStop room before bytes e
   unfolding pairs_at
-  pairs_stop zero before [] e le h = subst (λ x. PairsStop room before [] x) (err_of {A = Pairs × List ℕ} (Truncated, []) e h) (no_pairs, [], [], refl, refl, inl (refl, refl))
-  pairs_stop (suc n) before [] e le h = subst (λ x. PairsStop room before [] x) (err_of {A = Pairs × List ℕ} (Truncated, []) e h) (no_pairs, [], [], refl, refl, inl (refl, refl))
+  pairs_stop zero before [] e le h = subst (λ x. PairsStop room before [] x) (err_of {A = Pairs × List ℕ} (Truncated, []) e h) (no_pairs, [], [], refl, refl,
+      inl (refl, refl))
+  pairs_stop (suc n) before [] e le h = subst (λ x. PairsStop room before [] x) (err_of {A = Pairs × List ℕ} (Truncated, []) e h) (no_pairs, [], [], refl, refl,
+      inl (refl, refl))
   pairs_stop zero before (c ∷ bytes) e le h = absurd (omega arith)
   pairs_stop (suc n) before (c ∷ bytes) e le h = by_mark (λ k b d l g. pairs_stop n (Some k) b d l g) (eqb c 101) refl h
     where
-      by_value : ((k b : List ℕ) (d : Failed) → length b ≤ n → pairs_at read n (Some k) b ≡ Err d → PairsStop room (Some k) b d) → (k : List ℕ × List ℕ) → (length k.0 < 10 ^ 10) × IsAbove k.0 before × (c ∷ bytes ≡ string k.0 ++ k.1)
-          → ◌>>=◌ {B = Pairs × List ℕ} (read k.1) (λ y. ◌>>=◌ {B = Pairs × List ℕ} (pairs_at read n (Some k.0) y.1) (λ z. Ok (pair k.0 y.0 z.0, z.1))) ≡ Err e → PairsStop room before (c ∷ bytes) e
+      by_value : ((k b : List ℕ) (d : Failed) → length b ≤ n → pairs_at read n (Some k) b ≡ Err d → PairsStop room (Some k) b d) → (k : List ℕ × List ℕ)
+          → (length k.0 < 10 ^ 10) × IsAbove k.0 before × (c ∷ bytes ≡ string k.0 ++ k.1)
+          → ◌>>=◌ {B = Pairs × List ℕ} (read k.1) (λ y. ◌>>=◌ {B = Pairs × List ℕ} (pairs_at read n (Some k.0) y.1) (λ z. Ok (pair k.0 y.0 z.0, z.1))) ≡ Err e
+          → PairsStop room before (c ∷ bytes) e
       by_value again k name f =
           elim (bind_err (read k.1) (λ y. pairs_at read n (Some k.0) y.1 >>= λ z. Ok (pair k.0 y.0 z.0, z.1)) e f) [
             | inl p ↦ (no_pairs, [], c ∷ bytes, refl, refl, inr (k.0, k.1, name.2, name.0, name.1, stops k.1 e p))
@@ -115,17 +133,20 @@ module _ (room : ℕ) (read : List ℕ → Parsed Bencode) (sound : (b : List �
                   pair k.0 p.0.0 q.0,
                   string k.0 ++ (first.0 ++ q.1),
                   q.2,
-                  name.2 ∙ ap (λ t. string k.0 ++ t) (first.1 ∙ ap (λ t. first.0 ++ t) q.3 ∙ sym (append_assoc first.0 q.1 q.2)) ∙ sym (append_assoc (string k.0) (first.0 ++ q.1) q.2),
+                  name.2 ∙ ap (λ t. string k.0 ++ t) (first.1 ∙ ap (λ t. first.0 ++ t) q.3 ∙ sym (append_assoc first.0 q.1 q.2))
+                      ∙ sym (append_assoc (string k.0) (first.0 ++ q.1) q.2),
                   (first.0, q.1, refl, name.0, name.1, first.2, q.4),
                   q.5,
                 )
           ]
 
       by_mark : ((k b : List ℕ) (d : Failed) → length b ≤ n → pairs_at read n (Some k) b ≡ Err d → PairsStop room (Some k) b d) → (m : Bool) → eqb c 101 ≡ m
-          → cond {A = Parsed Pairs} m (Ok (no_pairs, bytes)) (begun_at (c ∷ bytes) (key_at before (c ∷ bytes)) >>= λ k. read k.1 >>= λ y. pairs_at read n (Some k.0) y.1 >>= λ z. Ok (pair k.0 y.0 z.0, z.1)) ≡ Err e → PairsStop room before (c ∷ bytes) e
+          → cond {A = Parsed Pairs} m (Ok (no_pairs, bytes)) (begun_at (c ∷ bytes) (key_at before (c ∷ bytes)) >>= λ k. read k.1 >>= λ y. pairs_at read n
+              (Some k.0) y.1 >>= λ z. Ok (pair k.0 y.0 z.0, z.1)) ≡ Err e → PairsStop room before (c ∷ bytes) e
       by_mark again true m f = absurd cc
       by_mark again false m f =
-          elim (bind_err (begun_at (c ∷ bytes) (key_at before (c ∷ bytes))) (λ k. read k.1 >>= λ y. pairs_at read n (Some k.0) y.1 >>= λ z. Ok (pair k.0 y.0 z.0, z.1)) e f) [
+          elim (bind_err (begun_at (c ∷ bytes) (key_at before (c ∷ bytes))) (λ k. read k.1 >>= λ y. pairs_at read n (Some k.0) y.1 >>= λ z. Ok
+              (pair k.0 y.0 z.0, z.1)) e f) [
             | inl p ↦
                 let b = began_only (c ∷ bytes) (key_at before (c ∷ bytes)) e p in
                 subst (λ x. PairsStop room before (c ∷ bytes) x) b.2 (no_pairs, [], c ∷ bytes, refl, refl, inl (refl, rw m (ap fault_of b.1)))
@@ -136,7 +157,8 @@ module _ (room : ℕ) (read : List ℕ → Parsed Bencode) (sound : (b : List �
 dict_stops : (room : ℕ) (bytes : List ℕ) (e : Failed) → PairsStop room None bytes e → Further (suc room) a_value (100 ∷ bytes) e
 dict_stops room bytes e k = by_place k.5
   where
-    in_value : (n b : List ℕ) → k.2 ≡ string n ++ b → length n < 10 ^ 10 → IsAbove n (last_key None k.0) → Further room a_value b e → Further (suc room) a_value (100 ∷ bytes) e
+    in_value : (n b : List ℕ) → k.2 ≡ string n ++ b → length n < 10 ^ 10 → IsAbove n (last_key None k.0) → Further room a_value b e
+        → Further (suc room) a_value (100 ∷ bytes) e
     in_value n b parts small above (inl p) =
         inr (
           at_value k.0 n,
@@ -155,14 +177,16 @@ dict_stops room bytes e k = by_place k.5
           due,
           left,
           (100 ∷ (k.1 ++ string n)) ++ front,
-          ap (λ t. 100 ∷ t) (k.3 ∙ ap (λ t. k.1 ++ t) (parts ∙ ap (λ t. string n ++ t) more) ∙ sym (append_assoc k.1 (string n) (front ++ e.1)) ∙ sym (append_assoc (k.1 ++ string n) front e.1)),
+          ap (λ t. 100 ∷ t) (k.3 ∙ ap (λ t. k.1 ++ t) (parts ∙ ap (λ t. string n ++ t) more) ∙ sym (append_assoc k.1 (string n) (front ++ e.1))
+              ∙ sym (append_assoc (k.1 ++ string n) front e.1)),
           (room, 100 ∷ (k.1 ++ string n), front, refl, refl, (k.1, refl, k.4, small, above), tt, begun),
           fails,
         )
 
     by_place : PairFurther room (last_key None k.0) k.2 e → Further (suc room) a_value (100 ∷ bytes) e
     by_place (inl p) =
-        inr (in_dict k.0, [], a_key_or_end (last_key None k.0), room, 100 ∷ k.1, ap (λ t. 100 ∷ t) (k.3 ∙ ap (λ t. k.1 ++ t) p.0), (room, refl, (k.1, refl, k.4), refl, refl), subst (λ t. scanned_fault (a_key_or_end (last_key None k.0)) room t ≡ Some e.0) p.0 p.1)
+        inr (in_dict k.0, [], a_key_or_end (last_key None k.0), room, 100 ∷ k.1, ap (λ t. 100 ∷ t) (k.3 ∙ ap (λ t. k.1 ++ t) p.0),
+            (room, refl, (k.1, refl, k.4), refl, refl), subst (λ t. scanned_fault (a_key_or_end (last_key None k.0)) room t ≡ Some e.0) p.0 p.1)
     by_place (inr (n, b, parts, small, above, further)) = in_value n b parts small above further
 
 pick_digit : (p q r s : Bool) (a t b d : Option FaultKind) → p ≡ false → q ≡ false → r ≡ false → s ≡ true → cond p a (cond (q || r) t (cond s b d)) ≡ b
@@ -179,24 +203,34 @@ module _ (room : ℕ) (ls : List ℕ → List ℕ → Parsed Items) (ds : List �
   level_stops (c ∷ bytes) e h = by_i (eqb c 105) refl h
     where
       by_digit : (m : Bool) → is_digit c ≡ m → eqb c 105 ≡ false → eqb c 108 ≡ false → eqb c 100 ≡ false
-          → cond {A = Parsed Bencode} m (begun_at (c ∷ bytes) (string_at (c ∷ bytes)) >>= λ y. Ok (text y.0, y.1)) (Err (BadStart, c ∷ bytes)) ≡ Err e → Further room a_value (c ∷ bytes) e
-      by_digit false m i l d f = subst (λ x. Further room a_value (c ∷ bytes) x) (err_of {A = Bencode × List ℕ} (BadStart, c ∷ bytes) e f) (inl (refl, pick_last (eqb c 105) (eqb c 108) (eqb c 100) (is_digit c) _ _ _ _ i l d m))
+          → cond {A = Parsed Bencode} m (begun_at (c ∷ bytes) (string_at (c ∷ bytes)) >>= λ y. Ok (text y.0, y.1)) (Err (BadStart, c ∷ bytes)) ≡ Err e
+          → Further room a_value (c ∷ bytes) e
+      by_digit false m i l d f = subst (λ x. Further room a_value (c ∷ bytes) x) (err_of {A = Bencode × List ℕ} (BadStart, c ∷ bytes) e f)
+          (inl (refl, pick_last (eqb c 105) (eqb c 108) (eqb c 100) (is_digit c) _ _ _ _ i l d m))
       by_digit true m i l d f =
           let b = began_err (c ∷ bytes) (string_at (c ∷ bytes)) (λ y. (text y.0, y.1)) e f in
-          subst (λ x. Further room a_value (c ∷ bytes) x) b.2 (inl (refl, pick_digit (eqb c 105) (eqb c 108) (eqb c 100) (is_digit c) _ _ _ _ i l d m ∙ ap fault_of b.1))
+          subst (λ x. Further room a_value (c ∷ bytes) x) b.2 (inl (refl, pick_digit (eqb c 105) (eqb c 108) (eqb c 100) (is_digit c) _ _ _ _ i l d m
+              ∙ ap fault_of b.1))
 
       by_d : (m : Bool) → eqb c 100 ≡ m → eqb c 105 ≡ false → eqb c 108 ≡ false
-          → cond {A = Parsed Bencode} m (ds (c ∷ bytes) bytes >>= λ y. Ok (dict y.0, y.1)) (cond (is_digit c) (begun_at (c ∷ bytes) (string_at (c ∷ bytes)) >>= λ y. Ok (text y.0, y.1)) (Err (BadStart, c ∷ bytes))) ≡ Err e → Further room a_value (c ∷ bytes) e
+          → cond {A = Parsed Bencode} m (ds (c ∷ bytes) bytes >>= λ y. Ok (dict y.0, y.1))
+              (cond (is_digit c) (begun_at (c ∷ bytes) (string_at (c ∷ bytes)) >>= λ y. Ok (text y.0, y.1)) (Err (BadStart, c ∷ bytes))) ≡ Err e
+          → Further room a_value (c ∷ bytes) e
       by_d true m i l f = dict_stop c bytes e (eqb-true c 100 m) (mapped_err (ds (c ∷ bytes) bytes) (λ y. (dict y.0, y.1)) e f)
       by_d false m i l f = by_digit (is_digit c) refl i l m f
 
       by_l : (m : Bool) → eqb c 108 ≡ m → eqb c 105 ≡ false
-          → cond {A = Parsed Bencode} m (ls (c ∷ bytes) bytes >>= λ y. Ok (list y.0, y.1)) (cond (eqb c 100) (ds (c ∷ bytes) bytes >>= λ y. Ok (dict y.0, y.1)) (cond (is_digit c) (begun_at (c ∷ bytes) (string_at (c ∷ bytes)) >>= λ y. Ok (text y.0, y.1)) (Err (BadStart, c ∷ bytes)))) ≡ Err e → Further room a_value (c ∷ bytes) e
+          → cond {A = Parsed Bencode} m (ls (c ∷ bytes) bytes >>= λ y. Ok (list y.0, y.1)) (cond (eqb c 100) (ds (c ∷ bytes) bytes >>= λ y. Ok (dict y.0, y.1))
+              (cond (is_digit c) (begun_at (c ∷ bytes) (string_at (c ∷ bytes)) >>= λ y. Ok (text y.0, y.1)) (Err (BadStart, c ∷ bytes)))) ≡ Err e
+              → Further room a_value (c ∷ bytes) e
       by_l true m i f = list_stop c bytes e (eqb-true c 108 m) (mapped_err (ls (c ∷ bytes) bytes) (λ y. (list y.0, y.1)) e f)
       by_l false m i f = by_d (eqb c 100) refl i m f
 
       by_i : (m : Bool) → eqb c 105 ≡ m
-          → cond {A = Parsed Bencode} m (begun_at (c ∷ bytes) (integer_at bytes) >>= λ y. Ok (int y.0, y.1)) (cond (eqb c 108) (ls (c ∷ bytes) bytes >>= λ y. Ok (list y.0, y.1)) (cond (eqb c 100) (ds (c ∷ bytes) bytes >>= λ y. Ok (dict y.0, y.1)) (cond (is_digit c) (begun_at (c ∷ bytes) (string_at (c ∷ bytes)) >>= λ y. Ok (text y.0, y.1)) (Err (BadStart, c ∷ bytes))))) ≡ Err e → Further room a_value (c ∷ bytes) e
+          → cond {A = Parsed Bencode} m (begun_at (c ∷ bytes) (integer_at bytes) >>= λ y. Ok (int y.0, y.1))
+              (cond (eqb c 108) (ls (c ∷ bytes) bytes >>= λ y. Ok (list y.0, y.1)) (cond (eqb c 100) (ds (c ∷ bytes) bytes >>= λ y. Ok (dict y.0, y.1))
+              (cond (is_digit c) (begun_at (c ∷ bytes) (string_at (c ∷ bytes)) >>= λ y. Ok (text y.0, y.1)) (Err (BadStart, c ∷ bytes))))) ≡ Err e
+              → Further room a_value (c ∷ bytes) e
       by_i true m f =
           let b = began_err (c ∷ bytes) (integer_at bytes) (λ y. (int y.0, y.1)) e f in
           subst (λ x. Further room a_value (c ∷ bytes) x) b.2 (inl (refl, rw m (ap fault_of b.1)))
@@ -217,23 +251,33 @@ pub value_stops : (room : ℕ) (bytes : List ℕ) (e : Failed) → value_at room
 unfolding value_at
 value_stops zero bytes e h =
     level_stops 0 (λ s b. Err (TooDeep, s)) (λ s b. Err (TooDeep, s))
-    (λ c b d i g. subst (λ x. Further 0 a_value (c ∷ b) x) (err_of {A = Items × List ℕ} (TooDeep, c ∷ b) d g) (inl (refl, subst (λ y. value_fault 0 (y ∷ b) ≡ Some TooDeep) (sym i) refl)))
-    (λ c b d i g. subst (λ x. Further 0 a_value (c ∷ b) x) (err_of {A = Pairs × List ℕ} (TooDeep, c ∷ b) d g) (inl (refl, subst (λ y. value_fault 0 (y ∷ b) ≡ Some TooDeep) (sym i) refl))) bytes e h
+    (λ c b d i g. subst (λ x. Further 0 a_value (c ∷ b) x) (err_of {A = Items × List ℕ} (TooDeep, c ∷ b) d g)
+        (inl (refl, subst (λ y. value_fault 0 (y ∷ b) ≡ Some TooDeep) (sym i) refl)))
+    (λ c b d i g. subst (λ x. Further 0 a_value (c ∷ b) x) (err_of {A = Pairs × List ℕ} (TooDeep, c ∷ b) d g)
+        (inl (refl, subst (λ y. value_fault 0 (y ∷ b) ≡ Some TooDeep) (sym i) refl))) bytes e h
 value_stops (suc room) bytes e h =
     level_stops (suc room) (λ s b. items_at (value_at room) (length b) b) (λ s b. pairs_at (value_at room) (length b) None b)
-    (λ c b d i g. subst (λ y. Further (suc room) a_value (y ∷ b) d) (sym i) (list_stops room b d (items_stop room (value_at room) (λ x y z. value_takes room x y z) (λ x y z. value_shorter room x y z) (λ x y z. value_stops room x y z) (length b) b d (omega arith) g)))
-    (λ c b d i g. subst (λ y. Further (suc room) a_value (y ∷ b) d) (sym i) (dict_stops room b d (pairs_stop room (value_at room) (λ x y z. value_takes room x y z) (λ x y z. value_shorter room x y z) (λ x y z. value_stops room x y z) (length b) None b d (omega arith) g))) bytes e h
+    (λ c b d i g. subst (λ y. Further (suc room) a_value (y ∷ b) d) (sym i)
+        (list_stops room b d (items_stop room (value_at room) (λ x y z. value_takes room x y z) (λ x y z. value_shorter room x y z)
+        (λ x y z. value_stops room x y z) (length b) b d (omega arith) g)))
+    (λ c b d i g. subst (λ y. Further (suc room) a_value (y ∷ b) d) (sym i)
+        (dict_stops room b d (pairs_stop room (value_at room) (λ x y z. value_takes room x y z) (λ x y z. value_shorter room x y z)
+        (λ x y z. value_stops room x y z) (length b) None b d (omega arith) g))) bytes e h
 
 -- the failing item stands in the input
 pub stopped_within : (room : ℕ) (bytes : List ℕ) (e : Failed) → Further room a_value bytes e → length e.1 ≤ length bytes
 stopped_within room bytes e (inl p) = omega (arith, ap length p.0)
 stopped_within room bytes e (inr (l, ls, due, left, front, parts, begun, fails)) = omega (arith, ap length parts, length-append front e.1)
 
-pub stops_from : (room : ℕ) (bytes : List ℕ) (e : Failed) (offset : ℕ) → room ≡ 128 → offset ≡ length bytes - length e.1 → Further room a_value bytes e → Stops bytes e.0 offset
+pub stops_from : (room : ℕ) (bytes : List ℕ) (e : Failed) (offset : ℕ) → room ≡ 128 → offset ≡ length bytes - length e.1 → Further room a_value bytes e
+    → Stops bytes e.0 offset
 stops_from room bytes e offset full place (inl p) =
-    record { levels = []; due = a_value; left = 128; front = []; rest = e.1; parts = p.0; place = omega (arith, ap length p.0); begun = (refl, refl, refl); fails = sym (table_is a_value 128 e.1) ∙ subst (λ r. scanned_fault a_value r e.1 ≡ Some e.0) full (subst (λ t. scanned_fault a_value room t ≡ Some e.0) p.0 p.1) }
+    record { levels = []; due = a_value; left = 128; front = []; rest = e.1; parts = p.0; place = omega (arith, ap length p.0); begun = (refl, refl, refl);
+        fails = sym (table_is a_value 128 e.1) ∙ subst (λ r. scanned_fault a_value r e.1 ≡ Some e.0) full (subst (λ t. scanned_fault a_value room t ≡ Some e.0)
+        p.0 p.1) }
 stops_from room bytes e offset full place (inr (l, ls, due, left, front, parts, begun, fails)) =
-    record { levels = l ∷ ls; due = due; left = left; front = front; rest = e.1; parts = parts; place = omega (arith, ap length parts, length-append front e.1); begun = subst (λ r. Begun r (l ∷ ls) front due left) full begun; fails = sym (table_is due left e.1) ∙ fails }
+    record { levels = l ∷ ls; due = due; left = left; front = front; rest = e.1; parts = parts; place = omega (arith, ap length parts, length-append front e.1);
+        begun = subst (λ r. Begun r (l ∷ ls) front due left) full begun; fails = sym (table_is due left e.1) ∙ fails }
 
 -- no line of the table says that memory ran out
 abbrev IsNamed : Option FaultKind → Type 0
@@ -275,11 +319,13 @@ told_named (Err f) n h = let same : f ≡ NoMemory = cc in n (ap (λ k. Err k) s
 
 integer_of_named : (minus : Bool) (run after : List ℕ) → NamedErr (integer_of minus run after)
 integer_of_named minus run [] = err_named Truncated named_truncated
-integer_of_named minus run (c ∷ rest) = err_choice _ _ _ (err_named BadInteger (λ h. absurd cc)) (err_choice _ _ _ (ok_named _) (err_named IntegerRange (λ h. absurd cc)))
+integer_of_named minus run (c ∷ rest) = err_choice _ _ _ (err_named BadInteger (λ h. absurd cc))
+    (err_choice _ _ _ (ok_named _) (err_named IntegerRange (λ h. absurd cc)))
 
 integer_named : (bytes : List ℕ) → NamedErr (integer_at bytes)
 integer_named [] = integer_of_named false (digits_of_front []) (after_digits [])
-integer_named (c ∷ rest) = err_choice _ _ _ (integer_of_named true (digits_of_front rest) (after_digits rest)) (integer_of_named false (digits_of_front (c ∷ rest)) (after_digits (c ∷ rest)))
+integer_named (c ∷ rest) = err_choice _ _ _ (integer_of_named true (digits_of_front rest) (after_digits rest))
+    (integer_of_named false (digits_of_front (c ∷ rest)) (after_digits (c ∷ rest)))
 
 string_of_named : (run after : List ℕ) → NamedErr (string_of run after)
 string_of_named run [] = err_named Truncated named_truncated
@@ -300,7 +346,8 @@ value_named : (left : ℕ) (bytes : List ℕ) → IsNamed (value_fault left byte
 value_named left [] = named_truncated
 value_named left (c ∷ rest) =
     named_choice (eqb c 105) _ _ (told_named (integer_at rest) (integer_named rest))
-    (named_choice (eqb c 108 || eqb c 100) _ _ (named_choice (eqb left 0) _ _ named_deep named_none) (named_choice (is_digit c) _ _ (told_named (string_at (c ∷ rest)) (string_named (c ∷ rest))) named_bad_start))
+    (named_choice (eqb c 108 || eqb c 100) _ _ (named_choice (eqb left 0) _ _ named_deep named_none)
+        (named_choice (is_digit c) _ _ (told_named (string_at (c ∷ rest)) (string_named (c ∷ rest))) named_bad_start))
 
 end_named : (bytes : List ℕ) (o : Option FaultKind) → IsNamed o → IsNamed (fault_unless_end bytes o)
 end_named [] o n = n

@@ -22,7 +22,8 @@ choose true v o p = refl
 choose false v o p = refl
 
 -- the first value under a key, where a pair comes at the end
-pub under_push : (key : List ℕ) (ps : List Pair) (x : Pair) → under key (pairs_view (ps ++ x ∷ [])) ≡ option_or (under key (pairs_view ps)) (value_if_key key (pair_view x))
+pub under_push : (key : List ℕ) (ps : List Pair) (x : Pair)
+    → under key (pairs_view (ps ++ x ∷ [])) ≡ option_or (under key (pairs_view ps)) (value_if_key key (pair_view x))
 under_push key [] x = refl
 under_push key (p ∷ ps) x =
     let k = (pair_view p).0 in
@@ -38,7 +39,8 @@ map_if f true v t e = ap (λ x. Some x) (sym e)
 map_if f false v t e = refl
 
 -- the bytes of the value under a key that is asked for, where a pair comes at the end
-pub span_push : (asked : Option (List ℕ)) (old told new : Option (Bor (List ℕ))) (ps all : List Pair) (x : Pair) (k : List ℕ) (v : Bencode) (t : List ℕ) → all ≡ ps ++ x ∷ [] → pair_view x ≡ (k, v)
+pub span_push : (asked : Option (List ℕ)) (old told new : Option (Bor (List ℕ))) (ps all : List Pair) (x : Pair) (k : List ℕ) (v : Bencode) (t : List ℕ)
+    → all ≡ ps ++ x ∷ [] → pair_view x ≡ (k, v)
     → IfSome asked (λ key. option_copied old ≡ option_map spelling (under key (pairs_view ps)))
     → IfSome asked (λ key. option_copied told ≡ cond (bytes_eq k key) (Some t) None)
     → t ≡ spelling v → new ≡ option_or old told
@@ -47,18 +49,21 @@ span_push None old told new ps all x k v t end seen h g e n = tt
 span_push (Some key) old told new ps all x k v t end seen h g e n =
     let joined : option_copied new ≡ option_or (option_copied old) (option_copied told) = ap option_copied n ∙ copied_or old told in
     joined ∙ ap₂ option_or h (g ∙ sym (map_if spelling (bytes_eq k key) v t e)) ∙ sym (map_or spelling (under key (pairs_view ps)) (value_if_key key (k, v)))
-    ∙ ap (λ s. option_map spelling (option_or (under key (pairs_view ps)) (value_if_key key s))) (sym seen) ∙ ap (option_map spelling) (sym (under_push key ps x)) ∙ ap (λ ys. option_map spelling (under key (pairs_view ys))) (sym end)
+    ∙ ap (λ s. option_map spelling (option_or (under key (pairs_view ps)) (value_if_key key s))) (sym seen)
+    ∙ ap (option_map spelling) (sym (under_push key ps x)) ∙ ap (λ ys. option_map spelling (under key (pairs_view ys))) (sym end)
   where
     copied_or : (o p : Option (Bor (List ℕ))) → option_copied (option_or o p) ≡ option_or (option_copied o) (option_copied p)
     copied_or None p = refl
     copied_or (Some y) p = refl
 
 -- the bytes of a value stand behind its key
-pub under_stands : (key : List ℕ) (ps : Pairs) (w : Bencode) → under key ps ≡ Some w → (front rest : List ℕ) × (pairs_spelling ps ≡ front ++ (string key ++ (spelling w ++ rest)))
+pub under_stands : (key : List ℕ) (ps : Pairs) (w : Bencode) → under key ps ≡ Some w
+    → (front rest : List ℕ) × (pairs_spelling ps ≡ front ++ (string key ++ (spelling w ++ rest)))
 under_stands key no_pairs w h = absurd cc
 under_stands key (pair k v ps) w h = by_key (λ g. under_stands key ps w g) (bytes_eq k key) refl h
   where
-    by_key : (under key ps ≡ Some w → (front rest : List ℕ) × (pairs_spelling ps ≡ front ++ (string key ++ (spelling w ++ rest)))) → (b : Bool) → bytes_eq k key ≡ b → cond b (Some v) (under key ps) ≡ Some w
+    by_key : (under key ps ≡ Some w → (front rest : List ℕ) × (pairs_spelling ps ≡ front ++ (string key ++ (spelling w ++ rest)))) → (b : Bool)
+        → bytes_eq k key ≡ b → cond b (Some v) (under key ps) ≡ Some w
         → (front rest : List ℕ) × (pairs_spelling (pair k v ps) ≡ front ++ (string key ++ (spelling w ++ rest)))
     by_key later true e g =
         let same : k ≡ key = (bytes_eq-Decides k key).0 e in
@@ -68,7 +73,8 @@ under_stands key (pair k v ps) w h = by_key (λ g. under_stands key ps w g) (byt
         let found = later g in (
           string k ++ (spelling v ++ found.0),
           found.1,
-          ap (λ t. string k ++ (spelling v ++ t)) found.2 ∙ ap (λ t. string k ++ t) (sym (append_assoc (spelling v) found.0 (string key ++ (spelling w ++ found.1))))
+          ap (λ t. string k ++ (spelling v ++ t)) found.2
+              ∙ ap (λ t. string k ++ t) (sym (append_assoc (spelling v) found.0 (string key ++ (spelling w ++ found.1))))
               ∙ sym (append_assoc (string k) (spelling v ++ found.0) (string key ++ (spelling w ++ found.1))),
         )
 
@@ -81,17 +87,21 @@ get_stands key input (dict ps) w s h =
       100 ∷ found.0,
       found.1 ++ 101 ∷ [],
       spelled_is 128 (dict ps) input s ∙ ap (λ t. 100 ∷ (t ++ 101 ∷ [])) found.2
-          ∙ ap (λ t. 100 ∷ t) (append_assoc found.0 (string key ++ (spelling w ++ found.1)) (101 ∷ []) ∙ ap (λ t. found.0 ++ t) (append_assoc (string key) (spelling w ++ found.1) (101 ∷ []) ∙ ap (λ t. string key ++ t) (append_assoc (spelling w) found.1 (101 ∷ [])))),
+          ∙ ap (λ t. 100 ∷ t) (append_assoc found.0 (string key ++ (spelling w ++ found.1)) (101 ∷ [])
+              ∙ ap (λ t. found.0 ++ t) (append_assoc (string key) (spelling w ++ found.1) (101 ∷ [])
+              ∙ ap (λ t. string key ++ t) (append_assoc (spelling w) found.1 (101 ∷ [])))),
     )
 
 -- so the bytes of the value under a key, where there is one, stand in the input
-pub span_stands : (key input : List ℕ) (v : Bencode) (o : Option (List ℕ)) → Spells v input → o ≡ option_map spelling (get key v) → IfSome o (StandsUnder input key)
+pub span_stands : (key input : List ℕ) (v : Bencode) (o : Option (List ℕ)) → Spells v input → o ≡ option_map spelling (get key v)
+    → IfSome o (StandsUnder input key)
 span_stands key input v o s e = subst (λ p. IfSome p (StandsUnder input key)) (sym e) (by_value (get key v) refl)
   where
     by_value : (g : Option Bencode) → get key v ≡ g → IfSome (option_map spelling g) (StandsUnder input key)
     by_value None h = tt
     by_value (Some w) h = get_stands key input v w s h
 
-pub spans_stand : (asked : Option (List ℕ)) (input : List ℕ) (v : Bencode) (o : Option (List ℕ)) → Spells v input → IfSome asked (λ key. o ≡ option_map spelling (get key v)) → IfSome asked (λ key. IfSome o (StandsUnder input key))
+pub spans_stand : (asked : Option (List ℕ)) (input : List ℕ) (v : Bencode) (o : Option (List ℕ)) → Spells v input
+    → IfSome asked (λ key. o ≡ option_map spelling (get key v)) → IfSome asked (λ key. IfSome o (StandsUnder input key))
 spans_stand None input v o s e = tt
 spans_stand (Some key) input v o s e = span_stands key input v o s e

@@ -1,5 +1,6 @@
 -- Where a list or dictionary that may be opened is reached.
-use Rattle.std.proofs.Common.{◌≡◌, ℕ, suc, ◌-◌, ◌<◌, ◌≤◌, ◌^◌, List, [], ◌∷◌, ◌++◌, length, Option, Some, None, inl, inr, refl, sym, ap, ◌∙◌, subst, append_assoc, arith}
+use Rattle.std.proofs.Common.{◌≡◌, ℕ, suc, ◌-◌, ◌<◌, ◌≤◌, ◌^◌, List, [], ◌∷◌, ◌++◌, length, Option, Some, None, inl, inr, refl, sym, ap, ◌∙◌, subst}
+use Rattle.std.proofs.Common.{append_assoc, arith}
 use Rattle.std.proofs.lemmas.List.{append-nil, length-append}
 use Rattle.benc.specs.Value.{Bencode, no_pairs, pair}
 use Rattle.benc.specs.Spelling.{string, IsAbove, Spelled, SpelledItems, SpelledPairs}
@@ -12,14 +13,17 @@ use Rattle.benc.specs.declared.value.Value.{Value}
 use Rattle.benc.specs.declared.value.Pair.{Pair}
 
 -- finished items, where one comes at the end
-pub items_grow : (room : ℕ) (vs : List Value) (v : Value) (done front : List ℕ) → SpelledItems room (items_view vs) done → Spelled room (view v) front → SpelledItems room (items_view (vs ++ v ∷ [])) (done ++ front)
+pub items_grow : (room : ℕ) (vs : List Value) (v : Value) (done front : List ℕ) → SpelledItems room (items_view vs) done → Spelled room (view v) front
+    → SpelledItems room (items_view (vs ++ v ∷ [])) (done ++ front)
 items_grow room [] v done front s t = (front, [], ap (λ d. d ++ front) s ∙ sym (append-nil front), t, refl)
 items_grow room (w ∷ vs) v done front s t =
     (s.0, s.1 ++ front, ap (λ d. d ++ front) s.2 ∙ append_assoc s.0 s.1 front, s.3, items_grow room vs v s.1 front s.4 t)
 
 -- finished pairs, where one comes at the end
-pub pairs_grow : (room : ℕ) (before : Option (List ℕ)) (ps : List Pair) (x : Pair) (k : List ℕ) (v : Bencode) (done front : List ℕ) → pair_view x ≡ (k, v) → SpelledPairs room before (pairs_view ps) done
-    → length k < 10 ^ 10 → IsAbove k (last_key before (pairs_view ps)) → Spelled room v front → SpelledPairs room before (pairs_view (ps ++ x ∷ [])) (done ++ (string k ++ front))
+pub pairs_grow : (room : ℕ) (before : Option (List ℕ)) (ps : List Pair) (x : Pair) (k : List ℕ) (v : Bencode) (done front : List ℕ) → pair_view x ≡ (k, v)
+    → SpelledPairs room before (pairs_view ps) done
+    → length k < 10 ^ 10 → IsAbove k (last_key before (pairs_view ps)) → Spelled room v front
+    → SpelledPairs room before (pairs_view (ps ++ x ∷ [])) (done ++ (string k ++ front))
 pairs_grow room before [] x k v done front seen s small above t =
     subst (λ (y : Seen). SpelledPairs room before (pair y.0 y.1 no_pairs) (done ++ (string k ++ front))) (sym seen)
     (front, [], ap (λ d. d ++ (string k ++ front)) s ∙ ap (λ b. string k ++ b) (sym (append-nil front)), small, above, t, refl)
@@ -44,16 +48,19 @@ memory_on (stops.Memory rest) P Q h x = h rest.now x
 memory_on (stops.Fault f rest) P Q h x = tt
 
 -- the first of some finished items, and of some finished pairs
-pub has_item : (room : ℕ) (vs : List Value) (v : Value) (bytes done front rest : List ℕ) → bytes ≡ done ++ (front ++ rest) → SpelledItems room (items_view vs) done → Spelled room (view v) front → HasItem room bytes
+pub has_item : (room : ℕ) (vs : List Value) (v : Value) (bytes done front rest : List ℕ) → bytes ≡ done ++ (front ++ rest)
+    → SpelledItems room (items_view vs) done → Spelled room (view v) front → HasItem room bytes
 has_item room [] v bytes done front rest e s t = (view v, front, rest, e ∙ ap (λ d. d ++ (front ++ rest)) s, (front, [], sym (append-nil front), t, refl))
 has_item room (w ∷ vs) v bytes done front rest e s t =
     let more = front ++ rest in
     (view w, s.0, s.1 ++ more, e ∙ ap (λ d. d ++ more) s.2 ∙ append_assoc s.0 s.1 more, (s.0, [], sym (append-nil s.0), s.3, refl))
 
-pub has_pair : (room : ℕ) (ps : List Pair) (k : List ℕ) (v : Bencode) (bytes done front rest : List ℕ) → bytes ≡ done ++ (string k ++ (front ++ rest)) → SpelledPairs room None (pairs_view ps) done
+pub has_pair : (room : ℕ) (ps : List Pair) (k : List ℕ) (v : Bencode) (bytes done front rest : List ℕ) → bytes ≡ done ++ (string k ++ (front ++ rest))
+    → SpelledPairs room None (pairs_view ps) done
     → length k < 10 ^ 10 → IsAbove k (last_key None (pairs_view ps)) → Spelled room v front → HasPair room bytes
 has_pair room [] k v bytes done front rest e s small above t =
-    (k, v, string k ++ front, rest, e ∙ ap (λ d. d ++ (string k ++ (front ++ rest))) s ∙ sym (append_assoc (string k) front rest), (front, [], ap (λ b. string k ++ b) (sym (append-nil front)), small, above, t, refl))
+    (k, v, string k ++ front, rest, e ∙ ap (λ d. d ++ (string k ++ (front ++ rest))) s ∙ sym (append_assoc (string k) front rest),
+        (front, [], ap (λ b. string k ++ b) (sym (append-nil front)), small, above, t, refl))
 has_pair room (p ∷ ps) k v bytes done front rest e s small above t =
     let more = string k ++ (front ++ rest) in
     let name = string (pair_view p).0 in (
@@ -61,7 +68,8 @@ has_pair room (p ∷ ps) k v bytes done front rest e s small above t =
       (pair_view p).1,
       name ++ s.0,
       s.1 ++ more,
-      e ∙ ap (λ d. d ++ more) s.2 ∙ append_assoc name (s.0 ++ s.1) more ∙ ap (λ b. name ++ b) (append_assoc s.0 s.1 more) ∙ sym (append_assoc name s.0 (s.1 ++ more)),
+      e ∙ ap (λ d. d ++ more) s.2 ∙ append_assoc name (s.0 ++ s.1) more ∙ ap (λ b. name ++ b) (append_assoc s.0 s.1 more)
+          ∙ sym (append_assoc name s.0 (s.1 ++ more)),
       (s.0, [], ap (λ b. name ++ b) (sym (append-nil s.0)), s.3, s.4, s.5, refl),
     )
 

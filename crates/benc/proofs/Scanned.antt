@@ -1,5 +1,6 @@
 -- The fault of an item by reading it, and that it is the fault that the table has.
-use Rattle.std.proofs.Common.{◌≡◌, ℕ, suc, Bool, true, false, not, ◌&&◌, ◌||◌, ◌==◌, if◌then◌else◌, cond, eqb, ltb, List, [], ◌∷◌, ◌++◌, length, get_or, take, drop, Option, Some, None, Result, Ok, Err, refl, sym, ap, ◌∙◌, arith}
+use Rattle.std.proofs.Common.{◌≡◌, ℕ, suc, Bool, true, false, not, ◌&&◌, ◌||◌, ◌==◌, if◌then◌else◌, cond, eqb, ltb, List, [], ◌∷◌, ◌++◌, length, get_or, take}
+use Rattle.std.proofs.Common.{drop, Option, Some, None, Result, Ok, Err, refl, sym, ap, ◌∙◌, arith}
 use Rattle.std.specs.List.{prefix_len}
 use Rattle.std.specs.Str.Parse.{digits_value}
 use Rattle.std.proofs.lemmas.Bool.Decides.{nat_tests}
@@ -7,7 +8,8 @@ use Rattle.std.proofs.lemmas.Bool.{eqb-true}
 use Rattle.benc.specs.Digits.{after_digits, digits_of_front, in_range, is_digit, signed}
 use Rattle.benc.specs.Spelling.{is_above}
 use Rattle.benc.specs.Items.{in_order, integer_at, integer_of, is_plain, key_at, string_at, string_of}
-use Rattle.benc.specs.Table.{Row, first_row, has_leading_zero, has_ended, digit_rows, integer_rows, is_zero, key_rows, length_rows, string_bytes, string_rows, unless_end, value_rows}
+use Rattle.benc.specs.Table.{Row, first_row, has_leading_zero, has_ended, digit_rows, integer_rows, is_zero, key_rows, length_rows, string_bytes, string_rows}
+use Rattle.benc.specs.Table.{unless_end, value_rows}
 use Rattle.benc.specs.Fails.{Due, a_key_or_end, a_value, a_value_or_end, item_fault}
 use Rattle.benc.specs.declared.fault.FaultKind.{FaultKind}
 use Rattle.benc.specs.declared.fault.FaultKind.TheVariants.{Truncated, BadStart, BadInteger, IntegerRange, BadLength, KeyOrder, TooDeep}
@@ -84,29 +86,35 @@ digits_told : (minus : Bool) (run after : List ℕ) → fault_of (integer_of min
 digits_told minus run [] = refl
 digits_told minus run (c ∷ rest) =
     let n = digits_value 10 run in
-    let test : (not (eqb c 101) || not (is_plain run) || (minus && eqb (get_or run 0 0) 48)) ≡ (not (eqb c 101) || has_ended run || has_leading_zero run || (minus && is_zero run)) =
-    or_assoc (not (eqb c 101)) (not (is_plain run)) (minus && eqb (get_or run 0 0) 48) ∙ ap (λ b. not (eqb c 101) || b) (zero_is run minus) ∙ sym (or_four (not (eqb c 101)) (has_ended run) (has_leading_zero run) (minus && is_zero run)) in
-    two_rows _ (in_range minus n) BadInteger IntegerRange (signed minus n, rest) ∙ ap (λ b. cond b (Some BadInteger) (cond (not (in_range minus n)) (Some IntegerRange) None)) test
+    let test : (not (eqb c 101) || not (is_plain run) || (minus && eqb (get_or run 0 0) 48)) ≡ (not (eqb c 101) || has_ended run || has_leading_zero
+        run || (minus && is_zero run)) =
+    or_assoc (not (eqb c 101)) (not (is_plain run)) (minus && eqb (get_or run 0 0) 48) ∙ ap (λ b. not (eqb c 101) || b) (zero_is run minus)
+        ∙ sym (or_four (not (eqb c 101)) (has_ended run) (has_leading_zero run) (minus && is_zero run)) in
+    two_rows _ (in_range minus n) BadInteger IntegerRange (signed minus n, rest)
+        ∙ ap (λ b. cond b (Some BadInteger) (cond (not (in_range minus n)) (Some IntegerRange) None)) test
 
 integer_told : (bytes : List ℕ) → fault_of (integer_at bytes) ≡ first_row (integer_rows bytes)
 integer_told [] = digits_told false (digits_of_front []) (after_digits [])
 integer_told (c ∷ rest) = by_sign (eqb c 45)
   where
-    by_sign : (m : Bool) → fault_of (cond m (integer_of true (digits_of_front rest) (after_digits rest)) (integer_of false (digits_of_front (c ∷ rest)) (after_digits (c ∷ rest))))
+    by_sign : (m : Bool) → fault_of (cond m (integer_of true (digits_of_front rest) (after_digits rest))
+        (integer_of false (digits_of_front (c ∷ rest)) (after_digits (c ∷ rest))))
         ≡ first_row (digit_rows m (digits_of_front (cond m rest (c ∷ rest))) (after_digits (cond m rest (c ∷ rest))))
     by_sign true = digits_told true (digits_of_front rest) (after_digits rest)
     by_sign false = digits_told false (digits_of_front (c ∷ rest)) (after_digits (c ∷ rest))
 
 -- the test of a length, whose run is not empty
 length_test : (a s : Bool) (run : List ℕ) → has_ended run ≡ false → (a || not (is_plain run) || s) ≡ (a || has_leading_zero run || s)
-length_test a s run some = ap (λ b. a || not b || s) (plain_is run ∙ ap (λ b. not (b || has_leading_zero run)) some) ∙ ap (λ b. a || b || s) (twice (has_leading_zero run))
+length_test a s run some = ap (λ b. a || not b || s) (plain_is run ∙ ap (λ b. not (b || has_leading_zero run)) some)
+    ∙ ap (λ b. a || b || s) (twice (has_leading_zero run))
   where
     twice : (b : Bool) → not (not (false || b)) ≡ b
     twice true = refl
     twice false = refl
 
 -- a guard, a second one, and then a last test of what was read
-more_rows : (a b : Bool) (f g h : FaultKind) (before : Option (List ℕ)) (k : List ℕ × List ℕ) → fault_of (in_order before (cond a (Err f) (cond b (Err g) (Ok k)))) ≡ first_row ((a, f) ∷ (b, g) ∷ (not (is_above k.0 before), KeyOrder) ∷ [])
+more_rows : (a b : Bool) (f g h : FaultKind) (before : Option (List ℕ)) (k : List ℕ × List ℕ)
+    → fault_of (in_order before (cond a (Err f) (cond b (Err g) (Ok k)))) ≡ first_row ((a, f) ∷ (b, g) ∷ (not (is_above k.0 before), KeyOrder) ∷ [])
 more_rows true b f g h before k = refl
 more_rows false true f g h before k = refl
 more_rows false false f g h before k = by_order (is_above k.0 before)
@@ -128,12 +136,14 @@ string_told run (c ∷ rest) some =
     ∙ ap (λ b. cond b (Some BadLength) (cond (ltb (length rest) n) (Some Truncated) None)) (length_test (not (eqb c 58)) (ltb 10 (length run)) run some)
 
 key_told : (run after : List ℕ) (before : Option (List ℕ)) → has_ended run ≡ false
-    → fault_of (in_order before (string_of run after)) ≡ first_row (length_rows run after ++ (not (is_above (take (digits_value 10 run) (drop 1 after)) before), KeyOrder) ∷ [])
+    → fault_of (in_order before (string_of run after)) ≡ first_row (length_rows run after ++ (not (is_above (take (digits_value 10 run) (drop 1 after)) before),
+        KeyOrder) ∷ [])
 key_told run [] before some = refl
 key_told run (c ∷ rest) before some =
     let n = digits_value 10 run in
     more_rows _ (ltb (length rest) n) BadLength Truncated KeyOrder before (take n rest, drop n rest)
-    ∙ ap (λ b. cond b (Some BadLength) (cond (ltb (length rest) n) (Some Truncated) (cond (not (is_above (take n rest) before)) (Some KeyOrder) None))) (length_test (not (eqb c 58)) (ltb 10 (length run)) run some)
+    ∙ ap (λ b. cond b (Some BadLength) (cond (ltb (length rest) n) (Some Truncated) (cond (not (is_above (take n rest) before)) (Some KeyOrder) None)))
+        (length_test (not (eqb c 58)) (ltb 10 (length run)) run some)
 
 -- a run is not empty behind a digit
 starts : (c : ℕ) (rest : List ℕ) → is_digit c ≡ true → has_ended (digits_of_front (c ∷ rest)) ≡ false

@@ -1,5 +1,6 @@
 -- What is read is spelled so.
-use Rattle.std.proofs.Common.{◌≡◌, ℕ, zero, suc, ◌-◌, ◌<◌, ◌≤◌, ◌^◌, Bool, true, false, not, ◌&&◌, ◌||◌, cond, eqb, ltb, List, [], ◌∷◌, ◌++◌, length, get_or, take, drop, Option, Some, None, Result, Ok, Err, ℤ, refl, sym, ap, ◌∙◌, subst, append_assoc, arith}
+use Rattle.std.proofs.Common.{◌≡◌, ℕ, zero, suc, ◌-◌, ◌<◌, ◌≤◌, ◌^◌, Bool, true, false, not, ◌&&◌, ◌||◌, cond, eqb, ltb, List, [], ◌∷◌, ◌++◌, length, get_or}
+use Rattle.std.proofs.Common.{take, drop, Option, Some, None, Result, Ok, Err, ℤ, refl, sym, ap, ◌∙◌, subst, append_assoc, arith}
 use Rattle.std.specs.Prelude.{IsTrue, FitsSigned}
 use Rattle.std.specs.Int.{w64}
 use Rattle.std.specs.List.{prefix_len}
@@ -62,7 +63,8 @@ ok_is : {A : Type 0} (x y : A) → done {E = FaultKind} Truncated x ≡ done Tru
 ok_is x y e = cc
 
 -- the digits of a signed number
-signed_text : (minus : Bool) (run : List ℕ) → IsRun run → is_plain run ≡ true → (minus && eqb (get_or run 0 0) 48) ≡ false → in_range minus (digits_value 10 run) ≡ true
+signed_text : (minus : Bool) (run : List ℕ) → IsRun run → is_plain run ≡ true → (minus && eqb (get_or run 0 0) 48) ≡ false
+    → in_range minus (digits_value 10 run) ≡ true
     → FitsSigned w64 (signed minus (digits_value 10 run)) × (signed_decimal (signed minus (digits_value 10 run)) ≡ cond minus (45 ∷ run) run)
 signed_text false run h plain nz inside =
     let small : digits_value 10 run < 2 ^ 63 = grind (arith, nat_tests, inside) in
@@ -90,13 +92,15 @@ integer_of_takes minus run (c ∷ after) z rest h e =
     let s = signed_text minus run h t.1 t.2 b.0 in
     (rw (is_mark, is_rest) refl, subst (λ y. FitsSigned w64 y) is_z s.0, ap signed_decimal (sym is_z) ∙ s.1)
 
-digits_take : (minus : Bool) (bytes : List ℕ) (z : ℤ) (rest : List ℕ) → digits_at minus bytes ≡ Ok (z, rest) → FitsSigned w64 z × (cond minus (45 ∷ bytes) bytes ≡ signed_decimal z ++ 101 ∷ rest)
+digits_take : (minus : Bool) (bytes : List ℕ) (z : ℤ) (rest : List ℕ) → digits_at minus bytes ≡ Ok (z, rest)
+    → FitsSigned w64 z × (cond minus (45 ∷ bytes) bytes ≡ signed_decimal z ++ 101 ∷ rest)
 digits_take minus bytes z rest e =
     let t = integer_of_takes minus (digits_of_front bytes) (after_digits bytes) z rest (front_is_run bytes) e in
     let parts : digits_of_front bytes ++ after_digits bytes ≡ bytes = take-append-drop (prefix_len is_digit bytes) bytes in
     (t.1, with_sign minus (digits_of_front bytes) (after_digits bytes) parts t.0 t.2)
   where
-    with_sign : (m : Bool) (run after : List ℕ) → run ++ after ≡ bytes → after ≡ 101 ∷ rest → signed_decimal z ≡ cond m (45 ∷ run) run → cond m (45 ∷ bytes) bytes ≡ signed_decimal z ++ 101 ∷ rest
+    with_sign : (m : Bool) (run after : List ℕ) → run ++ after ≡ bytes → after ≡ 101 ∷ rest → signed_decimal z ≡ cond m (45 ∷ run) run
+        → cond m (45 ∷ bytes) bytes ≡ signed_decimal z ++ 101 ∷ rest
     with_sign true run after p q r = ap (λ b. 45 ∷ b) (sym p ∙ ap (λ t. run ++ t) q) ∙ ap (λ t. t ++ 101 ∷ rest) (sym r)
     with_sign false run after p q r = sym p ∙ ap (λ t. run ++ t) q ∙ ap (λ t. t ++ 101 ∷ rest) (sym r)
 
@@ -107,11 +111,13 @@ integer_takes (c ∷ bytes) z rest e = by_sign (eqb c 45) refl e
     spelled : (b : List ℕ) → (b ≡ signed_decimal z ++ 101 ∷ rest) → 105 ∷ b ≡ integer z ++ rest
     spelled b p = ap (λ t. 105 ∷ t) (p ∙ sym (append_assoc (signed_decimal z) (101 ∷ []) rest))
 
-    by_sign : (m : Bool) → eqb c 45 ≡ m → cond m (digits_at true bytes) (digits_at false (c ∷ bytes)) ≡ Ok (z, rest) → FitsSigned w64 z × (105 ∷ c ∷ bytes ≡ integer z ++ rest)
+    by_sign : (m : Bool) → eqb c 45 ≡ m → cond m (digits_at true bytes) (digits_at false (c ∷ bytes)) ≡ Ok (z, rest)
+        → FitsSigned w64 z × (105 ∷ c ∷ bytes ≡ integer z ++ rest)
     by_sign true s f = let d = digits_take true bytes z rest f in (d.0, spelled (c ∷ bytes) (ap (λ x. x ∷ bytes) (eqb-true c 45 s) ∙ d.1))
     by_sign false s f = let d = digits_take false (c ∷ bytes) z rest f in (d.0, spelled (c ∷ bytes) d.1)
 
-string_of_takes : (run after s rest : List ℕ) → IsRun run → string_of run after ≡ Ok (s, rest) → (length s < 10 ^ 10) × (run ≡ decimal (length s)) × (after ≡ 58 ∷ (s ++ rest))
+string_of_takes : (run after s rest : List ℕ) → IsRun run → string_of run after ≡ Ok (s, rest) → (length s < 10 ^ 10) × (run ≡ decimal (length s))
+    × (after ≡ 58 ∷ (s ++ rest))
 string_of_takes run [] s rest h e = absurd cc
 string_of_takes run (c ∷ after) s rest h e =
     let n = digits_value 10 run in
@@ -144,7 +150,8 @@ ordered before (Ok x) k e =
     (ap (λ y. Ok y) g.1, subst (λ (y : List ℕ × List ℕ). IsAbove y.0 before) g.1 (above x.0 before g.0))
 ordered before (Err f) k e = absurd cc
 
-pub key_takes : (before : Option (List ℕ)) (bytes k rest : List ℕ) → key_at before bytes ≡ Ok (k, rest) → (length k < 10 ^ 10) × IsAbove k before × (bytes ≡ string k ++ rest)
+pub key_takes : (before : Option (List ℕ)) (bytes k rest : List ℕ) → key_at before bytes ≡ Ok (k, rest) → (length k < 10 ^ 10) × IsAbove k before
+    × (bytes ≡ string k ++ rest)
 key_takes before [] k rest e = absurd cc
 key_takes before (c ∷ bytes) k rest e =
     let g = guarded (is_digit c) e in
@@ -152,7 +159,8 @@ key_takes before (c ∷ bytes) k rest e =
     let s = string_takes (c ∷ bytes) k rest o.0 in
     (s.0, o.1, s.1)
   where
-    guarded : (b : Bool) → cond b (in_order before (string_at (c ∷ bytes))) (Err BadStart) ≡ Ok (k, rest) → in_order before (string_at (c ∷ bytes)) ≡ Ok (k, rest)
+    guarded : (b : Bool) → cond b (in_order before (string_at (c ∷ bytes))) (Err BadStart) ≡ Ok (k, rest)
+        → in_order before (string_at (c ∷ bytes)) ≡ Ok (k, rest)
     guarded true h = h
     guarded false h = absurd cc
 
@@ -195,7 +203,8 @@ module _ (room : ℕ) (read : List ℕ → Parsed Bencode) (sound : (b : List �
           let first = sound (c ∷ bytes) a.0 a.1 in
           let rest = again a.0.1 b.0 b.1 in
           subst (λ y. Inner (c ∷ bytes) y) (ok_of (item a.0.0 b.0.0, b.0.1) x b.2)
-          (first.0 ++ rest.0, first.1 ∙ ap (λ t. first.0 ++ t) rest.1 ∙ sym (append_assoc first.0 rest.0 (101 ∷ b.0.1)), (first.0, rest.0, refl, first.2, rest.2))
+          (first.0 ++ rest.0, first.1 ∙ ap (λ t. first.0 ++ t) rest.1 ∙ sym (append_assoc first.0 rest.0 (101 ∷ b.0.1)),
+              (first.0, rest.0, refl, first.2, rest.2))
 
   abbrev InnerPairs : Option (List ℕ) → List ℕ → Pairs × List ℕ → Type 0
   InnerPairs before bytes x = (inner : List ℕ) × (bytes ≡ inner ++ 101 ∷ x.1) × SpelledPairs room before x.0 inner
@@ -208,10 +217,12 @@ module _ (room : ℕ) (read : List ℕ → Parsed Bencode) (sound : (b : List �
   pairs_take (suc n) before (c ∷ bytes) x e = by_mark (λ k b y h. pairs_take n (Some k) b y h) (eqb c 101) refl e
     where
       by_mark : ((k b : List ℕ) (y : Pairs × List ℕ) → pairs_at read n (Some k) b ≡ Ok y → InnerPairs (Some k) b y) → (m : Bool) → eqb c 101 ≡ m
-          → cond m (Ok (no_pairs, bytes)) (begun_at (c ∷ bytes) (key_at before (c ∷ bytes)) >>= λ k. read k.1 >>= λ y. pairs_at read n (Some k.0) y.1 >>= λ z. Ok (pair k.0 y.0 z.0, z.1)) ≡ Ok x → InnerPairs before (c ∷ bytes) x
+          → cond m (Ok (no_pairs, bytes)) (begun_at (c ∷ bytes) (key_at before (c ∷ bytes)) >>= λ k. read k.1 >>= λ y. pairs_at read n (Some k.0) y.1 >>= λ z.
+              Ok (pair k.0 y.0 z.0, z.1)) ≡ Ok x → InnerPairs before (c ∷ bytes) x
       by_mark again true m f = subst (λ y. InnerPairs before (c ∷ bytes) y) (ok_of (no_pairs, bytes) x f) ([], ap (λ d. d ∷ bytes) (eqb-true c 101 m), refl)
       by_mark again false m f =
-          let k = bind_ok (begun_at (c ∷ bytes) (key_at before (c ∷ bytes))) (λ k. read k.1 >>= λ y. pairs_at read n (Some k.0) y.1 >>= λ z. Ok (pair k.0 y.0 z.0, z.1)) x f in
+          let k = bind_ok (begun_at (c ∷ bytes) (key_at before (c ∷ bytes))) (λ k. read k.1 >>= λ y. pairs_at read n (Some k.0) y.1 >>= λ z. Ok
+              (pair k.0 y.0 z.0, z.1)) x f in
           let a = bind_ok (read k.0.1) (λ y. pairs_at read n (Some k.0.0) y.1 >>= λ z. Ok (pair k.0.0 y.0 z.0, z.1)) x k.2 in
           let b = bind_ok (pairs_at read n (Some k.0.0) a.0.1) (λ z. Ok (pair k.0.0 a.0.0 z.0, z.1)) x a.2 in
           let name = key_takes before (c ∷ bytes) k.0.0 k.0.1 (began (c ∷ bytes) (key_at before (c ∷ bytes)) k.0 k.1) in
@@ -220,14 +231,17 @@ module _ (room : ℕ) (read : List ℕ → Parsed Bencode) (sound : (b : List �
           let s = string k.0.0 in
           subst (λ y. InnerPairs before (c ∷ bytes) y) (ok_of (pair k.0.0 a.0.0 b.0.0, b.0.1) x b.2) (
             s ++ (first.0 ++ rest.0),
-            name.2 ∙ ap (λ t. s ++ t) (first.1 ∙ ap (λ t. first.0 ++ t) rest.1 ∙ sym (append_assoc first.0 rest.0 (101 ∷ b.0.1))) ∙ sym (append_assoc s (first.0 ++ rest.0) (101 ∷ b.0.1)),
+            name.2 ∙ ap (λ t. s ++ t) (first.1 ∙ ap (λ t. first.0 ++ t) rest.1 ∙ sym (append_assoc first.0 rest.0 (101 ∷ b.0.1)))
+                ∙ sym (append_assoc s (first.0 ++ rest.0) (101 ∷ b.0.1)),
             (first.0, rest.0, refl, name.0, name.1, first.2, rest.2),
           )
 
 -- one level: what lists and dictionaries give is given
 module _ (room : ℕ) (ls : List ℕ → List ℕ → Parsed Items) (ds : List ℕ → List ℕ → Parsed Pairs)
-    (list_sound : (s b : List ℕ) (x : Items × List ℕ) → ls s b ≡ Ok x → (0 < room) × (inner : List ℕ) × (b ≡ inner ++ 101 ∷ x.1) × SpelledItems (room - 1) x.0 inner)
-    (dict_sound : (s b : List ℕ) (x : Pairs × List ℕ) → ds s b ≡ Ok x → (0 < room) × (inner : List ℕ) × (b ≡ inner ++ 101 ∷ x.1) × SpelledPairs (room - 1) None x.0 inner) where
+    (list_sound : (s b : List ℕ) (x : Items × List ℕ) → ls s b ≡ Ok x → (0 < room) × (inner : List ℕ) × (b ≡ inner ++ 101 ∷ x.1)
+        × SpelledItems (room - 1) x.0 inner)
+    (dict_sound : (s b : List ℕ) (x : Pairs × List ℕ) → ds s b ≡ Ok x → (0 < room) × (inner : List ℕ) × (b ≡ inner ++ 101 ∷ x.1)
+        × SpelledPairs (room - 1) None x.0 inner) where
   level_takes : (bytes : List ℕ) (x : Bencode × List ℕ) → value_with ls ds bytes ≡ Ok x → TakesFront (Spelled room) bytes x.0 x.1
   level_takes [] x e = absurd cc
   level_takes (c ∷ bytes) x e = by_i (eqb c 105) refl e
@@ -235,39 +249,47 @@ module _ (room : ℕ) (ls : List ℕ → List ℕ → Parsed Items) (ds : List �
       Goal : Bencode × List ℕ → Type 0
       Goal y = TakesFront (Spelled room) (c ∷ bytes) y.0 y.1
 
-      by_digit : (m : Bool) → is_digit c ≡ m → cond m (begun_at (c ∷ bytes) (string_at (c ∷ bytes)) >>= λ y. Ok (text y.0, y.1)) (Err (BadStart, c ∷ bytes)) ≡ Ok x → TakesFront (Spelled room) (c ∷ bytes) x.0 x.1
+      by_digit : (m : Bool) → is_digit c ≡ m → cond m (begun_at (c ∷ bytes) (string_at (c ∷ bytes)) >>= λ y. Ok (text y.0, y.1)) (Err (BadStart, c ∷ bytes))
+          ≡ Ok x → TakesFront (Spelled room) (c ∷ bytes) x.0 x.1
       by_digit false m f = absurd cc
       by_digit true m f =
           let a = bind_ok (begun_at (c ∷ bytes) (string_at (c ∷ bytes))) (λ y. Ok (text y.0, y.1)) x f in
           let t = string_takes (c ∷ bytes) a.0.0 a.0.1 (began (c ∷ bytes) (string_at (c ∷ bytes)) a.0 a.1) in
           subst (λ (y : Bencode × List ℕ). TakesFront (Spelled room) (c ∷ bytes) y.0 y.1) (ok_of (text a.0.0, a.0.1) x a.2) (string a.0.0, t.1, (t.0, refl))
 
-      by_d : (m : Bool) → eqb c 100 ≡ m → cond m (ds (c ∷ bytes) bytes >>= λ y. Ok (dict y.0, y.1)) (cond (is_digit c) (begun_at (c ∷ bytes) (string_at (c ∷ bytes)) >>= λ y. Ok (text y.0, y.1)) (Err (BadStart, c ∷ bytes))) ≡ Ok x
+      by_d : (m : Bool) → eqb c 100 ≡ m → cond m (ds (c ∷ bytes) bytes >>= λ y. Ok (dict y.0, y.1))
+          (cond (is_digit c) (begun_at (c ∷ bytes) (string_at (c ∷ bytes)) >>= λ y. Ok (text y.0, y.1)) (Err (BadStart, c ∷ bytes))) ≡ Ok x
           → TakesFront (Spelled room) (c ∷ bytes) x.0 x.1
       by_d true m f =
           let a = bind_ok (ds (c ∷ bytes) bytes) (λ y. Ok (dict y.0, y.1)) x f in
           let t = dict_sound (c ∷ bytes) bytes a.0 a.1 in
           subst (λ (y : Bencode × List ℕ). TakesFront (Spelled room) (c ∷ bytes) y.0 y.1) (ok_of (dict a.0.0, a.0.1) x a.2)
-          (100 ∷ (t.1 ++ 101 ∷ []), ap (λ d. d ∷ bytes) (eqb-true c 100 m) ∙ ap (λ z. 100 ∷ z) (t.2 ∙ sym (append_assoc t.1 (101 ∷ []) a.0.1)), (t.0, t.1, refl, t.3))
+          (100 ∷ (t.1 ++ 101 ∷ []), ap (λ d. d ∷ bytes) (eqb-true c 100 m) ∙ ap (λ z. 100 ∷ z) (t.2 ∙ sym (append_assoc t.1 (101 ∷ []) a.0.1)),
+              (t.0, t.1, refl, t.3))
       by_d false m f = by_digit (is_digit c) refl f
 
       by_l : (m : Bool) → eqb c 108 ≡ m
-          → cond m (ls (c ∷ bytes) bytes >>= λ y. Ok (list y.0, y.1)) (cond (eqb c 100) (ds (c ∷ bytes) bytes >>= λ y. Ok (dict y.0, y.1)) (cond (is_digit c) (begun_at (c ∷ bytes) (string_at (c ∷ bytes)) >>= λ y. Ok (text y.0, y.1)) (Err (BadStart, c ∷ bytes)))) ≡ Ok x
+          → cond m (ls (c ∷ bytes) bytes >>= λ y. Ok (list y.0, y.1)) (cond (eqb c 100) (ds (c ∷ bytes) bytes >>= λ y. Ok (dict y.0, y.1))
+              (cond (is_digit c) (begun_at (c ∷ bytes) (string_at (c ∷ bytes)) >>= λ y. Ok (text y.0, y.1)) (Err (BadStart, c ∷ bytes)))) ≡ Ok x
           → TakesFront (Spelled room) (c ∷ bytes) x.0 x.1
       by_l true m f =
           let a = bind_ok (ls (c ∷ bytes) bytes) (λ y. Ok (list y.0, y.1)) x f in
           let t = list_sound (c ∷ bytes) bytes a.0 a.1 in
           subst (λ (y : Bencode × List ℕ). TakesFront (Spelled room) (c ∷ bytes) y.0 y.1) (ok_of (list a.0.0, a.0.1) x a.2)
-          (108 ∷ (t.1 ++ 101 ∷ []), ap (λ d. d ∷ bytes) (eqb-true c 108 m) ∙ ap (λ z. 108 ∷ z) (t.2 ∙ sym (append_assoc t.1 (101 ∷ []) a.0.1)), (t.0, t.1, refl, t.3))
+          (108 ∷ (t.1 ++ 101 ∷ []), ap (λ d. d ∷ bytes) (eqb-true c 108 m) ∙ ap (λ z. 108 ∷ z) (t.2 ∙ sym (append_assoc t.1 (101 ∷ []) a.0.1)),
+              (t.0, t.1, refl, t.3))
       by_l false m f = by_d (eqb c 100) refl f
 
       by_i : (m : Bool) → eqb c 105 ≡ m
-          → cond m (begun_at (c ∷ bytes) (integer_at bytes) >>= λ y. Ok (int y.0, y.1)) (cond (eqb c 108) (ls (c ∷ bytes) bytes >>= λ y. Ok (list y.0, y.1)) (cond (eqb c 100) (ds (c ∷ bytes) bytes >>= λ y. Ok (dict y.0, y.1)) (cond (is_digit c) (begun_at (c ∷ bytes) (string_at (c ∷ bytes)) >>= λ y. Ok (text y.0, y.1)) (Err (BadStart, c ∷ bytes))))) ≡ Ok x
+          → cond m (begun_at (c ∷ bytes) (integer_at bytes) >>= λ y. Ok (int y.0, y.1)) (cond (eqb c 108) (ls (c ∷ bytes) bytes >>= λ y. Ok (list y.0, y.1))
+              (cond (eqb c 100) (ds (c ∷ bytes) bytes >>= λ y. Ok (dict y.0, y.1))
+              (cond (is_digit c) (begun_at (c ∷ bytes) (string_at (c ∷ bytes)) >>= λ y. Ok (text y.0, y.1)) (Err (BadStart, c ∷ bytes))))) ≡ Ok x
           → TakesFront (Spelled room) (c ∷ bytes) x.0 x.1
       by_i true m f =
           let a = bind_ok (begun_at (c ∷ bytes) (integer_at bytes)) (λ y. Ok (int y.0, y.1)) x f in
           let t = integer_takes bytes a.0.0 a.0.1 (began (c ∷ bytes) (integer_at bytes) a.0 a.1) in
-          subst (λ (y : Bencode × List ℕ). TakesFront (Spelled room) (c ∷ bytes) y.0 y.1) (ok_of (int a.0.0, a.0.1) x a.2) (integer a.0.0, ap (λ d. d ∷ bytes) (eqb-true c 105 m) ∙ t.1, (t.0, refl))
+          subst (λ (y : Bencode × List ℕ). TakesFront (Spelled room) (c ∷ bytes) y.0 y.1) (ok_of (int a.0.0, a.0.1) x a.2) (integer a.0.0,
+              ap (λ d. d ∷ bytes) (eqb-true c 105 m) ∙ t.1, (t.0, refl))
       by_i false m f = by_l (eqb c 108) refl f
 
 pub value_takes : (room : ℕ) (bytes : List ℕ) (x : Bencode × List ℕ) → value_at room bytes ≡ Ok x → TakesFront (Spelled room) bytes x.0 x.1
@@ -277,11 +299,14 @@ value_takes (suc room) bytes x e =
     let less : suc room - 1 ≡ room = omega arith in
     level_takes (suc room) (λ s b. items_at (value_at room) (length b) b) (λ s b. pairs_at (value_at room) (length b) None b)
     (λ s b y h. let t = items_take room (value_at room) (λ d z g. value_takes room d z g) (length b) b y h in (omega arith, t.0, t.1, rw less t.2))
-    (λ s b y h. let t = pairs_take room (value_at room) (λ d z g. value_takes room d z g) (length b) None b y h in (omega arith, t.0, t.1, rw less t.2)) bytes x e
+    (λ s b y h. let t = pairs_take room (value_at room) (λ d z g. value_takes room d z g) (length b) None b y h in (omega arith, t.0, t.1, rw less t.2)) bytes x
+        e
 
 -- the part that was taken, by its length
-pub taken : {A : Type 0} (S : A → List ℕ → Type 0) (bytes : List ℕ) (x : A) (rest : List ℕ) → TakesFront S bytes x rest → S x (take (length bytes - length rest) bytes)
+pub taken : {A : Type 0} (S : A → List ℕ → Type 0) (bytes : List ℕ) (x : A) (rest : List ℕ) → TakesFront S bytes x rest
+    → S x (take (length bytes - length rest) bytes)
 taken S bytes x rest t =
     let used : length t.0 ≡ length bytes - length rest = omega (arith, ap length t.1, length-append t.0 rest) in
-    let front : take (length bytes - length rest) bytes ≡ t.0 = ap (take (length bytes - length rest)) t.1 ∙ take_at t.0 rest (length bytes - length rest) used in
+    let front : take (length bytes - length rest) bytes ≡ t.0 = ap (take (length bytes - length rest)) t.1
+        ∙ take_at t.0 rest (length bytes - length rest) used in
     subst (S x) (sym front) t.2

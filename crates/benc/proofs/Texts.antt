@@ -17,7 +17,8 @@ mutual
 
   spelled_pairs_are : (room : ℕ) (before : Option (List ℕ)) (ps : Pairs) (b : List ℕ) → SpelledPairs room before ps b → b ≡ pairs_spelling ps
   spelled_pairs_are room before no_pairs b s = s
-  spelled_pairs_are room before (pair k v ps) b s = s.2 ∙ ap₂ (λ t u. string k ++ (t ++ u)) (spelled_is room v s.0 s.5) (spelled_pairs_are room (Some k) ps s.1 s.6)
+  spelled_pairs_are room before (pair k v ps) b s = s.2
+      ∙ ap₂ (λ t u. string k ++ (t ++ u)) (spelled_is room v s.0 s.5) (spelled_pairs_are room (Some k) ps s.1 s.6)
 
 mutual
   pub spelled_fits : (room : ℕ) (v : Bencode) (b : List ℕ) → Spelled room v b → Fits room v
@@ -47,4 +48,5 @@ mutual
 
   pairs_fit_spelled : (room : ℕ) (before : Option (List ℕ)) (ps : Pairs) → PairsFit room before ps → SpelledPairs room before ps (pairs_spelling ps)
   pairs_fit_spelled room before no_pairs f = refl
-  pairs_fit_spelled room before (pair k v ps) f = (spelling v, pairs_spelling ps, refl, f.0, f.1, fits_spelled room v f.2, pairs_fit_spelled room (Some k) ps f.3)
+  pairs_fit_spelled room before (pair k v ps) f = (spelling v, pairs_spelling ps, refl, f.0, f.1, fits_spelled room v f.2,
+      pairs_fit_spelled room (Some k) ps f.3)

@@ -1,5 +1,6 @@
 -- The turns of the loops that read items and pairs.
-use Rattle.std.proofs.Common.{◌≡◌, ◌≢◌, ℕ, zero, suc, ◌-◌, ◌≤◌, false, eqb, List, [], ◌∷◌, ◌++◌, length, Option, Some, Ok, Err, refl, sym, ap, ◌∙◌, inl, inr, arith}
+use Rattle.std.proofs.Common.{◌≡◌, ◌≢◌, ℕ, zero, suc, ◌-◌, ◌≤◌, false, eqb, List, [], ◌∷◌, ◌++◌, length, Option, Some, Ok, Err, refl, sym, ap, ◌∙◌, inl, inr}
+use Rattle.std.proofs.Common.{arith}
 use Rattle.std.proofs.lemmas.Bool.Decides.{eqb_tells}
 use Rattle.benc.specs.Value.{Bencode, Items, no_items, item, Pairs, no_pairs, pair}
 use Rattle.benc.specs.View.{Seen, view, pair_view, items_view, pairs_view}
@@ -44,7 +45,8 @@ pairs_push [] p rest = refl
 pairs_push (q ∷ ps) p rest = ap (pair (pair_view q).0 (pair_view q).1) (pairs_push ps p rest)
 
 -- what reading gave in the end: the items so far
-pub items_end : (p : List ℕ → Parsed Bencode) (n c : ℕ) (rest : List ℕ) (vs : List Value) → length (c ∷ rest) ≤ n → c ≡ 101 → with_items vs (items_at p n (c ∷ rest)) ≡ Ok (items_view vs, rest)
+pub items_end : (p : List ℕ → Parsed Bencode) (n c : ℕ) (rest : List ℕ) (vs : List Value) → length (c ∷ rest) ≤ n → c ≡ 101
+    → with_items vs (items_at p n (c ∷ rest)) ≡ Ok (items_view vs, rest)
 unfolding items_at
 items_end p zero c rest vs le e = absurd (omega arith)
 items_end p (suc n) c rest vs le e = rw e (ap (λ js. Ok (js, rest)) (items_done vs))
@@ -53,7 +55,8 @@ chain_items : (vs : List Value) (v : Value) (r : Parsed Items) → with_items vs
 chain_items vs v (Ok x) = ap (λ js. Ok (js, x.1)) (items_push vs v x.0)
 chain_items vs v (Err e) = refl
 
-pub items_more : (p : List ℕ → Parsed Bencode) (n c : ℕ) (rest after : List ℕ) (vs : List Value) (v : Value) → length (c ∷ rest) ≤ n → c ≢ 101 → p (c ∷ rest) ≡ Ok (view v, after)
+pub items_more : (p : List ℕ → Parsed Bencode) (n c : ℕ) (rest after : List ℕ) (vs : List Value) (v : Value) → length (c ∷ rest) ≤ n → c ≢ 101
+    → p (c ∷ rest) ≡ Ok (view v, after)
     → with_items vs (items_at p n (c ∷ rest)) ≡ with_items (vs ++ v ∷ []) (items_at p (n - 1) after)
 unfolding items_at
 items_more p zero c rest after vs v le ne read = absurd (omega arith)
@@ -67,12 +70,14 @@ unfolding items_at
 items_fail p zero c rest vs e le ne read = absurd (omega arith)
 items_fail p (suc n) c rest vs e le ne read = rw (is_other c 101 ne, read) refl
 
-pub items_short : (p : List ℕ → Parsed Bencode) (n : ℕ) (rest : List ℕ) (vs : List Value) → rest ≡ [] → with_items vs (items_at p n rest) ≡ Err (Truncated, rest)
+pub items_short : (p : List ℕ → Parsed Bencode) (n : ℕ) (rest : List ℕ) (vs : List Value) → rest ≡ []
+    → with_items vs (items_at p n rest) ≡ Err (Truncated, rest)
 unfolding items_at
 items_short p zero rest vs e = rw e refl
 items_short p (suc n) rest vs e = rw e refl
 
-pub pairs_short : (p : List ℕ → Parsed Bencode) (n : ℕ) (before : Option (List ℕ)) (rest : List ℕ) (ps : List Pair) → rest ≡ [] → with_pairs ps (pairs_at p n before rest) ≡ Err (Truncated, rest)
+pub pairs_short : (p : List ℕ → Parsed Bencode) (n : ℕ) (before : Option (List ℕ)) (rest : List ℕ) (ps : List Pair) → rest ≡ []
+    → with_pairs ps (pairs_at p n before rest) ≡ Err (Truncated, rest)
 unfolding pairs_at
 pairs_short p zero before rest ps e = rw e refl
 pairs_short p (suc n) before rest ps e = rw e refl
@@ -83,11 +88,13 @@ unfolding pairs_at
 pairs_end p zero c before rest ps le e = absurd (omega arith)
 pairs_end p (suc n) c before rest ps le e = rw e (ap (λ js. Ok (js, rest)) (pairs_done ps))
 
-chain_pairs : (ps : List Pair) (p : Pair) (r : Parsed Pairs) → with_pairs ps (r >>= λ y. Ok (pair (pair_view p).0 (pair_view p).1 y.0, y.1)) ≡ with_pairs (ps ++ p ∷ []) r
+chain_pairs : (ps : List Pair) (p : Pair) (r : Parsed Pairs) → with_pairs ps (r >>= λ y. Ok (pair (pair_view p).0 (pair_view p).1 y.0, y.1)) ≡ with_pairs
+    (ps ++ p ∷ []) r
 chain_pairs ps p (Ok x) = ap (λ js. Ok (js, x.1)) (pairs_push ps p x.0)
 chain_pairs ps p (Err e) = refl
 
-pub pairs_more : (p : List ℕ → Parsed Bencode) (n c : ℕ) (before : Option (List ℕ)) (rest behind after k : List ℕ) (j : Bencode) (ps : List Pair) (x : Pair) → pair_view x ≡ (k, j) → length (c ∷ rest) ≤ n → c ≢ 101
+pub pairs_more : (p : List ℕ → Parsed Bencode) (n c : ℕ) (before : Option (List ℕ)) (rest behind after k : List ℕ) (j : Bencode) (ps : List Pair) (x : Pair)
+    → pair_view x ≡ (k, j) → length (c ∷ rest) ≤ n → c ≢ 101
     → key_at before (c ∷ rest) ≡ Ok (k, behind) → p behind ≡ Ok (j, after)
     → with_pairs ps (pairs_at p n before (c ∷ rest)) ≡ with_pairs (ps ++ x ∷ []) (pairs_at p (n - 1) (Some k) after)
 unfolding pairs_at
@@ -97,13 +104,15 @@ pairs_more p (suc n) c before rest behind after k j ps x seen le ne key read =
     let r = pairs_at p n (Some k) after in
     rw (is_other c 101 ne, key, read, less) (ap (λ (s : Seen). with_pairs ps (r >>= λ y. Ok (pair s.0 s.1 y.0, y.1))) (sym seen) ∙ chain_pairs ps x r)
 
-pub pairs_no_key : (p : List ℕ → Parsed Bencode) (n c : ℕ) (before : Option (List ℕ)) (rest : List ℕ) (ps : List Pair) (f : FaultKind) → length (c ∷ rest) ≤ n → c ≢ 101 → key_at before (c ∷ rest) ≡ Err f
+pub pairs_no_key : (p : List ℕ → Parsed Bencode) (n c : ℕ) (before : Option (List ℕ)) (rest : List ℕ) (ps : List Pair) (f : FaultKind) → length (c ∷ rest) ≤ n
+    → c ≢ 101 → key_at before (c ∷ rest) ≡ Err f
     → with_pairs ps (pairs_at p n before (c ∷ rest)) ≡ Err (f, c ∷ rest)
 unfolding pairs_at
 pairs_no_key p zero c before rest ps f le ne key = absurd (omega arith)
 pairs_no_key p (suc n) c before rest ps f le ne key = rw (is_other c 101 ne, key) refl
 
-pub pairs_fail : (p : List ℕ → Parsed Bencode) (n c : ℕ) (before : Option (List ℕ)) (rest behind k : List ℕ) (ps : List Pair) (e : Failed) → length (c ∷ rest) ≤ n → c ≢ 101
+pub pairs_fail : (p : List ℕ → Parsed Bencode) (n c : ℕ) (before : Option (List ℕ)) (rest behind k : List ℕ) (ps : List Pair) (e : Failed)
+    → length (c ∷ rest) ≤ n → c ≢ 101
     → key_at before (c ∷ rest) ≡ Ok (k, behind) → p behind ≡ Err e → with_pairs ps (pairs_at p n before (c ∷ rest)) ≡ Err e
 unfolding pairs_at
 pairs_fail p zero c before rest behind k ps e le ne key read = absurd (omega arith)

@@ -1,5 +1,6 @@
 -- A value by its first byte.
-use Rattle.std.proofs.Common.{◌≡◌, ◌≢◌, ℕ, zero, suc, ◌-◌, ◌<◌, ◌≤◌, true, false, List, [], ◌∷◌, length, None, Result, Ok, Err, ℤ, refl, ap, ◌∙◌, arith, rules, Vec, Global}
+use Rattle.std.proofs.Common.{◌≡◌, ◌≢◌, ℕ, zero, suc, ◌-◌, ◌<◌, ◌≤◌, true, false, List, [], ◌∷◌, length, None, Result, Ok, Err, ℤ, refl, ap, ◌∙◌, arith, rules}
+use Rattle.std.proofs.Common.{Vec, Global}
 use Rattle.std.specs.Borrow.{Bor}
 use Rattle.benc.specs.Value.{int, text, list, dict, Items, Pairs}
 use Rattle.benc.specs.View.{view, pair_view, items_view, pairs_view}
@@ -48,10 +49,12 @@ dicts_are zero start rest h = absurd (omega arith)
 dicts_are (suc room) start rest h = let less : suc room - 1 ≡ room = omega arith in rw less refl
 
 -- a list behind its mark, where another may be opened
-pub value_items : (room : ℕ) (bytes rest : List ℕ) → 0 < room → bytes ≡ 108 ∷ rest → value_at room bytes ≡ (items_at (value_at (room - 1)) (length rest) rest >>= λ x. Ok (list x.0, x.1))
+pub value_items : (room : ℕ) (bytes rest : List ℕ) → 0 < room → bytes ≡ 108 ∷ rest
+    → value_at room bytes ≡ (items_at (value_at (room - 1)) (length rest) rest >>= λ x. Ok (list x.0, x.1))
 value_items room bytes rest h e = value_list room bytes rest e ∙ ap (λ r. r >>= λ x. Ok (list x.0, x.1)) (lists_are room bytes rest h)
 
-pub value_pairs : (room : ℕ) (bytes rest : List ℕ) → 0 < room → bytes ≡ 100 ∷ rest → value_at room bytes ≡ (pairs_at (value_at (room - 1)) (length rest) None rest >>= λ x. Ok (dict x.0, x.1))
+pub value_pairs : (room : ℕ) (bytes rest : List ℕ) → 0 < room → bytes ≡ 100 ∷ rest
+    → value_at room bytes ≡ (pairs_at (value_at (room - 1)) (length rest) None rest >>= λ x. Ok (dict x.0, x.1))
 value_pairs room bytes rest h e = value_dict room bytes rest e ∙ ap (λ r. r >>= λ x. Ok (dict x.0, x.1)) (dicts_are room bytes rest h)
 
 pub list_too_deep : (room : ℕ) (bytes rest : List ℕ) → room ≡ 0 → bytes ≡ 108 ∷ rest → value_at room bytes ≡ Err (TooDeep, bytes)
@@ -66,11 +69,14 @@ digit_is c low high = grind (arith)
 not_digit : (c : ℕ) → ((48 ≤ c → c ≤ 57 → ⊥)) → is_digit c ≡ false
 not_digit c h = grind (arith)
 
-pub value_text : (room : ℕ) (bytes rest : List ℕ) (c : ℕ) → 48 ≤ c → c ≤ 57 → bytes ≡ c ∷ rest → value_at room bytes ≡ (begun_at bytes (string_at bytes) >>= λ x. Ok (text x.0, x.1))
+pub value_text : (room : ℕ) (bytes rest : List ℕ) (c : ℕ) → 48 ≤ c → c ≤ 57 → bytes ≡ c ∷ rest
+    → value_at room bytes ≡ (begun_at bytes (string_at bytes) >>= λ x. Ok (text x.0, x.1))
 value_text room bytes rest c low high e =
-    value_is room bytes ∙ rw (e, is_other c 105 (λ k. omega arith), is_other c 108 (λ k. omega arith), is_other c 100 (λ k. omega arith), digit_is c low high) refl
+    value_is room bytes ∙ rw (e, is_other c 105 (λ k. omega arith), is_other c 108 (λ k. omega arith), is_other c 100 (λ k. omega arith), digit_is c low high)
+        refl
 
-pub value_other : (room : ℕ) (bytes rest : List ℕ) (c : ℕ) → c ≢ 105 → c ≢ 108 → c ≢ 100 → (48 ≤ c → c ≤ 57 → ⊥) → bytes ≡ c ∷ rest → value_at room bytes ≡ Err (BadStart, bytes)
+pub value_other : (room : ℕ) (bytes rest : List ℕ) (c : ℕ) → c ≢ 105 → c ≢ 108 → c ≢ 100 → (48 ≤ c → c ≤ 57 → ⊥) → bytes ≡ c ∷ rest
+    → value_at room bytes ≡ Err (BadStart, bytes)
 value_other room bytes rest c a b d n e =
     value_is room bytes ∙ rw (e, is_other c 105 a, is_other c 108 b, is_other c 100 d, not_digit c n) refl
 

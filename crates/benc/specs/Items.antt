@@ -1,7 +1,8 @@
 -- The parser's own contracts cite these, no public clause does; the table and `Fails` are the
 -- definition. Reading one item from the front (BEP 3, "bencoding"): what it is and what follows it,
 -- or its fault.
-use Rattle.std.specs.Prelude.{◌≡◌, ℕ, ℤ, Bool, true, false, not, ◌&&◌, ◌||◌, ◌==◌, nat_lt, if◌then◌else◌, List, [], ◌∷◌, length, take, drop, slice_index, Option, Result, Ok, Err}
+use Rattle.std.specs.Prelude.{◌≡◌, ℕ, ℤ, Bool, true, false, not, ◌&&◌, ◌||◌, ◌==◌, nat_lt, if◌then◌else◌, List, [], ◌∷◌, length, take, drop, slice_index}
+use Rattle.std.specs.Prelude.{Option, Result, Ok, Err}
 use Rattle.std.specs.Str.Parse.{digits_value}
 use Rattle.benc.specs.Ascii.{colon, digit_zero, end_mark, minus_sign}
 use Rattle.benc.specs.Digits.{after_digits, digits_of_front, in_range, is_digit, signed}

@@ -5,7 +5,8 @@ use Rattle.chains.specs.Chain.{Chain}
 
 module _ {S I O : Type 0} (Step : S → I → O → S → Type 0) where
   -- one more step
-  pub Chain-more : (s : S) (is : List I) (os : List O) (mid : S) (i : I) (o : O) (s' : S) → Chain Step s is os mid → Step mid i o s' → Chain Step s (is ++ i ∷ []) (os ++ o ∷ []) s'
+  pub Chain-more : (s : S) (is : List I) (os : List O) (mid : S) (i : I) (o : O) (s' : S) → Chain Step s is os mid → Step mid i o s'
+      → Chain Step s (is ++ i ∷ []) (os ++ o ∷ []) s'
   Chain-more s [] [] mid i o s' e step = (s', subst (λ x. Step x i o s') e step, refl)
   Chain-more s [] (p ∷ os) mid i o s' e step = absurd e
   Chain-more s (j ∷ is) [] mid i o s' e step = absurd e
@@ -35,7 +36,8 @@ pub record LastStep {S I O : Type 0} (Step : S → I → O → S → Type 0) (s 
   pub run : Chain Step s is earlier middle
   pub step : Step middle i last s'
 
-pub last_step : {S I O : Type 0} (Step : S → I → O → S → Type 0) (s : S) (is : List I) (i : I) (os : List O) (s' : S) → Chain Step s (is ++ i ∷ []) os s' → LastStep Step s is i os s'
+pub last_step : {S I O : Type 0} (Step : S → I → O → S → Type 0) (s : S) (is : List I) (i : I) (os : List O) (s' : S) → Chain Step s (is ++ i ∷ []) os s'
+    → LastStep Step s is i os s'
 last_step Step s [] i [] s' run = absurd run
 last_step Step s [] i (o ∷ []) s' (mid, step, e) = record {
   earlier = [];
@@ -59,7 +61,8 @@ last_step Step s (j ∷ is) i (o ∷ os) s' (mid, step, rest) =
     }
 
 -- the same steps between states that a function gives
-pub Chain-mapped : {S T I O : Type 0} (P : S → I → O → S → Type 0) (Q : T → I → O → T → Type 0) (f : S → T) → ((s : S) (i : I) (o : O) (s' : S) → P s i o s' → Q (f s) i o (f s'))
+pub Chain-mapped : {S T I O : Type 0} (P : S → I → O → S → Type 0) (Q : T → I → O → T → Type 0) (f : S → T)
+    → ((s : S) (i : I) (o : O) (s' : S) → P s i o s' → Q (f s) i o (f s'))
     → (s : S) (is : List I) (os : List O) (s' : S) → Chain P s is os s' → Chain Q (f s) is os (f s')
 Chain-mapped P Q f maps s [] [] s' e = ap f e
 Chain-mapped P Q f maps s [] (o ∷ os) s' e = absurd e

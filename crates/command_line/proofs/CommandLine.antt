@@ -1,5 +1,6 @@
 -- How a command grows, and which texts an action needs.
-use Rattle.std.proofs.Common.{◌≡◌, ◌∙◌, ◌++◌, ◌∷◌, [], ap, codes, false, if◌then◌else◌, List, None, Option, option_map, refl, Some, subst, sym, true, ◌||◌, Bool}
+use Rattle.std.proofs.Common.{◌≡◌, ◌∙◌, ◌++◌, ◌∷◌, [], ap, codes, false, if◌then◌else◌, List, None, Option, option_map, refl, Some, subst, sym, true, ◌||◌}
+use Rattle.std.proofs.Common.{Bool}
 use Rattle.std.specs.List.{list_any}
 use Rattle.std.specs.Prelude.{⊤, Box, Err, Ok, Result, unwrap_or, ◌<◌, ◌^◌, ℕ}
 use Rattle.std.specs.Str.Parse.{IsNumeral, ParsesUnsigned, digits_value, without_leading_plus}

@@ -22,11 +22,14 @@ pub record SoFar (first now : SourceSeen) (start out : SinkSeen) (left : ℕ) (f
   pub more : List ℕ
   pub begins : fed ++ waiting ≡ front ++ more
 
-abbrev pub so_far_first : (first now : SourceSeen) (start out : SinkSeen) (front : List ℕ) → GaveFaultless first now front → Sent start out header → SoFar first now start out 0 front front
-so_far_first first now start out front gave sent = record { fed = []; text = header; reached = reach_nothing; sent = sent; gave = gave; more = []; begins = sym (append-nil front) }
+abbrev pub so_far_first : (first now : SourceSeen) (start out : SinkSeen) (front : List ℕ) → GaveFaultless first now front → Sent start out header
+    → SoFar first now start out 0 front front
+so_far_first first now start out front gave sent = record { fed = []; text = header; reached = reach_nothing; sent = sent; gave = gave; more = []; begins =
+    sym (append-nil front) }
 
 -- some of it was converted
-pub so_far_converted : (first now : SourceSeen) (start out out' : SinkSeen) (left left' : ℕ) (front waiting rest done text : List ℕ) (s : SoFar first now start out left front waiting)
+pub so_far_converted : (first now : SourceSeen) (start out out' : SinkSeen) (left left' : ℕ) (front waiting rest done text : List ℕ)
+    (s : SoFar first now start out left front waiting)
     → Reached left' done text → Sent start out' text → done ++ rest ≡ s.fed ++ waiting → SoFar first now start out' left' front rest
 so_far_converted first now start out out' left left' front waiting rest done text s reached sent e = record {
   fed = done;
@@ -39,7 +42,8 @@ so_far_converted first now start out out' left left' front waiting rest done tex
 }
 
 -- more was read
-pub so_far_read : (first now now' : SourceSeen) (start out : SinkSeen) (left : ℕ) (front waiting xs : List ℕ) → SoFar first now start out left front waiting → GaveFaultless now now' xs → SoFar first now' start out left front (waiting ++ xs)
+pub so_far_read : (first now now' : SourceSeen) (start out : SinkSeen) (left : ℕ) (front waiting xs : List ℕ) → SoFar first now start out left front waiting
+    → GaveFaultless now now' xs → SoFar first now' start out left front (waiting ++ xs)
 so_far_read first now now' start out left front waiting xs s gave = record {
   fed = s.fed;
   text = s.text;
@@ -52,7 +56,8 @@ so_far_read first now now' start out left front waiting xs s gave = record {
 
 -- ---- the sink failed
 
-pub breaks_in_text : (first now : SourceSeen) (start out out' : SinkSeen) (left : ℕ) (front waiting : List ℕ) (s : SoFar first now start out left front waiting) → BreaksOff start out' s.fed waiting
+pub breaks_in_text : (first now : SourceSeen) (start out out' : SinkSeen) (left : ℕ) (front waiting : List ℕ) (s : SoFar first now start out left front waiting)
+    → BreaksOff start out' s.fed waiting
     → (more : List ℕ) × GaveFaultless first now (front ++ more) × BreaksInText (front ++ more) start out'
 breaks_in_text first now start out out' left front waiting s b =
     let all : (s.fed ++ take b.count waiting) ++ drop b.count waiting ≡ front ++ s.more =
@@ -61,14 +66,16 @@ breaks_in_text first now start out out' left front waiting s b =
       subst (GaveFaultless first now) s.begins s.gave,
       record {
         text = b.text;
-        sound = subst (λ t. IsSoundText t b.text) all (sound_more (s.fed ++ take b.count waiting) (drop b.count waiting) b.text (reach_sound b.left (s.fed ++ take b.count waiting) b.text b.reached));
+        sound = subst (λ t. IsSoundText t b.text) all (sound_more (s.fed ++ take b.count waiting) (drop b.count waiting) b.text
+            (reach_sound b.left (s.fed ++ take b.count waiting) b.text b.reached));
         broke = b.broke;
       },
     )
 
 -- ---- the source failed, or it ended
 
-pub sends_front : (first now : SourceSeen) (start out : SinkSeen) (left : ℕ) (front waiting : List ℕ) (s : SoFar first now start out left front waiting) → Waits left waiting → Sends (front ++ s.more) start out
+pub sends_front : (first now : SourceSeen) (start out : SinkSeen) (left : ℕ) (front waiting : List ℕ) (s : SoFar first now start out left front waiting)
+    → Waits left waiting → Sends (front ++ s.more) start out
 sends_front first now start out left front waiting s w =
     subst (λ b. Sends b start out) s.begins (sends_of left s.fed waiting s.text start out s.reached s.sent (may_end left s.fed waiting s.text s.reached w))
 
@@ -77,7 +84,8 @@ pub record Tells (whole : Bool) (left : ℕ) (waiting : List ℕ) : Type 0 where
   pub yes : whole ≡ true → (left ≡ 0) × (waiting ≡ [])
   pub no : whole ≡ false → (left ≡ 0) × (waiting ≡ []) → ⊥
 
-pub ends : (whole : Bool) (first now : SourceSeen) (start out : SinkSeen) (left : ℕ) (front waiting : List ℕ) (s : SoFar first now start out left front waiting) → Waits left waiting → IsAtEnd now.left → Tells whole left waiting
+pub ends : (whole : Bool) (first now : SourceSeen) (start out : SinkSeen) (left : ℕ) (front waiting : List ℕ) (s : SoFar first now start out left front waiting)
+    → Waits left waiting → IsAtEnd now.left → Tells whole left waiting
     → RecordEnds whole first now (s.fed ++ waiting) start out
 ends whole first now start out left front waiting s w end told =
     let stop : MayEnd left s.fed waiting s.text = may_end left s.fed waiting s.text s.reached w in
@@ -89,13 +97,15 @@ ends whole first now start out left front waiting s w end told =
       cut_is = λ e none. told.no e (stop.cut none);
     }
 
-pub ends_front : (whole : Bool) (first now : SourceSeen) (start out : SinkSeen) (left : ℕ) (front waiting : List ℕ) (s : SoFar first now start out left front waiting) → Waits left waiting → IsAtEnd now.left → Tells whole left waiting
+pub ends_front : (whole : Bool) (first now : SourceSeen) (start out : SinkSeen) (left : ℕ) (front waiting : List ℕ)
+    (s : SoFar first now start out left front waiting) → Waits left waiting → IsAtEnd now.left → Tells whole left waiting
     → (more : List ℕ) × RecordEnds whole first now (front ++ more) start out
 ends_front whole first now start out left front waiting s w end told =
     (s.more, subst (λ b. RecordEnds whole first now b start out) s.begins (ends whole first now start out left front waiting s w end told))
 
 -- a call that failed gave nothing
-pub read_fails : (first now now' : SourceSeen) (start out : SinkSeen) (left : ℕ) (front waiting : List ℕ) (s : SoFar first now start out left front waiting) → Waits left waiting
+pub read_fails : (first now now' : SourceSeen) (start out : SinkSeen) (left : ℕ) (front waiting : List ℕ) (s : SoFar first now start out left front waiting)
+    → Waits left waiting
     → Keeps now.left now'.left → now'.limit ≡ now.limit → now'.faults ≡ one_more now.faults
     → (more : List ℕ) × Gave first now' (front ++ more) × (now'.faults ≡ one_more first.faults) × Sends (front ++ more) start out
 read_fails first now now' start out left front waiting s w kept limit counted =
@@ -108,7 +118,8 @@ read_fails first now now' start out left front waiting s w kept limit counted =
     )
 
 -- nothing more was read
-pub ended_here : (first now now' : SourceSeen) (start out : SinkSeen) (left : ℕ) (front waiting : List ℕ) → SoFar first now start out left front waiting → GaveFaultless now now' [] → SoFar first now' start out left front waiting
+pub ended_here : (first now now' : SourceSeen) (start out : SinkSeen) (left : ℕ) (front waiting : List ℕ) → SoFar first now start out left front waiting
+    → GaveFaultless now now' [] → SoFar first now' start out left front waiting
 ended_here first now now' start out left front waiting s gave =
     subst (SoFar first now' start out left front) (append-nil waiting) (so_far_read first now now' start out left front waiting [] s gave)
 

@@ -1,5 +1,6 @@
 -- The first bytes of a record, and what tests on them tell.
-use Rattle.std.proofs.Common.{◌≡◌, ℕ, ◌+◌, ◌-◌, ◌<◌, ◌≤◌, true, false, nat_eq, List, [], ◌∷◌, ◌++◌, length, take, drop, inl, inr, refl, sym, ap, ◌∙◌, arith, subst}
+use Rattle.std.proofs.Common.{◌≡◌, ℕ, ◌+◌, ◌-◌, ◌<◌, ◌≤◌, true, false, nat_eq, List, [], ◌∷◌, ◌++◌, length, take, drop, inl, inr, refl, sym, ap, ◌∙◌, arith}
+use Rattle.std.proofs.Common.{subst}
 use Rattle.std.specs.Cmp.Lexicographic.{pointwise, same_text}
 use Rattle.std.specs.Io.KnownBytes.{Consumes, Keeps}
 use Rattle.std.proofs.lemmas.Bool.{and_from, cases_lt, eq-eqb, false≢true}
@@ -38,7 +39,8 @@ take-put_none at old new within =
     let same : at + 0 ≡ at = omega arith in
     ap (λ n. take n (put_mid at (length old - at) old new)) (sym same) ∙ take-put_more at 0 old new within (omega arith) ∙ append-nil (take at old)
 
-pub fails_in_front : (a b c : SourceSeen) (bytes : List ℕ) → GaveFaultless a b bytes → Keeps b.left c.left → c.limit ≡ b.limit → c.faults ≡ one_more b.faults → IsPrefixOf bytes header → FailsInFront a c
+pub fails_in_front : (a b c : SourceSeen) (bytes : List ℕ) → GaveFaultless a b bytes → Keeps b.left c.left → c.limit ≡ b.limit → c.faults ≡ one_more b.faults
+    → IsPrefixOf bytes header → FailsInFront a c
 fails_in_front a b c bytes gave kept limit counted front =
     let nothing : GaveUntil b c [] fault.Read = Failed-at_once b c fault.Read refl kept limit counted in
     record {
@@ -49,7 +51,8 @@ fails_in_front a b c bytes gave kept limit counted front =
     }
 
 -- a call that gave nothing
-pub read_none : (a b : SourceSeen) (count : ℕ) (buf : List ℕ) → count ≡ 0 → Consumes a.left b.left (take count buf) → b.limit + count ≡ a.limit → b.faults ≡ a.faults → GaveFaultless a b []
+pub read_none : (a b : SourceSeen) (count : ℕ) (buf : List ℕ) → count ≡ 0 → Consumes a.left b.left (take count buf) → b.limit + count ≡ a.limit
+    → b.faults ≡ a.faults → GaveFaultless a b []
 read_none a b count buf none bytes falls faults =
     subst (λ n. GaveFaultless a b (take n buf)) none (Faultless-take a b count buf (omega (arith, none)) bytes falls faults)
 

@@ -1,5 +1,6 @@
 -- A frame that has begun, and its conversion.
-use Rattle.std.proofs.Common.{◌≡◌, ℕ, ◌+◌, ◌-◌, ◌^◌, ◌<◌, ◌≤◌, min, true, false, cond, List, [], ◌∷◌, ◌++◌, length, take, drop, get_or, replicate, inl, inr, refl, sym, ap, ◌∙◌, arith, subst}
+use Rattle.std.proofs.Common.{◌≡◌, ℕ, ◌+◌, ◌-◌, ◌^◌, ◌<◌, ◌≤◌, min, true, false, cond, List, [], ◌∷◌, ◌++◌, length, take, drop, get_or, replicate, inl, inr}
+use Rattle.std.proofs.Common.{refl, sym, ap, ◌∙◌, arith, subst}
 use Rattle.std.specs.List.{flat_map}
 use Rattle.std.proofs.lemmas.Bool.{cases_Bool, cases_lt}
 use Rattle.std.proofs.lemmas.List.{append_assoc, append-nil, length-append, length-replicate, length-drop, length-take-le, take-append-drop, take_at, drop_at}
@@ -60,7 +61,8 @@ request_frame fields rest e =
     ap (λ t. 1 ∷ frame (21 ∷ t)) front ∙ ap (λ n. 1 ∷ (four_bytes n ++ (21 ∷ fields))) size
 
 -- a hashes message
-pub opens_asked : (len left : ℕ) (head fields : List ℕ) → len < 2 ^ 32 → head ≡ four_bytes len ++ (22 ∷ fields) → left + 49 ≡ len → length fields ≡ 48 → IsHashesSize len
+pub opens_asked : (len left : ℕ) (head fields : List ℕ) → len < 2 ^ 32 → head ≡ four_bytes len ++ (22 ∷ fields) → left + 49 ≡ len → length fields ≡ 48
+    → IsHashesSize len
     → BeginsFrame left head ((request_head ++ fields) ++ (0 ∷ head))
 opens_asked len left head fields fits is size forty_eight right = record {
   some = omega (arith, ap length is, length-append (four_bytes len) (22 ∷ fields), length-four_bytes len);
@@ -85,13 +87,15 @@ read_len len n head front p q is e =
     let same : four_bytes len ≡ four_bytes n = e ∙ ap (take 4) is ∙ take_at (four_bytes n) front 4 (length-four_bytes n) in
     (same_from_four_bytes len n [] [] p q (ap (λ t. t ++ []) same)).0
 
-left_is : (len : ℕ) (head : List ℕ) (h : IsHeadOf head (length head)) → len < 2 ^ 32 → four_bytes len ≡ take 4 head → (len + 4 - length head) + length h.front ≡ h.len
+left_is : (len : ℕ) (head : List ℕ) (h : IsHeadOf head (length head)) → len < 2 ^ 32 → four_bytes len ≡ take 4 head
+    → (len + 4 - length head) + length h.front ≡ h.len
 left_is len head h fits e = omega (arith, read_len len h.len head h.front fits h.fits h.head_is e, h.size_is, h.front_is)
 
 pub head_within : (len : ℕ) (head : List ℕ) → IsHeadOf head (length head) → len < 2 ^ 32 → four_bytes len ≡ take 4 head → length head ≤ len + 4
 head_within len head h fits e = omega (arith, read_len len h.len head h.front fits h.fits h.head_is e, h.size_is)
 
-pub goes_opens : (head request : List ℕ) (h : IsHeadOf head (length head)) → GoesBefore head request → BeginsFrame (h.len + 4 - length head) head (request ++ (0 ∷ head))
+pub goes_opens : (head request : List ℕ) (h : IsHeadOf head (length head)) → GoesBefore head request
+    → BeginsFrame (h.len + 4 - length head) head (request ++ (0 ∷ head))
 goes_opens head request h g = g h.len h.fits (sym (ap (take 4) h.head_is ∙ take_at (four_bytes h.len) h.front 4 (length-four_bytes h.len)))
 
 pub goes_nothing : (head : List ℕ) (h : IsHeadOf head (length head)) → ¬ BeginsHashes h.len h.front → GoesBefore head []
@@ -117,18 +121,21 @@ goes_request head h b = λ len fits e.
     let after : drop 5 head ≡ fields = ap (drop 5) (is ∙ sym (append_assoc (four_bytes h.len) (22 ∷ []) fields))
     ∙ drop_at (four_bytes h.len ++ 22 ∷ []) fields 5 (omega (arith, length-append (four_bytes h.len) (22 ∷ []), length-four_bytes h.len)) in
     subst (λ xs. BeginsFrame (len + 4 - length head) head ((request_head ++ xs) ++ (0 ∷ head))) (sym after)
-    (opens_asked h.len (len + 4 - length head) head fields h.fits is (omega (arith, left_is len head h fits e, ap length b.0.1, size)) (omega (arith, size)) b.1)
+    (opens_asked h.len (len + 4 - length head) head fields h.fits is (omega (arith, left_is len head h fits e, ap length b.0.1, size)) (omega (arith, size))
+        b.1)
 
 -- the byte behind the length
 fifth : (len id x : ℕ) (head front : List ℕ) → head ≡ four_bytes len ++ (x ∷ front) → id ≡ get_or head 4 0 → id ≡ x
 unfolding four_bytes
 fifth len id x head front is at = at ∙ ap (λ t. get_or t 4 0) is
 
-pub begins_with : (len id : ℕ) (head front : List ℕ) → head ≡ four_bytes len ++ front → 4 < length head → id ≡ get_or head 4 0 → (id ≡ 22) × IsHashesSize len → BeginsHashes len front
+pub begins_with : (len id : ℕ) (head front : List ℕ) → head ≡ four_bytes len ++ front → 4 < length head → id ≡ get_or head 4 0 → (id ≡ 22) × IsHashesSize len
+    → BeginsHashes len front
 begins_with len id head [] is more at p = absurd (omega (arith, more, ap length is, length-append (four_bytes len) [], length-four_bytes len))
 begins_with len id head (x ∷ front) is more at p = ((front, ap (λ i. i ∷ front) (sym (fifth len id x head front is at) ∙ p.0)), p.1)
 
-pub begins_as : (len id : ℕ) (head front : List ℕ) → head ≡ four_bytes len ++ front → id ≡ get_or head 4 0 → BeginsHashes len front → (id ≡ 22) × IsHashesSize len
+pub begins_as : (len id : ℕ) (head front : List ℕ) → head ≡ four_bytes len ++ front → id ≡ get_or head 4 0 → BeginsHashes len front
+    → (id ≡ 22) × IsHashesSize len
 unfolding four_bytes
 begins_as len id head front is at b = (at ∙ ap (λ t. get_or t 4 0) (is ∙ ap (λ t. four_bytes len ++ t) b.0.1), b.1)
 
@@ -140,12 +147,14 @@ begins_none len head front is few b = omega (arith, few, ap length is, length-ap
 pub short_head : (bytes : List ℕ) → length bytes < 4 → IsPartial bytes × (length bytes < 53)
 short_head bytes short = (IsPartial-from_short bytes short, omega arith)
 
-pub cut_head : (bytes : List ℕ) (len : ℕ) → 4 ≤ length bytes → len < 2 ^ 32 → four_bytes len ≡ take 4 bytes → length bytes < 4 + min len 49 → IsPartial bytes × (length bytes < 53)
+pub cut_head : (bytes : List ℕ) (len : ℕ) → 4 ≤ length bytes → len < 2 ^ 32 → four_bytes len ≡ take 4 bytes → length bytes < 4 + min len 49
+    → IsPartial bytes × (length bytes < 53)
 cut_head bytes len enough fits e short =
     let whole : four_bytes len ++ drop 4 bytes ≡ bytes = ap (λ t. t ++ drop 4 bytes) e ∙ take-append-drop 4 bytes in
     (subst IsPartial whole (IsPartial-from_unfinished len (drop 4 bytes) fits (omega (arith, short, enough, length-drop 4 bytes))), omega (arith, short))
 
-pub whole_head : (bytes : List ℕ) (len : ℕ) → len < 2 ^ 32 → four_bytes len ≡ take 4 bytes → 4 + min len 49 ≤ length bytes → IsHeadOf (take (4 + min len 49) bytes) (4 + min len 49)
+pub whole_head : (bytes : List ℕ) (len : ℕ) → len < 2 ^ 32 → four_bytes len ≡ take 4 bytes → 4 + min len 49 ≤ length bytes
+    → IsHeadOf (take (4 + min len 49) bytes) (4 + min len 49)
 whole_head bytes len fits e enough = record {
   len = len;
   front = take (min len 49) (drop 4 bytes);
@@ -174,7 +183,8 @@ opens_more left part sent xs o fits = record {
 
 -- all of them
 pub opens_none : (part sent : List ℕ) → BeginsFrame 0 part sent → IsConvertedFrame part sent
-opens_none part sent o = subst (λ p. IsConvertedFrame p sent) (append-nil part) (subst (λ s. IsConvertedFrame (part ++ []) s) (append-nil sent) (o.completes [] refl))
+opens_none part sent o = subst (λ p. IsConvertedFrame p sent) (append-nil part) (subst (λ s. IsConvertedFrame (part ++ []) s) (append-nil sent)
+    (o.completes [] refl))
 
 -- less than a frame
 pub opens_partial : (left : ℕ) (part sent : List ℕ) → 0 < left → BeginsFrame left part sent → IsPartial part
@@ -182,7 +192,8 @@ unfolding IsPartial
 opens_partial left part sent some o = λ body rest fits e.
     let zeros : List ℕ = replicate left 0 in
     let c = o.completes zeros (length-replicate {A = ℕ} left 0) in
-    let same : frame body ++ (rest ++ zeros) ≡ frame c.body ++ [] = sym (append_assoc (frame body) rest zeros) ∙ ap (λ t. t ++ zeros) (sym e) ∙ c.is_frame ∙ sym (append-nil (frame c.body)) in
+    let same : frame body ++ (rest ++ zeros) ≡ frame c.body ++ [] = sym (append_assoc (frame body) rest zeros) ∙ ap (λ t. t ++ zeros) (sym e) ∙ c.is_frame
+        ∙ sym (append-nil (frame c.body)) in
     let none = (same_from_frame body c.body (rest ++ zeros) [] fits c.fits same).1 in
     omega (arith, ap length none, length-append rest zeros, length-replicate {A = ℕ} left 0, some)
 
@@ -195,7 +206,8 @@ opens_sound left part sent more body after o fits e = elim (cases_lt (length mor
       let size : length (more ++ zeros) ≡ left = omega (arith, length-append more zeros, length-replicate {A = ℕ} (left - length more) 0, short) in
       let c = o.completes (more ++ zeros) size in
       let same : frame body ++ (after ++ zeros) ≡ frame c.body ++ [] =
-      sym (append_assoc (frame body) after zeros) ∙ ap (λ t. t ++ zeros) (sym e) ∙ append_assoc part more zeros ∙ c.is_frame ∙ sym (append-nil (frame c.body)) in
+      sym (append_assoc (frame body) after zeros) ∙ ap (λ t. t ++ zeros) (sym e) ∙ append_assoc part more zeros ∙ c.is_frame
+          ∙ sym (append-nil (frame c.body)) in
       let none = (same_from_frame body c.body (after ++ zeros) [] fits c.fits same).1 in
       absurd (omega (arith, ap length none, length-append after zeros, length-replicate {A = ℕ} (left - length more) 0, short))
   | inr enough ↦

@@ -44,7 +44,8 @@ pub reach_nothing : Reached 0 [] header
 reach_nothing = record { bodies = []; each = All-nil IsBody; part = []; sent = []; fed_is = refl; text_is = refl; stands = inl (refl, refl, refl) }
 
 -- a frame has begun, or it is whole
-settle : (left : ℕ) (bodies : List (List ℕ)) (part sent fed text : List ℕ) → All IsBody bodies → BeginsFrame left part sent → fed ≡ flat_map frame bodies ++ part → text ≡ conversion_bytes bodies ++ sent → Reached left fed text
+settle : (left : ℕ) (bodies : List (List ℕ)) (part sent fed text : List ℕ) → All IsBody bodies → BeginsFrame left part sent
+    → fed ≡ flat_map frame bodies ++ part → text ≡ conversion_bytes bodies ++ sent → Reached left fed text
 settle left bodies part sent fed text each o fed_is text_is = elim (cases_lt 0 left) [
   | inl some ↦ record { bodies = bodies; each = each; part = part; sent = sent; fed_is = fed_is; text_is = text_is; stands = inr (some, o) }
   | inr none ↦
@@ -77,21 +78,25 @@ reach_more left fed text xs r fits = elim r.stands [
       let nothing : xs ≡ [] = nil_from_length xs (omega (arith, fits, none.0)) in
       let same : left - length xs ≡ left = omega (arith, fits, none.0) in
       subst (λ n. Reached n (fed ++ xs) (text ++ xs)) (sym same)
-      (subst (λ t. Reached left (fed ++ t) (text ++ t)) (sym nothing) (subst (λ t. Reached left t (text ++ [])) (sym (append-nil fed)) (subst (Reached left fed) (sym (append-nil text)) r)))
+      (subst (λ t. Reached left (fed ++ t) (text ++ t)) (sym nothing) (subst (λ t. Reached left t (text ++ [])) (sym (append-nil fed))
+          (subst (Reached left fed) (sym (append-nil text)) r)))
   | inr some ↦ settle (left - length xs) r.bodies (r.part ++ xs) (r.sent ++ xs) (fed ++ xs) (text ++ xs) r.each (opens_more left r.part r.sent xs some.1 fits)
       (ap (λ t. t ++ xs) r.fed_is ∙ append_assoc (flat_map frame r.bodies) r.part xs)
       (ap (λ t. t ++ xs) r.text_is ∙ append_assoc (conversion_bytes r.bodies) r.sent xs)
 ]
 
 -- a prefix of some bytes
-pub reach_prefix : (left count : ℕ) (fed text bytes : List ℕ) → count ≤ left → count ≤ length bytes → Reached left fed text → Reached (left - count) (fed ++ take count bytes) (text ++ take count bytes)
+pub reach_prefix : (left count : ℕ) (fed text bytes : List ℕ) → count ≤ left → count ≤ length bytes → Reached left fed text
+    → Reached (left - count) (fed ++ take count bytes) (text ++ take count bytes)
 reach_prefix left count fed text bytes low within r =
     let size : length (take count bytes) ≡ count = length-take-le count bytes within in
-    subst (λ n. Reached (left - n) (fed ++ take count bytes) (text ++ take count bytes)) size (reach_more left fed text (take count bytes) r (omega (arith, size, low)))
+    subst (λ n. Reached (left - n) (fed ++ take count bytes) (text ++ take count bytes)) size
+        (reach_more left fed text (take count bytes) r (omega (arith, size, low)))
 
 -- a head follows only if no body has begun
 pub none_left : (left done count size : ℕ) (part : List ℕ) → (left ≡ 0) ⊎ (count ≡ length (take (length part - done) (drop done part)))
-    → size ≤ length (take (length part - (done + count)) (drop (done + count) part)) → IsHeadOf (take size (take (length part - (done + count)) (drop (done + count) part))) size → left ≡ 0
+    → size ≤ length (take (length part - (done + count)) (drop (done + count) part))
+    → IsHeadOf (take size (take (length part - (done + count)) (drop (done + count) part))) size → left ≡ 0
 none_left left done count size part (inl none) fits h = none
 none_left left done count size part (inr all) fits h =
     let short : length (take (length part - (done + count)) (drop (done + count) part)) ≡ 0 =
@@ -100,14 +105,16 @@ none_left left done count size part (inr all) fits h =
 
 -- more of the same bytes
 pub fed_later : (fed part : List ℕ) (at n : ℕ) → (fed ++ take at part) ++ take n (take (length part - at) (drop at part)) ≡ fed ++ take (at + n) part
-fed_later fed part at n = append_assoc fed (take at part) _ ∙ ap (λ t. fed ++ (take at part ++ take n t)) (take_rest part at) ∙ ap (λ t. fed ++ t) (sym (take-add at n part))
+fed_later fed part at n = append_assoc fed (take at part) _ ∙ ap (λ t. fed ++ (take at part ++ take n t)) (take_rest part at)
+    ∙ ap (λ t. fed ++ t) (sym (take-add at n part))
 
 pub fed_head : (fed part : List ℕ) (at n : ℕ) → (fed ++ take at part) ++ take (at + n - at) (drop at part) ≡ fed ++ take (at + n) part
 fed_head fed part at n =
     let same : at + n - at ≡ n = omega arith in
     append_assoc fed (take at part) _ ∙ ap (λ k. fed ++ (take at part ++ take k (drop at part))) same ∙ ap (λ t. fed ++ t) (sym (take-add at n part))
 
-pub breaks_later : (start now : SinkSeen) (fed part : List ℕ) (at : ℕ) → BreaksOff start now (fed ++ take at part) (take (length part - at) (drop at part)) → BreaksOff start now fed part
+pub breaks_later : (start now : SinkSeen) (fed part : List ℕ) (at : ℕ) → BreaksOff start now (fed ++ take at part) (take (length part - at) (drop at part))
+    → BreaksOff start now fed part
 breaks_later start now fed part at b = record {
   count = at + b.count;
   left = b.left;
@@ -128,7 +135,8 @@ record Follow (bodies bs : List (List ℕ)) (xs : List ℕ) : Type 0 where
 frame_not_nothing : (b xs : List ℕ) → frame b ++ xs ≡ [] → ⊥
 frame_not_nothing b xs e = omega (arith, ap length e, length-append (frame b) xs, length-frame b)
 
-follow : (bodies bs : List (List ℕ)) (xs : List ℕ) → AllByRecursion IsBody bodies → AllByRecursion IsBody bs → flat_map frame bodies ++ xs ≡ flat_map frame bs → Follow bodies bs xs
+follow : (bodies bs : List (List ℕ)) (xs : List ℕ) → AllByRecursion IsBody bodies → AllByRecursion IsBody bs → flat_map frame bodies ++ xs ≡ flat_map frame bs
+    → Follow bodies bs xs
 follow [] bs xs p q e = record { later = bs; each = q; are = refl; rest_is = e }
 follow (b ∷ bodies) [] xs p q e = absurd (frame_not_nothing b (flat_map frame bodies ++ xs) (sym (append_assoc (frame b) (flat_map frame bodies) xs) ∙ e))
 follow (b ∷ bodies) (c ∷ bs) xs p q e =
@@ -136,13 +144,16 @@ follow (b ∷ bodies) (c ∷ bs) xs p q e =
     let f = follow bodies bs xs p.1 q.1 same.1 in
     record { later = f.later; each = f.each; are = ap (λ x. x ∷ bs) (sym same.0) ∙ ap (λ t. b ∷ t) f.are; rest_is = f.rest_is }
 
-sound_begun : (left : ℕ) (part sent more : List ℕ) (later : List (List ℕ)) → AllByRecursion IsBody later → BeginsFrame left part sent → part ++ more ≡ flat_map frame later → IsPrefixOf sent (converted_frames later)
+sound_begun : (left : ℕ) (part sent more : List ℕ) (later : List (List ℕ)) → AllByRecursion IsBody later → BeginsFrame left part sent
+    → part ++ more ≡ flat_map frame later → IsPrefixOf sent (converted_frames later)
 sound_begun left part sent more [] each o e = absurd (omega (arith, o.some, ap length e, length-append part more))
 sound_begun left part sent more (c ∷ later) each o e =
     let s = opens_sound left part sent more c (flat_map frame later) o each.0 e in
-    (s.0 ++ converted_frames later, flat_map-append (record_frame Two) (converted c) (conversion later) ∙ ap (λ t. t ++ converted_frames later) s.1 ∙ append_assoc sent s.0 (converted_frames later))
+    (s.0 ++ converted_frames later, flat_map-append (record_frame Two) (converted c) (conversion later) ∙ ap (λ t. t ++ converted_frames later) s.1
+        ∙ append_assoc sent s.0 (converted_frames later))
 
-sound_part : (left : ℕ) (part sent more : List ℕ) (later : List (List ℕ)) → AllByRecursion IsBody later → Stands left part sent → part ++ more ≡ flat_map frame later → IsPrefixOf sent (converted_frames later)
+sound_part : (left : ℕ) (part sent more : List ℕ) (later : List (List ℕ)) → AllByRecursion IsBody later → Stands left part sent
+    → part ++ more ≡ flat_map frame later → IsPrefixOf sent (converted_frames later)
 sound_part left part sent more later each (inl none) e = (converted_frames later, ap (λ t. t ++ converted_frames later) (sym none.2))
 sound_part left part sent more later each (inr some) e = sound_begun left part sent more later each some.1 e
 
@@ -193,14 +204,16 @@ may_end left fed rest text r w = elim r.stands [
       record {
         bodies = r.bodies;
         part = r.part;
-        frames = record { whole = ap (λ t. fed ++ t) none ∙ append-nil fed ∙ r.fed_is; each = r.each; partial = opens_partial left r.part r.sent some.0 some.1 };
+        frames = record { whole = ap (λ t. fed ++ t) none ∙ append-nil fed ∙ r.fed_is; each = r.each; partial = opens_partial left r.part r.sent some.0 some.1
+            };
         begins = (r.sent, r.text_is);
         whole = λ e _. absurd (omega (arith, e, some.0));
         cut = λ e. absurd (omega (arith, some.1.some, ap length e));
       }
 ]
 
-abbrev pub sends_of : (left : ℕ) (fed rest text : List ℕ) (start now : SinkSeen) → Reached left fed text → Sent start now text → (s : MayEnd left fed rest text) → Sends (fed ++ rest) start now
+abbrev pub sends_of : (left : ℕ) (fed rest text : List ℕ) (start now : SinkSeen) → Reached left fed text → Sent start now text → (s : MayEnd left fed rest text)
+    → Sends (fed ++ rest) start now
 sends_of left fed rest text start now r sent s = record {
   bodies = s.bodies;
   rest = s.part;

@@ -1,5 +1,6 @@
 -- Why a record was not converted, and what went out.
-use Rattle.std.proofs.Common.{ℕ, ◌≤◌, Bool, true, false, nat_eq, Result, Ok, Err, List, [], ◌++◌, length, take, inl, inr, refl, sym, ap, ◌∙◌, subst, arith, MatchResult}
+use Rattle.std.proofs.Common.{ℕ, ◌≤◌, Bool, true, false, nat_eq, Result, Ok, Err, List, [], ◌++◌, length, take, inl, inr, refl, sym, ap, ◌∙◌, subst, arith}
+use Rattle.std.proofs.Common.{MatchResult}
 use Rattle.std.proofs.lemmas.Bool.{eqb-true, eq-eqb, false≢true}
 use Rattle.std.proofs.lemmas.List.{length-take-le}
 use Rattle.benc.specs.Device.{SinkSeen, SourceSeen, Sent, one_more}
@@ -20,21 +21,25 @@ use Rattle.conversions.proofs.Fronts.{no_prefix, one_whatever_follows, prefix_pa
 
 -- ---- more came
 
-stops_later : (first now : SourceSeen) (start out : SinkSeen) (front : List ℕ) → (IsPrefixOf front header → 8 ≤ length front) → HasForm front One → (why : ConvertFault)
+stops_later : (first now : SourceSeen) (start out : SinkSeen) (front : List ℕ) → (IsPrefixOf front header → 8 ≤ length front) → HasForm front One
+    → (why : ConvertFault)
     → ReadingEnds first now start out front (Err why) → FailsToConvert first now start out why
 stops_later first now start out front tells has fault.Truncated e = absurd e
-stops_later first now start out front tells has fault.Read e = record { bytes = front ++ e.0; gave = e.1; counted = e.2; went_out = inr (no_prefix front e.0 tells has, e.3) }
+stops_later first now start out front tells has fault.Read e = record { bytes = front ++ e.0; gave = e.1; counted = e.2; went_out =
+    inr (no_prefix front e.0 tells has, e.3) }
 stops_later first now start out front tells has fault.AlreadyForm2 e = absurd e
 stops_later first now start out front tells has fault.Write e = record { bytes = front ++ e.0; gave = e.1; went_out = inl e.2 }
 
-pub ends_later : (first now : SourceSeen) (start out : SinkSeen) (front : List ℕ) → (IsPrefixOf front header → 8 ≤ length front) → HasForm front One → (r : Result Bool ConvertFault) → ReadingEnds first now start out front r
+pub ends_later : (first now : SourceSeen) (start out : SinkSeen) (front : List ℕ) → (IsPrefixOf front header → 8 ≤ length front) → HasForm front One
+    → (r : Result Bool ConvertFault) → ReadingEnds first now start out front r
     → MatchResult r (λ whole. EndsForm1 whole first now start out) (FailsToConvert first now start out)
 ends_later first now start out front tells has (Ok whole) e = (front ++ e.0, e.1, one_whatever_follows front e.0 tells has)
 ends_later first now start out front tells has (Err why) e = stops_later first now start out front tells has why e
 
 -- ---- the source ended in less than a header
 
-pub ends_at_once : (first now : SourceSeen) (start out : SinkSeen) (held : ℕ) (buffer : List ℕ) → held ≤ length buffer → GaveFaultless first now (take held buffer) → TellsForm false now (take held buffer) → Sent start out header
+pub ends_at_once : (first now : SourceSeen) (start out : SinkSeen) (held : ℕ) (buffer : List ℕ) → held ≤ length buffer
+    → GaveFaultless first now (take held buffer) → TellsForm false now (take held buffer) → Sent start out header
     → EndsForm1 (nat_eq held 0) first now start out
 ends_at_once first now start out held buffer within gave tells sent =
     let front = take held buffer in
@@ -75,7 +80,8 @@ converts first now start out out' e f =
       };
     }
 
-pub fails_to_flush : (first now : SourceSeen) (start out out' : SinkSeen) → EndsForm1 true first now start out → FailedFlush out out' → FailsToWrite first now start out'
+pub fails_to_flush : (first now : SourceSeen) (start out out' : SinkSeen) → EndsForm1 true first now start out → FailedFlush out out'
+    → FailsToWrite first now start out'
 fails_to_flush first now start out out' e f =
     let sent = whole_text first now start out e in
     let text = conversion_bytes e.1.sends.bodies in

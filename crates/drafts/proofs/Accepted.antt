@@ -1,12 +1,14 @@
 -- No test of keys and files holds for a draft's value.
-use Rattle.std.proofs.Common.{◌≡◌, ◌≢◌, ℕ, zero, suc, ◌<◌, ◌≤◌, ◌^◌, Bool, true, false, ◌&&◌, if◌then◌else◌, List, [], ◌∷◌, length, map, Option, Some, None, pos, slice_get, inl, inr, refl, sym, ap, ◌∙◌, arith}
+use Rattle.std.proofs.Common.{◌≡◌, ◌≢◌, ℕ, zero, suc, ◌<◌, ◌≤◌, ◌^◌, Bool, true, false, ◌&&◌, if◌then◌else◌, List, [], ◌∷◌, length, map, Option, Some, None}
+use Rattle.std.proofs.Common.{pos, slice_get, inl, inr, refl, sym, ap, ◌∙◌, arith}
 use Rattle.std.specs.List.{list_any}
 use Rattle.std.specs.Prelude.{codes, nat_lt, nat_le, ◌==◌, is_none, unwrap_or}
 use Rattle.std.specs.Str.{IsUtf8, bytes_eq}
 use Rattle.benc.specs.Value.{Bencode, int, text, list, Pairs, pair}
 use Rattle.drafts.proofs.Building.{AreOutlineFiles}
 use Rattle.drafts.specs.Outline.{Outline, OutlineFile, IsOutline, IsOutlineFile, listed_file}
-use Rattle.drafts.specs.Written.{file_tree_of, file_value, walk_to_file, list_pair, last_pairs, pieces_pair, is_single, info_value, value_of, entries_value, first_length}
+use Rattle.drafts.specs.Written.{file_tree_of, file_value, walk_to_file, list_pair, last_pairs, pieces_pair, is_single, info_value, value_of, entries_value}
+use Rattle.drafts.specs.Written.{first_length}
 use Rattle.filetree.proofs.Bytes.{true_or_false}
 use Rattle.filetree.specs.Dictionary.{get, under, as_int}
 use Rattle.filetree.specs.FileTree.{Walk, is_symlink, length_at, length_of, lacks_root, root_at, stated_root, listed, is_directory, HasBadPath}
@@ -25,11 +27,13 @@ under_either key true ps qs x e f = e
 under_either key false ps qs x e f = f
 
 -- what stands behind the list
-pub behind_list : (d : Outline) (key : List ℕ) (x : Option Bencode) → bytes_eq (codes "file tree") key ≡ false → bytes_eq (codes "length") key ≡ false → bytes_eq (codes "files") key ≡ false
+pub behind_list : (d : Outline) (key : List ℕ) (x : Option Bencode) → bytes_eq (codes "file tree") key ≡ false → bytes_eq (codes "length") key ≡ false
+    → bytes_eq (codes "files") key ≡ false
     → under key (last_pairs d) ≡ x → get key (info_value d) ≡ x
 behind_list d key x tree length files e =
     rw tree (under_either key d.hybrid (list_pair d (last_pairs d)) (last_pairs d) x
-    (under_either key (is_single d.name d.files) (pair (codes "length") (int (pos (first_length d.files))) (last_pairs d)) (pair (codes "files") (list (entries_value d.piece_length d.files)) (last_pairs d)) x
+    (under_either key (is_single d.name d.files) (pair (codes "length") (int (pos (first_length d.files))) (last_pairs d))
+        (pair (codes "files") (list (entries_value d.piece_length d.files)) (last_pairs d)) x
     (rw length e) (rw files e)) e)
 
 pub version_there : (d : Outline) → get (codes "meta version") (info_value d) ≡ Some (int (pos 2))
@@ -61,7 +65,8 @@ version_none d = (
 pub present_none : (d : Outline) → NoneHolds (present_rows (info_value d))
 present_none d = (
   (λ none. cc),
-  (there (get (codes "name") (info_value d)) (text d.name) (name_is_there d), (there (get (codes "piece length") (info_value d)) (int (pos d.piece_length)) (length_there d), tt)),
+  (there (get (codes "name") (info_value d)) (text d.name) (name_is_there d),
+      (there (get (codes "piece length") (info_value d)) (int (pos d.piece_length)) (length_there d), tt)),
 )
 
 pub kind_none : (d : Outline) → IsUtf8 d.name → NoneHolds (kind_rows (info_value d))
@@ -81,7 +86,8 @@ piece_length_none p legal = ((λ no. no legal), tt)
 
 -- ---- tests of files
 
-pub shape_none : (p : ℕ) (fs : List OutlineFile) → (is_directory (file_tree_of fs) ≡ true) → (HasBadPath (file_tree_of fs) → ⊥) → NoneHolds (shape_rows (file_tree_of fs))
+pub shape_none : (p : ℕ) (fs : List OutlineFile) → (is_directory (file_tree_of fs) ≡ true) → (HasBadPath (file_tree_of fs) → ⊥)
+    → NoneHolds (shape_rows (file_tree_of fs))
 shape_none p fs directory good = ((λ none. let never : true ≡ false = sym directory ∙ none in cc), (good, tt))
 
 -- what stands in a file's dictionary
@@ -115,9 +121,11 @@ listed_is p f o =
 pub all_listed : (p : ℕ) (fs : List OutlineFile) → AreOutlineFiles p fs → map listed (map walk_to_file fs) ≡ map listed_file fs
 all_listed p [] files = refl
 all_listed p (f ∷ fs) files =
-    ap (λ (x : ListedFile). x ∷ map listed (map walk_to_file fs)) (listed_is p f (files 0 f refl)) ∙ ap (λ xs. listed_file f ∷ xs) (all_listed p fs (λ n g e. files (suc n) g e))
+    ap (λ (x : ListedFile). x ∷ map listed (map walk_to_file fs)) (listed_is p f (files 0 f refl))
+        ∙ ap (λ xs. listed_file f ∷ xs) (all_listed p fs (λ n g e. files (suc n) g e))
 
-no_any : (p : ℕ) (test : Walk → Bool) (fs : List OutlineFile) → AreOutlineFiles p fs → ((f : OutlineFile) → IsOutlineFile f → test (walk_to_file f) ≡ false) → list_any test (map walk_to_file fs) ≡ true → ⊥
+no_any : (p : ℕ) (test : Walk → Bool) (fs : List OutlineFile) → AreOutlineFiles p fs → ((f : OutlineFile) → IsOutlineFile f → test (walk_to_file f) ≡ false)
+    → list_any test (map walk_to_file fs) ≡ true → ⊥
 no_any p test [] files none any = cc
 no_any p test (f ∷ fs) files none any =
     let first : test (walk_to_file f) ≡ false = none f (files 0 f refl) in
@@ -141,7 +149,8 @@ file_none p fs files = (
 
 -- ---- tests of the files together
 
-pub listed_at : (fs : List OutlineFile) (n : ℕ) (g : ListedFile) → slice_get (map listed_file fs) n ≡ Some g → (f : OutlineFile) × (slice_get fs n ≡ Some f) × (listed_file f ≡ g)
+pub listed_at : (fs : List OutlineFile) (n : ℕ) (g : ListedFile) → slice_get (map listed_file fs) n ≡ Some g → (f : OutlineFile) × (slice_get fs n ≡ Some f)
+    × (listed_file f ≡ g)
 listed_at [] n g e = cc
 listed_at (f ∷ fs) zero g e = (f, refl, cc)
 listed_at (f ∷ fs) (suc n) g e = listed_at fs n g e

@@ -1,5 +1,6 @@
 -- A draft with a file more is a draft.
-use Rattle.std.proofs.Common.{◌≡◌, ◌≢◌, ℕ, zero, suc, ◌+◌, ◌^◌, ◌<◌, ◌≤◌, true, if◌then◌else◌, List, [], ◌∷◌, ◌++◌, length, map, take, drop, Some, slice_get, inl, inr, refl, sym, ap, subst, ◌∙◌, arith, ◌⊎◌}
+use Rattle.std.proofs.Common.{◌≡◌, ◌≢◌, ℕ, zero, suc, ◌+◌, ◌^◌, ◌<◌, ◌≤◌, true, if◌then◌else◌, List, [], ◌∷◌, ◌++◌, length, map, take, drop, Some, slice_get}
+use Rattle.std.proofs.Common.{inl, inr, refl, sym, ap, subst, ◌∙◌, arith, ◌⊎◌}
 use Rattle.std.proofs.lemmas.Bool.{cases_lt}
 use Rattle.std.proofs.lemmas.Cmp.{nat_list_cmp_total}
 use Rattle.std.proofs.lemmas.List.Sums.{sum_by-cons}
@@ -49,7 +50,8 @@ put_here zero f xs = (0, refl)
 put_here (suc i) f [] = (0, refl)
 put_here (suc i) f (x ∷ xs) = later x (take i xs ++ f ∷ drop i xs) f (put_here i f xs)
 
-pub pieces_put : (p i : ℕ) (f : OutlineFile) (fs : List OutlineFile) → pieces_in p (map listed_file (take i fs ++ f ∷ drop i fs)) ≡ pieces_in p (map listed_file fs) + pieces_of p f.length
+pub pieces_put : (p i : ℕ) (f : OutlineFile) (fs : List OutlineFile)
+    → pieces_in p (map listed_file (take i fs ++ f ∷ drop i fs)) ≡ pieces_in p (map listed_file fs) + pieces_of p f.length
 pieces_put p zero f fs = sum_by-cons (λ (g : ListedFile). pieces_of p g.length) (listed_file f) (map listed_file fs) ∙ omega arith
 pieces_put p (suc i) f [] = sum_by-cons (λ (g : ListedFile). pieces_of p g.length) (listed_file f) [] ∙ omega arith
 pieces_put p (suc i) f (g ∷ fs) =
@@ -68,7 +70,8 @@ three Greater = inr (inr refl)
 abbrev pub new : List ℕ → List (List ℕ) → OutlineLayer
 new root hashes = record { root = root; hashes = hashes }
 
-layer_back : (r : List ℕ) (hs : List (List ℕ)) (es : List OutlineLayer) (n : ℕ) (x : OutlineLayer) → slice_get (with_layer r hs es) n ≡ Some x → (new r hs ≡ x) ⊎ In es x
+layer_back : (r : List ℕ) (hs : List (List ℕ)) (es : List OutlineLayer) (n : ℕ) (x : OutlineLayer) → slice_get (with_layer r hs es) n ≡ Some x → (new r hs ≡ x)
+    ⊎ In es x
 layer_back r hs [] zero x at = inl cc
 layer_back r hs [] (suc n) x at = cc
 layer_back r hs (e ∷ es) n x at =
@@ -84,7 +87,8 @@ layer_back r hs (e ∷ es) n x at =
     front zero at = inl cc
     front (suc n) at = inr (n, at)
 
-    behind : (n : ℕ) → slice_get (e ∷ with_layer r hs es) n ≡ Some x → ((n : ℕ) (x : OutlineLayer) → slice_get (with_layer r hs es) n ≡ Some x → (new r hs ≡ x) ⊎ In es x) → (new r hs ≡ x) ⊎ In (e ∷ es) x
+    behind : (n : ℕ) → slice_get (e ∷ with_layer r hs es) n ≡ Some x → ((n : ℕ) (x : OutlineLayer) → slice_get (with_layer r hs es) n ≡ Some x → (new r hs ≡ x)
+        ⊎ In es x) → (new r hs ≡ x) ⊎ In (e ∷ es) x
     behind zero at rest = inr (0, at)
     behind (suc n) at rest = elim (rest n x at) [ inl same ↦ inl same | inr old ↦ inr (later e es x old) ]
 
@@ -99,12 +103,14 @@ layer_kept r hs (e ∷ es) n x at =
       ]
     ]
   where
-    behind : (n : ℕ) → slice_get (e ∷ es) n ≡ Some x → ((n : ℕ) (x : OutlineLayer) → slice_get es n ≡ Some x → In (with_layer r hs es) x) → In (e ∷ with_layer r hs es) x
+    behind : (n : ℕ) → slice_get (e ∷ es) n ≡ Some x → ((n : ℕ) (x : OutlineLayer) → slice_get es n ≡ Some x → In (with_layer r hs es) x)
+        → In (e ∷ with_layer r hs es) x
     behind zero at rest = (0, at)
     behind (suc n) at rest = later e (with_layer r hs es) x (rest n x at)
 
 -- the root has a layer then, the one that it had or the new one
-layer_has : (r : List ℕ) (hs : List (List ℕ)) (es : List OutlineLayer) → (x : OutlineLayer) × In (with_layer r hs es) x × (x.root ≡ r) × ((new r hs ≡ x) ⊎ In es x)
+layer_has : (r : List ℕ) (hs : List (List ℕ)) (es : List OutlineLayer) → (x : OutlineLayer) × In (with_layer r hs es) x × (x.root ≡ r) × ((new r hs ≡ x)
+    ⊎ In es x)
 layer_has r hs [] = (new r hs, (0, refl), refl, inl refl)
 layer_has r hs (e ∷ es) =
     elim (three (slice_cmp nat_cmp r e.root)) [
@@ -122,7 +128,8 @@ layer_has r hs (e ∷ es) =
 abbrev roots_of : List OutlineLayer → List (List ℕ)
 roots_of es = map (λ (e : OutlineLayer). e.root) es
 
-over_with : (k r : List ℕ) (hs : List (List ℕ)) (es : List OutlineLayer) → AllByRecursion (λ q. slice_cmp nat_cmp k q ≡ Less) (roots_of es) → slice_cmp nat_cmp k r ≡ Less
+over_with : (k r : List ℕ) (hs : List (List ℕ)) (es : List OutlineLayer) → AllByRecursion (λ q. slice_cmp nat_cmp k q ≡ Less) (roots_of es)
+    → slice_cmp nat_cmp k r ≡ Less
     → AllByRecursion (λ q. slice_cmp nat_cmp k q ≡ Less) (roots_of (with_layer r hs es))
 over_with k r hs [] above less = (less, tt)
 over_with k r hs (e ∷ es) above less =
@@ -131,7 +138,8 @@ over_with k r hs (e ∷ es) above less =
       | inr more ↦ elim more [ inl same ↦ rw same above | inr greater ↦ rw greater (above.0, over_with k r hs es above.1 less) ]
     ]
 
-layer_order : (r : List ℕ) (hs : List (List ℕ)) (es : List OutlineLayer) → IsStrictlySortedBy (slice_cmp nat_cmp) (roots_of es) → IsStrictlySortedBy (slice_cmp nat_cmp) (roots_of (with_layer r hs es))
+layer_order : (r : List ℕ) (hs : List (List ℕ)) (es : List OutlineLayer) → IsStrictlySortedBy (slice_cmp nat_cmp) (roots_of es)
+    → IsStrictlySortedBy (slice_cmp nat_cmp) (roots_of (with_layer r hs es))
 unfolding IsStrictlySortedBy
 layer_order r hs [] order = (tt, tt)
 layer_order r hs (e ∷ es) order =
@@ -152,7 +160,8 @@ moved_layer p x f g root size is = record {
   root = is.root ∙ root;
   count = is.count ∙ ap (pieces_of p) size;
   hash_lengths = is.hash_lengths;
-  leads = subst (λ n. leads_to p (record { root = g.root; length = n }) x.hashes ≡ g.root) size (subst (λ r. leads_to p (record { root = r; length = f.length }) x.hashes ≡ r) root is.leads);
+  leads = subst (λ n. leads_to p (record { root = g.root; length = n }) x.hashes ≡ g.root) size
+      (subst (λ r. leads_to p (record { root = r; length = f.length }) x.hashes ≡ r) root is.leads);
 }
 
 record Tests (d : Outline) (f : OutlineFile) : Type 0 where
@@ -162,7 +171,8 @@ record Tests (d : Outline) (f : OutlineFile) : Type 0 where
   pieces : pieces_in d.piece_length (map listed_file d.files) + pieces_of d.piece_length f.length < 2 ^ 32
 
 pub equal_or_not : (m n : ℕ) → (m ≡ n) ⊎ (m ≢ n)
-equal_or_not m n = elim (cases_lt m n) [ inl less ↦ inr (λ e. omega arith) | inr least ↦ elim (cases_lt n m) [ inl less ↦ inr (λ e. omega arith) | inr most ↦ inl (omega arith) ] ]
+equal_or_not m n = elim (cases_lt m n) [ inl less ↦ inr (λ e. omega arith) | inr least ↦ elim (cases_lt n m)
+    [ inl less ↦ inr (λ e. omega arith) | inr most ↦ inl (omega arith) ] ]
 
 tests : (d : Outline) (f : OutlineFile) → IsFilePath f.path → NoneHolds (add_rows d f) → Tests d f
 tests d f path none = record {
@@ -172,7 +182,8 @@ tests d f path none = record {
     | inl equal ↦ equal
     | inr differ ↦ absurd (none.1.1.0 (record { number = n; other = g; there = at; some = some; other_some = other; same = same; differ = differ }))
   ];
-  pieces = elim (cases_lt (pieces_in d.piece_length (map listed_file d.files) + pieces_of d.piece_length f.length) (2 ^ 32)) [ inl few ↦ few | inr many ↦ absurd (none.1.1.1.0 many) ];
+  pieces = elim (cases_lt (pieces_in d.piece_length (map listed_file d.files) + pieces_of d.piece_length f.length) (2 ^ 32))
+      [ inl few ↦ few | inr many ↦ absurd (none.1.1.1.0 many) ];
 }
 
 abbrev layers_with : Outline → OutlineFile → List (List ℕ) → List OutlineLayer
@@ -195,14 +206,17 @@ kept d f layer n x at =
     ]
 
 -- a layer is the file's, which is longer than a piece, or an old one
-back : (d : Outline) (f : OutlineFile) (layer : List (List ℕ)) (n : ℕ) (x : OutlineLayer) → slice_get (layers_with d f layer) n ≡ Some x → ((d.piece_length < f.length) × (new f.root layer ≡ x)) ⊎ In d.layers x
+back : (d : Outline) (f : OutlineFile) (layer : List (List ℕ)) (n : ℕ) (x : OutlineLayer) → slice_get (layers_with d f layer) n ≡ Some x
+    → ((d.piece_length < f.length) × (new f.root layer ≡ x)) ⊎ In d.layers x
 back d f layer n x at =
     elim (true_or_false (nat_lt d.piece_length f.length)) [
-      | inl long ↦ elim (layer_back f.root layer d.layers n x (rw long at at)) [ inl same ↦ inl ((let more : d.piece_length < f.length = grind (arith, long) in more), same) | inr old ↦ inr old ]
+      | inl long ↦ elim (layer_back f.root layer d.layers n x (rw long at at))
+          [ inl same ↦ inl ((let more : d.piece_length < f.length = grind (arith, long) in more), same) | inr old ↦ inr old ]
       | inr short ↦ inr (n, rw short at at)
     ]
 
-ordered : (d : Outline) (f : OutlineFile) (layer : List (List ℕ)) → IsStrictlySortedBy (slice_cmp nat_cmp) (roots_of d.layers) → IsStrictlySortedBy (slice_cmp nat_cmp) (roots_of (layers_with d f layer))
+ordered : (d : Outline) (f : OutlineFile) (layer : List (List ℕ)) → IsStrictlySortedBy (slice_cmp nat_cmp) (roots_of d.layers)
+    → IsStrictlySortedBy (slice_cmp nat_cmp) (roots_of (layers_with d f layer))
 ordered d f layer order =
     elim (true_or_false (nat_lt d.piece_length f.length)) [
       | inl long ↦ rw long (layer_order f.root layer d.layers order)
@@ -214,7 +228,8 @@ old_layer d f g layer place has =
     let there = kept d f layer has.number has.layer has.there in record { number = there.0; layer = has.layer; there = there.1; is = has.is }
 
 -- the file's own layer: the one given, or the one of an older file with its root, which has its length
-own_layer : (d : Outline) (f : OutlineFile) (layer : List (List ℕ)) (place : ℕ) → IsOutline d → Tests d f → IsGiven d f layer → d.piece_length < f.length → HasLayer (made d f layer place) f
+own_layer : (d : Outline) (f : OutlineFile) (layer : List (List ℕ)) (place : ℕ) → IsOutline d → Tests d f → IsGiven d f layer → d.piece_length < f.length
+    → HasLayer (made d f layer place) f
 own_layer d f layer place o t given long =
     let e : nat_lt d.piece_length f.length ≡ true = grind (arith, long) in
     let has = layer_has f.root layer d.layers in
@@ -239,11 +254,13 @@ made_outline d f layer place o t given order = record {
   name = o.name;
   legal = o.legal;
   files = λ n g at. elim (put_back place f d.files n g at) [
-    | inl same ↦ subst IsOutlineFile same (record { path = t.path; bound = t.bound; root_length = given.root_length; cut_lengths = given.cut_lengths; padded_length = given.padded_length })
+    | inl same ↦ subst IsOutlineFile same (record { path = t.path; bound = t.bound; root_length = given.root_length; cut_lengths = given.cut_lengths;
+        padded_length = given.padded_length })
     | inr old ↦ o.files old.0 g old.1
   ];
   cuts = λ n g at hybrid some. elim (put_back place f d.files n g at) [
-    | inl same ↦ subst (λ (x : OutlineFile). length x.cuts ≡ pieces_of d.piece_length x.length) same (given.may.cuts hybrid (subst (λ (x : OutlineFile). 0 < x.length) (sym same) some))
+    | inl same ↦ subst (λ (x : OutlineFile). length x.cuts ≡ pieces_of d.piece_length x.length) same
+        (given.may.cuts hybrid (subst (λ (x : OutlineFile). 0 < x.length) (sym same) some))
     | inr old ↦ o.cuts old.0 g old.1 hybrid some
   ];
   in_order = order;
@@ -251,12 +268,14 @@ made_outline d f layer place o t given order = record {
     | inl one ↦ elim (put_back place f d.files n h at_h) [
       | inl other ↦ ap (λ (x : OutlineFile). x.length) (sym one ∙ other)
       | inr old ↦
-          let length_is : h.length ≡ f.length = t.one_length old.0 h old.1 (subst (λ (x : OutlineFile). 0 < x.length) (sym one) some_g) some_h (sym root ∙ ap (λ (x : OutlineFile). x.root) (sym one)) in
+          let length_is : h.length ≡ f.length = t.one_length old.0 h old.1 (subst (λ (x : OutlineFile). 0 < x.length) (sym one) some_g) some_h (sym root
+              ∙ ap (λ (x : OutlineFile). x.root) (sym one)) in
           ap (λ (x : OutlineFile). x.length) (sym one) ∙ sym length_is
     ]
     | inr past ↦ elim (put_back place f d.files n h at_h) [
       | inl other ↦
-          let length_is : g.length ≡ f.length = t.one_length past.0 g past.1 (subst (λ (x : OutlineFile). 0 < x.length) (sym other) some_h) some_g (root ∙ ap (λ (x : OutlineFile). x.root) (sym other)) in
+          let length_is : g.length ≡ f.length = t.one_length past.0 g past.1 (subst (λ (x : OutlineFile). 0 < x.length) (sym other) some_h) some_g (root
+              ∙ ap (λ (x : OutlineFile). x.root) (sym other)) in
           length_is ∙ ap (λ (x : OutlineFile). x.length) other
       | inr old ↦ o.one_length past.0 old.0 g h past.1 old.1 some_g some_h root
     ]
@@ -264,7 +283,8 @@ made_outline d f layer place o t given order = record {
   pieces = subst (λ n. n < 2 ^ 32) (sym (pieces_put d.piece_length place f d.files)) t.pieces;
   layers_ascend = ordered d f layer o.layers_ascend;
   layers_there = λ n g at long. elim (put_back place f d.files n g at) [
-    | inl same ↦ subst (HasLayer (made d f layer place)) same (own_layer d f layer place o t given (subst (λ (x : OutlineFile). d.piece_length < x.length) (sym same) long))
+    | inl same ↦ subst (HasLayer (made d f layer place)) same
+        (own_layer d f layer place o t given (subst (λ (x : OutlineFile). d.piece_length < x.length) (sym same) long))
     | inr old ↦ old_layer d f g layer place (o.layers_there old.0 g old.1 long)
   ];
   layers_used = λ n x at. elim (back d f layer n x at) [
@@ -281,9 +301,12 @@ outline_is d e f layer w =
     ∙ ap (λ n. record { name = d.name; piece_length = n; hybrid = e.hybrid; files = e.files; layers = e.layers }) w.piece_length
     ∙ ap (λ b. record { name = d.name; piece_length = d.piece_length; hybrid = b; files = e.files; layers = e.layers }) w.hybrid
     ∙ ap (λ (fs : List OutlineFile). record { name = d.name; piece_length = d.piece_length; hybrid = d.hybrid; files = fs; layers = e.layers }) w.files
-    ∙ ap (λ (ls : List OutlineLayer). record { name = d.name; piece_length = d.piece_length; hybrid = d.hybrid; files = take w.place d.files ++ f ∷ drop w.place d.files; layers = ls }) w.layers
+    ∙ ap (λ (ls : List OutlineLayer). record { name = d.name; piece_length = d.piece_length; hybrid = d.hybrid; files = take w.place d.files
+        ++ f ∷ drop w.place d.files; layers = ls }) w.layers
 
-pub add_keeps : (d e : Outline) (f : OutlineFile) (layer : List (List ℕ)) → IsOutline d → IsFilePath f.path → NoneHolds (add_rows d f) → IsGiven d f layer → IsWith d e f layer → IsOutline e
+pub add_keeps : (d e : Outline) (f : OutlineFile) (layer : List (List ℕ)) → IsOutline d → IsFilePath f.path → NoneHolds (add_rows d f) → IsGiven d f layer
+    → IsWith d e f layer → IsOutline e
 add_keeps d e f layer o path none given w =
     subst IsOutline (sym (outline_is d e f layer w))
-    (made_outline d f layer w.place o (tests d f path none) given (subst (λ (fs : List OutlineFile). AreInOrder (map (λ (g : OutlineFile). g.path) fs)) w.files w.in_order))
+    (made_outline d f layer w.place o (tests d f path none) given (subst (λ (fs : List OutlineFile). AreInOrder (map (λ (g : OutlineFile). g.path) fs)) w.files
+        w.in_order))

@@ -1,5 +1,6 @@
 -- The file tree that is built of files in order.
-use Rattle.std.proofs.Common.{◌≡◌, ℕ, zero, suc, ◌-◌, ◌<◌, ◌≤◌, true, false, not, ◌&&◌, List, [], ◌∷◌, ◌++◌, length, map, Option, Some, None, slice_get, inl, inr, refl, sym, ap, subst, ◌∙◌, arith, ◌⊎◌}
+use Rattle.std.proofs.Common.{◌≡◌, ℕ, zero, suc, ◌-◌, ◌<◌, ◌≤◌, true, false, not, ◌&&◌, List, [], ◌∷◌, ◌++◌, length, map, Option, Some, None, slice_get, inl}
+use Rattle.std.proofs.Common.{inr, refl, sym, ap, subst, ◌∙◌, arith, ◌⊎◌}
 use Rattle.drafts.proofs.Ordering.{decided}
 use Rattle.std.proofs.lemmas.Bool.{and_from, or_left, or_right}
 use Rattle.std.specs.Cmp.Lexicographic.{slice_cmp}
@@ -171,9 +172,11 @@ no_path_before no_pairs some before = some
 no_path_before (pair k v ps) some before = before
 
 mutual
-  pub first_built : (room : ℕ) (before : Option (List ℕ)) (k : List ℕ) (ks : List (List ℕ)) (v : Bencode) (ps : Pairs) → AreComponents (k ∷ ks) → length (k ∷ ks) < room → IsFileValue v
+  pub first_built : (room : ℕ) (before : Option (List ℕ)) (k : List ℕ) (ks : List (List ℕ)) (v : Bencode) (ps : Pairs) → AreComponents (k ∷ ks)
+      → length (k ∷ ks) < room → IsFileValue v
       → IsAbove k before → IsBuilt room before ps → ComesBefore (k ∷ ks) ps → IsBuilt room before (with_first (k ∷ ks) v ps)
-  first_built room before k ks v no_pairs good short file above built first = (good.0, above, (omega arith, alone (room - 1) ks v good.1 (omega arith) file), tt)
+  first_built room before k ks v no_pairs good short file above built first = (good.0, above, (omega arith, alone (room - 1) ks v good.1 (omega arith) file),
+      tt)
   first_built room before k ks v (pair l w ps) good short file above built first =
       elim (true_or_false (bytes_eq k l)) [
         | inl same ↦
@@ -183,12 +186,14 @@ mutual
             ]
         | inr other ↦
             elim first [
-              | inl less ↦ rw other (good.0, above, (omega arith, alone (room - 1) ks v good.1 (omega arith) file), (built.0, above_less k l less, built.2, built.3))
+              | inl less ↦ rw other (good.0, above, (omega arith, alone (room - 1) ks v good.1 (omega arith) file),
+                  (built.0, above_less k l less, built.2, built.3))
               | inr rest ↦ absurd (let same : bytes_eq k l ≡ true = equal_bytes k l rest.0 in let c : true ≡ false = sym same ∙ other in cc)
             ]
       ]
 
-  deeper : (room : ℕ) (ks : List (List ℕ)) (v w : Bencode) → AreComponents ks → length ks < room - 1 → IsFileValue v → IsBuiltIn room w → ComesBefore ks (pairs_in w)
+  deeper : (room : ℕ) (ks : List (List ℕ)) (v w : Bencode) → AreComponents ks → length ks < room - 1 → IsFileValue v → IsBuiltIn room w
+      → ComesBefore ks (pairs_in w)
       → (0 < room) × IsInner (room - 1) (with_first ks v (pairs_in w))
   deeper room ks v (int z) good short file built first = absurd built
   deeper room ks v (text s) good short file built first = absurd built
@@ -202,9 +207,11 @@ mutual
       ]
 
 -- a path of at least one component
-put_built : (room : ℕ) (p : List (List ℕ)) (v : Bencode) (ps : Pairs) → IsFilePath p → 124 < room → IsFileValue v → IsBuilt room None ps → ComesBefore p ps → IsBuilt room None (with_first p v ps)
+put_built : (room : ℕ) (p : List (List ℕ)) (v : Bencode) (ps : Pairs) → IsFilePath p → 124 < room → IsFileValue v → IsBuilt room None ps → ComesBefore p ps
+    → IsBuilt room None (with_first p v ps)
 put_built room [] v ps path large file built first = absurd (path.some refl)
-put_built room (k ∷ ks) v ps path large file built first = let short = path.short in first_built room None k ks v ps (are_components (k ∷ ks) path.components) (omega arith) file tt built first
+put_built room (k ∷ ks) v ps path large file built first = let short = path.short in first_built room None k ks v ps (are_components (k ∷ ks) path.components)
+    (omega arith) file tt built first
 
 first_before : (w : Walk) (ws : List Walk) → AreInOrder (paths_of (w ∷ ws)) → ComesBefore w.path (tree_of_walks ws)
 unfolding IsStrictlySortedBy
@@ -223,7 +230,8 @@ pub tree_built : (room : ℕ) (ws : List Walk) → AreInOrder (paths_of ws) → 
 tree_built room [] order files large = tt
 tree_built room (w ∷ ws) order files large =
     let this = files 0 w refl in
-    put_built room w.path w.file (tree_of_walks ws) this.0 large this.1 (tree_built room ws (rest_in_order w ws order) (λ n u e. files (suc n) u e) large) (first_before w ws order)
+    put_built room w.path w.file (tree_of_walks ws) this.0 large this.1 (tree_built room ws (rest_in_order w ws order) (λ n u e. files (suc n) u e) large)
+        (first_before w ws order)
 
 file_node : (room : ℕ) (ps : Pairs) → IsFileNode room ps → is_file ps ≡ true
 file_node room ps node = rw (node.is) (node.good.is)
@@ -232,7 +240,8 @@ mutual
   pub built_directory : (room : ℕ) (before : Option (List ℕ)) (ps : Pairs) → IsBuilt room before ps → is_directory ps ≡ true
   built_directory room before no_pairs built = refl
   built_directory room before (pair k v ps) built =
-      and_from (not (is_nil k) && is_node v) (is_directory ps) (and_from (not (is_nil k)) (is_node v) (ap not built.0.0) (built_node room v built.2)) (built_directory room (Some k) ps built.3)
+      and_from (not (is_nil k) && is_node v) (is_directory ps) (and_from (not (is_nil k)) (is_node v) (ap not built.0.0) (built_node room v built.2))
+          (built_directory room (Some k) ps built.3)
 
   built_node : (room : ℕ) (v : Bencode) → IsBuiltIn room v → is_node v ≡ true
   built_node room (int z) built = absurd built
@@ -319,7 +328,8 @@ walk_paths (f ∷ fs) = ap (λ ps. f.path ∷ ps) (walk_paths fs)
 pub walks_in_order : (fs : List OutlineFile) → AreInOrder (map (λ (f : OutlineFile). f.path) fs) → AreInOrder (paths_of (map walk_to_file fs))
 walks_in_order fs order = subst AreInOrder (sym (walk_paths fs)) order
 
-pub file_tree_built : (p room : ℕ) (fs : List OutlineFile) → AreInOrder (map (λ (f : OutlineFile). f.path) fs) → AreOutlineFiles p fs → 124 < room → IsBuilt room None (file_tree_of fs)
+pub file_tree_built : (p room : ℕ) (fs : List OutlineFile) → AreInOrder (map (λ (f : OutlineFile). f.path) fs) → AreOutlineFiles p fs → 124 < room
+    → IsBuilt room None (file_tree_of fs)
 file_tree_built p room fs order files large = tree_built room (map walk_to_file fs) (walks_in_order fs order) (walks_are p fs files) large
 
 pub file_tree_walks : (p : ℕ) (fs : List OutlineFile) → AreOutlineFiles p fs → walks (file_tree_of fs) ≡ map walk_to_file fs

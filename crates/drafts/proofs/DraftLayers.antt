@@ -1,5 +1,6 @@
 -- No test of piece layers holds for a draft's value, and its trees have the draft's layers.
-use Rattle.std.proofs.Common.{◌≡◌, ℕ, zero, suc, ◌+◌, ◌*◌, ◌<◌, Bool, true, false, not, List, [], ◌∷◌, ◌++◌, length, map, take, drop, Option, Some, None, slice_get, inl, inr, refl, sym, ap, subst, ◌∙◌, arith, ◌⊎◌, length-append, mul-suc}
+use Rattle.std.proofs.Common.{◌≡◌, ℕ, zero, suc, ◌+◌, ◌*◌, ◌<◌, Bool, true, false, not, List, [], ◌∷◌, ◌++◌, length, map, take, drop, Option, Some, None}
+use Rattle.std.proofs.Common.{slice_get, inl, inr, refl, sym, ap, subst, ◌∙◌, arith, ◌⊎◌, length-append, mul-suc}
 use Rattle.std.specs.Cmp.Lexicographic.{slice_cmp}
 use Rattle.std.specs.List.{list_any, concat, AllByRecursion}
 use Rattle.std.specs.List.Sorted.{IsStrictlySortedBy}
@@ -47,7 +48,8 @@ cut_again width [] each = refl
 cut_again width (h ∷ hs) each =
     let first : take width (h ++ concat hs) ≡ h = subst (λ n. take n (h ++ concat hs) ≡ h) each.0 (take_first h (concat hs)) in
     let rest : drop width (h ++ concat hs) ≡ concat hs = subst (λ n. drop n (h ++ concat hs) ≡ concat hs) each.0 (drop_first h (concat hs)) in
-    ap (λ x. x ∷ first_chunks width (length hs) (drop width (h ++ concat hs))) first ∙ ap (λ xs. h ∷ first_chunks width (length hs) xs) rest ∙ ap (λ xs. h ∷ xs) (cut_again width hs each.1)
+    ap (λ x. x ∷ first_chunks width (length hs) (drop width (h ++ concat hs))) first ∙ ap (λ xs. h ∷ first_chunks width (length hs) xs) rest
+        ∙ ap (λ xs. h ∷ xs) (cut_again width hs each.1)
 
 pub digests_again : (width n : ℕ) (hs : List (List ℕ)) → AreOfLength width hs → length hs ≡ n → as_digests width n (text (concat hs)) ≡ Some hs
 digests_again width n hs each count =
@@ -60,9 +62,11 @@ digests_again width n hs each count =
 abbrev roots_of : List OutlineLayer → List (List ℕ)
 roots_of es = map (λ (e : OutlineLayer). e.root) es
 
-later_above : (k : List ℕ) (es : List OutlineLayer) (n : ℕ) (e : OutlineLayer) → AllByRecursion (λ q. slice_cmp nat_cmp k q ≡ Less) (roots_of es) → slice_get es n ≡ Some e → bytes_eq k e.root ≡ false
+later_above : (k : List ℕ) (es : List OutlineLayer) (n : ℕ) (e : OutlineLayer) → AllByRecursion (λ q. slice_cmp nat_cmp k q ≡ Less) (roots_of es)
+    → slice_get es n ≡ Some e → bytes_eq k e.root ≡ false
 later_above k [] n e above at = cc
-later_above k (x ∷ es) zero e above at = let same : x ≡ e = cc in not_same k e.root (subst (λ (y : OutlineLayer). slice_cmp nat_cmp k y.root ≡ Less) same above.0)
+later_above k (x ∷ es) zero e above at = let same : x ≡ e = cc in
+    not_same k e.root (subst (λ (y : OutlineLayer). slice_cmp nat_cmp k y.root ≡ Less) same above.0)
 later_above k (x ∷ es) (suc n) e above at = later_above k es n e above.1 at
 
 under_layer : (es : List OutlineLayer) (n : ℕ) (e : OutlineLayer) → IsStrictlySortedBy (slice_cmp nat_cmp) (roots_of es) → slice_get es n ≡ Some e
@@ -80,7 +84,8 @@ under_layer (x ∷ es) (suc n) e order at =
 
 -- ---- each root is of a file
 
-with_used : (ts : List Root) (size : ℕ) (o : Option (List ℕ)) (n : ℕ) (t : Root) → slice_get (with_root ts size o) n ≡ Some t → (slice_get ts n ≡ Some t) ⊎ ((o ≡ Some t.root) × (size ≡ t.length))
+with_used : (ts : List Root) (size : ℕ) (o : Option (List ℕ)) (n : ℕ) (t : Root) → slice_get (with_root ts size o) n ≡ Some t → (slice_get ts n ≡ Some t)
+    ⊎ ((o ≡ Some t.root) × (size ≡ t.length))
 with_used ts size None n t at = inl at
 with_used ts size (Some s) n t at =
     elim (with_cases ts size s) [
@@ -102,7 +107,8 @@ used_from : (ts : List Root) (fs : List ListedFile) (n : ℕ) (t : Root) → sli
 used_from ts [] n t at = inl at
 used_from ts (f ∷ fs) n t at =
     elim (used_from (with_file ts f) fs n t at) [
-      | inl here ↦ elim (with_used ts f.length f.root n t here) [ inl old ↦ inl old | inr new ↦ inr (record { file = f; there = (0, refl); root = new.0; length = new.1 }) ]
+      | inl here ↦ elim (with_used ts f.length f.root n t here)
+          [ inl old ↦ inl old | inr new ↦ inr (record { file = f; there = (0, refl); root = new.0; length = new.1 }) ]
       | inr later ↦ inr (record { file = later.file; there = (suc later.there.0, later.there.1); root = later.root; length = later.length })
     ]
 
@@ -118,7 +124,8 @@ record IsFound (d : Outline) (t : Root) : Type 0 where
   leads : leads_to d.piece_length t hashes ≡ t.root
   kept : hashes_under t.root d.layers ≡ hashes
 
-found : (d : Outline) → IsOutline d → (n : ℕ) (t : Root) → slice_get (roots_in (map listed_file d.files)) n ≡ Some t → nat_lt d.piece_length t.length ≡ true → IsFound d t
+found : (d : Outline) → IsOutline d → (n : ℕ) (t : Root) → slice_get (roots_in (map listed_file d.files)) n ≡ Some t → nat_lt d.piece_length t.length ≡ true
+    → IsFound d t
 found d o n t at long =
     let used = root_used (map listed_file d.files) n t at in
     let file = listed_at d.files used.there.0 used.file used.there.1 in
@@ -128,13 +135,15 @@ found d o n t at long =
     let has = o.layers_there used.there.0 file.0 file.1 (omega (arith, more, size)) in
     let key : has.layer.root ≡ t.root = has.is.root ∙ root.1 in
     let both = under_layer d.layers has.number has.layer o.layers_ascend has.there in
-    let below : under t.root (pairs_of_layers d.layers) ≡ Some (text (concat has.layer.hashes)) = subst (λ k. under k (pairs_of_layers d.layers) ≡ Some (text (concat has.layer.hashes))) key both.0 in
+    let below : under t.root (pairs_of_layers d.layers) ≡ Some (text (concat has.layer.hashes)) =
+        subst (λ k. under k (pairs_of_layers d.layers) ≡ Some (text (concat has.layer.hashes))) key both.0 in
     record {
       hashes = has.layer.hashes;
       under_root = below;
       digests = ap (option_and_then (as_digests 32 (pieces_of d.piece_length t.length))) below
           ∙ digests_again 32 (pieces_of d.piece_length t.length) has.layer.hashes has.is.hash_lengths (has.is.count ∙ ap (pieces_of d.piece_length) size);
-      leads = subst (λ m. leads_to d.piece_length (record { root = t.root; length = m }) has.layer.hashes ≡ t.root) size (subst (λ r. leads_to d.piece_length (record { root = r; length = file.0.length }) has.layer.hashes ≡ r) root.1 has.is.leads);
+      leads = subst (λ m. leads_to d.piece_length (record { root = t.root; length = m }) has.layer.hashes ≡ t.root) size
+          (subst (λ r. leads_to d.piece_length (record { root = r; length = file.0.length }) has.layer.hashes ≡ r) root.1 has.is.leads);
       kept = subst (λ k. hashes_under k d.layers ≡ has.layer.hashes) key both.1;
     }
 
@@ -144,21 +153,24 @@ no_any_root : (test : Root → Bool) (ts : List Root) → ((n : ℕ) (t : Root) 
 no_any_root test [] none any = cc
 no_any_root test (t ∷ ts) none any = let first : test t ≡ false = none 0 t refl in no_any_root test ts (λ n u e. none (suc n) u e) (rw first at any)
 
-has_layer : (d : Outline) → IsOutline d → (n : ℕ) (t : Root) → slice_get (roots_in (map listed_file d.files)) n ≡ Some t → lacks_layer d.piece_length (pairs_of_layers d.layers) t ≡ false
+has_layer : (d : Outline) → IsOutline d → (n : ℕ) (t : Root) → slice_get (roots_in (map listed_file d.files)) n ≡ Some t
+    → lacks_layer d.piece_length (pairs_of_layers d.layers) t ≡ false
 has_layer d o n t at =
     elim (true_or_false (nat_lt d.piece_length t.length)) [
       | inl long ↦ rw (long, (found d o n t at long).under_root) refl
       | inr short ↦ rw short refl
     ]
 
-has_size : (d : Outline) → IsOutline d → (n : ℕ) (t : Root) → slice_get (roots_in (map listed_file d.files)) n ≡ Some t → lacks_size d.piece_length (pairs_of_layers d.layers) t ≡ false
+has_size : (d : Outline) → IsOutline d → (n : ℕ) (t : Root) → slice_get (roots_in (map listed_file d.files)) n ≡ Some t
+    → lacks_size d.piece_length (pairs_of_layers d.layers) t ≡ false
 has_size d o n t at =
     elim (true_or_false (nat_lt d.piece_length t.length)) [
       | inl long ↦ rw (long, (found d o n t at long).digests) refl
       | inr short ↦ rw short refl
     ]
 
-matches : (d : Outline) → IsOutline d → (n : ℕ) (t : Root) → slice_get (roots_in (map listed_file d.files)) n ≡ Some t → mismatches d.piece_length (pairs_of_layers d.layers) t ≡ false
+matches : (d : Outline) → IsOutline d → (n : ℕ) (t : Root) → slice_get (roots_in (map listed_file d.files)) n ≡ Some t
+    → mismatches d.piece_length (pairs_of_layers d.layers) t ≡ false
 matches d o n t at =
     elim (true_or_false (nat_lt d.piece_length t.length)) [
       | inl long ↦ let f = found d o n t at long in rw (long, f.digests) (ap not (equal_bytes (leads_to d.piece_length t f.hashes) t.root f.leads))
@@ -176,7 +188,8 @@ layer_none d o = (
 
 -- ---- the trees
 
-tree_is : (d : Outline) → IsOutline d → (n : ℕ) (t : Root) → slice_get (roots_in (map listed_file d.files)) n ≡ Some t → drafted_tree d t ≡ tree_at d.piece_length (pairs_of_layers d.layers) t
+tree_is : (d : Outline) → IsOutline d → (n : ℕ) (t : Root) → slice_get (roots_in (map listed_file d.files)) n ≡ Some t
+    → drafted_tree d t ≡ tree_at d.piece_length (pairs_of_layers d.layers) t
 tree_is d o n t at =
     elim (true_or_false (nat_lt d.piece_length t.length)) [
       | inl long ↦
@@ -194,5 +207,6 @@ same_map : {A B : Type 0} (f g : A → B) (xs : List A) → ((n : ℕ) (x : A) �
 same_map f g [] each = refl
 same_map f g (x ∷ xs) each = ap (λ y. y ∷ map f xs) (each 0 x refl) ∙ ap (λ ys. g x ∷ ys) (same_map f g xs (λ n y e. each (suc n) y e))
 
-pub trees_are : (d : Outline) → IsOutline d → map (drafted_tree d) (roots_in (map listed_file d.files)) ≡ map (tree_at d.piece_length (pairs_of_layers d.layers)) (roots_in (map listed_file d.files))
+pub trees_are : (d : Outline) → IsOutline d
+    → map (drafted_tree d) (roots_in (map listed_file d.files)) ≡ map (tree_at d.piece_length (pairs_of_layers d.layers)) (roots_in (map listed_file d.files))
 trees_are d o = same_map (drafted_tree d) (tree_at d.piece_length (pairs_of_layers d.layers)) (roots_in (map listed_file d.files)) (tree_is d o)

@@ -1,5 +1,7 @@
 -- No test of the version 1 part holds for a hybrid draft's value, and that part is the draft's.
-use Rattle.std.proofs.Common.{◌≡◌, ◌≢◌, ℕ, zero, suc, ◌+◌, ◌-◌, ◌*◌, ◌/◌, ◌<◌, ◌≤◌, ◌^◌, Bool, true, false, ◌&&◌, ◌||◌, if◌then◌else◌, List, [], ◌∷◌, ◌++◌, length, map, take, Option, Some, None, pos, slice_get, sum_by, inl, inr, refl, sym, ap, subst, ◌∙◌, arith, ◌⊎◌, length-append, add_assoc, add-zero, zero-mul}
+use Rattle.std.proofs.Common.{◌≡◌, ◌≢◌, ℕ, zero, suc, ◌+◌, ◌-◌, ◌*◌, ◌/◌, ◌<◌, ◌≤◌, ◌^◌, Bool, true, false, ◌&&◌, ◌||◌, if◌then◌else◌, List, [], ◌∷◌, ◌++◌}
+use Rattle.std.proofs.Common.{length, map, take, Option, Some, None, pos, slice_get, sum_by, inl, inr, refl, sym, ap, subst, ◌∙◌, arith, ◌⊎◌, length-append}
+use Rattle.std.proofs.Common.{add_assoc, add-zero, zero-mul}
 use Rattle.std.proofs.lemmas.Bool.{or_right}
 use Rattle.std.proofs.Math.Nat.{add-mul, mul-add-div_right}
 use Rattle.std.proofs.lemmas.List.{length-take}
@@ -16,7 +18,8 @@ use Rattle.drafts.proofs.Building.{AreOutlineFiles}
 use Rattle.drafts.proofs.DraftLayers.{digests_again}
 use Rattle.drafts.proofs.Tidy.{gap_below, legal_some}
 use Rattle.drafts.specs.Outline.{AreOfLength, IsOutline, IsOutlineFile, Outline, OutlineFile, listed_file}
-use Rattle.drafts.specs.Written.{digests_in, digests_of, entries_value, entry_value, filled_cuts, first_length, gap, has_content, info_value, is_single, last_pairs, list_pair, needs_pad, pad_value, stream_of, texts_value}
+use Rattle.drafts.specs.Written.{digests_in, digests_of, entries_value, entry_value, filled_cuts, first_length, gap, has_content, info_value, is_single}
+use Rattle.drafts.specs.Written.{last_pairs, list_pair, needs_pad, pad_value, stream_of, texts_value}
 use Rattle.filetree.proofs.Bytes.{true_or_false, same_bytes}
 use Rattle.filetree.specs.Dictionary.{get, under, as_list}
 use Rattle.filetree.specs.FileTree.{as_length, length_at}
@@ -24,7 +27,8 @@ use Rattle.filetree.specs.Tests.{NoneHolds}
 use Rattle.opening.proofs.Placing.{pieces_cover}
 use Rattle.opening.specs.PieceLayers.{as_digests}
 use Rattle.opening.specs.Refusals.{hybrid_rows}
-use Rattle.opening.specs.Stream.{DiffersFromFiles, IsMisplaced, IsTooLong, Named, Part, as_path, cuts_in, files_in, is_broken, is_hybrid, length_in, named, named_part, entry_part, parts_in, parts_of, some_texts, stream_length, texts_in, the_parts, version1_of}
+use Rattle.opening.specs.Stream.{DiffersFromFiles, IsMisplaced, IsTooLong, Named, Part, as_path, cuts_in, files_in, is_broken, is_hybrid, length_in, named}
+use Rattle.opening.specs.Stream.{named_part, entry_part, parts_in, parts_of, some_texts, stream_length, texts_in, the_parts, version1_of}
 use Rattle.pieces.proofs.Cutting.{cut_count_none}
 use Rattle.pieces.specs.Pieces.{IsPieceLength, pieces_of}
 
@@ -74,11 +78,13 @@ parts_are p (f ∷ fs) legal files =
     let first = file_part_is p f (files 0 f refl) in
     elim (true_or_false (needs_pad p f fs)) [
       | inl pad ↦
-          rw pad (ap (λ o. option_and_then (λ (xs : List Part). Some (entry_part (entry_value f) ∷ xs)) (option_and_then (λ (xs : List Part). Some (entry_part (pad_value (gap p f.length)) ∷ xs)) o)) rest
+          rw pad (ap (λ o. option_and_then (λ (xs : List Part). Some (entry_part (entry_value f) ∷ xs))
+              (option_and_then (λ (xs : List Part). Some (entry_part (pad_value (gap p f.length)) ∷ xs)) o)) rest
           ∙ ap (λ (x : Part). Some (x ∷ entry_part (pad_value (gap p f.length)) ∷ draft_parts p fs)) first
           ∙ ap (λ (x : Part). Some (file_part f ∷ x ∷ draft_parts p fs)) (pad_part_is (gap p f.length) (gap_bound p f.length legal)))
       | inr none ↦
-          rw none (ap (λ o. option_and_then (λ (xs : List Part). Some (entry_part (entry_value f) ∷ xs)) o) rest ∙ ap (λ (x : Part). Some (x ∷ draft_parts p fs)) first)
+          rw none (ap (λ o. option_and_then (λ (xs : List Part). Some (entry_part (entry_value f) ∷ xs)) o) rest
+              ∙ ap (λ (x : Part). Some (x ∷ draft_parts p fs)) first)
     ]
 
 -- ---- HybridFiles
@@ -105,7 +111,8 @@ stream_more x ps = sum_by-cons length_in x ps
 
 end_file : (p : ℕ) (f : OutlineFile) (ps : List Part) → pieces_end p (file_part f ∷ ps) ≡ pieces_of p f.length * p + pieces_end p ps
 end_file p f ps =
-    ap (λ n. n * p) (sum_by-cons (λ (x : Named). pieces_of p x.length) (named_part (file_part f)) (files_in ps)) ∙ add-mul (pieces_of p f.length) (sum_by (λ f. pieces_of p f.length) (files_in ps)) p
+    ap (λ n. n * p) (sum_by-cons (λ (x : Named). pieces_of p x.length) (named_part (file_part f)) (files_in ps))
+        ∙ add-mul (pieces_of p f.length) (sum_by (λ f. pieces_of p f.length) (files_in ps)) p
 
 filled : (p n : ℕ) → 0 < p → n + gap p n ≡ pieces_of p n * p
 filled p n some = let cover = pieces_cover p n some in omega (arith, cover)
@@ -121,7 +128,8 @@ behind_pad p zero f fs part Q no_pad rest at =
 behind_pad p (suc n) f fs part Q no_pad rest at = rest n at
 
 -- a part with content is that of a file with content
-content_at : (p : ℕ) (fs : List OutlineFile) (n : ℕ) (part : Part) → slice_get (draft_parts p fs) n ≡ Some part → part.is_pad ≡ false → 0 < length_in part → has_content fs ≡ true
+content_at : (p : ℕ) (fs : List OutlineFile) (n : ℕ) (part : Part) → slice_get (draft_parts p fs) n ≡ Some part → part.is_pad ≡ false → 0 < length_in part
+    → has_content fs ≡ true
 content_at p [] n part at no_pad some = cc
 content_at p (f ∷ fs) zero part at no_pad some =
     let same : file_part f ≡ part = cc in
@@ -134,14 +142,16 @@ content_at p (f ∷ fs) (suc n) part at no_pad some =
     ])
 
 -- each part of a file with content begins where its first piece does
-pub aligned_at : (p : ℕ) (fs : List OutlineFile) (n : ℕ) (part : Part) → 0 < p → slice_get (draft_parts p fs) n ≡ Some part → part.is_pad ≡ false → 0 < length_in part
+pub aligned_at : (p : ℕ) (fs : List OutlineFile) (n : ℕ) (part : Part) → 0 < p → slice_get (draft_parts p fs) n ≡ Some part → part.is_pad ≡ false
+    → 0 < length_in part
     → stream_length (take n (draft_parts p fs)) ≡ pieces_end p (take n (draft_parts p fs))
 aligned_at p [] n part legal at no_pad some = cc
 aligned_at p (f ∷ fs) zero part legal at no_pad some = omega arith
 aligned_at p (f ∷ fs) (suc n) part legal at no_pad some =
     elim (true_or_false (needs_pad p f fs)) [
       | inl pad ↦
-          rw pad (behind_pad p n f fs part (λ k. stream_length (file_part f ∷ take k (pad_part (gap p f.length) ∷ draft_parts p fs)) ≡ pieces_end p (file_part f ∷ take k (pad_part (gap p f.length) ∷ draft_parts p fs))) no_pad
+          rw pad (behind_pad p n f fs part (λ k. stream_length (file_part f ∷ take k (pad_part (gap p f.length) ∷ draft_parts p fs)) ≡ pieces_end p
+              (file_part f ∷ take k (pad_part (gap p f.length) ∷ draft_parts p fs))) no_pad
           (λ k there. padded k (aligned_at p fs k part legal there no_pad some)) (rw pad at at))
       | inr none ↦
           let there : slice_get (draft_parts p fs) n ≡ Some part = rw none at at in
@@ -155,14 +165,17 @@ aligned_at p (f ∷ fs) (suc n) part legal at no_pad some =
     no_and false b e h = refl
 
     padded : (k : ℕ) → stream_length (take k (draft_parts p fs)) ≡ pieces_end p (take k (draft_parts p fs))
-        → stream_length (file_part f ∷ pad_part (gap p f.length) ∷ take k (draft_parts p fs)) ≡ pieces_end p (file_part f ∷ pad_part (gap p f.length) ∷ take k (draft_parts p fs))
+        → stream_length (file_part f ∷ pad_part (gap p f.length) ∷ take k (draft_parts p fs)) ≡ pieces_end p
+            (file_part f ∷ pad_part (gap p f.length) ∷ take k (draft_parts p fs))
     padded k same =
         let ps : List Part = take k (draft_parts p fs) in
         let one = stream_more (file_part f) (pad_part (gap p f.length) ∷ take k (draft_parts p fs)) in
         let two = stream_more (pad_part (gap p f.length)) (take k (draft_parts p fs)) in
-        let ends : pieces_end p (file_part f ∷ pad_part (gap p f.length) ∷ take k (draft_parts p fs)) ≡ pieces_of p f.length * p + pieces_end p (take k (draft_parts p fs)) = end_file p f (pad_part (gap p f.length) ∷ take k (draft_parts p fs)) in
+        let ends : pieces_end p (file_part f ∷ pad_part (gap p f.length) ∷ take k (draft_parts p fs)) ≡ pieces_of p f.length * p + pieces_end p
+            (take k (draft_parts p fs)) = end_file p f (pad_part (gap p f.length) ∷ take k (draft_parts p fs)) in
         let full : f.length + gap p f.length ≡ pieces_of p f.length * p = filled p f.length legal in
-        one ∙ ap (λ n. f.length + n) two ∙ sym (add_assoc f.length (gap p f.length) (stream_length (take k (draft_parts p fs)))) ∙ ap (λ n. n + stream_length (take k (draft_parts p fs))) full ∙ ap (λ n. pieces_of p f.length * p + n) same ∙ sym ends
+        one ∙ ap (λ n. f.length + n) two ∙ sym (add_assoc f.length (gap p f.length) (stream_length (take k (draft_parts p fs))))
+            ∙ ap (λ n. n + stream_length (take k (draft_parts p fs))) full ∙ ap (λ n. pieces_of p f.length * p + n) same ∙ sym ends
 
     plain : (k : ℕ) → nat_lt 0 (gap p f.length) ≡ false → stream_length (take k (draft_parts p fs)) ≡ pieces_end p (take k (draft_parts p fs))
         → stream_length (file_part f ∷ take k (draft_parts p fs)) ≡ pieces_end p (file_part f ∷ take k (draft_parts p fs))
@@ -182,10 +195,13 @@ stream_is p (f ∷ fs) legal =
       | inl content ↦ elim (true_or_false (nat_lt 0 (gap p f.length))) [
         | inl pad ↦
             let full : f.length + gap p f.length ≡ pieces_of p f.length * p = filled p f.length legal in
-            rw (content, pad) (stream_more (file_part f) (pad_part (gap p f.length) ∷ draft_parts p fs) ∙ ap (λ n. f.length + n) (stream_more (pad_part (gap p f.length)) (draft_parts p fs))
-            ∙ sym (add_assoc f.length (gap p f.length) (stream_length (draft_parts p fs))) ∙ ap (λ n. n + stream_length (draft_parts p fs)) full ∙ ap (λ n. pieces_of p f.length * p + n) (stream_is p fs legal))
+            rw (content, pad) (stream_more (file_part f) (pad_part (gap p f.length) ∷ draft_parts p fs)
+                ∙ ap (λ n. f.length + n) (stream_more (pad_part (gap p f.length)) (draft_parts p fs))
+            ∙ sym (add_assoc f.length (gap p f.length) (stream_length (draft_parts p fs))) ∙ ap (λ n. n + stream_length (draft_parts p fs)) full
+            ∙ ap (λ n. pieces_of p f.length * p + n) (stream_is p fs legal))
         | inr flush ↦
-            rw (content, flush) (stream_more (file_part f) (draft_parts p fs) ∙ ap (λ n. n + stream_length (draft_parts p fs)) (no_gap p f.length legal flush) ∙ ap (λ n. pieces_of p f.length * p + n) (stream_is p fs legal))
+            rw (content, flush) (stream_more (file_part f) (draft_parts p fs) ∙ ap (λ n. n + stream_length (draft_parts p fs)) (no_gap p f.length legal flush)
+                ∙ ap (λ n. pieces_of p f.length * p + n) (stream_is p fs legal))
       ]
       | inr bare ↦
           let none : needs_pad p f fs ≡ false = no_right (nat_lt 0 (gap p f.length)) (has_content fs) bare in
@@ -203,7 +219,8 @@ stream_within p (f ∷ fs) legal =
       | inr none ↦ rw none (end_file p f (draft_parts p fs))
     ] in
     let first : stream_of p (f ∷ fs) ≤ pieces_of p f.length * p + stream_of p fs =
-    choice (has_content fs) (pieces_of p f.length * p + stream_of p fs) (f.length + stream_of p fs) (pieces_of p f.length * p + stream_of p fs) (omega arith) (omega (arith, cover)) in
+    choice (has_content fs) (pieces_of p f.length * p + stream_of p fs) (f.length + stream_of p fs) (pieces_of p f.length * p + stream_of p fs) (omega arith)
+        (omega (arith, cover)) in
     omega (arith, rest, step, first)
   where
     choice : (b : Bool) (m n k : ℕ) → m ≤ k → n ≤ k → (if b then m else n) ≤ k
@@ -225,7 +242,8 @@ digests_in_length : (p : ℕ) (f : OutlineFile) (fs : List OutlineFile) → IsOu
 digests_in_length p f fs o =
     elim (true_or_false (nat_lt 0 f.length)) [
       | inl some ↦ elim (true_or_false (has_content fs)) [
-        | inl content ↦ rw (some, content) (of_length_append 20 (take (length f.cuts - 1) f.cuts) (f.padded ∷ []) (of_length_take 20 (length f.cuts - 1) f.cuts o.cut_lengths) (o.padded_length, tt))
+        | inl content ↦ rw (some, content) (of_length_append 20 (take (length f.cuts - 1) f.cuts) (f.padded ∷ [])
+            (of_length_take 20 (length f.cuts - 1) f.cuts o.cut_lengths) (o.padded_length, tt))
         | inr bare ↦ rw (some, bare) (o.cut_lengths)
       ]
       | inr none ↦ rw none tt
@@ -233,7 +251,8 @@ digests_in_length p f fs o =
 
 pub digests_length : (p : ℕ) (fs : List OutlineFile) → AreOutlineFiles p fs → AreOfLength 20 (digests_of fs)
 digests_length p [] files = tt
-digests_length p (f ∷ fs) files = of_length_append 20 (digests_in f fs) (digests_of fs) (digests_in_length p f fs (files 0 f refl)) (digests_length p fs (λ n g e. files (suc n) g e))
+digests_length p (f ∷ fs) files = of_length_append 20 (digests_in f fs) (digests_of fs) (digests_in_length p f fs (files 0 f refl))
+    (digests_length p fs (λ n g e. files (suc n) g e))
 
 -- each file that is not empty has its cuts
 abbrev pub HaveCuts : ℕ → List OutlineFile → Type 0
@@ -251,7 +270,8 @@ some_pieces p n legal some =
     cases_zero zero = inl refl
     cases_zero (suc k) = inr (omega arith)
 
-digests_in_count : (p : ℕ) (f : OutlineFile) (fs : List OutlineFile) → 0 < p → (0 < f.length → length f.cuts ≡ pieces_of p f.length) → length (digests_in f fs) ≡ pieces_of p f.length
+digests_in_count : (p : ℕ) (f : OutlineFile) (fs : List OutlineFile) → 0 < p → (0 < f.length → length f.cuts ≡ pieces_of p f.length)
+    → length (digests_in f fs) ≡ pieces_of p f.length
 digests_in_count p f fs legal cuts =
     elim (true_or_false (nat_lt 0 f.length)) [
       | inl some ↦
@@ -294,16 +314,19 @@ digests_count p [] legal cuts = sym (cut_count_none p legal)
 digests_count p (f ∷ fs) legal cuts =
     let rest : length (digests_of fs) ≡ pieces_of p (stream_of p fs) = digests_count p fs legal (λ n g e. cuts (suc n) g e) in
     let first : length (digests_in f fs) ≡ pieces_of p f.length = digests_in_count p f fs legal (cuts 0 f refl) in
-    let both : length (digests_of (f ∷ fs)) ≡ pieces_of p f.length + pieces_of p (stream_of p fs) = length-append (digests_in f fs) (digests_of fs) ∙ ap (λ n. n + length (digests_of fs)) first ∙ ap (λ n. pieces_of p f.length + n) rest in
+    let both : length (digests_of (f ∷ fs)) ≡ pieces_of p f.length + pieces_of p (stream_of p fs) = length-append (digests_in f fs) (digests_of fs)
+        ∙ ap (λ n. n + length (digests_of fs)) first ∙ ap (λ n. pieces_of p f.length + n) rest in
     both ∙ sym (stream_step (has_content fs) refl)
   where
     stream_step : (b : Bool) → has_content fs ≡ b → pieces_of p (stream_of p (f ∷ fs)) ≡ pieces_of p f.length + pieces_of p (stream_of p fs)
-    stream_step true content = ap (λ b. pieces_of p (if b then pieces_of p f.length * p + stream_of p fs else f.length + stream_of p fs)) content ∙ shifted p (pieces_of p f.length) (stream_of p fs) legal
+    stream_step true content = ap (λ b. pieces_of p (if b then pieces_of p f.length * p + stream_of p fs else f.length + stream_of p fs)) content
+        ∙ shifted p (pieces_of p f.length) (stream_of p fs) legal
     stream_step false bare =
         let nothing : stream_of p fs ≡ 0 = no_stream p fs bare in
         ap (λ b. pieces_of p (if b then pieces_of p f.length * p + stream_of p fs else f.length + stream_of p fs)) bare
         ∙ ap (λ n. pieces_of p (f.length + n)) nothing ∙ ap (pieces_of p) (add-zero f.length)
-        ∙ sym (ap (λ n. pieces_of p f.length + pieces_of p n) nothing ∙ ap (λ n. pieces_of p f.length + n) (cut_count_none p legal) ∙ add-zero (pieces_of p f.length))
+        ∙ sym (ap (λ n. pieces_of p f.length + pieces_of p n) nothing ∙ ap (λ n. pieces_of p f.length + n) (cut_count_none p legal)
+            ∙ add-zero (pieces_of p f.length))
 
 -- ---- the list that the info dictionary has
 
@@ -311,7 +334,8 @@ either_none : (key : List ℕ) (b : Bool) (ps qs : Pairs) → under key ps ≡ N
 either_none key true ps qs e f = e
 either_none key false ps qs e f = f
 
-hybrid_list : (d : Outline) → d.hybrid ≡ true → (key : List ℕ) → bytes_eq (codes "file tree") key ≡ false → get key (info_value d) ≡ under key (list_pair d (last_pairs d))
+hybrid_list : (d : Outline) → d.hybrid ≡ true → (key : List ℕ) → bytes_eq (codes "file tree") key ≡ false
+    → get key (info_value d) ≡ under key (list_pair d (last_pairs d))
 hybrid_list d hybrid key other = rw other (ap (λ b. under key (if b then list_pair d (last_pairs d) else last_pairs d)) hybrid)
 
 single_file : (d : Outline) → is_single d.name d.files ≡ true → (f : OutlineFile) × (d.files ≡ f ∷ []) × (f.path ≡ d.name ∷ [])
@@ -336,19 +360,24 @@ no_files_behind d = either_none (codes "files") d.hybrid (pair (codes "pieces") 
 -- the list by what stands under `length` and `files`
 abbrev parts_by : List ℕ → Option Bencode → Option Bencode → Option (List Part)
 parts_by name length files =
-    if is_some length then (if is_some files then None else Some (record { is_pad = false; length = option_and_then as_length length; path = Some (name ∷ []) } ∷ []))
+    if is_some length then (if is_some files then None else Some (record { is_pad = false; length = option_and_then as_length length; path = Some (name ∷ []) }
+        ∷ []))
     else option_and_then parts_of (option_and_then as_list files)
 
 list_either : (d : Outline) (key : List ℕ) (b : Bool) → is_single d.name d.files ≡ b
-    → under key (list_pair d (last_pairs d)) ≡ under key (if b then pair (codes "length") (int (pos (first_length d.files))) (last_pairs d) else pair (codes "files") (list (entries_value d.piece_length d.files)) (last_pairs d))
-list_either d key b e = ap (λ x. under key (if x then pair (codes "length") (int (pos (first_length d.files))) (last_pairs d) else pair (codes "files") (list (entries_value d.piece_length d.files)) (last_pairs d))) e
+    → under key (list_pair d (last_pairs d)) ≡ under key (if b then pair (codes "length") (int (pos (first_length d.files))) (last_pairs d) else pair
+        (codes "files") (list (entries_value d.piece_length d.files)) (last_pairs d))
+list_either d key b e = ap (λ x. under key (if x then pair (codes "length") (int (pos (first_length d.files))) (last_pairs d) else pair (codes "files")
+    (list (entries_value d.piece_length d.files)) (last_pairs d))) e
 
-single_parts : (p : ℕ) (name : List ℕ) (f : OutlineFile) → f.length ≤ 2 ^ 46 → f.path ≡ name ∷ [] → parts_by name (Some (int (pos f.length))) None ≡ Some (draft_parts p (f ∷ []))
+single_parts : (p : ℕ) (name : List ℕ) (f : OutlineFile) → f.length ≤ 2 ^ 46 → f.path ≡ name ∷ []
+    → parts_by name (Some (int (pos f.length))) None ≡ Some (draft_parts p (f ∷ []))
 single_parts p name f bound path =
     let e : nat_le f.length (2 ^ 46) ≡ true = grind arith in
     let size : option_and_then as_length (Some (int (pos f.length))) ≡ Some f.length = rw e refl in
     let none : needs_pad p f [] ≡ false = no_right (nat_lt 0 (gap p f.length)) false refl in
-    rw none (ap (λ (s : Option ℕ). Some (record { is_pad = false; length = s; path = Some (name ∷ []) } ∷ [])) size ∙ ap (λ (x : List (List ℕ)). Some (record { is_pad = false; length = Some f.length; path = Some x } ∷ [])) (sym path))
+    rw none (ap (λ (s : Option ℕ). Some (record { is_pad = false; length = s; path = Some (name ∷ []) } ∷ [])) size
+        ∙ ap (λ (x : List (List ℕ)). Some (record { is_pad = false; length = Some f.length; path = Some x } ∷ [])) (sym path))
 
 pub parts_in_info : (d : Outline) → IsOutline d → d.hybrid ≡ true → parts_in (info_value d) d.name ≡ Some (draft_parts d.piece_length d.files)
 parts_in_info d o hybrid =
@@ -357,23 +386,29 @@ parts_in_info d o hybrid =
           let file = single_file d single in
           let there : get (codes "length") (info_value d) ≡ Some (int (pos file.0.length)) =
           hybrid_list d hybrid (codes "length") refl ∙ list_either d (codes "length") true single ∙ ap (λ fs. Some (int (pos (first_length fs)))) file.1 in
-          let none : get (codes "files") (info_value d) ≡ None = hybrid_list d hybrid (codes "files") refl ∙ list_either d (codes "files") true single ∙ no_files_behind d in
+          let none : get (codes "files") (info_value d) ≡ None = hybrid_list d hybrid (codes "files") refl ∙ list_either d (codes "files") true single
+              ∙ no_files_behind d in
           let first : slice_get d.files 0 ≡ Some file.0 = ap (λ fs. slice_get fs 0) file.1 in
           let bound : file.0.length ≤ 2 ^ 46 = (o.files 0 file.0 first).bound in
           ap (λ x. parts_by d.name x (get (codes "files") (info_value d))) there ∙ ap (λ x. parts_by d.name (Some (int (pos file.0.length))) x) none
           ∙ single_parts d.piece_length d.name file.0 bound file.2 ∙ ap (λ fs. Some (draft_parts d.piece_length fs)) (sym file.1)
       | inr many ↦
-          let none : get (codes "length") (info_value d) ≡ None = hybrid_list d hybrid (codes "length") refl ∙ list_either d (codes "length") false many ∙ no_length_behind d in
-          let there : get (codes "files") (info_value d) ≡ Some (list (entries_value d.piece_length d.files)) = hybrid_list d hybrid (codes "files") refl ∙ list_either d (codes "files") false many in
-          ap (λ x. parts_by d.name x (get (codes "files") (info_value d))) none ∙ ap (λ x. parts_by d.name None x) there ∙ parts_are d.piece_length d.files o.legal o.files
+          let none : get (codes "length") (info_value d) ≡ None = hybrid_list d hybrid (codes "length") refl ∙ list_either d (codes "length") false many
+              ∙ no_length_behind d in
+          let there : get (codes "files") (info_value d) ≡ Some (list (entries_value d.piece_length d.files)) = hybrid_list d hybrid (codes "files") refl
+              ∙ list_either d (codes "files") false many in
+          ap (λ x. parts_by d.name x (get (codes "files") (info_value d))) none ∙ ap (λ x. parts_by d.name None x) there
+              ∙ parts_are d.piece_length d.files o.legal o.files
     ]
 
 -- ---- the tests, and the version 1 part
 
 pieces_if : (d : Outline) (b : Bool) → d.hybrid ≡ b → get (codes "pieces") (info_value d) ≡ (if b then Some (text (concat (digests_of d.files))) else None)
-pieces_if d b e = pieces_there d ∙ ap (λ x. under (codes "pieces") (if x then pair (codes "pieces") (text (concat (digests_of d.files))) no_pairs else no_pairs)) e ∙ known b
+pieces_if d b e = pieces_there d ∙ ap (λ x. under (codes "pieces") (if x then pair (codes "pieces") (text (concat (digests_of d.files))) no_pairs else
+    no_pairs)) e ∙ known b
   where
-    known : (b : Bool) → under (codes "pieces") (if b then pair (codes "pieces") (text (concat (digests_of d.files))) no_pairs else no_pairs) ≡ (if b then Some (text (concat (digests_of d.files))) else None)
+    known : (b : Bool) → under (codes "pieces") (if b then pair (codes "pieces") (text (concat (digests_of d.files))) no_pairs else no_pairs)
+        ≡ (if b then Some (text (concat (digests_of d.files))) else None)
     known true = refl
     known false = refl
 
@@ -381,13 +416,16 @@ pub hybrid_is : (d : Outline) (b : Bool) → d.hybrid ≡ b → is_hybrid (info_
 hybrid_is d true e = ap is_some (pieces_if d true e)
 hybrid_is d false e = ap is_some (pieces_if d false e)
 
-pub cuts_are : (d : Outline) → IsOutline d → d.hybrid ≡ true → cuts_in d.piece_length (draft_parts d.piece_length d.files) (info_value d) ≡ Some (digests_of d.files)
+pub cuts_are : (d : Outline) → IsOutline d → d.hybrid ≡ true → cuts_in d.piece_length (draft_parts d.piece_length d.files) (info_value d) ≡ Some
+    (digests_of d.files)
 cuts_are d o hybrid =
     let legal = (legal_some d.piece_length o.legal).0 in
     let count : length (digests_of d.files) ≡ pieces_of d.piece_length (stream_length (draft_parts d.piece_length d.files)) =
-    digests_count d.piece_length d.files legal (λ n f at some. o.cuts n f at hybrid some) ∙ ap (pieces_of d.piece_length) (sym (stream_is d.piece_length d.files legal)) in
+    digests_count d.piece_length d.files legal (λ n f at some. o.cuts n f at hybrid some)
+        ∙ ap (pieces_of d.piece_length) (sym (stream_is d.piece_length d.files legal)) in
     ap (option_and_then (as_digests 20 (pieces_of d.piece_length (stream_length (draft_parts d.piece_length d.files))))) (pieces_if d true hybrid)
-    ∙ digests_again 20 (pieces_of d.piece_length (stream_length (draft_parts d.piece_length d.files))) (digests_of d.files) (digests_length d.piece_length d.files o.files) count
+    ∙ digests_again 20 (pieces_of d.piece_length (stream_length (draft_parts d.piece_length d.files))) (digests_of d.files)
+        (digests_length d.piece_length d.files o.files) count
 
 same_files : (p : ℕ) (fs : List OutlineFile) → DiffersFromFiles (map listed_file fs) (Some (draft_parts p fs)) → ⊥
 same_files p fs differs = elim differs [ inl broken ↦ (let bad : false ≡ true = sym (unbroken p fs) ∙ broken in cc) | inr other ↦ other (files_are p fs) ]
@@ -409,7 +447,8 @@ hybrid_rows_none d o hybrid =
           | inr long ↦ not_too_long d.piece_length d.files legal long
         ]),
         (
-          (λ h. let none : cuts_in d.piece_length (draft_parts d.piece_length d.files) (info_value d) ≡ None = subst (λ x. cuts_in d.piece_length (the_parts x) (info_value d) ≡ None) parts h.1 in
+          (λ h. let none : cuts_in d.piece_length (draft_parts d.piece_length d.files) (info_value d) ≡ None =
+              subst (λ x. cuts_in d.piece_length (the_parts x) (info_value d) ≡ None) parts h.1 in
               let some = cuts_are d o hybrid in let bad : Some (digests_of d.files) ≡ None = sym some ∙ none in cc),
           tt,
         ),
@@ -425,7 +464,8 @@ pub hybrid_none : (d : Outline) → IsOutline d → NoneHolds (hybrid_rows d.pie
 hybrid_none d o = elim (true_or_false d.hybrid) [ inl hybrid ↦ hybrid_rows_none d o hybrid | inr plain ↦ plain_rows_none d plain ]
 
 pub version1_is : (d : Outline) → IsOutline d → d.hybrid ≡ true
-    → version1_of d.piece_length (the_parts (parts_in (info_value d) d.name)) (info_value d) ≡ record { pieces = digests_of d.files; total = stream_of d.piece_length d.files }
+    → version1_of d.piece_length (the_parts (parts_in (info_value d) d.name)) (info_value d) ≡ record { pieces = digests_of d.files; total =
+        stream_of d.piece_length d.files }
 version1_is d o hybrid =
     let legal = (legal_some d.piece_length o.legal).0 in
     ap (λ x. version1_of d.piece_length (the_parts x) (info_value d)) (parts_in_info d o hybrid)

@@ -3,7 +3,8 @@ use Rattle.std.proofs.Common.{◌≡◌, ◌≢◌, ◌≤◌, [], ◌++◌, len
 use Rattle.benc.specs.Laws.{CanonicalHasSpelling}
 use Rattle.benc.specs.Text.{spelling}
 use Rattle.benc.specs.Value.{Bencode, dict, no_pairs}
-use Rattle.drafts.proofs.Accepted.{all_listed, count_none, file_none, kind_none, layers_none, length_there, name_is_there, piece_length_none, present_none, shape_none, top_none, version_none}
+use Rattle.drafts.proofs.Accepted.{all_listed, count_none, file_none, kind_none, layers_none, length_there, name_is_there, piece_length_none, present_none}
+use Rattle.drafts.proofs.Accepted.{shape_none, top_none, version_none}
 use Rattle.drafts.proofs.Building.{built_tree_has_walks, file_tree_walks}
 use Rattle.drafts.proofs.DraftLayers.{layer_none, trees_are}
 use Rattle.drafts.proofs.DraftStream.{hybrid_none, v1_is}
@@ -17,7 +18,8 @@ use Rattle.filetree.specs.TreeTests.{file_rows, shape_rows}
 use Rattle.opening.proofs.Listing.{are_files}
 use Rattle.opening.specs.Describes.{Describes, IsDescribed}
 use Rattle.opening.specs.PieceLayers.{tree_at}
-use Rattle.opening.specs.Refusals.{count_rows, file_tree_in, files_of, hybrid_rows, info_in, kind_rows, layer_rows, layers_in, layers_rows, max_torrent, name_in, number_in, piece_length_in, piece_length_rows, present_rows, table, text_in, top_rows, version_rows, walks_of}
+use Rattle.opening.specs.Refusals.{count_rows, file_tree_in, files_of, hybrid_rows, info_in, kind_rows, layer_rows, layers_in, layers_rows, max_torrent}
+use Rattle.opening.specs.Refusals.{name_in, number_in, piece_length_in, piece_length_rows, present_rows, table, text_in, top_rows, version_rows, walks_of}
 use Rattle.opening.specs.Stream.{is_hybrid, parts_in, the_parts, version1_of}
 use Rattle.opening.specs.Trees.{AreFiles, roots_in}
 
@@ -41,9 +43,12 @@ files_are d o = ap (map listed) (walks_are d o) ∙ all_listed d.piece_length d.
 
 -- ---- the tests
 
-table_none : (v : Bencode) → NoneHolds (top_rows v) → NoneHolds (version_rows (info_in v)) → NoneHolds (present_rows (info_in v)) → NoneHolds (kind_rows (info_in v)) → NoneHolds (layers_rows v)
-    → NoneHolds (piece_length_rows (piece_length_in v)) → NoneHolds (shape_rows (file_tree_in v)) → NoneHolds (file_rows (walks_of v)) → NoneHolds (count_rows (piece_length_in v) (files_of v))
-    → NoneHolds (layer_rows (piece_length_in v) (layers_in v) (roots_in (files_of v))) → NoneHolds (hybrid_rows (piece_length_in v) (info_in v) (name_in v) (files_of v)) → NoneHolds (table v)
+table_none : (v : Bencode) → NoneHolds (top_rows v) → NoneHolds (version_rows (info_in v)) → NoneHolds (present_rows (info_in v))
+    → NoneHolds (kind_rows (info_in v)) → NoneHolds (layers_rows v)
+    → NoneHolds (piece_length_rows (piece_length_in v)) → NoneHolds (shape_rows (file_tree_in v)) → NoneHolds (file_rows (walks_of v))
+    → NoneHolds (count_rows (piece_length_in v) (files_of v))
+    → NoneHolds (layer_rows (piece_length_in v) (layers_in v) (roots_in (files_of v)))
+    → NoneHolds (hybrid_rows (piece_length_in v) (info_in v) (name_in v) (files_of v)) → NoneHolds (table v)
 table_none v a b c d e f g h i j k =
     let r11 = hybrid_rows (piece_length_in v) (info_in v) (name_in v) (files_of v) in
     let r10 = layer_rows (piece_length_in v) (layers_in v) (roots_in (files_of v)) in
@@ -73,7 +78,8 @@ draft_accepted d o some =
     (shape_none d.piece_length d.files built.1 built.2)
     (subst (λ ws. NoneHolds (file_rows ws)) (sym (walks_are d o)) (file_none d.piece_length d.files o.files))
     (subst (λ n. NoneHolds (count_rows n (files_of (value_of d)))) p (subst (λ gs. NoneHolds (count_rows d.piece_length gs)) fs (count_none d o some)))
-    (subst (λ n. NoneHolds (layer_rows n (pairs_of_layers d.layers) (roots_in (files_of (value_of d))))) p (subst (λ gs. NoneHolds (layer_rows d.piece_length (pairs_of_layers d.layers) (roots_in gs))) fs (layer_none d o)))
+    (subst (λ n. NoneHolds (layer_rows n (pairs_of_layers d.layers) (roots_in (files_of (value_of d))))) p
+        (subst (λ gs. NoneHolds (layer_rows d.piece_length (pairs_of_layers d.layers) (roots_in gs))) fs (layer_none d o)))
     (subst (λ n. NoneHolds (hybrid_rows n (info_value d) (name_in (value_of d)) (files_of (value_of d)))) p
     (subst (λ s. NoneHolds (hybrid_rows d.piece_length (info_value d) s (files_of (value_of d)))) (sym (name_is d))
     (subst (λ gs. NoneHolds (hybrid_rows d.piece_length (info_value d) d.name gs)) fs (hybrid_none d o))))
@@ -89,14 +95,17 @@ draft_described d o =
       piece_length = p;
       files = subst (λ n. AreFiles n (files_of (value_of d)) (torrent_of d).files) p
           (subst (λ gs. AreFiles d.piece_length gs (torrent_of d).files) fs (are_files d.piece_length (map listed_file d.files) (torrent_of d).files refl));
-      trees = trees_are d o ∙ ap (λ gs. map (tree_at d.piece_length (pairs_of_layers d.layers)) (roots_in gs)) fs ∙ ap (λ n. map (tree_at n (pairs_of_layers d.layers)) (roots_in (files_of (value_of d)))) p;
+      trees = trees_are d o ∙ ap (λ gs. map (tree_at d.piece_length (pairs_of_layers d.layers)) (roots_in gs)) fs
+          ∙ ap (λ n. map (tree_at n (pairs_of_layers d.layers)) (roots_in (files_of (value_of d)))) p;
       info_hash_v2 = refl;
       info_hash_v1 = refl;
       v1 = v1_is d o ∙ ap (λ n. if is_hybrid (info_value d) then Some (version1_of n (the_parts (parts_in (info_value d) d.name)) (info_value d)) else None) p
-          ∙ ap (λ s. if is_hybrid (info_value d) then Some (version1_of (piece_length_in (value_of d)) (the_parts (parts_in (info_value d) s)) (info_value d)) else None) (sym (name_is d));
+          ∙ ap (λ s. if is_hybrid (info_value d) then Some (version1_of (piece_length_in (value_of d)) (the_parts (parts_in (info_value d) s)) (info_value d))
+              else None) (sym (name_is d));
     }
 
-pub draft_describes : CanonicalHasSpelling → (d : Outline) → IsOutline d → d.files ≢ [] → length (spelling (value_of d)) ≤ max_torrent → Describes (spelling (value_of d)) (torrent_of d)
+pub draft_describes : CanonicalHasSpelling → (d : Outline) → IsOutline d → d.files ≢ [] → length (spelling (value_of d)) ≤ max_torrent
+    → Describes (spelling (value_of d)) (torrent_of d)
 draft_describes spelled d o some small = record {
   small = small;
   value = value_of d;

@@ -1,5 +1,6 @@
 -- What a draft keeps of its roots.
-use Rattle.std.proofs.Common.{◌≡◌, ◌≢◌, inl, inr, ℕ, zero, suc, ◌+◌, ◌<◌, Bool, true, false, cond, List, [], ◌∷◌, ◌++◌, map, take, drop, None, Some, refl, sym, ap, subst, ◌∙◌, arith}
+use Rattle.std.proofs.Common.{◌≡◌, ◌≢◌, inl, inr, ℕ, zero, suc, ◌+◌, ◌<◌, Bool, true, false, cond, List, [], ◌∷◌, ◌++◌, map, take, drop, None, Some, refl, sym}
+use Rattle.std.proofs.Common.{ap, subst, ◌∙◌, arith}
 use Rattle.filetree.proofs.Paths.{is_equal}
 use Rattle.std.specs.Prelude.{nat_lt}
 use Rattle.std.specs.BTreeMap.{insert_entry, is_at}
@@ -54,7 +55,8 @@ below_more r e es order less = (less, lower r e.0 (keys_of es) less (sorted_head
 
 -- a new root adds its layer, if it has one
 pub layers_inserted : (p : ℕ) (r : List ℕ) (k : KeptRoot) (es : Entries) → Ascend es → kept_at r es ≡ None
-    → outline_layers p (insert_entry (slice_cmp nat_cmp) es r k) ≡ cond (nat_lt p k.length) (with_layer r k.layer.items (outline_layers p es)) (outline_layers p es)
+    → outline_layers p (insert_entry (slice_cmp nat_cmp) es r k) ≡ cond (nat_lt p k.length) (with_layer r k.layer.items (outline_layers p es))
+        (outline_layers p es)
 layers_inserted p r k [] order none = refl
 layers_inserted p r k (e ∷ es) order none =
     elim (three (slice_cmp nat_cmp r e.0)) [
@@ -75,8 +77,10 @@ layers_inserted p r k (e ∷ es) order none =
     passed e greater = rw greater refl
 
     behind : slice_cmp nat_cmp r e.0 ≡ Greater
-        → outline_layers p (insert_entry (slice_cmp nat_cmp) es r k) ≡ cond (nat_lt p k.length) (with_layer r k.layer.items (outline_layers p es)) (outline_layers p es)
-        → outline_layers p (insert_entry (slice_cmp nat_cmp) (e ∷ es) r k) ≡ cond (nat_lt p k.length) (with_layer r k.layer.items (outline_layers p (e ∷ es))) (outline_layers p (e ∷ es))
+        → outline_layers p (insert_entry (slice_cmp nat_cmp) es r k) ≡ cond (nat_lt p k.length) (with_layer r k.layer.items (outline_layers p es))
+            (outline_layers p es)
+        → outline_layers p (insert_entry (slice_cmp nat_cmp) (e ∷ es) r k) ≡ cond (nat_lt p k.length) (with_layer r k.layer.items (outline_layers p (e ∷ es)))
+            (outline_layers p (e ∷ es))
     behind greater rest = elim (true_or_false (nat_lt p e.1.length)) [
       | inl tall ↦ elim (true_or_false (nat_lt p k.length)) [
         | inl long ↦ rw greater (rw tall (rw long (rw greater (ap (λ xs. new e.0 e.1.layer.items ∷ xs) (rw long at rest)))))
@@ -109,7 +113,8 @@ layers_kept p r hs k (e ∷ es) order at long =
 -- ---- roots
 
 -- a root is found with another length
-pub reuses : (d : Outline) (es : Entries) (n : ℕ) (root : List ℕ) (k : KeptRoot) → AreRootsOf d.files es → kept_at root es ≡ Some k → 0 < n → k.length ≢ n → ReusesRoot d n root
+pub reuses : (d : Outline) (es : Entries) (n : ℕ) (root : List ℕ) (k : KeptRoot) → AreRootsOf d.files es → kept_at root es ≡ Some k → 0 < n → k.length ≢ n
+    → ReusesRoot d n root
 reuses d es n root k roots at some differ =
     let used = roots.used root k at in
     record {
@@ -123,14 +128,16 @@ reuses d es n root k roots at some differ =
     }
 
 -- the file's root is kept with its length
-pub root_there : (d : Outline) (es : Entries) (f : OutlineFile) (k : KeptRoot) → AreRootsOf d.files es → 0 < f.length → (ReusesRoot d f.length f.root → ⊥) → kept_at f.root es ≡ Some k → HasRoot es f
+pub root_there : (d : Outline) (es : Entries) (f : OutlineFile) (k : KeptRoot) → AreRootsOf d.files es → 0 < f.length → (ReusesRoot d f.length f.root → ⊥)
+    → kept_at f.root es ≡ Some k → HasRoot es f
 root_there d es f k roots some not at = record {
   kept = k;
   there = at;
   length_is = elim (equal_or_not k.length f.length) [ inl same ↦ same | inr differ ↦ absurd (not (reuses d es f.length f.root k roots at some differ)) ];
 }
 
-pub roots_kept : (fs : List OutlineFile) (es : Entries) (i : ℕ) (f : OutlineFile) → AreRootsOf fs es → (0 < f.length → HasRoot es f) → AreRootsOf (take i fs ++ f ∷ drop i fs) es
+pub roots_kept : (fs : List OutlineFile) (es : Entries) (i : ℕ) (f : OutlineFile) → AreRootsOf fs es → (0 < f.length → HasRoot es f)
+    → AreRootsOf (take i fs ++ f ∷ drop i fs) es
 roots_kept fs es i f roots has = record {
   ordered = roots.ordered;
   each = λ n g at some. elim (put_back i f fs n g at) [
@@ -146,7 +153,8 @@ roots_kept fs es i f roots has = record {
 abbrev pub Updates : Entries → Entries → List ℕ → KeptRoot → Type 0
 Updates es xs root k = (q : List ℕ) → kept_at q xs ≡ cond (is_at (slice_cmp nat_cmp root) q) (Some k) (kept_at q es)
 
-pub roots_inserted : (fs : List OutlineFile) (es xs : Entries) (i : ℕ) (f : OutlineFile) (k : KeptRoot) → AreRootsOf fs es → 0 < f.length → kept_at f.root es ≡ None → k.length ≡ f.length
+pub roots_inserted : (fs : List OutlineFile) (es xs : Entries) (i : ℕ) (f : OutlineFile) (k : KeptRoot) → AreRootsOf fs es → 0 < f.length
+    → kept_at f.root es ≡ None → k.length ≡ f.length
     → Ascend xs → Updates es xs f.root k → AreRootsOf (take i fs ++ f ∷ drop i fs) xs
 roots_inserted fs es xs i f k roots some none length_is order updates = record {
   ordered = order;
@@ -155,7 +163,8 @@ roots_inserted fs es xs i f k roots some none length_is order updates = record {
     | inr old ↦ let has = roots.each old.0 g old.1 full in record {
       kept = has.kept;
       there = updates g.root ∙ elim (true_or_false (is_eq (slice_cmp nat_cmp f.root g.root))) [
-        | inl same ↦ absurd (none-some has.kept (sym none ∙ ap (λ s. kept_at s es) (exact_bytes f.root g.root (is_equal (slice_cmp nat_cmp f.root g.root) same)) ∙ has.there))
+        | inl same ↦ absurd (none-some has.kept (sym none ∙ ap (λ s. kept_at s es) (exact_bytes f.root g.root (is_equal (slice_cmp nat_cmp f.root g.root) same))
+            ∙ has.there))
         | inr other ↦ rw other has.there
       ];
       length_is = has.length_is;
@@ -188,13 +197,15 @@ roots_inserted fs es xs i f k roots some none length_is order updates = record {
 nothing_longer : (p n : ℕ) → n ≡ 0 → nat_lt p n ≡ false
 nothing_longer p n none = grind (arith, none)
 
-pub keeps_empty : (d : Outline) (p : ℕ) (f : OutlineFile) (layer : List (List ℕ)) (es : Entries) → f.length ≡ 0 → AreRootsOf d.files es → KeepsRoot p d.files f layer es es
+pub keeps_empty : (d : Outline) (p : ℕ) (f : OutlineFile) (layer : List (List ℕ)) (es : Entries) → f.length ≡ 0 → AreRootsOf d.files es
+    → KeepsRoot p d.files f layer es es
 keeps_empty d p f layer es none roots = record {
   layers = let short = nothing_longer p f.length none in rw short refl;
   roots = λ i. roots_kept d.files es i f roots (λ some. absurd (omega (arith, some, none)));
 }
 
-pub keeps_there : (d : Outline) (p : ℕ) (f : OutlineFile) (layer : List (List ℕ)) (es : Entries) (k : KeptRoot) → kept_at f.root es ≡ Some k → AreRootsOf d.files es
+pub keeps_there : (d : Outline) (p : ℕ) (f : OutlineFile) (layer : List (List ℕ)) (es : Entries) (k : KeptRoot) → kept_at f.root es ≡ Some k
+    → AreRootsOf d.files es
     → (ReusesRoot d f.length f.root → ⊥) → KeepsRoot p d.files f layer es es
 keeps_there d p f layer es k at roots not = record {
   layers = elim (true_or_false (nat_lt p f.length)) [
@@ -208,7 +219,8 @@ keeps_there d p f layer es k at roots not = record {
   roots = λ i. roots_kept d.files es i f roots (λ some. root_there d es f k roots some not at);
 }
 
-pub keeps_new : (d : Outline) (p : ℕ) (f : OutlineFile) (layer : List (List ℕ)) (es xs : Entries) (k : KeptRoot) → 0 < f.length → kept_at f.root es ≡ None → k.length ≡ f.length
+pub keeps_new : (d : Outline) (p : ℕ) (f : OutlineFile) (layer : List (List ℕ)) (es xs : Entries) (k : KeptRoot) → 0 < f.length → kept_at f.root es ≡ None
+    → k.length ≡ f.length
     → (p < f.length → k.layer.items ≡ layer) → xs ≡ insert_entry (slice_cmp nat_cmp) es f.root k → Updates es xs f.root k → Ascend xs → AreRootsOf d.files es
     → KeepsRoot p d.files f layer es xs
 keeps_new d p f layer es xs k some none length_is layer_is entries updates order roots = record {
@@ -242,19 +254,23 @@ made_with name p hybrid fs gs es xs place f layer order at is layers = record {
   hybrid = refl;
   place = place;
   files = ap (map outline_file) is ∙ map_put outline_file place f fs;
-  in_order = subst AreInOrder (sym (ap paths_of is ∙ ap (map (λ (g : OutlineFile). g.path)) (map_put outline_file place f fs) ∙ map_put (λ (g : OutlineFile). g.path) place (outline_file f) (map outline_file fs)))
+  in_order = subst AreInOrder (sym (ap paths_of is ∙ ap (map (λ (g : OutlineFile). g.path)) (map_put outline_file place f fs)
+      ∙ map_put (λ (g : OutlineFile). g.path) place (outline_file f) (map outline_file fs)))
       (put_in_order (outline_file f).path place (paths_of fs) order at);
   layers = layers;
 }
 
-pub made_kept : (name : List ℕ) (p : ℕ) (hybrid : Bool) (fs gs : List DraftFile) (es xs : Entries) (pieces more : ℕ) (place : ℕ) (f : DraftFile) (layer : List (List ℕ))
-    → IsKept name p hybrid fs es pieces → NoneHolds (add_rows (outline name p hybrid fs es) (outline_file f)) → IsFilePath (outline_file f).path → IsGiven (outline name p hybrid fs es) (outline_file f) layer
+pub made_kept : (name : List ℕ) (p : ℕ) (hybrid : Bool) (fs gs : List DraftFile) (es xs : Entries) (pieces more : ℕ) (place : ℕ) (f : DraftFile)
+    (layer : List (List ℕ))
+    → IsKept name p hybrid fs es pieces → NoneHolds (add_rows (outline name p hybrid fs es) (outline_file f)) → IsFilePath (outline_file f).path
+    → IsGiven (outline name p hybrid fs es) (outline_file f) layer
     → gs ≡ insert fs place f → more ≡ pieces + pieces_of p f.length
     → AreRootsOf (take place (map outline_file fs) ++ outline_file f ∷ drop place (map outline_file fs)) xs
     → IsWith (outline name p hybrid fs es) (outline name p hybrid gs xs) (outline_file f) layer
     → IsKept name p hybrid gs xs more
 made_kept name p hybrid fs gs es xs pieces more place f layer kept none path given is count roots w =
-    let files : map outline_file gs ≡ take place (map outline_file fs) ++ outline_file f ∷ drop place (map outline_file fs) = ap (map outline_file) is ∙ map_put outline_file place f fs in
+    let files : map outline_file gs ≡ take place (map outline_file fs) ++ outline_file f ∷ drop place (map outline_file fs) = ap (map outline_file) is
+        ∙ map_put outline_file place f fs in
     record {
       outline_is = add_keeps (outline name p hybrid fs es) (outline name p hybrid gs xs) (outline_file f) layer kept.outline_is path none given w;
       roots = subst (λ (os : List OutlineFile). AreRootsOf os xs) (sym files) roots;
@@ -264,7 +280,8 @@ made_kept name p hybrid fs gs es xs pieces more place f layer kept none path giv
     }
 
 -- a file is put at its place, and its root is kept
-pub put_file : (name : List ℕ) (p : ℕ) (hybrid : Bool) (fs gs : List DraftFile) (es xs : Entries) (pieces more : ℕ) (place : ℕ) (f : DraftFile) (layer : List (List ℕ)) (q : ℕ)
+pub put_file : (name : List ℕ) (p : ℕ) (hybrid : Bool) (fs gs : List DraftFile) (es xs : Entries) (pieces more : ℕ) (place : ℕ) (f : DraftFile)
+    (layer : List (List ℕ)) (q : ℕ)
     → IsKept name p hybrid fs es pieces → NoneHolds (add_rows (outline name p hybrid fs es) (outline_file f)) → IsFilePath (outline_file f).path
     → IsGiven (outline name p hybrid fs es) (outline_file f) layer → IsPlaceOf (outline_file f).path (paths_of fs) place
     → gs ≡ insert fs place f → more ≡ pieces + pieces_of p f.length
@@ -272,6 +289,8 @@ pub put_file : (name : List ℕ) (p : ℕ) (hybrid : Bool) (fs gs : List DraftFi
     → IsWith (outline name p hybrid fs es) (outline name p hybrid gs xs) (outline_file f) layer × IsKept name p hybrid gs xs more
 put_file name p hybrid fs gs es xs pieces more place f layer q kept none path given at is count keeps same =
     let d : Outline = outline name p hybrid fs es in
-    let k : KeepsRoot p d.files (outline_file f) layer es xs = subst (λ n. KeepsRoot n d.files (outline_file f) layer es xs) same (keeps d kept.roots none.1.1.0) in
-    let w : IsWith d (outline name p hybrid gs xs) (outline_file f) layer = made_with name p hybrid fs gs es xs place f layer kept.outline_is.in_order at is k.layers in
+    let k : KeepsRoot p d.files (outline_file f) layer es xs = subst (λ n. KeepsRoot n d.files (outline_file f) layer es xs) same
+        (keeps d kept.roots none.1.1.0) in
+    let w : IsWith d (outline name p hybrid gs xs) (outline_file f) layer = made_with name p hybrid fs gs es xs place f layer kept.outline_is.in_order at is
+        k.layers in
     (w, made_kept name p hybrid fs gs es xs pieces more place f layer kept none path given is count (k.roots place) w)

@@ -74,7 +74,8 @@ layers_key = refl
 file_parts : (k0 k n root : List ℕ) → (k0 ++ 100 ∷ k) ++ (n ++ (root ++ 101 ∷ [])) ≡ k0 ++ ((100 ∷ ((k ++ (n ++ root)) ++ 101 ∷ [])) ++ [])
 file_parts k0 k n root = simp (append_assoc, append-nil)
 
-pub file_text : (n root : List ℕ) → codes "0:d6:length" ++ (n ++ (root ++ codes "e")) ≡ string [] ++ ((100 ∷ ((string (codes "length") ++ (n ++ root)) ++ 101 ∷ [])) ++ [])
+pub file_text : (n root : List ℕ) → codes "0:d6:length" ++ (n ++ (root ++ codes "e")) ≡ string []
+    ++ ((100 ∷ ((string (codes "length") ++ (n ++ root)) ++ 101 ∷ [])) ++ [])
 file_text n root = rw (no_key, length_key) (file_parts (codes "0:") (codes "6:length") n root)
 
 pub root_text : (root : List ℕ) → codes "11:pieces root" ++ root ≡ string (codes "pieces root") ++ (root ++ [])
@@ -93,10 +94,13 @@ pad_parts : (a b k m o n name : List ℕ) → (100 ∷ (a ++ (b ++ k))) ++ (n ++
 pad_parts a b k m o n name = simp (append_assoc, append-nil)
 
 pub pad_text : (n name : List ℕ) → codes "d4:attr1:p6:length" ++ (n ++ (codes "4:pathl4:.pad" ++ (name ++ codes "ee")))
-    ≡ 100 ∷ ((string (codes "attr") ++ (string (codes "p") ++ (string (codes "length") ++ (n ++ (string (codes "path") ++ ((108 ∷ ((string (codes ".pad") ++ (name ++ [])) ++ 101 ∷ [])) ++ [])))))) ++ 101 ∷ [])
-pad_text n name = rw (attr_key, pad_mark, length_key, path_key, pad_folder) (pad_parts (codes "4:attr") (codes "1:p") (codes "6:length") (codes "4:path") (codes "4:.pad") n name)
+    ≡ 100 ∷ ((string (codes "attr") ++ (string (codes "p")
+        ++ (string (codes "length") ++ (n ++ (string (codes "path") ++ ((108 ∷ ((string (codes ".pad") ++ (name ++ [])) ++ 101 ∷ [])) ++ [])))))) ++ 101 ∷ [])
+pad_text n name = rw (attr_key, pad_mark, length_key, path_key, pad_folder) (pad_parts (codes "4:attr") (codes "1:p") (codes "6:length") (codes "4:path")
+    (codes "4:.pad") n name)
 
-torrent_parts : (a b info layers : List ℕ) → (100 ∷ a) ++ (info ++ ((b ++ 100 ∷ []) ++ (layers ++ 101 ∷ (101 ∷ [])))) ≡ 100 ∷ ((a ++ (info ++ (b ++ ((100 ∷ (layers ++ 101 ∷ [])) ++ [])))) ++ 101 ∷ [])
+torrent_parts : (a b info layers : List ℕ) → (100 ∷ a) ++ (info ++ ((b ++ 100 ∷ []) ++ (layers ++ 101 ∷ (101 ∷ [])))) ≡ 100 ∷
+    ((a ++ (info ++ (b ++ ((100 ∷ (layers ++ 101 ∷ [])) ++ [])))) ++ 101 ∷ [])
 torrent_parts a b info layers = simp (append_assoc, append-nil)
 
 pub torrent_text : (info layers : List ℕ) → codes "d4:info" ++ (info ++ (codes "12:piece layersd" ++ (layers ++ codes "ee")))
@@ -108,9 +112,11 @@ last_parts a b c d name n pieces = simp append_assoc
 
 pub last_text : (name n pieces two : List ℕ) → two ≡ codes "i2e" → codes "12:meta versioni2e4:name" ++ (name ++ (codes "12:piece length" ++ (n ++ pieces)))
     ≡ string (codes "meta version") ++ (two ++ (string (codes "name") ++ (name ++ (string (codes "piece length") ++ (n ++ pieces)))))
-last_text name n pieces two e = rw (version_key, e, name_key, piece_length_key) (last_parts (codes "12:meta version") (codes "i2e") (codes "4:name") (codes "12:piece length") name n pieces)
+last_text name n pieces two e = rw (version_key, e, name_key, piece_length_key) (last_parts (codes "12:meta version") (codes "i2e") (codes "4:name")
+    (codes "12:piece length") name n pieces)
 
-info_parts : (a tree list last : List ℕ) → ((100 ∷ a) ++ 100 ∷ []) ++ (tree ++ (101 ∷ (list ++ (last ++ 101 ∷ [])))) ≡ 100 ∷ ((a ++ ((100 ∷ (tree ++ 101 ∷ [])) ++ (list ++ last))) ++ 101 ∷ [])
+info_parts : (a tree list last : List ℕ) → ((100 ∷ a) ++ 100 ∷ []) ++ (tree ++ (101 ∷ (list ++ (last ++ 101 ∷ [])))) ≡ 100 ∷
+    ((a ++ ((100 ∷ (tree ++ 101 ∷ [])) ++ (list ++ last))) ++ 101 ∷ [])
 info_parts a tree list last = simp append_assoc
 
 pub info_text : (tree list last : List ℕ) → codes "d9:file treed" ++ (tree ++ (codes "e" ++ (list ++ (last ++ codes "e"))))

@@ -1,5 +1,6 @@
 -- A path's place among paths in order, and what it clashes with.
-use Rattle.std.proofs.Common.{◌≡◌, ◌≢◌, ℕ, zero, suc, ◌+◌, ◌<◌, ◌≤◌, true, false, List, [], ◌∷◌, ◌++◌, length, take, drop, get_or, Some, slice_get, inl, inr, refl, sym, ap, subst, ◌∙◌, arith, ◌⊎◌}
+use Rattle.std.proofs.Common.{◌≡◌, ◌≢◌, ℕ, zero, suc, ◌+◌, ◌<◌, ◌≤◌, true, false, List, [], ◌∷◌, ◌++◌, length, take, drop, get_or, Some, slice_get, inl, inr}
+use Rattle.std.proofs.Common.{refl, sym, ap, subst, ◌∙◌, arith, ◌⊎◌}
 use Rattle.std.proofs.lemmas.Cmp.{nat_list_cmp_total}
 use Rattle.std.proofs.lemmas.List.{drop_all, drop_more}
 use Rattle.std.proofs.lemmas.Option.{slice_get-get_or}
@@ -46,7 +47,8 @@ pub path_mirror : (p q : List (List ℕ)) → path_cmp p q ≡ ordering_reverse 
 path_mirror [] [] = refl
 path_mirror [] (l ∷ ls) = refl
 path_mirror (k ∷ ks) [] = refl
-path_mirror (k ∷ ks) (l ∷ ls) = then_reverse (slice_cmp nat_cmp k l) (slice_cmp nat_cmp l k) (path_cmp ks ls) (path_cmp ls ks) (nat_list_cmp_total.antisymm k l) (path_mirror ks ls)
+path_mirror (k ∷ ks) (l ∷ ls) = then_reverse (slice_cmp nat_cmp k l) (slice_cmp nat_cmp l k) (path_cmp ks ls) (path_cmp ls ks) (nat_list_cmp_total.antisymm k l)
+    (path_mirror ks ls)
 
 pub greater_less : (p q : List (List ℕ)) → path_cmp p q ≡ Greater → path_cmp q p ≡ Less
 greater_less p q e = path_mirror q p ∙ ap ordering_reverse e
@@ -100,7 +102,8 @@ pub search_rises : (p : List (List ℕ)) (ps : List (List (List ℕ))) → AreIn
 search_rises p ps order i j d le within =
     elim (le_apart i j le) [
       | inl same ↦ rw same (omega arith)
-      | inr less ↦ rises p (get_or ps i d) (get_or ps j d) (order_at ps i j (get_or ps i d) (get_or ps j d) order less (slice_get-get_or ps i d (omega arith)) (slice_get-get_or ps j d within))
+      | inr less ↦ rises p (get_or ps i d) (get_or ps j d) (order_at ps i j (get_or ps i d) (get_or ps j d) order less (slice_get-get_or ps i d (omega arith))
+          (slice_get-get_or ps j d within))
     ]
 
 -- ---- a path that is put between the lesser and the greater
@@ -109,7 +112,8 @@ over_all : (p : List (List ℕ)) (ps : List (List (List ℕ))) → AllByRecursio
 over_all p [] a = tt
 over_all p (q ∷ ps) a = (greater_less q p a.0, over_all p ps a.1)
 
-over_put : (x p : List (List ℕ)) (i : ℕ) (ps : List (List (List ℕ))) → AllByRecursion (λ q. path_cmp x q ≡ Less) ps → path_cmp x p ≡ Less → AllByRecursion (λ q. path_cmp x q ≡ Less) (take i ps ++ p ∷ drop i ps)
+over_put : (x p : List (List ℕ)) (i : ℕ) (ps : List (List (List ℕ))) → AllByRecursion (λ q. path_cmp x q ≡ Less) ps → path_cmp x p ≡ Less
+    → AllByRecursion (λ q. path_cmp x q ≡ Less) (take i ps ++ p ∷ drop i ps)
 over_put x p zero ps a less = (less, a)
 over_put x p (suc i) [] a less = (less, tt)
 over_put x p (suc i) (y ∷ ps) a less = (a.0, over_put x p i ps a.1 less)
@@ -122,18 +126,22 @@ put_in_order p (suc i) (x ∷ ps) order place =
     (over_put x p i ps order.0 place.below.0, put_in_order p i ps order.1 (record { below = place.below.1; above = place.above }))
 
 -- a path at its place clashes with none
-pub no_clash : (p : List (List ℕ)) (i : ℕ) (ps : List (List (List ℕ))) → IsPlaceOf p ps i → (n : ℕ) (q : List (List ℕ)) → slice_get ps n ≡ Some q → path_cmp q p ≢ Equal
+pub no_clash : (p : List (List ℕ)) (i : ℕ) (ps : List (List (List ℕ))) → IsPlaceOf p ps i → (n : ℕ) (q : List (List ℕ)) → slice_get ps n ≡ Some q
+    → path_cmp q p ≢ Equal
 no_clash p i [] place n q at = cc
-no_clash p zero (x ∷ ps) place zero q at = let same : x ≡ q = cc in λ tie. let more : path_cmp q p ≡ Greater = subst (λ y. path_cmp y p ≡ Greater) same place.above.0 in cc
+no_clash p zero (x ∷ ps) place zero q at = let same : x ≡ q = cc in λ tie. let more : path_cmp q p ≡ Greater = subst (λ y. path_cmp y p ≡ Greater) same
+    place.above.0 in cc
 no_clash p zero (x ∷ ps) place (suc n) q at = no_clash p zero ps (record { below = tt; above = place.above.1 }) n q at
-no_clash p (suc i) (x ∷ ps) place zero q at = let same : x ≡ q = cc in λ tie. let less : path_cmp q p ≡ Less = subst (λ y. path_cmp y p ≡ Less) same place.below.0 in cc
+no_clash p (suc i) (x ∷ ps) place zero q at = let same : x ≡ q = cc in λ tie. let less : path_cmp q p ≡ Less =
+    subst (λ y. path_cmp y p ≡ Less) same place.below.0 in cc
 no_clash p (suc i) (x ∷ ps) place (suc n) q at = no_clash p i ps (record { below = place.below.1; above = place.above }) n q at
 
 -- ---- comparing component by component
 
 pub compare_more : (p q : List (List ℕ)) (i : ℕ) → i < length p → i < length q
     → path_cmp (drop i p) (drop i q) ≡ ordering_then (slice_cmp nat_cmp (get_or p i []) (get_or q i [])) (path_cmp (drop (i + 1) p) (drop (i + 1) q))
-compare_more p q i in_p in_q = ap (λ x. path_cmp x (drop i q)) (drop_more p i [] in_p) ∙ ap (λ x. path_cmp (get_or p i [] ∷ drop (i + 1) p) x) (drop_more q i [] in_q)
+compare_more p q i in_p in_q = ap (λ x. path_cmp x (drop i q)) (drop_more p i [] in_p)
+    ∙ ap (λ x. path_cmp (get_or p i [] ∷ drop (i + 1) p) x) (drop_more q i [] in_q)
 
 none_right : (p : List (List ℕ)) → path_cmp p [] ≡ Equal
 none_right [] = refl
@@ -146,24 +154,30 @@ compare_all p q i past =
       | inr other ↦ ap (λ x. path_cmp (drop i p) x) (drop_all i q other) ∙ none_right (drop i p)
     ]
 
-turned : (p q : List (List ℕ)) (i : ℕ) (a b : List ℕ) (o : Ordering) → path_cmp p q ≡ path_cmp (drop i p) (drop i q) → i < length p → i < length q → get_or p i [] ≡ a → get_or q i [] ≡ b
+turned : (p q : List (List ℕ)) (i : ℕ) (a b : List ℕ) (o : Ordering) → path_cmp p q ≡ path_cmp (drop i p) (drop i q) → i < length p → i < length q
+    → get_or p i [] ≡ a → get_or q i [] ≡ b
     → o ≡ slice_cmp nat_cmp a b → path_cmp p q ≡ ordering_then o (path_cmp (drop (i + 1) p) (drop (i + 1) q))
 turned p q i a b o so in_p in_q is_a is_b order =
     so ∙ compare_more p q i in_p in_q ∙ ap (λ x. ordering_then (slice_cmp nat_cmp x (get_or q i [])) (path_cmp (drop (i + 1) p) (drop (i + 1) q))) is_a
-    ∙ ap (λ x. ordering_then (slice_cmp nat_cmp a x) (path_cmp (drop (i + 1) p) (drop (i + 1) q))) is_b ∙ ap (λ x. ordering_then x (path_cmp (drop (i + 1) p) (drop (i + 1) q))) (sym order)
+    ∙ ap (λ x. ordering_then (slice_cmp nat_cmp a x) (path_cmp (drop (i + 1) p) (drop (i + 1) q))) is_b
+    ∙ ap (λ x. ordering_then x (path_cmp (drop (i + 1) p) (drop (i + 1) q))) (sym order)
 
-pub turn_ends : (p q : List (List ℕ)) (i : ℕ) (a b : List ℕ) (o : Ordering) → path_cmp p q ≡ path_cmp (drop i p) (drop i q) → i < length p → i < length q → get_or p i [] ≡ a → get_or q i [] ≡ b
+pub turn_ends : (p q : List (List ℕ)) (i : ℕ) (a b : List ℕ) (o : Ordering) → path_cmp p q ≡ path_cmp (drop i p) (drop i q) → i < length p → i < length q
+    → get_or p i [] ≡ a → get_or q i [] ≡ b
     → o ≡ slice_cmp nat_cmp a b → is_ne o ≡ true → o ≡ path_cmp p q
-turn_ends p q i a b o so in_p in_q is_a is_b order ne = sym (turned p q i a b o so in_p in_q is_a is_b order ∙ decides o (path_cmp (drop (i + 1) p) (drop (i + 1) q)) ne)
+turn_ends p q i a b o so in_p in_q is_a is_b order ne = sym (turned p q i a b o so in_p in_q is_a is_b order
+    ∙ decides o (path_cmp (drop (i + 1) p) (drop (i + 1) q)) ne)
   where
     decides : (o x : Ordering) → is_ne o ≡ true → ordering_then o x ≡ o
     decides Less x e = refl
     decides Equal x e = cc
     decides Greater x e = refl
 
-pub turn_goes_on : (p q : List (List ℕ)) (i : ℕ) (a b : List ℕ) (o : Ordering) → path_cmp p q ≡ path_cmp (drop i p) (drop i q) → i < length p → i < length q → get_or p i [] ≡ a → get_or q i [] ≡ b
+pub turn_goes_on : (p q : List (List ℕ)) (i : ℕ) (a b : List ℕ) (o : Ordering) → path_cmp p q ≡ path_cmp (drop i p) (drop i q) → i < length p → i < length q
+    → get_or p i [] ≡ a → get_or q i [] ≡ b
     → o ≡ slice_cmp nat_cmp a b → is_ne o ≡ false → path_cmp p q ≡ path_cmp (drop (i + 1) p) (drop (i + 1) q)
-turn_goes_on p q i a b o so in_p in_q is_a is_b order ne = turned p q i a b o so in_p in_q is_a is_b order ∙ defers o (path_cmp (drop (i + 1) p) (drop (i + 1) q)) ne
+turn_goes_on p q i a b o so in_p in_q is_a is_b order ne = turned p q i a b o so in_p in_q is_a is_b order
+    ∙ defers o (path_cmp (drop (i + 1) p) (drop (i + 1) q)) ne
   where
     defers : (o x : Ordering) → is_ne o ≡ false → ordering_then o x ≡ x
     defers Less x e = cc

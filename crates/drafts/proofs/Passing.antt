@@ -1,5 +1,6 @@
 -- The tests of a file that is added.
-use Rattle.std.proofs.Common.{◌≡◌, inl, inr, Bool, true, false, ◌&&◌, length, ℕ, zero, suc, [], ◌∷◌, ◌+◌, ◌^◌, ◌<◌, ◌≤◌, List, map, Some, slice_get, refl, ap, ◌∙◌, arith}
+use Rattle.std.proofs.Common.{◌≡◌, inl, inr, Bool, true, false, ◌&&◌, length, ℕ, zero, suc, [], ◌∷◌, ◌+◌, ◌^◌, ◌<◌, ◌≤◌, List, map, Some, slice_get, refl, ap}
+use Rattle.std.proofs.Common.{◌∙◌, arith}
 use Rattle.std.proofs.lemmas.Option.{slice_get-map, same_Some}
 use Rattle.std.specs.List.{All}
 use Rattle.std.specs.Prelude.{if◌then◌else◌, nat_lt, option_map, Result, Ok, Err, IfErr, OnErr, OnOk}
@@ -35,7 +36,8 @@ none_holds d f place passed at = (
         (slice_get-map (λ (g : OutlineFile). g.path) d.files clash.number ∙ ap (option_map (λ (g : OutlineFile). g.path)) clash.there)
         (begins_tie clash.other.path f.path clash.begins)
 
-of_path : (fs : List OutlineFile) (n : ℕ) (path : List (List ℕ)) → slice_get (map (λ (g : OutlineFile). g.path) fs) n ≡ Some path → (g : OutlineFile) × (slice_get fs n ≡ Some g) × (g.path ≡ path)
+of_path : (fs : List OutlineFile) (n : ℕ) (path : List (List ℕ)) → slice_get (map (λ (g : OutlineFile). g.path) fs) n ≡ Some path
+    → (g : OutlineFile) × (slice_get fs n ≡ Some g) × (g.path ≡ path)
 of_path [] n path at = cc
 of_path (f ∷ fs) zero path at = (f, refl, same_Some f.path path at)
 of_path (f ∷ fs) (suc n) path at = of_path fs n path at
@@ -59,7 +61,8 @@ pub lengths_are : (width : ℕ) (hs : List (List ℕ)) → All (λ h. length h �
 lengths_are width [] all = tt
 lengths_are width (h ∷ hs) all = (all 0 h (omega arith), lengths_are width hs (λ i d low. all (suc i) d (omega arith)))
 
-pub fits_given : (d : Outline) (path : List (List ℕ)) (n : ℕ) (root : List ℕ) (v1 : V1File) (layer : List (List ℕ)) → length root ≡ 32 → All (λ h. length h ≡ 20) v1.cuts.items → length v1.padded ≡ 20
+pub fits_given : (d : Outline) (path : List (List ℕ)) (n : ℕ) (root : List ℕ) (v1 : V1File) (layer : List (List ℕ)) → length root ≡ 32
+    → All (λ h. length h ≡ 20) v1.cuts.items → length v1.padded ≡ 20
     → MayAdd d (given_file d path n root v1) layer → IsGiven d (given_file d path n root v1) layer
 fits_given d path n root v1 layer root_length cut_lengths padded_length may = record {
   root_length = λ _. root_length;

@@ -1,5 +1,6 @@
 -- One part of a text after the other.
-use Rattle.std.proofs.Common.{◌≡◌, ℕ, ◌+◌, ◌-◌, ◌^◌, List, [], ◌++◌, length, min, Result, Ok, Err, inl, inr, refl, sym, ap, subst, ◌∙◌, append_assoc, arith, length-append}
+use Rattle.std.proofs.Common.{◌≡◌, ℕ, ◌+◌, ◌-◌, ◌^◌, List, [], ◌++◌, length, min, Result, Ok, Err, inl, inr, refl, sym, ap, subst, ◌∙◌, append_assoc, arith}
+use Rattle.std.proofs.Common.{length-append}
 use Rattle.std.proofs.lemmas.List.{append-nil}
 use Rattle.std.specs.Io.KnownBytes.{Keeps}
 use Rattle.std.specs.Prelude.{OnOk, true}
@@ -53,7 +54,8 @@ pub record SoFar (p : Pen) (s : SinkSeen) (q : Pen) (t : SinkSeen) (whole rest :
 pub put_start : (p : Pen) (s : SinkSeen) {whole rest : List ℕ} → whole ≡ rest → SoFar p s p s whole rest
 put_start p s e = record { done = []; split = e; put = put_none p s }
 
-pub put_on : {p q r : Pen} {s t u : SinkSeen} {whole rest piece : List ℕ} (next : List ℕ) → SoFar p s q t whole rest → Put q t r u piece → rest ≡ piece ++ next → SoFar p s r u whole next
+pub put_on : {p q r : Pen} {s t u : SinkSeen} {whole rest piece : List ℕ} (next : List ℕ) → SoFar p s q t whole rest → Put q t r u piece → rest ≡ piece ++ next
+    → SoFar p s r u whole next
 put_on {piece = piece} next far put e = record {
   done = far.done ++ piece;
   split = far.split ∙ ap (λ x. far.done ++ x) e ∙ sym (append_assoc far.done piece next);
@@ -68,7 +70,8 @@ put_all {whole = whole} far end = put_as whole far.put (sym (far.split ∙ ap (�
 
 -- ---- a text that was written, and then a flush
 
-pub then_flushed : {A E : Type 0} (r : Result A E) (s t u : SinkSeen) (text : List ℕ) → Sent s t text → Keeps t.written u.written → OnOk r (u.is_flushed ≡ true) → CountsFault t.faults u.faults r
+pub then_flushed : {A E : Type 0} (r : Result A E) (s t u : SinkSeen) (text : List ℕ) → Sent s t text → Keeps t.written u.written → OnOk r (u.is_flushed ≡ true)
+    → CountsFault t.faults u.faults r
     → u.flushes ≡ one_more t.flushes → WroteAndFlushed s u r text
 then_flushed (Ok x) s t u text sent keeps last counts once = record {
   bytes = Appends-keeps s.written t.written u.written text sent.bytes keeps;

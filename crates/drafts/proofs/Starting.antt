@@ -34,7 +34,8 @@ empty_is_outline d name legal files layers = record {
   layers_used = λ n e at. absurd (none_at d.layers n e layers at);
 }
 
-pub empty_is_kept : (name : List ℕ) (p : ℕ) (hybrid : Bool) (fs : List DraftFile) (es : Entries) → IsUtf8 name → IsPieceLength p → fs ≡ [] → es ≡ [] → IsKept name p hybrid fs es 0
+pub empty_is_kept : (name : List ℕ) (p : ℕ) (hybrid : Bool) (fs : List DraftFile) (es : Entries) → IsUtf8 name → IsPieceLength p → fs ≡ [] → es ≡ []
+    → IsKept name p hybrid fs es 0
 unfolding IsStrictlySortedBy
 empty_is_kept name p hybrid fs es utf8 legal files entries = record {
   outline_is = empty_is_outline (outline name p hybrid fs es) utf8 legal (ap (map outline_file) files) (ap (outline_layers p) entries);

@@ -1,5 +1,6 @@
 -- A draft's value is canonical where its spelling is not too long.
-use Rattle.std.proofs.Common.{◌≡◌, ℕ, suc, ◌+◌, ◌-◌, ◌*◌, ◌/◌, ◌%◌, ◌<◌, ◌≤◌, ◌^◌, Bool, true, false, if◌then◌else◌, List, [], ◌∷◌, ◌++◌, length, map, Option, Some, None, slice_get, pow_mono, inl, inr, refl, subst, arith, length-append}
+use Rattle.std.proofs.Common.{◌≡◌, ℕ, suc, ◌+◌, ◌-◌, ◌*◌, ◌/◌, ◌%◌, ◌<◌, ◌≤◌, ◌^◌, Bool, true, false, if◌then◌else◌, List, [], ◌∷◌, ◌++◌, length, map, Option}
+use Rattle.std.proofs.Common.{Some, None, slice_get, pow_mono, inl, inr, refl, subst, arith, length-append}
 use Rattle.std.specs.Cmp.Lexicographic.{slice_cmp}
 use Rattle.std.specs.List.Sorted.{IsStrictlySortedBy}
 use Rattle.std.specs.Ordering.{nat_cmp}
@@ -11,7 +12,8 @@ use Rattle.benc.specs.Spelling.{string, IsAbove}
 use Rattle.benc.specs.Text.{spelling, items_spelling, pairs_spelling, Fits, ItemsFit, PairsFit, IsCanonical}
 use Rattle.drafts.proofs.Building.{AreOutlineFiles, IsTidy, AreTidy, ArePairsTidy, above_less, built_tidy, file_tree_built, length_fits}
 use Rattle.drafts.specs.Outline.{Outline, OutlineFile, OutlineLayer, IsOutline}
-use Rattle.drafts.specs.Written.{file_tree_of, pairs_of_layers, entry_value, pad_value, texts_value, entries_value, gap, needs_pad, list_pair, last_pairs, is_single, first_length, info_value, value_of}
+use Rattle.drafts.specs.Written.{file_tree_of, pairs_of_layers, entry_value, pad_value, texts_value, entries_value, gap, needs_pad, list_pair, last_pairs}
+use Rattle.drafts.specs.Written.{is_single, first_length, info_value, value_of}
 use Rattle.filetree.proofs.Bytes.{true_or_false}
 use Rattle.pieces.specs.Pieces.{IsPieceLength}
 
@@ -40,9 +42,11 @@ mutual
   items_short : (room : ℕ) (vs : Items) → AreTidy room vs → length (items_spelling vs) < 10 ^ 10 → ItemsFit room vs
   items_short room no_items tidy short = tt
   items_short room (item v vs) tidy short =
-      (fits_short room v tidy.0 (first_short (spelling v) (items_spelling vs) (10 ^ 10) short), items_short room vs tidy.1 (rest_short (spelling v) (items_spelling vs) (10 ^ 10) short))
+      (fits_short room v tidy.0 (first_short (spelling v) (items_spelling vs) (10 ^ 10) short),
+          items_short room vs tidy.1 (rest_short (spelling v) (items_spelling vs) (10 ^ 10) short))
 
-  pairs_short : (room : ℕ) (before : Option (List ℕ)) (ps : Pairs) → ArePairsTidy room before ps → length (pairs_spelling ps) < 10 ^ 10 → PairsFit room before ps
+  pairs_short : (room : ℕ) (before : Option (List ℕ)) (ps : Pairs) → ArePairsTidy room before ps → length (pairs_spelling ps) < 10 ^ 10
+      → PairsFit room before ps
   pairs_short room before no_pairs tidy short = tt
   pairs_short room before (pair k v ps) tidy short =
       let rest : length (spelling v ++ pairs_spelling ps) < 10 ^ 10 = rest_short (string k) (spelling v ++ pairs_spelling ps) (10 ^ 10) short in (
@@ -60,7 +64,8 @@ unfolding IsStrictlySortedBy
 layers_tidy room before [] order first = tt
 layers_tidy room before (e ∷ []) order first = (first e refl, tt, tt)
 layers_tidy room before (e ∷ (f ∷ es)) order first =
-    (first e refl, tt, layers_tidy room (Some e.root) (f ∷ es) order.1 (λ g at. let same : f ≡ g = cc in subst (λ (x : OutlineLayer). IsAbove x.root (Some e.root)) same (above_less e.root f.root order.0.0)))
+    (first e refl, tt, layers_tidy room (Some e.root) (f ∷ es) order.1 (λ g at. let same : f ≡ g = cc in
+        subst (λ (x : OutlineLayer). IsAbove x.root (Some e.root)) same (above_less e.root f.root order.0.0)))
 
 texts_tidy : (room : ℕ) (ks : List (List ℕ)) → AreTidy room (texts_value ks)
 texts_tidy room [] = tt
@@ -105,7 +110,8 @@ first_bound p [] files = omega arith
 first_bound p (f ∷ fs) files = (files 0 f refl).bound
 
 -- what stands behind the file tree, after a key that is below
-last_tidy : (d : Outline) (before : List ℕ) → IsPieceLength d.piece_length → IsAbove (codes "meta version") (Some before) → ArePairsTidy 126 (Some before) (last_pairs d)
+last_tidy : (d : Outline) (before : List ℕ) → IsPieceLength d.piece_length → IsAbove (codes "meta version") (Some before)
+    → ArePairsTidy 126 (Some before) (last_pairs d)
 last_tidy d before legal above =
     let most = (legal_some d.piece_length legal).1 in (
       above,
@@ -124,20 +130,24 @@ last_tidy d before legal above =
       ),
     )
 
-list_tidy : (d : Outline) → IsPieceLength d.piece_length → AreOutlineFiles d.piece_length d.files → ArePairsTidy 126 (Some (codes "file tree")) (list_pair d (last_pairs d))
+list_tidy : (d : Outline) → IsPieceLength d.piece_length → AreOutlineFiles d.piece_length d.files
+    → ArePairsTidy 126 (Some (codes "file tree")) (list_pair d (last_pairs d))
 list_tidy d legal files =
     elim (true_or_false (is_single d.name d.files)) [
       | inl single ↦ rw single (refl, length_fits (first_length d.files) (first_bound d.piece_length d.files files), last_tidy d (codes "length") legal refl)
       | inr many ↦ rw many (refl, (omega arith, entries_tidy d.piece_length d.files legal files), last_tidy d (codes "files") legal refl)
     ]
 
-either_tidy : (room : ℕ) (before : Option (List ℕ)) (b : Bool) (ps qs : Pairs) → ArePairsTidy room before ps → ArePairsTidy room before qs → ArePairsTidy room before (if b then ps else qs)
+either_tidy : (room : ℕ) (before : Option (List ℕ)) (b : Bool) (ps qs : Pairs) → ArePairsTidy room before ps → ArePairsTidy room before qs
+    → ArePairsTidy room before (if b then ps else qs)
 either_tidy room before true ps qs x y = x
 either_tidy room before false ps qs x y = y
 
 info_tidy : (d : Outline) → IsOutline d → IsTidy 127 (info_value d)
 info_tidy d o =
-    (omega arith, (tt, (omega arith, built_tidy 125 None (file_tree_of d.files) (file_tree_built d.piece_length 125 d.files o.in_order o.files (omega arith))), either_tidy 126 (Some (codes "file tree")) d.hybrid (list_pair d (last_pairs d)) (last_pairs d) (list_tidy d o.legal o.files) (last_tidy d (codes "file tree") o.legal refl)))
+    (omega arith, (tt, (omega arith, built_tidy 125 None (file_tree_of d.files) (file_tree_built d.piece_length 125 d.files o.in_order o.files (omega arith))),
+        either_tidy 126 (Some (codes "file tree")) d.hybrid (list_pair d (last_pairs d)) (last_pairs d) (list_tidy d o.legal o.files)
+        (last_tidy d (codes "file tree") o.legal refl)))
 
 pub value_tidy : (d : Outline) → IsOutline d → IsTidy 128 (value_of d)
 value_tidy d o = (omega arith, (tt, info_tidy d o, (refl, (omega arith, layers_tidy 126 None d.layers o.layers_ascend (λ e at. tt)), tt)))

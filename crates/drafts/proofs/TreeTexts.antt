@@ -1,5 +1,6 @@
 -- The text of a file tree is put file by file.
-use Rattle.std.proofs.Common.{◌≡◌, ℕ, suc, ◌+◌, ◌-◌, Bool, List, [], ◌∷◌, ◌++◌, length, drop, replicate, if◌then◌else◌, inl, inr, refl, sym, ap, subst, ◌∙◌, append_assoc, arith, get_or, ◌<◌, ◌≤◌, ◌⊎◌}
+use Rattle.std.proofs.Common.{◌≡◌, ℕ, suc, ◌+◌, ◌-◌, Bool, List, [], ◌∷◌, ◌++◌, length, drop, replicate, if◌then◌else◌, inl, inr, refl, sym, ap, subst, ◌∙◌}
+use Rattle.std.proofs.Common.{append_assoc, arith, get_or, ◌<◌, ◌≤◌, ◌⊎◌}
 use Rattle.drafts.proofs.Building.{rest_in_order}
 use Rattle.std.proofs.Math.ListN.{drop_of_length-le}
 use Rattle.std.proofs.lemmas.List.{drop_more, replicate_more}
@@ -66,7 +67,8 @@ node l ls v (pair m w qs) =
     ]
 
 -- a directory, by what is inside
-around : (a inner o leaf b later : List ℕ) → inner ≡ (o ++ leaf) ++ b → a ++ ((100 ∷ (inner ++ 101 ∷ [])) ++ later) ≡ ((a ++ 100 ∷ o) ++ leaf) ++ (b ++ 101 ∷ later)
+around : (a inner o leaf b later : List ℕ) → inner ≡ (o ++ leaf) ++ b → a ++ ((100 ∷ (inner ++ 101 ∷ [])) ++ later) ≡ ((a ++ 100 ∷ o) ++ leaf)
+    ++ (b ++ 101 ∷ later)
 around a inner o leaf b later e = ap (λ t. a ++ ((100 ∷ (t ++ 101 ∷ [])) ++ later)) e ∙ simp append_assoc
 
 alone : (a b t : List ℕ) → a ++ (b ++ t) ≡ ([] ++ (a ++ (b ++ []))) ++ t
@@ -77,7 +79,8 @@ first_text [] v t = alone (string []) (spelling v) (pairs_spelling t)
 first_text (k ∷ ks) v t =
     let n = node k ks v t in
     ap pairs_spelling n.tree_is
-    ∙ around (string k) (pairs_spelling (with_first ks v n.deeper)) (opened ks) (leaf_text v) (text_behind ks n.deeper) (pairs_spelling n.later) (first_text ks v n.deeper)
+    ∙ around (string k) (pairs_spelling (with_first ks v n.deeper)) (opened ks) (leaf_text v) (text_behind ks n.deeper) (pairs_spelling n.later)
+        (first_text ks v n.deeper)
     ∙ ap (λ b. (opened (k ∷ ks) ++ leaf_text v) ++ b) (sym n.behind_is)
 
 below_same : (k l : List ℕ) (ks ls : List (List ℕ)) → path_cmp (k ∷ ks) (l ∷ ls) ≡ Less → k ≡ l → path_cmp ks ls ≡ Less
@@ -110,7 +113,8 @@ behind_text (k ∷ ks) (l ∷ ls) v t less =
           ∙ ap (λ m. closed m ++ (opened (drop (shared ks ls) ls) ++ (leaf_text v ++ text_behind (l ∷ ls) t))) (sym count))
       | inr other ↦
           let count : suc (length ks) ≡ suc (length ks) - 0 = omega arith in
-          here ∙ rw other (outside (text_behind ks no_pairs) (closed (suc (length ks) - 0)) (opened (l ∷ ls)) (leaf_text v) (text_behind (l ∷ ls) t) (pairs_spelling whole)
+          here ∙ rw other (outside (text_behind ks no_pairs) (closed (suc (length ks) - 0)) (opened (l ∷ ls)) (leaf_text v) (text_behind (l ∷ ls) t)
+              (pairs_spelling whole)
           (ends (k ∷ ks) ∙ ap closed count) (sym (ap pairs_spelling n.tree_is) ∙ first_text (l ∷ ls) v t))
     ]
 
@@ -119,11 +123,13 @@ unfolding IsStrictlySortedBy
 next_less w [] a x us e = cc
 next_less w (y ∷ vs) a x us e = let same : y ≡ x = cc in subst (λ (z : Walk). path_cmp w.path z.path ≡ Less) same a.0.0
 
-rest_is : (p : List (List ℕ)) (ws : List Walk) → ((w : Walk) (vs : List Walk) → ws ≡ w ∷ vs → path_cmp p w.path ≡ Less) → AreInOrder (paths_of ws) → text_behind p (tree_of_walks ws) ≡ rest_text p ws
+rest_is : (p : List (List ℕ)) (ws : List Walk) → ((w : Walk) (vs : List Walk) → ws ≡ w ∷ vs → path_cmp p w.path ≡ Less) → AreInOrder (paths_of ws)
+    → text_behind p (tree_of_walks ws) ≡ rest_text p ws
 rest_is p [] first order = ends p
 rest_is p (w ∷ ws) first order =
     behind_text p w.path w.file (tree_of_walks ws) (first w ws refl)
-    ∙ ap (λ b. closed (length p - shared p w.path) ++ (opened (drop (shared p w.path) w.path) ++ (leaf_text w.file ++ b))) (rest_is w.path ws (next_less w ws order) (rest_in_order w ws order))
+    ∙ ap (λ b. closed (length p - shared p w.path) ++ (opened (drop (shared p w.path) w.path) ++ (leaf_text w.file ++ b)))
+        (rest_is w.path ws (next_less w ws order) (rest_in_order w ws order))
 
 -- the text of a tree, from its first file on
 pub tree_text : (ws : List Walk) → AreInOrder (paths_of ws) → pairs_spelling (tree_of_walks ws) ≡ rest_text [] ws
@@ -139,10 +145,12 @@ shared_step : (p q : List (List ℕ)) (i : ℕ) → i < length p → i < length 
     → shared (drop i p) (drop i q) ≡ (if bytes_eq (get_or p i []) (get_or q i []) then suc (shared (drop (i + 1) p) (drop (i + 1) q)) else 0)
 shared_step p q i one two = ap (λ x. shared x (drop i q)) (drop_more p i [] one) ∙ ap (λ y. shared (get_or p i [] ∷ drop (i + 1) p) y) (drop_more q i [] two)
 
-pub shared_here : (p q : List (List ℕ)) (i : ℕ) (k l : List ℕ) (b : Bool) → i < length p → i < length q → get_or p i [] ≡ k → get_or q i [] ≡ l → bytes_eq k l ≡ b
+pub shared_here : (p q : List (List ℕ)) (i : ℕ) (k l : List ℕ) (b : Bool) → i < length p → i < length q → get_or p i [] ≡ k → get_or q i [] ≡ l
+    → bytes_eq k l ≡ b
     → shared (drop i p) (drop i q) ≡ (if b then suc (shared (drop (i + 1) p) (drop (i + 1) q)) else 0)
 shared_here p q i k l b one two first second same =
-    shared_step p q i one two ∙ ap (λ t. if t then suc (shared (drop (i + 1) p) (drop (i + 1) q)) else 0) (ap (λ x. bytes_eq x (get_or q i [])) first ∙ ap (bytes_eq k) second ∙ same)
+    shared_step p q i one two ∙ ap (λ t. if t then suc (shared (drop (i + 1) p) (drop (i + 1) q)) else 0) (ap (λ x. bytes_eq x (get_or q i [])) first
+        ∙ ap (bytes_eq k) second ∙ same)
 
 pub shared_none : (p q : List (List ℕ)) (i : ℕ) → (length p ≤ i) ⊎ (length q ≤ i) → shared (drop i p) (drop i q) ≡ 0
 shared_none p q i end =

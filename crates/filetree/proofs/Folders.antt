@@ -15,15 +15,19 @@ texts xs = map (λ s. s.now) xs
 
 -- once those above were put there is room for one more
 pub one_left : (c : TreeFolder) (before behind : List (Bor (List ℕ))) (above : List (List ℕ))
-    → names_of (out-TreeFolder c).above ≡ above → map (λ s. s.now) behind ≡ map (λ s. s.now) before ++ above → length before + length (names_to c) ≤ 128 → length behind < 128
+    → names_of (out-TreeFolder c).above ≡ above → map (λ s. s.now) behind ≡ map (λ s. s.now) before ++ above → length before + length (names_to c) ≤ 128
+    → length behind < 128
 one_left c before behind above is put room =
-    let all : length (names_to c) ≡ length above + 1 = ap length (by_last c ∙ ap (λ ps. ps ++ string_bytes (out-TreeFolder c).name ∷ []) is) ∙ length-append above (string_bytes (out-TreeFolder c).name ∷ []) in
-    let same : length behind ≡ length before + length above = sym (length-map behind (λ s. s.now)) ∙ ap length put ∙ length-append (texts before) above ∙ ap (λ n. n + length above) (length-map before (λ s. s.now)) in
+    let all : length (names_to c) ≡ length above + 1 = ap length (by_last c ∙ ap (λ ps. ps ++ string_bytes (out-TreeFolder c).name ∷ []) is)
+        ∙ length-append above (string_bytes (out-TreeFolder c).name ∷ []) in
+    let same : length behind ≡ length before + length above = sym (length-map behind (λ s. s.now)) ∙ ap length put ∙ length-append (texts before) above
+        ∙ ap (λ n. n + length above) (length-map before (λ s. s.now)) in
     omega (arith, all, same, room)
 
 -- those above, and then the last
 pub put_last : (c : TreeFolder) (before behind all : List (Bor (List ℕ))) (above : List (List ℕ)) (last : Bor (List ℕ))
-    → names_of (out-TreeFolder c).above ≡ above → map (λ s. s.now) behind ≡ map (λ s. s.now) before ++ above → all ≡ behind ++ last ∷ [] → last.now ≡ string_bytes (out-TreeFolder c).name
+    → names_of (out-TreeFolder c).above ≡ above → map (λ s. s.now) behind ≡ map (λ s. s.now) before ++ above → all ≡ behind ++ last ∷ []
+    → last.now ≡ string_bytes (out-TreeFolder c).name
     → map (λ s. s.now) all ≡ map (λ s. s.now) before ++ names_to c
 put_last c before behind all above last is put pushed name =
     let bytes = string_bytes (out-TreeFolder c).name in

@@ -1,5 +1,6 @@
 -- The walks of a file tree are all that lead to a file, in order.
-use Rattle.std.proofs.Common.{◌≡◌, ℕ, zero, suc, ◌-◌, ◌<◌, Bool, true, false, not, ◌&&◌, ◌||◌, if◌then◌else◌, List, [], ◌∷◌, ◌++◌, map, Option, Some, None, slice_get, inl, inr, refl, sym, ap, subst, ◌∙◌, arith, ◌⊎◌}
+use Rattle.std.proofs.Common.{◌≡◌, ℕ, zero, suc, ◌-◌, ◌<◌, Bool, true, false, not, ◌&&◌, ◌||◌, if◌then◌else◌, List, [], ◌∷◌, ◌++◌, map, Option, Some, None}
+use Rattle.std.proofs.Common.{slice_get, inl, inr, refl, sym, ap, subst, ◌∙◌, arith, ◌⊎◌}
 use Rattle.std.specs.Cmp.Lexicographic.{slice_cmp}
 use Rattle.std.specs.List.{AllByRecursion}
 use Rattle.std.specs.List.Sorted.{IsStrictlySortedBy}
@@ -62,7 +63,8 @@ not_is false e = refl
 
 -- ---- order
 
-over_append : (P : List (List ℕ) → Type 0) (xs ys : List Walk) → AllByRecursion P (paths_of xs) → AllByRecursion P (paths_of ys) → AllByRecursion P (paths_of (xs ++ ys))
+over_append : (P : List (List ℕ) → Type 0) (xs ys : List Walk) → AllByRecursion P (paths_of xs) → AllByRecursion P (paths_of ys)
+    → AllByRecursion P (paths_of (xs ++ ys))
 over_append P [] ys a b = b
 over_append P (x ∷ xs) ys a b = (a.0, over_append P xs ys a.1 b)
 
@@ -75,7 +77,8 @@ order_append (x ∷ xs) ys a b cross = (over_append (λ q. path_cmp x.path q ≡
 below_less : (k : List ℕ) (p q : List (List ℕ)) → path_cmp p q ≡ Less → path_cmp (k ∷ p) (k ∷ q) ≡ Less
 below_less k p q less = ap (λ o. ordering_then o (path_cmp p q)) (cmp_same k) ∙ less
 
-over_below : (k : List ℕ) (p : List (List ℕ)) (ws : List Walk) → AllByRecursion (λ q. path_cmp p q ≡ Less) (paths_of ws) → AllByRecursion (λ q. path_cmp (k ∷ p) q ≡ Less) (paths_of (map (below k) ws))
+over_below : (k : List ℕ) (p : List (List ℕ)) (ws : List Walk) → AllByRecursion (λ q. path_cmp p q ≡ Less) (paths_of ws)
+    → AllByRecursion (λ q. path_cmp (k ∷ p) q ≡ Less) (paths_of (map (below k) ws))
 over_below k p [] a = tt
 over_below k p (w ∷ ws) a = (below_less k p w.path a.0, over_below k p ws a.1)
 
@@ -102,11 +105,13 @@ head_less : (k : List ℕ) (p q : List (List ℕ)) → HeadAbove k q → path_cm
 head_less k p [] h = absurd h
 head_less k p (l ∷ ls) h = ap (λ o. ordering_then o (path_cmp p ls)) h
 
-over_heads : (k : List ℕ) (p : List (List ℕ)) (ws : List Walk) → AllByRecursion (HeadAbove k) (paths_of ws) → AllByRecursion (λ q. path_cmp (k ∷ p) q ≡ Less) (paths_of ws)
+over_heads : (k : List ℕ) (p : List (List ℕ)) (ws : List Walk) → AllByRecursion (HeadAbove k) (paths_of ws)
+    → AllByRecursion (λ q. path_cmp (k ∷ p) q ≡ Less) (paths_of ws)
 over_heads k p [] h = tt
 over_heads k p (w ∷ ws) h = (head_less k p w.path h.0, over_heads k p ws h.1)
 
-cross : (k : List ℕ) (ws us : List Walk) → AllByRecursion (HeadAbove k) (paths_of us) → AllByRecursion (λ p. AllByRecursion (λ q. path_cmp p q ≡ Less) (paths_of us)) (paths_of (map (below k) ws))
+cross : (k : List ℕ) (ws us : List Walk) → AllByRecursion (HeadAbove k) (paths_of us)
+    → AllByRecursion (λ p. AllByRecursion (λ q. path_cmp p q ≡ Less) (paths_of us)) (paths_of (map (below k) ws))
 cross k [] us h = tt
 cross k (w ∷ ws) us h = (over_heads k w.path us h, cross k ws us h)
 
@@ -125,7 +130,8 @@ mutual
       let parts : (not (is_nil k) && is_node v ≡ true) × (is_directory ps ≡ true) = and_both (not (is_nil k) && is_node v) (is_directory ps) d in
       let inner : (not (is_nil k) ≡ true) × (is_node v ≡ true) = and_both (not (is_nil k)) (is_node v) parts.0 in
       let some : is_nil k ≡ false = not_is (is_nil k) inner.0 in
-      rw some (order_append (map (below k) (walks_in v)) (walks ps) (order_below k (walks_in v) (value_order room v fits.2 inner.1)) (pairs_order room (Some k) ps fits.3 parts.1)
+      rw some (order_append (map (below k) (walks_in v)) (walks ps) (order_below k (walks_in v) (value_order room v fits.2 inner.1))
+          (pairs_order room (Some k) ps fits.3 parts.1)
       (cross k (walks_in v) (walks ps) (heads k ps (above_all room k ps fits.3))))
 
   value_order : (room : ℕ) (v : Bencode) → Fits room v → is_node v ≡ true → AreInOrder (paths_of (walks_in v))
@@ -187,14 +193,17 @@ under_none k (pair l v ps) above =
           | inr other ↦ other
         ]
 
-under_later : (k : List ℕ) (v : Bencode) (ps : Pairs) (l : List ℕ) (x : Bencode) → AllAbove k (keys_in ps) → under l ps ≡ Some x → under l (pair k v ps) ≡ Some x
+under_later : (k : List ℕ) (v : Bencode) (ps : Pairs) (l : List ℕ) (x : Bencode) → AllAbove k (keys_in ps) → under l ps ≡ Some x
+    → under l (pair k v ps) ≡ Some x
 under_later k v ps l x above is =
     elim (true_or_false (bytes_eq k l)) [
-      | inl same ↦ let none : under l ps ≡ None = subst (λ y. under y ps ≡ None) (same_bytes k l same) (under_none k ps above) in absurd (let e : Some x ≡ None = sym is ∙ none in cc)
+      | inl same ↦ let none : under l ps ≡ None = subst (λ y. under y ps ≡ None) (same_bytes k l same) (under_none k ps above) in
+          absurd (let e : Some x ≡ None = sym is ∙ none in cc)
       | inr other ↦ rw other is
     ]
 
-leads_later : (k : List ℕ) (v : Bencode) (ps : Pairs) (path : List (List ℕ)) (file : Bencode) → AllAbove k (keys_in ps) → LeadsToFile ps path file → LeadsToFile (pair k v ps) path file
+leads_later : (k : List ℕ) (v : Bencode) (ps : Pairs) (path : List (List ℕ)) (file : Bencode) → AllAbove k (keys_in ps) → LeadsToFile ps path file
+    → LeadsToFile (pair k v ps) path file
 leads_later k v ps [] file above leads = under_later k v ps [] file above leads
 leads_later k v ps (l ∷ ls) file above leads = (leads.0, leads.1, under_later k v ps l (dict leads.0) above leads.2, leads.3)
 
@@ -213,7 +222,8 @@ mutual
             let here : Has (record { path = []; file = v } ∷ [] ++ walks ps) w = rw nil at h in
             elim (has_split (record { path = []; file = v } ∷ []) (walks ps) w here) [
               | inl front ↦ elim front [
-                | inl e ↦ moved (pair k v ps) (record { path = []; file = v }) w e (subst (λ x. under x (pair k v ps) ≡ Some v) (nil_is k nil) (under_first k v ps))
+                | inl e ↦ moved (pair k v ps) (record { path = []; file = v }) w e (subst (λ x. under x (pair k v ps) ≡ Some v) (nil_is k nil)
+                    (under_first k v ps))
                 | inr none ↦ absurd none
               ]
               | inr later ↦ leads_later k v ps w.path w.file (above_all room k ps fits.3) (each_leads room (Some k) ps w fits.3 later)
@@ -250,7 +260,8 @@ mutual
             rw nil (inl (ap (λ (x : Bencode). record { path = []; file = x }) one))
         | inr other ↦
             let is : under [] ps ≡ Some file = rw other at leads in
-            has_right (if is_nil k then record { path = []; file = v } ∷ [] else map (below k) (walks_in v)) (walks ps) (record { path = []; file = file }) (leads_has ps [] file is)
+            has_right (if is_nil k then record { path = []; file = v } ∷ [] else map (below k) (walks_in v)) (walks ps) (record { path = []; file = file })
+                (leads_has ps [] file is)
       ]
   leads_has (pair k v ps) (l ∷ ls) file leads =
       let found : (if bytes_eq k l then Some v else under l ps) ≡ Some (dict leads.0) = leads.2 in
@@ -260,15 +271,19 @@ mutual
             let one : v ≡ dict leads.0 = cc in
             let key : k ≡ l = same_bytes k l same in
             let some : is_nil k ≡ false = subst (λ x. is_nil x ≡ false) (sym key) leads.1 in
-            let here : Has (map (below k) (walks_in v)) (below k (record { path = ls; file = file })) = below_has k (walks_in v) (record { path = ls; file = file }) (value_has v leads.0 ls file one leads.3) in
-            let named : Has (map (below k) (walks_in v)) (record { path = l ∷ ls; file = file }) = subst (λ x. Has (map (below k) (walks_in v)) (record { path = x ∷ ls; file = file })) key here in
+            let here : Has (map (below k) (walks_in v)) (below k (record { path = ls; file = file })) =
+                below_has k (walks_in v) (record { path = ls; file = file }) (value_has v leads.0 ls file one leads.3) in
+            let named : Has (map (below k) (walks_in v)) (record { path = l ∷ ls; file = file }) =
+                subst (λ x. Has (map (below k) (walks_in v)) (record { path = x ∷ ls; file = file })) key here in
             rw some (has_left (map (below k) (walks_in v)) (walks ps) (record { path = l ∷ ls; file = file }) named)
         | inr other ↦
             let is : under l ps ≡ Some (dict leads.0) = rw other at found in
-            has_right (if is_nil k then record { path = []; file = v } ∷ [] else map (below k) (walks_in v)) (walks ps) (record { path = l ∷ ls; file = file }) (leads_has ps (l ∷ ls) file (leads.0, leads.1, is, leads.3))
+            has_right (if is_nil k then record { path = []; file = v } ∷ [] else map (below k) (walks_in v)) (walks ps) (record { path = l ∷ ls; file = file })
+                (leads_has ps (l ∷ ls) file (leads.0, leads.1, is, leads.3))
       ]
 
-  value_has : (v : Bencode) (inner : Pairs) (path : List (List ℕ)) (file : Bencode) → v ≡ dict inner → LeadsToFile inner path file → Has (walks_in v) (record { path = path; file = file })
+  value_has : (v : Bencode) (inner : Pairs) (path : List (List ℕ)) (file : Bencode) → v ≡ dict inner → LeadsToFile inner path file
+      → Has (walks_in v) (record { path = path; file = file })
   value_has (int z) inner path file e leads = cc
   value_has (text s) inner path file e leads = cc
   value_has (list vs) inner path file e leads = cc
@@ -315,26 +330,31 @@ apart_less (k ∷ ks) (l ∷ ls) e apart =
     first_decides (slice_cmp nat_cmp k l) (slice_cmp (slice_cmp nat_cmp) ks ls) (path_cmp ks ls)
     (λ same below. apart_less ks ls below (λ b. apart (b.0, ap (λ x. x ∷ ls) (sym (cmp_equal k l same)) ∙ ap (λ x. k ∷ x) b.1))) e
 
-over_at : (p : List (List ℕ)) (ps : List (List (List ℕ))) (j : ℕ) (q : List (List ℕ)) → AllByRecursion (λ x. path_cmp p x ≡ Less) ps → slice_get ps j ≡ Some q → path_cmp p q ≡ Less
+over_at : (p : List (List ℕ)) (ps : List (List (List ℕ))) (j : ℕ) (q : List (List ℕ)) → AllByRecursion (λ x. path_cmp p x ≡ Less) ps → slice_get ps j ≡ Some q
+    → path_cmp p q ≡ Less
 over_at p [] j q a e = cc
 over_at p (x ∷ ps) zero q a e = let same : x ≡ q = cc in subst (λ y. path_cmp p y ≡ Less) same a.0
 over_at p (x ∷ ps) (suc j) q a e = over_at p ps j q a.1 e
 
-pub order_at : (ps : List (List (List ℕ))) (i j : ℕ) (p q : List (List ℕ)) → AreInOrder ps → i < j → slice_get ps i ≡ Some p → slice_get ps j ≡ Some q → path_cmp p q ≡ Less
+pub order_at : (ps : List (List (List ℕ))) (i j : ℕ) (p q : List (List ℕ)) → AreInOrder ps → i < j → slice_get ps i ≡ Some p → slice_get ps j ≡ Some q
+    → path_cmp p q ≡ Less
 unfolding IsStrictlySortedBy
 order_at [] i j p q a less e f = cc
 order_at (x ∷ ps) i zero p q a less e f = absurd (omega arith)
 order_at (x ∷ ps) zero (suc j) p q a less e f = let same : x ≡ p = cc in subst (λ y. path_cmp y q ≡ Less) same (over_at x ps j q a.0 f)
 order_at (x ∷ ps) (suc i) (suc j) p q a less e f = order_at ps i j p q a.1 (omega arith) e f
 
-over_from : (p : List (List ℕ)) (ps : List (List (List ℕ))) → ((j : ℕ) (q : List (List ℕ)) → slice_get ps j ≡ Some q → path_cmp p q ≡ Less) → AllByRecursion (λ x. path_cmp p x ≡ Less) ps
+over_from : (p : List (List ℕ)) (ps : List (List (List ℕ))) → ((j : ℕ) (q : List (List ℕ)) → slice_get ps j ≡ Some q → path_cmp p q ≡ Less)
+    → AllByRecursion (λ x. path_cmp p x ≡ Less) ps
 over_from p [] f = tt
 over_from p (x ∷ ps) f = (f 0 x refl, over_from p ps (λ j q e. f (suc j) q e))
 
-pub order_from : (ps : List (List (List ℕ))) → ((i j : ℕ) (p q : List (List ℕ)) → i < j → slice_get ps i ≡ Some p → slice_get ps j ≡ Some q → path_cmp p q ≡ Less) → AreInOrder ps
+pub order_from : (ps : List (List (List ℕ))) → ((i j : ℕ) (p q : List (List ℕ)) → i < j → slice_get ps i ≡ Some p → slice_get ps j ≡ Some q
+    → path_cmp p q ≡ Less) → AreInOrder ps
 unfolding IsStrictlySortedBy
 order_from [] f = tt
-order_from (x ∷ ps) f = (over_from x ps (λ j q e. f 0 (suc j) x q (omega arith) refl e), order_from ps (λ i j p q less e g. f (suc i) (suc j) p q (omega arith) e g))
+order_from (x ∷ ps) f = (over_from x ps (λ j q e. f 0 (suc j) x q (omega arith) refl e),
+    order_from ps (λ i j p q less e g. f (suc i) (suc j) p q (omega arith) e g))
 
 pub order_is_apart : (ps : List (List (List ℕ))) → (AreInOrder ps → ArePathsApart ps) × (ArePathsApart ps → AreInOrder ps)
 order_is_apart ps = (

@@ -1,5 +1,6 @@
 -- The walks of a file tree are paths that stay inside a folder.
-use Rattle.std.proofs.Common.{◌≡◌, ◌≢◌, ℕ, zero, suc, ◌+◌, ◌-◌, ◌<◌, ◌≤◌, true, false, not, ◌&&◌, List, [], ◌∷◌, ◌++◌, length, map, Option, Some, None, slice_get, inl, inr, sym, ap, subst, ◌∙◌, arith}
+use Rattle.std.proofs.Common.{◌≡◌, ◌≢◌, ℕ, zero, suc, ◌+◌, ◌-◌, ◌<◌, ◌≤◌, true, false, not, ◌&&◌, List, [], ◌∷◌, ◌++◌, length, map, Option, Some, None}
+use Rattle.std.proofs.Common.{slice_get, inl, inr, sym, ap, subst, ◌∙◌, arith}
 use Rattle.benc.specs.Text.{Fits, PairsFit}
 use Rattle.benc.specs.Value.{Bencode, int, text, list, dict, Pairs, no_pairs, pair}
 use Rattle.filetree.specs.FileTree.{HasBadPath, HasBadPathIn, Walk, below, is_dict, is_directory, is_file, is_nil, is_node, walks, walks_in}
@@ -17,9 +18,11 @@ is_dict_then room (list vs) is fits = cc
 is_dict_then room (dict ps) is fits = fits.0
 
 -- each component of a path takes a dictionary, and so does the file behind it
-leads_deep : (room : ℕ) (before : Option (List ℕ)) (ps : Pairs) (path : List (List ℕ)) (file : Bencode) → PairsFit room before ps → LeadsToFile ps path file → is_dict file ≡ true
+leads_deep : (room : ℕ) (before : Option (List ℕ)) (ps : Pairs) (path : List (List ℕ)) (file : Bencode) → PairsFit room before ps → LeadsToFile ps path file
+    → is_dict file ≡ true
     → length path + 1 ≤ room
-leads_deep room before ps [] file fits leads is = let some : 0 < room = is_dict_then room file is (under_fits room before [] ps file fits leads) in omega (arith, some)
+leads_deep room before ps [] file fits leads is = let some : 0 < room = is_dict_then room file is (under_fits room before [] ps file fits leads) in
+    omega (arith, some)
 leads_deep room before ps (k ∷ ks) file fits leads is =
     let inner : Fits room (dict leads.0) = under_fits room before k ps (dict leads.0) fits leads.2 in
     let rest : length ks + 1 ≤ room - 1 = leads_deep (room - 1) None leads.0 ks file inner.1 leads.3 is in
@@ -90,7 +93,8 @@ mutual
               | inl front ↦
                   let deeper = has_below k (walks_in v) w front in
                   let there : slice_get (k ∷ deeper.0.path) n ≡ Some l = subst (λ (x : Walk). slice_get x.path n ≡ Some l) (sym deeper.2) at in
-                  one_more k deeper.0.path (some, (λ bad. good (inl (some, inl bad)))) (good_node v deeper.0 (λ bad. good (inl (some, inr bad))) deeper.1) n l there
+                  one_more k deeper.0.path (some, (λ bad. good (inl (some, inl bad)))) (good_node v deeper.0 (λ bad. good (inl (some, inr bad))) deeper.1) n l
+                      there
               | inr later ↦ good_walk ps w (λ bad. good (inr bad)) later n l at
             ]
       ]
@@ -101,7 +105,8 @@ mutual
   good_node (list vs) w good h n l at = absurd h
   good_node (dict ps) w good h n l at = good_walk ps w good h n l at
 
-pub walks_are_safe : (ps : Pairs) → Fits 126 (dict ps) → is_directory ps ≡ true → (HasBadPath ps → ⊥) → (n : ℕ) (w : Walk) → slice_get (walks ps) n ≡ Some w → IsFilePath w.path
+pub walks_are_safe : (ps : Pairs) → Fits 126 (dict ps) → is_directory ps ≡ true → (HasBadPath ps → ⊥) → (n : ℕ) (w : Walk) → slice_get (walks ps) n ≡ Some w
+    → IsFilePath w.path
 walks_are_safe ps fits d good n w at =
     let h : Has (walks ps) w = has_at (walks ps) n w at in
     let told = directory_walk ps w d h in

@@ -39,9 +39,12 @@ mutual
   ]
 
   bad_node : (all : Pairs) (k : List ℕ) (v : Bencode) → is_nil k ≡ false → HoldsPair all k v → is_node v ≡ false → HasFault all
-  bad_node all k (int z) some there odd = record { path = []; dir = all; reached = refl; fault = inl (record { component = k; value = int z; some = some; there = there; odd = refl }) }
-  bad_node all k (text s) some there odd = record { path = []; dir = all; reached = refl; fault = inl (record { component = k; value = text s; some = some; there = there; odd = refl }) }
-  bad_node all k (list vs) some there odd = record { path = []; dir = all; reached = refl; fault = inl (record { component = k; value = list vs; some = some; there = there; odd = refl }) }
+  bad_node all k (int z) some there odd = record { path = []; dir = all; reached = refl; fault =
+      inl (record { component = k; value = int z; some = some; there = there; odd = refl }) }
+  bad_node all k (text s) some there odd = record { path = []; dir = all; reached = refl; fault =
+      inl (record { component = k; value = text s; some = some; there = there; odd = refl }) }
+  bad_node all k (list vs) some there odd = record { path = []; dir = all; reached = refl; fault =
+      inl (record { component = k; value = list vs; some = some; there = there; odd = refl }) }
   bad_node all k (dict ps) some there odd =
       let both = or_parts (is_file ps) (is_directory ps) odd in
       elim (bad_pairs ps ps (λ l w h. h) both.1) [
@@ -94,7 +97,8 @@ no_fault_file ps is (inl one) = both_ways (is_nil one.component) (file_pair ps o
 no_fault_file ps is (inr (inl two)) = let one = (file_pair ps two.has.key two.file is two.has.there).2 in let bad : ⊥ = omega (arith, one, two.several) in bad
 no_fault_file ps is (inr (inr three)) = both_ways (is_dict three.file) (file_pair ps three.has.key three.file is three.has.there).1 three.odd
 
-no_fault : (path : List (List ℕ)) (ps dir : Pairs) → is_directory ps ≡ true → LeadsToDirectory ps path dir → HasOddComponent dir ⊎ HasSibling dir ⊎ HasOddFile dir → ⊥
+no_fault : (path : List (List ℕ)) (ps dir : Pairs) → is_directory ps ≡ true → LeadsToDirectory ps path dir → HasOddComponent dir ⊎ HasSibling dir
+    ⊎ HasOddFile dir → ⊥
 no_fault [] ps dir d reached fault = no_fault_here dir (subst (λ x. is_directory x ≡ true) reached d) fault
 no_fault (k ∷ ks) ps dir d reached fault =
     elim (or_one (is_file reached.0) (is_directory reached.0) (has_node ps k (dict reached.0) d reached.2).1) [
@@ -102,7 +106,8 @@ no_fault (k ∷ ks) ps dir d reached fault =
       | inr deeper ↦ no_fault ks reached.0 dir deeper reached.3 fault
     ]
   where
-    behind_file : (ks : List (List ℕ)) (ps dir : Pairs) → is_file ps ≡ true → LeadsToDirectory ps ks dir → HasOddComponent dir ⊎ HasSibling dir ⊎ HasOddFile dir → ⊥
+    behind_file : (ks : List (List ℕ)) (ps dir : Pairs) → is_file ps ≡ true → LeadsToDirectory ps ks dir → HasOddComponent dir ⊎ HasSibling dir ⊎ HasOddFile dir
+        → ⊥
     behind_file [] ps dir is reached fault = no_fault_file dir (subst (λ x. is_file x ≡ true) reached is) fault
     behind_file (k ∷ ks) ps dir is reached fault = both_ways (is_nil k) (file_pair ps k (dict reached.0) is reached.2).0 reached.1
 

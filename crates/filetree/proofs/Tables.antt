@@ -25,6 +25,7 @@ passes_all xs Q (Ok x) none made = (none, made)
 passes_all xs Q (Err r) none made = λ memory. absurd (memory made)
 
 -- the tests behind others that passed
-pub passes_after : {T : Type 0} (xs ys : List TestRow) (Q : T → Type 0) (r : Result T Refusal) → NoneHolds xs → PassesUnlessNoMemory ys Q r → PassesUnlessNoMemory (xs ++ ys) Q r
+pub passes_after : {T : Type 0} (xs ys : List TestRow) (Q : T → Type 0) (r : Result T Refusal) → NoneHolds xs → PassesUnlessNoMemory ys Q r
+    → PassesUnlessNoMemory (xs ++ ys) Q r
 passes_after xs ys Q (Ok x) none passes = (none_both xs ys none passes.0, passes.1)
 passes_after xs ys Q (Err r) none passes = λ memory. first_behind xs ys r none (passes memory)

@@ -11,7 +11,8 @@ use Rattle.filetree.specs.Walked.{behind, AddsBehind, HasBadPathAt, IsAsBad, wal
 pub walked_on : (path : List (List ℕ)) (all rest : Pairs) (p : Seen) (old mid new : List Walk)
     → IsOnWay path all (pair p.0 p.1 rest) old mid → AddsBehind path (walks_at p) mid new → IsOnWay path all rest old new
 walked_on path all rest p old mid new way adds = record {
-  adds = way.adds ∙ ap (λ ws. mid ++ ws) (map-append (behind path) (walks_at p) (walks rest)) ∙ sym (append_assoc mid (map (behind path) (walks_at p)) (map (behind path) (walks rest)))
+  adds = way.adds ∙ ap (λ ws. mid ++ ws) (map-append (behind path) (walks_at p) (walks rest))
+      ∙ sym (append_assoc mid (map (behind path) (walks_at p)) (map (behind path) (walks rest)))
       ∙ ap (λ ws. ws ++ map (behind path) (walks rest)) (sym adds);
 }
 
@@ -26,7 +27,8 @@ as_bad all rest p way good = record {
 behind_below : (path : List (List ℕ)) (k : List ℕ) (ws : List Walk) → map (behind (path ++ k ∷ [])) ws ≡ map (behind path) (map (below k) ws)
 behind_below path k [] = refl
 behind_below path k (w ∷ ws) =
-    let first : behind (path ++ k ∷ []) w ≡ behind path (below k w) = ap (λ (p : List (List ℕ)). record { path = p; file = w.file }) (append_assoc path (k ∷ []) w.path) in
+    let first : behind (path ++ k ∷ []) w ≡ behind path (below k w) = ap (λ (p : List (List ℕ)). record { path = p; file = w.file })
+        (append_assoc path (k ∷ []) w.path) in
     ap (λ u. u ∷ map (behind (path ++ k ∷ [])) ws) first ∙ ap (λ us. behind path (below k w) ∷ us) (behind_below path k ws)
 
 pub walked_inner : (path longer : List (List ℕ)) (k : List ℕ) (ps : Pairs) (v : Bencode) (old new : List Walk)
@@ -40,13 +42,16 @@ behind_none [] = refl
 behind_none (w ∷ ws) = ap (λ us. w ∷ us) (behind_none ws)
 
 -- the one pair of a file's node
-pub file_node : (xs : List Pair) (x : Pair) → is_file (pairs_view xs) ≡ true → x ≡ get_or xs 0 x → (pairs_view xs ≡ pair (pair_view x).0 (pair_view x).1 no_pairs) × (is_nil (pair_view x).0 ≡ true)
+pub file_node : (xs : List Pair) (x : Pair) → is_file (pairs_view xs) ≡ true → x ≡ get_or xs 0 x
+    → (pairs_view xs ≡ pair (pair_view x).0 (pair_view x).1 no_pairs) × (is_nil (pair_view x).0 ≡ true)
 file_node [] x is first = cc
-file_node (y ∷ []) x is first = (ap (λ z. pairs_view (z ∷ [])) (sym first), subst (λ z. is_nil (pair_view z).0 ≡ true) (sym first) (and_both (is_nil (pair_view y).0) (is_dict (pair_view y).1) is).0)
+file_node (y ∷ []) x is first = (ap (λ z. pairs_view (z ∷ [])) (sym first), subst (λ z. is_nil (pair_view z).0 ≡ true) (sym first)
+    (and_both (is_nil (pair_view y).0) (is_dict (pair_view y).1) is).0)
 file_node (y ∷ z ∷ zs) x is first = cc
 
 -- a file in the folder at this path
-pub walked_file : (path : List (List ℕ)) (key nil : List ℕ) (v file : Bencode) (old new : List Walk) → is_nil key ≡ false → v ≡ dict (pair nil file no_pairs) → is_nil nil ≡ true
+pub walked_file : (path : List (List ℕ)) (key nil : List ℕ) (v file : Bencode) (old new : List Walk) → is_nil key ≡ false → v ≡ dict (pair nil file no_pairs)
+    → is_nil nil ≡ true
     → new ≡ old ++ record { path = path ++ key ∷ []; file = file } ∷ [] → AddsBehind path (walks_at (key, v)) old new
 walked_file path key nil v file old new some is none added =
     let here : walks_at (key, v) ≡ record { path = key ∷ []; file = file } ∷ [] = rw (some, is, none) refl in

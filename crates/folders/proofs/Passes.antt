@@ -1,5 +1,6 @@
 -- A check, as far as its first files.
-use Rattle.std.proofs.Common.{◌≡◌, ◌⊎◌, inl, inr, ℕ, ◌+◌, ◌-◌, ◌<◌, ◌≤◌, ◌&&◌, Bool, true, false, is_some, List, [], ◌∷◌, ◌++◌, length, replicate, slice_get, Option, Some, None, refl, ap, sym, ◌∙◌, subst, append_assoc, append-nil, arith}
+use Rattle.std.proofs.Common.{◌≡◌, ◌⊎◌, inl, inr, ℕ, ◌+◌, ◌-◌, ◌<◌, ◌≤◌, ◌&&◌, Bool, true, false, is_some, List, [], ◌∷◌, ◌++◌, length, replicate, slice_get}
+use Rattle.std.proofs.Common.{Option, Some, None, refl, ap, sym, ◌∙◌, subst, append_assoc, append-nil, arith}
 use Rattle.std.specs.List.{list_all}
 use Rattle.std.proofs.lemmas.List.{length-append, length-replicate, length_push, get_or_push, get_or_append_left}
 use Rattle.std.proofs.lemmas.List.Folds.{list_all-append}
@@ -105,13 +106,15 @@ list_all_push files v = list_all-append is_whole files (v ∷ []) ∙ ap (λ b. 
 
 -- the next file is as long as stated
 pub passed_whole : (t : Description) (n : ℕ) (files : List FileVerdict) (v : FileVerdict) (f : FileEntry) (bytes : List ℕ) (old new : Option V1Feed)
-    → IsSound t → slice_get t.files n ≡ Some f → is_whole v ≡ true → IsStreamPart t f bytes old new → IsPassed t n files old → IsPassed t (n + 1) (files ++ v ∷ []) new
+    → IsSound t → slice_get t.files n ≡ Some f → is_whole v ≡ true → IsStreamPart t f bytes old new → IsPassed t n files old
+    → IsPassed t (n + 1) (files ++ v ∷ []) new
 passed_whole t n files v f bytes old new sound is whole part passed =
     let took = takes_part t n f bytes old new sound is passed.not_past part in
     let more : List ℕ = part_of took.0 (start_of t f) bytes in
     record {
       count = length_push files v ∙ ap (λ k. k + 1) passed.count;
-      goes_on = takes_goes_on old new more took.3 ∙ passed.goes_on ∙ same (is_some t.v1) (list_all is_whole files) (is_whole v) whole ∙ ap (λ b. is_some t.v1 && b) (sym (list_all_push files v));
+      goes_on = takes_goes_on old new more took.3 ∙ passed.goes_on ∙ same (is_some t.v1) (list_all is_whole files) (is_whole v) whole
+          ∙ ap (λ b. is_some t.v1 && b) (sym (list_all_push files v));
       not_past = stays_before new (took.0 + length more) (place_before t (n + 1)) (takes_stands old new more took.0 took.3 took.1)
           (omega (arith, length-part_of took.0 (start_of t f) bytes took.2, part.length_is, ends_before_next t n f sound (pieces_are_positive t sound) is));
       ends = λ w hybrid. takes_ends old new more w.total took.3 (passed.ends w hybrid);
@@ -137,7 +140,8 @@ passed_broken t n files v old new broken stopped passed = record {
     off true false c h = refl
     off false b c h = refl
 
-pub passed_one : (t : Description) (n : ℕ) (files : List FileVerdict) (v : FileVerdict) (f : FileEntry) (told : Option (Option (List ℕ))) (old new : Option V1Feed)
+pub passed_one : (t : Description) (n : ℕ) (files : List FileVerdict) (v : FileVerdict) (f : FileEntry) (told : Option (Option (List ℕ)))
+    (old new : Option V1Feed)
     → IsSound t → slice_get t.files n ≡ Some f → FindsVerdict t f told old new v → IsPassed t n files old → IsPassed t (n + 1) (files ++ v ∷ []) new
 passed_one t n files v f told old new sound is found passed = elim (true_or_false (is_whole v)) [
   | inl whole ↦ let part = found.taken whole in passed_whole t n files v f part.0 old new sound is whole part.2 passed
@@ -185,7 +189,8 @@ part_begins t contents n f front (b ∷ bytes) is content le so_far =
     (prefix_file t contents n (front ++ replicate gap 0) f (b ∷ bytes) (prefix_zeros t contents n front gap so_far) is content
     (omega (arith, length-append front (replicate gap 0), length-replicate {A = ℕ} gap 0)))
 
-pub told_one : (t : Description) (contents : Contents) (n : ℕ) (files : List FileVerdict) (v : FileVerdict) (f : FileEntry) (shelf : Option (Option (List ℕ))) (old new : Option V1Feed)
+pub told_one : (t : Description) (contents : Contents) (n : ℕ) (files : List FileVerdict) (v : FileVerdict) (f : FileEntry) (shelf : Option (Option (List ℕ)))
+    (old new : Option V1Feed)
     → IsSound t → slice_get t.files n ≡ Some f → (found : FindsVerdict t f shelf old new v) → contents n ≡ found.content
     → IsPassed t n files old → IsTold t contents n files old → IsTold t contents (n + 1) (files ++ v ∷ []) new
 told_one t contents n files v f shelf old new sound is found here passed told = record {
@@ -198,7 +203,8 @@ told_one t contents n files v f shelf old new sound is found here passed told = 
         let took = takes_part t n f bytes old new sound is passed.not_past part.2 in
         let before : is_some old ≡ true = sym (takes_goes_on old new (part_of took.0 (start_of t f) bytes) took.3) ∙ on in
         let given = told.stream w hybrid before in
-        let at : length given.0 ≤ start_of t f = front_before old (length given.0) (place_before t n) (start_of t f) before given.1 passed.not_past (start_is t n f sound is) in
+        let at : length given.0 ≤ start_of t f = front_before old (length given.0) (place_before t n) (start_of t f) before given.1 passed.not_past
+            (start_is t n f sound is) in
         let more : List ℕ = part_of (length given.0) (start_of t f) bytes in
         let takes : Takes old more new = part.2.streamed (length given.0) given.1 at in (
           given.0 ++ more,

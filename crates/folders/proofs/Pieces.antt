@@ -1,5 +1,6 @@
 -- What a check against a layer tells of a file.
-use Rattle.std.proofs.Common.{◌≡◌, ◌⊎◌, inl, inr, ℕ, ◌+◌, ◌-◌, ◌*◌, ◌/◌, ◌^◌, ◌<◌, ◌≤◌, Bool, true, false, leb, if◌then◌else◌, List, [], ◌∷◌, ◌++◌, length, replicate, get_or, Option, Some, None, refl, ap, sym, ◌∙◌, subst, arith}
+use Rattle.std.proofs.Common.{◌≡◌, ◌⊎◌, inl, inr, ℕ, ◌+◌, ◌-◌, ◌*◌, ◌/◌, ◌^◌, ◌<◌, ◌≤◌, Bool, true, false, leb, if◌then◌else◌, List, [], ◌∷◌, ◌++◌, length}
+use Rattle.std.proofs.Common.{replicate, get_or, Option, Some, None, refl, ap, sym, ◌∙◌, subst, arith}
 use Rattle.std.proofs.Common.{eqb, eq-eqb, eqb-true, is_some, not}
 use Rattle.std.specs.Option.{option_eq}
 use Rattle.std.proofs.Math.Nat.{div-mul-le_self, mul-le-mul_left}
@@ -43,14 +44,16 @@ short_or_long : (a b : ℕ) → (a ≤ b) ⊎ (b < a)
 short_or_long a b = grind arith
 
 -- the nodes of the compared layer are the given hashes: the root is the tree's
-pub same_root : (piece_length : ℕ) (e : TreeEntry) (layer : ℕ) (hashes : List (List ℕ)) (bytes : List ℕ) → IsComparedLayer piece_length e layer hashes → IsSoundTree piece_length e
+pub same_root : (piece_length : ℕ) (e : TreeEntry) (layer : ℕ) (hashes : List (List ℕ)) (bytes : List ℕ) → IsComparedLayer piece_length e layer hashes
+    → IsSoundTree piece_length e
     → length bytes ≡ e.length → layer_of bytes layer ≡ hashes → root_of bytes ≡ e.root
 same_root piece_length e layer hashes bytes of sound len same = elim (short_or_long e.length piece_length) [
   | inl short ↦
       let at = of.at_root short in
       let h : ℕ = height (block_count (length bytes)) in
       let top : layer ≡ h = at.0 ∙ ap (λ n. height (block_count n)) (sym len) in
-      let one : length (layer_of bytes h) ≡ 1 = length-layer_of bytes (length bytes) h refl (omega arith) ∙ one_at_root (length bytes) (omega (arith, sound.some)) in
+      let one : length (layer_of bytes h) ≡ 1 = length-layer_of bytes (length bytes) h refl (omega arith)
+          ∙ one_at_root (length bytes) (omega (arith, sound.some)) in
       sym (top_is_root bytes)
       ∙ sym (layer_of_at bytes h 0 (omega arith))
       ∙ ap (λ l. get_or (layer_of bytes l) 0 []) (sym top)
@@ -68,13 +71,16 @@ same_root piece_length e layer hashes bytes of sound len same = elim (short_or_l
 
 -- the first node that is not the given hash is that of the first bad piece
 pub first_bad : (piece_length : ℕ) (e : TreeEntry) (layer : ℕ) (hashes : List (List ℕ)) (bytes : List ℕ) (k : ℕ) → IsComparedLayer piece_length e layer hashes
-    → IsSoundTree piece_length e → IsPieceLength piece_length → length bytes ≡ e.length → length (layer_of bytes layer) ≡ length hashes → IsComparison (layer_of bytes layer) hashes (Some k) → IsFirstBadPiece piece_length e bytes k
-first_bad piece_length e layer hashes bytes k of sound legal len size differ = let other = difference_within (layer_of bytes layer) hashes k size differ in record {
+    → IsSoundTree piece_length e → IsPieceLength piece_length → length bytes ≡ e.length → length (layer_of bytes layer) ≡ length hashes
+    → IsComparison (layer_of bytes layer) hashes (Some k) → IsFirstBadPiece piece_length e bytes k
+first_bad piece_length e layer hashes bytes k of sound legal len size differ = let other = difference_within (layer_of bytes layer) hashes k size differ in
+    record {
   only = λ short.
       let at = of.at_root short in
       let h : ℕ = height (block_count (length bytes)) in
       let top : layer ≡ h = at.0 ∙ ap (λ n. height (block_count n)) (sym len) in
-      let one : length (layer_of bytes h) ≡ 1 = length-layer_of bytes (length bytes) h refl (omega arith) ∙ one_at_root (length bytes) (omega (arith, sound.some)) in
+      let one : length (layer_of bytes h) ≡ 1 = length-layer_of bytes (length bytes) h refl (omega arith)
+          ∙ one_at_root (length bytes) (omega (arith, sound.some)) in
       omega (arith, other.0, ap (λ l. length (layer_of bytes l)) top);
   same_before = λ long j lt.
       let at = of.at_pieces long in
@@ -103,7 +109,8 @@ first_bad piece_length e layer hashes bytes k of sound legal len size differ = l
 pub few_nodes : (bytes : List ℕ) (layer : ℕ) → length (layer_of bytes layer) ≤ block_count (length bytes)
 few_nodes bytes layer =
     let n : ℕ = block_count (length bytes) in
-    omega (arith, length-map-range_with_len (node bytes layer) 0 (layer_count n layer), at_most layer (height n) (first_pad n layer) n (rounded n (2 ^ layer) (pow_pos layer)))
+    omega (arith, length-map-range_with_len (node bytes layer) 0 (layer_count n layer), at_most layer (height n) (first_pad n layer) n
+        (rounded n (2 ^ layer) (pow_pos layer)))
   where
     at_most : (l h a n : ℕ) → a ≤ n → (if leb l h then a else 0) ≤ n
     at_most l h a n le = grind (arith, nat_tests)
@@ -141,7 +148,8 @@ part_is from start [] some = absurd (omega arith)
 part_is from start (b ∷ bytes) some = refl
 
 -- the stream takes zeros up to the file, and the file
-pub takes_file : (old mid new : Option V1Feed) (start from : ℕ) (bytes : List ℕ) → 0 < length bytes → Takes old (replicate (start - from) 0) mid → Takes mid bytes new
+pub takes_file : (old mid new : Option V1Feed) (start from : ℕ) (bytes : List ℕ) → 0 < length bytes → Takes old (replicate (start - from) 0) mid
+    → Takes mid bytes new
     → Takes old (part_of from start bytes) new
 takes_file old mid new start from bytes some zeros file =
     subst (λ part. Takes old part new) (part_is from start bytes some) (takes_append old mid new (replicate (start - from) 0) bytes zeros file)
@@ -264,7 +272,8 @@ empty_opened t f source source' old false v none content good other =
     })
 
 -- it was read whole, and is as long as stated
-pub opened_verdict : (t : Description) (f : FileEntry) (source source' : SourceSeen) (bound count : ℕ) (before after : FileCheck) (old mid new : Option V1Feed) (v : FileVerdict)
+pub opened_verdict : (t : Description) (f : FileEntry) (source source' : SourceSeen) (bound count : ℕ) (before after : FileCheck) (old mid new : Option V1Feed)
+    (v : FileVerdict)
     → (read : TookAll FeedsBoth source source' bound before after count) → count ≡ f.length → 0 < f.length → is_whole v ≡ true
     → before.stream.feed ≡ mid → after.stream.feed ≡ new
     → FillsTo old (start_of t f) mid
@@ -280,7 +289,8 @@ opened_verdict t f source source' bound count before after old mid new v read wh
   readable = readable;
   taken = λ _. record {
     length_is = read.count_is ∙ whole;
-    streamed = λ from at le. takes_file old mid new (start_of t f) from read.bytes (omega (arith, read.count_is, whole)) (filled_from old mid from (start_of t f) at fill)
+    streamed = λ from at le. takes_file old mid new (start_of t f) from read.bytes (omega (arith, read.count_is, whole))
+        (filled_from old mid from (start_of t f) at fill)
         (subst (λ o. Takes o read.bytes new) begins (subst (λ o. Takes before.stream.feed read.bytes o) ends read.taken.streamed));
   };
 }
@@ -322,7 +332,8 @@ good_tree t f e bytes root place found some end is =
     (bytes, refl, record { empty = λ none. absurd (omega arith); fits = λ _. (e, found, record { length_is = end.length_is; root_is = sym end.root_is ∙ is }) })
 
 pub bad_tree : (t : Description) (f : FileEntry) (e : TreeEntry) (bytes root : List ℕ) (k : ℕ) → IsSound t → tree_entry_of t f ≡ Some e → e.length ≡ f.length
-    → IsSoundTree t.piece_length e → IsToldOf t.piece_length e bytes root (Some k) → (root ≡ e.root → ⊥) → IsVerdict t f (Some bytes) (file.Bad (f.first_piece + k))
+    → IsSoundTree t.piece_length e → IsToldOf t.piece_length e bytes root (Some k) → (root ≡ e.root → ⊥)
+    → IsVerdict t f (Some bytes) (file.Bad (f.first_piece + k))
 bad_tree t f e bytes root k sound found same tree end differs = (
   bytes,
   refl,

@@ -1,5 +1,6 @@
 -- Where the files of a torrent stand in the version 1 stream.
-use Rattle.std.proofs.Common.{◌≡◌, ℕ, ◌+◌, ◌-◌, ◌*◌, ◌<◌, ◌≤◌, List, length, take, map, get_or, slice_get, sum_by, option_and_then, option_map, Some, refl, ap, sym, subst, ◌^◌, ◌∙◌, arith}
+use Rattle.std.proofs.Common.{◌≡◌, ℕ, ◌+◌, ◌-◌, ◌*◌, ◌<◌, ◌≤◌, List, length, take, map, get_or, slice_get, sum_by, option_and_then, option_map, Some, refl, ap}
+use Rattle.std.proofs.Common.{sym, subst, ◌^◌, ◌∙◌, arith}
 use Rattle.std.proofs.Math.Nat.{lt-div-mul-add, mul-le-mul, pow-le-pow_right}
 use Rattle.std.proofs.lemmas.Nat.{pow_pos}
 use Rattle.std.proofs.lemmas.List.{length-map}
@@ -33,14 +34,16 @@ pieces_next t n f is =
 -- a length is no more than its pieces
 pub within_pieces : (piece_length len : ℕ) → 0 < piece_length → len ≤ pieces_of piece_length len * piece_length
 within_pieces piece_length len some =
-    let lt : len + (piece_length - 1) < pieces_of piece_length len * piece_length + piece_length = lt-div-mul-add {a = len + (piece_length - 1)} {b = piece_length} some in
+    let lt : len + (piece_length - 1) < pieces_of piece_length len * piece_length + piece_length = lt-div-mul-add {a = len + (piece_length - 1)}
+        {b = piece_length} some in
     omega (arith, lt)
 
 -- a file ends before the next begins
 pub ends_before_next : (t : Description) (n : ℕ) (f : FileEntry) → IsSound t → 0 < t.piece_length → slice_get t.files n ≡ Some f
     → start_of t f + f.length ≤ place_before t (n + 1)
 ends_before_next t n f sound some is =
-    let next : place_before t (n + 1) ≡ (pieces_before t n + pieces_of t.piece_length f.length) * t.piece_length = ap (λ k. k * t.piece_length) (pieces_next t n f is) in
+    let next : place_before t (n + 1) ≡ (pieces_before t n + pieces_of t.piece_length f.length) * t.piece_length =
+        ap (λ k. k * t.piece_length) (pieces_next t n f is) in
     omega (arith, next, start_is t n f sound is, within_pieces t.piece_length f.length some)
 
 pub pieces_are_positive : (t : Description) → IsSound t → 0 < t.piece_length
@@ -53,20 +56,25 @@ file_there t files i file is lt at =
     ap (λ l. slice_get l i) (sym is) ∙ slice_get-map file_entry files i ∙ ap (option_map file_entry) (slice_get_read files (length files) i file refl lt at)
 
 -- where a file starts fits 64 bits
-pub start_fits : (t : Description) (n : ℕ) (f : FileEntry) → IsSound t → slice_get t.files n ≡ Some f → (f.first_piece < 2 ^ 32) × (f.first_piece * t.piece_length < 2 ^ 64)
+pub start_fits : (t : Description) (n : ℕ) (f : FileEntry) → IsSound t → slice_get t.files n ≡ Some f
+    → (f.first_piece < 2 ^ 32) × (f.first_piece * t.piece_length < 2 ^ 64)
 start_fits t n f sound is =
-    let few : f.first_piece < 2 ^ 32 = omega (arith, sound.laid_out.first_pieces n f is, sound.laid_out.pieces, sum_by-take-le (λ g. pieces_of t.piece_length g.length) t.files n) in
-    let short : t.piece_length ≤ 2 ^ 30 = subst (λ p. p ≤ 2 ^ 30) (sym sound.legal.3) (let le : 2 ^ sound.legal.0 ≤ 2 ^ 30 = pow-le-pow_right (let o : 0 < 2 = omega arith in o) sound.legal.2 in le) in
+    let few : f.first_piece < 2 ^ 32 = omega (arith, sound.laid_out.first_pieces n f is, sound.laid_out.pieces,
+        sum_by-take-le (λ g. pieces_of t.piece_length g.length) t.files n) in
+    let short : t.piece_length ≤ 2 ^ 30 = subst (λ p. p ≤ 2 ^ 30) (sym sound.legal.3) (let le : 2 ^ sound.legal.0 ≤ 2 ^ 30 =
+        pow-le-pow_right (let o : 0 < 2 = omega arith in o) sound.legal.2 in le) in
     let most : f.first_piece * t.piece_length ≤ 2 ^ 32 * 2 ^ 30 = mul-le-mul (let a : f.first_piece ≤ 2 ^ 32 = omega arith in a) short in
     (few, omega (arith, most))
 
 -- the tree of a file is one of the torrent's
-pub tree_inside : (t : Description) (f : FileEntry) (n : ℕ) (trees : List TreeInfo) → map tree_entry trees ≡ t.trees → IsSoundFile t f → f.tree ≡ Some n → n < length trees
+pub tree_inside : (t : Description) (f : FileEntry) (n : ℕ) (trees : List TreeInfo) → map tree_entry trees ≡ t.trees → IsSoundFile t f → f.tree ≡ Some n
+    → n < length trees
 tree_inside t f n trees is sound at =
     let tree = sound.tree_there n at in
     omega (arith, slice_get_within t.trees n tree.0 tree.1, ap length is, length-map trees tree_entry)
 
-pub tree_there : (t : Description) (f : FileEntry) (n : ℕ) (trees : List TreeInfo) (d : TreeInfo) → map tree_entry trees ≡ t.trees → IsSoundFile t f → f.tree ≡ Some n
+pub tree_there : (t : Description) (f : FileEntry) (n : ℕ) (trees : List TreeInfo) (d : TreeInfo) → map tree_entry trees ≡ t.trees → IsSoundFile t f
+    → f.tree ≡ Some n
     → tree_entry_of t f ≡ Some (tree_entry (get_or trees n d))
 tree_there t f n trees d is sound at =
     let inside = tree_inside t f n trees is sound at in

@@ -1,6 +1,8 @@
 -- The version 1 stream as far as its first files reach.
-use Rattle.std.proofs.Common.{◌≡◌, ◌⊎◌, inl, inr, ℕ, ◌+◌, ◌-◌, ◌<◌, ◌≤◌, List, [], ◌++◌, length, take, drop, replicate, get_or, slice_get, Some, refl, ap, sym, ◌∙◌, arith}
-use Rattle.std.proofs.lemmas.List.{length-append, length-take, length-drop, length-replicate, take-append-le, drop-append-le, drop_at, take_all, get_or_append_left, get_or-append_right, get_or-replicate}
+use Rattle.std.proofs.Common.{◌≡◌, ◌⊎◌, inl, inr, ℕ, ◌+◌, ◌-◌, ◌<◌, ◌≤◌, List, [], ◌++◌, length, take, drop, replicate, get_or, slice_get, Some, refl, ap, sym}
+use Rattle.std.proofs.Common.{◌∙◌, arith}
+use Rattle.std.proofs.lemmas.List.{length-append, length-take, length-drop, length-replicate, take-append-le, drop-append-le, drop_at, take_all}
+use Rattle.std.proofs.lemmas.List.{get_or_append_left, get_or-append_right, get_or-replicate}
 use Rattle.std.proofs.lemmas.Option.{same_Some, slice_get_within}
 use Rattle.opening.specs.Description.{Description, FileEntry}
 use Rattle.folders.specs.Folder.{Contents, Covers, IsStream, start_of}
@@ -61,7 +63,8 @@ prefix_file t contents n front f bytes so_far is content at = record {
   ];
   zeros = λ i lt uncovered. elim (before_or_after i (length front)) [
     | inl before ↦ get_or_append_left front bytes 0 i before ∙ so_far.zeros i before uncovered
-    | inr after ↦ absurd (uncovered (record { number = n; file = f; bytes = bytes; there = is; content = content; from = omega arith; to = omega (arith, length-append front bytes) }))
+    | inr after ↦ absurd (uncovered (record { number = n; file = f; bytes = bytes; there = is; content = content; from = omega arith; to =
+        omega (arith, length-append front bytes) }))
   ];
 }
 
@@ -84,7 +87,8 @@ pub prefix_all : (t : Description) (contents : Contents) (front : List ℕ) (tot
     → IsStream t contents total (front ++ replicate (total - length front) 0)
 prefix_all t contents front total so_far fits =
     let all = prefix_zeros t contents (length t.files) front (total - length front) so_far in
-    let len : length (front ++ replicate (total - length front) 0) ≡ total = omega (arith, length-append front (replicate (total - length front) 0), length-replicate {A = ℕ} (total - length front) 0) in
+    let len : length (front ++ replicate (total - length front) 0) ≡ total = omega (arith, length-append front (replicate (total - length front) 0),
+        length-replicate {A = ℕ} (total - length front) 0) in
     record {
       length_is = len;
       file_at = λ k f bytes there. all.file_at k (within t.files k f there) f bytes there;

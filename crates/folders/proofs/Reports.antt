@@ -1,5 +1,6 @@
 -- What a report's yes means.
-use Rattle.std.proofs.Common.{◌≡◌, ℕ, zero, suc, ◌-◌, ◌<◌, ◌≤◌, ◌&&◌, Bool, true, false, is_some, List, [], ◌∷◌, ◌++◌, length, replicate, slice_get, cond, Option, Some, None, option_and_then, refl, ap, sym, ◌∙◌, subst, arith}
+use Rattle.std.proofs.Common.{◌≡◌, ℕ, zero, suc, ◌-◌, ◌<◌, ◌≤◌, ◌&&◌, Bool, true, false, is_some, List, [], ◌∷◌, ◌++◌, length, replicate, slice_get, cond}
+use Rattle.std.proofs.Common.{Option, Some, None, option_and_then, refl, ap, sym, ◌∙◌, subst, arith}
 use Rattle.std.specs.List.{list_all}
 use Rattle.std.proofs.lemmas.List.Sums.{sum_by-cons}
 use Rattle.std.proofs.lemmas.Option.{same_Some, slice_get_within, none-some}
@@ -14,7 +15,8 @@ use Rattle.pieces.specs.declared.v1_feed.V1Feed.{V1Feed}
 use Rattle.folders.specs.Compared.{IsDigestVerdict}
 use Rattle.folders.specs.Folder.{Contents, GoodFolder, IsGoodFile, IsStream, V1Good, tree_entry_of}
 use Rattle.folders.specs.Streaming.{StreamEndsAt, IsStreamVerdict, StandsAt}
-use Rattle.folders.specs.Verdicts.{HasVerdicts, IsBad, IsV1Verdict, IsVerdict, TellsContents, fault_count, is_checked, is_good, is_unreadable, is_whole, is_yes, stream_is_good, unreadable_count}
+use Rattle.folders.specs.Verdicts.{HasVerdicts, IsBad, IsV1Verdict, IsVerdict, TellsContents, fault_count, is_checked, is_good, is_unreadable, is_whole, is_yes}
+use Rattle.folders.specs.Verdicts.{stream_is_good, unreadable_count}
 use Rattle.folders.proofs.Prefixes.{IsStreamPrefix, prefix_all}
 use Rattle.folders.proofs.Passes.{IsPassed, IsTold}
 use Rattle.folders.proofs.Streaming.{one_stream}
@@ -47,13 +49,15 @@ good_verdict t f content file.Unreadable said is = let no : ⊥ = cc in absurd n
 good_verdict t f content file.WrongLength said is = let no : ⊥ = cc in absurd no
 good_verdict t f content (file.Bad p) said is = let no : ⊥ = cc in absurd no
 
-good_stream : (t : Description) (v : Version1) (contents : Contents) (verdict : V1Verdict) → stream_is_good (Some verdict) ≡ true → IsV1Verdict t v contents verdict
+good_stream : (t : Description) (v : Version1) (contents : Contents) (verdict : V1Verdict) → stream_is_good (Some verdict) ≡ true
+    → IsV1Verdict t v contents verdict
     → V1Good t v contents
 good_stream t v contents version1.Good said is = is
 good_stream t v contents (version1.Bad i) said is = let no : ⊥ = cc in absurd no
 good_stream t v contents version1.NotChecked said is = let no : ⊥ = cc in absurd no
 
-pub yes_is_sure : (t : Description) (contents : Contents) (files : List FileVerdict) (v1 : Option V1Verdict) → HasVerdicts t files v1 → TellsContents t contents files v1
+pub yes_is_sure : (t : Description) (contents : Contents) (files : List FileVerdict) (v1 : Option V1Verdict) → HasVerdicts t files v1
+    → TellsContents t contents files v1
     → is_yes files v1 ≡ true → GoodFolder t contents
 yes_is_sure t contents files v1 has tells said =
     let parts = both (list_all is_good files) (stream_is_good v1) said in
@@ -91,7 +95,8 @@ sound_tree t f e sound found = by_tree f.tree refl
     by_tree (Some k) is = sound.trees k e (sym (ap (option_and_then (slice_get t.trees)) is) ∙ found)
 
 -- a good file has its stated length
-good_length : (t : Description) (n : ℕ) (f : FileEntry) (bytes : List ℕ) → IsSound t → slice_get t.files n ≡ Some f → IsGoodFile t f bytes → length bytes ≡ f.length
+good_length : (t : Description) (n : ℕ) (f : FileEntry) (bytes : List ℕ) → IsSound t → slice_get t.files n ≡ Some f → IsGoodFile t f bytes
+    → length bytes ≡ f.length
 good_length t n f bytes sound there good = by_length f.length refl
   where
     by_length : (len : ℕ) → f.length ≡ len → length bytes ≡ f.length
@@ -101,7 +106,8 @@ good_length t n f bytes sound there good = by_length f.length refl
         fits.2.length_is ∙ (has_tree t n f fits.0 sound there fits.1).0
 
 -- its root is not another
-not_bad : (t : Description) (n : ℕ) (f : FileEntry) (bytes : List ℕ) (p : ℕ) → IsSound t → slice_get t.files n ≡ Some f → IsGoodFile t f bytes → IsBad t f bytes p → ⊥
+not_bad : (t : Description) (n : ℕ) (f : FileEntry) (bytes : List ℕ) (p : ℕ) → IsSound t → slice_get t.files n ≡ Some f → IsGoodFile t f bytes
+    → IsBad t f bytes p → ⊥
 not_bad t n f bytes p sound there good bad =
     let fits = good.fits (has_tree t n f bad.tree sound there bad.tree_is).1 in
     let same : fits.0 ≡ bad.tree = same_Some fits.0 bad.tree (sym fits.1 ∙ bad.tree_is) in
@@ -176,7 +182,8 @@ IsWithin running = (from total : ℕ) → is_some running ≡ true → StandsAt 
 
 -- the stream, once all files have passed whole, and what comparing it told
 compared_stream : (t : Description) (contents : Contents) (n : ℕ) (files : List FileVerdict) (running : Option V1Feed) (v : Version1) (verdict : V1Verdict)
-    → n ≡ length t.files → IsPassed t n files running → IsTold t contents n files running → t.v1 ≡ Some v → is_some running ≡ true → IsWithin running → IsStreamVerdict running verdict
+    → n ≡ length t.files → IsPassed t n files running → IsTold t contents n files running → t.v1 ≡ Some v → is_some running ≡ true → IsWithin running
+    → IsStreamVerdict running verdict
     → (stream : List ℕ) × IsStream t contents v.total stream × IsDigestVerdict (cut_digests t.piece_length stream) v.pieces verdict
 compared_stream t contents n files running v verdict all passed told hybrid on within compared =
     let given = told.stream v hybrid on in (

@@ -1,5 +1,6 @@
 -- What a check found of one file, by how its opening was answered, and of the first files together.
-use Rattle.std.proofs.Common.{◌≡◌, ◌⊎◌, inl, inr, ℕ, zero, suc, ◌+◌, ◌<◌, Bool, true, false, List, [], ◌∷◌, ◌++◌, length, slice_get, Option, Some, None, option_map, Result, Ok, Err, IfOk, OnErr, cond, refl, ap, sym, ◌∙◌, subst, arith}
+use Rattle.std.proofs.Common.{◌≡◌, ◌⊎◌, inl, inr, ℕ, zero, suc, ◌+◌, ◌<◌, Bool, true, false, List, [], ◌∷◌, ◌++◌, length, slice_get, Option, Some, None}
+use Rattle.std.proofs.Common.{option_map, Result, Ok, Err, IfOk, OnErr, cond, refl, ap, sym, ◌∙◌, subst, arith}
 use Rattle.std.specs.Option.{unwrap_or}
 use Rattle.std.specs.Result.{result_unwrap_or}
 use Rattle.benc.specs.Device.{CountsFault, SourceSeen}
@@ -22,12 +23,14 @@ use Rattle.folders.proofs.Passes.{IsPassed, IsTold, told_one}
 
 -- ---- one file
 
-same_content : (left : Option (List ℕ)) (bytes : List ℕ) (content : Option (List ℕ)) → Agrees left bytes → Some left ≡ option_map Some content → content ≡ Some bytes
+same_content : (left : Option (List ℕ)) (bytes : List ℕ) (content : Option (List ℕ)) → Agrees left bytes → Some left ≡ option_map Some content
+    → content ≡ Some bytes
 same_content left bytes None gave e = let no : ⊥ = cc in absurd no
 same_content left bytes (Some known) gave e = ap Some (gave known (same_Some left (Some known) e))
 
 -- what an opened file has is what stands at its path
-pub agrees_opened : (told : Option (Option (List ℕ))) (left : Option (List ℕ)) (bytes : List ℕ) → IsFound told (Some left) → Agrees left bytes → Agrees told (Some bytes)
+pub agrees_opened : (told : Option (Option (List ℕ))) (left : Option (List ℕ)) (bytes : List ℕ) → IsFound told (Some left) → Agrees left bytes
+    → Agrees told (Some bytes)
 agrees_opened None left bytes found gave there is = let no : ⊥ = cc in absurd no
 agrees_opened (Some stands) left bytes found gave there is = same_content left bytes there gave (found ∙ ap (option_map Some) (same_Some stands there is))
 
@@ -62,7 +65,8 @@ finds_unreadable t f told old new stopped = record {
 }
 
 -- the file was opened and read without a fault
-pub finds_opened : (t : Description) (f : FileEntry) (told : Option (Option (List ℕ))) (source source' : SourceSeen) (old new end : Option V1Feed) (v : FileVerdict)
+pub finds_opened : (t : Description) (f : FileEntry) (told : Option (Option (List ℕ))) (source source' : SourceSeen) (old new end : Option V1Feed)
+    (v : FileVerdict)
     → IsFound told (Some source.left) → IsOpenedVerdict t f source source' old new v → (is_whole v ≡ true → end ≡ new) → (is_whole v ≡ false → end ≡ None)
     → FindsVerdict t f told old end v
 finds_opened t f told source source' old new end v found is goes stopped =
@@ -117,7 +121,8 @@ abbrev pub Extends : List (Option (List ℕ)) → Contents → Type 0
 Extends seen contents = (k : ℕ) (c : Option (List ℕ)) → slice_get seen k ≡ Some c → contents k ≡ c
 
 -- what was found of the first n files, of a shelf that tells this of its paths
-pub record HasFound (t : Description) (under : List (List ℕ) → Option (Option (List ℕ))) (n : ℕ) (files : List FileVerdict) (running : Option V1Feed) : Type 0 where
+pub record HasFound (t : Description) (under : List (List ℕ) → Option (Option (List ℕ))) (n : ℕ) (files : List FileVerdict) (running : Option V1Feed) : Type 0
+    where
   pub seen : List (Option (List ℕ))
   pub count : length seen ≡ n
   pub agree : (k : ℕ) (f : FileEntry) (c : Option (List ℕ)) → slice_get t.files k ≡ Some f → slice_get seen k ≡ Some c → Agrees (under f.path) c
@@ -146,7 +151,8 @@ pushed_last xs x k at =
     slice_get-get_or (xs ++ x ∷ []) k x (omega (arith, length_push xs x)) ∙ ap Some (get_or_push xs x x k (sym at))
 
 -- one more file
-pub found_one : (t : Description) (under : List (List ℕ) → Option (Option (List ℕ))) (n : ℕ) (files : List FileVerdict) (v : FileVerdict) (f : FileEntry) (old new : Option V1Feed)
+pub found_one : (t : Description) (under : List (List ℕ) → Option (Option (List ℕ))) (n : ℕ) (files : List FileVerdict) (v : FileVerdict) (f : FileEntry)
+    (old new : Option V1Feed)
     → IsSound t → slice_get t.files n ≡ Some f → FindsVerdict t f (under f.path) old new v → IsPassed t n files old
     → HasFound t under n files old → HasFound t under (n + 1) (files ++ v ∷ []) new
 found_one t under n files v f old new sound is found passed so_far = record {

@@ -1,5 +1,6 @@
 -- What a shelf of files tells, if it tells it.
-use Rattle.std.specs.Prelude.{◌≡◌, ℕ, zero, suc, List, [], map, Bool, true, false, if◌then◌else◌, count_by, Option, Some, None, option_map, Result, Ok, Err, String, string_bytes, ⊤}
+use Rattle.std.specs.Prelude.{◌≡◌, ℕ, zero, suc, List, [], map, Bool, true, false, if◌then◌else◌, count_by, Option, Some, None, option_map, Result, Ok, Err}
+use Rattle.std.specs.Prelude.{String, string_bytes, ⊤}
 use Rattle.std.specs.Global.{Global, Vec}
 use Rattle.std.specs.List.{list_any}
 use Rattle.std.specs.Str.{bytes_eq}

@@ -1,5 +1,6 @@
 -- What the verdicts of a report say of the folder's contents.
-use Rattle.std.specs.Prelude.{◌≡◌, ◌≢◌, ℕ, ◌+◌, ◌<◌, ◌≤◌, Bool, true, false, ◌&&◌, List, length, slice_get, Option, Some, None, is_some, ⊤, count_by, if◌then◌else◌}
+use Rattle.std.specs.Prelude.{◌≡◌, ◌≢◌, ℕ, ◌+◌, ◌<◌, ◌≤◌, Bool, true, false, ◌&&◌, List, length, slice_get, Option, Some, None, is_some, ⊤, count_by}
+use Rattle.std.specs.Prelude.{if◌then◌else◌}
 use Rattle.std.specs.List.{list_all}
 use Rattle.hashtree.specs.Tree.{root_of, node}
 use Rattle.opening.specs.Description.{Description, FileEntry, TreeEntry, Version1}

@@ -75,7 +75,8 @@ fits_layer d path content f hashes legal file are widths longer =
 
 -- ---- what the draft made of it
 
-pub added_is : (d e : Outline) (path : List (List ℕ)) (content : List ℕ) (f : OutlineFile) (hashes : List (List ℕ)) → IsDraftFile d.piece_length d.hybrid path content f
+pub added_is : (d e : Outline) (path : List (List ℕ)) (content : List ℕ) (f : OutlineFile) (hashes : List (List ℕ))
+    → IsDraftFile d.piece_length d.hybrid path content f
     → hashes ≡ piece_hashes d.piece_length content → NoneHolds (add_rows d f) → IsWith d e f hashes → DraftAdds d path content e
 added_is d e path content f hashes file are none with_it = record { file = f; is = file; passes = none; added = subst (IsWith d e f) are with_it }
 

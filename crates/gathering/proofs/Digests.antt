@@ -1,5 +1,6 @@
 -- What is told of a file, by what was hashed of it.
-use Rattle.std.proofs.Common.{◌≡◌, ◌⊎◌, inl, inr, ℕ, suc, ◌+◌, ◌-◌, ◌*◌, ◌/◌, ◌^◌, ◌<◌, ◌≤◌, Bool, true, false, cond, List, [], length, map, Option, Some, None, refl, sym, ◌∙◌, ap, subst, arith}
+use Rattle.std.proofs.Common.{◌≡◌, ◌⊎◌, inl, inr, ℕ, suc, ◌+◌, ◌-◌, ◌*◌, ◌/◌, ◌^◌, ◌<◌, ◌≤◌, Bool, true, false, cond, List, [], length, map, Option, Some, None}
+use Rattle.std.proofs.Common.{refl, sym, ◌∙◌, ap, subst, arith}
 use Rattle.std.specs.List.{range_with_len}
 use Rattle.std.proofs.Math.Nat.{div-eq_of_lt-le, div-mul-le_self, mul-le-mul_right}
 use Rattle.std.proofs.Math.Pow.{pow_mono}
@@ -46,20 +47,23 @@ empty_told told none no_hashes piece_length hybrid = record {
 
 -- ---- a file that is not empty
 
-fed_whole : (before after : LayerBuilder) (content : List ℕ) → IsFedLayer before [] → (HasRefused after → ⊥) → Collects before content after → IsFedLayer after content
+fed_whole : (before after : LayerBuilder) (content : List ℕ) → IsFedLayer before [] → (HasRefused after → ⊥) → Collects before content after
+    → IsFedLayer after content
 fed_whole before after content nothing works builds = elim builds.fed [
   | inl refused ↦ absurd (works refused)
   | inr fed ↦ fed.fed [] nothing
 ]
 
-cut_whole : (before after : V1Cuts) (content : List ℕ) (piece_length : ℕ) → IsFedCuts before piece_length [] → (cut.HasRefused after → ⊥) → CutsBytes before content after
+cut_whole : (before after : V1Cuts) (content : List ℕ) (piece_length : ℕ) → IsFedCuts before piece_length [] → (cut.HasRefused after → ⊥)
+    → CutsBytes before content after
     → IsFedCuts after piece_length content
 cut_whole before after content piece_length nothing works cuts = elim cuts.fed [
   | inl refused ↦ absurd (works refused)
   | inr fed ↦ fed piece_length [] nothing
 ]
 
-v1_told : (piece_length : ℕ) (hybrid : Bool) (before after : Option V1Cuts) (content : List ℕ) (v1 : V1File) → BeginsCuts piece_length hybrid before → CutsIf before content after
+v1_told : (piece_length : ℕ) (hybrid : Bool) (before after : Option V1Cuts) (content : List ℕ) (v1 : V1File) → BeginsCuts piece_length hybrid before
+    → CutsIf before content after
     → EndsWithCuts after v1 → hybrid ≡ true → IsV1File piece_length content v1
 v1_told piece_length hybrid None None content v1 begins takes ends is = let no : false ≡ true = sym begins ∙ is in absurd cc
 v1_told piece_length hybrid None (Some c) content v1 begins takes ends is = absurd takes
@@ -67,7 +71,8 @@ v1_told piece_length hybrid (Some b) None content v1 begins takes ends is = absu
 v1_told piece_length hybrid (Some b) (Some c) content v1 begins takes ends is =
     ends.1 piece_length content (cut_whole b c content piece_length begins.1 ends.0 takes)
 
-pub told_whole : (piece_length : ℕ) (hybrid : Bool) (before after : Hashing) (content : List ℕ) (told : FileHashes) → Begins piece_length hybrid before → Hashes before content after
+pub told_whole : (piece_length : ℕ) (hybrid : Bool) (before after : Hashing) (content : List ℕ) (told : FileHashes) → Begins piece_length hybrid before
+    → Hashes before content after
     → EndsWithHashes after told → AreHashesOf piece_length hybrid content told
 told_whole piece_length hybrid before after content told begins hashes ends =
     let tree = ends.tree.1 content (fed_whole before.tree after.tree content begins.tree.fed ends.tree.0 hashes.tree) in
@@ -111,16 +116,19 @@ low_has_hash content layer some low =
     let one : 1 ≤ first_pad n layer = le-div 1 (n + (d - 1)) d (pow_pos layer) (omega (arith, pow_pos layer)) in
     not_nil (layer_of content layer) (omega (arith, length-layer_of content (length content) layer refl low, one))
 
-is_hybrid : (piece_length : ℕ) (hybrid : Bool) (before after : Option V1Cuts) (content : List ℕ) → BeginsCuts piece_length hybrid before → CutsIf before content after
+is_hybrid : (piece_length : ℕ) (hybrid : Bool) (before after : Option V1Cuts) (content : List ℕ) → BeginsCuts piece_length hybrid before
+    → CutsIf before content after
     → CutsMayLackMemory after → hybrid ≡ true
 is_hybrid piece_length hybrid None None content begins takes why = absurd why
 is_hybrid piece_length hybrid None (Some c) content begins takes why = absurd takes
 is_hybrid piece_length hybrid (Some b) after content begins takes why = begins.0
 
-layer_kept : (piece_length layer : ℕ) (content : List ℕ) → layer ≡ piece_layer piece_length → (layer_of content layer ≡ [] → ⊥) → piece_hashes piece_length content ≡ [] → ⊥
+layer_kept : (piece_length layer : ℕ) (content : List ℕ) → layer ≡ piece_layer piece_length → (layer_of content layer ≡ [] → ⊥)
+    → piece_hashes piece_length content ≡ [] → ⊥
 layer_kept piece_length layer content is some none = some (ap (layer_of content) is ∙ none)
 
-early : (piece_length : ℕ) (hybrid : Bool) (before after : Hashing) (content : List ℕ) → Begins piece_length hybrid before → Hashes before content after → 0 < length content
+early : (piece_length : ℕ) (hybrid : Bool) (before after : Hashing) (content : List ℕ) → Begins piece_length hybrid before → Hashes before content after
+    → 0 < length content
     → HasRefused after.tree → piece_hashes piece_length content ≡ [] → ⊥
 early piece_length hybrid before after content begins hashes some refused = elim (hashes.tree.why refused [] begins.tree.fed) [
   | inl first ↦ λ _. begins.tree.works first
@@ -139,7 +147,8 @@ may_finish before after content hashes some = elim hashes.tree.fed [
 ]
 
 -- if memory was refused, digests were to be kept
-pub kept_digests : (piece_length : ℕ) (hybrid : Bool) (before after : Hashing) (content : List ℕ) → Begins piece_length hybrid before → Hashes before content after → 0 < length content
+pub kept_digests : (piece_length : ℕ) (hybrid : Bool) (before after : Hashing) (content : List ℕ) → Begins piece_length hybrid before
+    → Hashes before content after → 0 < length content
     → MayEndWithout after → KeepsDigests piece_length hybrid content
 kept_digests piece_length hybrid before after content begins hashes some why = elim why [
   | inl there ↦ inr (is_hybrid piece_length hybrid before.cuts after.cuts content begins.cuts hashes.cuts there, some)

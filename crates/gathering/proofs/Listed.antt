@@ -13,7 +13,8 @@ use Rattle.folders.specs.declared.shelf.Shelf.{Ghosts}
 use Rattle.benc.specs.Device.{SourceSeen}
 use Rattle.drafts.specs.Outline.{Outline}
 use Rattle.folders.specs.Shelf.{IsListed, Listing, ShelfContents, is_path, path_bytes}
-use Rattle.gathering.specs.Gathering.{AreContentsUnder, FailsAt, Gathers, GathersAll, HasGathered, IsListedAs, IsSortedListing, LacksMemoryAt, Misses, RefusesAt, StopsAtPath}
+use Rattle.gathering.specs.Gathering.{AreContentsUnder, FailsAt, Gathers, GathersAll, HasGathered, IsListedAs, IsSortedListing, LacksMemoryAt, Misses}
+use Rattle.gathering.specs.Gathering.{RefusesAt, StopsAtPath}
 use Rattle.gathering.specs.Steps.{StopsWith, StopsBefore}
 use Rattle.gathering.specs.Stopping.{at_path}
 use Rattle.gathering.specs.declared.file_fault.FileFault.{FileFault}
@@ -28,7 +29,8 @@ use Rattle.pieces.specs.Pieces.{IsPieceLength}
 abbrev Paths : Type 0
 Paths = List (Vec (String Global))
 
-order_is : (x y : List (String Global)) → slice_cmp (λ a b. slice_cmp nat_cmp (string_bytes a) (string_bytes b)) x y ≡ slice_cmp (slice_cmp nat_cmp) (map string_bytes x) (map string_bytes y)
+order_is : (x y : List (String Global)) → slice_cmp (λ a b. slice_cmp nat_cmp (string_bytes a) (string_bytes b)) x y ≡ slice_cmp (slice_cmp nat_cmp)
+    (map string_bytes x) (map string_bytes y)
 order_is [] [] = refl
 order_is [] (b ∷ y) = refl
 order_is (a ∷ x) [] = refl
@@ -48,7 +50,8 @@ sorted_paths (v ∷ vs) up k d low inside =
     ∙ up k v low next
 
 sorted_listing : (told : Option Listing) (paths : Vec (Vec (String Global))) (sorted : Paths) → IsListed told (Ok paths) → IsPermutation paths.items sorted
-    → IsSorted (λ v w. slice_cmp (λ a b. slice_cmp nat_cmp (string_bytes a) (string_bytes b)) v.items w.items) sorted → IsSortedListing told (map path_bytes sorted)
+    → IsSorted (λ v w. slice_cmp (λ a b. slice_cmp nat_cmp (string_bytes a) (string_bytes b)) v.items w.items) sorted
+    → IsSortedListing told (map path_bytes sorted)
 sorted_listing told paths sorted listed moved up = record {
   in_order = sorted_paths sorted up;
   listed = λ there is.
@@ -56,12 +59,14 @@ sorted_listing told paths sorted listed moved up = record {
       record {
         named = these.0;
         regular = these.1;
-        each_once = λ p. sum_by-IsPermutation (λ x. cond (is_path p x) 1 0) (map path_bytes paths.items) (map path_bytes sorted) (IsPermutation-map path_bytes paths.items sorted moved) ∙ these.2 p;
+        each_once = λ p. sum_by-IsPermutation (λ x. cond (is_path p x) 1 0) (map path_bytes paths.items) (map path_bytes sorted)
+            (IsPermutation-map path_bytes paths.items sorted moved) ∙ these.2 p;
       };
 }
 
 -- the shelf was listed, and its answer sorted
-pub listed_as : {S F : Type 0} (shelf : Ghosts S F) (old base : S) (paths : Vec (Vec (String Global))) (sorted : Paths) → shelf.lists old (Ok paths) base → IsListed (shelf.contents old).listing (Ok paths) → IsPermutation paths.items sorted
+pub listed_as : {S F : Type 0} (shelf : Ghosts S F) (old base : S) (paths : Vec (Vec (String Global))) (sorted : Paths) → shelf.lists old (Ok paths) base
+    → IsListed (shelf.contents old).listing (Ok paths) → IsPermutation paths.items sorted
     → IsSorted (λ v w. slice_cmp (λ a b. slice_cmp nat_cmp (string_bytes a) (string_bytes b)) v.items w.items) sorted
     → IsListedAs shelf old (map path_bytes sorted) base
 listed_as shelf old base paths sorted answered listed moved up = record {
@@ -75,7 +80,8 @@ listed_as shelf old base paths sorted answered listed moved up = record {
 
 module _ {S F : Type 0} (shelf : Ghosts S F) (seen : F → SourceSeen) (empty : Outline) where
   -- the listing left the shelf as it was
-  gathered_before : (old base s : S) (paths : List (List (List ℕ))) (d : Outline) → shelf.faults base ≡ shelf.faults old → shelf.contents base ≡ shelf.contents old
+  gathered_before : (old base s : S) (paths : List (List (List ℕ))) (d : Outline) → shelf.faults base ≡ shelf.faults old
+      → shelf.contents base ≡ shelf.contents old
       → HasGathered shelf seen empty base base paths s d → HasGathered shelf seen empty old base paths s d
   gathered_before old base s paths d quiet stays so_far = record {
     contents = so_far.contents;
@@ -92,7 +98,8 @@ module _ {S F : Type 0} (shelf : Ghosts S F) (seen : F → SourceSeen) (empty : 
       → HasGathered shelf seen empty base base (map path_bytes sorted) new d
       → GathersAll shelf seen empty old new d
   gathers_all old base new sorted d legal listed quiet stays all =
-      record { legal = legal; paths = map path_bytes sorted; listed = base; listing_is = listed; all = gathered_before old base new (map path_bytes sorted) d quiet stays all }
+      record { legal = legal; paths = map path_bytes sorted; listed = base; listing_is = listed; all = gathered_before old base new (map path_bytes sorted) d
+          quiet stays all }
 
   -- what is told of a path at which it stopped
   told_at : (old new mid : S) (d : Outline) (f : FileFault) (v : Vec (String Global))
@@ -104,7 +111,8 @@ module _ {S F : Type 0} (shelf : Ghosts S F) (seen : F → SourceSeen) (empty : 
       inr (inr (path_bytes v, at (λ e s. LacksMemoryAt shelf seen e (path_bytes v) s new) stops))
   told_at old new mid d why.Changed v at stops = at (λ e s. Misses shelf seen s (path_bytes v) new) stops
 
-  taken : (sorted : Paths) (n : ℕ) (path : List (List ℕ)) (v : Vec (String Global)) → slice_get (map path_bytes sorted) n ≡ Some path → v ≡ get_or sorted n v → path ≡ path_bytes v
+  taken : (sorted : Paths) (n : ℕ) (path : List (List ℕ)) (v : Vec (String Global)) → slice_get (map path_bytes sorted) n ≡ Some path → v ≡ get_or sorted n v
+      → path ≡ path_bytes v
   taken sorted n path v there is =
       let inside : n < length sorted = omega (arith, slice_get_within (map path_bytes sorted) n path there, length-map sorted path_bytes) in
       same_Some path (path_bytes v) (sym there ∙ item_of path_bytes sorted n v inside ∙ ap (λ w. Some (path_bytes w)) (sym is))

@@ -1,5 +1,6 @@
 -- Paths that were gathered one after the other.
-use Rattle.std.proofs.Common.{◌≡◌, ◌⊎◌, inl, inr, ℕ, ◌+◌, ◌<◌, ◌≤◌, List, [], ◌∷◌, ◌++◌, length, map, take, get_or, Option, Some, option_map, refl, sym, ◌∙◌, ap, subst, add-one, arith}
+use Rattle.std.proofs.Common.{◌≡◌, ◌⊎◌, inl, inr, ℕ, ◌+◌, ◌<◌, ◌≤◌, List, [], ◌∷◌, ◌++◌, length, map, take, get_or, Option, Some, option_map, refl, sym, ◌∙◌}
+use Rattle.std.proofs.Common.{ap, subst, add-one, arith}
 use Rattle.std.specs.Prelude.{slice_get}
 use Rattle.std.proofs.Math.Seq.{take-suc}
 use Rattle.std.proofs.lemmas.Option.{get_or_from_slice_get, same_Some, slice_get-get_or, slice_get-map, slice_get_within}
@@ -59,7 +60,8 @@ module _ {S F : Type 0} (shelf : Ghosts S F) (seen : F → SourceSeen) (empty : 
         read = Chain-next (Reads shelf seen) old mid new paths n so_far.contents path content inside so_far.read
             (subst (λ p. Reads shelf seen mid p content new) (sym at) reads);
         are = subst (λ ps. AreContentsUnder (shelf.contents old).under ps (so_far.contents ++ content ∷ [])) (sym (taken_more paths n path there))
-            (are_more (shelf.contents old).under (take n paths) so_far.contents path content so_far.are (subst (λ (on : ShelfContents). Agrees (on.under path) (Some content)) so_far.stays reads.agrees));
+            (are_more (shelf.contents old).under (take n paths) so_far.contents path content so_far.are
+                (subst (λ (on : ShelfContents). Agrees (on.under path) (Some content)) so_far.stays reads.agrees));
         gathered = Chain-next DraftAdds empty d e paths n so_far.contents path content inside so_far.gathered
             (subst (λ p. DraftAdds d p content e) (sym at) adds);
         quiet = reads.quiet ∙ so_far.quiet;

@@ -15,7 +15,8 @@ use Rattle.gathering.specs.declared.file_fault.FileFault.{FileFault}
 
 module _ {S F : Type 0} (shelf : Ghosts S F) (seen : F → SourceSeen) where
   -- the draft refused it
-  pub stops_add : (d : Outline) (s : S) (path : List (List ℕ)) (s' : S) (content : List ℕ) (file : OutlineFile) (r : Refusal) (f : FileFault) → IsDraftFile d.piece_length d.hybrid path content file
+  pub stops_add : (d : Outline) (s : S) (path : List (List ℕ)) (s' : S) (content : List ℕ) (file : OutlineFile) (r : Refusal) (f : FileFault)
+      → IsDraftFile d.piece_length d.hybrid path content file
       → length content ≤ 2 ^ 46 → Reads shelf seen s path content s' → IsRefusal r f → (r ≢ refusals.NoMemory → First (add_rows d file) r)
       → (r ≡ refusals.NoMemory → NoneHolds (add_rows d file)) → StopsWith shelf seen f d s path s'
   stops_add d s path s' content file r f is short reads told refused memory = elim told [
@@ -26,7 +27,8 @@ module _ {S F : Type 0} (shelf : Ghosts S F) (seen : F → SourceSeen) where
   ]
 
   -- the same of the answer, where the path is that of the visit and that of the file
-  pub refused_path : (d e : Outline) (s s' : S) (p q path : List (List ℕ)) (content : List ℕ) (file : OutlineFile) (r : Refusal) (f : FileFault) (result : Result (Unit {0}) FileFault)
+  pub refused_path : (d e : Outline) (s s' : S) (p q path : List (List ℕ)) (content : List ℕ) (file : OutlineFile) (r : Refusal) (f : FileFault)
+      (result : Result (Unit {0}) FileFault)
       → p ≡ path → q ≡ path → IsDraftFile d.piece_length d.hybrid q content file → length content ≤ 2 ^ 46 → Reads shelf seen s p content s'
       → IsRefusal r f → (r ≢ refusals.NoMemory → First (add_rows d file) r) → (r ≡ refusals.NoMemory → NoneHolds (add_rows d file)) → result ≡ Err f
       → AddsPath shelf seen d s path e s' result

@@ -35,7 +35,8 @@ too_long piece_length hybrid source source' read =
 
 -- it has none
 pub empty_read : (piece_length : ℕ) (hybrid : Bool) (source source' : SourceSeen) (before after : Hashing) (count : ℕ) (told : FileHashes)
-    → TookAll Hashes source source' (2 ^ 46) before after count → count ≡ 0 → AreHashesOf piece_length hybrid [] told → ReadsFile piece_length hybrid source.left (Ok (Some told))
+    → TookAll Hashes source source' (2 ^ 46) before after count → count ≡ 0 → AreHashesOf piece_length hybrid [] told
+    → ReadsFile piece_length hybrid source.left (Ok (Some told))
 empty_read piece_length hybrid source source' before after count told read is hashes = (
   read.bytes,
   λ known at. all_given source source' read.bytes known read.gave read.ended at,
@@ -45,7 +46,8 @@ empty_read piece_length hybrid source source' before after count told read is ha
 
 -- it was hashed
 pub whole_read : (piece_length : ℕ) (hybrid : Bool) (source source' : SourceSeen) (before after : Hashing) (count : ℕ) (told : FileHashes)
-    → TookAll Hashes source source' (2 ^ 46) before after count → Begins piece_length hybrid before → EndsWithHashes after told → ReadsFile piece_length hybrid source.left (Ok (Some told))
+    → TookAll Hashes source source' (2 ^ 46) before after count → Begins piece_length hybrid before → EndsWithHashes after told
+    → ReadsFile piece_length hybrid source.left (Ok (Some told))
 whole_read piece_length hybrid source source' before after count told read begins ends = (
   read.bytes,
   λ known is. all_given source source' read.bytes known read.gave read.ended is,
@@ -57,7 +59,8 @@ positive : (count n : ℕ) → (count ≡ 0 → ⊥) → n ≡ count → 0 < n
 positive count n some is = grind (arith, some, is)
 
 -- it may be told of
-pub read_may_finish : (source source' : SourceSeen) (before after : Hashing) (count : ℕ) → TookAll Hashes source source' (2 ^ 46) before after count → (count ≡ 0 → ⊥)
+pub read_may_finish : (source source' : SourceSeen) (before after : Hashing) (count : ℕ) → TookAll Hashes source source' (2 ^ 46) before after count
+    → (count ≡ 0 → ⊥)
     → MayFinish after.tree
 read_may_finish source source' before after count read some =
     may_finish before after read.bytes read.taken (positive count (length read.bytes) some read.count_is)
@@ -86,10 +89,12 @@ module _ {S F : Type 0} (shelf : Ghosts S F) (seen : F → SourceSeen) where
     pub closed : shelf.closes mid read s'
     pub added : shelf.faults s' ≡ more (shelf.faults mid) (seen read).faults
 
-  handed : (s : S) (path : List (List ℕ)) (mid : S) (file read : F) (s' : S) → IsVisit s path mid file read s' → HandsBack shelf seen (IsReadWithin (2 ^ 46 + 1)) s path file s'
+  handed : (s : S) (path : List (List ℕ)) (mid : S) (file read : F) (s' : S) → IsVisit s path mid file read s'
+      → HandsBack shelf seen (IsReadWithin (2 ^ 46 + 1)) s path file s'
   handed s path mid file read s' v = record { between = mid; opened = v.opened; read = read; reading = v.within; closed = v.closed }
 
-  reads : (s : S) (path : List (List ℕ)) (mid : S) (file read : F) (s' : S) (content : List ℕ) → IsVisit s path mid file read s' → Agrees (seen file).left content
+  reads : (s : S) (path : List (List ℕ)) (mid : S) (file read : F) (s' : S) (content : List ℕ) → IsVisit s path mid file read s'
+      → Agrees (seen file).left content
       → (seen read).faults ≡ (seen file).faults → Reads shelf seen s path content s'
   reads s path mid file read s' content v told quiet = record {
     file = file;
@@ -99,13 +104,17 @@ module _ {S F : Type 0} (shelf : Ghosts S F) (seen : F → SourceSeen) where
     quiet = v.added ∙ ap (more (shelf.faults mid)) (quiet ∙ v.fresh) ∙ v.steady;
   }
 
-  pub visited : (piece_length : ℕ) (hybrid : Bool) (s : S) (path : List (List ℕ)) (mid : S) (file read : F) (s' : S) (r : Result (Option FileHashes) ReadFault) → IsVisit s path mid file read s'
+  pub visited : (piece_length : ℕ) (hybrid : Bool) (s : S) (path : List (List ℕ)) (mid : S) (file read : F) (s' : S) (r : Result (Option FileHashes) ReadFault)
+      → IsVisit s path mid file read s'
       → ReadsFile piece_length hybrid (seen file).left r → CountsReading (seen file).faults (seen read).faults r
       → VisitsFile shelf seen piece_length hybrid s path s' (visit_of r)
-  visited piece_length hybrid s path mid file read s' (Ok (Some told)) v (content, is, short, hashes) quiet = (content, reads s path mid file read s' content v is quiet, short, hashes)
-  visited piece_length hybrid s path mid file read s' (Ok None) v (content, is, long) quiet = (refl, content, reads s path mid file read s' content v is quiet, long)
+  visited piece_length hybrid s path mid file read s' (Ok (Some told)) v (content, is, short, hashes) quiet =
+      (content, reads s path mid file read s' content v is quiet, short, hashes)
+  visited piece_length hybrid s path mid file read s' (Ok None) v (content, is, long) quiet = (refl, content, reads s path mid file read s' content v is quiet,
+      long)
   visited piece_length hybrid s path mid file read s' (Err fault.Device) v read_is counted = record {
     counted = v.added ∙ ap (more (shelf.faults mid)) (counted ∙ ap one_more v.fresh) ∙ ap one_more v.steady;
     failed = inr (file, handed s path mid file read s' v);
   }
-  visited piece_length hybrid s path mid file read s' (Err fault.NoMemory) v (content, is, short, kept) quiet = (content, reads s path mid file read s' content v is quiet, short, kept)
+  visited piece_length hybrid s path mid file read s' (Err fault.NoMemory) v (content, is, short, kept) quiet =
+      (content, reads s path mid file read s' content v is quiet, short, kept)

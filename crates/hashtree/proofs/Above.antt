@@ -1,5 +1,6 @@
 -- The layers over a given one: each is joined from the one below.
-use Rattle.std.proofs.Common.{◌≡◌, inl, inr, ℕ, suc, ◌+◌, ◌-◌, ◌*◌, ◌/◌, ◌^◌, ◌<◌, ◌≤◌, List, [], ◌∷◌, ◌++◌, length, replicate, map, get_or, ap, ap₂, sym, ◌∙◌, subst, arith, pow-add}
+use Rattle.std.proofs.Common.{◌≡◌, inl, inr, ℕ, suc, ◌+◌, ◌-◌, ◌*◌, ◌/◌, ◌^◌, ◌<◌, ◌≤◌, List, [], ◌∷◌, ◌++◌, length, replicate, map, get_or, ap, ap₂, sym, ◌∙◌}
+use Rattle.std.proofs.Common.{subst, arith, pow-add}
 use Rattle.std.specs.List.{range_with_len}
 use Rattle.std.proofs.lemmas.Nat.{mul-le}
 use Rattle.std.proofs.lemmas.Bool.{cases_lt}
@@ -40,7 +41,8 @@ length-level_over n layer xs at = length-map-range_with_len (λ i. node_over (fi
 
 pub get_or-level_over : (n layer : ℕ) (xs : List (List ℕ)) (at i : ℕ) (d : List ℕ) → i < first_pad n at
     → get_or (level_over n layer xs at) i d ≡ node_over (filled (height n) layer xs) (at - layer) i
-get_or-level_over n layer xs at i d lt = get_or-map-range_with_len (λ i. node_over (filled (height n) layer xs) (at - layer) i) 0 (first_pad n at) i i d lt (omega arith)
+get_or-level_over n layer xs at i d lt = get_or-map-range_with_len (λ i. node_over (filled (height n) layer xs) (at - layer) i) 0 (first_pad n at) i i d lt
+    (omega arith)
 
 -- a node's right child, which may be the first pad of its layer
 right_child : (n layer : ℕ) (xs : List (List ℕ)) (at i : ℕ) → layer ≤ at → at < height n → length xs ≡ first_pad n layer → i < first_pad n (suc at)
@@ -56,7 +58,8 @@ right_child n layer xs at i low high len lt = elim (cases_lt (2 * i + 1) (first_
       let e : h - layer ≡ (h - suc at) + suc k = omega arith in
       ap (λ j. 2 ^ j) e ∙ pow-add 2 (h - suc at) (suc k) ∙ ap (λ w. 2 ^ (h - suc at) * w) (two-pow k) in
       let room : (i + 1) * (2 ^ k + 2 ^ k) ≤ 2 ^ (h - suc at) * (2 ^ k + 2 ^ k) =
-      mul-le (i + 1) (2 ^ k + 2 ^ k) (2 ^ (h - suc at)) (2 ^ k + 2 ^ k) (omega (arith, lt, first_pad-fits n h (suc at) (omega arith) (height_enough n))) (omega arith) in
+      mul-le (i + 1) (2 ^ k + 2 ^ k) (2 ^ (h - suc at)) (2 ^ k + 2 ^ k) (omega (arith, lt, first_pad-fits n h (suc at) (omega arith) (height_enough n)))
+          (omega arith) in
       let beyond : length xs ≤ (2 * i + 1) * 2 ^ k = elim (cases_lt ((2 * i + 1) * 2 ^ k) (first_pad n layer)) [
         | inl less ↦
             let f = (first_pad-place n layer ((2 * i + 1) * 2 ^ k)).0 less in

@@ -93,7 +93,8 @@ room_for_nodes b content len layer fed some in_block le =
     )
 
 -- a layer of a file of this length
-pub length-layer_of : (file : List ℕ) (len layer : ℕ) → length file ≡ len → layer ≤ height (block_count len) → length (layer_of file layer) ≡ first_pad (block_count len) layer
+pub length-layer_of : (file : List ℕ) (len layer : ℕ) → length file ≡ len → layer ≤ height (block_count len)
+    → length (layer_of file layer) ≡ first_pad (block_count len) layer
 length-layer_of file len layer is low =
     length-map-range_with_len (node file layer) 0 (layer_count (block_count (length file)) layer)
     ∙ ap (λ k. layer_count (block_count k) layer) is
@@ -106,7 +107,8 @@ pub checked : (b q : PieceCheck) (file more : List ℕ) (node : Option (List ℕ
     → IsCompared b.hashes.now (complete_nodes b.builder file b.layer ++ option_to_list node) q.place q.other
     → IsFedCheck q more
 checked b q file more node at fed completed layer shape hashes compared =
-    let now : complete_nodes q.builder more q.layer ≡ complete_nodes b.builder file b.layer ++ option_to_list node = ap (complete_nodes q.builder more) layer ∙ completed in
+    let now : complete_nodes q.builder more q.layer ≡ complete_nodes b.builder file b.layer ++ option_to_list node = ap (complete_nodes q.builder more) layer
+        ∙ completed in
     record {
       fed = fed;
       in_tree = subst (λ l. l ≤ height (block_count q.shape)) (sym layer) (subst (λ s. b.layer ≤ height (block_count s)) (sym shape) at.in_tree);

@@ -1,5 +1,6 @@
 -- What the builder of a layer holds, as it takes bytes.
-use Rattle.std.proofs.Common.{◌≡◌, ℕ, ◌+◌, ◌-◌, ◌/◌, ◌^◌, ◌<◌, ◌≤◌, inl, inr, length, Option, Some, None, IsSome, List, [], ◌++◌, refl, ap, ap₂, sym, ◌∙◌, subst, arith, vec_len}
+use Rattle.std.proofs.Common.{◌≡◌, ℕ, ◌+◌, ◌-◌, ◌/◌, ◌^◌, ◌<◌, ◌≤◌, inl, inr, length, Option, Some, None, IsSome, List, [], ◌++◌, refl, ap, ap₂, sym, ◌∙◌}
+use Rattle.std.proofs.Common.{subst, arith, vec_len}
 use Rattle.std.specs.Vec.{vec_capacity}
 use Rattle.std.proofs.Math.Nat.{add-div_left}
 use Rattle.std.proofs.Math.Pow.{shr_mono}

@@ -1,7 +1,8 @@
 -- The nodes of a file's tree.
 use Rattle.std.proofs.Common.{◌≡◌, ℕ, suc, ◌+◌, ◌-◌, ◌*◌, ◌^◌, ◌<◌, ◌≤◌, List, [], ◌++◌, length, take, drop, replicate, get_or, ap, ◌∙◌, arith, take-take}
 use Rattle.std.proofs.lemmas.Nat.{mul-le}
-use Rattle.std.proofs.lemmas.List.{length-append, length-replicate, take-replicate, drop-replicate, take_all, drop-drop, drop-take, get_or_append_left, get_or-drop, get_or-take}
+use Rattle.std.proofs.lemmas.List.{length-append, length-replicate, take-replicate, drop-replicate, take_all, drop-drop, drop-take, get_or_append_left}
+use Rattle.std.proofs.lemmas.List.{get_or-drop, get_or-take}
 use Rattle.std.proofs.lemmas.List.FromFn.{get_or-map-range_with_len}
 use Rattle.std.proofs.Math.Seq.{drop-append-add}
 use Rattle.sha2.specs.Sha256.{sha256}
@@ -14,7 +15,8 @@ use Rattle.hashtree.proofs.Blocks.{length-block_hashes}
 pub length-leaves : (file : List ℕ) → length (leaves file) ≡ 2 ^ height (block_count (length file))
 length-leaves file =
     let n : ℕ = block_count (length file) in
-    omega (arith, length-append (block_hashes file n) (replicate (2 ^ height n - n) pad_leaf), length-block_hashes file n, length-replicate (2 ^ height n - n) pad_leaf, height_enough n)
+    omega (arith, length-append (block_hashes file n) (replicate (2 ^ height n - n) pad_leaf), length-block_hashes file n,
+        length-replicate (2 ^ height n - n) pad_leaf, height_enough n)
 
 -- the part of a row that a node covers is that of its left child, and then that of its right child
 pub left_half : (w i : ℕ) (xs : List (List ℕ)) → take w (take (w + w) (drop (i * (w + w)) xs)) ≡ take w (drop (2 * i * w) xs)
@@ -33,7 +35,8 @@ unfolding tree
 node_over-suc xs layer i =
     let w : 2 ^ suc layer ≡ 2 ^ layer + 2 ^ layer = two-pow layer in
     ap (λ k. sha256 (tree layer (take (2 ^ layer) (take k (drop (i * k) xs))) ++ tree layer (drop (2 ^ layer) (take k (drop (i * k) xs))))) w
-    ∙ ap (λ t. sha256 (tree layer t ++ tree layer (drop (2 ^ layer) (take (2 ^ layer + 2 ^ layer) (drop (i * (2 ^ layer + 2 ^ layer)) xs))))) (left_half (2 ^ layer) i xs)
+    ∙ ap (λ t. sha256 (tree layer t ++ tree layer (drop (2 ^ layer) (take (2 ^ layer + 2 ^ layer) (drop (i * (2 ^ layer + 2 ^ layer)) xs)))))
+        (left_half (2 ^ layer) i xs)
     ∙ ap (λ t. sha256 (node_over xs layer (2 * i) ++ tree layer t)) (right_half (2 ^ layer) i xs)
 
 pub nodes_join_children : (file : List ℕ) (layer i : ℕ) → node file (suc layer) i ≡ sha256 (node file layer (2 * i) ++ node file layer (2 * i + 1))

@@ -1,5 +1,6 @@
 -- Rows of cells and lists of marks, when they grow and when one is written.
-use Rattle.std.proofs.Common.{◌≡◌, ◌≢◌, ◌⊎◌, ℕ, zero, suc, ◌+◌, ◌-◌, ◌^◌, ◌<◌, ◌≤◌, Bool, true, false, cond, ltb, ◌&&◌, ◌||◌, List, [], ◌++◌, length, map, get_or, take, replicate, set, Option, Some, None, inl, inr, refl, sym, ap, ap₂, ◌∙◌, subst, arith}
+use Rattle.std.proofs.Common.{◌≡◌, ◌≢◌, ◌⊎◌, ℕ, zero, suc, ◌+◌, ◌-◌, ◌^◌, ◌<◌, ◌≤◌, Bool, true, false, cond, ltb, ◌&&◌, ◌||◌, List, [], ◌++◌, length, map}
+use Rattle.std.proofs.Common.{get_or, take, replicate, set, Option, Some, None, inl, inr, refl, sym, ap, ap₂, ◌∙◌, subst, arith}
 use Rattle.std.specs.Prelude.{slice_get}
 use Rattle.std.specs.Option.{option_and_then, option_map, unwrap_or}
 use Rattle.std.specs.List.{range_with_len}
@@ -11,7 +12,8 @@ use Rattle.std.specs.Ordering.{nat_cmp, eq_by_cmp}
 use Rattle.std.specs.Cmp.{nat_cmp_total}
 use Rattle.std.proofs.lemmas.Bool.{cases_lt, cases_eq, and_left, or_left, eq-eqb, ne_eqb, lt-ltb, le-ltb}
 use Rattle.std.proofs.lemmas.Option.{slice_get_past, none-some}
-use Rattle.std.proofs.lemmas.List.{get_or_append_left, get_or-append_right, get_or-replicate, get_or_past, length-replicate, take_all, get_or-set_same, get_or-set_other}
+use Rattle.std.proofs.lemmas.List.{get_or_append_left, get_or-append_right, get_or-replicate, get_or_past, length-replicate, take_all, get_or-set_same}
+use Rattle.std.proofs.lemmas.List.{get_or-set_other}
 use Rattle.node_maps.specs.Digest.{Hash}
 use Rattle.node_maps.specs.Places.{IsTreePlace}
 use Rattle.node_maps.specs.Known.{Marked, place_cmp, look, within, tabulate}
@@ -24,7 +26,8 @@ use Rattle.node_maps.proofs.Known.{nat_equal, same_known, look-within, within-at
 pub cell_there : (rows : List FlatRow) (l i : ℕ) (v : Hash) → cells rows l i ≡ Some v → HasCell rows l i
 cell_there rows l i v e = row_there (slice_get rows l) e
   where
-    row_there : (o : Option FlatRow) → option_and_then (λ (row : FlatRow). option_and_then (λ (o : Option Hash). o) (slice_get row.items i)) o ≡ Some v → i < unwrap_or (option_map (λ (row : FlatRow). length row.items) o) 0
+    row_there : (o : Option FlatRow) → option_and_then (λ (row : FlatRow). option_and_then (λ (o : Option Hash). o) (slice_get row.items i)) o ≡ Some v
+        → i < unwrap_or (option_map (λ (row : FlatRow). length row.items) o) 0
     row_there None e = absurd (none-some v e)
     row_there (Some row) e = elim (cases_lt i (length row.items)) [
       | inl low ↦ low
@@ -52,9 +55,11 @@ pub lengthened-in_tree : (h layer end : ℕ) (old new : List FlatRow) → HasTre
     → (row_cells new layer ≤ end) ⊎ (row_cells new layer ≡ row_cells old layer) → layer ≤ h → end ≤ 2 ^ (h - layer) → HasTreeCells h new
 lengthened-in_tree h layer end old new in_tree others most le fits = record { place = λ l i low. by_layer l i low (cases_eq l layer) most }
   where
-    by_layer : (l i : ℕ) → i < row_cells new l → (l ≡ layer) ⊎ (l ≢ layer) → (row_cells new layer ≤ end) ⊎ (row_cells new layer ≡ row_cells old layer) → IsTreePlace h l i
+    by_layer : (l i : ℕ) → i < row_cells new l → (l ≡ layer) ⊎ (l ≢ layer) → (row_cells new layer ≤ end) ⊎ (row_cells new layer ≡ row_cells old layer)
+        → IsTreePlace h l i
     by_layer l i low (inr other) m = in_tree.place l i (subst (λ n. i < n) (others l other) low)
-    by_layer l i low (inl same) (inr as_before) = in_tree.place l i (subst (λ n. i < n) (ap (row_cells new) same ∙ as_before ∙ sym (ap (row_cells old) same)) low)
+    by_layer l i low (inl same) (inr as_before) = in_tree.place l i (subst (λ n. i < n) (ap (row_cells new) same ∙ as_before ∙ sym (ap (row_cells old) same))
+        low)
     by_layer l i low (inl same) (inl short) =
         let low' : i < row_cells new layer = subst (λ k. i < row_cells new k) same low in
         subst (λ k. IsTreePlace h k i) (sym same) (le, omega arith)
@@ -74,7 +79,8 @@ lengthened-marks layer end marks old new enough others most more = by_layer (cas
 
 -- no rows have no cells
 pub no_cells : (h : ℕ) (rows : List FlatRow) → rows ≡ [] → tabulate h (within h (cells rows)) ≡ empty
-no_cells h rows none = same_known (tabulate h (within h (cells rows))) empty (λ l i. look-within h (cells rows) l i ∙ nothing l i _ ∙ sym (get-empty place_cmp (l, i)))
+no_cells h rows none = same_known (tabulate h (within h (cells rows))) empty (λ l i. look-within h (cells rows) l i ∙ nothing l i _
+    ∙ sym (get-empty place_cmp (l, i)))
   where
     nothing : (l i : ℕ) (b : Bool) → cond b (cells rows l i) None ≡ None
     nothing l i true = ap (λ rs. cells rs l i) none
@@ -124,8 +130,10 @@ marked-same old new same = same_set nat_cmp_total nat_cmp-IsAntisymmetric (marke
     (λ i. contains-marked new i ∙ same i ∙ sym (contains-marked old i))
 
 -- marks that are added are not set
-pub marked-longer : (old new : List Bool) (n k : ℕ) → k ≡ length old → k ≤ n → new ≡ take n old ++ replicate (n - k) false → marked_leaves new ≡ marked_leaves old
-marked-longer old new n k len le is = marked-same old new (λ i. ap (λ xs. get_or xs i false) (is ∙ ap₂ (λ xs m. xs ++ replicate (n - m) false) (take_all n old (omega arith)) len) ∙ read i (cases_lt i (length old)))
+pub marked-longer : (old new : List Bool) (n k : ℕ) → k ≡ length old → k ≤ n → new ≡ take n old ++ replicate (n - k) false
+    → marked_leaves new ≡ marked_leaves old
+marked-longer old new n k len le is = marked-same old new (λ i. ap (λ xs. get_or xs i false) (is
+    ∙ ap₂ (λ xs m. xs ++ replicate (n - m) false) (take_all n old (omega arith)) len) ∙ read i (cases_lt i (length old)))
   where
     unset : (k i : ℕ) → get_or (replicate k false) i false ≡ false
     unset k i = elim (cases_lt i k) [
@@ -161,7 +169,8 @@ len-marks_below marks (suc n) = by_mark (get_or marks n false) (len-marks_below 
     one_more false m k e le = omega arith
 
     by_mark : (b : Bool) → set.len (marks_below marks n) ≤ n → set.len (cond b (set.insert (marks_below marks n) n) (marks_below marks n)) ≤ suc n
-    by_mark true le = one_more (set.contains (marks_below marks n) n) (set.len (marks_below marks n)) _ (set.len-insert nat_cmp_total (marks_below marks n) n) le
+    by_mark true le = one_more (set.contains (marks_below marks n) n) (set.len (marks_below marks n)) _ (set.len-insert nat_cmp_total (marks_below marks n) n)
+        le
     by_mark false le = omega arith
 
 pub len-marked : (n : ℕ) (M : Marked) → ((i : ℕ) → set.contains M i ≡ true → i < n) → set.len M ≤ n
@@ -169,7 +178,8 @@ len-marked n M bound = subst (λ s. set.len s ≤ n) (sym same) (len-marks_below
   where
     read : (i : ℕ) → set.contains M i ≡ (ltb i n && get_or (map (λ i. set.contains M i) (range_with_len 0 n)) i false)
     read i = elim (cases_lt i n) [
-      | inl low ↦ sym (ap (λ b. b && get_or (map (λ i. set.contains M i) (range_with_len 0 n)) i false) (lt-ltb i n low) ∙ get_or-map-range_with_len (λ i. set.contains M i) 0 n i i false low (omega arith))
+      | inl low ↦ sym (ap (λ b. b && get_or (map (λ i. set.contains M i) (range_with_len 0 n)) i false) (lt-ltb i n low)
+          ∙ get_or-map-range_with_len (λ i. set.contains M i) 0 n i i false low (omega arith))
       | inr past ↦ out (set.contains M i) refl past ∙ sym (and_left (ltb i n) _ (le-ltb i n past))
     ]
       where

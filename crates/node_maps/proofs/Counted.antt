@@ -1,5 +1,6 @@
 -- The pages of trimmed rows are those that have a known place.
-use Rattle.std.proofs.Common.{◌≡◌, ◌⊎◌, ℕ, zero, suc, ◌+◌, ◌*◌, ◌/◌, ◌%◌, ◌^◌, ◌<◌, Bool, true, false, cond, eqb, ◌&&◌, ◌||◌, List, [], ◌∷◌, length, get_or, Option, Some, None, IsSome, is_some, inl, inr, refl, sym, ap, ap₂, ◌∙◌, subst, arith}
+use Rattle.std.proofs.Common.{◌≡◌, ◌⊎◌, ℕ, zero, suc, ◌+◌, ◌*◌, ◌/◌, ◌%◌, ◌^◌, ◌<◌, Bool, true, false, cond, eqb, ◌&&◌, ◌||◌, List, [], ◌∷◌, length, get_or}
+use Rattle.std.proofs.Common.{Option, Some, None, IsSome, is_some, inl, inr, refl, sym, ap, ap₂, ◌∙◌, subst, arith}
 use Rattle.std.specs.Prelude.{slice_get}
 use Rattle.std.specs.Option.{option_and_then, option_map, unwrap_or}
 use Rattle.std.specs.List.{list_any}
@@ -63,13 +64,15 @@ number-place l q (place ∷ places) e = by_layer (number-place l q places) (eqb 
     later (i, is, there) = (i, is, or_right (eq_by_cmp place_cmp (l, i) place) (list_any (eq_by_cmp place_cmp (l, i)) places) there)
 
     by_layer : (is_among q (numbers_on l places) ≡ true → (i : ℕ) × (i / 512 ≡ q) × (place_there l i places ≡ true)) → (b : Bool) → eqb place.0 l ≡ b
-        → is_among q (cond b (place.1 / 512 ∷ numbers_on l places) (numbers_on l places)) ≡ true → (i : ℕ) × (i / 512 ≡ q) × (place_there l i (place ∷ places) ≡ true)
+        → is_among q (cond b (place.1 / 512 ∷ numbers_on l places) (numbers_on l places)) ≡ true
+        → (i : ℕ) × (i / 512 ≡ q) × (place_there l i (place ∷ places) ≡ true)
     by_layer rest false is e = later (rest e)
     by_layer rest true is e = elim (or_cases (eqb (place.1 / 512) q) (is_among q (numbers_on l places)) e) [
       | inl here ↦ (
         place.1,
         same_numbers (place.1 / 512) q here,
-        or_first (eq_by_cmp place_cmp (l, place.1) place) (list_any (eq_by_cmp place_cmp (l, place.1)) places) (same_place place.0 place.1 l place.1 ∙ ap₂ ◌&&◌ (eqb-turned l place.0 ∙ is) (eq-eqb place.1 place.1 refl)),
+        or_first (eq_by_cmp place_cmp (l, place.1) place) (list_any (eq_by_cmp place_cmp (l, place.1)) places) (same_place place.0 place.1 l place.1
+            ∙ ap₂ ◌&&◌ (eqb-turned l place.0 ∙ is) (eq-eqb place.1 place.1 refl)),
       )
       | inr more ↦ later (rest more)
     ]
@@ -78,13 +81,16 @@ number-place l q (place ∷ places) e = by_layer (number-place l q places) (eqb 
 place-number : (l i : ℕ) (places : List (ℕ × ℕ)) → place_there l i places ≡ true → is_among (i / 512) (numbers_on l places) ≡ true
 unfolding place_there
 place-number l i [] e = absurd (false≢true e)
-place-number l i (place ∷ places) e = by_layer (place-number l i places) (eqb place.0 l) refl (or_cases (eq_by_cmp place_cmp (l, i) place) (list_any (eq_by_cmp place_cmp (l, i)) places) e)
+place-number l i (place ∷ places) e = by_layer (place-number l i places) (eqb place.0 l) refl
+    (or_cases (eq_by_cmp place_cmp (l, i) place) (list_any (eq_by_cmp place_cmp (l, i)) places) e)
   where
-    by_layer : (place_there l i places ≡ true → is_among (i / 512) (numbers_on l places) ≡ true) → (b : Bool) → eqb place.0 l ≡ b → (eq_by_cmp place_cmp (l, i) place ≡ true) ⊎ (list_any (eq_by_cmp place_cmp (l, i)) places ≡ true)
+    by_layer : (place_there l i places ≡ true → is_among (i / 512) (numbers_on l places) ≡ true) → (b : Bool) → eqb place.0 l ≡ b
+        → (eq_by_cmp place_cmp (l, i) place ≡ true) ⊎ (list_any (eq_by_cmp place_cmp (l, i)) places ≡ true)
         → is_among (i / 512) (cond b (place.1 / 512 ∷ numbers_on l places) (numbers_on l places)) ≡ true
     by_layer rest true is (inl here) =
         let parts = and_parts (eqb l place.0) (eqb i place.1) (sym (same_place place.0 place.1 l i) ∙ here) in
-        or_first (eqb (place.1 / 512) (i / 512)) (is_among (i / 512) (numbers_on l places)) (eq-eqb (place.1 / 512) (i / 512) (ap (λ k. k / 512) (sym (same_numbers i place.1 parts.1))))
+        or_first (eqb (place.1 / 512) (i / 512)) (is_among (i / 512) (numbers_on l places))
+            (eq-eqb (place.1 / 512) (i / 512) (ap (λ k. k / 512) (sym (same_numbers i place.1 parts.1))))
     by_layer rest true is (inr more) = or_right (eqb (place.1 / 512) (i / 512)) (is_among (i / 512) (numbers_on l places)) (rest more)
     by_layer rest false is (inl here) =
         let parts = and_parts (eqb l place.0) (eqb i place.1) (sym (same_place place.0 place.1 l i) ∙ here) in
@@ -117,10 +123,12 @@ not_spare true f = sym (f refl)
 not_spare false f = refl
 
 -- a trimmed row has as many pages as its layer's known places take
-pub row-count : (K : Content) (l : ℕ) (f : Numbered) (c : ℕ) → AreCounted f c → AreSpare f [] → ((i : ℕ) → look K l i ≡ hash_of (cell_in f i)) → pages_on K l ≡ c
+pub row-count : (K : Content) (l : ℕ) (f : Numbered) (c : ℕ) → AreCounted f c → AreSpare f [] → ((i : ℕ) → look K l i ≡ hash_of (cell_in f i))
+    → pages_on K l ≡ c
 row-count K l f c counted spare reads =
     ap set.len (same_set nat_cmp_total nat_cmp-IsAntisymmetric (set.from_list (numbers_on l (map.keys K))) (marks_where (λ n. is_some (f n)) (2 ^ 32))
-    (λ q. contains-among (numbers_on l (map.keys K)) q ∙ both_ways (is_among q (numbers_on l (map.keys K))) (is_some (f q)) (known-held q) (held-known q) ∙ sym (counted-are f c counted q)))
+    (λ q. contains-among (numbers_on l (map.keys K)) q ∙ both_ways (is_among q (numbers_on l (map.keys K))) (is_some (f q)) (known-held q) (held-known q)
+        ∙ sym (counted-are f c counted q)))
     ∙ sym counted.count_is
   where
     known-held : (q : ℕ) → is_among q (numbers_on l (map.keys K)) ≡ true → is_some (f q) ≡ true
@@ -139,11 +147,13 @@ row-count K l f c counted spare reads =
         let offset : (512 * q + o) % 512 ≡ o = omega arith in
         let cell : cell_in f (512 * q + o) ≡ get_or p.cells.items o Empty = ap₂ (λ n k. cell_of (f n) k) number offset ∙ ap (λ x. cell_of x o) is in
         let known : is_some (look K l (512 * q + o)) ≡ true = ap is_some (reads (512 * q + o) ∙ ap hash_of cell) ∙ some in
-        subst (λ n. is_among n (numbers_on l (map.keys K)) ≡ true) number (place-number l (512 * q + o) (map.keys K) (sym (known-there K l (512 * q + o)) ∙ known))
+        subst (λ n. is_among n (numbers_on l (map.keys K)) ≡ true) number (place-number l (512 * q + o) (map.keys K) (sym (known-there K l (512 * q + o))
+            ∙ known))
 
 -- ---- all rows
 
-module _ (h : ℕ) (rows : List PagedRow) (in_tree : HoldsTree h rows) (top : ℕ) (all : (l : ℕ) (row : PagedRow) → slice_get rows l ≡ Some row → l < top) (trimmed : AreTrimmed rows top) where
+module _ (h : ℕ) (rows : List PagedRow) (in_tree : HoldsTree h rows) (top : ℕ) (all : (l : ℕ) (row : PagedRow) → slice_get rows l ≡ Some row
+    → l < top) (trimmed : AreTrimmed rows top) where
   content : Content
   content = tabulate h (within h (hashes rows))
 

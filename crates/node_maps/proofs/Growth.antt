@@ -1,5 +1,6 @@
 -- Pages that were made are given back one after the other, the last one first.
-use Rattle.std.proofs.Common.{◌≡◌, ◌≢◌, ◌⊎◌, ℕ, suc, ◌+◌, ◌<◌, ◌≤◌, true, cond, eqb, List, [], ◌∷◌, ◌++◌, length, None, inl, inr, refl, sym, ap, ap₂, ◌∙◌, subst, arith}
+use Rattle.std.proofs.Common.{◌≡◌, ◌≢◌, ◌⊎◌, ℕ, suc, ◌+◌, ◌<◌, ◌≤◌, true, cond, eqb, List, [], ◌∷◌, ◌++◌, length, None, inl, inr, refl, sym, ap, ap₂, ◌∙◌}
+use Rattle.std.proofs.Common.{subst, arith}
 use Rattle.std.proofs.lemmas.List.{length_push}
 use Rattle.std.proofs.lemmas.Bool.{cases_eq, cond-true, cond-false, eq-eqb, ne_eqb}
 use Rattle.node_maps.specs.Pages.{Numbered, AreAlike, IsChanged, is_spare}
@@ -22,7 +23,8 @@ push_same (x ∷ xs) [] a b e = absurd (let long : suc (length (xs ++ a ∷ []))
 push_same (x ∷ xs) (y ∷ ys) a b e = let r = push_same xs ys a b (ap rest e) in (ap₂ ◌∷◌ (ap first e) r.0, r.1)
 
 -- the same pages under another name
-made-alike : (old : Numbered) (fresh : List ℕ) (c : ℕ) (made : List ℕ) (new g : Numbered) (f' : List ℕ) (c' : ℕ) → AreMade old fresh c made new f' c' → AreAlike new g → AreMade old fresh c made g f' c'
+made-alike : (old : Numbered) (fresh : List ℕ) (c : ℕ) (made : List ℕ) (new g : Numbered) (f' : List ℕ) (c' : ℕ) → AreMade old fresh c made new f' c'
+    → AreAlike new g → AreMade old fresh c made g f' c'
 made-alike old fresh c [] new g f' c' is alike = record { alike = λ n. alike n ∙ is.alike n; noted = is.noted; counted = is.counted }
 made-alike old fresh c (n ∷ made) new g f' c' (mid, f, d, are, is) alike = (
   mid,
@@ -40,7 +42,8 @@ made-alike old fresh c (n ∷ made) new g f' c' (mid, f, d, are, is) alike = (
 
 module _ (base : Numbered) (fresh : List ℕ) (count : ℕ) where
   -- one page more, or none
-  pub grown-one : (mid : Numbered) (f : List ℕ) (c : ℕ) (new : Numbered) (f' : List ℕ) (c' : ℕ) → IsGrown base fresh count mid f c → IsGrownByOne mid f c new f' c' → IsGrown base fresh count new f' c'
+  pub grown-one : (mid : Numbered) (f : List ℕ) (c : ℕ) (new : Numbered) (f' : List ℕ) (c' : ℕ) → IsGrown base fresh count mid f c
+      → IsGrownByOne mid f c new f' c' → IsGrown base fresh count new f' c'
   grown-one mid f c new f' c' (made, are) (inl same) = (
     made,
     subst (λ k. AreMade base fresh count made new f' k) (sym same.counted) (subst (λ k. AreMade base fresh count made new k c) (sym same.noted)
@@ -61,7 +64,8 @@ module _ (base : Numbered) (fresh : List ℕ) (count : ℕ) where
           at_least [] mid f d is = let e : length f ≡ length fresh = ap length is.noted in omega (arith, e)
           at_least (n ∷ made) mid f d (mid', f', d', are, is) = omega (arith, at_least made mid' f' d' are, ap length is.noted, length_push f' n)
 
-  module _ (new : Numbered) (f' left : List ℕ) (c' q : ℕ) (grown : IsGrown base fresh count new f' c') (more : length fresh < length f') (popped : f' ≡ left ++ q ∷ []) where
+  module _ (new : Numbered) (f' left : List ℕ) (c' q : ℕ) (grown : IsGrown base fresh count new f' c') (more : length fresh < length f') (popped : f' ≡ left
+      ++ q ∷ []) where
     -- the last one holds nothing
     pub last-spare : is_spare (new q) ≡ true
     last-spare = by_list grown.0 grown.1
@@ -85,7 +89,8 @@ module _ (base : Numbered) (fresh : List ℕ) (count : ℕ) where
                   (made-alike base fresh count made mid g f d are alike)),
             )
           where
-            by_number : (n r : ℕ) → n ≡ q → (mid : Numbered) → mid n ≡ None → IsChanged n (new n) mid new → (q ≡ r) ⊎ (q ≢ r) → cond (eqb q r) None (new r) ≡ mid r
+            by_number : (n r : ℕ) → n ≡ q → (mid : Numbered) → mid n ≡ None → IsChanged n (new n) mid new → (q ≡ r) ⊎ (q ≢ r)
+                → cond (eqb q r) None (new r) ≡ mid r
             by_number n r same mid absent changed (inl here) = cond-true (eqb q r) None (new r) (eq-eqb q r here) ∙ sym absent ∙ ap mid (same ∙ here)
             by_number n r same mid absent changed (inr other) =
                 cond-false (eqb q r) None (new r) (ne_eqb q r other) ∙ changed r ∙ cond-false (eqb n r) (new n) (mid r) (ne_eqb n r (λ e. other (sym same ∙ e)))

@@ -1,12 +1,14 @@
 -- The finite map of places, by its look-ups.
-use Rattle.std.proofs.Common.{◌≡◌, ◌≢◌, ◌⊎◌, ℕ, zero, suc, ◌+◌, ◌-◌, ◌*◌, ◌^◌, ◌<◌, ◌≤◌, Bool, true, false, cond, eqb, leb, ltb, ◌&&◌, Ordering, Less, Equal, Greater, Option, Some, None, inl, inr, refl, sym, ap, ap₂, ◌∙◌, subst, arith}
+use Rattle.std.proofs.Common.{◌≡◌, ◌≢◌, ◌⊎◌, ℕ, zero, suc, ◌+◌, ◌-◌, ◌*◌, ◌^◌, ◌<◌, ◌≤◌, Bool, true, false, cond, eqb, leb, ltb, ◌&&◌, Ordering, Less, Equal}
+use Rattle.std.proofs.Common.{Greater, Option, Some, None, inl, inr, refl, sym, ap, ap₂, ◌∙◌, subst, arith}
 use Rattle.std.specs.Ordering.{nat_cmp, eq_by_cmp, is_eq, ordering_then}
 use Rattle.std.specs.Cmp.{IsTotalOrder, nat_cmp_total}
 use Rattle.std.specs.Option.{option_or}
 use Rattle.std.specs.FinMap.{insert, len, get-insert, get-empty, len-insert, len-empty, same_map, contains_key}
 use Rattle.std.proofs.lemmas.Cmp.{then_total, on_total}
 use Rattle.std.proofs.lemmas.Map.Lookups.{CmpEqualImpliesEq, exact_pairs, exact_unsigned}
-use Rattle.std.proofs.lemmas.Bool.{cases_lt, cases_eq, cond-true, cond-false, and_left, and_right, and_from, eq-eqb, ne_eqb, lt-ltb, le-ltb, and_parts, leb-true, ltb-true, le-leb}
+use Rattle.std.proofs.lemmas.Bool.{cases_lt, cases_eq, cond-true, cond-false, and_left, and_right, and_from, eq-eqb, ne_eqb, lt-ltb, le-ltb, and_parts}
+use Rattle.std.proofs.lemmas.Bool.{leb-true, ltb-true, le-leb}
 use Rattle.std.proofs.lemmas.Option.{none-some}
 use Rattle.node_maps.specs.Digest.{Hash}
 use Rattle.node_maps.specs.Places.{PartialTree, IsTreePlace}
@@ -77,7 +79,8 @@ row-here f l (suc n) m i low = elim (cases_lt i n) [
 
 layers-past : (f : PartialTree) (h top l i : ℕ) → (top ≤ l) ⊎ (2 ^ (h - l) ≤ i) → look (with_layers f h top) l i ≡ None
 layers-past f h zero l i e = get-empty place_cmp (l, i)
-layers-past f h (suc top) l i (inl e) = row-other f top (2 ^ (h - top)) (with_layers f h top) l i (inl (omega arith)) ∙ layers-past f h top l i (inl (omega arith))
+layers-past f h (suc top) l i (inl e) = row-other f top (2 ^ (h - top)) (with_layers f h top) l i (inl (omega arith))
+    ∙ layers-past f h top l i (inl (omega arith))
 layers-past f h (suc top) l i (inr e) = elim (cases_eq l top) [
   | inl same ↦ row-other f top (2 ^ (h - top)) (with_layers f h top) l i (inr (subst (λ k. 2 ^ (h - k) ≤ i) same e)) ∙ layers-past f h top l i (inr e)
   | inr other ↦ row-other f top (2 ^ (h - top)) (with_layers f h top) l i (inl other) ∙ layers-past f h top l i (inr e)
@@ -177,7 +180,8 @@ pub look-within : (h : ℕ) (f : PartialTree) (l i : ℕ) → look (tabulate h (
 look-within h f l i = look-tabulate h (within h f) (within-inside h f) l i
 
 -- a write to the cell of one place is an insertion
-pub tabulate-put : (h : ℕ) (f g : PartialTree) (l i : ℕ) (v : Hash) → IsTreePlace h l i → g l i ≡ Some v → ((l' i' : ℕ) → (l' ≢ l) ⊎ (i' ≢ i) → g l' i' ≡ f l' i')
+pub tabulate-put : (h : ℕ) (f g : PartialTree) (l i : ℕ) (v : Hash) → IsTreePlace h l i → g l i ≡ Some v
+    → ((l' i' : ℕ) → (l' ≢ l) ⊎ (i' ≢ i) → g l' i' ≡ f l' i')
     → tabulate h (within h g) ≡ insert (tabulate h (within h f)) (l, i) v
 tabulate-put h f g l i v at new old = same_known _ _ (λ l' i'. look-within h g l' i' ∙ by_place l' i' (cases_eq l' l) (cases_eq i' i))
   where

@@ -1,5 +1,6 @@
 -- How many numbers have a page.
-use Rattle.std.proofs.Common.{◌≡◌, ◌≢◌, ◌⊎◌, ℕ, zero, suc, ◌+◌, ◌-◌, ◌^◌, ◌<◌, ◌≤◌, Bool, true, false, cond, eqb, ltb, not, ◌&&◌, ◌||◌, Some, None, is_some, inl, inr, refl, sym, ap, ap₂, ◌∙◌, arith}
+use Rattle.std.proofs.Common.{◌≡◌, ◌≢◌, ◌⊎◌, ℕ, zero, suc, ◌+◌, ◌-◌, ◌^◌, ◌<◌, ◌≤◌, Bool, true, false, cond, eqb, ltb, not, ◌&&◌, ◌||◌, Some, None, is_some}
+use Rattle.std.proofs.Common.{inl, inr, refl, sym, ap, ap₂, ◌∙◌, arith}
 use Rattle.std.specs.FinSet as set
 use Rattle.std.specs.Ordering.{nat_cmp, eq_by_cmp}
 use Rattle.std.specs.Cmp.{nat_cmp_total}
@@ -124,16 +125,20 @@ module _ (f g : Numbered) (q c : ℕ) (is : HaveNumbers f c) where
   numbers-some there = by_count c is.count_is
     where
       by_count : (k : ℕ) → k ≡ set.len is.numbers → 1 ≤ k
-      by_count zero e = absurd (false≢true (sym (set.contains-empty nat_cmp q) ∙ ap (λ s. set.contains s q) (sym (set.empty_of_len is.numbers (sym e))) ∙ is.are q ∙ there))
+      by_count zero e = absurd (false≢true (sym (set.contains-empty nat_cmp q) ∙ ap (λ s. set.contains s q) (sym (set.empty_of_len is.numbers (sym e)))
+          ∙ is.are q ∙ there))
       by_count (suc k) e = omega arith
 
   -- one page less
   numbers-less : is_some (f q) ≡ true → IsChanged q None f g → HaveNumbers g (c - 1)
   numbers-less there changed = record {
     numbers = set.remove is.numbers q;
-    are = λ n. set.contains-remove nat_cmp_total is.numbers q n ∙ ap₂ (λ a b. not a && b) (turned q n) (is.are n) ∙ by_number n (eqb q n) ∙ sym (ap is_some (changed n));
-    count_is = ap (λ k. k - 1) is.count_is ∙ sym (set.len-remove nat_cmp_total is.numbers q ∙ ap (λ b. cond b (set.len is.numbers - 1) (set.len is.numbers)) (is.are q ∙ there));
-    low = λ n e. is.low n (by_and (not (eqb q n)) (set.contains is.numbers n) (sym (set.contains-remove nat_cmp_total is.numbers q n ∙ ap (λ a. not a && set.contains is.numbers n) (turned q n)) ∙ e));
+    are = λ n. set.contains-remove nat_cmp_total is.numbers q n ∙ ap₂ (λ a b. not a && b) (turned q n) (is.are n) ∙ by_number n (eqb q n)
+        ∙ sym (ap is_some (changed n));
+    count_is = ap (λ k. k - 1) is.count_is ∙ sym (set.len-remove nat_cmp_total is.numbers q
+        ∙ ap (λ b. cond b (set.len is.numbers - 1) (set.len is.numbers)) (is.are q ∙ there));
+    low = λ n e. is.low n (by_and (not (eqb q n)) (set.contains is.numbers n) (sym (set.contains-remove nat_cmp_total is.numbers q n
+        ∙ ap (λ a. not a && set.contains is.numbers n) (turned q n)) ∙ e));
   }
     where
       by_number : (n : ℕ) (b : Bool) → (not b && is_some (f n)) ≡ is_some (cond b None (f n))

@@ -1,5 +1,6 @@
 -- The pages of a layer, when one is added, written or given back.
-use Rattle.std.proofs.Common.{◌≡◌, ◌≢◌, ◌⊎◌, ℕ, zero, suc, ◌^◌, ◌<◌, Bool, true, false, cond, eqb, ◌||◌, List, [], ◌∷◌, ◌++◌, length, get_or, set, replicate, Bor, Option, Some, None, IsSome, is_some, ◌/◌, ◌%◌, inl, inr, refl, sym, ap, ◌∙◌, subst, arith}
+use Rattle.std.proofs.Common.{◌≡◌, ◌≢◌, ◌⊎◌, ℕ, zero, suc, ◌^◌, ◌<◌, Bool, true, false, cond, eqb, ◌||◌, List, [], ◌∷◌, ◌++◌, length, get_or, set, replicate}
+use Rattle.std.proofs.Common.{Bor, Option, Some, None, IsSome, is_some, ◌/◌, ◌%◌, inl, inr, refl, sym, ap, ◌∙◌, subst, arith}
 use Rattle.std.proofs.lemmas.Bool.{cases_eq, false≢true, cond-true, cond-false, eq-eqb, ne_eqb, or_left}
 use Rattle.std.proofs.lemmas.Bool.Decides.{nat_tests}
 use Rattle.node_maps.specs.declared.page.Cell.{Cell}
@@ -68,7 +69,8 @@ module _ (f g : Numbered) (q : ℕ) (o : Option Page) (is : (r : ℕ) → g r �
   -- the same cells, where the page has the cells that were there
   pub changed_alike : ((k : ℕ) → cell_of o k ≡ cell_of (f q) k) → (i : ℕ) → cell_of (g (i / 512)) (i % 512) ≡ cell_of (f (i / 512)) (i % 512)
   changed_alike alike i = elim (cases_eq (i / 512) q) [
-    | inl same ↦ ap (λ n. cell_of (g n) (i % 512)) same ∙ ap (λ x. cell_of x (i % 512)) changed_here ∙ alike (i % 512) ∙ sym (ap (λ n. cell_of (f n) (i % 512)) same)
+    | inl same ↦ ap (λ n. cell_of (g n) (i % 512)) same ∙ ap (λ x. cell_of x (i % 512)) changed_here ∙ alike (i % 512)
+        ∙ sym (ap (λ n. cell_of (f n) (i % 512)) same)
     | inr other ↦ ap (λ x. cell_of x (i % 512)) (changed_other (i / 512) other)
   ]
 
@@ -108,15 +110,20 @@ absent-changed q f none n = by_number (cases_eq q n)
 -- ---- a cell of a page is written
 
 module _ (place : ℕ) (hash : Hash) (mark : Bool) where
-  pub put-is : (p w : Page) → place < 512 → w.cells.items ≡ set p.cells.items place (with_hash (get_or p.cells.items place Empty) hash mark) → IsPut place hash mark (Some p) (Some w)
+  pub put-is : (p w : Page) → place < 512 → w.cells.items ≡ set p.cells.items place (with_hash (get_or p.cells.items place Empty) hash mark)
+      → IsPut place hash mark (Some p) (Some w)
   put-is p w low items = record {
     there = refl;
-    here = ap (λ xs. get_or xs place Empty) items ∙ get_or-set_same p.cells.items place (with_hash (get_or p.cells.items place Empty) hash mark) Empty (omega (arith, low, p.long));
-    others = λ o other. ap (λ xs. get_or xs o Empty) items ∙ get_or-set_other p.cells.items place o (with_hash (get_or p.cells.items place Empty) hash mark) Empty other;
+    here = ap (λ xs. get_or xs place Empty) items ∙ get_or-set_same p.cells.items place (with_hash (get_or p.cells.items place Empty) hash mark) Empty
+        (omega (arith, low, p.long));
+    others = λ o other. ap (λ xs. get_or xs o Empty) items ∙ get_or-set_other p.cells.items place o (with_hash (get_or p.cells.items place Empty) hash mark)
+        Empty other;
   }
 
-  pub put-changed : (q : ℕ) (f g : Numbered) (p w : Page) → f q ≡ Some p → IsChanged q (Some w) f g → IsPut place hash mark (Some p) (Some w) → IsPut place hash mark (f q) (g q)
-  put-changed q f g p w before is put = subst (λ x. IsPut place hash mark x (g q)) (sym before) (subst (IsPut place hash mark (Some p)) (sym (changed_here f g q (Some w) is)) put)
+  pub put-changed : (q : ℕ) (f g : Numbered) (p w : Page) → f q ≡ Some p → IsChanged q (Some w) f g → IsPut place hash mark (Some p) (Some w)
+      → IsPut place hash mark (f q) (g q)
+  put-changed q f g p w before is put = subst (λ x. IsPut place hash mark x (g q)) (sym before)
+      (subst (IsPut place hash mark (Some p)) (sym (changed_here f g q (Some w) is)) put)
 
 alike-changed : (q : ℕ) (f g : Numbered) → AreAlike f g → IsChanged q (f q) f g
 alike-changed q f g alike n = alike n ∙ by_number (cases_eq q n)
@@ -163,17 +170,20 @@ module _ {D : Type 0} (find : D → Numbered) (ns : List ℕ) (ds : List D) (ris
       changed-alike q (find d q) (find_under find ns ds shift) (find_under find ns (set ds at w) shift) (sym (under_there is d here))
       (under-set is d w here (find d q) (alike-changed q (find d) (find w) alike))
 
-  pub under-insert : IsGapFor ns (q / 2 ^ shift) at → (empty : Numbered) → ((n : ℕ) → empty n ≡ None) → (w : D) (page : Option Page) → IsChanged q page empty (find w)
+  pub under-insert : IsGapFor ns (q / 2 ^ shift) at → (empty : Numbered) → ((n : ℕ) → empty n ≡ None) → (w : D) (page : Option Page)
+      → IsChanged q page empty (find w)
       → IsChanged q page (find_under find ns ds shift) (find_under find (insert ns at (q / 2 ^ shift)) (insert ds at w) shift)
   under-insert gap empty none w page below =
-      under_changed find (λ n. n / 2 ^ shift) (page_numbered ns ds) (page_numbered (insert ns at key) (insert ds at w)) q (Some w) page (insert-found ns ds rising beside key at gap w)
+      under_changed find (λ n. n / 2 ^ shift) (page_numbered ns ds) (page_numbered (insert ns at key) (insert ds at w)) q (Some w) page
+          (insert-found ns ds rising beside key at gap w)
       (λ n. below n ∙ ap (cond (eqb q n) page) (none n ∙ sym (ap (λ o. page_within find o n) (found_gap ns ds key at gap))))
 
   -- a directory that is empty is given back
   under-remove : IsNumberAt ns (q / 2 ^ shift) at → (d : D) → d ≡ get_or ds at d → ((n : ℕ) → find d n ≡ None)
       → IsChanged q None (find_under find ns ds shift) (find_under find (remove ns at) (remove ds at) shift)
   under-remove is d here none =
-      under_changed find (λ n. n / 2 ^ shift) (page_numbered ns ds) (page_numbered (remove ns at) (remove ds at)) q None None (remove-found ns ds rising beside key at is)
+      under_changed find (λ n. n / 2 ^ shift) (page_numbered ns ds) (page_numbered (remove ns at) (remove ds at)) q None None
+          (remove-found ns ds rising beside key at is)
       (λ n. sym (ap (cond (eqb q n) None) (ap (λ o. page_within find o n) (stands ns ds rising beside key at is d here) ∙ none n) ∙ both (eqb q n) None))
     where
       both : (b : Bool) (o : Option Page) → cond b o o ≡ o

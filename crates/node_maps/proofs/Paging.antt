@@ -1,5 +1,6 @@
 -- Rows of pages, when they grow, when a cell is written, and when they are trimmed.
-use Rattle.std.proofs.Common.{◌≡◌, ◌≢◌, ◌⊎◌, ℕ, zero, suc, ◌+◌, ◌-◌, ◌/◌, ◌%◌, ◌^◌, ◌<◌, ◌≤◌, Bool, true, false, cond, eqb, ltb, ◌&&◌, ◌||◌, List, [], ◌∷◌, length, get_or, Option, Some, None, Result, Ok, Err, OnErr, inl, inr, refl, sym, ap, ap₂, ◌∙◌, subst, arith}
+use Rattle.std.proofs.Common.{◌≡◌, ◌≢◌, ◌⊎◌, ℕ, zero, suc, ◌+◌, ◌-◌, ◌/◌, ◌%◌, ◌^◌, ◌<◌, ◌≤◌, Bool, true, false, cond, eqb, ltb, ◌&&◌, ◌||◌, List, [], ◌∷◌}
+use Rattle.std.proofs.Common.{length, get_or, Option, Some, None, Result, Ok, Err, OnErr, inl, inr, refl, sym, ap, ap₂, ◌∙◌, subst, arith}
 use Rattle.std.specs.Prelude.{slice_get}
 use Rattle.std.specs.Option.{option_and_then, option_map, unwrap_or}
 use Rattle.std.specs.FinMap.{empty, insert, get-empty}
@@ -57,7 +58,8 @@ look-hashes h rows in_tree l i = look-within h (hashes rows) l i ∙ by_cell (ha
 -- a layer reads as its row does
 pub row-hashes : (rows : List PagedRow) (l : ℕ) (row : PagedRow) → l < length rows → row ≡ get_or rows l row → (i : ℕ) → row_hashes row i ≡ hashes rows l i
 row-hashes rows l row low is i =
-    sym (ap (λ o. hash_of (cell_of (option_and_then (λ (r : PagedRow). pages_of r (i / 512)) o) (i % 512))) (slice_get_read rows (length rows) l row refl low is))
+    sym (ap (λ o. hash_of (cell_of (option_and_then (λ (r : PagedRow). pages_of r (i / 512)) o) (i % 512)))
+        (slice_get_read rows (length rows) l row refl low is))
 
 -- and as nothing where there is no row
 pub no_row-hashes : (rows : List PagedRow) (l : ℕ) → length rows ≤ l → (i : ℕ) → hashes rows l i ≡ None
@@ -103,7 +105,8 @@ contains-marked_cells h rows in_tree i = contains-marks_where (λ k. mark_of (ce
 
 -- ---- a cell that is written
 
-module _ (h : ℕ) (old new : List PagedRow) (l i : ℕ) (c : Cell) (here : cell_at new l i ≡ c) (others : (l' i' : ℕ) → (l' ≢ l) ⊎ (i' ≢ i) → cell_at new l' i' ≡ cell_at old l' i') where
+module _ (h : ℕ) (old new : List PagedRow) (l i : ℕ) (c : Cell) (here : cell_at new l i ≡ c) (others : (l' i' : ℕ) → (l' ≢ l) ⊎ (i' ≢ i)
+    → cell_at new l' i' ≡ cell_at old l' i') where
   here_or_not : (l' i' : ℕ) → ((l' ≡ l) × (i' ≡ i)) ⊎ ((l' ≢ l) ⊎ (i' ≢ i))
   here_or_not l' i' = both (cases_eq l' l) (cases_eq i' i)
     where
@@ -120,7 +123,8 @@ module _ (h : ℕ) (old new : List PagedRow) (l i : ℕ) (c : Cell) (here : cell
     ];
   }
 
-  pub put-known : (v : Hash) → IsTreePlace h l i → hash_of c ≡ Some v → tabulate h (within h (hashes new)) ≡ insert (tabulate h (within h (hashes old))) (l, i) v
+  pub put-known : (v : Hash) → IsTreePlace h l i → hash_of c ≡ Some v → tabulate h (within h (hashes new)) ≡ insert (tabulate h (within h (hashes old))) (l, i)
+      v
   put-known v at is = tabulate-put h (hashes old) (hashes new) l i v at (ap hash_of here ∙ is) (λ l' i' other. ap hash_of (others l' i' other))
 
   pub put-known-same : hash_of c ≡ hashes old l i → tabulate h (within h (hashes new)) ≡ tabulate h (within h (hashes old))
@@ -142,9 +146,11 @@ module _ (h : ℕ) (old new : List PagedRow) (l i : ℕ) (c : Cell) (here : cell
       ]
 
 -- a leaf that is marked is one more marked leaf
-pub put-marked : (h : ℕ) (old new : List PagedRow) (i : ℕ) (c : Cell) → cell_at new 0 i ≡ c → ((l' i' : ℕ) → (l' ≢ 0) ⊎ (i' ≢ i) → cell_at new l' i' ≡ cell_at old l' i')
+pub put-marked : (h : ℕ) (old new : List PagedRow) (i : ℕ) (c : Cell) → cell_at new 0 i ≡ c
+    → ((l' i' : ℕ) → (l' ≢ 0) ⊎ (i' ≢ i) → cell_at new l' i' ≡ cell_at old l' i')
     → HoldsTree h old → HoldsTree h new → mark_of c ≡ true → marked_cells h new ≡ set.insert (marked_cells h old) i
-put-marked h old new i c here others old_tree new_tree is = same_set nat_cmp_total nat_cmp-IsAntisymmetric (marked_cells h new) (set.insert (marked_cells h old) i)
+put-marked h old new i c here others old_tree new_tree is = same_set nat_cmp_total nat_cmp-IsAntisymmetric (marked_cells h new)
+    (set.insert (marked_cells h old) i)
     (λ k. contains-marked_cells h new new_tree k ∙ read k (cases_eq k i) ∙ sym (contains-insert nat_cmp_total (marked_cells h old) i k))
   where
     read : (k : ℕ) → (k ≡ i) ⊎ (k ≢ i) → mark_of (cell_at new 0 k) ≡ (eq_by_cmp nat_cmp k i || set.contains (marked_cells h old) k)
@@ -194,7 +200,8 @@ pub no_rows-trimmed : (rows : List PagedRow) (top : ℕ) → rows ≡ [] → Are
 no_rows-trimmed rows top none = record { full = λ l row low e. absurd (none-some row (sym (ap (λ rs. slice_get rs l) none) ∙ e)) }
 
 -- a layer that gets pages
-held_below-more : (layer more : ℕ) (old new : List PagedRow) → GrowsBy layer more old new → (top : ℕ) → held_below new top ≤ held_below old top + cond (ltb layer top) more 0
+held_below-more : (layer more : ℕ) (old new : List PagedRow) → GrowsBy layer more old new → (top : ℕ)
+    → held_below new top ≤ held_below old top + cond (ltb layer top) more 0
 held_below-more layer more old new grows zero = omega arith
 held_below-more layer more old new grows (suc l) = elim (cases_eq l layer) [
   | inl same ↦ grind (arith, nat_tests, held_below-more layer more old new grows l, subst (λ k. row_pages new k ≤ row_pages old k + more) (sym same) grows.here)

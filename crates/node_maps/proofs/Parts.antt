@@ -22,4 +22,5 @@ pub page-there : (pages : Numbered) (from count done n : ℕ) → n ≡ (from + 
     → AreKnown (λ i. hash_of (cell_in pages i)) from count → ⊥
 page-there pages from count done n number more none known =
     let here = known done more in
-    none-some here.0 (sym (ap (λ q. hash_of (cell_of (pages q) ((from + done) % 512))) (sym number) ∙ ap (λ o. hash_of (cell_of o ((from + done) % 512))) none) ∙ here.1)
+    none-some here.0 (sym (ap (λ q. hash_of (cell_of (pages q) ((from + done) % 512))) (sym number) ∙ ap (λ o. hash_of (cell_of o ((from + done) % 512))) none)
+        ∙ here.1)

@@ -1,10 +1,12 @@
 -- Rising numbers, and the item of a number when one is found, added, written or taken out.
-use Rattle.std.proofs.Common.{◌≡◌, ◌≢◌, ◌⊎◌, ℕ, zero, suc, ◌+◌, ◌-◌, ◌<◌, ◌≤◌, true, false, cond, eqb, List, [], ◌∷◌, length, get_or, set, Some, None, IsSome, is_some, Result, Ok, Err, IfOk, IfErr, MatchResult, inl, inr, refl, sym, ap, ◌∙◌, subst, arith}
+use Rattle.std.proofs.Common.{◌≡◌, ◌≢◌, ◌⊎◌, ℕ, zero, suc, ◌+◌, ◌-◌, ◌<◌, ◌≤◌, true, false, cond, eqb, List, [], ◌∷◌, length, get_or, set, Some, None, IsSome}
+use Rattle.std.proofs.Common.{is_some, Result, Ok, Err, IfOk, IfErr, MatchResult, inl, inr, refl, sym, ap, ◌∙◌, subst, arith}
 use Rattle.std.specs.List.{insert, remove}
 use Rattle.std.specs.List.Sorted.{IsBinarySearchResult}
 use Rattle.std.specs.Ordering.{nat_cmp}
 use Rattle.std.proofs.lemmas.List.Sorted.{searched}
-use Rattle.std.proofs.lemmas.List.Edits.{length-insert, get_or-insert_below, get_or-insert_at, get_or-insert_above, length-remove, get_or-remove_below, get_or-remove_above}
+use Rattle.std.proofs.lemmas.List.Edits.{length-insert, get_or-insert_below, get_or-insert_at, get_or-insert_above, length-remove, get_or-remove_below}
+use Rattle.std.proofs.lemmas.List.Edits.{get_or-remove_above}
 use Rattle.std.proofs.lemmas.Bool.{cases_lt, eq-eqb}
 use Rattle.std.proofs.lemmas.Bool.Decides.{nat_tests}
 use Rattle.std.proofs.Math.ListN.{length-set}
@@ -27,7 +29,8 @@ found_absent (n ∷ ns) [] q free = refl
 found_absent (n ∷ ns) (p ∷ ps) q free = grind (arith, nat_tests, free 0 (omega arith), found_absent ns ps q (tail_before n ns q _ free))
 
 -- the first number that is q has the item beside it
-pub found_present : {A : Type 0} (ns : List ℕ) (ps : List A) (q i : ℕ) (d : A) → length ps ≡ length ns → IsNumberAt ns q i → NotBefore ns q i → page_numbered ns ps q ≡ Some (get_or ps i d)
+pub found_present : {A : Type 0} (ns : List ℕ) (ps : List A) (q i : ℕ) (d : A) → length ps ≡ length ns → IsNumberAt ns q i → NotBefore ns q i
+    → page_numbered ns ps q ≡ Some (get_or ps i d)
 found_present [] ps q i d beside at free = absurd (omega (arith, at.in_range))
 found_present (n ∷ ns) [] q i d beside at free = absurd (omega arith)
 found_present (n ∷ ns) (p ∷ ps) q zero d beside at free = grind (arith, nat_tests, at.is_number)
@@ -64,25 +67,29 @@ found-insert (n ∷ ns) (p ∷ ps) q (suc i) w beside free r =
     grind (arith, nat_tests, free 0 (omega arith), found-insert ns ps q i w (omega arith) (tail_before n ns q i free) r)
 
 -- an item that is taken out
-pub found-remove : {A : Type 0} (ns : List ℕ) (ps : List A) (q i : ℕ) → length ps ≡ length ns → IsNumberAt ns q i → ((j : ℕ) → j < length ns → j ≢ i → get_or ns j 0 ≢ q)
+pub found-remove : {A : Type 0} (ns : List ℕ) (ps : List A) (q i : ℕ) → length ps ≡ length ns → IsNumberAt ns q i
+    → ((j : ℕ) → j < length ns → j ≢ i → get_or ns j 0 ≢ q)
     → (r : ℕ) → page_numbered (remove ns i) (remove ps i) r ≡ cond (eqb q r) None (page_numbered ns ps r)
 found-remove [] ps q i beside at free r = absurd (omega (arith, at.in_range))
 found-remove (n ∷ ns) [] q i beside at free r = absurd (omega arith)
 found-remove (n ∷ ns) (p ∷ ps) q zero beside at free r =
     grind (arith, nat_tests, at.is_number, found_absent ns ps q (λ j low. free (suc j) (omega arith) (omega arith)))
 found-remove (n ∷ ns) (p ∷ ps) q (suc i) beside at free r =
-    grind (arith, nat_tests, free 0 (omega arith) (omega arith), found-remove ns ps q i (omega arith) (tail_at n ns q i at) (λ j low other. free (suc j) (omega arith) (omega arith)) r)
+    grind (arith, nat_tests, free 0 (omega arith) (omega arith), found-remove ns ps q i (omega arith) (tail_at n ns q i at)
+        (λ j low other. free (suc j) (omega arith) (omega arith)) r)
 
 module _ (ns : List ℕ) (rising : AreRising ns) where
   -- what a binary search answers
-  pub searched_at : (q : ℕ) (r : Result ℕ ℕ) → IsBinarySearchResult (λ y. nat_cmp y q) ns r → record { at : IfOk r (IsNumberAt ns q); gap : IfErr r (IsGapFor ns q) }
+  pub searched_at : (q : ℕ) (r : Result ℕ ℕ) → IsBinarySearchResult (λ y. nat_cmp y q) ns r
+      → record { at : IfOk r (IsNumberAt ns q); gap : IfErr r (IsGapFor ns q) }
   searched_at q r is = read r (searched ns q r is (λ i j le low. by_order i j low (cases_lt i j) le))
     where
       by_order : (i j : ℕ) → j < length ns → (i < j) ⊎ (j ≤ i) → i ≤ j → get_or ns i 0 ≤ get_or ns j 0
       by_order i j low (inl less) le = omega (arith, rising i j less low)
       by_order i j low (inr more) le = let same : i ≡ j = omega arith in omega (arith, ap (λ k. get_or ns k 0) same)
 
-      read : (r : Result ℕ ℕ) → MatchResult r (λ i. (i < length ns) × (get_or ns i 0 ≡ q)) (λ i. (i ≤ length ns) × ((k : ℕ) → k < i → get_or ns k 0 < q) × ((k : ℕ) → i ≤ k → k < length ns → q < get_or ns k 0)) → record { at : IfOk r (IsNumberAt ns q); gap : IfErr r (IsGapFor ns q) }
+      read : (r : Result ℕ ℕ) → MatchResult r (λ i. (i < length ns) × (get_or ns i 0 ≡ q)) (λ i. (i ≤ length ns) × ((k : ℕ) → k < i → get_or ns k 0 < q)
+          × ((k : ℕ) → i ≤ k → k < length ns → q < get_or ns k 0)) → record { at : IfOk r (IsNumberAt ns q); gap : IfErr r (IsGapFor ns q) }
       read (Ok i) h = record { at = record { in_range = h.0; is_number = h.1 }; gap = tt }
       read (Err i) h = record { at = tt; gap = record { in_range = h.0; below = h.1; above = h.2 } }
 
@@ -100,7 +107,8 @@ not_before_gap ns q i gap j lt same = omega (arith, gap.below j lt)
 
 -- a number that has a gap has no item
 pub found_gap : {A : Type 0} (ns : List ℕ) (ps : List A) (q i : ℕ) → IsGapFor ns q i → page_numbered ns ps q ≡ None
-found_gap ns ps q i gap = found_absent ns ps q (λ j lt same. elim (cases_lt j i) [ inl less ↦ omega (arith, gap.below j less) | inr more ↦ omega (arith, gap.above j more lt) ])
+found_gap ns ps q i gap = found_absent ns ps q
+    (λ j lt same. elim (cases_lt j i) [ inl less ↦ omega (arith, gap.below j less) | inr more ↦ omega (arith, gap.above j more lt) ])
 
 pub rising-insert : (ns : List ℕ) (q at : ℕ) → IsGapFor ns q at → AreRising ns → AreRising (insert ns at q)
 rising-insert ns q at gap rising i j lt in_range =
@@ -109,7 +117,8 @@ rising-insert ns q at gap rising i j lt in_range =
     let below' : (i : ℕ) → i < at → get_or new i 0 ≡ get_or ns i 0 = λ i below. get_or-insert_below ns at q 0 i below gap.in_range in
     let here : (i : ℕ) → i ≡ at → get_or new i 0 ≡ q = λ i here. rw here (get_or-insert_at ns at q 0 gap.in_range) in
     let above' : (i : ℕ) → at < i → get_or new i 0 ≡ get_or ns (i - 1) 0 =
-    λ i above. subst (λ k. get_or new k 0 ≡ get_or ns (i - 1) 0) {x = i - 1 + 1} (omega arith) (get_or-insert_above ns at q 0 (i - 1) (omega arith) gap.in_range) in
+    λ i above. subst (λ k. get_or new k 0 ≡ get_or ns (i - 1) 0) {x = i - 1 + 1} (omega arith) (get_or-insert_above ns at q 0 (i - 1) (omega arith)
+        gap.in_range) in
     grind (arith, below' i, here i, above' i, below' j, here j, above' j, rising i j, rising i (j - 1), rising (i - 1) (j - 1), gap.below i, gap.above (j - 1))
 
 pub rising-remove : (ns : List ℕ) (at : ℕ) → at < length ns → AreRising ns → AreRising (remove ns at)

@@ -1,5 +1,6 @@
 -- Runs of hashes, part by part.
-use Rattle.std.proofs.Common.{◌≡◌, ℕ, zero, suc, ◌+◌, ◌-◌, ◌<◌, ◌≤◌, ◌↔◌, List, [], ◌∷◌, ◌++◌, length, get_or, take, drop, Option, Some, None, inl, inr, refl, sym, ap, ◌∙◌, subst, arith, append_assoc, append-nil, length-drop}
+use Rattle.std.proofs.Common.{◌≡◌, ℕ, zero, suc, ◌+◌, ◌-◌, ◌<◌, ◌≤◌, ◌↔◌, List, [], ◌∷◌, ◌++◌, length, get_or, take, drop, Option, Some, None, inl, inr, refl}
+use Rattle.std.proofs.Common.{sym, ap, ◌∙◌, subst, arith, append_assoc, append-nil, length-drop}
 use Rattle.std.specs.Option.{unwrap_or}
 use Rattle.std.proofs.lemmas.Bool.{cases_lt}
 use Rattle.std.proofs.lemmas.Option.{none-some}
@@ -83,20 +84,24 @@ module _ {X : Type 0} (read : X → Option Hash) (d : X) (xs : List X) (from cou
 
   part-alike : ReadAlike (λ i. read (get_or (take (from + count - from) (drop from xs)) i d)) 0 (λ i. read (get_or xs i d)) from count
   part-alike = record {
-    at = λ j low. from-start (λ i. read (get_or (take (from + count - from) (drop from xs)) i d)) j ∙ ap read (get_or-take (from + count - from) (drop from xs) j d (omega arith) ∙ get_or-drop from xs j d);
+    at = λ j low. from-start (λ i. read (get_or (take (from + count - from) (drop from xs)) i d)) j
+        ∙ ap read (get_or-take (from + count - from) (drop from xs) j d (omega arith) ∙ get_or-drop from xs j d);
   }
 
-  pub iff-part : {P : Type 0} → (P ↔ AreKnown (λ i. read (get_or (take (from + count - from) (drop from xs)) i d)) 0 (length (take (from + count - from) (drop from xs))))
+  pub iff-part : {P : Type 0} → (P ↔ AreKnown (λ i. read (get_or (take (from + count - from) (drop from xs)) i d)) 0
+      (length (take (from + count - from) (drop from xs))))
       → (P ↔ AreKnown (λ i. read (get_or xs i d)) from count)
   iff-part {P} iff = iff-alike part-alike (subst (λ n. P ↔ AreKnown (λ i. read (get_or (take (from + count - from) (drop from xs)) i d)) 0 n) part-length iff)
 
   pub known-in_part : AreKnown (λ i. read (get_or xs i d)) from count
       → AreKnown (λ i. read (get_or (take (from + count - from) (drop from xs)) i d)) 0 (length (take (from + count - from) (drop from xs)))
-  known-in_part known = subst (AreKnown (λ i. read (get_or (take (from + count - from) (drop from xs)) i d)) 0) (sym part-length) (known-alike (alike-back part-alike) known)
+  known-in_part known = subst (AreKnown (λ i. read (get_or (take (from + count - from) (drop from xs)) i d)) 0) (sym part-length)
+      (known-alike (alike-back part-alike) known)
 
   pub hashes-in_part : hashes_from (λ i. read (get_or (take (from + count - from) (drop from xs)) i d)) 0 (length (take (from + count - from) (drop from xs)))
       ≡ hashes_from (λ i. read (get_or xs i d)) from count
-  hashes-in_part = ap (hashes_from (λ i. read (get_or (take (from + count - from) (drop from xs)) i d)) 0) part-length ∙ hashes-alike _ _ 0 from count part-alike
+  hashes-in_part = ap (hashes_from (λ i. read (get_or (take (from + count - from) (drop from xs)) i d)) 0) part-length
+      ∙ hashes-alike _ _ 0 from count part-alike
 
 -- ---- a layer that has the hashes of another
 

@@ -1,5 +1,6 @@
 -- The pages of one layer by their numbers: page p has the places from 512 p on.
-use Rattle.std.specs.Prelude.{◌≡◌, ◌≢◌, ℕ, zero, suc, ◌/◌, ◌%◌, ◌^◌, ◌<◌, Bool, true, false, ◌==◌, if◌then◌else◌, ◌||◌, List, [], ◌∷◌, slice_index_or, Option, Some, None, IsSome, is_some}
+use Rattle.std.specs.Prelude.{◌≡◌, ◌≢◌, ℕ, zero, suc, ◌/◌, ◌%◌, ◌^◌, ◌<◌, Bool, true, false, ◌==◌, if◌then◌else◌, ◌||◌, List, [], ◌∷◌, slice_index_or, Option}
+use Rattle.std.specs.Prelude.{Some, None, IsSome, is_some}
 use Rattle.std.specs.FinSet as set
 use Rattle.std.specs.List.{All}
 use Rattle.node_maps.specs.declared.page.Cell.{Cell}

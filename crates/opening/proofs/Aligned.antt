@@ -1,5 +1,7 @@
 -- Where the files of a version 1 list begin in the stream, entry by entry and by the whole list.
-use Rattle.std.proofs.Common.{zero-add, add-zero, zero-mul, inl, inr, ◌⊎◌, ◌≡◌, ℕ, zero, suc, ◌+◌, ◌*◌, ◌<◌, ◌≤◌, Bool, true, false, not, cond, ◌&&◌, if◌then◌else◌, nat_eq, nat_lt, List, [], ◌∷◌, ◌++◌, length, take, drop, map, filter, Option, Some, None, refl, sym, ap, ◌∙◌, subst, arith, slice_get, sum_by}
+use Rattle.std.proofs.Common.{zero-add, add-zero, zero-mul, inl, inr, ◌⊎◌, ◌≡◌, ℕ, zero, suc, ◌+◌, ◌*◌, ◌<◌, ◌≤◌, Bool, true, false, not, cond, ◌&&◌}
+use Rattle.std.proofs.Common.{if◌then◌else◌, nat_eq, nat_lt, List, [], ◌∷◌, ◌++◌, length, take, drop, map, filter, Option, Some, None, refl, sym, ap, ◌∙◌}
+use Rattle.std.proofs.Common.{subst, arith, slice_get, sum_by}
 use Rattle.std.proofs.Math.Nat.{add-mul}
 use Rattle.std.proofs.lemmas.Option.{slice_get_within}
 use Rattle.std.proofs.lemmas.Bool.{eqb-true, eqb-false, and_cases, and_parts}
@@ -46,7 +48,8 @@ all_taken (x ∷ xs) (suc i) e = ap (λ t. x ∷ t) (all_taken xs i e)
 -- ---- one more entry
 
 files_after : (ps : List Part) (p : Part) → files_in (ps ++ p ∷ []) ≡ files_in ps ++ files_in (p ∷ [])
-files_after ps p = ap (map named_part) (filter-append (λ (q : Part). not q.is_pad) ps (p ∷ [])) ∙ map-append named_part (filter (λ (q : Part). not q.is_pad) ps) (filter (λ (q : Part). not q.is_pad) (p ∷ []))
+files_after ps p = ap (map named_part) (filter-append (λ (q : Part). not q.is_pad) ps (p ∷ []))
+    ∙ map-append named_part (filter (λ (q : Part). not q.is_pad) ps) (filter (λ (q : Part). not q.is_pad) (p ∷ []))
 
 stream_after : (ps : List Part) (p : Part) → stream_length (ps ++ p ∷ []) ≡ stream_length ps + length_in p
 stream_after ps p = sum_by-append length_in ps (p ∷ []) ∙ ap (λ t. stream_length ps + t) (zero-add (length_in p))
@@ -54,7 +57,8 @@ stream_after ps p = sum_by-append length_in ps (p ∷ []) ∙ ap (λ t. stream_l
 pieces_after : (k : ℕ) (ps : List Part) (p : Part) → pieces_end k (ps ++ p ∷ []) ≡ pieces_end k ps + pieces_end k (p ∷ [])
 pieces_after k ps p =
     let f = λ (n : Named). pieces_of k n.length in
-    ap (λ t. sum_by f t * k) (files_after ps p) ∙ ap (λ t. t * k) (sum_by-append f (files_in ps) (files_in (p ∷ []))) ∙ add-mul (sum_by f (files_in ps)) (sum_by f (files_in (p ∷ []))) k
+    ap (λ t. sum_by f t * k) (files_after ps p) ∙ ap (λ t. t * k) (sum_by-append f (files_in ps) (files_in (p ∷ [])))
+        ∙ add-mul (sum_by f (files_in ps)) (sum_by f (files_in (p ∷ []))) k
 
 pieces_one : (k : ℕ) (p : Part) (pad : Bool) → p.is_pad ≡ pad → pieces_end k (p ∷ []) ≡ (if pad then 0 else pieces_of k (length_in p) * k)
 pieces_one k p true e = ap (λ t. sum_by (λ (n : Named). pieces_of k n.length) (map named_part (cond (not t) (p ∷ []) [])) * k) e ∙ zero-mul k
@@ -68,7 +72,8 @@ pieces_one k p false e =
 pub record IsEnd (k : ℕ) (all : List Part) (i : ℕ) (e : Ends) : Type 0 where
   pub stream_is : e.stream ≡ stream_length (take i all)
   pub pieces_is : e.pieces ≡ pieces_end k (take i all)
-  pub placed : (j : ℕ) (p : Part) → j < i → slice_get all j ≡ Some p → p.is_pad ≡ false → 0 < length_in p → stream_length (take j all) ≡ pieces_end k (take j all)
+  pub placed : (j : ℕ) (p : Part) → j < i → slice_get all j ≡ Some p → p.is_pad ≡ false → 0 < length_in p
+      → stream_length (take j all) ≡ pieces_end k (take j all)
 
 -- the ends of the whole list, where no file is misplaced; or some is
 abbrev pub AreEnds : ℕ → List Part → Option Ends → Type 0
@@ -99,7 +104,8 @@ one_more k all i e v right here before h = record {
         let part : p ≡ entry_part v = cc in
         let of_file : has_attribute 112 v ≡ false = ap (λ (q : Part). q.is_pad) (sym part) ∙ file in
         let positive : 0 < length_of v = subst (λ (q : Part). 0 < length_in q) part some in
-        ap (λ n. stream_length (take n all)) is ∙ sym h.stream_is ∙ placed_here v e right of_file positive ∙ h.pieces_is ∙ ap (λ n. pieces_end k (take n all)) (sym is))
+        ap (λ n. stream_length (take n all)) is ∙ sym h.stream_is ∙ placed_here v e right of_file positive ∙ h.pieces_is
+            ∙ ap (λ n. pieces_end k (take n all)) (sym is))
   ];
 }
   where

@@ -1,5 +1,6 @@
 -- One answer for all bytes.
-use Rattle.std.proofs.Common.{◌≡◌, ◌≢◌, ◌⊎◌, Result, Ok, Err, IfOk, IfErr, MatchResult, ℕ, suc, List, [], ◌∷◌, ◌++◌, length, map, ◌≤◌, if◌then◌else◌, Option, Some, None, inl, inr, refl, sym, ap, subst, ◌∙◌, arith, slice_get}
+use Rattle.std.proofs.Common.{◌≡◌, ◌≢◌, ◌⊎◌, Result, Ok, Err, IfOk, IfErr, MatchResult, ℕ, suc, List, [], ◌∷◌, ◌++◌, length, map, ◌≤◌, if◌then◌else◌, Option}
+use Rattle.std.proofs.Common.{Some, None, inl, inr, refl, sym, ap, subst, ◌∙◌, arith, slice_get}
 use Rattle.std.proofs.lemmas.Bool.{cases_lt}
 use Rattle.std.proofs.lemmas.Option.{slice_get_past}
 use Rattle.sha1.specs.Sha1.{sha1}
@@ -54,7 +55,8 @@ files_one p fs es ds one other = same_list es ds (λ k. elim (cases_lt k (length
 abbrev make : List ℕ → ℕ → List FileEntry → List TreeEntry → List ℕ → List ℕ → Option Version1 → Description
 make a b c d e f g = record { name = a; piece_length = b; files = c; trees = d; info_hash_v2 = e; info_hash_v1 = f; v1 = g }
 
-same_description : (t u : Description) → t.name ≡ u.name → t.piece_length ≡ u.piece_length → t.files ≡ u.files → t.trees ≡ u.trees → t.info_hash_v2 ≡ u.info_hash_v2 → t.info_hash_v1 ≡ u.info_hash_v1 → t.v1 ≡ u.v1 → t ≡ u
+same_description : (t u : Description) → t.name ≡ u.name → t.piece_length ≡ u.piece_length → t.files ≡ u.files → t.trees ≡ u.trees
+    → t.info_hash_v2 ≡ u.info_hash_v2 → t.info_hash_v1 ≡ u.info_hash_v1 → t.v1 ≡ u.v1 → t ≡ u
 same_description t u e0 e1 e2 e3 e4 e5 e6 =
     ap (λ (x : List ℕ). make x t.piece_length t.files t.trees t.info_hash_v2 t.info_hash_v1 t.v1) e0
     ∙ ap (λ (x : ℕ). make u.name x t.files t.trees t.info_hash_v2 t.info_hash_v1 t.v1) e1
@@ -66,7 +68,8 @@ same_description t u e0 e1 e2 e3 e4 e5 e6 =
 
 described_one : (v : Bencode) (t u : Description) → IsDescribed v t → IsDescribed v u → t ≡ u
 described_one v t u one other =
-    same_description t u (one.name ∙ sym other.name) (one.piece_length ∙ sym other.piece_length) (files_one _ _ t.files u.files one.files other.files) (one.trees ∙ sym other.trees)
+    same_description t u (one.name ∙ sym other.name) (one.piece_length ∙ sym other.piece_length) (files_one _ _ t.files u.files one.files other.files)
+        (one.trees ∙ sym other.trees)
     (one.info_hash_v2 ∙ sym other.info_hash_v2) (one.info_hash_v1 ∙ sym other.info_hash_v1) (one.v1 ∙ sym other.v1)
 
 -- what bencoding says of spellings and faults
@@ -97,7 +100,8 @@ no_both value fault b t r one other = elim other [
 
 same_fault : (f g : Fault) → f.kind ≡ g.kind → f.offset ≡ g.offset → f ≡ g
 same_fault f g kind offset =
-    ap (λ (k : FaultKind). let h : Fault = record { kind = k; offset = f.offset } in h) kind ∙ ap (λ (n : ℕ). let h : Fault = record { kind = g.kind; offset = n } in h) offset
+    ap (λ (k : FaultKind). let h : Fault = record { kind = k; offset = f.offset } in h) kind
+        ∙ ap (λ (n : ℕ). let h : Fault = record { kind = g.kind; offset = n } in h) offset
 
 pub refusal_is_one : OneValue → NoFault → OneFault → (b : List ℕ) (r s : Refusal) → RefusesTorrent b r → RefusesTorrent b s → r ≡ s
 refusal_is_one value fault one_fault b r s one other = elim one [
@@ -148,15 +152,19 @@ memory_or_not refusals.PathClash = inr (λ is. cc)
 memory_or_not refusals.Write = inr (λ is. cc)
 
 -- what is opened is what the bytes describe
-pub opens_only : ((b : List ℕ) (t u : Description) → Describes b t → Describes b u → t ≡ u) → ((b : List ℕ) (t : Description) (r : Refusal) → Describes b t → RefusesTorrent b r → ⊥)
-    → (b : List ℕ) (t : Description) (result : Result Description Refusal) → IfOk result (λ u. Describes b u) → IfErr result (λ r. r ≢ refusals.NoMemory → RefusesTorrent b r)
+pub opens_only : ((b : List ℕ) (t u : Description) → Describes b t → Describes b u → t ≡ u) → ((b : List ℕ) (t : Description) (r : Refusal) → Describes b t
+    → RefusesTorrent b r → ⊥)
+    → (b : List ℕ) (t : Description) (result : Result Description Refusal) → IfOk result (λ u. Describes b u)
+    → IfErr result (λ r. r ≢ refusals.NoMemory → RefusesTorrent b r)
     → Describes b t → MatchResult result (λ u. u ≡ t) (λ r. r ≡ refusals.NoMemory)
 opens_only one none b t (Ok u) told why described = one b u t told described
 opens_only one none b t (Err r) told why described = elim (memory_or_not r) [ inl is ↦ is | inr other ↦ absurd (none b t r described (why other)) ]
 
 -- what is refused is refused with the one answer
-pub answers_first : ((b : List ℕ) (t : Description) (r : Refusal) → Describes b t → RefusesTorrent b r → ⊥) → ((b : List ℕ) (r s : Refusal) → RefusesTorrent b r → RefusesTorrent b s → r ≡ s)
-    → (b : List ℕ) (r : Refusal) (result : Result Description Refusal) → IfOk result (λ u. Describes b u) → IfErr result (λ s. s ≢ refusals.NoMemory → RefusesTorrent b s)
+pub answers_first : ((b : List ℕ) (t : Description) (r : Refusal) → Describes b t → RefusesTorrent b r → ⊥) → ((b : List ℕ) (r s : Refusal) → RefusesTorrent b r
+    → RefusesTorrent b s → r ≡ s)
+    → (b : List ℕ) (r : Refusal) (result : Result Description Refusal) → IfOk result (λ u. Describes b u)
+    → IfErr result (λ s. s ≢ refusals.NoMemory → RefusesTorrent b s)
     → RefusesTorrent b r → MatchResult result (λ _. ⊥) (λ s. s ≢ refusals.NoMemory → s ≡ r)
 answers_first none one b r (Ok u) told why refused = none b u r told refused
 answers_first none one b r (Err s) told why refused = λ other. one b s r (why other) refused
@@ -189,7 +197,8 @@ described_by v =
     )
 
 -- bytes that spell a value describe a torrent, or are refused
-value_told : (b : List ℕ) (v : Bencode) → length b ≤ max_torrent → Spells v b → ((r : Refusal) × First (table v) r) ⊎ NoneHolds (table v) → ((t : Description) × Describes b t) ⊎ ((r : Refusal) × RefusesTorrent b r)
+value_told : (b : List ℕ) (v : Bencode) → length b ≤ max_torrent → Spells v b → ((r : Refusal) × First (table v) r) ⊎ NoneHolds (table v)
+    → ((t : Description) × Describes b t) ⊎ ((r : Refusal) × RefusesTorrent b r)
 value_told b v small spelled (inl first) = inr (first.0, inr (small, inr (v, spelled, first.1)))
 value_told b v small spelled (inr none) =
     let told = described_by v in

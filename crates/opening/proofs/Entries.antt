@@ -1,5 +1,6 @@
 -- The version 1 list of a hybrid, entry by entry.
-use Rattle.std.proofs.Common.{inl, inr, ◌≡◌, ℕ, ◌+◌, ◌<◌, ◌≤◌, Bool, true, false, ◌&&◌, if◌then◌else◌, nat_eq, List, [], ◌∷◌, length, drop, get_or, map, refl, sym, ap, ◌∙◌, arith, Bor}
+use Rattle.std.proofs.Common.{inl, inr, ◌≡◌, ℕ, ◌+◌, ◌<◌, ◌≤◌, Bool, true, false, ◌&&◌, if◌then◌else◌, nat_eq, List, [], ◌∷◌, length, drop, get_or, map, refl}
+use Rattle.std.proofs.Common.{sym, ap, ◌∙◌, arith, Bor}
 use Rattle.std.proofs.lemmas.List.{drop_more, drop_all, get_or-map, length-drop, length-map}
 use Rattle.std.proofs.lemmas.Bool.Decides.{eqb_tells}
 use Rattle.benc.specs.Value.{no_items, item}
@@ -11,7 +12,8 @@ use Rattle.opening.specs.declared.torrent.File.{File}
 use Rattle.filetree.specs.FileTree.{has_attribute}
 use Rattle.opening.specs.Matching.{is_text, are_texts, is_sized, is_entry_of, begins, are_same}
 
-pub items_more : (xs : List Value) (i : ℕ) (x : Value) → i < length xs → x ≡ get_or xs i x → items_view (drop i xs) ≡ item (view x) (items_view (drop (i + 1) xs))
+pub items_more : (xs : List Value) (i : ℕ) (x : Value) → i < length xs → x ≡ get_or xs i x
+    → items_view (drop i xs) ≡ item (view x) (items_view (drop (i + 1) xs))
 items_more xs i x lt is =
     let here : drop i xs ≡ x ∷ drop (i + 1) xs = drop_more xs i x lt ∙ ap (λ y. y ∷ drop (i + 1) xs) (sym is) in
     ap items_view here
@@ -74,7 +76,8 @@ pub texts_end : (xs : List Value) (i : ℕ) (ts : List (Bor (List ℕ))) (j : �
     → nat_eq j (length ts) ≡ are_texts (items_view (drop i xs)) (drop j (texts_of ts))
 texts_end xs i ts j end le =
     let same : length (texts_of ts) ≡ length ts = length-map ts (λ (s : Bor (List ℕ)). s.now) in
-    let all : nat_eq j (length (texts_of ts)) ≡ are_texts no_items (drop j (texts_of ts)) = none_left (are_texts no_items) refl (λ x ys. refl) (texts_of ts) j (omega arith) in
+    let all : nat_eq j (length (texts_of ts)) ≡ are_texts no_items (drop j (texts_of ts)) = none_left (are_texts no_items) refl (λ x ys. refl) (texts_of ts) j
+        (omega arith) in
     ap (nat_eq j) (sym same) ∙ all ∙ ap (λ v. are_texts v (drop j (texts_of ts))) (sym (items_end xs i end))
 
 -- ---- files
@@ -159,5 +162,6 @@ pub same_end : (xs : List Value) (i : ℕ) (fs : List File) (j : ℕ) → length
     → nat_eq j (length fs) ≡ are_same (items_view (drop i xs)) (drop j (map file_entry fs))
 same_end xs i fs j end le =
     let same : length (map file_entry fs) ≡ length fs = length-map fs file_entry in
-    let all : nat_eq j (length (map file_entry fs)) ≡ are_same no_items (drop j (map file_entry fs)) = none_left (are_same no_items) refl (λ x ys. refl) (map file_entry fs) j (omega arith) in
+    let all : nat_eq j (length (map file_entry fs)) ≡ are_same no_items (drop j (map file_entry fs)) = none_left (are_same no_items) refl (λ x ys. refl)
+        (map file_entry fs) j (omega arith) in
     ap (nat_eq j) (sym same) ∙ all ∙ ap (λ v. are_same v (drop j (map file_entry fs))) (sym (items_end xs i end))

@@ -1,5 +1,6 @@
 -- The trees of a torrent are the roots of its files in the order of first use.
-use Rattle.std.proofs.Common.{◌≡◌, ◌≢◌, ◌⊎◌, ℕ, zero, suc, ◌+◌, ◌<◌, ◌≤◌, List, [], ◌∷◌, ◌++◌, length, map, Option, Some, None, inl, inr, refl, sym, ap, subst, ◌∙◌, add-zero, zero-add, arith, slice_get}
+use Rattle.std.proofs.Common.{◌≡◌, ◌≢◌, ◌⊎◌, ℕ, zero, suc, ◌+◌, ◌<◌, ◌≤◌, List, [], ◌∷◌, ◌++◌, length, map, Option, Some, None, inl, inr, refl, sym, ap, subst}
+use Rattle.std.proofs.Common.{◌∙◌, add-zero, zero-add, arith, slice_get}
 use Rattle.std.specs.Prelude.{fold, option_and_then}
 use Rattle.std.specs.List.{list_any}
 use Rattle.std.proofs.lemmas.Bool.Decides.{eqb_tells}
@@ -43,7 +44,8 @@ within_front (z ∷ xs) ys zero x lt at = at
 within_front (z ∷ xs) ys (suc n) x lt at = within_front xs ys n x (omega arith) at
 
 -- the same root, once one file more was looked at
-still_first : (all : List ListedFile) (i : ℕ) (ts more : List Root) (n : ℕ) (t : Root) → slice_get ts n ≡ Some t → IsFirst all i ts n t → IsFirst all (suc i) (ts ++ more) n t
+still_first : (all : List ListedFile) (i : ℕ) (ts more : List Root) (n : ℕ) (t : Root) → slice_get ts n ≡ Some t → IsFirst all i ts n t
+    → IsFirst all (suc i) (ts ++ more) n t
 still_first all i ts more n t at h = record {
   number = h.number;
   file = h.file;
@@ -68,7 +70,8 @@ later_first all i ts n t h = record {
 }
 
 -- a root that no file before had
-new_first : (all : List ListedFile) (i : ℕ) (ts more : List Root) (x : ListedFile) (t : Root) → slice_get all i ≡ Some x → x.root ≡ Some t.root → x.length ≡ t.length
+new_first : (all : List ListedFile) (i : ℕ) (ts more : List Root) (x : ListedFile) (t : Root) → slice_get all i ≡ Some x → x.root ≡ Some t.root
+    → x.length ≡ t.length
     → place_in ts t.root ≡ None → AreFirst all i ts → IsFirst all (suc i) (ts ++ more) (length ts) t
 new_first all i ts more x t at is size none h = record {
   number = i;
@@ -86,7 +89,8 @@ new_first all i ts more x t at is size none h = record {
 }
 
 -- a file that brings no root
-kept : (all : List ListedFile) (i : ℕ) (ts : List Root) → ((f : ListedFile) (s : List ℕ) → slice_get all i ≡ Some f → f.root ≡ Some s → (n : ℕ) × (place_in ts s ≡ Some n))
+kept : (all : List ListedFile) (i : ℕ) (ts : List Root) → ((f : ListedFile) (s : List ℕ) → slice_get all i ≡ Some f → f.root ≡ Some s
+    → (n : ℕ) × (place_in ts s ≡ Some n))
     → AreFirst all i ts → AreFirst all (suc i) ts
 kept all i ts here h = record {
   each = λ n t at. later_first all i ts n t (h.each n t at);
@@ -131,7 +135,8 @@ step all i ts x at h = by_root x.root refl
       | inl there ↦
           let same : with_root ts x.length (Some s) ≡ ts = rw there.1 refl in
           subst (AreFirst all (suc i)) (sym same)
-          (kept all i ts (λ f q at_f root. let one : Some s ≡ Some q = that f q (Some s) is at_f root in let e : s ≡ q = cc in (there.0, subst (λ r. place_in ts r ≡ Some there.0) e there.1)) h)
+          (kept all i ts (λ f q at_f root. let one : Some s ≡ Some q = that f q (Some s) is at_f root in let e : s ≡ q = cc in
+              (there.0, subst (λ r. place_in ts r ≡ Some there.0) e there.1)) h)
       | inr none ↦
           let new : with_root ts x.length (Some s) ≡ ts ++ record { root = s; length = x.length } ∷ [] = rw none refl in
           subst (AreFirst all (suc i)) (sym new) (pushed all i ts x (record { root = s; length = x.length }) at is refl none h)
@@ -150,7 +155,8 @@ from_here all (x ∷ rest) i ts at h =
 
 roots_are_first : (fs : List ListedFile) → AreFirst fs (length fs) (roots_in fs)
 roots_are_first fs = subst (λ n. AreFirst fs n (roots_in fs)) (zero-add (length fs))
-    (from_here fs fs 0 [] (λ k f at. subst (λ n. slice_get fs n ≡ Some f) (sym (zero-add k)) at) (record { each = λ n t at. cc; placed = λ k f s lt at is. absurd (omega (arith, lt)) }))
+    (from_here fs fs 0 [] (λ k f at. subst (λ n. slice_get fs n ≡ Some f) (sym (zero-add k)) at)
+        (record { each = λ n t at. cc; placed = λ k f s lt at is. absurd (omega (arith, lt)) }))
 
 -- ---- the trees
 

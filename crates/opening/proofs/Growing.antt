@@ -22,7 +22,8 @@ never (t ∷ ts) r none told = elim told [ inl here ↦ none.0 here.1 | inr late
 -- no test of a key is answered with out of memory
 pub keys_take_none : (v : Bencode) → First (all_key_rows v) refusals.NoMemory → ⊥
 keys_take_none v told = never (all_key_rows v) refusals.NoMemory
-    ((λ e. cc), ((λ e. cc), ((λ e. cc), ((λ e. cc), ((λ e. cc), ((λ e. cc), ((λ e. cc), ((λ e. cc), ((λ e. cc), ((λ e. cc), ((λ e. cc), ((λ e. cc), ((λ e. cc), ((λ e. cc), tt)))))))))))))) told
+    ((λ e. cc), ((λ e. cc), ((λ e. cc), ((λ e. cc),
+        ((λ e. cc), ((λ e. cc), ((λ e. cc), ((λ e. cc), ((λ e. cc), ((λ e. cc), ((λ e. cc), ((λ e. cc), ((λ e. cc), ((λ e. cc), tt)))))))))))))) told
 
 -- the tests of the keys, and of the shape and the paths of this file tree
 pub plain_pass : (v : Bencode) (tree : Pairs) → NoneHolds (all_key_rows v) → tree ≡ file_tree_in v → NoneHolds (shape_rows tree) → NoneHolds (plain_rows v)
@@ -33,7 +34,8 @@ pub plain_passed : (v : Bencode) (tree : Pairs) → NoneHolds (all_key_rows v) �
 plain_passed v tree keys is rows = plain_pass v tree keys is (rows.0, (rows.1.0, tt))
 
 -- what is refused out of memory is a value for which none of the tests without memory holds
-pub wants_memory : (b : List ℕ) (v : Bencode) → length b ≤ max_torrent → Spells v b → (result : Result Description Refusal) → IfErr result (λ r. r ≡ refusals.NoMemory → NoneHolds (plain_rows v))
+pub wants_memory : (b : List ℕ) (v : Bencode) → length b ≤ max_torrent → Spells v b → (result : Result Description Refusal)
+    → IfErr result (λ r. r ≡ refusals.NoMemory → NoneHolds (plain_rows v))
     → IfErr result (λ r. r ≡ refusals.NoMemory → OpeningTakesMemory b)
 wants_memory b v small spelled (Ok t) told = told
 wants_memory b v small spelled (Err r) told = λ memory. record { small = small; where_taken = inr (v, spelled, told memory) }

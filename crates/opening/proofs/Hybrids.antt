@@ -1,5 +1,6 @@
 -- Reading the version 1 list of a hybrid entry by entry is reading it whole.
-use Rattle.std.proofs.Common.{inl, inr, ◌≡◌, ℕ, Bool, true, false, not, cond, ◌&&◌, ◌||◌, if◌then◌else◌, nat_eq, is_some, is_none, List, [], ◌∷◌, map, filter, Option, Some, None, option_and_then, unwrap_or, refl, sym, ap, ◌∙◌, arith, codes}
+use Rattle.std.proofs.Common.{inl, inr, ◌≡◌, ℕ, Bool, true, false, not, cond, ◌&&◌, ◌||◌, if◌then◌else◌, nat_eq, is_some, is_none, List, [], ◌∷◌, map, filter}
+use Rattle.std.proofs.Common.{Option, Some, None, option_and_then, unwrap_or, refl, sym, ap, ◌∙◌, arith, codes}
 use Rattle.std.specs.List.{list_any}
 use Rattle.std.specs.Str.{bytes_eq}
 use Rattle.std.proofs.lemmas.Slice.Eq.{bytes_eq-Decides}
@@ -134,7 +135,8 @@ pad_whole v sized pad =
     ap (λ t. t || (not (has_attribute 112 v) && is_none (entry_part v).path)) (is_none_at (length_at v) (and_parts _ _ sized).1)
     ∙ ap (λ t. not t && is_none (entry_part v).path) pad
 
-file_whole : (v : Bencode) (path : List (List ℕ)) → is_sized v ≡ true → has_attribute 112 v ≡ false → (entry_part v).path ≡ Some path → is_broken (entry_part v) ≡ false
+file_whole : (v : Bencode) (path : List (List ℕ)) → is_sized v ≡ true → has_attribute 112 v ≡ false → (entry_part v).path ≡ Some path
+    → is_broken (entry_part v) ≡ false
 file_whole v path sized file at =
     ap (λ t. t || (not (has_attribute 112 v) && is_none (entry_part v).path)) (is_none_at (length_at v) (and_parts _ _ sized).1)
     ∙ ap (λ t. not t && is_none (entry_part v).path) file
@@ -223,11 +225,13 @@ other_step v vs [] true false s p e rest ps listed whole same =
 other_step v vs (f ∷ fs) true false s p e rest ps listed whole same =
     let b = parts_back v vs ps listed in
     let unbroken : list_any is_broken (entry_part v ∷ b.rest) ≡ false = ap (list_any is_broken) (sym b.parts) ∙ whole in
-    let both : named_part (entry_part v) ∷ files_in b.rest ≡ named_entry f ∷ map named_entry fs = sym (files_file (entry_part v) b.rest p) ∙ ap files_in (sym b.parts) ∙ same in
+    let both : named_part (entry_part v) ∷ files_in b.rest ≡ named_entry f ∷ map named_entry fs = sym (files_file (entry_part v) b.rest p)
+        ∙ ap files_in (sym b.parts) ∙ same in
     let head : named_part (entry_part v) ≡ named_entry f = cc in
     let tail : files_in b.rest ≡ map named_entry fs = cc in
     elim (and_cases (is_entry_of v f) (are_same vs fs) e) [
-      | inl other ↦ (let bad : true ≡ false = sym (head_is v f s p (or_parts (is_broken (entry_part v)) _ unbroken).0 head) ∙ other in let no_way : ⊥ = cc in no_way)
+      | inl other ↦ (let bad : true ≡ false = sym (head_is v f s p (or_parts (is_broken (entry_part v)) _ unbroken).0 head)
+          ∙ other in let no_way : ⊥ = cc in no_way)
       | inr other ↦ rest fs other b.rest b.behind (or_parts (is_broken (entry_part v)) _ unbroken).1 tail
     ]
 

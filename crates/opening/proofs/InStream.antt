@@ -1,5 +1,6 @@
 -- Each file of a hybrid lies in the version 1 stream, from its first piece on.
-use Rattle.std.proofs.Common.{inl, inr, ◌≡◌, ◌≢◌, ℕ, zero, suc, ◌+◌, ◌*◌, ◌<◌, ◌≤◌, Bool, true, false, nat_le, List, [], ◌∷◌, length, take, map, Option, Some, None, option_map, refl, sym, ap, subst, ◌∙◌, arith, slice_get, sum_by, if◌then◌else◌}
+use Rattle.std.proofs.Common.{inl, inr, ◌≡◌, ◌≢◌, ℕ, zero, suc, ◌+◌, ◌*◌, ◌<◌, ◌≤◌, Bool, true, false, nat_le, List, [], ◌∷◌, length, take, map, Option, Some}
+use Rattle.std.proofs.Common.{None, option_map, refl, sym, ap, subst, ◌∙◌, arith, slice_get, sum_by, if◌then◌else◌}
 use Rattle.std.proofs.lemmas.List.{take-map}
 use Rattle.std.proofs.lemmas.List.Sums.{sum_by-cons}
 use Rattle.std.proofs.lemmas.Option.{slice_get_within, slice_get-map}
@@ -8,7 +9,8 @@ use Rattle.opening.specs.Description.{FileEntry, Version1}
 use Rattle.filetree.specs.declared.files.ListedFile.{ListedFile}
 use Rattle.filetree.specs.Tests.{NoneHolds}
 use Rattle.opening.specs.Refusals.{hybrid_rows}
-use Rattle.opening.specs.Stream.{Part, Named, DiffersFromFiles, IsMisplaced, IsTooLong, IsVersion1, files_in, is_hybrid, length_in, named, named_part, parts_in, stream_length, the_parts, version1_of}
+use Rattle.opening.specs.Stream.{Part, Named, DiffersFromFiles, IsMisplaced, IsTooLong, IsVersion1, files_in, is_hybrid, length_in, named, named_part, parts_in}
+use Rattle.opening.specs.Stream.{stream_length, the_parts, version1_of}
 use Rattle.opening.specs.Trees.{AreFiles, entry_at, pieces_in}
 use Rattle.pieces.specs.Pieces.{pieces_of}
 use Rattle.opening.proofs.Aligned.{pieces_end}
@@ -93,14 +95,17 @@ in_stream k fs es ps files same placed n f at some out =
     let starts_there : stream_length (take h.number ps) ≢ pieces_end k (take h.number ps) = λ aligned. absurd (omega (arith, aligned, pieces, end, long)) in
     placed (record { number = h.number; part = h.part; there = h.there; no_pad = h.no_pad; some = omega (arith, long); elsewhere = starts_there })
 
-the_version : (k : ℕ) (info : Bencode) (ps : List Part) (v : Version1) (b : Bool) → is_hybrid info ≡ b → Some v ≡ (if b then Some (version1_of k ps info) else None)
+the_version : (k : ℕ) (info : Bencode) (ps : List Part) (v : Version1) (b : Bool) → is_hybrid info ≡ b
+    → Some v ≡ (if b then Some (version1_of k ps info) else None)
     → (is_hybrid info ≡ true) × (v.total ≡ stream_length ps)
 the_version k info ps v true e same = let part : v ≡ version1_of k ps info = cc in (e, ap (λ (w : Version1). w.total) part)
 the_version k info ps v false e same = let bad : ⊥ = cc in absurd bad
 
 -- the same of a hybrid for which no test holds
-pub hybrid_in_stream : (k : ℕ) (info : Bencode) (name : List ℕ) (fs : List ListedFile) (es : List FileEntry) (v : Version1) → NoneHolds (hybrid_rows k info name fs)
-    → IsVersion1 k info name (Some v) → AreFiles k fs es → (n : ℕ) (f : FileEntry) → slice_get es n ≡ Some f → 0 < f.length → f.first_piece * k + f.length ≤ v.total
+pub hybrid_in_stream : (k : ℕ) (info : Bencode) (name : List ℕ) (fs : List ListedFile) (es : List FileEntry) (v : Version1)
+    → NoneHolds (hybrid_rows k info name fs)
+    → IsVersion1 k info name (Some v) → AreFiles k fs es → (n : ℕ) (f : FileEntry) → slice_get es n ≡ Some f → 0 < f.length
+    → f.first_piece * k + f.length ≤ v.total
 hybrid_in_stream k info name fs es v rows is files n f at some =
     let h = the_version k info (the_parts (parts_in info name)) v (is_hybrid info) refl is in
     by_order (nat_le (f.first_piece * k + f.length) v.total) refl h.0 h.1
@@ -126,10 +131,12 @@ hybrid_in_pieces k info name fs v rows is =
     past : (o : Option (List Part)) → pieces_in k fs * k < stream_length (the_parts o) → (IsTooLong k (the_parts o) → ⊥) → DiffersFromFiles fs o
     past None more short = tt
     past (Some ps) more short = inr (λ same.
-        let pieces : sum_by (λ (x : Named). pieces_of k x.length) (files_in ps) ≡ pieces_in k fs = ap (sum_by (λ (x : Named). pieces_of k x.length)) same ∙ sum_named k fs in
+        let pieces : sum_by (λ (x : Named). pieces_of k x.length) (files_in ps) ≡ pieces_in k fs = ap (sum_by (λ (x : Named). pieces_of k x.length)) same
+            ∙ sum_named k fs in
         short (subst (λ n. n * k < stream_length ps) (sym pieces) more))
 
-    by_order : (b : Bool) → nat_le v.total (pieces_in k fs * k) ≡ b → is_hybrid info ≡ true → v.total ≡ stream_length (the_parts (parts_in info name)) → v.total ≤ pieces_in k fs * k
+    by_order : (b : Bool) → nat_le v.total (pieces_in k fs * k) ≡ b → is_hybrid info ≡ true → v.total ≡ stream_length (the_parts (parts_in info name))
+        → v.total ≤ pieces_in k fs * k
     by_order true e hybrid total = grind (arith, e)
     by_order false e hybrid total =
         let more : pieces_in k fs * k < v.total = grind (arith, e) in

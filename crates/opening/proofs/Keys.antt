@@ -23,7 +23,8 @@ pub name_there : (o : Option Bencode) (w : Bencode) (s : List ℕ) → o ≡ Som
 name_there o w s e is text = rw (e, is) text
 
 -- the piece length alone is of another kind
-pub third_kind : (info tree name number : Bencode) (ps : Pairs) (s : List ℕ) → get (codes "file tree") info ≡ Some tree → get (codes "name") info ≡ Some name → get (codes "piece length") info ≡ Some number
+pub third_kind : (info tree name number : Bencode) (ps : Pairs) (s : List ℕ) → get (codes "file tree") info ≡ Some tree → get (codes "name") info ≡ Some name
+    → get (codes "piece length") info ≡ Some number
     → as_dict tree ≡ Some ps → as_text name ≡ Some s → IsUtf8 s → as_int number ≡ None → First (kind_rows info) (refusals.WrongType keys.PieceLength)
 third_kind info tree name number ps s a b c x y u z =
     inr (of_kind as_dict _ tree ps a x, inr (λ h. h (name_there _ name s b y u), inl (other_kind as_int _ number c z, refl)))

@@ -29,7 +29,8 @@ pub pads_are : (p q n : ℕ) → 0 < q → p ≡ 16384 * q → (block_count n + 
 pads_are p q n some e =
     let moved : (n + 16383 + 16384 * (q - 1)) / 16384 ≡ block_count n + (q - 1) = omega arith in
     let whole : n + 16383 + 16384 * (q - 1) ≡ n + (p - 1) = omega (arith, e, some) in
-    ap (λ x. x / q) (sym moved) ∙ div-div-eq-div-mul (n + 16383 + 16384 * (q - 1)) 16384 q ∙ ap (λ x. x / (16384 * q)) whole ∙ ap (λ x. (n + (p - 1)) / x) (sym e)
+    ap (λ x. x / q) (sym moved) ∙ div-div-eq-div-mul (n + 16383 + 16384 * (q - 1)) 16384 q ∙ ap (λ x. x / (16384 * q)) whole
+        ∙ ap (λ x. (n + (p - 1)) / x) (sym e)
 
 -- a file longer than a piece has the layer
 pub layer_within : (p m n h : ℕ) → p ≡ 16384 * 2 ^ m → p < n → block_count n ≤ 2 ^ h → m ≤ h
@@ -39,11 +40,13 @@ layer_within p m n h e longer enough =
       | inr high ↦ high
     ]
 
-pub whole_layer : (p k n piece shape layer len : ℕ) → 14 ≤ k → p ≡ 2 ^ k → piece ≡ p → shape ≡ n → block_count piece ≤ 2 ^ layer → ((i : ℕ) → block_count piece ≤ 2 ^ i → layer ≤ i) → len ≡ pieces_of p n → len ≡ first_pad (block_count shape) layer
+pub whole_layer : (p k n piece shape layer len : ℕ) → 14 ≤ k → p ≡ 2 ^ k → piece ≡ p → shape ≡ n → block_count piece ≤ 2 ^ layer
+    → ((i : ℕ) → block_count piece ≤ 2 ^ i → layer ≤ i) → len ≡ pieces_of p n → len ≡ first_pad (block_count shape) layer
 whole_layer p k n piece shape layer len from is same_piece same_shape enough least e =
     let m = k - 14 in
     let all : k ≡ 14 + (k - 14) = omega arith in
     let power : p ≡ 16384 * 2 ^ m = piece_is p m (is ∙ ap (λ x. 2 ^ x) all) in
     let exponent : layer ≡ m = layer_is piece m layer (same_piece ∙ power) enough least in
     let some : 0 < 2 ^ m = pow_mono {i = 0} {j = m} (omega arith) in
-    e ∙ sym (pads_are p (2 ^ m) n some power) ∙ ap (λ x. first_pad (block_count x) m) (sym same_shape) ∙ ap (λ x. first_pad (block_count shape) x) (sym exponent)
+    e ∙ sym (pads_are p (2 ^ m) n some power) ∙ ap (λ x. first_pad (block_count x) m) (sym same_shape)
+        ∙ ap (λ x. first_pad (block_count shape) x) (sym exponent)

@@ -1,5 +1,6 @@
 -- The list of files: one entry for each, where its first piece is the number of pieces before it.
-use Rattle.std.proofs.Common.{◌≡◌, ℕ, zero, suc, ◌+◌, ◌^◌, ◌<◌, List, [], ◌∷◌, length, take, map, Some, refl, sym, ap, subst, ◌∙◌, arith, slice_get, sum_by, add-zero, zero-add}
+use Rattle.std.proofs.Common.{◌≡◌, ℕ, zero, suc, ◌+◌, ◌^◌, ◌<◌, List, [], ◌∷◌, length, take, map, Some, refl, sym, ap, subst, ◌∙◌, arith, slice_get, sum_by}
+use Rattle.std.proofs.Common.{add-zero, zero-add}
 use Rattle.std.specs.Prelude.{option_and_then}
 use Rattle.std.proofs.lemmas.List.Sums.{sum_by-cons}
 use Rattle.opening.specs.Description.{FileEntry}
@@ -34,14 +35,16 @@ entries_at p ts first (g ∷ fs) (suc k) f at =
 pub are_files : (p : ℕ) (fs : List ListedFile) (es : List FileEntry) → es ≡ entries_from p (roots_in fs) 0 fs → AreFiles p fs es
 are_files p fs es is = record {
   count = ap length is ∙ entries_count p (roots_in fs) 0 fs;
-  each = λ k f at. ap (λ t. slice_get t k) is ∙ entries_at p (roots_in fs) 0 fs k f at ∙ ap (λ n. Some (entry (roots_in fs) n f)) (zero-add (pieces_in p (take k fs)));
+  each = λ k f at. ap (λ t. slice_get t k) is ∙ entries_at p (roots_in fs) 0 fs k f at
+      ∙ ap (λ n. Some (entry (roots_in fs) n f)) (zero-add (pieces_in p (take k fs)));
 }
 
 pub named_entries : (p : ℕ) (ts : List Root) (first : ℕ) (fs : List ListedFile) → map named_entry (entries_from p ts first fs) ≡ map named fs
 named_entries p ts first [] = refl
 named_entries p ts first (f ∷ fs) = ap (λ t. named f ∷ t) (named_entries p ts (first + pieces_of p f.length) fs)
 
-sum_entries : (p : ℕ) (ts : List Root) (first k : ℕ) (fs : List ListedFile) → sum_by (λ (g : FileEntry). pieces_of p g.length) (take k (entries_from p ts first fs)) ≡ pieces_in p (take k fs)
+sum_entries : (p : ℕ) (ts : List Root) (first k : ℕ) (fs : List ListedFile)
+    → sum_by (λ (g : FileEntry). pieces_of p g.length) (take k (entries_from p ts first fs)) ≡ pieces_in p (take k fs)
 sum_entries p ts first zero fs = refl
 sum_entries p ts first (suc k) [] = refl
 sum_entries p ts first (suc k) (f ∷ fs) =
@@ -49,7 +52,8 @@ sum_entries p ts first (suc k) (f ∷ fs) =
     ∙ ap (λ n. pieces_of p f.length + n) (sum_entries p ts (first + pieces_of p f.length) k fs)
     ∙ sym (sum_by-cons (λ (g : ListedFile). pieces_of p g.length) f (take k fs))
 
-pub sum_all : (p : ℕ) (ts : List Root) (first : ℕ) (fs : List ListedFile) → sum_by (λ (g : FileEntry). pieces_of p g.length) (entries_from p ts first fs) ≡ pieces_in p fs
+pub sum_all : (p : ℕ) (ts : List Root) (first : ℕ) (fs : List ListedFile)
+    → sum_by (λ (g : FileEntry). pieces_of p g.length) (entries_from p ts first fs) ≡ pieces_in p fs
 sum_all p ts first [] = refl
 sum_all p ts first (f ∷ fs) =
     sum_by-cons (λ (g : FileEntry). pieces_of p g.length) (entry ts first f) (entries_from p ts (first + pieces_of p f.length) fs)

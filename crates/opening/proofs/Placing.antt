@@ -1,5 +1,6 @@
 -- Files that are laid out one after the other: at an address there is one candidate.
-use Rattle.std.proofs.Common.{◌≡◌, ℕ, zero, suc, ◌+◌, ◌-◌, ◌*◌, ◌/◌, ◌%◌, ◌^◌, ◌<◌, ◌≤◌, Bool, true, false, List, [], ◌∷◌, length, map, take, get_or, Option, Some, None, option_map, refl, sym, ap, subst, ◌∙◌, arith, inl, inr}
+use Rattle.std.proofs.Common.{◌≡◌, ℕ, zero, suc, ◌+◌, ◌-◌, ◌*◌, ◌/◌, ◌%◌, ◌^◌, ◌<◌, ◌≤◌, Bool, true, false, List, [], ◌∷◌, length, map, take, get_or, Option}
+use Rattle.std.proofs.Common.{Some, None, option_map, refl, sym, ap, subst, ◌∙◌, arith, inl, inr}
 use Rattle.std.specs.Prelude.{sum_by, slice_get, IfSome, nat_le, nat_lt, if◌then◌else◌, ◌&&◌, ◌==◌}
 use Rattle.std.proofs.lemmas.Bool.Decides.{nat_tests}
 use Rattle.std.proofs.lemmas.List.Sums.{sum_by-take-le, sum_by_more}
@@ -41,7 +42,8 @@ both_true false y z e = cc
 
 pub covers : (p a : ℕ) (f : FileEntry) → 0 < p → begins_in p a f ≡ true → IsInPieces p a f
 covers p a f h e =
-    let parts = both_true (nat_le (f.first_piece * p) a) (((a - f.first_piece * p) % 16384) == 0) (nat_lt ((a - f.first_piece * p) / 16384) (block_count f.length)) e in
+    let parts = both_true (nat_le (f.first_piece * p) a) (((a - f.first_piece * p) % 16384) == 0)
+        (nat_lt ((a - f.first_piece * p) / 16384) (block_count f.length)) e in
     let from : f.first_piece * p ≤ a = grind (arith, nat_tests, parts.0) in
     let at_block : (a - f.first_piece * p) % 16384 ≡ 0 = grind (arith, nat_tests, parts.1) in
     let in_file : (a - f.first_piece * p) / 16384 < block_count f.length = grind (arith, nat_tests, parts.2) in
@@ -49,7 +51,8 @@ covers p a f h e =
     let cover = pieces_cover p f.length h in (from, omega (arith, from, inside, cover))
 
 -- a file ends where the next one begins, or before it
-pub sum_grows : (p j i : ℕ) (fs : List FileEntry) (f : FileEntry) → slice_get fs j ≡ Some f → j < i → sum_by (λ g. pieces_of p g.length) (take j fs) + pieces_of p f.length ≤ sum_by (λ g. pieces_of p g.length) (take i fs)
+pub sum_grows : (p j i : ℕ) (fs : List FileEntry) (f : FileEntry) → slice_get fs j ≡ Some f → j < i
+    → sum_by (λ g. pieces_of p g.length) (take j fs) + pieces_of p f.length ≤ sum_by (λ g. pieces_of p g.length) (take i fs)
 sum_grows p j i fs f e lt =
     let F : FileEntry → ℕ = λ g. pieces_of p g.length in
     let inside = slice_get_within fs j f e in
@@ -64,7 +67,8 @@ pub place_none : (p a k : ℕ) (fs : List FileEntry) → ((j : ℕ) (f : FileEnt
 place_none p a k [] h = refl
 place_none p a k (f ∷ fs) h = rw (h 0 f refl) (place_none p a (suc k) fs (λ j g e. h (suc j) g e))
 
-pub place_some : (p a k j : ℕ) (fs : List FileEntry) (f : FileEntry) → slice_get fs j ≡ Some f → begins_in p a f ≡ true → ((i : ℕ) (g : FileEntry) → i < j → slice_get fs i ≡ Some g → begins_in p a g ≡ false)
+pub place_some : (p a k j : ℕ) (fs : List FileEntry) (f : FileEntry) → slice_get fs j ≡ Some f → begins_in p a f ≡ true
+    → ((i : ℕ) (g : FileEntry) → i < j → slice_get fs i ≡ Some g → begins_in p a g ≡ false)
     → place_from p a k fs ≡ Some (k + j, (a - f.first_piece * p) / 16384)
 place_some p a k j [] f e t h = cc
 place_some p a k zero (g ∷ gs) f e t h =
@@ -90,7 +94,8 @@ candidate p a c j fs f h laid within low high e begins =
     let less : a % p < p = omega (arith, h) in
     let from : f.first_piece ≤ a / p = quotient_from p a f.first_piece h cover.0 in
     let inside = slice_get_within fs j f e in
-    let below : j < c = elim (cases_lt j c) as (λ _. j < c) [ inl lt ↦ lt | inr le ↦ let above : a / p < f.first_piece = high j f le e in absurd (omega (arith, above, from)) ] in
+    let below : j < c = elim (cases_lt j c) as (λ _. j < c) [ inl lt ↦ lt | inr le ↦ let above : a / p < f.first_piece = high j f le e in
+        absurd (omega (arith, above, from)) ] in
     elim (cases_lt (suc j) c) as (λ _. suc j ≡ c) [
       | inl lt ↦
           let last = get_or fs (c - 1) f in
@@ -106,7 +111,8 @@ candidate p a c j fs f h laid within low high e begins =
     ]
 
 -- a block that begins at the address does so in the sense of the test
-pub place_begins : (p a : ℕ) (f : FileEntry) (b : ℕ) → b < block_count f.length → a ≡ f.first_piece * p + 16384 * b → (begins_in p a f ≡ true) × ((a - f.first_piece * p) / 16384 ≡ b)
+pub place_begins : (p a : ℕ) (f : FileEntry) (b : ℕ) → b < block_count f.length → a ≡ f.first_piece * p + 16384 * b
+    → (begins_in p a f ≡ true) × ((a - f.first_piece * p) / 16384 ≡ b)
 place_begins p a f b lt e =
     let off : a - f.first_piece * p ≡ 16384 * b = omega (arith, e) in
     let is_block : (a - f.first_piece * p) / 16384 ≡ b = omega (arith, off) in
@@ -116,16 +122,19 @@ place_begins p a f b lt e =
     (grind (arith, nat_tests), is_block)
 
 -- and the other way round
-pub begins_place : (p a : ℕ) (f : FileEntry) → begins_in p a f ≡ true → ((a - f.first_piece * p) / 16384 < block_count f.length) × (a ≡ f.first_piece * p + 16384 * ((a - f.first_piece * p) / 16384))
+pub begins_place : (p a : ℕ) (f : FileEntry) → begins_in p a f ≡ true → ((a - f.first_piece * p) / 16384 < block_count f.length)
+    × (a ≡ f.first_piece * p + 16384 * ((a - f.first_piece * p) / 16384))
 begins_place p a f e =
-    let parts = both_true (nat_le (f.first_piece * p) a) (((a - f.first_piece * p) % 16384) == 0) (nat_lt ((a - f.first_piece * p) / 16384) (block_count f.length)) e in
+    let parts = both_true (nat_le (f.first_piece * p) a) (((a - f.first_piece * p) % 16384) == 0)
+        (nat_lt ((a - f.first_piece * p) / 16384) (block_count f.length)) e in
     let from : f.first_piece * p ≤ a = grind (arith, nat_tests, parts.0) in
     let at_block : (a - f.first_piece * p) % 16384 ≡ 0 = grind (arith, nat_tests, parts.1) in
     let in_file : (a - f.first_piece * p) / 16384 < block_count f.length = grind (arith, nat_tests, parts.2) in
     (in_file, omega (arith, from, at_block))
 
 -- no two files cover an address
-pub one_covers : (p a i j : ℕ) (fs : List FileEntry) (f g : FileEntry) → AreLaidOut p fs → slice_get fs i ≡ Some f → slice_get fs j ≡ Some g → i < j → IsInPieces p a f → IsInPieces p a g → ⊥
+pub one_covers : (p a i j : ℕ) (fs : List FileEntry) (f g : FileEntry) → AreLaidOut p fs → slice_get fs i ≡ Some f → slice_get fs j ≡ Some g → i < j
+    → IsInPieces p a f → IsInPieces p a g → ⊥
 one_covers p a i j fs f g laid e e' lt cover cover' =
     let grows = sum_grows p i j fs f e lt in
     let ends : f.first_piece + pieces_of p f.length ≤ g.first_piece = omega (arith, grows, laid.first_pieces i f e, laid.first_pieces j g e') in
@@ -134,9 +143,11 @@ one_covers p a i j fs f g laid e e' lt cover cover' =
 
 -- ---- what the search finds
 
-pub place_at_none : (p a : ℕ) (fs : List FileEntry) → 0 < p → AreLaidOut p fs → ((k : ℕ) (g : FileEntry) → 0 ≤ k → slice_get fs k ≡ Some g → a / p < g.first_piece) → place_from p a 0 fs ≡ None
+pub place_at_none : (p a : ℕ) (fs : List FileEntry) → 0 < p → AreLaidOut p fs → ((k : ℕ) (g : FileEntry) → 0 ≤ k → slice_get fs k ≡ Some g
+    → a / p < g.first_piece) → place_from p a 0 fs ≡ None
 place_at_none p a fs h laid high =
-    place_none p a 0 fs (λ j f e. false_or_true _ (λ begins. let none : suc j ≡ 0 = candidate p a 0 j fs f h laid (omega arith) (λ k g lt e'. absurd (omega arith)) high e begins in absurd (omega arith)))
+    place_none p a 0 fs (λ j f e. false_or_true _ (λ begins. let none : suc j ≡ 0 = candidate p a 0 j fs f h laid (omega arith)
+        (λ k g lt e'. absurd (omega arith)) high e begins in absurd (omega arith)))
 
 pub place_at_some : (p a n : ℕ) (fs : List FileEntry) (f : FileEntry) → 0 < p → AreLaidOut p fs
     → ((k : ℕ) (g : FileEntry) → k < suc n → slice_get fs k ≡ Some g → g.first_piece ≤ a / p)
@@ -144,9 +155,11 @@ pub place_at_some : (p a n : ℕ) (fs : List FileEntry) (f : FileEntry) → 0 < 
     → slice_get fs n ≡ Some f → place_from p a 0 fs ≡ (if begins_in p a f then Some (n, (a - f.first_piece * p) / 16384) else None)
 place_at_some p a n fs f h laid low high e =
     let inside = slice_get_within fs n f e in
-    let only : (j : ℕ) (g : FileEntry) → slice_get fs j ≡ Some g → begins_in p a g ≡ true → suc j ≡ suc n = λ j g e' begins. candidate p a (suc n) j fs g h laid (omega (arith, inside)) low high e' begins in
+    let only : (j : ℕ) (g : FileEntry) → slice_get fs j ≡ Some g → begins_in p a g ≡ true
+        → suc j ≡ suc n = λ j g e' begins. candidate p a (suc n) j fs g h laid (omega (arith, inside)) low high e' begins in
     elim (true_or_false (begins_in p a f)) [
-      | inl begun ↦ rw begun (let number : 0 + n ≡ n = omega arith in subst (λ x. place_from p a 0 fs ≡ Some (x, (a - f.first_piece * p) / 16384)) number (place_some p a 0 n fs f e begun (λ i g lt e'. false_or_true _ (λ begins. let same = only i g e' begins in absurd (omega (arith, same))))))
+      | inl begun ↦ rw begun (let number : 0 + n ≡ n = omega arith in subst (λ x. place_from p a 0 fs ≡ Some (x, (a - f.first_piece * p) / 16384)) number
+          (place_some p a 0 n fs f e begun (λ i g lt e'. false_or_true _ (λ begins. let same = only i g e' begins in absurd (omega (arith, same))))))
       | inr not ↦ rw not (place_none p a 0 fs (λ j g e'. false_or_true _ (λ begins.
           let same : j ≡ n = let s = only j g e' begins in omega (arith, s) in
           let here : slice_get fs n ≡ Some g = rw (← same) e' in
@@ -162,7 +175,8 @@ numbered n x = Some (n, x)
 some_pair : (x y : ℕ × ℕ) → Some x ≡ Some y → x ≡ y
 some_pair x y e = cc
 
-pub found_in : (p a k : ℕ) (fs : List FileEntry) (j b : ℕ) → place_from p a k fs ≡ Some (j, b) → (g : FileEntry) × (k ≤ j) × (slice_get fs (j - k) ≡ Some g) × (begins_in p a g ≡ true) × (b ≡ (a - g.first_piece * p) / 16384)
+pub found_in : (p a k : ℕ) (fs : List FileEntry) (j b : ℕ) → place_from p a k fs ≡ Some (j, b) → (g : FileEntry) × (k ≤ j) × (slice_get fs (j - k) ≡ Some g)
+    × (begins_in p a g ≡ true) × (b ≡ (a - g.first_piece * p) / 16384)
 found_in p a k [] j b e = cc
 found_in p a k (f ∷ fs) j b e =
     elim (true_or_false (begins_in p a f)) [
@@ -190,13 +204,16 @@ place_is_found t i b f n e =
       address = omega (arith, begins.1, found.4);
     }
 
-pub place_is_only : (t : Description) (i b f n : ℕ) → 0 < t.piece_length → AreLaidOut t.piece_length t.files → IsBlockPlace t i b f n → place_of t i b ≡ Some (f, n)
+pub place_is_only : (t : Description) (i b f n : ℕ) → 0 < t.piece_length → AreLaidOut t.piece_length t.files → IsBlockPlace t i b f n
+    → place_of t i b ≡ Some (f, n)
 place_is_only t i b f n h laid place =
     let p = t.piece_length in
     let a = i * t.piece_length + b in
     let here = place_begins p a place.file n place.in_file place.address in
     let some : place_from p a 0 t.files ≡ Some (0 + f, (a - place.file.first_piece * p) / 16384)
-    = place_some p a 0 f t.files place.file place.there here.0 (λ j g lt e. false_or_true _ (λ begins. one_covers p a j f t.files g place.file laid e place.there lt (covers p a g h begins) (covers p a place.file h here.0))) in
+    = place_some p a 0 f t.files place.file place.there here.0
+        (λ j g lt e. false_or_true _ (λ begins. one_covers p a j f t.files g place.file laid e place.there lt (covers p a g h begins)
+        (covers p a place.file h here.0))) in
     let number : 0 + f ≡ f = omega arith in
     some ∙ rw (number, here.1) refl
 
@@ -222,19 +239,23 @@ first_pieces_rise p xs laid i j d le lt =
     let less_here : sum_by F (take i fs) ≤ sum_by F (take j fs) = subst (λ ys. sum_by F ys ≤ sum_by F (take j fs)) cut less in
     omega (arith, one, two, less_here)
 
-pub search_none : (p a : ℕ) (xs : List File) → 0 < p → AreLaidOut p (map file_entry xs) → AllWithin (λ (f : File). a / p < f.first_piece) xs 0 (length xs) → place_from p a 0 (map file_entry xs) ≡ None
+pub search_none : (p a : ℕ) (xs : List File) → 0 < p → AreLaidOut p (map file_entry xs) → AllWithin (λ (f : File). a / p < f.first_piece) xs 0 (length xs)
+    → place_from p a 0 (map file_entry xs) ≡ None
 search_none p a [] h laid high = refl
 search_none p a (x ∷ xs) h laid high =
     place_at_none p a (map file_entry (x ∷ xs)) h laid
-    (λ k g from e. let back = seen_back (x ∷ xs) k x g e in let at : a / p < (get_or (x ∷ xs) k x).first_piece = high k x from back.0 in let first = ap (λ (f : FileEntry). f.first_piece) back.1 in omega (arith, at, first))
+    (λ k g from e. let back = seen_back (x ∷ xs) k x g e in let at : a / p < (get_or (x ∷ xs) k x).first_piece = high k x from back.0 in let first =
+        ap (λ (f : FileEntry). f.first_piece) back.1 in omega (arith, at, first))
 
 pub search_some : (p a n : ℕ) (xs : List File) (x : File) → 0 < p → AreLaidOut p (map file_entry xs) → n < length xs → x ≡ get_or xs n x
     → AllWithin (λ (f : File). f.first_piece ≤ a / p) xs 0 (suc n) → AllWithin (λ (f : File). a / p < f.first_piece) xs (suc n) (length xs)
     → place_from p a 0 (map file_entry xs) ≡ (if begins_in p a (file_entry x) then Some (n, (a - x.first_piece * p) / 16384) else None)
 search_some p a n xs x h laid lt is low high =
     place_at_some p a n (map file_entry xs) (file_entry x) h laid
-    (λ k g less e. let back = seen_back xs k x g e in let at : (get_or xs k x).first_piece ≤ a / p = low k x (omega arith) less in let first = ap (λ (f : FileEntry). f.first_piece) back.1 in omega (arith, at, first))
-    (λ k g from e. let back = seen_back xs k x g e in let at : a / p < (get_or xs k x).first_piece = high k x from back.0 in let first = ap (λ (f : FileEntry). f.first_piece) back.1 in omega (arith, at, first))
+    (λ k g less e. let back = seen_back xs k x g e in let at : (get_or xs k x).first_piece ≤ a / p = low k x (omega arith) less in let first =
+        ap (λ (f : FileEntry). f.first_piece) back.1 in omega (arith, at, first))
+    (λ k g from e. let back = seen_back xs k x g e in let at : a / p < (get_or xs k x).first_piece = high k x from back.0 in let first =
+        ap (λ (f : FileEntry). f.first_piece) back.1 in omega (arith, at, first))
     (seen_at xs n x lt ∙ ap (λ f. Some (file_entry f)) (sym is))
 
 -- what the file at hand tells
@@ -247,7 +268,8 @@ no_place true x n r e is = cc
 no_place false x n r e is = sym is
 
 -- an address of a file lies below 2 ^ 62
-pub start_fits : (p : ℕ) (xs : List File) (n : ℕ) (x : File) → p ≤ 2 ^ 30 → AreLaidOut p (map file_entry xs) → n < length xs → x ≡ get_or xs n x → x.first_piece * p < 2 ^ 64
+pub start_fits : (p : ℕ) (xs : List File) (n : ℕ) (x : File) → p ≤ 2 ^ 30 → AreLaidOut p (map file_entry xs) → n < length xs → x ≡ get_or xs n x
+    → x.first_piece * p < 2 ^ 64
 start_fits p xs n x le laid lt is =
     let F : FileEntry → ℕ = λ g. pieces_of p g.length in
     let first = laid.first_pieces n (file_entry x) (seen_at xs n x lt ∙ ap (λ f. Some (file_entry f)) (sym is)) in

@@ -1,5 +1,6 @@
 -- Roots in the order of first use.
-use Rattle.std.proofs.Common.{◌≡◌, ◌≢◌, ℕ, zero, suc, ◌+◌, ◌<◌, drop, get_or, Bool, true, false, cond, List, [], ◌∷◌, ◌++◌, length, Option, Some, None, option_map, map, ◌⊎◌, inl, inr, refl, sym, ap, subst, ◌∙◌}
+use Rattle.std.proofs.Common.{◌≡◌, ◌≢◌, ℕ, zero, suc, ◌+◌, ◌<◌, drop, get_or, Bool, true, false, cond, List, [], ◌∷◌, ◌++◌, length, Option, Some, None}
+use Rattle.std.proofs.Common.{option_map, map, ◌⊎◌, inl, inr, refl, sym, ap, subst, ◌∙◌}
 use Rattle.filetree.proofs.Paths.{is_equal}
 use Rattle.std.specs.Prelude.{◌==◌, slice_get, fold, take, if◌then◌else◌, IfSome}
 use Rattle.std.specs.Cmp.Lexicographic.{slice_cmp}
@@ -83,7 +84,8 @@ numbered_push g h ts t none places more q =
           more q ∙ rw here (sym (place_push_new ts t q (subst (λ k. place_in ts k ≡ None) same none) same))
       | inr other ↦
           more q ∙ rw other (places q ∙ sym (place_push_other ts t q (λ same.
-          let tied : is_eq (slice_cmp nat_cmp t.root q) ≡ true = subst (λ k. is_eq (slice_cmp nat_cmp t.root k) ≡ true) same (ap is_eq (tied_itself nat_list_cmp_total t.root)) in cc)))
+          let tied : is_eq (slice_cmp nat_cmp t.root q) ≡ true = subst (λ k. is_eq (slice_cmp nat_cmp t.root k) ≡ true) same
+              (ap is_eq (tied_itself nat_list_cmp_total t.root)) in cc)))
     ]
 
 pub root_is_at : (ts : List Root) (s : List ℕ) (n size : ℕ) (t : Root) → place_in ts s ≡ Some n → slice_get ts n ≡ Some t → t.length ≡ size → IsRootAt ts s size
@@ -160,7 +162,8 @@ some_or_none None = inr refl
 some_or_none (Some n) = inl (n, refl)
 
 -- a root is there already, or is put behind the others
-pub with_cases : (ts : List Root) (size : ℕ) (s : List ℕ) → (with_root ts size (Some s) ≡ ts) ⊎ ((place_in ts s ≡ None) × (with_root ts size (Some s) ≡ ts ++ record { root = s; length = size } ∷ []))
+pub with_cases : (ts : List Root) (size : ℕ) (s : List ℕ) → (with_root ts size (Some s) ≡ ts)
+    ⊎ ((place_in ts s ≡ None) × (with_root ts size (Some s) ≡ ts ++ record { root = s; length = size } ∷ []))
 with_cases ts size s =
     elim (some_or_none (place_in ts s)) [
       | inl there ↦ inl (rw there.1 refl)
@@ -179,16 +182,20 @@ keeps_root ts t s size h = record {
 pub roots_none : (fs : List ListedFile) (ts : List Root) (f : ListedFile) → f.root ≡ None → AreRoots fs ts → AreRoots (fs ++ f ∷ []) ts
 roots_none fs ts f none h = record {
   roots = h.roots ∙ sym (fold_push [] fs f ∙ ap (with_root (roots_in fs) f.length) none);
-  each = λ g s there is. elim (in_cases fs f g there) [ inl old ↦ h.each g s old is | inr new ↦ let same : f.root ≡ g.root = ap (λ (l : ListedFile). l.root) new in cc ];
+  each = λ g s there is. elim (in_cases fs f g there) [ inl old ↦ h.each g s old is | inr new ↦ let same : f.root ≡ g.root =
+      ap (λ (l : ListedFile). l.root) new in cc ];
   used = λ n t e. let old = h.used n t e in (old.0, in_front fs f old.0 old.1, old.2, old.3);
 }
 
-pub roots_some : (fs : List ListedFile) (ts us : List Root) (f : ListedFile) (s : List ℕ) → f.root ≡ Some s → us ≡ with_root ts f.length (Some s) → IsRootAt us s f.length → AreRoots fs ts → AreRoots (fs ++ f ∷ []) us
+pub roots_some : (fs : List ListedFile) (ts us : List Root) (f : ListedFile) (s : List ℕ) → f.root ≡ Some s → us ≡ with_root ts f.length (Some s)
+    → IsRootAt us s f.length → AreRoots fs ts → AreRoots (fs ++ f ∷ []) us
 roots_some fs ts us f s is after here h = record {
   roots = after ∙ ap (λ ts. with_root ts f.length (Some s)) h.roots ∙ sym (fold_push [] fs f ∙ ap (with_root (roots_in fs) f.length) is);
   each = λ g q there is_g. elim (in_cases fs f g there) [
     | inl old ↦ kept q g.length (h.each g q old is_g)
-    | inr new ↦ let same : Some s ≡ Some q = sym is ∙ ap (λ (l : ListedFile). l.root) new ∙ is_g in let one : s ≡ q = cc in subst (λ (k : List ℕ). IsRootAt us k g.length) one (subst (λ (n : ℕ). IsRootAt us s n) (ap (λ (l : ListedFile). l.length) new) here)
+    | inr new ↦ let same : Some s ≡ Some q = sym is ∙ ap (λ (l : ListedFile). l.root) new
+        ∙ is_g in let one : s ≡ q = cc in subst (λ (k : List ℕ). IsRootAt us k g.length) one
+        (subst (λ (n : ℕ). IsRootAt us s n) (ap (λ (l : ListedFile). l.length) new) here)
   ];
   used = λ n t e. elim (with_cases ts f.length s) [
     | inl same ↦ let old = h.used n t (subst (λ vs. slice_get vs n ≡ Some t) (after ∙ same) e) in (old.0, in_front fs f old.0 old.1, old.2, old.3)
@@ -206,7 +213,8 @@ roots_some fs ts us f s is after here h = record {
     ]
 
 -- a file with another length than its root
-pub reused : (all fs : List ListedFile) (ts : List Root) (f : ListedFile) (s : List ℕ) (n : ℕ) (t : Root) → ((g : ListedFile) → IsIn fs g → IsIn all g) → IsIn all f → f.root ≡ Some s → AreRoots fs ts
+pub reused : (all fs : List ListedFile) (ts : List Root) (f : ListedFile) (s : List ℕ) (n : ℕ) (t : Root) → ((g : ListedFile) → IsIn fs g → IsIn all g)
+    → IsIn all f → f.root ≡ Some s → AreRoots fs ts
     → place_in ts s ≡ Some n → slice_get ts n ≡ Some t → t.length ≢ f.length → IsReused all
 reused all fs ts f s n t within f_in is h place there differs =
     let other = h.used n t there in
@@ -259,4 +267,5 @@ pub files_step : (p : ℕ) (ts : List Root) (all rest : List ListedFile) (es : L
     → record { path = f.path; length = f.length; tree = option_and_then (place_in ts) f.root; first_piece = first } ≡ e → first + pieces_of p f.length ≡ next
     → entries_from p ts 0 all ≡ es ++ entries_from p ts first (f ∷ rest) → entries_from p ts 0 all ≡ (es ++ e ∷ []) ++ entries_from p ts next rest
 files_step p ts all rest es first next f e is more h =
-    h ∙ ap (λ (x : FileEntry). es ++ x ∷ entries_from p ts (first + pieces_of p f.length) rest) is ∙ ap (λ n. es ++ e ∷ entries_from p ts n rest) more ∙ sym (append_assoc es (e ∷ []) (entries_from p ts next rest))
+    h ∙ ap (λ (x : FileEntry). es ++ x ∷ entries_from p ts (first + pieces_of p f.length) rest) is ∙ ap (λ n. es ++ e ∷ entries_from p ts n rest) more
+        ∙ sym (append_assoc es (e ∷ []) (entries_from p ts next rest))

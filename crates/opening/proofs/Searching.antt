@@ -22,7 +22,8 @@ seen_key x = ap (λ (s : Seen). s.0) (view-Pair x.key x.value)
 seen_value : (x : Pair) → (pair_view x).1 ≡ view x.value
 seen_value x = ap (λ (s : Seen). s.1) (view-Pair x.key x.value)
 
-pub under_some : (xs : List Pair) (i : ℕ) (d : Pair) (k : List ℕ) → i < length xs → (get_or xs i d).key.now ≡ k → ((j : ℕ) → j < i → (get_or xs j d).key.now ≡ k → ⊥) → under k (pairs_view xs) ≡ Some (view (get_or xs i d).value)
+pub under_some : (xs : List Pair) (i : ℕ) (d : Pair) (k : List ℕ) → i < length xs → (get_or xs i d).key.now ≡ k
+    → ((j : ℕ) → j < i → (get_or xs j d).key.now ≡ k → ⊥) → under k (pairs_view xs) ≡ Some (view (get_or xs i d).value)
 under_some [] i d k lt is before = absurd (omega arith)
 under_some (x ∷ xs) zero d k lt is before =
     let here : bytes_eq (pair_view x).0 k ≡ true = equal_bytes (pair_view x).0 k (seen_key x ∙ is) in rw here (ap Some (seen_value x))
@@ -51,10 +52,12 @@ key_count : (xs : List Pair) → length (keys_in (pairs_view xs)) ≡ length xs
 key_count [] = refl
 key_count (x ∷ xs) = ap suc (key_count xs)
 
-pub rising : (xs : List Pair) (i j : ℕ) (d : Pair) → Ascends (pairs_view xs) → i < j → j < length xs → slice_cmp nat_cmp (get_or xs i d).key.now (get_or xs j d).key.now ≡ Less
+pub rising : (xs : List Pair) (i j : ℕ) (d : Pair) → Ascends (pairs_view xs) → i < j → j < length xs
+    → slice_cmp nat_cmp (get_or xs i d).key.now (get_or xs j d).key.now ≡ Less
 rising xs i j d up lt in' =
     let less = Less-from_sorted (slice_cmp nat_cmp) (keys_in (pairs_view xs)) i j (pair_view d).0 up lt (omega (arith, key_count xs)) in
-    subst (λ k. slice_cmp nat_cmp (get_or xs i d).key.now k ≡ Less) (key_at xs j d in') (subst (λ k. slice_cmp nat_cmp k (get_or (keys_in (pairs_view xs)) j (pair_view d).0) ≡ Less) (key_at xs i d (omega arith)) less)
+    subst (λ k. slice_cmp nat_cmp (get_or xs i d).key.now k ≡ Less) (key_at xs j d in')
+        (subst (λ k. slice_cmp nat_cmp k (get_or (keys_in (pairs_view xs)) j (pair_view d).0) ≡ Less) (key_at xs i d (omega arith)) less)
 
 pub not_less : (x y : List ℕ) → slice_cmp nat_cmp x y ≡ Less → x ≡ y → ⊥
 not_less x y less same =
@@ -64,14 +67,17 @@ pub not_greater : (x y : List ℕ) → slice_cmp nat_cmp x y ≡ Greater → x �
 not_greater x y more same =
     let tied : slice_cmp nat_cmp x y ≡ Equal = subst (λ k. slice_cmp nat_cmp x k ≡ Equal) same (tied_itself nat_list_cmp_total x) in cc
 
-pub first_at : (xs : List Pair) (i : ℕ) (d : Pair) (k : List ℕ) → Ascends (pairs_view xs) → i < length xs → (get_or xs i d).key.now ≡ k → under k (pairs_view xs) ≡ Some (view (get_or xs i d).value)
-first_at xs i d k up lt is = under_some xs i d k lt is (λ j less same. not_less (get_or xs j d).key.now (get_or xs i d).key.now (rising xs j i d up less lt) (same ∙ sym is))
+pub first_at : (xs : List Pair) (i : ℕ) (d : Pair) (k : List ℕ) → Ascends (pairs_view xs) → i < length xs → (get_or xs i d).key.now ≡ k
+    → under k (pairs_view xs) ≡ Some (view (get_or xs i d).value)
+first_at xs i d k up lt is = under_some xs i d k lt is (λ j less same. not_less (get_or xs j d).key.now (get_or xs i d).key.now (rising xs j i d up less lt)
+    (same ∙ sym is))
 
 -- a lesser key stands no later among the answers of a search
 index_rises : (r a b : List ℕ) → slice_cmp nat_cmp a b ≡ Less → ordering_index (slice_cmp nat_cmp a r) ≤ ordering_index (slice_cmp nat_cmp b r)
 index_rises r a b less = by (slice_cmp nat_cmp a r) (slice_cmp nat_cmp b r) refl refl
   where
-    by : (o u : Ordering) → slice_cmp nat_cmp a r ≡ o → slice_cmp nat_cmp b r ≡ u → ordering_index (slice_cmp nat_cmp a r) ≤ ordering_index (slice_cmp nat_cmp b r)
+    by : (o u : Ordering) → slice_cmp nat_cmp a r ≡ o → slice_cmp nat_cmp b r ≡ u
+        → ordering_index (slice_cmp nat_cmp a r) ≤ ordering_index (slice_cmp nat_cmp b r)
     by Less u e f = rw e (omega arith)
     by Equal Less e f = let bad : slice_cmp nat_cmp a r ≡ Less = nat_list_cmp_total.trans a b r less f in cc
     by Equal Equal e f = rw (e, f) (omega arith)

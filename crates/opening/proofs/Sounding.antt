@@ -1,5 +1,6 @@
 -- What sessions stand on, of the files and trees for which no test holds.
-use Rattle.std.proofs.Common.{◌≡◌, ℕ, zero, suc, ◌+◌, ◌*◌, ◌^◌, ◌<◌, ◌≤◌, Bool, true, false, not, nat_lt, nat_le, is_none, List, [], ◌∷◌, ◌++◌, length, take, drop, map, Option, Some, None, option_map, inl, inr, ◌⊎◌, refl, sym, ap, subst, ◌∙◌, arith, slice_get, sum_by, codes}
+use Rattle.std.proofs.Common.{◌≡◌, ℕ, zero, suc, ◌+◌, ◌*◌, ◌^◌, ◌<◌, ◌≤◌, Bool, true, false, not, nat_lt, nat_le, is_none, List, [], ◌∷◌, ◌++◌, length, take}
+use Rattle.std.proofs.Common.{drop, map, Option, Some, None, option_map, inl, inr, ◌⊎◌, refl, sym, ap, subst, ◌∙◌, arith, slice_get, sum_by, codes}
 use Rattle.std.specs.Prelude.{fold, option_and_then, unwrap_or, if◌then◌else◌, pos, negsuc}
 use Rattle.std.specs.List.{list_any}
 use Rattle.std.specs.Simd.{first_chunks}
@@ -147,7 +148,8 @@ none_placed n t at = cc
 roots_placed : (fs : List ListedFile) → ArePlaced (roots_in fs)
 roots_placed fs = placed_fold [] fs none_placed
 
-pub tree_there : (k : ℕ) (layers : Pairs) (ts : List Root) (n : ℕ) (e : TreeEntry) → slice_get (map (tree_at k layers) ts) n ≡ Some e → (t : Root) × (slice_get ts n ≡ Some t) × (tree_at k layers t ≡ e)
+pub tree_there : (k : ℕ) (layers : Pairs) (ts : List Root) (n : ℕ) (e : TreeEntry) → slice_get (map (tree_at k layers) ts) n ≡ Some e
+    → (t : Root) × (slice_get ts n ≡ Some t) × (tree_at k layers t ≡ e)
 tree_there k layers [] n e at = cc
 tree_there k layers (t ∷ ts) zero e at = let same : tree_at k layers t ≡ e = cc in (t, refl, same)
 tree_there k layers (t ∷ ts) (suc n) e at = tree_there k layers ts n e at
@@ -178,13 +180,15 @@ chunk_length width (suc n) xs (suc i) h le at =
 pub digests_count : (width n : ℕ) (v : Bencode) (hs : List (List ℕ)) → as_digests width n v ≡ Some hs → length hs ≡ n
 digests_count width n (int z) hs is = cc
 digests_count width n (text s) hs is = elim (eqb_tells (length s) (width * n)) [
-  | inl (e, same) ↦ let one : Some (first_chunks width n s) ≡ Some hs = rw e at is in let chunks : first_chunks width n s ≡ hs = cc in ap length (sym chunks) ∙ chunks_count width n s
+  | inl (e, same) ↦ let one : Some (first_chunks width n s) ≡ Some hs = rw e at is in let chunks : first_chunks width n s ≡ hs = cc in ap length (sym chunks)
+      ∙ chunks_count width n s
   | inr (e, differs) ↦ let none : None ≡ Some hs = rw e at is in cc
 ]
 digests_count width n (list vs) hs is = cc
 digests_count width n (dict ps) hs is = cc
 
-digest_length : (width n : ℕ) (v : Bencode) (hs : List (List ℕ)) → as_digests width n v ≡ Some hs → (i : ℕ) (h : List ℕ) → slice_get hs i ≡ Some h → length h ≡ width
+digest_length : (width n : ℕ) (v : Bencode) (hs : List (List ℕ)) → as_digests width n v ≡ Some hs → (i : ℕ) (h : List ℕ) → slice_get hs i ≡ Some h
+    → length h ≡ width
 digest_length width n (int z) hs is i h at = cc
 digest_length width n (text s) hs is i h at = elim (eqb_tells (length s) (width * n)) [
   | inl (e, same) ↦
@@ -205,7 +209,8 @@ layer_found : (k : ℕ) (t : Root) (o : Option Bencode) (hs : List (List ℕ)) �
 layer_found k t None hs is = cc
 layer_found k t (Some v) hs is = record { count = digests_count 32 (pieces_of k t.length) v hs is; hashes = digest_length 32 (pieces_of k t.length) v hs is }
 
-sound_long : (k : ℕ) (layers : Pairs) (t : Root) (o : Option (List (List ℕ))) → layer_at k layers t ≡ o → nat_lt k t.length ≡ true → lacks_size k layers t ≡ false → mismatches k layers t ≡ false
+sound_long : (k : ℕ) (layers : Pairs) (t : Root) (o : Option (List (List ℕ))) → layer_at k layers t ≡ o → nat_lt k t.length ≡ true
+    → lacks_size k layers t ≡ false → mismatches k layers t ≡ false
     → 0 < t.length → t.length ≤ 2 ^ 46 → length t.root ≡ 32 → IsSoundTree k (tree_at k layers t)
 sound_long k layers t None is long there leads some bound root =
     let bad : true ≡ false = rw (long, is) at there in cc
@@ -228,7 +233,8 @@ sound_long k layers t (Some hs) is long there leads some bound root =
     not_false true e = refl
     not_false false e = cc
 
-sound_short : (k : ℕ) (layers : Pairs) (t : Root) → nat_lt k t.length ≡ false → 0 < t.length → t.length ≤ 2 ^ 46 → length t.root ≡ 32 → IsSoundTree k (tree_at k layers t)
+sound_short : (k : ℕ) (layers : Pairs) (t : Root) → nat_lt k t.length ≡ false → 0 < t.length → t.length ≤ 2 ^ 46 → length t.root ≡ 32
+    → IsSoundTree k (tree_at k layers t)
 sound_short k layers t short some bound root =
     let e : (tree_at k layers t).layer ≡ [] = rw short refl in
     record {
@@ -256,7 +262,8 @@ sound_trees k layers fs sizes roots sized leading n e at =
     let some : 0 < t.length = omega (arith, known.0, used.3) in
     let bound : t.length ≤ 2 ^ 46 = subst (λ m. m ≤ 2 ^ 46) used.3 file.bound in
     subst (IsSoundTree k) there.2 (elim (true_or_false (nat_lt k t.length)) [
-      | inl long ↦ sound_long k layers t (layer_at k layers t) refl long (none_any (lacks_size k layers) (roots_in fs) n t sized there.1) (none_any (mismatches k layers) (roots_in fs) n t leading there.1) some bound known.1
+      | inl long ↦ sound_long k layers t (layer_at k layers t) refl long (none_any (lacks_size k layers) (roots_in fs) n t sized there.1)
+          (none_any (mismatches k layers) (roots_in fs) n t leading there.1) some bound known.1
       | inr short ↦ sound_short k layers t short some bound known.1
     ])
 
@@ -268,7 +275,8 @@ pub record ArePaths (fs : List ListedFile) : Type 0 where
   pub in_order : AreInOrder (map (λ (f : ListedFile). f.path) fs)
 
 -- the walks of a file tree without fault have such paths
-pub tree_paths : (tree : Pairs) (fs : List ListedFile) → Fits 126 (dict tree) → is_directory tree ≡ true → (HasBadPath tree → ⊥) → fs ≡ map listed (walks tree) → ArePaths fs
+pub tree_paths : (tree : Pairs) (fs : List ListedFile) → Fits 126 (dict tree) → is_directory tree ≡ true → (HasBadPath tree → ⊥) → fs ≡ map listed (walks tree)
+    → ArePaths fs
 tree_paths tree fs fits shape good is =
     let all = walks_are_all 126 tree fits shape in
     record {
@@ -287,7 +295,8 @@ tree_paths tree fs fits shape good is =
     listed_paths [] = refl
     listed_paths (w ∷ ws) = ap (λ ps. w.path ∷ ps) (listed_paths ws)
 
-entry_paths : (p : ℕ) (ts : List Root) (first : ℕ) (fs : List ListedFile) → map (λ (f : FileEntry). f.path) (entries_from p ts first fs) ≡ map (λ (f : ListedFile). f.path) fs
+entry_paths : (p : ℕ) (ts : List Root) (first : ℕ) (fs : List ListedFile)
+    → map (λ (f : FileEntry). f.path) (entries_from p ts first fs) ≡ map (λ (f : ListedFile). f.path) fs
 entry_paths p ts first [] = refl
 entry_paths p ts first (f ∷ fs) = ap (λ ps. f.path ∷ ps) (entry_paths p ts (first + pieces_of p f.length) fs)
 
@@ -295,7 +304,8 @@ some_entries : (p : ℕ) (ts : List Root) (fs : List ListedFile) → (fs ≡ [] 
 some_entries p ts [] some is = some refl
 some_entries p ts (f ∷ fs) some is = cc
 
-no_tree : (ts : List Root) (o : Option (List ℕ)) → ((s : List ℕ) → o ≡ Some s → (m : ℕ) × (place_in ts s ≡ Some m)) → option_and_then (place_in ts) o ≡ None → o ≡ None
+no_tree : (ts : List Root) (o : Option (List ℕ)) → ((s : List ℕ) → o ≡ Some s → (m : ℕ) × (place_in ts s ≡ Some m)) → option_and_then (place_in ts) o ≡ None
+    → o ≡ None
 no_tree ts None there none = refl
 no_tree ts (Some s) there none = let at = there s refl in let bad : Some at.0 ≡ None = sym at.1 ∙ none in cc
 
@@ -303,10 +313,12 @@ a_tree : (ts : List Root) (o : Option (List ℕ)) (n : ℕ) → option_and_then 
 a_tree ts None n is = cc
 a_tree ts (Some s) n is = (s, refl, is)
 
-pub tree_of : (k : ℕ) (layers : Pairs) (ts : List Root) (n : ℕ) (t : Root) → slice_get ts n ≡ Some t → slice_get (map (tree_at k layers) ts) n ≡ Some (tree_at k layers t)
+pub tree_of : (k : ℕ) (layers : Pairs) (ts : List Root) (n : ℕ) (t : Root) → slice_get ts n ≡ Some t
+    → slice_get (map (tree_at k layers) ts) n ≡ Some (tree_at k layers t)
 tree_of k layers ts n t there = slice_get-map (tree_at k layers) ts n ∙ ap (option_map (tree_at k layers)) there
 
-pub sound_files : (k : ℕ) (layers : Pairs) (fs : List ListedFile) (t : Description) → ArePaths fs → t.trees ≡ map (tree_at k layers) (roots_in fs) → ((f : ListedFile) → IsIn fs f → IsSized f) → AreRoots fs (roots_in fs)
+pub sound_files : (k : ℕ) (layers : Pairs) (fs : List ListedFile) (t : Description) → ArePaths fs → t.trees ≡ map (tree_at k layers) (roots_in fs)
+    → ((f : ListedFile) → IsIn fs f → IsSized f) → AreRoots fs (roots_in fs)
     → (n : ℕ) (e : FileEntry) → slice_get (entries_from k (roots_in fs) 0 fs) n ≡ Some e → IsSoundFile t e
 sound_files k layers fs t paths trees sizes roots n e at =
     let back = entries_back k (roots_in fs) 0 fs n e at in
@@ -323,14 +335,17 @@ sound_files k layers fs t paths trees sizes roots n e at =
           let root = roots.each f at_root.0 there at_root.1 in
           let places : Some root.number ≡ Some m = sym root.place ∙ at_root.2 in
           let number : root.number ≡ m = cc in
-          let tree_is : slice_get (map (tree_at k layers) (roots_in fs)) m ≡ Some (tree_at k layers root.at) = tree_of k layers (roots_in fs) m root.at (subst (λ j. slice_get (roots_in fs) j ≡ Some root.at) number root.there) in
+          let tree_is : slice_get (map (tree_at k layers) (roots_in fs)) m ≡ Some (tree_at k layers root.at) = tree_of k layers (roots_in fs) m root.at
+              (subst (λ j. slice_get (roots_in fs) j ≡ Some root.at) number root.there) in
           (tree_at k layers root.at, subst (λ ts. slice_get ts m ≡ Some (tree_at k layers root.at)) (sym trees) tree_is, root.same ∙ size);
-      no_tree = λ is. sym size ∙ known.none (no_tree (roots_in fs) f.root (λ s root. let at_root = roots.each f s there root in (at_root.number, at_root.place)) (tree ∙ is));
+      no_tree = λ is. sym size ∙ known.none (no_tree (roots_in fs) f.root (λ s root. let at_root = roots.each f s there root in (at_root.number, at_root.place))
+          (tree ∙ is));
     }
 
 -- ---- the cuts of the version 1 stream
 
-cuts_whole : (k n : ℕ) (o : Option Bencode) → (option_and_then (as_digests 20 (pieces_of k n)) o ≡ None → ⊥) → length (unwrap_or (option_and_then (as_digests 20 (pieces_of k n)) o) []) ≡ pieces_of k n
+cuts_whole : (k n : ℕ) (o : Option Bencode) → (option_and_then (as_digests 20 (pieces_of k n)) o ≡ None → ⊥)
+    → length (unwrap_or (option_and_then (as_digests 20 (pieces_of k n)) o) []) ≡ pieces_of k n
 cuts_whole k n None some = absurd (some refl)
 cuts_whole k n (Some v) some = by_digests (as_digests 20 (pieces_of k n) v) refl
   where
@@ -338,10 +353,12 @@ cuts_whole k n (Some v) some = by_digests (as_digests 20 (pieces_of k n) v) refl
     by_digests None is = absurd (some is)
     by_digests (Some hs) is = ap (λ (d : Option (List (List ℕ))). length (unwrap_or d [])) is ∙ digests_count 20 (pieces_of k n) v hs is
 
-pub cuts_of : (k : ℕ) (info : Bencode) (name : List ℕ) (fs : List ListedFile) (v : Version1) → NoneHolds (hybrid_rows k info name fs) → IsVersion1 k info name (Some v) → length v.pieces ≡ pieces_of k v.total
+pub cuts_of : (k : ℕ) (info : Bencode) (name : List ℕ) (fs : List ListedFile) (v : Version1) → NoneHolds (hybrid_rows k info name fs)
+    → IsVersion1 k info name (Some v) → length v.pieces ≡ pieces_of k v.total
 cuts_of k info name fs v rows is = by_kind (is_hybrid info) refl is
   where
-    by_kind : (b : Bool) → is_hybrid info ≡ b → Some v ≡ (if b then Some (version1_of k (the_parts (parts_in info name)) info) else None) → length v.pieces ≡ pieces_of k v.total
+    by_kind : (b : Bool) → is_hybrid info ≡ b → Some v ≡ (if b then Some (version1_of k (the_parts (parts_in info name)) info) else None)
+        → length v.pieces ≡ pieces_of k v.total
     by_kind true e same =
         let part : version1_of k (the_parts (parts_in info name)) info ≡ v = cc in
         subst (λ (w : Version1). length w.pieces ≡ pieces_of k w.total) part
@@ -357,16 +374,20 @@ pub sound : (k : ℕ) (info : Bencode) (name : List ℕ) (layers : Pairs) (fs : 
 sound k info name layers fs t legal length_is paths some sizes roots pieces files trees layered hybrid version = record {
   legal = subst IsPieceLength (sym length_is) legal;
   roots_differ = λ n m a b at_a at_b. roots_differ k layers fs n m a b (in_trees n a at_a) (in_trees m b at_b);
-  trees = λ n e at. subst (λ p. IsSoundTree p e) (sym length_is) (sound_trees k layers fs sizes roots (false_or_true (list_any (lacks_size k layers) (roots_in fs)) layered.1.0) (false_or_true (list_any (mismatches k layers) (roots_in fs)) layered.1.1.0) n e (in_trees n e at));
+  trees = λ n e at. subst (λ p. IsSoundTree p e) (sym length_is)
+      (sound_trees k layers fs sizes roots (false_or_true (list_any (lacks_size k layers) (roots_in fs)) layered.1.0)
+      (false_or_true (list_any (mismatches k layers) (roots_in fs)) layered.1.1.0) n e (in_trees n e at));
   some_files = λ none. some_entries k (roots_in fs) fs some (sym files ∙ none);
   in_order = subst AreInOrder (sym (ap (map (λ (f : FileEntry). f.path)) files ∙ entry_paths k (roots_in fs) 0 fs)) paths.in_order;
   files = λ n e at. sound_files k layers fs t paths trees sizes roots n e (subst (λ es. slice_get es n ≡ Some e) files at);
   laid_out = subst (λ p. AreLaidOut p t.files) (sym length_is) (subst (AreLaidOut k) (sym files) (laid_out k (roots_in fs) fs pieces));
-  cuts = λ v is. subst (λ p. length v.pieces ≡ pieces_of p v.total) (sym length_is) (cuts_of k info name fs v hybrid (subst (IsVersion1 k info name) is version));
+  cuts = λ v is. subst (λ p. length v.pieces ≡ pieces_of p v.total) (sym length_is)
+      (cuts_of k info name fs v hybrid (subst (IsVersion1 k info name) is version));
   in_stream = λ v n f is at some. subst (λ p. f.first_piece * p + f.length ≤ v.total) (sym length_is)
       (hybrid_in_stream k info name fs t.files v hybrid (subst (IsVersion1 k info name) is version) (are_files k fs t.files files) n f at some);
   in_pieces = λ v is. subst (λ p. v.total ≤ sum_by (λ (f : FileEntry). pieces_of p f.length) t.files * p) (sym length_is)
-      (subst (λ n. v.total ≤ n * k) (sym (ap (sum_by (λ (f : FileEntry). pieces_of k f.length)) files ∙ sum_all k (roots_in fs) 0 fs)) (hybrid_in_pieces k info name fs v hybrid (subst (IsVersion1 k info name) is version)));
+      (subst (λ n. v.total ≤ n * k) (sym (ap (sum_by (λ (f : FileEntry). pieces_of k f.length)) files ∙ sum_all k (roots_in fs) 0 fs))
+          (hybrid_in_pieces k info name fs v hybrid (subst (IsVersion1 k info name) is version)));
 }
   where
     in_trees : (n : ℕ) (e : TreeEntry) → slice_get t.trees n ≡ Some e → slice_get (map (tree_at k layers) (roots_in fs)) n ≡ Some e

@@ -1,5 +1,6 @@
 -- Each test of a torrent file holds or does not, so each value describes a torrent or is refused.
-use Rattle.std.proofs.Common.{◌≡◌, ◌≢◌, ◌⊎◌, inl, inr, ℕ, zero, suc, ◌*◌, ◌<◌, ◌≤◌, ◌^◌, Bool, true, false, List, [], ◌∷◌, ◌++◌, length, map, take, Option, Some, None, pos, negsuc, refl, ap, sym, ◌∙◌, subst, arith, slice_get, sum_by}
+use Rattle.std.proofs.Common.{◌≡◌, ◌≢◌, ◌⊎◌, inl, inr, ℕ, zero, suc, ◌*◌, ◌<◌, ◌≤◌, ◌^◌, Bool, true, false, List, [], ◌∷◌, ◌++◌, length, map, take, Option}
+use Rattle.std.proofs.Common.{Some, None, pos, negsuc, refl, ap, sym, ◌∙◌, subst, arith, slice_get, sum_by}
 use Rattle.std.specs.List.{Contains}
 use Rattle.std.specs.Str.{IsUtf8, is_utf8}
 use Rattle.std.proofs.lemmas.Bool.{cases_eq}
@@ -13,15 +14,18 @@ use Rattle.filetree.specs.Dictionary.{as_dict, as_int}
 use Rattle.filetree.specs.FileTree.{HasBadPath, HasBadPathIn, IsBadComponent, Walk, is_nil}
 use Rattle.filetree.specs.declared.files.ListedFile.{ListedFile}
 use Rattle.filetree.specs.Tests.{First, NoneHolds, TestRow}
-use Rattle.opening.specs.Refusals.{IsName, IsOther, count_rows, file_tree_in, files_of, hybrid_rows, info_in, kind_rows, layer_rows, layers_in, layers_rows, name_in, piece_length_in, piece_length_rows, present_rows, table, top_rows, version_rows, walks_of}
+use Rattle.opening.specs.Refusals.{IsName, IsOther, count_rows, file_tree_in, files_of, hybrid_rows, info_in, kind_rows, layer_rows, layers_in, layers_rows}
+use Rattle.opening.specs.Refusals.{name_in, piece_length_in, piece_length_rows, present_rows, table, top_rows, version_rows, walks_of}
 use Rattle.pieces.specs.Pieces.{IsPieceLength}
 use Rattle.filetree.specs.TreeTests.{file_rows, shape_rows}
-use Rattle.opening.specs.Stream.{DiffersFromFiles, IsMisplaced, IsTooLong, Named, Part, cuts_in, files_in, is_hybrid, length_in, named, parts_in, stream_length, the_parts}
+use Rattle.opening.specs.Stream.{DiffersFromFiles, IsMisplaced, IsTooLong, Named, Part, cuts_in, files_in, is_hybrid, length_in, named, parts_in, stream_length}
+use Rattle.opening.specs.Stream.{the_parts}
 use Rattle.opening.specs.Trees.{IsIn, IsReused, pieces_in, roots_in}
 use Rattle.opening.specs.declared.roots.Root.{Root}
 use Rattle.pieces.specs.Pieces.{pieces_of}
 use Rattle.filetree.specs.declared.refusal.Refusal.{Refusal}
-use Rattle.opening.proofs.Deciding.{Decided, SomeBelow, below_decided, both_decided, by_test, either, is_at_most, is_below, is_bool, empty_decided, is_none, moved, neither, same_list}
+use Rattle.opening.proofs.Deciding.{Decided, SomeBelow, below_decided, both_decided, by_test, either, is_at_most, is_below, is_bool, empty_decided, is_none}
+use Rattle.opening.proofs.Deciding.{moved, neither, same_list}
 use Rattle.filetree.proofs.Tables.{first_behind, first_front, none_both}
 
 -- a test of the table holds, or none does
@@ -31,7 +35,8 @@ pub record Told (rows : List TestRow) : Type 0 where
 nothing : Told []
 nothing = record { which = inr tt }
 
-row_which : (t : TestRow) (ts : List TestRow) → Decided t.holds → ((r : Refusal) × First ts r) ⊎ NoneHolds ts → ((r : Refusal) × First (t ∷ ts) r) ⊎ NoneHolds (t ∷ ts)
+row_which : (t : TestRow) (ts : List TestRow) → Decided t.holds → ((r : Refusal) × First ts r) ⊎ NoneHolds ts → ((r : Refusal) × First (t ∷ ts) r)
+    ⊎ NoneHolds (t ∷ ts)
 row_which t ts (inl holds) rest = inl (t.answer, inl (holds, refl))
 row_which t ts (inr never) (inl later) = inl (later.0, inr (never, later.1))
 row_which t ts (inr never) (inr none) = inr (never, none)
@@ -39,7 +44,8 @@ row_which t ts (inr never) (inr none) = inr (never, none)
 row : (t : TestRow) (ts : List TestRow) → Decided t.holds → Told ts → Told (t ∷ ts)
 row t ts decided rest = record { which = row_which t ts decided rest.which }
 
-both_which : (xs ys : List TestRow) → ((r : Refusal) × First xs r) ⊎ NoneHolds xs → ((r : Refusal) × First ys r) ⊎ NoneHolds ys → ((r : Refusal) × First (xs ++ ys) r) ⊎ NoneHolds (xs ++ ys)
+both_which : (xs ys : List TestRow) → ((r : Refusal) × First xs r) ⊎ NoneHolds xs → ((r : Refusal) × First ys r) ⊎ NoneHolds ys
+    → ((r : Refusal) × First (xs ++ ys) r) ⊎ NoneHolds (xs ++ ys)
 both_which xs ys (inl first) rest = inl (first.0, first_front xs ys first.0 first.1)
 both_which xs ys (inr none) (inl later) = inl (later.0, first_behind xs ys later.0 none later.1)
 both_which xs ys (inr none) (inr rest) = inr (none_both xs ys none rest)
@@ -138,7 +144,8 @@ file_told ws = row _ _ (is_bool _ true) (row _ _ (is_bool _ true) (row _ _ (is_b
 abbrev SomeFile : (ListedFile → Type 0) → List ListedFile → Type 0
 SomeFile P fs = (f : ListedFile) × IsIn fs f × P f
 
-later : (P : ListedFile → Type 0) (f : ListedFile) (fs : List ListedFile) → (P f → ⊥) → (g : ListedFile) (k : ℕ) → slice_get (f ∷ fs) k ≡ Some g → P g → SomeFile P fs
+later : (P : ListedFile → Type 0) (f : ListedFile) (fs : List ListedFile) → (P f → ⊥) → (g : ListedFile) (k : ℕ) → slice_get (f ∷ fs) k ≡ Some g → P g
+    → SomeFile P fs
 later P f fs never g zero at holds = absurd (never (subst P (sym (same_Some f g at)) holds))
 later P f fs never g (suc k) at holds = (g, (k, at), holds)
 
@@ -215,7 +222,8 @@ IsMisplacedAt p ps n = (part : Part) × (slice_get ps n ≡ Some part) × (part.
 part_misplaced : (p : ℕ) (ps : List Part) (n : ℕ) (o : Option Part) → slice_get ps n ≡ o → Decided (IsMisplacedAt p ps n)
 part_misplaced p ps n None there = inr (λ found. none-some found.0 (sym there ∙ found.1))
 part_misplaced p ps n (Some part) there = moved
-    ((part.is_pad ≡ false) × ((0 < length_in part) × (stream_length (take n ps) ≢ sum_by (λ f. pieces_of p f.length) (files_in (take n ps)) * p))) (IsMisplacedAt p ps n)
+    ((part.is_pad ≡ false) × ((0 < length_in part) × (stream_length (take n ps) ≢ sum_by (λ f. pieces_of p f.length) (files_in (take n ps)) * p)))
+        (IsMisplacedAt p ps n)
     (λ holds. (part, there, holds.0, holds.1.0, holds.1.1))
     (λ found. let same : found.0 ≡ part = same_Some found.0 part (sym found.1 ∙ there) in
     (ap (λ (q : Part). q.is_pad) (sym same) ∙ found.2, (subst (λ (q : Part). 0 < length_in q) same found.3, found.4)))

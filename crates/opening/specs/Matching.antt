@@ -1,6 +1,7 @@
 -- The version 1 list of a hybrid beside the files of the file tree, entry by entry. Public clauses
 -- do not name these.
-use Rattle.std.specs.Prelude.{◌≡◌, ◌<◌, map, sum_by, ℕ, ◌+◌, ◌*◌, Bool, true, false, not, ◌&&◌, ◌==◌, nat_lt, if◌then◌else◌, List, [], ◌∷◌, Option, Some, None, is_some, codes, ◌^◌, Result, Ok, Err}
+use Rattle.std.specs.Prelude.{◌≡◌, ◌<◌, map, sum_by, ℕ, ◌+◌, ◌*◌, Bool, true, false, not, ◌&&◌, ◌==◌, nat_lt, if◌then◌else◌, List, [], ◌∷◌, Option, Some, None}
+use Rattle.std.specs.Prelude.{is_some, codes, ◌^◌, Result, Ok, Err}
 use Rattle.std.specs.Str.{bytes_eq}
 use Rattle.benc.specs.Value.{Bencode, int, text, list, dict, Items, no_items, item}
 use Rattle.opening.specs.Description.{FileEntry}

@@ -1,6 +1,7 @@
 -- The place of a block (BEP 52, "piece length" and the piece message of BEP 3): files begin at
 -- piece boundaries of one address space.
-use Rattle.std.specs.Prelude.{◌≡◌, ℕ, suc, ◌+◌, ◌-◌, ◌*◌, ◌/◌, ◌%◌, ◌^◌, ◌<◌, Bool, ◌==◌, ◌&&◌, nat_le, nat_lt, if◌then◌else◌, List, [], ◌∷◌, take, sum_by, Option, Some, None, slice_get}
+use Rattle.std.specs.Prelude.{◌≡◌, ℕ, suc, ◌+◌, ◌-◌, ◌*◌, ◌/◌, ◌%◌, ◌^◌, ◌<◌, Bool, ◌==◌, ◌&&◌, nat_le, nat_lt, if◌then◌else◌, List, [], ◌∷◌, take, sum_by}
+use Rattle.std.specs.Prelude.{Option, Some, None, slice_get}
 use Rattle.hashtree.specs.Tree.{block_count}
 use Rattle.opening.specs.Description.{Description, FileEntry}
 use Rattle.pieces.specs.Pieces.{pieces_of}

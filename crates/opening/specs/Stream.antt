@@ -1,6 +1,7 @@
 -- The version 1 part of a hybrid: the list of files and pads whose contents are joined to one
 -- stream (BEP 3, "info dictionary"; BEP 47, "Padding Files"; BEP 52, "Upgrade Path").
-use Rattle.std.specs.Prelude.{◌≡◌, ◌≢◌, ℕ, ◌*◌, ◌<◌, Bool, false, not, ◌&&◌, ◌||◌, if◌then◌else◌, List, [], ◌∷◌, map, take, filter, sum_by, Option, Some, None, is_some, is_none, option_and_then, unwrap_or, ◌⊎◌, codes, slice_get, IsTrue}
+use Rattle.std.specs.Prelude.{◌≡◌, ◌≢◌, ℕ, ◌*◌, ◌<◌, Bool, false, not, ◌&&◌, ◌||◌, if◌then◌else◌, List, [], ◌∷◌, map, take, filter, sum_by, Option, Some, None}
+use Rattle.std.specs.Prelude.{is_some, is_none, option_and_then, unwrap_or, ◌⊎◌, codes, slice_get, IsTrue}
 use Rattle.std.specs.List.{list_any}
 use Rattle.std.specs.Str.{bytes_eq}
 use Rattle.benc.specs.Value.{Bencode, Items, no_items, item}

@@ -1,6 +1,7 @@
 -- The trees of a torrent: the distinct roots of files that are not empty, in the order of first use
 -- (BEP 52, "pieces root"), and the pieces of files (BEP 52, "piece length").
-use Rattle.std.specs.Prelude.{◌≡◌, ◌≢◌, ℕ, ◌+◌, is_some, if◌then◌else◌, List, [], ◌∷◌, ◌++◌, length, map, take, fold, sum_by, Option, Some, None, suc, option_map, option_and_then, slice_get}
+use Rattle.std.specs.Prelude.{◌≡◌, ◌≢◌, ℕ, ◌+◌, is_some, if◌then◌else◌, List, [], ◌∷◌, ◌++◌, length, map, take, fold, sum_by, Option, Some, None, suc}
+use Rattle.std.specs.Prelude.{option_map, option_and_then, slice_get}
 use Rattle.std.specs.Str.{bytes_eq}
 use Rattle.pieces.specs.Pieces.{pieces_of}
 use Rattle.filetree.specs.declared.files.ListedFile.{ListedFile}

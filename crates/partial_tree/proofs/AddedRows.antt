@@ -20,7 +20,8 @@ len-absent m l i h none =
     len-new m c None (sym none) refl
 
 module _ (old : Known) (layer from : ℕ) (f : ℕ → Option Hash) where
-  pub adds-one : (mid new : Known) (n : ℕ) (h : Hash) → from ≤ n → AddsRow old layer from n f mid → f n ≡ Some h → new ≡ insert mid (layer, n) h → len new ≡ len mid + 1
+  pub adds-one : (mid new : Known) (n : ℕ) (h : Hash) → from ≤ n → AddsRow old layer from n f mid → f n ≡ Some h → new ≡ insert mid (layer, n) h
+      → len new ≡ len mid + 1
       → AddsRow old layer from (n + 1) f new
   adds-one mid new n h low adds is put more = record {
     row = λ i after before. ap (λ m. look m layer i) put ∙ here i after before (cases_eq i n);
@@ -45,7 +46,8 @@ module _ (old : Known) (layer from : ℕ) (f : ℕ → Option Hash) where
 -- ---- the parents of a layer
 
 -- a known node of the layer below the one that grows
-pub child-known : (old mid : Known) (layer n count i : ℕ) (f : ℕ → Option Hash) → AreKnown (look old layer) 0 count → AddsRow old (layer + 1) 0 n f mid → i < count
+pub child-known : (old mid : Known) (layer n count i : ℕ) (f : ℕ → Option Hash) → AreKnown (look old layer) 0 count → AddsRow old (layer + 1) 0 n f mid
+    → i < count
     → (v : Hash) × (look mid layer i ≡ Some v) × (look old layer i ≡ Some v)
 child-known old mid layer n count i f known adds low =
     let there = known i low in
@@ -61,5 +63,6 @@ pub taken-out : (o : Option Hash) (v x : Hash) → o ≡ Some x → o ≡ Some v
 taken-out o v x is e = same_Some x v (sym is ∙ e)
 
 -- the parent of two children
-pub parent-of_two : (old : Known) (layer i : ℕ) (left right : Hash) → look old layer (2 * i) ≡ Some left → look old layer (2 * i + 1) ≡ Some right → parents_of old layer i ≡ Some (join left right)
+pub parent-of_two : (old : Known) (layer i : ℕ) (left right : Hash) → look old layer (2 * i) ≡ Some left → look old layer (2 * i + 1) ≡ Some right
+    → parents_of old layer i ≡ Some (join left right)
 parent-of_two old layer i left right p q = ap₂ join_both p q

@@ -1,5 +1,6 @@
 -- A tree that takes over the nodes of a whole one.
-use Rattle.std.proofs.Common.{◌≡◌, ◌≢◌, ◌⊎◌, ℕ, suc, ◌+◌, ◌-◌, ◌*◌, ◌%◌, ◌^◌, ◌<◌, ◌≤◌, Bool, true, false, ltb, ◌&&◌, ◌||◌, List, length, Some, inl, inr, refl, sym, ap, ◌∙◌, subst, arith, mod-eq_of_lt}
+use Rattle.std.proofs.Common.{◌≡◌, ◌≢◌, ◌⊎◌, ℕ, suc, ◌+◌, ◌-◌, ◌*◌, ◌%◌, ◌^◌, ◌<◌, ◌≤◌, Bool, true, false, ltb, ◌&&◌, ◌||◌, List, length, Some, inl, inr, refl}
+use Rattle.std.proofs.Common.{sym, ap, ◌∙◌, subst, arith, mod-eq_of_lt}
 use Rattle.std.specs.FinMap.{len}
 use Rattle.std.specs.FinSet as set
 use Rattle.std.specs.FinSet.{same_set, contains-insert, contains-empty, nat_cmp-IsAntisymmetric}
@@ -73,7 +74,8 @@ carried-all old M n few is = same_set nat_cmp_total nat_cmp-IsAntisymmetric M ol
 
 -- ---- the nodes
 
-module _ (n : ℕ) (K K' : Known) (is : FollowsFromLeaves n (block_count n) K') (in_tree : (l i : ℕ) (v : List ℕ) → look K l i ≡ Some v → IsTreePlace (tree_height n) l i) where
+module _ (n : ℕ) (K K' : Known) (is : FollowsFromLeaves n (block_count n) K') (in_tree : (l i : ℕ) (v : List ℕ) → look K l i ≡ Some v
+    → IsTreePlace (tree_height n) l i) where
   right : length (leaves_in K' (block_count n)) ≡ block_count n
   right = length-leaves K' (block_count n)
 
@@ -117,7 +119,8 @@ module _ (n : ℕ) (K K' : Known) (is : FollowsFromLeaves n (block_count n) K') 
 
 -- ---- as trees keep them
 
-module _ (n : ℕ) (root : Hash) (K K' : Known) (M : Marked) (old : KeptTree) (new : GrownTree) (old_is : kept root n K M ≡ old) (new_is : grown n (leaves_in K' (block_count n)) ≡ new)
+module _ (n : ℕ) (root : Hash) (K K' : Known) (M : Marked) (old : KeptTree) (new : GrownTree) (old_is : kept root n K M ≡ old)
+    (new_is : grown n (leaves_in K' (block_count n)) ≡ new)
     (good : IsGoodTree old) (is : FollowsFromLeaves n (block_count n) K') where
   inside : (l i : ℕ) (v : Hash) → look K l i ≡ Some v → IsTreePlace (tree_height n) l i
   inside l i v e = (subst IsGoodTree (sym old_is) good).closed.in_tree l i v e
@@ -131,7 +134,8 @@ module _ (n : ℕ) (root : Hash) (K K' : Known) (M : Marked) (old : KeptTree) (n
   pub fewer : len K < 2 ^ suc (tree_height n)
   fewer = len-known (tree_height n) K inside
 
-  pub adopted : (c : ℕ) (after : Known) (marks : Marked) → AgreeInTree (look K) (look K') (tree_height n) → after ≡ K' → marks ≡ M → len K' ≡ len K + c → TreeTakesLayer old 0 new.leaves c (kept root n after marks)
+  pub adopted : (c : ℕ) (after : Known) (marks : Marked) → AgreeInTree (look K) (look K') (tree_height n) → after ≡ K' → marks ≡ M → len K' ≡ len K + c
+      → TreeTakesLayer old 0 new.leaves c (kept root n after marks)
   adopted c after marks same stays carried gained =
       subst (λ J. TreeTakesLayer old 0 new.leaves c (kept root n J marks)) (sym stays)
       (subst (λ m. TreeTakesLayer old 0 new.leaves c (kept root n K' m)) (sym carried)

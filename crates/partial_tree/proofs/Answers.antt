@@ -1,5 +1,6 @@
 -- The answer to an ask that a closed tree gives is told by that tree, and reaches the root where enough proof layers were asked for.
-use Rattle.std.proofs.Common.{◌≡◌, ◌⊎◌, ℕ, zero, suc, ◌+◌, ◌-◌, ◌*◌, ◌/◌, ◌^◌, ◌<◌, ◌≤◌, List, map, length, get_or, Some, inl, inr, sym, ap, ap₂, ◌∙◌, arith, length-append, shr-shr, div-one}
+use Rattle.std.proofs.Common.{◌≡◌, ◌⊎◌, ℕ, zero, suc, ◌+◌, ◌-◌, ◌*◌, ◌/◌, ◌^◌, ◌<◌, ◌≤◌, List, map, length, get_or, Some, inl, inr, sym, ap, ap₂, ◌∙◌, arith}
+use Rattle.std.proofs.Common.{length-append, shr-shr, div-one}
 use Rattle.std.specs.Prelude.{slice_get}
 use Rattle.std.specs.Option.{unwrap_or}
 use Rattle.std.specs.List.{range_with_len}
@@ -12,7 +13,8 @@ use Rattle.node_maps.specs.Places.{tree_height, PartialTree, IsKnown}
 use Rattle.node_maps.specs.Digest.{Hash}
 use Rattle.hashtree.specs.Tree.{pad_leaf}
 use Rattle.partial_tree.specs.Closed.{IsFamily, IsClosed, Collision}
-use Rattle.partial_tree.specs.Claims.{span, cover, above, sibling, base_hash, uncle_hash, top_layer, top_index, GoodCount, IsAccepted, IsToldBy, hash_or_pad, answer_uncles, answer_of, CanAnswer}
+use Rattle.partial_tree.specs.Claims.{span, cover, above, sibling, base_hash, uncle_hash, top_layer, top_index, GoodCount, IsAccepted, IsToldBy, hash_or_pad}
+use Rattle.partial_tree.specs.Claims.{answer_uncles, answer_of, CanAnswer}
 use Rattle.partial_tree.proofs.Powers.{exponent_le, div_small, spans-some}
 use Rattle.partial_tree.proofs.Agree.{left_or_right}
 use Rattle.partial_tree.proofs.Claimed.{either, base-read, uncle-read}
@@ -23,7 +25,8 @@ pub value-known : (K : PartialTree) (l i : ℕ) → IsKnown K l i → K l i ≡ 
 value-known K l i (v, e) = e ∙ ap Some (sym (ap (λ o. unwrap_or o pad_leaf) e))
 
 -- with a place, its ancestors are known, d layers up
-pub ancestor-known : (t : TreeRoot) (K : PartialTree) → IsClosed t K → (d l i : ℕ) → l + d ≤ tree_height t.length → IsKnown K l i → IsKnown K (l + d) (i / 2 ^ d)
+pub ancestor-known : (t : TreeRoot) (K : PartialTree) → IsClosed t K → (d l i : ℕ) → l + d ≤ tree_height t.length → IsKnown K l i
+    → IsKnown K (l + d) (i / 2 ^ d)
 ancestor-known t K closed zero l i room (v, e) =
     let here : l + 0 ≡ l = omega arith in
     (v, ap₂ K here (div-one i) ∙ e)
@@ -76,18 +79,23 @@ module _ (t : TreeRoot) (J : PartialTree) (ask : Ask) (closed : IsClosed t J) (c
       let first : List Hash = map (λ j. hash_or_pad J ask.base (ask.index + j)) (range_with_len 0 ask.length) in
       let len : length first ≡ ask.length = length-map-range_with_len (λ j. hash_or_pad J ask.base (ask.index + j)) 0 ask.length in
       sym (get_or-map-range_with_len (λ j. hash_or_pad J ask.base (ask.index + j)) 0 ask.length k k pad_leaf inside (omega arith))
-      ∙ sym (get_or_append_left first (map (λ j. hash_or_pad J (cover ask + j) (sibling (above ask (cover ask + j)))) (range_with_len 0 (answer_uncles (tree_height t.length) ask))) pad_leaf k (omega arith))
+      ∙ sym (get_or_append_left first (map (λ j. hash_or_pad J (cover ask + j) (sibling (above ask (cover ask + j))))
+          (range_with_len 0 (answer_uncles (tree_height t.length) ask))) pad_leaf k (omega arith))
       ∙ get_or_from_slice_get (answer_of (tree_height t.length) J ask) k v pad_leaf e
 
-  uncle-read_back : (j : ℕ) (v : Hash) → j < answer_uncles (tree_height t.length) ask → slice_get (answer_of (tree_height t.length) J ask) (ask.length + j) ≡ Some v → uncle_value j ≡ v
+  uncle-read_back : (j : ℕ) (v : Hash) → j < answer_uncles (tree_height t.length) ask
+      → slice_get (answer_of (tree_height t.length) J ask) (ask.length + j) ≡ Some v → uncle_value j ≡ v
   unfolding uncle_value
   uncle-read_back j v inside e =
       let first : List Hash = map (λ k. hash_or_pad J ask.base (ask.index + k)) (range_with_len 0 ask.length) in
       let len : length first ≡ ask.length = length-map-range_with_len (λ k. hash_or_pad J ask.base (ask.index + k)) 0 ask.length in
       let back : ask.length + j - ask.length ≡ j = omega arith in
-      sym (get_or-map-range_with_len (λ k. hash_or_pad J (cover ask + k) (sibling (above ask (cover ask + k)))) 0 (answer_uncles (tree_height t.length) ask) j j pad_leaf inside (omega arith))
-      ∙ sym (get_or-append_right first (map (λ k. hash_or_pad J (cover ask + k) (sibling (above ask (cover ask + k)))) (range_with_len 0 (answer_uncles (tree_height t.length) ask))) ask.length (ask.length + j) pad_leaf len (omega arith)
-      ∙ ap (λ k. get_or (map (λ k. hash_or_pad J (cover ask + k) (sibling (above ask (cover ask + k)))) (range_with_len 0 (answer_uncles (tree_height t.length) ask))) k pad_leaf) back)
+      sym (get_or-map-range_with_len (λ k. hash_or_pad J (cover ask + k) (sibling (above ask (cover ask + k)))) 0 (answer_uncles (tree_height t.length) ask) j j
+          pad_leaf inside (omega arith))
+      ∙ sym (get_or-append_right first (map (λ k. hash_or_pad J (cover ask + k) (sibling (above ask (cover ask + k))))
+          (range_with_len 0 (answer_uncles (tree_height t.length) ask))) ask.length (ask.length + j) pad_leaf len (omega arith)
+      ∙ ap (λ k. get_or (map (λ k. hash_or_pad J (cover ask + k) (sibling (above ask (cover ask + k))))
+          (range_with_len 0 (answer_uncles (tree_height t.length) ask))) k pad_leaf) back)
       ∙ get_or_from_slice_get (answer_of (tree_height t.length) J ask) (ask.length + j) v pad_leaf e
 
   -- the nodes above the base range are known
@@ -102,7 +110,8 @@ module _ (t : TreeRoot) (J : PartialTree) (ask : Ask) (closed : IsClosed t J) (c
 
   pub answer-told : IsToldBy J ask (answer_of (tree_height t.length) J ask)
   unfolding base_value uncle_value
-  answer-told l i v e = elim (either (base_hash ask (answer_of (tree_height t.length) J ask) l i) (uncle_hash ask (answer_of (tree_height t.length) J ask) l i) v e) [
+  answer-told l i v e = elim (either (base_hash ask (answer_of (tree_height t.length) J ask) l i) (uncle_hash ask (answer_of (tree_height t.length) J ask) l i)
+      v e) [
     | inl b ↦
         let (at, low, high, got) = base-read ask (answer_of (tree_height t.length) J ask) l i v b in
         let inside : i - ask.index < ask.length = omega arith in
@@ -113,7 +122,8 @@ module _ (t : TreeRoot) (J : PartialTree) (ask : Ask) (closed : IsClosed t J) (c
     | inr (none, w) ↦
         let (from, at, got) = uncle-read ask (answer_of (tree_height t.length) J ask) l i v w in
         let len : length (answer_of (tree_height t.length) J ask) ≡ ask.length + answer_uncles (tree_height t.length) ask = answer-length in
-        let within : ask.length + (l - cover ask) < length (answer_of (tree_height t.length) J ask) = slice_get_within (answer_of (tree_height t.length) J ask) (ask.length + (l - cover ask)) v got in
+        let within : ask.length + (l - cover ask) < length (answer_of (tree_height t.length) J ask) = slice_get_within (answer_of (tree_height t.length) J ask)
+            (ask.length + (l - cover ask)) v got in
         let inside : l - cover ask < answer_uncles (tree_height t.length) ask = omega arith in
         let layer : cover ask + (l - cover ask) ≡ l = omega arith in
         let cover_in : cover ask ≤ tree_height t.length = cover-inside in

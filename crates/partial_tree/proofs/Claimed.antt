@@ -1,11 +1,13 @@
 -- Which places a message claims: those under the node that covers its base range, the nodes above
 -- it up to the top, and their siblings below the top. Each but the top stands with its sibling, and
 -- the parent has the join of the two.
-use Rattle.std.proofs.Common.{◌≡◌, ◌≢◌, ◌⊎◌, ℕ, zero, suc, ◌+◌, ◌-◌, ◌*◌, ◌/◌, ◌%◌, ◌^◌, ◌<◌, ◌≤◌, Bool, true, false, cond, eqb, leb, ltb, ◌&&◌, List, length, get_or, Option, Some, None, inl, inr, refl, sym, ap, ap₂, ◌∙◌, subst, arith, shr-shr, pow_pos, div-one, div-add-mod'}
+use Rattle.std.proofs.Common.{◌≡◌, ◌≢◌, ◌⊎◌, ℕ, zero, suc, ◌+◌, ◌-◌, ◌*◌, ◌/◌, ◌%◌, ◌^◌, ◌<◌, ◌≤◌, Bool, true, false, cond, eqb, leb, ltb, ◌&&◌, List, length}
+use Rattle.std.proofs.Common.{get_or, Option, Some, None, inl, inr, refl, sym, ap, ap₂, ◌∙◌, subst, arith, shr-shr, pow_pos, div-one, div-add-mod'}
 use Rattle.std.specs.Prelude.{slice_get}
 use Rattle.std.specs.Option.{option_or}
 use Rattle.std.proofs.lemmas.Option.{same_Some, none-some, slice_get_within, slice_get-get_or}
-use Rattle.std.proofs.lemmas.Bool.{cases_lt, and_parts, and_from, and_left, and_right, eqb-true, leb-true, ltb-true, eq-eqb, ne_eqb, le-leb, lt-leb, lt-ltb, cond-true, cond-false}
+use Rattle.std.proofs.lemmas.Bool.{cases_lt, and_parts, and_from, and_left, and_right, eqb-true, leb-true, ltb-true, eq-eqb, ne_eqb, le-leb, lt-leb, lt-ltb}
+use Rattle.std.proofs.lemmas.Bool.{cond-true, cond-false}
 use Rattle.std.proofs.lemmas.Nat.{div-mul-add, mod_below}
 use Rattle.wire.specs.declared.message.Ask.{Ask}
 use Rattle.node_maps.specs.Digest.{Hash, join}
@@ -61,7 +63,8 @@ module _ (ask : Ask) (hashes : List Hash) where
   -- a claim is given, or is the join of two claimed children
   pub claims-read : (l i : ℕ) (v : Hash) → claims ask hashes (suc l) i ≡ Some v
       → (given ask hashes (suc l) i ≡ Some v)
-      ⊎ ((given ask hashes (suc l) i ≡ None) × ((a b : Hash) × (claims ask hashes l (2 * i) ≡ Some a) × (claims ask hashes l (2 * i + 1) ≡ Some b) × (v ≡ join a b)))
+      ⊎ ((given ask hashes (suc l) i ≡ None) × ((a b : Hash) × (claims ask hashes l (2 * i) ≡ Some a) × (claims ask hashes l (2 * i + 1) ≡ Some b)
+          × (v ≡ join a b)))
   unfolding claims
   claims-read l i v e = elim (either (given ask hashes (suc l) i) (join_both (claims ask hashes l (2 * i)) (claims ask hashes l (2 * i + 1))) v e) [
     | inl g ↦ inl g
@@ -77,7 +80,8 @@ module _ (ask : Ask) (hashes : List Hash) where
   claims-given zero i v e = e
   claims-given (suc l) i v e = first_of_two (given ask hashes (suc l) i) _ v e
 
-  pub claims-joined : (l i : ℕ) (a b : Hash) → given ask hashes (suc l) i ≡ None → claims ask hashes l (2 * i) ≡ Some a → claims ask hashes l (2 * i + 1) ≡ Some b
+  pub claims-joined : (l i : ℕ) (a b : Hash) → given ask hashes (suc l) i ≡ None → claims ask hashes l (2 * i) ≡ Some a
+      → claims ask hashes l (2 * i + 1) ≡ Some b
       → claims ask hashes (suc l) i ≡ Some (join a b)
   unfolding claims
   claims-joined l i a b none p q =

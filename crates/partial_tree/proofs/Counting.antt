@@ -20,7 +20,8 @@ len-one m h root none =
     let zero_long : map.len m ≡ 0 = ap map.len none ∙ len-empty place_cmp Hash in
     len-insert place_total m (h, 0) root ∙ ap (λ b. cond b (map.len m) (map.len m + 1)) absent ∙ omega arith
 
-pub counted_root : (h n : ℕ) (root : Hash) (m K : Known) (M : Marked) → m ≡ empty → K ≡ insert m (h, 0) root → M ≡ set.empty → h ≡ tree_height n → h ≤ 32 → IsCounted h 1 0 n K M
+pub counted_root : (h n : ℕ) (root : Hash) (m K : Known) (M : Marked) → m ≡ empty → K ≡ insert m (h, 0) root → M ≡ set.empty → h ≡ tree_height n → h ≤ 32
+    → IsCounted h 1 0 n K M
 counted_root h n root m K M none k marks is low = record {
   height_is = is;
   low = low;
@@ -28,7 +29,8 @@ counted_root h n root m K M none k marks is low = record {
   marked_is = sym (ap set.len marks ∙ set.len-empty nat_cmp);
 }
 
-pub counted_more : (h known marked n c : ℕ) (K K' : Known) (M M' : Marked) → IsCounted h known marked n K M → map.len K' ≡ map.len K + c → M' ≡ M → IsCounted h (known + c) marked n K' M'
+pub counted_more : (h known marked n c : ℕ) (K K' : Known) (M M' : Marked) → IsCounted h known marked n K M → map.len K' ≡ map.len K + c → M' ≡ M
+    → IsCounted h (known + c) marked n K' M'
 counted_more h known marked n c K K' M M' is more same = record {
   height_is = is.height_is;
   low = is.low;
@@ -44,7 +46,8 @@ counted_same h known marked n K K' M M' is k m = record {
   marked_is = is.marked_is ∙ sym (ap set.len m);
 }
 
-pub counted_mark : (h known marked n more : ℕ) (K K' : Known) (M M' : Marked) → IsCounted h known marked n K M → K' ≡ K → set.len M' ≡ set.len M + more → IsCounted h known (marked + more) n K' M'
+pub counted_mark : (h known marked n more : ℕ) (K K' : Known) (M M' : Marked) → IsCounted h known marked n K M → K' ≡ K → set.len M' ≡ set.len M + more
+    → IsCounted h known (marked + more) n K' M'
 counted_mark h known marked n more K K' M M' is k m = record {
   height_is = is.height_is;
   low = is.low;
@@ -53,7 +56,8 @@ counted_mark h known marked n more K K' M M' is k m = record {
 }
 
 pub len_marked_again : (M M' : Marked) (b : ℕ) (t : Bool) → M' ≡ set.insert M b → t ≡ set.contains M b → t ≡ true → set.len M' ≡ set.len M + 0
-len_marked_again M M' b t m is already = ap set.len m ∙ set.len-insert nat_cmp_total M b ∙ ap (λ x. cond x (set.len M) (set.len M + 1)) (sym is ∙ already) ∙ omega arith
+len_marked_again M M' b t m is already = ap set.len m ∙ set.len-insert nat_cmp_total M b ∙ ap (λ x. cond x (set.len M) (set.len M + 1)) (sym is ∙ already)
+    ∙ omega arith
 
 pub len_marked_first : (M M' : Marked) (b : ℕ) (t : Bool) → M' ≡ set.insert M b → t ≡ set.contains M b → t ≡ false → set.len M' ≡ set.len M + 1
 len_marked_first M M' b t m is not_yet = ap set.len m ∙ set.len-insert nat_cmp_total M b ∙ ap (λ x. cond x (set.len M) (set.len M + 1)) (sym is ∙ not_yet)

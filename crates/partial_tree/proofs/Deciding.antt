@@ -9,7 +9,8 @@ use Rattle.partial_tree.specs.declared.refusal.HashRefusal.{HashRefusal}
 use Rattle.partial_tree.specs.declared.refusal.HashRefusal.TheVariants.{UnknownRoot, BadRange, BadCount, BadPad, Unanchored, Mismatch, NoMemory, Unasked}
 use Rattle.node_maps.specs.Digest.{Hash}
 use Rattle.hashtree.specs.Tree.{block_count, zero_hash}
-use Rattle.partial_tree.specs.Claims.{span, cover, above, uncles, base_hash, uncle_hash, given, claims, top_layer, top_index, GoodRange, GoodCount, IsBadPad, IsMismatch, IsAgreed, IsAccepted, Fault, Refuses}
+use Rattle.partial_tree.specs.Claims.{span, cover, above, uncles, base_hash, uncle_hash, given, claims, top_layer, top_index, GoodRange, GoodCount, IsBadPad}
+use Rattle.partial_tree.specs.Claims.{IsMismatch, IsAgreed, IsAccepted, Fault, Refuses}
 use Rattle.partial_tree.specs.Names.{hash_refusal_number}
 use Rattle.partial_tree.proofs.Digests.{same_or_not}
 use Rattle.partial_tree.proofs.Claimed.{either, there_or_not, base-read, uncle-read}
@@ -49,7 +50,8 @@ count_or_not h ask hashes = elim (cases_lt (length hashes) ask.length) [
 ]
 
 -- given places stand below these bounds
-given-bounded : (ask : Ask) (hashes : List Hash) (l i : ℕ) (v : Hash) → given ask hashes l i ≡ Some v → (l < suc (top_layer ask hashes)) × (i < ask.index + ask.length + 2)
+given-bounded : (ask : Ask) (hashes : List Hash) (l i : ℕ) (v : Hash) → given ask hashes l i ≡ Some v
+    → (l < suc (top_layer ask hashes)) × (i < ask.index + ask.length + 2)
 given-bounded ask hashes l i v e = elim (either (base_hash ask hashes l i) (uncle_hash ask hashes l i) v e) [
   | inl b ↦ let (at, low, high, got) = base-read ask hashes l i v b in (omega arith, omega arith)
   | inr (none, u) ↦
@@ -161,7 +163,8 @@ module _ (t : TreeRoot) (K : PartialTree) (ask : Ask) (hashes : List Hash) where
   first_anchor range count pads Unanchored low f = omega arith
   first_anchor range count pads Mismatch low f = omega arith
 
-  pub first_mismatch : GoodRange (tree_height t.length) ask → GoodCount (tree_height t.length) ask hashes → Pads → IsKnown K (top_layer ask hashes) (top_index ask hashes) → Before Mismatch
+  pub first_mismatch : GoodRange (tree_height t.length) ask → GoodCount (tree_height t.length) ask hashes → Pads
+      → IsKnown K (top_layer ask hashes) (top_index ask hashes) → Before Mismatch
   first_mismatch range count pads top UnknownRoot low f = f
   first_mismatch range count pads top BadRange low f = f range
   first_mismatch range count pads top BadCount low f = f count
@@ -172,7 +175,8 @@ module _ (t : TreeRoot) (K : PartialTree) (ask : Ask) (hashes : List Hash) where
   first_mismatch range count pads top Mismatch low f = omega arith
 
   -- a message for a tree whose known places are finite is accepted, or one refusal is the first
-  pub accepted_or_refused : ((l i : ℕ) (v : Hash) → K l i ≡ Some v → IsTreePlace (tree_height t.length) l i) → IsAccepted t.length K ask hashes ⊎ ((r : HashRefusal) × Refuses t.length K ask hashes r)
+  pub accepted_or_refused : ((l i : ℕ) (v : Hash) → K l i ≡ Some v → IsTreePlace (tree_height t.length) l i) → IsAccepted t.length K ask hashes
+      ⊎ ((r : HashRefusal) × Refuses t.length K ask hashes r)
   accepted_or_refused inside = elim (range_or_not (tree_height t.length) ask) [
     | inr no_range ↦ inr (BadRange, record { fault = no_range; first = first_range })
     | inl range ↦ elim (count_or_not (tree_height t.length) ask hashes) [

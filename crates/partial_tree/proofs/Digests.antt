@@ -1,5 +1,6 @@
 -- A digest is a hash, and equality of lists of numbers is decided.
-use Rattle.std.proofs.Common.{◌≡◌, ◌≢◌, ◌⊎◌, ℕ, zero, suc, ◌<◌, List, [], ◌∷◌, ◌++◌, length, take, drop, inl, inr, refl, sym, ap, ap₂, ◌∙◌, subst, take_at, drop_at, arith}
+use Rattle.std.proofs.Common.{◌≡◌, ◌≢◌, ◌⊎◌, ℕ, zero, suc, ◌<◌, List, [], ◌∷◌, ◌++◌, length, take, drop, inl, inr, refl, sym, ap, ap₂, ◌∙◌, subst, take_at}
+use Rattle.std.proofs.Common.{drop_at, arith}
 use Rattle.std.specs.List.{All, flat_map}
 use Rattle.std.specs.Int.{bytes_high_first, byte_at}
 use Rattle.std.specs.Prelude.{slice_index}
@@ -24,7 +25,8 @@ number-are_bytes (suc k) n = All-cons IsByte (byte_at k n) (bytes_high_first k n
 words-are_bytes : (h : List ℕ) (n : ℕ) → AreBytes (digest_bytes h n)
 unfolding digest_bytes
 words-are_bytes h zero = All-nil IsByte
-words-are_bytes h (suc n) = All-append IsByte (digest_bytes h n) (bytes_high_first 4 (slice_index h n)) (words-are_bytes h n) (number-are_bytes 4 (slice_index h n))
+words-are_bytes h (suc n) = All-append IsByte (digest_bytes h n) (bytes_high_first 4 (slice_index h n)) (words-are_bytes h n)
+    (number-are_bytes 4 (slice_index h n))
 
 -- a digest is made of bytes, whatever it is of
 pub digest-are_bytes : (m : List ℕ) → AreBytes (sha256 m)

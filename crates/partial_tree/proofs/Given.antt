@@ -18,7 +18,8 @@ module _ (e : Evidence) where
 
   -- how many hashes there are, pads counted
   pub hashes-length : length (hashes_of e) ≡ length e.hashes.now + (2 ^ e.span - length e.hashes.now)
-  hashes-length = length-append e.hashes.now (replicate (2 ^ e.span - length e.hashes.now) e.pad) ∙ ap (λ k. length e.hashes.now + k) (length-replicate (2 ^ e.span - length e.hashes.now) e.pad)
+  hashes-length = length-append e.hashes.now (replicate (2 ^ e.span - length e.hashes.now) e.pad)
+      ∙ ap (λ k. length e.hashes.now + k) (length-replicate (2 ^ e.span - length e.hashes.now) e.pad)
 
   -- a hash that is there
   pub hash_there : (k : ℕ) → k < length e.hashes.now → slice_get (hashes_of e) k ≡ Some (get_or e.hashes.now k [])
@@ -33,7 +34,8 @@ module _ (e : Evidence) where
   pub uncle-low : (l i : ℕ) → l < e.base + e.span → uncle_hash (range_of e) (hashes_of e) l i ≡ None
   uncle-low l i low = cond-false _ _ _ (and_left (leb (cover (range_of e)) l) _ (lt-leb (cover (range_of e)) l (subst (λ k. l < k) (sym cover_is) low)))
 
-  pub uncle-here : (l i : ℕ) → e.base + e.span ≤ l → i ≡ sibling (e.index / 2 ^ (l - e.base)) → uncle_hash (range_of e) (hashes_of e) l i ≡ slice_get (hashes_of e) (2 ^ e.span + (l - (e.base + e.span)))
+  pub uncle-here : (l i : ℕ) → e.base + e.span ≤ l → i ≡ sibling (e.index / 2 ^ (l - e.base))
+      → uncle_hash (range_of e) (hashes_of e) l i ≡ slice_get (hashes_of e) (2 ^ e.span + (l - (e.base + e.span)))
   uncle-here l i high same =
       cond-true _ _ _ (and_from _ _ (le-leb (cover (range_of e)) l (subst (λ k. k ≤ l) (sym cover_is) high)) (eq-eqb i (sibling (above (range_of e) l)) same))
       ∙ ap (λ k. slice_get (hashes_of e) (2 ^ e.span + (l - k))) cover_is

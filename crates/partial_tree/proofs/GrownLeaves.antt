@@ -1,6 +1,7 @@
 -- A tree that grows from its leaves: first the leaves, then the pads after them, then the layers
 -- above, one after the other.
-use Rattle.std.proofs.Common.{◌≡◌, ◌≢◌, ◌⊎◌, ℕ, zero, suc, ◌+◌, ◌-◌, ◌*◌, ◌/◌, ◌%◌, ◌^◌, ◌<◌, ◌≤◌, List, [], ◌∷◌, ◌++◌, length, get_or, Some, None, inl, inr, refl, sym, ap, ap₂, ◌∙◌, subst, subst₂, arith, pow_pos, div-one, div-add-mod', mod-eq_of_lt}
+use Rattle.std.proofs.Common.{◌≡◌, ◌≢◌, ◌⊎◌, ℕ, zero, suc, ◌+◌, ◌-◌, ◌*◌, ◌/◌, ◌%◌, ◌^◌, ◌<◌, ◌≤◌, List, [], ◌∷◌, ◌++◌, length, get_or, Some, None, inl, inr}
+use Rattle.std.proofs.Common.{refl, sym, ap, ap₂, ◌∙◌, subst, subst₂, arith, pow_pos, div-one, div-add-mod', mod-eq_of_lt}
 use Rattle.std.specs.FinMap.{insert, len, empty, len-empty, get-empty}
 use Rattle.std.specs.Prelude.{slice_get}
 use Rattle.std.specs.Option.{unwrap_or}
@@ -39,7 +40,8 @@ pub length-leaves : (K : Known) (count : ℕ) → length (leaves_in K count) ≡
 length-leaves K count = length-map (range_with_len 0 count) (λ j. unwrap_or (look K 0 (0 + j)) pad_leaf) ∙ length-range_with_len 0 count
 
 pub leaf-at : (K : Known) (count i : ℕ) → i < count → get_or (leaves_in K count) i [] ≡ unwrap_or (look K 0 i) pad_leaf
-leaf-at K count i low = get_or-map-range_with_len (λ j. unwrap_or (look K 0 (0 + j)) pad_leaf) 0 count i i [] low (omega arith) ∙ ap (λ k. unwrap_or (look K 0 k) pad_leaf) (zero-more i)
+leaf-at K count i low = get_or-map-range_with_len (λ j. unwrap_or (look K 0 (0 + j)) pad_leaf) 0 count i i [] low (omega arith)
+    ∙ ap (λ k. unwrap_or (look K 0 k) pad_leaf) (zero-more i)
 
 -- nothing was given yet
 pub growing-none : (K : Known) → K ≡ empty → IsGrowing 0 K
@@ -54,7 +56,8 @@ pub leaves-more : (K K' : Known) (n : ℕ) (h : Hash) → K' ≡ insert K (0, n)
 leaves-more K K' n h put =
     hashes-one (look K' 0) 0 n
     ∙ ap (λ xs. xs ++ unwrap_or (look K' 0 (0 + n)) pad_leaf ∷ [])
-    (hashes-alike (look K' 0) (look K 0) 0 0 n (record { at = λ j low. ap (λ m. look m 0 (0 + j)) put ∙ look-insert_other K 0 n h 0 (0 + j) (inr (λ e. omega arith)) }))
+    (hashes-alike (look K' 0) (look K 0) 0 0 n (record { at = λ j low. ap (λ m. look m 0 (0 + j)) put
+        ∙ look-insert_other K 0 n h 0 (0 + j) (inr (λ e. omega arith)) }))
     ∙ ap (λ o. leaves_in K n ++ unwrap_or o pad_leaf ∷ []) (ap (look K' 0) (zero-more n) ∙ ap (λ m. look m 0 n) put ∙ look-insert_same K 0 n h)
 
 -- one leaf more
@@ -110,13 +113,15 @@ module _ (n : ℕ) (leaves : List Hash) (right_count : length leaves ≡ block_c
   not-given : (k i : ℕ) → given (fill_ask n 0) (fill_hashes n 0 leaves) (suc k) i ≡ None
   not-given k i = elim (there_or_not (given (fill_ask n 0) (fill_hashes n 0 leaves) (suc k) i)) [
     | inr none ↦ none
-    | inl (v, e) ↦ elim (either (base_hash (fill_ask n 0) (fill_hashes n 0 leaves) (suc k) i) (uncle_hash (fill_ask n 0) (fill_hashes n 0 leaves) (suc k) i) v e) [
+    | inl (v, e) ↦ elim (either (base_hash (fill_ask n 0) (fill_hashes n 0 leaves) (suc k) i) (uncle_hash (fill_ask n 0) (fill_hashes n 0 leaves) (suc k) i) v
+        e) [
       | inl b ↦
           let (at, low, high, got) = base-read (fill_ask n 0) (fill_hashes n 0 leaves) (suc k) i v b in
           absurd (omega (arith, at))
       | inr (none, u) ↦
           let (from, at, got) = uncle-read (fill_ask n 0) (fill_hashes n 0 leaves) (suc k) i v u in
-          let within' : (fill_ask n 0).length + (suc k - cover (fill_ask n 0)) < length (fill_hashes n 0 leaves) = slice_get_within (fill_hashes n 0 leaves) ((fill_ask n 0).length + (suc k - cover (fill_ask n 0))) v got in
+          let within' : (fill_ask n 0).length + (suc k - cover (fill_ask n 0)) < length (fill_hashes n 0 leaves) = slice_get_within (fill_hashes n 0 leaves)
+              ((fill_ask n 0).length + (suc k - cover (fill_ask n 0))) v got in
           let all : length (fill_hashes n 0 leaves) ≡ 2 ^ (tree_height n - 0) = full t nothing 0 leaves inside all_given in
           absurd (omega arith)
     ]
@@ -153,7 +158,8 @@ module _ (n : ℕ) (leaves : List Hash) (right_count : length leaves ≡ block_c
       let same : i - 0 ≡ i = omega arith in
       let there : i < length (fill_hashes n 0 leaves) = omega (arith, wide) in
       claims-given (fill_ask n 0) (fill_hashes n 0 leaves) 0 i _
-      (first_of_two _ _ _ (cond-true _ _ _ (and_from _ _ (eq-eqb 0 0 refl) (and_from _ _ (le-leb 0 i (omega arith)) (lt-ltb i (0 + 2 ^ (tree_height n - 0)) (omega arith))))
+      (first_of_two _ _ _ (cond-true _ _ _ (and_from _ _ (eq-eqb 0 0 refl)
+          (and_from _ _ (le-leb 0 i (omega arith)) (lt-ltb i (0 + 2 ^ (tree_height n - 0)) (omega arith))))
       ∙ ap (slice_get (fill_hashes n 0 leaves)) same ∙ slice_get-get_or (fill_hashes n 0 leaves) i [] there))
 
   fits : length leaves ≤ 2 ^ tree_height n
@@ -179,34 +185,43 @@ module _ (n : ℕ) (leaves : List Hash) (right_count : length leaves ≡ block_c
       (get_or (fill_hashes n 0 leaves) i [], row-claimed i (subst (λ k. i < 2 ^ k) all at.1))
   all-claimed (suc k) i at =
       let step : tree_height n - k ≡ suc (tree_height n - suc k) = omega (arith, at.0) in
-      let twice : 2 ^ (tree_height n - k) ≡ 2 ^ (tree_height n - suc k) + 2 ^ (tree_height n - suc k) = ap (λ j. 2 ^ j) step ∙ two_halves (tree_height n - suc k) in
+      let twice : 2 ^ (tree_height n - k) ≡ 2 ^ (tree_height n - suc k) + 2 ^ (tree_height n - suc k) = ap (λ j. 2 ^ j) step
+          ∙ two_halves (tree_height n - suc k) in
       let left = all-claimed k (2 * i) (omega (arith, at.0), omega (arith, at.1)) in
       let right = all-claimed k (2 * i + 1) (omega (arith, at.0), omega (arith, at.1)) in
       (_, joined-above k i ∙ ap₂ join_both left.1 right.1)
 
   -- one layer more
-  pub layer-more : (layer : ℕ) (K K' : Known) → layer < tree_height n → IsUpTo n leaves layer K → AddsRow K (suc layer) 0 (2 ^ (tree_height n - suc layer)) (parents_of K layer) K' → IsUpTo n leaves (suc layer) K'
+  pub layer-more : (layer : ℕ) (K K' : Known) → layer < tree_height n → IsUpTo n leaves layer K
+      → AddsRow K (suc layer) 0 (2 ^ (tree_height n - suc layer)) (parents_of K layer) K' → IsUpTo n leaves (suc layer) K'
   layer-more layer K K' low is adds = record {
     same = λ l i le. by_layer l i le (cases_eq l (suc layer));
     none_above = λ l i high. adds.rest l i (inl (λ e. omega arith)) ∙ is.none_above l i (omega arith);
     counted =
         let step : tree_height n - layer ≡ suc (tree_height n - suc layer) = omega arith in
-        let twice : 2 ^ (tree_height n - layer) ≡ 2 ^ (tree_height n - suc layer) + 2 ^ (tree_height n - suc layer) = ap (λ j. 2 ^ j) step ∙ two_halves (tree_height n - suc layer) in
+        let twice : 2 ^ (tree_height n - layer) ≡ 2 ^ (tree_height n - suc layer) + 2 ^ (tree_height n - suc layer) = ap (λ j. 2 ^ j) step
+            ∙ two_halves (tree_height n - suc layer) in
         omega (arith, adds.gained, is.counted, twice);
   }
     where
       by_layer : (l i : ℕ) → l ≤ suc layer → (l ≡ suc layer) ⊎ (l ≢ suc layer) → look K' l i ≡ fill_claims n 0 leaves l i
       by_layer l i le (inr other) = adds.rest l i (inl other) ∙ is.same l i (omega arith)
-      by_layer l i le (inl here) = ap (λ k. look K' k i) here ∙ on_layer i (cases_lt i (2 ^ (tree_height n - suc layer))) ∙ ap (λ k. fill_claims n 0 leaves k i) (sym here)
+      by_layer l i le (inl here) = ap (λ k. look K' k i) here ∙ on_layer i (cases_lt i (2 ^ (tree_height n - suc layer)))
+          ∙ ap (λ k. fill_claims n 0 leaves k i) (sym here)
         where
-          on_layer : (i : ℕ) → (i < 2 ^ (tree_height n - suc layer)) ⊎ (2 ^ (tree_height n - suc layer) ≤ i) → look K' (suc layer) i ≡ fill_claims n 0 leaves (suc layer) i
-          on_layer i (inl in') = adds.row i (omega arith) in' ∙ ap₂ join_both (is.same layer (2 * i) (omega arith)) (is.same layer (2 * i + 1) (omega arith)) ∙ sym (joined-above layer i)
-          on_layer i (inr past) = adds.rest (suc layer) i (inr (inr past)) ∙ is.none_above (suc layer) i (omega arith) ∙ sym (claims-outside (suc layer) i (inr past))
+          on_layer : (i : ℕ) → (i < 2 ^ (tree_height n - suc layer)) ⊎ (2 ^ (tree_height n - suc layer) ≤ i)
+              → look K' (suc layer) i ≡ fill_claims n 0 leaves (suc layer) i
+          on_layer i (inl in') = adds.row i (omega arith) in' ∙ ap₂ join_both (is.same layer (2 * i) (omega arith)) (is.same layer (2 * i + 1) (omega arith))
+              ∙ sym (joined-above layer i)
+          on_layer i (inr past) = adds.rest (suc layer) i (inr (inr past)) ∙ is.none_above (suc layer) i (omega arith)
+              ∙ sym (claims-outside (suc layer) i (inr past))
 
-  pub children-known : (layer : ℕ) (K : Known) → layer < tree_height n → IsUpTo n leaves layer K → AreKnown (look K layer) 0 (2 * 2 ^ (tree_height n - suc layer))
+  pub children-known : (layer : ℕ) (K : Known) → layer < tree_height n → IsUpTo n leaves layer K
+      → AreKnown (look K layer) 0 (2 * 2 ^ (tree_height n - suc layer))
   children-known layer K low is j in' =
       let step : tree_height n - layer ≡ suc (tree_height n - suc layer) = omega arith in
-      let twice : 2 ^ (tree_height n - layer) ≡ 2 ^ (tree_height n - suc layer) + 2 ^ (tree_height n - suc layer) = ap (λ j. 2 ^ j) step ∙ two_halves (tree_height n - suc layer) in
+      let twice : 2 ^ (tree_height n - layer) ≡ 2 ^ (tree_height n - suc layer) + 2 ^ (tree_height n - suc layer) = ap (λ j. 2 ^ j) step
+          ∙ two_halves (tree_height n - suc layer) in
       let here = all-claimed layer (0 + j) (omega arith, omega (arith, in')) in
       (here.0, is.same layer (0 + j) (omega arith) ∙ here.1)
 
@@ -235,34 +250,41 @@ module _ (n : ℕ) (K : Known) (is : IsGrowing (block_count n) K) where
   -- with the pads
   pub pads-same : (K' : Known) → AddsRow K 0 (block_count n) (2 ^ tree_height n) (λ _. Some pad_leaf) K' → IsUpTo n (leaves_in K (block_count n)) 0 K'
   pads-same K' adds = record {
-    same = λ l i le. (let first : l ≡ 0 = omega arith in ap (λ k. look K' k i) first ∙ by_place i (cases_lt i (block_count n)) (cases_lt i (2 ^ tree_height n)) ∙ ap (λ k. fill_claims n 0 (leaves_in K (block_count n)) k i) (sym first));
+    same = λ l i le. (let first : l ≡ 0 = omega arith in ap (λ k. look K' k i) first ∙ by_place i (cases_lt i (block_count n)) (cases_lt i (2 ^ tree_height n))
+        ∙ ap (λ k. fill_claims n 0 (leaves_in K (block_count n)) k i) (sym first));
     none_above = λ l i high. adds.rest l i (inl (λ e. omega arith)) ∙ is.none_else l i (inl (λ e. omega arith));
     counted =
-        let all : 2 ^ (tree_height n - 0) ≡ 2 ^ tree_height n = (let none_less : tree_height n - 0 ≡ tree_height n = omega arith in ap (λ k. 2 ^ k) none_less) in
+        let all : 2 ^ (tree_height n - 0) ≡ 2 ^ tree_height n = (let none_less : tree_height n - 0 ≡ tree_height n = omega arith in ap (λ k. 2 ^ k) none_less)
+            in
         omega (arith, adds.gained, is.counted, two_halves (tree_height n), all);
   }
     where
-      by_place : (i : ℕ) → (i < block_count n) ⊎ (block_count n ≤ i) → (i < 2 ^ tree_height n) ⊎ (2 ^ tree_height n ≤ i) → look K' 0 i ≡ fill_claims n 0 (leaves_in K (block_count n)) 0 i
+      by_place : (i : ℕ) → (i < block_count n) ⊎ (block_count n ≤ i) → (i < 2 ^ tree_height n) ⊎ (2 ^ tree_height n ≤ i)
+          → look K' 0 i ≡ fill_claims n 0 (leaves_in K (block_count n)) 0 i
       by_place i (inl leaf) q = adds.rest 0 i (inr (inl leaf)) ∙ known-leaf i leaf
       by_place i (inr past) (inl in') = adds.row i past in' ∙ sym (pad-claimed n (leaves_in K (block_count n)) right i (omega (arith, right)) in')
       by_place i (inr past) (inr out) =
-          let all : 2 ^ (tree_height n - 0) ≡ 2 ^ tree_height n = (let none_less : tree_height n - 0 ≡ tree_height n = omega arith in ap (λ k. 2 ^ k) none_less) in
+          let all : 2 ^ (tree_height n - 0) ≡ 2 ^ tree_height n = (let none_less : tree_height n - 0 ≡ tree_height n = omega arith in ap (λ k. 2 ^ k) none_less)
+              in
           adds.rest 0 i (inr (inr out)) ∙ is.none_else 0 i (inr past) ∙ sym (claims-outside n (leaves_in K (block_count n)) right 0 i (inr (omega arith)))
 
   -- the leaves stay
   pub leaves-same : (K' : Known) → IsUpTo n (leaves_in K (block_count n)) (tree_height n) K' → leaves_in K' (block_count n) ≡ leaves_in K (block_count n)
-  leaves-same K' done = hashes-alike (look K' 0) (look K 0) 0 0 (block_count n) (record { at = λ j low. done.same 0 (0 + j) (omega arith) ∙ sym (known-leaf (0 + j) (omega (arith, low))) })
+  leaves-same K' done = hashes-alike (look K' 0) (look K 0) 0 0 (block_count n) (record { at = λ j low. done.same 0 (0 + j) (omega arith)
+      ∙ sym (known-leaf (0 + j) (omega (arith, low))) })
 
   pub grown-whole : (K' : Known) → IsUpTo n (leaves_in K (block_count n)) (tree_height n) K' → FollowsFromLeaves n (block_count n) K'
   grown-whole K' done = record {
     claimed = λ l i. all-same n (leaves_in K (block_count n)) right K' done l i ∙ ap (λ xs. fill_claims n 0 xs l i) (sym (leaves-same K' done));
     hashes = subst AreHashes (sym (leaves-same K' done)) is.hashes;
-    leaves_known = λ j low. (let there = is.leaves_known j low in (there.0, done.same 0 (0 + j) (omega arith) ∙ sym (known-leaf (0 + j) (omega (arith, low))) ∙ there.1));
+    leaves_known = λ j low. (let there = is.leaves_known j low in (there.0, done.same 0 (0 + j) (omega arith) ∙ sym (known-leaf (0 + j) (omega (arith, low)))
+        ∙ there.1));
   }
 
 -- ---- as a tree that grows keeps them
 
-module _ (n count : ℕ) (K : Known) (t : GrownTree) (view_is : grown n (leaves_in K count) ≡ t) (all_there : length t.leaves ≡ block_count t.length) (is : IsGrowing count K) where
+module _ (n count : ℕ) (K : Known) (t : GrownTree) (view_is : grown n (leaves_in K count) ≡ t) (all_there : length t.leaves ≡ block_count t.length)
+    (is : IsGrowing count K) where
   all : count ≡ block_count n
   all = sym (length-leaves K count) ∙ subst (λ (x : GrownTree). length x.leaves ≡ block_count x.length) (sym view_is) all_there
 
@@ -287,7 +309,8 @@ module _ (n count : ℕ) (K : Known) (t : GrownTree) (view_is : grown n (leaves_
       subst (λ m. (len m + 1 ≡ 2 ^ suc (tree_height n)) × FollowsFromLeaves n (block_count n) m × (leaves_in m (block_count n) ≡ t.leaves)) (sym same)
       (one (subst (λ k. IsUpTo n (leaves_in K (block_count n)) k K') top (unseen layer K' up)))
     where
-      one : IsUpTo n (leaves_in K (block_count n)) (tree_height n) K' → (len K' + 1 ≡ 2 ^ suc (tree_height n)) × FollowsFromLeaves n (block_count n) K' × (leaves_in K' (block_count n) ≡ t.leaves)
+      one : IsUpTo n (leaves_in K (block_count n)) (tree_height n) K' → (len K' + 1 ≡ 2 ^ suc (tree_height n)) × FollowsFromLeaves n (block_count n) K'
+          × (leaves_in K' (block_count n) ≡ t.leaves)
       one done =
           let none_left : tree_height n - tree_height n ≡ 0 = omega arith in
           let single : 2 ^ (tree_height n - tree_height n) ≡ 2 ^ 0 = ap (λ k. 2 ^ k) none_left in (
@@ -296,7 +319,8 @@ module _ (n count : ℕ) (K : Known) (t : GrownTree) (view_is : grown n (leaves_
             leaves-same n K every K' done ∙ ap (leaves_in K) (sym all) ∙ ap (λ (x : GrownTree). x.leaves) view_is,
           )
 
-pub next_layer : (t : GrownTree) (layer next count : ℕ) (K K' : Known) → length t.leaves ≡ block_count t.length → layer < tree_height t.length → next ≡ layer + 1 → count ≡ 2 ^ (tree_height t.length - suc layer)
+pub next_layer : (t : GrownTree) (layer next count : ℕ) (K K' : Known) → length t.leaves ≡ block_count t.length → layer < tree_height t.length
+    → next ≡ layer + 1 → count ≡ 2 ^ (tree_height t.length - suc layer)
     → IsUpTo t.length t.leaves layer K → AddsRow K next 0 count (parents_of K layer) K' → IsUpTo t.length t.leaves next K'
 next_layer t layer next count K K' all low up wide is adds =
     let above : next ≡ suc layer = omega arith in

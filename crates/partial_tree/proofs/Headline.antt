@@ -1,5 +1,6 @@
 -- A block whose digest is a known leaf is the block of every file that fits, or a collision is named.
-use Rattle.std.proofs.Common.{◌≡◌, ◌⊎◌, ℕ, ◌-◌, ◌*◌, ◌^◌, ◌<◌, ◌≤◌, min, List, length, drop, Some, inl, inr, sym, ap, ◌∙◌, subst, arith, length-take, length-drop}
+use Rattle.std.proofs.Common.{◌≡◌, ◌⊎◌, ℕ, ◌-◌, ◌*◌, ◌^◌, ◌<◌, ◌≤◌, min, List, length, drop, Some, inl, inr, sym, ap, ◌∙◌, subst, arith, length-take}
+use Rattle.std.proofs.Common.{length-drop}
 use Rattle.sha2.specs.Sha256.{sha256}
 use Rattle.partial_tree.specs.TreeRoot.{TreeRoot, Fits}
 use Rattle.node_maps.specs.Places.{tree_height, PartialTree}

@@ -1,5 +1,6 @@
 -- A closed partial tree stays closed when an accepted message is joined to it, and nothing is lost.
-use Rattle.std.proofs.Common.{◌≡◌, ℕ, zero, suc, ◌+◌, ◌-◌, ◌*◌, ◌/◌, ◌%◌, ◌^◌, ◌<◌, ◌≤◌, List, length, ◌++◌, Some, None, inl, inr, sym, ap, ap₂, ◌∙◌, subst, subst₂, arith, eq-or-lt_of_le}
+use Rattle.std.proofs.Common.{◌≡◌, ℕ, zero, suc, ◌+◌, ◌-◌, ◌*◌, ◌/◌, ◌%◌, ◌^◌, ◌<◌, ◌≤◌, List, length, ◌++◌, Some, None, inl, inr, sym, ap, ap₂, ◌∙◌, subst}
+use Rattle.std.proofs.Common.{subst₂, arith, eq-or-lt_of_le}
 use Rattle.std.specs.List.{All}
 use Rattle.std.specs.Prelude.{slice_get}
 use Rattle.std.proofs.lemmas.Option.{none-some, slice_get_within, get_or_from_slice_get}
@@ -17,7 +18,8 @@ use Rattle.partial_tree.proofs.Digests.{is_hash}
 use Rattle.partial_tree.proofs.Powers.{spans-some}
 use Rattle.node_maps.proofs.Places.{place_child, two_halves}
 use Rattle.hashtree.proofs.Zeros.{zero_hash-suc}
-use Rattle.partial_tree.proofs.Claimed.{either, first_of_two, second_of_two, there_or_not, base-read, uncle-read, claims-read, claims-zero, claimed-family, claimed-to_top, claimed-top}
+use Rattle.partial_tree.proofs.Claimed.{either, first_of_two, second_of_two, there_or_not, base-read, uncle-read, claims-read, claims-zero, claimed-family}
+use Rattle.partial_tree.proofs.Claimed.{claimed-to_top, claimed-top}
 
 -- what is known stays known
 pub joined-keeps : (K C : PartialTree) (l i : ℕ) (v : Hash) → K l i ≡ Some v → joined K C l i ≡ Some v
@@ -144,10 +146,12 @@ module _ (t : TreeRoot) (K : PartialTree) (ask : Ask) (hashes : List Hash)
 pub joined-closed : (t : TreeRoot) (K : PartialTree) (ask : Ask) (hashes : List Hash)
     → IsClosed t K → All IsHash hashes → IsAccepted t.length K ask hashes → IsClosed t (joined K (claims ask hashes))
 joined-closed t K ask hashes closed all ok =
-    joined-closed_by_parts t K ask hashes closed all (spans-some (tree_height t.length) ask ok.range) ok.range.power_of_two ok.range.aligned ok.count.enough ok.count.top_inside ok.pads ok.top_known.0 ok.top_known.1 ok.agrees
+    joined-closed_by_parts t K ask hashes closed all (spans-some (tree_height t.length) ask ok.range) ok.range.power_of_two ok.range.aligned ok.count.enough
+        ok.count.top_inside ok.pads ok.top_known.0 ok.top_known.1 ok.agrees
 
 -- an accepted message has no fault
-pub accepted-no_fault : (t : TreeRoot) (K : PartialTree) (ask : Ask) (hashes : List Hash) (r : HashRefusal) → IsAccepted t.length K ask hashes → ¬ Fault t.length K ask hashes r
+pub accepted-no_fault : (t : TreeRoot) (K : PartialTree) (ask : Ask) (hashes : List Hash) (r : HashRefusal) → IsAccepted t.length K ask hashes
+    → ¬ Fault t.length K ask hashes r
 accepted-no_fault t K ask hashes UnknownRoot ok f = f
 accepted-no_fault t K ask hashes BadRange ok f = f ok.range
 accepted-no_fault t K ask hashes BadCount ok f = f ok.count

@@ -16,7 +16,8 @@ use Rattle.partial_tree.specs.declared.refusal.BlockRefusal.{BlockRefusal}
 use Rattle.partial_tree.specs.Claims.{AreHashes, claims, joined}
 use Rattle.partial_tree.specs.Fill.{fill_claims}
 use Rattle.node_maps.specs.Known.{look}
-use Rattle.partial_tree.specs.Kept.{TreeState, KeptTree, info_of, IsGoodTree, TreeJoins, TreeTakesHashes, TreeRefusesHashes, TreeTakesLayer, TreeRefusesLayer, TreeMarks, TreeRefusesBlock}
+use Rattle.partial_tree.specs.Kept.{TreeState, KeptTree, info_of, IsGoodTree, TreeJoins, TreeTakesHashes, TreeRefusesHashes, TreeTakesLayer, TreeRefusesLayer}
+use Rattle.partial_tree.specs.Kept.{TreeMarks, TreeRefusesBlock}
 use Rattle.partial_tree.proofs.Joining.{joined-closed, joined-keeps}
 use Rattle.partial_tree.proofs.WholeLayers.{fill-closed}
 

@@ -86,16 +86,20 @@ few-up_to base index k top small low = omega (arith, layers-few base index k sma
 pub span-small : (h : ℕ) (ask : Ask) → GoodRange h ask → span ask ≤ 13
 span-small h ask range = exponent_le (span ask) 13 (omega (arith, range.power_of_two, range.most))
 
-pub message-few : (h : ℕ) (ask : Ask) (hashes : List Hash) → h ≤ 32 → GoodRange h ask → GoodCount h ask hashes → pages_up_to ask.base ask.index (span ask) (top_layer ask hashes) ≤ 59
-message-few h ask hashes low range count = few-up_to ask.base ask.index (span ask) (top_layer ask hashes) (span-small h ask range) (omega (arith, low, count.top_inside))
+pub message-few : (h : ℕ) (ask : Ask) (hashes : List Hash) → h ≤ 32 → GoodRange h ask → GoodCount h ask hashes
+    → pages_up_to ask.base ask.index (span ask) (top_layer ask hashes) ≤ 59
+message-few h ask hashes low range count = few-up_to ask.base ask.index (span ask) (top_layer ask hashes) (span-small h ask range)
+    (omega (arith, low, count.top_inside))
 
 -- one place has one page
 pub one_place : (index : ℕ) → page_span index 1 ≡ 1
 one_place index = omega arith
 
 -- the rows up to a layer, and the row of that layer
-pub layer-more : (base index k l : ℕ) → base ≤ l → pages_of_layers base index k (l + 1 - base) ≡ pages_of_layers base index k (l - base) + page_span (row_first_of base index k l) (2 ^ row_height_of base k l)
+pub layer-more : (base index k l : ℕ) → base ≤ l → pages_of_layers base index k (l + 1 - base) ≡ pages_of_layers base index k (l - base) + page_span
+    (row_first_of base index k l) (2 ^ row_height_of base k l)
 layer-more base index k l from =
     let next : l + 1 - base ≡ suc (l - base) = omega arith in
     let here : base + (l - base) ≡ l = omega arith in
-    ap (pages_of_layers base index k) next ∙ ap (λ j. pages_of_layers base index k (l - base) + page_span (row_first_of base index k j) (2 ^ row_height_of base k j)) here
+    ap (pages_of_layers base index k) next ∙ ap (λ j. pages_of_layers base index k (l - base) + page_span (row_first_of base index k j)
+        (2 ^ row_height_of base k j)) here

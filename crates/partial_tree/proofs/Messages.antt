@@ -1,5 +1,7 @@
 -- What a body that takes a message stands on: where its hashes lie, and what its evidence claims.
-use Rattle.std.proofs.Common.{◌≡◌, ◌≢◌, ℕ, suc, ◌+◌, ◌-◌, ◌*◌, ◌/◌, ◌%◌, ◌^◌, ◌<◌, ◌≤◌, Bool, true, false, eqb, List, [], ◌++◌, length, get_or, take, drop, replicate, Option, is_some, Some, None, Result, Ok, Err, inl, inr, refl, sym, ap, ap₂, ◌∙◌, subst, arith, shr-shr, length-take, length-drop, pow-add, pow_pos, div-add-mod'}
+use Rattle.std.proofs.Common.{◌≡◌, ◌≢◌, ℕ, suc, ◌+◌, ◌-◌, ◌*◌, ◌/◌, ◌%◌, ◌^◌, ◌<◌, ◌≤◌, Bool, true, false, eqb, List, [], ◌++◌, length, get_or, take, drop}
+use Rattle.std.proofs.Common.{replicate, Option, is_some, Some, None, Result, Ok, Err, inl, inr, refl, sym, ap, ap₂, ◌∙◌, subst, arith, shr-shr, length-take}
+use Rattle.std.proofs.Common.{length-drop, pow-add, pow_pos, div-add-mod'}
 use Rattle.std.specs.Prelude.{slice_get}
 use Rattle.std.specs.List.{All}
 use Rattle.std.specs.Result.{IfOk, IfErr}
@@ -17,7 +19,8 @@ use Rattle.node_maps.specs.Digest.{Hash, IsHash}
 use Rattle.partial_tree.specs.TreeRoot.{TreeRoot}
 use Rattle.node_maps.specs.Places.{tree_height, PartialTree, IsKnown}
 use Rattle.partial_tree.specs.Closed.{IsClosed}
-use Rattle.partial_tree.specs.Claims.{cover, above, sibling, base_hash, uncle_hash, claims, top_layer, top_index, GoodRange, GoodCount, ArePadsRight, IsBadPad, IsAgreed, IsAccepted, TreeRefuses}
+use Rattle.partial_tree.specs.Claims.{cover, above, sibling, base_hash, uncle_hash, claims, top_layer, top_index, GoodRange, GoodCount, ArePadsRight, IsBadPad}
+use Rattle.partial_tree.specs.Claims.{IsAgreed, IsAccepted, TreeRefuses}
 use Rattle.node_maps.specs.Known.{Known, look}
 use Rattle.partial_tree.specs.Joins.{Joins}
 use Rattle.partial_tree.specs.Evidence.{range_of, hashes_of, claimed_by, LeadsTo, StoreFault}
@@ -47,11 +50,13 @@ not_of b P give wrong p = false≢true (sym wrong ∙ give p)
 module _ (len : ℕ) (ask : Ask) (hashes : List Hash) (k : ℕ) (e : 2 ^ k ≡ ask.length) (enough : ask.length ≤ length hashes) where
   -- the base hashes past the file's end fit
   abbrev pub BaseFits : Type 0
-  BaseFits = (j : ℕ) → j < length (take ask.length hashes) → block_count len ≤ (ask.index + j) * 2 ^ ask.base → get_or (take ask.length hashes) j [] ≡ zero_hash ask.base
+  BaseFits = (j : ℕ) → j < length (take ask.length hashes) → block_count len ≤ (ask.index + j) * 2 ^ ask.base
+      → get_or (take ask.length hashes) j [] ≡ zero_hash ask.base
 
   -- and so do the uncles
   abbrev pub UnclesFit : Type 0
-  UnclesFit = (j : ℕ) → j < length (drop ask.length hashes) → block_count len ≤ sibling (ask.index / 2 ^ k / 2 ^ j) * 2 ^ (ask.base + k + j) → get_or (drop ask.length hashes) j [] ≡ zero_hash (ask.base + k + j)
+  UnclesFit = (j : ℕ) → j < length (drop ask.length hashes) → block_count len ≤ sibling (ask.index / 2 ^ k / 2 ^ j) * 2 ^ (ask.base + k + j)
+      → get_or (drop ask.length hashes) j [] ≡ zero_hash (ask.base + k + j)
 
   cover_at : cover ask ≡ ask.base + k
   cover_at = ap (λ n. ask.base + n) (span_at ask k e)
@@ -66,7 +71,8 @@ module _ (len : ℕ) (ask : Ask) (hashes : List Hash) (k : ℕ) (e : 2 ^ k ≡ a
         let inside : i - ask.index < length hashes = slice_get_within hashes (i - ask.index) v got in
         let here : i - ask.index < length (take ask.length hashes) = omega (arith, length-take ask.length hashes) in
         let place : ask.index + (i - ask.index) ≡ i = omega arith in
-        let past' : block_count len ≤ (ask.index + (i - ask.index)) * 2 ^ ask.base = subst (λ n. block_count len ≤ n * 2 ^ ask.base) (sym place) (subst (λ n. block_count len ≤ i * 2 ^ n) at past) in
+        let past' : block_count len ≤ (ask.index + (i - ask.index)) * 2 ^ ask.base = subst (λ n. block_count len ≤ n * 2 ^ ask.base) (sym place)
+            (subst (λ n. block_count len ≤ i * 2 ^ n) at past) in
         sym (get_or_from_slice_get hashes (i - ask.index) v [] got)
         ∙ sym (get_or-take ask.length hashes (i - ask.index) [] (omega arith))
         ∙ base (i - ask.index) here past' ∙ ap zero_hash (sym at)
@@ -77,8 +83,10 @@ module _ (len : ℕ) (ask : Ask) (hashes : List Hash) (k : ℕ) (e : 2 ^ k ≡ a
         let layer : ask.base + k + (l - (ask.base + k)) ≡ l = omega arith in
         let here : l - (ask.base + k) < length (drop ask.length hashes) = omega (arith, length-drop ask.length hashes) in
         let there : ask.length + (l - cover ask) ≡ ask.length + (l - (ask.base + k)) = ap (λ n. ask.length + (l - n)) c in
-        let node : sibling (ask.index / 2 ^ k / 2 ^ (l - (ask.base + k))) ≡ i = ap sibling (sym (above_at (l - (ask.base + k))) ∙ ap (above ask) layer) ∙ sym at in
-        let past' : block_count len ≤ sibling (ask.index / 2 ^ k / 2 ^ (l - (ask.base + k))) * 2 ^ (ask.base + k + (l - (ask.base + k))) = subst (λ n. block_count len ≤ n) (sym (ap₂ (λ a b. a * 2 ^ b) node layer)) past in
+        let node : sibling (ask.index / 2 ^ k / 2 ^ (l - (ask.base + k))) ≡ i = ap sibling (sym (above_at (l - (ask.base + k))) ∙ ap (above ask) layer)
+            ∙ sym at in
+        let past' : block_count len ≤ sibling (ask.index / 2 ^ k / 2 ^ (l - (ask.base + k))) * 2 ^ (ask.base + k + (l - (ask.base + k))) =
+            subst (λ n. block_count len ≤ n) (sym (ap₂ (λ a b. a * 2 ^ b) node layer)) past in
         sym (get_or_from_slice_get hashes (ask.length + (l - cover ask)) v [] got) ∙ ap (λ n. get_or hashes n []) there
         ∙ sym (get_or-drop ask.length hashes (l - (ask.base + k)) [])
         ∙ uncles (l - (ask.base + k)) here past' ∙ ap zero_hash layer
@@ -91,7 +99,8 @@ module _ (len : ℕ) (ask : Ask) (hashes : List Hash) (k : ℕ) (e : 2 ^ k ≡ a
       let back : ask.index + j - ask.index ≡ j = omega arith in
       get_or-take ask.length hashes j [] low
       ∙ right ask.base (ask.index + j) (get_or hashes j [])
-      (first_of_two _ _ _ (cond-true _ _ _ (and_from _ _ (eq-eqb ask.base ask.base refl) (and_from _ _ (le-leb ask.index (ask.index + j) (omega arith)) (lt-ltb (ask.index + j) (ask.index + ask.length) (omega arith))))
+      (first_of_two _ _ _ (cond-true _ _ _ (and_from _ _ (eq-eqb ask.base ask.base refl) (and_from _ _ (le-leb ask.index (ask.index + j) (omega arith))
+          (lt-ltb (ask.index + j) (ask.index + ask.length) (omega arith))))
       ∙ ap (slice_get hashes) back ∙ slice_get-get_or hashes j [] inside)) past
 
   pub right-uncles : 1 ≤ k → ArePadsRight len ask hashes → UnclesFit
@@ -116,7 +125,8 @@ module _ (len : ℕ) (ask : Ask) (hashes : List Hash) (k : ℕ) (e : 2 ^ k ≡ a
 -- the base range ends within 2 ^ 32 leaves
 pub range-wide : (h : ℕ) (ask : Ask) (n : ℕ) → h ≤ 32 → GoodRange h ask → n ≤ ask.length → (ask.index + n) * 2 ^ ask.base ≤ 2 ^ 32
 range-wide h ask n low range le =
-    let inside : (ask.index + n) * 2 ^ ask.base ≤ 2 ^ (h - ask.base) * 2 ^ ask.base = mul-le (ask.index + n) (2 ^ ask.base) (2 ^ (h - ask.base)) (2 ^ ask.base) (omega (arith, range.range_inside)) (omega arith) in
+    let inside : (ask.index + n) * 2 ^ ask.base ≤ 2 ^ (h - ask.base) * 2 ^ ask.base = mul-le (ask.index + n) (2 ^ ask.base) (2 ^ (h - ask.base)) (2 ^ ask.base)
+        (omega (arith, range.range_inside)) (omega arith) in
     let sum : h ≡ (h - ask.base) + ask.base = omega (arith, range.base_inside) in
     let whole : 2 ^ (h - ask.base) * 2 ^ ask.base ≡ 2 ^ h = sym (pow-add 2 (h - ask.base) ask.base) ∙ ap (λ n. 2 ^ n) (sym sum) in
     let high : 2 ^ h ≤ 2 ^ 32 = pow_more h 32 low in
@@ -130,13 +140,15 @@ cover-wide h ask k low range e =
     let some : 0 < 2 ^ ask.base = pow_pos ask.base in
     let split : 2 ^ (ask.base + k) ≡ 2 ^ ask.base * 2 ^ k = pow-add 2 ask.base k in
     let same : ask.index / 2 ^ k * 2 ^ (ask.base + k) ≡ ask.index / 2 ^ k * 2 ^ k * 2 ^ ask.base = ap (λ n. ask.index / 2 ^ k * n) split ∙ omega arith in
-    let less : ask.index / 2 ^ k * 2 ^ k * 2 ^ ask.base ≤ ask.index * 2 ^ ask.base = mul-le (ask.index / 2 ^ k * 2 ^ k) (2 ^ ask.base) ask.index (2 ^ ask.base) floor (omega arith) in
+    let less : ask.index / 2 ^ k * 2 ^ k * 2 ^ ask.base ≤ ask.index * 2 ^ ask.base = mul-le (ask.index / 2 ^ k * 2 ^ k) (2 ^ ask.base) ask.index (2 ^ ask.base)
+        floor (omega arith) in
     let more : (ask.index + 1) * 2 ^ ask.base ≡ ask.index * 2 ^ ask.base + 2 ^ ask.base = omega arith in
     omega arith
 
 -- ---- the evidence of a message
 
-module _ (ev : Evidence) (ask : Ask) (hashes : List Hash) (base : ev.base ≡ ask.base) (index : ev.index ≡ ask.index) (width : 2 ^ ev.span ≡ ask.length) (given' : ev.hashes.now ≡ hashes) (enough : ask.length ≤ length hashes) where
+module _ (ev : Evidence) (ask : Ask) (hashes : List Hash) (base : ev.base ≡ ask.base) (index : ev.index ≡ ask.index) (width : 2 ^ ev.span ≡ ask.length)
+    (given' : ev.hashes.now ≡ hashes) (enough : ask.length ≤ length hashes) where
   same_hashes : hashes_of ev ≡ hashes
   same_hashes =
       let none : 2 ^ ev.span - length ev.hashes.now ≡ 0 = (let n : length ev.hashes.now ≡ length hashes = ap length given' in omega arith) in
@@ -157,17 +169,20 @@ module _ (ev : Evidence) (ask : Ask) (hashes : List Hash) (base : ev.base ≡ as
   -- and leads to the message's top
   pub leads : 1 ≤ ev.span → ask.index % ask.length ≡ 0 → LeadsTo ev (top_layer ask hashes) (top_index ask hashes)
   leads some aligned =
-      let at : LeadsTo ev (top_layer (range_of ev) (hashes_of ev)) (top_index (range_of ev) (hashes_of ev)) = message-leads ev some (ap₂ (λ a b. a % b) index width ∙ aligned) in
+      let at : LeadsTo ev (top_layer (range_of ev) (hashes_of ev)) (top_index (range_of ev) (hashes_of ev)) =
+          message-leads ev some (ap₂ (λ a b. a % b) index width ∙ aligned) in
       subst (λ l. LeadsTo ev l (ask.index / 2 ^ (l - ask.base))) same_top
       (subst (λ i. LeadsTo ev (top_layer (range_of ev) (hashes_of ev)) i) (ap₂ (λ a b. a / 2 ^ (top_layer (range_of ev) (hashes_of ev) - b)) index base) at)
 
 -- ---- what refuses a message, test by test
 
 module _ (t : TreeRoot) (K : PartialTree) (ask : Ask) (hashes : List Hash) where
-  pub accepts : GoodRange (tree_height t.length) ask → GoodCount (tree_height t.length) ask hashes → ArePadsRight t.length ask hashes → IsKnown K (top_layer ask hashes) (top_index ask hashes) → IsAgreed K (claims ask hashes) → IsAccepted t.length K ask hashes
+  pub accepts : GoodRange (tree_height t.length) ask → GoodCount (tree_height t.length) ask hashes → ArePadsRight t.length ask hashes
+      → IsKnown K (top_layer ask hashes) (top_index ask hashes) → IsAgreed K (claims ask hashes) → IsAccepted t.length K ask hashes
   accepts range count pads top agreed = record { range = range; count = count; pads = pads; top_known = top; agrees = agreed }
 
-  pub refuses_store : GoodRange (tree_height t.length) ask → GoodCount (tree_height t.length) ask hashes → ArePadsRight t.length ask hashes → IsKnown K (top_layer ask hashes) (top_index ask hashes)
+  pub refuses_store : GoodRange (tree_height t.length) ask → GoodCount (tree_height t.length) ask hashes → ArePadsRight t.length ask hashes
+      → IsKnown K (top_layer ask hashes) (top_index ask hashes)
       → (r : HashRefusal) → StoreFault K (claims ask hashes) r → TreeRefuses t.length K ask hashes r
   refuses_store range count pads top Mismatch f = record { fault = f; first = first_mismatch t K ask hashes range count pads top }
   refuses_store range count pads top NoMemory f = (accepts range count pads top f.0, f.1)
@@ -179,7 +194,8 @@ module _ (t : TreeRoot) (K : PartialTree) (ask : Ask) (hashes : List Hash) where
   refuses_store range count pads top Unasked f = absurd f
 
 -- what is known after an accepted message is bounded by the tree
-pub joined-len : (t : TreeRoot) (before after : Known) (ask : Ask) (hashes : List Hash) (c : ℕ) → IsClosed t (look before) → All IsHash hashes → IsAccepted t.length (look before) ask hashes
+pub joined-len : (t : TreeRoot) (before after : Known) (ask : Ask) (hashes : List Hash) (c : ℕ) → IsClosed t (look before) → All IsHash hashes
+    → IsAccepted t.length (look before) ask hashes
     → Joins (claims ask hashes) before after c → len before + c < 2 ^ suc (tree_height t.length)
 joined-len t before after ask hashes c closed all ok joins =
     subst (λ n. n < 2 ^ suc (tree_height t.length)) joins.gained
@@ -190,16 +206,20 @@ known_of None e = absurd (false≢true e)
 known_of (Some v) e = (v, refl)
 
 -- what storing leaves, from the evidence to the message
-pub taken_by : (ev : Evidence) (t : TreeRoot) (before after : Known) (ask : Ask) (hashes : List Hash) (r : Result ℕ HashRefusal) → claimed_by ev ≡ claims ask hashes
-    → GoodRange (tree_height t.length) ask → GoodCount (tree_height t.length) ask hashes → ArePadsRight t.length ask hashes → IsKnown (look before) (top_layer ask hashes) (top_index ask hashes)
+pub taken_by : (ev : Evidence) (t : TreeRoot) (before after : Known) (ask : Ask) (hashes : List Hash) (r : Result ℕ HashRefusal)
+    → claimed_by ev ≡ claims ask hashes
+    → GoodRange (tree_height t.length) ask → GoodCount (tree_height t.length) ask hashes → ArePadsRight t.length ask hashes
+    → IsKnown (look before) (top_layer ask hashes) (top_index ask hashes)
     → IfOk r (λ c. Joins (claimed_by ev) before after c) → IfOk r (λ c. IsAccepted t.length (look before) ask hashes × Joins (claims ask hashes) before after c)
 taken_by ev t before after ask hashes (Ok c) same range count pads top joins =
     let moved : Joins (claims ask hashes) before after c = subst (λ (C : PartialTree). Joins C before after c) same joins in
     (accepts t (look before) ask hashes range count pads top moved.agreed, moved)
 taken_by ev t before after ask hashes (Err r) same range count pads top joins = tt
 
-pub refused_by : (ev : Evidence) (t : TreeRoot) (before : Known) (Stays : Type 0) (ask : Ask) (hashes : List Hash) (r : Result ℕ HashRefusal) → claimed_by ev ≡ claims ask hashes
-    → GoodRange (tree_height t.length) ask → GoodCount (tree_height t.length) ask hashes → ArePadsRight t.length ask hashes → IsKnown (look before) (top_layer ask hashes) (top_index ask hashes)
+pub refused_by : (ev : Evidence) (t : TreeRoot) (before : Known) (Stays : Type 0) (ask : Ask) (hashes : List Hash) (r : Result ℕ HashRefusal)
+    → claimed_by ev ≡ claims ask hashes
+    → GoodRange (tree_height t.length) ask → GoodCount (tree_height t.length) ask hashes → ArePadsRight t.length ask hashes
+    → IsKnown (look before) (top_layer ask hashes) (top_index ask hashes)
     → IfErr r (λ x. StoreFault (look before) (claimed_by ev) x × Stays) → IfErr r (λ x. TreeRefuses t.length (look before) ask hashes x × Stays)
 refused_by ev t before Stays ask hashes (Ok c) same range count pads top fault = tt
 refused_by ev t before Stays ask hashes (Err r) same range count pads top fault =

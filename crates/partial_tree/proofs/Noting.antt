@@ -1,5 +1,6 @@
 -- Lists of claims as they grow, and what they leave when they are put.
-use Rattle.std.proofs.Common.{◌≡◌, ◌≢◌, ◌⊎◌, ℕ, suc, ◌+◌, ◌<◌, true, false, cond, List, [], ◌∷◌, ◌++◌, Option, Some, None, inl, inr, refl, sym, ap, ap₂, ◌∙◌, subst, arith, is_some, length, get_or, drop, drop-cons}
+use Rattle.std.proofs.Common.{◌≡◌, ◌≢◌, ◌⊎◌, ℕ, suc, ◌+◌, ◌<◌, true, false, cond, List, [], ◌∷◌, ◌++◌, Option, Some, None, inl, inr, refl, sym, ap, ap₂, ◌∙◌}
+use Rattle.std.proofs.Common.{subst, arith, is_some, length, get_or, drop, drop-cons}
 use Rattle.std.specs.List.{All}
 use Rattle.std.specs.FinMap.{insert, len, len-insert}
 use Rattle.std.proofs.lemmas.Option.{same_Some, none-some}
@@ -26,11 +27,13 @@ has_claim-here [] c = inl (refl, refl, refl)
 has_claim-here (x ∷ xs) c = inr (has_claim-here xs c)
 
 -- what a push, or a refusal, leaves noted
-pub noted-here : (found : Found) (cs : List Claim) (c : Claim) → (found.incomplete ≡ true) ⊎ (found.claims.items ≡ cs ++ c ∷ []) → IsNoted found c.layer c.index c.hash
+pub noted-here : (found : Found) (cs : List Claim) (c : Claim) → (found.incomplete ≡ true) ⊎ (found.claims.items ≡ cs ++ c ∷ [])
+    → IsNoted found c.layer c.index c.hash
 noted-here found cs c (inl e) = inl e
 noted-here found cs c (inr e) = inr (subst (λ xs. HasClaim xs c.layer c.index c.hash) (sym e) (has_claim-here cs c))
 
-pub noted-grows : (old new : Found) (c : Claim) → (new.incomplete ≡ true) ⊎ ((new.incomplete ≡ old.incomplete) × (new.claims.items ≡ old.claims.items ++ c ∷ [])) → Grows old new
+pub noted-grows : (old new : Found) (c : Claim) → (new.incomplete ≡ true)
+    ⊎ ((new.incomplete ≡ old.incomplete) × (new.claims.items ≡ old.claims.items ++ c ∷ [])) → Grows old new
 noted-grows old new c (inl e) = record { keeps = λ l i v h. inl e }
 noted-grows old new c (inr (same, e)) = record { keeps = λ l i v h. kept l i v h }
   where
@@ -89,7 +92,8 @@ module _ (C : PartialTree) where
       ]
 
   -- what is listed and not known is known after
-  all_new-has : (cs : List Claim) (m : Known) (l i : ℕ) (v : Hash) → Sound cs → C l i ≡ Some v → look m l i ≡ None → HasClaim cs l i v → look (insert_new m cs) l i ≡ Some v
+  all_new-has : (cs : List Claim) (m : Known) (l i : ℕ) (v : Hash) → Sound cs → C l i ≡ Some v → look m l i ≡ None → HasClaim cs l i v
+      → look (insert_new m cs) l i ≡ Some v
   unfolding Sound
   all_new-has [] m l i v sound is none h = absurd h
   all_new-has (c ∷ cs) m l i v sound is none h =
@@ -132,6 +136,7 @@ pub len-new : (m : Known) (c : Claim) (o : Option Hash) → o ≡ look m c.layer
 len-new m c o e none = len-insert place_total m (c.layer, c.index) c.hash ∙ ap (λ b. cond b (len m) (len m + 1)) (ap is_some (sym e) ∙ none)
 
 -- one claim of a list after the other
-pub insert_new-step : (m : Known) (cs : List Claim) (i : ℕ) (d : Claim) → i < length cs → insert_new (with_new m (get_or cs i d)) (drop (i + 1) cs) ≡ insert_new m (drop i cs)
+pub insert_new-step : (m : Known) (cs : List Claim) (i : ℕ) (d : Claim) → i < length cs
+    → insert_new (with_new m (get_or cs i d)) (drop (i + 1) cs) ≡ insert_new m (drop i cs)
 insert_new-step m cs i d in' = let s : i + 1 ≡ suc i = omega arith in
     ap (λ k. insert_new (with_new m (get_or cs i d)) (drop k cs)) s ∙ sym (ap (insert_new m) (drop-cons cs i d in'))

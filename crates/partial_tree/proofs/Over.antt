@@ -1,5 +1,6 @@
 -- What follows from a whole layer: the nodes over it, and nothing else.
-use Rattle.std.proofs.Common.{◌≡◌, ◌⊎◌, ℕ, zero, suc, ◌+◌, ◌-◌, ◌*◌, ◌/◌, ◌^◌, ◌<◌, ◌≤◌, List, [], length, take, drop, Some, None, inl, inr, refl, sym, ap, ◌∙◌, subst, arith}
+use Rattle.std.proofs.Common.{◌≡◌, ◌⊎◌, ℕ, zero, suc, ◌+◌, ◌-◌, ◌*◌, ◌/◌, ◌^◌, ◌<◌, ◌≤◌, List, [], length, take, drop, Some, None, inl, inr, refl, sym, ap, ◌∙◌}
+use Rattle.std.proofs.Common.{subst, arith}
 use Rattle.std.specs.Prelude.{slice_get}
 use Rattle.std.proofs.lemmas.Option.{slice_get_within, slice_get-get_or}
 use Rattle.std.proofs.lemmas.Bool.{and_from, eq-eqb, le-leb, lt-ltb, cond-true}
@@ -22,13 +23,15 @@ module _ (t : TreeRoot) (l : ℕ) (hashes : List Hash) (layer_inside : l ≤ tre
 
   -- a layer gives no hash but its own
   given-layer : (k i : ℕ) (v : Hash) → given (fill_ask t.length l) (fill_hashes t.length l hashes) k i ≡ Some v → (k ≡ l) × (i < 2 ^ (tree_height t.length - l))
-  given-layer k i v e = elim (either (base_hash (fill_ask t.length l) (fill_hashes t.length l hashes) k i) (uncle_hash (fill_ask t.length l) (fill_hashes t.length l hashes) k i) v e) [
+  given-layer k i v e = elim (either (base_hash (fill_ask t.length l) (fill_hashes t.length l hashes) k i)
+      (uncle_hash (fill_ask t.length l) (fill_hashes t.length l hashes) k i) v e) [
     | inl b ↦
         let (at, low, high, got) = base-read (fill_ask t.length l) (fill_hashes t.length l hashes) k i v b in
         (at, omega arith)
     | inr (none, u) ↦
         let (from, at, got) = uncle-read (fill_ask t.length l) (fill_hashes t.length l hashes) k i v u in
-        let within' : (fill_ask t.length l).length + (k - cover (fill_ask t.length l)) < length (fill_hashes t.length l hashes) = slice_get_within (fill_hashes t.length l hashes) ((fill_ask t.length l).length + (k - cover (fill_ask t.length l))) v got in
+        let within' : (fill_ask t.length l).length + (k - cover (fill_ask t.length l)) < length (fill_hashes t.length l hashes) =
+            slice_get_within (fill_hashes t.length l hashes) ((fill_ask t.length l).length + (k - cover (fill_ask t.length l))) v got in
         let len : length (fill_hashes t.length l hashes) ≡ 2 ^ (tree_height t.length - l) = whole in
         absurd (omega arith)
   ]
@@ -39,17 +42,20 @@ module _ (t : TreeRoot) (l : ℕ) (hashes : List Hash) (layer_inside : l ≤ tre
     | inr none ↦ none
   ]
 
-  leaf-claimed : (i : ℕ) → i < 2 ^ (tree_height t.length - l) → fill_claims t.length l hashes l i ≡ Some (node_over (filled (tree_height t.length) l hashes) 0 i)
+  leaf-claimed : (i : ℕ) → i < 2 ^ (tree_height t.length - l)
+      → fill_claims t.length l hashes l i ≡ Some (node_over (filled (tree_height t.length) l hashes) 0 i)
   leaf-claimed i low =
       let len : length (fill_hashes t.length l hashes) ≡ 2 ^ (tree_height t.length - l) = whole in
       let at : i - 0 ≡ i = omega arith in
       claims-given (fill_ask t.length l) (fill_hashes t.length l hashes) l i _
-      (first_of_two _ _ _ (cond-true _ _ _ (and_from _ _ (eq-eqb l l refl) (and_from _ _ (le-leb 0 i (omega arith)) (lt-ltb i (0 + 2 ^ (tree_height t.length - l)) (omega arith))))
+      (first_of_two _ _ _ (cond-true _ _ _ (and_from _ _ (eq-eqb l l refl)
+          (and_from _ _ (le-leb 0 i (omega arith)) (lt-ltb i (0 + 2 ^ (tree_height t.length - l)) (omega arith))))
       ∙ ap (slice_get (fill_hashes t.length l hashes)) at ∙ slice_get-get_or (fill_hashes t.length l hashes) i [] (omega arith)))
       ∙ ap Some (sym (leaf_at (fill_hashes t.length l hashes) [] i (omega arith)) ∙ ap (λ xs. node_over xs 0 i) (append-nil (fill_hashes t.length l hashes)))
 
   -- each place from the layer up is claimed, with the node over the layer
-  claimed-over : (k i : ℕ) → IsTreePlace (tree_height t.length) (k + l) i → fill_claims t.length l hashes (k + l) i ≡ Some (node_over (filled (tree_height t.length) l hashes) k i)
+  claimed-over : (k i : ℕ) → IsTreePlace (tree_height t.length) (k + l) i
+      → fill_claims t.length l hashes (k + l) i ≡ Some (node_over (filled (tree_height t.length) l hashes) k i)
   claimed-over zero i at =
       let e : zero + l ≡ l = omega arith in
       ap (λ j. fill_claims t.length l hashes j i) e ∙ leaf-claimed i (subst (λ j. i < 2 ^ (tree_height t.length - j)) e at.1)
@@ -62,7 +68,8 @@ module _ (t : TreeRoot) (l : ℕ) (hashes : List Hash) (layer_inside : l ≤ tre
       (claimed-over k (2 * i + 1) (place_right (tree_height t.length) (k + l) i here.0 here))
       ∙ ap Some (sym (node_over-suc (filled (tree_height t.length) l hashes) k i))
 
-  pub claims-node : (k i : ℕ) → l ≤ k → IsTreePlace (tree_height t.length) k i → fill_claims t.length l hashes k i ≡ Some (node_over (filled (tree_height t.length) l hashes) (k - l) i)
+  pub claims-node : (k i : ℕ) → l ≤ k → IsTreePlace (tree_height t.length) k i
+      → fill_claims t.length l hashes k i ≡ Some (node_over (filled (tree_height t.length) l hashes) (k - l) i)
   claims-node k i low at =
       let e : k ≡ (k - l) + l = omega arith in
       ap (λ j. fill_claims t.length l hashes j i) e ∙ claimed-over (k - l) i (subst (λ j. IsTreePlace (tree_height t.length) j i) e at)

@@ -1,5 +1,6 @@
 -- A whole layer that is known says nothing new, and one that is not claims a place that is new.
-use Rattle.std.proofs.Common.{◌≡◌, ℕ, zero, suc, ◌+◌, ◌-◌, ◌*◌, ◌/◌, ◌%◌, ◌^◌, ◌<◌, ◌≤◌, ◌⊎◌, List, length, get_or, [], Option, Some, None, inl, inr, refl, sym, ap, ◌∙◌, subst, arith, pow_pos, div-add-mod'}
+use Rattle.std.proofs.Common.{◌≡◌, ℕ, zero, suc, ◌+◌, ◌-◌, ◌*◌, ◌/◌, ◌%◌, ◌^◌, ◌<◌, ◌≤◌, ◌⊎◌, List, length, get_or, [], Option, Some, None, inl, inr, refl, sym}
+use Rattle.std.proofs.Common.{ap, ◌∙◌, subst, arith, pow_pos, div-add-mod'}
 use Rattle.std.proofs.lemmas.Nat.{mod_below}
 use Rattle.std.specs.Borrow.{Bor}
 use Rattle.std.proofs.lemmas.Option.{none-some, slice_get-get_or}
@@ -33,7 +34,8 @@ missing f (suc n) = elim (missing f n) [
   ]
 ]
 
-module _ (t : TreeRoot) (K : PartialTree) (l : ℕ) (hashes : Bor (List Hash)) (inside : l ≤ tree_height t.length) (count : length hashes.now ≡ pad_from t.length l) where
+module _ (t : TreeRoot) (K : PartialTree) (l : ℕ) (hashes : Bor (List Hash)) (inside : l ≤ tree_height t.length)
+    (count : length hashes.now ≡ pad_from t.length l) where
   -- each place of the layer is claimed
   layer-claimed : (j : ℕ) → j < 2 ^ (tree_height t.length - l) → (v : Hash) × (fill_claims t.length l hashes.now l j ≡ Some v)
   layer-claimed j low =
@@ -41,7 +43,8 @@ module _ (t : TreeRoot) (K : PartialTree) (l : ℕ) (hashes : Bor (List Hash)) (
       let first : j - 0 ≡ j = omega arith in (
         get_or (fill_hashes t.length l hashes.now) (j - 0) [],
         claims-given (fill_ask t.length l) (fill_hashes t.length l hashes.now) l j _
-            (first_of_two _ _ _ (cond-true _ _ _ (and_from _ _ (eq-eqb l l refl) (and_from _ _ (le-leb 0 j (omega arith)) (lt-ltb j (0 + 2 ^ (tree_height t.length - l)) (omega (arith, low)))))
+            (first_of_two _ _ _ (cond-true _ _ _ (and_from _ _ (eq-eqb l l refl)
+                (and_from _ _ (le-leb 0 j (omega arith)) (lt-ltb j (0 + 2 ^ (tree_height t.length - l)) (omega (arith, low)))))
             ∙ slice_get-get_or (fill_hashes t.length l hashes.now) (j - 0) [] (omega (arith, low, long, first)))),
       )
 
@@ -51,7 +54,8 @@ module _ (t : TreeRoot) (K : PartialTree) (l : ℕ) (hashes : Bor (List Hash)) (
     | inr (j, low, none) ↦ (let v = layer-claimed j low in record { layer = l; index = j; value = v.0; claimed = v.1; absent = none })
   ]
 
-  module _ (up : (k i : ℕ) → k < tree_height t.length → IsKnown K k (2 * i) → IsKnown K (suc k) i) (known : AreKnown (K l) 0 (2 ^ (tree_height t.length - l))) where
+  module _ (up : (k i : ℕ) → k < tree_height t.length → IsKnown K k (2 * i) → IsKnown K (suc k) i) (known : AreKnown (K l) 0 (2 ^ (tree_height t.length - l)))
+      where
     -- what stands above a known layer is known
     above-known : (d i : ℕ) → l + d ≤ tree_height t.length → i < 2 ^ (tree_height t.length - (l + d)) → IsKnown K (l + d) i
     above-known zero i low within =
@@ -63,7 +67,8 @@ module _ (t : TreeRoot) (K : PartialTree) (l : ℕ) (hashes : Bor (List Hash)) (
         let next : l + suc d ≡ suc (l + d) = omega arith in
         let height : suc (tree_height t.length - suc (l + d)) ≡ tree_height t.length - (l + d) = omega (arith, low) in
         let half : i < 2 ^ (tree_height t.length - suc (l + d)) = subst (λ k. i < 2 ^ (tree_height t.length - k)) next within in
-        let wide : 2 * i < 2 ^ (tree_height t.length - (l + d)) = subst (λ k. 2 * i < 2 ^ k) height (omega (arith, half, two_halves (tree_height t.length - suc (l + d)))) in
+        let wide : 2 * i < 2 ^ (tree_height t.length - (l + d)) =
+            subst (λ k. 2 * i < 2 ^ k) height (omega (arith, half, two_halves (tree_height t.length - suc (l + d)))) in
         subst (λ k. IsKnown K k i) (sym next) (up (l + d) i (omega (arith, low)) (above-known d (2 * i) (omega (arith, low)) wide))
 
     claimed-known : (k i : ℕ) (v : Hash) → fill_claims t.length l hashes.now k i ≡ Some v → IsKnown K k i

@@ -1,5 +1,6 @@
 -- Base ranges and counts, from the numbers that a body tests.
-use Rattle.std.proofs.Common.{◌≡◌, ◌≢◌, ℕ, ◌+◌, ◌-◌, ◌*◌, ◌/◌, ◌%◌, ◌^◌, ◌<◌, ◌≤◌, List, length, sym, ap, ◌∙◌, arith, pow-add, pow_pos, div-add-mod', div-le_self}
+use Rattle.std.proofs.Common.{◌≡◌, ◌≢◌, ℕ, ◌+◌, ◌-◌, ◌*◌, ◌/◌, ◌%◌, ◌^◌, ◌<◌, ◌≤◌, List, length, sym, ap, ◌∙◌, arith, pow-add, pow_pos, div-add-mod'}
+use Rattle.std.proofs.Common.{div-le_self}
 use Rattle.std.proofs.lemmas.Nat.{mul-le}
 use Rattle.std.proofs.Math.Nat.{pow-le-pow_right}
 use Rattle.wire.specs.declared.message.Ask.{Ask}
@@ -19,7 +20,8 @@ no_range h ask none g =
     let bound : 2 ^ span ask ≤ 2 ^ 13 = omega (arith, g.power_of_two, g.most) in
     none (span ask) (spans-some h ask g) (exponent_le (span ask) 13 bound) g.power_of_two
 
-pub good_range : (h : ℕ) (ask : Ask) (k : ℕ) → 2 ^ k ≡ ask.length → 1 ≤ k → k ≤ 13 → ask.index % ask.length ≡ 0 → ask.base ≤ h → ask.index + ask.length ≤ 2 ^ (h - ask.base) → GoodRange h ask
+pub good_range : (h : ℕ) (ask : Ask) (k : ℕ) → 2 ^ k ≡ ask.length → 1 ≤ k → k ≤ 13 → ask.index % ask.length ≡ 0 → ask.base ≤ h
+    → ask.index + ask.length ≤ 2 ^ (h - ask.base) → GoodRange h ask
 good_range h ask k e some most aligned base inside = record {
   power_of_two = ap (λ n. 2 ^ n) (span_at ask k e) ∙ e;
   least = let low : 2 ^ 1 ≤ 2 ^ k = pow_more 1 k some in omega arith;

@@ -1,5 +1,6 @@
 -- The row of a layer in which all claims of evidence lie.
-use Rattle.std.proofs.Common.{◌≡◌, ◌⊎◌, ℕ, zero, suc, ◌+◌, ◌-◌, ◌*◌, ◌/◌, ◌%◌, ◌^◌, ◌<◌, ◌≤◌, Some, inl, inr, sym, ap, ap₂, ◌∙◌, subst, arith, shr-shr, pow_pos, pow-add, div-one, div-add-mod', mul-le-mul_right}
+use Rattle.std.proofs.Common.{◌≡◌, ◌⊎◌, ℕ, zero, suc, ◌+◌, ◌-◌, ◌*◌, ◌/◌, ◌%◌, ◌^◌, ◌<◌, ◌≤◌, Some, inl, inr, sym, ap, ap₂, ◌∙◌, subst, arith, shr-shr, pow_pos}
+use Rattle.std.proofs.Common.{pow-add, div-one, div-add-mod', mul-le-mul_right}
 use Rattle.std.proofs.lemmas.Bool.{cases_lt}
 use Rattle.std.proofs.lemmas.Nat.{div-mul-add, mod_below}
 use Rattle.partial_tree.specs.declared.evidence.Evidence.{Evidence}
@@ -30,7 +31,8 @@ module _ (e : Evidence) (aligned : e.index % 2 ^ e.span ≡ 0) where
   base-in_row : (l i : ℕ) (v : Hash) → base_hash (range_of e) (hashes_of e) l i ≡ Some v → IsInRow e l i
   base-in_row l i v is =
       let (at, low, high, got) = base-read (range_of e) (hashes_of e) l i v is in
-      record { from_base = omega (arith, at); under_one = subst (λ k. i / 2 ^ row_height e k ≡ node_at e k / 2 ^ row_height e k) (sym at) (on_base low high (cases_lt 0 e.span)) }
+      record { from_base = omega (arith, at); under_one = subst (λ k. i / 2 ^ row_height e k ≡ node_at e k / 2 ^ row_height e k) (sym at)
+          (on_base low high (cases_lt 0 e.span)) }
     where
       on_base : e.index ≤ i → i < e.index + 2 ^ e.span → (0 < e.span) ⊎ (e.span ≤ 0) → i / 2 ^ row_height e e.base ≡ node_at e e.base / 2 ^ row_height e e.base
       on_base low high (inl some) =
@@ -75,7 +77,8 @@ module _ (e : Evidence) (aligned : e.index % 2 ^ e.span ≡ 0) where
           let k : row_height e l ≡ 1 + row_height e (suc l) = omega arith in
           ap (λ n. n / 2 ^ row_height e (suc l)) (sym half) ∙ shr-shr (2 * i) 1 (row_height e (suc l)) ∙ sym (ap (λ j. 2 * i / 2 ^ j) k)
           ∙ row.under_one
-          ∙ ap (λ j. node_at e l / 2 ^ j) k ∙ sym (shr-shr (node_at e l) 1 (row_height e (suc l))) ∙ ap (λ n. n / 2 ^ row_height e (suc l)) (node-up l row.from_base)
+          ∙ ap (λ j. node_at e l / 2 ^ j) k ∙ sym (shr-shr (node_at e l) 1 (row_height e (suc l)))
+          ∙ ap (λ n. n / 2 ^ row_height e (suc l)) (node-up l row.from_base)
       by_cover (inr high) =
           let one : row_height e l ≡ 1 = omega arith in
           ap (λ n. n / 2 ^ row_height e (suc l))
@@ -98,7 +101,8 @@ module _ (e : Evidence) (aligned : e.index % 2 ^ e.span ≡ 0) where
       (row.from_base, omega arith, omega arith)
 
 -- the row of a layer below a place over the base range lies in the tree
-pub row-inside : (h : ℕ) (e : Evidence) (layer index l : ℕ) → IsOver e layer index → IsTreePlace h layer index → e.base ≤ l → l < layer → row_first e l + 2 ^ row_height e l ≤ 2 ^ (h - l)
+pub row-inside : (h : ℕ) (e : Evidence) (layer index l : ℕ) → IsOver e layer index → IsTreePlace h layer index → e.base ≤ l → l < layer
+    → row_first e l + 2 ^ row_height e l ≤ 2 ^ (h - l)
 row-inside h e layer index l at place from below =
     let w : ℕ = row_height e l in
     let fits : l + w ≤ layer = omega (arith, at.covers) in
@@ -107,7 +111,8 @@ row-inside h e layer index l at place from below =
     let under : node / 2 ^ (layer - (l + w)) ≡ index =
     shr-shr (node_at e l) w (layer - (l + w)) ∙ shr-shr e.index (l - e.base) (w + (layer - (l + w))) ∙ sym (ap (λ k. e.index / 2 ^ k) up) ∙ at.over in
     let low : node < 2 ^ (h - (l + w)) = below_power node index (layer - (l + w)) (h - layer) (h - (l + w)) (omega (arith, place.0)) under place.1 in
-    let parts : 2 ^ (h - l) ≡ 2 ^ (h - (l + w)) * 2 ^ w = (let k : h - l ≡ (h - (l + w)) + w = omega (arith, place.0) in ap (λ n. 2 ^ n) k ∙ pow-add 2 (h - (l + w)) w) in
+    let parts : 2 ^ (h - l) ≡ 2 ^ (h - (l + w)) * 2 ^ w = (let k : h - l ≡ (h - (l + w)) + w = omega (arith, place.0) in ap (λ n. 2 ^ n) k
+        ∙ pow-add 2 (h - (l + w)) w) in
     let next : node + 1 ≤ 2 ^ (h - (l + w)) = omega arith in
     let rows : (node + 1) * 2 ^ w ≤ 2 ^ (h - (l + w)) * 2 ^ w = mul-le-mul_right (2 ^ w) next in
     omega arith

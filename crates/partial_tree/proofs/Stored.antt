@@ -48,12 +48,14 @@ module _ (t : TreeRoot) (J K : PartialTree) (closed_J : IsClosed t J) (closed_K 
   agreed_or_collision =
       elim (each_below (Collision J K) (λ l. (i : ℕ) → i < 2 ^ (tree_height t.length - l) → SameAt l i) (suc (tree_height t.length))
       (λ l h. each_below (Collision J K) (SameAt l) (2 ^ (tree_height t.length - l)) (λ i h'. same_at l i))) [
-        | inl all ↦ inl (λ l i u v p q. let at : IsTreePlace (tree_height t.length) l i = closed_J.in_tree l i u p in all l (omega (arith, at.0)) i at.1 u v p q)
+        | inl all ↦ inl (λ l i u v p q. let at : IsTreePlace (tree_height t.length) l i = closed_J.in_tree l i u p in all l (omega (arith, at.0)) i at.1 u v p
+            q)
         | inr collision ↦ inr collision
       ]
 
 -- the parent of two places that a closed tree has
-told_parent : (t : TreeRoot) (J : PartialTree) → IsClosed t J → (l i : ℕ) (a b : Hash) → J l (2 * i) ≡ Some a → J l (2 * i + 1) ≡ Some b → J (suc l) i ≡ Some (join a b)
+told_parent : (t : TreeRoot) (J : PartialTree) → IsClosed t J → (l i : ℕ) (a b : Hash) → J l (2 * i) ≡ Some a → J l (2 * i + 1) ≡ Some b
+    → J (suc l) i ≡ Some (join a b)
 told_parent t J closed l i a b p q =
     let right : IsTreePlace (tree_height t.length) l (2 * i + 1) = closed.in_tree l (2 * i + 1) b q in
     let below : l < tree_height t.length = below_root l (tree_height t.length) i right in

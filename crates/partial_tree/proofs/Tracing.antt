@@ -1,5 +1,6 @@
 -- How the claims of evidence follow from one another, from a place down.
-use Rattle.std.proofs.Common.{◌≡◌, ◌⊎◌, ℕ, zero, suc, ◌+◌, ◌-◌, ◌*◌, ◌/◌, ◌^◌, ◌<◌, ◌≤◌, ◌↔◌, Bool, IsTrue, true, false, Option, is_some, Some, None, Result, Ok, Err, inl, inr, sym, ap, ◌∙◌, subst, arith, shr-shr}
+use Rattle.std.proofs.Common.{◌≡◌, ◌⊎◌, ℕ, zero, suc, ◌+◌, ◌-◌, ◌*◌, ◌/◌, ◌^◌, ◌<◌, ◌≤◌, ◌↔◌, Bool, IsTrue, true, false, Option, is_some, Some, None, Result}
+use Rattle.std.proofs.Common.{Ok, Err, inl, inr, sym, ap, ◌∙◌, subst, arith, shr-shr}
 use Rattle.std.specs.Option.{OnSome}
 use Rattle.std.specs.Result.{OnOk, is_err}
 use Rattle.std.specs.FinMap.{len}
@@ -12,7 +13,8 @@ use Rattle.node_maps.specs.Places.{PartialTree, IsKnown, IsTreePlace}
 use Rattle.node_maps.specs.Known.{Known, look}
 use Rattle.partial_tree.specs.Joins.{insert_new, Joins}
 use Rattle.partial_tree.specs.Claims.{HasNew, IsAgreed}
-use Rattle.partial_tree.specs.Evidence.{range_of, hashes_of, given_by, claimed_by, IsClaimedPlace, LiesUnder, IsNoted, Grows, IsHandled, AllHandled, BelowHandled, LeadsTo, AreClaims, HasClaim, IsEmpty, NotesNew}
+use Rattle.partial_tree.specs.Evidence.{range_of, hashes_of, given_by, claimed_by, IsClaimedPlace, LiesUnder, IsNoted, Grows, IsHandled, AllHandled}
+use Rattle.partial_tree.specs.Evidence.{BelowHandled, LeadsTo, AreClaims, HasClaim, IsEmpty, NotesNew}
 use Rattle.partial_tree.proofs.Noting.{insert_new-joined}
 use Rattle.partial_tree.proofs.Agree.{left_or_right}
 use Rattle.node_maps.proofs.Places.{place_left, place_right}
@@ -61,7 +63,8 @@ pub given_claimed : (e : Evidence) (l i : ℕ) (v : Hash) → given_by e l i ≡
 given_claimed e l i v is = claims-given (range_of e) (hashes_of e) l i v is
 
 -- and so is the join of two claimed children
-pub join_claimed : (e : Evidence) (l i : ℕ) (a b : Hash) → 1 ≤ l → given_by e l i ≡ None → claimed_by e (l - 1) (2 * i) ≡ Some a → claimed_by e (l - 1) (2 * i + 1) ≡ Some b
+pub join_claimed : (e : Evidence) (l i : ℕ) (a b : Hash) → 1 ≤ l → given_by e l i ≡ None → claimed_by e (l - 1) (2 * i) ≡ Some a
+    → claimed_by e (l - 1) (2 * i + 1) ≡ Some b
     → claimed_by e l i ≡ Some (join a b)
 join_claimed e zero i a b some none p q = absurd (omega arith)
 join_claimed e (suc l) i a b some none p q =
@@ -69,7 +72,8 @@ join_claimed e (suc l) i a b some none p q =
     claims-joined (range_of e) (hashes_of e) l i a b none (ap (λ k. claimed_by e k (2 * i)) down ∙ p) (ap (λ k. claimed_by e k (2 * i + 1)) down ∙ q)
 
 -- a place below another lies under one of its children
-pub under_child : (layer index l i : ℕ) → LiesUnder layer index l i → l < layer → LiesUnder (layer - 1) (2 * index) l i ⊎ LiesUnder (layer - 1) (2 * index + 1) l i
+pub under_child : (layer index l i : ℕ) → LiesUnder layer index l i → l < layer → LiesUnder (layer - 1) (2 * index) l i
+    ⊎ LiesUnder (layer - 1) (2 * index + 1) l i
 under_child layer index l i at below =
     let q : ℕ = i / 2 ^ (layer - 1 - l) in
     let k : layer - l ≡ (layer - 1 - l) + 1 = omega arith in
@@ -106,14 +110,17 @@ pub on_ok : {T E : Type 0} (r : Result T E) (P : Type 0) → OnOk r P → is_err
 on_ok (Ok x) P h e = h
 on_ok (Err x) P h e = absurd (false≢true (sym e))
 
-pub handled-agreed : (e : Evidence) (m : Known) (found : Found) (layer index : ℕ) → LeadsTo e layer index → AllHandled (claimed_by e) (look m) found layer index → IsAgreed (look m) (claimed_by e)
+pub handled-agreed : (e : Evidence) (m : Known) (found : Found) (layer index : ℕ) → LeadsTo e layer index → AllHandled (claimed_by e) (look m) found layer index
+    → IsAgreed (look m) (claimed_by e)
 handled-agreed e m found layer index leads handled l i u v known claim = elim (handled.at l i (leads.under_top l i v claim) v claim) [
   | inl same ↦ same_Some u v (sym known ∙ same)
   | inr (none, noted) ↦ absurd (none-some u (sym none ∙ known))
 ]
 
-pub handled-joins : (e : Evidence) (m : Known) (found : Found) (layer index c : ℕ) (after : Known) → LeadsTo e layer index → AllHandled (claimed_by e) (look m) found layer index
-    → found.incomplete ≡ false → AreClaims (claimed_by e) found.claims.items → after ≡ insert_new m found.claims.items → len after ≡ len m + c → Joins (claimed_by e) m after c
+pub handled-joins : (e : Evidence) (m : Known) (found : Found) (layer index c : ℕ) (after : Known) → LeadsTo e layer index
+    → AllHandled (claimed_by e) (look m) found layer index
+    → found.incomplete ≡ false → AreClaims (claimed_by e) found.claims.items → after ≡ insert_new m found.claims.items → len after ≡ len m + c
+    → Joins (claimed_by e) m after c
 handled-joins e m found layer index c after leads handled ok sound is gained = record {
   agreed = handled-agreed e m found layer index leads handled;
   joined_is = λ l i. ap (λ k. look k l i) is ∙ insert_new-joined (claimed_by e) found.claims.items m sound complete l i;

@@ -1,5 +1,6 @@
 -- The laws of the tree that follow from the definition by halves.
-use Rattle.std.proofs.Common.{◌≡◌, ℕ, zero, suc, ◌+◌, ◌-◌, ◌*◌, ◌^◌, ◌<◌, ◌≤◌, List, [], ◌++◌, map, length, get_or, take, drop, replicate, sym, ap, ap₂, ◌∙◌, subst, arith, take-take, drop-drop}
+use Rattle.std.proofs.Common.{◌≡◌, ℕ, zero, suc, ◌+◌, ◌-◌, ◌*◌, ◌^◌, ◌<◌, ◌≤◌, List, [], ◌++◌, map, length, get_or, take, drop, replicate, sym, ap, ap₂, ◌∙◌}
+use Rattle.std.proofs.Common.{subst, arith, take-take, drop-drop}
 use Rattle.std.specs.List.{range_with_len}
 use Rattle.std.proofs.lemmas.List.{drop-take, get_or-replicate, get_or-append_right, get_or_append_left, get_or-take, get_or-drop}
 use Rattle.std.proofs.lemmas.List.FromFn.{length-map-range_with_len, get_or-map-range_with_len}

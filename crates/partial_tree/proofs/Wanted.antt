@@ -1,5 +1,6 @@
 -- What a client asks for next, and how the gaps fall.
-use Rattle.std.proofs.Common.{◌≡◌, ◌≢◌, ◌⊎◌, ℕ, suc, ◌+◌, ◌-◌, ◌*◌, ◌/◌, ◌%◌, ◌^◌, ◌<◌, ◌≤◌, min, true, false, ltb, ◌&&◌, is_none, List, length, Option, Some, None, inl, inr, refl, sym, ap, ◌∙◌, subst, arith, pow_pos, pow_mono, div-add-mod', mul-le-mul_right}
+use Rattle.std.proofs.Common.{◌≡◌, ◌≢◌, ◌⊎◌, ℕ, suc, ◌+◌, ◌-◌, ◌*◌, ◌/◌, ◌%◌, ◌^◌, ◌<◌, ◌≤◌, min, true, false, ltb, ◌&&◌, is_none, List, length, Option, Some}
+use Rattle.std.proofs.Common.{None, inl, inr, refl, sym, ap, ◌∙◌, subst, arith, pow_pos, pow_mono, div-add-mod', mul-le-mul_right}
 use Rattle.std.proofs.lemmas.Option.{none-some}
 use Rattle.std.proofs.lemmas.Bool.{cases_lt, cases_Bool, false≢true, and_parts, and_from, and_right, ltb-true, lt-ltb}
 use Rattle.std.proofs.lemmas.Nat.{shl-shr, mod_below, div_below, div-mul-add, mod-mul-add, le-div}
@@ -136,7 +137,8 @@ pub gaps-none : (len : ℕ) (K : PartialTree) → gaps len K ≡ 0 → (b : ℕ)
 unfolding gaps
 gaps-none len K e b in' = elim (there_or_not (K 0 b)) [
   | inl known ↦ known
-  | inr none ↦ absurd (false≢true (sym (count-none (is_gap len K) (2 ^ tree_height len / window len) e (b / window len) (window-of len b in')) ∙ gap-of len K b in' none))
+  | inr none ↦ absurd (false≢true (sym (count-none (is_gap len K) (2 ^ tree_height len / window len) e (b / window len) (window-of len b in'))
+      ∙ gap-of len K b in' none))
 ]
 
 pub gaps-all_known : (len : ℕ) (K : PartialTree) → ((b : ℕ) → b < block_count len → IsKnown K 0 b) → gaps len K ≡ 0
@@ -153,7 +155,8 @@ gaps-all_known len K all = count-zero (is_gap len K) (2 ^ tree_height len / wind
 -- ---- the true answer to what is wanted
 
 -- a file that fits can answer each ask in range
-pub whole-can_answer : (t : TreeRoot) (f : List ℕ) (ask : Ask) → Fits f t → GoodRange (tree_height t.length) ask → CanAnswer (tree_height t.length) (whole f) ask
+pub whole-can_answer : (t : TreeRoot) (f : List ℕ) (ask : Ask) → Fits f t → GoodRange (tree_height t.length) ask
+    → CanAnswer (tree_height t.length) (whole f) ask
 whole-can_answer t f ask fits range = record {
   range = range;
   base_known = λ j low.
@@ -173,8 +176,10 @@ module _ (t : TreeRoot) (b : ℕ) (tall : 1 ≤ tree_height t.length) (in' : b <
       let of' : b / window t.length < 2 ^ tree_height t.length / window t.length = window-of t.length b in' in
       let fill : 2 ^ tree_height t.length / window t.length * window t.length ≡ 2 ^ tree_height t.length = windows-fill t.length in
       let two : 2 ^ 1 ≤ 2 ^ tree_height t.length = pow_mono tall in
-      let none : 2 ^ (tree_height t.length - 0) ≡ 2 ^ tree_height t.length = (let e : tree_height t.length - 0 ≡ tree_height t.length = omega arith in ap (λ k. 2 ^ k) e) in
-      let rows : suc (b / window t.length) * window t.length ≤ 2 ^ tree_height t.length / window t.length * window t.length = mul-le-mul_right (window t.length) of' in
+      let none : 2 ^ (tree_height t.length - 0) ≡ 2 ^ tree_height t.length = (let e : tree_height t.length - 0 ≡ tree_height t.length = omega arith in
+          ap (λ k. 2 ^ k) e) in
+      let rows : suc (b / window t.length) * window t.length ≤ 2 ^ tree_height t.length / window t.length * window t.length =
+          mul-le-mul_right (window t.length) of' in
       record {
         power_of_two = ap (λ k. 2 ^ k) want-span ∙ sym (window-pow t.length);
         least = omega arith;
@@ -192,7 +197,8 @@ module _ (t : TreeRoot) (b : ℕ) (tall : 1 ≤ tree_height t.length) (in' : b <
     pub window-known : (j : ℕ) → j < window t.length → IsKnown (joined K (claims (want_ask t b) hashes)) 0 (b / window t.length * window t.length + j)
     window-known j low =
         let i : ℕ = b / window t.length * window t.length + j in
-        let c = base-claims (want_ask t b) hashes (spans-some (tree_height t.length) (want_ask t b) ok.range) ok.range.power_of_two ok.range.aligned ok.count.enough i (omega arith) (omega arith) in
+        let c = base-claims (want_ask t b) hashes (spans-some (tree_height t.length) (want_ask t b) ok.range) ok.range.power_of_two ok.range.aligned
+            ok.count.enough i (omega arith) (omega arith) in
         elim (there_or_not (K 0 i)) [
           | inl (v, known) ↦ (v, first_of_two (K 0 i) _ v known)
           | inr none ↦ (c.0, second_of_two (K 0 i) _ none ∙ c.1)
@@ -204,10 +210,12 @@ module _ (t : TreeRoot) (b : ℕ) (tall : 1 ≤ tree_height t.length) (in' : b <
       | inr none ↦ elim (there_or_not (claims (want_ask t b) hashes 0 i)) [
         | inr nothing ↦ second_of_two (K 0 i) _ none ∙ nothing ∙ sym none
         | inl (v, claim) ↦
-            let (low, high) = claimed-base (want_ask t b) hashes (spans-some (tree_height t.length) (want_ask t b) ok.range) ok.range.power_of_two ok.range.aligned ok.count.enough i v claim in
+            let (low, high) = claimed-base (want_ask t b) hashes (spans-some (tree_height t.length) (want_ask t b) ok.range) ok.range.power_of_two
+                ok.range.aligned ok.count.enough i v claim in
             let rest : i - b / window t.length * window t.length < window t.length = omega arith in
             let e : i ≡ b / window t.length * window t.length + (i - b / window t.length * window t.length) = omega arith in
-            absurd (other (ap (λ k. k / window t.length) e ∙ div-mul-add (b / window t.length) (window t.length) (i - b / window t.length * window t.length) rest))
+            absurd (other (ap (λ k. k / window t.length) e ∙ div-mul-add (b / window t.length) (window t.length) (i - b / window t.length * window t.length)
+                rest))
       ]
     ]
 
@@ -216,7 +224,8 @@ module _ (t : TreeRoot) (b : ℕ) (tall : 1 ≤ tree_height t.length) (in' : b <
     want-one_fewer none = gaps-one_fewer t.length K (joined K (claims (want_ask t b) hashes)) b in' none window-known window-only
 
     -- fewer than at the ask, whatever was learnt since
-    pub want-fewer : (before : PartialTree) → Keeps before K → before 0 b ≡ None → gaps t.length (joined K (claims (want_ask t b) hashes)) < gaps t.length before
+    pub want-fewer : (before : PartialTree) → Keeps before K → before 0 b ≡ None
+        → gaps t.length (joined K (claims (want_ask t b) hashes)) < gaps t.length before
     want-fewer before keeps none =
         gaps-fewer t.length before (joined K (claims (want_ask t b) hashes)) b
         (λ l i v e. first_of_two (K l i) _ v (keeps l i v e)) in' none window-known

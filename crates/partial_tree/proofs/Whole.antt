@@ -1,5 +1,6 @@
 -- The whole tree of a file that fits a tree is closed.
-use Rattle.std.proofs.Common.{◌≡◌, ℕ, zero, suc, ◌+◌, ◌-◌, ◌*◌, ◌/◌, ◌^◌, ◌<◌, ◌≤◌, leb, ltb, ◌&&◌, List, [], ◌++◌, length, take, drop, Some, None, inl, inr, sym, ap, ap₂, ◌∙◌, subst, arith, take-take, pow_pos}
+use Rattle.std.proofs.Common.{◌≡◌, ℕ, zero, suc, ◌+◌, ◌-◌, ◌*◌, ◌/◌, ◌^◌, ◌<◌, ◌≤◌, leb, ltb, ◌&&◌, List, [], ◌++◌, length, take, drop, Some, None, inl, inr}
+use Rattle.std.proofs.Common.{sym, ap, ap₂, ◌∙◌, subst, arith, take-take, pow_pos}
 use Rattle.std.proofs.lemmas.Option.{cond_some}
 use Rattle.std.proofs.lemmas.Bool.{cases_lt, and_parts, and_from, leb-true, ltb-true, le-leb, lt-ltb, cond-true}
 use Rattle.std.proofs.lemmas.List.{length-replicate, drop-take, get_or-take}
@@ -77,5 +78,6 @@ module _ (f : List ℕ) (t : TreeRoot) (fits : Fits f t) where
           right_known = whole-at f l (2 * (i / 2) + 1) (place_right h l (i / 2) in' up);
           parent_known = whole-at f (suc l) (i / 2) up ∙ ap Some (node-suc f l (i / 2));
         };
-    pads = λ l i v e past. sym (whole-inside f l i v e).1 ∙ node-past f l i (whole-inside f l i v e).0 (subst (λ len. block_count len ≤ i * 2 ^ l) (sym fits.same_length) past);
+    pads = λ l i v e past. sym (whole-inside f l i v e).1
+        ∙ node-past f l i (whole-inside f l i v e).0 (subst (λ len. block_count len ≤ i * 2 ^ l) (sym fits.same_length) past);
   }

@@ -1,5 +1,6 @@
 -- A closed partial tree stays closed when a whole layer is joined to it.
-use Rattle.std.proofs.Common.{◌≡◌, ℕ, zero, suc, ◌+◌, ◌-◌, ◌*◌, ◌/◌, ◌^◌, ◌<◌, ◌≤◌, List, [], ◌++◌, length, get_or, replicate, Some, inl, inr, refl, sym, ap, ap₂, ◌∙◌, subst, arith, eq-or-lt_of_le, length-append, pow_pos, mod-eq_of_lt}
+use Rattle.std.proofs.Common.{◌≡◌, ℕ, zero, suc, ◌+◌, ◌-◌, ◌*◌, ◌/◌, ◌^◌, ◌<◌, ◌≤◌, List, [], ◌++◌, length, get_or, replicate, Some, inl, inr, refl, sym, ap}
+use Rattle.std.proofs.Common.{ap₂, ◌∙◌, subst, arith, eq-or-lt_of_le, length-append, pow_pos, mod-eq_of_lt}
 use Rattle.std.specs.List.{All}
 use Rattle.std.specs.Prelude.{slice_get}
 use Rattle.std.proofs.lemmas.Option.{none-some, slice_get_within, slice_get-get_or, get_or_from_slice_get}
@@ -26,7 +27,8 @@ pub zero_hash-is_hash : (m : ℕ) → IsHash (zero_hash m)
 zero_hash-is_hash zero = subst IsHash (sym zero_hash-zero) pad-is_hash
 zero_hash-is_hash (suc m) = subst IsHash (sym (zero_hash-suc m)) (is_hash (zero_hash m ++ zero_hash m))
 
-module _ (t : TreeRoot) (K : PartialTree) (l : ℕ) (hashes : List Hash) (layer_inside : l ≤ tree_height t.length) (right_count : length hashes ≡ pad_from t.length l) where
+module _ (t : TreeRoot) (K : PartialTree) (l : ℕ) (hashes : List Hash) (layer_inside : l ≤ tree_height t.length)
+    (right_count : length hashes ≡ pad_from t.length l) where
   n : ℕ
   n = block_count t.length
 
@@ -50,13 +52,16 @@ module _ (t : TreeRoot) (K : PartialTree) (l : ℕ) (hashes : List Hash) (layer_
   pub full : length (fill_hashes t.length l hashes) ≡ 2 ^ (tree_height t.length - l)
   full =
       let le : length hashes ≤ 2 ^ (tree_height t.length - l) = short in
-      length-append hashes (replicate (2 ^ (tree_height t.length - l) - length hashes) (zero_hash l)) ∙ ap (λ k. length hashes + k) (length-replicate (2 ^ (tree_height t.length - l) - length hashes) (zero_hash l)) ∙ omega arith
+      length-append hashes (replicate (2 ^ (tree_height t.length - l) - length hashes) (zero_hash l))
+          ∙ ap (λ k. length hashes + k) (length-replicate (2 ^ (tree_height t.length - l) - length hashes) (zero_hash l)) ∙ omega arith
 
   pub spanned : span (fill_ask t.length l) ≡ tree_height t.length - l
   spanned = height_pow (tree_height t.length - l)
 
-  right_pads : (k i : ℕ) (v : Hash) → given (fill_ask t.length l) (fill_hashes t.length l hashes) k i ≡ Some v → block_count t.length ≤ i * 2 ^ k → v ≡ zero_hash k
-  right_pads k i v e past = elim (either (base_hash (fill_ask t.length l) (fill_hashes t.length l hashes) k i) (uncle_hash (fill_ask t.length l) (fill_hashes t.length l hashes) k i) v e) [
+  right_pads : (k i : ℕ) (v : Hash) → given (fill_ask t.length l) (fill_hashes t.length l hashes) k i ≡ Some v → block_count t.length ≤ i * 2 ^ k
+      → v ≡ zero_hash k
+  right_pads k i v e past = elim (either (base_hash (fill_ask t.length l) (fill_hashes t.length l hashes) k i)
+      (uncle_hash (fill_ask t.length l) (fill_hashes t.length l hashes) k i) v e) [
     | inl b ↦
         let (at, low, high, got) = base-read (fill_ask t.length l) (fill_hashes t.length l hashes) k i v b in
         let e' : i - 0 ≡ i = omega arith in
@@ -69,7 +74,8 @@ module _ (t : TreeRoot) (K : PartialTree) (l : ℕ) (hashes : List Hash) (layer_
         ∙ ap zero_hash (sym at)
     | inr (none, u) ↦
         let (from, at, got) = uncle-read (fill_ask t.length l) (fill_hashes t.length l hashes) k i v u in
-        let within' : (fill_ask t.length l).length + (k - cover (fill_ask t.length l)) < length (fill_hashes t.length l hashes) = slice_get_within (fill_hashes t.length l hashes) ((fill_ask t.length l).length + (k - cover (fill_ask t.length l))) v got in
+        let within' : (fill_ask t.length l).length + (k - cover (fill_ask t.length l)) < length (fill_hashes t.length l hashes) =
+            slice_get_within (fill_hashes t.length l hashes) ((fill_ask t.length l).length + (k - cover (fill_ask t.length l))) v got in
         let len : length (fill_hashes t.length l hashes) ≡ 2 ^ (tree_height t.length - l) = full in
         absurd (omega arith)
   ]
@@ -81,28 +87,34 @@ module _ (t : TreeRoot) (K : PartialTree) (l : ℕ) (hashes : List Hash) (layer_
       let k : span (fill_ask t.length l) ≡ tree_height t.length - l = spanned in
       omega (arith, layer_inside)
 
-  pub filled-closed : IsClosed t K → All IsHash hashes → IsAgreed K (fill_claims t.length l hashes) → l < tree_height t.length → IsClosed t (joined K (fill_claims t.length l hashes))
+  pub filled-closed : IsClosed t K → All IsHash hashes → IsAgreed K (fill_claims t.length l hashes) → l < tree_height t.length
+      → IsClosed t (joined K (fill_claims t.length l hashes))
   filled-closed closed all agrees below =
       joined-closed_by_parts t K (fill_ask t.length l) (fill_hashes t.length l hashes) closed
       (All-append IsHash hashes _ all (All-replicate IsHash (2 ^ (tree_height t.length - l) - length hashes) (zero_hash l) (zero_hash-is_hash l)))
-      (subst (λ k. 1 ≤ k) (sym spanned) (omega arith)) (ap (λ k. 2 ^ k) spanned) (mod-eq_of_lt (pow_pos (tree_height t.length - l))) (subst (λ k. 2 ^ (tree_height t.length - l) ≤ k) (sym full) (omega arith))
+      (subst (λ k. 1 ≤ k) (sym spanned) (omega arith)) (ap (λ k. 2 ^ k) spanned) (mod-eq_of_lt (pow_pos (tree_height t.length - l)))
+          (subst (λ k. 2 ^ (tree_height t.length - l) ≤ k) (sym full) (omega arith))
       (subst (λ k. k ≤ tree_height t.length) (sym at_root) (omega arith)) right_pads t.root
-      (ap₂ K at_root (div_small 0 (2 ^ (top_layer (fill_ask t.length l) (fill_hashes t.length l hashes) - l)) (pow_pos (top_layer (fill_ask t.length l) (fill_hashes t.length l hashes) - l))) ∙ closed.root_known)
+      (ap₂ K at_root (div_small 0 (2 ^ (top_layer (fill_ask t.length l) (fill_hashes t.length l hashes) - l))
+          (pow_pos (top_layer (fill_ask t.length l) (fill_hashes t.length l hashes) - l))) ∙ closed.root_known)
       agrees
 
   -- the layer of the root says nothing but the root
-  given-root : l ≡ tree_height t.length → (k i : ℕ) (v : Hash) → given (fill_ask t.length l) (fill_hashes t.length l hashes) k i ≡ Some v → (k ≡ tree_height t.length) × (i ≡ 0)
+  given-root : l ≡ tree_height t.length → (k i : ℕ) (v : Hash) → given (fill_ask t.length l) (fill_hashes t.length l hashes) k i ≡ Some v
+      → (k ≡ tree_height t.length) × (i ≡ 0)
   given-root root k i v e =
       let none_above : tree_height t.length - l ≡ 0 = omega arith in
       let one : 2 ^ (tree_height t.length - l) ≡ 1 = ap (λ j. 2 ^ j) none_above in
       let len : length (fill_hashes t.length l hashes) ≡ 2 ^ (tree_height t.length - l) = full in
-      elim (either (base_hash (fill_ask t.length l) (fill_hashes t.length l hashes) k i) (uncle_hash (fill_ask t.length l) (fill_hashes t.length l hashes) k i) v e) [
+      elim (either (base_hash (fill_ask t.length l) (fill_hashes t.length l hashes) k i) (uncle_hash (fill_ask t.length l) (fill_hashes t.length l hashes) k i)
+          v e) [
         | inl b ↦
             let (at, low, high, got) = base-read (fill_ask t.length l) (fill_hashes t.length l hashes) k i v b in
             (at ∙ root, omega arith)
         | inr (none, u) ↦
             let (from, at, got) = uncle-read (fill_ask t.length l) (fill_hashes t.length l hashes) k i v u in
-            let within' : (fill_ask t.length l).length + (k - cover (fill_ask t.length l)) < length (fill_hashes t.length l hashes) = slice_get_within (fill_hashes t.length l hashes) ((fill_ask t.length l).length + (k - cover (fill_ask t.length l))) v got in
+            let within' : (fill_ask t.length l).length + (k - cover (fill_ask t.length l)) < length (fill_hashes t.length l hashes) =
+                slice_get_within (fill_hashes t.length l hashes) ((fill_ask t.length l).length + (k - cover (fill_ask t.length l))) v got in
             absurd (omega arith)
       ]
 
@@ -124,7 +136,8 @@ module _ (t : TreeRoot) (K : PartialTree) (l : ℕ) (hashes : List Hash) (layer_
       let count : length (fill_hashes t.length l hashes) ≡ 2 ^ (tree_height t.length - l) = full in (
         get_or (fill_hashes t.length l hashes) 0 [],
         claims-given (fill_ask t.length l) (fill_hashes t.length l hashes) (tree_height t.length) 0 _
-            (first_of_two _ _ _ (cond-true _ _ _ (and_from _ _ (eq-eqb (tree_height t.length) l (sym root)) (and_from _ _ (le-leb 0 0 (omega arith)) (lt-ltb 0 (0 + 2 ^ (tree_height t.length - l)) (omega arith))))
+            (first_of_two _ _ _ (cond-true _ _ _ (and_from _ _ (eq-eqb (tree_height t.length) l (sym root))
+                (and_from _ _ (le-leb 0 0 (omega arith)) (lt-ltb 0 (0 + 2 ^ (tree_height t.length - l)) (omega arith))))
             ∙ slice_get-get_or (fill_hashes t.length l hashes) 0 [] (omega arith))),
       )
 

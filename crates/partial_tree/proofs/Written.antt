@@ -1,5 +1,6 @@
 -- What the second pass leaves of what is known.
-use Rattle.std.proofs.Common.{◌≡◌, ◌≢◌, ◌⊎◌, ℕ, ◌+◌, ◌-◌, ◌*◌, ◌/◌, ◌^◌, ◌<◌, ◌≤◌, Option, Some, None, inl, inr, refl, sym, ap, ap₂, ◌∙◌, arith, shr-shr, div-one, eq-or-lt_of_le}
+use Rattle.std.proofs.Common.{◌≡◌, ◌≢◌, ◌⊎◌, ℕ, ◌+◌, ◌-◌, ◌*◌, ◌/◌, ◌^◌, ◌<◌, ◌≤◌, Option, Some, None, inl, inr, refl, sym, ap, ap₂, ◌∙◌, arith, shr-shr}
+use Rattle.std.proofs.Common.{div-one, eq-or-lt_of_le}
 use Rattle.std.specs.FinMap.{len}
 use Rattle.std.specs.Option.{option_or}
 use Rattle.std.proofs.lemmas.Bool.{cases_eq, cases_lt}
@@ -48,7 +49,8 @@ children-written C K first second layer index some left right = record {
     | inl u ↦ right.elsewhere l i (λ w. apart layer index l i u w) ∙ left.under l i u
     | inr w ↦ right.under l i w ∙ ap (λ o. option_or o (C l i)) (left.elsewhere l i (λ u. apart layer index l i u w))
   ];
-  elsewhere = λ l i out. right.elsewhere l i (λ w. out (below-right layer index l i some w)) ∙ left.elsewhere l i (λ u. out (below-left layer index l i some u));
+  elsewhere = λ l i out. right.elsewhere l i (λ w. out (below-right layer index l i some w))
+      ∙ left.elsewhere l i (λ u. out (below-left layer index l i some u));
 }
 
 -- ---- at a place
@@ -81,7 +83,8 @@ here-written C m between after layer index h claim written is = record {
     at_place l i same up =
         let none_left : layer - l ≡ 0 = omega (arith, same) in
         let here' : i ≡ index = sym (div-one i) ∙ sym (ap (λ k. i / 2 ^ k) none_left) ∙ up in
-        let kept : look between layer index ≡ look m layer index = written.elsewhere layer index (λ below. let less : layer < layer = below.0 in omega (arith, less)) in
+        let kept : look between layer index ≡ look m layer index = written.elsewhere layer index (λ below. let less : layer < layer = below.0 in
+            omega (arith, less)) in
         ap₂ (look after) same here' ∙ ap (λ k. look k layer index) is
         ∙ new-at between (record { layer = layer; index = index; hash = h })
         ∙ ap₂ option_or kept (sym claim) ∙ sym (ap₂ (joined (look m) C) same here')

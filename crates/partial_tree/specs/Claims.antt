@@ -1,5 +1,6 @@
 -- What a hashes message claims (BEP 52, "hash request", "hashes"), and when it is refused.
-use Rattle.std.specs.Prelude.{◌≡◌, ◌≢◌, ℕ, zero, suc, ◌+◌, ◌-◌, ◌*◌, ◌/◌, ◌%◌, ◌^◌, ◌<◌, ◌≤◌, min, nat_le, nat_lt, ◌==◌, if◌then◌else◌, ◌&&◌, List, ◌++◌, map, length, slice_get, Option, Some, None}
+use Rattle.std.specs.Prelude.{◌≡◌, ◌≢◌, ℕ, zero, suc, ◌+◌, ◌-◌, ◌*◌, ◌/◌, ◌%◌, ◌^◌, ◌<◌, ◌≤◌, min, nat_le, nat_lt, ◌==◌, if◌then◌else◌, ◌&&◌, List, ◌++◌, map}
+use Rattle.std.specs.Prelude.{length, slice_get, Option, Some, None}
 use Rattle.std.specs.Option.{option_or, unwrap_or}
 use Rattle.std.specs.List.{All, range_with_len}
 use Rattle.wire.specs.declared.message.Ask.{Ask}

@@ -7,7 +7,8 @@ use Rattle.node_maps.specs.Digest.{Hash, AreBytes}
 use Rattle.hashtree.specs.Tree.{block, block_count}
 use Rattle.node_maps.specs.Places.{tree_height, PartialTree, IsKnown, IsTreePlace}
 use Rattle.partial_tree.specs.Closed.{IsClosed, Keeps, Collision, BlockCollision, whole}
-use Rattle.partial_tree.specs.Claims.{AreHashes, claims, joined, top_layer, top_index, GoodRange, GoodCount, IsAccepted, IsToldBy, CanAnswer, answer_of, Refuses}
+use Rattle.partial_tree.specs.Claims.{AreHashes, claims, joined, top_layer, top_index, GoodRange, GoodCount, IsAccepted, IsToldBy, CanAnswer, answer_of}
+use Rattle.partial_tree.specs.Claims.{Refuses}
 use Rattle.partial_tree.specs.declared.refusal.HashRefusal.{HashRefusal as Refusal}
 use Rattle.partial_tree.specs.Fill.{fill_claims, IsFillAccepted}
 use Rattle.partial_tree.specs.Gaps.{gaps, window, want_ask}

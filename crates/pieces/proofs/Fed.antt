@@ -1,7 +1,9 @@
 -- What a version 1 feed holds, as it takes bytes.
-use Rattle.std.proofs.Common.{◌≡◌, ℕ, zero, suc, ◌+◌, ◌-◌, ◌*◌, ◌<◌, ◌≤◌, List, [], ◌++◌, length, take, drop, replicate, None, is_some, Bool, true, false, inl, inr, refl, ap, sym, ◌∙◌, subst, arith}
+use Rattle.std.proofs.Common.{◌≡◌, ℕ, zero, suc, ◌+◌, ◌-◌, ◌*◌, ◌<◌, ◌≤◌, List, [], ◌++◌, length, take, drop, replicate, None, is_some, Bool, true, false, inl}
+use Rattle.std.proofs.Common.{inr, refl, ap, sym, ◌∙◌, subst, arith}
 use Rattle.std.proofs.lemmas.Option.{none-some}
-use Rattle.std.proofs.lemmas.List.{append_assoc, append-nil, length-append, length-replicate, drop-append-le, length-drop, drop_all, take-replicate, replicate-append-replicate}
+use Rattle.std.proofs.lemmas.List.{append_assoc, append-nil, length-append, length-replicate, drop-append-le, length-drop, drop_all, take-replicate}
+use Rattle.std.proofs.lemmas.List.{replicate-append-replicate}
 use Rattle.sha1.specs.Sha1.{sha1}
 use Rattle.pieces.specs.Cuts.{cut}
 use Rattle.pieces.specs.Pieces.{pieces_of}
@@ -25,11 +27,13 @@ no_bad f pieces n content at some = elim (there_or_not f.bad) [
 ]
 
 -- the content ends where the running cut does
-pub ends : (f : V1Feed) (pieces : List (List ℕ)) (n : ℕ) (content : List ℕ) → IsFeedAt f pieces n content → f.bad ≡ None → length content ≡ n * f.cut + f.cutter.filled
+pub ends : (f : V1Feed) (pieces : List (List ℕ)) (n : ℕ) (content : List ℕ) → IsFeedAt f pieces n content → f.bad ≡ None
+    → length content ≡ n * f.cut + f.cutter.filled
 ends f pieces n content at good = omega (arith, at.whole, (at.running good).length_is, length-drop (n * f.cut) content)
 
 -- the running cut was full, and is closed
-pub at_closed : (f g : V1Feed) (pieces : List (List ℕ)) (n : ℕ) (content : List ℕ) → IsFeedAt f pieces n content → 0 < f.cutter.filled → f.cutter.filled ≡ f.cutter.piece_length
+pub at_closed : (f g : V1Feed) (pieces : List (List ℕ)) (n : ℕ) (content : List ℕ) → IsFeedAt f pieces n content → 0 < f.cutter.filled
+    → f.cutter.filled ≡ f.cutter.piece_length
     → g.given ≡ f.given → g.pieces ≡ f.pieces → g.cutter.piece_length ≡ f.cutter.piece_length → g.cut ≡ f.cut + 1 → g.cutter.filled ≡ 0 → IsCutting g.cutter []
     → IsFirstBad n pieces content g.cut g.bad → IsFeedAt g pieces n content
 at_closed f g pieces n content at some full same_given same_pieces same_length next empty cutting bad =
@@ -94,7 +98,8 @@ fed_skipped f g pieces n content more at bad counted same_pieces same_cutter sam
     }
 
 -- after a bad cut nothing runs, so that nothing is missing from the running cut
-pub given_stopped : (f : V1Feed) (pieces : List (List ℕ)) (n : ℕ) (content : List ℕ) → IsFeedAt f pieces n content → is_some f.bad ≡ true → IsFeedGiven f pieces n content
+pub given_stopped : (f : V1Feed) (pieces : List (List ℕ)) (n : ℕ) (content : List ℕ) → IsFeedAt f pieces n content → is_some f.bad ≡ true
+    → IsFeedGiven f pieces n content
 given_stopped f pieces n content at bad = record { at = at; started = λ none. absurd (some_from f.bad bad none) }
 
 -- ---- what a feed was given, as a whole
@@ -112,22 +117,26 @@ feeds_both a b c x y both joined one two = record {
   same_total = two.same_total ∙ one.same_total;
   given_is = omega (arith, one.given_is, two.given_is, length-append x y, ap length joined);
   content = λ pieces n content fed.
-      subst (IsFeedGiven c pieces n) (append_assoc content x y ∙ ap (λ t. content ++ t) joined) (two.content pieces n (content ++ x) (one.content pieces n content fed));
+      subst (IsFeedGiven c pieces n) (append_assoc content x y ∙ ap (λ t. content ++ t) joined)
+          (two.content pieces n (content ++ x) (one.content pieces n content fed));
 }
 
 -- ---- the end
 
 -- the digest of the running cut
-pub digest_of_last : (f : V1Feed) (pieces : List (List ℕ)) (n : ℕ) (content digest : List ℕ) → IsFeedAt f pieces n content → f.bad ≡ None → f.cutter.filled ≤ f.cutter.piece_length
+pub digest_of_last : (f : V1Feed) (pieces : List (List ℕ)) (n : ℕ) (content digest : List ℕ) → IsFeedAt f pieces n content → f.bad ≡ None
+    → f.cutter.filled ≤ f.cutter.piece_length
     → digest ≡ sha1 (drop (n * f.cut) content) → digest ≡ sha1 (cut n content f.cut)
 digest_of_last f pieces n content digest at good bound is =
     is ∙ ap sha1 (sym (last_cut n content f.cut (omega (arith, ends f pieces n content at good, at.piece_length_is))))
 
 -- every cut is closed, once the running one is
-pub all_closed : (f : V1Feed) (pieces : List (List ℕ)) (n : ℕ) (content : List ℕ) → IsFeedAt f pieces n content → 0 < f.cutter.filled → f.cutter.filled ≤ f.cutter.piece_length
+pub all_closed : (f : V1Feed) (pieces : List (List ℕ)) (n : ℕ) (content : List ℕ) → IsFeedAt f pieces n content → 0 < f.cutter.filled
+    → f.cutter.filled ≤ f.cutter.piece_length
     → f.cut + 1 ≡ pieces_of n (length content)
 all_closed f pieces n content at some bound =
-    sym (ap (pieces_of n) (ends f pieces n content at (no_bad f pieces n content at some)) ∙ cut_count_is n f.cut f.cutter.filled some (omega (arith, at.piece_length_is)))
+    sym (ap (pieces_of n) (ends f pieces n content at (no_bad f pieces n content at some))
+        ∙ cut_count_is n f.cut f.cutter.filled some (omega (arith, at.piece_length_is)))
 
 none_of : (k : ℕ) → (0 < k → ⊥) → k ≡ 0
 none_of zero h = refl
@@ -139,7 +148,8 @@ zero_factor (suc n) (suc c) pos h = absurd (omega arith)
 zero_factor zero (suc c) pos h = absurd (omega arith)
 
 -- there is none where nothing was given
-none_open : (f : V1Feed) (pieces : List (List ℕ)) (n : ℕ) (content : List ℕ) → IsFeedGiven f pieces n content → f.bad ≡ None → f.cutter.filled ≡ 0 → 0 < f.cutter.piece_length
+none_open : (f : V1Feed) (pieces : List (List ℕ)) (n : ℕ) (content : List ℕ) → IsFeedGiven f pieces n content → f.bad ≡ None → f.cutter.filled ≡ 0
+    → 0 < f.cutter.piece_length
     → f.cut ≡ pieces_of n (length content)
 none_open f pieces n content fed good empty some =
     let pos : 0 < n = omega (arith, fed.at.piece_length_is) in
@@ -153,7 +163,8 @@ pub record IsWhole (f : V1Feed) (pieces : List (List ℕ)) (n : ℕ) (content : 
   pub all : f.bad ≡ None → f.cut ≡ pieces_of n (length content)
   pub bad_is : IsFirstBad n pieces content f.cut f.bad
 
-pub whole_closed : (f g : V1Feed) (pieces : List (List ℕ)) (n : ℕ) (content : List ℕ) → IsFeedGiven f pieces n content → 0 < f.cutter.filled → f.cutter.filled ≤ f.cutter.piece_length
+pub whole_closed : (f g : V1Feed) (pieces : List (List ℕ)) (n : ℕ) (content : List ℕ) → IsFeedGiven f pieces n content → 0 < f.cutter.filled
+    → f.cutter.filled ≤ f.cutter.piece_length
     → g.pieces ≡ f.pieces → g.cut ≡ f.cut + 1 → (f.bad ≡ None → IsFirstBad n pieces content g.cut g.bad) → IsWhole g pieces n content
 whole_closed f g pieces n content fed some bound same next bad =
     let all : g.cut ≡ pieces_of n (length content) = next ∙ all_closed f pieces n content fed.at some bound in
@@ -164,7 +175,8 @@ whole_closed f g pieces n content fed some bound same next bad =
       bad_is = bad (no_bad f pieces n content fed.at some);
     }
 
-pub whole_none : (f : V1Feed) (pieces : List (List ℕ)) (n : ℕ) (content : List ℕ) → IsFeedGiven f pieces n content → f.cutter.filled ≡ 0 → 0 < f.cutter.piece_length
+pub whole_none : (f : V1Feed) (pieces : List (List ℕ)) (n : ℕ) (content : List ℕ) → IsFeedGiven f pieces n content → f.cutter.filled ≡ 0
+    → 0 < f.cutter.piece_length
     → IsWhole f pieces n content
 whole_none f pieces n content fed empty some = record {
   pieces_are = fed.at.pieces_are;

@@ -1,5 +1,6 @@
 -- A text that is escaped part by part, and a path that is written component by component.
-use Rattle.std.proofs.Common.{◌≡◌, ◌++◌, ◌+◌, ◌-◌, ◌<◌, ◌≤◌, ℕ, List, [], ◌∷◌, length, take, drop, codes, slice_index, false, if◌then◌else◌, sym, ap, ◌∙◌, arith, append_assoc}
+use Rattle.std.proofs.Common.{◌≡◌, ◌++◌, ◌+◌, ◌-◌, ◌<◌, ◌≤◌, ℕ, List, [], ◌∷◌, length, take, drop, codes, slice_index, false, if◌then◌else◌, sym, ap, ◌∙◌}
+use Rattle.std.proofs.Common.{arith, append_assoc}
 use Rattle.std.proofs.lemmas.List.{take-append-drop, take_more, drop_more, get_or-drop, length-drop, append-nil}
 use Rattle.std.proofs.Math.Seq.{take-length}
 use Rattle.std.proofs.lemmas.Grind.{flat_map-append}
@@ -26,7 +27,8 @@ pub escape_plain : (b : ℕ) → is_special b ≡ false → escape_of b ≡ b �
 escape_plain b e = ap (λ t. if t then codes "\\x" ++ encode_lower (b ∷ []) else b ∷ []) e
 
 -- a part of the text that ends before one byte, and the part with that byte
-pub part_more : (text : List ℕ) (start i : ℕ) → start ≤ i → i < length text → take (i + 1 - start) (drop start text) ≡ take (i - start) (drop start text) ++ slice_index text i ∷ []
+pub part_more : (text : List ℕ) (start i : ℕ) → start ≤ i → i < length text → take (i + 1 - start) (drop start text) ≡ take (i - start) (drop start text)
+    ++ slice_index text i ∷ []
 part_more text start i le l =
     let n : i + 1 - start ≡ (i - start) + 1 = omega arith in
     let there : i - start < length (drop start text) = omega (arith, length-drop start text) in
@@ -39,13 +41,15 @@ pub cut_at : (text : List ℕ) (i : ℕ) (sent part : List ℕ) → escaped (tak
 cut_at text i sent part e = escaped_split text i ∙ ap (λ t. t ++ escaped (drop i text)) e ∙ append_assoc sent part (escaped (drop i text))
 
 -- the same with that byte's escape on its own
-pub cut_round : (text : List ℕ) (i : ℕ) (sent part escape : List ℕ) → i < length text → escaped (take i text) ≡ sent ++ part → escape ≡ escape_of (slice_index text i)
+pub cut_round : (text : List ℕ) (i : ℕ) (sent part escape : List ℕ) → i < length text → escaped (take i text) ≡ sent ++ part
+    → escape ≡ escape_of (slice_index text i)
     → escaped text ≡ sent ++ (part ++ (escape ++ escaped (drop (i + 1) text)))
 cut_round text i sent part escape l e is =
     cut_at text i sent part e ∙ ap (λ t. sent ++ (part ++ t)) (escaped_next text i l ∙ ap (λ t. t ++ escaped (drop (i + 1) text)) (sym is))
 
 -- an escape went out
-pub after_escape : (text : List ℕ) (i start : ℕ) (sent part escape : List ℕ) → i < length text → escaped (take i text) ≡ sent ++ part → escape ≡ escape_of (slice_index text i) → start ≡ i + 1
+pub after_escape : (text : List ℕ) (i start : ℕ) (sent part escape : List ℕ) → i < length text → escaped (take i text) ≡ sent ++ part
+    → escape ≡ escape_of (slice_index text i) → start ≡ i + 1
     → escaped (take (i + 1) text) ≡ (sent ++ (part ++ escape)) ++ take (i + 1 - start) (drop start text)
 after_escape text i start sent part escape l e is at =
     let none : i + 1 - start ≡ 0 = omega arith in
@@ -53,7 +57,8 @@ after_escape text i start sent part escape l e is at =
     ∙ sym (append-nil (sent ++ (part ++ escape))) ∙ ap (λ k. (sent ++ (part ++ escape)) ++ take k (drop start text)) (sym none)
 
 -- a byte that stands as it is joins the part that is to come
-pub after_plain : (text : List ℕ) (i start : ℕ) (sent : List ℕ) → i < length text → start ≤ i → escaped (take i text) ≡ sent ++ take (i - start) (drop start text) → is_special (slice_index text i) ≡ false
+pub after_plain : (text : List ℕ) (i start : ℕ) (sent : List ℕ) → i < length text → start ≤ i
+    → escaped (take i text) ≡ sent ++ take (i - start) (drop start text) → is_special (slice_index text i) ≡ false
     → escaped (take (i + 1) text) ≡ sent ++ take (i + 1 - start) (drop start text)
 after_plain text i start sent l le e plain =
     escaped_more text i l ∙ ap (λ t. escaped (take i text) ++ t) (escape_plain (slice_index text i) plain) ∙ ap (λ t. t ++ slice_index text i ∷ []) e

@@ -1,5 +1,6 @@
 -- The loop of a replay: one more frame, and the end.
-use Rattle.std.proofs.Common.{◌≡◌, ◌≤◌, ◌+◌, ◌++◌, ◌||◌, ℕ, suc, Bool, false, List, [], ◌∷◌, length, Option, Some, None, Result, Ok, Err, IfOk, OnErr, refl, sym, ap, ◌∙◌, append_assoc, subst, inl, inr, arith}
+use Rattle.std.proofs.Common.{◌≡◌, ◌≤◌, ◌+◌, ◌++◌, ◌||◌, ℕ, suc, Bool, false, List, [], ◌∷◌, length, Option, Some, None, Result, Ok, Err, IfOk, OnErr, refl}
+use Rattle.std.proofs.Common.{sym, ap, ◌∙◌, append_assoc, subst, inl, inr, arith}
 use Rattle.std.specs.Prelude.{is_some}
 use Rattle.std.specs.List.{list_any}
 use Rattle.std.proofs.lemmas.List.{append-nil, length-append, map-append}
@@ -36,7 +37,9 @@ use Rattle.replays.specs.ReplayLines.{lines_of, ending_line_of}
 use Rattle.replays.specs.declared.reply.Reply.{Reply}
 use Rattle.replays.specs.declared.answering.AnswerFault.TheVariants as failed
 use Rattle.replays.specs.Answering.{Finishes, IfWanted, IsReply, Replies, reply_to}
-use Rattle.replays.specs.Replay.{Answered, Ends, EndsUnanswered, GaveRecord, Handled, Handles, HandlesButLast, HandlesNext, IsCutAtEnd, IsCutInAnswer, IsCutInFlush, IsCutInLine, IsCutReport, IsEnding, IsReport, CountsEnding, Replayed, ReplaySeen, RespondsNext, TellsEnding, answers_of, lines_from, tolds_of, unanswered}
+use Rattle.replays.specs.Replay.{Answered, Ends, EndsUnanswered, GaveRecord, Handled, Handles, HandlesButLast, HandlesNext, IsCutAtEnd, IsCutInAnswer}
+use Rattle.replays.specs.Replay.{IsCutInFlush, IsCutInLine, IsCutReport, IsEnding, IsReport, CountsEnding, Replayed, ReplaySeen, RespondsNext, TellsEnding}
+use Rattle.replays.specs.Replay.{answers_of, lines_from, tolds_of, unanswered}
 use Rattle.replays.proofs.Replies.{broke_after, hashes_are_told, meets_more, none_sent, same_wanted, sent_and_flushed, sent_more, sent_unflushed}
 
 -- ---- one more frame, in lists
@@ -91,7 +94,8 @@ so_far_none : (wanted : Bool) (s : SourceSeen) (S : SessionSeen) → SoFar wante
 so_far_none wanted s S = record { frames = []; read = read_nothing s s refl; run = (refl, refl); counted = refl }
 
 -- whichever form the next part tells, the frames so far have it
-run_at : (wanted : Bool) (known : Option Form) (form : Form) (part : List ℕ) (a b c : SourceSeen) (S S' : SessionSeen) (ds : List (Directed (List ℕ))) (hs : List Handled)
+run_at : (wanted : Bool) (known : Option Form) (form : Form) (part : List ℕ) (a b c : SourceSeen) (S S' : SessionSeen) (ds : List (Directed (List ℕ)))
+    (hs : List Handled)
     → HasRead a b known ds → GavePart known form part b c → RunsBy wanted known S ds hs S' → Chain (Handles wanted form) S ds hs S'
 run_at wanted None form part a b c S S' ds hs r p run =
     subst (λ xs. Chain (Handles wanted form) S xs hs S') (sym r.are.0) (subst (λ ys. Chain (Handles wanted form) S [] ys S') (sym run.0) run.1)
@@ -134,7 +138,8 @@ no_frames a b ds r = record {
 }
 
 -- a replay that has not ended
-replayed_of : (known : Option Form) (old now : ReplaySeen) (hs : List Handled) → SoFar (is_some old.answers) known old.source now.source old.session now.session hs → Replayed old now hs None
+replayed_of : (known : Option Form) (old now : ReplaySeen) (hs : List Handled) → SoFar (is_some old.answers) known old.source now.source old.session now.session
+    hs → Replayed old now hs None
 replayed_of None old now hs s = record {
   form = One;
   frames = [];
@@ -169,12 +174,14 @@ so_far_more wanted known form old mid new S S' S'' hs h s next = record {
 
 -- less than a frame, and then the end
 replayed_ends : (known : Option Form) (old mid new : ReplaySeen) (hs : List Handled) (e : Ending)
-    → SoFar (is_some old.answers) known old.source mid.source old.session mid.session hs → TellsEnding known mid.source new.source e → new.session ≡ mid.session → Replayed old new hs (Some e)
+    → SoFar (is_some old.answers) known old.source mid.source old.session mid.session hs → TellsEnding known mid.source new.source e → new.session ≡ mid.session
+    → Replayed old new hs (Some e)
 replayed_ends known old mid new hs e s next stays = record {
   form = next.form;
   frames = s.frames;
   rest = next.part;
-  read = record_of old.source new.source next.form s.frames next.part (read_to old.source mid.source new.source known next.form s.frames next.part s.read next.gave next.cut);
+  read = record_of old.source new.source next.form s.frames next.part (read_to old.source mid.source new.source known next.form s.frames next.part s.read
+      next.gave next.cut);
   run = subst (Chain (Handles (is_some old.answers) next.form) old.session s.frames hs) (sym stays)
       (run_at (is_some old.answers) known next.form next.part old.source mid.source new.source old.session mid.session s.frames hs s.read next.gave s.run);
   ended = next.ended;
@@ -205,7 +212,8 @@ ended_fault form new part fault.NoMemory s at_end room = absurd (room refl)
 ended_fault One new part fault.BadDirection s at_end room = absurd s
 ended_fault Two new part fault.BadDirection s at_end room = (refl, s)
 
-pub tells_fault : (known : Option Form) (old new : SourceSeen) (why : FrameFault) → StopsInRecord known old new why → (why ≡ fault.NoMemory → ⊥) → TellsEnding known old new (ending.Fault why)
+pub tells_fault : (known : Option Form) (old new : SourceSeen) (why : FrameFault) → StopsInRecord known old new why → (why ≡ fault.NoMemory → ⊥)
+    → TellsEnding known old new (ending.Fault why)
 tells_fault known old new why stop room = record {
   form = stop.form;
   part = stop.rest;
@@ -234,7 +242,8 @@ pub record InReplay (old new : ReplaySeen) (known : Option Form) (number : ℕ) 
   pub no_fault : outcome.fault ≡ false
 
 -- a frame takes a byte at least
-pub frame_falls : {mid new : SourceSeen} {known : Option Form} {form : Form} {S S' : SessionSeen} {d : Told} {r : Reply} → RespondsNext known form mid new S S' d r → new.limit + 1 ≤ mid.limit
+pub frame_falls : {mid new : SourceSeen} {known : Option Form} {form : Form} {S S' : SessionSeen} {d : Told} {r : Reply}
+    → RespondsNext known form mid new S S' d r → new.limit + 1 ≤ mid.limit
 frame_falls {mid} {new} {known} {form} {S} {S'} {d} {r} next = omega (arith, record_falls mid new known form next.1.directed next.1.gave)
 
 -- before the first frame
@@ -256,7 +265,8 @@ abbrev with_answer : Directed Frame → Told → List ℕ → Handled
 with_answer f d bytes = record { frame = f; told = d; answer = bytes }
 
 answer_next : (wanted : Bool) (known : Option Form) (form : Form) (old new : SourceSeen) (S S' : SessionSeen) (f : Directed Frame) (d : Told) (bytes : List ℕ)
-    → HandlesNext false known form old new S S' (unanswered f d) → IsReply wanted S' (reply_to f d) bytes → HandlesNext wanted known form old new S S' (with_answer f d bytes)
+    → HandlesNext false known form old new S S' (unanswered f d) → IsReply wanted S' (reply_to f d) bytes
+    → HandlesNext wanted known form old new S S' (with_answer f d bytes)
 answer_next wanted known form old new S S' f d bytes next replies = record {
   directed = next.directed;
   gave = next.gave;
@@ -264,7 +274,8 @@ answer_next wanted known form old new S S' f d bytes next replies = record {
 }
 
 -- one more frame was handled, with this answer
-handled_more : {old mid : ReplaySeen} {known : Option Form} {form : Form} {n : ℕ} {o : Outcome} {d : Told} {r : Reply} (new : ReplaySeen) (bytes : List ℕ) → (at : InReplay old mid known n o)
+handled_more : {old mid : ReplaySeen} {known : Option Form} {form : Form} {n : ℕ} {o : Outcome} {d : Told} {r : Reply} (new : ReplaySeen) (bytes : List ℕ)
+    → (at : InReplay old mid known n o)
     → (next : RespondsNext known form mid.source new.source mid.session new.session d r) → IsReply (is_some mid.answers) new.session r bytes
     → SoFar (is_some old.answers) (Some form) old.source new.source old.session new.session (at.handled ++ with_answer next.0 d bytes ∷ [])
 handled_more {old} {mid} {known} {form} {n} {o} {d} {r} new bytes at next replies =
@@ -275,7 +286,8 @@ handled_more {old} {mid} {known} {form} {n} {o} {d} {r} new bytes at next replie
     at.so_far (answer_next (is_some old.answers) known form mid.source new.source mid.session new.session next.0 d bytes next.1 is)
 
 -- the last frame was handled, and not answered
-but_last : {old mid : ReplaySeen} {known : Option Form} {form : Form} {n : ℕ} {o : Outcome} {d : Told} {r : Reply} (new : ReplaySeen) → (at : InReplay old mid known n o)
+but_last : {old mid : ReplaySeen} {known : Option Form} {form : Form} {n : ℕ} {o : Outcome} {d : Told} {r : Reply} (new : ReplaySeen)
+    → (at : InReplay old mid known n o)
     → (next : RespondsNext known form mid.source new.source mid.session new.session d r) → HandlesButLast old new at.handled (unanswered next.0 d)
 but_last {old} {mid} {known} {form} {n} {o} {d} {r} new at next =
     let s = at.so_far in
@@ -284,7 +296,8 @@ but_last {old} {mid} {known} {form} {n} {o} {d} {r} new at next =
       form = form;
       frames = s.frames;
       directed = h.directed;
-      read = whole_so_far old.source new.source form (s.frames ++ h.directed ∷ []) (read_more old.source mid.source new.source known form s.frames h.directed s.read h.gave);
+      read = whole_so_far old.source new.source form (s.frames ++ h.directed ∷ []) (read_more old.source mid.source new.source known form s.frames h.directed
+          s.read h.gave);
       session = mid.session;
       run = run_at (is_some old.answers) known form _ old.source mid.source new.source old.session mid.session s.frames at.handled s.read h.gave.part s.run;
       step = h.step;
@@ -292,7 +305,8 @@ but_last {old} {mid} {known} {form} {n} {o} {d} {r} new at next =
     }
 
 -- after one more
-pub in_replay_more : {old mid new : ReplaySeen} {known : Option Form} {form : Form} {n : ℕ} {o : Outcome} {d : Told} {r : Reply} (o' : Outcome) → InReplay old mid known n o
+pub in_replay_more : {old mid new : ReplaySeen} {known : Option Form} {form : Form} {n : ℕ} {o : Outcome} {d : Told} {r : Reply} (o' : Outcome)
+    → InReplay old mid known n o
     → RespondsNext known form mid.source new.source mid.session new.session d r → Sent mid.report new.report (lines_of (n + 1) d)
     → Replies new.session r mid.answers new.answers (Ok tt)
     → o'.refused ≡ (o.refused || is_refusal d) → o'.no_memory ≡ (o.no_memory || is_no_memory d) → o'.fault ≡ o.fault
@@ -316,7 +330,8 @@ in_replay_more {old} {mid} {new} {known} {form} {n} {o} {d} {r} o' so_far next w
     }
 
 -- the line of a frame did not go out whole
-pub cut_in_line : {old mid : ReplaySeen} {known : Option Form} {form : Form} {n : ℕ} {o : Outcome} {d : Told} {r : Reply} (new : ReplaySeen) → InReplay old mid known n o
+pub cut_in_line : {old mid : ReplaySeen} {known : Option Form} {form : Form} {n : ℕ} {o : Outcome} {d : Told} {r : Reply} (new : ReplaySeen)
+    → InReplay old mid known n o
     → RespondsNext known form mid.source new.source mid.session new.session d r → Broke mid.report new.report (lines_of (n + 1) d) → new.answers ≡ mid.answers
     → IsCutReport old new
 cut_in_line {old} {mid} {known} {form} {n} {o} {d} {r} new so_far next wrote stays =
@@ -332,7 +347,8 @@ cut_in_line {old} {mid} {known} {form} {n} {o} {d} {r} new so_far next wrote sta
     inl cut
 
 -- an answer did not go out whole
-pub cut_in_answer : {old mid : ReplaySeen} {known : Option Form} {form : Form} {n : ℕ} {o : Outcome} {d : Told} {r : Reply} (new : ReplaySeen) → InReplay old mid known n o
+pub cut_in_answer : {old mid : ReplaySeen} {known : Option Form} {form : Form} {n : ℕ} {o : Outcome} {d : Told} {r : Reply} (new : ReplaySeen)
+    → InReplay old mid known n o
     → RespondsNext known form mid.source new.source mid.session new.session d r → Sent mid.report new.report (lines_of (n + 1) d)
     → Replies new.session r mid.answers new.answers (Err failed.Write) → IsCutReport old new
 cut_in_answer {old} {mid} {known} {form} {n} {o} {d} {r} new so_far next wrote (bytes, replies, broke) =
@@ -373,7 +389,8 @@ in_end_at_once old new o source session refused no_memory = record {
 }
 
 -- the record has ended
-pub in_end_of_record : {old mid new : ReplaySeen} {known : Option Form} {n : ℕ} {o : Outcome} {e : Ending} → InReplay old mid known n o → TellsEnding known mid.source new.source e
+pub in_end_of_record : {old mid new : ReplaySeen} {known : Option Form} {n : ℕ} {o : Outcome} {e : Ending} → InReplay old mid known n o
+    → TellsEnding known mid.source new.source e
     → new.session ≡ mid.session → InEnd old mid new e o
 in_end_of_record {old} {mid} {new} {known} {n} {o} {e} so_far next stays = record {
   handled = so_far.handled;
@@ -385,7 +402,8 @@ in_end_of_record {old} {mid} {new} {known} {n} {o} {e} so_far next stays = recor
 }
 
 -- memory was refused for an answer, after its line
-pub in_end_unanswered : {old mid new : ReplaySeen} {known : Option Form} {form : Form} {n : ℕ} {o : Outcome} {d : Told} {r : Reply} (o' : Outcome) (after : ReplaySeen) → InReplay old mid known n o
+pub in_end_unanswered : {old mid new : ReplaySeen} {known : Option Form} {form : Form} {n : ℕ} {o : Outcome} {d : Told} {r : Reply} (o' : Outcome)
+    (after : ReplaySeen) → InReplay old mid known n o
     → RespondsNext known form mid.source new.source mid.session new.session d r → Sent mid.report after.report (lines_of (n + 1) d)
     → Replies new.session r mid.answers after.answers (Err failed.NoMemory)
     → o'.refused ≡ (o.refused || is_refusal d) → o'.no_memory ≡ (o.no_memory || is_no_memory d)
@@ -417,7 +435,8 @@ in_end_unanswered {old} {mid} {new} {known} {form} {n} {o} {d} {r} o' after so_f
 
 -- the whole report
 pub report_ended : {old mid : ReplaySeen} {e : Ending} {o : Outcome} (new : ReplaySeen) (r : Result Outcome WriteFault) → InEnd old mid new e o
-    → Finishes mid.report new.report mid.answers new.answers (ending_line_of e) r → IfOk r (λ x. x ≡ record o { fault = is_fault e }) → IfOk r (IsReport old new)
+    → Finishes mid.report new.report mid.answers new.answers (ending_line_of e) r → IfOk r (λ x. x ≡ record o { fault = is_fault e })
+    → IfOk r (IsReport old new)
 report_ended {old} {mid} {e} {o} new (Ok x) end (wrote, flushed) is = record {
   handled = end.handled;
   ending = e;

@@ -56,7 +56,8 @@ answer_count h K ask =
 
 pub few_hashes : (S : SessionSeen) (ask : Ask) (given : Answer) → IsSound S.torrent → IsAnswerTo S ask given → HasFewHashes given
 few_hashes S ask (answer.Hashes hashes) sound (asked, (can, is)) =
-    let e = mapped root_of_entry (slice_get S.torrent.trees asked.number) asked.tree (sym (slice_get-map root_of_entry S.torrent.trees asked.number) ∙ asked.is_tree.tree_is) in
+    let e = mapped root_of_entry (slice_get S.torrent.trees asked.number) asked.tree (sym (slice_get-map root_of_entry S.torrent.trees asked.number)
+        ∙ asked.is_tree.tree_is) in
     let bound = (sound.trees asked.number e.0 e.1).bound in
     let low : tree_height asked.tree.length ≤ 32 = subst (λ t. tree_height t.length ≤ 32) e.2 (low_height e.0.length bound) in
     let count = answer_count (tree_height asked.tree.length) (look asked.state.known) ask in
@@ -70,26 +71,31 @@ no_reply : (wanted : Bool) (S : SessionSeen) (bytes : List ℕ) → IsReply want
 no_reply true S bytes is = is
 no_reply false S bytes is = is
 
-answers_of_step : (wanted : Bool) (S S' : SessionSeen) (m : Message) (v : Verdict) (bytes : List ℕ) → Step S m v S' → IsReply wanted S' (reply_of m v) bytes → Answers wanted S m bytes
+answers_of_step : (wanted : Bool) (S S' : SessionSeen) (m : Message) (v : Verdict) (bytes : List ℕ) → Step S m v S' → IsReply wanted S' (reply_of m v) bytes
+    → Answers wanted S m bytes
 answers_of_step false S S' m v bytes step is = is
 answers_of_step true S S' (message.Request ask) verdict.Answered bytes step is = subst (λ T. AnswersAsk T ask bytes) step.1 is
 answers_of_step true S S' (message.Request ask) verdict.Rejected bytes step is = (answer.Reject, step.0, is)
 answers_of_step true S S' (message.Request ask) v bytes step is = absurd step
 answers_of_step true S S' m v bytes step is = is
 
-none_answered : (wanted : Bool) (S : SessionSeen) (ask : Ask) (hashes : Bor (List Hash)) (bytes : List ℕ) → bytes ≡ [] → Answers wanted S (message.Hashes ask hashes) bytes
+none_answered : (wanted : Bool) (S : SessionSeen) (ask : Ask) (hashes : Bor (List Hash)) (bytes : List ℕ) → bytes ≡ []
+    → Answers wanted S (message.Hashes ask hashes) bytes
 none_answered true S ask hashes bytes e = e
 none_answered false S ask hashes bytes e = e
 
-answers_of_in : (wanted : Bool) (S S' : SessionSeen) (m : Message) (v : Verdict) (bytes : List ℕ) → StepIn S m v S' → IsReply wanted S' (reply_of m v) bytes → Answers wanted S m bytes
+answers_of_in : (wanted : Bool) (S S' : SessionSeen) (m : Message) (v : Verdict) (bytes : List ℕ) → StepIn S m v S' → IsReply wanted S' (reply_of m v) bytes
+    → Answers wanted S m bytes
 answers_of_in wanted S S' (message.Hashes ask hashes) v bytes step is = none_answered wanted S ask hashes bytes (no_reply wanted S' bytes is)
 answers_of_in wanted S S' m v bytes step is = answers_of_step wanted S S' m v bytes step is
 
-answers_by : (wanted : Bool) (form : Form) (S S' : SessionSeen) (m : Message) (v : Verdict) (bytes : List ℕ) → StepsBy form S (In, m) v S' → IsReply wanted S' (reply_of m v) bytes → Answers wanted S m bytes
+answers_by : (wanted : Bool) (form : Form) (S S' : SessionSeen) (m : Message) (v : Verdict) (bytes : List ℕ) → StepsBy form S (In, m) v S'
+    → IsReply wanted S' (reply_of m v) bytes → Answers wanted S m bytes
 answers_by wanted One S S' m v bytes safe is = answers_of_step wanted S S' m v bytes safe.allowed is
 answers_by wanted Two S S' m v bytes safe is = answers_of_in wanted S S' m v bytes safe.allowed is
 
-pub meets_more : (wanted : Bool) (form : Form) (S S' : SessionSeen) (f : Directed Frame) (d : Told) (bytes : List ℕ) → Meets false form S f d [] S' → IsReply wanted S' (reply_to f d) bytes → Meets wanted form S f d bytes S'
+pub meets_more : (wanted : Bool) (form : Form) (S S' : SessionSeen) (f : Directed Frame) (d : Told) (bytes : List ℕ) → Meets false form S f d [] S'
+    → IsReply wanted S' (reply_to f d) bytes → Meets wanted form S f d bytes S'
 meets_more wanted form S S' (In, frame.Message m) d bytes (v, safe, is, none) replies =
     (v, safe, is, answers_by wanted form S S' m v bytes safe (subst (λ x. IsReply wanted S' (reply_to (In, frame.Message m) x) bytes) is replies))
 meets_more wanted form S S' (Out, frame.Message m) d bytes (v, safe, is, none) replies = (v, safe, is, no_reply wanted S' bytes replies)
@@ -115,21 +121,24 @@ pub none_sent : (a : Option SinkSeen) → IfWanted (λ x y. Sent x y []) a a
 none_sent None = refl
 none_sent (Some x) = record { bytes = Appends_nothing x.written; faults = refl; flushes = refl }
 
-pub sent_more : (a b c : Option SinkSeen) (first next : List ℕ) → IfWanted (λ x y. Sent x y first) a b → IfWanted (λ x y. Sent x y next) b c → IfWanted (λ x y. Sent x y (first ++ next)) a c
+pub sent_more : (a b c : Option SinkSeen) (first next : List ℕ) → IfWanted (λ x y. Sent x y first) a b → IfWanted (λ x y. Sent x y next) b c
+    → IfWanted (λ x y. Sent x y (first ++ next)) a c
 sent_more None None c first next p q = q
 sent_more None (Some y) c first next p q = let no : ⊥ = cc in absurd no
 sent_more (Some x) None c first next p q = absurd p
 sent_more (Some x) (Some y) None first next p q = absurd q
 sent_more (Some x) (Some y) (Some z) first next p q = Sent-append x y z first next p q
 
-pub broke_after : (a b c : Option SinkSeen) (first next : List ℕ) → IfWanted (λ x y. Sent x y first) a b → IsWanted (λ x y. Broke x y next) b c → IsWanted (BrokeAfter first next) a c
+pub broke_after : (a b c : Option SinkSeen) (first next : List ℕ) → IfWanted (λ x y. Sent x y first) a b → IsWanted (λ x y. Broke x y next) b c
+    → IsWanted (BrokeAfter first next) a c
 broke_after None None c first next p q = absurd q
 broke_after None (Some y) c first next p q = let no : ⊥ = cc in absurd no
 broke_after (Some x) None c first next p q = absurd p
 broke_after (Some x) (Some y) None first next p q = absurd q
 broke_after (Some x) (Some y) (Some z) first next p q = (y, p, q)
 
-pub sent_and_flushed : (a b c : Option SinkSeen) (text : List ℕ) → IfWanted (λ x y. Sent x y text) a b → IfWanted Flushed b c → IfWanted (λ x y. SentAndFlushed x y text) a c
+pub sent_and_flushed : (a b c : Option SinkSeen) (text : List ℕ) → IfWanted (λ x y. Sent x y text) a b → IfWanted Flushed b c
+    → IfWanted (λ x y. SentAndFlushed x y text) a c
 sent_and_flushed None None c text p q = q
 sent_and_flushed None (Some y) c text p q = let no : ⊥ = cc in absurd no
 sent_and_flushed (Some x) None c text p q = absurd p

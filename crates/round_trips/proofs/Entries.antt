@@ -1,5 +1,6 @@
 -- The files of a draft's torrent beside their contents.
-use Rattle.std.proofs.Common.{◌≡◌, ℕ, zero, suc, ◌+◌, ◌⊎◌, Bool, List, [], ◌∷◌, ◌++◌, length, map, Option, Some, None, slice_get, inl, inr, refl, sym, ap, subst, ◌∙◌, arith}
+use Rattle.std.proofs.Common.{◌≡◌, ℕ, zero, suc, ◌+◌, ◌⊎◌, Bool, List, [], ◌∷◌, ◌++◌, length, map, Option, Some, None, slice_get, inl, inr, refl, sym, ap}
+use Rattle.std.proofs.Common.{subst, ◌∙◌, arith}
 use Rattle.std.specs.List.{fold}
 use Rattle.std.specs.Prelude.{option_and_then}
 use Rattle.drafts.specs.Outline.{OutlineFile, listed_file}
@@ -61,11 +62,13 @@ module _ (p : ℕ) (hybrid : Bool) (under : List (List ℕ) → Option (Option (
       }
 
   -- each content is one of a file of the torrent
-  pub entry_there : (ts : List Root) (first : ℕ) (fs : List OutlineFile) (cs : List (List ℕ)) (n : ℕ) (c : List ℕ) → AreMade p hybrid under fs cs → slice_get cs n ≡ Some c
+  pub entry_there : (ts : List Root) (first : ℕ) (fs : List OutlineFile) (cs : List (List ℕ)) (n : ℕ) (c : List ℕ) → AreMade p hybrid under fs cs
+      → slice_get cs n ≡ Some c
       → (e : FileEntry) × (slice_get (entries_from p ts first (map listed_file fs)) n ≡ Some e)
   entry_there ts first fs [] n c all at = cc
   entry_there ts first [] (x ∷ cs) n c all at = absurd all
-  entry_there ts first (f ∷ fs) (x ∷ cs) zero c all at = (record { path = f.path; length = f.length; tree = option_and_then (place_in ts) (listed_file f).root; first_piece = first }, refl)
+  entry_there ts first (f ∷ fs) (x ∷ cs) zero c all at = (record { path = f.path; length = f.length; tree = option_and_then (place_in ts) (listed_file f).root;
+      first_piece = first }, refl)
   entry_there ts first (f ∷ fs) (x ∷ cs) (suc n) c all at = entry_there ts (first + pieces_of p f.length) fs cs n c all.1 at
 
 -- ---- each root of a file is among the roots
@@ -99,7 +102,8 @@ placed_here ts n s =
       | inr there ↦ keeps_one ts n (Some s) s there
     ]
 
-pub root_placed : (ts : List Root) (fs : List ListedFile) (n : ℕ) (f : ListedFile) (s : List ℕ) → slice_get fs n ≡ Some f → f.root ≡ Some s → IsRootPlaced (fold with_file ts fs) s
+pub root_placed : (ts : List Root) (fs : List ListedFile) (n : ℕ) (f : ListedFile) (s : List ℕ) → slice_get fs n ≡ Some f → f.root ≡ Some s
+    → IsRootPlaced (fold with_file ts fs) s
 root_placed ts [] n f s at root = cc
 root_placed ts (x ∷ fs) zero f s at root =
     let same : x ≡ f = cc in

@@ -1,5 +1,6 @@
 -- A draft that was gathered was made of the contents that a shelf tells.
-use Rattle.std.proofs.Common.{◌≡◌, ◌≢◌, ℕ, suc, ◌<◌, ◌≤◌, Bool, true, List, [], ◌∷◌, ◌++◌, length, take, drop, Option, Some, None, inl, inr, refl, sym, ap, subst, ◌∙◌, arith}
+use Rattle.std.proofs.Common.{◌≡◌, ◌≢◌, ℕ, suc, ◌<◌, ◌≤◌, Bool, true, List, [], ◌∷◌, ◌++◌, length, take, drop, Option, Some, None, inl, inr, refl, sym, ap}
+use Rattle.std.proofs.Common.{subst, ◌∙◌, arith}
 use Rattle.std.specs.Prelude.{nat_lt}
 use Rattle.chains.specs.Chain.{Chain}
 use Rattle.drafts.specs.Outline.{IsOutline, Outline, OutlineFile}
@@ -18,7 +19,8 @@ told_is : (told : Option (Option (List ℕ))) (c : List ℕ) → Agrees told (So
 told_is None c agrees some = absurd (some refl)
 told_is (Some there) c agrees some = ap Some (agrees there refl)
 
-made : (p : ℕ) (hybrid : Bool) (under : Telling) (path : List (List ℕ)) (c : List ℕ) (f : OutlineFile) → IsDraftFile p hybrid path c f → under path ≡ Some (Some c) → Made p hybrid under f c
+made : (p : ℕ) (hybrid : Bool) (under : Telling) (path : List (List ℕ)) (c : List ℕ) (f : OutlineFile) → IsDraftFile p hybrid path c f
+    → under path ≡ Some (Some c) → Made p hybrid under f c
 made p hybrid under path c f is told = record {
   length_is = is.length_is;
   root_is = is.root_is;
@@ -34,7 +36,8 @@ record AreMadeIn (p : ℕ) (hybrid : Bool) (under : Telling) (d : Outline) : Typ
   pub kind_is : d.hybrid ≡ hybrid
   pub made : AreMade p hybrid under d.files contents
 
-one_more : (p : ℕ) (hybrid : Bool) (under : Telling) (d e : Outline) (path : List (List ℕ)) (c : List ℕ) → DraftAdds d path c e → under path ≡ Some (Some c) → AreMadeIn p hybrid under d → AreMadeIn p hybrid under e
+one_more : (p : ℕ) (hybrid : Bool) (under : Telling) (d e : Outline) (path : List (List ℕ)) (c : List ℕ) → DraftAdds d path c e → under path ≡ Some (Some c)
+    → AreMadeIn p hybrid under d → AreMadeIn p hybrid under e
 one_more p hybrid under d e path c adds told so =
     let f = adds.file in
     let here = subst (λ h. IsDraftFile p h path c f) so.kind_is (subst (λ k. IsDraftFile k d.hybrid path c f) so.length_is adds.is) in
@@ -47,7 +50,8 @@ one_more p hybrid under d e path c adds told so =
           (put_made p hybrid under place f c d.files so.contents (made p hybrid under path c f here told) so.made);
     }
 
-all_made : (p : ℕ) (hybrid : Bool) (under : Telling) (d e : Outline) (paths : List (List (List ℕ))) (cs : List (List ℕ)) → Chain DraftAdds d paths cs e → AreContentsUnder under paths cs → TellsEach under paths
+all_made : (p : ℕ) (hybrid : Bool) (under : Telling) (d e : Outline) (paths : List (List (List ℕ))) (cs : List (List ℕ)) → Chain DraftAdds d paths cs e
+    → AreContentsUnder under paths cs → TellsEach under paths
     → AreMadeIn p hybrid under d → AreMadeIn p hybrid under e
 all_made p hybrid under d e [] [] chain are told so = subst (AreMadeIn p hybrid under) (sym chain) so
 all_made p hybrid under d e [] (c ∷ cs) chain are told so = absurd chain
@@ -58,8 +62,10 @@ all_made p hybrid under d e (q ∷ paths) (c ∷ cs) chain are told so =
 
 pub checks_good : (under : Telling) (d : Outline) → IsOutline d → IsGatheredFrom under d → ChecksGood (torrent_of d) under
 checks_good under d o from files v1 tells readable =
-    let so = all_made from.piece_length from.hybrid under _ d from.paths from.contents from.gathered from.are from.told (record { contents = []; length_is = refl; kind_is = refl; made = tt }) in
-    let all = subst (λ h. AreMade d.piece_length h under d.files so.contents) (sym so.kind_is) (subst (λ k. AreMade k from.hybrid under d.files so.contents) (sym so.length_is) so.made) in
+    let so = all_made from.piece_length from.hybrid under _ d from.paths from.contents from.gathered from.are from.told
+        (record { contents = []; length_is = refl; kind_is = refl; made = tt }) in
+    let all = subst (λ h. AreMade d.piece_length h under d.files so.contents) (sym so.kind_is) (subst (λ k. AreMade k from.hybrid under d.files so.contents)
+        (sym so.length_is) so.made) in
     tells.enough (good_folder d so.contents under o all tells.contents tells.agree) readable
 
 pub fits_max_torrent : (n : ℕ) → (max_torrent < n → ⊥) → n ≤ max_torrent

@@ -1,5 +1,6 @@
 -- A folder that holds what a draft's files were made of is good.
-use Rattle.std.proofs.Common.{◌≡◌, ℕ, zero, suc, ◌*◌, ◌<◌, true, List, [], ◌∷◌, length, map, Option, Some, None, slice_get, if◌then◌else◌, inl, inr, refl, sym, ap, subst, ◌∙◌, arith, take, drop}
+use Rattle.std.proofs.Common.{◌≡◌, ℕ, zero, suc, ◌*◌, ◌<◌, true, List, [], ◌∷◌, length, map, Option, Some, None, slice_get, if◌then◌else◌, inl, inr, refl, sym}
+use Rattle.std.proofs.Common.{ap, subst, ◌∙◌, arith, take, drop}
 use Rattle.std.specs.Prelude.{nat_lt, option_and_then}
 use Rattle.drafts.proofs.DraftLayers.{root_used}
 use Rattle.drafts.proofs.Accepted.{listed_at, rooted_file}
@@ -60,8 +61,10 @@ has_tree d n f o at some =
 abbrev v1_of : Outline → Version1
 v1_of d = record { pieces = digests_of d.files; total = stream_of d.piece_length d.files }
 
-module _ (d : Outline) (cs : List (List ℕ)) (under : List (List ℕ) → Option (Option (List ℕ))) (o : IsOutline d) (all : AreMade d.piece_length d.hybrid under d.files cs) (held : Contents) (agree : AgreeWith (torrent_of d) under held) where
-  is_of : (n : ℕ) (e : FileEntry) → slice_get (torrent_of d).files n ≡ Some e → EntryOf d.piece_length d.hybrid under (roots_in (map listed_file d.files)) 0 d.files cs n e
+module _ (d : Outline) (cs : List (List ℕ)) (under : List (List ℕ) → Option (Option (List ℕ))) (o : IsOutline d)
+    (all : AreMade d.piece_length d.hybrid under d.files cs) (held : Contents) (agree : AgreeWith (torrent_of d) under held) where
+  is_of : (n : ℕ) (e : FileEntry) → slice_get (torrent_of d).files n ≡ Some e
+      → EntryOf d.piece_length d.hybrid under (roots_in (map listed_file d.files)) 0 d.files cs n e
   is_of n e at = entry_of d.piece_length d.hybrid under (roots_in (map listed_file d.files)) 0 d.files cs n e all at
 
   held_is : (n : ℕ) (e : FileEntry) (at : slice_get (torrent_of d).files n ≡ Some e) → held n ≡ Some (is_of n e at).content
@@ -128,7 +131,8 @@ module _ (d : Outline) (cs : List (List ℕ)) (under : List (List ℕ) → Optio
             let from : e.first_piece ≡ starts d.piece_length cs n = omega (arith, behind) in
             let content_some : 0 < length x.content = subst (λ (y : List ℕ). 0 < length y) is more in
             ap (λ k. take (length bytes) (drop (k * d.piece_length) (stream d.piece_length cs))) from
-            ∙ subst (λ (y : List ℕ). take (length y) (drop (starts d.piece_length cs n * d.piece_length) (stream d.piece_length cs)) ≡ y) (sym is) (stands d.piece_length cs n x.content some x.there content_some);
+            ∙ subst (λ (y : List ℕ). take (length y) (drop (starts d.piece_length cs n * d.piece_length) (stream d.piece_length cs)) ≡ y) (sym is)
+                (stands d.piece_length cs n x.content some x.there content_some);
         zeros = λ i less bare. elim (covered d.piece_length cs i some) [
           | inl nothing ↦ nothing
           | inr c ↦ absurd (bare (covers i c))
@@ -142,7 +146,8 @@ module _ (d : Outline) (cs : List (List ℕ)) (under : List (List ℕ) → Optio
       | inl hybrid ↦
           let there : Some (v1_of d) ≡ Some v = subst (λ b. (if b then Some (v1_of d) else None) ≡ Some v) hybrid is in
           let same : v1_of d ≡ v = cc in
-          subst (λ w. V1Good (torrent_of d) w held) same (stream d.piece_length cs, is_stream, stream_digests d.piece_length d.hybrid under d.files cs hybrid (legal_some d.piece_length o.legal).0 all)
+          subst (λ w. V1Good (torrent_of d) w held) same (stream d.piece_length cs, is_stream, stream_digests d.piece_length d.hybrid under d.files cs hybrid
+              (legal_some d.piece_length o.legal).0 all)
       | inr plain ↦ let none : None ≡ Some v = subst (λ b. (if b then Some (v1_of d) else None) ≡ Some v) plain is in cc
     ];
   }

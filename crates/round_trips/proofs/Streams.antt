@@ -1,5 +1,6 @@
 -- Where contents stand in the stream, and that zeros stand elsewhere.
-use Rattle.std.proofs.Common.{◌≡◌, ℕ, zero, suc, ◌+◌, ◌-◌, ◌*◌, ◌<◌, ◌≤◌, ◌⊎◌, true, List, [], ◌∷◌, ◌++◌, length, take, drop, replicate, get_or, Some, slice_get, inl, inr, refl, ap, subst, ◌∙◌, append_assoc, arith, length-append}
+use Rattle.std.proofs.Common.{◌≡◌, ℕ, zero, suc, ◌+◌, ◌-◌, ◌*◌, ◌<◌, ◌≤◌, ◌⊎◌, true, List, [], ◌∷◌, ◌++◌, length, take, drop, replicate, get_or, Some}
+use Rattle.std.proofs.Common.{slice_get, inl, inr, refl, ap, subst, ◌∙◌, append_assoc, arith, length-append}
 use Rattle.std.proofs.Math.Seq.{drop-append-add, take-append_seam}
 use Rattle.std.proofs.lemmas.Bool.{cases_lt}
 use Rattle.std.proofs.lemmas.List.{length-replicate, get_or-append_right, get_or-replicate, get_or_past, get_or_append_left}
@@ -24,7 +25,8 @@ at_front : (c a b : List ℕ) → take (length c) ((c ++ a) ++ b) ≡ c
 at_front c a b = ap (take (length c)) (append_assoc c a b) ∙ take-append_seam c (a ++ b)
 
 -- a content that is not empty stands at its start
-pub stands : (p : ℕ) (cs : List (List ℕ)) (n : ℕ) (c : List ℕ) → 0 < p → slice_get cs n ≡ Some c → 0 < length c → take (length c) (drop (starts p cs n * p) (stream p cs)) ≡ c
+pub stands : (p : ℕ) (cs : List (List ℕ)) (n : ℕ) (c : List ℕ) → 0 < p → slice_get cs n ≡ Some c → 0 < length c
+    → take (length c) (drop (starts p cs n * p) (stream p cs)) ≡ c
 stands p [] n c some at more = cc
 stands p (x ∷ cs) zero c some at more =
     let same : x ≡ c = cc in
@@ -62,7 +64,8 @@ pub covered : (p : ℕ) (cs : List (List ℕ)) (i : ℕ) → 0 < p → (slice_in
 covered p [] i some = inl (get_or_past {X = ℕ} [] i 0 (omega arith))
 covered p (x ∷ cs) i some =
     elim (cases_lt i (length x)) [
-      | inl inside ↦ let none : 0 * p ≡ 0 = omega arith in inr (record { number = 0; content = x; there = refl; from = omega (arith, none); to = omega (arith, none, inside) })
+      | inl inside ↦ let none : 0 * p ≡ 0 = omega arith in
+          inr (record { number = 0; content = x; there = refl; from = omega (arith, none); to = omega (arith, none, inside) })
       | inr past ↦ elim (true_or_false (has_bytes cs)) [
         | inl later ↦
             let size = block_length p x some in

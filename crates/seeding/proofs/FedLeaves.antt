@@ -1,5 +1,6 @@
 -- What takes a file's bytes for its leaves: how many leaves its tree has, and what stands at the end.
-use Rattle.std.proofs.Common.{◌≡◌, ◌⊎◌, ℕ, zero, ◌+◌, ◌-◌, ◌*◌, ◌<◌, ◌≤◌, ◌++◌, List, [], ◌∷◌, length, take, drop, Option, Some, None, OnSome, Result, Ok, Err, IfErr, inl, inr, refl, sym, ap, ◌∙◌, subst, arith, div-one, option_map}
+use Rattle.std.proofs.Common.{◌≡◌, ◌⊎◌, ℕ, zero, ◌+◌, ◌-◌, ◌*◌, ◌<◌, ◌≤◌, ◌++◌, List, [], ◌∷◌, length, take, drop, Option, Some, None, OnSome, Result, Ok, Err}
+use Rattle.std.proofs.Common.{IfErr, inl, inr, refl, sym, ap, ◌∙◌, subst, arith, div-one, option_map}
 use Rattle.std.specs.Option.{option_to_list}
 use Rattle.std.proofs.lemmas.List.{length-append, length-take-le}
 use Rattle.std.proofs.lemmas.List.FromFn.{length-map-range_with_len}
@@ -46,7 +47,8 @@ pub leaf-fits : {N : Type 0} (l : Leaves N) (mid : RootBuilder) (content more : 
 leaf-fits l mid content more None at fed completed fits = tt
 leaf-fits l mid content more (Some x) at fed completed fits =
     let count : length (complete_nodes mid more 0) ≡ mid.peaks.count = complete-length mid more in
-    let one : length (complete_nodes mid more 0) ≡ length (complete_nodes l.builder content 0) + 1 = ap length completed ∙ length-append (complete_nodes l.builder content 0) (x ∷ []) in
+    let one : length (complete_nodes mid more 0) ≡ length (complete_nodes l.builder content 0) + 1 = ap length completed
+        ∙ length-append (complete_nodes l.builder content 0) (x ∷ []) in
     let bytes : 16384 * mid.peaks.count + mid.filled ≡ length more = fed.at.length_is in
     let some : 0 < length more = omega (arith, count, one, bytes) in
     let begun : 0 < mid.filled = fed.started some in
@@ -71,7 +73,8 @@ kept-leaf l q mid content more leaf at fed completed builder kept = record {
 }
 
 -- so many bytes of what is taken are within the file's length
-pub part-fits : {N : Type 0} (old : Leaves N) (part : List ℕ) (start taken len : ℕ) (room : HasRoomForBytes old (length part)) → start + taken ≤ length part → len ≡ old.tree.length
+pub part-fits : {N : Type 0} (old : Leaves N) (part : List ℕ) (start taken len : ℕ) (room : HasRoomForBytes old (length part)) → start + taken ≤ length part
+    → len ≡ old.tree.length
     → length ((room.content ++ take start part) ++ take taken (take (length part - start) (drop start part))) ≤ len
 part-fits old part start taken len room within same =
     let whole = ap length (next_part room.content part start taken) ∙ length-append room.content (take (start + taken) part) in
@@ -92,24 +95,28 @@ pub last-fits : {N : Type 0} (l : Leaves N) (content : List ℕ) (last : Option 
 last-fits l content last leaf full works nodes is =
     let all : length (layer_of content 0) ≡ block_count (length content) = length-leaves content in
     let one : length (layer_of content 0) ≡ length (complete_nodes l.builder content 0) + 1 =
-    ap length (sym nodes) ∙ ap (λ o. length (complete_nodes l.builder content 0 ++ option_to_list o)) is ∙ length-append (complete_nodes l.builder content 0) (leaf ∷ []) in
+    ap length (sym nodes) ∙ ap (λ o. length (complete_nodes l.builder content 0 ++ option_to_list o)) is
+        ∙ length-append (complete_nodes l.builder content 0) (leaf ∷ []) in
     let had : length l.tree.leaves ≡ length (complete_nodes l.builder content 0) = ap length (kept-leaves l content full.fed works) in
     let same : block_count (length content) ≡ block_count l.tree.length = ap block_count full.length_is in
     omega (arith, all, one, had, same)
 
 -- with the last leaf the file's leaves are all there
 pub all-leaves : {N : Type 0} (l : Leaves N) (t : GrownTree) (content : List ℕ) (last : Option (List ℕ)) → IsFull l content → (HasRefused l → ⊥)
-    → complete_nodes l.builder content 0 ++ option_to_list last ≡ layer_of content 0 → t.leaves ≡ l.tree.leaves ++ option_to_list last → t.leaves ≡ layer_of content 0
+    → complete_nodes l.builder content 0 ++ option_to_list last ≡ layer_of content 0 → t.leaves ≡ l.tree.leaves ++ option_to_list last
+    → t.leaves ≡ layer_of content 0
 all-leaves l t content last full works nodes is = is ∙ ap (λ xs. xs ++ option_to_list last) (kept-leaves l content full.fed works) ∙ nodes
 
 pub all-there : {N : Type 0} (l : Leaves N) (t : GrownTree) (content : List ℕ) (last : Option (List ℕ)) → IsFull l content → (HasRefused l → ⊥)
-    → complete_nodes l.builder content 0 ++ option_to_list last ≡ layer_of content 0 → t.leaves ≡ l.tree.leaves ++ option_to_list last → t.length ≡ l.tree.length
+    → complete_nodes l.builder content 0 ++ option_to_list last ≡ layer_of content 0 → t.leaves ≡ l.tree.leaves ++ option_to_list last
+    → t.length ≡ l.tree.length
     → length t.leaves ≡ block_count t.length
 all-there l t content last full works nodes is same =
     ap length (all-leaves l t content last full works nodes is) ∙ length-leaves content ∙ ap block_count (full.length_is ∙ sym same)
 
 -- a source of the right length was read
-module _ {N : Type 0} (e : TreeEntry) (len : ℕ) (of : len ≡ e.length) (source source' : SourceSeen) (before after : Leaves N) (read : TookAll Pushes source source' len before after len)
+module _ {N : Type 0} (e : TreeEntry) (len : ℕ) (of : len ≡ e.length) (source source' : SourceSeen) (before after : Leaves N)
+    (read : TookAll Pushes source source' len before after len)
     (nothing : IsFedLeaves before []) (length_is : before.tree.length ≡ len) (some : 0 < len) where
   pub full : IsFull after read.bytes
   full = record {
@@ -125,7 +132,8 @@ module _ {N : Type 0} (e : TreeEntry) (len : ℕ) (of : len ≡ e.length) (sourc
     record { length_is = read.count_is ∙ of; root_is = sym (same read.bytes full) },
   )
 
-  pub found : (t : Option GrownTree) → ((content : List ℕ) → IsFull after content → EndsWithTree after e.root content t) → ReadsLeaves e source.left (option_map (λ (x : GrownTree). x.leaves) t)
+  pub found : (t : Option GrownTree) → ((content : List ℕ) → IsFull after content → EndsWithTree after e.root content t)
+      → ReadsLeaves e source.left (option_map (λ (x : GrownTree). x.leaves) t)
   found (Some t) ends =
       let end = ends read.bytes full in (
         read.bytes,

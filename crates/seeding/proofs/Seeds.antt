@@ -1,5 +1,6 @@
 -- Seeding, file by file.
-use Rattle.std.proofs.Common.{◌≡◌, ℕ, suc, ◌+◌, ◌<◌, ◌≤◌, ◌++◌, Bool, false, List, [], ◌∷◌, length, take, Option, Some, None, refl, sym, ap, ◌∙◌, subst, append_assoc, arith}
+use Rattle.std.proofs.Common.{◌≡◌, ℕ, suc, ◌+◌, ◌<◌, ◌≤◌, ◌++◌, Bool, false, List, [], ◌∷◌, length, take, Option, Some, None, refl, sym, ap, ◌∙◌, subst}
+use Rattle.std.proofs.Common.{append_assoc, arith}
 use Rattle.std.specs.Prelude.{slice_get}
 use Rattle.std.proofs.lemmas.List.{append-nil, length_push, length-take-le}
 use Rattle.std.proofs.lemmas.Option.{slice_get_within, get_or_from_slice_get}
@@ -99,7 +100,8 @@ module _ {S F : Type 0} (shelf : Ghosts S F) (seen : F → SourceSeen) where
       let at = get_or_from_slice_get files n f f there in
       let few : n ≤ length files = omega arith in
       let same : length so_far.told ≡ length (take n files) = so_far.count ∙ sym (length-take-le n files few) in
-      let next : take (n + 1) files ≡ take n files ++ f ∷ [] = (let e : n + 1 ≡ suc n = omega arith in ap (λ k. take k files) e) ∙ take-suc files n f inside ∙ ap (λ g. take n files ++ g ∷ []) at in
+      let next : take (n + 1) files ≡ take n files ++ f ∷ [] = (let e : n + 1 ≡ suc n = omega arith in ap (λ k. take k files) e) ∙ take-suc files n f inside
+          ∙ ap (λ g. take n files ++ g ∷ []) at in
       record {
         told = so_far.told ++ seeded ∷ [];
         count = length_push so_far.told seeded ∙ ap (λ k. k + 1) so_far.count;

@@ -1,5 +1,6 @@
 -- A list of refusals in an array that holds nothing behind it.
-use Rattle.std.proofs.Common.{◌≡◌, ℕ, suc, ◌+◌, ◌-◌, ◌<◌, List, [], ◌∷◌, ◌++◌, length, take, set, replicate, Option, None, sym, ap, ap₂, ◌∙◌, arith, length-append, length-set}
+use Rattle.std.proofs.Common.{◌≡◌, ℕ, suc, ◌+◌, ◌-◌, ◌<◌, List, [], ◌∷◌, ◌++◌, length, take, set, replicate, Option, None, sym, ap, ap₂, ◌∙◌, arith}
+use Rattle.std.proofs.Common.{length-append, length-set}
 use Rattle.std.proofs.Math.Seq.{set-append_seam, take-suc-set}
 use Rattle.std.proofs.lemmas.List.{append_assoc}
 use Rattle.partial_tree.specs.declared.refusal.BlockRefusal.{BlockRefusal}
@@ -27,7 +28,8 @@ module _ (cells : List (Option BlockRefusal)) (count first : ℕ) (h : IsArrayOf
     pub pushed-array : IsArrayOf (set cells count r) (count + 1) first
     pushed-array = record {
       size = length-set cells count r ∙ h.size;
-      count_is = ap length pushed-list ∙ (let e : length (take count cells ++ r ∷ []) ≡ count + 1 = omega (arith, length-append (take count cells) (r ∷ []), h.count_is) in e);
+      count_is = ap length pushed-list ∙ (let e : length (take count cells ++ r ∷ []) ≡ count + 1 = omega (arith, length-append (take count cells) (r ∷ []),
+          h.count_is) in e);
       cells_are = ap cells_of pushed-list ∙ pushed-cells;
       first_low = h.first_low;
     }

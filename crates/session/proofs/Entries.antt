@@ -1,5 +1,6 @@
 -- The blocks of a piece message, one after the other: what each keeps, and what it says.
-use Rattle.std.proofs.Common.{◌≡◌, ◌≢◌, ◌⊎◌, ℕ, zero, suc, ◌+◌, ◌-◌, ◌*◌, ◌<◌, min, true, List, [], ◌∷◌, ◌++◌, length, get_or, Option, Some, None, inl, inr, refl, sym, ap, ap₂, ◌∙◌, subst, subst₂, arith, length-append}
+use Rattle.std.proofs.Common.{◌≡◌, ◌≢◌, ◌⊎◌, ℕ, zero, suc, ◌+◌, ◌-◌, ◌*◌, ◌<◌, min, true, List, [], ◌∷◌, ◌++◌, length, get_or, Option, Some, None, inl, inr}
+use Rattle.std.proofs.Common.{refl, sym, ap, ap₂, ◌∙◌, subst, subst₂, arith, length-append}
 use Rattle.std.specs.Prelude.{slice_get}
 use Rattle.std.specs.FinSet as leaves
 use Rattle.std.proofs.lemmas.Option.{same_Some, none-some, slice_get_within, slice_get-get_or}
@@ -40,23 +41,29 @@ module _ (S : SessionSeen) (closed_trees : HasClosedTrees S) (file b : ℕ) (byt
 
   marked-closed : HasClosedTrees S'
   marked-closed = record {
-    count = ap (λ U. length U.trees) h.state_after ∙ length-set S.trees h.in_file.tree_number marked_state ∙ closed_trees.count ∙ ap (λ U. length (roots U)) (sym h.state_after);
+    count = ap (λ U. length U.trees) h.state_after ∙ length-set S.trees h.in_file.tree_number marked_state ∙ closed_trees.count
+        ∙ ap (λ U. length (roots U)) (sym h.state_after);
     closed = λ k tree s at. elim (read_after k s at.state_is) [
       | inl (same, is) ↦
-          let one : h.in_file.tree ≡ tree = same_Some h.in_file.tree tree (sym h.in_file.is_tree.tree_is ∙ ap (slice_get (roots S)) (sym same) ∙ same_tree_before k tree at.tree_is) in
-          subst₂ (λ (tr : TreeRoot) (st : TreeState). IsClosed tr (look st.known)) one (sym is) (closed_trees.closed h.in_file.tree_number h.in_file.tree h.in_file.state h.in_file.is_tree)
+          let one : h.in_file.tree ≡ tree = same_Some h.in_file.tree tree (sym h.in_file.is_tree.tree_is ∙ ap (slice_get (roots S)) (sym same)
+              ∙ same_tree_before k tree at.tree_is) in
+          subst₂ (λ (tr : TreeRoot) (st : TreeState). IsClosed tr (look st.known)) one (sym is) (closed_trees.closed h.in_file.tree_number h.in_file.tree
+              h.in_file.state h.in_file.is_tree)
       | inr (other, old) ↦ closed_trees.closed k tree s (record { tree_is = same_tree_before k tree at.tree_is; state_is = old })
     ];
     marks = λ k tree s at i marked. elim (read_after k s at.state_is) [
       | inl (same, is) ↦
-          let here : leaves.contains (leaves.insert h.in_file.state.marked b) i ≡ true = ap (λ (st : TreeState). leaves.contains st.marked i) (sym is) ∙ marked in
-          let (v, e) = marked-known h.in_file.state b i (sha256 bytes) h.leaf_known (closed_trees.marks h.in_file.tree_number h.in_file.tree h.in_file.state h.in_file.is_tree i) here in
+          let here : leaves.contains (leaves.insert h.in_file.state.marked b) i ≡ true = ap (λ (st : TreeState). leaves.contains st.marked i) (sym is)
+              ∙ marked in
+          let (v, e) = marked-known h.in_file.state b i (sha256 bytes) h.leaf_known (closed_trees.marks h.in_file.tree_number h.in_file.tree h.in_file.state
+              h.in_file.is_tree i) here in
           (v, ap (λ (st : TreeState). look st.known 0 i) is ∙ e)
       | inr (other, old) ↦ closed_trees.marks k tree s (record { tree_is = same_tree_before k tree at.tree_is; state_is = old }) i marked
     ];
   }
 
-step-closed : (file : ℕ) (S : SessionSeen) (c : Cut) (r : Option BlockRefusal) (S' : SessionSeen) → HasClosedTrees S → BlockStep file S c r S' → HasClosedTrees S'
+step-closed : (file : ℕ) (S : SessionSeen) (c : Cut) (r : Option BlockRefusal) (S' : SessionSeen) → HasClosedTrees S → BlockStep file S c r S'
+    → HasClosedTrees S'
 step-closed file S c None S' closed_trees h = marked-closed S closed_trees file c.number c.bytes S' h
 step-closed file S c (Some r) S' closed_trees h = subst HasClosedTrees (sym h.1) closed_trees
 
@@ -86,7 +93,8 @@ step-known file S c None S' h n tree s at = elim (cases_eq n h.in_file.tree_numb
       }
   | inr other ↦ record {
     later = s;
-    later_is = record { tree_is = ap (λ U. slice_get (roots U) n) h.state_after ∙ at.tree_is; state_is = ap (λ U. slice_get U.trees n) h.state_after ∙ set-other S.trees h.in_file.tree_number n _ s other at.state_is };
+    later_is = record { tree_is = ap (λ U. slice_get (roots U) n) h.state_after ∙ at.tree_is; state_is = ap (λ U. slice_get U.trees n) h.state_after
+        ∙ set-other S.trees h.in_file.tree_number n _ s other at.state_is };
     known = refl;
   }
 ]
@@ -99,7 +107,8 @@ Says tree K c None = (c.number < block_count tree.length) × (look K 0 c.number 
 Says tree K c (Some r) = RefusesBlock tree.length (look K) c.number c.bytes r
 
 -- a file has one tree
-module _ (S : SessionSeen) (file b : ℕ) (n : ℕ) (tree : TreeRoot) (s : TreeState) (of' : tree_of S file ≡ Some n) (at : IsTree S n tree s) (p : IsInFile S file b) where
+module _ (S : SessionSeen) (file b : ℕ) (n : ℕ) (tree : TreeRoot) (s : TreeState) (of' : tree_of S file ≡ Some n) (at : IsTree S n tree s)
+    (p : IsInFile S file b) where
   pub same_number : p.tree_number ≡ n
   same_number = same_Some p.tree_number n (sym p.of_file ∙ of')
 
@@ -123,7 +132,8 @@ step-says file S c (Some r) S' ((p, refused), same) n tree s of' at =
     (same_tree S file c.number n tree s of' at p) (same_state S file c.number n tree s of' at p) refused
 
 -- a marked block is the file's, or a collision is named
-pub says-block : (S : SessionSeen) → HasClosedTrees S → (file : ℕ) (c : Cut) (n : ℕ) (tree : TreeRoot) (s : TreeState) → tree_of S file ≡ Some n → IsTree S n tree s
+pub says-block : (S : SessionSeen) → HasClosedTrees S → (file : ℕ) (c : Cut) (n : ℕ) (tree : TreeRoot) (s : TreeState) → tree_of S file ≡ Some n
+    → IsTree S n tree s
     → Says tree s.known c None → IsFileBlock S file c.number c.bytes
 says-block S closed_trees file c n tree s of' at says = record {
   in_file = record { tree_number = n; tree = tree; state = s; of_file = of'; is_tree = at; inside = says.0 };
@@ -131,7 +141,8 @@ says-block S closed_trees file c n tree s of' at says = record {
 }
 
 -- the true block of a known leaf is not refused, or a collision is named
-module _ (S : SessionSeen) (closed_trees : HasClosedTrees S) (file b : ℕ) (bytes : List ℕ) (p : IsInFile S file b) (f : List ℕ) (fits : Fits f p.tree) (is_block : bytes ≡ block f b)
+module _ (S : SessionSeen) (closed_trees : HasClosedTrees S) (file b : ℕ) (bytes : List ℕ) (p : IsInFile S file b) (f : List ℕ) (fits : Fits f p.tree)
+    (is_block : bytes ≡ block f b)
     (known : IsKnown (look p.state.known) 0 b) where
   has_size : HasBlockSize p.tree.length b bytes
   has_size = ap length is_block ∙ block-size f b ∙ ap (λ n. min 16384 (n - 16384 * b)) fits.same_length
@@ -160,13 +171,15 @@ says-taken S closed_trees file c n tree s (Some r) of' at says = λ p f fits is_
 -- ---- all blocks of a message
 
 module _ (file : ℕ) where
-  pub chain-closed : (S : SessionSeen) (cs : List Cut) (rs : List (Option BlockRefusal)) (S' : SessionSeen) → HasClosedTrees S → Chain (BlockStep file) S cs rs S' → HasClosedTrees S'
+  pub chain-closed : (S : SessionSeen) (cs : List Cut) (rs : List (Option BlockRefusal)) (S' : SessionSeen) → HasClosedTrees S
+      → Chain (BlockStep file) S cs rs S' → HasClosedTrees S'
   chain-closed S [] [] S' closed_trees e = subst HasClosedTrees (sym e) closed_trees
   chain-closed S [] (r ∷ rs) S' closed_trees e = absurd e
   chain-closed S (c ∷ cs) [] S' closed_trees e = absurd e
   chain-closed S (c ∷ cs) (r ∷ rs) S' closed_trees (M, step, rest) = chain-closed M cs rs S' (step-closed file S c r M closed_trees step) rest
 
-  pub chain-torrent : (S : SessionSeen) (cs : List Cut) (rs : List (Option BlockRefusal)) (S' : SessionSeen) → Chain (BlockStep file) S cs rs S' → S'.torrent ≡ S.torrent
+  pub chain-torrent : (S : SessionSeen) (cs : List Cut) (rs : List (Option BlockRefusal)) (S' : SessionSeen) → Chain (BlockStep file) S cs rs S'
+      → S'.torrent ≡ S.torrent
   chain-torrent S [] [] S' e = ap (λ U. U.torrent) e
   chain-torrent S [] (r ∷ rs) S' e = absurd e
   chain-torrent S (c ∷ cs) [] S' e = absurd e
@@ -218,26 +231,31 @@ cuts-at first bytes (suc k) m low =
       | inr other ↦
           let inside : m < k = omega (arith, low, other) in
           get_or_append_left before (cut k ∷ []) (cut m) m (omega (arith, inside, count))
-          ∙ same_Some (get_or before m (cut m)) (cut m) (sym (slice_get-get_or before m (cut m) (omega (arith, inside, count))) ∙ cuts-at first bytes k m inside)
+          ∙ same_Some (get_or before m (cut m)) (cut m) (sym (slice_get-get_or before m (cut m) (omega (arith, inside, count)))
+              ∙ cuts-at first bytes k m inside)
     ])
 
 -- ---- a message of blocks
 
-module _ (S : SessionSeen) (closed_trees : HasClosedTrees S) (index begin : ℕ) (bytes : List ℕ) (v : BlocksSeen) (S' : SessionSeen) (h : AreTaken S index begin bytes v S') where
+module _ (S : SessionSeen) (closed_trees : HasClosedTrees S) (index begin : ℕ) (bytes : List ℕ) (v : BlocksSeen) (S' : SessionSeen)
+    (h : AreTaken S index begin bytes v S') where
   abbrev cut_at : ℕ → Cut
   cut_at m = record { number = v.first + m; bytes = block bytes m }
 
   entry-says : (m : ℕ) (r : Option BlockRefusal) → slice_get v.refusals m ≡ Some r → Says h.in_file.tree h.in_file.state.known (cut_at m) r
   entry-says m r told =
-      chain-says v.file S (cuts v.first bytes (length v.refusals)) v.refusals S' h.each h.in_file.tree_number h.in_file.tree h.in_file.state h.in_file.of_file h.in_file.is_tree
+      chain-says v.file S (cuts v.first bytes (length v.refusals)) v.refusals S' h.each h.in_file.tree_number h.in_file.tree h.in_file.state h.in_file.of_file
+          h.in_file.is_tree
       m (cut_at m) r (cuts-at v.first bytes (length v.refusals) m (slice_get_within v.refusals m r told)) told
 
   pub taken-blocks : AreBlocks S index begin bytes v
   taken-blocks = record {
     at = h.at;
-    verified = λ m told. says-block S closed_trees v.file (cut_at m) h.in_file.tree_number h.in_file.tree h.in_file.state h.in_file.of_file h.in_file.is_tree (entry-says m None told);
+    verified = λ m told. says-block S closed_trees v.file (cut_at m) h.in_file.tree_number h.in_file.tree h.in_file.state h.in_file.of_file h.in_file.is_tree
+        (entry-says m None told);
   }
 
   pub taken-true : VerifiesTrueBlocks S bytes v
   taken-true = λ m r told.
-      says-taken S closed_trees v.file (cut_at m) h.in_file.tree_number h.in_file.tree h.in_file.state r h.in_file.of_file h.in_file.is_tree (entry-says m r told)
+      says-taken S closed_trees v.file (cut_at m) h.in_file.tree_number h.in_file.tree h.in_file.state r h.in_file.of_file h.in_file.is_tree
+          (entry-says m r told)

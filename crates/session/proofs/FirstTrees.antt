@@ -1,5 +1,6 @@
 -- The trees of a new session: one for each tree of the torrent, of which the root is known, and with layers more.
-use Rattle.std.proofs.Common.{◌≡◌, ℕ, ◌+◌, ◌-◌, ◌*◌, ◌^◌, ◌<◌, ◌≤◌, Bool, true, false, cond, eqb, ◌&&◌, List, [], ◌∷◌, ◌++◌, map, take, length, get_or, Some, option_map, inl, inr, refl, sym, ap, ◌∙◌, subst, subst₂, add-one, arith}
+use Rattle.std.proofs.Common.{◌≡◌, ℕ, ◌+◌, ◌-◌, ◌*◌, ◌^◌, ◌<◌, ◌≤◌, Bool, true, false, cond, eqb, ◌&&◌, List, [], ◌∷◌, ◌++◌, map, take, length, get_or, Some}
+use Rattle.std.proofs.Common.{option_map, inl, inr, refl, sym, ap, ◌∙◌, subst, subst₂, add-one, arith}
 use Rattle.std.specs.Prelude.{slice_get}
 use Rattle.std.specs.FinMap.{insert, empty, get-empty}
 use Rattle.std.specs.FinSet as leaves
@@ -101,7 +102,8 @@ planted_one_more p w infos ts i x b low count here before = λ k e a inside. eli
   | inr last ↦
       let same : k ≡ length ts = omega (arith, length_push ts b) in
       let read : get_or (map tree_entry infos) i e ≡ tree_entry (get_or infos i x) =
-      get_or_from_slice_get (map tree_entry infos) i (tree_entry (get_or infos i x)) e (slice_get-map tree_entry infos i ∙ ap (option_map tree_entry) (slice_get-get_or infos i x low)) in
+      get_or_from_slice_get (map tree_entry infos) i (tree_entry (get_or infos i x)) e (slice_get-map tree_entry infos i
+          ∙ ap (option_map tree_entry) (slice_get-get_or infos i x low)) in
       subst (IsPlanted p w (get_or (map tree_entry infos) k e)) (sym (ap (λ j. get_or (ts ++ b ∷ []) j a) same ∙ get_or-append_seam ts b [] a))
       (subst (λ y. IsPlanted p w y b) (sym (ap (λ j. get_or (map tree_entry infos) j e) (same ∙ count) ∙ read)) here)
 ]
@@ -114,7 +116,8 @@ module _ (d : Description) (sound : IsSound d) (infos : List TreeInfo) (are : ma
   pub sound_at : (p : ℕ) → p ≡ d.piece_length → (i : ℕ) (x : TreeInfo) → i < length infos → IsSoundTree p (tree_entry (get_or infos i x))
   sound_at p same i x inside = subst (λ n. IsSoundTree n (tree_entry (get_or infos i x))) (sym same) (entry i x inside)
 
-  pub same_more : (i : ℕ) (x : TreeInfo) (ts : List KeptTree) (b : KeptTree) → i < length infos → b.root ≡ (get_or infos i x).root → b.length ≡ (get_or infos i x).length
+  pub same_more : (i : ℕ) (x : TreeInfo) (ts : List KeptTree) (b : KeptTree) → i < length infos → b.root ≡ (get_or infos i x).root
+      → b.length ≡ (get_or infos i x).length
       → map info_of ts ≡ take i (map root_of_entry (map tree_entry infos))
       → map info_of (ts ++ b ∷ []) ≡ take (i + 1) (map root_of_entry (map tree_entry infos))
   same_more i x ts b inside r l before =
@@ -124,18 +127,23 @@ module _ (d : Description) (sound : IsSound d) (infos : List TreeInfo) (are : ma
       ∙ ap (option_map root_of_entry) (slice_get-map tree_entry infos i ∙ ap (option_map tree_entry) (slice_get-get_or infos i x inside)) in
       let info : Hash → ℕ → TreeRoot = λ u n. record { root = u; length = n } in
       let is : info_of b ≡ root_of_entry (tree_entry (get_or infos i x)) = ap (λ u. info u b.length) r ∙ ap (λ n. info (get_or infos i x).root n) l in
-      let read : get_or roots i (info_of b) ≡ info_of b = get_or_from_slice_get roots i (root_of_entry (tree_entry (get_or infos i x))) (info_of b) at ∙ sym is in
+      let read : get_or roots i (info_of b) ≡ info_of b = get_or_from_slice_get roots i (root_of_entry (tree_entry (get_or infos i x))) (info_of b) at
+          ∙ sym is in
       map-append info_of ts (b ∷ []) ∙ ap (λ xs. xs ++ info_of b ∷ []) before ∙ ap (λ y. take i roots ++ y ∷ []) (sym read)
-      ∙ sym (take-suc roots i (info_of b) (slice_get_within roots i (root_of_entry (tree_entry (get_or infos i x))) at)) ∙ ap (λ j. take j roots) (sym (add-one i))
+      ∙ sym (take-suc roots i (info_of b) (slice_get_within roots i (root_of_entry (tree_entry (get_or infos i x))) at))
+      ∙ ap (λ j. take j roots) (sym (add-one i))
 
   -- when each tree of the torrent has come
-  pub kept_all : (w : Bool) (i : ℕ) (ts : List KeptTree) → length infos ≤ i → map info_of ts ≡ take i (map root_of_entry (map tree_entry infos)) → ArePlanted d.piece_length w d.trees ts → AreKept d ts
+  pub kept_all : (w : Bool) (i : ℕ) (ts : List KeptTree) → length infos ≤ i → map info_of ts ≡ take i (map root_of_entry (map tree_entry infos))
+      → ArePlanted d.piece_length w d.trees ts → AreKept d ts
   kept_all w i ts past same planted = record {
-    same = same ∙ take_all i (map root_of_entry (map tree_entry infos)) (omega (arith, length-map (map tree_entry infos) root_of_entry, length-map infos tree_entry, past)) ∙ ap (map root_of_entry) are;
+    same = same ∙ take_all i (map root_of_entry (map tree_entry infos)) (omega (arith, length-map (map tree_entry infos) root_of_entry,
+        length-map infos tree_entry, past)) ∙ ap (map root_of_entry) are;
     good = λ k x inside. (planted k nothing x inside).good;
   }
 
-  pub fresh : (w : Bool) (ts : List KeptTree) (o : AskSet) → o ≡ leaves.empty → AreKept d ts → ArePlanted d.piece_length w d.trees ts → IsFresh d w (seen d o ts)
+  pub fresh : (w : Bool) (ts : List KeptTree) (o : AskSet) → o ≡ leaves.empty → AreKept d ts → ArePlanted d.piece_length w d.trees ts
+      → IsFresh d w (seen d o ts)
   fresh w ts o none kept planted = record {
     torrent = refl;
     count = length-map ts state_of ∙ sym (length-map ts info_of) ∙ ap length kept.same ∙ length-map d.trees root_of_entry;
@@ -143,7 +151,8 @@ module _ (d : Description) (sound : IsSound d) (infos : List TreeInfo) (are : ma
         let x = mapped state_of (slice_get ts n) s (sym (slice_get-map state_of ts n) ∙ at_state) in
         let p : IsPlanted d.piece_length w (get_or d.trees n e) (get_or ts n x.0) = planted n e x.0 (slice_get_within ts n x.0 x.1) in
         let known : IsFirstKnown d.piece_length w e (look x.0.state.known) =
-        subst₂ (λ y a. IsFirstKnown d.piece_length w y (look a.state.known)) (get_or_from_slice_get d.trees n e e at_entry) (get_or_from_slice_get ts n x.0 x.0 x.1) p.known in
+        subst₂ (λ y a. IsFirstKnown d.piece_length w y (look a.state.known)) (get_or_from_slice_get d.trees n e e at_entry)
+            (get_or_from_slice_get ts n x.0 x.0 x.1) p.known in
         subst (λ st. IsFirstKnown d.piece_length w e (look st.known)) x.2 known;
     marked = λ n s at_state.
         let x = mapped state_of (slice_get ts n) s (sym (slice_get-map state_of ts n) ∙ at_state) in

@@ -1,5 +1,6 @@
 -- The blocks of a message, as a loop comes to them.
-use Rattle.std.proofs.Common.{◌≡◌, ℕ, zero, suc, ◌+◌, ◌*◌, ◌^◌, ◌<◌, ◌≤◌, List, [], ◌∷◌, ◌++◌, Option, Some, None, Result, Ok, Err, IfOk, IfErr, refl, subst, arith}
+use Rattle.std.proofs.Common.{◌≡◌, ℕ, zero, suc, ◌+◌, ◌*◌, ◌^◌, ◌<◌, ◌≤◌, List, [], ◌∷◌, ◌++◌, Option, Some, None, Result, Ok, Err, IfOk, IfErr, refl, subst}
+use Rattle.std.proofs.Common.{arith}
 use Rattle.std.specs.Result.{result_err}
 use Rattle.hashtree.specs.Tree.{block, block_count}
 use Rattle.opening.specs.Blocks.{block_size, IsBlockRun}
@@ -45,10 +46,12 @@ module _ (file : ℕ) (S : SessionSeen) (first : ℕ) (bytes : List ℕ) (m : �
   abbrev this : Cut
   this = record { number = first + m; bytes = block bytes m }
 
-  next_step : (r : Option BlockRefusal) (S' : SessionSeen) → BlockStep file mid this r S' → Chain (BlockStep file) S (cuts first bytes (m + 1)) (rs ++ r ∷ []) S'
+  next_step : (r : Option BlockRefusal) (S' : SessionSeen) → BlockStep file mid this r S'
+      → Chain (BlockStep file) S (cuts first bytes (m + 1)) (rs ++ r ∷ []) S'
   unfolding cuts
   next_step r S' step =
-      let more : Chain (BlockStep file) S (cuts first bytes (suc m)) (rs ++ r ∷ []) S' = Chain-more (BlockStep file) S (cuts first bytes m) rs mid this r S' before step in
+      let more : Chain (BlockStep file) S (cuts first bytes (suc m)) (rs ++ r ∷ []) S' = Chain-more (BlockStep file) S (cuts first bytes m) rs mid this r S'
+          before step in
       let next : suc m ≡ m + 1 = omega arith in
       subst (λ k. Chain (BlockStep file) S (cuts first bytes k) (rs ++ r ∷ []) S') next more
 

@@ -1,5 +1,6 @@
 -- Rounds of a session that notes what it asks for.
-use Rattle.std.proofs.Common.{◌≡◌, ◌≢◌, ◌⊎◌, ℕ, zero, suc, ◌+◌, ◌*◌, ◌/◌, ◌<◌, ◌≤◌, List, [], ◌∷◌, ◌++◌, length, take, get_or, add-one, Some, inl, inr, refl, sym, ap, ◌∙◌, subst, Bor}
+use Rattle.std.proofs.Common.{◌≡◌, ◌≢◌, ◌⊎◌, ℕ, zero, suc, ◌+◌, ◌*◌, ◌/◌, ◌<◌, ◌≤◌, List, [], ◌∷◌, ◌++◌, length, take, get_or, add-one, Some, inl, inr, refl}
+use Rattle.std.proofs.Common.{sym, ap, ◌∙◌, subst, Bor}
 use Rattle.std.specs.Prelude.{slice_get}
 use Rattle.std.specs.List.{All}
 use Rattle.std.specs.FinSet as set
@@ -55,7 +56,8 @@ run-noted-learns S (m ∷ ms) (v ∷ vs) S' (M, step, rest) n tree s at =
     let a : Learns S M n tree s = noted-learns S m v M step n tree s at in
     one-more a (run-noted-learns M ms vs S' rest n tree a.later a.later_is)
 
-pub run-noted-closed : (S : SessionSeen) (ms : List (Directed Message)) (vs : List Verdict) (S' : SessionSeen) → HasClosedTrees S → All HasDirectedHashes ms → Chain NotedStep S ms vs S' → HasClosedTrees S'
+pub run-noted-closed : (S : SessionSeen) (ms : List (Directed Message)) (vs : List Verdict) (S' : SessionSeen) → HasClosedTrees S → All HasDirectedHashes ms
+    → Chain NotedStep S ms vs S' → HasClosedTrees S'
 run-noted-closed S [] [] S' closed_trees all e = subst HasClosedTrees (sym e) closed_trees
 run-noted-closed S [] (v ∷ vs) S' closed_trees all e = absurd e
 run-noted-closed S (m ∷ ms) [] S' closed_trees all e = absurd e
@@ -76,7 +78,8 @@ run-noted-open S (m ∷ ms) (v ∷ vs) S' (M, step, rest) ask was = elim (noted-
   | inr known ↦ inr (base_later M S' ask (learns-keeps M S' (run-noted-learns M ms vs S' rest)) known)
 ]
 
-pub run-noted-torrent : (S : SessionSeen) (ms : List (Directed Message)) (vs : List Verdict) (S' : SessionSeen) → Chain NotedStep S ms vs S' → S'.torrent ≡ S.torrent
+pub run-noted-torrent : (S : SessionSeen) (ms : List (Directed Message)) (vs : List Verdict) (S' : SessionSeen) → Chain NotedStep S ms vs S'
+    → S'.torrent ≡ S.torrent
 run-noted-torrent S [] [] S' e = ap (λ U. U.torrent) e
 run-noted-torrent S [] (v ∷ vs) S' e = absurd e
 run-noted-torrent S (m ∷ ms) [] S' e = absurd e
@@ -84,12 +87,15 @@ run-noted-torrent S (m ∷ ms) (v ∷ vs) S' (M, step, rest) = run-noted-torrent
 
 -- ---- a round: S is where the ask was wanted, M where it was open, N where its true answer comes
 
-pub noted_round : (S M N S' : SessionSeen) → HasDistinctRoots S → M.torrent ≡ S.torrent → (ns : List (Directed Message)) (ws : List Verdict) (n : ℕ) (tree : TreeRoot) (s : TreeState) (b : ℕ) (ask : Ask) (f : List ℕ)
+pub noted_round : (S M N S' : SessionSeen) → HasDistinctRoots S → M.torrent ≡ S.torrent
+    → (ns : List (Directed Message)) (ws : List Verdict) (n : ℕ) (tree : TreeRoot) (s : TreeState) (b : ℕ) (ask : Ask) (f : List ℕ)
     → HasClosedTrees S → HasClosedTrees M → ((n : ℕ) (tree : TreeRoot) (s : TreeState) → IsTree S n tree s → Learns S M n tree s) → All HasDirectedHashes ns
     → IsTree S n tree s → b < block_count tree.length → want_of tree (look s.known) b ≡ Some ask → Fits f tree
     → IsOpenAsk M ask → Chain NotedStep M ns ws N → (hashes : Bor (List Hash)) → hashes.now ≡ answer_of (tree_height tree.length) (whole f) ask
-    → (v : Verdict) → v ≢ verdict.HashRefused NoMemory → NotedStep N (In, message.Hashes ask hashes) v S' → HasFewerGaps S' n tree (look s.known) ⊎ Collides S' n f
-noted_round S M N S' distinct same_torrent ns ws n tree s b ask f closed_trees closed_M learns all at inside wanted fits was run hashes is_answer v memory step =
+    → (v : Verdict) → v ≢ verdict.HashRefused NoMemory → NotedStep N (In, message.Hashes ask hashes) v S' → HasFewerGaps S' n tree (look s.known)
+    ⊎ Collides S' n f
+noted_round S M N S' distinct same_torrent ns ws n tree s b ask f closed_trees closed_M learns all at inside wanted fits was run hashes is_answer v memory
+    step =
     let (none, is) = wanted-is tree (look s.known) b ask wanted in
     let root : tree.root ≡ ask.root = ap (λ (a : Ask). a.root) (sym is) in
     let closed_N : HasClosedTrees N = run-noted-closed M ns ws N closed_M all run in
@@ -104,7 +110,8 @@ noted_round S M N S' distinct same_torrent ns ws n tree s b ask f closed_trees c
             let e : Learns N S' n tree d.later = last d.later d.later_is in
             inr (tree, e.later, e.later_is, collision-keeps (whole f) (look d.later.known) (look e.later.known) e.keeps collision)
         | inl ok ↦
-            let told : hashes.now ≡ answer_of (tree_height tree.length) (whole f) (want_ask tree b) = is_answer ∙ ap (answer_of (tree_height tree.length) (whole f)) is in
+            let told : hashes.now ≡ answer_of (tree_height tree.length) (whole f) (want_ask tree b) = is_answer
+                ∙ ap (answer_of (tree_height tree.length) (whole f)) is in
             let (later, later_is, fewer) = answer-fewer n tree b inside (look s.known) N (asking N.asks S') distinct_N d.later d.later_is tall
             (λ l i u h. d.keeps l i u (a.keeps l i u h)) none hashes
             (subst (IsAccepted tree.length (look d.later.known) (want_ask tree b)) (sym told) ok) v memory
@@ -122,7 +129,8 @@ noted_round S M N S' distinct same_torrent ns ws n tree s b ask f closed_trees c
             gaps-fewer tree.length (look s.known) (look e.later.known) b
                 (λ l i u h. e.keeps l i u (d.keeps l i u (a.keeps l i u h))) inside none (λ j low.
                 let (u, h) = there j low in
-                (u, e.keeps 0 (b / window tree.length * window tree.length + j) u (ap (λ (st : TreeState). look st.known 0 (b / window tree.length * window tree.length + j)) (sym state) ∙ h))),
+                (u, e.keeps 0 (b / window tree.length * window tree.length + j) u
+                    (ap (λ (st : TreeState). look st.known 0 (b / window tree.length * window tree.length + j)) (sym state) ∙ h))),
           )
     ]
 
@@ -140,12 +148,14 @@ record NotedAt (S : SessionSeen) (ms : List (Directed Message)) (ask : Ask) (N :
   hashes : All HasDirectedHashes rest
   run : Chain NotedStep after rest verdicts N
 
-requested : (S : SessionSeen) (ask : Ask) (v : Verdict) (M : SessionSeen) → StepOut S (message.Request ask) v M → IsOpenAsk M ask ⊎ (v ≡ verdict.HashRefused NoMemory)
+requested : (S : SessionSeen) (ask : Ask) (v : Verdict) (M : SessionSeen) → StepOut S (message.Request ask) v M → IsOpenAsk M ask
+    ⊎ (v ≡ verdict.HashRefused NoMemory)
 requested S ask verdict.Noted M h = inl (ap (λ (U : SessionSeen). set.contains U.asks ask) h ∙ opened_contains S.asks ask)
 requested S ask (verdict.HashRefused NoMemory) M h = inr refl
 requested S ask v M h = absurd h
 
-noted_at : (S : SessionSeen) (ms : List (Directed Message)) (vs : List Verdict) (N : SessionSeen) → HasClosedTrees S → All HasDirectedHashes ms → Chain NotedStep S ms vs N → (ask : Ask) (k : ℕ) → IsAskedAt ms ask k
+noted_at : (S : SessionSeen) (ms : List (Directed Message)) (vs : List Verdict) (N : SessionSeen) → HasClosedTrees S → All HasDirectedHashes ms
+    → Chain NotedStep S ms vs N → (ask : Ask) (k : ℕ) → IsAskedAt ms ask k
     → NotedAt S ms ask N ⊎ (slice_get vs k ≡ Some (verdict.HashRefused NoMemory))
 noted_at S [] vs N closed_trees all run ask k at = absurd (none-some (Out, message.Request ask) at)
 noted_at S (m ∷ ms) [] N closed_trees all run ask k at = absurd run
@@ -166,7 +176,8 @@ noted_at S (m ∷ ms) (v ∷ vs) N closed_trees all (M, step, rest) ask zero at 
       | inr lacks ↦ inr (ap Some lacks)
     ]
 noted_at S (m ∷ ms) (v ∷ vs) N closed_trees all (M, step, rest) ask (suc k) at =
-    elim (noted_at M ms vs N (noted-closed S m v M closed_trees (All-head HasDirectedHashes m ms all) step) (All-tail HasDirectedHashes m ms all) rest ask k at) [
+    elim (noted_at M ms vs N (noted-closed S m v M closed_trees (All-head HasDirectedHashes m ms all) step) (All-tail HasDirectedHashes m ms all) rest ask k at)
+        [
       | inl later ↦ inl (record {
         after = later.after;
         same_torrent = later.same_torrent ∙ noted-torrent S m v M step;
@@ -181,7 +192,8 @@ noted_at S (m ∷ ms) (v ∷ vs) N closed_trees all (M, step, rest) ask (suc k) 
       | inr lacks ↦ inr lacks
     ]
 
-opened_by : (S : SessionSeen) (ms : List (Directed Message)) (vs : List Verdict) (N : SessionSeen) → HasClosedTrees S → All HasDirectedHashes ms → Chain NotedStep S ms vs N → (ask : Ask) → (asked : IsAskedFor S ms ask)
+opened_by : (S : SessionSeen) (ms : List (Directed Message)) (vs : List Verdict) (N : SessionSeen) → HasClosedTrees S → All HasDirectedHashes ms
+    → Chain NotedStep S ms vs N → (ask : Ask) → (asked : IsAskedFor S ms ask)
     → NotedAt S ms ask N ⊎ LacksMemoryToNote S ms ask asked vs
 opened_by S ms vs N closed_trees all run ask (inl was) = inl (record {
   after = S;
@@ -201,29 +213,37 @@ still_there [] ys k x e = absurd (none-some x e)
 still_there (y ∷ xs) ys zero x e = e
 still_there (y ∷ xs) ys (suc k) x e = still_there xs ys k x e
 
-lacks_in_all : (S : SessionSeen) (ms : List (Directed Message)) (ask : Ask) (asked : IsAskedFor S ms ask) (vs : List Verdict) (v : Verdict) → LacksMemoryToNote S ms ask asked vs
+lacks_in_all : (S : SessionSeen) (ms : List (Directed Message)) (ask : Ask) (asked : IsAskedFor S ms ask) (vs : List Verdict) (v : Verdict)
+    → LacksMemoryToNote S ms ask asked vs
     → LacksMemoryToNote S ms ask asked (vs ++ v ∷ [])
 lacks_in_all S ms ask (inl was) vs v lacks = lacks
 lacks_in_all S ms ask (inr (k, at)) vs v lacks = still_there vs (v ∷ []) k (verdict.HashRefused NoMemory) lacks
 
-pub All-take-noted : (ms : List (Directed Message)) (i : ℕ) (d : Directed Message) → i < length ms → All HasDirectedHashes (take i ms) → HasDirectedHashes (get_or ms i d) → All HasDirectedHashes (take (i + 1) ms)
+pub All-take-noted : (ms : List (Directed Message)) (i : ℕ) (d : Directed Message) → i < length ms → All HasDirectedHashes (take i ms)
+    → HasDirectedHashes (get_or ms i d) → All HasDirectedHashes (take (i + 1) ms)
 All-take-noted ms i d inside all here =
-    subst (All HasDirectedHashes) (sym (ap (λ j. take j ms) (add-one i) ∙ take-suc ms i d inside)) (All-push HasDirectedHashes (take i ms) (get_or ms i d) all here)
+    subst (All HasDirectedHashes) (sym (ap (λ j. take j ms) (add-one i) ∙ take-suc ms i d inside)) (All-push HasDirectedHashes (take i ms) (get_or ms i d) all
+        here)
 
-pub noted-round-fewer : (S : SessionSeen) → HasDistinctRoots S → (ms : List (Directed Message)) (vs : List Verdict) (S' : SessionSeen) → HasClosedTrees S → All HasDirectedHashes ms → Chain NotedStep S ms vs S'
+pub noted-round-fewer : (S : SessionSeen) → HasDistinctRoots S → (ms : List (Directed Message)) (vs : List Verdict) (S' : SessionSeen) → HasClosedTrees S
+    → All HasDirectedHashes ms → Chain NotedStep S ms vs S'
     → NotedRoundLeavesFewer S ms vs S'
 noted-round-fewer S distinct ms vs S' closed_trees all run n f r =
     let x : Directed Message = (In, message.Hashes r.ask r.answer) in
     let at_end : LastStep NotedStep S r.before x vs S' = last_step NotedStep S r.before x vs S' (subst (λ xs. Chain NotedStep S xs vs S') r.ends run) in
-    let hashes : All HasDirectedHashes r.before = (All-pop HasDirectedHashes (r.before ++ x ∷ []) r.before (Some x) refl (subst (All HasDirectedHashes) r.ends all)).0 in
+    let hashes : All HasDirectedHashes r.before =
+        (All-pop HasDirectedHashes (r.before ++ x ∷ []) r.before (Some x) refl (subst (All HasDirectedHashes) r.ends all)).0 in
     elim (cases_Bool (lacks_memory at_end.last)) [
       | inl lacks ↦ inr (inl (at_end.earlier, at_end.outputs_are ∙ ap (λ v. at_end.earlier ++ v ∷ []) (lacks_memory-is at_end.last lacks)))
       | inr has ↦ elim (opened_by S r.before at_end.earlier at_end.middle closed_trees hashes at_end.run r.ask r.noted) [
         | inr lacks ↦
-            inr (inr (inl (subst (LacksMemoryToNote S r.before r.ask r.noted) (sym at_end.outputs_are) (lacks_in_all S r.before r.ask r.noted at_end.earlier at_end.last lacks))))
+            inr (inr (inl (subst (LacksMemoryToNote S r.before r.ask r.noted) (sym at_end.outputs_are) (lacks_in_all S r.before r.ask r.noted at_end.earlier
+                at_end.last lacks))))
         | inl noted ↦
-            elim (noted_round S noted.after at_end.middle S' distinct noted.same_torrent noted.rest noted.verdicts n r.wants.tree r.wants.state r.wants.block r.ask f closed_trees noted.closed_trees noted.learns noted.hashes
-            r.wants.is_tree r.wants.inside r.wants.wanted r.wants.fits noted.is_open noted.run r.answer r.wants.is_answer at_end.last (lacks_memory-not at_end.last has) at_end.step) [
+            elim (noted_round S noted.after at_end.middle S' distinct noted.same_torrent noted.rest noted.verdicts n r.wants.tree r.wants.state r.wants.block
+                r.ask f closed_trees noted.closed_trees noted.learns noted.hashes
+            r.wants.is_tree r.wants.inside r.wants.wanted r.wants.fits noted.is_open noted.run r.answer r.wants.is_answer at_end.last
+                (lacks_memory-not at_end.last has) at_end.step) [
               | inl fewer ↦ inl fewer
               | inr collides ↦ inr (inr (inr collides))
             ]
@@ -232,11 +252,13 @@ noted-round-fewer S distinct ms vs S' closed_trees all run n f r =
 
 -- ---- the laws
 
-pub incoming-opens : (S : SessionSeen) (ms : List Message) (vs : List Verdict) (S' : SessionSeen) → Chain (λ s m v s'. NotedStep s (In, m) v s') S ms vs S' → (ask : Ask) → IsOpenAsk S' ask → IsOpenAsk S ask
+pub incoming-opens : (S : SessionSeen) (ms : List Message) (vs : List Verdict) (S' : SessionSeen) → Chain (λ s m v s'. NotedStep s (In, m) v s') S ms vs S'
+    → (ask : Ask) → IsOpenAsk S' ask → IsOpenAsk S ask
 incoming-opens S [] [] S' e ask now = subst (λ U. IsOpenAsk U ask) e now
 incoming-opens S [] (v ∷ vs) S' e ask now = absurd e
 incoming-opens S (m ∷ ms) [] S' e ask now = absurd e
 incoming-opens S (m ∷ ms) (v ∷ vs) S' (M, step, rest) ask now = noted-opens S (In, m) v M step ask (incoming-opens M ms vs S' rest ask now)
 
-pub noted-keeps : (S : SessionSeen) (ms : List (Directed Message)) (vs : List Verdict) (S' : SessionSeen) → HasClosedTrees S → All HasDirectedHashes ms → Chain NotedStep S ms vs S' → HasClosedTrees S' × HasNoMoreGaps S S'
+pub noted-keeps : (S : SessionSeen) (ms : List (Directed Message)) (vs : List Verdict) (S' : SessionSeen) → HasClosedTrees S → All HasDirectedHashes ms
+    → Chain NotedStep S ms vs S' → HasClosedTrees S' × HasNoMoreGaps S S'
 noted-keeps S ms vs S' closed_trees all run = (run-noted-closed S ms vs S' closed_trees all run, run-noted-gaps S ms vs S' run)

@@ -1,5 +1,6 @@
 -- Steps of a session that notes what it asks for.
-use Rattle.std.proofs.Common.{◌≡◌, ℕ, ◌+◌, Bool, true, false, not, ◌&&◌, ◌||◌, List, [], ◌∷◌, Option, Some, None, Result, Ok, Err, inl, inr, refl, sym, ap, ap₂, ◌∙◌, subst, arith}
+use Rattle.std.proofs.Common.{◌≡◌, ℕ, ◌+◌, Bool, true, false, not, ◌&&◌, ◌||◌, List, [], ◌∷◌, Option, Some, None, Result, Ok, Err, inl, inr, refl, sym, ap, ap₂}
+use Rattle.std.proofs.Common.{◌∙◌, subst, arith}
 use Rattle.std.specs.Prelude.{slice_get}
 use Rattle.std.specs.Ordering.{eq_by_cmp}
 use Rattle.std.specs.FinSet as set
@@ -26,7 +27,8 @@ use Rattle.session.specs.Blocks.{Cut}
 use Rattle.session.specs.Layouts.{roots}
 use Rattle.session.specs.Session.{SessionSeen, TreeState, IsTree, HasClosedTrees, IsStored, IsHashRefused, BlockStep, HasDistinctRoots, HasHashes, Step}
 use Rattle.session.specs.SafeStep.{KeepsKnown}
-use Rattle.session.specs.Noted.{IsOpenAsk, without_ask, IsAnswerStored, IsAnswerRefused, StepIn, StepOut, NotedStep, IsTrueNotedVerdict, TakesWhatIsTrueAndAsked, IsBaseKnown, ClosesOneGapIfAsked, OpensOnlyOurs, KeepsOpen, IsSafeNotedStep}
+use Rattle.session.specs.Noted.{IsOpenAsk, without_ask, IsAnswerStored, IsAnswerRefused, StepIn, StepOut, NotedStep, IsTrueNotedVerdict}
+use Rattle.session.specs.Noted.{TakesWhatIsTrueAndAsked, IsBaseKnown, ClosesOneGapIfAsked, OpensOnlyOurs, KeepsOpen, IsSafeNotedStep}
 use Rattle.session.specs.Wanted.{HasOneGapFewer, WantedClosesOneGap}
 use Rattle.session.proofs.States.{set-write}
 use Rattle.session.proofs.OpenAsks.{ask_total, same_ask}
@@ -37,7 +39,8 @@ use Rattle.session.proofs.SafeSteps.{safe_step}
 
 -- ---- a step of the trees leaves the open asks
 
-blocks-asks : (file : ℕ) (S : SessionSeen) (cs : List Cut) (rs : List (Option BlockRefusal)) (S' : SessionSeen) → Chain (BlockStep file) S cs rs S' → S'.asks ≡ S.asks
+blocks-asks : (file : ℕ) (S : SessionSeen) (cs : List Cut) (rs : List (Option BlockRefusal)) (S' : SessionSeen) → Chain (BlockStep file) S cs rs S'
+    → S'.asks ≡ S.asks
 blocks-asks file S [] [] S' e = ap (λ U. U.asks) e
 blocks-asks file S [] (r ∷ rs) S' e = absurd e
 blocks-asks file S (c ∷ cs) [] S' e = absurd e
@@ -57,7 +60,8 @@ same_asking S S' e = λ i. record S' { asks = e i }
 
 -- ---- a noted step is a step of the trees, unless nobody asked
 
-pub answer-stored : (S : SessionSeen) (ask : Ask) (hashes : List Hash) (c : ℕ) (S' : SessionSeen) → IsAnswerStored S ask hashes c S' → IsStored S ask hashes c (asking S.asks S')
+pub answer-stored : (S : SessionSeen) (ask : Ask) (hashes : List Hash) (c : ℕ) (S' : SessionSeen) → IsAnswerStored S ask hashes c S'
+    → IsStored S ask hashes c (asking S.asks S')
 answer-stored S ask hashes c S' h = record {
   asked = h.stored.asked;
   after = h.stored.after;
@@ -66,7 +70,8 @@ answer-stored S ask hashes c S' h = record {
   state_after = ap (asking S.asks) (h.state_after ∙ ap (λ U. without_ask U ask) h.stored.state_after);
 }
 
-pub answer-refused : (S : SessionSeen) (ask : Ask) (hashes : List Hash) (r : HashRefusal) → IsOpenAsk S ask → IsAnswerRefused S ask hashes r → IsHashRefused S ask hashes r
+pub answer-refused : (S : SessionSeen) (ask : Ask) (hashes : List Hash) (r : HashRefusal) → IsOpenAsk S ask → IsAnswerRefused S ask hashes r
+    → IsHashRefused S ask hashes r
 answer-refused S ask hashes Unasked was h = absurd (h was)
 answer-refused S ask hashes r was h = h.1
 
@@ -96,13 +101,16 @@ noted_effect S (Out, m) v S' h = unchanged (out_effect S m v S' h)
 
 -- ---- so it keeps the trees closed, and what is known
 
-pub noted-learns : (S : SessionSeen) (x : Directed Message) (v : Verdict) (S' : SessionSeen) → NotedStep S x v S' → (n : ℕ) (tree : TreeRoot) (s : TreeState) → IsTree S n tree s → Learns S S' n tree s
+pub noted-learns : (S : SessionSeen) (x : Directed Message) (v : Verdict) (S' : SessionSeen) → NotedStep S x v S' → (n : ℕ) (tree : TreeRoot) (s : TreeState)
+    → IsTree S n tree s → Learns S S' n tree s
 noted-learns S x v S' step n tree s at =
     let a : Learns S (asking S.asks S') n tree s = step-learns S x.1 (asking S.asks S') (noted_effect S x v S' step) n tree s at in
     record { later = a.later; later_is = tree_asking S'.asks (asking S.asks S') n tree a.later a.later_is; keeps = a.keeps }
 
-pub noted-closed : (S : SessionSeen) (x : Directed Message) (v : Verdict) (S' : SessionSeen) → HasClosedTrees S → HasHashes x.1 → NotedStep S x v S' → HasClosedTrees S'
-noted-closed S x v S' closed_trees all step = closed_asking S'.asks (asking S.asks S') (step-closed S x.1 (asking S.asks S') closed_trees all (noted_effect S x v S' step))
+pub noted-closed : (S : SessionSeen) (x : Directed Message) (v : Verdict) (S' : SessionSeen) → HasClosedTrees S → HasHashes x.1 → NotedStep S x v S'
+    → HasClosedTrees S'
+noted-closed S x v S' closed_trees all step = closed_asking S'.asks (asking S.asks S') (step-closed S x.1 (asking S.asks S') closed_trees all
+    (noted_effect S x v S' step))
 
 pub noted-torrent : (S : SessionSeen) (x : Directed Message) (v : Verdict) (S' : SessionSeen) → NotedStep S x v S' → S'.torrent ≡ S.torrent
 noted-torrent S x v S' step = effect-torrent S x.1 (asking S.asks S') (noted_effect S x v S' step)
@@ -117,7 +125,8 @@ noted-true S (In, message.Piece index begin bytes) v S' closed_trees h = verdict
 noted-true S (In, m) v S' closed_trees h = tt
 noted-true S (Out, m) v S' closed_trees h = tt
 
-noted-takes : (S : SessionSeen) (x : Directed Message) (v : Verdict) (S' : SessionSeen) → HasClosedTrees S → HasDistinctRoots S → NotedStep S x v S' → TakesWhatIsTrueAndAsked S x v
+noted-takes : (S : SessionSeen) (x : Directed Message) (v : Verdict) (S' : SessionSeen) → HasClosedTrees S → HasDistinctRoots S → NotedStep S x v S'
+    → TakesWhatIsTrueAndAsked S x v
 noted-takes S (In, message.Hashes ask hashes) v S' closed_trees distinct h = λ was.
     (safe_step S closed_trees distinct (message.Hashes ask hashes) v (asking S.asks S') (in_hashes S ask hashes v S' was h)).takes_what_is_true
 noted-takes S (In, m) v S' closed_trees distinct h = (safe_step S closed_trees distinct m v S' h).takes_what_is_true
@@ -157,7 +166,8 @@ stored-asks S ask hashes c S' h = ap (λ U. U.asks) (h.state_after ∙ ap (λ U.
 
 pub noted-opens : (S : SessionSeen) (x : Directed Message) (v : Verdict) (S' : SessionSeen) → NotedStep S x v S' → OpensOnlyOurs S x S'
 noted-opens S (In, message.Hashes other hashes) (verdict.Stored c) S' h = λ ask now.
-    let is = sym (set.contains-remove ask_total S.asks other ask) ∙ ap (λ (o : AskSet). set.contains o ask) (sym (stored-asks S other hashes.now c S' h)) ∙ now in
+    let is = sym (set.contains-remove ask_total S.asks other ask) ∙ ap (λ (o : AskSet). set.contains o ask) (sym (stored-asks S other hashes.now c S' h))
+        ∙ now in
     (and_parts (not (eq_by_cmp ask_cmp ask other)) (set.contains S.asks ask) is).1
 noted-opens S (In, message.Hashes other hashes) (verdict.HashRefused r) S' h = λ ask now. same_open S' S ask (ap (λ U. U.asks) (sym h.1)) now
 noted-opens S (In, message.Hashes other hashes) v S' h = absurd h
@@ -175,10 +185,12 @@ stored_base S ask hashes c S' h =
       asked = record { number = h.asked.number; tree = h.asked.tree; state = h.after; is_tree = at; has_root = h.asked.has_root };
       known = λ j low.
           let ok = h.taken.0 in
-          let claim = base-claims ask hashes (spans-some (tree_height h.asked.tree.length) ask ok.range) ok.range.power_of_two ok.range.aligned ok.count.enough (ask.index + j) (omega arith) (omega arith) in
+          let claim = base-claims ask hashes (spans-some (tree_height h.asked.tree.length) ask ok.range) ok.range.power_of_two ok.range.aligned ok.count.enough
+              (ask.index + j) (omega arith) (omega arith) in
           elim (there_or_not (look h.asked.state.known ask.base (ask.index + j))) [
             | inl (v, known) ↦ (v, h.taken.1.joined_is ask.base (ask.index + j) ∙ first_of_two (look h.asked.state.known ask.base (ask.index + j)) _ v known)
-            | inr none ↦ (claim.0, h.taken.1.joined_is ask.base (ask.index + j) ∙ second_of_two (look h.asked.state.known ask.base (ask.index + j)) _ none ∙ claim.1)
+            | inr none ↦ (claim.0, h.taken.1.joined_is ask.base (ask.index + j) ∙ second_of_two (look h.asked.state.known ask.base (ask.index + j)) _ none
+                ∙ claim.1)
           ];
     }
 
@@ -193,7 +205,8 @@ base_later S S' ask keeps b =
 
 base_asking : (o : AskSet) (S : SessionSeen) (ask : Ask) → IsBaseKnown S ask → IsBaseKnown (asking o S) ask
 base_asking o S ask b = record {
-  asked = record { number = b.asked.number; tree = b.asked.tree; state = b.asked.state; is_tree = tree_asking o S b.asked.number b.asked.tree b.asked.state b.asked.is_tree; has_root = b.asked.has_root };
+  asked = record { number = b.asked.number; tree = b.asked.tree; state = b.asked.state; is_tree = tree_asking o S b.asked.number b.asked.tree b.asked.state
+      b.asked.is_tree; has_root = b.asked.has_root };
   known = b.known;
 }
 
@@ -216,7 +229,8 @@ or-true false = refl
 
 out-open : (S : SessionSeen) (m : Message) (v : Verdict) (S' : SessionSeen) → StepOut S m v S' → (ask : Ask) → IsOpenAsk S ask → IsOpenAsk S' ask
 out-open S (message.Request other) verdict.Noted S' h ask was =
-    ap (λ U. set.contains U.asks ask) h ∙ set.contains-insert ask_total S.asks other ask ∙ ap (λ b. eq_by_cmp ask_cmp ask other || b) was ∙ or-true (eq_by_cmp ask_cmp ask other)
+    ap (λ U. set.contains U.asks ask) h ∙ set.contains-insert ask_total S.asks other ask ∙ ap (λ b. eq_by_cmp ask_cmp ask other || b) was
+        ∙ or-true (eq_by_cmp ask_cmp ask other)
 out-open S (message.Request other) (verdict.HashRefused NoMemory) S' h ask was = same_open S S' ask (ap (λ U. U.asks) h.1) was
 out-open S (message.Request other) v S' h ask was = absurd h
 out-open S m verdict.Sent S' h ask was = same_open S S' ask (ap (λ U. U.asks) h) was
@@ -228,7 +242,8 @@ noted-open S (Out, m) v S' h = λ ask was. inl (out-open S m v S' h ask was)
 
 -- ---- all of it
 
-pub safe_noted_step : (S : SessionSeen) → HasClosedTrees S → HasDistinctRoots S → (x : Directed Message) (v : Verdict) (S' : SessionSeen) → NotedStep S x v S' → IsSafeNotedStep S x v S'
+pub safe_noted_step : (S : SessionSeen) → HasClosedTrees S → HasDistinctRoots S → (x : Directed Message) (v : Verdict) (S' : SessionSeen) → NotedStep S x v S'
+    → IsSafeNotedStep S x v S'
 safe_noted_step S closed_trees distinct x v S' step = record {
   allowed = step;
   verified_is_the_block = noted-true S x v S' closed_trees step;

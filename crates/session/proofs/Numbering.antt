@@ -15,10 +15,12 @@ module _ (d : Description) (ts : List KeptTree) (kept : AreKept d ts) where
   -- the torrent's entry of a kept tree
   entry_at : (n : ℕ) (a : KeptTree) → slice_get ts n ≡ Some a → IsTreeWithRoot d.trees a.root n
   entry_at n a there =
-      let x = mapped root_of_entry (slice_get d.trees n) (info_of a) (sym (slice_get-map root_of_entry d.trees n) ∙ (tree_at d ts kept leaves.empty n a there).tree_is) in
+      let x = mapped root_of_entry (slice_get d.trees n) (info_of a) (sym (slice_get-map root_of_entry d.trees n)
+          ∙ (tree_at d ts kept leaves.empty n a there).tree_is) in
       (x.0, x.1, ap (λ (t : TreeRoot). t.root) x.2)
 
-  pub some_number : (root : Hash) (o : Option ℕ) (n : ℕ) → IfSome o (IsTreeWithRoot d.trees root) → o ≡ Some n → (n < length ts) × ((a : KeptTree) → slice_get ts n ≡ Some a → a.root ≡ root)
+  pub some_number : (root : Hash) (o : Option ℕ) (n : ℕ) → IfSome o (IsTreeWithRoot d.trees root) → o ≡ Some n
+      → (n < length ts) × ((a : KeptTree) → slice_get ts n ≡ Some a → a.root ≡ root)
   some_number root o n found is =
       let e : IsTreeWithRoot d.trees root n = subst (λ x. IfSome x (IsTreeWithRoot d.trees root)) is found in
       let x = mapped info_of (slice_get ts n) (root_of_entry e.0)
@@ -29,6 +31,7 @@ module _ (d : Description) (ts : List KeptTree) (kept : AreKept d ts) where
             sym b.2 ∙ ap (λ (t : TreeEntry). t.root) (same_Some b.0 e.0 (sym b.1 ∙ e.1)) ∙ e.2,
       )
 
-  pub no_number : (root : Hash) (o : Option ℕ) → ((n : ℕ) → IsTreeWithRoot d.trees root n → o ≡ Some n) → o ≡ None → (n : ℕ) (a : KeptTree) → slice_get ts n ≡ Some a → a.root ≢ root
+  pub no_number : (root : Hash) (o : Option ℕ) → ((n : ℕ) → IsTreeWithRoot d.trees root n → o ≡ Some n) → o ≡ None → (n : ℕ) (a : KeptTree)
+      → slice_get ts n ≡ Some a → a.root ≢ root
   no_number root o only none n a there same =
       none-some n (sym none ∙ only n (subst (λ s. IsTreeWithRoot d.trees s n) same (entry_at n a there)))

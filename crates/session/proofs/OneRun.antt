@@ -35,7 +35,8 @@ use Rattle.session.specs.declared.verdict.Verdict.{Verdict}
 use Rattle.session.specs.declared.verdict.Verdict.TheVariants as verdict
 use Rattle.session.specs.Blocks.{BlocksSeen, Cut, cuts}
 use Rattle.session.specs.Layouts.{roots}
-use Rattle.session.specs.Session.{SessionSeen, TreeState, IsAsked, IsStored, IsHashRefused, IsInFile, IsPlaced, IsMarkedBlock, BlockStep, AreTaken, AreRefused, HasDistinctRoots, Step}
+use Rattle.session.specs.Session.{SessionSeen, TreeState, IsAsked, IsStored, IsHashRefused, IsInFile, IsPlaced, IsMarkedBlock, BlockStep, AreTaken, AreRefused}
+use Rattle.session.specs.Session.{HasDistinctRoots, Step}
 use Rattle.session.specs.Noted.{NotedStep}
 use Rattle.session.specs.NotedLaws.{asking, incoming, HadMemory}
 use Rattle.session.proofs.Entries.{same_number, same_tree, same_state}
@@ -88,7 +89,8 @@ module _ (S : SessionSeen) (distinct : HasDistinctRoots S) (ask : Ask) (hashes :
   not_unknown : Unknown S ask → IsAsked S ask → ⊥
   not_unknown unknown a = unknown a.number a.tree a.is_tree.tree_is a.has_root
 
-  at_one : (a b : IsAsked S ask) (r : HashRefusal) → Refuses a.tree.length (look a.state.known) ask hashes r → Refuses b.tree.length (look b.state.known) ask hashes r
+  at_one : (a b : IsAsked S ask) (r : HashRefusal) → Refuses a.tree.length (look a.state.known) ask hashes r
+      → Refuses b.tree.length (look b.state.known) ask hashes r
   at_one a b r refused =
       let (number, tree, state) = asked-is S ask b.number b.tree b.state distinct b.is_tree b.has_root a in
       subst₂ (λ (tr : TreeRoot) (st : TreeState). Refuses tr.length (look st.known) ask hashes r) tree state refused
@@ -118,7 +120,8 @@ module _ (S : SessionSeen) (distinct : HasDistinctRoots S) (ask : Ask) (hashes :
       let after : h.after ≡ k.after = ap₂ make known marked in
       let before : len h.asked.state.known ≡ len k.asked.state.known = ap (λ (st : TreeState). len st.known) state in
       let more : len h.after.known ≡ len k.after.known = ap (λ (m : Known). len m) known in
-      (omega (arith, h.taken.1.gained, k.taken.1.gained, before, more), h.state_after ∙ ap₂ (λ (n : ℕ) (a : TreeState). record S { trees = set S.trees n a }) number after ∙ sym k.state_after)
+      (omega (arith, h.taken.1.gained, k.taken.1.gained, before, more), h.state_after
+          ∙ ap₂ (λ (n : ℕ) (a : TreeState). record S { trees = set S.trees n a }) number after ∙ sym k.state_after)
 
 -- ---- one entry of a piece message
 
@@ -158,12 +161,16 @@ module _ (S : SessionSeen) (file b : ℕ) (bytes : List ℕ) where
   marked_one S' T h k =
       let number = same_number S file b k.in_file.tree_number k.in_file.tree k.in_file.state k.in_file.of_file k.in_file.is_tree h.in_file in
       let state = same_state S file b k.in_file.tree_number k.in_file.tree k.in_file.state k.in_file.of_file k.in_file.is_tree h.in_file in
-      h.state_after ∙ ap₂ (λ (n : ℕ) (st : TreeState). record S { trees = set S.trees n (record st { marked = leaves.insert st.marked b }) }) number state ∙ sym k.state_after
+      h.state_after ∙ ap₂ (λ (n : ℕ) (st : TreeState). record S { trees = set S.trees n (record st { marked = leaves.insert st.marked b }) }) number state
+          ∙ sym k.state_after
 
-block_one : (file : ℕ) (S : SessionSeen) (c : Cut) (r q : Option BlockRefusal) (S' T : SessionSeen) → BlockStep file S c r S' → BlockStep file S c q T → (r ≡ q) × (S' ≡ T)
+block_one : (file : ℕ) (S : SessionSeen) (c : Cut) (r q : Option BlockRefusal) (S' T : SessionSeen) → BlockStep file S c r S' → BlockStep file S c q T
+    → (r ≡ q) × (S' ≡ T)
 block_one file S c None None S' T h k = (refl, marked_one S file c.number c.bytes S' T h k)
-block_one file S c None (Some q) S' T h ((p, k), e) = absurd (marked_not_refused S file c.number c.bytes S' q h (at_file S file c.number c.bytes p h.in_file q k))
-block_one file S c (Some r) None S' T ((p, h), e) k = absurd (marked_not_refused S file c.number c.bytes T r k (at_file S file c.number c.bytes p k.in_file r h))
+block_one file S c None (Some q) S' T h ((p, k), e) =
+    absurd (marked_not_refused S file c.number c.bytes S' q h (at_file S file c.number c.bytes p h.in_file q k))
+block_one file S c (Some r) None S' T ((p, h), e) k =
+    absurd (marked_not_refused S file c.number c.bytes T r k (at_file S file c.number c.bytes p k.in_file r h))
 block_one file S c (Some r) (Some q) S' T ((p, h), e) ((p', k), e') =
     (ap Some (tree_one p'.tree.length (look p'.state.known) c.number c.bytes r q (at_file S file c.number c.bytes p p' r h) k), e ∙ sym e')
 
@@ -176,7 +183,8 @@ module _ (S : SessionSeen) (index begin : ℕ) (bytes : List ℕ) where
       let told : List (Option BlockRefusal) → BlocksSeen = λ rs. record { file = v.file; first = v.first; refusals = rs } in
       let is : w ≡ told w.refusals = λ j. record { file = (pair j).0; first = (pair j).1; refusals = w.refusals } in
       let k' : AreTaken S index begin bytes (told w.refusals) T = subst (λ (x : BlocksSeen). AreTaken S index begin bytes x T) is k in
-      let tree : k'.in_file.tree ≡ h.in_file.tree = same_tree S v.file v.first h.in_file.tree_number h.in_file.tree h.in_file.state h.in_file.of_file h.in_file.is_tree k'.in_file in
+      let tree : k'.in_file.tree ≡ h.in_file.tree = same_tree S v.file v.first h.in_file.tree_number h.in_file.tree h.in_file.state h.in_file.of_file
+          h.in_file.is_tree k'.in_file in
       let count : length w.refusals ≡ length v.refusals =
       one_block_run h.in_file.tree.length v.first (length bytes) (length w.refusals) (length v.refusals)
       (subst (λ (tr : TreeRoot). IsBlockRun tr.length v.first (length bytes) (length w.refusals)) tree k'.run) h.run in
@@ -204,7 +212,8 @@ module _ (S : SessionSeen) (index begin : ℕ) (bytes : List ℕ) where
 -- ---- one step
 
 module _ (S : SessionSeen) (distinct : HasDistinctRoots S) where
-  one_step : (m : Message) (v w : Verdict) (S' T : SessionSeen) → Step S m v S' → Step S m w T → v ≢ verdict.HashRefused NoMemory → w ≢ verdict.HashRefused NoMemory
+  one_step : (m : Message) (v w : Verdict) (S' T : SessionSeen) → Step S m v S' → Step S m w T → v ≢ verdict.HashRefused NoMemory
+      → w ≢ verdict.HashRefused NoMemory
       → (v ≡ w) × (S' ≡ T)
   one_step (message.Hashes ask hashes) (verdict.Stored c) (verdict.Stored d) S' T a b x y =
       let one = stored_one S distinct ask hashes.now c d S' T a b in (ap verdict.Stored one.0, one.1)
@@ -213,7 +222,8 @@ module _ (S : SessionSeen) (distinct : HasDistinctRoots S) where
   one_step (message.Hashes ask hashes) (verdict.HashRefused r) (verdict.Stored c) S' T a b x y =
       absurd (stored_not_refused S distinct ask hashes.now c T r (λ e. x (ap verdict.HashRefused e)) b a.0)
   one_step (message.Hashes ask hashes) (verdict.HashRefused r) (verdict.HashRefused q) S' T a b x y =
-      (ap verdict.HashRefused (one_refusal S distinct ask hashes.now r q (λ e. x (ap verdict.HashRefused e)) (λ e. y (ap verdict.HashRefused e)) a.0 b.0), a.1 ∙ sym b.1)
+      (ap verdict.HashRefused (one_refusal S distinct ask hashes.now r q (λ e. x (ap verdict.HashRefused e)) (λ e. y (ap verdict.HashRefused e)) a.0 b.0), a.1
+          ∙ sym b.1)
   one_step (message.Hashes ask hashes) (verdict.Stored c) w S' T a b x y = absurd b
   one_step (message.Hashes ask hashes) (verdict.HashRefused r) w S' T a b x y = absurd b
   one_step (message.Hashes ask hashes) v w S' T a b x y = absurd a
@@ -245,7 +255,8 @@ module _ (S : SessionSeen) (distinct : HasDistinctRoots S) where
 
 -- ---- one run
 
-pub one_run : (S : SessionSeen) → HasDistinctRoots S → (ms : List Message) (vs ws : List Verdict) (S' T : SessionSeen) → Chain Step S ms vs S' → Chain Step S ms ws T → HadMemory vs → HadMemory ws
+pub one_run : (S : SessionSeen) → HasDistinctRoots S → (ms : List Message) (vs ws : List Verdict) (S' T : SessionSeen) → Chain Step S ms vs S'
+    → Chain Step S ms ws T → HadMemory vs → HadMemory ws
     → (vs ≡ ws) × (S' ≡ T)
 one_run S distinct [] [] [] S' T a b x y = (refl, a ∙ sym b)
 one_run S distinct [] [] (w ∷ ws) S' T a b x y = absurd b
@@ -254,10 +265,12 @@ one_run S distinct (m ∷ ms) [] ws S' T a b x y = absurd a
 one_run S distinct (m ∷ ms) (v ∷ vs) [] S' T a b x y = absurd b
 one_run S distinct (m ∷ ms) (v ∷ vs) (w ∷ ws) S' T (M, step, rest) (N, step', rest') x y =
     let one = one_step S distinct m v w M N step step' x.0 y.0 in
-    let later = one_run M (later-distinct S M (step-torrent S m v M step) distinct) ms vs ws S' T rest (subst (λ (U : SessionSeen). Chain Step U ms ws T) (sym one.1) rest') x.1 y.1 in
+    let later = one_run M (later-distinct S M (step-torrent S m v M step) distinct) ms vs ws S' T rest
+        (subst (λ (U : SessionSeen). Chain Step U ms ws T) (sym one.1) rest') x.1 y.1 in
     (ap₂ (λ u us. u ∷ us) one.0 later.0, later.1)
 
-pub conversion_tells : (S : SessionSeen) → HasDistinctRoots S → (bodies : List (List ℕ)) (fs : List Frame) (gs : List (Directed Frame)) (vs ws : List Verdict) (T S' : SessionSeen)
+pub conversion_tells : (S : SessionSeen) → HasDistinctRoots S → (bodies : List (List ℕ)) (fs : List Frame) (gs : List (Directed Frame)) (vs ws : List Verdict)
+    (T S' : SessionSeen)
     → AllZip Means bodies fs → AllZip MeansDirected (conversion bodies) gs
     → Chain Step S (messages_in fs) vs T → HadMemory vs → Chain NotedStep S (directed_messages gs) ws S' → HadMemory ws
     → (incoming (directed_messages gs) ws ≡ vs) × (asking S.asks S' ≡ T)

@@ -1,5 +1,6 @@
 -- Open asks, kept in the order of their fields, as a set.
-use Rattle.std.proofs.Common.{◌≡◌, Bool, true, false, cond, not, ◌&&◌, ◌||◌, List, Ordering, Less, Equal, Greater, Result, Ok, Err, IsOk, OnOk, refl, sym, ap, ◌∙◌}
+use Rattle.std.proofs.Common.{◌≡◌, Bool, true, false, cond, not, ◌&&◌, ◌||◌, List, Ordering, Less, Equal, Greater, Result, Ok, Err, IsOk, OnOk, refl, sym, ap}
+use Rattle.std.proofs.Common.{◌∙◌}
 use Rattle.std.specs.List.{list_any}
 use Rattle.std.specs.Ordering.{nat_cmp, ordering_then, eq_by_cmp, is_eq}
 use Rattle.std.specs.Cmp.{IsTotalOrder, Equal-is, tied_itself, eq_by_cmp_equiv}
@@ -80,6 +81,7 @@ opened_again s k there = set.same_set ask_total ask_antisymmetric _ _ (λ q. set
     by_case q true e = sym (ap (set.contains s) (same_ask q k e) ∙ there)
     by_case q false e = refl
 
-pub unchanged_if_open : {X E : Type 0} (s after : AskSet) (k : Ask) (r : Result X E) → set.contains s k ≡ true → (set.contains s k ≡ true → IsOk r) → OnOk r (after ≡ set.insert s k) → after ≡ s
+pub unchanged_if_open : {X E : Type 0} (s after : AskSet) (k : Ask) (r : Result X E) → set.contains s k ≡ true → (set.contains s k ≡ true → IsOk r)
+    → OnOk r (after ≡ set.insert s k) → after ≡ s
 unchanged_if_open s after k (Ok x) there ok same = same ∙ opened_again s k there
 unchanged_if_open s after k (Err e) there ok same = absurd (false≢true (ok there))

@@ -15,7 +15,8 @@ use Rattle.session.specs.declared.verdict.Verdict.TheVariants as verdict
 use Rattle.session.specs.Blocks.{BlocksSeen, Cut, cuts}
 use Rattle.partial_tree.specs.TreeRoot.{TreeRoot}
 use Rattle.session.specs.Asks.{AskSet}
-use Rattle.session.specs.Session.{SessionSeen, TreeState, IsTree, HasClosedTrees, IsAsked, IsAnswered, IsStored, IsHashRefused, IsInFile, BlockStep, AreTaken, AreRefused, Step}
+use Rattle.session.specs.Session.{SessionSeen, TreeState, IsTree, HasClosedTrees, IsAsked, IsAnswered, IsStored, IsHashRefused, IsInFile, BlockStep, AreTaken}
+use Rattle.session.specs.Session.{AreRefused, Step}
 use Rattle.session.specs.NotedLaws.{asking}
 use Rattle.session.specs.SafeStep.{KeepsKnown}
 
@@ -48,7 +49,8 @@ module _ (o : AskSet) where
 
   -- ---- steps
 
-  stored_asking : (S : SessionSeen) (ask : Ask) (hashes : List Hash) (c : ℕ) (S' : SessionSeen) → IsStored S ask hashes c S' → IsStored (asking o S) ask hashes c (asking o S')
+  stored_asking : (S : SessionSeen) (ask : Ask) (hashes : List Hash) (c : ℕ) (S' : SessionSeen) → IsStored S ask hashes c S'
+      → IsStored (asking o S) ask hashes c (asking o S')
   stored_asking S ask hashes c S' h = record {
     asked = asked_asking o S ask h.asked;
     after = h.after;
@@ -72,7 +74,8 @@ module _ (o : AskSet) where
     inside = p.inside;
   }
 
-  block_asking : (file : ℕ) (S : SessionSeen) (c : Cut) (r : Option BlockRefusal) (S' : SessionSeen) → BlockStep file S c r S' → BlockStep file (asking o S) c r (asking o S')
+  block_asking : (file : ℕ) (S : SessionSeen) (c : Cut) (r : Option BlockRefusal) (S' : SessionSeen) → BlockStep file S c r S'
+      → BlockStep file (asking o S) c r (asking o S')
   block_asking file S c None S' h = record {
     in_file = in_file_asking S file c.number h.in_file;
     size = h.size;
@@ -81,7 +84,8 @@ module _ (o : AskSet) where
   }
   block_asking file S c (Some r) S' h = ((in_file_asking S file c.number h.0.0, h.0.1), ap (asking o) h.1)
 
-  taken_asking : (S : SessionSeen) (index begin : ℕ) (bytes : List ℕ) (v : BlocksSeen) (S' : SessionSeen) → AreTaken S index begin bytes v S' → AreTaken (asking o S) index begin bytes v (asking o S')
+  taken_asking : (S : SessionSeen) (index begin : ℕ) (bytes : List ℕ) (v : BlocksSeen) (S' : SessionSeen) → AreTaken S index begin bytes v S'
+      → AreTaken (asking o S) index begin bytes v (asking o S')
   taken_asking S index begin bytes v S' h = record {
     at = h.at;
     in_file = in_file_asking S v.file v.first h.in_file;
@@ -89,9 +93,11 @@ module _ (o : AskSet) where
     each = Chain-mapped (BlockStep v.file) (BlockStep v.file) (asking o) (block_asking v.file) S (cuts v.first bytes (length v.refusals)) v.refusals S' h.each;
   }
 
-  message_asking : (S : SessionSeen) (index begin : ℕ) (bytes : List ℕ) (r : BlockRefusal) → AreRefused S index begin bytes r → AreRefused (asking o S) index begin bytes r
+  message_asking : (S : SessionSeen) (index begin : ℕ) (bytes : List ℕ) (r : BlockRefusal) → AreRefused S index begin bytes r
+      → AreRefused (asking o S) index begin bytes r
   message_asking S index begin bytes BadPlace h = h
-  message_asking S index begin bytes BadSize (p, none) = (record { file = p.file; number = p.number; at = p.at; in_file = in_file_asking S p.file p.number p.in_file }, none)
+  message_asking S index begin bytes BadSize (p, none) =
+      (record { file = p.file; number = p.number; at = p.at; in_file = in_file_asking S p.file p.number p.in_file }, none)
   message_asking S index begin bytes r h = absurd h
 
   -- a step is the same whatever asks are open
@@ -107,5 +113,6 @@ module _ (o : AskSet) where
   step_asking S (message.Other id size) (verdict.Skipped id') S' h = (h.0, ap (asking o) h.1)
   step_asking S m v S' h = absurd h
 
-  pub run_asking : (S : SessionSeen) (ms : List Message) (vs : List Verdict) (S' : SessionSeen) → Chain Step S ms vs S' → Chain Step (asking o S) ms vs (asking o S')
+  pub run_asking : (S : SessionSeen) (ms : List Message) (vs : List Verdict) (S' : SessionSeen) → Chain Step S ms vs S'
+      → Chain Step (asking o S) ms vs (asking o S')
   run_asking S ms vs S' run = Chain-mapped Step Step (asking o) step_asking S ms vs S' run

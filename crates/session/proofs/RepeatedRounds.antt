@@ -22,7 +22,8 @@ record ClosesGaps (n : ℕ) (f : List ℕ) (R : SessionSeen → SessionSeen → 
   same_torrent : (S M : SessionSeen) → R S M → M.torrent ≡ S.torrent
   closed : (S M : SessionSeen) → HasClosedTrees S → R S M → HasClosedTrees M
   learns : (S M : SessionSeen) → R S M → (tree : TreeRoot) (s : TreeState) → IsTree S n tree s → Learns S M n tree s
-  fewer : (S M : SessionSeen) → HasDistinctRoots S → HasClosedTrees S → R S M → (tree : TreeRoot) (s : TreeState) → IsTree S n tree s → HasFewerGaps M n tree (look s.known) ⊎ Collides M n f
+  fewer : (S M : SessionSeen) → HasDistinctRoots S → HasClosedTrees S → R S M → (tree : TreeRoot) (s : TreeState) → IsTree S n tree s
+      → HasFewerGaps M n tree (look s.known) ⊎ Collides M n f
 
 module _ (n : ℕ) (f : List ℕ) (R : SessionSeen → SessionSeen → Type 0) (kind : ClosesGaps n f R) where
   repeated-learn : (k : ℕ) (S S' : SessionSeen) → Repeated R k S S' → (tree : TreeRoot) (s : TreeState) → IsTree S n tree s → Learns S S' n tree s
@@ -32,7 +33,8 @@ module _ (n : ℕ) (f : List ℕ) (R : SessionSeen → SessionSeen → Type 0) (
       let b : Learns M S' n tree a.later = repeated-learn k M S' rest tree a.later a.later_is in
       record { later = b.later; later_is = b.later_is; keeps = λ l i v e. b.keeps l i v (a.keeps l i v e) }
 
-  repeated-count : (k : ℕ) (S S' : SessionSeen) → HasDistinctRoots S → HasClosedTrees S → Repeated R k S S' → (tree : TreeRoot) (s : TreeState) → IsTree S n tree s
+  repeated-count : (k : ℕ) (S S' : SessionSeen) → HasDistinctRoots S → HasClosedTrees S → Repeated R k S S' → (tree : TreeRoot) (s : TreeState)
+      → IsTree S n tree s
       → ((later : TreeState) × IsTree S' n tree later × (gaps tree.length (look later.known) + k ≤ gaps tree.length (look s.known))) ⊎ Collides S' n f
   repeated-count zero S S' distinct closed e tree s at = inl (s, subst (λ U. IsTree U n tree s) (sym e) at, omega arith)
   repeated-count (suc k) S S' distinct closed (M, r, rest) tree s at = elim (kind.fewer S M distinct closed r tree s at) [
@@ -46,7 +48,8 @@ module _ (n : ℕ) (f : List ℕ) (R : SessionSeen → SessionSeen → Type 0) (
         ]
   ]
 
-  repeated-done : (S S' : SessionSeen) → HasDistinctRoots S → HasClosedTrees S → (tree : TreeRoot) (s : TreeState) → IsTree S n tree s → Repeated R (gaps tree.length (look s.known)) S S'
+  repeated-done : (S S' : SessionSeen) → HasDistinctRoots S → HasClosedTrees S → (tree : TreeRoot) (s : TreeState) → IsTree S n tree s
+      → Repeated R (gaps tree.length (look s.known)) S S'
       → ((later : TreeState) × IsTree S' n tree later × ((b : ℕ) → b < block_count tree.length → IsKnown (look later.known) 0 b)) ⊎ Collides S' n f
   repeated-done S S' distinct closed tree s at rounds = elim (repeated-count (gaps tree.length (look s.known)) S S' distinct closed rounds tree s at) [
     | inl (later, later_at, le) ↦ inl (later, later_at, λ b inside. gaps-none tree.length (look later.known) (omega arith) b inside)
@@ -54,9 +57,11 @@ module _ (n : ℕ) (f : List ℕ) (R : SessionSeen → SessionSeen → Type 0) (
   ]
 
 -- a tree has one number, so the gaps that a round speaks of are those of this tree
-same-gaps : {S M : SessionSeen} {n : ℕ} {a b : TreeRoot} {s t : TreeState} → IsTree S n a s → IsTree S n b t → HasFewerGaps M n a (look s.known) → HasFewerGaps M n b (look t.known)
+same-gaps : {S M : SessionSeen} {n : ℕ} {a b : TreeRoot} {s t : TreeState} → IsTree S n a s → IsTree S n b t → HasFewerGaps M n a (look s.known)
+    → HasFewerGaps M n b (look t.known)
 same-gaps {S} {M} {n} {a} {b} {s} {t} at here fewer =
-    subst₂ (λ tr st. HasFewerGaps M n tr (look st.known)) (same_Some a b (sym at.tree_is ∙ here.tree_is)) (same_Some s t (sym at.state_is ∙ here.state_is)) fewer
+    subst₂ (λ tr st. HasFewerGaps M n tr (look st.known)) (same_Some a b (sym at.tree_is ∙ here.tree_is)) (same_Some s t (sym at.state_is ∙ here.state_is))
+        fewer
 
 -- ---- runs of form 1
 
@@ -71,11 +76,13 @@ run-closes n f = record {
   ];
 }
 
-pub rounds-count : (S S' : SessionSeen) → HasDistinctRoots S → (n : ℕ) (f : List ℕ) (k : ℕ) → HasClosedTrees S → Rounds n f k S S' → (tree : TreeRoot) (s : TreeState) → IsTree S n tree s
+pub rounds-count : (S S' : SessionSeen) → HasDistinctRoots S → (n : ℕ) (f : List ℕ) (k : ℕ) → HasClosedTrees S → Rounds n f k S S'
+    → (tree : TreeRoot) (s : TreeState) → IsTree S n tree s
     → ((later : TreeState) × IsTree S' n tree later × (gaps tree.length (look later.known) + k ≤ gaps tree.length (look s.known))) ⊎ Collides S' n f
 rounds-count S S' distinct n f k closed rounds tree s at = repeated-count n f (IsRoundRun n f) (run-closes n f) k S S' distinct closed rounds tree s at
 
-pub rounds-done : (S S' : SessionSeen) → HasDistinctRoots S → (n : ℕ) (f : List ℕ) (tree : TreeRoot) (s : TreeState) → HasClosedTrees S → IsTree S n tree s → Rounds n f (gaps tree.length (look s.known)) S S'
+pub rounds-done : (S S' : SessionSeen) → HasDistinctRoots S → (n : ℕ) (f : List ℕ) (tree : TreeRoot) (s : TreeState) → HasClosedTrees S → IsTree S n tree s
+    → Rounds n f (gaps tree.length (look s.known)) S S'
     → ((later : TreeState) × IsTree S' n tree later × ((b : ℕ) → b < block_count tree.length → IsKnown (look later.known) 0 b)) ⊎ Collides S' n f
 rounds-done S S' distinct n f tree s closed at rounds = repeated-done n f (IsRoundRun n f) (run-closes n f) S S' distinct closed tree s at rounds
 
@@ -94,10 +101,13 @@ noted-closes n f = record {
   ];
 }
 
-pub noted-rounds-count : (S S' : SessionSeen) → HasDistinctRoots S → (n : ℕ) (f : List ℕ) (k : ℕ) → HasClosedTrees S → NotedRounds n f k S S' → (tree : TreeRoot) (s : TreeState) → IsTree S n tree s
+pub noted-rounds-count : (S S' : SessionSeen) → HasDistinctRoots S → (n : ℕ) (f : List ℕ) (k : ℕ) → HasClosedTrees S → NotedRounds n f k S S'
+    → (tree : TreeRoot) (s : TreeState) → IsTree S n tree s
     → ((later : TreeState) × IsTree S' n tree later × (gaps tree.length (look later.known) + k ≤ gaps tree.length (look s.known))) ⊎ Collides S' n f
-noted-rounds-count S S' distinct n f k closed rounds tree s at = repeated-count n f (IsNotedRoundRun n f) (noted-closes n f) k S S' distinct closed rounds tree s at
+noted-rounds-count S S' distinct n f k closed rounds tree s at = repeated-count n f (IsNotedRoundRun n f) (noted-closes n f) k S S' distinct closed rounds tree
+    s at
 
-pub noted-rounds-done : (S S' : SessionSeen) → HasDistinctRoots S → (n : ℕ) (f : List ℕ) (tree : TreeRoot) (s : TreeState) → HasClosedTrees S → IsTree S n tree s → NotedRounds n f (gaps tree.length (look s.known)) S S'
+pub noted-rounds-done : (S S' : SessionSeen) → HasDistinctRoots S → (n : ℕ) (f : List ℕ) (tree : TreeRoot) (s : TreeState) → HasClosedTrees S
+    → IsTree S n tree s → NotedRounds n f (gaps tree.length (look s.known)) S S'
     → ((later : TreeState) × IsTree S' n tree later × ((b : ℕ) → b < block_count tree.length → IsKnown (look later.known) 0 b)) ⊎ Collides S' n f
 noted-rounds-done S S' distinct n f tree s closed at rounds = repeated-done n f (IsNotedRoundRun n f) (noted-closes n f) S S' distinct closed tree s at rounds

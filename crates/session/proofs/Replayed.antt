@@ -32,14 +32,16 @@ run-asks S (m ∷ ms) [] S' e = absurd e
 run-asks S (m ∷ ms) (v ∷ vs) S' (M, step, rest) = run-asks M ms vs S' rest ∙ step-asks S m v M step
 
 -- a request that was noted leaves the trees, and its ask is open
-out_noted : (S : SessionSeen) (ask : Ask) (v : Verdict) (S' : SessionSeen) → StepOut S (message.Request ask) v S' → v ≢ verdict.HashRefused NoMemory → S' ≡ with_ask S ask
+out_noted : (S : SessionSeen) (ask : Ask) (v : Verdict) (S' : SessionSeen) → StepOut S (message.Request ask) v S' → v ≢ verdict.HashRefused NoMemory
+    → S' ≡ with_ask S ask
 out_noted S ask verdict.Noted S' h noted = h
 out_noted S ask (verdict.HashRefused NoMemory) S' h noted = absurd (noted refl)
 out_noted S ask v S' h noted = absurd h
 
 -- ---- a conversion runs as form 1
 
-pub conversion_runs : (S : SessionSeen) (ms : List Message) (vs : List Verdict) (S' : SessionSeen) → Chain NotedStep S (converted_messages ms) vs S' → AllNoted (converted_messages ms) vs
+pub conversion_runs : (S : SessionSeen) (ms : List Message) (vs : List Verdict) (S' : SessionSeen) → Chain NotedStep S (converted_messages ms) vs S'
+    → AllNoted (converted_messages ms) vs
     → Chain Step S ms (incoming (converted_messages ms) vs) (asking S.asks S')
 conversion_runs S [] [] S' e noted = ap (asking S.asks) e
 conversion_runs S [] (v ∷ vs) S' e noted = absurd e
@@ -49,7 +51,8 @@ conversion_runs S (message.Hashes ask hashes ∷ ms) (v ∷ w ∷ vs) S' (M, out
     let is : M ≡ with_ask S ask = out_noted S ask v M out was in
     let open_there : IsOpenAsk M ask = ap (λ (U : SessionSeen). set.contains U.asks ask) is ∙ opened_contains S.asks ask in
     let taken : Step M (message.Hashes ask hashes) w (asking M.asks N) = in_hashes M ask hashes w N open_there step in
-    let here : Step (asking S.asks M) (message.Hashes ask hashes) w (asking S.asks N) = step_asking S.asks M (message.Hashes ask hashes) w (asking M.asks N) taken in (
+    let here : Step (asking S.asks M) (message.Hashes ask hashes) w (asking S.asks N) = step_asking S.asks M (message.Hashes ask hashes) w (asking M.asks N)
+        taken in (
       asking S.asks N,
       subst (λ (U : SessionSeen). Step U (message.Hashes ask hashes) w (asking S.asks N)) (ap (asking S.asks) is) here,
       run_asking S.asks N ms (incoming (converted_messages ms) vs) (asking N.asks S') (conversion_runs N ms vs S' rest noted),
@@ -68,7 +71,8 @@ record Answered (S : SessionSeen) (m : Message) (v : Verdict) (T : SessionSeen) 
   step : StepIn S m v after
   same : after ≡ asking after.asks T
 
-hashes_answered : (S : SessionSeen) (ask : Ask) (hashes : _) (v : Verdict) (T : SessionSeen) → IsOpenAsk S ask → Step S (message.Hashes ask hashes) v T → Answered S (message.Hashes ask hashes) v T
+hashes_answered : (S : SessionSeen) (ask : Ask) (hashes : _) (v : Verdict) (T : SessionSeen) → IsOpenAsk S ask → Step S (message.Hashes ask hashes) v T
+    → Answered S (message.Hashes ask hashes) v T
 hashes_answered S ask hashes (verdict.Stored c) T was h = record {
   after = without_ask T ask;
   step = record { was_open = was; joined = T; stored = h; state_after = refl };
@@ -101,7 +105,8 @@ run_converted S (message.Hashes ask hashes ∷ ms) (v ∷ vs) T (M, step, rest) 
     let asked : SessionSeen = with_ask S ask in
     let a : Answered asked (message.Hashes ask hashes) v (asking asked.asks M) =
     hashes_answered asked ask hashes v (asking asked.asks M) (opened_contains S.asks ask) (step_asking asked.asks S (message.Hashes ask hashes) v M step) in
-    let next : Chain Step a.after ms vs (asking a.after.asks T) = subst (λ (U : SessionSeen). Chain Step U ms vs (asking a.after.asks T)) (sym a.same) (run_asking a.after.asks M ms vs T rest) in
+    let next : Chain Step a.after ms vs (asking a.after.asks T) = subst (λ (U : SessionSeen). Chain Step U ms vs (asking a.after.asks T)) (sym a.same)
+        (run_asking a.after.asks M ms vs T rest) in
     let later : Converted a.after ms vs (asking a.after.asks T) = run_converted a.after ms vs (asking a.after.asks T) next in
     record {
       verdicts = verdict.Noted ∷ v ∷ later.verdicts;
@@ -124,7 +129,8 @@ run_converted S (m ∷ ms) (v ∷ vs) T (M, step, rest) =
     }
 
 pub form_1_runs : (S : SessionSeen) (ms : List Message) (vs : List Verdict) (T : SessionSeen) → Chain Step S ms vs T
-    → (ws : List Verdict) × (S' : SessionSeen) × Chain NotedStep S (converted_messages ms) ws S' × AllNoted (converted_messages ms) ws × (incoming (converted_messages ms) ws ≡ vs) × (asking S.asks S' ≡ T)
+    → (ws : List Verdict) × (S' : SessionSeen) × Chain NotedStep S (converted_messages ms) ws S' × AllNoted (converted_messages ms) ws
+        × (incoming (converted_messages ms) ws ≡ vs) × (asking S.asks S' ≡ T)
 form_1_runs S ms vs T run = let c : Converted S ms vs T = run_converted S ms vs T run in (c.verdicts, c.after, c.run, c.noted, c.same, c.trees)
 
 -- ---- the same from the bytes
@@ -188,7 +194,8 @@ out_same S (message.Other i m) (message.Other j n) verdict.Sent S' p h = h
 out_same S (message.Other i m) (message.Other j n) v S' p h = absurd h
 out_same S m n v S' p h = absurd p
 
-run_same : (S : SessionSeen) (xs ys : List (Directed Message)) (vs : List Verdict) (S' : SessionSeen) → AllZip SameSent xs ys → Chain NotedStep S xs vs S' → Chain NotedStep S ys vs S'
+run_same : (S : SessionSeen) (xs ys : List (Directed Message)) (vs : List Verdict) (S' : SessionSeen) → AllZip SameSent xs ys → Chain NotedStep S xs vs S'
+    → Chain NotedStep S ys vs S'
 run_same S [] [] vs S' p h = h
 run_same S [] (y ∷ ys) vs S' p h = absurd p
 run_same S (x ∷ xs) [] vs S' p h = absurd p
@@ -222,7 +229,8 @@ noted_same ((Out, m) ∷ xs) ((In, n) ∷ ys) (v ∷ vs) p h = absurd (not_out (
 frames_converted : (fs : List Frame) → directed_messages (flat_map converted_frame fs) ≡ converted_messages (messages_in fs)
 frames_converted [] = refl
 frames_converted (told.BadSize id len ∷ fs) = frames_converted fs
-frames_converted (told.Message (message.Hashes ask hashes) ∷ fs) = ap (λ ms. (Out, message.Request ask) ∷ (In, message.Hashes ask hashes) ∷ ms) (frames_converted fs)
+frames_converted (told.Message (message.Hashes ask hashes) ∷ fs) = ap (λ ms. (Out, message.Request ask) ∷ (In, message.Hashes ask hashes) ∷ ms)
+    (frames_converted fs)
 frames_converted (told.Message m ∷ fs) = ap (λ ms. converted_message m ++ ms) (frames_converted fs)
 
 pub conversion_replays : (S : SessionSeen) (bodies : List (List ℕ)) (fs : List Frame) (gs : List (Directed Frame)) (vs : List Verdict) (S' : SessionSeen)
@@ -232,9 +240,12 @@ conversion_replays S bodies fs gs vs S' means converted run noted =
     let same : AllZip SameSent (directed_messages gs) (directed_messages (flat_map converted_frame fs)) =
     same_sent gs (flat_map converted_frame fs) (same_told (conversion bodies) gs (flat_map converted_frame fs) converted (conversion_means bodies fs means)) in
     let is : directed_messages (flat_map converted_frame fs) ≡ converted_messages (messages_in fs) = frames_converted fs in
-    let moved : Chain NotedStep S (converted_messages (messages_in fs)) vs S' = subst (λ ms. Chain NotedStep S ms vs S') is (run_same S (directed_messages gs) (directed_messages (flat_map converted_frame fs)) vs S' same run) in
-    let all : AllNoted (converted_messages (messages_in fs)) vs = subst (λ ms. AllNoted ms vs) is (noted_same (directed_messages gs) (directed_messages (flat_map converted_frame fs)) vs same noted) in
-    subst (λ ws. Chain Step S (messages_in fs) ws (asking S.asks S')) (ap (λ ms. incoming ms vs) (sym is) ∙ sym (incoming_same (directed_messages gs) (directed_messages (flat_map converted_frame fs)) vs same))
+    let moved : Chain NotedStep S (converted_messages (messages_in fs)) vs S' = subst (λ ms. Chain NotedStep S ms vs S') is
+        (run_same S (directed_messages gs) (directed_messages (flat_map converted_frame fs)) vs S' same run) in
+    let all : AllNoted (converted_messages (messages_in fs)) vs =
+        subst (λ ms. AllNoted ms vs) is (noted_same (directed_messages gs) (directed_messages (flat_map converted_frame fs)) vs same noted) in
+    subst (λ ws. Chain Step S (messages_in fs) ws (asking S.asks S')) (ap (λ ms. incoming ms vs) (sym is)
+        ∙ sym (incoming_same (directed_messages gs) (directed_messages (flat_map converted_frame fs)) vs same))
     (conversion_runs S (messages_in fs) vs S' moved all)
 
 -- with memory for all, each request was noted

@@ -19,7 +19,8 @@ use Rattle.partial_tree.specs.Closed.{Keeps, IsClosed, Collision, whole}
 use Rattle.partial_tree.specs.Claims.{claims, joined, Refuses, IsAccepted, answer_of}
 use Rattle.partial_tree.specs.Gaps.{gaps, want_ask}
 use Rattle.node_maps.specs.Known.{look}
-use Rattle.session.specs.Session.{HasHashes, SessionSeen, TreeState, IsTree, HasClosedTrees, IsAsked, IsStored, IsHashRefused, HasDistinctRoots, HasFewerGaps, Step}
+use Rattle.session.specs.Session.{HasHashes, SessionSeen, TreeState, IsTree, HasClosedTrees, IsAsked, IsStored, IsHashRefused, HasDistinctRoots, HasFewerGaps}
+use Rattle.session.specs.Session.{Step}
 use Rattle.opening.specs.Description.{Description}
 use Rattle.session.specs.Layouts.{roots, root_of_entry}
 use Rattle.session.specs.Wanted.{HasOneGapFewer}
@@ -53,7 +54,8 @@ asked-is S ask n tree s distinct at root a =
     )
 
 module _ (n : ℕ) (tree : TreeRoot) (b : ℕ) (in' : b < block_count tree.length) (K : PartialTree) where
-  module _ (S S' : SessionSeen) (distinct : HasDistinctRoots S) (s : TreeState) (at : IsTree S n tree s) (tall : 1 ≤ tree_height tree.length) (keeps : Keeps K (look s.known)) (none : K 0 b ≡ None)
+  module _ (S S' : SessionSeen) (distinct : HasDistinctRoots S) (s : TreeState) (at : IsTree S n tree s) (tall : 1 ≤ tree_height tree.length)
+      (keeps : Keeps K (look s.known)) (none : K 0 b ≡ None)
       (hashes : List Hash) (ok : IsAccepted tree.length (look s.known) (want_ask tree b) hashes) where
     stored-joined : (c : ℕ) → IsStored S (want_ask tree b) hashes c S' → (later : TreeState) × IsTree S' n tree later
         × (look later.known ≡ joined (look s.known) (claims (want_ask tree b) hashes))
@@ -103,7 +105,8 @@ module _ (n : ℕ) (tree : TreeRoot) (b : ℕ) (in' : b < block_count tree.lengt
     only-memory Mismatch (a, h) = absurd (fault-never Mismatch a h)
     only-memory Unasked (a, h) = absurd (fault-never Unasked a h)
 
-  pub answer-fewer : (S S' : SessionSeen) → HasDistinctRoots S → (s : TreeState) → IsTree S n tree s → 1 ≤ tree_height tree.length → Keeps K (look s.known) → K 0 b ≡ None
+  pub answer-fewer : (S S' : SessionSeen) → HasDistinctRoots S → (s : TreeState) → IsTree S n tree s → 1 ≤ tree_height tree.length → Keeps K (look s.known)
+      → K 0 b ≡ None
       → (hs : Bor (List Hash)) → IsAccepted tree.length (look s.known) (want_ask tree b) hs.now
       → (v : Verdict) → v ≢ verdict.HashRefused NoMemory → Step S (message.Hashes (want_ask tree b) hs) v S' → HasFewerGaps S' n tree K
   answer-fewer S S' distinct s at tall keeps none hs ok (verdict.Stored c) memory h = stored-fewer S S' distinct s at tall keeps none hs.now ok c h
@@ -112,8 +115,10 @@ module _ (n : ℕ) (tree : TreeRoot) (b : ℕ) (in' : b < block_count tree.lengt
   answer-fewer S S' distinct s at tall keeps none hs ok v memory h = absurd h
 
 -- a run of messages that ends with the true answer, not refused out of memory, leaves fewer gaps, or a collision is named
-pub round : (S : SessionSeen) → HasDistinctRoots S → (ms : List Message) (vs : List Verdict) (S₁ S₂ : SessionSeen) (n : ℕ) (tree : TreeRoot) (s : TreeState) (b : ℕ) (f : List ℕ)
-    → HasClosedTrees S → All HasHashes ms → Chain Step S ms vs S₁ → IsTree S n tree s → (in' : b < block_count tree.length) → look s.known 0 b ≡ None → Fits f tree
+pub round : (S : SessionSeen) → HasDistinctRoots S → (ms : List Message) (vs : List Verdict) (S₁ S₂ : SessionSeen) (n : ℕ) (tree : TreeRoot) (s : TreeState)
+    (b : ℕ) (f : List ℕ)
+    → HasClosedTrees S → All HasHashes ms → Chain Step S ms vs S₁ → IsTree S n tree s → (in' : b < block_count tree.length) → look s.known 0 b ≡ None
+    → Fits f tree
     → (hs : Bor (List Hash)) → hs.now ≡ answer_of (tree_height tree.length) (whole f) (want_ask tree b)
     → (v : Verdict) → v ≢ verdict.HashRefused NoMemory → Step S₁ (message.Hashes (want_ask tree b) hs) v S₂
     → HasFewerGaps S₂ n tree (look s.known) ⊎ ((s₁ : TreeState) × IsTree S₁ n tree s₁ × Collision (whole f) (look s₁.known))

@@ -59,7 +59,8 @@ module _ (S : SessionSeen) (closed_trees : HasClosedTrees S) where
   stored-keeps ask hashes c S' h l i v e = h.taken.1.joined_is l i ∙ joined-keeps (look h.asked.state.known) (claims ask hashes) l i v e
 
   -- the torrent's trees stay
-  before : {S' : SessionSeen} {ts : List TreeState} (k : ℕ) (tree : TreeRoot) → S' ≡ record S { trees = ts } → slice_get (roots S') k ≡ Some tree → slice_get (roots S) k ≡ Some tree
+  before : {S' : SessionSeen} {ts : List TreeState} (k : ℕ) (tree : TreeRoot) → S' ≡ record S { trees = ts } → slice_get (roots S') k ≡ Some tree
+      → slice_get (roots S) k ≡ Some tree
   before k tree e at = ap (λ U. slice_get (roots U) k) (sym e) ∙ at
 
   one_tree : (n k : ℕ) (a b : TreeRoot) → k ≡ n → slice_get (roots S) k ≡ Some a → slice_get (roots S) n ≡ Some b → a ≡ b
@@ -67,14 +68,18 @@ module _ (S : SessionSeen) (closed_trees : HasClosedTrees S) where
 
   closed-stored : (ask : Ask) (hashes : List Hash) (c : ℕ) (S' : SessionSeen) → All IsHash hashes → IsStored S ask hashes c S' → HasClosedTrees S'
   closed-stored ask hashes c S' all h = record {
-    count = ap (λ U. length U.trees) h.state_after ∙ length-set S.trees h.asked.number h.after ∙ closed_trees.count ∙ ap (λ U. length (roots U)) (sym h.state_after);
+    count = ap (λ U. length U.trees) h.state_after ∙ length-set S.trees h.asked.number h.after ∙ closed_trees.count
+        ∙ ap (λ U. length (roots U)) (sym h.state_after);
     closed = λ k tree s at. elim (set-read S.trees h.asked.number k h.after s (ap (λ U. slice_get U.trees k) (sym h.state_after) ∙ at.state_is)) [
-      | inl (same, is) ↦ subst₂ (λ tr st. IsClosed tr (look st.known)) (sym (one_tree h.asked.number k tree h.asked.tree same (before k tree (h.state_after) at.tree_is) h.asked.is_tree.tree_is)) (sym is) (stored-closed ask hashes c S' all h)
+      | inl (same, is) ↦ subst₂ (λ tr st. IsClosed tr (look st.known))
+          (sym (one_tree h.asked.number k tree h.asked.tree same (before k tree (h.state_after) at.tree_is) h.asked.is_tree.tree_is)) (sym is)
+          (stored-closed ask hashes c S' all h)
       | inr (other, old) ↦ closed_trees.closed k tree s (record { tree_is = before k tree (h.state_after) at.tree_is; state_is = old })
     ];
     marks = λ k tree s at i marked. elim (set-read S.trees h.asked.number k h.after s (ap (λ U. slice_get U.trees k) (sym h.state_after) ∙ at.state_is)) [
       | inl (same, is) ↦
-          let (v, e) = closed_trees.marks h.asked.number h.asked.tree h.asked.state h.asked.is_tree i (ap (λ m. leaves.contains m i) (sym h.marks_stay) ∙ ap (λ st. leaves.contains st.marked i) (sym is) ∙ marked) in
+          let (v, e) = closed_trees.marks h.asked.number h.asked.tree h.asked.state h.asked.is_tree i (ap (λ m. leaves.contains m i) (sym h.marks_stay)
+              ∙ ap (λ st. leaves.contains st.marked i) (sym is) ∙ marked) in
           (v, ap (λ st. look st.known 0 i) is ∙ stored-keeps ask hashes c S' h 0 i v e)
       | inr (other, old) ↦ closed_trees.marks k tree s (record { tree_is = before k tree (h.state_after) at.tree_is; state_is = old }) i marked
     ];
@@ -93,7 +98,8 @@ step-closed S m S' closed_trees all (unchanged e) = subst HasClosedTrees (sym e)
 step-closed S m S' closed_trees all (stored ask hashes c has h) = closed-stored S closed_trees ask hashes c S' (has all) h
 step-closed S m S' closed_trees all (taken index begin bytes v h) = chain-closed v.file S _ v.refusals S' closed_trees h.each
 
-pub step-learns : (S : SessionSeen) (m : Message) (S' : SessionSeen) → Effect S m S' → (n : ℕ) (tree : TreeRoot) (s : TreeState) → IsTree S n tree s → Learns S S' n tree s
+pub step-learns : (S : SessionSeen) (m : Message) (S' : SessionSeen) → Effect S m S' → (n : ℕ) (tree : TreeRoot) (s : TreeState) → IsTree S n tree s
+    → Learns S S' n tree s
 step-learns S m S' (unchanged e) n tree s at = record {
   later = s;
   later_is = subst (λ U. IsTree U n tree s) (sym e) at;
@@ -111,7 +117,8 @@ step-learns S m S' (stored ask hashes c has h) n tree s at = elim (cases_eq n h.
   }
   | inr other ↦ record {
     later = s;
-    later_is = record { tree_is = ap (λ U. slice_get (roots U) n) h.state_after ∙ at.tree_is; state_is = ap (λ U. slice_get U.trees n) h.state_after ∙ set-other S.trees h.asked.number n h.after s other at.state_is };
+    later_is = record { tree_is = ap (λ U. slice_get (roots U) n) h.state_after ∙ at.tree_is; state_is = ap (λ U. slice_get U.trees n) h.state_after
+        ∙ set-other S.trees h.asked.number n h.after s other at.state_is };
     keeps = λ l i v k. k;
   }
 ]
@@ -124,7 +131,8 @@ verdict-true S (message.Piece index begin bytes) (verdict.Blocks v) S' closed_tr
 verdict-true S m v S' closed_trees h = tt
 
 -- a run keeps the trees closed, and each of its verdicts keeps its promise
-pub run-true : (S : SessionSeen) (ms : List Message) (vs : List Verdict) (S' : SessionSeen) → HasClosedTrees S → All HasHashes ms → Chain Step S ms vs S' → Chain IsTrueStep S ms vs S' × HasClosedTrees S'
+pub run-true : (S : SessionSeen) (ms : List Message) (vs : List Verdict) (S' : SessionSeen) → HasClosedTrees S → All HasHashes ms → Chain Step S ms vs S'
+    → Chain IsTrueStep S ms vs S' × HasClosedTrees S'
 run-true S [] [] S' closed_trees all e = (e, subst HasClosedTrees (sym e) closed_trees)
 run-true S [] (v ∷ vs) S' closed_trees all e = absurd e
 run-true S (m ∷ ms) [] S' closed_trees all e = absurd e

@@ -1,5 +1,6 @@
 -- Each step of a closed_trees state does no harm, and so does a run of steps.
-use Rattle.std.proofs.Common.{◌≡◌, ◌⊎◌, ℕ, Result, Ok, Err, IfOk, IfErr, List, [], ◌∷◌, length, get_or, Some, None, ◌<◌, inl, inr, refl, sym, ap, ◌∙◌, subst, subst₂, arith}
+use Rattle.std.proofs.Common.{◌≡◌, ◌⊎◌, ℕ, Result, Ok, Err, IfOk, IfErr, List, [], ◌∷◌, length, get_or, Some, None, ◌<◌, inl, inr, refl, sym, ap, ◌∙◌, subst}
+use Rattle.std.proofs.Common.{subst₂, arith}
 use Rattle.std.specs.Prelude.{map, slice_get}
 use Rattle.std.specs.FinMap.{empty}
 use Rattle.std.specs.FinSet as leaves
@@ -22,7 +23,8 @@ use Rattle.node_maps.specs.Places.{PartialTree, IsKnown}
 use Rattle.partial_tree.specs.Closed.{Collision, whole}
 use Rattle.partial_tree.specs.Claims.{IsAccepted, Refuses}
 use Rattle.node_maps.specs.Known.{Known, look}
-use Rattle.session.specs.Session.{SessionSeen, TreeState, IsTree, HasClosedTrees, IsAsked, IsPlaced, IsStored, IsVerified, IsBlock, AreBlocks, AreTaken, AreRefused, IsHashRefused, IsBlockRefused, HasDistinctRoots, Step}
+use Rattle.session.specs.Session.{SessionSeen, TreeState, IsTree, HasClosedTrees, IsAsked, IsPlaced, IsStored, IsVerified, IsBlock, AreBlocks, AreTaken}
+use Rattle.session.specs.Session.{AreRefused, IsHashRefused, IsBlockRefused, HasDistinctRoots, Step}
 use Rattle.session.specs.Blocks.{BlocksSeen, Cut}
 use Rattle.session.specs.Layouts.{roots, root_of_entry, tree_of}
 use Rattle.partial_tree.proofs.Whole.{whole-closed}
@@ -35,7 +37,8 @@ use Rattle.session.proofs.Entries.{Later, same_tree, same_state, step-known, nev
 use Rattle.session.proofs.Runs.{run-learns, verdict-true}
 use Rattle.session.proofs.OneGap.{wanted-closes}
 use Rattle.session.specs.Wanted.{ClosesOneGap}
-use Rattle.session.specs.SafeStep.{KeepsKnown, AreTrueHashes, StoresTrueHashes, IsAnswerFrom, StoresAnswers, IsNoRun, VerifiesTrueBlock, VerifiesTrueBlocks, TakesWhatIsTrue, IsSafeStep}
+use Rattle.session.specs.SafeStep.{KeepsKnown, AreTrueHashes, StoresTrueHashes, IsAnswerFrom, StoresAnswers, IsNoRun, VerifiesTrueBlock, VerifiesTrueBlocks}
+use Rattle.session.specs.SafeStep.{TakesWhatIsTrue, IsSafeStep}
 
 keeps_known : (S : SessionSeen) (m : Message) (v : Verdict) (S' : SessionSeen) → Step S m v S' → KeepsKnown S S'
 keeps_known S m v S' step n tree s at =
@@ -48,7 +51,8 @@ module _ (S : SessionSeen) (distinct : HasDistinctRoots S) (ask : Ask) (hashes :
     (n : ℕ) (tree : TreeRoot) (s : TreeState) (J : PartialTree) (at : IsTree S n tree s) (root : tree.root ≡ ask.root)
     (accepted : IsAccepted tree.length (look s.known) ask hashes ⊎ Collision J (look s.known)) where
   -- the tree that the ask names is this one
-  refuses_this : (r : HashRefusal) → (a : IsAsked S ask) × Refuses a.tree.length (look a.state.known) ask hashes r → Refuses tree.length (look s.known) ask hashes r
+  refuses_this : (r : HashRefusal) → (a : IsAsked S ask) × Refuses a.tree.length (look a.state.known) ask hashes r
+      → Refuses tree.length (look s.known) ask hashes r
   refuses_this r (a, refused) =
       let same : a.number ≡ n = distinct a.number n a.tree tree a.is_tree.tree_is at.tree_is (a.has_root ∙ sym root) in
       let one : a.tree ≡ tree = same_Some a.tree tree (sym a.is_tree.tree_is ∙ ap (slice_get (roots S)) same ∙ at.tree_is) in
@@ -74,7 +78,8 @@ module _ (S : SessionSeen) (distinct : HasDistinctRoots S) (ask : Ask) (hashes :
   hashes_taken Mismatch h = never Mismatch h
   hashes_taken Unasked h = never Unasked h
 
-true_accepted : (S : SessionSeen) → HasClosedTrees S → (ask : Ask) (hashes : List Hash) (n : ℕ) (tree : TreeRoot) (s : TreeState) (f : List ℕ) → IsTree S n tree s
+true_accepted : (S : SessionSeen) → HasClosedTrees S → (ask : Ask) (hashes : List Hash) (n : ℕ) (tree : TreeRoot) (s : TreeState) (f : List ℕ)
+    → IsTree S n tree s
     → AreTrueHashes f tree s ask hashes → IsAccepted tree.length (look s.known) ask hashes ⊎ Collision (whole f) (look s.known)
 true_accepted S closed_trees ask hashes n tree s f at are =
     stored_or_collision tree (whole f) (look s.known) ask hashes (whole-closed f tree are.fits) (closed_trees.closed n tree s at)
@@ -84,7 +89,8 @@ pub hashes-stored : (S : SessionSeen) → HasClosedTrees S → HasDistinctRoots 
     → IfOk r (λ c. IsStored S ask hashes c S') → IfErr r (λ x. IsHashRefused S ask hashes x × (S' ≡ S)) → StoresTrueHashes S ask hashes r
 hashes-stored S closed_trees distinct ask hashes (Ok c) S' stored refused = λ n tree s f at are. inl (c, refl)
 hashes-stored S closed_trees distinct ask hashes (Err x) S' stored refused =
-    λ n tree s f at are. hashes_taken S distinct ask hashes n tree s (whole f) at are.has_root (true_accepted S closed_trees ask hashes n tree s f at are) x refused.0
+    λ n tree s f at are. hashes_taken S distinct ask hashes n tree s (whole f) at are.has_root (true_accepted S closed_trees ask hashes n tree s f at are) x
+        refused.0
 
 -- ---- answers of another session
 
@@ -96,23 +102,28 @@ state_of_tree S closed_trees n tree at =
     let none : TreeState = record { known = empty; marked = leaves.empty } in
     (get_or S.trees n none, record { tree_is = at; state_is = slice_get-get_or S.trees n none low })
 
-answer_accepted : (S J : SessionSeen) → HasClosedTrees S → (ask : Ask) (hashes : List Hash) (from : IsAnswerFrom S.torrent J ask hashes) (s : TreeState) → IsTree S from.asked.number from.asked.tree s
+answer_accepted : (S J : SessionSeen) → HasClosedTrees S → (ask : Ask) (hashes : List Hash) (from : IsAnswerFrom S.torrent J ask hashes) (s : TreeState)
+    → IsTree S from.asked.number from.asked.tree s
     → IsAccepted from.asked.tree.length (look s.known) ask hashes ⊎ Collision (look from.asked.state.known) (look s.known)
 answer_accepted S J closed_trees ask hashes from s at =
     subst (λ hs. IsAccepted from.asked.tree.length (look s.known) ask hs ⊎ Collision (look from.asked.state.known) (look s.known)) (sym from.hashes_are)
-    (answer-stored from.asked.tree (look from.asked.state.known) (look s.known) ask (from.closed.closed from.asked.number from.asked.tree from.asked.state from.asked.is_tree)
+    (answer-stored from.asked.tree (look from.asked.state.known) (look s.known) ask (from.closed.closed from.asked.number from.asked.tree from.asked.state
+        from.asked.is_tree)
     (closed_trees.closed from.asked.number from.asked.tree s at) from.can from.enough)
 
 -- the tree that was asked is one of this session's too
-same_tree_at : (S J : SessionSeen) (ask : Ask) (hashes : List Hash) (from : IsAnswerFrom S.torrent J ask hashes) → slice_get (roots S) from.asked.number ≡ Some from.asked.tree
-same_tree_at S J ask hashes from = ap (λ (d : Description). slice_get (map root_of_entry d.trees) from.asked.number) (sym from.same) ∙ from.asked.is_tree.tree_is
+same_tree_at : (S J : SessionSeen) (ask : Ask) (hashes : List Hash) (from : IsAnswerFrom S.torrent J ask hashes)
+    → slice_get (roots S) from.asked.number ≡ Some from.asked.tree
+same_tree_at S J ask hashes from = ap (λ (d : Description). slice_get (map root_of_entry d.trees) from.asked.number) (sym from.same)
+    ∙ from.asked.is_tree.tree_is
 
 pub answers-stored : (S : SessionSeen) → HasClosedTrees S → HasDistinctRoots S → (ask : Ask) (hashes : List Hash) (r : Result ℕ HashRefusal) (S' : SessionSeen)
     → IfOk r (λ c. IsStored S ask hashes c S') → IfErr r (λ x. IsHashRefused S ask hashes x × (S' ≡ S)) → StoresAnswers S ask hashes r
 answers-stored S closed_trees distinct ask hashes (Ok c) S' stored refused = λ J from. inl (c, refl)
 answers-stored S closed_trees distinct ask hashes (Err x) S' stored refused = λ J from.
     let (s, at) = state_of_tree S closed_trees from.asked.number from.asked.tree (same_tree_at S J ask hashes from) in
-    elim (hashes_taken S distinct ask hashes from.asked.number from.asked.tree s (look from.asked.state.known) at from.asked.has_root (answer_accepted S J closed_trees ask hashes from s at) x refused.0) [
+    elim (hashes_taken S distinct ask hashes from.asked.number from.asked.tree s (look from.asked.state.known) at from.asked.has_root
+        (answer_accepted S J closed_trees ask hashes from s at) x refused.0) [
       | inl taken ↦ inl taken
       | inr other ↦ inr (elim other [ inl memory ↦ inl memory | inr collision ↦ inr (s, at, collision) ])
     ]
@@ -158,7 +169,8 @@ module _ (S : SessionSeen) (closed_trees : HasClosedTrees S) (index begin : ℕ)
   refused_elsewhere : (r : BlockRefusal) → (q : IsPlaced S index begin)
       → RefusesBlock q.in_file.tree.length (look q.in_file.state.known) q.number bytes r
       → Collision (whole f) (look p.in_file.state.known)
-  refused_elsewhere r q refused = never-refused S closed_trees p.file p.number bytes p.in_file f fits is_block known r (refused_there S index begin p q bytes r refused)
+  refused_elsewhere r q refused = never-refused S closed_trees p.file p.number bytes p.in_file f fits is_block known r
+      (refused_there S index begin p q bytes r refused)
 
   block_refused : (r : BlockRefusal) → IsBlockRefused S index begin bytes r → Collision (whole f) (look p.in_file.state.known)
   block_refused BadPlace h = absurd (none-some (p.file, p.number) (sym h ∙ p.at))
@@ -194,7 +206,8 @@ block-keeps S index begin bytes (Err x) S' was refused = same-keeps S S' refused
 pub block-is : (S : SessionSeen) → HasClosedTrees S → (index begin : ℕ) (bytes : List ℕ) (r : Result (ℕ × ℕ) BlockRefusal) (S' : SessionSeen)
     → IfOk r (λ p. IsVerified S index begin bytes p.0 p.1 S') → IfOk r (λ p. IsBlock S index begin bytes p.0 p.1)
 block-is S closed_trees index begin bytes (Ok (file, b)) S' (at, h) =
-    (at, says-block S closed_trees file (one_cut b bytes) h.in_file.tree_number h.in_file.tree h.in_file.state h.in_file.of_file h.in_file.is_tree (h.in_file.inside, h.leaf_known))
+    (at, says-block S closed_trees file (one_cut b bytes) h.in_file.tree_number h.in_file.tree h.in_file.state h.in_file.of_file h.in_file.is_tree
+        (h.in_file.inside, h.leaf_known))
 block-is S closed_trees index begin bytes (Err x) S' was = tt
 
 -- ---- several blocks

@@ -1,5 +1,6 @@
 -- The trees of a session beside the state that contracts see.
-use Rattle.std.proofs.Common.{◌≡◌, ◌≢◌, ◌⊎◌, inl, inr, ℕ, ◌<◌, true, List, map, length, set, get_or, Option, Some, None, option_map, Result, Ok, Err, IfOk, IfErr, OnErr, refl, sym, ap, ap₂, ◌∙◌, subst, subst₂, arith}
+use Rattle.std.proofs.Common.{◌≡◌, ◌≢◌, ◌⊎◌, inl, inr, ℕ, ◌<◌, true, List, map, length, set, get_or, Option, Some, None, option_map, Result, Ok, Err, IfOk}
+use Rattle.std.proofs.Common.{IfErr, OnErr, refl, sym, ap, ap₂, ◌∙◌, subst, subst₂, arith}
 use Rattle.std.specs.Prelude.{slice_get}
 use Rattle.std.specs.FinSet as leaves
 use Rattle.std.proofs.lemmas.Option.{none-some, same_Some, slice_get_within, slice_get-get_or, get_or_from_slice_get, slice_get-map}
@@ -24,8 +25,10 @@ use Rattle.node_maps.specs.Places.{tree_height, IsKnown}
 use Rattle.partial_tree.specs.Closed.{IsClosed}
 use Rattle.partial_tree.specs.Claims.{TreeRefuses, CanAnswer}
 use Rattle.node_maps.specs.Known.{look}
-use Rattle.partial_tree.specs.Kept.{TreeState, KeptTree, info_of, IsGoodTree, TreeTakesHashes, TreeRefusesHashes, TreeTakesLayer, TreeRefusesLayer, TreeMarks, TreeRefusesBlock}
-use Rattle.session.specs.Session.{IsTree, HasClosedTrees, HasDistinctRoots, IsStored, IsHashRefused, IsAnswered, IsInFile, IsMarkedBlock, IsUnmarkedBlock, BlockStep, AreTaken, IsBlockRefused, IsFilled, IsFillRefused}
+use Rattle.partial_tree.specs.Kept.{TreeState, KeptTree, info_of, IsGoodTree, TreeTakesHashes, TreeRefusesHashes, TreeTakesLayer, TreeRefusesLayer, TreeMarks}
+use Rattle.partial_tree.specs.Kept.{TreeRefusesBlock}
+use Rattle.session.specs.Session.{IsTree, HasClosedTrees, HasDistinctRoots, IsStored, IsHashRefused, IsAnswered, IsInFile, IsMarkedBlock, IsUnmarkedBlock}
+use Rattle.session.specs.Session.{BlockStep, AreTaken, IsBlockRefused, IsFilled, IsFillRefused}
 use Rattle.partial_tree.specs.declared.answer.Answer.{Answer}
 use Rattle.partial_tree.specs.declared.answer.Answer.TheVariants as answer
 use Rattle.partial_tree.specs.Answers.{IsTreeAnswer}
@@ -95,13 +98,19 @@ module _ (d : Description) (ts : List KeptTree) (kept : AreKept d ts) where
   pub refused_in : (o : AskSet) → (n : ℕ) (a : KeptTree) (ask : Ask) (hashes : List Hash) (r : HashRefusal) → slice_get ts n ≡ Some a → a.root ≡ ask.root
       → TreeRefuses a.length (look a.state.known) ask hashes r → IsHashRefused (seen d o ts) ask hashes r
   refused_in o n a ask hashes UnknownRoot e root refused = absurd refused.fault
-  refused_in o n a ask hashes BadRange e root refused = (record { number = n; tree = info_of a; state = a.state; is_tree = tree_at o n a e; has_root = root }, refused)
-  refused_in o n a ask hashes BadCount e root refused = (record { number = n; tree = info_of a; state = a.state; is_tree = tree_at o n a e; has_root = root }, refused)
-  refused_in o n a ask hashes BadPad e root refused = (record { number = n; tree = info_of a; state = a.state; is_tree = tree_at o n a e; has_root = root }, refused)
-  refused_in o n a ask hashes Unanchored e root refused = (record { number = n; tree = info_of a; state = a.state; is_tree = tree_at o n a e; has_root = root }, refused)
-  refused_in o n a ask hashes Mismatch e root refused = (record { number = n; tree = info_of a; state = a.state; is_tree = tree_at o n a e; has_root = root }, refused)
+  refused_in o n a ask hashes BadRange e root refused = (record { number = n; tree = info_of a; state = a.state; is_tree = tree_at o n a e; has_root = root },
+      refused)
+  refused_in o n a ask hashes BadCount e root refused = (record { number = n; tree = info_of a; state = a.state; is_tree = tree_at o n a e; has_root = root },
+      refused)
+  refused_in o n a ask hashes BadPad e root refused = (record { number = n; tree = info_of a; state = a.state; is_tree = tree_at o n a e; has_root = root },
+      refused)
+  refused_in o n a ask hashes Unanchored e root refused = (record { number = n; tree = info_of a; state = a.state; is_tree = tree_at o n a e; has_root = root },
+      refused)
+  refused_in o n a ask hashes Mismatch e root refused = (record { number = n; tree = info_of a; state = a.state; is_tree = tree_at o n a e; has_root = root },
+      refused)
   refused_in o n a ask hashes Unasked e root refused = absurd refused.fault
-  refused_in o n a ask hashes NoMemory e root refused = (record { number = n; tree = info_of a; state = a.state; is_tree = tree_at o n a e; has_root = root }, refused)
+  refused_in o n a ask hashes NoMemory e root refused = (record { number = n; tree = info_of a; state = a.state; is_tree = tree_at o n a e; has_root = root },
+      refused)
 
   -- no kept tree has the root
   pub unknown_in : (o : AskSet) → (ask : Ask) (hashes : List Hash) → ((n : ℕ) (a : KeptTree) → slice_get ts n ≡ Some a → a.root ≢ ask.root)
@@ -117,13 +126,15 @@ state_stays ts n a b e same = map-set_same state_of ts n b a
     (ap state_of (same ∙ sym (get_or_from_slice_get ts n a a e)))
 
 module _ (d : Description) (ts : List KeptTree) (kept : AreKept d ts) where
-  pub stored_all : (o : AskSet) → (n : ℕ) (a b : KeptTree) (ask : Ask) (hashes : List Hash) (r : Result ℕ HashRefusal) → slice_get ts n ≡ Some a → a.root ≡ ask.root
+  pub stored_all : (o : AskSet) → (n : ℕ) (a b : KeptTree) (ask : Ask) (hashes : List Hash) (r : Result ℕ HashRefusal) → slice_get ts n ≡ Some a
+      → a.root ≡ ask.root
       → IfOk r (λ c. TreeTakesHashes a ask hashes c b)
       → IfOk r (λ c. IsStored (seen d o ts) ask hashes c (seen d o (set ts n b)))
   stored_all o n a b ask hashes (Ok c) e root h = stored_in d ts kept o n a b ask hashes c e root h
   stored_all o n a b ask hashes (Err x) e root h = tt
 
-  pub refused_all : (o : AskSet) → (n : ℕ) (a b : KeptTree) (ask : Ask) (hashes : List Hash) (r : Result ℕ HashRefusal) → slice_get ts n ≡ Some a → a.root ≡ ask.root
+  pub refused_all : (o : AskSet) → (n : ℕ) (a b : KeptTree) (ask : Ask) (hashes : List Hash) (r : Result ℕ HashRefusal) → slice_get ts n ≡ Some a
+      → a.root ≡ ask.root
       → IfErr r (λ x. TreeRefusesHashes a ask hashes x × (b ≡ a))
       → IfErr r (λ x. IsHashRefused (seen d o ts) ask hashes x ×
       (seen d o (set ts n b) ≡ seen d o ts))
@@ -155,14 +166,16 @@ module _ (d : Description) (ts : List KeptTree) (kept : AreKept d ts) where
         subst₂ (λ r s. CanAnswer (tree_height r.length) (look s.known) ask) tree state can
 
     -- the tree of a file
-    pub tree_for : (file tr : ℕ) (f : FileEntry) → slice_get d.files file ≡ Some f → f.tree ≡ Some tr → (a : KeptTree) × (slice_get ts tr ≡ Some a) × (a.length ≡ f.length)
+    pub tree_for : (file tr : ℕ) (f : FileEntry) → slice_get d.files file ≡ Some f → f.tree ≡ Some tr → (a : KeptTree) × (slice_get ts tr ≡ Some a)
+        × (a.length ≡ f.length)
     tree_for file tr f there is =
         let e = (sound.files file f there).tree_there tr is in
         let x = mapped info_of (slice_get ts tr) (root_of_entry e.0)
         (sym (slice_get-map info_of ts tr) ∙ ap (λ l. slice_get l tr) kept.same ∙ slice_get-map root_of_entry d.trees tr ∙ ap (option_map root_of_entry) e.1) in
         (x.0, x.1, ap (λ t. t.length) x.2 ∙ e.2)
 
-    pub same_length : (file tr : ℕ) (f : FileEntry) (a : KeptTree) → slice_get d.files file ≡ Some f → f.tree ≡ Some tr → slice_get ts tr ≡ Some a → a.length ≡ f.length
+    pub same_length : (file tr : ℕ) (f : FileEntry) (a : KeptTree) → slice_get d.files file ≡ Some f → f.tree ≡ Some tr → slice_get ts tr ≡ Some a
+        → a.length ≡ f.length
     same_length file tr f a there is e =
         let x = tree_for file tr f there is in
         ap (λ t. t.length) (same_Some a x.0 (sym e ∙ x.1)) ∙ x.2
@@ -238,7 +251,8 @@ module _ (d : Description) (ts : List KeptTree) (kept : AreKept d ts) where
   )
 
   -- the length of a tree's files is that of its entry
-  pub length_at : (o : AskSet) (n k : ℕ) (a : KeptTree) → slice_get ts n ≡ Some a → ((e : TreeEntry) → slice_get d.trees n ≡ Some e → k ≡ e.length) → k ≡ a.length
+  pub length_at : (o : AskSet) (n k : ℕ) (a : KeptTree) → slice_get ts n ≡ Some a → ((e : TreeEntry) → slice_get d.trees n ≡ Some e → k ≡ e.length)
+      → k ≡ a.length
   length_at o n k a at is =
       let x = mapped root_of_entry (slice_get d.trees n) (info_of a) (sym (slice_get-map root_of_entry d.trees n) ∙ (tree_at d ts kept o n a at).tree_is) in
       is x.0 x.1 ∙ ap (λ (t : TreeRoot). t.length) x.2
@@ -253,7 +267,8 @@ module _ (d : Description) (ts : List KeptTree) (kept : AreKept d ts) where
 -- ---- answers and what is wanted
 
 module _ (d : Description) (ts : List KeptTree) (kept : AreKept d ts) where
-  pub answer_all : (o : AskSet) → (sound : IsSound d) {E : Type 0} (n : ℕ) (a : KeptTree) (ask : Ask) (r : Result Answer E) → slice_get ts n ≡ Some a → a.root ≡ ask.root
+  pub answer_all : (o : AskSet) → (sound : IsSound d) {E : Type 0} (n : ℕ) (a : KeptTree) (ask : Ask) (r : Result Answer E) → slice_get ts n ≡ Some a
+      → a.root ≡ ask.root
       → IfOk r (IsTreeAnswer (tree_height a.length) (look a.state.known) ask) → IfOk r (IsAnswerTo (seen d o ts) ask)
   answer_all o sound n a ask (Err x) e root h = tt
   answer_all o sound n a ask (Ok (answer.Hashes hashes)) e root h =
@@ -278,7 +293,8 @@ none_or_some None = inr refl
 none_or_some (Some n) = inl (n, refl)
 
 -- a file that has a block has a tree
-pub has_tree : (d : Description) → IsSound d → (file b : ℕ) (f : FileEntry) → slice_get d.files file ≡ Some f → b < block_count f.length → (n : ℕ) × (f.tree ≡ Some n)
+pub has_tree : (d : Description) → IsSound d → (file b : ℕ) (f : FileEntry) → slice_get d.files file ≡ Some f → b < block_count f.length
+    → (n : ℕ) × (f.tree ≡ Some n)
 has_tree d sound file b f there low = elim (none_or_some f.tree) [
   | inl tree ↦ tree
   | inr none ↦
@@ -287,7 +303,8 @@ has_tree d sound file b f there low = elim (none_or_some f.tree) [
 ]
 
 -- the tree of a block of a file
-pub in_file_of : (o : AskSet) → (d : Description) (ts : List KeptTree) (kept : AreKept d ts) (sound : IsSound d) (file b : ℕ) (f : FileEntry) → slice_get d.files file ≡ Some f → b < block_count f.length
+pub in_file_of : (o : AskSet) → (d : Description) (ts : List KeptTree) (kept : AreKept d ts) (sound : IsSound d) (file b : ℕ) (f : FileEntry)
+    → slice_get d.files file ≡ Some f → b < block_count f.length
     → (p : IsInFile (seen d o ts) file b) × (p.tree.length ≡ f.length)
 in_file_of o d ts kept sound file b f there low =
     let (tr, is) = has_tree d sound file b f there low in
@@ -295,7 +312,8 @@ in_file_of o d ts kept sound file b f there low =
     (in_file d ts kept file b tr f x.0 there is x.1 (subst (λ n. b < block_count n) (sym x.2) low) o, x.2)
 
 -- a block that is not marked is refused at its place
-pub refused_at : (S : SessionSeen) (index begin file b : ℕ) (bytes : List ℕ) (r : BlockRefusal) → place_of S.torrent index begin ≡ Some (file, b) → IsUnmarkedBlock S file b bytes r
+pub refused_at : (S : SessionSeen) (index begin file b : ℕ) (bytes : List ℕ) (r : BlockRefusal) → place_of S.torrent index begin ≡ Some (file, b)
+    → IsUnmarkedBlock S file b bytes r
     → IsBlockRefused S index begin bytes r
 refused_at S index begin file b bytes BadPlace at (p, h) = absurd h
 refused_at S index begin file b bytes BadSize at (p, h) = (record { file = file; number = b; at = at; in_file = p }, h)
@@ -303,7 +321,8 @@ refused_at S index begin file b bytes Unproved at (p, h) = (record { file = file
 refused_at S index begin file b bytes BadBlock at (p, h) = (record { file = file; number = b; at = at; in_file = p }, h)
 
 -- blocks that were marked one after the other are taken
-pub taken_at : (S : SessionSeen) (index begin file first count : ℕ) (bytes : List ℕ) (v : BlocksSeen) (S' : SessionSeen) → place_of S.torrent index begin ≡ Some (file, first)
+pub taken_at : (S : SessionSeen) (index begin file first count : ℕ) (bytes : List ℕ) (v : BlocksSeen) (S' : SessionSeen)
+    → place_of S.torrent index begin ≡ Some (file, first)
     → (p : IsInFile S file first) → IsBlockRun p.tree.length first (length bytes) count → v.file ≡ file → v.first ≡ first → length v.refusals ≡ count
     → Chain (BlockStep file) S (cuts first bytes count) v.refusals S' → AreTaken S index begin bytes v S'
 taken_at S index begin file first count bytes v S' at p run file_is first_is count_is each =

@@ -6,7 +6,8 @@ use Rattle.std.proofs.lemmas.List.{length-set, get_or-set_same, get_or-set_other
 use Rattle.std.proofs.lemmas.Bool.{cases_eq}
 use Rattle.session.specs.Session.{TreeState}
 
-pub set-read : (ts : List TreeState) (n k : ℕ) (a s : TreeState) → slice_get (set ts n a) k ≡ Some s → ((k ≡ n) × (s ≡ a)) ⊎ ((k ≢ n) × (slice_get ts k ≡ Some s))
+pub set-read : (ts : List TreeState) (n k : ℕ) (a s : TreeState) → slice_get (set ts n a) k ≡ Some s → ((k ≡ n) × (s ≡ a))
+    ⊎ ((k ≢ n) × (slice_get ts k ≡ Some s))
 set-read ts n k a s e =
     let in' : k < length (set ts n a) = slice_get_within (set ts n a) k s e in
     let len : length (set ts n a) ≡ length ts = length-set ts n a in

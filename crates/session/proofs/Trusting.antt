@@ -23,7 +23,8 @@ use Rattle.session.specs.SafeStep.{KeepsKnown, StoresTrueHashes, StoresAnswers, 
 use Rattle.session.specs.Wanted.{WantedClosesOneGap}
 use Rattle.session.specs.Rounds.{Collides}
 use Rattle.session.specs.Noted.{IsSafeNotedStep}
-use Rattle.session.specs.Trusted.{AreJoinsOfTrees, HasBlocksOf, IsTrustedBlock, StoresTrusted, StoresTrustedAnswers, TrustedClosesOneGap, TakesTrustedBlock, TakesTrustedHashes, TakesTrustedBlocks, TakesTrusted, TakesTrustedIfAsked, IsTrustedStep, IsTrustedNotedStep}
+use Rattle.session.specs.Trusted.{AreJoinsOfTrees, HasBlocksOf, IsTrustedBlock, StoresTrusted, StoresTrustedAnswers, TrustedClosesOneGap, TakesTrustedBlock}
+use Rattle.session.specs.Trusted.{TakesTrustedHashes, TakesTrustedBlocks, TakesTrusted, TakesTrustedIfAsked, IsTrustedStep, IsTrustedNotedStep}
 use Rattle.session.proofs.MessageBlocks.{run-begins}
 
 -- ---- one call

@@ -17,7 +17,8 @@ use Rattle.session.specs.SafeStep.{StoresTrueHashes, StoresAnswers, TakesTrueBlo
 use Rattle.session.specs.Wanted.{WantedClosesOneGap}
 use Rattle.session.specs.Rounds.{Collides}
 use Rattle.session.specs.Noted.{IsSafeNotedStep}
-use Rattle.session.specs.Trusted.{AreJoinsOfTrees, HasBlocksOf, IsTrustedBlock, StoresTrusted, StoresTrustedAnswers, TrustedClosesOneGap, TakesTrustedBlock, IsTrustedStep, IsTrustedNotedStep}
+use Rattle.session.specs.Trusted.{AreJoinsOfTrees, HasBlocksOf, IsTrustedBlock, StoresTrusted, StoresTrustedAnswers, TrustedClosesOneGap, TakesTrustedBlock}
+use Rattle.session.specs.Trusted.{IsTrustedStep, IsTrustedNotedStep}
 
 -- a verified block is that block of each file that fits
 abbrev pub TrustedBlockIsTheBlock : Type 0

@@ -1,5 +1,6 @@
 -- The bytes of one of several messages, and the block that comes after them.
-use Rattle.std.proofs.Common.{◌≡◌, ℕ, zero, suc, ◌+◌, ◌*◌, ◌/◌, ◌%◌, ◌<◌, ◌≤◌, List, [], ◌∷◌, ◌++◌, length, take, drop, get_or, slice_index, refl, sym, ap, ap₂, ◌∙◌, arith, length-append, length-drop}
+use Rattle.std.proofs.Common.{◌≡◌, ℕ, zero, suc, ◌+◌, ◌*◌, ◌/◌, ◌%◌, ◌<◌, ◌≤◌, List, [], ◌∷◌, ◌++◌, length, take, drop, get_or, slice_index, refl, sym, ap, ap₂}
+use Rattle.std.proofs.Common.{◌∙◌, arith, length-append, length-drop}
 use Rattle.std.proofs.lemmas.List.{append_assoc, drop-append-le, drop-drop, drop_all, drop_at, get_or-drop, get_or-take, length-take-le, take_all, take_at}
 use Rattle.std.proofs.Math.Nat.{mul-le-mul_right}
 use Rattle.std.specs.List.{flat_map}

@@ -8,11 +8,13 @@ drop-field : (n : ℕ) (bytes : List ℕ) → drop n bytes ≡ take 4 (drop n by
 drop-field n bytes = sym (take-append-drop 4 (drop n bytes)) ∙ ap (λ t. take 4 (drop n bytes) ++ t) (drop-drop 4 n bytes)
 
 -- a number that was read at `&bytes[n..]`, and the rest
-pub drop-number : (n k : ℕ) (bytes : List ℕ) → four_bytes k ≡ take 4 (take (length bytes - n) (drop n bytes)) → drop n bytes ≡ four_bytes k ++ drop (n + 4) bytes
+pub drop-number : (n k : ℕ) (bytes : List ℕ) → four_bytes k ≡ take 4 (take (length bytes - n) (drop n bytes))
+    → drop n bytes ≡ four_bytes k ++ drop (n + 4) bytes
 drop-number n k bytes e = drop-field n bytes ∙ ap (λ t. t ++ drop (n + 4) bytes) (sym (e ∙ ap (take 4) (take_rest bytes n)))
 
 -- a root and four numbers
-pub five_fields : (root bytes : List ℕ) (a b c d : ℕ) → root ≡ take 32 bytes → drop 32 bytes ≡ four_bytes a ++ drop 36 bytes → drop 36 bytes ≡ four_bytes b ++ drop 40 bytes
+pub five_fields : (root bytes : List ℕ) (a b c d : ℕ) → root ≡ take 32 bytes → drop 32 bytes ≡ four_bytes a ++ drop 36 bytes
+    → drop 36 bytes ≡ four_bytes b ++ drop 40 bytes
     → drop 40 bytes ≡ four_bytes c ++ drop 44 bytes → drop 44 bytes ≡ four_bytes d ++ drop 48 bytes
     → bytes ≡ (root ++ (four_bytes a ++ (four_bytes b ++ (four_bytes c ++ four_bytes d)))) ++ drop 48 bytes
 five_fields root bytes a b c d front pa pb pc pd =

@@ -1,5 +1,6 @@
 -- The conversion of a record of form 1 is a record of form 2, whose frames mean the same, with requests before hashes.
-use Rattle.std.proofs.Common.{◌≡◌, ◌≢◌, ℕ, ◌-◌, ◌%◌, min, Bool, true, false, leb, eqb, cond, List, [], ◌∷◌, ◌++◌, length, take, drop, All, inl, inr, refl, sym, ap, ◌∙◌, arith, subst, length-take}
+use Rattle.std.proofs.Common.{◌≡◌, ◌≢◌, ℕ, ◌-◌, ◌%◌, min, Bool, true, false, leb, eqb, cond, List, [], ◌∷◌, ◌++◌, length, take, drop, All, inl, inr, refl, sym}
+use Rattle.std.proofs.Common.{ap, ◌∙◌, arith, subst, length-take}
 use Rattle.std.specs.List.{flat_map, AllZip}
 use Rattle.std.proofs.lemmas.Bool.{cases_Bool, false≢true, and_parts, and_from, eqb-true, leb-true, le-leb, eq-eqb}
 use Rattle.std.proofs.lemmas.List.{append-nil, take_at}
@@ -57,14 +58,17 @@ request_means body ask hashes p = record {
 alone : (body : List ℕ) (f : Frame) → Means body f → (is_hashes_body body ≡ true → ⊥) → AllZip MeansDirected (converted body) ((In, f) ∷ [])
 alone body f means not = elim (cases_Bool (is_hashes_body body)) [
   | inl yes' ↦ absurd (not yes')
-  | inr no' ↦ subst (λ b. AllZip MeansDirected (cond b ((Out, request_of body) ∷ (In, body) ∷ []) ((In, body) ∷ [])) ((In, f) ∷ [])) (sym no') ((refl, means), tt)
+  | inr no' ↦ subst (λ b. AllZip MeansDirected (cond b ((Out, request_of body) ∷ (In, body) ∷ []) ((In, body) ∷ [])) ((In, f) ∷ [])) (sym no') ((refl, means),
+      tt)
 ]
 
 pub converted_means : (body : List ℕ) (f : Frame) → Means body f → AllZip MeansDirected (converted body) (converted_frame f)
 converted_means body (frame.Message (message.Hashes ask hashes)) p =
-    subst (λ b. AllZip MeansDirected (cond b ((Out, request_of body) ∷ (In, body) ∷ []) ((In, body) ∷ [])) (converted_frame (frame.Message (message.Hashes ask hashes))))
+    subst (λ b. AllZip MeansDirected (cond b ((Out, request_of body) ∷ (In, body) ∷ []) ((In, body) ∷ []))
+        (converted_frame (frame.Message (message.Hashes ask hashes))))
     (sym (hashes_told body _ p.bytes p.size)) ((refl, request_means body ask hashes.now p), ((refl, p), tt))
-converted_means body (frame.Message message.KeepAlive) p = alone body _ p (λ e. let first = (hashes_are body e).0 in let no : [] ≡ 22 ∷ first.0 = sym p ∙ first.1 in cc)
+converted_means body (frame.Message message.KeepAlive) p = alone body _ p (λ e. let first = (hashes_are body e).0 in let no : [] ≡ 22 ∷ first.0 = sym p
+    ∙ first.1 in cc)
 converted_means body (frame.Message (message.Piece index begin block)) p = alone body _ p (other_id body 7 _ p.bytes (λ e. omega (arith, e)))
 converted_means body (frame.Message (message.Request ask)) p = alone body _ p (other_id body 21 _ p.bytes (λ e. omega (arith, e)))
 converted_means body (frame.Message (message.Reject ask)) p = alone body _ p (other_id body 23 _ p.bytes (λ e. omega (arith, e)))
@@ -74,17 +78,20 @@ converted_means body (frame.BadSize id len) p = alone body _ p (λ e.
     let same : id ≡ 22 = (same_heads id 22 p.0.rest is.0.0 (sym p.0.bytes ∙ is.0.1)).0 in
     p.2 (inr (inr (inl (same, subst IsHashesSize (sym p.0.size) is.1)))))
 
-zip_append : {A B : Type 0} (R : A → B → Type 0) (xs : List A) (ys : List B) (us : List A) (vs : List B) → AllZip R xs ys → AllZip R us vs → AllZip R (xs ++ us) (ys ++ vs)
+zip_append : {A B : Type 0} (R : A → B → Type 0) (xs : List A) (ys : List B) (us : List A) (vs : List B) → AllZip R xs ys → AllZip R us vs
+    → AllZip R (xs ++ us) (ys ++ vs)
 zip_append R [] [] us vs p q = q
 zip_append R [] (y ∷ ys) us vs p q = absurd p
 zip_append R (x ∷ xs) [] us vs p q = absurd p
 zip_append R (x ∷ xs) (y ∷ ys) us vs p q = (p.0, zip_append R xs ys us vs p.1 q)
 
-pub conversion_means : (bodies : List (List ℕ)) (frames : List Frame) → AllZip Means bodies frames → AllZip MeansDirected (conversion bodies) (flat_map converted_frame frames)
+pub conversion_means : (bodies : List (List ℕ)) (frames : List Frame) → AllZip Means bodies frames
+    → AllZip MeansDirected (conversion bodies) (flat_map converted_frame frames)
 conversion_means [] [] p = tt
 conversion_means [] (f ∷ fs) p = absurd p
 conversion_means (b ∷ bs) [] p = absurd p
-conversion_means (b ∷ bs) (f ∷ fs) p = zip_append MeansDirected (converted b) (converted_frame f) (conversion bs) (flat_map converted_frame fs) (converted_means b f p.0) (conversion_means bs fs p.1)
+conversion_means (b ∷ bs) (f ∷ fs) p = zip_append MeansDirected (converted b) (converted_frame f) (conversion bs) (flat_map converted_frame fs)
+    (converted_means b f p.0) (conversion_means bs fs p.1)
 
 -- ---- the converted record
 
@@ -92,12 +99,14 @@ request_fits : (body : List ℕ) → IsBody (request_of body)
 request_fits body = let len : length (take 48 (drop 1 body)) ≡ min 48 (length (drop 1 body)) = length-take 48 (drop 1 body) in omega arith
 
 one_fits : (b : Bool) (body : List ℕ) → IsBody body → All (MayStand Two) (cond b ((Out, request_of body) ∷ (In, body) ∷ []) ((In, body) ∷ []))
-one_fits true body fits = All-cons (MayStand Two) (Out, request_of body) ((In, body) ∷ []) (request_fits body) (All-cons (MayStand Two) (In, body) [] fits (All-nil (MayStand Two)))
+one_fits true body fits = All-cons (MayStand Two) (Out, request_of body) ((In, body) ∷ []) (request_fits body)
+    (All-cons (MayStand Two) (In, body) [] fits (All-nil (MayStand Two)))
 one_fits false body fits = All-cons (MayStand Two) (In, body) [] fits (All-nil (MayStand Two))
 
 all_fit : (bodies : List (List ℕ)) → All IsBody bodies → All (MayStand Two) (conversion bodies)
 all_fit [] all = All-nil (MayStand Two)
-all_fit (b ∷ bs) all = All-append (MayStand Two) (converted b) (conversion bs) (one_fits (is_hashes_body b) b (All-head IsBody b bs all)) (all_fit bs (All-tail IsBody b bs all))
+all_fit (b ∷ bs) all = All-append (MayStand Two) (converted b) (conversion bs) (one_fits (is_hashes_body b) b (All-head IsBody b bs all))
+    (all_fit bs (All-tail IsBody b bs all))
 
 nothing_cut : IsCut Two []
 unfolding IsCut

@@ -29,7 +29,8 @@ four_bytes-big_number_at bytes enough fits =
     ap four_bytes (sym same) ∙ four_bytes-big_number front (length-take-le 4 bytes enough) (λ i. get_or-front bytes i fits)
   where
     get_or-front : (xs : List ℕ) (i : ℕ) → ((k : ℕ) → get_or xs k 0 < 256) → get_or (take 4 xs) i 0 < 256
-    get_or-front xs i each = ⊎_elim (λ lt. rw (get_or-take 4 xs i 0 lt) (each i)) (λ past. rw (get_or_past (take 4 xs) i 0 (omega (arith, length-take 4 xs))) (omega arith)) (cases_lt i 4)
+    get_or-front xs i each = ⊎_elim (λ lt. rw (get_or-take 4 xs i 0 lt) (each i)) (λ past. rw (get_or_past (take 4 xs) i 0 (omega (arith, length-take 4 xs)))
+        (omega arith)) (cases_lt i 4)
 
 pub big_number-fits : (bytes : List ℕ) → ((i : ℕ) → get_or bytes i 0 < 256) → big_number 4 bytes < 2 ^ 32
 big_number-fits bytes fits = big_from-lt 0 4 bytes fits

@@ -29,7 +29,8 @@ Gave-until a b c xs ys why p q = record {
 }
 
 -- a call that failed gave nothing
-pub Failed-at_once : (b c : SourceSeen) (why : FrameFault) → why ≡ fault.Read → Keeps b.left c.left → c.limit ≡ b.limit → c.faults ≡ one_more b.faults → GaveUntil b c [] why
+pub Failed-at_once : (b c : SourceSeen) (why : FrameFault) → why ≡ fault.Read → Keeps b.left c.left → c.limit ≡ b.limit → c.faults ≡ one_more b.faults
+    → GaveUntil b c [] why
 Failed-at_once b c why e p q n = record {
   gave = record { given = Consumes-kept b.left b.left c.left [] (Consumes-nil b.left) p; falls = omega (arith, q) };
   faults = subst (CountsRead b.faults c.faults) (sym e) n;
@@ -44,11 +45,13 @@ Gave-take a b n buf fits p e = record { given = p; falls = omega (arith, e, leng
 pub Faultless-trans : (a b c : SourceSeen) (xs ys : List ℕ) → GaveFaultless a b xs → GaveFaultless b c ys → GaveFaultless a c (xs ++ ys)
 Faultless-trans a b c xs ys p q = record { gave = Gave-trans a b c xs ys p.gave q.gave; faults = q.faults ∙ p.faults }
 
-pub Faultless-take : (a b : SourceSeen) (n : ℕ) (buf : List ℕ) → n ≤ length buf → Consumes a.left b.left (take n buf) → b.limit + n ≡ a.limit → b.faults ≡ a.faults → GaveFaultless a b (take n buf)
+pub Faultless-take : (a b : SourceSeen) (n : ℕ) (buf : List ℕ) → n ≤ length buf → Consumes a.left b.left (take n buf) → b.limit + n ≡ a.limit
+    → b.faults ≡ a.faults → GaveFaultless a b (take n buf)
 Faultless-take a b n buf fits p e q = record { gave = Gave-take a b n buf fits p e; faults = q }
 
 -- what stands in a buffer after one more read into its rest
-pub take-put_more : {X : Type 0} (at n : ℕ) (old new : List X) → at ≤ length old → n ≤ length new → take (at + n) (put_mid at (length old - at) old new) ≡ take at old ++ take n new
+pub take-put_more : {X : Type 0} (at n : ℕ) (old new : List X) → at ≤ length old → n ≤ length new
+    → take (at + n) (put_mid at (length old - at) old new) ≡ take at old ++ take n new
 take-put_more at n old new within fits =
     let rest = drop (length old - at) (drop at old) in
     let len : length (take at old) ≡ at = length-take-le at old within in
@@ -61,14 +64,17 @@ le-length-put at n old new within fits =
     omega (arith, length-append (take at old) (new ++ rest), length-append new rest, length-take-le at old within)
 
 -- the rest is filled
-pub take-put_all : {X : Type 0} (at whole : ℕ) (old new : List X) → length old ≡ whole → at ≤ whole → length new ≡ whole - at → take whole (put_mid at (whole - at) old new) ≡ take at old ++ new
+pub take-put_all : {X : Type 0} (at whole : ℕ) (old new : List X) → length old ≡ whole → at ≤ whole → length new ≡ whole - at
+    → take whole (put_mid at (whole - at) old new) ≡ take at old ++ new
 take-put_all at whole old new size within len =
     let fits : whole - at ≤ length new = omega (arith, len) in
     let is : at + (whole - at) ≡ whole = omega (arith, within) in
     let more = take-put_more at (whole - at) old new (omega arith) fits in
-    ap (λ k. take k (put_mid at (whole - at) old new)) (sym is) ∙ ap (λ k. take (at + (whole - at)) (put_mid at (k - at) old new)) (sym size) ∙ more ∙ ap (λ t. take at old ++ t) (take_all (whole - at) new (omega arith))
+    ap (λ k. take k (put_mid at (whole - at) old new)) (sym is) ∙ ap (λ k. take (at + (whole - at)) (put_mid at (k - at) old new)) (sym size) ∙ more
+        ∙ ap (λ t. take at old ++ t) (take_all (whole - at) new (omega arith))
 
 -- the front of a vector whose elements were all written
-pub take-written : {X : Type 0} (count n : ℕ) (new items : List X) → count ≤ n → count ≤ length new → take count (take n (new ++ drop (length new) items)) ≡ take count new
+pub take-written : {X : Type 0} (count n : ℕ) (new items : List X) → count ≤ n → count ≤ length new
+    → take count (take n (new ++ drop (length new) items)) ≡ take count new
 take-written count n new items within fits =
     take-take count n (new ++ drop (length new) items) within ∙ take-append-le count new (drop (length new) items) fits

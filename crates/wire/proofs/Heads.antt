@@ -27,7 +27,8 @@ Holds-kept id len n kind items buf e h some room = (
 )
 
 -- an id was read, and the rest was skipped
-pub Holds-skipped : (id len : ℕ) (head : Head) (items buf rest : List ℕ) → buf ≡ id ∷ [] → IsHead id len head → ((kind : Kind) (n : ℕ) → head ≡ Kept kind n → ⊥) → length rest + 1 ≡ len
+pub Holds-skipped : (id len : ℕ) (head : Head) (items buf rest : List ℕ) → buf ≡ id ∷ [] → IsHead id len head → ((kind : Kind) (n : ℕ) → head ≡ Kept kind n → ⊥)
+    → length rest + 1 ≡ len
     → Holds head items (buf ++ rest)
 Holds-skipped id len KeepAlive items buf rest e h not size = absurd h
 Holds-skipped id len (Kept kind n) items buf rest e h not size = absurd (not kind n refl)
@@ -43,7 +44,9 @@ too_long id (inr (inl p)) = omega (arith, p.1)
 too_long id (inr (inr (inl p))) = omega (arith, p.1.1)
 too_long id (inr (inr (inr p))) = omega (arith, p.1)
 
-pub Holds-longest : (head : Head) (items front rest : List ℕ) → length front ≡ 4 → IsHead (get_or front 0 0) 4294967295 head → length rest ≡ 4294967291 → Holds head items (front ++ rest)
+pub Holds-longest : (head : Head) (items front rest : List ℕ) → length front ≡ 4 → IsHead (get_or front 0 0) 4294967295 head → length rest ≡ 4294967291
+    → Holds head items (front ++ rest)
 Holds-longest head items [] rest four is size = absurd (omega (arith, four))
 Holds-longest head items (x ∷ front) rest four is size =
-    Holds-skipped x 4294967295 head items (x ∷ []) (front ++ rest) refl is (λ kind n e. too_long x (subst (IsHead x 4294967295) e is).2) (omega (arith, four, size, length-append front rest))
+    Holds-skipped x 4294967295 head items (x ∷ []) (front ++ rest) refl is (λ kind n e. too_long x (subst (IsHead x 4294967295) e is).2)
+        (omega (arith, four, size, length-append front rest))

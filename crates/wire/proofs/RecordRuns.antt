@@ -1,5 +1,6 @@
 -- Several frames of one record, one after the other: what a caller's loop needs.
-use Rattle.std.proofs.Common.{◌≡◌, ◌≢◌, ℕ, ◌+◌, ◌^◌, ◌<◌, ◌≤◌, List, [], ◌∷◌, ◌++◌, length, take, drop, codes, All, Option, Some, None, inl, inr, ap, refl, sym, subst, arith, ◌∙◌}
+use Rattle.std.proofs.Common.{◌≡◌, ◌≢◌, ℕ, ◌+◌, ◌^◌, ◌<◌, ◌≤◌, List, [], ◌∷◌, ◌++◌, length, take, drop, codes, All, Option, Some, None, inl, inr, ap, refl, sym}
+use Rattle.std.proofs.Common.{subst, arith, ◌∙◌}
 use Rattle.std.specs.List.{flat_map}
 use Rattle.std.specs.Io.KnownBytes.{IsAtEnd}
 use Rattle.std.proofs.lemmas.List.{append_assoc, append-nil, length-append, take_at, take-append-le, take-append-drop}
@@ -85,8 +86,10 @@ unfolding frame
 frame_shows body fits has = λ more rest e.
     let same = same_from_four_bytes (length body) 4294967295 (body ++ more) (codes "BTH2" ++ rest) fits (omega arith)
     (sym (append_assoc (four_bytes (length body)) body more) ∙ e ∙ ap (λ t. t ++ rest) longest ∙ append_assoc (four_bytes 4294967295) (codes "BTH2") rest) in
-    let front : take 4 body ≡ codes "BTH2" = sym (take-append-le 4 body more (omega (arith, same.0))) ∙ ap (take 4) same.1 ∙ take_at (codes "BTH2") rest 4 refl in
-    has (drop 4 body) (ap (λ n. four_bytes n ++ body) same.0 ∙ ap (λ t. four_bytes 4294967295 ++ t) (sym (take-append-drop 4 body) ∙ ap (λ t. t ++ drop 4 body) front)
+    let front : take 4 body ≡ codes "BTH2" = sym (take-append-le 4 body more (omega (arith, same.0))) ∙ ap (take 4) same.1
+        ∙ take_at (codes "BTH2") rest 4 refl in
+    has (drop 4 body) (ap (λ n. four_bytes n ++ body) same.0 ∙ ap (λ t. four_bytes 4294967295 ++ t) (sym (take-append-drop 4 body)
+        ∙ ap (λ t. t ++ drop 4 body) front)
     ∙ sym (append_assoc (four_bytes 4294967295) (codes "BTH2") (drop 4 body)) ∙ ap (λ t. t ++ drop 4 body) (sym longest))
 
 -- ---- frames, one after the other
@@ -104,19 +107,23 @@ pub record HasRead (start now : SourceSeen) (form : Option Form) (ds : List (Dir
 pub read_nothing : (a b : SourceSeen) → b ≡ a → HasRead a b None []
 read_nothing a b e = record { bytes = []; gave = subst (λ s. Gave a s []) (sym e) (Gave-nil a); are = (refl, refl) }
 
-frames_push : (form : Form) (ds : List (Directed (List ℕ))) (d : Directed (List ℕ)) → flat_map (record_frame form) ds ++ record_frame form d ≡ flat_map (record_frame form) (ds ++ d ∷ [])
-frames_push form ds d = ap (λ t. flat_map (record_frame form) ds ++ t) (sym (append-nil (record_frame form d))) ∙ sym (flat_map-append (record_frame form) ds (d ∷ []))
+frames_push : (form : Form) (ds : List (Directed (List ℕ))) (d : Directed (List ℕ))
+    → flat_map (record_frame form) ds ++ record_frame form d ≡ flat_map (record_frame form) (ds ++ d ∷ [])
+frames_push form ds d = ap (λ t. flat_map (record_frame form) ds ++ t) (sym (append-nil (record_frame form d)))
+    ∙ sym (flat_map-append (record_frame form) ds (d ∷ []))
 
 shows_more : (form : Form) (xs ys : List ℕ) → Shows form xs → Shows form (xs ++ ys)
 shows_more One xs ys shows = λ more rest e. shows (ys ++ more) rest (sym (append_assoc xs ys more) ∙ e)
 shows_more Two xs ys shows = tt
 
-shows_first : (form : Form) (d : Directed (List ℕ)) (bytes : List ℕ) → MayStand form d → bytes ≡ heading form ++ record_frame form d → HasForm bytes form → Shows form bytes
+shows_first : (form : Form) (d : Directed (List ℕ)) (bytes : List ℕ) → MayStand form d → bytes ≡ heading form ++ record_frame form d → HasForm bytes form
+    → Shows form bytes
 shows_first One d bytes fits is has = subst (Shows One) (sym is) (frame_shows d.1 fits.0 (subst (λ b. HasForm b One) is has))
 shows_first Two d bytes fits is has = tt
 
 -- one more
-pub read_more : (a b c : SourceSeen) (before : Option Form) (form : Form) (ds : List (Directed (List ℕ))) (d : Directed (List ℕ)) → HasRead a b before ds → GaveFrame before form d b c → HasRead a c (Some form) (ds ++ d ∷ [])
+pub read_more : (a b c : SourceSeen) (before : Option Form) (form : Form) (ds : List (Directed (List ℕ))) (d : Directed (List ℕ)) → HasRead a b before ds
+    → GaveFrame before form d b c → HasRead a c (Some form) (ds ++ d ∷ [])
 read_more a b c None form ds d r f = record {
   bytes = f.part.bytes;
   gave = subst (Gave a c) (ap (λ t. t ++ f.part.bytes) r.are.1) (Gave-trans a b c r.bytes f.part.bytes r.gave f.part.gave);
@@ -133,7 +140,8 @@ read_more a b c (Some known) form ds d r f =
       bytes = r.bytes ++ record_frame form d;
       gave = Gave-trans a b c r.bytes (record_frame form d) r.gave (subst (Gave b c) f.part.reads.1 f.part.gave);
       are = (
-        ap (λ t. t ++ record_frame form d) are.0 ∙ append_assoc (heading form) (flat_map (record_frame form) ds) (record_frame form d) ∙ ap (λ t. heading form ++ t) (frames_push form ds d),
+        ap (λ t. t ++ record_frame form d) are.0 ∙ append_assoc (heading form) (flat_map (record_frame form) ds) (record_frame form d)
+            ∙ ap (λ t. heading form ++ t) (frames_push form ds d),
         All-append (MayStand form) ds (d ∷ []) are.1 (All-cons (MayStand form) d [] f.stands (All-nil (MayStand form))),
         shows_more form r.bytes (record_frame form d) are.2,
       );
@@ -157,15 +165,18 @@ pub record HasReadTo (start now : SourceSeen) (form : Form) (ds : List (Directed
   pub gave : Gave start now bytes
   pub frames : RecordFrames bytes form ds part
 
-has_form : (form : Form) (ds : List (Directed (List ℕ))) (xs part : List ℕ) → xs ≡ heading form ++ flat_map (record_frame form) ds → Shows form xs → HasForm (xs ++ part) form
+has_form : (form : Form) (ds : List (Directed (List ℕ))) (xs part : List ℕ) → xs ≡ heading form ++ flat_map (record_frame form) ds → Shows form xs
+    → HasForm (xs ++ part) form
 has_form One ds xs part is shows = λ rest e. shows part rest e
 has_form Two ds xs part is shows = (flat_map (record_frame Two) ds ++ part, ap (λ t. t ++ part) is ∙ append_assoc header (flat_map (record_frame Two) ds) part)
 
-pub read_to : (a b c : SourceSeen) (before : Option Form) (form : Form) (ds : List (Directed (List ℕ))) (part : List ℕ) → HasRead a b before ds → GavePart before form part b c → IsCut form part → HasReadTo a c form ds part
+pub read_to : (a b c : SourceSeen) (before : Option Form) (form : Form) (ds : List (Directed (List ℕ))) (part : List ℕ) → HasRead a b before ds
+    → GavePart before form part b c → IsCut form part → HasReadTo a c form ds part
 read_to a b c None form ds part r p cut = record {
   bytes = p.bytes;
   gave = subst (Gave a c) (ap (λ t. t ++ p.bytes) r.are.1) (Gave-trans a b c r.bytes p.bytes r.gave p.gave);
-  frames = subst (λ xs. RecordFrames p.bytes form xs part) (sym r.are.0) (record { has_form = p.reads.1; whole = p.reads.0; each = All-nil (MayStand form); cut = cut });
+  frames = subst (λ xs. RecordFrames p.bytes form xs part) (sym r.are.0) (record { has_form = p.reads.1; whole = p.reads.0; each = All-nil (MayStand form);
+      cut = cut });
 }
 read_to a b c (Some known) form ds part r p cut =
     let same : known ≡ form = sym p.reads.0 in
@@ -182,5 +193,7 @@ read_to a b c (Some known) form ds part r p cut =
     }
 
 -- the whole record, if the source ended and its bytes are known
-pub read_whole : (a c : SourceSeen) (bytes : List ℕ) (form : Form) (ds : List (Directed (List ℕ))) (part : List ℕ) → a.left ≡ Some bytes → HasReadTo a c form ds part → IsAtEnd c.left → RecordFrames bytes form ds part
-read_whole a c bytes form ds part known r end = subst (λ b. RecordFrames b form ds part) (sym (Consumes_all a.left c.left r.bytes bytes known r.gave.given end)) r.frames
+pub read_whole : (a c : SourceSeen) (bytes : List ℕ) (form : Form) (ds : List (Directed (List ℕ))) (part : List ℕ) → a.left ≡ Some bytes
+    → HasReadTo a c form ds part → IsAtEnd c.left → RecordFrames bytes form ds part
+read_whole a c bytes form ds part known r end = subst (λ b. RecordFrames b form ds part) (sym (Consumes_all a.left c.left r.bytes bytes known r.gave.given end))
+    r.frames

@@ -1,5 +1,6 @@
 -- A record has one form, one list of frames and one rest, and each list of bytes is a record.
-use Rattle.std.proofs.Common.{◌≡◌, ◌≢◌, ◌⊎◌, ℕ, zero, suc, ◌+◌, ◌<◌, List, [], ◌∷◌, ◌++◌, length, take, drop, map, All, inl, inr, refl, sym, ap, ap₂, ◌∙◌, arith, subst}
+use Rattle.std.proofs.Common.{◌≡◌, ◌≢◌, ◌⊎◌, ℕ, zero, suc, ◌+◌, ◌<◌, List, [], ◌∷◌, ◌++◌, length, take, drop, map, All, inl, inr, refl, sym, ap, ap₂, ◌∙◌}
+use Rattle.std.proofs.Common.{arith, subst}
 use Rattle.std.specs.List.{flat_map, AllByRecursion}
 use Rattle.std.proofs.lemmas.Bool.{cases_eq, cases_lt}
 use Rattle.std.proofs.lemmas.List.{append_assoc, length-append, take-append-drop, get_or_past}
@@ -10,7 +11,8 @@ use Rattle.wire.specs.declared.form.Form.TheVariants.{One, Two}
 use Rattle.wire.specs.declared.direction.Direction.{Direction}
 use Rattle.wire.specs.declared.direction.Direction.TheVariants.{In, Out}
 use Rattle.wire.specs.Frames.{IsBody, IsPartial, Frames, frame}
-use Rattle.wire.specs.Records.{Directed, header, heading, direction_byte, record_frame, MayStand, HasForm, IsCut, IsBadDirection, IsCutFrame, RecordFrames, came_in}
+use Rattle.wire.specs.Records.{Directed, header, heading, direction_byte, record_frame, MayStand, HasForm, IsCut, IsBadDirection, IsCutFrame, RecordFrames}
+use Rattle.wire.specs.Records.{came_in}
 use Rattle.wire.proofs.Meanings.{same_heads}
 use Rattle.wire.proofs.OneReading.{AreBytes, same_from_frame, whole_front, partial_front, Frames-of_bytes}
 use Rattle.wire.proofs.Partial.{IsPartial-from_short}
@@ -41,14 +43,16 @@ not_cut : (form : Form) (d : Directed (List ℕ)) (xs ys r : List ℕ) → MaySt
 unfolding IsCut
 not_cut form d xs ys r fits cut e = cut d (xs ++ ys) fits (e ∙ append_assoc (record_frame form d) xs ys)
 
-same_frames : (form : Form) (ds es : List (Directed (List ℕ))) (r s : List ℕ) → AllByRecursion (MayStand form) ds → AllByRecursion (MayStand form) es → IsCut form r → IsCut form s
+same_frames : (form : Form) (ds es : List (Directed (List ℕ))) (r s : List ℕ) → AllByRecursion (MayStand form) ds → AllByRecursion (MayStand form) es
+    → IsCut form r → IsCut form s
     → flat_map (record_frame form) ds ++ r ≡ flat_map (record_frame form) es ++ s → (ds ≡ es) × (r ≡ s)
 same_frames form [] [] r s p q m n e = (refl, e)
 same_frames form [] (c ∷ cs) r s p q m n e = absurd (not_cut form c (flat_map (record_frame form) cs) s r q.0 m e)
 same_frames form (b ∷ bs) [] r s p q m n e = absurd (not_cut form b (flat_map (record_frame form) bs) r s p.0 n (sym e))
 same_frames form (b ∷ bs) (c ∷ cs) r s p q m n e =
     let first = same_record_frame form b c (flat_map (record_frame form) bs ++ r) (flat_map (record_frame form) cs ++ s) p.0 q.0
-    (sym (append_assoc (record_frame form b) (flat_map (record_frame form) bs) r) ∙ e ∙ append_assoc (record_frame form c) (flat_map (record_frame form) cs) s) in
+    (sym (append_assoc (record_frame form b) (flat_map (record_frame form) bs) r) ∙ e ∙ append_assoc (record_frame form c) (flat_map (record_frame form) cs) s)
+        in
     let rest = same_frames form bs cs r s p.1 q.1 m n first.1 in
     (ap₂ (λ x xs. x ∷ xs) first.0 rest.0, rest.1)
 
@@ -61,7 +65,8 @@ pub one_reading : (bytes : List ℕ) (a b : Form) (fs gs : List (Directed (List 
 one_reading bytes One Two fs gs r s p q = absurd (p.has_form q.has_form.0 q.has_form.1)
 one_reading bytes Two One fs gs r s p q = absurd (q.has_form p.has_form.0 p.has_form.1)
 one_reading bytes One One fs gs r s p q =
-    let same = same_frames One fs gs r s (recursion_from_All (MayStand One) fs p.each) (recursion_from_All (MayStand One) gs q.each) p.cut q.cut (sym p.whole ∙ q.whole) in
+    let same = same_frames One fs gs r s (recursion_from_All (MayStand One) fs p.each) (recursion_from_All (MayStand One) gs q.each) p.cut q.cut (sym p.whole
+        ∙ q.whole) in
     (refl, same.0, same.1)
 one_reading bytes Two Two fs gs r s p q =
     let after : flat_map (record_frame Two) fs ++ r ≡ flat_map (record_frame Two) gs ++ s = same_after Two _ _ (sym p.whole ∙ q.whole) in
@@ -78,7 +83,8 @@ pub cut-from_partial : (rest : List ℕ) → IsPartial rest → IsCut One rest
 unfolding IsCut IsPartial
 cut-from_partial rest partial = λ d more fits e. partial d.1 more fits.0 e
 
-pub one_is_stream : (bytes : List ℕ) (bodies : List (List ℕ)) (rest : List ℕ) → HasForm bytes One → Frames bytes bodies rest → RecordFrames bytes One (map came_in bodies) rest
+pub one_is_stream : (bytes : List ℕ) (bodies : List (List ℕ)) (rest : List ℕ) → HasForm bytes One → Frames bytes bodies rest
+    → RecordFrames bytes One (map came_in bodies) rest
 one_is_stream bytes bodies rest form frames = record {
   has_form = form;
   whole = frames.whole ∙ ap (λ t. t ++ rest) (incoming_frames bodies);
@@ -171,7 +177,8 @@ split (suc fuel) bytes enough are = elim (directed_front bytes are) [
       record {
         frames = f.directed ∷ later.frames;
         rest = later.rest;
-        whole = f.bytes_are ∙ ap (λ t. record_frame Two f.directed ++ t) later.whole ∙ sym (append_assoc (record_frame Two f.directed) (flat_map (record_frame Two) later.frames) later.rest);
+        whole = f.bytes_are ∙ ap (λ t. record_frame Two f.directed ++ t) later.whole
+            ∙ sym (append_assoc (record_frame Two f.directed) (flat_map (record_frame Two) later.frames) later.rest);
         each = All-cons (MayStand Two) f.directed later.frames f.fits later.each;
         cut = later.cut;
       }

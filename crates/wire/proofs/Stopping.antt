@@ -13,7 +13,8 @@ use Rattle.wire.proofs.Giving.{Failed-at_once, Gave-nil, Gave-until}
 use Rattle.wire.proofs.Partial.{IsPartial-from_short, IsPartial-from_unfinished}
 
 -- before the first byte of a length
-pub StopsInLength-at_start : (a b : SourceSeen) (why : FrameFault) → why ≡ fault.Read → Keeps a.left b.left → b.limit ≡ a.limit → b.faults ≡ one_more a.faults → StopsInLength a b why
+pub StopsInLength-at_start : (a b : SourceSeen) (why : FrameFault) → why ≡ fault.Read → Keeps a.left b.left → b.limit ≡ a.limit → b.faults ≡ one_more a.faults
+    → StopsInLength a b why
 StopsInLength-at_start a b why e p q n = record {
   bytes = [];
   gave = Failed-at_once a b why e p q n;
@@ -22,7 +23,8 @@ StopsInLength-at_start a b why e p q n = record {
 }
 
 -- after some bytes of a length
-pub StopsInLength-after : (a b c : SourceSeen) (xs : List ℕ) (wanted : ℕ) (why : FrameFault) → 0 < length xs → length xs + wanted ≡ 4 → GaveFaultless a b xs → StopsShort b c wanted why → StopsInLength a c why
+pub StopsInLength-after : (a b c : SourceSeen) (xs : List ℕ) (wanted : ℕ) (why : FrameFault) → 0 < length xs → length xs + wanted ≡ 4 → GaveFaultless a b xs
+    → StopsShort b c wanted why → StopsInLength a c why
 StopsInLength-after a b c xs wanted why some whole p s = record {
   bytes = xs ++ s.bytes;
   gave = Gave-until a b c xs s.bytes why p s.gave;
@@ -41,7 +43,8 @@ StopsInFrame-in_length a b why device s = record {
 }
 
 -- after a length
-unfoldable pub StopsInFrame-in_body : (a b c : SourceSeen) (len : ℕ) (why : FrameFault) → len < 2 ^ 32 → GaveFaultless a b (four_bytes len) → StopsInBody b c len why → StopsInFrame a c why
+unfoldable pub StopsInFrame-in_body : (a b c : SourceSeen) (len : ℕ) (why : FrameFault) → len < 2 ^ 32 → GaveFaultless a b (four_bytes len)
+    → StopsInBody b c len why → StopsInFrame a c why
 StopsInFrame-in_body a b c len why bound p s = record {
   bytes = four_bytes len ++ s.bytes;
   gave = Gave-until a b c (four_bytes len) s.bytes why p s.gave;
@@ -65,7 +68,8 @@ StopsShort-at_once a wanted why some e = record {
 }
 
 -- before the id of a body
-pub StopsInBody-at_start : (a b : SourceSeen) (wanted len : ℕ) (why : FrameFault) → wanted ≡ 1 → 0 < len → why ≢ fault.NoMemory → StopsShort a b wanted why → StopsInBody a b len why
+pub StopsInBody-at_start : (a b : SourceSeen) (wanted len : ℕ) (why : FrameFault) → wanted ≡ 1 → 0 < len → why ≢ fault.NoMemory → StopsShort a b wanted why
+    → StopsInBody a b len why
 StopsInBody-at_start a b wanted len why one some device s = record {
   bytes = s.bytes;
   gave = s.gave;
@@ -74,7 +78,8 @@ StopsInBody-at_start a b wanted len why one some device s = record {
 }
 
 -- behind the id
-pub StopsInBody-after : (a b c : SourceSeen) (id : ℕ) (xs : List ℕ) (wanted len : ℕ) (why : FrameFault) → xs ≡ id ∷ [] → 1 + wanted ≡ len → (why ≡ fault.NoMemory → IsRightSize id len) → GaveFaultless a b xs → StopsShort b c wanted why → StopsInBody a c len why
+pub StopsInBody-after : (a b c : SourceSeen) (id : ℕ) (xs : List ℕ) (wanted len : ℕ) (why : FrameFault) → xs ≡ id ∷ [] → 1 + wanted ≡ len
+    → (why ≡ fault.NoMemory → IsRightSize id len) → GaveFaultless a b xs → StopsShort b c wanted why → StopsInBody a c len why
 StopsInBody-after a b c id xs wanted len why one e right p s = record {
   bytes = xs ++ s.bytes;
   gave = Gave-until a b c xs s.bytes why p s.gave;

@@ -14,7 +14,8 @@ pub returns-then-used-input-clause-fault : goal.returns-then-used-input-clause-f
 returns-then-used-input-clause-fault c known =
     let input = c.args.input.now in
     let used = c.in_ok-v.used in
-    inr (record { value = view c.in_ok-v.v; front = take used input; rest = drop used input; parts = sym (take-append-drop used input); place = omega (arith, length-take used input); spells = c.in_ok-v.ensures.found; more = omega (arith, length-drop used input); is = refl })
+    inr (record { value = view c.in_ok-v.v; front = take used input; rest = drop used input; parts = sym (take-append-drop used input); place =
+        omega (arith, length-take used input); spells = c.in_ok-v.ensures.found; more = omega (arith, length-drop used input); is = refl })
 
 pub returns-in_err-v-clause-only : goal.returns-in_err-v-clause-only
 returns-in_err-v-clause-only c v s =
@@ -30,7 +31,8 @@ pub returns-clause-only : goal.returns-clause-only
 returns-clause-only c v s = (c.in_ok-v.ensures.only v c.args.input.now [] (sym (append-nil c.args.input.now)) s).0
 
 pub returns-clause-stands : goal.returns-clause-stands
-returns-clause-stands c = spans_stand (option_copied c.args.asked) c.args.input.now (view c.in_ok-v.v) (option_copied c.in_ok-v.span) (subst (Spells (view c.in_ok-v.v)) (take_all c.in_ok-v.used c.args.input.now (omega arith)) c.in_ok-v.ensures.found) c.in_ok-v.ensures.span
+returns-clause-stands c = spans_stand (option_copied c.args.asked) c.args.input.now (view c.in_ok-v.v) (option_copied c.in_ok-v.span)
+    (subst (Spells (view c.in_ok-v.v)) (take_all c.in_ok-v.used c.args.input.now (omega arith)) c.in_ok-v.ensures.found) c.in_ok-v.ensures.span
 
 pub returns-in_err-v-clause-first : goal.returns-in_err-v-clause-first
 returns-in_err-v-clause-first c kind offset f =
@@ -42,7 +44,9 @@ pub returns-then-used-input-clause-first : goal.returns-then-used-input-clause-f
 returns-then-used-input-clause-first c kind offset f known =
     let input = c.args.input.now in
     let used = c.in_ok-v.used in
-    let mine : Trails input Trailing used = record { value = view c.in_ok-v.v; front = take used input; rest = drop used input; parts = sym (take-append-drop used input); place = omega (arith, length-take used input); spells = c.in_ok-v.ensures.found; more = omega (arith, length-drop used input); is = refl } in
+    let mine : Trails input Trailing used = record { value = view c.in_ok-v.v; front = take used input; rest = drop used input; parts =
+        sym (take-append-drop used input); place = omega (arith, length-take used input); spells = c.in_ok-v.ensures.found; more =
+        omega (arith, length-drop used input); is = refl } in
     one_fault input Trailing kind used offset (inr mine) f
 
 pub returns-clause-first : goal.returns-clause-first

@@ -22,7 +22,8 @@ decreases-pairs l = 2 * l.room + 1
 -- what is read so far, and then what is left, is the whole
 abbrev pub invariant-items-items : goal.invariant-items-items
 invariant-items-items l = record {
-  read : (n : ℕ) × (length l.rest ≤ n) × (length l.rest ≤ length l.bytes) × (with_items l.found.items (items_at (value_at l.room) n l.rest) ≡ items_at (value_at l.room) (length l.bytes) l.bytes);
+  read : (n : ℕ) × (length l.rest ≤ n) × (length l.rest ≤ length l.bytes)
+      × (with_items l.found.items (items_at (value_at l.room) n l.rest) ≡ items_at (value_at l.room) (length l.bytes) l.bytes);
   done : (done : List ℕ) × (l.bytes ≡ done ++ l.rest) × SpelledItems l.room (items_view l.found.items) done;
 }
 
@@ -33,7 +34,8 @@ abbrev pub invariant-pairs-pairs : goal.invariant-pairs-pairs
 invariant-pairs-pairs l = record {
   read : (n : ℕ) × (length l.rest ≤ n) × (length l.rest ≤ length l.bytes)
       × (with_pairs l.found.items (pairs_at (value_at l.room) n (option_copied l.before) l.rest) ≡ pairs_at (value_at l.room) (length l.bytes) None l.bytes);
-  done : (done : List ℕ) × (l.bytes ≡ done ++ l.rest) × SpelledPairs l.room None (pairs_view l.found.items) done × (option_copied l.before ≡ last_key None (pairs_view l.found.items));
+  done : (done : List ℕ) × (l.bytes ≡ done ++ l.rest) × SpelledPairs l.room None (pairs_view l.found.items) done
+      × (option_copied l.before ≡ last_key None (pairs_view l.found.items));
   span : IfSome (option_copied l.asked) (λ key. option_copied l.span ≡ option_map spelling (under key (pairs_view l.found.items)));
 }
 

@@ -5,7 +5,9 @@ use Rattle.command_line.proofs.CommandLine.{needs_text}
 use Rattle.command_line.proofs.finding.check_of.Goals as goal
 
 pub returns-in_err-torrent : goal.returns-in_err-torrent
-returns-in_err-torrent c = rw c.from_residual.ensures (needs_text (codes "check") (codes "TORRENT") (rows_of (found_of c.args.found.now)) refl (c.in_err-torrent.ensures))
+returns-in_err-torrent c = rw c.from_residual.ensures (needs_text (codes "check") (codes "TORRENT") (rows_of (found_of c.args.found.now)) refl
+    (c.in_err-torrent.ensures))
 
 pub returns-in_err-dir : goal.returns-in_err-dir
-returns-in_err-dir c = rw c.from_residual-in_err-dir.ensures (needs_text (codes "check") (codes "DIR") (rows_of (found_of c.args.found.now)) refl (c.in_err-dir.ensures))
+returns-in_err-dir c = rw c.from_residual-in_err-dir.ensures (needs_text (codes "check") (codes "DIR") (rows_of (found_of c.args.found.now)) refl
+    (c.in_err-dir.ensures))

@@ -5,7 +5,9 @@ use Rattle.command_line.proofs.CommandLine.{needs_text}
 use Rattle.command_line.proofs.finding.convert_of.Goals as goal
 
 pub returns-in_err-record : goal.returns-in_err-record
-returns-in_err-record c = rw c.from_residual.ensures (needs_text (codes "convert") (codes "RECORD") (rows_of (found_of c.args.found.now)) refl (c.in_err-record.ensures))
+returns-in_err-record c = rw c.from_residual.ensures (needs_text (codes "convert") (codes "RECORD") (rows_of (found_of c.args.found.now)) refl
+    (c.in_err-record.ensures))
 
 pub returns-in_err-out : goal.returns-in_err-out
-returns-in_err-out c = rw c.from_residual-in_err-out.ensures (needs_text (codes "convert") (codes "OUT") (rows_of (found_of c.args.found.now)) refl (c.in_err-out.ensures))
+returns-in_err-out c = rw c.from_residual-in_err-out.ensures (needs_text (codes "convert") (codes "OUT") (rows_of (found_of c.args.found.now)) refl
+    (c.in_err-out.ensures))

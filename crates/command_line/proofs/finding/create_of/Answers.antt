@@ -8,10 +8,13 @@ pub returns-in_err-dir : goal.returns-in_err-dir
 returns-in_err-dir c = rw c.from_residual.ensures (needs_text (codes "create") (codes "DIR") (rows_of (found_of c.args.found.now)) refl (c.in_err-dir.ensures))
 
 pub returns-in_err-out : goal.returns-in_err-out
-returns-in_err-out c = rw c.from_residual-in_err-out.ensures (needs_text (codes "create") (codes "OUT") (rows_of (found_of c.args.found.now)) refl (c.in_err-out.ensures))
+returns-in_err-out c = rw c.from_residual-in_err-out.ensures (needs_text (codes "create") (codes "OUT") (rows_of (found_of c.args.found.now)) refl
+    (c.in_err-out.ensures))
 
 pub returns-in_err-name : goal.returns-in_err-name
-returns-in_err-name c = rw c.from_residual-in_err-name.ensures (needs_text (codes "create") (codes "name") (rows_of (found_of c.args.found.now)) refl (c.in_err-name.ensures))
+returns-in_err-name c = rw c.from_residual-in_err-name.ensures (needs_text (codes "create") (codes "name") (rows_of (found_of c.args.found.now)) refl
+    (c.in_err-name.ensures))
 
 pub returns-in_err-piece_length : goal.returns-in_err-piece_length
-returns-in_err-piece_length c = rw c.from_residual-in_err-piece_length.ensures (needs_piece_length (rows_of (found_of c.args.found.now)) (c.in_err-piece_length.ensures))
+returns-in_err-piece_length c = rw c.from_residual-in_err-piece_length.ensures (needs_piece_length (rows_of (found_of c.args.found.now))
+    (c.in_err-piece_length.ensures))

@@ -5,7 +5,9 @@ use Rattle.command_line.proofs.CommandLine.{needs_text}
 use Rattle.command_line.proofs.finding.replay_of.Goals as goal
 
 pub returns-in_err-torrent : goal.returns-in_err-torrent
-returns-in_err-torrent c = rw c.from_residual.ensures (needs_text (codes "replay") (codes "TORRENT") (rows_of (found_of c.args.found.now)) refl (c.in_err-torrent.ensures))
+returns-in_err-torrent c = rw c.from_residual.ensures (needs_text (codes "replay") (codes "TORRENT") (rows_of (found_of c.args.found.now)) refl
+    (c.in_err-torrent.ensures))
 
 pub returns-in_err-record : goal.returns-in_err-record
-returns-in_err-record c = rw c.from_residual-in_err-record.ensures (needs_text (codes "replay") (codes "RECORD") (rows_of (found_of c.args.found.now)) refl (c.in_err-record.ensures))
+returns-in_err-record c = rw c.from_residual-in_err-record.ensures (needs_text (codes "replay") (codes "RECORD") (rows_of (found_of c.args.found.now)) refl
+    (c.in_err-record.ensures))

@@ -5,4 +5,5 @@ use Rattle.command_line.proofs.CommandLine.{needs_text}
 use Rattle.command_line.proofs.finding.show_of.Goals as goal
 
 pub returns-in_err-torrent : goal.returns-in_err-torrent
-returns-in_err-torrent c = rw c.from_residual.ensures (needs_text (codes "show") (codes "TORRENT") (rows_of (found_of c.args.found.now)) refl (c.in_err-torrent.ensures))
+returns-in_err-torrent c = rw c.from_residual.ensures (needs_text (codes "show") (codes "TORRENT") (rows_of (found_of c.args.found.now)) refl
+    (c.in_err-torrent.ensures))

@@ -9,7 +9,8 @@ abbrev pub invariant-parts : goal.invariant-parts
 invariant-parts g l = record {
   within : l.held ≤ length l.buffer;
   empty : l.outgoing.items ≡ [];
-  converts : (first : SourceSeen) (start : SinkSeen) → GaveFaultless first (g.R.Source.seen l.fn.source) (take l.fn.held l.fn.buffer) → Sent start (g.W.Sink.seen l.fn.out) header
+  converts : (first : SourceSeen) (start : SinkSeen) → GaveFaultless first (g.R.Source.seen l.fn.source) (take l.fn.held l.fn.buffer)
+      → Sent start (g.W.Sink.seen l.fn.out) header
       → SoFar first (g.R.Source.seen l.source) start (g.W.Sink.seen l.out) l.left (take l.fn.held l.fn.buffer) (take l.held l.buffer);
 }
 

@@ -17,5 +17,6 @@ returns-else-bytes-size c =
     let is : c.min.result ≡ min c.number_at.result 49 = c.min.ensures in
     let bound : c.number_at.result < 2 ^ 32 = omega (arith, c.number_at.type_inv) in (
       c.if-bytes-size.false,
-      subst (λ n. IsHeadOf (take (4 + n) c.args.bytes.now) (4 + n)) (sym is) (whole_head c.args.bytes.now c.number_at.result bound c.number_at.ensures (omega (arith, is, c.if-bytes-size.false))),
+      subst (λ n. IsHeadOf (take (4 + n) c.args.bytes.now) (4 + n)) (sym is) (whole_head c.args.bytes.now c.number_at.result bound c.number_at.ensures
+          (omega (arith, is, c.if-bytes-size.false))),
     )

@@ -17,7 +17,8 @@ some_there (Some k) e = (k, refl)
 pub returns-then-file-eq0-clause-kept : goal.returns-then-file-eq0-clause-kept
 returns-then-file-eq0-clause-kept c = λ d roots not.
     elim c.then-file-eq0.branch [
-      | then-file-eq0-via-then-file-eq0 w ↦ keeps_empty d c.args.piece_length (outline_file c.args.file.now) c.args.layer.now c.args.roots.now.entries w.if-file-eq0.true roots
+      | then-file-eq0-via-then-file-eq0 w ↦ keeps_empty d c.args.piece_length (outline_file c.args.file.now) c.args.layer.now c.args.roots.now.entries
+          w.if-file-eq0.true roots
       | then-file-eq0-via-else-file-eq0+then-contains_key w ↦
           let there = some_there (kept_at c.args.file.now.root c.args.roots.now.entries) (sym w.contains_key.ensures ∙ w.if-contains_key.true) in
           keeps_there d c.args.piece_length (outline_file c.args.file.now) c.args.layer.now c.args.roots.now.entries there.0 there.1 roots not

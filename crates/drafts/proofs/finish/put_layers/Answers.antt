@@ -9,7 +9,8 @@ use Rattle.drafts.proofs.Penned.{put_all, put_on, put_start}
 use Rattle.drafts.proofs.finish.put_layers.Goals as goal
 
 pub roots-init : goal.roots-init
-roots-init g c = put_start _ _ (ap (λ es. pairs_spelling (pairs_of_layers (outline_layers c.args.piece_length es))) (sym c.into_iter-root-iterator.ensures.into_iter_gives.0))
+roots-init g c = put_start _ _ (ap (λ es. pairs_spelling (pairs_of_layers (outline_layers c.args.piece_length es)))
+    (sym c.into_iter-root-iterator.ensures.into_iter_gives.0))
 
 pub roots-preserved : goal.roots-preserved
 roots-preserved g c =
@@ -20,4 +21,5 @@ roots-preserved g c =
 
 pub returns : goal.returns
 returns g c =
-    put_all c.roots.invariant (ap (λ es. pairs_spelling (pairs_of_layers (outline_layers c.args.piece_length es))) (rest_all deref_pair c.roots.root-iterator c.next.new.self c.next.result c.in-None.is c.next.ensures.steps))
+    put_all c.roots.invariant (ap (λ es. pairs_spelling (pairs_of_layers (outline_layers c.args.piece_length es)))
+        (rest_all deref_pair c.roots.root-iterator c.next.new.self c.next.result c.in-None.is c.next.ensures.steps))

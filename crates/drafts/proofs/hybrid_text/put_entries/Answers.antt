@@ -32,4 +32,5 @@ files-preserved g c =
     (ap (λ ys. items_spelling (entries_value p (map outline_file ys))) here ∙ entries_step p (outline_file x) rest (nat_lt (i + 1) end) later)
 
 pub returns : goal.returns
-returns g c = put_all c.files.invariant (ap (λ ys. items_spelling (entries_value c.args.piece_length (map outline_file ys))) (drop_of_length-le c.args.files.now (omega arith)))
+returns g c = put_all c.files.invariant (ap (λ ys. items_spelling (entries_value c.args.piece_length (map outline_file ys)))
+    (drop_of_length-le c.args.files.now (omega arith)))

@@ -6,4 +6,5 @@ use Rattle.filetree.specs.Walked.{walk_of}
 use Rattle.filetree.proofs.files.test_lengths.Given as goal
 
 abbrev pub invariant-files : goal.invariant-files
-invariant-files l = list_any (λ w. is_none (length_at w.file)) (map walk_of l.files) ≡ list_any (λ w. is_none (length_at w.file)) (map walk_of (drop l.file-index l.files))
+invariant-files l = list_any (λ w. is_none (length_at w.file)) (map walk_of l.files) ≡ list_any (λ w. is_none (length_at w.file))
+    (map walk_of (drop l.file-index l.files))

@@ -17,7 +17,8 @@ not_so : {A : Type 0} (r : Bool) → (A → r ≡ true) → r ≡ false → A �
 not_so r holds fails a = let never : true ≡ false = sym (holds a) ∙ fails in cc
 
 -- what was found on the whole walk
-all_found : (ws : List Walk) (path : List (List ℕ)) (old new : List Found) → path ≡ [] → old ≡ [] → map walk_of new ≡ map walk_of old ++ map (behind path) ws → map walk_of new ≡ ws
+all_found : (ws : List Walk) (path : List (List ℕ)) (old new : List Found) → path ≡ [] → old ≡ [] → map walk_of new ≡ map walk_of old ++ map (behind path) ws
+    → map walk_of new ≡ ws
 all_found ws path old new root none adds = adds ∙ ap (λ fs. map walk_of fs ++ map (behind path) ws) none ∙ ap (λ p. map (behind p) ws) root ∙ behind_none ws
 
 -- out of memory, both tests of the tree passed
@@ -37,7 +38,8 @@ walk-requires c = record {
 pub returns : goal.returns
 returns c =
     let tree = pairs_view c.args.tree.now in
-    let all = all_found (walks tree) c.root-root.result c.new-found.result.items c.walk.new.files.items c.root-root.ensures c.new-found.ensures.items c.in_ok-walk.ensures in
+    let all = all_found (walks tree) c.root-root.result c.new-found.result.items c.walk.new.files.items c.root-root.ensures c.new-found.ensures.items
+        c.in_ok-walk.ensures in
     let shape : NoneHolds (shape_rows tree) = ((λ bad. cc), (not_so c.has_bad_path.result c.has_bad_path.ensures.1 c.if-has_bad_path.false, tt)) in
     let files = subst (λ ws. PassesUnlessNoMemory (file_rows ws) (λ fs. fs.items ≡ map listed ws) c.read.result) all c.read.ensures.passes in record {
       passes = passes_after (shape_rows tree) (file_rows (walks tree)) (λ fs. fs.items ≡ map listed (walks tree)) c.read.result shape files;

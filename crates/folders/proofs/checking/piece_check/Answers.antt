@@ -11,7 +11,8 @@ new-requires-else-tree-piece_length-clause-in_tree c =
     let len = c.args.tree.now.length in
     let shape : c.unwrap-shape.result ≡ len = unwrapped c.of.result c.unwrap-shape.result len c.unwrap-shape.ensures c.of.ensures.value in
     let piece : c.unwrap.result ≡ c.piece_length-piece_length.result =
-    unwrapped c.of-else-tree-piece_length.result c.unwrap.result c.piece_length-piece_length.result c.unwrap.ensures c.of-else-tree-piece_length.ensures.value in
+    unwrapped c.of-else-tree-piece_length.result c.unwrap.result c.piece_length-piece_length.result c.unwrap.ensures c.of-else-tree-piece_length.ensures.value
+        in
     omega (
       arith,
       c.height-else-tree-piece_length.ensures.value,
@@ -25,7 +26,8 @@ new-requires-else-tree-piece_length-clause-whole c =
     let len = c.args.tree.now.length in
     let shape : c.unwrap-shape.result ≡ len = unwrapped c.of.result c.unwrap-shape.result len c.unwrap-shape.ensures c.of.ensures.value in
     let piece : c.unwrap.result ≡ c.piece_length-piece_length.result =
-    unwrapped c.of-else-tree-piece_length.result c.unwrap.result c.piece_length-piece_length.result c.unwrap.ensures c.of-else-tree-piece_length.ensures.value in
+    unwrapped c.of-else-tree-piece_length.result c.unwrap.result c.piece_length-piece_length.result c.unwrap.ensures c.of-else-tree-piece_length.ensures.value
+        in
     let same = sym c.piece_length-piece_length.ensures in
     let legal = subst IsPieceLength same c.sound.ensures.legal in
     let sound = subst (λ p. IsSoundTree p (tree_entry c.args.tree.now)) same c.requires in

@@ -10,7 +10,8 @@ use Rattle.folders.specs.Verdicts.{is_yes}
 use Rattle.folders.proofs.report_lines.write_report.Goals as goal
 
 -- all lines from their parts as they were made
-parts : (entries : List FileEntry) (files seen : List FileVerdict) (v1 : Option V1Verdict) (stream answer : List ℕ) → seen ≡ files → stream ≡ stream_text v1 → answer ≡ answer_text (is_yes files v1)
+parts : (entries : List FileEntry) (files seen : List FileVerdict) (v1 : Option V1Verdict) (stream answer : List ℕ) → seen ≡ files → stream ≡ stream_text v1
+    → answer ≡ answer_text (is_yes files v1)
     → report_text entries files v1 ≡ verdicts_text seen entries ++ (stream ++ answer)
 parts entries files seen v1 stream answer same streamed answered =
     sym (ap (λ vs. verdicts_text vs entries ++ (stream ++ answer)) same ∙ ap (λ s. verdicts_text files entries ++ (s ++ answer)) streamed
@@ -32,7 +33,8 @@ returns-in_err-write_all g c =
     let stream = c.as_slice.result.now in
     let p = err_from_is_err_and c.from_residual-in_err-write_all.result c.from_residual-in_err-write_all.ensures.1 in
     Wrote-then _ _ _ _ (verdicts_text c.deref.result.now entries) (stream ++ answer_text (is_yes r.files.items r.v1)) _
-    (parts entries r.files.items c.deref.result.now r.v1 stream (answer_text (is_yes r.files.items r.v1)) c.deref.ensures.value (c.as_slice.ensures ∙ c.stream_line.ensures) refl)
+    (parts entries r.files.items c.deref.result.now r.v1 stream (answer_text (is_yes r.files.items r.v1)) c.deref.ensures.value (c.as_slice.ensures
+        ∙ c.stream_line.ensures) refl)
     c.in_ok-write_verdicts.ensures
     (Wrote-part _ p.0 _ _ stream (answer_text (is_yes r.files.items r.v1)) _ refl p.1 c.in_err-write_all.ensures)
 

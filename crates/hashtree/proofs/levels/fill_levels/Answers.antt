@@ -36,7 +36,8 @@ pub returns : goal.returns
 returns c =
     let n : ℕ = block_count c.args.shape in
     let low : c.args.layer ≤ c.layers._at = search rules in
-    let top : c.layers._at ≡ height n = omega (arith, c.layers-test.false, c.layers.auto._at-end (omega (arith, c.requires.in_tree, c.height-height.ensures.value)), c.height-height.ensures.value) in
+    let top : c.layers._at ≡ height n = omega (arith, c.layers-test.false,
+        c.layers.auto._at-end (omega (arith, c.requires.in_tree, c.height-height.ensures.value)), c.height-height.ensures.value) in
     ap (map (λ level. level.items)) c.in_ok-push-2.ensures.items
     ∙ map_push (λ level. level.items) c.layers.levels.items c.layers.level
     ∙ more_levels n c.args.layer c.args.hashes.now c.layers._at (map (λ level. level.items) c.layers.levels.items) c.layers.level.items low

@@ -9,7 +9,8 @@ abbrev pub invariant-frames : goal.invariant-frames
 invariant-frames g l = record {
   stands : IsOpen l.reader;
   same : l.reader.source.ghost_name ≡ l.initial.reader.source.ghost_name;
-  read : (bodies : List (List ℕ)) × All IsBody bodies × (length bodies ≡ l.n) × Gave (g.R.Source.seen l.fn.source) (g.R.Source.seen l.reader.source.now) (flat_map frame bodies);
+  read : (bodies : List (List ℕ)) × All IsBody bodies × (length bodies ≡ l.n) × Gave (g.R.Source.seen l.fn.source) (g.R.Source.seen l.reader.source.now)
+      (flat_map frame bodies);
 }
 
 abbrev pub decreases-frames : goal.decreases-frames

@@ -11,7 +11,8 @@ cells-preserved c =
     let i = c.cells.cell-index in
     elim c.match-cell.branch [
       | in-Some w ↦ record {
-        copied = ap (λ v. v.items) w.out-is ∙ run-pushed f c.args.out.now.items c.cells.out.items w.push_reserved.new.self.items i w.in-Some.hash c.cells.invariant.copied w.push_reserved.ensures.items w.in-Some.is;
+        copied = ap (λ v. v.items) w.out-is ∙ run-pushed f c.args.out.now.items c.cells.out.items w.push_reserved.new.self.items i w.in-Some.hash
+            c.cells.invariant.copied w.push_reserved.ensures.items w.in-Some.is;
         len = omega (arith, ap vec_len w.out-is, w.push_reserved.ensures.len, c.cells.invariant.len);
         capacity = ap vec_capacity w.out-is ∙ w.push_reserved.ensures.capacity ∙ c.cells.invariant.capacity;
       }

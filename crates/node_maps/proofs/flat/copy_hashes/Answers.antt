@@ -18,8 +18,10 @@ inside row from count known some = elim (cases_lt (length row) (from + count)) [
 ]
 
 pub append_hashes-requires-clause-known : goal.append_hashes-requires-clause-known
-append_hashes-requires-clause-known c = known-in_part (λ o. o) None c.args.row.now c.args.from c.args.count (inside c.args.row.now c.args.from c.args.count c.requires.known c.if-from-end.true) c.requires.known
+append_hashes-requires-clause-known c = known-in_part (λ o. o) None c.args.row.now c.args.from c.args.count
+    (inside c.args.row.now c.args.from c.args.count c.requires.known c.if-from-end.true) c.requires.known
 
 pub returns-then-from-end-clause-copied : goal.returns-then-from-end-clause-copied
 returns-then-from-end-clause-copied c =
-    c.append_hashes.ensures.copied ∙ ap (λ xs. c.args.out.now.items ++ xs) (hashes-in_part (λ o. o) None c.args.row.now c.args.from c.args.count (inside c.args.row.now c.args.from c.args.count c.requires.known c.if-from-end.true))
+    c.append_hashes.ensures.copied ∙ ap (λ xs. c.args.out.now.items ++ xs) (hashes-in_part (λ o. o) None c.args.row.now c.args.from c.args.count
+        (inside c.args.row.now c.args.from c.args.count c.requires.known c.if-from-end.true))

@@ -17,7 +17,8 @@ cells-preserved c =
       | in-Known2 w ↦
           let is : f i ≡ Some w.in-Known.hash = elim w.in-Known.is [ inl e ↦ ap hash_of e | inr e ↦ ap hash_of e ] in
           record {
-            copied = ap (λ v. v.items) w.out-is ∙ run-pushed f c.args.out.now.items c.cells.out.items w.push_reserved.new.self.items i w.in-Known.hash c.cells.invariant.copied w.push_reserved.ensures.items is;
+            copied = ap (λ v. v.items) w.out-is ∙ run-pushed f c.args.out.now.items c.cells.out.items w.push_reserved.new.self.items i w.in-Known.hash
+                c.cells.invariant.copied w.push_reserved.ensures.items is;
             len = omega (arith, ap vec_len w.out-is, w.push_reserved.ensures.len, c.cells.invariant.len);
             capacity = ap vec_capacity w.out-is ∙ w.push_reserved.ensures.capacity ∙ c.cells.invariant.capacity;
           }

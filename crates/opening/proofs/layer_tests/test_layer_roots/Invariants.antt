@@ -5,4 +5,5 @@ use Rattle.opening.specs.PieceLayers.{mismatches}
 use Rattle.opening.proofs.layer_tests.test_layer_roots.Given as goal
 
 abbrev pub invariant-trees : goal.invariant-trees
-invariant-trees l = list_any (mismatches l.piece_length (layer_pairs l.layers)) l.trees ≡ list_any (mismatches l.piece_length (layer_pairs l.layers)) (drop l.tree-index l.trees)
+invariant-trees l = list_any (mismatches l.piece_length (layer_pairs l.layers)) l.trees ≡ list_any (mismatches l.piece_length (layer_pairs l.layers))
+    (drop l.tree-index l.trees)

@@ -5,4 +5,5 @@ use Rattle.opening.specs.PieceLayers.{lacks_layer}
 use Rattle.opening.proofs.layer_tests.test_missing.Given as goal
 
 abbrev pub invariant-trees : goal.invariant-trees
-invariant-trees l = list_any (lacks_layer l.piece_length (layer_pairs l.layers)) l.trees ≡ list_any (lacks_layer l.piece_length (layer_pairs l.layers)) (drop l.tree-index l.trees)
+invariant-trees l = list_any (lacks_layer l.piece_length (layer_pairs l.layers)) l.trees ≡ list_any (lacks_layer l.piece_length (layer_pairs l.layers))
+    (drop l.tree-index l.trees)

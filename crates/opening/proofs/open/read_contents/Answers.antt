@@ -1,4 +1,5 @@
-use Rattle.std.proofs.Common.{map, ap, ◌∙◌, ◌≡◌, ◌≤◌, ℕ, zero, suc, ◌<◌, List, [], ◌∷◌, ◌++◌, length, Some, Result, Ok, Err, refl, subst, arith, slice_get, slice_index_or}
+use Rattle.std.proofs.Common.{map, ap, ◌∙◌, ◌≡◌, ◌≤◌, ℕ, zero, suc, ◌<◌, List, [], ◌∷◌, ◌++◌, length, Some, Result, Ok, Err, refl, subst, arith, slice_get}
+use Rattle.std.proofs.Common.{slice_index_or}
 use Rattle.benc.specs.Value.{Pairs}
 use Rattle.filetree.specs.Tests.{First, NoneHolds, PassesUnlessNoMemory}
 use Rattle.filetree.specs.declared.files.ListedFile.{ListedFile}
@@ -28,12 +29,14 @@ with_layers-requires-clause-bound c = λ k d lt.
     subst (λ n. n ≤ 70368744177664) used.3 (c.requires used.0 file)
 
 -- what stands over the roots that were found stands over the roots of the files
-contents : (k : ℕ) (layers : Pairs) (fs gs : List ListedFile) (ts : List Root) (r : Result Contents Refusal) → gs ≡ fs → AreTrees k gs ts → NoneHolds (count_rows k gs)
+contents : (k : ℕ) (layers : Pairs) (fs gs : List ListedFile) (ts : List Root) (r : Result Contents Refusal) → gs ≡ fs → AreTrees k gs ts
+    → NoneHolds (count_rows k gs)
     → PassesUnlessNoMemory (layer_rows k layers ts) (AreFilledIn k layers fs ts) r → PassesUnlessNoMemory (content_rows k layers fs) (AreContents k layers fs) r
 contents k layers fs gs ts (Ok c) same trees counts (rows, made) =
     let are : AreTrees k fs ts = subst (λ hs. AreTrees k hs ts) same trees in
     let roots = are.roots.roots in (
-      none_both (count_rows k fs) (layer_rows k layers (roots_in fs)) (subst (λ hs. NoneHolds (count_rows k hs)) same counts) (subst (λ us. NoneHolds (layer_rows k layers us)) roots rows),
+      none_both (count_rows k fs) (layer_rows k layers (roots_in fs)) (subst (λ hs. NoneHolds (count_rows k hs)) same counts)
+          (subst (λ us. NoneHolds (layer_rows k layers us)) roots rows),
       record {
         files = made.files ∙ ap (λ us. entries_from k us 0 fs) roots;
         trees = made.trees ∙ ap (map (tree_at k layers)) roots;

@@ -7,6 +7,7 @@ use Rattle.opening.proofs.roots.place_files.Given as goal
 
 abbrev pub invariant-listed : goal.invariant-listed
 invariant-listed l = record {
-  entries : entries_from l.piece_length l.roots 0 l.fn.listed.items ≡ map file_entry l.files.items ++ entries_from l.piece_length l.roots l.first_piece (into_iter_items l.file-iterator);
+  entries : entries_from l.piece_length l.roots 0 l.fn.listed.items ≡ map file_entry l.files.items ++ entries_from l.piece_length l.roots l.first_piece
+      (into_iter_items l.file-iterator);
   pieces : l.first_piece + pieces_in l.piece_length (into_iter_items l.file-iterator) ≡ pieces_in l.piece_length l.fn.listed.items;
 }

@@ -10,6 +10,7 @@ invariant-rows g l =
     let M = g.N.NodeMap in
     record {
       seen : M.seen l.map ≡ M.seen l.initial.map;
-      few : M.held l.map ≤ M.held l.initial.map + pages_of_layers l.initial.evidence.base l.initial.evidence.index l.initial.evidence.span (l.below - l.initial.evidence.base);
+      few : M.held l.map ≤ M.held l.initial.map + pages_of_layers l.initial.evidence.base l.initial.evidence.index l.initial.evidence.span
+          (l.below - l.initial.evidence.base);
       room : (k i : ℕ) → IsKnown (claimed_by l.initial.evidence) k i → k < l.below → M.has_room l.map k i;
     }

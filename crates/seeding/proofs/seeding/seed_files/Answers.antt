@@ -12,7 +12,8 @@ use Rattle.seeding.proofs.Seeds.{in_seed_more}
 use Rattle.seeding.proofs.seeding.seed_files.Goals as goal
 
 -- the fault that a `?` makes of an error
-stopped : {S F : Type 0} (shelf : Ghosts S F) (seen : F → SourceSeen) (old new : S × SessionSeen) (report report' : SinkSeen) (result : Result (Unit {0}) SeedFault) (e f : SeedFault)
+stopped : {S F : Type 0} (shelf : Ghosts S F) (seen : F → SourceSeen) (old new : S × SessionSeen) (report report' : SinkSeen)
+    (result : Result (Unit {0}) SeedFault) (e f : SeedFault)
     → result ≡ Err e → e ≡ f → SeedsFiles shelf seen old new report report' (Err f) → SeedsFiles shelf seen old new report report' result
 stopped shelf seen old new report report' result e f is same holds = subst (SeedsFiles shelf seen old new report report') (sym (is ∙ ap Err same)) holds
 
@@ -57,7 +58,8 @@ files-preserved g c =
     record {
       same = c.in_ok-seeded.ensures.torrent ∙ c.files.invariant.same;
       so_far = in_seed_more g.S.Shelf g.S.File.Source.seen
-          (shelf_and_session c.args.shelf.now c.args.session.now) (shelf_and_session c.files.shelf c.files.session) (shelf_and_session c.seed_file.new.shelf c.seed_file.new.session)
+          (shelf_and_session c.args.shelf.now c.args.session.now) (shelf_and_session c.files.shelf c.files.session)
+              (shelf_and_session c.seed_file.new.shelf c.seed_file.new.session)
           (g.W.Sink.seen c.args.report.now) (g.W.Sink.seen c.files.report) (g.W.Sink.seen c.write_line_of.new.out)
           c.args.session.now.torrent.files c.files.file-index (file_entry c.file-item.result) c.in_ok-seeded.seeded
           (file_there c.args.session.now.torrent c.files-entries.result.now c.files.file-index c.file-item.result files c.files-test.true c.file-item.is)

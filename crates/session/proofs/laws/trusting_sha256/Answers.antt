@@ -1,5 +1,6 @@
 use Rattle.partial_tree.specs.Trust.{Passes}
-use Rattle.session.proofs.Trusting.{trusted-block, trusted-hashes, trusted-answers, trusted-gap, trusted-taken, trusted-rounds, trusted-runs, trusted-noted_runs}
+use Rattle.session.proofs.Trusting.{trusted-block, trusted-hashes, trusted-answers, trusted-gap, trusted-taken, trusted-rounds, trusted-runs}
+use Rattle.session.proofs.Trusting.{trusted-noted_runs}
 use Rattle.session.proofs.laws.trusting_sha256.Goals as goal
 
 pub returns-clause-block : goal.returns-clause-block

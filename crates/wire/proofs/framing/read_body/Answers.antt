@@ -10,14 +10,16 @@ pub returns-in_err-read_exact-clause-bytes : goal.returns-in_err-read_exact-clau
 returns-in_err-read_exact-clause-bytes g c =
     let S = g.R.Source in
     let p = err_from_is_err_and c.from_residual.result c.from_residual.ensures.1 in
-    rw (p.1, p.2) (StopsInBody-at_start (S.seen c.args.source.now) (S.seen c.read_exact.new.source) _ c.args.len _ (omega arith) (omega (arith, c.if-len-eq0.false)) (device _ c.in_err-read_exact.ensures.no_memory) c.in_err-read_exact.ensures.bytes)
+    rw (p.1, p.2) (StopsInBody-at_start (S.seen c.args.source.now) (S.seen c.read_exact.new.source) _ c.args.len _ (omega arith)
+        (omega (arith, c.if-len-eq0.false)) (device _ c.in_err-read_exact.ensures.no_memory) c.in_err-read_exact.ensures.bytes)
 
 pub returns-in_err-keep-in-Kept-clause-bytes : goal.returns-in_err-keep-in-Kept-clause-bytes
 returns-in_err-keep-in-Kept-clause-bytes g c =
     let S = g.R.Source in
     let p = err_from_is_err_and c.from_residual-in_err-keep-in-Kept.result c.from_residual-in_err-keep-in-Kept.ensures.1 in
     let one = single c.read_exact.new.buf c.read_exact.auto.buf in
-    rw (p.1, p.2) (StopsInBody-after (S.seen c.args.source.now) (S.seen c.read_exact.new.source) (S.seen c.keep.new.source) _ c.read_exact.new.buf _ c.args.len _ one (omega (arith, c.if-len-eq0.false)) (λ _. c.in-Kept.ensures.2)
+    rw (p.1, p.2) (StopsInBody-after (S.seen c.args.source.now) (S.seen c.read_exact.new.source) (S.seen c.keep.new.source) _ c.read_exact.new.buf _ c.args.len
+        _ one (omega (arith, c.if-len-eq0.false)) (λ _. c.in-Kept.ensures.2)
     c.in_ok-read_exact.ensures.bytes c.in_err-keep-in-Kept.ensures.bytes)
 
 pub returns-in_err-skip-in_default-clause-bytes : goal.returns-in_err-skip-in_default-clause-bytes
@@ -25,7 +27,8 @@ returns-in_err-skip-in_default-clause-bytes g c =
     let S = g.R.Source in
     let p = err_from_is_err_and c.from_residual-in_err-skip-in_default.result c.from_residual-in_err-skip-in_default.ensures.1 in
     let one = single c.read_exact.new.buf c.read_exact.auto.buf in
-    rw (p.1, p.2) (StopsInBody-after (S.seen c.args.source.now) (S.seen c.read_exact.new.source) (S.seen c.skip.new.source) _ c.read_exact.new.buf _ c.args.len _ one (omega (arith, c.if-len-eq0.false)) (λ no. absurd (device _ c.in_err-skip-in_default.ensures.no_memory no))
+    rw (p.1, p.2) (StopsInBody-after (S.seen c.args.source.now) (S.seen c.read_exact.new.source) (S.seen c.skip.new.source) _ c.read_exact.new.buf _ c.args.len
+        _ one (omega (arith, c.if-len-eq0.false)) (λ no. absurd (device _ c.in_err-skip-in_default.ensures.no_memory no))
     c.in_ok-read_exact.ensures.bytes c.in_err-skip-in_default.ensures.bytes)
 
 pub returns-in_ok-keep-in-Kept-clause-bytes : goal.returns-in_ok-keep-in-Kept-clause-bytes
@@ -36,7 +39,8 @@ returns-in_ok-keep-in-Kept-clause-bytes g c =
     let one = single id c.read_exact.auto.buf in
     let room : c.args.len - 1 ≤ length items = c.in_ok-keep-in-Kept.ensures.room in (
       id ++ take (c.args.len - 1) items,
-      Faultless-trans (S.seen c.args.source.now) (S.seen c.read_exact.new.source) (S.seen c.keep.new.source) id (take (c.args.len - 1) items) c.in_ok-read_exact.ensures.bytes c.in_ok-keep-in-Kept.ensures.bytes,
+      Faultless-trans (S.seen c.args.source.now) (S.seen c.read_exact.new.source) (S.seen c.keep.new.source) id (take (c.args.len - 1) items)
+          c.in_ok-read_exact.ensures.bytes c.in_ok-keep-in-Kept.ensures.bytes,
       length-kept _ c.args.len items id one (omega (arith, c.if-len-eq0.false)) room,
       rw c.in-Kept.is (Holds-kept _ c.args.len c.in-Kept.len c.in-Kept.kind items id one c.in-Kept.ensures (omega (arith, c.if-len-eq0.false)) room),
     )

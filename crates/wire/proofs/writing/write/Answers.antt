@@ -1,4 +1,5 @@
-use Rattle.wire.proofs.Written.{WroteFrame-of, IsWrittenFrame-keep_alive, IsWrittenFrame-piece, IsWrittenFrame-request, IsWrittenFrame-reject, IsWrittenFrame-hashes}
+use Rattle.wire.proofs.Written.{WroteFrame-of, IsWrittenFrame-keep_alive, IsWrittenFrame-piece, IsWrittenFrame-request, IsWrittenFrame-reject}
+use Rattle.wire.proofs.Written.{IsWrittenFrame-hashes}
 use Rattle.wire.proofs.writing.write.Goals as goal
 
 pub returns-in-KeepAlive : goal.returns-in-KeepAlive
@@ -18,7 +19,8 @@ returns-in-Hashes g c =
     let small = rw p.is at c.requires in
     let went = rw (c.as_slice-in-Hashes.ensures.value, c.ask_fields-in-Hashes.ensures.bytes) at c.put-in-Hashes.ensures in
     let b = c.bytes_of.ensures in
-    rw p.is (WroteFrame-of c.put-in-Hashes.result _ _ _ _ (IsWrittenFrame-hashes p.ask p.hashes c.bytes_of.result.now c.ask_fields-in-Hashes.ensures.fits b.each small b.joined b.len) went)
+    rw p.is (WroteFrame-of c.put-in-Hashes.result _ _ _ _ (IsWrittenFrame-hashes p.ask p.hashes c.bytes_of.result.now c.ask_fields-in-Hashes.ensures.fits b.each
+        small b.joined b.len) went)
 
 pub returns-in-Request : goal.returns-in-Request
 returns-in-Request g c =

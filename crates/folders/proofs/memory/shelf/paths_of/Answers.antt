@@ -13,7 +13,8 @@ files-preserved c =
           listed_push path_of (λ f. f.now) c.args.files.now c.files.i _ c.find.result (map path_bytes c.files.paths.items) _ c.files-test.true c.find.ensures
           (c.is_none.ensures ∙ ap not w.if-is_none.true) c.files.invariant
           (ap (λ v. map path_bytes v.items) w.paths-is ∙ ap (map path_bytes) w.in_ok-push.ensures.items
-          ∙ map-append path_bytes c.files.paths.items (w.in_ok-owned.field-0 ∷ []) ∙ ap (λ p. map path_bytes c.files.paths.items ++ p ∷ []) w.in_ok-owned.ensures)
+          ∙ map-append path_bytes c.files.paths.items (w.in_ok-owned.field-0 ∷ [])
+          ∙ ap (λ p. map path_bytes c.files.paths.items ++ p ∷ []) w.in_ok-owned.ensures)
       | else-is_none w ↦
           listed_again path_of (λ f. f.now) c.args.files.now c.files.i _ c.find.result (map path_bytes c.files.paths.items) _ c.files-test.true c.find.ensures
           w.if-is_none.ensures c.files.invariant (ap (λ v. map path_bytes v.items) w.paths-is)
@@ -21,4 +22,5 @@ files-preserved c =
 
 pub returns : goal.returns
 returns c =
-    subst (λ files. IsEachOnce (map path_of files) (map path_bytes c.files.paths.items)) (take_all c.files.i c.args.files.now c.files-test.false) c.files.invariant
+    subst (λ files. IsEachOnce (map path_of files) (map path_bytes c.files.paths.items)) (take_all c.files.i c.args.files.now c.files-test.false)
+        c.files.invariant

@@ -1,6 +1,7 @@
 use Rattle.std.proofs.Common.{rules, arith, ap, sym, subst, ◌∙◌, ◌≡◌, ◌<◌, ◌+◌, ◌^◌, refl, set, get_or, length, [], ◌++◌}
 use Rattle.sha2.specs.Sha256.{sha256}
-use Rattle.hashtree.proofs.Carries.{Completed, carries_start, carries_step, carries_end, completed_start, completed_here, completed_elsewhere, completed_end, not_all_odd}
+use Rattle.hashtree.proofs.Carries.{Completed, carries_start, carries_step, carries_end, completed_start, completed_here, completed_elsewhere, completed_end}
+use Rattle.hashtree.proofs.Carries.{not_all_odd}
 use Rattle.hashtree.proofs.peaks.Peaks.push.Goals as goal
 use Rattle.hashtree.proofs.peaks.Peaks.push.Goals.{then-level-layer, else-level-layer}
 
@@ -17,7 +18,8 @@ layers-preserved c = record {
   levels_same = c.layers.invariant.levels_same;
   count_is = c.layers.invariant.count_is;
   carries = λ xs held. carries_step c.args.self.now xs c.args.leaf c.layers.level c.layers.width c.layers.node c.parent-node.result
-      held c.layers-test.true (omega arith) (c.parent-node.ensures ∙ ap (λ t. sha256 (get_or t c.layers.level [] ++ c.layers.node)) c.layers.invariant.levels_same) (c.layers.invariant.carries xs held);
+      held c.layers-test.true (omega arith) (c.parent-node.ensures
+          ∙ ap (λ t. sha256 (get_or t c.layers.level [] ++ c.layers.node)) c.layers.invariant.levels_same) (c.layers.invariant.carries xs held);
   completed = λ xs held. elim c.if-level-layer.branch [
     | then-level-layer w ↦ subst (Completed xs c.args.leaf c.args.layer (c.layers.level + 1)) (sym w.completed-is)
         (completed_here xs c.args.leaf c.args.layer c.layers.level c.layers.width c.layers.node w.if-level-layer.true (c.layers.invariant.carries xs held))

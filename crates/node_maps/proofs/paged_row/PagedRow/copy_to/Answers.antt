@@ -35,12 +35,14 @@ parts-preserved c =
                 ∙ ap (λ xs. xs ++ hashes_from (hash_in w.in-Some.page.now.cells.items) part.result.first part.result.count) c.parts.invariant.copied
                 ∙ append_assoc c.args.out.now.items (hashes_from f c.args.from c.parts.done) _
                 ∙ ap (λ xs. c.args.out.now.items ++ xs)
-                (ap (λ xs. hashes_from f c.args.from c.parts.done ++ xs) (hashes-alike (hash_in w.in-Some.page.now.cells.items) f part.result.first at part.result.count alike)
+                (ap (λ xs. hashes_from f c.args.from c.parts.done ++ xs) (hashes-alike (hash_in w.in-Some.page.now.cells.items) f part.result.first at
+                    part.result.count alike)
                 ∙ sym (hashes-join f c.args.from c.parts.done part.result.count));
             len = omega (arith, ap vec_len w.out-is, w.copy_to.ensures.len, c.parts.invariant.len);
             capacity = ap vec_capacity w.out-is ∙ w.copy_to.ensures.no_memory ∙ c.parts.invariant.capacity;
             most = omega (arith, part.ensures.most, c.parts-test.true);
           }
       | in_default w ↦
-          absurd (page-there (on_rows row.pages) c.args.from c.args.count c.parts.done part.result.number part.ensures.number c.parts-test.true (sym w.in_default.ensures) c.requires.known)
+          absurd (page-there (on_rows row.pages) c.args.from c.args.count c.parts.done part.result.number part.ensures.number c.parts-test.true
+              (sym w.in_default.ensures) c.requires.known)
     ]

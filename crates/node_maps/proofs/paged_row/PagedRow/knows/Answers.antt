@@ -10,7 +10,8 @@ pub returns-in_default : goal.returns-in_default
 unfolding pages_of
 returns-in_default c = (
   λ e. absurd (false≢true e),
-  λ all. absurd (page-there (on_rows c.args.self.now.pages) c.args.from c.args.count c.parts.done c.first_of-part.result.number c.first_of-part.ensures.number c.parts-test.true (sym c.in_default.ensures) all),
+  λ all. absurd (page-there (on_rows c.args.self.now.pages) c.args.from c.args.count c.parts.done c.first_of-part.result.number c.first_of-part.ensures.number
+      c.parts-test.true (sym c.in_default.ensures) all),
 )
 
 pub returns-then-not-knows : goal.returns-then-not-knows
@@ -22,7 +23,8 @@ returns-then-not-knows c =
     part.ensures.number part.ensures.first part.ensures.inside (sym c.in-Some.ensures) in
     let fits : c.parts.done + part.result.count ≤ c.args.count = omega (arith, part.ensures.most, c.parts-test.true) in (
       λ e. absurd (false≢true e),
-      λ all. absurd (false≢true (sym c.if-not-knows.true ∙ c.knows.ensures.1 (known-alike (alike-back alike) (known-part (row_hashes row) c.args.from c.args.count c.parts.done part.result.count fits all)))),
+      λ all. absurd (false≢true (sym c.if-not-knows.true
+          ∙ c.knows.ensures.1 (known-alike (alike-back alike) (known-part (row_hashes row) c.args.from c.args.count c.parts.done part.result.count fits all)))),
     )
 
 pub parts-preserved : goal.parts-preserved
@@ -33,6 +35,7 @@ parts-preserved c =
     let alike = page-alike (on_rows row.pages) (c.args.from + c.parts.done) part.result.number part.result.first part.result.count c.in-Some.page.now
     part.ensures.number part.ensures.first part.ensures.inside (sym c.in-Some.ensures) in
     record {
-      known = known-join (row_hashes row) c.args.from c.parts.done part.result.count c.parts.invariant.known (known-alike alike (c.knows.ensures.0 c.if-not-knows.false));
+      known = known-join (row_hashes row) c.args.from c.parts.done part.result.count c.parts.invariant.known
+          (known-alike alike (c.knows.ensures.0 c.if-not-knows.false));
       most = omega (arith, part.ensures.most, c.parts-test.true);
     }

@@ -14,6 +14,7 @@ invariant_of-self c =
     let q = c.args.index / 512 in
     record {
       in_use = c.put.ensures.in_use row.in_use;
-      counted = counted-same f g row.count (put-there f g q (c.args.index % 512) c.args.hash c.args.mark c.put.ensures.here c.put.ensures.others c.requires) row.counted;
+      counted = counted-same f g row.count (put-there f g q (c.args.index % 512) c.args.hash c.args.mark c.put.ensures.here c.put.ensures.others c.requires)
+          row.counted;
       spare = put-spare f g q (c.args.index % 512) c.args.hash c.args.mark c.put.ensures.here c.put.ensures.others row.fresh.items row.spare;
     }

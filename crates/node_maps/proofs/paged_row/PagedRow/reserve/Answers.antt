@@ -9,7 +9,8 @@ unfolding pages_of
 returns-in-Err-clause-keeps c =
     let row = c.args.self.now in
     let base = pages_of row in
-    let grown = grown-one base row.fresh.items row.count (pages_of c.numbers.self) c.numbers.self.fresh.items c.numbers.self.count (pages_of c.make.new.self) c.make.new.self.fresh.items c.make.new.self.count c.numbers.invariant.grown c.make.ensures.grown in
+    let grown = grown-one base row.fresh.items row.count (pages_of c.numbers.self) c.numbers.self.fresh.items c.numbers.self.count (pages_of c.make.new.self)
+        c.make.new.self.fresh.items c.make.new.self.count c.numbers.invariant.grown c.make.ensures.grown in
     let long : length row.fresh.items ≡ c.len-before.result = omega (arith, c.len-before.ensures, row.fresh.ok.0) in
     let back : AreAlike base (pages_of c.give_back.new.self) = (c.give_back.ensures.restored base row.fresh.items row.count long grown).0 in
     λ n was. subst IsSome (sym (back n)) was
@@ -19,7 +20,8 @@ unfolding pages_of
 returns-in-Err-clause-err c =
     let row = c.args.self.now in
     let base = pages_of row in
-    let grown = grown-one base row.fresh.items row.count (pages_of c.numbers.self) c.numbers.self.fresh.items c.numbers.self.count (pages_of c.make.new.self) c.make.new.self.fresh.items c.make.new.self.count c.numbers.invariant.grown c.make.ensures.grown in
+    let grown = grown-one base row.fresh.items row.count (pages_of c.numbers.self) c.numbers.self.fresh.items c.numbers.self.count (pages_of c.make.new.self)
+        c.make.new.self.fresh.items c.make.new.self.count c.numbers.invariant.grown c.make.ensures.grown in
     let long : length row.fresh.items ≡ c.len-before.result = omega (arith, c.len-before.ensures, row.fresh.ok.0) in
     (c.give_back.ensures.restored base row.fresh.items row.count long grown).1
 
@@ -37,5 +39,6 @@ numbers-preserved c =
         | inr less ↦ now.keeps n (before.done n low less)
       ];
       few = omega (arith, before.few, now.few);
-      grown = grown-one (pages_of row) row.fresh.items row.count (pages_of c.numbers.self) c.numbers.self.fresh.items c.numbers.self.count (pages_of c.make.new.self) c.make.new.self.fresh.items c.make.new.self.count before.grown now.grown;
+      grown = grown-one (pages_of row) row.fresh.items row.count (pages_of c.numbers.self) c.numbers.self.fresh.items c.numbers.self.count
+          (pages_of c.make.new.self) c.make.new.self.fresh.items c.make.new.self.count before.grown now.grown;
     }

@@ -22,4 +22,5 @@ returns-else-place-self c =
     let width : 1 * 2 ^ e.span % 2 ^ 64 ≡ 2 ^ e.span = one_shl e.span 64 (omega arith) in
     let same : c.args.index ≡ sibling (e.index / 2 ^ (c.args.layer - e.base)) = cc in
     let outside : length e.hashes.now ≤ 2 ^ e.span + (c.args.layer - (e.base + e.span)) = omega arith in
-    sym (uncle-here e c.args.layer c.args.index c.if-layer-cover.false same ∙ hash_past e (2 ^ e.span + (c.args.layer - (e.base + e.span))) outside (omega arith))
+    sym (uncle-here e c.args.layer c.args.index c.if-layer-cover.false same
+        ∙ hash_past e (2 ^ e.span + (c.args.layer - (e.base + e.span))) outside (omega arith))

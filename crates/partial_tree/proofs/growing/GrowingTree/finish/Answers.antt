@@ -15,7 +15,8 @@ layers-init g c =
     record {
       length = c.add_pads.ensures.stays.length ∙ c.self.invariant.0 ∙ ap (λ (t : GrownTree). t.length) c.self.view_is;
       marked = c.add_pads.ensures.stays.marked ∙ c.self.invariant.2;
-      up_to = padded old.shape old.count (g.N.NodeMap.seen old.nodes).known c.args.self c.self.view_is c.requires c.self.invariant.3 _ _ (g.N.NodeMap.seen c.add_pads.new.map).known
+      up_to = padded old.shape old.count (g.N.NodeMap.seen old.nodes).known c.args.self c.self.view_is c.requires c.self.invariant.3 _ _
+          (g.N.NodeMap.seen c.add_pads.new.map).known
           c.blocks-blocks.ensures.value wide c.in_ok-add_pads.ensures.added;
     }
 
@@ -40,14 +41,17 @@ layers-preserved g c =
     record {
       length = c.add_parents.ensures.stays.length ∙ c.layers.invariant.length;
       marked = c.add_parents.ensures.stays.marked ∙ c.layers.invariant.marked;
-      up_to = next_layer c.args.self c.layers.layer (c.layers.layer + 1) _ (g.N.NodeMap.seen c.layers.nodes).known (g.N.NodeMap.seen c.add_parents.new.map).known c.requires low next wide c.layers.invariant.up_to c.in_ok-add_parents.ensures.added;
+      up_to = next_layer c.args.self c.layers.layer (c.layers.layer + 1) _ (g.N.NodeMap.seen c.layers.nodes).known
+          (g.N.NodeMap.seen c.add_parents.new.map).known c.requires low next wide c.layers.invariant.up_to c.in_ok-add_parents.ensures.added;
     }
 
 pub invariant_of-result : goal.invariant_of-result
 invariant_of-result g c =
     let old = c.self.inside in
-    let top : c.layers.layer ≡ tree_height old.shape = (let reached : c.layers.layer ≡ c.height-height.result = omega (arith, c.layers-test.false, c.layers.auto.layer-end) in reached ∙ c.height-height.ensures.value) in
-    let end = ended old.shape old.count (g.N.NodeMap.seen old.nodes).known c.args.self c.self.view_is c.requires c.self.invariant.3 c.layers.layer (g.N.NodeMap.seen c.layers.nodes).known (g.N.NodeMap.seen c.trim.new.self).known top c.layers.invariant.up_to (known-of c.trim.ensures.seen) in (
+    let top : c.layers.layer ≡ tree_height old.shape = (let reached : c.layers.layer ≡ c.height-height.result =
+        omega (arith, c.layers-test.false, c.layers.auto.layer-end) in reached ∙ c.height-height.ensures.value) in
+    let end = ended old.shape old.count (g.N.NodeMap.seen old.nodes).known c.args.self c.self.view_is c.requires c.self.invariant.3 c.layers.layer
+        (g.N.NodeMap.seen c.layers.nodes).known (g.N.NodeMap.seen c.trim.new.self).known top c.layers.invariant.up_to (known-of c.trim.ensures.seen) in (
       (length-of c.trim.ensures.seen) ∙ c.layers.invariant.length ∙ sym (ap (λ (t : GrownTree). t.length) c.self.view_is),
       (marked-of c.trim.ensures.seen) ∙ c.layers.invariant.marked,
       c.trim.ensures.held,
@@ -58,8 +62,10 @@ invariant_of-result g c =
 pub returns-clause-leaves : goal.returns-clause-leaves
 returns-clause-leaves g c =
     let old = c.self.inside in
-    let top : c.layers.layer ≡ tree_height old.shape = (let reached : c.layers.layer ≡ c.height-height.result = omega (arith, c.layers-test.false, c.layers.auto.layer-end) in reached ∙ c.height-height.ensures.value) in
-    (ended old.shape old.count (g.N.NodeMap.seen old.nodes).known c.args.self c.self.view_is c.requires c.self.invariant.3 c.layers.layer (g.N.NodeMap.seen c.layers.nodes).known (g.N.NodeMap.seen c.trim.new.self).known top c.layers.invariant.up_to (known-of c.trim.ensures.seen)).2
+    let top : c.layers.layer ≡ tree_height old.shape = (let reached : c.layers.layer ≡ c.height-height.result =
+        omega (arith, c.layers-test.false, c.layers.auto.layer-end) in reached ∙ c.height-height.ensures.value) in
+    (ended old.shape old.count (g.N.NodeMap.seen old.nodes).known c.args.self c.self.view_is c.requires c.self.invariant.3 c.layers.layer
+        (g.N.NodeMap.seen c.layers.nodes).known (g.N.NodeMap.seen c.trim.new.self).known top c.layers.invariant.up_to (known-of c.trim.ensures.seen)).2
 
 on_err : {A E : Type 0} (P : Type 0) (r : Result A E) → P → OnErr r P
 on_err P (Ok x) p = tt

@@ -14,7 +14,8 @@ returns-clause-file c =
           (some_held c.is_empty.result self.cutter.filled c.is_empty.ensures w.if-not-is_empty.true)
           w.close.ensures.digest
           (λ running held. w.padded-is ∙ w.filled_up-padded.ensures running held)
-          (let items : c.if-not-is_empty.self.cuts.items ≡ self.cuts.items ++ w.close.result ∷ [] = ap (λ (s : V1Cuts). s.cuts.items) w.self-is ∙ w.in_ok-push.ensures.items in items)
+          (let items : c.if-not-is_empty.self.cuts.items ≡ self.cuts.items ++ w.close.result ∷ [] = ap (λ (s : V1Cuts). s.cuts.items) w.self-is
+              ∙ w.in_ok-push.ensures.items in items)
       | else-not-is_empty w ↦
           ends_empty self _ self.cutter.some (c.is_empty.ensures.0 w.if-not-is_empty.false) (ap (λ (s : V1Cuts). s.cuts.items) w.self-is)
     ]

@@ -6,4 +6,5 @@ use Rattle.session.proofs.session.Session.closed_trees.Goals as goal
 
 pub returns : goal.returns
 returns g c =
-    subst (λ (v : SessionSeen). HasClosedTrees v) c.self.view_is (kept-closed c.self.inside.torrent.now c.self.inside.trees.items c.self.invariant c.self.inside.asks)
+    subst (λ (v : SessionSeen). HasClosedTrees v) c.self.view_is (kept-closed c.self.inside.torrent.now c.self.inside.trees.items c.self.invariant
+        c.self.inside.asks)

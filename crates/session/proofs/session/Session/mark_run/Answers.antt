@@ -37,7 +37,8 @@ block_of-requires g c = run-offset c.requires.0.length c.args.first (length c.ar
 pub mark_in_file-marked-requires : goal.mark_in_file-marked-requires
 mark_in_file-marked-requires g c =
     subst (λ (d : Description). HasBlock d c.args.file (c.args.first + c.numbers.number))
-    (sym (chain-torrent c.args.file c.args.self.now (cuts c.args.first c.args.bytes.now c.numbers.number) c.numbers.blocks.refusals c.numbers.self c.numbers.invariant.each))
+    (sym (chain-torrent c.args.file c.args.self.now (cuts c.args.first c.args.bytes.now c.numbers.number) c.numbers.blocks.refusals c.numbers.self
+        c.numbers.invariant.each))
     (run-has c.args.self.now.torrent c.args.file c.args.first (length c.args.bytes.now) c.args.count c.numbers.number c.requires c.numbers-test.true)
 
 pub push-requires : goal.push-requires
@@ -54,9 +55,11 @@ numbers-preserved g c =
       file = ap (λ (v : BlocksSeen). v.file) c.push.ensures ∙ c.numbers.invariant.file;
       first = ap (λ (v : BlocksSeen). v.first) c.push.ensures ∙ c.numbers.invariant.first;
       count = ap length told ∙ count;
-      each = subst (λ rs. Chain (BlockStep c.args.file) c.args.self.now (cuts c.args.first c.args.bytes.now (c.numbers.number + 1)) rs c.mark_in_file-marked.new.self)
+      each = subst (λ rs. Chain (BlockStep c.args.file) c.args.self.now (cuts c.args.first c.args.bytes.now (c.numbers.number + 1)) rs
+          c.mark_in_file-marked.new.self)
           (ap (λ r. c.numbers.blocks.refusals ++ r ∷ []) (sym c.err.ensures.value) ∙ sym told)
-          (next_block c.args.file c.args.self.now c.args.first c.args.bytes.now c.numbers.number c.numbers.blocks.refusals c.numbers.self c.numbers.invariant.each
+          (next_block c.args.file c.args.self.now c.args.first c.args.bytes.now c.numbers.number c.numbers.blocks.refusals c.numbers.self
+              c.numbers.invariant.each
           c.block_of.result.now c.mark_in_file-marked.result c.mark_in_file-marked.new.self c.block_of.ensures
           c.mark_in_file-marked.ensures.marked c.mark_in_file-marked.ensures.refused);
     }
@@ -73,4 +76,5 @@ returns-clause-count g c = omega (arith, c.numbers.invariant.count, c.numbers.au
 pub returns-clause-each : goal.returns-clause-each
 returns-clause-each g c =
     let all : c.numbers.number ≡ c.args.count = omega (arith, c.numbers.auto.number-end, c.numbers-test.false) in
-    subst (λ n. Chain (BlockStep c.args.file) c.args.self.now (cuts c.args.first c.args.bytes.now n) c.numbers.blocks.refusals c.numbers.self) all c.numbers.invariant.each
+    subst (λ n. Chain (BlockStep c.args.file) c.args.self.now (cuts c.args.first c.args.bytes.now n) c.numbers.blocks.refusals c.numbers.self) all
+        c.numbers.invariant.each

@@ -13,7 +13,8 @@ returns-in-Ok-clause-stored g c = record {
   was_open = c.is_open.ensures.0 c.if-not-is_open.false;
   joined = c.take_hashes.new.self;
   stored = c.in-Ok.ensures.stored;
-  state_after = ap (λ (o : AskSet). seen c.self.inside.torrent.now o c.self.inside.trees.items) c.remove.ensures ∙ ap (λ (v : SessionSeen). without_ask v c.args.ask.now) c.self.view_is;
+  state_after = ap (λ (o : AskSet). seen c.self.inside.torrent.now o c.self.inside.trees.items) c.remove.ensures
+      ∙ ap (λ (v : SessionSeen). without_ask v c.args.ask.now) c.self.view_is;
 }
 
 -- closing the ask leaves the trees
