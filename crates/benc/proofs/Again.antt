@@ -67,7 +67,7 @@ plus_again n rest small =
     let other = stops_digits 101 (omega arith) in
     let inside : ltb n (2 ^ 63) ≡ true = grind (arith, nat_tests, small) in
     ap₂ (integer_of false) (front_is run 101 rest numeral.0.1 other) (after_is run 101 rest numeral.0.1 other)
-        ∙ rw (decimal_plain n (omega arith), numeral.1, inside) refl
+    ∙ rw (decimal_plain n (omega arith), numeral.1, inside) refl
 
 minus_again : (n : ℕ) (rest : List ℕ) → n < 2 ^ 63 → digits_at true (decimal (suc n) ++ 101 ∷ rest) ≡ Ok (negsuc n, rest)
 minus_again n rest small =
@@ -78,7 +78,7 @@ minus_again n rest small =
     let first = first_decimal (suc n) (omega arith) (omega arith) in
     let head : eqb (get_or run 0 0) 48 ≡ false = is_other _ _ (λ e. omega arith) in
     ap₂ (integer_of true) (front_is run 101 rest numeral.0.1 other) (after_is run 101 rest numeral.0.1 other)
-        ∙ rw (decimal_plain (suc n) (omega arith), head, numeral.1, inside) refl
+    ∙ rw (decimal_plain (suc n) (omega arith), head, numeral.1, inside) refl
 
 unsigned_at : (run rest : List ℕ) → AllDigits 10 run → 0 < length run → integer_at (run ++ rest) ≡ digits_at false (run ++ rest)
 unsigned_at [] rest h long = absurd (omega arith)
@@ -109,7 +109,7 @@ key_again before k rest small above =
     let numeral = decimal_is_IsNumeral (length k) (omega arith) in
     let regrouped : string k ++ rest ≡ run ++ (58 ∷ (k ++ rest)) = append_assoc run (58 ∷ k) rest in
     ap (key_at before) regrouped ∙ key_cons before run (58 ∷ (k ++ rest)) numeral.0.1 numeral.0.0 ∙ ap (λ b. in_order before (string_at b)) (sym regrouped)
-        ∙ ap (in_order before) (string_again k rest small)
+    ∙ ap (in_order before) (string_again k rest small)
     ∙ ap (λ b. cond b (Ok (k, rest)) (Err KeyOrder)) (above_is k before above)
 
 pub spelled_head : (room : ℕ) (v : Bencode) (b : List ℕ) → Spelled room v b → (c : ℕ) × (t : List ℕ) × (b ≡ c ∷ t) × (c ≢ 101)
@@ -149,24 +149,24 @@ mutual
   pub value_again : (v : Bencode) (room : ℕ) (front rest : List ℕ) → Spelled room v front → value_at room (front ++ rest) ≡ Ok (v, rest)
   value_again (int z) room front rest s =
       let whole : front ++ rest ≡ 105 ∷ (signed_decimal z ++ 101 ∷ rest) = ap (λ t. t ++ rest) s.1
-          ∙ ap (λ t. 105 ∷ t) (append_assoc (signed_decimal z) (101 ∷ []) rest) in
+      ∙ ap (λ t. 105 ∷ t) (append_assoc (signed_decimal z) (101 ∷ []) rest) in
       value_integer room (front ++ rest) (signed_decimal z ++ 101 ∷ rest) whole
-          ∙ ap (λ r. begun_at (front ++ rest) r >>= λ x. Ok (int x.0, x.1)) (integer_again z rest s.0)
+      ∙ ap (λ r. begun_at (front ++ rest) r >>= λ x. Ok (int x.0, x.1)) (integer_again z rest s.0)
   value_again (text t) room front rest s =
       let numeral = decimal_is_IsNumeral (length t) (omega (arith, s.0)) in
       let h = digits_head (decimal (length t)) (58 ∷ (t ++ rest)) numeral.0.1 numeral.0.0 in
       let same : front ++ rest ≡ string t ++ rest = ap (λ b. b ++ rest) s.1 in
       let whole : front ++ rest ≡ h.0 ∷ h.1 = same ∙ append_assoc (decimal (length t)) (58 ∷ t) rest ∙ h.2 in
       value_text room (front ++ rest) h.1 h.0 h.3 h.4 whole ∙ ap (λ r. begun_at (front ++ rest) r >>= λ x. Ok (text x.0, x.1)) (ap string_at same
-          ∙ string_again t rest s.0)
+      ∙ string_again t rest s.0)
   value_again (list vs) room front rest s =
       let whole : front ++ rest ≡ 108 ∷ (s.1 ++ 101 ∷ rest) = ap (λ t. t ++ rest) s.2 ∙ ap (λ t. 108 ∷ t) (append_assoc s.1 (101 ∷ []) rest) in
       value_items room (front ++ rest) (s.1 ++ 101 ∷ rest) s.0 whole
-          ∙ ap (λ r. r >>= λ x. Ok (list x.0, x.1)) (items_again vs (room - 1) (length (s.1 ++ 101 ∷ rest)) s.1 rest s.3 (omega arith))
+      ∙ ap (λ r. r >>= λ x. Ok (list x.0, x.1)) (items_again vs (room - 1) (length (s.1 ++ 101 ∷ rest)) s.1 rest s.3 (omega arith))
   value_again (dict ps) room front rest s =
       let whole : front ++ rest ≡ 100 ∷ (s.1 ++ 101 ∷ rest) = ap (λ t. t ++ rest) s.2 ∙ ap (λ t. 100 ∷ t) (append_assoc s.1 (101 ∷ []) rest) in
       value_pairs room (front ++ rest) (s.1 ++ 101 ∷ rest) s.0 whole
-          ∙ ap (λ r. r >>= λ x. Ok (dict x.0, x.1)) (pairs_again ps (room - 1) None (length (s.1 ++ 101 ∷ rest)) s.1 rest s.3 (omega arith))
+      ∙ ap (λ r. r >>= λ x. Ok (dict x.0, x.1)) (pairs_again ps (room - 1) None (length (s.1 ++ 101 ∷ rest)) s.1 rest s.3 (omega arith))
 
   items_again : (vs : Items) (room n : ℕ) (inner rest : List ℕ) → SpelledItems room vs inner → length (inner ++ 101 ∷ rest) ≤ n
       → items_at (value_at room) n (inner ++ 101 ∷ rest) ≡ Ok (vs, rest)
@@ -182,7 +182,7 @@ mutual
       let long : 0 < length first = omega (arith, ap length head.2) in
       let starts : inner ++ 101 ∷ rest ≡ head.0 ∷ (head.1 ++ after) = whole ∙ ap (λ t. t ++ after) head.2 in
       items_step_at (value_at room) n head.0 (inner ++ 101 ∷ rest) (head.1 ++ after) after v vs rest starts head.3 (ap (value_at room) whole
-          ∙ value_again v room first after s.3) (items_again vs room n s.1 rest s.4 (omega arith))
+      ∙ value_again v room first after s.3) (items_again vs room n s.1 rest s.4 (omega arith))
 
   pairs_again : (ps : Pairs) (room : ℕ) (before : Option (List ℕ)) (n : ℕ) (inner rest : List ℕ) → SpelledPairs room before ps inner
       → length (inner ++ 101 ∷ rest) ≤ n → pairs_at (value_at room) n before (inner ++ 101 ∷ rest) ≡ Ok (ps, rest)
@@ -195,13 +195,13 @@ mutual
       let numeral = decimal_is_IsNumeral (length k) (omega (arith, s.3)) in
       let head = digits_head (decimal (length k)) (58 ∷ (k ++ (first ++ after))) numeral.0.1 numeral.0.0 in
       let whole : inner ++ 101 ∷ rest ≡ string k ++ (first ++ after) = ap (λ t. t ++ 101 ∷ rest) s.2 ∙ append_assoc (string k) (first ++ s.1) (101 ∷ rest)
-          ∙ ap (λ t. string k ++ t) (append_assoc first s.1 (101 ∷ rest)) in
+      ∙ ap (λ t. string k ++ t) (append_assoc first s.1 (101 ∷ rest)) in
       let size : length (inner ++ 101 ∷ rest) ≡ length (string k) + (length first + length after) = ap length whole ∙ length-append (string k) (first ++ after)
-          ∙ ap (λ m. length (string k) + m) (length-append first after) in
+      ∙ ap (λ m. length (string k) + m) (length-append first after) in
       let long : 0 < length (string k) = omega (arith, length-append (decimal (length k)) (58 ∷ k)) in
       let starts : inner ++ 101 ∷ rest ≡ head.0 ∷ head.1 = whole ∙ append_assoc (decimal (length k)) (58 ∷ k) (first ++ after) ∙ head.2 in
       pairs_step_at (value_at room) n head.0 before (inner ++ 101 ∷ rest) head.1 k (first ++ after) after v ps rest starts (λ e. omega arith)
-          (ap (key_at before) whole ∙ key_again before k (first ++ after) s.3 s.4)
+      (ap (key_at before) whole ∙ key_again before k (first ++ after) s.3 s.4)
       (value_again v room first after s.5) (pairs_again ps room (Some k) n s.1 rest s.6 (omega arith))
 
 -- one value and one rest

@@ -18,8 +18,11 @@ value_or_fault b = by_reading (value_at 128 b) refl
   where
     by_rest : (v : Bencode) (front rest : List ℕ) → b ≡ front ++ rest → Spelled 128 v front → Answer b
     by_rest v front [] e s = inl (v, subst (λ t. Spelled 128 v t) (sym (e ∙ append-nil front)) s)
-    by_rest v front (c ∷ rest) e s = inr (Trailing, length front,
-        inr (record { value = v; front = front; rest = c ∷ rest; parts = e; place = refl; spells = s; more = omega arith; is = refl }))
+    by_rest v front (c ∷ rest) e s = inr (
+      Trailing,
+      length front,
+      inr (record { value = v; front = front; rest = c ∷ rest; parts = e; place = refl; spells = s; more = omega arith; is = refl }),
+    )
 
     by_reading : (r : Parsed Bencode) → value_at 128 b ≡ r → Answer b
     by_reading (Ok x) h = let t = value_takes 128 b x h in by_rest x.0 t.0 x.1 t.1 t.2

@@ -20,7 +20,7 @@ abbrev pub Further : ℕ → Due → List ℕ → Failed → Type 0
 Further room d bytes e =
     ((bytes ≡ e.1) × (scanned_fault d room bytes ≡ Some e.0))
     ⊎ ((l : Level) × (ls : List Level) × (due : Due) × (left : ℕ) × (front : List ℕ) × (bytes ≡ front ++ e.1) × Begun room (l ∷ ls) front due left
-        × (scanned_fault due left e.1 ≡ Some e.0))
+    × (scanned_fault due left e.1 ≡ Some e.0))
 
 abbrev bad : {A : Type 0} → Failed → Result A Failed
 bad e = Err e
@@ -57,10 +57,22 @@ module _ (room : ℕ) (read : List ℕ → Parsed Bencode) (sound : (b : List �
     (stops : (b : List ℕ) (e : Failed) → read b ≡ Err e → Further room a_value b e) where
   items_stop : (n : ℕ) (bytes : List ℕ) (e : Failed) → length bytes ≤ n → items_at read n bytes ≡ Err e → ItemsStop room bytes e
   unfolding items_at
-  items_stop zero [] e le h = subst (λ x. ItemsStop room [] x) (err_of {A = Items × List ℕ} (Truncated, []) e h) (no_items, [], [], refl, refl,
-      inl (refl, refl))
-  items_stop (suc n) [] e le h = subst (λ x. ItemsStop room [] x) (err_of {A = Items × List ℕ} (Truncated, []) e h) (no_items, [], [], refl, refl,
-      inl (refl, refl))
+  items_stop zero [] e le h = subst (λ x. ItemsStop room [] x) (err_of {A = Items × List ℕ} (Truncated, []) e h) (
+    no_items,
+    [],
+    [],
+    refl,
+    refl,
+    inl (refl, refl),
+  )
+  items_stop (suc n) [] e le h = subst (λ x. ItemsStop room [] x) (err_of {A = Items × List ℕ} (Truncated, []) e h) (
+    no_items,
+    [],
+    [],
+    refl,
+    refl,
+    inl (refl, refl),
+  )
   items_stop zero (c ∷ bytes) e le h = absurd (omega arith)
   items_stop (suc n) (c ∷ bytes) e le h = by_mark (λ b d l g. items_stop n b d l g) (eqb c 101) refl h
     where
@@ -74,9 +86,15 @@ module _ (room : ℕ) (read : List ℕ → Parsed Bencode) (sound : (b : List �
             | inr p ↦
                 let less = shorter (c ∷ bytes) p.0 p.1 in
                 let first = sound (c ∷ bytes) p.0 p.1 in
-                let k = again p.0.1 e (omega arith) (mapped_err (items_at read n p.0.1) (λ z. (item p.0.0 z.0, z.1)) e p.2) in
-                (item p.0.0 k.0, first.0 ++ k.1, k.2, first.1 ∙ ap (λ t. first.0 ++ t) k.3
-                    ∙ sym (append_assoc first.0 k.1 k.2), (first.0, k.1, refl, first.2, k.4), k.5)
+                let k = again p.0.1 e (omega arith) (mapped_err (items_at read n p.0.1) (λ z. (item p.0.0 z.0, z.1)) e p.2) in (
+                  item p.0.0 k.0,
+                  first.0 ++ k.1,
+                  k.2,
+                  first.1 ∙ ap (λ t. first.0 ++ t) k.3
+                      ∙ sym (append_assoc first.0 k.1 k.2),
+                  (first.0, k.1, refl, first.2, k.4),
+                  k.5,
+                )
           ]
 
 -- a list that stopped, behind its mark
@@ -85,11 +103,27 @@ list_stops room bytes e k = by_place k.5
   where
     by_place : Further room a_value_or_end k.2 e → Further (suc room) a_value (108 ∷ bytes) e
     by_place (inl p) =
-        inr (in_list k.0, [], a_value_or_end, room, 108 ∷ k.1, ap (λ t. 108 ∷ t) (k.3 ∙ ap (λ t. k.1 ++ t) p.0), (room, refl, (k.1, refl, k.4), refl, refl),
-            subst (λ t. scanned_fault a_value_or_end room t ≡ Some e.0) p.0 p.1)
+        inr (
+          in_list k.0,
+          [],
+          a_value_or_end,
+          room,
+          108 ∷ k.1,
+          ap (λ t. 108 ∷ t) (k.3 ∙ ap (λ t. k.1 ++ t) p.0),
+          (room, refl, (k.1, refl, k.4), refl, refl),
+          subst (λ t. scanned_fault a_value_or_end room t ≡ Some e.0) p.0 p.1,
+        )
     by_place (inr (l, ls, due, left, front, parts, begun, fails)) =
-        inr (in_list k.0, l ∷ ls, due, left, (108 ∷ k.1) ++ front, ap (λ t. 108 ∷ t) (k.3 ∙ ap (λ t. k.1 ++ t) parts ∙ sym (append_assoc k.1 front e.1)),
-            (room, 108 ∷ k.1, front, refl, refl, (k.1, refl, k.4), tt, begun), fails)
+        inr (
+          in_list k.0,
+          l ∷ ls,
+          due,
+          left,
+          (108 ∷ k.1) ++ front,
+          ap (λ t. 108 ∷ t) (k.3 ∙ ap (λ t. k.1 ++ t) parts ∙ sym (append_assoc k.1 front e.1)),
+          (room, 108 ∷ k.1, front, refl, refl, (k.1, refl, k.4), tt, begun),
+          fails,
+        )
 
 began_only : {A : Type 0} (start : List ℕ) (r : Result A FaultKind) (e : Failed) → begun_at start r ≡ Err e → (f : FaultKind) × (r ≡ Err f) × ((f, start) ≡ e)
 began_only start (Ok x) e h = absurd cc
@@ -111,10 +145,22 @@ module _ (room : ℕ) (read : List ℕ → Parsed Bencode) (sound : (b : List �
   pairs_stop : (n : ℕ) (before : Option (List ℕ)) (bytes : List ℕ) (e : Failed) → length bytes ≤ n → pairs_at read n before bytes ≡ Err e
       → PairsStop room before bytes e
   unfolding pairs_at
-  pairs_stop zero before [] e le h = subst (λ x. PairsStop room before [] x) (err_of {A = Pairs × List ℕ} (Truncated, []) e h) (no_pairs, [], [], refl, refl,
-      inl (refl, refl))
-  pairs_stop (suc n) before [] e le h = subst (λ x. PairsStop room before [] x) (err_of {A = Pairs × List ℕ} (Truncated, []) e h) (no_pairs, [], [], refl, refl,
-      inl (refl, refl))
+  pairs_stop zero before [] e le h = subst (λ x. PairsStop room before [] x) (err_of {A = Pairs × List ℕ} (Truncated, []) e h) (
+    no_pairs,
+    [],
+    [],
+    refl,
+    refl,
+    inl (refl, refl),
+  )
+  pairs_stop (suc n) before [] e le h = subst (λ x. PairsStop room before [] x) (err_of {A = Pairs × List ℕ} (Truncated, []) e h) (
+    no_pairs,
+    [],
+    [],
+    refl,
+    refl,
+    inl (refl, refl),
+  )
   pairs_stop zero before (c ∷ bytes) e le h = absurd (omega arith)
   pairs_stop (suc n) before (c ∷ bytes) e le h = by_mark (λ k b d l g. pairs_stop n (Some k) b d l g) (eqb c 101) refl h
     where
@@ -142,11 +188,11 @@ module _ (room : ℕ) (read : List ℕ → Parsed Bencode) (sound : (b : List �
 
       by_mark : ((k b : List ℕ) (d : Failed) → length b ≤ n → pairs_at read n (Some k) b ≡ Err d → PairsStop room (Some k) b d) → (m : Bool) → eqb c 101 ≡ m
           → cond {A = Parsed Pairs} m (Ok (no_pairs, bytes)) (begun_at (c ∷ bytes) (key_at before (c ∷ bytes)) >>= λ k. read k.1 >>= λ y. pairs_at read n
-              (Some k.0) y.1 >>= λ z. Ok (pair k.0 y.0 z.0, z.1)) ≡ Err e → PairsStop room before (c ∷ bytes) e
+          (Some k.0) y.1 >>= λ z. Ok (pair k.0 y.0 z.0, z.1)) ≡ Err e → PairsStop room before (c ∷ bytes) e
       by_mark again true m f = absurd cc
       by_mark again false m f =
           elim (bind_err (begun_at (c ∷ bytes) (key_at before (c ∷ bytes))) (λ k. read k.1 >>= λ y. pairs_at read n (Some k.0) y.1 >>= λ z. Ok
-              (pair k.0 y.0 z.0, z.1)) e f) [
+          (pair k.0 y.0 z.0, z.1)) e f) [
             | inl p ↦
                 let b = began_only (c ∷ bytes) (key_at before (c ∷ bytes)) e p in
                 subst (λ x. PairsStop room before (c ∷ bytes) x) b.2 (no_pairs, [], c ∷ bytes, refl, refl, inl (refl, rw m (ap fault_of b.1)))
@@ -185,8 +231,16 @@ dict_stops room bytes e k = by_place k.5
 
     by_place : PairFurther room (last_key None k.0) k.2 e → Further (suc room) a_value (100 ∷ bytes) e
     by_place (inl p) =
-        inr (in_dict k.0, [], a_key_or_end (last_key None k.0), room, 100 ∷ k.1, ap (λ t. 100 ∷ t) (k.3 ∙ ap (λ t. k.1 ++ t) p.0),
-            (room, refl, (k.1, refl, k.4), refl, refl), subst (λ t. scanned_fault (a_key_or_end (last_key None k.0)) room t ≡ Some e.0) p.0 p.1)
+        inr (
+          in_dict k.0,
+          [],
+          a_key_or_end (last_key None k.0),
+          room,
+          100 ∷ k.1,
+          ap (λ t. 100 ∷ t) (k.3 ∙ ap (λ t. k.1 ++ t) p.0),
+          (room, refl, (k.1, refl, k.4), refl, refl),
+          subst (λ t. scanned_fault (a_key_or_end (last_key None k.0)) room t ≡ Some e.0) p.0 p.1,
+        )
     by_place (inr (n, b, parts, small, above, further)) = in_value n b parts small above further
 
 pick_digit : (p q r s : Bool) (a t b d : Option FaultKind) → p ≡ false → q ≡ false → r ≡ false → s ≡ true → cond p a (cond (q || r) t (cond s b d)) ≡ b
@@ -209,28 +263,31 @@ module _ (room : ℕ) (ls : List ℕ → List ℕ → Parsed Items) (ds : List �
           (inl (refl, pick_last (eqb c 105) (eqb c 108) (eqb c 100) (is_digit c) _ _ _ _ i l d m))
       by_digit true m i l d f =
           let b = began_err (c ∷ bytes) (string_at (c ∷ bytes)) (λ y. (text y.0, y.1)) e f in
-          subst (λ x. Further room a_value (c ∷ bytes) x) b.2 (inl (refl, pick_digit (eqb c 105) (eqb c 108) (eqb c 100) (is_digit c) _ _ _ _ i l d m
-              ∙ ap fault_of b.1))
+          subst (λ x. Further room a_value (c ∷ bytes) x) b.2 (inl (
+            refl,
+            pick_digit (eqb c 105) (eqb c 108) (eqb c 100) (is_digit c) _ _ _ _ i l d m
+                ∙ ap fault_of b.1,
+          ))
 
       by_d : (m : Bool) → eqb c 100 ≡ m → eqb c 105 ≡ false → eqb c 108 ≡ false
           → cond {A = Parsed Bencode} m (ds (c ∷ bytes) bytes >>= λ y. Ok (dict y.0, y.1))
-              (cond (is_digit c) (begun_at (c ∷ bytes) (string_at (c ∷ bytes)) >>= λ y. Ok (text y.0, y.1)) (Err (BadStart, c ∷ bytes))) ≡ Err e
+          (cond (is_digit c) (begun_at (c ∷ bytes) (string_at (c ∷ bytes)) >>= λ y. Ok (text y.0, y.1)) (Err (BadStart, c ∷ bytes))) ≡ Err e
           → Further room a_value (c ∷ bytes) e
       by_d true m i l f = dict_stop c bytes e (eqb-true c 100 m) (mapped_err (ds (c ∷ bytes) bytes) (λ y. (dict y.0, y.1)) e f)
       by_d false m i l f = by_digit (is_digit c) refl i l m f
 
       by_l : (m : Bool) → eqb c 108 ≡ m → eqb c 105 ≡ false
           → cond {A = Parsed Bencode} m (ls (c ∷ bytes) bytes >>= λ y. Ok (list y.0, y.1)) (cond (eqb c 100) (ds (c ∷ bytes) bytes >>= λ y. Ok (dict y.0, y.1))
-              (cond (is_digit c) (begun_at (c ∷ bytes) (string_at (c ∷ bytes)) >>= λ y. Ok (text y.0, y.1)) (Err (BadStart, c ∷ bytes)))) ≡ Err e
-              → Further room a_value (c ∷ bytes) e
+          (cond (is_digit c) (begun_at (c ∷ bytes) (string_at (c ∷ bytes)) >>= λ y. Ok (text y.0, y.1)) (Err (BadStart, c ∷ bytes)))) ≡ Err e
+          → Further room a_value (c ∷ bytes) e
       by_l true m i f = list_stop c bytes e (eqb-true c 108 m) (mapped_err (ls (c ∷ bytes) bytes) (λ y. (list y.0, y.1)) e f)
       by_l false m i f = by_d (eqb c 100) refl i m f
 
       by_i : (m : Bool) → eqb c 105 ≡ m
           → cond {A = Parsed Bencode} m (begun_at (c ∷ bytes) (integer_at bytes) >>= λ y. Ok (int y.0, y.1))
-              (cond (eqb c 108) (ls (c ∷ bytes) bytes >>= λ y. Ok (list y.0, y.1)) (cond (eqb c 100) (ds (c ∷ bytes) bytes >>= λ y. Ok (dict y.0, y.1))
-              (cond (is_digit c) (begun_at (c ∷ bytes) (string_at (c ∷ bytes)) >>= λ y. Ok (text y.0, y.1)) (Err (BadStart, c ∷ bytes))))) ≡ Err e
-              → Further room a_value (c ∷ bytes) e
+          (cond (eqb c 108) (ls (c ∷ bytes) bytes >>= λ y. Ok (list y.0, y.1)) (cond (eqb c 100) (ds (c ∷ bytes) bytes >>= λ y. Ok (dict y.0, y.1))
+          (cond (is_digit c) (begun_at (c ∷ bytes) (string_at (c ∷ bytes)) >>= λ y. Ok (text y.0, y.1)) (Err (BadStart, c ∷ bytes))))) ≡ Err e
+          → Further room a_value (c ∷ bytes) e
       by_i true m f =
           let b = began_err (c ∷ bytes) (integer_at bytes) (λ y. (int y.0, y.1)) e f in
           subst (λ x. Further room a_value (c ∷ bytes) x) b.2 (inl (refl, rw m (ap fault_of b.1)))
@@ -252,17 +309,17 @@ unfolding value_at
 value_stops zero bytes e h =
     level_stops 0 (λ s b. Err (TooDeep, s)) (λ s b. Err (TooDeep, s))
     (λ c b d i g. subst (λ x. Further 0 a_value (c ∷ b) x) (err_of {A = Items × List ℕ} (TooDeep, c ∷ b) d g)
-        (inl (refl, subst (λ y. value_fault 0 (y ∷ b) ≡ Some TooDeep) (sym i) refl)))
+    (inl (refl, subst (λ y. value_fault 0 (y ∷ b) ≡ Some TooDeep) (sym i) refl)))
     (λ c b d i g. subst (λ x. Further 0 a_value (c ∷ b) x) (err_of {A = Pairs × List ℕ} (TooDeep, c ∷ b) d g)
-        (inl (refl, subst (λ y. value_fault 0 (y ∷ b) ≡ Some TooDeep) (sym i) refl))) bytes e h
+    (inl (refl, subst (λ y. value_fault 0 (y ∷ b) ≡ Some TooDeep) (sym i) refl))) bytes e h
 value_stops (suc room) bytes e h =
     level_stops (suc room) (λ s b. items_at (value_at room) (length b) b) (λ s b. pairs_at (value_at room) (length b) None b)
     (λ c b d i g. subst (λ y. Further (suc room) a_value (y ∷ b) d) (sym i)
-        (list_stops room b d (items_stop room (value_at room) (λ x y z. value_takes room x y z) (λ x y z. value_shorter room x y z)
-        (λ x y z. value_stops room x y z) (length b) b d (omega arith) g)))
+    (list_stops room b d (items_stop room (value_at room) (λ x y z. value_takes room x y z) (λ x y z. value_shorter room x y z)
+    (λ x y z. value_stops room x y z) (length b) b d (omega arith) g)))
     (λ c b d i g. subst (λ y. Further (suc room) a_value (y ∷ b) d) (sym i)
-        (dict_stops room b d (pairs_stop room (value_at room) (λ x y z. value_takes room x y z) (λ x y z. value_shorter room x y z)
-        (λ x y z. value_stops room x y z) (length b) None b d (omega arith) g))) bytes e h
+    (dict_stops room b d (pairs_stop room (value_at room) (λ x y z. value_takes room x y z) (λ x y z. value_shorter room x y z)
+    (λ x y z. value_stops room x y z) (length b) None b d (omega arith) g))) bytes e h
 
 -- the failing item stands in the input
 pub stopped_within : (room : ℕ) (bytes : List ℕ) (e : Failed) → Further room a_value bytes e → length e.1 ≤ length bytes
@@ -272,12 +329,30 @@ stopped_within room bytes e (inr (l, ls, due, left, front, parts, begun, fails))
 pub stops_from : (room : ℕ) (bytes : List ℕ) (e : Failed) (offset : ℕ) → room ≡ 128 → offset ≡ length bytes - length e.1 → Further room a_value bytes e
     → Stops bytes e.0 offset
 stops_from room bytes e offset full place (inl p) =
-    record { levels = []; due = a_value; left = 128; front = []; rest = e.1; parts = p.0; place = omega (arith, ap length p.0); begun = (refl, refl, refl);
-        fails = sym (table_is a_value 128 e.1) ∙ subst (λ r. scanned_fault a_value r e.1 ≡ Some e.0) full (subst (λ t. scanned_fault a_value room t ≡ Some e.0)
-        p.0 p.1) }
+    record {
+      levels = [];
+      due = a_value;
+      left = 128;
+      front = [];
+      rest = e.1;
+      parts = p.0;
+      place = omega (arith, ap length p.0);
+      begun = (refl, refl, refl);
+      fails = sym (table_is a_value 128 e.1) ∙ subst (λ r. scanned_fault a_value r e.1 ≡ Some e.0) full (subst (λ t. scanned_fault a_value room t ≡ Some e.0)
+          p.0 p.1);
+    }
 stops_from room bytes e offset full place (inr (l, ls, due, left, front, parts, begun, fails)) =
-    record { levels = l ∷ ls; due = due; left = left; front = front; rest = e.1; parts = parts; place = omega (arith, ap length parts, length-append front e.1);
-        begun = subst (λ r. Begun r (l ∷ ls) front due left) full begun; fails = sym (table_is due left e.1) ∙ fails }
+    record {
+      levels = l ∷ ls;
+      due = due;
+      left = left;
+      front = front;
+      rest = e.1;
+      parts = parts;
+      place = omega (arith, ap length parts, length-append front e.1);
+      begun = subst (λ r. Begun r (l ∷ ls) front due left) full begun;
+      fails = sym (table_is due left e.1) ∙ fails;
+    }
 
 -- no line of the table says that memory ran out
 abbrev IsNamed : Option FaultKind → Type 0
@@ -347,7 +422,7 @@ value_named left [] = named_truncated
 value_named left (c ∷ rest) =
     named_choice (eqb c 105) _ _ (told_named (integer_at rest) (integer_named rest))
     (named_choice (eqb c 108 || eqb c 100) _ _ (named_choice (eqb left 0) _ _ named_deep named_none)
-        (named_choice (is_digit c) _ _ (told_named (string_at (c ∷ rest)) (string_named (c ∷ rest))) named_bad_start))
+    (named_choice (is_digit c) _ _ (told_named (string_at (c ∷ rest)) (string_named (c ∷ rest))) named_bad_start))
 
 end_named : (bytes : List ℕ) (o : Option FaultKind) → IsNamed o → IsNamed (fault_unless_end bytes o)
 end_named [] o n = n

@@ -88,8 +88,8 @@ get_stands key input (dict ps) w s h =
       found.1 ++ 101 ∷ [],
       spelled_is 128 (dict ps) input s ∙ ap (λ t. 100 ∷ (t ++ 101 ∷ [])) found.2
           ∙ ap (λ t. 100 ∷ t) (append_assoc found.0 (string key ++ (spelling w ++ found.1)) (101 ∷ [])
-              ∙ ap (λ t. found.0 ++ t) (append_assoc (string key) (spelling w ++ found.1) (101 ∷ [])
-              ∙ ap (λ t. string key ++ t) (append_assoc (spelling w) found.1 (101 ∷ [])))),
+          ∙ ap (λ t. found.0 ++ t) (append_assoc (string key) (spelling w ++ found.1) (101 ∷ [])
+          ∙ ap (λ t. string key ++ t) (append_assoc (spelling w) found.1 (101 ∷ [])))),
     )
 
 -- so the bytes of the value under a key, where there is one, stand in the input

@@ -58,9 +58,14 @@ has_item room (w ∷ vs) v bytes done front rest e s t =
 pub has_pair : (room : ℕ) (ps : List Pair) (k : List ℕ) (v : Bencode) (bytes done front rest : List ℕ) → bytes ≡ done ++ (string k ++ (front ++ rest))
     → SpelledPairs room None (pairs_view ps) done
     → length k < 10 ^ 10 → IsAbove k (last_key None (pairs_view ps)) → Spelled room v front → HasPair room bytes
-has_pair room [] k v bytes done front rest e s small above t =
-    (k, v, string k ++ front, rest, e ∙ ap (λ d. d ++ (string k ++ (front ++ rest))) s ∙ sym (append_assoc (string k) front rest),
-        (front, [], ap (λ b. string k ++ b) (sym (append-nil front)), small, above, t, refl))
+has_pair room [] k v bytes done front rest e s small above t = (
+  k,
+  v,
+  string k ++ front,
+  rest,
+  e ∙ ap (λ d. d ++ (string k ++ (front ++ rest))) s ∙ sym (append_assoc (string k) front rest),
+  (front, [], ap (λ b. string k ++ b) (sym (append-nil front)), small, above, t, refl),
+)
 has_pair room (p ∷ ps) k v bytes done front rest e s small above t =
     let more = string k ++ (front ++ rest) in
     let name = string (pair_view p).0 in (

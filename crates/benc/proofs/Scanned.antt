@@ -87,11 +87,11 @@ digits_told minus run [] = refl
 digits_told minus run (c ∷ rest) =
     let n = digits_value 10 run in
     let test : (not (eqb c 101) || not (is_plain run) || (minus && eqb (get_or run 0 0) 48)) ≡ (not (eqb c 101) || has_ended run || has_leading_zero
-        run || (minus && is_zero run)) =
+    run || (minus && is_zero run)) =
     or_assoc (not (eqb c 101)) (not (is_plain run)) (minus && eqb (get_or run 0 0) 48) ∙ ap (λ b. not (eqb c 101) || b) (zero_is run minus)
-        ∙ sym (or_four (not (eqb c 101)) (has_ended run) (has_leading_zero run) (minus && is_zero run)) in
+    ∙ sym (or_four (not (eqb c 101)) (has_ended run) (has_leading_zero run) (minus && is_zero run)) in
     two_rows _ (in_range minus n) BadInteger IntegerRange (signed minus n, rest)
-        ∙ ap (λ b. cond b (Some BadInteger) (cond (not (in_range minus n)) (Some IntegerRange) None)) test
+    ∙ ap (λ b. cond b (Some BadInteger) (cond (not (in_range minus n)) (Some IntegerRange) None)) test
 
 integer_told : (bytes : List ℕ) → fault_of (integer_at bytes) ≡ first_row (integer_rows bytes)
 integer_told [] = digits_told false (digits_of_front []) (after_digits [])
@@ -136,14 +136,16 @@ string_told run (c ∷ rest) some =
     ∙ ap (λ b. cond b (Some BadLength) (cond (ltb (length rest) n) (Some Truncated) None)) (length_test (not (eqb c 58)) (ltb 10 (length run)) run some)
 
 key_told : (run after : List ℕ) (before : Option (List ℕ)) → has_ended run ≡ false
-    → fault_of (in_order before (string_of run after)) ≡ first_row (length_rows run after ++ (not (is_above (take (digits_value 10 run) (drop 1 after)) before),
-        KeyOrder) ∷ [])
+    → fault_of (in_order before (string_of run after)) ≡ first_row (length_rows run after ++ (
+      not (is_above (take (digits_value 10 run) (drop 1 after)) before),
+      KeyOrder,
+    ) ∷ [])
 key_told run [] before some = refl
 key_told run (c ∷ rest) before some =
     let n = digits_value 10 run in
     more_rows _ (ltb (length rest) n) BadLength Truncated KeyOrder before (take n rest, drop n rest)
     ∙ ap (λ b. cond b (Some BadLength) (cond (ltb (length rest) n) (Some Truncated) (cond (not (is_above (take n rest) before)) (Some KeyOrder) None)))
-        (length_test (not (eqb c 58)) (ltb 10 (length run)) run some)
+    (length_test (not (eqb c 58)) (ltb 10 (length run)) run some)
 
 -- a run is not empty behind a digit
 starts : (c : ℕ) (rest : List ℕ) → is_digit c ≡ true → has_ended (digits_of_front (c ∷ rest)) ≡ false

@@ -202,9 +202,11 @@ module _ (room : ℕ) (read : List ℕ → Parsed Bencode) (sound : (b : List �
           let b = bind_ok (items_at read n a.0.1) (λ z. Ok (item a.0.0 z.0, z.1)) x a.2 in
           let first = sound (c ∷ bytes) a.0 a.1 in
           let rest = again a.0.1 b.0 b.1 in
-          subst (λ y. Inner (c ∷ bytes) y) (ok_of (item a.0.0 b.0.0, b.0.1) x b.2)
-          (first.0 ++ rest.0, first.1 ∙ ap (λ t. first.0 ++ t) rest.1 ∙ sym (append_assoc first.0 rest.0 (101 ∷ b.0.1)),
-              (first.0, rest.0, refl, first.2, rest.2))
+          subst (λ y. Inner (c ∷ bytes) y) (ok_of (item a.0.0 b.0.0, b.0.1) x b.2) (
+            first.0 ++ rest.0,
+            first.1 ∙ ap (λ t. first.0 ++ t) rest.1 ∙ sym (append_assoc first.0 rest.0 (101 ∷ b.0.1)),
+            (first.0, rest.0, refl, first.2, rest.2),
+          )
 
   abbrev InnerPairs : Option (List ℕ) → List ℕ → Pairs × List ℕ → Type 0
   InnerPairs before bytes x = (inner : List ℕ) × (bytes ≡ inner ++ 101 ∷ x.1) × SpelledPairs room before x.0 inner
@@ -218,11 +220,11 @@ module _ (room : ℕ) (read : List ℕ → Parsed Bencode) (sound : (b : List �
     where
       by_mark : ((k b : List ℕ) (y : Pairs × List ℕ) → pairs_at read n (Some k) b ≡ Ok y → InnerPairs (Some k) b y) → (m : Bool) → eqb c 101 ≡ m
           → cond m (Ok (no_pairs, bytes)) (begun_at (c ∷ bytes) (key_at before (c ∷ bytes)) >>= λ k. read k.1 >>= λ y. pairs_at read n (Some k.0) y.1 >>= λ z.
-              Ok (pair k.0 y.0 z.0, z.1)) ≡ Ok x → InnerPairs before (c ∷ bytes) x
+          Ok (pair k.0 y.0 z.0, z.1)) ≡ Ok x → InnerPairs before (c ∷ bytes) x
       by_mark again true m f = subst (λ y. InnerPairs before (c ∷ bytes) y) (ok_of (no_pairs, bytes) x f) ([], ap (λ d. d ∷ bytes) (eqb-true c 101 m), refl)
       by_mark again false m f =
           let k = bind_ok (begun_at (c ∷ bytes) (key_at before (c ∷ bytes))) (λ k. read k.1 >>= λ y. pairs_at read n (Some k.0) y.1 >>= λ z. Ok
-              (pair k.0 y.0 z.0, z.1)) x f in
+          (pair k.0 y.0 z.0, z.1)) x f in
           let a = bind_ok (read k.0.1) (λ y. pairs_at read n (Some k.0.0) y.1 >>= λ z. Ok (pair k.0.0 y.0 z.0, z.1)) x k.2 in
           let b = bind_ok (pairs_at read n (Some k.0.0) a.0.1) (λ z. Ok (pair k.0.0 a.0.0 z.0, z.1)) x a.2 in
           let name = key_takes before (c ∷ bytes) k.0.0 k.0.1 (began (c ∷ bytes) (key_at before (c ∷ bytes)) k.0 k.1) in
@@ -239,9 +241,9 @@ module _ (room : ℕ) (read : List ℕ → Parsed Bencode) (sound : (b : List �
 -- one level: what lists and dictionaries give is given
 module _ (room : ℕ) (ls : List ℕ → List ℕ → Parsed Items) (ds : List ℕ → List ℕ → Parsed Pairs)
     (list_sound : (s b : List ℕ) (x : Items × List ℕ) → ls s b ≡ Ok x → (0 < room) × (inner : List ℕ) × (b ≡ inner ++ 101 ∷ x.1)
-        × SpelledItems (room - 1) x.0 inner)
+    × SpelledItems (room - 1) x.0 inner)
     (dict_sound : (s b : List ℕ) (x : Pairs × List ℕ) → ds s b ≡ Ok x → (0 < room) × (inner : List ℕ) × (b ≡ inner ++ 101 ∷ x.1)
-        × SpelledPairs (room - 1) None x.0 inner) where
+    × SpelledPairs (room - 1) None x.0 inner) where
   level_takes : (bytes : List ℕ) (x : Bencode × List ℕ) → value_with ls ds bytes ≡ Ok x → TakesFront (Spelled room) bytes x.0 x.1
   level_takes [] x e = absurd cc
   level_takes (c ∷ bytes) x e = by_i (eqb c 105) refl e
@@ -263,33 +265,40 @@ module _ (room : ℕ) (ls : List ℕ → List ℕ → Parsed Items) (ds : List �
       by_d true m f =
           let a = bind_ok (ds (c ∷ bytes) bytes) (λ y. Ok (dict y.0, y.1)) x f in
           let t = dict_sound (c ∷ bytes) bytes a.0 a.1 in
-          subst (λ (y : Bencode × List ℕ). TakesFront (Spelled room) (c ∷ bytes) y.0 y.1) (ok_of (dict a.0.0, a.0.1) x a.2)
-          (100 ∷ (t.1 ++ 101 ∷ []), ap (λ d. d ∷ bytes) (eqb-true c 100 m) ∙ ap (λ z. 100 ∷ z) (t.2 ∙ sym (append_assoc t.1 (101 ∷ []) a.0.1)),
-              (t.0, t.1, refl, t.3))
+          subst (λ (y : Bencode × List ℕ). TakesFront (Spelled room) (c ∷ bytes) y.0 y.1) (ok_of (dict a.0.0, a.0.1) x a.2) (
+            100 ∷ (t.1 ++ 101 ∷ []),
+            ap (λ d. d ∷ bytes) (eqb-true c 100 m) ∙ ap (λ z. 100 ∷ z) (t.2 ∙ sym (append_assoc t.1 (101 ∷ []) a.0.1)),
+            (t.0, t.1, refl, t.3),
+          )
       by_d false m f = by_digit (is_digit c) refl f
 
       by_l : (m : Bool) → eqb c 108 ≡ m
           → cond m (ls (c ∷ bytes) bytes >>= λ y. Ok (list y.0, y.1)) (cond (eqb c 100) (ds (c ∷ bytes) bytes >>= λ y. Ok (dict y.0, y.1))
-              (cond (is_digit c) (begun_at (c ∷ bytes) (string_at (c ∷ bytes)) >>= λ y. Ok (text y.0, y.1)) (Err (BadStart, c ∷ bytes)))) ≡ Ok x
+          (cond (is_digit c) (begun_at (c ∷ bytes) (string_at (c ∷ bytes)) >>= λ y. Ok (text y.0, y.1)) (Err (BadStart, c ∷ bytes)))) ≡ Ok x
           → TakesFront (Spelled room) (c ∷ bytes) x.0 x.1
       by_l true m f =
           let a = bind_ok (ls (c ∷ bytes) bytes) (λ y. Ok (list y.0, y.1)) x f in
           let t = list_sound (c ∷ bytes) bytes a.0 a.1 in
-          subst (λ (y : Bencode × List ℕ). TakesFront (Spelled room) (c ∷ bytes) y.0 y.1) (ok_of (list a.0.0, a.0.1) x a.2)
-          (108 ∷ (t.1 ++ 101 ∷ []), ap (λ d. d ∷ bytes) (eqb-true c 108 m) ∙ ap (λ z. 108 ∷ z) (t.2 ∙ sym (append_assoc t.1 (101 ∷ []) a.0.1)),
-              (t.0, t.1, refl, t.3))
+          subst (λ (y : Bencode × List ℕ). TakesFront (Spelled room) (c ∷ bytes) y.0 y.1) (ok_of (list a.0.0, a.0.1) x a.2) (
+            108 ∷ (t.1 ++ 101 ∷ []),
+            ap (λ d. d ∷ bytes) (eqb-true c 108 m) ∙ ap (λ z. 108 ∷ z) (t.2 ∙ sym (append_assoc t.1 (101 ∷ []) a.0.1)),
+            (t.0, t.1, refl, t.3),
+          )
       by_l false m f = by_d (eqb c 100) refl f
 
       by_i : (m : Bool) → eqb c 105 ≡ m
           → cond m (begun_at (c ∷ bytes) (integer_at bytes) >>= λ y. Ok (int y.0, y.1)) (cond (eqb c 108) (ls (c ∷ bytes) bytes >>= λ y. Ok (list y.0, y.1))
-              (cond (eqb c 100) (ds (c ∷ bytes) bytes >>= λ y. Ok (dict y.0, y.1))
-              (cond (is_digit c) (begun_at (c ∷ bytes) (string_at (c ∷ bytes)) >>= λ y. Ok (text y.0, y.1)) (Err (BadStart, c ∷ bytes))))) ≡ Ok x
+          (cond (eqb c 100) (ds (c ∷ bytes) bytes >>= λ y. Ok (dict y.0, y.1))
+          (cond (is_digit c) (begun_at (c ∷ bytes) (string_at (c ∷ bytes)) >>= λ y. Ok (text y.0, y.1)) (Err (BadStart, c ∷ bytes))))) ≡ Ok x
           → TakesFront (Spelled room) (c ∷ bytes) x.0 x.1
       by_i true m f =
           let a = bind_ok (begun_at (c ∷ bytes) (integer_at bytes)) (λ y. Ok (int y.0, y.1)) x f in
           let t = integer_takes bytes a.0.0 a.0.1 (began (c ∷ bytes) (integer_at bytes) a.0 a.1) in
-          subst (λ (y : Bencode × List ℕ). TakesFront (Spelled room) (c ∷ bytes) y.0 y.1) (ok_of (int a.0.0, a.0.1) x a.2) (integer a.0.0,
-              ap (λ d. d ∷ bytes) (eqb-true c 105 m) ∙ t.1, (t.0, refl))
+          subst (λ (y : Bencode × List ℕ). TakesFront (Spelled room) (c ∷ bytes) y.0 y.1) (ok_of (int a.0.0, a.0.1) x a.2) (
+            integer a.0.0,
+            ap (λ d. d ∷ bytes) (eqb-true c 105 m) ∙ t.1,
+            (t.0, refl),
+          )
       by_i false m f = by_l (eqb c 108) refl f
 
 pub value_takes : (room : ℕ) (bytes : List ℕ) (x : Bencode × List ℕ) → value_at room bytes ≡ Ok x → TakesFront (Spelled room) bytes x.0 x.1
@@ -300,7 +309,7 @@ value_takes (suc room) bytes x e =
     level_takes (suc room) (λ s b. items_at (value_at room) (length b) b) (λ s b. pairs_at (value_at room) (length b) None b)
     (λ s b y h. let t = items_take room (value_at room) (λ d z g. value_takes room d z g) (length b) b y h in (omega arith, t.0, t.1, rw less t.2))
     (λ s b y h. let t = pairs_take room (value_at room) (λ d z g. value_takes room d z g) (length b) None b y h in (omega arith, t.0, t.1, rw less t.2)) bytes x
-        e
+    e
 
 -- the part that was taken, by its length
 pub taken : {A : Type 0} (S : A → List ℕ → Type 0) (bytes : List ℕ) (x : A) (rest : List ℕ) → TakesFront S bytes x rest
@@ -308,5 +317,5 @@ pub taken : {A : Type 0} (S : A → List ℕ → Type 0) (bytes : List ℕ) (x :
 taken S bytes x rest t =
     let used : length t.0 ≡ length bytes - length rest = omega (arith, ap length t.1, length-append t.0 rest) in
     let front : take (length bytes - length rest) bytes ≡ t.0 = ap (take (length bytes - length rest)) t.1
-        ∙ take_at t.0 rest (length bytes - length rest) used in
+    ∙ take_at t.0 rest (length bytes - length rest) used in
     subst (S x) (sym front) t.2

@@ -18,7 +18,7 @@ pub next_pair : (ps : List Pair) (i : ℕ) (p : Pair) → drop i ps ≡ p ∷ dr
     → pairs_spelling (pairs_view (drop i ps)) ≡ string p.key.now ++ (spelling (view p.value) ++ pairs_spelling (pairs_view (drop (i + 1) ps)))
 next_pair ps i p e =
     ap (λ ys. pairs_spelling (pairs_view ys)) e ∙ ap (λ (s : Seen). string s.0 ++ (spelling s.1 ++ pairs_spelling (pairs_view (drop (i + 1) ps))))
-        (view-Pair p.key p.value)
+    (view-Pair p.key p.value)
 
 -- nothing is left
 pub all_items : (vs : List Value) (i : ℕ) (done : List ℕ) → length vs ≤ i → items_spelling (items_view vs) ≡ done ++ items_spelling (items_view (drop i vs))

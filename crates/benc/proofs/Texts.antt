@@ -48,5 +48,12 @@ mutual
 
   pairs_fit_spelled : (room : ℕ) (before : Option (List ℕ)) (ps : Pairs) → PairsFit room before ps → SpelledPairs room before ps (pairs_spelling ps)
   pairs_fit_spelled room before no_pairs f = refl
-  pairs_fit_spelled room before (pair k v ps) f = (spelling v, pairs_spelling ps, refl, f.0, f.1, fits_spelled room v f.2,
-      pairs_fit_spelled room (Some k) ps f.3)
+  pairs_fit_spelled room before (pair k v ps) f = (
+    spelling v,
+    pairs_spelling ps,
+    refl,
+    f.0,
+    f.1,
+    fits_spelled room v f.2,
+    pairs_fit_spelled room (Some k) ps f.3,
+  )

@@ -46,7 +46,7 @@ value_fault_reads room (c ∷ rest) k h = value_is room (c ∷ rest) ∙ by_i (e
 
     by_mark : (l d m : Bool) → cond (l || d) (cond (eqb room 0) (Some TooDeep) None) (cond m (fault_of (string_at (c ∷ rest))) (Some BadStart)) ≡ Some k
         → cond {A = Parsed Bencode} l (lists room (c ∷ rest) rest >>= λ x. Ok (list x.0, x.1)) (cond d (dicts room (c ∷ rest) rest >>= λ x. Ok (dict x.0, x.1))
-            (cond m (begun_at (c ∷ rest) (string_at (c ∷ rest)) >>= λ x. Ok (text x.0, x.1)) (Err (BadStart, c ∷ rest)))) ≡ Err (k, c ∷ rest)
+        (cond m (begun_at (c ∷ rest) (string_at (c ∷ rest)) >>= λ x. Ok (text x.0, x.1)) (Err (BadStart, c ∷ rest)))) ≡ Err (k, c ∷ rest)
     by_mark true d m g = ap (λ r. r >>= λ x. Ok (list x.0, x.1)) (deep room (lists room) refl g)
     by_mark false true m g = ap (λ r. r >>= λ x. Ok (dict x.0, x.1)) (deep_dict room (dicts room) refl g)
     by_mark false false m g = by_digit m g
@@ -54,9 +54,9 @@ value_fault_reads room (c ∷ rest) k h = value_is room (c ∷ rest) ∙ by_i (e
     by_i : (m : Bool) → cond m (fault_of (integer_at rest)) (cond (eqb c 108 || eqb c 100) (cond (eqb room 0) (Some TooDeep) None)
         (cond (is_digit c) (fault_of (string_at (c ∷ rest))) (Some BadStart))) ≡ Some k
         → cond {A = Parsed Bencode} m (begun_at (c ∷ rest) (integer_at rest) >>= λ x. Ok (int x.0, x.1))
-            (cond (eqb c 108) (lists room (c ∷ rest) rest >>= λ x. Ok (list x.0, x.1))
-            (cond (eqb c 100) (dicts room (c ∷ rest) rest >>= λ x. Ok (dict x.0, x.1))
-            (cond (is_digit c) (begun_at (c ∷ rest) (string_at (c ∷ rest)) >>= λ x. Ok (text x.0, x.1)) (Err (BadStart, c ∷ rest))))) ≡ Err (k, c ∷ rest)
+        (cond (eqb c 108) (lists room (c ∷ rest) rest >>= λ x. Ok (list x.0, x.1))
+        (cond (eqb c 100) (dicts room (c ∷ rest) rest >>= λ x. Ok (dict x.0, x.1))
+        (cond (is_digit c) (begun_at (c ∷ rest) (string_at (c ∷ rest)) >>= λ x. Ok (text x.0, x.1)) (Err (BadStart, c ∷ rest))))) ≡ Err (k, c ∷ rest)
     by_i true g = ap (λ r. begun_at (c ∷ rest) r >>= λ x. Ok (int x.0, x.1)) (told_fault (integer_at rest) k g)
     by_i false g = by_mark (eqb c 108) (eqb c 100) (is_digit c) g
 
@@ -122,7 +122,7 @@ items_pass (item v vs) room (suc n) inner t e s le h =
     let long : 0 < length first = omega (arith, ap length head.2) in
     let starts : inner ++ t ≡ head.0 ∷ (head.1 ++ after) = whole ∙ ap (λ b. b ++ after) head.2 in
     items_step_on (value_at room) n head.0 (inner ++ t) (head.1 ++ after) after v e starts head.3 (ap (value_at room) whole
-        ∙ value_again v room first after s.3) (items_pass vs room n s.1 t e s.4 (omega arith) h)
+    ∙ value_again v room first after s.3) (items_pass vs room n s.1 t e s.4 (omega arith) h)
 
 -- a key and what follows begin with a digit
 key_head : (k behind : List ℕ) → length k < 10 ^ 10 → (c : ℕ) × (t : List ℕ) × (string k ++ behind ≡ c ∷ t) × (c ≢ 101)
@@ -143,12 +143,12 @@ pairs_pass (pair k v ps) room before (suc n) inner t e s le h =
     let after = s.1 ++ t in
     let head = key_head k (first ++ after) s.3 in
     let whole : inner ++ t ≡ string k ++ (first ++ after) = ap (λ b. b ++ t) s.2 ∙ append_assoc (string k) (first ++ s.1) t
-        ∙ ap (λ b. string k ++ b) (append_assoc first s.1 t) in
+    ∙ ap (λ b. string k ++ b) (append_assoc first s.1 t) in
     let size : length (inner ++ t) ≡ length (string k) + (length first + length after) = ap length whole ∙ length-append (string k) (first ++ after)
-        ∙ ap (λ m. length (string k) + m) (length-append first after) in
+    ∙ ap (λ m. length (string k) + m) (length-append first after) in
     let long : 0 < length (string k) = omega (arith, length-append (decimal (length k)) (58 ∷ k)) in
     pairs_step_on (value_at room) n head.0 before (inner ++ t) head.1 k (first ++ after) after v e (whole ∙ head.2) head.3 (ap (key_at before) whole
-        ∙ key_again before k (first ++ after) s.3 s.4)
+    ∙ key_again before k (first ++ after) s.3 s.4)
     (value_again v room first after s.5) (pairs_pass ps room (Some k) n s.1 t e s.6 (omega arith) h)
 
 list_reads : (below : ℕ) (vs : Items) (b t : List ℕ) (e : Failed) → IsLevel below (in_list vs) b
@@ -157,7 +157,7 @@ list_reads below vs b t e l h =
     let whole : b ++ t ≡ 108 ∷ (l.0 ++ t) = ap (λ x. x ++ t) l.1 in
     let less : suc below - 1 ≡ below = omega arith in
     let inner : items_at (value_at (suc below - 1)) (length (l.0 ++ t)) (l.0 ++ t) ≡ Err e =
-        rw less (items_pass vs below (length (l.0 ++ t)) l.0 t e l.2 (omega arith) h) in
+    rw less (items_pass vs below (length (l.0 ++ t)) l.0 t e l.2 (omega arith) h) in
     value_items (suc below) (b ++ t) (l.0 ++ t) (omega arith) whole ∙ ap (λ r. r >>= λ x. Ok (list x.0, x.1)) inner
 
 dict_reads : (below : ℕ) (ps : Pairs) (b t : List ℕ) (e : Failed) → IsLevel below (in_dict ps) b
@@ -166,7 +166,7 @@ dict_reads below ps b t e l h =
     let whole : b ++ t ≡ 100 ∷ (l.0 ++ t) = ap (λ x. x ++ t) l.1 in
     let less : suc below - 1 ≡ below = omega arith in
     let inner : pairs_at (value_at (suc below - 1)) (length (l.0 ++ t)) None (l.0 ++ t) ≡ Err e =
-        rw less (pairs_pass ps below None (length (l.0 ++ t)) l.0 t e l.2 (omega arith) h) in
+    rw less (pairs_pass ps below None (length (l.0 ++ t)) l.0 t e l.2 (omega arith) h) in
     value_pairs (suc below) (b ++ t) (l.0 ++ t) (omega arith) whole ∙ ap (λ r. r >>= λ x. Ok (dict x.0, x.1)) inner
 
 pair_reads : (below : ℕ) (ps : Pairs) (k b t : List ℕ) (e : Failed) → IsLevel below (at_value ps k) b → value_at below t ≡ Err e
@@ -176,7 +176,7 @@ pair_reads below ps k b t e l h =
     let parts : b ++ t ≡ (100 ∷ l.0) ++ (string k ++ t) = ap (λ x. x ++ t) l.1 ∙ ap (λ x. 100 ∷ x) (append_assoc l.0 (string k) t) in
     ap (value_at (suc below)) parts ∙ dict_reads below ps (100 ∷ l.0) (string k ++ t) e (l.0, refl, l.2)
     (λ m le. pairs_no_value (value_at below) m head.0 (last_key None ps) (string k ++ t) head.1 k t e le head.2 head.3
-        (key_again (last_key None ps) k t l.3 l.4) h)
+    (key_again (last_key None ps) k t l.3 l.4) h)
 
 -- an open container begins with a mark that is no end
 begun_head : (l : Level) (ls : List Level) (room : ℕ) (p : List ℕ) (due : Due) (left : ℕ) → Begun room (l ∷ ls) p due left
@@ -196,7 +196,7 @@ begun_reads [] room front rest due left kind b f =
     ap (λ p. value_at room (p ++ rest)) b.0 ∙ value_fault_reads room rest kind here
 begun_reads (in_list vs ∷ []) room front rest due left kind b f =
     let here : fault_unless_end rest (value_fault b.0 rest) ≡ Some kind = subst (λ n. fault_unless_end rest (value_fault n rest) ≡ Some kind) b.4
-        (subst (λ d. scanned_fault d left rest ≡ Some kind) b.3 f) in
+    (subst (λ d. scanned_fault d left rest ≡ Some kind) b.3 f) in
     ap (λ r. value_at r (front ++ rest)) b.1 ∙ list_reads b.0 vs front rest (kind, rest) b.2 (λ m le. items_fault b.0 m rest kind le here)
 begun_reads (in_dict ps ∷ []) room front rest due left kind b f =
     let here : fault_unless_end rest (fault_of (key_at (last_key None ps) rest)) ≡ Some kind = subst (λ d. scanned_fault d left rest ≡ Some kind) b.3 f in
@@ -209,7 +209,7 @@ begun_reads (in_list vs ∷ m ∷ ls) room front rest due left kind b f =
     let head = begun_head m ls b.0 b.2 due left b.7 in
     ap (λ r. value_at r (front ++ rest)) b.3 ∙ ap (λ p. value_at (suc b.0) (p ++ rest)) b.4 ∙ ap (value_at (suc b.0)) (append_assoc b.1 b.2 rest)
     ∙ list_reads b.0 vs b.1 (b.2 ++ rest) (kind, rest) b.5 (λ n le. items_no_value (value_at b.0) n head.0 (b.2 ++ rest) (head.1 ++ rest) (kind, rest) le
-        (ap (λ p. p ++ rest) head.2) head.3 inside)
+    (ap (λ p. p ++ rest) head.2) head.3 inside)
 begun_reads (in_dict ps ∷ m ∷ ls) room front rest due left kind b f = absurd b.6
 begun_reads (at_value ps k ∷ m ∷ ls) room front rest due left kind b f =
     let inside = begun_reads (m ∷ ls) b.0 b.2 rest due left kind b.7 f in
@@ -257,15 +257,19 @@ place_of b front rest offset e p = omega (arith, ap length e, length-append fron
 pub one_fault : (b : List ℕ) (kind other : FaultKind) (offset place : ℕ) → Fails b kind offset → Fails b other place → (kind ≡ other) × (offset ≡ place)
 one_fault b kind other offset place (inl p) (inl q) =
     let same = bad_is (kind, p.rest) (other, q.rest) (sym (stops_reads b kind offset p) ∙ stops_reads b other place q) in
-    let rests : p.rest ≡ q.rest = ap (λ (x : Failed). x.1) same in
-    (ap (λ (x : Failed). x.0) same, place_of b p.front p.rest offset p.parts p.place ∙ ap (λ t. length b - length t) rests
-        ∙ sym (place_of b q.front q.rest place q.parts q.place))
+    let rests : p.rest ≡ q.rest = ap (λ (x : Failed). x.1) same in (
+      ap (λ (x : Failed). x.0) same,
+      place_of b p.front p.rest offset p.parts p.place ∙ ap (λ t. length b - length t) rests
+          ∙ sym (place_of b q.front q.rest place q.parts q.place),
+    )
 one_fault b kind other offset place (inl p) (inr t) = absurd (not_both (t.value, t.rest) (kind, p.rest) (sym (trails_reads b other place t)
     ∙ stops_reads b kind offset p))
 one_fault b kind other offset place (inr t) (inl p) = absurd (not_both (t.value, t.rest) (other, p.rest) (sym (trails_reads b kind offset t)
     ∙ stops_reads b other place p))
 one_fault b kind other offset place (inr t) (inr u) =
     let same : fine (t.value, t.rest) ≡ fine (u.value, u.rest) = sym (trails_reads b kind offset t) ∙ trails_reads b other place u in
-    let rests : t.rest ≡ u.rest = ap (λ (x : Bencode × List ℕ). x.1) (ok_of (t.value, t.rest) (u.value, u.rest) same) in
-    (t.is ∙ sym u.is, place_of b t.front t.rest offset t.parts t.place ∙ ap (λ r. length b - length r) rests
-        ∙ sym (place_of b u.front u.rest place u.parts u.place))
+    let rests : t.rest ≡ u.rest = ap (λ (x : Bencode × List ℕ). x.1) (ok_of (t.value, t.rest) (u.value, u.rest) same) in (
+      t.is ∙ sym u.is,
+      place_of b t.front t.rest offset t.parts t.place ∙ ap (λ r. length b - length r) rests
+          ∙ sym (place_of b u.front u.rest place u.parts u.place),
+    )

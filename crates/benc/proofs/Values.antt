@@ -73,7 +73,7 @@ pub value_text : (room : ℕ) (bytes rest : List ℕ) (c : ℕ) → 48 ≤ c →
     → value_at room bytes ≡ (begun_at bytes (string_at bytes) >>= λ x. Ok (text x.0, x.1))
 value_text room bytes rest c low high e =
     value_is room bytes ∙ rw (e, is_other c 105 (λ k. omega arith), is_other c 108 (λ k. omega arith), is_other c 100 (λ k. omega arith), digit_is c low high)
-        refl
+    refl
 
 pub value_other : (room : ℕ) (bytes rest : List ℕ) (c : ℕ) → c ≢ 105 → c ≢ 108 → c ≢ 100 → (48 ≤ c → c ≤ 57 → ⊥) → bytes ≡ c ∷ rest
     → value_at room bytes ≡ Err (BadStart, bytes)

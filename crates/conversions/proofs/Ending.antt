@@ -24,8 +24,16 @@ pub record SoFar (first now : SourceSeen) (start out : SinkSeen) (left : ℕ) (f
 
 abbrev pub so_far_first : (first now : SourceSeen) (start out : SinkSeen) (front : List ℕ) → GaveFaultless first now front → Sent start out header
     → SoFar first now start out 0 front front
-so_far_first first now start out front gave sent = record { fed = []; text = header; reached = reach_nothing; sent = sent; gave = gave; more = []; begins =
-    sym (append-nil front) }
+so_far_first first now start out front gave sent = record {
+  fed = [];
+  text = header;
+  reached = reach_nothing;
+  sent = sent;
+  gave = gave;
+  more = [];
+  begins =
+      sym (append-nil front);
+}
 
 -- some of it was converted
 pub so_far_converted : (first now : SourceSeen) (start out out' : SinkSeen) (left left' : ℕ) (front waiting rest done text : List ℕ)

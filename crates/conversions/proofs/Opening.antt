@@ -122,7 +122,7 @@ goes_request head h b = λ len fits e.
     ∙ drop_at (four_bytes h.len ++ 22 ∷ []) fields 5 (omega (arith, length-append (four_bytes h.len) (22 ∷ []), length-four_bytes h.len)) in
     subst (λ xs. BeginsFrame (len + 4 - length head) head ((request_head ++ xs) ++ (0 ∷ head))) (sym after)
     (opens_asked h.len (len + 4 - length head) head fields h.fits is (omega (arith, left_is len head h fits e, ap length b.0.1, size)) (omega (arith, size))
-        b.1)
+    b.1)
 
 -- the byte behind the length
 fifth : (len id x : ℕ) (head front : List ℕ) → head ≡ four_bytes len ++ (x ∷ front) → id ≡ get_or head 4 0 → id ≡ x
@@ -193,7 +193,7 @@ opens_partial left part sent some o = λ body rest fits e.
     let zeros : List ℕ = replicate left 0 in
     let c = o.completes zeros (length-replicate {A = ℕ} left 0) in
     let same : frame body ++ (rest ++ zeros) ≡ frame c.body ++ [] = sym (append_assoc (frame body) rest zeros) ∙ ap (λ t. t ++ zeros) (sym e) ∙ c.is_frame
-        ∙ sym (append-nil (frame c.body)) in
+    ∙ sym (append-nil (frame c.body)) in
     let none = (same_from_frame body c.body (rest ++ zeros) [] fits c.fits same).1 in
     omega (arith, ap length none, length-append rest zeros, length-replicate {A = ℕ} left 0, some)
 
@@ -207,7 +207,7 @@ opens_sound left part sent more body after o fits e = elim (cases_lt (length mor
       let c = o.completes (more ++ zeros) size in
       let same : frame body ++ (after ++ zeros) ≡ frame c.body ++ [] =
       sym (append_assoc (frame body) after zeros) ∙ ap (λ t. t ++ zeros) (sym e) ∙ append_assoc part more zeros ∙ c.is_frame
-          ∙ sym (append-nil (frame c.body)) in
+      ∙ sym (append-nil (frame c.body)) in
       let none = (same_from_frame body c.body (after ++ zeros) [] fits c.fits same).1 in
       absurd (omega (arith, ap length none, length-append after zeros, length-replicate {A = ℕ} (left - length more) 0, short))
   | inr enough ↦

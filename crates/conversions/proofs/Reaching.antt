@@ -79,7 +79,7 @@ reach_more left fed text xs r fits = elim r.stands [
       let same : left - length xs ≡ left = omega (arith, fits, none.0) in
       subst (λ n. Reached n (fed ++ xs) (text ++ xs)) (sym same)
       (subst (λ t. Reached left (fed ++ t) (text ++ t)) (sym nothing) (subst (λ t. Reached left t (text ++ [])) (sym (append-nil fed))
-          (subst (Reached left fed) (sym (append-nil text)) r)))
+      (subst (Reached left fed) (sym (append-nil text)) r)))
   | inr some ↦ settle (left - length xs) r.bodies (r.part ++ xs) (r.sent ++ xs) (fed ++ xs) (text ++ xs) r.each (opens_more left r.part r.sent xs some.1 fits)
       (ap (λ t. t ++ xs) r.fed_is ∙ append_assoc (flat_map frame r.bodies) r.part xs)
       (ap (λ t. t ++ xs) r.text_is ∙ append_assoc (conversion_bytes r.bodies) r.sent xs)
@@ -91,7 +91,7 @@ pub reach_prefix : (left count : ℕ) (fed text bytes : List ℕ) → count ≤ 
 reach_prefix left count fed text bytes low within r =
     let size : length (take count bytes) ≡ count = length-take-le count bytes within in
     subst (λ n. Reached (left - n) (fed ++ take count bytes) (text ++ take count bytes)) size
-        (reach_more left fed text (take count bytes) r (omega (arith, size, low)))
+    (reach_more left fed text (take count bytes) r (omega (arith, size, low)))
 
 -- a head follows only if no body has begun
 pub none_left : (left done count size : ℕ) (part : List ℕ) → (left ≡ 0) ⊎ (count ≡ length (take (length part - done) (drop done part)))
@@ -148,9 +148,11 @@ sound_begun : (left : ℕ) (part sent more : List ℕ) (later : List (List ℕ))
     → part ++ more ≡ flat_map frame later → IsPrefixOf sent (converted_frames later)
 sound_begun left part sent more [] each o e = absurd (omega (arith, o.some, ap length e, length-append part more))
 sound_begun left part sent more (c ∷ later) each o e =
-    let s = opens_sound left part sent more c (flat_map frame later) o each.0 e in
-    (s.0 ++ converted_frames later, flat_map-append (record_frame Two) (converted c) (conversion later) ∙ ap (λ t. t ++ converted_frames later) s.1
-        ∙ append_assoc sent s.0 (converted_frames later))
+    let s = opens_sound left part sent more c (flat_map frame later) o each.0 e in (
+      s.0 ++ converted_frames later,
+      flat_map-append (record_frame Two) (converted c) (conversion later) ∙ ap (λ t. t ++ converted_frames later) s.1
+          ∙ append_assoc sent s.0 (converted_frames later),
+    )
 
 sound_part : (left : ℕ) (part sent more : List ℕ) (later : List (List ℕ)) → AllByRecursion IsBody later → Stands left part sent
     → part ++ more ≡ flat_map frame later → IsPrefixOf sent (converted_frames later)
@@ -204,8 +206,11 @@ may_end left fed rest text r w = elim r.stands [
       record {
         bodies = r.bodies;
         part = r.part;
-        frames = record { whole = ap (λ t. fed ++ t) none ∙ append-nil fed ∙ r.fed_is; each = r.each; partial = opens_partial left r.part r.sent some.0 some.1
-            };
+        frames = record {
+          whole = ap (λ t. fed ++ t) none ∙ append-nil fed ∙ r.fed_is;
+          each = r.each;
+          partial = opens_partial left r.part r.sent some.0 some.1;
+        };
         begins = (r.sent, r.text_is);
         whole = λ e _. absurd (omega (arith, e, some.0));
         cut = λ e. absurd (omega (arith, some.1.some, ap length e));

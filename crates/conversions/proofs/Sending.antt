@@ -6,8 +6,12 @@ use Rattle.benc.proofs.Out.{Broke-append, Sent-append}
 use Rattle.conversions.specs.Steps.{Held}
 
 pub held_sent : (start mid now : SinkSeen) (outgoing text : List ℕ) → Held start mid outgoing text → Sent mid now outgoing → Held start now [] text
-held_sent start mid now outgoing text h p = record { sent = h.sent ++ outgoing; out = Sent-append start mid now h.sent outgoing h.out p; text_is = h.text_is
-    ∙ sym (append-nil (h.sent ++ outgoing)) }
+held_sent start mid now outgoing text h p = record {
+  sent = h.sent ++ outgoing;
+  out = Sent-append start mid now h.sent outgoing h.out p;
+  text_is = h.text_is
+      ∙ sym (append-nil (h.sent ++ outgoing));
+}
 
 pub held_broke : (start mid now : SinkSeen) (outgoing text : List ℕ) → Held start mid outgoing text → Broke mid now outgoing → Broke start now text
 held_broke start mid now outgoing text h p = subst (Broke start now) (sym h.text_is) (Broke-append start mid now h.sent outgoing h.out p)

@@ -25,8 +25,13 @@ stops_later : (first now : SourceSeen) (start out : SinkSeen) (front : List ℕ)
     → (why : ConvertFault)
     → ReadingEnds first now start out front (Err why) → FailsToConvert first now start out why
 stops_later first now start out front tells has fault.Truncated e = absurd e
-stops_later first now start out front tells has fault.Read e = record { bytes = front ++ e.0; gave = e.1; counted = e.2; went_out =
-    inr (no_prefix front e.0 tells has, e.3) }
+stops_later first now start out front tells has fault.Read e = record {
+  bytes = front ++ e.0;
+  gave = e.1;
+  counted = e.2;
+  went_out =
+      inr (no_prefix front e.0 tells has, e.3);
+}
 stops_later first now start out front tells has fault.AlreadyForm2 e = absurd e
 stops_later first now start out front tells has fault.Write e = record { bytes = front ++ e.0; gave = e.1; went_out = inl e.2 }
 

@@ -33,7 +33,7 @@ pub behind_list : (d : Outline) (key : List ℕ) (x : Option Bencode) → bytes_
 behind_list d key x tree length files e =
     rw tree (under_either key d.hybrid (list_pair d (last_pairs d)) (last_pairs d) x
     (under_either key (is_single d.name d.files) (pair (codes "length") (int (pos (first_length d.files))) (last_pairs d))
-        (pair (codes "files") (list (entries_value d.piece_length d.files)) (last_pairs d)) x
+    (pair (codes "files") (list (entries_value d.piece_length d.files)) (last_pairs d)) x
     (rw length e) (rw files e)) e)
 
 pub version_there : (d : Outline) → get (codes "meta version") (info_value d) ≡ Some (int (pos 2))
@@ -65,8 +65,10 @@ version_none d = (
 pub present_none : (d : Outline) → NoneHolds (present_rows (info_value d))
 present_none d = (
   (λ none. cc),
-  (there (get (codes "name") (info_value d)) (text d.name) (name_is_there d),
-      (there (get (codes "piece length") (info_value d)) (int (pos d.piece_length)) (length_there d), tt)),
+  (
+    there (get (codes "name") (info_value d)) (text d.name) (name_is_there d),
+    (there (get (codes "piece length") (info_value d)) (int (pos d.piece_length)) (length_there d), tt),
+  ),
 )
 
 pub kind_none : (d : Outline) → IsUtf8 d.name → NoneHolds (kind_rows (info_value d))
@@ -122,7 +124,7 @@ pub all_listed : (p : ℕ) (fs : List OutlineFile) → AreOutlineFiles p fs → 
 all_listed p [] files = refl
 all_listed p (f ∷ fs) files =
     ap (λ (x : ListedFile). x ∷ map listed (map walk_to_file fs)) (listed_is p f (files 0 f refl))
-        ∙ ap (λ xs. listed_file f ∷ xs) (all_listed p fs (λ n g e. files (suc n) g e))
+    ∙ ap (λ xs. listed_file f ∷ xs) (all_listed p fs (λ n g e. files (suc n) g e))
 
 no_any : (p : ℕ) (test : Walk → Bool) (fs : List OutlineFile) → AreOutlineFiles p fs → ((f : OutlineFile) → IsOutlineFile f → test (walk_to_file f) ≡ false)
     → list_any test (map walk_to_file fs) ≡ true → ⊥

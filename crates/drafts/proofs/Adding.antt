@@ -171,8 +171,11 @@ record Tests (d : Outline) (f : OutlineFile) : Type 0 where
   pieces : pieces_in d.piece_length (map listed_file d.files) + pieces_of d.piece_length f.length < 2 ^ 32
 
 pub equal_or_not : (m n : ℕ) → (m ≡ n) ⊎ (m ≢ n)
-equal_or_not m n = elim (cases_lt m n) [ inl less ↦ inr (λ e. omega arith) | inr least ↦ elim (cases_lt n m)
-    [ inl less ↦ inr (λ e. omega arith) | inr most ↦ inl (omega arith) ] ]
+equal_or_not m n = elim (cases_lt m n) [
+  | inl less ↦ inr (λ e. omega arith)
+  | inr least ↦ elim (cases_lt n m)
+      [ inl less ↦ inr (λ e. omega arith) | inr most ↦ inl (omega arith) ]
+]
 
 tests : (d : Outline) (f : OutlineFile) → IsFilePath f.path → NoneHolds (add_rows d f) → Tests d f
 tests d f path none = record {
@@ -254,8 +257,13 @@ made_outline d f layer place o t given order = record {
   name = o.name;
   legal = o.legal;
   files = λ n g at. elim (put_back place f d.files n g at) [
-    | inl same ↦ subst IsOutlineFile same (record { path = t.path; bound = t.bound; root_length = given.root_length; cut_lengths = given.cut_lengths;
-        padded_length = given.padded_length })
+    | inl same ↦ subst IsOutlineFile same (record {
+      path = t.path;
+      bound = t.bound;
+      root_length = given.root_length;
+      cut_lengths = given.cut_lengths;
+      padded_length = given.padded_length;
+    })
     | inr old ↦ o.files old.0 g old.1
   ];
   cuts = λ n g at hybrid some. elim (put_back place f d.files n g at) [
@@ -269,13 +277,13 @@ made_outline d f layer place o t given order = record {
       | inl other ↦ ap (λ (x : OutlineFile). x.length) (sym one ∙ other)
       | inr old ↦
           let length_is : h.length ≡ f.length = t.one_length old.0 h old.1 (subst (λ (x : OutlineFile). 0 < x.length) (sym one) some_g) some_h (sym root
-              ∙ ap (λ (x : OutlineFile). x.root) (sym one)) in
+          ∙ ap (λ (x : OutlineFile). x.root) (sym one)) in
           ap (λ (x : OutlineFile). x.length) (sym one) ∙ sym length_is
     ]
     | inr past ↦ elim (put_back place f d.files n h at_h) [
       | inl other ↦
           let length_is : g.length ≡ f.length = t.one_length past.0 g past.1 (subst (λ (x : OutlineFile). 0 < x.length) (sym other) some_h) some_g (root
-              ∙ ap (λ (x : OutlineFile). x.root) (sym other)) in
+          ∙ ap (λ (x : OutlineFile). x.root) (sym other)) in
           length_is ∙ ap (λ (x : OutlineFile). x.length) other
       | inr old ↦ o.one_length past.0 old.0 g h past.1 old.1 some_g some_h root
     ]
@@ -301,12 +309,18 @@ outline_is d e f layer w =
     ∙ ap (λ n. record { name = d.name; piece_length = n; hybrid = e.hybrid; files = e.files; layers = e.layers }) w.piece_length
     ∙ ap (λ b. record { name = d.name; piece_length = d.piece_length; hybrid = b; files = e.files; layers = e.layers }) w.hybrid
     ∙ ap (λ (fs : List OutlineFile). record { name = d.name; piece_length = d.piece_length; hybrid = d.hybrid; files = fs; layers = e.layers }) w.files
-    ∙ ap (λ (ls : List OutlineLayer). record { name = d.name; piece_length = d.piece_length; hybrid = d.hybrid; files = take w.place d.files
-        ++ f ∷ drop w.place d.files; layers = ls }) w.layers
+    ∙ ap (λ (ls : List OutlineLayer). record {
+      name = d.name;
+      piece_length = d.piece_length;
+      hybrid = d.hybrid;
+      files = take w.place d.files
+          ++ f ∷ drop w.place d.files;
+      layers = ls;
+    }) w.layers
 
 pub add_keeps : (d e : Outline) (f : OutlineFile) (layer : List (List ℕ)) → IsOutline d → IsFilePath f.path → NoneHolds (add_rows d f) → IsGiven d f layer
     → IsWith d e f layer → IsOutline e
 add_keeps d e f layer o path none given w =
     subst IsOutline (sym (outline_is d e f layer w))
     (made_outline d f layer w.place o (tests d f path none) given (subst (λ (fs : List OutlineFile). AreInOrder (map (λ (g : OutlineFile). g.path) fs)) w.files
-        w.in_order))
+    w.in_order))

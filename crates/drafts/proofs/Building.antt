@@ -175,8 +175,12 @@ mutual
   pub first_built : (room : ℕ) (before : Option (List ℕ)) (k : List ℕ) (ks : List (List ℕ)) (v : Bencode) (ps : Pairs) → AreComponents (k ∷ ks)
       → length (k ∷ ks) < room → IsFileValue v
       → IsAbove k before → IsBuilt room before ps → ComesBefore (k ∷ ks) ps → IsBuilt room before (with_first (k ∷ ks) v ps)
-  first_built room before k ks v no_pairs good short file above built first = (good.0, above, (omega arith, alone (room - 1) ks v good.1 (omega arith) file),
-      tt)
+  first_built room before k ks v no_pairs good short file above built first = (
+    good.0,
+    above,
+    (omega arith, alone (room - 1) ks v good.1 (omega arith) file),
+    tt,
+  )
   first_built room before k ks v (pair l w ps) good short file above built first =
       elim (true_or_false (bytes_eq k l)) [
         | inl same ↦
@@ -186,8 +190,12 @@ mutual
             ]
         | inr other ↦
             elim first [
-              | inl less ↦ rw other (good.0, above, (omega arith, alone (room - 1) ks v good.1 (omega arith) file),
-                  (built.0, above_less k l less, built.2, built.3))
+              | inl less ↦ rw other (
+                good.0,
+                above,
+                (omega arith, alone (room - 1) ks v good.1 (omega arith) file),
+                (built.0, above_less k l less, built.2, built.3),
+              )
               | inr rest ↦ absurd (let same : bytes_eq k l ≡ true = equal_bytes k l rest.0 in let c : true ≡ false = sym same ∙ other in cc)
             ]
       ]
@@ -231,7 +239,7 @@ tree_built room [] order files large = tt
 tree_built room (w ∷ ws) order files large =
     let this = files 0 w refl in
     put_built room w.path w.file (tree_of_walks ws) this.0 large this.1 (tree_built room ws (rest_in_order w ws order) (λ n u e. files (suc n) u e) large)
-        (first_before w ws order)
+    (first_before w ws order)
 
 file_node : (room : ℕ) (ps : Pairs) → IsFileNode room ps → is_file ps ≡ true
 file_node room ps node = rw (node.is) (node.good.is)
@@ -241,7 +249,7 @@ mutual
   built_directory room before no_pairs built = refl
   built_directory room before (pair k v ps) built =
       and_from (not (is_nil k) && is_node v) (is_directory ps) (and_from (not (is_nil k)) (is_node v) (ap not built.0.0) (built_node room v built.2))
-          (built_directory room (Some k) ps built.3)
+      (built_directory room (Some k) ps built.3)
 
   built_node : (room : ℕ) (v : Bencode) → IsBuiltIn room v → is_node v ≡ true
   built_node room (int z) built = absurd built

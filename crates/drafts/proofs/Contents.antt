@@ -60,13 +60,13 @@ with_pad n false rest = refl
 pub entries_step : (p : ℕ) (f : OutlineFile) (fs : List OutlineFile) (b : Bool) → has_content fs ≡ b
     → items_spelling (entries_value p (f ∷ fs))
     ≡ (spelling (entry_value f) ++ items_spelling (if nat_lt 0 (gap p f.length) && b then item (pad_value (gap p f.length)) no_items else no_items))
-        ++ items_spelling (entries_value p fs)
+    ++ items_spelling (entries_value p fs)
 entries_step p f fs b e =
     let n = gap p f.length in
     ap (λ t. spelling (entry_value f) ++ t) (with_pad n (nat_lt 0 n && has_content fs) (entries_value p fs)
     ∙ ap (λ a. items_spelling (if nat_lt 0 n && a then item (pad_value n) no_items else no_items) ++ items_spelling (entries_value p fs)) e)
     ∙ sym (append_assoc (spelling (entry_value f)) (items_spelling (if nat_lt 0 n && b then item (pad_value n) no_items else no_items))
-        (items_spelling (entries_value p fs)))
+    (items_spelling (entries_value p fs)))
 
 pub file_at : (xs : List DraftFile) (i : ℕ) (x : DraftFile) → i < length xs → x ≡ get_or xs i x → slice_get (map outline_file xs) i ≡ Some (outline_file x)
 file_at [] i x less e = absurd (omega arith)

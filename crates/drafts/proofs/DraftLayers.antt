@@ -49,7 +49,7 @@ cut_again width (h ∷ hs) each =
     let first : take width (h ++ concat hs) ≡ h = subst (λ n. take n (h ++ concat hs) ≡ h) each.0 (take_first h (concat hs)) in
     let rest : drop width (h ++ concat hs) ≡ concat hs = subst (λ n. drop n (h ++ concat hs) ≡ concat hs) each.0 (drop_first h (concat hs)) in
     ap (λ x. x ∷ first_chunks width (length hs) (drop width (h ++ concat hs))) first ∙ ap (λ xs. h ∷ first_chunks width (length hs) xs) rest
-        ∙ ap (λ xs. h ∷ xs) (cut_again width hs each.1)
+    ∙ ap (λ xs. h ∷ xs) (cut_again width hs each.1)
 
 pub digests_again : (width n : ℕ) (hs : List (List ℕ)) → AreOfLength width hs → length hs ≡ n → as_digests width n (text (concat hs)) ≡ Some hs
 digests_again width n hs each count =
@@ -136,7 +136,7 @@ found d o n t at long =
     let key : has.layer.root ≡ t.root = has.is.root ∙ root.1 in
     let both = under_layer d.layers has.number has.layer o.layers_ascend has.there in
     let below : under t.root (pairs_of_layers d.layers) ≡ Some (text (concat has.layer.hashes)) =
-        subst (λ k. under k (pairs_of_layers d.layers) ≡ Some (text (concat has.layer.hashes))) key both.0 in
+    subst (λ k. under k (pairs_of_layers d.layers) ≡ Some (text (concat has.layer.hashes))) key both.0 in
     record {
       hashes = has.layer.hashes;
       under_root = below;

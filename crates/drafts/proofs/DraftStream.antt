@@ -79,12 +79,12 @@ parts_are p (f ∷ fs) legal files =
     elim (true_or_false (needs_pad p f fs)) [
       | inl pad ↦
           rw pad (ap (λ o. option_and_then (λ (xs : List Part). Some (entry_part (entry_value f) ∷ xs))
-              (option_and_then (λ (xs : List Part). Some (entry_part (pad_value (gap p f.length)) ∷ xs)) o)) rest
+          (option_and_then (λ (xs : List Part). Some (entry_part (pad_value (gap p f.length)) ∷ xs)) o)) rest
           ∙ ap (λ (x : Part). Some (x ∷ entry_part (pad_value (gap p f.length)) ∷ draft_parts p fs)) first
           ∙ ap (λ (x : Part). Some (file_part f ∷ x ∷ draft_parts p fs)) (pad_part_is (gap p f.length) (gap_bound p f.length legal)))
       | inr none ↦
           rw none (ap (λ o. option_and_then (λ (xs : List Part). Some (entry_part (entry_value f) ∷ xs)) o) rest
-              ∙ ap (λ (x : Part). Some (x ∷ draft_parts p fs)) first)
+          ∙ ap (λ (x : Part). Some (x ∷ draft_parts p fs)) first)
     ]
 
 -- ---- HybridFiles
@@ -112,7 +112,7 @@ stream_more x ps = sum_by-cons length_in x ps
 end_file : (p : ℕ) (f : OutlineFile) (ps : List Part) → pieces_end p (file_part f ∷ ps) ≡ pieces_of p f.length * p + pieces_end p ps
 end_file p f ps =
     ap (λ n. n * p) (sum_by-cons (λ (x : Named). pieces_of p x.length) (named_part (file_part f)) (files_in ps))
-        ∙ add-mul (pieces_of p f.length) (sum_by (λ f. pieces_of p f.length) (files_in ps)) p
+    ∙ add-mul (pieces_of p f.length) (sum_by (λ f. pieces_of p f.length) (files_in ps)) p
 
 filled : (p n : ℕ) → 0 < p → n + gap p n ≡ pieces_of p n * p
 filled p n some = let cover = pieces_cover p n some in omega (arith, cover)
@@ -151,7 +151,7 @@ aligned_at p (f ∷ fs) (suc n) part legal at no_pad some =
     elim (true_or_false (needs_pad p f fs)) [
       | inl pad ↦
           rw pad (behind_pad p n f fs part (λ k. stream_length (file_part f ∷ take k (pad_part (gap p f.length) ∷ draft_parts p fs)) ≡ pieces_end p
-              (file_part f ∷ take k (pad_part (gap p f.length) ∷ draft_parts p fs))) no_pad
+          (file_part f ∷ take k (pad_part (gap p f.length) ∷ draft_parts p fs))) no_pad
           (λ k there. padded k (aligned_at p fs k part legal there no_pad some)) (rw pad at at))
       | inr none ↦
           let there : slice_get (draft_parts p fs) n ≡ Some part = rw none at at in
@@ -166,16 +166,16 @@ aligned_at p (f ∷ fs) (suc n) part legal at no_pad some =
 
     padded : (k : ℕ) → stream_length (take k (draft_parts p fs)) ≡ pieces_end p (take k (draft_parts p fs))
         → stream_length (file_part f ∷ pad_part (gap p f.length) ∷ take k (draft_parts p fs)) ≡ pieces_end p
-            (file_part f ∷ pad_part (gap p f.length) ∷ take k (draft_parts p fs))
+        (file_part f ∷ pad_part (gap p f.length) ∷ take k (draft_parts p fs))
     padded k same =
         let ps : List Part = take k (draft_parts p fs) in
         let one = stream_more (file_part f) (pad_part (gap p f.length) ∷ take k (draft_parts p fs)) in
         let two = stream_more (pad_part (gap p f.length)) (take k (draft_parts p fs)) in
         let ends : pieces_end p (file_part f ∷ pad_part (gap p f.length) ∷ take k (draft_parts p fs)) ≡ pieces_of p f.length * p + pieces_end p
-            (take k (draft_parts p fs)) = end_file p f (pad_part (gap p f.length) ∷ take k (draft_parts p fs)) in
+        (take k (draft_parts p fs)) = end_file p f (pad_part (gap p f.length) ∷ take k (draft_parts p fs)) in
         let full : f.length + gap p f.length ≡ pieces_of p f.length * p = filled p f.length legal in
         one ∙ ap (λ n. f.length + n) two ∙ sym (add_assoc f.length (gap p f.length) (stream_length (take k (draft_parts p fs))))
-            ∙ ap (λ n. n + stream_length (take k (draft_parts p fs))) full ∙ ap (λ n. pieces_of p f.length * p + n) same ∙ sym ends
+        ∙ ap (λ n. n + stream_length (take k (draft_parts p fs))) full ∙ ap (λ n. pieces_of p f.length * p + n) same ∙ sym ends
 
     plain : (k : ℕ) → nat_lt 0 (gap p f.length) ≡ false → stream_length (take k (draft_parts p fs)) ≡ pieces_end p (take k (draft_parts p fs))
         → stream_length (file_part f ∷ take k (draft_parts p fs)) ≡ pieces_end p (file_part f ∷ take k (draft_parts p fs))
@@ -196,12 +196,12 @@ stream_is p (f ∷ fs) legal =
         | inl pad ↦
             let full : f.length + gap p f.length ≡ pieces_of p f.length * p = filled p f.length legal in
             rw (content, pad) (stream_more (file_part f) (pad_part (gap p f.length) ∷ draft_parts p fs)
-                ∙ ap (λ n. f.length + n) (stream_more (pad_part (gap p f.length)) (draft_parts p fs))
+            ∙ ap (λ n. f.length + n) (stream_more (pad_part (gap p f.length)) (draft_parts p fs))
             ∙ sym (add_assoc f.length (gap p f.length) (stream_length (draft_parts p fs))) ∙ ap (λ n. n + stream_length (draft_parts p fs)) full
             ∙ ap (λ n. pieces_of p f.length * p + n) (stream_is p fs legal))
         | inr flush ↦
             rw (content, flush) (stream_more (file_part f) (draft_parts p fs) ∙ ap (λ n. n + stream_length (draft_parts p fs)) (no_gap p f.length legal flush)
-                ∙ ap (λ n. pieces_of p f.length * p + n) (stream_is p fs legal))
+            ∙ ap (λ n. pieces_of p f.length * p + n) (stream_is p fs legal))
       ]
       | inr bare ↦
           let none : needs_pad p f fs ≡ false = no_right (nat_lt 0 (gap p f.length)) (has_content fs) bare in
@@ -220,7 +220,7 @@ stream_within p (f ∷ fs) legal =
     ] in
     let first : stream_of p (f ∷ fs) ≤ pieces_of p f.length * p + stream_of p fs =
     choice (has_content fs) (pieces_of p f.length * p + stream_of p fs) (f.length + stream_of p fs) (pieces_of p f.length * p + stream_of p fs) (omega arith)
-        (omega (arith, cover)) in
+    (omega (arith, cover)) in
     omega (arith, rest, step, first)
   where
     choice : (b : Bool) (m n k : ℕ) → m ≤ k → n ≤ k → (if b then m else n) ≤ k
@@ -315,7 +315,7 @@ digests_count p (f ∷ fs) legal cuts =
     let rest : length (digests_of fs) ≡ pieces_of p (stream_of p fs) = digests_count p fs legal (λ n g e. cuts (suc n) g e) in
     let first : length (digests_in f fs) ≡ pieces_of p f.length = digests_in_count p f fs legal (cuts 0 f refl) in
     let both : length (digests_of (f ∷ fs)) ≡ pieces_of p f.length + pieces_of p (stream_of p fs) = length-append (digests_in f fs) (digests_of fs)
-        ∙ ap (λ n. n + length (digests_of fs)) first ∙ ap (λ n. pieces_of p f.length + n) rest in
+    ∙ ap (λ n. n + length (digests_of fs)) first ∙ ap (λ n. pieces_of p f.length + n) rest in
     both ∙ sym (stream_step (has_content fs) refl)
   where
     stream_step : (b : Bool) → has_content fs ≡ b → pieces_of p (stream_of p (f ∷ fs)) ≡ pieces_of p f.length + pieces_of p (stream_of p fs)
@@ -326,7 +326,7 @@ digests_count p (f ∷ fs) legal cuts =
         ap (λ b. pieces_of p (if b then pieces_of p f.length * p + stream_of p fs else f.length + stream_of p fs)) bare
         ∙ ap (λ n. pieces_of p (f.length + n)) nothing ∙ ap (pieces_of p) (add-zero f.length)
         ∙ sym (ap (λ n. pieces_of p f.length + pieces_of p n) nothing ∙ ap (λ n. pieces_of p f.length + n) (cut_count_none p legal)
-            ∙ add-zero (pieces_of p f.length))
+        ∙ add-zero (pieces_of p f.length))
 
 -- ---- the list that the info dictionary has
 
@@ -361,12 +361,12 @@ no_files_behind d = either_none (codes "files") d.hybrid (pair (codes "pieces") 
 abbrev parts_by : List ℕ → Option Bencode → Option Bencode → Option (List Part)
 parts_by name length files =
     if is_some length then (if is_some files then None else Some (record { is_pad = false; length = option_and_then as_length length; path = Some (name ∷ []) }
-        ∷ []))
+    ∷ []))
     else option_and_then parts_of (option_and_then as_list files)
 
 list_either : (d : Outline) (key : List ℕ) (b : Bool) → is_single d.name d.files ≡ b
     → under key (list_pair d (last_pairs d)) ≡ under key (if b then pair (codes "length") (int (pos (first_length d.files))) (last_pairs d) else pair
-        (codes "files") (list (entries_value d.piece_length d.files)) (last_pairs d))
+    (codes "files") (list (entries_value d.piece_length d.files)) (last_pairs d))
 list_either d key b e = ap (λ x. under key (if x then pair (codes "length") (int (pos (first_length d.files))) (last_pairs d) else pair (codes "files")
     (list (entries_value d.piece_length d.files)) (last_pairs d))) e
 
@@ -377,7 +377,7 @@ single_parts p name f bound path =
     let size : option_and_then as_length (Some (int (pos f.length))) ≡ Some f.length = rw e refl in
     let none : needs_pad p f [] ≡ false = no_right (nat_lt 0 (gap p f.length)) false refl in
     rw none (ap (λ (s : Option ℕ). Some (record { is_pad = false; length = s; path = Some (name ∷ []) } ∷ [])) size
-        ∙ ap (λ (x : List (List ℕ)). Some (record { is_pad = false; length = Some f.length; path = Some x } ∷ [])) (sym path))
+    ∙ ap (λ (x : List (List ℕ)). Some (record { is_pad = false; length = Some f.length; path = Some x } ∷ [])) (sym path))
 
 pub parts_in_info : (d : Outline) → IsOutline d → d.hybrid ≡ true → parts_in (info_value d) d.name ≡ Some (draft_parts d.piece_length d.files)
 parts_in_info d o hybrid =
@@ -387,18 +387,18 @@ parts_in_info d o hybrid =
           let there : get (codes "length") (info_value d) ≡ Some (int (pos file.0.length)) =
           hybrid_list d hybrid (codes "length") refl ∙ list_either d (codes "length") true single ∙ ap (λ fs. Some (int (pos (first_length fs)))) file.1 in
           let none : get (codes "files") (info_value d) ≡ None = hybrid_list d hybrid (codes "files") refl ∙ list_either d (codes "files") true single
-              ∙ no_files_behind d in
+          ∙ no_files_behind d in
           let first : slice_get d.files 0 ≡ Some file.0 = ap (λ fs. slice_get fs 0) file.1 in
           let bound : file.0.length ≤ 2 ^ 46 = (o.files 0 file.0 first).bound in
           ap (λ x. parts_by d.name x (get (codes "files") (info_value d))) there ∙ ap (λ x. parts_by d.name (Some (int (pos file.0.length))) x) none
           ∙ single_parts d.piece_length d.name file.0 bound file.2 ∙ ap (λ fs. Some (draft_parts d.piece_length fs)) (sym file.1)
       | inr many ↦
           let none : get (codes "length") (info_value d) ≡ None = hybrid_list d hybrid (codes "length") refl ∙ list_either d (codes "length") false many
-              ∙ no_length_behind d in
+          ∙ no_length_behind d in
           let there : get (codes "files") (info_value d) ≡ Some (list (entries_value d.piece_length d.files)) = hybrid_list d hybrid (codes "files") refl
-              ∙ list_either d (codes "files") false many in
+          ∙ list_either d (codes "files") false many in
           ap (λ x. parts_by d.name x (get (codes "files") (info_value d))) none ∙ ap (λ x. parts_by d.name None x) there
-              ∙ parts_are d.piece_length d.files o.legal o.files
+          ∙ parts_are d.piece_length d.files o.legal o.files
     ]
 
 -- ---- the tests, and the version 1 part
@@ -422,10 +422,10 @@ cuts_are d o hybrid =
     let legal = (legal_some d.piece_length o.legal).0 in
     let count : length (digests_of d.files) ≡ pieces_of d.piece_length (stream_length (draft_parts d.piece_length d.files)) =
     digests_count d.piece_length d.files legal (λ n f at some. o.cuts n f at hybrid some)
-        ∙ ap (pieces_of d.piece_length) (sym (stream_is d.piece_length d.files legal)) in
+    ∙ ap (pieces_of d.piece_length) (sym (stream_is d.piece_length d.files legal)) in
     ap (option_and_then (as_digests 20 (pieces_of d.piece_length (stream_length (draft_parts d.piece_length d.files))))) (pieces_if d true hybrid)
     ∙ digests_again 20 (pieces_of d.piece_length (stream_length (draft_parts d.piece_length d.files))) (digests_of d.files)
-        (digests_length d.piece_length d.files o.files) count
+    (digests_length d.piece_length d.files o.files) count
 
 same_files : (p : ℕ) (fs : List OutlineFile) → DiffersFromFiles (map listed_file fs) (Some (draft_parts p fs)) → ⊥
 same_files p fs differs = elim differs [ inl broken ↦ (let bad : false ≡ true = sym (unbroken p fs) ∙ broken in cc) | inr other ↦ other (files_are p fs) ]
@@ -464,8 +464,11 @@ pub hybrid_none : (d : Outline) → IsOutline d → NoneHolds (hybrid_rows d.pie
 hybrid_none d o = elim (true_or_false d.hybrid) [ inl hybrid ↦ hybrid_rows_none d o hybrid | inr plain ↦ plain_rows_none d plain ]
 
 pub version1_is : (d : Outline) → IsOutline d → d.hybrid ≡ true
-    → version1_of d.piece_length (the_parts (parts_in (info_value d) d.name)) (info_value d) ≡ record { pieces = digests_of d.files; total =
-        stream_of d.piece_length d.files }
+    → version1_of d.piece_length (the_parts (parts_in (info_value d) d.name)) (info_value d) ≡ record {
+      pieces = digests_of d.files;
+      total =
+          stream_of d.piece_length d.files;
+    }
 version1_is d o hybrid =
     let legal = (legal_some d.piece_length o.legal).0 in
     ap (λ x. version1_of d.piece_length (the_parts x) (info_value d)) (parts_in_info d o hybrid)

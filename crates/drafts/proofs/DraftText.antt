@@ -27,7 +27,7 @@ before a b rest = simp (append_assoc, append-nil)
 
 pub layers_step : (p : ℕ) (e : List ℕ × KeptRoot) (es : Entries)
     → pairs_spelling (pairs_of_layers (outline_layers p (e ∷ es))) ≡ pairs_spelling (pairs_of_layers (outline_layers p (e ∷ [])))
-        ++ pairs_spelling (pairs_of_layers (outline_layers p es))
+    ++ pairs_spelling (pairs_of_layers (outline_layers p es))
 layers_step p e es =
     elim (true_or_false (nat_lt p e.1.length)) [
       | inl long ↦ rw long (before (string e.0) (string (concat e.1.layer.items)) (pairs_spelling (pairs_of_layers (outline_layers p es))))
@@ -44,17 +44,17 @@ pieces_text d n o hybrid count =
     let all = digests_in_all d.piece_length d.files some.0 (λ k f at. o.cuts k f at hybrid) in
     let same : 20 * n ≡ length (concat (digests_of d.files)) = omega (arith, long, all, count) in
     rw (hybrid, pieces_key) (ap (λ m. codes "6:pieces" ++ (decimal m ++ (codes ":" ++ concat (digests_of d.files)))) same
-        ∙ ap (λ t. codes "6:pieces" ++ t) (sym (append-nil (string (concat (digests_of d.files))))))
+    ∙ ap (λ t. codes "6:pieces" ++ t) (sym (append-nil (string (concat (digests_of d.files))))))
 
 pub single_text : (d : Outline) (n : ℕ) → d.hybrid ≡ true → is_single d.name d.files ≡ true → n ≡ first_length d.files
     → codes "6:length" ++ integer (pos n) ≡ pairs_spelling (if d.hybrid then list_pair d no_pairs else no_pairs)
 single_text d n hybrid single same =
     rw (hybrid, single, length_key) (ap (λ m. codes "6:length" ++ integer (pos m)) same
-        ∙ ap (λ t. codes "6:length" ++ t) (sym (append-nil (integer (pos (first_length d.files))))))
+    ∙ ap (λ t. codes "6:length" ++ t) (sym (append-nil (integer (pos (first_length d.files))))))
 
 pub file_list_text : (d : Outline) → d.hybrid ≡ true → is_single d.name d.files ≡ false
     → codes "5:filesl" ++ (items_spelling (entries_value d.piece_length d.files) ++ codes "e") ≡ pairs_spelling
-        (if d.hybrid then list_pair d no_pairs else no_pairs)
+    (if d.hybrid then list_pair d no_pairs else no_pairs)
 file_list_text d hybrid many =
     rw (hybrid, many, files_key) (ap (λ t. codes "5:files" ++ t) (sym (append-nil (108 ∷ (items_spelling (entries_value d.piece_length d.files) ++ 101 ∷ [])))))
 
@@ -63,7 +63,7 @@ pub list_text : (d : Outline) → pairs_spelling (if d.hybrid then list_pair d (
     ≡ pairs_spelling (if d.hybrid then list_pair d no_pairs else no_pairs) ++ pairs_spelling (last_pairs d)
 list_text d =
     split d.hybrid (is_single d.name d.files) (codes "length") (codes "files") (int (pos (first_length d.files))) (list (entries_value d.piece_length d.files))
-        (last_pairs d)
+    (last_pairs d)
   where
     split : (b c : Bool) (k l : List ℕ) (v w : Bencode) (rest : Pairs)
         → pairs_spelling (if b then (if c then pair k v rest else pair l w rest) else rest)

@@ -79,7 +79,7 @@ draft_accepted d o some =
     (subst (λ ws. NoneHolds (file_rows ws)) (sym (walks_are d o)) (file_none d.piece_length d.files o.files))
     (subst (λ n. NoneHolds (count_rows n (files_of (value_of d)))) p (subst (λ gs. NoneHolds (count_rows d.piece_length gs)) fs (count_none d o some)))
     (subst (λ n. NoneHolds (layer_rows n (pairs_of_layers d.layers) (roots_in (files_of (value_of d))))) p
-        (subst (λ gs. NoneHolds (layer_rows d.piece_length (pairs_of_layers d.layers) (roots_in gs))) fs (layer_none d o)))
+    (subst (λ gs. NoneHolds (layer_rows d.piece_length (pairs_of_layers d.layers) (roots_in gs))) fs (layer_none d o)))
     (subst (λ n. NoneHolds (hybrid_rows n (info_value d) (name_in (value_of d)) (files_of (value_of d)))) p
     (subst (λ s. NoneHolds (hybrid_rows d.piece_length (info_value d) s (files_of (value_of d)))) (sym (name_is d))
     (subst (λ gs. NoneHolds (hybrid_rows d.piece_length (info_value d) d.name gs)) fs (hybrid_none d o))))
@@ -101,7 +101,7 @@ draft_described d o =
       info_hash_v1 = refl;
       v1 = v1_is d o ∙ ap (λ n. if is_hybrid (info_value d) then Some (version1_of n (the_parts (parts_in (info_value d) d.name)) (info_value d)) else None) p
           ∙ ap (λ s. if is_hybrid (info_value d) then Some (version1_of (piece_length_in (value_of d)) (the_parts (parts_in (info_value d) s)) (info_value d))
-              else None) (sym (name_is d));
+          else None) (sym (name_is d));
     }
 
 pub draft_describes : CanonicalHasSpelling → (d : Outline) → IsOutline d → d.files ≢ [] → length (spelling (value_of d)) ≤ max_torrent

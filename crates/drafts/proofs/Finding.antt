@@ -61,8 +61,13 @@ pub place_found : (p : List (List ℕ)) (fs : List DraftFile) (r : Result ℕ �
     → MatchOption (result_err r) (Ties p (paths_in fs)) (λ i. IsPlaceOf p (paths_in fs) i)
 place_found p fs (Ok k) order range found =
     elim ((slice_get_cases fs k).1) [
-      | inl there ↦ record { number = k; other = path_in there.0; there = path_at fs k there.0 there.2; tie =
-          subst (λ (f : DraftFile). path_cmp (path_in f) p ≡ Equal) there.3 (found there.0) }
+      | inl there ↦ record {
+        number = k;
+        other = path_in there.0;
+        there = path_at fs k there.0 there.2;
+        tie =
+            subst (λ (f : DraftFile). path_cmp (path_in f) p ≡ Equal) there.3 (found there.0);
+      }
       | inr past ↦ absurd (let le = past.0 in omega (arith, range, le))
     ]
 place_found p fs (Err i) order range found =

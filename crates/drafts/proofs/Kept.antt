@@ -56,7 +56,7 @@ below_more r e es order less = (less, lower r e.0 (keys_of es) less (sorted_head
 -- a new root adds its layer, if it has one
 pub layers_inserted : (p : ℕ) (r : List ℕ) (k : KeptRoot) (es : Entries) → Ascend es → kept_at r es ≡ None
     → outline_layers p (insert_entry (slice_cmp nat_cmp) es r k) ≡ cond (nat_lt p k.length) (with_layer r k.layer.items (outline_layers p es))
-        (outline_layers p es)
+    (outline_layers p es)
 layers_inserted p r k [] order none = refl
 layers_inserted p r k (e ∷ es) order none =
     elim (three (slice_cmp nat_cmp r e.0)) [
@@ -78,9 +78,9 @@ layers_inserted p r k (e ∷ es) order none =
 
     behind : slice_cmp nat_cmp r e.0 ≡ Greater
         → outline_layers p (insert_entry (slice_cmp nat_cmp) es r k) ≡ cond (nat_lt p k.length) (with_layer r k.layer.items (outline_layers p es))
-            (outline_layers p es)
+        (outline_layers p es)
         → outline_layers p (insert_entry (slice_cmp nat_cmp) (e ∷ es) r k) ≡ cond (nat_lt p k.length) (with_layer r k.layer.items (outline_layers p (e ∷ es)))
-            (outline_layers p (e ∷ es))
+        (outline_layers p (e ∷ es))
     behind greater rest = elim (true_or_false (nat_lt p e.1.length)) [
       | inl tall ↦ elim (true_or_false (nat_lt p k.length)) [
         | inl long ↦ rw greater (rw tall (rw long (rw greater (ap (λ xs. new e.0 e.1.layer.items ∷ xs) (rw long at rest)))))
@@ -270,7 +270,7 @@ pub made_kept : (name : List ℕ) (p : ℕ) (hybrid : Bool) (fs gs : List DraftF
     → IsKept name p hybrid gs xs more
 made_kept name p hybrid fs gs es xs pieces more place f layer kept none path given is count roots w =
     let files : map outline_file gs ≡ take place (map outline_file fs) ++ outline_file f ∷ drop place (map outline_file fs) = ap (map outline_file) is
-        ∙ map_put outline_file place f fs in
+    ∙ map_put outline_file place f fs in
     record {
       outline_is = add_keeps (outline name p hybrid fs es) (outline name p hybrid gs xs) (outline_file f) layer kept.outline_is path none given w;
       roots = subst (λ (os : List OutlineFile). AreRootsOf os xs) (sym files) roots;
@@ -290,7 +290,7 @@ pub put_file : (name : List ℕ) (p : ℕ) (hybrid : Bool) (fs gs : List DraftFi
 put_file name p hybrid fs gs es xs pieces more place f layer q kept none path given at is count keeps same =
     let d : Outline = outline name p hybrid fs es in
     let k : KeepsRoot p d.files (outline_file f) layer es xs = subst (λ n. KeepsRoot n d.files (outline_file f) layer es xs) same
-        (keeps d kept.roots none.1.1.0) in
+    (keeps d kept.roots none.1.1.0) in
     let w : IsWith d (outline name p hybrid gs xs) (outline_file f) layer = made_with name p hybrid fs gs es xs place f layer kept.outline_is.in_order at is
-        k.layers in
+    k.layers in
     (w, made_kept name p hybrid fs gs es xs pieces more place f layer kept none path given is count (k.roots place) w)

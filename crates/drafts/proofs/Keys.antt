@@ -95,7 +95,7 @@ pad_parts a b k m o n name = simp (append_assoc, append-nil)
 
 pub pad_text : (n name : List ℕ) → codes "d4:attr1:p6:length" ++ (n ++ (codes "4:pathl4:.pad" ++ (name ++ codes "ee")))
     ≡ 100 ∷ ((string (codes "attr") ++ (string (codes "p")
-        ++ (string (codes "length") ++ (n ++ (string (codes "path") ++ ((108 ∷ ((string (codes ".pad") ++ (name ++ [])) ++ 101 ∷ [])) ++ [])))))) ++ 101 ∷ [])
+    ++ (string (codes "length") ++ (n ++ (string (codes "path") ++ ((108 ∷ ((string (codes ".pad") ++ (name ++ [])) ++ 101 ∷ [])) ++ [])))))) ++ 101 ∷ [])
 pad_text n name = rw (attr_key, pad_mark, length_key, path_key, pad_folder) (pad_parts (codes "4:attr") (codes "1:p") (codes "6:length") (codes "4:path")
     (codes "4:.pad") n name)
 

@@ -41,9 +41,10 @@ mutual
 
   items_short : (room : ℕ) (vs : Items) → AreTidy room vs → length (items_spelling vs) < 10 ^ 10 → ItemsFit room vs
   items_short room no_items tidy short = tt
-  items_short room (item v vs) tidy short =
-      (fits_short room v tidy.0 (first_short (spelling v) (items_spelling vs) (10 ^ 10) short),
-          items_short room vs tidy.1 (rest_short (spelling v) (items_spelling vs) (10 ^ 10) short))
+  items_short room (item v vs) tidy short = (
+    fits_short room v tidy.0 (first_short (spelling v) (items_spelling vs) (10 ^ 10) short),
+    items_short room vs tidy.1 (rest_short (spelling v) (items_spelling vs) (10 ^ 10) short),
+  )
 
   pairs_short : (room : ℕ) (before : Option (List ℕ)) (ps : Pairs) → ArePairsTidy room before ps → length (pairs_spelling ps) < 10 ^ 10
       → PairsFit room before ps
@@ -63,9 +64,12 @@ layers_tidy : (room : ℕ) (before : Option (List ℕ)) (es : List OutlineLayer)
 unfolding IsStrictlySortedBy
 layers_tidy room before [] order first = tt
 layers_tidy room before (e ∷ []) order first = (first e refl, tt, tt)
-layers_tidy room before (e ∷ (f ∷ es)) order first =
-    (first e refl, tt, layers_tidy room (Some e.root) (f ∷ es) order.1 (λ g at. let same : f ≡ g = cc in
-        subst (λ (x : OutlineLayer). IsAbove x.root (Some e.root)) same (above_less e.root f.root order.0.0)))
+layers_tidy room before (e ∷ (f ∷ es)) order first = (
+  first e refl,
+  tt,
+  layers_tidy room (Some e.root) (f ∷ es) order.1 (λ g at. let same : f ≡ g = cc in
+      subst (λ (x : OutlineLayer). IsAbove x.root (Some e.root)) same (above_less e.root f.root order.0.0)),
+)
 
 texts_tidy : (room : ℕ) (ks : List (List ℕ)) → AreTidy room (texts_value ks)
 texts_tidy room [] = tt
@@ -144,10 +148,15 @@ either_tidy room before true ps qs x y = x
 either_tidy room before false ps qs x y = y
 
 info_tidy : (d : Outline) → IsOutline d → IsTidy 127 (info_value d)
-info_tidy d o =
-    (omega arith, (tt, (omega arith, built_tidy 125 None (file_tree_of d.files) (file_tree_built d.piece_length 125 d.files o.in_order o.files (omega arith))),
-        either_tidy 126 (Some (codes "file tree")) d.hybrid (list_pair d (last_pairs d)) (last_pairs d) (list_tidy d o.legal o.files)
-        (last_tidy d (codes "file tree") o.legal refl)))
+info_tidy d o = (
+  omega arith,
+  (
+    tt,
+    (omega arith, built_tidy 125 None (file_tree_of d.files) (file_tree_built d.piece_length 125 d.files o.in_order o.files (omega arith))),
+    either_tidy 126 (Some (codes "file tree")) d.hybrid (list_pair d (last_pairs d)) (last_pairs d) (list_tidy d o.legal o.files)
+        (last_tidy d (codes "file tree") o.legal refl),
+  ),
+)
 
 pub value_tidy : (d : Outline) → IsOutline d → IsTidy 128 (value_of d)
 value_tidy d o = (omega arith, (tt, info_tidy d o, (refl, (omega arith, layers_tidy 126 None d.layers o.layers_ascend (λ e at. tt)), tt)))

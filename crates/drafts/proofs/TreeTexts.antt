@@ -80,7 +80,7 @@ first_text (k ∷ ks) v t =
     let n = node k ks v t in
     ap pairs_spelling n.tree_is
     ∙ around (string k) (pairs_spelling (with_first ks v n.deeper)) (opened ks) (leaf_text v) (text_behind ks n.deeper) (pairs_spelling n.later)
-        (first_text ks v n.deeper)
+    (first_text ks v n.deeper)
     ∙ ap (λ b. (opened (k ∷ ks) ++ leaf_text v) ++ b) (sym n.behind_is)
 
 below_same : (k l : List ℕ) (ks ls : List (List ℕ)) → path_cmp (k ∷ ks) (l ∷ ls) ≡ Less → k ≡ l → path_cmp ks ls ≡ Less
@@ -114,7 +114,7 @@ behind_text (k ∷ ks) (l ∷ ls) v t less =
       | inr other ↦
           let count : suc (length ks) ≡ suc (length ks) - 0 = omega arith in
           here ∙ rw other (outside (text_behind ks no_pairs) (closed (suc (length ks) - 0)) (opened (l ∷ ls)) (leaf_text v) (text_behind (l ∷ ls) t)
-              (pairs_spelling whole)
+          (pairs_spelling whole)
           (ends (k ∷ ks) ∙ ap closed count) (sym (ap pairs_spelling n.tree_is) ∙ first_text (l ∷ ls) v t))
     ]
 
@@ -129,7 +129,7 @@ rest_is p [] first order = ends p
 rest_is p (w ∷ ws) first order =
     behind_text p w.path w.file (tree_of_walks ws) (first w ws refl)
     ∙ ap (λ b. closed (length p - shared p w.path) ++ (opened (drop (shared p w.path) w.path) ++ (leaf_text w.file ++ b)))
-        (rest_is w.path ws (next_less w ws order) (rest_in_order w ws order))
+    (rest_is w.path ws (next_less w ws order) (rest_in_order w ws order))
 
 -- the text of a tree, from its first file on
 pub tree_text : (ws : List Walk) → AreInOrder (paths_of ws) → pairs_spelling (tree_of_walks ws) ≡ rest_text [] ws
@@ -150,7 +150,7 @@ pub shared_here : (p q : List (List ℕ)) (i : ℕ) (k l : List ℕ) (b : Bool) 
     → shared (drop i p) (drop i q) ≡ (if b then suc (shared (drop (i + 1) p) (drop (i + 1) q)) else 0)
 shared_here p q i k l b one two first second same =
     shared_step p q i one two ∙ ap (λ t. if t then suc (shared (drop (i + 1) p) (drop (i + 1) q)) else 0) (ap (λ x. bytes_eq x (get_or q i [])) first
-        ∙ ap (bytes_eq k) second ∙ same)
+    ∙ ap (bytes_eq k) second ∙ same)
 
 pub shared_none : (p q : List (List ℕ)) (i : ℕ) → (length p ≤ i) ⊎ (length q ≤ i) → shared (drop i p) (drop i q) ≡ 0
 shared_none p q i end =

@@ -19,9 +19,9 @@ pub one_left : (c : TreeFolder) (before behind : List (Bor (List ℕ))) (above :
     → length behind < 128
 one_left c before behind above is put room =
     let all : length (names_to c) ≡ length above + 1 = ap length (by_last c ∙ ap (λ ps. ps ++ string_bytes (out-TreeFolder c).name ∷ []) is)
-        ∙ length-append above (string_bytes (out-TreeFolder c).name ∷ []) in
+    ∙ length-append above (string_bytes (out-TreeFolder c).name ∷ []) in
     let same : length behind ≡ length before + length above = sym (length-map behind (λ s. s.now)) ∙ ap length put ∙ length-append (texts before) above
-        ∙ ap (λ n. n + length above) (length-map before (λ s. s.now)) in
+    ∙ ap (λ n. n + length above) (length-map before (λ s. s.now)) in
     omega (arith, all, same, room)
 
 -- those above, and then the last

@@ -131,7 +131,7 @@ mutual
       let inner : (not (is_nil k) ≡ true) × (is_node v ≡ true) = and_both (not (is_nil k)) (is_node v) parts.0 in
       let some : is_nil k ≡ false = not_is (is_nil k) inner.0 in
       rw some (order_append (map (below k) (walks_in v)) (walks ps) (order_below k (walks_in v) (value_order room v fits.2 inner.1))
-          (pairs_order room (Some k) ps fits.3 parts.1)
+      (pairs_order room (Some k) ps fits.3 parts.1)
       (cross k (walks_in v) (walks ps) (heads k ps (above_all room k ps fits.3))))
 
   value_order : (room : ℕ) (v : Bencode) → Fits room v → is_node v ≡ true → AreInOrder (paths_of (walks_in v))
@@ -261,7 +261,7 @@ mutual
         | inr other ↦
             let is : under [] ps ≡ Some file = rw other at leads in
             has_right (if is_nil k then record { path = []; file = v } ∷ [] else map (below k) (walks_in v)) (walks ps) (record { path = []; file = file })
-                (leads_has ps [] file is)
+            (leads_has ps [] file is)
       ]
   leads_has (pair k v ps) (l ∷ ls) file leads =
       let found : (if bytes_eq k l then Some v else under l ps) ≡ Some (dict leads.0) = leads.2 in
@@ -272,14 +272,14 @@ mutual
             let key : k ≡ l = same_bytes k l same in
             let some : is_nil k ≡ false = subst (λ x. is_nil x ≡ false) (sym key) leads.1 in
             let here : Has (map (below k) (walks_in v)) (below k (record { path = ls; file = file })) =
-                below_has k (walks_in v) (record { path = ls; file = file }) (value_has v leads.0 ls file one leads.3) in
+            below_has k (walks_in v) (record { path = ls; file = file }) (value_has v leads.0 ls file one leads.3) in
             let named : Has (map (below k) (walks_in v)) (record { path = l ∷ ls; file = file }) =
-                subst (λ x. Has (map (below k) (walks_in v)) (record { path = x ∷ ls; file = file })) key here in
+            subst (λ x. Has (map (below k) (walks_in v)) (record { path = x ∷ ls; file = file })) key here in
             rw some (has_left (map (below k) (walks_in v)) (walks ps) (record { path = l ∷ ls; file = file }) named)
         | inr other ↦
             let is : under l ps ≡ Some (dict leads.0) = rw other at found in
             has_right (if is_nil k then record { path = []; file = v } ∷ [] else map (below k) (walks_in v)) (walks ps) (record { path = l ∷ ls; file = file })
-                (leads_has ps (l ∷ ls) file (leads.0, leads.1, is, leads.3))
+            (leads_has ps (l ∷ ls) file (leads.0, leads.1, is, leads.3))
       ]
 
   value_has : (v : Bencode) (inner : Pairs) (path : List (List ℕ)) (file : Bencode) → v ≡ dict inner → LeadsToFile inner path file
@@ -353,8 +353,10 @@ pub order_from : (ps : List (List (List ℕ))) → ((i j : ℕ) (p q : List (Lis
     → path_cmp p q ≡ Less) → AreInOrder ps
 unfolding IsStrictlySortedBy
 order_from [] f = tt
-order_from (x ∷ ps) f = (over_from x ps (λ j q e. f 0 (suc j) x q (omega arith) refl e),
-    order_from ps (λ i j p q less e g. f (suc i) (suc j) p q (omega arith) e g))
+order_from (x ∷ ps) f = (
+  over_from x ps (λ j q e. f 0 (suc j) x q (omega arith) refl e),
+  order_from ps (λ i j p q less e g. f (suc i) (suc j) p q (omega arith) e g),
+)
 
 pub order_is_apart : (ps : List (List (List ℕ))) → (AreInOrder ps → ArePathsApart ps) × (ArePathsApart ps → AreInOrder ps)
 order_is_apart ps = (

@@ -34,8 +34,15 @@ node_at path xs i x lt is h =
     let next = next_left path xs i x lt is h in
     let both = and_both (not (is_nil (pair_view x).0) && is_node (pair_view x).1) (is_directory (pairs_view (drop (i + 1) xs))) next.shape in
     let here = and_both (not (is_nil (pair_view x).0)) (is_node (pair_view x).1) both.0 in
-    record { room = next.room; deep = next.deep; fits = next.fits.2; named = not_is (is_nil (pair_view x).0) here.0; shape = here.1; good =
-        record { good = λ bad. next.good.good (inl bad) } }
+    record {
+      room = next.room;
+      deep = next.deep;
+      fits = next.fits.2;
+      named = not_is (is_nil (pair_view x).0) here.0;
+      shape = here.1;
+      good =
+          record { good = λ bad. next.good.good (inl bad) };
+    }
 
 pub left_behind : (path : List (List ℕ)) (xs : List Pair) (i : ℕ) (x : Pair) → i < length xs → x ≡ get_or xs i x → AreLeft path (pairs_view (drop i xs))
     → AreLeft path (pairs_view (drop (i + 1) xs))

@@ -94,7 +94,7 @@ mutual
                   let deeper = has_below k (walks_in v) w front in
                   let there : slice_get (k ∷ deeper.0.path) n ≡ Some l = subst (λ (x : Walk). slice_get x.path n ≡ Some l) (sym deeper.2) at in
                   one_more k deeper.0.path (some, (λ bad. good (inl (some, inl bad)))) (good_node v deeper.0 (λ bad. good (inl (some, inr bad))) deeper.1) n l
-                      there
+                  there
               | inr later ↦ good_walk ps w (λ bad. good (inr bad)) later n l at
             ]
       ]

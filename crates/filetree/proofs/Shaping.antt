@@ -39,12 +39,27 @@ mutual
   ]
 
   bad_node : (all : Pairs) (k : List ℕ) (v : Bencode) → is_nil k ≡ false → HoldsPair all k v → is_node v ≡ false → HasFault all
-  bad_node all k (int z) some there odd = record { path = []; dir = all; reached = refl; fault =
-      inl (record { component = k; value = int z; some = some; there = there; odd = refl }) }
-  bad_node all k (text s) some there odd = record { path = []; dir = all; reached = refl; fault =
-      inl (record { component = k; value = text s; some = some; there = there; odd = refl }) }
-  bad_node all k (list vs) some there odd = record { path = []; dir = all; reached = refl; fault =
-      inl (record { component = k; value = list vs; some = some; there = there; odd = refl }) }
+  bad_node all k (int z) some there odd = record {
+    path = [];
+    dir = all;
+    reached = refl;
+    fault =
+        inl (record { component = k; value = int z; some = some; there = there; odd = refl });
+  }
+  bad_node all k (text s) some there odd = record {
+    path = [];
+    dir = all;
+    reached = refl;
+    fault =
+        inl (record { component = k; value = text s; some = some; there = there; odd = refl });
+  }
+  bad_node all k (list vs) some there odd = record {
+    path = [];
+    dir = all;
+    reached = refl;
+    fault =
+        inl (record { component = k; value = list vs; some = some; there = there; odd = refl });
+  }
   bad_node all k (dict ps) some there odd =
       let both = or_parts (is_file ps) (is_directory ps) odd in
       elim (bad_pairs ps ps (λ l w h. h) both.1) [

@@ -28,7 +28,7 @@ behind_below : (path : List (List ℕ)) (k : List ℕ) (ws : List Walk) → map 
 behind_below path k [] = refl
 behind_below path k (w ∷ ws) =
     let first : behind (path ++ k ∷ []) w ≡ behind path (below k w) = ap (λ (p : List (List ℕ)). record { path = p; file = w.file })
-        (append_assoc path (k ∷ []) w.path) in
+    (append_assoc path (k ∷ []) w.path) in
     ap (λ u. u ∷ map (behind (path ++ k ∷ [])) ws) first ∙ ap (λ us. behind path (below k w) ∷ us) (behind_below path k ws)
 
 pub walked_inner : (path longer : List (List ℕ)) (k : List ℕ) (ps : Pairs) (v : Bencode) (old new : List Walk)
@@ -45,8 +45,11 @@ behind_none (w ∷ ws) = ap (λ us. w ∷ us) (behind_none ws)
 pub file_node : (xs : List Pair) (x : Pair) → is_file (pairs_view xs) ≡ true → x ≡ get_or xs 0 x
     → (pairs_view xs ≡ pair (pair_view x).0 (pair_view x).1 no_pairs) × (is_nil (pair_view x).0 ≡ true)
 file_node [] x is first = cc
-file_node (y ∷ []) x is first = (ap (λ z. pairs_view (z ∷ [])) (sym first), subst (λ z. is_nil (pair_view z).0 ≡ true) (sym first)
-    (and_both (is_nil (pair_view y).0) (is_dict (pair_view y).1) is).0)
+file_node (y ∷ []) x is first = (
+  ap (λ z. pairs_view (z ∷ [])) (sym first),
+  subst (λ z. is_nil (pair_view z).0 ≡ true) (sym first)
+      (and_both (is_nil (pair_view y).0) (is_dict (pair_view y).1) is).0,
+)
 file_node (y ∷ z ∷ zs) x is first = cc
 
 -- a file in the folder at this path

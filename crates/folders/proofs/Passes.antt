@@ -204,7 +204,7 @@ told_one t contents n files v f shelf old new sound is found here passed told = 
         let before : is_some old ≡ true = sym (takes_goes_on old new (part_of took.0 (start_of t f) bytes) took.3) ∙ on in
         let given = told.stream w hybrid before in
         let at : length given.0 ≤ start_of t f = front_before old (length given.0) (place_before t n) (start_of t f) before given.1 passed.not_past
-            (start_is t n f sound is) in
+        (start_is t n f sound is) in
         let more : List ℕ = part_of (length given.0) (start_of t f) bytes in
         let takes : Takes old more new = part.2.streamed (length given.0) given.1 at in (
           given.0 ++ more,

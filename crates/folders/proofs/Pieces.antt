@@ -53,7 +53,7 @@ same_root piece_length e layer hashes bytes of sound len same = elim (short_or_l
       let h : ℕ = height (block_count (length bytes)) in
       let top : layer ≡ h = at.0 ∙ ap (λ n. height (block_count n)) (sym len) in
       let one : length (layer_of bytes h) ≡ 1 = length-layer_of bytes (length bytes) h refl (omega arith)
-          ∙ one_at_root (length bytes) (omega (arith, sound.some)) in
+      ∙ one_at_root (length bytes) (omega (arith, sound.some)) in
       sym (top_is_root bytes)
       ∙ sym (layer_of_at bytes h 0 (omega arith))
       ∙ ap (λ l. get_or (layer_of bytes l) 0 []) (sym top)
@@ -75,26 +75,26 @@ pub first_bad : (piece_length : ℕ) (e : TreeEntry) (layer : ℕ) (hashes : Lis
     → IsComparison (layer_of bytes layer) hashes (Some k) → IsFirstBadPiece piece_length e bytes k
 first_bad piece_length e layer hashes bytes k of sound legal len size differ = let other = difference_within (layer_of bytes layer) hashes k size differ in
     record {
-  only = λ short.
-      let at = of.at_root short in
-      let h : ℕ = height (block_count (length bytes)) in
-      let top : layer ≡ h = at.0 ∙ ap (λ n. height (block_count n)) (sym len) in
-      let one : length (layer_of bytes h) ≡ 1 = length-layer_of bytes (length bytes) h refl (omega arith)
+      only = λ short.
+          let at = of.at_root short in
+          let h : ℕ = height (block_count (length bytes)) in
+          let top : layer ≡ h = at.0 ∙ ap (λ n. height (block_count n)) (sym len) in
+          let one : length (layer_of bytes h) ≡ 1 = length-layer_of bytes (length bytes) h refl (omega arith)
           ∙ one_at_root (length bytes) (omega (arith, sound.some)) in
-      omega (arith, other.0, ap (λ l. length (layer_of bytes l)) top);
-  same_before = λ long j lt.
-      let at = of.at_pieces long in
-      slice_get-get_or e.layer j [] (omega (arith, count long))
-      ∙ ap Some (ap (λ xs. get_or xs j []) (sym at.1)
-      ∙ sym (other.2 j lt)
-      ∙ layer_of_at bytes layer j (omega (arith, other.0))
-      ∙ ap (λ l. node bytes l j) at.0);
-  within = λ long. omega (arith, other.0, count long);
-  differs = λ long is.
-      let at = of.at_pieces long in
-      other.1 (layer_of_at bytes layer k other.0 ∙ ap (λ l. node bytes l k) at.0
-      ∙ sym (get_or_from_slice_get e.layer k (node bytes (piece_layer piece_length) k) [] is) ∙ ap (λ xs. get_or xs k []) (sym at.1));
-}
+          omega (arith, other.0, ap (λ l. length (layer_of bytes l)) top);
+      same_before = λ long j lt.
+          let at = of.at_pieces long in
+          slice_get-get_or e.layer j [] (omega (arith, count long))
+          ∙ ap Some (ap (λ xs. get_or xs j []) (sym at.1)
+          ∙ sym (other.2 j lt)
+          ∙ layer_of_at bytes layer j (omega (arith, other.0))
+          ∙ ap (λ l. node bytes l j) at.0);
+      within = λ long. omega (arith, other.0, count long);
+      differs = λ long is.
+          let at = of.at_pieces long in
+          other.1 (layer_of_at bytes layer k other.0 ∙ ap (λ l. node bytes l k) at.0
+          ∙ sym (get_or_from_slice_get e.layer k (node bytes (piece_layer piece_length) k) [] is) ∙ ap (λ xs. get_or xs k []) (sym at.1));
+    }
   where
     count : piece_length < e.length → length (layer_of bytes layer) ≡ length e.layer
     count long =
@@ -109,8 +109,12 @@ first_bad piece_length e layer hashes bytes k of sound legal len size differ = l
 pub few_nodes : (bytes : List ℕ) (layer : ℕ) → length (layer_of bytes layer) ≤ block_count (length bytes)
 few_nodes bytes layer =
     let n : ℕ = block_count (length bytes) in
-    omega (arith, length-map-range_with_len (node bytes layer) 0 (layer_count n layer), at_most layer (height n) (first_pad n layer) n
-        (rounded n (2 ^ layer) (pow_pos layer)))
+    omega (
+      arith,
+      length-map-range_with_len (node bytes layer) 0 (layer_count n layer),
+      at_most layer (height n) (first_pad n layer) n
+          (rounded n (2 ^ layer) (pow_pos layer)),
+    )
   where
     at_most : (l h a n : ℕ) → a ≤ n → (if leb l h then a else 0) ≤ n
     at_most l h a n le = grind (arith, nat_tests)

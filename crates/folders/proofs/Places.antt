@@ -35,7 +35,7 @@ pieces_next t n f is =
 pub within_pieces : (piece_length len : ℕ) → 0 < piece_length → len ≤ pieces_of piece_length len * piece_length
 within_pieces piece_length len some =
     let lt : len + (piece_length - 1) < pieces_of piece_length len * piece_length + piece_length = lt-div-mul-add {a = len + (piece_length - 1)}
-        {b = piece_length} some in
+    {b = piece_length} some in
     omega (arith, lt)
 
 -- a file ends before the next begins
@@ -43,7 +43,7 @@ pub ends_before_next : (t : Description) (n : ℕ) (f : FileEntry) → IsSound t
     → start_of t f + f.length ≤ place_before t (n + 1)
 ends_before_next t n f sound some is =
     let next : place_before t (n + 1) ≡ (pieces_before t n + pieces_of t.piece_length f.length) * t.piece_length =
-        ap (λ k. k * t.piece_length) (pieces_next t n f is) in
+    ap (λ k. k * t.piece_length) (pieces_next t n f is) in
     omega (arith, next, start_is t n f sound is, within_pieces t.piece_length f.length some)
 
 pub pieces_are_positive : (t : Description) → IsSound t → 0 < t.piece_length
@@ -59,10 +59,14 @@ file_there t files i file is lt at =
 pub start_fits : (t : Description) (n : ℕ) (f : FileEntry) → IsSound t → slice_get t.files n ≡ Some f
     → (f.first_piece < 2 ^ 32) × (f.first_piece * t.piece_length < 2 ^ 64)
 start_fits t n f sound is =
-    let few : f.first_piece < 2 ^ 32 = omega (arith, sound.laid_out.first_pieces n f is, sound.laid_out.pieces,
-        sum_by-take-le (λ g. pieces_of t.piece_length g.length) t.files n) in
+    let few : f.first_piece < 2 ^ 32 = omega (
+      arith,
+      sound.laid_out.first_pieces n f is,
+      sound.laid_out.pieces,
+      sum_by-take-le (λ g. pieces_of t.piece_length g.length) t.files n,
+    ) in
     let short : t.piece_length ≤ 2 ^ 30 = subst (λ p. p ≤ 2 ^ 30) (sym sound.legal.3) (let le : 2 ^ sound.legal.0 ≤ 2 ^ 30 =
-        pow-le-pow_right (let o : 0 < 2 = omega arith in o) sound.legal.2 in le) in
+    pow-le-pow_right (let o : 0 < 2 = omega arith in o) sound.legal.2 in le) in
     let most : f.first_piece * t.piece_length ≤ 2 ^ 32 * 2 ^ 30 = mul-le-mul (let a : f.first_piece ≤ 2 ^ 32 = omega arith in a) short in
     (few, omega (arith, most))
 

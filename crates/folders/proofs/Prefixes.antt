@@ -63,8 +63,16 @@ prefix_file t contents n front f bytes so_far is content at = record {
   ];
   zeros = λ i lt uncovered. elim (before_or_after i (length front)) [
     | inl before ↦ get_or_append_left front bytes 0 i before ∙ so_far.zeros i before uncovered
-    | inr after ↦ absurd (uncovered (record { number = n; file = f; bytes = bytes; there = is; content = content; from = omega arith; to =
-        omega (arith, length-append front bytes) }))
+    | inr after ↦ absurd (uncovered (record {
+      number = n;
+      file = f;
+      bytes = bytes;
+      there = is;
+      content = content;
+      from = omega arith;
+      to =
+          omega (arith, length-append front bytes);
+    }))
   ];
 }
 
@@ -87,8 +95,11 @@ pub prefix_all : (t : Description) (contents : Contents) (front : List ℕ) (tot
     → IsStream t contents total (front ++ replicate (total - length front) 0)
 prefix_all t contents front total so_far fits =
     let all = prefix_zeros t contents (length t.files) front (total - length front) so_far in
-    let len : length (front ++ replicate (total - length front) 0) ≡ total = omega (arith, length-append front (replicate (total - length front) 0),
-        length-replicate {A = ℕ} (total - length front) 0) in
+    let len : length (front ++ replicate (total - length front) 0) ≡ total = omega (
+      arith,
+      length-append front (replicate (total - length front) 0),
+      length-replicate {A = ℕ} (total - length front) 0,
+    ) in
     record {
       length_is = len;
       file_at = λ k f bytes there. all.file_at k (within t.files k f there) f bytes there;

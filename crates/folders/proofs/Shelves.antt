@@ -95,7 +95,7 @@ pub listed_push : {A B : Type 0} (path_of : A → List (List ℕ)) (g : B → A)
 listed_push path_of g files i d found paths new lt is none before more =
     let step = each_once_push (map path_of (take i files)) paths (path_of (get_or files i d)) (is_before path_of g files i d found false is none) before in
     subst (λ l. IsEachOnce l new) (sym (map_more path_of files i d lt)) (subst (IsEachOnce (map path_of (take i files) ++ path_of (get_or files i d) ∷ []))
-        (sym more) step)
+    (sym more) step)
 
 -- the i-th file's path is not listed again
 pub listed_again : {A B : Type 0} (path_of : A → List (List ℕ)) (g : B → A) (files : List A) (i : ℕ) (d : A) (found : Option B)
@@ -105,7 +105,7 @@ pub listed_again : {A B : Type 0} (path_of : A → List (List ℕ)) (g : B → A
 listed_again path_of g files i d found paths new lt is there before same =
     let step = each_once_again (map path_of (take i files)) paths (path_of (get_or files i d)) (is_before path_of g files i d found true is there) before in
     subst (λ l. IsEachOnce l new) (sym (map_more path_of files i d lt)) (subst (IsEachOnce (map path_of (take i files) ++ path_of (get_or files i d) ∷ []))
-        (sym same) step)
+    (sym same) step)
 
 -- the first of these paths is one of them
 pub first_is_there : {A : Type 0} (path_of : A → List (List ℕ)) (all : List A) (first : A) (p : List (List ℕ)) → Some first ≡ slice_get all 0

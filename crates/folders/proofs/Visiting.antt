@@ -122,11 +122,11 @@ Extends seen contents = (k : ℕ) (c : Option (List ℕ)) → slice_get seen k �
 
 -- what was found of the first n files, of a shelf that tells this of its paths
 pub record HasFound (t : Description) (under : List (List ℕ) → Option (Option (List ℕ))) (n : ℕ) (files : List FileVerdict) (running : Option V1Feed) : Type 0
-    where
-  pub seen : List (Option (List ℕ))
-  pub count : length seen ≡ n
-  pub agree : (k : ℕ) (f : FileEntry) (c : Option (List ℕ)) → slice_get t.files k ≡ Some f → slice_get seen k ≡ Some c → Agrees (under f.path) c
-  pub told : (contents : Contents) → Extends seen contents → IsTold t contents n files running
+  where
+    pub seen : List (Option (List ℕ))
+    pub count : length seen ≡ n
+    pub agree : (k : ℕ) (f : FileEntry) (c : Option (List ℕ)) → slice_get t.files k ≡ Some f → slice_get seen k ≡ Some c → Agrees (under f.path) c
+    pub told : (contents : Contents) → Extends seen contents → IsTold t contents n files running
 
 -- an item of a list that one more was pushed to
 pushed_at : {A : Type 0} (xs : List A) (x y : A) (k : ℕ) → slice_get (xs ++ x ∷ []) k ≡ Some y → (slice_get xs k ≡ Some y) ⊎ ((k ≡ length xs) × (x ≡ y))

@@ -98,8 +98,14 @@ module _ {S F : Type 0} (shelf : Ghosts S F) (seen : F → SourceSeen) (empty : 
       → HasGathered shelf seen empty base base (map path_bytes sorted) new d
       → GathersAll shelf seen empty old new d
   gathers_all old base new sorted d legal listed quiet stays all =
-      record { legal = legal; paths = map path_bytes sorted; listed = base; listing_is = listed; all = gathered_before old base new (map path_bytes sorted) d
-          quiet stays all }
+      record {
+        legal = legal;
+        paths = map path_bytes sorted;
+        listed = base;
+        listing_is = listed;
+        all = gathered_before old base new (map path_bytes sorted) d
+            quiet stays all;
+      }
 
   -- what is told of a path at which it stopped
   told_at : (old new mid : S) (d : Outline) (f : FileFault) (v : Vec (String Global))

@@ -61,7 +61,7 @@ module _ {S F : Type 0} (shelf : Ghosts S F) (seen : F → SourceSeen) (empty : 
             (subst (λ p. Reads shelf seen mid p content new) (sym at) reads);
         are = subst (λ ps. AreContentsUnder (shelf.contents old).under ps (so_far.contents ++ content ∷ [])) (sym (taken_more paths n path there))
             (are_more (shelf.contents old).under (take n paths) so_far.contents path content so_far.are
-                (subst (λ (on : ShelfContents). Agrees (on.under path) (Some content)) so_far.stays reads.agrees));
+            (subst (λ (on : ShelfContents). Agrees (on.under path) (Some content)) so_far.stays reads.agrees));
         gathered = Chain-next DraftAdds empty d e paths n so_far.contents path content inside so_far.gathered
             (subst (λ p. DraftAdds d p content e) (sym at) adds);
         quiet = reads.quiet ∙ so_far.quiet;

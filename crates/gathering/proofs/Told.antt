@@ -110,8 +110,12 @@ module _ {S F : Type 0} (shelf : Ghosts S F) (seen : F → SourceSeen) where
       → VisitsFile shelf seen piece_length hybrid s path s' (visit_of r)
   visited piece_length hybrid s path mid file read s' (Ok (Some told)) v (content, is, short, hashes) quiet =
       (content, reads s path mid file read s' content v is quiet, short, hashes)
-  visited piece_length hybrid s path mid file read s' (Ok None) v (content, is, long) quiet = (refl, content, reads s path mid file read s' content v is quiet,
-      long)
+  visited piece_length hybrid s path mid file read s' (Ok None) v (content, is, long) quiet = (
+    refl,
+    content,
+    reads s path mid file read s' content v is quiet,
+    long,
+  )
   visited piece_length hybrid s path mid file read s' (Err fault.Device) v read_is counted = record {
     counted = v.added ∙ ap (more (shelf.faults mid)) (counted ∙ ap one_more v.fresh) ∙ ap one_more v.steady;
     failed = inr (file, handed s path mid file read s' v);

@@ -108,7 +108,7 @@ pub checked : (b q : PieceCheck) (file more : List ℕ) (node : Option (List ℕ
     → IsFedCheck q more
 checked b q file more node at fed completed layer shape hashes compared =
     let now : complete_nodes q.builder more q.layer ≡ complete_nodes b.builder file b.layer ++ option_to_list node = ap (complete_nodes q.builder more) layer
-        ∙ completed in
+    ∙ completed in
     record {
       fed = fed;
       in_tree = subst (λ l. l ≤ height (block_count q.shape)) (sym layer) (subst (λ s. b.layer ≤ height (block_count s)) (sym shape) at.in_tree);

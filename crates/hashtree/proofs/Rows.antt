@@ -42,7 +42,7 @@ node_over-climb l i xs room =
     let at : i + 0 ≡ i = omega arith in
     tree-climb l part len
     ∙ ap (λ t. get_or t 0 []) (ap (λ k. climb l (take k (drop (i * 2 ^ l) xs))) (sym one) ∙ sym (take-climb l 1 (drop (i * 2 ^ l) xs))
-        ∙ ap (take 1) (sym (drop-climb l i xs)))
+    ∙ ap (take 1) (sym (drop-climb l i xs)))
     ∙ get_or-take 1 (drop i (climb l xs)) 0 [] (omega arith)
     ∙ get_or-drop i (climb l xs) 0 []
     ∙ ap (λ k. get_or (climb l xs) k []) at
@@ -59,7 +59,7 @@ length-climb (suc l) xs =
 pub layer_complete : (file : List ℕ) (n layer : ℕ) (last : List ℕ) (top : List ℕ) → 16384 * n < length file → length file ≤ 16384 * n + 16384
     → last ≡ sha256 (drop (16384 * n) file) → layer ≤ height (n + 1)
     → climb layer (padded (height (n + 1)) (block_hashes file n) last pad_leaf) ≡ layer_with (height (n + 1)) layer (climb layer (block_hashes file n)) top
-        pad_leaf
+    pad_leaf
     → climb layer (block_hashes file n) ++ top ∷ [] ≡ layer_of file layer
 layer_complete file n layer last top lo hi is low layer_is =
     let h : ℕ = height (n + 1) in
@@ -75,7 +75,7 @@ layer_complete file n layer last top lo hi is low layer_is =
     fill_by_all (node file layer) (ys ++ top ∷ []) (first_pad (n + 1) layer) [] size
     (λ i lt.
     sym (node_over-climb layer i (leaves file)
-        (omega (arith, all, part_within h layer i low (omega (arith, lt, first_pad-fits (n + 1) h layer low (height_enough (n + 1))))))
+    (omega (arith, all, part_within h layer i low (omega (arith, lt, first_pad-fits (n + 1) h layer low (height_enough (n + 1))))))
     ∙ ap (λ t. get_or t i []) row
     ∙ get_or_append_left (ys ++ top ∷ []) rest [] i (omega (arith, size, lt)))) in
     these
@@ -87,8 +87,12 @@ pub layer_above : (file : List ℕ) (n layer : ℕ) → 16384 * n < length file 
     → climb layer (block_hashes file n) ≡ layer_of file layer
 layer_above file n layer lo hi high =
     let count : block_count (length file) ≡ n + 1 = omega arith in
-    let few : length (block_hashes file n) < 2 ^ layer = omega (arith, length-block_hashes file n, height_enough (n + 1),
-        pow_mono {i = height (n + 1)} {j = layer} (omega arith)) in
+    let few : length (block_hashes file n) < 2 ^ layer = omega (
+      arith,
+      length-block_hashes file n,
+      height_enough (n + 1),
+      pow_mono {i = height (n + 1)} {j = layer} (omega arith),
+    ) in
     nil_from_length (climb layer (block_hashes file n)) (climb-lt layer (block_hashes file n) few)
     ∙ ap (λ b. map (node file layer) (range_with_len 0 (if b then first_pad (n + 1) layer else 0))) (sym (lt-leb layer (height (n + 1)) high))
     ∙ ap (λ k. map (node file layer) (range_with_len 0 (layer_count k layer))) (sym count)

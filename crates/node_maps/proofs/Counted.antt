@@ -90,7 +90,7 @@ place-number l i (place ∷ places) e = by_layer (place-number l i places) (eqb 
     by_layer rest true is (inl here) =
         let parts = and_parts (eqb l place.0) (eqb i place.1) (sym (same_place place.0 place.1 l i) ∙ here) in
         or_first (eqb (place.1 / 512) (i / 512)) (is_among (i / 512) (numbers_on l places))
-            (eq-eqb (place.1 / 512) (i / 512) (ap (λ k. k / 512) (sym (same_numbers i place.1 parts.1))))
+        (eq-eqb (place.1 / 512) (i / 512) (ap (λ k. k / 512) (sym (same_numbers i place.1 parts.1))))
     by_layer rest true is (inr more) = or_right (eqb (place.1 / 512) (i / 512)) (is_among (i / 512) (numbers_on l places)) (rest more)
     by_layer rest false is (inl here) =
         let parts = and_parts (eqb l place.0) (eqb i place.1) (sym (same_place place.0 place.1 l i) ∙ here) in
@@ -128,7 +128,7 @@ pub row-count : (K : Content) (l : ℕ) (f : Numbered) (c : ℕ) → AreCounted 
 row-count K l f c counted spare reads =
     ap set.len (same_set nat_cmp_total nat_cmp-IsAntisymmetric (set.from_list (numbers_on l (map.keys K))) (marks_where (λ n. is_some (f n)) (2 ^ 32))
     (λ q. contains-among (numbers_on l (map.keys K)) q ∙ both_ways (is_among q (numbers_on l (map.keys K))) (is_some (f q)) (known-held q) (held-known q)
-        ∙ sym (counted-are f c counted q)))
+    ∙ sym (counted-are f c counted q)))
     ∙ sym counted.count_is
   where
     known-held : (q : ℕ) → is_among q (numbers_on l (map.keys K)) ≡ true → is_some (f q) ≡ true
@@ -148,7 +148,7 @@ row-count K l f c counted spare reads =
         let cell : cell_in f (512 * q + o) ≡ get_or p.cells.items o Empty = ap₂ (λ n k. cell_of (f n) k) number offset ∙ ap (λ x. cell_of x o) is in
         let known : is_some (look K l (512 * q + o)) ≡ true = ap is_some (reads (512 * q + o) ∙ ap hash_of cell) ∙ some in
         subst (λ n. is_among n (numbers_on l (map.keys K)) ≡ true) number (place-number l (512 * q + o) (map.keys K) (sym (known-there K l (512 * q + o))
-            ∙ known))
+        ∙ known))
 
 -- ---- all rows
 

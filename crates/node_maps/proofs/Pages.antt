@@ -175,7 +175,7 @@ module _ {D : Type 0} (find : D → Numbered) (ns : List ℕ) (ds : List D) (ris
       → IsChanged q page (find_under find ns ds shift) (find_under find (insert ns at (q / 2 ^ shift)) (insert ds at w) shift)
   under-insert gap empty none w page below =
       under_changed find (λ n. n / 2 ^ shift) (page_numbered ns ds) (page_numbered (insert ns at key) (insert ds at w)) q (Some w) page
-          (insert-found ns ds rising beside key at gap w)
+      (insert-found ns ds rising beside key at gap w)
       (λ n. below n ∙ ap (cond (eqb q n) page) (none n ∙ sym (ap (λ o. page_within find o n) (found_gap ns ds key at gap))))
 
   -- a directory that is empty is given back
@@ -183,7 +183,7 @@ module _ {D : Type 0} (find : D → Numbered) (ns : List ℕ) (ds : List D) (ris
       → IsChanged q None (find_under find ns ds shift) (find_under find (remove ns at) (remove ds at) shift)
   under-remove is d here none =
       under_changed find (λ n. n / 2 ^ shift) (page_numbered ns ds) (page_numbered (remove ns at) (remove ds at)) q None None
-          (remove-found ns ds rising beside key at is)
+      (remove-found ns ds rising beside key at is)
       (λ n. sym (ap (cond (eqb q n) None) (ap (λ o. page_within find o n) (stands ns ds rising beside key at is d here) ∙ none n) ∙ both (eqb q n) None))
     where
       both : (b : Bool) (o : Option Page) → cond b o o ≡ o

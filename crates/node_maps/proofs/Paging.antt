@@ -59,7 +59,7 @@ look-hashes h rows in_tree l i = look-within h (hashes rows) l i ∙ by_cell (ha
 pub row-hashes : (rows : List PagedRow) (l : ℕ) (row : PagedRow) → l < length rows → row ≡ get_or rows l row → (i : ℕ) → row_hashes row i ≡ hashes rows l i
 row-hashes rows l row low is i =
     sym (ap (λ o. hash_of (cell_of (option_and_then (λ (r : PagedRow). pages_of r (i / 512)) o) (i % 512)))
-        (slice_get_read rows (length rows) l row refl low is))
+    (slice_get_read rows (length rows) l row refl low is))
 
 -- and as nothing where there is no row
 pub no_row-hashes : (rows : List PagedRow) (l : ℕ) → length rows ≤ l → (i : ℕ) → hashes rows l i ≡ None

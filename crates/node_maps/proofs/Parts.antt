@@ -23,4 +23,4 @@ pub page-there : (pages : Numbered) (from count done n : ℕ) → n ≡ (from + 
 page-there pages from count done n number more none known =
     let here = known done more in
     none-some here.0 (sym (ap (λ q. hash_of (cell_of (pages q) ((from + done) % 512))) (sym number) ∙ ap (λ o. hash_of (cell_of o ((from + done) % 512))) none)
-        ∙ here.1)
+    ∙ here.1)

@@ -75,8 +75,13 @@ found-remove (n ∷ ns) [] q i beside at free r = absurd (omega arith)
 found-remove (n ∷ ns) (p ∷ ps) q zero beside at free r =
     grind (arith, nat_tests, at.is_number, found_absent ns ps q (λ j low. free (suc j) (omega arith) (omega arith)))
 found-remove (n ∷ ns) (p ∷ ps) q (suc i) beside at free r =
-    grind (arith, nat_tests, free 0 (omega arith) (omega arith), found-remove ns ps q i (omega arith) (tail_at n ns q i at)
-        (λ j low other. free (suc j) (omega arith) (omega arith)) r)
+    grind (
+      arith,
+      nat_tests,
+      free 0 (omega arith) (omega arith),
+      found-remove ns ps q i (omega arith) (tail_at n ns q i at)
+          (λ j low other. free (suc j) (omega arith) (omega arith)) r,
+    )
 
 module _ (ns : List ℕ) (rising : AreRising ns) where
   -- what a binary search answers
@@ -118,7 +123,7 @@ rising-insert ns q at gap rising i j lt in_range =
     let here : (i : ℕ) → i ≡ at → get_or new i 0 ≡ q = λ i here. rw here (get_or-insert_at ns at q 0 gap.in_range) in
     let above' : (i : ℕ) → at < i → get_or new i 0 ≡ get_or ns (i - 1) 0 =
     λ i above. subst (λ k. get_or new k 0 ≡ get_or ns (i - 1) 0) {x = i - 1 + 1} (omega arith) (get_or-insert_above ns at q 0 (i - 1) (omega arith)
-        gap.in_range) in
+    gap.in_range) in
     grind (arith, below' i, here i, above' i, below' j, here j, above' j, rising i j, rising i (j - 1), rising (i - 1) (j - 1), gap.below i, gap.above (j - 1))
 
 pub rising-remove : (ns : List ℕ) (at : ℕ) → at < length ns → AreRising ns → AreRising (remove ns at)

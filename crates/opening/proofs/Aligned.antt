@@ -58,7 +58,7 @@ pieces_after : (k : ℕ) (ps : List Part) (p : Part) → pieces_end k (ps ++ p �
 pieces_after k ps p =
     let f = λ (n : Named). pieces_of k n.length in
     ap (λ t. sum_by f t * k) (files_after ps p) ∙ ap (λ t. t * k) (sum_by-append f (files_in ps) (files_in (p ∷ [])))
-        ∙ add-mul (sum_by f (files_in ps)) (sum_by f (files_in (p ∷ []))) k
+    ∙ add-mul (sum_by f (files_in ps)) (sum_by f (files_in (p ∷ []))) k
 
 pieces_one : (k : ℕ) (p : Part) (pad : Bool) → p.is_pad ≡ pad → pieces_end k (p ∷ []) ≡ (if pad then 0 else pieces_of k (length_in p) * k)
 pieces_one k p true e = ap (λ t. sum_by (λ (n : Named). pieces_of k n.length) (map named_part (cond (not t) (p ∷ []) [])) * k) e ∙ zero-mul k
@@ -105,7 +105,7 @@ one_more k all i e v right here before h = record {
         let of_file : has_attribute 112 v ≡ false = ap (λ (q : Part). q.is_pad) (sym part) ∙ file in
         let positive : 0 < length_of v = subst (λ (q : Part). 0 < length_in q) part some in
         ap (λ n. stream_length (take n all)) is ∙ sym h.stream_is ∙ placed_here v e right of_file positive ∙ h.pieces_is
-            ∙ ap (λ n. pieces_end k (take n all)) (sym is))
+        ∙ ap (λ n. pieces_end k (take n all)) (sym is))
   ];
 }
   where

@@ -69,7 +69,7 @@ same_description t u e0 e1 e2 e3 e4 e5 e6 =
 described_one : (v : Bencode) (t u : Description) → IsDescribed v t → IsDescribed v u → t ≡ u
 described_one v t u one other =
     same_description t u (one.name ∙ sym other.name) (one.piece_length ∙ sym other.piece_length) (files_one _ _ t.files u.files one.files other.files)
-        (one.trees ∙ sym other.trees)
+    (one.trees ∙ sym other.trees)
     (one.info_hash_v2 ∙ sym other.info_hash_v2) (one.info_hash_v1 ∙ sym other.info_hash_v1) (one.v1 ∙ sym other.v1)
 
 -- what bencoding says of spellings and faults
@@ -101,7 +101,7 @@ no_both value fault b t r one other = elim other [
 same_fault : (f g : Fault) → f.kind ≡ g.kind → f.offset ≡ g.offset → f ≡ g
 same_fault f g kind offset =
     ap (λ (k : FaultKind). let h : Fault = record { kind = k; offset = f.offset } in h) kind
-        ∙ ap (λ (n : ℕ). let h : Fault = record { kind = g.kind; offset = n } in h) offset
+    ∙ ap (λ (n : ℕ). let h : Fault = record { kind = g.kind; offset = n } in h) offset
 
 pub refusal_is_one : OneValue → NoFault → OneFault → (b : List ℕ) (r s : Refusal) → RefusesTorrent b r → RefusesTorrent b s → r ≡ s
 refusal_is_one value fault one_fault b r s one other = elim one [

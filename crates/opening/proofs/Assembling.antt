@@ -59,7 +59,7 @@ tree_refused v tree r keys is first =
     let content = content_rows (piece_length_in v) (layers_in v) (files_of v) in
     let hybrid = hybrid_rows (piece_length_in v) (info_in v) (name_in v) (files_of v) in
     first_behind (all_key_rows v) (tree_rows (file_tree_in v) ++ (content ++ hybrid)) r keys (first_front (tree_rows (file_tree_in v)) (content ++ hybrid) r
-        (subst (λ t. First (tree_rows t) r) is first))
+    (subst (λ t. First (tree_rows t) r) is first))
 
 front_none : (v : Bencode) (tree : Pairs) → NoneHolds (all_key_rows v) → tree ≡ file_tree_in v → NoneHolds (tree_rows tree)
     → NoneHolds (all_key_rows v ++ tree_rows (file_tree_in v))
@@ -73,19 +73,19 @@ files_refused v k info name tree layers fs r h first =
     let hybrid = hybrid_rows (piece_length_in v) (info_in v) (name_in v) (files_of v) in
     let moved = subst (λ n. First (content_rows n (layers_in v) (files_of v)) r) h.length_is
     (subst (λ ls. First (content_rows k ls (files_of v)) r) h.layers_is
-        (subst (λ gs. First (content_rows k layers gs) r) (all_files v tree fs h.tree_is h.files_are) first)) in
+    (subst (λ gs. First (content_rows k layers gs) r) (all_files v tree fs h.tree_is h.files_are) first)) in
     first_behind (all_key_rows v ++ tree_rows (file_tree_in v)) (content ++ hybrid) r (front_none v tree h.keys h.tree_is h.trees)
-        (first_front content hybrid r moved)
+    (first_front content hybrid r moved)
 
 content_none : (v : Bencode) (k : ℕ) (info : Bencode) (name : List ℕ) (tree layers : Pairs) (fs : List ListedFile) → IsReadFrom v k info name tree layers fs
     → NoneHolds (content_rows k layers fs) → NoneHolds ((all_key_rows v ++ tree_rows (file_tree_in v)) ++ content_rows (piece_length_in v) (layers_in v)
-        (files_of v))
+    (files_of v))
 content_none v k info name tree layers fs h rows =
     let moved = subst (λ n. NoneHolds (content_rows n (layers_in v) (files_of v))) h.length_is
     (subst (λ ls. NoneHolds (content_rows k ls (files_of v))) h.layers_is (subst (λ gs. NoneHolds (content_rows k layers gs))
-        (all_files v tree fs h.tree_is h.files_are) rows)) in
+    (all_files v tree fs h.tree_is h.files_are) rows)) in
     none_both (all_key_rows v ++ tree_rows (file_tree_in v)) (content_rows (piece_length_in v) (layers_in v) (files_of v))
-        (front_none v tree h.keys h.tree_is h.trees) moved
+    (front_none v tree h.keys h.tree_is h.trees) moved
 
 pub hybrid_refused : (v : Bencode) (k : ℕ) (info : Bencode) (name : List ℕ) (tree layers : Pairs) (fs : List ListedFile) (r : Refusal)
     → IsReadFrom v k info name tree layers fs
@@ -94,9 +94,9 @@ hybrid_refused v k info name tree layers fs r h rows first =
     let moved = subst (λ n. First (hybrid_rows n (info_in v) (name_in v) (files_of v)) r) h.length_is
     (subst (λ i. First (hybrid_rows k i (name_in v) (files_of v)) r) h.info_is
     (subst (λ s. First (hybrid_rows k info s (files_of v)) r) h.name_is (subst (λ gs. First (hybrid_rows k info name gs) r)
-        (all_files v tree fs h.tree_is h.files_are) first))) in
+    (all_files v tree fs h.tree_is h.files_are) first))) in
     first_behind ((all_key_rows v ++ tree_rows (file_tree_in v)) ++ content_rows (piece_length_in v) (layers_in v) (files_of v))
-        (hybrid_rows (piece_length_in v) (info_in v) (name_in v) (files_of v)) r
+    (hybrid_rows (piece_length_in v) (info_in v) (name_in v) (files_of v)) r
     (content_none v k info name tree layers fs h rows) moved
 
 pub none_holds : (v : Bencode) (k : ℕ) (info : Bencode) (name : List ℕ) (tree layers : Pairs) (fs : List ListedFile) → IsReadFrom v k info name tree layers fs
@@ -105,9 +105,9 @@ none_holds v k info name tree layers fs h rows last =
     let moved = subst (λ n. NoneHolds (hybrid_rows n (info_in v) (name_in v) (files_of v))) h.length_is
     (subst (λ i. NoneHolds (hybrid_rows k i (name_in v) (files_of v))) h.info_is
     (subst (λ s. NoneHolds (hybrid_rows k info s (files_of v))) h.name_is (subst (λ gs. NoneHolds (hybrid_rows k info name gs))
-        (all_files v tree fs h.tree_is h.files_are) last))) in
+    (all_files v tree fs h.tree_is h.files_are) last))) in
     none_both ((all_key_rows v ++ tree_rows (file_tree_in v)) ++ content_rows (piece_length_in v) (layers_in v) (files_of v))
-        (hybrid_rows (piece_length_in v) (info_in v) (name_in v) (files_of v))
+    (hybrid_rows (piece_length_in v) (info_in v) (name_in v) (files_of v))
     (content_none v k info name tree layers fs h rows) moved
 
 fits : (k : ℕ) (fs : List ListedFile) → k ≤ 2 ^ 30 → pieces_in k fs < 2 ^ 32 → sum_by (λ (f : Named). pieces_of k f.length) (map named fs) * k < 2 ^ 64

@@ -77,7 +77,7 @@ pub texts_end : (xs : List Value) (i : ℕ) (ts : List (Bor (List ℕ))) (j : �
 texts_end xs i ts j end le =
     let same : length (texts_of ts) ≡ length ts = length-map ts (λ (s : Bor (List ℕ)). s.now) in
     let all : nat_eq j (length (texts_of ts)) ≡ are_texts no_items (drop j (texts_of ts)) = none_left (are_texts no_items) refl (λ x ys. refl) (texts_of ts) j
-        (omega arith) in
+    (omega arith) in
     ap (nat_eq j) (sym same) ∙ all ∙ ap (λ v. are_texts v (drop j (texts_of ts))) (sym (items_end xs i end))
 
 -- ---- files
@@ -163,5 +163,5 @@ pub same_end : (xs : List Value) (i : ℕ) (fs : List File) (j : ℕ) → length
 same_end xs i fs j end le =
     let same : length (map file_entry fs) ≡ length fs = length-map fs file_entry in
     let all : nat_eq j (length (map file_entry fs)) ≡ are_same no_items (drop j (map file_entry fs)) = none_left (are_same no_items) refl (λ x ys. refl)
-        (map file_entry fs) j (omega arith) in
+    (map file_entry fs) j (omega arith) in
     ap (nat_eq j) (sym same) ∙ all ∙ ap (λ v. are_same v (drop j (map file_entry fs))) (sym (items_end xs i end))

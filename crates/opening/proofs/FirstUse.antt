@@ -136,7 +136,7 @@ step all i ts x at h = by_root x.root refl
           let same : with_root ts x.length (Some s) ≡ ts = rw there.1 refl in
           subst (AreFirst all (suc i)) (sym same)
           (kept all i ts (λ f q at_f root. let one : Some s ≡ Some q = that f q (Some s) is at_f root in let e : s ≡ q = cc in
-              (there.0, subst (λ r. place_in ts r ≡ Some there.0) e there.1)) h)
+          (there.0, subst (λ r. place_in ts r ≡ Some there.0) e there.1)) h)
       | inr none ↦
           let new : with_root ts x.length (Some s) ≡ ts ++ record { root = s; length = x.length } ∷ [] = rw none refl in
           subst (AreFirst all (suc i)) (sym new) (pushed all i ts x (record { root = s; length = x.length }) at is refl none h)
@@ -156,7 +156,7 @@ from_here all (x ∷ rest) i ts at h =
 roots_are_first : (fs : List ListedFile) → AreFirst fs (length fs) (roots_in fs)
 roots_are_first fs = subst (λ n. AreFirst fs n (roots_in fs)) (zero-add (length fs))
     (from_here fs fs 0 [] (λ k f at. subst (λ n. slice_get fs n ≡ Some f) (sym (zero-add k)) at)
-        (record { each = λ n t at. cc; placed = λ k f s lt at is. absurd (omega (arith, lt)) }))
+    (record { each = λ n t at. cc; placed = λ k f s lt at is. absurd (omega (arith, lt)) }))
 
 -- ---- the trees
 

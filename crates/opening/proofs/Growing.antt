@@ -21,9 +21,19 @@ never (t ∷ ts) r none told = elim told [ inl here ↦ none.0 here.1 | inr late
 
 -- no test of a key is answered with out of memory
 pub keys_take_none : (v : Bencode) → First (all_key_rows v) refusals.NoMemory → ⊥
-keys_take_none v told = never (all_key_rows v) refusals.NoMemory
-    ((λ e. cc), ((λ e. cc), ((λ e. cc), ((λ e. cc),
-        ((λ e. cc), ((λ e. cc), ((λ e. cc), ((λ e. cc), ((λ e. cc), ((λ e. cc), ((λ e. cc), ((λ e. cc), ((λ e. cc), ((λ e. cc), tt)))))))))))))) told
+keys_take_none v told = never (all_key_rows v) refusals.NoMemory (
+  (λ e. cc),
+  (
+    (λ e. cc),
+    (
+      (λ e. cc),
+      (
+        (λ e. cc),
+        ((λ e. cc), ((λ e. cc), ((λ e. cc), ((λ e. cc), ((λ e. cc), ((λ e. cc), ((λ e. cc), ((λ e. cc), ((λ e. cc), ((λ e. cc), tt)))))))))),
+      ),
+    ),
+  ),
+) told
 
 -- the tests of the keys, and of the shape and the paths of this file tree
 pub plain_pass : (v : Bencode) (tree : Pairs) → NoneHolds (all_key_rows v) → tree ≡ file_tree_in v → NoneHolds (shape_rows tree) → NoneHolds (plain_rows v)

@@ -226,7 +226,7 @@ other_step v vs (f ∷ fs) true false s p e rest ps listed whole same =
     let b = parts_back v vs ps listed in
     let unbroken : list_any is_broken (entry_part v ∷ b.rest) ≡ false = ap (list_any is_broken) (sym b.parts) ∙ whole in
     let both : named_part (entry_part v) ∷ files_in b.rest ≡ named_entry f ∷ map named_entry fs = sym (files_file (entry_part v) b.rest p)
-        ∙ ap files_in (sym b.parts) ∙ same in
+    ∙ ap files_in (sym b.parts) ∙ same in
     let head : named_part (entry_part v) ≡ named_entry f = cc in
     let tail : files_in b.rest ≡ map named_entry fs = cc in
     elim (and_cases (is_entry_of v f) (are_same vs fs) e) [

@@ -132,7 +132,7 @@ hybrid_in_pieces k info name fs v rows is =
     past None more short = tt
     past (Some ps) more short = inr (λ same.
         let pieces : sum_by (λ (x : Named). pieces_of k x.length) (files_in ps) ≡ pieces_in k fs = ap (sum_by (λ (x : Named). pieces_of k x.length)) same
-            ∙ sum_named k fs in
+        ∙ sum_named k fs in
         short (subst (λ n. n * k < stream_length ps) (sym pieces) more))
 
     by_order : (b : Bool) → nat_le v.total (pieces_in k fs * k) ≡ b → is_hybrid info ≡ true → v.total ≡ stream_length (the_parts (parts_in info name))

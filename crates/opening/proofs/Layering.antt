@@ -30,7 +30,7 @@ pads_are p q n some e =
     let moved : (n + 16383 + 16384 * (q - 1)) / 16384 ≡ block_count n + (q - 1) = omega arith in
     let whole : n + 16383 + 16384 * (q - 1) ≡ n + (p - 1) = omega (arith, e, some) in
     ap (λ x. x / q) (sym moved) ∙ div-div-eq-div-mul (n + 16383 + 16384 * (q - 1)) 16384 q ∙ ap (λ x. x / (16384 * q)) whole
-        ∙ ap (λ x. (n + (p - 1)) / x) (sym e)
+    ∙ ap (λ x. (n + (p - 1)) / x) (sym e)
 
 -- a file longer than a piece has the layer
 pub layer_within : (p m n h : ℕ) → p ≡ 16384 * 2 ^ m → p < n → block_count n ≤ 2 ^ h → m ≤ h
@@ -49,4 +49,4 @@ whole_layer p k n piece shape layer len from is same_piece same_shape enough lea
     let exponent : layer ≡ m = layer_is piece m layer (same_piece ∙ power) enough least in
     let some : 0 < 2 ^ m = pow_mono {i = 0} {j = m} (omega arith) in
     e ∙ sym (pads_are p (2 ^ m) n some power) ∙ ap (λ x. first_pad (block_count x) m) (sym same_shape)
-        ∙ ap (λ x. first_pad (block_count shape) x) (sym exponent)
+    ∙ ap (λ x. first_pad (block_count shape) x) (sym exponent)

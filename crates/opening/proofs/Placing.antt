@@ -43,7 +43,7 @@ both_true false y z e = cc
 pub covers : (p a : ℕ) (f : FileEntry) → 0 < p → begins_in p a f ≡ true → IsInPieces p a f
 covers p a f h e =
     let parts = both_true (nat_le (f.first_piece * p) a) (((a - f.first_piece * p) % 16384) == 0)
-        (nat_lt ((a - f.first_piece * p) / 16384) (block_count f.length)) e in
+    (nat_lt ((a - f.first_piece * p) / 16384) (block_count f.length)) e in
     let from : f.first_piece * p ≤ a = grind (arith, nat_tests, parts.0) in
     let at_block : (a - f.first_piece * p) % 16384 ≡ 0 = grind (arith, nat_tests, parts.1) in
     let in_file : (a - f.first_piece * p) / 16384 < block_count f.length = grind (arith, nat_tests, parts.2) in
@@ -94,8 +94,11 @@ candidate p a c j fs f h laid within low high e begins =
     let less : a % p < p = omega (arith, h) in
     let from : f.first_piece ≤ a / p = quotient_from p a f.first_piece h cover.0 in
     let inside = slice_get_within fs j f e in
-    let below : j < c = elim (cases_lt j c) as (λ _. j < c) [ inl lt ↦ lt | inr le ↦ let above : a / p < f.first_piece = high j f le e in
-        absurd (omega (arith, above, from)) ] in
+    let below : j < c = elim (cases_lt j c) as (λ _. j < c) [
+      | inl lt ↦ lt
+      | inr le ↦ let above : a / p < f.first_piece = high j f le e in
+          absurd (omega (arith, above, from))
+    ] in
     elim (cases_lt (suc j) c) as (λ _. suc j ≡ c) [
       | inl lt ↦
           let last = get_or fs (c - 1) f in
@@ -126,7 +129,7 @@ pub begins_place : (p a : ℕ) (f : FileEntry) → begins_in p a f ≡ true → 
     × (a ≡ f.first_piece * p + 16384 * ((a - f.first_piece * p) / 16384))
 begins_place p a f e =
     let parts = both_true (nat_le (f.first_piece * p) a) (((a - f.first_piece * p) % 16384) == 0)
-        (nat_lt ((a - f.first_piece * p) / 16384) (block_count f.length)) e in
+    (nat_lt ((a - f.first_piece * p) / 16384) (block_count f.length)) e in
     let from : f.first_piece * p ≤ a = grind (arith, nat_tests, parts.0) in
     let at_block : (a - f.first_piece * p) % 16384 ≡ 0 = grind (arith, nat_tests, parts.1) in
     let in_file : (a - f.first_piece * p) / 16384 < block_count f.length = grind (arith, nat_tests, parts.2) in
@@ -147,7 +150,7 @@ pub place_at_none : (p a : ℕ) (fs : List FileEntry) → 0 < p → AreLaidOut p
     → a / p < g.first_piece) → place_from p a 0 fs ≡ None
 place_at_none p a fs h laid high =
     place_none p a 0 fs (λ j f e. false_or_true _ (λ begins. let none : suc j ≡ 0 = candidate p a 0 j fs f h laid (omega arith)
-        (λ k g lt e'. absurd (omega arith)) high e begins in absurd (omega arith)))
+    (λ k g lt e'. absurd (omega arith)) high e begins in absurd (omega arith)))
 
 pub place_at_some : (p a n : ℕ) (fs : List FileEntry) (f : FileEntry) → 0 < p → AreLaidOut p fs
     → ((k : ℕ) (g : FileEntry) → k < suc n → slice_get fs k ≡ Some g → g.first_piece ≤ a / p)
@@ -156,7 +159,7 @@ pub place_at_some : (p a n : ℕ) (fs : List FileEntry) (f : FileEntry) → 0 < 
 place_at_some p a n fs f h laid low high e =
     let inside = slice_get_within fs n f e in
     let only : (j : ℕ) (g : FileEntry) → slice_get fs j ≡ Some g → begins_in p a g ≡ true
-        → suc j ≡ suc n = λ j g e' begins. candidate p a (suc n) j fs g h laid (omega (arith, inside)) low high e' begins in
+    → suc j ≡ suc n = λ j g e' begins. candidate p a (suc n) j fs g h laid (omega (arith, inside)) low high e' begins in
     elim (true_or_false (begins_in p a f)) [
       | inl begun ↦ rw begun (let number : 0 + n ≡ n = omega arith in subst (λ x. place_from p a 0 fs ≡ Some (x, (a - f.first_piece * p) / 16384)) number
           (place_some p a 0 n fs f e begun (λ i g lt e'. false_or_true _ (λ begins. let same = only i g e' begins in absurd (omega (arith, same))))))
@@ -212,8 +215,8 @@ place_is_only t i b f n h laid place =
     let here = place_begins p a place.file n place.in_file place.address in
     let some : place_from p a 0 t.files ≡ Some (0 + f, (a - place.file.first_piece * p) / 16384)
     = place_some p a 0 f t.files place.file place.there here.0
-        (λ j g lt e. false_or_true _ (λ begins. one_covers p a j f t.files g place.file laid e place.there lt (covers p a g h begins)
-        (covers p a place.file h here.0))) in
+    (λ j g lt e. false_or_true _ (λ begins. one_covers p a j f t.files g place.file laid e place.there lt (covers p a g h begins)
+    (covers p a place.file h here.0))) in
     let number : 0 + f ≡ f = omega arith in
     some ∙ rw (number, here.1) refl
 
@@ -245,7 +248,7 @@ search_none p a [] h laid high = refl
 search_none p a (x ∷ xs) h laid high =
     place_at_none p a (map file_entry (x ∷ xs)) h laid
     (λ k g from e. let back = seen_back (x ∷ xs) k x g e in let at : a / p < (get_or (x ∷ xs) k x).first_piece = high k x from back.0 in let first =
-        ap (λ (f : FileEntry). f.first_piece) back.1 in omega (arith, at, first))
+    ap (λ (f : FileEntry). f.first_piece) back.1 in omega (arith, at, first))
 
 pub search_some : (p a n : ℕ) (xs : List File) (x : File) → 0 < p → AreLaidOut p (map file_entry xs) → n < length xs → x ≡ get_or xs n x
     → AllWithin (λ (f : File). f.first_piece ≤ a / p) xs 0 (suc n) → AllWithin (λ (f : File). a / p < f.first_piece) xs (suc n) (length xs)
@@ -253,9 +256,9 @@ pub search_some : (p a n : ℕ) (xs : List File) (x : File) → 0 < p → AreLai
 search_some p a n xs x h laid lt is low high =
     place_at_some p a n (map file_entry xs) (file_entry x) h laid
     (λ k g less e. let back = seen_back xs k x g e in let at : (get_or xs k x).first_piece ≤ a / p = low k x (omega arith) less in let first =
-        ap (λ (f : FileEntry). f.first_piece) back.1 in omega (arith, at, first))
+    ap (λ (f : FileEntry). f.first_piece) back.1 in omega (arith, at, first))
     (λ k g from e. let back = seen_back xs k x g e in let at : a / p < (get_or xs k x).first_piece = high k x from back.0 in let first =
-        ap (λ (f : FileEntry). f.first_piece) back.1 in omega (arith, at, first))
+    ap (λ (f : FileEntry). f.first_piece) back.1 in omega (arith, at, first))
     (seen_at xs n x lt ∙ ap (λ f. Some (file_entry f)) (sym is))
 
 -- what the file at hand tells

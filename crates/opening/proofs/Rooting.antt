@@ -85,7 +85,7 @@ numbered_push g h ts t none places more q =
       | inr other ↦
           more q ∙ rw other (places q ∙ sym (place_push_other ts t q (λ same.
           let tied : is_eq (slice_cmp nat_cmp t.root q) ≡ true = subst (λ k. is_eq (slice_cmp nat_cmp t.root k) ≡ true) same
-              (ap is_eq (tied_itself nat_list_cmp_total t.root)) in cc)))
+          (ap is_eq (tied_itself nat_list_cmp_total t.root)) in cc)))
     ]
 
 pub root_is_at : (ts : List Root) (s : List ℕ) (n size : ℕ) (t : Root) → place_in ts s ≡ Some n → slice_get ts n ≡ Some t → t.length ≡ size → IsRootAt ts s size
@@ -182,8 +182,11 @@ keeps_root ts t s size h = record {
 pub roots_none : (fs : List ListedFile) (ts : List Root) (f : ListedFile) → f.root ≡ None → AreRoots fs ts → AreRoots (fs ++ f ∷ []) ts
 roots_none fs ts f none h = record {
   roots = h.roots ∙ sym (fold_push [] fs f ∙ ap (with_root (roots_in fs) f.length) none);
-  each = λ g s there is. elim (in_cases fs f g there) [ inl old ↦ h.each g s old is | inr new ↦ let same : f.root ≡ g.root =
-      ap (λ (l : ListedFile). l.root) new in cc ];
+  each = λ g s there is. elim (in_cases fs f g there) [
+    | inl old ↦ h.each g s old is
+    | inr new ↦ let same : f.root ≡ g.root =
+        ap (λ (l : ListedFile). l.root) new in cc
+  ];
   used = λ n t e. let old = h.used n t e in (old.0, in_front fs f old.0 old.1, old.2, old.3);
 }
 
@@ -268,4 +271,4 @@ pub files_step : (p : ℕ) (ts : List Root) (all rest : List ListedFile) (es : L
     → entries_from p ts 0 all ≡ es ++ entries_from p ts first (f ∷ rest) → entries_from p ts 0 all ≡ (es ++ e ∷ []) ++ entries_from p ts next rest
 files_step p ts all rest es first next f e is more h =
     h ∙ ap (λ (x : FileEntry). es ++ x ∷ entries_from p ts (first + pieces_of p f.length) rest) is ∙ ap (λ n. es ++ e ∷ entries_from p ts n rest) more
-        ∙ sym (append_assoc es (e ∷ []) (entries_from p ts next rest))
+    ∙ sym (append_assoc es (e ∷ []) (entries_from p ts next rest))

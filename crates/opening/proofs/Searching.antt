@@ -57,7 +57,7 @@ pub rising : (xs : List Pair) (i j : ℕ) (d : Pair) → Ascends (pairs_view xs)
 rising xs i j d up lt in' =
     let less = Less-from_sorted (slice_cmp nat_cmp) (keys_in (pairs_view xs)) i j (pair_view d).0 up lt (omega (arith, key_count xs)) in
     subst (λ k. slice_cmp nat_cmp (get_or xs i d).key.now k ≡ Less) (key_at xs j d in')
-        (subst (λ k. slice_cmp nat_cmp k (get_or (keys_in (pairs_view xs)) j (pair_view d).0) ≡ Less) (key_at xs i d (omega arith)) less)
+    (subst (λ k. slice_cmp nat_cmp k (get_or (keys_in (pairs_view xs)) j (pair_view d).0) ≡ Less) (key_at xs i d (omega arith)) less)
 
 pub not_less : (x y : List ℕ) → slice_cmp nat_cmp x y ≡ Less → x ≡ y → ⊥
 not_less x y less same =

@@ -336,7 +336,7 @@ sound_files k layers fs t paths trees sizes roots n e at =
           let places : Some root.number ≡ Some m = sym root.place ∙ at_root.2 in
           let number : root.number ≡ m = cc in
           let tree_is : slice_get (map (tree_at k layers) (roots_in fs)) m ≡ Some (tree_at k layers root.at) = tree_of k layers (roots_in fs) m root.at
-              (subst (λ j. slice_get (roots_in fs) j ≡ Some root.at) number root.there) in
+          (subst (λ j. slice_get (roots_in fs) j ≡ Some root.at) number root.there) in
           (tree_at k layers root.at, subst (λ ts. slice_get ts m ≡ Some (tree_at k layers root.at)) (sym trees) tree_is, root.same ∙ size);
       no_tree = λ is. sym size ∙ known.none (no_tree (roots_in fs) f.root (λ s root. let at_root = roots.each f s there root in (at_root.number, at_root.place))
           (tree ∙ is));
@@ -387,7 +387,7 @@ sound k info name layers fs t legal length_is paths some sizes roots pieces file
       (hybrid_in_stream k info name fs t.files v hybrid (subst (IsVersion1 k info name) is version) (are_files k fs t.files files) n f at some);
   in_pieces = λ v is. subst (λ p. v.total ≤ sum_by (λ (f : FileEntry). pieces_of p f.length) t.files * p) (sym length_is)
       (subst (λ n. v.total ≤ n * k) (sym (ap (sum_by (λ (f : FileEntry). pieces_of k f.length)) files ∙ sum_all k (roots_in fs) 0 fs))
-          (hybrid_in_pieces k info name fs v hybrid (subst (IsVersion1 k info name) is version)));
+      (hybrid_in_pieces k info name fs v hybrid (subst (IsVersion1 k info name) is version)));
 }
   where
     in_trees : (n : ℕ) (e : TreeEntry) → slice_get t.trees n ≡ Some e → slice_get (map (tree_at k layers) (roots_in fs)) n ≡ Some e

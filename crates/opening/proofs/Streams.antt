@@ -81,7 +81,7 @@ many k fs es vs names fits = by_test (are_same vs es) refl
         let h = same_parts vs es is in
         let ps = h.parts in
         let end : pieces_end k ps ≡ sum_by (λ (f : Named). pieces_of k f.length) (map named fs) * k =
-            ap (λ t. sum_by (λ (f : Named). pieces_of k f.length) t * k) (h.same ∙ names) in
+        ap (λ t. sum_by (λ (f : Named). pieces_of k f.length) t * k) (h.same ∙ names) in
         let start : IsEnd k ps 0 nowhere = record { stream_is = refl; pieces_is = sym (zero-mul k); placed = λ j p lt at file some. absurd (omega arith) } in
         subst (λ (o : Option (List Part)). Streamed k fs o (or_else (aligned_length (ends_of k vs nowhere)) refusals.HybridAlign)) (sym h.listed)
         (by_ends k fs ps (ends_of k vs nowhere) (is_same_list fs es vs names h) (omega (arith, end)) (ends_are k vs ps 0 nowhere h.listed start))
@@ -109,8 +109,16 @@ one_fits k fs f info name some names size path = (
         let bad : true ≡ false = sym broken ∙ whole in let no_way : ⊥ = cc in no_way)
     | inr differ ↦ differ (ap (λ (t : Named). t ∷ []) same ∙ names)
   ]),
-  (λ wrong. elim wrong [ inl m ↦ misplaced m.number m.there m.elsewhere | inr long ↦ absurd (omega (arith, long, pieces_cover k f.length some, length_is_one,
-      pieces_are)) ]),
+  (λ wrong. elim wrong [
+    | inl m ↦ misplaced m.number m.there m.elsewhere
+    | inr long ↦ absurd (omega (
+      arith,
+      long,
+      pieces_cover k f.length some,
+      length_is_one,
+      pieces_are,
+    ))
+  ]),
   sym length_is_one,
 )
   where
@@ -146,8 +154,11 @@ one_differs k fs f info name names other = by_length (length_at info) refl
 
 one : (k : ℕ) (fs : List ListedFile) (es : List FileEntry) (info : Bencode) (name : List ℕ) → 0 < k → map named_entry es ≡ map named fs
     → Streamed k fs (Some (one_part info name ∷ [])) (or_else (one_length info name es) refusals.HybridFiles)
-one k fs [] info name some names = inl (refl, inr (λ same. let bad_list : named_part (one_part info name) ∷ [] ≡ [] = same
-    ∙ sym names in let bad : ⊥ = cc in bad))
+one k fs [] info name some names = inl (
+  refl,
+  inr (λ same. let bad_list : named_part (one_part info name) ∷ [] ≡ [] = same
+      ∙ sym names in let bad : ⊥ = cc in bad),
+)
 one k fs (f ∷ []) info name some names = by_test (is_length f.length (length_at info) && is_named name f.path) refl
   where
     by_test : (b : Bool) → (is_length f.length (length_at info) && is_named name f.path) ≡ b
@@ -157,8 +168,11 @@ one k fs (f ∷ []) info name some names = by_test (is_length f.length (length_a
         one_fits k fs f info name some names (length_is f.length (length_at info) both.0) (named_is name f.path both.1)
     by_test false other = inl (refl, one_differs k fs f info name names other)
 one k fs (f ∷ (g ∷ es)) info name some names =
-    inl (refl, inr (λ same. let bad_list : named_part (one_part info name) ∷ [] ≡ named_entry f ∷ (named_entry g ∷ map named_entry es) = same
-        ∙ sym names in let bad : ⊥ = cc in bad))
+    inl (
+      refl,
+      inr (λ same. let bad_list : named_part (one_part info name) ∷ [] ≡ named_entry f ∷ (named_entry g ∷ map named_entry es) = same
+          ∙ sym names in let bad : ⊥ = cc in bad),
+    )
 
 -- ---- either
 
@@ -225,4 +239,4 @@ hybrid_read k info pieces name fs n ds there told some = (
     part : record { pieces = ds; total = n } ≡ version1_of k (the_parts (parts_in info name)) info
     part = ap (λ m. let r : Version1 = record { pieces = ds; total = m } in r) told.2
         ∙ ap (λ (o : Option (List (List ℕ))). let r : Version1 = record { pieces = unwrap_or o []; total = stream_length (the_parts (parts_in info name)) } in
-            r) (sym cuts)
+        r) (sym cuts)

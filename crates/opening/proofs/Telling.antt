@@ -223,7 +223,7 @@ part_misplaced : (p : ℕ) (ps : List Part) (n : ℕ) (o : Option Part) → slic
 part_misplaced p ps n None there = inr (λ found. none-some found.0 (sym there ∙ found.1))
 part_misplaced p ps n (Some part) there = moved
     ((part.is_pad ≡ false) × ((0 < length_in part) × (stream_length (take n ps) ≢ sum_by (λ f. pieces_of p f.length) (files_in (take n ps)) * p)))
-        (IsMisplacedAt p ps n)
+    (IsMisplacedAt p ps n)
     (λ holds. (part, there, holds.0, holds.1.0, holds.1.1))
     (λ found. let same : found.0 ≡ part = same_Some found.0 part (sym found.1 ∙ there) in
     (ap (λ (q : Part). q.is_pad) (sym same) ∙ found.2, (subst (λ (q : Part). 0 < length_in q) same found.3, found.4)))

@@ -80,7 +80,7 @@ module _ (t : TreeRoot) (J : PartialTree) (ask : Ask) (closed : IsClosed t J) (c
       let len : length first ≡ ask.length = length-map-range_with_len (λ j. hash_or_pad J ask.base (ask.index + j)) 0 ask.length in
       sym (get_or-map-range_with_len (λ j. hash_or_pad J ask.base (ask.index + j)) 0 ask.length k k pad_leaf inside (omega arith))
       ∙ sym (get_or_append_left first (map (λ j. hash_or_pad J (cover ask + j) (sibling (above ask (cover ask + j))))
-          (range_with_len 0 (answer_uncles (tree_height t.length) ask))) pad_leaf k (omega arith))
+      (range_with_len 0 (answer_uncles (tree_height t.length) ask))) pad_leaf k (omega arith))
       ∙ get_or_from_slice_get (answer_of (tree_height t.length) J ask) k v pad_leaf e
 
   uncle-read_back : (j : ℕ) (v : Hash) → j < answer_uncles (tree_height t.length) ask
@@ -91,11 +91,11 @@ module _ (t : TreeRoot) (J : PartialTree) (ask : Ask) (closed : IsClosed t J) (c
       let len : length first ≡ ask.length = length-map-range_with_len (λ k. hash_or_pad J ask.base (ask.index + k)) 0 ask.length in
       let back : ask.length + j - ask.length ≡ j = omega arith in
       sym (get_or-map-range_with_len (λ k. hash_or_pad J (cover ask + k) (sibling (above ask (cover ask + k)))) 0 (answer_uncles (tree_height t.length) ask) j j
-          pad_leaf inside (omega arith))
+      pad_leaf inside (omega arith))
       ∙ sym (get_or-append_right first (map (λ k. hash_or_pad J (cover ask + k) (sibling (above ask (cover ask + k))))
-          (range_with_len 0 (answer_uncles (tree_height t.length) ask))) ask.length (ask.length + j) pad_leaf len (omega arith)
+      (range_with_len 0 (answer_uncles (tree_height t.length) ask))) ask.length (ask.length + j) pad_leaf len (omega arith)
       ∙ ap (λ k. get_or (map (λ k. hash_or_pad J (cover ask + k) (sibling (above ask (cover ask + k))))
-          (range_with_len 0 (answer_uncles (tree_height t.length) ask))) k pad_leaf) back)
+      (range_with_len 0 (answer_uncles (tree_height t.length) ask))) k pad_leaf) back)
       ∙ get_or_from_slice_get (answer_of (tree_height t.length) J ask) (ask.length + j) v pad_leaf e
 
   -- the nodes above the base range are known
@@ -112,27 +112,27 @@ module _ (t : TreeRoot) (J : PartialTree) (ask : Ask) (closed : IsClosed t J) (c
   unfolding base_value uncle_value
   answer-told l i v e = elim (either (base_hash ask (answer_of (tree_height t.length) J ask) l i) (uncle_hash ask (answer_of (tree_height t.length) J ask) l i)
       v e) [
-    | inl b ↦
-        let (at, low, high, got) = base-read ask (answer_of (tree_height t.length) J ask) l i v b in
-        let inside : i - ask.index < ask.length = omega arith in
-        let back : ask.index + (i - ask.index) ≡ i = omega arith in
-        ap₂ J at (sym back)
-        ∙ value-known J ask.base (ask.index + (i - ask.index)) (can.base_known (i - ask.index) inside)
-        ∙ ap Some (base-read_back (i - ask.index) v inside got)
-    | inr (none, w) ↦
-        let (from, at, got) = uncle-read ask (answer_of (tree_height t.length) J ask) l i v w in
-        let len : length (answer_of (tree_height t.length) J ask) ≡ ask.length + answer_uncles (tree_height t.length) ask = answer-length in
-        let within : ask.length + (l - cover ask) < length (answer_of (tree_height t.length) J ask) = slice_get_within (answer_of (tree_height t.length) J ask)
-            (ask.length + (l - cover ask)) v got in
-        let inside : l - cover ask < answer_uncles (tree_height t.length) ask = omega arith in
-        let layer : cover ask + (l - cover ask) ≡ l = omega arith in
-        let cover_in : cover ask ≤ tree_height t.length = cover-inside in
-        let below : l < tree_height t.length = omega arith in
-        let there : IsKnown J l (sibling (above ask l)) = sibling-known t J closed l (above ask l) below (path-known l (omega arith) (omega arith)) in
-        ap (J l) at
-        ∙ value-known J l (sibling (above ask l)) there
-        ∙ ap Some (sym (ap (λ k. hash_or_pad J k (sibling (above ask k))) layer) ∙ uncle-read_back (l - cover ask) v inside got)
-  ]
+        | inl b ↦
+            let (at, low, high, got) = base-read ask (answer_of (tree_height t.length) J ask) l i v b in
+            let inside : i - ask.index < ask.length = omega arith in
+            let back : ask.index + (i - ask.index) ≡ i = omega arith in
+            ap₂ J at (sym back)
+            ∙ value-known J ask.base (ask.index + (i - ask.index)) (can.base_known (i - ask.index) inside)
+            ∙ ap Some (base-read_back (i - ask.index) v inside got)
+        | inr (none, w) ↦
+            let (from, at, got) = uncle-read ask (answer_of (tree_height t.length) J ask) l i v w in
+            let len : length (answer_of (tree_height t.length) J ask) ≡ ask.length + answer_uncles (tree_height t.length) ask = answer-length in
+            let hashes = answer_of (tree_height t.length) J ask in
+            let within : ask.length + (l - cover ask) < length hashes = slice_get_within hashes (ask.length + (l - cover ask)) v got in
+            let inside : l - cover ask < answer_uncles (tree_height t.length) ask = omega arith in
+            let layer : cover ask + (l - cover ask) ≡ l = omega arith in
+            let cover_in : cover ask ≤ tree_height t.length = cover-inside in
+            let below : l < tree_height t.length = omega arith in
+            let there : IsKnown J l (sibling (above ask l)) = sibling-known t J closed l (above ask l) below (path-known l (omega arith) (omega arith)) in
+            ap (J l) at
+            ∙ value-known J l (sibling (above ask l)) there
+            ∙ ap Some (sym (ap (λ k. hash_or_pad J k (sibling (above ask k))) layer) ∙ uncle-read_back (l - cover ask) v inside got)
+      ]
 
   -- with enough proof layers the answer reaches the root
   pub answer-reaches : tree_height t.length - ask.base - 1 ≤ ask.proof → top_layer ask (answer_of (tree_height t.length) J ask) ≡ tree_height t.length

@@ -64,7 +64,7 @@ module _ (ask : Ask) (hashes : List Hash) where
   pub claims-read : (l i : ℕ) (v : Hash) → claims ask hashes (suc l) i ≡ Some v
       → (given ask hashes (suc l) i ≡ Some v)
       ⊎ ((given ask hashes (suc l) i ≡ None) × ((a b : Hash) × (claims ask hashes l (2 * i) ≡ Some a) × (claims ask hashes l (2 * i + 1) ≡ Some b)
-          × (v ≡ join a b)))
+      × (v ≡ join a b)))
   unfolding claims
   claims-read l i v e = elim (either (given ask hashes (suc l) i) (join_both (claims ask hashes l (2 * i)) (claims ask hashes l (2 * i + 1))) v e) [
     | inl g ↦ inl g

@@ -56,8 +56,10 @@ pub leaves-more : (K K' : Known) (n : ℕ) (h : Hash) → K' ≡ insert K (0, n)
 leaves-more K K' n h put =
     hashes-one (look K' 0) 0 n
     ∙ ap (λ xs. xs ++ unwrap_or (look K' 0 (0 + n)) pad_leaf ∷ [])
-    (hashes-alike (look K' 0) (look K 0) 0 0 n (record { at = λ j low. ap (λ m. look m 0 (0 + j)) put
-        ∙ look-insert_other K 0 n h 0 (0 + j) (inr (λ e. omega arith)) }))
+    (hashes-alike (look K' 0) (look K 0) 0 0 n (record {
+      at = λ j low. ap (λ m. look m 0 (0 + j)) put
+          ∙ look-insert_other K 0 n h 0 (0 + j) (inr (λ e. omega arith));
+    }))
     ∙ ap (λ o. leaves_in K n ++ unwrap_or o pad_leaf ∷ []) (ap (look K' 0) (zero-more n) ∙ ap (λ m. look m 0 n) put ∙ look-insert_same K 0 n h)
 
 -- one leaf more
@@ -115,16 +117,16 @@ module _ (n : ℕ) (leaves : List Hash) (right_count : length leaves ≡ block_c
     | inr none ↦ none
     | inl (v, e) ↦ elim (either (base_hash (fill_ask n 0) (fill_hashes n 0 leaves) (suc k) i) (uncle_hash (fill_ask n 0) (fill_hashes n 0 leaves) (suc k) i) v
         e) [
-      | inl b ↦
-          let (at, low, high, got) = base-read (fill_ask n 0) (fill_hashes n 0 leaves) (suc k) i v b in
-          absurd (omega (arith, at))
-      | inr (none, u) ↦
-          let (from, at, got) = uncle-read (fill_ask n 0) (fill_hashes n 0 leaves) (suc k) i v u in
-          let within' : (fill_ask n 0).length + (suc k - cover (fill_ask n 0)) < length (fill_hashes n 0 leaves) = slice_get_within (fill_hashes n 0 leaves)
+          | inl b ↦
+              let (at, low, high, got) = base-read (fill_ask n 0) (fill_hashes n 0 leaves) (suc k) i v b in
+              absurd (omega (arith, at))
+          | inr (none, u) ↦
+              let (from, at, got) = uncle-read (fill_ask n 0) (fill_hashes n 0 leaves) (suc k) i v u in
+              let within' : (fill_ask n 0).length + (suc k - cover (fill_ask n 0)) < length (fill_hashes n 0 leaves) = slice_get_within (fill_hashes n 0 leaves)
               ((fill_ask n 0).length + (suc k - cover (fill_ask n 0))) v got in
-          let all : length (fill_hashes n 0 leaves) ≡ 2 ^ (tree_height n - 0) = full t nothing 0 leaves inside all_given in
-          absurd (omega arith)
-    ]
+              let all : length (fill_hashes n 0 leaves) ≡ 2 ^ (tree_height n - 0) = full t nothing 0 leaves inside all_given in
+              absurd (omega arith)
+        ]
   ]
 
   -- each node above the leaves is the join of its children
@@ -159,7 +161,7 @@ module _ (n : ℕ) (leaves : List Hash) (right_count : length leaves ≡ block_c
       let there : i < length (fill_hashes n 0 leaves) = omega (arith, wide) in
       claims-given (fill_ask n 0) (fill_hashes n 0 leaves) 0 i _
       (first_of_two _ _ _ (cond-true _ _ _ (and_from _ _ (eq-eqb 0 0 refl)
-          (and_from _ _ (le-leb 0 i (omega arith)) (lt-ltb i (0 + 2 ^ (tree_height n - 0)) (omega arith))))
+      (and_from _ _ (le-leb 0 i (omega arith)) (lt-ltb i (0 + 2 ^ (tree_height n - 0)) (omega arith))))
       ∙ ap (slice_get (fill_hashes n 0 leaves)) same ∙ slice_get-get_or (fill_hashes n 0 leaves) i [] there))
 
   fits : length leaves ≤ 2 ^ tree_height n
@@ -186,7 +188,7 @@ module _ (n : ℕ) (leaves : List Hash) (right_count : length leaves ≡ block_c
   all-claimed (suc k) i at =
       let step : tree_height n - k ≡ suc (tree_height n - suc k) = omega (arith, at.0) in
       let twice : 2 ^ (tree_height n - k) ≡ 2 ^ (tree_height n - suc k) + 2 ^ (tree_height n - suc k) = ap (λ j. 2 ^ j) step
-          ∙ two_halves (tree_height n - suc k) in
+      ∙ two_halves (tree_height n - suc k) in
       let left = all-claimed k (2 * i) (omega (arith, at.0), omega (arith, at.1)) in
       let right = all-claimed k (2 * i + 1) (omega (arith, at.0), omega (arith, at.1)) in
       (_, joined-above k i ∙ ap₂ join_both left.1 right.1)
@@ -200,7 +202,7 @@ module _ (n : ℕ) (leaves : List Hash) (right_count : length leaves ≡ block_c
     counted =
         let step : tree_height n - layer ≡ suc (tree_height n - suc layer) = omega arith in
         let twice : 2 ^ (tree_height n - layer) ≡ 2 ^ (tree_height n - suc layer) + 2 ^ (tree_height n - suc layer) = ap (λ j. 2 ^ j) step
-            ∙ two_halves (tree_height n - suc layer) in
+        ∙ two_halves (tree_height n - suc layer) in
         omega (arith, adds.gained, is.counted, twice);
   }
     where
@@ -221,7 +223,7 @@ module _ (n : ℕ) (leaves : List Hash) (right_count : length leaves ≡ block_c
   children-known layer K low is j in' =
       let step : tree_height n - layer ≡ suc (tree_height n - suc layer) = omega arith in
       let twice : 2 ^ (tree_height n - layer) ≡ 2 ^ (tree_height n - suc layer) + 2 ^ (tree_height n - suc layer) = ap (λ j. 2 ^ j) step
-          ∙ two_halves (tree_height n - suc layer) in
+      ∙ two_halves (tree_height n - suc layer) in
       let here = all-claimed layer (0 + j) (omega arith, omega (arith, in')) in
       (here.0, is.same layer (0 + j) (omega arith) ∙ here.1)
 
@@ -255,7 +257,7 @@ module _ (n : ℕ) (K : Known) (is : IsGrowing (block_count n) K) where
     none_above = λ l i high. adds.rest l i (inl (λ e. omega arith)) ∙ is.none_else l i (inl (λ e. omega arith));
     counted =
         let all : 2 ^ (tree_height n - 0) ≡ 2 ^ tree_height n = (let none_less : tree_height n - 0 ≡ tree_height n = omega arith in ap (λ k. 2 ^ k) none_less)
-            in
+        in
         omega (arith, adds.gained, is.counted, two_halves (tree_height n), all);
   }
     where
@@ -265,20 +267,25 @@ module _ (n : ℕ) (K : Known) (is : IsGrowing (block_count n) K) where
       by_place i (inr past) (inl in') = adds.row i past in' ∙ sym (pad-claimed n (leaves_in K (block_count n)) right i (omega (arith, right)) in')
       by_place i (inr past) (inr out) =
           let all : 2 ^ (tree_height n - 0) ≡ 2 ^ tree_height n = (let none_less : tree_height n - 0 ≡ tree_height n = omega arith in ap (λ k. 2 ^ k) none_less)
-              in
+          in
           adds.rest 0 i (inr (inr out)) ∙ is.none_else 0 i (inr past) ∙ sym (claims-outside n (leaves_in K (block_count n)) right 0 i (inr (omega arith)))
 
   -- the leaves stay
   pub leaves-same : (K' : Known) → IsUpTo n (leaves_in K (block_count n)) (tree_height n) K' → leaves_in K' (block_count n) ≡ leaves_in K (block_count n)
-  leaves-same K' done = hashes-alike (look K' 0) (look K 0) 0 0 (block_count n) (record { at = λ j low. done.same 0 (0 + j) (omega arith)
-      ∙ sym (known-leaf (0 + j) (omega (arith, low))) })
+  leaves-same K' done = hashes-alike (look K' 0) (look K 0) 0 0 (block_count n) (record {
+    at = λ j low. done.same 0 (0 + j) (omega arith)
+        ∙ sym (known-leaf (0 + j) (omega (arith, low)));
+  })
 
   pub grown-whole : (K' : Known) → IsUpTo n (leaves_in K (block_count n)) (tree_height n) K' → FollowsFromLeaves n (block_count n) K'
   grown-whole K' done = record {
     claimed = λ l i. all-same n (leaves_in K (block_count n)) right K' done l i ∙ ap (λ xs. fill_claims n 0 xs l i) (sym (leaves-same K' done));
     hashes = subst AreHashes (sym (leaves-same K' done)) is.hashes;
-    leaves_known = λ j low. (let there = is.leaves_known j low in (there.0, done.same 0 (0 + j) (omega arith) ∙ sym (known-leaf (0 + j) (omega (arith, low)))
-        ∙ there.1));
+    leaves_known = λ j low. (let there = is.leaves_known j low in (
+      there.0,
+      done.same 0 (0 + j) (omega arith) ∙ sym (known-leaf (0 + j) (omega (arith, low)))
+          ∙ there.1,
+    ));
   }
 
 -- ---- as a tree that grows keeps them

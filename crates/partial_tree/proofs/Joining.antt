@@ -147,7 +147,7 @@ pub joined-closed : (t : TreeRoot) (K : PartialTree) (ask : Ask) (hashes : List 
     → IsClosed t K → All IsHash hashes → IsAccepted t.length K ask hashes → IsClosed t (joined K (claims ask hashes))
 joined-closed t K ask hashes closed all ok =
     joined-closed_by_parts t K ask hashes closed all (spans-some (tree_height t.length) ask ok.range) ok.range.power_of_two ok.range.aligned ok.count.enough
-        ok.count.top_inside ok.pads ok.top_known.0 ok.top_known.1 ok.agrees
+    ok.count.top_inside ok.pads ok.top_known.0 ok.top_known.1 ok.agrees
 
 -- an accepted message has no fault
 pub accepted-no_fault : (t : TreeRoot) (K : PartialTree) (ask : Ask) (hashes : List Hash) (r : HashRefusal) → IsAccepted t.length K ask hashes

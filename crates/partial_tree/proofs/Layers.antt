@@ -30,12 +30,12 @@ module _ (t : TreeRoot) (K : PartialTree) (l : ℕ) (given_hashes : Bor (List Ha
   below-root : l < tree_height t.length → LeadsTo layer_evidence (tree_height t.length) 0
   below-root below =
       let top : top_layer (fill_ask t.length l) (fill_hashes t.length l given_hashes.now) ≡ tree_height t.length = at_root t K l given_hashes.now layer_inside
-          right_count in
+      right_count in
       let first : top_index (fill_ask t.length l) (fill_hashes t.length l given_hashes.now) ≡ 0 =
-          div_small 0 (2 ^ (top_layer (fill_ask t.length l) (fill_hashes t.length l given_hashes.now) - l))
-          (pow_pos (top_layer (fill_ask t.length l) (fill_hashes t.length l given_hashes.now) - l)) in
+      div_small 0 (2 ^ (top_layer (fill_ask t.length l) (fill_hashes t.length l given_hashes.now) - l))
+      (pow_pos (top_layer (fill_ask t.length l) (fill_hashes t.length l given_hashes.now) - l)) in
       let at : LeadsTo layer_evidence (top_layer (fill_ask t.length l) (fill_hashes t.length l given_hashes.now))
-          (top_index (fill_ask t.length l) (fill_hashes t.length l given_hashes.now)) =
+      (top_index (fill_ask t.length l) (fill_hashes t.length l given_hashes.now)) =
       message-leads layer_evidence (omega arith) (mod-eq_of_lt (pow_pos (tree_height t.length - l))) in
       subst (λ i. LeadsTo layer_evidence (tree_height t.length) i) first
       (subst (λ k. LeadsTo layer_evidence k (top_index (fill_ask t.length l) (fill_hashes t.length l given_hashes.now))) top at)
@@ -50,7 +50,7 @@ module _ (t : TreeRoot) (K : PartialTree) (l : ℕ) (given_hashes : Bor (List Ha
     pruned = record {
       below = λ layer index k i v x given' under less claim.
           let high = claims-root t K l given_hashes.now layer_inside right_count root layer index v
-              (claims-given (fill_ask t.length l) (fill_hashes t.length l given_hashes.now) layer index v given') in
+          (claims-given (fill_ask t.length l) (fill_hashes t.length l given_hashes.now) layer index v given') in
           let low = claims-root t K l given_hashes.now layer_inside right_count root k i x claim in
           omega (arith, high.0, low.0);
     };
@@ -73,4 +73,4 @@ pub filled-len : (t : TreeRoot) (before after : Known) (l : ℕ) (hashes : List 
 filled-len t before after l hashes c closed all ok joins =
     subst (λ n. n < 2 ^ suc (tree_height t.length)) joins.gained
     (len-known (tree_height t.length) after (λ k i v e. (fill-closed t (look before) l hashes ok.layer_inside ok.right_count closed all ok.agrees).in_tree k i v
-        (sym (joins.joined_is k i) ∙ e)))
+    (sym (joins.joined_is k i) ∙ e)))

@@ -19,7 +19,7 @@ core base index length = record { root = []; base = base; index = index; length 
 given_same : (a b : Ask) (hashes : List Hash) → a.base ≡ b.base → a.index ≡ b.index → a.length ≡ b.length → (l i : ℕ) → given a hashes l i ≡ given b hashes l i
 given_same a b hashes base index len l i =
     ap (λ x. given (core x a.index a.length) hashes l i) base ∙ ap (λ x. given (core b.base x a.length) hashes l i) index
-        ∙ ap (λ x. given (core b.base b.index x) hashes l i) len
+    ∙ ap (λ x. given (core b.base b.index x) hashes l i) len
 
 -- claims read the base, the index and the length of an ask alone
 pub claims-same : (a b : Ask) (hashes : List Hash) → a.base ≡ b.base → a.index ≡ b.index → a.length ≡ b.length → (l i : ℕ)
@@ -28,7 +28,7 @@ unfolding claims
 claims-same a b hashes base index len zero i = given_same a b hashes base index len zero i
 claims-same a b hashes base index len (suc l) i =
     ap₂ option_or (given_same a b hashes base index len (suc l) i) (ap₂ join_both (claims-same a b hashes base index len l (2 * i))
-        (claims-same a b hashes base index len l (2 * i + 1)))
+    (claims-same a b hashes base index len l (2 * i + 1)))
 
 module _ (e : Evidence) (some : 1 ≤ e.span) (aligned : e.index % 2 ^ e.span ≡ 0) where
   spans : 1 ≤ span (range_of e)
@@ -72,7 +72,7 @@ module _ (e : Evidence) (some : 1 ≤ e.span) (aligned : e.index % 2 ^ e.span �
       let one : layer - l ≡ 1 = omega arith in
       let here : i / 2 ≡ index = sym (ap (λ k. i / 2 ^ k) one) ∙ under in
       none-some v (sym (parent-not_given (range_of e) (hashes_of e) spans power aligned enough l (i / 2)
-          (parent-of (range_of e) (hashes_of e) spans power aligned enough l i (claimed-at (range_of e) (hashes_of e) spans power aligned enough l i w claim)))
+      (parent-of (range_of e) (hashes_of e) spans power aligned enough l i (claimed-at (range_of e) (hashes_of e) spans power aligned enough l i w claim)))
       ∙ ap₂ (given_by e) up here ∙ given')
   none-below (suc d) layer index l i v w at inside given' under claim =
       let below : l < top_layer (range_of e) (hashes_of e) = omega arith in
@@ -86,7 +86,7 @@ module _ (e : Evidence) (some : 1 ≤ e.span) (aligned : e.index % 2 ^ e.span �
     pruned = record {
       below = λ layer index l i v w given' under less claim.
           none-below (layer - suc l) layer index l i v w (omega arith) (claimed-to_top (range_of e) (hashes_of e) spans power aligned enough layer index v
-              (claims-given (range_of e) (hashes_of e) layer index v given')) given' under.1 claim;
+          (claims-given (range_of e) (hashes_of e) layer index v given')) given' under.1 claim;
     };
     at_top = claimed-value (range_of e) (hashes_of e) spans power aligned enough (top_layer (range_of e) (hashes_of e)) (top_index (range_of e) (hashes_of e))
         (on_path (record { from_cover = omega arith; to_top = omega arith; is_above = refl }));

@@ -102,4 +102,4 @@ layer-more base index k l from =
     let next : l + 1 - base ≡ suc (l - base) = omega arith in
     let here : base + (l - base) ≡ l = omega arith in
     ap (pages_of_layers base index k) next ∙ ap (λ j. pages_of_layers base index k (l - base) + page_span (row_first_of base index k j)
-        (2 ^ row_height_of base k j)) here
+    (2 ^ row_height_of base k j)) here

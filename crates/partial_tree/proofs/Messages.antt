@@ -72,7 +72,7 @@ module _ (len : ℕ) (ask : Ask) (hashes : List Hash) (k : ℕ) (e : 2 ^ k ≡ a
         let here : i - ask.index < length (take ask.length hashes) = omega (arith, length-take ask.length hashes) in
         let place : ask.index + (i - ask.index) ≡ i = omega arith in
         let past' : block_count len ≤ (ask.index + (i - ask.index)) * 2 ^ ask.base = subst (λ n. block_count len ≤ n * 2 ^ ask.base) (sym place)
-            (subst (λ n. block_count len ≤ i * 2 ^ n) at past) in
+        (subst (λ n. block_count len ≤ i * 2 ^ n) at past) in
         sym (get_or_from_slice_get hashes (i - ask.index) v [] got)
         ∙ sym (get_or-take ask.length hashes (i - ask.index) [] (omega arith))
         ∙ base (i - ask.index) here past' ∙ ap zero_hash (sym at)
@@ -84,9 +84,9 @@ module _ (len : ℕ) (ask : Ask) (hashes : List Hash) (k : ℕ) (e : 2 ^ k ≡ a
         let here : l - (ask.base + k) < length (drop ask.length hashes) = omega (arith, length-drop ask.length hashes) in
         let there : ask.length + (l - cover ask) ≡ ask.length + (l - (ask.base + k)) = ap (λ n. ask.length + (l - n)) c in
         let node : sibling (ask.index / 2 ^ k / 2 ^ (l - (ask.base + k))) ≡ i = ap sibling (sym (above_at (l - (ask.base + k))) ∙ ap (above ask) layer)
-            ∙ sym at in
+        ∙ sym at in
         let past' : block_count len ≤ sibling (ask.index / 2 ^ k / 2 ^ (l - (ask.base + k))) * 2 ^ (ask.base + k + (l - (ask.base + k))) =
-            subst (λ n. block_count len ≤ n) (sym (ap₂ (λ a b. a * 2 ^ b) node layer)) past in
+        subst (λ n. block_count len ≤ n) (sym (ap₂ (λ a b. a * 2 ^ b) node layer)) past in
         sym (get_or_from_slice_get hashes (ask.length + (l - cover ask)) v [] got) ∙ ap (λ n. get_or hashes n []) there
         ∙ sym (get_or-drop ask.length hashes (l - (ask.base + k)) [])
         ∙ uncles (l - (ask.base + k)) here past' ∙ ap zero_hash layer
@@ -100,7 +100,7 @@ module _ (len : ℕ) (ask : Ask) (hashes : List Hash) (k : ℕ) (e : 2 ^ k ≡ a
       get_or-take ask.length hashes j [] low
       ∙ right ask.base (ask.index + j) (get_or hashes j [])
       (first_of_two _ _ _ (cond-true _ _ _ (and_from _ _ (eq-eqb ask.base ask.base refl) (and_from _ _ (le-leb ask.index (ask.index + j) (omega arith))
-          (lt-ltb (ask.index + j) (ask.index + ask.length) (omega arith))))
+      (lt-ltb (ask.index + j) (ask.index + ask.length) (omega arith))))
       ∙ ap (slice_get hashes) back ∙ slice_get-get_or hashes j [] inside)) past
 
   pub right-uncles : 1 ≤ k → ArePadsRight len ask hashes → UnclesFit
@@ -126,7 +126,7 @@ module _ (len : ℕ) (ask : Ask) (hashes : List Hash) (k : ℕ) (e : 2 ^ k ≡ a
 pub range-wide : (h : ℕ) (ask : Ask) (n : ℕ) → h ≤ 32 → GoodRange h ask → n ≤ ask.length → (ask.index + n) * 2 ^ ask.base ≤ 2 ^ 32
 range-wide h ask n low range le =
     let inside : (ask.index + n) * 2 ^ ask.base ≤ 2 ^ (h - ask.base) * 2 ^ ask.base = mul-le (ask.index + n) (2 ^ ask.base) (2 ^ (h - ask.base)) (2 ^ ask.base)
-        (omega (arith, range.range_inside)) (omega arith) in
+    (omega (arith, range.range_inside)) (omega arith) in
     let sum : h ≡ (h - ask.base) + ask.base = omega (arith, range.base_inside) in
     let whole : 2 ^ (h - ask.base) * 2 ^ ask.base ≡ 2 ^ h = sym (pow-add 2 (h - ask.base) ask.base) ∙ ap (λ n. 2 ^ n) (sym sum) in
     let high : 2 ^ h ≤ 2 ^ 32 = pow_more h 32 low in
@@ -141,7 +141,7 @@ cover-wide h ask k low range e =
     let split : 2 ^ (ask.base + k) ≡ 2 ^ ask.base * 2 ^ k = pow-add 2 ask.base k in
     let same : ask.index / 2 ^ k * 2 ^ (ask.base + k) ≡ ask.index / 2 ^ k * 2 ^ k * 2 ^ ask.base = ap (λ n. ask.index / 2 ^ k * n) split ∙ omega arith in
     let less : ask.index / 2 ^ k * 2 ^ k * 2 ^ ask.base ≤ ask.index * 2 ^ ask.base = mul-le (ask.index / 2 ^ k * 2 ^ k) (2 ^ ask.base) ask.index (2 ^ ask.base)
-        floor (omega arith) in
+    floor (omega arith) in
     let more : (ask.index + 1) * 2 ^ ask.base ≡ ask.index * 2 ^ ask.base + 2 ^ ask.base = omega arith in
     omega arith
 
@@ -170,7 +170,7 @@ module _ (ev : Evidence) (ask : Ask) (hashes : List Hash) (base : ev.base ≡ as
   pub leads : 1 ≤ ev.span → ask.index % ask.length ≡ 0 → LeadsTo ev (top_layer ask hashes) (top_index ask hashes)
   leads some aligned =
       let at : LeadsTo ev (top_layer (range_of ev) (hashes_of ev)) (top_index (range_of ev) (hashes_of ev)) =
-          message-leads ev some (ap₂ (λ a b. a % b) index width ∙ aligned) in
+      message-leads ev some (ap₂ (λ a b. a % b) index width ∙ aligned) in
       subst (λ l. LeadsTo ev l (ask.index / 2 ^ (l - ask.base))) same_top
       (subst (λ i. LeadsTo ev (top_layer (range_of ev) (hashes_of ev)) i) (ap₂ (λ a b. a / 2 ^ (top_layer (range_of ev) (hashes_of ev) - b)) index base) at)
 

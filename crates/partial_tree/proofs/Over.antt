@@ -25,16 +25,16 @@ module _ (t : TreeRoot) (l : ℕ) (hashes : List Hash) (layer_inside : l ≤ tre
   given-layer : (k i : ℕ) (v : Hash) → given (fill_ask t.length l) (fill_hashes t.length l hashes) k i ≡ Some v → (k ≡ l) × (i < 2 ^ (tree_height t.length - l))
   given-layer k i v e = elim (either (base_hash (fill_ask t.length l) (fill_hashes t.length l hashes) k i)
       (uncle_hash (fill_ask t.length l) (fill_hashes t.length l hashes) k i) v e) [
-    | inl b ↦
-        let (at, low, high, got) = base-read (fill_ask t.length l) (fill_hashes t.length l hashes) k i v b in
-        (at, omega arith)
-    | inr (none, u) ↦
-        let (from, at, got) = uncle-read (fill_ask t.length l) (fill_hashes t.length l hashes) k i v u in
-        let within' : (fill_ask t.length l).length + (k - cover (fill_ask t.length l)) < length (fill_hashes t.length l hashes) =
+        | inl b ↦
+            let (at, low, high, got) = base-read (fill_ask t.length l) (fill_hashes t.length l hashes) k i v b in
+            (at, omega arith)
+        | inr (none, u) ↦
+            let (from, at, got) = uncle-read (fill_ask t.length l) (fill_hashes t.length l hashes) k i v u in
+            let within' : (fill_ask t.length l).length + (k - cover (fill_ask t.length l)) < length (fill_hashes t.length l hashes) =
             slice_get_within (fill_hashes t.length l hashes) ((fill_ask t.length l).length + (k - cover (fill_ask t.length l))) v got in
-        let len : length (fill_hashes t.length l hashes) ≡ 2 ^ (tree_height t.length - l) = whole in
-        absurd (omega arith)
-  ]
+            let len : length (fill_hashes t.length l hashes) ≡ 2 ^ (tree_height t.length - l) = whole in
+            absurd (omega arith)
+      ]
 
   not_given : (k i : ℕ) → l ≤ k → given (fill_ask t.length l) (fill_hashes t.length l hashes) (suc k) i ≡ None
   not_given k i low = elim (there_or_not (given (fill_ask t.length l) (fill_hashes t.length l hashes) (suc k) i)) [
@@ -49,7 +49,7 @@ module _ (t : TreeRoot) (l : ℕ) (hashes : List Hash) (layer_inside : l ≤ tre
       let at : i - 0 ≡ i = omega arith in
       claims-given (fill_ask t.length l) (fill_hashes t.length l hashes) l i _
       (first_of_two _ _ _ (cond-true _ _ _ (and_from _ _ (eq-eqb l l refl)
-          (and_from _ _ (le-leb 0 i (omega arith)) (lt-ltb i (0 + 2 ^ (tree_height t.length - l)) (omega arith))))
+      (and_from _ _ (le-leb 0 i (omega arith)) (lt-ltb i (0 + 2 ^ (tree_height t.length - l)) (omega arith))))
       ∙ ap (slice_get (fill_hashes t.length l hashes)) at ∙ slice_get-get_or (fill_hashes t.length l hashes) i [] (omega arith)))
       ∙ ap Some (sym (leaf_at (fill_hashes t.length l hashes) [] i (omega arith)) ∙ ap (λ xs. node_over xs 0 i) (append-nil (fill_hashes t.length l hashes)))
 

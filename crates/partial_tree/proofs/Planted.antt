@@ -44,7 +44,7 @@ module _ (t : TreeRoot) (K : PartialTree) (l : ℕ) (hashes : Bor (List Hash)) (
         get_or (fill_hashes t.length l hashes.now) (j - 0) [],
         claims-given (fill_ask t.length l) (fill_hashes t.length l hashes.now) l j _
             (first_of_two _ _ _ (cond-true _ _ _ (and_from _ _ (eq-eqb l l refl)
-                (and_from _ _ (le-leb 0 j (omega arith)) (lt-ltb j (0 + 2 ^ (tree_height t.length - l)) (omega (arith, low)))))
+            (and_from _ _ (le-leb 0 j (omega arith)) (lt-ltb j (0 + 2 ^ (tree_height t.length - l)) (omega (arith, low)))))
             ∙ slice_get-get_or (fill_hashes t.length l hashes.now) (j - 0) [] (omega (arith, low, long, first)))),
       )
 
@@ -55,41 +55,41 @@ module _ (t : TreeRoot) (K : PartialTree) (l : ℕ) (hashes : Bor (List Hash)) (
   ]
 
   module _ (up : (k i : ℕ) → k < tree_height t.length → IsKnown K k (2 * i) → IsKnown K (suc k) i) (known : AreKnown (K l) 0 (2 ^ (tree_height t.length - l)))
-      where
-    -- what stands above a known layer is known
-    above-known : (d i : ℕ) → l + d ≤ tree_height t.length → i < 2 ^ (tree_height t.length - (l + d)) → IsKnown K (l + d) i
-    above-known zero i low within =
-        let here : l + 0 ≡ l = omega arith in
-        let first : 0 + i ≡ i = omega arith in
-        let v = known i (subst (λ k. i < 2 ^ (tree_height t.length - k)) here within) in
-        subst (λ k. IsKnown K k i) (sym here) (subst (λ j. IsKnown K l j) first v)
-    above-known (suc d) i low within =
-        let next : l + suc d ≡ suc (l + d) = omega arith in
-        let height : suc (tree_height t.length - suc (l + d)) ≡ tree_height t.length - (l + d) = omega (arith, low) in
-        let half : i < 2 ^ (tree_height t.length - suc (l + d)) = subst (λ k. i < 2 ^ (tree_height t.length - k)) next within in
-        let wide : 2 * i < 2 ^ (tree_height t.length - (l + d)) =
-            subst (λ k. 2 * i < 2 ^ k) height (omega (arith, half, two_halves (tree_height t.length - suc (l + d)))) in
-        subst (λ k. IsKnown K k i) (sym next) (up (l + d) i (omega (arith, low)) (above-known d (2 * i) (omega (arith, low)) wide))
+    where
+      -- what stands above a known layer is known
+      above-known : (d i : ℕ) → l + d ≤ tree_height t.length → i < 2 ^ (tree_height t.length - (l + d)) → IsKnown K (l + d) i
+      above-known zero i low within =
+          let here : l + 0 ≡ l = omega arith in
+          let first : 0 + i ≡ i = omega arith in
+          let v = known i (subst (λ k. i < 2 ^ (tree_height t.length - k)) here within) in
+          subst (λ k. IsKnown K k i) (sym here) (subst (λ j. IsKnown K l j) first v)
+      above-known (suc d) i low within =
+          let next : l + suc d ≡ suc (l + d) = omega arith in
+          let height : suc (tree_height t.length - suc (l + d)) ≡ tree_height t.length - (l + d) = omega (arith, low) in
+          let half : i < 2 ^ (tree_height t.length - suc (l + d)) = subst (λ k. i < 2 ^ (tree_height t.length - k)) next within in
+          let wide : 2 * i < 2 ^ (tree_height t.length - (l + d)) =
+          subst (λ k. 2 * i < 2 ^ k) height (omega (arith, half, two_halves (tree_height t.length - suc (l + d)))) in
+          subst (λ k. IsKnown K k i) (sym next) (up (l + d) i (omega (arith, low)) (above-known d (2 * i) (omega (arith, low)) wide))
 
-    claimed-known : (k i : ℕ) (v : Hash) → fill_claims t.length l hashes.now k i ≡ Some v → IsKnown K k i
-    claimed-known k i v claim =
-        let leads = layer-leads t K l hashes inside count in
-        let from : l ≤ k = (claim-in_row (layer_evidence t K l hashes inside count) leads.is_over.aligned k i (v, claim)).0 in
-        let under = leads.under_top k i v claim in
-        let at : l + (k - l) ≡ k = omega (arith, from) in
-        let w : ℕ = 2 ^ (tree_height t.length - k) in
-        let low : i < 2 ^ (tree_height t.length - k) =
-        omega (arith, div-add-mod' i w, mod_below i w (pow_pos (tree_height t.length - k)), ap (λ x. x * w) under.1) in
-        subst (λ n. IsKnown K n i) at (above-known (k - l) i (omega (arith, at, under.0)) (subst (λ n. i < 2 ^ (tree_height t.length - n)) (sym at) low))
+      claimed-known : (k i : ℕ) (v : Hash) → fill_claims t.length l hashes.now k i ≡ Some v → IsKnown K k i
+      claimed-known k i v claim =
+          let leads = layer-leads t K l hashes inside count in
+          let from : l ≤ k = (claim-in_row (layer_evidence t K l hashes inside count) leads.is_over.aligned k i (v, claim)).0 in
+          let under = leads.under_top k i v claim in
+          let at : l + (k - l) ≡ k = omega (arith, from) in
+          let w : ℕ = 2 ^ (tree_height t.length - k) in
+          let low : i < 2 ^ (tree_height t.length - k) =
+          omega (arith, div-add-mod' i w, mod_below i w (pow_pos (tree_height t.length - k)), ap (λ x. x * w) under.1) in
+          subst (λ n. IsKnown K n i) at (above-known (k - l) i (omega (arith, at, under.0)) (subst (λ n. i < 2 ^ (tree_height t.length - n)) (sym at) low))
 
-    pub nothing-new : IsAgreed K (fill_claims t.length l hashes.now) → (k i : ℕ) → K k i ≡ joined K (fill_claims t.length l hashes.now) k i
-    nothing-new agreed k i = elim (there_or_not (K k i)) [
-      | inl (v, there) ↦ there ∙ sym (first_of_two (K k i) (fill_claims t.length l hashes.now k i) v there)
-      | inr none ↦ elim (there_or_not (fill_claims t.length l hashes.now k i)) [
-        | inl (v, claim) ↦ (let w = claimed-known k i v claim in absurd (none-some w.0 (sym none ∙ w.1)))
-        | inr nothing ↦ none ∙ sym nothing ∙ sym (second_of_two (K k i) (fill_claims t.length l hashes.now k i) none)
+      pub nothing-new : IsAgreed K (fill_claims t.length l hashes.now) → (k i : ℕ) → K k i ≡ joined K (fill_claims t.length l hashes.now) k i
+      nothing-new agreed k i = elim (there_or_not (K k i)) [
+        | inl (v, there) ↦ there ∙ sym (first_of_two (K k i) (fill_claims t.length l hashes.now k i) v there)
+        | inr none ↦ elim (there_or_not (fill_claims t.length l hashes.now k i)) [
+          | inl (v, claim) ↦ (let w = claimed-known k i v claim in absurd (none-some w.0 (sym none ∙ w.1)))
+          | inr nothing ↦ none ∙ sym nothing ∙ sym (second_of_two (K k i) (fill_claims t.length l hashes.now k i) none)
+        ]
       ]
-    ]
 
 -- a layer that is known joins nothing
 pub known-joins : (t : TreeRoot) (before : Known) (l : ℕ) (hashes : Bor (List Hash)) → l ≤ tree_height t.length → length hashes.now ≡ pad_from t.length l

@@ -31,8 +31,11 @@ module _ (e : Evidence) (aligned : e.index % 2 ^ e.span ≡ 0) where
   base-in_row : (l i : ℕ) (v : Hash) → base_hash (range_of e) (hashes_of e) l i ≡ Some v → IsInRow e l i
   base-in_row l i v is =
       let (at, low, high, got) = base-read (range_of e) (hashes_of e) l i v is in
-      record { from_base = omega (arith, at); under_one = subst (λ k. i / 2 ^ row_height e k ≡ node_at e k / 2 ^ row_height e k) (sym at)
-          (on_base low high (cases_lt 0 e.span)) }
+      record {
+        from_base = omega (arith, at);
+        under_one = subst (λ k. i / 2 ^ row_height e k ≡ node_at e k / 2 ^ row_height e k) (sym at)
+            (on_base low high (cases_lt 0 e.span));
+      }
     where
       on_base : e.index ≤ i → i < e.index + 2 ^ e.span → (0 < e.span) ⊎ (e.span ≤ 0) → i / 2 ^ row_height e e.base ≡ node_at e e.base / 2 ^ row_height e e.base
       on_base low high (inl some) =
@@ -112,7 +115,7 @@ row-inside h e layer index l at place from below =
     shr-shr (node_at e l) w (layer - (l + w)) ∙ shr-shr e.index (l - e.base) (w + (layer - (l + w))) ∙ sym (ap (λ k. e.index / 2 ^ k) up) ∙ at.over in
     let low : node < 2 ^ (h - (l + w)) = below_power node index (layer - (l + w)) (h - layer) (h - (l + w)) (omega (arith, place.0)) under place.1 in
     let parts : 2 ^ (h - l) ≡ 2 ^ (h - (l + w)) * 2 ^ w = (let k : h - l ≡ (h - (l + w)) + w = omega (arith, place.0) in ap (λ n. 2 ^ n) k
-        ∙ pow-add 2 (h - (l + w)) w) in
+    ∙ pow-add 2 (h - (l + w)) w) in
     let next : node + 1 ≤ 2 ^ (h - (l + w)) = omega arith in
     let rows : (node + 1) * 2 ^ w ≤ 2 ^ (h - (l + w)) * 2 ^ w = mul-le-mul_right (2 ^ w) next in
     omega arith

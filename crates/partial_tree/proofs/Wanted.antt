@@ -177,9 +177,9 @@ module _ (t : TreeRoot) (b : ℕ) (tall : 1 ≤ tree_height t.length) (in' : b <
       let fill : 2 ^ tree_height t.length / window t.length * window t.length ≡ 2 ^ tree_height t.length = windows-fill t.length in
       let two : 2 ^ 1 ≤ 2 ^ tree_height t.length = pow_mono tall in
       let none : 2 ^ (tree_height t.length - 0) ≡ 2 ^ tree_height t.length = (let e : tree_height t.length - 0 ≡ tree_height t.length = omega arith in
-          ap (λ k. 2 ^ k) e) in
+      ap (λ k. 2 ^ k) e) in
       let rows : suc (b / window t.length) * window t.length ≤ 2 ^ tree_height t.length / window t.length * window t.length =
-          mul-le-mul_right (window t.length) of' in
+      mul-le-mul_right (window t.length) of' in
       record {
         power_of_two = ap (λ k. 2 ^ k) want-span ∙ sym (window-pow t.length);
         least = omega arith;
@@ -198,7 +198,7 @@ module _ (t : TreeRoot) (b : ℕ) (tall : 1 ≤ tree_height t.length) (in' : b <
     window-known j low =
         let i : ℕ = b / window t.length * window t.length + j in
         let c = base-claims (want_ask t b) hashes (spans-some (tree_height t.length) (want_ask t b) ok.range) ok.range.power_of_two ok.range.aligned
-            ok.count.enough i (omega arith) (omega arith) in
+        ok.count.enough i (omega arith) (omega arith) in
         elim (there_or_not (K 0 i)) [
           | inl (v, known) ↦ (v, first_of_two (K 0 i) _ v known)
           | inr none ↦ (c.0, second_of_two (K 0 i) _ none ∙ c.1)
@@ -211,11 +211,11 @@ module _ (t : TreeRoot) (b : ℕ) (tall : 1 ≤ tree_height t.length) (in' : b <
         | inr nothing ↦ second_of_two (K 0 i) _ none ∙ nothing ∙ sym none
         | inl (v, claim) ↦
             let (low, high) = claimed-base (want_ask t b) hashes (spans-some (tree_height t.length) (want_ask t b) ok.range) ok.range.power_of_two
-                ok.range.aligned ok.count.enough i v claim in
+            ok.range.aligned ok.count.enough i v claim in
             let rest : i - b / window t.length * window t.length < window t.length = omega arith in
             let e : i ≡ b / window t.length * window t.length + (i - b / window t.length * window t.length) = omega arith in
             absurd (other (ap (λ k. k / window t.length) e ∙ div-mul-add (b / window t.length) (window t.length) (i - b / window t.length * window t.length)
-                rest))
+            rest))
       ]
     ]
 

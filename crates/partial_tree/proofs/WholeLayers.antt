@@ -53,7 +53,7 @@ module _ (t : TreeRoot) (K : PartialTree) (l : ℕ) (hashes : List Hash) (layer_
   full =
       let le : length hashes ≤ 2 ^ (tree_height t.length - l) = short in
       length-append hashes (replicate (2 ^ (tree_height t.length - l) - length hashes) (zero_hash l))
-          ∙ ap (λ k. length hashes + k) (length-replicate (2 ^ (tree_height t.length - l) - length hashes) (zero_hash l)) ∙ omega arith
+      ∙ ap (λ k. length hashes + k) (length-replicate (2 ^ (tree_height t.length - l) - length hashes) (zero_hash l)) ∙ omega arith
 
   pub spanned : span (fill_ask t.length l) ≡ tree_height t.length - l
   spanned = height_pow (tree_height t.length - l)
@@ -62,23 +62,23 @@ module _ (t : TreeRoot) (K : PartialTree) (l : ℕ) (hashes : List Hash) (layer_
       → v ≡ zero_hash k
   right_pads k i v e past = elim (either (base_hash (fill_ask t.length l) (fill_hashes t.length l hashes) k i)
       (uncle_hash (fill_ask t.length l) (fill_hashes t.length l hashes) k i) v e) [
-    | inl b ↦
-        let (at, low, high, got) = base-read (fill_ask t.length l) (fill_hashes t.length l hashes) k i v b in
-        let e' : i - 0 ≡ i = omega arith in
-        let got' : slice_get (fill_hashes t.length l hashes) i ≡ Some v = subst (λ j. slice_get (fill_hashes t.length l hashes) j ≡ Some v) e' got in
-        let past' : length hashes ≤ i = past-end i (subst (λ j. block_count t.length ≤ i * 2 ^ j) at past) in
-        let inside : i - length hashes < 2 ^ (tree_height t.length - l) - length hashes = omega arith in
-        sym (get_or_from_slice_get (fill_hashes t.length l hashes) i v pad_leaf got')
-        ∙ get_or-append_right hashes (replicate (2 ^ (tree_height t.length - l) - length hashes) (zero_hash l)) (length hashes) i pad_leaf refl past'
-        ∙ get_or-replicate (2 ^ (tree_height t.length - l) - length hashes) (i - length hashes) (zero_hash l) pad_leaf inside
-        ∙ ap zero_hash (sym at)
-    | inr (none, u) ↦
-        let (from, at, got) = uncle-read (fill_ask t.length l) (fill_hashes t.length l hashes) k i v u in
-        let within' : (fill_ask t.length l).length + (k - cover (fill_ask t.length l)) < length (fill_hashes t.length l hashes) =
+        | inl b ↦
+            let (at, low, high, got) = base-read (fill_ask t.length l) (fill_hashes t.length l hashes) k i v b in
+            let e' : i - 0 ≡ i = omega arith in
+            let got' : slice_get (fill_hashes t.length l hashes) i ≡ Some v = subst (λ j. slice_get (fill_hashes t.length l hashes) j ≡ Some v) e' got in
+            let past' : length hashes ≤ i = past-end i (subst (λ j. block_count t.length ≤ i * 2 ^ j) at past) in
+            let inside : i - length hashes < 2 ^ (tree_height t.length - l) - length hashes = omega arith in
+            sym (get_or_from_slice_get (fill_hashes t.length l hashes) i v pad_leaf got')
+            ∙ get_or-append_right hashes (replicate (2 ^ (tree_height t.length - l) - length hashes) (zero_hash l)) (length hashes) i pad_leaf refl past'
+            ∙ get_or-replicate (2 ^ (tree_height t.length - l) - length hashes) (i - length hashes) (zero_hash l) pad_leaf inside
+            ∙ ap zero_hash (sym at)
+        | inr (none, u) ↦
+            let (from, at, got) = uncle-read (fill_ask t.length l) (fill_hashes t.length l hashes) k i v u in
+            let within' : (fill_ask t.length l).length + (k - cover (fill_ask t.length l)) < length (fill_hashes t.length l hashes) =
             slice_get_within (fill_hashes t.length l hashes) ((fill_ask t.length l).length + (k - cover (fill_ask t.length l))) v got in
-        let len : length (fill_hashes t.length l hashes) ≡ 2 ^ (tree_height t.length - l) = full in
-        absurd (omega arith)
-  ]
+            let len : length (fill_hashes t.length l hashes) ≡ 2 ^ (tree_height t.length - l) = full in
+            absurd (omega arith)
+      ]
 
   -- the top is the root
   pub at_root : top_layer (fill_ask t.length l) (fill_hashes t.length l hashes) ≡ tree_height t.length
@@ -93,10 +93,10 @@ module _ (t : TreeRoot) (K : PartialTree) (l : ℕ) (hashes : List Hash) (layer_
       joined-closed_by_parts t K (fill_ask t.length l) (fill_hashes t.length l hashes) closed
       (All-append IsHash hashes _ all (All-replicate IsHash (2 ^ (tree_height t.length - l) - length hashes) (zero_hash l) (zero_hash-is_hash l)))
       (subst (λ k. 1 ≤ k) (sym spanned) (omega arith)) (ap (λ k. 2 ^ k) spanned) (mod-eq_of_lt (pow_pos (tree_height t.length - l)))
-          (subst (λ k. 2 ^ (tree_height t.length - l) ≤ k) (sym full) (omega arith))
+      (subst (λ k. 2 ^ (tree_height t.length - l) ≤ k) (sym full) (omega arith))
       (subst (λ k. k ≤ tree_height t.length) (sym at_root) (omega arith)) right_pads t.root
       (ap₂ K at_root (div_small 0 (2 ^ (top_layer (fill_ask t.length l) (fill_hashes t.length l hashes) - l))
-          (pow_pos (top_layer (fill_ask t.length l) (fill_hashes t.length l hashes) - l))) ∙ closed.root_known)
+      (pow_pos (top_layer (fill_ask t.length l) (fill_hashes t.length l hashes) - l))) ∙ closed.root_known)
       agrees
 
   -- the layer of the root says nothing but the root
@@ -107,14 +107,14 @@ module _ (t : TreeRoot) (K : PartialTree) (l : ℕ) (hashes : List Hash) (layer_
       let one : 2 ^ (tree_height t.length - l) ≡ 1 = ap (λ j. 2 ^ j) none_above in
       let len : length (fill_hashes t.length l hashes) ≡ 2 ^ (tree_height t.length - l) = full in
       elim (either (base_hash (fill_ask t.length l) (fill_hashes t.length l hashes) k i) (uncle_hash (fill_ask t.length l) (fill_hashes t.length l hashes) k i)
-          v e) [
+      v e) [
         | inl b ↦
             let (at, low, high, got) = base-read (fill_ask t.length l) (fill_hashes t.length l hashes) k i v b in
             (at ∙ root, omega arith)
         | inr (none, u) ↦
             let (from, at, got) = uncle-read (fill_ask t.length l) (fill_hashes t.length l hashes) k i v u in
             let within' : (fill_ask t.length l).length + (k - cover (fill_ask t.length l)) < length (fill_hashes t.length l hashes) =
-                slice_get_within (fill_hashes t.length l hashes) ((fill_ask t.length l).length + (k - cover (fill_ask t.length l))) v got in
+            slice_get_within (fill_hashes t.length l hashes) ((fill_ask t.length l).length + (k - cover (fill_ask t.length l))) v got in
             absurd (omega arith)
       ]
 
@@ -137,7 +137,7 @@ module _ (t : TreeRoot) (K : PartialTree) (l : ℕ) (hashes : List Hash) (layer_
         get_or (fill_hashes t.length l hashes) 0 [],
         claims-given (fill_ask t.length l) (fill_hashes t.length l hashes) (tree_height t.length) 0 _
             (first_of_two _ _ _ (cond-true _ _ _ (and_from _ _ (eq-eqb (tree_height t.length) l (sym root))
-                (and_from _ _ (le-leb 0 0 (omega arith)) (lt-ltb 0 (0 + 2 ^ (tree_height t.length - l)) (omega arith))))
+            (and_from _ _ (le-leb 0 0 (omega arith)) (lt-ltb 0 (0 + 2 ^ (tree_height t.length - l)) (omega arith))))
             ∙ slice_get-get_or (fill_hashes t.length l hashes) 0 [] (omega arith))),
       )
 

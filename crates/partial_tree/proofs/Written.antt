@@ -84,7 +84,7 @@ here-written C m between after layer index h claim written is = record {
         let none_left : layer - l ≡ 0 = omega (arith, same) in
         let here' : i ≡ index = sym (div-one i) ∙ sym (ap (λ k. i / 2 ^ k) none_left) ∙ up in
         let kept : look between layer index ≡ look m layer index = written.elsewhere layer index (λ below. let less : layer < layer = below.0 in
-            omega (arith, less)) in
+        omega (arith, less)) in
         ap₂ (look after) same here' ∙ ap (λ k. look k layer index) is
         ∙ new-at between (record { layer = layer; index = index; hash = h })
         ∙ ap₂ option_or kept (sym claim) ∙ sym (ap₂ (joined (look m) C) same here')

@@ -22,17 +22,17 @@ pub last_is : (p n : ℕ) (front last : List ℕ) → length front ≡ p * n →
 last_is p n front last whole short =
     let both = length-append front last in
     last_cut p (front ++ last) n (omega (arith, both, whole, short)) ∙ drop-append-le (p * n) front last (omega (arith, whole))
-        ∙ ap (λ xs. xs ++ last) (drop_all (p * n) front (omega (arith, whole)))
+    ∙ ap (λ xs. xs ++ last) (drop_all (p * n) front (omega (arith, whole)))
 
 pub digests_grow : (p n : ℕ) (front last : List ℕ) → 0 < p → length front ≡ p * n → 0 < length last → length last ≤ p
     → cut_digests p (front ++ last) ≡ cut_digests p front ++ sha1 last ∷ []
 digests_grow p n front last some whole more short =
     let count : pieces_of p (length (front ++ last)) ≡ n + 1 = ap (pieces_of p) (length-append front last ∙ ap (λ k. k + length last) whole)
-        ∙ cut_count_is p n (length last) more short in
+    ∙ cut_count_is p n (length last) more short in
     let before : pieces_of p (length front) ≡ n = ap (pieces_of p) whole ∙ whole_count p n some in
     let same : map (cut p (front ++ last)) (range_with_len 0 n) ≡ map (cut p front) (range_with_len 0 n) =
     same_range (cut p (front ++ last)) (cut p front) 0 n (λ k less. cut_append p front last k (let ends = cut_ends p k n (omega (arith, less)) in
-        omega (arith, ends, whole))) in
+    omega (arith, ends, whole))) in
     ap (λ k. map sha1 (map (cut p (front ++ last)) (range_with_len 0 k))) count
     ∙ ap (map sha1) (map-range_with_len_more (cut p (front ++ last)) 0 n n (omega arith))
     ∙ map-append sha1 (map (cut p (front ++ last)) (range_with_len 0 n)) (cut p (front ++ last) n ∷ [])

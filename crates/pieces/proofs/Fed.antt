@@ -118,7 +118,7 @@ feeds_both a b c x y both joined one two = record {
   given_is = omega (arith, one.given_is, two.given_is, length-append x y, ap length joined);
   content = λ pieces n content fed.
       subst (IsFeedGiven c pieces n) (append_assoc content x y ∙ ap (λ t. content ++ t) joined)
-          (two.content pieces n (content ++ x) (one.content pieces n content fed));
+      (two.content pieces n (content ++ x) (one.content pieces n content fed));
 }
 
 -- ---- the end
@@ -136,7 +136,7 @@ pub all_closed : (f : V1Feed) (pieces : List (List ℕ)) (n : ℕ) (content : Li
     → f.cut + 1 ≡ pieces_of n (length content)
 all_closed f pieces n content at some bound =
     sym (ap (pieces_of n) (ends f pieces n content at (no_bad f pieces n content at some))
-        ∙ cut_count_is n f.cut f.cutter.filled some (omega (arith, at.piece_length_is)))
+    ∙ cut_count_is n f.cut f.cutter.filled some (omega (arith, at.piece_length_is)))
 
 none_of : (k : ℕ) → (0 < k → ⊥) → k ≡ 0
 none_of zero h = refl

@@ -57,7 +57,7 @@ answer_count h K ask =
 pub few_hashes : (S : SessionSeen) (ask : Ask) (given : Answer) → IsSound S.torrent → IsAnswerTo S ask given → HasFewHashes given
 few_hashes S ask (answer.Hashes hashes) sound (asked, (can, is)) =
     let e = mapped root_of_entry (slice_get S.torrent.trees asked.number) asked.tree (sym (slice_get-map root_of_entry S.torrent.trees asked.number)
-        ∙ asked.is_tree.tree_is) in
+    ∙ asked.is_tree.tree_is) in
     let bound = (sound.trees asked.number e.0 e.1).bound in
     let low : tree_height asked.tree.length ≤ 32 = subst (λ t. tree_height t.length ≤ 32) e.2 (low_height e.0.length bound) in
     let count = answer_count (tree_height asked.tree.length) (look asked.state.known) ask in

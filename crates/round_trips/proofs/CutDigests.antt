@@ -27,7 +27,7 @@ moved f g a b (suc m) each =
     let first : f a ≡ g b = let x : a + 0 ≡ a = omega arith in let y : b + 0 ≡ b = omega arith in ap f (sym x) ∙ each 0 (omega arith) ∙ ap g y in
     ap (λ x. x ∷ map f (range_with_len (a + 1) m)) first
     ∙ ap (λ xs. g b ∷ xs) (moved f g (a + 1) (b + 1) m (λ j less. let x : (a + 1) + j ≡ a + suc j = omega arith in let y : b + suc j ≡ (b + 1) + j =
-        omega arith in ap f x ∙ each (suc j) (omega (arith, less)) ∙ ap g y))
+    omega arith in ap f x ∙ each (suc j) (omega (arith, less)) ∙ ap g y))
 
 shifted : (p k n : ℕ) → 0 < p → pieces_of p (k * p + n) ≡ k + pieces_of p n
 shifted p k n legal = ap (λ m. m / p) (add_assoc (k * p) n (p - 1)) ∙ mul-add-div_right legal k (n + (p - 1))
@@ -43,16 +43,16 @@ digests_append p n front rest some whole =
     let m = pieces_of p (length rest) in
     let turned : p * n + length rest ≡ n * p + length rest = omega arith in
     let count : pieces_of p (length (front ++ rest)) ≡ n + m = ap (pieces_of p) (length-append front rest ∙ ap (λ k. k + length rest) whole ∙ turned)
-        ∙ shifted p n (length rest) some in
+    ∙ shifted p n (length rest) some in
     let bare : p * n ≡ n * p + 0 = omega arith in
     let none : n + 0 ≡ n = omega arith in
     let before : pieces_of p (length front) ≡ n = ap (pieces_of p) (whole ∙ bare) ∙ shifted p n 0 some ∙ ap (λ k. n + k) (cut_count_none p some) ∙ none in
     let first : map (cut p (front ++ rest)) (range_with_len 0 n) ≡ map (cut p front) (range_with_len 0 n) =
     moved (cut p (front ++ rest)) (cut p front) 0 0 n (λ j less. cut_append p front rest (0 + j) (let ends = cut_ends p (0 + j) n (omega (arith, less)) in
-        omega (arith, ends, whole))) in
+    omega (arith, ends, whole))) in
     let second : map (cut p (front ++ rest)) (range_with_len (0 + n) m) ≡ map (cut p rest) (range_with_len 0 m) =
     moved (cut p (front ++ rest)) (cut p rest) (0 + n) 0 m (λ j less. let x : (0 + n) + j ≡ n + j = omega arith in let y : j ≡ 0 + j = omega arith in
-        ap (cut p (front ++ rest)) x ∙ cut_behind p n j front rest whole ∙ ap (cut p rest) y) in
+    ap (cut p (front ++ rest)) x ∙ cut_behind p n j front rest whole ∙ ap (cut p rest) y) in
     ap (λ k. map sha1 (map (cut p (front ++ rest)) (range_with_len 0 k))) count
     ∙ ap (λ r. map sha1 (map (cut p (front ++ rest)) r)) (range_split 0 n m)
     ∙ ap (map sha1) (map-append (cut p (front ++ rest)) (range_with_len 0 n) (range_with_len (0 + n) m))
@@ -104,7 +104,7 @@ block_digests p c some more =
     let is : last_cut_of p c ≡ last = last_cut p c n high in
     let parts : cut_digests p c ≡ cut_digests p front ++ sha1 last ∷ [] = ap (cut_digests p) (sym both) ∙ own in
     let before : take (length (cut_digests p c) - 1) (cut_digests p c) ≡ cut_digests p front = ap (λ ds. take (length ds - 1) ds) parts
-        ∙ without_last (cut_digests p front) (sha1 last) in
+    ∙ without_last (cut_digests p front) (sha1 last) in
     let end : filled_up p (last_cut_of p c) ≡ last ++ zeros = ap (filled_up p) is ∙ ap (λ k. last ++ replicate k 0) (sym rest) in
     ap (λ x. cut_digests p (x ++ zeros)) (sym both) ∙ ap (cut_digests p) (append_assoc front last zeros) ∙ filled
     ∙ ap (λ ds. ds ++ sha1 (last ++ zeros) ∷ []) (sym before)

@@ -67,8 +67,15 @@ module _ (p : ℕ) (hybrid : Bool) (under : List (List ℕ) → Option (Option (
       → (e : FileEntry) × (slice_get (entries_from p ts first (map listed_file fs)) n ≡ Some e)
   entry_there ts first fs [] n c all at = cc
   entry_there ts first [] (x ∷ cs) n c all at = absurd all
-  entry_there ts first (f ∷ fs) (x ∷ cs) zero c all at = (record { path = f.path; length = f.length; tree = option_and_then (place_in ts) (listed_file f).root;
-      first_piece = first }, refl)
+  entry_there ts first (f ∷ fs) (x ∷ cs) zero c all at = (
+    record {
+      path = f.path;
+      length = f.length;
+      tree = option_and_then (place_in ts) (listed_file f).root;
+      first_piece = first;
+    },
+    refl,
+  )
   entry_there ts first (f ∷ fs) (x ∷ cs) (suc n) c all at = entry_there ts (first + pieces_of p f.length) fs cs n c all.1 at
 
 -- ---- each root of a file is among the roots

@@ -63,9 +63,9 @@ all_made p hybrid under d e (q ∷ paths) (c ∷ cs) chain are told so =
 pub checks_good : (under : Telling) (d : Outline) → IsOutline d → IsGatheredFrom under d → ChecksGood (torrent_of d) under
 checks_good under d o from files v1 tells readable =
     let so = all_made from.piece_length from.hybrid under _ d from.paths from.contents from.gathered from.are from.told
-        (record { contents = []; length_is = refl; kind_is = refl; made = tt }) in
+    (record { contents = []; length_is = refl; kind_is = refl; made = tt }) in
     let all = subst (λ h. AreMade d.piece_length h under d.files so.contents) (sym so.kind_is) (subst (λ k. AreMade k from.hybrid under d.files so.contents)
-        (sym so.length_is) so.made) in
+    (sym so.length_is) so.made) in
     tells.enough (good_folder d so.contents under o all tells.contents tells.agree) readable
 
 pub fits_max_torrent : (n : ℕ) → (max_torrent < n → ⊥) → n ≤ max_torrent

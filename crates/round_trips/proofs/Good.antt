@@ -132,7 +132,7 @@ module _ (d : Outline) (cs : List (List ℕ)) (under : List (List ℕ) → Optio
             let content_some : 0 < length x.content = subst (λ (y : List ℕ). 0 < length y) is more in
             ap (λ k. take (length bytes) (drop (k * d.piece_length) (stream d.piece_length cs))) from
             ∙ subst (λ (y : List ℕ). take (length y) (drop (starts d.piece_length cs n * d.piece_length) (stream d.piece_length cs)) ≡ y) (sym is)
-                (stands d.piece_length cs n x.content some x.there content_some);
+            (stands d.piece_length cs n x.content some x.there content_some);
         zeros = λ i less bare. elim (covered d.piece_length cs i some) [
           | inl nothing ↦ nothing
           | inr c ↦ absurd (bare (covers i c))
@@ -146,8 +146,12 @@ module _ (d : Outline) (cs : List (List ℕ)) (under : List (List ℕ) → Optio
       | inl hybrid ↦
           let there : Some (v1_of d) ≡ Some v = subst (λ b. (if b then Some (v1_of d) else None) ≡ Some v) hybrid is in
           let same : v1_of d ≡ v = cc in
-          subst (λ w. V1Good (torrent_of d) w held) same (stream d.piece_length cs, is_stream, stream_digests d.piece_length d.hybrid under d.files cs hybrid
-              (legal_some d.piece_length o.legal).0 all)
+          subst (λ w. V1Good (torrent_of d) w held) same (
+            stream d.piece_length cs,
+            is_stream,
+            stream_digests d.piece_length d.hybrid under d.files cs hybrid
+                (legal_some d.piece_length o.legal).0 all,
+          )
       | inr plain ↦ let none : None ≡ Some v = subst (λ b. (if b then Some (v1_of d) else None) ≡ Some v) plain is in cc
     ];
   }

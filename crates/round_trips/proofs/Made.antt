@@ -103,7 +103,7 @@ module _ (p : ℕ) (hybrid : Bool) (under : List (List ℕ) → Option (Option (
         | inl more ↦
             let block : length (block_of p c) ≡ pieces_of p f.length * p = block_length p c some ∙ ap (λ n. pieces_of p n * p) (sym size) in
             rw (same, more) (length-append (block_of p c) (stream p cs) ∙ ap (λ n. n + length (stream p cs)) block
-                ∙ ap (λ n. pieces_of p f.length * p + n) rest)
+            ∙ ap (λ n. pieces_of p f.length * p + n) rest)
         | inr none ↦ rw (same, none) (length-append c (stream p cs) ∙ ap (λ n. n + length (stream p cs)) (sym size) ∙ ap (λ n. f.length + n) rest)
       ]
 
@@ -124,9 +124,9 @@ module _ (p : ℕ) (hybrid : Bool) (under : List (List ℕ) → Option (Option (
                   let turned : pieces_of p (length c) * p ≡ p * pieces_of p (length c) = omega arith in
                   let block : cut_digests p (block_of p c) ≡ filled_cuts f =
                   block_digests p c some more ∙ ap (λ ds. take (length ds - 1) ds ++ sha1 (filled_up p (last_cut_of p c)) ∷ []) (sym (all.0.cuts_are is more))
-                      ∙ ap (λ x. take (length f.cuts - 1) f.cuts ++ x ∷ []) (sym (all.0.padded_is is more)) in
+                  ∙ ap (λ x. take (length f.cuts - 1) f.cuts ++ x ∷ []) (sym (all.0.padded_is is more)) in
                   rw (later, size, content, same, later) (digests_append p (pieces_of p (length c)) (block_of p c) (stream p cs) some (block_length p c some
-                      ∙ turned) ∙ ap (λ x. x ++ cut_digests p (stream p cs)) block ∙ ap (λ y. filled_cuts f ++ y) rest)
+                  ∙ turned) ∙ ap (λ x. x ++ cut_digests p (stream p cs)) block ∙ ap (λ y. filled_cuts f ++ y) rest)
               | inr none ↦ rw (none, size, content, same, none) (ap (λ x. cut_digests p (c ++ x)) (none_left p cs none) ∙ ap (cut_digests p) (append-nil c)
                   ∙ sym (all.0.cuts_are is more) ∙ sym (ap (λ x. f.cuts ++ x) (no_digests fs (same ∙ none)) ∙ append-nil f.cuts))
             ]

@@ -48,7 +48,7 @@ leaf-fits l mid content more None at fed completed fits = tt
 leaf-fits l mid content more (Some x) at fed completed fits =
     let count : length (complete_nodes mid more 0) ≡ mid.peaks.count = complete-length mid more in
     let one : length (complete_nodes mid more 0) ≡ length (complete_nodes l.builder content 0) + 1 = ap length completed
-        ∙ length-append (complete_nodes l.builder content 0) (x ∷ []) in
+    ∙ length-append (complete_nodes l.builder content 0) (x ∷ []) in
     let bytes : 16384 * mid.peaks.count + mid.filled ≡ length more = fed.at.length_is in
     let some : 0 < length more = omega (arith, count, one, bytes) in
     let begun : 0 < mid.filled = fed.started some in
@@ -96,7 +96,7 @@ last-fits l content last leaf full works nodes is =
     let all : length (layer_of content 0) ≡ block_count (length content) = length-leaves content in
     let one : length (layer_of content 0) ≡ length (complete_nodes l.builder content 0) + 1 =
     ap length (sym nodes) ∙ ap (λ o. length (complete_nodes l.builder content 0 ++ option_to_list o)) is
-        ∙ length-append (complete_nodes l.builder content 0) (leaf ∷ []) in
+    ∙ length-append (complete_nodes l.builder content 0) (leaf ∷ []) in
     let had : length l.tree.leaves ≡ length (complete_nodes l.builder content 0) = ap length (kept-leaves l content full.fed works) in
     let same : block_count (length content) ≡ block_count l.tree.length = ap block_count full.length_is in
     omega (arith, all, one, had, same)

@@ -18,9 +18,11 @@ pub other_length : {T : Type 0} (e : TreeEntry) (len : ℕ) (took : T → List �
 other_length e len took source source' before after None of read other =
     let longer = longer_content source.left source'.left read.0 read.1.given in
     (longer.0, longer.2, λ fits. omega (arith, longer.1, read.2, fits.length_is, of))
-other_length e len took source source' before after (Some count) of read other =
-    (read.bytes, λ known is. all_given source source' read.bytes known read.gave read.ended is,
-        λ fits. other (ap Some (sym read.count_is ∙ fits.length_is ∙ sym of)))
+other_length e len took source source' before after (Some count) of read other = (
+  read.bytes,
+  λ known is. all_given source source' read.bytes known read.gave read.ended is,
+  λ fits. other (ap Some (sym read.count_is ∙ fits.length_is ∙ sym of)),
+)
 
 -- ---- what a shelf tells
 
@@ -30,6 +32,9 @@ pub finds_read : (told : Option (Option (List ℕ))) (left : Option (List ℕ)) 
     → (n : ℕ) × (new ≡ more old n) × Finds told e found n
 finds_read told left e (Some leaves) old mid new own own' at (bytes, is, fits, are) same fresh quiet counted =
     (0, counted ∙ ap (more mid) (quiet ∙ fresh) ∙ same, (refl, bytes, agrees_opened told left bytes at is, fits, are))
-finds_read told left e None old mid new own own' at (bytes, is, not) same fresh quiet counted =
-    (0, counted ∙ ap (more mid) (quiet ∙ fresh)
-        ∙ same, inr (refl, Some bytes, agrees_opened told left bytes at is, λ b known fits. not (subst (FitsTree e) (sym (same_Some bytes b known)) fits)))
+finds_read told left e None old mid new own own' at (bytes, is, not) same fresh quiet counted = (
+  0,
+  counted ∙ ap (more mid) (quiet ∙ fresh)
+      ∙ same,
+  inr (refl, Some bytes, agrees_opened told left bytes at is, λ b known fits. not (subst (FitsTree e) (sym (same_Some bytes b known)) fits)),
+)

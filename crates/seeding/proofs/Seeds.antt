@@ -101,7 +101,7 @@ module _ {S F : Type 0} (shelf : Ghosts S F) (seen : F → SourceSeen) where
       let few : n ≤ length files = omega arith in
       let same : length so_far.told ≡ length (take n files) = so_far.count ∙ sym (length-take-le n files few) in
       let next : take (n + 1) files ≡ take n files ++ f ∷ [] = (let e : n + 1 ≡ suc n = omega arith in ap (λ k. take k files) e) ∙ take-suc files n f inside
-          ∙ ap (λ g. take n files ++ g ∷ []) at in
+      ∙ ap (λ g. take n files ++ g ∷ []) at in
       record {
         told = so_far.told ++ seeded ∷ [];
         count = length_push so_far.told seeded ∙ ap (λ k. k + 1) so_far.count;

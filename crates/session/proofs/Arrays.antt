@@ -28,8 +28,11 @@ module _ (cells : List (Option BlockRefusal)) (count first : ℕ) (h : IsArrayOf
     pub pushed-array : IsArrayOf (set cells count r) (count + 1) first
     pushed-array = record {
       size = length-set cells count r ∙ h.size;
-      count_is = ap length pushed-list ∙ (let e : length (take count cells ++ r ∷ []) ≡ count + 1 = omega (arith, length-append (take count cells) (r ∷ []),
-          h.count_is) in e);
+      count_is = ap length pushed-list ∙ (let e : length (take count cells ++ r ∷ []) ≡ count + 1 = omega (
+        arith,
+        length-append (take count cells) (r ∷ []),
+        h.count_is,
+      ) in e);
       cells_are = ap cells_of pushed-list ∙ pushed-cells;
       first_low = h.first_low;
     }

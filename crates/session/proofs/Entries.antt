@@ -46,17 +46,17 @@ module _ (S : SessionSeen) (closed_trees : HasClosedTrees S) (file b : ℕ) (byt
     closed = λ k tree s at. elim (read_after k s at.state_is) [
       | inl (same, is) ↦
           let one : h.in_file.tree ≡ tree = same_Some h.in_file.tree tree (sym h.in_file.is_tree.tree_is ∙ ap (slice_get (roots S)) (sym same)
-              ∙ same_tree_before k tree at.tree_is) in
+          ∙ same_tree_before k tree at.tree_is) in
           subst₂ (λ (tr : TreeRoot) (st : TreeState). IsClosed tr (look st.known)) one (sym is) (closed_trees.closed h.in_file.tree_number h.in_file.tree
-              h.in_file.state h.in_file.is_tree)
+          h.in_file.state h.in_file.is_tree)
       | inr (other, old) ↦ closed_trees.closed k tree s (record { tree_is = same_tree_before k tree at.tree_is; state_is = old })
     ];
     marks = λ k tree s at i marked. elim (read_after k s at.state_is) [
       | inl (same, is) ↦
           let here : leaves.contains (leaves.insert h.in_file.state.marked b) i ≡ true = ap (λ (st : TreeState). leaves.contains st.marked i) (sym is)
-              ∙ marked in
+          ∙ marked in
           let (v, e) = marked-known h.in_file.state b i (sha256 bytes) h.leaf_known (closed_trees.marks h.in_file.tree_number h.in_file.tree h.in_file.state
-              h.in_file.is_tree i) here in
+          h.in_file.is_tree i) here in
           (v, ap (λ (st : TreeState). look st.known 0 i) is ∙ e)
       | inr (other, old) ↦ closed_trees.marks k tree s (record { tree_is = same_tree_before k tree at.tree_is; state_is = old }) i marked
     ];
@@ -93,8 +93,11 @@ step-known file S c None S' h n tree s at = elim (cases_eq n h.in_file.tree_numb
       }
   | inr other ↦ record {
     later = s;
-    later_is = record { tree_is = ap (λ U. slice_get (roots U) n) h.state_after ∙ at.tree_is; state_is = ap (λ U. slice_get U.trees n) h.state_after
-        ∙ set-other S.trees h.in_file.tree_number n _ s other at.state_is };
+    later_is = record {
+      tree_is = ap (λ U. slice_get (roots U) n) h.state_after ∙ at.tree_is;
+      state_is = ap (λ U. slice_get U.trees n) h.state_after
+          ∙ set-other S.trees h.in_file.tree_number n _ s other at.state_is;
+    };
     known = refl;
   }
 ]
@@ -232,7 +235,7 @@ cuts-at first bytes (suc k) m low =
           let inside : m < k = omega (arith, low, other) in
           get_or_append_left before (cut k ∷ []) (cut m) m (omega (arith, inside, count))
           ∙ same_Some (get_or before m (cut m)) (cut m) (sym (slice_get-get_or before m (cut m) (omega (arith, inside, count)))
-              ∙ cuts-at first bytes k m inside)
+          ∙ cuts-at first bytes k m inside)
     ])
 
 -- ---- a message of blocks
@@ -245,7 +248,7 @@ module _ (S : SessionSeen) (closed_trees : HasClosedTrees S) (index begin : ℕ)
   entry-says : (m : ℕ) (r : Option BlockRefusal) → slice_get v.refusals m ≡ Some r → Says h.in_file.tree h.in_file.state.known (cut_at m) r
   entry-says m r told =
       chain-says v.file S (cuts v.first bytes (length v.refusals)) v.refusals S' h.each h.in_file.tree_number h.in_file.tree h.in_file.state h.in_file.of_file
-          h.in_file.is_tree
+      h.in_file.is_tree
       m (cut_at m) r (cuts-at v.first bytes (length v.refusals) m (slice_get_within v.refusals m r told)) told
 
   pub taken-blocks : AreBlocks S index begin bytes v
@@ -258,4 +261,4 @@ module _ (S : SessionSeen) (closed_trees : HasClosedTrees S) (index begin : ℕ)
   pub taken-true : VerifiesTrueBlocks S bytes v
   taken-true = λ m r told.
       says-taken S closed_trees v.file (cut_at m) h.in_file.tree_number h.in_file.tree h.in_file.state r h.in_file.of_file h.in_file.is_tree
-          (entry-says m r told)
+      (entry-says m r told)

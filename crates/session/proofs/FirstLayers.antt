@@ -61,19 +61,19 @@ module _ (p : ℕ) (e : TreeEntry) (legal : IsPieceLength p) (sound : IsSoundTre
   exponent =
       let all : legal.0 ≡ 14 + (legal.0 - 14) = omega (arith, legal.1) in
       layer_is p (legal.0 - 14) (piece_layer p) (piece_is p (legal.0 - 14) (legal.3 ∙ ap (λ x. 2 ^ x) all)) (height_enough (block_count p))
-          (height_least (block_count p))
+      (height_least (block_count p))
 
   pub in_tree : piece_layer p ≤ tree_height e.length
   in_tree =
       let all : legal.0 ≡ 14 + (legal.0 - 14) = omega (arith, legal.1) in
       let low : legal.0 - 14 ≤ tree_height e.length = layer_within p (legal.0 - 14) e.length (tree_height e.length) (piece_is p (legal.0 - 14) (legal.3
-          ∙ ap (λ x. 2 ^ x) all)) longer (height_enough (block_count e.length)) in
+      ∙ ap (λ x. 2 ^ x) all)) longer (height_enough (block_count e.length)) in
       omega (arith, exponent, low)
 
   pub right_count : length e.layer ≡ pad_from e.length (piece_layer p)
   right_count =
       whole_layer p legal.0 e.length p e.length (piece_layer p) (length e.layer) legal.1 legal.3 refl refl (height_enough (block_count p))
-          (height_least (block_count p)) (sound.layer_length longer)
+      (height_least (block_count p)) (sound.layer_length longer)
 
   module _ (a : KeptTree) (planted : IsPlanted p false e a) (l : ℕ) (at : l ≡ piece_layer p) where
     same : info_of a ≡ root_of_entry e
@@ -85,7 +85,7 @@ module _ (p : ℕ) (e : TreeEntry) (legal : IsPieceLength p) (sound : IsSoundTre
     pub accepted : IsFillAccepted a.length (look a.state.known) l e.layer
     accepted =
         subst (λ t. IsFillAccepted t.length (look a.state.known) l e.layer) (sym same) (subst (λ k. IsFillAccepted e.length (look a.state.known) k e.layer)
-            (sym at)
+        (sym at)
         (record {
           layer_inside = in_tree;
           right_count = right_count;
@@ -105,9 +105,9 @@ module _ (p : ℕ) (e : TreeEntry) (legal : IsPieceLength p) (sound : IsSoundTre
         root_alone = λ w. elim w [ inl off ↦ absurd (false≢true (sym off)) | inr short ↦ absurd (omega (arith, short, longer)) ];
         layers = λ on more.
             joined-knows (root_of_entry e) (look a.state.known) (piece_layer p) e.layer in_tree right_count (sound.layer_root longer)
-                (planted.known.root_alone (inl refl)) (look b.state.known)
+            (planted.known.root_alone (inl refl)) (look b.state.known)
             (λ k i. joins.joined_is k i ∙ ap (λ j. joined (look a.state.known) (fill_claims a.length j e.layer) k i) at
-                ∙ ap (λ t. joined (look a.state.known) (fill_claims t.length (piece_layer p) e.layer) k i) same);
+            ∙ ap (λ t. joined (look a.state.known) (fill_claims t.length (piece_layer p) e.layer) k i) same);
       };
       marked = ap (λ (t : KeptTree). t.state.marked) rest ∙ planted.marked;
     }

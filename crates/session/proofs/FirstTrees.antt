@@ -103,7 +103,7 @@ planted_one_more p w infos ts i x b low count here before = λ k e a inside. eli
       let same : k ≡ length ts = omega (arith, length_push ts b) in
       let read : get_or (map tree_entry infos) i e ≡ tree_entry (get_or infos i x) =
       get_or_from_slice_get (map tree_entry infos) i (tree_entry (get_or infos i x)) e (slice_get-map tree_entry infos i
-          ∙ ap (option_map tree_entry) (slice_get-get_or infos i x low)) in
+      ∙ ap (option_map tree_entry) (slice_get-get_or infos i x low)) in
       subst (IsPlanted p w (get_or (map tree_entry infos) k e)) (sym (ap (λ j. get_or (ts ++ b ∷ []) j a) same ∙ get_or-append_seam ts b [] a))
       (subst (λ y. IsPlanted p w y b) (sym (ap (λ j. get_or (map tree_entry infos) j e) (same ∙ count) ∙ read)) here)
 ]
@@ -128,7 +128,7 @@ module _ (d : Description) (sound : IsSound d) (infos : List TreeInfo) (are : ma
       let info : Hash → ℕ → TreeRoot = λ u n. record { root = u; length = n } in
       let is : info_of b ≡ root_of_entry (tree_entry (get_or infos i x)) = ap (λ u. info u b.length) r ∙ ap (λ n. info (get_or infos i x).root n) l in
       let read : get_or roots i (info_of b) ≡ info_of b = get_or_from_slice_get roots i (root_of_entry (tree_entry (get_or infos i x))) (info_of b) at
-          ∙ sym is in
+      ∙ sym is in
       map-append info_of ts (b ∷ []) ∙ ap (λ xs. xs ++ info_of b ∷ []) before ∙ ap (λ y. take i roots ++ y ∷ []) (sym read)
       ∙ sym (take-suc roots i (info_of b) (slice_get_within roots i (root_of_entry (tree_entry (get_or infos i x))) at))
       ∙ ap (λ j. take j roots) (sym (add-one i))
@@ -137,8 +137,12 @@ module _ (d : Description) (sound : IsSound d) (infos : List TreeInfo) (are : ma
   pub kept_all : (w : Bool) (i : ℕ) (ts : List KeptTree) → length infos ≤ i → map info_of ts ≡ take i (map root_of_entry (map tree_entry infos))
       → ArePlanted d.piece_length w d.trees ts → AreKept d ts
   kept_all w i ts past same planted = record {
-    same = same ∙ take_all i (map root_of_entry (map tree_entry infos)) (omega (arith, length-map (map tree_entry infos) root_of_entry,
-        length-map infos tree_entry, past)) ∙ ap (map root_of_entry) are;
+    same = same ∙ take_all i (map root_of_entry (map tree_entry infos)) (omega (
+      arith,
+      length-map (map tree_entry infos) root_of_entry,
+      length-map infos tree_entry,
+      past,
+    )) ∙ ap (map root_of_entry) are;
     good = λ k x inside. (planted k nothing x inside).good;
   }
 
@@ -152,7 +156,7 @@ module _ (d : Description) (sound : IsSound d) (infos : List TreeInfo) (are : ma
         let p : IsPlanted d.piece_length w (get_or d.trees n e) (get_or ts n x.0) = planted n e x.0 (slice_get_within ts n x.0 x.1) in
         let known : IsFirstKnown d.piece_length w e (look x.0.state.known) =
         subst₂ (λ y a. IsFirstKnown d.piece_length w y (look a.state.known)) (get_or_from_slice_get d.trees n e e at_entry)
-            (get_or_from_slice_get ts n x.0 x.0 x.1) p.known in
+        (get_or_from_slice_get ts n x.0 x.0 x.1) p.known in
         subst (λ st. IsFirstKnown d.piece_length w e (look st.known)) x.2 known;
     marked = λ n s at_state.
         let x = mapped state_of (slice_get ts n) s (sym (slice_get-map state_of ts n) ∙ at_state) in

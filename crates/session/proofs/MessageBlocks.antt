@@ -51,7 +51,7 @@ module _ (file : ℕ) (S : SessionSeen) (first : ℕ) (bytes : List ℕ) (m : �
   unfolding cuts
   next_step r S' step =
       let more : Chain (BlockStep file) S (cuts first bytes (suc m)) (rs ++ r ∷ []) S' = Chain-more (BlockStep file) S (cuts first bytes m) rs mid this r S'
-          before step in
+      before step in
       let next : suc m ≡ m + 1 = omega arith in
       subst (λ k. Chain (BlockStep file) S (cuts first bytes k) (rs ++ r ∷ []) S') next more
 

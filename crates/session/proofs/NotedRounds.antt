@@ -111,7 +111,7 @@ noted_round S M N S' distinct same_torrent ns ws n tree s b ask f closed_trees c
             inr (tree, e.later, e.later_is, collision-keeps (whole f) (look d.later.known) (look e.later.known) e.keeps collision)
         | inl ok ↦
             let told : hashes.now ≡ answer_of (tree_height tree.length) (whole f) (want_ask tree b) = is_answer
-                ∙ ap (answer_of (tree_height tree.length) (whole f)) is in
+            ∙ ap (answer_of (tree_height tree.length) (whole f)) is in
             let (later, later_is, fewer) = answer-fewer n tree b inside (look s.known) N (asking N.asks S') distinct_N d.later d.later_is tall
             (λ l i u h. d.keeps l i u (a.keeps l i u h)) none hashes
             (subst (IsAccepted tree.length (look d.later.known) (want_ask tree b)) (sym told) ok) v memory
@@ -128,9 +128,11 @@ noted_round S M N S' distinct same_torrent ns ws n tree s b ask f closed_trees c
             e.later_is,
             gaps-fewer tree.length (look s.known) (look e.later.known) b
                 (λ l i u h. e.keeps l i u (d.keeps l i u (a.keeps l i u h))) inside none (λ j low.
-                let (u, h) = there j low in
-                (u, e.keeps 0 (b / window tree.length * window tree.length + j) u
-                    (ap (λ (st : TreeState). look st.known 0 (b / window tree.length * window tree.length + j)) (sym state) ∙ h))),
+                let (u, h) = there j low in (
+                  u,
+                  e.keeps 0 (b / window tree.length * window tree.length + j) u
+                      (ap (λ (st : TreeState). look st.known 0 (b / window tree.length * window tree.length + j)) (sym state) ∙ h),
+                )),
           )
     ]
 
@@ -176,8 +178,8 @@ noted_at S (m ∷ ms) (v ∷ vs) N closed_trees all (M, step, rest) ask zero at 
       | inr lacks ↦ inr (ap Some lacks)
     ]
 noted_at S (m ∷ ms) (v ∷ vs) N closed_trees all (M, step, rest) ask (suc k) at =
-    elim (noted_at M ms vs N (noted-closed S m v M closed_trees (All-head HasDirectedHashes m ms all) step) (All-tail HasDirectedHashes m ms all) rest ask k at)
-        [
+    let closed_after = noted-closed S m v M closed_trees (All-head HasDirectedHashes m ms all) step in
+    elim (noted_at M ms vs N closed_after (All-tail HasDirectedHashes m ms all) rest ask k at) [
       | inl later ↦ inl (record {
         after = later.after;
         same_torrent = later.same_torrent ∙ noted-torrent S m v M step;
@@ -223,7 +225,7 @@ pub All-take-noted : (ms : List (Directed Message)) (i : ℕ) (d : Directed Mess
     → HasDirectedHashes (get_or ms i d) → All HasDirectedHashes (take (i + 1) ms)
 All-take-noted ms i d inside all here =
     subst (All HasDirectedHashes) (sym (ap (λ j. take j ms) (add-one i) ∙ take-suc ms i d inside)) (All-push HasDirectedHashes (take i ms) (get_or ms i d) all
-        here)
+    here)
 
 pub noted-round-fewer : (S : SessionSeen) → HasDistinctRoots S → (ms : List (Directed Message)) (vs : List Verdict) (S' : SessionSeen) → HasClosedTrees S
     → All HasDirectedHashes ms → Chain NotedStep S ms vs S'
@@ -232,18 +234,18 @@ noted-round-fewer S distinct ms vs S' closed_trees all run n f r =
     let x : Directed Message = (In, message.Hashes r.ask r.answer) in
     let at_end : LastStep NotedStep S r.before x vs S' = last_step NotedStep S r.before x vs S' (subst (λ xs. Chain NotedStep S xs vs S') r.ends run) in
     let hashes : All HasDirectedHashes r.before =
-        (All-pop HasDirectedHashes (r.before ++ x ∷ []) r.before (Some x) refl (subst (All HasDirectedHashes) r.ends all)).0 in
+    (All-pop HasDirectedHashes (r.before ++ x ∷ []) r.before (Some x) refl (subst (All HasDirectedHashes) r.ends all)).0 in
     elim (cases_Bool (lacks_memory at_end.last)) [
       | inl lacks ↦ inr (inl (at_end.earlier, at_end.outputs_are ∙ ap (λ v. at_end.earlier ++ v ∷ []) (lacks_memory-is at_end.last lacks)))
       | inr has ↦ elim (opened_by S r.before at_end.earlier at_end.middle closed_trees hashes at_end.run r.ask r.noted) [
         | inr lacks ↦
             inr (inr (inl (subst (LacksMemoryToNote S r.before r.ask r.noted) (sym at_end.outputs_are) (lacks_in_all S r.before r.ask r.noted at_end.earlier
-                at_end.last lacks))))
+            at_end.last lacks))))
         | inl noted ↦
             elim (noted_round S noted.after at_end.middle S' distinct noted.same_torrent noted.rest noted.verdicts n r.wants.tree r.wants.state r.wants.block
-                r.ask f closed_trees noted.closed_trees noted.learns noted.hashes
+            r.ask f closed_trees noted.closed_trees noted.learns noted.hashes
             r.wants.is_tree r.wants.inside r.wants.wanted r.wants.fits noted.is_open noted.run r.answer r.wants.is_answer at_end.last
-                (lacks_memory-not at_end.last has) at_end.step) [
+            (lacks_memory-not at_end.last has) at_end.step) [
               | inl fewer ↦ inl fewer
               | inr collides ↦ inr (inr (inr collides))
             ]

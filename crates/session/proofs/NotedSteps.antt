@@ -167,7 +167,7 @@ stored-asks S ask hashes c S' h = ap (λ U. U.asks) (h.state_after ∙ ap (λ U.
 pub noted-opens : (S : SessionSeen) (x : Directed Message) (v : Verdict) (S' : SessionSeen) → NotedStep S x v S' → OpensOnlyOurs S x S'
 noted-opens S (In, message.Hashes other hashes) (verdict.Stored c) S' h = λ ask now.
     let is = sym (set.contains-remove ask_total S.asks other ask) ∙ ap (λ (o : AskSet). set.contains o ask) (sym (stored-asks S other hashes.now c S' h))
-        ∙ now in
+    ∙ now in
     (and_parts (not (eq_by_cmp ask_cmp ask other)) (set.contains S.asks ask) is).1
 noted-opens S (In, message.Hashes other hashes) (verdict.HashRefused r) S' h = λ ask now. same_open S' S ask (ap (λ U. U.asks) (sym h.1)) now
 noted-opens S (In, message.Hashes other hashes) v S' h = absurd h
@@ -186,11 +186,14 @@ stored_base S ask hashes c S' h =
       known = λ j low.
           let ok = h.taken.0 in
           let claim = base-claims ask hashes (spans-some (tree_height h.asked.tree.length) ask ok.range) ok.range.power_of_two ok.range.aligned ok.count.enough
-              (ask.index + j) (omega arith) (omega arith) in
+          (ask.index + j) (omega arith) (omega arith) in
           elim (there_or_not (look h.asked.state.known ask.base (ask.index + j))) [
             | inl (v, known) ↦ (v, h.taken.1.joined_is ask.base (ask.index + j) ∙ first_of_two (look h.asked.state.known ask.base (ask.index + j)) _ v known)
-            | inr none ↦ (claim.0, h.taken.1.joined_is ask.base (ask.index + j) ∙ second_of_two (look h.asked.state.known ask.base (ask.index + j)) _ none
-                ∙ claim.1)
+            | inr none ↦ (
+              claim.0,
+              h.taken.1.joined_is ask.base (ask.index + j) ∙ second_of_two (look h.asked.state.known ask.base (ask.index + j)) _ none
+                  ∙ claim.1,
+            )
           ];
     }
 
@@ -205,8 +208,14 @@ base_later S S' ask keeps b =
 
 base_asking : (o : AskSet) (S : SessionSeen) (ask : Ask) → IsBaseKnown S ask → IsBaseKnown (asking o S) ask
 base_asking o S ask b = record {
-  asked = record { number = b.asked.number; tree = b.asked.tree; state = b.asked.state; is_tree = tree_asking o S b.asked.number b.asked.tree b.asked.state
-      b.asked.is_tree; has_root = b.asked.has_root };
+  asked = record {
+    number = b.asked.number;
+    tree = b.asked.tree;
+    state = b.asked.state;
+    is_tree = tree_asking o S b.asked.number b.asked.tree b.asked.state
+        b.asked.is_tree;
+    has_root = b.asked.has_root;
+  };
   known = b.known;
 }
 
@@ -230,7 +239,7 @@ or-true false = refl
 out-open : (S : SessionSeen) (m : Message) (v : Verdict) (S' : SessionSeen) → StepOut S m v S' → (ask : Ask) → IsOpenAsk S ask → IsOpenAsk S' ask
 out-open S (message.Request other) verdict.Noted S' h ask was =
     ap (λ U. set.contains U.asks ask) h ∙ set.contains-insert ask_total S.asks other ask ∙ ap (λ b. eq_by_cmp ask_cmp ask other || b) was
-        ∙ or-true (eq_by_cmp ask_cmp ask other)
+    ∙ or-true (eq_by_cmp ask_cmp ask other)
 out-open S (message.Request other) (verdict.HashRefused NoMemory) S' h ask was = same_open S S' ask (ap (λ U. U.asks) h.1) was
 out-open S (message.Request other) v S' h ask was = absurd h
 out-open S m verdict.Sent S' h ask was = same_open S S' ask (ap (λ U. U.asks) h) was

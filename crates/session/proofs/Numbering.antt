@@ -16,7 +16,7 @@ module _ (d : Description) (ts : List KeptTree) (kept : AreKept d ts) where
   entry_at : (n : ℕ) (a : KeptTree) → slice_get ts n ≡ Some a → IsTreeWithRoot d.trees a.root n
   entry_at n a there =
       let x = mapped root_of_entry (slice_get d.trees n) (info_of a) (sym (slice_get-map root_of_entry d.trees n)
-          ∙ (tree_at d ts kept leaves.empty n a there).tree_is) in
+      ∙ (tree_at d ts kept leaves.empty n a there).tree_is) in
       (x.0, x.1, ap (λ (t : TreeRoot). t.root) x.2)
 
   pub some_number : (root : Hash) (o : Option ℕ) (n : ℕ) → IfSome o (IsTreeWithRoot d.trees root) → o ≡ Some n

@@ -119,9 +119,11 @@ module _ (S : SessionSeen) (distinct : HasDistinctRoots S) (ask : Ask) (hashes :
       let make : Known → Marked → TreeState = λ x y. record { known = x; marked = y } in
       let after : h.after ≡ k.after = ap₂ make known marked in
       let before : len h.asked.state.known ≡ len k.asked.state.known = ap (λ (st : TreeState). len st.known) state in
-      let more : len h.after.known ≡ len k.after.known = ap (λ (m : Known). len m) known in
-      (omega (arith, h.taken.1.gained, k.taken.1.gained, before, more), h.state_after
-          ∙ ap₂ (λ (n : ℕ) (a : TreeState). record S { trees = set S.trees n a }) number after ∙ sym k.state_after)
+      let more : len h.after.known ≡ len k.after.known = ap (λ (m : Known). len m) known in (
+        omega (arith, h.taken.1.gained, k.taken.1.gained, before, more),
+        h.state_after
+            ∙ ap₂ (λ (n : ℕ) (a : TreeState). record S { trees = set S.trees n a }) number after ∙ sym k.state_after,
+      )
 
 -- ---- one entry of a piece message
 
@@ -162,7 +164,7 @@ module _ (S : SessionSeen) (file b : ℕ) (bytes : List ℕ) where
       let number = same_number S file b k.in_file.tree_number k.in_file.tree k.in_file.state k.in_file.of_file k.in_file.is_tree h.in_file in
       let state = same_state S file b k.in_file.tree_number k.in_file.tree k.in_file.state k.in_file.of_file k.in_file.is_tree h.in_file in
       h.state_after ∙ ap₂ (λ (n : ℕ) (st : TreeState). record S { trees = set S.trees n (record st { marked = leaves.insert st.marked b }) }) number state
-          ∙ sym k.state_after
+      ∙ sym k.state_after
 
 block_one : (file : ℕ) (S : SessionSeen) (c : Cut) (r q : Option BlockRefusal) (S' T : SessionSeen) → BlockStep file S c r S' → BlockStep file S c q T
     → (r ≡ q) × (S' ≡ T)
@@ -184,7 +186,7 @@ module _ (S : SessionSeen) (index begin : ℕ) (bytes : List ℕ) where
       let is : w ≡ told w.refusals = λ j. record { file = (pair j).0; first = (pair j).1; refusals = w.refusals } in
       let k' : AreTaken S index begin bytes (told w.refusals) T = subst (λ (x : BlocksSeen). AreTaken S index begin bytes x T) is k in
       let tree : k'.in_file.tree ≡ h.in_file.tree = same_tree S v.file v.first h.in_file.tree_number h.in_file.tree h.in_file.state h.in_file.of_file
-          h.in_file.is_tree k'.in_file in
+      h.in_file.is_tree k'.in_file in
       let count : length w.refusals ≡ length v.refusals =
       one_block_run h.in_file.tree.length v.first (length bytes) (length w.refusals) (length v.refusals)
       (subst (λ (tr : TreeRoot). IsBlockRun tr.length v.first (length bytes) (length w.refusals)) tree k'.run) h.run in
@@ -221,9 +223,11 @@ module _ (S : SessionSeen) (distinct : HasDistinctRoots S) where
       absurd (stored_not_refused S distinct ask hashes.now c S' r (λ e. y (ap verdict.HashRefused e)) a b.0)
   one_step (message.Hashes ask hashes) (verdict.HashRefused r) (verdict.Stored c) S' T a b x y =
       absurd (stored_not_refused S distinct ask hashes.now c T r (λ e. x (ap verdict.HashRefused e)) b a.0)
-  one_step (message.Hashes ask hashes) (verdict.HashRefused r) (verdict.HashRefused q) S' T a b x y =
-      (ap verdict.HashRefused (one_refusal S distinct ask hashes.now r q (λ e. x (ap verdict.HashRefused e)) (λ e. y (ap verdict.HashRefused e)) a.0 b.0), a.1
-          ∙ sym b.1)
+  one_step (message.Hashes ask hashes) (verdict.HashRefused r) (verdict.HashRefused q) S' T a b x y = (
+    ap verdict.HashRefused (one_refusal S distinct ask hashes.now r q (λ e. x (ap verdict.HashRefused e)) (λ e. y (ap verdict.HashRefused e)) a.0 b.0),
+    a.1
+        ∙ sym b.1,
+  )
   one_step (message.Hashes ask hashes) (verdict.Stored c) w S' T a b x y = absurd b
   one_step (message.Hashes ask hashes) (verdict.HashRefused r) w S' T a b x y = absurd b
   one_step (message.Hashes ask hashes) v w S' T a b x y = absurd a
@@ -266,7 +270,7 @@ one_run S distinct (m ∷ ms) (v ∷ vs) [] S' T a b x y = absurd b
 one_run S distinct (m ∷ ms) (v ∷ vs) (w ∷ ws) S' T (M, step, rest) (N, step', rest') x y =
     let one = one_step S distinct m v w M N step step' x.0 y.0 in
     let later = one_run M (later-distinct S M (step-torrent S m v M step) distinct) ms vs ws S' T rest
-        (subst (λ (U : SessionSeen). Chain Step U ms ws T) (sym one.1) rest') x.1 y.1 in
+    (subst (λ (U : SessionSeen). Chain Step U ms ws T) (sym one.1) rest') x.1 y.1 in
     (ap₂ (λ u us. u ∷ us) one.0 later.0, later.1)
 
 pub conversion_tells : (S : SessionSeen) → HasDistinctRoots S → (bodies : List (List ℕ)) (fs : List Frame) (gs : List (Directed Frame)) (vs ws : List Verdict)

@@ -61,7 +61,7 @@ same-gaps : {S M : SessionSeen} {n : ℕ} {a b : TreeRoot} {s t : TreeState} →
     → HasFewerGaps M n b (look t.known)
 same-gaps {S} {M} {n} {a} {b} {s} {t} at here fewer =
     subst₂ (λ tr st. HasFewerGaps M n tr (look st.known)) (same_Some a b (sym at.tree_is ∙ here.tree_is)) (same_Some s t (sym at.state_is ∙ here.state_is))
-        fewer
+    fewer
 
 -- ---- runs of form 1
 

@@ -52,7 +52,7 @@ conversion_runs S (message.Hashes ask hashes ∷ ms) (v ∷ w ∷ vs) S' (M, out
     let open_there : IsOpenAsk M ask = ap (λ (U : SessionSeen). set.contains U.asks ask) is ∙ opened_contains S.asks ask in
     let taken : Step M (message.Hashes ask hashes) w (asking M.asks N) = in_hashes M ask hashes w N open_there step in
     let here : Step (asking S.asks M) (message.Hashes ask hashes) w (asking S.asks N) = step_asking S.asks M (message.Hashes ask hashes) w (asking M.asks N)
-        taken in (
+    taken in (
       asking S.asks N,
       subst (λ (U : SessionSeen). Step U (message.Hashes ask hashes) w (asking S.asks N)) (ap (asking S.asks) is) here,
       run_asking S.asks N ms (incoming (converted_messages ms) vs) (asking N.asks S') (conversion_runs N ms vs S' rest noted),
@@ -106,7 +106,7 @@ run_converted S (message.Hashes ask hashes ∷ ms) (v ∷ vs) T (M, step, rest) 
     let a : Answered asked (message.Hashes ask hashes) v (asking asked.asks M) =
     hashes_answered asked ask hashes v (asking asked.asks M) (opened_contains S.asks ask) (step_asking asked.asks S (message.Hashes ask hashes) v M step) in
     let next : Chain Step a.after ms vs (asking a.after.asks T) = subst (λ (U : SessionSeen). Chain Step U ms vs (asking a.after.asks T)) (sym a.same)
-        (run_asking a.after.asks M ms vs T rest) in
+    (run_asking a.after.asks M ms vs T rest) in
     let later : Converted a.after ms vs (asking a.after.asks T) = run_converted a.after ms vs (asking a.after.asks T) next in
     record {
       verdicts = verdict.Noted ∷ v ∷ later.verdicts;
@@ -130,7 +130,7 @@ run_converted S (m ∷ ms) (v ∷ vs) T (M, step, rest) =
 
 pub form_1_runs : (S : SessionSeen) (ms : List Message) (vs : List Verdict) (T : SessionSeen) → Chain Step S ms vs T
     → (ws : List Verdict) × (S' : SessionSeen) × Chain NotedStep S (converted_messages ms) ws S' × AllNoted (converted_messages ms) ws
-        × (incoming (converted_messages ms) ws ≡ vs) × (asking S.asks S' ≡ T)
+    × (incoming (converted_messages ms) ws ≡ vs) × (asking S.asks S' ≡ T)
 form_1_runs S ms vs T run = let c : Converted S ms vs T = run_converted S ms vs T run in (c.verdicts, c.after, c.run, c.noted, c.same, c.trees)
 
 -- ---- the same from the bytes
@@ -241,11 +241,11 @@ conversion_replays S bodies fs gs vs S' means converted run noted =
     same_sent gs (flat_map converted_frame fs) (same_told (conversion bodies) gs (flat_map converted_frame fs) converted (conversion_means bodies fs means)) in
     let is : directed_messages (flat_map converted_frame fs) ≡ converted_messages (messages_in fs) = frames_converted fs in
     let moved : Chain NotedStep S (converted_messages (messages_in fs)) vs S' = subst (λ ms. Chain NotedStep S ms vs S') is
-        (run_same S (directed_messages gs) (directed_messages (flat_map converted_frame fs)) vs S' same run) in
+    (run_same S (directed_messages gs) (directed_messages (flat_map converted_frame fs)) vs S' same run) in
     let all : AllNoted (converted_messages (messages_in fs)) vs =
-        subst (λ ms. AllNoted ms vs) is (noted_same (directed_messages gs) (directed_messages (flat_map converted_frame fs)) vs same noted) in
+    subst (λ ms. AllNoted ms vs) is (noted_same (directed_messages gs) (directed_messages (flat_map converted_frame fs)) vs same noted) in
     subst (λ ws. Chain Step S (messages_in fs) ws (asking S.asks S')) (ap (λ ms. incoming ms vs) (sym is)
-        ∙ sym (incoming_same (directed_messages gs) (directed_messages (flat_map converted_frame fs)) vs same))
+    ∙ sym (incoming_same (directed_messages gs) (directed_messages (flat_map converted_frame fs)) vs same))
     (conversion_runs S (messages_in fs) vs S' moved all)
 
 -- with memory for all, each request was noted

@@ -123,21 +123,26 @@ pub round-fewer : (S : SessionSeen) → HasDistinctRoots S → (ms : List Messag
     → Chain Step S ms vs S' → RoundLeavesFewer S ms vs S'
 round-fewer S distinct ms vs S' closed_trees all run n f r =
     let at_end : LastStep Step S r.before (message.Hashes r.ask r.answer) vs S' = last_step Step S r.before (message.Hashes r.ask r.answer) vs S'
-        (subst (λ xs. Chain Step S xs vs S') r.ends run) in
+    (subst (λ xs. Chain Step S xs vs S') r.ends run) in
     let (none, is) = wanted-is r.wants.tree (look r.wants.state.known) r.wants.block r.ask r.wants.wanted in
     let hashes : All HasHashes r.before = All-front r.before (message.Hashes r.ask r.answer) (subst (All HasHashes) r.ends all) in
     elim (cases_Bool (lacks_memory at_end.last)) [
       | inl lacks ↦ inr (inl (at_end.earlier, at_end.outputs_are ∙ ap (λ v. at_end.earlier ++ v ∷ []) (lacks_memory-is at_end.last lacks)))
       | inr has ↦
           elim (round S distinct r.before at_end.earlier at_end.middle S' n r.wants.tree r.wants.state r.wants.block f closed_trees hashes at_end.run
-              r.wants.is_tree r.wants.inside none r.wants.fits r.answer
+          r.wants.is_tree r.wants.inside none r.wants.fits r.answer
           (r.wants.is_answer ∙ ap (answer_of (tree_height r.wants.tree.length) (whole f)) is) at_end.last (lacks_memory-not at_end.last has)
           (subst (λ a. Step at_end.middle (message.Hashes a r.answer) at_end.last S') is at_end.step)) [
             | inl fewer ↦ inl fewer
             | inr (s, at, collision) ↦
                 let learnt : Learns at_end.middle S' n r.wants.tree s = run-learns at_end.middle (message.Hashes r.ask r.answer ∷ []) (at_end.last ∷ []) S'
-                    (S', at_end.step, refl) n r.wants.tree s at in
-                inr (inr (r.wants.tree, learnt.later, learnt.later_is, collision-keeps (whole f) (look s.known) (look learnt.later.known) learnt.keeps
-                    collision))
+                (S', at_end.step, refl) n r.wants.tree s at in
+                inr (inr (
+                  r.wants.tree,
+                  learnt.later,
+                  learnt.later_is,
+                  collision-keeps (whole f) (look s.known) (look learnt.later.known) learnt.keeps
+                      collision,
+                ))
           ]
     ]

@@ -79,7 +79,7 @@ module _ (S : SessionSeen) (closed_trees : HasClosedTrees S) where
     marks = λ k tree s at i marked. elim (set-read S.trees h.asked.number k h.after s (ap (λ U. slice_get U.trees k) (sym h.state_after) ∙ at.state_is)) [
       | inl (same, is) ↦
           let (v, e) = closed_trees.marks h.asked.number h.asked.tree h.asked.state h.asked.is_tree i (ap (λ m. leaves.contains m i) (sym h.marks_stay)
-              ∙ ap (λ st. leaves.contains st.marked i) (sym is) ∙ marked) in
+          ∙ ap (λ st. leaves.contains st.marked i) (sym is) ∙ marked) in
           (v, ap (λ st. look st.known 0 i) is ∙ stored-keeps ask hashes c S' h 0 i v e)
       | inr (other, old) ↦ closed_trees.marks k tree s (record { tree_is = before k tree (h.state_after) at.tree_is; state_is = old }) i marked
     ];
@@ -117,8 +117,11 @@ step-learns S m S' (stored ask hashes c has h) n tree s at = elim (cases_eq n h.
   }
   | inr other ↦ record {
     later = s;
-    later_is = record { tree_is = ap (λ U. slice_get (roots U) n) h.state_after ∙ at.tree_is; state_is = ap (λ U. slice_get U.trees n) h.state_after
-        ∙ set-other S.trees h.asked.number n h.after s other at.state_is };
+    later_is = record {
+      tree_is = ap (λ U. slice_get (roots U) n) h.state_after ∙ at.tree_is;
+      state_is = ap (λ U. slice_get U.trees n) h.state_after
+          ∙ set-other S.trees h.asked.number n h.after s other at.state_is;
+    };
     keeps = λ l i v k. k;
   }
 ]

@@ -90,7 +90,7 @@ pub hashes-stored : (S : SessionSeen) → HasClosedTrees S → HasDistinctRoots 
 hashes-stored S closed_trees distinct ask hashes (Ok c) S' stored refused = λ n tree s f at are. inl (c, refl)
 hashes-stored S closed_trees distinct ask hashes (Err x) S' stored refused =
     λ n tree s f at are. hashes_taken S distinct ask hashes n tree s (whole f) at are.has_root (true_accepted S closed_trees ask hashes n tree s f at are) x
-        refused.0
+    refused.0
 
 -- ---- answers of another session
 
@@ -108,7 +108,7 @@ answer_accepted : (S J : SessionSeen) → HasClosedTrees S → (ask : Ask) (hash
 answer_accepted S J closed_trees ask hashes from s at =
     subst (λ hs. IsAccepted from.asked.tree.length (look s.known) ask hs ⊎ Collision (look from.asked.state.known) (look s.known)) (sym from.hashes_are)
     (answer-stored from.asked.tree (look from.asked.state.known) (look s.known) ask (from.closed.closed from.asked.number from.asked.tree from.asked.state
-        from.asked.is_tree)
+    from.asked.is_tree)
     (closed_trees.closed from.asked.number from.asked.tree s at) from.can from.enough)
 
 -- the tree that was asked is one of this session's too
@@ -123,7 +123,7 @@ answers-stored S closed_trees distinct ask hashes (Ok c) S' stored refused = λ 
 answers-stored S closed_trees distinct ask hashes (Err x) S' stored refused = λ J from.
     let (s, at) = state_of_tree S closed_trees from.asked.number from.asked.tree (same_tree_at S J ask hashes from) in
     elim (hashes_taken S distinct ask hashes from.asked.number from.asked.tree s (look from.asked.state.known) at from.asked.has_root
-        (answer_accepted S J closed_trees ask hashes from s at) x refused.0) [
+    (answer_accepted S J closed_trees ask hashes from s at) x refused.0) [
       | inl taken ↦ inl taken
       | inr other ↦ inr (elim other [ inl memory ↦ inl memory | inr collision ↦ inr (s, at, collision) ])
     ]
@@ -205,9 +205,11 @@ block-keeps S index begin bytes (Err x) S' was refused = same-keeps S S' refused
 
 pub block-is : (S : SessionSeen) → HasClosedTrees S → (index begin : ℕ) (bytes : List ℕ) (r : Result (ℕ × ℕ) BlockRefusal) (S' : SessionSeen)
     → IfOk r (λ p. IsVerified S index begin bytes p.0 p.1 S') → IfOk r (λ p. IsBlock S index begin bytes p.0 p.1)
-block-is S closed_trees index begin bytes (Ok (file, b)) S' (at, h) =
-    (at, says-block S closed_trees file (one_cut b bytes) h.in_file.tree_number h.in_file.tree h.in_file.state h.in_file.of_file h.in_file.is_tree
-        (h.in_file.inside, h.leaf_known))
+block-is S closed_trees index begin bytes (Ok (file, b)) S' (at, h) = (
+  at,
+  says-block S closed_trees file (one_cut b bytes) h.in_file.tree_number h.in_file.tree h.in_file.state h.in_file.of_file h.in_file.is_tree
+      (h.in_file.inside, h.leaf_known),
+)
 block-is S closed_trees index begin bytes (Err x) S' was = tt
 
 -- ---- several blocks

@@ -98,19 +98,31 @@ module _ (d : Description) (ts : List KeptTree) (kept : AreKept d ts) where
   pub refused_in : (o : AskSet) → (n : ℕ) (a : KeptTree) (ask : Ask) (hashes : List Hash) (r : HashRefusal) → slice_get ts n ≡ Some a → a.root ≡ ask.root
       → TreeRefuses a.length (look a.state.known) ask hashes r → IsHashRefused (seen d o ts) ask hashes r
   refused_in o n a ask hashes UnknownRoot e root refused = absurd refused.fault
-  refused_in o n a ask hashes BadRange e root refused = (record { number = n; tree = info_of a; state = a.state; is_tree = tree_at o n a e; has_root = root },
-      refused)
-  refused_in o n a ask hashes BadCount e root refused = (record { number = n; tree = info_of a; state = a.state; is_tree = tree_at o n a e; has_root = root },
-      refused)
-  refused_in o n a ask hashes BadPad e root refused = (record { number = n; tree = info_of a; state = a.state; is_tree = tree_at o n a e; has_root = root },
-      refused)
-  refused_in o n a ask hashes Unanchored e root refused = (record { number = n; tree = info_of a; state = a.state; is_tree = tree_at o n a e; has_root = root },
-      refused)
-  refused_in o n a ask hashes Mismatch e root refused = (record { number = n; tree = info_of a; state = a.state; is_tree = tree_at o n a e; has_root = root },
-      refused)
+  refused_in o n a ask hashes BadRange e root refused = (
+    record { number = n; tree = info_of a; state = a.state; is_tree = tree_at o n a e; has_root = root },
+    refused,
+  )
+  refused_in o n a ask hashes BadCount e root refused = (
+    record { number = n; tree = info_of a; state = a.state; is_tree = tree_at o n a e; has_root = root },
+    refused,
+  )
+  refused_in o n a ask hashes BadPad e root refused = (
+    record { number = n; tree = info_of a; state = a.state; is_tree = tree_at o n a e; has_root = root },
+    refused,
+  )
+  refused_in o n a ask hashes Unanchored e root refused = (
+    record { number = n; tree = info_of a; state = a.state; is_tree = tree_at o n a e; has_root = root },
+    refused,
+  )
+  refused_in o n a ask hashes Mismatch e root refused = (
+    record { number = n; tree = info_of a; state = a.state; is_tree = tree_at o n a e; has_root = root },
+    refused,
+  )
   refused_in o n a ask hashes Unasked e root refused = absurd refused.fault
-  refused_in o n a ask hashes NoMemory e root refused = (record { number = n; tree = info_of a; state = a.state; is_tree = tree_at o n a e; has_root = root },
-      refused)
+  refused_in o n a ask hashes NoMemory e root refused = (
+    record { number = n; tree = info_of a; state = a.state; is_tree = tree_at o n a e; has_root = root },
+    refused,
+  )
 
   -- no kept tree has the root
   pub unknown_in : (o : AskSet) → (ask : Ask) (hashes : List Hash) → ((n : ℕ) (a : KeptTree) → slice_get ts n ≡ Some a → a.root ≢ ask.root)

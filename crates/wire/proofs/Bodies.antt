@@ -7,16 +7,31 @@ use Rattle.wire.specs.Meaning.{IsRightSize, IsHashesSize, IsAsk, IsHash, IsAskBo
 
 -- the right size at each id
 pub size_of_request : (size : ℕ) → IsRightSize 21 size → size ≡ 49
-size_of_request size h = elim h [ inl p ↦ absurd (omega (arith, p.0)) | inr q ↦ elim q
-    [ inl p ↦ p.1 | inr r ↦ elim r [ inl p ↦ absurd (omega (arith, p.0)) | inr p ↦ absurd (omega (arith, p.0)) ] ] ]
+size_of_request size h = elim h [
+  | inl p ↦ absurd (omega (arith, p.0))
+  | inr q ↦ elim q
+      [ inl p ↦ p.1 | inr r ↦ elim r [ inl p ↦ absurd (omega (arith, p.0)) | inr p ↦ absurd (omega (arith, p.0)) ] ]
+]
 
 pub size_of_hashes : (size : ℕ) → IsRightSize 22 size → IsHashesSize size
-size_of_hashes size h = elim h [ inl p ↦ absurd (omega (arith, p.0)) | inr q ↦ elim q [ inl p ↦ absurd (omega (arith, p.0)) | inr r ↦ elim r
-    [ inl p ↦ p.1 | inr p ↦ absurd (omega (arith, p.0)) ] ] ]
+size_of_hashes size h = elim h [
+  | inl p ↦ absurd (omega (arith, p.0))
+  | inr q ↦ elim q [
+    | inl p ↦ absurd (omega (arith, p.0))
+    | inr r ↦ elim r
+        [ inl p ↦ p.1 | inr p ↦ absurd (omega (arith, p.0)) ]
+  ]
+]
 
 pub size_of_reject : (size : ℕ) → IsRightSize 23 size → size ≡ 49
-size_of_reject size h = elim h [ inl p ↦ absurd (omega (arith, p.0)) | inr q ↦ elim q [ inl p ↦ absurd (omega (arith, p.0)) | inr r ↦ elim r
-    [ inl p ↦ absurd (omega (arith, p.0)) | inr p ↦ p.1 ] ] ]
+size_of_reject size h = elim h [
+  | inl p ↦ absurd (omega (arith, p.0))
+  | inr q ↦ elim q [
+    | inl p ↦ absurd (omega (arith, p.0))
+    | inr r ↦ elim r
+        [ inl p ↦ absurd (omega (arith, p.0)) | inr p ↦ p.1 ]
+  ]
+]
 
 -- the five fields alone
 pub IsAskBody-from_fields : (id : ℕ) (fields : List ℕ) (ask : Ask) → length fields + 1 ≡ 49 → IsAsk ask → fields ≡ ask_bytes ask ++ drop 48 fields

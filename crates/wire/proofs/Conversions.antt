@@ -58,14 +58,16 @@ request_means body ask hashes p = record {
 alone : (body : List ℕ) (f : Frame) → Means body f → (is_hashes_body body ≡ true → ⊥) → AllZip MeansDirected (converted body) ((In, f) ∷ [])
 alone body f means not = elim (cases_Bool (is_hashes_body body)) [
   | inl yes' ↦ absurd (not yes')
-  | inr no' ↦ subst (λ b. AllZip MeansDirected (cond b ((Out, request_of body) ∷ (In, body) ∷ []) ((In, body) ∷ [])) ((In, f) ∷ [])) (sym no') ((refl, means),
-      tt)
+  | inr no' ↦ subst (λ b. AllZip MeansDirected (cond b ((Out, request_of body) ∷ (In, body) ∷ []) ((In, body) ∷ [])) ((In, f) ∷ [])) (sym no') (
+    (refl, means),
+    tt,
+  )
 ]
 
 pub converted_means : (body : List ℕ) (f : Frame) → Means body f → AllZip MeansDirected (converted body) (converted_frame f)
 converted_means body (frame.Message (message.Hashes ask hashes)) p =
     subst (λ b. AllZip MeansDirected (cond b ((Out, request_of body) ∷ (In, body) ∷ []) ((In, body) ∷ []))
-        (converted_frame (frame.Message (message.Hashes ask hashes))))
+    (converted_frame (frame.Message (message.Hashes ask hashes))))
     (sym (hashes_told body _ p.bytes p.size)) ((refl, request_means body ask hashes.now p), ((refl, p), tt))
 converted_means body (frame.Message message.KeepAlive) p = alone body _ p (λ e. let first = (hashes_are body e).0 in let no : [] ≡ 22 ∷ first.0 = sym p
     ∙ first.1 in cc)

@@ -71,7 +71,7 @@ take-put_all at whole old new size within len =
     let is : at + (whole - at) ≡ whole = omega (arith, within) in
     let more = take-put_more at (whole - at) old new (omega arith) fits in
     ap (λ k. take k (put_mid at (whole - at) old new)) (sym is) ∙ ap (λ k. take (at + (whole - at)) (put_mid at (k - at) old new)) (sym size) ∙ more
-        ∙ ap (λ t. take at old ++ t) (take_all (whole - at) new (omega arith))
+    ∙ ap (λ t. take at old ++ t) (take_all (whole - at) new (omega arith))
 
 -- the front of a vector whose elements were all written
 pub take-written : {X : Type 0} (count n : ℕ) (new items : List X) → count ≤ n → count ≤ length new

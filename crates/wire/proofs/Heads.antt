@@ -49,4 +49,4 @@ pub Holds-longest : (head : Head) (items front rest : List ℕ) → length front
 Holds-longest head items [] rest four is size = absurd (omega (arith, four))
 Holds-longest head items (x ∷ front) rest four is size =
     Holds-skipped x 4294967295 head items (x ∷ []) (front ++ rest) refl is (λ kind n e. too_long x (subst (IsHead x 4294967295) e is).2)
-        (omega (arith, four, size, length-append front rest))
+    (omega (arith, four, size, length-append front rest))

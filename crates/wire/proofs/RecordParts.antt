@@ -44,14 +44,14 @@ one_from_short bytes short = λ rest e. omega (arith, short, ap length e, length
 pub one_from_length : (len : ℕ) (xs : List ℕ) → len < 2 ^ 32 → len ≢ 4294967295 → HasForm (four_bytes len ++ xs) One
 one_from_length len xs bound other = λ rest e.
     other (same_from_four_bytes len 4294967295 xs (codes "BTH2" ++ rest) bound (omega arith) (e ∙ ap (λ t. t ++ rest) longest
-        ∙ append_assoc (four_bytes 4294967295) (codes "BTH2") rest)).0
+    ∙ append_assoc (four_bytes 4294967295) (codes "BTH2") rest)).0
 
 -- the longest length, and then other bytes than those of a header
 pub one_from_half : (half xs : List ℕ) → length half ≡ 4 → half ≢ codes "BTH2" → HasForm (four_bytes 4294967295 ++ (half ++ xs)) One
 one_from_half half xs four other = λ rest e.
     let same : half ++ xs ≡ codes "BTH2" ++ rest =
     (same_from_four_bytes 4294967295 4294967295 (half ++ xs) (codes "BTH2" ++ rest) (omega arith) (omega arith) (e ∙ ap (λ t. t ++ rest) longest
-        ∙ append_assoc (four_bytes 4294967295) (codes "BTH2") rest)).1 in
+    ∙ append_assoc (four_bytes 4294967295) (codes "BTH2") rest)).1 in
     other (fronts half (codes "BTH2") xs rest four refl same)
   where
     fronts : (ws bs xs ys : List ℕ) → length ws ≡ 4 → length bs ≡ 4 → ws ++ xs ≡ bs ++ ys → ws ≡ bs
@@ -93,7 +93,7 @@ pub frame_directed : (d : Directed (List ℕ)) (len : ℕ) (a b c : SourceSeen) 
 unfolding frame
 frame_directed d len a b c bound size start rest =
     let all : GaveFaultless a c (record_frame Two d) = subst (λ n. GaveFaultless a c (direction_byte d.0 ∷ (four_bytes n ++ d.1))) (sym size)
-        (Faultless-trans a b c (direction_byte d.0 ∷ four_bytes len) d.1 start rest) in
+    (Faultless-trans a b c (direction_byte d.0 ∷ four_bytes len) d.1 start rest) in
     record { stands = omega (arith, size, bound); part = later_part Two (record_frame Two d) a c all.gave; faults = all.faults }
 
 pub ends_later : (form : Form) (a b : SourceSeen) → GaveFaultless a b [] → IsAtEnd b.left → EndsRecord (Some form) form a b
@@ -136,8 +136,11 @@ one_stops bytes fault.BadDirection partial begun growing other = absurd (other r
 two_stops : (d : Direction) (bytes : List ℕ) (why : FrameFault) → IsPartial bytes
     → (why ≡ fault.NoMemory → (len id : ℕ) × (bytes ≡ four_bytes len ++ id ∷ []) × IsRightSize id len)
     → why ≢ fault.BadDirection → StopsAt Two (direction_byte d ∷ bytes) why
-two_stops d bytes fault.Truncated partial growing other = (inr (record { direction = d; part = bytes; begins = refl; partial = partial }), λ e. let no : ⊥ =
-    cc in no)
+two_stops d bytes fault.Truncated partial growing other = (
+  inr (record { direction = d; part = bytes; begins = refl; partial = partial }),
+  λ e. let no : ⊥ =
+      cc in no,
+)
 two_stops d bytes fault.Read partial growing other = inr (record { direction = d; part = bytes; begins = refl; partial = partial })
 two_stops d bytes fault.NoMemory partial growing other =
     let g = growing refl in
@@ -238,7 +241,7 @@ pub first_frame : (a b c : SourceSeen) (len : ℕ) (body : List ℕ) → len < 2
 unfolding frame
 first_frame a b c len body bound other p q size =
     let all : GaveFaultless a c (frame body) = subst (λ n. GaveFaultless a c (four_bytes n ++ body)) (sym size)
-        (Faultless-trans a b c (four_bytes len) body p q) in
+    (Faultless-trans a b c (four_bytes len) body p q) in
     frame_first body a c (omega (arith, size, bound)) (subst (λ n. HasForm (four_bytes n ++ body) One) (sym size) (one_from_length len body bound other)) all
 
 -- behind the longest length, in the four bytes that could end a header
@@ -246,11 +249,21 @@ pub stops_in_half : (a b c : SourceSeen) (wanted : ℕ) (why : FrameFault) → w
     → StopsShort b c wanted why → StopsInRecord None a c why
 unfolding StopsInFrame-in_body
 stops_in_half a b c wanted why four device p s =
-    let body : StopsInBody b c 4294967295 why = record { bytes = s.bytes; gave = s.gave; short = omega (arith, s.short, four); growing =
-        λ t. absurd (device t) } in
+    let body : StopsInBody b c 4294967295 why = record {
+      bytes = s.bytes;
+      gave = s.gave;
+      short = omega (arith, s.short, four);
+      growing =
+          λ t. absurd (device t);
+    } in
     stops_first a c why (StopsInFrame-in_body a b c 4294967295 why (omega arith) p body)
-    (one_from_short (four_bytes 4294967295 ++ body.bytes) (omega (arith, s.short, four, length-append (four_bytes 4294967295) s.bytes,
-        length-four_bytes 4294967295)))
+    (one_from_short (four_bytes 4294967295 ++ body.bytes) (omega (
+      arith,
+      s.short,
+      four,
+      length-append (four_bytes 4294967295) s.bytes,
+      length-four_bytes 4294967295,
+    )))
 
 -- behind four other bytes
 pub stops_behind_half : (a b c d : SourceSeen) (half : List ℕ) (wanted : ℕ) (why : FrameFault) → length half ≡ 4 → half ≢ codes "BTH2" → wanted ≡ 4294967291
@@ -273,6 +286,6 @@ longest_frame a b c d half rest four other left p q r =
     let size : length (half ++ rest) ≡ 4294967295 = omega (arith, length-append half rest, four, left) in
     let all : GaveFaultless a d (frame (half ++ rest)) =
     subst (λ n. GaveFaultless a d (four_bytes n ++ (half ++ rest))) (sym size) (Faultless-trans a b d (four_bytes 4294967295) (half ++ rest) p
-        (Faultless-trans b c d half rest q r)) in
+    (Faultless-trans b c d half rest q r)) in
     frame_first (half ++ rest) a d (omega (arith, size)) (subst (λ n. HasForm (four_bytes n ++ (half ++ rest)) One) (sym size)
-        (one_from_half half rest four other)) all
+    (one_from_half half rest four other)) all

@@ -87,9 +87,9 @@ frame_shows body fits has = λ more rest e.
     let same = same_from_four_bytes (length body) 4294967295 (body ++ more) (codes "BTH2" ++ rest) fits (omega arith)
     (sym (append_assoc (four_bytes (length body)) body more) ∙ e ∙ ap (λ t. t ++ rest) longest ∙ append_assoc (four_bytes 4294967295) (codes "BTH2") rest) in
     let front : take 4 body ≡ codes "BTH2" = sym (take-append-le 4 body more (omega (arith, same.0))) ∙ ap (take 4) same.1
-        ∙ take_at (codes "BTH2") rest 4 refl in
+    ∙ take_at (codes "BTH2") rest 4 refl in
     has (drop 4 body) (ap (λ n. four_bytes n ++ body) same.0 ∙ ap (λ t. four_bytes 4294967295 ++ t) (sym (take-append-drop 4 body)
-        ∙ ap (λ t. t ++ drop 4 body) front)
+    ∙ ap (λ t. t ++ drop 4 body) front)
     ∙ sym (append_assoc (four_bytes 4294967295) (codes "BTH2") (drop 4 body)) ∙ ap (λ t. t ++ drop 4 body) (sym longest))
 
 -- ---- frames, one after the other
@@ -175,8 +175,12 @@ pub read_to : (a b c : SourceSeen) (before : Option Form) (form : Form) (ds : Li
 read_to a b c None form ds part r p cut = record {
   bytes = p.bytes;
   gave = subst (Gave a c) (ap (λ t. t ++ p.bytes) r.are.1) (Gave-trans a b c r.bytes p.bytes r.gave p.gave);
-  frames = subst (λ xs. RecordFrames p.bytes form xs part) (sym r.are.0) (record { has_form = p.reads.1; whole = p.reads.0; each = All-nil (MayStand form);
-      cut = cut });
+  frames = subst (λ xs. RecordFrames p.bytes form xs part) (sym r.are.0) (record {
+    has_form = p.reads.1;
+    whole = p.reads.0;
+    each = All-nil (MayStand form);
+    cut = cut;
+  });
 }
 read_to a b c (Some known) form ds part r p cut =
     let same : known ≡ form = sym p.reads.0 in

@@ -52,7 +52,7 @@ same_frames form (b ∷ bs) [] r s p q m n e = absurd (not_cut form b (flat_map 
 same_frames form (b ∷ bs) (c ∷ cs) r s p q m n e =
     let first = same_record_frame form b c (flat_map (record_frame form) bs ++ r) (flat_map (record_frame form) cs ++ s) p.0 q.0
     (sym (append_assoc (record_frame form b) (flat_map (record_frame form) bs) r) ∙ e ∙ append_assoc (record_frame form c) (flat_map (record_frame form) cs) s)
-        in
+    in
     let rest = same_frames form bs cs r s p.1 q.1 m n first.1 in
     (ap₂ (λ x xs. x ∷ xs) first.0 rest.0, rest.1)
 
@@ -66,7 +66,7 @@ one_reading bytes One Two fs gs r s p q = absurd (p.has_form q.has_form.0 q.has_
 one_reading bytes Two One fs gs r s p q = absurd (q.has_form p.has_form.0 p.has_form.1)
 one_reading bytes One One fs gs r s p q =
     let same = same_frames One fs gs r s (recursion_from_All (MayStand One) fs p.each) (recursion_from_All (MayStand One) gs q.each) p.cut q.cut (sym p.whole
-        ∙ q.whole) in
+    ∙ q.whole) in
     (refl, same.0, same.1)
 one_reading bytes Two Two fs gs r s p q =
     let after : flat_map (record_frame Two) fs ++ r ≡ flat_map (record_frame Two) gs ++ s = same_after Two _ _ (sym p.whole ∙ q.whole) in

@@ -14,8 +14,17 @@ pub returns-then-used-input-clause-fault : goal.returns-then-used-input-clause-f
 returns-then-used-input-clause-fault c known =
     let input = c.args.input.now in
     let used = c.in_ok-v.used in
-    inr (record { value = view c.in_ok-v.v; front = take used input; rest = drop used input; parts = sym (take-append-drop used input); place =
-        omega (arith, length-take used input); spells = c.in_ok-v.ensures.found; more = omega (arith, length-drop used input); is = refl })
+    inr (record {
+      value = view c.in_ok-v.v;
+      front = take used input;
+      rest = drop used input;
+      parts = sym (take-append-drop used input);
+      place =
+          omega (arith, length-take used input);
+      spells = c.in_ok-v.ensures.found;
+      more = omega (arith, length-drop used input);
+      is = refl;
+    })
 
 pub returns-in_err-v-clause-only : goal.returns-in_err-v-clause-only
 returns-in_err-v-clause-only c v s =
@@ -44,9 +53,18 @@ pub returns-then-used-input-clause-first : goal.returns-then-used-input-clause-f
 returns-then-used-input-clause-first c kind offset f known =
     let input = c.args.input.now in
     let used = c.in_ok-v.used in
-    let mine : Trails input Trailing used = record { value = view c.in_ok-v.v; front = take used input; rest = drop used input; parts =
-        sym (take-append-drop used input); place = omega (arith, length-take used input); spells = c.in_ok-v.ensures.found; more =
-        omega (arith, length-drop used input); is = refl } in
+    let mine : Trails input Trailing used = record {
+      value = view c.in_ok-v.v;
+      front = take used input;
+      rest = drop used input;
+      parts =
+          sym (take-append-drop used input);
+      place = omega (arith, length-take used input);
+      spells = c.in_ok-v.ensures.found;
+      more =
+          omega (arith, length-drop used input);
+      is = refl;
+    } in
     one_fault input Trailing kind used offset (inr mine) f
 
 pub returns-clause-first : goal.returns-clause-first

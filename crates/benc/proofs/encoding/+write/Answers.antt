@@ -31,7 +31,7 @@ write_list-items-preserved g t c =
     let v = c.item-item.result in
     let later = items_spelling (items_view (drop (l.item-index + 1) vs)) in
     let here : drop l.item-index vs ≡ v ∷ drop (l.item-index + 1) vs = drop_more vs l.item-index v (omega arith)
-        ∙ ap (λ y. y ∷ drop (l.item-index + 1) vs) (sym c.item-item.is) in
+    ∙ ap (λ y. y ∷ drop (l.item-index + 1) vs) (sym c.item-item.is) in
     let done = l.invariant.0 in
     let mine = spelling (view v) in (
       done ++ mine,
@@ -46,12 +46,12 @@ write_list-returns-in_err-write_value g t c =
     let v = c.item-item.result in
     let later = items_spelling (items_view (drop (l.item-index + 1) vs)) in
     let here : drop l.item-index vs ≡ v ∷ drop (l.item-index + 1) vs = drop_more vs l.item-index v (omega arith)
-        ∙ ap (λ y. y ∷ drop (l.item-index + 1) vs) (sym c.item-item.is) in
+    ∙ ap (λ y. y ∷ drop (l.item-index + 1) vs) (sym c.item-item.is) in
     let done = l.invariant.0 in
     let mine = spelling (view v) in
     let inner = l.invariant.1 ∙ ap (λ t. done ++ t) (next_item vs l.item-index v here) in
     let all = ap (λ ys. 108 ∷ (items_spelling (items_view ys) ++ 101 ∷ [])) (sym c.deref-item-items.ensures.value)
-        ∙ cut 108 (items_spelling (items_view vs)) done mine later inner in
+    ∙ cut 108 (items_spelling (items_view vs)) done mine later inner in
     let p = err_from_is_err_and c.from_residual-in_err-write_value.result c.from_residual-in_err-write_value.ensures.1 in
     Wrote-then _ _ _ _ (108 ∷ done) (mine ++ (later ++ 101 ∷ [])) _ all l.invariant.2
     (Wrote-part _ p.0 _ _ mine (later ++ 101 ∷ []) _ refl p.1 c.in_err-write_value.ensures)
@@ -62,7 +62,7 @@ write_list-returns g t c =
     let vs = c.deref-item-items.result.now in
     let done = l.invariant.0 in
     let all = ap (λ ys. 108 ∷ (items_spelling (items_view ys) ++ 101 ∷ [])) (sym c.deref-item-items.ensures.value)
-        ∙ ap (λ t. 108 ∷ (t ++ 101 ∷ [])) (all_items vs l.item-index done (omega arith) l.invariant.1) in
+    ∙ ap (λ t. 108 ∷ (t ++ 101 ∷ [])) (all_items vs l.item-index done (omega arith) l.invariant.1) in
     Wrote-then _ _ _ _ (108 ∷ done) (101 ∷ []) _ all l.invariant.2 c.write_all-2.ensures
 
 pub write_dict-pairs-preserved : goal.write_dict-pairs-preserved
@@ -72,7 +72,7 @@ write_dict-pairs-preserved g t c =
     let x = c.pair-item.result in
     let later = pairs_spelling (pairs_view (drop (l.pair-index + 1) ps)) in
     let here : drop l.pair-index ps ≡ x ∷ drop (l.pair-index + 1) ps = drop_more ps l.pair-index x (omega arith)
-        ∙ ap (λ y. y ∷ drop (l.pair-index + 1) ps) (sym c.pair-item.is) in
+    ∙ ap (λ y. y ∷ drop (l.pair-index + 1) ps) (sym c.pair-item.is) in
     let done = l.invariant.0 in
     let name = string x.key.now in
     let mine = spelling (view x.value) in (
@@ -89,13 +89,13 @@ write_dict-returns-in_err-write_string g t c =
     let x = c.pair-item.result in
     let later = pairs_spelling (pairs_view (drop (l.pair-index + 1) ps)) in
     let here : drop l.pair-index ps ≡ x ∷ drop (l.pair-index + 1) ps = drop_more ps l.pair-index x (omega arith)
-        ∙ ap (λ y. y ∷ drop (l.pair-index + 1) ps) (sym c.pair-item.is) in
+    ∙ ap (λ y. y ∷ drop (l.pair-index + 1) ps) (sym c.pair-item.is) in
     let done = l.invariant.0 in
     let name = string x.key.now in
     let mine = spelling (view x.value) in
     let inner = l.invariant.1 ∙ ap (λ t. done ++ t) (next_pair ps l.pair-index x here) in
     let all = ap (λ ys. 100 ∷ (pairs_spelling (pairs_view ys) ++ 101 ∷ [])) (sym c.deref-pair-items.ensures.value)
-        ∙ cut 100 (pairs_spelling (pairs_view ps)) done name (mine ++ later) inner in
+    ∙ cut 100 (pairs_spelling (pairs_view ps)) done name (mine ++ later) inner in
     let p = err_from_is_err_and c.from_residual-in_err-write_string.result c.from_residual-in_err-write_string.ensures.1 in
     Wrote-then _ _ _ _ (100 ∷ done) (name ++ ((mine ++ later) ++ 101 ∷ [])) _ all l.invariant.2
     (Wrote-part _ p.0 _ _ name ((mine ++ later) ++ 101 ∷ []) _ refl p.1 c.in_err-write_string.ensures)
@@ -107,13 +107,13 @@ write_dict-returns-in_err-write_value g t c =
     let x = c.pair-item.result in
     let later = pairs_spelling (pairs_view (drop (l.pair-index + 1) ps)) in
     let here : drop l.pair-index ps ≡ x ∷ drop (l.pair-index + 1) ps = drop_more ps l.pair-index x (omega arith)
-        ∙ ap (λ y. y ∷ drop (l.pair-index + 1) ps) (sym c.pair-item.is) in
+    ∙ ap (λ y. y ∷ drop (l.pair-index + 1) ps) (sym c.pair-item.is) in
     let done = l.invariant.0 in
     let name = string x.key.now in
     let mine = spelling (view x.value) in
     let inner = l.invariant.1 ∙ ap (λ t. done ++ t) (next_pair ps l.pair-index x here) in
     let all = ap (λ ys. 100 ∷ (pairs_spelling (pairs_view ys) ++ 101 ∷ [])) (sym c.deref-pair-items.ensures.value)
-        ∙ cut 100 (pairs_spelling (pairs_view ps)) done name (mine ++ later) inner in
+    ∙ cut 100 (pairs_spelling (pairs_view ps)) done name (mine ++ later) inner in
     let p = err_from_is_err_and c.from_residual-in_err-write_value.result c.from_residual-in_err-write_value.ensures.1 in
     Wrote-then _ _ _ _ (100 ∷ done) (name ++ ((mine ++ later) ++ 101 ∷ [])) _ all l.invariant.2
     (Wrote-then _ _ _ _ name ((mine ++ later) ++ 101 ∷ []) _ refl c.in_ok-write_string.ensures
@@ -125,5 +125,5 @@ write_dict-returns g t c =
     let ps = c.deref-pair-items.result.now in
     let done = l.invariant.0 in
     let all = ap (λ ys. 100 ∷ (pairs_spelling (pairs_view ys) ++ 101 ∷ [])) (sym c.deref-pair-items.ensures.value)
-        ∙ ap (λ t. 100 ∷ (t ++ 101 ∷ [])) (all_pairs ps l.pair-index done (omega arith) l.invariant.1) in
+    ∙ ap (λ t. 100 ∷ (t ++ 101 ∷ [])) (all_pairs ps l.pair-index done (omega arith) l.invariant.1) in
     Wrote-then _ _ _ _ (100 ∷ done) (101 ∷ []) _ all l.invariant.2 c.write_all-2.ensures

@@ -53,7 +53,7 @@ value-returns-in-Ok-string-clause-read t c =
     let bytes = c.args.bytes.now in
     let rest = c.in-Some.rest.now in
     value_text c.args.room bytes rest c.in-Some.first (omega arith) (omega arith) c.in-Some.ensures
-        ∙ ap (λ r. begun_at bytes r >>= λ x. Ok (text x.0, x.1)) c.in-Ok-string.ensures.read
+    ∙ ap (λ r. begun_at bytes r >>= λ x. Ok (text x.0, x.1)) c.in-Ok-string.ensures.read
     ∙ ap (λ v. Ok (v, c.in-Ok-string.after.now)) (sym (view-Bytes c.in-Ok-string.text))
 
 pub value-returns-in-Err-string-clause-read : goal.value-returns-in-Err-string-clause-read
@@ -61,13 +61,15 @@ value-returns-in-Err-string-clause-read t c =
     let bytes = c.args.bytes.now in
     let rest = c.in-Some.rest.now in
     value_text c.args.room bytes rest c.in-Some.first (omega arith) (omega arith) c.in-Some.ensures
-        ∙ ap (λ r. begun_at bytes r >>= λ x. Ok (text x.0, x.1)) c.in-Err-string.ensures.read
+    ∙ ap (λ r. begun_at bytes r >>= λ x. Ok (text x.0, x.1)) c.in-Err-string.ensures.read
 
 pub value-returns-in_default-first-clause-read : goal.value-returns-in_default-first-clause-read
 value-returns-in_default-first-clause-read t c =
     value_other c.args.room c.args.bytes.now c.in-Some.rest.now c.in-Some.first (λ e. omega arith) (λ e. omega arith) (λ e. omega arith)
-    (λ low high. elim c.in_default-first.branch [ value-in_default-first-via-then-first-lt48 w ↦ omega arith |
-        value-in_default-first-via-else-first-lt48+else-first-lt58 w ↦ omega arith ]) c.in-Some.ensures
+    (λ low high. elim c.in_default-first.branch [
+      | value-in_default-first-via-then-first-lt48 w ↦ omega arith
+      | value-in_default-first-via-else-first-lt48+else-first-lt58 w ↦ omega arith
+    ]) c.in-Some.ensures
 
 pub value-returns-in_ok-found-in-108-clause-read : goal.value-returns-in_ok-found-in-108-clause-read
 value-returns-in_ok-found-in-108-clause-read t c =
@@ -119,7 +121,7 @@ items-returns-in_err-item-clause-read t c =
     rw (p.1, p.2) (fails_on e (value_at room l.rest.now) (items_at (value_at room) (length c.args.bytes.now) c.args.bytes.now)
     (λ f h. sym l.invariant.read.3 ∙ ap (λ b. with_items l.found.items (items_at (value_at room) l.invariant.read.0 b)) c.in-Some.ensures
     ∙ items_fail (value_at room) l.invariant.read.0 c.in-Some.first c.in-Some.after.now l.found.items f
-        (omega (arith, l.invariant.read.1, ap length c.in-Some.ensures)) c.if-first-eq101.false (rw (← c.in-Some.ensures) h))
+    (omega (arith, l.invariant.read.1, ap length c.in-Some.ensures)) c.if-first-eq101.false (rw (← c.in-Some.ensures) h))
     c.in_err-item.ensures.read)
 
 pub pairs-returns-in_default-clause-read : goal.pairs-returns-in_default-clause-read
@@ -134,7 +136,7 @@ pairs-returns-then-first-eq101-clause-read t c =
     let rest = c.in-Some.after.now in
     sym l.invariant.read.3 ∙ ap (λ b. with_pairs l.found.items (pairs_at p l.invariant.read.0 (option_copied l.before) b)) c.in-Some.ensures
     ∙ pairs_end p l.invariant.read.0 c.in-Some.first (option_copied l.before) rest l.found.items
-        (omega (arith, l.invariant.read.1, ap length c.in-Some.ensures)) (omega arith)
+    (omega (arith, l.invariant.read.1, ap length c.in-Some.ensures)) (omega arith)
 
 pub pairs-returns-in-Err-clause-read : goal.pairs-returns-in-Err-clause-read
 pairs-returns-in-Err-clause-read t c =
@@ -143,9 +145,9 @@ pairs-returns-in-Err-clause-read t c =
     let rest = c.in-Some.after.now in
     sym l.invariant.read.3 ∙ ap (λ b. with_pairs l.found.items (pairs_at p l.invariant.read.0 (option_copied l.before) b)) c.in-Some.ensures
     ∙ pairs_no_key p l.invariant.read.0 c.in-Some.first (option_copied l.before) rest l.found.items c.in-Err.kind
-        (omega (arith, l.invariant.read.1, ap length c.in-Some.ensures)) c.if-first-eq101.false
+    (omega (arith, l.invariant.read.1, ap length c.in-Some.ensures)) c.if-first-eq101.false
     (subst (λ b. key_at (option_copied l.before) b ≡ Err c.in-Err.kind) c.in-Some.ensures c.in-Err.ensures.read)
-        ∙ ap (λ b. Err (c.in-Err.kind, b)) (sym c.in-Some.ensures)
+    ∙ ap (λ b. Err (c.in-Err.kind, b)) (sym c.in-Some.ensures)
 
 pub pairs-returns-in_err-item-clause-read : goal.pairs-returns-in_err-item-clause-read
 pairs-returns-in_err-item-clause-read t c =
@@ -157,9 +159,9 @@ pairs-returns-in_err-item-clause-read t c =
     let key = subst (λ b. key_at (option_copied l.before) b ≡ Ok (k.0.now, k.1.now)) c.in-Some.ensures c.in-Ok.ensures.read in
     rw (p.1, p.2) (fails_on e (value_at room k.1.now) (pairs_at (value_at room) (length c.args.bytes.now) None c.args.bytes.now)
     (λ f h. sym l.invariant.read.3 ∙ ap (λ b. with_pairs l.found.items (pairs_at (value_at room) l.invariant.read.0 (option_copied l.before) b))
-        c.in-Some.ensures
+    c.in-Some.ensures
     ∙ pairs_fail (value_at room) l.invariant.read.0 c.in-Some.first (option_copied l.before) c.in-Some.after.now k.1.now k.0.now l.found.items f
-        (omega (arith, l.invariant.read.1, ap length c.in-Some.ensures)) c.if-first-eq101.false key h)
+    (omega (arith, l.invariant.read.1, ap length c.in-Some.ensures)) c.if-first-eq101.false key h)
     c.in_err-item.ensures.read)
 
 pub pairs-pairs-preserved : goal.pairs-pairs-preserved
@@ -175,7 +177,7 @@ pairs-pairs-preserved t c =
     let x : Pair = record { key = k.0; value = v } in
     let pushed : c.push.new.found.items ≡ l.found.items ++ x ∷ [] = search rules in
     let more = pairs_more p n c.in-Some.first (option_copied l.before) rest k.1.now c.in_ok-item.after.now k.0.now (view v) l.found.items x (view-Pair k.0 v)
-        (omega (arith, l.invariant.read.1)) c.if-first-eq101.false key c.in_ok-item.ensures.read in
+    (omega (arith, l.invariant.read.1)) c.if-first-eq101.false key c.in_ok-item.ensures.read in
     let behind = k.1.now in
     let after = c.in_ok-item.after.now in
     let given = take (length behind - length after) behind in
@@ -197,7 +199,7 @@ pairs-pairs-preserved t c =
             ∙ sym (append_assoc done.0 mine after),
         subst (λ ps. SpelledPairs c.args.room None (pairs_view ps) (done.0 ++ mine)) (sym pushed)
             (pairs_grow c.args.room None l.found.items x k.0.now (view v) done.0 took.0 (view-Pair k.0 v) done.2 name.0
-                (subst (λ b. IsAbove k.0.now b) done.3 name.1) took.2),
+            (subst (λ b. IsAbove k.0.now b) done.3 name.1) took.2),
         sym (ap (λ ps. last_key None (pairs_view ps)) pushed ∙ last_grows None l.found.items x ∙ ap (λ (y : Seen). Some y.0) (view-Pair k.0 v)),
       );
       span = span_push (option_copied c.args.asked) l.span c.if_asked.result c.or-span.result l.found.items c.push.new.found.items x k.0.now (view v) given
@@ -222,7 +224,7 @@ items-items-preserved t c =
     let size = ap length c.in-Some.ensures in
     let pushed : c.push.new.found.items ≡ l.found.items ++ v ∷ [] = search rules in
     let more = items_more p n c.in-Some.first rest c.in_ok-item.after.now l.found.items v (omega (arith, l.invariant.read.1)) c.if-first-eq101.false
-        (rw (← c.in-Some.ensures) c.in_ok-item.ensures.read) in
+    (rw (← c.in-Some.ensures) c.in_ok-item.ensures.read) in
     let took = value_takes c.args.room l.rest.now (view v, c.in_ok-item.after.now) c.in_ok-item.ensures.read in
     let done = l.invariant.done in
     record {
@@ -262,8 +264,17 @@ pairs-returns-in_err-item-clause-memory t c =
     let name = key_takes (option_copied l.before) l.rest.now k.0.now k.1.now c.in-Ok.ensures.read in
     let p = err_from_is_err_and c.from_residual.result c.from_residual.ensures.1 in
     rw (p.1, p.2) (memory_on e (Reaches room k.1.now) (GrowsForPair room c.args.start.now bytes)
-    (λ there r. inr (pairs_view l.found.items, k.0.now, done.0, k.1.now, done.1 ∙ ap (λ x. done.0 ++ x) name.2, done.2, name.0,
-        subst (λ b. IsAbove k.0.now b) done.3 name.1, r)) c.in_err-item.ensures.memory)
+    (λ there r. inr (
+      pairs_view l.found.items,
+      k.0.now,
+      done.0,
+      k.1.now,
+      done.1 ∙ ap (λ x. done.0 ++ x) name.2,
+      done.2,
+      name.0,
+      subst (λ b. IsAbove k.0.now b) done.3 name.1,
+      r,
+    )) c.in_err-item.ensures.memory)
 
 pub value-returns-in_err-found-in-108-clause-memory : goal.value-returns-in_err-found-in-108-clause-memory
 value-returns-in_err-found-in-108-clause-memory t c =
@@ -310,5 +321,8 @@ pairs-returns-then-is_err-clause-memory t c =
     let took = value_takes room behind (v, after) c.in_ok-item.ensures.read in
     let name = key_takes (option_copied l.before) l.rest.now k.0.now behind c.in-Ok.ensures.read in
     let parts = done.1 ∙ ap (λ x. done.0 ++ x) (name.2 ∙ ap (λ x. string k.0.now ++ x) took.1) in
-    inl (refl, has_pair room l.found.items k.0.now v c.args.bytes.now done.0 took.0 after parts done.2 name.0 (subst (λ b. IsAbove k.0.now b) done.3 name.1)
-        took.2)
+    inl (
+      refl,
+      has_pair room l.found.items k.0.now v c.args.bytes.now done.0 took.0 after parts done.2 name.0 (subst (λ b. IsAbove k.0.now b) done.3 name.1)
+          took.2,
+    )

@@ -24,7 +24,7 @@ returns-in_err-held g c = λ first start gave sent.
     let p = err_from_is_err_and c.from_residual.result c.from_residual.ensures.1 in
     let s = c.parts.invariant.converts first start gave sent in
     rw (p.1, p.2) (breaks_in_text first (S.seen c.parts.source) start (W.seen c.parts.out) (W.seen c.convert_held.new.out) c.parts.left
-        (take c.args.held c.args.buffer.now) (take c.parts.held c.parts.buffer) s
+    (take c.args.held c.args.buffer.now) (take c.parts.held c.parts.buffer) s
     (c.in_err-held.ensures.converts start s.fed s.text s.reached s.sent))
 
 pub returns-in_err-count : goal.returns-in_err-count
@@ -37,10 +37,10 @@ returns-in_err-count g c = λ first start gave sent.
     let front = take c.args.held c.args.buffer.now in
     let rest = take c.in_ok-held.held c.convert_held.new.buffer in
     let t = so_far_converted first (S.seen c.parts.source) start (W.seen c.parts.out) (W.seen c.convert_held.new.out) c.parts.left c.convert_held.new.left front
-        (take c.parts.held c.parts.buffer) rest d.0 d.1 s d.2 d.3 d.4 in
+    (take c.parts.held c.parts.buffer) rest d.0 d.1 s d.2 d.3 d.4 in
     let e = c.in_err-count.ensures in
     rw (p.1, p.2) (read_fails first (S.seen c.parts.source) (S.seen c.read.new.self) start (W.seen c.convert_held.new.out) c.convert_held.new.left front rest t
-        c.in_ok-held.ensures.waits.0 e.bytes e.falls e.counts)
+    c.in_ok-held.ensures.waits.0 e.bytes e.falls e.counts)
 
 pub returns-then-held-eq0 : goal.returns-then-held-eq0
 returns-then-held-eq0 g c = λ first start gave sent.
@@ -56,14 +56,20 @@ returns-then-held-eq0 g c = λ first start gave sent.
     let e = c.in_ok-count.ensures in
     let few : held < 53 = c.in_ok-held.ensures.waits.1 in
     let size : length buffer ≡ 65536 = omega (arith, c.convert_held.auto.buffer, c.parts.auto.buffer, c.requires.room) in
-    let room : 0 < length c.read.new.buf = omega (arith, few, size, c.read.auto.buf, length-take (length buffer - held) (drop held buffer),
-        length-drop held buffer) in
+    let room : 0 < length c.read.new.buf = omega (
+      arith,
+      few,
+      size,
+      c.read.auto.buf,
+      length-take (length buffer - held) (drop held buffer),
+      length-drop held buffer,
+    ) in
     let t = so_far_converted first (S.seen c.parts.source) start (W.seen c.parts.out) (W.seen c.convert_held.new.out) c.parts.left left front
-        (take c.parts.held c.parts.buffer) rest d.0 d.1 s d.2 d.3 d.4 in
+    (take c.parts.held c.parts.buffer) rest d.0 d.1 s d.2 d.3 d.4 in
     let nothing = read_none (S.seen c.parts.source) (S.seen c.read.new.self) c.in_ok-count.count c.read.new.buf c.in-0.is e.bytes.0 e.falls e.counts in
     let u = ended_here first (S.seen c.parts.source) (S.seen c.read.new.self) start (W.seen c.convert_held.new.out) left front rest t nothing in
     ends_front _ first (S.seen c.read.new.self) start (W.seen c.convert_held.new.out) left front rest u c.in_ok-held.ensures.waits.0 (e.bytes.1 c.in-0.is room)
-        (tells_left left held buffer c.if-held-eq0.true)
+    (tells_left left held buffer c.if-held-eq0.true)
 
 pub returns-else-held-eq0 : goal.returns-else-held-eq0
 returns-else-held-eq0 g c = λ first start gave sent.
@@ -79,14 +85,20 @@ returns-else-held-eq0 g c = λ first start gave sent.
     let e = c.in_ok-count.ensures in
     let few : held < 53 = c.in_ok-held.ensures.waits.1 in
     let size : length buffer ≡ 65536 = omega (arith, c.convert_held.auto.buffer, c.parts.auto.buffer, c.requires.room) in
-    let room : 0 < length c.read.new.buf = omega (arith, few, size, c.read.auto.buf, length-take (length buffer - held) (drop held buffer),
-        length-drop held buffer) in
+    let room : 0 < length c.read.new.buf = omega (
+      arith,
+      few,
+      size,
+      c.read.auto.buf,
+      length-take (length buffer - held) (drop held buffer),
+      length-drop held buffer,
+    ) in
     let t = so_far_converted first (S.seen c.parts.source) start (W.seen c.parts.out) (W.seen c.convert_held.new.out) c.parts.left left front
-        (take c.parts.held c.parts.buffer) rest d.0 d.1 s d.2 d.3 d.4 in
+    (take c.parts.held c.parts.buffer) rest d.0 d.1 s d.2 d.3 d.4 in
     let nothing = read_none (S.seen c.parts.source) (S.seen c.read.new.self) c.in_ok-count.count c.read.new.buf c.in-0.is e.bytes.0 e.falls e.counts in
     let u = ended_here first (S.seen c.parts.source) (S.seen c.read.new.self) start (W.seen c.convert_held.new.out) left front rest t nothing in
     ends_front _ first (S.seen c.read.new.self) start (W.seen c.convert_held.new.out) left front rest u c.in_ok-held.ensures.waits.0 (e.bytes.1 c.in-0.is room)
-        (tells_held left held buffer (omega (arith, few, size)) c.if-held-eq0.false)
+    (tells_held left held buffer (omega (arith, few, size)) c.if-held-eq0.false)
 
 pub parts-preserved : goal.parts-preserved
 parts-preserved g c =
@@ -106,10 +118,10 @@ parts-preserved g c =
           let d = c.in_ok-held.ensures.converts start s.fed s.text s.reached s.sent in
           let front = take c.args.held c.args.buffer.now in
           let t = so_far_converted first (S.seen c.parts.source) start (W.seen c.parts.out) (W.seen c.convert_held.new.out) c.parts.left c.convert_held.new.left
-              front (take c.parts.held c.parts.buffer) (take held buffer) d.0 d.1 s d.2 d.3 d.4 in
+          front (take c.parts.held c.parts.buffer) (take held buffer) d.0 d.1 s d.2 d.3 d.4 in
           subst (SoFar first (S.seen c.read.new.self) start (W.seen c.convert_held.new.out) c.convert_held.new.left front)
-              (sym (take-put_more held count buffer c.read.new.buf within fits))
+          (sym (take-put_more held count buffer c.read.new.buf within fits))
           (so_far_read first (S.seen c.parts.source) (S.seen c.read.new.self) start (W.seen c.convert_held.new.out) c.convert_held.new.left front
-              (take held buffer) (take count c.read.new.buf) t
+          (take held buffer) (take count c.read.new.buf) t
           (Faultless-take (S.seen c.parts.source) (S.seen c.read.new.self) count c.read.new.buf fits e.bytes.0 e.falls e.counts));
     }

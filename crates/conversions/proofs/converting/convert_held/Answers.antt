@@ -15,8 +15,14 @@ returns-in_err-send-clause-converts g c = λ start fed text r s.
     let S = g.W.Sink in
     let p = err_from_is_err_and c.from_residual-in_err-send.result c.from_residual-in_err-send.ensures.1 in
     let a = c.in_ok-done.ensures.converts start fed text r (sent_held start (S.seen c.args.out.now) c.args.outgoing.now.items text c.requires.empty s) in
-    rw p.1 (record { count = c.in_ok-done.done; left = c.convert_part.new.left; text = a.text; reached = a.reached; broke =
-        c.in_err-send.ensures.text start a.text a.held })
+    rw p.1 (record {
+      count = c.in_ok-done.done;
+      left = c.convert_part.new.left;
+      text = a.text;
+      reached = a.reached;
+      broke =
+          c.in_err-send.ensures.text start a.text a.held;
+    })
 
 pub returns-clause-converts : goal.returns-clause-converts
 returns-clause-converts g c = λ start fed text r s.

@@ -14,7 +14,7 @@ returns-then-not-whole-clause-stops g c =
     let e = c.in_ok-whole.ensures (S.seen c.args.source.now) (W.seen c.args.out.now) t.0 t.1 has c.in_ok-write_header.ensures in
     cut_short (S.seen c.args.source.now) (S.seen c.convert_rest.new.source) (W.seen c.args.out.now) (W.seen c.convert_rest.new.out)
     (subst (λ b. EndsForm1 b (S.seen c.args.source.now) (S.seen c.convert_rest.new.source) (W.seen c.args.out.now) (W.seen c.convert_rest.new.out))
-        c.if-not-whole.true e)
+    c.if-not-whole.true e)
 
 pub returns-in_err-flush-clause-stops : goal.returns-in_err-flush-clause-stops
 returns-in_err-flush-clause-stops g c =
@@ -25,6 +25,6 @@ returns-in_err-flush-clause-stops g c =
     let has = one_from_test (take c.in_ok-held.held c.read_front.new.buffer) (sym c.starts_with.ensures.value ∙ c.if-starts_with.false) in
     let e = c.in_ok-whole.ensures (S.seen c.args.source.now) (W.seen c.args.out.now) t.0 t.1 has c.in_ok-write_header.ensures in
     rw (p.1, p.2) (fails_to_flush (S.seen c.args.source.now) (S.seen c.convert_rest.new.source) (W.seen c.args.out.now) (W.seen c.convert_rest.new.out)
-        (W.seen c.flush.new.out)
+    (W.seen c.flush.new.out)
     (subst (λ b. EndsForm1 b (S.seen c.args.source.now) (S.seen c.convert_rest.new.source) (W.seen c.args.out.now) (W.seen c.convert_rest.new.out))
-        c.if-not-whole.false e) c.in_err-flush.ensures)
+    c.if-not-whole.false e) c.in_err-flush.ensures)

@@ -14,7 +14,7 @@ returns-in_err-count-clause-tells g c =
     let e = c.in_err-count.ensures in
     let front = prefix_from (take c.reads.held c.reads.buffer) (sym c.starts_with.ensures.value ∙ c.if-starts_with.true) in
     rw p.1 (fails_in_front (S.seen c.args.source.now) (S.seen c.reads.source) (S.seen c.read.new.self) (take c.reads.held c.reads.buffer) c.reads.invariant.gave
-        e.bytes e.falls e.counts front)
+    e.bytes e.falls e.counts front)
 
 pub returns-in-0-clause-tells : goal.returns-in-0-clause-tells
 returns-in-0-clause-tells g c =
@@ -29,8 +29,16 @@ returns-in-0-clause-tells g c =
           (Faultless-trans (S.seen c.args.source.now) (S.seen c.reads.source) (S.seen c.read.new.self) held [] c.reads.invariant.gave
           (read_none (S.seen c.reads.source) (S.seen c.read.new.self) c.in_ok-count.count c.read.new.buf c.in-0.is e.bytes.0 e.falls e.counts)),
       (
-        e.bytes.1 c.in-0.is (omega (arith, c.requires, within, c.reads-test.true, c.read.auto.buf, c.reads.auto.buffer,
-            length-take (length c.reads.buffer - c.reads.held) (drop c.reads.held c.reads.buffer), length-drop c.reads.held c.reads.buffer)),
+        e.bytes.1 c.in-0.is (omega (
+          arith,
+          c.requires,
+          within,
+          c.reads-test.true,
+          c.read.auto.buf,
+          c.reads.auto.buffer,
+          length-take (length c.reads.buffer - c.reads.held) (drop c.reads.held c.reads.buffer),
+          length-drop c.reads.held c.reads.buffer,
+        )),
         omega (arith, size, c.reads-test.true),
         front,
       ),

@@ -23,4 +23,4 @@ returns-then-head-gt4 c = λ len front fits is.
 pub returns-else-head-gt4 : goal.returns-else-head-gt4
 returns-else-head-gt4 c = λ len front fits is.
     subst (λ b. MatchBool b (BeginsHashes len front) (¬ BeginsHashes len front)) (sym (le-ltb 4 (length c.args.head.now) c.if-head-gt4.false))
-        (begins_none len c.args.head.now front is c.if-head-gt4.false)
+    (begins_none len c.args.head.now front is c.if-head-gt4.false)

@@ -14,8 +14,12 @@ returns-in_err-put g c = λ start text h.
     let p = err_from_is_err_and c.from_residual.result c.from_residual.ensures.1 in
     let head = c.args.head.now in
     let begins = c.if-begins_hashes.ensures c.requires.len c.requires.front c.requires.fits c.requires.head_is in
-    rw p.1 (request_head ++ drop 5 head, goes_request head c.requires begins, broke_joined start (S.seen c.put.new.out) text request_head (drop 5 head)
-        (Broke-front start (S.seen c.put.new.out) (text ++ request_head) (drop 5 head) (c.in_err-put.ensures start text h)))
+    rw p.1 (
+      request_head ++ drop 5 head,
+      goes_request head c.requires begins,
+      broke_joined start (S.seen c.put.new.out) text request_head (drop 5 head)
+          (Broke-front start (S.seen c.put.new.out) (text ++ request_head) (drop 5 head) (c.in_err-put.ensures start text h)),
+    )
 
 pub returns-in_err-put-2 : goal.returns-in_err-put-2
 returns-in_err-put-2 g c = λ start text h.
@@ -29,7 +33,7 @@ returns-in_err-put-2 g c = λ start text h.
       goes_request head c.requires begins,
       subst (λ (xs : List ℕ). Broke start (S.seen out) (text ++ (request_head ++ xs))) (take_rest head 5)
           (broke_joined start (S.seen out) text request_head (take (length head - 5) (drop 5 head)) (c.in_err-put-2.ensures start (text ++ request_head)
-              (c.in_ok-put.ensures start text h))),
+          (c.in_ok-put.ensures start text h))),
     )
 
 pub returns-in_ok-put-2 : goal.returns-in_ok-put-2
@@ -42,7 +46,7 @@ returns-in_ok-put-2 g c = λ start text h.
       subst (λ (xs : List ℕ). Held start (S.seen c.put-then-begins_hashes.new.out) c.put-then-begins_hashes.new.outgoing.items (text ++ (request_head ++ xs)))
           (take_rest head 5)
           (subst (Held start (S.seen c.put-then-begins_hashes.new.out) c.put-then-begins_hashes.new.outgoing.items)
-              (append_assoc text request_head (take (length head - 5) (drop 5 head)))
+          (append_assoc text request_head (take (length head - 5) (drop 5 head)))
           (c.in_ok-put-2.ensures start (text ++ request_head) (c.in_ok-put.ensures start text h))),
     )
 

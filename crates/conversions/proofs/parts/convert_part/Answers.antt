@@ -35,9 +35,9 @@ returns-in_err-left-clause-converts g c = λ start fed text r h.
     let a = c.frames.invariant.converts start fed text r h in
     let b = c.in_ok-done.ensures.converts start (fed ++ take done part) a.text a.reached a.held in
     let zero' : c.pass_on.new.left ≡ 0 = none_left c.pass_on.new.left done count size part c.in_ok-done.ensures.counts.2 c.in-Some.ensures.0 c.in-Some.ensures.1
-        in
+    in
     let reached : Reached 0 (fed ++ take (done + count) part) b.text = subst (λ t. Reached 0 t b.text) (fed_later fed part done count)
-        (subst (λ n. Reached n ((fed ++ take done part) ++ take count (take (length part - done) (drop done part))) b.text) zero' b.reached) in
+    (subst (λ n. Reached n ((fed ++ take done part) ++ take count (take (length part - done) (drop done part))) b.text) zero' b.reached) in
     let e = c.in_err-left.ensures start b.text b.held in
     rw p.1 (record {
       count = done + count + size;
@@ -61,15 +61,15 @@ frames-preserved g c =
           let a = c.frames.invariant.converts start fed text r h in
           let b = c.in_ok-done.ensures.converts start (fed ++ take done part) a.text a.reached a.held in
           let zero' : c.pass_on.new.left ≡ 0 = none_left c.pass_on.new.left done count size part c.in_ok-done.ensures.counts.2 c.in-Some.ensures.0
-              c.in-Some.ensures.1 in
+          c.in-Some.ensures.1 in
           let reached : Reached 0 (fed ++ take (done + count) part) b.text = subst (λ t. Reached 0 t b.text) (fed_later fed part done count)
-              (subst (λ n. Reached n ((fed ++ take done part) ++ take count (take (length part - done) (drop done part))) b.text) zero' b.reached) in
+          (subst (λ n. Reached n ((fed ++ take done part) ++ take count (take (length part - done) (drop done part))) b.text) zero' b.reached) in
           let e = c.in_ok-left.ensures start b.text b.held in
           record {
             text = b.text ++ e.0;
             reached = subst (λ t. Reached c.in_ok-left.field-0 t (b.text ++ e.0)) (fed_head fed part (done + count) size)
                 (reach_head c.in_ok-left.field-0 (fed ++ take (done + count) part) b.text
-                    (take (done + count + size - (done + count)) (drop (done + count) part)) e.0 reached e.1);
+                (take (done + count + size - (done + count)) (drop (done + count) part)) e.0 reached e.1);
             held = e.2;
           };
     }

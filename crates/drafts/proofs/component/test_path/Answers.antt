@@ -48,6 +48,10 @@ returns c = record {
       false≢true (sym (sym c.is_empty.ensures ∙ c.if-is_empty.false) ∙ e));
   short = omega (arith, length-map c.args.path.now (λ (s : Bor (List ℕ)). s.now), c.if-path-gt-MAX_COMPONENTS.false);
   components = λ k x there. c.components.invariant k x
-      (let low = slice_get_within (texts c.args.path.now) k x there in omega (arith, low, length-map c.args.path.now (λ (s : Bor (List ℕ)). s.now),
-          c.components-test.false)) there;
+      (let low = slice_get_within (texts c.args.path.now) k x there in omega (
+        arith,
+        low,
+        length-map c.args.path.now (λ (s : Bor (List ℕ)). s.now),
+        c.components-test.false,
+      )) there;
 }

@@ -22,4 +22,4 @@ roots-preserved g c =
 pub returns : goal.returns
 returns g c =
     put_all c.roots.invariant (ap (λ es. pairs_spelling (pairs_of_layers (outline_layers c.args.piece_length es)))
-        (rest_all deref_pair c.roots.root-iterator c.next.new.self c.next.result c.in-None.is c.next.ensures.steps))
+    (rest_all deref_pair c.roots.root-iterator c.next.new.self c.next.result c.in-None.is c.next.ensures.steps))

@@ -14,7 +14,7 @@ files-preserved c =
     let here : drop i xs ≡ x ∷ drop (i + 1) xs = drop_more xs i x (omega arith) ∙ ap (λ y. y ∷ drop (i + 1) xs) (sym c.index-files-i.is) in
     let fs = map outline_file xs in
     let at : drop i fs ≡ outline_file x ∷ drop (i + 1) fs = drop-map outline_file i xs ∙ ap (map outline_file) here
-        ∙ ap (λ ys. outline_file x ∷ ys) (sym (drop-map outline_file (i + 1) xs)) in
+    ∙ ap (λ ys. outline_file x ∷ ys) (sym (drop-map outline_file (i + 1) xs)) in
     elim c.if-file-gt0.branch [
       | then-file-gt0 w ↦
           let some : nat_lt 0 x.length ≡ true = grind arith in

@@ -17,7 +17,7 @@ returns-then-is_followed g c =
     let whole : c.saturating_sub-whole.result ≡ length cuts - 1 = omega (arith, c.saturating_sub-whole.ensures, c.len.ensures, f.cuts.ok.0) in
     let front = put_as (concat (take (length cuts - 1) cuts)) c.put.ensures
     (c.as_flattened.ensures.value ∙ sym (concat_is (take c.saturating_sub-whole.result c.deref.result.now))
-        ∙ ap (λ ys. concat (take c.saturating_sub-whole.result ys)) c.deref.ensures.value
+    ∙ ap (λ ys. concat (take c.saturating_sub-whole.result ys)) c.deref.ensures.value
     ∙ ap (λ n. concat (take n cuts)) whole)
     in
     rw (some, c.if-is_followed.true)

@@ -8,4 +8,4 @@ use Rattle.drafts.proofs.hybrid_text.put_digests.Given as goal
 abbrev pub invariant-files : goal.invariant-files
 invariant-files g l =
     SoFar l.fn.pen (g.W.Sink.seen l.fn.w) l.pen (g.W.Sink.seen l.w) (concat (digests_of (map outline_file l.files)))
-        (concat (digests_of (map outline_file (drop l.i l.files))))
+    (concat (digests_of (map outline_file (drop l.i l.files))))

@@ -18,7 +18,7 @@ parts-preserved g c =
     let x = c.part-item.result in
     let later = items_spelling (texts_value (map string_bytes (drop (l.part-index + 1) xs))) in
     let here : drop l.part-index xs ≡ x ∷ drop (l.part-index + 1) xs = drop_more xs l.part-index x (omega arith)
-        ∙ ap (λ y. y ∷ drop (l.part-index + 1) xs) (sym c.part-item.is) in
+    ∙ ap (λ y. y ∷ drop (l.part-index + 1) xs) (sym c.part-item.is) in
     put_on later l.invariant c.put_string.ensures
     (ap (λ ys. items_spelling (texts_value (map string_bytes ys))) here ∙ ap (λ s. string s ++ later) (sym c.as_bytes.ensures.value))
 

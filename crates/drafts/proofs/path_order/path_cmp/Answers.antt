@@ -26,7 +26,7 @@ parts-preserved c =
 pub returns : goal.returns
 returns c =
     sym (c.parts.invariant ∙ compare_all (map string_bytes c.args.own.now) (map (λ s. s.now) c.args.path.now) c.parts.i
-        (elim (cases_lt c.parts.i (length c.args.own.now)) [
+    (elim (cases_lt c.parts.i (length c.args.own.now)) [
       | inl less ↦ inr (omega (arith, less, c.parts-test.false, c.min-count.ensures, length-map c.args.path.now (λ s. s.now)))
       | inr past ↦ inl (omega (arith, past, length-map c.args.own.now string_bytes))
     ]))

@@ -17,11 +17,11 @@ names-preserved g c =
     let x = c.name-item.result in
     let later = opened (map string_bytes (drop (l.name-index + 1) xs)) in
     let here : drop l.name-index xs ≡ x ∷ drop (l.name-index + 1) xs = drop_more xs l.name-index x (omega arith)
-        ∙ ap (λ y. y ∷ drop (l.name-index + 1) xs) (sym c.name-item.is) in
+    ∙ ap (λ y. y ∷ drop (l.name-index + 1) xs) (sym c.name-item.is) in
     let name = c.as_bytes.result.now in
     put_on later l.invariant (put_both c.put_string.ensures c.put.ensures)
     (ap (λ ys. opened (map string_bytes ys)) here ∙ ap (λ s. string s ++ 100 ∷ later) (sym c.as_bytes.ensures.value)
-        ∙ sym (append_assoc (string name) (100 ∷ []) later))
+    ∙ sym (append_assoc (string name) (100 ∷ []) later))
 
 pub returns : goal.returns
 returns g c = put_all c.names.invariant (ap (λ ys. opened (map string_bytes ys)) (drop_of_length-le c.args.names.now (omega arith)))

@@ -24,7 +24,7 @@ files-preserved g c =
     let xs = c.args.files.now in
     let x = c.file-item.result in
     let here : drop l.file-index xs ≡ x ∷ drop (l.file-index + 1) xs = drop_more xs l.file-index x (omega arith)
-        ∙ ap (λ y. y ∷ drop (l.file-index + 1) xs) (sym c.file-item.is) in
+    ∙ ap (λ y. y ∷ drop (l.file-index + 1) xs) (sym c.file-item.is) in
     let before = map string_bytes l.before.now in
     let own = c.as_slice-path.result.now in
     let path = map string_bytes own in
@@ -35,7 +35,7 @@ files-preserved g c =
     let count : length l.before.now - c.shared_count-kept.result ≡ length before - kept = omega (arith, is, length-map l.before.now string_bytes) in
     let parts : opened (map string_bytes (take (length own - c.shared_count-kept.result) (drop c.shared_count-kept.result own))) ≡ opened (drop kept path) =
     ap (λ y. opened (map string_bytes y)) (take_rest own c.shared_count-kept.result) ∙ ap opened (sym (drop-map string_bytes c.shared_count-kept.result own))
-        ∙ ap (λ n. opened (drop n path)) is
+    ∙ ap (λ n. opened (drop n path)) is
     in
     let ends = put_as (closed (length before - kept)) c.put_ends.ensures (ap closed count) in
     let begun = put_as (opened (drop kept path)) c.put_opened.ensures parts in
@@ -49,4 +49,4 @@ returns g c =
     let before = map string_bytes c.files.before.now in
     put_last c.files.invariant c.put_ends-2.ensures
     (ap (λ ys. rest_text before (map walk_to_file (map outline_file ys))) (drop_of_length-le c.args.files.now (omega arith))
-        ∙ ap closed (length-map c.files.before.now string_bytes))
+    ∙ ap closed (length-map c.files.before.now string_bytes))

@@ -15,7 +15,7 @@ returns-then-ne-clause-value c =
     let one : i < length c.args.one.now = omega (arith, c.parts-test.true, c.min-count.ensures) in
     let other : i < length c.args.other.now = omega (arith, c.parts-test.true, c.min-count.ensures) in
     let here = shared_here (map string_bytes c.args.one.now) (map string_bytes c.args.other.now) i (string_bytes c.index-one-i.result)
-        (string_bytes c.index-other-i.result) false
+    (string_bytes c.index-other-i.result) false
     (omega (arith, one, length-map c.args.one.now string_bytes)) (omega (arith, other, length-map c.args.other.now string_bytes))
     (get_or-map string_bytes c.args.one.now i c.index-one-i.result [] one ∙ ap string_bytes (sym c.index-one-i.is))
     (get_or-map string_bytes c.args.other.now i c.index-other-i.result [] other ∙ ap string_bytes (sym c.index-other-i.is))
@@ -29,7 +29,7 @@ parts-preserved c =
     let one : i < length c.args.one.now = omega (arith, c.parts-test.true, c.min-count.ensures) in
     let other : i < length c.args.other.now = omega (arith, c.parts-test.true, c.min-count.ensures) in
     let here = shared_here (map string_bytes c.args.one.now) (map string_bytes c.args.other.now) i (string_bytes c.index-one-i.result)
-        (string_bytes c.index-other-i.result) true
+    (string_bytes c.index-other-i.result) true
     (omega (arith, one, length-map c.args.one.now string_bytes)) (omega (arith, other, length-map c.args.other.now string_bytes))
     (get_or-map string_bytes c.args.one.now i c.index-one-i.result [] one ∙ ap string_bytes (sym c.index-one-i.is))
     (get_or-map string_bytes c.args.other.now i c.index-other-i.result [] other ∙ ap string_bytes (sym c.index-other-i.is))

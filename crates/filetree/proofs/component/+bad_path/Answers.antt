@@ -18,4 +18,4 @@ has_bad_path-pairs-preserved t c =
     let x = c.pair-item.result in
     let way = subst (IsAsBad (pairs_view xs)) (pairs_next xs c.pairs.pair-index x (omega arith) c.pair-item.is) c.pairs.invariant in
     as_bad (pairs_view xs) (pairs_view (drop (c.pairs.pair-index + 1) xs)) (pair_view x) way (λ bad. let no = c.if-has_bad_path_at.false in let yes =
-        c.has_bad_path_at.ensures.1 bad in let never : true ≡ false = sym yes ∙ no in cc)
+    c.has_bad_path_at.ensures.1 bad in let never : true ≡ false = sym yes ∙ no in cc)

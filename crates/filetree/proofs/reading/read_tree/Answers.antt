@@ -39,7 +39,7 @@ pub returns : goal.returns
 returns c =
     let tree = pairs_view c.args.tree.now in
     let all = all_found (walks tree) c.root-root.result c.new-found.result.items c.walk.new.files.items c.root-root.ensures c.new-found.ensures.items
-        c.in_ok-walk.ensures in
+    c.in_ok-walk.ensures in
     let shape : NoneHolds (shape_rows tree) = ((λ bad. cc), (not_so c.has_bad_path.result c.has_bad_path.ensures.1 c.if-has_bad_path.false, tt)) in
     let files = subst (λ ws. PassesUnlessNoMemory (file_rows ws) (λ fs. fs.items ≡ map listed ws) c.read.result) all c.read.ensures.passes in record {
       passes = passes_after (shape_rows tree) (file_rows (walks tree)) (λ fs. fs.items ≡ map listed (walks tree)) c.read.result shape files;

@@ -20,7 +20,7 @@ walk-pairs-preserved t c =
     let before = map walk_of c.args.files.now.items in
     let found = map walk_of c.pairs.files.items in
     let way = subst (λ ps. IsOnWay path (pairs_view xs) ps before found) (pairs_next xs c.pairs.pair-index x (omega arith) c.pair-item.is) c.pairs.invariant.0
-        in (
+    in (
       walked_on path (pairs_view xs) (pairs_view (drop (c.pairs.pair-index + 1) xs)) (pair_view x) before found (map walk_of c.walk_pair.new.files.items) way
           c.in_ok-walk_pair.ensures,
       left_behind path xs c.pairs.pair-index x (omega arith) c.pair-item.is c.pairs.invariant.1,
@@ -38,7 +38,7 @@ walk_pair-returns t c =
     let new = map walk_of c.walk.new.files.items in
     let farther : c.in_ok-below.below ≡ path ++ x.key.now ∷ [] = c.in_ok-below.ensures ∙ ap (λ n. path ++ n ∷ []) c.component-name.ensures in
     let inner : view x.value ≡ dict (pairs_view c.deref-2.result.now) = ap view c.in-Dict.is ∙ view-Dict c.in-Dict.inner
-        ∙ ap (λ ps. dict (pairs_view ps)) (sym c.deref-2.ensures.value) in
+    ∙ ap (λ ps. dict (pairs_view ps)) (sym c.deref-2.ensures.value) in
     on_ok_weaker c.walk.result (λ adds. subst (λ (p : Seen). AddsBehind path (walks_at p) old new) (sym (view-Pair x.key x.value))
     (walked_inner path c.in_ok-below.below x.key.now (pairs_view c.deref-2.result.now) (view x.value) old new some farther inner adds)) c.walk.ensures
 
@@ -51,20 +51,23 @@ walk_pair-returns-then-is_file t c =
     let new = map walk_of c.push.new.self.items in
     let some : is_nil x.key.now ≡ false = subst (λ (p : Seen). is_nil p.0 ≡ false) (view-Pair x.key x.value) c.requires.named in
     let file : is_file (pairs_view c.in-Dict.inner.items) ≡ true = subst (λ ps. is_file (pairs_view ps) ≡ true) c.deref.ensures.value (sym c.is_file.ensures
-        ∙ c.if-is_file.true) in
+    ∙ c.if-is_file.true) in
     let node = file_node c.in-Dict.inner.items y file c.index.ensures in
     let whole : view x.value ≡ dict (pair y.key.now (view y.value) no_pairs) = ap view c.in-Dict.is ∙ view-Dict c.in-Dict.inner
-        ∙ ap dict (node.0 ∙ ap (λ (p : Seen). pair p.0 p.1 no_pairs) (view-Pair y.key y.value)) in
+    ∙ ap dict (node.0 ∙ ap (λ (p : Seen). pair p.0 p.1 no_pairs) (view-Pair y.key y.value)) in
     let nil : is_nil y.key.now ≡ true = subst (λ (p : Seen). is_nil p.0 ≡ true) (view-Pair y.key y.value) node.1 in
     let name = c.component-name.result.now in
     let there : c.new-path.result ≡ path ++ x.key.now ∷ [] = c.new-path.ensures ∙ ap (λ f. f ++ name ∷ []) c.in_ok-share.ensures
-        ∙ ap (λ n. path ++ n ∷ []) c.component-name.ensures in
+    ∙ ap (λ n. path ++ n ∷ []) c.component-name.ensures in
     let added : new ≡ old ++ record { path = path ++ x.key.now ∷ []; file = view y.value } ∷ [] = ap (map walk_of) c.in_ok-push.ensures.items
-        ∙ map-append walk_of c.args.files.now.items _
+    ∙ map-append walk_of c.args.files.now.items _
     ∙ ap (λ (p : List (List ℕ)). old ++ record { path = p; file = view y.value } ∷ []) there in
     subst (λ (p : Seen). AddsBehind path (walks_at p) old new) (sym (view-Pair x.key x.value)) (walked_file path x.key.now y.key.now (view x.value)
-        (view y.value) old new some whole nil added)
+    (view y.value) old new some whole nil added)
 
 pub walk-walk_pair-requires : goal.walk-walk_pair-requires
-walk-walk_pair-requires t c = (search (rules, the_lemmas), node_at c.args.folder.now c.args.pairs.now c.pairs.pair-index c.pair-item.result (omega arith)
-    c.pair-item.is c.pairs.invariant.1)
+walk-walk_pair-requires t c = (
+  search (rules, the_lemmas),
+  node_at c.args.folder.now c.args.pairs.now c.pairs.pair-index c.pair-item.result (omega arith)
+      c.pair-item.is c.pairs.invariant.1,
+)

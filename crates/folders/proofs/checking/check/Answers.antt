@@ -28,7 +28,7 @@ pub check_file-requires-clause-place : goal.check_file-requires-clause-place
 check_file-requires-clause-place g c = λ some.
     has_place c.args.torrent.now c.files.file-index c.files.files.items c.files.stream.feed (file_entry c.file-item.result) c.sound.ensures
     c.files.invariant.passed (file_there c.args.torrent.now c.files-entries.result.now c.files.file-index c.file-item.result c.files-entries.ensures
-        c.files-test.true c.file-item.is) some
+    c.files-test.true c.file-item.is) some
 
 pub check_file-requires-clause-file : goal.check_file-requires-clause-file
 check_file-requires-clause-file g c = (
@@ -49,7 +49,7 @@ files-init g c = record {
     agree = λ k f content there at. absurd (none-some content at);
     told = λ contents extends.
         told_none c.args.torrent.now contents c.in_ok-files.files.items c.of-stream.result.feed c.in_ok-files.ensures.items c.of-stream.ensures.stands
-            (λ v hybrid. search rules);
+        (λ v hybrid. search rules);
   };
 }
 
@@ -65,7 +65,7 @@ files-preserved g c =
     let there = file_there t c.files-entries.result.now n c.file-item.result c.files-entries.ensures c.files-test.true c.file-item.is in
     let pushed = sym c.push_reserved.ensures.items in
     let found : FindsVerdict t f (under f.path) old new v = subst (λ (on : ShelfContents). FindsVerdict t f (on.under f.path) old new v) c.files.invariant.stays
-        c.check_file.ensures.found in
+    c.check_file.ensures.found in
     record {
       room = omega (arith, c.files.invariant.room, c.push_reserved.ensures.capacity);
       counted = subst (λ xs. g.S.Shelf.faults c.check_file.new.shelf ≡ more (g.S.Shelf.faults c.args.shelf.now) (unreadable_count xs)) pushed
@@ -75,7 +75,7 @@ files-preserved g c =
           (Chain-next (Visits g.S.Shelf g.S.File.Source.seen t) c.args.shelf.now c.files.shelf c.check_file.new.shelf t.files n c.files.files.items f v
           (slice_get_within t.files n f there) c.files.invariant.visited
           (subst (λ h. Visits g.S.Shelf g.S.File.Source.seen t c.files.shelf h v c.check_file.new.shelf) (sym (get_or_from_slice_get t.files n f f there))
-              c.check_file.ensures.visits));
+          c.check_file.ensures.visits));
       stays = c.check_file.ensures.stays ∙ c.files.invariant.stays;
       passed = subst (λ xs. IsPassed t (n + 1) xs new) pushed
           (passed_one t n c.files.files.items v f (under f.path) old new c.sound.ensures there found c.files.invariant.passed);
@@ -118,7 +118,7 @@ returns-clause-tells g c =
     let contents = contents_of found.seen in
     let told = found.told contents (contents_extend found.seen) in
     let all : c.files.file-index ≡ length t.files = all_passed t c.files.file-index c.files-entries.result.now c.files-entries.ensures c.files-test.false
-        c.files.auto.file-index-end in
+    c.files.auto.file-index-end in
     let tells : TellsContents t contents files c.match-v1.v1 = record {
       each = told.each;
       version1 = λ v verdict hybrid is. elim c.match-v1.branch [
@@ -141,8 +141,14 @@ pub returns-clause-readable : goal.returns-clause-readable
 returns-clause-readable g c = λ same.
     let files = c.files.files.items in
     let few : unreadable_count files < 2 ^ 64 =
-    omega (arith, count_by-le-length is_unreadable files, c.files.invariant.passed.count, c.files.auto.file-index-end, c.files.invariant.room,
-        c.files.files.small) in
+    omega (
+      arith,
+      count_by-le-length is_unreadable files,
+      c.files.invariant.passed.count,
+      c.files.auto.file-index-end,
+      c.files.invariant.room,
+      c.files.files.small,
+    ) in
     more_none (g.S.Shelf.faults c.args.shelf.now) (unreadable_count files) few (sym c.files.invariant.counted ∙ same)
 
 pub returns-clause-once : goal.returns-clause-once

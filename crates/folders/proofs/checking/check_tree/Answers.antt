@@ -20,7 +20,7 @@ overflow_mul-file g c =
 pub take_all-requires-clause-room : goal.take_all-requires-clause-room
 take_all-requires-clause-room g c =
     let tree = has_tree c.args.torrent.now c.requires.file.0 (file_entry c.args.file.now) (tree_entry c.args.tree.now) c.sound.ensures c.requires.file.1
-        c.requires.tree in (
+    c.requires.tree in (
       omega (arith, c.piece_check.ensures.count, c.piece_check.ensures.shape, tree.0),
       room_for_all c.args.stream.now.feed c.fill_to.new.self.feed c.take.result c.fill_to.new.self
           (c.args.file.now.first_piece * c.args.torrent.now.piece_length) c.args.file.now.length
@@ -30,7 +30,7 @@ take_all-requires-clause-room g c =
 pub finish-place-requires : goal.finish-place-requires
 finish-place-requires g c =
     let tree = has_tree c.args.torrent.now c.requires.file.0 (file_entry c.args.file.now) (tree_entry c.args.tree.now) c.sound.ensures c.requires.file.1
-        c.requires.tree in
+    c.requires.tree in
     let read = read_whole FeedsBoth _ _ _ _ _ _ _ c.if-ne.false c.ne.ensures c.in_ok-take_all.ensures.read in
     omega (arith, read.taken.tree.count, read.count_is, read.taken.tree.shape, c.piece_check.ensures.count, c.piece_check.ensures.shape, tree.0)
 

@@ -12,7 +12,7 @@ new-requires-else-tree-piece_length-clause-in_tree c =
     let shape : c.unwrap-shape.result ≡ len = unwrapped c.of.result c.unwrap-shape.result len c.unwrap-shape.ensures c.of.ensures.value in
     let piece : c.unwrap.result ≡ c.piece_length-piece_length.result =
     unwrapped c.of-else-tree-piece_length.result c.unwrap.result c.piece_length-piece_length.result c.unwrap.ensures c.of-else-tree-piece_length.ensures.value
-        in
+    in
     omega (
       arith,
       c.height-else-tree-piece_length.ensures.value,
@@ -27,7 +27,7 @@ new-requires-else-tree-piece_length-clause-whole c =
     let shape : c.unwrap-shape.result ≡ len = unwrapped c.of.result c.unwrap-shape.result len c.unwrap-shape.ensures c.of.ensures.value in
     let piece : c.unwrap.result ≡ c.piece_length-piece_length.result =
     unwrapped c.of-else-tree-piece_length.result c.unwrap.result c.piece_length-piece_length.result c.unwrap.ensures c.of-else-tree-piece_length.ensures.value
-        in
+    in
     let same = sym c.piece_length-piece_length.ensures in
     let legal = subst IsPieceLength same c.sound.ensures.legal in
     let sound = subst (λ p. IsSoundTree p (tree_entry c.args.tree.now)) same c.requires in

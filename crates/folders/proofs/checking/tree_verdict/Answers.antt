@@ -13,7 +13,7 @@ returns-then-eq-clause-verdict c = λ bytes told.
     let f = file_entry c.args.file.now in
     let e = tree_entry c.args.tree.now in
     good_tree t f e bytes c.args.root.now c.args.place c.requires.tree (has_tree t c.requires.file.0 f e c.sound.ensures c.requires.file.1 c.requires.tree).1
-        told
+    told
     ((bytes_eq-Decides c.args.root.now c.args.tree.now.root).0 (sym c.eq.ensures ∙ c.if-eq.true))
 
 pub overflow_add-result : goal.overflow_add-result
@@ -42,7 +42,7 @@ returns-clause-verdict c = λ bytes told.
     let f = file_entry c.args.file.now in
     let e = tree_entry c.args.tree.now in
     bad_tree t f e bytes c.args.root.now c.in-Some.place c.sound.ensures c.requires.tree (has_tree t c.requires.file.0 f e c.sound.ensures c.requires.file.1
-        c.requires.tree).0
+    c.requires.tree).0
     (sound_tree t f e c.sound.ensures c.requires.tree)
     (subst (IsToldOf t.piece_length e bytes c.args.root.now) c.in-Some.is told)
     (λ is. true≢false (sym ((bytes_eq-Decides c.args.root.now c.args.tree.now.root).1 is) ∙ sym c.eq.ensures ∙ c.if-eq.false))

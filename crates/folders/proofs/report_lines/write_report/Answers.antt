@@ -34,7 +34,7 @@ returns-in_err-write_all g c =
     let p = err_from_is_err_and c.from_residual-in_err-write_all.result c.from_residual-in_err-write_all.ensures.1 in
     Wrote-then _ _ _ _ (verdicts_text c.deref.result.now entries) (stream ++ answer_text (is_yes r.files.items r.v1)) _
     (parts entries r.files.items c.deref.result.now r.v1 stream (answer_text (is_yes r.files.items r.v1)) c.deref.ensures.value (c.as_slice.ensures
-        ∙ c.stream_line.ensures) refl)
+    ∙ c.stream_line.ensures) refl)
     c.in_ok-write_verdicts.ensures
     (Wrote-part _ p.0 _ _ stream (answer_text (is_yes r.files.items r.v1)) _ refl p.1 c.in_err-write_all.ensures)
 

@@ -20,12 +20,12 @@ next_line verdicts files i file lt within there =
 pub returns-in_err-write_verdict : goal.returns-in_err-write_verdict
 returns-in_err-write_verdict g c =
     let next = next_line c.args.verdicts.now c.args.files.now c.files.i c.index-files-i.result (omega (arith, c.files-test.true, c.requires))
-        (omega (arith, c.files-test.true)) c.index-files-i.is in
+    (omega (arith, c.files-test.true)) c.index-files-i.is in
     let p = err_from_is_err_and c.from_residual.result c.from_residual.ensures.1 in
     sent_fault _ p.0 _ _ _ _ _ _ _ c.files.invariant next p.1 c.in_err-write_verdict.ensures
 
 pub files-preserved : goal.files-preserved
 files-preserved g c =
     let next = next_line c.args.verdicts.now c.args.files.now c.files.i c.index-files-i.result (omega (arith, c.files-test.true, c.requires))
-        (omega (arith, c.files-test.true)) c.index-files-i.is in
+    (omega (arith, c.files-test.true)) c.index-files-i.is in
     sent_next _ _ _ _ _ _ _ c.files.invariant next c.in_ok-write_verdict.ensures

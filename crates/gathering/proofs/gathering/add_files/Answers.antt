@@ -20,7 +20,7 @@ returns-in-Err-clause-adds g c =
     let inside = c.paths-test.true in
     let is = c.index-paths-number.is in
     let seen : map (λ s. s.now) c.deref-in-paths.result.now ≡ map string_bytes c.deref.result.now = ap (map (λ s. s.now)) c.deref-in-paths.ensures.value
-        ∙ c.put_parts.ensures.parts in
+    ∙ c.put_parts.ensures.parts in
     record {
       path = map (λ s. s.now) c.deref-in-paths.result.now;
       there = item_of path_bytes c.args.paths.now c.paths.number _ inside
@@ -36,7 +36,7 @@ paths-preserved g c =
     let inside = c.paths-test.true in
     let is = c.index-paths-number.is in
     let seen : map (λ s. s.now) c.deref-in-paths.result.now ≡ map string_bytes c.deref.result.now = ap (map (λ s. s.now)) c.deref-in-paths.ensures.value
-        ∙ c.put_parts.ensures.parts in
+    ∙ c.put_parts.ensures.parts in
     let adds = c.in_default.ensures.adds in
     record {
       piece_length = adds.2.added.piece_length ∙ c.paths.invariant.piece_length;
@@ -45,7 +45,7 @@ paths-preserved g c =
       stays = c.in_default.ensures.stays ∙ c.paths.invariant.stays;
       so_far = gathered_more g.S.Shelf g.S.File.Source.seen _ _ _ _ (map path_bytes c.args.paths.now) c.paths.number _ adds.0 _ _
           (item_of path_bytes c.args.paths.now c.paths.number _ inside
-              ∙ ap Some (ap (λ v. path_bytes v) (sym is) ∙ sym (ap (map string_bytes) c.deref.ensures.value) ∙ sym seen))
+          ∙ ap Some (ap (λ v. path_bytes v) (sym is) ∙ sym (ap (map string_bytes) c.deref.ensures.value) ∙ sym seen))
           c.paths.invariant.so_far adds.1 adds.2 c.in_default.ensures.stays;
     }
 
@@ -53,12 +53,12 @@ pub returns-clause-adds : goal.returns-clause-adds
 returns-clause-adds g c =
     let all = take_all c.paths.number (map path_bytes c.args.paths.now) (omega (arith, c.paths-test.false, length-map c.args.paths.now (λ v. path_bytes v))) in
     subst (λ ps. HasGathered g.S.Shelf g.S.File.Source.seen c.args.draft.now c.args.shelf.now c.args.shelf.now ps c.paths.shelf c.paths.draft) all
-        c.paths.invariant.so_far
+    c.paths.invariant.so_far
 
 pub put_parts-requires : goal.put_parts-requires
 put_parts-requires g c =
     let inside = c.paths-test.true in
     let path = map string_bytes c.deref.result.now in
     let at = item_of path_bytes c.args.paths.now c.paths.number _ inside ∙ ap Some (ap (λ v. path_bytes v) (sym c.index-paths-number.is)
-        ∙ sym (ap (map string_bytes) c.deref.ensures.value)) in
+    ∙ sym (ap (map string_bytes) c.deref.ensures.value)) in
     omega (arith, c.requires.room c.paths.number path at, length-map c.deref.result.now string_bytes, c.paths.invariant.capacity)

@@ -10,7 +10,7 @@ use Rattle.gathering.proofs.gathering.gather.Goals as goal
 pub returns-in-Ok-add_files-clause-gathers : goal.returns-in-Ok-add_files-clause-gathers
 returns-in-Ok-add_files-clause-gathers g c =
     let sorted = listed_as g.S.Shelf c.args.shelf.now _ c.in-Ok-list.paths c.sort_unstable.new.self.items c.in-Ok-list.ensures.lists c.in-Ok-list.ensures.listed
-        c.sort_unstable.ensures.permutation c.sort_unstable.ensures.sorted in
+    c.sort_unstable.ensures.permutation c.sort_unstable.ensures.sorted in
     gathers_all g.S.Shelf g.S.File.Source.seen (empty_outline c.args.name.now c.args.piece_length c.args.hybrid) c.args.shelf.now _ _
     c.sort_unstable.new.self.items _ c.in-Ok.ensures.empty.0 sorted c.in-Ok-list.ensures.counts c.list.ensures.stays
     (rw c.in-Ok.ensures.empty.1 at rw c.deref-2.ensures.value at c.in-Ok-add_files.ensures.adds)
@@ -18,10 +18,10 @@ returns-in-Ok-add_files-clause-gathers g c =
 pub returns-in-Err-add_files-clause-gathers : goal.returns-in-Err-add_files-clause-gathers
 returns-in-Err-add_files-clause-gathers g c =
     let sorted = listed_as g.S.Shelf c.args.shelf.now _ c.in-Ok-list.paths c.sort_unstable.new.self.items c.in-Ok-list.ensures.lists c.in-Ok-list.ensures.listed
-        c.sort_unstable.ensures.permutation c.sort_unstable.ensures.sorted in
+    c.sort_unstable.ensures.permutation c.sort_unstable.ensures.sorted in
     stopped_at g.S.Shelf g.S.File.Source.seen (empty_outline c.args.name.now c.args.piece_length c.args.hybrid) c.args.shelf.now _ _
     c.sort_unstable.new.self.items c.in-Err-add_files.stop c.swap_remove.result _ c.in-Ok.ensures.empty.0 sorted c.in-Ok-list.ensures.counts
-        c.list.ensures.stays
+    c.list.ensures.stays
     (rw c.in-Ok.ensures.empty.1 at rw c.deref-2.ensures.value at c.in-Err-add_files.ensures.adds)
     c.swap_remove.ensures.value c.at-in-Err-add_files.ensures
 
@@ -44,5 +44,9 @@ returns-in_default-with_capacity-clause-gathers g c =
 pub swap_remove-requires : goal.swap_remove-requires
 swap_remove-requires g c =
     let stops = c.in-Err-add_files.ensures.adds in
-    omega (arith, slice_get_within (map path_bytes c.deref-2.result.now) c.in-Err-add_files.stop.number stops.path stops.there,
-        length-map c.deref-2.result.now (λ v. path_bytes v), ap length c.deref-2.ensures.value)
+    omega (
+      arith,
+      slice_get_within (map path_bytes c.deref-2.result.now) c.in-Err-add_files.stop.number stops.path stops.there,
+      length-map c.deref-2.result.now (λ v. path_bytes v),
+      ap length c.deref-2.ensures.value,
+    )

@@ -11,7 +11,7 @@ returns-in_err-finish-in-Some-clause-read g c =
     subst (ReadsFile c.args.kind.now.piece_length c.args.kind.now.hybrid left) (sym p.1)
     (subst (λ e. ReadsFile c.args.kind.now.piece_length c.args.kind.now.hybrid left (Err e)) (sym p.2)
     (refused_read c.args.kind.now.piece_length c.args.kind.now.hybrid (g.F.Source.seen c.args.source.now) _ _ _ _
-        (rw c.in-Some.is at c.in_ok-take_all.ensures.read)
+    (rw c.in-Some.is at c.in_ok-take_all.ensures.read)
     (λ none. c.in-Some.field-0-test.1 (c.in-Some.field-0-is ∙ none)) c.new-hashing.ensures c.in_err-finish-in-Some.ensures.memory))
 
 pub returns-in-None-clause-read : goal.returns-in-None-clause-read
@@ -21,13 +21,13 @@ returns-in-None-clause-read g c =
 pub returns-in-Some-eq0-clause-read : goal.returns-in-Some-eq0-clause-read
 returns-in-Some-eq0-clause-read g c =
     empty_read c.args.kind.now.piece_length c.args.kind.now.hybrid (g.F.Source.seen c.args.source.now) _ _ _ _ _
-        (rw c.in-Some-eq0.is at c.in_ok-take_all.ensures.read)
+    (rw c.in-Some-eq0.is at c.in_ok-take_all.ensures.read)
     (sym c.in-Some-eq0.field-0-is ∙ c.in-Some-eq0.field-0-test) (c.empty.ensures _ _)
 
 pub returns-in_ok-finish-in-Some-clause-read : goal.returns-in_ok-finish-in-Some-clause-read
 returns-in_ok-finish-in-Some-clause-read g c =
     whole_read c.args.kind.now.piece_length c.args.kind.now.hybrid (g.F.Source.seen c.args.source.now) _ _ _ _ _
-        (rw c.in-Some.is at c.in_ok-take_all.ensures.read) c.new-hashing.ensures c.in_ok-finish-in-Some.ensures.gives
+    (rw c.in-Some.is at c.in_ok-take_all.ensures.read) c.new-hashing.ensures c.in_ok-finish-in-Some.ensures.gives
 
 pub finish-requires : goal.finish-requires
 finish-requires g c =

@@ -16,7 +16,7 @@ returns c =
     let shape : 0 < c.args.shape = search rules in
     let some : 0 < length hashes = omega (arith, c.requires.whole, (first_pad-place (block_count c.args.shape) layer 0).1 (omega arith)) in
     let held : HoldsLeaves c.loop-hash.peaks row = subst (HoldsLeaves c.loop-hash.peaks) (take_all c.loop-hash.hash-index row c.loop-hash-test.false)
-        c.loop-hash.invariant.leaves in
+    c.loop-hash.invariant.leaves in
     let fits : first_pad (block_count c.args.shape) layer ≤ 2 ^ (h - layer) =
     first_pad-fits (block_count c.args.shape) h layer (omega (arith, c.requires.in_tree, c.height-height.ensures.value)) c.height-height.ensures.enough in
     c.last_node.ensures.root row held (omega (arith, fits, c.requires.whole, some, length-take last hashes))

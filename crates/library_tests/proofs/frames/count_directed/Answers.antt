@@ -11,8 +11,12 @@ frames-init g c =
       stands = c.new-reader.ensures.open;
       same = refl;
       room = omega (arith, ap (λ s. s.limit) same);
-      read = ([], refl, subst (λ f. HasRead (S.seen c.args.source.now) (S.seen c.new-reader.result.source.now) f []) (sym c.new-reader.ensures.form)
-          (read_nothing _ _ same));
+      read = (
+        [],
+        refl,
+        subst (λ f. HasRead (S.seen c.args.source.now) (S.seen c.new-reader.result.source.now) f []) (sym c.new-reader.ensures.form)
+            (read_nothing _ _ same),
+      );
     }
 
 pub overflow_add-n : goal.overflow_add-n
@@ -50,5 +54,5 @@ returns g c = λ bytes known.
     let read = c.frames.invariant.read in
     let end = rw c.if-branch.false at (c.in_ok-advance.ensures.reads c.frames.invariant.stands) in
     let to = read_to (S.seen c.args.source.now) (S.seen c.frames.reader.source.now) (S.seen c.advance.new.self.source.now) c.frames.reader.form end.form read.0
-        [] read.2 end.ends.part (cut-nothing end.form) in
+    [] read.2 end.ends.part (cut-nothing end.form) in
     (end.form, read.0, read_whole (S.seen c.args.source.now) (S.seen c.advance.new.self.source.now) bytes end.form read.0 [] known to end.ends.at_end, read.1)

@@ -10,8 +10,13 @@ pub frames-init : goal.frames-init
 frames-init g c = record {
   stands = c.new-reader.ensures.open;
   same = refl;
-  read = ([], All-nil IsBody, refl, Gave-no_frame (g.R.Source.seen c.args.source.now) (g.R.Source.seen c.new-reader.result.source.now)
-      (ap g.R.Source.seen c.new-reader.ensures.source));
+  read = (
+    [],
+    All-nil IsBody,
+    refl,
+    Gave-no_frame (g.R.Source.seen c.args.source.now) (g.R.Source.seen c.new-reader.result.source.now)
+        (ap g.R.Source.seen c.new-reader.ensures.source),
+  );
 }
 
 pub overflow_add-n : goal.overflow_add-n
@@ -46,6 +51,9 @@ pub returns : goal.returns
 returns g c = λ bytes known.
     let S = g.R.Source in
     let read = c.frames.invariant.read in
-    let end = rw c.if-branch.false at (c.in_ok-advance.ensures.reads c.frames.invariant.stands) in
-    (read.0, Frames-from_run (S.seen c.args.source.now) (S.seen c.frames.reader.source.now) (S.seen c.advance.new.self.source.now) bytes read.0 [] known read.1
-        read.3 end.gave.gave end.at_end (IsPartial-from_short [] (omega arith)), read.2)
+    let end = rw c.if-branch.false at (c.in_ok-advance.ensures.reads c.frames.invariant.stands) in (
+      read.0,
+      Frames-from_run (S.seen c.args.source.now) (S.seen c.frames.reader.source.now) (S.seen c.advance.new.self.source.now) bytes read.0 [] known read.1
+          read.3 end.gave.gave end.at_end (IsPartial-from_short [] (omega arith)),
+      read.2,
+    )

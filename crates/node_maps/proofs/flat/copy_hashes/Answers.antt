@@ -24,4 +24,4 @@ append_hashes-requires-clause-known c = known-in_part (λ o. o) None c.args.row.
 pub returns-then-from-end-clause-copied : goal.returns-then-from-end-clause-copied
 returns-then-from-end-clause-copied c =
     c.append_hashes.ensures.copied ∙ ap (λ xs. c.args.out.now.items ++ xs) (hashes-in_part (λ o. o) None c.args.row.now c.args.from c.args.count
-        (inside c.args.row.now c.args.from c.args.count c.requires.known c.if-from-end.true))
+    (inside c.args.row.now c.args.from c.args.count c.requires.known c.if-from-end.true))

@@ -24,4 +24,4 @@ returns-then-layer-rows c = λ i.
 pub returns-else-layer-rows : goal.returns-else-layer-rows
 returns-else-layer-rows c = λ i.
     sym (ap (option_and_then (λ (row : FlatRow). option_and_then (λ (o : Option Hash). o) (slice_get row.items i)))
-        (slice_get_past c.args.rows.now c.args.layer c.if-layer-rows.false))
+    (slice_get_past c.args.rows.now c.args.layer c.if-layer-rows.false))

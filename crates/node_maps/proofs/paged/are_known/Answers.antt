@@ -7,7 +7,7 @@ use Rattle.node_maps.proofs.paged.are_known.Goals as goal
 pub returns-then-layer-rows : goal.returns-then-layer-rows
 returns-then-layer-rows c =
     iff-alike (alike-each (row-hashes c.args.rows.now c.args.layer c.index-rows-layer.result c.if-layer-rows.true c.index-rows-layer.is) c.args.from
-        c.args.count) c.knows.ensures
+    c.args.count) c.knows.ensures
 
 pub returns-else-layer-rows : goal.returns-else-layer-rows
 returns-else-layer-rows c =

@@ -7,7 +7,7 @@ use Rattle.node_maps.proofs.paged.copy_hashes.Goals as goal
 pub copy_to-requires-clause-known : goal.copy_to-requires-clause-known
 copy_to-requires-clause-known c =
     known-alike (alike-back (alike-each (row-hashes c.args.rows.now c.args.layer c.index-rows-layer.result c.if-layer-rows.true c.index-rows-layer.is)
-        c.args.from c.args.count)) c.requires.known
+    c.args.from c.args.count)) c.requires.known
 
 pub returns-then-layer-rows-clause-copied : goal.returns-then-layer-rows-clause-copied
 returns-then-layer-rows-clause-copied c =

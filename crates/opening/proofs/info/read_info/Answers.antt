@@ -9,5 +9,5 @@ pub returns : goal.returns
 returns c =
     let i = view c.args.info.now in
     passes_behind (version_rows i ++ present_rows i) (kind_rows i) (AreOfKind i) c.all_of_kind.result
-        (none_both (version_rows i) (present_rows i) c.in_ok-version.ensures.0 c.in_ok-present.ensures.0)
+    (none_both (version_rows i) (present_rows i) c.in_ok-version.ensures.0 c.in_ok-present.ensures.0)
     (c.all_of_kind.ensures i c.in_ok-present.ensures.1)

@@ -27,4 +27,4 @@ returns-in_err-layers c =
     let is : view c.in_ok-info.info.now ≡ info_in v = sym (value_found (codes "info") v (view c.in_ok-info.info.now) c.in_ok-info.ensures.1) in
     let told : NoneHolds (told_rows (info_in v)) = subst (λ (i : Bencode). NoneHolds (told_rows i)) is c.in_ok-tree.ensures.0 in
     rw (p.1, p.2) (first_behind (top_rows v ++ told_rows (info_in v)) (layers_rows v) r (none_both (top_rows v) (told_rows (info_in v)) c.in_ok-info.ensures.0
-        told) c.in_err-layers.ensures)
+    told) c.in_err-layers.ensures)

@@ -13,7 +13,7 @@ returns-in-Ok c =
     let xs = c.args.layers.now in
     let d = c.index-layers-place.result in
     let found = c.in-Ok.ensures.position (λ (p : Pair). slice_cmp nat_cmp p.key.now c.args.root.now)
-        (always_returns_same _ _ _ (λ a r f' k. (search rules, search rules))) in
+    (always_returns_same _ _ _ (λ a r f' k. (search rules, search rules))) in
     let within : c.in-Ok.place < length xs = omega (arith, c.in-Ok.ensures.bound) in
     sym (first_at xs c.in-Ok.place d c.args.root.now c.requires within (exact_bytes (get_or xs c.in-Ok.place d).key.now c.args.root.now (found d)))
 
@@ -21,7 +21,7 @@ pub returns-in-Err : goal.returns-in-Err
 returns-in-Err c =
     let xs = c.args.layers.now in
     let found = c.in-Err.ensures.position (λ (p : Pair). slice_cmp nat_cmp p.key.now c.args.root.now)
-        (always_returns_same _ _ _ (λ a r f' k. (search rules, search rules))) in
+    (always_returns_same _ _ _ (λ a r f' k. (search rules, search rules))) in
     let parts = found (search_rises xs c.args.root.now c.requires) in
     sym (under_none xs c.args.root.now (λ j d lt same. elim (cases_lt j c.in-Err.field-0) [
       | inl low ↦ not_less (get_or xs j d).key.now c.args.root.now (parts.0 j d (omega arith) low) same

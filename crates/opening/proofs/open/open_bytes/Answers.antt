@@ -9,8 +9,11 @@ read-requires-clause-canonical c = (c.spelling_is_of_canonical.ensures (view c.i
 pub returns-in-Err-clause-refused : goal.returns-in-Err-clause-refused
 returns-in-Err-clause-refused c = λ memory. inr (
   omega arith,
-  inl (c.in-Err.fault, c.in-Err.ensures.fault (λ is. memory (c.refusal_of.ensures.memory is)),
-      c.refusal_of.ensures.other (λ is. memory (c.refusal_of.ensures.memory is))),
+  inl (
+    c.in-Err.fault,
+    c.in-Err.ensures.fault (λ is. memory (c.refusal_of.ensures.memory is)),
+    c.refusal_of.ensures.other (λ is. memory (c.refusal_of.ensures.memory is)),
+  ),
 )
 
 pub returns-in-Err-clause-memory : goal.returns-in-Err-clause-memory

@@ -58,7 +58,7 @@ returns-in_err-info-clause-passes c =
     let v = view c.args.top.now in
     let p = err_from_is_err_and c.from_residual.result c.from_residual.ensures.1 in
     rw (p.1, p.2) (λ _. keys_refused v c.in_err-info.field-0.0 (first_front (head_rows v) (piece_length_rows (piece_length_in v)) c.in_err-info.field-0.0
-        c.in_err-info.ensures))
+    c.in_err-info.ensures))
 
 pub returns-in_err-piece_length-clause-passes : goal.returns-in_err-piece_length-clause-passes
 returns-in_err-piece_length-clause-passes c =
@@ -81,8 +81,8 @@ returns-in_err-listed-clause-passes c =
     let passed : NoneHolds (piece_length_rows n) × ((c.in_ok-piece_length.piece_length ≡ n) × IsPieceLength c.in_ok-piece_length.piece_length) = search rules in
     let number = subst (λ m. NoneHolds (piece_length_rows m)) same passed.0 in
     rw (p.1, p.2) (λ memory. tree_refused v (pairs_view keys.tree.now) c.in_err-listed.field-0.0
-        (none_both (head_rows v) (piece_length_rows (piece_length_in v)) c.in_ok-info.ensures.0 number) c.in_ok-info.ensures.1.tree
-        (c.in_err-listed.ensures.passes memory))
+    (none_both (head_rows v) (piece_length_rows (piece_length_in v)) c.in_ok-info.ensures.0 number) c.in_ok-info.ensures.1.tree
+    (c.in_err-listed.ensures.passes memory))
 
 pub read_tree-requires : goal.read_tree-requires
 read_tree-requires c =
@@ -97,7 +97,7 @@ of-layers-requires c =
 pub read_contents-requires : goal.read_contents-requires
 read_contents-requires c = λ f there.
     (sizes_of (pairs_view c.in_ok-info.field-0.tree.now) c.in_ok-listed.listed.items c.in_ok-listed.ensures.passes.0 c.in_ok-listed.ensures.passes.1 f
-        there).bound
+    there).bound
 
 pub returns-in_err-files-clause-passes : goal.returns-in_err-files-clause-passes
 returns-in_err-files-clause-passes c =
@@ -113,7 +113,7 @@ returns-in_err-files-clause-passes c =
     (layers_are v keys ls c.in_ok-info.ensures.1 c.of-layers.ensures) c.in_ok-listed.ensures.passes.0 c.in_ok-listed.ensures.passes.1 in
     let p = err_from_is_err_and c.from_residual-in_err-files.result c.from_residual-in_err-files.ensures.1 in
     rw (p.1, p.2) (λ memory. files_refused v k (view keys.info.now) keys.name.now (pairs_view keys.tree.now) ls fs c.in_err-files.field-0.0 h
-        (c.in_err-files.ensures memory))
+    (c.in_err-files.ensures memory))
 
 pub returns-in_err-v1-clause-passes : goal.returns-in_err-v1-clause-passes
 returns-in_err-v1-clause-passes c =
@@ -129,7 +129,7 @@ returns-in_err-v1-clause-passes c =
     (layers_are v keys ls c.in_ok-info.ensures.1 c.of-layers.ensures) c.in_ok-listed.ensures.passes.0 c.in_ok-listed.ensures.passes.1 in
     let content = c.in_ok-files.ensures in
     let told = c.in_err-v1.ensures fs (fits_stream k fs (map file_entry c.deref.result.now) passed.1.1 content.1.pieces
-        (ap (map file_entry) c.deref.ensures.value ∙ content.1.files)) in
+    (ap (map file_entry) c.deref.ensures.value ∙ content.1.files)) in
     let p = err_from_is_err_and c.from_residual-in_err-v1.result c.from_residual-in_err-v1.ensures.1 in
     rw (p.1, p.2) (λ _. hybrid_refused v k (view keys.info.now) keys.name.now (pairs_view keys.tree.now) ls fs c.in_err-v1.field-0.0 h content.0 told)
 
@@ -137,7 +137,7 @@ pub new-requires-clause-numbers : goal.new-requires-clause-numbers
 new-requires-clause-numbers c =
     let content = c.in_ok-files.ensures.1 in
     subst (AreNumbers c.in_ok-files.field-0.numbers) (sym (ap (map root_of_tree) content.trees
-        ∙ roots_back c.in_ok-piece_length.piece_length (layer_pairs c.of-layers.result) (roots_in c.in_ok-listed.listed.items))) content.numbers
+    ∙ roots_back c.in_ok-piece_length.piece_length (layer_pairs c.of-layers.result) (roots_in c.in_ok-listed.listed.items))) content.numbers
 
 pub new-requires-clause-sound : goal.new-requires-clause-sound
 new-requires-clause-sound c =
@@ -153,11 +153,11 @@ new-requires-clause-sound c =
     let content = c.in_ok-files.ensures in
     let rows = c.in_ok-listed.ensures.passes.0 in
     let told = c.in_ok-v1.ensures fs (fits_stream k fs (map file_entry c.deref.result.now) legal content.1.pieces (ap (map file_entry) c.deref.ensures.value
-        ∙ content.1.files)) in
+    ∙ content.1.files)) in
     let fits : Fits 126 (dict tree) = subst (λ ps. Fits 126 (dict ps)) (sym c.in_ok-info.ensures.1.tree) (tree_fits v c.requires.canonical) in
     sound k (view keys.info.now) keys.name.now (layer_pairs c.of-layers.result) fs
     (described keys.name.now k c.in_ok-files.field-0.files.items c.in_ok-files.field-0.trees.items c.info_hash_v2-hash_v2.result c.digest-hash_v1.result
-        c.in_ok-v1.v1)
+    c.in_ok-v1.v1)
     legal refl (tree_paths tree fs fits (not_false (is_directory tree) rows.0) rows.1.0 c.in_ok-listed.ensures.passes.1) content.0.1.0
     (sizes_of tree fs rows c.in_ok-listed.ensures.passes.1) content.1.roots content.1.pieces content.1.files content.1.trees content.0.1.1.1 told.0 told.1
 
@@ -175,9 +175,9 @@ returns-clause-passes c =
     (layers_are v keys ls c.in_ok-info.ensures.1 c.of-layers.ensures) c.in_ok-listed.ensures.passes.0 c.in_ok-listed.ensures.passes.1 in
     let content = c.in_ok-files.ensures in
     let told = c.in_ok-v1.ensures fs (fits_stream k fs (map file_entry c.deref.result.now) passed.1.1 content.1.pieces
-        (ap (map file_entry) c.deref.ensures.value ∙ content.1.files)) in
+    (ap (map file_entry) c.deref.ensures.value ∙ content.1.files)) in
     let t = described keys.name.now k c.in_ok-files.field-0.files.items c.in_ok-files.field-0.trees.items c.info_hash_v2-hash_v2.result c.digest-hash_v1.result
-        c.in_ok-v1.v1 in
+    c.in_ok-v1.v1 in
     let bytes = c.requires.info (view keys.info.now) c.in_ok-info.ensures.1.found in (
       none_holds v k (view keys.info.now) keys.name.now (pairs_view keys.tree.now) ls fs h content.0 told.0,
       subst (IsDescribed v) (sym c.new.ensures)
@@ -191,7 +191,7 @@ returns-in_err-info-clause-memory c =
     let r = c.in_err-info.field-0.0 in
     let p = err_from_is_err_and c.from_residual.result c.from_residual.ensures.1 in
     rw (p.1, p.2) (λ memory. absurd (keys_take_none v (subst (First (all_key_rows v)) memory (first_front (head_rows v) (piece_length_rows (piece_length_in v))
-        r c.in_err-info.ensures))))
+    r c.in_err-info.ensures))))
 
 pub returns-in_err-piece_length-clause-memory : goal.returns-in_err-piece_length-clause-memory
 returns-in_err-piece_length-clause-memory c =
@@ -203,7 +203,7 @@ returns-in_err-piece_length-clause-memory c =
     let first : First (piece_length_rows n) r = search rules in
     let told = subst (λ m. First (piece_length_rows m) r) same first in
     rw (p.1, p.2) (λ memory. absurd (keys_take_none v (subst (First (all_key_rows v)) memory (first_behind (head_rows v) (piece_length_rows (piece_length_in v))
-        r c.in_ok-info.ensures.0 told))))
+    r c.in_ok-info.ensures.0 told))))
 
 pub returns-in_err-listed-clause-memory : goal.returns-in_err-listed-clause-memory
 returns-in_err-listed-clause-memory c =
@@ -213,7 +213,7 @@ returns-in_err-listed-clause-memory c =
     let passed : NoneHolds (piece_length_rows n) × ((c.in_ok-piece_length.piece_length ≡ n) × IsPieceLength c.in_ok-piece_length.piece_length) = search rules in
     let p = err_from_is_err_and c.from_residual-in_err-listed.result c.from_residual-in_err-listed.ensures.1 in
     let keys = none_both (head_rows v) (piece_length_rows (piece_length_in v)) c.in_ok-info.ensures.0
-        (subst (λ m. NoneHolds (piece_length_rows m)) same passed.0) in
+    (subst (λ m. NoneHolds (piece_length_rows m)) same passed.0) in
     rw (p.1, p.2) (λ memory. plain_pass v (pairs_view c.in_ok-info.field-0.tree.now) keys c.in_ok-info.ensures.1.tree (c.in_err-listed.ensures.memory memory))
 
 pub returns-in_err-files-clause-memory : goal.returns-in_err-files-clause-memory
@@ -224,7 +224,7 @@ returns-in_err-files-clause-memory c =
     let passed : NoneHolds (piece_length_rows n) × ((c.in_ok-piece_length.piece_length ≡ n) × IsPieceLength c.in_ok-piece_length.piece_length) = search rules in
     let p = err_from_is_err_and c.from_residual-in_err-files.result c.from_residual-in_err-files.ensures.1 in
     let keys = none_both (head_rows v) (piece_length_rows (piece_length_in v)) c.in_ok-info.ensures.0
-        (subst (λ m. NoneHolds (piece_length_rows m)) same passed.0) in
+    (subst (λ m. NoneHolds (piece_length_rows m)) same passed.0) in
     rw (p.1, p.2) (λ _. plain_passed v (pairs_view c.in_ok-info.field-0.tree.now) keys c.in_ok-info.ensures.1.tree c.in_ok-listed.ensures.passes.0)
 
 pub returns-in_err-v1-clause-memory : goal.returns-in_err-v1-clause-memory
@@ -235,5 +235,5 @@ returns-in_err-v1-clause-memory c =
     let passed : NoneHolds (piece_length_rows n) × ((c.in_ok-piece_length.piece_length ≡ n) × IsPieceLength c.in_ok-piece_length.piece_length) = search rules in
     let p = err_from_is_err_and c.from_residual-in_err-v1.result c.from_residual-in_err-v1.ensures.1 in
     let keys = none_both (head_rows v) (piece_length_rows (piece_length_in v)) c.in_ok-info.ensures.0
-        (subst (λ m. NoneHolds (piece_length_rows m)) same passed.0) in
+    (subst (λ m. NoneHolds (piece_length_rows m)) same passed.0) in
     rw (p.1, p.2) (λ _. plain_passed v (pairs_view c.in_ok-info.field-0.tree.now) keys c.in_ok-info.ensures.1.tree c.in_ok-listed.ensures.passes.0)

@@ -18,7 +18,7 @@ returns-in-None c =
     let point = c.begun-begun.ensures.point (first_pieces_rise c.args.piece_length xs c.requires.laid_out) in
     no_place _ _ (c.begun-begun.result - 1) _ c.in-None.ensures
     (search_some c.args.piece_length c.args.address (c.begun-begun.result - 1) xs c.index-files-begun.result c.requires.some c.requires.laid_out (omega arith)
-        c.index-files-begun.is
+    c.index-files-begun.is
     (λ k d from lt. point.0 k d from (omega arith))
     (λ k d from lt. point.1 k d (omega arith) lt))
 
@@ -28,6 +28,6 @@ returns-in-Some c =
     let point = c.begun-begun.ensures.point (first_pieces_rise c.args.piece_length xs c.requires.laid_out) in
     some_place _ _ _ (c.begun-begun.result - 1) _ c.in-Some.ensures
     (search_some c.args.piece_length c.args.address (c.begun-begun.result - 1) xs c.index-files-begun.result c.requires.some c.requires.laid_out (omega arith)
-        c.index-files-begun.is
+    c.index-files-begun.is
     (λ k d from lt. point.0 k d from (omega arith))
     (λ k d from lt. point.1 k d (omega arith) lt))

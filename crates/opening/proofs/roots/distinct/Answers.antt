@@ -12,8 +12,11 @@ returns-in_err-add c =
     let x = c.file-item.result in
     let p = err_from_is_err_and c.from_residual.result c.from_residual.ensures.1 in
     rw (p.1, p.2) (λ memory. elim c.in_err-add.ensures.there [
-      | inl told ↦ (told.0, reused xs (take i xs) c.files.roots x c.in-Some.root told.1.number told.1.at (taken_in xs i)
-          (item_in xs i x (omega arith) c.file-item.is) c.in-Some.is c.files.invariant told.1.place told.1.there told.1.differs)
+      | inl told ↦ (
+        told.0,
+        reused xs (take i xs) c.files.roots x c.in-Some.root told.1.number told.1.at (taken_in xs i)
+            (item_in xs i x (omega arith) c.file-item.is) c.in-Some.is c.files.invariant told.1.place told.1.there told.1.differs,
+      )
       | inr none ↦ absurd (memory none.0)
     ])
 
@@ -26,10 +29,10 @@ files-preserved c =
     elim c.match-file.branch [
       | in-Some+in_ok-add w ↦
           let roots = roots_some (take i xs) c.files.roots w.add.new.self x w.in-Some.root w.in-Some.is w.in_ok-add.ensures.added w.in_ok-add.ensures.there
-              c.files.invariant in
+          c.files.invariant in
           subst (AreRoots (take (i + 1) xs)) (sym w.roots-is) (subst (λ fs. AreRoots fs w.add.new.self) (sym more) roots)
       | in_default w ↦
           let none : x.root ≡ None = none_left x.root w.in_default.not-Some in
           subst (AreRoots (take (i + 1) xs)) (sym w.roots-is) (subst (λ fs. AreRoots fs c.files.roots) (sym more)
-              (roots_none (take i xs) c.files.roots x none c.files.invariant))
+          (roots_none (take i xs) c.files.roots x none c.files.invariant))
     ]

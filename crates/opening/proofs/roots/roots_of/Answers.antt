@@ -8,13 +8,17 @@ pub returns-in_err-test_pieces-clause-passes : goal.returns-in_err-test_pieces-c
 returns-in_err-test_pieces-clause-passes c =
     let p = err_from_is_err_and c.from_residual-in_err-test_pieces.result c.from_residual-in_err-test_pieces.ensures.1 in
     let many : 2 ^ 32 ≤ pieces_in c.args.piece_length c.args.files.now = grind (arith, c.in_err-test_pieces.ensures.1) in
-    rw (p.1, p.2) (λ _. inr (none_reused c.args.files.now c.in_ok-roots.roots c.in_ok-roots.ensures,
-        inr (some_files c.args.files.now c.is_empty.result c.is_empty.ensures c.if-is_empty.false, inl (many, c.in_err-test_pieces.ensures.0))))
+    rw (p.1, p.2) (λ _. inr (
+      none_reused c.args.files.now c.in_ok-roots.roots c.in_ok-roots.ensures,
+      inr (some_files c.args.files.now c.is_empty.result c.is_empty.ensures c.if-is_empty.false, inl (many, c.in_err-test_pieces.ensures.0)),
+    ))
 
 pub returns-clause-passes : goal.returns-clause-passes
 returns-clause-passes c =
     let few : pieces_in c.args.piece_length c.args.files.now < 2 ^ 32 = grind (arith, c.in_ok-test_pieces.ensures) in (
-      (none_reused c.args.files.now c.in_ok-roots.roots c.in_ok-roots.ensures,
-          (some_files c.args.files.now c.is_empty.result c.is_empty.ensures c.if-is_empty.false, ((λ le. absurd (omega (arith, few, le))), tt))),
+      (
+        none_reused c.args.files.now c.in_ok-roots.roots c.in_ok-roots.ensures,
+        (some_files c.args.files.now c.is_empty.result c.is_empty.ensures c.if-is_empty.false, ((λ le. absurd (omega (arith, few, le))), tt)),
+      ),
       record { roots = c.in_ok-roots.ensures; pieces = few },
     )

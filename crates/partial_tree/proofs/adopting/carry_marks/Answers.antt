@@ -48,4 +48,4 @@ returns-clause-carried g c =
     let end : c.leaves.index ≡ c.args.count = omega (arith, c.leaves-test.false, c.leaves.auto.index-end) in
     c.leaves.invariant.seen ∙ ap (with_marks (g.N.NodeMap.seen c.args.new.now))
     (carried-all (g.N.NodeMap.seen c.args.old.now).marked (g.N.NodeMap.seen c.leaves.new).marked c.leaves.index
-        (λ i m. (let low = c.requires.few i m in omega (arith, low, end))) c.leaves.invariant.marked)
+    (λ i m. (let low = c.requires.few i m in omega (arith, low, end))) c.leaves.invariant.marked)

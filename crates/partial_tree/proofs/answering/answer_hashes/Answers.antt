@@ -58,6 +58,12 @@ returns g c =
     let first : List Hash = map (λ k. hash_or_pad K ask.base (ask.index + k)) (range_with_len 0 ask.length) in
     let f : ℕ → Hash = λ k. hash_or_pad K (cover ask + k) (sibling (above ask (cover ask + k))) in
     let spans : span ask ≡ c.args.span = ap height (sym c.requires.span) ∙ height_pow c.args.span in
-    let count : c.uncles.j ≡ answer_uncles c.args.height ask = omega (arith, spans, c.min-uncles.ensures, c.saturating_sub.ensures, c.uncles-test.false,
-        c.uncles.auto.j-end) in
+    let count : c.uncles.j ≡ answer_uncles c.args.height ask = omega (
+      arith,
+      spans,
+      c.min-uncles.ensures,
+      c.saturating_sub.ensures,
+      c.uncles-test.false,
+      c.uncles.auto.j-end,
+    ) in
     c.uncles.invariant.answer ∙ ap (λ n. first ++ map f (range_with_len 0 n)) count

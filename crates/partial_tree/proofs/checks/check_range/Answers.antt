@@ -8,6 +8,10 @@ returns-in-None-clause-bad c = (refl, no_range c.args.height c.args.ask.now c.in
 
 pub returns-clause-good : goal.returns-clause-good
 returns-clause-good c =
-    let found = c.in-Some.ensures.found in
-    (good_range c.args.height c.args.ask.now c.in-Some.span found.0 found.1 found.2 (omega arith) (omega arith)
-        (omega (arith, one_shl (c.args.height - c.args.ask.now.base) 64 (omega arith))), found.0, found.1, found.2)
+    let found = c.in-Some.ensures.found in (
+      good_range c.args.height c.args.ask.now c.in-Some.span found.0 found.1 found.2 (omega arith) (omega arith)
+          (omega (arith, one_shl (c.args.height - c.args.ask.now.base) 64 (omega arith))),
+      found.0,
+      found.1,
+      found.2,
+    )

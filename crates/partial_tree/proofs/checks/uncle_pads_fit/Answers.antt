@@ -13,9 +13,9 @@ pub overflow_mul-sibling : goal.overflow_mul-sibling
 overflow_mul-sibling c =
     let i = c.loop-uncle in
     let bound : sibling (c.args.node / 2 ^ i.uncle-index) * 2 ^ (c.args.cover + i.uncle-index) < 2 ^ 64 = sibling-wide c.args.node c.args.cover i.uncle-index
-        c.requires.node (omega arith) in
+    c.requires.node (omega arith) in
     let same : sibling i.above * i.width ≡ sibling (c.args.node / 2 ^ i.uncle-index) * 2 ^ (c.args.cover + i.uncle-index) =
-        ap₂ (λ a b. sibling a * b) i.invariant.above i.invariant.width in
+    ap₂ (λ a b. sibling a * b) i.invariant.above i.invariant.width in
     let here : c.sibling.result * i.width ≡ sibling i.above * i.width = ap (λ a. a * i.width) c.sibling.ensures in
     omega arith
 

@@ -15,9 +15,9 @@ derive-overflow_sub-layer g t c = (rests_on c.args.evidence.now c.args.layer c.a
 pub derive-trace-requires : goal.derive-trace-requires
 derive-trace-requires g t c κs within =
     let o : Opened c.args.evidence.now c.args.layer c.args.index = rests_on c.args.evidence.now c.args.layer c.args.index c.requires.at.claimed
-        (sym c.in-None.ensures) in
+    (sym c.in-None.ensures) in
     let at = left_claimed (tree_height (g.N.NodeMap.seen c.args.map.now).length) c.args.evidence.now c.args.layer c.args.index c.requires.at
-        (sym c.in-None.ensures) in
+    (sym c.in-None.ensures) in
     (omega (arith, o.above_leaves), (within, (at, (c.requires.sound, c.requires.notes_new))))
 
 pub derive-overflow_sub-layer-in-None : goal.derive-overflow_sub-layer-in-None
@@ -26,17 +26,17 @@ derive-overflow_sub-layer-in-None g t c = (rests_on c.args.evidence.now c.args.l
 pub derive-trace-requires-in-None : goal.derive-trace-requires-in-None
 derive-trace-requires-in-None g t c κs within =
     let o : Opened c.args.evidence.now c.args.layer c.args.index = rests_on c.args.evidence.now c.args.layer c.args.index c.requires.at.claimed
-        (sym c.in-None.ensures) in
+    (sym c.in-None.ensures) in
     let at = right_claimed (tree_height (g.N.NodeMap.seen c.args.map.now).length) c.args.evidence.now c.args.layer c.args.index c.requires.at
-        (sym c.in-None.ensures) in
+    (sym c.in-None.ensures) in
     (omega (arith, o.above_leaves), (within, (at, (c.trace.ensures.sound, c.trace.ensures.notes_new))))
 
 pub derive-returns-in_ok-right-in-None-clause-value : goal.derive-returns-in_ok-right-in-None-clause-value
 derive-returns-in_ok-right-in-None-clause-value g t c =
     let o : Opened c.args.evidence.now c.args.layer c.args.index = rests_on c.args.evidence.now c.args.layer c.args.index c.requires.at.claimed
-        (sym c.in-None.ensures) in
+    (sym c.in-None.ensures) in
     join_claimed c.args.evidence.now c.args.layer c.args.index _ _ o.above_leaves (sym c.in-None.ensures) c.in_ok-left-in-None.ensures.value
-        c.in_ok-right-in-None.ensures.value
+    c.in_ok-right-in-None.ensures.value
     ∙ ap Some (sym c.parent.ensures)
 
 pub trace-returns-then-not-compare-clause-sound : goal.trace-returns-then-not-compare-clause-sound
@@ -50,7 +50,7 @@ trace-returns-clause-sound g t c =
 pub derive-returns-in_ok-right-in-None-clause-handled : goal.derive-returns-in_ok-right-in-None-clause-handled
 derive-returns-in_ok-right-in-None-clause-handled g t c =
     below-children (claimed_by c.args.evidence.now) (look (g.N.NodeMap.seen c.args.map.now).known) c.trace.new.found c.trace-in-None.new.found c.args.layer
-        c.args.index
+    c.args.index
     c.trace-in-None.ensures.grows c.in_ok-left-in-None.ensures.handled c.in_ok-right-in-None.ensures.handled
 
 pub trace-returns-then-not-compare-clause-notes_new : goal.trace-returns-then-not-compare-clause-notes_new

@@ -16,6 +16,6 @@ store-requires-clause-leads g c =
     let at : LeadsTo (layer_evidence t (look (g.N.NodeMap.seen c.args.nodes.now).known) c.args.layer c.args.hashes inside count) (tree_height c.args.shape) 0 =
     layer-leads t (look (g.N.NodeMap.seen c.args.nodes.now).known) c.args.layer c.args.hashes inside count in
     subst (λ p. LeadsTo (record { base = c.args.layer; index = 0; span = c.args.height - c.args.layer; hashes = c.args.hashes; pad = p }) c.args.height 0)
-        (sym c.zero.ensures)
+    (sym c.zero.ensures)
     (subst (λ h. LeadsTo (record { base = c.args.layer; index = 0; span = h - c.args.layer; hashes = c.args.hashes; pad = zero_hash c.args.layer }) h 0)
-        (sym c.requires.height) at)
+    (sym c.requires.height) at)

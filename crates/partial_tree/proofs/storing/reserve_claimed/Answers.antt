@@ -25,7 +25,7 @@ reserve-requires-clause-range g c =
     let same : tree_height (g.N.NodeMap.seen c.rows.map).length ≡ h = ap tree_height (length-of c.rows.invariant.seen) in
     let wide : c.row-first.result.0 + c.row-first.result.1 ≤ 2 ^ (tree_height (g.N.NodeMap.seen c.rows.map).length - c.rows.below) =
     subst (λ k. c.row-first.result.0 + c.row-first.result.1 ≤ 2 ^ (k - c.rows.below)) (sym same)
-        (omega (arith, inside, c.row-first.ensures.first, c.row-first.ensures.count)) in
+    (omega (arith, inside, c.row-first.ensures.first, c.row-first.ensures.count)) in
     omega (arith, wide)
 
 pub rows-preserved : goal.rows-preserved

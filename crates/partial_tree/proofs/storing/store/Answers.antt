@@ -22,15 +22,15 @@ put_found-gained-requires-clause-room g c = on_ok c.reserve_claimed.result _ c.r
 pub put_found-gained-requires-clause-handled : goal.put_found-gained-requires-clause-handled
 put_found-gained-requires-clause-handled g c =
     subst (λ (m : Known). AllHandled (claimed_by c.args.evidence.now) (look m) c.trace.new.found c.args.layer c.args.index)
-        (sym (known-of c.reserve_claimed.ensures.seen))
+    (sym (known-of c.reserve_claimed.ensures.seen))
     (on_some c.trace.result _ c.trace.ensures.handled (c.is_none.ensures ∙ ap not c.if-is_none.false))
 
 pub returns-clause-stored : goal.returns-clause-stored
 returns-clause-stored g c =
     subst (λ (m : Known). Joins (claimed_by c.args.evidence.now) (g.N.NodeMap.seen c.args.map.now).known m c.put_found-gained.result)
-        (sym (known-of c.trim-2.ensures.seen))
+    (sym (known-of c.trim-2.ensures.seen))
     (subst (λ (m : Known). Joins (claimed_by c.args.evidence.now) m (g.N.NodeMap.seen c.put_found-gained.new.map).known c.put_found-gained.result)
-        (known-of c.reserve_claimed.ensures.seen) c.put_found-gained.ensures.stored)
+    (known-of c.reserve_claimed.ensures.seen) c.put_found-gained.ensures.stored)
 
 pub returns-then-is_empty-clause-stored : goal.returns-then-is_empty-clause-stored
 returns-then-is_empty-clause-stored g c =

@@ -14,5 +14,5 @@ returns-clause-stored g c =
     subst (λ (m : Known). Joins (claimed_by c.args.evidence.now) before m c.write_claimed-gained.result.1) (sym (known-of c.trim-2.ensures.seen))
     (written-joins c.args.evidence.now before c.args.layer c.args.index c.write_claimed-gained.result.1 after c.requires.leads c.requires.agreed
     (subst (λ (m : Known). IsWritten (claimed_by c.args.evidence.now) c.args.layer c.args.index (look m) (look after)) (known-of c.reserve_claimed.ensures.seen)
-        c.write_claimed-gained.ensures.written)
+    c.write_claimed-gained.ensures.written)
     (c.write_claimed-gained.ensures.gained ∙ ap (λ m. len m + c.write_claimed-gained.result.1) (known-of c.reserve_claimed.ensures.seen)))

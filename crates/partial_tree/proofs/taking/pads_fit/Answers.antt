@@ -20,7 +20,7 @@ returns-then-not-base_pads_fit-clause-not c =
     let hashes = c.args.hashes.now in
     unfit-base c.args.shape ask hashes c.args.span c.requires.span c.requires.count.enough
     (λ fits. not_of c.base_pads_fit.result (PadsFrom c.blocks-blocks.result ask.base c.from.result c.split_at.result.0.now) c.base_pads_fit.ensures.fit.1
-        c.if-not-base_pads_fit.true
+    c.if-not-base_pads_fit.true
     (from_moved (block_count c.args.shape) c.blocks-blocks.result ask.base ask.index c.from.result (take ask.length hashes) c.split_at.result.0.now
     (sym c.blocks-blocks.ensures.value) (sym c.from.ensures) (sym c.split_at.ensures.front) fits))
 
@@ -46,7 +46,7 @@ returns-clause-fit c =
     (from_moved c.blocks-blocks.result (block_count c.args.shape) ask.base c.from.result ask.index c.split_at.result.0.now (take ask.length hashes)
     c.blocks-blocks.ensures.value c.from.ensures c.split_at.ensures.front (c.base_pads_fit.ensures.fit.0 c.if-not-base_pads_fit.false))
     (above_moved c.blocks-blocks.result (block_count c.args.shape) (ask.base + c.args.span) (c.from-2.result / 2 ^ c.args.span) (ask.index / 2 ^ c.args.span)
-        c.split_at.result.1.now (drop ask.length hashes)
+    c.split_at.result.1.now (drop ask.length hashes)
     c.blocks-blocks.ensures.value (ap (λ a. a / 2 ^ c.args.span) c.from-2.ensures) c.split_at.ensures.back (c.uncle_pads_fit.ensures.0 e)))
 
 pub returns-clause-not : goal.returns-clause-not
@@ -55,7 +55,7 @@ returns-clause-not c =
     let hashes = c.args.hashes.now in
     OnFalse_from c.uncle_pads_fit.result _ (λ e. unfit-uncles c.args.shape ask hashes c.args.span c.requires.span c.requires.count.enough c.requires.some
     (λ fits. not_of c.uncle_pads_fit.result (PadsAbove c.blocks-blocks.result (ask.base + c.args.span) (c.from-2.result / 2 ^ c.args.span)
-        c.split_at.result.1.now) c.uncle_pads_fit.ensures.1 e
+    c.split_at.result.1.now) c.uncle_pads_fit.ensures.1 e
     (above_moved (block_count c.args.shape) c.blocks-blocks.result (ask.base + c.args.span) (ask.index / 2 ^ c.args.span) (c.from-2.result / 2 ^ c.args.span)
-        (drop ask.length hashes) c.split_at.result.1.now
+    (drop ask.length hashes) c.split_at.result.1.now
     (sym c.blocks-blocks.ensures.value) (ap (λ a. a / 2 ^ c.args.span) (sym c.from-2.ensures)) (sym c.split_at.ensures.back) fits)))

@@ -26,7 +26,7 @@ store-requires-clause-leads g c =
     let range = c.in_ok-span.ensures.good in
     let count = c.in_ok-top.ensures.good in
     let at : LeadsTo ev (top_layer ask hashes) (top_index ask hashes) = leads ev ask hashes refl c.from-2.ensures range.1 refl count.0.enough range.2
-        range.0.aligned in
+    range.0.aligned in
     subst (λ l. LeadsTo ev l (c.from.result / 2 ^ (l - ask.base))) (sym count.1)
     (subst (λ i. LeadsTo ev (top_layer ask hashes) (i / 2 ^ (top_layer ask hashes - ask.base))) (sym c.from.ensures) at)
 
@@ -68,5 +68,9 @@ pub returns-clause-few : goal.returns-clause-few
 returns-clause-few g c = on_ok_weaker c.store.result (λ few.
     let range = c.in_ok-span.ensures.good in
     let count = c.in_ok-top.ensures.good in
-    omega (arith, few, few-up_to c.args.ask.now.base c.from-2.result c.in_ok-span.span c.in_ok-top.top range.3
-        (omega (arith, count.1, count.0.top_inside, c.requires.low)))) c.store.ensures.few
+    omega (
+      arith,
+      few,
+      few-up_to c.args.ask.now.base c.from-2.result c.in_ok-span.span c.in_ok-top.top range.3
+          (omega (arith, count.1, count.0.top_inside, c.requires.low)),
+    )) c.store.ensures.few

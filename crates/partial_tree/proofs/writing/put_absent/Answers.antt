@@ -7,4 +7,4 @@ use Rattle.partial_tree.proofs.writing.put_absent.Goals as goal
 pub returns-clause-gained : goal.returns-clause-gained
 returns-clause-gained g c =
     ap len (known-of c.put.ensures.seen) ∙ len-new (g.N.NodeMap.seen c.args.map.now).known c.args.claim.now c.get.result c.get.ensures (sym c.is_some.ensures
-        ∙ c.if-is_some.false)
+    ∙ c.if-is_some.false)

@@ -24,10 +24,10 @@ returns-in_err-write_all g c =
     let path = map string_bytes c.args.path.now in
     let p = err_from_is_err_and c.from_residual.result c.from_residual.ensures.1 in
     Wrote-part _ p.0 _ _ (codes " ") (path_text path) _ (part_is path (some_parts string_bytes c.args.path.now (sym c.is_empty.ensures ∙ c.if-is_empty.false)))
-        p.1 c.in_err-write_all.ensures
+    p.1 c.in_err-write_all.ensures
 
 pub returns : goal.returns
 returns g c =
     let path = map string_bytes c.args.path.now in
     Wrote-then _ _ _ _ (codes " ") (path_text path) _ (part_is path (some_parts string_bytes c.args.path.now (sym c.is_empty.ensures ∙ c.if-is_empty.false)))
-        c.in_ok-write_all.ensures c.write_path.ensures
+    c.in_ok-write_all.ensures c.write_path.ensures

@@ -21,7 +21,7 @@ returns-in_err-write_all g c =
     let p = err_from_is_err_and c.from_residual.result c.from_residual.ensures.1 in
     Wrote-part _ p.0 _ _ head (path_text path ++ codes "\n") _
     (parts (map tree_entry c.args.trees.now) file.length file.tree path path head (c.as_slice.ensures ∙ c.length_and_root.ensures) refl) p.1
-        c.in_err-write_all.ensures
+    c.in_err-write_all.ensures
 
 pub returns-in_err-write_path : goal.returns-in_err-write_path
 returns-in_err-write_path g c =
@@ -31,7 +31,7 @@ returns-in_err-write_path g c =
     let p = err_from_is_err_and c.from_residual-in_err-write_path.result c.from_residual-in_err-write_path.ensures.1 in
     Wrote-then _ _ _ _ head (path_text path ++ codes "\n") _
     (parts (map tree_entry c.args.trees.now) file.length file.tree file.path path head (c.as_slice.ensures ∙ c.length_and_root.ensures)
-        (ap (map (λ s. s.now)) c.deref.ensures.0 ∙ c.parts.ensures)) c.in_ok-write_all.ensures
+    (ap (map (λ s. s.now)) c.deref.ensures.0 ∙ c.parts.ensures)) c.in_ok-write_all.ensures
     (Wrote-part _ p.0 _ _ (path_text path) (codes "\n") _ refl p.1 c.in_err-write_path.ensures)
 
 pub returns : goal.returns
@@ -41,5 +41,5 @@ returns g c =
     let head = c.as_slice.result.now in
     Wrote-then _ _ _ _ head (path_text path ++ codes "\n") _
     (parts (map tree_entry c.args.trees.now) file.length file.tree file.path path head (c.as_slice.ensures ∙ c.length_and_root.ensures)
-        (ap (map (λ s. s.now)) c.deref.ensures.0 ∙ c.parts.ensures)) c.in_ok-write_all.ensures
+    (ap (map (λ s. s.now)) c.deref.ensures.0 ∙ c.parts.ensures)) c.in_ok-write_all.ensures
     (Wrote-then _ _ _ _ (path_text path) (codes "\n") _ refl c.in_ok-write_path.ensures c.write_all-2.ensures)

@@ -21,7 +21,7 @@ returns-in_err-write_name g c =
     let name = c.name.result.now in
     let p = err_from_is_err_and c.from_residual.result c.from_residual.ensures.1 in
     Wrote-part _ p.0 _ _ (name_text name) (header_text t ++ files_text t.trees t.files) _ (parts t name (header_text t) t.files t.trees c.name.ensures refl refl
-        refl) p.1
+    refl) p.1
     c.in_err-write_name.ensures
 
 pub returns-in_err-write_all : goal.returns-in_err-write_all
@@ -31,7 +31,7 @@ returns-in_err-write_all g c =
     let head = c.as_slice.result.now in
     let p = err_from_is_err_and c.from_residual-in_err-write_all.result c.from_residual-in_err-write_all.ensures.1 in
     Wrote-then _ _ _ _ (name_text name) (head ++ files_text t.trees t.files) _ (parts t name head t.files t.trees c.name.ensures (c.as_slice.ensures
-        ∙ c.header.ensures) refl refl)
+    ∙ c.header.ensures) refl refl)
     c.in_ok-write_name.ensures
     (Wrote-part _ p.0 _ _ head (files_text t.trees t.files) _ refl p.1 c.in_err-write_all.ensures)
 
@@ -43,6 +43,6 @@ returns g c =
     let files = map file_entry c.files.result.now in
     let trees = map tree_entry c.trees.result.now in
     Wrote-then _ _ _ _ (name_text name) (head ++ files_text trees files) _ (parts t name head files trees c.name.ensures (c.as_slice.ensures
-        ∙ c.header.ensures) c.files.ensures c.trees.ensures)
+    ∙ c.header.ensures) c.files.ensures c.trees.ensures)
     c.in_ok-write_name.ensures
     (Wrote-then _ _ _ _ head (files_text trees files) _ refl c.in_ok-write_all.ensures c.write_files.ensures)

@@ -21,4 +21,4 @@ pub returns-in_err-flush : goal.returns-in_err-flush
 returns-in_err-flush g c = λ start text wrote.
     let p = err_from_is_err_and c.from_residual-in_err-flush.result c.from_residual-in_err-flush.ensures.1 in
     flush_failed _ _ p.0 start _ _ text _ c.in_ok-written.was p.1 c.in_err-flush.ensures.bytes c.in_err-flush.ensures.counts c.in_err-flush.ensures.flushes
-        wrote
+    wrote

@@ -27,14 +27,14 @@ no_entry n v i past = ap (entry_lines n v i) (drop_all i v.refusals past)
 pub returns-in_err-write_all : goal.returns-in_err-write_all
 returns-in_err-write_all g c =
     let next = next_entry c.args.number c.args.blocks.now c.entries.entry c.refusal.result c.line_of_entry-line.result c.as_slice.result.now c.refusal.ensures
-        c.line_of_entry-line.ensures c.as_slice.ensures in
+    c.line_of_entry-line.ensures c.as_slice.ensures in
     let p = err_from_is_err_and c.from_residual.result c.from_residual.ensures.1 in
     sent_fault _ p.0 _ _ _ _ _ _ _ c.entries.invariant next p.1 c.in_err-write_all.ensures
 
 pub entries-preserved : goal.entries-preserved
 entries-preserved g c =
     let next = next_entry c.args.number c.args.blocks.now c.entries.entry c.refusal.result c.line_of_entry-line.result c.as_slice.result.now c.refusal.ensures
-        c.line_of_entry-line.ensures c.as_slice.ensures in
+    c.line_of_entry-line.ensures c.as_slice.ensures in
     sent_next _ _ _ _ _ _ _ c.entries.invariant next c.in_ok-write_all.ensures
 
 pub returns : goal.returns

@@ -12,7 +12,7 @@ frames-init g c = record {
   room = c.requires.room;
   so_far =
       let seen = replay_seen (g.R.Source.seen c.args.reader.now.source.now) c.args.session.now (g.W.Sink.seen c.args.report.now)
-          (g.B.Answering.seen c.args.answers.now) in
+      (g.B.Answering.seen c.args.answers.now) in
       subst (λ k. InReplay seen seen k 0 c.default-outcome.result) (sym c.requires.fresh)
       (in_replay_none seen c.default-outcome.result c.default-outcome.ensures.0 c.default-outcome.ensures.1.0 c.default-outcome.ensures.1.1);
 }
@@ -32,9 +32,9 @@ frames-preserved g c = record {
   room = c.in-Ok.ensures.room;
   so_far =
       let old = replay_seen (g.R.Source.seen c.args.reader.now.source.now) c.args.session.now (g.W.Sink.seen c.args.report.now)
-          (g.B.Answering.seen c.args.answers.now) in
+      (g.B.Answering.seen c.args.answers.now) in
       let new = replay_seen (g.R.Source.seen c.next_response.new.reader.source.now) c.next_response.new.session (g.W.Sink.seen c.write_frame.new.report)
-          (g.B.Answering.seen c.answer.new.self) in
+      (g.B.Answering.seen c.answer.new.self) in
       subst (λ k. InReplay old new k (c.frames.number + 1) c.note.new.self) (sym c.in-Ok.ensures.frame.1)
       (in_replay_more c.note.new.self c.frames.invariant.so_far c.in-Ok.ensures.frame.2
       c.in_ok-write_frame.ensures c.in-Ok-answer.ensures c.note.ensures.refused c.note.ensures.no_memory c.note.ensures.fault);
@@ -43,49 +43,49 @@ frames-preserved g c = record {
 pub returns-in_err-write_frame-clause-err : goal.returns-in_err-write_frame-clause-err
 returns-in_err-write_frame-clause-err g c =
     let new = replay_seen (g.R.Source.seen c.next_response.new.reader.source.now) c.next_response.new.session (g.W.Sink.seen c.write_frame.new.report)
-        (g.B.Answering.seen c.frames.answers) in
+    (g.B.Answering.seen c.frames.answers) in
     OnErr_anyway _ _ (cut_in_line new c.frames.invariant.so_far c.in-Ok.ensures.frame.2 c.in_err-write_frame.ensures refl)
 
 pub returns-in-Err-Write-clause-err : goal.returns-in-Err-Write-clause-err
 returns-in-Err-Write-clause-err g c =
     let new = replay_seen (g.R.Source.seen c.next_response.new.reader.source.now) c.next_response.new.session (g.W.Sink.seen c.write_frame.new.report)
-        (g.B.Answering.seen c.answer.new.self) in
+    (g.B.Answering.seen c.answer.new.self) in
     cut_in_answer new c.frames.invariant.so_far c.in-Ok.ensures.frame.2 c.in_ok-write_frame.ensures (rw c.in-Err-Write.field-0-is at c.in-Err-Write.ensures)
 
 pub returns-in-Err-NoMemory-clause-ok : goal.returns-in-Err-NoMemory-clause-ok
 returns-in-Err-NoMemory-clause-ok g c =
     let after = replay_seen (g.R.Source.seen c.next_response.new.reader.source.now) c.next_response.new.session (g.W.Sink.seen c.write_frame.new.report)
-        (g.B.Answering.seen c.answer.new.self) in
+    (g.B.Answering.seen c.answer.new.self) in
     let new = replay_seen (g.R.Source.seen c.next_response.new.reader.source.now) c.next_response.new.session
-        (g.W.Sink.seen c.end_replay-in-Err-NoMemory.new.report) (g.B.Answering.seen c.end_replay-in-Err-NoMemory.new.answers) in
+    (g.W.Sink.seen c.end_replay-in-Err-NoMemory.new.report) (g.B.Answering.seen c.end_replay-in-Err-NoMemory.new.answers) in
     report_ended new c.end_replay-in-Err-NoMemory.result
     (in_end_unanswered c.note.new.self after c.frames.invariant.so_far c.in-Ok.ensures.frame.2 c.in_ok-write_frame.ensures
-        (rw c.in-Err-NoMemory.field-0-is at c.in-Err-NoMemory.ensures)
+    (rw c.in-Err-NoMemory.field-0-is at c.in-Err-NoMemory.ensures)
     c.note.ensures.refused c.note.ensures.no_memory)
     c.end_replay-in-Err-NoMemory.ensures.wrote c.end_replay-in-Err-NoMemory.ensures.outcome
 
 pub returns-in-Err-NoMemory-clause-err : goal.returns-in-Err-NoMemory-clause-err
 returns-in-Err-NoMemory-clause-err g c =
     let after = replay_seen (g.R.Source.seen c.next_response.new.reader.source.now) c.next_response.new.session (g.W.Sink.seen c.write_frame.new.report)
-        (g.B.Answering.seen c.answer.new.self) in
+    (g.B.Answering.seen c.answer.new.self) in
     let new = replay_seen (g.R.Source.seen c.next_response.new.reader.source.now) c.next_response.new.session
-        (g.W.Sink.seen c.end_replay-in-Err-NoMemory.new.report) (g.B.Answering.seen c.end_replay-in-Err-NoMemory.new.answers) in
+    (g.W.Sink.seen c.end_replay-in-Err-NoMemory.new.report) (g.B.Answering.seen c.end_replay-in-Err-NoMemory.new.answers) in
     report_cut new c.end_replay-in-Err-NoMemory.result
     (in_end_unanswered c.note.new.self after c.frames.invariant.so_far c.in-Ok.ensures.frame.2 c.in_ok-write_frame.ensures
-        (rw c.in-Err-NoMemory.field-0-is at c.in-Err-NoMemory.ensures)
+    (rw c.in-Err-NoMemory.field-0-is at c.in-Err-NoMemory.ensures)
     c.note.ensures.refused c.note.ensures.no_memory)
     c.end_replay-in-Err-NoMemory.ensures.wrote
 
 pub returns-in-Err-clause-ok : goal.returns-in-Err-clause-ok
 returns-in-Err-clause-ok g c =
     let new = replay_seen (g.R.Source.seen c.next_response.new.reader.source.now) c.next_response.new.session (g.W.Sink.seen c.end_replay.new.report)
-        (g.B.Answering.seen c.end_replay.new.answers) in
+    (g.B.Answering.seen c.end_replay.new.answers) in
     report_ended new c.end_replay.result (in_end_of_record c.frames.invariant.so_far c.in-Err.ensures.ending c.in-Err.ensures.stays)
     c.end_replay.ensures.wrote c.end_replay.ensures.outcome
 
 pub returns-in-Err-clause-err : goal.returns-in-Err-clause-err
 returns-in-Err-clause-err g c =
     let new = replay_seen (g.R.Source.seen c.next_response.new.reader.source.now) c.next_response.new.session (g.W.Sink.seen c.end_replay.new.report)
-        (g.B.Answering.seen c.end_replay.new.answers) in
+    (g.B.Answering.seen c.end_replay.new.answers) in
     report_cut new c.end_replay.result (in_end_of_record c.frames.invariant.so_far c.in-Err.ensures.ending c.in-Err.ensures.stays)
     c.end_replay.ensures.wrote

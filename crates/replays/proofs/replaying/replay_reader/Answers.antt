@@ -6,21 +6,21 @@ use Rattle.replays.proofs.replaying.replay_reader.Goals as goal
 pub returns-in-Err-clause-ok : goal.returns-in-Err-clause-ok
 returns-in-Err-clause-ok g c =
     let old = replay_seen (g.R.Source.seen c.args.reader.now.source.now) c.args.session.now (g.W.Sink.seen c.args.report.now)
-        (g.B.Answering.seen c.args.answers.now) in
+    (g.B.Answering.seen c.args.answers.now) in
     let new = replay_seen (g.R.Source.seen c.reserve.new.self.source.now) c.args.session.now (g.W.Sink.seen c.end_replay.new.report)
-        (g.B.Answering.seen c.end_replay.new.answers) in
+    (g.B.Answering.seen c.end_replay.new.answers) in
     report_ended new c.end_replay.result
     (in_end_at_once old new c.default.result (ap (λ s. g.R.Source.seen s.now) c.reserve.ensures.unchanged.0.source) refl c.default.ensures.0
-        c.default.ensures.1.0)
+    c.default.ensures.1.0)
     c.end_replay.ensures.wrote c.end_replay.ensures.outcome
 
 pub returns-in-Err-clause-err : goal.returns-in-Err-clause-err
 returns-in-Err-clause-err g c =
     let old = replay_seen (g.R.Source.seen c.args.reader.now.source.now) c.args.session.now (g.W.Sink.seen c.args.report.now)
-        (g.B.Answering.seen c.args.answers.now) in
+    (g.B.Answering.seen c.args.answers.now) in
     let new = replay_seen (g.R.Source.seen c.reserve.new.self.source.now) c.args.session.now (g.W.Sink.seen c.end_replay.new.report)
-        (g.B.Answering.seen c.end_replay.new.answers) in
+    (g.B.Answering.seen c.end_replay.new.answers) in
     report_cut new c.end_replay.result
     (in_end_at_once old new c.default.result (ap (λ s. g.R.Source.seen s.now) c.reserve.ensures.unchanged.0.source) refl c.default.ensures.0
-        c.default.ensures.1.0)
+    c.default.ensures.1.0)
     c.end_replay.ensures.wrote

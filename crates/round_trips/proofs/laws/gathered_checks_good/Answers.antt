@@ -11,7 +11,7 @@ pub returns : goal.returns
 returns c = λ under from none.
     let d = c.args.draft.now in
     let opened : Describes (spelling (value_of d)) (torrent_of d) = c.draft_describes.ensures d c.draft_is_outline.ensures none.0
-        (fits_max_torrent (length (spelling (value_of d))) none.1.0) in (
+    (fits_max_torrent (length (spelling (value_of d))) none.1.0) in (
       opened,
       λ t described.
           let same = c.torrent_is_one.ensures (spelling (value_of d)) t (torrent_of d) described opened in

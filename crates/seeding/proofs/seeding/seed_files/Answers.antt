@@ -59,7 +59,7 @@ files-preserved g c =
       same = c.in_ok-seeded.ensures.torrent ∙ c.files.invariant.same;
       so_far = in_seed_more g.S.Shelf g.S.File.Source.seen
           (shelf_and_session c.args.shelf.now c.args.session.now) (shelf_and_session c.files.shelf c.files.session)
-              (shelf_and_session c.seed_file.new.shelf c.seed_file.new.session)
+          (shelf_and_session c.seed_file.new.shelf c.seed_file.new.session)
           (g.W.Sink.seen c.args.report.now) (g.W.Sink.seen c.files.report) (g.W.Sink.seen c.write_line_of.new.out)
           c.args.session.now.torrent.files c.files.file-index (file_entry c.file-item.result) c.in_ok-seeded.seeded
           (file_there c.args.session.now.torrent c.files-entries.result.now c.files.file-index c.file-item.result files c.files-test.true c.file-item.is)

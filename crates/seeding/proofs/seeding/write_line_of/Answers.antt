@@ -26,7 +26,7 @@ returns-in_err-write_path g c =
     let p = err_from_is_err_and c.from_residual-in_err-write_path.result c.from_residual-in_err-write_path.ensures.1 in
     Wrote-then _ _ _ _ head (path_text path ++ codes "\n") _
     (parts c.args.seeded c.args.file.now.path path head c.seed_text.ensures (ap (map (λ s. s.now)) c.deref.ensures.0 ∙ c.parts.ensures))
-        c.in_ok-write_all.ensures
+    c.in_ok-write_all.ensures
     (Wrote-part _ p.0 _ _ (path_text path) (codes "\n") _ refl p.1 c.in_err-write_path.ensures)
 
 pub returns : goal.returns
@@ -35,5 +35,5 @@ returns g c =
     let head = c.seed_text.result.now in
     Wrote-then _ _ _ _ head (path_text path ++ codes "\n") _
     (parts c.args.seeded c.args.file.now.path path head c.seed_text.ensures (ap (map (λ s. s.now)) c.deref.ensures.0 ∙ c.parts.ensures))
-        c.in_ok-write_all.ensures
+    c.in_ok-write_all.ensures
     (Wrote-then _ _ _ _ (path_text path) (codes "\n") _ refl c.in_ok-write_path.ensures c.write_all-2.ensures)

@@ -24,15 +24,15 @@ returns g c =
       | then-with_layers+then-info-bytes+in_ok-add_layers w ↦
           subst (IsPlanted c.args.piece_length c.args.with_layers (tree_entry c.args.info.now)) (sym w.tree-is)
           (subst (λ b. IsPlanted c.args.piece_length b (tree_entry c.args.info.now) w.add_layers.new.tree) (sym w.if-with_layers.true)
-              w.in_ok-add_layers.ensures)
+          w.in_ok-add_layers.ensures)
       | else-with_layers w ↦
           subst (IsPlanted c.args.piece_length c.args.with_layers (tree_entry c.args.info.now)) (sym w.tree-is)
           (elim w.else-with_layers.branch [
             | else-with_layers-via-then-with_layers+else-info-bytes u ↦
                 planted_as_root c.args.piece_length c.args.with_layers (tree_entry c.args.info.now) c.in_ok-tree.tree (λ on longer. let short =
-                    u.if-info-bytes.false in let value = u.bytes.ensures.value in omega arith) root
+                u.if-info-bytes.false in let value = u.bytes.ensures.value in omega arith) root
             | else-with_layers-via-else-with_layers u ↦
                 planted_as_root c.args.piece_length c.args.with_layers (tree_entry c.args.info.now) c.in_ok-tree.tree
-                    (λ on longer. false≢true (sym u.if-with_layers.false ∙ on)) root
+                (λ on longer. false≢true (sym u.if-with_layers.false ∙ on)) root
           ])
     ]

@@ -14,5 +14,5 @@ reads-preserved g c =
           (sym (take-put_more c.reads.filled count c.reads.buf c.read.new.buf c.reads.invariant.within fits))
           (Faultless-trans (S.seen c.args.source.now) (S.seen c.reads.source) (S.seen c.read.new.self) _ _ c.reads.invariant.gave
           (Faultless-take (S.seen c.reads.source) (S.seen c.read.new.self) count c.read.new.buf fits c.in_ok-count.ensures.bytes.0 c.in_ok-count.ensures.falls
-              c.in_ok-count.ensures.counts));
+          c.in_ok-count.ensures.counts));
     }

@@ -12,7 +12,7 @@ returns-in_err-first-clause-bytes g c =
     let S = g.R.Source in
     let p = err_from_is_err_and c.from_residual.result c.from_residual.ensures.1 in
     rw p.1 (StopsInLength-at_start (S.seen c.args.source.now) (S.seen c.read.new.self) p.0 p.2 c.in_err-first.ensures.bytes c.in_err-first.ensures.falls
-        c.in_err-first.ensures.counts)
+    c.in_err-first.ensures.counts)
 
 pub returns-in_err-read_exact-clause-bytes : goal.returns-in_err-read_exact-clause-bytes
 returns-in_err-read_exact-clause-bytes g c =
@@ -24,9 +24,9 @@ returns-in_err-read_exact-clause-bytes g c =
     let four : length buf ≡ 4 = c.read.auto.buf in
     let fits : first ≤ length buf = e.bound in
     rw (p.1, p.2) (StopsInLength-after (S.seen c.args.source.now) (S.seen c.read.new.self) (S.seen c.read_exact.new.source) (take first buf)
-        (length (take (4 - first) (drop first buf))) _ (omega (arith, length-take first buf))
-        (omega (arith, length-take first buf, length-take (4 - first) (drop first buf), length-drop first buf))
-        (Faultless-take (S.seen c.args.source.now) (S.seen c.read.new.self) first buf fits e.bytes.0 e.falls e.counts) c.in_err-read_exact.ensures.bytes)
+    (length (take (4 - first) (drop first buf))) _ (omega (arith, length-take first buf))
+    (omega (arith, length-take first buf, length-take (4 - first) (drop first buf), length-drop first buf))
+    (Faultless-take (S.seen c.args.source.now) (S.seen c.read.new.self) first buf fits e.bytes.0 e.falls e.counts) c.in_err-read_exact.ensures.bytes)
 
 pub returns-clause-bytes : goal.returns-clause-bytes
 returns-clause-bytes g c =

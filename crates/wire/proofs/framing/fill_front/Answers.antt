@@ -13,5 +13,5 @@ returns-clause-bytes g c =
     let wanted : length (take count room) ≡ count = length-take-le count room c.requires in
     MatchResult-weaker c.read_exact.result c.read_exact.ensures.bytes
     (λ _ gave. subst (GaveFaultless (S.seen c.args.source.now) (S.seen c.read_exact.new.source))
-        (sym (take_at new (drop count room) count (c.read_exact.auto.buf ∙ wanted))) gave)
+    (sym (take_at new (drop count room) count (c.read_exact.auto.buf ∙ wanted))) gave)
     (λ why s. subst (λ n. StopsShort (S.seen c.args.source.now) (S.seen c.read_exact.new.source) n why) wanted s)

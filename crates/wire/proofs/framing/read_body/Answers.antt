@@ -11,7 +11,7 @@ returns-in_err-read_exact-clause-bytes g c =
     let S = g.R.Source in
     let p = err_from_is_err_and c.from_residual.result c.from_residual.ensures.1 in
     rw (p.1, p.2) (StopsInBody-at_start (S.seen c.args.source.now) (S.seen c.read_exact.new.source) _ c.args.len _ (omega arith)
-        (omega (arith, c.if-len-eq0.false)) (device _ c.in_err-read_exact.ensures.no_memory) c.in_err-read_exact.ensures.bytes)
+    (omega (arith, c.if-len-eq0.false)) (device _ c.in_err-read_exact.ensures.no_memory) c.in_err-read_exact.ensures.bytes)
 
 pub returns-in_err-keep-in-Kept-clause-bytes : goal.returns-in_err-keep-in-Kept-clause-bytes
 returns-in_err-keep-in-Kept-clause-bytes g c =
@@ -19,7 +19,7 @@ returns-in_err-keep-in-Kept-clause-bytes g c =
     let p = err_from_is_err_and c.from_residual-in_err-keep-in-Kept.result c.from_residual-in_err-keep-in-Kept.ensures.1 in
     let one = single c.read_exact.new.buf c.read_exact.auto.buf in
     rw (p.1, p.2) (StopsInBody-after (S.seen c.args.source.now) (S.seen c.read_exact.new.source) (S.seen c.keep.new.source) _ c.read_exact.new.buf _ c.args.len
-        _ one (omega (arith, c.if-len-eq0.false)) (λ _. c.in-Kept.ensures.2)
+    _ one (omega (arith, c.if-len-eq0.false)) (λ _. c.in-Kept.ensures.2)
     c.in_ok-read_exact.ensures.bytes c.in_err-keep-in-Kept.ensures.bytes)
 
 pub returns-in_err-skip-in_default-clause-bytes : goal.returns-in_err-skip-in_default-clause-bytes
@@ -28,7 +28,7 @@ returns-in_err-skip-in_default-clause-bytes g c =
     let p = err_from_is_err_and c.from_residual-in_err-skip-in_default.result c.from_residual-in_err-skip-in_default.ensures.1 in
     let one = single c.read_exact.new.buf c.read_exact.auto.buf in
     rw (p.1, p.2) (StopsInBody-after (S.seen c.args.source.now) (S.seen c.read_exact.new.source) (S.seen c.skip.new.source) _ c.read_exact.new.buf _ c.args.len
-        _ one (omega (arith, c.if-len-eq0.false)) (λ no. absurd (device _ c.in_err-skip-in_default.ensures.no_memory no))
+    _ one (omega (arith, c.if-len-eq0.false)) (λ no. absurd (device _ c.in_err-skip-in_default.ensures.no_memory no))
     c.in_ok-read_exact.ensures.bytes c.in_err-skip-in_default.ensures.bytes)
 
 pub returns-in_ok-keep-in-Kept-clause-bytes : goal.returns-in_ok-keep-in-Kept-clause-bytes

@@ -9,7 +9,7 @@ returns-in_err-read_length-clause-bytes g c =
     let S = g.R.Source in
     let p = err_from_is_err_and c.from_residual.result c.from_residual.ensures.1 in
     rw (p.1, p.2) (StopsInFrame-in_length (S.seen c.args.source.now) (S.seen c.read_length.new.source) _ (device _ c.in_err-read_length.ensures.no_memory)
-        c.in_err-read_length.ensures.bytes)
+    c.in_err-read_length.ensures.bytes)
 
 pub returns-in_err-read_body-in-Some-clause-bytes : goal.returns-in_err-read_body-in-Some-clause-bytes
 returns-in_err-read_body-in-Some-clause-bytes g c =
@@ -17,7 +17,7 @@ returns-in_err-read_body-in-Some-clause-bytes g c =
     let p = err_from_is_err_and c.from_residual-in_err-read_body-in-Some.result c.from_residual-in_err-read_body-in-Some.ensures.1 in
     let front = rw c.in-Some.is at c.in_ok-read_length.ensures.bytes in
     rw (p.1, p.2) (StopsInFrame-in_body (S.seen c.args.source.now) (S.seen c.read_length.new.source) (S.seen c.read_body.new.source) c.in-Some.len _ front.1
-        front.0 c.in_err-read_body-in-Some.ensures.bytes)
+    front.0 c.in_err-read_body-in-Some.ensures.bytes)
 
 pub returns-in_ok-read_body-in-Some-clause-bytes : goal.returns-in_ok-read_body-in-Some-clause-bytes
 unfolding frame

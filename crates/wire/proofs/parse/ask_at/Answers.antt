@@ -15,6 +15,6 @@ unfolding ask_bytes
 returns-clause-bytes c =
     let bytes = c.args.bytes.now in
     five_fields c.copy_from_slice.new.self bytes c.number_at.result c.number_at-2.result c.number_at-3.result c.number_at-4.result
-        c.copy_from_slice.ensures.after
+    c.copy_from_slice.ensures.after
     (drop-number 32 c.number_at.result bytes c.number_at.ensures) (drop-number 36 c.number_at-2.result bytes c.number_at-2.ensures)
     (drop-number 40 c.number_at-3.result bytes c.number_at-3.ensures) (drop-number 44 c.number_at-4.result bytes c.number_at-4.ensures)

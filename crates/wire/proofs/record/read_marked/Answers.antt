@@ -12,14 +12,14 @@ returns-in_err-read_exact-clause-bytes g c = λ start first.
     let S = g.R.Source in
     let p = err_from_is_err_and c.from_residual.result c.from_residual.ensures.1 in
     rw (p.1, p.2) (stops_in_half start (S.seen c.args.source.now) (S.seen c.read_exact.new.source) _ _ refl (device _ c.in_err-read_exact.ensures.no_memory)
-        first c.in_err-read_exact.ensures.bytes)
+    first c.in_err-read_exact.ensures.bytes)
 
 pub returns-in_err-read_directed-clause-bytes : goal.returns-in_err-read_directed-clause-bytes
 returns-in_err-read_directed-clause-bytes g c = λ start first.
     let S = g.R.Source in
     let p = err_from_is_err_and c.from_residual-in_err-read_directed.result c.from_residual-in_err-read_directed.ensures.1 in
     let head = gave_header start (S.seen c.args.source.now) (S.seen c.read_exact.new.source) c.read_exact.new.buf (half_is _ c.if-eq.ensures) first
-        c.in_ok-read_exact.ensures.bytes in
+    c.in_ok-read_exact.ensures.bytes in
     rw (p.1, p.2) (stops_after_header start (S.seen c.read_exact.new.source) (S.seen c.read_directed.new.source) _ head c.in_err-read_directed.ensures.bytes)
 
 pub returns-in_err-skip-clause-bytes : goal.returns-in_err-skip-clause-bytes
@@ -27,16 +27,16 @@ returns-in_err-skip-clause-bytes g c = λ start first.
     let S = g.R.Source in
     let p = err_from_is_err_and c.from_residual-in_err-skip.result c.from_residual-in_err-skip.ensures.1 in
     rw (p.1, p.2) (stops_behind_half start (S.seen c.args.source.now) (S.seen c.read_exact.new.source) (S.seen c.skip.new.source) c.read_exact.new.buf _ _
-        c.read_exact.auto.buf (half_is_not _ c.if-eq.ensures) refl
+    c.read_exact.auto.buf (half_is_not _ c.if-eq.ensures) refl
     (device _ c.in_err-skip.ensures.no_memory) first c.in_ok-read_exact.ensures.bytes c.in_err-skip.ensures.bytes)
 
 pub returns-in_ok-read_directed-clause-bytes : goal.returns-in_ok-read_directed-clause-bytes
 returns-in_ok-read_directed-clause-bytes g c = λ start first.
     let S = g.R.Source in
     let head = gave_header start (S.seen c.args.source.now) (S.seen c.read_exact.new.source) c.read_exact.new.buf (half_is _ c.if-eq.ensures) first
-        c.in_ok-read_exact.ensures.bytes in
+    c.in_ok-read_exact.ensures.bytes in
     next_after_header (HoldsFrom c.read_directed.new.kept.items) start (S.seen c.read_exact.new.source) (S.seen c.read_directed.new.source)
-        c.in_ok-read_directed.field-0 head c.in_ok-read_directed.ensures.bytes
+    c.in_ok-read_directed.field-0 head c.in_ok-read_directed.ensures.bytes
 
 pub returns-in_ok-skip-clause-bytes : goal.returns-in_ok-skip-clause-bytes
 returns-in_ok-skip-clause-bytes g c = λ start first.

@@ -35,9 +35,17 @@ returns-in_err-read_exact-clause-bytes g c =
     let left = drop count buf in
     let p = err_from_is_err_and c.from_residual-in_err-read_exact.result c.from_residual-in_err-read_exact.ensures.1 in
     let first : GaveFaultless a b (slice_index_or buf 0 0 ∷ behind) = subst (GaveFaultless a b) (first_byte count buf fits c.if-count-eq0.false)
-        (Faultless-take a b count buf fits e.bytes.0 e.falls e.counts) in
+    (Faultless-take a b count buf fits e.bytes.0 e.falls e.counts) in
     rw (p.1, p.2) (stops_in_start c.in-Some.direction behind (length (take (5 - count) left)) a b (S.seen c.read_exact.new.source) _
-    (omega (arith, five, fits, c.if-count-eq0.false, length-take (count - 1) (drop 1 buf), length-drop 1 buf, length-take (5 - count) left,
-        length-drop count buf))
+    (omega (
+      arith,
+      five,
+      fits,
+      c.if-count-eq0.false,
+      length-take (count - 1) (drop 1 buf),
+      length-drop 1 buf,
+      length-take (5 - count) left,
+      length-drop count buf,
+    ))
     (device _ c.in_err-read_exact.ensures.no_memory)
     (subst (λ n. GaveFaultless a b (n ∷ behind)) c.in-Some.ensures first) c.in_err-read_exact.ensures.bytes)

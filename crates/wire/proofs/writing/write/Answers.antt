@@ -20,7 +20,7 @@ returns-in-Hashes g c =
     let went = rw (c.as_slice-in-Hashes.ensures.value, c.ask_fields-in-Hashes.ensures.bytes) at c.put-in-Hashes.ensures in
     let b = c.bytes_of.ensures in
     rw p.is (WroteFrame-of c.put-in-Hashes.result _ _ _ _ (IsWrittenFrame-hashes p.ask p.hashes c.bytes_of.result.now c.ask_fields-in-Hashes.ensures.fits b.each
-        small b.joined b.len) went)
+    small b.joined b.len) went)
 
 pub returns-in-Request : goal.returns-in-Request
 returns-in-Request g c =

@@ -14,8 +14,13 @@ use Rattle.drafts.proofs.draft.Draft.add.Goals as goal
 pub returns-in_default : goal.returns-in_default
 returns-in_default c =
     let f = given_file c.args.self.now (map (λ s. s.now) c.args.path.now) c.args.length c.args.root c.args.v1.now in
-    let passed : Passed c.args.self.now f = record { path = c.in_ok-test_path.ensures; bound = omega (arith, c.if-length-gt-MAX_LENGTH.false); root =
-        c.in_ok-test_root.ensures; pieces = c.in_ok-test_pieces.ensures } in
+    let passed : Passed c.args.self.now f = record {
+      path = c.in_ok-test_path.ensures;
+      bound = omega (arith, c.if-length-gt-MAX_LENGTH.false);
+      root =
+          c.in_ok-test_root.ensures;
+      pieces = c.in_ok-test_pieces.ensures;
+    } in
     let paths : map (λ (g : OutlineFile). g.path) (map outline_file c.deref.result.now) ≡ paths_in c.args.self.now =
     ap (λ (fs : List DraftFile). map (λ (g : OutlineFile). g.path) (map outline_file fs)) c.deref.ensures.value ∙ ap paths_in c.self.view_is
     in
@@ -24,21 +29,31 @@ returns-in_default c =
 pub returns-in_err-file : goal.returns-in_err-file
 returns-in_err-file c =
     let f = given_file c.args.self.now (map (λ s. s.now) c.args.path.now) c.args.length c.args.root c.args.v1.now in
-    let passed : Passed c.args.self.now f = record { path = c.in_ok-test_path.ensures; bound = omega (arith, c.if-length-gt-MAX_LENGTH.false); root =
-        c.in_ok-test_root.ensures; pieces = c.in_ok-test_pieces.ensures } in
+    let passed : Passed c.args.self.now f = record {
+      path = c.in_ok-test_path.ensures;
+      bound = omega (arith, c.if-length-gt-MAX_LENGTH.false);
+      root =
+          c.in_ok-test_root.ensures;
+      pieces = c.in_ok-test_pieces.ensures;
+    } in
     let paths : map (λ (g : OutlineFile). g.path) (map outline_file c.deref.result.now) ≡ paths_in c.args.self.now =
     ap (λ (fs : List DraftFile). map (λ (g : OutlineFile). g.path) (map outline_file fs)) c.deref.ensures.value ∙ ap paths_in c.self.view_is
     in
     let p = err_from_is_err_and c.from_residual-in_err-file.result c.from_residual-in_err-file.ensures.1 in
     subst (Adds c.args.self.now f c.args.layer.now c.args.self.now) (sym p.1)
     (answers c.args.self.now c.args.self.now f c.args.layer.now (Err p.0) (none_holds c.args.self.now f c.in-Some.place passed
-        (subst (λ ps. IsPlaceOf f.path ps c.in-Some.place) paths c.in-Some.ensures.place)) tt (p.2 ∙ c.in_err-file.ensures) refl)
+    (subst (λ ps. IsPlaceOf f.path ps c.in-Some.place) paths c.in-Some.ensures.place)) tt (p.2 ∙ c.in_err-file.ensures) refl)
 
 pub insert-requires-clause-tests : goal.insert-requires-clause-tests
 insert-requires-clause-tests c =
     let f = given_file c.args.self.now (map (λ s. s.now) c.args.path.now) c.args.length c.args.root c.args.v1.now in
-    let passed : Passed c.args.self.now f = record { path = c.in_ok-test_path.ensures; bound = omega (arith, c.if-length-gt-MAX_LENGTH.false); root =
-        c.in_ok-test_root.ensures; pieces = c.in_ok-test_pieces.ensures } in
+    let passed : Passed c.args.self.now f = record {
+      path = c.in_ok-test_path.ensures;
+      bound = omega (arith, c.if-length-gt-MAX_LENGTH.false);
+      root =
+          c.in_ok-test_root.ensures;
+      pieces = c.in_ok-test_pieces.ensures;
+    } in
     let paths : map (λ (g : OutlineFile). g.path) (map outline_file c.deref.result.now) ≡ paths_in c.args.self.now =
     ap (λ (fs : List DraftFile). map (λ (g : OutlineFile). g.path) (map outline_file fs)) c.deref.ensures.value ∙ ap paths_in c.self.view_is
     in
@@ -51,13 +66,18 @@ insert-requires-clause-fits c =
     let padded_length : length c.args.v1.now.padded ≡ 20 = search rules in
     subst (λ g. IsGiven c.args.self.now g c.args.layer.now) (sym c.in_ok-file.ensures)
     (fits_given c.args.self.now (map (λ s. s.now) c.args.path.now) c.args.length c.args.root c.args.v1.now c.args.layer.now root_length
-        (subst (All (λ h. length h ≡ 20)) c.deref-2.ensures.value c.are_digests.ensures) padded_length c.requires)
+    (subst (All (λ h. length h ≡ 20)) c.deref-2.ensures.value c.are_digests.ensures) padded_length c.requires)
 
 pub returns : goal.returns
 returns c =
     let f = given_file c.args.self.now (map (λ s. s.now) c.args.path.now) c.args.length c.args.root c.args.v1.now in
-    let passed : Passed c.args.self.now f = record { path = c.in_ok-test_path.ensures; bound = omega (arith, c.if-length-gt-MAX_LENGTH.false); root =
-        c.in_ok-test_root.ensures; pieces = c.in_ok-test_pieces.ensures } in
+    let passed : Passed c.args.self.now f = record {
+      path = c.in_ok-test_path.ensures;
+      bound = omega (arith, c.if-length-gt-MAX_LENGTH.false);
+      root =
+          c.in_ok-test_root.ensures;
+      pieces = c.in_ok-test_pieces.ensures;
+    } in
     let paths : map (λ (g : OutlineFile). g.path) (map outline_file c.deref.result.now) ≡ paths_in c.args.self.now =
     ap (λ (fs : List DraftFile). map (λ (g : OutlineFile). g.path) (map outline_file fs)) c.deref.ensures.value ∙ ap paths_in c.self.view_is
     in

@@ -19,12 +19,12 @@ pub invariant_of-self-2 : goal.invariant_of-self-2
 invariant_of-self-2 c =
     let i = c.self.inside in
     (put_file (string_bytes i.name) i.piece_length i.hybrid i.files.items c.insert.new.self.items i.roots.entries c.keep_root.new.roots.entries i.pieces _
-        c.args.place c.args.file c.args.layer.now
+    c.args.place c.args.file c.args.layer.now
     c.bytes-piece_length.result c.self.invariant
     (subst (λ d. NoneHolds (add_rows d (outline_file c.args.file))) (sym c.self.view_is) c.requires.tests) c.requires.path
     (subst (λ d. IsGiven d (outline_file c.args.file) c.args.layer.now) (sym c.self.view_is) c.requires.fits)
     (subst (λ (d : Outline). IsPlaceOf (outline_file c.args.file).path (map (λ (f : OutlineFile). f.path) d.files) c.args.place) (sym c.self.view_is)
-        c.requires.place)
+    c.requires.place)
     (c.in_ok-insert.ensures.items ∙ ap (λ fs. insert fs c.args.place c.args.file) c.in_ok-reserve.ensures.items)
     (ap (λ n. i.pieces + n) c.pieces.ensures) c.in_ok-keep_root.ensures.kept c.bytes-piece_length.ensures.value).1
 
@@ -32,13 +32,13 @@ pub returns-clause-added : goal.returns-clause-added
 returns-clause-added c =
     let i = c.self.inside in
     subst (λ d. IsWith d (outline (string_bytes i.name) i.piece_length i.hybrid c.insert.new.self.items c.keep_root.new.roots.entries)
-        (outline_file c.args.file) c.args.layer.now) c.self.view_is
+    (outline_file c.args.file) c.args.layer.now) c.self.view_is
     (put_file (string_bytes i.name) i.piece_length i.hybrid i.files.items c.insert.new.self.items i.roots.entries c.keep_root.new.roots.entries i.pieces _
-        c.args.place c.args.file c.args.layer.now
+    c.args.place c.args.file c.args.layer.now
     c.bytes-piece_length.result c.self.invariant
     (subst (λ d. NoneHolds (add_rows d (outline_file c.args.file))) (sym c.self.view_is) c.requires.tests) c.requires.path
     (subst (λ d. IsGiven d (outline_file c.args.file) c.args.layer.now) (sym c.self.view_is) c.requires.fits)
     (subst (λ (d : Outline). IsPlaceOf (outline_file c.args.file).path (map (λ (f : OutlineFile). f.path) d.files) c.args.place) (sym c.self.view_is)
-        c.requires.place)
+    c.requires.place)
     (c.in_ok-insert.ensures.items ∙ ap (λ fs. insert fs c.args.place c.args.file) c.in_ok-reserve.ensures.items)
     (ap (λ n. i.pieces + n) c.pieces.ensures) c.in_ok-keep_root.ensures.kept c.bytes-piece_length.ensures.value).0

@@ -8,5 +8,5 @@ returns-in-Some c = (
   refl,
   subst (λ d. ReusesRoot d c.args.length c.args.root.now) c.self.view_is
       (reuses _ c.self.inside.roots.entries c.args.length c.args.root.now c.in-Some.kept.now c.self.invariant.roots (sym c.in-Some.ensures.value)
-          c.if-length-gt0.true c.if-kept-length.true),
+      c.if-length-gt0.true c.if-kept-length.true),
 )

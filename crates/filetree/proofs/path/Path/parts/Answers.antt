@@ -10,6 +10,6 @@ push-requires c =
     let none = ap length c.new-parts.ensures in
     let few = c.self.invariant in
     let put = sym (length-map c.put.new.parts.items (λ s. s.now)) ∙ ap length c.put.ensures
-        ∙ length-append (map (λ s. s.now) c.new-parts.result.items) c.self.inside.folders in
+    ∙ length-append (map (λ s. s.now) c.new-parts.result.items) c.self.inside.folders in
     let before = length-map c.new-parts.result.items (λ s. s.now) in
     (omega arith, omega (arith, none, few, put, before))

@@ -23,4 +23,4 @@ files-preserved c =
 pub returns : goal.returns
 returns c =
     subst (λ files. IsEachOnce (map path_of files) (map path_bytes c.files.paths.items)) (take_all c.files.i c.args.files.now c.files-test.false)
-        c.files.invariant
+    c.files.invariant

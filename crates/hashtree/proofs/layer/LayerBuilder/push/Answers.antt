@@ -51,7 +51,7 @@ returns-in_err-keep-clause-refused c =
       why = λ file is_fed.
           let at = c.parts.invariant.content file is_fed in
           inr (node_takes_memory c.args.self.now c.parts.self c.take_part-taken.new.self file (file ++ take start bytes) _ c.take_part-taken.result.1
-              (length bytes)
+          (length bytes)
           is_fed at
           (fed.fed (file ++ take start bytes) at.fed)
           (c.take_part-taken.ensures.node (file ++ take start bytes) at.fed)

@@ -19,7 +19,7 @@ layers-preserved c = record {
   count_is = c.layers.invariant.count_is;
   carries = λ xs held. carries_step c.args.self.now xs c.args.leaf c.layers.level c.layers.width c.layers.node c.parent-node.result
       held c.layers-test.true (omega arith) (c.parent-node.ensures
-          ∙ ap (λ t. sha256 (get_or t c.layers.level [] ++ c.layers.node)) c.layers.invariant.levels_same) (c.layers.invariant.carries xs held);
+      ∙ ap (λ t. sha256 (get_or t c.layers.level [] ++ c.layers.node)) c.layers.invariant.levels_same) (c.layers.invariant.carries xs held);
   completed = λ xs held. elim c.if-level-layer.branch [
     | then-level-layer w ↦ subst (Completed xs c.args.leaf c.args.layer (c.layers.level + 1)) (sym w.completed-is)
         (completed_here xs c.args.leaf c.args.layer c.layers.level c.layers.width c.layers.node w.if-level-layer.true (c.layers.invariant.carries xs held))

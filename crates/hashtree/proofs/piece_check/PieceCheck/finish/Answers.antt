@@ -25,6 +25,6 @@ returns c = λ file at.
         size_is = size;
         compared = subst (λ t. IsComparison t hashes c.compare-other.result.1) whole
             (subst (λ hs. IsComparison (xs ++ option_to_list node) hs c.compare-other.result.1) (take_all (length (xs ++ option_to_list node)) hashes
-                (omega (arith, all))) found.compared);
+            (omega (arith, all))) found.compared);
       },
     )

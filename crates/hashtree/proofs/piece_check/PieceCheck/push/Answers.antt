@@ -29,13 +29,22 @@ parts-preserved c =
           let xs = complete_nodes c.parts.self.builder (file ++ take start bytes) layer in
           let done = c.take_part-taken.ensures.node (file ++ take start bytes) at.fed in
           let more = fed.fed (file ++ take start bytes) at.fed in
-          let len : byte_count mid ≤ c.parts.self.shape = omega (arith, fed.count, size, c.take_part-taken.ensures.bound, ap length (take_rest bytes start),
-              length-drop start bytes, c.parts.invariant.count, c.parts.invariant.shape, c.requires) in
+          let len : byte_count mid ≤ c.parts.self.shape = omega (
+            arith,
+            fed.count,
+            size,
+            c.take_part-taken.ensures.bound,
+            ap length (take_rest bytes start),
+            length-drop start bytes,
+            c.parts.invariant.count,
+            c.parts.invariant.shape,
+            c.requires,
+          ) in
           let room : length (complete_nodes mid ((file ++ take start bytes) ++ part) layer) ≤ first_pad (block_count c.parts.self.shape) layer =
           room_for_nodes mid ((file ++ take start bytes) ++ part) c.parts.self.shape layer more (omega (arith, fed.count, size, c.take_part-taken.ensures.some))
-              mid.in_block len in
+          mid.in_block len in
           let found = c.compare.ensures xs at.nodes
-              (omega (arith, ap length done, at.whole, room, length-append xs (option_to_list c.take_part-taken.result.1))) in
+          (omega (arith, ap length done, at.whole, room, length-append xs (option_to_list c.take_part-taken.result.1))) in
           subst (IsFedCheck _) (next_part file bytes start taken)
           (checked c.parts.self _ (file ++ take start bytes) ((file ++ take start bytes) ++ part) c.take_part-taken.result.1 at more done refl refl
           refl found);

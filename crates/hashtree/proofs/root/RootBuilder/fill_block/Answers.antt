@@ -9,7 +9,7 @@ returns-then-self-eq-BLOCK-clause-content c = λ file at.
     let part = take taken c.args.bytes.now in
     let rest = drop (16384 * c.args.self.now.peaks.count) file in
     let size : length (take c.min-taken.result c.args.bytes.now) ≡ c.min-taken.result = omega (arith, length-take taken c.args.bytes.now, c.min-taken.ensures)
-        in
+    in
     let held = c.update.ensures rest (at.rest_held c.requires.open) in
     at_filled c.args.self.now _ file part at (omega (arith, size)) refl
     (λ less. absurd (omega (arith, less, c.if-self-eq-BLOCK.true)))
@@ -22,7 +22,7 @@ returns-else-self-eq-BLOCK-clause-content c = λ file at.
     let part = take taken c.args.bytes.now in
     let rest = drop (16384 * c.args.self.now.peaks.count) file in
     let size : length (take c.min-taken.result c.args.bytes.now) ≡ c.min-taken.result = omega (arith, length-take taken c.args.bytes.now, c.min-taken.ensures)
-        in
+    in
     at_filled c.args.self.now _ file part at (omega (arith, size)) refl
     (λ _. c.update.ensures rest (at.rest_held c.requires.open))
     (λ full. absurd (omega (arith, full, c.if-self-eq-BLOCK.false)))

@@ -23,9 +23,11 @@ returns-then-layer-height-clause-tree c = λ file fed.
     ] in
     let fin : Finishing c.args.self file c.if-self-eq-BLOCK.last c.height-height.result =
     finishing b file last h c.requires fed b.in_block (c.height-height.ensures.value ∙ ap (λ k. height (block_count k)) shape)
-    last_is in
-    (c.len-length.ensures ∙ fed.at.length_is, finished_root b file last h c.last_node-root.result fin (c.last_node-root.ensures.root xs fed.at.leaves_held
-        fin.fits))
+    last_is in (
+      c.len-length.ensures ∙ fed.at.length_is,
+      finished_root b file last h c.last_node-root.result fin (c.last_node-root.ensures.root xs fed.at.leaves_held
+          fin.fits),
+    )
 
 pub returns-else-layer-height-clause-tree : goal.returns-else-layer-height-clause-tree
 returns-else-layer-height-clause-tree c = λ file fed.
@@ -43,9 +45,11 @@ returns-else-layer-height-clause-tree c = λ file fed.
     ] in
     let fin : Finishing c.args.self file c.if-self-eq-BLOCK.last c.height-height.result =
     finishing b file last h c.requires fed b.in_block (c.height-height.ensures.value ∙ ap (λ k. height (block_count k)) shape)
-    last_is in
-    (c.len-length.ensures ∙ fed.at.length_is, finished_root b file last h c.last_node-root.result fin (c.last_node-root.ensures.root xs fed.at.leaves_held
-        fin.fits))
+    last_is in (
+      c.len-length.ensures ∙ fed.at.length_is,
+      finished_root b file last h c.last_node-root.result fin (c.last_node-root.ensures.root xs fed.at.leaves_held
+          fin.fits),
+    )
 
 pub returns-then-layer-height-clause-nodes : goal.returns-then-layer-height-clause-nodes
 returns-then-layer-height-clause-nodes c = λ file fed.

@@ -12,8 +12,12 @@ use Rattle.hashtree.proofs.root.RootBuilder.take_part.Goals.{then-self-eq-BLOCK,
 pub take_group-node-requires-clause-room : goal.take_group-node-requires-clause-room
 take_group-node-requires-clause-room c =
     let same : byte_count c.if-self-eq-BLOCK.self ≡ byte_count c.args.self.now = elim c.if-self-eq-BLOCK.branch [
-      | then-self-eq-BLOCK w ↦ ap byte_count w.self-is ∙ omega (arith, w.close_block-completed.ensures.one, w.close_block-completed.ensures.empty,
-          w.if-self-eq-BLOCK.true)
+      | then-self-eq-BLOCK w ↦ ap byte_count w.self-is ∙ omega (
+        arith,
+        w.close_block-completed.ensures.one,
+        w.close_block-completed.ensures.empty,
+        w.if-self-eq-BLOCK.true,
+      )
       | else-self-eq-BLOCK w ↦ ap byte_count w.self-is
     ] in
     omega (arith, same, length-take 131072 c.args.bytes.now, c.requires.room)
@@ -24,8 +28,12 @@ returns-then-bytes-ge-GROUP-clause-fed c =
     record {
       count =
           let same : byte_count c.if-self-eq-BLOCK.self ≡ byte_count c.args.self.now = elim c.if-self-eq-BLOCK.branch [
-            | then-self-eq-BLOCK w ↦ ap byte_count w.self-is ∙ omega (arith, w.close_block-completed.ensures.one, w.close_block-completed.ensures.empty,
-                w.if-self-eq-BLOCK.true)
+            | then-self-eq-BLOCK w ↦ ap byte_count w.self-is ∙ omega (
+              arith,
+              w.close_block-completed.ensures.one,
+              w.close_block-completed.ensures.empty,
+              w.if-self-eq-BLOCK.true,
+            )
             | else-self-eq-BLOCK w ↦ ap byte_count w.self-is
           ] in
           omega (arith, same, size, c.take_group-node.ensures.full, c.take_group-node.ensures.seven, c.if-self-eq0.true);

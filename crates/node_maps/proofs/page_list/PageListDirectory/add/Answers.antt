@@ -13,11 +13,11 @@ returns-in-Err-clause-ok c =
     let ps : List Page = s.pages.items in
     let gap = subst (λ xs. IsGapFor xs c.args.number c.in-Err.at) (c.deref.ensures.value ∙ c.make_room.ensures.numbers) c.in-Err.ensures.gap in
     let numbers : c.insert_reserved.new.items.items ≡ insert ns c.in-Err.at c.args.number = c.insert_reserved.ensures.items
-        ∙ ap (λ xs. insert xs c.in-Err.at c.args.number) c.make_room.ensures.numbers in
+    ∙ ap (λ xs. insert xs c.in-Err.at c.args.number) c.make_room.ensures.numbers in
     let pages : c.insert_reserved-in-Err.new.items.items ≡ insert ps c.in-Err.at c.args.page = c.insert_reserved-in-Err.ensures.items
-        ∙ ap (λ xs. insert xs c.in-Err.at c.args.page) c.make_room.ensures.items in
+    ∙ ap (λ xs. insert xs c.in-Err.at c.args.page) c.make_room.ensures.items in
     λ n. ap (λ xs. page_numbered xs c.insert_reserved-in-Err.new.items.items n) numbers
-        ∙ ap (λ ys. page_numbered (insert ns c.in-Err.at c.args.number) ys n) pages
+    ∙ ap (λ ys. page_numbered (insert ns c.in-Err.at c.args.number) ys n) pages
     ∙ insert-found ns ps s.rising s.beside c.args.number c.in-Err.at gap c.args.page n
 
 pub returns-in_default-clause-ok : goal.returns-in_default-clause-ok

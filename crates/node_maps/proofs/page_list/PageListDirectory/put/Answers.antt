@@ -27,7 +27,7 @@ returns-in-Ok-clause-others c =
     let is = subst (λ xs. IsNumberAt xs c.args.number c.in-Ok.at) c.deref.ensures.value c.in-Ok.ensures.at in
     let w : Page = c.put.new.self in
     changed-self c.args.number (Some w) (page_numbered ns ps) (page_numbered ns (set ps c.in-Ok.at w))
-        (set-found ns ps s.rising s.beside c.args.number c.in-Ok.at is w)
+    (set-found ns ps s.rising s.beside c.args.number c.in-Ok.at is w)
 
 pub returns-in_default-clause-here : goal.returns-in_default-clause-here
 returns-in_default-clause-here c =

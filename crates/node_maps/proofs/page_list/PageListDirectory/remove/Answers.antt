@@ -26,7 +26,7 @@ returns-in-Ok-clause-gone c =
     let ps : List Page = s.pages.items in
     let is = subst (λ xs. IsNumberAt xs c.args.number c.in-Ok.at) c.deref.ensures.value c.in-Ok.ensures.at in
     λ n. ap (λ xs. page_numbered xs c.remove-in-Ok.new.self.items n) c.remove.ensures.items
-        ∙ ap (λ ys. page_numbered (remove ns c.in-Ok.at) ys n) c.remove-in-Ok.ensures.items
+    ∙ ap (λ ys. page_numbered (remove ns c.in-Ok.at) ys n) c.remove-in-Ok.ensures.items
     ∙ remove-found ns ps s.rising s.beside c.args.number c.in-Ok.at is n
 
 pub returns-in_default-clause-gone : goal.returns-in_default-clause-gone

@@ -12,7 +12,7 @@ add-requires g c =
     let s = c.args.self.now in
     let is = subst (λ ns. IsNumberAt ns (c.args.number / 2 ^ s.shift) c.in-Ok.at) c.deref.ensures.value c.in-Ok.ensures.at in
     sym (under_there g.D.Directory.find s.numbers.items s.lists.items s.rising s.beside s.shift c.args.number c.in-Ok.at is c.index_mut-list.result.now
-        c.index_mut-list.ensures.value) ∙ c.requires
+    c.index_mut-list.ensures.value) ∙ c.requires
 
 pub invariant_of-self-in-Err : goal.invariant_of-self-in-Err
 invariant_of-self-in-Err g c =
@@ -20,9 +20,9 @@ invariant_of-self-in-Err g c =
     let key : ℕ = c.args.number / 2 ^ s.shift in
     let gap = subst (λ ns. IsGapFor ns key c.in-Err.at) c.deref.ensures.value c.in-Err.ensures.gap in
     let numbers : c.insert_reserved.new.items.items ≡ insert s.numbers.items c.in-Err.at key = c.insert_reserved.ensures.items
-        ∙ ap (λ xs. insert xs c.in-Err.at key) c.make_room.ensures.numbers in
+    ∙ ap (λ xs. insert xs c.in-Err.at key) c.make_room.ensures.numbers in
     let lists : c.insert_reserved-in-Err.new.items.items ≡ insert s.lists.items c.in-Err.at c.add-in-Err.new.self = c.insert_reserved-in-Err.ensures.items
-        ∙ ap (λ xs. insert xs c.in-Err.at c.add-in-Err.new.self) c.make_room.ensures.items in
+    ∙ ap (λ xs. insert xs c.in-Err.at c.add-in-Err.new.self) c.make_room.ensures.items in
     record {
       low = s.low;
       rising = subst AreRising (sym numbers) (rising-insert s.numbers.items key c.in-Err.at gap s.rising);
@@ -51,11 +51,11 @@ returns-in_ok-add-in-Err-clause-ok g c =
     let key : ℕ = c.args.number / 2 ^ s.shift in
     let gap = subst (λ ns. IsGapFor ns key c.in-Err.at) c.deref.ensures.value c.in-Err.ensures.gap in
     let numbers : c.insert_reserved.new.items.items ≡ insert s.numbers.items c.in-Err.at key = c.insert_reserved.ensures.items
-        ∙ ap (λ xs. insert xs c.in-Err.at key) c.make_room.ensures.numbers in
+    ∙ ap (λ xs. insert xs c.in-Err.at key) c.make_room.ensures.numbers in
     let lists : c.insert_reserved-in-Err.new.items.items ≡ insert s.lists.items c.in-Err.at c.add-in-Err.new.self = c.insert_reserved-in-Err.ensures.items
-        ∙ ap (λ xs. insert xs c.in-Err.at c.add-in-Err.new.self) c.make_room.ensures.items in
+    ∙ ap (λ xs. insert xs c.in-Err.at c.add-in-Err.new.self) c.make_room.ensures.items in
     λ n. ap (λ xs. find_under find xs c.insert_reserved-in-Err.new.items.items s.shift n) numbers
-        ∙ ap (λ ys. find_under find (insert s.numbers.items c.in-Err.at key) ys s.shift n) lists
+    ∙ ap (λ ys. find_under find (insert s.numbers.items c.in-Err.at key) ys s.shift n) lists
     ∙ under-insert find s.numbers.items s.lists.items s.rising s.beside s.shift c.args.number c.in-Err.at gap (find c.new-list.result) c.new-list.ensures.none
-        c.add-in-Err.new.self (Some c.args.page)
+    c.add-in-Err.new.self (Some c.args.page)
     c.in_ok-add-in-Err.ensures.ok n

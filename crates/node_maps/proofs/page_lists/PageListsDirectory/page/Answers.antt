@@ -8,7 +8,7 @@ returns-in-Ok g c =
     let s = c.args.self.now in
     let is = subst (λ ns. IsNumberAt ns (c.args.number / 2 ^ s.shift) c.in-Ok.at) c.deref.ensures.value c.in-Ok.ensures.at in
     c.page.ensures ∙ sym (under_there g.D.Directory.find s.numbers.items s.lists.items s.rising s.beside s.shift c.args.number c.in-Ok.at is c.index.result.now
-        c.index.ensures)
+    c.index.ensures)
 
 pub returns-in-Err : goal.returns-in-Err
 returns-in-Err g c =

@@ -10,7 +10,7 @@ put-requires-clause-there g c =
     let s = c.args.self.now in
     let is = subst (λ ns. IsNumberAt ns (c.args.number / 2 ^ s.shift) c.in-Ok.at) c.deref.ensures.value c.in-Ok.ensures.at in
     subst IsSome (under_there g.D.Directory.find s.numbers.items s.lists.items s.rising s.beside s.shift c.args.number c.in-Ok.at is c.index_mut-list.result.now
-        c.index_mut-list.ensures.value) c.requires.there
+    c.index_mut-list.ensures.value) c.requires.there
 
 pub returns-in-Ok-clause-here : goal.returns-in-Ok-clause-here
 returns-in-Ok-clause-here g c =
@@ -22,7 +22,7 @@ returns-in-Ok-clause-here g c =
     let q : ℕ = c.args.number in
     let here = c.index_mut-list.ensures.value in
     let new = changed_here (find_under find s.numbers.items s.lists.items s.shift) (find_under find s.numbers.items (set s.lists.items c.in-Ok.at w) s.shift) q
-        (find w q)
+    (find w q)
     (under-set find s.numbers.items s.lists.items s.rising s.beside s.shift q c.in-Ok.at is d w here (find w q) c.put.ensures.others) in
     subst (λ o. IsPut c.args.place c.args.hash c.args.mark o (find_under find s.numbers.items (set s.lists.items c.in-Ok.at w) s.shift q))
     (sym (under_there find s.numbers.items s.lists.items s.rising s.beside s.shift q c.in-Ok.at is d here))
@@ -35,13 +35,13 @@ returns-in-Ok-clause-others g c =
     let is = subst (λ ns. IsNumberAt ns (c.args.number / 2 ^ s.shift) c.in-Ok.at) c.deref.ensures.value c.in-Ok.ensures.at in
     let w = c.put.new.self in
     changed-self c.args.number (find w c.args.number) (find_under find s.numbers.items s.lists.items s.shift)
-        (find_under find s.numbers.items (set s.lists.items c.in-Ok.at w) s.shift)
+    (find_under find s.numbers.items (set s.lists.items c.in-Ok.at w) s.shift)
     (under-set find s.numbers.items s.lists.items s.rising s.beside s.shift c.args.number c.in-Ok.at is c.index_mut-list.result.now w
-        c.index_mut-list.ensures.value (find w c.args.number) c.put.ensures.others)
+    c.index_mut-list.ensures.value (find w c.args.number) c.put.ensures.others)
 
 pub returns-in_default-clause-here : goal.returns-in_default-clause-here
 returns-in_default-clause-here g c =
     let s = c.args.self.now in
     let gap = subst (λ ns. IsGapFor ns (c.args.number / 2 ^ s.shift) c.in_default.field-0) c.deref.ensures.value c.in_default.ensures.gap in
     absurd (false≢true (sym (ap is_some (under_gap g.D.Directory.find s.numbers.items s.lists.items s.rising s.beside s.shift c.args.number c.in_default.field-0
-        gap)) ∙ c.requires.there))
+    gap)) ∙ c.requires.there))

@@ -19,7 +19,7 @@ invariant_of-self g c =
       rising = subst AreRising (sym numbers) (rising-remove s.numbers.items c.in-Ok.at is.in_range s.rising);
       beside = ap length lists
           ∙ remove-beside s.numbers.items ds s.rising (set-beside s.numbers.items s.lists.items s.rising s.beside key c.in-Ok.at c.remove.new.self) key
-              c.in-Ok.at is
+          c.in-Ok.at is
           ∙ sym (ap length numbers);
     }
 
@@ -33,14 +33,14 @@ returns-then-is_empty-clause-gone g c =
     λ n. ap (λ xs. find_under find xs c.remove-then-is_empty-2.new.self.items s.shift n) c.remove-then-is_empty.ensures.items
     ∙ ap (λ ys. find_under find (remove s.numbers.items c.in-Ok.at) ys s.shift n) c.remove-then-is_empty-2.ensures.items
     ∙ under-emptied find s.numbers.items s.lists.items s.rising s.beside s.shift c.args.number c.in-Ok.at is c.index_mut-list.result.now w
-        c.index_mut-list.ensures.value c.remove.ensures.gone none n
+    c.index_mut-list.ensures.value c.remove.ensures.gone none n
 
 pub returns-else-is_empty-clause-gone : goal.returns-else-is_empty-clause-gone
 returns-else-is_empty-clause-gone g c =
     let s = c.args.self.now in
     let is = subst (λ ns. IsNumberAt ns (c.args.number / 2 ^ s.shift) c.in-Ok.at) c.deref.ensures.value c.in-Ok.ensures.at in
     under-set g.D.Directory.find s.numbers.items s.lists.items s.rising s.beside s.shift c.args.number c.in-Ok.at is c.index_mut-list.result.now
-        c.remove.new.self c.index_mut-list.ensures.value None c.remove.ensures.gone
+    c.remove.new.self c.index_mut-list.ensures.value None c.remove.ensures.gone
 
 pub returns-in_default-clause-gone : goal.returns-in_default-clause-gone
 returns-in_default-clause-gone g c =

@@ -8,7 +8,7 @@ pub copy_hashes-requires-clause-known : goal.copy_hashes-requires-clause-known
 copy_hashes-requires-clause-known c =
     let map = c.args.self.now in
     known-alike (alike-back (alike-each (λ i. ap (λ rows. hashes rows c.args.layer i) c.deref.ensures.value
-        ∙ sym (look-hashes map.height map.rows.items map.in_tree c.args.layer i)) c.args.from c.args.count))
+    ∙ sym (look-hashes map.height map.rows.items map.in_tree c.args.layer i)) c.args.from c.args.count))
     c.requires.known
 
 pub returns-clause-copied : goal.returns-clause-copied
@@ -17,4 +17,4 @@ returns-clause-copied c =
     c.copy_hashes.ensures.copied ∙ ap (λ xs. c.args.out.now.items ++ xs)
     (hashes-alike _ _ c.args.from c.args.from c.args.count
     (alike-each (λ i. ap (λ rows. hashes rows c.args.layer i) c.deref.ensures.value ∙ sym (look-hashes map.height map.rows.items map.in_tree c.args.layer i))
-        c.args.from c.args.count))
+    c.args.from c.args.count))

@@ -11,13 +11,13 @@ pub returns-in-Some-clause-seen : goal.returns-in-Some-clause-seen
 returns-in-Some-clause-seen c =
     let map = c.args.self.now in
     let known : hashes map.rows.items 0 c.args.index ≡ Some c.requires.0 = sym (look-hashes map.height map.rows.items map.in_tree 0 c.args.index)
-        ∙ c.requires.1 in
+    ∙ c.requires.1 in
     let rows = c.write_cell.new.rows.items in
     let cell : c.hash.result ≡ hashes map.rows.items 0 c.args.index = c.hash.ensures
-        ∙ ap hash_of (c.read_cell.ensures ∙ ap (λ rows. cell_at rows 0 c.args.index) c.deref.ensures.value) in
+    ∙ ap hash_of (c.read_cell.ensures ∙ ap (λ rows. cell_at rows 0 c.args.index) c.deref.ensures.value) in
     ap₂ (nodes map.shape)
     (put-known-same map.height map.rows.items rows 0 c.args.index (Marked c.in-Some.hash) c.write_cell.ensures.here c.write_cell.ensures.others
-        (sym c.in-Some.is ∙ cell))
+    (sym c.in-Some.is ∙ cell))
     (put-marked map.height map.rows.items rows c.args.index (Marked c.in-Some.hash) c.write_cell.ensures.here c.write_cell.ensures.others
     map.in_tree (put-in_tree map.height map.rows.items rows 0 c.args.index (Marked c.in-Some.hash) c.write_cell.ensures.here c.write_cell.ensures.others
     (map.in_tree.place 0 c.args.index c.requires.0 known) map.in_tree) refl)
@@ -29,7 +29,7 @@ pub returns-in_default-clause-seen : goal.returns-in_default-clause-seen
 returns-in_default-clause-seen c =
     let map = c.args.self.now in
     let known : hashes map.rows.items 0 c.args.index ≡ Some c.requires.0 = sym (look-hashes map.height map.rows.items map.in_tree 0 c.args.index)
-        ∙ c.requires.1 in
+    ∙ c.requires.1 in
     let cell : c.hash.result ≡ hashes map.rows.items 0 c.args.index = c.hash.ensures
-        ∙ ap hash_of (c.read_cell.ensures ∙ ap (λ rows. cell_at rows 0 c.args.index) c.deref.ensures.value) in
+    ∙ ap hash_of (c.read_cell.ensures ∙ ap (λ rows. cell_at rows 0 c.args.index) c.deref.ensures.value) in
     absurd (none-some c.requires.0 (sym c.in_default.is ∙ cell ∙ known))

@@ -12,7 +12,7 @@ returns-in_err-add_rows-clause-refused c = on_err c.from_residual.result (held-s
 pub returns-clause-refused : goal.returns-clause-refused
 returns-clause-refused c = on_err_weaker c.add_pages.result (λ same.
     held-same c.add_rows.new.rows.items c.add_pages.new.rows.items same
-        ∙ held-same c.args.self.now.rows.items c.add_rows.new.rows.items c.add_rows.ensures.same) c.add_pages.ensures.refused
+    ∙ held-same c.args.self.now.rows.items c.add_rows.new.rows.items c.add_rows.ensures.same) c.add_pages.ensures.refused
 
 pub returns-clause-no_memory : goal.returns-clause-no_memory
 returns-clause-no_memory c = λ room. c.add_pages.ensures.no_memory (λ n low high.

@@ -36,7 +36,7 @@ parts-preserved c =
                 ∙ append_assoc c.args.out.now.items (hashes_from f c.args.from c.parts.done) _
                 ∙ ap (λ xs. c.args.out.now.items ++ xs)
                 (ap (λ xs. hashes_from f c.args.from c.parts.done ++ xs) (hashes-alike (hash_in w.in-Some.page.now.cells.items) f part.result.first at
-                    part.result.count alike)
+                part.result.count alike)
                 ∙ sym (hashes-join f c.args.from c.parts.done part.result.count));
             len = omega (arith, ap vec_len w.out-is, w.copy_to.ensures.len, c.parts.invariant.len);
             capacity = ap vec_capacity w.out-is ∙ w.copy_to.ensures.no_memory ∙ c.parts.invariant.capacity;
@@ -44,5 +44,5 @@ parts-preserved c =
           }
       | in_default w ↦
           absurd (page-there (on_rows row.pages) c.args.from c.args.count c.parts.done part.result.number part.ensures.number c.parts-test.true
-              (sym w.in_default.ensures) c.requires.known)
+          (sym w.in_default.ensures) c.requires.known)
     ]

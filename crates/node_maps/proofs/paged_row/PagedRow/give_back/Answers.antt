@@ -46,7 +46,7 @@ fresh-preserved-then-is_spare c =
           let more : length fresh < length row.fresh.items = omega (arith, long, c.fresh-test.true, row.fresh.ok.0) in
           let less : row.count ≡ (row.count - 1) + 1 = omega (arith, some) in
           last-gone base fresh count f row.fresh.items c.pop.new.self.items row.count q (c.fresh.invariant.left base fresh count long made) more
-              c.in-Some.ensures.items g (row.count - 1) c.remove.ensures.gone less;
+          c.in-Some.ensures.items g (row.count - 1) c.remove.ensures.gone less;
     }
 
 pub invariant_of-self-else-is_spare : goal.invariant_of-self-else-is_spare
@@ -74,7 +74,7 @@ fresh-preserved c =
       left = λ base fresh count long made.
           let more : length fresh < length row.fresh.items = omega (arith, long, c.fresh-test.true, row.fresh.ok.0) in
           absurd (false≢true (sym full ∙ last-spare base fresh count f row.fresh.items c.pop.new.self.items row.count q
-              (c.fresh.invariant.left base fresh count long made) more c.in-Some.ensures.items));
+          (c.fresh.invariant.left base fresh count long made) more c.in-Some.ensures.items));
     }
 
 pub returns-clause-restored : goal.returns-clause-restored

@@ -10,7 +10,7 @@ returns-in-Err-clause-keeps c =
     let row = c.args.self.now in
     let base = pages_of row in
     let grown = grown-one base row.fresh.items row.count (pages_of c.numbers.self) c.numbers.self.fresh.items c.numbers.self.count (pages_of c.make.new.self)
-        c.make.new.self.fresh.items c.make.new.self.count c.numbers.invariant.grown c.make.ensures.grown in
+    c.make.new.self.fresh.items c.make.new.self.count c.numbers.invariant.grown c.make.ensures.grown in
     let long : length row.fresh.items ≡ c.len-before.result = omega (arith, c.len-before.ensures, row.fresh.ok.0) in
     let back : AreAlike base (pages_of c.give_back.new.self) = (c.give_back.ensures.restored base row.fresh.items row.count long grown).0 in
     λ n was. subst IsSome (sym (back n)) was
@@ -21,7 +21,7 @@ returns-in-Err-clause-err c =
     let row = c.args.self.now in
     let base = pages_of row in
     let grown = grown-one base row.fresh.items row.count (pages_of c.numbers.self) c.numbers.self.fresh.items c.numbers.self.count (pages_of c.make.new.self)
-        c.make.new.self.fresh.items c.make.new.self.count c.numbers.invariant.grown c.make.ensures.grown in
+    c.make.new.self.fresh.items c.make.new.self.count c.numbers.invariant.grown c.make.ensures.grown in
     let long : length row.fresh.items ≡ c.len-before.result = omega (arith, c.len-before.ensures, row.fresh.ok.0) in
     (c.give_back.ensures.restored base row.fresh.items row.count long grown).1
 

@@ -43,7 +43,7 @@ returns-else-index-length-clause-there c =
     let below = place_within items c.args.root c.in-Some.number.now place in
     let there : slice_get items c.in-Some.number.now ≡ Some x = slice_get_read items (length items) c.in-Some.number.now x refl below c.index.ensures in
     subst (λ ts. IsRootAt ts c.args.root c.args.length) c.self.view_is (root_is_at items c.args.root c.in-Some.number.now c.args.length x place there
-        c.if-index-length.false)
+    c.if-index-length.false)
 
 pub invariant_of-self-in-None : goal.invariant_of-self-in-None
 invariant_of-self-in-None c =
@@ -55,7 +55,7 @@ invariant_of-self-in-None c =
     let count : c.len.result ≡ length items = omega (arith, c.len.ensures, c.in_ok-reserve-in-None.ensures.len, c.self.inside.list.ok.0) in
     λ s. numbered_push (tree.get (slice_cmp nat_cmp) c.self.inside.numbers) (tree.get (slice_cmp nat_cmp) c.insert.new.self) items one none c.self.invariant
     (λ q. c.in_ok-insert-in-None.ensures.updates.0 q
-        ∙ ap (λ n. cond (is_eq (slice_cmp nat_cmp c.args.root q)) (Some n) (tree.get (slice_cmp nat_cmp) c.self.inside.numbers q)) count) s
+    ∙ ap (λ n. cond (is_eq (slice_cmp nat_cmp c.args.root q)) (Some n) (tree.get (slice_cmp nat_cmp) c.self.inside.numbers q)) count) s
     ∙ ap (λ ts. place_in ts s) (sym after)
 
 pub returns-in_ok-push-in-None-clause-there : goal.returns-in_ok-push-in-None-clause-there

@@ -23,4 +23,4 @@ returns-else-place-self c =
     let same : c.args.index ≡ sibling (e.index / 2 ^ (c.args.layer - e.base)) = cc in
     let outside : length e.hashes.now ≤ 2 ^ e.span + (c.args.layer - (e.base + e.span)) = omega arith in
     sym (uncle-here e c.args.layer c.args.index c.if-layer-cover.false same
-        ∙ hash_past e (2 ^ e.span + (c.args.layer - (e.base + e.span))) outside (omega arith))
+    ∙ hash_past e (2 ^ e.span + (c.args.layer - (e.base + e.span))) outside (omega arith))

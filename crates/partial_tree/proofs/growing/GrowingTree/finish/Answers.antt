@@ -49,9 +49,9 @@ pub invariant_of-result : goal.invariant_of-result
 invariant_of-result g c =
     let old = c.self.inside in
     let top : c.layers.layer ≡ tree_height old.shape = (let reached : c.layers.layer ≡ c.height-height.result =
-        omega (arith, c.layers-test.false, c.layers.auto.layer-end) in reached ∙ c.height-height.ensures.value) in
+    omega (arith, c.layers-test.false, c.layers.auto.layer-end) in reached ∙ c.height-height.ensures.value) in
     let end = ended old.shape old.count (g.N.NodeMap.seen old.nodes).known c.args.self c.self.view_is c.requires c.self.invariant.3 c.layers.layer
-        (g.N.NodeMap.seen c.layers.nodes).known (g.N.NodeMap.seen c.trim.new.self).known top c.layers.invariant.up_to (known-of c.trim.ensures.seen) in (
+    (g.N.NodeMap.seen c.layers.nodes).known (g.N.NodeMap.seen c.trim.new.self).known top c.layers.invariant.up_to (known-of c.trim.ensures.seen) in (
       (length-of c.trim.ensures.seen) ∙ c.layers.invariant.length ∙ sym (ap (λ (t : GrownTree). t.length) c.self.view_is),
       (marked-of c.trim.ensures.seen) ∙ c.layers.invariant.marked,
       c.trim.ensures.held,
@@ -63,9 +63,9 @@ pub returns-clause-leaves : goal.returns-clause-leaves
 returns-clause-leaves g c =
     let old = c.self.inside in
     let top : c.layers.layer ≡ tree_height old.shape = (let reached : c.layers.layer ≡ c.height-height.result =
-        omega (arith, c.layers-test.false, c.layers.auto.layer-end) in reached ∙ c.height-height.ensures.value) in
+    omega (arith, c.layers-test.false, c.layers.auto.layer-end) in reached ∙ c.height-height.ensures.value) in
     (ended old.shape old.count (g.N.NodeMap.seen old.nodes).known c.args.self c.self.view_is c.requires c.self.invariant.3 c.layers.layer
-        (g.N.NodeMap.seen c.layers.nodes).known (g.N.NodeMap.seen c.trim.new.self).known top c.layers.invariant.up_to (known-of c.trim.ensures.seen)).2
+    (g.N.NodeMap.seen c.layers.nodes).known (g.N.NodeMap.seen c.trim.new.self).known top c.layers.invariant.up_to (known-of c.trim.ensures.seen)).2
 
 on_err : {A E : Type 0} (P : Type 0) (r : Result A E) → P → OnErr r P
 on_err P (Ok x) p = tt

@@ -15,10 +15,10 @@ add-requires-clause-place g c =
     let shape : len ≡ old.shape = c.self.invariant.0 in
     let fewer : old.count < block_count old.shape =
     subst (λ k. k < block_count old.shape) (length-leaves K old.count) (subst (λ (t : GrownTree). length t.leaves < block_count t.length) (sym c.self.view_is)
-        c.requires) in
+    c.requires) in
     let enough : block_count old.shape ≤ 2 ^ tree_height old.shape = height_enough (block_count old.shape) in
     let whole : tree_height len - 0 ≡ tree_height old.shape = (let none_less : tree_height len - 0 ≡ tree_height len = omega arith in none_less
-        ∙ ap tree_height shape) in
+    ∙ ap tree_height shape) in
     (omega arith, subst (λ k. old.count < 2 ^ k) (sym whole) (omega arith))
 
 pub invariant_of-self-2 : goal.invariant_of-self-2
@@ -27,7 +27,7 @@ invariant_of-self-2 g c =
     let K = (g.N.NodeMap.seen old.nodes).known in
     let fewer : old.count < block_count old.shape =
     subst (λ k. k < block_count old.shape) (length-leaves K old.count) (subst (λ (t : GrownTree). length t.leaves < block_count t.length) (sym c.self.view_is)
-        c.requires) in (
+    c.requires) in (
       length-of c.in_ok-add.ensures.added ∙ c.self.invariant.0,
       omega (arith, fewer),
       marked-of c.in_ok-add.ensures.added ∙ c.self.invariant.2,

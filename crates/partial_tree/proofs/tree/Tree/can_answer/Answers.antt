@@ -9,7 +9,7 @@ pub returns-in-Ok : goal.returns-in-Ok
 returns-in-Ok g c =
     let ask = c.args.ask.now in
     let height : c.self.inside.height ≡ tree_height c.args.self.now.length = c.self.invariant.1.height_is
-        ∙ ap (λ (v : KeptTree). tree_height v.length) c.self.view_is in
+    ∙ ap (λ (v : KeptTree). tree_height v.length) c.self.view_is in
     let known : (g.N.NodeMap.seen c.self.inside.nodes).known ≡ c.args.self.now.state.known = ap (λ (v : KeptTree). v.state.known) c.self.view_is in (
       λ e. record {
         range = subst (λ h. GoodRange h ask) height c.in-Ok.ensures.good.0;

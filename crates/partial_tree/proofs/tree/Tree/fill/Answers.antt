@@ -23,13 +23,20 @@ pub overflow_add-self : goal.overflow_add-self
 overflow_add-self g c =
     let old = c.self.inside in
     let t : TreeRoot = record { root = old.root; length = old.shape } in
-    let kept : KeptTree = record { root = old.root; length = old.shape; state = record { known = (g.N.NodeMap.seen old.nodes).known; marked =
-        (g.N.NodeMap.seen old.nodes).marked } } in
+    let kept : KeptTree = record {
+      root = old.root;
+      length = old.shape;
+      state = record {
+        known = (g.N.NodeMap.seen old.nodes).known;
+        marked =
+            (g.N.NodeMap.seen old.nodes).marked;
+      };
+    } in
     let good : IsGoodTree kept = subst IsGoodTree (sym c.self.view_is) c.requires in
     let filled = c.in_ok-gained.ensures.filled in
     let fewer : len (g.N.NodeMap.seen old.nodes).known + c.in_ok-gained.gained < 2 ^ suc (tree_height old.shape) =
     filled-len t (g.N.NodeMap.seen old.nodes).known (g.N.NodeMap.seen c.fill_layer.new.nodes).known c.args.layer c.args.hashes.now c.in_ok-gained.gained
-        good.closed c.are_hashes.ensures filled.0 filled.1 in
+    good.closed c.are_hashes.ensures filled.0 filled.1 in
     let low : suc (tree_height old.shape) ≤ 33 = omega (arith, c.self.invariant.1.height_is, c.self.invariant.1.low) in
     let wide : 2 ^ suc (tree_height old.shape) ≤ 2 ^ 33 = pow_more (suc (tree_height old.shape)) 33 low in
     omega (arith, fewer, wide, c.self.invariant.1.known_is)
@@ -49,5 +56,5 @@ returns-clause-filled g c =
     let old = c.self.inside in
     let after = (g.N.NodeMap.seen c.fill_layer.new.nodes).known in
     subst (λ v. TreeTakesLayer v c.args.layer c.args.hashes.now c.in_ok-gained.gained
-        (kept old.root old.shape after (g.N.NodeMap.seen c.fill_layer.new.nodes).marked))
+    (kept old.root old.shape after (g.N.NodeMap.seen c.fill_layer.new.nodes).marked))
     c.self.view_is (c.in_ok-gained.ensures.filled, ap (kept old.root old.shape after) c.fill_layer.ensures.stays.marked)

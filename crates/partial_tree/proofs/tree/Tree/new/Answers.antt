@@ -9,7 +9,7 @@ invariant_of-result g c = (
   counted_root c.height-height.result c.args.shape c.args.root (g.N.NodeMap.seen c.reserve.new.self).known (g.N.NodeMap.seen c.trim.new.self).known
       (g.N.NodeMap.seen c.trim.new.self).marked
       ((known-of c.reserve.ensures.seen) ∙ (known-of c.empty-nodes.ensures.seen)) ((known-of c.trim.ensures.seen) ∙ (known-of c.put.ensures.seen))
-          ((marked-of c.trim.ensures.seen) ∙ (marked-of c.put.ensures.seen) ∙ (marked-of c.reserve.ensures.seen) ∙ (marked-of c.empty-nodes.ensures.seen))
+      ((marked-of c.trim.ensures.seen) ∙ (marked-of c.put.ensures.seen) ∙ (marked-of c.reserve.ensures.seen) ∙ (marked-of c.empty-nodes.ensures.seen))
       c.height-height.ensures.value c.height-height.ensures.bound,
   c.trim.ensures.held,
 )

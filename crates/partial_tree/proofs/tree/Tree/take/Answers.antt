@@ -23,13 +23,20 @@ pub overflow_add-self : goal.overflow_add-self
 overflow_add-self g c =
     let old = c.self.inside in
     let t : TreeRoot = record { root = old.root; length = old.shape } in
-    let kept : KeptTree = record { root = old.root; length = old.shape; state = record { known = (g.N.NodeMap.seen old.nodes).known; marked =
-        (g.N.NodeMap.seen old.nodes).marked } } in
+    let kept : KeptTree = record {
+      root = old.root;
+      length = old.shape;
+      state = record {
+        known = (g.N.NodeMap.seen old.nodes).known;
+        marked =
+            (g.N.NodeMap.seen old.nodes).marked;
+      };
+    } in
     let good : IsGoodTree kept = subst IsGoodTree (sym c.self.view_is) c.requires in
     let taken = c.in_ok-gained.ensures.taken in
     let fewer : len (g.N.NodeMap.seen old.nodes).known + c.in_ok-gained.gained < 2 ^ suc (tree_height old.shape) =
     joined-len t (g.N.NodeMap.seen old.nodes).known (g.N.NodeMap.seen c.take_message.new.nodes).known c.args.ask.now c.args.hashes.now c.in_ok-gained.gained
-        good.closed c.are_hashes.ensures taken.0 taken.1 in
+    good.closed c.are_hashes.ensures taken.0 taken.1 in
     let low : suc (tree_height old.shape) ≤ 33 = omega (arith, c.self.invariant.1.height_is, c.self.invariant.1.low) in
     let wide : 2 ^ suc (tree_height old.shape) ≤ 2 ^ 33 = pow_more (suc (tree_height old.shape)) 33 low in
     omega (arith, fewer, wide, c.self.invariant.1.known_is)
@@ -49,5 +56,5 @@ returns-clause-taken g c =
     let old = c.self.inside in
     let after = (g.N.NodeMap.seen c.take_message.new.nodes).known in
     subst (λ v. TreeTakesHashes v c.args.ask.now c.args.hashes.now c.in_ok-gained.gained
-        (kept old.root old.shape after (g.N.NodeMap.seen c.take_message.new.nodes).marked))
+    (kept old.root old.shape after (g.N.NodeMap.seen c.take_message.new.nodes).marked))
     c.self.view_is (c.in_ok-gained.ensures.taken, ap (kept old.root old.shape after) c.take_message.ensures.stays.marked)

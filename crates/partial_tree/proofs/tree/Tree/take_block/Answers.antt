@@ -9,8 +9,15 @@ use Rattle.partial_tree.proofs.tree.Tree.take_block.Goals as goal
 pub overflow_add-self : goal.overflow_add-self
 overflow_add-self g c =
     let old = c.self.inside in
-    let kept : KeptTree = record { root = old.root; length = old.shape; state = record { known = (g.N.NodeMap.seen old.nodes).known; marked =
-        (g.N.NodeMap.seen old.nodes).marked } } in
+    let kept : KeptTree = record {
+      root = old.root;
+      length = old.shape;
+      state = record {
+        known = (g.N.NodeMap.seen old.nodes).known;
+        marked =
+            (g.N.NodeMap.seen old.nodes).marked;
+      };
+    } in
     let good : IsGoodTree kept = subst IsGoodTree (sym c.self.view_is) c.requires.good in
     let low : tree_height old.shape ≤ 32 = omega (arith, c.self.invariant.1.height_is, c.self.invariant.1.low) in
     let few : set.len (g.N.NodeMap.seen old.nodes).marked ≤ 2 ^ 32 = marks_fit kept good low in

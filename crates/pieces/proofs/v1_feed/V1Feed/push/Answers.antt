@@ -10,8 +10,16 @@ take_part-start-requires-clause-room c =
     let bytes = c.args.bytes.now in
     let start = c.parts.start in
     let feeds = c.parts.invariant.feeds in
-    omega (arith, c.requires, feeds.given_is, feeds.same_total, c.parts.invariant.within, length-take-le start bytes c.parts.invariant.within,
-        ap length (take_rest bytes start), length-drop start bytes)
+    omega (
+      arith,
+      c.requires,
+      feeds.given_is,
+      feeds.same_total,
+      c.parts.invariant.within,
+      length-take-le start bytes c.parts.invariant.within,
+      ap length (take_rest bytes start),
+      length-drop start bytes,
+    )
 
 pub parts-init : goal.parts-init
 parts-init c = record { within = omega arith; feeds = feeds_nothing c.args.self.now }

@@ -26,7 +26,7 @@ adopt-requires-clause-length g c =
     let at : slice_get ts c.args.tree ≡ Some a = found_at ts c.args.tree a (inside_kept d ts c.self.invariant c.args.tree low) c.index_mut.ensures.value in
     length_at d ts c.self.invariant c.self.inside.asks c.args.tree c.args.grown.length a at
     (subst (λ (v : SessionSeen). (e : TreeEntry) → slice_get v.torrent.trees c.args.tree ≡ Some e → c.args.grown.length ≡ e.length) (sym c.self.view_is)
-        c.requires.length)
+    c.requires.length)
 
 pub invariant_of-self : goal.invariant_of-self
 invariant_of-self g c =
@@ -47,7 +47,7 @@ returns-clause-adopted g c =
     let low : c.args.tree < length d.trees = subst (λ (v : SessionSeen). c.args.tree < length v.torrent.trees) (sym c.self.view_is) c.requires.inside in
     let at : slice_get ts c.args.tree ≡ Some a = found_at ts c.args.tree a (inside_kept d ts c.self.invariant c.args.tree low) c.index_mut.ensures.value in
     subst (λ (v : SessionSeen). IfOk c.adopt.result (λ n. IsFilled v c.args.tree 0 c.args.grown.leaves n
-        (seen d c.self.inside.asks (set ts c.args.tree c.adopt.new.self)))) c.self.view_is
+    (seen d c.self.inside.asks (set ts c.args.tree c.adopt.new.self)))) c.self.view_is
     (filled_all d ts c.self.invariant c.self.inside.asks c.args.tree a c.adopt.new.self 0
     c.args.grown.leaves c.adopt.result at c.adopt.ensures.adopted)
 
@@ -59,6 +59,6 @@ returns-clause-refused g c =
     let low : c.args.tree < length d.trees = subst (λ (v : SessionSeen). c.args.tree < length v.torrent.trees) (sym c.self.view_is) c.requires.inside in
     let at : slice_get ts c.args.tree ≡ Some a = found_at ts c.args.tree a (inside_kept d ts c.self.invariant c.args.tree low) c.index_mut.ensures.value in
     subst (λ (v : SessionSeen). IfErr c.adopt.result (λ r. IsFillRefused v c.args.tree 0 c.args.grown.leaves r
-        × (seen d c.self.inside.asks (set ts c.args.tree c.adopt.new.self) ≡ v))) c.self.view_is
+    × (seen d c.self.inside.asks (set ts c.args.tree c.adopt.new.self) ≡ v))) c.self.view_is
     (fill_refused_all d ts c.self.invariant c.self.inside.asks c.args.tree a c.adopt.new.self 0
     c.args.grown.leaves c.adopt.result at c.adopt.ensures.refused)

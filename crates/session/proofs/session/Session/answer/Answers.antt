@@ -13,7 +13,7 @@ pub index-requires : goal.index-requires
 index-requires g c =
     let ts : List KeptTree = c.self.inside.trees.items in
     let inside : c.in-Some.number < length ts = (some_number c.self.inside.torrent.now ts c.self.invariant c.args.ask.now.root c.tree_with_root.result
-        c.in-Some.number c.tree_with_root.ensures.found c.in-Some.is).0 in
+    c.in-Some.number c.tree_with_root.ensures.found c.in-Some.is).0 in
     omega (arith, inside, c.self.inside.trees.ok)
 
 pub returns-in-None-clause-answer : goal.returns-in-None-clause-answer
@@ -32,13 +32,13 @@ returns-in-Some-clause-answer g c =
     let a : KeptTree = c.index.result.now in
     let n : ℕ = c.in-Some.number in
     let inside : n < length ts = (some_number c.self.inside.torrent.now ts c.self.invariant c.args.ask.now.root c.tree_with_root.result n
-        c.tree_with_root.ensures.found c.in-Some.is).0 in
+    c.tree_with_root.ensures.found c.in-Some.is).0 in
     let at : slice_get ts n ≡ Some a = found_at ts n a inside c.index.ensures in
     let root : a.root ≡ c.args.ask.now.root = (some_number c.self.inside.torrent.now ts c.self.invariant c.args.ask.now.root c.tree_with_root.result n
-        c.tree_with_root.ensures.found c.in-Some.is).1 a at in
+    c.tree_with_root.ensures.found c.in-Some.is).1 a at in
     subst (λ (v : SessionSeen). IfOk c.answer.result (IsAnswerTo v c.args.ask.now)) c.self.view_is
     (answer_all c.self.inside.torrent.now ts c.self.invariant c.self.inside.asks c.sound.ensures n a c.args.ask.now c.answer.result at root
-        c.answer.ensures.answer)
+    c.answer.ensures.answer)
 
 pub returns-in-Some-clause-no_memory : goal.returns-in-Some-clause-no_memory
 returns-in-Some-clause-no_memory g c =
@@ -46,9 +46,9 @@ returns-in-Some-clause-no_memory g c =
     let a : KeptTree = c.index.result.now in
     let n : ℕ = c.in-Some.number in
     let inside : n < length ts = (some_number c.self.inside.torrent.now ts c.self.invariant c.args.ask.now.root c.tree_with_root.result n
-        c.tree_with_root.ensures.found c.in-Some.is).0 in
+    c.tree_with_root.ensures.found c.in-Some.is).0 in
     let at : slice_get ts n ≡ Some a = found_at ts n a inside c.index.ensures in
     let root : a.root ≡ c.args.ask.now.root = (some_number c.self.inside.torrent.now ts c.self.invariant c.args.ask.now.root c.tree_with_root.result n
-        c.tree_with_root.ensures.found c.in-Some.is).1 a at in
+    c.tree_with_root.ensures.found c.in-Some.is).1 a at in
     subst (λ (v : SessionSeen). OnErr c.answer.result (IsAnswered v c.args.ask.now)) c.self.view_is
     (answer_memory c.self.inside.torrent.now ts c.self.invariant c.self.inside.asks n a c.args.ask.now c.answer.result at root c.answer.ensures.no_memory)

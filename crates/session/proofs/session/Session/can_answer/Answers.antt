@@ -16,7 +16,7 @@ pub index-requires : goal.index-requires
 index-requires g c =
     let ts : List KeptTree = c.self.inside.trees.items in
     let inside : c.in-Some.number < length ts = (some_number c.self.inside.torrent.now ts c.self.invariant c.args.ask.now.root c.tree_with_root.result
-        c.in-Some.number c.tree_with_root.ensures.found c.in-Some.is).0 in
+    c.in-Some.number c.tree_with_root.ensures.found c.in-Some.is).0 in
     omega (arith, inside, c.self.inside.trees.ok)
 
 pub returns-in-None : goal.returns-in-None
@@ -37,10 +37,10 @@ returns-in-Some g c =
     let a : KeptTree = c.index.result.now in
     let n : ℕ = c.in-Some.number in
     let inside : n < length ts = (some_number c.self.inside.torrent.now ts c.self.invariant c.args.ask.now.root c.tree_with_root.result n
-        c.tree_with_root.ensures.found c.in-Some.is).0 in
+    c.tree_with_root.ensures.found c.in-Some.is).0 in
     let at : slice_get ts n ≡ Some a = found_at ts n a inside c.index.ensures in
     let root : a.root ≡ c.args.ask.now.root = (some_number c.self.inside.torrent.now ts c.self.invariant c.args.ask.now.root c.tree_with_root.result n
-        c.tree_with_root.ensures.found c.in-Some.is).1 a at in
+    c.tree_with_root.ensures.found c.in-Some.is).1 a at in
     let back : IsAnswered c.args.self.now c.args.ask.now → CanAnswer (tree_height a.length) (look a.state.known) c.args.ask.now =
     subst (λ (v : SessionSeen). IsAnswered v c.args.ask.now → CanAnswer (tree_height a.length) (look a.state.known) c.args.ask.now) c.self.view_is
     (answered_in c.self.inside.torrent.now ts c.self.invariant c.sound.ensures c.self.inside.asks n a c.args.ask.now at root) in

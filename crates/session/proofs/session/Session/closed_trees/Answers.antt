@@ -7,4 +7,4 @@ use Rattle.session.proofs.session.Session.closed_trees.Goals as goal
 pub returns : goal.returns
 returns g c =
     subst (λ (v : SessionSeen). HasClosedTrees v) c.self.view_is (kept-closed c.self.inside.torrent.now c.self.inside.trees.items c.self.invariant
-        c.self.inside.asks)
+    c.self.inside.asks)

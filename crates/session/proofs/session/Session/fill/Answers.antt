@@ -38,7 +38,7 @@ returns-clause-filled g c =
     let low : c.args.tree < length d.trees = subst (λ (v : SessionSeen). c.args.tree < length v.torrent.trees) (sym c.self.view_is) c.requires in
     let at : slice_get ts c.args.tree ≡ Some a = found_at ts c.args.tree a (inside_kept d ts c.self.invariant c.args.tree low) c.index_mut.ensures.value in
     subst (λ (v : SessionSeen). IfOk c.fill.result (λ n. IsFilled v c.args.tree c.args.layer c.args.hashes.now n
-        (seen d c.self.inside.asks (set ts c.args.tree c.fill.new.self)))) c.self.view_is
+    (seen d c.self.inside.asks (set ts c.args.tree c.fill.new.self)))) c.self.view_is
     (filled_all d ts c.self.invariant c.self.inside.asks c.args.tree a c.fill.new.self c.args.layer
     c.args.hashes.now c.fill.result at c.fill.ensures.filled)
 
@@ -50,6 +50,6 @@ returns-clause-refused g c =
     let low : c.args.tree < length d.trees = subst (λ (v : SessionSeen). c.args.tree < length v.torrent.trees) (sym c.self.view_is) c.requires in
     let at : slice_get ts c.args.tree ≡ Some a = found_at ts c.args.tree a (inside_kept d ts c.self.invariant c.args.tree low) c.index_mut.ensures.value in
     subst (λ (v : SessionSeen). IfErr c.fill.result (λ r. IsFillRefused v c.args.tree c.args.layer c.args.hashes.now r
-        × (seen d c.self.inside.asks (set ts c.args.tree c.fill.new.self) ≡ v))) c.self.view_is
+    × (seen d c.self.inside.asks (set ts c.args.tree c.fill.new.self) ≡ v))) c.self.view_is
     (fill_refused_all d ts c.self.invariant c.self.inside.asks c.args.tree a c.fill.new.self
     c.args.layer c.args.hashes.now c.fill.result at c.fill.ensures.refused)

@@ -13,16 +13,16 @@ pub index_mut-requires : goal.index_mut-requires
 index_mut-requires g c =
     let ts : List KeptTree = c.self.inside.trees.items in
     let inside : c.in-Some.number < length ts = (some_number c.self.inside.torrent.now ts c.self.invariant c.args.ask.now.root c.tree_with_root.result
-        c.in-Some.number c.tree_with_root.ensures.found c.in-Some.is).0 in
+    c.in-Some.number c.tree_with_root.ensures.found c.in-Some.is).0 in
     omega (arith, inside, c.self.inside.trees.ok)
 
 pub take-requires : goal.take-requires
 take-requires g c =
     let ts : List KeptTree = c.self.inside.trees.items in
     let inside : c.in-Some.number < length ts = (some_number c.self.inside.torrent.now ts c.self.invariant c.args.ask.now.root c.tree_with_root.result
-        c.in-Some.number c.tree_with_root.ensures.found c.in-Some.is).0 in
+    c.in-Some.number c.tree_with_root.ensures.found c.in-Some.is).0 in
     good_at c.self.inside.torrent.now ts c.self.invariant c.in-Some.number c.index_mut.result.now (found_at ts c.in-Some.number c.index_mut.result.now inside
-        c.index_mut.ensures.value)
+    c.index_mut.ensures.value)
 
 pub invariant_of-self : goal.invariant_of-self
 invariant_of-self g c =
@@ -30,11 +30,11 @@ invariant_of-self g c =
     let a : KeptTree = c.index_mut.result.now in
     let b : KeptTree = c.take.new.self in
     let inside : c.in-Some.number < length ts = (some_number c.self.inside.torrent.now ts c.self.invariant c.args.ask.now.root c.tree_with_root.result
-        c.in-Some.number c.tree_with_root.ensures.found c.in-Some.is).0 in
+    c.in-Some.number c.tree_with_root.ensures.found c.in-Some.is).0 in
     let at : slice_get ts c.in-Some.number ≡ Some a = found_at ts c.in-Some.number a inside c.index_mut.ensures.value in
     kept-after c.self.inside.torrent.now ts c.self.invariant c.in-Some.number a b at
     (good_after_take a b c.args.ask.now c.args.hashes.now c.take.result (good_at c.self.inside.torrent.now ts c.self.invariant c.in-Some.number a at)
-        c.are_hashes.ensures
+    c.are_hashes.ensures
     c.take.ensures.taken c.take.ensures.refused)
 
 pub returns-in-None-clause-refused : goal.returns-in-None-clause-refused
@@ -53,12 +53,12 @@ returns-in-Some-clause-stored g c =
     let a : KeptTree = c.index_mut.result.now in
     let b : KeptTree = c.take.new.self in
     let inside : c.in-Some.number < length ts = (some_number c.self.inside.torrent.now ts c.self.invariant c.args.ask.now.root c.tree_with_root.result
-        c.in-Some.number c.tree_with_root.ensures.found c.in-Some.is).0 in
+    c.in-Some.number c.tree_with_root.ensures.found c.in-Some.is).0 in
     let at : slice_get ts c.in-Some.number ≡ Some a = found_at ts c.in-Some.number a inside c.index_mut.ensures.value in
     let root : a.root ≡ c.args.ask.now.root = (some_number c.self.inside.torrent.now ts c.self.invariant c.args.ask.now.root c.tree_with_root.result
-        c.in-Some.number c.tree_with_root.ensures.found c.in-Some.is).1 a at in
+    c.in-Some.number c.tree_with_root.ensures.found c.in-Some.is).1 a at in
     subst (λ (v : SessionSeen). IfOk c.take.result (λ n. IsStored v c.args.ask.now c.args.hashes.now n
-        (seen c.self.inside.torrent.now c.self.inside.asks (set ts c.in-Some.number b)))) c.self.view_is
+    (seen c.self.inside.torrent.now c.self.inside.asks (set ts c.in-Some.number b)))) c.self.view_is
     (stored_all c.self.inside.torrent.now ts c.self.invariant c.self.inside.asks c.in-Some.number a
     b c.args.ask.now c.args.hashes.now c.take.result at root c.take.ensures.taken)
 
@@ -68,11 +68,11 @@ returns-in-Some-clause-refused g c =
     let a : KeptTree = c.index_mut.result.now in
     let b : KeptTree = c.take.new.self in
     let inside : c.in-Some.number < length ts = (some_number c.self.inside.torrent.now ts c.self.invariant c.args.ask.now.root c.tree_with_root.result
-        c.in-Some.number c.tree_with_root.ensures.found c.in-Some.is).0 in
+    c.in-Some.number c.tree_with_root.ensures.found c.in-Some.is).0 in
     let at : slice_get ts c.in-Some.number ≡ Some a = found_at ts c.in-Some.number a inside c.index_mut.ensures.value in
     let root : a.root ≡ c.args.ask.now.root = (some_number c.self.inside.torrent.now ts c.self.invariant c.args.ask.now.root c.tree_with_root.result
-        c.in-Some.number c.tree_with_root.ensures.found c.in-Some.is).1 a at in
+    c.in-Some.number c.tree_with_root.ensures.found c.in-Some.is).1 a at in
     subst (λ (v : SessionSeen). IfErr c.take.result (λ r. IsHashRefused v c.args.ask.now c.args.hashes.now r
-        × (seen c.self.inside.torrent.now c.self.inside.asks (set ts c.in-Some.number b) ≡ v))) c.self.view_is
+    × (seen c.self.inside.torrent.now c.self.inside.asks (set ts c.in-Some.number b) ≡ v))) c.self.view_is
     (refused_all c.self.inside.torrent.now ts c.self.invariant c.self.inside.asks c.in-Some.number
     a b c.args.ask.now c.args.hashes.now c.take.result at root c.take.ensures.refused)

@@ -19,7 +19,7 @@ returns-in-None-clause-refused g c =
     let at : place_of d c.args.index c.args.begin ≡ Some (c.in-Some.file, c.in-Some.first) = sym c.place.ensures.value ∙ c.in-Some.is in
     let none : (k : ℕ) → ¬ IsBlockRun p.tree.length c.in-Some.first (length c.args.bytes.now) k = λ k run.
     none-some k (sym c.in-None.is ∙ c.block_run.ensures.only f.file k f.there (subst (λ n. IsBlockRun n c.in-Some.first (length c.args.bytes.now) k) same run))
-        in
+    in
     let refused : AreRefused (seen d c.self.inside.asks ts) c.args.index c.args.begin c.args.bytes.now BadSize =
     (record { file = c.in-Some.file; number = c.in-Some.first; at = at; in_file = p }, none) in
     (subst (λ (v : SessionSeen). AreRefused v c.args.index c.args.begin c.args.bytes.now BadSize) c.self.view_is refused, refl)
@@ -33,13 +33,13 @@ returns-in-Some-block_run-clause-taken g c =
     let at : place_of d c.args.index c.args.begin ≡ Some (c.in-Some.file, c.in-Some.first) = sym c.place.ensures.value ∙ c.in-Some.is in
     let run : IsBlockRun p.tree.length c.in-Some.first (length c.args.bytes.now) c.in-Some-block_run.count =
     subst (λ n. IsBlockRun n c.in-Some.first (length c.args.bytes.now) c.in-Some-block_run.count) (sym same) (c.in-Some-block_run.ensures.found f.file f.there)
-        in
+    in
     let here : place_of c.args.self.now.torrent c.args.index c.args.begin ≡ Some (c.in-Some.file, c.in-Some.first) =
     subst (λ (v : SessionSeen). place_of v.torrent c.args.index c.args.begin ≡ Some (c.in-Some.file, c.in-Some.first)) c.self.view_is at in
     let there : (q : IsInFile c.args.self.now c.in-Some.file c.in-Some.first) × IsBlockRun q.tree.length c.in-Some.first (length c.args.bytes.now)
-        c.in-Some-block_run.count =
+    c.in-Some-block_run.count =
     subst (λ (v : SessionSeen). (q : IsInFile v c.in-Some.file c.in-Some.first) × IsBlockRun q.tree.length c.in-Some.first (length c.args.bytes.now)
-        c.in-Some-block_run.count) c.self.view_is (p, run) in
+    c.in-Some-block_run.count) c.self.view_is (p, run) in
     taken_at c.args.self.now c.args.index c.args.begin c.in-Some.file c.in-Some.first c.in-Some-block_run.count c.args.bytes.now c.mark_run.result
-        c.mark_run.new.self
+    c.mark_run.new.self
     here there.0 there.1 c.mark_run.ensures.file c.mark_run.ensures.first c.mark_run.ensures.count c.mark_run.ensures.each

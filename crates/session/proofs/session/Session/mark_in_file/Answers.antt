@@ -51,7 +51,7 @@ take_block-requires-clause-inside g c =
     let a : KeptTree = c.index_mut.result.now in
     let e : slice_get ts tr ≡ Some a = found_at ts tr a (slice_get_within ts tr x.0 x.1) c.index_mut.ensures.value in
     let low : c.args.block < block_count a.length = subst (λ n. c.args.block < block_count n)
-        (sym (same_length d ts c.self.invariant c.sound.ensures c.args.file tr has.0 a has.1 is e)) has.2 in
+    (sym (same_length d ts c.self.invariant c.sound.ensures c.args.file tr has.0 a has.1 is e)) has.2 in
     low
 
 pub invariant_of-self : goal.invariant_of-self
@@ -81,10 +81,10 @@ returns-clause-marked g c =
     let a : KeptTree = c.index_mut.result.now in
     let e : slice_get ts tr ≡ Some a = found_at ts tr a (slice_get_within ts tr x.0 x.1) c.index_mut.ensures.value in
     let low : c.args.block < block_count a.length = subst (λ n. c.args.block < block_count n)
-        (sym (same_length d ts c.self.invariant c.sound.ensures c.args.file tr has.0 a has.1 is e)) has.2 in
+    (sym (same_length d ts c.self.invariant c.sound.ensures c.args.file tr has.0 a has.1 is e)) has.2 in
     let b : KeptTree = c.take_block.new.self in
     subst (λ (v : SessionSeen). IfOk c.take_block.result (λ _. IsMarkedBlock v c.args.file c.args.block c.args.bytes.now
-        (seen d c.self.inside.asks (set ts tr b)))) c.self.view_is
+    (seen d c.self.inside.asks (set ts tr b)))) c.self.view_is
     (marked_all d ts c.self.invariant c.args.file c.args.block tr has.0 a has.1 is e low
     c.self.inside.asks b c.args.bytes.now c.take_block.result c.take_block.ensures.taken)
 
@@ -99,9 +99,9 @@ returns-clause-refused g c =
     let a : KeptTree = c.index_mut.result.now in
     let e : slice_get ts tr ≡ Some a = found_at ts tr a (slice_get_within ts tr x.0 x.1) c.index_mut.ensures.value in
     let low : c.args.block < block_count a.length = subst (λ n. c.args.block < block_count n)
-        (sym (same_length d ts c.self.invariant c.sound.ensures c.args.file tr has.0 a has.1 is e)) has.2 in
+    (sym (same_length d ts c.self.invariant c.sound.ensures c.args.file tr has.0 a has.1 is e)) has.2 in
     let b : KeptTree = c.take_block.new.self in
     subst (λ (v : SessionSeen). IfErr c.take_block.result (λ r. IsUnmarkedBlock v c.args.file c.args.block c.args.bytes.now r
-        × (seen d c.self.inside.asks (set ts tr b) ≡ v))) c.self.view_is
+    × (seen d c.self.inside.asks (set ts tr b) ≡ v))) c.self.view_is
     (unmarked_all d ts c.self.invariant c.args.file c.args.block tr has.0 a has.1 is e low
     c.self.inside.asks b c.args.bytes.now c.take_block.result c.take_block.ensures.refused)

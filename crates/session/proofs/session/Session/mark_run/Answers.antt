@@ -38,7 +38,7 @@ pub mark_in_file-marked-requires : goal.mark_in_file-marked-requires
 mark_in_file-marked-requires g c =
     subst (λ (d : Description). HasBlock d c.args.file (c.args.first + c.numbers.number))
     (sym (chain-torrent c.args.file c.args.self.now (cuts c.args.first c.args.bytes.now c.numbers.number) c.numbers.blocks.refusals c.numbers.self
-        c.numbers.invariant.each))
+    c.numbers.invariant.each))
     (run-has c.args.self.now.torrent c.args.file c.args.first (length c.args.bytes.now) c.args.count c.numbers.number c.requires c.numbers-test.true)
 
 pub push-requires : goal.push-requires
@@ -59,7 +59,7 @@ numbers-preserved g c =
           c.mark_in_file-marked.new.self)
           (ap (λ r. c.numbers.blocks.refusals ++ r ∷ []) (sym c.err.ensures.value) ∙ sym told)
           (next_block c.args.file c.args.self.now c.args.first c.args.bytes.now c.numbers.number c.numbers.blocks.refusals c.numbers.self
-              c.numbers.invariant.each
+          c.numbers.invariant.each
           c.block_of.result.now c.mark_in_file-marked.result c.mark_in_file-marked.new.self c.block_of.ensures
           c.mark_in_file-marked.ensures.marked c.mark_in_file-marked.ensures.refused);
     }
@@ -77,4 +77,4 @@ pub returns-clause-each : goal.returns-clause-each
 returns-clause-each g c =
     let all : c.numbers.number ≡ c.args.count = omega (arith, c.numbers.auto.number-end, c.numbers-test.false) in
     subst (λ n. Chain (BlockStep c.args.file) c.args.self.now (cuts c.args.first c.args.bytes.now n) c.numbers.blocks.refusals c.numbers.self) all
-        c.numbers.invariant.each
+    c.numbers.invariant.each

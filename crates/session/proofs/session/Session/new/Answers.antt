@@ -22,9 +22,9 @@ infos-init g c = record {
 pub planted-requires : goal.planted-requires
 planted-requires g c =
     let same : c.unwrap-piece_length.result ≡ c.args.torrent.now.piece_length = piece_length_is _ _ _ _ c.unwrap-piece_length.ensures c.new.ensures
-        c.piece_length.ensures in
+    c.piece_length.ensures in
     sound_at c.args.torrent.now c.sound.ensures c.trees-infos.result.now c.trees-infos.ensures c.unwrap-piece_length.result same c.infos.info-index _
-        c.infos-test.true
+    c.infos-test.true
 
 pub infos-preserved : goal.infos-preserved
 infos-preserved g c =
@@ -34,11 +34,11 @@ infos-preserved g c =
       same = subst (λ (ts : List KeptTree). map info_of ts ≡ take (c.infos.info-index + 1) (map root_of_entry (map tree_entry c.trees-infos.result.now)))
           (sym c.push_reserved.ensures.items)
           (same_more c.args.torrent.now c.sound.ensures c.trees-infos.result.now c.trees-infos.ensures c.infos.info-index _ c.infos.trees.items b
-              c.infos-test.true c.in_ok-planted.ensures.root_is c.in_ok-planted.ensures.length_is c.infos.invariant.same);
+          c.infos-test.true c.in_ok-planted.ensures.root_is c.in_ok-planted.ensures.length_is c.infos.invariant.same);
       planted = subst (λ (ts : List KeptTree). ArePlanted c.unwrap-piece_length.result c.args.with_layers (map tree_entry c.trees-infos.result.now) ts)
           (sym c.push_reserved.ensures.items)
           (planted_one_more c.unwrap-piece_length.result c.args.with_layers c.trees-infos.result.now c.infos.trees.items c.infos.info-index _ b
-              c.infos-test.true count c.in_ok-planted.ensures c.infos.invariant.planted);
+          c.infos-test.true count c.in_ok-planted.ensures c.infos.invariant.planted);
       told = omega (arith, c.push_reserved.ensures.len, c.infos.invariant.told);
       room = omega (arith, c.push_reserved.ensures.capacity, c.infos.invariant.room);
     }
@@ -46,19 +46,19 @@ infos-preserved g c =
 pub invariant_of-result : goal.invariant_of-result
 invariant_of-result g c =
     let same : c.unwrap-piece_length.result ≡ c.args.torrent.now.piece_length = piece_length_is _ _ _ _ c.unwrap-piece_length.ensures c.new.ensures
-        c.piece_length.ensures in
+    c.piece_length.ensures in
     let planted : ArePlanted c.args.torrent.now.piece_length c.args.with_layers c.args.torrent.now.trees c.infos.trees.items =
     subst₂ (λ p es. ArePlanted p c.args.with_layers es c.infos.trees.items) same c.trees-infos.ensures c.infos.invariant.planted in
     kept_all c.args.torrent.now c.sound.ensures c.trees-infos.result.now c.trees-infos.ensures c.args.with_layers c.infos.info-index c.infos.trees.items
-        c.infos-test.false c.infos.invariant.same planted
+    c.infos-test.false c.infos.invariant.same planted
 
 pub returns-clause-fresh : goal.returns-clause-fresh
 returns-clause-fresh g c =
     let same : c.unwrap-piece_length.result ≡ c.args.torrent.now.piece_length = piece_length_is _ _ _ _ c.unwrap-piece_length.ensures c.new.ensures
-        c.piece_length.ensures in
+    c.piece_length.ensures in
     let planted : ArePlanted c.args.torrent.now.piece_length c.args.with_layers c.args.torrent.now.trees c.infos.trees.items =
     subst₂ (λ p es. ArePlanted p c.args.with_layers es c.infos.trees.items) same c.trees-infos.ensures c.infos.invariant.planted in
     fresh c.args.torrent.now c.sound.ensures c.trees-infos.result.now c.trees-infos.ensures c.args.with_layers c.infos.trees.items c.new-2.result
-        c.new-2.ensures
+    c.new-2.ensures
     (kept_all c.args.torrent.now c.sound.ensures c.trees-infos.result.now c.trees-infos.ensures c.args.with_layers c.infos.info-index c.infos.trees.items
-        c.infos-test.false c.infos.invariant.same planted) planted
+    c.infos-test.false c.infos.invariant.same planted) planted

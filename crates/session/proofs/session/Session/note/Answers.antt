@@ -8,7 +8,7 @@ use Rattle.session.proofs.session.Session.note.Goals as goal
 pub returns-clause-open_already : goal.returns-clause-open_already
 returns-clause-open_already g c = λ was_open.
     let here : finite.contains c.self.inside.asks c.args.ask.now ≡ true = ap (λ (v : SessionSeen). finite.contains v.asks c.args.ask.now) c.self.view_is
-        ∙ was_open in
+    ∙ was_open in
     let same : c.insert.new.self ≡ c.self.inside.asks =
     unchanged_if_open c.self.inside.asks c.insert.new.self c.args.ask.now c.insert.result here c.insert.ensures.no_memory c.insert.ensures.opened in
     ap (λ (o : AskSet). seen c.self.inside.torrent.now o c.self.inside.trees.items) same ∙ c.self.view_is

@@ -15,7 +15,7 @@ messages-preserved g c = record {
   run = subst (λ (vs : List Verdict). Chain IsSafeStep c.args.self.now (take (c.messages.message-index + 1) c.args.messages.now) vs c.step.new.self)
       (sym c.push_reserved.ensures.items)
       (Chain-next IsSafeStep c.args.self.now c.messages.self c.step.new.self c.args.messages.now c.messages.message-index c.messages.verdicts.items _
-          c.step.result
+      c.step.result
       c.messages-test.true c.messages.invariant.run c.step.ensures.verified_is_the_block);
   hashes = All-take-more c.args.messages.now c.messages.message-index _ c.messages-test.true c.messages.invariant.hashes c.has_hashes.ensures;
   told = omega (arith, c.push_reserved.ensures.len, c.messages.invariant.told);
@@ -25,20 +25,20 @@ messages-preserved g c = record {
 pub returns-clause-verified_is_the_block : goal.returns-clause-verified_is_the_block
 returns-clause-verified_is_the_block g c =
     let whole : take c.messages.message-index c.args.messages.now ≡ c.args.messages.now = take_all c.messages.message-index c.args.messages.now
-        c.messages-test.false in
+    c.messages-test.false in
     subst (λ (ms : List Message). Chain IsSafeStep c.args.self.now ms c.messages.verdicts.items c.messages.self) whole c.messages.invariant.run
 
 pub returns-clause-gaps : goal.returns-clause-gaps
 returns-clause-gaps g c =
     run-gaps c.args.self.now c.args.messages.now c.messages.verdicts.items c.messages.self
     (Chain-weaker IsSafeStep Step (λ S m v S' s. s.allowed) c.args.self.now c.args.messages.now c.messages.verdicts.items c.messages.self
-        (returns-clause-verified_is_the_block g c))
+    (returns-clause-verified_is_the_block g c))
 
 pub returns-clause-round : goal.returns-clause-round
 returns-clause-round g c =
     let whole : take c.messages.message-index c.args.messages.now ≡ c.args.messages.now = take_all c.messages.message-index c.args.messages.now
-        c.messages-test.false in
+    c.messages-test.false in
     round-fewer c.args.self.now c.distinct_roots.ensures c.args.messages.now c.messages.verdicts.items c.messages.self c.closed_trees.ensures
     (subst (All HasHashes) whole c.messages.invariant.hashes)
     (Chain-weaker IsSafeStep Step (λ S m v S' s. s.allowed) c.args.self.now c.args.messages.now c.messages.verdicts.items c.messages.self
-        (returns-clause-verified_is_the_block g c))
+    (returns-clause-verified_is_the_block g c))

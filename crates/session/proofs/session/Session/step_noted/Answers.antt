@@ -10,7 +10,7 @@ returns-in-In g c = record {
   verified_is_the_block = subst (λ (d : Direction). IsSafeNotedStep c.args.self.now (d, c.args.message.now) c.take_in.result c.take_in.new.self)
       (sym c.in-In.is)
       (safe_noted_step c.args.self.now c.closed_trees.ensures c.distinct_roots.ensures (In, c.args.message.now) c.take_in.result c.take_in.new.self
-          c.take_in.ensures);
+      c.take_in.ensures);
 }
 
 pub returns-in-Out : goal.returns-in-Out

@@ -14,7 +14,7 @@ want-requires g c =
     let a : KeptTree = c.index.result.now in
     let low : c.args.tree < length d.trees = subst (λ (v : SessionSeen). c.args.tree < length v.torrent.trees) (sym c.self.view_is) c.requires.tree in
     let is : IsBlockOf d c.args.tree c.args.block = subst (λ (v : SessionSeen). IsBlockOf v.torrent c.args.tree c.args.block) (sym c.self.view_is)
-        c.requires.block in
+    c.requires.block in
     block_in d ts c.self.invariant c.args.tree c.args.block a (found_at ts c.args.tree a (inside_kept d ts c.self.invariant c.args.tree low) c.index.ensures) is
 
 pub returns : goal.returns
