@@ -1,4 +1,3 @@
-pub mod Orders
 pub mod RootLines
 pub mod Places
 pub mod Prefixes
