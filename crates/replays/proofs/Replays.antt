@@ -28,39 +28,39 @@ use Rattle.wire.specs.Records.{Directed, MayStand}
 use Rattle.chains.specs.Chain.{Chain}
 use Rattle.session.specs.Session.{SessionSeen}
 use Rattle.chains.proofs.Chains.{Chain-more}
-use Rattle.replays.specs.declared.told.Told.{Told}
+use Rattle.replays.specs.declared.frame_report.FrameReport.{FrameReport}
 use Rattle.replays.specs.declared.ending.Ending.{Ending}
 use Rattle.replays.specs.declared.ending.Ending.TheVariants as ending
 use Rattle.replays.specs.declared.outcome.Outcome.{Outcome}
 use Rattle.replays.specs.Outcome.{is_refusal, is_no_memory, is_fault}
 use Rattle.replays.specs.ReplayLines.{lines_of, ending_line_of}
-use Rattle.replays.specs.declared.reply.Reply.{Reply}
+use Rattle.replays.specs.declared.frame_report.Reply.{Reply}
 use Rattle.replays.specs.declared.answering.AnswerFault.TheVariants as failed
 use Rattle.replays.specs.Answering.{Finishes, IfWanted, IsReply, Replies, reply_to}
 use Rattle.replays.specs.Replay.{Answered, Ends, EndsUnanswered, GaveRecord, Handled, Handles, HandlesButLast, HandlesNext, IsCutAtEnd, IsCutInAnswer}
 use Rattle.replays.specs.Replay.{IsCutInFlush, IsCutInLine, IsCutReport, IsEnding, IsReport, CountsEnding, Replayed, ReplaySeen, RespondsNext, TellsEnding}
-use Rattle.replays.specs.Replay.{answers_of, lines_from, tolds_of, unanswered}
-use Rattle.replays.proofs.Replies.{broke_after, hashes_are_told, meets_more, none_sent, same_wanted, sent_and_flushed, sent_more, sent_unflushed}
+use Rattle.replays.specs.Replay.{answers_of, lines_from, reports_of, unanswered}
+use Rattle.replays.proofs.Replies.{broke_after, hashes_answer_requests, meets_more, none_sent, same_wanted, sent_and_flushed, sent_more, sent_unflushed}
 
 -- ---- one more frame, in lists
 
-lines_more : (n : ℕ) (hs : List Handled) (h : Handled) → lines_from n (hs ++ h ∷ []) ≡ lines_from n hs ++ lines_of (n + length hs) h.told
-lines_more n [] h = let same : n ≡ n + 0 = omega arith in append-nil (lines_of n h.told) ∙ ap (λ k. lines_of k h.told) same
+lines_more : (n : ℕ) (hs : List Handled) (h : Handled) → lines_from n (hs ++ h ∷ []) ≡ lines_from n hs ++ lines_of (n + length hs) h.report
+lines_more n [] h = let same : n ≡ n + 0 = omega arith in append-nil (lines_of n h.report) ∙ ap (λ k. lines_of k h.report) same
 lines_more n (x ∷ hs) h =
     let same : n + 1 + length hs ≡ n + suc (length hs) = omega arith in
-    ap (λ t. lines_of n x.told ++ t) (lines_more (n + 1) hs h ∙ ap (λ k. lines_from (n + 1) hs ++ lines_of k h.told) same)
-    ∙ sym (append_assoc (lines_of n x.told) (lines_from (n + 1) hs) (lines_of (n + suc (length hs)) h.told))
+    ap (λ t. lines_of n x.report ++ t) (lines_more (n + 1) hs h ∙ ap (λ k. lines_from (n + 1) hs ++ lines_of k h.report) same)
+    ∙ sym (append_assoc (lines_of n x.report) (lines_from (n + 1) hs) (lines_of (n + suc (length hs)) h.report))
 
 -- the lines of the frame after these n
-next_lines : (hs : List Handled) (h : Handled) (n : ℕ) → n ≡ length hs → lines_from 1 (hs ++ h ∷ []) ≡ lines_from 1 hs ++ lines_of (n + 1) h.told
+next_lines : (hs : List Handled) (h : Handled) (n : ℕ) → n ≡ length hs → lines_from 1 (hs ++ h ∷ []) ≡ lines_from 1 hs ++ lines_of (n + 1) h.report
 next_lines hs h n e =
     let same : 1 + length hs ≡ n + 1 = omega arith in
-    lines_more 1 hs h ∙ ap (λ k. lines_from 1 hs ++ lines_of k h.told) same
+    lines_more 1 hs h ∙ ap (λ k. lines_from 1 hs ++ lines_of k h.report) same
 
-any_more : (p : Told → Bool) (hs : List Handled) (h : Handled) → list_any p (tolds_of (hs ++ h ∷ [])) ≡ (list_any p (tolds_of hs) || p h.told)
+any_more : (p : FrameReport → Bool) (hs : List Handled) (h : Handled) → list_any p (reports_of (hs ++ h ∷ [])) ≡ (list_any p (reports_of hs) || p h.report)
 any_more p hs h =
-    ap (list_any p) (map-append (λ (x : Handled). x.told) hs (h ∷ []))
-    ∙ list_any-append p (tolds_of hs) (h.told ∷ []) ∙ ap (λ b. list_any p (tolds_of hs) || b) (or-false (p h.told))
+    ap (list_any p) (map-append (λ (x : Handled). x.report) hs (h ∷ []))
+    ∙ list_any-append p (reports_of hs) (h.report ∷ []) ∙ ap (λ b. list_any p (reports_of hs) || b) (or-false (p h.report))
 
 outcome_same : (o : Outcome) (a b c : Bool) → o.refused ≡ a → o.no_memory ≡ b → o.fault ≡ c → o ≡ record { refused = a; no_memory = b; fault = c }
 outcome_same o a b c p q r =
@@ -237,12 +237,12 @@ pub record InReplay (old new : ReplaySeen) (known : Option Form) (number : ℕ) 
   pub room : number + new.source.limit ≤ old.source.limit
   pub sent : Sent old.report new.report (lines_from 1 handled)
   pub answered : Answered old new handled
-  pub refused_is : outcome.refused ≡ list_any is_refusal (tolds_of handled)
-  pub no_memory_is : outcome.no_memory ≡ list_any is_no_memory (tolds_of handled)
+  pub refused_is : outcome.refused ≡ list_any is_refusal (reports_of handled)
+  pub no_memory_is : outcome.no_memory ≡ list_any is_no_memory (reports_of handled)
   pub no_fault : outcome.fault ≡ false
 
 -- a frame takes a byte at least
-pub frame_falls : {mid new : SourceSeen} {known : Option Form} {form : Form} {S S' : SessionSeen} {d : Told} {r : Reply}
+pub frame_falls : {mid new : SourceSeen} {known : Option Form} {form : Form} {S S' : SessionSeen} {d : FrameReport} {r : Reply}
     → RespondsNext known form mid new S S' d r → new.limit + 1 ≤ mid.limit
 frame_falls {mid} {new} {known} {form} {S} {S'} {d} {r} next = omega (arith, record_falls mid new known form next.1.directed next.1.gave)
 
@@ -261,10 +261,10 @@ in_replay_none s o refused no_memory no_fault = record {
 }
 
 -- the frame with the bytes of its answer
-abbrev with_answer : Directed Frame → Told → List ℕ → Handled
-with_answer f d bytes = record { frame = f; told = d; answer = bytes }
+abbrev with_answer : Directed Frame → FrameReport → List ℕ → Handled
+with_answer f d bytes = record { frame = f; report = d; answer = bytes }
 
-answer_next : (wanted : Bool) (known : Option Form) (form : Form) (old new : SourceSeen) (S S' : SessionSeen) (f : Directed Frame) (d : Told) (bytes : List ℕ)
+answer_next : (wanted : Bool) (known : Option Form) (form : Form) (old new : SourceSeen) (S S' : SessionSeen) (f : Directed Frame) (d : FrameReport) (bytes : List ℕ)
     → HandlesNext false known form old new S S' (unanswered f d) → IsReply wanted S' (reply_to f d) bytes
     → HandlesNext wanted known form old new S S' (with_answer f d bytes)
 answer_next wanted known form old new S S' f d bytes next replies = record {
@@ -274,7 +274,7 @@ answer_next wanted known form old new S S' f d bytes next replies = record {
 }
 
 -- one more frame was handled, with this answer
-handled_more : {old mid : ReplaySeen} {known : Option Form} {form : Form} {n : ℕ} {o : Outcome} {d : Told} {r : Reply} (new : ReplaySeen) (bytes : List ℕ)
+handled_more : {old mid : ReplaySeen} {known : Option Form} {form : Form} {n : ℕ} {o : Outcome} {d : FrameReport} {r : Reply} (new : ReplaySeen) (bytes : List ℕ)
     → (at : InReplay old mid known n o)
     → (next : RespondsNext known form mid.source new.source mid.session new.session d r) → IsReply (is_some mid.answers) new.session r bytes
     → SoFar (is_some old.answers) (Some form) old.source new.source old.session new.session (at.handled ++ with_answer next.0 d bytes ∷ [])
@@ -286,7 +286,7 @@ handled_more {old} {mid} {known} {form} {n} {o} {d} {r} new bytes at next replie
     at.so_far (answer_next (is_some old.answers) known form mid.source new.source mid.session new.session next.0 d bytes next.1 is)
 
 -- the last frame was handled, and not answered
-but_last : {old mid : ReplaySeen} {known : Option Form} {form : Form} {n : ℕ} {o : Outcome} {d : Told} {r : Reply} (new : ReplaySeen)
+but_last : {old mid : ReplaySeen} {known : Option Form} {form : Form} {n : ℕ} {o : Outcome} {d : FrameReport} {r : Reply} (new : ReplaySeen)
     → (at : InReplay old mid known n o)
     → (next : RespondsNext known form mid.source new.source mid.session new.session d r) → HandlesButLast old new at.handled (unanswered next.0 d)
 but_last {old} {mid} {known} {form} {n} {o} {d} {r} new at next =
@@ -305,7 +305,7 @@ but_last {old} {mid} {known} {form} {n} {o} {d} {r} new at next =
     }
 
 -- after one more
-pub in_replay_more : {old mid new : ReplaySeen} {known : Option Form} {form : Form} {n : ℕ} {o : Outcome} {d : Told} {r : Reply} (o' : Outcome)
+pub in_replay_more : {old mid new : ReplaySeen} {known : Option Form} {form : Form} {n : ℕ} {o : Outcome} {d : FrameReport} {r : Reply} (o' : Outcome)
     → InReplay old mid known n o
     → RespondsNext known form mid.source new.source mid.session new.session d r → Sent mid.report new.report (lines_of (n + 1) d)
     → Replies new.session r mid.answers new.answers (Ok tt)
@@ -330,7 +330,7 @@ in_replay_more {old} {mid} {new} {known} {form} {n} {o} {d} {r} o' so_far next w
     }
 
 -- the line of a frame did not go out whole
-pub cut_in_line : {old mid : ReplaySeen} {known : Option Form} {form : Form} {n : ℕ} {o : Outcome} {d : Told} {r : Reply} (new : ReplaySeen)
+pub cut_in_line : {old mid : ReplaySeen} {known : Option Form} {form : Form} {n : ℕ} {o : Outcome} {d : FrameReport} {r : Reply} (new : ReplaySeen)
     → InReplay old mid known n o
     → RespondsNext known form mid.source new.source mid.session new.session d r → Broke mid.report new.report (lines_of (n + 1) d) → new.answers ≡ mid.answers
     → IsCutReport old new
@@ -347,7 +347,7 @@ cut_in_line {old} {mid} {known} {form} {n} {o} {d} {r} new so_far next wrote sta
     inl cut
 
 -- an answer did not go out whole
-pub cut_in_answer : {old mid : ReplaySeen} {known : Option Form} {form : Form} {n : ℕ} {o : Outcome} {d : Told} {r : Reply} (new : ReplaySeen)
+pub cut_in_answer : {old mid : ReplaySeen} {known : Option Form} {form : Form} {n : ℕ} {o : Outcome} {d : FrameReport} {r : Reply} (new : ReplaySeen)
     → InReplay old mid known n o
     → RespondsNext known form mid.source new.source mid.session new.session d r → Sent mid.report new.report (lines_of (n + 1) d)
     → Replies new.session r mid.answers new.answers (Err failed.Write) → IsCutReport old new
@@ -373,8 +373,8 @@ pub record InEnd (old mid new : ReplaySeen) (e : Ending) (o : Outcome) : Type 0 
   pub ends : Ends old new handled e
   pub sent : Sent old.report mid.report (lines_from 1 handled)
   pub answered : Answered old mid handled
-  pub refused_is : o.refused ≡ list_any is_refusal (tolds_of handled)
-  pub no_memory_is : o.no_memory ≡ list_any is_no_memory (tolds_of handled)
+  pub refused_is : o.refused ≡ list_any is_refusal (reports_of handled)
+  pub no_memory_is : o.no_memory ≡ list_any is_no_memory (reports_of handled)
 
 -- no frame was read
 pub in_end_at_once : (old new : ReplaySeen) (o : Outcome) → new.source ≡ old.source → new.session ≡ old.session → o.refused ≡ false → o.no_memory ≡ false
@@ -402,7 +402,7 @@ in_end_of_record {old} {mid} {new} {known} {n} {o} {e} so_far next stays = recor
 }
 
 -- memory was refused for an answer, after its line
-pub in_end_unanswered : {old mid new : ReplaySeen} {known : Option Form} {form : Form} {n : ℕ} {o : Outcome} {d : Told} {r : Reply} (o' : Outcome)
+pub in_end_unanswered : {old mid new : ReplaySeen} {known : Option Form} {form : Form} {n : ℕ} {o : Outcome} {d : FrameReport} {r : Reply} (o' : Outcome)
     (after : ReplaySeen) → InReplay old mid known n o
     → RespondsNext known form mid.source new.source mid.session new.session d r → Sent mid.report after.report (lines_of (n + 1) d)
     → Replies new.session r mid.answers after.answers (Err failed.NoMemory)
@@ -418,7 +418,7 @@ in_end_unanswered {old} {mid} {new} {known} {form} {n} {o} {d} {r} o' after so_f
       last = h;
       all = refl;
       handles = but_last new so_far next;
-      told_is = hashes_are_told next.0 d ask (sym next.2 ∙ is);
+      report_is = hashes_answer_requests next.0 d ask (sym next.2 ∙ is);
       wanted = sym wanted ∙ there;
       ending_is = refl;
     } in
@@ -443,7 +443,7 @@ report_ended {old} {mid} {e} {o} new (Ok x) end (wrote, flushed) is = record {
   ends = end.ends;
   wrote = sent_then_flushed old.report mid.report new.report (lines_from 1 end.handled) (ending_line_of e) end.sent wrote;
   answered = sent_and_flushed old.answers mid.answers new.answers (answers_of end.handled) end.answered flushed;
-  outcome_is = outcome_same x (list_any is_refusal (tolds_of end.handled)) (list_any is_no_memory (tolds_of end.handled)) (is_fault e)
+  outcome_is = outcome_same x (list_any is_refusal (reports_of end.handled)) (list_any is_no_memory (reports_of end.handled)) (is_fault e)
       (ap (λ y. y.refused) is ∙ end.refused_is) (ap (λ y. y.no_memory) is ∙ end.no_memory_is) (ap (λ y. y.fault) is);
 }
 report_ended {old} {mid} {e} {o} new (Err f) end finishes is = tt
