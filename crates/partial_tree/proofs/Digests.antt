@@ -50,8 +50,6 @@ are_hashes (h ∷ hs) sizes bytes =
     (are_hashes hs (All-tail (λ (x : Hash). length x ≡ 32) h hs sizes)
     (subst AreBytes (drop_at h rest (length h) refl) (All-drop IsByte (length h) (h ++ rest) bytes)))
 
-    heads (inr e) d = inr (λ p. e cc)
-
 -- joined lists determine their parts, where the first parts are of one length
 pub same_parts : (a b c d : List ℕ) → length a ≡ length c → a ++ b ≡ c ++ d → (a ≡ c) × (b ≡ d)
 same_parts a b c d len e = (

@@ -95,8 +95,6 @@ one_is_stream bytes bodies rest form frames = record {
 
 -- ---- each list of bytes is a record
 
-    heads (inr e) d = inr (λ p. e cc)
-
 pub form_of : (bytes : List ℕ) → HasForm bytes Two ⊎ HasForm bytes One
 form_of bytes = elim (same_or_not (take 8 bytes) header) [
   | inl same ↦ inl (drop 8 bytes, sym (take-append-drop 8 bytes) ∙ ap (λ t. t ++ drop 8 bytes) same)
