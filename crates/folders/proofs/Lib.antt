@@ -9,4 +9,5 @@ pub mod MemCalls
 pub mod Streaming
 pub mod Reports
 pub mod Layers
+pub mod OpenedRoots
 pub mod Pieces
