@@ -13,6 +13,7 @@ use Rattle.std.specs.declared.cmp.Ordering.TheVariants.{Less, Equal, Greater}
 use Rattle.drafts.specs.Orders.{IsPlaceOf}
 use Rattle.filetree.proofs.Paths.{cmp_equal, begins_ties, order_at}
 use Rattle.filetree.specs.Paths.{AreInOrder, IsPrefix, path_cmp}
+use Rattle.chains.proofs.Cases.{both_equal}
 
 -- the order of two, by the first difference
 pub decided : (o a : Ordering) → ordering_then o a ≡ Less → (o ≡ Less) ⊎ ((o ≡ Equal) × (a ≡ Less))
@@ -57,11 +58,6 @@ pub less_greater : (p q : List (List ℕ)) → path_cmp p q ≡ Less → path_cm
 less_greater p q e = path_mirror q p ∙ ap ordering_reverse e
 
 -- ---- what ties
-
-both_equal : (o a : Ordering) → ordering_then o a ≡ Equal → (o ≡ Equal) × (a ≡ Equal)
-both_equal Less a e = cc
-both_equal Equal a e = (refl, e)
-both_equal Greater a e = cc
 
 pub tie_begins : (p q : List (List ℕ)) → path_cmp p q ≡ Equal → IsPrefix p q ⊎ IsPrefix q p
 tie_begins [] q e = inl (q, refl)

@@ -8,7 +8,7 @@ use Rattle.std.proofs.lemmas.List.FromFn.{length-map-range_with_len, get_or-map-
 use Rattle.hashtree.specs.Tree.{block_count, first_pad, height, layer_count, layer_of, node}
 use Rattle.hashtree.proofs.Heights.{height_enough, height_is, height_least}
 use Rattle.hashtree.proofs.Pairs.{two-pow}
-use Rattle.folders.proofs.Orders.{last_or_before}
+use Rattle.chains.proofs.Cases.{last_or_before}
 
 -- ---- the hashes of a layer
 

@@ -1,4 +1,3 @@
-pub mod Orders
 pub mod RootLines
 pub mod Places
 pub mod Prefixes
@@ -10,4 +9,5 @@ pub mod MemCalls
 pub mod Streaming
 pub mod Reports
 pub mod Layers
+pub mod OpenedRoots
 pub mod Pieces

@@ -15,7 +15,7 @@ use Rattle.folders.specs.Folder.{Contents, start_of}
 use Rattle.folders.specs.Pass.{FindsVerdict, IsStreamPart}
 use Rattle.folders.specs.Streaming.{StreamEndsAt, IsStreamGiven, StandsAt, Takes}
 use Rattle.folders.specs.Verdicts.{AreVerdicts, IsVerdict, is_whole}
-use Rattle.folders.proofs.Orders.{last_or_before}
+use Rattle.chains.proofs.Cases.{last_or_before}
 use Rattle.folders.proofs.Prefixes.{IsStreamPrefix, prefix_empty, prefix_file, prefix_none, prefix_zeros}
 use Rattle.folders.proofs.Places.{place_before, start_is, ends_before_next, pieces_are_positive}
 

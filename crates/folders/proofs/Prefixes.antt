@@ -6,7 +6,7 @@ use Rattle.std.proofs.lemmas.List.{get_or_append_left, get_or-append_right, get_
 use Rattle.std.proofs.lemmas.Option.{same_Some, slice_get_within}
 use Rattle.opening.specs.Description.{Description, FileEntry}
 use Rattle.folders.specs.Folder.{Contents, Covers, IsStream, start_of}
-use Rattle.folders.proofs.Orders.{last_or_before}
+use Rattle.chains.proofs.Cases.{last_or_before}
 
 -- this prefix of the stream holds each of the first n files that is not empty, and zeros elsewhere
 pub record IsStreamPrefix (t : Description) (contents : Contents) (n : ℕ) (front : List ℕ) : Type 0 where

@@ -20,6 +20,7 @@ use Rattle.folders.specs.Verdicts.{stream_is_good, unreadable_count}
 use Rattle.folders.proofs.Prefixes.{IsStreamPrefix, prefix_all}
 use Rattle.folders.proofs.Passes.{IsPassed, IsTold}
 use Rattle.folders.proofs.Streaming.{one_stream}
+use Rattle.chains.proofs.Cases.{item_at}
 
 both : (a b : Bool) → (a && b) ≡ true → (a ≡ true) × (b ≡ true)
 both true b h = (refl, h)
@@ -29,11 +30,6 @@ all_at : {A : Type 0} (p : A → Bool) (xs : List A) (n : ℕ) (x : A) → list_
 all_at p [] n x h is = absurd (none-some x is)
 all_at p (y ∷ ys) zero x h is = subst (λ z. p z ≡ true) (same_Some y x is) (both (p y) (list_all p ys) h).0
 all_at p (y ∷ ys) (suc n) x h is = all_at p ys n x (both (p y) (list_all p ys) h).1 is
-
-at_length : {A : Type 0} (xs : List A) (n : ℕ) → n < length xs → (x : A) × (slice_get xs n ≡ Some x)
-at_length [] n lt = absurd (omega arith)
-at_length (x ∷ xs) zero lt = (x, refl)
-at_length (x ∷ xs) (suc n) lt = at_length xs n (omega arith)
 
 some_of : {A : Type 0} (o : Option A) → is_some o ≡ true → (x : A) × (o ≡ Some x)
 some_of None h = let no : ⊥ = cc in absurd no
@@ -63,7 +59,7 @@ yes_is_sure t contents files v1 has tells said =
     let parts = both (list_all is_good files) (stream_is_good v1) said in
     record {
       files = λ n f there.
-          let found = at_length files n (omega (arith, slice_get_within t.files n f there, has.count)) in
+          let found = item_at files n (omega (arith, slice_get_within t.files n f there, has.count)) in
           good_verdict t f (contents n) found.0 (all_at is_good files n found.0 parts.0 found.1) (tells.each n f found.0 there found.1);
       version1 = λ v hybrid.
           let verdict = some_of v1 (has.hybrid ∙ ap is_some hybrid) in
@@ -162,7 +158,7 @@ pub good_is_enough : (t : Description) (contents : Contents) (files : List FileV
     → TellsContents t contents files v1 → GoodFolder t contents → unreadable_count files ≡ 0 → is_yes files v1 ≡ true
 good_is_enough t contents files v1 sound has tells good none =
     let all : list_all is_good files ≡ true = all_from is_good files (λ n v is.
-    let file = at_length t.files n (omega (arith, slice_get_within files n v is, has.count)) in
+    let file = item_at t.files n (omega (arith, slice_get_within files n v is, has.count)) in
     let there = good.files n file.0 file.1 in
     no_other t n file.0 (contents n) there.0 v sound file.1 there.1 there.2 (none_unreadable files n v none is) (tells.each n file.0 v file.1 is)) in
     let whole : list_all is_whole files ≡ true = all_from is_whole files (λ n v is. good_is_whole v (all_at is_good files n v all is)) in

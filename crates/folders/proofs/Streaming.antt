@@ -5,7 +5,7 @@ use Rattle.std.proofs.lemmas.List.{ext_get_or, get_or-take, get_or-drop}
 use Rattle.std.proofs.lemmas.Option.{same_Some, slice_get_within, none-some}
 use Rattle.opening.specs.Description.{Description, FileEntry}
 use Rattle.folders.specs.Folder.{Contents, Covers, IsStream, start_of}
-use Rattle.folders.proofs.Orders.{last_or_before}
+use Rattle.chains.proofs.Cases.{last_or_before}
 
 -- file n covers this byte, or it does not
 here_or_not : (t : Description) (contents : Contents) (i n : ℕ) (f : Option FileEntry) → slice_get t.files n ≡ f

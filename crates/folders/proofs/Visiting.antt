@@ -18,7 +18,7 @@ use Rattle.folders.specs.Shelf.{IsFound, more}
 use Rattle.folders.specs.TakeAll.{IsReadWithin}
 use Rattle.folders.specs.Verdicts.{AgreeWith, Agrees, is_whole}
 use Rattle.folders.specs.Visits.{IsReadFor}
-use Rattle.folders.proofs.Orders.{last_or_before}
+use Rattle.chains.proofs.Cases.{item_at, last_or_before}
 use Rattle.folders.proofs.Passes.{IsPassed, IsTold, told_one}
 
 -- ---- one file
@@ -177,14 +177,9 @@ contents_of seen k = unwrap_or (slice_get seen k) None
 pub contents_extend : (seen : List (Option (List ℕ))) → Extends seen (contents_of seen)
 contents_extend seen k c is = ap (λ o. unwrap_or o None) is
 
-at_length : {A : Type 0} (xs : List A) (n : ℕ) → n < length xs → (x : A) × (slice_get xs n ≡ Some x)
-at_length {A} [] n lt = absurd (omega arith)
-at_length {A} (x ∷ xs) zero lt = (x, refl)
-at_length {A} (x ∷ xs) (suc n) lt = at_length xs n (omega arith)
-
 -- they agree with what the shelf tells
 pub contents_agree : (t : Description) (under : List (List ℕ) → Option (Option (List ℕ))) (n : ℕ) (files : List FileVerdict) (running : Option V1Feed)
     → n ≡ length t.files → (found : HasFound t under n files running) → AgreeWith t under (contents_of found.seen)
 contents_agree t under n files running all found k f there =
-    let at = at_length found.seen k (omega (arith, slice_get_within t.files k f there, found.count)) in
+    let at = item_at found.seen k (omega (arith, slice_get_within t.files k f there, found.count)) in
     subst (Agrees (under f.path)) (sym (contents_extend found.seen k at.0 at.1)) (found.agree k f at.0 there at.1)

@@ -16,6 +16,7 @@ use Rattle.opening.specs.Stream.{Part, Named, entry_part, parts_of, named_part, 
 use Rattle.pieces.specs.Pieces.{pieces_of}
 use Rattle.opening.specs.declared.version1.Ends.{Ends}
 use Rattle.opening.proofs.Hybrids.{parts_back}
+use Rattle.chains.proofs.Cases.{last_or_before}
 
 -- where the last piece of the files of a list ends
 abbrev pub pieces_end : ℕ → List Part → ℕ
@@ -97,7 +98,7 @@ one_more k all i e v right here before h = record {
   stream_is = ap (λ t. t + length_of v) h.stream_is ∙ sym (ap stream_length before ∙ stream_after (take i all) (entry_part v));
   pieces_is = pieces_by k e v (has_attribute 112 v) refl ∙ ap (λ t. t + pieces_end k (entry_part v ∷ [])) h.pieces_is
       ∙ sym (ap (pieces_end k) before ∙ pieces_after k (take i all) (entry_part v));
-  placed = λ j p lt at file some. elim (lt_or_same j i lt) [
+  placed = λ j p lt at file some. elim (last_or_before j i (omega (arith, lt))) [
     | inl below ↦ h.placed j p below at file some
     | inr is ↦ (
         let same : Some p ≡ Some (entry_part v) = sym at ∙ ap (slice_get all) is ∙ here in
@@ -108,9 +109,6 @@ one_more k all i e v right here before h = record {
         ∙ ap (λ n. pieces_end k (take n all)) (sym is))
   ];
 }
-  where
-    lt_or_same : (j i : ℕ) → j < suc i → (j < i) ⊎ (j ≡ i)
-    lt_or_same j i lt = grind arith
 
 misplaced_here : (k : ℕ) (all : List Part) (i : ℕ) (e : Ends) (v : Bencode) → is_misplaced v e ≡ true → slice_get all i ≡ Some (entry_part v)
     → IsEnd k all i e → IsMisplaced k all

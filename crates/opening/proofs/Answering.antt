@@ -22,7 +22,7 @@ use Rattle.opening.specs.Stream.{is_hybrid, version1_of}
 use Rattle.opening.specs.Trees.{AreFiles, roots_in}
 use Rattle.filetree.specs.declared.refusal.Refusal.{Refusal}
 use Rattle.filetree.specs.declared.refusal.Refusal.TheVariants as refusals
-use Rattle.opening.proofs.InStream.{listed_at}
+use Rattle.chains.proofs.Cases.{item_at}
 use Rattle.opening.proofs.Listing.{are_files}
 use Rattle.opening.proofs.Telling.{table_told}
 
@@ -48,7 +48,7 @@ same_list (x ∷ xs) (y ∷ ys) same =
 
 files_one : (p : ℕ) (fs : List ListedFile) (es ds : List FileEntry) → AreFiles p fs es → AreFiles p fs ds → es ≡ ds
 files_one p fs es ds one other = same_list es ds (λ k. elim (cases_lt k (length fs)) [
-  | inl within ↦ let f = listed_at fs k within in one.each k f.0 f.1 ∙ sym (other.each k f.0 f.1)
+  | inl within ↦ let f = item_at fs k within in one.each k f.0 f.1 ∙ sym (other.each k f.0 f.1)
   | inr past ↦ slice_get_past es k (omega (arith, one.count, past)) ∙ sym (slice_get_past ds k (omega (arith, other.count, past)))
 ])
 

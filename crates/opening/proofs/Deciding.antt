@@ -2,6 +2,7 @@
 use Rattle.std.proofs.Common.{◌≡◌, ◌⊎◌, inl, inr, ℕ, zero, suc, ◌<◌, ◌≤◌, Bool, true, false, List, [], ◌∷◌, Option, Some, None, refl, ap, ◌∙◌, subst, arith}
 use Rattle.std.specs.Bool.{Decides}
 use Rattle.std.proofs.lemmas.Bool.{cases_lt}
+use Rattle.chains.proofs.Cases.{last_or_before}
 
 -- P holds, or does not
 abbrev pub Decided : Type 0 → Type 0
@@ -49,9 +50,6 @@ pub moved : (P Q : Type 0) → (P → Q) → (Q → P) → Decided P → Decided
 moved P Q to from (inl p) = inl (to p)
 moved P Q to from (inr never) = inr (λ q. never (from q))
 
-pub last_or_before : (k n : ℕ) → k < suc n → (k < n) ⊎ (k ≡ n)
-last_or_before k n lt = grind arith
-
 -- some number below a bound has a property
 abbrev pub SomeBelow : (ℕ → Type 0) → ℕ → Type 0
 SomeBelow P n = (k : ℕ) × (k < n) × P k
@@ -62,7 +60,7 @@ below_decided P decided (suc n) = elim (decided n) [
   | inl here ↦ inl (n, omega arith, here)
   | inr never ↦ moved (SomeBelow P n) (SomeBelow P (suc n))
       (λ found. (found.0, omega (arith, found.1), found.2))
-      (λ found. elim (last_or_before found.0 n found.1) [
+      (λ found. elim (last_or_before found.0 n (omega (arith, found.1))) [
         | inl before ↦ (found.0, before, found.2)
         | inr last ↦ absurd (never (subst P last found.2))
       ])

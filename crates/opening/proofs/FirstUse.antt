@@ -17,7 +17,7 @@ use Rattle.opening.specs.PieceLayers.{tree_at}
 use Rattle.opening.specs.Refusals.{files_of, layers_in, piece_length_in, walks_of}
 use Rattle.opening.specs.Trees.{AreFiles, IsIn, IsReused, entry_at, place_in, roots_in, with_file, with_root}
 use Rattle.opening.specs.declared.roots.Root.{Root}
-use Rattle.opening.proofs.Deciding.{last_or_before}
+use Rattle.chains.proofs.Cases.{last_or_before}
 use Rattle.opening.proofs.Rooting.{place_at, place_push_new, place_push_there, some_or_none}
 use Rattle.opening.proofs.Sounding.{IsSized, all_sized, push_at, roots_differ, tree_of, tree_there}
 
@@ -94,7 +94,7 @@ kept : (all : List ListedFile) (i : ℕ) (ts : List Root) → ((f : ListedFile) 
     → AreFirst all i ts → AreFirst all (suc i) ts
 kept all i ts here h = record {
   each = λ n t at. later_first all i ts n t (h.each n t at);
-  placed = λ k f s lt at is. elim (last_or_before k i lt) [
+  placed = λ k f s lt at is. elim (last_or_before k i (omega (arith, lt))) [
     | inl before ↦ h.placed k f s before at is
     | inr last ↦ here f s (subst (λ j. slice_get all j ≡ Some f) last at) is
   ];
@@ -109,7 +109,7 @@ pushed all i ts x t at is size none h = record {
     | inr new ↦ subst (λ (v : Root). IsFirst all (suc i) (ts ++ t ∷ []) n v) new.0
         (subst (λ m. IsFirst all (suc i) (ts ++ t ∷ []) m t) new.1 (new_first all i ts (t ∷ []) x t at is size none h))
   ];
-  placed = λ k f s lt there root. elim (last_or_before k i lt) [
+  placed = λ k f s lt there root. elim (last_or_before k i (omega (arith, lt))) [
     | inl before ↦ let old = h.placed k f s before there root in (old.0, place_push_there ts t s old.0 old.1)
     | inr last ↦
         let one : Some f ≡ Some x = sym (subst (λ j. slice_get all j ≡ Some f) last there) ∙ at in

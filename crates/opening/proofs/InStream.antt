@@ -15,6 +15,7 @@ use Rattle.opening.specs.Trees.{AreFiles, entry_at, pieces_in}
 use Rattle.pieces.specs.Pieces.{pieces_of}
 use Rattle.opening.proofs.Aligned.{pieces_end}
 use Rattle.opening.proofs.Hybrids.{files_pad, files_file}
+use Rattle.chains.proofs.Cases.{item_at}
 
 -- the part that is the list's n-th file
 pub record Located (ps : List Part) (n : ℕ) (x : Named) : Type 0 where
@@ -66,11 +67,6 @@ part_within (q ∷ qs) (suc j) p at =
     let rest = part_within qs j p at in
     omega (arith, sum_by-cons length_in q qs, sum_by-cons length_in q (take j qs))
 
-pub listed_at : {X : Type 0} (xs : List X) (n : ℕ) → n < length xs → (x : X) × (slice_get xs n ≡ Some x)
-listed_at [] n lt = absurd (omega arith)
-listed_at (x ∷ xs) zero lt = (x, refl)
-listed_at (x ∷ xs) (suc n) lt = listed_at xs n (omega arith)
-
 pub sum_named : (k : ℕ) (fs : List ListedFile) → sum_by (λ (x : Named). pieces_of k x.length) (map named fs) ≡ pieces_in k fs
 sum_named k [] = refl
 sum_named k (f ∷ fs) =
@@ -81,7 +77,7 @@ pub in_stream : (k : ℕ) (fs : List ListedFile) (es : List FileEntry) (ps : Lis
     → (n : ℕ) (f : FileEntry) → slice_get es n ≡ Some f → 0 < f.length → stream_length ps < f.first_piece * k + f.length → ⊥
 in_stream k fs es ps files same placed n f at some out =
     let within : n < length fs = omega (arith, slice_get_within es n f at, files.count) in
-    let g = listed_at fs n within in
+    let g = item_at fs n within in
     let is_entry : Some (entry_at k fs n g.0) ≡ Some f = sym (files.each n g.0 g.1) ∙ at in
     let entry : entry_at k fs n g.0 ≡ f = cc in
     let size : g.0.length ≡ f.length = ap (λ (e : FileEntry). e.length) entry in

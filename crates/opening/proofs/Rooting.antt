@@ -22,6 +22,7 @@ use Rattle.benc.specs.Value.{Pairs}
 use Rattle.std.specs.Prelude.{option_and_then}
 use Rattle.std.proofs.Common.{append_assoc}
 use Rattle.std.proofs.lemmas.List.{take_more, take-append-drop}
+use Rattle.chains.proofs.Cases.{item_stays}
 
 behind_one : (o : Option ℕ) (n : ℕ) → option_map suc o ≡ Some n → (m : ℕ) × (o ≡ Some m) × (n ≡ suc m)
 behind_one None n e = cc
@@ -95,11 +96,6 @@ pub last_of : {A : Type 0} (xs : List A) (x : A) → slice_get (xs ++ x ∷ []) 
 last_of [] x = refl
 last_of (y ∷ xs) x = last_of xs x
 
-front_of : {A : Type 0} (xs ys : List A) (n : ℕ) (x : A) → slice_get xs n ≡ Some x → slice_get (xs ++ ys) n ≡ Some x
-front_of [] ys n x e = cc
-front_of (z ∷ xs) ys zero x e = e
-front_of (z ∷ xs) ys (suc n) x e = front_of xs ys n x e
-
 -- ---- the trees by their roots
 
 -- the roots of the trees are those that the trees were made of
@@ -139,7 +135,7 @@ tree_only ts s o differ e n at =
 -- ---- one file more
 
 in_front : (fs : List ListedFile) (f g : ListedFile) → IsIn fs g → IsIn (fs ++ f ∷ []) g
-in_front fs f g h = (h.0, front_of fs (f ∷ []) h.0 g h.1)
+in_front fs f g h = (h.0, item_stays fs (f ∷ []) h.0 g h.1)
 
 in_last : (fs : List ListedFile) (f : ListedFile) → IsIn (fs ++ f ∷ []) f
 in_last fs f = (length fs, last_of fs f)
@@ -175,7 +171,7 @@ keeps_root ts t s size h = record {
   number = h.number;
   at = h.at;
   place = place_push_there ts t s h.number h.place;
-  there = front_of ts (t ∷ []) h.number h.at h.there;
+  there = item_stays ts (t ∷ []) h.number h.at h.there;
   same = h.same;
 }
 
@@ -255,7 +251,7 @@ item_in xs i x lt is = (i, slice_get_read xs (length xs) i x refl lt is)
 
 pub taken_in : (xs : List ListedFile) (i : ℕ) (g : ListedFile) → IsIn (take i xs) g → IsIn xs g
 taken_in xs i g h =
-    (h.0, subst (λ ys. slice_get ys h.0 ≡ Some g) (take-append-drop i xs) (front_of (take i xs) (drop i xs) h.0 g h.1))
+    (h.0, subst (λ ys. slice_get ys h.0 ≡ Some g) (take-append-drop i xs) (item_stays (take i xs) (drop i xs) h.0 g h.1))
 
 pub none_left : (o : Option (List ℕ)) → ((s : List ℕ) → o ≡ Some s → ⊥) → o ≡ None
 none_left None h = refl

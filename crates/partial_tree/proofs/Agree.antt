@@ -5,7 +5,8 @@ use Rattle.partial_tree.specs.TreeRoot.{TreeRoot}
 use Rattle.node_maps.specs.Places.{tree_height, PartialTree, IsTreePlace}
 use Rattle.node_maps.specs.Digest.{Hash, join}
 use Rattle.partial_tree.specs.Closed.{IsFamily, IsClosed, Collision}
-use Rattle.partial_tree.proofs.Digests.{same_or_not, same_parts}
+use Rattle.chains.proofs.Cases.{same_or_not}
+use Rattle.partial_tree.proofs.Digests.{same_parts}
 
 -- a place is the left or the right child of its parent
 pub left_or_right : (i : ℕ) → (i ≡ 2 * (i / 2)) ⊎ (i ≡ 2 * (i / 2) + 1)

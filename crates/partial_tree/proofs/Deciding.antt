@@ -12,8 +12,8 @@ use Rattle.hashtree.specs.Tree.{block_count, zero_hash}
 use Rattle.partial_tree.specs.Claims.{span, cover, above, uncles, base_hash, uncle_hash, given, claims, top_layer, top_index, GoodRange, GoodCount, IsBadPad}
 use Rattle.partial_tree.specs.Claims.{IsMismatch, IsAgreed, IsAccepted, Fault, Refuses}
 use Rattle.partial_tree.specs.Names.{hash_refusal_number}
-use Rattle.partial_tree.proofs.Digests.{same_or_not}
-use Rattle.partial_tree.proofs.Claimed.{either, there_or_not, base-read, uncle-read}
+use Rattle.chains.proofs.Cases.{same_or_not}
+use Rattle.partial_tree.proofs.Given.{either, there_or_not, base-read, uncle-read}
 use Rattle.partial_tree.proofs.Stored.{each_below}
 
 range_or_not : (h : ℕ) (ask : Ask) → GoodRange h ask ⊎ (¬ GoodRange h ask)

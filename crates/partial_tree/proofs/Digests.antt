@@ -1,4 +1,4 @@
--- A digest is a hash, and equality of lists of numbers is decided.
+-- A digest is a hash.
 use Rattle.std.proofs.Common.{◌≡◌, ◌≢◌, ◌⊎◌, ℕ, zero, suc, ◌<◌, List, [], ◌∷◌, ◌++◌, length, take, drop, inl, inr, refl, sym, ap, ap₂, ◌∙◌, subst, take_at}
 use Rattle.std.proofs.Common.{drop_at, arith}
 use Rattle.std.specs.List.{All, flat_map}
@@ -49,18 +49,6 @@ are_hashes (h ∷ hs) sizes bytes =
     })
     (are_hashes hs (All-tail (λ (x : Hash). length x ≡ 32) h hs sizes)
     (subst AreBytes (drop_at h rest (length h) refl) (All-drop IsByte (length h) (h ++ rest) bytes)))
-
--- two lists of numbers are equal or not
-pub same_or_not : (xs ys : List ℕ) → (xs ≡ ys) ⊎ (xs ≢ ys)
-same_or_not [] [] = inl refl
-same_or_not [] (y ∷ ys) = inr (λ e. cc)
-same_or_not (x ∷ xs) [] = inr (λ e. cc)
-same_or_not (x ∷ xs) (y ∷ ys) = heads (cases_eq x y) (same_or_not xs ys)
-  where
-    heads : (x ≡ y) ⊎ (x ≢ y) → (xs ≡ ys) ⊎ (xs ≢ ys) → (x ∷ xs ≡ y ∷ ys) ⊎ (x ∷ xs ≢ y ∷ ys)
-    heads (inl e) (inl d) = inl (ap₂ ◌∷◌ e d)
-    heads (inl e) (inr d) = inr (λ p. d cc)
-    heads (inr e) d = inr (λ p. e cc)
 
 -- joined lists determine their parts, where the first parts are of one length
 pub same_parts : (a b c d : List ℕ) → length a ≡ length c → a ++ b ≡ c ++ d → (a ≡ c) × (b ≡ d)

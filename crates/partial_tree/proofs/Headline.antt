@@ -7,7 +7,7 @@ use Rattle.node_maps.specs.Places.{tree_height, PartialTree}
 use Rattle.node_maps.specs.Digest.{Hash}
 use Rattle.hashtree.specs.Tree.{block, block_count}
 use Rattle.partial_tree.specs.Closed.{IsClosed, Collision, BlockCollision, whole}
-use Rattle.partial_tree.proofs.Digests.{same_or_not}
+use Rattle.chains.proofs.Cases.{same_or_not}
 use Rattle.hashtree.proofs.Heights.{height_enough}
 use Rattle.partial_tree.proofs.Trees.{node-leaf}
 use Rattle.partial_tree.proofs.Whole.{whole-at, whole-closed}

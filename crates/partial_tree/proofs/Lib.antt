@@ -3,6 +3,7 @@ pub mod Powers
 pub mod Trees
 pub mod Whole
 pub mod Agree
+pub mod Given
 pub mod Claimed
 pub mod Joining
 pub mod Stored
@@ -27,6 +28,7 @@ pub mod Layers
 pub mod Planted
 pub mod Keeping
 pub mod AddedRows
+pub mod FromLeaves
 pub mod GrownLeaves
 pub mod Adopted
 pub mod Trusted

@@ -8,6 +8,7 @@ use Rattle.pieces.specs.Pieces.{pieces_of}
 use Rattle.pieces.specs.Cuts.{cut, cut_digests, IsComparison, IsFirstDifference, IsNext}
 use Rattle.pieces.specs.Feeding.{IsCutListed, IsFirstBad}
 use Rattle.pieces.proofs.Cutting.{cut_append, cut_ends, length-cut_digests, digest_of_cut}
+use Rattle.chains.proofs.Cases.{last_or_before}
 
 pub none_from : (o : Option ℕ) → is_some o ≡ false → o ≡ None
 none_from None h = refl
@@ -36,10 +37,6 @@ first_bad_append n pieces content more c bad whole first =
       within = first.within;
       differs = λ i is eq. first.differs i is (eq ∙ ap (λ t. Some (sha1 t)) (sym (same i (first.within i is))));
     }
-
--- one more cut was compared
-last_or_before : (k c : ℕ) → k < c + 1 → (k < c) ⊎ (k ≡ c)
-last_or_before k c lt = grind arith
 
 same_bad : (bad next : Option ℕ) (j i : ℕ) → bad ≡ Some j → next ≡ Some j → next ≡ Some i → bad ≡ Some i
 same_bad bad next j i b m f = cc

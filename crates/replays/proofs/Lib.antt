@@ -1,2 +1,4 @@
 pub mod Replies
+pub mod MoreFrames
+pub mod Sources
 pub mod Replays

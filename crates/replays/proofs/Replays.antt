@@ -1,228 +1,35 @@
--- The loop of a replay: one more frame, and the end.
-use Rattle.std.proofs.Common.{◌≡◌, ◌≤◌, ◌+◌, ◌++◌, ◌||◌, ℕ, suc, Bool, false, List, [], ◌∷◌, length, Option, Some, None, Result, Ok, Err, IfOk, OnErr, refl}
-use Rattle.std.proofs.Common.{sym, ap, ◌∙◌, append_assoc, subst, inl, inr, arith}
+-- The loop of a replay, and its end.
+use Rattle.std.proofs.Common.{◌≡◌, ◌≤◌, ◌+◌, ◌++◌, ◌||◌, ℕ, Bool, false, List, [], ◌∷◌, length, Option, Some, None, Result, Ok, Err, IfOk, OnErr, refl}
+use Rattle.std.proofs.Common.{sym, ap, ◌∙◌, subst, inl, inr, arith}
 use Rattle.std.specs.Prelude.{is_some}
 use Rattle.std.specs.List.{list_any}
-use Rattle.std.proofs.lemmas.List.{append-nil, length-append, map-append}
-use Rattle.std.proofs.lemmas.Option.{same_Some}
-use Rattle.std.proofs.lemmas.List.Elements.{All-nil}
-use Rattle.std.proofs.lemmas.List.Folds.{list_any-append}
-use Rattle.std.proofs.Math.Bool.{or-false}
+use Rattle.std.proofs.lemmas.List.{append-nil, length-append}
 use Rattle.std.proofs.lemmas.Grind.{flat_map-append}
-use Rattle.std.specs.Io.KnownBytes.{IsAtEnd}
-use Rattle.benc.specs.Device.{SourceSeen, SinkSeen, Sent, Broke, SentAndFlushed, one_more}
+use Rattle.benc.specs.Device.{SourceSeen, Sent, Broke}
 use Rattle.benc.specs.declared.device.WriteFault.{WriteFault}
-use Rattle.benc.proofs.Known.{Appends-append, Appends_nothing}
+use Rattle.benc.proofs.Known.{Appends_nothing}
 use Rattle.benc.proofs.Out.{Sent-append}
-use Rattle.wire.proofs.Giving.{Gave-nil}
-use Rattle.wire.proofs.RecordParts.{later_part}
-use Rattle.wire.proofs.RecordRuns.{HasRead, HasReadTo, cut-from_stop, cut-nothing, frame_falls as record_falls, read_more, read_nothing, read_to}
-use Rattle.wire.specs.declared.fault.FrameFault.{FrameFault}
+use Rattle.wire.proofs.RecordRuns.{frame_falls as record_falls, read_more}
 use Rattle.wire.specs.declared.fault.FrameFault.TheVariants as fault
 use Rattle.wire.specs.declared.frame.Frame.{Frame}
 use Rattle.wire.specs.declared.form.Form.{Form}
-use Rattle.wire.specs.declared.form.Form.TheVariants.{One, Two}
-use Rattle.wire.specs.Reading.{Gave}
-use Rattle.wire.specs.RecordReading.{EndsRecord, GavePart, StopsAt, StopsInRecord}
-use Rattle.wire.specs.Records.{Directed, MayStand}
-use Rattle.chains.specs.Chain.{Chain}
+use Rattle.wire.specs.Records.{Directed}
 use Rattle.session.specs.Session.{SessionSeen}
-use Rattle.chains.proofs.Chains.{Chain-more}
-use Rattle.replays.specs.declared.told.Told.{Told}
+use Rattle.replays.specs.declared.frame_report.FrameReport.{FrameReport}
 use Rattle.replays.specs.declared.ending.Ending.{Ending}
 use Rattle.replays.specs.declared.ending.Ending.TheVariants as ending
 use Rattle.replays.specs.declared.outcome.Outcome.{Outcome}
 use Rattle.replays.specs.Outcome.{is_refusal, is_no_memory, is_fault}
 use Rattle.replays.specs.ReplayLines.{lines_of, ending_line_of}
-use Rattle.replays.specs.declared.reply.Reply.{Reply}
+use Rattle.replays.specs.declared.frame_report.Reply.{Reply}
 use Rattle.replays.specs.declared.answering.AnswerFault.TheVariants as failed
 use Rattle.replays.specs.Answering.{Finishes, IfWanted, IsReply, Replies, reply_to}
-use Rattle.replays.specs.Replay.{Answered, Ends, EndsUnanswered, GaveRecord, Handled, Handles, HandlesButLast, HandlesNext, IsCutAtEnd, IsCutInAnswer}
-use Rattle.replays.specs.Replay.{IsCutInFlush, IsCutInLine, IsCutReport, IsEnding, IsReport, CountsEnding, Replayed, ReplaySeen, RespondsNext, TellsEnding}
-use Rattle.replays.specs.Replay.{answers_of, lines_from, tolds_of, unanswered}
-use Rattle.replays.proofs.Replies.{broke_after, hashes_are_told, meets_more, none_sent, same_wanted, sent_and_flushed, sent_more, sent_unflushed}
-
--- ---- one more frame, in lists
-
-lines_more : (n : ℕ) (hs : List Handled) (h : Handled) → lines_from n (hs ++ h ∷ []) ≡ lines_from n hs ++ lines_of (n + length hs) h.told
-lines_more n [] h = let same : n ≡ n + 0 = omega arith in append-nil (lines_of n h.told) ∙ ap (λ k. lines_of k h.told) same
-lines_more n (x ∷ hs) h =
-    let same : n + 1 + length hs ≡ n + suc (length hs) = omega arith in
-    ap (λ t. lines_of n x.told ++ t) (lines_more (n + 1) hs h ∙ ap (λ k. lines_from (n + 1) hs ++ lines_of k h.told) same)
-    ∙ sym (append_assoc (lines_of n x.told) (lines_from (n + 1) hs) (lines_of (n + suc (length hs)) h.told))
-
--- the lines of the frame after these n
-next_lines : (hs : List Handled) (h : Handled) (n : ℕ) → n ≡ length hs → lines_from 1 (hs ++ h ∷ []) ≡ lines_from 1 hs ++ lines_of (n + 1) h.told
-next_lines hs h n e =
-    let same : 1 + length hs ≡ n + 1 = omega arith in
-    lines_more 1 hs h ∙ ap (λ k. lines_from 1 hs ++ lines_of k h.told) same
-
-any_more : (p : Told → Bool) (hs : List Handled) (h : Handled) → list_any p (tolds_of (hs ++ h ∷ [])) ≡ (list_any p (tolds_of hs) || p h.told)
-any_more p hs h =
-    ap (list_any p) (map-append (λ (x : Handled). x.told) hs (h ∷ []))
-    ∙ list_any-append p (tolds_of hs) (h.told ∷ []) ∙ ap (λ b. list_any p (tolds_of hs) || b) (or-false (p h.told))
-
-outcome_same : (o : Outcome) (a b c : Bool) → o.refused ≡ a → o.no_memory ≡ b → o.fault ≡ c → o ≡ record { refused = a; no_memory = b; fault = c }
-outcome_same o a b c p q r =
-    ap (λ x. record { refused = x; no_memory = o.no_memory; fault = o.fault }) p
-    ∙ ap (λ x. record { refused = a; no_memory = x; fault = o.fault }) q ∙ ap (λ x. record { refused = a; no_memory = b; fault = x }) r
-
--- a text, and then the last line with its flush
-sent_then_flushed : (a b c : SinkSeen) (text line : List ℕ) → Sent a b text → SentAndFlushed b c line → SentAndFlushed a c (text ++ line)
-sent_then_flushed a b c text line sent wrote = record {
-  bytes = Appends-append a.written b.written c.written text line sent.bytes wrote.bytes;
-  faults = wrote.faults ∙ sent.faults;
-  flushes = wrote.flushes ∙ ap one_more sent.flushes;
-  last = wrote.last;
-}
-
--- ---- what a source gave
-
--- the steps so far, of a record whose form is known once a frame was asked for
-abbrev RunsBy : Bool → Option Form → SessionSeen → List (Directed (List ℕ)) → List Handled → SessionSeen → Type 0
-RunsBy wanted None S ds hs S' = (hs ≡ []) × (S' ≡ S)
-RunsBy wanted (Some form) S ds hs S' = Chain (Handles wanted form) S ds hs S'
-
--- the frames so far, and what was made of them
-pub record SoFar (wanted : Bool) (known : Option Form) (old now : SourceSeen) (S S' : SessionSeen) (handled : List Handled) : Type 0 where
-  pub frames : List (Directed (List ℕ))
-  pub read : HasRead old now known frames
-  pub run : RunsBy wanted known S frames handled S'
-  pub counted : now.faults ≡ old.faults
-
-so_far_none : (wanted : Bool) (s : SourceSeen) (S : SessionSeen) → SoFar wanted None s s S S []
-so_far_none wanted s S = record { frames = []; read = read_nothing s s refl; run = (refl, refl); counted = refl }
-
--- whichever form the next part tells, the frames so far have it
-run_at : (wanted : Bool) (known : Option Form) (form : Form) (part : List ℕ) (a b c : SourceSeen) (S S' : SessionSeen) (ds : List (Directed (List ℕ)))
-    (hs : List Handled)
-    → HasRead a b known ds → GavePart known form part b c → RunsBy wanted known S ds hs S' → Chain (Handles wanted form) S ds hs S'
-run_at wanted None form part a b c S S' ds hs r p run =
-    subst (λ xs. Chain (Handles wanted form) S xs hs S') (sym r.are.0) (subst (λ ys. Chain (Handles wanted form) S [] ys S') (sym run.0) run.1)
-run_at wanted (Some k) form part a b c S S' ds hs r p run =
-    subst (λ f. Chain (Handles wanted f) S ds hs S') (sym p.reads.0) run
-
-nothing_read : (a b : SourceSeen) → b ≡ a → GaveRecord a b One [] []
-nothing_read a b e = record {
-  bytes = [];
-  gave = subst (λ s. Gave a s []) (sym e) (Gave-nil a);
-  whole = record { has_form = λ rest e. let no : ⊥ = cc in no; whole = refl; each = All-nil (MayStand One); cut = cut-nothing One };
-}
-
--- out of memory before the first frame
-replayed_nothing : (old new : ReplaySeen) → new.source ≡ old.source → new.session ≡ old.session → Replayed old new [] (Some (ending.Fault fault.NoMemory))
-unfolding nothing_read
-replayed_nothing old new source session = record {
-  form = One;
-  frames = [];
-  rest = [];
-  read = nothing_read old.source new.source source;
-  run = session;
-  ended = refl;
-  unread = λ e. refl;
-  counted = ap (λ s. s.faults) source;
-}
-
-record_of : (a c : SourceSeen) (form : Form) (ds : List (Directed (List ℕ))) (part : List ℕ) → HasReadTo a c form ds part → GaveRecord a c form ds part
-record_of a c form ds part t = record { bytes = t.bytes; gave = t.gave; whole = t.frames }
-
--- whole frames, and no more so far
-whole_so_far : (a b : SourceSeen) (form : Form) (ds : List (Directed (List ℕ))) → HasRead a b (Some form) ds → GaveRecord a b form ds []
-whole_so_far a b form ds r = record_of a b form ds [] (read_to a b b (Some form) form ds [] r (later_part form [] b b (Gave-nil b)) (cut-nothing form))
-
-no_frames : (a b : SourceSeen) (ds : List (Directed (List ℕ))) → HasRead a b None ds → GaveRecord a b One [] []
-no_frames a b ds r = record {
-  bytes = [];
-  gave = subst (Gave a b) r.are.1 r.gave;
-  whole = record { has_form = λ rest e. let no : ⊥ = cc in no; whole = refl; each = All-nil (MayStand One); cut = cut-nothing One };
-}
-
--- a replay that has not ended
-replayed_of : (known : Option Form) (old now : ReplaySeen) (hs : List Handled) → SoFar (is_some old.answers) known old.source now.source old.session now.session
-    hs → Replayed old now hs None
-replayed_of None old now hs s = record {
-  form = One;
-  frames = [];
-  rest = [];
-  read = no_frames old.source now.source s.frames s.read;
-  run = subst (λ ys. Chain (Handles (is_some old.answers) One) old.session [] ys now.session) (sym s.run.0) s.run.1;
-  ended = refl;
-  unread = λ e. let no : ⊥ = cc in absurd no;
-  counted = s.counted;
-}
-replayed_of (Some form) old now hs s = record {
-  form = form;
-  frames = s.frames;
-  rest = [];
-  read = whole_so_far old.source now.source form s.frames s.read;
-  run = s.run;
-  ended = refl;
-  unread = λ e. let no : ⊥ = cc in absurd no;
-  counted = s.counted;
-}
-
--- one more frame
-so_far_more : (wanted : Bool) (known : Option Form) (form : Form) (old mid new : SourceSeen) (S S' S'' : SessionSeen) (hs : List Handled) (h : Handled)
-    → SoFar wanted known old mid S S' hs → HandlesNext wanted known form mid new S' S'' h → SoFar wanted (Some form) old new S S'' (hs ++ h ∷ [])
-so_far_more wanted known form old mid new S S' S'' hs h s next = record {
-  frames = s.frames ++ next.directed ∷ [];
-  read = read_more old mid new known form s.frames next.directed s.read next.gave;
-  run = Chain-more (Handles wanted form) S s.frames hs S' next.directed h S''
-      (run_at wanted known form _ old mid new S S' s.frames hs s.read next.gave.part s.run) next.step;
-  counted = next.gave.faults ∙ s.counted;
-}
-
--- less than a frame, and then the end
-replayed_ends : (known : Option Form) (old mid new : ReplaySeen) (hs : List Handled) (e : Ending)
-    → SoFar (is_some old.answers) known old.source mid.source old.session mid.session hs → TellsEnding known mid.source new.source e → new.session ≡ mid.session
-    → Replayed old new hs (Some e)
-replayed_ends known old mid new hs e s next stays = record {
-  form = next.form;
-  frames = s.frames;
-  rest = next.part;
-  read = record_of old.source new.source next.form s.frames next.part (read_to old.source mid.source new.source known next.form s.frames next.part s.read
-      next.gave next.cut);
-  run = subst (Chain (Handles (is_some old.answers) next.form) old.session s.frames hs) (sym stays)
-      (run_at (is_some old.answers) known next.form next.part old.source mid.source new.source old.session mid.session s.frames hs s.read next.gave s.run);
-  ended = next.ended;
-  unread = λ is. absurd (next.had_room (same_Some e (ending.Fault fault.NoMemory) is));
-  counted = subst (λ n. CountsEnding n new.source.faults (Some e)) s.counted next.counted;
-}
-
--- the end of the source between two frames
-pub tells_end : (known : Option Form) (form : Form) (old new : SourceSeen) → EndsRecord known form old new → TellsEnding known old new ending.End
-tells_end known form old new e = record {
-  form = form;
-  part = [];
-  gave = e.part;
-  cut = cut-nothing form;
-  ended = (refl, e.at_end);
-  had_room = λ e. let no : ⊥ = cc in no;
-  counted = e.faults;
-}
-
-fault_of : (a b : FrameFault) → ending.Fault a ≡ ending.Fault b → a ≡ b
-fault_of a b e = cc
-
-ended_fault : (form : Form) (new : SourceSeen) (part : List ℕ) (why : FrameFault) → StopsAt form part why → (why ≡ fault.Truncated → IsAtEnd new.left)
-    → (why ≡ fault.NoMemory → ⊥) → IsEnding form new.left part (Some (ending.Fault why))
-ended_fault form new part fault.Truncated s at_end room = (s.0, s.1, at_end refl)
-ended_fault form new part fault.Read s at_end room = s
-ended_fault form new part fault.NoMemory s at_end room = absurd (room refl)
-ended_fault One new part fault.BadDirection s at_end room = absurd s
-ended_fault Two new part fault.BadDirection s at_end room = (refl, s)
-
-pub tells_fault : (known : Option Form) (old new : SourceSeen) (why : FrameFault) → StopsInRecord known old new why → (why ≡ fault.NoMemory → ⊥)
-    → TellsEnding known old new (ending.Fault why)
-tells_fault known old new why stop room = record {
-  form = stop.form;
-  part = stop.rest;
-  gave = stop.part;
-  cut = cut-from_stop stop.form stop.rest why stop.stops;
-  ended = ended_fault stop.form new stop.rest why stop.stops stop.ended room;
-  had_room = λ e. room (fault_of why fault.NoMemory e);
-  counted = stop.faults;
-}
+use Rattle.replays.specs.Replay.{Answered, Ends, EndsUnanswered, Handled, HandlesButLast, HandlesNext, IsCutAtEnd, IsCutInAnswer}
+use Rattle.replays.specs.Replay.{IsCutInFlush, IsCutInLine, IsCutReport, IsReport, ReplaySeen, RespondsNext, TellsEnding}
+use Rattle.replays.specs.Replay.{answers_of, lines_from, reports_of, unanswered}
+use Rattle.replays.proofs.Replies.{broke_after, hashes_answer_requests, meets_more, none_sent, same_wanted, sent_and_flushed, sent_more, sent_unflushed}
+use Rattle.replays.proofs.MoreFrames.{next_lines, any_more, outcome_same, sent_then_flushed}
+use Rattle.replays.proofs.Sources.{SoFar, so_far_none, run_at, replayed_nothing, whole_so_far, replayed_of, so_far_more, replayed_ends}
 
 -- ---- the loop
 
@@ -237,12 +44,12 @@ pub record InReplay (old new : ReplaySeen) (known : Option Form) (number : ℕ) 
   pub room : number + new.source.limit ≤ old.source.limit
   pub sent : Sent old.report new.report (lines_from 1 handled)
   pub answered : Answered old new handled
-  pub refused_is : outcome.refused ≡ list_any is_refusal (tolds_of handled)
-  pub no_memory_is : outcome.no_memory ≡ list_any is_no_memory (tolds_of handled)
+  pub refused_is : outcome.refused ≡ list_any is_refusal (reports_of handled)
+  pub no_memory_is : outcome.no_memory ≡ list_any is_no_memory (reports_of handled)
   pub no_fault : outcome.fault ≡ false
 
 -- a frame takes a byte at least
-pub frame_falls : {mid new : SourceSeen} {known : Option Form} {form : Form} {S S' : SessionSeen} {d : Told} {r : Reply}
+pub frame_falls : {mid new : SourceSeen} {known : Option Form} {form : Form} {S S' : SessionSeen} {d : FrameReport} {r : Reply}
     → RespondsNext known form mid new S S' d r → new.limit + 1 ≤ mid.limit
 frame_falls {mid} {new} {known} {form} {S} {S'} {d} {r} next = omega (arith, record_falls mid new known form next.1.directed next.1.gave)
 
@@ -261,10 +68,10 @@ in_replay_none s o refused no_memory no_fault = record {
 }
 
 -- the frame with the bytes of its answer
-abbrev with_answer : Directed Frame → Told → List ℕ → Handled
-with_answer f d bytes = record { frame = f; told = d; answer = bytes }
+abbrev with_answer : Directed Frame → FrameReport → List ℕ → Handled
+with_answer f d bytes = record { frame = f; report = d; answer = bytes }
 
-answer_next : (wanted : Bool) (known : Option Form) (form : Form) (old new : SourceSeen) (S S' : SessionSeen) (f : Directed Frame) (d : Told) (bytes : List ℕ)
+answer_next : (wanted : Bool) (known : Option Form) (form : Form) (old new : SourceSeen) (S S' : SessionSeen) (f : Directed Frame) (d : FrameReport) (bytes : List ℕ)
     → HandlesNext false known form old new S S' (unanswered f d) → IsReply wanted S' (reply_to f d) bytes
     → HandlesNext wanted known form old new S S' (with_answer f d bytes)
 answer_next wanted known form old new S S' f d bytes next replies = record {
@@ -274,7 +81,7 @@ answer_next wanted known form old new S S' f d bytes next replies = record {
 }
 
 -- one more frame was handled, with this answer
-handled_more : {old mid : ReplaySeen} {known : Option Form} {form : Form} {n : ℕ} {o : Outcome} {d : Told} {r : Reply} (new : ReplaySeen) (bytes : List ℕ)
+handled_more : {old mid : ReplaySeen} {known : Option Form} {form : Form} {n : ℕ} {o : Outcome} {d : FrameReport} {r : Reply} (new : ReplaySeen) (bytes : List ℕ)
     → (at : InReplay old mid known n o)
     → (next : RespondsNext known form mid.source new.source mid.session new.session d r) → IsReply (is_some mid.answers) new.session r bytes
     → SoFar (is_some old.answers) (Some form) old.source new.source old.session new.session (at.handled ++ with_answer next.0 d bytes ∷ [])
@@ -286,7 +93,7 @@ handled_more {old} {mid} {known} {form} {n} {o} {d} {r} new bytes at next replie
     at.so_far (answer_next (is_some old.answers) known form mid.source new.source mid.session new.session next.0 d bytes next.1 is)
 
 -- the last frame was handled, and not answered
-but_last : {old mid : ReplaySeen} {known : Option Form} {form : Form} {n : ℕ} {o : Outcome} {d : Told} {r : Reply} (new : ReplaySeen)
+but_last : {old mid : ReplaySeen} {known : Option Form} {form : Form} {n : ℕ} {o : Outcome} {d : FrameReport} {r : Reply} (new : ReplaySeen)
     → (at : InReplay old mid known n o)
     → (next : RespondsNext known form mid.source new.source mid.session new.session d r) → HandlesButLast old new at.handled (unanswered next.0 d)
 but_last {old} {mid} {known} {form} {n} {o} {d} {r} new at next =
@@ -305,7 +112,7 @@ but_last {old} {mid} {known} {form} {n} {o} {d} {r} new at next =
     }
 
 -- after one more
-pub in_replay_more : {old mid new : ReplaySeen} {known : Option Form} {form : Form} {n : ℕ} {o : Outcome} {d : Told} {r : Reply} (o' : Outcome)
+pub in_replay_more : {old mid new : ReplaySeen} {known : Option Form} {form : Form} {n : ℕ} {o : Outcome} {d : FrameReport} {r : Reply} (o' : Outcome)
     → InReplay old mid known n o
     → RespondsNext known form mid.source new.source mid.session new.session d r → Sent mid.report new.report (lines_of (n + 1) d)
     → Replies new.session r mid.answers new.answers (Ok tt)
@@ -330,7 +137,7 @@ in_replay_more {old} {mid} {new} {known} {form} {n} {o} {d} {r} o' so_far next w
     }
 
 -- the line of a frame did not go out whole
-pub cut_in_line : {old mid : ReplaySeen} {known : Option Form} {form : Form} {n : ℕ} {o : Outcome} {d : Told} {r : Reply} (new : ReplaySeen)
+pub cut_in_line : {old mid : ReplaySeen} {known : Option Form} {form : Form} {n : ℕ} {o : Outcome} {d : FrameReport} {r : Reply} (new : ReplaySeen)
     → InReplay old mid known n o
     → RespondsNext known form mid.source new.source mid.session new.session d r → Broke mid.report new.report (lines_of (n + 1) d) → new.answers ≡ mid.answers
     → IsCutReport old new
@@ -347,7 +154,7 @@ cut_in_line {old} {mid} {known} {form} {n} {o} {d} {r} new so_far next wrote sta
     inl cut
 
 -- an answer did not go out whole
-pub cut_in_answer : {old mid : ReplaySeen} {known : Option Form} {form : Form} {n : ℕ} {o : Outcome} {d : Told} {r : Reply} (new : ReplaySeen)
+pub cut_in_answer : {old mid : ReplaySeen} {known : Option Form} {form : Form} {n : ℕ} {o : Outcome} {d : FrameReport} {r : Reply} (new : ReplaySeen)
     → InReplay old mid known n o
     → RespondsNext known form mid.source new.source mid.session new.session d r → Sent mid.report new.report (lines_of (n + 1) d)
     → Replies new.session r mid.answers new.answers (Err failed.Write) → IsCutReport old new
@@ -373,8 +180,8 @@ pub record InEnd (old mid new : ReplaySeen) (e : Ending) (o : Outcome) : Type 0 
   pub ends : Ends old new handled e
   pub sent : Sent old.report mid.report (lines_from 1 handled)
   pub answered : Answered old mid handled
-  pub refused_is : o.refused ≡ list_any is_refusal (tolds_of handled)
-  pub no_memory_is : o.no_memory ≡ list_any is_no_memory (tolds_of handled)
+  pub refused_is : o.refused ≡ list_any is_refusal (reports_of handled)
+  pub no_memory_is : o.no_memory ≡ list_any is_no_memory (reports_of handled)
 
 -- no frame was read
 pub in_end_at_once : (old new : ReplaySeen) (o : Outcome) → new.source ≡ old.source → new.session ≡ old.session → o.refused ≡ false → o.no_memory ≡ false
@@ -402,7 +209,7 @@ in_end_of_record {old} {mid} {new} {known} {n} {o} {e} so_far next stays = recor
 }
 
 -- memory was refused for an answer, after its line
-pub in_end_unanswered : {old mid new : ReplaySeen} {known : Option Form} {form : Form} {n : ℕ} {o : Outcome} {d : Told} {r : Reply} (o' : Outcome)
+pub in_end_unanswered : {old mid new : ReplaySeen} {known : Option Form} {form : Form} {n : ℕ} {o : Outcome} {d : FrameReport} {r : Reply} (o' : Outcome)
     (after : ReplaySeen) → InReplay old mid known n o
     → RespondsNext known form mid.source new.source mid.session new.session d r → Sent mid.report after.report (lines_of (n + 1) d)
     → Replies new.session r mid.answers after.answers (Err failed.NoMemory)
@@ -418,7 +225,7 @@ in_end_unanswered {old} {mid} {new} {known} {form} {n} {o} {d} {r} o' after so_f
       last = h;
       all = refl;
       handles = but_last new so_far next;
-      told_is = hashes_are_told next.0 d ask (sym next.2 ∙ is);
+      report_is = hashes_answer_requests next.0 d ask (sym next.2 ∙ is);
       wanted = sym wanted ∙ there;
       ending_is = refl;
     } in
@@ -443,7 +250,7 @@ report_ended {old} {mid} {e} {o} new (Ok x) end (wrote, flushed) is = record {
   ends = end.ends;
   wrote = sent_then_flushed old.report mid.report new.report (lines_from 1 end.handled) (ending_line_of e) end.sent wrote;
   answered = sent_and_flushed old.answers mid.answers new.answers (answers_of end.handled) end.answered flushed;
-  outcome_is = outcome_same x (list_any is_refusal (tolds_of end.handled)) (list_any is_no_memory (tolds_of end.handled)) (is_fault e)
+  outcome_is = outcome_same x (list_any is_refusal (reports_of end.handled)) (list_any is_no_memory (reports_of end.handled)) (is_fault e)
       (ap (λ y. y.refused) is ∙ end.refused_is) (ap (λ y. y.no_memory) is ∙ end.no_memory_is) (ap (λ y. y.fault) is);
 }
 report_ended {old} {mid} {e} {o} new (Err f) end finishes is = tt

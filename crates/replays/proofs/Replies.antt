@@ -34,9 +34,9 @@ use Rattle.session.specs.Noted.{StepIn}
 use Rattle.session.specs.declared.verdict.Verdict.{Verdict}
 use Rattle.session.specs.declared.verdict.Verdict.TheVariants as verdict
 use Rattle.session.proofs.Sessions.{mapped}
-use Rattle.replays.specs.declared.told.Told.{Told}
-use Rattle.replays.specs.declared.told.Told.TheVariants as told
-use Rattle.replays.specs.declared.reply.Reply.TheVariants as reply
+use Rattle.replays.specs.declared.frame_report.FrameReport.{FrameReport}
+use Rattle.replays.specs.declared.frame_report.FrameReport.TheVariants as frame_report
+use Rattle.replays.specs.declared.frame_report.Reply.TheVariants as reply
 use Rattle.replays.specs.Answering.{Answers, AnswersAsk, HasFewHashes, IfWanted, IsReply, IsWanted, reply_of, reply_to}
 use Rattle.printing.specs.Cut.{BrokeAfter, FailedFlush, Flushed, Unflushed}
 use Rattle.replays.specs.Replay.{Meets, StepsBy}
@@ -94,7 +94,7 @@ answers_by : (wanted : Bool) (form : Form) (S S' : SessionSeen) (m : Message) (v
 answers_by wanted One S S' m v bytes safe is = answers_of_step wanted S S' m v bytes safe.allowed is
 answers_by wanted Two S S' m v bytes safe is = answers_of_in wanted S S' m v bytes safe.allowed is
 
-pub meets_more : (wanted : Bool) (form : Form) (S S' : SessionSeen) (f : Directed Frame) (d : Told) (bytes : List ℕ) → Meets false form S f d [] S'
+pub meets_more : (wanted : Bool) (form : Form) (S S' : SessionSeen) (f : Directed Frame) (d : FrameReport) (bytes : List ℕ) → Meets false form S f d [] S'
     → IsReply wanted S' (reply_to f d) bytes → Meets wanted form S f d bytes S'
 meets_more wanted form S S' (In, frame.Message m) d bytes (v, safe, is, none) replies =
     (v, safe, is, answers_by wanted form S S' m v bytes safe (subst (λ x. IsReply wanted S' (reply_to (In, frame.Message m) x) bytes) is replies))
@@ -102,13 +102,13 @@ meets_more wanted form S S' (Out, frame.Message m) d bytes (v, safe, is, none) r
 meets_more wanted form S S' (In, frame.BadSize id len) d bytes (is, none, stays) replies = (is, no_reply wanted S' bytes replies, stays)
 meets_more wanted form S S' (Out, frame.BadSize id len) d bytes (is, none, stays) replies = (is, no_reply wanted S' bytes replies, stays)
 
--- hashes answer only what is told as answered
-pub hashes_are_told : (f : Directed Frame) (d : Told) (ask : Ask) → reply_to f d ≡ reply.Hashes ask → d ≡ told.Verdict verdict.Answered
-hashes_are_told (In, frame.Message (message.Request a)) (told.Verdict verdict.Answered) ask is = refl
-hashes_are_told (In, frame.Message (message.Request a)) (told.Verdict verdict.Rejected) ask is = let no : ⊥ = cc in absurd no
-hashes_are_told (In, frame.Message (message.Request a)) (told.Verdict v) ask is = let no : ⊥ = cc in absurd no
-hashes_are_told (In, frame.Message m) (told.Verdict v) ask is = let no : ⊥ = cc in absurd no
-hashes_are_told f d ask is = let no : ⊥ = cc in absurd no
+-- hashes answer only what is reported as answered
+pub hashes_answer_requests : (f : Directed Frame) (d : FrameReport) (ask : Ask) → reply_to f d ≡ reply.Hashes ask → d ≡ frame_report.Verdict verdict.Answered
+hashes_answer_requests (In, frame.Message (message.Request a)) (frame_report.Verdict verdict.Answered) ask is = refl
+hashes_answer_requests (In, frame.Message (message.Request a)) (frame_report.Verdict verdict.Rejected) ask is = let no : ⊥ = cc in absurd no
+hashes_answer_requests (In, frame.Message (message.Request a)) (frame_report.Verdict v) ask is = let no : ⊥ = cc in absurd no
+hashes_answer_requests (In, frame.Message m) (frame_report.Verdict v) ask is = let no : ⊥ = cc in absurd no
+hashes_answer_requests f d ask is = let no : ⊥ = cc in absurd no
 
 -- ---- the sink of the answers
 

@@ -23,10 +23,10 @@ use Rattle.session.specs.declared.verdict.Verdict.{Verdict}
 use Rattle.session.specs.declared.verdict.Verdict.TheVariants as verdict
 use Rattle.session.specs.Answers.{IsAnswerTo}
 use Rattle.session.specs.Session.{SessionSeen}
-use Rattle.replays.specs.declared.told.Told.{Told}
-use Rattle.replays.specs.declared.told.Told.TheVariants as told
-use Rattle.replays.specs.declared.reply.Reply.{Reply}
-use Rattle.replays.specs.declared.reply.Reply.TheVariants as reply
+use Rattle.replays.specs.declared.frame_report.FrameReport.{FrameReport}
+use Rattle.replays.specs.declared.frame_report.FrameReport.TheVariants as frame_report
+use Rattle.replays.specs.declared.frame_report.Reply.{Reply}
+use Rattle.replays.specs.declared.frame_report.Reply.TheVariants as reply
 use Rattle.replays.specs.declared.answering.AnswerFault.{AnswerFault}
 use Rattle.replays.specs.declared.answering.AnswerFault.TheVariants as failed
 
@@ -66,9 +66,9 @@ reply_of (message.Request ask) verdict.Answered = reply.Hashes ask
 reply_of (message.Request ask) verdict.Rejected = reply.Reject ask
 reply_of m v = reply.Nothing
 
--- what is to be answered to a frame of which this is told; what went out is not answered
-abbrev pub reply_to : Directed Frame → Told → Reply
-reply_to (In, frame.Message m) (told.Verdict v) = reply_of m v
+-- what is to be answered to a frame with this report; what went out is not answered
+abbrev pub reply_to : Directed Frame → FrameReport → Reply
+reply_to (In, frame.Message m) (frame_report.Verdict v) = reply_of m v
 reply_to f d = reply.Nothing
 
 -- the bytes of what is to be answered, if answers are wanted

@@ -3,23 +3,23 @@ use Rattle.std.specs.Prelude.{ℕ, Bool, true, false, ◌||◌, if◌then◌else
 use Rattle.std.specs.List.{list_any}
 use Rattle.partial_tree.specs.declared.refusal.HashRefusal.TheVariants.{NoMemory}
 use Rattle.session.specs.declared.verdict.Verdict.TheVariants as verdict
-use Rattle.replays.specs.declared.told.Told.{Told}
-use Rattle.replays.specs.declared.told.Told.TheVariants as told
+use Rattle.replays.specs.declared.frame_report.FrameReport.{FrameReport}
+use Rattle.replays.specs.declared.frame_report.FrameReport.TheVariants as frame_report
 use Rattle.replays.specs.declared.ending.Ending.{Ending}
 use Rattle.replays.specs.declared.ending.Ending.TheVariants as ending
 use Rattle.replays.specs.declared.outcome.Outcome.{Outcome}
 
 -- a line has `refused` or `bad frame`
-abbrev pub is_refusal : Told → Bool
-is_refusal (told.Verdict (verdict.HashRefused r)) = true
-is_refusal (told.Verdict (verdict.Blocks v)) = list_any is_some v.refusals
-is_refusal (told.Verdict (verdict.BlockRefused r)) = true
-is_refusal (told.BadFrame id len) = true
+abbrev pub is_refusal : FrameReport → Bool
+is_refusal (frame_report.Verdict (verdict.HashRefused r)) = true
+is_refusal (frame_report.Verdict (verdict.Blocks v)) = list_any is_some v.refusals
+is_refusal (frame_report.Verdict (verdict.BlockRefused r)) = true
+is_refusal (frame_report.BadFrame id len) = true
 is_refusal t = false
 
 -- the line has `refused H7`
-abbrev pub is_no_memory : Told → Bool
-is_no_memory (told.Verdict (verdict.HashRefused NoMemory)) = true
+abbrev pub is_no_memory : FrameReport → Bool
+is_no_memory (frame_report.Verdict (verdict.HashRefused NoMemory)) = true
 is_no_memory t = false
 
 -- the last line has `fault`
@@ -28,7 +28,7 @@ is_fault ending.End = false
 is_fault (ending.Fault why) = true
 
 -- what all the lines amount to
-abbrev pub outcome_of : List Told → Ending → Outcome
+abbrev pub outcome_of : List FrameReport → Ending → Outcome
 outcome_of lines last = record {
   refused = list_any is_refusal lines;
   no_memory = list_any is_no_memory lines;

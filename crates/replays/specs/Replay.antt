@@ -1,4 +1,4 @@
--- What `replay` does with a record: the frames that its bytes hold, what is told of each and
+-- What `replay` does with a record: the frames that its bytes hold, what is reported of each and
 -- answered to it, and what of both goes out.
 use Rattle.std.specs.Prelude.{◌≡◌, ◌≢◌, ◌⊎◌, ℕ, ◌+◌, ◌++◌, List, [], ◌∷◌, length, map, Option, Some, None, is_some, Bool, true, false}
 use Rattle.std.specs.List.{flat_map}
@@ -21,9 +21,9 @@ use Rattle.chains.specs.Chain.{Chain}
 use Rattle.session.specs.Noted.{IsSafeNotedStep}
 use Rattle.session.specs.SafeStep.{IsSafeStep}
 use Rattle.session.specs.Session.{SessionSeen}
-use Rattle.replays.specs.declared.told.Told.{Told}
-use Rattle.replays.specs.declared.told.Told.TheVariants as told
-use Rattle.replays.specs.declared.reply.Reply.{Reply}
+use Rattle.replays.specs.declared.frame_report.FrameReport.{FrameReport}
+use Rattle.replays.specs.declared.frame_report.FrameReport.TheVariants as frame_report
+use Rattle.replays.specs.declared.frame_report.Reply.{Reply}
 use Rattle.replays.specs.declared.ending.Ending.{Ending}
 use Rattle.replays.specs.declared.ending.Ending.TheVariants as ending
 use Rattle.replays.specs.declared.outcome.Outcome.{Outcome}
@@ -33,15 +33,15 @@ use Rattle.replays.specs.ReplayLines.{lines_of, ending_line_of}
 
 -- ---- one frame
 
--- what was made of one frame: what is told of it, in one line or more, and the bytes of its answer
+-- what was made of one frame: what is reported of it, in one line or more, and the bytes of its answer
 pub record Handled : Type 0 where
   pub frame : Directed Frame
-  pub told : Told
+  pub report : FrameReport
   pub answer : List ℕ
 
--- a frame of which this is told, and that is not answered
-abbrev pub unanswered : Directed Frame → Told → Handled
-unanswered f d = record { frame = f; told = d; answer = [] }
+-- a frame with this report, which is not answered
+abbrev pub unanswered : Directed Frame → FrameReport → Handled
+unanswered f d = record { frame = f; report = d; answer = [] }
 
 -- the session's step for a message of a record. In form 2 what we ask for is noted, and hashes are
 -- taken in answer to it alone
@@ -54,20 +54,20 @@ abbrev pub AnswersDirected : Bool → SessionSeen → Directed Message → List 
 AnswersDirected wanted S (In, m) bytes = Answers wanted S m bytes
 AnswersDirected wanted S (Out, m) bytes = bytes ≡ []
 
--- what is told of a frame and answered to it, and the session's step for it
-abbrev pub Meets : Bool → Form → SessionSeen → Directed Frame → Told → List ℕ → SessionSeen
+-- what is reported of a frame and answered to it, and the session's step for it
+abbrev pub Meets : Bool → Form → SessionSeen → Directed Frame → FrameReport → List ℕ → SessionSeen
     → Type 0
 Meets wanted form S (i, frame.Message m) d answer S' =
-    (v : Verdict) × StepsBy form S (i, m) v S' × (d ≡ told.Verdict v)
+    (v : Verdict) × StepsBy form S (i, m) v S' × (d ≡ frame_report.Verdict v)
     × AnswersDirected wanted S (i, m) answer
 Meets wanted form S (i, frame.BadSize id len) d answer S' =
-    (d ≡ told.BadFrame id len) × (answer ≡ []) × (S' ≡ S)
+    (d ≡ frame_report.BadFrame id len) × (answer ≡ []) × (S' ≡ S)
 
 -- a body was handled as the frame that it means, in the session's state at that step
 abbrev pub Handles : Bool → Form → SessionSeen → Directed (List ℕ) → Handled → SessionSeen
     → Type 0
 Handles wanted form S d h S' =
-    MeansDirected d h.frame × Meets wanted form S h.frame h.told h.answer S'
+    MeansDirected d h.frame × Meets wanted form S h.frame h.report h.answer S'
 
 -- ---- the record
 
@@ -94,9 +94,9 @@ pub record HandlesNext (wanted : Bool) (known : Option Form) (form : Form) (old 
   pub gave : GaveFrame known form directed old new
   pub step : Handles wanted form S directed h S'
 
--- the source gave one more frame, of which this is told, and to which that is to be answered
+-- the source gave one more frame, with this report, and to which that is to be answered
 abbrev pub RespondsNext : Option Form → Form → SourceSeen → SourceSeen → SessionSeen → SessionSeen
-    → Told → Reply → Type 0
+    → FrameReport → Reply → Type 0
 RespondsNext known form old new S S' d r = (f : Directed Frame)
     × HandlesNext false known form old new S S' (unanswered f d) × (r ≡ reply_to f d)
 
@@ -149,11 +149,11 @@ pub record Replayed (old new : ReplaySeen) (handled : List Handled) (e : Option 
 -- the lines of the frames from number n on
 abbrev pub lines_from : ℕ → List Handled → List ℕ
 lines_from n [] = []
-lines_from n (h ∷ hs) = lines_of n h.told ++ lines_from (n + 1) hs
+lines_from n (h ∷ hs) = lines_of n h.report ++ lines_from (n + 1) hs
 
--- all that is told
-abbrev pub tolds_of : List Handled → List Told
-tolds_of hs = map (λ h. h.told) hs
+-- all reports
+abbrev pub reports_of : List Handled → List FrameReport
+reports_of hs = map (λ h. h.report) hs
 
 -- the answers, one after the other
 abbrev pub answers_of : List Handled → List ℕ
@@ -179,7 +179,7 @@ pub record EndsUnanswered (old new : ReplaySeen) (handled : List Handled) (e : E
     pub last : Handled
     pub all : handled ≡ before ++ last ∷ []
     pub handles : HandlesButLast old new before last
-    pub told_is : last.told ≡ told.Verdict verdict.Answered
+    pub report_is : last.report ≡ frame_report.Verdict verdict.Answered
     pub wanted : is_some old.answers ≡ true
     pub ending_is : e ≡ ending.Fault fault.NoMemory
 
@@ -201,14 +201,14 @@ pub record IsReport (old new : ReplaySeen) (outcome : Outcome) : Type 0 where
   pub wrote : SentAndFlushed old.report new.report
       (lines_from 1 handled ++ ending_line_of ending)
   pub answered : IfWanted (λ a b. SentAndFlushed a b (answers_of handled)) old.answers new.answers
-  pub outcome_is : outcome ≡ outcome_of (tolds_of handled) ending
+  pub outcome_is : outcome ≡ outcome_of (reports_of handled) ending
 
 -- the lines of the last frame broke off, and it was not answered
 pub record IsCutInLine (old new : ReplaySeen) : Type 0 where
   pub before : List Handled
   pub last : Handled
   pub handles : HandlesButLast old new before last
-  pub broke : BrokeAfter (lines_from 1 before) (lines_of (length before + 1) last.told)
+  pub broke : BrokeAfter (lines_from 1 before) (lines_of (length before + 1) last.report)
       old.report new.report
   pub answered : Answered old new before
 

@@ -8,8 +8,8 @@ use Rattle.session.specs.declared.verdict.Verdict.TheVariants as verdict
 use Rattle.wire.specs.declared.fault.FrameFault.TheVariants as fault
 use Rattle.replays.specs.declared.ending.Ending.{Ending}
 use Rattle.replays.specs.declared.ending.Ending.TheVariants as ending
-use Rattle.replays.specs.declared.told.Told.{Told}
-use Rattle.replays.specs.declared.told.Told.TheVariants as told
+use Rattle.replays.specs.declared.frame_report.FrameReport.{FrameReport}
+use Rattle.replays.specs.declared.frame_report.FrameReport.TheVariants as frame_report
 
 -- a refusal by its number behind a letter, and its name
 abbrev pub refused_text : List ℕ → ℕ → List ℕ → List ℕ
@@ -34,13 +34,13 @@ verdict_text verdict.Noted = codes "sent request"
 verdict_text verdict.Sent = codes "sent"
 
 -- what is printed of a frame, after its number
-abbrev pub told_text : Told → List ℕ
-told_text (told.Verdict v) = verdict_text v
-told_text (told.BadFrame id len) = codes "bad frame " ++ decimal id ++ codes " " ++ decimal len
+abbrev pub frame_text : FrameReport → List ℕ
+frame_text (frame_report.Verdict v) = verdict_text v
+frame_text (frame_report.BadFrame id len) = codes "bad frame " ++ decimal id ++ codes " " ++ decimal len
 
 -- one line tells all of it: it is no message of blocks
-abbrev pub IsOneLine : Told → Type 0
-IsOneLine (told.Verdict (verdict.Blocks v)) = ⊥
+abbrev pub IsOneLine : FrameReport → Type 0
+IsOneLine (frame_report.Verdict (verdict.Blocks v)) = ⊥
 IsOneLine t = Unit {0}
 
 -- a line of frame n
@@ -67,10 +67,10 @@ unfoldable pub entry_lines : ℕ → BlocksSeen → ℕ → List (Option BlockRe
 entry_lines n v m [] = []
 entry_lines n v m (r ∷ rs) = line_text n (entry_text v m r) ++ entry_lines n v (m + 1) rs
 
--- the lines of frame n, of which this is told: one, and for a message of blocks one for each
-unfoldable pub lines_of : ℕ → Told → List ℕ
-lines_of n (told.Verdict (verdict.Blocks v)) = entry_lines n v 0 v.refusals
-lines_of n t = line_text n (told_text t)
+-- the lines of frame n, which has this report: one, and for a message of blocks one for each
+unfoldable pub lines_of : ℕ → FrameReport → List ℕ
+lines_of n (frame_report.Verdict (verdict.Blocks v)) = entry_lines n v 0 v.refusals
+lines_of n t = line_text n (frame_text t)
 
 -- the last line
 abbrev pub ending_line_of : Ending → List ℕ

@@ -4,7 +4,7 @@ ghost use Rattle.benc.specs.Device.{Wrote};
 ghost use Rattle.session.specs.Answers.{IsAnswerTo};
 ghost use Rattle.replays.specs.Answering.{Flushes, HasFewHashes, IsAnswerFrame, Replies};
 
-use crate::reply::Reply;
+use crate::frame_report::Reply;
 use benc::{DeviceFault, Sink, WriteFault};
 use session::{Answer, NodeMap, Session};
 use wire::{Ask, Message, write};

@@ -14,7 +14,7 @@ impl Ending {
     ghost use Rattle.std.specs.Prelude.{◌≡◌};
     ghost use Rattle.replays.specs.Outcome.{is_fault};
 
-    /// Whether the last line tells of a fault.
+    /// Whether the last line is a fault.
     pub(crate) fn is_fault(&self) -> bool
         ensures { result ≡ is_fault self.now }
     {

@@ -3,13 +3,11 @@
 
 mod answering;
 mod ending;
+mod frame_report;
 mod line_of_frame;
 mod lines_of_blocks;
 mod outcome;
 mod replaying;
-mod reply;
-mod response;
-mod told;
 
 pub use outcome::Outcome;
 pub use replaying::replay;

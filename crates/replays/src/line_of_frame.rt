@@ -1,16 +1,16 @@
 //! What a replay prints of one frame.
 ghost use Rattle.std.specs.Prelude.{◌≡◌, ◌+◌, ◌≤◌, ◌++◌, length, codes, decimal};
-ghost use Rattle.replays.specs.ReplayLines.{IsOneLine, line_text, refused_text, told_text, verdict_text};
+ghost use Rattle.replays.specs.ReplayLines.{IsOneLine, line_text, refused_text, frame_text, verdict_text};
 
-use crate::told::Told;
+use crate::frame_report::FrameReport;
 use printing::Line;
 use session::Verdict;
 
 /// How many bytes the number of a frame has at most, with the space after it.
 pub(crate) const NUMBER: usize = 21;
 
-/// How many bytes at most one line tells of a frame, after its number.
-pub(crate) const TOLD: usize = 60;
+/// How many bytes one line has at most after the number of its frame.
+pub(crate) const TEXT: usize = 60;
 
 // How many bytes the name of a refusal has at most.
 const NAME: usize = 11;
@@ -19,14 +19,14 @@ const NAME: usize = 11;
 const WORD: usize = 8;
 
 /// The line of the frame of this number, which is no message of blocks.
-pub(crate) fn line_of_frame(number: u64, told: &Told) -> Line
-    requires { IsOneLine told.now }
-    ensures { result ≡ line_text number (told_text told.now) }
+pub(crate) fn line_of_frame(number: u64, frame: &FrameReport) -> Line
+    requires { IsOneLine frame.now }
+    ensures { result ≡ line_text number (frame_text frame.now) }
 {
     let mut line = Line::new();
     line.put_number(number);
     line.put(b" ");
-    put_told(&mut line, told);
+    put_frame(&mut line, frame);
     line.put(b"\n");
     line
 }
@@ -37,7 +37,7 @@ pub(crate) fn put_refused(line: &mut Line, letter: &[u8], number: u32, name: &st
     requires letter { length letter.now ≤ 1 }
     requires name { length name.now ≤ NAME }
     ensures text { line.new ≡ line.old ++ refused_text letter.now number name.now }
-    ensures bound { length line.new ≤ length line.old + TOLD }
+    ensures bound { length line.new ≤ length line.old + TEXT }
 {
     line.put(b"refused ");
     line.put(letter);
@@ -46,22 +46,22 @@ pub(crate) fn put_refused(line: &mut Line, letter: &[u8], number: u32, name: &st
     line.put(name.as_bytes());
 }
 
-fn put_told(line: &mut Line, told: &Told)
+fn put_frame(line: &mut Line, frame: &FrameReport)
     requires line { length line.old ≤ NUMBER }
-    requires told { IsOneLine told.now }
-    ensures text { line.new ≡ line.old ++ told_text told.now }
-    ensures bound { length line.new ≤ length line.old + TOLD }
+    requires frame { IsOneLine frame.now }
+    ensures text { line.new ≡ line.old ++ frame_text frame.now }
+    ensures bound { length line.new ≤ length line.old + TEXT }
 {
-    match told {
-        Told::Verdict(verdict) => put_verdict(line, verdict),
-        Told::BadFrame { id, len } => put_bad_frame(line, *id, *len),
+    match frame {
+        FrameReport::Verdict(verdict) => put_verdict(line, verdict),
+        FrameReport::BadFrame { id, len } => put_bad_frame(line, *id, *len),
     }
 }
 
 fn put_bad_frame(line: &mut Line, id: u8, len: u32)
     requires { length line.old ≤ NUMBER }
-    ensures text { line.new ≡ line.old ++ told_text (Told.BadFrame id len) }
-    ensures bound { length line.new ≤ length line.old + TOLD }
+    ensures text { line.new ≡ line.old ++ frame_text (FrameReport.BadFrame id len) }
+    ensures bound { length line.new ≤ length line.old + TEXT }
 {
     line.put(b"bad frame ");
     line.put_number(u64::from(id));
@@ -71,9 +71,9 @@ fn put_bad_frame(line: &mut Line, id: u8, len: u32)
 
 fn put_verdict(line: &mut Line, verdict: &Verdict)
     requires line { length line.old ≤ NUMBER }
-    requires verdict { IsOneLine (Told.Verdict verdict.now) }
+    requires verdict { IsOneLine (FrameReport.Verdict verdict.now) }
     ensures text { line.new ≡ line.old ++ verdict_text verdict.now }
-    ensures bound { length line.new ≤ length line.old + TOLD }
+    ensures bound { length line.new ≤ length line.old + TEXT }
 {
     match verdict {
         Verdict::Stored(count) => put_counted(line, b"stored ", *count),
@@ -99,7 +99,7 @@ fn put_counted(line: &mut Line, word: &[u8], number: u64)
     requires line { length line.old ≤ NUMBER }
     requires word { length word.now ≤ WORD }
     ensures text { line.new ≡ line.old ++ (word.now ++ decimal number) }
-    ensures bound { length line.new ≤ length line.old + TOLD }
+    ensures bound { length line.new ≤ length line.old + TEXT }
 {
     line.put(word);
     line.put_number(number);

@@ -3,7 +3,7 @@ ghost use Rattle.std.specs.Prelude.{◌≡◌, ◌+◌, ◌≤◌, ◌<◌, ◌+
 ghost use Rattle.benc.specs.Device.{Wrote};
 ghost use Rattle.replays.specs.ReplayLines.{entry_lines, entry_text, line_text, place_text};
 
-use crate::line_of_frame::{NUMBER, TOLD, put_refused};
+use crate::line_of_frame::{NUMBER, TEXT, put_refused};
 use benc::{DeviceFault, Sink, write_all};
 use printing::Line;
 use session::{BlockRefusal, Blocks};
@@ -44,7 +44,7 @@ fn put_entry(line: &mut Line, blocks: &Blocks, entry: usize, refusal: Option<Blo
     requires line { length line.old ≤ NUMBER }
     requires entry { entry < length blocks.now.refusals }
     ensures text { line.new ≡ line.old ++ entry_text blocks.now entry refusal }
-    ensures bound { length line.new ≤ length line.old + TOLD + 1 + PLACE }
+    ensures bound { length line.new ≤ length line.old + TEXT + 1 + PLACE }
 {
     match refusal {
         None => {
@@ -62,7 +62,7 @@ fn put_entry(line: &mut Line, blocks: &Blocks, entry: usize, refusal: Option<Blo
 }
 
 fn put_place(line: &mut Line, blocks: &Blocks, entry: usize)
-    requires line { length line.old ≤ NUMBER + TOLD + 1 }
+    requires line { length line.old ≤ NUMBER + TEXT + 1 }
     requires entry { entry < length blocks.now.refusals }
     ensures text { line.new ≡ line.old ++ place_text blocks.now entry }
     ensures bound { length line.new ≤ length line.old + PLACE }

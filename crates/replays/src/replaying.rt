@@ -1,4 +1,4 @@
-//! The replay of a record: its frames go to a session, and a line tells of each.
+//! The replay of a record: its frames go to a session, and a line reports each.
 ghost use Rattle.std.specs.Prelude.{◌≡◌, [], ◌∷◌, false, None, Some, option_map, IfOk, IfErr, OnOk, OnErr};
 ghost use Rattle.benc.specs.Device.{Wrote, WroteAndFlushed};
 ghost use Rattle.replays.specs.Answering.{Finishes, reply_to, sink_after, sink_before};
@@ -12,12 +12,10 @@ ghost use Rattle.wire.specs.declared.form.Form.{Form as FormOf};
 
 use crate::answering::{AnswerFault, Answering, Unwanted};
 use crate::ending::Ending;
+use crate::frame_report::{FrameReport, Reply, Response};
 use crate::line_of_frame::line_of_frame;
 use crate::lines_of_blocks::write_blocks;
 use crate::outcome::Outcome;
-use crate::reply::Reply;
-use crate::response::Response;
-use crate::told::Told;
 use benc::{DeviceFault, Sink, Source, WriteFault, write_all};
 use printing::write_line;
 use session::{NodeMap, Session, Verdict};
@@ -120,8 +118,8 @@ fn replay_frames<N: NodeMap, R: Source, W: Sink, B: Answering>(
             Err(ending) => return end_replay(report, answers, outcome, ending),
         };
         number += 1;
-        outcome.note(&response.told);
-        write_frame(report, number, &response.told)?;
+        outcome.note(&response.report);
+        write_frame(report, number, &response.report)?;
         match answers.answer(session, response.reply) {
             Ok(()) => {}
             Err(AnswerFault::NoMemory) => {
@@ -143,7 +141,7 @@ fn next_response<N: NodeMap, R: Source>(
     ensures frame { IfOk result (λ r. (form : FormOf) × (form_of reader.new ≡ Some form)
         × RespondsNext (form_of reader.old) form
         (R.seen (source_of reader.old)) (R.seen (source_of reader.new))
-        session.old session.new r.told r.reply) }
+        session.old session.new r.report r.reply) }
     ensures open { OnOk result (IsOpen (frame_reader reader.new)) }
     ensures room { HasRoom (frame_reader reader.new) }
     ensures ending { IfErr result (TellsEnding (form_of reader.old) (R.seen (source_of reader.old))
@@ -157,27 +155,27 @@ fn next_response<N: NodeMap, R: Source>(
     }
 }
 
-// Gives the frame's message to the session, and tells what is made of the frame.
+// Gives the frame's message to the session: what is made of the frame.
 fn take_frame<N: NodeMap>(
     session: &mut Session<'_, N>,
     form: Option<u8>,
     frame: (Direction, Frame<'_>),
 ) -> Response
-    ensures told { (known : FormOf) → form ≡ Some (form_number known)
-        → Meets false known session.old frame.entry result.told [] session.new }
-    ensures reply { result.reply ≡ reply_to frame.entry result.told }
+    ensures report { (known : FormOf) → form ≡ Some (form_number known)
+        → Meets false known session.old frame.entry result.report [] session.new }
+    ensures reply { result.reply ≡ reply_to frame.entry result.report }
 {
     let (direction, frame) = frame;
     match frame {
         Frame::Message(message) => {
             let verdict = take_message(session, form, direction, &message);
             Response {
-                told: Told::Verdict(verdict),
+                report: FrameReport::Verdict(verdict),
                 reply: Reply::of(direction, &message, &verdict),
             }
         }
         Frame::BadSize { id, len } => Response {
-            told: Told::BadFrame { id, len },
+            report: FrameReport::BadFrame { id, len },
             reply: Reply::Nothing,
         },
     }
@@ -202,12 +200,12 @@ fn take_message<N: NodeMap>(
 
 // Writes the lines of the frame of this number.
 #[tactic(auto, unfolding(crate::specs::ReplayLines::lines_of))]
-fn write_frame<W: Sink>(report: &mut W, number: u64, told: &Told) -> Result<(), DeviceFault>
-    ensures { Wrote (W.seen report.old) (W.seen report.new) result (lines_of number told.now) }
+fn write_frame<W: Sink>(report: &mut W, number: u64, frame: &FrameReport) -> Result<(), DeviceFault>
+    ensures { Wrote (W.seen report.old) (W.seen report.new) result (lines_of number frame.now) }
 {
-    match told {
-        Told::Verdict(Verdict::Blocks(blocks)) => write_blocks(report, number, blocks),
-        _ => write_all(report, line_of_frame(number, told).as_slice()),
+    match frame {
+        FrameReport::Verdict(Verdict::Blocks(blocks)) => write_blocks(report, number, blocks),
+        _ => write_all(report, line_of_frame(number, frame).as_slice()),
     }
 }
 

@@ -7,6 +7,7 @@ pub mod Rounds
 pub mod RoundRuns
 pub mod OneGap
 pub mod Sessions
+pub mod SessionCalls
 pub mod SafeSteps
 pub mod Numbering
 pub mod FirstTrees

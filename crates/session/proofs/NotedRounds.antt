@@ -38,6 +38,7 @@ use Rattle.session.proofs.Runs.{Learns, step-learns, unchanged}
 use Rattle.session.proofs.Rounds.{asked-is, want-tall, answer-fewer}
 use Rattle.session.proofs.RoundRuns.{lacks_memory, lacks_memory-is, lacks_memory-not, collision-keeps, later-distinct, wanted-is}
 use Rattle.session.proofs.NotedSteps.{in_hashes, noted-torrent, noted-learns, noted-closed, noted-open, noted-opens, learns-keeps, base_later}
+use Rattle.chains.proofs.Cases.{item_stays}
 
 -- ---- whole runs
 
@@ -210,16 +211,11 @@ opened_by S ms vs N closed_trees all run ask (inl was) = inl (record {
 })
 opened_by S ms vs N closed_trees all run ask (inr (k, at)) = noted_at S ms vs N closed_trees all run ask k at
 
-still_there : {A : Type 0} (xs ys : List A) (k : ℕ) (x : A) → slice_get xs k ≡ Some x → slice_get (xs ++ ys) k ≡ Some x
-still_there [] ys k x e = absurd (none-some x e)
-still_there (y ∷ xs) ys zero x e = e
-still_there (y ∷ xs) ys (suc k) x e = still_there xs ys k x e
-
 lacks_in_all : (S : SessionSeen) (ms : List (Directed Message)) (ask : Ask) (asked : IsAskedFor S ms ask) (vs : List Verdict) (v : Verdict)
     → LacksMemoryToNote S ms ask asked vs
     → LacksMemoryToNote S ms ask asked (vs ++ v ∷ [])
 lacks_in_all S ms ask (inl was) vs v lacks = lacks
-lacks_in_all S ms ask (inr (k, at)) vs v lacks = still_there vs (v ∷ []) k (verdict.HashRefused NoMemory) lacks
+lacks_in_all S ms ask (inr (k, at)) vs v lacks = item_stays vs (v ∷ []) k (verdict.HashRefused NoMemory) lacks
 
 pub All-take-noted : (ms : List (Directed Message)) (i : ℕ) (d : Directed Message) → i < length ms → All HasDirectedHashes (take i ms)
     → HasDirectedHashes (get_or ms i d) → All HasDirectedHashes (take (i + 1) ms)

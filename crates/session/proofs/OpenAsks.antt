@@ -11,14 +11,10 @@ use Rattle.std.proofs.lemmas.Bool.{false≢true}
 use Rattle.wire.specs.contracts.message.AskOrd.TheImpl.Laws.{total-law}
 use Rattle.wire.specs.declared.message.Ask.{Ask}
 use Rattle.session.specs.Asks.{AskSet, ask_cmp}
+use Rattle.chains.proofs.Cases.{both_equal}
 
 pub ask_total : IsTotalOrder ask_cmp
 ask_total = total-law
-
-both_equal : (r s : Ordering) → ordering_then r s ≡ Equal → (r ≡ Equal) × (s ≡ Equal)
-both_equal Less s e = absurd (false≢true (ap is_eq e))
-both_equal Equal s e = (refl, e)
-both_equal Greater s e = absurd (false≢true (ap is_eq e))
 
 -- an ask is told by its five fields
 pub ask_antisymmetric : IsAntisymmetric ask_cmp

@@ -16,6 +16,7 @@ use Rattle.wire.specs.Records.{came_in}
 use Rattle.wire.proofs.Meanings.{same_heads}
 use Rattle.wire.proofs.OneReading.{AreBytes, same_from_frame, whole_front, partial_front, Frames-of_bytes}
 use Rattle.wire.proofs.Partial.{IsPartial-from_short}
+use Rattle.chains.proofs.Cases.{same_or_not}
 
 -- ---- one reading
 
@@ -93,17 +94,6 @@ one_is_stream bytes bodies rest form frames = record {
 }
 
 -- ---- each list of bytes is a record
-
-same_or_not : (xs ys : List ℕ) → (xs ≡ ys) ⊎ (xs ≢ ys)
-same_or_not [] [] = inl refl
-same_or_not [] (y ∷ ys) = inr (λ e. cc)
-same_or_not (x ∷ xs) [] = inr (λ e. cc)
-same_or_not (x ∷ xs) (y ∷ ys) = heads (cases_eq x y) (same_or_not xs ys)
-  where
-    heads : (x ≡ y) ⊎ (x ≢ y) → (xs ≡ ys) ⊎ (xs ≢ ys) → (x ∷ xs ≡ y ∷ ys) ⊎ (x ∷ xs ≢ y ∷ ys)
-    heads (inl e) (inl d) = inl (ap₂ ◌∷◌ e d)
-    heads (inl e) (inr d) = inr (λ p. d cc)
-    heads (inr e) d = inr (λ p. e cc)
 
 pub form_of : (bytes : List ℕ) → HasForm bytes Two ⊎ HasForm bytes One
 form_of bytes = elim (same_or_not (take 8 bytes) header) [

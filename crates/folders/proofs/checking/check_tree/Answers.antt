@@ -2,7 +2,8 @@ use Rattle.std.proofs.Common.{◌≡◌, ◌*◌, ap, refl, arith}
 use Rattle.opening.specs.Seen.{file_entry, tree_entry}
 use Rattle.folders.specs.Feeding.{FeedsBoth}
 use Rattle.folders.proofs.Places.{start_fits}
-use Rattle.folders.proofs.Pieces.{filled_to, finished, opened_verdict, other_count, read_whole, room_for_all, wrong_length}
+use Rattle.folders.proofs.OpenedRoots.{filled_to}
+use Rattle.folders.proofs.Pieces.{finished, opened_verdict, other_count, read_whole, room_for_all, wrong_length}
 use Rattle.folders.proofs.Reports.{has_tree, sound_tree}
 use Rattle.folders.proofs.checking.check_tree.Goals as goal
 

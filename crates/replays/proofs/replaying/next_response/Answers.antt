@@ -1,4 +1,4 @@
-use Rattle.replays.proofs.Replays.{tells_end, tells_fault}
+use Rattle.replays.proofs.Sources.{tells_end, tells_fault}
 use Rattle.replays.proofs.replaying.next_response.Goals as goal
 
 pub returns-in-Ok-false-clause-ending : goal.returns-in-Ok-false-clause-ending

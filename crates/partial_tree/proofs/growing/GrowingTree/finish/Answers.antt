@@ -5,7 +5,8 @@ use Rattle.node_maps.specs.Places.{tree_height}
 use Rattle.node_maps.specs.Runs.{AreKnown}
 use Rattle.node_maps.proofs.Nodes.{known-of, length-of, marked-of}
 use Rattle.partial_tree.specs.Grown.{GrownTree}
-use Rattle.partial_tree.proofs.GrownLeaves.{children-known, ended, has_pads, next_layer, padded, shifted}
+use Rattle.partial_tree.proofs.FromLeaves.{children-known}
+use Rattle.partial_tree.proofs.GrownLeaves.{ended, has_pads, next_layer, padded, shifted}
 use Rattle.partial_tree.proofs.growing.GrowingTree.finish.Goals as goal
 
 pub layers-init : goal.layers-init

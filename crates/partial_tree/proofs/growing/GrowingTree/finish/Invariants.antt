@@ -1,6 +1,6 @@
 use Rattle.std.proofs.Common.{◌≡◌}
 use Rattle.std.specs.FinSet.{empty}
-use Rattle.partial_tree.proofs.GrownLeaves.{IsUpTo}
+use Rattle.partial_tree.proofs.FromLeaves.{IsUpTo}
 use Rattle.partial_tree.proofs.growing.GrowingTree.finish.Given as goal
 
 abbrev pub invariant-layers : goal.invariant-layers

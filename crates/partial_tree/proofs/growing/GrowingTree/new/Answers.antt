@@ -1,6 +1,6 @@
 use Rattle.std.proofs.Common.{arith}
 use Rattle.node_maps.proofs.Nodes.{known-of, length-of, marked-of}
-use Rattle.partial_tree.proofs.GrownLeaves.{growing-none}
+use Rattle.partial_tree.proofs.FromLeaves.{growing-none}
 use Rattle.partial_tree.proofs.growing.GrowingTree.new.Goals as goal
 
 pub invariant_of-result : goal.invariant_of-result

@@ -4,7 +4,7 @@ use Rattle.hashtree.proofs.Heights.{height_enough}
 use Rattle.node_maps.specs.Places.{tree_height}
 use Rattle.node_maps.proofs.Nodes.{known-of, length-of, marked-of}
 use Rattle.partial_tree.specs.Grown.{GrownTree}
-use Rattle.partial_tree.proofs.GrownLeaves.{growing-more, leaves-more, length-leaves}
+use Rattle.partial_tree.proofs.FromLeaves.{growing-more, leaves-more, length-leaves}
 use Rattle.partial_tree.proofs.growing.GrowingTree.push.Goals as goal
 
 pub add-requires-clause-place : goal.add-requires-clause-place

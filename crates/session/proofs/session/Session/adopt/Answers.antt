@@ -4,7 +4,8 @@ use Rattle.opening.specs.Description.{Description, TreeEntry}
 use Rattle.partial_tree.specs.Kept.{KeptTree}
 use Rattle.session.specs.Layouts.{SessionSeen, seen}
 use Rattle.session.specs.Session.{IsFilled, IsFillRefused}
-use Rattle.session.proofs.Sessions.{found_at, good_at, kept-after, filled_all, fill_refused_all, inside_kept, length_at}
+use Rattle.session.proofs.Sessions.{found_at, good_at, kept-after}
+use Rattle.session.proofs.SessionCalls.{filled_all, fill_refused_all, inside_kept, length_at}
 use Rattle.partial_tree.proofs.Keeping.{stays_good_adopted}
 use Rattle.session.proofs.session.Session.adopt.Goals as goal
 

@@ -6,7 +6,8 @@ use Rattle.partial_tree.specs.Kept.{KeptTree}
 use Rattle.session.specs.Session.{IsHashRefused, IsAnswered}
 use Rattle.session.specs.Layouts.{SessionSeen}
 use Rattle.session.proofs.Numbering.{some_number, no_number}
-use Rattle.session.proofs.Sessions.{found_at, unknown_in, answer_all, answer_memory}
+use Rattle.session.proofs.Sessions.{found_at, unknown_in}
+use Rattle.session.proofs.SessionCalls.{answer_all, answer_memory}
 use Rattle.session.proofs.session.Session.answer.Goals as goal
 
 pub index-requires : goal.index-requires

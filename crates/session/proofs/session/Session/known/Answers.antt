@@ -3,7 +3,7 @@ use Rattle.std.specs.Prelude.{slice_get}
 use Rattle.opening.specs.Description.{Description}
 use Rattle.partial_tree.specs.Kept.{KeptTree}
 use Rattle.session.specs.Layouts.{SessionSeen}
-use Rattle.session.proofs.Sessions.{state_there}
+use Rattle.session.proofs.SessionCalls.{state_there}
 use Rattle.session.proofs.session.Session.known.Goals as goal
 
 pub returns : goal.returns

@@ -1,7 +1,7 @@
 use Rattle.std.proofs.Common.{◌≡◌, Some, sym, ap, ◌∙◌}
 use Rattle.opening.specs.Places.{place_of}
 use Rattle.session.specs.Layouts.{SessionSeen}
-use Rattle.session.proofs.Sessions.{refused_at}
+use Rattle.session.proofs.SessionCalls.{refused_at}
 use Rattle.session.proofs.session.Session.mark_block.Goals as goal
 
 pub returns-in-Err-clause-refused : goal.returns-in-Err-clause-refused

@@ -7,7 +7,7 @@ use Rattle.partial_tree.specs.Kept.{KeptTree}
 use Rattle.session.specs.Layouts.{SessionSeen, seen}
 use Rattle.session.specs.Session.{IsInFile, AreRefused}
 use Rattle.partial_tree.specs.declared.refusal.BlockRefusal.TheVariants.{BadSize}
-use Rattle.session.proofs.Sessions.{in_file_of, taken_at}
+use Rattle.session.proofs.SessionCalls.{in_file_of, taken_at}
 use Rattle.session.proofs.session.Session.mark_blocks.Goals as goal
 
 pub returns-in-None-clause-refused : goal.returns-in-None-clause-refused

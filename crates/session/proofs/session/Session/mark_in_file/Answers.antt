@@ -7,7 +7,8 @@ use Rattle.partial_tree.specs.Kept.{KeptTree}
 use Rattle.session.specs.Session.{IsMarkedBlock, IsUnmarkedBlock}
 use Rattle.session.specs.Layouts.{SessionSeen, seen, HasBlock}
 use Rattle.partial_tree.proofs.Keeping.{good_after_block}
-use Rattle.session.proofs.Sessions.{has_tree, found_at, good_at, kept-after, tree_for, same_length, marked_all, unmarked_all}
+use Rattle.session.proofs.SessionCalls.{has_tree}
+use Rattle.session.proofs.Sessions.{found_at, good_at, kept-after, tree_for, same_length, marked_all, unmarked_all}
 use Rattle.session.proofs.session.Session.mark_in_file.Goals as goal
 
 pub unwrap-tree-requires : goal.unwrap-tree-requires

@@ -4,7 +4,8 @@ use Rattle.opening.specs.Description.{Description}
 use Rattle.partial_tree.specs.Kept.{KeptTree, info_of}
 use Rattle.session.specs.Session.{IsTree}
 use Rattle.session.specs.Layouts.{SessionSeen, IsBlockOf}
-use Rattle.session.proofs.Sessions.{found_at, inside_kept, tree_at, block_in}
+use Rattle.session.proofs.Sessions.{found_at, tree_at}
+use Rattle.session.proofs.SessionCalls.{inside_kept, block_in}
 use Rattle.session.proofs.session.Session.want.Goals as goal
 
 pub want-requires : goal.want-requires
