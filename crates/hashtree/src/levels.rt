@@ -6,7 +6,7 @@ ghost use Rattle.hashtree.specs.Tree.{block_count, first_pad, height, joined_at,
 
 use crate::NoMemory;
 use crate::node::{Hash, parent, zero};
-use crate::peaks::Peaks;
+use crate::peaks::{Peaks, ROW};
 use crate::shape::Shape;
 use sha256_lanes::parents;
 use std::alloc::Global;
@@ -23,8 +23,11 @@ pub fn layer_root(shape: Shape, layer: u32, hashes: &[Hash]) -> Hash
     let height = shape.height();
     let last = hashes.len() - 1;
     let mut peaks = Peaks::new();
-    for hash in &hashes[..last] {
-        peaks.push(*hash, 0);
+    'rows: for row in 0..last / ROW {
+        peaks.push_row(&hashes[ROW * row..ROW * row + ROW]);
+    }
+    'rest: for i in ROW * (last / ROW)..last {
+        peaks.push(hashes[i], 0);
     }
     peaks.last_node(hashes[last], zero(layer), height - layer)
 }

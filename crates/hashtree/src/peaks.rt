@@ -1,13 +1,17 @@
 //! The leaves so far, as the roots of whole subtrees: at most one a layer.
 
-ghost use Rattle.std.specs.Prelude.{◌≡◌, ℕ, ◌+◌, ◌-◌, ◌^◌, ◌<◌, ◌≤◌, ◌∷◌, ◌++◌, [], List, length, replicate};
+ghost use Rattle.std.specs.Prelude.{◌≡◌, ℕ, ◌+◌, ◌-◌, ◌%◌, ◌^◌, ◌<◌, ◌≤◌, ◌∷◌, ◌++◌, [], List, length, replicate};
 ghost use Rattle.std.specs.Option.{option_to_list};
 ghost use Rattle.hashtree.specs.Tree.{tree};
 
+use crate::eights::eight_nodes;
 use crate::node::{Hash, PAD_LEAF, parent};
 
 // Layers of the highest tree, the root's included.
 const LAYERS: usize = 33;
+
+/// Leaves of a row that [`Peaks::push_row`] takes: those of eight trees of height 5.
+pub(crate) const ROW: usize = 256;
 
 /// A layer that no tree has: no leaf completes a node of it.
 pub(crate) const ABOVE_ROOT: u32 = LAYERS as u32;
@@ -21,7 +25,7 @@ pub(crate) struct Peaks {
 }
 
 impl Peaks {
-    ghost use Rattle.hashtree.specs.Climb.{AddsLeaf, AddsLeaves, HoldsLeaves, LeafCompletes, LeavesComplete, climb, layer_with, padded};
+    ghost use Rattle.hashtree.specs.Climb.{AddsLeaf, AddsLeaves, HoldsLeaves, IsWholeTree, LeafCompletes, LeavesComplete, climb, layer_with, padded};
 
     /// A row of no leaves.
     pub(crate) fn new() -> Peaks
@@ -41,11 +45,28 @@ impl Peaks {
         ensures leaves { AddsLeaf self.old self.new leaf }
         ensures node { LeafCompletes self.old leaf layer result }
     {
-        let mut node = leaf;
+        self.push_tree(leaf, 0, layer)
+    }
+
+    /// Takes the leaves of a whole tree of this height at once, as [`Peaks::push`] takes one leaf.
+    /// The root stands for them. Conditions: the leaves so far fill such trees, and `layer` is not
+    /// below the root.
+    pub(crate) fn push_tree(&mut self, root: Hash, height: u32, layer: u32) -> Option<Hash>
+        requires low { height ≤ 32 }
+        requires room { self.old.count + 2 ^ height < 2 ^ 33 }
+        requires aligned { self.old.count % 2 ^ height ≡ 0 }
+        requires above { height ≤ layer }
+        ensures count { self.new.count ≡ self.old.count + 2 ^ height }
+        ensures leaves { (ys : List (List ℕ)) → IsWholeTree height ys root
+            → AddsLeaves self.old self.new ys }
+        ensures node { (ys : List (List ℕ)) → IsWholeTree height ys root
+            → LeavesComplete self.old ys layer result }
+    {
+        let mut node = root;
         let mut completed = None;
-        let mut width = self.count;
-        self.count += 1;
-        'layers: for level in 0..LAYERS {
+        let mut width = self.count >> height;
+        self.count += 1 << height;
+        'layers: for level in height as usize..LAYERS {
             if level == layer as usize {
                 completed = Some(node);
             }
@@ -57,6 +78,20 @@ impl Peaks {
             width /= 2;
         }
         completed
+    }
+
+    /// Takes the next leaves, a whole row, whose nodes are made eight at a time. Condition: only
+    /// rows came before.
+    pub(crate) fn push_row(&mut self, leaves: &[Hash])
+        requires room { self.old.count + 256 < 2 ^ 33 }
+        requires whole { length leaves.now ≡ 256 }
+        requires aligned { self.old.count % 256 ≡ 0 }
+        ensures count { self.new.count ≡ self.old.count + 256 }
+        ensures leaves { AddsLeaves self.old self.new leaves.now }
+    {
+        for root in &eight_nodes(leaves, 5) {
+            self.push_tree(*root, 5, ABOVE_ROOT);
+        }
     }
 
     /// Takes the next leaves, at most eight, as [`Peaks::push`] does. Returns the node of `layer`

@@ -1,9 +1,15 @@
-use Rattle.std.proofs.Common.{◌≡◌, take}
+use Rattle.std.proofs.Common.{◌≡◌, ◌*◌, take}
 use Rattle.hashtree.specs.Climb.{HoldsLeaves}
 use Rattle.hashtree.proofs.levels.layer_root.Given as goal
 
-abbrev pub invariant-loop-hash : goal.invariant-loop-hash
-invariant-loop-hash l = record {
-  count : l.peaks.count ≡ l.hash-index;
-  leaves : HoldsLeaves l.peaks (take l.hash-index l.hash-items);
+abbrev pub invariant-rows : goal.invariant-rows
+invariant-rows l = record {
+  count : l.peaks.count ≡ 256 * l.row;
+  leaves : HoldsLeaves l.peaks (take (256 * l.row) l.hashes);
+}
+
+abbrev pub invariant-rest : goal.invariant-rest
+invariant-rest l = record {
+  count : l.peaks.count ≡ l.i;
+  leaves : HoldsLeaves l.peaks (take l.i l.hashes);
 }
