@@ -1,4 +1,5 @@
-"""recheck.py TORRENT FOLDER: lets libtorrent check a folder with one thread; status 1 where a piece is bad.
+"""recheck.py TORRENT FOLDER [THREADS]: lets libtorrent check a folder with one thread, or so many; status 1 where a
+piece is bad.
 
 The torrent's files lie below FOLDER/NAME, where NAME is the torrent's name.
 """
@@ -19,8 +20,8 @@ SETTINGS = {
 }
 
 
-def main(torrent, folder):
-    session = lt.session(SETTINGS)
+def main(torrent, folder, threads=1):
+    session = lt.session(SETTINGS | {"aio_threads": int(threads), "hashing_threads": int(threads)})
     params = lt.add_torrent_params()
     params.ti = lt.torrent_info(torrent)
     params.save_path = folder
