@@ -48,4 +48,4 @@ pub wants_memory : (b : List ℕ) (v : Bencode) → length b ≤ max_torrent →
     → IfErr result (λ r. r ≡ refusals.NoMemory → NoneHolds (plain_rows v))
     → IfErr result (λ r. r ≡ refusals.NoMemory → OpeningTakesMemory b)
 wants_memory b v small spelled (Ok t) told = told
-wants_memory b v small spelled (Err r) told = λ memory. record { small = small; where_taken = inr (v, spelled, told memory) }
+wants_memory b v small spelled (Err r) told = λ memory. record { small = small; value = v; spells = spelled; where_taken = inr (told memory) }

@@ -225,9 +225,11 @@ RefusesTorrent b r = ((max_torrent < length b) × (r ≡ refusals.TooLarge))
     × (((f : Fault) × benc.Fails b f.kind f.offset × (r ≡ refusals.NotBencode f))
     ⊎ ((v : Bencode) × Spells v b × First (table v) r)))
 
--- opening these bytes may take memory: they are not too many, and decoding comes to a list or a
--- dictionary that has to grow, or no test of the keys, of the shape and of the paths holds
+-- opening these bytes may take memory: they are not too many and spell a value, and decoding comes
+-- to a list or a dictionary that has to grow, or no test of the keys, of the shape and of the paths
+-- holds
 pub record OpeningTakesMemory (b : List ℕ) : Type 0 where
   pub small : length b ≤ max_torrent
-  pub where_taken : ((offset : ℕ) × benc.Opens b offset)
-      ⊎ ((v : Bencode) × Spells v b × NoneHolds (plain_rows v))
+  pub value : Bencode
+  pub spells : Spells value b
+  pub where_taken : ((offset : ℕ) × benc.Opens b offset) ⊎ NoneHolds (plain_rows value)

@@ -52,7 +52,8 @@ impl<'a> Torrent<'a> {
     ///
     /// # Errors
     ///
-    /// The first test that holds is answered. `NoMemory` comes only out of memory.
+    /// The first test that holds is answered. `NoMemory` comes only out of memory, and never for
+    /// bytes that are `TooLarge` or `NotBencode`.
     pub fn open(alloc: Global, input: &'a [u8]) -> Result<Torrent<'a>, Refusal>
         ensures described { IfOk result (λ t. Describes input.now t) }
         ensures refused { IfErr result (λ r. r ≢ Refusal.NoMemory → RefusesTorrent input.now r) }
@@ -62,9 +63,9 @@ impl<'a> Torrent<'a> {
         // Bytes that are refused are refused with that answer.
         ensures first { (r : Refusal) → RefusesTorrent input.now r
             → MatchResult result (λ _. ⊥) (λ s. s ≢ Refusal.NoMemory → s ≡ r) }
-        // Out of memory is possible only for bytes within the limit, and then only where decoding
-        // comes to a list or dictionary with an item, or where no test of the keys, of the shape
-        // and of the paths holds.
+        // Out of memory is possible only for bytes within the limit that spell a value, and then
+        // only where decoding comes to a list or dictionary with an item, or where no test of the
+        // keys, of the shape and of the paths holds.
         ensures memory { IfErr result (λ r. r ≡ Refusal.NoMemory → OpeningTakesMemory input.now) }
     {
         torrent_is_one();

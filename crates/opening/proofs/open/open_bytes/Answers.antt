@@ -17,10 +17,10 @@ returns-in-Err-clause-refused c = λ memory. inr (
 )
 
 pub returns-in-Err-clause-memory : goal.returns-in-Err-clause-memory
-returns-in-Err-clause-memory c = λ memory. record {
-  small = omega arith;
-  where_taken = inl (c.in-Err.fault.offset, c.in-Err.ensures.memory (c.refusal_of.ensures.memory_only memory));
-}
+returns-in-Err-clause-memory c = λ memory.
+    let none = c.refusal_of.ensures.memory_only memory in
+    let found = c.in-Err.ensures.spelled none in
+    record { small = omega arith; value = found.0; spells = found.1; where_taken = inl (c.in-Err.fault.offset, c.in-Err.ensures.memory none) }
 
 pub returns-clause-memory : goal.returns-clause-memory
 returns-clause-memory c = wants_memory c.args.input.now (view c.in-Ok.decoded.0) (omega arith) c.in-Ok.ensures.found c.read.result c.read.ensures.memory
