@@ -21,7 +21,7 @@ use Rattle.node_maps.specs.Digest.{Hash}
 use Rattle.node_maps.proofs.Places.{two_halves}
 use Rattle.partial_tree.proofs.Keeping.{good_filled}
 use Rattle.partial_tree.proofs.Ranges.{pow_more}
-use Rattle.partial_tree.proofs.Given.{there_or_not, first_of_two, second_of_two}
+use Rattle.partial_tree.proofs.ClaimValues.{there_or_not, first_of_two, second_of_two}
 use Rattle.partial_tree.proofs.FromLeaves.{all-claimed, all_given, length-leaves}
 
 -- ---- the marks

@@ -17,7 +17,7 @@ use Rattle.partial_tree.specs.Claims.{span, cover, above, sibling, base_hash, un
 use Rattle.partial_tree.specs.Claims.{answer_uncles, answer_of, CanAnswer}
 use Rattle.partial_tree.proofs.Powers.{exponent_le, div_small, spans-some}
 use Rattle.partial_tree.proofs.Agree.{left_or_right}
-use Rattle.partial_tree.proofs.Given.{either, base-read, uncle-read}
+use Rattle.partial_tree.proofs.ClaimValues.{either, base-read, uncle-read}
 use Rattle.partial_tree.proofs.Stored.{stored_or_collision}
 
 -- what a known place has is what is told of it

@@ -13,7 +13,7 @@ use Rattle.partial_tree.specs.Claims.{span, cover, above, uncles, base_hash, unc
 use Rattle.partial_tree.specs.Claims.{IsMismatch, IsAgreed, IsAccepted, Fault, Refuses}
 use Rattle.partial_tree.specs.Names.{hash_refusal_number}
 use Rattle.chains.proofs.Cases.{same_or_not}
-use Rattle.partial_tree.proofs.Given.{either, there_or_not, base-read, uncle-read}
+use Rattle.partial_tree.proofs.ClaimValues.{either, there_or_not, base-read, uncle-read}
 use Rattle.partial_tree.proofs.Stored.{each_below}
 
 range_or_not : (h : ℕ) (ask : Ask) → GoodRange h ask ⊎ (¬ GoodRange h ask)

@@ -25,7 +25,7 @@ use Rattle.partial_tree.specs.TreeRoot.{TreeRoot}
 use Rattle.partial_tree.specs.Claims.{AreHashes, claims, given, base_hash, uncle_hash, cover, join_both}
 use Rattle.partial_tree.specs.Fill.{fill_ask, fill_hashes, fill_claims, pad_from}
 use Rattle.partial_tree.specs.Grown.{AddsRow, IsGrowing, leaves_in, parents_of}
-use Rattle.partial_tree.proofs.Given.{either, there_or_not, first_of_two, second_of_two, base-read, uncle-read, claims-given}
+use Rattle.partial_tree.proofs.ClaimValues.{either, there_or_not, first_of_two, second_of_two, base-read, uncle-read, claims-given}
 use Rattle.partial_tree.proofs.Layers.{layer-leads}
 use Rattle.partial_tree.proofs.WholeLayers.{full}
 

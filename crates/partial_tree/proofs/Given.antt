@@ -1,94 +1,41 @@
--- What a hashes message gives.
-use Rattle.std.proofs.Common.{◌≡◌, ◌≢◌, ◌⊎◌, ℕ, zero, suc, ◌+◌, ◌-◌, ◌*◌, ◌/◌, ◌<◌, ◌≤◌, Bool, true, false, cond, eqb, leb, ltb, ◌&&◌, List, length}
-use Rattle.std.proofs.Common.{Option, Some, None, inl, inr, refl, sym, ap, ap₂, ◌∙◌, arith}
+-- What evidence gives, place by place.
+use Rattle.std.proofs.Common.{◌≡◌, ℕ, ◌+◌, ◌-◌, ◌/◌, ◌^◌, ◌<◌, ◌≤◌, leb, [], length, get_or, replicate, Some, None, sym, ap, ◌∙◌, subst, arith}
 use Rattle.std.specs.Prelude.{slice_get}
-use Rattle.std.specs.Option.{option_or}
-use Rattle.std.proofs.lemmas.Option.{same_Some, none-some}
-use Rattle.std.proofs.lemmas.Bool.{and_parts, eqb-true, leb-true, ltb-true}
-use Rattle.wire.specs.declared.message.Ask.{Ask}
-use Rattle.node_maps.specs.Digest.{Hash, join}
-use Rattle.partial_tree.specs.Claims.{cover, above, sibling, base_hash, uncle_hash, given, join_both, claims}
+use Rattle.std.proofs.lemmas.Bool.{and_from, and_left, eq-eqb, le-leb, lt-leb, cond-true, cond-false}
+use Rattle.std.proofs.lemmas.Option.{slice_get_past, slice_get-get_or}
+use Rattle.std.proofs.lemmas.List.{length-append, length-replicate, get_or_append_left}
+use Rattle.partial_tree.specs.declared.evidence.Evidence.{Evidence}
+use Rattle.partial_tree.specs.Claims.{span, cover, above, sibling, uncle_hash}
+use Rattle.partial_tree.specs.Evidence.{range_of, hashes_of}
+use Rattle.partial_tree.proofs.Powers.{height_pow}
 
--- ---- optional values
+module _ (e : Evidence) where
+  pub span_is : span (range_of e) ≡ e.span
+  span_is = height_pow e.span
 
--- a value behind a test
-pub guarded : (t : Bool) (o : Option Hash) (v : Hash) → cond t o None ≡ Some v → (t ≡ true) × (o ≡ Some v)
-guarded true o v e = (refl, e)
-guarded false o v e = absurd (none-some v e)
+  pub cover_is : cover (range_of e) ≡ e.base + e.span
+  cover_is = ap (λ k. e.base + k) span_is
 
-pub either : (o p : Option Hash) (v : Hash) → option_or o p ≡ Some v → (o ≡ Some v) ⊎ ((o ≡ None) × (p ≡ Some v))
-either None p v e = inr (refl, e)
-either (Some x) p v e = inl e
+  -- how many hashes there are, pads counted
+  pub hashes-length : length (hashes_of e) ≡ length e.hashes.now + (2 ^ e.span - length e.hashes.now)
+  hashes-length = length-append e.hashes.now (replicate (2 ^ e.span - length e.hashes.now) e.pad)
+      ∙ ap (λ k. length e.hashes.now + k) (length-replicate (2 ^ e.span - length e.hashes.now) e.pad)
 
-pub first_of_two : (o p : Option Hash) (v : Hash) → o ≡ Some v → option_or o p ≡ Some v
-first_of_two o p v e = ap (λ x. option_or x p) e
+  -- a hash that is there
+  pub hash_there : (k : ℕ) → k < length e.hashes.now → slice_get (hashes_of e) k ≡ Some (get_or e.hashes.now k [])
+  hash_there k in' =
+      slice_get-get_or (hashes_of e) k [] (omega (arith, hashes-length))
+      ∙ ap Some (get_or_append_left e.hashes.now (replicate (2 ^ e.span - length e.hashes.now) e.pad) [] k in')
 
-pub second_of_two : (o p : Option Hash) → o ≡ None → option_or o p ≡ p
-second_of_two o p e = ap (λ x. option_or x p) e
+  -- and nothing past both
+  pub hash_past : (k : ℕ) → length e.hashes.now ≤ k → 2 ^ e.span ≤ k → slice_get (hashes_of e) k ≡ None
+  hash_past k past beyond = slice_get_past (hashes_of e) k (omega (arith, hashes-length))
 
--- something or nothing
-pub there_or_not : (o : Option Hash) → ((v : Hash) × (o ≡ Some v)) ⊎ (o ≡ None)
-there_or_not None = inr refl
-there_or_not (Some x) = inl (x, refl)
+  pub uncle-low : (l i : ℕ) → l < e.base + e.span → uncle_hash (range_of e) (hashes_of e) l i ≡ None
+  uncle-low l i low = cond-false _ _ _ (and_left (leb (cover (range_of e)) l) _ (lt-leb (cover (range_of e)) l (subst (λ k. l < k) (sym cover_is) low)))
 
-pub parts_of_join : (o p : Option Hash) (v : Hash) → join_both o p ≡ Some v → (a b : Hash) × (o ≡ Some a) × (p ≡ Some b) × (v ≡ join a b)
-parts_of_join None p v e = absurd (none-some v e)
-parts_of_join (Some a) None v e = absurd (none-some v e)
-parts_of_join (Some a) (Some b) v e = (a, b, refl, refl, sym (same_Some _ _ e))
-
--- ---- what is given, and what is claimed
-
-module _ (ask : Ask) (hashes : List Hash) where
-  pub base-read : (l i : ℕ) (v : Hash) → base_hash ask hashes l i ≡ Some v
-      → (l ≡ ask.base) × (ask.index ≤ i) × (i < ask.index + ask.length) × (slice_get hashes (i - ask.index) ≡ Some v)
-  base-read l i v e =
-      let both = guarded (eqb l ask.base && (leb ask.index i && ltb i (ask.index + ask.length))) (slice_get hashes (i - ask.index)) v e in
-      let one = and_parts (eqb l ask.base) (leb ask.index i && ltb i (ask.index + ask.length)) both.0 in
-      let two = and_parts (leb ask.index i) (ltb i (ask.index + ask.length)) one.1 in
-      (eqb-true _ _ one.0, leb-true _ _ two.0, ltb-true _ _ two.1, both.1)
-
-  pub uncle-read : (l i : ℕ) (v : Hash) → uncle_hash ask hashes l i ≡ Some v
-      → (cover ask ≤ l) × (i ≡ sibling (above ask l)) × (slice_get hashes (ask.length + (l - cover ask)) ≡ Some v)
-  uncle-read l i v e =
-      let both = guarded (leb (cover ask) l && eqb i (sibling (above ask l))) (slice_get hashes (ask.length + (l - cover ask))) v e in
-      let one = and_parts (leb (cover ask) l) (eqb i (sibling (above ask l))) both.0 in
-      (leb-true _ _ one.0, eqb-true _ _ one.1, both.1)
-
-  -- a claim is given, or is the join of two claimed children
-  pub claims-read : (l i : ℕ) (v : Hash) → claims ask hashes (suc l) i ≡ Some v
-      → (given ask hashes (suc l) i ≡ Some v)
-      ⊎ ((given ask hashes (suc l) i ≡ None) × ((a b : Hash) × (claims ask hashes l (2 * i) ≡ Some a) × (claims ask hashes l (2 * i + 1) ≡ Some b)
-      × (v ≡ join a b)))
-  unfolding claims
-  claims-read l i v e = elim (either (given ask hashes (suc l) i) (join_both (claims ask hashes l (2 * i)) (claims ask hashes l (2 * i + 1))) v e) [
-    | inl g ↦ inl g
-    | inr g ↦ inr (g.0, parts_of_join (claims ask hashes l (2 * i)) (claims ask hashes l (2 * i + 1)) v g.1)
-  ]
-
-  pub claims-zero : (i : ℕ) → claims ask hashes zero i ≡ given ask hashes zero i
-  unfolding claims
-  claims-zero i = refl
-
-  pub claims-given : (l i : ℕ) (v : Hash) → given ask hashes l i ≡ Some v → claims ask hashes l i ≡ Some v
-  unfolding claims
-  claims-given zero i v e = e
-  claims-given (suc l) i v e = first_of_two (given ask hashes (suc l) i) _ v e
-
-  pub claims-joined : (l i : ℕ) (a b : Hash) → given ask hashes (suc l) i ≡ None → claims ask hashes l (2 * i) ≡ Some a
-      → claims ask hashes l (2 * i + 1) ≡ Some b
-      → claims ask hashes (suc l) i ≡ Some (join a b)
-  unfolding claims
-  claims-joined l i a b none p q =
-      second_of_two (given ask hashes (suc l) i) _ none ∙ ap₂ join_both p q
-
--- ---- siblings
-
-pub sibling-apart : (i : ℕ) → i ≢ sibling i
-sibling-apart i e = omega arith
-
-pub sibling-half : (i : ℕ) → sibling i / 2 ≡ i / 2
-sibling-half i = omega arith
-
--- the two children of a parent are a node and its sibling, in one order or the other
-pub pair_of : (s i : ℕ) → i / 2 ≡ s / 2 → (i ≡ s) ⊎ (i ≡ sibling s)
-pair_of s i e = grind arith
+  pub uncle-here : (l i : ℕ) → e.base + e.span ≤ l → i ≡ sibling (e.index / 2 ^ (l - e.base))
+      → uncle_hash (range_of e) (hashes_of e) l i ≡ slice_get (hashes_of e) (2 ^ e.span + (l - (e.base + e.span)))
+  uncle-here l i high same =
+      cond-true _ _ _ (and_from _ _ (le-leb (cover (range_of e)) l (subst (λ k. k ≤ l) (sym cover_is) high)) (eq-eqb i (sibling (above (range_of e) l)) same))
+      ∙ ap (λ k. slice_get (hashes_of e) (2 ^ e.span + (l - k))) cover_is

@@ -18,7 +18,7 @@ use Rattle.partial_tree.proofs.Digests.{is_hash}
 use Rattle.partial_tree.proofs.Powers.{spans-some}
 use Rattle.node_maps.proofs.Places.{place_child, two_halves}
 use Rattle.hashtree.proofs.Zeros.{zero_hash-suc}
-use Rattle.partial_tree.proofs.Given.{either, first_of_two, second_of_two, there_or_not, base-read, uncle-read, claims-read, claims-zero}
+use Rattle.partial_tree.proofs.ClaimValues.{either, first_of_two, second_of_two, there_or_not, base-read, uncle-read, claims-read, claims-zero}
 use Rattle.partial_tree.proofs.Claimed.{claimed-family}
 use Rattle.partial_tree.proofs.Claimed.{claimed-to_top, claimed-top}
 

@@ -19,7 +19,7 @@ use Rattle.node_maps.proofs.Known.{len-known}
 use Rattle.partial_tree.proofs.Powers.{div_small}
 use Rattle.partial_tree.proofs.Leading.{message-leads}
 use Rattle.partial_tree.proofs.WholeLayers.{at_root, claims-root, fill-closed, root-claimed}
-use Rattle.partial_tree.proofs.Given.{claims-given}
+use Rattle.partial_tree.proofs.ClaimValues.{claims-given}
 
 module _ (t : TreeRoot) (K : PartialTree) (l : ℕ) (given_hashes : Bor (List Hash)) (layer_inside : l ≤ tree_height t.length)
     (right_count : length given_hashes.now ≡ pad_from t.length l) where

@@ -10,7 +10,7 @@ use Rattle.partial_tree.specs.Closed.{IsFamily}
 use Rattle.partial_tree.specs.Claims.{span, given, claims, join_both, top_layer, top_index}
 use Rattle.partial_tree.specs.Evidence.{range_of, hashes_of, given_by, claimed_by, LeadsTo}
 use Rattle.partial_tree.proofs.Given.{span_is, cover_is, hashes-length}
-use Rattle.partial_tree.proofs.Given.{claims-given}
+use Rattle.partial_tree.proofs.ClaimValues.{claims-given}
 use Rattle.partial_tree.proofs.Claimed.{claimed-at, claimed-family, claimed-to_top, claimed-top, claimed-value, parent-of, parent-not_given}
 use Rattle.partial_tree.proofs.Claimed.{on_path}
 

@@ -3,7 +3,7 @@ pub mod Powers
 pub mod Trees
 pub mod Whole
 pub mod Agree
-pub mod Given
+pub mod ClaimValues
 pub mod Claimed
 pub mod Joining
 pub mod Stored

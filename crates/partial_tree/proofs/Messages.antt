@@ -29,7 +29,7 @@ use Rattle.node_maps.proofs.Known.{len-known}
 use Rattle.partial_tree.proofs.Joining.{joined-closed}
 use Rattle.partial_tree.proofs.Leading.{claims-same, message-leads}
 use Rattle.partial_tree.proofs.Deciding.{pads_or_not, first_mismatch}
-use Rattle.partial_tree.proofs.Given.{either, first_of_two, second_of_two, base-read, uncle-read}
+use Rattle.partial_tree.proofs.ClaimValues.{either, first_of_two, second_of_two, base-read, uncle-read}
 
 -- what the tests of pads compare, from places and numbers that a body computes
 abbrev pub PadsFrom : ℕ → ℕ → ℕ → List Hash → Type 0

@@ -15,7 +15,7 @@ use Rattle.node_maps.specs.Known.{Known, look}
 use Rattle.partial_tree.specs.Joins.{insert_absent, with_new, insert_new}
 use Rattle.partial_tree.specs.Evidence.{HasClaim, IsNoted, Grows}
 use Rattle.node_maps.proofs.Known.{look-insert_same, look-insert_other, place_total}
-use Rattle.partial_tree.proofs.Given.{there_or_not, first_of_two, second_of_two}
+use Rattle.partial_tree.proofs.ClaimValues.{there_or_not, first_of_two, second_of_two}
 
 pub has_claim-push : (cs : List Claim) (c : Claim) (l i : ℕ) (v : Hash) → HasClaim cs l i v → HasClaim (cs ++ c ∷ []) l i v
 has_claim-push [] c l i v h = absurd h

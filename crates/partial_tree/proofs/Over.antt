@@ -13,7 +13,7 @@ use Rattle.node_maps.specs.Places.{tree_height, IsTreePlace}
 use Rattle.partial_tree.specs.Claims.{cover, given, base_hash, uncle_hash}
 use Rattle.partial_tree.specs.Fill.{fill_ask, fill_hashes, fill_claims, pad_from}
 use Rattle.node_maps.proofs.Places.{place_left, place_right, place_parent}
-use Rattle.partial_tree.proofs.Given.{either, there_or_not, first_of_two, base-read, uncle-read, claims-read, claims-zero, claims-given, claims-joined}
+use Rattle.partial_tree.proofs.ClaimValues.{either, there_or_not, first_of_two, base-read, uncle-read, claims-read, claims-zero, claims-given, claims-joined}
 use Rattle.partial_tree.proofs.WholeLayers.{full}
 
 module _ (t : TreeRoot) (l : ℕ) (hashes : List Hash) (layer_inside : l ≤ tree_height t.length) (right_count : length hashes ≡ pad_from t.length l) where

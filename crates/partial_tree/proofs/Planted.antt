@@ -15,7 +15,7 @@ use Rattle.partial_tree.specs.Closed.{IsClosed}
 use Rattle.partial_tree.specs.Claims.{HasNew, IsAgreed, joined}
 use Rattle.partial_tree.specs.Fill.{fill_ask, fill_hashes, fill_claims, pad_from}
 use Rattle.partial_tree.specs.Joins.{Joins}
-use Rattle.partial_tree.proofs.Given.{there_or_not, first_of_two, second_of_two, claims-given}
+use Rattle.partial_tree.proofs.ClaimValues.{there_or_not, first_of_two, second_of_two, claims-given}
 use Rattle.partial_tree.proofs.WholeLayers.{full}
 use Rattle.partial_tree.proofs.Layers.{layer_evidence, layer-leads}
 use Rattle.partial_tree.proofs.Rows.{claim-in_row}

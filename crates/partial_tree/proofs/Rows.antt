@@ -9,7 +9,7 @@ use Rattle.node_maps.specs.Places.{IsTreePlace, IsKnown}
 use Rattle.partial_tree.specs.Claims.{base_hash, uncle_hash}
 use Rattle.partial_tree.specs.Evidence.{range_of, hashes_of, given_by, claimed_by, row_height, row_first, IsOver}
 use Rattle.partial_tree.proofs.Given.{cover_is}
-use Rattle.partial_tree.proofs.Given.{either, base-read, uncle-read, claims-read, claims-zero, sibling-half}
+use Rattle.partial_tree.proofs.ClaimValues.{either, base-read, uncle-read, claims-read, claims-zero, sibling-half}
 
 -- the node over the base range on a layer
 abbrev pub node_at : Evidence → ℕ → ℕ

@@ -10,7 +10,7 @@ use Rattle.node_maps.specs.Digest.{Hash, join}
 use Rattle.partial_tree.specs.Closed.{IsFamily, IsClosed, Collision}
 use Rattle.partial_tree.specs.Claims.{claims, top_layer, top_index, GoodRange, GoodCount, IsAccepted, IsAgreed, IsToldBy}
 use Rattle.partial_tree.proofs.Agree.{agree_or_collision}
-use Rattle.partial_tree.proofs.Given.{there_or_not, claims-read, claims-zero}
+use Rattle.partial_tree.proofs.ClaimValues.{there_or_not, claims-read, claims-zero}
 
 -- what holds of each number below n, or else a Q is found
 pub each_below : (Q : Type 0) (P : ℕ → Type 0) (n : ℕ) → ((k : ℕ) → k < n → P k ⊎ Q) → ((k : ℕ) → k < n → P k) ⊎ Q

@@ -18,7 +18,7 @@ use Rattle.partial_tree.specs.Evidence.{BelowHandled, LeadsTo, AreClaims, HasCla
 use Rattle.partial_tree.proofs.Noting.{insert_new-joined}
 use Rattle.partial_tree.proofs.Agree.{left_or_right}
 use Rattle.node_maps.proofs.Places.{place_left, place_right}
-use Rattle.partial_tree.proofs.Given.{claims-read, claims-zero, claims-given, claims-joined}
+use Rattle.partial_tree.proofs.ClaimValues.{claims-read, claims-zero, claims-given, claims-joined}
 
 -- what a claim that is not given rests on
 pub record Opened (e : Evidence) (l i : ℕ) : Type 0 where

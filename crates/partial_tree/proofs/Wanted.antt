@@ -15,7 +15,7 @@ use Rattle.partial_tree.specs.Gaps.{window, is_missing, is_gap, gaps, want_ask}
 use Rattle.hashtree.proofs.Heights.{height_enough, pow_split}
 use Rattle.partial_tree.proofs.Powers.{height_pow, spans-some}
 use Rattle.partial_tree.proofs.Whole.{whole-at, whole-closed}
-use Rattle.partial_tree.proofs.Given.{first_of_two, second_of_two, there_or_not}
+use Rattle.partial_tree.proofs.ClaimValues.{first_of_two, second_of_two, there_or_not}
 use Rattle.partial_tree.proofs.Claimed.{claimed-base, base-claims}
 use Rattle.partial_tree.proofs.Answers.{answer-stored}
 use Rattle.partial_tree.proofs.Gaps.{count-le, count-lt, count-one, count-none, count-zero, count-upto, some-from, some-where, some-none, some-same}

@@ -20,7 +20,7 @@ use Rattle.partial_tree.proofs.Powers.{height_pow, div_small}
 use Rattle.hashtree.proofs.Zeros.{zero_hash-zero, zero_hash-suc}
 use Rattle.partial_tree.proofs.Digests.{is_hash}
 use Rattle.partial_tree.proofs.Whole.{pad-is_hash}
-use Rattle.partial_tree.proofs.Given.{either, there_or_not, first_of_two, second_of_two, base-read, uncle-read, claims-read, claims-zero, claims-given}
+use Rattle.partial_tree.proofs.ClaimValues.{either, there_or_not, first_of_two, second_of_two, base-read, uncle-read, claims-read, claims-zero, claims-given}
 use Rattle.partial_tree.proofs.Joining.{joined-closed_by_parts}
 
 pub zero_hash-is_hash : (m : ℕ) → IsHash (zero_hash m)

@@ -12,7 +12,7 @@ use Rattle.partial_tree.specs.declared.found.Claim.{Claim}
 use Rattle.partial_tree.specs.Claims.{joined, IsAgreed}
 use Rattle.partial_tree.specs.Joins.{with_new, Joins}
 use Rattle.partial_tree.specs.Evidence.{claimed_by, LiesUnder, LiesBelow, IsWritten, IsWrittenBelow, LeadsTo}
-use Rattle.partial_tree.proofs.Given.{there_or_not, first_of_two, second_of_two}
+use Rattle.partial_tree.proofs.ClaimValues.{there_or_not, first_of_two, second_of_two}
 use Rattle.partial_tree.proofs.Noting.{here_or_not, new-here, new-keeps, absent-other}
 use Rattle.partial_tree.proofs.Tracing.{under_child}
 

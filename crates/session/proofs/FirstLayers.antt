@@ -19,7 +19,7 @@ use Rattle.node_maps.specs.Known.{look}
 use Rattle.partial_tree.specs.Kept.{KeptTree, info_of, TreeJoins}
 use Rattle.session.specs.Layouts.{root_of_entry}
 use Rattle.session.specs.Fresh.{KnowsRoot, KnowsFrom, IsPlanted}
-use Rattle.partial_tree.proofs.Given.{either, there_or_not, first_of_two, second_of_two}
+use Rattle.partial_tree.proofs.ClaimValues.{either, there_or_not, first_of_two, second_of_two}
 use Rattle.partial_tree.proofs.Keeping.{good_filled}
 use Rattle.partial_tree.proofs.Over.{claims-node, claims-no_more, claims-root_over}
 

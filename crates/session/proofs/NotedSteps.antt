@@ -17,7 +17,7 @@ use Rattle.node_maps.specs.Digest.{Hash}
 use Rattle.node_maps.specs.Places.{tree_height, PartialTree}
 use Rattle.node_maps.specs.Known.{look}
 use Rattle.partial_tree.specs.TreeRoot.{TreeRoot}
-use Rattle.partial_tree.proofs.Given.{first_of_two, second_of_two, there_or_not}
+use Rattle.partial_tree.proofs.ClaimValues.{first_of_two, second_of_two, there_or_not}
 use Rattle.partial_tree.proofs.Claimed.{base-claims}
 use Rattle.partial_tree.proofs.Powers.{spans-some}
 use Rattle.chains.specs.Chain.{Chain}

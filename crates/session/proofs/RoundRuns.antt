@@ -25,7 +25,7 @@ use Rattle.session.specs.Session.{SessionSeen, HasClosedTrees, HasDistinctRoots,
 use Rattle.chains.specs.Chain.{Chain}
 use Rattle.chains.proofs.Chains.{LastStep, last_step}
 use Rattle.session.specs.Rounds.{HasNoMoreGaps, RoundLeavesFewer}
-use Rattle.partial_tree.proofs.Given.{there_or_not}
+use Rattle.partial_tree.proofs.ClaimValues.{there_or_not}
 use Rattle.partial_tree.proofs.Whole.{whole-closed}
 use Rattle.partial_tree.proofs.Answers.{answer-reaches, answer-root}
 use Rattle.partial_tree.proofs.Wanted.{want-range, whole-can_answer, gaps-fall, gaps-none, gaps-all_known}
