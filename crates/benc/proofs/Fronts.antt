@@ -1,16 +1,17 @@
 -- A prefix of an input that spells a value.
-use Rattle.std.proofs.Common.{◌≡◌, ℕ, ◌≤◌, List, [], ◌++◌, length, take, drop, sym, ap, ◌∙◌, subst, inl, arith}
+use Rattle.std.proofs.Common.{◌≡◌, ℕ, ◌≤◌, List, [], ◌++◌, length, take, drop, sym, ap, ◌∙◌, subst, arith}
 use Rattle.std.proofs.lemmas.List.{append-nil, take_all, take-append-drop, length-take}
-use Rattle.benc.specs.Fails.{Fails, Stops}
+use Rattle.benc.specs.Fails.{Stops}
 use Rattle.benc.specs.Parser.{value_at}
 use Rattle.benc.specs.Spelling.{Spells}
 use Rattle.benc.specs.Value.{Bencode}
 use Rattle.benc.specs.declared.fault.FaultKind.{FaultKind}
 use Rattle.benc.proofs.Again.{one_reading, value_again}
-use Rattle.benc.proofs.Unique.{no_fault, read_has_no_fault}
+use Rattle.benc.proofs.Unique.{read_has_no_fault}
 
 -- no item in it fails
-pub front_never_stops : (input front rest : List ℕ) (v : Bencode) (kind : FaultKind) (offset : ℕ) → input ≡ front ++ rest → Spells v front → Stops input kind offset → ⊥
+pub front_never_stops : (input front rest : List ℕ) (v : Bencode) (kind : FaultKind) (offset : ℕ) → input ≡ front ++ rest → Spells v front
+    → Stops input kind offset → ⊥
 front_never_stops input front rest v kind offset e s stops =
     read_has_no_fault input (v, rest) kind offset (ap (value_at 128) e ∙ value_again v 128 front rest s) stops
 

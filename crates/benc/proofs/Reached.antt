@@ -2,7 +2,7 @@
 use Rattle.std.proofs.Common.{◌≡◌, ℕ, suc, ◌-◌, ◌<◌, ◌≤◌, ◌^◌, List, [], ◌∷◌, ◌++◌, length, Option, Some, None, inl, inr, refl, sym, ap, ◌∙◌, subst}
 use Rattle.std.proofs.Common.{append_assoc, arith}
 use Rattle.std.proofs.lemmas.List.{append-nil, length-append}
-use Rattle.benc.specs.Value.{Bencode, no_pairs, pair}
+use Rattle.benc.specs.Value.{Bencode}
 use Rattle.benc.specs.Spelling.{string, IsAbove, Spelled, SpelledItems, SpelledPairs}
 use Rattle.benc.specs.Fails.{a_value, a_value_or_end, Level, in_list, at_value, last_key, Begun, StartsGrowing, Reaches}
 use Rattle.benc.specs.Parser.{GrowsForItem, GrowsForPair, HasItem, HasPair, ReachesItem, ReachesPair}

@@ -1,5 +1,5 @@
 -- What a store refused, in one step after another.
-use Rattle.std.proofs.Common.{◌≡◌, ℕ, List, [], ◌∷◌, ◌++◌, map, Some, inl, inr, sym, ap, ap₂, ◌∙◌, refl, subst}
+use Rattle.std.proofs.Common.{◌≡◌, ℕ, List, [], ◌∷◌, ◌++◌, map, inl, inr, sym, ap, ap₂, ◌∙◌, refl, subst}
 use Rattle.std.specs.Prelude.{IfSome}
 use Rattle.std.specs.Option.{option_copied}
 use Rattle.benc.specs.Storing.{Keeps, Refused}
@@ -20,7 +20,8 @@ refused_then a b c P Q (inr (kept, (start, is, fact))) (inl still) f = inr (kept
 refused_then a b c P Q (inr (kept, (start, is, fact))) (inr later) f = absurd cc
 
 -- what was kept, where one comes at the end
-pub kept_push : {A B : Type 0} (f : A → B) (xs ys : List A) (x : A) (vs : List B) (v : B) → vs ≡ map f xs → v ≡ f x → ys ≡ xs ++ x ∷ [] → vs ++ v ∷ [] ≡ map f ys
+pub kept_push : {A B : Type 0} (f : A → B) (xs ys : List A) (x : A) (vs : List B) (v : B) → vs ≡ map f xs → v ≡ f x → ys ≡ xs ++ x ∷ []
+    → vs ++ v ∷ [] ≡ map f ys
 kept_push {A} {B} f xs ys x vs v e d p = ap₂ (λ us u. us ++ u ∷ []) e d ∙ map_push xs ∙ ap (map f) (sym p)
   where
     map_push : (zs : List A) → map f zs ++ f x ∷ [] ≡ map f (zs ++ x ∷ [])

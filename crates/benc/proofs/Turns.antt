@@ -1,5 +1,5 @@
 -- The turns of the loops that read items and pairs.
-use Rattle.std.proofs.Common.{◌≡◌, ◌≢◌, ℕ, zero, suc, ◌-◌, ◌≤◌, false, eqb, List, [], ◌∷◌, ◌++◌, length, Option, Some, Ok, Err, refl, sym, ap, ◌∙◌, inl, inr}
+use Rattle.std.proofs.Common.{◌≡◌, ◌≢◌, ℕ, zero, suc, ◌-◌, ◌≤◌, false, eqb, List, [], ◌∷◌, ◌++◌, length, Option, Some, Ok, Err, refl, ap, inl, inr}
 use Rattle.std.proofs.Common.{arith}
 use Rattle.std.proofs.lemmas.Bool.Decides.{eqb_tells}
 use Rattle.benc.specs.Value.{Bencode, Items, no_items, item, Pairs, no_pairs, pair}
@@ -62,7 +62,8 @@ items_more p (suc n) c rest after vs v le ne read =
     let less : suc n - 1 ≡ n = omega arith in
     rw (is_other c 101 ne, read, less) (chain_items vs v (items_at p n after))
 
-pub items_fail : (p : List ℕ → Parsed Bencode) (n c : ℕ) (rest : List ℕ) (vs : List Bencode) (e : Failed) → length (c ∷ rest) ≤ n → c ≢ 101 → p (c ∷ rest) ≡ Err e
+pub items_fail : (p : List ℕ → Parsed Bencode) (n c : ℕ) (rest : List ℕ) (vs : List Bencode) (e : Failed) → length (c ∷ rest) ≤ n → c ≢ 101
+    → p (c ∷ rest) ≡ Err e
     → with_items vs (items_at p n (c ∷ rest)) ≡ Err e
 unfolding items_at
 items_fail p zero c rest vs e le ne read = absurd (omega arith)

@@ -1,10 +1,9 @@
-use Rattle.std.proofs.Common.{take, drop, sym}
+use Rattle.std.proofs.Common.{take, drop, inl, sym}
 use Rattle.std.proofs.lemmas.List.{take-append-drop}
 use Rattle.std.proofs.lemmas.Result.{err_from_is_err_and}
 use Rattle.benc.specs.View.{view}
 use Rattle.benc.proofs.Fronts.{front_never_stops, taken_is, taken_never_stops}
 use Rattle.benc.proofs.Unique.{one_fault}
-use Rattle.std.proofs.Common.{inl}
 use Rattle.benc.proofs.decoding.decode_front.Goals as goal
 
 pub returns-in_err-v-clause-only : goal.returns-in_err-v-clause-only

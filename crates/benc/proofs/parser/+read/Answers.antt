@@ -1,22 +1,24 @@
-use Rattle.std.proofs.Common.{◌≡◌, ℕ, List, Option, ◌-◌, ◌<◌, inl, length, map, take, [], ◌∷◌, ◌++◌, Some, None, Ok, Err, option_copied, refl, sym, ap, subst, ◌∙◌, arith, rules}
+use Rattle.std.proofs.Common.{◌≡◌, ℕ, List, Option, ◌-◌, ◌<◌, inl, length, map, take, [], ◌∷◌, ◌++◌, Some, None, Ok, option_copied, refl, sym, ap}
+use Rattle.std.proofs.Common.{◌∙◌, arith}
 use Rattle.std.specs.Prelude.{IfSome}
 use Rattle.std.specs.Option.{option_map}
 use Rattle.std.specs.Int.{w64}
 use Rattle.std.proofs.lemmas.Int.{to_z-of_z}
 use Rattle.std.proofs.lemmas.Result.{err_from_is_err_and}
 use Rattle.benc.specs.Value.{Bencode, int, text, list, dict}
-use Rattle.benc.specs.View.{Seen, view, pair_view, items_of, pairs_of, items_view, pairs_view}
-use Rattle.benc.specs.Items.{key_at}
+use Rattle.benc.specs.View.{view, pair_view, items_of, pairs_of}
 use Rattle.benc.specs.Lookup.{under}
 use Rattle.benc.specs.Text.{spelling}
 use Rattle.benc.specs.Parser.{◌>>=◌, GrowsForItem, GrowsForPair, begun_at, value_at, items_behind, pairs_behind}
 use Rattle.benc.specs.Fails.{Reaches}
 use Rattle.benc.proofs.Reached.{list_reaches, dict_reaches}
 use Rattle.benc.proofs.Lookups.{span_push}
-use Rattle.benc.proofs.SoFar.{value_of, same_value, left_mapped, value_bytes, items_begin, items_next, items_all, items_cut, items_failed, items_grow_here, items_reach}
+use Rattle.benc.proofs.SoFar.{value_of, same_value, left_mapped, value_bytes, items_begin, items_next, items_all, items_cut, items_failed, items_grow_here}
+use Rattle.benc.proofs.SoFar.{items_reach}
 use Rattle.benc.proofs.SoFar.{pairs_begin, pairs_next, pairs_all, pairs_cut, pairs_keyless, pairs_failed, pairs_grow_here, pairs_reach}
 use Rattle.benc.proofs.Stores.{keeps_before, refused_more, refused_then, kept_push}
-use Rattle.benc.proofs.Values.{value_none, value_integer, value_items, value_pairs, list_too_deep, dict_too_deep, value_text, value_other, view-Int, view-Bytes, view-List, view-Dict, view-Pair}
+use Rattle.benc.proofs.Values.{value_none, value_integer, value_items, value_pairs, list_too_deep, dict_too_deep, value_text, value_other, view-Int, view-Bytes}
+use Rattle.benc.proofs.Values.{view-List, view-Dict, view-Pair}
 use Rattle.benc.specs.declared.value.Pair.{Pair}
 use Rattle.benc.proofs.parser.+read.Goals as goal
 use Rattle.benc.proofs.parser.+read.Goals.{value-in_default-first-via-then-first-lt48, value-in_default-first-via-else-first-lt48+else-first-lt58}
@@ -90,7 +92,8 @@ value-returns-in_ok-found-in-108-clause-read t c =
     let rest = c.in-Some.rest.now in
     let room = c.args.room in
     let first : bytes ≡ 108 ∷ rest = c.in-Some.ensures ∙ ap (λ x. x ∷ rest) c.in-108.is in
-    left_mapped (items_behind (room - 1) rest) list (value_at room bytes) c.in_ok-found-in-108.after.now (value_items room bytes rest (omega arith) first) c.in_ok-found-in-108.ensures.read
+    left_mapped (items_behind (room - 1) rest) list (value_at room bytes) c.in_ok-found-in-108.after.now (value_items room bytes rest (omega arith) first)
+        c.in_ok-found-in-108.ensures.read
 
 pub value-returns-in_ok-found-in-108-clause-kept : goal.value-returns-in_ok-found-in-108-clause-kept
 value-returns-in_ok-found-in-108-clause-kept t c kept =
@@ -116,7 +119,8 @@ value-returns-in_ok-found-in-100-clause-read t c =
     let rest = c.in-Some.rest.now in
     let room = c.args.room in
     let first : bytes ≡ 100 ∷ rest = c.in-Some.ensures ∙ ap (λ x. x ∷ rest) c.in-100.is in
-    left_mapped (pairs_behind (room - 1) rest) dict (value_at room bytes) c.in_ok-found-in-100.after.now (value_pairs room bytes rest (omega arith) first) c.in_ok-found-in-100.ensures.read
+    left_mapped (pairs_behind (room - 1) rest) dict (value_at room bytes) c.in_ok-found-in-100.after.now (value_pairs room bytes rest (omega arith) first)
+        c.in_ok-found-in-100.ensures.read
 
 pub value-returns-in_ok-found-in-100-clause-kept : goal.value-returns-in_ok-found-in-100-clause-kept
 value-returns-in_ok-found-in-100-clause-kept t c kept =
@@ -153,7 +157,8 @@ value-returns-in_err-found-in-100-clause-read t c =
     rw (p.1, p.2) (value_pairs c.args.room bytes rest (omega arith) first ∙ ap (λ r. r >>= λ x. Ok (dict x.0, x.1)) c.in_err-found-in-100.ensures.read)
 
 pub items-items-init : goal.items-items-init
-items-items-init t c = record { read = ([], items_begin c.args.room c.args.bytes.now, λ kept. ap (map view) (sym c.new-found.ensures.items)); refused = inl refl }
+items-items-init t c = record { read = ([], items_begin c.args.room c.args.bytes.now, λ kept. ap (map view) (sym c.new-found.ensures.items)); refused =
+    inl refl }
 
 pub items-returns-in_default-clause-read : goal.items-returns-in_default-clause-read
 items-returns-in_default-clause-read t c =
@@ -162,7 +167,8 @@ items-returns-in_default-clause-read t c =
 pub items-returns-then-first-eq101-clause-read : goal.items-returns-then-first-eq101-clause-read
 items-returns-then-first-eq101-clause-read t c =
     let l = c.items in
-    ap (λ r. r >>= λ y. Ok y.1) (items_all c.args.room c.args.bytes.now l.rest.now c.in-Some.after.now l.invariant.read.0 c.in-Some.first l.invariant.read.1 c.in-Some.ensures (omega arith))
+    ap (λ r. r >>= λ y. Ok y.1) (items_all c.args.room c.args.bytes.now l.rest.now c.in-Some.after.now l.invariant.read.0 c.in-Some.first l.invariant.read.1
+        c.in-Some.ensures (omega arith))
 
 pub items-returns-then-first-eq101-clause-kept : goal.items-returns-then-first-eq101-clause-kept
 items-returns-then-first-eq101-clause-kept t c kept =
@@ -175,7 +181,8 @@ items-returns-in_err-item-clause-read t c =
     let l = c.items in
     let e = c.in_err-item.field-0.0 in
     let p = err_from_is_err_and c.from_residual.result c.from_residual.ensures.1 in
-    rw (p.1, p.2) (items_failed c.args.room c.args.bytes.now l.rest.now l.invariant.read.0 c.in-Some.first c.in-Some.after.now (e.kind, e.rest.now) l.invariant.read.1
+    rw (p.1, p.2) (items_failed c.args.room c.args.bytes.now l.rest.now l.invariant.read.0 c.in-Some.first c.in-Some.after.now (e.kind, e.rest.now)
+        l.invariant.read.1
     c.in-Some.ensures c.if-first-eq101.false c.in_err-item.ensures.read)
 
 pub items-items-preserved : goal.items-items-preserved
@@ -204,7 +211,8 @@ items-items-preserved t c =
             kept_push view l.found.items c.push.new.found.items c.in_ok-item.item vs v.0 (l.invariant.read.2 before) same (c.push.ensures.kept kept),
       );
       refused = refused_then c.args.store.now middle new Grows (λ s. s ≡ start)
-          (refused_then c.args.store.now l.store middle Grows (Reaches room here) l.invariant.refused given.memory (λ there r. items_reach room bytes here start there vs so r))
+          (refused_then c.args.store.now l.store middle Grows (Reaches room here) l.invariant.refused given.memory
+              (λ there r. items_reach room bytes here start there vs so r))
           c.push.ensures.refused (λ there same. items_grow_here room bytes here after start there vs v.0 so v.1 same);
     }
 
@@ -225,19 +233,22 @@ pairs-returns-in_default-clause-read t c =
 pub pairs-returns-then-first-eq101-clause-read : goal.pairs-returns-then-first-eq101-clause-read
 pairs-returns-then-first-eq101-clause-read t c =
     let l = c.pairs in
-    ap (λ r. r >>= λ y. Ok y.1) (pairs_all c.args.room c.args.bytes.now l.rest.now c.in-Some.after.now (option_copied l.before) l.invariant.read.0 c.in-Some.first l.invariant.read.1
+    ap (λ r. r >>= λ y. Ok y.1) (pairs_all c.args.room c.args.bytes.now l.rest.now c.in-Some.after.now (option_copied l.before) l.invariant.read.0
+        c.in-Some.first l.invariant.read.1
     c.in-Some.ensures (omega arith))
 
 pub pairs-returns-then-first-eq101-clause-kept : goal.pairs-returns-then-first-eq101-clause-kept
 pairs-returns-then-first-eq101-clause-kept t c kept =
     let l = c.pairs in
-    pairs_all c.args.room c.args.bytes.now l.rest.now c.in-Some.after.now (option_copied l.before) l.invariant.read.0 c.in-Some.first l.invariant.read.1 c.in-Some.ensures (omega arith)
+    pairs_all c.args.room c.args.bytes.now l.rest.now c.in-Some.after.now (option_copied l.before) l.invariant.read.0 c.in-Some.first l.invariant.read.1
+        c.in-Some.ensures (omega arith)
     ∙ ap (λ ps. Ok (pairs_of ps, c.in-Some.after.now)) (l.invariant.read.2 kept)
 
 pub pairs-returns-in-Err-clause-read : goal.pairs-returns-in-Err-clause-read
 pairs-returns-in-Err-clause-read t c =
     let l = c.pairs in
-    pairs_keyless c.args.room c.args.bytes.now l.rest.now (option_copied l.before) l.invariant.read.0 c.in-Some.first c.in-Some.after.now c.in-Err.kind l.invariant.read.1 c.in-Some.ensures
+    pairs_keyless c.args.room c.args.bytes.now l.rest.now (option_copied l.before) l.invariant.read.0 c.in-Some.first c.in-Some.after.now c.in-Err.kind
+        l.invariant.read.1 c.in-Some.ensures
     c.if-first-eq101.false c.in-Err.ensures.read
 
 pub pairs-returns-in_err-item-clause-read : goal.pairs-returns-in_err-item-clause-read
@@ -246,7 +257,8 @@ pairs-returns-in_err-item-clause-read t c =
     let k = c.in-Ok.x in
     let e = c.in_err-item.field-0.0 in
     let p = err_from_is_err_and c.from_residual.result c.from_residual.ensures.1 in
-    rw (p.1, p.2) (pairs_failed c.args.room c.args.bytes.now l.rest.now k.1.now (option_copied l.before) l.invariant.read.0 c.in-Some.first c.in-Some.after.now k.0.now (e.kind, e.rest.now)
+    rw (p.1, p.2) (pairs_failed c.args.room c.args.bytes.now l.rest.now k.1.now (option_copied l.before) l.invariant.read.0 c.in-Some.first c.in-Some.after.now
+        k.0.now (e.kind, e.rest.now)
     l.invariant.read.1 c.in-Some.ensures c.if-first-eq101.false c.in-Ok.ensures.read c.in_err-item.ensures.read)
 
 pub pairs-pairs-preserved : goal.pairs-pairs-preserved
@@ -272,7 +284,8 @@ pairs-pairs-preserved t c =
     record {
       read = (
         ps ++ (k, v.0) ∷ [],
-        pairs_next room bytes here behind after last ps c.in-Some.first c.in-Some.after.now k v.0 so c.in-Some.ensures c.if-first-eq101.false key c.in-Ok.ensures.shorter v.1 given.shorter,
+        pairs_next room bytes here behind after last ps c.in-Some.first c.in-Some.after.now k v.0 so c.in-Some.ensures c.if-first-eq101.false key
+            c.in-Ok.ensures.shorter v.1 given.shorter,
         λ kept.
             let still = keeps_before middle new (λ s. s ≡ start) c.push.ensures.refused kept in
             let before = keeps_before l.store middle (Reaches room behind) given.memory still in
