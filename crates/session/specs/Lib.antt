@@ -11,6 +11,7 @@ pub mod Rounds
 pub mod NotedRounds
 pub mod Layouts
 pub mod Codes
+pub mod Pausing
 pub mod Fresh
 pub mod Laws
 pub mod RoundLaws
