@@ -28,7 +28,7 @@ returns-in-Ok-clause-memory c = refused_from c.args.store.now c.value.new.store 
 pub overflow_sub-result-in-Err : goal.overflow_sub-result-in-Err
 overflow_sub-result-in-Err c =
     let e : Failed = (c.in-Err.stop.kind, c.in-Err.stop.rest.now) in
-        stopped_within 128 c.args.input.now e (value_stops 128 c.args.input.now e c.in-Err.ensures.read)
+    stopped_within 128 c.args.input.now e (value_stops 128 c.args.input.now e c.in-Err.ensures.read)
 
 pub returns-in-Err-clause-fault : goal.returns-in-Err-clause-fault
 returns-in-Err-clause-fault c =
