@@ -10,7 +10,8 @@ use Rattle.benc.specs.Fails.{last_key, Reaches}
 use Rattle.benc.specs.Parser.{◌>>=◌, Parsed, Failed, GrowsForItem, GrowsForPair, items_at, items_behind, pairs_at, pairs_behind, value_at}
 use Rattle.benc.specs.declared.fault.FaultKind.{FaultKind}
 use Rattle.benc.specs.declared.fault.FaultKind.TheVariants.{Truncated}
-use Rattle.benc.proofs.Sound.{ok_of, taken, value_takes, key_takes}
+use Rattle.benc.proofs.Sound.{ok_of, taken, value_takes}
+use Rattle.benc.proofs.SoundItems.{key_takes}
 use Rattle.benc.proofs.Reached.{items_grow, pairs_grow, last_grows, has_item, has_pair}
 use Rattle.benc.proofs.Texts.{spelled_is}
 use Rattle.benc.proofs.Turns.{with_items, with_pairs, items_short, items_end, items_more, items_fail, pairs_short, pairs_end, pairs_more, pairs_no_key}
@@ -42,8 +43,15 @@ pub record ItemsSoFar (room : ℕ) (bytes rest : List ℕ) (vs : List Bencode) :
   pub spelled : SpelledItems room (items_of vs) done
 
 pub items_begin : (room : ℕ) (bytes : List ℕ) → ItemsSoFar room bytes bytes []
-items_begin room bytes = record { turns = length bytes; enough = omega arith; within = omega arith; read = with_none (items_behind room bytes); done = [];
-    parts = refl; spelled = refl }
+items_begin room bytes = record {
+  turns = length bytes;
+  enough = omega arith;
+  within = omega arith;
+  read = with_none (items_behind room bytes);
+  done = [];
+  parts = refl;
+  spelled = refl;
+}
   where
     with_none : (r : Parsed Items) → with_items [] r ≡ r
     with_none (Ok x) = refl
@@ -107,8 +115,17 @@ pub record PairsSoFar (room : ℕ) (bytes rest : List ℕ) (before : Option (Lis
 
 pub pairs_begin : (room : ℕ) (bytes : List ℕ) → PairsSoFar room bytes bytes None []
 pairs_begin room bytes =
-    record { turns = length bytes; enough = omega arith; within = omega arith; read = with_none (pairs_behind room bytes); done = []; parts = refl; spelled =
-        refl; last = refl }
+    record {
+      turns = length bytes;
+      enough = omega arith;
+      within = omega arith;
+      read = with_none (pairs_behind room bytes);
+      done = [];
+      parts = refl;
+      spelled =
+          refl;
+      last = refl;
+    }
   where
     with_none : (r : Parsed Pairs) → with_pairs [] r ≡ r
     with_none (Ok x) = refl
@@ -152,7 +169,7 @@ pub pairs_keyless : (room : ℕ) (bytes here : List ℕ) (before : Option (List 
 pairs_keyless room bytes here before ps c tail f so first other key =
     sym so.read ∙ ap (λ b. with_pairs ps (pairs_at (value_at room) so.turns before b)) first
     ∙ pairs_no_key (value_at room) so.turns c before tail ps f (omega (arith, so.enough, ap length first)) other
-        (subst (λ b. key_at before b ≡ Err f) first key)
+    (subst (λ b. key_at before b ≡ Err f) first key)
     ∙ ap (λ b. Err (f, b)) (sym first)
 
 pub pairs_failed : (room : ℕ) (bytes here behind : List ℕ) (before : Option (List ℕ)) (ps : List Seen) (c : ℕ) (tail k : List ℕ) (e : Failed)

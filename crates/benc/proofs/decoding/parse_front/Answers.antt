@@ -6,7 +6,8 @@ use Rattle.benc.specs.View.{view}
 use Rattle.benc.proofs.Sound.{taken, value_takes}
 use Rattle.benc.proofs.SoFar.{value_of}
 use Rattle.benc.proofs.Stores.{refused_from}
-use Rattle.benc.proofs.Faults.{stopped_within, stops_named, value_stops, stops_from}
+use Rattle.benc.proofs.Faults.{stopped_within, value_stops, stops_from}
+use Rattle.benc.proofs.Named.{stops_named}
 use Rattle.benc.proofs.decoding.parse_front.Goals as goal
 
 pub returns-in-Ok-clause-spelled : goal.returns-in-Ok-clause-spelled
@@ -28,7 +29,7 @@ returns-in-Ok-clause-memory c = refused_from c.args.store.now c.value.new.store 
 pub overflow_sub-result-in-Err : goal.overflow_sub-result-in-Err
 overflow_sub-result-in-Err c =
     let e : Failed = (c.in-Err.stop.kind, c.in-Err.stop.rest.now) in
-        stopped_within 128 c.args.input.now e (value_stops 128 c.args.input.now e c.in-Err.ensures.read)
+    stopped_within 128 c.args.input.now e (value_stops 128 c.args.input.now e c.in-Err.ensures.read)
 
 pub returns-in-Err-clause-fault : goal.returns-in-Err-clause-fault
 returns-in-Err-clause-fault c =

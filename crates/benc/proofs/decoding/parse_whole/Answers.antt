@@ -72,7 +72,7 @@ returns-clause-stands c =
     let v = view c.in_ok-v.v in
     let kept = c.in_ok-check.ensures in
     spans_stand (option_copied c.args.asked) input v (option_copied c.in_ok-v.span)
-        (whole_spells input c.in_ok-v.used v (omega arith) (c.in_ok-v.ensures.kept kept)) (c.in_ok-v.ensures.span kept)
+    (whole_spells input c.in_ok-v.used v (omega arith) (c.in_ok-v.ensures.kept kept)) (c.in_ok-v.ensures.span kept)
 
 pub returns-clause-only : goal.returns-clause-only
 returns-clause-only c v s = (whole_is c.args.input.now c.in_ok-v.used (view c.in_ok-v.v) v c.in_ok-v.ensures.used (c.in_ok-v.ensures.kept c.in_ok-check.ensures)

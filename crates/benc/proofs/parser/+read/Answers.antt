@@ -1,4 +1,4 @@
-use Rattle.std.proofs.Common.{◌≡◌, ℕ, List, Option, ◌-◌, ◌<◌, inl, length, map, take, [], ◌∷◌, ◌++◌, Some, None, Ok, option_copied, refl, sym, ap}
+use Rattle.std.proofs.Common.{◌≡◌, ℕ, List, Option, ◌-◌, inl, length, map, take, [], ◌∷◌, ◌++◌, Some, None, Ok, option_copied, refl, sym, ap}
 use Rattle.std.proofs.Common.{◌∙◌, arith}
 use Rattle.std.specs.Prelude.{IfSome}
 use Rattle.std.specs.Option.{option_map}
@@ -59,23 +59,20 @@ value-returns-in-Err-clause-read t c =
 pub value-returns-in-Ok-string-clause-kept : goal.value-returns-in-Ok-string-clause-kept
 value-returns-in-Ok-string-clause-kept t c kept =
     let bytes = c.args.bytes.now in
-    let rest = c.in-Some.rest.now in
-    value_text c.args.room bytes rest c.in-Some.first (omega arith) (omega arith) c.in-Some.ensures
+    value_text c.args.room bytes c.in-Some.rest.now c.in-Some.first (omega arith) (omega arith) c.in-Some.ensures
     ∙ ap (λ r. begun_at bytes r >>= λ x. Ok (text x.0, x.1)) c.in-Ok-string.ensures.read
     ∙ ap (λ v. Ok (v, c.in-Ok-string.after.now)) (sym (view-Bytes c.in-Ok-string.text))
 
 pub value-returns-in-Ok-string-clause-read : goal.value-returns-in-Ok-string-clause-read
 value-returns-in-Ok-string-clause-read t c =
     let bytes = c.args.bytes.now in
-    let rest = c.in-Some.rest.now in
-    let is = value_text c.args.room bytes rest c.in-Some.first (omega arith) (omega arith) c.in-Some.ensures in
+    let is = value_text c.args.room bytes c.in-Some.rest.now c.in-Some.first (omega arith) (omega arith) c.in-Some.ensures in
     ap (λ r. r >>= λ y. Ok y.1) (is ∙ ap (λ r. begun_at bytes r >>= λ x. Ok (text x.0, x.1)) c.in-Ok-string.ensures.read)
 
 pub value-returns-in-Err-string-clause-read : goal.value-returns-in-Err-string-clause-read
 value-returns-in-Err-string-clause-read t c =
     let bytes = c.args.bytes.now in
-    let rest = c.in-Some.rest.now in
-    value_text c.args.room bytes rest c.in-Some.first (omega arith) (omega arith) c.in-Some.ensures
+    value_text c.args.room bytes c.in-Some.rest.now c.in-Some.first (omega arith) (omega arith) c.in-Some.ensures
     ∙ ap (λ r. begun_at bytes r >>= λ x. Ok (text x.0, x.1)) c.in-Err-string.ensures.read
 
 pub value-returns-in_default-first-clause-read : goal.value-returns-in_default-first-clause-read
@@ -93,7 +90,7 @@ value-returns-in_ok-found-in-108-clause-read t c =
     let room = c.args.room in
     let first : bytes ≡ 108 ∷ rest = c.in-Some.ensures ∙ ap (λ x. x ∷ rest) c.in-108.is in
     left_mapped (items_behind (room - 1) rest) list (value_at room bytes) c.in_ok-found-in-108.after.now (value_items room bytes rest (omega arith) first)
-        c.in_ok-found-in-108.ensures.read
+    c.in_ok-found-in-108.ensures.read
 
 pub value-returns-in_ok-found-in-108-clause-kept : goal.value-returns-in_ok-found-in-108-clause-kept
 value-returns-in_ok-found-in-108-clause-kept t c kept =
@@ -109,9 +106,8 @@ value-returns-in_ok-found-in-108-clause-memory t c =
     let rest = c.in-Some.rest.now in
     let room = c.args.room in
     let first : bytes ≡ 108 ∷ rest = c.in-Some.ensures ∙ ap (λ x. x ∷ rest) c.in-108.is in
-    let some : 0 < room = omega arith in
     refused_more _ _ (GrowsForItem (room - 1) bytes rest) (Reaches room bytes) c.in_ok-found-in-108.ensures.memory
-    (λ there r. list_reaches room bytes rest there some first r)
+    (λ there r. list_reaches room bytes rest there (omega arith) first r)
 
 pub value-returns-in_ok-found-in-100-clause-read : goal.value-returns-in_ok-found-in-100-clause-read
 value-returns-in_ok-found-in-100-clause-read t c =
@@ -120,7 +116,7 @@ value-returns-in_ok-found-in-100-clause-read t c =
     let room = c.args.room in
     let first : bytes ≡ 100 ∷ rest = c.in-Some.ensures ∙ ap (λ x. x ∷ rest) c.in-100.is in
     left_mapped (pairs_behind (room - 1) rest) dict (value_at room bytes) c.in_ok-found-in-100.after.now (value_pairs room bytes rest (omega arith) first)
-        c.in_ok-found-in-100.ensures.read
+    c.in_ok-found-in-100.ensures.read
 
 pub value-returns-in_ok-found-in-100-clause-kept : goal.value-returns-in_ok-found-in-100-clause-kept
 value-returns-in_ok-found-in-100-clause-kept t c kept =
@@ -136,9 +132,8 @@ value-returns-in_ok-found-in-100-clause-memory t c =
     let rest = c.in-Some.rest.now in
     let room = c.args.room in
     let first : bytes ≡ 100 ∷ rest = c.in-Some.ensures ∙ ap (λ x. x ∷ rest) c.in-100.is in
-    let some : 0 < room = omega arith in
     refused_more _ _ (GrowsForPair (room - 1) bytes rest) (Reaches room bytes) c.in_ok-found-in-100.ensures.memory
-    (λ there r. dict_reaches room bytes rest there some first r)
+    (λ there r. dict_reaches room bytes rest there (omega arith) first r)
 
 pub value-returns-in_err-found-in-108-clause-read : goal.value-returns-in_err-found-in-108-clause-read
 value-returns-in_err-found-in-108-clause-read t c =
@@ -157,8 +152,11 @@ value-returns-in_err-found-in-100-clause-read t c =
     rw (p.1, p.2) (value_pairs c.args.room bytes rest (omega arith) first ∙ ap (λ r. r >>= λ x. Ok (dict x.0, x.1)) c.in_err-found-in-100.ensures.read)
 
 pub items-items-init : goal.items-items-init
-items-items-init t c = record { read = ([], items_begin c.args.room c.args.bytes.now, λ kept. ap (map view) (sym c.new-found.ensures.items)); refused =
-    inl refl }
+items-items-init t c = record {
+  read = ([], items_begin c.args.room c.args.bytes.now, λ kept. ap (map view) (sym c.new-found.ensures.items));
+  refused =
+      inl refl;
+}
 
 pub items-returns-in_default-clause-read : goal.items-returns-in_default-clause-read
 items-returns-in_default-clause-read t c =
@@ -168,7 +166,7 @@ pub items-returns-then-first-eq101-clause-read : goal.items-returns-then-first-e
 items-returns-then-first-eq101-clause-read t c =
     let l = c.items in
     ap (λ r. r >>= λ y. Ok y.1) (items_all c.args.room c.args.bytes.now l.rest.now c.in-Some.after.now l.invariant.read.0 c.in-Some.first l.invariant.read.1
-        c.in-Some.ensures (omega arith))
+    c.in-Some.ensures (omega arith))
 
 pub items-returns-then-first-eq101-clause-kept : goal.items-returns-then-first-eq101-clause-kept
 items-returns-then-first-eq101-clause-kept t c kept =
@@ -182,7 +180,7 @@ items-returns-in_err-item-clause-read t c =
     let e = c.in_err-item.field-0.0 in
     let p = err_from_is_err_and c.from_residual.result c.from_residual.ensures.1 in
     rw (p.1, p.2) (items_failed c.args.room c.args.bytes.now l.rest.now l.invariant.read.0 c.in-Some.first c.in-Some.after.now (e.kind, e.rest.now)
-        l.invariant.read.1
+    l.invariant.read.1
     c.in-Some.ensures c.if-first-eq101.false c.in_err-item.ensures.read)
 
 pub items-items-preserved : goal.items-items-preserved
@@ -212,7 +210,7 @@ items-items-preserved t c =
       );
       refused = refused_then c.args.store.now middle new Grows (λ s. s ≡ start)
           (refused_then c.args.store.now l.store middle Grows (Reaches room here) l.invariant.refused given.memory
-              (λ there r. items_reach room bytes here start there vs so r))
+          (λ there r. items_reach room bytes here start there vs so r))
           c.push.ensures.refused (λ there same. items_grow_here room bytes here after start there vs v.0 so v.1 same);
     }
 
@@ -234,21 +232,21 @@ pub pairs-returns-then-first-eq101-clause-read : goal.pairs-returns-then-first-e
 pairs-returns-then-first-eq101-clause-read t c =
     let l = c.pairs in
     ap (λ r. r >>= λ y. Ok y.1) (pairs_all c.args.room c.args.bytes.now l.rest.now c.in-Some.after.now (option_copied l.before) l.invariant.read.0
-        c.in-Some.first l.invariant.read.1
+    c.in-Some.first l.invariant.read.1
     c.in-Some.ensures (omega arith))
 
 pub pairs-returns-then-first-eq101-clause-kept : goal.pairs-returns-then-first-eq101-clause-kept
 pairs-returns-then-first-eq101-clause-kept t c kept =
     let l = c.pairs in
     pairs_all c.args.room c.args.bytes.now l.rest.now c.in-Some.after.now (option_copied l.before) l.invariant.read.0 c.in-Some.first l.invariant.read.1
-        c.in-Some.ensures (omega arith)
+    c.in-Some.ensures (omega arith)
     ∙ ap (λ ps. Ok (pairs_of ps, c.in-Some.after.now)) (l.invariant.read.2 kept)
 
 pub pairs-returns-in-Err-clause-read : goal.pairs-returns-in-Err-clause-read
 pairs-returns-in-Err-clause-read t c =
     let l = c.pairs in
     pairs_keyless c.args.room c.args.bytes.now l.rest.now (option_copied l.before) l.invariant.read.0 c.in-Some.first c.in-Some.after.now c.in-Err.kind
-        l.invariant.read.1 c.in-Some.ensures
+    l.invariant.read.1 c.in-Some.ensures
     c.if-first-eq101.false c.in-Err.ensures.read
 
 pub pairs-returns-in_err-item-clause-read : goal.pairs-returns-in_err-item-clause-read
@@ -258,7 +256,7 @@ pairs-returns-in_err-item-clause-read t c =
     let e = c.in_err-item.field-0.0 in
     let p = err_from_is_err_and c.from_residual.result c.from_residual.ensures.1 in
     rw (p.1, p.2) (pairs_failed c.args.room c.args.bytes.now l.rest.now k.1.now (option_copied l.before) l.invariant.read.0 c.in-Some.first c.in-Some.after.now
-        k.0.now (e.kind, e.rest.now)
+    k.0.now (e.kind, e.rest.now)
     l.invariant.read.1 c.in-Some.ensures c.if-first-eq101.false c.in-Ok.ensures.read c.in_err-item.ensures.read)
 
 pub pairs-pairs-preserved : goal.pairs-pairs-preserved
