@@ -15,7 +15,7 @@ use Rattle.std.proofs.lemmas.Fmt.{decimal_is_IsNumeral, first_decimal, decimal_d
 use Rattle.benc.proofs.Turns.{is_other}
 use Rattle.benc.specs.Value.{Bencode, int, text, list, dict, Items, no_items, item, Pairs, no_pairs, pair}
 use Rattle.benc.specs.Spelling.{string, IsAbove, Spelled, SpelledItems, SpelledPairs}
-use Rattle.benc.specs.Parser.{◌>>=◌, Parsed, Failed, begun_at, items_at, pairs_at, value_at}
+use Rattle.benc.specs.Parser.{◌>>=◌, Parsed, begun_at, items_at, pairs_at, value_at}
 use Rattle.benc.specs.declared.fault.FaultKind.TheVariants.{KeyOrder}
 use Rattle.benc.proofs.Values.{value_integer, value_items, value_pairs, value_text}
 use Rattle.benc.specs.Digits.{is_digit, digits_of_front, after_digits}
@@ -211,21 +211,3 @@ one_reading room v w a b x y s t e =
     let same = ok_of (v, x) (w, y) both in
     let rests : x ≡ y = ap (λ (p : Bencode × List ℕ). p.1) same in
     (ap (λ (p : Bencode × List ℕ). p.0) same, append_cancel_right a b y (ap (λ z. a ++ z) (sym rests) ∙ e))
-
--- what was read is the one value that the input begins with
-pub only_reading : (room : ℕ) (v : Bencode) (front rest bytes : List ℕ) (x : Bencode × List ℕ) → bytes ≡ front ++ rest → Spelled room v front
-    → value_at room bytes ≡ Ok x → (x.0 ≡ v) × (length bytes - length x.1 ≡ length front)
-only_reading room v front rest bytes x e s h =
-    let both : fine x ≡ fine (v, rest) = sym h ∙ ap (value_at room) e ∙ value_again v room front rest s in
-    let same = ok_of x (v, rest) both in
-    let rests : x.1 ≡ rest = ap (λ (p : Bencode × List ℕ). p.1) same in
-    (ap (λ (p : Bencode × List ℕ). p.0) same, omega (arith, ap length e, length-append front rest, ap length rests))
-
-absurd_ok : (x : Bencode × List ℕ) (d : Failed) → fine x ≡ Err d → ⊥
-absurd_ok x d k = absurd cc
-
-pub never_fails : (room : ℕ) (v : Bencode) (front rest bytes : List ℕ) (d : Failed) → bytes ≡ front ++ rest → Spelled room v front → value_at room bytes ≡ Err d
-    → ⊥
-never_fails room v front rest bytes d e s h =
-    let both : value_at room bytes ≡ Ok (v, rest) = ap (value_at room) e ∙ value_again v room front rest s in
-    absurd_ok (v, rest) d (sym both ∙ h)

@@ -4,8 +4,11 @@ pub mod Turns
 pub mod Scanned
 pub mod Values
 pub mod Out
+pub mod SoundItems
 pub mod Sound
+pub mod Stopping
 pub mod Faults
+pub mod Named
 pub mod Texts
 pub mod Lookups
 pub mod Again

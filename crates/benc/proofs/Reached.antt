@@ -1,7 +1,7 @@
 -- Where a list or dictionary that may be opened is reached.
-use Rattle.std.proofs.Common.{◌≡◌, ℕ, suc, ◌-◌, ◌<◌, ◌≤◌, ◌^◌, List, [], ◌∷◌, ◌++◌, length, Option, Some, None, inl, inr, refl, sym, ap, ◌∙◌, subst}
+use Rattle.std.proofs.Common.{◌≡◌, ℕ, suc, ◌-◌, ◌<◌, ◌^◌, List, [], ◌∷◌, ◌++◌, length, Option, Some, None, inl, inr, refl, sym, ap, ◌∙◌, subst}
 use Rattle.std.proofs.Common.{append_assoc, arith}
-use Rattle.std.proofs.lemmas.List.{append-nil, length-append}
+use Rattle.std.proofs.lemmas.List.{append-nil}
 use Rattle.benc.specs.Value.{Bencode}
 use Rattle.benc.specs.Spelling.{string, IsAbove, Spelled, SpelledItems, SpelledPairs}
 use Rattle.benc.specs.Fails.{a_value, a_value_or_end, Level, in_list, at_value, last_key, Begun, StartsGrowing, Reaches}
@@ -150,7 +150,3 @@ pub dict_reaches : (room : ℕ) (bytes rest start : List ℕ) → 0 < room → b
 dict_reaches room bytes rest start some e (inl (same, (k, v, inner, behind, parts, spelled))) =
     reaches_here room bytes start some (100 ∷ inner, behind, e ∙ ap (λ t. 100 ∷ t) parts, inr (k, v, (inner, refl, spelled))) same
 dict_reaches room bytes rest start some e (inr deeper) = reaches_pair room bytes rest start some e deeper
-
--- where it starts, by what is left
-pub reached_within : (room : ℕ) (bytes start : List ℕ) → Reaches room bytes start → length start ≤ length bytes
-reached_within room bytes start r = omega (arith, ap length r.4, length-append r.3 start)

@@ -10,7 +10,8 @@ use Rattle.benc.specs.Fails.{last_key, Reaches}
 use Rattle.benc.specs.Parser.{◌>>=◌, Parsed, Failed, GrowsForItem, GrowsForPair, items_at, items_behind, pairs_at, pairs_behind, value_at}
 use Rattle.benc.specs.declared.fault.FaultKind.{FaultKind}
 use Rattle.benc.specs.declared.fault.FaultKind.TheVariants.{Truncated}
-use Rattle.benc.proofs.Sound.{ok_of, taken, value_takes, key_takes}
+use Rattle.benc.proofs.Sound.{ok_of, taken, value_takes}
+use Rattle.benc.proofs.SoundItems.{key_takes}
 use Rattle.benc.proofs.Reached.{items_grow, pairs_grow, last_grows, has_item, has_pair}
 use Rattle.benc.proofs.Texts.{spelled_is}
 use Rattle.benc.proofs.Turns.{with_items, with_pairs, items_short, items_end, items_more, items_fail, pairs_short, pairs_end, pairs_more, pairs_no_key}

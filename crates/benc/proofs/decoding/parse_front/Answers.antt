@@ -6,7 +6,8 @@ use Rattle.benc.specs.View.{view}
 use Rattle.benc.proofs.Sound.{taken, value_takes}
 use Rattle.benc.proofs.SoFar.{value_of}
 use Rattle.benc.proofs.Stores.{refused_from}
-use Rattle.benc.proofs.Faults.{stopped_within, stops_named, value_stops, stops_from}
+use Rattle.benc.proofs.Faults.{stopped_within, value_stops, stops_from}
+use Rattle.benc.proofs.Named.{stops_named}
 use Rattle.benc.proofs.decoding.parse_front.Goals as goal
 
 pub returns-in-Ok-clause-spelled : goal.returns-in-Ok-clause-spelled

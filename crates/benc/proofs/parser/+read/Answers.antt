@@ -1,4 +1,4 @@
-use Rattle.std.proofs.Common.{◌≡◌, ℕ, List, Option, ◌-◌, ◌<◌, inl, length, map, take, [], ◌∷◌, ◌++◌, Some, None, Ok, option_copied, refl, sym, ap}
+use Rattle.std.proofs.Common.{◌≡◌, ℕ, List, Option, ◌-◌, inl, length, map, take, [], ◌∷◌, ◌++◌, Some, None, Ok, option_copied, refl, sym, ap}
 use Rattle.std.proofs.Common.{◌∙◌, arith}
 use Rattle.std.specs.Prelude.{IfSome}
 use Rattle.std.specs.Option.{option_map}
@@ -59,23 +59,20 @@ value-returns-in-Err-clause-read t c =
 pub value-returns-in-Ok-string-clause-kept : goal.value-returns-in-Ok-string-clause-kept
 value-returns-in-Ok-string-clause-kept t c kept =
     let bytes = c.args.bytes.now in
-    let rest = c.in-Some.rest.now in
-    value_text c.args.room bytes rest c.in-Some.first (omega arith) (omega arith) c.in-Some.ensures
+    value_text c.args.room bytes c.in-Some.rest.now c.in-Some.first (omega arith) (omega arith) c.in-Some.ensures
     ∙ ap (λ r. begun_at bytes r >>= λ x. Ok (text x.0, x.1)) c.in-Ok-string.ensures.read
     ∙ ap (λ v. Ok (v, c.in-Ok-string.after.now)) (sym (view-Bytes c.in-Ok-string.text))
 
 pub value-returns-in-Ok-string-clause-read : goal.value-returns-in-Ok-string-clause-read
 value-returns-in-Ok-string-clause-read t c =
     let bytes = c.args.bytes.now in
-    let rest = c.in-Some.rest.now in
-    let is = value_text c.args.room bytes rest c.in-Some.first (omega arith) (omega arith) c.in-Some.ensures in
+    let is = value_text c.args.room bytes c.in-Some.rest.now c.in-Some.first (omega arith) (omega arith) c.in-Some.ensures in
     ap (λ r. r >>= λ y. Ok y.1) (is ∙ ap (λ r. begun_at bytes r >>= λ x. Ok (text x.0, x.1)) c.in-Ok-string.ensures.read)
 
 pub value-returns-in-Err-string-clause-read : goal.value-returns-in-Err-string-clause-read
 value-returns-in-Err-string-clause-read t c =
     let bytes = c.args.bytes.now in
-    let rest = c.in-Some.rest.now in
-    value_text c.args.room bytes rest c.in-Some.first (omega arith) (omega arith) c.in-Some.ensures
+    value_text c.args.room bytes c.in-Some.rest.now c.in-Some.first (omega arith) (omega arith) c.in-Some.ensures
     ∙ ap (λ r. begun_at bytes r >>= λ x. Ok (text x.0, x.1)) c.in-Err-string.ensures.read
 
 pub value-returns-in_default-first-clause-read : goal.value-returns-in_default-first-clause-read
@@ -109,9 +106,8 @@ value-returns-in_ok-found-in-108-clause-memory t c =
     let rest = c.in-Some.rest.now in
     let room = c.args.room in
     let first : bytes ≡ 108 ∷ rest = c.in-Some.ensures ∙ ap (λ x. x ∷ rest) c.in-108.is in
-    let some : 0 < room = omega arith in
     refused_more _ _ (GrowsForItem (room - 1) bytes rest) (Reaches room bytes) c.in_ok-found-in-108.ensures.memory
-    (λ there r. list_reaches room bytes rest there some first r)
+    (λ there r. list_reaches room bytes rest there (omega arith) first r)
 
 pub value-returns-in_ok-found-in-100-clause-read : goal.value-returns-in_ok-found-in-100-clause-read
 value-returns-in_ok-found-in-100-clause-read t c =
@@ -136,9 +132,8 @@ value-returns-in_ok-found-in-100-clause-memory t c =
     let rest = c.in-Some.rest.now in
     let room = c.args.room in
     let first : bytes ≡ 100 ∷ rest = c.in-Some.ensures ∙ ap (λ x. x ∷ rest) c.in-100.is in
-    let some : 0 < room = omega arith in
     refused_more _ _ (GrowsForPair (room - 1) bytes rest) (Reaches room bytes) c.in_ok-found-in-100.ensures.memory
-    (λ there r. dict_reaches room bytes rest there some first r)
+    (λ there r. dict_reaches room bytes rest there (omega arith) first r)
 
 pub value-returns-in_err-found-in-108-clause-read : goal.value-returns-in_err-found-in-108-clause-read
 value-returns-in_err-found-in-108-clause-read t c =
