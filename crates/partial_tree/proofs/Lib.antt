@@ -19,6 +19,7 @@ pub mod Over
 pub mod Noting
 pub mod Given
 pub mod Tracing
+pub mod FoldedRows
 pub mod Written
 pub mod Leading
 pub mod Ranges

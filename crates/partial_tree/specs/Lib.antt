@@ -9,6 +9,7 @@ pub mod Answers
 pub mod Joins
 pub mod MessagePages
 pub mod Evidence
+pub mod FoldedRows
 pub mod Kept
 pub mod Codes
 pub mod Names

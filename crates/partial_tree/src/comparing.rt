@@ -1,14 +1,14 @@
 //! The first pass over what hashes claim: all of it is computed and compared with what is known,
 //! and nothing is written.
 
-ghost use Rattle.std.specs.Prelude.{◌≡◌, ◌≤◌, Some, IfSome, IfNone, OnSome};
-ghost use Rattle.std.specs.Bool.{OnTrue, OnFalse};
-ghost use Rattle.node_maps.specs.Places.{tree_height, PartialTree};
+ghost use Rattle.std.specs.Prelude.{◌≡◌, Some, IfSome, IfNone, OnSome};
+ghost use Rattle.node_maps.specs.Places.{tree_height};
 ghost use Rattle.node_maps.specs.Known.{look};
 ghost use Rattle.partial_tree.specs.Claims.{IsMismatch};
-ghost use Rattle.partial_tree.specs.Evidence.{claimed_by, IsClaimedPlace, AllHandled, BelowHandled, Grows, AreClaims, NotesNew, IsHandledClaim, DiffersFrom};
+ghost use Rattle.partial_tree.specs.Evidence.{claimed_by, IsClaimedPlace, AllHandled, BelowHandled, Grows, AreClaims, NotesNew};
 
 use crate::evidence::Evidence;
+use crate::folding::{compare, fold};
 use crate::found::{Claim, Found};
 use hashtree::{Hash, parent};
 use node_maps::NodeMap;
@@ -69,30 +69,12 @@ fn derive<N: NodeMap>(
     match evidence.given(layer, index) {
         Some(hash) => Some(hash),
         None => {
+            if layer == evidence.base + evidence.span {
+                return fold(map, evidence, found, layer, index);
+            }
             let left = trace(map, evidence, found, layer - 1, 2 * index)?;
             let right = trace(map, evidence, found, layer - 1, 2 * index + 1)?;
             Some(parent(&left, &right))
-        }
-    }
-}
-
-// Compares the hash that is claimed for a place with the known one, or notes the claim. False if
-// the two differ.
-fn compare<N: NodeMap>(map: &N, found: &mut Found, claim: Claim) -> bool
-    ensures same { OnTrue result (IsHandledClaim (N.seen map.now).known found.new claim) }
-    ensures differs { OnFalse result (DiffersFrom (N.seen map.now).known claim) }
-    ensures grows { Grows found.old found.new }
-    ensures sound { (C : PartialTree) → C claim.layer claim.index ≡ Some claim.hash
-        → AreClaims C found.old.claims.items → AreClaims C found.new.claims.items }
-    ensures notes_new { (C : PartialTree) → C claim.layer claim.index ≡ Some claim.hash
-        → NotesNew (look (N.seen map.now).known) C found.old
-        → NotesNew (look (N.seen map.now).known) C found.new }
-{
-    match map.get(claim.layer, claim.index) {
-        Some(known) => known == claim.hash,
-        None => {
-            found.note(claim);
-            true
         }
     }
 }

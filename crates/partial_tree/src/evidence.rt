@@ -17,6 +17,7 @@
 ghost use Rattle.std.specs.Prelude.{◌≡◌, ℕ, ◌+◌, ◌-◌, ◌*◌, ◌/◌, ◌%◌, ◌^◌, ◌<◌, ◌≤◌, ◌++◌};
 ghost use Rattle.partial_tree.specs.Claims.{sibling, base_hash, uncle_hash, given, claims};
 
+use crate::row::{Row, RowHashes};
 use hashtree::Hash;
 
 /// Hashes as evidence: a base range of `2 ^ span` places, whose hashes may stop early, and then the
@@ -36,7 +37,9 @@ pub(crate) struct Evidence<'a> {
 }
 
 impl<'a> Evidence<'a> {
+    ghost use Rattle.node_maps.specs.Places.{IsKnown};
     ghost use Rattle.partial_tree.specs.Evidence.{range_of, hashes_of, given_by, row_first, row_height};
+    ghost use Rattle.partial_tree.specs.FoldedRows.{AreClaimedIn, place_in};
 
     /// The hash that is given for a place, if there is one.
     pub(crate) fn given(&self, layer: u32, index: u64) -> Option<Hash>
@@ -69,6 +72,26 @@ impl<'a> Evidence<'a> {
         let height = 1 + (self.base + self.span).saturating_sub(layer + 1);
         let node = self.index >> (layer - self.base);
         ((node >> height) << height, 1 << height)
+    }
+
+    /// The hashes of a row of the base range.
+    pub(crate) fn base_row(&self, row: &Row) -> RowHashes
+        requires index { self.now.index < 2 ^ 32 }
+        requires base { self.now.base ≤ 32 }
+        requires span { self.now.span ≤ 32 }
+        requires few { row.now.depth ≤ 3 }
+        requires node { row.now.node < 2 ^ 32 }
+        requires layer { row.now.layer ≡ self.now.base }
+        requires given { (j : ℕ) → j < 2 ^ row.now.depth
+            → IsKnown (given_by self.now) row.now.layer (place_in row.now j) }
+        ensures { AreClaimedIn (given_by self.now) row.now result }
+    {
+        let first = row.node * row.count();
+        let mut hashes = [[0; 32]; 8];
+        'places: for j in 0..row.count() {
+            hashes[j as usize] = self.given(row.layer, first + j).unwrap();
+        }
+        hashes
     }
 
     // The hash of a place of the base layer.
