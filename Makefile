@@ -8,6 +8,7 @@
 # make static          links what was proved with a static C library: build/static/btcheck, one file that needs no
 #                      library
 # make dist            packs that program with all that `make install` puts beside it, and a list of SHA-256 digests
+# make deb             packs the same as a Debian package: build/deb/btcheck_VERSION_amd64.deb (by dpkg-deb)
 # make clean           removes all that was built, kept proofs too
 # make CPU=x86-64-v3   builds for a newer processor (after make clean)
 
@@ -102,7 +103,10 @@ dist: build/static/btcheck
 	gzip -9n $(PACKED).tar
 	sha256sum $(PACKED).tar.gz
 
+deb: build/static/btcheck
+	packaging/deb build/static/btcheck build/deb
+
 clean:
 	rm -rf build crates/*/out
 
-.PHONY: all check test bench install uninstall static dist clean
+.PHONY: all check test bench install uninstall static dist deb clean

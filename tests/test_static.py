@@ -5,7 +5,7 @@ import re
 import shutil
 import subprocess
 
-from support import TOP, LeftOut, folder, write
+from support import TOP, LeftOut, folder, need, write
 from trees import root_line
 
 OBJECT = f"{TOP}/crates/btcheck/out/btcheck.o"
@@ -57,3 +57,40 @@ def test_dist():
     make("dist")
     with open(archive, "rb") as file:
         assert file.read() == first
+
+
+def installed(package, place):
+    """Installs a Debian package in a folder of its own; without the rights for that it is only unpacked there."""
+    if os.getuid():
+        subprocess.run(["dpkg-deb", "-x", package, place], check=True)
+        return
+    for kind in ("updates", "info"):
+        os.makedirs(f"{place}/var/lib/dpkg/{kind}")
+    write(f"{place}/var/lib/dpkg/status", b"")
+    subprocess.run(["dpkg", f"--root={place}", "--log=/dev/null", "-i", package], check=True, stdout=subprocess.DEVNULL)
+
+
+def test_deb():
+    """The package is installed and runs, has what is installed elsewhere, and is the same when it is packed again."""
+    need("dpkg-deb", "strip")
+    make("deb")
+    [package] = glob.glob(f"{TOP}/build/deb/*.deb")
+    with open(package, "rb") as file:
+        first = file.read()
+    with folder() as place:
+        installed(package, place)
+        done = subprocess.run([f"{place}/usr/bin/btcheck", "root", "/dev/null"], stdout=subprocess.PIPE, check=True)
+        assert done.stdout == b"0 -\n"
+        subprocess.run([f"{place}/usr/share/btcheck/record", "--help"], stdout=subprocess.DEVNULL, check=True)
+        there = {f"{at.replace(place, '', 1)}/{file}" for at, _, files in os.walk(place) for file in files}
+        documents = {f"/usr/share/doc/btcheck/{file}" for file in
+                     ("README.md", "copyright", "changelog.gz", "changelog.Debian.gz", "docs/RECORDING.md",
+                      "examples/pair.torrent")}
+        assert documents | {"/usr/share/man/man1/btcheck.1.gz", "/usr/share/bash-completion/completions/btcheck",
+                            "/usr/share/fish/vendor_completions.d/btcheck.fish",
+                            "/usr/share/zsh/vendor-completions/_btcheck"} <= there, there
+    make("deb")
+    with open(package, "rb") as file:
+        assert file.read() == first
+    if shutil.which("lintian"):
+        subprocess.run(["lintian", "--allow-root", "--fail-on", "error,warning", package], check=True)
