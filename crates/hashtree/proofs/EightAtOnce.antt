@@ -32,6 +32,7 @@ pub eight_more : (row : List (List ℕ)) (pad : List ℕ) (group : ℕ) (eight :
     → map (joined_at row pad) (range_with_len 0 (8 * group)) ++ eight ≡ map (joined_at row pad) (range_with_len 0 (8 * (group + 1)))
 eight_more row pad group eight size within are =
     let n : ℕ = 8 * group in
+    let size_of_part : ℕ = 16 * group + 16 - 16 * group in
     let before : List (List ℕ) = map (joined_at row pad) (range_with_len 0 n) in
     let len : length before ≡ 8 * group = length-map-range_with_len (joined_at row pad) 0 n in
     fill_by_all (joined_at row pad) (before ++ eight) (8 * (group + 1)) [] (omega (arith, length-append before eight, len, size))
@@ -41,8 +42,9 @@ eight_more row pad group eight size within are =
           get_or-append_right before eight n k [] len high
           ∙ are (k - n) (omega (arith, lt, high))
           ∙ ap₂ (λ a b. sha256 (a ++ b))
-          (get_or-part row (16 * group) (16 * group + 16 - 16 * group) (2 * (k - n)) (2 * k) [] (omega (arith, lt, high)) (omega (arith, high)) (omega (arith, lt, within)))
-          (get_or-part row (16 * group) (16 * group + 16 - 16 * group) (2 * (k - n) + 1) (2 * k + 1) pad (omega (arith, lt, high)) (omega (arith, high)) (omega (arith, lt, within)))
+          (get_or-part row (16 * group) size_of_part (2 * (k - n)) (2 * k) [] (omega (arith, lt, high)) (omega (arith, high)) (omega (arith, lt, within)))
+          (get_or-part row (16 * group) size_of_part (2 * (k - n) + 1) (2 * k + 1) pad (omega (arith, lt, high)) (omega (arith, high))
+          (omega (arith, lt, within)))
     ])
 
 get_or-pairs : (xs : List (List ℕ)) (j : ℕ) → 2 * j + 1 < length xs → get_or (pairs xs) j [] ≡ sha256 (get_or xs (2 * j) [] ++ get_or xs (2 * j + 1) [])

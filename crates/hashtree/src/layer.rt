@@ -5,6 +5,7 @@ ghost use Rattle.std.specs.Vec.{vec_capacity};
 ghost use Rattle.std.specs.Option.{option_to_list};
 
 use crate::NoMemory;
+use crate::next_leaves::NextLeaves;
 use crate::node::Hash;
 use crate::root::RootBuilder;
 use std::alloc::Global;
@@ -65,9 +66,11 @@ impl LayerBuilder {
         if self.is_refused {
             return Err(NoMemory);
         }
+        let mut next = NextLeaves::new();
         let mut start = 0;
         'parts: while start < bytes.len() {
-            let (taken, node) = self.builder.take_part(&bytes[start..], self.layer);
+            let rest = &bytes[start..];
+            let (taken, node) = self.builder.take_next(rest, self.layer, &mut next);
             self.keep(node)?;
             start += taken;
         }

@@ -94,24 +94,6 @@ impl Peaks {
         }
     }
 
-    /// Takes the next leaves, at most eight, as [`Peaks::push`] does. Returns the node of `layer`
-    /// that they complete: at most one, since it stands over eight leaves or more.
-    pub(crate) fn push_all(&mut self, leaves: &[Hash], layer: u32) -> Option<Hash>
-        requires room { self.old.count + length leaves.now < 2 ^ 33 }
-        requires few { length leaves.now ≤ 8 }
-        requires high { 3 ≤ layer }
-        ensures count { self.new.count ≡ self.old.count + length leaves.now }
-        ensures leaves { AddsLeaves self.old self.new leaves.now }
-        ensures node { LeavesComplete self.old leaves.now layer result }
-    {
-        let mut completed = None;
-        for leaf in leaves {
-            let node = self.push(*leaf, layer);
-            completed = either(completed, node);
-        }
-        completed
-    }
-
     /// The node of this layer over the leaves and `last`, if copies of `pad` come after these.
     pub(crate) fn last_node(&self, last: Hash, pad: Hash, layer: u32) -> Hash
         requires { layer ≤ 32 }
@@ -134,16 +116,5 @@ impl Peaks {
             width /= 2;
         }
         node
-    }
-}
-
-/// The node that one of two steps completes, if not both do.
-pub(crate) fn either(first: Option<Hash>, second: Option<Hash>) -> Option<Hash>
-    ensures { length (option_to_list first) + length (option_to_list second) ≤ 1
-        → option_to_list result ≡ option_to_list first ++ option_to_list second }
-{
-    match first {
-        Some(node) => Some(node),
-        None => second,
     }
 }

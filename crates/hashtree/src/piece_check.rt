@@ -5,6 +5,7 @@ ghost use Rattle.std.specs.Option.{option_to_list};
 ghost use Rattle.hashtree.specs.Difference.{IsCompared, IsComparison};
 ghost use Rattle.hashtree.specs.Tree.{block_count, first_pad, height, root_of};
 
+use crate::next_leaves::NextLeaves;
 use crate::node::Hash;
 use crate::root::RootBuilder;
 use crate::shape::Shape;
@@ -64,9 +65,11 @@ impl<'a> PieceCheck<'a> {
         requires { byte_count self.old + length bytes.now ≤ chosen_shape self.old }
         ensures { FeedsCheck self.old bytes.now self.new }
     {
+        let mut next = NextLeaves::new();
         let mut start = 0;
         'parts: while start < bytes.len() {
-            let (taken, node) = self.builder.take_part(&bytes[start..], self.layer);
+            let rest = &bytes[start..];
+            let (taken, node) = self.builder.take_next(rest, self.layer, &mut next);
             (self.place, self.other) = compare(self.hashes, self.place, self.other, node);
             start += taken;
         }

@@ -1,18 +1,13 @@
 //! The root of a file's tree, from its bytes.
 
-ghost use Rattle.std.specs.Prelude.{◌≡◌, ℕ, ◌+◌, ◌*◌, ◌^◌, ◌<◌, ◌≤◌, ◌↔◌, ◌++◌, [], IsTrue, List, OnSome, length, take};
+ghost use Rattle.std.specs.Prelude.{◌≡◌, ℕ, ◌+◌, ◌*◌, ◌^◌, ◌<◌, ◌≤◌, ◌↔◌, ◌++◌, [], IsTrue, List, OnSome, drop, length, take};
 ghost use Rattle.hashtree.specs.Tree.{block_count, height, layer_of};
 
+use crate::next_leaves::NextLeaves;
 use crate::node::{Hash, PAD_LEAF};
-use crate::peaks::{ABOVE_ROOT, Peaks, either};
-use crate::shape::{BLOCK_LENGTH, Shape};
+use crate::peaks::{ABOVE_ROOT, Peaks};
+use crate::shape::{BLOCK, BLOCK_LENGTH, Shape};
 use sha2::{Digest, Sha256};
-use sha256_lanes::digests;
-
-// Bytes in a block, as slices count them.
-const BLOCK: usize = BLOCK_LENGTH as usize;
-// Bytes in eight blocks, which are hashed side by side.
-const GROUP: usize = 8 * BLOCK;
 
 /// Computes the length and the root of a file's tree from its bytes, which come in parts of any
 /// size. It keeps 34 hashes and one running digest, takes no memory and cannot fail. Eight whole
@@ -32,6 +27,7 @@ pub struct RootBuilder {
 
 impl RootBuilder {
     ghost use Rattle.hashtree.specs.RootBuilder.{Completes, EndsWith, Feeds, IsAt, IsFed, byte_count, complete_nodes};
+    ghost use Rattle.hashtree.specs.NextLeaves.{AreNext};
     ghost use Rattle.std.specs.Option.{option_to_list};
 
     /// A builder that was given nothing.
@@ -67,9 +63,10 @@ impl RootBuilder {
         requires { byte_count self.old + length bytes.now ≤ 2 ^ 46 }
         ensures { Feeds self.old bytes.now self.new }
     {
+        let mut next = NextLeaves::new();
         let mut start = 0;
         'parts: while start < bytes.len() {
-            let (taken, _) = self.take_part(&bytes[start..], ABOVE_ROOT);
+            let (taken, _) = self.take_next(&bytes[start..], ABOVE_ROOT, &mut next);
             start += taken;
         }
     }
@@ -113,9 +110,9 @@ impl RootBuilder {
     }
 
     /// Takes the first of these bytes, for a caller that keeps the nodes of a layer itself: at most
-    /// as many as the last block still takes, or eight whole blocks. Returns how many, and the node
-    /// of `layer` that the blocks before the last one complete, if they do. Conditions: there is a
-    /// byte, and [`RootBuilder::len`] and the number of bytes are at most 2^46 together.
+    /// as many as the last block still takes. Returns how many, and the node of `layer` that the
+    /// blocks before the last one complete, if they do. Conditions: there is a byte, and
+    /// [`RootBuilder::len`] and the number of bytes are at most 2^46 together.
     pub fn take_part(&mut self, bytes: &[u8], layer: u32) -> (usize, Option<Hash>)
         requires some { 0 < length bytes.now }
         requires room { byte_count self.old + length bytes.now ≤ 2 ^ 46 }
@@ -129,11 +126,32 @@ impl RootBuilder {
         } else {
             None
         };
-        if self.filled == 0 && layer >= 3 && bytes.len() >= GROUP {
-            let node = self.take_group(&bytes[..GROUP], layer);
-            return (GROUP, either(completed, node));
-        }
         (self.fill_block(bytes), completed)
+    }
+
+    /// As [`RootBuilder::take_part`]. `next` has leaves of these bytes, and is handed on to the
+    /// call that takes the bytes after them.
+    pub(crate) fn take_next(
+        &mut self,
+        bytes: &[u8],
+        layer: u32,
+        next: &mut NextLeaves,
+    ) -> (usize, Option<Hash>)
+        requires some { 0 < length bytes.now }
+        requires room { byte_count self.old + length bytes.now ≤ 2 ^ 46 }
+        requires next { AreNext next.old bytes.now }
+        ensures some { 0 < result.0 }
+        ensures bound { result.0 ≤ length bytes.now }
+        ensures fed { Feeds self.old (take result.0 bytes.now) self.new }
+        ensures node { Completes self.old (take result.0 bytes.now) self.new layer result.1 }
+        ensures next { AreNext next.new (drop result.0 bytes.now) }
+    {
+        let completed = if self.filled == BLOCK {
+            self.close_block(layer)
+        } else {
+            None
+        };
+        (self.fill_next(bytes, next), completed)
     }
 
     // Makes a leaf of the last block, which is full. Returns the node of `layer` that it completes.
@@ -148,6 +166,32 @@ impl RootBuilder {
     {
         self.filled = 0;
         self.peaks.push(self.last, layer)
+    }
+
+    // Takes a whole block whose leaf is known, or as many of these bytes as the last block still
+    // takes.
+    fn fill_next(&mut self, bytes: &[u8], next: &mut NextLeaves) -> usize
+        requires open { self.old.filled < 16384 }
+        requires some { 0 < length bytes.now }
+        requires room { byte_count self.old + length bytes.now ≤ 2 ^ 46 }
+        requires next { AreNext next.old bytes.now }
+        ensures some { 0 < result }
+        ensures bound { result ≤ length bytes.now }
+        ensures peaks { self.new.peaks ≡ self.old.peaks }
+        ensures filled { self.new.filled ≡ self.old.filled + result }
+        ensures content { (file : List ℕ) → IsAt self.old file
+            → IsAt self.new (file ++ take result bytes.now) }
+        ensures next { AreNext next.new (drop result bytes.now) }
+    {
+        if self.filled == 0 {
+            if let Some(leaf) = next.take(bytes) {
+                self.last = leaf;
+                self.filled = BLOCK;
+                return BLOCK;
+            }
+        }
+        next.clear();
+        self.fill_block(bytes)
     }
 
     // Takes as many of these bytes as the last block still takes.
@@ -169,26 +213,5 @@ impl RootBuilder {
             self.last = self.hasher.finalize_reset();
         }
         taken
-    }
-
-    // Takes eight whole blocks, hashed side by side; the last of them stays open for more. Returns
-    // the node of `layer` that the seven before it complete.
-    fn take_group(&mut self, group: &[u8], layer: u32) -> Option<Hash>
-        requires empty { self.old.filled ≡ 0 }
-        requires whole { length group.now ≡ 131072 }
-        requires high { 3 ≤ layer }
-        requires room { byte_count self.old + length group.now ≤ 2 ^ 46 }
-        ensures full { self.new.filled ≡ 16384 }
-        ensures seven { self.new.peaks.count ≡ self.old.peaks.count + 7 }
-        ensures content { (file : List ℕ) → IsAt self.old file → IsAt self.new (file ++ group.now) }
-        ensures node { (file : List ℕ) → IsAt self.old file
-            → complete_nodes self.new (file ++ group.now) layer
-            ≡ complete_nodes self.old file layer ++ option_to_list result }
-    {
-        let leaves = digests(group, BLOCK);
-        let completed = self.peaks.push_all(&leaves[..7], layer);
-        self.last = leaves[7];
-        self.filled = BLOCK;
-        completed
     }
 }

@@ -32,7 +32,8 @@ layers-preserved c = record {
 pub returns-then-width-eq0-clause-leaves : goal.returns-then-width-eq0-clause-leaves
 returns-then-width-eq0-clause-leaves c = λ ys whole xs held.
     carries_end c.args.self.now _ xs ys c.layers.level c.layers.width c.layers.node held (search rules) c.if-width-eq0.true
-    (c.layers.invariant.count_is ∙ ap (λ k. c.args.self.now.count + k) (sym whole.size)) (ap (λ t. set t c.layers.level c.layers.node) c.layers.invariant.levels_same) (c.layers.invariant.carries ys xs whole held)
+    (c.layers.invariant.count_is ∙ ap (λ k. c.args.self.now.count + k) (sym whole.size))
+    (ap (λ t. set t c.layers.level c.layers.node) c.layers.invariant.levels_same) (c.layers.invariant.carries ys xs whole held)
 
 pub returns-then-width-eq0-clause-node : goal.returns-then-width-eq0-clause-node
 returns-then-width-eq0-clause-node c = λ ys whole xs held.
@@ -48,5 +49,6 @@ returns-then-width-eq0-clause-node c = λ ys whole xs held.
 pub returns-clause-node : goal.returns-clause-node
 returns-clause-node c = λ ys whole xs held.
     let top : c.layers.level ≡ 33 = omega (arith, c.layers-test.false, c.layers.auto.level-end) in
-    let few : length xs + length ys < 2 ^ c.layers.level = subst (λ l. length xs + length ys < 2 ^ l) (sym top) (omega (arith, held.count_is, whole.size, c.requires.room)) in
+    let few : length xs + length ys < 2 ^ c.layers.level =
+    subst (λ l. length xs + length ys < 2 ^ l) (sym top) (omega (arith, held.count_is, whole.size, c.requires.room)) in
     absurd (not_all_odd xs ys c.layers.level c.layers.width c.layers.node few (c.layers.invariant.carries ys xs whole held))
