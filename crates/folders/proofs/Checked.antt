@@ -1,5 +1,5 @@
 -- A check of a shelf, as far as its first files.
-use Rattle.std.proofs.Common.{◌≡◌, ◌∙◌, ℕ, ◌+◌, List, [], ◌∷◌, ◌++◌, length, slice_get, take, Some, Option, subst, sym, ap, arith}
+use Rattle.std.proofs.Common.{◌≡◌, ◌∙◌, ℕ, ◌+◌, List, [], ◌∷◌, ◌++◌, length, slice_get, take, Some, Option, subst, sym, arith}
 use Rattle.std.proofs.lemmas.Option.{get_or_from_slice_get, slice_get_within}
 use Rattle.std.proofs.lemmas.List.{take_all}
 use Rattle.benc.specs.Device.{SourceSeen}
@@ -47,7 +47,8 @@ module _ {S F : Type 0} (shelf : Ghosts S F) (seen : F → SourceSeen) (t : Desc
       }
 
   -- what callers see of that
-  pub visits_first : (s s' : S) (n : ℕ) (files : List FileVerdict) (running : Option V1Feed) → IsChecked s n files running s' → VisitsFirst shelf seen t s files s'
+  pub visits_first : (s s' : S) (n : ℕ) (files : List FileVerdict) (running : Option V1Feed)
+      → IsChecked s n files running s' → VisitsFirst shelf seen t s files s'
   visits_first s s' n files running so_far = record {
     once = subst (λ k. Chain (Visits shelf seen t) s (take k t.files) files s') (sym so_far.passed.count) so_far.visited;
     counted = so_far.counted;

@@ -184,7 +184,8 @@ at_length {A} (x ∷ xs) (suc n) lt = at_length xs n (omega arith)
 
 -- those of the first files agree with what the shelf tells
 pub first_agree : (t : Description) (under : List (List ℕ) → Option (Option (List ℕ))) (n : ℕ) (files : List FileVerdict) (running : Option V1Feed)
-    → (found : HasFound t under n files running) → (k : ℕ) (f : FileEntry) → k < n → slice_get t.files k ≡ Some f → Agrees (under f.path) (contents_of found.seen k)
+    → (found : HasFound t under n files running) → (k : ℕ) (f : FileEntry) → k < n → slice_get t.files k ≡ Some f
+    → Agrees (under f.path) (contents_of found.seen k)
 first_agree t under n files running found k f lt there =
     let at = at_length found.seen k (omega (arith, lt, found.count)) in
     subst (Agrees (under f.path)) (sym (contents_extend found.seen k at.0 at.1)) (found.agree k f at.0 there at.1)

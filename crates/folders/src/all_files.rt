@@ -1,5 +1,5 @@
 //! All files of a torrent, checked one after the other, each told as soon as it is done.
-ghost use Rattle.std.specs.Prelude.{◌≡◌, ℕ, List, IfErr, IfOk};
+ghost use Rattle.std.specs.Prelude.{◌≡◌, List, IfErr, IfOk};
 ghost use Rattle.chains.specs.Chain.{Chain};
 ghost use Rattle.folders.specs.Printed.{verdicts_text};
 ghost use Rattle.folders.specs.Shelf.{more};

@@ -1,26 +1,22 @@
-use Rattle.std.proofs.Common.{rules, [], ◌∷◌, ◌++◌, slice_get, refl, ◌≡◌, ◌∙◌, ◌+◌, ◌≤◌, ◌<◌, ◌^◌, ◌&&◌, ℕ, List, length, map, take, Option, option_map, is_some, ap, sym, subst}
-use Rattle.std.proofs.Common.{Some, None, arith}
+use Rattle.std.proofs.Common.{rules, [], ◌∷◌, ◌++◌, slice_get, refl, ◌≡◌, ◌∙◌, ◌+◌, ◌≤◌, ◌<◌, ◌^◌, ◌&&◌, ℕ, List, length, map}
+use Rattle.std.proofs.Common.{Option, option_map, is_some, ap, sym, subst, Some, None, arith}
 use Rattle.std.specs.List.{list_all}
-use Rattle.std.proofs.lemmas.Option.{same_Some, none-some, slice_get_within, get_or_from_slice_get}
+use Rattle.std.proofs.lemmas.Option.{same_Some, none-some}
 use Rattle.std.proofs.lemmas.Result.{err_from_is_err_and}
-use Rattle.opening.specs.Description.{Description}
+use Rattle.opening.specs.Description.{Description, FileEntry}
 use Rattle.opening.specs.declared.torrent.File.{File}
 use Rattle.std.proofs.lemmas.List.{length-map, take_all}
 use Rattle.std.proofs.lemmas.List.Sums.{count_by-le-length}
 use Rattle.opening.specs.Seen.{file_entry, version1}
-use Rattle.folders.specs.Pass.{FindsVerdict}
 use Rattle.chains.specs.Chain.{Chain}
-use Rattle.chains.proofs.Chains.{Chain-next}
-use Rattle.folders.specs.Shelf.{ShelfContents, more}
 use Rattle.folders.specs.Visits.{Visits}
 use Rattle.folders.specs.Verdicts.{IsV1Verdict, TellsContents, is_checked, is_unreadable, is_whole, unreadable_count}
-use Rattle.folders.proofs.Counts.{unreadable_push, more_none}
+use Rattle.folders.proofs.Counts.{more_none}
 use Rattle.folders.proofs.Places.{file_there, pieces_are_positive}
 use Rattle.folders.specs.Printed.{verdicts_text, wanted_text}
 use Rattle.folders.specs.Telling.{HasBroken, HasSent}
 use Rattle.folders.specs.declared.lines.Lines.{Lines}
 use Rattle.folders.specs.declared.report.FileVerdict.{FileVerdict}
-use Rattle.opening.specs.Description.{FileEntry}
 use Rattle.folders.proofs.Checked.{IsChecked, checked_one, visits_first}
 use Rattle.folders.proofs.Told.{broke_more, sent_more, sent_nothing, verdicts_push}
 use Rattle.folders.proofs.Passes.{has_place, told_none}
@@ -57,7 +53,8 @@ files-init g c = record {
       count = refl;
       agree = λ k f content there at. absurd (none-some content at);
       told = λ contents extends.
-          told_none c.args.torrent.now contents c.in_ok-files.files.items c.of-stream.result.feed c.in_ok-files.ensures.items c.of-stream.ensures.stands (λ v hybrid. search rules);
+          told_none c.args.torrent.now contents c.in_ok-files.files.items c.of-stream.result.feed c.in_ok-files.ensures.items c.of-stream.ensures.stands
+          (λ v hybrid. search rules);
     };
   };
   told = subst (λ vs. HasSent (g.T.Telling.seen c.args.out.now) (g.T.Telling.seen c.args.out.now) (verdicts_text c.args.lines vs c.args.torrent.now.files))
@@ -65,7 +62,8 @@ files-init g c = record {
 }
 
 -- the lines with the next one
-next_text : (t : Description) (which : Lines) (n : ℕ) (files pushed : List FileVerdict) (v : FileVerdict) (f : FileEntry) → slice_get t.files n ≡ Some f → length files ≡ n
+next_text : (t : Description) (which : Lines) (n : ℕ) (files pushed : List FileVerdict) (v : FileVerdict) (f : FileEntry)
+    → slice_get t.files n ≡ Some f → length files ≡ n
     → pushed ≡ files ++ v ∷ [] → verdicts_text which files t.files ++ wanted_text which v f ≡ verdicts_text which pushed t.files
 next_text t which n files pushed v f there count is =
     sym (verdicts_push which files t.files v f (ap (slice_get t.files) count ∙ there)) ∙ ap (λ vs. verdicts_text which vs t.files) (sym is)
@@ -82,10 +80,12 @@ files-preserved g c =
     c.check_file-verdict.ensures.counts c.check_file-verdict.ensures.stays c.files.invariant.checked in
     record {
       room = omega (arith, c.files.invariant.room, c.push_reserved.ensures.capacity);
-      checked = subst (λ xs. IsChecked g.S.Shelf g.S.File.Source.seen t c.args.shelf.now (n + 1) xs c.check_file-verdict.new.stream.feed c.check_file-verdict.new.shelf)
+      checked = subst
+          (λ xs. IsChecked g.S.Shelf g.S.File.Source.seen t c.args.shelf.now (n + 1) xs c.check_file-verdict.new.stream.feed c.check_file-verdict.new.shelf)
           (sym c.push_reserved.ensures.items) checked;
       told = subst (HasSent (g.T.Telling.seen c.args.out.now) (g.T.Telling.seen c.tell.new.self))
-          (next_text t c.args.lines n c.files.files.items c.push_reserved.new.self.items v f there c.files.invariant.checked.passed.count c.push_reserved.ensures.items)
+          (next_text t c.args.lines n c.files.files.items c.push_reserved.new.self.items v f there c.files.invariant.checked.passed.count
+          c.push_reserved.ensures.items)
           (sent_more (g.T.Telling.seen c.args.out.now) (g.T.Telling.seen c.files.out) (g.T.Telling.seen c.tell.new.self)
           (verdicts_text c.args.lines c.files.files.items t.files) (wanted_text c.args.lines v f) c.files.invariant.told c.in_ok-tell.ensures);
     }
@@ -105,7 +105,8 @@ returns-in_err-tell-clause-cut g c =
     rw p.1 (λ _. (
       pushed,
       visits_first g.S.Shelf g.S.File.Source.seen t c.args.shelf.now c.check_file-verdict.new.shelf (n + 1) pushed c.check_file-verdict.new.stream.feed
-          (subst (λ xs. IsChecked g.S.Shelf g.S.File.Source.seen t c.args.shelf.now (n + 1) xs c.check_file-verdict.new.stream.feed c.check_file-verdict.new.shelf)
+          (subst
+          (λ xs. IsChecked g.S.Shelf g.S.File.Source.seen t c.args.shelf.now (n + 1) xs c.check_file-verdict.new.stream.feed c.check_file-verdict.new.shelf)
           (sym c.push_reserved.ensures.items) checked),
       subst (HasBroken (g.T.Telling.seen c.args.out.now) (g.T.Telling.seen c.tell.new.self))
           (next_text t c.args.lines n c.files.files.items pushed v f there c.files.invariant.checked.passed.count c.push_reserved.ensures.items)

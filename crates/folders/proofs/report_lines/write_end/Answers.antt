@@ -9,7 +9,8 @@ use Rattle.folders.specs.Verdicts.{is_yes}
 use Rattle.folders.proofs.report_lines.write_end.Goals as goal
 
 -- the last lines from their parts as they were made
-parts : (which : Lines) (files : List FileVerdict) (v1 : Option V1Verdict) (stream answer : List ℕ) → stream ≡ stream_text which v1 → answer ≡ answer_text (is_yes files v1)
+parts : (which : Lines) (files : List FileVerdict) (v1 : Option V1Verdict) (stream answer : List ℕ)
+    → stream ≡ stream_text which v1 → answer ≡ answer_text (is_yes files v1)
     → end_text which files v1 ≡ stream ++ answer
 parts which files v1 stream answer streamed answered =
     sym (ap (λ s. s ++ answer) streamed ∙ ap (λ a. stream_text which v1 ++ a) answered)

@@ -1,4 +1,4 @@
-use Rattle.std.proofs.Common.{◌≡◌, ◌++◌, List, ℕ, Option, map, ap, sym}
+use Rattle.std.proofs.Common.{◌≡◌, ◌++◌, List, Option, map, ap, sym}
 use Rattle.std.proofs.lemmas.Result.{err_from_is_err_and}
 use Rattle.benc.proofs.Out.{Wrote-then, Wrote-part}
 use Rattle.opening.specs.Description.{FileEntry}

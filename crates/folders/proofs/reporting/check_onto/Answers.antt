@@ -1,4 +1,4 @@
-use Rattle.std.proofs.Common.{◌≡◌, ◌∙◌, inl, inr, refl, sym}
+use Rattle.std.proofs.Common.{◌∙◌, inl, inr, refl, sym}
 use Rattle.std.proofs.lemmas.Result.{err_from_is_err_and}
 use Rattle.benc.proofs.Out.{Wrote-then}
 use Rattle.folders.specs.Printed.{end_text, report_text, verdicts_text}
@@ -32,8 +32,15 @@ returns-in_err-flush_after-clause-cut g c =
     (report_text c.args.lines t.files r.files.items r.v1) refl sent c.write_end-written.ensures in
     rw p.1 (λ is. record {
       files = r.files.items;
-      visits = visits_all g.S.Shelf g.S.File.Source.seen t c.args.shelf.now c.check_files.new.shelf r.files.items r.v1 told.verdicts told.tells told.once told.unreadable;
-      broke = inr (r.v1, told.verdicts, told.tells, c.in_err-flush_after.ensures (seen c.args.out.now) (report_text c.args.lines t.files r.files.items r.v1) wrote);
+      visits = visits_all g.S.Shelf g.S.File.Source.seen t c.args.shelf.now c.check_files.new.shelf r.files.items r.v1 told.verdicts told.tells told.once
+          told.unreadable;
+      broke = inr (
+        r.v1,
+        told.verdicts,
+        told.tells,
+        c.in_err-flush_after.ensures (seen c.args.out.now)
+            (report_text c.args.lines t.files r.files.items r.v1) wrote,
+      );
     })
 
 pub returns-clause-report : goal.returns-clause-report
