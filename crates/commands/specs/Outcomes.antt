@@ -14,6 +14,7 @@ use Rattle.seeding.specs.declared.seed_fault.SeedFault.{SeedFault}
 use Rattle.seeding.specs.declared.seed_fault.SeedFault.TheVariants as seeding
 use Rattle.folders.specs.declared.shelf_fault.ShelfFault.{ShelfFault}
 use Rattle.folders.specs.declared.shelf_fault.ShelfFault.TheVariants as listing
+use Rattle.folders.specs.declared.lines.Lines.TheVariants.{All}
 use Rattle.folders.specs.declared.report.FileVerdict.{FileVerdict}
 use Rattle.folders.specs.declared.report.V1Verdict.{V1Verdict}
 use Rattle.printing.specs.declared.fault.Fault.{Fault}
@@ -106,7 +107,7 @@ abbrev pub IsChecked : Description → (List (List ℕ) → Option (Option (List
     → (List FileVerdict → Type 0) → (List ℕ → Bool → Type 0) → Type 0
 IsChecked t under Went WentOut = (files : List FileVerdict) × (v1 : Option V1Verdict)
     × HasVerdicts t files v1 × TellsFolder t under files v1 × Went files
-    × WentOut (report_text t.files files v1) (is_yes files v1)
+    × WentOut (report_text All t.files files v1) (is_yes files v1)
 
 -- What a check did, by its answer: it went to the shelf so, a report on what stands under the
 -- torrent's paths went out, and the status is that of its last line; or the report broke off; or

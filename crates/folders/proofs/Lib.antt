@@ -11,3 +11,5 @@ pub mod Reports
 pub mod Layers
 pub mod OpenedRoots
 pub mod Pieces
+pub mod Told
+pub mod Checked

@@ -177,9 +177,16 @@ contents_of seen k = unwrap_or (slice_get seen k) None
 pub contents_extend : (seen : List (Option (List ℕ))) → Extends seen (contents_of seen)
 contents_extend seen k c is = ap (λ o. unwrap_or o None) is
 
--- they agree with what the shelf tells
+-- those of the first files agree with what the shelf tells
+pub first_agree : (t : Description) (under : List (List ℕ) → Option (Option (List ℕ))) (n : ℕ) (files : List FileVerdict) (running : Option V1Feed)
+    → (found : HasFound t under n files running) → (k : ℕ) (f : FileEntry) → k < n → slice_get t.files k ≡ Some f
+    → Agrees (under f.path) (contents_of found.seen k)
+first_agree t under n files running found k f lt there =
+    let at = item_at found.seen k (omega (arith, lt, found.count)) in
+    subst (Agrees (under f.path)) (sym (contents_extend found.seen k at.0 at.1)) (found.agree k f at.0 there at.1)
+
+-- and those of all
 pub contents_agree : (t : Description) (under : List (List ℕ) → Option (Option (List ℕ))) (n : ℕ) (files : List FileVerdict) (running : Option V1Feed)
     → n ≡ length t.files → (found : HasFound t under n files running) → AgreeWith t under (contents_of found.seen)
 contents_agree t under n files running all found k f there =
-    let at = item_at found.seen k (omega (arith, slice_get_within t.files k f there, found.count)) in
-    subst (Agrees (under f.path)) (sym (contents_extend found.seen k at.0 at.1)) (found.agree k f at.0 there at.1)
+    first_agree t under n files running found k f (omega (arith, slice_get_within t.files k f there, all)) there

@@ -11,6 +11,8 @@ pub mod Streaming
 pub mod Content
 pub mod Pass
 pub mod Printed
+pub mod Telling
+pub mod Stopping
 pub mod Visits
 pub mod TakeAll
 pub mod Feeding

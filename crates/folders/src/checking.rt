@@ -15,11 +15,15 @@ ghost use Rattle.chains.specs.Chain.{Chain};
 ghost use Rattle.folders.specs.Verdicts.{HasVerdicts, IsFileOf, IsVerdict, TellsFolder, fault_count, is_unreadable, is_whole, unreadable_count};
 
 use crate::NoMemory;
+use crate::all_files::check_files;
+use crate::check_fault::CheckFault;
 use crate::file_check::FileCheck;
+use crate::lines::Lines;
 use crate::report::{FileVerdict, Report};
 use crate::shelf::Shelf;
 use crate::stream::Stream;
-use crate::taking::{BUFFER_LENGTH, take_all};
+use crate::taking::take_all;
+use crate::telling::Untold;
 use benc::{DeviceFault, Source};
 use hashtree::{Hash, PieceCheck, Shape};
 use opening::{File, Torrent, TreeInfo};
@@ -51,23 +55,15 @@ pub fn check<S: Shelf>(
     ensures no_memory { OnErr result (shelf.new ≡ shelf.old) }
     ensures stays { S.contents shelf.new ≡ S.contents shelf.old }
 {
-    torrent.sound();
-    let entries = torrent.files();
-    let mut files = Vec::with_capacity(alloc, entries.len())?;
-    let mut stream = Stream::of(torrent.v1(), torrent.piece_length());
-    let mut buffer = [0u8; BUFFER_LENGTH];
-    'files: for file in entries {
-        files.push_reserved(check_file(shelf, torrent, file, &mut stream, &mut buffer));
+    match check_files(alloc, torrent, shelf, Lines::All, &mut Untold) {
+        Ok(report) => Ok(report),
+        Err(CheckFault::NoMemory) => Err(NoMemory),
+        Err(CheckFault::Write) => unreachable!(),
     }
-    let v1 = match torrent.v1() {
-        Some(_) => Some(stream.finish()),
-        None => None,
-    };
-    Ok(Report { files, v1 })
 }
 
-// Opens one file of the torrent, checks it, feeds it to the version 1 stream, and hands it back.
-fn check_file<S: Shelf>(
+/// Opens one file of the torrent, checks it, feeds it to the version 1 stream, and hands it back.
+pub(crate) fn check_file<S: Shelf>(
     shelf: &mut S,
     torrent: &Torrent<'_>,
     file: &File<'_>,

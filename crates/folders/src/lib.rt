@@ -2,22 +2,30 @@
 //! files.
 #![tactic(auto)]
 
+mod all_files;
+mod check_fault;
 mod checking;
 mod file_check;
+mod lines;
 pub mod memory;
 mod read_fault;
 mod report;
 mod report_lines;
+mod reporting;
 mod root;
 mod shelf;
 mod shelf_fault;
 mod stream;
 mod taking;
+mod telling;
 
+pub use check_fault::CheckFault;
 pub use checking::check;
+pub use lines::Lines;
 pub use read_fault::ReadFault;
 pub use report::{FileVerdict, Report, V1Verdict};
 pub use report_lines::print_report;
+pub use reporting::check_onto;
 pub use root::{RootFault, root_line};
 pub use shelf::Shelf;
 pub use shelf_fault::ShelfFault;

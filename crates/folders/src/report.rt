@@ -48,7 +48,8 @@ impl FileVerdict {
         matches!(self, FileVerdict::Good | FileVerdict::Bad(_))
     }
 
-    fn is_good(&self) -> bool
+    /// Whether its content is the file.
+    pub(crate) fn is_good(&self) -> bool
         ensures { result ≡ is_good self.now }
     {
         matches!(self, FileVerdict::Good)
@@ -70,8 +71,8 @@ fn all_good(files: &[FileVerdict]) -> bool
     files.iter().all(|verdict| verdict.is_good())
 }
 
-// Whether there is no version 1 stream, or its pieces are good.
-fn stream_is_good(v1: &Option<V1Verdict>) -> bool
+/// Whether there is no version 1 stream, or its pieces are good.
+pub(crate) fn stream_is_good(v1: &Option<V1Verdict>) -> bool
     ensures { result ≡ stream_is_good v1.now }
 {
     matches!(v1, None | Some(V1Verdict::Good))

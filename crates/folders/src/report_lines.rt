@@ -2,9 +2,10 @@
 ghost use Rattle.std.specs.Prelude.{◌≡◌, length, map, is_some, OnOk, true};
 ghost use Rattle.benc.specs.Device.{Wrote, WroteAndFlushed};
 ghost use Rattle.opening.specs.Seen.{file_entry};
-ghost use Rattle.folders.specs.Printed.{answer_text, file_verdict_text, report_text, stream_text, verdict_words, verdicts_text};
+ghost use Rattle.folders.specs.Printed.{answer_text, end_text, file_verdict_text, report_text, stream_text, stream_words, verdict_words, verdicts_text, wanted_text};
 
-use crate::report::{FileVerdict, Report, V1Verdict};
+use crate::lines::Lines;
+use crate::report::{FileVerdict, Report, V1Verdict, stream_is_good};
 use benc::{DeviceFault, Sink, WriteFault, write_all};
 use opening::{File, Torrent};
 use printing::{Line, flush_after, write_path};
@@ -21,7 +22,7 @@ pub fn print_report<W: Sink>(
     requires files { length report.now.files.items ≡ length torrent.now.files }
     requires hybrid { is_some report.now.v1 ≡ is_some torrent.now.v1 }
     ensures { WroteAndFlushed (W.seen out.old) (W.seen out.new) result
-        (report_text torrent.now.files report.now.files.items report.now.v1) }
+        (report_text Lines.All torrent.now.files report.now.files.items report.now.v1) }
 {
     let written = write_report(report, torrent.files(), out);
     flush_after(out, written)
@@ -34,10 +35,22 @@ fn write_report<W: Sink>(
 ) -> Result<(), DeviceFault>
     requires { length report.now.files.items ≡ length files.now }
     ensures { Wrote (W.seen out.old) (W.seen out.new) result
-        (report_text (map file_entry files.now) report.now.files.items report.now.v1) }
+        (report_text Lines.All (map file_entry files.now) report.now.files.items report.now.v1) }
 {
     write_verdicts(&report.files, files, out)?;
-    write_all(out, stream_line(&report.v1).as_slice())?;
+    write_end(report, Lines::All, out)
+}
+
+/// Writes what follows the lines of the files.
+pub(crate) fn write_end<W: Sink>(
+    report: &Report,
+    lines: Lines,
+    out: &mut W,
+) -> Result<(), DeviceFault>
+    ensures { Wrote (W.seen out.old) (W.seen out.new) result
+        (end_text lines report.now.files.items report.now.v1) }
+{
+    write_all(out, wanted_stream_line(lines, &report.v1).as_slice())?;
     write_all(out, answer(report.yes()).as_slice())
 }
 
@@ -48,12 +61,29 @@ fn write_verdicts<W: Sink>(
 ) -> Result<(), DeviceFault>
     requires { length verdicts.now ≡ length files.now }
     ensures { Wrote (W.seen out.old) (W.seen out.new) result
-        (verdicts_text verdicts.now (map file_entry files.now)) }
+        (verdicts_text Lines.All verdicts.now (map file_entry files.now)) }
 {
     'files: for i in 0..files.len() {
         write_verdict(verdicts[i], &files[i], out)?;
     }
     Ok(())
+}
+
+/// Writes the line of a file, if it is wanted.
+pub(crate) fn write_wanted<W: Sink>(
+    lines: Lines,
+    verdict: FileVerdict,
+    file: &File<'_>,
+    out: &mut W,
+) -> Result<(), DeviceFault>
+    ensures { Wrote (W.seen out.old) (W.seen out.new) result
+        (wanted_text lines verdict (file_entry file.now)) }
+{
+    if lines.include(verdict.is_good()) {
+        write_verdict(verdict, file, out)
+    } else {
+        Ok(())
+    }
 }
 
 fn write_verdict<W: Sink>(
@@ -87,8 +117,19 @@ fn words(verdict: FileVerdict) -> Line
     line
 }
 
+// The line of the version 1 pieces, or nothing if it is not wanted.
+fn wanted_stream_line(lines: Lines, v1: &Option<V1Verdict>) -> Line
+    ensures { result ≡ stream_text lines v1.now }
+{
+    if lines.include(stream_is_good(v1)) {
+        stream_line(v1)
+    } else {
+        Line::new()
+    }
+}
+
 fn stream_line(v1: &Option<V1Verdict>) -> Line
-    ensures { result ≡ stream_text v1.now }
+    ensures { result ≡ stream_words v1.now }
 {
     let mut line = Line::new();
     match v1 {

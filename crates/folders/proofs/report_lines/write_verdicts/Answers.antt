@@ -3,6 +3,7 @@ use Rattle.std.proofs.lemmas.List.{drop_more}
 use Rattle.std.proofs.lemmas.Result.{err_from_is_err_and}
 use Rattle.opening.specs.declared.torrent.File.{File}
 use Rattle.opening.specs.Seen.{file_entry}
+use Rattle.folders.specs.declared.lines.Lines.TheVariants.{All}
 use Rattle.folders.specs.declared.report.FileVerdict.{FileVerdict}
 use Rattle.folders.specs.declared.report.FileVerdict.TheVariants.{Good}
 use Rattle.folders.specs.Printed.{file_verdict_text, verdicts_text}
@@ -11,11 +12,11 @@ use Rattle.folders.proofs.report_lines.write_verdicts.Goals as goal
 
 -- the line at an index, and those behind it
 next_line : (verdicts : List FileVerdict) (files : List File) (i : ℕ) (file : File) → i < length verdicts → i < length files → file ≡ get_or files i file
-    → verdicts_text (drop i verdicts) (map file_entry (drop i files))
-    ≡ file_verdict_text (get_or verdicts i Good) (file_entry file) ++ verdicts_text (drop (i + 1) verdicts) (map file_entry (drop (i + 1) files))
+    → verdicts_text All (drop i verdicts) (map file_entry (drop i files))
+    ≡ file_verdict_text (get_or verdicts i Good) (file_entry file) ++ verdicts_text All (drop (i + 1) verdicts) (map file_entry (drop (i + 1) files))
 next_line verdicts files i file lt within there =
-    ap (λ vs. verdicts_text vs (map file_entry (drop i files))) (drop_more verdicts i Good lt)
-    ∙ ap (λ fs. verdicts_text (get_or verdicts i Good ∷ drop (i + 1) verdicts) (map file_entry fs)) (item_next files i file within there)
+    ap (λ vs. verdicts_text All vs (map file_entry (drop i files))) (drop_more verdicts i Good lt)
+    ∙ ap (λ fs. verdicts_text All (get_or verdicts i Good ∷ drop (i + 1) verdicts) (map file_entry fs)) (item_next files i file within there)
 
 pub returns-in_err-write_verdict : goal.returns-in_err-write_verdict
 returns-in_err-write_verdict g c =

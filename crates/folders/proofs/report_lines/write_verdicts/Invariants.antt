@@ -1,5 +1,6 @@
 use Rattle.std.proofs.Common.{drop, map}
 use Rattle.opening.specs.Seen.{file_entry}
+use Rattle.folders.specs.declared.lines.Lines.TheVariants.{All}
 use Rattle.folders.specs.Printed.{verdicts_text}
 use Rattle.printing.proofs.Parts.{SentBut}
 use Rattle.folders.proofs.report_lines.write_verdicts.Given as goal
@@ -8,4 +9,4 @@ use Rattle.folders.proofs.report_lines.write_verdicts.Given as goal
 abbrev pub invariant-files : goal.invariant-files
 invariant-files g l =
     SentBut (g.W.Sink.seen l.fn.out) (g.W.Sink.seen l.out)
-    (verdicts_text l.verdicts (map file_entry l.files)) (verdicts_text (drop l.i l.verdicts) (map file_entry (drop l.i l.files)))
+    (verdicts_text All l.verdicts (map file_entry l.files)) (verdicts_text All (drop l.i l.verdicts) (map file_entry (drop l.i l.files)))
