@@ -2,12 +2,12 @@
 # make check           runs what the merge gate runs: proofs, must-fail edits, all tests
 # make test            runs the built program on real files
 # make bench           measures the commands and what they stand on, compared with the digests alone
-# make install         puts the program, its manual page and its completions below PREFIX (and DESTDIR)
+# make install         puts the program, its manual page, its completions, its documents and examples and the relay
+#                      `tools/record` below PREFIX (and DESTDIR)
 # make uninstall       removes them
 # make static          links what was proved with a static C library: build/static/btcheck, one file that needs no
 #                      library
-# make dist            packs that program with manual, completions, documents, examples, licences and the relay
-#                      `tools/record`, and a list of SHA-256 digests
+# make dist            packs that program with all that `make install` puts beside it, and a list of SHA-256 digests
 # make clean           removes all that was built, kept proofs too
 # make CPU=x86-64-v3   builds for a newer processor (after make clean)
 
@@ -56,6 +56,8 @@ MANUAL = $(BELOW)/share/man/man1/btcheck.1"
 FOR_BASH = $(BELOW)/share/bash-completion/completions/btcheck"
 FOR_ZSH = $(BELOW)/share/zsh/site-functions/_btcheck"
 FOR_FISH = $(BELOW)/share/fish/vendor_completions.d/btcheck.fish"
+DOCUMENTS = $(BELOW)/share/doc/btcheck"
+RELAY = $(BELOW)/share/doc/btcheck/tools/record"
 
 # The program that is installed.
 BUILT := build/btcheck
@@ -66,9 +68,13 @@ install: build/btcheck
 	install -D -m 644 completions/btcheck.bash $(FOR_BASH)
 	install -D -m 644 completions/_btcheck $(FOR_ZSH)
 	install -D -m 644 completions/btcheck.fish $(FOR_FISH)
+	install -D -m 644 -t $(DOCUMENTS) README.md CHANGELOG.md LICENSE-MIT LICENSE-APACHE
+	find docs examples -type f -exec install -D -m 644 {} $(DOCUMENTS)/{} \;
+	install -D -m 755 tools/record $(RELAY)
 
 uninstall:
 	rm -f $(PROGRAM) $(MANUAL) $(FOR_BASH) $(FOR_ZSH) $(FOR_FISH)
+	rm -rf $(DOCUMENTS)
 
 # The kit's archives of C code, which a program is linked with.
 KIT_C = $(dir $(realpath $(shell command -v $(RT))))../c
@@ -89,9 +95,6 @@ PACKED = build/dist/$(RELEASE)
 dist: build/static/btcheck
 	rm -rf build/dist
 	$(MAKE) -s -o build/btcheck install BUILT=build/static/btcheck DESTDIR=build/dist/tree PREFIX=
-	install -D -m 644 -t build/dist/tree/share/doc/btcheck README.md LICENSE-MIT LICENSE-APACHE
-	cp -r docs examples build/dist/tree/share/doc/btcheck
-	install -D -m 755 -t build/dist/tree/tools tools/record
 	cd build/dist/tree && find . -type f | LC_ALL=C sort | xargs sha256sum > ../SHA256SUMS && mv ../SHA256SUMS .
 	mv build/dist/tree $(PACKED)
 	tar --sort=name --owner=0 --group=0 --numeric-owner --mode=go=rX --mtime=@0 \

@@ -314,6 +314,14 @@ def files_below(place):
     return {os.path.relpath(f"{folder}/{name}", place) for folder, _, names in os.walk(place) for name in names}
 
 
+def installed():
+    """What `make install` puts there: documents, examples and the relay as they lie here."""
+    documents = ["README.md", "CHANGELOG.md", "LICENSE-MIT", "LICENSE-APACHE", "tools/record"]
+    for kind in ("docs", "examples"):
+        documents += [f"{kind}/{name}" for name in files_below(f"{TOP}/{kind}")]
+    return INSTALLED | {f"share/doc/btcheck/{name}": name for name in documents}
+
+
 def test_install_and_uninstall():
     with folder() as place:
         def make(target):
@@ -321,11 +329,11 @@ def test_install_and_uninstall():
             subprocess.run(["make", "-s", "-o", "build/btcheck", target, *arguments], cwd=TOP, check=True)
         make("install")
         below = f"{place}/there/usr/a b"
-        assert files_below(below) == set(INSTALLED), files_below(below)
-        for there, here in INSTALLED.items():
+        assert files_below(below) == set(installed()), files_below(below)
+        for there, here in installed().items():
             with open(f"{below}/{there}", "rb") as one, open(f"{TOP}/{here}", "rb") as other:
                 assert one.read() == other.read(), there
-            assert os.access(f"{below}/{there}", os.X_OK) == there.startswith("bin/"), there
+            assert os.access(f"{below}/{there}", os.X_OK) == (here in ("build/btcheck", "tools/record")), there
         write(f"{below}/share/man/man1/other.1", b"")
         make("uninstall")
         assert files_below(below) == {"share/man/man1/other.1"}, files_below(below)

@@ -10,6 +10,10 @@ from trees import root_line
 
 OBJECT = f"{TOP}/crates/btcheck/out/btcheck.o"
 
+# What is installed beside the program, the manual and the completions.
+DOCUMENTS = ["README.md", "CHANGELOG.md", "LICENSE-MIT", "LICENSE-APACHE", "docs/RECORDING.md", "examples/pair.torrent",
+             "tools/record"]
+
 
 def make(target):
     """Makes this target. It needs the kit, and the object that `make` leaves."""
@@ -45,11 +49,11 @@ def test_dist():
         listed = {line.split()[1] for line in open(f"{below}/SHA256SUMS", encoding="utf-8")}
         there = {f"{at.replace(below, '.', 1)}/{file}" for at, _, files in os.walk(below) for file in files}
         assert there - listed == {"./SHA256SUMS"} and listed < there, there ^ listed
-        assert {"./bin/btcheck", "./share/man/man1/btcheck.1", "./share/doc/btcheck/LICENSE-MIT", "./tools/record",
-                "./share/doc/btcheck/docs/RECORDING.md", "./share/doc/btcheck/examples/pair.torrent"} < listed, listed
+        documents = {f"./share/doc/btcheck/{file}" for file in DOCUMENTS}
+        assert documents | {"./bin/btcheck", "./share/man/man1/btcheck.1"} < listed, listed
         done = subprocess.run([f"{below}/bin/btcheck", "root", "/dev/null"], stdout=subprocess.PIPE, check=True)
         assert done.stdout == b"0 -\n"
-        subprocess.run([f"{below}/tools/record", "--help"], stdout=subprocess.DEVNULL, check=True)
+        subprocess.run([f"{below}/share/doc/btcheck/tools/record", "--help"], stdout=subprocess.DEVNULL, check=True)
     make("dist")
     with open(archive, "rb") as file:
         assert file.read() == first

@@ -13,3 +13,6 @@ pub mod Either
 pub mod Unique
 pub mod Reached
 pub mod Spelled
+pub mod Stores
+pub mod SoFar
+pub mod Fronts

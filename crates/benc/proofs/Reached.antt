@@ -5,30 +5,25 @@ use Rattle.std.proofs.lemmas.List.{append-nil, length-append}
 use Rattle.benc.specs.Value.{Bencode, no_pairs, pair}
 use Rattle.benc.specs.Spelling.{string, IsAbove, Spelled, SpelledItems, SpelledPairs}
 use Rattle.benc.specs.Fails.{a_value, a_value_or_end, Level, in_list, at_value, last_key, Begun, StartsGrowing, Reaches}
-use Rattle.benc.specs.Parser.{GrowsForItem, GrowsForPair, HasItem, HasPair, IfMemory, ReachesItem, ReachesPair}
-use Rattle.benc.specs.declared.stop.Stop.{Stop}
-use Rattle.benc.specs.declared.stop.Stop.TheVariants as stops
-use Rattle.benc.specs.View.{Seen, view, pair_view, items_view, pairs_view}
-use Rattle.benc.specs.declared.value.Value.{Value}
-use Rattle.benc.specs.declared.value.Pair.{Pair}
+use Rattle.benc.specs.Parser.{GrowsForItem, GrowsForPair, HasItem, HasPair, ReachesItem, ReachesPair}
+use Rattle.benc.specs.View.{Seen, items_of, pairs_of}
 
 -- finished items, where one comes at the end
-pub items_grow : (room : ℕ) (vs : List Value) (v : Value) (done front : List ℕ) → SpelledItems room (items_view vs) done → Spelled room (view v) front
-    → SpelledItems room (items_view (vs ++ v ∷ [])) (done ++ front)
+pub items_grow : (room : ℕ) (vs : List Bencode) (v : Bencode) (done front : List ℕ) → SpelledItems room (items_of vs) done → Spelled room v front
+    → SpelledItems room (items_of (vs ++ v ∷ [])) (done ++ front)
 items_grow room [] v done front s t = (front, [], ap (λ d. d ++ front) s ∙ sym (append-nil front), t, refl)
 items_grow room (w ∷ vs) v done front s t =
     (s.0, s.1 ++ front, ap (λ d. d ++ front) s.2 ∙ append_assoc s.0 s.1 front, s.3, items_grow room vs v s.1 front s.4 t)
 
 -- finished pairs, where one comes at the end
-pub pairs_grow : (room : ℕ) (before : Option (List ℕ)) (ps : List Pair) (x : Pair) (k : List ℕ) (v : Bencode) (done front : List ℕ) → pair_view x ≡ (k, v)
-    → SpelledPairs room before (pairs_view ps) done
-    → length k < 10 ^ 10 → IsAbove k (last_key before (pairs_view ps)) → Spelled room v front
-    → SpelledPairs room before (pairs_view (ps ++ x ∷ [])) (done ++ (string k ++ front))
-pairs_grow room before [] x k v done front seen s small above t =
-    subst (λ (y : Seen). SpelledPairs room before (pair y.0 y.1 no_pairs) (done ++ (string k ++ front))) (sym seen)
+pub pairs_grow : (room : ℕ) (before : Option (List ℕ)) (ps : List Seen) (k : List ℕ) (v : Bencode) (done front : List ℕ)
+    → SpelledPairs room before (pairs_of ps) done
+    → length k < 10 ^ 10 → IsAbove k (last_key before (pairs_of ps)) → Spelled room v front
+    → SpelledPairs room before (pairs_of (ps ++ (k, v) ∷ [])) (done ++ (string k ++ front))
+pairs_grow room before [] k v done front s small above t =
     (front, [], ap (λ d. d ++ (string k ++ front)) s ∙ ap (λ b. string k ++ b) (sym (append-nil front)), small, above, t, refl)
-pairs_grow room before (p ∷ ps) x k v done front seen s small above t =
-    let name = string (pair_view p).0 in
+pairs_grow room before (p ∷ ps) k v done front s small above t =
+    let name = string p.0 in
     let more = string k ++ front in (
       s.0,
       s.1 ++ more,
@@ -36,28 +31,24 @@ pairs_grow room before (p ∷ ps) x k v done front seen s small above t =
       s.3,
       s.4,
       s.5,
-      pairs_grow room (Some (pair_view p).0) ps x k v s.1 front seen s.6 small above t,
+      pairs_grow room (Some p.0) ps k v s.1 front s.6 small above t,
     )
 
-pub last_grows : (before : Option (List ℕ)) (ps : List Pair) (x : Pair) → last_key before (pairs_view (ps ++ x ∷ [])) ≡ Some (pair_view x).0
+pub last_grows : (before : Option (List ℕ)) (ps : List Seen) (x : Seen) → last_key before (pairs_of (ps ++ x ∷ [])) ≡ Some x.0
 last_grows before [] x = refl
-last_grows before (p ∷ ps) x = last_grows (Some (pair_view p).0) ps x
-
-pub memory_on : (e : Stop) (P Q : List ℕ → Type 0) → ((t : List ℕ) → P t → Q t) → IfMemory e P → IfMemory e Q
-memory_on (stops.Memory rest) P Q h x = h rest.now x
-memory_on (stops.Fault f rest) P Q h x = tt
+last_grows before (p ∷ ps) x = last_grows (Some p.0) ps x
 
 -- the first of some finished items, and of some finished pairs
-pub has_item : (room : ℕ) (vs : List Value) (v : Value) (bytes done front rest : List ℕ) → bytes ≡ done ++ (front ++ rest)
-    → SpelledItems room (items_view vs) done → Spelled room (view v) front → HasItem room bytes
-has_item room [] v bytes done front rest e s t = (view v, front, rest, e ∙ ap (λ d. d ++ (front ++ rest)) s, (front, [], sym (append-nil front), t, refl))
+pub has_item : (room : ℕ) (vs : List Bencode) (v : Bencode) (bytes done front rest : List ℕ) → bytes ≡ done ++ (front ++ rest)
+    → SpelledItems room (items_of vs) done → Spelled room v front → HasItem room bytes
+has_item room [] v bytes done front rest e s t = (v, front, rest, e ∙ ap (λ d. d ++ (front ++ rest)) s, (front, [], sym (append-nil front), t, refl))
 has_item room (w ∷ vs) v bytes done front rest e s t =
     let more = front ++ rest in
-    (view w, s.0, s.1 ++ more, e ∙ ap (λ d. d ++ more) s.2 ∙ append_assoc s.0 s.1 more, (s.0, [], sym (append-nil s.0), s.3, refl))
+    (w, s.0, s.1 ++ more, e ∙ ap (λ d. d ++ more) s.2 ∙ append_assoc s.0 s.1 more, (s.0, [], sym (append-nil s.0), s.3, refl))
 
-pub has_pair : (room : ℕ) (ps : List Pair) (k : List ℕ) (v : Bencode) (bytes done front rest : List ℕ) → bytes ≡ done ++ (string k ++ (front ++ rest))
-    → SpelledPairs room None (pairs_view ps) done
-    → length k < 10 ^ 10 → IsAbove k (last_key None (pairs_view ps)) → Spelled room v front → HasPair room bytes
+pub has_pair : (room : ℕ) (ps : List Seen) (k : List ℕ) (v : Bencode) (bytes done front rest : List ℕ) → bytes ≡ done ++ (string k ++ (front ++ rest))
+    → SpelledPairs room None (pairs_of ps) done
+    → length k < 10 ^ 10 → IsAbove k (last_key None (pairs_of ps)) → Spelled room v front → HasPair room bytes
 has_pair room [] k v bytes done front rest e s small above t = (
   k,
   v,
@@ -68,9 +59,9 @@ has_pair room [] k v bytes done front rest e s small above t = (
 )
 has_pair room (p ∷ ps) k v bytes done front rest e s small above t =
     let more = string k ++ (front ++ rest) in
-    let name = string (pair_view p).0 in (
-      (pair_view p).0,
-      (pair_view p).1,
+    let name = string p.0 in (
+      p.0,
+      p.1,
       name ++ s.0,
       s.1 ++ more,
       e ∙ ap (λ d. d ++ more) s.2 ∙ append_assoc name (s.0 ++ s.1) more ∙ ap (λ b. name ++ b) (append_assoc s.0 s.1 more)

@@ -6,10 +6,8 @@ use Rattle.benc.specs.Value.{int, text, list, dict, Items, Pairs}
 use Rattle.benc.specs.View.{view, pair_view, items_view, pairs_view}
 use Rattle.benc.specs.Digits.{is_digit}
 use Rattle.benc.specs.Items.{integer_at, string_at}
-use Rattle.benc.specs.Parser.{◌>>=◌, Parsed, Failed, Stopped, begun_at, items_at, pairs_at, value_at, value_with}
+use Rattle.benc.specs.Parser.{◌>>=◌, Parsed, begun_at, items_at, pairs_at, value_at, value_with}
 use Rattle.benc.specs.declared.fault.FaultKind.TheVariants.{Truncated, BadStart, TooDeep}
-use Rattle.benc.specs.declared.stop.Stop.{Stop}
-use Rattle.benc.specs.declared.stop.Stop.TheVariants as stops
 use Rattle.benc.specs.declared.value.Value.{Value, Int, Bytes, List as ListOf, Dict, the_lemmas}
 use Rattle.benc.specs.declared.value.Pair.{Pair}
 use Rattle.benc.proofs.Turns.{is_other}
@@ -94,8 +92,3 @@ view-Dict v = search (rules, the_lemmas)
 
 pub view-Pair : (k : Bor (List ℕ)) (v : Value) → pair_view (record { key = k; value = v }) ≡ (k.now, view v)
 view-Pair k v = search (rules, the_lemmas)
-
--- an error of a part is one of the whole
-pub fails_on : {Y Z : Type 0} (e : Stop) (r : Result Y Failed) (s : Result Z Failed) → ((f : Failed) → r ≡ Err f → s ≡ Err f) → Stopped e r → Stopped e s
-fails_on (stops.Memory rest) r s h x = tt
-fails_on (stops.Fault f rest) r s h x = h (f, rest.now) x

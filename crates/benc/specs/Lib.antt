@@ -15,4 +15,5 @@ pub mod Answers
 pub mod Messages
 pub mod Items
 pub mod Parser
+pub mod Storing
 pub mod Laws

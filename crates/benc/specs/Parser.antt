@@ -14,7 +14,6 @@ use Rattle.benc.specs.Items.{integer_at, string_at, key_at}
 use Rattle.benc.specs.declared.fault.FaultKind.{FaultKind}
 use Rattle.benc.specs.declared.fault.FaultKind.TheVariants.{Truncated, BadStart, TooDeep}
 use Rattle.benc.specs.declared.stop.Stop.{Stop}
-use Rattle.benc.specs.declared.stop.Stop.TheVariants as stops
 
 -- a fault, and what is left from the failing item on
 abbrev pub Failed : Type 0
@@ -80,20 +79,10 @@ items_behind room bytes = items_at (value_at room) (length bytes) bytes
 abbrev pub pairs_behind : ℕ → List ℕ → Parsed Pairs
 pairs_behind room bytes = pairs_at (value_at room) (length bytes) None bytes
 
--- reading gives the fault that a function of the code returned, unless memory ran out
-abbrev pub Stopped : {Y : Type 0} → Stop → Result Y Failed → Type 0
-Stopped (stops.Memory rest) read = Unit {0}
-Stopped (stops.Fault f rest) read = read ≡ Err (f, rest.now)
-
--- what it returned, seen by `view`, is what reading gives, unless memory ran out
-abbrev pub ParsesAs : {X Y : Type 0} → (X → Y) → Result X Stop → Result Y Failed → Type 0
-ParsesAs view (Ok x) read = read ≡ Ok (view x)
-ParsesAs view (Err e) read = Stopped e read
-
--- if memory ran out, the fact holds of what is left from the failing item on
-abbrev pub IfMemory : Stop → (List ℕ → Type 0) → Type 0
-IfMemory (stops.Memory rest) P = P rest.now
-IfMemory (stops.Fault f rest) P = Unit {0}
+-- the function of the code answers the fault that reading gives, or what reading leaves
+abbrev pub ReadsOn : {X Y : Type 0} → (X → List ℕ) → Result X Stop → Parsed Y → Type 0
+ReadsOn left (Ok x) read = (read >>= λ y. Ok y.1) ≡ Ok (left x)
+ReadsOn left (Err e) read = read ≡ Err (e.kind, e.rest.now)
 
 -- a whole item stands at the front
 abbrev pub HasItem : ℕ → List ℕ → Type 0

@@ -1,12 +1,13 @@
 //! Decoding: the value that bytes spell, or their first fault (BEP 3, "bencoding", canonical form
 //! alone).
-ghost use Rattle.std.specs.Prelude.{◌≡◌, ◌≤◌, ◌++◌, List, ℕ, length, take, IfOk, IfErr, IfSome};
+ghost use Rattle.std.specs.Prelude.{◌≡◌, ◌≢◌, ◌≤◌, ◌++◌, List, ℕ, length, take, IfOk, IfErr, IfSome};
 ghost use Rattle.std.specs.Option.{option_copied};
-ghost use Rattle.benc.specs.Answers.{AnswersFault, IsAtGrowth, IsFaultOf, UnlessNoMemory};
-ghost use Rattle.benc.specs.Fails.{Stops, Fails};
+ghost use Rattle.benc.specs.Answers.{AnswersFault, IsAtGrowth, IsFaultOf, IsOfSpelling, IsOfFront, UnlessNoMemory};
+ghost use Rattle.benc.specs.Fails.{Stops, Fails, Reaches};
 ghost use Rattle.benc.specs.Lookup.{StandsUnder, span_of};
 ghost use Rattle.benc.specs.Parser.{IsSpanOf, StandsIn};
-ghost use Rattle.benc.specs.Spelling.{Spells};
+ghost use Rattle.benc.specs.Spelling.{Spells, max_open};
+ghost use Rattle.benc.specs.Storing.{Keeps};
 ghost use Rattle.benc.specs.Text.{spelling, IsCanonical};
 ghost use Rattle.benc.specs.Value.{Bencode};
 ghost use Rattle.benc.specs.View.{view};
@@ -15,7 +16,7 @@ ghost use Rattle.benc.specs.declared.fault.FaultKind.{FaultKind};
 use crate::canonical::MAX_OPEN;
 use crate::fault::{Fault, FaultKind};
 use crate::parser::value;
-use crate::stop::Stop;
+use crate::store::Store;
 use crate::value::Value;
 use std::alloc::Global;
 
@@ -23,12 +24,14 @@ use std::alloc::Global;
 ///
 /// Items are read from left to right and the first fault is answered, with the offset in bytes at
 /// which the failing item starts; `FaultKind` says when each comes. `NoMemory` comes only if a list
-/// or dictionary could not grow, and its offset is where that one starts. After a fault there is no
-/// value.
+/// or dictionary could not grow and the input has no fault; its offset is where that one starts.
+/// After a fault there is no value.
 pub fn decode<'a>(alloc: Global, input: &'a [u8]) -> Result<Value<'a>, Fault>
     ensures found { IfOk result (λ v. Spells (view v) input.now) }
     ensures fault { IfErr result (IsFaultOf (Fails input.now)) }
     ensures memory { IfErr result (IsAtGrowth input.now) }
+    // Out of memory hides no fault.
+    ensures spelled { IfErr result (IsOfSpelling input.now) }
     ensures only { (v : Bencode) → Spells v input.now → UnlessNoMemory result (λ w. view w ≡ v) }
     // It answers the one fault that the input has.
     ensures first { (kind : FaultKind) (offset : ℕ) → Fails input.now kind offset
@@ -48,13 +51,17 @@ pub fn decode_front<'a>(alloc: Global, input: &'a [u8]) -> Result<(Value<'a>, us
     ensures found { IfOk result (λ x. Spells (view x.0) (take x.1 input.now)) }
     ensures fault { IfErr result (IsFaultOf (Stops input.now)) }
     ensures memory { IfErr result (IsAtGrowth input.now) }
+    // Out of memory hides no fault.
+    ensures spelled { IfErr result (IsOfFront input.now) }
     ensures only { (v : Bencode) (front rest : List ℕ) → input.now ≡ front ++ rest → Spells v front
         → UnlessNoMemory result (λ x. (view x.0 ≡ v) × (x.1 ≡ length front)) }
     // It answers the one fault that the input has.
     ensures first { (kind : FaultKind) (offset : ℕ) → Stops input.now kind offset
         → AnswersFault result kind offset }
 {
-    let (v, _, used) = parse_front(alloc, input, None)?;
+    let mut store = Store::new(alloc);
+    let (v, _, used) = parse_front(&mut store, input, None)?;
+    store.check(input)?;
     Ok((v, used))
 }
 
@@ -71,6 +78,8 @@ pub fn decode_with_span<'a>(
     ensures stands { IfOk result (λ x. IfSome (option_copied x.1) (StandsUnder input.now key.now)) }
     ensures fault { IfErr result (IsFaultOf (Fails input.now)) }
     ensures memory { IfErr result (IsAtGrowth input.now) }
+    // Out of memory hides no fault.
+    ensures spelled { IfErr result (IsOfSpelling input.now) }
     ensures only { (v : Bencode) → Spells v input.now
         → UnlessNoMemory result (λ x. view x.0 ≡ v) }
     // It answers the one fault that the input has.
@@ -90,6 +99,8 @@ pub fn span<'a>(alloc: Global, input: &'a [u8], key: &[u8]) -> Result<Option<&'a
     ensures stands { IfOk result (λ s. IfSome (option_copied s) (StandsUnder input.now key.now)) }
     ensures fault { IfErr result (IsFaultOf (Fails input.now)) }
     ensures memory { IfErr result (IsAtGrowth input.now) }
+    // Out of memory hides no fault.
+    ensures spelled { IfErr result (IsOfSpelling input.now) }
     ensures only { (v : Bencode) → Spells v input.now
         → UnlessNoMemory result (λ s. option_copied s ≡ span_of key.now v) }
     // It answers the one fault that the input has.
@@ -112,47 +123,47 @@ fn parse_whole<'a>(
     ensures stands { IfOk result (λ x. StandsIn input.now asked.entry x.1) }
     ensures fault { IfErr result (IsFaultOf (Fails input.now)) }
     ensures memory { IfErr result (IsAtGrowth input.now) }
+    // Out of memory hides no fault.
+    ensures spelled { IfErr result (IsOfSpelling input.now) }
     ensures only { (v : Bencode) → Spells v input.now
         → UnlessNoMemory result (λ x. view x.0 ≡ v) }
     ensures first { (kind : FaultKind) (offset : ℕ) → Fails input.now kind offset
         → AnswersFault result kind offset }
 {
-    let (v, span, used) = parse_front(alloc, input, asked)?;
+    let mut store = Store::new(alloc);
+    let (v, span, used) = parse_front(&mut store, input, asked)?;
     if used < input.len() {
         return Err(Fault {
             kind: FaultKind::Trailing,
             offset: used,
         });
     }
+    store.check(input)?;
     Ok((v, span))
 }
 
 // The value at the front, the bytes of the value under the key that is asked for, and how many
-// bytes it takes.
+// bytes it takes. If the store refused a growth, only the bytes that it takes count.
 fn parse_front<'a>(
-    alloc: Global,
+    store: &mut Store<'a>,
     input: &'a [u8],
     asked: Option<&[u8]>,
 ) -> Result<(Value<'a>, Option<&'a [u8]>, usize), Fault>
+    requires { Keeps store.old }
     ensures used { IfOk result (λ x. x.2 ≤ length input.now) }
-    ensures found { IfOk result (λ x. Spells (view x.0) (take x.2 input.now)) }
-    ensures span { IfOk result (λ x. IsSpanOf asked.entry (view x.0) x.1) }
-    ensures fault { IfErr result (IsFaultOf (Stops input.now)) }
-    ensures memory { IfErr result (IsAtGrowth input.now) }
-    ensures only { (v : Bencode) (front rest : List ℕ) → input.now ≡ front ++ rest → Spells v front
-        → UnlessNoMemory result (λ x. (view x.0 ≡ v) × (x.2 ≡ length front)) }
-    ensures first { (kind : FaultKind) (offset : ℕ) → Stops input.now kind offset
-        → AnswersFault result kind offset }
+    ensures spelled { IfOk result (λ x. (v : Bencode) × Spells v (take x.2 input.now)) }
+    ensures kept { Keeps store.new → IfOk result (λ x. Spells (view x.0) (take x.2 input.now)) }
+    ensures span { Keeps store.new → IfOk result (λ x. IsSpanOf asked.entry (view x.0) x.1) }
+    ensures memory { IfOk result (λ _. IfSome (option_copied store.new.refused)
+        (Reaches max_open input.now)) }
+    ensures fault { IfErr result
+        (λ f. (f.kind ≢ FaultKind.NoMemory) × Stops input.now f.kind f.offset) }
 {
-    match value(alloc, input, MAX_OPEN, asked) {
+    match value(store, input, MAX_OPEN, asked) {
         Ok((v, span, rest)) => Ok((v, span, input.len() - rest.len())),
-        Err(Stop::Memory(rest)) => Err(Fault {
-            kind: FaultKind::NoMemory,
-            offset: input.len() - rest.len(),
-        }),
-        Err(Stop::Fault(kind, rest)) => Err(Fault {
-            kind,
-            offset: input.len() - rest.len(),
+        Err(stop) => Err(Fault {
+            kind: stop.kind,
+            offset: input.len() - stop.rest.len(),
         }),
     }
 }

@@ -12,6 +12,7 @@ pub mod memory;
 mod parser;
 mod scan;
 mod stop;
+mod store;
 mod value;
 
 pub use adapters::{FromRead, FromWrite};

@@ -8,6 +8,7 @@ use crate::NoMemory;
 use crate::node::{Hash, parent, zero};
 use crate::peaks::Peaks;
 use crate::shape::Shape;
+use sha256_lanes::parents;
 use std::alloc::Global;
 
 /// The root of the tree over a layer, which is given without its pads. It takes no memory.
@@ -69,7 +70,10 @@ fn level_above(alloc: Global, level: &[Hash], pad: &Hash) -> Result<Vec<Hash>, N
         ≡ map (joined_at level.now pad.now) (range_with_len 0 ((length level.now + 1) / 2))) }
 {
     let mut above = Vec::with_capacity(alloc, level.len().div_ceil(2))?;
-    for i in 0..level.len().div_ceil(2) {
+    'groups: for group in 0..level.len() / 16 {
+        above.extend_from_slice(&parents(&level[16 * group..16 * group + 16]))?;
+    }
+    'rest: for i in 8 * (level.len() / 16)..level.len().div_ceil(2) {
         let right = level.get(2 * i + 1).copied().unwrap_or(*pad);
         above.push(parent(&level[2 * i], &right))?;
     }
