@@ -87,19 +87,6 @@ def records():
         messages.request(large.root, 0, 512, 512, 9)]
 
 
-def test_calls_that_no_command_makes():
-    """Parts of bencoding, layers of a content, and frames without their directions."""
-    content = bytes(range(256)) * 256 + b"abc"
-    frames = messages.piece(0, 0, b"abc") + messages.KEEP_ALIVE + messages.hashes(bytes(32), 0, 0, 2, 0, given=[bytes(32)] * 2)
-    with shimmed(GROWTHS) as (place, shim):
-        path = write(f"{place}/torrent", ABC)
-        for call, given, named in [("parts", torrent(hybrid()), ["decode_front", "span"]),
-                                  ("layers", content, ["LayerBuilder", "fill_levels"]),
-                                  ("frames", frames, ["FrameReader", "FrameReader::reserve"])]:
-            counts = calls_refused(shim, call, path, write(f"{place}/given", given), "paged", call)
-            assert all(counts[of] > 0 for of in named), (call, counts)
-
-
 def test_sessions():
     with shimmed(GROWTHS) as (place, shim):
         for name, files, piece_length, frames in records():
