@@ -75,7 +75,7 @@ def build_sessions():
 
 
 def resident_peak(pid):
-    """The largest resident set in KiB so far; what wait4 tells has this script's own before the exec in it."""
+    """The largest resident set in KiB so far; what wait4 gives has this script's own before the exec in it."""
     try:
         with open(f"/proc/{pid}/status", encoding="ascii", errors="replace") as status:
             return next((int(line.split()[1]) for line in status if line.startswith("VmHWM:")), 0)
@@ -102,9 +102,9 @@ def measure(command, statuses=(0,)):
 
 def see_answer(command, answer):
     """Ends where a command does not print this answer: then it did not do what is to be measured."""
-    told = subprocess.run(command, check=True, stdout=subprocess.PIPE, text=True).stdout.strip()
-    if told != str(answer):
-        sys.exit(f"{' '.join(command)} printed {told} and not {answer}")
+    printed = subprocess.run(command, check=True, stdout=subprocess.PIPE, text=True).stdout.strip()
+    if printed != str(answer):
+        sys.exit(f"{' '.join(command)} printed {printed} and not {answer}")
 
 
 class Rounds:
@@ -170,12 +170,12 @@ def need_program():
 
 
 def lacks(command):
-    """Tells on standard output if the program does not have this command yet."""
+    """Says on standard output if the program does not have this command yet."""
     need_program()
-    told = subprocess.run([BTCHECK, command, "--help"], stdout=subprocess.DEVNULL, stderr=subprocess.DEVNULL)
-    if told.returncode != 0:
+    printed = subprocess.run([BTCHECK, command, "--help"], stdout=subprocess.DEVNULL, stderr=subprocess.DEVNULL)
+    if printed.returncode != 0:
         print(f"btcheck {command} is skipped: build/btcheck does not have it")
-    return told.returncode != 0
+    return printed.returncode != 0
 
 
 def missed_marks(found, first, marks):

@@ -1,5 +1,5 @@
 """The inputs that cost a command the most time or memory beside their own size: torrents of `--part` MiB and records of
-sixteen times as much, each built by a function below and run once. Told are processor time and the largest resident
+sixteen times as much, each built by a function below and run once. Printed are processor time and the largest resident
 set, each for a MiB of the input. At the default sizes it needs 8 GiB of memory, and takes some twenty minutes: a record
 of 1 GiB of keep-alives has 268 million frames, and as many lines."""
 import itertools

@@ -102,8 +102,8 @@ def sections():
 
 def missing():
     """The definitions that are cited and do not stand in the document."""
-    told = set(re.findall(r"^\| `(.*?)` \|", text_of(DOCUMENT), re.M))
-    return sorted(f"{crate} {path} {name}" for crate, path, name in cited() if name not in told)
+    listed = set(re.findall(r"^\| `(.*?)` \|", text_of(DOCUMENT), re.M))
+    return sorted(f"{crate} {path} {name}" for crate, path, name in cited() if name not in listed)
 
 
 def main(arguments):

@@ -66,9 +66,9 @@ def report(torrent, folder):
         lines.append(f"{verdicts[-1]} {escaped(b'/'.join(path).decode())}")
         first += pieces_of(length, torrent.piece_length)
     if torrent.is_hybrid:
-        whole = all(told == "good" or told.startswith("bad ") for told in verdicts)
+        whole = all(answer == "good" or answer.startswith("bad ") for answer in verdicts)
         verdicts.append(version_1_verdict(torrent, states) if whole else "not checked")
         lines.append(f"v1 {verdicts[-1]}")
-    yes = all(told == "good" for told in verdicts)
+    yes = all(answer == "good" for answer in verdicts)
     text = "".join(f"{line}\n" for line in [*lines, "yes" if yes else "no"])
     return 0 if yes else 1, text.encode()

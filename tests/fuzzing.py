@@ -205,11 +205,11 @@ class Fuzz:
         """How many cases there were in a minute of one processor's time, the models' own time with it."""
         return round(60 * self.cases.total() / (seconds_of_processors() - self.start))
 
-    def compare(self, kind, wanted, *arguments, told=b""):
-        """The program answers so, and tells this on standard error."""
+    def compare(self, kind, wanted, *arguments, error=b""):
+        """The program answers so, and prints this on standard error."""
         done = run(*arguments, timeout=SECONDS, memory=MEMORY)
         seen = (done.returncode, done.stdout)
-        if seen != wanted or done.stderr != told:
+        if seen != wanted or done.stderr != error:
             kept = f"{TOP}/build/fuzz {self.name}"
             shutil.rmtree(kept, ignore_errors=True)
             shutil.copytree(self.place, kept, symlinks=True)
@@ -249,8 +249,8 @@ class Fuzz:
     def conversion(self, draw):
         *_, record = self.drawn_record(draw, 0.1)
         path, out = write(f"{self.place}/record", record), f"{self.place}/out"
-        status, printed, told, least = record_model.conversion(record, path)
-        self.compare("conversion", (status, printed), "convert", path, out, told=told)
+        status, printed, error, least = record_model.conversion(record, path)
+        self.compare("conversion", (status, printed), "convert", path, out, error=error)
         with open(out, "rb") as file:
             seen = file.read()
         if seen[:len(least)] != least or (status == 0 and seen != least):
@@ -353,5 +353,5 @@ def summary(fuzz):
     """How many cases were compared, how fast, and how often the program answered what."""
     yield f"{fuzz.cases.total()} cases, {fuzz.rate()} a minute of a processor's time"
     for kind, answers in fuzz.answers.items():
-        told = ", ".join(f"{answer} {count}" for answer, count in answers.most_common())
-        yield f"{fuzz.cases[kind]} cases of a {kind} compared: {told}"
+        error = ", ".join(f"{answer} {count}" for answer, count in answers.most_common())
+        yield f"{fuzz.cases[kind]} cases of a {kind} compared: {error}"

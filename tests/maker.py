@@ -20,13 +20,13 @@ def make(order):
     made = torrent.generate()
     with open(order["torrent"], "wb") as out:
         out.write(lt.bencode(made))
-    return told(made[b"info"][b"name"].decode(), lt.torrent_info(order["torrent"]))
+    return facts(made[b"info"][b"name"].decode(), lt.torrent_info(order["torrent"]))
 
 
-def told(name, info):
+def facts(name, info):
     """Name, piece length, info-hashes, and each file's length, root and path, in the torrent's order.
 
-    The name is the one that was written: read back, libtorrent tells the file's name where a folder has one file.
+    The name is the one that was written: read back, libtorrent gives the file's name where a folder has one file.
     """
     files = info.files()
     listed = []

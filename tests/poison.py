@@ -11,9 +11,9 @@ OTHER_IDS = [0, 4, 5, 6, 8, 20, 24, 255]
 WRONG_SIZES = [(7, 8), (7, 263218), (21, 50), (21, 1), (22, 48), (22, 80), (23, 48), (22, 263218)]
 
 
-def numbered(told):
-    """The lines of a report in which this is told of each frame."""
-    return [f"{number} {text}" for number, texts in enumerate(told, 1) for text in texts]
+def numbered(verdicts):
+    """The lines of a report that has these texts for each frame."""
+    return [f"{number} {text}" for number, texts in enumerate(verdicts, 1) for text in texts]
 
 
 class Peers:
@@ -26,8 +26,8 @@ class Peers:
         self.answers = []  # the frame that answers each request
         self.trees = [tree["whole"] for tree in self.model.trees.values()]
 
-    def told(self, count):
-        """So many frames, and what is told of each: a list of texts."""
+    def verdicts(self, count):
+        """So many frames, and the verdict on each: a list of texts."""
         kinds = [self.hashes, self.hashes, self.hashes, self.piece, self.piece, self.request, self.reject, self.other,
                  self.wrong_size]
         frames = [self.chance.choice(kinds)() for _ in range(count)]
@@ -35,8 +35,8 @@ class Peers:
 
     def messages(self, count):
         """So many frames, and the lines of each."""
-        frames, told = self.told(count)
-        return frames, numbered(told)
+        frames, verdicts = self.verdicts(count)
+        return frames, numbered(verdicts)
 
     def is_rare(self, rate):
         return self.chance.random() < rate

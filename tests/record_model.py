@@ -87,10 +87,10 @@ def report(session, record):
     """The status and the text of `replay` of this record."""
     found, last = read(record)
     take = session.take_answer if record.startswith(FORM_2) else session.take
-    told = [(at, text) for at, (way, body) in enumerate(found, 1)
+    said = [(at, text) for at, (way, body) in enumerate(found, 1)
             for text in (lines(session, body, take) if way == CAME_IN else [sent_line(session, body)])]
-    refused = any(text.startswith(("refused", "bad frame")) for _, text in told)
-    text = "".join(f"{at} {text}\n" for at, text in told) + f"{last}\n"
+    refused = any(text.startswith(("refused", "bad frame")) for _, text in said)
+    text = "".join(f"{at} {text}\n" for at, text in said) + f"{last}\n"
     return (1 if refused else 0) if last == "end" else 2, text.encode()
 
 
@@ -109,10 +109,10 @@ def converted(record):
 
 
 def conversion(record, path):
-    """What `convert` of this record at this path is to do: its status, what it prints, what it tells on standard error,
+    """What `convert` of this record at this path is to do: its status, what it prints, what goes to standard error,
     and with what OUT begins. With status 0 this is all of OUT."""
     if record.startswith(FORM_2):
         return 1, b"refused 3 AlreadyForm2\n", b"", b""
     is_whole = read(record)[1] == "end"
-    told = b"" if is_whole else f"fault: record is truncated: {path}\n".encode()
-    return 0 if is_whole else 2, b"", told, converted(record)
+    said = b"" if is_whole else f"fault: record is truncated: {path}\n".encode()
+    return 0 if is_whole else 2, b"", said, converted(record)

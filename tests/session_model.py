@@ -65,10 +65,10 @@ class Session:
         *ask, given = ask_and_given
         if tuple(ask) not in self.open:
             return "refused H8 Unasked"
-        told = self.take(*ask, given)
-        if told.startswith("stored"):
+        answer = self.take(*ask, given)
+        if answer.startswith("stored"):
             self.open.remove(tuple(ask))
-        return told
+        return answer
 
     def blocks(self, index, begin, carried):
         """The lines of a piece message: one for each block that it carries, or one that refuses it whole."""
@@ -131,13 +131,13 @@ class Session:
         return len({at // length for at in range(tree["whole"].leaf_count) if (0, at) not in tree["known"]})
 
     def seed(self, contents):
-        """Fills the leaves of each file that a folder holds right, and tells a line for each file of the torrent."""
-        told = []
+        """Fills the leaves of each file that a folder holds right, and gives a line for each file of the torrent."""
+        answer = []
         for path, content in self.all_files:
             good = content and contents.get(path) == content
             if good:
                 tree = self.trees[Tree.of(content).root]
                 tree["known"].update(((layer, at), value) for layer, row in enumerate(tree["whole"].layers)
                                      for at, value in enumerate(row))
-            told.append(f"seeded {path}" if good else f"not seeded {path}")
-        return told
+            answer.append(f"seeded {path}" if good else f"not seeded {path}")
+        return answer

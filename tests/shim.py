@@ -18,7 +18,7 @@ class Shim:
     def run(self, kind, at, *arguments, onward=False, error=errno.EIO, change=None, one_byte=False, out=None, **options):
         """Runs the program; call `at` of this kind fails, and with `onward` all later ones too; 0 fails none. With a
         `change`, a path and a length, that file gets this length instead. A file `out` holds `before` at the start.
-        Tells how many calls there were, and how the run ended."""
+        Gives how many calls there were, and how the run ended."""
         if out:
             write(out, b"before")
         with open(self.counts, "wb") as file:

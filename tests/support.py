@@ -83,7 +83,7 @@ def python_with_libtorrent():
 
 
 def made_by_libtorrent(orders):
-    """What libtorrent tells of the torrents that it makes by these orders (maker.py)."""
+    """What libtorrent says of the torrents that it makes by these orders (maker.py)."""
     python = python_with_libtorrent()
     if python is None:
         raise LeftOut("no Python here has libtorrent: the Debian package is python3-libtorrent")

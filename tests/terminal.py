@@ -49,9 +49,10 @@ def drawn(text):
     return [line.rstrip(" ") for line in text.split("\r") if line.strip(" \n")]
 
 
-def on_terminal(*arguments, columns=None, term="xterm", both=False, feed=None, **environment):
-    """Runs the program with a terminal for standard error, and with `both` for standard output too. `feed` is given
-    the file that standard input comes from. Gives the status, standard output, and what the terminal was sent."""
+def on_terminal(*arguments, columns=None, term="xterm", both=False, output_alone=False, feed=None, **environment):
+    """Runs the program with a terminal for standard error, with `both` for standard output too, and with `output_alone`
+    for standard output alone. `feed` is given the file that standard input comes from. Gives the status, the other of the
+    two streams if it is no terminal, and what the terminal was sent."""
     known = {name: text for name, text in os.environ.items() if name not in ("COLUMNS", "TERM")}
     known |= {name: str(text) for name, text in [("COLUMNS", columns), ("TERM", term)] if text is not None} | environment
     ours, theirs = pty.openpty()
@@ -67,16 +68,18 @@ def on_terminal(*arguments, columns=None, term="xterm", both=False, feed=None, *
 
     reader = threading.Thread(target=collect)
     program = subprocess.Popen([BTCHECK, *arguments], stdin=subprocess.PIPE if feed else subprocess.DEVNULL,
-                               stdout=theirs if both else subprocess.PIPE, stderr=theirs, env=known)
+                               stdout=theirs if both or output_alone else subprocess.PIPE,
+                               stderr=subprocess.PIPE if output_alone else theirs, env=known)
     os.close(theirs)
     reader.start()
     if feed:
         with program.stdin as pipe:
             feed(pipe)
-    out = b"" if both else program.stdout.read()
+    other = program.stderr if output_alone else program.stdout
+    out = other.read() if other else b""
     status = program.wait(timeout=120)
-    if not both:
-        program.stdout.close()
+    if other:
+        other.close()
     reader.join(timeout=20)
     os.close(ours)
     return status, out.decode(), b"".join(sent).decode(errors="surrogateescape")

@@ -74,10 +74,10 @@ def test_what_mistyped_arguments_may_mean():
     for arguments, fault, suggested in MISTYPED:
         done = run(*arguments)
         expect(done, 2, b"", None)
-        told = done.stderr.decode().splitlines()
-        assert told[0] == f"error: {fault}" and told[-1] == "For more information, try '--help'.", (arguments, told)
-        tips = [line.removeprefix("  tip: ") for line in told if line.startswith("  tip: ")]
-        assert tips == ([suggested] if suggested else []), (arguments, told)
+        error_lines = done.stderr.decode().splitlines()
+        assert error_lines[0] == f"error: {fault}" and error_lines[-1] == "For more information, try '--help'.", (arguments, error_lines)
+        tips = [line.removeprefix("  tip: ") for line in error_lines if line.startswith("  tip: ")]
+        assert tips == ([suggested] if suggested else []), (arguments, error_lines)
 
 
 def test_help():

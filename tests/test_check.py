@@ -83,10 +83,10 @@ def made_torrents(place, content, piece_lengths):
     """Torrents of what lies at `content` by libtorrent, of version 2 and hybrid: the path of each, and what it says."""
     orders = [{"content": content, "torrent": f"{place}/{length}-{hybrid}.torrent", "piece_length": length,
                "hybrid": hybrid} for length in piece_lengths for hybrid in [False, True]]
-    for order, told in zip(orders, made_by_libtorrent(orders)):
+    for order, made in zip(orders, made_by_libtorrent(orders)):
         files = []
-        for _, _, path in told["files"]:
-            path = path.removeprefix(f"{told['name']}/")
+        for _, _, path in made["files"]:
+            path = path.removeprefix(f"{made['name']}/")
             below = content if os.path.isfile(content) else f"{content}/{path}"
             with open(below, "rb") as file:
                 files.append((path, file.read()))

@@ -163,7 +163,7 @@ def test_a_hundred_thousand_files():
 
 
 def test_a_torrent_that_is_too_large():
-    """The version 1 list tells the whole path of each file: 18,000 empty files below 3,764 bytes of path take more than
+    """The version 1 list has the whole path of each file: 18,000 empty files below 3,764 bytes of path take more than
     64 MiB. The torrent stands empty."""
     with folder("/dev/shm") as place:
         content, out = f"{place}/content", f"{place}/out"
@@ -253,8 +253,8 @@ def test_what_is_neither_file_nor_folder():
         for odd in ODD_FILES:
             for name in ("a", "d/\x01"):
                 odd(f"{content}/{name}")
-                told = name.replace("\x01", "\\x01")
-                expect_untouched(create(content, out, timeout=10), out, 2, b"", f"fault: not a file or folder: {told}\n")
+                printed = name.replace("\x01", "\\x01")
+                expect_untouched(create(content, out, timeout=10), out, 2, b"", f"fault: not a file or folder: {printed}\n")
                 os.remove(f"{content}/{name}")
         expect(create(content, out), 0)
 
@@ -356,7 +356,7 @@ def test_no_file_of_the_folder_is_overwritten():
         for out, real in [(f"{place}/to-other", other), (f"{place}/to-new", f"{place}/new")]:
             expect_created(content, out, {"b": b"abc", "d/e": b"def"})
             assert written(real) == written(out) and os.path.islink(out)
-        # a file that is refused, or cannot be read, is told before OUT is looked at
+        # a file that is refused, or cannot be read, is reported before OUT is looked at
         expect(create(content, f"{content}/b", piece_length=1), 1, b"refused 6 PieceLength\n")
         os.symlink("nothing", f"{content}/odd")
         expect(create(content, f"{content}/b"), 2, b"", "fault: not a file or folder: odd\n")
@@ -382,7 +382,7 @@ def test_files_that_vanish():
         contents = {"a": torrents.TWO, "b/c": b"abc"}
         content, out = make_folder(f"{place}/content", contents), write(f"{place}/out", b"before")
         arguments = ["create", content, out, "--name", "x", "--piece-length", "16384"]
-        told = set()
+        printed = set()
         for kind, error in [("stat", errno.ENOENT), ("open", errno.ENOENT), ("read", errno.EIO), ("open", errno.EMFILE)]:
             calls, done = shim.run(kind, 0, *arguments)
             expect(done, 0)
@@ -390,10 +390,10 @@ def test_files_that_vanish():
                 write(out, b"before")
                 _, done = shim.run(kind, at, *arguments, error=error)
                 if shim.failed and done.returncode == 2:
-                    told.add(done.stderr.decode())
+                    printed.add(done.stderr.decode())
                     assert not done.stdout and written(out) == b"before", (kind, at, done)
         names = {"a", "b/c", content, out}
-        assert told == {f"fault: cannot {'write' if name == out else 'read'} {name}\n" for name in names}, told
+        assert printed == {f"fault: cannot {'write' if name == out else 'read'} {name}\n" for name in names}, printed
         for length in (0, 1, 16384, 16386, 100000):
             for at in range(1, 5):
                 write(f"{content}/a", torrents.TWO)
@@ -425,12 +425,12 @@ def test_libtorrent_takes_the_torrents():
         found = subprocess.run([python_with_libtorrent(), f"{TOP}/tests/seeder.py"], input=json.dumps(pairs), text=True,
                                stdout=subprocess.PIPE, check=True)
         assert json.loads(found.stdout) == [True] * len(pairs), list(zip(ours, json.loads(found.stdout)))
-        for out, told in zip(ours, made_by_libtorrent(orders)):
+        for out, printed in zip(ours, made_by_libtorrent(orders)):
             mine, theirs = (decoded(written(path))[0] for path in (out, f"{out}.theirs"))
             assert mine[b"piece layers"] == theirs[b"piece layers"], out
             # libtorrent may pad the last file too, so the last digest may differ
             one, other = (value[b"info"].get(b"pieces", b"") for value in (mine, theirs))
             assert len(one) == len(other) and one[:-20] == other[:-20], out
-            assert mine[b"info"][b"piece length"] == told["piece_length"]
+            assert mine[b"info"][b"piece length"] == printed["piece_length"]
             checked = run("check", f"{out}.theirs", f"{os.path.dirname(out)}/{os.path.basename(out)[0]}/content")
             assert checked.returncode == 0, checked

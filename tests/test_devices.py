@@ -92,8 +92,8 @@ def test_reads_that_fail():
             seen, _ = failures(shim, world, "show", "read", error=error)
             assert seen and set(seen) == {cannot_read(world.pair)}, seen
             seen, _ = failures(shim, world, "check", "read", error=error)
-            told = [cannot_read(world.pair), checks_without({"a": "unreadable"}), checks_without({"c": "unreadable"})]
-            assert set(seen) == set(told) and sorted(seen, key=told.index) == seen, seen
+            allowed = [cannot_read(world.pair), checks_without({"a": "unreadable"}), checks_without({"c": "unreadable"})]
+            assert set(seen) == set(allowed) and sorted(seen, key=allowed.index) == seen, seen
             seen, _ = failures(shim, world, "replay", "read", error=error)
             assert set(seen) <= {cannot_read(world.abc)} | read_faults() and len(set(seen)) > 1, seen
 
@@ -107,14 +107,14 @@ def test_reads_that_are_interrupted():
     """A signal in the middle of a read: the torrent is read on, everything else is a fault of its file."""
     with shimmed() as (place, shim):
         world = World(place)
-        for command, told in [("root", {cannot_read(world.long)}), ("show", set()), ("replay", read_faults()),
+        for command, allowed in [("root", {cannot_read(world.long)}), ("show", set()), ("replay", read_faults()),
                               ("check", {checks_without({"a": "unreadable"}), checks_without({"c": "unreadable"})})]:
             seen, ample = failures(shim, world, command, "read", error=errno.EINTR)
-            assert set(seen) <= told | {ample, cannot_read(world.pair), cannot_read(world.abc)}, (command, seen)
+            assert set(seen) <= allowed | {ample, cannot_read(world.pair), cannot_read(world.abc)}, (command, seen)
 
 
 def test_writes_that_fail():
-    """What went out is a prefix of the answer, and the fault is told. It may be all of it: a buffer tries once more as
+    """What went out is a prefix of the answer, and the fault is reported. It may be all of it: a buffer tries once more as
     it is dropped."""
     with shimmed() as (place, shim):
         world = World(place)
@@ -128,17 +128,17 @@ def test_writes_that_fail():
                         _, done = shim.run("write", at, *arguments, error=error, one_byte=one_byte)
                         if outcome(done) == ample and error == errno.EINTR:
                             continue
-                        status, out, told = outcome(done)
+                        status, out, allowed = outcome(done)
                         assert status == 2 and ample[1].startswith(out), (command, at, done)
-                        assert told == CANNOT_WRITE or command == "seeded" and told == cannot_write(world.answers), done
+                        assert allowed == CANNOT_WRITE or command == "seeded" and allowed == cannot_write(world.answers), done
 
 
 def test_files_that_cannot_be_opened():
     with shimmed() as (place, shim):
         world = World(place)
-        for error, told in [(errno.EMFILE, "unreadable"), (errno.EACCES, "unreadable"), (errno.ENOENT, "missing")]:
+        for error, allowed in [(errno.EMFILE, "unreadable"), (errno.EACCES, "unreadable"), (errno.ENOENT, "missing")]:
             expected = {"root": [cannot_read(world.long)], "show": [cannot_read(world.pair)],
-                        "check": [cannot_read(world.pair), checks_without({"a": told}), checks_without({"c": told})],
+                        "check": [cannot_read(world.pair), checks_without({"a": allowed}), checks_without({"c": allowed})],
                         "replay": [cannot_read(world.abc), cannot_read(world.record)]}
             for command, wanted in expected.items():
                 seen, _ = failures(shim, world, command, "open", error=error)
@@ -170,7 +170,7 @@ def cut_talks():
 
 
 def test_seeds_and_answers_that_fail():
-    """A file that fails is not seeded, and the others are; the answers are those of the requests that were told."""
+    """A file that fails is not seeded, and the others are; the answers are those of the requests that have a line."""
     with shimmed() as (place, shim):
         world = World(place)
         arguments, _ = world.commands["seeded"]
@@ -185,14 +185,14 @@ def test_seeds_and_answers_that_fail():
             return others
 
         for error in (errno.EIO, errno.EAGAIN, errno.EINTR):
-            seen, told = failures_of("read", error), [no_torrent, *without, *cut]
+            seen, allowed = failures_of("read", error), [no_torrent, *without, *cut]
             if error == errno.EINTR:  # the torrent is read on
-                seen, told = [end for end in seen if end != ample], told[1:]
-            assert set(told[:-len(cut)]) < set(seen) <= set(told), (error, seen)
-            assert sorted(seen, key=told.index) == seen, (error, seen)
+                seen, allowed = [end for end in seen if end != ample], allowed[1:]
+            assert set(allowed[:-len(cut)]) < set(seen) <= set(allowed), (error, seen)
+            assert sorted(seen, key=allowed.index) == seen, (error, seen)
         for error in (errno.EMFILE, errno.EACCES, errno.ENOENT):
             assert failures_of("open", error) == [no_torrent, no_record, no_answers, *without], error
-            # a look that only tells whether the answers would go to a file that is read may fail
+            # a look that only says whether the answers would go to a file that is read may fail
             assert [end for end in failures_of("stat", error) if end != ample] == without, error
         assert set(failures_of("close")) == {ample}
         assert outcome(shim.run("read", 0, *arguments, one_byte=True)[1]) == ample[:3] and written(world.answers) == ample[3]
@@ -200,7 +200,7 @@ def test_seeds_and_answers_that_fail():
 
 def test_answers_that_cannot_be_written():
     """Each write in turn: what went out of the report and of the answers is a prefix of each. The fault names that
-    which failed: standard output behind the answers of all requests that were told, or the file of answers behind the
+    which failed: standard output behind the answers of all requests that have a line, or the file of answers behind the
     line of the request."""
     with shimmed() as (place, shim):
         world = World(place)
@@ -212,17 +212,17 @@ def test_answers_that_cannot_be_written():
             ample, places = next(runs), []
             assert (*outcome(ample), written(world.answers)) == seeded("ac"), ample
             for done in runs:
-                status, out, told = outcome(done)
+                status, out, allowed = outcome(done)
                 lines, given = out.splitlines(True), written(world.answers)
                 asked = sum(line.endswith((" answered\n", " rejected\n")) for line in lines)
                 whole = answers_to(session, ASKS[:asked])
                 assert status == 2 and ample.stdout.decode().startswith(out), done
-                if told == CANNOT_WRITE:
+                if allowed == CANNOT_WRITE:
                     assert given == whole, (done, given)
                 else:
-                    assert told == cannot_write(world.answers) and out.endswith((" answered\n", " rejected\n")), done
+                    assert allowed == cannot_write(world.answers) and out.endswith((" answered\n", " rejected\n")), done
                     assert answers_to(session, ASKS[:asked - 1]) <= given < whole and whole.startswith(given), (done, given)
-                places.append((told, asked))
+                places.append((allowed, asked))
             assert {(cannot_write(world.answers), count) for count in (1, 2)} < set(places), places
             assert {(CANNOT_WRITE, count) for count in (0, 1, 2)} < set(places), places
 
@@ -260,8 +260,8 @@ def test_files_that_change_while_they_are_read():
             for at in range(1, 6):
                 write(world.long, LONG)
                 done = shim.run("read", at, "root", world.long, change=(world.long, length))[1]
-                told = {root_line(bytes(size)) for size in (length, len(LONG), *range(0, len(LONG) + 1, 65536))}
-                assert done.returncode == 0 and done.stdout.decode() in told, (length, at, done)
+                allowed = {root_line(bytes(size)) for size in (length, len(LONG), *range(0, len(LONG) + 1, 65536))}
+                assert done.returncode == 0 and done.stdout.decode() in allowed, (length, at, done)
         for length in range(0, len(b"".join(FRAMES)), 5):
             write(world.record, b"".join(FRAMES))
             done = shim.run("read", 2, *world.commands["replay"][0], change=(world.record, length))[1]
@@ -359,7 +359,7 @@ def test_a_reader_that_goes_away_in_the_middle():
 
 
 def test_standard_error_that_is_closed_or_full():
-    """The line is lost, and the status still tells the fault."""
+    """The line is lost, and the status is still that of the fault."""
     with folder() as place:
         world = World(place)
         faults = [["root", "/no/file"], ["show", "/no/file"], ["check", "/no/file", place],
@@ -406,7 +406,7 @@ def ample_of_writer(shim, world, command):
 
 
 def test_written_files_that_fail():
-    """What is in the file is a prefix of what belongs there, or all of it, and the fault is told."""
+    """What is in the file is a prefix of what belongs there, or all of it, and the fault is reported."""
     with shimmed() as (place, shim):
         world = World(place)
         for command in world.writers:
@@ -417,9 +417,9 @@ def test_written_files_that_fail():
                     assert outcome(done) == (0, "", "") and written(world.made) == ample, (command, one_byte, done)
                     for at in {1, 2, 3, calls // 2, calls} & set(range(1, calls + 1)):
                         _, done = shim.run("write", at, *arguments, error=error, one_byte=one_byte)
-                        told = {(2, "", cannot_write(world.made))}
-                        told |= {(0, "", "")} if error == errno.EINTR else set()
-                        assert outcome(done) in told and ample.startswith(written(world.made)), (command, at, done)
+                        allowed = {(2, "", cannot_write(world.made))}
+                        allowed |= {(0, "", "")} if error == errno.EINTR else set()
+                        assert outcome(done) in allowed and ample.startswith(written(world.made)), (command, at, done)
 
 
 def test_sources_of_written_files_that_fail():

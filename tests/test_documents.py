@@ -43,8 +43,8 @@ def test_the_readme_counts_hostile_input():
 
 def test_every_cited_definition_is_explained():
     assert not definitions.missing(), definitions.missing()
-    told = contracts.text_of(definitions.DOCUMENT).split(definitions.MARK)[1]
-    assert told == "".join(definitions.sections()), "run tests/definitions.py --write"
+    found = contracts.text_of(definitions.DOCUMENT).split(definitions.MARK)[1]
+    assert found == "".join(definitions.sections()), "run tests/definitions.py --write"
 
 
 def promised(text, count):
@@ -59,14 +59,14 @@ def promised(text, count):
 
 
 def test_the_promises_are_those_of_the_contracts():
-    """Each label that PROVED.md or README.md tells is one of those calls, and PROVED.md names each public function with
+    """Each label that PROVED.md or README.md names is one of those calls, and PROVED.md names each public function with
     a contract."""
     labels = {}
-    for _, _, name, told in contracts.promises():
-        labels.setdefault(name, set()).update(told)
+    for _, _, name, found in contracts.promises():
+        labels.setdefault(name, set()).update(found)
     proved, readme = contracts.text_of(TOP, "docs", "PROVED.md"), contracts.text_of(TOP, "README.md").split("What is proved")[1]
     named = set(contracts.WORD.findall(" ".join(re.findall(r"`([^`]*)`", proved))))
-    wrong = [(calls, label) for calls, told in [*promised(proved, 3), *promised(readme, 4)] for label in told
+    wrong = [(calls, label) for calls, found in [*promised(proved, 3), *promised(readme, 4)] for label in found
              if not any(label in labels.get(call, ()) for call in calls)]
     assert not wrong, wrong
     assert labels.keys() <= named, sorted(labels.keys() - named)
@@ -79,13 +79,13 @@ def rows_of(crate, text):
 
 
 def test_every_clause_is_told():
-    """PROVED.md tells each label of each public function's clauses in the section of its crate, if that tells
+    """PROVED.md names each label of each public function's clauses in the section of its crate, if that names
     labels."""
     proved, lacking = contracts.text_of(TOP, "docs", "PROVED.md"), []
     for crate, _, name, labels in contracts.promises():
         rows = rows_of(crate, proved)
-        told = set().union(*(words for calls, words in rows if name in calls))
-        lacking += [(crate, name, label) for label in labels if rows and label and label not in told]
+        found = set().union(*(words for calls, words in rows if name in calls))
+        lacking += [(crate, name, label) for label in labels if rows and label and label not in found]
     assert not lacking, lacking
 
 

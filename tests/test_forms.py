@@ -97,7 +97,7 @@ def test_records_that_begin_like_the_header():
 
 
 def test_lines_appear_as_frames_come():
-    """A direction that is none is told before anything stands behind it."""
+    """A direction that is none is reported before anything stands behind it."""
     with folder() as place:
         program = started("replay", write(f"{place}/torrent", ABC), "/dev/stdin")
         program.stdin.write(FORM_2)
@@ -139,16 +139,16 @@ def talk(chance, files, piece_length):
 
 
 def test_talks_of_peers():
-    chance, told = random.Random(22), set()
+    chance, kinds = random.Random(22), set()
     with folder() as place:
         for files, piece_length in worlds():
             for _ in range(3):
                 record = FORM_2 + b"".join(talk(chance, files, piece_length))
                 status, report = record_model.report(Session(files, piece_length, False), record)
                 expect(replay(place, torrent_of(files, piece_length), record, "--info-only"), status, report)
-                told |= {" ".join(line.split()[1:3]) for line in report.decode().splitlines()}
+                kinds |= {" ".join(line.split()[1:3]) for line in report.decode().splitlines()}
     for text in ("sent", "sent request", "refused H8", "refused H6", "reject noted"):
-        assert text in told, (text, told)
+        assert text in kinds, (text, kinds)
 
 
 def test_nobody_else_makes_us_keep_asks():
@@ -159,15 +159,15 @@ def test_nobody_else_makes_us_keep_asks():
     requests = b"".join(IN + messages.request(*ask) for ask in asks)
     ours = b"".join(OUT + messages.request(*ask) for ask in asks)
     with folder() as place:
-        def told(frames, most):
+        def kinds(frames, most):
             arguments = [write(f"{place}/torrent", torrent), write(f"{place}/record", FORM_2 + frames), "--info-only"]
             lines = run("replay", *arguments, memory=most << 10).stdout.decode().splitlines()
             return {line.split(" ", 1)[-1] for line in lines}
 
-        least = next(most for most in range(2, 100) if told(b"", most) == {"end"})
+        least = next(most for most in range(2, 100) if kinds(b"", most) == {"end"})
         for frames, wanted in [(answers, {"refused H8 Unasked", "reject noted"}), (requests, {"rejected"}),
                                (ours, {"sent request", "refused H7 NoMemory"})]:
-            assert told(frames, least + 4) == wanted | {"end"}, (least, wanted)
+            assert kinds(frames, least + 4) == wanted | {"end"}, (least, wanted)
 
 
 def fits(session, record, lines):

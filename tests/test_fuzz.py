@@ -1,5 +1,5 @@
 """Hostile input from a fixed seed, compared with the plain models. `tests/fuzz` draws more, for as long as it is
-told."""
+asked to."""
 from fuzzing import Fuzz, summary
 from shim import has_c_library_inside
 from support import BTCHECK, folder

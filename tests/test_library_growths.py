@@ -23,7 +23,7 @@ DECODED = re.compile(rb"^decoded .*\n", re.M)
 
 
 def calls_refused(shim, name, *arguments, judge=None):
-    """Refuses each growth in turn, compares what is printed, and tells how many growths each call has. Each run that
+    """Refuses each growth in turn, compares what is printed, and counts the growths of each call. Each run that
     does not end early is judged too."""
     runs = shim.each("growth", *arguments, program=GROWTHS)
     ample = next(runs)
@@ -93,9 +93,9 @@ def test_sessions():
             path = write(f"{place}/torrent", torrent_of(files, piece_length))
             record = write(f"{place}/record", b"".join(frames))
             for map_name in ("flat", "paged"):
-                for call, told in [("step", ["step", "answer"]), ("run", ["run", "message 1 of run"]), ("run of all", ["run"])]:
+                for call, named in [("step", ["step", "answer"]), ("run", ["run", "message 1 of run"]), ("run of all", ["run"])]:
                     counts = calls_refused(shim, f"{name}, {call} over {map_name}", path, record, map_name, call)
-                    assert counts["new"] > 0 and all(counts[of] > 0 for of in told), counts
+                    assert counts["new"] > 0 and all(counts[of] > 0 for of in named), counts
                     # flat rows of a single tree take all their memory at the first message
                     if call == "run of all" and (len(files) > 1 or map_name == "paged"):
                         assert has_refusal_amid(counts, "run", len(frames)), counts
@@ -124,18 +124,18 @@ def test_noted_messages():
         path = write(f"{place}/torrent", torrent_of([("a", TWO), ("five", FIVE)], 32768))
         record = write(f"{place}/record", FORM_2 + b"".join(frames))
         for map_name in ("flat", "paged"):
-            for call, told in [("step_noted", ["note", "take_answer", "answer"]),
+            for call, named in [("step_noted", ["note", "take_answer", "answer"]),
                                ("run_noted", ["run_noted", "message 1 of run_noted"])]:
                 counts = calls_refused(shim, f"{call} over {map_name}", path, record, map_name, call)
-                assert all(counts[of] > 0 for of in told), counts
+                assert all(counts[of] > 0 for of in named), counts
                 assert call != "run_noted" or has_refusal_amid(counts, "run_noted", len(frames)), counts
 
 
 def answers_of(session, record, lines):
     """The frames that answer the requests of these lines of a report."""
-    told = [(line.split()[1], record_model.ask_of(body))
+    named = [(line.split()[1], record_model.ask_of(body))
             for line, body in zip(lines, record_model.bodies(record)[0]) if body[:1] == b"\x15"]
-    return b"".join(session.answer_frame(*ask) if word == "answered" else messages.reject(*ask) for word, ask in told)
+    return b"".join(session.answer_frame(*ask) if word == "answered" else messages.reject(*ask) for word, ask in named)
 
 
 def test_replay():
@@ -180,7 +180,7 @@ def test_folders():
     with shimmed(GROWTHS) as (place, shim):
         path = write(f"{place}/torrent", torrent_of([("five", FIVE)], 32768))
         content = write(f"{place}/content", FIVE)
-        for call, told in [("gather", {"gather"}), ("check", {"check"}), ("seed", {"new", "seed"})]:
+        for call, named in [("gather", {"gather"}), ("check", {"check"}), ("seed", {"new", "seed"})]:
             for map_name in ("flat", "paged") if call == "seed" else ("paged",):
                 counts = calls_refused(shim, f"{call} over {map_name}" if call == "seed" else call, path, content, map_name, call)
-                assert all(counts[of] > 0 for of in told), (call, counts)
+                assert all(counts[of] > 0 for of in named), (call, counts)

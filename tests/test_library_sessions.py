@@ -63,8 +63,8 @@ def test_hashes_of_a_file_of_five_blocks():
             (0, 4, [*leaves[:4], turned], "HashRefused(Mismatch)", 1),
             (0, 4, [leaves[0], leaves[1], leaves[3], leaves[2], end], "HashRefused(Mismatch)", 1),
             (4, 2, [leaves[4], ZERO, ZEROS, four], "Stored(6)", 7)]
-    expect_steps([("a", FIVE)], 32768, [([messages.hashes(tree.root, 0, index, length, 2, given=given)], [(told, known, 0)])
-                                        for index, length, given, told, known in rows])
+    expect_steps([("a", FIVE)], 32768, [([messages.hashes(tree.root, 0, index, length, 2, given=given)], [(verdict, known, 0)])
+                                        for index, length, given, verdict, known in rows])
     # over the piece layers
     pairs = messages.hashes(tree.root, 1, 0, 4, 0, given=tree.layers[1])
     all_leaves = messages.hashes(tree.root, 0, 0, 8, 2, given=leaves)
@@ -83,7 +83,7 @@ def test_blocks_of_a_file_of_five():
     for call, before, stored in (("step", 1, 14), ("run", 7, 8)):
         expect_steps([("a", FIVE)], 32768, [
             ([messages.piece(1, 0, blocks[2]), known, *(messages.piece(*case[:3]) for case in cases)],
-             [("Unproved", before, 0), (f"Stored({stored})", 15, 0), *((told, 15, marked) for *_, told, marked in cases)])], call)
+             [("Unproved", before, 0), (f"Stored({stored})", 15, 0), *((verdict, 15, marked) for *_, verdict, marked in cases)])], call)
 
 
 def test_equal_files_share_one_tree_and_its_marks():
@@ -93,7 +93,7 @@ def test_equal_files_share_one_tree_and_its_marks():
             (5, blocks[4], "Verified 1 4", 3)]
     expect_steps([("a", FIVE), ("b", FIVE)], 32768, [
         ([known, *(messages.piece(index, 0, block) for index, block, *_ in rows)],
-         [("Stored(8)", 15, 0), *((told, 15, marked) for *_, told, marked in rows)])], "run")
+         [("Stored(8)", 15, 0), *((verdict, 15, marked) for *_, verdict, marked in rows)])], "run")
 
 
 def test_a_file_of_one_block_has_no_range():
@@ -129,8 +129,8 @@ def test_whole_layers():
             (3, [tree.root], "Stored(0)", 1), (4, [tree.root], "HashRefused(BadRange)", 1),
             (0, leaves, "HashRefused(BadCount)", 1), (0, leaves[:4], "HashRefused(BadCount)", 1),
             (1, leaves[:3], "HashRefused(Mismatch)", 1)]
-    expect_steps([("a", FIVE)], 131072, [([messages.hashes(tree.root, layer, 0, 2, 0, given=given)], [(told, known, 0)])
-                                         for layer, given, told, known in rows], "fill")
+    expect_steps([("a", FIVE)], 131072, [([messages.hashes(tree.root, layer, 0, 2, 0, given=given)], [(verdict, known, 0)])
+                                         for layer, given, verdict, known in rows], "fill")
 
 
 def debug_of(ask):
@@ -138,8 +138,8 @@ def debug_of(ask):
     if ask is None:
         return "None"
     root, *numbers = ask
-    told = ", ".join(f"{name}: {number}" for name, number in zip(("base", "index", "length", "proof"), numbers))
-    return f"Some(Ask {{ root: {list(root)}, {told} }})"
+    verdict = ", ".join(f"{name}: {number}" for name, number in zip(("base", "index", "length", "proof"), numbers))
+    return f"Some(Ask {{ root: {list(root)}, {verdict} }})"
 
 
 def test_what_is_wanted_next():

@@ -55,7 +55,7 @@ class World:
         return [line.split(" ", 1)[1] for line in lines]
 
     def line_of(self, way, frame):
-        """What is told of a frame, if the hashes of its block are known."""
+        """The verdict on a frame, if the hashes of its block are known."""
         kind = frame[4] if len(frame) > 4 else None
         if way == WENT_OUT:
             return "sent request" if kind == 21 else "sent"
@@ -180,13 +180,13 @@ def test_a_liar_between_them():
         came_in = [at for at, (way, _) in enumerate(frames) if way == CAME_IN]
         lies = {came_in[number] for number in lies}
         order = hashes_first(frames)
-        told, lost = collections.Counter(), set()
+        verdicts, lost = collections.Counter(), set()
         for at, line in zip(order, world.replayed(joined([frames[at] for at in order])), strict=True):
             if at in lies:
                 assert line.startswith("refused "), line
                 lost |= {line} if frames[at][1][4] == 22 else set()
             else:
                 assert without_count(line) in (world.line_of(*frames[at]), "refused P3 Unproved"), line
-            told[line.rstrip("0123456789 ")] += 1
+            verdicts[line.rstrip("0123456789 ")] += 1
         assert lost == {"refused H6 Mismatch", "refused H8 Unasked"}, lost
-        assert told["verified"] > 100 and told["refused P4 BadBlock"] > 5 and told["refused P1 BadPlace"] > 5, told
+        assert verdicts["verified"] > 100 and verdicts["refused P4 BadBlock"] > 5 and verdicts["refused P1 BadPlace"] > 5, verdicts

@@ -34,8 +34,8 @@ class Helped:
         text = run(*command, "-h").stdout.decode()
         self.commands = re.findall(r"^  (\w+) ", part(text + "\n\nCommands:\n\n", "\nCommands:\n", "\n\n"), re.M)
         self.arguments = re.findall(r"^  [<\[](\w+)", part(text + "\n\nArguments:\n\n", "\nArguments:\n", "\n\n"), re.M)
-        told = part(text + "\n\nOptions:\n\n", "\nOptions:\n", "\n\n")
-        self.options = set(re.findall(r"(?<=[ ,])--?\w[\w-]*", "\n".join(line[:30] for line in told.split("\n"))))
+        help_of = part(text + "\n\nOptions:\n\n", "\nOptions:\n", "\n\n")
+        self.options = set(re.findall(r"(?<=[ ,])--?\w[\w-]*", "\n".join(line[:30] for line in help_of.split("\n"))))
 
 
 def commands():
@@ -64,12 +64,12 @@ def test_manual_names_every_command_and_option():
     named = dict(re.findall(r"^\.It Cm (\w+)(.*)$", entries, re.M))
     assert set(named) == set(at_top.commands), (named, at_top.commands)
     assert set(re.findall(r"^\.Cm (\w+)", synopsis, re.M)) == set(at_top.commands)
-    for command, told in commands().items():
+    for command, help_of in commands().items():
         needed = re.sub(r" Oo .*? Oc| Fl \S+ Ar \w+", "", named[command])
-        assert re.findall(r"(?<=Ar )\w+|(?<= )[A-Z]{2,}", needed) == told.arguments, (command, named[command])
+        assert re.findall(r"(?<=Ar )\w+|(?<= )[A-Z]{2,}", needed) == help_of.arguments, (command, named[command])
         below = part(f"{entries}\n.It Cm ", f".It Cm {command}", "\n.It Cm ")
         listed = flags("\n".join(re.findall(r"^\.It (Fl .*)$", below, re.M)))
-        assert listed == told.options - {"-h", "--help"}, (command, listed)
+        assert listed == help_of.options - {"-h", "--help"}, (command, listed)
     options = flags("\n".join(re.findall(r"^\.It (Fl .*)$", part(text, "The options are:", ".Ss"), re.M)))
     assert options - {"--"} == at_top.options, options
 
@@ -120,7 +120,7 @@ def test_manual_explains_every_printed_line():
         entries = re.findall(r"^\.It Li (.*)\n(.*)$", sections[section], re.M)
         explained = [line for heads, _ in entries for line in heads.split(" , ")]
         assert sorted(explained) == sorted(lines), (section, set(explained) ^ set(lines))
-        assert not [heads for heads, told in entries if told.startswith((".It", ".El"))], (section, entries)
+        assert not [heads for heads, help_of in entries if help_of.startswith((".It", ".El"))], (section, entries)
 
 
 def names_of_refusals():
@@ -261,15 +261,15 @@ def test_completion_by_bash():
         assert completed(place, "btcheck", "-") == at_top.options
         assert completed(place, "btcheck", "--", "r") == {"root", "replay"}
         assert completed(place, "btcheck", "help", "") == set(at_top.commands)
-        for command, told in commands().items():
+        for command, help_of in commands().items():
             given = ["btcheck", command]
-            assert completed(place, *given, "-") == told.options, command
-            for name in told.arguments:
+            assert completed(place, *given, "-") == help_of.options, command
+            for name in help_of.arguments:
                 assert completed(place, *given, "") == FILES_FOR[name], (command, name)
                 assert completed(place, *given, "f") == {"folder"} & FILES_FOR[name]
                 given += ["t.torrent"]
             assert completed(place, *given, "") == set(), command
-            assert completed(place, "btcheck", "-h", command, "") == FILES_FOR[told.arguments[0]]
+            assert completed(place, "btcheck", "-h", command, "") == FILES_FOR[help_of.arguments[0]]
         for option, name in VALUES.items():
             assert completed(place, "btcheck", "replay", option, "") == FILES_FOR[name], option
             assert completed(place, "btcheck", "replay", option, "--", "") == FILES_FOR["TORRENT"], option
@@ -280,9 +280,9 @@ def test_completion_by_zsh_and_fish():
     """The files name each command and each option; fish completes by them where it is installed."""
     fish, zsh = text_of(f"{COMPLETIONS}/btcheck.fish"), text_of(f"{COMPLETIONS}/_btcheck")
     at_top = Helped()
-    for command, told in commands().items():
+    for command, help_of in commands().items():
         assert f" -a {command} " in fish and f"\n        '{command}:" in zsh, command
-        for option in told.options | at_top.options:
+        for option in help_of.options | at_top.options:
             assert option in zsh, option
             assert re.search(rf" -{'l' if option.startswith('--') else 's'} {option.lstrip('-')} ", fish), option
     assert set(part(fish, "set -l commands ", "\n").split()) == set(at_top.commands)
@@ -290,14 +290,14 @@ def test_completion_by_zsh_and_fish():
         subprocess.run(["zsh", "-n", f"{COMPLETIONS}/_btcheck"], check=True)
     if shutil.which("fish"):
         def by_fish(typed):
-            told = subprocess.run(["fish", "-N", "-c", f"source {COMPLETIONS}/btcheck.fish; complete -C '{typed}'"],
+            help_of = subprocess.run(["fish", "-N", "-c", f"source {COMPLETIONS}/btcheck.fish; complete -C '{typed}'"],
                                   stdout=subprocess.PIPE, text=True, check=True).stdout
-            return {line.split("\t")[0] for line in told.splitlines()}
+            return {line.split("\t")[0] for line in help_of.splitlines()}
         assert by_fish("btcheck ") == set(at_top.commands)
         assert by_fish("btcheck -") == at_top.options
         assert by_fish("btcheck help ") == set(at_top.commands)
-        for command, told in commands().items():
-            assert by_fish(f"btcheck {command} -") == told.options, command
+        for command, help_of in commands().items():
+            assert by_fish(f"btcheck {command} -") == help_of.options, command
 
 
 # What `make install` puts below its PREFIX, and what each is.

@@ -160,7 +160,7 @@ def test_by_parallel_and_again():
 
 
 def stopped(archive, code, how):
-    """Starts a recipe that becomes its last command, stops it when some torrents are done, and tells how many the log
+    """Starts a recipe that becomes its last command, stops it when some torrents are done, and gives how many the log
     names then. A request to end goes to that command alone, as from `kill`, all else to what it started too."""
     program, end = archive.start(code), time.monotonic() + 60
     while not (os.path.exists(f"{archive.place}/log") and len(archive.logged()) >= 4):

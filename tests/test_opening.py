@@ -1,4 +1,4 @@
-"""Torrents that open and that do not, as `btcheck show` tells: each is the text of one that opens, with some changes.
+"""Torrents that open and that do not, as `btcheck show` says: each is the text of one that opens, with some changes.
 
 In a text `<abc>` and the like stand for the bytes that have this name in `BYTES`.
 """
@@ -366,10 +366,10 @@ def test_places_of_blocks():
     with folder() as place:
         for (text, changes), rows in ((between[0], apart), ((ABC, FAR), far), ((FIVE, []), five)):
             torrent = write(f"{place}/torrent", changed(text, "places", changes))
-            for index, begin, carried, told in rows:
+            for index, begin, carried, verdicts in rows:
                 record = write(f"{place}/record", messages.piece(index, begin, carried))
-                lines = "".join(f"1 {line}\n" for line in told)
-                status = 0 if told[0].startswith("verified") else 1
+                lines = "".join(f"1 {line}\n" for line in verdicts)
+                status = 0 if verdicts[0].startswith("verified") else 1
                 expect(run("replay", torrent, record, "--info-only"), status, f"{lines}end\n")
 
 
@@ -404,7 +404,7 @@ def test_deepest_path():
 
 
 def test_many_files():
-    """Many files, several layered trees and nested paths of a hybrid: none is told as out of memory."""
+    """Many files, several layered trees and nested paths of a hybrid: none is refused as out of memory."""
     contents = [bytes([k]) * (k * 1000) for k in range(60)] + [bytes([k]) * (70000 + k) for k in range(5)]
     tree, entries, layers, stream = {}, [], {}, b""
     for k, content in enumerate(contents):

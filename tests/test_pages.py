@@ -31,12 +31,12 @@ def peak(place, *messages):
     for message in messages:
         program.stdin.write(message)
         program.stdin.flush()
-        told = program.stdout.readline()
+        first = program.stdout.readline()
     with open(f"/proc/{program.pid}/status", encoding="ascii", errors="replace") as status:
         resident = next(int(line.split()[1]) for line in status if line.startswith("VmHWM:"))
     out, _ = program.communicate(timeout=60)
     assert (program.returncode, out) == (0, b"end\n"), (program.returncode, out)
-    return told, resident
+    return first, resident
 
 
 def pages_of(starts):

@@ -235,7 +235,7 @@ def test_faults_of_files():
         expect(run("replay", torrent, place), 2, "fault Read\n")
         expect(run("replay", torrent, f"{place}/new\nline"), 2, "", f"fault: cannot read {place}/new\\x0aline\n")
         expect(run("replay", place, record), 2, "", f"fault: cannot read {place}\n")
-        # the torrent is told first, whatever the record is
+        # the torrent is refused first, whatever the record is
         bad = write(f"{place}/bad", torrent_of([("..", b"abc")], BLOCK))
         expect(run("replay", bad, missing), 1, "refused 8 Path\n")
         expect(run("replay", missing, missing), 2, "", f"fault: cannot read {missing}\n")
@@ -277,9 +277,9 @@ def test_memory_is_that_of_the_session():
                                    (leaves + block * 4095, 1, b"%d verified 0 0"), (leaves, 1 << 17, b"%d stored 0"),
                                    (frame(b"\x16" + bytes((1 << 20) - 5)), 64, b"%d bad frame 22 1048572")]:
             done = replay(place, torrent, parts * count, "--info-only", memory=32 << 10)
-            told = done.stdout.split(b"\n")
+            report_lines = done.stdout.split(b"\n")
             assert done.returncode in (0, 1), done.stderr
-            assert told[-3:] == [last % (len(told) - 2), b"end", b""], told[-3:]
+            assert report_lines[-3:] == [last % (len(report_lines) - 2), b"end", b""], report_lines[-3:]
 
 
 def test_the_last_leaves_of_the_longest_file():

@@ -1,5 +1,6 @@
 """`btcheck root FILE`."""
 import os
+import pty
 import random
 import threading
 
@@ -76,6 +77,17 @@ def test_a_pipe_that_gives_a_few_bytes_a_read():
     finally:
         os.close(read_end)
         feeder.join()
+
+
+def test_a_terminal_ends_once():
+    """The end that a terminal gives is read once: it takes one Ctrl-D."""
+    ours, theirs = pty.openpty()
+    try:
+        os.write(ours, b"abc\n\x04")
+        expect(run("root", "/dev/stdin", stdin=theirs, timeout=60), 0, root_line(b"abc\n"))
+    finally:
+        os.close(ours)
+        os.close(theirs)
 
 
 def test_names_of_files():

@@ -15,7 +15,7 @@ def lines(*texts):
 
 
 class World:
-    """A torrent, and a folder that holds its files, unless told otherwise."""
+    """A torrent, and a folder that holds its files, unless it is given others."""
 
     def __init__(self, place, files, piece_length):
         self.place, self.files, self.folder = place, files, f"{place}/files"
@@ -78,7 +78,7 @@ def test_files_that_are_not_right():
     names = [name for name, _ in files]
     asks = {name: (Tree.of(content).root, 0, 0, 2, 0) for name, content in files if len(content) > BLOCK}
 
-    def told(world, seeded, known):
+    def expect_seeded(world, seeded, known):
         record = b"".join(request(*ask) for ask in asks.values())
         report = [f"{'seeded' if name in seeded else 'not seeded'} {name}" for name in names]
         verdicts = [f"{number} {'answered' if name in known else 'rejected'}" for number, name in enumerate(asks, 1)]
@@ -87,12 +87,12 @@ def test_files_that_are_not_right():
     with folder() as place:
         world = World(place, files, 262144)
         good = {"a", "b", "d", "e"}
-        told(world, good, {"a", "d", "e"})
+        expect_seeded(world, good, {"a", "d", "e"})
         for kind, damage in DAMAGES.items():
             for name in ["b", "e"]:
                 path, content = f"{world.folder}/{name}", dict(files)[name]
                 damage(path, content)
-                told(world, good - {name}, {"a", "d", "e"} - {name})
+                expect_seeded(world, good - {name}, {"a", "d", "e"} - {name})
                 if os.path.isdir(path) and not os.path.islink(path):
                     os.rmdir(path)
                 elif os.path.lexists(path):
@@ -100,9 +100,9 @@ def test_files_that_are_not_right():
                 write(path, content)
         # two files of one tree: either seeds it
         os.remove(f"{world.folder}/a")
-        told(world, good - {"a"}, {"a", "d", "e"})
+        expect_seeded(world, good - {"a"}, {"a", "d", "e"})
         os.remove(f"{world.folder}/d")
-        told(world, {"b", "e"}, {"e"})
+        expect_seeded(world, {"b", "e"}, {"e"})
         # a folder that is not there, and one that is a file
         for bad in [f"{place}/missing", world.torrent, ""]:
             expect(world.replay(KEEP_ALIVE, "--seed", bad), 0,
@@ -166,7 +166,7 @@ def all_blocks(model):
 
 def exchange(files, piece_length, seed):
     """Two sessions play through files: one that is seeded answers what the other wants, and poison comes between the
-    answers. Tells how many rounds it took, and how many were promised at most."""
+    answers. Gives how many rounds it took, and how many were promised at most."""
     with folder() as place:
         world = World(place, files, piece_length)
         peers = Peers(files, piece_length, False, seed)
@@ -183,19 +183,19 @@ def exchange(files, piece_length, seed):
             assert out == b"".join(true)
             before = sum(map(model.gaps, roots))
             for ask, answer in zip(wanted, true):
-                poison, told = peers.told(6)
+                poison, verdicts = peers.verdicts(6)
                 record += b"".join(poison) + answer
-                report += [*told, [model.take(*ask, seeder.hashes(*ask))]]
+                report += [*verdicts, [model.take(*ask, seeder.hashes(*ask))]]
                 assert report[-1][0].startswith("stored "), report[-1]
             rounds += len(wanted)
             assert sum(map(model.gaps, roots)) < before
             done = world.replay(record, "--info-only")
             expect(done, done.returncode, lines(*numbered(report), "end"))
         # nothing is wanted any more: each block is verified
-        for message, told in all_blocks(model):
+        for message, verdicts in all_blocks(model):
             record += message
-            report.append(told)
-            assert told[0].startswith("verified "), told
+            report.append(verdicts)
+            assert verdicts[0].startswith("verified "), verdicts
         done = world.replay(record, "--info-only")
         expect(done, done.returncode, lines(*numbered(report), "end"))
         return rounds, promised

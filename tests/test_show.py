@@ -31,14 +31,14 @@ def make_folder(place, name, files, seed):
     return f"{place}/{name}"
 
 
-def lines_of(told):
-    """What `show` is to print of what libtorrent tells."""
-    lines = [f"name: {escaped(told['name'])}", f"piece length: {told['piece_length']}", f"info hash v2: {told['v2']}"]
-    if told["v1"] is not None:
-        lines.append(f"info hash v1: {told['v1']}")
-    lines.append(f"files: {len(told['files'])}")
-    for length, root, path in told["files"]:
-        lines.append(f"{length} {root} {escaped(path.removeprefix(told['name'] + '/'))}")
+def lines_of(made):
+    """What `show` is to print of what libtorrent says."""
+    lines = [f"name: {escaped(made['name'])}", f"piece length: {made['piece_length']}", f"info hash v2: {made['v2']}"]
+    if made["v1"] is not None:
+        lines.append(f"info hash v1: {made['v1']}")
+    lines.append(f"files: {len(made['files'])}")
+    for length, root, path in made["files"]:
+        lines.append(f"{length} {root} {escaped(path.removeprefix(made['name'] + '/'))}")
     return "".join(f"{line}\n" for line in lines)
 
 
@@ -120,9 +120,9 @@ def test_torrents_of_libtorrent():
                     torrent = f"{place}/{name}-{piece_length}-{hybrid}.torrent"
                     orders.append({"content": content, "torrent": torrent, "piece_length": piece_length, "hybrid": hybrid})
         orders.append({"content": f"{place}/many/b", "torrent": f"{place}/single", "piece_length": 16384, "hybrid": True})
-        for order, told in zip(orders, made_by_libtorrent(orders)):
-            expect(run("show", order["torrent"]), 0, lines_of(told))
-            for length, root, path in told["files"]:
+        for order, made in zip(orders, made_by_libtorrent(orders)):
+            expect(run("show", order["torrent"]), 0, lines_of(made))
+            for length, root, path in made["files"]:
                 if length:
                     assert root == root_of_file(real_path(order["content"], path)).hex()
 
