@@ -1,30 +1,27 @@
 -- The verdict on one file, from the verdicts of the parts.
-use Rattle.std.proofs.Common.{◌≡◌, ◌≢◌, ◌⊎◌, inl, inr, ℕ, zero, suc, ◌+◌, ◌-◌, ◌*◌, ◌/◌, ◌^◌, ◌<◌, ◌≤◌, List, [], ◌∷◌, ◌++◌, length, replicate, get_or}
+use Rattle.std.proofs.Common.{◌≡◌, ◌⊎◌, inl, inr, ℕ, zero, suc, ◌+◌, ◌-◌, ◌*◌, ◌^◌, ◌<◌, ◌≤◌, List, [], length, replicate, get_or}
 use Rattle.std.proofs.Common.{slice_get, Option, Some, None, option_and_then, refl, ap, sym, ◌∙◌, subst, arith}
 use Rattle.std.proofs.Math.Nat.{lt-div-mul-add, div-mul-le_self}
 use Rattle.std.proofs.lemmas.Bool.{cases_lt}
 use Rattle.std.proofs.lemmas.List.{length-append, length-replicate, get_or_append_left, get_or-append_right, get_or-replicate}
 use Rattle.std.proofs.lemmas.List.FromFn.{fill_by_all, length-map-range_with_len}
 use Rattle.sha2.proofs.Facts256.{length-sha256}
-use Rattle.std.proofs.lemmas.Option.{same_Some, none-some, slice_get_within, slice_get-get_or, get_or_from_slice_get}
-use Rattle.hashtree.specs.Tree.{block_count, filled, first_pad, height, layer_count, layer_of, node, node_over, root_of, root_over, tree, zero_hash}
+use Rattle.std.proofs.lemmas.Option.{slice_get-get_or, get_or_from_slice_get}
+use Rattle.hashtree.specs.Tree.{block_count, filled, first_pad, height, layer_count, layer_of, node, root_of, root_over, tree, zero_hash}
 use Rattle.hashtree.proofs.Comparing.{length-layer_of}
-use Rattle.hashtree.proofs.Heights.{first_pad-fits, first_pad-place, height_enough}
+use Rattle.hashtree.proofs.Heights.{first_pad-fits, height_enough}
 use Rattle.hashtree.proofs.Leading.{layers_lead_to_root}
 use Rattle.opening.specs.Description.{Description, FileEntry, TreeEntry}
 use Rattle.pieces.specs.Pieces.{IsPieceLength, pieces_of}
 use Rattle.opening.specs.Sound.{IsSound, IsSoundTree, piece_layer}
-use Rattle.folders.specs.Content.{IsComparedLayer}
-use Rattle.folders.specs.Folder.{FitsTree, IsGoodFile, tree_entry_of}
-use Rattle.folders.specs.Verdicts.{IsBad, IsFirstBadPiece, IsListedNode, IsVerdict}
+use Rattle.folders.specs.Folder.{FitsTree, tree_entry_of}
+use Rattle.folders.specs.Verdicts.{IsListedNode}
 use Rattle.folders.specs.declared.report.FileVerdict.{FileVerdict}
 use Rattle.folders.specs.declared.report.FileVerdict.TheVariants as file
 use Rattle.folders.proofs.Layers.{layer_is_low, layer_of_at, whole_layer}
 use Rattle.folders.proofs.Pieces.{same_root}
-use Rattle.folders.proofs.Reports.{has_tree, sound_tree}
 use Rattle.parts.specs.Collisions.{RowsCollide}
-use Rattle.parts.specs.Joins.{IsWorst, NoWorse}
-use Rattle.parts.specs.Parts.{IsPieceGood, piece_count}
+use Rattle.parts.specs.Joins.{NoWorse}
 use Rattle.parts.proofs.Rows.{AreHashes, length-node, same_rows}
 
 -- ---- verdicts

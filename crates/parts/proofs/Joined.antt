@@ -1,14 +1,13 @@
 -- The verdict on one file, from what the parts say of it.
-use Rattle.std.proofs.Common.{◌≡◌, ◌≢◌, ◌⊎◌, inl, inr, ℕ, zero, suc, ◌+◌, ◌-◌, ◌*◌, ◌^◌, ◌<◌, ◌≤◌, List, [], ◌∷◌, length, get_or, slice_get, Option, Some}
-use Rattle.std.proofs.Common.{None, refl, ap, sym, ◌∙◌, subst, arith}
+use Rattle.std.proofs.Common.{◌≡◌, ◌⊎◌, inl, inr, ℕ, zero, suc, ◌+◌, ◌-◌, ◌<◌, ◌≤◌, List, [], ◌∷◌, length, slice_get, Option, Some}
+use Rattle.std.proofs.Common.{refl, ap, sym, ◌∙◌, subst, arith}
 use Rattle.std.proofs.Math.Nat.{div-eq_of_lt-le}
-use Rattle.std.proofs.lemmas.Bool.{cases_lt}
-use Rattle.std.proofs.lemmas.Option.{same_Some, none-some, slice_get_within}
+use Rattle.std.proofs.lemmas.Option.{same_Some}
 use Rattle.hashtree.specs.Tree.{block_count, filled, height, layer_of, root_of}
 use Rattle.parts.proofs.Lists.{same_or_not}
 use Rattle.opening.specs.Description.{Description, FileEntry, TreeEntry}
 use Rattle.pieces.specs.Pieces.{pieces_of}
-use Rattle.opening.specs.Sound.{IsSound, IsSoundTree, piece_layer}
+use Rattle.opening.specs.Sound.{IsSound, piece_layer}
 use Rattle.folders.specs.Folder.{FitsTree, IsGoodFile, tree_entry_of}
 use Rattle.folders.specs.Verdicts.{IsBad, IsFirstBadPiece, IsListedNode, IsVerdict}
 use Rattle.folders.specs.declared.report.FileVerdict.{FileVerdict}

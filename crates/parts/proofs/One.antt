@@ -1,16 +1,16 @@
 -- Contents have one report, if no file was unreadable.
-use Rattle.std.proofs.Common.{◌≡◌, ◌≢◌, ◌⊎◌, inl, inr, ℕ, zero, suc, ◌+◌, ◌-◌, ◌<◌, ◌≤◌, Bool, true, false, cond, is_some, List, [], ◌∷◌, length, get_or}
+use Rattle.std.proofs.Common.{◌≡◌, ◌⊎◌, inl, inr, ℕ, zero, suc, ◌<◌, ◌≤◌, true, false, cond, is_some, List, [], ◌∷◌, length}
 use Rattle.std.proofs.Common.{slice_get, Option, Some, None, refl, ap, sym, ◌∙◌, subst, arith}
 use Rattle.std.specs.List.{list_all}
 use Rattle.std.proofs.lemmas.Bool.{cases_lt}
 use Rattle.std.proofs.lemmas.List.{same_lists}
 use Rattle.std.proofs.lemmas.List.Sums.{sum_by-cons}
-use Rattle.std.proofs.lemmas.Option.{same_Some, none-some, slice_get_within, get_or_from_slice_get}
+use Rattle.std.proofs.lemmas.Option.{same_Some, none-some, get_or_from_slice_get}
 use Rattle.pieces.specs.Cuts.{cut_digests, IsFirstDifference}
 use Rattle.opening.specs.Description.{Description, FileEntry, TreeEntry, Version1}
 use Rattle.opening.specs.Sound.{IsSound}
-use Rattle.folders.specs.Folder.{Contents, IsGoodFile, IsStream, V1Good, tree_entry_of}
-use Rattle.folders.specs.Verdicts.{HasVerdicts, IsBad, IsFirstBadPiece, IsFirstBadV1Piece, IsV1Verdict, IsVerdict, TellsContents, fault_count, is_checked}
+use Rattle.folders.specs.Folder.{Contents, IsGoodFile, V1Good}
+use Rattle.folders.specs.Verdicts.{IsBad, IsFirstBadPiece, IsFirstBadV1Piece, IsV1Verdict, IsVerdict, fault_count, is_checked}
 use Rattle.folders.specs.Verdicts.{is_unreadable, is_whole, unreadable_count}
 use Rattle.folders.specs.declared.report.FileVerdict.{FileVerdict}
 use Rattle.folders.specs.declared.report.FileVerdict.TheVariants as file

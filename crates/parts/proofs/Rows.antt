@@ -1,14 +1,12 @@
 -- Two rows of hashes whose trees have one root are the same, or collide.
-use Rattle.std.proofs.Common.{◌≡◌, ◌≢◌, ◌⊎◌, inl, inr, ℕ, zero, suc, ◌+◌, ◌-◌, ◌*◌, ◌^◌, ◌<◌, ◌≤◌, List, [], ◌∷◌, ◌++◌, length, take, drop, replicate, get_or}
-use Rattle.std.proofs.Common.{Some, refl, ap, ap₂, sym, ◌∙◌, subst, arith, append-nil}
+use Rattle.std.proofs.Common.{◌≡◌, ◌⊎◌, inl, inr, ℕ, zero, suc, ◌+◌, ◌-◌, ◌*◌, ◌^◌, ◌<◌, ◌≤◌, List, [], length, take, drop, replicate, get_or}
+use Rattle.std.proofs.Common.{ap, sym, ◌∙◌, subst, arith, append-nil}
 use Rattle.std.proofs.lemmas.Bool.{cases_lt}
-use Rattle.std.proofs.lemmas.List.{length-append, length-replicate, get_or_append_left, get_or-append_right, get_or-replicate, take_all}
+use Rattle.std.proofs.lemmas.List.{length-replicate, get_or_append_left, get_or-append_right, get_or-replicate, take_all}
 use Rattle.std.proofs.lemmas.List.FromFn.{get_or-map-range_with_len}
 use Rattle.sha2.specs.Sha256.{sha256}
 use Rattle.sha2.proofs.Facts256.{length-sha256}
-use Rattle.hashtree.specs.Tree.{block, block_count, block_hashes, filled, first_pad, height, layer_of, leaves, node, node_over, pad_leaf, root_over, tree}
-use Rattle.hashtree.specs.Tree.{zero_hash}
-use Rattle.hashtree.proofs.Heights.{first_pad-fits, height_enough}
+use Rattle.hashtree.specs.Tree.{block, block_count, block_hashes, height, leaves, node, node_over, pad_leaf, tree}
 use Rattle.hashtree.proofs.Blocks.{length-block_hashes}
 use Rattle.hashtree.proofs.Nodes.{leaf_at, length-leaves, node_over-suc, part_within}
 use Rattle.hashtree.proofs.Pairs.{two-pow}

@@ -1,13 +1,13 @@
 -- The version 1 stream of a folder whose files are all as long as stated: each of its cuts is the
 -- version 1 piece that begins with a piece of one file.
-use Rattle.std.proofs.Common.{◌≡◌, ◌≢◌, ◌⊎◌, inl, inr, ℕ, zero, suc, ◌+◌, ◌-◌, ◌*◌, ◌/◌, ◌<◌, ◌≤◌, min, List, [], ◌∷◌, ◌++◌, length, take, drop, replicate}
-use Rattle.std.proofs.Common.{get_or, slice_get, sum_by, Option, Some, None, refl, ap, sym, ◌∙◌, subst, arith, take-take}
+use Rattle.std.proofs.Common.{◌≡◌, inl, inr, ℕ, zero, suc, ◌+◌, ◌-◌, ◌*◌, ◌<◌, ◌≤◌, min, List, [], ◌∷◌, ◌++◌, length, take, drop, replicate}
+use Rattle.std.proofs.Common.{get_or, slice_get, sum_by, Some, refl, ap, sym, ◌∙◌, subst, arith, take-take}
 use Rattle.std.proofs.Math.Nat.{lt-div-mul-add, div-mul-le_self, mul-le-mul_left}
 use Rattle.std.proofs.lemmas.Bool.{cases_lt}
 use Rattle.std.proofs.lemmas.List.{ext_get_or, get_or-take, get_or-drop, get_or_append_left, get_or-append_right, get_or-replicate, length-append}
 use Rattle.std.proofs.lemmas.List.{length-take, length-drop, length-replicate, take_all}
 use Rattle.std.proofs.lemmas.List.Sums.{sum_by-take-le}
-use Rattle.std.proofs.lemmas.Option.{same_Some, none-some, slice_get_within, get_or_from_slice_get}
+use Rattle.std.proofs.lemmas.Option.{same_Some}
 use Rattle.sha1.specs.Sha1.{sha1}
 use Rattle.pieces.specs.Cuts.{cut, cut_digests}
 use Rattle.opening.specs.Description.{Description, FileEntry, Version1}
@@ -15,10 +15,9 @@ use Rattle.pieces.specs.Pieces.{pieces_of}
 use Rattle.opening.specs.Sound.{IsSound}
 use Rattle.pieces.proofs.Cutting.{digest_of_cut}
 use Rattle.folders.specs.Folder.{Contents, Covers, IsStream, start_of}
-use Rattle.folders.proofs.Orders.{last_or_before}
 use Rattle.folders.proofs.Places.{ends_before_next, pieces_are_positive, pieces_before, pieces_next, place_before, start_is}
 use Rattle.folders.proofs.Prefixes.{IsStreamPrefix, prefix_all, prefix_empty, prefix_file, prefix_none, prefix_zeros}
-use Rattle.parts.specs.Parts.{IsPieceAt, IsVersion1Good, last_place, piece_count, place_count, version1_piece}
+use Rattle.parts.specs.Parts.{IsPieceAt, last_place, piece_count, place_count, version1_piece}
 
 -- each file has a content, which is as long as stated
 abbrev pub AreWhole : Description → Contents → Type 0

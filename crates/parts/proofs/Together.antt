@@ -1,32 +1,30 @@
 -- The report that the parts make together.
-use Rattle.std.proofs.Common.{◌≡◌, ◌≢◌, ◌⊎◌, inl, inr, ℕ, zero, suc, ◌+◌, ◌-◌, ◌*◌, ◌<◌, ◌≤◌, ◌&&◌, Bool, true, false, is_some, List, [], ◌∷◌, length, get_or}
-use Rattle.std.proofs.Common.{slice_get, sum_by, Option, Some, None, refl, ap, sym, ◌∙◌, subst, arith}
+use Rattle.std.proofs.Common.{◌≡◌, ◌⊎◌, inl, inr, ℕ, ◌-◌, ◌*◌, ◌<◌, ◌≤◌, true, false, is_some, List, length}
+use Rattle.std.proofs.Common.{slice_get, sum_by, Option, Some, refl, ap, sym, ◌∙◌, subst, arith}
 use Rattle.std.specs.List.{list_all}
 use Rattle.std.specs.Option.{unwrap_or}
 use Rattle.std.proofs.lemmas.Bool.{cases_lt}
-use Rattle.std.proofs.lemmas.List.{same_lists}
-use Rattle.std.proofs.lemmas.Option.{same_Some, none-some, slice_get_within, slice_get_past, get_or_from_slice_get}
-use Rattle.sha1.specs.Sha1.{sha1}
-use Rattle.pieces.specs.Cuts.{cut_digests, IsFirstDifference}
+use Rattle.std.proofs.lemmas.Option.{same_Some, slice_get_within}
+use Rattle.pieces.specs.Cuts.{cut_digests}
 use Rattle.opening.specs.Description.{Description, FileEntry, Version1}
 use Rattle.pieces.specs.Pieces.{pieces_of}
 use Rattle.opening.specs.Sound.{IsSound}
 use Rattle.pieces.proofs.Cutting.{length-cut_digests}
-use Rattle.folders.specs.Folder.{Contents, GoodFolder, IsGoodFile, IsStream, V1Good}
-use Rattle.folders.specs.Verdicts.{HasVerdicts, IsFirstBadV1Piece, IsV1Verdict, IsVerdict, TellsContents, is_checked, is_good, is_whole, is_yes, stream_is_good}
+use Rattle.folders.specs.Folder.{Contents, GoodFolder, IsStream}
+use Rattle.folders.specs.Verdicts.{IsV1Verdict, IsVerdict, is_checked, is_good, is_whole, is_yes, stream_is_good}
 use Rattle.folders.specs.declared.report.FileVerdict.{FileVerdict}
 use Rattle.folders.specs.declared.report.FileVerdict.TheVariants as file
 use Rattle.folders.specs.declared.report.V1Verdict.{V1Verdict}
 use Rattle.folders.specs.declared.report.V1Verdict.TheVariants as version1
-use Rattle.folders.proofs.Places.{pieces_are_positive, pieces_before, pieces_next}
-use Rattle.folders.proofs.Reports.{has_tree, yes_is_sure}
+use Rattle.folders.proofs.Places.{pieces_are_positive}
+use Rattle.folders.proofs.Reports.{yes_is_sure}
 use Rattle.parts.specs.Collisions.{FileCollides}
-use Rattle.parts.specs.Joins.{IsJoin, IsWorst, NoWorse, NoWorseV1, says_of, says_of_v1}
+use Rattle.parts.specs.Joins.{IsJoin, NoWorse, NoWorseV1, says_of, says_of_v1}
 use Rattle.parts.specs.Laws.{IsReportOf}
-use Rattle.parts.specs.Parts.{AreAllPlaces, Holds, IsPartV1, IsPartVerdict, IsPieceAt, IsVersion1Good, PartReport, TellsPart, last_place, piece_count}
-use Rattle.parts.specs.Parts.{place_count, version1_piece}
+use Rattle.parts.specs.Parts.{AreAllPlaces, Holds, IsPartV1, IsPieceAt, IsVersion1Good, PartReport, TellsPart}
+use Rattle.parts.specs.Parts.{place_count}
 use Rattle.parts.proofs.Joined.{ContentCollides, good_joined, joined}
-use Rattle.parts.proofs.Streams.{AreWhole, at_length, digest_is, has_piece, in_pieces, place_of_piece, stream_there}
+use Rattle.parts.proofs.Streams.{AreWhole, at_length, digest_is, has_piece, place_of_piece, stream_there}
 use Rattle.parts.proofs.Worst.{below_or, both, all_at, all_from, one_not, whole_up, checked_up, good_v1, bad_v1, not_true, some_of, whole_length, by_places}
 use Rattle.parts.proofs.Worst.{few_pieces}
 

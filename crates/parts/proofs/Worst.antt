@@ -1,24 +1,19 @@
 -- Verdicts that parts join, and lists of them.
-use Rattle.std.proofs.Common.{◌≡◌, ◌≢◌, ◌⊎◌, inl, inr, ℕ, zero, suc, ◌+◌, ◌-◌, ◌*◌, ◌<◌, ◌≤◌, ◌&&◌, Bool, true, false, is_some, List, [], ◌∷◌, length, get_or}
-use Rattle.std.proofs.Common.{slice_get, sum_by, Option, Some, None, refl, ap, sym, ◌∙◌, subst, arith}
+use Rattle.std.proofs.Common.{◌≡◌, ◌⊎◌, inl, inr, ℕ, zero, suc, ◌*◌, ◌<◌, ◌≤◌, ◌&&◌, Bool, true, false, is_some, List, [], ◌∷◌, length}
+use Rattle.std.proofs.Common.{slice_get, Option, Some, None, refl, ap, sym, ◌∙◌, subst, arith}
 use Rattle.std.specs.List.{list_all}
-use Rattle.std.specs.Option.{unwrap_or}
 use Rattle.std.proofs.lemmas.Bool.{cases_lt}
 use Rattle.std.proofs.lemmas.List.{same_lists}
-use Rattle.std.proofs.lemmas.Option.{same_Some, none-some, slice_get_within, slice_get_past, get_or_from_slice_get}
-use Rattle.sha1.specs.Sha1.{sha1}
-use Rattle.pieces.specs.Cuts.{cut_digests, IsFirstDifference}
-use Rattle.opening.specs.Description.{Description, FileEntry, Version1}
+use Rattle.std.proofs.lemmas.Option.{same_Some, none-some, get_or_from_slice_get}
+use Rattle.opening.specs.Description.{Description, FileEntry}
 use Rattle.pieces.specs.Pieces.{pieces_of}
 use Rattle.opening.specs.Sound.{IsSound}
-use Rattle.pieces.proofs.Cutting.{length-cut_digests}
-use Rattle.folders.specs.Folder.{Contents, GoodFolder, IsGoodFile, IsStream, V1Good}
-use Rattle.folders.specs.Verdicts.{HasVerdicts, IsFirstBadV1Piece, IsV1Verdict, IsVerdict, TellsContents, is_checked, is_good, is_whole, is_yes, stream_is_good}
+use Rattle.folders.specs.Verdicts.{IsVerdict, is_checked, is_whole}
 use Rattle.folders.specs.declared.report.FileVerdict.{FileVerdict}
 use Rattle.folders.specs.declared.report.FileVerdict.TheVariants as file
 use Rattle.folders.specs.declared.report.V1Verdict.{V1Verdict}
 use Rattle.folders.specs.declared.report.V1Verdict.TheVariants as version1
-use Rattle.folders.proofs.Reports.{has_tree, yes_is_sure}
+use Rattle.folders.proofs.Reports.{has_tree}
 use Rattle.parts.specs.Joins.{NoWorse, NoWorseV1}
 use Rattle.parts.proofs.Streams.{at_length, in_pieces}
 
