@@ -1,0 +1,9 @@
+pub mod Files
+pub mod Joined
+pub mod Lists
+pub mod One
+pub mod Ranks
+pub mod Rows
+pub mod Streams
+pub mod Together
+pub mod Worst
