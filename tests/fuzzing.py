@@ -353,5 +353,5 @@ def summary(fuzz):
     """How many cases were compared, how fast, and how often the program answered what."""
     yield f"{fuzz.cases.total()} cases, {fuzz.rate()} a minute of a processor's time"
     for kind, answers in fuzz.answers.items():
-        error = ", ".join(f"{answer} {count}" for answer, count in answers.most_common())
-        yield f"{fuzz.cases[kind]} cases of a {kind} compared: {error}"
+        counted = ", ".join(f"{answer} {count}" for answer, count in answers.most_common())
+        yield f"{fuzz.cases[kind]} cases of a {kind} compared: {counted}"

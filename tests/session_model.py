@@ -132,12 +132,12 @@ class Session:
 
     def seed(self, contents):
         """Fills the leaves of each file that a folder holds right, and gives a line for each file of the torrent."""
-        answer = []
+        lines = []
         for path, content in self.all_files:
             good = content and contents.get(path) == content
             if good:
                 tree = self.trees[Tree.of(content).root]
                 tree["known"].update(((layer, at), value) for layer, row in enumerate(tree["whole"].layers)
                                      for at, value in enumerate(row))
-            answer.append(f"seeded {path}" if good else f"not seeded {path}")
-        return answer
+            lines.append(f"seeded {path}" if good else f"not seeded {path}")
+        return lines

@@ -128,17 +128,17 @@ def test_writes_that_fail():
                         _, done = shim.run("write", at, *arguments, error=error, one_byte=one_byte)
                         if outcome(done) == ample and error == errno.EINTR:
                             continue
-                        status, out, allowed = outcome(done)
+                        status, out, message = outcome(done)
                         assert status == 2 and ample[1].startswith(out), (command, at, done)
-                        assert allowed == CANNOT_WRITE or command == "seeded" and allowed == cannot_write(world.answers), done
+                        assert message == CANNOT_WRITE or command == "seeded" and message == cannot_write(world.answers), done
 
 
 def test_files_that_cannot_be_opened():
     with shimmed() as (place, shim):
         world = World(place)
-        for error, allowed in [(errno.EMFILE, "unreadable"), (errno.EACCES, "unreadable"), (errno.ENOENT, "missing")]:
+        for error, verdict in [(errno.EMFILE, "unreadable"), (errno.EACCES, "unreadable"), (errno.ENOENT, "missing")]:
             expected = {"root": [cannot_read(world.long)], "show": [cannot_read(world.pair)],
-                        "check": [cannot_read(world.pair), checks_without({"a": allowed}), checks_without({"c": allowed})],
+                        "check": [cannot_read(world.pair), checks_without({"a": verdict}), checks_without({"c": verdict})],
                         "replay": [cannot_read(world.abc), cannot_read(world.record)]}
             for command, wanted in expected.items():
                 seen, _ = failures(shim, world, command, "open", error=error)
@@ -212,17 +212,17 @@ def test_answers_that_cannot_be_written():
             ample, places = next(runs), []
             assert (*outcome(ample), written(world.answers)) == seeded("ac"), ample
             for done in runs:
-                status, out, allowed = outcome(done)
+                status, out, message = outcome(done)
                 lines, given = out.splitlines(True), written(world.answers)
                 asked = sum(line.endswith((" answered\n", " rejected\n")) for line in lines)
                 whole = answers_to(session, ASKS[:asked])
                 assert status == 2 and ample.stdout.decode().startswith(out), done
-                if allowed == CANNOT_WRITE:
+                if message == CANNOT_WRITE:
                     assert given == whole, (done, given)
                 else:
-                    assert allowed == cannot_write(world.answers) and out.endswith((" answered\n", " rejected\n")), done
+                    assert message == cannot_write(world.answers) and out.endswith((" answered\n", " rejected\n")), done
                     assert answers_to(session, ASKS[:asked - 1]) <= given < whole and whole.startswith(given), (done, given)
-                places.append((allowed, asked))
+                places.append((message, asked))
             assert {(cannot_write(world.answers), count) for count in (1, 2)} < set(places), places
             assert {(CANNOT_WRITE, count) for count in (0, 1, 2)} < set(places), places
 

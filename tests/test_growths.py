@@ -75,8 +75,8 @@ def test_help_and_refused_arguments():
         for name, arguments in [("an unknown command", ["nothing"]), ("root without a file", ["root"]),
                                 ("an argument that is not UTF-8", ["root", b"\xff"])]:
             for called, done in refused_in_turn(shim, name, *arguments):
-                printed = done.stderr.startswith((b"error: ", b"fault: name is not UTF-8\n")) or outcome(done) == NO_MEMORY
-                assert done.returncode == 2 and not done.stdout and printed, (called, outcome(done))
+                is_explained = done.stderr.startswith((b"error: ", b"fault: name is not UTF-8\n")) or outcome(done) == NO_MEMORY
+                assert done.returncode == 2 and not done.stdout and is_explained, (called, outcome(done))
 
 
 # What stands before the path in a line of a file.
@@ -227,27 +227,27 @@ def test_seeds():
         out = f"{place}/out"
         arguments = ["replay", path, record_path, "--info-only", "--seed", f"{place}/folder", "--answers", out]
         for called, done in refused_in_turn(shim, "replay --seed", *arguments, out=out):
-            session, lines, printed = Session(files, 32768, False), done.stdout.decode().splitlines(), (called, outcome(done))
+            session, lines, about = Session(files, 32768, False), done.stdout.decode().splitlines(), (called, outcome(done))
             right = {name: content for name, content in files if f"seeded {name}" in lines}
             seeds, lines = lines[:len(files)], lines[len(files):]
-            assert seeds == session.seed(right)[:len(seeds)], printed
-            assert len(right) >= len(seeds) - 1 or "from" in called, printed
+            assert seeds == session.seed(right)[:len(seeds)], about
+            assert len(right) >= len(seeds) - 1 or "from" in called, about
             if not lines:
-                assert (done.returncode, done.stderr) == NO_MEMORY[::2], printed
-                assert written(out) == b"" or (written(out) == b"before" and not seeds), printed
+                assert (done.returncode, done.stderr) == NO_MEMORY[::2], about
+                assert written(out) == b"" or (written(out) == b"before" and not seeds), about
                 ends.add(f"none behind {len(seeds)}")
                 continue
             *lines, last = lines
             # the last one that has a line may have had no memory, and did not go out then
             count = max(0, len(lines) - 1) if last == "fault NoMemory" else len(asks)
-            assert written(out) == b"".join(session.answer_frame(*ask) for ask in asks[:count]), printed
-            assert fits(session, record, lines), printed
-            assert last == "fault NoMemory" and len(lines) <= len(asks) or last == "end" and len(lines) == 4, printed
+            assert written(out) == b"".join(session.answer_frame(*ask) for ask in asks[:count]), about
+            assert fits(session, record, lines), about
+            assert last == "fault NoMemory" and len(lines) <= len(asks) or last == "end" and len(lines) == 4, about
             refused = any(" refused " in line for line in lines)
-            assert done.returncode == (2 if last != "end" else 1 if refused else 0) and not done.stderr, printed
+            assert done.returncode == (2 if last != "end" else 1 if refused else 0) and not done.stderr, about
             ends.add(f"{last} behind {len(lines)}, {len(right)} seeded")
             if called == "ample":
-                assert ends == {"end behind 4, 2 seeded"} and not refused, printed
+                assert ends == {"end behind 4, 2 seeded"} and not refused, about
     assert ends >= {"none behind 0", "none behind 1", *(f"fault NoMemory behind {count}, 2 seeded" for count in range(4)),
                     "end behind 4, 1 seeded"}, ends
 

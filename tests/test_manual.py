@@ -34,8 +34,8 @@ class Helped:
         text = run(*command, "-h").stdout.decode()
         self.commands = re.findall(r"^  (\w+) ", part(text + "\n\nCommands:\n\n", "\nCommands:\n", "\n\n"), re.M)
         self.arguments = re.findall(r"^  [<\[](\w+)", part(text + "\n\nArguments:\n\n", "\nArguments:\n", "\n\n"), re.M)
-        help_of = part(text + "\n\nOptions:\n\n", "\nOptions:\n", "\n\n")
-        self.options = set(re.findall(r"(?<=[ ,])--?\w[\w-]*", "\n".join(line[:30] for line in help_of.split("\n"))))
+        options = part(text + "\n\nOptions:\n\n", "\nOptions:\n", "\n\n")
+        self.options = set(re.findall(r"(?<=[ ,])--?\w[\w-]*", "\n".join(line[:30] for line in options.split("\n"))))
 
 
 def commands():
@@ -120,7 +120,7 @@ def test_manual_explains_every_printed_line():
         entries = re.findall(r"^\.It Li (.*)\n(.*)$", sections[section], re.M)
         explained = [line for heads, _ in entries for line in heads.split(" , ")]
         assert sorted(explained) == sorted(lines), (section, set(explained) ^ set(lines))
-        assert not [heads for heads, help_of in entries if help_of.startswith((".It", ".El"))], (section, entries)
+        assert not [heads for heads, text in entries if text.startswith((".It", ".El"))], (section, entries)
 
 
 def names_of_refusals():
@@ -290,9 +290,9 @@ def test_completion_by_zsh_and_fish():
         subprocess.run(["zsh", "-n", f"{COMPLETIONS}/_btcheck"], check=True)
     if shutil.which("fish"):
         def by_fish(typed):
-            help_of = subprocess.run(["fish", "-N", "-c", f"source {COMPLETIONS}/btcheck.fish; complete -C '{typed}'"],
+            offered = subprocess.run(["fish", "-N", "-c", f"source {COMPLETIONS}/btcheck.fish; complete -C '{typed}'"],
                                   stdout=subprocess.PIPE, text=True, check=True).stdout
-            return {line.split("\t")[0] for line in help_of.splitlines()}
+            return {line.split("\t")[0] for line in offered.splitlines()}
         assert by_fish("btcheck ") == set(at_top.commands)
         assert by_fish("btcheck -") == at_top.options
         assert by_fish("btcheck help ") == set(at_top.commands)
