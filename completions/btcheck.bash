@@ -6,7 +6,7 @@ _btcheck_command() {
     case $1 in
         root) kinds=(file) ;;
         show) kinds=(torrent) ;;
-        check) kinds=(torrent folder) ;;
+        check) options+=' --quiet' kinds=(torrent folder) ;;
         create) options+=' --name --piece-length --hybrid' kinds=(folder file) ;;
         convert) kinds=(file file) ;;
         replay) options+=' --info-only --seed --answers' kinds=(torrent file) ;;

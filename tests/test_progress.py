@@ -3,14 +3,18 @@ is, so that a line is drawn on every machine."""
 import functools
 import math
 import os
+import pty
 import re
+import signal
+import subprocess
 import time
+import tty
 
 import messages
 import record_model
 import torrents
 from shim import shimmed
-from support import folder, run, write
+from support import BTCHECK, folder, run, write
 from terminal import NO_WRAP, WRAP, drawn, on_terminal, screen, width_of
 from trees import sha256
 
@@ -148,6 +152,22 @@ def test_standard_output_on_the_same_terminal():
         path = write(f"{place}/torrent", torrent_of_zeros({"long": size}))
         status, _, sent = on_terminal("check", path, place, both=True)
         assert status == 0 and len(drawn(sent)) > 1 and screen(sent) == ["good long", "yes", ""], sent
+
+
+def test_a_check_that_is_cut_off():
+    """A terminal has the line of the first file while the second is read."""
+    with folder() as place:
+        path = write(f"{place}/torrent", torrent_of_zeros({"a": 16384, "b": 1 << 30}))
+        zeros(place, "a", 16384)
+        zeros(place, "b", 1 << 30)
+        ours, theirs = pty.openpty()
+        tty.setraw(theirs)
+        program = subprocess.Popen([BTCHECK, "check", path, place], stdout=theirs, stderr=subprocess.DEVNULL)
+        os.close(theirs)
+        line = os.read(ours, 65536)
+        program.send_signal(signal.SIGINT)
+        assert program.wait(timeout=60) == -signal.SIGINT and line == b"good a\n", (program.returncode, line)
+        os.close(ours)
 
 
 def test_seeding():

@@ -116,8 +116,8 @@ has_texts : (rows : List Row) (a : Action) → FindsArguments rows a
     → HasTexts rows (needed_texts (command_of a))
 has_texts rows (action.Root file) found = ((file.now, found), tt)
 has_texts rows (action.Show torrent) found = ((torrent.now, found), tt)
-has_texts rows (action.Check torrent dir) found =
-    ((torrent.now, found.0), ((dir.now, found.1), tt))
+has_texts rows (action.Check asked) found =
+    ((asked.torrent.now, found.0), ((asked.dir.now, found.1), tt))
 has_texts rows (action.Create asked) found =
     ((asked.dir.now, found.0), ((asked.out.now, found.1), ((asked.name.now, found.2), tt)))
 has_texts rows (action.Replay asked) found =
@@ -152,7 +152,7 @@ pub needs_piece_length : (rows : List Row)
     → (a : Action) → Asks (codes "create") rows a → ⊥
 needs_piece_length rows none (action.Root file) asks = differs _ _ refl asks.0
 needs_piece_length rows none (action.Show torrent) asks = differs _ _ refl asks.0
-needs_piece_length rows none (action.Check torrent dir) asks = differs _ _ refl asks.0
+needs_piece_length rows none (action.Check asked) asks = differs _ _ refl asks.0
 needs_piece_length rows none (action.Create asked) asks = none asked.piece_length asks.1.3
 needs_piece_length rows none (action.Replay asked) asks = differs _ _ refl asks.0
 needs_piece_length rows none (action.Convert asked) asks = differs _ _ refl asks.0

@@ -55,7 +55,8 @@ abbrev pub show_command : Shape
 show_command = command (codes "show") (needed (codes "TORRENT") ∷ [])
 
 abbrev pub check_command : Shape
-check_command = command (codes "check") (needed (codes "TORRENT") ∷ needed (codes "DIR") ∷ [])
+check_command = command (codes "check")
+    (needed (codes "TORRENT") ∷ needed (codes "DIR") ∷ flag (codes "quiet") ∷ [])
 
 abbrev pub create_command : Shape
 create_command = command (codes "create")
@@ -135,7 +136,7 @@ IsNumberIfThere found None = (number : ℕ) → IsNumberOf found number → ⊥
 abbrev pub command_of : Action → Text
 command_of (action.Root file) = codes "root"
 command_of (action.Show torrent) = codes "show"
-command_of (action.Check torrent dir) = codes "check"
+command_of (action.Check asked) = codes "check"
 command_of (action.Create asked) = codes "create"
 command_of (action.Replay asked) = codes "replay"
 command_of (action.Convert asked) = codes "convert"
@@ -144,8 +145,9 @@ command_of (action.Convert asked) = codes "convert"
 abbrev pub FindsArguments : List Row → Action → Type 0
 FindsArguments rows (action.Root file) = IsText (codes "FILE") rows file
 FindsArguments rows (action.Show torrent) = IsText (codes "TORRENT") rows torrent
-FindsArguments rows (action.Check torrent dir) =
-    IsText (codes "TORRENT") rows torrent × IsText (codes "DIR") rows dir
+FindsArguments rows (action.Check asked) =
+    IsText (codes "TORRENT") rows asked.torrent × IsText (codes "DIR") rows asked.dir
+    × IsFlag (codes "quiet") rows asked.quiet
 FindsArguments rows (action.Create asked) =
     IsText (codes "DIR") rows asked.dir × IsText (codes "OUT") rows asked.out
     × IsText (codes "name") rows asked.name

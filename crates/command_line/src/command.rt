@@ -14,18 +14,24 @@ pub enum Action<'a> {
         torrent: &'a str,
     },
     /// Check that a folder holds a torrent's files.
-    Check {
-        /// The torrent file's path.
-        torrent: &'a str,
-        /// The folder's path.
-        dir: &'a str,
-    },
+    Check(Check<'a>),
     /// Make a torrent of a folder.
     Create(Create<'a>),
     /// Replay the messages that peers sent.
     Replay(Replay<'a>),
     /// Make a record of form 2 of one of form 1.
     Convert(Convert<'a>),
+}
+
+/// What is checked, and what is printed of it.
+#[derive(Debug, Drop, PartialEq, Eq)]
+pub struct Check<'a> {
+    /// The torrent file's path.
+    pub torrent: &'a str,
+    /// The folder's path.
+    pub dir: &'a str,
+    /// Whether only what is not good is printed, and the verdict.
+    pub quiet: bool,
 }
 
 /// Of what a torrent is made, and how.

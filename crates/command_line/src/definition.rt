@@ -6,8 +6,9 @@ ghost use Rattle.command_line.specs.CommandLine.{IsApp, IsArgument, IsLeaf, IsMa
 
 use crate::help::{
     ABOUT, ANSWERS_HELP, CHECK_ABOUT, CHECK_HELP, CONVERT_ABOUT, CONVERT_HELP, CREATE_ABOUT,
-    CREATE_HELP, EXAMPLES, HYBRID_HELP, INFO_ONLY_HELP, NAME_HELP, PIECE_LENGTH_HELP, REPLAY_ABOUT,
-    REPLAY_HELP, ROOT_ABOUT, ROOT_HELP, SEED_HELP, SHOW_ABOUT, SHOW_HELP, STATUSES, VERSION,
+    CREATE_HELP, EXAMPLES, HYBRID_HELP, INFO_ONLY_HELP, NAME_HELP, PIECE_LENGTH_HELP, QUIET_HELP,
+    REPLAY_ABOUT, REPLAY_HELP, ROOT_ABOUT, ROOT_HELP, SEED_HELP, SHOW_ABOUT, SHOW_HELP, STATUSES,
+    VERSION,
 };
 use clap::{Arg, ArgAction, Command, Error, value_parser};
 use std::alloc::Global;
@@ -49,10 +50,11 @@ fn check_command<'a>(alloc: Global) -> Result<Command<'a>, Error>
 {
     let command = Ok(leaf(alloc, "check", CHECK_ABOUT, CHECK_HELP));
     let command = with_argument(command, needed(alloc, "TORRENT", "The torrent file"));
-    with_argument(
+    let command = with_argument(
         command,
         needed(alloc, "DIR", "The folder that holds the files"),
-    )
+    );
+    with_argument(command, flag(alloc, "quiet", QUIET_HELP))
 }
 
 fn create_command<'a>(alloc: Global) -> Result<Command<'a>, Error>

@@ -5,7 +5,7 @@ ghost use Rattle.clap.specs.Walk.{one_of, rows_of};
 ghost use Rattle.clap.specs.Matches.{found_of};
 ghost use Rattle.command_line.specs.CommandLine.{IsActionOf, IsAskedOf, IsFlag, IsNumberIfThere, IsTextIfThere};
 
-use crate::command::{Action, Convert, Create, Replay};
+use crate::command::{Action, Check, Convert, Create, Replay};
 use clap::ArgMatches;
 
 /// What the command that was found asks for.
@@ -53,7 +53,11 @@ fn check_of<'a>(found: &ArgMatches<'a>) -> Option<Action<'a>>
 {
     let torrent = text(found, "TORRENT")?;
     let dir = text(found, "DIR")?;
-    Some(Action::Check { torrent, dir })
+    Some(Action::Check(Check {
+        torrent,
+        dir,
+        quiet: is_given(found, "quiet"),
+    }))
 }
 
 // What the arguments after `create` ask for.

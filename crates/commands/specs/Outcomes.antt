@@ -14,7 +14,7 @@ use Rattle.seeding.specs.declared.seed_fault.SeedFault.{SeedFault}
 use Rattle.seeding.specs.declared.seed_fault.SeedFault.TheVariants as seeding
 use Rattle.folders.specs.declared.shelf_fault.ShelfFault.{ShelfFault}
 use Rattle.folders.specs.declared.shelf_fault.ShelfFault.TheVariants as listing
-use Rattle.folders.specs.declared.lines.Lines.TheVariants.{All}
+use Rattle.folders.specs.declared.lines.Lines.{Lines}
 use Rattle.folders.specs.declared.report.FileVerdict.{FileVerdict}
 use Rattle.folders.specs.declared.report.V1Verdict.{V1Verdict}
 use Rattle.printing.specs.declared.fault.Fault.{Fault}
@@ -101,25 +101,19 @@ pub record HasTold (old new : ℕ) (files : List FileVerdict) : Type 0 where
   pub counted : new ≡ more old (unreadable_count files)
   pub readable : new ≡ old → unreadable_count files ≡ 0
 
--- what a check did before its report: it found these verdicts, went to the shelf so, found this
--- under the torrent's paths, and the report went out so
-abbrev pub IsChecked : Description → (List (List ℕ) → Option (Option (List ℕ)))
-    → (List FileVerdict → Type 0) → (List ℕ → Bool → Type 0) → Type 0
-IsChecked t under Went WentOut = (files : List FileVerdict) × (v1 : Option V1Verdict)
-    × HasVerdicts t files v1 × TellsFolder t under files v1 × Went files
-    × WentOut (report_text All t.files files v1) (is_yes files v1)
-
--- What a check did, by its answer: it went to the shelf so, a report on what stands under the
--- torrent's paths went out, and the status is that of its last line; or the report broke off; or
--- memory was refused before it.
+-- What a check did, by its answer: it went to the shelf so, the wanted lines of a report on what
+-- stands under the torrent's paths went out, and the status is that of the last one; or the lines
+-- broke off so; or memory was refused before the first.
 abbrev pub Checks : Description → (List (List ℕ) → Option (Option (List ℕ)))
-    → (List FileVerdict → Type 0) → SinkSeen → SinkSeen → Result ℕ Fault → Type 0
-Checks t under Went out out' (Ok status) = IsChecked t under Went
-    (λ text yes. SentAndFlushed out out' text × (status ≡ answer_status yes))
-Checks t under Went out out' (Err (faults.Write path)) = (path.now ≡ codes "-")
-    × IsChecked t under Went (λ text yes. BrokeOrUnflushed out out' text)
-Checks t under Went out out' (Err faults.NoMemory) = out' ≡ out
-Checks t under Went out out' (Err fault) = ⊥
+    → (List FileVerdict → Type 0) → Type 0 → Lines → SinkSeen → SinkSeen → Result ℕ Fault → Type 0
+Checks t under Went Broken lines out out' (Ok status) = (files : List FileVerdict)
+    × (v1 : Option V1Verdict) × HasVerdicts t files v1 × TellsFolder t under files v1 × Went files
+    × SentAndFlushed out out' (report_text lines t.files files v1)
+    × (status ≡ answer_status (is_yes files v1))
+Checks t under Went Broken lines out out' (Err (faults.Write path)) =
+    (path.now ≡ codes "-") × Broken
+Checks t under Went Broken lines out out' (Err faults.NoMemory) = out' ≡ out
+Checks t under Went Broken lines out out' (Err fault) = ⊥
 
 -- ---- seeds, new torrents and conversions
 

@@ -8,6 +8,7 @@ ghost use Rattle.printing.specs.Refused.{refusal_text};
 ghost use Rattle.printing.specs.Show.{show_text};
 ghost use Rattle.replays.specs.Replay.{IsCutReport, replay_seen};
 ghost use Rattle.folders.specs.Root.{root_line_of};
+ghost use Rattle.folders.specs.Stopping.{BreaksOff};
 ghost use Rattle.seeding.specs.Seeding.{IsSeeded, Seeds, shelf_and_session};
 ghost use Rattle.folders.specs.TakeAll.{IsReadWithin};
 ghost use Rattle.folders.specs.Visits.{Visits};
@@ -20,7 +21,7 @@ use command_line::command::Create;
 use conversions::ConvertFault;
 use drafts::Draft;
 use filetree::Refusal;
-use folders::{RootFault, Shelf, ShelfFault, print_report, root_line};
+use folders::{CheckFault, Lines, RootFault, Shelf, ShelfFault, check_onto, root_line};
 use gathering::GatherFault;
 use opening::Torrent;
 use printing::{Fault, refusal_line, write_line};
@@ -82,24 +83,27 @@ pub fn refuse<'a, W: Sink>(refusal: &Refusal, path: &[String], out: &mut W) -> R
     }
 }
 
-/// Checks that a shelf holds the torrent's files, and prints what it found. The status is 0 for
-/// `yes` and 1 for `no`.
+/// Checks that a shelf holds the torrent's files, and prints the wanted lines of what it found, a
+/// file's as soon as the file is done. The status is 0 for `yes` and 1 for `no`.
 pub fn check<'a, S: Shelf, W: Sink>(
     alloc: Global,
     torrent: &Torrent<'_>,
     shelf: &mut S,
+    lines: Lines,
     out: &mut W,
 ) -> Result<u8, Fault<'a>>
     ensures checks { Checks torrent.now (S.contents shelf.old).under
         (λ files. Chain (Visits S.Shelf S.File.seen torrent.now) shelf.old torrent.now.files
         files shelf.new × HasTold (S.faults shelf.old) (S.faults shelf.new) files)
-        (W.seen out.old) (W.seen out.new) result }
+        (BreaksOff S.Shelf S.File.seen torrent.now shelf.old lines
+        (W.seen out.old) (W.seen out.new) shelf.new)
+        lines (W.seen out.old) (W.seen out.new) result }
     ensures no_memory { IfErr result (λ f. f ≡ Fault.NoMemory → shelf.new ≡ shelf.old) }
 {
-    let report = folders::check(alloc, torrent, shelf)?;
-    match print_report(&report, torrent, out) {
-        Ok(()) => Ok(status(report.yes())),
-        Err(_) => Err(Fault::Write("-")),
+    match check_onto(alloc, torrent, shelf, lines, out) {
+        Ok(report) => Ok(status(report.yes())),
+        Err(CheckFault::NoMemory) => Err(Fault::NoMemory),
+        Err(CheckFault::Write) => Err(Fault::Write("-")),
     }
 }
 

@@ -7,14 +7,15 @@ use crate::output::create_output;
 use crate::streams::hold_closed_streams;
 use crate::torrent_file::read_torrent;
 use benc::{FromRead, FromWrite, Sink};
-use command_line::command::{Action, Convert, Create, Replay};
+use command_line::command::{Action, Check, Convert, Create, Replay};
 use drafts::Draft;
 use filetree::Refusal;
+use folders::Lines;
 use opening::Torrent;
 use printing::Fault;
 use progress::{Cleared, Counted, Progress};
 use std::fs::File;
-use std::io::{self, BufWriter, IsTerminal, Printer};
+use std::io::{self, BufWriter, IsTerminal, LineWriter, Printer};
 
 /// Does what was asked for, and gives the exit status.
 pub fn perform<'a>(rt: &HostRuntime, action: &Action<'a>) -> Result<u8, Fault<'a>> {
@@ -22,7 +23,7 @@ pub fn perform<'a>(rt: &HostRuntime, action: &Action<'a>) -> Result<u8, Fault<'a
     match action {
         Action::Root { file } => root(rt, file),
         Action::Show { torrent } => show(rt, torrent),
-        Action::Check { torrent, dir } => check(rt, torrent, dir),
+        Action::Check(asked) => check(rt, asked),
         Action::Replay(asked) => replay(rt, asked),
         Action::Create(asked) => create(rt, asked),
         Action::Convert(asked) => convert(rt, asked),
@@ -56,11 +57,24 @@ fn show<'a>(rt: &HostRuntime, path: &'a str) -> Result<u8, Fault<'a>> {
     }
 }
 
-fn check<'a>(rt: &HostRuntime, path: &'a str, dir: &str) -> Result<u8, Fault<'a>> {
-    let bytes = read_torrent(rt, path)?;
-    let mut out = buffered_output(rt)?;
-    match open(rt, bytes.as_slice()) {
-        Ok(torrent) => check_folder(rt, &torrent, dir, out),
+// A terminal gets each line as soon as it is known, all else gets full buffers.
+fn check<'a>(rt: &HostRuntime, asked: &Check<'a>) -> Result<u8, Fault<'a>> {
+    let bytes = read_torrent(rt, asked.torrent)?;
+    if rt.stdout().is_terminal() {
+        check_torrent(rt, bytes.as_slice(), asked, line_output(rt)?)
+    } else {
+        check_torrent(rt, bytes.as_slice(), asked, buffered_output(rt)?)
+    }
+}
+
+fn check_torrent<'a, W: Sink + Drop>(
+    rt: &HostRuntime,
+    bytes: &[u8],
+    asked: &Check<'a>,
+    mut out: W,
+) -> Result<u8, Fault<'a>> {
+    match open(rt, bytes) {
+        Ok(torrent) => check_folder(rt, &torrent, asked, out),
         Err(refusal) => outcomes::refuse(&refusal, &[], &mut out),
     }
 }
@@ -68,15 +82,20 @@ fn check<'a>(rt: &HostRuntime, path: &'a str, dir: &str) -> Result<u8, Fault<'a>
 fn check_folder<'a, W: Sink + Drop>(
     rt: &HostRuntime,
     torrent: &Torrent<'_>,
-    dir: &str,
+    asked: &Check<'a>,
     out: W,
 ) -> Result<u8, Fault<'a>> {
     let progress = Progress::new(rt, Some(all_bytes(torrent)));
-    let mut folder = Folder::with_torrent(rt, dir, torrent, &progress);
+    let mut folder = Folder::with_torrent(rt, asked.dir, torrent, &progress);
     outcomes::check(
         rt.alloc(),
         torrent,
         &mut folder,
+        if asked.quiet {
+            Lines::NotGood
+        } else {
+            Lines::All
+        },
         &mut Cleared::new(out, &progress),
     )
 }
@@ -243,6 +262,16 @@ fn buffered_output<'r>(
     rt: &'r HostRuntime,
 ) -> Result<FromWrite<BufWriter<Printer<'r, HostRuntime>>>, Fault<'static>> {
     match BufWriter::new(rt.alloc(), io::writer(rt)) {
+        Ok(buffered) => Ok(FromWrite::new(buffered)),
+        Err(_) => Err(Fault::NoMemory),
+    }
+}
+
+// Standard output a line at a time, for text of many small parts.
+fn line_output<'r>(
+    rt: &'r HostRuntime,
+) -> Result<FromWrite<LineWriter<Printer<'r, HostRuntime>>>, Fault<'static>> {
+    match LineWriter::new(rt.alloc(), io::writer(rt)) {
         Ok(buffered) => Ok(FromWrite::new(buffered)),
         Err(_) => Err(Fault::NoMemory),
     }

@@ -3,4 +3,5 @@ use Rattle.command_line.proofs.definition.check_command.Goals as goal
 pub returns : goal.returns
 returns c =
     let one = c.with_argument-command.ensures _ _ c.leaf.ensures c.needed.ensures in
-    c.with_argument.ensures _ _ one c.needed-2.ensures
+    let two = c.with_argument-command-2.ensures _ _ one c.needed-2.ensures in
+    c.with_argument.ensures _ _ two c.flag.ensures
