@@ -20,7 +20,8 @@ pub record IsReportOf (t : Description) (contents : Contents) (files : List File
   pub tells : TellsContents t contents files v1
 
 -- The verdicts of the parts make the report: of parts that have all places of the torrent, and that
--- each tell of the same contents, the join is what a check reports of them, or a collision is named.
+-- each tell of the same contents, the join is what a check reports of them, or a collision is
+-- named.
 abbrev pub PartsMakeTheReport : Type 0
 PartsMakeTheReport =
     (t : Description) (contents : Contents) (parts : List PartReport) (files : List FileVerdict)

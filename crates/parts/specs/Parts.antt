@@ -1,7 +1,7 @@
 -- A part of a check of a folder: some of the torrent's places, and what was found there. Each piece
 -- is a place, numbered as the torrent numbers its pieces (BEP 52, "piece length"). An empty file
--- stands at the place at which it begins, and there is one place more for those that begin after the
--- last piece.
+-- stands at the place at which it begins, and there is one place more for those that begin after
+-- the last piece.
 use Rattle.std.specs.Prelude.{◌≡◌, ◌≢◌, ℕ, ◌+◌, ◌-◌, ◌*◌, ◌<◌, ◌≤◌, min, List, length, take, drop, replicate, ◌++◌}
 use Rattle.std.specs.Prelude.{slice_get, sum_by, Option, Some, None, is_some, ⊤}
 use Rattle.std.specs.List.{list_all}
