@@ -33,7 +33,8 @@ use Rattle.replays.specs.ReplayLines.{lines_of, ending_line_of}
 
 -- ---- one frame
 
--- what was made of one frame: what is reported of it, in one line or more, and the bytes of its answer
+-- what was made of one frame: what is reported of it, in one line or more, and the bytes of its
+-- answer
 pub record Handled : Type 0 where
   pub frame : Directed Frame
   pub report : FrameReport

@@ -36,7 +36,8 @@ verdict_text verdict.Sent = codes "sent"
 -- what is printed of a frame, after its number
 abbrev pub frame_text : FrameReport → List ℕ
 frame_text (frame_report.Verdict v) = verdict_text v
-frame_text (frame_report.BadFrame id len) = codes "bad frame " ++ decimal id ++ codes " " ++ decimal len
+frame_text (frame_report.BadFrame id len) =
+    codes "bad frame " ++ decimal id ++ codes " " ++ decimal len
 
 -- one line tells all of it: it is no message of blocks
 abbrev pub IsOneLine : FrameReport → Type 0
