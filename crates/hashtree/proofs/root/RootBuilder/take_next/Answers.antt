@@ -1,10 +1,10 @@
-use Rattle.std.proofs.Common.{arith, ap, ◌∙◌, ◌++◌, ◌+◌, ◌≡◌, ◌≤◌, sym, subst, length, take}
-use Rattle.std.proofs.lemmas.List.{append-nil, append_assoc, length-take}
+use Rattle.std.proofs.Common.{arith, ap, ◌∙◌, ◌++◌, sym, subst, take}
+use Rattle.std.proofs.lemmas.List.{append-nil}
 use Rattle.std.specs.Option.{option_to_list}
-use Rattle.hashtree.specs.RootBuilder.{IsAt, byte_count, complete_nodes}
+use Rattle.hashtree.specs.RootBuilder.{IsAt, complete_nodes}
 use Rattle.hashtree.specs.Tree.{block_hashes}
 use Rattle.hashtree.specs.Climb.{climb}
-use Rattle.hashtree.proofs.Blocks.{block_hashes_append, length-block_hashes}
+use Rattle.hashtree.proofs.Blocks.{block_hashes_append}
 use Rattle.hashtree.proofs.root.RootBuilder.take_next.Goals as goal
 use Rattle.hashtree.proofs.root.RootBuilder.take_next.Goals.{then-self-eq-BLOCK, else-self-eq-BLOCK}
 
