@@ -2,7 +2,9 @@
 # make check           runs what the merge gate runs: proofs, must-fail edits, all tests
 # make test            runs the built program on real files
 # make bench           measures the commands and what they stand on, compared with the digests alone
-# make install         puts the program, its manual page and its completions below PREFIX (and DESTDIR)
+# make lib             proves the C library and builds build/lib/libbtcheck.a and libbtcheck.so.0 (docs/LIBRARY.md)
+# make install         puts the program, its manual page and its completions below PREFIX (and DESTDIR); and the
+#                      library, if `make lib` made it
 # make uninstall       removes them
 # make static          links what was proved with a static C library: build/static/btcheck, one file that needs no
 #                      library
@@ -92,12 +94,14 @@ dist: build/static/btcheck
 	install -D -m 644 -t build/dist/tree/share/doc/btcheck README.md LICENSE-MIT LICENSE-APACHE
 	cp -r docs examples build/dist/tree/share/doc/btcheck
 	install -D -m 755 -t build/dist/tree/tools tools/record
-	cd build/dist/tree && find . -type f | LC_ALL=C sort | xargs sha256sum > ../SHA256SUMS && mv ../SHA256SUMS .
+	cd build/dist/tree && find . ! -type d | LC_ALL=C sort | xargs sha256sum > ../SHA256SUMS && mv ../SHA256SUMS .
 	mv build/dist/tree $(PACKED)
 	tar --sort=name --owner=0 --group=0 --numeric-owner --mode=go=rX --mtime=@0 \
 	  -C build/dist -cf $(PACKED).tar $(RELEASE)
 	gzip -9n $(PACKED).tar
 	sha256sum $(PACKED).tar.gz
+
+include library.mk
 
 clean:
 	rm -rf build crates/*/out
