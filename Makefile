@@ -2,8 +2,9 @@
 # make check           runs what the merge gate runs: proofs, must-fail edits, all tests
 # make test            runs the built program on real files
 # make bench           measures the commands and what they stand on, compared with the digests alone
+# make lib             proves the C library and builds build/lib/libbtcheck.a and libbtcheck.so.0 (docs/LIBRARY.md)
 # make install         puts the program, its manual page, its completions, its documents and examples and the relay
-#                      `tools/record` below PREFIX (and DESTDIR)
+#                      `tools/record` below PREFIX (and DESTDIR); and the library, if `make lib` made it
 # make uninstall       removes them
 # make static          links what was proved with a static C library: build/static/btcheck, one file that needs no
 #                      library
@@ -96,7 +97,7 @@ PACKED = build/dist/$(RELEASE)
 dist: build/static/btcheck
 	rm -rf build/dist
 	$(MAKE) -s -o build/btcheck install BUILT=build/static/btcheck DESTDIR=build/dist/tree PREFIX=
-	cd build/dist/tree && find . -type f | LC_ALL=C sort | xargs sha256sum > ../SHA256SUMS && mv ../SHA256SUMS .
+	cd build/dist/tree && find . ! -type d | LC_ALL=C sort | xargs sha256sum > ../SHA256SUMS && mv ../SHA256SUMS .
 	mv build/dist/tree $(PACKED)
 	tar --sort=name --owner=0 --group=0 --numeric-owner --mode=go=rX --mtime=@0 \
 	  -C build/dist -cf $(PACKED).tar $(RELEASE)
@@ -105,6 +106,8 @@ dist: build/static/btcheck
 
 deb: build/static/btcheck
 	packaging/deb build/static/btcheck build/deb
+
+include library.mk
 
 clean:
 	rm -rf build crates/*/out

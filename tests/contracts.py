@@ -7,7 +7,8 @@ CRATES = os.path.join(TOP, "crates")
 
 WORD = re.compile(r"[A-Za-z_]\w*'*")
 HEAD = re.compile(r"(?:pub )?(?P<kind>impl|trait)(?:<.*?>)? (?:(?P<of>[\w:<>', ]+) for )?(?P<name>\w+)")
-FUNCTION = re.compile(r"(?P<indent> *)(?P<visible>pub )?(?:final )?fn (?P<name>\w+)")
+FUNCTION = re.compile(r"(?P<indent> *)(?P<visible>pub )?(?:extern \"C\" )?(?:final )?fn (?P<name>\w+)")
+FOR_C = re.compile(r"^#\[unsafe\(no_mangle\)\]\npub extern \"C\" fn (\w+)", re.M)
 CLAUSE = re.compile(r"\s*(requires|ensures)\b")
 
 
@@ -31,12 +32,14 @@ def sources(crate):
 
 
 def exported(crate):
-    """The names that a library and its public modules export, and those modules, which it exports whole."""
+    """The names that a library and its public modules export, those for C among them, and those modules, which it exports
+    whole."""
     root = text_of(CRATES, crate, "src", "lib.rt")
     modules = set(re.findall(r"^pub mod (\w+);", root, re.M))
     texts = [root, *(text_of(CRATES, crate, "src", f"{name}.rt") for name in modules)]
     listed = re.findall(r"^pub use (?:\w+::)*([^;]*);", "\n".join(texts), re.M)
-    return set(WORD.findall(" ".join(listed))), modules
+    for_c = [name for _, text in sources(crate) for name in FOR_C.findall(text)]
+    return {*WORD.findall(" ".join(listed)), *for_c}, modules
 
 
 def public_contracts(text, names, is_exported):

@@ -1,0 +1,4 @@
+-- What proofs share.
+pub mod TwoFields
+pub mod Throughs
+pub mod Torrents

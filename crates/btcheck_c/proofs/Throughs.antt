@@ -1,0 +1,17 @@
+-- A call through a handle.
+use Rattle.std.proofs.Common.{◌≡◌, ℕ, Bool, true, false, Option, Some, None, refl, sym, ◌∙◌, subst, is_some}
+use Rattle.std.proofs.lemmas.Bool.{false≢true}
+use Rattle.btcheck_c.specs.declared.thing.Thing.{Thing}
+use Rattle.btcheck_c.specs.declared.thing.Kind.{Kind}
+use Rattle.btcheck_c.specs.Holds.{Through}
+
+-- the thing that was taken out of the handle is lent to the call, and goes back
+pub through : (P : Kind → ℕ → Kind → Type 0) (o o' : Option Thing) (t lent t' : Thing) (status : ℕ)
+    → Some t ≡ o → o' ≡ Some t' → lent ≡ t → P lent.kind status t'.kind → Through P o status o'
+through P o o' t lent t' status is is' same p =
+    subst (λ w. Through P w status o') is (t', is', subst (λ s. P s.kind status t'.kind) same p)
+
+-- a handle that is not full holds nothing
+pub holds_nothing : (o : Option Thing) (full : Bool) → full ≡ is_some o → full ≡ false → o ≡ None
+holds_nothing None full is empty = refl
+holds_nothing (Some t) full is empty = absurd (false≢true (sym empty ∙ is))

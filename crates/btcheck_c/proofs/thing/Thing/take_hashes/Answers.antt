@@ -1,0 +1,10 @@
+use Rattle.std.proofs.Common.{refl, sym, subst}
+use Rattle.btcheck_c.specs.declared.thing.Kind.TheVariants as kind
+use Rattle.btcheck_c.specs.SessionCalls.{TakesHashes}
+use Rattle.btcheck_c.proofs.thing.Thing.take_hashes.Goals as goal
+
+pub returns-in-Session : goal.returns-in-Session
+returns-in-Session c =
+    subst (λ k. TakesHashes c.args.ask.now c.args.hashes.now c.tell_hashes.new.places k c.tell_hashes.result
+    (kind.Session c.take_hashes.new.self)) (sym c.in-Session.is)
+    (c.take_hashes.result, c.tell_hashes.ensures, (c.take_hashes.new.self, refl, c.take_hashes.ensures))

@@ -1,0 +1,49 @@
+-- What the calls about hash requests do: noting one, taking its answer, answering one.
+use Rattle.std.specs.Prelude.{◌≡◌, ◌⊎◌, ℕ, ◌<◌, Bool, true, false, List, length, take, Option, Some, None, Result}
+use Rattle.partial_tree.specs.declared.refusal.HashRefusal.{HashRefusal}
+use Rattle.partial_tree.specs.declared.answer.Answer.{Answer}
+use Rattle.partial_tree.specs.declared.answer.Answer.TheVariants as answer
+use Rattle.node_maps.specs.Digest.{Hash}
+use Rattle.session.specs.Session.{SessionSeen}
+use Rattle.wire.specs.declared.message.Ask.{Ask}
+use Rattle.btcheck_c.specs.Holds.{IsWrongKind}
+use Rattle.btcheck_c.specs.Statuses.{HashesTold}
+use Rattle.btcheck_c.specs.Taken.{AnswerTaken, AskNoted, AnswerGiven}
+use Rattle.btcheck_c.specs.declared.thing.Kind.{Kind}
+use Rattle.btcheck_c.specs.declared.thing.Kind.TheVariants as kind
+
+-- ---- a request of our own
+
+abbrev pub NoteTold : Bool → ℕ → Type 0
+NoteTold true status = status ≡ 0
+NoteTold false status = status ≡ 2
+
+-- the session notes that a request was sent; or memory was refused
+abbrev pub Notes : Ask → Kind → ℕ → Kind → Type 0
+Notes ask (kind.Session S) status k' = (done : Bool) × NoteTold done status
+    × ((S' : SessionSeen) × (k' ≡ kind.Session S') × AskNoted S ask done S')
+Notes ask (kind.Root b) status k' = IsWrongKind (kind.Root b) status k'
+
+-- the session takes hashes that answer an open ask; status and places tell what it says
+abbrev pub TakesAnswer : Ask → List Hash → ℕ → Kind → ℕ → Kind → Type 0
+TakesAnswer ask hashes places (kind.Session S) status k' =
+    (answer : Result ℕ HashRefusal) × HashesTold answer status places
+    × ((S' : SessionSeen) × (k' ≡ kind.Session S') × AnswerTaken S ask hashes answer S')
+TakesAnswer ask hashes places (kind.Root b) status k' = IsWrongKind (kind.Root b) status k'
+
+-- ---- a request of a peer
+
+-- the hashes at the front of the room; or how much room they need; or that there are none; or
+-- memory was refused
+abbrev pub AnswerTold : Option Answer → ℕ → List Hash → ℕ → Type 0
+AnswerTold (Some (answer.Hashes hashes)) status room count = (count ≡ length hashes.items)
+    × (((status ≡ 0) × (take count room ≡ hashes.items))
+    ⊎ ((status ≡ 7) × (length room < count)))
+AnswerTold (Some answer.Reject) status room count = status ≡ 6
+AnswerTold None status room count = status ≡ 2
+
+-- the session answers a request, and stays as it is
+abbrev pub Answers : Ask → List Hash → ℕ → Kind → ℕ → Kind → Type 0
+Answers ask room count (kind.Session S) status k' = (k' ≡ kind.Session S)
+    × ((given : Option Answer) × AnswerTold given status room count × AnswerGiven S ask given)
+Answers ask room count (kind.Root b) status k' = IsWrongKind (kind.Root b) status k'

@@ -1,0 +1,9 @@
+-- What C's handles own and hold, and what calls do to what they hold.
+pub mod Owning
+pub mod Holds
+pub mod Taken
+pub mod Statuses
+pub mod RootCalls
+pub mod SessionCalls
+pub mod Asks
+pub mod AskCalls

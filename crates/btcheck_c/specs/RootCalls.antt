@@ -1,0 +1,34 @@
+-- What the calls for a file's root do (BEP 52, "pieces root").
+use Rattle.std.specs.Prelude.{◌≡◌, ◌⊎◌, ℕ, ◌+◌, ◌^◌, ◌<◌, List, [], length, Option, Some, None}
+use Rattle.hashtree.specs.RootBuilder.{byte_count, Feeds, EndsWith, IsFed}
+use Rattle.hashtree.specs.declared.root.RootBuilder.{RootBuilder}
+use Rattle.btcheck_c.specs.Holds.{IsWrongKind}
+use Rattle.btcheck_c.specs.declared.thing.Thing.{Thing}
+use Rattle.btcheck_c.specs.declared.thing.Kind.{Kind}
+use Rattle.btcheck_c.specs.declared.thing.Kind.TheVariants as kind
+
+-- a builder that was given nothing
+abbrev pub IsNew : RootBuilder → Type 0
+IsNew b = (byte_count b ≡ 0) × IsFed b []
+
+-- a new builder is in the handle, or memory was refused and nothing is
+abbrev pub RootMade : ℕ → Option Thing → Type 0
+RootMade status o' =
+    ((status ≡ 0) × ((b : RootBuilder) × (o' ≡ Some (record { kind = kind.Root b })) × IsNew b))
+    ⊎ ((status ≡ 2) × (o' ≡ None))
+
+-- the builder takes the bytes; or they are too many, and it stays as it is
+abbrev pub Pushed : List ℕ → Kind → ℕ → Kind → Type 0
+Pushed bytes (kind.Root b) status k' =
+    ((status ≡ 0) × ((b' : RootBuilder) × (k' ≡ kind.Root b') × Feeds b bytes b'))
+    ⊎ ((status ≡ 3) × ((2 ^ 46 < byte_count b + length bytes) × (k' ≡ kind.Root b)))
+Pushed bytes (kind.Session S) status k' = IsWrongKind (kind.Session S) status k'
+
+-- length and root of the bytes, and the builder is new again; or there were none, and it stays as
+-- it is
+abbrev pub Finished : ℕ → List ℕ → Kind → ℕ → Kind → Type 0
+Finished len root (kind.Root b) status k' =
+    ((status ≡ 0) × ((len ≡ byte_count b) × (EndsWith b len root
+    × ((b' : RootBuilder) × (k' ≡ kind.Root b') × IsNew b'))))
+    ⊎ ((status ≡ 4) × ((byte_count b ≡ 0) × (k' ≡ kind.Root b)))
+Finished len root (kind.Session S) status k' = IsWrongKind (kind.Session S) status k'

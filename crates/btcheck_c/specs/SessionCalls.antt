@@ -1,0 +1,74 @@
+-- What the calls on a session do.
+use Rattle.std.specs.Prelude.{◌≡◌, ◌≢◌, ◌⊎◌, ℕ, ◌+◌, ◌≤◌, Bool, List, length, slice_get, Option, Some, None, Result, Ok, Err}
+use Rattle.std.specs.FinMap as finite
+use Rattle.std.specs.FinSet as set
+use Rattle.filetree.specs.Names.{refusal_number}
+use Rattle.filetree.specs.declared.refusal.Refusal.{Refusal}
+use Rattle.filetree.specs.declared.refusal.Refusal.TheVariants as refusal
+use Rattle.opening.specs.Description.{Description}
+use Rattle.opening.specs.Describes.{Describes}
+use Rattle.opening.specs.Refusals.{RefusesTorrent}
+use Rattle.node_maps.specs.Digest.{Hash}
+use Rattle.partial_tree.specs.declared.refusal.HashRefusal.{HashRefusal}
+use Rattle.partial_tree.specs.declared.refusal.BlockRefusal.{BlockRefusal}
+use Rattle.session.specs.Session.{SessionSeen, TreeState}
+use Rattle.session.specs.Fresh.{IsFresh}
+use Rattle.wire.specs.declared.message.Ask.{Ask}
+use Rattle.btcheck_c.specs.Holds.{IsWrongKind}
+use Rattle.btcheck_c.specs.Statuses.{HashesTold, BlockTold}
+use Rattle.btcheck_c.specs.Taken.{HashesTaken, BlockTaken}
+use Rattle.btcheck_c.specs.declared.thing.Thing.{Thing}
+use Rattle.btcheck_c.specs.declared.thing.Kind.{Kind}
+use Rattle.btcheck_c.specs.declared.thing.Kind.TheVariants as kind
+
+-- ---- opening
+
+-- a session of the torrent that the bytes describe, to which no message came yet
+abbrev pub IsSessionOf : List ℕ → Bool → SessionSeen → Type 0
+IsSessionOf input layers S = (d : Description) × (Describes input d × IsFresh d layers S)
+
+-- why there is none, as a status: the torrent's refusal, or memory was refused for the session
+abbrev pub IsNoSession : List ℕ → ℕ → Type 0
+IsNoSession input status = ((r : Refusal) × ((status ≡ 100 + refusal_number r)
+    × (r ≢ refusal.NoMemory → RefusesTorrent input r))) ⊎ (status ≡ 2)
+
+abbrev pub OpensAs : List ℕ → Bool → Result SessionSeen ℕ → Type 0
+OpensAs input layers (Ok S) = IsSessionOf input layers S
+OpensAs input layers (Err status) = IsNoSession input status
+
+-- a session of the torrent is in the handle; or there is none, and nothing is
+abbrev pub SessionOpened : List ℕ → Bool → ℕ → Option Thing → Type 0
+SessionOpened input layers status o' =
+    ((status ≡ 0) × ((S : SessionSeen) × ((o' ≡ Some (record { kind = kind.Session S }))
+    × IsSessionOf input layers S))) ⊎ ((o' ≡ None) × IsNoSession input status)
+
+-- ---- what is known
+
+-- the state of tree n
+abbrev pub HasState : SessionSeen → ℕ → (TreeState → Type 0) → Type 0
+HasState S n P = (s : TreeState) × (slice_get S.trees n ≡ Some s) × P s
+
+-- how many places of a tree are known, and how many of its leaves are marked
+abbrev pub Counted : ℕ → ℕ → ℕ → Kind → ℕ → Kind → Type 0
+Counted tree known marked (kind.Session S) status k' = (k' ≡ kind.Session S)
+    × (((status ≡ 0) × (HasState S tree (λ s. known ≡ finite.len s.known)
+    × HasState S tree (λ s. marked ≡ set.len s.marked)))
+    ⊎ ((status ≡ 5) × (length S.torrent.trees ≤ tree)))
+Counted tree known marked (kind.Root b) status k' = IsWrongKind (kind.Root b) status k'
+
+-- ---- messages
+
+-- the session takes a hashes message, and status and places tell its answer
+abbrev pub TakesHashes : Ask → List Hash → ℕ → Kind → ℕ → Kind → Type 0
+TakesHashes ask hashes places (kind.Session S) status k' =
+    (answer : Result ℕ HashRefusal) × HashesTold answer status places
+    × ((S' : SessionSeen) × (k' ≡ kind.Session S') × HashesTaken S ask hashes answer S')
+TakesHashes ask hashes places (kind.Root b) status k' = IsWrongKind (kind.Root b) status k'
+
+-- the session takes a block of a piece message; status, file and block tell its answer
+abbrev pub TakesBlock : ℕ → ℕ → List ℕ → ℕ → ℕ → Kind → ℕ → Kind → Type 0
+TakesBlock index begin bytes file block (kind.Session S) status k' =
+    (answer : Result (ℕ × ℕ) BlockRefusal) × BlockTold answer status file block
+    × ((S' : SessionSeen) × (k' ≡ kind.Session S') × BlockTaken S index begin bytes answer S')
+TakesBlock index begin bytes file block (kind.Root b) status k' =
+    IsWrongKind (kind.Root b) status k'

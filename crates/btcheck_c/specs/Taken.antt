@@ -1,0 +1,53 @@
+-- What a session makes of a message: all clauses of its own calls, as one statement each.
+use Rattle.std.specs.Prelude.{◌≡◌, ℕ, Bool, true, false, List, Option, Some, None, Result, IfOk, IfErr}
+use Rattle.node_maps.specs.Digest.{Hash}
+use Rattle.partial_tree.specs.declared.refusal.HashRefusal.{HashRefusal}
+use Rattle.partial_tree.specs.declared.refusal.BlockRefusal.{BlockRefusal}
+use Rattle.partial_tree.specs.declared.answer.Answer.{Answer}
+use Rattle.session.specs.Session.{SessionSeen, IsStored, IsHashRefused, IsVerified, IsBlockRefused, IsBlock, IsAnswered}
+use Rattle.session.specs.Answers.{IsAnswerTo}
+use Rattle.session.specs.Noted.{IsOpenAsk, IsAnswerStored, IsAnswerRefused, with_ask}
+use Rattle.session.specs.SafeStep.{KeepsKnown, StoresTrueHashes, StoresAnswers, VerifiesTrueBlock}
+use Rattle.session.specs.Wanted.{WantedClosesOneGap}
+use Rattle.wire.specs.declared.message.Ask.{Ask}
+
+-- a session takes a hashes message, and this is its answer
+pub record HashesTaken (S : SessionSeen) (ask : Ask) (hashes : List Hash)
+    (answer : Result ℕ HashRefusal) (S' : SessionSeen) : Type 0 where
+  pub stored : IfOk answer (λ c. IsStored S ask hashes c S')
+  pub refused : IfErr answer (λ r. IsHashRefused S ask hashes r × (S' ≡ S))
+  pub keeps_known : KeepsKnown S S'
+  pub stores_true_hashes : StoresTrueHashes S ask hashes answer
+  pub stores_answers : StoresAnswers S ask hashes answer
+  pub closes_one_gap : WantedClosesOneGap S ask hashes answer S'
+
+-- a session takes a block, and this is its answer
+pub record BlockTaken (S : SessionSeen) (index begin : ℕ) (bytes : List ℕ)
+    (answer : Result (ℕ × ℕ) BlockRefusal) (S' : SessionSeen) : Type 0 where
+  pub verified : IfOk answer (λ p. IsVerified S index begin bytes p.0 p.1 S')
+  pub refused : IfErr answer (λ r. IsBlockRefused S index begin bytes r × (S' ≡ S))
+  pub verified_is_the_block : IfOk answer (λ p. IsBlock S index begin bytes p.0 p.1)
+  pub keeps_known : KeepsKnown S S'
+  pub verifies_true_block : VerifiesTrueBlock S index begin bytes answer
+
+-- a session takes a hashes message in answer to an open ask
+pub record AnswerTaken (S : SessionSeen) (ask : Ask) (hashes : List Hash)
+    (answer : Result ℕ HashRefusal) (S' : SessionSeen) : Type 0 where
+  pub stored : IfOk answer (λ c. IsAnswerStored S ask hashes c S')
+  pub refused : IfErr answer (λ r. IsAnswerRefused S ask hashes r × (S' ≡ S))
+  pub keeps_known : KeepsKnown S S'
+  pub stores_true_hashes : IsOpenAsk S ask → StoresTrueHashes S ask hashes answer
+  pub stores_answers : IsOpenAsk S ask → StoresAnswers S ask hashes answer
+  pub closes_one_gap : IsOpenAsk S ask → WantedClosesOneGap S ask hashes answer S'
+
+-- a session notes an ask, or memory was refused
+pub record AskNoted (S : SessionSeen) (ask : Ask) (done : Bool) (S' : SessionSeen) : Type 0 where
+  pub noted : done ≡ true → S' ≡ with_ask S ask
+  pub unchanged : done ≡ false → S' ≡ S
+  pub open_already : IsOpenAsk S ask → S' ≡ S
+  pub no_memory : IsOpenAsk S ask → done ≡ true
+
+-- what a session answers to an ask; nothing only if memory was refused for the hashes
+abbrev pub AnswerGiven : SessionSeen → Ask → Option Answer → Type 0
+AnswerGiven S ask (Some a) = IsAnswerTo S ask a
+AnswerGiven S ask None = IsAnswered S ask

@@ -1,0 +1,126 @@
+//! The calls about hash requests: that one was sent, and what answers one.
+
+ghost use Rattle.std.specs.Prelude.{◌≡◌, Option};
+ghost use Rattle.partial_tree.specs.declared.answer.Answer.{Answer as Given};
+ghost use Rattle.btcheck_c.specs.Asks.{ask_of};
+ghost use Rattle.btcheck_c.specs.AskCalls.{NoteTold, Notes, TakesAnswer, AnswerTold, Answers};
+ghost use Rattle.btcheck_c.specs.Holds.{Through};
+
+use crate::asked::{Asked, read_ask};
+use crate::handle::Handle;
+use crate::status::{DONE, NO_MEMORY, NOTHING, TOO_SMALL, WRONG_HANDLE, tell_hashes};
+use crate::thing::{Kind, Thing};
+use partial_tree::Answer;
+use std::alloc::Global;
+use wire::{Ask, Hash};
+
+fn tell_note(done: bool) -> u32
+    ensures { NoteTold done result }
+{
+    if done { DONE } else { NO_MEMORY }
+}
+
+// The status of an answer, whose hashes go to the front of the room, and how many they are.
+fn tell_answer(answer: &Option<Answer>, room: &mut [Hash], count: &mut u64) -> u32
+    ensures { AnswerTold answer.now result room.new count.new }
+{
+    match answer {
+        None => NO_MEMORY,
+        Some(Answer::Reject) => NOTHING,
+        Some(Answer::Hashes(hashes)) => {
+            *count = hashes.len() as u64;
+            if hashes.len() > room.len() {
+                return TOO_SMALL;
+            }
+            room[..hashes.len()].copy_from_slice(hashes);
+            DONE
+        }
+    }
+}
+
+impl Thing {
+    fn note(&mut self, ask: &Ask) -> u32
+        ensures { Notes ask.now self.old.kind result self.new.kind }
+    {
+        match &mut self.kind {
+            Kind::Root(_) => WRONG_HANDLE,
+            Kind::Session(session) => tell_note(session.note(ask)),
+        }
+    }
+
+    fn take_answer(&mut self, ask: &Ask, hashes: &[Hash], places: &mut u64) -> u32
+        ensures { TakesAnswer ask.now hashes.now places.new self.old.kind result self.new.kind }
+    {
+        match &mut self.kind {
+            Kind::Root(_) => WRONG_HANDLE,
+            Kind::Session(session) => tell_hashes(session.take_answer(ask, hashes), places),
+        }
+    }
+
+    fn answer(&mut self, ask: &Ask, room: &mut [Hash], count: &mut u64) -> u32
+        ensures { Answers ask.now room.new count.new self.old.kind result self.new.kind }
+    {
+        match &mut self.kind {
+            Kind::Root(_) => WRONG_HANDLE,
+            Kind::Session(session) => tell_answer(&session.answer(ask), room, count),
+        }
+    }
+}
+
+/// Notes that a request with these fields was sent. Status 1: the handle holds no session. Status
+/// 2: memory was refused. Then the session is as before.
+#[unsafe(no_mangle)]
+pub extern "C" fn btcheck_session_note(alloc: Global, handle: &mut Handle, asked: &Asked) -> u32
+    ensures { Through (Notes (ask_of asked.now)) handle.old.slot.held result
+        handle.new.slot.held }
+{
+    let Some(mut thing) = handle.take(alloc) else {
+        return WRONG_HANDLE;
+    };
+    let status = thing.note(&read_ask(asked));
+    handle.put(thing);
+    status
+}
+
+/// Takes a hashes message that answers a noted request, and writes how many places are newly known.
+/// Status 1: the handle holds no session. Status 200 + n: refusal Hn. Then nothing has changed.
+#[unsafe(no_mangle)]
+pub extern "C" fn btcheck_session_take_answer(
+    alloc: Global,
+    handle: &mut Handle,
+    asked: &Asked,
+    hashes: &[[u8; 32]],
+    places: &mut u64,
+) -> u32
+    ensures { Through (TakesAnswer (ask_of asked.now) hashes.now places.new)
+        handle.old.slot.held result handle.new.slot.held }
+{
+    let Some(mut thing) = handle.take(alloc) else {
+        return WRONG_HANDLE;
+    };
+    let status = thing.take_answer(&read_ask(asked), hashes, places);
+    handle.put(thing);
+    status
+}
+
+/// Writes the hashes that answer a request to the front of the room, and how many they are. Status
+/// 1: the handle holds no session. Status 2: memory was refused. Status 6: the request cannot be
+/// answered. Status 7: the room has fewer places than there are hashes. The session is as before.
+#[unsafe(no_mangle)]
+pub extern "C" fn btcheck_session_answer(
+    alloc: Global,
+    handle: &mut Handle,
+    asked: &Asked,
+    room: &mut [[u8; 32]],
+    count: &mut u64,
+) -> u32
+    ensures { Through (Answers (ask_of asked.now) room.new count.new) handle.old.slot.held result
+        handle.new.slot.held }
+{
+    let Some(mut thing) = handle.take(alloc) else {
+        return WRONG_HANDLE;
+    };
+    let status = thing.answer(&read_ask(asked), room, count);
+    handle.put(thing);
+    status
+}

@@ -1,0 +1,54 @@
+//! What C holds: a boxed thing, or nothing.
+
+ghost use Rattle.std.specs.Prelude.{◌≡◌, Some, None, option_map, is_some};
+
+use crate::slot::Slot;
+use crate::thing::Thing;
+use std::alloc::Global;
+use std::mem::replace;
+
+/// What C holds: a boxed thing, or nothing. Zero bytes are a handle of nothing.
+#[repr(C)]
+#[derive(Drop)]
+pub struct Handle {
+    full: bool,
+    slot: Slot,
+    ghost is_full: { is_some slot.held ≡ full },
+}
+
+impl Handle {
+    fn empty(alloc: Global) -> Handle
+        ensures { result.slot.held ≡ None }
+    {
+        Handle {
+            full: false,
+            slot: Slot::empty(alloc),
+        }
+    }
+
+    /// Whether it holds a thing.
+    pub(crate) fn is_full(&self) -> bool
+        ensures { result ≡ is_some self.now.slot.held }
+    {
+        self.full
+    }
+
+    /// Puts a thing into the handle. What was in it is never freed: take it first.
+    pub(crate) fn put(&mut self, thing: Box<Thing>)
+        ensures { self.new.slot.held ≡ Some thing.value }
+    {
+        *self = Handle {
+            full: true,
+            slot: Slot::full(thing),
+        };
+    }
+
+    /// Takes the thing out, and leaves nothing.
+    pub(crate) fn take(&mut self, alloc: Global) -> Option<Box<Thing>>
+        ensures taken { option_map (λ b. b.value) result ≡ self.old.slot.held }
+        ensures empty { self.new.slot.held ≡ None }
+    {
+        let Handle { full, slot } = replace(self, Handle::empty(alloc));
+        if full { Some(slot.into_box()) } else { None }
+    }
+}

@@ -1,0 +1,21 @@
+//! The session of a torrent and the root of a file, for programs in C and in languages that call C.
+//!
+//! `include/btcheck.h` declares the exports, and says what C must keep. A handle is a [`Handle`]
+//! that holds nothing or one `Thing`: the builder of a root, or a session with its torrent. Each
+//! call takes the thing out of its handle, does its work in safe code, and puts it back; only
+//! `loose.rt` and `slot.rt` touch raw memory.
+#![tactic(auto)]
+
+mod ask_calls;
+mod asked;
+mod handle;
+mod loose;
+mod opened;
+mod root_calls;
+mod session_calls;
+mod slot;
+mod status;
+mod thing;
+
+pub use asked::Asked;
+pub use handle::Handle;

@@ -1,0 +1,150 @@
+//! A session that stands beside its torrent.
+
+ghost use Rattle.std.specs.Prelude.{◌≡◌, ◌<◌, IfOk, OnErr, length};
+ghost use Rattle.std.specs.FinMap as finite;
+ghost use Rattle.std.specs.FinSet as set;
+ghost use Rattle.session.specs.Fresh.{IsFresh};
+ghost use Rattle.btcheck_c.specs.SessionCalls.{HasState};
+ghost use Rattle.btcheck_c.specs.Taken.{HashesTaken, BlockTaken, AnswerTaken, AskNoted, AnswerGiven};
+
+use hashtree::NoMemory;
+use node_maps::Paged;
+use opening::Torrent;
+use partial_tree::{Answer, BlockRefusal, HashRefusal};
+use session::{Paused, Session};
+use std::alloc::Global;
+use std::marker::Model;
+use std::mem::replace;
+use wire::{Ask, Hash};
+
+/// A torrent, and what a session of it keeps. Contracts see it as the session. Each call puts the
+/// session together, makes the session's call, and takes it apart again, which takes no memory.
+#[derive(Drop)]
+pub struct Opened {
+    alloc: Global,
+    torrent: Torrent<'static>,
+    paused: Paused<Paged>,
+}
+
+impl Model for Opened {
+    ghost use Rattle.session.specs.Layouts.{SessionSeen};
+    ghost use Rattle.session.specs.Codes.{session_code};
+    ghost use Rattle.session.specs.Pausing.{IsOf, resumed};
+
+    ghost Value = { SessionSeen };
+
+    ghost coded = { session_code };
+
+    ghost view = { λ o. resumed o.torrent o.paused };
+
+    ghost invariant = { λ o. IsOf o.torrent o.paused };
+}
+
+impl Opened {
+    /// As [`Session::new`].
+    pub fn new(
+        alloc: Global,
+        torrent: Torrent<'static>,
+        with_layers: bool,
+    ) -> Result<Opened, NoMemory>
+        ensures fresh { IfOk result (IsFresh torrent.entry with_layers) }
+        ensures no_memory { OnErr result (0 < length torrent.entry.trees) }
+    {
+        let session = Session::new(alloc, &torrent, with_layers)?;
+        let paused = session.pause();
+        Ok(Opened {
+            alloc,
+            torrent,
+            paused,
+        })
+    }
+
+    /// The torrent.
+    pub fn torrent(&self) -> &Torrent<'static>
+        ensures { result.now ≡ self.now.torrent }
+    {
+        &self.torrent
+    }
+
+    /// As [`Session::take_hashes`].
+    pub fn take_hashes(&mut self, ask: &Ask, hashes: &[Hash]) -> Result<u64, HashRefusal>
+        ensures { HashesTaken self.old ask.now hashes.now result self.new }
+    {
+        let paused = replace(&mut self.paused, Paused::nothing(self.alloc));
+        let mut session = Session::resume(self.alloc, &self.torrent, paused);
+        let result = session.take_hashes(ask, hashes);
+        let kept = session.pause();
+        self.paused = kept;
+        result
+    }
+
+    /// As [`Session::take_block`].
+    pub fn take_block(
+        &mut self,
+        index: u32,
+        begin: u32,
+        block: &[u8],
+    ) -> Result<(usize, u64), BlockRefusal>
+        ensures { BlockTaken self.old index begin block.now result self.new }
+    {
+        let paused = replace(&mut self.paused, Paused::nothing(self.alloc));
+        let mut session = Session::resume(self.alloc, &self.torrent, paused);
+        let result = session.take_block(index, begin, block);
+        let kept = session.pause();
+        self.paused = kept;
+        result
+    }
+
+    /// As [`Session::known`] and [`Session::marked`]. Condition: there are more than `tree` trees.
+    pub fn counts(&mut self, tree: usize) -> (u64, u64)
+        requires { tree < length self.old.torrent.trees }
+        ensures known { HasState self.old tree (λ s. result.0 ≡ finite.len s.known) }
+        ensures marked { HasState self.old tree (λ s. result.1 ≡ set.len s.marked) }
+        ensures same { self.new ≡ self.old }
+    {
+        let paused = replace(&mut self.paused, Paused::nothing(self.alloc));
+        let session = Session::resume(self.alloc, &self.torrent, paused);
+        let known = session.known(tree);
+        let marked = session.marked(tree);
+        let kept = session.pause();
+        self.paused = kept;
+        (known, marked)
+    }
+
+    /// As [`Session::take_answer`].
+    pub fn take_answer(&mut self, ask: &Ask, hashes: &[Hash]) -> Result<u64, HashRefusal>
+        ensures { AnswerTaken self.old ask.now hashes.now result self.new }
+    {
+        let paused = replace(&mut self.paused, Paused::nothing(self.alloc));
+        let mut session = Session::resume(self.alloc, &self.torrent, paused);
+        let result = session.take_answer(ask, hashes);
+        let kept = session.pause();
+        self.paused = kept;
+        result
+    }
+
+    /// As [`Session::note`]: `true` if it is noted.
+    pub fn note(&mut self, ask: &Ask) -> bool
+        ensures { AskNoted self.old ask.now result self.new }
+    {
+        let paused = replace(&mut self.paused, Paused::nothing(self.alloc));
+        let mut session = Session::resume(self.alloc, &self.torrent, paused);
+        let result = session.note(ask);
+        let kept = session.pause();
+        self.paused = kept;
+        result.is_ok()
+    }
+
+    /// As [`Session::answer`]: `None` if memory was refused.
+    pub fn answer(&mut self, ask: &Ask) -> Option<Answer>
+        ensures answer { AnswerGiven self.old ask.now result }
+        ensures same { self.new ≡ self.old }
+    {
+        let paused = replace(&mut self.paused, Paused::nothing(self.alloc));
+        let session = Session::resume(self.alloc, &self.torrent, paused);
+        let result = session.answer(ask);
+        let kept = session.pause();
+        self.paused = kept;
+        result.ok()
+    }
+}

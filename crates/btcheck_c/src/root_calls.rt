@@ -1,0 +1,108 @@
+//! The root of a file that comes in parts.
+
+ghost use Rattle.std.specs.Prelude.{◌≡◌, None};
+ghost use Rattle.btcheck_c.specs.RootCalls.{Pushed, RootMade, Finished};
+ghost use Rattle.btcheck_c.specs.Holds.{Fills, Through};
+
+use crate::handle::Handle;
+use crate::status::{DONE, NO_MEMORY, NO_ROOT, TOO_LONG, WRONG_HANDLE};
+use crate::thing::{Kind, Thing};
+use hashtree::{MAX_LENGTH, RootBuilder};
+use std::alloc::Global;
+use std::mem::replace;
+
+impl Thing {
+    fn push(&mut self, bytes: &[u8]) -> u32
+        ensures { Pushed bytes.now self.old.kind result self.new.kind }
+    {
+        match &mut self.kind {
+            Kind::Session(_) => WRONG_HANDLE,
+            Kind::Root(builder) => {
+                if bytes.len() as u64 > MAX_LENGTH - builder.len() {
+                    return TOO_LONG;
+                }
+                builder.push(bytes);
+                DONE
+            }
+        }
+    }
+
+    fn finish(&mut self, length: &mut u64, root: &mut [u8; 32]) -> u32
+        ensures { Finished length.new root.new self.old.kind result self.new.kind }
+    {
+        match &mut self.kind {
+            Kind::Session(_) => WRONG_HANDLE,
+            Kind::Root(builder) => {
+                if builder.is_empty() {
+                    return NO_ROOT;
+                }
+                let ended = replace(builder, RootBuilder::new());
+                (*length, *root) = ended.finish();
+                DONE
+            }
+        }
+    }
+}
+
+/// Makes a builder that was given nothing, in an empty handle. Status 1: the handle is full. Status
+/// 2: memory was refused. Then the handle is as before.
+#[unsafe(no_mangle)]
+pub extern "C" fn btcheck_root_new(alloc: Global, handle: &mut Handle) -> u32
+    ensures { Fills RootMade handle.old.slot.held result handle.new.slot.held }
+{
+    if handle.is_full() {
+        return WRONG_HANDLE;
+    }
+    let made = Thing {
+        kind: Kind::Root(RootBuilder::new()),
+    };
+    match Box::new(alloc, made) {
+        Err(_) => NO_MEMORY,
+        Ok(thing) => {
+            handle.put(thing);
+            DONE
+        }
+    }
+}
+
+/// Takes the file's next bytes. Status 1: the handle holds no builder. Status 3: the file would be
+/// longer than 2^46 bytes. Then nothing is taken.
+#[unsafe(no_mangle)]
+pub extern "C" fn btcheck_root_push(alloc: Global, handle: &mut Handle, bytes: &[u8]) -> u32
+    ensures { Through (Pushed bytes.now) handle.old.slot.held result handle.new.slot.held }
+{
+    let Some(mut thing) = handle.take(alloc) else {
+        return WRONG_HANDLE;
+    };
+    let status = thing.push(bytes);
+    handle.put(thing);
+    status
+}
+
+/// Writes the length and the root of the bytes that were pushed, and begins anew. Status 1: the
+/// handle holds no builder. Status 4: no bytes were pushed. Then the handle is as before.
+#[unsafe(no_mangle)]
+pub extern "C" fn btcheck_root_finish(
+    alloc: Global,
+    handle: &mut Handle,
+    length: &mut u64,
+    root: &mut [u8; 32],
+) -> u32
+    ensures { Through (Finished length.new root.new) handle.old.slot.held result
+        handle.new.slot.held }
+{
+    let Some(mut thing) = handle.take(alloc) else {
+        return WRONG_HANDLE;
+    };
+    let status = thing.finish(length, root);
+    handle.put(thing);
+    status
+}
+
+/// Frees what the handle holds, and empties it.
+#[unsafe(no_mangle)]
+pub extern "C" fn btcheck_root_free(alloc: Global, handle: &mut Handle)
+    ensures { handle.new.slot.held ≡ None }
+{
+    drop(handle.take(alloc));
+}

@@ -1,0 +1,190 @@
+//! The calls on a session: opening it, and taking hashes and blocks.
+
+ghost use Rattle.std.specs.Prelude.{◌≡◌, None};
+ghost use Rattle.btcheck_c.specs.SessionCalls.{TakesHashes, TakesBlock, OpensAs, SessionOpened, Counted};
+ghost use Rattle.btcheck_c.specs.Holds.{Fills, Through};
+
+use crate::handle::Handle;
+use crate::opened::Opened;
+use crate::status::{DONE, NO_MEMORY, NO_SUCH, TORRENT, WRONG_HANDLE, tell_block, tell_hashes};
+use crate::thing::{Kind, Thing};
+use opening::Torrent;
+use std::alloc::Global;
+use wire::{Ask, Hash};
+
+impl Thing {
+    fn counts(&mut self, tree: usize, known: &mut u64, marked: &mut u64) -> u32
+        ensures { Counted tree known.new marked.new self.old.kind result self.new.kind }
+    {
+        match &mut self.kind {
+            Kind::Root(_) => WRONG_HANDLE,
+            Kind::Session(session) => {
+                if tree >= session.torrent().trees().len() {
+                    return NO_SUCH;
+                }
+                (*known, *marked) = session.counts(tree);
+                DONE
+            }
+        }
+    }
+
+    fn take_hashes(&mut self, ask: &Ask, hashes: &[Hash], places: &mut u64) -> u32
+        ensures { TakesHashes ask.now hashes.now places.new self.old.kind result self.new.kind }
+    {
+        match &mut self.kind {
+            Kind::Root(_) => WRONG_HANDLE,
+            Kind::Session(session) => tell_hashes(session.take_hashes(ask, hashes), places),
+        }
+    }
+
+    fn take_block(
+        &mut self,
+        index: u32,
+        begin: u32,
+        bytes: &[u8],
+        file: &mut u64,
+        block: &mut u64,
+    ) -> u32
+        ensures { TakesBlock index begin bytes.now file.new block.new self.old.kind result
+            self.new.kind }
+    {
+        match &mut self.kind {
+            Kind::Root(_) => WRONG_HANDLE,
+            Kind::Session(session) => {
+                tell_block(session.take_block(index, begin, bytes), file, block)
+            }
+        }
+    }
+}
+
+// A session of the torrent, or the status.
+fn open_session(alloc: Global, input: &'static [u8], with_layers: bool) -> Result<Opened, u32>
+    ensures { OpensAs input.now with_layers result }
+{
+    let torrent = match Torrent::open(alloc, input) {
+        Err(refusal) => return Err(TORRENT + u32::from(refusal.number())),
+        Ok(torrent) => torrent,
+    };
+    match Opened::new(alloc, torrent, with_layers) {
+        Err(_) => Err(NO_MEMORY),
+        Ok(session) => Ok(session),
+    }
+}
+
+/// Opens a torrent, and makes a session of it in an empty handle. The bytes must stay as they are
+/// until the handle is freed. Status 1: the handle is full. Status 2: memory was refused. Status
+/// 100 + n: refusal n of the torrent. Then the handle is as before.
+#[unsafe(no_mangle)]
+pub extern "C" fn btcheck_session_open(
+    alloc: Global,
+    handle: &mut Handle,
+    input: &'static [u8],
+    with_layers: bool,
+) -> u32
+    ensures { Fills (SessionOpened input.now with_layers) handle.old.slot.held result
+        handle.new.slot.held }
+{
+    if handle.is_full() {
+        return WRONG_HANDLE;
+    }
+    let session = match open_session(alloc, input, with_layers) {
+        Err(status) => return status,
+        Ok(session) => session,
+    };
+    let made = Thing {
+        kind: Kind::Session(session),
+    };
+    match Box::new(alloc, made) {
+        Err(_) => NO_MEMORY,
+        Ok(thing) => {
+            handle.put(thing);
+            DONE
+        }
+    }
+}
+
+/// Takes a hashes message: its five fields and its hashes, and writes how many places are newly
+/// known. Status 1: the handle holds no session. Status 200 + n: refusal Hn. Then the session is as
+/// before.
+#[unsafe(no_mangle)]
+pub extern "C" fn btcheck_session_take_hashes(
+    alloc: Global,
+    handle: &mut Handle,
+    root: &[u8; 32],
+    base: u32,
+    index: u32,
+    length: u32,
+    proof: u32,
+    hashes: &[[u8; 32]],
+    places: &mut u64,
+) -> u32
+    ensures { Through (TakesHashes
+        (record { root = root.now; base = base; index = index; length = length; proof = proof })
+        hashes.now places.new) handle.old.slot.held result handle.new.slot.held }
+{
+    let Some(mut thing) = handle.take(alloc) else {
+        return WRONG_HANDLE;
+    };
+    let ask = Ask {
+        root: *root,
+        base,
+        index,
+        length,
+        proof,
+    };
+    let status = thing.take_hashes(&ask, hashes, places);
+    handle.put(thing);
+    status
+}
+
+/// Takes a block of a piece message, and writes which block of which file it is. Status 1: the
+/// handle holds no session. Status 300 + n: refusal Pn. Then the session is as before.
+#[unsafe(no_mangle)]
+pub extern "C" fn btcheck_session_take_block(
+    alloc: Global,
+    handle: &mut Handle,
+    index: u32,
+    begin: u32,
+    bytes: &[u8],
+    file: &mut u64,
+    block: &mut u64,
+) -> u32
+    ensures { Through (TakesBlock index begin bytes.now file.new block.new) handle.old.slot.held
+        result handle.new.slot.held }
+{
+    let Some(mut thing) = handle.take(alloc) else {
+        return WRONG_HANDLE;
+    };
+    let status = thing.take_block(index, begin, bytes, file, block);
+    handle.put(thing);
+    status
+}
+
+/// Writes how many places of a tree are known, and how many of its leaves are marked. Status 1: the
+/// handle holds no session. Status 5: there is no such tree. The session is as before.
+#[unsafe(no_mangle)]
+pub extern "C" fn btcheck_session_counts(
+    alloc: Global,
+    handle: &mut Handle,
+    tree: usize,
+    known: &mut u64,
+    marked: &mut u64,
+) -> u32
+    ensures { Through (Counted tree known.new marked.new) handle.old.slot.held result
+        handle.new.slot.held }
+{
+    let Some(mut thing) = handle.take(alloc) else {
+        return WRONG_HANDLE;
+    };
+    let status = thing.counts(tree, known, marked);
+    handle.put(thing);
+    status
+}
+
+/// Frees what the handle holds, and empties it.
+#[unsafe(no_mangle)]
+pub extern "C" fn btcheck_session_free(alloc: Global, handle: &mut Handle)
+    ensures { handle.new.slot.held ≡ None }
+{
+    drop(handle.take(alloc));
+}

@@ -1,0 +1,79 @@
+//! A boxed thing, or nothing, as a pointer that C may hold.
+
+ghost use Rattle.std.specs.Prelude.{◌≡◌, Option, Some, None, IsSome};
+ghost use Rattle.btcheck_c.specs.declared.thing.Thing.{Thing as Held};
+ghost use Rattle.btcheck_c.specs.Owning.{slot_owns, thing_code};
+
+use crate::loose::{Loose, fasten, loosen};
+use crate::thing::Thing;
+use std::alloc::Global;
+use std::marker::Model;
+
+/// A boxed thing, or nothing. C sees a pointer: a struct with a `Vec` cannot stand behind one that
+/// crosses to C, so it is one to bytes. To drop a slot frees nothing.
+#[repr(C)]
+#[derive(Drop)]
+pub struct Slot {
+    at: *mut u8,
+    alloc: Global,
+    pub ghost held: { Option Held } by { thing_code },
+}
+
+impl Model for Slot {
+    ghost also_owns = { λ s. slot_owns s.alloc s.at s.held };
+}
+
+impl Slot {
+    /// A slot of nothing.
+    pub fn empty(alloc: Global) -> Slot
+        ensures { result.held ≡ None }
+    {
+        let nowhere: *mut u8 = std::ptr::null_mut();
+        vacate(nowhere, alloc)
+    }
+
+    /// A slot of a thing.
+    pub fn full(thing: Box<Thing>) -> Slot
+        ensures { result.held ≡ Some thing.value }
+    {
+        seal(loosen(thing))
+    }
+
+    /// The thing of a slot that has one.
+    pub fn into_box(self) -> Box<Thing>
+        requires { IsSome self.held }
+        ensures { Some result.value ≡ self.held }
+    {
+        fasten(unseal(self))
+    }
+}
+
+// A slot of nothing, whatever its pointer is.
+fn vacate(at: *mut u8, alloc: Global) -> Slot
+    ensures { result.held ≡ None }
+{
+    Slot { at, alloc }
+}
+
+// A slot of the thing whose box was taken apart.
+fn seal(loose: Loose<Thing, Global>) -> Slot
+    ensures { result.held ≡ Some loose.value }
+{
+    let Loose { at, alloc } = loose;
+    Slot {
+        at: at as *mut u8,
+        alloc,
+    }
+}
+
+// The thing of a slot that has one, as a box that was taken apart.
+fn unseal(slot: Slot) -> Loose<Thing, Global>
+    requires { IsSome slot.held }
+    ensures { Some result.value ≡ slot.held }
+{
+    let Slot { at, alloc } = slot;
+    Loose {
+        at: at as *mut Thing,
+        alloc,
+    }
+}

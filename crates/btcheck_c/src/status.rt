@@ -1,0 +1,70 @@
+//! The numbers that calls answer.
+
+ghost use Rattle.std.specs.Prelude.{◌≡◌};
+ghost use Rattle.btcheck_c.specs.Statuses.{HashesTold, BlockTold};
+
+use partial_tree::{BlockRefusal, HashRefusal};
+
+/// The call did what it says.
+pub const DONE: u32 = 0;
+
+/// The handle holds nothing, or something else.
+pub const WRONG_HANDLE: u32 = 1;
+
+/// Memory was refused.
+pub const NO_MEMORY: u32 = 2;
+
+/// A file has more than 2^46 bytes.
+pub const TOO_LONG: u32 = 3;
+
+/// An empty file has no root.
+pub const NO_ROOT: u32 = 4;
+
+/// The torrent has no such tree, block or file.
+pub const NO_SUCH: u32 = 5;
+
+/// There is nothing to tell: the leaf is known, or the ask cannot be answered.
+pub const NOTHING: u32 = 6;
+
+/// The caller's room is too small.
+pub const TOO_SMALL: u32 = 7;
+
+/// Refusal n of a torrent is this plus n.
+pub const TORRENT: u32 = 100;
+
+// Refusal Hn of a hashes message is this plus n.
+const HASHES: u32 = 200;
+
+// Refusal Pn of a block is this plus n.
+const BLOCK: u32 = 300;
+
+/// The status of a hashes message, and how many places are newly known.
+pub fn tell_hashes(answer: Result<u64, HashRefusal>, places: &mut u64) -> u32
+    ensures { HashesTold answer result places.new }
+{
+    match answer {
+        Ok(count) => {
+            *places = count;
+            DONE
+        }
+        Err(refusal) => HASHES + refusal.number(),
+    }
+}
+
+/// The status of a block, and which it is.
+pub fn tell_block(
+    answer: Result<(usize, u64), BlockRefusal>,
+    file: &mut u64,
+    block: &mut u64,
+) -> u32
+    ensures { BlockTold answer result file.new block.new }
+{
+    match answer {
+        Ok((in_file, number)) => {
+            *file = in_file as u64;
+            *block = number;
+            DONE
+        }
+        Err(refusal) => BLOCK + refusal.number(),
+    }
+}

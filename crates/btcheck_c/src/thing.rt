@@ -1,0 +1,20 @@
+//! What a handle of C may hold.
+
+use crate::opened::Opened;
+use hashtree::RootBuilder;
+
+/// What a handle of C may hold. One struct for all kinds, since an export can have no type that is
+/// generic in what a handle holds.
+#[derive(Drop)]
+pub struct Thing {
+    pub(crate) kind: Kind,
+}
+
+/// One of the things.
+#[derive(Drop)]
+pub enum Kind {
+    /// The builder of a file's root.
+    Root(RootBuilder),
+    /// A session with its torrent.
+    Session(Opened),
+}

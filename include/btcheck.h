@@ -1,0 +1,179 @@
+/*
+ * btcheck.h - BitTorrent version 2 hash trees, checked by proved code.
+ *
+ * A session of a torrent takes the hashes messages and the blocks that peers
+ * send, and says which blocks are the torrent's own. The root of a file is
+ * computed from its bytes in parts of any size. docs/LIBRARY.md has a first
+ * program; docs/PROVED.md says what is proved of each call.
+ *
+ * Handles. A handle is a small struct of the caller's. Zero bytes are a handle
+ * that holds nothing: begin with BTCHECK_INIT. Its fields belong to the
+ * library: do not read, change or copy them. A call named ..._free empties a
+ * handle; it may be called on an empty one, and twice.
+ *
+ * Threads. Different handles may be used by different threads at once. Calls
+ * on one handle, also those that only read, must not overlap.
+ *
+ * Memory. Blocks come from malloc, realloc and free. No call aborts, exits,
+ * prints, waits or opens anything. A call that is refused changes nothing, and
+ * what it would write through a pointer is written only where it says so.
+ *
+ * Pointers. No pointer may be null, also with a length of 0, and what the
+ * pointers of one call lead to must not overlap.
+ */
+#ifndef BTCHECK_H
+#define BTCHECK_H
+
+#include <stdbool.h>
+#include <stddef.h>
+#include <stdint.h>
+
+#ifdef __cplusplus
+extern "C" {
+#endif
+
+/* What every call but ..._free answers. */
+typedef uint32_t btcheck_status;
+
+enum {
+  BTCHECK_OK = 0,
+  BTCHECK_WRONG_HANDLE = 1, /* it holds nothing, or something else; of new and open: it is full */
+  BTCHECK_NO_MEMORY = 2,
+  BTCHECK_TOO_LONG = 3,  /* more than 2^46 bytes */
+  BTCHECK_NO_ROOT = 4,   /* an empty file has none */
+  BTCHECK_NO_SUCH = 5,   /* no such tree, block or file */
+  BTCHECK_NOTHING = 6,   /* nothing to ask for, or nothing to answer with */
+  BTCHECK_TOO_SMALL = 7, /* the caller's room has too few places */
+
+  /* Refusals of a torrent: 100 and the number that `btcheck show` prints. */
+  BTCHECK_TORRENT_TOO_LARGE = 101,
+  BTCHECK_TORRENT_NOT_BENCODE = 102,
+  BTCHECK_TORRENT_MISSING = 103,
+  BTCHECK_TORRENT_WRONG_TYPE = 104,
+  BTCHECK_TORRENT_VERSION = 105,
+  BTCHECK_TORRENT_PIECE_LENGTH = 106,
+  BTCHECK_TORRENT_SHAPE = 107,
+  BTCHECK_TORRENT_PATH = 108,
+  BTCHECK_TORRENT_SYMLINK = 109,
+  BTCHECK_TORRENT_LENGTH = 110,
+  BTCHECK_TORRENT_ROOT = 111,
+  BTCHECK_TORRENT_ROOT_REUSED = 112,
+  BTCHECK_TORRENT_NO_FILES = 113,
+  BTCHECK_TORRENT_TOO_MANY_PIECES = 114,
+  BTCHECK_TORRENT_LAYER_MISSING = 115,
+  BTCHECK_TORRENT_LAYER_SIZE = 116,
+  BTCHECK_TORRENT_LAYER_MISMATCH = 117,
+  BTCHECK_TORRENT_HYBRID_FILES = 118,
+  BTCHECK_TORRENT_HYBRID_ALIGN = 119,
+  BTCHECK_TORRENT_HYBRID_PIECES = 120,
+  BTCHECK_TORRENT_NO_MEMORY = 121,
+
+  /* Refusals of a hashes message: 200 and n of Hn. */
+  BTCHECK_H1_UNKNOWN_ROOT = 201,
+  BTCHECK_H2_BAD_RANGE = 202,
+  BTCHECK_H3_BAD_COUNT = 203,
+  BTCHECK_H4_BAD_PAD = 204,
+  BTCHECK_H5_UNANCHORED = 205,
+  BTCHECK_H6_MISMATCH = 206,
+  BTCHECK_H7_NO_MEMORY = 207,
+  BTCHECK_H8_UNASKED = 208,
+
+  /* Refusals of a block: 300 and n of Pn. */
+  BTCHECK_P1_BAD_PLACE = 301,
+  BTCHECK_P2_BAD_SIZE = 302,
+  BTCHECK_P3_UNPROVED = 303,
+  BTCHECK_P4_BAD_BLOCK = 304
+};
+
+/* Bytes of a block that is not its file's last, and of a hash. */
+#define BTCHECK_BLOCK 16384
+#define BTCHECK_HASH 32
+
+/* Handles: of the builder of a root, and of a session. */
+typedef struct btcheck_root {
+  bool full;
+  void *at;
+} btcheck_root;
+typedef struct btcheck_session {
+  bool full;
+  void *at;
+} btcheck_session;
+
+#ifdef __cplusplus
+#define BTCHECK_INIT {}
+#else
+#define BTCHECK_INIT {0}
+#endif
+
+/* ---- the root of a file (BEP 52, "pieces root") */
+
+/* A builder that was given nothing, in an empty handle. */
+btcheck_status btcheck_root_new(btcheck_root *root);
+
+/* The file's next bytes. BTCHECK_TOO_LONG: past 2^46, and nothing was taken. */
+btcheck_status btcheck_root_push(btcheck_root *root, const uint8_t *bytes, size_t len);
+
+/* Length and root of what was pushed; the builder begins anew. BTCHECK_NO_ROOT:
+   nothing was pushed. */
+btcheck_status btcheck_root_finish(btcheck_root *root, uint64_t *length, uint8_t hash[32]);
+
+void btcheck_root_free(btcheck_root *root);
+
+/* ---- the session of a torrent */
+
+/* Opens a torrent file of version 2 in an empty handle. The bytes must stay
+   unchanged until the handle is freed. With layers the session begins with the
+   torrent's piece layers, else with the roots alone. */
+btcheck_status btcheck_session_open(btcheck_session *session, const uint8_t *torrent, size_t len,
+                                    bool layers);
+
+void btcheck_session_free(btcheck_session *session);
+
+/* How many places of a tree are known, and how many leaves are marked as verified. */
+btcheck_status btcheck_session_counts(btcheck_session *session, size_t tree, uint64_t *known,
+                                      uint64_t *marked);
+
+/* ---- messages of peers */
+
+/* A hashes message (BEP 52): its five fields, and `count` hashes of 32 bytes,
+   uncles last. BTCHECK_OK: all are joined to the tree, and `places` is how many
+   places are newly known. Else 201 to 207. */
+btcheck_status btcheck_session_take_hashes(btcheck_session *session, const uint8_t root[32],
+                                           uint32_t base, uint32_t index, uint32_t length,
+                                           uint32_t proof, const uint8_t (*hashes)[32],
+                                           size_t count, uint64_t *places);
+
+/* One block of a piece message (BEP 3). BTCHECK_OK: its digest is its known leaf;
+   `file` and `block` say which it is, from 0. Else 301 to 304. */
+btcheck_status btcheck_session_take_block(btcheck_session *session, uint32_t index, uint32_t begin,
+                                          const uint8_t *bytes, size_t len, uint64_t *file,
+                                          uint64_t *block);
+
+/* ---- requests for hashes */
+
+/* The five fields of a hash request (BEP 52). */
+typedef struct btcheck_ask {
+  uint8_t root[32];
+  uint32_t base, index, length, proof;
+} btcheck_ask;
+
+/* Notes that a request with these fields was sent: its ask is open until hashes
+   answer it. BTCHECK_NO_MEMORY: it is not noted. */
+btcheck_status btcheck_session_note(btcheck_session *session, const btcheck_ask *ask);
+
+/* A hashes message that must answer a noted request, which it then closes. As
+   take_hashes, but 208 comes before all other refusals if no such ask is open. */
+btcheck_status btcheck_session_take_answer(btcheck_session *session, const btcheck_ask *ask,
+                                           const uint8_t (*hashes)[32], size_t count,
+                                           uint64_t *places);
+
+/* The hashes that answer a peer's request, at the front of the room, and how many
+   they are. BTCHECK_TOO_SMALL: `count` is how many places the room must have.
+   BTCHECK_NOTHING: reject the request. BTCHECK_NO_MEMORY: memory was refused. */
+btcheck_status btcheck_session_answer(btcheck_session *session, const btcheck_ask *ask,
+                                      uint8_t (*room)[32], size_t places, uint64_t *count);
+
+#ifdef __cplusplus
+}
+#endif
+#endif

@@ -1,0 +1,52 @@
+# The C library: what it is made of, and where it is installed. docs/LIBRARY.md says how to use it.
+
+LIB := build/lib
+ARCHIVE := crates/btcheck_c/out/libbtcheck_c.a
+LIB_VERSION = $(shell sed -n 's/.*VERSION: &str = "\([0-9.]*\).*/\1/p' crates/command_line/src/help.rt)
+WITH_VERSION = sed 's/@VERSION@/$(LIB_VERSION)/'
+
+lib: $(LIB)/libbtcheck.a $(LIB)/libbtcheck.so.0
+
+$(ARCHIVE): $(SOURCES)
+	$(need_toolchain)
+	@RT="$(RT)" tools/prove btcheck_c
+	cd crates/btcheck_c && $(RT) lib
+	touch $@
+
+# One object with the kit's C code inside. Only the names of the header leave it, so that it stands in the way of no
+# other library, and of no allocator that the client brings.
+$(LIB)/btcheck.o: $(ARCHIVE)
+	mkdir -p $(LIB)
+	$(LD) -r -o $@ --whole-archive $(ARCHIVE) --no-whole-archive $(KIT_C)/liblibc_c.a
+	objcopy --wildcard --keep-global-symbol='btcheck_*' $@
+
+$(LIB)/libbtcheck.a: $(LIB)/btcheck.o
+	rm -f $@
+	$(AR) rcsD $@ $<
+
+$(LIB)/libbtcheck.so.0: $(LIB)/btcheck.o
+	$(CC) -shared -o $@ $< -Wl,-soname,libbtcheck.so.0 -Wl,-z,defs -Wl,-z,relro -Wl,-z,now -Wl,-z,noexecstack
+	ln -sf libbtcheck.so.0 $(LIB)/libbtcheck.so
+
+# `make install` installs the library too, if `make lib` made it.
+install: $(if $(wildcard $(LIB)/libbtcheck.so.0),install-lib)
+
+install-lib:
+	install -D -m 644 -t $(BELOW)/include" include/btcheck.h
+	install -D -m 644 -t $(BELOW)/lib" $(LIB)/libbtcheck.a
+	install -D -m 755 -t $(BELOW)/lib" $(LIB)/libbtcheck.so.0
+	ln -sf libbtcheck.so.0 $(BELOW)/lib/libbtcheck.so"
+	install -d $(BELOW)/lib/pkgconfig" $(BELOW)/lib/cmake/btcheck"
+	$(WITH_VERSION) include/btcheck.pc.in > $(BELOW)/lib/pkgconfig/btcheck.pc"
+	$(WITH_VERSION) include/btcheck-config-version.cmake.in > $(BELOW)/lib/cmake/btcheck/btcheck-config-version.cmake"
+	install -m 644 -t $(BELOW)/lib/cmake/btcheck" include/btcheck-config.cmake
+	install -D -m 644 -t $(BELOW)/share/man/man3" man/libbtcheck.3
+
+uninstall: uninstall-lib
+
+uninstall-lib:
+	rm -f $(BELOW)/include/btcheck.h" $(BELOW)/lib/libbtcheck.a" $(BELOW)/lib/libbtcheck.so.0" $(BELOW)/lib/libbtcheck.so"
+	rm -f $(BELOW)/lib/pkgconfig/btcheck.pc" $(BELOW)/share/man/man3/libbtcheck.3"
+	rm -rf $(BELOW)/lib/cmake/btcheck"
+
+.PHONY: lib install-lib uninstall-lib

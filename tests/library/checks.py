@@ -1,0 +1,244 @@
+"""The C library: its header and symbols, each status through C and through Python, memory that is refused, and records through
+a program in C beside `btcheck replay`. The tests build it by `make lib`, if that was not run before."""
+import functools
+import os
+import random
+import re
+import shutil
+import subprocess
+import sys
+
+import messages
+from support import TOP, LeftOut, folder, need, run, write
+from torrents import torrent_of
+from trees import BLOCK, Tree, blocks_of, root_of
+
+LIB = f"{TOP}/build/lib"
+HEADER = f"{TOP}/include/btcheck.h"
+SOURCES = f"{TOP}/tests/library"
+PROGRAMS = ["handles", "refused_memory", "replay"]
+WARNINGS = ["-Wall", "-Wextra", "-pedantic", "-Werror"]
+OF_MEMORY = ["-Wl,--wrap=malloc,--wrap=realloc"]
+
+CONTENT = random.Random(7).randbytes(5 * BLOCK + 100)
+SMALL = random.Random(8).randbytes(300)
+TORRENT = torrent_of([("a", CONTENT), ("b", SMALL)], 2 * BLOCK)
+TREE, ROOT = Tree.of(CONTENT), root_of(CONTENT)
+LEAVES = TREE.layers[0]
+BLOCKS = blocks_of(CONTENT)
+
+
+@functools.cache
+def made():
+    """The library is made, or what that needs is not here."""
+    need("gcc", "g++", "nm", "readelf", "objcopy", "make")
+    archive = "crates/btcheck_c/out/libbtcheck_c.a"
+    if shutil.which("rt"):
+        there = ["-o", archive] if os.path.exists(f"{TOP}/{archive}") else []
+        subprocess.run(["make", "-s", *there, "lib"], cwd=TOP, check=True, stdout=subprocess.DEVNULL)
+    elif not os.path.exists(f"{LIB}/libbtcheck.so.0"):
+        raise LeftOut("there is no kit here, and make lib was not run")
+
+
+def compiled(place, name, *flags, compiler="gcc", standard="c99", library=None):
+    """A program of tests/library."""
+    made()
+    program = f"{place}/{name}-{standard}"
+    more = OF_MEMORY if name == "refused_memory" else []
+    subprocess.run([compiler, f"-std={standard}", *WARNINGS, *flags, "-I", f"{TOP}/include", "-x", "c++" if "++" in standard else "c",
+                    f"{SOURCES}/{name}.c", "-x", "none", library or f"{LIB}/libbtcheck.a", *more, "-o", program], check=True)
+    return program
+
+
+def arguments(place):
+    """What each program but `replay` is run on."""
+    torrent = write(f"{place}/t.torrent", TORRENT)
+    return {"handles": [torrent], "refused_memory": [torrent, write(f"{place}/hashes", ROOT + b"".join(LEAVES))]}
+
+
+def declared():
+    with open(HEADER, encoding="utf-8") as file:
+        return set(re.findall(r"^(?:btcheck_status|void|const char \*|uint32_t) ?(btcheck_\w+)\(", file.read(), re.M))
+
+
+def test_the_header_compiles_everywhere():
+    """Each program compiles without a word as C99, C17 and C++17, and runs."""
+    with folder() as place:
+        given = arguments(place)
+        for compiler, standard in (("gcc", "c99"), ("gcc", "c17"), ("g++", "c++17")):
+            for name in PROGRAMS:
+                program = compiled(place, name, compiler=compiler, standard=standard)
+                if name in given:
+                    done = run(*given[name], program=program)
+                    assert (done.returncode, done.stdout) == (0, b""), (name, standard, done)
+
+
+def test_symbols():
+    """Both objects define exactly the calls of the header, and need the C library alone."""
+    made()
+    for path, flags in ((f"{LIB}/libbtcheck.so.0", ["-D"]), (f"{LIB}/libbtcheck.a", ["-g"])):
+        told = subprocess.run(["nm", *flags, "--defined-only", path], check=True, stdout=subprocess.PIPE, text=True).stdout
+        names = set(re.findall(r"^[0-9a-f]+ \w (\w+)$", told, re.M))
+        assert names == declared(), (path, names ^ declared())
+    told = subprocess.run(["readelf", "-d", f"{LIB}/libbtcheck.so.0"], check=True, stdout=subprocess.PIPE, text=True).stdout
+    assert re.findall(r"NEEDED.*\[(.*)\]", told) == ["libc.so.6"] and "SONAME" in told, told
+
+
+def test_handles_and_memory_under_sanitizers():
+    with folder() as place:
+        for name, given in arguments(place).items():
+            program = compiled(place, name, "-g", "-fsanitize=address,undefined" if name == "handles" else "-fsanitize=undefined")
+            done = run(*given, program=program)
+            assert (done.returncode, done.stdout, done.stderr) == (0, b"", b""), (name, done)
+
+
+def test_handles_under_valgrind():
+    need("valgrind")
+    with folder() as place:
+        program = compiled(place, "handles", "-g")
+        done = run("-q", "--leak-check=full", "--errors-for-leak-kinds=all", "--error-exitcode=9", program,
+                   *arguments(place)["handles"], program="valgrind")
+        assert (done.returncode, done.stdout) == (0, b""), done
+
+
+@functools.cache
+def module():
+    """The Python module over the library."""
+    made()
+    os.environ["LIBBTCHECK"] = f"{LIB}/libbtcheck.so.0"
+    sys.path.insert(0, f"{TOP}/python")
+    import btcheck
+    return btcheck
+
+
+def told(call, *given):
+    """The status of a call, and what it gives."""
+    try:
+        return 0, call(*given)
+    except module().Refused as refused:
+        return refused.status, None
+
+
+def expected(cases):
+    for name, got, wanted in cases:
+        assert got == wanted, (name, got, wanted)
+
+
+def test_roots():
+    with module().Root() as root:
+        assert told(root.finish) == (4, None)
+        for part in (CONTENT[:7], CONTENT[7:50000], CONTENT[50000:]):
+            root.push(part)
+        expected([
+            ("the root", told(root.finish), (0, (len(CONTENT), ROOT))),
+            ("it begins anew", told(root.finish), (4, None)),
+            ("bytes", told(root.push, SMALL), (0, None)),
+            ("another root", told(root.finish), (0, (300, root_of(SMALL)))),
+            ("freed", root.close(), None),
+            ("closed", told(root.push, b"a"), (1, None)),
+            ("freed twice", root.close(), None),
+        ])
+
+
+def test_each_refusal_of_a_message():
+    other = [LEAVES[1], LEAVES[0], *LEAVES[2:]]
+    with module().Session(TORRENT, layers=False) as session:
+        expected([
+            ("at first", told(session.counts, 0), (0, (1, 0))),
+            ("no tree", told(session.counts, 9), (5, None)),
+            ("P1", told(session.take_block, 77, 0, BLOCKS[0]), (301, None)),
+            ("P2", told(session.take_block, 0, 0, BLOCKS[0][:-1]), (302, None)),
+            ("P3", told(session.take_block, 0, 0, BLOCKS[0]), (303, None)),
+            ("H1", told(session.take_hashes, (bytes(32), 0, 0, 8, 0), LEAVES), (201, None)),
+            ("H2", told(session.take_hashes, (ROOT, 0, 1, 4, 0), LEAVES), (202, None)),
+            ("H3", told(session.take_hashes, (ROOT, 0, 0, 8, 0), LEAVES[:3]), (203, None)),
+            ("H4", told(session.take_hashes, (ROOT, 0, 0, 8, 0), [*LEAVES[:-1], b"\1" * 32]), (204, None)),
+            ("H5", told(session.take_hashes, (ROOT, 0, 0, 2, 0), LEAVES[:2]), (205, None)),
+            ("H6", told(session.take_hashes, (ROOT, 0, 0, 8, 0), other), (206, None)),
+            ("H8", told(session.take_answer, (ROOT, 0, 0, 8, 0), LEAVES), (208, None)),
+            ("nothing changed", told(session.counts, 0), (0, (1, 0))),
+            ("stored", told(session.take_hashes, (ROOT, 0, 0, 8, 0), LEAVES), (0, 14)),
+            ("stored again", told(session.take_hashes, (ROOT, 0, 0, 8, 0), LEAVES), (0, 0)),
+            *((f"block {n}", told(session.take_block, n // 2, n % 2 * BLOCK, block), (0, (0, n))) for n, block in enumerate(BLOCKS)),
+            ("P4", told(session.take_block, 0, 0, BLOCKS[1]), (304, None)),
+            ("at last", told(session.counts, 0), (0, (15, 6))),
+        ])
+
+
+def test_requests():
+    ask, part = (ROOT, 0, 0, 8, 0), (ROOT, 0, 0, 2, 2)
+    with module().Session(TORRENT, layers=False) as session:
+        expected([
+            ("nothing to answer with", told(session.answer, ask), (6, None)),
+            ("noted", told(session.note, ask), (0, None)),
+            ("noted again", told(session.note, ask), (0, None)),
+            ("another one is not open", told(session.take_answer, (ROOT, 0, 0, 8, 1), LEAVES), (208, None)),
+            ("a refusal leaves it open", told(session.take_answer, ask, LEAVES[:3]), (203, None)),
+            ("answered", told(session.take_answer, ask, LEAVES), (0, 14)),
+            ("closed", told(session.take_answer, ask, LEAVES), (208, None)),
+            ("an answer", told(session.answer, ask), (0, LEAVES)),
+            ("with uncles", told(session.answer, part), (0, TREE.hashes(0, 0, 2, 2))),
+            ("no such range", told(session.answer, (ROOT, 0, 1, 2, 0)), (6, None)),
+        ])
+    assert told(session.note, ask) == (1, None)
+
+
+def test_refused_torrents():
+    for wrong, status in ((b"abc", 102), (b"de", 103), (b"d4:infod12:meta versioni1eee", 105), (TORRENT[:-1], 102)):
+        assert told(module().Session, wrong) == (status, None), wrong
+    assert issubclass(module().NotBencode, module().TorrentRefused)
+
+
+def a_record(draw):
+    """Frames of which some are false."""
+    record = b""
+    for _ in range(40):
+        kind = draw.randrange(9)
+        if kind < 3:
+            block = bytearray(draw.choice([*BLOCKS, SMALL]))
+            if draw.random() < 0.2:
+                block[draw.randrange(len(block))] ^= 1
+            record += messages.piece(draw.randrange(5), draw.choice([0, BLOCK, 5]), bytes(block))
+        elif kind < 6:
+            length = draw.choice([1, 2, 3, 4, 8])
+            index = draw.choice([0, 1, 2, 4, 8])
+            given = TREE.hashes(0, index, length, 3 - (length.bit_length() - 1)) if index + length <= 8 and index % length == 0 else LEAVES[:2]
+            if draw.random() < 0.4:
+                given[draw.randrange(len(given))] = draw.choice([bytes(32), b"\2" * 32, LEAVES[0]])
+            root = draw.choice([ROOT, ROOT, ROOT, root_of(SMALL), bytes(32)])
+            record += messages.hashes(root, 0, index, length, 3, given=given)
+        elif kind == 6:
+            record += messages.request(ROOT, 0, draw.choice([0, 1, 2, 4]), draw.choice([2, 4, 8]), draw.randrange(4))
+        elif kind == 7:
+            record += messages.KEEP_ALIVE
+        else:
+            record += messages.frame(bytes([draw.choice([0, 1, 4, 5])]) + bytes(draw.randrange(7)))
+    return record[:-3] if draw.random() < 0.2 else record
+
+
+def test_records():
+    """The program in C prints what `btcheck replay` prints."""
+    with folder() as place:
+        program, torrent = compiled(place, "replay"), write(f"{place}/t.torrent", TORRENT)
+        lines = 0
+        for seed in range(int(os.environ.get("RECORDS", "30"))):
+            record = write(f"{place}/record", a_record(random.Random(seed)))
+            for flags in ([], ["--info-only"]):
+                ours, theirs = run(*flags, torrent, record, program=program), run("replay", torrent, record, *flags)
+                assert (ours.returncode, ours.stdout) == (theirs.returncode, theirs.stdout), (seed, flags, ours, theirs)
+                lines += ours.stdout.count(b"\n")
+    print(f"compared {lines} lines of the program in C with those of replay")
+
+
+def test_installed():
+    """What is installed is found by pkg-config and CMake, and a program that is compiled so runs."""
+    made()
+    need("pkg-config")
+    with folder() as place:
+        subprocess.run(["make", "-s", "install-lib", f"DESTDIR={place}", "PREFIX=/usr"], cwd=TOP, check=True, stdout=subprocess.DEVNULL)
+        below = f"{place}/usr/lib"
+        paths = {**os.environ, "PKG_CONFIG_PATH": f"{below}/pkgconfig", "LD_LIBRARY_PATH": below}
+        flags = subprocess.run(["pkg-config", "--cflags", "--libs", "btcheck"], env=paths, check=True, stdout=subprocess.PIPE, text=True)
+        subprocess.run(["gcc", f"{SOURCES}/handles.c", *flags.stdout.split(), "-o", f"{place}/handles"], check=True)
+        done = run(*arguments(place)["handles"], program=f"{place}/handles", env=paths)
+        assert (done.returncode, done.stdout) == (0, b""), done

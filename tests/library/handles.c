@@ -1,0 +1,67 @@
+/* Handles that are empty, full, of the other kind, freed, and freed twice: each status that a handle gives, and nothing written.
+   usage: handles TORRENT */
+#include "btcheck.h"
+#include "want.h"
+
+#include <stdlib.h>
+
+static btcheck_ask ask;
+static uint8_t hash[1][32], bytes[1 << 20];
+static uint64_t one, other;
+
+/* Every call on a session but open. */
+static void want_of_session(btcheck_session *session, btcheck_status status) {
+  one = other = 7;
+  WANT(btcheck_session_counts(session, 0, &one, &other), status);
+  WANT(btcheck_session_take_hashes(session, hash[0], 0, 0, 2, 0, (const uint8_t(*)[32])hash, 1, &one), status);
+  WANT(btcheck_session_take_block(session, 0, 0, hash[0], 32, &one, &other), status);
+  WANT(btcheck_session_note(session, &ask), status);
+  WANT(btcheck_session_take_answer(session, &ask, (const uint8_t(*)[32])hash, 1, &one), status);
+  WANT(btcheck_session_answer(session, &ask, hash, 1, &one), status);
+  CHECK(one == 7 && other == 7);
+}
+
+/* Every call on a builder but new. */
+static void want_of_root(btcheck_root *root, btcheck_status status) {
+  one = 7;
+  WANT(btcheck_root_push(root, hash[0], 1), status);
+  WANT(btcheck_root_finish(root, &one, hash[0]), status);
+  CHECK(one == 7 && hash[0][0] == 0);
+}
+
+int main(int argc, char **argv) {
+  size_t len = argc == 2 ? whole_file(argv[1], bytes, sizeof bytes) : 0;
+  if (!len) return 2;
+  uint8_t *torrent = (uint8_t *)malloc(len);
+  memcpy(torrent, bytes, len);
+  btcheck_root root = BTCHECK_INIT;
+  btcheck_session session = BTCHECK_INIT, second = BTCHECK_INIT;
+  want_of_root(&root, BTCHECK_WRONG_HANDLE);
+  want_of_session(&session, BTCHECK_WRONG_HANDLE);
+  for (int round = 0; round < 3; round++) {
+    WANT(btcheck_root_new(&root), BTCHECK_OK);
+    WANT(btcheck_root_new(&root), BTCHECK_WRONG_HANDLE);
+    WANT(btcheck_root_finish(&root, &one, hash[0]), BTCHECK_NO_ROOT);
+    WANT(btcheck_root_push(&root, hash[0], 0), BTCHECK_OK);
+    WANT(btcheck_root_finish(&root, &one, hash[0]), BTCHECK_NO_ROOT);
+    WANT(btcheck_session_open(&session, hash[0], 1, true), BTCHECK_TORRENT_NOT_BENCODE);
+    WANT(btcheck_session_open(&session, torrent, len, true), BTCHECK_OK);
+    WANT(btcheck_session_open(&session, torrent, len, true), BTCHECK_WRONG_HANDLE);
+    WANT(btcheck_session_open(&second, torrent, len, false), BTCHECK_OK);
+    WANT(btcheck_session_counts(&session, 0, &one, &other), BTCHECK_OK);
+    WANT(btcheck_session_counts(&second, 1000, &one, &other), BTCHECK_NO_SUCH);
+    /* A handle of the other kind, as a cast gives it. */
+    want_of_session((btcheck_session *)(void *)&root, BTCHECK_WRONG_HANDLE);
+    want_of_root((btcheck_root *)(void *)&session, BTCHECK_WRONG_HANDLE);
+    WANT(btcheck_root_new((btcheck_root *)(void *)&session), BTCHECK_WRONG_HANDLE);
+    btcheck_session_free(&session);
+    btcheck_session_free(&session);
+    btcheck_session_free(&second);
+    btcheck_root_free(&root);
+    btcheck_root_free(&root);
+    want_of_root(&root, BTCHECK_WRONG_HANDLE);
+    want_of_session(&session, BTCHECK_WRONG_HANDLE);
+  }
+  free(torrent);
+  return 0;
+}

@@ -1,0 +1,64 @@
+/* Memory is refused to each call that takes some, at each block in turn: the status says so, and nothing has changed.
+   usage: refused_memory TORRENT HASHES (a root, and 8 hashes that answer a request for its first 8 leaves)
+   Link with -Wl,--wrap=malloc,--wrap=realloc. */
+#include "btcheck.h"
+#include "want.h"
+
+void *__real_malloc(size_t size);
+void *__real_realloc(void *block, size_t size);
+
+static long left = -1; /* how many blocks may still be had; -1: any number */
+
+static bool is_refused(void) {
+  if (left > 0) left--;
+  else if (left == 0) return true;
+  return false;
+}
+
+void *__wrap_malloc(size_t size) { return is_refused() ? NULL : __real_malloc(size); }
+
+void *__wrap_realloc(void *block, size_t size) { return is_refused() ? NULL : __real_realloc(block, size); }
+
+/* The status of a call that has only so many blocks. */
+#define WITH(blocks, call) (left = (blocks), status = (call), left = -1, status)
+
+static uint8_t torrent[1 << 20], hashes[9][32], room[8][32];
+
+int main(int argc, char **argv) {
+  size_t len = argc == 3 ? whole_file(argv[1], torrent, sizeof torrent) : 0;
+  if (!len || whole_file(argv[2], hashes[0], sizeof hashes) != sizeof hashes) return 2;
+  const uint8_t(*given)[32] = (const uint8_t(*)[32])(hashes + 1);
+  btcheck_ask ask = {{0}, 0, 0, 8, 0};
+  memcpy(ask.root, hashes[0], 32);
+  btcheck_root root = BTCHECK_INIT;
+  btcheck_session session = BTCHECK_INIT;
+  uint64_t count = 7, known = 0, marked = 0;
+  btcheck_status status;
+
+  WANT(WITH(0, btcheck_root_new(&root)), BTCHECK_NO_MEMORY);
+  WANT(btcheck_root_push(&root, hashes[0], 1), BTCHECK_WRONG_HANDLE);
+
+  unsigned of_torrent = 0, of_session = 0;
+  for (long blocks = 0; WITH(blocks, btcheck_session_open(&session, torrent, len, false)) != BTCHECK_OK; blocks++) {
+    CHECK(status == BTCHECK_NO_MEMORY || status == BTCHECK_TORRENT_NO_MEMORY);
+    if (status == BTCHECK_NO_MEMORY) of_session++;
+    else of_torrent++;
+    WANT(btcheck_session_counts(&session, 0, &known, &marked), BTCHECK_WRONG_HANDLE);
+  }
+  CHECK(of_torrent > 0 && of_session > 0);
+
+  WANT(WITH(0, btcheck_session_note(&session, &ask)), BTCHECK_NO_MEMORY);
+  WANT(btcheck_session_take_answer(&session, &ask, given, 8, &count), BTCHECK_H8_UNASKED);
+  WANT(btcheck_session_note(&session, &ask), BTCHECK_OK);
+  WANT(WITH(0, btcheck_session_note(&session, &ask)), BTCHECK_OK);
+  WANT(WITH(0, btcheck_session_take_answer(&session, &ask, given, 8, &count)), BTCHECK_H7_NO_MEMORY);
+  WANT(WITH(0, btcheck_session_take_hashes(&session, ask.root, 0, 0, 8, 0, given, 8, &count)), BTCHECK_H7_NO_MEMORY);
+  WANT(btcheck_session_counts(&session, 0, &known, &marked), BTCHECK_OK);
+  CHECK(known == 1 && marked == 0 && count == 7);
+  WANT(btcheck_session_take_answer(&session, &ask, given, 8, &count), BTCHECK_OK);
+  WANT(WITH(0, btcheck_session_answer(&session, &ask, room, 8, &count)), BTCHECK_NO_MEMORY);
+  WANT(btcheck_session_answer(&session, &ask, room, 8, &count), BTCHECK_OK);
+  CHECK(count == 8 && !memcmp(room, hashes + 1, sizeof room));
+  btcheck_session_free(&session);
+  return 0;
+}
