@@ -14,7 +14,7 @@ use Rattle.partial_tree.specs.declared.row.Row.{Row}
 use Rattle.partial_tree.specs.Claims.{base_hash, uncle_hash}
 use Rattle.partial_tree.specs.Evidence.{Grows, IsClaimedPlace, IsHandled, IsNoted, LiesUnder, claimed_by, given_by, hashes_of, range_of}
 use Rattle.partial_tree.specs.FoldedRows.{AreClaimedIn, BelowRowHandled, IsClaimedRow, RowHandled, place_in}
-use Rattle.partial_tree.proofs.Claimed.{base-read, claims-read, claims-zero, either, there_or_not}
+use Rattle.partial_tree.proofs.ClaimValues.{base-read, claims-read, claims-zero, either, there_or_not}
 use Rattle.partial_tree.proofs.Given.{uncle-low}
 use Rattle.partial_tree.proofs.Tracing.{Opened, handled-grows, join_claimed, left_claimed, rests_on, right_claimed, under_child}
 
