@@ -19,7 +19,7 @@ use Rattle.folders.specs.Verdicts.{IsListedNode}
 use Rattle.folders.specs.declared.report.FileVerdict.{FileVerdict}
 use Rattle.folders.specs.declared.report.FileVerdict.TheVariants as file
 use Rattle.folders.proofs.Layers.{layer_is_low, layer_of_at, whole_layer}
-use Rattle.folders.proofs.Pieces.{same_root}
+use Rattle.folders.proofs.OpenedRoots.{same_root}
 use Rattle.parts.specs.Collisions.{RowsCollide}
 use Rattle.parts.specs.Joins.{NoWorse}
 use Rattle.parts.proofs.Rows.{AreHashes, length-node, same_rows}
