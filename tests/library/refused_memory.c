@@ -4,8 +4,16 @@
 #include "btcheck.h"
 #include "want.h"
 
+#ifdef __cplusplus
+extern "C" {
+#endif
 void *__real_malloc(size_t size);
 void *__real_realloc(void *block, size_t size);
+void *__wrap_malloc(size_t size);
+void *__wrap_realloc(void *block, size_t size);
+#ifdef __cplusplus
+}
+#endif
 
 static long left = -1; /* how many blocks may still be had; -1: any number */
 
