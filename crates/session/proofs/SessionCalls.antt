@@ -30,7 +30,7 @@ use Rattle.partial_tree.specs.Answers.{IsTreeAnswer}
 use Rattle.session.specs.Answers.{IsAnswerTo}
 use Rattle.session.specs.Asks.{AskSet}
 use Rattle.session.specs.Layouts.{IsBlockOf, SessionSeen, seen, root_of_entry, state_of, AreKept}
-use Rattle.session.proofs.Sessions.{with_trees, found_at, mapped, tree_at, state_stays, asked_in, answered_in, tree_for}
+use Rattle.session.proofs.Sessions.{with_trees, found_at, mapped, tree_at, state_stays, asked_in, answered_in, tree_for, in_file}
 
 -- ---- whole layers
 
