@@ -4,12 +4,12 @@
 _btcheck_command() {
     options='-h --help'
     case $1 in
-        root) kinds=(file) ;;
-        show) kinds=(torrent) ;;
-        check) options+=' --quiet' kinds=(torrent folder) ;;
+        root) options+=' --json' kinds=(file) ;;
+        show) options+=' --json' kinds=(torrent) ;;
+        check) options+=' --quiet --json' kinds=(torrent folder) ;;
         create) options+=' --name --piece-length --hybrid' kinds=(folder file) ;;
         convert) kinds=(file file) ;;
-        replay) options+=' --info-only --seed --answers' kinds=(torrent file) ;;
+        replay) options+=' --info-only --seed --answers --json' kinds=(torrent file) ;;
         help) options='' kinds=(command) ;;
         *) options='' kinds=() ;;
     esac

@@ -28,6 +28,8 @@ complete -c btcheck -n '__fish_seen_subcommand_from check; and test (__btcheck_a
     -a '(__fish_complete_directories)'
 complete -c btcheck -n '__fish_seen_subcommand_from check' -l quiet -d 'Print only what is not good'
 
+complete -c btcheck -n '__fish_seen_subcommand_from root show check replay' -l json -d 'Print each line as a JSON object'
+
 complete -c btcheck -n $none -a create -d 'Make a torrent of all files in a folder'
 complete -c btcheck -n '__fish_seen_subcommand_from create; and test (__btcheck_arguments) -eq 0' \
     -a '(__fish_complete_directories)'

@@ -47,7 +47,7 @@ def test_help_is_read():
     """The reading of the help above is not empty."""
     assert {"root", "show", "check", "create", "replay", "convert", "help"} <= set(Helped().commands)
     assert Helped("check").arguments == ["TORRENT", "DIR"]
-    assert Helped("replay").options == {"-h", "--help", "--info-only", "--seed", "--answers"}
+    assert Helped("replay").options == {"-h", "--help", "--info-only", "--seed", "--answers", "--json"}
 
 
 def flags(text):

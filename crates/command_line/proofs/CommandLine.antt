@@ -114,8 +114,8 @@ HasTexts rows (name ∷ names) =
 -- an action that is found has the texts that its command needs
 has_texts : (rows : List Row) (a : Action) → FindsArguments rows a
     → HasTexts rows (needed_texts (command_of a))
-has_texts rows (action.Root file) found = ((file.now, found), tt)
-has_texts rows (action.Show torrent) found = ((torrent.now, found), tt)
+has_texts rows (action.Root file json) found = ((file.now, found.0), tt)
+has_texts rows (action.Show torrent json) found = ((torrent.now, found.0), tt)
 has_texts rows (action.Check asked) found =
     ((asked.torrent.now, found.0), ((asked.dir.now, found.1), tt))
 has_texts rows (action.Create asked) found =
@@ -150,8 +150,8 @@ needs_text command name rows needed absent a asks =
 pub needs_piece_length : (rows : List Row)
     → ((number : ℕ) → IsNumberOf (one_of (codes "piece-length") rows) number → ⊥)
     → (a : Action) → Asks (codes "create") rows a → ⊥
-needs_piece_length rows none (action.Root file) asks = differs _ _ refl asks.0
-needs_piece_length rows none (action.Show torrent) asks = differs _ _ refl asks.0
+needs_piece_length rows none (action.Root file json) asks = differs _ _ refl asks.0
+needs_piece_length rows none (action.Show torrent json) asks = differs _ _ refl asks.0
 needs_piece_length rows none (action.Check asked) asks = differs _ _ refl asks.0
 needs_piece_length rows none (action.Create asked) asks = none asked.piece_length asks.1.3
 needs_piece_length rows none (action.Replay asked) asks = differs _ _ refl asks.0

@@ -49,14 +49,15 @@ abbrev pub command : Text → List Rule → Shape
 command name rules = record (new_shape name) { rules = rules }
 
 abbrev pub root_command : Shape
-root_command = command (codes "root") (needed (codes "FILE") ∷ [])
+root_command = command (codes "root") (needed (codes "FILE") ∷ flag (codes "json") ∷ [])
 
 abbrev pub show_command : Shape
-show_command = command (codes "show") (needed (codes "TORRENT") ∷ [])
+show_command = command (codes "show") (needed (codes "TORRENT") ∷ flag (codes "json") ∷ [])
 
 abbrev pub check_command : Shape
 check_command = command (codes "check")
-    (needed (codes "TORRENT") ∷ needed (codes "DIR") ∷ flag (codes "quiet") ∷ [])
+    (needed (codes "TORRENT") ∷ needed (codes "DIR") ∷ flag (codes "quiet")
+    ∷ flag (codes "json") ∷ [])
 
 abbrev pub create_command : Shape
 create_command = command (codes "create")
@@ -69,7 +70,7 @@ convert_command = command (codes "convert") (needed (codes "RECORD") ∷ needed 
 abbrev pub replay_command : Shape
 replay_command = command (codes "replay")
     (needed (codes "TORRENT") ∷ needed (codes "RECORD") ∷ flag (codes "info-only")
-    ∷ option (codes "seed") ∷ option (codes "answers") ∷ [])
+    ∷ option (codes "seed") ∷ option (codes "answers") ∷ flag (codes "json") ∷ [])
 
 -- the program, with a version and a command that is required
 abbrev pub program : App
@@ -134,8 +135,8 @@ IsNumberIfThere found None = (number : ℕ) → IsNumberOf found number → ⊥
 
 -- the name of the command that does this
 abbrev pub command_of : Action → Text
-command_of (action.Root file) = codes "root"
-command_of (action.Show torrent) = codes "show"
+command_of (action.Root file json) = codes "root"
+command_of (action.Show torrent json) = codes "show"
 command_of (action.Check asked) = codes "check"
 command_of (action.Create asked) = codes "create"
 command_of (action.Replay asked) = codes "replay"
@@ -143,11 +144,13 @@ command_of (action.Convert asked) = codes "convert"
 
 -- the texts and flags of this action are what is found in the arguments of its command
 abbrev pub FindsArguments : List Row → Action → Type 0
-FindsArguments rows (action.Root file) = IsText (codes "FILE") rows file
-FindsArguments rows (action.Show torrent) = IsText (codes "TORRENT") rows torrent
+FindsArguments rows (action.Root file json) =
+    IsText (codes "FILE") rows file × IsFlag (codes "json") rows json
+FindsArguments rows (action.Show torrent json) =
+    IsText (codes "TORRENT") rows torrent × IsFlag (codes "json") rows json
 FindsArguments rows (action.Check asked) =
     IsText (codes "TORRENT") rows asked.torrent × IsText (codes "DIR") rows asked.dir
-    × IsFlag (codes "quiet") rows asked.quiet
+    × IsFlag (codes "quiet") rows asked.quiet × IsFlag (codes "json") rows asked.json
 FindsArguments rows (action.Create asked) =
     IsText (codes "DIR") rows asked.dir × IsText (codes "OUT") rows asked.out
     × IsText (codes "name") rows asked.name
@@ -160,6 +163,7 @@ FindsArguments rows (action.Replay asked) =
     × IsFlag (codes "info-only") rows asked.info_only
     × IsTextIfThere (codes "seed") rows asked.seed
     × IsTextIfThere (codes "answers") rows asked.answers
+    × IsFlag (codes "json") rows asked.json
 
 -- the command of this name, with what is found in its arguments, is this action
 abbrev pub Asks : Text → List Row → Action → Type 0

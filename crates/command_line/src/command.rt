@@ -7,11 +7,15 @@ pub enum Action<'a> {
     Root {
         /// The file's path.
         file: &'a str,
+        /// Whether its lines are printed as JSON objects.
+        json: bool,
     },
     /// Print what a torrent holds.
     Show {
         /// The torrent file's path.
         torrent: &'a str,
+        /// Whether its lines are printed as JSON objects.
+        json: bool,
     },
     /// Check that a folder holds a torrent's files.
     Check(Check<'a>),
@@ -32,6 +36,8 @@ pub struct Check<'a> {
     pub dir: &'a str,
     /// Whether only what is not good is printed, and the verdict.
     pub quiet: bool,
+    /// Whether its lines are printed as JSON objects.
+    pub json: bool,
 }
 
 /// Of what a torrent is made, and how.
@@ -62,6 +68,8 @@ pub struct Replay<'a> {
     pub seed: Option<&'a str>,
     /// The path of the file that takes the answers, if they are wanted.
     pub answers: Option<&'a str>,
+    /// Whether its lines are printed as JSON objects.
+    pub json: bool,
 }
 
 /// What is converted.

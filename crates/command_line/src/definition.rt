@@ -6,9 +6,9 @@ ghost use Rattle.command_line.specs.CommandLine.{IsApp, IsArgument, IsLeaf, IsMa
 
 use crate::help::{
     ABOUT, ANSWERS_HELP, CHECK_ABOUT, CHECK_HELP, CONVERT_ABOUT, CONVERT_HELP, CREATE_ABOUT,
-    CREATE_HELP, EXAMPLES, HYBRID_HELP, INFO_ONLY_HELP, NAME_HELP, PIECE_LENGTH_HELP, QUIET_HELP,
-    REPLAY_ABOUT, REPLAY_HELP, ROOT_ABOUT, ROOT_HELP, SEED_HELP, SHOW_ABOUT, SHOW_HELP, STATUSES,
-    VERSION,
+    CREATE_HELP, EXAMPLES, HYBRID_HELP, INFO_ONLY_HELP, JSON_HELP, NAME_HELP, PIECE_LENGTH_HELP,
+    QUIET_HELP, REPLAY_ABOUT, REPLAY_HELP, ROOT_ABOUT, ROOT_HELP, SEED_HELP, SHOW_ABOUT, SHOW_HELP,
+    STATUSES, VERSION,
 };
 use clap::{Arg, ArgAction, Command, Error, value_parser};
 use std::alloc::Global;
@@ -35,14 +35,16 @@ fn root_command<'a>(alloc: Global) -> Result<Command<'a>, Error>
     ensures { IsMade (IsLeaf root_command) result }
 {
     let command = Ok(leaf(alloc, "root", ROOT_ABOUT, ROOT_HELP));
-    with_argument(command, needed(alloc, "FILE", "The file to hash"))
+    let command = with_argument(command, needed(alloc, "FILE", "The file to hash"));
+    with_argument(command, flag(alloc, "json", JSON_HELP))
 }
 
 fn show_command<'a>(alloc: Global) -> Result<Command<'a>, Error>
     ensures { IsMade (IsLeaf show_command) result }
 {
     let command = Ok(leaf(alloc, "show", SHOW_ABOUT, SHOW_HELP));
-    with_argument(command, needed(alloc, "TORRENT", "The torrent file"))
+    let command = with_argument(command, needed(alloc, "TORRENT", "The torrent file"));
+    with_argument(command, flag(alloc, "json", JSON_HELP))
 }
 
 fn check_command<'a>(alloc: Global) -> Result<Command<'a>, Error>
@@ -54,7 +56,8 @@ fn check_command<'a>(alloc: Global) -> Result<Command<'a>, Error>
         command,
         needed(alloc, "DIR", "The folder that holds the files"),
     );
-    with_argument(command, flag(alloc, "quiet", QUIET_HELP))
+    let command = with_argument(command, flag(alloc, "quiet", QUIET_HELP));
+    with_argument(command, flag(alloc, "json", JSON_HELP))
 }
 
 fn create_command<'a>(alloc: Global) -> Result<Command<'a>, Error>
@@ -88,7 +91,8 @@ fn replay_command<'a>(alloc: Global) -> Result<Command<'a>, Error>
     );
     let command = with_argument(command, flag(alloc, "info-only", INFO_ONLY_HELP));
     let command = with_argument(command, option(alloc, "seed", "DIR", SEED_HELP));
-    with_argument(command, option(alloc, "answers", "OUT", ANSWERS_HELP))
+    let command = with_argument(command, option(alloc, "answers", "OUT", ANSWERS_HELP));
+    with_argument(command, flag(alloc, "json", JSON_HELP))
 }
 
 fn convert_command<'a>(alloc: Global) -> Result<Command<'a>, Error>

@@ -36,7 +36,10 @@ fn root_of<'a>(found: &ArgMatches<'a>) -> Option<Action<'a>>
     ensures { IsActionOf (codes "root") (rows_of (found_of found.now)) result }
 {
     let file = text(found, "FILE")?;
-    Some(Action::Root { file })
+    Some(Action::Root {
+        file,
+        json: is_given(found, "json"),
+    })
 }
 
 // What the arguments after `show` ask for.
@@ -44,7 +47,10 @@ fn show_of<'a>(found: &ArgMatches<'a>) -> Option<Action<'a>>
     ensures { IsActionOf (codes "show") (rows_of (found_of found.now)) result }
 {
     let torrent = text(found, "TORRENT")?;
-    Some(Action::Show { torrent })
+    Some(Action::Show {
+        torrent,
+        json: is_given(found, "json"),
+    })
 }
 
 // What the arguments after `check` ask for.
@@ -57,6 +63,7 @@ fn check_of<'a>(found: &ArgMatches<'a>) -> Option<Action<'a>>
         torrent,
         dir,
         quiet: is_given(found, "quiet"),
+        json: is_given(found, "json"),
     }))
 }
 
@@ -98,6 +105,7 @@ fn replay_of<'a>(found: &ArgMatches<'a>) -> Option<Action<'a>>
         info_only: is_given(found, "info-only"),
         seed: text(found, "seed"),
         answers: text(found, "answers"),
+        json: is_given(found, "json"),
     }))
 }
 

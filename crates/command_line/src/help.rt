@@ -56,6 +56,8 @@ torrent's name adds no folder.";
 
 pub(crate) const QUIET_HELP: &str = "Print only what is not good, and the last line";
 
+pub(crate) const JSON_HELP: &str = "Print each line as a JSON object";
+
 pub(crate) const CREATE_ABOUT: &str = "Makes a torrent of all files in a folder";
 
 pub(crate) const CREATE_HELP: &str = "\

@@ -11,6 +11,7 @@ use command_line::command::{Action, Check, Convert, Create, Replay};
 use drafts::Draft;
 use filetree::Refusal;
 use folders::Lines;
+use json_lines::{CHECK, Form, REPLAY, ROOT, SHOW};
 use opening::Torrent;
 use printing::Fault;
 use progress::{Cleared, Counted, Progress};
@@ -21,8 +22,8 @@ use std::io::{self, BufWriter, IsTerminal, LineWriter, Printer};
 pub fn perform<'a>(rt: &HostRuntime, action: &Action<'a>) -> Result<u8, Fault<'a>> {
     let _placeholders = hold_closed_streams(rt)?;
     match action {
-        Action::Root { file } => root(rt, file),
-        Action::Show { torrent } => show(rt, torrent),
+        Action::Root { file, json } => root(rt, file, *json),
+        Action::Show { torrent, json } => show(rt, torrent, *json),
         Action::Check(asked) => check(rt, asked),
         Action::Replay(asked) => replay(rt, asked),
         Action::Create(asked) => create(rt, asked),
@@ -30,14 +31,19 @@ pub fn perform<'a>(rt: &HostRuntime, action: &Action<'a>) -> Result<u8, Fault<'a
     }
 }
 
-fn root<'a>(rt: &HostRuntime, path: &'a str) -> Result<u8, Fault<'a>> {
+fn root<'a>(rt: &HostRuntime, path: &'a str, json: bool) -> Result<u8, Fault<'a>> {
     let Ok(file) = File::open(rt, path) else {
         return Err(Fault::Read(path));
     };
     let progress = Progress::new(rt, length_of(&file));
     let mut source = Counted::new(FromRead::new(file), path, 0, &progress);
     let mut out = Cleared::new(FromWrite::new(io::writer(rt)), &progress);
-    outcomes::root(path, &mut source, &mut out)
+    if !json {
+        return outcomes::root(path, &mut source, &mut out);
+    }
+    let mut objects = json_lines::LineWriter::new(rt.alloc(), ROOT, out);
+    let status = outcomes::root(path, &mut source, &mut objects);
+    memory_first(status, &objects)
 }
 
 // The length of a regular file.
@@ -48,12 +54,33 @@ fn length_of(file: &File) -> Option<u64> {
     }
 }
 
-fn show<'a>(rt: &HostRuntime, path: &'a str) -> Result<u8, Fault<'a>> {
+fn show<'a>(rt: &HostRuntime, path: &'a str, json: bool) -> Result<u8, Fault<'a>> {
     let bytes = read_torrent(rt, path)?;
     let mut out = buffered_output(rt)?;
-    match open(rt, bytes.as_slice()) {
-        Ok(torrent) => outcomes::show(&torrent, &mut out),
-        Err(refusal) => outcomes::refuse(&refusal, &[], &mut out),
+    if !json {
+        return show_torrent(rt, bytes.as_slice(), &mut out);
+    }
+    let mut objects = json_lines::LineWriter::new(rt.alloc(), SHOW, out);
+    let status = show_torrent(rt, bytes.as_slice(), &mut objects);
+    memory_first(status, &objects)
+}
+
+fn show_torrent<'a, W: Sink>(rt: &HostRuntime, bytes: &[u8], out: &mut W) -> Result<u8, Fault<'a>> {
+    match open(rt, bytes) {
+        Ok(torrent) => outcomes::show(&torrent, out),
+        Err(refusal) => outcomes::refuse(&refusal, &[], out),
+    }
+}
+
+// Out of memory for a line or its object comes in place of the fault that the writer answered.
+fn memory_first<'a, W: Sink>(
+    status: Result<u8, Fault<'a>>,
+    objects: &json_lines::LineWriter<W>,
+) -> Result<u8, Fault<'a>> {
+    if objects.lacks_memory() {
+        Err(Fault::NoMemory)
+    } else {
+        status
     }
 }
 
@@ -71,33 +98,54 @@ fn check_torrent<'a, W: Sink + Drop>(
     rt: &HostRuntime,
     bytes: &[u8],
     asked: &Check<'a>,
-    mut out: W,
+    out: W,
 ) -> Result<u8, Fault<'a>> {
     match open(rt, bytes) {
-        Ok(torrent) => check_folder(rt, &torrent, asked, out),
-        Err(refusal) => outcomes::refuse(&refusal, &[], &mut out),
+        Ok(torrent) => {
+            let progress = Progress::new(rt, Some(all_bytes(&torrent)));
+            let mut out = Cleared::new(out, &progress);
+            if !asked.json {
+                return check_folder(rt, &torrent, asked, &progress, &mut out);
+            }
+            let mut objects = json_lines::LineWriter::new(rt.alloc(), CHECK, out);
+            let status = check_folder(rt, &torrent, asked, &progress, &mut objects);
+            memory_first(status, &objects)
+        }
+        Err(refusal) => refuse(rt, &refusal, asked.json, CHECK, out),
     }
 }
 
-fn check_folder<'a, W: Sink + Drop>(
+fn check_folder<'a, W: Sink>(
     rt: &HostRuntime,
     torrent: &Torrent<'_>,
     asked: &Check<'a>,
+    progress: &Progress,
+    out: &mut W,
+) -> Result<u8, Fault<'a>> {
+    let mut folder = Folder::with_torrent(rt, asked.dir, torrent, progress);
+    let lines = if asked.quiet {
+        Lines::NotGood
+    } else {
+        Lines::All
+    };
+    outcomes::check(rt.alloc(), torrent, &mut folder, lines, out)
+}
+
+// Prints the refusal of a torrent, as its line or as the object of that.
+fn refuse<'a, W: Sink + Drop>(
+    rt: &HostRuntime,
+    refusal: &Refusal,
+    json: bool,
+    forms: &'static [Form],
     out: W,
 ) -> Result<u8, Fault<'a>> {
-    let progress = Progress::new(rt, Some(all_bytes(torrent)));
-    let mut folder = Folder::with_torrent(rt, asked.dir, torrent, &progress);
-    outcomes::check(
-        rt.alloc(),
-        torrent,
-        &mut folder,
-        if asked.quiet {
-            Lines::NotGood
-        } else {
-            Lines::All
-        },
-        &mut Cleared::new(out, &progress),
-    )
+    let mut out = out;
+    if !json {
+        return outcomes::refuse(refusal, &[], &mut out);
+    }
+    let mut objects = json_lines::LineWriter::new(rt.alloc(), forms, out);
+    let status = outcomes::refuse(refusal, &[], &mut objects);
+    memory_first(status, &objects)
 }
 
 // How many bytes the files of a torrent have.
@@ -186,14 +234,19 @@ fn convert_to<'a, W: Sink>(
 // The torrent is read, and a refusal is printed, before the record is opened.
 fn replay<'a>(rt: &HostRuntime, asked: &Replay<'a>) -> Result<u8, Fault<'a>> {
     let bytes = read_torrent(rt, asked.torrent)?;
-    let mut out = FromWrite::new(io::writer(rt));
+    let out = FromWrite::new(io::writer(rt));
     match open(rt, bytes.as_slice()) {
         Ok(torrent) => {
             let progress = Progress::new(rt, Some(all_bytes(&torrent)));
             let mut out = Cleared::new(out, &progress);
-            replay_file(rt, &torrent, asked, &progress, &mut out)
+            if !asked.json {
+                return replay_file(rt, &torrent, asked, &progress, &mut out);
+            }
+            let mut objects = json_lines::LineWriter::new(rt.alloc(), REPLAY, out);
+            let status = replay_file(rt, &torrent, asked, &progress, &mut objects);
+            memory_first(status, &objects)
         }
-        Err(refusal) => outcomes::refuse(&refusal, &[], &mut out),
+        Err(refusal) => refuse(rt, &refusal, asked.json, REPLAY, out),
     }
 }
 

@@ -4,4 +4,5 @@ pub returns : goal.returns
 returns c =
     let one = c.with_argument-command.ensures _ _ c.leaf.ensures c.needed.ensures in
     let two = c.with_argument-command-2.ensures _ _ one c.needed-2.ensures in
-    c.with_argument.ensures _ _ two c.flag.ensures
+    let three = c.with_argument-command-3.ensures _ _ two c.flag.ensures in
+    c.with_argument.ensures _ _ three c.flag-2.ensures

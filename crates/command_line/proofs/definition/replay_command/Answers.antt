@@ -6,4 +6,5 @@ returns c =
     let two = c.with_argument-command-2.ensures _ _ one c.needed-2.ensures in
     let three = c.with_argument-command-3.ensures _ _ two c.flag.ensures in
     let four = c.with_argument-command-4.ensures _ _ three c.option.ensures in
-    c.with_argument.ensures _ _ four c.option-2.ensures
+    let five = c.with_argument-command-5.ensures _ _ four c.option-2.ensures in
+    c.with_argument.ensures _ _ five c.flag-2.ensures
