@@ -7,5 +7,5 @@ unfolding lines_of
 returns c =
     c.put-2.ensures.text
     ∙ ap (λ t. t ++ codes "\n") (c.put_frame.ensures.text
-    ∙ ap (λ t. t ++ frame_text c.args.report.now) (c.put.ensures.text
+    ∙ ap (λ t. t ++ frame_text c.args.frame.now) (c.put.ensures.text
     ∙ ap (λ t. t ++ codes " ") (c.put_number.ensures.text ∙ ap (λ t. t ++ decimal c.args.number) c.new-line.ensures)))
