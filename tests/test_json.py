@@ -1,0 +1,128 @@
+"""`--json` of `root`, `show`, `check` and `replay`: each object says what its line says."""
+import json
+import os
+import random
+import re
+
+import messages
+from poison import WRONG_SIZES
+from support import expect, folder, run, write
+from torrents import ABC, hybrid, torrent_of
+from trees import BLOCK, Tree, blocks_of, root_of
+
+REFUSED = [r"refused (?P<number>\d+) (?P<name>\w+)", r"refused (?P<number>\d+) (?P<name>NotBencode) (?P<fault>\w+) (?P<offset>\d+)",
+           r"refused (?P<number>\d+) (?P<name>Missing|WrongType) (?P<key>.*)"]
+
+# The lines of each command, and the facts in them. What stands before the first fact is the kind, if the line has no other.
+LINES = {
+    "root": [*REFUSED, r"(?P<length>\d+) -", r"(?P<length>\d+) (?P<root>[0-9a-f]{64})"],
+    "show": [*REFUSED, r"name: (?P<name>.*)", r"piece length: (?P<bytes>\d+)", r"info hash v[12]: (?P<hash>[0-9a-f]+)",
+             r"files: (?P<count>\d+)", r"(?P<length>\d+) - (?P<path>.*)", r"(?P<length>\d+) (?P<root>[0-9a-f]{64}) (?P<path>.*)"],
+    "check": [*REFUSED, r"(?:good|missing|unreadable|wrong length) (?P<path>.*)", r"bad (?P<piece>\d+) (?P<path>.*)", r"v1 good|v1 not checked",
+              r"v1 bad (?P<piece>\d+)", r"yes|no"],
+    "replay": [*REFUSED, r"(?P<frame>\d+) stored (?P<count>\d+)", r"(?P<frame>\d+) verified (?P<file>\d+) (?P<block>\d+)",
+               r"(?P<frame>\d+) refused (?P<code>[HP]\d) (?P<name>\w+)(?: (?P<file>\d+) (?P<block>\d+))?",
+               r"(?P<frame>\d+) (?:answered|rejected|reject noted|keep-alive|sent request|sent)", r"(?P<frame>\d+) skipped (?P<id>\d+)",
+               r"(?P<frame>\d+) bad frame (?P<id>\d+) (?P<length>\d+)", r"(?:not )?seeded (?P<path>.*)", r"fault (?P<name>\w+)", r"end"],
+}
+NUMBERS = {"length", "number", "offset", "bytes", "count", "piece", "frame", "file", "block", "id"}
+KIND = re.compile(r"not checked|not seeded|wrong length|reject noted|sent request|bad frame|keep-alive|piece length|info hash v[12]|v1 \w+|[a-z]+")
+
+
+def unescaped(text):
+    return re.sub(r"\\x([0-9a-f]{2})", lambda found: chr(int(found[1], 16)), text)
+
+
+def facts(command, line):
+    """What a line says, and its kind."""
+    for pattern in LINES[command]:
+        found = re.fullmatch(pattern, line)
+        if found:
+            said = {key: int(value) if key in NUMBERS else unescaped(value) for key, value in found.groupdict().items() if value is not None}
+            break
+    else:
+        raise AssertionError(f"no line of {command}: {line}")
+    if command == "root" and "length" in said:
+        return {"kind": "root", **said}
+    if command == "show" and "path" in said:
+        return {"kind": "file", **said}
+    words = line[len(str(said["frame"])) + 1:] if "frame" in said else line
+    kind = "v1 not checked" if words == "v1 not checked" else KIND.match(words)[0]
+    return {"kind": kind, **said}
+
+
+def agree(status, command, *arguments):
+    """The objects say what the lines say, and the status is the same."""
+    lines, objects = run(command, *arguments), run(command, *arguments, "--json")
+    assert (lines.returncode, objects.returncode) == (status, status), (lines, objects)
+    assert objects.stderr == lines.stderr
+    text = lines.stdout.decode()
+    said = [json.loads(line) for line in objects.stdout.decode().split("\n")[:-1]]
+    assert objects.stdout.endswith(b"\n") or not said
+    assert said == [facts(command, line) for line in text.split("\n")[:-1]], (text, objects.stdout)
+    return {one["kind"] for one in said}
+
+
+def test_root():
+    with folder() as place:
+        assert agree(0, "root", write(f"{place}/a", b"")) == {"root"}
+        agree(0, "root", write(f"{place}/b", bytes(100000)))
+        expect(run("root", "--json", f"{place}/none"), 2, "", f"fault: cannot read {place}/none\n")
+
+
+NAMES = ["plain", "with space", "line\nfeed", "back\\slash", "ünïcode", "quote\"", "tab\t", "\x7f", "d/e", "d/good x"]
+
+
+def test_show_and_check():
+    with folder() as place:
+        contents = [(name, random.Random(name).randbytes(1000 * at)) for at, name in enumerate(sorted(NAMES))]
+        torrent = write(f"{place}/t", torrent_of(contents, 16384))
+        agree(0, "show", torrent)
+        agree(0, "show", write(f"{place}/h", hybrid()))
+        for name, content in contents:
+            os.makedirs(os.path.dirname(f"{place}/all/{name}"), exist_ok=True)
+            write(f"{place}/all/{name}", content)
+        assert agree(0, "check", torrent, f"{place}/all") == {"good", "yes"}
+        write(f"{place}/all/{NAMES[2]}", b"other")
+        os.remove(f"{place}/all/{NAMES[3]}")
+        content = dict(contents)[NAMES[4]]
+        write(f"{place}/all/{NAMES[4]}", content[:-1] + bytes([content[-1] ^ 1]))
+        os.remove(f"{place}/all/{NAMES[5]}")
+        os.mkdir(f"{place}/all/{NAMES[5]}")
+        assert agree(1, "check", torrent, f"{place}/all") == {"good", "wrong length", "missing", "bad", "unreadable", "no"}
+        assert agree(1, "check", "--quiet", torrent, f"{place}/all") == {"wrong length", "missing", "bad", "unreadable", "no"}
+        assert agree(1, "check", f"{place}/h", f"{place}/all") == {"missing", "v1 not checked", "no"}
+        for text in (b"abc", b"", b"d4:info", b"de", b"d4:info0:e", b"d4:infod9:file treed1:a0:eee", ABC + b" "):
+            for command in (["show", write(f"{place}/w", text)], ["check", f"{place}/w", place]):
+                assert agree(1, *command) == {"refused"}, text
+
+
+def test_replay():
+    content = random.Random(3).randbytes(5 * BLOCK + 100)
+    tree, root = Tree.of(content), root_of(content)
+    blocks, leaves = blocks_of(content), tree.layers[0]
+    frames = [
+        messages.KEEP_ALIVE, messages.piece(0, 0, blocks[0]), messages.hashes(root, 0, 0, 8, 0, given=leaves),
+        messages.hashes(bytes(32), 0, 0, 8, 0, given=leaves), messages.piece(0, 0, blocks[0]), messages.piece(0, 0, blocks[1]),
+        messages.piece(0, 0, blocks[0] + blocks[2]), messages.piece(0, 0, blocks[0] + blocks[1]), messages.piece(9, 0, b"a"),
+        messages.request(root, 0, 0, 8, 0), messages.request(root, 0, 1, 8, 0), messages.frame(b"\x04" + bytes(4)),
+        *(messages.frame(bytes([kind]) + bytes(size - 1)) for kind, size in WRONG_SIZES[:3]),
+    ]
+    with folder() as place:
+        torrent = write(f"{place}/t", torrent_of([("a", content), ("b\n", b"b")], 2 * BLOCK))
+        write(f"{place}/a", content)
+        record = write(f"{place}/r", b"".join(frames))
+        kinds = agree(1, "replay", torrent, record, "--info-only")
+        assert kinds == {"keep-alive", "refused", "stored", "verified", "answered", "rejected", "skipped", "bad frame", "end"}, kinds
+        assert {"seeded", "not seeded"} <= agree(1, "replay", torrent, record, "--seed", place)
+        write(f"{place}/r", b"".join(frames)[:-1])
+        assert "fault" in agree(2, "replay", torrent, record)
+        expect(run("convert", write(f"{place}/one", b"".join(frames[:5])), f"{place}/two"), 0)
+        assert {"sent request"} <= agree(1, "replay", torrent, f"{place}/two", "--info-only")
+        agree(1, "replay", write(f"{place}/w", b"abc"), record)
+
+
+def test_full_disk():
+    with folder() as place, open("/dev/full", "wb") as full:
+        done = run("root", "--json", write(f"{place}/a", b"abc"), stdout=full)
+        expect(done, 2, None, "fault: cannot write -\n")
