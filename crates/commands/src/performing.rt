@@ -138,7 +138,9 @@ fn refuse<'a, W: Sink + Drop>(
     json: bool,
     forms: &'static [Form],
     out: W,
-) -> Result<u8, Fault<'a>> {
+) -> Result<u8, Fault<'a>>
+    requires { refusal.now ≢ Refusal.Write }
+{
     let mut out = out;
     if !json {
         return outcomes::refuse(refusal, &[], &mut out);
