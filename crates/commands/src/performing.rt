@@ -6,7 +6,7 @@ use crate::outcomes;
 use crate::output::create_output;
 use crate::streams::hold_closed_streams;
 use crate::torrent_file::read_torrent;
-use benc::{FromRead, FromWrite, Sink};
+use benc::{FromRead, FromWrite, Sink, Source};
 use command_line::command::{Action, Check, Convert, Create, Replay};
 use drafts::Draft;
 use filetree::Refusal;
@@ -37,12 +37,23 @@ fn root<'a>(rt: &HostRuntime, path: &'a str, json: bool) -> Result<u8, Fault<'a>
     };
     let progress = Progress::new(rt, length_of(&file));
     let mut source = Counted::new(FromRead::new(file), path, 0, &progress);
-    let mut out = Cleared::new(FromWrite::new(io::writer(rt)), &progress);
+    let out = Cleared::new(FromWrite::new(io::writer(rt)), &progress);
+    print_root(rt, path, &mut source, json, out)
+}
+
+fn print_root<'a, R: Source, W: Sink + Drop>(
+    rt: &HostRuntime,
+    path: &'a str,
+    source: &mut R,
+    json: bool,
+    out: W,
+) -> Result<u8, Fault<'a>> {
+    let mut out = out;
     if !json {
-        return outcomes::root(path, &mut source, &mut out);
+        return outcomes::root(path, source, &mut out);
     }
     let mut objects = json_lines::LineWriter::new(rt.alloc(), ROOT, out);
-    let status = outcomes::root(path, &mut source, &mut objects);
+    let status = outcomes::root(path, source, &mut objects);
     memory_first(status, &objects)
 }
 
@@ -103,16 +114,26 @@ fn check_torrent<'a, W: Sink + Drop>(
     match open(rt, bytes) {
         Ok(torrent) => {
             let progress = Progress::new(rt, Some(all_bytes(&torrent)));
-            let mut out = Cleared::new(out, &progress);
-            if !asked.json {
-                return check_folder(rt, &torrent, asked, &progress, &mut out);
-            }
-            let mut objects = json_lines::LineWriter::new(rt.alloc(), CHECK, out);
-            let status = check_folder(rt, &torrent, asked, &progress, &mut objects);
-            memory_first(status, &objects)
+            print_check(rt, &torrent, asked, &progress, Cleared::new(out, &progress))
         }
         Err(refusal) => refuse(rt, &refusal, asked.json, CHECK, out),
     }
+}
+
+fn print_check<'a, W: Sink + Drop>(
+    rt: &HostRuntime,
+    torrent: &Torrent<'_>,
+    asked: &Check<'a>,
+    progress: &Progress,
+    out: W,
+) -> Result<u8, Fault<'a>> {
+    let mut out = out;
+    if !asked.json {
+        return check_folder(rt, torrent, asked, progress, &mut out);
+    }
+    let mut objects = json_lines::LineWriter::new(rt.alloc(), CHECK, out);
+    let status = check_folder(rt, torrent, asked, progress, &mut objects);
+    memory_first(status, &objects)
 }
 
 fn check_folder<'a, W: Sink>(
@@ -240,16 +261,26 @@ fn replay<'a>(rt: &HostRuntime, asked: &Replay<'a>) -> Result<u8, Fault<'a>> {
     match open(rt, bytes.as_slice()) {
         Ok(torrent) => {
             let progress = Progress::new(rt, Some(all_bytes(&torrent)));
-            let mut out = Cleared::new(out, &progress);
-            if !asked.json {
-                return replay_file(rt, &torrent, asked, &progress, &mut out);
-            }
-            let mut objects = json_lines::LineWriter::new(rt.alloc(), REPLAY, out);
-            let status = replay_file(rt, &torrent, asked, &progress, &mut objects);
-            memory_first(status, &objects)
+            print_replay(rt, &torrent, asked, &progress, Cleared::new(out, &progress))
         }
         Err(refusal) => refuse(rt, &refusal, asked.json, REPLAY, out),
     }
+}
+
+fn print_replay<'a, W: Sink + Drop>(
+    rt: &HostRuntime,
+    torrent: &Torrent<'_>,
+    asked: &Replay<'a>,
+    progress: &Progress,
+    out: W,
+) -> Result<u8, Fault<'a>> {
+    let mut out = out;
+    if !asked.json {
+        return replay_file(rt, torrent, asked, progress, &mut out);
+    }
+    let mut objects = json_lines::LineWriter::new(rt.alloc(), REPLAY, out);
+    let status = replay_file(rt, torrent, asked, progress, &mut objects);
+    memory_first(status, &objects)
 }
 
 // The record is opened before the file of the answers, which is not touched if it fails. After that
