@@ -7,7 +7,7 @@ import re
 import messages
 from poison import WRONG_SIZES
 from support import expect, folder, run, write
-from torrents import ABC, hybrid, torrent_of
+from torrents import ABC, hybrid, torrent, torrent_of
 from trees import BLOCK, Tree, blocks_of, root_of
 
 REFUSED = [r"refused (?P<number>\d+) (?P<name>\w+)", r"refused (?P<number>\d+) (?P<name>NotBencode) (?P<fault>\w+) (?P<offset>\d+)",
@@ -70,27 +70,27 @@ def test_root():
         expect(run("root", "--json", f"{place}/none"), 2, "", f"fault: cannot read {place}/none\n")
 
 
-NAMES = ["plain", "with space", "line\nfeed", "back\\slash", "ünïcode", "quote\"", "tab\t", "\x7f", "d/e", "d/good x"]
+NAMES = ["plain", "with space", "line\nfeed", "back\\slash", "ünïcode", "quote\"", "tab\t", "\x7f", "good x", "1 2"]
 
 
 def test_show_and_check():
     with folder() as place:
         contents = [(name, random.Random(name).randbytes(1000 * at)) for at, name in enumerate(sorted(NAMES))]
-        torrent = write(f"{place}/t", torrent_of(contents, 16384))
-        agree(0, "show", torrent)
-        agree(0, "show", write(f"{place}/h", hybrid()))
+        path = write(f"{place}/t", torrent_of(contents, 16384))
+        agree(0, "show", path)
+        agree(0, "show", write(f"{place}/h", torrent(hybrid())))
         for name, content in contents:
             os.makedirs(os.path.dirname(f"{place}/all/{name}"), exist_ok=True)
             write(f"{place}/all/{name}", content)
-        assert agree(0, "check", torrent, f"{place}/all") == {"good", "yes"}
+        assert agree(0, "check", path, f"{place}/all") == {"good", "yes"}
         write(f"{place}/all/{NAMES[2]}", b"other")
         os.remove(f"{place}/all/{NAMES[3]}")
         content = dict(contents)[NAMES[4]]
         write(f"{place}/all/{NAMES[4]}", content[:-1] + bytes([content[-1] ^ 1]))
         os.remove(f"{place}/all/{NAMES[5]}")
         os.mkdir(f"{place}/all/{NAMES[5]}")
-        assert agree(1, "check", torrent, f"{place}/all") == {"good", "wrong length", "missing", "bad", "unreadable", "no"}
-        assert agree(1, "check", "--quiet", torrent, f"{place}/all") == {"wrong length", "missing", "bad", "unreadable", "no"}
+        assert agree(1, "check", path, f"{place}/all") == {"good", "wrong length", "missing", "bad", "unreadable", "no"}
+        assert agree(1, "check", "--quiet", path, f"{place}/all") == {"wrong length", "missing", "bad", "unreadable", "no"}
         assert agree(1, "check", f"{place}/h", f"{place}/all") == {"missing", "v1 not checked", "no"}
         for text in (b"abc", b"", b"d4:info", b"de", b"d4:info0:e", b"d4:infod9:file treed1:a0:eee", ABC + b" "):
             for command in (["show", write(f"{place}/w", text)], ["check", f"{place}/w", place]):
@@ -109,16 +109,16 @@ def test_replay():
         *(messages.frame(bytes([kind]) + bytes(size - 1)) for kind, size in WRONG_SIZES[:3]),
     ]
     with folder() as place:
-        torrent = write(f"{place}/t", torrent_of([("a", content), ("b\n", b"b")], 2 * BLOCK))
+        path = write(f"{place}/t", torrent_of([("a", content), ("b\n", b"b")], 2 * BLOCK))
         write(f"{place}/a", content)
         record = write(f"{place}/r", b"".join(frames))
-        kinds = agree(1, "replay", torrent, record, "--info-only")
+        kinds = agree(1, "replay", path, record, "--info-only")
         assert kinds == {"keep-alive", "refused", "stored", "verified", "answered", "rejected", "skipped", "bad frame", "end"}, kinds
-        assert {"seeded", "not seeded"} <= agree(1, "replay", torrent, record, "--seed", place)
+        assert {"seeded", "not seeded"} <= agree(1, "replay", path, record, "--seed", place)
         write(f"{place}/r", b"".join(frames)[:-1])
-        assert "fault" in agree(2, "replay", torrent, record)
+        assert "fault" in agree(2, "replay", path, record)
         expect(run("convert", write(f"{place}/one", b"".join(frames[:5])), f"{place}/two"), 0)
-        assert {"sent request"} <= agree(1, "replay", torrent, f"{place}/two", "--info-only")
+        assert {"sent request"} <= agree(1, "replay", path, f"{place}/two", "--info-only")
         agree(1, "replay", write(f"{place}/w", b"abc"), record)
 
 
