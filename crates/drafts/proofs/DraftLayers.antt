@@ -14,7 +14,7 @@ use Rattle.drafts.proofs.Accepted.{listed_at, rooted_file}
 use Rattle.drafts.specs.Outline.{AreOfLength, IsOutline, Outline, OutlineLayer, listed_file}
 use Rattle.drafts.specs.Written.{drafted_tree, hashes_under, pairs_of_layers}
 use Rattle.filetree.proofs.Bytes.{true_or_false, equal_bytes}
-use Rattle.filetree.proofs.Paths.{not_same}
+use Rattle.filetree.proofs.ComparedKeys.{not_same}
 use Rattle.filetree.specs.Dictionary.{under}
 use Rattle.filetree.specs.Tests.{NoneHolds}
 use Rattle.filetree.specs.declared.files.ListedFile.{ListedFile}

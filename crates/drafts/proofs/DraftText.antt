@@ -9,7 +9,7 @@ use Rattle.benc.specs.Spelling.{integer, string}
 use Rattle.benc.specs.Text.{items_spelling, pairs_spelling, spelling}
 use Rattle.benc.specs.Value.{Bencode, int, list, Pairs, no_pairs, pair}
 use Rattle.drafts.proofs.DraftLayers.{joined_length}
-use Rattle.drafts.proofs.DraftStream.{digests_in_all, digests_length}
+use Rattle.drafts.proofs.DraftDigests.{digests_in_all, digests_length}
 use Rattle.drafts.proofs.Keys.{files_key, length_key, pieces_key}
 use Rattle.drafts.proofs.Tidy.{legal_some}
 use Rattle.drafts.specs.DraftSeen.{Entries, outline_file, outline_layers}

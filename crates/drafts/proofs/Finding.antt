@@ -14,7 +14,7 @@ use Rattle.drafts.proofs.Ordering.{le_apart, rises}
 use Rattle.drafts.specs.DraftSeen.{outline_file}
 use Rattle.drafts.specs.Orders.{IsPlaceOf, Ties}
 use Rattle.drafts.specs.Outline.{OutlineFile}
-use Rattle.filetree.proofs.Paths.{order_at}
+use Rattle.filetree.proofs.PathOrder.{order_at}
 use Rattle.filetree.specs.Paths.{AreInOrder, path_cmp}
 use Rattle.drafts.specs.declared.draft.DraftFile.{DraftFile}
 

@@ -1,7 +1,7 @@
 -- What a draft keeps of its roots.
 use Rattle.std.proofs.Common.{◌≡◌, ◌≢◌, inl, inr, ℕ, zero, suc, ◌+◌, ◌<◌, Bool, true, false, cond, List, [], ◌∷◌, ◌++◌, map, take, drop, None, Some, refl, sym}
 use Rattle.std.proofs.Common.{ap, subst, ◌∙◌, arith}
-use Rattle.filetree.proofs.Paths.{is_equal}
+use Rattle.filetree.proofs.ComparedKeys.{is_equal}
 use Rattle.std.specs.Prelude.{nat_lt}
 use Rattle.std.specs.BTreeMap.{insert_entry, is_at}
 use Rattle.std.specs.Cmp.Lexicographic.{slice_cmp}
@@ -26,7 +26,8 @@ use Rattle.drafts.specs.Orders.{IsPlaceOf}
 use Rattle.drafts.specs.Outline.{Outline, OutlineFile, listed_file}
 use Rattle.drafts.specs.declared.draft.DraftFile.{DraftFile}
 use Rattle.drafts.specs.declared.draft.KeptRoot.{KeptRoot}
-use Rattle.drafts.proofs.Adding.{add_keeps, equal_or_not, new, pieces_put, put_back, put_here, put_kept, three}
+use Rattle.drafts.proofs.Adding.{add_keeps, equal_or_not}
+use Rattle.drafts.proofs.OneMore.{new, pieces_put, put_back, put_here, put_kept, three}
 use Rattle.drafts.proofs.Ordering.{put_in_order}
 
 -- ---- layers

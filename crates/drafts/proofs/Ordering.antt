@@ -11,7 +11,8 @@ use Rattle.std.specs.Ordering.{nat_cmp, is_ne, ordering_then, ordering_index, or
 use Rattle.std.specs.declared.cmp.Ordering.{Ordering}
 use Rattle.std.specs.declared.cmp.Ordering.TheVariants.{Less, Equal, Greater}
 use Rattle.drafts.specs.Orders.{IsPlaceOf}
-use Rattle.filetree.proofs.Paths.{cmp_equal, begins_ties, order_at}
+use Rattle.filetree.proofs.ComparedKeys.{cmp_equal}
+use Rattle.filetree.proofs.PathOrder.{begins_ties, order_at}
 use Rattle.filetree.specs.Paths.{AreInOrder, IsPrefix, path_cmp}
 use Rattle.chains.proofs.Cases.{both_equal}
 

@@ -10,7 +10,8 @@ use Rattle.std.specs.Int.{w64}
 use Rattle.benc.specs.Value.{Bencode, int, text, list, dict, Items, no_items, item, Pairs, no_pairs, pair}
 use Rattle.benc.specs.Spelling.{string, IsAbove}
 use Rattle.benc.specs.Text.{spelling, items_spelling, pairs_spelling, Fits, ItemsFit, PairsFit, IsCanonical}
-use Rattle.drafts.proofs.Building.{AreOutlineFiles, IsTidy, AreTidy, ArePairsTidy, above_less, built_tidy, file_tree_built, length_fits}
+use Rattle.drafts.proofs.Building.{AreOutlineFiles, above_less, built_tidy, file_tree_built, length_fits}
+use Rattle.drafts.proofs.BuiltTrees.{AreTidy, IsTidy, ArePairsTidy}
 use Rattle.drafts.specs.Outline.{Outline, OutlineFile, OutlineLayer, IsOutline}
 use Rattle.drafts.specs.Written.{file_tree_of, pairs_of_layers, entry_value, pad_value, texts_value, entries_value, gap, needs_pad, list_pair, last_pairs}
 use Rattle.drafts.specs.Written.{is_single, first_length, info_value, value_of}

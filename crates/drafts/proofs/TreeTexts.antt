@@ -16,7 +16,8 @@ use Rattle.benc.specs.Value.{Bencode, dict, Pairs, no_pairs, pair}
 use Rattle.drafts.specs.TreeText.{closed, opened, shared}
 use Rattle.drafts.specs.Written.{tree_of_walks, with_first}
 use Rattle.filetree.proofs.Bytes.{true_or_false, same_bytes}
-use Rattle.filetree.proofs.Paths.{cmp_same, paths_of}
+use Rattle.filetree.proofs.Paths.{paths_of}
+use Rattle.filetree.proofs.ComparedKeys.{cmp_same}
 use Rattle.filetree.specs.Dictionary.{pairs_in}
 use Rattle.filetree.specs.FileTree.{Walk}
 use Rattle.filetree.specs.Paths.{AreInOrder, path_cmp}

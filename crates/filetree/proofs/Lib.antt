@@ -1,8 +1,10 @@
 -- Lemmas on file trees.
 pub mod Ascending
 pub mod Bytes
+pub mod ComparedKeys
 pub mod Components
 pub mod Folders
+pub mod PathOrder
 pub mod Paths
 pub mod Rooms
 pub mod Safe

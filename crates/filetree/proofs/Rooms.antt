@@ -6,7 +6,7 @@ use Rattle.benc.specs.View.{pair_view, pairs_view}
 use Rattle.benc.specs.declared.value.Pair.{Pair}
 use Rattle.filetree.specs.FileTree.{is_directory, is_nil, is_node}
 use Rattle.filetree.specs.Walked.{HasGoodPaths, IsFolderAt, IsNodeBelow}
-use Rattle.filetree.proofs.Paths.{and_both, not_is}
+use Rattle.filetree.proofs.ComparedKeys.{and_both, not_is}
 use Rattle.filetree.proofs.Views.{pairs_next}
 
 -- the pairs of a folder from some pair on

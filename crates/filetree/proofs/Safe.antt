@@ -7,7 +7,8 @@ use Rattle.filetree.specs.FileTree.{HasBadPath, HasBadPathIn, Walk, below, is_di
 use Rattle.filetree.specs.Paths.{IsComponent, IsFilePath, LeadsToFile}
 use Rattle.filetree.proofs.Ascending.{under_fits}
 use Rattle.filetree.proofs.Bytes.{true_or_false}
-use Rattle.filetree.proofs.Paths.{Has, and_both, each_leads, has_at, has_below, has_split, not_is, or_one}
+use Rattle.filetree.proofs.Paths.{Has, each_leads, has_at, has_below, has_split}
+use Rattle.filetree.proofs.ComparedKeys.{and_both, not_is, or_one}
 
 -- ---- how long a path is
 

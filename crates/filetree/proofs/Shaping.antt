@@ -6,7 +6,7 @@ use Rattle.filetree.specs.Dictionary.{keys_in}
 use Rattle.filetree.specs.FileTree.{is_dict, is_directory, is_file, is_nil, is_node}
 use Rattle.filetree.specs.Shape.{HasFault, HasFile, HasOddComponent, HasOddFile, HoldsPair, HasSibling, IsMisshapen, LeadsToDirectory}
 use Rattle.filetree.proofs.Bytes.{true_or_false}
-use Rattle.filetree.proofs.Paths.{and_both, not_is, or_one}
+use Rattle.filetree.proofs.ComparedKeys.{and_both, not_is, or_one}
 
 abbrev Within : Pairs → Pairs → Type 0
 Within ps all = (k : List ℕ) (v : Bencode) → HoldsPair ps k v → HoldsPair all k v

@@ -4,7 +4,7 @@ use Rattle.std.proofs.lemmas.List.{map-append}
 use Rattle.benc.specs.Value.{Bencode, dict, Pairs, no_pairs, pair}
 use Rattle.benc.specs.View.{Seen, pair_view, pairs_view}
 use Rattle.benc.specs.declared.value.Pair.{Pair}
-use Rattle.filetree.proofs.Paths.{and_both}
+use Rattle.filetree.proofs.ComparedKeys.{and_both}
 use Rattle.filetree.specs.FileTree.{Walk, walks, below, is_dict, is_file, is_nil}
 use Rattle.filetree.specs.Walked.{behind, AddsBehind, HasBadPathAt, IsAsBad, walks_at, IsOnWay}
 

@@ -1,5 +1,5 @@
 -- Where the files of a version 1 list begin in the stream, entry by entry and by the whole list.
-use Rattle.std.proofs.Common.{zero-add, add-zero, zero-mul, inl, inr, ◌⊎◌, ◌≡◌, ℕ, zero, suc, ◌+◌, ◌*◌, ◌<◌, ◌≤◌, Bool, true, false, not, cond, ◌&&◌}
+use Rattle.std.proofs.Common.{zero-add, add-zero, zero-mul, inl, inr, ◌≡◌, ℕ, zero, suc, ◌+◌, ◌*◌, ◌<◌, ◌≤◌, Bool, true, false, not, cond, ◌&&◌}
 use Rattle.std.proofs.Common.{if◌then◌else◌, nat_eq, nat_lt, List, [], ◌∷◌, ◌++◌, length, take, drop, map, filter, Option, Some, None, refl, sym, ap, ◌∙◌}
 use Rattle.std.proofs.Common.{subst, arith, slice_get, sum_by}
 use Rattle.std.proofs.Math.Nat.{add-mul}

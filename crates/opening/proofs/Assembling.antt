@@ -26,7 +26,8 @@ use Rattle.pieces.proofs.Legal.{legal_bounds}
 use Rattle.filetree.specs.declared.refusal.Refusal.{Refusal}
 use Rattle.opening.proofs.InStream.{sum_named}
 use Rattle.opening.proofs.Listing.{are_files, named_entries}
-use Rattle.opening.proofs.Sounding.{IsSized, all_sized}
+use Rattle.opening.proofs.SoundTrees.{IsSized}
+use Rattle.opening.proofs.SoundTrees.{all_sized}
 use Rattle.filetree.proofs.Tables.{first_behind, first_front, none_both}
 
 -- what was read of a value up to its files

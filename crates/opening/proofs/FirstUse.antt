@@ -1,5 +1,5 @@
 -- The trees of a torrent are the roots of its files in the order of first use.
-use Rattle.std.proofs.Common.{◌≡◌, ◌≢◌, ◌⊎◌, ℕ, zero, suc, ◌+◌, ◌<◌, ◌≤◌, List, [], ◌∷◌, ◌++◌, length, map, Option, Some, None, inl, inr, refl, sym, ap, subst}
+use Rattle.std.proofs.Common.{◌≡◌, ℕ, zero, suc, ◌+◌, ◌<◌, List, [], ◌∷◌, ◌++◌, length, map, Option, Some, None, inl, inr, refl, sym, ap, subst}
 use Rattle.std.proofs.Common.{◌∙◌, add-zero, zero-add, arith, slice_get}
 use Rattle.std.specs.Prelude.{fold, option_and_then}
 use Rattle.std.specs.List.{list_any}
@@ -10,7 +10,6 @@ use Rattle.filetree.specs.FileTree.{Walk, lacks_root}
 use Rattle.filetree.specs.declared.files.ListedFile.{ListedFile}
 use Rattle.filetree.proofs.Bytes.{false_or_true}
 use Rattle.opening.specs.Description.{Description, TreeEntry}
-use Rattle.opening.specs.Describes.{Describes}
 use Rattle.opening.specs.FirstUse.{AreTreesOf, HasNoTree, HasTreeOf, IsFirstUsed, IsUsedBefore}
 use Rattle.opening.specs.Laws.{TreesAreRoots}
 use Rattle.opening.specs.PieceLayers.{tree_at}
@@ -19,7 +18,9 @@ use Rattle.opening.specs.Trees.{AreFiles, IsIn, IsReused, entry_at, place_in, ro
 use Rattle.opening.specs.declared.roots.Root.{Root}
 use Rattle.chains.proofs.Cases.{last_or_before}
 use Rattle.opening.proofs.Rooting.{place_at, place_push_new, place_push_there, some_or_none}
-use Rattle.opening.proofs.Sounding.{IsSized, all_sized, push_at, roots_differ, tree_of, tree_there}
+use Rattle.opening.proofs.Sounding.{tree_of}
+use Rattle.opening.proofs.SoundTrees.{IsSized}
+use Rattle.opening.proofs.SoundTrees.{all_sized, push_at, roots_differ, tree_there}
 
 -- ---- the roots of the files so far
 

@@ -1,12 +1,12 @@
 -- Lemmas on torrents.
-pub mod Deciding
-pub mod FirstUse
-pub mod Growing
 pub mod Aligned
 pub mod Answering
 pub mod Assembling
 pub mod Blocks
+pub mod Deciding
 pub mod Entries
+pub mod FirstUse
+pub mod Growing
 pub mod Hybrids
 pub mod InStream
 pub mod Keys
@@ -15,6 +15,7 @@ pub mod Listing
 pub mod Placing
 pub mod Rooting
 pub mod Searching
+pub mod SoundTrees
 pub mod Sounding
 pub mod Streams
 pub mod Telling

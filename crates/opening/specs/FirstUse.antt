@@ -1,6 +1,6 @@
 -- Which trees a torrent has, in the words of the standard (BEP 52, "pieces root"): the distinct
 -- roots of its files that are not empty, in the order of first use.
-use Rattle.std.specs.Prelude.{◌≡◌, ◌≢◌, ℕ, ◌<◌, List, None, Some, slice_get}
+use Rattle.std.specs.Prelude.{◌≡◌, ℕ, ◌<◌, List, None, Some, slice_get}
 use Rattle.filetree.specs.declared.files.ListedFile.{ListedFile}
 use Rattle.opening.specs.Description.{Description, FileEntry, TreeEntry}
 

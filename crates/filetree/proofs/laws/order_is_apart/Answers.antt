@@ -1,4 +1,4 @@
-use Rattle.filetree.proofs.Paths.{order_is_apart}
+use Rattle.filetree.proofs.PathOrder.{order_is_apart}
 use Rattle.filetree.proofs.laws.order_is_apart.Goals as goal
 
 pub returns : goal.returns
