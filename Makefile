@@ -1,4 +1,6 @@
-# make                 proves every crate that the program needs, says how far it is, and builds build/btcheck
+# make                 proves every crate that the program needs, says how far it is, and builds build/btcheck for the
+#                      processor of this machine: x86-64-v3 where it has AVX2, else x86-64-v2
+# make CPU=x86-64-v2   builds for that kind of processor, over the same proofs; a program says so on a lesser one
 # make check           runs what the merge gate runs: proofs, must-fail edits, all tests
 # make test            runs the built program on real files
 # make bench           measures the commands and what they stand on, compared with the digests alone
@@ -7,16 +9,21 @@
 #                      `tools/record` below PREFIX (and DESTDIR); and the library, if `make lib` made it
 # make uninstall       removes them
 # make static          links what was proved with a static C library: build/static/btcheck, one file that needs no
-#                      library
+#                      library, for any machine (x86-64-v2)
+# make both            links it for both kinds: build/both/btcheck, one file that needs no library and picks by the
+#                      processor that it runs on
 # make dist            packs that program with all that `make install` puts beside it, and a list of SHA-256 digests
-# make deb             packs the same as a Debian package: build/deb/btcheck_VERSION_amd64.deb (by dpkg-deb)
+# make deb             packs the same as a Debian package: build/deb/btcheck_VERSION_amd64.deb (by dpkg-deb), and the
+#                      library as two more, if `make lib` made it
 # make clean           removes all that was built, kept proofs too
-# make CPU=x86-64-v3   builds for a newer processor (after make clean)
 
 RT ?= rt
 PREFIX ?= /usr/local
+
+# The kind of processor to build for. (A library does not ask for its processor, as a program does when it starts, so
+# that one is for any machine where CPU= says nothing.)
 CPU ?=
-export CPU
+KIND := $(or $(CPU),$(shell tools/processor))
 
 SOURCES := crates.txt $(shell find crates -name out -prune -o -type f -print)
 
@@ -29,16 +36,29 @@ endef
 
 all: build/btcheck
 
-build/btcheck: $(SOURCES)
+build/btcheck: build/$(KIND)/btcheck build/kind
+	install -m 755 $< $@
+
+# Which one build/btcheck is: written anew where that changes.
+build/kind: FORCE
+	@mkdir -p build
+	@echo $(KIND) | cmp -s - $@ || echo $(KIND) > $@
+
+# The program for one kind of processor, and its object. The proofs are the same for each: only the code is made anew.
+# On a lesser machine the program says so and ends with 127.
+build/x86-64-%/btcheck build/x86-64-%/btcheck.o: $(SOURCES)
 	$(need_toolchain)
+	@echo "btcheck for x86-64-$*"
 	@RT="$(RT)" tools/prove btcheck
-	cd crates/btcheck && $(RT) run $(if $(CPU),--cpu=$(CPU)) -- root /dev/null
-	install -D -m 755 crates/btcheck/out/btcheck $@
+	rm -f crates/btcheck/out/btcheck crates/btcheck/out/btcheck.o
+	cd crates/btcheck && $(RT) run --cpu=x86-64-$* -- root /dev/null || [ $$? -eq 127 ]
+	install -D -m 755 crates/btcheck/out/btcheck build/x86-64-$*/btcheck
+	install -m 644 crates/btcheck/out/btcheck.o build/x86-64-$*/btcheck.o
 
 # Programs for the tests alone: they make the libraries' calls with memory refused, and over devices that fail.
 build/memory_tests build/device_tests: $(SOURCES)
 	$(need_toolchain)
-	cd crates/$(@F) && $(RT) run $(if $(CPU),--cpu=$(CPU))
+	cd crates/$(@F) && $(RT) run --cpu=$(KIND)
 	install -D -m 755 crates/$(@F)/out/$(@F) $@
 
 check:
@@ -49,7 +69,7 @@ test: build/btcheck build/memory_tests build/device_tests
 	tests/run
 
 bench: build/btcheck
-	bench/run
+	CPU=$(KIND) bench/run
 
 # Where each file is installed: BELOW is DESTDIR and PREFIX, which may have spaces.
 BELOW = "$(DESTDIR)$(PREFIX)
@@ -64,7 +84,7 @@ RELAY = $(BELOW)/share/doc/btcheck/tools/record"
 # The program that is installed.
 BUILT := build/btcheck
 
-install: build/btcheck
+install: $(BUILT)
 	install -D -m 755 $(BUILT) $(PROGRAM)
 	install -D -m 644 man/btcheck.1 $(MANUAL)
 	install -D -m 644 completions/btcheck.bash $(FOR_BASH)
@@ -80,23 +100,35 @@ uninstall:
 
 # The kit's archives of C code, which a program is linked with.
 KIT_C = $(dir $(realpath $(shell command -v $(RT))))../c
-OBJECT := crates/btcheck/out/btcheck.o
+STATIC = $(CC) -O2 -static-pie -o $@ $^ $(KIT_C)/libos_c.a $(KIT_C)/liblibc_c.a
 
 static: build/static/btcheck
 
-build/static/btcheck: build/btcheck
+build/static/btcheck: build/x86-64-v2/btcheck.o
 	$(need_toolchain)
-	@test -e $(OBJECT) || { echo "$(OBJECT) is missing: remove build/btcheck and run make" >&2; exit 1; }
-	mkdir -p build/static
-	$(CC) -static-pie -o $@ $(OBJECT) $(KIT_C)/libos_c.a $(KIT_C)/liblibc_c.a
+	mkdir -p $(@D)
+	$(STATIC)
+
+both: build/both/btcheck
+
+# An object whose `main` has a name of its own; no other name leaves it.
+build/both/%.o: build/x86-64-%/btcheck.o
+	mkdir -p $(@D)
+	objcopy --redefine-sym main=btcheck_$* --keep-global-symbol=btcheck_$* $< $@
+
+.PRECIOUS: build/x86-64-%/btcheck build/x86-64-%/btcheck.o
+
+build/both/btcheck: packaging/picker.c build/both/v2.o build/both/v3.o
+	$(need_toolchain)
+	$(STATIC)
 
 # The same bytes for the same program and files, whenever and wherever it is packed.
-RELEASE = btcheck-$(word 2,$(shell build/static/btcheck --version))-linux-x86_64
+RELEASE = btcheck-$(word 2,$(shell build/both/btcheck --version))-linux-x86_64
 PACKED = build/dist/$(RELEASE)
 
-dist: build/static/btcheck
+dist: build/both/btcheck
 	rm -rf build/dist
-	$(MAKE) -s -o build/btcheck install BUILT=build/static/btcheck DESTDIR=build/dist/tree PREFIX=
+	$(MAKE) -s install BUILT=$< DESTDIR=build/dist/tree PREFIX=
 	cd build/dist/tree && find . ! -type d | LC_ALL=C sort | xargs sha256sum > ../SHA256SUMS && mv ../SHA256SUMS .
 	mv build/dist/tree $(PACKED)
 	tar --sort=name --owner=0 --group=0 --numeric-owner --mode=go=rX --mtime=@0 \
@@ -104,12 +136,14 @@ dist: build/static/btcheck
 	gzip -9n $(PACKED).tar
 	sha256sum $(PACKED).tar.gz
 
-deb: build/static/btcheck
-	packaging/deb build/static/btcheck build/deb
+deb: build/both/btcheck
+	packaging/deb $< build/deb
 
 include library.mk
 
 clean:
 	rm -rf build crates/*/out
 
-.PHONY: all check test bench install uninstall static dist deb clean
+FORCE:
+
+.PHONY: all check test bench install uninstall static both dist deb clean FORCE

@@ -10,7 +10,7 @@ lib: $(LIB)/libbtcheck.a $(LIB)/libbtcheck.so.0
 $(ARCHIVE): $(SOURCES)
 	$(need_toolchain)
 	@RT="$(RT)" tools/prove btcheck_c
-	cd crates/btcheck_c && $(RT) lib
+	cd crates/btcheck_c && $(RT) lib $(if $(CPU),--cpu=$(CPU))
 	touch $@
 
 # One object with the kit's C code inside. Only the names of the header leave it, so that it stands in the way of no

@@ -10,9 +10,11 @@ import time
 
 TOP = os.path.dirname(os.path.dirname(os.path.abspath(__file__)))
 BTCHECK = os.path.join(TOP, "build", "btcheck")
-BARE = os.path.join(TOP, "build", "bare")
-READERS = os.path.join(TOP, "build", "readers")
-SESSIONS = os.path.join(TOP, "build", "sessions")
+# The kind of processor to build for: as CPU says, or what `make` takes.
+CPU = os.environ.get("CPU") or subprocess.check_output([os.path.join(TOP, "tools", "processor")], text=True).strip()
+BARE = os.path.join(TOP, "build", CPU, "bare")
+READERS = os.path.join(TOP, "build", CPU, "readers")
+SESSIONS = os.path.join(TOP, "build", CPU, "sessions")
 BLOCK = 16384
 
 
@@ -28,25 +30,25 @@ def sources(text, crates):
 def crates_below(uses):
     """The lines of crates.txt of these crates and of all of the repository's that they stand on, by name."""
     with open(os.path.join(TOP, "crates.txt"), encoding="ascii") as file:
-        lines = dict(line.split("#")[0].strip().split(":", 1) for line in file if ":" in line.split("#")[0])
+        lines = [line.split("#")[0].strip() for line in file]
+    lines = {line.partition(":")[0].split()[0]: line for line in lines if ":" in line}
     below, left = {}, list(uses)
     while left:
         name = left.pop()
         if name in lines and name not in below:
-            below[name] = f"{name}:{lines[name]}"
-            left += lines[name].split()
+            below[name] = lines[name]
+            left += lines[name].partition(":")[2].split()
     return below
 
 
 def build(program, uses, words=("read", "/dev/null", "1")):
     """Builds a program of this folder over these crates, where it is not there or older than what it is made of, for
-    the CPU of the Makefile, and runs it once on these words. It takes along what is already proved of the repository's
+    the kind of processor that is named, and runs it once on these words. It takes along what is already proved of the repository's
     crates."""
     name, crates = os.path.basename(program), crates_below(uses)
     text = os.path.join(TOP, "bench", f"{name}.txt")
     if os.path.exists(program) and os.path.getmtime(program) > max(map(os.path.getmtime, sources(text, crates))):
         return
-    cpu = [f"--cpu={os.environ['CPU']}"] if os.environ.get("CPU") else []
     with tempfile.TemporaryDirectory(prefix=f"btcheck-{name}-") as folder:
         for crate in crates:
             shutil.copytree(os.path.join(TOP, "crates", crate), os.path.join(folder, "crates", crate),
@@ -56,7 +58,7 @@ def build(program, uses, words=("read", "/dev/null", "1")):
         shutil.copyfile(text, os.path.join(own, "src", "main.rt"))
         with open(os.path.join(folder, "crates.txt"), "w", encoding="ascii") as file:
             file.write("".join(f"{line}\n" for line in [*crates.values(), f"{name}: {' '.join(uses)}"]))
-        subprocess.run([os.environ.get("RT", "rt"), "run", *cpu, "--", *words], cwd=own, check=True,
+        subprocess.run([os.environ.get("RT", "rt"), "run", f"--cpu={CPU}", "--", *words], cwd=own, check=True,
                        stdout=subprocess.DEVNULL)
         os.makedirs(os.path.dirname(program), exist_ok=True)
         shutil.copy(os.path.join(own, "out", name), program)

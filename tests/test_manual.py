@@ -325,7 +325,8 @@ def installed():
 def test_install_and_uninstall():
     with folder() as place:
         def make(target):
-            arguments = [f"DESTDIR={place}/there", "PREFIX=/usr/a b"]
+            # (without the C library, whether it was made or not)
+            arguments = [f"DESTDIR={place}/there", "PREFIX=/usr/a b", "LIB=none"]
             subprocess.run(["make", "-s", "-o", "build/btcheck", target, *arguments], cwd=TOP, check=True)
         make("install")
         below = f"{place}/there/usr/a b"

@@ -1,14 +1,20 @@
-"""The program with a static C library, and the archive that holds it."""
+"""The programs for each kind of processor, with a static C library, and what packs them."""
 import glob
 import os
 import re
 import shutil
 import subprocess
 
-from support import TOP, LeftOut, folder, need, write
+from support import BTCHECK, TOP, LeftOut, expect, folder, need, run, write, written
 from trees import root_line
 
-OBJECT = f"{TOP}/crates/btcheck/out/btcheck.o"
+KINDS = ["x86-64-v2", "x86-64-v3"]
+OBJECTS = [f"build/{kind}/btcheck.o" for kind in KINDS]
+STATIC, BOTH = f"{TOP}/build/static/btcheck", f"{TOP}/build/both/btcheck"
+
+# How a test hides a feature of the processor from a program: a setting of glibc.
+HIDDEN = "GLIBC_TUNABLES"
+LESSER = {HIDDEN: "glibc.cpu.hwcaps=-AVX2"}
 
 # What is installed beside the program, the manual and the completions.
 DOCUMENTS = ["README.md", "CHANGELOG.md", "LICENSE-MIT", "LICENSE-APACHE", "docs/RECORDING.md", "examples/pair.torrent",
@@ -16,22 +22,131 @@ DOCUMENTS = ["README.md", "CHANGELOG.md", "LICENSE-MIT", "LICENSE-APACHE", "docs
 
 
 def make(target):
-    """Makes this target. It needs the kit, and the object that `make` leaves."""
-    if not (shutil.which("rt") and os.path.exists(OBJECT)):
-        raise LeftOut(f"there is no kit here, or no {os.path.relpath(OBJECT, TOP)}")
-    subprocess.run(["make", "-s", "-o", "build/btcheck", target], cwd=TOP, check=True, stdout=subprocess.DEVNULL)
+    """Makes this target. It needs the kit, and the objects that `make` and `make both` leave."""
+    lacking = [it for it in OBJECTS if not os.path.exists(f"{TOP}/{it}")]
+    if lacking or not shutil.which("rt"):
+        raise LeftOut(f"there is no kit here, or no {' '.join(lacking)}")
+    kept = [word for it in [*OBJECTS, "build/btcheck"] for word in ("-o", it)]
+    subprocess.run(["make", "-s", *kept, target], cwd=TOP, check=True, stdout=subprocess.DEVNULL)
+
+
+def machine():
+    """The kind of processor that is here."""
+    return subprocess.run([f"{TOP}/tools/processor"], check=True, stdout=subprocess.PIPE, text=True).stdout.strip()
 
 
 def test_static():
     """It asks for no library, and runs with nothing else there."""
     make("static")
-    program = f"{TOP}/build/static/btcheck"
-    with open(program, "rb") as file:
-        assert b"/ld-linux" not in file.read()
+    assert b"/ld-linux" not in written(STATIC)
     with folder() as place:
         path = write(f"{place}/content", bytes(40000))
-        done = subprocess.run([program, "root", path], env={}, cwd="/", stdout=subprocess.PIPE, check=True)
-        assert done.stdout.decode() == root_line(bytes(40000))
+        expect(run("root", path, program=STATIC, env={}, cwd="/"), 0, root_line(bytes(40000)))
+
+
+def picker(place):
+    """The start of the program that packs both, with two programs that say which they are in their place."""
+    for number in (2, 3):
+        write(f"{place}/v{number}.c", b'#include <stdio.h>\nint btcheck_v%d(void) { puts("v%d"); return %d; }' % ((number,) * 3))
+    program = f"{place}/picker"
+    subprocess.run(["gcc", "-Wall", "-Wextra", "-Werror", "-static", f"{TOP}/packaging/picker.c", f"{place}/v2.c", f"{place}/v3.c",
+                    "-o", program], check=True)
+    return program
+
+
+def test_picker():
+    """It takes the program for x86-64-v3 where all of that is there, and the other one where any of it is not; and it
+    passes the status on."""
+    need("gcc")
+    with folder() as place:
+        program = picker(place)
+        if machine() == "x86-64-v3":
+            expect(run(program=program, env={}), 3, "v3\n")
+        expect(run(program=program, env=LESSER), 2, "v2\n")
+        need("qemu-x86_64")
+        without = [f"max,-{feature}" for feature in ("avx", "avx2", "bmi1", "bmi2", "f16c", "fma", "abm", "movbe")]
+        for processor, number in [("max", 3), ("Nehalem", 2), ("SandyBridge", 2), *((it, 2) for it in without)]:
+            expect(run("-cpu", processor, program, program="qemu-x86_64"), number, f"v{number}\n", None)
+
+
+def test_processor():
+    """`make` builds for x86-64-v3 exactly where the processor has AVX2; CPU= decides otherwise."""
+    with open("/proc/cpuinfo", encoding="utf-8") as file:
+        flags = next((line.split() for line in file if line.startswith("flags")), [])
+    assert (machine() == "x86-64-v3") == ("avx2" in flags and "bmi2" in flags and "movbe" in flags)
+    need("make")
+    for words, env, kind in [([], {}, machine()), ([], LESSER, "x86-64-v2"), (["CPU=x86-64-v3"], LESSER, "x86-64-v3"),
+                             (["CPU=x86-64-v2"], {}, "x86-64-v2"), (["CPU="], {}, machine())]:
+        told = subprocess.run(["make", "-n", *words, "build/kind"], cwd=TOP, env={**os.environ, "CPU": "", **env}, check=True,
+                              stdout=subprocess.PIPE, text=True).stdout
+        assert f"echo {kind} " in told, (words, env, told)
+
+
+# Calls of the program over the examples; OUT is a file that the call writes.
+CALLS = [
+    ["--version"], ["--help"], ["root", "abc.txt"], ["root", "pair/a"], ["root", "nothing"], ["show", "pair.torrent"],
+    ["show", "--json", "pair.torrent"], ["show", "abc.txt"], ["check", "pair.torrent", "pair"], ["check", "pair.torrent", "."],
+    ["check", "--json", "pair.torrent", "pair"], ["replay", "abc.torrent", "abc.record"], ["convert", "abc.record", "OUT"],
+    ["create", "pair", "OUT", "--name", "pair", "--piece-length", "32768", "--hybrid"],
+    ["replay", "--info-only", "abc.torrent", "abc.record", "--answers", "OUT"],
+]
+
+
+def outcomes(program, place, env):
+    """What a program prints and writes in each of the calls."""
+    for number, words in enumerate(CALLS):
+        out = f"{place}/{number}"
+        done = run(*[out if word == "OUT" else word for word in words], program=program, env=env, cwd=f"{TOP}/examples")
+        yield words, done.returncode, done.stdout, done.stderr.replace(place.encode(), b""), "OUT" in words and written(out)
+
+
+def large(program, env):
+    """The root of more bytes than eight blocks, which eight blocks at a time are hashed of."""
+    return run("root", "/dev/stdin", program=program, env=env, input=bytes(range(256)) * 5000 + b"end")
+
+
+def test_both():
+    """The program that picks does what each of the two does, to the byte, and is no larger than the two."""
+    make("both")
+    ways = [(BTCHECK, {}), (BOTH, LESSER), (BOTH, {})]
+    if machine() == "x86-64-v3":
+        ways.append((f"{TOP}/build/x86-64-v3/btcheck", {}))
+    with folder() as place:
+        seen = []
+        for number, (program, env) in enumerate(ways):
+            os.mkdir(f"{place}/{number}")
+            seen.append(list(outcomes(program, f"{place}/{number}", env)))
+            expect(large(program, env), 0, root_line(bytes(range(256)) * 5000 + b"end"))
+        for other in seen[1:]:
+            for one, two in zip(seen[0], other):
+                assert one == two, (one, two)
+    assert b"/ld-linux" not in written(BOTH)
+    sizes = {it: os.path.getsize(it) for it in [STATIC, BOTH, *[f"{TOP}/{it}" for it in OBJECTS]] if os.path.exists(it)}
+    objects = sum(os.path.getsize(f"{TOP}/{it}") for it in OBJECTS)
+    assert sizes[BOTH] < 2_000_000 + objects, sizes
+    print("bytes:", ", ".join(f"{os.path.relpath(it, TOP)} {size}" for it, size in sizes.items()))
+
+
+# What a program says on a processor that lacks something.
+LACKS = "this machine lacks a feature of {}, which this program was built for"
+
+
+def refuses(done, kind):
+    assert done.returncode == 127 and done.stdout == b"" and LACKS.format(kind).encode() in done.stderr, (kind, done)
+
+
+def test_lesser_processors():
+    """A program for a better processor says so; the one that packs both runs on both kinds."""
+    make("both")
+    better = f"{TOP}/build/x86-64-v3/btcheck"
+    refuses(run("root", "/dev/null", program=better, env=LESSER), "x86-64-v3")
+    need("qemu-x86_64")
+    for processor in ("Nehalem", "SandyBridge"):
+        done = run("-cpu", processor, better, "root", "/dev/null", program="qemu-x86_64")
+        refuses(done, "x86-64-v3")
+    for processor in ("Nehalem", "SandyBridge", "max"):
+        expect(run("-cpu", processor, BOTH, "root", "/dev/null", program="qemu-x86_64"), 0, "0 -\n", None)
+    refuses(run("-cpu", "core2duo", BOTH, "root", "/dev/null", program="qemu-x86_64"), "x86-64-v2")
 
 
 def test_dist():
@@ -40,8 +155,7 @@ def test_dist():
     [archive] = glob.glob(f"{TOP}/build/dist/*.tar.gz")
     name = os.path.basename(archive).removesuffix(".tar.gz")
     assert re.fullmatch(r"btcheck-[0-9.]+-linux-x86_64", name), name
-    with open(archive, "rb") as file:
-        first = file.read()
+    first = written(archive)
     with folder() as place:
         subprocess.run(["tar", "-xzf", archive], cwd=place, check=True)
         below = f"{place}/{name}"
@@ -51,12 +165,11 @@ def test_dist():
         assert there - listed == {"./SHA256SUMS"} and listed < there, there ^ listed
         documents = {f"./share/doc/btcheck/{file}" for file in DOCUMENTS}
         assert documents | {"./bin/btcheck", "./share/man/man1/btcheck.1"} < listed, listed
-        done = subprocess.run([f"{below}/bin/btcheck", "root", "/dev/null"], stdout=subprocess.PIPE, check=True)
-        assert done.stdout == b"0 -\n"
+        for env in ({}, LESSER):
+            expect(run("root", "/dev/null", program=f"{below}/bin/btcheck", env=env), 0, "0 -\n")
         subprocess.run([f"{below}/share/doc/btcheck/tools/record", "--help"], stdout=subprocess.DEVNULL, check=True)
     make("dist")
-    with open(archive, "rb") as file:
-        assert file.read() == first
+    assert written(archive) == first
 
 
 def installed(package, place):
@@ -70,27 +183,61 @@ def installed(package, place):
     subprocess.run(["dpkg", f"--root={place}", "--log=/dev/null", "-i", package], check=True, stdout=subprocess.DEVNULL)
 
 
+def packages():
+    """Each Debian package that is there, by its name, and its bytes."""
+    return {os.path.basename(path).partition("_")[0]: written(path) for path in glob.glob(f"{TOP}/build/deb/*.deb")}
+
+
+def path_of(package):
+    [path] = glob.glob(f"{TOP}/build/deb/{package}_*.deb")
+    return path
+
+
+def files_of(package, place):
+    """What a package puts in a folder of its own."""
+    os.mkdir(f"{place}/{package}")
+    installed(path_of(package), f"{place}/{package}")
+    return {f"{at.replace(f'{place}/{package}', '', 1)}/{file}" for at, _, files in os.walk(f"{place}/{package}") for file in files}
+
+
+def see_program(place):
+    there, below = files_of("btcheck", place), f"{place}/btcheck/usr"
+    for env in ({}, LESSER):
+        expect(run("root", "/dev/null", program=f"{below}/bin/btcheck", env=env), 0, "0 -\n")
+    subprocess.run([f"{below}/share/btcheck/record", "--help"], stdout=subprocess.DEVNULL, check=True)
+    documents = {f"/usr/share/doc/btcheck/{file}" for file in
+                 ("README.md", "copyright", "changelog.gz", "changelog.Debian.gz", "docs/RECORDING.md", "examples/pair.torrent")}
+    assert documents | {"/usr/share/man/man1/btcheck.1.gz", "/usr/share/bash-completion/completions/btcheck",
+                        "/usr/share/fish/vendor_completions.d/btcheck.fish",
+                        "/usr/share/zsh/vendor-completions/_btcheck"} <= there, there
+
+
+def see_library(place):
+    """A client is built with the one package and run with the other."""
+    for package in ("libbtcheck0", "libbtcheck-dev"):
+        subprocess.run(["dpkg-deb", "-x", path_of(package), f"{place}/library"], check=True)
+    below = f"{place}/library/usr"
+    write(f"{place}/client.c", b"""#include <btcheck.h>
+        int main(void) { btcheck_root root = BTCHECK_INIT; btcheck_status told = btcheck_root_new(&root);
+                         btcheck_root_free(&root); return told != BTCHECK_OK; }""")
+    paths = {**os.environ, "PKG_CONFIG_PATH": f"{below}/lib/pkgconfig", "LD_LIBRARY_PATH": f"{below}/lib"}
+    flags = subprocess.run(["pkg-config", "--cflags", "--libs", "btcheck"], env=paths, check=True, stdout=subprocess.PIPE, text=True)
+    subprocess.run(["gcc", f"{place}/client.c", *flags.stdout.split(), "-o", f"{place}/client"], check=True)
+    expect(run(program=f"{place}/client", env=paths), 0)
+
+
 def test_deb():
-    """The package is installed and runs, has what is installed elsewhere, and is the same when it is packed again."""
-    need("dpkg-deb", "strip")
+    """The package is installed and runs on both kinds of processors, has what is installed elsewhere, and is the same when
+    it is packed again; and so is that of the library, if it was made."""
+    need("dpkg-deb", "strip", "gcc", "pkg-config")
     make("deb")
-    [package] = glob.glob(f"{TOP}/build/deb/*.deb")
-    with open(package, "rb") as file:
-        first = file.read()
+    first = packages()
     with folder() as place:
-        installed(package, place)
-        done = subprocess.run([f"{place}/usr/bin/btcheck", "root", "/dev/null"], stdout=subprocess.PIPE, check=True)
-        assert done.stdout == b"0 -\n"
-        subprocess.run([f"{place}/usr/share/btcheck/record", "--help"], stdout=subprocess.DEVNULL, check=True)
-        there = {f"{at.replace(place, '', 1)}/{file}" for at, _, files in os.walk(place) for file in files}
-        documents = {f"/usr/share/doc/btcheck/{file}" for file in
-                     ("README.md", "copyright", "changelog.gz", "changelog.Debian.gz", "docs/RECORDING.md",
-                      "examples/pair.torrent")}
-        assert documents | {"/usr/share/man/man1/btcheck.1.gz", "/usr/share/bash-completion/completions/btcheck",
-                            "/usr/share/fish/vendor_completions.d/btcheck.fish",
-                            "/usr/share/zsh/vendor-completions/_btcheck"} <= there, there
+        see_program(place)
+        if "libbtcheck0" in first:
+            see_library(place)
     make("deb")
-    with open(package, "rb") as file:
-        assert file.read() == first
-    if shutil.which("lintian"):
-        subprocess.run(["lintian", "--allow-root", "--fail-on", "error,warning", package], check=True)
+    assert packages() == first
+    need("lintian")
+    for package in first:
+        subprocess.run(["lintian", "--allow-root", "--fail-on", "error,warning", path_of(package)], check=True)
