@@ -1,11 +1,10 @@
 -- A digest is a hash.
-use Rattle.std.proofs.Common.{◌≡◌, ◌≢◌, ◌⊎◌, ℕ, zero, suc, ◌<◌, List, [], ◌∷◌, ◌++◌, length, take, drop, inl, inr, refl, sym, ap, ap₂, ◌∙◌, subst, take_at}
+use Rattle.std.proofs.Common.{◌≡◌, ℕ, zero, suc, ◌<◌, List, [], ◌∷◌, ◌++◌, length, take, drop, refl, sym, ap, ◌∙◌, subst, take_at}
 use Rattle.std.proofs.Common.{drop_at, arith}
 use Rattle.std.specs.List.{All, flat_map}
 use Rattle.std.specs.Int.{bytes_high_first, byte_at}
 use Rattle.std.specs.Prelude.{slice_index}
 use Rattle.std.proofs.lemmas.List.Elements.{All-nil, All-cons, All-head, All-tail, All-append, All-take, All-drop}
-use Rattle.std.proofs.lemmas.Bool.{cases_eq}
 use Rattle.sha2.specs.Sha256.{sha256, digest_bytes}
 use Rattle.sha2.proofs.Facts256.{length-sha256}
 use Rattle.node_maps.specs.Digest.{Hash, AreBytes, IsHash}

@@ -21,6 +21,7 @@ pub mod Given
 pub mod Tracing
 pub mod FoldedRows
 pub mod Written
+pub mod WrittenRows
 pub mod Leading
 pub mod Ranges
 pub mod Messages

@@ -1,5 +1,5 @@
 -- A whole layer that is known says nothing new, and one that is not claims a place that is new.
-use Rattle.std.proofs.Common.{◌≡◌, ℕ, zero, suc, ◌+◌, ◌-◌, ◌*◌, ◌/◌, ◌%◌, ◌^◌, ◌<◌, ◌≤◌, ◌⊎◌, List, length, get_or, [], Option, Some, None, inl, inr, refl, sym}
+use Rattle.std.proofs.Common.{◌≡◌, ℕ, zero, suc, ◌+◌, ◌-◌, ◌*◌, ◌/◌, ◌^◌, ◌<◌, ◌≤◌, ◌⊎◌, List, length, get_or, [], Option, Some, None, inl, inr, refl, sym}
 use Rattle.std.proofs.Common.{ap, ◌∙◌, subst, arith, pow_pos, div-add-mod'}
 use Rattle.std.proofs.lemmas.Nat.{mod_below}
 use Rattle.std.specs.Borrow.{Bor}

@@ -16,13 +16,13 @@ use Rattle.partial_tree.proofs.ClaimValues.{there_or_not, first_of_two, second_o
 use Rattle.partial_tree.proofs.Noting.{here_or_not, new-here, new-keeps, absent-other}
 use Rattle.partial_tree.proofs.Tracing.{under_child}
 
-none_beside : (o p : Option Hash) → p ≡ None → option_or o p ≡ o
+pub none_beside : (o p : Option Hash) → p ≡ None → option_or o p ≡ o
 none_beside None p e = e
 none_beside (Some x) p e = refl
 
 -- ---- below a place
 
-below-left : (layer index l i : ℕ) → 1 ≤ layer → LiesUnder (layer - 1) (2 * index) l i → LiesBelow layer index l i
+pub below-left : (layer index l i : ℕ) → 1 ≤ layer → LiesUnder (layer - 1) (2 * index) l i → LiesBelow layer index l i
 below-left layer index l i some u =
     let q : ℕ = i / 2 ^ (layer - 1 - l) in
     let k : layer - l ≡ (layer - 1 - l) + 1 = omega (arith, u.0) in
@@ -30,7 +30,7 @@ below-left layer index l i some u =
     let half : q / 2 ≡ index = omega (arith, is) in
     (omega (arith, u.0), (omega (arith, u.0), ap (λ j. i / 2 ^ j) k ∙ sym (shr-shr i (layer - 1 - l) 1) ∙ half))
 
-below-right : (layer index l i : ℕ) → 1 ≤ layer → LiesUnder (layer - 1) (2 * index + 1) l i → LiesBelow layer index l i
+pub below-right : (layer index l i : ℕ) → 1 ≤ layer → LiesUnder (layer - 1) (2 * index + 1) l i → LiesBelow layer index l i
 below-right layer index l i some u =
     let q : ℕ = i / 2 ^ (layer - 1 - l) in
     let k : layer - l ≡ (layer - 1 - l) + 1 = omega (arith, u.0) in
@@ -38,7 +38,7 @@ below-right layer index l i some u =
     let half : q / 2 ≡ index = omega (arith, is) in
     (omega (arith, u.0), (omega (arith, u.0), ap (λ j. i / 2 ^ j) k ∙ sym (shr-shr i (layer - 1 - l) 1) ∙ half))
 
-apart : (layer index l i : ℕ) → LiesUnder (layer - 1) (2 * index) l i → LiesUnder (layer - 1) (2 * index + 1) l i → ⊥
+pub apart : (layer index l i : ℕ) → LiesUnder (layer - 1) (2 * index) l i → LiesUnder (layer - 1) (2 * index + 1) l i → ⊥
 apart layer index l i u w = let one : 2 * index ≡ 2 * index + 1 = sym u.1 ∙ w.1 in omega (arith, one)
 
 -- both children, one after the other
@@ -55,13 +55,13 @@ children-written C K first second layer index some left right = record {
 
 -- ---- at a place
 
-new-at : (m : Known) (c : Claim) → look (with_new m c) c.layer c.index ≡ option_or (look m c.layer c.index) (Some c.hash)
+pub new-at : (m : Known) (c : Claim) → look (with_new m c) c.layer c.index ≡ option_or (look m c.layer c.index) (Some c.hash)
 new-at m c = elim (there_or_not (look m c.layer c.index)) [
   | inl (v, known) ↦ new-keeps m c c.layer c.index v known ∙ sym (first_of_two (look m c.layer c.index) (Some c.hash) v known)
   | inr none ↦ new-here m c none ∙ sym (second_of_two (look m c.layer c.index) (Some c.hash) none)
 ]
 
-new-other : (m : Known) (c : Claim) (l i : ℕ) → (l ≢ c.layer) ⊎ (i ≢ c.index) → look (with_new m c) l i ≡ look m l i
+pub new-other : (m : Known) (c : Claim) (l i : ℕ) → (l ≢ c.layer) ⊎ (i ≢ c.index) → look (with_new m c) l i ≡ look m l i
 new-other m c l i other = absent-other m c.layer c.index c.hash (look m c.layer c.index) l i other
 
 -- the place itself after what lies below it

@@ -10,6 +10,7 @@ pub mod Joins
 pub mod MessagePages
 pub mod Evidence
 pub mod FoldedRows
+pub mod WrittenRows
 pub mod Kept
 pub mod Codes
 pub mod Names

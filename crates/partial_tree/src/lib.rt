@@ -16,6 +16,7 @@ mod found;
 mod growing;
 pub mod laws;
 mod limits;
+mod marking;
 mod pads;
 mod refusal;
 mod row;
@@ -23,6 +24,7 @@ mod storing;
 mod taking;
 mod tree;
 mod writing;
+mod writing_rows;
 
 pub use answer::Answer;
 pub use bytes::{are_bytes, are_hashes, is_hash};

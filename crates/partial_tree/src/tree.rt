@@ -49,11 +49,11 @@ use wire::Ask;
 pub struct Tree<N: NodeMap> {
     alloc: Global,
     root: Hash,
-    shape: Shape,
+    pub(crate) shape: Shape,
     height: u32,
-    nodes: N,
+    pub(crate) nodes: N,
     known: u64,
-    marked: u64,
+    pub(crate) marked: u64,
 }
 
 impl<N: NodeMap> Model for Tree<N> {
@@ -257,42 +257,4 @@ impl<N: NodeMap> Tree<N> {
             proof: self.height.saturating_sub(1),
         })
     }
-
-    /// Marks a block whose digest is its known leaf. A refusal leaves the tree unchanged.
-    /// Conditions: the tree is good, and the file has more than `block` blocks.
-    pub fn take_block(&mut self, block: u64, bytes: &[u8]) -> Result<(), BlockRefusal>
-        requires good { IsGoodTree self.old }
-        requires inside { block < block_count self.old.length }
-        ensures taken { IfOk result (λ _. TreeMarks self.old block bytes.now self.new) }
-        ensures refused { IfErr result (λ r. TreeRefusesBlock self.old block bytes.now r
-            × (self.new ≡ self.old)) }
-    {
-        if bytes.len() as u64 != self.shape.block_len(block) {
-            return Err(BlockRefusal::BadSize);
-        }
-        match self.nodes.get(0, block) {
-            None => return Err(BlockRefusal::Unproved),
-            Some(known) => {
-                if leaf(bytes) != known {
-                    return Err(BlockRefusal::BadBlock);
-                }
-            }
-        }
-        self.marked += mark_leaf(&mut self.nodes, block);
-        Ok(())
-    }
-}
-
-// Marks a known leaf, and returns how many more are marked.
-fn mark_leaf<N: NodeMap>(nodes: &mut N, block: u64) -> u64
-    requires { IsKnown (look (N.seen nodes.old).known) 0 block }
-    ensures seen { N.seen nodes.new ≡ with_mark (N.seen nodes.old) block }
-    ensures held { N.held nodes.new ≡ N.held nodes.old }
-    ensures one { result ≤ 1 }
-    ensures count { set.len (N.seen nodes.new).marked
-        ≡ set.len (N.seen nodes.old).marked + result }
-{
-    let before = nodes.is_marked(block);
-    nodes.mark(block);
-    if before { 0 } else { 1 }
 }

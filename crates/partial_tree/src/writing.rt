@@ -13,6 +13,7 @@ ghost use Rattle.partial_tree.specs.Evidence.{claimed_by, IsClaimedPlace, IsWrit
 
 use crate::evidence::Evidence;
 use crate::found::Claim;
+use crate::writing_rows::write_range;
 use hashtree::{Hash, parent};
 use node_maps::NodeMap;
 
@@ -77,6 +78,9 @@ fn write_below<N: NodeMap>(map: &mut N, evidence: &Evidence, layer: u32, index: 
     match evidence.given(layer, index) {
         Some(hash) => (hash, 0),
         None => {
+            if layer == evidence.base + evidence.span {
+                return write_range(map, evidence, layer, index);
+            }
             let (left, before) = write_claimed(map, evidence, layer - 1, 2 * index);
             let (right, after) = write_claimed(map, evidence, layer - 1, 2 * index + 1);
             (parent(&left, &right), before + after)
@@ -84,8 +88,8 @@ fn write_below<N: NodeMap>(map: &mut N, evidence: &Evidence, layer: u32, index: 
     }
 }
 
-// Sets the hash of a claim, unless its place is known, and returns how many places are new.
-fn put_absent<N: NodeMap>(map: &mut N, claim: &Claim) -> u64
+/// Sets the hash of a claim, unless its place is known, and returns how many places are new.
+pub(crate) fn put_absent<N: NodeMap>(map: &mut N, claim: &Claim) -> u64
     requires { N.has_room map.old claim.now.layer claim.now.index }
     ensures stays { KeepsMarks (N.seen map.old) (N.seen map.new) }
     ensures held { N.held map.new ≡ N.held map.old }

@@ -2,6 +2,7 @@ pub use Rattle.chains.proofs.Chains
 pub mod States
 pub mod Entries
 pub mod MessageBlocks
+pub mod BlockDigests
 pub mod Runs
 pub mod Rounds
 pub mod RoundRuns

@@ -1,6 +1,7 @@
 -- Sessions of a torrent, their steps and runs.
 pub use Rattle.chains.specs.Chain
 pub mod Blocks
+pub mod BlockDigests
 pub mod Asks
 pub mod Session
 pub mod Wanted

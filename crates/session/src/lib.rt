@@ -3,6 +3,7 @@
 #![tactic(auto)]
 
 mod asking;
+mod block_digests;
 mod blocks;
 mod hashes;
 pub mod laws;

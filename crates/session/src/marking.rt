@@ -1,6 +1,7 @@
 //! How a session takes the blocks of a piece message.
 
-ghost use Rattle.std.specs.Prelude.{◌≡◌, ◌<◌, ◌≤◌, IfOk, IfErr, length, ◌*◌, Some};
+ghost use Rattle.std.specs.Prelude.{◌≡◌, ◌<◌, ◌≤◌, IfOk, IfErr, IfSome, length, ◌*◌, Some};
+ghost use Rattle.sha2.specs.Sha256.{sha256};
 ghost use Rattle.session.specs.Session.{IsVerified, IsBlockRefused, IsBlock, IsMarkedBlock, IsUnmarkedBlock, BlockStep, AreTaken, AreRefused, AreBlocks};
 ghost use Rattle.hashtree.specs.Tree.{block};
 ghost use Rattle.session.specs.Blocks.{block_length, cuts};
@@ -8,9 +9,10 @@ ghost use Rattle.session.specs.Layouts.{HasBlock, HasRun};
 ghost use Rattle.chains.specs.Chain.{Chain};
 ghost use Rattle.session.specs.SafeStep.{KeepsKnown, VerifiesTrueBlock, VerifiesTrueBlocks};
 
+use crate::block_digests::BlockDigests;
 use crate::blocks::Blocks;
 use crate::session::Session;
-use hashtree::BLOCK_LENGTH;
+use hashtree::{BLOCK_LENGTH, Hash};
 use node_maps::NodeMap;
 use partial_tree::BlockRefusal;
 
@@ -53,7 +55,7 @@ impl<'t, N: NodeMap> Session<'t, N> {
         let Some((file, number)) = self.torrent.place(index, begin) else {
             return Err(BlockRefusal::BadPlace);
         };
-        match self.mark_in_file(file, number, block) {
+        match self.mark_in_file(file, number, block, None) {
             Ok(()) => Ok((file, number)),
             Err(refusal) => Err(refusal),
         }
@@ -98,7 +100,8 @@ impl<'t, N: NodeMap> Session<'t, N> {
         }
     }
 
-    // Takes bytes that are `count` blocks of a file, from block `first` on.
+    // Takes bytes that are `count` blocks of a file, from block `first` on. Where eight of them are
+    // whole, they are hashed side by side.
     fn mark_run(&mut self, file: usize, first: u64, bytes: &[u8], count: u64) -> Blocks
         requires { HasRun self.old.torrent file first (length bytes.now) count }
         ensures file { result.file ≡ file }
@@ -109,23 +112,33 @@ impl<'t, N: NodeMap> Session<'t, N> {
     {
         self.torrent.sound();
         let mut blocks = Blocks::new(file, first);
+        let mut digests = BlockDigests::new();
         'numbers: for number in 0..count {
-            let marked = self.mark_in_file(file, first + number, block_of(bytes, number));
+            let digest = digests.take(bytes, number);
+            let block = block_of(bytes, number);
+            let marked = self.mark_in_file(file, first + number, block, digest);
             blocks.push(marked.err());
         }
         blocks
     }
 
-    // Marks a block of a file if its digest is its known leaf.
-    fn mark_in_file(&mut self, file: usize, block: u64, bytes: &[u8]) -> Result<(), BlockRefusal>
-        requires { HasBlock self.old.torrent file block }
+    // Marks a block of a file if its digest, which may be given, is its known leaf.
+    fn mark_in_file(
+        &mut self,
+        file: usize,
+        block: u64,
+        bytes: &[u8],
+        digest: Option<Hash>,
+    ) -> Result<(), BlockRefusal>
+        requires block { HasBlock self.old.torrent file block }
+        requires digest { IfSome digest (λ d. d ≡ sha256 bytes.now) }
         ensures marked { IfOk result (λ _. IsMarkedBlock self.old file block bytes.now self.new) }
         ensures refused { IfErr result (λ r. IsUnmarkedBlock self.old file block bytes.now r
             × (self.new ≡ self.old)) }
     {
         self.torrent.sound();
         let tree = self.torrent.tree_of(file).unwrap();
-        self.trees[tree].take_block(block, bytes)
+        self.trees[tree].take_hashed(block, bytes, digest)
     }
 }
 

@@ -43,16 +43,16 @@ pub write_below-returns-in-Some-clause-value : goal.write_below-returns-in-Some-
 write_below-returns-in-Some-clause-value g t c =
     given_claimed c.args.evidence.now c.args.layer c.args.index c.in-Some.hash (sym c.in-Some.ensures)
 
-pub write_below-returns-in-None-clause-value : goal.write_below-returns-in-None-clause-value
-write_below-returns-in-None-clause-value g t c =
+pub write_below-returns-else-layer-evidence-clause-value : goal.write_below-returns-else-layer-evidence-clause-value
+write_below-returns-else-layer-evidence-clause-value g t c =
     let o : Opened c.args.evidence.now c.args.layer c.args.index = rests_on c.args.evidence.now c.args.layer c.args.index c.requires.at.claimed
     (sym c.in-None.ensures) in
     join_claimed c.args.evidence.now c.args.layer c.args.index _ _ o.above_leaves (sym c.in-None.ensures) c.write_claimed-before.ensures.value
     c.write_claimed-after.ensures.value
     ∙ ap Some (sym c.parent.ensures)
 
-pub write_below-returns-in-None-clause-written : goal.write_below-returns-in-None-clause-written
-write_below-returns-in-None-clause-written g t c =
+pub write_below-returns-else-layer-evidence-clause-written : goal.write_below-returns-else-layer-evidence-clause-written
+write_below-returns-else-layer-evidence-clause-written g t c =
     let o : Opened c.args.evidence.now c.args.layer c.args.index = rests_on c.args.evidence.now c.args.layer c.args.index c.requires.at.claimed
     (sym c.in-None.ensures) in
     children-written (claimed_by c.args.evidence.now) (look (g.N.NodeMap.seen c.args.map.now).known)
@@ -60,8 +60,8 @@ write_below-returns-in-None-clause-written g t c =
     (look (g.N.NodeMap.seen c.write_claimed-after.new.map).known) c.args.layer c.args.index o.above_leaves c.write_claimed-before.ensures.written
     c.write_claimed-after.ensures.written
 
-pub write_below-returns-in-None-clause-few : goal.write_below-returns-in-None-clause-few
-write_below-returns-in-None-clause-few g t c =
+pub write_below-returns-else-layer-evidence-clause-few : goal.write_below-returns-else-layer-evidence-clause-few
+write_below-returns-else-layer-evidence-clause-few g t c =
     let o : Opened c.args.evidence.now c.args.layer c.args.index = rests_on c.args.evidence.now c.args.layer c.args.index c.requires.at.claimed
     (sym c.in-None.ensures) in
     let down : suc (c.args.layer - 1) ≡ c.args.layer = omega (arith, o.above_leaves) in

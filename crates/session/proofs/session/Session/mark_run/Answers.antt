@@ -1,4 +1,5 @@
-use Rattle.std.proofs.Common.{◌≡◌, ◌<◌, ◌+◌, ◌^◌, List, [], ◌∷◌, ◌++◌, length, Option, sym, ap, ◌∙◌, subst, arith, length-append}
+use Rattle.std.proofs.Common.{◌≡◌, IfSome, ◌<◌, ◌+◌, ◌^◌, List, [], ◌∷◌, ◌++◌, length, Option, sym, ap, ◌∙◌, subst, arith, length-append}
+use Rattle.sha2.specs.Sha256.{sha256}
 use Rattle.opening.specs.Description.{Description}
 use Rattle.partial_tree.specs.declared.refusal.BlockRefusal.{BlockRefusal}
 use Rattle.chains.specs.Chain.{Chain}
@@ -20,6 +21,7 @@ numbers-init g c = record {
   file = ap (λ (v : BlocksSeen). v.file) c.new-blocks.ensures;
   first = ap (λ (v : BlocksSeen). v.first) c.new-blocks.ensures;
   count = ap (λ (v : BlocksSeen). length v.refusals) c.new-blocks.ensures;
+  digests = c.new-digests.ensures c.args.bytes.now;
   each = subst (λ (v : BlocksSeen). Chain (BlockStep c.args.file) c.args.self.now (cuts c.args.first c.args.bytes.now 0) v.refusals c.args.self.now)
       (sym c.new-blocks.ensures) (no_block c.args.file c.args.self.now c.args.first c.args.bytes.now);
 }
@@ -31,11 +33,20 @@ overflow_add-first g c =
     let most = at_most_seventeen c.requires.0.length c.args.first (length c.args.bytes.now) c.args.count c.requires.2 in
     omega (arith, low, most, c.numbers-test.true)
 
-pub block_of-requires : goal.block_of-requires
-block_of-requires g c = run-offset c.requires.0.length c.args.first (length c.args.bytes.now) c.args.count c.numbers.number c.requires.2 c.numbers-test.true
+pub block_of-block-requires : goal.block_of-block-requires
+block_of-block-requires g c = run-offset c.requires.0.length c.args.first (length c.args.bytes.now) c.args.count c.numbers.number c.requires.2 c.numbers-test.true
 
-pub mark_in_file-marked-requires : goal.mark_in_file-marked-requires
-mark_in_file-marked-requires g c =
+pub take-digest-requires-clause-few : goal.take-digest-requires-clause-few
+take-digest-requires-clause-few g c =
+    let most = at_most_seventeen c.requires.0.length c.args.first (length c.args.bytes.now) c.args.count c.requires.2 in
+    omega (arith, most, c.numbers-test.true)
+
+pub mark_in_file-marked-requires-clause-digest : goal.mark_in_file-marked-requires-clause-digest
+mark_in_file-marked-requires-clause-digest g c =
+    subst (λ bs. IfSome c.take-digest.result (λ d. d ≡ sha256 bs)) (sym c.block_of-block.ensures) c.take-digest.ensures.digest
+
+pub mark_in_file-marked-requires-clause-block : goal.mark_in_file-marked-requires-clause-block
+mark_in_file-marked-requires-clause-block g c =
     subst (λ (d : Description). HasBlock d c.args.file (c.args.first + c.numbers.number))
     (sym (chain-torrent c.args.file c.args.self.now (cuts c.args.first c.args.bytes.now c.numbers.number) c.numbers.blocks.refusals c.numbers.self
     c.numbers.invariant.each))
@@ -55,12 +66,13 @@ numbers-preserved g c =
       file = ap (λ (v : BlocksSeen). v.file) c.push.ensures ∙ c.numbers.invariant.file;
       first = ap (λ (v : BlocksSeen). v.first) c.push.ensures ∙ c.numbers.invariant.first;
       count = ap length told ∙ count;
+      digests = c.take-digest.ensures.known;
       each = subst (λ rs. Chain (BlockStep c.args.file) c.args.self.now (cuts c.args.first c.args.bytes.now (c.numbers.number + 1)) rs
           c.mark_in_file-marked.new.self)
           (ap (λ r. c.numbers.blocks.refusals ++ r ∷ []) (sym c.err.ensures.value) ∙ sym told)
           (next_block c.args.file c.args.self.now c.args.first c.args.bytes.now c.numbers.number c.numbers.blocks.refusals c.numbers.self
           c.numbers.invariant.each
-          c.block_of.result.now c.mark_in_file-marked.result c.mark_in_file-marked.new.self c.block_of.ensures
+          c.block_of-block.result.now c.mark_in_file-marked.result c.mark_in_file-marked.new.self c.block_of-block.ensures
           c.mark_in_file-marked.ensures.marked c.mark_in_file-marked.ensures.refused);
     }
 

@@ -1,6 +1,7 @@
 use Rattle.std.proofs.Common.{◌≡◌, length}
 use Rattle.chains.specs.Chain.{Chain}
 use Rattle.session.specs.Blocks.{cuts}
+use Rattle.session.specs.BlockDigests.{AreDigests}
 use Rattle.session.specs.Session.{BlockStep}
 use Rattle.session.proofs.session.Session.mark_run.Given as goal
 
@@ -10,5 +11,6 @@ invariant-numbers g l = record {
   file : l.blocks.file ≡ l.file;
   first : l.blocks.first ≡ l.first;
   count : length l.blocks.refusals ≡ l.number;
+  digests : AreDigests l.digests l.bytes;
   each : Chain (BlockStep l.file) l.fn.self (cuts l.first l.bytes l.number) l.blocks.refusals l.self;
 }

@@ -1,6 +1,6 @@
 use Rattle.node_maps.proofs.Nodes.{marked-of}
 use Rattle.partial_tree.proofs.Counting.{len_marked_again, len_marked_first}
-use Rattle.partial_tree.proofs.tree.mark_leaf.Goals as goal
+use Rattle.partial_tree.proofs.marking.mark_leaf.Goals as goal
 
 pub returns-then-before-clause-count : goal.returns-then-before-clause-count
 returns-then-before-clause-count g c =

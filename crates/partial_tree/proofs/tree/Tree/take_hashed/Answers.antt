@@ -4,7 +4,7 @@ use Rattle.node_maps.specs.Places.{tree_height}
 use Rattle.node_maps.proofs.Nodes.{known-of, length-of}
 use Rattle.partial_tree.specs.Kept.{KeptTree, IsGoodTree}
 use Rattle.partial_tree.proofs.Counting.{counted_mark, marks_fit}
-use Rattle.partial_tree.proofs.tree.Tree.take_block.Goals as goal
+use Rattle.partial_tree.proofs.tree.Tree.take_hashed.Goals as goal
 
 pub overflow_add-self : goal.overflow_add-self
 overflow_add-self g c =
