@@ -31,6 +31,6 @@ def test_go():
     with folder() as place:
         quietly(["make", "-s", "install-lib", f"DESTDIR={place}", "PREFIX=/usr"], cwd=TOP)
         env = {**os.environ, "PKG_CONFIG_PATH": f"{place}/usr/lib/pkgconfig", "LD_LIBRARY_PATH": f"{place}/usr/lib",
-               "GOCACHE": f"{TOP}/build/go", "GOPROXY": "off", "GOFLAGS": "-mod=mod", "CGO_ENABLED": "1"}
+               "GOCACHE": f"{place}/go", "GOPROXY": "off", "GOFLAGS": "-mod=mod", "CGO_ENABLED": "1"}
         for words in (["go", "vet", "./..."], ["go", "test", "-count=1", "./..."]):
             quietly(words, cwd=f"{TOP}/go", env=env)
