@@ -1,0 +1,184 @@
+// Package btcheck checks hashes and blocks of BitTorrent version 2 by the proved library libbtcheck.
+//
+// A call that is refused has changed nothing. A Session or a Root may be used by one goroutine at a time.
+package btcheck
+
+/*
+#cgo pkg-config: btcheck
+#include <btcheck.h>
+#include <stdlib.h>
+*/
+import "C"
+
+import (
+	"fmt"
+	"runtime"
+	"unsafe"
+)
+
+// BlockLength is the bytes of a block that is not its file's last.
+const BlockLength = C.BTCHECK_BLOCK
+
+// Hash is a digest of SHA-256.
+type Hash [C.BTCHECK_HASH]byte
+
+// Refused is the status of a call that was refused, by the numbers of btcheck.h.
+type Refused uint32
+
+// Statuses that a client tells apart.
+const (
+	NoMemory Refused = C.BTCHECK_NO_MEMORY
+	NoRoot   Refused = C.BTCHECK_NO_ROOT
+	NoSuch   Refused = C.BTCHECK_NO_SUCH
+	Nothing  Refused = C.BTCHECK_NOTHING
+	// Unasked, Mismatch: hashes that nobody asked for, and hashes that do not lead to a known one.
+	Unasked  Refused = C.BTCHECK_H8_UNASKED
+	Mismatch Refused = C.BTCHECK_H6_MISMATCH
+	// Unproved, BadBlock: a block whose leaf is not known yet, and one that is not the torrent's.
+	Unproved Refused = C.BTCHECK_P3_UNPROVED
+	BadBlock Refused = C.BTCHECK_P4_BAD_BLOCK
+)
+
+func (status Refused) Error() string {
+	switch {
+	case status > 300:
+		return fmt.Sprintf("refused P%d", uint32(status)-300)
+	case status > 200:
+		return fmt.Sprintf("refused H%d", uint32(status)-200)
+	case status > 100:
+		return fmt.Sprintf("refused torrent %d", uint32(status)-100)
+	}
+	return fmt.Sprintf("status %d", uint32(status))
+}
+
+func told(status C.btcheck_status) error {
+	if status == C.BTCHECK_OK {
+		return nil
+	}
+	return Refused(status)
+}
+
+// What an empty slice is passed as, since no pointer may be null.
+var nothing [1]byte
+
+func pointer(bytes []byte) *C.uint8_t {
+	if len(bytes) == 0 {
+		return (*C.uint8_t)(&nothing[0])
+	}
+	return (*C.uint8_t)(&bytes[0])
+}
+
+func rows(hashes []Hash) *[C.BTCHECK_HASH]C.uint8_t {
+	if len(hashes) == 0 {
+		return (*[C.BTCHECK_HASH]C.uint8_t)(unsafe.Pointer(&Hash{}))
+	}
+	return (*[C.BTCHECK_HASH]C.uint8_t)(unsafe.Pointer(&hashes[0]))
+}
+
+// Root gives the root of a content (BEP 52, "pieces root"). NoRoot: it is empty.
+func Root(content []byte) (Hash, error) {
+	var handle C.btcheck_root
+	var hash Hash
+	var length C.uint64_t
+	if err := told(C.btcheck_root_new(&handle)); err != nil {
+		return hash, err
+	}
+	defer C.btcheck_root_free(&handle)
+	if err := told(C.btcheck_root_push(&handle, pointer(content), C.size_t(len(content)))); err != nil {
+		return hash, err
+	}
+	err := told(C.btcheck_root_finish(&handle, &length, (*C.uint8_t)(unsafe.Pointer(&hash[0]))))
+	return hash, err
+}
+
+// Ask has the fields of a hash request, and of the message that answers it (BEP 52).
+type Ask struct {
+	Root                       Hash
+	Base, Index, Length, Proof uint32
+}
+
+func (ask *Ask) fields() *C.btcheck_ask {
+	found := &C.btcheck_ask{base: C.uint32_t(ask.Base), index: C.uint32_t(ask.Index),
+		length: C.uint32_t(ask.Length), proof: C.uint32_t(ask.Proof)}
+	for at, each := range ask.Root {
+		found.root[at] = C.uint8_t(each)
+	}
+	return found
+}
+
+// Session takes the hashes and the blocks that peers send, and says which blocks are the torrent's own.
+type Session struct {
+	handle  C.btcheck_session
+	torrent unsafe.Pointer
+}
+
+// Open opens a torrent file of version 2. With layers the session begins with the torrent's piece layers, else with the
+// roots alone. Close it when it is done with.
+func Open(torrent []byte, layers bool) (*Session, error) {
+	// The library reads the bytes until the handle is freed, so they are C's.
+	session := &Session{torrent: C.CBytes(append(torrent[:len(torrent):len(torrent)], 0))}
+	err := told(C.btcheck_session_open(&session.handle, (*C.uint8_t)(session.torrent), C.size_t(len(torrent)), C.bool(layers)))
+	if err != nil {
+		C.free(session.torrent)
+		return nil, err
+	}
+	runtime.SetFinalizer(session, (*Session).Close)
+	return session, nil
+}
+
+// Close frees what the session has. Any later call but Close is refused.
+func (session *Session) Close() {
+	C.btcheck_session_free(&session.handle)
+	C.free(session.torrent)
+	session.torrent = nil
+	runtime.SetFinalizer(session, nil)
+}
+
+// TakeBlock takes one block of a piece message (BEP 3), and gives which file's and which of its blocks it is, from 0.
+func (session *Session) TakeBlock(index, begin uint32, block []byte) (file, number uint64, err error) {
+	var inFile, at C.uint64_t
+	err = told(C.btcheck_session_take_block(&session.handle, C.uint32_t(index), C.uint32_t(begin), pointer(block),
+		C.size_t(len(block)), &inFile, &at))
+	return uint64(inFile), uint64(at), err
+}
+
+// TakeHashes takes a hashes message, its uncles last, and gives how many places of the tree are newly known.
+func (session *Session) TakeHashes(ask Ask, hashes []Hash) (uint64, error) {
+	var places C.uint64_t
+	fields := ask.fields()
+	err := told(C.btcheck_session_take_hashes(&session.handle, &fields.root[0], fields.base, fields.index, fields.length,
+		fields.proof, rows(hashes), C.size_t(len(hashes)), &places))
+	return uint64(places), err
+}
+
+// Note notes that a request was sent: it is open until hashes answer it.
+func (session *Session) Note(ask Ask) error {
+	return told(C.btcheck_session_note(&session.handle, ask.fields()))
+}
+
+// TakeAnswer is TakeHashes for a message that must answer a noted request, which it then closes.
+func (session *Session) TakeAnswer(ask Ask, hashes []Hash) (uint64, error) {
+	var places C.uint64_t
+	err := told(C.btcheck_session_take_answer(&session.handle, ask.fields(), rows(hashes), C.size_t(len(hashes)), &places))
+	return uint64(places), err
+}
+
+// Answer gives the hashes that answer a peer's request. Nothing: reject it.
+func (session *Session) Answer(ask Ask) ([]Hash, error) {
+	room := make([]Hash, 1)
+	for {
+		var count C.uint64_t
+		status := C.btcheck_session_answer(&session.handle, ask.fields(), rows(room), C.size_t(len(room)), &count)
+		if status != C.BTCHECK_TOO_SMALL {
+			return room[:count], told(status)
+		}
+		room = make([]Hash, count)
+	}
+}
+
+// Counts gives how many places of a tree are known, and how many of its blocks are verified.
+func (session *Session) Counts(tree int) (known, verified uint64, err error) {
+	var places, marked C.uint64_t
+	err = told(C.btcheck_session_counts(&session.handle, C.size_t(tree), &places, &marked))
+	return uint64(places), uint64(marked), err
+}

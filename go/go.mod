@@ -1,0 +1,3 @@
+module btcheck
+
+go 1.19

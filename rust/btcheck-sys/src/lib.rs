@@ -1,0 +1,122 @@
+//! Declarations of `btcheck.h`, whose comments say what each call does. The crate `btcheck` is a safe layer over them.
+#![no_std]
+#![allow(non_camel_case_types)]
+
+use core::ffi::c_void;
+
+/// What every call but `.._free` answers.
+pub type btcheck_status = u32;
+
+pub const BTCHECK_OK: btcheck_status = 0;
+pub const BTCHECK_WRONG_HANDLE: btcheck_status = 1;
+pub const BTCHECK_NO_MEMORY: btcheck_status = 2;
+pub const BTCHECK_TOO_LONG: btcheck_status = 3;
+pub const BTCHECK_NO_ROOT: btcheck_status = 4;
+pub const BTCHECK_NO_SUCH: btcheck_status = 5;
+pub const BTCHECK_NOTHING: btcheck_status = 6;
+pub const BTCHECK_TOO_SMALL: btcheck_status = 7;
+/// Refusals of a torrent are this and the number that `btcheck show` prints.
+pub const BTCHECK_TORRENT: btcheck_status = 100;
+/// Refusals of a hashes message are this and n of Hn.
+pub const BTCHECK_H: btcheck_status = 200;
+/// Refusals of a block are this and n of Pn.
+pub const BTCHECK_P: btcheck_status = 300;
+
+/// Bytes of a block that is not its file's last.
+pub const BTCHECK_BLOCK: usize = 16384;
+/// Bytes of a hash.
+pub const BTCHECK_HASH: usize = 32;
+
+/// The builder of a root. Zero bytes are a handle that holds nothing.
+#[repr(C)]
+#[derive(Debug)]
+pub struct btcheck_root {
+    pub full: bool,
+    pub at: *mut c_void,
+}
+
+/// A session. Zero bytes are a handle that holds nothing.
+#[repr(C)]
+#[derive(Debug)]
+pub struct btcheck_session {
+    pub full: bool,
+    pub at: *mut c_void,
+}
+
+/// The five fields of a hash request (BEP 52).
+#[repr(C)]
+#[derive(Clone, Copy, Debug, Default, PartialEq, Eq)]
+pub struct btcheck_ask {
+    pub root: [u8; 32],
+    pub base: u32,
+    pub index: u32,
+    pub length: u32,
+    pub proof: u32,
+}
+
+extern "C" {
+    pub fn btcheck_root_new(root: *mut btcheck_root) -> btcheck_status;
+    pub fn btcheck_root_push(
+        root: *mut btcheck_root,
+        bytes: *const u8,
+        len: usize,
+    ) -> btcheck_status;
+    pub fn btcheck_root_finish(
+        root: *mut btcheck_root,
+        length: *mut u64,
+        hash: *mut [u8; 32],
+    ) -> btcheck_status;
+    pub fn btcheck_root_free(root: *mut btcheck_root);
+
+    pub fn btcheck_session_open(
+        session: *mut btcheck_session,
+        torrent: *const u8,
+        len: usize,
+        layers: bool,
+    ) -> btcheck_status;
+    pub fn btcheck_session_free(session: *mut btcheck_session);
+    pub fn btcheck_session_counts(
+        session: *mut btcheck_session,
+        tree: usize,
+        known: *mut u64,
+        marked: *mut u64,
+    ) -> btcheck_status;
+    pub fn btcheck_session_take_hashes(
+        session: *mut btcheck_session,
+        root: *const [u8; 32],
+        base: u32,
+        index: u32,
+        length: u32,
+        proof: u32,
+        hashes: *const [u8; 32],
+        count: usize,
+        places: *mut u64,
+    ) -> btcheck_status;
+    pub fn btcheck_session_take_block(
+        session: *mut btcheck_session,
+        index: u32,
+        begin: u32,
+        bytes: *const u8,
+        len: usize,
+        file: *mut u64,
+        block: *mut u64,
+    ) -> btcheck_status;
+    pub fn btcheck_session_note(
+        session: *mut btcheck_session,
+        ask: *const btcheck_ask,
+    ) -> btcheck_status;
+    pub fn btcheck_session_take_answer(
+        session: *mut btcheck_session,
+        ask: *const btcheck_ask,
+        hashes: *const [u8; 32],
+        count: usize,
+        places: *mut u64,
+    ) -> btcheck_status;
+    pub fn btcheck_session_answer(
+        session: *mut btcheck_session,
+        ask: *const btcheck_ask,
+        room: *mut [u8; 32],
+        places: usize,
+        count: *mut u64,
+    ) -> btcheck_status;
+}

@@ -1,0 +1,29 @@
+//! BitTorrent version 2 hash trees, checked by proved code: a safe layer over `libbtcheck`.
+//!
+//! ```no_run
+//! let torrent = std::fs::read("a.torrent").unwrap();
+//! let mut session = btcheck::Session::open(torrent, true).unwrap();
+//! # let (index, begin, data) = (0, 0, &[0; 16384]);
+//! match session.take_block(index, begin, data) {
+//!     Ok(place) => println!("block {} of file {}", place.block, place.file),
+//!     Err(refused) => println!("{refused}"),
+//! }
+//! ```
+//!
+//! A call that is refused has changed nothing.
+#![warn(missing_docs)]
+
+mod error;
+mod root;
+mod session;
+
+pub use btcheck_sys::btcheck_ask as Ask;
+pub use error::Error;
+pub use root::{FileRoot, Root};
+pub use session::{Counts, Place, Session};
+
+/// A digest of SHA-256.
+pub type Hash = [u8; 32];
+
+/// Bytes of a block that is not its file's last.
+pub const BLOCK: usize = btcheck_sys::BTCHECK_BLOCK;

@@ -1,0 +1,188 @@
+use std::fmt;
+use std::ptr;
+
+use btcheck_sys as sys;
+
+use crate::{Ask, Error, Hash};
+
+/// A session of a torrent: takes the hashes and the blocks that peers send, and says which blocks are the torrent's own.
+///
+/// It may move to another thread, but it is not shared:
+///
+/// ```
+/// fn moves<T: Send>() {}
+/// moves::<btcheck::Session>();
+/// ```
+/// ```compile_fail
+/// fn is_shared<T: Sync>() {}
+/// is_shared::<btcheck::Session>();
+/// ```
+pub struct Session {
+    handle: sys::btcheck_session,
+    // What the handle's session reads until it is freed: neither moved nor changed, since nothing borrows it.
+    torrent: *mut [u8],
+}
+
+/// A verified block: which file's, and which of its blocks, from 0.
+#[derive(Clone, Copy, Debug, PartialEq, Eq)]
+pub struct Place {
+    /// The file, in the torrent's order.
+    pub file: u64,
+    /// The block of that file.
+    pub block: u64,
+}
+
+/// What is known of a tree.
+#[derive(Clone, Copy, Debug, PartialEq, Eq)]
+pub struct Counts {
+    /// Places of the tree whose hash is known.
+    pub known: u64,
+    /// Leaves whose block was verified.
+    pub marked: u64,
+}
+
+// SAFETY: the library keeps no state of a thread, and the torrent's bytes are the session's own.
+unsafe impl Send for Session {}
+
+impl Session {
+    /// Opens a torrent file of version 2. With `layers` the session begins with the torrent's piece layers, else with the
+    /// roots alone.
+    pub fn open(torrent: impl Into<Box<[u8]>>, layers: bool) -> Result<Self, Error> {
+        let torrent = torrent.into();
+        let len = torrent.len();
+        let torrent = Box::into_raw(torrent);
+        let mut session = Session {
+            handle: sys::btcheck_session {
+                full: false,
+                at: ptr::null_mut(),
+            },
+            torrent,
+        };
+        // SAFETY: the handle is empty and ours; the bytes stay until it is freed.
+        Error::of(unsafe {
+            sys::btcheck_session_open(&mut session.handle, torrent.cast(), len, layers)
+        })?;
+        Ok(session)
+    }
+
+    /// The bytes of the torrent.
+    pub fn torrent(&self) -> &[u8] {
+        // SAFETY: the box is alive, and nothing writes to it.
+        unsafe { &*self.torrent }
+    }
+
+    /// How much is known of a tree. `NoSuch`: there is no such tree.
+    pub fn counts(&mut self, tree: usize) -> Result<Counts, Error> {
+        let mut found = Counts {
+            known: 0,
+            marked: 0,
+        };
+        // SAFETY: three places that do not overlap.
+        Error::of(unsafe {
+            sys::btcheck_session_counts(&mut self.handle, tree, &mut found.known, &mut found.marked)
+        })?;
+        Ok(found)
+    }
+
+    /// Takes one block of a piece message (BEP 3).
+    pub fn take_block(&mut self, index: u32, begin: u32, bytes: &[u8]) -> Result<Place, Error> {
+        let mut place = Place { file: 0, block: 0 };
+        // SAFETY: a slice's pointer is not null and leads to so many bytes; no two places overlap.
+        Error::of(unsafe {
+            sys::btcheck_session_take_block(
+                &mut self.handle,
+                index,
+                begin,
+                bytes.as_ptr(),
+                bytes.len(),
+                &mut place.file,
+                &mut place.block,
+            )
+        })?;
+        Ok(place)
+    }
+
+    /// Takes a hashes message (BEP 52), its uncles last, and gives how many places of the tree are newly known.
+    pub fn take_hashes(&mut self, fields: &Ask, hashes: &[Hash]) -> Result<u64, Error> {
+        let mut places = 0;
+        // SAFETY: as for `take_block`.
+        Error::of(unsafe {
+            sys::btcheck_session_take_hashes(
+                &mut self.handle,
+                &fields.root,
+                fields.base,
+                fields.index,
+                fields.length,
+                fields.proof,
+                hashes.as_ptr(),
+                hashes.len(),
+                &mut places,
+            )
+        })?;
+        Ok(places)
+    }
+
+    /// Notes that a request with these fields was sent: it is open until hashes answer it.
+    pub fn note(&mut self, ask: &Ask) -> Result<(), Error> {
+        // SAFETY: two places that do not overlap.
+        Error::of(unsafe { sys::btcheck_session_note(&mut self.handle, ask) })
+    }
+
+    /// As `take_hashes`, but the message must answer a noted request, which it then closes.
+    pub fn take_answer(&mut self, ask: &Ask, hashes: &[Hash]) -> Result<u64, Error> {
+        let mut places = 0;
+        // SAFETY: as for `take_block`.
+        Error::of(unsafe {
+            sys::btcheck_session_take_answer(
+                &mut self.handle,
+                ask,
+                hashes.as_ptr(),
+                hashes.len(),
+                &mut places,
+            )
+        })?;
+        Ok(places)
+    }
+
+    /// The hashes that answer a peer's request. `Nothing`: reject it.
+    pub fn answer(&mut self, ask: &Ask) -> Result<Vec<Hash>, Error> {
+        let mut room = vec![[0; 32]; 1];
+        loop {
+            let mut count = 0;
+            // SAFETY: the room has so many places; as for `take_block`.
+            let status = unsafe {
+                sys::btcheck_session_answer(
+                    &mut self.handle,
+                    ask,
+                    room.as_mut_ptr(),
+                    room.len(),
+                    &mut count,
+                )
+            };
+            if status != sys::BTCHECK_TOO_SMALL {
+                Error::of(status)?;
+                room.truncate(count as usize);
+                return Ok(room);
+            }
+            room.resize(count as usize, [0; 32]);
+        }
+    }
+}
+
+impl fmt::Debug for Session {
+    fn fmt(&self, f: &mut fmt::Formatter<'_>) -> fmt::Result {
+        f.debug_struct("Session")
+            .field("torrent", &self.torrent().len())
+            .finish_non_exhaustive()
+    }
+}
+
+impl Drop for Session {
+    fn drop(&mut self) {
+        // SAFETY: free takes every handle, and the bytes go after the session that reads them.
+        unsafe {
+            sys::btcheck_session_free(&mut self.handle);
+            drop(Box::from_raw(self.torrent));
+        }
+    }
+}

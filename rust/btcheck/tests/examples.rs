@@ -1,0 +1,139 @@
+//! The safe layer over the examples of the repository.
+use btcheck::{Ask, Counts, Error, Hash, Place, Root, Session, BLOCK};
+use std::fs;
+use std::thread;
+
+fn example(name: &str) -> Vec<u8> {
+    fs::read(format!(
+        "{}/../../examples/{name}",
+        env!("CARGO_MANIFEST_DIR")
+    ))
+    .unwrap()
+}
+
+/// The file `a` of the pair: a block, and one byte more.
+fn file() -> Vec<u8> {
+    example("pair/a")
+}
+
+/// A leaf is the root of a file of that block alone.
+fn leaves(content: &[u8]) -> Vec<Hash> {
+    content
+        .chunks(BLOCK)
+        .map(|block| Root::of(block).unwrap().hash)
+        .collect()
+}
+
+fn ask_of(content: &[u8]) -> Ask {
+    Ask {
+        root: Root::of(content).unwrap().hash,
+        base: 0,
+        index: 0,
+        length: 2,
+        proof: 0,
+    }
+}
+
+fn opened() -> Session {
+    Session::open(example("pair.torrent"), true).unwrap()
+}
+
+#[test]
+fn a_root_is_that_of_the_content_however_it_is_cut() {
+    let content = file();
+    let whole = Root::of(&content).unwrap();
+    assert_eq!(whole.length, 16385);
+    assert_eq!(whole.hash[..4], [0x9d, 0x78, 0x87, 0xc6]);
+    let mut root = Root::new().unwrap();
+    for part in content.chunks(1000) {
+        root.push(part).unwrap();
+    }
+    assert_eq!(root.finish(), Ok(whole));
+    assert_eq!(root.finish(), Err(Error::NoRoot));
+    assert_eq!(Root::of(b""), Err(Error::NoRoot));
+}
+
+#[test]
+fn a_torrent_that_is_none_is_refused() {
+    assert_eq!(
+        Session::open(example("abc.txt"), true).unwrap_err(),
+        Error::Torrent(2)
+    );
+    assert_eq!(
+        Session::open(Vec::new(), true).unwrap_err(),
+        Error::Torrent(2)
+    );
+}
+
+#[test]
+fn blocks_are_verified_after_their_hashes() {
+    let (mut session, content) = (opened(), file());
+    let (ask, leaves) = (ask_of(&content), leaves(&content));
+    let block = &content[..BLOCK];
+    assert_eq!(session.take_block(0, 0, block), Err(Error::Block(3)));
+    let mut wrong = leaves.clone();
+    wrong[1][7] ^= 1;
+    assert_eq!(session.take_hashes(&ask, &wrong), Err(Error::Hashes(6)));
+    assert_eq!(session.take_hashes(&ask, &[]), Err(Error::Hashes(3)));
+    assert_eq!(session.take_hashes(&ask, &leaves), Ok(2));
+    assert_eq!(
+        session.take_block(0, 0, block),
+        Ok(Place { file: 0, block: 0 })
+    );
+    assert_eq!(
+        session.take_block(0, BLOCK as u32, &content[BLOCK..]),
+        Ok(Place { file: 0, block: 1 })
+    );
+    assert_eq!(session.take_block(0, 0, &[0; BLOCK]), Err(Error::Block(4)));
+    assert_eq!(session.take_block(0, 0, b""), Err(Error::Block(2)));
+    assert_eq!(session.take_block(9, 0, block), Err(Error::Block(1)));
+    assert_eq!(
+        session.take_block(1, 0, b"abc"),
+        Ok(Place { file: 1, block: 0 })
+    );
+    assert_eq!(
+        session.counts(0),
+        Ok(Counts {
+            known: 3,
+            marked: 2
+        })
+    );
+    assert_eq!(session.counts(2), Err(Error::NoSuch));
+}
+
+#[test]
+fn an_answer_is_that_to_a_noted_request() {
+    let (mut session, content) = (opened(), file());
+    let (ask, leaves) = (ask_of(&content), leaves(&content));
+    assert_eq!(session.answer(&ask), Err(Error::Nothing));
+    assert_eq!(session.take_answer(&ask, &leaves), Err(Error::Hashes(8)));
+    session.note(&ask).unwrap();
+    assert_eq!(session.take_answer(&ask, &leaves), Ok(2));
+    assert_eq!(session.take_answer(&ask, &leaves), Err(Error::Hashes(8)));
+    assert_eq!(session.answer(&ask), Ok(leaves));
+}
+
+#[test]
+fn sessions_move_between_threads() {
+    let made: Vec<_> = (0..8).map(|_| thread::spawn(opened)).collect();
+    let taken: Vec<_> = made
+        .into_iter()
+        .map(|session| {
+            let mut session = session.join().unwrap();
+            thread::spawn(move || session.take_block(1, 0, b"abc").map(|_| session))
+        })
+        .collect();
+    for session in taken {
+        assert_eq!(
+            session.join().unwrap().unwrap().counts(1).unwrap().marked,
+            1
+        );
+    }
+}
+
+#[test]
+fn refusals_have_the_names_of_replay() {
+    assert_eq!(Error::Block(4).to_string(), "P4 BadBlock");
+    assert_eq!(Error::Hashes(6).to_string(), "H6 Mismatch");
+    assert!(format!("{:?}", opened()).starts_with("Session { torrent: "));
+}
