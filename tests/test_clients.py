@@ -1,9 +1,16 @@
-"""Clients of the C library in other languages: in Rust and in Go."""
+"""Clients of the C library in other languages: in Rust, in Go, and a program in C++ that stands between libtorrent and its
+peers and keeps what is verified."""
+import functools
+import glob
+import json
 import os
+import re
 import subprocess
 
-from support import TOP, folder, need
+from support import TOP, LeftOut, expect, folder, need, python_with_libtorrent, run, written
 from test_library_c import LIB, made
+from test_libtorrent import World
+from trees import BLOCK
 
 
 def quietly(command, **options):
@@ -34,3 +41,92 @@ def test_go():
                "GOCACHE": f"{place}/go", "GOPROXY": "off", "GOFLAGS": "-mod=mod", "CGO_ENABLED": "1"}
         for words in (["go", "vet", "./..."], ["go", "test", "-count=1", "./..."]):
             quietly(words, cwd=f"{TOP}/go", env=env)
+
+
+@functools.cache
+def program(place):
+    """The client in C++, with the static library."""
+    made()
+    sources = sorted(glob.glob(f"{TOP}/client/*.cpp"))
+    quietly(["g++", "-std=c++17", "-O1", "-Wall", "-Wextra", "-pedantic", "-Werror", "-fsanitize=address,undefined",
+             f"-I{TOP}/include", *sources, f"{LIB}/libbtcheck.a", "-o", f"{place}/keep"])
+    return f"{place}/keep"
+
+
+# Names and lengths: whole blocks alone, a last block that is shorter, a file of a few bytes, and an
+# empty one.
+FILES = [("a", 600 * BLOCK + 5), ("b", 3 * BLOCK), ("c", 10), ("d", BLOCK), ("e", 7 * BLOCK + 100), ("f", 0)]
+
+
+def kept(world, keep, number, info_only, lies):
+    """How the client ends between libtorrent and its peers, and the folder that it has written to."""
+    place = f"{world.place}/{number}"
+    os.makedirs(f"{place}/loaded")
+    order = {"content": f"{world.place}/content", "torrent": world.torrent, "loaded": f"{place}/loaded", "program": keep,
+             "kept": f"{place}/kept", "info_only": info_only, "lies": lies}
+    done = subprocess.run([python_with_libtorrent(), f"{TOP}/tests/keeping.py"], input=json.dumps(order), stdout=subprocess.PIPE,
+                          stderr=subprocess.PIPE, text=True, timeout=300)
+    return (json.loads(done.stdout) if done.returncode == 0 else None), f"{place}/kept", done.stderr
+
+
+def see_nothing_false(world, folder):
+    """Each block that was written is that of the content; what was not is a hole of zeros, or lies behind the end."""
+    for name, content in world.files:
+        seen = written(f"{folder}/{name}")
+        assert len(seen) <= len(content), name
+        for at in range(0, len(seen), BLOCK):
+            block = seen[at:at + BLOCK]
+            assert block == content[at:at + BLOCK] or not any(block), (name, at)
+
+
+def refusals(said):
+    """How often the client met each refusal, by the end of its last line."""
+    return {name: int(count) for name, count in re.findall(r", ([HP][0-9]) ([0-9]+)", said)}
+
+
+def see_all(world, keep, info_only, lies):
+    """The client ends with all that is true, and without anything else. Tried three times, since libtorrent may give a
+    connection up; nothing false is written each time."""
+    for number in range(3):
+        outcome, folder, fault = kept(world, keep, number, info_only, lies)
+        see_nothing_false(world, folder)
+        if outcome and outcome["status"] == 0:
+            break
+    assert outcome and outcome["status"] == 0, (outcome, fault)
+    for name, content in world.files:
+        assert written(f"{folder}/{name}") == content, name
+    counts, blocks = refusals(outcome["said"]), sum(-(-length // BLOCK) for _, length in FILES)
+    assert f"written {blocks} of {blocks}," in outcome["said"], outcome
+    assert not counts if not lies else counts.get("H6", 0) > 0 and set(counts) <= {"H2", "H6", "P1", "P4"}, outcome
+    return outcome
+
+
+def test_keep():
+    """From a true peer, with and without the torrent's piece layers, of version 2 and of a hybrid; and from a liar too."""
+    need("g++")
+    if not python_with_libtorrent():
+        raise LeftOut("no Python here has libtorrent: the Debian package is python3-libtorrent")
+    ways = [(BLOCK, False, False, False), (4 * BLOCK, False, True, False), (4 * BLOCK, True, False, False),
+            (2 * BLOCK, False, False, True), (4 * BLOCK, False, True, True), (4 * BLOCK, True, False, True)]
+    lies = 0
+    with folder() as place:
+        keep = program(place)
+        for number, (piece_length, hybrid, info_only, with_liar) in enumerate(ways):
+            os.mkdir(f"{place}/{number}")
+            world = World(f"{place}/{number}", FILES, piece_length, hybrid, number)
+            outcome = see_all(world, keep, info_only, with_liar)
+            lies += outcome["blocks"]
+    assert lies > 0, "no block was false"
+
+
+def test_keep_refuses():
+    """A torrent that is refused, a file that is there already, and wrong words."""
+    need("g++")
+    with folder() as place:
+        keep = program(place)
+        pair, there = f"{TOP}/examples/pair.torrent", f"{place}/there"
+        expect(run(program=keep), 2, b"", None)
+        expect(run(f"{TOP}/examples/abc.txt", there, "1", "127.0.0.1:1", program=keep), 2, b"", "fault: refused: 102\n")
+        done = run(pair, there, "0", "127.0.0.1:1", program=keep)
+        assert done.returncode == 1 and b"written 0 of 3," in done.stdout and done.stderr == b"", done
+        expect(run(pair, there, "0", "127.0.0.1:1", program=keep), 2, b"", f"fault: {there}/a: File exists\n")

@@ -1,0 +1,49 @@
+// What is kept of a download: the blocks that the session has verified.
+#pragma once
+
+#include "session.hpp"
+
+#include <deque>
+#include <map>
+#include <string>
+#include <vector>
+
+namespace keep {
+
+// Writes verified blocks, and nothing else, into files below a folder. Blocks whose leaf is not known yet wait in memory,
+// at most `most_waiting` of them; the oldest goes first, since the client asks for it again if it is missed.
+class Keeper {
+public:
+  Keeper(Session &session, const std::string &folder);
+  ~Keeper();
+
+  // The content of one piece message: one block, or several in a row.
+  void take_blocks(uint32_t index, uint32_t begin, const uint8_t *bytes, size_t len);
+  // New hashes are known: looks at the blocks that wait for them.
+  void look_again();
+  void refused_hashes(btcheck_status status) { refused_[status]++; }
+
+  bool is_whole() const { return written_count_ == layout_.blocks(); }
+  std::string told() const;
+
+private:
+  static constexpr size_t most_waiting = 4096;
+  struct Waiting {
+    uint32_t index, begin;
+    std::vector<uint8_t> bytes;
+  };
+
+  void take_block(uint32_t index, uint32_t begin, const uint8_t *bytes, size_t len);
+  size_t without_padding(uint32_t index, uint32_t begin, const uint8_t *bytes, size_t len);
+  void write(Place place, const uint8_t *bytes, size_t len);
+
+  Session &session_;
+  Layout layout_;
+  std::vector<int> outs_;
+  std::vector<std::vector<bool>> written_;
+  std::deque<Waiting> waiting_;
+  std::map<btcheck_status, uint64_t> refused_;
+  uint64_t written_count_ = 0, again_ = 0, padded_ = 0, dropped_ = 0;
+};
+
+} // namespace keep

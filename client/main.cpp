@@ -1,0 +1,36 @@
+// keep TORRENT FOLDER SECONDS HOST:PORT..: stands between a client of BitTorrent and its peers, and writes into FOLDER what
+// the C library verifies of all that they send, and nothing else. For each peer it prints a line `PORT for HOST:PORT`:
+// let the client connect to that port of this machine. It ends when all blocks are written, with status 0, or after
+// SECONDS, with 1; the last line says what was written, and what was refused.
+#include "relay.hpp"
+
+#include <cstdio>
+#include <cstdlib>
+#include <exception>
+#include <fstream>
+#include <iterator>
+
+int main(int count, char **words) try {
+  if (count < 5) {
+    std::fprintf(stderr, "usage: keep TORRENT FOLDER SECONDS HOST:PORT..\n");
+    return 2;
+  }
+  std::ifstream in(words[1], std::ios::binary);
+  std::string torrent{std::istreambuf_iterator<char>(in), {}};
+  keep::Session session(std::move(torrent));
+  keep::Keeper keeper(session, words[2]);
+  keep::Relay relay(session, keeper);
+  for (int at = 4; at < count; at++) {
+    std::string peer = words[at];
+    size_t colon = peer.rfind(':');
+    if (colon == std::string::npos) throw std::runtime_error("no port: " + peer);
+    std::printf("%u for %s\n", unsigned(relay.add_peer(peer.substr(0, colon), peer.substr(colon + 1))), words[at]);
+  }
+  std::fflush(stdout);
+  relay.run(std::atof(words[3]));
+  std::printf("%s\n", keeper.told().c_str());
+  return keeper.is_whole() ? 0 : 1;
+} catch (const std::exception &error) {
+  std::fprintf(stderr, "fault: %s\n", error.what());
+  return 2;
+}
