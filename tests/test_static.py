@@ -127,6 +127,17 @@ def test_both():
     print("bytes:", ", ".join(f"{os.path.relpath(it, TOP)} {size}" for it, size in sizes.items()))
 
 
+def test_no_path_in_programs():
+    """What is built does not say where: two builds in two folders give the same bytes."""
+    seen = 0
+    for path in [BTCHECK, STATIC, BOTH, *(f"{TOP}/{it}" for it in OBJECTS), f"{TOP}/build/lib/libbtcheck.so.0"]:
+        if os.path.exists(path):
+            content, seen = written(path), seen + 1
+            for place in (TOP, os.path.expanduser("~") + "/", os.path.dirname(os.path.realpath(shutil.which("rt") or "/rt/rt"))):
+                assert os.fsencode(place) not in content, (path, place)
+    assert seen > 0
+
+
 # What a program says on a processor that lacks something.
 LACKS = "this machine lacks a feature of {}, which this program was built for"
 
