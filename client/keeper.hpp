@@ -23,6 +23,7 @@ public:
   void look_again();
   void refused_hashes(btcheck_status status) { refused_[status]++; }
 
+  const Layout &layout() const { return layout_; }
   bool is_whole() const { return written_count_ == layout_.blocks(); }
   std::string told() const;
 

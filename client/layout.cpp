@@ -2,6 +2,8 @@
 // the right shape, so nothing is tested here again.
 #include "session.hpp"
 
+#include <algorithm>
+
 namespace keep {
 namespace {
 
@@ -60,15 +62,20 @@ void find(Reader &in, const std::string &key) {
   while (in.string() != key) in.skip();
 }
 
-// What a file tree has under the empty key of a file.
-uint64_t length_of_file(Reader &in) {
-  uint64_t length = 0;
+// Reads what a file tree has under the empty key of a file.
+void read_file(Reader &in, File &file) {
   for (in.enter(); !in.ends();) {
-    if (in.string() == "length") length = in.number();
-    else in.skip();
+    std::string key = in.string();
+    if (key == "length") {
+      file.length = in.number();
+    } else if (key == "pieces root") {
+      std::string root = in.string();
+      std::copy(root.begin(), root.end(), file.root.begin());
+    } else {
+      in.skip();
+    }
   }
   in.leave();
-  return length;
 }
 
 void read_tree(Reader &in, const std::string &path, Layout &found) {
@@ -78,13 +85,13 @@ void read_tree(Reader &in, const std::string &path, Layout &found) {
       read_tree(in, path.empty() ? name : path + "/" + name, found);
       continue;
     }
-    uint64_t first = 0;
+    File file{path, 0, 0, {}};
     if (!found.files.empty()) {
       const File &last = found.files.back();
-      first = last.first_piece + (last.length + found.piece_length - 1) / found.piece_length;
+      file.first_piece = last.first_piece + (last.length + found.piece_length - 1) / found.piece_length;
     }
-    uint64_t length = length_of_file(in);
-    found.files.push_back(File{path, length, first});
+    read_file(in, file);
+    found.files.push_back(file);
   }
   in.leave();
 }

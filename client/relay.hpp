@@ -18,10 +18,9 @@ struct End {
   bool has_greeted = false;
 };
 
-// A range of hashes that is not known yet, by one of its blocks, and who was asked for it and failed.
+// A range of at most 512 leaves of a tree, and who was asked for its hashes and failed.
 struct Gap {
-  size_t tree;
-  uint64_t block;
+  btcheck_ask ask;
   bool is_known = false;
   int asked = -1; // the link that is asked now
   std::set<int> failed;

@@ -57,8 +57,12 @@ public:
     return btcheck_session_take_answer(&handle_, &ask, rows(hashes), hashes.size(), &places);
   }
 
-  btcheck_status want(size_t tree, uint64_t block, btcheck_ask &ask) {
-    return btcheck_session_want(&handle_, tree, block, &ask);
+  // Whether all hashes that this asks for are known.
+  bool knows(const btcheck_ask &ask) {
+    uint8_t room[1][32];
+    uint64_t count;
+    btcheck_status status = btcheck_session_answer(&handle_, &ask, room, 1, &count);
+    return status == BTCHECK_OK || status == BTCHECK_TOO_SMALL;
   }
 
   btcheck_status note(const btcheck_ask &ask) { return btcheck_session_note(&handle_, &ask); }
@@ -73,10 +77,11 @@ private:
   btcheck_session handle_ = BTCHECK_INIT;
 };
 
-// A file of the torrent: its path below the folder, its length, and the number of its first piece.
+// A file of the torrent: its path below the folder, its length, the number of its first piece, and its root.
 struct File {
   std::string path;
   uint64_t length, first_piece;
+  Hash root;
 
   uint64_t blocks() const { return (length + BTCHECK_BLOCK - 1) / BTCHECK_BLOCK; }
 
