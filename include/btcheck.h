@@ -39,11 +39,12 @@ enum {
   BTCHECK_OK = 0,
   BTCHECK_WRONG_HANDLE = 1, /* it holds nothing, or something else; of new and open: it is full */
   BTCHECK_NO_MEMORY = 2,
-  BTCHECK_TOO_LONG = 3,  /* more than 2^46 bytes */
+  BTCHECK_TOO_LONG = 3,  /* a file has more than 2^46 bytes, or a body 2^32 or more */
   BTCHECK_NO_ROOT = 4,   /* an empty file has none */
   BTCHECK_NO_SUCH = 5,   /* no such tree, block or file */
-  BTCHECK_NOTHING = 6,   /* nothing to ask for, or nothing to answer with */
+  BTCHECK_NOTHING = 6,   /* nothing to ask for, nothing to answer with, or not marked */
   BTCHECK_TOO_SMALL = 7, /* the caller's room has too few places */
+  BTCHECK_BAD_SIZE = 8,  /* a message of id 7, 21, 22 or 23 has a wrong size */
 
   /* Refusals of a torrent: 100 and the number that `btcheck show` prints. */
   BTCHECK_TORRENT_TOO_LARGE = 101,
@@ -84,6 +85,12 @@ enum {
   BTCHECK_P3_UNPROVED = 303,
   BTCHECK_P4_BAD_BLOCK = 304
 };
+
+/* The version of this header: a byte for each of its three numbers, here 0.2.0. */
+#define BTCHECK_VERSION 0x000200
+
+/* The version of the library that is linked, in the same form. */
+uint32_t btcheck_version(void);
 
 /* Bytes of a block that is not its file's last, and of a hash. */
 #define BTCHECK_BLOCK 16384
@@ -129,9 +136,38 @@ btcheck_status btcheck_session_open(btcheck_session *session, const uint8_t *tor
 
 void btcheck_session_free(btcheck_session *session);
 
+/* How many files and how many trees the torrent has. Trees are its distinct roots, numbered from 0
+   in the order of first use. */
+btcheck_status btcheck_session_files(btcheck_session *session, uint64_t *files, uint64_t *trees);
+
+/* A file of a torrent. */
+typedef struct btcheck_file {
+  uint64_t length;      /* in bytes */
+  uint64_t first_piece; /* the piece at which it begins; if it is empty, the next file's */
+  uint64_t tree;        /* the number of its tree; if it is empty, UINT64_MAX: it has none */
+  uint8_t root[32];     /* its root; if it is empty, zeros */
+} btcheck_file;
+
+/* File `number`, from 0, in the order of the torrent. BTCHECK_NO_SUCH: there are fewer. */
+btcheck_status btcheck_session_file(btcheck_session *session, size_t number, btcheck_file *file);
+
+/* A file's path at the front of the room, its components joined by `/`, without a zero byte, and how
+   many bytes it has. It leads to no place outside the folder in which it is looked up.
+   BTCHECK_TOO_SMALL: `length` is how many bytes the room must have, and nothing goes there. */
+btcheck_status btcheck_session_path(btcheck_session *session, size_t number, uint8_t *room,
+                                    size_t size, uint64_t *length);
+
+/* The info-hashes: SHA-256 (BEP 52) and SHA-1 (BEP 3) of the info dictionary. */
+btcheck_status btcheck_session_info_hashes(btcheck_session *session, uint8_t v2[32],
+                                           uint8_t v1[20]);
+
 /* How many places of a tree are known, and how many leaves are marked as verified. */
 btcheck_status btcheck_session_counts(btcheck_session *session, size_t tree, uint64_t *known,
                                       uint64_t *marked);
+
+/* BTCHECK_OK if the leaf of a block of a tree is marked as verified. BTCHECK_NOTHING: it is not.
+   BTCHECK_NO_SUCH: there is no such tree, or its files have no such block. */
+btcheck_status btcheck_session_is_marked(btcheck_session *session, size_t tree, uint64_t block);
 
 /* ---- messages of peers */
 
@@ -149,6 +185,43 @@ btcheck_status btcheck_session_take_block(btcheck_session *session, uint32_t ind
                                           const uint8_t *bytes, size_t len, uint64_t *file,
                                           uint64_t *block);
 
+/* Blocks of one piece message: consecutive blocks of a file, from the first one on. */
+typedef struct btcheck_blocks {
+  uint64_t file, first, count;  /* count: 1 to 17 */
+  btcheck_status statuses[17]; /* of each block: 0, or 302 to 304 */
+} btcheck_blocks;
+
+/* All blocks of a piece message (BEP 3), which may be several. BTCHECK_OK: `blocks` says of each
+   whether it is verified. 301 or 302: the whole message is refused. */
+btcheck_status btcheck_session_take_blocks(btcheck_session *session, uint32_t index,
+                                           uint32_t begin, const uint8_t *bytes, size_t len,
+                                           btcheck_blocks *blocks);
+
+/* What a message was, and what was made of it. */
+enum {
+  BTCHECK_STORED = 1,      /* hashes, which are joined: `places` are newly known */
+  BTCHECK_BLOCKS = 2,      /* blocks, as `blocks` says */
+  BTCHECK_ANSWERED = 3,    /* a hash request that answer would give hashes for */
+  BTCHECK_REJECTED = 4,    /* a hash request to be rejected */
+  BTCHECK_REJECT_NOTED = 5, /* a reject of our request */
+  BTCHECK_KEEP_ALIVE = 6,  /* an empty body */
+  BTCHECK_SKIPPED = 7      /* a message of another kind, whose `id` is told */
+};
+
+typedef struct btcheck_verdict {
+  uint32_t kind, id;
+  uint64_t places;
+  btcheck_blocks blocks;
+} btcheck_verdict;
+
+/* The body of one frame of the peer protocol as it came, without the four bytes of its length: for
+   clients that pass messages on. Hashes are taken as by take_hashes, blocks as by take_blocks; a
+   request is not answered, but `kind` tells whether it can be. Only what `kind` says is written.
+   BTCHECK_BAD_SIZE: a wrong size for its id. BTCHECK_TOO_LONG: 2^32 bytes or more. 201 to 207,
+   301 or 302: the message is refused. */
+btcheck_status btcheck_session_frame(btcheck_session *session, const uint8_t *body, size_t len,
+                                     btcheck_verdict *verdict);
+
 /* ---- requests for hashes */
 
 /* The five fields of a hash request (BEP 52). */
@@ -156,6 +229,12 @@ typedef struct btcheck_ask {
   uint8_t root[32];
   uint32_t base, index, length, proof;
 } btcheck_ask;
+
+/* What to ask for next to learn the leaf of a block of a tree: at most 512 leaves, with
+   proof up to the root. BTCHECK_NOTHING: the leaf is known. BTCHECK_NO_SUCH: there is no such
+   tree, or its files have no such block. */
+btcheck_status btcheck_session_want(btcheck_session *session, size_t tree, uint64_t block,
+                                    btcheck_ask *ask);
 
 /* Notes that a request with these fields was sent: its ask is open until hashes
    answer it. BTCHECK_NO_MEMORY: it is not noted. */
@@ -172,6 +251,10 @@ btcheck_status btcheck_session_take_answer(btcheck_session *session, const btche
    BTCHECK_NOTHING: reject the request. BTCHECK_NO_MEMORY: memory was refused. */
 btcheck_status btcheck_session_answer(btcheck_session *session, const btcheck_ask *ask,
                                       uint8_t (*room)[32], size_t places, uint64_t *count);
+
+/* BTCHECK_OK if answer would give hashes for this request. BTCHECK_NOTHING: it has to be
+   rejected. */
+btcheck_status btcheck_session_can_answer(btcheck_session *session, const btcheck_ask *ask);
 
 #ifdef __cplusplus
 }

@@ -1,6 +1,8 @@
 """The C library: its header and symbols, each status through C and through Python, memory that is refused, and records through
 a program in C beside `btcheck replay`. The tests build it by `make lib`, if that was not run before."""
+import ctypes
 import functools
+import hashlib
 import os
 import random
 import re
@@ -10,8 +12,8 @@ import sys
 
 import messages
 from support import TOP, LeftOut, folder, need, run, write
-from torrents import torrent_of
-from trees import BLOCK, Tree, blocks_of, root_of
+from torrents import bencoded, file, info, torrent, torrent_of
+from trees import BLOCK, Tree, blocks_of, layer, root_of
 
 LIB = f"{TOP}/build/lib"
 HEADER = f"{TOP}/include/btcheck.h"
@@ -181,6 +183,109 @@ def test_requests():
             ("no such range", told(session.answer, (ROOT, 0, 1, 2, 0)), (6, None)),
         ])
     assert told(session.note, ask) == (1, None)
+
+
+def test_what_is_wanted():
+    """What is wanted is learnt by its answer, and blocks are marked one by one."""
+    ask = (ROOT, 0, 0, 8, 2)
+    with module().Session(TORRENT, layers=False) as session:
+        expected([
+            ("no tree", told(session.want, 9, 0), (5, None)),
+            ("no block", told(session.want, 0, len(BLOCKS)), (5, None)),
+            ("all leaves", told(session.want, 0, 5), (0, ask)),
+            ("a leaf that is the root", told(session.want, 1, 0), (0, None)),
+            ("not to be answered", told(session.can_answer, ask), (0, False)),
+            ("of no tree", told(session.can_answer, (bytes(32), 0, 0, 8, 2)), (0, False)),
+            ("taken", told(session.take_hashes, ask, LEAVES), (0, 14)),
+            ("known", told(session.want, 0, 5), (0, None)),
+            ("to be answered", told(session.can_answer, ask), (0, True)),
+            ("not marked", told(session.is_marked, 0, 1), (0, False)),
+            ("a block", told(session.take_block, 0, BLOCK, BLOCKS[1]), (0, (0, 1))),
+            ("marked", told(session.is_marked, 0, 1), (0, True)),
+            ("another block", told(session.is_marked, 0, 2), (0, False)),
+            ("marks of no tree", told(session.is_marked, 9, 0), (5, None)),
+            ("marks of no block", told(session.is_marked, 0, len(BLOCKS)), (5, None)),
+        ])
+
+
+def test_files():
+    """Paths, lengths, first pieces, roots and info-hashes, an empty file among them."""
+    dictionary = info({"d": {"e": {"f": file(CONTENT)}}, "empty": file(b""), "x": file(SMALL)}, 2 * BLOCK)
+    spelling = bencoded(dictionary)
+    with module().Session(torrent(dictionary, {ROOT: layer(CONTENT, 2)})) as session:
+        expected([
+            ("the counts", (session.file_count(), session.tree_count()), (3, 2)),
+            ("all files", told(session.files), (0, [
+                ("d/e/f", len(CONTENT), 0, 0, ROOT), ("empty", 0, 3, None, None), ("x", 300, 3, 1, root_of(SMALL))])),
+            ("no file", told(session.file, 3), (5, None)),
+            ("no path", told(session.path, 3), (5, None)),
+            ("the info-hashes", told(session.info_hashes), (0, (hashlib.sha256(spelling).digest(), hashlib.sha1(spelling).digest()))),
+        ])
+    with module().Session(torrent(info({"p" * 255: {"q" * 255: file(SMALL)}}))) as session:
+        assert session.path(0) == "p" * 255 + "/" + "q" * 255
+
+
+def test_rooms():
+    """A room that is too small is left alone; in one that is large enough only the front is written."""
+    with module().Session(torrent(info({"ab": {"c": file(SMALL)}}))) as session:
+        for size in range(8):
+            room, length = ctypes.create_string_buffer(b"........", 8), ctypes.c_uint64()
+            status = 0 if size >= 4 else 7
+            assert told(module()._path, session._handle, 0, room, size, length)[0] == status
+            assert (length.value, room.raw) == (4, b"ab/c...." if size >= 4 else b"........"), (size, room.raw)
+
+
+def test_messages_of_several_blocks():
+    wrong = BLOCKS[0] + b"\0" * BLOCK + BLOCKS[2]
+    with module().Session(TORRENT, layers=False) as session:
+        def taken(*given):
+            status, blocks = told(session.take_blocks, *given)
+            return status, blocks and (blocks.file, blocks.first, [0 if one is None else one.status for one in blocks.outcomes])
+        expected([
+            ("P1", taken(77, 0, CONTENT), (301, None)),
+            ("P2", taken(0, 0, CONTENT + b"a"), (302, None)),
+            ("no bytes", taken(0, 0, b""), (302, None)),
+            ("unproved", taken(0, BLOCK, CONTENT[BLOCK:]), (0, (0, 1, [303] * 5))),
+            ("hashes", told(session.take_hashes, (ROOT, 0, 0, 8, 0), LEAVES), (0, 14)),
+            ("one is bad", taken(0, 0, wrong), (0, (0, 0, [0, 304, 0]))),
+            ("marks", [told(session.is_marked, 0, block)[1] for block in range(6)], [True, False, True, False, False, False]),
+            ("all", taken(0, 0, CONTENT), (0, (0, 0, [0] * 6))),
+        ])
+    long = random.Random(9).randbytes(18 * BLOCK)
+    with module().Session(torrent_of([("a", long)], BLOCK)) as session:
+        status, blocks = told(session.take_blocks, 0, 0, long[:16 * BLOCK])
+        assert (status, blocks) == (0, (0, 0, [None] * 16)), (status, blocks)
+        assert told(session.take_blocks, 0, 0, long[:17 * BLOCK]) == (302, None)
+
+
+def test_frames():
+    """Each kind of body, as `replay` takes it; a body with false hashes is refused by its number."""
+    def body(frame):
+        return frame[4:]
+    with module().Session(TORRENT, layers=False) as session:
+        kinds = module()
+        expected([
+            ("nothing", told(session.frame, b""), (0, kinds.KeepAlive())),
+            ("another id", told(session.frame, bytes([4, 0, 0])), (0, kinds.Skipped(4))),
+            ("a bad piece", told(session.frame, bytes([7, 0])), (8, None)),
+            ("a bad request", told(session.frame, bytes([21])), (8, None)),
+            ("to be rejected", told(session.frame, body(messages.request(ROOT, 0, 0, 8, 0))), (0, kinds.Rejected())),
+            ("H6", told(session.frame, body(messages.hashes(ROOT, 0, 0, 8, 0, given=LEAVES[1:2] + LEAVES[1:]))), (206, None)),
+            ("stored", told(session.frame, body(messages.hashes(ROOT, 0, 0, 8, 0, given=LEAVES))), (0, kinds.Stored(14))),
+            ("answered", told(session.frame, body(messages.request(ROOT, 0, 0, 8, 0))), (0, kinds.Answered())),
+            ("a reject", told(session.frame, b"\x17" + body(messages.request(ROOT, 0, 0, 8, 0))[1:]), (0, kinds.RejectNoted())),
+            ("P1", told(session.frame, body(messages.piece(77, 0, BLOCKS[0]))), (301, None)),
+            ("blocks", told(session.frame, body(messages.piece(0, 0, CONTENT))), (0, kinds.Blocks(0, 0, [None] * 6))),
+            ("at last", told(session.counts, 0), (0, (15, 6))),
+        ])
+
+
+def test_version():
+    """The header, the module and the program tell one version."""
+    version = run("--version").stdout.decode().split()[1]
+    with open(HEADER, encoding="utf-8") as file:
+        number = int(re.search(r"#define BTCHECK_VERSION (\w+)", file.read())[1], 16)
+    assert module().version() == version == f"{number >> 16}.{number >> 8 & 255}.{number & 255}", version
 
 
 def test_refused_torrents():

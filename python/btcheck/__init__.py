@@ -53,7 +53,7 @@ class NoSuch(Refused, LookupError):
 
 
 class Nothing(Refused):
-    """The request cannot be answered."""
+    """There is nothing to ask for, or the request cannot be answered."""
 
     status = 6
 
@@ -62,6 +62,12 @@ class TooSmall(Refused):
     """The room is too small."""
 
     status = 7
+
+
+class BadFrame(Refused):
+    """A message of id 7, 21, 22 or 23 has a wrong size."""
+
+    status = 8
 
 
 class TorrentRefused(Refused):
@@ -85,7 +91,7 @@ def _named(base: type[Refused], first: int, names: str) -> dict[int, type[Refuse
 
 
 _BY_STATUS: dict[int, type[Refused]] = {
-    **{kind.status: kind for kind in (WrongHandle, OutOfMemory, TooLong, NoRoot, NoSuch, Nothing, TooSmall)},
+    **{kind.status: kind for kind in (WrongHandle, OutOfMemory, TooLong, NoRoot, NoSuch, Nothing, TooSmall, BadFrame)},
     **_named(TorrentRefused, 101, "TooLarge NotBencode Missing WrongType Version PieceLength Shape Path Symlink Length Root "
              "RootReused NoFiles TooManyPieces LayerMissing LayerSize LayerMismatch HybridFiles HybridAlign HybridPieces "
              "TorrentOutOfMemory"),
@@ -104,6 +110,53 @@ class Ask(NamedTuple):
     proof: int
 
 
+class File(NamedTuple):
+    """A file of a torrent. An empty one has no tree and no root, and the first piece of the next file."""
+
+    path: str
+    length: int
+    first_piece: int
+    tree: int | None
+    root: bytes | None
+
+
+class Stored(NamedTuple):
+    """Hashes were taken, and so many places are newly known."""
+
+    places: int
+
+
+class Blocks(NamedTuple):
+    """What is made of the blocks of one piece message: consecutive blocks of a file, from the first one on. An outcome is
+    None if the block is verified, else the refusal."""
+
+    file: int
+    first: int
+    outcomes: list[Refused | None]
+
+
+class Answered(NamedTuple):
+    """A hash request came that `answer` gives hashes for."""
+
+
+class Rejected(NamedTuple):
+    """A hash request came that has to be rejected."""
+
+
+class RejectNoted(NamedTuple):
+    """A peer rejected our request."""
+
+
+class KeepAlive(NamedTuple):
+    """An empty body came."""
+
+
+class Skipped(NamedTuple):
+    """A message of another kind came."""
+
+    id: int
+
+
 class _Handle(_c.Structure):
     _fields_ = [("full", _c.c_bool), ("at", _c.c_void_p)]
 
@@ -113,9 +166,39 @@ class _Ask(_c.Structure):
                 ("proof", _c.c_uint32)]
 
 
+class _File(_c.Structure):
+    _fields_ = [("length", _c.c_uint64), ("first_piece", _c.c_uint64), ("tree", _c.c_uint64), ("root", _c.c_ubyte * 32)]
+
+
+class _Blocks(_c.Structure):
+    _fields_ = [("file", _c.c_uint64), ("first", _c.c_uint64), ("count", _c.c_uint64), ("statuses", _c.c_uint32 * 17)]
+
+    def read(self) -> Blocks:
+        outcomes = [_refusal(status) if status else None for status in self.statuses[:self.count]]
+        return Blocks(self.file, self.first, outcomes)
+
+
+class _Verdict(_c.Structure):
+    _fields_ = [("kind", _c.c_uint32), ("id", _c.c_uint32), ("places", _c.c_uint64), ("blocks", _Blocks)]
+
+    def read(self):
+        if self.kind == 1:
+            return Stored(self.places)
+        if self.kind == 2:
+            return self.blocks.read()
+        if self.kind == 7:
+            return Skipped(self.id)
+        return {3: Answered, 4: Rejected, 5: RejectNoted, 6: KeepAlive}[self.kind]()
+
+
 _library = _c.CDLL(_os.environ.get("LIBBTCHECK", "libbtcheck.so.0"))
 _u32, _u64, _size = _c.c_uint32, _c.c_uint64, _c.c_size_t
 _to_u64, _to_ask = _c.POINTER(_c.c_uint64), _c.POINTER(_Ask)
+
+
+def _refusal(status: int) -> Refused:
+    """The exception of a status."""
+    return _BY_STATUS.get(status, Refused)()
 
 
 def _call(name: str, *types, result=_u32):
@@ -126,7 +209,7 @@ def _call(name: str, *types, result=_u32):
     def checked(*arguments) -> None:
         status = function(*arguments)
         if status:
-            raise _BY_STATUS.get(status, Refused)()
+            raise _refusal(status)
 
     return checked
 
@@ -139,9 +222,18 @@ _open = _call("session_open", _c.c_char_p, _size, _c.c_bool)
 _take_hashes = _call("session_take_hashes", _c.c_char_p, _u32, _u32, _u32, _u32, _c.c_char_p, _size, _to_u64)
 _take_block = _call("session_take_block", _u32, _u32, _c.c_char_p, _size, _to_u64, _to_u64)
 _counts = _call("session_counts", _size, _to_u64, _to_u64)
+_take_blocks = _call("session_take_blocks", _u32, _u32, _c.c_char_p, _size, _c.POINTER(_Blocks))
+_frame = _call("session_frame", _c.c_char_p, _size, _c.POINTER(_Verdict))
+_files = _call("session_files", _to_u64, _to_u64)
+_file = _call("session_file", _size, _c.POINTER(_File))
+_path = _call("session_path", _size, _c.c_char_p, _size, _to_u64)
+_info_hashes = _call("session_info_hashes", _c.c_char_p, _c.c_char_p)
+_is_marked = _call("session_is_marked", _size, _u64)
+_want = _call("session_want", _size, _u64, _to_ask)
 _note = _call("session_note", _to_ask)
 _take_answer = _call("session_take_answer", _to_ask, _c.c_char_p, _size, _to_u64)
 _answer = _call("session_answer", _to_ask, _c.c_char_p, _size, _to_u64)
+_can_answer = _call("session_can_answer", _to_ask)
 _session_free = _call("session_free", result=None)
 
 
@@ -165,6 +257,21 @@ def _number(number: int, bits: int = 32) -> int:
     if not 0 <= number < 1 << bits:
         raise OverflowError(f"{number} has no place in {bits} bits")
     return number
+
+
+def _holds(check, *arguments) -> bool:
+    """Whether a call answers 0, where Nothing means no."""
+    try:
+        check(*arguments)
+    except Nothing:
+        return False
+    return True
+
+
+def version() -> str:
+    """The version of the library."""
+    number = _library.btcheck_version()
+    return f"{number >> 16}.{number >> 8 & 255}.{number & 255}"
 
 
 class _Owner:
@@ -233,11 +340,80 @@ class Session(_Owner):
         _take_block(self._handle, _number(index), _number(begin), block, len(block), file, number)
         return file.value, number.value
 
+    def take_blocks(self, index: int, begin: int, data: bytes) -> Blocks:
+        """Takes all blocks of a piece message, at most 17, and says of each whether it is verified. Raises BadPlace or
+        BadSize if the whole message is refused."""
+        data, blocks = bytes(data), _Blocks()
+        _take_blocks(self._handle, _number(index), _number(begin), data, len(data), blocks)
+        return blocks.read()
+
+    def frame(self, body: bytes) -> Stored | Blocks | Answered | Rejected | RejectNoted | KeepAlive | Skipped:
+        """Takes the body of one frame as it came, without the four bytes of its length. Raises the refusal of its hashes or
+        of its blocks as a whole, or BadFrame."""
+        body, verdict = bytes(body), _Verdict()
+        _frame(self._handle, body, len(body), verdict)
+        return verdict.read()
+
+    def files(self) -> list[File]:
+        """The files of the torrent, in its order."""
+        return [self.file(number) for number in range(self.file_count())]
+
+    def file_count(self) -> int:
+        """How many files the torrent has."""
+        return self._numbers_of_all()[0]
+
+    def tree_count(self) -> int:
+        """How many trees the torrent has: its distinct roots."""
+        return self._numbers_of_all()[1]
+
+    def _numbers_of_all(self) -> tuple[int, int]:
+        files, trees = _u64(), _u64()
+        _files(self._handle, files, trees)
+        return files.value, trees.value
+
+    def file(self, number: int) -> File:
+        """A file of the torrent, numbered from 0. Raises NoSuch if there are fewer."""
+        told = _File()
+        _file(self._handle, _number(number, 64), told)
+        tree = None if told.tree == 2**64 - 1 else told.tree
+        root = None if tree is None else bytes(told.root)
+        return File(self.path(number), told.length, told.first_piece, tree, root)
+
+    def path(self, number: int) -> str:
+        """A file's path, its components joined by `/`."""
+        size = 256
+        while True:
+            room, length = _c.create_string_buffer(size), _u64()
+            try:
+                _path(self._handle, _number(number, 64), room, size, length)
+            except TooSmall:
+                size = length.value
+                continue
+            return room.raw[:length.value].decode()
+
+    def info_hashes(self) -> tuple[bytes, bytes]:
+        """The info-hashes of version 2 and version 1: SHA-256 and SHA-1 of the info dictionary."""
+        v2, v1 = _c.create_string_buffer(32), _c.create_string_buffer(20)
+        _info_hashes(self._handle, v2, v1)
+        return v2.raw, v1.raw
+
     def counts(self, tree: int) -> tuple[int, int]:
         """How many places of a tree are known, and how many leaves are marked as verified."""
         known, marked = _u64(), _u64()
         _counts(self._handle, _number(tree, 64), known, marked)
         return known.value, marked.value
+
+    def is_marked(self, tree: int, block: int) -> bool:
+        """Whether the leaf of a block of a tree is marked as verified. Raises NoSuch if there is no such block."""
+        return _holds(_is_marked, self._handle, _number(tree, 64), _number(block, 64))
+
+    def want(self, tree: int, block: int) -> Ask | None:
+        """What to ask for next to learn the leaf of a block of a tree; None if it is known. Raises NoSuch if there is no
+        such block."""
+        asked = _Ask()
+        if not _holds(_want, self._handle, _number(tree, 64), _number(block, 64), asked):
+            return None
+        return Ask(bytes(asked.root), asked.base, asked.index, asked.length, asked.proof)
 
     def note(self, ask: Sequence) -> None:
         """Notes that a request with these five fields was sent."""
@@ -260,3 +436,7 @@ class Session(_Owner):
                 continue
             return [space.raw[at:at + 32] for at in range(0, 32 * count.value, 32)]
         raise TooSmall
+
+    def can_answer(self, ask: Sequence) -> bool:
+        """Whether `answer` would give hashes for this request."""
+        return _holds(_can_answer, self._handle, _laid_out(ask))

@@ -6,7 +6,10 @@
 #include <stdlib.h>
 
 static btcheck_ask ask;
-static uint8_t hash[1][32], bytes[1 << 20];
+static btcheck_file file;
+static btcheck_blocks blocks;
+static btcheck_verdict verdict;
+static uint8_t hash[1][32], small[20], bytes[1 << 20];
 static uint64_t one, other;
 
 /* Every call on a session but open. */
@@ -18,7 +21,17 @@ static void want_of_session(btcheck_session *session, btcheck_status status) {
   WANT(btcheck_session_note(session, &ask), status);
   WANT(btcheck_session_take_answer(session, &ask, (const uint8_t(*)[32])hash, 1, &one), status);
   WANT(btcheck_session_answer(session, &ask, hash, 1, &one), status);
-  CHECK(one == 7 && other == 7);
+  WANT(btcheck_session_want(session, 0, 0, &ask), status);
+  WANT(btcheck_session_can_answer(session, &ask), status);
+  WANT(btcheck_session_is_marked(session, 0, 0), status);
+  WANT(btcheck_session_files(session, &one, &other), status);
+  WANT(btcheck_session_file(session, 0, &file), status);
+  WANT(btcheck_session_path(session, 0, hash[0], 32, &one), status);
+  WANT(btcheck_session_info_hashes(session, hash[0], small), status);
+  WANT(btcheck_session_take_blocks(session, 0, 0, hash[0], 32, &blocks), status);
+  WANT(btcheck_session_frame(session, hash[0], 32, &verdict), status);
+  CHECK(one == 7 && other == 7 && ask.length == 0 && file.length == 0 && blocks.count == 0 && verdict.kind == 0);
+  CHECK(hash[0][0] == 0 && small[0] == 0);
 }
 
 /* Every call on a builder but new. */
@@ -36,6 +49,7 @@ int main(int argc, char **argv) {
   memcpy(torrent, bytes, len);
   btcheck_root root = BTCHECK_INIT;
   btcheck_session session = BTCHECK_INIT, second = BTCHECK_INIT;
+  CHECK(btcheck_version() == BTCHECK_VERSION);
   want_of_root(&root, BTCHECK_WRONG_HANDLE);
   want_of_session(&session, BTCHECK_WRONG_HANDLE);
   for (int round = 0; round < 3; round++) {

@@ -2,3 +2,5 @@
 pub mod TwoFields
 pub mod Throughs
 pub mod Torrents
+pub mod Joining
+pub mod Entries

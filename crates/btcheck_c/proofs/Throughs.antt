@@ -1,5 +1,5 @@
 -- A call through a handle.
-use Rattle.std.proofs.Common.{◌≡◌, ℕ, Bool, true, false, Option, Some, None, refl, sym, ◌∙◌, subst, is_some}
+use Rattle.std.proofs.Common.{◌≡◌, ℕ, Bool, false, Option, Some, None, refl, sym, ◌∙◌, subst, is_some}
 use Rattle.std.proofs.lemmas.Bool.{false≢true}
 use Rattle.btcheck_c.specs.declared.thing.Thing.{Thing}
 use Rattle.btcheck_c.specs.declared.thing.Kind.{Kind}

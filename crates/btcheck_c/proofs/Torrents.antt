@@ -1,11 +1,15 @@
 -- What a session makes of a message leaves its torrent, so it can be taken apart again.
-use Rattle.std.proofs.Common.{◌≡◌, ℕ, List, Option, Some, None, Result, Ok, Err, IfOk, IfErr, OnErr, sym, ap, ◌∙◌, subst}
+use Rattle.std.proofs.Common.{◌≡◌, ℕ, List, Option, Result, Ok, Err, Bor, IfOk, IfErr, OnErr, sym, ap, ◌∙◌, subst}
 use Rattle.std.specs.Result.{result_ok}
 use Rattle.node_maps.specs.Digest.{Hash}
 use Rattle.partial_tree.specs.declared.refusal.HashRefusal.{HashRefusal}
 use Rattle.partial_tree.specs.declared.refusal.BlockRefusal.{BlockRefusal}
 use Rattle.partial_tree.specs.declared.answer.Answer.{Answer}
-use Rattle.session.specs.Session.{SessionSeen, IsStored, IsHashRefused, IsVerified, IsBlockRefused, IsAnswered}
+use Rattle.session.proofs.Runs.{step-torrent}
+use Rattle.session.specs.Blocks.{BlocksSeen}
+use Rattle.session.specs.Session.{SessionSeen, IsStored, IsHashRefused, IsVerified, IsBlockRefused, IsAnswered, AreTaken, AreRefused}
+use Rattle.session.specs.declared.verdict.Verdict.TheVariants as verdict
+use Rattle.wire.specs.declared.message.Message.TheVariants as message
 use Rattle.session.specs.Noted.{IsAnswerStored, IsAnswerRefused}
 use Rattle.session.specs.Answers.{IsAnswerTo}
 use Rattle.wire.specs.declared.message.Ask.{Ask}
@@ -25,6 +29,13 @@ pub torrent_after_block : (S S' : SessionSeen) (index begin : ℕ) (bytes : List
     → IfErr answer (λ r. IsBlockRefused S index begin bytes r × (S' ≡ S)) → S'.torrent ≡ S.torrent
 torrent_after_block S S' index begin bytes (Ok p) verified refused = same_torrent verified.1.state_after
 torrent_after_block S S' index begin bytes (Err r) verified refused = same_torrent refused.1
+
+pub torrent_after_blocks : (S S' : SessionSeen) (index begin : ℕ) (bytes : Bor (List ℕ)) (answer : Result BlocksSeen BlockRefusal)
+    → IfOk answer (λ v. AreTaken S index begin bytes.now v S')
+    → IfErr answer (λ r. AreRefused S index begin bytes.now r × (S' ≡ S)) → S'.torrent ≡ S.torrent
+torrent_after_blocks S S' index begin bytes (Ok v) taken refused =
+    step-torrent S (message.Piece index begin bytes) (verdict.Blocks v) S' taken
+torrent_after_blocks S S' index begin bytes (Err r) taken refused = same_torrent refused.1
 
 pub torrent_after_answer : (S S' : SessionSeen) (ask : Ask) (hashes : List Hash) (answer : Result ℕ HashRefusal)
     → IfOk answer (λ c. IsAnswerStored S ask hashes c S') → IfErr answer (λ r. IsAnswerRefused S ask hashes r × (S' ≡ S))

@@ -1,16 +1,35 @@
--- What the calls about hash requests do: noting one, taking its answer, answering one.
-use Rattle.std.specs.Prelude.{◌≡◌, ◌⊎◌, ℕ, ◌<◌, Bool, true, false, List, length, take, Option, Some, None, Result}
+-- What the calls about hash requests do: what to ask for, noting it, taking its answer, answering
+-- one.
+use Rattle.std.specs.Prelude.{◌≡◌, ◌⊎◌, ◌↔◌, IsTrue, ℕ, ◌<◌, Bool, true, false, List, length, take, Option, Some, None, Result}
 use Rattle.partial_tree.specs.declared.refusal.HashRefusal.{HashRefusal}
 use Rattle.partial_tree.specs.declared.answer.Answer.{Answer}
 use Rattle.partial_tree.specs.declared.answer.Answer.TheVariants as answer
 use Rattle.node_maps.specs.Digest.{Hash}
-use Rattle.session.specs.Session.{SessionSeen}
+use Rattle.session.specs.Session.{SessionSeen, IsAnswered}
 use Rattle.wire.specs.declared.message.Ask.{Ask}
+use Rattle.btcheck_c.specs.Asks.{asked_of}
 use Rattle.btcheck_c.specs.Holds.{IsWrongKind}
-use Rattle.btcheck_c.specs.Statuses.{HashesTold}
-use Rattle.btcheck_c.specs.Taken.{AnswerTaken, AskNoted, AnswerGiven}
+use Rattle.btcheck_c.specs.Statuses.{HashesTold, ToldIf}
+use Rattle.btcheck_c.specs.Taken.{AnswerTaken, AskNoted, AnswerGiven, HasTreeBlock, WantIs}
+use Rattle.btcheck_c.specs.declared.asked.Asked.{Asked}
 use Rattle.btcheck_c.specs.declared.thing.Kind.{Kind}
 use Rattle.btcheck_c.specs.declared.thing.Kind.TheVariants as kind
+
+-- ---- what to ask for
+
+-- the ask, or that there is nothing to ask for
+abbrev pub WantTold : Option Ask → ℕ → Asked → Type 0
+WantTold (Some a) status asked = (status ≡ 0) × (asked ≡ asked_of a)
+WantTold None status asked = status ≡ 6
+
+-- what the session wants to learn the leaf of a block, or that no tree n has this block; and it
+-- stays as it is
+abbrev pub Wants : ℕ → ℕ → Asked → Kind → ℕ → Kind → Type 0
+Wants n b asked (kind.Session S) status k' = (k' ≡ kind.Session S)
+    × ((HasTreeBlock S.torrent n b
+    × ((want : Option Ask) × WantTold want status asked × WantIs S n b want))
+    ⊎ ((status ≡ 5) × ¬ HasTreeBlock S.torrent n b))
+Wants n b asked (kind.Root r) status k' = IsWrongKind (kind.Root r) status k'
 
 -- ---- a request of our own
 
@@ -47,3 +66,9 @@ abbrev pub Answers : Ask → List Hash → ℕ → Kind → ℕ → Kind → Typ
 Answers ask room count (kind.Session S) status k' = (k' ≡ kind.Session S)
     × ((given : Option Answer) × AnswerTold given status room count × AnswerGiven S ask given)
 Answers ask room count (kind.Root b) status k' = IsWrongKind (kind.Root b) status k'
+
+-- whether the session can answer a request, and it stays as it is
+abbrev pub TellsIfAnswered : Ask → Kind → ℕ → Kind → Type 0
+TellsIfAnswered ask (kind.Session S) status k' = (k' ≡ kind.Session S)
+    × ((can : Bool) × ToldIf can status × (IsTrue can ↔ IsAnswered S ask))
+TellsIfAnswered ask (kind.Root b) status k' = IsWrongKind (kind.Root b) status k'

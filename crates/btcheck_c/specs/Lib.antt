@@ -7,3 +7,7 @@ pub mod RootCalls
 pub mod SessionCalls
 pub mod Asks
 pub mod AskCalls
+pub mod Files
+pub mod Blocks
+pub mod Frames
+pub mod Version

@@ -15,8 +15,8 @@ use Rattle.session.specs.Session.{SessionSeen, TreeState}
 use Rattle.session.specs.Fresh.{IsFresh}
 use Rattle.wire.specs.declared.message.Ask.{Ask}
 use Rattle.btcheck_c.specs.Holds.{IsWrongKind}
-use Rattle.btcheck_c.specs.Statuses.{HashesTold, BlockTold}
-use Rattle.btcheck_c.specs.Taken.{HashesTaken, BlockTaken}
+use Rattle.btcheck_c.specs.Statuses.{HashesTold, BlockTold, ToldIf}
+use Rattle.btcheck_c.specs.Taken.{HashesTaken, BlockTaken, HasTreeBlock}
 use Rattle.btcheck_c.specs.declared.thing.Thing.{Thing}
 use Rattle.btcheck_c.specs.declared.thing.Kind.{Kind}
 use Rattle.btcheck_c.specs.declared.thing.Kind.TheVariants as kind
@@ -55,6 +55,14 @@ Counted tree known marked (kind.Session S) status k' = (k' ≡ kind.Session S)
     × HasState S tree (λ s. marked ≡ set.len s.marked)))
     ⊎ ((status ≡ 5) × (length S.torrent.trees ≤ tree)))
 Counted tree known marked (kind.Root b) status k' = IsWrongKind (kind.Root b) status k'
+
+-- whether the leaf of a block of tree n is marked, or that no tree n has this block
+abbrev pub TellsIfMarked : ℕ → ℕ → Kind → ℕ → Kind → Type 0
+TellsIfMarked n b (kind.Session S) status k' = (k' ≡ kind.Session S)
+    × ((HasTreeBlock S.torrent n b × ((marked : Bool) × ToldIf marked status
+    × HasState S n (λ s. marked ≡ set.contains s.marked b)))
+    ⊎ ((status ≡ 5) × ¬ HasTreeBlock S.torrent n b))
+TellsIfMarked n b (kind.Root r) status k' = IsWrongKind (kind.Root r) status k'
 
 -- ---- messages
 

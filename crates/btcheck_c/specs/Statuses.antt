@@ -1,5 +1,5 @@
 -- The numbers that calls answer.
-use Rattle.std.specs.Prelude.{◌≡◌, ℕ, ◌+◌, Result, Ok, Err}
+use Rattle.std.specs.Prelude.{◌≡◌, ℕ, ◌+◌, Bool, true, false, Result, Ok, Err}
 use Rattle.partial_tree.specs.Names.{hash_refusal_number, block_refusal_number}
 use Rattle.partial_tree.specs.declared.refusal.HashRefusal.{HashRefusal}
 use Rattle.partial_tree.specs.declared.refusal.BlockRefusal.{BlockRefusal}
@@ -13,3 +13,8 @@ HashesTold (Err r) status places = status ≡ 200 + hash_refusal_number r
 abbrev pub BlockTold : Result (ℕ × ℕ) BlockRefusal → ℕ → ℕ → ℕ → Type 0
 BlockTold (Ok p) status file block = (status ≡ 0) × ((file ≡ p.0) × (block ≡ p.1))
 BlockTold (Err r) status file block = status ≡ 300 + block_refusal_number r
+
+-- 0 if it is so, and 6 if it is not
+abbrev pub ToldIf : Bool → ℕ → Type 0
+ToldIf true status = status ≡ 0
+ToldIf false status = status ≡ 6

@@ -1,13 +1,19 @@
 -- What a session makes of a message: all clauses of its own calls, as one statement each.
-use Rattle.std.specs.Prelude.{◌≡◌, ℕ, Bool, true, false, List, Option, Some, None, Result, IfOk, IfErr}
+use Rattle.std.specs.Prelude.{◌≡◌, ℕ, ◌<◌, Bool, true, false, List, slice_get, Option, Some, None, Result, IfOk, IfErr}
+use Rattle.hashtree.specs.Tree.{block_count}
 use Rattle.node_maps.specs.Digest.{Hash}
+use Rattle.node_maps.specs.Known.{look}
+use Rattle.opening.specs.Description.{Description, TreeEntry}
+use Rattle.partial_tree.specs.Gaps.{want_of}
+use Rattle.partial_tree.specs.TreeRoot.{TreeRoot}
 use Rattle.partial_tree.specs.declared.refusal.HashRefusal.{HashRefusal}
 use Rattle.partial_tree.specs.declared.refusal.BlockRefusal.{BlockRefusal}
 use Rattle.partial_tree.specs.declared.answer.Answer.{Answer}
-use Rattle.session.specs.Session.{SessionSeen, IsStored, IsHashRefused, IsVerified, IsBlockRefused, IsBlock, IsAnswered}
+use Rattle.session.specs.Session.{SessionSeen, TreeState, IsTree, IsStored, IsHashRefused, IsVerified, IsBlockRefused, IsBlock, IsAnswered, AreTaken, AreRefused, AreBlocks}
 use Rattle.session.specs.Answers.{IsAnswerTo}
 use Rattle.session.specs.Noted.{IsOpenAsk, IsAnswerStored, IsAnswerRefused, with_ask}
-use Rattle.session.specs.SafeStep.{KeepsKnown, StoresTrueHashes, StoresAnswers, VerifiesTrueBlock}
+use Rattle.session.specs.Blocks.{BlocksSeen}
+use Rattle.session.specs.SafeStep.{KeepsKnown, StoresTrueHashes, StoresAnswers, VerifiesTrueBlock, VerifiesTrueBlocks}
 use Rattle.session.specs.Wanted.{WantedClosesOneGap}
 use Rattle.wire.specs.declared.message.Ask.{Ask}
 
@@ -30,6 +36,15 @@ pub record BlockTaken (S : SessionSeen) (index begin : ℕ) (bytes : List ℕ)
   pub keeps_known : KeepsKnown S S'
   pub verifies_true_block : VerifiesTrueBlock S index begin bytes answer
 
+-- a session takes the blocks of a piece message, and this is its answer
+pub record BlocksTaken (S : SessionSeen) (index begin : ℕ) (bytes : List ℕ)
+    (answer : Result BlocksSeen BlockRefusal) (S' : SessionSeen) : Type 0 where
+  pub taken : IfOk answer (λ v. AreTaken S index begin bytes v S')
+  pub refused : IfErr answer (λ r. AreRefused S index begin bytes r × (S' ≡ S))
+  pub verified_are_the_blocks : IfOk answer (AreBlocks S index begin bytes)
+  pub keeps_known : KeepsKnown S S'
+  pub verifies_true_blocks : IfOk answer (VerifiesTrueBlocks S bytes)
+
 -- a session takes a hashes message in answer to an open ask
 pub record AnswerTaken (S : SessionSeen) (ask : Ask) (hashes : List Hash)
     (answer : Result ℕ HashRefusal) (S' : SessionSeen) : Type 0 where
@@ -51,3 +66,13 @@ pub record AskNoted (S : SessionSeen) (ask : Ask) (done : Bool) (S' : SessionSee
 abbrev pub AnswerGiven : SessionSeen → Ask → Option Answer → Type 0
 AnswerGiven S ask (Some a) = IsAnswerTo S ask a
 AnswerGiven S ask None = IsAnswered S ask
+
+-- there is a tree n, and its files have this block
+abbrev pub HasTreeBlock : Description → ℕ → ℕ → Type 0
+HasTreeBlock d n b =
+    (e : TreeEntry) × (slice_get d.trees n ≡ Some e) × (b < block_count e.length)
+
+-- what to ask for next to learn the leaf of a block of tree n; nothing if it is known
+abbrev pub WantIs : SessionSeen → ℕ → ℕ → Option Ask → Type 0
+WantIs S n b want = (root : TreeRoot) × (s : TreeState) × IsTree S n root s
+    × (want ≡ want_of root (look s.known) b)

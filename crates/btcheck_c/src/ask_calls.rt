@@ -1,18 +1,33 @@
-//! The calls about hash requests: that one was sent, and what answers one.
+//! The calls about hash requests: what to ask for, that it was asked, and what answers it.
 
 ghost use Rattle.std.specs.Prelude.{◌≡◌, Option};
 ghost use Rattle.partial_tree.specs.declared.answer.Answer.{Answer as Given};
 ghost use Rattle.btcheck_c.specs.Asks.{ask_of};
-ghost use Rattle.btcheck_c.specs.AskCalls.{NoteTold, Notes, TakesAnswer, AnswerTold, Answers};
+ghost use Rattle.btcheck_c.specs.AskCalls.{WantTold, Wants, NoteTold, Notes, TakesAnswer, AnswerTold, Answers, TellsIfAnswered};
 ghost use Rattle.btcheck_c.specs.Holds.{Through};
 
-use crate::asked::{Asked, read_ask};
+use crate::asked::{Asked, lay_out, read_ask};
 use crate::handle::Handle;
-use crate::status::{DONE, NO_MEMORY, NOTHING, TOO_SMALL, WRONG_HANDLE, tell_hashes};
+use crate::status::{
+    DONE, NO_MEMORY, NO_SUCH, NOTHING, TOO_SMALL, WRONG_HANDLE, tell_hashes, tell_if,
+};
 use crate::thing::{Kind, Thing};
 use partial_tree::Answer;
 use std::alloc::Global;
 use wire::{Ask, Hash};
+
+// The status of what is wanted, and the ask.
+fn tell_want(want: Option<Ask>, asked: &mut Asked) -> u32
+    ensures { WantTold want result asked.new }
+{
+    match want {
+        None => NOTHING,
+        Some(ask) => {
+            *asked = lay_out(&ask);
+            DONE
+        }
+    }
+}
 
 fn tell_note(done: bool) -> u32
     ensures { NoteTold done result }
@@ -39,6 +54,21 @@ fn tell_answer(answer: &Option<Answer>, room: &mut [Hash], count: &mut u64) -> u
 }
 
 impl Thing {
+    fn want(&mut self, tree: usize, block: u64, asked: &mut Asked) -> u32
+        ensures { Wants tree block asked.new self.old.kind result self.new.kind }
+    {
+        match &mut self.kind {
+            Kind::Root(_) => WRONG_HANDLE,
+            Kind::Session(session) => {
+                if session.has_block(tree, block) {
+                    tell_want(session.want(tree, block), asked)
+                } else {
+                    NO_SUCH
+                }
+            }
+        }
+    }
+
     fn note(&mut self, ask: &Ask) -> u32
         ensures { Notes ask.now self.old.kind result self.new.kind }
     {
@@ -65,6 +95,37 @@ impl Thing {
             Kind::Session(session) => tell_answer(&session.answer(ask), room, count),
         }
     }
+
+    fn can_answer(&mut self, ask: &Ask) -> u32
+        ensures { TellsIfAnswered ask.now self.old.kind result self.new.kind }
+    {
+        match &mut self.kind {
+            Kind::Root(_) => WRONG_HANDLE,
+            Kind::Session(session) => tell_if(session.can_answer(ask)),
+        }
+    }
+}
+
+/// Writes what to ask for next to learn the leaf of a block of a tree. Status 1: the handle holds
+/// no session. Status 5: there is no such tree, or its files have no such block. Status 6: the leaf
+/// is known. The session is as before.
+#[unsafe(no_mangle)]
+pub extern "C" fn btcheck_session_want(
+    alloc: Global,
+    handle: &mut Handle,
+    tree: usize,
+    block: u64,
+    asked: &mut Asked,
+) -> u32
+    ensures { Through (Wants tree block asked.new) handle.old.slot.held result
+        handle.new.slot.held }
+{
+    let Some(mut thing) = handle.take(alloc) else {
+        return WRONG_HANDLE;
+    };
+    let status = thing.want(tree, block, asked);
+    handle.put(thing);
+    status
 }
 
 /// Notes that a request with these fields was sent. Status 1: the handle holds no session. Status
@@ -121,6 +182,25 @@ pub extern "C" fn btcheck_session_answer(
         return WRONG_HANDLE;
     };
     let status = thing.answer(&read_ask(asked), room, count);
+    handle.put(thing);
+    status
+}
+
+/// Whether the hashes that a request asks for are known. Status 1: the handle holds no session.
+/// Status 6: they are not. The session is as before.
+#[unsafe(no_mangle)]
+pub extern "C" fn btcheck_session_can_answer(
+    alloc: Global,
+    handle: &mut Handle,
+    asked: &Asked,
+) -> u32
+    ensures { Through (TellsIfAnswered (ask_of asked.now)) handle.old.slot.held result
+        handle.new.slot.held }
+{
+    let Some(mut thing) = handle.take(alloc) else {
+        return WRONG_HANDLE;
+    };
+    let status = thing.can_answer(&read_ask(asked));
     handle.put(thing);
     status
 }

@@ -1,7 +1,7 @@
 //! A hash request as C sees it.
 
 ghost use Rattle.std.specs.Prelude.{◌≡◌};
-ghost use Rattle.btcheck_c.specs.Asks.{ask_of};
+ghost use Rattle.btcheck_c.specs.Asks.{ask_of, asked_of};
 
 use wire::Ask;
 
@@ -26,5 +26,18 @@ pub fn read_ask(asked: &Asked) -> Ask
         index: asked.index,
         length: asked.length,
         proof: asked.proof,
+    }
+}
+
+/// The same five fields, for C.
+pub fn lay_out(ask: &Ask) -> Asked
+    ensures { result ≡ asked_of ask.now }
+{
+    Asked {
+        root: ask.root,
+        base: ask.base,
+        index: ask.index,
+        length: ask.length,
+        proof: ask.proof,
     }
 }

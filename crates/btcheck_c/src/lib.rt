@@ -8,14 +8,25 @@
 
 mod ask_calls;
 mod asked;
+mod block_calls;
+mod blocks_info;
+mod file_calls;
+mod file_info;
+mod frame_calls;
 mod handle;
 mod loose;
 mod opened;
+mod path_text;
 mod root_calls;
 mod session_calls;
 mod slot;
 mod status;
 mod thing;
+mod verdict_info;
+mod version;
 
 pub use asked::Asked;
+pub use blocks_info::BlocksInfo;
+pub use file_info::FileInfo;
 pub use handle::Handle;
+pub use verdict_info::VerdictInfo;

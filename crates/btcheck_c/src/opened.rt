@@ -1,21 +1,25 @@
 //! A session that stands beside its torrent.
 
-ghost use Rattle.std.specs.Prelude.{◌≡◌, ◌<◌, IfOk, OnErr, length};
+ghost use Rattle.std.specs.Prelude.{◌≡◌, ◌<◌, ◌↔◌, IfOk, IsTrue, OnErr, length};
 ghost use Rattle.std.specs.FinMap as finite;
 ghost use Rattle.std.specs.FinSet as set;
+ghost use Rattle.hashtree.specs.Tree.{block_count};
 ghost use Rattle.session.specs.Fresh.{IsFresh};
+ghost use Rattle.session.specs.Layouts.{IsBlockOf};
+ghost use Rattle.session.specs.Session.{IsAnswered};
 ghost use Rattle.btcheck_c.specs.SessionCalls.{HasState};
-ghost use Rattle.btcheck_c.specs.Taken.{HashesTaken, BlockTaken, AnswerTaken, AskNoted, AnswerGiven};
+ghost use Rattle.btcheck_c.specs.Taken.{HashesTaken, BlockTaken, AnswerTaken, AskNoted, AnswerGiven, BlocksTaken, HasTreeBlock, WantIs};
+ghost use Rattle.session.specs.SafeStep.{IsSafeStep};
 
-use hashtree::NoMemory;
+use hashtree::{BLOCK_LENGTH, NoMemory};
 use node_maps::Paged;
 use opening::Torrent;
 use partial_tree::{Answer, BlockRefusal, HashRefusal};
-use session::{Paused, Session};
+use session::{Blocks, Paused, Session, Verdict};
 use std::alloc::Global;
 use std::marker::Model;
 use std::mem::replace;
-use wire::{Ask, Hash};
+use wire::{Ask, Hash, Message};
 
 /// A torrent, and what a session of it keeps. Contracts see it as the session. Each call puts the
 /// session together, makes the session's call, and takes it apart again, which takes no memory.
@@ -95,6 +99,35 @@ impl Opened {
         result
     }
 
+    /// As [`Session::take_blocks`].
+    pub fn take_blocks(
+        &mut self,
+        index: u32,
+        begin: u32,
+        bytes: &[u8],
+    ) -> Result<Blocks, BlockRefusal>
+        ensures { BlocksTaken self.old index begin bytes.now result self.new }
+    {
+        let paused = replace(&mut self.paused, Paused::nothing(self.alloc));
+        let mut session = Session::resume(self.alloc, &self.torrent, paused);
+        let result = session.take_blocks(index, begin, bytes);
+        let kept = session.pause();
+        self.paused = kept;
+        result
+    }
+
+    /// As [`Session::step`].
+    pub fn step(&mut self, message: &Message<'_>) -> Verdict
+        ensures { IsSafeStep self.old message.now result self.new }
+    {
+        let paused = replace(&mut self.paused, Paused::nothing(self.alloc));
+        let mut session = Session::resume(self.alloc, &self.torrent, paused);
+        let verdict = session.step(message);
+        let kept = session.pause();
+        self.paused = kept;
+        verdict
+    }
+
     /// As [`Session::known`] and [`Session::marked`]. Condition: there are more than `tree` trees.
     pub fn counts(&mut self, tree: usize) -> (u64, u64)
         requires { tree < length self.old.torrent.trees }
@@ -147,4 +180,64 @@ impl Opened {
         self.paused = kept;
         result.ok()
     }
+
+    /// As [`Session::can_answer`].
+    pub fn can_answer(&mut self, ask: &Ask) -> bool
+        ensures answer { IsTrue result ↔ IsAnswered self.old ask.now }
+        ensures same { self.new ≡ self.old }
+    {
+        let paused = replace(&mut self.paused, Paused::nothing(self.alloc));
+        let session = Session::resume(self.alloc, &self.torrent, paused);
+        let result = session.can_answer(ask);
+        let kept = session.pause();
+        self.paused = kept;
+        result
+    }
+
+    /// Whether there is such a tree, and its files have this block.
+    pub fn has_block(&self, tree: usize, block: u64) -> bool
+        ensures { IsTrue result ↔ HasTreeBlock self.now.torrent tree block }
+    {
+        match self.torrent.trees().get(tree) {
+            None => false,
+            Some(info) => block < blocks_in(info.length),
+        }
+    }
+
+    /// As [`Session::want`]. Conditions: there are more than `tree` trees, and its files have more
+    /// than `block` blocks.
+    pub fn want(&mut self, tree: usize, block: u64) -> Option<Ask>
+        requires tree { tree < length self.old.torrent.trees }
+        requires block { IsBlockOf self.old.torrent tree block }
+        ensures want { WantIs self.old tree block result }
+        ensures same { self.new ≡ self.old }
+    {
+        let paused = replace(&mut self.paused, Paused::nothing(self.alloc));
+        let session = Session::resume(self.alloc, &self.torrent, paused);
+        let ask = session.want(tree, block);
+        let kept = session.pause();
+        self.paused = kept;
+        ask
+    }
+
+    /// As [`Session::is_marked`]. Condition: there are more than `tree` trees.
+    pub fn is_marked(&mut self, tree: usize, block: u64) -> bool
+        requires { tree < length self.old.torrent.trees }
+        ensures marked { HasState self.old tree (λ s. result ≡ set.contains s.marked block) }
+        ensures same { self.new ≡ self.old }
+    {
+        let paused = replace(&mut self.paused, Paused::nothing(self.alloc));
+        let session = Session::resume(self.alloc, &self.torrent, paused);
+        let marked = session.is_marked(tree, block);
+        let kept = session.pause();
+        self.paused = kept;
+        marked
+    }
+}
+
+// How many blocks a file of this length has.
+fn blocks_in(length: u64) -> u64
+    ensures { result ≡ block_count length }
+{
+    length.div_ceil(BLOCK_LENGTH)
 }

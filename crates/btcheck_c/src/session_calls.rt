@@ -1,12 +1,14 @@
 //! The calls on a session: opening it, and taking hashes and blocks.
 
 ghost use Rattle.std.specs.Prelude.{◌≡◌, None};
-ghost use Rattle.btcheck_c.specs.SessionCalls.{TakesHashes, TakesBlock, OpensAs, SessionOpened, Counted};
+ghost use Rattle.btcheck_c.specs.SessionCalls.{TakesHashes, TakesBlock, OpensAs, SessionOpened, Counted, TellsIfMarked};
 ghost use Rattle.btcheck_c.specs.Holds.{Fills, Through};
 
 use crate::handle::Handle;
 use crate::opened::Opened;
-use crate::status::{DONE, NO_MEMORY, NO_SUCH, TORRENT, WRONG_HANDLE, tell_block, tell_hashes};
+use crate::status::{
+    DONE, NO_MEMORY, NO_SUCH, TORRENT, WRONG_HANDLE, tell_block, tell_hashes, tell_if,
+};
 use crate::thing::{Kind, Thing};
 use opening::Torrent;
 use std::alloc::Global;
@@ -24,6 +26,21 @@ impl Thing {
                 }
                 (*known, *marked) = session.counts(tree);
                 DONE
+            }
+        }
+    }
+
+    fn is_marked(&mut self, tree: usize, block: u64) -> u32
+        ensures { TellsIfMarked tree block self.old.kind result self.new.kind }
+    {
+        match &mut self.kind {
+            Kind::Root(_) => WRONG_HANDLE,
+            Kind::Session(session) => {
+                if session.has_block(tree, block) {
+                    tell_if(session.is_marked(tree, block))
+                } else {
+                    NO_SUCH
+                }
             }
         }
     }
@@ -177,6 +194,27 @@ pub extern "C" fn btcheck_session_counts(
         return WRONG_HANDLE;
     };
     let status = thing.counts(tree, known, marked);
+    handle.put(thing);
+    status
+}
+
+/// Whether the leaf of a block of a tree is marked as verified. Status 1: the handle holds no
+/// session. Status 5: there is no such tree, or its files have no such block. Status 6: the leaf is
+/// not marked. The session is as before.
+#[unsafe(no_mangle)]
+pub extern "C" fn btcheck_session_is_marked(
+    alloc: Global,
+    handle: &mut Handle,
+    tree: usize,
+    block: u64,
+) -> u32
+    ensures { Through (TellsIfMarked tree block) handle.old.slot.held result
+        handle.new.slot.held }
+{
+    let Some(mut thing) = handle.take(alloc) else {
+        return WRONG_HANDLE;
+    };
+    let status = thing.is_marked(tree, block);
     handle.put(thing);
     status
 }

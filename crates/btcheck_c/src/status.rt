@@ -1,7 +1,8 @@
 //! The numbers that calls answer.
 
-ghost use Rattle.std.specs.Prelude.{◌≡◌};
-ghost use Rattle.btcheck_c.specs.Statuses.{HashesTold, BlockTold};
+ghost use Rattle.std.specs.Prelude.{◌≡◌, ◌+◌};
+ghost use Rattle.partial_tree.specs.Names.{hash_refusal_number, block_refusal_number};
+ghost use Rattle.btcheck_c.specs.Statuses.{HashesTold, BlockTold, ToldIf};
 
 use partial_tree::{BlockRefusal, HashRefusal};
 
@@ -29,6 +30,9 @@ pub const NOTHING: u32 = 6;
 /// The caller's room is too small.
 pub const TOO_SMALL: u32 = 7;
 
+/// A message of a known kind has a wrong size.
+pub const BAD_SIZE: u32 = 8;
+
 /// Refusal n of a torrent is this plus n.
 pub const TORRENT: u32 = 100;
 
@@ -47,7 +51,7 @@ pub fn tell_hashes(answer: Result<u64, HashRefusal>, places: &mut u64) -> u32
             *places = count;
             DONE
         }
-        Err(refusal) => HASHES + refusal.number(),
+        Err(refusal) => refused_hashes(refusal),
     }
 }
 
@@ -65,6 +69,27 @@ pub fn tell_block(
             *block = number;
             DONE
         }
-        Err(refusal) => BLOCK + refusal.number(),
+        Err(refusal) => refused_block(refusal),
     }
+}
+
+/// The status of a question: whether it is so.
+pub fn tell_if(holds: bool) -> u32
+    ensures { ToldIf holds result }
+{
+    if holds { DONE } else { NOTHING }
+}
+
+/// The status of a refusal of hashes.
+pub fn refused_hashes(refusal: HashRefusal) -> u32
+    ensures { result ≡ 200 + hash_refusal_number refusal }
+{
+    HASHES + refusal.number()
+}
+
+/// The status of a refusal of a block.
+pub fn refused_block(refusal: BlockRefusal) -> u32
+    ensures { result ≡ 300 + block_refusal_number refusal }
+{
+    BLOCK + refusal.number()
 }

@@ -115,6 +115,13 @@ impl<N: NodeMap> Tree<N> {
         self.marked
     }
 
+    /// Whether the leaf of a block is marked. Takes no memory.
+    pub fn is_marked(&self, block: u64) -> bool
+        ensures { result ≡ set.contains self.now.state.marked block }
+    {
+        self.nodes.is_marked(block)
+    }
+
     /// Takes a hashes message that names this tree's root. Returns how many places are newly known.
     /// A refusal leaves the tree unchanged; it is out of memory only if a place is new. At most 59
     /// pages are added. Condition: the tree is good.

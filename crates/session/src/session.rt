@@ -124,4 +124,14 @@ impl<'t, N: NodeMap> Session<'t, N> {
     {
         self.trees[tree].marked()
     }
+
+    /// Whether the leaf of a block of a tree is marked. Takes no memory. Condition: there are more
+    /// than `tree` trees.
+    pub fn is_marked(&self, tree: usize, block: u64) -> bool
+        requires { tree < length self.now.torrent.trees }
+        ensures { (s : TreeState) × (slice_get self.now.trees tree ≡ Some s)
+            × (result ≡ set.contains s.marked block) }
+    {
+        self.trees[tree].is_marked(block)
+    }
 }

@@ -1,6 +1,6 @@
 -- How a body goes with its head.
 use Rattle.std.proofs.Common.{◌≡◌, ℕ, ◌+◌, ◌-◌, ◌<◌, ◌≤◌, List, [], ◌∷◌, ◌++◌, length, take, get_or, refl, sym, ap, ◌∙◌, arith, subst, inl, inr}
-use Rattle.std.proofs.lemmas.List.{length-append, length-take-le}
+use Rattle.std.proofs.lemmas.List.{length-append, length-take-le, take_all}
 use Rattle.wire.specs.declared.kind.Kind.{Kind}
 use Rattle.wire.specs.declared.head.Head.{Head}
 use Rattle.wire.specs.declared.head.Head.TheVariants.{KeepAlive, Kept, BadSize, Other}
@@ -50,3 +50,16 @@ Holds-longest head items [] rest four is size = absurd (omega (arith, four))
 Holds-longest head items (x ∷ front) rest four is size =
     Holds-skipped x 4294967295 head items (x ∷ []) (front ++ rest) refl is (λ kind n e. too_long x (subst (IsHead x 4294967295) e is).2)
     (omega (arith, four, size, length-append front rest))
+
+-- a body that is whole, with what follows its id
+pub Holds-whole : (id len : ℕ) (head : Head) (rest body : List ℕ) → body ≡ id ∷ rest → len ≡ length body → IsHead id len head → Holds head rest body
+Holds-whole id len KeepAlive rest body e size h = absurd h
+Holds-whole id len (Kept kind n) rest body e size h = (
+  subst (λ k. IsRightSize (id_of kind) k) (sym h.1) (subst (λ i. IsRightSize i len) h.0 h.2),
+  h.1 ∙ size,
+  e ∙ ap (λ i. i ∷ rest) h.0 ∙ ap (λ xs. id_of kind ∷ xs) (sym (take_all (n - 1) rest (omega (arith, h.1, size, ap length e)))),
+)
+Holds-whole id len (BadSize i n) rest body e size h =
+    (record { rest = rest; bytes = rw h.0 e; size = h.1 ∙ size }, rw h.0 h.2, rw (h.0, h.1) h.3)
+Holds-whole id len (Other i n) rest body e size h =
+    (record { rest = rest; bytes = rw h.0 e; size = h.1 ∙ size }, rw h.0 h.2)

@@ -1,6 +1,7 @@
 //! The peer messages that carry hash trees and blocks (BEP 3, BEP 52), in frames.
 #![tactic(auto)]
 
+mod body;
 mod bytes;
 mod direction;
 mod fault;
@@ -21,6 +22,7 @@ mod record_reader;
 mod writing;
 
 pub use benc::WriteFault;
+pub use body::frame_in;
 pub use direction::Direction;
 pub use fault::FrameFault;
 pub use form::HEADER;

@@ -1,0 +1,9 @@
+use Rattle.std.proofs.Common.{refl, sym, subst}
+use Rattle.btcheck_c.specs.declared.thing.Kind.TheVariants as kind
+use Rattle.btcheck_c.specs.Frames.{TakesFrame}
+use Rattle.btcheck_c.proofs.thing.Thing.take_frame.Goals as goal
+
+pub returns-in-Session : goal.returns-in-Session
+returns-in-Session c =
+    subst (λ k. TakesFrame c.args.body.now c.take_frame.new.told k c.take_frame.result (kind.Session c.take_frame.new.self)) (sym c.in-Session.is)
+    (c.take_frame.new.self, refl, c.take_frame.ensures)

@@ -1,0 +1,44 @@
+//! The call on the blocks of a piece message, which may be several.
+
+ghost use Rattle.btcheck_c.specs.Blocks.{TakesBlocks};
+ghost use Rattle.btcheck_c.specs.Holds.{Through};
+
+use crate::blocks_info::{BlocksInfo, tell_blocks};
+use crate::handle::Handle;
+use crate::status::WRONG_HANDLE;
+use crate::thing::{Kind, Thing};
+use std::alloc::Global;
+
+impl Thing {
+    fn take_blocks(&mut self, index: u32, begin: u32, bytes: &[u8], told: &mut BlocksInfo) -> u32
+        ensures { TakesBlocks index begin bytes.now told.new self.old.kind result self.new.kind }
+    {
+        match &mut self.kind {
+            Kind::Root(_) => WRONG_HANDLE,
+            Kind::Session(session) => tell_blocks(session.take_blocks(index, begin, bytes), told),
+        }
+    }
+}
+
+/// Takes the blocks of a piece message, at most 17, and writes which they are and what is made of
+/// each. Status 1: the handle holds no session. Status 301 or 302: the whole message is refused.
+/// Then the session is as before.
+#[unsafe(no_mangle)]
+pub extern "C" fn btcheck_session_take_blocks(
+    alloc: Global,
+    handle: &mut Handle,
+    index: u32,
+    begin: u32,
+    bytes: &[u8],
+    told: &mut BlocksInfo,
+) -> u32
+    ensures { Through (TakesBlocks index begin bytes.now told.new) handle.old.slot.held result
+        handle.new.slot.held }
+{
+    let Some(mut thing) = handle.take(alloc) else {
+        return WRONG_HANDLE;
+    };
+    let status = thing.take_blocks(index, begin, bytes, told);
+    handle.put(thing);
+    status
+}

@@ -1,0 +1,157 @@
+//! The calls that read what a torrent holds: its files with their paths, and its info-hashes.
+
+ghost use Rattle.btcheck_c.specs.Files.{FilePathTold, TellsCounts, TellsFile, TellsPath, TellsInfoHashes};
+ghost use Rattle.btcheck_c.specs.Holds.{Through};
+
+use crate::file_info::{FileInfo, file_info};
+use crate::handle::Handle;
+use crate::path_text::tell_path;
+use crate::status::{DONE, NO_SUCH, WRONG_HANDLE};
+use crate::thing::{Kind, Thing};
+use opening::Torrent;
+use std::alloc::Global;
+
+// The status of a file's path, and what is written of it.
+fn tell_path_of(torrent: &Torrent<'_>, number: usize, room: &mut [u8], length: &mut u64) -> u32
+    ensures { FilePathTold torrent.now number result room.old room.new length.new }
+{
+    match torrent.files().get(number) {
+        None => NO_SUCH,
+        Some(file) => tell_path(&file.path.parts(), room, length),
+    }
+}
+
+impl Thing {
+    fn files(&mut self, files: &mut u64, trees: &mut u64) -> u32
+        ensures { TellsCounts files.new trees.new self.old.kind result self.new.kind }
+    {
+        match &mut self.kind {
+            Kind::Root(_) => WRONG_HANDLE,
+            Kind::Session(session) => {
+                *files = session.torrent().files().len() as u64;
+                *trees = session.torrent().trees().len() as u64;
+                DONE
+            }
+        }
+    }
+
+    fn file(&mut self, number: usize, told: &mut FileInfo) -> u32
+        ensures { TellsFile number told.new self.old.kind result self.new.kind }
+    {
+        match &mut self.kind {
+            Kind::Root(_) => WRONG_HANDLE,
+            Kind::Session(session) => match file_info(session.torrent(), number) {
+                None => NO_SUCH,
+                Some(info) => {
+                    *told = info;
+                    DONE
+                }
+            },
+        }
+    }
+
+    fn path(&mut self, number: usize, room: &mut [u8], length: &mut u64) -> u32
+        ensures { TellsPath number room.old room.new length.new self.old.kind result
+            self.new.kind }
+    {
+        match &mut self.kind {
+            Kind::Root(_) => WRONG_HANDLE,
+            Kind::Session(session) => tell_path_of(session.torrent(), number, room, length),
+        }
+    }
+
+    fn info_hashes(&mut self, v2: &mut [u8; 32], v1: &mut [u8; 20]) -> u32
+        ensures { TellsInfoHashes v2.new v1.new self.old.kind result self.new.kind }
+    {
+        match &mut self.kind {
+            Kind::Root(_) => WRONG_HANDLE,
+            Kind::Session(session) => {
+                *v2 = session.torrent().info_hash_v2();
+                *v1 = session.torrent().info_hash_v1();
+                DONE
+            }
+        }
+    }
+}
+
+/// Writes how many files and how many trees the torrent has. Status 1: the handle holds no session.
+/// The session is as before.
+#[unsafe(no_mangle)]
+pub extern "C" fn btcheck_session_files(
+    alloc: Global,
+    handle: &mut Handle,
+    files: &mut u64,
+    trees: &mut u64,
+) -> u32
+    ensures { Through (TellsCounts files.new trees.new) handle.old.slot.held result
+        handle.new.slot.held }
+{
+    let Some(mut thing) = handle.take(alloc) else {
+        return WRONG_HANDLE;
+    };
+    let status = thing.files(files, trees);
+    handle.put(thing);
+    status
+}
+
+/// Writes a file's length, its first piece, and its tree with its root. Status 1: the handle holds
+/// no session. Status 5: there is no such file. The session is as before.
+#[unsafe(no_mangle)]
+pub extern "C" fn btcheck_session_file(
+    alloc: Global,
+    handle: &mut Handle,
+    number: usize,
+    told: &mut FileInfo,
+) -> u32
+    ensures { Through (TellsFile number told.new) handle.old.slot.held result
+        handle.new.slot.held }
+{
+    let Some(mut thing) = handle.take(alloc) else {
+        return WRONG_HANDLE;
+    };
+    let status = thing.file(number, told);
+    handle.put(thing);
+    status
+}
+
+/// Writes a file's path to the front of the room, its components joined by `/`, and how many bytes
+/// it has. Status 1: the handle holds no session. Status 5: there is no such file. Status 7: the
+/// room has fewer bytes than the path, and stays as it is. The session is as before.
+#[unsafe(no_mangle)]
+pub extern "C" fn btcheck_session_path(
+    alloc: Global,
+    handle: &mut Handle,
+    number: usize,
+    room: &mut [u8],
+    length: &mut u64,
+) -> u32
+    ensures { Through (TellsPath number room.old room.new length.new) handle.old.slot.held result
+        handle.new.slot.held }
+{
+    let Some(mut thing) = handle.take(alloc) else {
+        return WRONG_HANDLE;
+    };
+    let status = thing.path(number, room, length);
+    handle.put(thing);
+    status
+}
+
+/// Writes the info-hashes: the SHA-256 and the SHA-1 digest of the info dictionary. Status 1: the
+/// handle holds no session. The session is as before.
+#[unsafe(no_mangle)]
+pub extern "C" fn btcheck_session_info_hashes(
+    alloc: Global,
+    handle: &mut Handle,
+    v2: &mut [u8; 32],
+    v1: &mut [u8; 20],
+) -> u32
+    ensures { Through (TellsInfoHashes v2.new v1.new) handle.old.slot.held result
+        handle.new.slot.held }
+{
+    let Some(mut thing) = handle.take(alloc) else {
+        return WRONG_HANDLE;
+    };
+    let status = thing.info_hashes(v2, v1);
+    handle.put(thing);
+    status
+}

@@ -1,0 +1,60 @@
+//! The call on the body of a frame, as it came.
+
+ghost use Rattle.btcheck_c.specs.Frames.{FrameTaken, TakesFrame};
+ghost use Rattle.btcheck_c.specs.Holds.{Through};
+
+use crate::handle::Handle;
+use crate::opened::Opened;
+use crate::status::{BAD_SIZE, TOO_LONG, WRONG_HANDLE};
+use crate::thing::{Kind, Thing};
+use crate::verdict_info::{VerdictInfo, tell_verdict};
+use std::alloc::Global;
+use wire::{Frame, frame_in};
+
+impl Opened {
+    // Takes the message of a body, if it is one.
+    fn take_frame(&mut self, body: &[u8], told: &mut VerdictInfo) -> u32
+        ensures { FrameTaken body.now told.new self.old result self.new }
+    {
+        if body.len() > u32::MAX as usize {
+            return TOO_LONG;
+        }
+        match frame_in(body) {
+            Frame::BadSize { .. } => BAD_SIZE,
+            Frame::Message(message) => tell_verdict(&self.step(&message), told),
+        }
+    }
+}
+
+impl Thing {
+    fn take_frame(&mut self, body: &[u8], told: &mut VerdictInfo) -> u32
+        ensures { TakesFrame body.now told.new self.old.kind result self.new.kind }
+    {
+        match &mut self.kind {
+            Kind::Root(_) => WRONG_HANDLE,
+            Kind::Session(session) => session.take_frame(body, told),
+        }
+    }
+}
+
+/// Takes the body of a frame of the peer protocol as it came, without the four bytes of its length,
+/// and writes what is made of it. Status 1: the handle holds no session. Status 3: the body has
+/// 2^32 bytes or more. Status 8: a message of id 7, 21, 22 or 23 has a wrong size. Status 200 + n,
+/// 300 + n: refusal Hn, Pn. Then the session is as before.
+#[unsafe(no_mangle)]
+pub extern "C" fn btcheck_session_frame(
+    alloc: Global,
+    handle: &mut Handle,
+    body: &[u8],
+    told: &mut VerdictInfo,
+) -> u32
+    ensures { Through (TakesFrame body.now told.new) handle.old.slot.held result
+        handle.new.slot.held }
+{
+    let Some(mut thing) = handle.take(alloc) else {
+        return WRONG_HANDLE;
+    };
+    let status = thing.take_frame(body, told);
+    handle.put(thing);
+    status
+}

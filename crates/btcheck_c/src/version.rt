@@ -1,0 +1,18 @@
+//! The version of the library.
+
+ghost use Rattle.std.specs.Prelude.{◌≡◌};
+ghost use Rattle.btcheck_c.specs.Version.{version_number};
+
+const MAJOR: u32 = 0;
+
+const MINOR: u32 = 2;
+
+const PATCH: u32 = 0;
+
+/// The version, one byte for each of its three numbers: 0x000200 is 0.2.0.
+#[unsafe(no_mangle)]
+pub extern "C" fn btcheck_version() -> u32
+    ensures { result ≡ version_number 0 2 0 }
+{
+    (MAJOR << 16) | (MINOR << 8) | PATCH
+}
