@@ -65,6 +65,21 @@ def test_root_and_show():
                 assert outcome(done) in (ample, NO_MEMORY), (called, outcome(done))
 
 
+def test_json():
+    """Memory for a line or its object is refused too. The objects that went out before are whole."""
+    with shimmed() as (place, shim):
+        runs = [("root --json", ["root", write(f"{place}/content", bytes(200000)), "--json"])]
+        for name, content in torrents_to_show().items():
+            runs.append((f"show --json of {name}", ["show", write(f"{place}/{name}", content), "--json"]))
+        for name, arguments in runs:
+            ample = None
+            for called, done in refused_in_turn(shim, name, *arguments):
+                ample = ample or done
+                if outcome(done) != outcome(ample):
+                    assert (done.returncode, done.stderr) == NO_MEMORY[::2], (called, outcome(done))
+                    assert ample.stdout.startswith(done.stdout) and done.stdout[-1:] in (b"", b"\n"), (called, done)
+
+
 def test_help_and_refused_arguments():
     with shimmed() as (_, shim):
         for arguments in (["--help"], ["help", "check"]):

@@ -1,15 +1,16 @@
-"""Sizes that are rare: with enough memory nothing answers that it is out of memory. No contract can see how much memory
-there is, so a body that gives up at one of these sizes would be proved."""
+"""Sizes that are rare: with enough memory nothing answers that it is out of memory, and no device fails. No contract can
+see how much memory there is, nor when a device fails, so a body that gives up at one of these sizes would be proved."""
+import hashlib
 import os
 import subprocess
 
 import messages
 from record_model import FORM_2
-from support import TOP, expect, folder, run, write
-from torrents import file, info, torrent
-from trees import BLOCK, Tree, sha256
+from support import TOP, expect, folder, run, write, written
+from torrents import entry, file, info, torrent, torrent_of
+from trees import BLOCK, Tree, root_of, sha256
 
-GROWTHS = os.path.join(TOP, "build", "memory_tests")
+MEMORY_TESTS = os.path.join(TOP, "build", "memory_tests")
 COUNTS = [300, 1001, 4096]
 MANY = 70001
 
@@ -27,6 +28,68 @@ def test_many_files():
             assert (shown.returncode, shown.stderr) == (0, b"") and f"files: {count}" in lines, (count, shown.stderr)
             report = "".join(f"missing {number:06}\n" for number in range(count))
             expect(run("check", path, f"{place}/nothing"), 1, report + "no\n")
+
+
+def test_hybrids_of_many_files():
+    """The list of version 1 is as long as that of the file tree."""
+    for count in COUNTS:
+        names = [f"{number:06}" for number in range(count)]
+        tree = {name: file(b"") for name in names[:-1]} | {names[-1]: file(b"x")}
+        listed = [entry(0, name) for name in names[:-1]] + [entry(1, names[-1])]
+        content = torrent(info(tree, files=listed, pieces=hashlib.sha1(b"x").digest()))
+        with folder() as place:
+            path = write(f"{place}/torrent", content)
+            shown = run("show", path)
+            assert (shown.returncode, shown.stderr) == (0, b"") and f"files: {count}\n".encode() in shown.stdout, shown
+            report = "".join(f"missing {name}\n" for name in names)
+            expect(run("check", path, f"{place}/nothing"), 1, report + "v1 not checked\nno\n")
+
+
+def test_many_trees():
+    """Torrents of many trees, each with a piece layer: their files are checked and seeded, and asked for."""
+    for count in COUNTS[:2]:
+        files = [(f"{number:06}", number.to_bytes(4, "big") * 4097) for number in range(count)]
+        with folder() as place:
+            os.mkdir(f"{place}/all")
+            for name, content in files:
+                write(f"{place}/all/{name}", content)
+            path = write(f"{place}/torrent", torrent_of(files, BLOCK))
+            expect(run("check", path, f"{place}/all"), 0, "".join(f"good {name}\n" for name, _ in files) + "yes\n")
+            asks = b"".join(messages.request(root_of(content), 0, 0, 2, 0) for _, content in files)
+            record = write(f"{place}/record", asks)
+            report = "".join(f"seeded {name}\n" for name, _ in files)
+            report += "".join(f"{number} answered\n" for number in range(1, count + 1)) + "end\n"
+            expect(run("replay", path, record, "--info-only", "--seed", f"{place}/all"), 0, report)
+
+
+def test_layers_of_many_hashes():
+    """Each piece is a block, so a piece layer has the leaves."""
+    for count in [*COUNTS, MANY]:
+        tree = Tree([sha256(number.to_bytes(4, "big")) for number in range(count)])
+        files = {"a": {"": {"length": count * BLOCK, "pieces root": tree.root}}}
+        with folder() as place:
+            path = write(f"{place}/torrent", torrent(info(files), {tree.root: b"".join(tree.whole_layer(0))}))
+            ask = (tree.root, 0, 2, 2, tree.height - 1)
+            record = write(f"{place}/record", messages.request(*ask))
+            done = run("replay", path, record, "--answers", f"{place}/answers")
+            expect(done, 0, "1 answered\nend\n")
+            assert written(f"{place}/answers") == messages.hashes(*ask, given=tree.hashes(*ask[1:4], tree.height - 1)), count
+
+
+def test_a_file_past_one_gib():
+    """A file of 1 GiB and five bytes, all zero, which takes no room on the disk."""
+    length = (1 << 30) + 5
+    tree = Tree([sha256(bytes(BLOCK))] * (1 << 16) + [sha256(bytes(5))])
+    files = {"a": {"": {"length": length, "pieces root": tree.root}}}
+    with folder() as place:
+        os.mkdir(f"{place}/all")
+        with open(f"{place}/all/a", "wb") as out:
+            out.truncate(length)
+        expect(run("root", f"{place}/all/a"), 0, f"{length} {tree.root.hex()}\n")
+        expect(run("create", f"{place}/all", f"{place}/out", "--name", "x", "--piece-length", str(1 << 24)), 0)
+        layer = b"".join(tree.whole_layer(10))
+        assert written(f"{place}/out") == torrent(info(files, 1 << 24), {tree.root: layer})
+        expect(run("check", f"{place}/out", f"{place}/all"), 0, "good a\nyes\n")
 
 
 def test_deep_folders_that_are_gathered():
@@ -81,11 +144,14 @@ def test_many_requests_that_are_noted():
 
 def test_runs_of_many_messages():
     """A run answers a verdict for each message."""
-    content, _ = large_tree(2)
+    content, tree = large_tree(2)
+    kinds = [(messages.KEEP_ALIVE, b"", "run of all", "KeepAlive"),
+             (b"\1" + messages.request(tree.root, 0, 0, 2, 0), FORM_2, "run_noted", "Noted")]
     with folder() as place:
         path = write(f"{place}/torrent", content)
         for count in COUNTS:
-            record = write(f"{place}/record", count * messages.KEEP_ALIVE)
-            done = subprocess.run([GROWTHS, path, record, "paged", "run of all"], stdout=subprocess.PIPE, timeout=600,
-                                  check=True, text=True)
-            assert done.stdout.count("KeepAlive") == count, (count, done.stdout[:200])
+            for frame, header, call, verdict in kinds:
+                record = write(f"{place}/record", header + count * frame)
+                done = subprocess.run([MEMORY_TESTS, path, record, "paged", call], stdout=subprocess.PIPE, timeout=600,
+                                      check=True, text=True)
+                assert done.stdout.count(verdict) == count, (count, call, done.stdout[:200])

@@ -1,7 +1,6 @@
-use benc::memory::{Calls, MemSink, MemSource};
+use benc::memory::MemSink;
 use benc::*;
-use std::alloc::AllocError;
-use std::io;
+use std::alloc::{AllocError, Global};
 use std::test::*;
 
 // An input, and the fault that `decode` answers.
@@ -45,7 +44,82 @@ fn first_faults(rt: HostRuntime) {
             offset: *offset,
         };
         assert!(rt; decode(rt.alloc(), input) == Err(fault), "{fault}");
+        assert!(rt; span(rt.alloc(), input, b"a") == Err(fault), "{fault}");
+        assert!(rt;
+            decode_with_span(rt.alloc(), input, b"a") == Err(fault),
+            "{fault}"
+        );
+        // what stands behind a value is left alone
+        let front = if *kind == FaultKind::Trailing {
+            Ok(*offset)
+        } else {
+            Err(fault)
+        };
+        assert!(rt; used_by_front(rt.alloc(), input) == front, "{fault}");
     }
+}
+
+// How many bytes the value at the front takes.
+fn used_by_front(alloc: Global, input: &[u8]) -> Result<usize, Fault> {
+    let (_, used) = decode_front(alloc, input)?;
+    Ok(used)
+}
+
+// Whether a value with other bytes behind it is decoded as without them.
+fn stands_at_front(alloc: Global, value: &[u8], rest: &[u8]) -> Result<bool, AllocError> {
+    let mut input = Vec::from_slice(alloc, value)?;
+    input.extend_from_slice(rest)?;
+    Ok(match (decode(alloc, value), decode_front(alloc, &input)) {
+        (Ok(whole), Ok((front, used))) => front == whole && used == value.len(),
+        _ => false,
+    })
+}
+
+#[test]
+fn values_at_the_front(rt: HostRuntime) -> Result<(), AllocError> {
+    for value in [
+        b"i1e" as &[u8],
+        b"0:",
+        b"3:abc",
+        b"le",
+        b"de",
+        b"li1e1:al1:bee",
+        b"d1:\0i1e1:ad0:0:ee",
+        b"d1:ai7e1:bl0:ee",
+        b"llldeeee",
+    ] {
+        for rest in [b"" as &[u8], b"e", b"x", b"i1e", b"1:", b"\0"] {
+            let is_right = stands_at_front(rt.alloc(), value, rest)?;
+            assert!(rt; is_right, "{value:?} before {rest:?}");
+        }
+    }
+    Ok(())
+}
+
+// A list of so many values, or a dictionary of so many keys with a value each.
+fn long_value(alloc: Global, count: u32, start: u8) -> Result<Vec<u8>, AllocError> {
+    let mut text = Vec::from_slice(alloc, &[start])?;
+    for number in 0..count {
+        text.extend_from_slice(b"4:")?;
+        text.extend_from_slice(&number.to_be_bytes())?;
+        if start == b'd' {
+            text.extend_from_slice(b"le")?;
+        }
+    }
+    text.push(b'e')?;
+    Ok(text)
+}
+
+#[test]
+fn long_values_at_the_front(rt: HostRuntime) -> Result<(), AllocError> {
+    for count in [300u32, 301, 1001, 4096, 70001] {
+        for start in [b'l', b'd'] {
+            let value = long_value(rt.alloc(), count, start)?;
+            let is_right = stands_at_front(rt.alloc(), &value, b"e")?;
+            assert!(rt; is_right, "{count} items");
+        }
+    }
+    Ok(())
 }
 
 #[test]
@@ -82,12 +156,22 @@ fn deepest(rt: HostRuntime) -> Result<(), AllocError> {
 }
 
 #[test]
-fn values(rt: HostRuntime) {
+fn values(rt: HostRuntime) -> Result<(), AllocError> {
     assert!(rt; decode_front(rt.alloc(), b"i1ei2e") == Ok((Value::Int(1), 3)));
+    let list = vec![in rt.alloc(); Value::Int(1), Value::Bytes(b"a")]?;
+    assert!(rt; decode_front(rt.alloc(), b"li1e1:aee") == Ok((Value::List(list), 8)));
+    let pairs = vec![in rt.alloc();
+        Pair {
+            key: b"k",
+            value: Value::Int(1)
+        },
+    ]?;
+    assert!(rt; decode_front(rt.alloc(), b"d1:ki1eed") == Ok((Value::Dict(pairs), 8)));
     assert!(rt; decode(rt.alloc(), b"i-9223372036854775808e") == Ok(Value::Int(i64::MIN)));
     assert!(rt; decode(rt.alloc(), b"0:") == Ok(Value::Bytes(b"")));
     assert!(rt; decode(rt.alloc(), b"le") == Ok(Value::List(Vec::new(rt.alloc()))));
     assert!(rt; decode(rt.alloc(), b"de") == Ok(Value::Dict(Vec::new(rt.alloc()))));
+    Ok(())
 }
 
 #[test]
@@ -136,15 +220,6 @@ fn writes_what_was_read(rt: HostRuntime) -> Result<(), AllocError> {
 }
 
 #[test]
-fn a_flush_that_fails_is_counted_too(rt: HostRuntime) -> Result<(), AllocError> {
-    let mut out = MemSink::with_room(rt.alloc(), 4)?.fails_after(1);
-    assert!(rt; out.write(b"ab") == Ok(2) && out.flush() == Err(DeviceFault));
-    assert!(rt; !out.is_flushed() && out.flushes() == 1 && out.failures() == 1);
-    assert!(rt; out.flush() == Ok(()) && out.flushes() == 2 && out.written() == b"ab".as_slice());
-    Ok(())
-}
-
-#[test]
 fn canonical_or_not(rt: HostRuntime) -> Result<(), AllocError> {
     let unsorted = vec![in rt.alloc();
         Pair {
@@ -160,89 +235,4 @@ fn canonical_or_not(rt: HostRuntime) -> Result<(), AllocError> {
     assert!(rt; !v.is_canonical());
     assert!(rt; v.get(b"a") == Some(&Value::Int(2)));
     Ok(())
-}
-
-#[test]
-fn sources(rt: HostRuntime) {
-    let mut buf = [0u8; 4];
-    let mut cut = MemSource::new(b"abcde").at_most(3).fails_after(1);
-    assert!(rt; cut.read(&mut buf) == Ok(3) && buf.starts_with(b"abc"));
-    assert!(rt; cut.read(&mut buf) == Err(DeviceFault) && cut.failures() == 1);
-    assert!(rt; cut.read(&mut buf) == Ok(2) && buf.starts_with(b"de"));
-    assert!(rt; cut.read(&mut buf) == Ok(0) && cut.failures() == 1);
-    let mut plain = FromRead::new(&b"xyz"[..]);
-    assert!(rt; plain.read(&mut buf[..2]) == Ok(2) && buf.starts_with(b"xy"));
-    assert!(rt; plain.into_inner() == b"z".as_slice());
-}
-
-// A reader and a writer whose second call is interrupted. They count their calls.
-#[derive(Drop)]
-struct Interrupted {
-    calls: u64,
-    flushes: u64,
-}
-
-impl Interrupted {
-    fn new() -> Interrupted {
-        Interrupted {
-            calls: 0,
-            flushes: 0,
-        }
-    }
-
-    fn call(&mut self, count: usize) -> io::Result<usize> {
-        self.calls = self.calls.wrapping_add(1);
-        if self.calls == 2 {
-            return Err(io::Error::from(io::ErrorKind::Interrupted));
-        }
-        Ok(count)
-    }
-}
-
-impl io::Read for Interrupted {
-    fn read(&mut self, buf: &mut [u8]) -> io::Result<usize> {
-        Ok(self.call(1)?.min(buf.len()))
-    }
-}
-
-impl io::Write for Interrupted {
-    fn write(&mut self, buf: &[u8]) -> io::Result<usize> {
-        Ok(self.call(1)?.min(buf.len()))
-    }
-
-    fn flush(&mut self) -> io::Result<()> {
-        self.flushes = self.flushes.wrapping_add(1);
-        self.call(0)?;
-        Ok(())
-    }
-}
-
-#[test]
-fn an_interrupted_call_is_a_fault(rt: HostRuntime) {
-    let mut source = FromRead::new(Interrupted::new());
-    let mut buf = [0u8; 4];
-    assert!(rt; source.read(&mut buf) == Ok(1));
-    assert!(rt; source.read(&mut buf) == Err(DeviceFault) && source.failures() == 1);
-    assert!(rt; source.read(&mut buf) == Ok(1) && source.failures() == 1);
-    assert!(rt; source.into_inner().calls == 3);
-    let mut sink = FromWrite::new(Interrupted::new());
-    assert!(rt; sink.write(&buf) == Ok(1));
-    assert!(rt; sink.write(&buf) == Err(DeviceFault) && sink.failures() == 1);
-    assert!(rt; sink.flush() == Ok(()) && sink.failures() == 1);
-    let writer = sink.into_inner();
-    assert!(rt; writer.calls == 3 && writer.flushes == 1);
-    let mut sink = FromWrite::new(Interrupted::new());
-    assert!(rt; sink.flush() == Ok(()) && sink.flush() == Err(DeviceFault));
-    let writer = sink.into_inner();
-    assert!(rt; writer.calls == 2 && writer.flushes == 2);
-}
-
-#[test]
-fn one_call_fails(rt: HostRuntime) {
-    let mut calls = Calls::that_succeed();
-    assert!(rt; calls.next() == Ok(()) && calls.before_fault == None);
-    calls.fail_after(1);
-    assert!(rt; calls.next() == Ok(()) && calls.before_fault == Some(0) && calls.faults == 0);
-    assert!(rt; calls.next() == Err(DeviceFault) && calls.faults == 1);
-    assert!(rt; calls.next() == Ok(()) && calls.before_fault == None && calls.faults == 1);
 }

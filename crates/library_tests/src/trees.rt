@@ -1,7 +1,4 @@
-use hashtree::{Hash, Shape, fill_levels, zero};
-use sha2::{Digest, Sha256};
-use std::alloc::Global;
-use std::process::Abort;
+use hashtree::{Hash, Shape, zero};
 use std::test::*;
 
 const Z0: Hash = [0; 32];
@@ -25,7 +22,7 @@ fn zero_hashes(rt: HostRuntime) {
 
 // Of a shape: the blocks, the height, the length of the last block, and the place of the first pad
 // in layer 1, or in layer 0 if the tree has no other.
-fn told(length: u64) -> Option<(u64, u32, u64, u64)> {
+fn numbers_of(length: u64) -> Option<(u64, u32, u64, u64)> {
     let shape = Shape::of(length)?;
     let last = shape.block_len(shape.blocks() - 1);
     let pad = shape.pad_from(shape.height().min(1));
@@ -44,43 +41,6 @@ fn shapes(rt: HostRuntime) {
         (1 << 46, Some((1 << 32, 32, 16384, 1 << 31))),
         ((1 << 46) + 1, None),
     ] {
-        assert!(rt; told(length) == shape, "{length}");
-    }
-}
-
-// SHA-256 of two hashes joined into one text.
-fn join(left: &Hash, right: &Hash) -> Hash {
-    let mut both = [0u8; 64];
-    both[..32].copy_from_slice(left);
-    both[32..].copy_from_slice(right);
-    Sha256::digest(&both)
-}
-
-// Whether the layers over the first of these, which is the tree's layer of this number, are these.
-fn are_filled(rt: &impl Abort, alloc: Global, layer: u32, layers: &[&[Hash]]) -> bool {
-    let (Some(shape), Some(first)) = (Shape::of(65636), layers.first()) else {
-        return false;
-    };
-    if layer > shape.height() || first.len() as u64 != shape.pad_from(layer) {
-        return false;
-    }
-    let filled = fill_levels(alloc, shape, layer, first).expect(rt, "memory");
-    filled.len() == layers.len() && filled.iter().zip(layers).all(|(a, b)| a.as_slice() == *b)
-}
-
-#[test]
-fn layers_of_five_blocks(rt: HostRuntime) {
-    let [l0, l1, l2, l3, l4] = [[10; 32], [11; 32], [12; 32], [13; 32], [14; 32]];
-    let [left, middle, right] = [join(&l0, &l1), join(&l2, &l3), join(&l4, &Z0)];
-    let [four, pads] = [join(&left, &middle), join(&right, &Z1)];
-    let root = join(&four, &pads);
-    let layers = [
-        &[l0, l1, l2, l3, l4] as &[Hash],
-        &[left, middle, right],
-        &[four, pads],
-        &[root],
-    ];
-    for layer in [0, 1, 3] {
-        assert!(rt; are_filled(&rt, rt.alloc(), layer, &layers[layer as usize..]));
+        assert!(rt; numbers_of(length) == shape, "{length}");
     }
 }

@@ -1,0 +1,217 @@
+use benc::memory::{Calls, MemSink, MemSource};
+use benc::*;
+use std::alloc::AllocError;
+use std::io;
+use std::test::*;
+
+#[test]
+fn sources(rt: HostRuntime) {
+    let mut buf = [0u8; 4];
+    let mut cut = MemSource::new(b"abcde").at_most(3).fails_after(1);
+    assert!(rt; cut.read(&mut buf) == Ok(3) && buf.starts_with(b"abc"));
+    assert!(rt; cut.read(&mut buf) == Err(DeviceFault) && cut.failures() == 1);
+    assert!(rt; cut.read(&mut buf) == Ok(2) && buf.starts_with(b"de"));
+    assert!(rt; cut.read(&mut buf) == Ok(0) && cut.failures() == 1);
+    let mut plain = FromRead::new(&b"xyz"[..]);
+    assert!(rt; plain.read(&mut buf[..2]) == Ok(2) && buf.starts_with(b"xy"));
+    assert!(rt; plain.into_inner() == b"z".as_slice());
+}
+
+// A reader and a writer that move nothing: a call claims all that it is asked for, up to a bound and
+// to what is left. They count their calls, and those of these numbers fail.
+#[derive(Drop)]
+struct Claims {
+    left: u64,
+    at_most: u64,
+    failing: &'static [u64],
+    calls: u64,
+    empty: u64,
+    flushes: u64,
+}
+
+impl Claims {
+    fn new(left: u64) -> Claims {
+        Claims {
+            left,
+            at_most: u64::MAX,
+            failing: &[],
+            calls: 0,
+            empty: 0,
+            flushes: 0,
+        }
+    }
+
+    fn at_most(mut self, count: u64) -> Claims {
+        self.at_most = count;
+        self
+    }
+
+    fn failing(mut self, calls: &'static [u64]) -> Claims {
+        self.failing = calls;
+        self
+    }
+
+    fn call(&mut self) -> io::Result<()> {
+        self.calls = self.calls.wrapping_add(1);
+        if self.failing.contains(&self.calls) {
+            return Err(io::Error::from(io::ErrorKind::Interrupted));
+        }
+        Ok(())
+    }
+
+    fn claim(&mut self, count: usize) -> io::Result<usize> {
+        if count == 0 {
+            self.empty = self.empty.wrapping_add(1);
+        }
+        self.call()?;
+        let claimed = (count as u64).min(self.at_most).min(self.left);
+        self.left -= claimed;
+        Ok(claimed as usize)
+    }
+}
+
+impl io::Read for Claims {
+    fn read(&mut self, buf: &mut [u8]) -> io::Result<usize> {
+        Ok(self.claim(buf.len())?.min(buf.len()))
+    }
+}
+
+impl io::Write for Claims {
+    fn write(&mut self, buf: &[u8]) -> io::Result<usize> {
+        Ok(self.claim(buf.len())?.min(buf.len()))
+    }
+
+    fn flush(&mut self) -> io::Result<()> {
+        self.flushes = self.flushes.wrapping_add(1);
+        self.call()
+    }
+}
+
+// A failed call is not made again, and the calls after it succeed, however many have failed.
+#[test]
+fn a_failed_call_is_a_fault(rt: HostRuntime) {
+    for (failing, faults) in [(&[2u64] as &[u64], 1u64), (&[1, 2, 3, 4], 4)] {
+        let mut source = FromRead::new(Claims::new(8).at_most(1).failing(failing));
+        let mut sink = FromWrite::new(Claims::new(8).at_most(1).failing(failing));
+        let mut buf = [0u8; 4];
+        let mut counted = 0u64;
+        for call in 1..=6u64 {
+            let moved = if failing.contains(&call) {
+                counted = counted.wrapping_add(1);
+                Err(DeviceFault)
+            } else {
+                Ok(1)
+            };
+            assert!(rt; source.read(&mut buf) == moved && source.failures() == counted);
+            assert!(rt; sink.write(&buf) == moved && sink.failures() == counted);
+        }
+        assert!(rt; counted == faults && source.into_inner().calls == 6);
+        assert!(rt; sink.flush() == Ok(()) && sink.failures() == faults);
+        let writer = sink.into_inner();
+        assert!(rt; writer.calls == 7 && writer.flushes == 1);
+    }
+}
+
+#[test]
+fn a_flush_that_fails_is_a_fault(rt: HostRuntime) {
+    let mut sink = FromWrite::new(Claims::new(8).failing(&[2]));
+    assert!(rt; sink.flush() == Ok(()) && sink.failures() == 0);
+    assert!(rt; sink.flush() == Err(DeviceFault) && sink.failures() == 1);
+    assert!(rt; sink.write(b"ab") == Ok(2) && sink.flush() == Ok(()) && sink.failures() == 1);
+    let writer = sink.into_inner();
+    assert!(rt; writer.calls == 4 && writer.flushes == 3 && writer.left == 6);
+}
+
+#[test]
+fn a_flush_that_fails_is_counted_too(rt: HostRuntime) -> Result<(), AllocError> {
+    let mut out = MemSink::with_room(rt.alloc(), 4)?.fails_after(1);
+    assert!(rt; out.write(b"ab") == Ok(2) && out.flush() == Err(DeviceFault));
+    assert!(rt; !out.is_flushed() && out.flushes() == 1 && out.failures() == 1);
+    assert!(rt; out.flush() == Ok(()) && out.flushes() == 2 && out.written() == b"ab".as_slice());
+    Ok(())
+}
+
+#[test]
+fn one_call_fails(rt: HostRuntime) {
+    let mut calls = Calls::that_succeed();
+    assert!(rt; calls.next() == Ok(()) && calls.before_fault == None);
+    calls.fail_after(1);
+    assert!(rt; calls.next() == Ok(()) && calls.before_fault == Some(0) && calls.faults == 0);
+    assert!(rt; calls.next() == Err(DeviceFault) && calls.faults == 1);
+    assert!(rt; calls.next() == Ok(()) && calls.before_fault == None && calls.faults == 1);
+}
+
+// How often `write` of a writer is called for a text, which it takes so many bytes a call of.
+fn writes_of(text: &[u8], at_most: u64) -> Option<u64> {
+    let mut sink = FromWrite::new(Claims::new(u64::MAX).at_most(at_most));
+    if write_all(&mut sink, text).is_err() {
+        return None;
+    }
+    let writer = sink.into_inner();
+    (writer.empty == 0 && writer.flushes == 0).then_some(writer.calls)
+}
+
+#[test]
+fn nothing_is_written_by_no_call(rt: HostRuntime) -> Result<(), AllocError> {
+    for (text, at_most, writes) in [
+        (b"" as &[u8], u64::MAX, 0u64),
+        (b"a", u64::MAX, 1),
+        (b"abcde", u64::MAX, 1),
+        (b"abcde", 1, 5),
+        (b"abcde", 2, 3),
+        (b"abcdef", 2, 3),
+    ] {
+        assert!(rt;
+            writes_of(text, at_most) == Some(writes),
+            "{at_most} bytes a call"
+        );
+    }
+    let value = decode(rt.alloc(), b"d0:0:1:alde0:ee").expect(&rt, "a value");
+    assert!(rt; value.is_canonical());
+    let mut sink = FromWrite::new(Claims::new(u64::MAX));
+    assert!(rt; encodes(&value, &mut sink));
+    assert!(rt; sink.into_inner().empty == 0);
+    Ok(())
+}
+
+fn encodes<W: Sink>(value: &Value<'_>, out: &mut W) -> bool {
+    value.is_canonical() && encode(value, out).is_ok()
+}
+
+const LONG: u64 = 5 << 30;
+
+// Reads to the end, and counts the bytes.
+fn read_to_end<R: Source>(source: &mut R, buffer: &mut [u8]) -> Result<u64, DeviceFault> {
+    let mut length = 0u64;
+    for _ in 0..u64::MAX {
+        match source.read(buffer)? {
+            0 => break,
+            count => length = length.wrapping_add(count as u64),
+        }
+    }
+    Ok(length)
+}
+
+// Each read of a source is one of its reader, at the end too.
+#[test]
+fn more_than_four_gib_is_read(rt: HostRuntime) -> Result<(), AllocError> {
+    let mut buffer = vec![in rt.alloc(); 0u8; 1 << 20]?;
+    let mut source = FromRead::new(Claims::new(LONG));
+    assert!(rt; read_to_end(&mut source, &mut buffer) == Ok(LONG) && source.failures() == 0);
+    assert!(rt; source.into_inner().calls == 5121);
+    Ok(())
+}
+
+// Each write of a sink is one of its writer. One of which nothing is taken is a fault.
+#[test]
+fn more_than_four_gib_is_written(rt: HostRuntime) -> Result<(), AllocError> {
+    let buffer = vec![in rt.alloc(); 0u8; 1 << 20]?;
+    let mut sink = FromWrite::new(Claims::new(LONG));
+    for _ in 0..5120u64 {
+        assert!(rt; write_all(&mut sink, &buffer) == Ok(()));
+    }
+    assert!(rt; sink.failures() == 0);
+    assert!(rt; write_all(&mut sink, &buffer) == Err(DeviceFault) && sink.failures() == 1);
+    assert!(rt; sink.into_inner().calls == 5121);
+    Ok(())
+}
