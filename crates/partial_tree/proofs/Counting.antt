@@ -1,5 +1,5 @@
 -- The counts that a tree keeps beside its nodes.
-use Rattle.std.proofs.Common.{◌≡◌, ℕ, ◌+◌, ◌-◌, ◌^◌, ◌≤◌, Bool, true, false, cond, is_some, sym, ap, ◌∙◌, arith}
+use Rattle.std.proofs.Common.{◌≡◌, ℕ, ◌+◌, ◌-◌, ◌^◌, ◌≤◌, Bool, true, false, cond, is_some, refl, sym, ap, ◌∙◌, subst, arith}
 use Rattle.std.specs.FinMap as map
 use Rattle.std.specs.FinMap.{insert, empty, len-insert, len-empty, get-empty}
 use Rattle.std.specs.FinSet as set
@@ -8,6 +8,7 @@ use Rattle.std.specs.Cmp.{nat_cmp_total}
 use Rattle.node_maps.specs.Digest.{Hash}
 use Rattle.node_maps.specs.Places.{tree_height, IsTreePlace}
 use Rattle.node_maps.specs.Known.{Known, Marked, place_cmp}
+use Rattle.node_maps.specs.Nodes.{KeepsMarks, Nodes, no_nodes, with_mark, with_node}
 use Rattle.partial_tree.specs.Kept.{KeptTree, IsCounted, IsGoodTree}
 use Rattle.node_maps.proofs.Known.{place_total}
 use Rattle.partial_tree.proofs.Ranges.{pow_more}
@@ -20,39 +21,30 @@ len-one m h root none =
     let zero_long : map.len m ≡ 0 = ap map.len none ∙ len-empty place_cmp Hash in
     len-insert place_total m (h, 0) root ∙ ap (λ b. cond b (map.len m) (map.len m + 1)) absent ∙ omega arith
 
-pub counted_root : (h n : ℕ) (root : Hash) (m K : Known) (M : Marked) → m ≡ empty → K ≡ insert m (h, 0) root → M ≡ set.empty → h ≡ tree_height n → h ≤ 32
-    → IsCounted h 1 0 n K M
-counted_root h n root m K M none k marks is low = record {
-  height_is = is;
-  low = low;
-  known_is = sym (ap map.len k ∙ len-one m h root none);
-  marked_is = sym (ap set.len marks ∙ set.len-empty nat_cmp);
+pub counted_root : (h n : ℕ) (root : Hash) (v : Nodes) → v ≡ with_node (no_nodes n) h 0 root → tree_height n ≤ 32 → IsCounted 1 0 v
+counted_root h n root v is low = record {
+  low = subst (λ (w : Nodes). tree_height w.length ≤ 32) (sym is) low;
+  known_is = sym (ap (λ (w : Nodes). map.len w.known) is ∙ len-one empty h root refl);
+  marked_is = sym (ap (λ (w : Nodes). set.len w.marked) is ∙ set.len-empty nat_cmp);
 }
 
-pub counted_more : (h known marked n c : ℕ) (K K' : Known) (M M' : Marked) → IsCounted h known marked n K M → map.len K' ≡ map.len K + c → M' ≡ M
-    → IsCounted h (known + c) marked n K' M'
-counted_more h known marked n c K K' M M' is more same = record {
-  height_is = is.height_is;
-  low = is.low;
+pub counted_more : (known marked c : ℕ) (old new : Nodes) → IsCounted known marked old → map.len new.known ≡ map.len old.known + c → KeepsMarks old new
+    → IsCounted (known + c) marked new
+counted_more known marked c old new is more same = record {
+  low = subst (λ n. tree_height n ≤ 32) (sym same.length) is.low;
   known_is = ap (λ x. x + c) is.known_is ∙ sym more;
-  marked_is = is.marked_is ∙ sym (ap set.len same);
+  marked_is = is.marked_is ∙ sym (ap set.len same.marked);
 }
 
-pub counted_same : (h known marked n : ℕ) (K K' : Known) (M M' : Marked) → IsCounted h known marked n K M → K' ≡ K → M' ≡ M → IsCounted h known marked n K' M'
-counted_same h known marked n K K' M M' is k m = record {
-  height_is = is.height_is;
-  low = is.low;
-  known_is = is.known_is ∙ sym (ap map.len k);
-  marked_is = is.marked_is ∙ sym (ap set.len m);
-}
+pub counted_same : (known marked : ℕ) (old new : Nodes) → IsCounted known marked old → new ≡ old → IsCounted known marked new
+counted_same known marked old new is same = subst (IsCounted known marked) (sym same) is
 
-pub counted_mark : (h known marked n more : ℕ) (K K' : Known) (M M' : Marked) → IsCounted h known marked n K M → K' ≡ K → set.len M' ≡ set.len M + more
-    → IsCounted h known (marked + more) n K' M'
-counted_mark h known marked n more K K' M M' is k m = record {
-  height_is = is.height_is;
-  low = is.low;
-  known_is = is.known_is ∙ sym (ap map.len k);
-  marked_is = ap (λ x. x + more) is.marked_is ∙ sym m;
+pub counted_mark : (known marked more block : ℕ) (old new : Nodes) → IsCounted known marked old → new ≡ with_mark old block
+    → set.len new.marked ≡ set.len old.marked + more → IsCounted known (marked + more) new
+counted_mark known marked more block old new is marks count = record {
+  low = subst (λ (w : Nodes). tree_height w.length ≤ 32) (sym marks) is.low;
+  known_is = is.known_is ∙ sym (ap (λ (w : Nodes). map.len w.known) marks);
+  marked_is = ap (λ x. x + more) is.marked_is ∙ sym count;
 }
 
 pub len_marked_again : (M M' : Marked) (b : ℕ) (t : Bool) → M' ≡ set.insert M b → t ≡ set.contains M b → t ≡ true → set.len M' ≡ set.len M + 0

@@ -3,8 +3,15 @@ use Rattle.std.specs.Prelude.{ℕ, List, refl}
 use Rattle.std.specs.Coded.{Coded, code_by, coded×, coded_list, coded_ℕ}
 use Rattle.node_maps.specs.Digest.{Hash}
 use Rattle.node_maps.specs.Known.{Known, Marked, known_code, marked_code}
+use Rattle.node_maps.specs.Nodes.{Nodes}
 use Rattle.partial_tree.specs.Kept.{TreeState, KeptTree}
 use Rattle.partial_tree.specs.Grown.{GrownTree}
+
+abbrev pub nodes_code : Coded Nodes
+nodes_code = code_by (ℕ × (Known × Marked)) (coded× coded_ℕ (coded× known_code marked_code))
+    (λ n. (n.length, (n.known, n.marked)))
+    (λ p. record { length = p.0; known = p.1.0; marked = p.1.1 })
+    (λ _. refl)
 
 abbrev pub tree_state_code : Coded TreeState
 tree_state_code = code_by (Known × Marked) (coded× known_code marked_code)

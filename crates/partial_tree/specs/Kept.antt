@@ -18,6 +18,7 @@ use Rattle.partial_tree.specs.Answers.{IsTreeAnswer}
 use Rattle.partial_tree.specs.Fill.{FillRefuses}
 use Rattle.partial_tree.specs.Joins.{Joins, TakesHashes, TakesLayer}
 use Rattle.node_maps.specs.Known.{Known, Marked, look}
+use Rattle.node_maps.specs.Nodes.{Nodes}
 
 -- what is known and marked of one tree
 pub record TreeState : Type 0 where
@@ -43,12 +44,11 @@ info_of t = record { root = t.root; length = t.length }
 abbrev pub root_only : Hash → ℕ → KeptTree
 root_only root length = kept root length (insert empty (tree_height length, 0) root) set.empty
 
--- what a tree keeps beside its nodes: its height and its counts
-pub record IsCounted (h known marked : ℕ) (len : ℕ) (K : Known) (M : Marked) : Type 0 where
-  pub height_is : h ≡ tree_height len
-  pub low : h ≤ 32
-  pub known_is : known ≡ map.len K
-  pub marked_is : marked ≡ set.len M
+-- so many nodes of a tree are known and so many leaves marked, of places few enough to be counted
+pub record IsCounted (known marked : ℕ) (n : Nodes) : Type 0 where
+  pub low : tree_height n.length ≤ 32
+  pub known_is : known ≡ map.len n.known
+  pub marked_is : marked ≡ set.len n.marked
 
 -- each place stands with its sibling and parent, and each marked leaf is known
 pub record IsGoodTree (t : KeptTree) : Type 0 where

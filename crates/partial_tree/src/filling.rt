@@ -1,6 +1,6 @@
 //! Taking a whole layer, given without the pads at its end.
 
-ghost use Rattle.std.specs.Prelude.{◌≡◌, ℕ, suc, ◌*◌, ◌<◌, ◌≤◌, OnErr, IfOk, IfErr};
+ghost use Rattle.std.specs.Prelude.{◌≡◌, ℕ, suc, ◌*◌, ◌<◌, OnErr, IfOk, IfErr};
 ghost use Rattle.node_maps.specs.Places.{tree_height, IsKnown};
 ghost use Rattle.node_maps.specs.Known.{look};
 ghost use Rattle.node_maps.specs.Nodes.{KeepsMarks};
@@ -9,83 +9,69 @@ ghost use Rattle.partial_tree.specs.Fill.{fill_claims, FillRefuses, IsFillAccept
 ghost use Rattle.partial_tree.specs.Joins.{Joins, TakesLayer};
 
 use crate::evidence::Evidence;
+use crate::nodes::TreeNodes;
 use crate::refusal::HashRefusal;
 use crate::storing::{store, store_agreed};
-use hashtree::{Hash, NoMemory, Shape, zero};
+use hashtree::{Hash, NoMemory, zero};
 use node_maps::NodeMap;
 use std::alloc::Global;
 
-/// Takes a whole layer into the nodes of a tree, and returns how many places are newly known.
-pub(crate) fn fill_layer<N: NodeMap>(
-    alloc: Global,
-    shape: Shape,
-    height: u32,
-    nodes: &mut N,
-    layer: u32,
-    hashes: &[Hash],
-) -> Result<u64, HashRefusal>
-    requires shape { (N.seen nodes.old).length ≡ shape }
-    requires height { height ≡ tree_height shape }
-    requires low { height ≤ 32 }
-    requires trimmed { N.held nodes.old ≡ N.needed (N.seen nodes.old).known }
-    ensures stays { KeepsMarks (N.seen nodes.old) (N.seen nodes.new) }
-    ensures trimmed { N.held nodes.new ≡ N.needed (N.seen nodes.new).known }
-    ensures filled { IfOk result (λ c. TakesLayer shape layer hashes.now (N.seen nodes.old).known c
-        (N.seen nodes.new).known) }
-    ensures refused { IfErr result (λ r.
-        FillRefuses shape (look (N.seen nodes.old).known) layer hashes.now r
-        × (N.seen nodes.new ≡ N.seen nodes.old)) }
-{
-    if layer > height {
-        return Err(HashRefusal::BadRange);
+impl<N: NodeMap> TreeNodes<N> {
+    /// Takes a whole layer, and returns how many places are newly known.
+    pub(crate) fn fill(
+        &mut self,
+        alloc: Global,
+        layer: u32,
+        hashes: &[Hash],
+    ) -> Result<u64, HashRefusal>
+        ensures stays { KeepsMarks self.old self.new }
+        ensures filled { IfOk result (λ c. TakesLayer self.old.length layer hashes.now
+            self.old.known c self.new.known) }
+        ensures refused { IfErr result (λ r.
+            FillRefuses self.old.length (look self.old.known) layer hashes.now r
+            × (self.new ≡ self.old)) }
+    {
+        if layer > self.height {
+            return Err(HashRefusal::BadRange);
+        }
+        if hashes.len() as u64 != self.shape.pad_from(layer) {
+            return Err(HashRefusal::BadCount);
+        }
+        let evidence = Evidence {
+            base: layer,
+            index: 0,
+            span: self.height - layer,
+            hashes,
+            pad: zero(layer),
+        };
+        store(alloc, &mut self.map, &evidence, self.height, 0)
     }
-    if hashes.len() as u64 != shape.pad_from(layer) {
-        return Err(HashRefusal::BadCount);
-    }
-    let evidence = Evidence {
-        base: layer,
-        index: 0,
-        span: height - layer,
-        hashes,
-        pad: zero(layer),
-    };
-    store(alloc, nodes, &evidence, height, 0)
-}
 
-/// Takes a whole layer that is accepted into the nodes of a tree, and returns how many places are
-/// newly known. Each digest is computed once, and none if the layer is known.
-pub(crate) fn plant_layer<N: NodeMap>(
-    shape: Shape,
-    height: u32,
-    nodes: &mut N,
-    layer: u32,
-    hashes: &[Hash],
-) -> Result<u64, NoMemory>
-    requires shape { (N.seen nodes.old).length ≡ shape }
-    requires height { height ≡ tree_height shape }
-    requires low { height ≤ 32 }
-    requires accepted { IsFillAccepted shape (look (N.seen nodes.old).known) layer hashes.now }
-    requires upward { (l i : ℕ) → l < height
-        → IsKnown (look (N.seen nodes.old).known) l (2 * i)
-        → IsKnown (look (N.seen nodes.old).known) (suc l) i }
-    requires trimmed { N.held nodes.old ≡ N.needed (N.seen nodes.old).known }
-    ensures stays { KeepsMarks (N.seen nodes.old) (N.seen nodes.new) }
-    ensures trimmed { N.held nodes.new ≡ N.needed (N.seen nodes.new).known }
-    ensures planted { IfOk result (λ c. Joins (fill_claims shape layer hashes.now)
-        (N.seen nodes.old).known (N.seen nodes.new).known c) }
-    ensures refused { OnErr result (N.seen nodes.new ≡ N.seen nodes.old) }
-    ensures no_memory { OnErr result
-        (HasNew (look (N.seen nodes.old).known) (fill_claims shape layer hashes.now)) }
-{
-    if nodes.knows(layer, 0, 1 << (height - layer)) {
-        return Ok(0);
+    /// Takes a whole layer that is accepted, and returns how many places are newly known. Each
+    /// digest is computed once, and none if the layer is known. Condition: above each known place
+    /// its parent is known.
+    pub(crate) fn plant(&mut self, layer: u32, hashes: &[Hash]) -> Result<u64, NoMemory>
+        requires accepted { IsFillAccepted self.old.length (look self.old.known) layer hashes.now }
+        requires upward { (l i : ℕ) → l < tree_height self.old.length
+            → IsKnown (look self.old.known) l (2 * i)
+            → IsKnown (look self.old.known) (suc l) i }
+        ensures stays { KeepsMarks self.old self.new }
+        ensures planted { IfOk result (λ c. Joins (fill_claims self.old.length layer hashes.now)
+            self.old.known self.new.known c) }
+        ensures refused { OnErr result (self.new ≡ self.old) }
+        ensures no_memory { OnErr result (HasNew (look self.old.known)
+            (fill_claims self.old.length layer hashes.now)) }
+    {
+        if self.map.knows(layer, 0, 1 << (self.height - layer)) {
+            return Ok(0);
+        }
+        let evidence = Evidence {
+            base: layer,
+            index: 0,
+            span: self.height - layer,
+            hashes,
+            pad: zero(layer),
+        };
+        store_agreed(&mut self.map, &evidence, self.height, 0)
     }
-    let evidence = Evidence {
-        base: layer,
-        index: 0,
-        span: height - layer,
-        hashes,
-        pad: zero(layer),
-    };
-    store_agreed(nodes, &evidence, height, 0)
 }

@@ -17,6 +17,7 @@ mod growing;
 pub mod laws;
 mod limits;
 mod marking;
+mod nodes;
 mod pads;
 mod refusal;
 mod row;

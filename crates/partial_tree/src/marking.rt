@@ -1,12 +1,10 @@
 //! Marking the blocks of a tree.
 
-ghost use Rattle.std.specs.Prelude.{◌≡◌, ◌+◌, ◌<◌, ◌≤◌, IfOk, IfErr, IfSome};
-ghost use Rattle.std.specs.FinSet as set;
+ghost use Rattle.std.specs.Prelude.{◌≡◌, ◌+◌, ◌^◌, ◌<◌, ◌↔◌, IfOk, IfErr, IfSome, IsTrue};
 ghost use Rattle.sha2.specs.Sha256.{sha256};
 ghost use Rattle.hashtree.specs.Tree.{block_count};
-ghost use Rattle.node_maps.specs.Places.{IsKnown};
 ghost use Rattle.node_maps.specs.Known.{look};
-ghost use Rattle.node_maps.specs.Nodes.{with_mark};
+ghost use Rattle.node_maps.specs.Runs.{AreKnown};
 ghost use Rattle.partial_tree.specs.Kept.{IsGoodTree, TreeMarks, TreeRefusesBlock};
 
 use crate::refusal::BlockRefusal;
@@ -43,10 +41,10 @@ impl<N: NodeMap> Tree<N> {
         ensures refused { IfErr result (λ r. TreeRefusesBlock self.old block bytes.now r
             × (self.new ≡ self.old)) }
     {
-        if bytes.len() as u64 != self.shape.block_len(block) {
+        if bytes.len() as u64 != self.nodes.shape().block_len(block) {
             return Err(BlockRefusal::BadSize);
         }
-        match self.nodes.get(0, block) {
+        match self.nodes.map().get(0, block) {
             None => return Err(BlockRefusal::Unproved),
             Some(known) => {
                 if leaf_of(bytes, digest) != known {
@@ -54,8 +52,17 @@ impl<N: NodeMap> Tree<N> {
                 }
             }
         }
-        self.marked += mark_leaf(&mut self.nodes, block);
+        self.marked += self.nodes.mark(block);
         Ok(())
+    }
+
+    /// Whether the leaves of `count` blocks are known, from one on. Condition: `from + count` is
+    /// below 2^64.
+    pub fn knows_leaves(&self, from: u64, count: u64) -> bool
+        requires { from + count < 2 ^ 64 }
+        ensures { IsTrue result ↔ AreKnown (look self.now.state.known 0) from count }
+    {
+        self.nodes.map().knows(0, from, count)
     }
 }
 
@@ -68,18 +75,4 @@ fn leaf_of(bytes: &[u8], digest: Option<Hash>) -> Hash
         Some(digest) => digest,
         None => leaf(bytes),
     }
-}
-
-// Marks a known leaf, and returns how many more are marked.
-fn mark_leaf<N: NodeMap>(nodes: &mut N, block: u64) -> u64
-    requires { IsKnown (look (N.seen nodes.old).known) 0 block }
-    ensures seen { N.seen nodes.new ≡ with_mark (N.seen nodes.old) block }
-    ensures held { N.held nodes.new ≡ N.held nodes.old }
-    ensures one { result ≤ 1 }
-    ensures count { set.len (N.seen nodes.new).marked
-        ≡ set.len (N.seen nodes.old).marked + result }
-{
-    let before = nodes.is_marked(block);
-    nodes.mark(block);
-    if before { 0 } else { 1 }
 }

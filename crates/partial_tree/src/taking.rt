@@ -11,6 +11,7 @@ ghost use Rattle.partial_tree.specs.MessagePages.{most_pages};
 
 use crate::checks::{base_pads_fit, check_count, check_range, uncle_pads_fit};
 use crate::evidence::Evidence;
+use crate::nodes::TreeNodes;
 use crate::pads::Pads;
 use crate::refusal::HashRefusal;
 use crate::storing::store;
@@ -19,47 +20,44 @@ use node_maps::NodeMap;
 use std::alloc::Global;
 use wire::Ask;
 
-/// Takes a hashes message into the nodes of a tree, and returns how many places are newly known.
-pub(crate) fn take_message<N: NodeMap>(
-    alloc: Global,
-    shape: Shape,
-    height: u32,
-    nodes: &mut N,
-    ask: &Ask,
-    hashes: &[Hash],
-) -> Result<u64, HashRefusal>
-    requires shape { (N.seen nodes.old).length ≡ shape }
-    requires height { height ≡ tree_height shape }
-    requires low { height ≤ 32 }
-    requires places { (l i : ℕ) → IsKnown (look (N.seen nodes.old).known) l i
-        → IsTreePlace height l i }
-    requires trimmed { N.held nodes.old ≡ N.needed (N.seen nodes.old).known }
-    ensures stays { KeepsMarks (N.seen nodes.old) (N.seen nodes.new) }
-    ensures trimmed { N.held nodes.new ≡ N.needed (N.seen nodes.new).known }
-    ensures few { OnOk result (N.held nodes.new ≤ N.held nodes.old + most_pages) }
-    ensures taken { IfOk result (λ c. TakesHashes shape ask.now hashes.now
-        (N.seen nodes.old).known c (N.seen nodes.new).known) }
-    ensures refused { IfErr result (λ r.
-        TreeRefuses shape (look (N.seen nodes.old).known) ask.now hashes.now r
-        × (N.seen nodes.new ≡ N.seen nodes.old)) }
-{
-    let span = check_range(height, ask)?;
-    let top = check_count(height, ask, span, hashes)?;
-    if !pads_fit(shape, ask, span, hashes) {
-        return Err(HashRefusal::BadPad);
+impl<N: NodeMap> TreeNodes<N> {
+    /// Takes a hashes message, and returns how many places are newly known. Condition: what is
+    /// known lies in the tree.
+    pub(crate) fn take(
+        &mut self,
+        alloc: Global,
+        ask: &Ask,
+        hashes: &[Hash],
+    ) -> Result<u64, HashRefusal>
+        requires { (l i : ℕ) → IsKnown (look self.old.known) l i
+            → IsTreePlace (tree_height self.old.length) l i }
+        ensures stays { KeepsMarks self.old self.new }
+        ensures few { OnOk result
+            (N.needed self.new.known ≤ N.needed self.old.known + most_pages) }
+        ensures taken { IfOk result (λ c. TakesHashes self.old.length ask.now hashes.now
+            self.old.known c self.new.known) }
+        ensures refused { IfErr result (λ r.
+            TreeRefuses self.old.length (look self.old.known) ask.now hashes.now r
+            × (self.new ≡ self.old)) }
+    {
+        let span = check_range(self.height, ask)?;
+        let top = check_count(self.height, ask, span, hashes)?;
+        if !pads_fit(self.shape, ask, span, hashes) {
+            return Err(HashRefusal::BadPad);
+        }
+        let index = u64::from(ask.index) >> (top - ask.base);
+        if self.map.get(top, index).is_none() {
+            return Err(HashRefusal::Unanchored);
+        }
+        let evidence = Evidence {
+            base: ask.base,
+            index: u64::from(ask.index),
+            span,
+            hashes,
+            pad: zero(0),
+        };
+        store(alloc, &mut self.map, &evidence, top, index)
     }
-    let index = u64::from(ask.index) >> (top - ask.base);
-    if nodes.get(top, index).is_none() {
-        return Err(HashRefusal::Unanchored);
-    }
-    let evidence = Evidence {
-        base: ask.base,
-        index: u64::from(ask.index),
-        span,
-        hashes,
-        pad: zero(0),
-    };
-    store(alloc, nodes, &evidence, top, index)
 }
 
 // Whether each given hash wholly past the file's end is that over pads.

@@ -17,27 +17,24 @@ ghost use Rattle.std.specs.Prelude.{◌≡◌, ◌+◌, ◌<◌, ◌≤◌, ◌�
 ghost use Rattle.std.specs.FinMap as finite;
 ghost use Rattle.std.specs.FinSet as set;
 ghost use Rattle.hashtree.specs.Tree.{block_count};
-ghost use Rattle.node_maps.specs.Places.{IsKnown};
 ghost use Rattle.partial_tree.specs.declared.refusal.HashRefusal.TheVariants.{Mismatch};
 ghost use Rattle.partial_tree.specs.Gaps.{want_of};
 ghost use Rattle.partial_tree.specs.MessagePages.{most_pages};
 ghost use Rattle.node_maps.specs.Known.{look};
-ghost use Rattle.node_maps.specs.Nodes.{with_mark};
 ghost use Rattle.partial_tree.specs.Claims.{HasNew};
 ghost use Rattle.partial_tree.specs.Fill.{fill_claims, IsFillAccepted};
-ghost use Rattle.partial_tree.specs.Kept.{info_of, root_only, IsGoodTree, TreeJoins, TreeTakesHashes, TreeRefusesHashes, TreeTakesLayer, TreeRefusesLayer, TreeMarks, TreeRefusesBlock, TreeCanAnswer, TreeAnswers};
+ghost use Rattle.partial_tree.specs.Kept.{info_of, root_only, IsGoodTree, TreeJoins, TreeTakesHashes, TreeRefusesHashes, TreeTakesLayer, TreeRefusesLayer, TreeCanAnswer, TreeAnswers};
 
 use crate::adopting::{agree, carry_marks};
 use crate::answer::Answer;
 use crate::answering::answer_hashes;
 use crate::bytes::are_hashes;
 use crate::checks::check_range;
-use crate::filling::{fill_layer, plant_layer};
 use crate::growing::GrownTree;
 use crate::limits::MOST_WANTED;
-use crate::refusal::{BlockRefusal, HashRefusal};
-use crate::taking::take_message;
-use hashtree::{Hash, NoMemory, Shape, leaf};
+use crate::nodes::TreeNodes;
+use crate::refusal::HashRefusal;
+use hashtree::{Hash, NoMemory, Shape};
 use node_maps::NodeMap;
 use std::alloc::Global;
 use std::marker::Model;
@@ -49,9 +46,7 @@ use wire::Ask;
 pub struct Tree<N: NodeMap> {
     alloc: Global,
     root: Hash,
-    pub(crate) shape: Shape,
-    height: u32,
-    pub(crate) nodes: N,
+    pub(crate) nodes: TreeNodes<N>,
     known: u64,
     pub(crate) marked: u64,
 }
@@ -65,11 +60,9 @@ impl<N: NodeMap> Model for Tree<N> {
 
     ghost coded = { kept_tree_code };
 
-    ghost view = { λ t. kept t.root t.shape (N.seen t.nodes).known (N.seen t.nodes).marked };
+    ghost view = { λ t. kept t.root t.nodes.length t.nodes.known t.nodes.marked };
 
-    ghost invariant = { λ t. ((N.seen t.nodes).length ≡ t.shape)
-        × IsCounted t.height t.known t.marked t.shape (N.seen t.nodes).known (N.seen t.nodes).marked
-        × (N.held t.nodes ≡ N.needed (N.seen t.nodes).known) };
+    ghost invariant = { λ t. IsCounted t.known t.marked t.nodes };
 }
 
 impl<N: NodeMap> Tree<N> {
@@ -77,16 +70,10 @@ impl<N: NodeMap> Tree<N> {
     pub fn new(alloc: Global, root: Hash, shape: Shape) -> Result<Tree<N>, NoMemory>
         ensures { IfOk result (λ t. t ≡ root_only root shape) }
     {
-        let height = shape.height();
-        let mut nodes = N::empty(alloc, shape);
-        nodes.reserve(height, 0, 1)?;
-        nodes.put(height, 0, root);
-        nodes.trim();
+        let nodes = TreeNodes::with_root(alloc, root, shape)?;
         Ok(Tree {
             alloc,
             root,
-            shape,
-            height,
             nodes,
             known: 1,
             marked: 0,
@@ -119,7 +106,7 @@ impl<N: NodeMap> Tree<N> {
     pub fn is_marked(&self, block: u64) -> bool
         ensures { result ≡ set.contains self.now.state.marked block }
     {
-        self.nodes.is_marked(block)
+        self.nodes.map().is_marked(block)
     }
 
     /// Takes a hashes message that names this tree's root. Returns how many places are newly known.
@@ -135,14 +122,7 @@ impl<N: NodeMap> Tree<N> {
             × (self.new ≡ self.old)) }
     {
         are_hashes(hashes);
-        let gained = take_message(
-            self.alloc,
-            self.shape,
-            self.height,
-            &mut self.nodes,
-            ask,
-            hashes,
-        )?;
+        let gained = self.nodes.take(self.alloc, ask, hashes)?;
         self.known += gained;
         Ok(gained)
     }
@@ -157,14 +137,7 @@ impl<N: NodeMap> Tree<N> {
             × (self.new ≡ self.old)) }
     {
         are_hashes(hashes);
-        let gained = fill_layer(
-            self.alloc,
-            self.shape,
-            self.height,
-            &mut self.nodes,
-            layer,
-            hashes,
-        )?;
+        let gained = self.nodes.fill(self.alloc, layer, hashes)?;
         self.known += gained;
         Ok(gained)
     }
@@ -185,7 +158,7 @@ impl<N: NodeMap> Tree<N> {
             (fill_claims self.old.length layer hashes.now)) }
     {
         are_hashes(hashes);
-        let gained = plant_layer(self.shape, self.height, &mut self.nodes, layer, hashes)?;
+        let gained = self.nodes.plant(layer, hashes)?;
         self.known += gained;
         Ok(gained)
     }
@@ -203,14 +176,15 @@ impl<N: NodeMap> Tree<N> {
         ensures only_mismatch { IfErr result (λ r. r ≡ Mismatch) }
         ensures good { IsGoodTree self.new }
     {
+        let height = self.nodes.height();
         let mut nodes = grown.nodes;
-        if !agree(&self.nodes, &nodes, self.height) {
+        if !agree(self.nodes.map(), &nodes, height) {
             return Err(HashRefusal::Mismatch);
         }
-        carry_marks(&self.nodes, &mut nodes, 1 << self.height);
-        let places = (2u64 << self.height) - 1;
+        carry_marks(self.nodes.map(), &mut nodes, 1 << height);
+        let places = (2u64 << height) - 1;
         let gained = places - self.known;
-        self.nodes = nodes;
+        self.nodes.replace(nodes);
         self.known = places;
         Ok(gained)
     }
@@ -219,10 +193,11 @@ impl<N: NodeMap> Tree<N> {
     pub fn can_answer(&self, ask: &Ask) -> bool
         ensures { IsTrue result ↔ TreeCanAnswer self.now ask.now }
     {
-        match check_range(self.height, ask) {
+        match check_range(self.nodes.height(), ask) {
             Err(_) => false,
             Ok(_) => self
                 .nodes
+                .map()
                 .knows(ask.base, u64::from(ask.index), u64::from(ask.length)),
         }
     }
@@ -233,13 +208,14 @@ impl<N: NodeMap> Tree<N> {
         ensures answer { IfOk result (TreeAnswers self.now ask.now) }
         ensures no_memory { OnErr result (TreeCanAnswer self.now ask.now) }
     {
-        let Ok(span) = check_range(self.height, ask) else {
+        let height = self.nodes.height();
+        let Ok(span) = check_range(height, ask) else {
             return Ok(Answer::Reject);
         };
         if !self.can_answer(ask) {
             return Ok(Answer::Reject);
         }
-        let hashes = answer_hashes(self.alloc, &self.nodes, self.height, ask, span)?;
+        let hashes = answer_hashes(self.alloc, self.nodes.map(), height, ask, span)?;
         Ok(Answer::Hashes(hashes))
     }
 
@@ -250,18 +226,19 @@ impl<N: NodeMap> Tree<N> {
         requires { block < block_count self.now.length }
         ensures { result ≡ want_of (info_of self.now) (look self.now.state.known) block }
     {
-        if self.nodes.get(0, block).is_some() {
+        if self.nodes.map().get(0, block).is_some() {
             return None;
         }
-        let blocks = self.shape.blocks();
+        let blocks = self.nodes.shape().blocks();
         prove!(block < blocks);
-        let length = MOST_WANTED.min(1 << self.height);
+        let height = self.nodes.height();
+        let length = MOST_WANTED.min(1 << height);
         Some(Ask {
             root: self.root,
             base: 0,
             index: (block / length * length) as u32,
             length: length as u32,
-            proof: self.height.saturating_sub(1),
+            proof: height.saturating_sub(1),
         })
     }
 }

@@ -36,6 +36,12 @@ run-first d sound file b size k (f, there, r) =
     let inside : b < block_count f.length = omega (arith, r.inside, r.some) in
     omega (arith, bound, inside)
 
+-- the number of a block of a file is small
+pub has-low : (d : Description) → IsSound d → (file b : ℕ) → HasBlock d file b → b + 8 < 2 ^ 64
+has-low d sound file b (f, there, inside) =
+    let bound : f.length ≤ 2 ^ 46 = (sound.files file f there).bound in
+    omega (arith, bound, inside)
+
 -- before the first block
 pub no_block : (file : ℕ) (S : SessionSeen) (first : ℕ) (bytes : List ℕ) → Chain (BlockStep file) S (cuts first bytes 0) [] S
 unfolding cuts

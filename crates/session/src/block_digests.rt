@@ -1,9 +1,10 @@
 //! The digests of a message's blocks, made eight at a time.
 
 ghost use Rattle.std.specs.Prelude.{◌+◌, ◌*◌, ◌≡◌, ◌<◌, ◌≤◌, List, ℕ, IfSome, length};
+ghost use Rattle.std.specs.Bool.{OnTrue};
 ghost use Rattle.sha2.specs.Sha256.{sha256};
 ghost use Rattle.hashtree.specs.Tree.{block};
-ghost use Rattle.session.specs.Blocks.{most_blocks};
+ghost use Rattle.session.specs.Blocks.{block_length, most_blocks};
 
 use hashtree::{BLOCK_LENGTH, Hash};
 use sha256_lanes::digests;
@@ -35,33 +36,38 @@ impl BlockDigests {
         }
     }
 
-    /// The digest of a block of these bytes, if it is there, or if eight whole blocks stand from
-    /// this one on: then they are hashed.
-    pub(crate) fn take(&mut self, bytes: &[u8], number: u64) -> Option<Hash>
-        requires known { AreDigests self.old bytes.now }
-        requires few { number < most_blocks }
-        ensures digest { IfSome result (λ d. d ≡ sha256 (block bytes.now number)) }
-        ensures known { AreDigests self.new bytes.now }
+    /// Whether eight whole blocks stand from this one on, and its digest is not there.
+    pub(crate) fn can_fill(&self, bytes: &[u8], number: u64) -> bool
+        requires { number < most_blocks }
+        ensures { OnTrue result (block_length * (number + 8) ≤ length bytes.now) }
     {
         let number = number as usize;
-        self.fill(bytes, number);
+        number >= self.end && BLOCK * number + GROUP <= bytes.len()
+    }
+
+    /// Hashes eight blocks side by side, from this one on. Condition: they are whole.
+    pub(crate) fn fill(&mut self, bytes: &[u8], number: u64)
+        requires few { number < most_blocks }
+        requires whole { block_length * (number + 8) ≤ length bytes.now }
+        ensures { AreDigests self.new bytes.now }
+    {
+        let number = number as usize;
+        let start = BLOCK * number;
+        self.hashes = digests(&bytes[start..start + GROUP], BLOCK);
+        self.end = number + 8;
+    }
+
+    /// The digest of a block, if it is there.
+    pub(crate) fn get(&self, number: u64) -> Option<Hash>
+        requires { number < most_blocks }
+        ensures { (bytes : List ℕ) → AreDigests self.now bytes
+            → IfSome result (λ d. d ≡ sha256 (block bytes number)) }
+    {
+        let number = number as usize;
         if number < self.end && self.end <= number + 8 {
             Some(self.hashes[number + 8 - self.end])
         } else {
             None
-        }
-    }
-
-    // Hashes eight blocks from this one on, if its digest is not there and they are.
-    fn fill(&mut self, bytes: &[u8], number: usize)
-        requires known { AreDigests self.old bytes.now }
-        requires few { number < most_blocks }
-        ensures { AreDigests self.new bytes.now }
-    {
-        let start = BLOCK * number;
-        if number >= self.end && start + GROUP <= bytes.len() {
-            self.hashes = digests(&bytes[start..start + GROUP], BLOCK);
-            self.end = number + 8;
         }
     }
 }

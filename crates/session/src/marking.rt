@@ -4,7 +4,8 @@ ghost use Rattle.std.specs.Prelude.{◌≡◌, ◌<◌, ◌≤◌, IfOk, IfErr, 
 ghost use Rattle.sha2.specs.Sha256.{sha256};
 ghost use Rattle.session.specs.Session.{IsVerified, IsBlockRefused, IsBlock, IsMarkedBlock, IsUnmarkedBlock, BlockStep, AreTaken, AreRefused, AreBlocks};
 ghost use Rattle.hashtree.specs.Tree.{block};
-ghost use Rattle.session.specs.Blocks.{block_length, cuts};
+ghost use Rattle.session.specs.Blocks.{block_length, cuts, most_blocks};
+ghost use Rattle.session.specs.BlockDigests.{AreDigests};
 ghost use Rattle.session.specs.Layouts.{HasBlock, HasRun};
 ghost use Rattle.chains.specs.Chain.{Chain};
 ghost use Rattle.session.specs.SafeStep.{KeepsKnown, VerifiesTrueBlock, VerifiesTrueBlocks};
@@ -100,8 +101,7 @@ impl<'t, N: NodeMap> Session<'t, N> {
         }
     }
 
-    // Takes bytes that are `count` blocks of a file, from block `first` on. Where eight of them are
-    // whole, they are hashed side by side.
+    // Takes bytes that are `count` blocks of a file, from block `first` on.
     fn mark_run(&mut self, file: usize, first: u64, bytes: &[u8], count: u64) -> Blocks
         requires { HasRun self.old.torrent file first (length bytes.now) count }
         ensures file { result.file ≡ file }
@@ -114,12 +114,42 @@ impl<'t, N: NodeMap> Session<'t, N> {
         let mut blocks = Blocks::new(file, first);
         let mut digests = BlockDigests::new();
         'numbers: for number in 0..count {
-            let digest = digests.take(bytes, number);
-            let block = block_of(bytes, number);
-            let marked = self.mark_in_file(file, first + number, block, digest);
+            let block = first + number;
+            self.hash_ahead(file, block, bytes, number, &mut digests);
+            let digest = digests.get(number);
+            let marked = self.mark_in_file(file, block, block_of(bytes, number), digest);
             blocks.push(marked.err());
         }
         blocks
+    }
+
+    // Hashes eight blocks of a message side by side, from block `number` on, which is block `block`
+    // of the file: if they are whole, their leaves are known, and the first is not hashed yet.
+    fn hash_ahead(
+        &self,
+        file: usize,
+        block: u64,
+        bytes: &[u8],
+        number: u64,
+        digests: &mut BlockDigests,
+    )
+        requires block { HasBlock self.now.torrent file block }
+        requires few { number < most_blocks }
+        requires known { AreDigests digests.old bytes.now }
+        ensures { AreDigests digests.new bytes.now }
+    {
+        if digests.can_fill(bytes, number) && self.knows_eight(file, block) {
+            digests.fill(bytes, number);
+        }
+    }
+
+    // Whether the leaves of eight blocks of a file are known, from one on.
+    fn knows_eight(&self, file: usize, block: u64) -> bool
+        requires { HasBlock self.now.torrent file block }
+    {
+        self.torrent.sound();
+        let tree = self.torrent.tree_of(file).unwrap();
+        self.trees[tree].knows_leaves(block, 8)
     }
 
     // Marks a block of a file if its digest, which may be given, is its known leaf.

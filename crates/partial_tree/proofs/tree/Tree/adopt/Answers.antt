@@ -2,11 +2,13 @@ use Rattle.std.proofs.Common.{◌≡◌, ℕ, suc, ◌+◌, ◌-◌, ◌*◌, �
 use Rattle.std.specs.FinMap.{len}
 use Rattle.hashtree.specs.Tree.{block_count}
 use Rattle.node_maps.specs.Known.{Known, Marked, look}
+use Rattle.node_maps.specs.Nodes.{Nodes}
 use Rattle.node_maps.specs.Digest.{Hash}
 use Rattle.node_maps.specs.Places.{tree_height}
-use Rattle.node_maps.proofs.Nodes.{known-of, marked-of}
+use Rattle.node_maps.proofs.Nodes.{known-of, length-of, marked-of}
 use Rattle.partial_tree.specs.Grown.{AgreeInTree, GrownTree, FollowsFromLeaves, grown, leaves_in}
-use Rattle.partial_tree.specs.Kept.{KeptTree, kept}
+use Rattle.partial_tree.specs.Kept.{KeptTree, kept, TreeTakesLayer}
+use Rattle.partial_tree.specs.Claims.{IsMismatch}
 use Rattle.partial_tree.proofs.Adopted.{first-known, fewer, adopted, good-adopted, not-adopted, places_of}
 use Rattle.partial_tree.proofs.GrownLeaves.{shifted}
 use Rattle.partial_tree.proofs.tree.Tree.adopt.Goals as goal
@@ -20,83 +22,103 @@ pub returns-then-not-agree-clause-refused : goal.returns-then-not-agree-clause-r
 returns-then-not-agree-clause-refused g c =
     let old = c.self.inside in
     let new = c.grown.inside in
-    let K = (g.N.NodeMap.seen old.nodes).known in
+    let K = old.nodes.known in
     let K' = (g.N.NodeMap.seen new.nodes).known in
-    let M = (g.N.NodeMap.seen old.nodes).marked in
-    let same : new.shape ≡ old.shape = one_length old.shape new.shape old.root K K' M c.args.self.now c.args.grown c.self.view_is c.grown.view_is
+    let M = old.nodes.marked in
+    let same : new.shape ≡ old.nodes.length = one_length old.nodes.length new.shape old.root K K' M c.args.self.now c.args.grown c.self.view_is c.grown.view_is
     c.requires.length in
-    let new_is : grown old.shape (leaves_in K' (block_count old.shape)) ≡ c.args.grown = subst (λ n. grown n (leaves_in K' (block_count n)) ≡ c.args.grown) same
+    let new_is : grown old.nodes.length (leaves_in K' (block_count old.nodes.length)) ≡ c.args.grown =
+    subst (λ n. grown n (leaves_in K' (block_count n)) ≡ c.args.grown) same
     c.grown.view_is in
-    let is : FollowsFromLeaves old.shape (block_count old.shape) K' = subst (λ n. FollowsFromLeaves n (block_count n) K') same c.grown.invariant.4 in
-    (not-adopted old.shape old.root K K' M c.args.self.now c.args.grown c.self.view_is new_is c.requires.good is c.if-not-agree.ensures.differs, refl)
+    let is : FollowsFromLeaves old.nodes.length (block_count old.nodes.length) K' =
+    subst (λ n. FollowsFromLeaves n (block_count n) K') same c.grown.invariant.4 in (
+      not-adopted old.nodes.length old.root K K' M c.args.self.now c.args.grown c.self.view_is new_is c.requires.good is
+          (subst (λ (n : Nodes). IsMismatch (look n.known) (look K')) c.map.ensures c.if-not-agree.ensures.differs),
+      refl,
+    )
 
 pub carry_marks-requires-clause-known : goal.carry_marks-requires-clause-known
 carry_marks-requires-clause-known g c =
     let old = c.self.inside in
     let new = c.grown.inside in
-    let K = (g.N.NodeMap.seen old.nodes).known in
+    let K = old.nodes.known in
     let K' = (g.N.NodeMap.seen new.nodes).known in
-    let M = (g.N.NodeMap.seen old.nodes).marked in
-    let same : new.shape ≡ old.shape = one_length old.shape new.shape old.root K K' M c.args.self.now c.args.grown c.self.view_is c.grown.view_is
+    let M = old.nodes.marked in
+    let same : new.shape ≡ old.nodes.length = one_length old.nodes.length new.shape old.root K K' M c.args.self.now c.args.grown c.self.view_is c.grown.view_is
     c.requires.length in
-    let new_is : grown old.shape (leaves_in K' (block_count old.shape)) ≡ c.args.grown = subst (λ n. grown n (leaves_in K' (block_count n)) ≡ c.args.grown) same
+    let new_is : grown old.nodes.length (leaves_in K' (block_count old.nodes.length)) ≡ c.args.grown =
+    subst (λ n. grown n (leaves_in K' (block_count n)) ≡ c.args.grown) same
     c.grown.view_is in
-    let is : FollowsFromLeaves old.shape (block_count old.shape) K' = subst (λ n. FollowsFromLeaves n (block_count n) K') same c.grown.invariant.4 in
-    let wide = shifted old.height c.self.invariant.1.low ∙ ap (λ k. 2 ^ k) c.self.invariant.1.height_is in
-    λ j low. first-known old.shape old.root K K' M c.args.self.now c.args.grown c.self.view_is new_is c.requires.good is j (omega (arith, low, wide))
+    let is : FollowsFromLeaves old.nodes.length (block_count old.nodes.length) K' =
+    subst (λ n. FollowsFromLeaves n (block_count n) K') same c.grown.invariant.4 in
+    let wide = shifted c.height-height.result c.height-height.ensures.low ∙ ap (λ k. 2 ^ k) c.height-height.ensures.value in
+    λ j low. first-known old.nodes.length old.root K K' M c.args.self.now c.args.grown c.self.view_is new_is c.requires.good is j (omega (arith, low, wide))
 
 pub overflow_sub-gained : goal.overflow_sub-gained
 overflow_sub-gained g c =
     let old = c.self.inside in
     let new = c.grown.inside in
-    let K = (g.N.NodeMap.seen old.nodes).known in
+    let K = old.nodes.known in
     let K' = (g.N.NodeMap.seen new.nodes).known in
-    let M = (g.N.NodeMap.seen old.nodes).marked in
-    let same : new.shape ≡ old.shape = one_length old.shape new.shape old.root K K' M c.args.self.now c.args.grown c.self.view_is c.grown.view_is
+    let M = old.nodes.marked in
+    let same : new.shape ≡ old.nodes.length = one_length old.nodes.length new.shape old.root K K' M c.args.self.now c.args.grown c.self.view_is c.grown.view_is
     c.requires.length in
-    let new_is : grown old.shape (leaves_in K' (block_count old.shape)) ≡ c.args.grown = subst (λ n. grown n (leaves_in K' (block_count n)) ≡ c.args.grown) same
+    let new_is : grown old.nodes.length (leaves_in K' (block_count old.nodes.length)) ≡ c.args.grown =
+    subst (λ n. grown n (leaves_in K' (block_count n)) ≡ c.args.grown) same
     c.grown.view_is in
-    let is : FollowsFromLeaves old.shape (block_count old.shape) K' = subst (λ n. FollowsFromLeaves n (block_count n) K') same c.grown.invariant.4 in
-    let most = fewer old.shape old.root K K' M c.args.self.now c.args.grown c.self.view_is new_is c.requires.good is in
-    let places : 2 * 2 ^ old.height % 18446744073709551616 ≡ 2 ^ suc (tree_height old.shape) = places_of old.height c.self.invariant.1.low
-    ∙ ap (λ h. 2 ^ suc h) c.self.invariant.1.height_is in
-    omega (arith, most, places, c.self.invariant.1.known_is)
+    let is : FollowsFromLeaves old.nodes.length (block_count old.nodes.length) K' =
+    subst (λ n. FollowsFromLeaves n (block_count n) K') same c.grown.invariant.4 in
+    let most = fewer old.nodes.length old.root K K' M c.args.self.now c.args.grown c.self.view_is new_is c.requires.good is in
+    let places : 2 * 2 ^ c.height-height.result % 18446744073709551616 ≡ 2 ^ suc (tree_height old.nodes.length) =
+    places_of c.height-height.result c.height-height.ensures.low
+    ∙ ap (λ h. 2 ^ suc h) c.height-height.ensures.value in
+    omega (arith, most, places, c.self.invariant.known_is)
 
 pub returns-clause-adopted : goal.returns-clause-adopted
 returns-clause-adopted g c =
     let old = c.self.inside in
     let new = c.grown.inside in
-    let K = (g.N.NodeMap.seen old.nodes).known in
+    let K = old.nodes.known in
     let K' = (g.N.NodeMap.seen new.nodes).known in
-    let M = (g.N.NodeMap.seen old.nodes).marked in
-    let same : new.shape ≡ old.shape = one_length old.shape new.shape old.root K K' M c.args.self.now c.args.grown c.self.view_is c.grown.view_is
+    let M = old.nodes.marked in
+    let same : new.shape ≡ old.nodes.length = one_length old.nodes.length new.shape old.root K K' M c.args.self.now c.args.grown c.self.view_is c.grown.view_is
     c.requires.length in
-    let new_is : grown old.shape (leaves_in K' (block_count old.shape)) ≡ c.args.grown = subst (λ n. grown n (leaves_in K' (block_count n)) ≡ c.args.grown) same
+    let new_is : grown old.nodes.length (leaves_in K' (block_count old.nodes.length)) ≡ c.args.grown =
+    subst (λ n. grown n (leaves_in K' (block_count n)) ≡ c.args.grown) same
     c.grown.view_is in
-    let is : FollowsFromLeaves old.shape (block_count old.shape) K' = subst (λ n. FollowsFromLeaves n (block_count n) K') same c.grown.invariant.4 in
-    let most = fewer old.shape old.root K K' M c.args.self.now c.args.grown c.self.view_is new_is c.requires.good is in
-    let places : 2 * 2 ^ old.height % 18446744073709551616 ≡ 2 ^ suc (tree_height old.shape) = places_of old.height c.self.invariant.1.low
-    ∙ ap (λ h. 2 ^ suc h) c.self.invariant.1.height_is in
-    let agreed : AgreeInTree (look K) (look K') (tree_height old.shape) = subst (AgreeInTree (look K) (look K')) c.self.invariant.1.height_is
-    c.if-not-agree.ensures.same in
-    let all : len K' + 1 ≡ 2 ^ suc (tree_height old.shape) = subst (λ n. len K' + 1 ≡ 2 ^ suc (tree_height n)) same c.grown.invariant.3 in
-    adopted old.shape old.root K K' M c.args.self.now c.args.grown c.self.view_is new_is c.requires.good is
-    (2 * 2 ^ old.height % 18446744073709551616 - 1 - old.known) (g.N.NodeMap.seen c.carry_marks.new.new).known
-    (g.N.NodeMap.seen c.carry_marks.new.new).marked agreed (known-of c.carry_marks.ensures.carried) (marked-of c.carry_marks.ensures.carried)
-    (omega (arith, most, places, all, c.self.invariant.1.known_is))
+    let is : FollowsFromLeaves old.nodes.length (block_count old.nodes.length) K' =
+    subst (λ n. FollowsFromLeaves n (block_count n) K') same c.grown.invariant.4 in
+    let most = fewer old.nodes.length old.root K K' M c.args.self.now c.args.grown c.self.view_is new_is c.requires.good is in
+    let places : 2 * 2 ^ c.height-height.result % 18446744073709551616 ≡ 2 ^ suc (tree_height old.nodes.length) =
+    places_of c.height-height.result c.height-height.ensures.low
+    ∙ ap (λ h. 2 ^ suc h) c.height-height.ensures.value in
+    let agreed : AgreeInTree (look K) (look K') (tree_height old.nodes.length) = subst (AgreeInTree (look K) (look K')) c.height-height.ensures.value
+    (subst (λ (n : Nodes). AgreeInTree (look n.known) (look K') c.height-height.result) c.map.ensures c.if-not-agree.ensures.same) in
+    let all : len K' + 1 ≡ 2 ^ suc (tree_height old.nodes.length) = subst (λ n. len K' + 1 ≡ 2 ^ suc (tree_height n)) same c.grown.invariant.3 in
+    let length_is : c.replace.new.self.length ≡ old.nodes.length = length-of c.replace.ensures ∙ length-of c.carry_marks.ensures.carried ∙ c.grown.invariant.0
+    ∙ same in
+    subst (λ n. TreeTakesLayer c.args.self.now 0 c.args.grown.leaves (2 * 2 ^ c.height-height.result % 18446744073709551616 - 1 - old.known)
+    (kept old.root n c.replace.new.self.known c.replace.new.self.marked)) (sym length_is)
+    (adopted old.nodes.length old.root K K' M c.args.self.now c.args.grown c.self.view_is new_is c.requires.good is
+    (2 * 2 ^ c.height-height.result % 18446744073709551616 - 1 - old.known) c.replace.new.self.known
+    c.replace.new.self.marked agreed (known-of c.replace.ensures ∙ known-of c.carry_marks.ensures.carried)
+    (marked-of c.replace.ensures ∙ marked-of c.carry_marks.ensures.carried ∙ marked-of c.map-2.ensures)
+    (omega (arith, most, places, all, c.self.invariant.known_is)))
 
 pub returns-clause-good : goal.returns-clause-good
 returns-clause-good g c =
     let old = c.self.inside in
     let new = c.grown.inside in
-    let K = (g.N.NodeMap.seen old.nodes).known in
+    let K = old.nodes.known in
     let K' = (g.N.NodeMap.seen new.nodes).known in
-    let M = (g.N.NodeMap.seen old.nodes).marked in
-    let same : new.shape ≡ old.shape = one_length old.shape new.shape old.root K K' M c.args.self.now c.args.grown c.self.view_is c.grown.view_is
+    let M = old.nodes.marked in
+    let same : new.shape ≡ old.nodes.length = one_length old.nodes.length new.shape old.root K K' M c.args.self.now c.args.grown c.self.view_is c.grown.view_is
     c.requires.length in
-    let new_is : grown old.shape (leaves_in K' (block_count old.shape)) ≡ c.args.grown = subst (λ n. grown n (leaves_in K' (block_count n)) ≡ c.args.grown) same
+    let new_is : grown old.nodes.length (leaves_in K' (block_count old.nodes.length)) ≡ c.args.grown =
+    subst (λ n. grown n (leaves_in K' (block_count n)) ≡ c.args.grown) same
     c.grown.view_is in
-    let is : FollowsFromLeaves old.shape (block_count old.shape) K' = subst (λ n. FollowsFromLeaves n (block_count n) K') same c.grown.invariant.4 in
-    let end : KeptTree = kept old.root old.shape (g.N.NodeMap.seen c.carry_marks.new.new).known (g.N.NodeMap.seen c.carry_marks.new.new).marked in
-    good-adopted old.shape old.root K K' M c.args.self.now c.args.grown c.self.view_is new_is c.requires.good is
-    (2 * 2 ^ old.height % 18446744073709551616 - 1 - old.known) end (returns-clause-adopted g c)
+    let is : FollowsFromLeaves old.nodes.length (block_count old.nodes.length) K' =
+    subst (λ n. FollowsFromLeaves n (block_count n) K') same c.grown.invariant.4 in
+    let end : KeptTree = kept old.root c.replace.new.self.length c.replace.new.self.known c.replace.new.self.marked in
+    good-adopted old.nodes.length old.root K K' M c.args.self.now c.args.grown c.self.view_is new_is c.requires.good is
+    (2 * 2 ^ c.height-height.result % 18446744073709551616 - 1 - old.known) end (returns-clause-adopted g c)

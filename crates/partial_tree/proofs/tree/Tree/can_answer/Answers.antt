@@ -1,6 +1,7 @@
 use Rattle.std.proofs.Common.{◌≡◌, ◌+◌, ◌<◌, sym, ap, ◌∙◌, subst, arith}
 use Rattle.node_maps.specs.Places.{tree_height, IsKnown}
 use Rattle.node_maps.specs.Known.{look}
+use Rattle.node_maps.proofs.Nodes.{known-of}
 use Rattle.partial_tree.specs.Claims.{GoodRange}
 use Rattle.partial_tree.specs.Kept.{KeptTree}
 use Rattle.partial_tree.proofs.tree.Tree.can_answer.Goals as goal
@@ -8,9 +9,10 @@ use Rattle.partial_tree.proofs.tree.Tree.can_answer.Goals as goal
 pub returns-in-Ok : goal.returns-in-Ok
 returns-in-Ok g c =
     let ask = c.args.ask.now in
-    let height : c.self.inside.height ≡ tree_height c.args.self.now.length = c.self.invariant.1.height_is
+    let height : c.height.result ≡ tree_height c.args.self.now.length = c.height.ensures.value
     ∙ ap (λ (v : KeptTree). tree_height v.length) c.self.view_is in
-    let known : (g.N.NodeMap.seen c.self.inside.nodes).known ≡ c.args.self.now.state.known = ap (λ (v : KeptTree). v.state.known) c.self.view_is in (
+    let known : (g.N.NodeMap.seen c.map.result.now).known ≡ c.args.self.now.state.known = known-of c.map.ensures
+    ∙ ap (λ (v : KeptTree). v.state.known) c.self.view_is in (
       λ e. record {
         range = subst (λ h. GoodRange h ask) height c.in-Ok.ensures.good.0;
         base_known = λ j in'.
@@ -20,6 +22,6 @@ returns-in-Ok g c =
       },
       λ can. c.knows.ensures.1 (λ j in'.
           let low : j < ask.length = omega (arith, c.from-in-Ok.ensures) in
-          subst (λ i. IsKnown (look (g.N.NodeMap.seen c.self.inside.nodes).known) ask.base (i + j)) (sym c.from.ensures)
+          subst (λ i. IsKnown (look (g.N.NodeMap.seen c.map.result.now).known) ask.base (i + j)) (sym c.from.ensures)
           (subst (λ m. IsKnown (look m) ask.base (ask.index + j)) (sym known) (can.base_known j low))),
     )

@@ -1,6 +1,5 @@
-use Rattle.std.proofs.Common.{suc, ◌+◌, ◌^◌, ◌<◌, ◌≤◌, ◌∙◌, sym, ap, subst, arith}
+use Rattle.std.proofs.Common.{suc, ◌+◌, ◌^◌, ◌<◌, ◌≤◌, sym, ap₂, subst, arith}
 use Rattle.std.specs.FinMap.{len}
-use Rattle.node_maps.proofs.Nodes.{known-of}
 use Rattle.partial_tree.specs.TreeRoot.{TreeRoot}
 use Rattle.node_maps.specs.Places.{tree_height}
 use Rattle.partial_tree.specs.Fill.{fill_claims, IsFillAccepted}
@@ -16,70 +15,43 @@ use Rattle.partial_tree.proofs.tree.Tree.plant.Goals as goal
 
 pub invariant_of-self : goal.invariant_of-self
 invariant_of-self g c =
-    let old = c.self.inside in (
-      c.plant_layer.ensures.stays.length ∙ c.self.invariant.0,
-      counted_same old.height old.known old.marked old.shape (g.N.NodeMap.seen old.nodes).known (g.N.NodeMap.seen c.plant_layer.new.nodes).known
-          (g.N.NodeMap.seen old.nodes).marked (g.N.NodeMap.seen c.plant_layer.new.nodes).marked
-          c.self.invariant.1 (known-of c.in_err-gained.ensures.refused) c.plant_layer.ensures.stays.marked,
-      c.plant_layer.ensures.trimmed,
-    )
+    counted_same c.self.inside.known c.self.inside.marked c.self.inside.nodes c.plant.new.self c.self.invariant
+    c.in_err-gained.ensures.refused
 
 pub overflow_add-self : goal.overflow_add-self
 overflow_add-self g c =
     let old = c.self.inside in
-    let t : TreeRoot = record { root = old.root; length = old.shape } in
-    let kept : KeptTree = record {
-      root = old.root;
-      length = old.shape;
-      state = record {
-        known = (g.N.NodeMap.seen old.nodes).known;
-        marked =
-            (g.N.NodeMap.seen old.nodes).marked;
-      };
-    } in
-    let good : IsGoodTree kept = subst IsGoodTree (sym c.self.view_is) c.requires.good in
-    let accepted : IsFillAccepted old.shape (look (g.N.NodeMap.seen old.nodes).known) c.args.layer c.args.hashes.now =
+    let t : TreeRoot = record { root = old.root; length = old.nodes.length } in
+    let now : KeptTree = kept old.root old.nodes.length old.nodes.known old.nodes.marked in
+    let good : IsGoodTree now = subst IsGoodTree (sym c.self.view_is) c.requires.good in
+    let accepted : IsFillAccepted old.nodes.length (look old.nodes.known) c.args.layer c.args.hashes.now =
     subst (λ (v : KeptTree). IsFillAccepted v.length (look v.state.known) c.args.layer c.args.hashes.now) (sym c.self.view_is) c.requires.accepted in
-    let fewer : len (g.N.NodeMap.seen old.nodes).known + c.in_ok-gained.gained < 2 ^ suc (tree_height old.shape) =
-    filled-len t (g.N.NodeMap.seen old.nodes).known (g.N.NodeMap.seen c.plant_layer.new.nodes).known c.args.layer c.args.hashes.now c.in_ok-gained.gained
+    let fewer : len old.nodes.known + c.in_ok-gained.gained < 2 ^ suc (tree_height old.nodes.length) =
+    filled-len t old.nodes.known c.plant.new.self.known c.args.layer c.args.hashes.now c.in_ok-gained.gained
     good.closed c.are_hashes.ensures accepted (c.in_ok-gained.ensures.planted) in
-    let low : suc (tree_height old.shape) ≤ 33 = omega (arith, c.self.invariant.1.height_is, c.self.invariant.1.low) in
-    let wide : 2 ^ suc (tree_height old.shape) ≤ 2 ^ 33 = pow_more (suc (tree_height old.shape)) 33 low in
-    omega (arith, fewer, wide, c.self.invariant.1.known_is)
+    let low : suc (tree_height old.nodes.length) ≤ 33 = omega (arith, c.self.invariant.low) in
+    let wide : 2 ^ suc (tree_height old.nodes.length) ≤ 2 ^ 33 = pow_more (suc (tree_height old.nodes.length)) 33 low in
+    omega (arith, fewer, wide, c.self.invariant.known_is)
 
 pub invariant_of-self-2 : goal.invariant_of-self-2
 invariant_of-self-2 g c =
-    let old = c.self.inside in (
-      c.plant_layer.ensures.stays.length ∙ c.self.invariant.0,
-      counted_more old.height old.known old.marked old.shape c.in_ok-gained.gained (g.N.NodeMap.seen old.nodes).known
-          (g.N.NodeMap.seen c.plant_layer.new.nodes).known (g.N.NodeMap.seen old.nodes).marked (g.N.NodeMap.seen c.plant_layer.new.nodes).marked
-          c.self.invariant.1 c.in_ok-gained.ensures.planted.gained c.plant_layer.ensures.stays.marked,
-      c.plant_layer.ensures.trimmed,
-    )
+    counted_more c.self.inside.known c.self.inside.marked c.in_ok-gained.gained c.self.inside.nodes c.plant.new.self c.self.invariant
+    c.in_ok-gained.ensures.planted.gained c.plant.ensures.stays
 
 pub returns-clause-planted : goal.returns-clause-planted
 returns-clause-planted g c =
     let old = c.self.inside in
-    let after = (g.N.NodeMap.seen c.plant_layer.new.nodes).known in
+    let after = c.plant.new.self.known in
     subst (λ (v : KeptTree). TreeJoins (fill_claims v.length c.args.layer c.args.hashes.now) v c.in_ok-gained.gained
-    (kept old.root old.shape after (g.N.NodeMap.seen c.plant_layer.new.nodes).marked))
-    c.self.view_is (c.in_ok-gained.ensures.planted, ap (kept old.root old.shape after) c.plant_layer.ensures.stays.marked)
+    (kept old.root c.plant.new.self.length after c.plant.new.self.marked))
+    c.self.view_is (c.in_ok-gained.ensures.planted, ap₂ (λ n m. kept old.root n after m) c.plant.ensures.stays.length c.plant.ensures.stays.marked)
 
-pub plant_layer-requires-clause-upward : goal.plant_layer-requires-clause-upward
-plant_layer-requires-clause-upward g c =
+pub plant-requires-clause-upward : goal.plant-requires-clause-upward
+plant-requires-clause-upward g c =
     let old = c.self.inside in
-    let kept : KeptTree = record {
-      root = old.root;
-      length = old.shape;
-      state = record {
-        known = (g.N.NodeMap.seen old.nodes).known;
-        marked =
-            (g.N.NodeMap.seen old.nodes).marked;
-      };
-    } in
-    let good : IsGoodTree kept = subst IsGoodTree (sym c.self.view_is) c.requires.good in
-    λ k i low at. closed-upward (record { root = old.root; length = old.shape }) (look (g.N.NodeMap.seen old.nodes).known) good.closed k i
-    (subst (λ h. k < h) c.self.invariant.1.height_is low) at
+    let now : KeptTree = kept old.root old.nodes.length old.nodes.known old.nodes.marked in
+    let good : IsGoodTree now = subst IsGoodTree (sym c.self.view_is) c.requires.good in
+    closed-upward (record { root = old.root; length = old.nodes.length }) (look old.nodes.known) good.closed
 
 pub returns-in_err-gained-clause-no_memory : goal.returns-in_err-gained-clause-no_memory
 returns-in_err-gained-clause-no_memory g c =

@@ -4,8 +4,8 @@ use Rattle.sha256_lanes.specs.Lanes.{message}
 use Rattle.session.proofs.BlockDigests.{eight_there}
 use Rattle.session.proofs.block_digests.BlockDigests.fill.Goals as goal
 
-pub returns-then-start-bytes : goal.returns-then-start-bytes
-returns-then-start-bytes c =
+pub returns : goal.returns
+returns c =
     let n : ℕ = c.args.number in
     let bytes : List ℕ = c.args.bytes.now in
     let size : 16384 * n + 131072 - 16384 * n ≡ 131072 = omega arith in

@@ -14,14 +14,16 @@ use Rattle.session.proofs.session.Session.mark_in_file.Goals as goal
 pub unwrap-tree-requires : goal.unwrap-tree-requires
 unwrap-tree-requires g c =
     let d : Description = c.self.inside.torrent.now in
-    let has : HasBlock d c.args.file c.args.block = subst (λ (v : SessionSeen). HasBlock v.torrent c.args.file c.args.block) (sym c.self.view_is) c.requires.block in
+    let has : HasBlock d c.args.file c.args.block =
+    subst (λ (v : SessionSeen). HasBlock v.torrent c.args.file c.args.block) (sym c.self.view_is) c.requires.block in
     let tree = has_tree d c.sound.ensures c.args.file c.args.block has.0 has.1 has.2 in
     subst (λ (o : Option ℕ). IsSome o) (sym (c.tree_of.ensures has.0 has.1 ∙ tree.1)) refl
 
 pub index_mut-requires : goal.index_mut-requires
 index_mut-requires g c =
     let d : Description = c.self.inside.torrent.now in
-    let has : HasBlock d c.args.file c.args.block = subst (λ (v : SessionSeen). HasBlock v.torrent c.args.file c.args.block) (sym c.self.view_is) c.requires.block in
+    let has : HasBlock d c.args.file c.args.block =
+    subst (λ (v : SessionSeen). HasBlock v.torrent c.args.file c.args.block) (sym c.self.view_is) c.requires.block in
     let ts : List KeptTree = c.self.inside.trees.items in
     let tr : ℕ = c.unwrap-tree.result in
     let is : has.0.tree ≡ Some tr = sym (c.tree_of.ensures has.0 has.1) ∙ c.unwrap-tree.ensures in
@@ -32,7 +34,8 @@ index_mut-requires g c =
 pub take_hashed-requires-clause-good : goal.take_hashed-requires-clause-good
 take_hashed-requires-clause-good g c =
     let d : Description = c.self.inside.torrent.now in
-    let has : HasBlock d c.args.file c.args.block = subst (λ (v : SessionSeen). HasBlock v.torrent c.args.file c.args.block) (sym c.self.view_is) c.requires.block in
+    let has : HasBlock d c.args.file c.args.block =
+    subst (λ (v : SessionSeen). HasBlock v.torrent c.args.file c.args.block) (sym c.self.view_is) c.requires.block in
     let ts : List KeptTree = c.self.inside.trees.items in
     let tr : ℕ = c.unwrap-tree.result in
     let is : has.0.tree ≡ Some tr = sym (c.tree_of.ensures has.0 has.1) ∙ c.unwrap-tree.ensures in
@@ -44,7 +47,8 @@ take_hashed-requires-clause-good g c =
 pub take_hashed-requires-clause-inside : goal.take_hashed-requires-clause-inside
 take_hashed-requires-clause-inside g c =
     let d : Description = c.self.inside.torrent.now in
-    let has : HasBlock d c.args.file c.args.block = subst (λ (v : SessionSeen). HasBlock v.torrent c.args.file c.args.block) (sym c.self.view_is) c.requires.block in
+    let has : HasBlock d c.args.file c.args.block =
+    subst (λ (v : SessionSeen). HasBlock v.torrent c.args.file c.args.block) (sym c.self.view_is) c.requires.block in
     let ts : List KeptTree = c.self.inside.trees.items in
     let tr : ℕ = c.unwrap-tree.result in
     let is : has.0.tree ≡ Some tr = sym (c.tree_of.ensures has.0 has.1) ∙ c.unwrap-tree.ensures in
@@ -58,7 +62,8 @@ take_hashed-requires-clause-inside g c =
 pub invariant_of-self : goal.invariant_of-self
 invariant_of-self g c =
     let d : Description = c.self.inside.torrent.now in
-    let has : HasBlock d c.args.file c.args.block = subst (λ (v : SessionSeen). HasBlock v.torrent c.args.file c.args.block) (sym c.self.view_is) c.requires.block in
+    let has : HasBlock d c.args.file c.args.block =
+    subst (λ (v : SessionSeen). HasBlock v.torrent c.args.file c.args.block) (sym c.self.view_is) c.requires.block in
     let ts : List KeptTree = c.self.inside.trees.items in
     let tr : ℕ = c.unwrap-tree.result in
     let is : has.0.tree ≡ Some tr = sym (c.tree_of.ensures has.0 has.1) ∙ c.unwrap-tree.ensures in
@@ -74,7 +79,8 @@ invariant_of-self g c =
 pub returns-clause-marked : goal.returns-clause-marked
 returns-clause-marked g c =
     let d : Description = c.self.inside.torrent.now in
-    let has : HasBlock d c.args.file c.args.block = subst (λ (v : SessionSeen). HasBlock v.torrent c.args.file c.args.block) (sym c.self.view_is) c.requires.block in
+    let has : HasBlock d c.args.file c.args.block =
+    subst (λ (v : SessionSeen). HasBlock v.torrent c.args.file c.args.block) (sym c.self.view_is) c.requires.block in
     let ts : List KeptTree = c.self.inside.trees.items in
     let tr : ℕ = c.unwrap-tree.result in
     let is : has.0.tree ≡ Some tr = sym (c.tree_of.ensures has.0 has.1) ∙ c.unwrap-tree.ensures in
@@ -92,7 +98,8 @@ returns-clause-marked g c =
 pub returns-clause-refused : goal.returns-clause-refused
 returns-clause-refused g c =
     let d : Description = c.self.inside.torrent.now in
-    let has : HasBlock d c.args.file c.args.block = subst (λ (v : SessionSeen). HasBlock v.torrent c.args.file c.args.block) (sym c.self.view_is) c.requires.block in
+    let has : HasBlock d c.args.file c.args.block =
+    subst (λ (v : SessionSeen). HasBlock v.torrent c.args.file c.args.block) (sym c.self.view_is) c.requires.block in
     let ts : List KeptTree = c.self.inside.trees.items in
     let tr : ℕ = c.unwrap-tree.result in
     let is : has.0.tree ≡ Some tr = sym (c.tree_of.ensures has.0 has.1) ∙ c.unwrap-tree.ensures in

@@ -26,24 +26,37 @@ numbers-init g c = record {
       (sym c.new-blocks.ensures) (no_block c.args.file c.args.self.now c.args.first c.args.bytes.now);
 }
 
-pub overflow_add-first : goal.overflow_add-first
-overflow_add-first g c =
+pub overflow_add-block : goal.overflow_add-block
+overflow_add-block g c =
     let low : c.args.first + 17 < 2 ^ 64 = run-first c.self.inside.torrent.now c.sound.ensures c.args.file c.args.first (length c.args.bytes.now) c.args.count
     (subst (λ (v : SessionSeen). HasRun v.torrent c.args.file c.args.first (length c.args.bytes.now) c.args.count) (sym c.self.view_is) c.requires) in
     let most = at_most_seventeen c.requires.0.length c.args.first (length c.args.bytes.now) c.args.count c.requires.2 in
     omega (arith, low, most, c.numbers-test.true)
 
-pub block_of-block-requires : goal.block_of-block-requires
-block_of-block-requires g c = run-offset c.requires.0.length c.args.first (length c.args.bytes.now) c.args.count c.numbers.number c.requires.2 c.numbers-test.true
+pub block_of-requires : goal.block_of-requires
+block_of-requires g c = run-offset c.requires.0.length c.args.first (length c.args.bytes.now) c.args.count c.numbers.number c.requires.2 c.numbers-test.true
 
-pub take-digest-requires-clause-few : goal.take-digest-requires-clause-few
-take-digest-requires-clause-few g c =
+pub hash_ahead-requires-clause-few : goal.hash_ahead-requires-clause-few
+hash_ahead-requires-clause-few g c =
+    let most = at_most_seventeen c.requires.0.length c.args.first (length c.args.bytes.now) c.args.count c.requires.2 in
+    omega (arith, most, c.numbers-test.true)
+
+pub hash_ahead-requires-clause-block : goal.hash_ahead-requires-clause-block
+hash_ahead-requires-clause-block g c =
+    subst (λ (d : Description). HasBlock d c.args.file (c.args.first + c.numbers.number))
+    (sym (chain-torrent c.args.file c.args.self.now (cuts c.args.first c.args.bytes.now c.numbers.number) c.numbers.blocks.refusals c.numbers.self
+    c.numbers.invariant.each))
+    (run-has c.args.self.now.torrent c.args.file c.args.first (length c.args.bytes.now) c.args.count c.numbers.number c.requires c.numbers-test.true)
+
+pub get-digest-requires : goal.get-digest-requires
+get-digest-requires g c =
     let most = at_most_seventeen c.requires.0.length c.args.first (length c.args.bytes.now) c.args.count c.requires.2 in
     omega (arith, most, c.numbers-test.true)
 
 pub mark_in_file-marked-requires-clause-digest : goal.mark_in_file-marked-requires-clause-digest
 mark_in_file-marked-requires-clause-digest g c =
-    subst (λ bs. IfSome c.take-digest.result (λ d. d ≡ sha256 bs)) (sym c.block_of-block.ensures) c.take-digest.ensures.digest
+    subst (λ bs. IfSome c.get-digest.result (λ d. d ≡ sha256 bs)) (sym c.block_of.ensures)
+    (c.get-digest.ensures c.args.bytes.now c.hash_ahead.ensures)
 
 pub mark_in_file-marked-requires-clause-block : goal.mark_in_file-marked-requires-clause-block
 mark_in_file-marked-requires-clause-block g c =
@@ -66,13 +79,13 @@ numbers-preserved g c =
       file = ap (λ (v : BlocksSeen). v.file) c.push.ensures ∙ c.numbers.invariant.file;
       first = ap (λ (v : BlocksSeen). v.first) c.push.ensures ∙ c.numbers.invariant.first;
       count = ap length told ∙ count;
-      digests = c.take-digest.ensures.known;
+      digests = c.hash_ahead.ensures;
       each = subst (λ rs. Chain (BlockStep c.args.file) c.args.self.now (cuts c.args.first c.args.bytes.now (c.numbers.number + 1)) rs
           c.mark_in_file-marked.new.self)
           (ap (λ r. c.numbers.blocks.refusals ++ r ∷ []) (sym c.err.ensures.value) ∙ sym told)
           (next_block c.args.file c.args.self.now c.args.first c.args.bytes.now c.numbers.number c.numbers.blocks.refusals c.numbers.self
           c.numbers.invariant.each
-          c.block_of-block.result.now c.mark_in_file-marked.result c.mark_in_file-marked.new.self c.block_of-block.ensures
+          c.block_of.result.now c.mark_in_file-marked.result c.mark_in_file-marked.new.self c.block_of.ensures
           c.mark_in_file-marked.ensures.marked c.mark_in_file-marked.ensures.refused);
     }
 
