@@ -9,14 +9,15 @@
 
 namespace keep {
 
-Keeper::Keeper(Session &session, const std::string &folder) : session_(session), layout_(layout_of(session.torrent())) {
-  for (const File &file : layout_.files) {
+Keeper::Keeper(Session &session, const std::string &folder) : session_(session), files_(session.files()) {
+  for (const File &file : files_) {
     std::filesystem::path path = std::filesystem::path(folder) / file.path;
     std::filesystem::create_directories(path.parent_path());
     int out = open(path.c_str(), O_WRONLY | O_CREAT | O_EXCL | O_CLOEXEC, 0666);
     if (out < 0) throw std::system_error(errno, std::generic_category(), path.string());
     outs_.push_back(out);
     written_.emplace_back(file.blocks(), false);
+    blocks_ += file.blocks();
   }
 }
 
@@ -33,19 +34,22 @@ void Keeper::take_blocks(uint32_t index, uint32_t begin, const uint8_t *bytes, s
 }
 
 // libtorrent sends a whole block for a file's last one, with zeros behind the file's end. The session refuses that as of
-// a wrong size, since the block of BEP 52 ends with the file; so these zeros, and nothing else, are cut off first.
-size_t Keeper::without_padding(uint32_t index, uint32_t begin, const uint8_t *bytes, size_t len) {
-  auto place = layout_.place_of(index, begin);
-  if (!place) return len;
-  size_t own = layout_.files[place->file].size_of(place->block);
-  if (len <= own || std::any_of(bytes + own, bytes + len, [](uint8_t it) { return it != 0; })) return len;
-  padded_++;
-  return own;
+// a wrong size, since the block of BEP 52 ends with the file. Gives the size without these zeros, and the same size if there
+// are none, or something else.
+size_t Keeper::without_padding(uint32_t index, const uint8_t *bytes, size_t len) const {
+  auto after = std::upper_bound(files_.begin(), files_.end(), index,
+                                [](uint32_t piece, const File &file) { return piece < file.first_piece; });
+  size_t own = after == files_.begin() ? 0 : size_t((after - 1)->length % BTCHECK_BLOCK);
+  bool is_padded = own > 0 && own < len && std::all_of(bytes + own, bytes + len, [](uint8_t it) { return it == 0; });
+  return is_padded ? own : len;
 }
 
 void Keeper::take_block(uint32_t index, uint32_t begin, const uint8_t *bytes, size_t len) {
-  len = without_padding(index, begin, bytes, len);
   BlockVerdict verdict = session_.take_block(index, begin, bytes, len);
+  if (size_t own = without_padding(index, bytes, len); verdict.status == BTCHECK_P2_BAD_SIZE && own < len) {
+    verdict = session_.take_block(index, begin, bytes, len = own);
+    padded_ += verdict.status != BTCHECK_P2_BAD_SIZE;
+  }
   if (verdict.status == BTCHECK_OK) {
     write(verdict.place, bytes, len);
   } else if (verdict.status == BTCHECK_P3_UNPROVED) {
@@ -71,7 +75,7 @@ void Keeper::write(Place place, const uint8_t *bytes, size_t len) {
   while (len > 0) {
     ssize_t count = pwrite(outs_[place.file], bytes, len, at);
     if (count < 0 && errno == EINTR) continue;
-    if (count <= 0) throw std::system_error(errno, std::generic_category(), layout_.files[place.file].path);
+    if (count <= 0) throw std::system_error(errno, std::generic_category(), files_[place.file].path);
     bytes += count, len -= size_t(count), at += count;
   }
   written_[place.file][place.block] = true;
@@ -79,7 +83,7 @@ void Keeper::write(Place place, const uint8_t *bytes, size_t len) {
 }
 
 std::string Keeper::told() const {
-  std::string text = "written " + std::to_string(written_count_) + " of " + std::to_string(layout_.blocks()) +
+  std::string text = "written " + std::to_string(written_count_) + " of " + std::to_string(blocks_) +
                      ", again " + std::to_string(again_) + ", waiting " + std::to_string(waiting_.size()) +
                      ", dropped " + std::to_string(dropped_) + ", cut to the file's end " + std::to_string(padded_);
   for (auto [status, count] : refused_) {

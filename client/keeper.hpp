@@ -23,8 +23,7 @@ public:
   void look_again();
   void refused_hashes(btcheck_status status) { refused_[status]++; }
 
-  const Layout &layout() const { return layout_; }
-  bool is_whole() const { return written_count_ == layout_.blocks(); }
+  bool is_whole() const { return written_count_ == blocks_; }
   std::string told() const;
 
 private:
@@ -35,16 +34,16 @@ private:
   };
 
   void take_block(uint32_t index, uint32_t begin, const uint8_t *bytes, size_t len);
-  size_t without_padding(uint32_t index, uint32_t begin, const uint8_t *bytes, size_t len);
+  size_t without_padding(uint32_t index, const uint8_t *bytes, size_t len) const;
   void write(Place place, const uint8_t *bytes, size_t len);
 
   Session &session_;
-  Layout layout_;
+  std::vector<File> files_;
   std::vector<int> outs_;
   std::vector<std::vector<bool>> written_;
   std::deque<Waiting> waiting_;
   std::map<btcheck_status, uint64_t> refused_;
-  uint64_t written_count_ = 0, again_ = 0, padded_ = 0, dropped_ = 0;
+  uint64_t blocks_ = 0, written_count_ = 0, again_ = 0, padded_ = 0, dropped_ = 0;
 };
 
 } // namespace keep

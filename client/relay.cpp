@@ -57,25 +57,16 @@ bool same(const btcheck_ask &one, const btcheck_ask &other) {
          one.index == other.index && one.length == other.length && one.proof == other.proof;
 }
 
-// The requests for all leaves of a file's tree, 512 at a time. Proof layers are counted from the base layer on (BEP 52), so
-// that the uncles lead from each range to the root.
-void add_gaps(const File &file, std::vector<Gap> &gaps) {
-  uint32_t height = 0;
-  while (uint64_t(1) << height < file.blocks()) height++;
-  if (height == 0) return; // the root is the one leaf
-  for (uint64_t leaf = 0; leaf < file.blocks(); leaf += 512) {
-    btcheck_ask ask{};
-    std::copy(file.root.begin(), file.root.end(), ask.root);
-    ask.index = uint32_t(leaf), ask.length = std::min(512u, 1u << std::min(height, 9u)), ask.proof = height - 1;
-    gaps.push_back(Gap{ask, false, -1, {}});
-  }
-}
-
-std::vector<Gap> gaps_of(const Layout &layout) {
+// Each range of 512 leaves of each tree in which one is not known.
+std::vector<Gap> gaps_of(Session &session) {
   std::vector<Gap> gaps;
-  std::set<Hash> roots;
-  for (const File &file : layout.files) {
-    if (file.length > 0 && roots.insert(file.root).second) add_gaps(file, gaps);
+  btcheck_ask ask;
+  for (size_t tree = 0; session.want(tree, 0, ask) != BTCHECK_NO_SUCH; tree++) {
+    uint64_t block = 0;
+    for (btcheck_status told; (told = session.want(tree, block, ask)) != BTCHECK_NO_SUCH;) {
+      if (told == BTCHECK_OK) gaps.push_back(Gap{tree, block, false, -1, {}});
+      block = told == BTCHECK_OK ? (block / 512 + 1) * 512 : block + 1;
+    }
   }
   return gaps;
 }
@@ -97,7 +88,7 @@ void send_some(End &end) {
 
 } // namespace
 
-Relay::Relay(Session &session, Keeper &keeper) : session_(session), keeper_(keeper), gaps_(gaps_of(keeper.layout())) {}
+Relay::Relay(Session &session, Keeper &keeper) : session_(session), keeper_(keeper), gaps_(gaps_of(session)) {}
 
 Relay::~Relay() {
   for (auto &link : links_) close_link(*link);
@@ -211,11 +202,12 @@ void Relay::ask_for_gaps(Link &link) {
   for (size_t number = 0; number < gaps_.size() && link.asked.size() < most_asked; number++) {
     Gap &gap = gaps_[number];
     if (gap.is_known || gap.asked >= 0 || gap.failed.count(link.number)) continue;
-    gap.is_known = session_.knows(gap.ask);
-    if (gap.is_known || session_.note(gap.ask) != BTCHECK_OK) continue;
+    btcheck_ask ask;
+    gap.is_known = session_.want(gap.tree, gap.block, ask) == BTCHECK_NOTHING;
+    if (gap.is_known || session_.note(ask) != BTCHECK_OK) continue;
     gap.asked = link.number;
-    link.asked.push_back(Asked{gap.ask, number});
-    link.peer.out += request_of(gap.ask);
+    link.asked.push_back(Asked{ask, number});
+    link.peer.out += request_of(ask);
   }
 }
 

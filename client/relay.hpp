@@ -18,9 +18,10 @@ struct End {
   bool has_greeted = false;
 };
 
-// A range of at most 512 leaves of a tree, and who was asked for its hashes and failed.
+// A range of at most 512 leaves of a tree, by a block whose leaf is not known, and who was asked for it and failed.
 struct Gap {
-  btcheck_ask ask;
+  size_t tree;
+  uint64_t block;
   bool is_known = false;
   int asked = -1; // the link that is asked now
   std::set<int> failed;

@@ -1,11 +1,10 @@
-// A session of the C library as a C++ object, and the layout of its torrent's files.
+// A session of the C library as a C++ object, and the files of its torrent.
 #pragma once
 
 #include <btcheck.h>
 
 #include <array>
 #include <cstdint>
-#include <optional>
 #include <stdexcept>
 #include <string>
 #include <vector>
@@ -25,6 +24,20 @@ struct BlockVerdict {
   Place place; // where status is BTCHECK_OK
 };
 
+// A file of the torrent: its path below the folder, its length, and the number of its first piece.
+struct File {
+  std::string path;
+  uint64_t length, first_piece;
+
+  uint64_t blocks() const { return (length + BTCHECK_BLOCK - 1) / BTCHECK_BLOCK; }
+
+  // Bytes of one of its blocks.
+  size_t size_of(uint64_t block) const {
+    uint64_t left = length - block * BTCHECK_BLOCK;
+    return left < BTCHECK_BLOCK ? size_t(left) : size_t(BTCHECK_BLOCK);
+  }
+};
+
 // Owns a handle and the bytes of the torrent, which stay as they are while it lives.
 class Session {
 public:
@@ -37,7 +50,18 @@ public:
   Session(const Session &) = delete;
   Session &operator=(const Session &) = delete;
 
-  const std::string &torrent() const { return torrent_; }
+  // The files of the torrent, in its order. No path leads outside the folder in which it is looked up.
+  std::vector<File> files() {
+    uint64_t count, trees;
+    see(btcheck_session_files(&handle_, &count, &trees));
+    std::vector<File> found;
+    for (uint64_t number = 0; number < count; number++) {
+      btcheck_file file;
+      see(btcheck_session_file(&handle_, number, &file));
+      found.push_back(File{path_of(number), file.length, file.first_piece});
+    }
+    return found;
+  }
 
   BlockVerdict take_block(uint32_t index, uint32_t begin, const uint8_t *bytes, size_t len) {
     BlockVerdict verdict{};
@@ -57,17 +81,32 @@ public:
     return btcheck_session_take_answer(&handle_, &ask, rows(hashes), hashes.size(), &places);
   }
 
-  // Whether all hashes that this asks for are known.
-  bool knows(const btcheck_ask &ask) {
-    uint8_t room[1][32];
-    uint64_t count;
-    btcheck_status status = btcheck_session_answer(&handle_, &ask, room, 1, &count);
-    return status == BTCHECK_OK || status == BTCHECK_TOO_SMALL;
+  // What to ask for to learn the leaf of a block: BTCHECK_NOTHING if it is known, BTCHECK_NO_SUCH if there is none.
+  btcheck_status want(size_t tree, uint64_t block, btcheck_ask &ask) {
+    return btcheck_session_want(&handle_, tree, block, &ask);
   }
 
   btcheck_status note(const btcheck_ask &ask) { return btcheck_session_note(&handle_, &ask); }
 
 private:
+  // For calls that fail only if memory is refused.
+  static void see(btcheck_status status) {
+    if (status != BTCHECK_OK) throw std::runtime_error("status " + std::to_string(status));
+  }
+
+  std::string path_of(uint64_t number) {
+    std::string room(256, '\0');
+    uint64_t length;
+    btcheck_status status;
+    do {
+      auto bytes = reinterpret_cast<uint8_t *>(room.data());
+      status = btcheck_session_path(&handle_, number, bytes, room.size(), &length);
+      room.resize(length);
+    } while (status == BTCHECK_TOO_SMALL);
+    see(status);
+    return room;
+  }
+
   static const uint8_t (*rows(const std::vector<Hash> &hashes))[32] {
     static const Hash none{};
     return reinterpret_cast<const uint8_t(*)[32]>(hashes.empty() ? none.data() : hashes[0].data());
@@ -76,32 +115,5 @@ private:
   std::string torrent_;
   btcheck_session handle_ = BTCHECK_INIT;
 };
-
-// A file of the torrent: its path below the folder, its length, the number of its first piece, and its root.
-struct File {
-  std::string path;
-  uint64_t length, first_piece;
-  Hash root;
-
-  uint64_t blocks() const { return (length + BTCHECK_BLOCK - 1) / BTCHECK_BLOCK; }
-
-  // Bytes of one of its blocks.
-  size_t size_of(uint64_t block) const {
-    uint64_t left = length - block * BTCHECK_BLOCK;
-    return left < BTCHECK_BLOCK ? size_t(left) : size_t(BTCHECK_BLOCK);
-  }
-};
-
-// The files of a torrent that a session was opened with, so that it is known to be well formed.
-struct Layout {
-  uint64_t piece_length = 0;
-  std::vector<File> files;
-
-  // The block that a piece message names, or nothing if no file has one there.
-  std::optional<Place> place_of(uint32_t index, uint64_t begin) const;
-  uint64_t blocks() const;
-};
-
-Layout layout_of(const std::string &torrent);
 
 } // namespace keep

@@ -31,6 +31,7 @@ const (
 	NoRoot   Refused = C.BTCHECK_NO_ROOT
 	NoSuch   Refused = C.BTCHECK_NO_SUCH
 	Nothing  Refused = C.BTCHECK_NOTHING
+	BadSize  Refused = C.BTCHECK_BAD_SIZE
 	// Unasked, Mismatch: hashes that nobody asked for, and hashes that do not lead to a known one.
 	Unasked  Refused = C.BTCHECK_H8_UNASKED
 	Mismatch Refused = C.BTCHECK_H6_MISMATCH
@@ -174,6 +175,119 @@ func (session *Session) Answer(ask Ask) ([]Hash, error) {
 		}
 		room = make([]Hash, count)
 	}
+}
+
+// Want gives what to ask for next to learn the leaf of a block of a tree. Nothing: the leaf is known.
+func (session *Session) Want(tree int, block uint64) (Ask, error) {
+	var fields C.btcheck_ask
+	if err := told(C.btcheck_session_want(&session.handle, C.size_t(tree), C.uint64_t(block), &fields)); err != nil {
+		return Ask{}, err
+	}
+	ask := Ask{Base: uint32(fields.base), Index: uint32(fields.index), Length: uint32(fields.length), Proof: uint32(fields.proof)}
+	for at, each := range fields.root {
+		ask.Root[at] = byte(each)
+	}
+	return ask, nil
+}
+
+// CanAnswer tells whether Answer would give hashes for a request.
+func (session *Session) CanAnswer(ask Ask) (bool, error) {
+	return yesOrNo(C.btcheck_session_can_answer(&session.handle, ask.fields()))
+}
+
+// IsVerified tells whether a block of a tree was verified.
+func (session *Session) IsVerified(tree int, block uint64) (bool, error) {
+	return yesOrNo(C.btcheck_session_is_marked(&session.handle, C.size_t(tree), C.uint64_t(block)))
+}
+
+// A status that says no by Nothing.
+func yesOrNo(status C.btcheck_status) (bool, error) {
+	err := told(status)
+	if err == Nothing {
+		return false, nil
+	}
+	return err == nil, err
+}
+
+// File is a file of the torrent. An empty one has no tree: Tree is -1.
+type File struct {
+	Path               string
+	Length, FirstPiece uint64
+	Tree               int
+	Root               Hash
+}
+
+// Files gives the files of the torrent, in its order.
+func (session *Session) Files() ([]File, error) {
+	var count, trees C.uint64_t
+	if err := told(C.btcheck_session_files(&session.handle, &count, &trees)); err != nil {
+		return nil, err
+	}
+	files := make([]File, count)
+	for number := range files {
+		var file C.btcheck_file
+		if err := told(C.btcheck_session_file(&session.handle, C.size_t(number), &file)); err != nil {
+			return nil, err
+		}
+		path, err := session.path(number)
+		if err != nil {
+			return nil, err
+		}
+		files[number] = File{Path: path, Length: uint64(file.length), FirstPiece: uint64(file.first_piece), Tree: -1}
+		if file.length > 0 {
+			files[number].Tree = int(file.tree)
+		}
+		for at, each := range file.root {
+			files[number].Root[at] = byte(each)
+		}
+	}
+	return files, nil
+}
+
+func (session *Session) path(number int) (string, error) {
+	room := make([]byte, 256)
+	for {
+		var length C.uint64_t
+		status := C.btcheck_session_path(&session.handle, C.size_t(number), pointer(room), C.size_t(len(room)), &length)
+		if status != C.BTCHECK_TOO_SMALL {
+			return string(room[:length]), told(status)
+		}
+		room = make([]byte, length)
+	}
+}
+
+// InfoHashes gives SHA-256 (BEP 52) and SHA-1 (BEP 3) of the info dictionary.
+func (session *Session) InfoHashes() (v2 Hash, v1 [20]byte, err error) {
+	err = told(C.btcheck_session_info_hashes(&session.handle, (*C.uint8_t)(unsafe.Pointer(&v2[0])),
+		(*C.uint8_t)(unsafe.Pointer(&v1[0]))))
+	return v2, v1, err
+}
+
+// Blocks are those of one piece message: consecutive ones of a file, each with nil or why it is not verified.
+type Blocks struct {
+	File, First uint64
+	Told        []error
+}
+
+// TakeBlocks takes all blocks of a piece message (BEP 3).
+func (session *Session) TakeBlocks(index, begin uint32, content []byte) (Blocks, error) {
+	var blocks C.btcheck_blocks
+	err := told(C.btcheck_session_take_blocks(&session.handle, C.uint32_t(index), C.uint32_t(begin), pointer(content),
+		C.size_t(len(content)), &blocks))
+	if err != nil {
+		return Blocks{}, err
+	}
+	found := Blocks{File: uint64(blocks.file), First: uint64(blocks.first)}
+	for _, status := range blocks.statuses[:blocks.count] {
+		found.Told = append(found.Told, told(status))
+	}
+	return found, nil
+}
+
+// Version gives the three numbers of the version of the library that is linked.
+func Version() [3]byte {
+	version := C.btcheck_version()
+	return [3]byte{byte(version >> 16), byte(version >> 8), byte(version)}
 }
 
 // Counts gives how many places of a tree are known, and how many of its blocks are verified.

@@ -123,3 +123,40 @@ func TestGoroutines(t *testing.T) {
 		see(t, <-done, nil)
 	}
 }
+
+func TestFiles(t *testing.T) {
+	session, content := opened(t), example(t, "pair/a")
+	defer session.Close()
+	files, err := session.Files()
+	see(t, []any{len(files), err}, []any{2, nil})
+	see(t, files[0], File{Path: "a", Length: 16385, Tree: 0, Root: rootOf(t, content)})
+	see(t, []any{files[1].Path, files[1].FirstPiece}, []any{"c", 1})
+	v2, v1, err := session.InfoHashes()
+	see(t, fmt.Sprintf("%x %x %v", v2[:2], v1[:2], err), "4d9a f1a7 <nil>")
+	see(t, Version(), [3]byte{0, 2, 0})
+}
+
+func TestWant(t *testing.T) {
+	session, content := opened(t), example(t, "pair/a")
+	defer session.Close()
+	ask, right := leaves(t, content)
+	wanted, err := session.Want(0, 1)
+	see(t, []any{wanted, err}, []any{ask, nil})
+	can, err := session.CanAnswer(ask)
+	see(t, []any{can, err}, []any{false, nil})
+	_, err = session.TakeHashes(ask, right)
+	see(t, err, nil)
+	_, err = session.Want(0, 1)
+	see(t, err, Nothing)
+	can, err = session.CanAnswer(ask)
+	see(t, []any{can, err}, []any{true, nil})
+	content[0] ^= 1
+	blocks, err := session.TakeBlocks(0, 0, content)
+	see(t, []any{blocks, err}, []any{Blocks{Told: []error{BadBlock, nil}}, nil})
+	is, err := session.IsVerified(0, 0)
+	see(t, []any{is, err}, []any{false, nil})
+	is, err = session.IsVerified(0, 1)
+	see(t, []any{is, err}, []any{true, nil})
+	_, err = session.IsVerified(9, 0)
+	see(t, err, NoSuch)
+}

@@ -15,6 +15,7 @@ pub const BTCHECK_NO_ROOT: btcheck_status = 4;
 pub const BTCHECK_NO_SUCH: btcheck_status = 5;
 pub const BTCHECK_NOTHING: btcheck_status = 6;
 pub const BTCHECK_TOO_SMALL: btcheck_status = 7;
+pub const BTCHECK_BAD_SIZE: btcheck_status = 8;
 /// Refusals of a torrent are this and the number that `btcheck show` prints.
 pub const BTCHECK_TORRENT: btcheck_status = 100;
 /// Refusals of a hashes message are this and n of Hn.
@@ -26,6 +27,18 @@ pub const BTCHECK_P: btcheck_status = 300;
 pub const BTCHECK_BLOCK: usize = 16384;
 /// Bytes of a hash.
 pub const BTCHECK_HASH: usize = 32;
+
+/// Most blocks of one piece message.
+pub const BTCHECK_MOST_BLOCKS: usize = 17;
+
+/// What a message was, and what was made of it: the `kind` of a verdict.
+pub const BTCHECK_STORED: u32 = 1;
+pub const BTCHECK_BLOCKS: u32 = 2;
+pub const BTCHECK_ANSWERED: u32 = 3;
+pub const BTCHECK_REJECTED: u32 = 4;
+pub const BTCHECK_REJECT_NOTED: u32 = 5;
+pub const BTCHECK_KEEP_ALIVE: u32 = 6;
+pub const BTCHECK_SKIPPED: u32 = 7;
 
 /// The builder of a root. Zero bytes are a handle that holds nothing.
 #[repr(C)]
@@ -54,7 +67,39 @@ pub struct btcheck_ask {
     pub proof: u32,
 }
 
+/// A file of a torrent.
+#[repr(C)]
+#[derive(Clone, Copy, Debug, Default, PartialEq, Eq)]
+pub struct btcheck_file {
+    pub length: u64,
+    pub first_piece: u64,
+    pub tree: u64,
+    pub root: [u8; 32],
+}
+
+/// The blocks of one piece message.
+#[repr(C)]
+#[derive(Clone, Copy, Debug, Default, PartialEq, Eq)]
+pub struct btcheck_blocks {
+    pub file: u64,
+    pub first: u64,
+    pub count: u64,
+    pub statuses: [btcheck_status; BTCHECK_MOST_BLOCKS],
+}
+
+/// What was made of one message.
+#[repr(C)]
+#[derive(Clone, Copy, Debug, Default, PartialEq, Eq)]
+pub struct btcheck_verdict {
+    pub kind: u32,
+    pub id: u32,
+    pub places: u64,
+    pub blocks: btcheck_blocks,
+}
+
 extern "C" {
+    pub fn btcheck_version() -> u32;
+
     pub fn btcheck_root_new(root: *mut btcheck_root) -> btcheck_status;
     pub fn btcheck_root_push(
         root: *mut btcheck_root,
@@ -75,6 +120,33 @@ extern "C" {
         layers: bool,
     ) -> btcheck_status;
     pub fn btcheck_session_free(session: *mut btcheck_session);
+    pub fn btcheck_session_files(
+        session: *mut btcheck_session,
+        files: *mut u64,
+        trees: *mut u64,
+    ) -> btcheck_status;
+    pub fn btcheck_session_file(
+        session: *mut btcheck_session,
+        number: usize,
+        file: *mut btcheck_file,
+    ) -> btcheck_status;
+    pub fn btcheck_session_path(
+        session: *mut btcheck_session,
+        number: usize,
+        room: *mut u8,
+        size: usize,
+        length: *mut u64,
+    ) -> btcheck_status;
+    pub fn btcheck_session_info_hashes(
+        session: *mut btcheck_session,
+        v2: *mut [u8; 32],
+        v1: *mut [u8; 20],
+    ) -> btcheck_status;
+    pub fn btcheck_session_is_marked(
+        session: *mut btcheck_session,
+        tree: usize,
+        block: u64,
+    ) -> btcheck_status;
     pub fn btcheck_session_counts(
         session: *mut btcheck_session,
         tree: usize,
@@ -100,6 +172,30 @@ extern "C" {
         len: usize,
         file: *mut u64,
         block: *mut u64,
+    ) -> btcheck_status;
+    pub fn btcheck_session_take_blocks(
+        session: *mut btcheck_session,
+        index: u32,
+        begin: u32,
+        bytes: *const u8,
+        len: usize,
+        blocks: *mut btcheck_blocks,
+    ) -> btcheck_status;
+    pub fn btcheck_session_frame(
+        session: *mut btcheck_session,
+        body: *const u8,
+        len: usize,
+        verdict: *mut btcheck_verdict,
+    ) -> btcheck_status;
+    pub fn btcheck_session_want(
+        session: *mut btcheck_session,
+        tree: usize,
+        block: u64,
+        ask: *mut btcheck_ask,
+    ) -> btcheck_status;
+    pub fn btcheck_session_can_answer(
+        session: *mut btcheck_session,
+        ask: *const btcheck_ask,
     ) -> btcheck_status;
     pub fn btcheck_session_note(
         session: *mut btcheck_session,

@@ -16,6 +16,8 @@ pub enum Error {
     NoSuch,
     /// There is nothing to ask for, or nothing to answer with.
     Nothing,
+    /// A message has a wrong size for its id.
+    BadSize,
     /// The torrent is refused, by the number that `btcheck show` prints.
     Torrent(u32),
     /// The hashes are refused: n of Hn.
@@ -36,6 +38,7 @@ impl Error {
             sys::BTCHECK_NO_ROOT => Error::NoRoot,
             sys::BTCHECK_NO_SUCH => Error::NoSuch,
             sys::BTCHECK_NOTHING => Error::Nothing,
+            sys::BTCHECK_BAD_SIZE => Error::BadSize,
             101..=199 => Error::Torrent(status - sys::BTCHECK_TORRENT),
             201..=299 => Error::Hashes(status - sys::BTCHECK_H),
             301..=399 => Error::Block(status - sys::BTCHECK_P),
@@ -68,6 +71,7 @@ impl fmt::Display for Error {
             Error::NoRoot => f.write_str("an empty file has no root"),
             Error::NoSuch => f.write_str("the torrent has no such tree, block or file"),
             Error::Nothing => f.write_str("nothing to ask for or to answer with"),
+            Error::BadSize => f.write_str("a message has a wrong size"),
             Error::Torrent(number) => write!(f, "the torrent is refused: {number}"),
             Error::Hashes(number) => write!(f, "H{number} {}", name_of(&OF_HASHES, number)),
             Error::Block(number) => write!(f, "P{number} {}", name_of(&OF_BLOCKS, number)),

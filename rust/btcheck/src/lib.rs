@@ -14,11 +14,15 @@
 #![warn(missing_docs)]
 
 mod error;
+mod files;
+mod messages;
 mod root;
 mod session;
 
 pub use btcheck_sys::btcheck_ask as Ask;
 pub use error::Error;
+pub use files::{File, InfoHashes};
+pub use messages::{Blocks, Verdict};
 pub use root::{FileRoot, Root};
 pub use session::{Counts, Place, Session};
 
@@ -27,3 +31,10 @@ pub type Hash = [u8; 32];
 
 /// Bytes of a block that is not its file's last.
 pub const BLOCK: usize = btcheck_sys::BTCHECK_BLOCK;
+
+/// The three numbers of the version of the library that is linked.
+pub fn version() -> [u8; 3] {
+    // SAFETY: a call without parameters.
+    let version = unsafe { btcheck_sys::btcheck_version() };
+    [(version >> 16) as u8, (version >> 8) as u8, version as u8]
+}

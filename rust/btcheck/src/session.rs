@@ -18,7 +18,7 @@ use crate::{Ask, Error, Hash};
 /// is_shared::<btcheck::Session>();
 /// ```
 pub struct Session {
-    handle: sys::btcheck_session,
+    pub(crate) handle: sys::btcheck_session,
     // What the handle's session reads until it is freed: neither moved nor changed, since nothing borrows it.
     torrent: *mut [u8],
 }
@@ -122,6 +122,31 @@ impl Session {
         Ok(places)
     }
 
+    /// What to ask for next to learn the leaf of a block of a tree: at most 512 leaves, with proof up to the root; `None` if the
+    /// leaf is known. `NoSuch`: there is no such tree, or its files have no such block.
+    pub fn want(&mut self, tree: usize, block: u64) -> Result<Option<Ask>, Error> {
+        let mut ask = Ask::default();
+        // SAFETY: two places that do not overlap.
+        let status = unsafe { sys::btcheck_session_want(&mut self.handle, tree, block, &mut ask) };
+        match Error::of(status) {
+            Ok(()) => Ok(Some(ask)),
+            Err(Error::Nothing) => Ok(None),
+            Err(error) => Err(error),
+        }
+    }
+
+    /// Whether `answer` would give hashes for this request.
+    pub fn can_answer(&mut self, ask: &Ask) -> Result<bool, Error> {
+        // SAFETY: two places that do not overlap.
+        yes_or_no(unsafe { sys::btcheck_session_can_answer(&mut self.handle, ask) })
+    }
+
+    /// Whether a block of a tree was verified. `NoSuch`: there is no such tree, or its files have no such block.
+    pub fn is_marked(&mut self, tree: usize, block: u64) -> Result<bool, Error> {
+        // SAFETY: the handle is ours.
+        yes_or_no(unsafe { sys::btcheck_session_is_marked(&mut self.handle, tree, block) })
+    }
+
     /// Notes that a request with these fields was sent: it is open until hashes answer it.
     pub fn note(&mut self, ask: &Ask) -> Result<(), Error> {
         // SAFETY: two places that do not overlap.
@@ -166,6 +191,15 @@ impl Session {
             }
             room.resize(count as usize, [0; 32]);
         }
+    }
+}
+
+// A status that says no by `Nothing`.
+fn yes_or_no(status: sys::btcheck_status) -> Result<bool, Error> {
+    match Error::of(status) {
+        Ok(()) => Ok(true),
+        Err(Error::Nothing) => Ok(false),
+        Err(error) => Err(error),
     }
 }
 

@@ -1,5 +1,5 @@
 //! The safe layer over the examples of the repository.
-use btcheck::{Ask, Counts, Error, Hash, Place, Root, Session, BLOCK};
+use btcheck::{Ask, Blocks, Counts, Error, Hash, Place, Root, Session, Verdict, BLOCK};
 use std::fs;
 use std::thread;
 
@@ -136,4 +136,97 @@ fn refusals_have_the_names_of_replay() {
     assert_eq!(Error::Block(4).to_string(), "P4 BadBlock");
     assert_eq!(Error::Hashes(6).to_string(), "H6 Mismatch");
     assert!(format!("{:?}", opened()).starts_with("Session { torrent: "));
+}
+
+#[test]
+fn files_are_those_of_the_torrent() {
+    let (mut session, content) = (opened(), file());
+    assert_eq!(session.files(), Ok((2, 2)));
+    let first = session.file(0).unwrap();
+    assert_eq!((first.length, first.first_piece), (16385, 0));
+    assert_eq!(first.tree, Some((0, Root::of(&content).unwrap().hash)));
+    assert_eq!(session.file(1).unwrap().first_piece, 1);
+    assert_eq!(session.file(2), Err(Error::NoSuch));
+    assert_eq!(session.path(1).unwrap().to_str(), Some("c"));
+    assert_eq!(session.path(2), Err(Error::NoSuch));
+    let hashes = session.info_hashes().unwrap();
+    assert_eq!(
+        (hashes.v2[..2].to_vec(), hashes.v1[..2].to_vec()),
+        (vec![0x4d, 0x9a], vec![0xf1, 0xa7])
+    );
+    assert_eq!(btcheck::version(), [0, 2, 0]);
+}
+
+#[test]
+fn what_is_wanted_is_what_is_not_known() {
+    let (mut session, content) = (opened(), file());
+    let leaves = leaves(&content);
+    let ask = session.want(0, 1).unwrap().unwrap();
+    assert_eq!(ask, ask_of(&content));
+    assert_eq!(session.can_answer(&ask), Ok(false));
+    session.take_hashes(&ask, &leaves).unwrap();
+    assert_eq!(session.can_answer(&ask), Ok(true));
+    assert_eq!(session.want(0, 1), Ok(None));
+    assert_eq!(session.want(0, 2), Err(Error::NoSuch));
+    assert_eq!(session.is_marked(0, 1), Ok(false));
+    session
+        .take_block(0, BLOCK as u32, &content[BLOCK..])
+        .unwrap();
+    assert_eq!(session.is_marked(0, 1), Ok(true));
+    assert_eq!(session.is_marked(9, 0), Err(Error::NoSuch));
+}
+
+/// A piece message of all of file `a`, with its first byte as it is or not.
+fn piece(content: &[u8], change: u8) -> Vec<u8> {
+    let mut body = vec![7, 0, 0, 0, 0, 0, 0, 0, 0];
+    body.extend_from_slice(content);
+    body[9] ^= change;
+    body
+}
+
+#[test]
+fn messages_are_taken_as_they_come() {
+    let (mut session, content) = (opened(), file());
+    let (ask, leaves) = (ask_of(&content), leaves(&content));
+    assert_eq!(session.frame(&[]), Ok(Verdict::KeepAlive));
+    assert_eq!(session.frame(&[4, 0, 0, 0, 0]), Ok(Verdict::Skipped(4)));
+    assert_eq!(session.frame(&[7, 0]), Err(Error::BadSize));
+    let unproved = Blocks {
+        file: 0,
+        first: 0,
+        told: vec![Err(Error::Block(3)); 2],
+    };
+    assert_eq!(
+        session.frame(&piece(&content, 0)),
+        Ok(Verdict::Blocks(unproved))
+    );
+    let mut body = vec![22];
+    body.extend_from_slice(&ask.root);
+    for field in [ask.base, ask.index, ask.length, ask.proof] {
+        body.extend_from_slice(&field.to_be_bytes());
+    }
+    let request = [&[21], &body[1..]].concat();
+    assert_eq!(session.frame(&request), Ok(Verdict::ToReject));
+    body.extend_from_slice(&leaves.concat());
+    assert_eq!(session.frame(&body), Ok(Verdict::Stored(2)));
+    assert_eq!(session.frame(&request), Ok(Verdict::CanAnswer));
+    let half = Blocks {
+        file: 0,
+        first: 0,
+        told: vec![Err(Error::Block(4)), Ok(())],
+    };
+    assert_eq!(
+        session.take_blocks(0, 0, &piece(&content, 1)[9..]),
+        Ok(half)
+    );
+    let whole = Blocks {
+        file: 0,
+        first: 0,
+        told: vec![Ok(()), Ok(())],
+    };
+    assert_eq!(
+        session.frame(&piece(&content, 0)),
+        Ok(Verdict::Blocks(whole))
+    );
+    assert_eq!(session.take_blocks(9, 0, b"abc"), Err(Error::Block(1)));
 }

@@ -1,0 +1,83 @@
+use btcheck_sys as sys;
+
+use crate::{Error, Session};
+
+/// The blocks of one piece message: consecutive ones of a file.
+#[derive(Clone, Debug, PartialEq, Eq)]
+pub struct Blocks {
+    /// The file, in the torrent's order.
+    pub file: u64,
+    /// Its block that comes first.
+    pub first: u64,
+    /// Of each block whether it is verified, or why not.
+    pub told: Vec<Result<(), Error>>,
+}
+
+/// What a message was, and what was made of it.
+#[derive(Clone, Debug, PartialEq, Eq)]
+#[non_exhaustive]
+pub enum Verdict {
+    /// Hashes, which are joined to the tree; so many places are newly known.
+    Stored(u64),
+    /// Blocks.
+    Blocks(Blocks),
+    /// A request that `answer` has hashes for.
+    CanAnswer,
+    /// A request to be rejected.
+    ToReject,
+    /// A reject of our request.
+    RejectNoted,
+    /// An empty message.
+    KeepAlive,
+    /// A message with another id, which was passed over.
+    Skipped(u32),
+}
+
+impl Blocks {
+    fn of(blocks: &sys::btcheck_blocks) -> Self {
+        let told = blocks.statuses.iter().take(blocks.count as usize);
+        Blocks {
+            file: blocks.file,
+            first: blocks.first,
+            told: told.map(|&it| Error::of(it)).collect(),
+        }
+    }
+}
+
+impl Session {
+    /// All blocks of a piece message (BEP 3). `Block(1)` or `Block(2)`: the whole message is refused.
+    pub fn take_blocks(&mut self, index: u32, begin: u32, bytes: &[u8]) -> Result<Blocks, Error> {
+        let mut blocks = sys::btcheck_blocks::default();
+        // SAFETY: a slice's pointer is not null and leads to so many bytes; no two places overlap.
+        Error::of(unsafe {
+            sys::btcheck_session_take_blocks(
+                &mut self.handle,
+                index,
+                begin,
+                bytes.as_ptr(),
+                bytes.len(),
+                &mut blocks,
+            )
+        })?;
+        Ok(Blocks::of(&blocks))
+    }
+
+    /// The body of one frame of the peer protocol as it came, without its length: for clients that pass messages on.
+    pub fn frame(&mut self, body: &[u8]) -> Result<Verdict, Error> {
+        let mut verdict = sys::btcheck_verdict::default();
+        // SAFETY: as for `take_blocks`.
+        let status = unsafe {
+            sys::btcheck_session_frame(&mut self.handle, body.as_ptr(), body.len(), &mut verdict)
+        };
+        Error::of(status)?;
+        Ok(match verdict.kind {
+            sys::BTCHECK_STORED => Verdict::Stored(verdict.places),
+            sys::BTCHECK_BLOCKS => Verdict::Blocks(Blocks::of(&verdict.blocks)),
+            sys::BTCHECK_ANSWERED => Verdict::CanAnswer,
+            sys::BTCHECK_REJECTED => Verdict::ToReject,
+            sys::BTCHECK_REJECT_NOTED => Verdict::RejectNoted,
+            sys::BTCHECK_KEEP_ALIVE => Verdict::KeepAlive,
+            _ => Verdict::Skipped(verdict.id),
+        })
+    }
+}
