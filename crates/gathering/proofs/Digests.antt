@@ -13,7 +13,8 @@ use Rattle.gathering.specs.Gathered.{KeepsDigests, piece_hashes}
 use Rattle.gathering.specs.Hashing.{AreHashesOf, Begins, BeginsCuts, CutsBytes, CutsIf, CutsMayLackMemory, EndsWithCuts, EndsWithHashes, Hashes, MayEndWithout}
 use Rattle.gathering.specs.declared.hashing.FileHashes.{FileHashes}
 use Rattle.gathering.specs.declared.hashing.Hashing.{Hashing}
-use Rattle.hashtree.specs.LayerBuilder.{HasRefused, IsFedLayer, byte_count, chosen_layer, complete_count}
+use Rattle.hashtree.specs.Complete.{complete_count}
+use Rattle.hashtree.specs.LayerBuilder.{HasRefused, IsFedLayer, byte_count, chosen_layer}
 use Rattle.hashtree.specs.Tree.{block_count, first_pad, height, layer_of, node}
 use Rattle.hashtree.specs.declared.layer.LayerBuilder.{LayerBuilder}
 use Rattle.opening.specs.PieceLayers.{piece_layer}

@@ -1,7 +1,8 @@
 -- What took a file's bytes for a layer of its tree: a builder of the layer, to which memory may be
 -- refused (BEP 52, "piece layers").
 use Rattle.std.specs.Prelude.{◌≡◌, ◌⊎◌, ℕ, ◌+◌, ◌^◌, ◌<◌, ◌≤◌, List, length}
-use Rattle.hashtree.specs.LayerBuilder.{EndTakesMemory, EndsWithLayer, FeedsLayer, HasRefused, IsFedLayer, byte_count, chosen_layer, complete_count}
+use Rattle.hashtree.specs.Complete.{complete_count}
+use Rattle.hashtree.specs.LayerBuilder.{EndTakesMemory, EndsWithLayer, FeedsLayer, HasRefused, IsFedLayer, byte_count, chosen_layer}
 use Rattle.hashtree.specs.declared.layer.LayerBuilder.{LayerBuilder}
 
 -- a builder of a layer was pushed these bytes, or memory was refused to it; it is refused only if a

@@ -5,7 +5,8 @@ use Rattle.std.proofs.Common.{append_assoc, append-nil, arith}
 use Rattle.std.proofs.Math.Nat.{div-mul-le_self}
 use Rattle.std.proofs.lemmas.List.{length-append}
 use Rattle.std.proofs.lemmas.Nat.{le-div, pow_pos}
-use Rattle.hashtree.specs.LayerBuilder.{FeedsLayer, HasRefused, IsFedLayer, byte_count, chosen_layer, complete_count}
+use Rattle.hashtree.specs.Complete.{complete_count}
+use Rattle.hashtree.specs.LayerBuilder.{FeedsLayer, HasRefused, IsFedLayer, byte_count, chosen_layer}
 use Rattle.hashtree.specs.declared.layer.LayerBuilder.{LayerBuilder}
 use Rattle.gathering.specs.Collecting.{CanCollect, Collects}
 

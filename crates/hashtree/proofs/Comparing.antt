@@ -1,20 +1,19 @@
 -- Rows that are compared one hash after the other.
-use Rattle.std.proofs.Common.{◌≡◌, ℕ, ◌+◌, ◌<◌, ◌≤◌, Option, Some, List, [], ◌∷◌, ◌++◌, length, get_or, ap, sym, ◌∙◌, subst, arith, if◌then◌else◌, inl, inr}
+use Rattle.std.proofs.Common.{◌≡◌, ℕ, ◌+◌, ◌-◌, ◌/◌, ◌<◌, ◌≤◌, Option, Some, List, [], ◌∷◌, ◌++◌, length, get_or, ap, sym, ◌∙◌, subst, arith, if◌then◌else◌, inl, inr}
 use Rattle.std.specs.Prelude.{slice_get, unwrap_or}
 use Rattle.std.specs.Option.{option_to_list}
 use Rattle.std.proofs.lemmas.Bool.{cases_lt, le-leb}
 use Rattle.std.proofs.lemmas.List.{length_push, get_or_push, get_or_append_left}
 use Rattle.std.proofs.lemmas.List.FromFn.{length-map-range_with_len}
 use Rattle.std.proofs.lemmas.Option.{slice_get_past, slice_get-get_or, unwrap_or-slice_get}
-use Rattle.hashtree.specs.declared.root.RootBuilder.{RootBuilder}
 use Rattle.hashtree.specs.declared.piece_check.PieceCheck.{PieceCheck}
-use Rattle.hashtree.specs.Tree.{block_count, block_hashes, first_pad, height, layer_count, layer_of, node}
-use Rattle.hashtree.specs.RootBuilder.{IsFed, byte_count, complete_nodes}
+use Rattle.hashtree.specs.Tree.{block_count, first_pad, height, layer_count, layer_of, node}
+use Rattle.hashtree.specs.Complete.{complete_nodes}
+use Rattle.hashtree.specs.RootBuilder.{IsFed}
 use Rattle.hashtree.specs.Difference.{IsCompared, IsFirstDifference}
 use Rattle.hashtree.specs.PieceCheck.{IsFedCheck}
 use Rattle.hashtree.proofs.Heights.{first_pad-place}
-use Rattle.hashtree.proofs.Blocks.{length-block_hashes}
-use Rattle.hashtree.proofs.Rows.{length-climb}
+use Rattle.hashtree.proofs.Complete.{length-complete_nodes, one_uncovered}
 
 -- a look-up in a row that grew
 slice_get-push : (xs : List (List ℕ)) (x : List ℕ) (k : ℕ) → k < length xs → slice_get (xs ++ x ∷ []) k ≡ slice_get xs k
@@ -78,18 +77,15 @@ first_pad-mono n m layer le = elim (cases_lt (first_pad m layer) (first_pad n la
 ]
 
 -- the complete nodes of a layer are no more than the whole file has there
-pub room_for_nodes : (b : RootBuilder) (content : List ℕ) (len layer : ℕ) → IsFed b content → 0 < byte_count b → b.filled ≤ 16384 → byte_count b ≤ len
-    → length (complete_nodes b content layer) ≤ first_pad (block_count len) layer
-room_for_nodes b content len layer fed some in_block le =
-    let n : ℕ = b.peaks.count in
-    let filled : 0 < b.filled = fed.started (omega (arith, fed.at.length_is)) in
-    let few : n + 1 ≤ block_count len = omega (arith, filled, le) in
+pub room_for_nodes : (content : List ℕ) (len layer : ℕ) → 0 < length content → length content ≤ len
+    → length (complete_nodes content layer) ≤ first_pad (block_count len) layer
+room_for_nodes content len layer some le =
+    let n : ℕ = (length content - 1) / 16384 in
     omega (
       arith,
-      length-climb layer (block_hashes content n),
-      length-block_hashes content n,
-      ap (λ k. first_pad (k + 1) layer) (length-block_hashes content n),
-      first_pad-mono (n + 1) (block_count len) layer few,
+      length-complete_nodes content layer,
+      one_uncovered n layer,
+      first_pad-mono (n + 1) (block_count len) layer (omega (arith, some, le)),
     )
 
 -- a layer of a file of this length
@@ -102,17 +98,16 @@ length-layer_of file len layer is low =
 
 -- the node that comes next, if there is one, is compared
 pub checked : (b q : PieceCheck) (file more : List ℕ) (node : Option (List ℕ)) → IsFedCheck b file → IsFed q.builder more
-    → complete_nodes q.builder more b.layer ≡ complete_nodes b.builder file b.layer ++ option_to_list node
+    → complete_nodes more b.layer ≡ complete_nodes file b.layer ++ option_to_list node
     → q.layer ≡ b.layer → q.shape ≡ b.shape → q.hashes.now ≡ b.hashes.now
-    → IsCompared b.hashes.now (complete_nodes b.builder file b.layer ++ option_to_list node) q.place q.other
+    → IsCompared b.hashes.now (complete_nodes file b.layer ++ option_to_list node) q.place q.other
     → IsFedCheck q more
 checked b q file more node at fed completed layer shape hashes compared =
-    let now : complete_nodes q.builder more q.layer ≡ complete_nodes b.builder file b.layer ++ option_to_list node = ap (complete_nodes q.builder more) layer
-    ∙ completed in
+    let now : complete_nodes more q.layer ≡ complete_nodes file b.layer ++ option_to_list node = ap (complete_nodes more) layer ∙ completed in
     record {
       fed = fed;
       in_tree = subst (λ l. l ≤ height (block_count q.shape)) (sym layer) (subst (λ s. b.layer ≤ height (block_count s)) (sym shape) at.in_tree);
       whole = ap length hashes ∙ at.whole ∙ ap (λ s. first_pad (block_count s) b.layer) (sym shape) ∙ ap (first_pad (block_count q.shape)) (sym layer);
       nodes = subst (λ t. IsCompared q.hashes.now t q.place q.other) (sym now)
-          (subst (λ hs. IsCompared hs (complete_nodes b.builder file b.layer ++ option_to_list node) q.place q.other) (sym hashes) compared);
+          (subst (λ hs. IsCompared hs (complete_nodes file b.layer ++ option_to_list node) q.place q.other) (sym hashes) compared);
     }

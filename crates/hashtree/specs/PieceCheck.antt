@@ -3,7 +3,8 @@
 use Rattle.std.specs.Prelude.{◌≡◌, ℕ, ◌+◌, ◌≤◌, ◌++◌, [], List, Option, length}
 use Rattle.hashtree.specs.Tree.{block_count, first_pad, height, layer_of}
 use Rattle.hashtree.specs.Difference.{IsCompared, IsComparison}
-use Rattle.hashtree.specs.RootBuilder.{IsFed, complete_nodes}
+use Rattle.hashtree.specs.Complete.{complete_nodes}
+use Rattle.hashtree.specs.RootBuilder.{IsFed}
 use Rattle.hashtree.specs.RootBuilder as root
 use Rattle.hashtree.specs.declared.piece_check.PieceCheck.{PieceCheck}
 
@@ -28,7 +29,7 @@ pub record IsFedCheck (c : PieceCheck) (content : List ℕ) : Type 0 where
   pub fed : IsFed c.builder content
   pub in_tree : c.layer ≤ height (block_count c.shape)
   pub whole : length c.hashes.now ≡ first_pad (block_count c.shape) c.layer
-  pub nodes : IsCompared c.hashes.now (complete_nodes c.builder content c.layer) c.place c.other
+  pub nodes : IsCompared c.hashes.now (complete_nodes content c.layer) c.place c.other
 
 -- nothing was given yet to a check of a file of this length against the hashes of this layer
 pub record BeginsCheck (shape layer : ℕ) (hashes : List (List ℕ)) (c : PieceCheck) : Type 0 where

@@ -6,6 +6,7 @@ use Rattle.sha2.specs.Sha256.{sha256}
 use Rattle.sha2.specs.Hashers.{Holds256}
 use Rattle.hashtree.specs.Tree.{block_hashes, root_of}
 use Rattle.hashtree.specs.Climb.{HoldsLeaves, climb}
+use Rattle.hashtree.specs.Complete.{complete_nodes}
 use Rattle.hashtree.specs.declared.root.RootBuilder.{RootBuilder}
 
 -- how many bytes the builder was given
@@ -26,9 +27,9 @@ pub record IsFed (b : RootBuilder) (content : List ℕ) : Type 0 where
   pub at : IsAt b content
   pub started : 0 < length content → 0 < b.filled
 
--- the nodes of a layer that the content's closed blocks complete
-abbrev pub complete_nodes : RootBuilder → List ℕ → ℕ → List (List ℕ)
-complete_nodes b content layer = climb layer (block_hashes content b.peaks.count)
+-- the nodes of a layer over the blocks whose leaves the peaks hold. Public clauses do not name it
+abbrev pub closed_nodes : RootBuilder → List ℕ → ℕ → List (List ℕ)
+closed_nodes b content layer = climb layer (block_hashes content b.peaks.count)
 
 -- the builder was given these further bytes
 pub record Feeds (old : RootBuilder) (bytes : List ℕ) (new : RootBuilder) : Type 0 where
@@ -36,10 +37,9 @@ pub record Feeds (old : RootBuilder) (bytes : List ℕ) (new : RootBuilder) : Ty
   pub fed : (file : List ℕ) → IsFed old file → IsFed new (file ++ bytes)
 
 -- the further bytes complete this node of a layer, or none
-abbrev pub Completes : RootBuilder → List ℕ → RootBuilder → ℕ → Option (List ℕ) → Type 0
-Completes old bytes new layer node = (file : List ℕ) → IsFed old file
-    → complete_nodes new (file ++ bytes) layer
-    ≡ complete_nodes old file layer ++ option_to_list node
+abbrev pub Completes : RootBuilder → List ℕ → ℕ → Option (List ℕ) → Type 0
+Completes old bytes layer node = (file : List ℕ) → IsFed old file
+    → complete_nodes (file ++ bytes) layer ≡ complete_nodes file layer ++ option_to_list node
 
 -- this is the length and the root of the content that the builder was given
 abbrev pub EndsWith : RootBuilder → ℕ → List ℕ → Type 0

@@ -70,7 +70,7 @@ impl LayerBuilder {
         let mut start = 0;
         'parts: while start < bytes.len() {
             let rest = &bytes[start..];
-            let (taken, node) = self.builder.take_next(rest, self.layer, &mut next);
+            let (taken, node) = self.builder.take_part(rest, self.layer, &mut next);
             self.keep(node)?;
             start += taken;
         }

@@ -10,11 +10,11 @@ use sha256_lanes::digests;
 // Bytes in eight blocks, which are hashed side by side.
 const GROUP: usize = 8 * BLOCK;
 
-/// Leaves of the blocks that come next in what is pushed, for one call of a `push`: where eight
-/// whole blocks are there, they are hashed side by side, and then taken one by one. It takes no
-/// memory.
+/// Leaves of the blocks that come next in a slice whose parts [`RootBuilder::take_part`] takes:
+/// where eight whole blocks are there, they are hashed side by side, and then taken one by one. It
+/// takes no memory.
 #[derive(Drop)]
-pub(crate) struct NextLeaves {
+pub struct NextLeaves {
     leaves: [Hash; 8],
     left: usize,
     ghost in_group: { left ≤ 8 },
@@ -24,7 +24,7 @@ impl NextLeaves {
     ghost use Rattle.hashtree.specs.NextLeaves.{AreNext};
 
     /// No leaves yet, whatever the bytes are.
-    pub(crate) fn new() -> NextLeaves
+    pub fn new() -> NextLeaves
         ensures { (bytes : List ℕ) → AreNext result bytes }
     {
         NextLeaves {

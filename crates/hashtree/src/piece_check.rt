@@ -69,7 +69,7 @@ impl<'a> PieceCheck<'a> {
         let mut start = 0;
         'parts: while start < bytes.len() {
             let rest = &bytes[start..];
-            let (taken, node) = self.builder.take_next(rest, self.layer, &mut next);
+            let (taken, node) = self.builder.take_part(rest, self.layer, &mut next);
             (self.place, self.other) = compare(self.hashes, self.place, self.other, node);
             start += taken;
         }

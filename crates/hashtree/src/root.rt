@@ -1,6 +1,8 @@
 //! The root of a file's tree, from its bytes.
 
 ghost use Rattle.std.specs.Prelude.{◌≡◌, ℕ, ◌+◌, ◌*◌, ◌^◌, ◌<◌, ◌≤◌, ◌↔◌, ◌++◌, [], IsTrue, List, OnSome, drop, length, take};
+ghost use Rattle.sha2.specs.Hashers.{Holds256};
+ghost use Rattle.sha2.specs.Sha256.{sha256};
 ghost use Rattle.hashtree.specs.Tree.{block_count, height, layer_of};
 
 use crate::next_leaves::NextLeaves;
@@ -26,7 +28,8 @@ pub struct RootBuilder {
 }
 
 impl RootBuilder {
-    ghost use Rattle.hashtree.specs.RootBuilder.{Completes, EndsWith, Feeds, IsAt, IsFed, byte_count, complete_nodes};
+    ghost use Rattle.hashtree.specs.Complete.{complete_nodes};
+    ghost use Rattle.hashtree.specs.RootBuilder.{Completes, EndsWith, Feeds, IsAt, IsFed, byte_count, closed_nodes};
     ghost use Rattle.hashtree.specs.NextLeaves.{AreNext};
     ghost use Rattle.std.specs.Option.{option_to_list};
 
@@ -66,7 +69,7 @@ impl RootBuilder {
         let mut next = NextLeaves::new();
         let mut start = 0;
         'parts: while start < bytes.len() {
-            let (taken, _) = self.take_next(&bytes[start..], ABOVE_ROOT, &mut next);
+            let (taken, _) = self.take_part(&bytes[start..], ABOVE_ROOT, &mut next);
             start += taken;
         }
     }
@@ -83,22 +86,18 @@ impl RootBuilder {
     }
 
     /// As [`RootBuilder::finish`]; also the last node of `layer` that covers a block, if the tree
-    /// has that layer. [`RootBuilder::take_part`] told those before it. Condition: at least one
+    /// has that layer. [`RootBuilder::take_part`] returned those before it. Condition: at least one
     /// byte was pushed.
     pub fn finish_layer(self, layer: u32) -> (u64, Hash, Option<Hash>)
         requires { 0 < byte_count self }
         ensures length { result.0 ≡ byte_count self }
         ensures tree { EndsWith self result.0 result.1 }
         ensures nodes { (file : List ℕ) → IsFed self file
-            → complete_nodes self file layer ++ option_to_list result.2 ≡ layer_of file layer }
+            → complete_nodes file layer ++ option_to_list result.2 ≡ layer_of file layer }
         ensures in_tree { OnSome result.2 (layer ≤ height (block_count (byte_count self))) }
     {
         let length = self.len();
-        let last = if self.filled == BLOCK {
-            self.last
-        } else {
-            self.hasher.finalize()
-        };
+        let last = last_leaf(self.hasher, self.filled, self.last);
         let height = Shape::of(length).unwrap().height();
         let root = self.peaks.last_node(last, PAD_LEAF, height);
         let node = if layer <= height {
@@ -110,28 +109,15 @@ impl RootBuilder {
     }
 
     /// Takes the first of these bytes, for a caller that keeps the nodes of a layer itself: at most
-    /// as many as the last block still takes. Returns how many, and the node of `layer` that the
-    /// blocks before the last one complete, if they do. Conditions: there is a byte, and
-    /// [`RootBuilder::len`] and the number of bytes are at most 2^46 together.
-    pub fn take_part(&mut self, bytes: &[u8], layer: u32) -> (usize, Option<Hash>)
-        requires some { 0 < length bytes.now }
-        requires room { byte_count self.old + length bytes.now ≤ 2 ^ 46 }
-        ensures some { 0 < result.0 }
-        ensures bound { result.0 ≤ length bytes.now }
-        ensures fed { Feeds self.old (take result.0 bytes.now) self.new }
-        ensures node { Completes self.old (take result.0 bytes.now) self.new layer result.1 }
-    {
-        let completed = if self.filled == BLOCK {
-            self.close_block(layer)
-        } else {
-            None
-        };
-        (self.fill_block(bytes), completed)
-    }
-
-    /// As [`RootBuilder::take_part`]. `next` has leaves of these bytes, and is handed on to the
-    /// call that takes the bytes after them.
-    pub(crate) fn take_next(
+    /// as many as the last block still takes. Returns how many, and the next node of `layer`, if
+    /// these bytes complete it: the blocks under it are whole, and a byte came after them. The
+    /// layer's last node never is complete before [`RootBuilder::finish_layer`].
+    ///
+    /// `next` keeps leaves between the calls for one slice: begin with [`NextLeaves::new`], and
+    /// hand it on to the call that takes the bytes after these. Conditions: there is a byte,
+    /// [`RootBuilder::len`] and the number of bytes are at most 2^46 together, and `next` has
+    /// leaves of these bytes, or none.
+    pub fn take_part(
         &mut self,
         bytes: &[u8],
         layer: u32,
@@ -143,7 +129,7 @@ impl RootBuilder {
         ensures some { 0 < result.0 }
         ensures bound { result.0 ≤ length bytes.now }
         ensures fed { Feeds self.old (take result.0 bytes.now) self.new }
-        ensures node { Completes self.old (take result.0 bytes.now) self.new layer result.1 }
+        ensures node { Completes self.old (take result.0 bytes.now) layer result.1 }
         ensures next { AreNext next.new (drop result.0 bytes.now) }
     {
         let completed = if self.filled == BLOCK {
@@ -161,8 +147,8 @@ impl RootBuilder {
         ensures one { self.new.peaks.count ≡ self.old.peaks.count + 1 }
         ensures content { (file : List ℕ) → IsAt self.old file → IsAt self.new file }
         ensures node { (file : List ℕ) → IsAt self.old file
-            → complete_nodes self.new file layer
-            ≡ complete_nodes self.old file layer ++ option_to_list result }
+            → closed_nodes self.new file layer
+            ≡ closed_nodes self.old file layer ++ option_to_list result }
     {
         self.filled = 0;
         self.peaks.push(self.last, layer)
@@ -213,5 +199,18 @@ impl RootBuilder {
             self.last = self.hasher.finalize_reset();
         }
         taken
+    }
+}
+
+// The leaf of the last block: it is kept if the block is full, and else the hasher has the bytes.
+fn last_leaf(hasher: Sha256, filled: usize, kept: Hash) -> Hash
+    requires { filled ≤ 16384 }
+    ensures { (block : List ℕ) → (filled < 16384 → Holds256 hasher block)
+        → (filled ≡ 16384 → kept ≡ sha256 block) → result ≡ sha256 block }
+{
+    if filled == BLOCK {
+        kept
+    } else {
+        hasher.finalize()
     }
 }

@@ -1,6 +1,6 @@
 -- What takes a file's bytes for its leaves: how many leaves its tree has, and what stands at the end.
-use Rattle.std.proofs.Common.{◌≡◌, ◌⊎◌, ℕ, zero, ◌+◌, ◌-◌, ◌*◌, ◌<◌, ◌≤◌, ◌++◌, List, [], ◌∷◌, length, take, drop, Option, Some, None, OnSome, Result, Ok, Err}
-use Rattle.std.proofs.Common.{IfErr, inl, inr, refl, sym, ap, ◌∙◌, subst, arith, div-one, option_map}
+use Rattle.std.proofs.Common.{◌≡◌, ◌⊎◌, ℕ, ◌+◌, ◌-◌, ◌/◌, ◌<◌, ◌≤◌, ◌++◌, List, [], ◌∷◌, length, take, drop, Option, Some, None, OnSome, Result, Ok, Err}
+use Rattle.std.proofs.Common.{IfErr, inl, inr, sym, ap, ◌∙◌, subst, arith, div-one, option_map}
 use Rattle.std.specs.Option.{option_to_list}
 use Rattle.std.proofs.lemmas.List.{length-append, length-take-le}
 use Rattle.std.proofs.lemmas.List.FromFn.{length-map-range_with_len}
@@ -9,10 +9,10 @@ use Rattle.benc.specs.Device.{SourceSeen}
 use Rattle.folders.specs.TakeAll.{TookAll}
 use Rattle.folders.proofs.Pieces.{all_given}
 use Rattle.hashtree.specs.declared.root.RootBuilder.{RootBuilder}
-use Rattle.hashtree.specs.Climb.{climb}
-use Rattle.hashtree.specs.RootBuilder.{IsFed, complete_nodes}
-use Rattle.hashtree.specs.Tree.{block_count, block_hashes, height, layer_count, layer_of, node, root_of}
-use Rattle.hashtree.proofs.Blocks.{length-block_hashes}
+use Rattle.hashtree.specs.Complete.{complete_nodes}
+use Rattle.hashtree.specs.RootBuilder.{IsFed}
+use Rattle.hashtree.specs.Tree.{block_count, height, layer_count, layer_of, node, root_of}
+use Rattle.hashtree.proofs.Complete.{length-complete_nodes}
 use Rattle.hashtree.proofs.Feeding.{next_part}
 use Rattle.opening.specs.Description.{TreeEntry}
 use Rattle.partial_tree.specs.Grown.{GrownTree}
@@ -24,51 +24,44 @@ pub at_err : {A E : Type 0} (P : E → Type 0) (r : Result A E) → ((why : E) �
 at_err P (Ok x) all = tt
 at_err P (Err why) all = all why
 
-climb-none : (xs : List (List ℕ)) → climb zero xs ≡ xs
-unfolding climb
-climb-none xs = refl
-
 -- one leaf for each block that is complete
-complete-length : (b : RootBuilder) (content : List ℕ) → length (complete_nodes b content 0) ≡ b.peaks.count
-complete-length b content = ap length (climb-none (block_hashes content b.peaks.count)) ∙ length-block_hashes content b.peaks.count
+complete-length : (content : List ℕ) → length (complete_nodes content 0) ≡ (length content - 1) / 16384
+complete-length content = length-complete_nodes content 0 ∙ div-one ((length content - 1) / 16384)
 
 -- where memory was never refused, all leaves are kept
 pub kept-leaves : {N : Type 0} (l : Leaves N) (content : List ℕ) → IsFedLeaves l content → (HasRefused l → ⊥)
-    → l.tree.leaves ≡ complete_nodes l.builder content 0
+    → l.tree.leaves ≡ complete_nodes content 0
 kept-leaves l content at works = elim at.leaves_are [
   | inl refused ↦ absurd (works refused)
   | inr are ↦ are
 ]
 
 -- the next leaf is one of the file's
-pub leaf-fits : {N : Type 0} (l : Leaves N) (mid : RootBuilder) (content more : List ℕ) (leaf : Option (List ℕ)) → IsFedLeaves l content → IsFed mid more
-    → complete_nodes mid more 0 ≡ complete_nodes l.builder content 0 ++ option_to_list leaf → length more ≤ l.tree.length
+pub leaf-fits : {N : Type 0} (l : Leaves N) (content more : List ℕ) (leaf : Option (List ℕ)) → IsFedLeaves l content
+    → complete_nodes more 0 ≡ complete_nodes content 0 ++ option_to_list leaf → length more ≤ l.tree.length
     → OnSome leaf (HasRefused l ⊎ (length l.tree.leaves < block_count l.tree.length))
-leaf-fits l mid content more None at fed completed fits = tt
-leaf-fits l mid content more (Some x) at fed completed fits =
-    let count : length (complete_nodes mid more 0) ≡ mid.peaks.count = complete-length mid more in
-    let one : length (complete_nodes mid more 0) ≡ length (complete_nodes l.builder content 0) + 1 = ap length completed
-    ∙ length-append (complete_nodes l.builder content 0) (x ∷ []) in
-    let bytes : 16384 * mid.peaks.count + mid.filled ≡ length more = fed.at.length_is in
-    let some : 0 < length more = omega (arith, count, one, bytes) in
-    let begun : 0 < mid.filled = fed.started some in
+leaf-fits l content more None at completed fits = tt
+leaf-fits l content more (Some x) at completed fits =
+    let count : length (complete_nodes more 0) ≡ (length more - 1) / 16384 = complete-length more in
+    let one : length (complete_nodes more 0) ≡ length (complete_nodes content 0) + 1 = ap length completed
+    ∙ length-append (complete_nodes content 0) (x ∷ []) in
     elim at.leaves_are [
       | inl refused ↦ inl refused
       | inr are ↦ inr (
-          let had : length l.tree.leaves ≡ length (complete_nodes l.builder content 0) = ap length are in
-          omega (arith, count, one, had, bytes, begun, fits))
+          let had : length l.tree.leaves ≡ length (complete_nodes content 0) = ap length are in
+          omega (arith, count, one, had, fits))
     ]
 
 -- one leaf more, or none
 pub kept-leaf : {N : Type 0} (l q : Leaves N) (mid : RootBuilder) (content more : List ℕ) (leaf : Option (List ℕ)) → IsFedLeaves l content → IsFed mid more
-    → complete_nodes mid more 0 ≡ complete_nodes l.builder content 0 ++ option_to_list leaf
+    → complete_nodes more 0 ≡ complete_nodes content 0 ++ option_to_list leaf
     → q.builder ≡ mid → HasRefused q ⊎ ((HasRefused l → ⊥) × (q.tree.leaves ≡ l.tree.leaves ++ option_to_list leaf)) → IsFedLeaves q more
 kept-leaf l q mid content more leaf at fed completed builder kept = record {
   fed = subst (λ b. IsFed b more) (sym builder) fed;
   leaves_are = elim kept [
     | inl refused ↦ inl refused
     | inr (works, leaves) ↦ inr (leaves ∙ ap (λ t. t ++ option_to_list leaf) (kept-leaves l content at works)
-        ∙ sym completed ∙ ap (λ b. complete_nodes b more 0) (sym builder))
+        ∙ sym completed)
   ];
 }
 
@@ -91,24 +84,24 @@ length-leaves content =
 
 -- the last leaf is one of the file's
 pub last-fits : {N : Type 0} (l : Leaves N) (content : List ℕ) (last : Option (List ℕ)) (leaf : List ℕ) → IsFull l content → (HasRefused l → ⊥)
-    → complete_nodes l.builder content 0 ++ option_to_list last ≡ layer_of content 0 → last ≡ Some leaf → length l.tree.leaves < block_count l.tree.length
+    → complete_nodes content 0 ++ option_to_list last ≡ layer_of content 0 → last ≡ Some leaf → length l.tree.leaves < block_count l.tree.length
 last-fits l content last leaf full works nodes is =
     let all : length (layer_of content 0) ≡ block_count (length content) = length-leaves content in
-    let one : length (layer_of content 0) ≡ length (complete_nodes l.builder content 0) + 1 =
-    ap length (sym nodes) ∙ ap (λ o. length (complete_nodes l.builder content 0 ++ option_to_list o)) is
-    ∙ length-append (complete_nodes l.builder content 0) (leaf ∷ []) in
-    let had : length l.tree.leaves ≡ length (complete_nodes l.builder content 0) = ap length (kept-leaves l content full.fed works) in
+    let one : length (layer_of content 0) ≡ length (complete_nodes content 0) + 1 =
+    ap length (sym nodes) ∙ ap (λ o. length (complete_nodes content 0 ++ option_to_list o)) is
+    ∙ length-append (complete_nodes content 0) (leaf ∷ []) in
+    let had : length l.tree.leaves ≡ length (complete_nodes content 0) = ap length (kept-leaves l content full.fed works) in
     let same : block_count (length content) ≡ block_count l.tree.length = ap block_count full.length_is in
     omega (arith, all, one, had, same)
 
 -- with the last leaf the file's leaves are all there
 pub all-leaves : {N : Type 0} (l : Leaves N) (t : GrownTree) (content : List ℕ) (last : Option (List ℕ)) → IsFull l content → (HasRefused l → ⊥)
-    → complete_nodes l.builder content 0 ++ option_to_list last ≡ layer_of content 0 → t.leaves ≡ l.tree.leaves ++ option_to_list last
+    → complete_nodes content 0 ++ option_to_list last ≡ layer_of content 0 → t.leaves ≡ l.tree.leaves ++ option_to_list last
     → t.leaves ≡ layer_of content 0
 all-leaves l t content last full works nodes is = is ∙ ap (λ xs. xs ++ option_to_list last) (kept-leaves l content full.fed works) ∙ nodes
 
 pub all-there : {N : Type 0} (l : Leaves N) (t : GrownTree) (content : List ℕ) (last : Option (List ℕ)) → IsFull l content → (HasRefused l → ⊥)
-    → complete_nodes l.builder content 0 ++ option_to_list last ≡ layer_of content 0 → t.leaves ≡ l.tree.leaves ++ option_to_list last
+    → complete_nodes content 0 ++ option_to_list last ≡ layer_of content 0 → t.leaves ≡ l.tree.leaves ++ option_to_list last
     → t.length ≡ l.tree.length
     → length t.leaves ≡ block_count t.length
 all-there l t content last full works nodes is same =

@@ -1,6 +1,7 @@
 -- The leaves of a file (BEP 52), as they are read.
 use Rattle.std.specs.Prelude.{◌≡◌, ◌≢◌, ◌⊎◌, ℕ, ◌+◌, ◌^◌, ◌<◌, ◌≤◌, ◌++◌, List, length, true, Option, Some, None}
-use Rattle.hashtree.specs.RootBuilder.{IsFed, complete_nodes}
+use Rattle.hashtree.specs.Complete.{complete_nodes}
+use Rattle.hashtree.specs.RootBuilder.{IsFed}
 use Rattle.hashtree.specs.Tree.{layer_of, root_of}
 use Rattle.opening.specs.Description.{TreeEntry}
 use Rattle.node_maps.specs.Digest.{Hash}
@@ -17,7 +18,7 @@ HasRefused l = l.is_refused ≡ true
 -- memory was refused
 pub record IsFedLeaves {N : Type 0} (l : Leaves N) (content : List ℕ) : Type 0 where
   pub fed : IsFed l.builder content
-  pub leaves_are : HasRefused l ⊎ (l.tree.leaves ≡ complete_nodes l.builder content 0)
+  pub leaves_are : HasRefused l ⊎ (l.tree.leaves ≡ complete_nodes content 0)
 
 -- these further bytes were given
 pub record Pushes {N : Type 0} (old : Leaves N) (bytes : List ℕ) (new : Leaves N) : Type 0 where

@@ -1,6 +1,6 @@
 -- What seeding a session from a shelf does: to each file of its torrent once, in order. `shelf`
 -- stands for what the shelf's type tells of its shelves, and `seen` for what its files tell.
-use Rattle.std.specs.Prelude.{◌≡◌, ◌≢◌, ◌⊎◌, ℕ, ◌+◌, ◌++◌, Bool, true, false, List, [], ◌∷◌, length, take, slice_get, codes, Option, Some, None, Result, Ok}
+use Rattle.std.specs.Prelude.{◌≡◌, ◌≢◌, ◌⊎◌, ℕ, ◌+◌, ◌++◌, Bool, true, false, List, [], ◌∷◌, take, slice_get, codes, Option, Some, None, Result, Ok}
 use Rattle.std.specs.Prelude.{Err}
 use Rattle.benc.specs.Device.{SourceSeen, SinkSeen, Sent, Broke, SentAndFlushed}
 use Rattle.chains.specs.Chain.{Chain}

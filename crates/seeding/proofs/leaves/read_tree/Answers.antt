@@ -1,4 +1,4 @@
-use Rattle.std.proofs.Common.{◌≡◌, ◌∙◌, refl, sym}
+use Rattle.std.proofs.Common.{◌≡◌, ◌∙◌, refl}
 use Rattle.opening.specs.Seen.{tree_entry}
 use Rattle.folders.proofs.Layers.{unwrapped}
 use Rattle.folders.proofs.Pieces.{other_count, read_whole}

@@ -2,7 +2,7 @@ use Rattle.std.proofs.Common.{arith, ap, sym, subst, ◌∙◌, ◌≡◌, ◌++
 use Rattle.std.specs.Option.{option_to_list}
 use Rattle.std.proofs.lemmas.List.{length-append, take_all}
 use Rattle.hashtree.specs.Tree.{layer_of}
-use Rattle.hashtree.specs.RootBuilder.{complete_nodes}
+use Rattle.hashtree.specs.Complete.{complete_nodes}
 use Rattle.hashtree.specs.Difference.{IsComparison}
 use Rattle.hashtree.proofs.Comparing.{length-layer_of}
 use Rattle.hashtree.proofs.piece_check.PieceCheck.finish.Goals as goal
@@ -11,7 +11,7 @@ pub returns : goal.returns
 returns c = λ file at.
     let layer = c.args.self.layer in
     let hashes = c.args.self.hashes.now in
-    let xs = complete_nodes c.args.self.builder file c.args.self.layer in
+    let xs = complete_nodes file c.args.self.layer in
     let node = c.finish_layer-length.result.2 in
     let whole : xs ++ option_to_list node ≡ layer_of file layer = c.finish_layer-length.ensures.nodes file at.fed in
     let shape : length file ≡ c.args.self.shape = sym at.fed.at.length_is ∙ c.requires in

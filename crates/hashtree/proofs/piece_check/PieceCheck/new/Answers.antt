@@ -1,12 +1,12 @@
-use Rattle.std.proofs.Common.{arith, ◌≡◌, [], None, sym, subst, refl}
-use Rattle.hashtree.specs.RootBuilder.{complete_nodes}
+use Rattle.std.proofs.Common.{◌≡◌, [], None, sym, subst, refl}
+use Rattle.hashtree.specs.Complete.{complete_nodes}
 use Rattle.hashtree.specs.Difference.{IsCompared}
-use Rattle.hashtree.proofs.Keeping.{none_complete}
+use Rattle.hashtree.proofs.Complete.{none_complete}
 use Rattle.hashtree.proofs.piece_check.PieceCheck.new.Goals as goal
 
 pub returns : goal.returns
 returns c =
-    let none : complete_nodes c.new.result [] c.args.layer ≡ [] = none_complete c.new.result c.args.layer (omega (arith, c.new.ensures.count)) in
+    let none : complete_nodes [] c.args.layer ≡ [] = none_complete c.args.layer in
     record {
       count = c.new.ensures.count;
       shape_is = refl;

@@ -5,21 +5,21 @@ use Rattle.hashtree.proofs.NextBlocks.{next_known, rest_known}
 use Rattle.hashtree.proofs.Feeding.{length_part, next_part}
 use Rattle.hashtree.proofs.root.RootBuilder.push.Goals as goal
 
-pub take_next-taken-requires-clause-next : goal.take_next-taken-requires-clause-next
-take_next-taken-requires-clause-next c = rest_known c.parts.next c.args.bytes.now c.parts.start c.parts.invariant.next
+pub take_part-taken-requires-clause-next : goal.take_part-taken-requires-clause-next
+take_part-taken-requires-clause-next c = rest_known c.parts.next c.args.bytes.now c.parts.start c.parts.invariant.next
 
 pub parts-preserved : goal.parts-preserved
 parts-preserved c =
     let bytes = c.args.bytes.now in
     let start = c.parts.start in
-    let taken = c.take_next-taken.result.0 in
-    let fed = c.take_next-taken.ensures.fed in
+    let taken = c.take_part-taken.result.0 in
+    let fed = c.take_part-taken.ensures.fed in
     record {
-      within = omega (arith, c.take_next-taken.ensures.bound, ap length (take_rest bytes start), length-drop start bytes);
-      next = next_known c.take_next-taken.new.next bytes start taken c.take_next-taken.ensures.next;
-      count = omega (arith, fed.count, length_part bytes start taken c.take_next-taken.ensures.bound, c.parts.invariant.count);
+      within = omega (arith, c.take_part-taken.ensures.bound, ap length (take_rest bytes start), length-drop start bytes);
+      next = next_known c.take_part-taken.new.next bytes start taken c.take_part-taken.ensures.next;
+      count = omega (arith, fed.count, length_part bytes start taken c.take_part-taken.ensures.bound, c.parts.invariant.count);
       content = λ file is_fed.
-          subst (IsFed c.take_next-taken.new.self) (next_part file bytes start taken)
+          subst (IsFed c.take_part-taken.new.self) (next_part file bytes start taken)
           (fed.fed (file ++ take start bytes) (c.parts.invariant.content file is_fed));
     }
 
