@@ -1,7 +1,7 @@
 -- What is given to a draft of a file, and what it made of it.
 use Rattle.std.proofs.Common.{◌≡◌, ℕ, ◌<◌, ◌≤◌, Bool, true, false, ◌&&◌, cond, List, [], length, refl, sym, ◌∙◌, ap, subst, arith}
 use Rattle.drafts.proofs.Passing.{lengths_are}
-use Rattle.std.specs.List.{All}
+use Rattle.hashtree.specs.Hashes.{AreHashes}
 use Rattle.std.specs.Prelude.{nat_lt}
 use Rattle.std.proofs.lemmas.Bool.{lt-ltb, ltb-true}
 use Rattle.drafts.specs.Adding.{FitsLayer, HasCuts, IsWith, add_rows, given_file}
@@ -54,7 +54,7 @@ has_cuts d path content f file is some =
     ∙ ap (pieces_of d.piece_length) (sym file.length_is)
 
 pub fits_layer : (d : Outline) (path : List (List ℕ)) (content : List ℕ) (f : OutlineFile) (hashes : List (List ℕ)) → IsPieceLength d.piece_length
-    → IsDraftFile d.piece_length d.hybrid path content f → hashes ≡ piece_hashes d.piece_length content → All (λ h. length h ≡ 32) hashes → FitsLayer d f hashes
+    → IsDraftFile d.piece_length d.hybrid path content f → hashes ≡ piece_hashes d.piece_length content → AreHashes hashes → FitsLayer d f hashes
 fits_layer d path content f hashes legal file are widths longer =
     let n : ℕ = length content in
     let layer : ℕ = piece_layer d.piece_length in

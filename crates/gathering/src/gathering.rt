@@ -9,12 +9,12 @@ ghost use Rattle.gathering.specs.Steps.{AddsAll, AddsPath, AreWithin};
 
 use crate::file_fault::FileFault;
 use crate::gather_fault::GatherFault;
-use crate::hashing::are_hashes;
 use crate::kind::TorrentKind;
 use crate::visiting::hash_file;
 use drafts::Draft;
 use filetree::Refusal;
 use folders::{BUFFER_LENGTH, Shelf};
+use hashtree::are_hashes;
 use std::alloc::Global;
 
 // Why not all files were added: the number of the path at which it stopped, and what happened.

@@ -1,6 +1,6 @@
 //! The hashing of one file, for its root, its piece layer, and for a hybrid the digests of its
 //! cuts.
-ghost use Rattle.std.specs.Prelude.{[], All, IfOk, OnErr, length, ◌≡◌};
+ghost use Rattle.std.specs.Prelude.{[], IfOk, OnErr};
 ghost use Rattle.gathering.specs.Collecting.{EndsWithWhole, MayFinish, MayLackMemory};
 ghost use Rattle.gathering.specs.Hashing.{Begins, BeginsCuts, CutsMayLackMemory, EndsWithCuts, EndsWithHashes, MayEndWithout};
 
@@ -96,11 +96,6 @@ impl Consumer for Hashing {
 
     ghost room_for_less = { hashed_less };
 }
-
-/// Each hash has 32 bytes, as its type says.
-pub(crate) fn are_hashes(hashes: &[Hash])
-    ensures { All (λ h. length h ≡ 32) hashes.now }
-{}
 
 // The length, the root and the layer of the file whose bytes the builder took, if memory was not
 // refused to it. A builder that took nothing was refused memory.

@@ -1,9 +1,9 @@
 -- Rows that are compared one hash after the other.
-use Rattle.std.proofs.Common.{◌≡◌, ℕ, ◌+◌, ◌-◌, ◌/◌, ◌<◌, ◌≤◌, Option, Some, List, [], ◌∷◌, ◌++◌, length, get_or, ap, sym, ◌∙◌, subst, arith, if◌then◌else◌, inl, inr}
+use Rattle.std.proofs.Common.{◌≡◌, ℕ, ◌+◌, ◌-◌, ◌/◌, ◌<◌, ◌≤◌, Option, Some, List, [], ◌∷◌, ◌++◌, length, get_or, refl, ap, sym, ◌∙◌, subst, arith, if◌then◌else◌, inl, inr}
 use Rattle.std.specs.Prelude.{slice_get, unwrap_or}
 use Rattle.std.specs.Option.{option_to_list}
 use Rattle.std.proofs.lemmas.Bool.{cases_lt, le-leb}
-use Rattle.std.proofs.lemmas.List.{length_push, get_or_push, get_or_append_left}
+use Rattle.std.proofs.lemmas.List.{append-nil, append_assoc, length-append, length_push, get_or_push, get_or_append_left}
 use Rattle.std.proofs.lemmas.List.FromFn.{length-map-range_with_len}
 use Rattle.std.proofs.lemmas.Option.{slice_get_past, slice_get-get_or, unwrap_or-slice_get}
 use Rattle.hashtree.specs.declared.piece_check.PieceCheck.{PieceCheck}
@@ -11,7 +11,7 @@ use Rattle.hashtree.specs.Tree.{block_count, first_pad, height, layer_count, lay
 use Rattle.hashtree.specs.Complete.{complete_nodes}
 use Rattle.hashtree.specs.RootBuilder.{IsFed}
 use Rattle.hashtree.specs.Difference.{IsCompared, IsFirstDifference}
-use Rattle.hashtree.specs.PieceCheck.{IsFedCheck}
+use Rattle.hashtree.specs.PieceCheck.{FeedsCheck, IsFedCheck}
 use Rattle.hashtree.proofs.Heights.{first_pad-place}
 use Rattle.hashtree.proofs.Complete.{length-complete_nodes, one_uncovered}
 
@@ -111,3 +111,21 @@ checked b q file more node at fed completed layer shape hashes compared =
       nodes = subst (λ t. IsCompared q.hashes.now t q.place q.other) (sym now)
           (subst (λ hs. IsCompared hs (complete_nodes file b.layer ++ option_to_list node) q.place q.other) (sym hashes) compared);
     }
+
+pub check_none : (b : PieceCheck) → FeedsCheck b [] b
+check_none b = record {
+  count = omega arith;
+  shape = refl;
+  layer = refl;
+  hashes = refl;
+  fed = λ file fed. subst (IsFedCheck b) (sym (append-nil file)) fed;
+}
+
+pub check_both : (a b c : PieceCheck) (x y : List ℕ) → FeedsCheck a x b → FeedsCheck b y c → FeedsCheck a (x ++ y) c
+check_both a b c x y one two = record {
+  count = omega (arith, one.count, two.count, length-append x y);
+  shape = two.shape ∙ one.shape;
+  layer = two.layer ∙ one.layer;
+  hashes = two.hashes ∙ one.hashes;
+  fed = λ file fed. subst (IsFedCheck c) (append_assoc file x y) (two.fed (file ++ x) (one.fed file fed));
+}

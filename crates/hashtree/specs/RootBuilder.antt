@@ -31,15 +31,31 @@ pub record IsFed (b : RootBuilder) (content : List ℕ) : Type 0 where
 abbrev pub closed_nodes : RootBuilder → List ℕ → ℕ → List (List ℕ)
 closed_nodes b content layer = climb layer (block_hashes content b.peaks.count)
 
+-- the last block took the first of these bytes, all but these; no block was closed
+pub record FillsBlock (old : RootBuilder) (bytes : List ℕ) (new : RootBuilder) (rest : List ℕ)
+    : Type 0 where
+  pub part : List ℕ
+  pub bytes_are : bytes ≡ part ++ rest
+  pub some : 0 < length part
+  pub peaks : new.peaks ≡ old.peaks
+  pub filled : new.filled ≡ old.filled + length part
+  pub content : (file : List ℕ) → IsAt old file → IsAt new (file ++ part)
+
 -- the builder was given these further bytes
 pub record Feeds (old : RootBuilder) (bytes : List ℕ) (new : RootBuilder) : Type 0 where
   pub count : byte_count new ≡ byte_count old + length bytes
   pub fed : (file : List ℕ) → IsFed old file → IsFed new (file ++ bytes)
 
--- the further bytes complete this node of a layer, or none
-abbrev pub Completes : RootBuilder → List ℕ → ℕ → Option (List ℕ) → Type 0
-Completes old bytes layer node = (file : List ℕ) → IsFed old file
-    → complete_nodes (file ++ bytes) layer ≡ complete_nodes file layer ++ option_to_list node
+-- the first of these bytes were taken, at least one, all but these; they complete this node of a
+-- layer, or none
+pub record TakesPart (old : RootBuilder) (bytes : List ℕ) (new : RootBuilder) (rest : List ℕ)
+    (layer : ℕ) (node : Option (List ℕ)) : Type 0 where
+  pub part : List ℕ
+  pub bytes_are : bytes ≡ part ++ rest
+  pub some : 0 < length part
+  pub feeds : Feeds old part new
+  pub completes : (file : List ℕ) → IsFed old file
+      → complete_nodes (file ++ part) layer ≡ complete_nodes file layer ++ option_to_list node
 
 -- this is the length and the root of the content that the builder was given
 abbrev pub EndsWith : RootBuilder → ℕ → List ℕ → Type 0

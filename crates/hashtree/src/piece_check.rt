@@ -5,8 +5,8 @@ ghost use Rattle.std.specs.Option.{option_to_list};
 ghost use Rattle.hashtree.specs.Difference.{IsCompared, IsComparison};
 ghost use Rattle.hashtree.specs.Tree.{block_count, first_pad, height, root_of};
 
-use crate::next_leaves::NextLeaves;
 use crate::node::Hash;
+use crate::parts::Parts;
 use crate::root::RootBuilder;
 use crate::shape::Shape;
 
@@ -65,13 +65,10 @@ impl<'a> PieceCheck<'a> {
         requires { byte_count self.old + length bytes.now ≤ chosen_shape self.old }
         ensures { FeedsCheck self.old bytes.now self.new }
     {
-        let mut next = NextLeaves::new();
-        let mut start = 0;
-        'parts: while start < bytes.len() {
-            let rest = &bytes[start..];
-            let (taken, node) = self.builder.take_part(rest, self.layer, &mut next);
+        let mut parts = Parts::new(bytes);
+        'parts: while !parts.is_empty() {
+            let node = self.builder.take_part(&mut parts, self.layer);
             (self.place, self.other) = compare(self.hashes, self.place, self.other, node);
-            start += taken;
         }
     }
 

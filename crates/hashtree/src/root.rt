@@ -5,8 +5,8 @@ ghost use Rattle.sha2.specs.Hashers.{Holds256};
 ghost use Rattle.sha2.specs.Sha256.{sha256};
 ghost use Rattle.hashtree.specs.Tree.{block_count, height, layer_of};
 
-use crate::next_leaves::NextLeaves;
 use crate::node::{Hash, PAD_LEAF};
+use crate::parts::Parts;
 use crate::peaks::{ABOVE_ROOT, Peaks};
 use crate::shape::{BLOCK, BLOCK_LENGTH, Shape};
 use sha2::{Digest, Sha256};
@@ -29,8 +29,8 @@ pub struct RootBuilder {
 
 impl RootBuilder {
     ghost use Rattle.hashtree.specs.Complete.{complete_nodes};
-    ghost use Rattle.hashtree.specs.RootBuilder.{Completes, EndsWith, Feeds, IsAt, IsFed, byte_count, closed_nodes};
-    ghost use Rattle.hashtree.specs.NextLeaves.{AreNext};
+    ghost use Rattle.hashtree.specs.Parts.{rest_of};
+    ghost use Rattle.hashtree.specs.RootBuilder.{EndsWith, Feeds, FillsBlock, IsAt, IsFed, TakesPart, byte_count, closed_nodes};
     ghost use Rattle.std.specs.Option.{option_to_list};
 
     /// A builder that was given nothing.
@@ -66,11 +66,9 @@ impl RootBuilder {
         requires { byte_count self.old + length bytes.now ≤ 2 ^ 46 }
         ensures { Feeds self.old bytes.now self.new }
     {
-        let mut next = NextLeaves::new();
-        let mut start = 0;
-        'parts: while start < bytes.len() {
-            let (taken, _) = self.take_part(&bytes[start..], ABOVE_ROOT, &mut next);
-            start += taken;
+        let mut parts = Parts::new(bytes);
+        'parts: while !parts.is_empty() {
+            self.take_part(&mut parts, ABOVE_ROOT);
         }
     }
 
@@ -108,36 +106,25 @@ impl RootBuilder {
         (length, root, node)
     }
 
-    /// Takes the first of these bytes, for a caller that keeps the nodes of a layer itself: at most
-    /// as many as the last block still takes. Returns how many, and the next node of `layer`, if
-    /// these bytes complete it: the blocks under it are whole, and a byte came after them. The
-    /// layer's last node never is complete before [`RootBuilder::finish_layer`].
-    ///
-    /// `next` keeps leaves between the calls for one slice: begin with [`NextLeaves::new`], and
-    /// hand it on to the call that takes the bytes after these. Conditions: there is a byte,
-    /// [`RootBuilder::len`] and the number of bytes are at most 2^46 together, and `next` has
-    /// leaves of these bytes, or none.
-    pub fn take_part(
-        &mut self,
-        bytes: &[u8],
-        layer: u32,
-        next: &mut NextLeaves,
-    ) -> (usize, Option<Hash>)
-        requires some { 0 < length bytes.now }
-        requires room { byte_count self.old + length bytes.now ≤ 2 ^ 46 }
-        requires next { AreNext next.old bytes.now }
-        ensures some { 0 < result.0 }
-        ensures bound { result.0 ≤ length bytes.now }
-        ensures fed { Feeds self.old (take result.0 bytes.now) self.new }
-        ensures node { Completes self.old (take result.0 bytes.now) layer result.1 }
-        ensures next { AreNext next.new (drop result.0 bytes.now) }
+    /// Takes the first of the bytes that are left, for a caller that keeps the nodes of a layer
+    /// itself: at most as many as the last block still takes. Returns the next node of `layer`, if
+    /// these bytes complete it: all blocks under it are whole, and a byte came after them. So the
+    /// layer's last node is complete at the end alone, and [`RootBuilder::finish_layer`] returns
+    /// it. Conditions: a byte is left, and [`RootBuilder::len`] and the number of bytes left are at
+    /// most 2^46 together.
+    pub fn take_part(&mut self, parts: &mut Parts<'_>, layer: u32) -> Option<Hash>
+        requires some { 0 < length (rest_of parts.old) }
+        requires room { byte_count self.old + length (rest_of parts.old) ≤ 2 ^ 46 }
+        ensures { TakesPart self.old (rest_of parts.old) self.new (rest_of parts.new)
+            layer result }
     {
         let completed = if self.filled == BLOCK {
             self.close_block(layer)
         } else {
             None
         };
-        (self.fill_next(bytes, next), completed)
+        self.fill_block(parts);
+        completed
     }
 
     // Makes a leaf of the last block, which is full. Returns the node of `layer` that it completes.
@@ -154,51 +141,26 @@ impl RootBuilder {
         self.peaks.push(self.last, layer)
     }
 
-    // Takes a whole block whose leaf is known, or as many of these bytes as the last block still
-    // takes.
-    fn fill_next(&mut self, bytes: &[u8], next: &mut NextLeaves) -> usize
+    // Takes a whole block whose leaf is known, or as many bytes as the last block still takes.
+    fn fill_block(&mut self, parts: &mut Parts<'_>)
         requires open { self.old.filled < 16384 }
-        requires some { 0 < length bytes.now }
-        requires room { byte_count self.old + length bytes.now ≤ 2 ^ 46 }
-        requires next { AreNext next.old bytes.now }
-        ensures some { 0 < result }
-        ensures bound { result ≤ length bytes.now }
-        ensures peaks { self.new.peaks ≡ self.old.peaks }
-        ensures filled { self.new.filled ≡ self.old.filled + result }
-        ensures content { (file : List ℕ) → IsAt self.old file
-            → IsAt self.new (file ++ take result bytes.now) }
-        ensures next { AreNext next.new (drop result bytes.now) }
+        requires some { 0 < length (rest_of parts.old) }
+        requires room { byte_count self.old + length (rest_of parts.old) ≤ 2 ^ 46 }
+        ensures { FillsBlock self.old (rest_of parts.old) self.new (rest_of parts.new) }
     {
         if self.filled == 0 {
-            if let Some(leaf) = next.take(bytes) {
+            if let Some(leaf) = parts.take_block() {
                 self.last = leaf;
                 self.filled = BLOCK;
-                return BLOCK;
+                return;
             }
         }
-        next.clear();
-        self.fill_block(bytes)
-    }
-
-    // Takes as many of these bytes as the last block still takes.
-    fn fill_block(&mut self, bytes: &[u8]) -> usize
-        requires open { self.old.filled < 16384 }
-        requires some { 0 < length bytes.now }
-        requires room { byte_count self.old + length bytes.now ≤ 2 ^ 46 }
-        ensures some { 0 < result }
-        ensures bound { result ≤ length bytes.now }
-        ensures peaks { self.new.peaks ≡ self.old.peaks }
-        ensures filled { self.new.filled ≡ self.old.filled + result }
-        ensures content { (file : List ℕ) → IsAt self.old file
-            → IsAt self.new (file ++ take result bytes.now) }
-    {
-        let taken = bytes.len().min(BLOCK - self.filled);
-        self.hasher.update(&bytes[..taken]);
-        self.filled += taken;
+        let part = parts.take_bytes(BLOCK - self.filled);
+        self.hasher.update(part);
+        self.filled += part.len();
         if self.filled == BLOCK {
             self.last = self.hasher.finalize_reset();
         }
-        taken
     }
 }
 

@@ -10,10 +10,9 @@ use Rattle.folders.specs.TakeAll.{TookAll}
 use Rattle.folders.proofs.Pieces.{all_given}
 use Rattle.hashtree.specs.declared.root.RootBuilder.{RootBuilder}
 use Rattle.hashtree.specs.Complete.{complete_nodes}
-use Rattle.hashtree.specs.RootBuilder.{IsFed}
+use Rattle.hashtree.specs.RootBuilder.{Feeds, IsFed}
 use Rattle.hashtree.specs.Tree.{block_count, height, layer_count, layer_of, node, root_of}
 use Rattle.hashtree.proofs.Complete.{length-complete_nodes}
-use Rattle.hashtree.proofs.Feeding.{next_part}
 use Rattle.opening.specs.Description.{TreeEntry}
 use Rattle.partial_tree.specs.Grown.{GrownTree}
 use Rattle.seeding.specs.Leaves.{EndsWithTree, HadFitting, HasRefused, HasRoomForBytes, IsFedLeaves, IsFull, Pushes, ReadsLeaves}
@@ -65,14 +64,15 @@ kept-leaf l q mid content more leaf at fed completed builder kept = record {
   ];
 }
 
--- so many bytes of what is taken are within the file's length
-pub part-fits : {N : Type 0} (old : Leaves N) (part : List ℕ) (start taken len : ℕ) (room : HasRoomForBytes old (length part)) → start + taken ≤ length part
-    → len ≡ old.tree.length
-    → length ((room.content ++ take start part) ++ take taken (take (length part - start) (drop start part))) ≤ len
-part-fits old part start taken len room within same =
-    let whole = ap length (next_part room.content part start taken) ∙ length-append room.content (take (start + taken) part) in
-    let taken-all = length-take-le (start + taken) part within in
-    omega (arith, whole, taken-all, room.fits, same)
+-- a part is given, and the leaf that it completes is kept
+pub keeps-part : {N : Type 0} (l q : Leaves N) (mid : RootBuilder) (part : List ℕ) (leaf : Option (List ℕ)) → Feeds l.builder part mid
+    → ((file : List ℕ) → IsFed l.builder file → complete_nodes (file ++ part) 0 ≡ complete_nodes file 0 ++ option_to_list leaf)
+    → q.builder ≡ mid → q.tree.length ≡ l.tree.length
+    → HasRefused q ⊎ ((HasRefused l → ⊥) × (q.tree.leaves ≡ l.tree.leaves ++ option_to_list leaf)) → Pushes l part q
+keeps-part l q mid part leaf feeds completes builder same kept = record {
+  same_length = same;
+  fed = λ file at. kept-leaf l q mid file (file ++ part) leaf at (feeds.fed file at.fed) (completes file at.fed) builder kept;
+}
 
 -- ---- the end
 

@@ -9,7 +9,7 @@ ghost use Rattle.seeding.specs.Leaves.{EndsWithTree, HadFitting, HasRefused, IsF
 
 use benc::Source;
 use folders::{Consumer, ReadFault, take_all};
-use hashtree::{Hash, NextLeaves, NoMemory, RootBuilder, Shape};
+use hashtree::{Hash, NoMemory, Parts, RootBuilder, Shape};
 use node_maps::NodeMap;
 use opening::TreeInfo;
 use partial_tree::{GrowingTree, GrownTree};
@@ -33,12 +33,10 @@ impl<N: NodeMap> Consumer for Leaves<N> {
     ghost took = { Pushes };
 
     fn take(&mut self, part: &[u8]) {
-        let mut next = NextLeaves::new();
-        let mut start = 0;
-        'parts: while start < part.len() {
-            let (taken, leaf) = self.builder.take_part(&part[start..], 0, &mut next);
+        let mut parts = Parts::new(part);
+        'parts: while !parts.is_empty() {
+            let leaf = self.builder.take_part(&mut parts, 0);
             self.keep(leaf);
-            start += taken;
         }
     }
 

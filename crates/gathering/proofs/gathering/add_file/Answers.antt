@@ -1,5 +1,5 @@
 use Rattle.std.proofs.Common.{◌≡◌, ◌∙◌, length, map, refl, sym, subst}
-use Rattle.std.specs.List.{All}
+use Rattle.hashtree.specs.Hashes.{AreHashes}
 use Rattle.std.proofs.lemmas.Result.{err_from_is_err_and}
 use Rattle.pieces.specs.Pieces.{IsPieceLength}
 use Rattle.gathering.proofs.Adding.{added_is, fits_layer, given_is, has_cuts, of_draft}
@@ -16,7 +16,7 @@ add-requires g c =
       cuts = has_cuts d _ _ _ file;
       fits = fits_layer d _ visits.0 _ c.deref-2.result.now (subst IsPieceLength (sym c.requires.piece_length) c.is_legal.ensures) file
           (c.deref-2.ensures.value ∙ hashes.layer_is)
-          (subst (All (λ h. length h ≡ 32)) (c.deref.ensures.value ∙ sym c.deref-2.ensures.value) c.are_hashes.ensures);
+          (subst AreHashes (c.deref.ensures.value ∙ sym c.deref-2.ensures.value) c.are_hashes.ensures);
     }
 
 pub returns-clause-adds : goal.returns-clause-adds

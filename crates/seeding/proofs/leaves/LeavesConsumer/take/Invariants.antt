@@ -1,15 +1,10 @@
-use Rattle.std.proofs.Common.{◌≡◌, ◌≤◌, ◌-◌, ◌++◌, ℕ, List, length, take, drop}
-use Rattle.hashtree.specs.NextLeaves.{AreNext}
-use Rattle.seeding.specs.Leaves.{IsFedLeaves}
+use Rattle.std.proofs.Common.{length}
+use Rattle.hashtree.specs.Parts.{TakesFront, rest_of}
+use Rattle.seeding.specs.Leaves.{Pushes}
 use Rattle.seeding.proofs.leaves.LeavesConsumer.take.Given as goal
 
 abbrev pub invariant-parts : goal.invariant-parts
-invariant-parts g l = record {
-  within : l.start ≤ length l.part;
-  next : AreNext l.next (drop l.start l.part);
-  same_length : l.self.tree.length ≡ l.fn.self.tree.length;
-  fed : (file : List ℕ) → IsFedLeaves l.fn.self file → IsFedLeaves l.self (file ++ take l.start l.part);
-}
+invariant-parts g l = TakesFront Pushes l.fn.self l.part l.self (rest_of l.parts)
 
 abbrev pub decreases-parts : goal.decreases-parts
-decreases-parts g l = length l.initial.part - l.start
+decreases-parts g l = length (rest_of l.parts)
