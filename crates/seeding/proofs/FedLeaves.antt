@@ -1,8 +1,8 @@
 -- What takes a file's bytes for its leaves: how many leaves its tree has, and what stands at the end.
-use Rattle.std.proofs.Common.{◌≡◌, ◌⊎◌, ℕ, ◌+◌, ◌-◌, ◌/◌, ◌<◌, ◌≤◌, ◌++◌, List, [], ◌∷◌, length, take, drop, Option, Some, None, OnSome, Result, Ok, Err}
+use Rattle.std.proofs.Common.{◌≡◌, ◌⊎◌, ℕ, ◌+◌, ◌-◌, ◌/◌, ◌<◌, ◌≤◌, ◌++◌, List, [], ◌∷◌, length, Option, Some, None, OnSome, Result, Ok, Err}
 use Rattle.std.proofs.Common.{IfErr, inl, inr, sym, ap, ◌∙◌, subst, arith, div-one, option_map}
 use Rattle.std.specs.Option.{option_to_list}
-use Rattle.std.proofs.lemmas.List.{length-append, length-take-le}
+use Rattle.std.proofs.lemmas.List.{length-append}
 use Rattle.std.proofs.lemmas.List.FromFn.{length-map-range_with_len}
 use Rattle.std.proofs.lemmas.Bool.{cond-true, le-leb}
 use Rattle.benc.specs.Device.{SourceSeen}
@@ -15,7 +15,7 @@ use Rattle.hashtree.specs.Tree.{block_count, height, layer_count, layer_of, node
 use Rattle.hashtree.proofs.Complete.{length-complete_nodes}
 use Rattle.opening.specs.Description.{TreeEntry}
 use Rattle.partial_tree.specs.Grown.{GrownTree}
-use Rattle.seeding.specs.Leaves.{EndsWithTree, HadFitting, HasRefused, HasRoomForBytes, IsFedLeaves, IsFull, Pushes, ReadsLeaves}
+use Rattle.seeding.specs.Leaves.{EndsWithTree, HadFitting, HasRefused, IsFedLeaves, IsFull, Pushes, ReadsLeaves}
 use Rattle.seeding.specs.declared.leaves.Leaves.{Leaves}
 
 -- what holds of each error holds of the one that is answered

@@ -1,8 +1,8 @@
-use Rattle.std.proofs.Common.{◌≡◌, ◌+◌, ◌≤◌, ◌++◌, length, ap, arith}
+use Rattle.std.proofs.Common.{◌≡◌, ◌++◌, length, ap, arith}
 use Rattle.std.proofs.lemmas.List.{length-append}
 use Rattle.hashtree.specs.RootBuilder.{byte_count}
 use Rattle.hashtree.specs.Parts.{rest_of}
-use Rattle.hashtree.proofs.Fronts.{front_all, front_lengths, front_more, front_none}
+use Rattle.hashtree.proofs.Fronts.{front_lengths, front_more, front_none}
 use Rattle.seeding.specs.Leaves.{Pushes}
 use Rattle.seeding.specs.LeavesLaws.{pushed_both, pushed_none}
 use Rattle.seeding.proofs.FedLeaves.{leaf-fits, keeps-part}
@@ -17,8 +17,15 @@ take_part-leaf-requires-clause-room g c =
     let room = c.requires in
     let at = front.taken.fed room.content room.fed in
     let count : byte_count c.parts.self.builder ≡ length (room.content ++ front.front) = at.fed.at.length_is in
-    omega (arith, count, length-append room.content front.front, ap length front.bytes_are,
-    length-append front.front (rest_of c.parts.parts), room.fits, room.bound)
+    omega (
+      arith,
+      count,
+      length-append room.content front.front,
+      ap length front.bytes_are,
+      length-append front.front (rest_of c.parts.parts),
+      room.fits,
+      room.bound,
+    )
 
 pub keep-requires : goal.keep-requires
 keep-requires g c =
@@ -30,8 +37,14 @@ keep-requires g c =
     record {
       room = leaf-fits c.parts.self (room.content ++ front.front) ((room.content ++ front.front) ++ part.part) c.take_part-leaf.result at
           (part.completes (room.content ++ front.front) at.fed)
-          (omega (arith, size, room.fits, front.taken.same_length, length-append room.content front.front,
-          length-append (room.content ++ front.front) part.part));
+          (omega (
+            arith,
+            size,
+            room.fits,
+            front.taken.same_length,
+            length-append room.content front.front,
+            length-append (room.content ++ front.front) part.part,
+          ));
     }
 
 pub parts-preserved : goal.parts-preserved
