@@ -4,6 +4,7 @@ use Rattle.std.proofs.Common.{refl, sym, ◌∙◌, ap, subst, arith}
 use Rattle.std.specs.List.{range_with_len}
 use Rattle.std.proofs.Math.Nat.{div-eq_of_lt-le, div-mul-le_self, mul-le-mul_right}
 use Rattle.std.proofs.Math.Pow.{pow_mono}
+use Rattle.std.proofs.lemmas.Bool.{cases_lt}
 use Rattle.std.proofs.lemmas.Nat.{le-div, pow_pos}
 use Rattle.hashtree.proofs.Comparing.{length-layer_of}
 use Rattle.hashtree.proofs.Heights.{height_enough}
@@ -86,9 +87,6 @@ told_whole piece_length hybrid before after content told begins hashes ends =
 
 -- ---- memory
 
-low_or_high : (m n : ℕ) → (m ≤ n) ⊎ (suc n ≤ m)
-low_or_high m n = grind arith
-
 -- a layer of which a node is complete is not above the root
 complete_is_low : (layer n : ℕ) → 0 < complete_count layer n → layer ≤ height (block_count n)
 complete_is_low layer n some =
@@ -99,10 +97,10 @@ complete_is_low layer n some =
     let b : 1 * 2 ^ layer ≤ blocks / 2 ^ layer * 2 ^ layer = mul-le-mul_right (2 ^ layer) some in omega (arith, a, b)) in
     let few : blocks ≤ block_count n = omega arith in
     let enough : block_count n ≤ 2 ^ h = height_enough (block_count n) in
-    elim (low_or_high layer h) [
-      | inl low ↦ low
-      | inr high ↦
-          let up : 2 ^ suc h ≤ 2 ^ layer = pow_mono high in
+    elim (cases_lt h layer) [
+      | inr low ↦ low
+      | inl high ↦
+          let up : 2 ^ suc h ≤ 2 ^ layer = pow_mono {i = suc h} {j = layer} (omega (arith, high)) in
           absurd (omega (arith, node, few, enough, up, two-pow h, pow_pos h))
     ]
 

@@ -2,12 +2,12 @@
 -- room for less.
 use Rattle.std.proofs.Common.{◌≡◌, ◌⊎◌, inl, inr, Bool, true, false, ℕ, ◌+◌, ◌-◌, ◌*◌, ◌/◌, ◌^◌, ◌<◌, ◌≤◌, ◌++◌, List, [], length, refl, sym, ◌∙◌, subst}
 use Rattle.std.proofs.Common.{append_assoc, append-nil, arith}
-use Rattle.std.proofs.Math.Nat.{div-mul-le_self}
+use Rattle.std.proofs.Math.Pow.{shr_mono}
 use Rattle.std.proofs.lemmas.List.{length-append}
-use Rattle.std.proofs.lemmas.Nat.{le-div, pow_pos}
 use Rattle.hashtree.specs.Complete.{complete_count}
 use Rattle.hashtree.specs.LayerBuilder.{FeedsLayer, HasRefused, IsFedLayer, byte_count, chosen_layer}
 use Rattle.hashtree.specs.declared.layer.LayerBuilder.{LayerBuilder}
+use Rattle.hashtree.proofs.Keeping.{layer_both, layer_none}
 use Rattle.gathering.specs.Collecting.{CanCollect, Collects}
 
 refused_or_not : (flag : Bool) → (flag ≡ true) ⊎ (flag ≡ true → ⊥)
@@ -22,28 +22,17 @@ collected_none b = record {
   again = λ refused. refused;
   fed = elim (refused_or_not b.is_refused) [
     | inl refused ↦ inl refused
-    | inr works ↦ inr (record {
-      count = omega arith;
-      layer = refl;
-      fed = λ file fed. subst (IsFedLayer b) (sym (append-nil file)) fed;
-      works = works;
-    })
+    | inr works ↦ inr (layer_none b works)
   ];
   why = λ refused file fed. inl refused;
 }
 
-less_divided : (k m n : ℕ) → 0 < k → m ≤ n → m / k ≤ n / k
-less_divided k m n some le =
-    le-div (m / k) n k some (let e : m / k * k ≤ n = omega (arith, div-mul-le_self m k, le) in e)
-
 -- more bytes complete no fewer nodes
 more_complete : (layer m n : ℕ) → m ≤ n → 0 < complete_count layer m → 0 < complete_count layer n
 more_complete layer m n le some =
-    let a : (m - 1) / 16384 ≤ (n - 1) / 16384 =
-    less_divided 16384 (m - 1) (n - 1) (omega arith) (omega arith) in
-    let b : (m - 1) / 16384 / 2 ^ layer ≤ (n - 1) / 16384 / 2 ^ layer =
-    less_divided (2 ^ layer) ((m - 1) / 16384) ((n - 1) / 16384) (pow_pos layer) a in
-    omega (arith, b, some)
+    let least : (m - 1) / 16384 ≤ (n - 1) / 16384 = omega arith in
+    let least_nodes : complete_count layer m ≤ complete_count layer n = shr_mono layer least in
+    omega (arith, least_nodes, some)
 
 both_fed : (a b c : LayerBuilder) (x y : List ℕ) → Collects a x b → Collects b y c
     → HasRefused c ⊎ FeedsLayer a (x ++ y) c
@@ -51,13 +40,7 @@ both_fed a b c x y one two = elim two.fed [
   | inl refused ↦ inl refused
   | inr next ↦ elim one.fed [
     | inl refused ↦ inl (two.again refused)
-    | inr first ↦ inr (record {
-      count = omega (arith, next.count, first.count, length-append x y);
-      layer = next.layer ∙ first.layer;
-      fed = λ file fed. subst (IsFedLayer c) (append_assoc file x y)
-          (next.fed (file ++ x) (first.fed file fed));
-      works = next.works;
-    })
+    | inr first ↦ inr (layer_both a b c x y first next)
   ]
 ]
 

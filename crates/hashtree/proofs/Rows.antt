@@ -1,16 +1,17 @@
 -- A layer of a file's tree, as the peaks have it: its complete nodes, and the last one.
-use Rattle.std.proofs.Common.{◌≡◌, ℕ, zero, suc, ◌+◌, ◌-◌, ◌*◌, ◌/◌, ◌^◌, ◌<◌, ◌≤◌, List, [], ◌∷◌, ◌++◌, length, take, drop, replicate, map, get_or}
+use Rattle.std.proofs.Common.{◌≡◌, ℕ, Option, Some, None, zero, suc, ◌+◌, ◌-◌, ◌*◌, ◌/◌, ◌^◌, ◌<◌, ◌≤◌, List, [], ◌∷◌, ◌++◌, length, take, drop, replicate, map, get_or}
 use Rattle.std.proofs.Common.{if◌then◌else◌, ap, sym, ◌∙◌, subst, arith}
 use Rattle.std.proofs.Math.Pow.{pow_mono}
 use Rattle.std.proofs.lemmas.Bool.{le-leb, lt-leb}
-use Rattle.std.proofs.lemmas.List.{append_assoc, length-take, length-drop, length_push, get_or_append_left, get_or-drop, get_or-take, nil_from_length}
+use Rattle.std.proofs.lemmas.List.{append-nil, append_assoc, length-take, length-drop, length_push, get_or_append_left, get_or-drop, get_or-take, nil_from_length}
 use Rattle.std.proofs.lemmas.List.FromFn.{fill_by_all}
 use Rattle.std.specs.List.{range_with_len}
+use Rattle.std.specs.Option.{option_to_list}
 use Rattle.sha2.specs.Sha256.{sha256}
 use Rattle.hashtree.specs.Tree.{block_count, block_hashes, first_pad, height, layer_count, layer_of, leaves, node, node_over, pad_leaf, root_of, tree}
 use Rattle.hashtree.specs.declared.root.RootBuilder.{RootBuilder}
 use Rattle.hashtree.specs.RootBuilder.{IsFed, byte_count}
-use Rattle.hashtree.specs.Climb.{climb, copies, layer_with, padded, pairs}
+use Rattle.hashtree.specs.Climb.{EndsLayer, climb, copies, layer_with, padded, pairs}
 use Rattle.hashtree.proofs.Pairs.{two-pow, length-pairs, take-pairs, drop-pairs, tree-climb, climb-lt}
 use Rattle.hashtree.proofs.Heights.{first_pad-fits, height_enough}
 use Rattle.hashtree.proofs.Blocks.{block_count_is, leaves_split, length-block_hashes, root_split}
@@ -125,3 +126,16 @@ finished_root b file last h root f is =
     is
     ∙ ap (λ k. tree k (padded k (block_hashes file b.peaks.count) last pad_leaf)) f.height_is
     ∙ sym (root_split file b.peaks.count last f.from f.to f.last_is)
+
+-- the complete nodes of a layer and the node at its end, if the tree has it, are the layer
+pub layer_ended : (b : RootBuilder) (file last : List ℕ) (h layer : ℕ) (node : Option (List ℕ)) → Finishing b file last h
+    → EndsLayer h layer (block_hashes file b.peaks.count) last node
+    → climb layer (block_hashes file b.peaks.count) ++ option_to_list node ≡ layer_of file layer
+layer_ended b file last h layer None f ends =
+    append-nil (climb layer (block_hashes file b.peaks.count))
+    ∙ layer_above file b.peaks.count layer f.from f.to (omega (arith, ends, f.height_is))
+layer_ended b file last h layer (Some node) f (low, ends) =
+    let n : ℕ = b.peaks.count in
+    layer_complete file n layer last node f.from f.to f.last_is (subst (λ k. layer ≤ k) f.height_is low)
+    (subst (λ k. climb layer (padded k (block_hashes file n) last pad_leaf)
+    ≡ layer_with k layer (climb layer (block_hashes file n)) node pad_leaf) f.height_is ends)

@@ -1,6 +1,6 @@
 //! The leaves so far, as the roots of whole subtrees: at most one a layer.
 
-ghost use Rattle.std.specs.Prelude.{◌≡◌, ℕ, ◌+◌, ◌-◌, ◌%◌, ◌^◌, ◌<◌, ◌≤◌, ◌∷◌, ◌++◌, [], List, length, replicate};
+ghost use Rattle.std.specs.Prelude.{◌≡◌, ℕ, ◌+◌, ◌-◌, ◌%◌, ◌^◌, ◌<◌, ◌≤◌, ◌∷◌, ◌++◌, [], List, OnSome, length, replicate};
 ghost use Rattle.std.specs.Option.{option_to_list};
 ghost use Rattle.hashtree.specs.Tree.{tree};
 
@@ -25,7 +25,7 @@ pub(crate) struct Peaks {
 }
 
 impl Peaks {
-    ghost use Rattle.hashtree.specs.Climb.{AddsLeaf, AddsLeaves, HoldsLeaves, IsWholeTree, LeafCompletes, LeavesComplete, climb, layer_with, padded};
+    ghost use Rattle.hashtree.specs.Climb.{AddsLeaf, AddsLeaves, HoldsLeaves, IsWholeTree, LeafCompletes, LeavesComplete, EndsLayer, climb, layer_with, padded};
 
     /// A row of no leaves.
     pub(crate) fn new() -> Peaks
@@ -116,5 +116,19 @@ impl Peaks {
             width /= 2;
         }
         node
+    }
+
+    /// The last node of this layer of the tree over the leaves, `last` and pad leaves, if the tree
+    /// has that layer.
+    pub(crate) fn end_of_layer(&self, last: Hash, layer: u32, height: u32) -> Option<Hash>
+        requires { height ≤ 32 }
+        ensures in_tree { OnSome result (layer ≤ height) }
+        ensures ends { (xs : List (List ℕ)) → HoldsLeaves self.now xs → length xs < 2 ^ height
+            → EndsLayer height layer xs last result }
+    {
+        if layer > height {
+            return None;
+        }
+        Some(self.last_node(last, PAD_LEAF, layer))
     }
 }

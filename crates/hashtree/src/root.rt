@@ -29,8 +29,8 @@ pub struct RootBuilder {
 
 impl RootBuilder {
     ghost use Rattle.hashtree.specs.Complete.{complete_nodes};
-    ghost use Rattle.hashtree.specs.Parts.{rest_of};
-    ghost use Rattle.hashtree.specs.RootBuilder.{EndsWith, Feeds, FillsBlock, IsAt, IsFed, TakesPart, byte_count, closed_nodes};
+    ghost use Rattle.hashtree.specs.Parts.{TakesFront, rest_of};
+    ghost use Rattle.hashtree.specs.RootBuilder.{EndsWith, Feeds, Fills, IsAt, IsFed, TakesPart, byte_count, closed_nodes};
     ghost use Rattle.std.specs.Option.{option_to_list};
 
     /// A builder that was given nothing.
@@ -98,20 +98,14 @@ impl RootBuilder {
         let last = last_leaf(self.hasher, self.filled, self.last);
         let height = Shape::of(length).unwrap().height();
         let root = self.peaks.last_node(last, PAD_LEAF, height);
-        let node = if layer <= height {
-            Some(self.peaks.last_node(last, PAD_LEAF, layer))
-        } else {
-            None
-        };
-        (length, root, node)
+        (length, root, self.peaks.end_of_layer(last, layer, height))
     }
 
     /// Takes the first of the bytes that are left, for a caller that keeps the nodes of a layer
-    /// itself: at most as many as the last block still takes. Returns the next node of `layer`, if
-    /// these bytes complete it: all blocks under it are whole, and a byte came after them. So the
-    /// layer's last node is complete at the end alone, and [`RootBuilder::finish_layer`] returns
-    /// it. Conditions: a byte is left, and [`RootBuilder::len`] and the number of bytes left are at
-    /// most 2^46 together.
+    /// itself: so few that they complete at most one node of `layer`. Returns that node: all blocks
+    /// under it are whole, and a byte came after them. So the layer's last node is complete at the
+    /// end alone, and [`RootBuilder::finish_layer`] returns it. Conditions: a byte is left, and
+    /// [`RootBuilder::len`] and the number of bytes left are at most 2^46 together.
     pub fn take_part(&mut self, parts: &mut Parts<'_>, layer: u32) -> Option<Hash>
         requires some { 0 < length (rest_of parts.old) }
         requires room { byte_count self.old + length (rest_of parts.old) ≤ 2 ^ 46 }
@@ -146,7 +140,9 @@ impl RootBuilder {
         requires open { self.old.filled < 16384 }
         requires some { 0 < length (rest_of parts.old) }
         requires room { byte_count self.old + length (rest_of parts.old) ≤ 2 ^ 46 }
-        ensures { FillsBlock self.old (rest_of parts.old) self.new (rest_of parts.new) }
+        ensures front { TakesFront Fills self.old (rest_of parts.old)
+            self.new (rest_of parts.new) }
+        ensures some { length (rest_of parts.new) < length (rest_of parts.old) }
     {
         if self.filled == 0 {
             if let Some(leaf) = parts.take_block() {
@@ -155,7 +151,16 @@ impl RootBuilder {
                 return;
             }
         }
-        let part = parts.take_bytes(BLOCK - self.filled);
+        self.hash_bytes(parts.take_bytes(BLOCK - self.filled));
+    }
+
+    // Takes bytes for which the last block has room.
+    fn hash_bytes(&mut self, part: &[u8])
+        requires open { self.old.filled < 16384 }
+        requires block { self.old.filled + length part.now ≤ 16384 }
+        requires room { byte_count self.old + length part.now ≤ 2 ^ 46 }
+        ensures { Fills self.old part.now self.new }
+    {
         self.hasher.update(part);
         self.filled += part.len();
         if self.filled == BLOCK {

@@ -12,6 +12,7 @@ use Rattle.hashtree.specs.declared.root.RootBuilder.{RootBuilder}
 use Rattle.hashtree.specs.Complete.{complete_nodes}
 use Rattle.hashtree.specs.RootBuilder.{Feeds, IsFed}
 use Rattle.hashtree.specs.Tree.{block_count, height, layer_count, layer_of, node, root_of}
+use Rattle.hashtree.proofs.Comparing.{length-layer_of}
 use Rattle.hashtree.proofs.Complete.{length-complete_nodes}
 use Rattle.opening.specs.Description.{TreeEntry}
 use Rattle.partial_tree.specs.Grown.{GrownTree}
@@ -80,7 +81,7 @@ pub length-leaves : (content : List ℕ) → length (layer_of content 0) ≡ blo
 length-leaves content =
     let n : ℕ = block_count (length content) in
     let none_more : n + 0 ≡ n = omega arith in
-    length-map-range_with_len (node content 0) 0 (layer_count n 0) ∙ cond-true _ _ _ (le-leb 0 (height n) (omega arith)) ∙ div-one (n + 0) ∙ none_more
+    length-layer_of content (length content) 0 refl (omega arith) ∙ div-one (n + 0) ∙ none_more
 
 -- the last leaf is one of the file's
 pub last-fits : {N : Type 0} (l : Leaves N) (content : List ℕ) (last : Option (List ℕ)) (leaf : List ℕ) → IsFull l content → (HasRefused l → ⊥)
