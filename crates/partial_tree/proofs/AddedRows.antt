@@ -8,7 +8,7 @@ use Rattle.node_maps.specs.Digest.{Hash, join}
 use Rattle.node_maps.specs.Known.{Known, look}
 use Rattle.node_maps.specs.Runs.{AreKnown}
 use Rattle.node_maps.proofs.Known.{look-insert_same, look-insert_other}
-use Rattle.partial_tree.specs.declared.found.Claim.{Claim}
+use Rattle.partial_tree.specs.declared.message.found.Claim.{Claim}
 use Rattle.partial_tree.specs.Claims.{join_both}
 use Rattle.partial_tree.specs.Grown.{AddsRow, parents_of}
 use Rattle.partial_tree.proofs.Noting.{len-new}

@@ -8,9 +8,9 @@ use Rattle.node_maps.specs.Digest.{Hash, join}
 use Rattle.node_maps.specs.Places.{PartialTree, IsKnown}
 use Rattle.node_maps.specs.Known.{Known, look}
 use Rattle.node_maps.proofs.Places.{two_halves}
-use Rattle.partial_tree.specs.declared.evidence.Evidence.{Evidence}
-use Rattle.partial_tree.specs.declared.found.Found.{Found}
-use Rattle.partial_tree.specs.declared.row.Row.{Row}
+use Rattle.partial_tree.specs.declared.message.evidence.Evidence.{Evidence}
+use Rattle.partial_tree.specs.declared.message.found.Found.{Found}
+use Rattle.partial_tree.specs.declared.message.row.Row.{Row}
 use Rattle.partial_tree.specs.Claims.{base_hash, uncle_hash}
 use Rattle.partial_tree.specs.Evidence.{Grows, IsClaimedPlace, IsHandled, IsNoted, LiesUnder, claimed_by, given_by, hashes_of, range_of}
 use Rattle.partial_tree.specs.FoldedRows.{AreClaimedIn, BelowRowHandled, IsClaimedRow, RowHandled, place_in}

@@ -5,7 +5,7 @@ use Rattle.std.specs.Borrow.{Bor}
 use Rattle.std.specs.FinMap.{len}
 use Rattle.std.specs.List.{All}
 use Rattle.hashtree.specs.Tree.{zero_hash}
-use Rattle.partial_tree.specs.declared.evidence.Evidence.{Evidence}
+use Rattle.partial_tree.specs.declared.message.evidence.Evidence.{Evidence}
 use Rattle.node_maps.specs.Digest.{Hash, IsHash}
 use Rattle.partial_tree.specs.TreeRoot.{TreeRoot}
 use Rattle.node_maps.specs.Places.{tree_height, PartialTree}

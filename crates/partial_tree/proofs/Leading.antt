@@ -4,7 +4,7 @@ use Rattle.std.proofs.Common.{div-one}
 use Rattle.std.specs.Option.{option_or}
 use Rattle.std.proofs.lemmas.Option.{none-some}
 use Rattle.wire.specs.declared.message.Ask.{Ask}
-use Rattle.partial_tree.specs.declared.evidence.Evidence.{Evidence}
+use Rattle.partial_tree.specs.declared.message.evidence.Evidence.{Evidence}
 use Rattle.node_maps.specs.Digest.{Hash, join}
 use Rattle.partial_tree.specs.Closed.{IsFamily}
 use Rattle.partial_tree.specs.Claims.{span, given, claims, join_both, top_layer, top_index}

@@ -12,7 +12,7 @@ use Rattle.std.proofs.lemmas.Bool.{and_from, eq-eqb, le-leb, lt-ltb, cond-true, 
 use Rattle.std.proofs.lemmas.List.{get_or-take, get_or-drop, append-nil}
 use Rattle.wire.specs.declared.message.Ask.{Ask}
 use Rattle.hashtree.specs.Tree.{block_count, height, zero_hash}
-use Rattle.partial_tree.specs.declared.evidence.Evidence.{Evidence}
+use Rattle.partial_tree.specs.declared.message.evidence.Evidence.{Evidence}
 use Rattle.partial_tree.specs.declared.refusal.HashRefusal.{HashRefusal}
 use Rattle.partial_tree.specs.declared.refusal.HashRefusal.TheVariants.{UnknownRoot, BadRange, BadCount, BadPad, Unanchored, Mismatch, NoMemory, Unasked}
 use Rattle.node_maps.specs.Digest.{Hash, IsHash}

@@ -6,8 +6,8 @@ use Rattle.std.specs.FinMap.{insert, len, len-insert}
 use Rattle.std.proofs.lemmas.Option.{same_Some, none-some}
 use Rattle.std.proofs.lemmas.Bool.{cases_eq}
 use Rattle.std.proofs.lemmas.List.Elements.{All-head, All-tail}
-use Rattle.partial_tree.specs.declared.found.Claim.{Claim}
-use Rattle.partial_tree.specs.declared.found.Found.{Found}
+use Rattle.partial_tree.specs.declared.message.found.Claim.{Claim}
+use Rattle.partial_tree.specs.declared.message.found.Found.{Found}
 use Rattle.node_maps.specs.Digest.{Hash}
 use Rattle.node_maps.specs.Places.{PartialTree}
 use Rattle.partial_tree.specs.Claims.{joined}

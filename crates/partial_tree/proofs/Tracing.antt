@@ -6,8 +6,8 @@ use Rattle.std.specs.Result.{OnOk, is_err}
 use Rattle.std.specs.FinMap.{len}
 use Rattle.std.proofs.lemmas.Bool.{false≢true}
 use Rattle.std.proofs.lemmas.Option.{same_Some, none-some}
-use Rattle.partial_tree.specs.declared.evidence.Evidence.{Evidence}
-use Rattle.partial_tree.specs.declared.found.Found.{Found}
+use Rattle.partial_tree.specs.declared.message.evidence.Evidence.{Evidence}
+use Rattle.partial_tree.specs.declared.message.found.Found.{Found}
 use Rattle.node_maps.specs.Digest.{Hash, join}
 use Rattle.node_maps.specs.Places.{PartialTree, IsKnown, IsTreePlace}
 use Rattle.node_maps.specs.Known.{Known, look}

@@ -8,9 +8,9 @@ use Rattle.node_maps.specs.Digest.{Hash}
 use Rattle.node_maps.specs.Places.{PartialTree}
 use Rattle.node_maps.specs.Known.{Known, look}
 use Rattle.node_maps.proofs.Places.{two_halves}
-use Rattle.partial_tree.specs.declared.evidence.Evidence.{Evidence}
-use Rattle.partial_tree.specs.declared.found.Claim.{Claim}
-use Rattle.partial_tree.specs.declared.row.Row.{Row}
+use Rattle.partial_tree.specs.declared.message.evidence.Evidence.{Evidence}
+use Rattle.partial_tree.specs.declared.message.found.Claim.{Claim}
+use Rattle.partial_tree.specs.declared.message.row.Row.{Row}
 use Rattle.partial_tree.specs.Claims.{joined}
 use Rattle.partial_tree.specs.Joins.{with_new}
 use Rattle.partial_tree.specs.Evidence.{claimed_by, IsWrittenBelow, LiesUnder}

@@ -2,9 +2,9 @@
 use Rattle.std.specs.Prelude.{◌≡◌, ◌≢◌, ◌⊎◌, ℕ, ◌+◌, ◌-◌, ◌/◌, ◌%◌, ◌^◌, ◌<◌, ◌≤◌, true, false, List, [], ◌∷◌, ◌++◌, length, replicate, Some, None}
 use Rattle.std.specs.List.{All}
 use Rattle.wire.specs.declared.message.Ask.{Ask}
-use Rattle.partial_tree.specs.declared.evidence.Evidence.{Evidence}
-use Rattle.partial_tree.specs.declared.found.Claim.{Claim}
-use Rattle.partial_tree.specs.declared.found.Found.{Found}
+use Rattle.partial_tree.specs.declared.message.evidence.Evidence.{Evidence}
+use Rattle.partial_tree.specs.declared.message.found.Claim.{Claim}
+use Rattle.partial_tree.specs.declared.message.found.Found.{Found}
 use Rattle.partial_tree.specs.declared.refusal.HashRefusal.{HashRefusal}
 use Rattle.partial_tree.specs.declared.refusal.HashRefusal.TheVariants.{Mismatch, NoMemory}
 use Rattle.node_maps.specs.Digest.{Hash}

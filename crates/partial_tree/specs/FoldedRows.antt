@@ -2,9 +2,9 @@
 use Rattle.std.specs.Prelude.{◌≡◌, ℕ, ◌+◌, ◌*◌, ◌^◌, ◌<◌, ◌≤◌, List, [], None, Some, slice_index_or}
 use Rattle.node_maps.specs.Digest.{Hash}
 use Rattle.node_maps.specs.Places.{PartialTree}
-use Rattle.partial_tree.specs.declared.evidence.Evidence.{Evidence}
-use Rattle.partial_tree.specs.declared.found.Found.{Found}
-use Rattle.partial_tree.specs.declared.row.Row.{Row}
+use Rattle.partial_tree.specs.declared.message.evidence.Evidence.{Evidence}
+use Rattle.partial_tree.specs.declared.message.found.Found.{Found}
+use Rattle.partial_tree.specs.declared.message.row.Row.{Row}
 use Rattle.partial_tree.specs.Evidence.{IsClaimedPlace, IsHandled, LiesUnder, given_by}
 
 -- the row lies in the base range or above it, under a node that is claimed and not given

@@ -4,7 +4,7 @@ use Rattle.std.specs.FinMap.{insert, len}
 use Rattle.node_maps.specs.Digest.{Hash}
 use Rattle.node_maps.specs.Places.{PartialTree}
 use Rattle.node_maps.specs.Known.{Known, look}
-use Rattle.partial_tree.specs.declared.found.Claim.{Claim}
+use Rattle.partial_tree.specs.declared.message.found.Claim.{Claim}
 use Rattle.wire.specs.declared.message.Ask.{Ask}
 use Rattle.partial_tree.specs.Claims.{claims, joined, IsAgreed, IsAccepted}
 use Rattle.partial_tree.specs.Fill.{fill_claims, IsFillAccepted}

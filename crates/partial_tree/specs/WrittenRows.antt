@@ -1,7 +1,7 @@
 -- Rows of places whose claims are written together.
 use Rattle.std.specs.Prelude.{◌≡◌, ℕ, ◌+◌, ◌<◌, ◌≤◌}
 use Rattle.node_maps.specs.Places.{PartialTree}
-use Rattle.partial_tree.specs.declared.row.Row.{Row}
+use Rattle.partial_tree.specs.declared.message.row.Row.{Row}
 use Rattle.partial_tree.specs.Claims.{joined}
 use Rattle.partial_tree.specs.Evidence.{LiesUnder}
 

@@ -4,7 +4,7 @@ ghost use Rattle.std.specs.Prelude.{◌≡◌, ◌+◌, ◌^◌, ◌≤◌, IfOk
 ghost use Rattle.node_maps.specs.Known.{look};
 ghost use Rattle.partial_tree.specs.Claims.{most_span, hash_or_pad, answer_of, CanAnswer};
 
-use crate::evidence::sibling;
+use crate::message::evidence::sibling;
 use hashtree::{Hash, NoMemory, zero};
 use node_maps::NodeMap;
 use std::alloc::Global;

@@ -2,30 +2,17 @@
 //! add to it.
 #![tactic(auto)]
 
-mod adding;
-mod adopting;
 mod answer;
 mod answering;
 mod bytes;
-mod checks;
-mod comparing;
-mod evidence;
-mod filling;
-mod folding;
-mod found;
 mod growing;
 pub mod laws;
 mod limits;
 mod marking;
+mod message;
 mod nodes;
-mod pads;
 mod refusal;
-mod row;
-mod storing;
-mod taking;
 mod tree;
-mod writing;
-mod writing_rows;
 
 pub use answer::Answer;
 pub use bytes::{are_bytes, are_hashes, is_hash};

@@ -25,13 +25,13 @@ ghost use Rattle.partial_tree.specs.Claims.{HasNew};
 ghost use Rattle.partial_tree.specs.Fill.{fill_claims, IsFillAccepted};
 ghost use Rattle.partial_tree.specs.Kept.{info_of, root_only, IsGoodTree, TreeJoins, TreeTakesHashes, TreeRefusesHashes, TreeTakesLayer, TreeRefusesLayer, TreeCanAnswer, TreeAnswers};
 
-use crate::adopting::{agree, carry_marks};
 use crate::answer::Answer;
 use crate::answering::answer_hashes;
 use crate::bytes::are_hashes;
-use crate::checks::check_range;
 use crate::growing::GrownTree;
+use crate::growing::adopting::{agree, carry_marks};
 use crate::limits::MOST_WANTED;
+use crate::message::checks::check_range;
 use crate::nodes::TreeNodes;
 use crate::refusal::HashRefusal;
 use hashtree::{Hash, NoMemory, Shape};

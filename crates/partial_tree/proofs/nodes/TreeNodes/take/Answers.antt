@@ -1,5 +1,5 @@
 use Rattle.std.proofs.Common.{◌≡◌, IfOk, IfErr, [], ◌-◌, ◌/◌, ◌^◌, not, refl, sym, ap, ap₂, ◌∙◌, subst, arith}
-use Rattle.partial_tree.specs.declared.evidence.Evidence.{Evidence}
+use Rattle.partial_tree.specs.declared.message.evidence.Evidence.{Evidence}
 use Rattle.partial_tree.specs.TreeRoot.{TreeRoot}
 use Rattle.node_maps.specs.Places.{tree_height, IsTreePlace, IsKnown}
 use Rattle.node_maps.specs.Known.{look}

@@ -1,0 +1,84 @@
+use Rattle.std.proofs.Common.{◌≡◌, ℕ, suc, ◌+◌, ◌-◌, ◌*◌, ◌^◌, ◌<◌, ◌≤◌, Result, Ok, Err, OnErr, sym, ap, ◌∙◌, subst, arith}
+use Rattle.hashtree.specs.Tree.{block_count}
+use Rattle.node_maps.specs.Known.{look}
+use Rattle.node_maps.specs.Places.{tree_height}
+use Rattle.node_maps.specs.Runs.{AreKnown}
+use Rattle.node_maps.proofs.Nodes.{known-of, length-of, marked-of}
+use Rattle.partial_tree.specs.Grown.{GrownTree}
+use Rattle.partial_tree.proofs.FromLeaves.{children-known}
+use Rattle.partial_tree.proofs.GrownLeaves.{ended, has_pads, next_layer, padded, shifted}
+use Rattle.partial_tree.proofs.growing.trees.GrowingTree.finish.Goals as goal
+
+pub layers-init : goal.layers-init
+layers-init g c =
+    let old = c.self.inside in
+    let wide = shifted c.height-height.result c.height-height.ensures.bound ∙ ap (λ k. 2 ^ k) c.height-height.ensures.value in
+    record {
+      length = c.add_pads.ensures.stays.length ∙ c.self.invariant.0 ∙ ap (λ (t : GrownTree). t.length) c.self.view_is;
+      marked = c.add_pads.ensures.stays.marked ∙ c.self.invariant.2;
+      up_to = padded old.shape old.count (g.N.NodeMap.seen old.nodes).known c.args.self c.self.view_is c.requires c.self.invariant.3 _ _
+          (g.N.NodeMap.seen c.add_pads.new.map).known
+          c.blocks-blocks.ensures.value wide c.in_ok-add_pads.ensures.added;
+    }
+
+pub add_parents-requires-clause-known : goal.add_parents-requires-clause-known
+add_parents-requires-clause-known g c =
+    let n = c.args.self.length in
+    let height : c.height-height.result ≡ tree_height n = c.height-height.ensures.value ∙ ap (λ (t : GrownTree). tree_height t.length) c.self.view_is in
+    let low : c.layers.layer < tree_height n = omega (arith, height, c.layers-test.true) in
+    let exponent : c.height-height.result - c.layers.layer - 1 ≡ tree_height n - suc c.layers.layer = omega (arith, height) in
+    let wide = shifted (c.height-height.result - c.layers.layer - 1) (omega (arith, c.height-height.ensures.bound)) ∙ ap (λ k. 2 ^ k) exponent in
+    subst (λ k. AreKnown (look (g.N.NodeMap.seen c.layers.nodes).known c.layers.layer) 0 (2 * k)) (sym wide)
+    (children-known n c.args.self.leaves c.requires c.layers.layer (g.N.NodeMap.seen c.layers.nodes).known low c.layers.invariant.up_to)
+
+pub layers-preserved : goal.layers-preserved
+layers-preserved g c =
+    let n = c.args.self.length in
+    let height : c.height-height.result ≡ tree_height n = c.height-height.ensures.value ∙ ap (λ (t : GrownTree). tree_height t.length) c.self.view_is in
+    let low : c.layers.layer < tree_height n = omega (arith, height, c.layers-test.true) in
+    let exponent : c.height-height.result - c.layers.layer - 1 ≡ tree_height n - suc c.layers.layer = omega (arith, height) in
+    let wide = shifted (c.height-height.result - c.layers.layer - 1) (omega (arith, c.height-height.ensures.bound)) ∙ ap (λ k. 2 ^ k) exponent in
+    let next : c.layers.layer + 1 ≡ c.layers.layer + 1 = omega arith in
+    record {
+      length = c.add_parents.ensures.stays.length ∙ c.layers.invariant.length;
+      marked = c.add_parents.ensures.stays.marked ∙ c.layers.invariant.marked;
+      up_to = next_layer c.args.self c.layers.layer (c.layers.layer + 1) _ (g.N.NodeMap.seen c.layers.nodes).known
+          (g.N.NodeMap.seen c.add_parents.new.map).known c.requires low next wide c.layers.invariant.up_to c.in_ok-add_parents.ensures.added;
+    }
+
+pub invariant_of-result : goal.invariant_of-result
+invariant_of-result g c =
+    let old = c.self.inside in
+    let top : c.layers.layer ≡ tree_height old.shape = (let reached : c.layers.layer ≡ c.height-height.result =
+    omega (arith, c.layers-test.false, c.layers.auto.layer-end) in reached ∙ c.height-height.ensures.value) in
+    let end = ended old.shape old.count (g.N.NodeMap.seen old.nodes).known c.args.self c.self.view_is c.requires c.self.invariant.3 c.layers.layer
+    (g.N.NodeMap.seen c.layers.nodes).known (g.N.NodeMap.seen c.trim.new.self).known top c.layers.invariant.up_to (known-of c.trim.ensures.seen) in (
+      (length-of c.trim.ensures.seen) ∙ c.layers.invariant.length ∙ sym (ap (λ (t : GrownTree). t.length) c.self.view_is),
+      (marked-of c.trim.ensures.seen) ∙ c.layers.invariant.marked,
+      c.trim.ensures.held,
+      end.0,
+      end.1,
+    )
+
+pub returns-clause-leaves : goal.returns-clause-leaves
+returns-clause-leaves g c =
+    let old = c.self.inside in
+    let top : c.layers.layer ≡ tree_height old.shape = (let reached : c.layers.layer ≡ c.height-height.result =
+    omega (arith, c.layers-test.false, c.layers.auto.layer-end) in reached ∙ c.height-height.ensures.value) in
+    (ended old.shape old.count (g.N.NodeMap.seen old.nodes).known c.args.self c.self.view_is c.requires c.self.invariant.3 c.layers.layer
+    (g.N.NodeMap.seen c.layers.nodes).known (g.N.NodeMap.seen c.trim.new.self).known top c.layers.invariant.up_to (known-of c.trim.ensures.seen)).2
+
+on_err : {A E : Type 0} (P : Type 0) (r : Result A E) → P → OnErr r P
+on_err P (Ok x) p = tt
+on_err P (Err e) p = p
+
+pub returns-in_err-add_pads-clause-no_memory : goal.returns-in_err-add_pads-clause-no_memory
+returns-in_err-add_pads-clause-no_memory g c =
+    let height = c.height-height.ensures in
+    let blocks = c.blocks-blocks.ensures in
+    let same : c.blocks-blocks.result ≡ block_count c.args.self.length =
+    blocks.value ∙ ap (λ (t : GrownTree). block_count t.length) c.self.view_is in
+    let least : (k : ℕ) → c.blocks-blocks.result ≤ 2 ^ k → c.height-height.result ≤ k =
+    λ k fits. height.least k (omega (arith, fits, blocks.value)) in
+    on_err _ _ (subst (λ n. 1 < n) same
+    (has_pads _ _ blocks.some least height.bound c.in_err-add_pads.ensures.no_memory))

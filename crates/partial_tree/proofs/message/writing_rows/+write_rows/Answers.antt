@@ -1,0 +1,115 @@
+use Rattle.std.proofs.Common.{◌≡◌, [], slice_index_or, ◌<◌, ◌≤◌, ◌+◌, ◌-◌, ◌*◌, ◌^◌, sym, ap, ◌∙◌, subst, arith, pow_mono}
+use Rattle.node_maps.specs.Digest.{Hash}
+use Rattle.node_maps.specs.Places.{tree_height}
+use Rattle.node_maps.specs.Known.{look}
+use Rattle.partial_tree.specs.Joins.{with_new}
+use Rattle.partial_tree.specs.Evidence.{claimed_by}
+use Rattle.partial_tree.specs.FoldedRows.{IsClaimedRow, place_in}
+use Rattle.partial_tree.proofs.Tracing.{given_claimed}
+use Rattle.partial_tree.proofs.FoldedRows.{base-row, joined-row, joined-rows, left-claimed_row, right-claimed_row}
+use Rattle.partial_tree.proofs.WrittenRows.{IsRowBegun, base-few, base-written, row-done, row-next, rows-written}
+use Rattle.partial_tree.proofs.message.writing_rows.+write_rows.Goals as goal
+
+pub write_below_row-base_row-requires-clause-given : goal.write_below_row-base_row-requires-clause-given
+write_below_row-base_row-requires-clause-given g t c =
+    base-row (tree_height (g.N.NodeMap.seen c.args.map.now).length) c.args.evidence.now c.args.row c.requires.at c.if-row-evidence.true
+
+pub write_below_row-returns-then-row-evidence-clause-value : goal.write_below_row-returns-then-row-evidence-clause-value
+write_below_row-returns-then-row-evidence-clause-value g t c = λ j lt.
+    given_claimed c.args.evidence.now c.args.row.layer (place_in c.args.row j) _ (c.base_row.ensures j lt)
+
+pub write_below_row-returns-then-row-evidence-clause-written : goal.write_below_row-returns-then-row-evidence-clause-written
+write_below_row-returns-then-row-evidence-clause-written g t c =
+    base-written c.args.evidence.now (look (g.N.NodeMap.seen c.args.map.now).known) c.args.row c.if-row-evidence.true
+
+pub write_below_row-returns-then-row-evidence-clause-few : goal.write_below_row-returns-then-row-evidence-clause-few
+write_below_row-returns-then-row-evidence-clause-few g t c = base-few c.args.row.layer c.args.row.depth
+
+pub write_below_row-parents_of_row-requires : goal.write_below_row-parents_of_row-requires
+write_below_row-parents_of_row-requires g t c =
+    let few : c.args.row.depth ≤ 2 = omega (arith, c.if-row-lt-EIGHT_DEPTH.true) in
+    let most : 2 ^ c.args.row.depth ≤ 2 ^ 2 = pow_mono {i = c.args.row.depth} {j = 2} few in
+    omega (arith, most, c.count.ensures.count)
+
+pub write_below_row-returns-then-row-lt-EIGHT_DEPTH-clause-value : goal.write_below_row-returns-then-row-lt-EIGHT_DEPTH-clause-value
+write_below_row-returns-then-row-lt-EIGHT_DEPTH-clause-value g t c =
+    let above : c.args.evidence.now.base < c.args.row.layer = omega (arith, c.requires.at.from_base, c.if-row-evidence.false) in
+    joined-row (tree_height (g.N.NodeMap.seen c.args.map.now).length) c.args.evidence.now c.args.row c.write_row-gained.result.0 c.parents_of_row.result
+    c.requires.at above c.write_row-gained.ensures.value (λ j lt. c.parents_of_row.ensures j (omega (arith, lt, c.count.ensures.count)))
+
+pub write_below_row-write_row-before-requires : goal.write_below_row-write_row-before-requires
+write_below_row-write_row-before-requires g t c κs within =
+    let above : c.args.evidence.now.base < c.args.row.layer = omega (arith, c.requires.at.from_base, c.if-row-evidence.false) in
+    let deep : 1 ≤ c.args.row.depth = omega (arith, c.if-row-lt-EIGHT_DEPTH.false) in
+    let at = left-claimed_row (tree_height (g.N.NodeMap.seen c.args.map.now).length) c.args.evidence.now c.args.row c.requires.at above deep in
+    (omega (arith, above), (within, (at, c.requires.room)))
+
+pub write_below_row-write_row-after-requires : goal.write_below_row-write_row-after-requires
+write_below_row-write_row-after-requires g t c κs within =
+    let above : c.args.evidence.now.base < c.args.row.layer = omega (arith, c.requires.at.from_base, c.if-row-evidence.false) in
+    let deep : 1 ≤ c.args.row.depth = omega (arith, c.if-row-lt-EIGHT_DEPTH.false) in
+    let at = right-claimed_row (tree_height (g.N.NodeMap.seen c.args.map.now).length) c.args.evidence.now c.args.row c.requires.at above deep in
+    let same = ap tree_height (sym c.write_row-before.ensures.stays.length) in (
+      omega (arith, above),
+      (
+        within,
+        (
+          subst (λ h. IsClaimedRow h c.args.evidence.now (record { layer = c.args.row.layer - 1; depth = c.args.row.depth; node = 2 * c.args.row.node + 1 }))
+              same at,
+          λ l i known. c.write_row-before.ensures.keeps l i (c.requires.room l i known),
+        ),
+      ),
+    )
+
+pub write_below_row-returns-clause-value : goal.write_below_row-returns-clause-value
+write_below_row-returns-clause-value g t c =
+    let above : c.args.evidence.now.base < c.args.row.layer = omega (arith, c.requires.at.from_base, c.if-row-evidence.false) in
+    let three : c.args.row.depth ≡ 3 = omega (arith, c.requires.at.few, c.if-row-lt-EIGHT_DEPTH.false) in
+    joined-rows (tree_height (g.N.NodeMap.seen c.args.map.now).length) c.args.evidence.now c.args.row c.write_row-before.result.0 c.write_row-after.result.0
+    c.parents_of_rows.result c.requires.at above three c.write_row-before.ensures.value c.write_row-after.ensures.value
+    c.parents_of_rows.ensures.left c.parents_of_rows.ensures.right
+
+pub write_below_row-returns-clause-written : goal.write_below_row-returns-clause-written
+write_below_row-returns-clause-written g t c =
+    let above : c.args.evidence.now.base < c.args.row.layer = omega (arith, c.requires.at.from_base, c.if-row-evidence.false) in
+    rows-written (claimed_by c.args.evidence.now) (look (g.N.NodeMap.seen c.args.map.now).known)
+    (look (g.N.NodeMap.seen c.write_row-before.new.map).known) (look (g.N.NodeMap.seen c.write_row-after.new.map).known) c.args.row (omega (arith, above))
+    c.write_row-before.ensures.written c.write_row-after.ensures.written
+
+pub write_row-put_absent-gained-requires : goal.write_row-put_absent-gained-requires
+write_row-put_absent-gained-requires g t c =
+    let row = c.args.row in
+    let low : c.places.j < 2 ^ c.args.row.depth = omega (arith, c.places-test.true, c.count-j-end.ensures.count) in
+    let at : place_in row c.places.j ≡ row.node * c.count.result + c.places.j = ap (λ k. row.node * k + c.places.j) (sym c.count.ensures.count) in
+    subst (g.N.NodeMap.has_room c.places.map row.layer) at
+    (c.places.invariant.keeps row.layer (place_in row c.places.j)
+    (c.requires.room row.layer (place_in row c.places.j) (_, c.write_below_row-below.ensures.value c.places.j low)))
+
+pub write_row-places-preserved : goal.write_row-places-preserved
+write_row-places-preserved g t c =
+    let C = claimed_by c.args.evidence.now in
+    let row = c.args.row in
+    let before = c.places.invariant in
+    let now = c.put_absent-gained.ensures in
+    let low : c.places.j < 2 ^ c.args.row.depth = omega (arith, c.places-test.true, c.count-j-end.ensures.count) in
+    let at : row.node * c.count.result + c.places.j ≡ place_in row c.places.j = ap (λ k. row.node * k + c.places.j) c.count.ensures.count in
+    let h : Hash = slice_index_or c.write_below_row-below.result.0 c.places.j [] in
+    record {
+      stays = record { length = now.stays.length ∙ before.stays.length; marked = now.stays.marked ∙ before.stays.marked };
+      keeps = λ l i room. now.keeps l i (before.keeps l i room);
+      held = now.held ∙ before.held;
+      begun = row-next C row c.places.j (g.N.NodeMap.seen c.args.map.now).known (g.N.NodeMap.seen c.places.map).known
+          (g.N.NodeMap.seen c.put_absent-gained.new.map).known h (c.write_below_row-below.ensures.value c.places.j low) before.begun
+          (subst (λ i. (g.N.NodeMap.seen c.put_absent-gained.new.map).known
+          ≡ with_new (g.N.NodeMap.seen c.places.map).known (record { layer = row.layer; index = i; hash = h })) at now.known);
+      gained = omega (arith, now.gained, before.gained);
+      few = omega (arith, now.one, before.few);
+    }
+
+pub write_row-returns-clause-written : goal.write_row-returns-clause-written
+write_row-returns-clause-written g t c =
+    let all : c.places.j ≡ 2 ^ c.args.row.depth = omega (arith, c.places-test.false, c.places.auto.j-end, c.count-j-end.ensures.count) in
+    let C = claimed_by c.args.evidence.now in
+    row-done C c.args.row (look (g.N.NodeMap.seen c.args.map.now).known) (look (g.N.NodeMap.seen c.places.map).known)
+    (subst (λ n. IsRowBegun C c.args.row n (look (g.N.NodeMap.seen c.args.map.now).known) (look (g.N.NodeMap.seen c.places.map).known)) all
+    c.places.invariant.begun)

@@ -1,5 +1,0 @@
-use Rattle.std.proofs.Common.{arith}
-use Rattle.partial_tree.proofs.pads.Pads.new.Goals as goal
-
-pub invariant_of-result : goal.invariant_of-result
-invariant_of-result c = record { low = omega arith; is_zero_hash = c.zero.ensures }

@@ -1,0 +1,15 @@
+//! The way of a hashes message: its tests, the comparison of all that it claims with what is known,
+//! and what is then written. A whole layer goes the same way.
+
+pub(crate) mod checks;
+mod comparing;
+pub(crate) mod evidence;
+mod filling;
+mod folding;
+mod found;
+mod pads;
+mod row;
+mod storing;
+mod taking;
+mod writing;
+mod writing_rows;
