@@ -6,6 +6,7 @@ pub mod Visiting
 pub mod Counts
 pub mod Shelves
 pub mod MemCalls
+pub mod MemSeeking
 pub mod Streaming
 pub mod Reports
 pub mod Layers

@@ -2,8 +2,10 @@
 pub mod Root
 pub mod Reading
 pub mod Shelf
+pub mod Seeking
 pub mod MemShelf
 pub mod MemShelfCalls
+pub mod MemShelfSeeking
 pub mod Folder
 pub mod Verdicts
 pub mod Compared

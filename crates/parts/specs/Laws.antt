@@ -1,5 +1,5 @@
 -- The laws of a check in parts.
-use Rattle.std.specs.Prelude.{◌≡◌, true, ◌⊎◌, ℕ, List, [], ◌∷◌, ◌++◌, Option, Some, slice_get}
+use Rattle.std.specs.Prelude.{◌≡◌, true, ◌⊎◌, ℕ, ◌<◌, List, [], ◌∷◌, ◌++◌, length, Option, Some, slice_get}
 use Rattle.opening.specs.Description.{Description}
 use Rattle.opening.specs.Sound.{IsSound}
 use Rattle.folders.specs.Folder.{Contents, GoodFolder}
@@ -12,6 +12,7 @@ use Rattle.folders.specs.declared.report.V1Verdict.TheVariants as version1
 use Rattle.parts.specs.Joins.{IsJoin, IsWorst, NoWorse, NoWorseV1, says_of, says_of_v1}
 use Rattle.parts.specs.Worse.{worse, worse_v1}
 use Rattle.parts.specs.Parts.{AreAllPlaces, PartReport, TellsPart}
+use Rattle.parts.specs.Shares.{share}
 
 -- what `check` reports of a folder with these contents
 pub record IsReportOf (t : Description) (contents : Contents) (files : List FileVerdict)
@@ -58,3 +59,10 @@ abbrev pub WorseJoinsV1 : Type 0
 WorseJoinsV1 = (parts : List PartReport) (p : PartReport) (w : V1Verdict)
     → IsWorst NoWorseV1 version1.Good says_of_v1 parts w
     → IsWorst NoWorseV1 version1.Good says_of_v1 (parts ++ p ∷ []) (worse_v1 w (says_of_v1 p))
+
+-- The shares of all parts have all places: of as many parts as there are shares, each of which has
+-- its own.
+abbrev pub SharesHaveAllPlaces : Type 0
+SharesHaveAllPlaces = (t : Description) (parts : List PartReport) → 0 < length parts
+    → ((i : ℕ) (p : PartReport) → slice_get parts i ≡ Some p → p.places ≡ share t i (length parts))
+    → AreAllPlaces t parts

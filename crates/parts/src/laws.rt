@@ -1,5 +1,5 @@
 //! What the parts of a check make together. A function that calls one of these knows its law.
-ghost use Rattle.parts.specs.Laws.{PartsMakeTheReport, ReportIsOne, WorseJoins, WorseJoinsV1, YesOfParts};
+ghost use Rattle.parts.specs.Laws.{PartsMakeTheReport, ReportIsOne, SharesHaveAllPlaces, WorseJoins, WorseJoinsV1, YesOfParts};
 
 /// Parts that together have all places of a torrent, and tell of the same contents, make the report
 /// that a check gives of them, or a collision is named.
@@ -21,4 +21,9 @@ pub fn report_is_one()
 pub fn worse_joins()
     ensures files { WorseJoins }
     ensures version1 { WorseJoinsV1 }
+{}
+
+/// The shares of all parts have all places between them.
+pub fn shares_have_all_places()
+    ensures { SharesHaveAllPlaces }
 {}

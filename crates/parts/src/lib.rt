@@ -1,9 +1,18 @@
 //! A check of a folder in parts, each by a process of its own, and the join of what they report.
 #![tactic(auto)]
 
+mod checking;
+mod file_pieces;
 mod joining;
+mod judging;
 pub mod laws;
+mod piece;
 mod places;
+mod shares;
+mod span;
+mod verdicts;
 
+pub use checking::check_part;
 pub use joining::{join, worse, worse_v1};
 pub use places::Places;
+pub use span::touches;

@@ -1,5 +1,5 @@
 //! A file of a shelf in memory.
-ghost use Rattle.std.specs.Prelude.{◌≡◌, ◌<◌, map, Some, None};
+ghost use Rattle.std.specs.Prelude.{◌≡◌, ◌<◌, drop, map, Some, None};
 ghost use Rattle.folders.specs.MemShelf.{path_of};
 ghost use Rattle.folders.specs.Shelf.{is_path};
 
@@ -45,6 +45,19 @@ impl<'a> MemFile<'a> {
         ensures { result ≡ is_path (map (λ s. s.now) path.now) (path_of self.now) }
     {
         path == self.path
+    }
+
+    /// The file without the bytes before this one; empty if it has no more.
+    pub(crate) fn from_byte(&self, offset: u64) -> MemFile<'a>
+        ensures content { result.content.now ≡ drop offset self.now.content.now }
+        ensures fails { result.before_fault ≡ self.now.before_fault }
+    {
+        let start = offset.min(self.content.len() as u64) as usize;
+        MemFile {
+            path: self.path,
+            content: &self.content[start..],
+            before_fault: self.before_fault,
+        }
     }
 
     /// The file opened, whose reads give at most `at_most` bytes. Condition: that is at least 1.

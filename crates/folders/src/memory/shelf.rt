@@ -3,6 +3,8 @@ ghost use Rattle.std.specs.Prelude.{◌≡◌, ◌-◌, ◌^◌, ◌<◌, [], ma
 ghost use Rattle.folders.specs.MemShelf.{first_with, path_of};
 ghost use Rattle.folders.specs.Shelf.{IsEachOnce, path_bytes};
 
+mod seeking;
+
 use crate::memory::file::MemFile;
 use crate::shelf::Shelf;
 use crate::shelf_fault::ShelfFault;

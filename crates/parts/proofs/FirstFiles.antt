@@ -1,0 +1,261 @@
+-- What the check of a part told of the first files of a torrent.
+use Rattle.std.proofs.Common.{◌≡◌, ◌⊎◌, inl, inr, ℕ, ◌+◌, ◌-◌, ◌<◌, ◌≤◌, min, List, [], ◌∷◌, ◌++◌, length, take, slice_get, sum_by, Option, Some, None, refl, ap, sym, ◌∙◌, subst, arith}
+use Rattle.std.proofs.lemmas.Bool.{cases_lt}
+use Rattle.std.proofs.lemmas.List.{length_push, get_or_push, get_or_append_left}
+use Rattle.std.proofs.lemmas.List.Sums.{sum_by-take-le}
+use Rattle.std.proofs.lemmas.Option.{same_Some, slice_get_within, slice_get-get_or, get_or_from_slice_get}
+use Rattle.chains.proofs.Cases.{last_or_before}
+use Rattle.opening.specs.Description.{Description, FileEntry, Version1}
+use Rattle.opening.specs.Sound.{IsSound}
+use Rattle.pieces.specs.Pieces.{pieces_of}
+use Rattle.folders.specs.Folder.{Contents}
+use Rattle.folders.specs.Verdicts.{Agrees}
+use Rattle.folders.specs.declared.report.FileVerdict.{FileVerdict}
+use Rattle.folders.specs.declared.report.V1Verdict.{V1Verdict}
+use Rattle.folders.specs.declared.report.V1Verdict.TheVariants as version1
+use Rattle.folders.proofs.Places.{pieces_before, pieces_next}
+use Rattle.folders.proofs.Visiting.{Extends}
+use Rattle.parts.specs.Finding.{FindsFile, HasPieceIn, IsFileV1}
+use Rattle.parts.specs.Parts.{Holds, IsPartV1, IsPartVerdict, IsPieceAt, IsVersion1Good, piece_count, place_count}
+use Rattle.parts.specs.Worse.{worse_v1}
+use Rattle.parts.specs.declared.places.Places.{Places}
+use Rattle.parts.specs.declared.verdicts.Verdicts.{Verdicts}
+use Rattle.parts.proofs.Streams.{pieces_mono}
+
+-- ---- the version 1 pieces
+
+-- of the first n files the version 1 pieces among these places that come before this one are good
+abbrev pub AllBefore : Description → Version1 → Places → Contents → ℕ → ℕ → Type 0
+AllBefore t v r contents n bound = (p m k : ℕ) (f : FileEntry) (bytes : List ℕ)
+    → m < n → IsPieceAt t contents p m k f bytes → Holds r p → p < bound → IsVersion1Good t v f bytes k
+
+-- and so of one file
+abbrev FileBefore : Description → Version1 → Places → FileEntry → Option (List ℕ) → ℕ → Type 0
+FileBefore t v r f content bound = (k : ℕ) (bytes : List ℕ) → HasPieceIn t r f content k bytes → f.first_piece + k < bound → IsVersion1Good t v f bytes k
+
+-- this version 1 piece is one of a file, is among these places, and is not good
+pub record IsBadPiece (t : Description) (v : Version1) (r : Places) (contents : Contents) (q : ℕ) : Type 0 where
+  pub number : ℕ
+  pub piece : ℕ
+  pub file : FileEntry
+  pub bytes : List ℕ
+  pub at : IsPieceAt t contents q number piece file bytes
+  pub held : Holds r q
+  pub bad : IsVersion1Good t v file bytes piece → ⊥
+
+-- what a verdict tells of the version 1 pieces of the first n files
+abbrev pub IsV1SoFar : Description → Version1 → Places → Contents → ℕ → V1Verdict → Type 0
+IsV1SoFar t v r contents n version1.NotChecked = Unit {0}
+IsV1SoFar t v r contents n version1.Good = (bound : ℕ) → AllBefore t v r contents n bound
+IsV1SoFar t v r contents n (version1.Bad q) = IsBadPiece t v r contents q × AllBefore t v r contents n q
+
+before_one : (t : Description) (v : Version1) (r : Places) (contents : Contents) (n bound : ℕ) (f : FileEntry) → slice_get t.files n ≡ Some f
+    → AllBefore t v r contents n bound → FileBefore t v r f (contents n) bound → AllBefore t v r contents (n + 1) bound
+before_one t v r contents n bound f there all one p m k g bytes lt at held low = elim (last_or_before m n lt) [
+  | inl before ↦ all p m k g bytes before at held low
+  | inr last ↦
+      let same : f ≡ g = same_Some f g (sym there ∙ ap (slice_get t.files) (sym last) ∙ at.there) in
+      let here : FileBefore t v r g (contents n) bound = subst (λ h. FileBefore t v r h (contents n) bound) same one in
+      here k bytes (record {
+        content_is = ap contents (sym last) ∙ at.content;
+        inside = at.inside;
+        held = subst (Holds r) at.piece_is held;
+      }) (omega (arith, at.piece_is, low))
+]
+
+-- what a file's verdict tells of those before this one
+before_good : (t : Description) (v : Version1) (r : Places) (f : FileEntry) (content : Option (List ℕ)) (bound : ℕ)
+    → IsFileV1 t v r f content version1.Good → FileBefore t v r f content bound
+before_good t v r f content bound good k bytes has low = good k bytes has
+
+before_bad : (t : Description) (v : Version1) (r : Places) (f : FileEntry) (content : Option (List ℕ)) (q bound : ℕ) → bound ≤ q
+    → IsFileV1 t v r f content (version1.Bad q) → FileBefore t v r f content bound
+before_bad t v r f content q bound le (k, bytes, is, has, bad, earlier) j own here low =
+    let same : bytes ≡ own = same_Some bytes own (sym has.content_is ∙ here.content_is) in
+    subst (λ bs. IsVersion1Good t v f bs j) same
+    (earlier j (omega (arith, low, le, is)) (subst (HasPieceIn t r f content j) (sym same) here))
+
+bad_piece : (t : Description) (v : Version1) (r : Places) (contents : Contents) (n q : ℕ) (f : FileEntry) → slice_get t.files n ≡ Some f
+    → IsFileV1 t v r f (contents n) (version1.Bad q) → IsBadPiece t v r contents q
+bad_piece t v r contents n q f there (k, bytes, is, has, bad, earlier) = record {
+  number = n;
+  piece = k;
+  file = f;
+  bytes = bytes;
+  at = record { there = there; content = has.content_is; inside = has.inside; piece_is = is };
+  held = subst (Holds r) (sym is) has.held;
+  bad = bad;
+}
+
+less_before : (t : Description) (v : Version1) (r : Places) (contents : Contents) (n p q : ℕ) → p ≤ q → AllBefore t v r contents n q → AllBefore t v r contents n p
+less_before t v r contents n p q le all x m k f bytes lt at held low = all x m k f bytes lt at held (omega (arith, low, le))
+
+-- one more file
+v1_one : (t : Description) (v : Version1) (r : Places) (contents : Contents) (n : ℕ) (f : FileEntry) (a b : V1Verdict) → slice_get t.files n ≡ Some f
+    → IsV1SoFar t v r contents n a → IsFileV1 t v r f (contents n) b → IsV1SoFar t v r contents (n + 1) (worse_v1 a b)
+v1_one t v r contents n f version1.NotChecked b there all one = tt
+v1_one t v r contents n f version1.Good version1.NotChecked there all one = tt
+v1_one t v r contents n f (version1.Bad p) version1.NotChecked there all one = tt
+v1_one t v r contents n f version1.Good version1.Good there all one = λ bound.
+    before_one t v r contents n bound f there (all bound) (before_good t v r f (contents n) bound one)
+v1_one t v r contents n f version1.Good (version1.Bad q) there all one = (
+  bad_piece t v r contents n q f there one,
+  before_one t v r contents n q f there (all q) (before_bad t v r f (contents n) q q (let le : q ≤ q = omega arith in le) one),
+)
+v1_one t v r contents n f (version1.Bad p) version1.Good there all one = (
+  all.0,
+  before_one t v r contents n p f there all.1 (before_good t v r f (contents n) p one),
+)
+v1_one t v r contents n f (version1.Bad p) (version1.Bad q) there all one = elim (cases_lt q p) [
+  | inl less ↦
+      let is : q ≡ min p q = omega (arith, less) in
+      subst (λ x. IsBadPiece t v r contents x × AllBefore t v r contents (n + 1) x) is (
+        bad_piece t v r contents n q f there one,
+        before_one t v r contents n q f there (less_before t v r contents n q p (omega (arith, less)) all.1)
+            (before_bad t v r f (contents n) q q (let le : q ≤ q = omega arith in le) one),
+      )
+  | inr more ↦
+      let is : p ≡ min p q = omega (arith, more) in
+      subst (λ x. IsBadPiece t v r contents x × AllBefore t v r contents (n + 1) x) is (
+        all.0,
+        before_one t v r contents n p f there all.1 (before_bad t v r f (contents n) q p (omega (arith, more)) one),
+      )
+]
+
+-- a piece of a file comes before those of later files
+piece_before_next : (t : Description) (contents : Contents) (p m k : ℕ) (f : FileEntry) (bytes : List ℕ) → IsSound t → IsPieceAt t contents p m k f bytes
+    → p < pieces_before t (m + 1)
+piece_before_next t contents p m k f bytes sound at =
+    omega (arith, at.piece_is, at.inside, sound.laid_out.first_pieces m f at.there, pieces_next t m f at.there)
+
+earlier_file : (t : Description) (contents : Contents) (p m n k j : ℕ) (f g : FileEntry) (bytes own : List ℕ) → IsSound t → m < n
+    → IsPieceAt t contents p m k f bytes → IsPieceAt t contents p n j g own → ⊥
+earlier_file t contents p m n k j f g bytes own sound lt one other =
+    let le : m + 1 ≤ n = omega (arith, lt) in
+    omega (
+      arith,
+      piece_before_next t contents p m k f bytes sound one,
+      pieces_mono t (m + 1) n le,
+      other.piece_is,
+      sound.laid_out.first_pieces n g other.there,
+    )
+
+-- a piece is of one file
+same_file : (t : Description) (contents : Contents) (p m n k j : ℕ) (f g : FileEntry) (bytes own : List ℕ) → IsSound t
+    → IsPieceAt t contents p m k f bytes → IsPieceAt t contents p n j g own → m ≡ n
+same_file t contents p m n k j f g bytes own sound one other = elim (cases_lt m n) [
+  | inl less ↦ absurd (earlier_file t contents p m n k j f g bytes own sound less one other)
+  | inr ge ↦ elim (cases_lt n m) [
+    | inl less ↦ absurd (earlier_file t contents p n m j k g f own bytes sound less other one)
+    | inr le ↦ omega (arith, ge, le)
+  ]
+]
+
+-- what is told of all files
+pub v1_all : (t : Description) (v : Version1) (r : Places) (contents : Contents) (n : ℕ) (a : V1Verdict) → IsSound t → n ≡ length t.files
+    → IsV1SoFar t v r contents n a → IsPartV1 t v r contents a
+v1_all t v r contents n version1.NotChecked sound all told = tt
+v1_all t v r contents n version1.Good sound all told = λ p m k f bytes at held.
+    told (p + 1) p m k f bytes (omega (arith, all, slice_get_within t.files m f at.there)) at held (let lt : p < p + 1 = omega arith in lt)
+v1_all t v r contents n (version1.Bad q) sound all told = (
+  told.0.held,
+  piece_inside t contents q told.0.number told.0.piece told.0.file told.0.bytes sound told.0.at,
+  λ m k f bytes at good.
+      let b = told.0 in
+      let same : b.number ≡ m = same_file t contents q b.number m b.piece k b.file f b.bytes bytes sound b.at at in
+      let f_is : f ≡ b.file = same_Some f b.file (sym at.there ∙ ap (slice_get t.files) (sym same) ∙ b.at.there) in
+      let bytes_is : bytes ≡ b.bytes = same_Some bytes b.bytes (sym at.content ∙ ap contents (sym same) ∙ b.at.content) in
+      let first_is : f.first_piece ≡ b.file.first_piece = ap (λ (g : FileEntry). g.first_piece) f_is in
+      let k_is : k ≡ b.piece = omega (arith, first_is, at.piece_is, b.at.piece_is) in
+      b.bad (subst (λ j. IsVersion1Good t v b.file b.bytes j) k_is
+      (subst (λ bs. IsVersion1Good t v b.file bs k) bytes_is (subst (λ g. IsVersion1Good t v g bytes k) f_is good))),
+  λ p m k f bytes at held lt. told.1 p m k f bytes (omega (arith, all, slice_get_within t.files m f at.there)) at held lt,
+)
+  where
+    piece_inside : (t : Description) (contents : Contents) (p m k : ℕ) (f : FileEntry) (bytes : List ℕ) → IsSound t → IsPieceAt t contents p m k f bytes
+        → p < place_count t - 1
+    piece_inside t contents p m k f bytes sound at =
+        omega (arith, piece_before_next t contents p m k f bytes sound at, sum_by-take-le (λ (g : FileEntry). pieces_of t.piece_length g.length) t.files (m + 1))
+
+-- ---- all that is told
+
+-- what is told of the first n files
+pub record IsToldOfFirst (t : Description) (r : Places) (contents : Contents) (n : ℕ) (files : List FileVerdict) (v1 : V1Verdict) : Type 0 where
+  pub each : (m : ℕ) (f : FileEntry) (v : FileVerdict) → slice_get t.files m ≡ Some f → slice_get files m ≡ Some v → IsPartVerdict t r f (contents m) v
+  pub version1 : (v : Version1) → t.v1 ≡ Some v → IsV1SoFar t v r contents n v1
+
+-- what was found of them, of a shelf that tells this of its paths
+pub record HasFoundFirst (t : Description) (r : Places) (under : List (List ℕ) → Option (Option (List ℕ))) (n : ℕ) (files : List FileVerdict) (v1 : V1Verdict)
+    : Type 0 where
+  pub seen : List (Option (List ℕ))
+  pub count : length seen ≡ n
+  pub agree : (k : ℕ) (f : FileEntry) (c : Option (List ℕ)) → slice_get t.files k ≡ Some f → slice_get seen k ≡ Some c → Agrees (under f.path) c
+  pub told : (contents : Contents) → Extends seen contents → IsToldOfFirst t r contents n files v1
+
+-- an item of a list that one more was pushed to
+pub pushed_at : {A : Type 0} (xs : List A) (x y : A) (k : ℕ) → slice_get (xs ++ x ∷ []) k ≡ Some y → (slice_get xs k ≡ Some y) ⊎ ((k ≡ length xs) × (x ≡ y))
+pushed_at xs x y k is =
+    let inside : k < length xs + 1 = omega (arith, slice_get_within (xs ++ x ∷ []) k y is, length_push xs x) in
+    elim (last_or_before k (length xs) inside) [
+      | inl before ↦ inl (
+          slice_get-get_or xs k y before
+          ∙ ap Some (sym (get_or_append_left xs (x ∷ []) y k before) ∙ get_or_from_slice_get (xs ++ x ∷ []) k y y is))
+      | inr last ↦ inr (last, sym (get_or_push xs x y k (sym last)) ∙ get_or_from_slice_get (xs ++ x ∷ []) k y y is)
+    ]
+
+pushed_before : {A : Type 0} (xs : List A) (x y : A) (k : ℕ) → slice_get xs k ≡ Some y → slice_get (xs ++ x ∷ []) k ≡ Some y
+pushed_before xs x y k is =
+    let inside : k < length xs = slice_get_within xs k y is in
+    slice_get-get_or (xs ++ x ∷ []) k y (omega (arith, length_push xs x))
+    ∙ ap Some (get_or_append_left xs (x ∷ []) y k inside ∙ get_or_from_slice_get xs k y y is)
+
+pushed_last : {A : Type 0} (xs : List A) (x : A) (k : ℕ) → k ≡ length xs → slice_get (xs ++ x ∷ []) k ≡ Some x
+pushed_last xs x k at =
+    slice_get-get_or (xs ++ x ∷ []) k x (omega (arith, length_push xs x)) ∙ ap Some (get_or_push xs x x k (sym at))
+
+told_one : (t : Description) (r : Places) (contents : Contents) (n : ℕ) (files : List FileVerdict) (a : V1Verdict) (f : FileEntry)
+    (told : Option (Option (List ℕ))) (v : Verdicts) → slice_get t.files n ≡ Some f → length files ≡ n → (found : FindsFile t r f told v)
+    → contents n ≡ found.content → IsToldOfFirst t r contents n files a → IsToldOfFirst t r contents (n + 1) (files ++ v.file ∷ []) (worse_v1 a v.v1)
+told_one t r contents n files a f told v there count found is so_far = record {
+  each = λ m g w at said. elim (pushed_at files v.file w m said) [
+    | inl before ↦ so_far.each m g w at before
+    | inr last ↦
+        let here : m ≡ n = last.0 ∙ count in
+        let same : f ≡ g = same_Some f g (sym there ∙ ap (slice_get t.files) (sym here) ∙ at) in
+        subst (λ c. IsPartVerdict t r g c w) (sym (ap contents here ∙ is))
+        (subst (λ u. IsPartVerdict t r g found.content u) last.1 (subst (λ h. IsPartVerdict t r h found.content v.file) same found.verdict))
+  ];
+  version1 = λ w hybrid. v1_one t w r contents n f a v.v1 there (so_far.version1 w hybrid)
+      (subst (λ c. IsFileV1 t w r f c v.v1) (sym is) (found.version1 w hybrid));
+}
+
+-- one more file
+pub found_one : (t : Description) (r : Places) (under : List (List ℕ) → Option (Option (List ℕ))) (n : ℕ) (files : List FileVerdict) (a : V1Verdict) (f : FileEntry)
+    (v : Verdicts) → slice_get t.files n ≡ Some f → length files ≡ n → FindsFile t r f (under f.path) v → HasFoundFirst t r under n files a
+    → HasFoundFirst t r under (n + 1) (files ++ v.file ∷ []) (worse_v1 a v.v1)
+found_one t r under n files a f v there count found so_far = record {
+  seen = so_far.seen ++ found.content ∷ [];
+  count = length_push so_far.seen found.content ∙ ap (λ k. k + 1) so_far.count;
+  agree = λ k g c at is. elim (pushed_at so_far.seen found.content c k is) [
+    | inl before ↦ so_far.agree k g c at before
+    | inr last ↦
+        let same : f ≡ g = same_Some f g (sym there ∙ ap (slice_get t.files) (sym (last.0 ∙ so_far.count)) ∙ at) in
+        subst (λ h. Agrees (under h.path) c) same (subst (Agrees (under f.path)) last.1 found.agrees)
+  ];
+  told = λ contents extends.
+      told_one t r contents n files a f (under f.path) v there count found
+      (extends n found.content (pushed_last so_far.seen found.content n (sym so_far.count)))
+      (so_far.told contents (λ k c at. extends k c (pushed_before so_far.seen found.content c k at)));
+}
+
+-- none yet
+pub found_none : (t : Description) (r : Places) (under : List (List ℕ) → Option (Option (List ℕ))) → HasFoundFirst t r under 0 [] version1.Good
+found_none t r under = record {
+  seen = [];
+  count = refl;
+  agree = λ k f c there at. absurd (let lt = slice_get_within [] k c at in omega (arith, lt));
+  told = λ contents extends. record {
+    each = λ m f v there at. absurd (let lt = slice_get_within [] m v at in omega (arith, lt));
+    version1 = λ v hybrid bound p m k f bytes lt at held low. absurd (omega (arith, lt));
+  };
+}

@@ -1,0 +1,185 @@
+-- What a part found of one file, by how its opening and its reading were answered.
+use Rattle.std.proofs.Common.{◌≡◌, ◌≢◌, ◌⊎◌, ℕ, ◌+◌, ◌*◌, ◌^◌, ◌<◌, ◌≤◌, ◌++◌, Bool, true, false, IsTrue, List, [], length, drop, replicate, slice_get, Option, Some, None}
+use Rattle.std.proofs.Common.{option_map, Result, Ok, Err, IfOk, IfSome, refl, ap, sym, ◌∙◌, subst, drop_at, arith}
+use Rattle.std.specs.Option.{unwrap_or}
+use Rattle.std.proofs.lemmas.List.{length-replicate}
+use Rattle.std.proofs.lemmas.Option.{same_Some}
+use Rattle.benc.specs.declared.device.DeviceFault.{DeviceFault}
+use Rattle.opening.specs.Description.{Description, FileEntry, Version1}
+use Rattle.opening.specs.Sound.{IsSound}
+use Rattle.folders.specs.Seeking.{from_offset}
+use Rattle.folders.specs.Shelf.{IsFound}
+use Rattle.folders.specs.Verdicts.{Agrees, is_checked, is_whole}
+use Rattle.folders.specs.declared.report.FileVerdict.{FileVerdict}
+use Rattle.folders.specs.declared.report.FileVerdict.TheVariants as file
+use Rattle.folders.specs.declared.report.V1Verdict.{V1Verdict}
+use Rattle.folders.specs.declared.report.V1Verdict.TheVariants as version1
+use Rattle.parts.specs.FilePieces.{AreBelow, AreJudged, FindsPieces, IsBelow, IsFirstBad}
+use Rattle.parts.specs.Finding.{FindsFile, HasPieceIn, IsFileV1}
+use Rattle.parts.specs.Parts.{Holds, IsPartVerdict, IsPieceGood, IsVersion1Good, Touches, last_place, piece_count}
+use Rattle.parts.specs.Saying.{HasSmallPieces, IsSmallFrom, SaysFound, file_says, v1_says}
+use Rattle.parts.specs.Spans.{IsSpan, IsSpanOf}
+use Rattle.parts.specs.declared.file_pieces.Found.{Found}
+use Rattle.parts.specs.declared.places.Places.{Places}
+use Rattle.parts.specs.declared.span.Span.{Span}
+use Rattle.parts.specs.declared.verdicts.Verdicts.{Verdicts}
+use Rattle.parts.proofs.GoodPieces.{piece_fits}
+use Rattle.parts.proofs.HeldPieces.{between_held, held_between, piece_touches}
+
+-- ---- contents
+
+-- what a shelf tells of a path, or nothing
+abbrev known : Option (Option (List ℕ)) → Option (List ℕ)
+known told = unwrap_or told None
+
+known_agrees : (told : Option (Option (List ℕ))) → Agrees told (known told)
+known_agrees told there is = sym (ap (λ o. unwrap_or o None) is)
+
+-- the content that goes on so from an offset, and is the one that a shelf tells
+pub record GoesOn (told : Option (Option (List ℕ))) (offset : ℕ) (rest : List ℕ) : Type 0 where
+  pub bytes : List ℕ
+  pub agrees : Agrees told (Some bytes)
+  pub from_there : drop offset bytes ≡ rest
+
+pub goes_on_so : (told : Option (Option (List ℕ))) (offset : ℕ) (left : Option (List ℕ)) (rest : List ℕ) → IsFound (from_offset offset told) (Some left)
+    → Agrees left rest → GoesOn told offset rest
+goes_on_so None offset left rest found gave = record {
+  bytes = replicate offset 0 ++ rest;
+  agrees = λ there is. (let no : ⊥ = cc in absurd no);
+  from_there = drop_at (replicate offset 0) rest offset (length-replicate {A = ℕ} offset 0);
+}
+goes_on_so (Some None) offset left rest found gave = let no : ⊥ = cc in absurd no
+goes_on_so (Some (Some there)) offset left rest found gave = record {
+  bytes = there;
+  agrees = λ other is. sym (same_Some (Some there) other is);
+  from_there = gave (drop offset there) (same_Some left (Some (drop offset there)) found);
+}
+
+-- ---- the verdicts
+
+-- the file is as its verdict tells
+good_or_bad : (t : Description) (r : Places) (f : FileEntry) (s : Span) (bytes : List ℕ) (bad : Option ℕ) → IsSpanOf t r f s
+    → (IsTrue s.ends → length bytes ≡ f.length) → IsFirstBad s.from s.to (IsPieceGood t f bytes) bad
+    → IsPartVerdict t r f (Some bytes) (file_says f.first_piece bad)
+good_or_bad t r f s bytes None span ends all = λ touched. (
+  bytes,
+  refl,
+  record {
+    end = λ held. ends (span.ends.1 held);
+    pieces = λ k lt held. (let b = held_between t r f s k span lt held in all k b.0 b.1);
+  },
+)
+good_or_bad t r f s bytes (Some p) span ends first =
+    let in_span = between_held t r f s p span first.0 first.1 in (
+      bytes,
+      refl,
+      record {
+        end = λ held. ends (span.ends.1 held);
+        place = p;
+        place_is = refl;
+        inside = in_span.0;
+        held = in_span.1;
+        same_before = λ k lt held. (let b = held_between t r f s k span (omega (arith, lt, in_span.0)) held in first.3 k b.0 lt);
+        differs = first.2;
+      },
+    )
+
+-- and so are the version 1 pieces
+v1_good_or_bad : (t : Description) (v : Version1) (r : Places) (f : FileEntry) (s : Span) (bytes : List ℕ) (bad : Option ℕ) → IsSpanOf t r f s
+    → IsFirstBad s.from s.to (IsVersion1Good t v f bytes) bad → IsFileV1 t v r f (Some bytes) (v1_says f.first_piece bad)
+v1_good_or_bad t v r f s bytes None span all = λ k own has.
+    let b = held_between t r f s k span has.inside has.held in
+    subst (λ bs. IsVersion1Good t v f bs k) (same_Some bytes own has.content_is) (all k b.0 b.1)
+v1_good_or_bad t v r f s bytes (Some p) span first =
+    let in_span = between_held t r f s p span first.0 first.1 in (
+      p,
+      bytes,
+      refl,
+      record { content_is = refl; inside = in_span.0; held = in_span.1 },
+      first.2,
+      λ j lt has. (let b = held_between t r f s j span has.inside has.held in first.3 j b.0 lt),
+    )
+
+says_checked : (first : ℕ) (bad bad_cut : Option ℕ) → is_checked (v1_says first bad_cut) ≡ is_whole (file_says first bad)
+says_checked first None None = refl
+says_checked first None (Some q) = refl
+says_checked first (Some p) None = refl
+says_checked first (Some p) (Some q) = refl
+
+-- ---- what was found
+
+-- the verdicts are these two
+as_both : (t : Description) (r : Places) (f : FileEntry) (told : Option (Option (List ℕ))) (v : Verdicts) (a : FileVerdict) (b : V1Verdict)
+    → v.file ≡ a → v.v1 ≡ b → FindsFile t r f told (record { file = a; v1 = b }) → FindsFile t r f told v
+as_both t r f told v a b at bt found = record {
+  content = found.content;
+  agrees = found.agrees;
+  verdict = subst (IsPartVerdict t r f found.content) (sym at) found.verdict;
+  version1 = λ w hybrid. subst (IsFileV1 t w r f found.content) (sym bt) (found.version1 w hybrid);
+  checked = ap is_checked bt ∙ found.checked ∙ ap is_whole (sym at);
+}
+
+-- the file is unreadable, and may have any content
+pub finds_unreadable : (t : Description) (r : Places) (f : FileEntry) (told : Option (Option (List ℕ))) (v : Verdicts)
+    → v.file ≡ file.Unreadable → v.v1 ≡ version1.NotChecked → FindsFile t r f told v
+finds_unreadable t r f told v at bt = as_both t r f told v file.Unreadable version1.NotChecked at bt (record {
+  content = known told;
+  agrees = known_agrees told;
+  verdict = tt;
+  version1 = λ w hybrid. tt;
+  checked = refl;
+})
+
+-- the file has no place in the part
+pub finds_other : (t : Description) (r : Places) (f : FileEntry) (told : Option (Option (List ℕ))) (v : Verdicts) → (Touches t r f → ⊥)
+    → v.file ≡ file.Good → v.v1 ≡ version1.Good → FindsFile t r f told v
+finds_other t r f told v other at bt = as_both t r f told v file.Good version1.Good at bt (record {
+  content = known told;
+  agrees = known_agrees told;
+  verdict = λ touched. absurd (other touched);
+  version1 = λ w hybrid k bytes has. absurd (other (piece_touches t r f k has.inside has.held));
+  checked = refl;
+})
+
+-- the file was opened at the first of its pieces in the part, and read
+pub finds_read : (t : Description) (r : Places) (f : FileEntry) (s : Span) (told : Option (Option (List ℕ))) (left : Option (List ℕ))
+    (answer : Result (Option Found) DeviceFault) (v : Verdicts)
+    → IsSpanOf t r f s → IsFound (from_offset (t.piece_length * s.from) told) (Some left) → IfOk answer (FindsPieces t f s left)
+    → SaysFound f.first_piece answer v → FindsFile t r f told v
+finds_read t r f s told left (Ok (Some found)) v span opened read says =
+    let on = goes_on_so told (t.piece_length * s.from) left read.0 opened read.1 in
+    let judged = read.2 on.bytes on.from_there in
+    as_both t r f told v (file_says f.first_piece found.bad) (v1_says f.first_piece found.bad_cut) says.0 says.1 (record {
+      content = Some on.bytes;
+      agrees = on.agrees;
+      verdict = good_or_bad t r f s on.bytes found.bad span judged.0 judged.1.0;
+      version1 = λ w hybrid. v1_good_or_bad t w r f s on.bytes found.bad_cut span (judged.1.1 w hybrid);
+      checked = says_checked f.first_piece found.bad found.bad_cut;
+    })
+finds_read t r f s told left (Ok None) v span opened read says =
+    let on = goes_on_so told (t.piece_length * s.from) left read.0 opened read.1 in
+    as_both t r f told v file.WrongLength version1.NotChecked says.0 says.1 (record {
+      content = Some on.bytes;
+      agrees = on.agrees;
+      verdict = (on.bytes, refl, read.2 on.bytes on.from_there);
+      version1 = λ w hybrid. tt;
+      checked = refl;
+    })
+finds_read t r f s told left (Err e) v span opened read says = finds_unreadable t r f told v says.0 says.1
+
+-- ---- numbers
+
+small_from : (t : Description) (n : ℕ) (f : FileEntry) (s : Span) (o : Option ℕ) → IsSound t → slice_get t.files n ≡ Some f → IsSpan t f s → IsBelow s.to o
+    → IsSmallFrom f.first_piece o
+small_from t n f s None sound there span below = tt
+small_from t n f s (Some k) sound there span below =
+    let few = (piece_fits t n f k sound there (omega (arith, below, span.inside))).0 in
+    omega (arith, few)
+
+-- the numbers of pieces that were found fit
+pub small_pieces : (t : Description) (n : ℕ) (f : FileEntry) (s : Span) (answer : Result (Option Found) DeviceFault) → IsSound t → slice_get t.files n ≡ Some f
+    → IsSpan t f s → IfOk answer (λ found. IfSome found (AreBelow s.to)) → HasSmallPieces f.first_piece answer
+small_pieces t n f s (Ok (Some found)) sound there span below =
+    (small_from t n f s found.bad sound there span below.0, small_from t n f s found.bad_cut sound there span below.1)
+small_pieces t n f s (Ok None) sound there span below = tt
+small_pieces t n f s (Err e) sound there span below = tt

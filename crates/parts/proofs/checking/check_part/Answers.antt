@@ -1,0 +1,94 @@
+use Rattle.std.proofs.Common.{rules, [], ◌∷◌, ◌++◌, slice_get, refl, ◌≡◌, ◌∙◌, ◌+◌, ◌≤◌, ◌<◌, ◌^◌, ℕ, List, length, map}
+use Rattle.std.proofs.Common.{Option, option_map, is_some, ap, sym, subst, Some, None, arith}
+use Rattle.std.specs.List.{list_all}
+use Rattle.std.proofs.lemmas.Option.{same_Some, none-some}
+use Rattle.opening.specs.Description.{Description, FileEntry}
+use Rattle.opening.specs.declared.torrent.File.{File}
+use Rattle.std.proofs.lemmas.List.{length-map, take_all}
+use Rattle.std.proofs.lemmas.List.Sums.{count_by-le-length}
+use Rattle.opening.specs.Seen.{file_entry, version1}
+use Rattle.chains.specs.Chain.{Chain}
+use Rattle.folders.specs.Verdicts.{HasVerdicts, is_checked, is_unreadable, is_whole, unreadable_count}
+use Rattle.folders.proofs.Counts.{more_none}
+use Rattle.folders.proofs.Places.{file_there}
+use Rattle.parts.specs.PartVisits.{VisitsPart}
+use Rattle.parts.specs.Worse.{worse_v1}
+use Rattle.parts.proofs.CheckedFirst.{IsCheckedFirst, checked_none, checked_one, tells_all}
+use Rattle.parts.proofs.checking.check_part.Goals as goal
+use Rattle.parts.proofs.checking.check_part.Goals.{in-Some, in-None}
+
+pub check_file-found-requires-clause-file : goal.check_file-found-requires-clause-file
+check_file-found-requires-clause-file g c = (
+  c.files.file-index,
+  file_there c.args.torrent.now c.files-entries.result.now c.files.file-index c.file-item.result c.files-entries.ensures c.files-test.true c.file-item.is,
+)
+
+pub files-init : goal.files-init
+files-init g c = record {
+  room = search rules;
+  some = search rules;
+  checked = subst
+      (λ xs. IsCheckedFirst g.S.Shelf g.S.SeekShelf.opens_at g.S.File.Source.seen c.args.torrent.now c.args.places c.args.shelf.now 0 xs _ c.args.shelf.now)
+      (sym c.in_ok-files.ensures.items) (checked_none g.S.Shelf g.S.SeekShelf.opens_at g.S.File.Source.seen c.args.torrent.now c.args.places c.args.shelf.now);
+}
+
+pub files-preserved : goal.files-preserved
+files-preserved g c =
+    let t = c.args.torrent.now in
+    let n = c.files.file-index in
+    let f = file_entry c.file-item.result in
+    let found = c.check_file-found in
+    let there = file_there t c.files-entries.result.now n c.file-item.result c.files-entries.ensures c.files-test.true c.file-item.is in
+    let checked = checked_one g.S.Shelf g.S.SeekShelf.opens_at g.S.File.Source.seen t c.args.places c.args.shelf.now c.files.shelf found.new.shelf n
+    c.files.files.items c.files.v1 f found.result there found.ensures.found found.ensures.visits found.ensures.counts found.ensures.stays
+    c.files.invariant.checked in
+    record {
+      room = omega (arith, c.files.invariant.room, c.push_reserved.ensures.capacity);
+      some = omega (arith, c.files.invariant.some, found.auto.buffer);
+      checked = subst
+          (λ v. IsCheckedFirst g.S.Shelf g.S.SeekShelf.opens_at g.S.File.Source.seen t c.args.places c.args.shelf.now (n + 1) c.push_reserved.new.self.items v
+          found.new.shelf)
+          (sym c.worse_v1-v1.ensures)
+          (subst
+          (λ xs. IsCheckedFirst g.S.Shelf g.S.SeekShelf.opens_at g.S.File.Source.seen t c.args.places c.args.shelf.now (n + 1) xs
+          (worse_v1 c.files.v1 found.result.v1) found.new.shelf)
+          (sym c.push_reserved.ensures.items) checked);
+    }
+
+all_passed : (t : Description) (n : ℕ) (files : List File) → map file_entry files ≡ t.files → length files ≤ n → n ≤ length files → n ≡ length t.files
+all_passed t n files is le ge = omega (arith, length-map files file_entry, ap length is)
+
+pub returns-clause-readable : goal.returns-clause-readable
+returns-clause-readable g c = λ same.
+    let files = c.files.files.items in
+    let few : unreadable_count files < 2 ^ 64 =
+    omega (
+      arith,
+      count_by-le-length is_unreadable files,
+      c.files.invariant.checked.count,
+      c.files.auto.file-index-end,
+      c.files.invariant.room,
+      c.files.files.small,
+    ) in
+    more_none (g.S.Shelf.faults c.args.shelf.now) (unreadable_count files) few (sym c.files.invariant.checked.counted ∙ same)
+
+same_some : {A B : Type 0} (f : A → B) (o : Option A) (p : Option B) → option_map f o ≡ p → is_some p ≡ is_some o
+same_some f None p is = ap is_some (sym is)
+same_some f (Some x) p is = ap is_some (sym is)
+
+pub returns-clause-tells : goal.returns-clause-tells
+returns-clause-tells g c =
+    let t = c.args.torrent.now in
+    let checked = c.files.invariant.checked in
+    let all = all_passed t c.files.file-index c.files-entries.result.now c.files-entries.ensures c.files-test.false c.files.auto.file-index-end in
+    let hybrid : is_some t.v1 ≡ is_some c.v1.result = same_some (λ v. version1 v.now) c.v1.result t.v1 c.v1.ensures in
+    tells_all t c.args.places (g.S.Shelf.contents c.args.shelf.now).under c.files.file-index c.files.files.items c.files.v1 c.match-v1.v1 c.sound.ensures all
+    checked.count checked.checked checked.found
+    (elim c.match-v1.branch [
+      | in-Some w ↦ ap is_some w.v1-is ∙ sym (hybrid ∙ ap is_some w.in-Some.is)
+      | in-None w ↦ ap is_some w.v1-is ∙ sym (hybrid ∙ ap is_some w.in-None.is)
+    ])
+    (λ v at. elim c.match-v1.branch [
+      | in-Some w ↦ same_Some c.files.v1 v (sym w.v1-is ∙ at)
+      | in-None w ↦ absurd (none-some v (sym w.v1-is ∙ at))
+    ])

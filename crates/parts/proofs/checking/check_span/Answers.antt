@@ -1,0 +1,82 @@
+use Rattle.std.proofs.Common.{◌≡◌, ◌∙◌, ◌*◌, ◌≤◌, ℕ, map, Option, Some, None, Result, Ok, Err, refl, ap, sym, subst, arith}
+use Rattle.benc.specs.declared.device.DeviceFault.{DeviceFault}
+use Rattle.opening.specs.Seen.{file_entry}
+use Rattle.folders.proofs.Places.{pieces_are_positive}
+use Rattle.folders.specs.Seeking.{from_offset}
+use Rattle.folders.specs.Shelf.{IsFound}
+use Rattle.parts.specs.Spans.{first_in}
+use Rattle.parts.proofs.FoundFiles.{finds_read, finds_unreadable, small_pieces}
+use Rattle.parts.proofs.HeldPieces.{span_shape}
+use Rattle.parts.proofs.PartReads.{read_in}
+use Rattle.parts.proofs.SoFar.{begins, begins_within}
+use Rattle.parts.proofs.checking.check_span.Goals as goal
+
+pub overflow_mul-offset : goal.overflow_mul-offset
+overflow_mul-offset g c =
+    let t = c.args.torrent.now in
+    let s = c.args.span in
+    let file = c.requires.file in
+    let f = file_entry c.args.file.now in
+    let low = begins_within _ _ (begins t f s (pieces_are_positive t c.sound.ensures) (span_shape t c.args._places f s c.requires.span)) in
+    let same : c.piece_length.result * s.from ≡ t.piece_length * s.from = ap (λ p. p * s.from) c.piece_length.ensures in
+    omega (arith, low, same, (c.sound.ensures.files file.0 f file.1).bound)
+
+pub of_found-requires : goal.of_found-requires
+of_found-requires g c =
+    let t = c.args.torrent.now in
+    let s = c.args.span in
+    let file = c.requires.file in
+    let f = file_entry c.args.file.now in
+    small_pieces t file.0 f s c.check_pieces-found.result c.sound.ensures file.1 (span_shape t c.args._places f s c.requires.span)
+    c.check_pieces-found.ensures.inside
+
+pub returns-in-Ok-Some-clause-found : goal.returns-in-Ok-Some-clause-found
+returns-in-Ok-Some-clause-found g c =
+    let t = c.args.torrent.now in
+    let r = c.args._places in
+    let s = c.args.span in
+    let f = file_entry c.args.file.now in
+    let source = g.S.File.Source.seen c.in-Ok-Some.source in
+    let told = (g.S.Shelf.contents c.args.shelf.now).under c.args.file.now.path in
+    let under = (g.S.Shelf.contents c.args.shelf.now).under in
+    let path = ap (map (λ s. s.now)) c.deref.ensures.0 ∙ c.parts.ensures in
+    let here : IsFound (from_offset (c.piece_length.result * s.from) (under (map (λ s. s.now) c.deref.result.now))) (Some source.left) =
+    rw c.in-Ok-Some.field-0-is at c.in-Ok-Some.ensures.found in
+    let there : IsFound (from_offset (t.piece_length * s.from) told) (Some source.left) =
+    subst (λ p. IsFound (from_offset (p * s.from) told) (Some source.left)) c.piece_length.ensures
+    (subst (λ p. IsFound (from_offset (c.piece_length.result * s.from) (under p)) (Some source.left)) path here) in
+    finds_read t r f s told source.left c.check_pieces-found.result c.of_found.result c.requires.span there c.check_pieces-found.ensures.found
+    c.of_found.ensures
+
+pub returns-in-Ok-Some-clause-visits : goal.returns-in-Ok-Some-clause-visits
+returns-in-Ok-Some-clause-visits g c =
+    let t = c.args.torrent.now in
+    let r = c.args._places in
+    let s = c.args.span in
+    let f = file_entry c.args.file.now in
+    let source = c.in-Ok-Some.source in
+    let read = c.check_pieces-found.new.source in
+    let path = ap (map (λ s. s.now)) c.deref.ensures.0 ∙ c.parts.ensures in
+    let at : c.piece_length.result * s.from ≡ t.piece_length * first_in r f =
+    ap (λ p. p * s.from) c.piece_length.ensures ∙ ap (λ k. t.piece_length * k) c.requires.span.from_is in
+    let opens = subst (λ p. g.S.SeekShelf.opens_at c.args.shelf.now p (t.piece_length * first_in r f) c.open_at.result c.open_at.new.self) path
+    (subst (λ o. g.S.SeekShelf.opens_at c.args.shelf.now (map (λ s. s.now) c.deref.result.now) o c.open_at.result c.open_at.new.self) at c.open_at.ensures.opens) in
+    record {
+      answer = Ok (Some source);
+      opened = record {
+        between = c.open_at.new.self;
+        opened = subst (λ (a : Result (Option g.row.S-File.Denot) DeviceFault).
+            g.S.SeekShelf.opens_at c.args.shelf.now f.path (t.piece_length * first_in r f) a c.open_at.new.self)
+            (c.in-Ok-Some.is ∙ ap Ok c.in-Ok-Some.field-0-is) opens;
+        read = read;
+        reading = read_in t r f s (g.S.File.Source.seen source) (g.S.File.Source.seen read) c.check_pieces-found.result c.of_found.result c.requires.span
+            c.check_pieces-found.ensures.no_further c.check_pieces-found.ensures.own c.check_pieces-found.ensures.counts c.of_found.ensures;
+        closed = c.close.ensures.closes;
+      };
+      follows = tt;
+    }
+
+pub returns-in-Err-clause-found : goal.returns-in-Err-clause-found
+returns-in-Err-clause-found g c =
+    finds_unreadable c.args.torrent.now c.args._places (file_entry c.args.file.now) ((g.S.Shelf.contents c.args.shelf.now).under c.args.file.now.path)
+    c.not_whole-in-Err.result c.not_whole-in-Err.ensures.file c.not_whole-in-Err.ensures.v1

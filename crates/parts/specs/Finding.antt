@@ -1,0 +1,48 @@
+-- What the check of a part finds of each file, and of all of them on a shelf.
+use Rattle.std.specs.Prelude.{◌≡◌, ℕ, ◌+◌, ◌<◌, List, Option, Some, None, ⊤}
+use Rattle.opening.specs.Description.{Description, FileEntry, Version1}
+use Rattle.folders.specs.Folder.{Contents}
+use Rattle.folders.specs.Verdicts.{AgreeWith, Agrees, is_checked, is_whole}
+use Rattle.folders.specs.declared.report.FileVerdict.{FileVerdict}
+use Rattle.folders.specs.declared.report.V1Verdict.{V1Verdict}
+use Rattle.folders.specs.declared.report.V1Verdict.TheVariants as version1
+use Rattle.parts.specs.Parts.{Holds, IsPartVerdict, IsVersion1Good, TellsPart, piece_count}
+use Rattle.parts.specs.declared.places.Places.{Places}
+use Rattle.parts.specs.declared.verdicts.Verdicts.{Verdicts}
+
+-- piece k of the file is among these places, and the file has these bytes
+pub record HasPieceIn (t : Description) (r : Places) (f : FileEntry) (content : Option (List ℕ))
+    (k : ℕ) (bytes : List ℕ) : Type 0 where
+  pub content_is : content ≡ Some bytes
+  pub inside : k < piece_count t f
+  pub held : Holds r (f.first_piece + k)
+
+-- the version 1 pieces that begin with a file's pieces among these places, as a verdict tells them
+abbrev pub IsFileV1 : Description → Version1 → Places → FileEntry → Option (List ℕ) → V1Verdict
+    → Type 0
+IsFileV1 t v r f content version1.NotChecked = ⊤
+IsFileV1 t v r f content version1.Good = (k : ℕ) (bytes : List ℕ)
+    → HasPieceIn t r f content k bytes → IsVersion1Good t v f bytes k
+IsFileV1 t v r f content (version1.Bad q) =
+    (k : ℕ) × (bytes : List ℕ) × (q ≡ f.first_piece + k) × HasPieceIn t r f content k bytes
+    × (IsVersion1Good t v f bytes k → ⊥)
+    × ((j : ℕ) → j < k → HasPieceIn t r f content j bytes → IsVersion1Good t v f bytes j)
+
+-- What a part found of a file of whose path a shelf tells this. It has this content, which is the
+-- known one, and both verdicts are true of it.
+pub record FindsFile (t : Description) (r : Places) (f : FileEntry)
+    (told : Option (Option (List ℕ))) (found : Verdicts) : Type 0 where
+  pub content : Option (List ℕ)
+  pub agrees : Agrees told content
+  pub verdict : IsPartVerdict t r f content found.file
+  pub version1 : (v : Version1) → t.v1 ≡ Some v → IsFileV1 t v r f content found.v1
+  pub checked : is_checked found.v1 ≡ is_whole found.file
+
+-- What the report of a part says of a shelf that tells this of its paths. There are contents, which
+-- are the ones that the shelf tells as far as it does, and each verdict is true of them.
+pub record TellsPlaces (t : Description) (r : Places)
+    (under : List (List ℕ) → Option (Option (List ℕ))) (files : List FileVerdict)
+    (v1 : Option V1Verdict) : Type 0 where
+  pub contents : Contents
+  pub agree : AgreeWith t under contents
+  pub tells : TellsPart t contents (record { places = r; files = files; v1 = v1 })
