@@ -164,7 +164,9 @@ def test_a_check_that_is_cut_off():
         tty.setraw(theirs)
         program = subprocess.Popen([BTCHECK, "check", path, place], stdout=theirs, stderr=subprocess.DEVNULL)
         os.close(theirs)
-        line = os.read(ours, 65536)
+        line = b""
+        while not line.endswith(b"\n"):
+            line += os.read(ours, 65536)
         program.send_signal(signal.SIGINT)
         assert program.wait(timeout=60) == -signal.SIGINT and line == b"good a\n", (program.returncode, line)
         os.close(ours)
@@ -304,7 +306,7 @@ def test_files_that_fail():
                     "SHIM_ERRNO": "5", "SHIM_ONWARD": "0", "SHIM_ONE_BYTE": "0"}
         status, out, sent = on_terminal("root", paths[0], both=True, **failing(late))
         assert status == 2 and len(drawn(sent)) > 1, sent
-        assert screen(sent) == [f"fault: cannot read {paths[0]}", ""], sent
+        assert screen(sent) == [f"fault: cannot read {paths[0]}", "reason: Input/output error (os error 5)", ""], sent
         status, out, sent = on_terminal("check", path, f"{place}/all", **failing(late))
         assert (status, out) == (1, "unreadable a\ngood b\nno\n") and drawn(sent), (out, sent)
         assert screen(sent) == [""], sent

@@ -2,7 +2,7 @@
 #![tactic(auto)]
 
 use command_line::{ExplainFault, action, explain};
-use commands::{perform, print_fault};
+use commands::{System, perform, print_fault};
 use printing::Fault;
 use std::process::ExitCode;
 use std::{env, io};
@@ -17,9 +17,9 @@ fn all_arguments(rt: &HostRuntime) -> Result<Vec<String>, Fault<'static>> {
 }
 
 // Does what the arguments ask for, or says why they were refused. Gives the exit status.
-fn run<'a>(rt: &HostRuntime, line: &'a [&'a str]) -> Result<u8, Fault<'a>> {
+fn run<'a>(system: &System, rt: &HostRuntime, line: &'a [&'a str]) -> Result<u8, Fault<'a>> {
     match action(rt.alloc(), line) {
-        Ok(action) => perform(rt, &action),
+        Ok(action) => perform(system, &action),
         Err(error) => match explain(rt, &error) {
             Ok(status) => Ok(status),
             Err(ExplainFault::NoMemory) => Err(Fault::NoMemory),
@@ -29,19 +29,20 @@ fn run<'a>(rt: &HostRuntime, line: &'a [&'a str]) -> Result<u8, Fault<'a>> {
 }
 
 fn main(rt: HostRuntime) -> ExitCode {
+    let system = System::new(&rt);
     let owned = match all_arguments(&rt) {
         Ok(owned) => owned,
-        Err(fault) => return print_fault(&rt, &fault),
+        Err(fault) => return print_fault(&system, &fault),
     };
     let Ok(line) = owned
         .iter()
         .map(|argument| argument.as_str())
         .collect::<Vec<&str>>(rt.alloc())
     else {
-        return print_fault(&rt, &Fault::NoMemory);
+        return print_fault(&system, &Fault::NoMemory);
     };
-    match run(&rt, line.as_slice()) {
+    match run(&system, &rt, line.as_slice()) {
         Ok(status) => ExitCode::from(status),
-        Err(fault) => print_fault(&rt, &fault),
+        Err(fault) => print_fault(&system, &fault),
     }
 }

@@ -4,13 +4,15 @@ ghost use Rattle.commands.specs.SystemPaths.{system_path_below};
 ghost use Rattle.benc.specs.Device.{one_more};
 
 use crate::identity::Identity;
+use crate::noted::Noted;
 use crate::offsets::Offsets;
+use crate::system::{Cause, System};
 use benc::{DeviceFault, FromRead, Source};
 use folders::{Shelf, ShelfFault};
 use opening::Torrent;
 use progress::{Counted, Progress};
 use std::alloc::{AllocError, Global};
-use std::fs::{self, DirEntry, File};
+use std::fs::{self, File, Metadata};
 use std::io::{self, ErrorKind};
 
 /// The files below a folder. Opening follows symlinks, and fails at what is then no regular file.
@@ -20,7 +22,7 @@ use std::io::{self, ErrorKind};
 /// file is noted as progress.
 #[derive(Drop)]
 pub struct Folder<'a> {
-    rt: &'a HostRuntime,
+    system: &'a System,
     dir: &'a str,
     faults: u64,
     // None if the files are read one behind the other.
@@ -32,23 +34,23 @@ pub struct Folder<'a> {
 
 impl<'a> Folder<'a> {
     /// The folder with this path, for files that are listed. It need not be there.
-    pub fn new(rt: &'a HostRuntime, dir: &'a str, progress: &'a Progress) -> Folder<'a>
+    pub fn new(system: &'a System, dir: &'a str, progress: &'a Progress) -> Folder<'a>
         ensures dir { result.dir.now ≡ dir.entry.now }
         ensures faults { result.faults ≡ 0 }
     {
         Folder {
-            rt,
+            system,
             dir,
             faults: 0,
             offsets: None,
-            listed: Vec::new(rt.alloc()),
+            listed: Vec::new(system.alloc()),
             progress,
         }
     }
 
     /// The folder with this path, for the files of a torrent. It need not be there.
     pub fn with_torrent(
-        rt: &'a HostRuntime,
+        system: &'a System,
         dir: &'a str,
         torrent: &'a Torrent<'a>,
         progress: &'a Progress,
@@ -57,18 +59,18 @@ impl<'a> Folder<'a> {
         ensures faults { result.faults ≡ 0 }
     {
         Folder {
-            rt,
+            system,
             dir,
             faults: 0,
             offsets: Some(Offsets::new(torrent)),
-            listed: Vec::new(rt.alloc()),
+            listed: Vec::new(system.alloc()),
             progress,
         }
     }
 
     /// Whether what has this path is one of the files that the last listing found.
     pub fn has_listed(&self, path: &str) -> bool {
-        match Identity::at(self.rt, path) {
+        match Identity::at(self.system.rt(), path) {
             Some(file) => self.listed.as_slice().contains(&file),
             None => false,
         }
@@ -76,13 +78,13 @@ impl<'a> Folder<'a> {
 
     /// Whether what has this path is one of the torrent's files here. `Err` is out of memory.
     pub fn holds(&self, torrent: &Torrent<'_>, path: &str) -> Result<bool, AllocError> {
-        let wanted = Identity::at(self.rt, path);
+        let wanted = Identity::at(self.system.rt(), path);
         if wanted.is_none() || self.dir.is_empty() {
             return Ok(false);
         }
         'files: for file in torrent.files() {
             let system_path = self.system_path(file.path.parts().as_slice())?;
-            if Identity::at(self.rt, system_path.as_str()) == wanted {
+            if Identity::at(self.system.rt(), system_path.as_str()) == wanted {
                 return Ok(true);
             }
         }
@@ -101,7 +103,7 @@ impl<'a> Folder<'a> {
         ensures { IfOk result (λ text. string_bytes text
             ≡ system_path_below self.now.dir.now (map (λ s. s.now) path.now)) }
     {
-        let mut text = String::from_str(self.rt.alloc(), self.dir)?;
+        let mut text = String::from_str(self.system.alloc(), self.dir)?;
         'parts: for part in path {
             text.push('/')?;
             text.push_str(part)?;
@@ -118,17 +120,26 @@ impl<'a> Folder<'a> {
         let system_path = self.system_path(path)?;
         match self.open_regular(system_path.as_str()) {
             Ok(file) => Ok(Some((file, system_path))),
-            Err(error) if error.kind() == ErrorKind::NotFound => Ok(None),
-            Err(error) => Err(error),
+            Err(error) => self.not_opened(error),
+        }
+    }
+
+    // What an opening that failed answers: an error, or nothing if the system finds no such name.
+    fn not_opened<T>(&self, error: io::Error) -> io::Result<Option<T>> {
+        self.system.note(Cause::Error(error));
+        if error.kind() == ErrorKind::NotFound {
+            Ok(None)
+        } else {
+            Err(error)
         }
     }
 
     // Opens a regular file, and fails without opening if it is of another kind.
     fn open_regular(&self, system_path: &str) -> io::Result<File> {
-        if !fs::metadata(self.rt, system_path)?.is_file() {
+        if !fs::metadata(self.system.rt(), system_path)?.is_file() {
             return Err(io::Error::from(ErrorKind::InvalidInput));
         }
-        File::open(self.rt, system_path)
+        File::open(self.system.rt(), system_path)
     }
 
     // How many bytes stand before the file with this path.
@@ -143,7 +154,7 @@ impl<'a> Folder<'a> {
 
     // Lists all files, folder by folder.
     fn walk(&self) -> Result<Walk, ShelfFault> {
-        let alloc = self.rt.alloc();
+        let alloc = self.system.alloc();
         let mut walk = Walk::from_top(alloc)?;
         for _ in 0..u64::MAX {
             let Some(folder) = walk.folders.pop() else {
@@ -154,18 +165,25 @@ impl<'a> Folder<'a> {
         Err(ShelfFault::Device)
     }
 
+    // Why a folder was not listed.
+    fn unlisted(&self, error: io::Error) -> ShelfFault {
+        self.system.note(Cause::Error(error));
+        listing_fault(error)
+    }
+
     // Lists one folder.
     fn list_folder(&self, folder: &[String], walk: &mut Walk) -> Result<(), ShelfFault> {
-        let alloc = self.rt.alloc();
+        let alloc = self.system.alloc();
         let parts = folder
             .iter()
             .map(|part| part.as_str())
             .collect::<Vec<&str>>(alloc)?;
         let system_path = self.system_path(parts.as_slice())?;
-        for entry in fs::read_dir(self.rt, system_path).map_err(listing_fault)? {
-            let entry = entry.map_err(listing_fault)?;
+        for entry in fs::read_dir(self.system.rt(), system_path).map_err(|e| self.unlisted(e))? {
+            let entry = entry.map_err(|e| self.unlisted(e))?;
             let path = path_in(alloc, folder, entry.file_name())?;
-            walk.note(path, &entry)?;
+            let found = entry.metadata().map_err(|e| self.unlisted(e))?;
+            walk.note(path, &found)?;
         }
         Ok(())
     }
@@ -219,9 +237,8 @@ impl Walk {
     }
 
     // Takes up what has this path. Symlinks are not followed.
-    fn note(&mut self, path: Vec<String>, entry: &DirEntry) -> Result<(), ShelfFault> {
-        let found = entry.metadata().map_err(listing_fault)?;
-        if let Some(identity) = Identity::of(&found) {
+    fn note(&mut self, path: Vec<String>, found: &Metadata) -> Result<(), ShelfFault> {
+        if let Some(identity) = Identity::of(found) {
             self.bytes = self.bytes.saturating_add(found.len());
             self.identities.push(identity).map_err(AllocError::from)?;
             self.files.push(path).map_err(AllocError::from)?;
@@ -235,7 +252,7 @@ impl Walk {
 }
 
 impl<'a> Shelf for Folder<'a> {
-    type File = Counted<'a, FromRead<File>, String>;
+    type File = Counted<'a, FromRead<Noted<'a, File>>, String>;
 
     // What the file system holds is not known.
     ghost contents = { λ _. record { under = λ _. None; listing = None } };
@@ -264,7 +281,7 @@ impl<'a> Shelf for Folder<'a> {
         match self.open_file(path) {
             Ok(None) => Ok(None),
             Ok(Some((file, name))) => Ok(Some(Counted::new(
-                FromRead::new(file),
+                FromRead::new(Noted::new(file, self.system)),
                 name,
                 before,
                 self.progress,

@@ -4,13 +4,16 @@
 mod fault;
 mod folder;
 mod identity;
+mod noted;
 mod offsets;
 pub mod outcomes;
 mod output;
 mod performing;
 mod streams;
+mod system;
 mod torrent_file;
 
 pub use fault::print_fault;
 pub use folder::Folder;
 pub use performing::perform;
+pub use system::System;

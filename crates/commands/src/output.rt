@@ -1,21 +1,30 @@
 //! Files that are written, none of which is an input.
 use crate::identity::Identity;
+use crate::system::{Cause, System};
 use printing::Fault;
 use std::fs::File;
 
 /// Opens the file with this path and empties it, unless it is the same file as one of the inputs,
 /// by whatever paths: then it stays as it is, and the fault is that it cannot be written.
 pub(crate) fn create_output<'a>(
-    rt: &HostRuntime,
+    system: &System,
     path: &'a str,
     inputs: &[&str],
 ) -> Result<File, Fault<'a>> {
-    let output = Identity::at(rt, path);
-    if output.is_some() && inputs.iter().any(|input| Identity::at(rt, input) == output) {
+    let output = Identity::at(system.rt(), path);
+    if output.is_some()
+        && inputs
+            .iter()
+            .any(|input| Identity::at(system.rt(), input) == output)
+    {
+        system.note(Cause::IsInput);
         return Err(Fault::Write(path));
     }
-    match File::create(rt, path) {
+    match File::create(system.rt(), path) {
         Ok(file) => Ok(file),
-        Err(_) => Err(Fault::Write(path)),
+        Err(error) => {
+            system.note(Cause::Error(error));
+            Err(Fault::Write(path))
+        }
     }
 }

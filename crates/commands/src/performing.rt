@@ -2,9 +2,11 @@
 ghost use Rattle.std.specs.Prelude.{◌≢◌, IfErr};
 
 use crate::folder::Folder;
+use crate::noted::{Noted, Output};
 use crate::outcomes;
 use crate::output::create_output;
 use crate::streams::hold_closed_streams;
+use crate::system::{Cause, System};
 use crate::torrent_file::read_torrent;
 use benc::{FromRead, FromWrite, Sink, Source};
 use command_line::command::{Action, Check, Convert, Create, Replay};
@@ -16,33 +18,31 @@ use opening::Torrent;
 use printing::Fault;
 use progress::{Cleared, Counted, Progress};
 use std::fs::File;
-use std::io::{self, BufWriter, IsTerminal, LineWriter, Printer};
+use std::io::{BufWriter, IsTerminal, LineWriter};
 
 /// Does what was asked for, and gives the exit status.
-pub fn perform<'a>(rt: &HostRuntime, action: &Action<'a>) -> Result<u8, Fault<'a>> {
-    let _placeholders = hold_closed_streams(rt)?;
+pub fn perform<'a>(system: &System, action: &Action<'a>) -> Result<u8, Fault<'a>> {
+    let _placeholders = hold_closed_streams(system.rt())?;
     match action {
-        Action::Root { file, json } => root(rt, file, *json),
-        Action::Show { torrent, json } => show(rt, torrent, *json),
-        Action::Check(asked) => check(rt, asked),
-        Action::Replay(asked) => replay(rt, asked),
-        Action::Create(asked) => create(rt, asked),
-        Action::Convert(asked) => convert(rt, asked),
+        Action::Root { file, json } => root(system, file, *json),
+        Action::Show { torrent, json } => show(system, torrent, *json),
+        Action::Check(asked) => check(system, asked),
+        Action::Replay(asked) => replay(system, asked),
+        Action::Create(asked) => create(system, asked),
+        Action::Convert(asked) => convert(system, asked),
     }
 }
 
-fn root<'a>(rt: &HostRuntime, path: &'a str, json: bool) -> Result<u8, Fault<'a>> {
-    let Ok(file) = File::open(rt, path) else {
-        return Err(Fault::Read(path));
-    };
-    let progress = Progress::new(rt, length_of(&file));
-    let mut source = Counted::new(FromRead::new(file), path, 0, &progress);
-    let out = Cleared::new(FromWrite::new(io::writer(rt)), &progress);
-    print_root(rt, path, &mut source, json, out)
+fn root<'a>(system: &System, path: &'a str, json: bool) -> Result<u8, Fault<'a>> {
+    let file = system.open(path)?;
+    let progress = Progress::new(system.rt(), length_of(&file));
+    let mut source = Counted::new(FromRead::new(Noted::new(file, system)), path, 0, &progress);
+    let out = Cleared::new(FromWrite::new(system.output()), &progress);
+    print_root(system, path, &mut source, json, out)
 }
 
 fn print_root<'a, R: Source, W: Sink + Drop>(
-    rt: &HostRuntime,
+    system: &System,
     path: &'a str,
     source: &mut R,
     json: bool,
@@ -52,7 +52,7 @@ fn print_root<'a, R: Source, W: Sink + Drop>(
     if !json {
         return outcomes::root(path, source, &mut out);
     }
-    let mut objects = json_lines::LineWriter::new(rt.alloc(), ROOT, out);
+    let mut objects = json_lines::LineWriter::new(system.alloc(), ROOT, out);
     let status = outcomes::root(path, source, &mut objects);
     memory_first(status, &objects)
 }
@@ -65,19 +65,28 @@ fn length_of(file: &File) -> Option<u64> {
     }
 }
 
-fn show<'a>(rt: &HostRuntime, path: &'a str, json: bool) -> Result<u8, Fault<'a>> {
-    let bytes = read_torrent(rt, path)?;
-    let mut out = buffered_output(rt)?;
+fn show<'a>(system: &System, path: &'a str, json: bool) -> Result<u8, Fault<'a>> {
+    let bytes = read_torrent(system, path)?;
+    print_show(system, bytes.as_slice(), json, buffered_output(system)?)
+}
+
+fn print_show<'a, W: Sink + Drop>(
+    system: &System,
+    bytes: &[u8],
+    json: bool,
+    out: W,
+) -> Result<u8, Fault<'a>> {
+    let mut out = out;
     if !json {
-        return show_torrent(rt, bytes.as_slice(), &mut out);
+        return show_torrent(system, bytes, &mut out);
     }
-    let mut objects = json_lines::LineWriter::new(rt.alloc(), SHOW, out);
-    let status = show_torrent(rt, bytes.as_slice(), &mut objects);
+    let mut objects = json_lines::LineWriter::new(system.alloc(), SHOW, out);
+    let status = show_torrent(system, bytes, &mut objects);
     memory_first(status, &objects)
 }
 
-fn show_torrent<'a, W: Sink>(rt: &HostRuntime, bytes: &[u8], out: &mut W) -> Result<u8, Fault<'a>> {
-    match open(rt, bytes) {
+fn show_torrent<'a, W: Sink>(system: &System, bytes: &[u8], out: &mut W) -> Result<u8, Fault<'a>> {
+    match open(system, bytes) {
         Ok(torrent) => outcomes::show(&torrent, out),
         Err(refusal) => outcomes::refuse(&refusal, &[], out),
     }
@@ -96,32 +105,38 @@ fn memory_first<'a, W: Sink>(
 }
 
 // A terminal gets each line as soon as it is known, all else gets full buffers.
-fn check<'a>(rt: &HostRuntime, asked: &Check<'a>) -> Result<u8, Fault<'a>> {
-    let bytes = read_torrent(rt, asked.torrent)?;
-    if rt.stdout().is_terminal() {
-        check_torrent(rt, bytes.as_slice(), asked, line_output(rt)?)
+fn check<'a>(system: &System, asked: &Check<'a>) -> Result<u8, Fault<'a>> {
+    let bytes = read_torrent(system, asked.torrent)?;
+    if system.rt().stdout().is_terminal() {
+        check_torrent(system, bytes.as_slice(), asked, line_output(system)?)
     } else {
-        check_torrent(rt, bytes.as_slice(), asked, buffered_output(rt)?)
+        check_torrent(system, bytes.as_slice(), asked, buffered_output(system)?)
     }
 }
 
 fn check_torrent<'a, W: Sink + Drop>(
-    rt: &HostRuntime,
+    system: &System,
     bytes: &[u8],
     asked: &Check<'a>,
     out: W,
 ) -> Result<u8, Fault<'a>> {
-    match open(rt, bytes) {
+    match open(system, bytes) {
         Ok(torrent) => {
-            let progress = Progress::new(rt, Some(all_bytes(&torrent)));
-            print_check(rt, &torrent, asked, &progress, Cleared::new(out, &progress))
+            let progress = Progress::new(system.rt(), Some(all_bytes(&torrent)));
+            print_check(
+                system,
+                &torrent,
+                asked,
+                &progress,
+                Cleared::new(out, &progress),
+            )
         }
-        Err(refusal) => refuse(rt, &refusal, asked.json, CHECK, out),
+        Err(refusal) => refuse(system, &refusal, asked.json, CHECK, out),
     }
 }
 
 fn print_check<'a, W: Sink + Drop>(
-    rt: &HostRuntime,
+    system: &System,
     torrent: &Torrent<'_>,
     asked: &Check<'a>,
     progress: &Progress,
@@ -129,32 +144,32 @@ fn print_check<'a, W: Sink + Drop>(
 ) -> Result<u8, Fault<'a>> {
     let mut out = out;
     if !asked.json {
-        return check_folder(rt, torrent, asked, progress, &mut out);
+        return check_folder(system, torrent, asked, progress, &mut out);
     }
-    let mut objects = json_lines::LineWriter::new(rt.alloc(), CHECK, out);
-    let status = check_folder(rt, torrent, asked, progress, &mut objects);
+    let mut objects = json_lines::LineWriter::new(system.alloc(), CHECK, out);
+    let status = check_folder(system, torrent, asked, progress, &mut objects);
     memory_first(status, &objects)
 }
 
 fn check_folder<'a, W: Sink>(
-    rt: &HostRuntime,
+    system: &System,
     torrent: &Torrent<'_>,
     asked: &Check<'a>,
     progress: &Progress,
     out: &mut W,
 ) -> Result<u8, Fault<'a>> {
-    let mut folder = Folder::with_torrent(rt, asked.dir, torrent, progress);
+    let mut folder = Folder::with_torrent(system, asked.dir, torrent, progress);
     let lines = if asked.quiet {
         Lines::NotGood
     } else {
         Lines::All
     };
-    outcomes::check(rt.alloc(), torrent, &mut folder, lines, out)
+    outcomes::check(system.alloc(), torrent, &mut folder, lines, out)
 }
 
 // Prints the refusal of a torrent, as its line or as the object of that.
 fn refuse<'a, W: Sink + Drop>(
-    rt: &HostRuntime,
+    system: &System,
     refusal: &Refusal,
     json: bool,
     forms: &'static [Form],
@@ -166,7 +181,7 @@ fn refuse<'a, W: Sink + Drop>(
     if !json {
         return outcomes::refuse(refusal, &[], &mut out);
     }
-    let mut objects = json_lines::LineWriter::new(rt.alloc(), forms, out);
+    let mut objects = json_lines::LineWriter::new(system.alloc(), forms, out);
     let status = outcomes::refuse(refusal, &[], &mut objects);
     memory_first(status, &objects)
 }
@@ -182,30 +197,31 @@ fn all_bytes(torrent: &Torrent<'_>) -> u64 {
 
 // The torrent's file is opened once all files are hashed, and stays untouched if one is refused. It
 // is none of those files.
-fn create<'a>(rt: &HostRuntime, asked: &Create<'a>) -> Result<u8, Fault<'a>> {
-    let progress = Progress::new(rt, None);
-    let mut folder = Folder::new(rt, asked.dir, &progress);
-    let mut out = Cleared::new(FromWrite::new(io::writer(rt)), &progress);
-    match outcomes::gather(rt.alloc(), asked, &mut folder, &mut out)? {
+fn create<'a>(system: &System, asked: &Create<'a>) -> Result<u8, Fault<'a>> {
+    let progress = Progress::new(system.rt(), None);
+    let mut folder = Folder::new(system, asked.dir, &progress);
+    let mut out = Cleared::new(FromWrite::new(system.output()), &progress);
+    match outcomes::gather(system.alloc(), asked, &mut folder, &mut out)? {
         Ok(draft) => {
             if folder.has_listed(asked.out) {
+                system.note(Cause::IsInput);
                 return Err(Fault::Write(asked.out));
             }
-            write_torrent(rt, &draft, asked.out, &progress, &mut out)
+            write_torrent(system, &draft, asked.out, &progress, &mut out)
         }
         Err(status) => Ok(status),
     }
 }
 
 fn write_torrent<'a, W: Sink>(
-    rt: &HostRuntime,
+    system: &System,
     draft: &Draft,
     path: &'a str,
     progress: &Progress,
     out: &mut W,
 ) -> Result<u8, Fault<'a>> {
-    let file = create_output(rt, path, &[])?;
-    let Ok(buffered) = BufWriter::new(rt.alloc(), file) else {
+    let file = create_output(system, path, &[])?;
+    let Ok(buffered) = BufWriter::new(system.alloc(), Noted::new(file, system)) else {
         return Err(Fault::NoMemory);
     };
     let mut torrent = Cleared::new(FromWrite::new(buffered), progress);
@@ -213,62 +229,75 @@ fn write_torrent<'a, W: Sink>(
 }
 
 // The new record's file is opened before the record.
-fn convert<'a>(rt: &HostRuntime, asked: &Convert<'a>) -> Result<u8, Fault<'a>> {
-    let written = create_output(rt, asked.out, &[asked.record])?;
-    let Ok(file) = File::open(rt, asked.record) else {
-        return Err(Fault::Read(asked.record));
-    };
-    convert_file(rt, asked.record, file, asked.out, written)
+fn convert<'a>(system: &System, asked: &Convert<'a>) -> Result<u8, Fault<'a>> {
+    let written = create_output(system, asked.out, &[asked.record])?;
+    let file = system.open(asked.record)?;
+    convert_file(system, asked.record, file, asked.out, written)
 }
 
 // Frames go out all the time, so they leave the line where it is, but not if a terminal shows them.
 fn convert_file<'a>(
-    rt: &HostRuntime,
+    system: &System,
     record: &'a str,
     file: File,
     path: &'a str,
     written: File,
 ) -> Result<u8, Fault<'a>> {
-    let progress = Progress::new(rt, length_of(&file));
+    let progress = Progress::new(system.rt(), length_of(&file));
     let is_shown = written.is_terminal();
-    let converted = FromWrite::new(written);
+    let converted = FromWrite::new(Noted::new(written, system));
     if is_shown {
         let mut cleared = Cleared::new(converted, &progress);
-        convert_to(rt, record, file, path, &mut cleared, &progress)
+        convert_to(system, record, file, path, &mut cleared, &progress)
     } else {
         let mut converted = converted;
-        convert_to(rt, record, file, path, &mut converted, &progress)
+        convert_to(system, record, file, path, &mut converted, &progress)
     }
 }
 
 fn convert_to<'a, W: Sink>(
-    rt: &HostRuntime,
+    system: &System,
     record: &'a str,
     file: File,
     path: &'a str,
     converted: &mut W,
     progress: &Progress,
 ) -> Result<u8, Fault<'a>> {
-    let mut source = Counted::new(FromRead::new(file), record, 0, progress);
-    let mut out = Cleared::new(FromWrite::new(io::writer(rt)), progress);
+    let mut source = Counted::new(FromRead::new(Noted::new(file, system)), record, 0, progress);
+    let mut out = Cleared::new(FromWrite::new(system.output()), progress);
     outcomes::convert(record, &mut source, path, converted, &mut out)
 }
 
 // The torrent is read, and a refusal is printed, before the record is opened.
-fn replay<'a>(rt: &HostRuntime, asked: &Replay<'a>) -> Result<u8, Fault<'a>> {
-    let bytes = read_torrent(rt, asked.torrent)?;
-    let out = FromWrite::new(io::writer(rt));
-    match open(rt, bytes.as_slice()) {
+fn replay<'a>(system: &System, asked: &Replay<'a>) -> Result<u8, Fault<'a>> {
+    let bytes = read_torrent(system, asked.torrent)?;
+    let out = FromWrite::new(system.output());
+    replay_torrent(system, bytes.as_slice(), asked, out)
+}
+
+fn replay_torrent<'a, W: Sink + Drop>(
+    system: &System,
+    bytes: &[u8],
+    asked: &Replay<'a>,
+    out: W,
+) -> Result<u8, Fault<'a>> {
+    match open(system, bytes) {
         Ok(torrent) => {
-            let progress = Progress::new(rt, Some(all_bytes(&torrent)));
-            print_replay(rt, &torrent, asked, &progress, Cleared::new(out, &progress))
+            let progress = Progress::new(system.rt(), Some(all_bytes(&torrent)));
+            print_replay(
+                system,
+                &torrent,
+                asked,
+                &progress,
+                Cleared::new(out, &progress),
+            )
         }
-        Err(refusal) => refuse(rt, &refusal, asked.json, REPLAY, out),
+        Err(refusal) => refuse(system, &refusal, asked.json, REPLAY, out),
     }
 }
 
 fn print_replay<'a, W: Sink + Drop>(
-    rt: &HostRuntime,
+    system: &System,
     torrent: &Torrent<'_>,
     asked: &Replay<'a>,
     progress: &Progress,
@@ -276,48 +305,46 @@ fn print_replay<'a, W: Sink + Drop>(
 ) -> Result<u8, Fault<'a>> {
     let mut out = out;
     if !asked.json {
-        return replay_file(rt, torrent, asked, progress, &mut out);
+        return replay_file(system, torrent, asked, progress, &mut out);
     }
-    let mut objects = json_lines::LineWriter::new(rt.alloc(), REPLAY, out);
-    let status = replay_file(rt, torrent, asked, progress, &mut objects);
+    let mut objects = json_lines::LineWriter::new(system.alloc(), REPLAY, out);
+    let status = replay_file(system, torrent, asked, progress, &mut objects);
     memory_first(status, &objects)
 }
 
 // The record is opened before the file of the answers, which is not touched if it fails. After that
 // the session is filled from the folder.
 fn replay_file<'a, W: Sink>(
-    rt: &HostRuntime,
+    system: &System,
     torrent: &Torrent<'_>,
     asked: &Replay<'a>,
     progress: &Progress,
     out: &mut W,
 ) -> Result<u8, Fault<'a>> {
-    let Ok(file) = File::open(rt, asked.record) else {
-        return Err(Fault::Read(asked.record));
-    };
-    let mut source = FromRead::new(file);
-    let answers = answers_file(rt, torrent, asked, progress)?;
-    let mut session = outcomes::new_session(rt.alloc(), torrent, asked.info_only)?;
+    let file = system.open(asked.record)?;
+    let mut source = FromRead::new(Noted::new(file, system));
+    let answers = answers_file(system, torrent, asked, progress)?;
+    let mut session = outcomes::new_session(system.alloc(), torrent, asked.info_only)?;
     if let Some(dir) = asked.seed {
-        let mut folder = Folder::with_torrent(rt, dir, torrent, progress);
-        outcomes::seed(rt.alloc(), &mut session, &mut folder, out)?;
+        let mut folder = Folder::with_torrent(system, dir, torrent, progress);
+        outcomes::seed(system.alloc(), &mut session, &mut folder, out)?;
     }
     match answers {
-        None => outcomes::replay(rt.alloc(), &mut session, &mut source, out),
+        None => outcomes::replay(system.alloc(), &mut session, &mut source, out),
         Some((path, file)) => outcomes::replay_and_answer(
-            rt.alloc(),
+            system.alloc(),
             &mut session,
             &mut source,
             out,
             path,
-            &mut FromWrite::new(file),
+            &mut FromWrite::new(Noted::new(file, system)),
         ),
     }
 }
 
 // The file that takes the answers, emptied, if they are wanted. It is no file that is read.
 fn answers_file<'a>(
-    rt: &HostRuntime,
+    system: &System,
     torrent: &Torrent<'_>,
     asked: &Replay<'a>,
     progress: &Progress,
@@ -326,38 +353,39 @@ fn answers_file<'a>(
         return Ok(None);
     };
     if let Some(dir) = asked.seed {
-        if Folder::new(rt, dir, progress).holds(torrent, path)? {
+        if Folder::new(system, dir, progress).holds(torrent, path)? {
+            system.note(Cause::IsInput);
             return Err(Fault::Write(path));
         }
     }
     Ok(Some((
         path,
-        create_output(rt, path, &[asked.torrent, asked.record])?,
+        create_output(system, path, &[asked.torrent, asked.record])?,
     )))
 }
 
 // Opens a torrent. It writes nothing, so no refusal is that of a sink.
-fn open<'t>(rt: &HostRuntime, bytes: &'t [u8]) -> Result<Torrent<'t>, Refusal>
+fn open<'t>(system: &System, bytes: &'t [u8]) -> Result<Torrent<'t>, Refusal>
     ensures { IfErr result (λ r. r ≢ Refusal.Write) }
 {
-    Torrent::open(rt.alloc(), bytes)
+    Torrent::open(system.alloc(), bytes)
 }
 
 // Standard output with a buffer, for text of many small parts.
-fn buffered_output<'r>(
-    rt: &'r HostRuntime,
-) -> Result<FromWrite<BufWriter<Printer<'r, HostRuntime>>>, Fault<'static>> {
-    match BufWriter::new(rt.alloc(), io::writer(rt)) {
+fn buffered_output<'s>(
+    system: &'s System,
+) -> Result<FromWrite<BufWriter<Output<'s>>>, Fault<'static>> {
+    match BufWriter::new(system.alloc(), system.output()) {
         Ok(buffered) => Ok(FromWrite::new(buffered)),
         Err(_) => Err(Fault::NoMemory),
     }
 }
 
 // Standard output a line at a time, for text of many small parts.
-fn line_output<'r>(
-    rt: &'r HostRuntime,
-) -> Result<FromWrite<LineWriter<Printer<'r, HostRuntime>>>, Fault<'static>> {
-    match LineWriter::new(rt.alloc(), io::writer(rt)) {
+fn line_output<'s>(
+    system: &'s System,
+) -> Result<FromWrite<LineWriter<Output<'s>>>, Fault<'static>> {
+    match LineWriter::new(system.alloc(), system.output()) {
         Ok(buffered) => Ok(FromWrite::new(buffered)),
         Err(_) => Err(Fault::NoMemory),
     }

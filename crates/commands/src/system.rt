@@ -1,0 +1,99 @@
+//! The system that a command runs on, and why its last call that failed did so.
+use crate::noted::{Noted, Output};
+use printing::Fault;
+use std::alloc::Global;
+use std::cell::Cell;
+use std::fmt;
+use std::fs::File;
+use std::io::{self, ErrorKind};
+
+/// The system that a command runs on. It keeps why the last call that failed did so.
+#[derive(Drop)]
+pub struct System {
+    rt: HostRuntime,
+    cause: Cell<Option<Cause>>,
+}
+
+/// Why something could not be read or written.
+#[derive(Clone, Copy)]
+pub(crate) enum Cause {
+    /// The system said this.
+    Error(io::Error),
+    /// It is to be written, and is read too.
+    IsInput,
+}
+
+impl System {
+    /// The system of this program. No call has failed yet.
+    pub fn new(rt: &HostRuntime) -> System {
+        System {
+            rt: *rt,
+            cause: Cell::new(None),
+        }
+    }
+
+    /// The system itself.
+    pub(crate) fn rt(&self) -> &HostRuntime {
+        &self.rt
+    }
+
+    /// Where memory comes from.
+    pub(crate) fn alloc(&self) -> Global {
+        self.rt.alloc()
+    }
+
+    /// Why the last call that failed did so, if one did.
+    pub(crate) fn cause(&self) -> Option<Cause> {
+        self.cause.get()
+    }
+
+    /// Keeps why a call failed.
+    pub(crate) fn note(&self, cause: Cause) {
+        self.cause.set(Some(cause));
+    }
+
+    /// Opens the file with this path to read it.
+    pub(crate) fn open<'a>(&self, path: &'a str) -> Result<File, Fault<'a>> {
+        match File::open(&self.rt, path) {
+            Ok(file) => Ok(file),
+            Err(error) => {
+                self.note(Cause::Error(error));
+                Err(Fault::Read(path))
+            }
+        }
+    }
+
+    /// Standard output.
+    pub(crate) fn output(&self) -> Output<'_> {
+        Noted::new(io::writer(&self.rt), self)
+    }
+}
+
+impl fmt::Display for Cause {
+    fn fmt<W: fmt::Write>(&self, f: &mut fmt::Formatter<W>) -> fmt::Result {
+        match self {
+            Cause::IsInput => f.write_str("it is an input"),
+            Cause::Error(error) => match words(error.kind()) {
+                Some(text) => f.write_str(text),
+                None => write!(f, "{error}"),
+            },
+        }
+    }
+}
+
+// What a kind of error is called here, of those that users meet.
+fn words(kind: ErrorKind) -> Option<&'static str> {
+    match kind {
+        ErrorKind::NotFound => Some("no such file or folder"),
+        ErrorKind::PermissionDenied => Some("permission denied"),
+        ErrorKind::IsADirectory => Some("it is a folder"),
+        ErrorKind::NotADirectory => Some("a part of the path is no folder"),
+        ErrorKind::StorageFull => Some("the disk is full"),
+        ErrorKind::QuotaExceeded => Some("the quota is used up"),
+        ErrorKind::FileTooLarge => Some("the file would be too large"),
+        ErrorKind::ReadOnlyFilesystem => Some("the disk is read-only"),
+        ErrorKind::BrokenPipe => Some("nothing reads it any more"),
+        ErrorKind::InvalidInput => Some("it is no regular file"),
+        _ => None,
+    }
+}
