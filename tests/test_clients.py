@@ -7,7 +7,7 @@ import os
 import re
 import subprocess
 
-from support import TOP, LeftOut, expect, folder, need, python_with_libtorrent, run, written
+from support import TOP, LeftOut, expect, folder, need, python_with_libtorrent, run, write, written
 from test_library_c import LIB, made
 from test_libtorrent import World
 from trees import BLOCK
@@ -20,15 +20,27 @@ def quietly(command, **options):
     return done.stdout
 
 
+def sizes_in_c():
+    """The sizes of the header's structs."""
+    structs = ["btcheck_root", "btcheck_session", "btcheck_ask", "btcheck_file", "btcheck_blocks", "btcheck_verdict"]
+    with folder() as place:
+        said = ", ".join(f"sizeof({it})" for it in structs)
+        shown = " ".join("%zu" for _ in structs)
+        write(f"{place}/sizes.c", f'#include <btcheck.h>\n#include <stdio.h>\nint main(void) {{ printf("{shown}", {said}); }}'.encode())
+        quietly(["gcc", f"-I{TOP}/include", f"{place}/sizes.c", "-o", f"{place}/sizes"])
+        return quietly([f"{place}/sizes"])
+
+
 def test_rust():
     """The crates are built with the shared object and with the static library, and their tests pass."""
-    need("cargo")
+    need("cargo", "gcc")
     made()
+    sizes = sizes_in_c()
     for static in ("0", "1"):
         env = {**os.environ, "BTCHECK_LIB_DIR": LIB, "BTCHECK_STATIC": static, "LD_LIBRARY_PATH": LIB,
-               "CARGO_TARGET_DIR": f"{TOP}/build/rust", "RUSTFLAGS": "-D warnings"}
+               "CARGO_TARGET_DIR": f"{TOP}/build/rust", "RUSTFLAGS": "-D warnings", "BTCHECK_SIZES": sizes}
         told = quietly(["cargo", "test", "--offline", "--quiet"], cwd=f"{TOP}/rust", env=env)
-        assert "9 passed; 0 failed" in told, told
+        assert "9 passed; 0 failed" in told and "FAILED" not in told, told
 
 
 def test_go():
