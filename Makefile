@@ -12,9 +12,10 @@
 #                      library, for any machine (x86-64-v2)
 # make both            links it for both kinds: build/both/btcheck, one file that needs no library and picks by the
 #                      processor that it runs on
-# make dist            packs that program with all that `make install` puts beside it, and a list of SHA-256 digests
-# make deb             packs the same as a Debian package: build/deb/btcheck_VERSION_amd64.deb (by dpkg-deb), and the
-#                      library as two more, if `make lib` made it
+# make dist            packs that program and the library with all that `make install` puts beside them, and a list of
+#                      SHA-256 digests
+# make deb             packs the same as Debian packages, by dpkg-deb: build/deb/btcheck_VERSION_amd64.deb, and the library
+#                      as libbtcheck0 and libbtcheck-dev
 # make clean           removes all that was built, kept proofs too
 
 RT ?= rt
@@ -126,9 +127,9 @@ build/both/btcheck: packaging/picker.c build/both/v2.o build/both/v3.o
 RELEASE = btcheck-$(word 2,$(shell build/both/btcheck --version))-linux-x86_64
 PACKED = build/dist/$(RELEASE)
 
-dist: build/both/btcheck
+dist: build/both/btcheck lib
 	rm -rf build/dist
-	$(MAKE) -s install BUILT=$< DESTDIR=build/dist/tree PREFIX=
+	$(MAKE) -s -o $< install BUILT=$< DESTDIR=build/dist/tree PREFIX=
 	cd build/dist/tree && find . ! -type d | LC_ALL=C sort | xargs sha256sum > ../SHA256SUMS && mv ../SHA256SUMS .
 	mv build/dist/tree $(PACKED)
 	tar --sort=name --owner=0 --group=0 --numeric-owner --mode=go=rX --mtime=@0 \
@@ -136,7 +137,7 @@ dist: build/both/btcheck
 	gzip -9n $(PACKED).tar
 	sha256sum $(PACKED).tar.gz
 
-deb: build/both/btcheck
+deb: build/both/btcheck lib
 	packaging/deb $< build/deb
 
 include library.mk

@@ -9,9 +9,9 @@ import tempfile
 import time
 
 TOP = os.path.dirname(os.path.dirname(os.path.abspath(__file__)))
-BTCHECK = os.path.join(TOP, "build", "btcheck")
-# The kind of processor to build for: as CPU says, or what `make` takes.
+# The kind of processor to build for: as CPU says, or what `make` takes; and the program for it.
 CPU = os.environ.get("CPU") or subprocess.check_output([os.path.join(TOP, "tools", "processor")], text=True).strip()
+BTCHECK = os.path.join(TOP, "build", CPU, "btcheck")
 BARE = os.path.join(TOP, "build", CPU, "bare")
 READERS = os.path.join(TOP, "build", CPU, "readers")
 SESSIONS = os.path.join(TOP, "build", CPU, "sessions")
@@ -168,7 +168,7 @@ def write_random(path, mib):
 
 def need_program():
     if not os.path.exists(BTCHECK):
-        sys.exit("build/btcheck is missing: run make first")
+        sys.exit(f"build/{CPU}/btcheck is missing: run make CPU={CPU} first")
 
 
 def lacks(command):
@@ -176,7 +176,7 @@ def lacks(command):
     need_program()
     printed = subprocess.run([BTCHECK, command, "--help"], stdout=subprocess.DEVNULL, stderr=subprocess.DEVNULL)
     if printed.returncode != 0:
-        print(f"btcheck {command} is skipped: build/btcheck does not have it")
+        print(f"btcheck {command} is skipped: the program does not have it")
     return printed.returncode != 0
 
 

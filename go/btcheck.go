@@ -277,11 +277,56 @@ func (session *Session) TakeBlocks(index, begin uint32, content []byte) (Blocks,
 	if err != nil {
 		return Blocks{}, err
 	}
+	return blocksOf(&blocks), nil
+}
+
+func blocksOf(blocks *C.btcheck_blocks) Blocks {
 	found := Blocks{File: uint64(blocks.file), First: uint64(blocks.first)}
 	for _, status := range blocks.statuses[:blocks.count] {
 		found.Told = append(found.Told, told(status))
 	}
-	return found, nil
+	return found
+}
+
+// Kind is what a message was, and what was made of it.
+type Kind uint32
+
+// Kinds of messages: hashes that are joined, blocks, a request that can be answered and one to be rejected, a reject of our
+// request, an empty message, and one of another kind.
+const (
+	Stored     Kind = C.BTCHECK_STORED
+	OfBlocks   Kind = C.BTCHECK_BLOCKS
+	Answered   Kind = C.BTCHECK_ANSWERED
+	Rejected   Kind = C.BTCHECK_REJECTED
+	RejectSeen Kind = C.BTCHECK_REJECT_NOTED
+	KeepAlive  Kind = C.BTCHECK_KEEP_ALIVE
+	Skipped    Kind = C.BTCHECK_SKIPPED
+)
+
+// Verdict is of one message: Places of Stored, Blocks of OfBlocks, ID of Skipped.
+type Verdict struct {
+	Kind   Kind
+	ID     uint32
+	Places uint64
+	Blocks Blocks
+}
+
+// Frame takes the body of one frame of the peer protocol as it came, without its length: for clients that pass messages on.
+func (session *Session) Frame(body []byte) (Verdict, error) {
+	var seen C.btcheck_verdict
+	if err := told(C.btcheck_session_frame(&session.handle, pointer(body), C.size_t(len(body)), &seen)); err != nil {
+		return Verdict{}, err
+	}
+	verdict := Verdict{Kind: Kind(seen.kind)}
+	switch verdict.Kind {
+	case Stored:
+		verdict.Places = uint64(seen.places)
+	case OfBlocks:
+		verdict.Blocks = blocksOf(&seen.blocks)
+	case Skipped:
+		verdict.ID = uint32(seen.id)
+	}
+	return verdict, nil
 }
 
 // Version gives the three numbers of the version of the library that is linked.

@@ -160,3 +160,23 @@ func TestWant(t *testing.T) {
 	_, err = session.IsVerified(9, 0)
 	see(t, err, NoSuch)
 }
+
+func TestFrames(t *testing.T) {
+	session := opened(t)
+	defer session.Close()
+	for _, each := range []struct {
+		body    []byte
+		verdict Verdict
+		err     error
+	}{
+		{nil, Verdict{Kind: KeepAlive}, nil},
+		{[]byte{4, 0, 0, 0, 0}, Verdict{Kind: Skipped, ID: 4}, nil},
+		{[]byte{7, 0}, Verdict{}, BadSize},
+		{append([]byte{7, 0, 0, 0, 1, 0, 0, 0, 0}, "abc"...), Verdict{Kind: OfBlocks, Blocks: Blocks{File: 1, Told: []error{nil}}}, nil},
+		{append([]byte{21}, make([]byte, 48)...), Verdict{Kind: Rejected}, nil},
+		{append([]byte{22}, make([]byte, 80)...), Verdict{}, Refused(201)},
+	} {
+		verdict, err := session.Frame(each.body)
+		see(t, []any{verdict, err}, []any{each.verdict, each.err})
+	}
+}

@@ -2,8 +2,10 @@
 
 Run by an interpreter that has libtorrent. Standard input is a JSON object: the folder that holds the content, the torrent
 file, an empty folder for what libtorrent loads, whether it starts with the info dictionary alone, the client's program, the
-folder for what it keeps, and whether a liar stands before the holder too, whom libtorrent meets first. Standard output is a
-JSON object: the client's status, what it said, and how many lies were told it in blocks and in hashes messages.
+folder for what it keeps, and whether a liar stands before the holder too, whom libtorrent meets first. libtorrent hangs up
+on a liar soon; so if its lies are to be hidden, libtorrent sees the truth behind the client, loads all, and then loads all
+once more from the holder. Standard output is a JSON object: the client's status, what it said, and how many lies were told
+it in blocks and in hashes messages.
 """
 import json
 import os
@@ -21,17 +23,17 @@ PIECE, HASHES = 7, 22
 
 
 class Lying(Passing):
-    """Passes connections on to a port, through a liar for each."""
+    """Passes connections on to a port, through somebody of this class for each, who changes what comes from there."""
 
-    def __init__(self, port):
-        self.liars = []
+    def __init__(self, port, make):
+        self.make, self.liars = make, []
         super().__init__(port, None)
 
     def accept(self):
         while True:
             near, _ = self.server.accept()
             far = socket.create_connection(("127.0.0.1", self.port))
-            self.liars.append(OfHalf())
+            self.liars.append(self.make())
             for ends in [(near, far, bytes), (far, near, self.liars[-1].lie)]:
                 threading.Thread(target=pump, args=ends, daemon=True).start()
 
@@ -55,9 +57,21 @@ class OfHalf(Liar):
         if self.counts[kind] % 2:
             return frame
         self.told[kind] += 1
-        if kind == HASHES:
-            return turn(frame, 60)
-        return turn(frame, 10 if self.counts[kind] % 8 == 0 else len(frame) - 1)
+        at = 60 if kind == HASHES else 10 if self.counts[kind] % 8 == 0 else len(frame) - 1
+        lie = turn(frame, at)
+        TRUTH[lie] = frame
+        return lie
+
+
+# What each lie was before.
+TRUTH = {}
+
+
+class Hiding(Liar):
+    """Gives the truth for each lie."""
+
+    def bent(self, frame):
+        return TRUTH.get(frame, frame)
 
 
 class Keeper:
@@ -98,12 +112,17 @@ def main(order):
     wait_for("the content is not found", lambda: held.status().is_seeding)
     wait_for("nobody listens", lambda: holder.listen_port() != 0)
     port = holder.listen_port()
-    liars = [Lying(port)] if order["lies"] else []
+    liars = [Lying(port, OfHalf)] if order["lies"] else []
     keeper = Keeper(order, [*(liar.own_port() for liar in liars), port])
     loaded = loader.add_torrent(parameters(order))
-    for port, done in [*((keeper.ports[0], lambda: any(liar.lies().values())) for liar in liars),
-                       (keeper.ports[-1], lambda: keeper.program.poll() is not None)]:
-        wait_for("too slow", lambda: done() or meet(loaded, port))
+    if order["hides"]:
+        hidden = Lying(keeper.ports[0], Hiding).own_port()
+        wait_for("it is not loaded", lambda: loaded.status().is_seeding or meet(loaded, hidden))
+        other, order["loaded"] = session(), f"{order['loaded']}-again"
+        loaded = other.add_torrent(parameters(order))
+    elif liars:
+        wait_for("there is no lie", lambda: any(liars[0].lies().values()) or meet(loaded, keeper.ports[0]))
+    wait_for("too slow", lambda: keeper.program.poll() is not None or meet(loaded, keeper.ports[-1]))
     status, said = keeper.ended()
     lies = liars[0].lies() if liars else {PIECE: 0, HASHES: 0}
     json.dump({"status": status, "said": said, "blocks": lies[PIECE], "hashes": lies[HASHES]}, sys.stdout)

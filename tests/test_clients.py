@@ -7,7 +7,7 @@ import os
 import re
 import subprocess
 
-from support import TOP, LeftOut, expect, folder, need, python_with_libtorrent, run, written
+from support import TOP, LeftOut, expect, folder, need, python_with_libtorrent, run, write, written
 from test_library_c import LIB, made
 from test_libtorrent import World
 from trees import BLOCK
@@ -20,15 +20,27 @@ def quietly(command, **options):
     return done.stdout
 
 
+def sizes_in_c():
+    """The sizes of the header's structs."""
+    structs = ["btcheck_root", "btcheck_session", "btcheck_ask", "btcheck_file", "btcheck_blocks", "btcheck_verdict"]
+    with folder() as place:
+        said = ", ".join(f"sizeof({it})" for it in structs)
+        shown = " ".join("%zu" for _ in structs)
+        write(f"{place}/sizes.c", f'#include <btcheck.h>\n#include <stdio.h>\nint main(void) {{ printf("{shown}", {said}); }}'.encode())
+        quietly(["gcc", f"-I{TOP}/include", f"{place}/sizes.c", "-o", f"{place}/sizes"])
+        return quietly([f"{place}/sizes"])
+
+
 def test_rust():
     """The crates are built with the shared object and with the static library, and their tests pass."""
-    need("cargo")
+    need("cargo", "gcc")
     made()
+    sizes = sizes_in_c()
     for static in ("0", "1"):
         env = {**os.environ, "BTCHECK_LIB_DIR": LIB, "BTCHECK_STATIC": static, "LD_LIBRARY_PATH": LIB,
-               "CARGO_TARGET_DIR": f"{TOP}/build/rust", "RUSTFLAGS": "-D warnings"}
+               "CARGO_TARGET_DIR": f"{TOP}/build/rust", "RUSTFLAGS": "-D warnings", "BTCHECK_SIZES": sizes}
         told = quietly(["cargo", "test", "--offline", "--quiet"], cwd=f"{TOP}/rust", env=env)
-        assert "9 passed; 0 failed" in told, told
+        assert "9 passed; 0 failed" in told and "FAILED" not in told, told
 
 
 def test_go():
@@ -41,6 +53,12 @@ def test_go():
                "GOCACHE": f"{place}/go", "GOPROXY": "off", "GOFLAGS": "-mod=mod", "CGO_ENABLED": "1"}
         for words in (["go", "vet", "./..."], ["go", "test", "-count=1", "./..."]):
             quietly(words, cwd=f"{TOP}/go", env=env)
+
+
+def need_libtorrent():
+    need("g++")
+    if not python_with_libtorrent():
+        raise LeftOut("no Python here has libtorrent: the Debian package is python3-libtorrent")
 
 
 @functools.cache
@@ -58,12 +76,13 @@ def program(place):
 FILES = [("a", 600 * BLOCK + 5), ("b", 3 * BLOCK), ("c", 10), ("d", BLOCK), ("e", 7 * BLOCK + 100), ("f", 0)]
 
 
-def kept(world, keep, number, info_only, lies):
+def kept(world, keep, number, info_only, lies, hides):
     """How the client ends between libtorrent and its peers, and the folder that it has written to."""
     place = f"{world.place}/{number}"
     os.makedirs(f"{place}/loaded")
+    os.makedirs(f"{place}/loaded-again")
     order = {"content": f"{world.place}/content", "torrent": world.torrent, "loaded": f"{place}/loaded", "program": keep,
-             "kept": f"{place}/kept", "info_only": info_only, "lies": lies}
+             "kept": f"{place}/kept", "info_only": info_only, "lies": lies, "hides": hides}
     done = subprocess.run([python_with_libtorrent(), f"{TOP}/tests/keeping.py"], input=json.dumps(order), stdout=subprocess.PIPE,
                           stderr=subprocess.PIPE, text=True, timeout=300)
     return (json.loads(done.stdout) if done.returncode == 0 else None), f"{place}/kept", done.stderr
@@ -84,11 +103,11 @@ def refusals(said):
     return {name: int(count) for name, count in re.findall(r", ([HP][0-9]) ([0-9]+)", said)}
 
 
-def see_all(world, keep, info_only, lies):
+def see_all(world, keep, info_only, lies, hides=False):
     """The client ends with all that is true, and without anything else. Tried three times, since libtorrent may give a
     connection up; nothing false is written each time."""
     for number in range(3):
-        outcome, folder, fault = kept(world, keep, number, info_only, lies)
+        outcome, folder, fault = kept(world, keep, number, info_only, lies, hides)
         see_nothing_false(world, folder)
         if outcome and outcome["status"] == 0:
             break
@@ -97,15 +116,13 @@ def see_all(world, keep, info_only, lies):
         assert written(f"{folder}/{name}") == content, name
     counts, blocks = refusals(outcome["said"]), sum(-(-length // BLOCK) for _, length in FILES)
     assert f"written {blocks} of {blocks}," in outcome["said"], outcome
-    assert not counts if not lies else counts.get("H6", 0) > 0 and set(counts) <= {"H2", "H6", "P1", "P4"}, outcome
+    assert not counts if not lies else counts.get("H6", 0) > 0 and set(counts) <= {"H2", "H6", "P1", "P2", "P4"}, outcome
     return outcome
 
 
 def test_keep():
     """From a true peer, with and without the torrent's piece layers, of version 2 and of a hybrid; and from a liar too."""
-    need("g++")
-    if not python_with_libtorrent():
-        raise LeftOut("no Python here has libtorrent: the Debian package is python3-libtorrent")
+    need_libtorrent()
     ways = [(BLOCK, False, False, False), (4 * BLOCK, False, True, False), (4 * BLOCK, True, False, False),
             (2 * BLOCK, False, False, True), (4 * BLOCK, False, True, True), (4 * BLOCK, True, False, True)]
     lies = 0
@@ -117,6 +134,16 @@ def test_keep():
             outcome = see_all(world, keep, info_only, with_liar)
             lies += outcome["blocks"]
     assert lies > 0, "no block was false"
+
+
+def test_keep_of_many_lies():
+    """Half of all blocks are false, and libtorrent does not see it, so that the client alone keeps them out."""
+    need_libtorrent()
+    with folder() as place:
+        world = World(place, FILES, 4 * BLOCK, False, 20)
+        outcome = see_all(world, program(place), False, True, True)
+        refused = refusals(outcome["said"])
+        assert outcome["blocks"] > 250 and sum(refused.get(name, 0) for name in ("P1", "P2", "P4")) > 250, outcome
 
 
 def test_keep_refuses():

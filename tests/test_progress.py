@@ -157,9 +157,10 @@ def test_standard_output_on_the_same_terminal():
 def test_a_check_that_is_cut_off():
     """A terminal has the line of the first file while the second is read."""
     with folder() as place:
-        path = write(f"{place}/torrent", torrent_of_zeros({"a": 16384, "b": 1 << 30}))
-        zeros(place, "a", 16384)
-        zeros(place, "b", 1 << 30)
+        sizes = {"a": 16384, "b": 1 << 33}  # some seconds of reading
+        path = write(f"{place}/torrent", torrent_of_zeros(sizes))
+        for name, size in sizes.items():
+            zeros(place, name, size)
         ours, theirs = pty.openpty()
         tty.setraw(theirs)
         program = subprocess.Popen([BTCHECK, "check", path, place], stdout=theirs, stderr=subprocess.DEVNULL)

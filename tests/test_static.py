@@ -10,6 +10,7 @@ from trees import root_line
 
 KINDS = ["x86-64-v2", "x86-64-v3"]
 OBJECTS = [f"build/{kind}/btcheck.o" for kind in KINDS]
+ARCHIVE = "crates/btcheck_c/out/libbtcheck_c.a"
 STATIC, BOTH = f"{TOP}/build/static/btcheck", f"{TOP}/build/both/btcheck"
 
 # How a test hides a feature of the processor from a program: a setting of glibc.
@@ -22,11 +23,12 @@ DOCUMENTS = ["README.md", "CHANGELOG.md", "LICENSE-MIT", "LICENSE-APACHE", "docs
 
 
 def make(target):
-    """Makes this target. It needs the kit, and the objects that `make` and `make both` leave."""
-    lacking = [it for it in OBJECTS if not os.path.exists(f"{TOP}/{it}")]
+    """Makes this target. It needs the kit, and what `make both lib` leaves."""
+    proved = [*OBJECTS, ARCHIVE]
+    lacking = [it for it in proved if not os.path.exists(f"{TOP}/{it}")]
     if lacking or not shutil.which("rt"):
         raise LeftOut(f"there is no kit here, or no {' '.join(lacking)}")
-    kept = [word for it in [*OBJECTS, "build/btcheck"] for word in ("-o", it)]
+    kept = [word for it in [*proved, "build/btcheck"] for word in ("-o", it)]
     subprocess.run(["make", "-s", *kept, target], cwd=TOP, check=True, stdout=subprocess.DEVNULL)
 
 
@@ -176,6 +178,7 @@ def test_dist():
         assert there - listed == {"./SHA256SUMS"} and listed < there, there ^ listed
         documents = {f"./share/doc/btcheck/{file}" for file in DOCUMENTS}
         assert documents | {"./bin/btcheck", "./share/man/man1/btcheck.1"} < listed, listed
+        assert {"./include/btcheck.h", "./lib/libbtcheck.a", "./lib/libbtcheck.so.0", "./lib/pkgconfig/btcheck.pc"} < listed, listed
         for env in ({}, LESSER):
             expect(run("root", "/dev/null", program=f"{below}/bin/btcheck", env=env), 0, "0 -\n")
         subprocess.run([f"{below}/share/doc/btcheck/tools/record", "--help"], stdout=subprocess.DEVNULL, check=True)
@@ -239,14 +242,13 @@ def see_library(place):
 
 def test_deb():
     """The package is installed and runs on both kinds of processors, has what is installed elsewhere, and is the same when
-    it is packed again; and so is that of the library, if it was made."""
+    it is packed again; so are those of the library, with which a client is built."""
     need("dpkg-deb", "strip", "gcc", "pkg-config")
     make("deb")
     first = packages()
     with folder() as place:
         see_program(place)
-        if "libbtcheck0" in first:
-            see_library(place)
+        see_library(place)
     make("deb")
     assert packages() == first
     need("lintian")
