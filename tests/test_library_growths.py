@@ -15,7 +15,7 @@ from test_growths import fits
 from torrents import ABC, FIVE, LARGE, TWO, file, hybrid, info, layer, torrent, torrent_of
 from trees import Tree, blocks_of, root_of
 
-GROWTHS = os.path.join(TOP, "build", "memory_tests")
+MEMORY_TESTS = os.path.join(TOP, "build", "memory_tests")
 CALL = re.compile(r"refused: (.*)")
 OF_RUN = re.compile(r"message (\d+) of run")
 BYTES = re.compile(rb"\[[\d, ]*\]")
@@ -25,7 +25,7 @@ DECODED = re.compile(rb"^decoded .*\n", re.M)
 def calls_refused(shim, name, *arguments, judge=None):
     """Refuses each growth in turn, compares what is printed, and counts the growths of each call. Each run that
     does not end early is judged too."""
-    runs = shim.each("growth", *arguments, program=GROWTHS)
+    runs = shim.each("growth", *arguments, program=MEMORY_TESTS)
     ample = next(runs)
     assert ample.returncode == 0 and not ample.stderr, (name, ample)
     if judge:
@@ -62,13 +62,43 @@ def printed(text):
 
 def test_decode_and_open():
     whole, layers = info({"five": file(FIVE)}, 32768), {root_of(FIVE): layer(FIVE, 2)}
-    with shimmed(GROWTHS) as (place, shim):
+    with shimmed(MEMORY_TESTS) as (place, shim):
         record = write(f"{place}/record", b"")
         for name, content in [("one file", ABC), ("a hybrid", torrent(hybrid())), ("a piece layer", torrent(whole, layers)),
                               ("a wrong layer", torrent(whole, {root: bytes(96) for root in layers}))]:
             path = write(f"{place}/torrent", content)
             counts = calls_refused(shim, name, path, record, "paged", "step")
             assert counts["decode"] > 0 and counts["open"] > 0, (name, counts)
+
+
+def test_faults_are_answered_without_memory():
+    """Out of memory hides no fault: only an input that spells a value can be answered so. Faulty text is answered alike
+    whichever growth is refused, and also if all are from some growth on."""
+    texts = [b"li1ex", b"d1:bi1e1:ai1ee", ABC + b"x", ABC[:-1], b"l" * 129, b"d1:ali1ei2e1:be1:ci03ee",
+             b"l" + 300 * b"i1e" + b"x", b"d" + b"".join(b"4:%04dle" % key for key in range(300)) + b"4:0000lee"]
+    with shimmed(MEMORY_TESTS) as (place, shim):
+        for text in texts:
+            path = write(f"{place}/torrent", text)
+            arguments = [path, path, "flat", "span"]
+            name = f"{text[:20]!r} and {len(text)} bytes in all"
+            counts = calls_refused(shim, name, *arguments)
+            assert set(counts) <= {"of the test itself", "that may be missing"}, (name, counts)
+            count, ample = shim.run("growth", 0, *arguments, program=MEMORY_TESTS)
+            for at in range(1, count + 1):
+                _, done = shim.run("growth", at, *arguments, onward=True, program=MEMORY_TESTS)
+                assert done.stdout == (b"" if done.returncode else ample.stdout), (name, at, done)
+
+
+def test_calls_that_other_calls_make():
+    """What a command reaches through another call, called alone."""
+    report = b"good five\nbad 3 a\\x0a\\xff\nwrong length b\nmissing c\nv1 not checked\nodd line\nno"
+    with shimmed(MEMORY_TESTS) as (place, shim):
+        path = write(f"{place}/torrent", torrent_of([("five", FIVE)], 32768))
+        five, lines = write(f"{place}/content", FIVE), write(f"{place}/report", report)
+        for call, name, given in [("span", "decode_with_span", path), ("layer", "LayerBuilder", five),
+                                  ("cuts", "V1Cuts", five), ("objects", "object", lines)]:
+            counts = calls_refused(shim, call, path, given, "paged", call)
+            assert counts[name] > 0, (call, counts)
 
 
 def records():
@@ -88,7 +118,7 @@ def records():
 
 
 def test_sessions():
-    with shimmed(GROWTHS) as (place, shim):
+    with shimmed(MEMORY_TESTS) as (place, shim):
         for name, files, piece_length, frames in records():
             path = write(f"{place}/torrent", torrent_of(files, piece_length))
             record = write(f"{place}/record", b"".join(frames))
@@ -104,7 +134,7 @@ def test_sessions():
 def test_fill():
     tree = Tree.of(FIVE)
     whole = messages.hashes(tree.root, 0, 0, 8, 0, given=tree.hashes(0, 0, 8, 0)[:5])
-    with shimmed(GROWTHS) as (place, shim):
+    with shimmed(MEMORY_TESTS) as (place, shim):
         path = write(f"{place}/torrent", torrent_of([("five", FIVE)], 32768))
         record = write(f"{place}/record", whole)
         for map_name in ("flat", "paged"):
@@ -120,7 +150,7 @@ def test_noted_messages():
                for ask, of, uncles in zip(asks, [tree, other], [1, 0])]
     frames = [b"\1" + requests[0], b"\0" + answers[0], b"\0" + messages.piece(1, 0, blocks_of(FIVE)[0]), b"\1" + requests[1],
               b"\1" + requests[1], b"\0" + answers[1], b"\0" + answers[0], b"\1" + requests[0], b"\0" + requests[0]]
-    with shimmed(GROWTHS) as (place, shim):
+    with shimmed(MEMORY_TESTS) as (place, shim):
         path = write(f"{place}/torrent", torrent_of([("a", TWO), ("five", FIVE)], 32768))
         record = write(f"{place}/record", FORM_2 + b"".join(frames))
         for map_name in ("flat", "paged"):
@@ -153,7 +183,7 @@ def test_replay():
         assert answers == answers_of(session, record, lines if last == "end" else lines[:-1]), done
         seen["H7" if b"H7" in report else last] += 1
 
-    with shimmed(GROWTHS) as (place, shim):
+    with shimmed(MEMORY_TESTS) as (place, shim):
         path, record_path = write(f"{place}/torrent", torrent_of(files, piece_length)), write(f"{place}/record", record)
         for map_name in ("flat", "paged"):
             seen.clear()
@@ -169,7 +199,7 @@ def test_drafts():
     def judge(done):
         assert printed(done.stdout) == [content], done
 
-    with shimmed(GROWTHS) as (place, shim):
+    with shimmed(MEMORY_TESTS) as (place, shim):
         path = write(f"{place}/torrent", content)
         for call in ("draft", "hybrid draft"):
             counts = calls_refused(shim, call, path, path, "paged", call, judge=judge if call == "draft" else None)
@@ -177,10 +207,12 @@ def test_drafts():
 
 
 def test_folders():
-    with shimmed(GROWTHS) as (place, shim):
+    with shimmed(MEMORY_TESTS) as (place, shim):
         path = write(f"{place}/torrent", torrent_of([("five", FIVE)], 32768))
         content = write(f"{place}/content", FIVE)
-        for call, named in [("gather", {"gather"}), ("check", {"check"}), ("seed", {"new", "seed"})]:
+        for call, named in [("gather", {"gather"}), ("check", {"check"}), ("check_onto", {"check_onto"}),
+                            ("seed", {"new", "seed"})]:
             for map_name in ("flat", "paged") if call == "seed" else ("paged",):
-                counts = calls_refused(shim, f"{call} over {map_name}" if call == "seed" else call, path, content, map_name, call)
+                name = f"{call} over {map_name}" if call == "seed" else call
+                counts = calls_refused(shim, name, path, content, map_name, call)
                 assert all(counts[of] > 0 for of in named), (call, counts)

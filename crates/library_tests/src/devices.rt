@@ -17,8 +17,8 @@ fn sources(rt: HostRuntime) {
     assert!(rt; plain.into_inner() == b"z".as_slice());
 }
 
-// A reader and a writer that move nothing: a call claims all that it is asked for, up to a bound and
-// to what is left. They count their calls, and those of these numbers fail.
+// A reader and a writer that move nothing: a call claims all that it is asked for, up to a bound
+// and to what is left. They count their calls, and those of these numbers fail.
 #[derive(Drop)]
 struct Claims {
     left: u64,

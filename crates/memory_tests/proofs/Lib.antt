@@ -1,2 +1,2 @@
--- Lemmas on what a draft is told of a torrent's files.
-pub mod Told
+-- Lemmas on the files of a torrent that a draft is given.
+pub mod TorrentFiles

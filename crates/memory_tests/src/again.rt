@@ -6,7 +6,7 @@ use session::{NoMemory, NodeMap, Session};
 use std::io;
 
 /// Names a call that failed.
-pub(crate) fn tell(rt: &HostRuntime, call: &str) -> io::Result<()> {
+pub(crate) fn name_refused(rt: &HostRuntime, call: &str) -> io::Result<()> {
     eprintln!(rt; "refused: {call}")
 }
 
@@ -16,7 +16,7 @@ pub(crate) fn decode_again(rt: &HostRuntime, bytes: &[u8]) -> io::Result<()> {
     if let Err(fault) = answer
         && fault.kind == FaultKind::NoMemory
     {
-        tell(rt, "decode")?;
+        name_refused(rt, "decode")?;
         answer = decode(rt.alloc(), bytes);
     }
     match answer {
@@ -32,7 +32,7 @@ pub(crate) fn open_again<'a>(
 ) -> io::Result<Result<Torrent<'a>, Refusal>> {
     let answer = Torrent::open(rt.alloc(), bytes);
     if let Err(Refusal::NoMemory) = answer {
-        tell(rt, "open")?;
+        name_refused(rt, "open")?;
         return Ok(Torrent::open(rt.alloc(), bytes));
     }
     Ok(answer)
@@ -47,7 +47,7 @@ pub(crate) fn new_again<'t, N: NodeMap>(
     match Session::new(rt.alloc(), torrent, with_layers) {
         Ok(session) => Ok(session),
         Err(NoMemory) => {
-            tell(rt, "new")?;
+            name_refused(rt, "new")?;
             Ok(Session::new(rt.alloc(), torrent, with_layers)?)
         }
     }

@@ -5,7 +5,7 @@ ghost use Rattle.pieces.specs.Pieces.{pieces_of};
 ghost use Rattle.opening.specs.Seen.{tree_entry};
 ghost use Rattle.opening.specs.Sound.{IsSoundTree};
 
-use crate::again::tell;
+use crate::again::name_refused;
 use benc::memory::MemSink;
 use drafts::Draft;
 use filetree::Refusal;
@@ -48,7 +48,7 @@ fn new_draft(
 {
     let answer = Draft::new(rt.alloc(), "x", piece_length, hybrid);
     if let Err(Refusal::NoMemory) = answer {
-        tell(rt, "new")?;
+        name_refused(rt, "new")?;
         return Ok(Draft::new(rt.alloc(), "x", piece_length, hybrid));
     }
     Ok(answer)
@@ -112,7 +112,7 @@ fn add_again(
     let before = text_of(rt, draft)?;
     let mut answer = draft.add(path, tree.length, tree.root, tree.layer, v1);
     if let Err(Refusal::NoMemory) = answer {
-        tell(rt, "add")?;
+        name_refused(rt, "add")?;
         if text_of(rt, draft)?.written() != before.written() {
             println!(rt; "changed by add")?;
         }

@@ -7,7 +7,7 @@ use std::alloc::Global;
 use std::io;
 use wire::{Direction, Hash, Message};
 
-/// What is told of a message if memory was refused for it.
+/// The verdict on a message for which memory was refused.
 pub(crate) const OUT_OF_MEMORY: Verdict = Verdict::HashRefused(HashRefusal::NoMemory);
 
 /// The call that takes a message.

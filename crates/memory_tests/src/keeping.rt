@@ -1,5 +1,5 @@
 //! The messages of a record, kept so that all can be given at once.
-use crate::again::tell;
+use crate::again::name_refused;
 use benc::Source;
 use benc::memory::MemSource;
 use std::alloc::{AllocError, Global};
@@ -99,7 +99,7 @@ fn keep_record<R: Source>(rt: &HostRuntime, source: &mut R) -> io::Result<Vec<(D
 
 fn reserve_again<R: Source>(rt: &HostRuntime, reader: &mut RecordReader<'_, R>) -> io::Result<()> {
     if reader.reserve().is_err() {
-        tell(rt, "reserve")?;
+        name_refused(rt, "reserve")?;
         reader.reserve()?;
     }
     Ok(())

@@ -5,6 +5,7 @@
 #![tactic(auto)]
 
 mod again;
+mod alone;
 mod drafting;
 mod given;
 mod keeping;
@@ -16,16 +17,18 @@ mod state;
 mod wanting;
 
 use again::{decode_again, open_again};
+use alone::{cuts_again, layer_again, objects_again, span_again};
 use drafting::draft_again;
 use messages::take_record;
 use node_maps::{Flat, Paged};
 use opening::Torrent;
 use replaying::replay_again;
 use session::NodeMap;
-use shelving::{check_again, gather_again, seed_again};
+use shelving::{check_again, gather_again, report_again, seed_again};
 use std::{env, fs, io};
 
-// Makes the call. To a call on folders the record is the content of a file.
+// Makes the call. To a call that takes no messages the record is the content of a file, or what it
+// takes in place of one.
 fn make_call<N: NodeMap>(
     rt: &HostRuntime,
     torrent: &Torrent<'_>,
@@ -37,8 +40,13 @@ fn make_call<N: NodeMap>(
         "hybrid draft" => draft_again(rt, torrent, true),
         "gather" => gather_again(rt, record),
         "check" => check_again(rt, torrent, record),
+        "check_onto" => report_again(rt, torrent, record),
         "seed" => seed_again::<N>(rt, torrent, record),
         "replay" => replay_again::<N>(rt, torrent, record),
+        "span" => span_again(rt, record),
+        "layer" => layer_again(rt, record),
+        "cuts" => cuts_again(rt, record),
+        "objects" => objects_again(rt, record),
         _ => take_record::<N>(rt, torrent, record, call),
     }
 }
@@ -51,7 +59,7 @@ fn main(rt: HostRuntime) -> io::Result<()> {
         words.next(),
         words.next(),
     ) else {
-        return eprintln!(rt; "usage: growths TORRENT RECORD flat|paged CALL");
+        return eprintln!(rt; "usage: memory_tests TORRENT RECORD flat|paged CALL");
     };
     let bytes = fs::read(&rt, torrent.as_str())?;
     let record = fs::read(&rt, record.as_str())?;

@@ -1,5 +1,5 @@
 //! The replay of a record, made again if memory was refused.
-use crate::again::{new_again, tell};
+use crate::again::{name_refused, new_again};
 use crate::given::Given;
 use crate::state::{State, are_alike, compare};
 use benc::memory::{MemSink, MemSource};
@@ -51,7 +51,7 @@ pub(crate) fn replay_again<N: NodeMap>(
         )?;
         replayed = replay_once(rt, &mut session, &mut source)?;
     } else if replayed.lacks_memory() {
-        tell_replay(rt, &replayed)?;
+        name_replay(rt, &replayed)?;
         replayed = replay_anew(rt, torrent, &mut session, record)?;
     }
     println!(rt; "{:?}", replayed.report.written())?;
@@ -74,8 +74,8 @@ fn replay_once<N: NodeMap>(
     })
 }
 
-fn tell_replay(rt: &HostRuntime, replayed: &Replayed) -> io::Result<()> {
-    tell(rt, "replay")?;
+fn name_replay(rt: &HostRuntime, replayed: &Replayed) -> io::Result<()> {
+    name_refused(rt, "replay")?;
     eprintln!(rt; "report {:?}", replayed.report.written())?;
     eprintln!(rt; "answers {:?}", replayed.answers.written())
 }

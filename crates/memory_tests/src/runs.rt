@@ -1,7 +1,7 @@
 //! Messages that are taken by runs, several at once.
 ghost use Rattle.std.specs.Prelude.{◌<◌};
 
-use crate::again::tell;
+use crate::again::name_refused;
 use crate::given::{Call, Given, OUT_OF_MEMORY};
 use crate::keeping::Directed;
 use crate::state::{State, are_alike, compare};
@@ -129,7 +129,7 @@ fn judge<N: NodeMap>(
         number.wrapping_add(1),
         name(given.call)
     )?;
-    tell(rt, &call)?;
+    name_refused(rt, &call)?;
     let mut other: Session<'_, N> = given.session_after(rt.alloc(), part.before)?;
     let without_it = are_of_steps(session, &mut other, given, part, verdicts)?;
     let verdicts = part.run(given.call, session)?;

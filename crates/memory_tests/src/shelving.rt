@@ -1,12 +1,12 @@
 //! Calls on folders, made again if memory was refused.
-use crate::again::{new_again, tell};
+use crate::again::{name_refused, new_again};
 use crate::drafting::print_draft;
 use crate::given::Given;
 use crate::state::{State, compare};
 use benc::memory::MemSink;
 use drafts::Draft;
 use folders::memory::{MemFile, MemShelf};
-use folders::{NoMemory, ShelfFault, check};
+use folders::{CheckFault, Lines, NoMemory, Report, ShelfFault, check, check_onto};
 use gathering::{GatherFault, gather};
 use opening::Torrent;
 use seeding::{SeedFault, seed};
@@ -24,7 +24,7 @@ pub(crate) fn gather_again(rt: &HostRuntime, content: &[u8]) -> io::Result<()> {
     ];
     let mut answer = gather_files(rt, &files);
     if let Err(GatherFault::NoMemory | GatherFault::List(ShelfFault::NoMemory)) = answer {
-        tell(rt, "gather")?;
+        name_refused(rt, "gather")?;
         answer = gather_files(rt, &files);
     }
     match answer {
@@ -49,7 +49,7 @@ pub(crate) fn check_again(
     let report = match check(rt.alloc(), torrent, &mut shelf) {
         Ok(report) => report,
         Err(NoMemory) => {
-            tell(rt, "check")?;
+            name_refused(rt, "check")?;
             if shelf.openings() != 0 {
                 println!(rt; "changed by check")?;
             }
@@ -57,6 +57,38 @@ pub(crate) fn check_again(
         }
     };
     println!(rt; "{:?}", report.files.as_slice())
+}
+
+/// Checks the same with a report as it goes, and prints the report.
+pub(crate) fn report_again(
+    rt: &HostRuntime,
+    torrent: &Torrent<'_>,
+    content: &[u8],
+) -> io::Result<()> {
+    let files = [MemFile::new(PATH, content)];
+    let mut shelf = MemShelf::new(rt.alloc(), &files);
+    let mut out = MemSink::with_room(rt.alloc(), 256)?;
+    let mut answer = check_onto(rt.alloc(), torrent, &mut shelf, Lines::All, &mut out);
+    if let Err(CheckFault::NoMemory) = answer {
+        name_refused(rt, "check_onto")?;
+        if shelf.openings() != 0 || out.flushes() != 0 || !out.written().is_empty() {
+            println!(rt; "changed by check_onto")?;
+        }
+        answer = check_onto(rt.alloc(), torrent, &mut shelf, Lines::All, &mut out);
+    }
+    print_checked(rt, answer, &out)
+}
+
+fn print_checked(
+    rt: &HostRuntime,
+    answer: Result<Report, CheckFault>,
+    out: &MemSink,
+) -> io::Result<()> {
+    match answer {
+        Ok(report) => println!(rt; "{:?}", report.files.as_slice())?,
+        Err(fault) => println!(rt; "{fault}")?,
+    }
+    println!(rt; "{:?}", out.written())
 }
 
 /// Seeds a session from a file of this content, and prints its state.

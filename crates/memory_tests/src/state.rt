@@ -1,7 +1,7 @@
 //! What a refused call must leave as it was.
 ghost use Rattle.std.specs.Prelude.{◌<◌, length};
 
-use crate::again::tell;
+use crate::again::name_refused;
 use crate::given::Given;
 use crate::keeping::Directed;
 use opening::TreeInfo;
@@ -43,7 +43,7 @@ pub(crate) fn compare<N: NodeMap>(
     given: &Given<'_, '_>,
     count: usize,
 ) -> io::Result<()> {
-    tell(rt, call)?;
+    name_refused(rt, call)?;
     let other: Session<'_, N> = given.session_after(rt.alloc(), count)?;
     if !are_alike(session, &other, &given.messages)? {
         println!(rt; "changed by {call}")?;

@@ -1,6 +1,6 @@
 use Rattle.std.proofs.Common.{refl, rules}
 use Rattle.opening.specs.Seen.{tree_entry}
-use Rattle.memory_tests.proofs.Told.{fits_layer}
+use Rattle.memory_tests.proofs.TorrentFiles.{fits_layer}
 use Rattle.memory_tests.proofs.drafting.add_files.Goals as goal
 
 pub add_again-requires : goal.add_again-requires

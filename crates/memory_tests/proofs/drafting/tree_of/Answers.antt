@@ -1,4 +1,4 @@
-use Rattle.memory_tests.proofs.Told.{sound_at}
+use Rattle.memory_tests.proofs.TorrentFiles.{sound_at}
 use Rattle.memory_tests.proofs.drafting.tree_of.Goals as goal
 
 pub returns-in-Some : goal.returns-in-Some

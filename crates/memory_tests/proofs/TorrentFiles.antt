@@ -1,4 +1,4 @@
--- What a draft is told of a file of an opened torrent: the layer leads to the root.
+-- What a draft is given of a file of an opened torrent: the layer leads to the root.
 use Rattle.std.proofs.Common.{◌≡◌, ℕ, suc, ◌<◌, List, [], ◌∷◌, length, map, get_or, Some, option_map, refl, sym, ◌∙◌, ap, subst}
 use Rattle.std.specs.Prelude.{slice_get}
 use Rattle.std.proofs.lemmas.Option.{slice_get-get_or, slice_get-map}
