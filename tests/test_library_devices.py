@@ -1,7 +1,8 @@
 """Devices that fail under calls of the libraries. The program of crates/device_tests makes each call that takes a device
 over ones in memory that fail at their first call, their second, and so on, until a run meets no fault, whole and one
 byte a call. It prints how many calls of its devices each call makes, and `wrong` where a fault is answered otherwise than
-promised: what went out is a prefix of the text, one fault is counted, and later calls answer as promised."""
+promised: what went out is a prefix of the text, one fault is counted, and later calls answer as promised. It also prints
+`wrong` if at one byte a call there is a read more than one for each byte and one for the end, or a write of nothing."""
 import hashlib
 import os
 import re

@@ -1,6 +1,6 @@
 //! Makes calls of the libraries over devices in memory that fail at their first call, then at their
 //! second, and so on, until a run meets no fault. Prints how many calls of its devices each call
-//! makes, and `wrong` where a fault is told otherwise than promised.
+//! makes, and `wrong` where a fault is answered otherwise than promised.
 #![tactic(auto)]
 
 ghost use Rattle.std.specs.Prelude.{◌<◌};
@@ -56,7 +56,7 @@ fn main(rt: HostRuntime) -> io::Result<()> {
         arguments.next(),
         arguments.next(),
     ) else {
-        return eprintln!(rt; "usage: devices TORRENT RECORD A C BYTES");
+        return eprintln!(rt; "usage: device_tests TORRENT RECORD A C BYTES");
     };
     let text = fs::read(&rt, torrent.as_str())?;
     let record = fs::read(&rt, record.as_str())?;

@@ -41,9 +41,9 @@ const CALLS: [Call; 8] = [
 enum Outcome {
     // No fault was met.
     Done,
-    // A fault was told, as promised.
-    Told,
-    // A fault was told otherwise.
+    // A fault was answered, as promised.
+    Faulted,
+    // A fault was answered otherwise.
     Wrong,
 }
 
@@ -69,7 +69,8 @@ pub(crate) fn try_all(rt: &HostRuntime, world: &World<'_, '_>) -> io::Result<()>
     Ok(())
 }
 
-// Tries a call over sources that give at most so many bytes a call.
+// Tries a call over sources that give at most so many bytes a call. Each byte is read once, and the
+// end.
 fn try_call(rt: &HostRuntime, world: &World<'_, '_>, call: Call, at_most: usize) -> io::Result<()>
     requires { 0 < at_most }
 {
@@ -81,10 +82,12 @@ fn try_call(rt: &HostRuntime, world: &World<'_, '_>, call: Call, at_most: usize)
         let mut source = MemSource::new(content).at_most(at_most).fails_after(at);
         match make(rt, world, call, &mut source)? {
             Outcome::Done => {
-                judge(rt, name(call), "the source", at, source.failures() == 0)?;
+                let reads_once = at_most > 1 || at == (content.len() as u64).wrapping_add(1);
+                let is_right = source.failures() == 0 && reads_once;
+                judge(rt, name(call), "the source", at, is_right)?;
                 return count(rt, name(call), "the source", at);
             }
-            Outcome::Told => judge(rt, name(call), "the source", at, source.failures() == 1)?,
+            Outcome::Faulted => judge(rt, name(call), "the source", at, source.failures() == 1)?,
             Outcome::Wrong => judge(rt, name(call), "the source", at, false)?,
         }
     }
@@ -114,7 +117,7 @@ fn make_root_line(rt: &HostRuntime, source: &mut MemSource<'_>) -> io::Result<Ou
     let mut out = sink(rt)?;
     Ok(match root_line(source, &mut out) {
         Ok(_) => Outcome::Done,
-        Err(_) if out.written().is_empty() => Outcome::Told,
+        Err(_) if out.written().is_empty() => Outcome::Faulted,
         Err(_) => Outcome::Wrong,
     })
 }
@@ -125,13 +128,13 @@ fn make_take_all(world: &World<'_, '_>, source: &mut MemSource<'_>) -> Outcome {
     match take_all(source, 1048576, &mut buffer, &mut ()) {
         Ok(Some(count)) if count == world.c.len() as u64 => Outcome::Done,
         Ok(_) => Outcome::Wrong,
-        Err(_) => Outcome::Told,
+        Err(_) => Outcome::Faulted,
     }
 }
 
 // A reader of frames.
 trait Reader {
-    // Reads the next frame, and lends it or not. Tells whether there is one.
+    // Reads the next frame, and lends it or not. Returns whether there is one.
     fn read_next(&mut self, lends: bool) -> Result<bool, FrameFault>;
 }
 
@@ -180,7 +183,7 @@ fn read_to_end<R: Reader>(reader: &mut R, lends: bool) -> Outcome {
 
 fn again(answer: Result<bool, FrameFault>) -> Outcome {
     match answer {
-        Err(FrameFault::Read) => Outcome::Told,
+        Err(FrameFault::Read) => Outcome::Faulted,
         _ => Outcome::Wrong,
     }
 }
@@ -196,13 +199,13 @@ fn make_replay(
     let mut out = sink(rt)?;
     let failed = report(rt, world, source, &mut out)?;
     Ok(match out.written().strip_suffix(b"fault Read\n") {
-        Some(lines) if failed && whole.written().starts_with(lines) => Outcome::Told,
+        Some(lines) if failed && whole.written().starts_with(lines) => Outcome::Faulted,
         None if !failed => Outcome::Done,
         _ => Outcome::Wrong,
     })
 }
 
-// Replays the source, and tells whether the report has a fault.
+// Replays the source. Returns whether the report has a fault.
 fn report(
     rt: &HostRuntime,
     world: &World<'_, '_>,
@@ -230,7 +233,7 @@ fn make_convert(
     }
     Ok(match convert(source, &mut out) {
         Ok(()) => Outcome::Done,
-        Err(ConvertFault::Read) if whole.written().starts_with(out.written()) => Outcome::Told,
+        Err(ConvertFault::Read) if whole.written().starts_with(out.written()) => Outcome::Faulted,
         Err(_) => Outcome::Wrong,
     })
 }

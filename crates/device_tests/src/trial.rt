@@ -16,7 +16,7 @@ pub(crate) fn count(rt: &HostRuntime, call: &str, device: &str, calls: u64) -> i
     println!(rt; "{call}: {calls} of {device}")
 }
 
-/// Prints that a fault was told otherwise than promised, unless it was told so.
+/// Prints that a call or its fault was not as promised, unless it was right.
 pub(crate) fn judge(
     rt: &HostRuntime,
     call: &str,

@@ -102,18 +102,20 @@ fn try_call(rt: &HostRuntime, world: &World<'_, '_>, call: Call, at_most: usize)
     for at in 0..u64::MAX {
         let mut out = sink(rt)?.at_most(at_most).fails_after(at);
         if make(rt, world, call, &mut out)? {
-            judge(
-                rt,
-                name(call),
-                "the sink",
-                at,
-                is_written(call, &out, whole.written()),
-            )?;
+            let is_whole = is_written(call, &out, whole.written());
+            let has_none_empty = at_most > 1 || at == bytes_and_flushes(&out);
+            judge(rt, name(call), "the sink", at, is_whole && has_none_empty)?;
             return count(rt, name(call), "the sink", at);
         }
         judge(rt, name(call), "the sink", at, broke(&out, whole.written()))?;
     }
     Ok(())
+}
+
+// How many calls it takes to write so many bytes one by one, with the flushes: a write of nothing
+// would be one more.
+fn bytes_and_flushes(out: &MemSink) -> u64 {
+    (out.written().len() as u64).wrapping_add(out.flushes())
 }
 
 // Some leave the flush to their callers.
@@ -125,7 +127,7 @@ fn is_written(call: Call, out: &MemSink, text: &[u8]) -> bool {
     }
 }
 
-// Makes a call, and tells whether it answered no write fault.
+// Makes a call. Returns whether it answered no write fault.
 fn make(
     rt: &HostRuntime,
     world: &World<'_, '_>,
