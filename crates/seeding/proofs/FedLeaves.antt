@@ -1,6 +1,6 @@
 -- What takes a file's bytes for its leaves: how many leaves its tree has, and what stands at the end.
 use Rattle.std.proofs.Common.{◌≡◌, ◌⊎◌, ℕ, ◌+◌, ◌-◌, ◌/◌, ◌<◌, ◌≤◌, ◌++◌, List, [], ◌∷◌, length, Option, Some, None, OnSome, Result, Ok, Err}
-use Rattle.std.proofs.Common.{IfErr, inl, inr, sym, ap, ◌∙◌, subst, arith, div-one, option_map}
+use Rattle.std.proofs.Common.{IfErr, inl, inr, refl, sym, ap, ◌∙◌, subst, arith, div-one, option_map}
 use Rattle.std.specs.Option.{option_to_list}
 use Rattle.std.proofs.lemmas.List.{length-append}
 use Rattle.std.proofs.lemmas.List.FromFn.{length-map-range_with_len}
