@@ -45,6 +45,8 @@ enum {
   BTCHECK_NOTHING = 6,   /* nothing to ask for, nothing to answer with, or not marked */
   BTCHECK_TOO_SMALL = 7, /* the caller's room has too few places */
   BTCHECK_BAD_SIZE = 8,  /* a message of id 7, 21, 22 or 23 has a wrong size */
+  BTCHECK_TOO_SHORT = 9, /* bytes of the file are still to come */
+  BTCHECK_BAD_PIECE = 10, /* a piece is not the torrent's */
 
   /* Refusals of a torrent: 100 and the number that `btcheck show` prints. */
   BTCHECK_TORRENT_TOO_LARGE = 101,
@@ -96,7 +98,7 @@ uint32_t btcheck_version(void);
 #define BTCHECK_BLOCK 16384
 #define BTCHECK_HASH 32
 
-/* Handles: of the builder of a root, and of a session. */
+/* Handles: of the builder of a root, of a session, and of the check of a file. */
 typedef struct btcheck_root {
   bool full;
   void *at;
@@ -105,6 +107,10 @@ typedef struct btcheck_session {
   bool full;
   void *at;
 } btcheck_session;
+typedef struct btcheck_check {
+  bool full;
+  void *at;
+} btcheck_check;
 
 #ifdef __cplusplus
 #define BTCHECK_INIT {}
@@ -168,6 +174,23 @@ btcheck_status btcheck_session_counts(btcheck_session *session, size_t tree, uin
 /* BTCHECK_OK if the leaf of a block of a tree is marked as verified. BTCHECK_NOTHING: it is not.
    BTCHECK_NO_SUCH: there is no such tree, or its files have no such block. */
 btcheck_status btcheck_session_is_marked(btcheck_session *session, size_t tree, uint64_t block);
+
+/* ---- the check of one file's bytes, which the caller reads as it likes */
+
+/* Begins the check of file `number` of the session's torrent in an empty handle. The torrent's bytes
+   must stay unchanged until this handle is freed too; the session's may be freed before.
+   BTCHECK_NO_ROOT: the file is empty. BTCHECK_NO_SUCH: there is no such file. */
+btcheck_status btcheck_check_new(btcheck_check *check, btcheck_session *session, size_t number);
+
+/* The file's next bytes. BTCHECK_TOO_LONG: the file has fewer, and nothing was taken. */
+btcheck_status btcheck_check_push(btcheck_check *check, const uint8_t *bytes, size_t len);
+
+/* Ends the check of a whole file, which then begins anew. BTCHECK_OK: each piece is the torrent's.
+   BTCHECK_BAD_PIECE: `piece` is the first that is not, from 0 in the file. BTCHECK_TOO_SHORT: bytes
+   are still to come, and the check goes on. */
+btcheck_status btcheck_check_finish(btcheck_check *check, uint64_t *piece);
+
+void btcheck_check_free(btcheck_check *check);
 
 /* ---- messages of peers */
 

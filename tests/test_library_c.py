@@ -225,6 +225,30 @@ def test_files():
         assert session.path(0) == "p" * 255 + "/" + "q" * 255
 
 
+def test_checks_of_files():
+    """The bytes of a file of several pieces, of one piece, and of an empty one; good, bad in each piece, short and long."""
+    dictionary = info({"a": file(CONTENT), "b": file(SMALL), "c": file(b"")}, 2 * BLOCK)
+    kinds, pieces = module(), -(-len(CONTENT) // (2 * BLOCK))
+    with kinds.Session(torrent(dictionary, {ROOT: layer(CONTENT, 2)})) as session:
+        assert [told(kinds.Check, session, number)[0] for number in (2, 3)] == [4, 5]
+        for number, content, bad in ((0, CONTENT, None), (1, SMALL, None), (1, SMALL[:-1] + b"?", 0),
+                                     *((0, CONTENT[:at] + bytes([CONTENT[at] ^ 1]) + CONTENT[at + 1:], at // (2 * BLOCK))
+                                       for at in (0, 2 * BLOCK - 1, 2 * BLOCK, 4 * BLOCK, len(CONTENT) - 1))):
+            for size in (1 << 20, 1000, BLOCK):
+                with kinds.Check(session, number) as check:
+                    for at in range(0, len(content), size):
+                        assert told(check.finish) == (9, None)
+                        check.push(content[at:at + size])
+                    assert told(check.push, b"x") == (3, None)
+                    check.push(b"")
+                    assert told(check.finish) == (0, bad), (number, bad, size)
+                    assert told(check.finish) == (9, None)
+        assert bad == pieces - 1
+        two = kinds.Check(session, 0)
+        two.push(CONTENT)
+    assert told(two.finish) == (0, None)
+
+
 def test_rooms():
     """A room that is too small is left alone; in one that is large enough only the front is written."""
     with module().Session(torrent(info({"ab": {"c": file(SMALL)}}))) as session:

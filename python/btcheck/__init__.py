@@ -70,6 +70,18 @@ class BadFrame(Refused):
     status = 8
 
 
+class TooShort(Refused):
+    """Bytes of the file are still to come."""
+
+    status = 9
+
+
+class BadPiece(Refused):
+    """A piece is not the torrent's."""
+
+    status = 10
+
+
 class TorrentRefused(Refused):
     """The bytes are no torrent that can be checked."""
 
@@ -91,7 +103,7 @@ def _named(base: type[Refused], first: int, names: str) -> dict[int, type[Refuse
 
 
 _BY_STATUS: dict[int, type[Refused]] = {
-    **{kind.status: kind for kind in (WrongHandle, OutOfMemory, TooLong, NoRoot, NoSuch, Nothing, TooSmall, BadFrame)},
+    **{kind.status: kind for kind in (WrongHandle, OutOfMemory, TooLong, NoRoot, NoSuch, Nothing, TooSmall, BadFrame, TooShort, BadPiece)},
     **_named(TorrentRefused, 101, "TooLarge NotBencode Missing WrongType Version PieceLength Shape Path Symlink Length Root "
              "RootReused NoFiles TooManyPieces LayerMissing LayerSize LayerMismatch HybridFiles HybridAlign HybridPieces "
              "TorrentOutOfMemory"),
@@ -218,6 +230,10 @@ _root_new = _call("root_new")
 _root_push = _call("root_push", _c.c_char_p, _size)
 _root_finish = _call("root_finish", _to_u64, _c.c_char_p)
 _root_free = _call("root_free", result=None)
+_check_new = _call("check_new", _c.POINTER(_Handle), _size)
+_check_push = _call("check_push", _c.c_char_p, _size)
+_check_finish = _call("check_finish", _to_u64)
+_check_free = _call("check_free", result=None)
 _open = _call("session_open", _c.c_char_p, _size, _c.c_bool)
 _take_hashes = _call("session_take_hashes", _c.c_char_p, _u32, _u32, _u32, _u32, _c.c_char_p, _size, _to_u64)
 _take_block = _call("session_take_block", _u32, _u32, _c.c_char_p, _size, _to_u64, _to_u64)
@@ -440,3 +456,30 @@ class Session(_Owner):
     def can_answer(self, ask: Sequence) -> bool:
         """Whether `answer` would give hashes for this request."""
         return _holds(_can_answer, self._handle, _laid_out(ask))
+
+
+class Check(_Owner):
+    """The check of one file's bytes, in parts of any size, against a file of a session's torrent."""
+
+    _free = staticmethod(_check_free)
+
+    def __init__(self, session: Session, number: int) -> None:
+        """Begins the check of file `number`. Raises NoRoot if it is empty, and NoSuch if there is no such file."""
+        super().__init__()
+        self._torrent = session._torrent  # lent to the library until close
+        _check_new(self._handle, session._handle, _number(number, 64))
+
+    def push(self, part: bytes) -> None:
+        """The file's next bytes. Raises TooLong if the file has fewer, and then takes none."""
+        part = bytes(part)
+        _check_push(self._handle, part, len(part))
+
+    def finish(self) -> int | None:
+        """The first piece of the whole file that is not the torrent's, from 0; None if each is. The object begins
+        anew. Raises TooShort if bytes are still to come, and then goes on."""
+        piece = _u64()
+        try:
+            _check_finish(self._handle, piece)
+        except BadPiece:
+            return piece.value
+        return None

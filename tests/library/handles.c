@@ -34,6 +34,14 @@ static void want_of_session(btcheck_session *session, btcheck_status status) {
   CHECK(hash[0][0] == 0 && small[0] == 0);
 }
 
+/* Every call on a check but new. */
+static void want_of_check(btcheck_check *check, btcheck_status status) {
+  one = 7;
+  WANT(btcheck_check_push(check, hash[0], 1), status);
+  WANT(btcheck_check_finish(check, &one), status);
+  CHECK(one == 7);
+}
+
 /* Every call on a builder but new. */
 static void want_of_root(btcheck_root *root, btcheck_status status) {
   one = 7;
@@ -48,6 +56,7 @@ int main(int argc, char **argv) {
   uint8_t *torrent = (uint8_t *)malloc(len);
   memcpy(torrent, bytes, len);
   btcheck_root root = BTCHECK_INIT;
+  btcheck_check check = BTCHECK_INIT;
   btcheck_session session = BTCHECK_INIT, second = BTCHECK_INIT;
   CHECK(btcheck_version() == BTCHECK_VERSION);
   want_of_root(&root, BTCHECK_WRONG_HANDLE);
@@ -64,6 +73,18 @@ int main(int argc, char **argv) {
     WANT(btcheck_session_open(&second, torrent, len, false), BTCHECK_OK);
     WANT(btcheck_session_counts(&session, 0, &one, &other), BTCHECK_OK);
     WANT(btcheck_session_counts(&second, 1000, &one, &other), BTCHECK_NO_SUCH);
+    want_of_check(&check, BTCHECK_WRONG_HANDLE);
+    WANT(btcheck_check_new(&check, &session, 1000), BTCHECK_NO_SUCH);
+    WANT(btcheck_check_new(&check, (btcheck_session *)(void *)&root, 0), BTCHECK_WRONG_HANDLE);
+    WANT(btcheck_check_new(&check, &session, 0), BTCHECK_OK);
+    WANT(btcheck_check_new(&check, &session, 0), BTCHECK_WRONG_HANDLE);
+    WANT(btcheck_check_finish(&check, &one), BTCHECK_TOO_SHORT);
+    want_of_session((btcheck_session *)(void *)&check, BTCHECK_WRONG_HANDLE);
+    want_of_root((btcheck_root *)(void *)&check, BTCHECK_WRONG_HANDLE);
+    want_of_check((btcheck_check *)(void *)&root, BTCHECK_WRONG_HANDLE);
+    want_of_check((btcheck_check *)(void *)&session, BTCHECK_WRONG_HANDLE);
+    btcheck_check_free(&check);
+    btcheck_check_free(&check);
     /* A handle of the other kind, as a cast gives it. */
     want_of_session((btcheck_session *)(void *)&root, BTCHECK_WRONG_HANDLE);
     want_of_root((btcheck_root *)(void *)&session, BTCHECK_WRONG_HANDLE);

@@ -39,6 +39,7 @@ int main(int argc, char **argv) {
   btcheck_ask ask = {{0}, 0, 0, 8, 0};
   memcpy(ask.root, hashes[0], 32);
   btcheck_root root = BTCHECK_INIT;
+  btcheck_check check = BTCHECK_INIT;
   btcheck_session session = BTCHECK_INIT;
   uint64_t count = 7, known = 0, marked = 0;
   btcheck_status status;
@@ -55,6 +56,8 @@ int main(int argc, char **argv) {
   }
   CHECK(of_torrent > 0 && of_session > 0);
 
+  WANT(WITH(0, btcheck_check_new(&check, &session, 0)), BTCHECK_NO_MEMORY);
+  WANT(btcheck_check_push(&check, hashes[0], 1), BTCHECK_WRONG_HANDLE);
   WANT(WITH(0, btcheck_session_note(&session, &ask)), BTCHECK_NO_MEMORY);
   WANT(btcheck_session_take_answer(&session, &ask, given, 8, &count), BTCHECK_H8_UNASKED);
   WANT(btcheck_session_note(&session, &ask), BTCHECK_OK);

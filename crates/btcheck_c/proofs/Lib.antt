@@ -4,3 +4,5 @@ pub mod Throughs
 pub mod Torrents
 pub mod Joining
 pub mod Entries
+pub mod FilePieces
+pub mod Starting

@@ -29,7 +29,7 @@ Wants n b asked (kind.Session S) status k' = (k' ≡ kind.Session S)
     × ((HasTreeBlock S.torrent n b
     × ((want : Option Ask) × WantTold want status asked × WantIs S n b want))
     ⊎ ((status ≡ 5) × ¬ HasTreeBlock S.torrent n b))
-Wants n b asked (kind.Root r) status k' = IsWrongKind (kind.Root r) status k'
+Wants n b asked k status k' = IsWrongKind k status k'
 
 -- ---- a request of our own
 
@@ -41,14 +41,14 @@ NoteTold false status = status ≡ 2
 abbrev pub Notes : Ask → Kind → ℕ → Kind → Type 0
 Notes ask (kind.Session S) status k' = (done : Bool) × NoteTold done status
     × ((S' : SessionSeen) × (k' ≡ kind.Session S') × AskNoted S ask done S')
-Notes ask (kind.Root b) status k' = IsWrongKind (kind.Root b) status k'
+Notes ask k status k' = IsWrongKind k status k'
 
 -- the session takes hashes that answer an open ask; status and places tell what it says
 abbrev pub TakesAnswer : Ask → List Hash → ℕ → Kind → ℕ → Kind → Type 0
 TakesAnswer ask hashes places (kind.Session S) status k' =
     (answer : Result ℕ HashRefusal) × HashesTold answer status places
     × ((S' : SessionSeen) × (k' ≡ kind.Session S') × AnswerTaken S ask hashes answer S')
-TakesAnswer ask hashes places (kind.Root b) status k' = IsWrongKind (kind.Root b) status k'
+TakesAnswer ask hashes places k status k' = IsWrongKind k status k'
 
 -- ---- a request of a peer
 
@@ -65,10 +65,10 @@ AnswerTold None status room count = status ≡ 2
 abbrev pub Answers : Ask → List Hash → ℕ → Kind → ℕ → Kind → Type 0
 Answers ask room count (kind.Session S) status k' = (k' ≡ kind.Session S)
     × ((given : Option Answer) × AnswerTold given status room count × AnswerGiven S ask given)
-Answers ask room count (kind.Root b) status k' = IsWrongKind (kind.Root b) status k'
+Answers ask room count k status k' = IsWrongKind k status k'
 
 -- whether the session can answer a request, and it stays as it is
 abbrev pub TellsIfAnswered : Ask → Kind → ℕ → Kind → Type 0
 TellsIfAnswered ask (kind.Session S) status k' = (k' ≡ kind.Session S)
     × ((can : Bool) × ToldIf can status × (IsTrue can ↔ IsAnswered S ask))
-TellsIfAnswered ask (kind.Root b) status k' = IsWrongKind (kind.Root b) status k'
+TellsIfAnswered ask k status k' = IsWrongKind k status k'

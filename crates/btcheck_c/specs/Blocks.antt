@@ -31,5 +31,5 @@ abbrev pub TakesBlocks : ℕ → ℕ → List ℕ → BlocksInfo → Kind → �
 TakesBlocks index begin bytes told (kind.Session S) status k' =
     (answer : Result BlocksSeen BlockRefusal) × BlocksTold answer status told
     × ((S' : SessionSeen) × (k' ≡ kind.Session S') × BlocksTaken S index begin bytes answer S')
-TakesBlocks index begin bytes told (kind.Root b) status k' =
-    IsWrongKind (kind.Root b) status k'
+TakesBlocks index begin bytes told k status k' =
+    IsWrongKind k status k'

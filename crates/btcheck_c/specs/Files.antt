@@ -12,7 +12,7 @@ use Rattle.btcheck_c.specs.declared.thing.Kind.TheVariants as kind
 abbrev pub TellsCounts : ℕ → ℕ → Kind → ℕ → Kind → Type 0
 TellsCounts files trees (kind.Session S) status k' = (k' ≡ kind.Session S) × ((status ≡ 0)
     × ((files ≡ length S.torrent.files) × (trees ≡ length S.torrent.trees)))
-TellsCounts files trees (kind.Root b) status k' = IsWrongKind (kind.Root b) status k'
+TellsCounts files trees k status k' = IsWrongKind k status k'
 
 -- ---- a file
 
@@ -36,7 +36,7 @@ abbrev pub TellsFile : ℕ → FileInfo → Kind → ℕ → Kind → Type 0
 TellsFile n told (kind.Session S) status k' = (k' ≡ kind.Session S)
     × (((status ≡ 0) × IsFileInfo S.torrent n told)
     ⊎ ((status ≡ 5) × (length S.torrent.files ≤ n)))
-TellsFile n told (kind.Root b) status k' = IsWrongKind (kind.Root b) status k'
+TellsFile n told k status k' = IsWrongKind k status k'
 
 -- ---- a path
 
@@ -62,7 +62,7 @@ FilePathTold d n status room room' len =
 abbrev pub TellsPath : ℕ → List ℕ → List ℕ → ℕ → Kind → ℕ → Kind → Type 0
 TellsPath n room room' len (kind.Session S) status k' = (k' ≡ kind.Session S)
     × FilePathTold S.torrent n status room room' len
-TellsPath n room room' len (kind.Root b) status k' = IsWrongKind (kind.Root b) status k'
+TellsPath n room room' len k status k' = IsWrongKind k status k'
 
 -- ---- info-hashes
 
@@ -70,4 +70,4 @@ TellsPath n room room' len (kind.Root b) status k' = IsWrongKind (kind.Root b) s
 abbrev pub TellsInfoHashes : List ℕ → List ℕ → Kind → ℕ → Kind → Type 0
 TellsInfoHashes v2 v1 (kind.Session S) status k' = (k' ≡ kind.Session S) × ((status ≡ 0)
     × ((v2 ≡ S.torrent.info_hash_v2) × (v1 ≡ S.torrent.info_hash_v1)))
-TellsInfoHashes v2 v1 (kind.Root b) status k' = IsWrongKind (kind.Root b) status k'
+TellsInfoHashes v2 v1 k status k' = IsWrongKind k status k'

@@ -52,4 +52,4 @@ FrameTaken body told S status S' = MessageTaken body told S status S'
 abbrev pub TakesFrame : List ℕ → VerdictInfo → Kind → ℕ → Kind → Type 0
 TakesFrame body told (kind.Session S) status k' =
     (S' : SessionSeen) × (k' ≡ kind.Session S') × FrameTaken body told S status S'
-TakesFrame body told (kind.Root b) status k' = IsWrongKind (kind.Root b) status k'
+TakesFrame body told k status k' = IsWrongKind k status k'

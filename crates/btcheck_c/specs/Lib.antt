@@ -10,4 +10,6 @@ pub mod AskCalls
 pub mod Files
 pub mod Blocks
 pub mod Frames
+pub mod FileChecks
+pub mod CheckCalls
 pub mod Version

@@ -22,7 +22,7 @@ abbrev pub Pushed : List ℕ → Kind → ℕ → Kind → Type 0
 Pushed bytes (kind.Root b) status k' =
     ((status ≡ 0) × ((b' : RootBuilder) × (k' ≡ kind.Root b') × Feeds b bytes b'))
     ⊎ ((status ≡ 3) × ((2 ^ 46 < byte_count b + length bytes) × (k' ≡ kind.Root b)))
-Pushed bytes (kind.Session S) status k' = IsWrongKind (kind.Session S) status k'
+Pushed bytes k status k' = IsWrongKind k status k'
 
 -- length and root of the bytes, and the builder is new again; or there were none, and it stays as
 -- it is
@@ -31,4 +31,4 @@ Finished len root (kind.Root b) status k' =
     ((status ≡ 0) × ((len ≡ byte_count b) × (EndsWith b len root
     × ((b' : RootBuilder) × (k' ≡ kind.Root b') × IsNew b'))))
     ⊎ ((status ≡ 4) × ((byte_count b ≡ 0) × (k' ≡ kind.Root b)))
-Finished len root (kind.Session S) status k' = IsWrongKind (kind.Session S) status k'
+Finished len root k status k' = IsWrongKind k status k'

@@ -54,7 +54,7 @@ Counted tree known marked (kind.Session S) status k' = (k' ≡ kind.Session S)
     × (((status ≡ 0) × (HasState S tree (λ s. known ≡ finite.len s.known)
     × HasState S tree (λ s. marked ≡ set.len s.marked)))
     ⊎ ((status ≡ 5) × (length S.torrent.trees ≤ tree)))
-Counted tree known marked (kind.Root b) status k' = IsWrongKind (kind.Root b) status k'
+Counted tree known marked k status k' = IsWrongKind k status k'
 
 -- whether the leaf of a block of tree n is marked, or that no tree n has this block
 abbrev pub TellsIfMarked : ℕ → ℕ → Kind → ℕ → Kind → Type 0
@@ -62,7 +62,7 @@ TellsIfMarked n b (kind.Session S) status k' = (k' ≡ kind.Session S)
     × ((HasTreeBlock S.torrent n b × ((marked : Bool) × ToldIf marked status
     × HasState S n (λ s. marked ≡ set.contains s.marked b)))
     ⊎ ((status ≡ 5) × ¬ HasTreeBlock S.torrent n b))
-TellsIfMarked n b (kind.Root r) status k' = IsWrongKind (kind.Root r) status k'
+TellsIfMarked n b k status k' = IsWrongKind k status k'
 
 -- ---- messages
 
@@ -71,12 +71,12 @@ abbrev pub TakesHashes : Ask → List Hash → ℕ → Kind → ℕ → Kind →
 TakesHashes ask hashes places (kind.Session S) status k' =
     (answer : Result ℕ HashRefusal) × HashesTold answer status places
     × ((S' : SessionSeen) × (k' ≡ kind.Session S') × HashesTaken S ask hashes answer S')
-TakesHashes ask hashes places (kind.Root b) status k' = IsWrongKind (kind.Root b) status k'
+TakesHashes ask hashes places k status k' = IsWrongKind k status k'
 
 -- the session takes a block of a piece message; status, file and block tell its answer
 abbrev pub TakesBlock : ℕ → ℕ → List ℕ → ℕ → ℕ → Kind → ℕ → Kind → Type 0
 TakesBlock index begin bytes file block (kind.Session S) status k' =
     (answer : Result (ℕ × ℕ) BlockRefusal) × BlockTold answer status file block
     × ((S' : SessionSeen) × (k' ≡ kind.Session S') × BlockTaken S index begin bytes answer S')
-TakesBlock index begin bytes file block (kind.Root b) status k' =
-    IsWrongKind (kind.Root b) status k'
+TakesBlock index begin bytes file block k status k' =
+    IsWrongKind k status k'

@@ -58,7 +58,7 @@ impl Thing {
         ensures { Wants tree block asked.new self.old.kind result self.new.kind }
     {
         match &mut self.kind {
-            Kind::Root(_) => WRONG_HANDLE,
+            Kind::Root(_) | Kind::Check(_) => WRONG_HANDLE,
             Kind::Session(session) => {
                 if session.has_block(tree, block) {
                     tell_want(session.want(tree, block), asked)
@@ -73,7 +73,7 @@ impl Thing {
         ensures { Notes ask.now self.old.kind result self.new.kind }
     {
         match &mut self.kind {
-            Kind::Root(_) => WRONG_HANDLE,
+            Kind::Root(_) | Kind::Check(_) => WRONG_HANDLE,
             Kind::Session(session) => tell_note(session.note(ask)),
         }
     }
@@ -82,7 +82,7 @@ impl Thing {
         ensures { TakesAnswer ask.now hashes.now places.new self.old.kind result self.new.kind }
     {
         match &mut self.kind {
-            Kind::Root(_) => WRONG_HANDLE,
+            Kind::Root(_) | Kind::Check(_) => WRONG_HANDLE,
             Kind::Session(session) => tell_hashes(session.take_answer(ask, hashes), places),
         }
     }
@@ -91,7 +91,7 @@ impl Thing {
         ensures { Answers ask.now room.new count.new self.old.kind result self.new.kind }
     {
         match &mut self.kind {
-            Kind::Root(_) => WRONG_HANDLE,
+            Kind::Root(_) | Kind::Check(_) => WRONG_HANDLE,
             Kind::Session(session) => tell_answer(&session.answer(ask), room, count),
         }
     }
@@ -100,7 +100,7 @@ impl Thing {
         ensures { TellsIfAnswered ask.now self.old.kind result self.new.kind }
     {
         match &mut self.kind {
-            Kind::Root(_) => WRONG_HANDLE,
+            Kind::Root(_) | Kind::Check(_) => WRONG_HANDLE,
             Kind::Session(session) => tell_if(session.can_answer(ask)),
         }
     }

@@ -14,7 +14,7 @@ impl Thing {
         ensures { TakesBlocks index begin bytes.now told.new self.old.kind result self.new.kind }
     {
         match &mut self.kind {
-            Kind::Root(_) => WRONG_HANDLE,
+            Kind::Root(_) | Kind::Check(_) => WRONG_HANDLE,
             Kind::Session(session) => tell_blocks(session.take_blocks(index, begin, bytes), told),
         }
     }

@@ -26,7 +26,7 @@ impl Thing {
         ensures { TellsCounts files.new trees.new self.old.kind result self.new.kind }
     {
         match &mut self.kind {
-            Kind::Root(_) => WRONG_HANDLE,
+            Kind::Root(_) | Kind::Check(_) => WRONG_HANDLE,
             Kind::Session(session) => {
                 *files = session.torrent().files().len() as u64;
                 *trees = session.torrent().trees().len() as u64;
@@ -39,7 +39,7 @@ impl Thing {
         ensures { TellsFile number told.new self.old.kind result self.new.kind }
     {
         match &mut self.kind {
-            Kind::Root(_) => WRONG_HANDLE,
+            Kind::Root(_) | Kind::Check(_) => WRONG_HANDLE,
             Kind::Session(session) => match file_info(session.torrent(), number) {
                 None => NO_SUCH,
                 Some(info) => {
@@ -55,7 +55,7 @@ impl Thing {
             self.new.kind }
     {
         match &mut self.kind {
-            Kind::Root(_) => WRONG_HANDLE,
+            Kind::Root(_) | Kind::Check(_) => WRONG_HANDLE,
             Kind::Session(session) => tell_path_of(session.torrent(), number, room, length),
         }
     }
@@ -64,7 +64,7 @@ impl Thing {
         ensures { TellsInfoHashes v2.new v1.new self.old.kind result self.new.kind }
     {
         match &mut self.kind {
-            Kind::Root(_) => WRONG_HANDLE,
+            Kind::Root(_) | Kind::Check(_) => WRONG_HANDLE,
             Kind::Session(session) => {
                 *v2 = session.torrent().info_hash_v2();
                 *v1 = session.torrent().info_hash_v1();

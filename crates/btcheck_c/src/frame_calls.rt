@@ -31,7 +31,7 @@ impl Thing {
         ensures { TakesFrame body.now told.new self.old.kind result self.new.kind }
     {
         match &mut self.kind {
-            Kind::Root(_) => WRONG_HANDLE,
+            Kind::Root(_) | Kind::Check(_) => WRONG_HANDLE,
             Kind::Session(session) => session.take_frame(body, told),
         }
     }

@@ -3,7 +3,8 @@
 ghost use Rattle.std.specs.Prelude.{◌≡◌, Some, None, option_map, is_some};
 
 use crate::slot::Slot;
-use crate::thing::Thing;
+use crate::status::{DONE, NO_MEMORY};
+use crate::thing::{Kind, Thing};
 use std::alloc::Global;
 use std::mem::replace;
 
@@ -17,6 +18,8 @@ pub struct Handle {
 }
 
 impl Handle {
+    ghost use Rattle.btcheck_c.specs.Holds.{IsFilled};
+
     fn empty(alloc: Global) -> Handle
         ensures { result.slot.held ≡ None }
     {
@@ -41,6 +44,20 @@ impl Handle {
             full: true,
             slot: Slot::full(thing),
         };
+    }
+
+    /// Puts a thing of this kind into the handle, and answers a status. Status 2: memory was
+    /// refused, and the handle is as before. What was in it is never freed: take it first.
+    pub(crate) fn fill(&mut self, alloc: Global, kind: Kind) -> u32
+        ensures { IsFilled kind self.old.slot.held result self.new.slot.held }
+    {
+        match Box::new(alloc, Thing { kind }) {
+            Err(_) => NO_MEMORY,
+            Ok(thing) => {
+                self.put(thing);
+                DONE
+            }
+        }
     }
 
     /// Takes the thing out, and leaves nothing.

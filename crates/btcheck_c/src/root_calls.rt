@@ -16,7 +16,7 @@ impl Thing {
         ensures { Pushed bytes.now self.old.kind result self.new.kind }
     {
         match &mut self.kind {
-            Kind::Session(_) => WRONG_HANDLE,
+            Kind::Session(_) | Kind::Check(_) => WRONG_HANDLE,
             Kind::Root(builder) => {
                 if bytes.len() as u64 > MAX_LENGTH - builder.len() {
                     return TOO_LONG;
@@ -31,7 +31,7 @@ impl Thing {
         ensures { Finished length.new root.new self.old.kind result self.new.kind }
     {
         match &mut self.kind {
-            Kind::Session(_) => WRONG_HANDLE,
+            Kind::Session(_) | Kind::Check(_) => WRONG_HANDLE,
             Kind::Root(builder) => {
                 if builder.is_empty() {
                     return NO_ROOT;

@@ -19,7 +19,7 @@ impl Thing {
         ensures { Counted tree known.new marked.new self.old.kind result self.new.kind }
     {
         match &mut self.kind {
-            Kind::Root(_) => WRONG_HANDLE,
+            Kind::Root(_) | Kind::Check(_) => WRONG_HANDLE,
             Kind::Session(session) => {
                 if tree >= session.torrent().trees().len() {
                     return NO_SUCH;
@@ -34,7 +34,7 @@ impl Thing {
         ensures { TellsIfMarked tree block self.old.kind result self.new.kind }
     {
         match &mut self.kind {
-            Kind::Root(_) => WRONG_HANDLE,
+            Kind::Root(_) | Kind::Check(_) => WRONG_HANDLE,
             Kind::Session(session) => {
                 if session.has_block(tree, block) {
                     tell_if(session.is_marked(tree, block))
@@ -49,7 +49,7 @@ impl Thing {
         ensures { TakesHashes ask.now hashes.now places.new self.old.kind result self.new.kind }
     {
         match &mut self.kind {
-            Kind::Root(_) => WRONG_HANDLE,
+            Kind::Root(_) | Kind::Check(_) => WRONG_HANDLE,
             Kind::Session(session) => tell_hashes(session.take_hashes(ask, hashes), places),
         }
     }
@@ -66,7 +66,7 @@ impl Thing {
             self.new.kind }
     {
         match &mut self.kind {
-            Kind::Root(_) => WRONG_HANDLE,
+            Kind::Root(_) | Kind::Check(_) => WRONG_HANDLE,
             Kind::Session(session) => {
                 tell_block(session.take_block(index, begin, bytes), file, block)
             }

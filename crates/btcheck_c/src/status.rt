@@ -33,6 +33,12 @@ pub const TOO_SMALL: u32 = 7;
 /// A message of a known kind has a wrong size.
 pub const BAD_SIZE: u32 = 8;
 
+/// Bytes of the file are still to come.
+pub const TOO_SHORT: u32 = 9;
+
+/// A piece is not the torrent's.
+pub const BAD_PIECE: u32 = 10;
+
 /// Refusal n of a torrent is this plus n.
 pub const TORRENT: u32 = 100;
 

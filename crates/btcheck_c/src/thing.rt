@@ -1,5 +1,6 @@
 //! What a handle of C may hold.
 
+use crate::file_check::FileCheck;
 use crate::opened::Opened;
 use hashtree::RootBuilder;
 
@@ -17,4 +18,6 @@ pub enum Kind {
     Root(RootBuilder),
     /// A session with its torrent.
     Session(Opened),
+    /// The check of one file's bytes.
+    Check(FileCheck),
 }
