@@ -7,7 +7,7 @@ _btcheck_command() {
         root) options+=' --json' kinds=(file) ;;
         show) options+=' --json' kinds=(torrent) ;;
         check) options+=' --quiet --json' kinds=(torrent folder) ;;
-        create) options+=' --name --piece-length --hybrid' kinds=(folder file) ;;
+        create) options+=' --name --piece-length --hybrid --exclude' kinds=(folder file) ;;
         convert) kinds=(file file) ;;
         replay) options+=' --info-only --seed --answers --json' kinds=(torrent file) ;;
         help) options='' kinds=(command) ;;
@@ -20,7 +20,7 @@ _btcheck_value() {
     case $1 in
         --seed) kind=folder ;;
         --answers) kind=file ;;
-        --name | --piece-length) kind=text ;;
+        --name | --piece-length | --exclude) kind=text ;;
         *) kind='' ;;
     esac
 }

@@ -7,7 +7,7 @@ set -l none "not __fish_seen_subcommand_from $commands"
 function __btcheck_arguments
     set -l words (commandline -opc)
     set -l found (string match -v -- '-*' $words)
-    set -l valued (string match -r -- '^--(seed|answers|name|piece-length)$' $words)
+    set -l valued (string match -r -- '^--(seed|answers|name|piece-length|exclude)$' $words)
     math (count $found) - (count $valued) - 2
 end
 
@@ -37,6 +37,7 @@ complete -c btcheck -n '__fish_seen_subcommand_from create; and test (__btcheck_
 complete -c btcheck -n '__fish_seen_subcommand_from create' -l name -x -d 'The display name'
 complete -c btcheck -n '__fish_seen_subcommand_from create' -l piece-length -x -d 'Bytes per piece'
 complete -c btcheck -n '__fish_seen_subcommand_from create' -l hybrid -d 'Make a hybrid'
+complete -c btcheck -n '__fish_seen_subcommand_from create' -l exclude -x -d 'Leave out what matches'
 
 complete -c btcheck -n $none -a convert -d 'Add directions to a record that has none'
 complete -c btcheck -n '__fish_seen_subcommand_from convert; and test (__btcheck_arguments) -lt 2' -F

@@ -61,6 +61,66 @@ def expect_untouched(done, out, status, stdout=b"", stderr=b""):
     assert written(out) == b"before"
 
 
+# Globs, and for each the paths of TREE that are left out by it.
+TREE = ["a.tmp", "b.txt", "a/b.tmp", "a/b/c.tmp/d", "a/b/c", "b/c", "c*d", "c\\d", "e/[x]", "f/\u00fc.x", "g\nh", ".i"]
+GLOBS = {
+    "*.tmp": {"a.tmp", "a/b.tmp", "a/b/c.tmp/d"},
+    "/*.tmp": {"a.tmp"},
+    "*.tmp/": {"a/b/c.tmp/d"},
+    "b": {"a/b/c.tmp/d", "a/b/c", "b/c"},
+    "b/": {"a/b/c.tmp/d", "a/b/c", "b/c"},
+    "/b": {"b/c"},
+    "a/b": {"a/b/c.tmp/d", "a/b/c"},
+    "a/*": {"a/b.tmp", "a/b/c.tmp/d", "a/b/c"},
+    "a/*/": {"a/b/c.tmp/d", "a/b/c"},
+    "a/*/c": {"a/b/c"},
+    "a/**/d": {"a/b/c.tmp/d"},
+    "**/c": {"a/b/c", "b/c"},
+    "a**c": {"a/b/c"},
+    "a/**": {"a/b.tmp", "a/b/c.tmp/d", "a/b/c"},
+    "c\\*d": {"c*d"},
+    "c?d": {"c*d", "c\\d"},
+    "c[*]d": {"c*d"},
+    "c[!*]d": {"c\\d"},
+    "c[^a-z]d": {"c*d", "c\\d"},
+    "[[]x[]]": {"e/[x]"},
+    "?.x": {"f/\u00fc.x"},
+    "g*h": {"g\nh"},
+    ".*": {".i"},
+    "*": set(TREE),
+    "none": set(),
+    "A*": set(),
+    "e[+-9][[]x]": set(),
+}
+
+
+def test_globs():
+    """What is left out is the listing without it, whatever else is there; OUT may be left out too."""
+    with folder() as place:
+        contents = {path: path.encode() for path in TREE}
+        content, out = make_folder(f"{place}/content", contents), f"{place}/out"
+        for glob, left_out in GLOBS.items():
+            wanted = {path: text for path, text in contents.items() if path not in left_out}
+            done = run("create", content, out, "--name", "x", "--piece-length", "16384", "--exclude", glob)
+            if wanted:
+                expect(done, 0)
+                assert written(out) == torrent_of(wanted, "x", 16384, False), glob
+            else:
+                expect(done, 1, "refused 13 NoFiles\n")
+                assert written(out) == b"", glob
+        new, several = ["--name", "x", "--piece-length", "16384"], ["--exclude", "*.torrent", "--exclude", "a", "--exclude=b"]
+        for _ in range(2):
+            expect(run("create", content, f"{content}/x.torrent", *new, *several), 0)
+            kept = {path: text for path, text in contents.items() if path[0] not in "ab" or path in ("a.tmp", "b.txt")}
+            assert written(f"{content}/x.torrent") == torrent_of(kept, "x", 16384, False)
+        before = written(f"{content}/.i")
+        expect(run("create", content, f"{content}/.i", *new, *several), 2, b"", f"fault: cannot write {content}/.i\n")
+        assert written(f"{content}/.i") == before
+        os.symlink("a", f"{content}/link")
+        expect(run("create", content, out, *new, "--exclude", "link"), 2, b"", "fault: not a file or folder: link\n")
+        expect(run("create", f"{place}/missing", out, *new, "--exclude", "["), 2, b"", None)
+
+
 def test_one_small_file():
     """The worked torrents, byte for byte."""
     with folder() as place:

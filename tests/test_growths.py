@@ -276,8 +276,8 @@ def test_create():
             write(f"{place}/folder/{path}", content)
         out = f"{place}/out"
         cannot = {(2, b"", f"fault: cannot read {path}\n".encode()) for path in contents}
-        for flags in ([], ["--hybrid"]):
-            whole = torrent_of_folder(contents, "x", 32768, bool(flags))
+        for flags in ([], ["--hybrid"], ["--exclude", "[a-c]*.tmp"]):
+            whole = torrent_of_folder(contents, "x", 32768, "--hybrid" in flags)
             arguments = ["create", f"{place}/folder", out, "--name", "x", "--piece-length", "32768", *flags]
             for called, done in refused_in_turn(shim, " ".join(["create", *flags]), *arguments, out=out):
                 made = written(out)

@@ -1,9 +1,9 @@
 -- What the program's command line is to clap, and what it asks for. Words are the arguments as
 -- texts, the program's name first; rows are what clap's definition of simple commands finds in
 -- them.
-use Rattle.std.specs.Prelude.{◌≡◌, ◌⊎◌, ℕ, List, [], ◌∷◌, Bool, true, false, Option, Some, None, codes, option_map, ◌<◌, ◌^◌, ◌++◌, Result, MatchResult}
+use Rattle.std.specs.Prelude.{◌≡◌, ◌⊎◌, ℕ, List, [], ◌∷◌, Bool, true, false, Option, Some, None, codes, map, option_map, unwrap_or, ◌<◌, ◌^◌, ◌++◌, Result, MatchResult}
 use Rattle.std.specs.Borrow.{Bor}
-use Rattle.clap.specs.Walk.{Row, Rule, Text, first_of, one_of, rule_of}
+use Rattle.clap.specs.Walk.{Row, Rule, Text, all_of, first_of, one_of, rule_of}
 use Rattle.clap.specs.Simple.{App, Shape, app_of, new_rule, new_shape, subcommand_of}
 use Rattle.clap.specs.Kinds.{IsAmong}
 use Rattle.clap.specs.Faults.{fault_of}
@@ -14,7 +14,7 @@ use Rattle.clap.specs.Values.{kind_of}
 use Rattle.clap.specs.declared.error.Error.{Error}
 use Rattle.clap.specs.declared.error.kind.ErrorKind.{ErrorKind}
 use Rattle.clap.specs.declared.error.kind.ErrorKind.TheVariants.{DisplayHelp, DisplayVersion, MissingSubcommand, OutOfMemory}
-use Rattle.clap.specs.declared.builder.action.ArgAction.TheVariants.{Set, SetTrue}
+use Rattle.clap.specs.declared.builder.action.ArgAction.TheVariants.{Append, Set, SetTrue}
 use Rattle.clap.specs.declared.builder.value_parser.ValueParser.TheVariants as vp
 use Rattle.std.specs.Str.Parse.{IsNumeral, digits_value, without_leading_plus}
 use Rattle.command_line.specs.declared.command.Action.{Action}
@@ -34,6 +34,10 @@ flag name = record (new_rule name) { long = Some name; action = Some SetTrue }
 abbrev pub option : Text → Rule
 option name =
     record (new_rule name) { long = Some name; action = Some Set; value_names = 1 }
+
+-- the same, which may be there many times
+abbrev pub list_option : Text → Rule
+list_option name = record (option name) { action = Some Append }
 
 -- an option with a value that has to be there
 abbrev pub needed_option : Text → Rule
@@ -62,7 +66,8 @@ check_command = command (codes "check")
 abbrev pub create_command : Shape
 create_command = command (codes "create")
     (needed (codes "DIR") ∷ needed (codes "OUT") ∷ needed_option (codes "name")
-    ∷ needed_number (codes "piece-length") ∷ flag (codes "hybrid") ∷ [])
+    ∷ needed_number (codes "piece-length") ∷ flag (codes "hybrid")
+    ∷ list_option (codes "exclude") ∷ [])
 
 abbrev pub convert_command : Shape
 convert_command = command (codes "convert") (needed (codes "RECORD") ∷ needed (codes "OUT") ∷ [])
@@ -121,6 +126,19 @@ IsText name rows text = first_of name rows ≡ Some text.now
 abbrev pub IsTextIfThere : Text → List Row → Option (Bor Text) → Type 0
 IsTextIfThere name rows text = first_of name rows ≡ option_map (λ t. t.now) text
 
+-- the texts that are found under a name, in order
+abbrev pub texts_of : Text → List Row → List Text
+texts_of name rows = unwrap_or (all_of name rows) []
+
+-- these are they
+abbrev pub AreTexts : Text → List Row → List (Bor Text) → Type 0
+AreTexts name rows texts = map (λ t. t.now) texts ≡ texts_of name rows
+
+-- the same of the command that was found, if one was
+abbrev pub AreTextsIn : Text → Option (Text × List Row) → List (Bor Text) → Type 0
+AreTextsIn name found texts =
+    (command : Text) (rows : List Row) → found ≡ Some (command, rows) → AreTexts name rows texts
+
 -- a number that is found under a name, as decimal digits, perhaps behind a plus
 abbrev pub IsNumberOf : Option Text → ℕ → Type 0
 IsNumberOf found number = (text : Text) × (found ≡ Some text)
@@ -156,6 +174,7 @@ FindsArguments rows (action.Create asked) =
     × IsText (codes "name") rows asked.name
     × IsNumberOf (one_of (codes "piece-length") rows) asked.piece_length
     × IsFlag (codes "hybrid") rows asked.hybrid
+    × AreTexts (codes "exclude") rows asked.exclude.items
 FindsArguments rows (action.Convert asked) =
     IsText (codes "RECORD") rows asked.record × IsText (codes "OUT") rows asked.out
 FindsArguments rows (action.Replay asked) =

@@ -8,7 +8,7 @@ ghost use Rattle.command_line.specs.CommandLine.{IsAskedBy, IsFoundIn, IsRefusal
 
 use crate::command::Action;
 use crate::definition::command;
-use crate::finding::asked_in;
+use crate::finding::{asked_in, texts_in};
 use clap::Error;
 use clap::error::ErrorKind;
 use std::alloc::Global;
@@ -24,7 +24,8 @@ pub fn action<'a>(alloc: Global, line: &'a [&'a str]) -> Result<Action<'a>, Erro
         → kind_of e ≡ OutOfMemory) }
 {
     let matches = command(alloc)?.try_get_matches_from(line)?;
-    match asked_in(&matches) {
+    let exclude = texts_in(alloc, &matches, "exclude")?;
+    match asked_in(&matches, exclude) {
         Some(action) => Ok(action),
         None => Err(command(alloc)?.error(ErrorKind::MissingSubcommand, "a command is missing")?),
     }

@@ -53,6 +53,8 @@ pub struct Create<'a> {
     pub piece_length: u64,
     /// Whether it is to serve clients of version 1 too.
     pub hybrid: bool,
+    /// The globs of what is left out.
+    pub exclude: Vec<&'a str>,
 }
 
 /// What is replayed, and how.

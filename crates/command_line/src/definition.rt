@@ -2,13 +2,13 @@
 ghost use Rattle.std.specs.Prelude.{[]};
 ghost use Rattle.clap.specs.Simple.{App, Shape, with_subcommand};
 ghost use Rattle.clap.specs.Walk.{Rule};
-ghost use Rattle.command_line.specs.CommandLine.{IsApp, IsArgument, IsLeaf, IsMade, check_command, command, convert_command, create_command, flag, needed, needed_number, needed_option, option, program, replay_command, root_command, show_command, with_more};
+ghost use Rattle.command_line.specs.CommandLine.{IsApp, IsArgument, IsLeaf, IsMade, check_command, command, convert_command, create_command, flag, list_option, needed, needed_number, needed_option, option, program, replay_command, root_command, show_command, with_more};
 
 use crate::help::{
     ABOUT, ANSWERS_HELP, CHECK_ABOUT, CHECK_HELP, CONVERT_ABOUT, CONVERT_HELP, CREATE_ABOUT,
-    CREATE_HELP, EXAMPLES, HYBRID_HELP, INFO_ONLY_HELP, JSON_HELP, NAME_HELP, PIECE_LENGTH_HELP,
-    QUIET_HELP, REPLAY_ABOUT, REPLAY_HELP, ROOT_ABOUT, ROOT_HELP, SEED_HELP, SHOW_ABOUT, SHOW_HELP,
-    STATUSES, VERSION,
+    CREATE_HELP, EXAMPLES, EXCLUDE_HELP, HYBRID_HELP, INFO_ONLY_HELP, JSON_HELP, NAME_HELP,
+    PIECE_LENGTH_HELP, QUIET_HELP, REPLAY_ABOUT, REPLAY_HELP, ROOT_ABOUT, ROOT_HELP, SEED_HELP,
+    SHOW_ABOUT, SHOW_HELP, STATUSES, VERSION,
 };
 use clap::{Arg, ArgAction, Command, Error, value_parser};
 use std::alloc::Global;
@@ -77,7 +77,8 @@ fn create_command<'a>(alloc: Global) -> Result<Command<'a>, Error>
         command,
         needed_number(alloc, "piece-length", "K", PIECE_LENGTH_HELP),
     );
-    with_argument(command, flag(alloc, "hybrid", HYBRID_HELP))
+    let command = with_argument(command, flag(alloc, "hybrid", HYBRID_HELP));
+    with_argument(command, list_option(alloc, "exclude", "GLOB", EXCLUDE_HELP))
 }
 
 fn replay_command<'a>(alloc: Global) -> Result<Command<'a>, Error>
@@ -165,6 +166,13 @@ fn option<'a>(alloc: Global, name: &'a str, value: &'a str, help: &'a str) -> Ar
         .value_name(value)
         .action(ArgAction::Set)
         .help(help)
+}
+
+// The same, which may be there many times.
+fn list_option<'a>(alloc: Global, name: &'a str, value: &'a str, help: &'a str) -> Arg<'a>
+    ensures { IsArgument (list_option name.entry.now) result }
+{
+    option(alloc, name, value, help).action(ArgAction::Append)
 }
 
 // An option with a value that has to be there.

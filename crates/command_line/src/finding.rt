@@ -1,30 +1,48 @@
 //! What is found in the arguments.
-ghost use Rattle.std.specs.Prelude.{codes};
+ghost use Rattle.std.specs.Prelude.{codes, IfOk};
 ghost use Rattle.clap.specs.Simple.{subcommand_rows_of};
 ghost use Rattle.clap.specs.Walk.{one_of, rows_of};
 ghost use Rattle.clap.specs.Matches.{found_of};
-ghost use Rattle.command_line.specs.CommandLine.{IsActionOf, IsAskedOf, IsFlag, IsNumberIfThere, IsTextIfThere};
+ghost use Rattle.command_line.specs.CommandLine.{AreTexts, AreTextsIn, IsActionOf, IsAskedOf, IsFlag, IsNumberIfThere, IsTextIfThere};
 
 use crate::command::{Action, Check, Convert, Create, Replay};
 use clap::ArgMatches;
+use std::alloc::{AllocError, Global};
 
-/// What the command that was found asks for.
-pub(crate) fn asked_in<'a>(matches: &ArgMatches<'a>) -> Option<Action<'a>>
+/// What the command that was found asks for, with the texts of `exclude`.
+pub(crate) fn asked_in<'a>(matches: &ArgMatches<'a>, exclude: Vec<&'a str>) -> Option<Action<'a>>
+    requires { AreTextsIn (codes "exclude") (subcommand_rows_of matches.now) exclude.items }
     ensures { IsAskedOf (subcommand_rows_of matches.now) result }
 {
     let (name, found) = matches.subcommand()?;
-    action_of(name, found)
+    action_of(name, found, exclude)
+}
+
+/// The texts that were found under this name, behind whatever command.
+pub(crate) fn texts_in<'a>(
+    alloc: Global,
+    matches: &ArgMatches<'a>,
+    name: &str,
+) -> Result<Vec<&'a str>, AllocError>
+    ensures { IfOk result (λ texts. AreTextsIn name.now (subcommand_rows_of matches.now)
+        texts.items) }
+{
+    match matches.subcommand() {
+        Some((_, found)) => Ok(texts(alloc, found, name)?),
+        None => Ok(Vec::new(alloc)),
+    }
 }
 
 // What the command of this name asks for, with what was found in its arguments.
-fn action_of<'a>(name: &str, found: &ArgMatches<'a>) -> Option<Action<'a>>
+fn action_of<'a>(name: &str, found: &ArgMatches<'a>, exclude: Vec<&'a str>) -> Option<Action<'a>>
+    requires { AreTexts (codes "exclude") (rows_of (found_of found.now)) exclude.items }
     ensures { IsActionOf name.now (rows_of (found_of found.now)) result }
 {
     match name {
         "root" => root_of(found),
         "show" => show_of(found),
         "check" => check_of(found),
-        "create" => create_of(found),
+        "create" => create_of(found, exclude),
         "replay" => replay_of(found),
         "convert" => convert_of(found),
         _ => None,
@@ -68,7 +86,8 @@ fn check_of<'a>(found: &ArgMatches<'a>) -> Option<Action<'a>>
 }
 
 // What the arguments after `create` ask for.
-fn create_of<'a>(found: &ArgMatches<'a>) -> Option<Action<'a>>
+fn create_of<'a>(found: &ArgMatches<'a>, exclude: Vec<&'a str>) -> Option<Action<'a>>
+    requires { AreTexts (codes "exclude") (rows_of (found_of found.now)) exclude.items }
     ensures { IsActionOf (codes "create") (rows_of (found_of found.now)) result }
 {
     let dir = text(found, "DIR")?;
@@ -81,6 +100,7 @@ fn create_of<'a>(found: &ArgMatches<'a>) -> Option<Action<'a>>
         name,
         piece_length,
         hybrid: is_given(found, "hybrid"),
+        exclude,
     }))
 }
 
@@ -114,6 +134,16 @@ fn text<'a>(found: &ArgMatches<'a>, name: &str) -> Option<&'a str>
     ensures { IsTextIfThere name.now (rows_of (found_of found.now)) result }
 {
     found.get_str(name)
+}
+
+// All texts that were found under this name.
+fn texts<'a>(alloc: Global, found: &ArgMatches<'a>, name: &str) -> Result<Vec<&'a str>, AllocError>
+    ensures { IfOk result (λ texts. AreTexts name.now (rows_of (found_of found.now)) texts.items) }
+{
+    match found.get_strs(name) {
+        Some(texts) => Ok(Vec::from_slice(alloc, texts)?),
+        None => Ok(Vec::new(alloc)),
+    }
 }
 
 // The number that was found under this name.

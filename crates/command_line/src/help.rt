@@ -63,7 +63,9 @@ pub(crate) const CREATE_ABOUT: &str = "Makes a torrent of all files in a folder"
 pub(crate) const CREATE_HELP: &str = "\
 Hashes all files below DIR, hidden ones too, then writes the torrent to OUT and prints nothing.
 A folder that cannot be a torrent prints `refused NUMBER NAME`, and the path of the file, status 1.
-Symbolic links, pipes and devices in DIR are a fault.";
+Symbolic links, pipes and devices in DIR are a fault.
+In a GLOB `*` and `?` match no `/`, `**` does, `[a-z]` and `[!a-z]` are one character, and `\\` makes
+the next one plain. Without a `/`, or with one at its end alone, it matches at any depth.";
 
 pub(crate) const CONVERT_ABOUT: &str = "Adds directions to a record that has none";
 
@@ -95,5 +97,8 @@ pub(crate) const NAME_HELP: &str = "The display name that the torrent suggests";
 
 pub(crate) const PIECE_LENGTH_HELP: &str =
     "Bytes per piece: a power of two from 16384 to 1073741824";
+
+pub(crate) const EXCLUDE_HELP: &str =
+    "Leave out the files and folders that match: `*.tmp` at any depth, `/a/*.txt` from DIR";
 
 pub(crate) const HYBRID_HELP: &str = "Make a hybrid, which clients of version 1 can use too";

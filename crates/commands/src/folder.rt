@@ -27,8 +27,10 @@ pub struct Folder<'a> {
     faults: u64,
     // None if the files are read one behind the other.
     offsets: Option<Offsets<'a>>,
-    // The files that the last listing found.
-    listed: Vec<Identity>,
+    // The listed files that were opened. It has room for all that were listed.
+    opened: Vec<Identity>,
+    // Whether all files that are listed will be read.
+    reads_all: bool,
     progress: &'a Progress,
 }
 
@@ -43,7 +45,8 @@ impl<'a> Folder<'a> {
             dir,
             faults: 0,
             offsets: None,
-            listed: Vec::new(system.alloc()),
+            opened: Vec::new(system.alloc()),
+            reads_all: true,
             progress,
         }
     }
@@ -63,15 +66,25 @@ impl<'a> Folder<'a> {
             dir,
             faults: 0,
             offsets: Some(Offsets::new(torrent)),
-            listed: Vec::new(system.alloc()),
+            opened: Vec::new(system.alloc()),
+            reads_all: true,
             progress,
         }
     }
 
-    /// Whether what has this path is one of the files that the last listing found.
-    pub fn has_listed(&self, path: &str) -> bool {
+    /// Some files that are listed will not be read, so it is not known how many bytes will be.
+    pub fn read_in_part(mut self) -> Folder<'a>
+        ensures dir { result.dir.now ≡ self.entry.dir.now }
+        ensures faults { result.faults ≡ self.entry.faults }
+    {
+        self.reads_all = false;
+        self
+    }
+
+    /// Whether what has this path is one of the listed files that were opened.
+    pub fn has_opened(&self, path: &str) -> bool {
         match Identity::at(self.system.rt(), path) {
-            Some(file) => self.listed.as_slice().contains(&file),
+            Some(file) => self.opened.as_slice().contains(&file),
             None => false,
         }
     }
@@ -140,6 +153,20 @@ impl<'a> Folder<'a> {
             return Err(io::Error::from(ErrorKind::InvalidInput));
         }
         File::open(self.system.rt(), system_path)
+    }
+
+    // Keeps which file was opened, if it was listed.
+    fn keep(&mut self, file: &File)
+        ensures { self.new.faults ≡ self.old.faults }
+    {
+        if self.opened.len() == self.opened.capacity() {
+            return;
+        }
+        if let Ok(found) = file.metadata() {
+            if let Some(identity) = Identity::of(&found) {
+                self.opened.push_reserved(identity);
+            }
+        }
     }
 
     // How many bytes stand before the file with this path.
@@ -216,8 +243,6 @@ fn listing_fault(error: io::Error) -> ShelfFault {
 #[derive(Drop)]
 struct Walk {
     files: Vec<Vec<String>>,
-    // The same files.
-    identities: Vec<Identity>,
     folders: Vec<Vec<String>>,
     // The lengths of the files in all.
     bytes: u64,
@@ -230,7 +255,6 @@ impl Walk {
         folders.push(Vec::new(alloc))?;
         Ok(Walk {
             files: Vec::new(alloc),
-            identities: Vec::new(alloc),
             folders,
             bytes: 0,
         })
@@ -238,9 +262,8 @@ impl Walk {
 
     // Takes up what has this path. Symlinks are not followed.
     fn note(&mut self, path: Vec<String>, found: &Metadata) -> Result<(), ShelfFault> {
-        if let Some(identity) = Identity::of(found) {
+        if found.is_file() {
             self.bytes = self.bytes.saturating_add(found.len());
-            self.identities.push(identity).map_err(AllocError::from)?;
             self.files.push(path).map_err(AllocError::from)?;
         } else if found.is_dir() {
             self.folders.push(path).map_err(AllocError::from)?;
@@ -271,8 +294,10 @@ impl<'a> Shelf for Folder<'a> {
             self.fault();
         }
         let walk = walk?;
-        self.progress.expect(walk.bytes);
-        self.listed = walk.identities;
+        if self.reads_all {
+            self.progress.expect(walk.bytes);
+        }
+        self.opened = Vec::with_capacity(self.system.alloc(), walk.files.len())?;
         Ok(walk.files)
     }
 
@@ -280,12 +305,11 @@ impl<'a> Shelf for Folder<'a> {
         let before = self.bytes_before(path);
         match self.open_file(path) {
             Ok(None) => Ok(None),
-            Ok(Some((file, name))) => Ok(Some(Counted::new(
-                FromRead::new(Noted::new(file, self.system)),
-                name,
-                before,
-                self.progress,
-            ))),
+            Ok(Some((file, name))) => {
+                self.keep(&file);
+                let source = FromRead::new(Noted::new(file, self.system));
+                Ok(Some(Counted::new(source, name, before, self.progress)))
+            }
             Err(_) => Err(self.fault()),
         }
     }

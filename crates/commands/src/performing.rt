@@ -1,6 +1,7 @@
 //! What each command does, on real files.
 ghost use Rattle.std.specs.Prelude.{◌≢◌, IfErr};
 
+use crate::excluded::refuse_globs;
 use crate::folder::Folder;
 use crate::noted::{Noted, Output};
 use crate::outcomes;
@@ -11,12 +12,14 @@ use crate::torrent_file::read_torrent;
 use benc::{FromRead, FromWrite, Sink, Source};
 use command_line::command::{Action, Check, Convert, Create, Replay};
 use drafts::Draft;
+use excluding::{Excluding, regex_of};
 use filetree::Refusal;
-use folders::Lines;
+use folders::{Lines, Shelf};
 use json_lines::{CHECK, Form, REPLAY, ROOT, SHOW};
 use opening::Torrent;
 use printing::Fault;
 use progress::{Cleared, Counted, Progress};
+use regex::Regex;
 use std::fs::File;
 use std::io::{BufWriter, IsTerminal, LineWriter};
 
@@ -195,19 +198,56 @@ fn all_bytes(torrent: &Torrent<'_>) -> u64 {
     all
 }
 
-// The torrent's file is opened once all files are hashed, and stays untouched if one is refused. It
-// is none of those files.
+// Globs that are none are told before anything is read.
 fn create<'a>(system: &System, asked: &Create<'a>) -> Result<u8, Fault<'a>> {
     let progress = Progress::new(system.rt(), None);
     let mut folder = Folder::new(system, asked.dir, &progress);
     let mut out = Cleared::new(FromWrite::new(system.output()), &progress);
-    match outcomes::gather(system.alloc(), asked, &mut folder, &mut out)? {
+    if asked.exclude.is_empty() {
+        let draft = outcomes::gather(system.alloc(), asked, &mut folder, &mut out)?;
+        return write_gathered(system, asked, draft, &folder, &progress, &mut out);
+    }
+    let pattern = match regex_of(system.alloc(), asked.exclude.as_slice()) {
+        Ok(pattern) => pattern,
+        Err(fault) => return refuse_globs(system, asked.exclude.as_slice(), fault),
+    };
+    let shelf = folder.read_in_part();
+    let (draft, folder) = gather_without(system, asked, shelf, &pattern, &mut out)?;
+    write_gathered(system, asked, draft, &folder, &progress, &mut out)
+}
+
+// Gathers what a shelf lists without the files in whose paths the pattern is found, and gives the
+// shelf back.
+fn gather_without<'a, S: Shelf + Drop, W: Sink>(
+    system: &System,
+    asked: &Create<'a>,
+    shelf: S,
+    pattern: &Regex,
+    out: &mut W,
+) -> Result<(Result<Draft, u8>, S), Fault<'a>> {
+    let matcher = pattern.matcher(system.alloc())?;
+    let mut kept = Excluding::new(system.alloc(), shelf, matcher);
+    let draft = outcomes::gather(system.alloc(), asked, &mut kept, out)?;
+    Ok((draft, kept.into_inner()))
+}
+
+// The torrent's file is opened once all files are hashed, and stays untouched if one is refused. It
+// is none of those files.
+fn write_gathered<'a, W: Sink>(
+    system: &System,
+    asked: &Create<'a>,
+    gathered: Result<Draft, u8>,
+    folder: &Folder<'_>,
+    progress: &Progress,
+    out: &mut W,
+) -> Result<u8, Fault<'a>> {
+    match gathered {
         Ok(draft) => {
-            if folder.has_listed(asked.out) {
+            if folder.has_opened(asked.out) {
                 system.note(Cause::IsInput);
                 return Err(Fault::Write(asked.out));
             }
-            write_torrent(system, &draft, asked.out, &progress, &mut out)
+            write_torrent(system, &draft, asked.out, progress, out)
         }
         Err(status) => Ok(status),
     }

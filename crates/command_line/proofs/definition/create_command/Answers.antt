@@ -6,4 +6,5 @@ returns c =
     let two = c.with_argument-command-2.ensures _ _ one c.needed-2.ensures in
     let three = c.with_argument-command-3.ensures _ _ two c.needed_option.ensures in
     let four = c.with_argument-command-4.ensures _ _ three c.needed_number.ensures in
-    c.with_argument.ensures _ _ four c.flag.ensures
+    let five = c.with_argument-command-5.ensures _ _ four c.flag.ensures in
+    c.with_argument.ensures _ _ five c.list_option.ensures

@@ -1,0 +1,31 @@
+//! What is said of globs that are none.
+use crate::system::System;
+use excluding::GlobFault;
+use printing::Fault;
+use std::io::Write;
+
+/// Says on standard error, as of other arguments that are refused, which glob is none, or that they
+/// are too large. Gives the exit status. What cannot be written is lost.
+pub(crate) fn refuse_globs<'a>(
+    system: &System,
+    globs: &[&str],
+    fault: GlobFault,
+) -> Result<u8, Fault<'a>> {
+    let mut out = system.rt().stderr();
+    let _ = match fault {
+        GlobFault::NoMemory => return Err(Fault::NoMemory),
+        GlobFault::TooLarge => writeln!(
+            out,
+            "error: the values of '--exclude <GLOB>' are too large"
+        ),
+        GlobFault::Malformed(number) => {
+            let glob = globs.get(number).copied().unwrap_or("");
+            writeln!(
+                out,
+                "error: invalid value {glob:?} for '--exclude <GLOB>': it is no glob"
+            )
+        }
+    };
+    let _ = writeln!(out, "\nFor more information, try '--help'.");
+    Ok(2)
+}

@@ -1,0 +1,2 @@
+-- What contracts of a shelf without the files that are left out cite.
+pub mod Excluding

@@ -1,0 +1,54 @@
+//! The characters in brackets of a glob.
+use crate::globs::{OneFault, next_of, put_letter};
+use std::str::Chars;
+
+/// Puts one of the characters in brackets at the end, of which the `[` is taken already. It is never
+/// `/`.
+pub(crate) fn put_set(text: &mut String, rest: &mut Chars<'_>) -> Result<(), OneFault> {
+    let is_other = rest.as_str().starts_with('!') || rest.as_str().starts_with('^');
+    if is_other {
+        let _ = rest.next();
+    }
+    text.push_str(if is_other { "[^/" } else { "[" })?;
+    put_members(text, rest)?;
+    text.push_str(if is_other { "]" } else { "&&[^/]]" })?;
+    Ok(())
+}
+
+// Puts the members up to the `]`, which is one itself if it comes first.
+fn put_members(text: &mut String, rest: &mut Chars<'_>) -> Result<(), OneFault> {
+    put_member(text, rest)?;
+    for _ in 0..rest.as_str().len() {
+        if rest.as_str().starts_with(']') {
+            let _ = rest.next();
+            return Ok(());
+        }
+        put_member(text, rest)?;
+    }
+    Err(OneFault::Malformed)
+}
+
+// Puts a character or a range of them.
+fn put_member(text: &mut String, rest: &mut Chars<'_>) -> Result<(), OneFault> {
+    let first = member(rest)?;
+    put_letter(text, first)?;
+    if !rest.as_str().starts_with('-') || rest.as_str().starts_with("-]") {
+        return Ok(());
+    }
+    let _ = rest.next();
+    let last = member(rest)?;
+    if last < first {
+        return Err(OneFault::Malformed);
+    }
+    text.push('-')?;
+    put_letter(text, last)?;
+    Ok(())
+}
+
+// The next character, or the one behind a backslash.
+fn member(rest: &mut Chars<'_>) -> Result<char, OneFault> {
+    match next_of(rest)? {
+        '\\' => next_of(rest),
+        letter => Ok(letter),
+    }
+}
