@@ -86,7 +86,8 @@ pub(crate) fn write_wanted<W: Sink>(
     }
 }
 
-fn write_verdict<W: Sink>(
+/// Writes the line of a file: its verdict and its path. After a fault a prefix of it went out.
+pub fn write_verdict<W: Sink>(
     verdict: FileVerdict,
     file: &File<'_>,
     out: &mut W,
@@ -128,7 +129,8 @@ fn wanted_stream_line(lines: Lines, v1: &Option<V1Verdict>) -> Line
     }
 }
 
-fn stream_line(v1: &Option<V1Verdict>) -> Line
+/// The line of the version 1 pieces; nothing for a torrent that is not a hybrid.
+pub fn stream_line(v1: &Option<V1Verdict>) -> Line
     ensures { result ≡ stream_words v1.now }
 {
     let mut line = Line::new();

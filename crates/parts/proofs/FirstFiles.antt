@@ -87,7 +87,8 @@ bad_piece t v r contents n q f there (k, bytes, is, has, bad, earlier) = record 
   bad = bad;
 }
 
-less_before : (t : Description) (v : Version1) (r : Places) (contents : Contents) (n p q : ℕ) → p ≤ q → AllBefore t v r contents n q → AllBefore t v r contents n p
+less_before : (t : Description) (v : Version1) (r : Places) (contents : Contents) (n p q : ℕ) → p ≤ q → AllBefore t v r contents n q
+    → AllBefore t v r contents n p
 less_before t v r contents n p q le all x m k f bytes lt at held low = all x m k f bytes lt at held (omega (arith, low, le))
 
 -- one more file
@@ -175,7 +176,12 @@ v1_all t v r contents n (version1.Bad q) sound all told = (
     piece_inside : (t : Description) (contents : Contents) (p m k : ℕ) (f : FileEntry) (bytes : List ℕ) → IsSound t → IsPieceAt t contents p m k f bytes
         → p < place_count t - 1
     piece_inside t contents p m k f bytes sound at =
-        omega (arith, piece_before_next t contents p m k f bytes sound at, sum_by-take-le (λ (g : FileEntry). pieces_of t.piece_length g.length) t.files (m + 1))
+        omega (
+          arith,
+          piece_before_next t contents p m k f bytes sound at,
+          sum_by-take-le (λ (g : FileEntry). pieces_of t.piece_length g.length) t.files
+              (m + 1),
+        )
 
 -- ---- all that is told
 
@@ -230,7 +236,8 @@ told_one t r contents n files a f told v there count found is so_far = record {
 }
 
 -- one more file
-pub found_one : (t : Description) (r : Places) (under : List (List ℕ) → Option (Option (List ℕ))) (n : ℕ) (files : List FileVerdict) (a : V1Verdict) (f : FileEntry)
+pub found_one : (t : Description) (r : Places) (under : List (List ℕ)
+    → Option (Option (List ℕ))) (n : ℕ) (files : List FileVerdict) (a : V1Verdict) (f : FileEntry)
     (v : Verdicts) → slice_get t.files n ≡ Some f → length files ≡ n → FindsFile t r f (under f.path) v → HasFoundFirst t r under n files a
     → HasFoundFirst t r under (n + 1) (files ++ v.file ∷ []) (worse_v1 a v.v1)
 found_one t r under n files a f v there count found so_far = record {

@@ -25,7 +25,8 @@ use Rattle.parts.proofs.PieceNodes.{leaves_in, listed_node, own_root}
 use Rattle.parts.proofs.Streams.{in_pieces}
 
 -- the root decides for a file of one piece
-pub by_root : (t : Description) (f : FileEntry) (e : TreeEntry) (bytes own root : List ℕ) (k : ℕ) (b : Bool) → tree_entry_of t f ≡ Some e → e.length ≡ f.length → f.length ≤ t.piece_length
+pub by_root : (t : Description) (f : FileEntry) (e : TreeEntry) (bytes own root : List ℕ) (k : ℕ) (b : Bool) → tree_entry_of t f ≡ Some e
+    → e.length ≡ f.length → f.length ≤ t.piece_length
     → IsRead t f bytes k own → root ≡ root_of own → b ≡ bytes_eq root e.root → (IsTrue b → IsPieceGood t f bytes k) × (IsPieceGood t f bytes k → IsTrue b)
 by_root t f e bytes own root k b is len short read root_is b_is =
     let here : root ≡ root_of bytes = root_is ∙ ap root_of (read.only short) in (
@@ -39,13 +40,15 @@ by_root t f e bytes own root k b is len short read root_is b_is =
     )
 
 -- the node decides for a longer file
-pub by_node : (t : Description) (f : FileEntry) (e : TreeEntry) (bytes own out listed : List ℕ) (k : ℕ) (b : Bool) → IsSound t → tree_entry_of t f ≡ Some e → e.length ≡ f.length → t.piece_length < f.length
+pub by_node : (t : Description) (f : FileEntry) (e : TreeEntry) (bytes own out listed : List ℕ) (k : ℕ) (b : Bool) → IsSound t
+    → tree_entry_of t f ≡ Some e → e.length ≡ f.length → t.piece_length < f.length
     → IsRead t f bytes k own → slice_get e.layer k ≡ Some listed → out ≡ node_of (piece_layer t.piece_length) (leaves_in own) → b ≡ bytes_eq out listed
     → (IsTrue b → IsPieceGood t f bytes k) × (IsPieceGood t f bytes k → IsTrue b)
 by_node t f e bytes own out listed k b sound is len long read there out_is b_is =
     let here : out ≡ node bytes (piece_layer t.piece_length) k =
     out_is ∙ ap (λ p. node_of (piece_layer t.piece_length) (leaves_in p)) read.own_is
-    ∙ sym (listed_node t.piece_length sound.legal.0 (sound.legal.0 - 14) bytes k (let low = sound.legal.1 in omega arith) sound.legal.3 (read.long long) read.some) in (
+    ∙ sym (listed_node t.piece_length sound.legal.0 (sound.legal.0 - 14) bytes k (let low = sound.legal.1 in omega arith) sound.legal.3
+    (read.long long) read.some) in (
       λ yes. record {
         tree = e;
         tree_is = is;
@@ -56,9 +59,11 @@ by_node t f e bytes own out listed k b sound is len long read there out_is b_is 
     )
 
 -- the node that a root was lifted to
-pub lifted_read : (t : Description) (f : FileEntry) (bytes own root out : List ℕ) (k size layer : ℕ) → IsSound t → IsRead t f bytes k own → length own ≡ size → root ≡ root_of own
+pub lifted_read : (t : Description) (f : FileEntry) (bytes own root out : List ℕ) (k size layer : ℕ) → IsSound t → IsRead t f bytes k own
+    → length own ≡ size → root ≡ root_of own
     → layer ≡ piece_layer t.piece_length
-    → ((xs : List (List ℕ)) → 0 < size → size ≤ 2 ^ 46 → length xs ≡ block_count size → root ≡ node_of (height (block_count size)) xs → height (block_count size) ≤ layer → out ≡ node_of layer xs)
+    → ((xs : List (List ℕ)) → 0 < size → size ≤ 2 ^ 46 → length xs ≡ block_count size → root ≡ node_of (height (block_count size)) xs
+    → height (block_count size) ≤ layer → out ≡ node_of layer xs)
     → out ≡ node_of (piece_layer t.piece_length) (leaves_in own)
 lifted_read t f bytes own root out k size layer sound read len root_is layer_is lifts =
     let positive = pieces_are_positive t sound in
@@ -66,7 +71,8 @@ lifted_read t f bytes own root out k size layer sound read len root_is layer_is 
     ap length read.own_is ∙ length-take t.piece_length (drop (t.piece_length * k) bytes) ∙ ap (min t.piece_length) (length-drop (t.piece_length * k) bytes) in
     let some : 0 < size = omega (arith, len, own_len, read.some, positive) in
     let low : size ≤ t.piece_length = omega (arith, len, own_len) in
-    let short : t.piece_length ≤ 2 ^ 30 = subst (λ p. p ≤ 2 ^ 30) (sym sound.legal.3) (let le : 2 ^ sound.legal.0 ≤ 2 ^ 30 = pow-le-pow_right (let o : 0 < 2 = omega arith in o) sound.legal.2 in le) in
+    let short : t.piece_length ≤ 2 ^ 30 = subst (λ p. p ≤ 2 ^ 30) (sym sound.legal.3) (let le : 2 ^ sound.legal.0 ≤ 2 ^ 30 = pow-le-pow_right
+    (let o : 0 < 2 = omega arith in o) sound.legal.2 in le) in
     let same : block_count (length own) ≡ block_count size = ap block_count len in
     lifts (leaves_in own) some (omega (arith, low, short)) (length-block_hashes own (block_count (length own)) ∙ same)
     (root_is ∙ own_root own ∙ ap (λ n. node_of (height n) (leaves_in own)) same)
@@ -87,13 +93,23 @@ pub piece_fits : (t : Description) (n : ℕ) (f : FileEntry) (k : ℕ) → IsSou
     → (f.first_piece + k < 2 ^ 32) × (t.piece_length * (f.first_piece + k) < 2 ^ 64) × (t.piece_length * k < f.length) × (t.piece_length ≤ 2 ^ 30)
 piece_fits t n f k sound is lt =
     let f_pieces : FileEntry → ℕ = λ g. pieces_of t.piece_length g.length in
-    let few : f.first_piece + k < 2 ^ 32 = omega (arith, lt, pieces_next t n f is, sound.laid_out.first_pieces n f is, sum_by-take-le f_pieces t.files (n + 1), sound.laid_out.pieces) in
-    let short : t.piece_length ≤ 2 ^ 30 = subst (λ p. p ≤ 2 ^ 30) (sym sound.legal.3) (let le : 2 ^ sound.legal.0 ≤ 2 ^ 30 = pow-le-pow_right (let o : 0 < 2 = omega arith in o) sound.legal.2 in le) in
+    let few : f.first_piece + k < 2 ^ 32 = omega (
+      arith,
+      lt,
+      pieces_next t n f is,
+      sound.laid_out.first_pieces n f is,
+      sum_by-take-le f_pieces t.files
+          (n + 1),
+      sound.laid_out.pieces,
+    ) in
+    let short : t.piece_length ≤ 2 ^ 30 = subst (λ p. p ≤ 2 ^ 30) (sym sound.legal.3) (let le : 2 ^ sound.legal.0 ≤ 2 ^ 30 = pow-le-pow_right
+    (let o : 0 < 2 = omega arith in o) sound.legal.2 in le) in
     let most : t.piece_length * (f.first_piece + k) ≤ 2 ^ 30 * 2 ^ 32 = mul-le-mul short (let a : f.first_piece + k ≤ 2 ^ 32 = omega arith in a) in
     (few, omega (arith, most), in_pieces t.piece_length k f.length (pieces_are_positive t sound) lt, short)
 
 -- a piece of a longer file is one of its layer
-pub in_layer : (t : Description) (n : ℕ) (f : FileEntry) (e : TreeEntry) (k : ℕ) → IsSound t → slice_get t.files n ≡ Some f → tree_entry_of t f ≡ Some e → t.piece_length < f.length → k < piece_count t f
+pub in_layer : (t : Description) (n : ℕ) (f : FileEntry) (e : TreeEntry) (k : ℕ) → IsSound t → slice_get t.files n ≡ Some f → tree_entry_of t f ≡ Some e
+    → t.piece_length < f.length → k < piece_count t f
     → k < length e.layer
 in_layer t n f e k sound there is long lt =
     let len = (has_tree t n f e sound there is).0 in

@@ -16,7 +16,8 @@ pub begins_after : (t : Description) (r : Places) (f : FileEntry) (held : ℕ) �
 begins_after t r f held h le touched = omega (arith, h, le, touched.1, touched.3.0, touched.3.1)
 
 -- else the first that could be is
-pub first_touches : (t : Description) (r : Places) (f : FileEntry) (held last : ℕ) → held ≡ max r.from f.first_piece → last ≡ last_place t f → held ≤ last → held < r.to
+pub first_touches : (t : Description) (r : Places) (f : FileEntry) (held last : ℕ) → held ≡ max r.from f.first_piece → last ≡ last_place t f
+    → held ≤ last → held < r.to
     → Touches t r f
 first_touches t r f held last h l le lt = (held, omega (arith, h), omega (arith, l, le), (omega (arith, h), lt))
 

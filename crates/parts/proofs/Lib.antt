@@ -9,6 +9,7 @@ pub mod Lists
 pub mod One
 pub mod PartReads
 pub mod PieceNodes
+pub mod PlaceTests
 pub mod Ranks
 pub mod Rows
 pub mod SharedPlaces

@@ -23,7 +23,12 @@ more_pads : (l : ℕ) (xs : List (List ℕ)) → length xs ≤ 2 ^ l → padded_
 more_pads l xs le =
     let w : 2 ^ suc l ≡ 2 ^ l + 2 ^ l = two-pow l in
     ext_get_or [] (padded_row (suc l) xs) (padded_row l xs ++ replicate (2 ^ l) pad_leaf)
-    (length-padded (suc l) xs (omega (arith, le, w)) ∙ w ∙ sym (omega (arith, length-append (padded_row l xs) (replicate (2 ^ l) pad_leaf), length-padded l xs le, length-replicate (2 ^ l) pad_leaf)))
+    (length-padded (suc l) xs (omega (arith, le, w)) ∙ w ∙ sym (omega (
+      arith,
+      length-append (padded_row l xs) (replicate (2 ^ l) pad_leaf),
+      length-padded l xs le,
+      length-replicate (2 ^ l) pad_leaf,
+    )))
     (λ i lt. elim (cases_lt i (length xs)) [
       | inl inside ↦
           get_or_append_left xs (replicate (2 ^ suc l - length xs) pad_leaf) [] i inside
@@ -81,7 +86,8 @@ piece_blocks bytes w q =
 -- the leaves of a piece, and pads after them
 pub piece_row : (bytes : List ℕ) (m k : ℕ) → m ≤ height (block_count (length bytes)) → k < 2 ^ (height (block_count (length bytes)) - m)
     → take (2 ^ m) (drop (k * 2 ^ m) (leaves bytes))
-    ≡ padded_row m (block_hashes (take (16384 * 2 ^ m) (drop (16384 * (k * 2 ^ m)) bytes)) (block_count (length (take (16384 * 2 ^ m) (drop (16384 * (k * 2 ^ m)) bytes)))))
+    ≡ padded_row m (block_hashes (take (16384 * 2 ^ m) (drop (16384 * (k * 2 ^ m)) bytes)) (block_count (length (take (16384 * 2 ^ m) (drop (16384 *
+    (k * 2 ^ m)) bytes)))))
 piece_row bytes m k low inside =
     let n : ℕ = block_count (length bytes) in
     let h : ℕ = height n in
@@ -94,11 +100,18 @@ piece_row bytes m k low inside =
     let count : c ≡ min w (n - q) = piece_blocks bytes w q in
     let own_len : length own ≡ c = length-block_hashes piece c in
     let all_len : length (leaves bytes) ≡ 2 ^ h = length-leaves bytes in
-    let left_len : length (take w (drop q (leaves bytes))) ≡ w = omega (arith, length-take w (drop q (leaves bytes)), length-drop q (leaves bytes), all_len, fits) in
+    let left_len : length (take w (drop q (leaves bytes))) ≡ w = omega (
+      arith,
+      length-take w (drop q (leaves bytes)),
+      length-drop q (leaves bytes),
+      all_len,
+      fits,
+    ) in
     let right_len : length (padded_row m own) ≡ w = length-padded m own (omega (arith, own_len, count)) in
     ext_get_or [] (take w (drop q (leaves bytes))) (padded_row m own) (left_len ∙ sym right_len) (λ j lt.
     let low_j : j < w = omega (arith, lt, left_len) in
-    let here : get_or (take w (drop q (leaves bytes))) j [] ≡ get_or (leaves bytes) (q + j) [] = get_or-take w (drop q (leaves bytes)) j [] low_j ∙ get_or-drop q (leaves bytes) j [] in
+    let here : get_or (take w (drop q (leaves bytes))) j [] ≡ get_or (leaves bytes) (q + j) [] = get_or-take w (drop q (leaves bytes)) j [] low_j
+    ∙ get_or-drop q (leaves bytes) j [] in
     elim (cases_lt j c) [
       | inl there ↦
           here
@@ -110,7 +123,11 @@ piece_row bytes m k low inside =
       | inr past ↦
           let over : length (block_hashes bytes n) ≤ q + j = omega (arith, past, count, low_j, length-block_hashes bytes n) in
           here
-          ∙ get_or-append_right (block_hashes bytes n) (replicate (2 ^ h - n) pad_leaf) n (q + j) [] (length-block_hashes bytes n) (omega (arith, over, length-block_hashes bytes n))
+          ∙ get_or-append_right (block_hashes bytes n) (replicate (2 ^ h - n) pad_leaf) n (q + j) [] (length-block_hashes bytes n) (omega (
+            arith,
+            over,
+            length-block_hashes bytes n,
+          ))
           ∙ get_or-replicate (2 ^ h - n) (q + j - n) pad_leaf [] (omega (arith, over, length-block_hashes bytes n, fits, low_j))
           ∙ sym (get_or-replicate (w - length own) (j - c) pad_leaf [] (omega (arith, past, low_j, own_len)))
           ∙ sym (get_or-append_right own (replicate (w - length own) pad_leaf) c j [] own_len past)
@@ -118,7 +135,8 @@ piece_row bytes m k low inside =
 
 -- the node over piece k of the file is that over the piece's own leaves
 pub piece_node : (bytes : List ℕ) (m k : ℕ) → m ≤ height (block_count (length bytes)) → k < 2 ^ (height (block_count (length bytes)) - m)
-    → node bytes m k ≡ node_of m (block_hashes (take (16384 * 2 ^ m) (drop (16384 * (k * 2 ^ m)) bytes)) (block_count (length (take (16384 * 2 ^ m) (drop (16384 * (k * 2 ^ m)) bytes)))))
+    → node bytes m k ≡ node_of m (block_hashes (take (16384 * 2 ^ m) (drop (16384 * (k * 2 ^ m)) bytes)) (block_count (length (take (16384 * 2 ^ m) (drop
+    (16384 * (k * 2 ^ m)) bytes)))))
 piece_node bytes m k low inside = ap (tree m) (piece_row bytes m k low inside)
 
 -- ---- a piece of a file that is longer than a piece

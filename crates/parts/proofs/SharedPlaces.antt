@@ -65,7 +65,8 @@ pub bytes_fit : (t : Description) → IsSound t → all_bytes t < 2 ^ 63
 bytes_fit t sound =
     let pl : ℕ = t.piece_length in
     let pieces : ℕ = sum_by (λ (f : FileEntry). pieces_of pl f.length) t.files in
-    let short : pl ≤ 2 ^ 30 = subst (λ p. p ≤ 2 ^ 30) (sym sound.legal.3) (let le : 2 ^ sound.legal.0 ≤ 2 ^ 30 = pow-le-pow_right (let o : 0 < 2 = omega arith in o) sound.legal.2 in le) in
+    let short : pl ≤ 2 ^ 30 = subst (λ p. p ≤ 2 ^ 30) (sym sound.legal.3) (let le : 2 ^ sound.legal.0 ≤ 2 ^ 30 = pow-le-pow_right
+    (let o : 0 < 2 = omega arith in o) sound.legal.2 in le) in
     let few : pieces ≤ 2 ^ 32 = omega (arith, sound.laid_out.pieces) in
     let most : pieces * pl ≤ 2 ^ 32 * 2 ^ 30 = mul-le-mul few short in
     omega (arith, bytes_within pl t.files (pieces_are_positive t sound), most)

@@ -21,7 +21,8 @@ use Rattle.parts.proofs.Streams.{in_pieces}
 -- these bytes were read from the first of the pieces on, and the pieces before this number judged
 pub record JudgedSoFar (t : Description) (f : FileEntry) (from number : ℕ) (given : List ℕ) (bad bad_cut : Option ℕ) : Type 0 where
   pub count : length given + t.piece_length * from ≡ min (t.piece_length * number) f.length
-  pub judged : (bytes xs : List ℕ) → drop (t.piece_length * from) bytes ≡ given ++ xs → (number ≡ piece_count t f → length bytes ≡ f.length) → AreJudged t f from number bytes bad bad_cut
+  pub judged : (bytes xs : List ℕ) → drop (t.piece_length * from) bytes ≡ given ++ xs → (number ≡ piece_count t f → length bytes ≡ f.length)
+      → AreJudged t f from number bytes bad bad_cut
 
 pub none_so_far : (t : Description) (f : FileEntry) (from : ℕ) → t.piece_length * from ≤ f.length → JudgedSoFar t f from from [] None None
 none_so_far t f from le = record {
@@ -38,7 +39,8 @@ read_next t f bytes given own xs from number positive lt count size is end =
     let below : pl * number < f.length = in_pieces pl number f.length positive lt in
     let whole : pl * number ≡ pl * from + length given = omega (arith, below, count) in
     let rest : drop (pl * number) bytes ≡ own ++ xs =
-    ap (λ n. drop n bytes) whole ∙ sym (drop-drop (length given) (pl * from) bytes) ∙ ap (drop (length given)) is ∙ drop_at given (own ++ xs) (length given) refl in
+    ap (λ n. drop n bytes) whole ∙ sym (drop-drop (length given) (pl * from) bytes) ∙ ap (drop (length given)) is ∙ drop_at given (own ++ xs)
+    (length given) refl in
     let lens : length bytes - pl * number ≡ length own + length xs = sym (length-drop (pl * number) bytes) ∙ ap length rest ∙ length-append own xs in
     let some : pl * number < length bytes = omega (arith, lens, size, below, positive) in
     let last : number + 1 ≡ piece_count t f → (length own ≡ f.length - pl * number) × (length xs ≡ 0) =
@@ -64,7 +66,8 @@ read_next t f bytes given own xs from number positive lt count size is end =
           let one : piece_count t f ≤ 1 = one_piece pl f.length positive short in
           let first : number ≡ 0 = omega (arith, one, lt) in
           let len : length bytes ≡ f.length = end (omega (arith, one, lt)) in
-          own_is ∙ ap (λ n. take pl (drop (pl * n) bytes)) first ∙ (let z : pl * 0 ≡ 0 = omega arith in ap (λ n. take pl (drop n bytes)) z) ∙ take_all pl bytes (omega (arith, len, short));
+          own_is ∙ ap (λ n. take pl (drop (pl * n) bytes)) first ∙ (let z : pl * 0 ≡ 0 = omega arith in ap (λ n. take pl (drop n bytes)) z)
+          ∙ take_all pl bytes (omega (arith, len, short));
       long = λ long. elim (cases_lt 0 number) [
         | inl later ↦
             let more : pl * 1 ≤ pl * number = mul-le-mul_left pl (let le : 1 ≤ number = omega (arith, later) in le) in
@@ -80,7 +83,8 @@ read_next t f bytes given own xs from number positive lt count size is end =
     none (x ∷ xs) e = absurd (omega (arith, e))
 
 -- one piece more
-pub more_so_far : (t : Description) (f : FileEntry) (from number : ℕ) (given own : List ℕ) (bad bad_cut : Option ℕ) (j : Judged) → 0 < t.piece_length → from ≤ number → number < piece_count t f
+pub more_so_far : (t : Description) (f : FileEntry) (from number : ℕ) (given own : List ℕ) (bad bad_cut : Option ℕ) (j : Judged) → 0 < t.piece_length
+    → from ≤ number → number < piece_count t f
     → length own ≡ piece_size t f number → IsJudged t f number own j → JudgedSoFar t f from number given bad bad_cut
     → JudgedSoFar t f from (number + 1) (given ++ own) (first_of bad number j.good) (first_of bad_cut number j.cut_good)
 more_so_far t f from number given own bad bad_cut j positive le lt size is so_far =
@@ -130,22 +134,28 @@ agrees_more (Some xs) (Some ys) bs gave = (ys, λ there is. sym (same_Some xs th
 -- ---- the end
 
 -- the source ended before a piece did
-pub too_short : (t : Description) (f : FileEntry) (from number : ℕ) (given more bytes : List ℕ) (bad bad_cut : Option ℕ) → JudgedSoFar t f from number given bad bad_cut
+pub too_short : (t : Description) (f : FileEntry) (from number : ℕ) (given more bytes : List ℕ) (bad bad_cut : Option ℕ)
+    → JudgedSoFar t f from number given bad bad_cut
     → t.piece_length * number < f.length → length more < piece_size t f number → drop (t.piece_length * from) bytes ≡ given ++ more → length bytes ≢ f.length
 too_short t f from number given more bytes bad bad_cut so_far below short at len =
-    let lens : length bytes - t.piece_length * from ≡ length given + length more = sym (length-drop (t.piece_length * from) bytes) ∙ ap length at ∙ length-append given more in
+    let lens : length bytes - t.piece_length * from ≡ length given + length more = sym (length-drop (t.piece_length * from) bytes) ∙ ap length at
+    ∙ length-append given more in
     omega (arith, lens, len, short, below, so_far.count)
 
 -- the source had more
-pub too_long : (t : Description) (f : FileEntry) (from number : ℕ) (given more bytes : List ℕ) (bad bad_cut : Option ℕ) → JudgedSoFar t f from number given bad bad_cut
+pub too_long : (t : Description) (f : FileEntry) (from number : ℕ) (given more bytes : List ℕ) (bad bad_cut : Option ℕ)
+    → JudgedSoFar t f from number given bad bad_cut
     → f.length ≤ t.piece_length * number → 0 < length more → drop (t.piece_length * from) bytes ≡ given ++ more → length bytes ≢ f.length
 too_long t f from number given more bytes bad bad_cut so_far above some at len =
-    let lens : length bytes - t.piece_length * from ≡ length given + length more = sym (length-drop (t.piece_length * from) bytes) ∙ ap length at ∙ length-append given more in
+    let lens : length bytes - t.piece_length * from ≡ length given + length more = sym (length-drop (t.piece_length * from) bytes) ∙ ap length at
+    ∙ length-append given more in
     omega (arith, lens, len, some, above, so_far.count)
 
 -- the source ended where the file does
-pub as_long : (t : Description) (f : FileEntry) (from number : ℕ) (given bytes : List ℕ) (bad bad_cut : Option ℕ) → JudgedSoFar t f from number given bad bad_cut
-    → f.length ≤ t.piece_length * number → (t.piece_length * from ≡ 0) ⊎ (t.piece_length * from < f.length) → drop (t.piece_length * from) bytes ≡ given → length bytes ≡ f.length
+pub as_long : (t : Description) (f : FileEntry) (from number : ℕ) (given bytes : List ℕ) (bad bad_cut : Option ℕ)
+    → JudgedSoFar t f from number given bad bad_cut
+    → f.length ≤ t.piece_length * number → (t.piece_length * from ≡ 0) ⊎ (t.piece_length * from < f.length) → drop
+    (t.piece_length * from) bytes ≡ given → length bytes ≡ f.length
 as_long t f from number given bytes bad bad_cut so_far above begins at =
     let lens : length bytes - t.piece_length * from ≡ length given = sym (length-drop (t.piece_length * from) bytes) ∙ ap length at in
     elim begins [
@@ -154,7 +164,8 @@ as_long t f from number given bytes bad bad_cut so_far above begins at =
     ]
 
 -- where a share begins
-pub begins : (t : Description) (f : FileEntry) (s : Span) → 0 < t.piece_length → IsSpan t f s → (t.piece_length * s.from ≡ 0) ⊎ (t.piece_length * s.from < f.length)
+pub begins : (t : Description) (f : FileEntry) (s : Span) → 0 < t.piece_length → IsSpan t f s
+    → (t.piece_length * s.from ≡ 0) ⊎ (t.piece_length * s.from < f.length)
 begins t f s positive share = elim (cases_lt 0 s.from) [
   | inl some ↦ inr (in_pieces t.piece_length s.from f.length positive (omega (arith, share.some some, share.inside)))
   | inr none ↦ inl (ap (λ n. t.piece_length * n) (let e : s.from ≡ 0 = omega (arith, none) in e) ∙ (let e : t.piece_length * 0 ≡ 0 = omega arith in e))

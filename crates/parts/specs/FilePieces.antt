@@ -18,16 +18,16 @@ IsFirstBad from to IsGood None = (k : ℕ) → from ≤ k → k < to → IsGood 
 IsFirstBad from to IsGood (Some p) =
     (from ≤ p) × (p < to) × (IsGood p → ⊥) × ((k : ℕ) → from ≤ k → k < p → IsGood k)
 
--- of these pieces of a content, from one up to another, the first that is bad is this one; and so of
--- the version 1 pieces
+-- of these pieces of a content, from one up to another, the first that is bad is this one; and so
+-- of the version 1 pieces
 abbrev pub AreJudged : Description → FileEntry → ℕ → ℕ → List ℕ → Option ℕ → Option ℕ → Type 0
 AreJudged t f from to bytes bad bad_cut =
     IsFirstBad from to (IsPieceGood t f bytes) bad
     × ((v : Version1) → t.v1 ≡ Some v → IsFirstBad from to (IsVersion1Good t v f bytes) bad_cut)
 
--- What was found of a source that is to give a file from one of its pieces on, and had this to give.
--- It had these bytes, which are the known ones; and what is said is true of each content that goes on
--- so from there.
+-- What was found of a source that is to give a file from one of its pieces on, and had this to
+-- give. It had these bytes, which are the known ones; and what is said is true of each content that
+-- goes on so from there.
 abbrev pub FindsPieces : Description → FileEntry → Span → Option (List ℕ) → Option Found → Type 0
 FindsPieces t f s left None =
     (rest : List ℕ) × Agrees left rest

@@ -6,6 +6,7 @@ pub mod Joins
 pub mod Laws
 pub mod OnePiece
 pub mod Padded
+pub mod PartLines
 pub mod Parts
 pub mod PartVisits
 pub mod Saying

@@ -76,7 +76,8 @@ pub record IsJudged (t : Description) (f : FileEntry) (k : ℕ) (own : List ℕ)
         → IsTrue j.cut_good ↔ IsCutListed t.piece_length v (f.first_piece + k) own
 
 -- the next piece was read and judged, or the source ended before
-abbrev pub JudgesNext : Description → FileEntry → ℕ → SourceSeen → SourceSeen → Option Judged → Type 0
+abbrev pub JudgesNext : Description → FileEntry → ℕ → SourceSeen → SourceSeen → Option Judged
+    → Type 0
 JudgesNext t f k old new None = EndsBefore old new (piece_size t f k)
 JudgesNext t f k old new (Some j) =
     (own : List ℕ) × (length own ≡ piece_size t f k) × Gave old new own × IsJudged t f k own j

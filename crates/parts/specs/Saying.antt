@@ -15,7 +15,8 @@ IsSmallFrom first (Some number) = first + number < 2 ^ 64
 
 -- and so are those of the pieces that were found
 abbrev pub HasSmallPieces : ℕ → Result (Option Found) DeviceFault → Type 0
-HasSmallPieces first (Ok (Some found)) = IsSmallFrom first found.bad × IsSmallFrom first found.bad_cut
+HasSmallPieces first (Ok (Some found)) =
+    IsSmallFrom first found.bad × IsSmallFrom first found.bad_cut
 HasSmallPieces first (Ok None) = ⊤
 HasSmallPieces first (Err e) = ⊤
 

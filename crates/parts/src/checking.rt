@@ -18,9 +18,9 @@ use opening::{File, Torrent};
 use std::alloc::Global;
 
 /// Checks these places of a torrent on a shelf (BEP 52, "piece layers"; for a hybrid BEP 3,
-/// "pieces", too). Each file that has one of them is opened once, at the first of its pieces that is
-/// among them, and handed back; no byte behind the last of these is read, but one if the file ends
-/// there. A file that has none of them is called good, and is not opened.
+/// "pieces", too). Each file that has one of them is opened once, at the first of its pieces that
+/// is among them, and handed back; no byte behind the last of these is read, but one if the file
+/// ends there. A file that has none of them is called good, and is not opened.
 ///
 /// It takes memory for the report alone, before the first path is opened: if that is refused, the
 /// shelf stays as it is. A file is unreadable if its opening or one of its own reads failed, and

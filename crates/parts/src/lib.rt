@@ -6,6 +6,7 @@ mod file_pieces;
 mod joining;
 mod judging;
 pub mod laws;
+mod part_lines;
 mod piece;
 mod places;
 mod shares;
@@ -14,5 +15,6 @@ mod verdicts;
 
 pub use checking::check_part;
 pub use joining::{join, worse, worse_v1};
+pub use part_lines::print_part;
 pub use places::Places;
 pub use span::touches;

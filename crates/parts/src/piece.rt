@@ -1,4 +1,5 @@
-//! One piece of a file: the node over it, and the digest of the version 1 piece that begins with it.
+//! One piece of a file: the node over it, and the digest of the version 1 piece that begins with
+//! it.
 ghost use Rattle.std.specs.Prelude.{◌≡◌, ℕ, ◌+◌, ◌-◌, ◌*◌, ◌^◌, ◌<◌, ◌≤◌, ◌++◌, [], List, length, replicate, is_some, IfOk, Some, None};
 ghost use Rattle.benc.specs.Device.{CountsFault};
 ghost use Rattle.folders.specs.TakeAll.{IsReadWithin};

@@ -60,7 +60,8 @@ returns-in-Ok-Some-clause-visits g c =
     let at : c.piece_length.result * s.from ≡ t.piece_length * first_in r f =
     ap (λ p. p * s.from) c.piece_length.ensures ∙ ap (λ k. t.piece_length * k) c.requires.span.from_is in
     let opens = subst (λ p. g.S.SeekShelf.opens_at c.args.shelf.now p (t.piece_length * first_in r f) c.open_at.result c.open_at.new.self) path
-    (subst (λ o. g.S.SeekShelf.opens_at c.args.shelf.now (map (λ s. s.now) c.deref.result.now) o c.open_at.result c.open_at.new.self) at c.open_at.ensures.opens) in
+    (subst (λ o. g.S.SeekShelf.opens_at c.args.shelf.now (map
+    (λ s. s.now) c.deref.result.now) o c.open_at.result c.open_at.new.self) at c.open_at.ensures.opens) in
     record {
       answer = Ok (Some source);
       opened = record {

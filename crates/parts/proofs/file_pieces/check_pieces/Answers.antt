@@ -18,7 +18,12 @@ pieces-init g c =
       some = c.requires.some;
       inside = (tt, tt);
       counted = refl;
-      so_far = ([], Gave-nil (g.F.Source.seen c.args.source.now), none_so_far t f c.args.span.from (begins_within _ _ (begins t f c.args.span (pieces_are_positive t c.sound.ensures) c.requires.span)));
+      so_far = (
+        [],
+        Gave-nil (g.F.Source.seen c.args.source.now),
+        none_so_far t f c.args.span.from (begins_within _ _ (begins t f c.args.span
+            (pieces_are_positive t c.sound.ensures) c.requires.span)),
+      );
     }
 
 pub pieces-preserved : goal.pieces-preserved
@@ -32,7 +37,8 @@ pieces-preserved g c =
     let so_far = c.pieces.invariant.so_far in
     let judged = subst (JudgesNext t f n old new) c.in-Some.is c.in_ok-judged.ensures.judged in
     let lt : n < piece_count t f = omega (arith, c.pieces-test.true, c.requires.span.inside) in
-    let more = more_so_far t f from n so_far.0 judged.0 c.pieces.found.bad c.pieces.found.bad_cut c.in-Some.judged (pieces_are_positive t c.sound.ensures) c.pieces.auto.number lt judged.1 judged.3 so_far.2 in
+    let more = more_so_far t f from n so_far.0 judged.0 c.pieces.found.bad c.pieces.found.bad_cut c.in-Some.judged
+    (pieces_are_positive t c.sound.ensures) c.pieces.auto.number lt judged.1 judged.3 so_far.2 in
     record {
       some = omega (arith, c.pieces.invariant.some, c.check_piece.auto.buffer);
       inside = (
@@ -44,7 +50,8 @@ pieces-preserved g c =
         so_far.0 ++ judged.0,
         Gave-trans (g.F.Source.seen c.args.source.now) old new so_far.0 judged.0 so_far.1 judged.2,
         subst (λ b. JudgedSoFar t f from (n + 1) (so_far.0 ++ judged.0) b c.first_bad-in-pieces.result) (sym c.first_bad.ensures)
-            (subst (λ b. JudgedSoFar t f from (n + 1) (so_far.0 ++ judged.0) (first_of c.pieces.found.bad n c.in-Some.judged.good) b) (sym c.first_bad-in-pieces.ensures) more),
+            (subst (λ b. JudgedSoFar t f from (n + 1) (so_far.0 ++ judged.0) (first_of c.pieces.found.bad n c.in-Some.judged.good) b)
+            (sym c.first_bad-in-pieces.ensures) more),
       );
     }
 
@@ -61,7 +68,8 @@ returns-in_default-clause-found g c =
     let all = Gave-trans (g.F.Source.seen c.args.source.now) old new so_far.0 short.bytes so_far.1 short.gave in (
       so_far.0 ++ short.bytes,
       agrees_end _ _ (so_far.0 ++ short.bytes) all.given short.ended,
-      λ bytes at. too_short t f c.args.span.from n so_far.0 short.bytes bytes _ _ so_far.2 (in_pieces t.piece_length n f.length (pieces_are_positive t c.sound.ensures) lt) short.short at,
+      λ bytes at. too_short t f c.args.span.from n so_far.0 short.bytes bytes _ _ so_far.2 (in_pieces t.piece_length n f.length
+          (pieces_are_positive t c.sound.ensures) lt) short.short at,
     )
 
 pub returns-then-not-span-clause-found : goal.returns-then-not-span-clause-found
@@ -98,7 +106,8 @@ returns-then-branch-gt0-clause-found g c =
       (so_far.0 ++ take n buf) ++ more.0,
       more.1,
       λ bytes at. too_long t f c.args.span.from c.pieces.number so_far.0 (take n buf ++ more.0) bytes _ _ so_far.2 over
-          (omega (arith, length-append (take n buf) more.0, length-take-le n buf e.bound, c.if-branch-gt0.true)) (at ∙ append_assoc so_far.0 (take n buf) more.0),
+          (omega (arith, length-append (take n buf) more.0, length-take-le n buf e.bound, c.if-branch-gt0.true)) (at ∙ append_assoc so_far.0
+          (take n buf) more.0),
     )
 
 pub returns-clause-found : goal.returns-clause-found
@@ -120,7 +129,8 @@ returns-clause-found g c =
       so_far.0 ++ take n buf,
       agrees_end _ _ (so_far.0 ++ take n buf) all.given ended,
       λ bytes at.
-          let len = as_long t f c.args.span.from c.pieces.number so_far.0 bytes _ _ so_far.2 over (begins t f c.args.span (pieces_are_positive t c.sound.ensures) c.requires.span) (at ∙ none) in (
+          let len = as_long t f c.args.span.from c.pieces.number so_far.0 bytes _ _ so_far.2 over (begins t f c.args.span
+          (pieces_are_positive t c.sound.ensures) c.requires.span) (at ∙ none) in (
             λ _. len,
             subst (λ m. AreJudged t f c.args.span.from m bytes c.pieces.found.bad c.pieces.found.bad_cut) at_end
                 (so_far.2.judged bytes [] (at ∙ none ∙ sym (append-nil so_far.0)) (λ _. len)),

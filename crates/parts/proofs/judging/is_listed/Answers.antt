@@ -43,7 +43,11 @@ bounds-info-number c =
     let f = file_entry c.args.file.now in
     let file = c.requires.file in
     let is = tree_there t f c.in-Some.tree c.trees.result.now _ c.trees.ensures (c.sound.ensures.files file.0 f file.1) c.in-Some.is in
-    in_layer t file.0 f _ c.args.number c.sound.ensures file.1 is (let gt = c.if-file-piece_length.false in omega (arith, gt, c.piece_length.ensures)) c.requires.inside
+    in_layer t file.0 f _ c.args.number c.sound.ensures file.1 is (let gt = c.if-file-piece_length.false in omega (
+      arith,
+      gt,
+      c.piece_length.ensures,
+    )) c.requires.inside
 
 pub offset_bounds-info-number : goal.offset_bounds-info-number
 offset_bounds-info-number c =

@@ -15,7 +15,15 @@ parts-preserved g c =
     let given = subst (λ xs. IsGiven c.push.new.self (so_far.0 ++ xs)) same (c.push.ensures.given so_far.0 so_far.3) in
     let len = length-take-le taken new e.filled.bound in
     record {
-      within = omega (arith, e.filled.bound, c.fill.auto.buffer, length-append new rest, length-drop c.min-room.result c.parts.buffer, c.min-room.ensures, c.parts-test.true);
+      within = omega (
+        arith,
+        e.filled.bound,
+        c.fill.auto.buffer,
+        length-append new rest,
+        length-drop c.min-room.result c.parts.buffer,
+        c.min-room.ensures,
+        c.parts-test.true,
+      );
       falls = omega (arith, e.filled.gave.falls, len, c.parts.invariant.falls);
       counted = e.counts ∙ c.parts.invariant.counted;
       so_far = (
@@ -39,7 +47,8 @@ returns-then-taken-room-clause-read g c =
     record {
       bytes = so_far.0 ++ take taken new;
       short = omega (arith, so_far.1, length-append so_far.0 (take taken new), len, c.min-room.ensures, c.parts-test.true, c.if-taken-room.true);
-      gave = Gave-trans (g.F.Source.seen c.args.source.now) (g.F.Source.seen c.parts.source) (g.F.Source.seen c.fill.new.source) so_far.0 (take taken new) so_far.2
+      gave = Gave-trans (g.F.Source.seen c.args.source.now) (g.F.Source.seen c.parts.source) (g.F.Source.seen c.fill.new.source) so_far.0
+          (take taken new) so_far.2
           e.filled.gave;
       ended = e.filled.ended (omega (arith, c.fill.auto.buffer, length-append new rest, length-drop c.min-room.result c.parts.buffer, c.if-taken-room.true));
     }

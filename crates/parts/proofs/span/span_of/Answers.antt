@@ -45,7 +45,10 @@ returns c =
     let f = file_entry c.args.file.now in
     let last = last_is f.first_piece c.piece_count-count.result c.max.result _ c.piece_count-count.ensures c.max.ensures in
     record {
-      touches = first_touches t r f c.max-first.result _ c.max-first.ensures last (omega (arith, c.if-last-first.false)) (omega (arith, c.if-places-first.false));
+      touches = first_touches t r f c.max-first.result _ c.max-first.ensures last (omega (arith, c.if-last-first.false)) (omega (
+        arith,
+        c.if-places-first.false,
+      ));
       from_is = ap (λ h. h - f.first_piece) c.max-first.ensures;
       to_is = omega (arith, c.min.ensures, c.piece_count-count.ensures);
       ends = last_held t r f c.max-first.result (f.first_piece + (c.max.result - 1)) c.max-first.ensures last (omega (arith, c.if-last-first.false));

@@ -1,0 +1,3 @@
+-- Lemmas on the reports of parts.
+pub mod Reports
+pub mod Taken

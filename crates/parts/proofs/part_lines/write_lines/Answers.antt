@@ -1,0 +1,26 @@
+use Rattle.std.proofs.Common.{◌<◌, length, refl, arith}
+use Rattle.std.proofs.lemmas.Result.{err_from_is_err_and}
+use Rattle.opening.specs.Seen.{file_entry}
+use Rattle.folders.proofs.Places.{file_there}
+use Rattle.printing.proofs.Parts.{sent_fault, sent_next}
+use Rattle.parts.proofs.PlaceTests.{next_line}
+use Rattle.parts.proofs.part_lines.write_lines.Goals as goal
+
+pub write_held-requires : goal.write_held-requires
+write_held-requires g c = (
+  c.files.i,
+  file_there c.args.torrent.now c.args.files.now c.files.i c.index-files-i.result c.requires.of (omega (arith, c.files-test.true)) c.index-files-i.is,
+)
+
+pub returns-in_err-write_held : goal.returns-in_err-write_held
+returns-in_err-write_held g c =
+    let next = next_line c.args.torrent.now c.args.places c.args.verdicts.now c.args.files.now c.files.i c.index-files-i.result _
+    (omega (arith, c.files-test.true, c.requires.count)) (omega (arith, c.files-test.true)) c.index-files-i.is refl in
+    let p = err_from_is_err_and c.from_residual.result c.from_residual.ensures.1 in
+    sent_fault _ p.0 _ _ _ _ _ _ _ c.files.invariant next p.1 c.in_err-write_held.ensures
+
+pub files-preserved : goal.files-preserved
+files-preserved g c =
+    let next = next_line c.args.torrent.now c.args.places c.args.verdicts.now c.args.files.now c.files.i c.index-files-i.result _
+    (omega (arith, c.files-test.true, c.requires.count)) (omega (arith, c.files-test.true)) c.index-files-i.is refl in
+    sent_next _ _ _ _ _ _ _ c.files.invariant next c.in_ok-write_held.ensures

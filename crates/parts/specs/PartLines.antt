@@ -1,0 +1,49 @@
+-- What is printed of a part's report.
+use Rattle.std.specs.Prelude.{ℕ, ◌+◌, ◌-◌, max, Bool, true, false, ◌&&◌, nat_le, nat_lt, List, [], ◌∷◌, ◌++◌, codes, decimal, Option, if◌then◌else◌}
+use Rattle.hex.specs.Hex.{encode_lower}
+use Rattle.opening.specs.Description.{Description, FileEntry}
+use Rattle.folders.specs.Printed.{file_verdict_text, stream_words}
+use Rattle.folders.specs.Verdicts.{is_yes}
+use Rattle.folders.specs.declared.report.FileVerdict.{FileVerdict}
+use Rattle.folders.specs.declared.report.V1Verdict.{V1Verdict}
+use Rattle.parts.specs.Parts.{last_place}
+use Rattle.parts.specs.Shares.{share}
+use Rattle.parts.specs.declared.places.Places.{Places}
+
+-- whether a place of the file is among these
+abbrev pub has_place : Description → Places → FileEntry → Bool
+has_place t r f =
+    nat_le (max r.from f.first_piece) (last_place t f) && nat_lt (max r.from f.first_piece) r.to
+
+-- the first line: the part's number from 1 on, how many parts there are, and the version 2 info
+-- hash
+abbrev pub head_text : Description → ℕ → ℕ → List ℕ
+head_text t part parts =
+    codes "part " ++ decimal (part + 1) ++ codes "/" ++ decimal parts ++ codes " "
+    ++ encode_lower t.info_hash_v2 ++ codes "\n"
+
+-- the line of a file that has a place in the part
+abbrev pub held_line : Bool → FileVerdict → FileEntry → List ℕ
+held_line is_held v f = (if is_held then file_verdict_text v f else [])
+
+-- the lines of the first files that have one of these places, of all of which these are the
+-- verdicts
+abbrev pub lines_text : Description → Places → List FileVerdict → List FileEntry → List ℕ
+lines_text t r [] fs = []
+lines_text t r (v ∷ vs) [] = []
+lines_text t r (v ∷ vs) (f ∷ fs) = held_line (has_place t r f) v f ++ lines_text t r vs fs
+
+-- the last line
+abbrev pub answer_line : Bool → List ℕ
+answer_line true = codes "part yes\n"
+answer_line false = codes "part no\n"
+
+-- what follows the lines of the files
+abbrev pub end_lines : List FileVerdict → Option V1Verdict → List ℕ
+end_lines files v1 = stream_words v1 ++ answer_line (is_yes files v1)
+
+-- all lines
+abbrev pub part_text : Description → ℕ → ℕ → List FileVerdict → Option V1Verdict → List ℕ
+part_text t part parts files v1 =
+    head_text t part parts
+    ++ (lines_text t (share t part parts) files t.files ++ end_lines files v1)
