@@ -1,4 +1,4 @@
-use Rattle.std.proofs.Common.{◌≡◌, ◌∙◌, length, map, refl, sym, subst}
+use Rattle.std.proofs.Common.{◌∙◌, map, refl, sym, subst}
 use Rattle.hashtree.specs.Hashes.{AreHashes}
 use Rattle.std.proofs.lemmas.Result.{err_from_is_err_and}
 use Rattle.pieces.specs.Pieces.{IsPieceLength}
