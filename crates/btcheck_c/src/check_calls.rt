@@ -111,9 +111,9 @@ pub extern "C" fn btcheck_check_push(alloc: Global, handle: &mut Handle, bytes: 
     status
 }
 
-/// Ends the check of a whole file, which begins anew. Status 1: the handle holds no check. Status 9:
-/// bytes of the file are still to come, and the check is as before. Status 10: a piece is not the
-/// torrent's, and the first such piece of the file is written.
+/// Ends the check of a whole file, which begins anew. Status 1: the handle holds no check. Status
+/// 9: bytes of the file are still to come, and the check is as before. Status 10: a piece is not
+/// the torrent's, and the first such piece of the file is written.
 #[unsafe(no_mangle)]
 pub extern "C" fn btcheck_check_finish(alloc: Global, handle: &mut Handle, piece: &mut u64) -> u32
     ensures { Through (EndsCheck piece.new) handle.old.slot.held result handle.new.slot.held }

@@ -64,8 +64,8 @@ pub(crate) const CREATE_HELP: &str = "\
 Hashes all files below DIR, hidden ones too, then writes the torrent to OUT and prints nothing.
 A folder that cannot be a torrent prints `refused NUMBER NAME`, and the path of the file, status 1.
 Symbolic links, pipes and devices in DIR are a fault.
-In a GLOB `*` and `?` match no `/`, `**` does, `[a-z]` and `[!a-z]` are one character, and `\\` makes
-the next one plain. Without a `/`, or with one at its end alone, it matches at any depth.";
+In a GLOB `*` and `?` match no `/`, `**` does, `[a-z]` and `[!a-z]` are one character, and `\\`
+makes the next one plain. Without a `/`, or with one at its end alone, it matches at any depth.";
 
 pub(crate) const CONVERT_ABOUT: &str = "Adds directions to a record that has none";
 

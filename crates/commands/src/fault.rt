@@ -8,8 +8,8 @@ use printing::{Fault, fault_line};
 use std::io::{IsTerminal, Write};
 use std::process::ExitCode;
 
-/// Prints the fault's line on standard error, and on a terminal a line with the reason behind it, if
-/// the system gave one. Gives the exit status of a fault. What cannot be written is lost.
+/// Prints the fault's line on standard error, and on a terminal a line with the reason behind it,
+/// if the system gave one. Gives the exit status of a fault. What cannot be written is lost.
 pub fn print_fault(system: &System, fault: &Fault<'_>) -> ExitCode
     ensures { exit_status result ≡ 2 }
 {

@@ -42,7 +42,8 @@ IsWithout pattern (Err e) (Ok paths) = ⊥
 IsWithout pattern (Err e) (Err f) = f ≡ e
 
 -- the shelf inside was listed, and its listing was answered without the files that are left out
-abbrev pub ListsWithout : {S : Type 0} → (S → Result (Vec (Vec (String Global))) ShelfFault → S → Type 0)
+abbrev pub ListsWithout : {S : Type 0}
+    → (S → Result (Vec (Vec (String Global))) ShelfFault → S → Type 0)
     → Re → S → Result (Vec (Vec (String Global))) ShelfFault → S → Type 0
 ListsWithout lists pattern old answer new =
     (inner : Result (Vec (Vec (String Global))) ShelfFault) × lists old inner new

@@ -114,7 +114,7 @@ fn has_inner_slash(glob: &str) -> bool {
     false
 }
 
-// Puts the parts of a glob at the end, and what may stand behind its match: anything below a folder.
+// Puts the parts of a glob at the end, and what may stand behind its match: all below a folder.
 fn put_parts(text: &mut String, mut glob: Chars<'_>) -> Result<(), OneFault> {
     let mut starts = true;
     for _ in 0..glob.as_str().len() {

@@ -2,8 +2,8 @@
 use crate::globs::{OneFault, next_of, put_letter};
 use std::str::Chars;
 
-/// Puts one of the characters in brackets at the end, of which the `[` is taken already. It is never
-/// `/`.
+/// Puts one of the characters in brackets at the end, of which the `[` is taken already. It is
+/// never `/`.
 pub(crate) fn put_set(text: &mut String, rest: &mut Chars<'_>) -> Result<(), OneFault> {
     let is_other = rest.as_str().starts_with('!') || rest.as_str().starts_with('^');
     if is_other {

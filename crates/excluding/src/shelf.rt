@@ -12,8 +12,8 @@ use regex::Matcher;
 use std::alloc::{AllocError, Global};
 use std::mem;
 
-/// A shelf whose listing leaves out the files in whose paths a pattern is found: the components of a
-/// path are joined by `/`. What is left out can still be opened. The listing fails as that of the
+/// A shelf whose listing leaves out the files in whose paths a pattern is found: the components of
+/// a path are joined by `/`. What is left out can still be opened. The listing fails as that of the
 /// shelf inside does, also for what has a path that would be left out.
 #[derive(Drop)]
 pub struct Excluding<'r, S: Shelf> {

@@ -9,11 +9,11 @@ use Rattle.parts.specs.Parts.{AreAllPlaces, PartReport}
 use Rattle.parts.specs.Shares.{share}
 
 -- one of these texts is the report of this one of so many parts, and says this
-pub record IsRead (t : Description) (texts : List (List ℕ)) (part count : ℕ) (p : PartReport) : Type 0
-  where
-    pub places : p.places ≡ share t part count
-    pub number : ℕ
-    pub there : slice_get texts number ≡ Some (part_text t part count p.files p.v1)
+pub record IsRead (t : Description) (texts : List (List ℕ)) (part count : ℕ) (p : PartReport)
+    : Type 0 where
+  pub places : p.places ≡ share t part count
+  pub number : ℕ
+  pub there : slice_get texts number ≡ Some (part_text t part count p.files p.v1)
 
 -- what these texts report of the first parts of so many, in order
 abbrev pub AreRead : Description → List (List ℕ) → ℕ → List PartReport → Type 0

@@ -95,7 +95,7 @@ pub record IsRowBegun (C : PartialTree) (row : Row) (n : ℕ) (before after : Pa
   pub here : (k : ℕ) → k < n → after row.layer (place_in row k) ≡ joined before C row.layer (place_in row k)
   pub rest : (l i : ℕ) → ¬ LiesBelowRow row l i → ((k : ℕ) → k < n → l ≡ row.layer → i ≢ place_in row k) → after l i ≡ before l i
 
-pub row-begun : (C : PartialTree) (row : Row) (before after : PartialTree) → IsBelowRowWritten C row before after → IsRowBegun C row 0 before after
+pub row-begun : (C : PartialTree) (r : Row) (before after : PartialTree) → IsBelowRowWritten C r before after → IsRowBegun C r 0 before after
 row-begun C row before after written = record {
   below = written.below;
   here = λ k low. absurd (omega (arith, low));
