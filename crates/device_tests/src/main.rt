@@ -5,13 +5,16 @@
 
 ghost use Rattle.std.specs.Prelude.{◌<◌};
 
+mod parted;
 mod reads;
 mod shelves;
 mod trial;
 mod world;
 mod writes;
 
+use folders::memory::MemFile;
 use opening::Torrent;
+use parted::{compare, content_of};
 use std::{env, fs, io};
 use world::World;
 
@@ -47,6 +50,23 @@ fn try_torrent(
     }
 }
 
+// Checks the files that are there in parts.
+fn try_parts(rt: &HostRuntime, torrent: &str, a: &str, c: &str) -> io::Result<()> {
+    let text = fs::read(rt, torrent)?;
+    let (a, c) = (content_of(rt, a), content_of(rt, c));
+    let mut files = Vec::new(rt.alloc());
+    if let Some(a) = &a {
+        files.push(MemFile::new(&["a"], a))?;
+    }
+    if let Some(c) = &c {
+        files.push(MemFile::new(&["c"], c))?;
+    }
+    match Torrent::open(rt.alloc(), &text) {
+        Ok(torrent) => compare(rt, &torrent, &files),
+        Err(refusal) => println!(rt; "refused {}", refusal.number()),
+    }
+}
+
 fn main(rt: HostRuntime) -> io::Result<()> {
     let mut arguments = env::args(&rt)?.skip(1);
     let (Some(torrent), Some(record), Some(a), Some(c), Some(at_most)) = (
@@ -56,8 +76,13 @@ fn main(rt: HostRuntime) -> io::Result<()> {
         arguments.next(),
         arguments.next(),
     ) else {
-        return eprintln!(rt; "usage: device_tests TORRENT RECORD A C BYTES");
+        return eprintln!(rt;
+            "usage: device_tests TORRENT RECORD A C BYTES, or device_tests parts TORRENT A C 0"
+        );
     };
+    if torrent.as_str() == "parts" {
+        return try_parts(&rt, record.as_str(), a.as_str(), c.as_str());
+    }
     let text = fs::read(&rt, torrent.as_str())?;
     let record = fs::read(&rt, record.as_str())?;
     let a = fs::read(&rt, a.as_str())?;
