@@ -37,13 +37,10 @@ endef
 
 all: build/btcheck
 
-build/btcheck: build/$(KIND)/btcheck build/kind
-	install -m 755 $< $@
-
-# Which one build/btcheck is: written anew where that changes.
-build/kind: FORCE
-	@mkdir -p build
-	@echo $(KIND) | cmp -s - $@ || echo $(KIND) > $@
+# The one for this kind: copied anew where it is another. Times do not tell that, since two calls of make may come within
+# one tick of the clock of files.
+build/btcheck: build/$(KIND)/btcheck FORCE
+	@cmp -s $< $@ || install -m 755 $< $@
 
 # The program for one kind of processor, and its object. The proofs are the same for each: only the code is made anew.
 # On a lesser machine the program says so and ends with 127.

@@ -79,9 +79,9 @@ def test_processor():
     need("make")
     for words, env, kind in [([], {}, machine()), ([], LESSER, "x86-64-v2"), (["CPU=x86-64-v3"], LESSER, "x86-64-v3"),
                              (["CPU=x86-64-v2"], {}, "x86-64-v2"), (["CPU="], {}, machine())]:
-        told = subprocess.run(["make", "-n", *words, "build/kind"], cwd=TOP, env={**os.environ, "CPU": "", **env}, check=True,
-                              stdout=subprocess.PIPE, text=True).stdout
-        assert f"echo {kind} " in told, (words, env, told)
+        told = subprocess.run(["make", "-n", *words, "-o", f"build/{kind}/btcheck", "build/btcheck"], cwd=TOP,
+                              env={**os.environ, "CPU": "", **env}, check=True, stdout=subprocess.PIPE, text=True).stdout
+        assert f"cmp -s build/{kind}/btcheck " in told, (words, env, told)
 
 
 # Calls of the program over the examples; OUT is a file that the call writes.
