@@ -85,8 +85,7 @@ fn print_text(rt: &HostRuntime, text: &[u8]) -> io::Result<()> {
     }
 }
 
-// Takes a byte from a report, or the report of the first part, or gives that of the last part twice:
-// each is refused for what it is.
+// Takes a byte from a report, leaves one out, or gives one twice: each is refused for what it is.
 fn refuse_all(
     rt: &HostRuntime,
     torrent: &Torrent<'_>,
