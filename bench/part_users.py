@@ -35,10 +35,12 @@ def on_file(words, path):
 
 
 def checks(words, torrent, files):
+    """The commands that check the folder. The torrent is that of its one file, so libtorrent looks for that right below
+    the folder too."""
     python, script = support.python_with_libtorrent(), os.path.join(TOP, "bench", "recheck.py")
     commands = by_programs(words, "check", torrent, files)
     for name, threads in [("libtorrent, 1 thread", 1), ("libtorrent, 4 threads", 4)]:
-        commands[name] = [python, script, torrent, os.path.dirname(files), str(threads)]
+        commands[name] = [python, script, torrent, files, str(threads)]
     return commands
 
 
@@ -77,7 +79,7 @@ def run(folder, words):
     row("`root`", measured(on_file(words, path), words.rounds))
     for hybrid, name in [(False, "`check`, version 2"), (True, "`check`, hybrid")]:
         torrent = os.path.join(folder, "torrent")
-        support.made_by_libtorrent([{"content": files, "torrent": torrent, "piece_length": PIECE_LENGTH, "hybrid": hybrid}])
+        support.made_by_libtorrent([{"content": path, "torrent": torrent, "piece_length": PIECE_LENGTH, "hybrid": hybrid}])
         row(name, measured(checks(words, torrent, files), words.rounds))
     row("`create`, hybrid", measured(creates(words, folder, files), words.rounds))
     return []
