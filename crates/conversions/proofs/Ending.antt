@@ -87,29 +87,29 @@ pub sends_front : (first now : SourceSeen) (start out : SinkSeen) (left : ℕ) (
 sends_front first now start out left front waiting s w =
     subst (λ b. Sends b start out) s.begins (sends_of left s.fed waiting s.text start out s.reached s.sent (may_end left s.fed waiting s.text s.reached w))
 
--- what is told at the end
-pub record Tells (whole : Bool) (left : ℕ) (waiting : List ℕ) : Type 0 where
+-- whether the record ends between two frames
+pub record IsWhole (whole : Bool) (left : ℕ) (waiting : List ℕ) : Type 0 where
   pub yes : whole ≡ true → (left ≡ 0) × (waiting ≡ [])
   pub no : whole ≡ false → (left ≡ 0) × (waiting ≡ []) → ⊥
 
 pub ends : (whole : Bool) (first now : SourceSeen) (start out : SinkSeen) (left : ℕ) (front waiting : List ℕ) (s : SoFar first now start out left front waiting)
-    → Waits left waiting → IsAtEnd now.left → Tells whole left waiting
+    → Waits left waiting → IsAtEnd now.left → IsWhole whole left waiting
     → RecordEnds whole first now (s.fed ++ waiting) start out
-ends whole first now start out left front waiting s w end told =
+ends whole first now start out left front waiting s w end known =
     let stop : MayEnd left s.fed waiting s.text = may_end left s.fed waiting s.text s.reached w in
     record {
       gave = s.gave;
       at_end = end;
       sends = sends_of left s.fed waiting s.text start out s.reached s.sent stop;
-      whole_is = λ e. let both = told.yes e in stop.whole both.0 both.1;
-      cut_is = λ e none. told.no e (stop.cut none);
+      whole_is = λ e. let both = known.yes e in stop.whole both.0 both.1;
+      cut_is = λ e none. known.no e (stop.cut none);
     }
 
 pub ends_front : (whole : Bool) (first now : SourceSeen) (start out : SinkSeen) (left : ℕ) (front waiting : List ℕ)
-    (s : SoFar first now start out left front waiting) → Waits left waiting → IsAtEnd now.left → Tells whole left waiting
+    (s : SoFar first now start out left front waiting) → Waits left waiting → IsAtEnd now.left → IsWhole whole left waiting
     → (more : List ℕ) × RecordEnds whole first now (front ++ more) start out
-ends_front whole first now start out left front waiting s w end told =
-    (s.more, subst (λ b. RecordEnds whole first now b start out) s.begins (ends whole first now start out left front waiting s w end told))
+ends_front whole first now start out left front waiting s w end known =
+    (s.more, subst (λ b. RecordEnds whole first now b start out) s.begins (ends whole first now start out left front waiting s w end known))
 
 -- a call that failed gave nothing
 pub read_fails : (first now now' : SourceSeen) (start out : SinkSeen) (left : ℕ) (front waiting : List ℕ) (s : SoFar first now start out left front waiting)
@@ -131,16 +131,16 @@ pub ended_here : (first now now' : SourceSeen) (start out : SinkSeen) (left : �
 ended_here first now now' start out left front waiting s gave =
     subst (SoFar first now' start out left front) (append-nil waiting) (so_far_read first now now' start out left front waiting [] s gave)
 
--- nothing waits, so what is left of a body tells
-pub tells_left : (left held : ℕ) (buffer : List ℕ) → held ≡ 0 → Tells (nat_eq left 0) left (take held buffer)
-tells_left left held buffer none = record {
+-- nothing waits, so the record is whole if nothing is left of a body
+pub left_is_whole : (left held : ℕ) (buffer : List ℕ) → held ≡ 0 → IsWhole (nat_eq left 0) left (take held buffer)
+left_is_whole left held buffer none = record {
   yes = λ e. (eqb-true left 0 e, ap (λ n. take n buffer) none);
   no = λ e both. false≢true (sym e ∙ eq-eqb left 0 both.0);
 }
 
 -- something waits
-pub tells_held : (left held : ℕ) (buffer : List ℕ) → held ≤ length buffer → held ≢ 0 → Tells (nat_eq held 0) left (take held buffer)
-tells_held left held buffer within some = record {
+pub held_is_whole : (left held : ℕ) (buffer : List ℕ) → held ≤ length buffer → held ≢ 0 → IsWhole (nat_eq held 0) left (take held buffer)
+held_is_whole left held buffer within some = record {
   yes = λ e. absurd (some (eqb-true held 0 e));
   no = λ e both. some (sym (length-take-le held buffer within) ∙ ap length both.1);
 }

@@ -28,8 +28,8 @@ prefix_from bytes e =
     let same : bytes ≡ take (length bytes) header = same_text bytes (take (length bytes) header) (sym e) in
     (drop (length bytes) header, sym (take-append-drop (length bytes) header) ∙ ap (λ t. t ++ drop (length bytes) header) (sym same))
 
-pub prefix_told : (bytes : List ℕ) → IsPrefixOf bytes header → pointwise nat_eq bytes (take (length bytes) header) ≡ true
-prefix_told bytes p =
+pub prefix_is_seen : (bytes : List ℕ) → IsPrefixOf bytes header → pointwise nat_eq bytes (take (length bytes) header) ≡ true
+prefix_is_seen bytes p =
     let front : take (length bytes) header ≡ bytes = ap (take (length bytes)) p.1 ∙ take_at bytes p.0 (length bytes) refl in
     ap (pointwise nat_eq bytes) front ∙ same_as_itself bytes
 
@@ -71,15 +71,15 @@ one_from_eight front more enough has = λ rest e.
     has (drop 8 front) (sym (take-append-drop 8 front) ∙ ap (λ t. t ++ drop 8 front) same)
 
 pub one_whatever_follows : (front more : List ℕ) → (IsPrefixOf front header → 8 ≤ length front) → HasForm front One → HasForm (front ++ more) One
-one_whatever_follows front more tells has = elim (cases_lt (length front) 8) [
-  | inl short ↦ λ rest e. absurd (omega (arith, short, tells (prefix_of_front front more rest (omega (arith, short)) e)))
+one_whatever_follows front more shows has = elim (cases_lt (length front) 8) [
+  | inl short ↦ λ rest e. absurd (omega (arith, short, shows (prefix_of_front front more rest (omega (arith, short)) e)))
   | inr enough ↦ one_from_eight front more enough has
 ]
 
 pub no_prefix : (front more : List ℕ) → (IsPrefixOf front header → 8 ≤ length front) → HasForm front One → ¬ IsPrefixOf (front ++ more) header
-no_prefix front more tells has = λ p.
+no_prefix front more shows has = λ p.
     let whole : header ≡ front ++ (more ++ p.0) = p.1 ∙ append_assoc front more p.0 in
-    let enough : 8 ≤ length front = tells (more ++ p.0, whole) in
+    let enough : 8 ≤ length front = shows (more ++ p.0, whole) in
     let none : more ++ p.0 ≡ [] = nil_from_length (more ++ p.0) (omega (arith, enough, ap length whole, length-append front (more ++ p.0))) in
     has [] (sym (append-nil front) ∙ ap (λ t. front ++ t) (sym none) ∙ sym whole)
 

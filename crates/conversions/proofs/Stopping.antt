@@ -14,8 +14,8 @@ use Rattle.wire.specs.Records.{HasForm, header}
 use Rattle.conversions.specs.declared.fault.ConvertFault.{ConvertFault}
 use Rattle.conversions.specs.declared.fault.ConvertFault.TheVariants as fault
 use Rattle.conversions.specs.Converting.{Converts, FailsToConvert, FailsToWrite, IsCutShort, IsPrefixOf}
-use Rattle.conversions.specs.Steps.{ReadingEnds, EndsForm1, TellsForm, Waits}
-use Rattle.conversions.proofs.Ending.{Tells, ends, so_far_first}
+use Rattle.conversions.specs.Steps.{ReadingEnds, EndsForm1, ShowsForm, Waits}
+use Rattle.conversions.proofs.Ending.{IsWhole, ends, so_far_first}
 use Rattle.wire.proofs.RecordParts.{one_from_short}
 use Rattle.conversions.proofs.Fronts.{no_prefix, one_whatever_follows, prefix_partial}
 
@@ -24,37 +24,37 @@ use Rattle.conversions.proofs.Fronts.{no_prefix, one_whatever_follows, prefix_pa
 stops_later : (first now : SourceSeen) (start out : SinkSeen) (front : List ℕ) → (IsPrefixOf front header → 8 ≤ length front) → HasForm front One
     → (why : ConvertFault)
     → ReadingEnds first now start out front (Err why) → FailsToConvert first now start out why
-stops_later first now start out front tells has fault.Truncated e = absurd e
-stops_later first now start out front tells has fault.Read e = record {
+stops_later first now start out front shows has fault.Truncated e = absurd e
+stops_later first now start out front shows has fault.Read e = record {
   bytes = front ++ e.0;
   gave = e.1;
   counted = e.2;
   went_out =
-      inr (no_prefix front e.0 tells has, e.3);
+      inr (no_prefix front e.0 shows has, e.3);
 }
-stops_later first now start out front tells has fault.AlreadyForm2 e = absurd e
-stops_later first now start out front tells has fault.Write e = record { bytes = front ++ e.0; gave = e.1; went_out = inl e.2 }
+stops_later first now start out front shows has fault.AlreadyForm2 e = absurd e
+stops_later first now start out front shows has fault.Write e = record { bytes = front ++ e.0; gave = e.1; went_out = inl e.2 }
 
 pub ends_later : (first now : SourceSeen) (start out : SinkSeen) (front : List ℕ) → (IsPrefixOf front header → 8 ≤ length front) → HasForm front One
     → (r : Result Bool ConvertFault) → ReadingEnds first now start out front r
     → MatchResult r (λ whole. EndsForm1 whole first now start out) (FailsToConvert first now start out)
-ends_later first now start out front tells has (Ok whole) e = (front ++ e.0, e.1, one_whatever_follows front e.0 tells has)
-ends_later first now start out front tells has (Err why) e = stops_later first now start out front tells has why e
+ends_later first now start out front shows has (Ok whole) e = (front ++ e.0, e.1, one_whatever_follows front e.0 shows has)
+ends_later first now start out front shows has (Err why) e = stops_later first now start out front shows has why e
 
 -- ---- the source ended in less than a header
 
 pub ends_at_once : (first now : SourceSeen) (start out : SinkSeen) (held : ℕ) (buffer : List ℕ) → held ≤ length buffer
-    → GaveFaultless first now (take held buffer) → TellsForm false now (take held buffer) → Sent start out header
+    → GaveFaultless first now (take held buffer) → ShowsForm false now (take held buffer) → Sent start out header
     → EndsForm1 (nat_eq held 0) first now start out
-ends_at_once first now start out held buffer within gave tells sent =
+ends_at_once first now start out held buffer within gave shows sent =
     let front = take held buffer in
     let s = so_far_first first now start out front gave sent in
-    let waits : Waits 0 front = record { partial = prefix_partial front tells.1 tells.2; short = omega (arith, tells.1); none = inl refl } in
-    let told : Tells (nat_eq held 0) 0 front = record {
+    let waits : Waits 0 front = record { partial = prefix_partial front shows.1 shows.2; short = omega (arith, shows.1); none = inl refl } in
+    let known : IsWhole (nat_eq held 0) 0 front = record {
       yes = λ e. (refl, ap (λ n. take n buffer) (eqb-true held 0 e));
       no = λ e both. false≢true (sym e ∙ eq-eqb held 0 (sym (length-take-le held buffer within) ∙ ap length both.1));
     } in
-    (front, ends (nat_eq held 0) first now start out 0 front front s waits tells.0 told, one_from_short front tells.1)
+    (front, ends (nat_eq held 0) first now start out 0 front front s waits shows.0 known, one_from_short front shows.1)
 
 -- ---- the end of the whole record
 

@@ -1,5 +1,5 @@
 -- What goes out when a record of form 1 is converted.
-use Rattle.std.specs.Prelude.{◌≡◌, ◌≢◌, ◌⊎◌, ℕ, List, [], ◌++◌}
+use Rattle.std.specs.Prelude.{◌≡◌, ◌≢◌, ◌⊎◌, ℕ, List, [], ◌++◌, Result, Ok, Err}
 use Rattle.std.specs.Io.KnownBytes.{IsAtEnd}
 use Rattle.benc.specs.Device.{SinkSeen, SourceSeen, Broke, BrokeOrUnflushed, Sent, SentAndFlushed, one_more}
 use Rattle.wire.specs.declared.form.Form.TheVariants.{One, Two}
@@ -94,3 +94,9 @@ FailsToConvert old new out out' fault.Truncated = IsCutShort old new out out'
 FailsToConvert old new out out' fault.Read = FailsAtRead old new out out'
 FailsToConvert old new out out' fault.AlreadyForm2 = IsForm2 old new out out'
 FailsToConvert old new out out' fault.Write = FailsToWrite old new out out'
+
+-- how a conversion ended: the record was converted, or it was not, for this reason
+abbrev pub ConversionEnds : SourceSeen → SourceSeen → SinkSeen → SinkSeen
+    → Result (Unit {0}) ConvertFault → Type 0
+ConversionEnds old new out out' (Ok u) = Converts old new out out'
+ConversionEnds old new out out' (Err reason) = FailsToConvert old new out out' reason

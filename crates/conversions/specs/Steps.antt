@@ -1,8 +1,10 @@
 -- How far a conversion has come: the bytes of the record that it was fed, and the text for them.
-use Rattle.std.specs.Prelude.{◌≡◌, ◌≢◌, ◌⊎◌, ℕ, ◌+◌, ◌-◌, ◌<◌, ◌≤◌, ◌^◌, min, Bool, true, false, List, [], ◌∷◌, ◌++◌, length, take, Result, Ok, Err}
+use Rattle.std.specs.Prelude.{◌≡◌, ◌≢◌, ◌⊎◌, ℕ, ◌+◌, ◌-◌, ◌<◌, ◌≤◌, ◌^◌, min, Bool, true, false, List, [], ◌∷◌, ◌++◌, length, take, Result, MatchResult, Ok, Err}
 use Rattle.std.specs.List.{All, flat_map}
 use Rattle.std.specs.Io.KnownBytes.{IsAtEnd}
 use Rattle.benc.specs.Device.{SinkSeen, SourceSeen, Broke, Sent, one_more}
+use Rattle.benc.specs.declared.device.DeviceFault.{DeviceFault}
+use Rattle.benc.specs.declared.device.WriteFault.{WriteFault}
 use Rattle.wire.specs.declared.direction.Direction.TheVariants.{In}
 use Rattle.wire.specs.declared.form.Form.TheVariants.{One, Two}
 use Rattle.wire.specs.Conversion.{conversion_bytes, converted}
@@ -10,7 +12,7 @@ use Rattle.wire.specs.Frames.{IsBody, IsPartial, four_bytes, frame}
 use Rattle.wire.specs.Meaning.{IsHashesSize, ask_size, hashes_id}
 use Rattle.wire.specs.Reading.{Gave, GaveFaultless}
 use Rattle.wire.specs.Records.{HasForm, direction_byte, header, record_frame}
-use Rattle.conversions.specs.Converting.{BreaksInText, IsPrefixOf, Sends}
+use Rattle.conversions.specs.Converting.{BreaksInText, FailsToConvert, IsPrefixOf, Sends}
 use Rattle.conversions.specs.declared.fault.ConvertFault.{ConvertFault}
 use Rattle.conversions.specs.declared.fault.ConvertFault.TheVariants as fault
 
@@ -87,6 +89,27 @@ pub record Held (start now : SinkSeen) (outgoing text : List ℕ) : Type 0 where
   pub out : Sent start now sent
   pub text_is : text ≡ sent ++ outgoing
 
+-- a request that may go before this head follows what was outgoing, or the sink failed before
+-- its end
+abbrev pub PutsRequest : List ℕ → SinkSeen → SinkSeen → List ℕ → List ℕ
+    → Result (Unit {0}) WriteFault → Type 0
+PutsRequest head out out' outgoing outgoing' result = (start : SinkSeen) (text : List ℕ)
+    → Held start out outgoing text → MatchResult result
+    (λ _. (request : List ℕ) × GoesBefore head request
+    × Held start out' outgoing' (text ++ request))
+    (λ _. (request : List ℕ) × GoesBefore head request × Broke start out' (text ++ request))
+
+-- the frame with this head begins behind what was outgoing, and this many bytes of it are left; or
+-- the sink failed before the end of what was to go out
+abbrev pub ConvertsHead : List ℕ → SinkSeen → SinkSeen → List ℕ → List ℕ → Result ℕ WriteFault
+    → Type 0
+ConvertsHead head out out' outgoing outgoing' result = (start : SinkSeen) (text : List ℕ)
+    → Held start out outgoing text → MatchResult result
+    (λ left. (sent : List ℕ) × BeginsFrame left head sent
+    × Held start out' outgoing' (text ++ sent))
+    (λ _. (left : ℕ) × (sent : List ℕ) × BeginsFrame left head sent
+    × Broke start out' (text ++ sent))
+
 -- the text for all that was fed is on its way
 pub record ConvertsFurther (start now : SinkSeen) (outgoing : List ℕ) (left : ℕ) (fed : List ℕ)
     : Type 0 where
@@ -102,12 +125,33 @@ pub record BreaksOff (start now : SinkSeen) (fed more : List ℕ) : Type 0 where
   pub reached : Reached left (fed ++ take count more) text
   pub broke : Broke start now text
 
+-- the text for so many of these bytes follows what was outgoing, or the sink failed in the text for
+-- some of them
+abbrev pub ConvertsPart : List ℕ → SinkSeen → SinkSeen → List ℕ → List ℕ → ℕ → ℕ
+    → Result ℕ WriteFault → Type 0
+ConvertsPart part out out' outgoing outgoing' left left' result =
+    (start : SinkSeen) (fed text : List ℕ) → Reached left fed text
+    → Held start out outgoing text → MatchResult result
+    (λ done. ConvertsFurther start out' outgoing' left' (fed ++ take done part))
+    (λ _. BreaksOff start out' fed part)
+
+-- the text for all but so many of the bytes that stood in the buffer went out, and these stand at
+-- its front; or the sink failed in the text for some of them
+abbrev pub ConvertsHeld : List ℕ → List ℕ → SinkSeen → SinkSeen → ℕ → ℕ → Result ℕ WriteFault
+    → Type 0
+ConvertsHeld held buffer out out' left left' result =
+    (start : SinkSeen) (fed text : List ℕ) → Reached left fed text
+    → Sent start out text → MatchResult result
+    (λ rest. (done text' : List ℕ) × Reached left' done text' × Sent start out' text'
+    × (done ++ take rest buffer ≡ fed ++ held))
+    (λ _. BreaksOff start out' fed held)
+
 -- ---- the whole record
 
--- more may come, and these bytes tell the form; or the source has ended in less than a header
-abbrev pub TellsForm : Bool → SourceSeen → List ℕ → Type 0
-TellsForm true now bytes = (IsPrefixOf bytes header → 8 ≤ length bytes)
-TellsForm false now bytes = IsAtEnd now.left × (length bytes < 8) × IsPrefixOf bytes header
+-- more may come, and these bytes show the form; or the source has ended in less than a header
+abbrev pub ShowsForm : Bool → SourceSeen → List ℕ → Type 0
+ShowsForm true now bytes = (IsPrefixOf bytes header → 8 ≤ length bytes)
+ShowsForm false now bytes = IsAtEnd now.left × (length bytes < 8) × IsPrefixOf bytes header
 
 -- the source failed, after a prefix of the header
 pub record FailsInFront (old new : SourceSeen) : Type 0 where
@@ -115,6 +159,14 @@ pub record FailsInFront (old new : SourceSeen) : Type 0 where
   pub gave : Gave old new bytes
   pub counted : new.faults ≡ one_more old.faults
   pub prefix : IsPrefixOf bytes header
+
+-- so many bytes at the front of the buffer show the form, and whether more may come; or the source
+-- failed, after a prefix of the header
+abbrev pub GivesFront : SourceSeen → SourceSeen → List ℕ → Result (ℕ × Bool) DeviceFault → Type 0
+GivesFront old new buffer result = MatchResult result
+    (λ front. GaveFaultless old new (take front.0 buffer)
+    × ShowsForm front.1 new (take front.0 buffer))
+    (λ _. FailsInFront old new)
 
 -- the source has ended, in a record of whole frames or inside a frame
 pub record RecordEnds (whole : Bool) (first now : SourceSeen) (bytes : List ℕ)
@@ -143,3 +195,20 @@ ReadingEnds first now start out front (Err fault.Write) =
     × BreaksInText (front ++ more) start out
 ReadingEnds first now start out front (Err fault.Truncated) = ⊥
 ReadingEnds first now start out front (Err fault.AlreadyForm2) = ⊥
+
+-- a record that begins with these bytes is converted from here to its end
+abbrev pub ConvertsFrames : List ℕ → SourceSeen → SourceSeen → SinkSeen → SinkSeen
+    → Result Bool ConvertFault → Type 0
+ConvertsFrames front old new out out' result = (first : SourceSeen) (start : SinkSeen)
+    → GaveFaultless first old front → Sent start out header
+    → ReadingEnds first new start out' front result
+
+-- a record of form 1 that begins with these bytes is converted from here to its end, or it is not
+-- for this reason
+abbrev pub ConvertsRest : Bool → List ℕ → SourceSeen → SourceSeen → SinkSeen → SinkSeen
+    → Result Bool ConvertFault → Type 0
+ConvertsRest more front old new out out' result = (first : SourceSeen) (start : SinkSeen)
+    → GaveFaultless first old front → ShowsForm more old front → HasForm front One
+    → Sent start out header → MatchResult result
+    (λ whole. EndsForm1 whole first new start out')
+    (FailsToConvert first new start out')

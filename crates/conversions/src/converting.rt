@@ -1,14 +1,12 @@
 //! The conversion of a record.
-ghost use Rattle.std.specs.Prelude.{◌≡◌, ◌+◌, ◌<◌, ◌≤◌, ◌++◌, ℕ, List, [], length, take, drop, IfOk, IfErr, MatchResult, OnOk};
-ghost use Rattle.benc.specs.Device.{Sent, SinkSeen, SourceSeen, Wrote};
+ghost use Rattle.std.specs.Prelude.{◌≡◌, ◌+◌, ◌<◌, ◌≤◌, [], length, take, drop, IfOk, MatchResult, OnOk};
+ghost use Rattle.benc.specs.Device.{Wrote};
 ghost use Rattle.printing.specs.Cut.{FailedFlush, Flushed};
-ghost use Rattle.wire.specs.Reading.{GaveFaultless};
-ghost use Rattle.wire.specs.Records.{HasForm, header};
-ghost use Rattle.wire.specs.declared.form.Form.TheVariants as FormOf;
+ghost use Rattle.wire.specs.Records.{header};
 ghost use Rattle.wire.specs.RecordLaws.{ConversionIsRecord, ConversionMeans};
 ghost use Rattle.session.specs.NotedLaws.{ConversionReplaysAsFormOne, ConversionGivesTheSame};
-ghost use Rattle.conversions.specs.Converting.{Converts, FailsToConvert};
-ghost use Rattle.conversions.specs.Steps.{BreaksOff, ReadingEnds, EndsForm1, FailsInFront, Reached, TellsForm, Waits};
+ghost use Rattle.conversions.specs.Converting.{ConversionEnds};
+ghost use Rattle.conversions.specs.Steps.{ConvertsFrames, ConvertsHeld, ConvertsRest, GivesFront, Waits};
 
 use crate::fault::ConvertFault;
 use crate::head::LONGEST_HEAD;
@@ -30,10 +28,8 @@ use wire::HEADER;
 /// prefix of the conversion of every record of whole frames that begins with what was read. After a
 /// fault nothing is flushed.
 pub fn convert<R: Source, W: Sink>(source: &mut R, out: &mut W) -> Result<(), ConvertFault>
-    ensures converts { IfOk result (λ _. Converts (R.seen source.old) (R.seen source.new)
-        (W.seen out.old) (W.seen out.new)) }
-    ensures stops { IfErr result (FailsToConvert (R.seen source.old) (R.seen source.new)
-        (W.seen out.old) (W.seen out.new)) }
+    ensures ending { ConversionEnds (R.seen source.old) (R.seen source.new)
+        (W.seen out.old) (W.seen out.new) result }
 
     // What went out is a record of form 2, whose frames mean what the frames of form 1 do, with the
     // requests before the hashes messages.
@@ -43,7 +39,7 @@ pub fn convert<R: Source, W: Sink>(source: &mut R, out: &mut W) -> Result<(), Co
     // Its replay gives what came in the verdicts of form 1, unless memory is refused for a request,
     // and with memory for all the same last trees and marks.
     ensures replays { ConversionReplaysAsFormOne }
-    ensures tells { ConversionGivesTheSame }
+    ensures same { ConversionGivesTheSame }
 {
     conversion_replays_as_form_1();
     convert_record(source, out)
@@ -51,10 +47,8 @@ pub fn convert<R: Source, W: Sink>(source: &mut R, out: &mut W) -> Result<(), Co
 
 // The same, without the laws of what went out.
 fn convert_record<R: Source, W: Sink>(source: &mut R, out: &mut W) -> Result<(), ConvertFault>
-    ensures converts { IfOk result (λ _. Converts (R.seen source.old) (R.seen source.new)
-        (W.seen out.old) (W.seen out.new)) }
-    ensures stops { IfErr result (FailsToConvert (R.seen source.old) (R.seen source.new)
-        (W.seen out.old) (W.seen out.new)) }
+    ensures { ConversionEnds (R.seen source.old) (R.seen source.new)
+        (W.seen out.old) (W.seen out.new) result }
 {
     let mut buffer = [0u8; READ];
     let (held, more) = read_front(source, &mut buffer)?;
@@ -75,11 +69,7 @@ fn convert_record<R: Source, W: Sink>(source: &mut R, out: &mut W) -> Result<(),
 fn read_front<R: Source>(source: &mut R, buffer: &mut [u8]) -> Result<(usize, bool), DeviceFault>
     requires { 8 ≤ length buffer.old }
     ensures within { IfOk result (λ front. front.0 ≤ length buffer.new) }
-    ensures tells { MatchResult result
-        (λ front. GaveFaultless (R.seen source.old) (R.seen source.new)
-        (take front.0 buffer.new)
-        × TellsForm front.1 (R.seen source.new) (take front.0 buffer.new))
-        (λ _. FailsInFront (R.seen source.old) (R.seen source.new)) }
+    ensures front { GivesFront (R.seen source.old) (R.seen source.new) buffer.new result }
 {
     let mut held = 0;
     'reads: while held < HEADER.len() && HEADER.starts_with(&buffer[..held]) {
@@ -109,13 +99,8 @@ fn convert_rest<R: Source, W: Sink>(
 ) -> Result<bool, ConvertFault>
     requires held { held ≤ length buffer.old }
     requires room { length buffer.old ≡ READ }
-    ensures { (first : SourceSeen) (start : SinkSeen)
-        → GaveFaultless first (R.seen source.old) (take held buffer.old)
-        → TellsForm more (R.seen source.old) (take held buffer.old)
-        → HasForm (take held buffer.old) FormOf.One → Sent start (W.seen out.old) header
-        → MatchResult result
-        (λ whole. EndsForm1 whole first (R.seen source.new) start (W.seen out.new))
-        (FailsToConvert first (R.seen source.new) start (W.seen out.new)) }
+    ensures { ConvertsRest more (take held buffer.old) (R.seen source.old) (R.seen source.new)
+        (W.seen out.old) (W.seen out.new) result }
 {
     if more {
         convert_frames(source, out, buffer, held)
@@ -134,11 +119,8 @@ fn convert_frames<R: Source, W: Sink>(
 ) -> Result<bool, ConvertFault>
     requires held { held ≤ length buffer.old }
     requires room { length buffer.old ≡ READ }
-    ensures { (first : SourceSeen) (start : SinkSeen)
-        → GaveFaultless first (R.seen source.old) (take held buffer.old)
-        → Sent start (W.seen out.old) header
-        → ReadingEnds first (R.seen source.new) start (W.seen out.new) (take held buffer.old)
-        result }
+    ensures { ConvertsFrames (take held buffer.old) (R.seen source.old) (R.seen source.new)
+        (W.seen out.old) (W.seen out.new) result }
 {
     let mut outgoing = Outgoing::new();
     let mut left = 0;
@@ -166,12 +148,8 @@ fn convert_held<W: Sink>(
     ensures empty { OnOk result (outgoing.new.items ≡ []) }
     ensures waits { IfOk result (λ rest. Waits left.new (take rest buffer.new)
         × (rest < LONGEST_HEAD)) }
-    ensures converts { (start : SinkSeen) (fed text : List ℕ) → Reached left.old fed text
-        → Sent start (W.seen out.old) text → MatchResult result
-        (λ rest. (done text' : List ℕ) × Reached left.new done text'
-        × Sent start (W.seen out.new) text'
-        × (done ++ take rest buffer.new ≡ fed ++ take held buffer.old))
-        (λ _. BreaksOff start (W.seen out.new) fed (take held buffer.old)) }
+    ensures converts { ConvertsHeld (take held buffer.old) buffer.new
+        (W.seen out.old) (W.seen out.new) left.old left.new result }
 {
     let done = convert_part(out, outgoing, &buffer[..held], left)?;
     send(out, outgoing)?;

@@ -1,8 +1,7 @@
 //! The front of a frame: its length, and of its body what a request is made of.
-ghost use Rattle.std.specs.Prelude.{◌≡◌, ◌+◌, ◌^◌, ◌<◌, ◌≤◌, ◌++◌, ℕ, List, length, take, MatchBool, MatchOption, MatchResult};
-ghost use Rattle.benc.specs.Device.{Broke, SinkSeen};
+ghost use Rattle.std.specs.Prelude.{◌≡◌, ◌+◌, ◌^◌, ◌<◌, ◌≤◌, ◌++◌, ℕ, List, length, take, MatchBool, MatchOption};
 ghost use Rattle.wire.specs.Frames.{IsPartial, four_bytes};
-ghost use Rattle.conversions.specs.Steps.{BeginsHashes, GoesBefore, Held, IsHeadOf, BeginsFrame};
+ghost use Rattle.conversions.specs.Steps.{BeginsHashes, ConvertsHead, IsHeadOf, PutsRequest};
 
 use crate::outgoing::{Outgoing, put};
 use benc::{Sink, WriteFault};
@@ -46,12 +45,8 @@ pub(crate) fn convert_head<W: Sink>(
     head: &[u8],
 ) -> Result<usize, WriteFault>
     requires { IsHeadOf head.now (length head.now) }
-    ensures { (start : SinkSeen) (text : List ℕ)
-        → Held start (W.seen out.old) outgoing.old.items text → MatchResult result
-        (λ left. (sent : List ℕ) × BeginsFrame left head.now sent
-        × Held start (W.seen out.new) outgoing.new.items (text ++ sent))
-        (λ _. (left : ℕ) × (sent : List ℕ) × BeginsFrame left head.now sent
-        × Broke start (W.seen out.new) (text ++ sent)) }
+    ensures { ConvertsHead head.now (W.seen out.old) (W.seen out.new)
+        outgoing.old.items outgoing.new.items result }
 {
     put_request(out, outgoing, head)?;
     put(out, outgoing, &[Direction::In.byte()])?;
@@ -62,12 +57,8 @@ pub(crate) fn convert_head<W: Sink>(
 // Takes the request that goes before a hashes message, if the head is that of one.
 fn put_request<W: Sink>(out: &mut W, outgoing: &mut Outgoing, head: &[u8]) -> Result<(), WriteFault>
     requires { IsHeadOf head.now (length head.now) }
-    ensures { (start : SinkSeen) (text : List ℕ)
-        → Held start (W.seen out.old) outgoing.old.items text → MatchResult result
-        (λ _. (request : List ℕ) × GoesBefore head.now request
-        × Held start (W.seen out.new) outgoing.new.items (text ++ request))
-        (λ _. (request : List ℕ) × GoesBefore head.now request
-        × Broke start (W.seen out.new) (text ++ request)) }
+    ensures { PutsRequest head.now (W.seen out.old) (W.seen out.new)
+        outgoing.old.items outgoing.new.items result }
 {
     if begins_hashes(head) {
         put(out, outgoing, &REQUEST)?;

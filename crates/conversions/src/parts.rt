@@ -1,7 +1,6 @@
 //! The conversion of bytes as they come.
-ghost use Rattle.std.specs.Prelude.{◌≡◌, ◌+◌, ◌≤◌, ◌++◌, ◌⊎◌, ℕ, List, length, take, drop, IfOk, MatchResult};
-ghost use Rattle.benc.specs.Device.{SinkSeen};
-ghost use Rattle.conversions.specs.Steps.{ConvertsFurther, BreaksOff, Held, Reached, Waits};
+ghost use Rattle.std.specs.Prelude.{◌≡◌, ◌+◌, ◌≤◌, ◌⊎◌, length, drop, IfOk};
+ghost use Rattle.conversions.specs.Steps.{ConvertsPart, Waits};
 
 use crate::head::{convert_head, head_len};
 use crate::outgoing::{Outgoing, ROOM, put};
@@ -18,11 +17,8 @@ pub(crate) fn convert_part<W: Sink>(
     requires { length part.now ≤ ROOM }
     ensures within { IfOk result (λ done. done ≤ length part.now) }
     ensures waits { IfOk result (λ done. Waits left.new (drop done part.now)) }
-    ensures converts { (start : SinkSeen) (fed text : List ℕ) → Reached left.old fed text
-        → Held start (W.seen out.old) outgoing.old.items text → MatchResult result
-        (λ done. ConvertsFurther start (W.seen out.new) outgoing.new.items left.new
-        (fed ++ take done part.now))
-        (λ _. BreaksOff start (W.seen out.new) fed part.now) }
+    ensures converts { ConvertsPart part.now (W.seen out.old) (W.seen out.new)
+        outgoing.old.items outgoing.new.items left.old left.new result }
 {
     let mut done = 0;
     'frames: loop {
@@ -45,11 +41,8 @@ fn pass_on<W: Sink>(
     requires { length bytes.now ≤ ROOM }
     ensures counts { IfOk result (λ count. (count ≤ length bytes.now)
         × (left.new + count ≡ left.old) × (left.new ≡ 0 ⊎ count ≡ length bytes.now)) }
-    ensures converts { (start : SinkSeen) (fed text : List ℕ) → Reached left.old fed text
-        → Held start (W.seen out.old) outgoing.old.items text → MatchResult result
-        (λ count. ConvertsFurther start (W.seen out.new) outgoing.new.items left.new
-        (fed ++ take count bytes.now))
-        (λ _. BreaksOff start (W.seen out.new) fed bytes.now) }
+    ensures converts { ConvertsPart bytes.now (W.seen out.old) (W.seen out.new)
+        outgoing.old.items outgoing.new.items left.old left.new result }
 {
     let count = bytes.len().min(*left);
     put(out, outgoing, &bytes[..count])?;

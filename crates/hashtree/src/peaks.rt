@@ -1,11 +1,11 @@
 //! The leaves so far, as the roots of whole subtrees: at most one a layer.
-
-ghost use Rattle.std.specs.Prelude.{◌≡◌, ℕ, ◌+◌, ◌-◌, ◌%◌, ◌^◌, ◌<◌, ◌≤◌, ◌∷◌, ◌++◌, [], List, OnSome, length, replicate};
+ghost use Rattle.std.specs.Prelude.{◌≡◌, ℕ, ◌+◌, ◌-◌, ◌%◌, ◌^◌, ◌<◌, ◌≤◌, ◌∷◌, ◌++◌, [], List, OnSome, length, replicate, ◌*◌};
 ghost use Rattle.std.specs.Option.{option_to_list};
 ghost use Rattle.hashtree.specs.Tree.{tree};
+ghost use Rattle.hashtree.specs.Climb.{climb};
 
-use crate::eights::eight_nodes;
 use crate::node::{Hash, PAD_LEAF, parent};
+use sha256_lanes::parents;
 
 // Layers of the highest tree, the root's included.
 const LAYERS: usize = 33;
@@ -131,4 +131,32 @@ impl Peaks {
         }
         Some(self.last_node(last, PAD_LEAF, layer))
     }
+}
+
+/// The nodes `above` layers above these hashes, which are as many as eight such nodes stand over.
+pub(crate) fn eight_nodes(hashes: &[Hash], above: u32) -> [Hash; 8]
+    requires some { 0 < above }
+    requires low { above ≤ 32 }
+    requires whole { length hashes.now ≡ 8 * 2 ^ above }
+    ensures { result ≡ climb above hashes.now }
+{
+    if above == 1 {
+        return parents(hashes);
+    }
+    let (left, right) = hashes.split_at(hashes.len() / 2);
+    let row = joined(
+        &eight_nodes(left, above - 1),
+        &eight_nodes(right, above - 1),
+    );
+    parents(&row)
+}
+
+// A row of sixteen, from its halves.
+fn joined(left: &[Hash; 8], right: &[Hash; 8]) -> [Hash; 16]
+    ensures { result ≡ left.now ++ right.now }
+{
+    let mut row = [PAD_LEAF; 16];
+    row[..8].copy_from_slice(left);
+    row[8..].copy_from_slice(right);
+    row
 }

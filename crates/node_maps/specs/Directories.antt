@@ -1,7 +1,7 @@
 -- The pages of a layer, as they are kept.
 use Rattle.std.specs.Prelude.{length}
-use Rattle.node_maps.specs.declared.page_list.PageList.{PageList}
-use Rattle.node_maps.specs.declared.page_lists.PageLists.{PageLists}
+use Rattle.node_maps.specs.declared.directory.PageList.{PageList}
+use Rattle.node_maps.specs.declared.directory.PageLists.{PageLists}
 use Rattle.node_maps.specs.Rising.{page_numbered}
 use Rattle.node_maps.specs.Pages.{Numbered, find_under, AreInUse}
 

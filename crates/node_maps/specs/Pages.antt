@@ -65,7 +65,7 @@ is_among q (n ∷ ns) = n == q || is_among q ns
 pub record AreSpare (pages : Numbered) (fresh : List ℕ) : Type 0 where
   pub known : (n : ℕ) → is_spare (pages n) ≡ true → is_among n fresh ≡ true
 
--- the numbers below n of which f tells
+-- the numbers below n for which f holds
 unfoldable pub marks_where : (ℕ → Bool) → ℕ → Marked
 marks_where f zero = set.empty
 marks_where f (suc n) =

@@ -5,8 +5,6 @@ mod directory;
 mod flat;
 mod node_map;
 mod page;
-mod page_list;
-mod page_lists;
 mod paged;
 mod paged_row;
 mod search;

@@ -8,10 +8,8 @@ ghost use Rattle.node_maps.specs.Directories.{on_rows, AreRowsInUse};
 ghost use Rattle.node_maps.specs.Growth.{IsGrown, IsGrownByOne};
 ghost use Rattle.node_maps.specs.Runs.{AreKnown, hashes_from};
 
-use crate::directory::Directory;
+use crate::directory::{Directory, PageList, PageLists};
 use crate::page::{Cell, PAGE_LENGTH, Page};
-use crate::page_list::PageList;
-use crate::page_lists::PageLists;
 use hashtree::{Hash, NoMemory};
 use std::alloc::Global;
 

@@ -2,8 +2,8 @@ use Rattle.std.proofs.Common.{◌≡◌, ◌-◌, ◌<◌, ◌≤◌, length, ta
 use Rattle.std.proofs.lemmas.List.{length-drop, length-take}
 use Rattle.std.proofs.lemmas.Result.{err_from_is_err_and}
 use Rattle.wire.proofs.Giving.{Faultless-take, le-length-put, take-put_more}
-use Rattle.conversions.proofs.Ending.{SoFar, breaks_in_text, ended_here, ends_front, read_fails, so_far_converted, so_far_first, so_far_read, tells_held}
-use Rattle.conversions.proofs.Ending.{tells_left}
+use Rattle.conversions.proofs.Ending.{SoFar, breaks_in_text, ended_here, ends_front, read_fails, so_far_converted, so_far_first, so_far_read, held_is_whole}
+use Rattle.conversions.proofs.Ending.{left_is_whole}
 use Rattle.conversions.proofs.Fronts.{read_none}
 use Rattle.conversions.proofs.converting.convert_frames.Goals as goal
 
@@ -69,7 +69,7 @@ returns-then-held-eq0 g c = λ first start gave sent.
     let nothing = read_none (S.seen c.parts.source) (S.seen c.read.new.self) c.in_ok-count.count c.read.new.buf c.in-0.is e.bytes.0 e.falls e.counts in
     let u = ended_here first (S.seen c.parts.source) (S.seen c.read.new.self) start (W.seen c.convert_held.new.out) left front rest t nothing in
     ends_front _ first (S.seen c.read.new.self) start (W.seen c.convert_held.new.out) left front rest u c.in_ok-held.ensures.waits.0 (e.bytes.1 c.in-0.is room)
-    (tells_left left held buffer c.if-held-eq0.true)
+    (left_is_whole left held buffer c.if-held-eq0.true)
 
 pub returns-else-held-eq0 : goal.returns-else-held-eq0
 returns-else-held-eq0 g c = λ first start gave sent.
@@ -98,7 +98,7 @@ returns-else-held-eq0 g c = λ first start gave sent.
     let nothing = read_none (S.seen c.parts.source) (S.seen c.read.new.self) c.in_ok-count.count c.read.new.buf c.in-0.is e.bytes.0 e.falls e.counts in
     let u = ended_here first (S.seen c.parts.source) (S.seen c.read.new.self) start (W.seen c.convert_held.new.out) left front rest t nothing in
     ends_front _ first (S.seen c.read.new.self) start (W.seen c.convert_held.new.out) left front rest u c.in_ok-held.ensures.waits.0 (e.bytes.1 c.in-0.is room)
-    (tells_held left held buffer (omega (arith, few, size)) c.if-held-eq0.false)
+    (held_is_whole left held buffer (omega (arith, few, size)) c.if-held-eq0.false)
 
 pub parts-preserved : goal.parts-preserved
 parts-preserved g c =

@@ -4,11 +4,11 @@ use Rattle.std.proofs.lemmas.List.{append-nil, length-drop, length-take, length-
 use Rattle.std.proofs.lemmas.Result.{err_from_is_err_and}
 use Rattle.wire.specs.Reading.{GaveFaultless}
 use Rattle.wire.proofs.Giving.{Faultless-take, Faultless-trans, le-length-put, take-put_more}
-use Rattle.conversions.proofs.Fronts.{fails_in_front, prefix_from, prefix_told, read_none, take-put_none}
+use Rattle.conversions.proofs.Fronts.{fails_in_front, prefix_from, prefix_is_seen, read_none, take-put_none}
 use Rattle.conversions.proofs.converting.read_front.Goals as goal
 
-pub returns-in_err-count-clause-tells : goal.returns-in_err-count-clause-tells
-returns-in_err-count-clause-tells g c =
+pub returns-in_err-count-clause-front : goal.returns-in_err-count-clause-front
+returns-in_err-count-clause-front g c =
     let S = g.R.Source in
     let p = err_from_is_err_and c.from_residual.result c.from_residual.ensures.1 in
     let e = c.in_err-count.ensures in
@@ -16,8 +16,8 @@ returns-in_err-count-clause-tells g c =
     rw p.1 (fails_in_front (S.seen c.args.source.now) (S.seen c.reads.source) (S.seen c.read.new.self) (take c.reads.held c.reads.buffer) c.reads.invariant.gave
     e.bytes e.falls e.counts front)
 
-pub returns-in-0-clause-tells : goal.returns-in-0-clause-tells
-returns-in-0-clause-tells g c =
+pub returns-in-0-clause-front : goal.returns-in-0-clause-front
+returns-in-0-clause-front g c =
     let S = g.R.Source in
     let e = c.in_ok-count.ensures in
     let held = take c.reads.held c.reads.buffer in
@@ -58,9 +58,9 @@ reads-preserved g c =
           (Faultless-take (S.seen c.reads.source) (S.seen c.read.new.self) count c.read.new.buf fits e.bytes.0 e.falls e.counts));
     }
 
-pub returns-else-starts_with-clause-tells : goal.returns-else-starts_with-clause-tells
-returns-else-starts_with-clause-tells g c = (
+pub returns-else-starts_with-clause-front : goal.returns-else-starts_with-clause-front
+returns-else-starts_with-clause-front g c = (
   c.reads.invariant.gave,
   λ front.
-      absurd (false≢true (sym c.if-starts_with.false ∙ c.starts_with.ensures.value ∙ prefix_told (take c.reads.held c.reads.buffer) front)),
+      absurd (false≢true (sym c.if-starts_with.false ∙ c.starts_with.ensures.value ∙ prefix_is_seen (take c.reads.held c.reads.buffer) front)),
 )

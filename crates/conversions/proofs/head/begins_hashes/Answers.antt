@@ -5,8 +5,8 @@ use Rattle.conversions.specs.Steps.{BeginsHashes}
 use Rattle.conversions.proofs.Opening.{begins_as, begins_none, begins_with, read_len}
 use Rattle.conversions.proofs.head.begins_hashes.Goals as goal
 
-abbrev Tells : List ℕ → ℕ → Type 0
-Tells head len = (get_or head 4 0 ≡ 22) × IsHashesSize len
+abbrev IsRightBody : List ℕ → ℕ → Type 0
+IsRightBody head len = (get_or head 4 0 ≡ 22) × IsHashesSize len
 
 pub returns-then-head-gt4 : goal.returns-then-head-gt4
 returns-then-head-gt4 c = λ len front fits is.
@@ -14,10 +14,10 @@ returns-then-head-gt4 c = λ len front fits is.
     let same : c.number_at.result ≡ len = read_len c.number_at.result len c.args.head.now front bound fits is c.number_at.ensures in
     elim (cases_Bool c.is_hashes.result) [
       | inl yes' ↦ subst (λ b. MatchBool b (BeginsHashes len front) (¬ BeginsHashes len front)) (sym yes')
-          (begins_with len _ c.args.head.now front is c.if-head-gt4.true refl (subst (Tells c.args.head.now) same (c.is_hashes.ensures.0 yes')))
+          (begins_with len _ c.args.head.now front is c.if-head-gt4.true refl (subst (IsRightBody c.args.head.now) same (c.is_hashes.ensures.0 yes')))
       | inr no' ↦ subst (λ b. MatchBool b (BeginsHashes len front) (¬ BeginsHashes len front)) (sym no')
           (λ b. absurd (false≢true (sym no' ∙ c.is_hashes.ensures.1
-          (subst (Tells c.args.head.now) (sym same) (begins_as len _ c.args.head.now front is refl b)))))
+          (subst (IsRightBody c.args.head.now) (sym same) (begins_as len _ c.args.head.now front is refl b)))))
     ]
 
 pub returns-else-head-gt4 : goal.returns-else-head-gt4

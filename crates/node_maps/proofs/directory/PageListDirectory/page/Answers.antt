@@ -1,7 +1,7 @@
 use Rattle.std.proofs.Common.{sym, subst}
 use Rattle.node_maps.specs.Rising.{IsNumberAt, IsGapFor}
 use Rattle.node_maps.proofs.Rising.{stands, found_gap}
-use Rattle.node_maps.proofs.page_list.PageListDirectory.page.Goals as goal
+use Rattle.node_maps.proofs.directory.PageListDirectory.page.Goals as goal
 
 pub returns-in-Ok : goal.returns-in-Ok
 returns-in-Ok c =

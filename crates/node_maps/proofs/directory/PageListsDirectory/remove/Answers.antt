@@ -4,7 +4,7 @@ use Rattle.node_maps.specs.Rising.{AreRising, IsNumberAt, IsGapFor}
 use Rattle.node_maps.specs.Pages.{find_under}
 use Rattle.node_maps.proofs.Rising.{rising-remove, remove-beside, set-beside}
 use Rattle.node_maps.proofs.Pages.{under_gap, under-set, under-emptied, absent-changed, on_true}
-use Rattle.node_maps.proofs.page_lists.PageListsDirectory.remove.Goals as goal
+use Rattle.node_maps.proofs.directory.PageListsDirectory.remove.Goals as goal
 
 pub invariant_of-self : goal.invariant_of-self
 invariant_of-self g c =

@@ -4,7 +4,7 @@ use Rattle.node_maps.specs.declared.page.Page.{Page}
 use Rattle.node_maps.specs.Rising.{AreRising, IsNumberAt, IsGapFor, page_numbered}
 use Rattle.node_maps.proofs.Rising.{rising-remove, remove-found, remove-beside, found_gap}
 use Rattle.node_maps.proofs.Pages.{absent-changed}
-use Rattle.node_maps.proofs.page_list.PageListDirectory.remove.Goals as goal
+use Rattle.node_maps.proofs.directory.PageListDirectory.remove.Goals as goal
 
 pub invariant_of-self : goal.invariant_of-self
 invariant_of-self c =

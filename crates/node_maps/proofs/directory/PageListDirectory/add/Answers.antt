@@ -4,7 +4,7 @@ use Rattle.std.proofs.lemmas.Bool.{false≢true}
 use Rattle.node_maps.specs.Rising.{IsNumberAt, IsGapFor, page_numbered}
 use Rattle.node_maps.specs.declared.page.Page.{Page}
 use Rattle.node_maps.proofs.Rising.{insert-found, found_some}
-use Rattle.node_maps.proofs.page_list.PageListDirectory.add.Goals as goal
+use Rattle.node_maps.proofs.directory.PageListDirectory.add.Goals as goal
 
 pub returns-in-Err-clause-ok : goal.returns-in-Err-clause-ok
 returns-in-Err-clause-ok c =

@@ -3,7 +3,7 @@ use Rattle.std.proofs.lemmas.Bool.{false≢true}
 use Rattle.node_maps.specs.Rising.{IsNumberAt, IsGapFor}
 use Rattle.node_maps.specs.Pages.{find_under, IsPut}
 use Rattle.node_maps.proofs.Pages.{under_there, under_gap, under-set, changed-self, changed_here}
-use Rattle.node_maps.proofs.page_lists.PageListsDirectory.put.Goals as goal
+use Rattle.node_maps.proofs.directory.PageListsDirectory.put.Goals as goal
 
 pub put-requires-clause-there : goal.put-requires-clause-there
 put-requires-clause-there g c =

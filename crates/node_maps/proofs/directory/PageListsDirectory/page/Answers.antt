@@ -1,7 +1,7 @@
 use Rattle.std.proofs.Common.{◌/◌, ◌^◌, sym, ◌∙◌, subst}
 use Rattle.node_maps.specs.Rising.{IsNumberAt, IsGapFor}
 use Rattle.node_maps.proofs.Pages.{under_there, under_gap}
-use Rattle.node_maps.proofs.page_lists.PageListsDirectory.page.Goals as goal
+use Rattle.node_maps.proofs.directory.PageListsDirectory.page.Goals as goal
 
 pub returns-in-Ok : goal.returns-in-Ok
 returns-in-Ok g c =

@@ -5,7 +5,7 @@ use Rattle.node_maps.specs.Rising.{AreRising, IsNumberAt, IsGapFor}
 use Rattle.node_maps.specs.Pages.{find_under}
 use Rattle.node_maps.proofs.Rising.{rising-insert, insert-beside}
 use Rattle.node_maps.proofs.Pages.{under_there, under-set, under-alike, under-insert}
-use Rattle.node_maps.proofs.page_lists.PageListsDirectory.add.Goals as goal
+use Rattle.node_maps.proofs.directory.PageListsDirectory.add.Goals as goal
 
 pub add-requires : goal.add-requires
 add-requires g c =

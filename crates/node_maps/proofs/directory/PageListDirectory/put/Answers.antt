@@ -4,7 +4,7 @@ use Rattle.node_maps.specs.declared.page.Page.{Page}
 use Rattle.node_maps.specs.Rising.{IsNumberAt, IsGapFor, page_numbered}
 use Rattle.node_maps.proofs.Rising.{stands, set-found, found_gap}
 use Rattle.node_maps.proofs.Pages.{put-is, put-changed, changed-self}
-use Rattle.node_maps.proofs.page_list.PageListDirectory.put.Goals as goal
+use Rattle.node_maps.proofs.directory.PageListDirectory.put.Goals as goal
 
 pub returns-in-Ok-clause-here : goal.returns-in-Ok-clause-here
 returns-in-Ok-clause-here c =
