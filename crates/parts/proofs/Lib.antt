@@ -12,6 +12,8 @@ pub mod PieceNodes
 pub mod PlaceTests
 pub mod Ranks
 pub mod Rows
+pub mod RunLines
+pub mod Runs
 pub mod SharedPlaces
 pub mod SoFar
 pub mod Streams
