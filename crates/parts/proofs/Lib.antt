@@ -1,3 +1,4 @@
+pub mod BadReports
 pub mod Files
 pub mod CheckedFirst
 pub mod FirstFiles

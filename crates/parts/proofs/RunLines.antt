@@ -1,9 +1,9 @@
 -- The lines of runs of bad pieces, as they go out.
-use Rattle.std.proofs.Common.{◌≡◌, ℕ, ◌<◌, ◌≤◌, List, ◌++◌, Result, Ok, Err, refl, ap, sym, ◌∙◌, subst, arith}
+use Rattle.std.proofs.Common.{◌≡◌, ℕ, ◌<◌, ◌≤◌, List, ◌++◌, Result, Ok, Err, sym, subst, arith}
 use Rattle.benc.proofs.Out.{Broke-append, Sent-append}
 use Rattle.benc.specs.Device.{Broke, Sent, SinkSeen}
 use Rattle.opening.specs.Description.{Description, FileEntry}
-use Rattle.parts.specs.BadPieces.{AreBadRuns, HasGoodPiece, PrintsRuns, Run, run_between, runs_text}
+use Rattle.parts.specs.BadPieces.{HasGoodPiece, PrintsRuns, Run, run_between, runs_text}
 use Rattle.parts.specs.Parts.{piece_count}
 use Rattle.parts.specs.declared.bad_fault.BadFault.{BadFault}
 use Rattle.parts.specs.declared.bad_fault.BadFault.TheVariants as fault
@@ -30,8 +30,13 @@ pub write_failed : (t : Description) (f : FileEntry) (MayHave : List ℕ → Typ
     → RunsSoFar (piece_count t f) n m (HasGoodPiece t f bytes) runs → Sent a b (runs_text t f runs) → Broke b c (runs_text t f (run_between m n))
     → PrintsRuns t f MayHave a c r
 write_failed t f MayHave a b c r bytes n m runs is may le good so_far sent broke =
-    subst (PrintsRuns t f MayHave a c) (sym is) (bytes, may, runs ++ run_between m n,
-    (n, all_ended (piece_count t f) n m (HasGoodPiece t f bytes) runs le good so_far), broke_more t f a b c runs (run_between m n) sent broke)
+    subst (PrintsRuns t f MayHave a c) (sym is) (
+      bytes,
+      may,
+      runs ++ run_between m n,
+      (n, all_ended (piece_count t f) n m (HasGoodPiece t f bytes) runs le good so_far),
+      broke_more t f a b c runs (run_between m n) sent broke,
+    )
 
 -- all lines went out
 pub all_written : (t : Description) (f : FileEntry) (MayHave : List ℕ → Type 0) (a b c : SinkSeen) (bytes : List ℕ)
@@ -39,7 +44,10 @@ pub all_written : (t : Description) (f : FileEntry) (MayHave : List ℕ → Type
     → RunsSoFar (piece_count t f) (piece_count t f) m (HasGoodPiece t f bytes) runs → Sent a b (runs_text t f runs)
     → Sent b c (runs_text t f (run_between m n)) → PrintsRuns t f MayHave a c (Ok tt)
 all_written t f MayHave a b c bytes n m runs is may so_far sent more =
-    let count : ℕ = piece_count t f in
-    (bytes, may, runs ++ run_between m count,
-    all_ended count count m (HasGoodPiece t f bytes) runs (omega arith) (λ lt. absurd (omega (arith, lt))) so_far,
-    sent_more t f a b c runs (run_between m count) sent (subst (λ k. Sent b c (runs_text t f (run_between m k))) is more))
+    let count : ℕ = piece_count t f in (
+      bytes,
+      may,
+      runs ++ run_between m count,
+      all_ended count count m (HasGoodPiece t f bytes) runs (omega arith) (λ lt. absurd (omega (arith, lt))) so_far,
+      sent_more t f a b c runs (run_between m count) sent (subst (λ k. Sent b c (runs_text t f (run_between m k))) is more),
+    )

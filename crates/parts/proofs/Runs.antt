@@ -1,6 +1,6 @@
 -- The runs of bad pieces, as far as the pieces were judged.
 use Rattle.std.proofs.Common.{◌≡◌, ◌⊎◌, inl, inr, ℕ, zero, suc, ◌+◌, ◌-◌, ◌*◌, ◌<◌, ◌≤◌, min, Bool, true, false, IsTrue, nat_lt, if◌then◌else◌, List, [], ◌∷◌, ◌++◌, length}
-use Rattle.std.proofs.Common.{take, drop, slice_get, Option, Some, None, refl, ap, sym, ◌∙◌, subst, append-nil, append_assoc, arith}
+use Rattle.std.proofs.Common.{take, drop, slice_get, Some, refl, ap, sym, ◌∙◌, subst, append-nil, append_assoc, arith}
 use Rattle.std.proofs.Math.Nat.{mul-le-mul_left}
 use Rattle.std.proofs.Math.Seq.{take-append-add}
 use Rattle.std.proofs.lemmas.Bool.{cases_lt}
@@ -8,9 +8,9 @@ use Rattle.std.proofs.lemmas.List.{length-append, length-take}
 use Rattle.std.proofs.lemmas.Option.{same_Some, none-some, slice_get_within}
 use Rattle.folders.proofs.Places.{within_pieces}
 use Rattle.opening.specs.Description.{Description, FileEntry}
-use Rattle.parts.specs.BadPieces.{AreBadRuns, HasGoodPiece, IsBadRun, IsInOne, Run, run_between, run_text, runs_text}
+use Rattle.parts.specs.BadPieces.{AreBadRuns, HasGoodPiece, IsBadRun, Run, run_between, run_text, runs_text}
 use Rattle.parts.specs.OnePiece.{IsJudged, piece_size}
-use Rattle.parts.specs.Parts.{IsPieceGood, piece_count}
+use Rattle.parts.specs.Parts.{piece_count}
 use Rattle.parts.specs.declared.judging.Judged.{Judged}
 use Rattle.parts.proofs.SoFar.{read_next}
 use Rattle.parts.proofs.Streams.{in_pieces}

@@ -3,6 +3,7 @@
 
 mod bad_fault;
 mod bad_pieces;
+mod bad_report;
 mod checking;
 mod file_pieces;
 mod joining;
@@ -17,6 +18,7 @@ mod verdicts;
 
 pub use bad_fault::BadFault;
 pub use bad_pieces::print_bad_pieces;
+pub use bad_report::print_report_and_bad_pieces;
 pub use checking::check_part;
 pub use joining::{join, worse, worse_v1};
 pub use part_lines::print_part;

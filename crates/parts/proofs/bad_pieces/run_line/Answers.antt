@@ -1,4 +1,4 @@
-use Rattle.std.proofs.Common.{◌≡◌, ◌+◌, ◌-◌, ◌*◌, ◌^◌, ◌<◌, ◌≤◌, ◌∙◌, ℕ, ap, sym, arith}
+use Rattle.std.proofs.Common.{◌≡◌, ◌+◌, ◌-◌, ◌*◌, ◌^◌, ◌<◌, ◌≤◌, ◌∙◌, ℕ, ap, arith}
 use Rattle.opening.specs.Description.{Description, FileEntry}
 use Rattle.opening.specs.Seen.{file_entry}
 use Rattle.opening.specs.Sound.{IsSound}
@@ -31,12 +31,18 @@ fits t f from to sound file lt le =
     }
 
 pub overflow_add-file : goal.overflow_add-file
-overflow_add-file c = omega (arith, (fits c.args.torrent.now (file_entry c.args.file.now) c.args.from c.args.to c.sound.ensures c.requires.file
-    c.requires.some c.requires.inside).first)
+overflow_add-file c = omega (
+  arith,
+  (fits c.args.torrent.now (file_entry c.args.file.now) c.args.from c.args.to c.sound.ensures c.requires.file
+      c.requires.some c.requires.inside).first,
+)
 
 pub overflow_add-file-2 : goal.overflow_add-file-2
-overflow_add-file-2 c = omega (arith, (fits c.args.torrent.now (file_entry c.args.file.now) c.args.from c.args.to c.sound.ensures c.requires.file
-    c.requires.some c.requires.inside).last)
+overflow_add-file-2 c = omega (
+  arith,
+  (fits c.args.torrent.now (file_entry c.args.file.now) c.args.from c.args.to c.sound.ensures c.requires.file
+      c.requires.some c.requires.inside).last,
+)
 
 pub overflow_mul-piece_length : goal.overflow_mul-piece_length
 overflow_mul-piece_length c =

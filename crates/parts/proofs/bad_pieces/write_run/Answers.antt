@@ -1,11 +1,11 @@
-use Rattle.std.proofs.Common.{◌≡◌, ◌++◌, ◌-◌, ◌<◌, ◌∙◌, ℕ, List, [], ap, sym, refl, append-nil, subst}
+use Rattle.std.proofs.Common.{◌≡◌, ◌++◌, ◌-◌, ◌<◌, ◌∙◌, ℕ, List, [], ap, sym, append-nil, subst}
 use Rattle.std.proofs.lemmas.Result.{err_from_is_err_and}
 use Rattle.benc.proofs.Out.{Wrote-part}
 use Rattle.benc.specs.Device.{Sent}
 use Rattle.opening.specs.Description.{Description, FileEntry}
 use Rattle.opening.specs.Seen.{file_entry}
 use Rattle.parts.specs.BadPieces.{run_between, run_text, runs_text}
-use Rattle.parts.proofs.Runs.{no_run, run_is}
+use Rattle.parts.proofs.Runs.{run_is}
 use Rattle.parts.proofs.bad_pieces.write_run.Goals as goal
 
 -- the text of the run is its line
