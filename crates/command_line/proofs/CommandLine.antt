@@ -20,7 +20,8 @@ use Rattle.clap.specs.declared.builder.command.Command.{Command}
 use Rattle.clap.specs.declared.builder.command.Command.TheViews.{out-Command}
 use Rattle.command_line.specs.declared.command.Action.{Action}
 use Rattle.command_line.specs.declared.command.Action.TheVariants as action
-use Rattle.command_line.specs.CommandLine.{AreTexts, AreTextsIn, Asks, FindsArguments, command_of, IsActionOf, IsApp, IsArgument, IsAskedOf, IsLeaf, IsNumberIfThere, IsNumberOf}
+use Rattle.command_line.specs.declared.command.Part.{Part}
+use Rattle.command_line.specs.CommandLine.{AreTexts, AreTextsIn, Asks, FindsArguments, command_of, IsActionOf, IsApp, IsArgument, IsAskedOf, IsLeaf, IsNumberIfThere, IsNumberOf, IsPartText, IsPlain}
 
 -- a command with one argument more
 pub with_argument : (old new : Command) (a : Arg) (s : Shape) (r : Rule)
@@ -122,6 +123,7 @@ abbrev pub needed_texts : Text → List Text
 needed_texts name = beside name ((codes "root", codes "FILE" ∷ [])
     ∷ (codes "show", codes "TORRENT" ∷ [])
     ∷ (codes "check", codes "TORRENT" ∷ codes "DIR" ∷ [])
+    ∷ (codes "join", codes "TORRENT" ∷ [])
     ∷ (codes "create", codes "DIR" ∷ codes "OUT" ∷ codes "name" ∷ [])
     ∷ (codes "replay", codes "TORRENT" ∷ codes "RECORD" ∷ [])
     ∷ (codes "convert", codes "RECORD" ∷ codes "OUT" ∷ []) ∷ [])
@@ -139,6 +141,9 @@ has_texts rows (action.Root file json) found = ((file.now, found.0), tt)
 has_texts rows (action.Show torrent json) found = ((torrent.now, found.0), tt)
 has_texts rows (action.Check asked) found =
     ((asked.torrent.now, found.0), ((asked.dir.now, found.1), tt))
+has_texts rows (action.CheckPart asked) found =
+    ((asked.torrent.now, found.0), ((asked.dir.now, found.1), tt))
+has_texts rows (action.Join asked) found = ((asked.torrent.now, found.0), tt)
 has_texts rows (action.Create asked) found =
     ((asked.dir.now, found.0), ((asked.out.now, found.1), ((asked.name.now, found.2), tt)))
 has_texts rows (action.Replay asked) found =
@@ -174,6 +179,26 @@ pub needs_piece_length : (rows : List Row)
 needs_piece_length rows none (action.Root file json) asks = differs _ _ refl asks.0
 needs_piece_length rows none (action.Show torrent json) asks = differs _ _ refl asks.0
 needs_piece_length rows none (action.Check asked) asks = differs _ _ refl asks.0
+needs_piece_length rows none (action.CheckPart asked) asks = differs _ _ refl asks.0
+needs_piece_length rows none (action.Join asked) asks = differs _ _ refl asks.0
 needs_piece_length rows none (action.Create asked) asks = none asked.piece_length asks.1.3
 needs_piece_length rows none (action.Replay asked) asks = differs _ _ refl asks.0
 needs_piece_length rows none (action.Convert asked) asks = differs _ _ refl asks.0
+
+-- with a part, `check` asks for nothing but that part, and for nothing if it cannot
+pub needs_part : (rows : List Row) (text : Text) → first_of (codes "part") rows ≡ Some text
+    → ((part : Part) → IsPartText text part → IsPlain rows → ⊥)
+    → (a : Action) → Asks (codes "check") rows a → ⊥
+needs_part rows text found none (action.Root file json) asks = differs _ _ refl asks.0
+needs_part rows text found none (action.Show torrent json) asks = differs _ _ refl asks.0
+needs_part rows text found none (action.Check asked) asks =
+    let bad : Some text ≡ None = sym found ∙ asks.1.5 in
+    cc
+needs_part rows text found none (action.CheckPart asked) asks =
+    let is = asks.1.2 in
+    let same : text ≡ is.0 = ap (λ (o : Option Text). unwrap_or o text) (sym found ∙ is.1) in
+    none asked.part (subst (λ t. IsPartText t asked.part) (sym same) is.2) asks.1.3
+needs_part rows text found none (action.Join asked) asks = differs _ _ refl asks.0
+needs_part rows text found none (action.Create asked) asks = differs _ _ refl asks.0
+needs_part rows text found none (action.Replay asked) asks = differs _ _ refl asks.0
+needs_part rows text found none (action.Convert asked) asks = differs _ _ refl asks.0

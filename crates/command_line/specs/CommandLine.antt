@@ -1,7 +1,8 @@
 -- What the program's command line is to clap, and what it asks for. Words are the arguments as
 -- texts, the program's name first; rows are what clap's definition of simple commands finds in
 -- them.
-use Rattle.std.specs.Prelude.{◌≡◌, ◌⊎◌, ℕ, List, [], ◌∷◌, Bool, true, false, Option, Some, None, codes, map, option_map, unwrap_or, ◌<◌, ◌^◌, ◌++◌, Result, MatchResult}
+use Rattle.std.specs.Prelude.{◌≡◌, ◌≢◌, ◌⊎◌, ℕ, List, [], ◌∷◌, Bool, true, false, Option, Some, None, codes, eqb, map, option_map, unwrap_or, ◌<◌, ◌≤◌, ◌^◌, ◌++◌, Result, MatchResult}
+use Rattle.std.specs.List.{after_first, before_first}
 use Rattle.std.specs.Borrow.{Bor}
 use Rattle.clap.specs.Walk.{Row, Rule, Text, all_of, first_of, one_of, rule_of}
 use Rattle.clap.specs.Simple.{App, Shape, app_of, new_rule, new_shape, subcommand_of}
@@ -13,18 +14,23 @@ use Rattle.clap.specs.declared.builder.command.Command.TheViews.{out-Command}
 use Rattle.clap.specs.Values.{kind_of}
 use Rattle.clap.specs.declared.error.Error.{Error}
 use Rattle.clap.specs.declared.error.kind.ErrorKind.{ErrorKind}
-use Rattle.clap.specs.declared.error.kind.ErrorKind.TheVariants.{DisplayHelp, DisplayVersion, MissingSubcommand, OutOfMemory}
+use Rattle.clap.specs.declared.error.kind.ErrorKind.TheVariants.{ArgumentConflict, DisplayHelp, DisplayVersion, MissingSubcommand, OutOfMemory, ValueValidation}
 use Rattle.clap.specs.declared.builder.action.ArgAction.TheVariants.{Append, Set, SetTrue}
 use Rattle.clap.specs.declared.builder.value_parser.ValueParser.TheVariants as vp
 use Rattle.std.specs.Str.Parse.{IsNumeral, digits_value, without_leading_plus}
 use Rattle.command_line.specs.declared.command.Action.{Action}
 use Rattle.command_line.specs.declared.command.Action.TheVariants as action
+use Rattle.command_line.specs.declared.command.Part.{Part}
 
 -- ---- the command line
 
 -- an argument that has to be there
 abbrev pub needed : Text → Rule
 needed name = record (new_rule name) { required = true; action = Some Set }
+
+-- the same, which may be there many times
+abbrev pub needed_list : Text → Rule
+needed_list name = record (needed name) { action = Some Append }
 
 -- an option that is there or not
 abbrev pub flag : Text → Rule
@@ -60,8 +66,12 @@ show_command = command (codes "show") (needed (codes "TORRENT") ∷ flag (codes 
 
 abbrev pub check_command : Shape
 check_command = command (codes "check")
-    (needed (codes "TORRENT") ∷ needed (codes "DIR") ∷ flag (codes "quiet")
-    ∷ flag (codes "json") ∷ [])
+    (needed (codes "TORRENT") ∷ needed (codes "DIR") ∷ flag (codes "quiet") ∷ flag (codes "bad")
+    ∷ option (codes "part") ∷ flag (codes "json") ∷ [])
+
+abbrev pub join_command : Shape
+join_command = command (codes "join")
+    (needed (codes "TORRENT") ∷ needed_list (codes "REPORT") ∷ [])
 
 abbrev pub create_command : Shape
 create_command = command (codes "create")
@@ -85,8 +95,8 @@ program = record {
     has_version = true;
     subcommand_required = true;
   };
-  subs = root_command ∷ show_command ∷ check_command ∷ create_command ∷ replay_command
-      ∷ convert_command ∷ [];
+  subs = root_command ∷ show_command ∷ check_command ∷ join_command ∷ create_command
+      ∷ replay_command ∷ convert_command ∷ [];
 }
 
 -- what clap reads of this command
@@ -139,23 +149,58 @@ abbrev pub AreTextsIn : Text → Option (Text × List Row) → List (Bor Text) �
 AreTextsIn name found texts =
     (command : Text) (rows : List Row) → found ≡ Some (command, rows) → AreTexts name rows texts
 
--- a number that is found under a name, as decimal digits, perhaps behind a plus
-abbrev pub IsNumberOf : Option Text → ℕ → Type 0
-IsNumberOf found number = (text : Text) × (found ≡ Some text)
-    × ((IsNumeral 10 (without_leading_plus text)
+-- a number of 64 bits as decimal digits, perhaps behind a plus
+abbrev pub IsNumberText : Text → ℕ → Type 0
+IsNumberText text number = (IsNumeral 10 (without_leading_plus text)
     × (digits_value 10 (without_leading_plus text) < 2 ^ 64))
-    × (number ≡ digits_value 10 (without_leading_plus text)))
+    × (number ≡ digits_value 10 (without_leading_plus text))
+
+-- such a number that is found under a name
+abbrev pub IsNumberOf : Option Text → ℕ → Type 0
+IsNumberOf found number = (text : Text) × (found ≡ Some text) × IsNumberText text number
 
 -- the same, or there is none
 abbrev pub IsNumberIfThere : Option Text → Option ℕ → Type 0
 IsNumberIfThere found (Some number) = IsNumberOf found number
 IsNumberIfThere found None = (number : ℕ) → IsNumberOf found number → ⊥
 
+-- whether a byte is the slash
+abbrev pub is_slash : ℕ → Bool
+is_slash b = eqb b 47
+
+-- Which part a text names: its number before the first slash, which is at least 1, and after it how
+-- many parts there are, which are as many at least.
+pub record IsPartText (text : Text) (part : Part) : Type 0 where
+  pub number : IsNumberText (before_first is_slash text) part.number
+  pub count : IsNumberText (after_first is_slash text) part.count
+  pub some : 1 ≤ part.number
+  pub there : part.number ≤ part.count
+
+-- the part that a text names, if it names one
+abbrev pub IsPartIfThere : Text → Option Part → Type 0
+IsPartIfThere text (Some part) = IsPartText text part
+IsPartIfThere text None = (part : Part) → IsPartText text part → ⊥
+
+-- the part that is found under a name
+abbrev pub IsPart : Text → List Row → Part → Type 0
+IsPart name rows part = (text : Text) × (first_of name rows ≡ Some text) × IsPartText text part
+
+-- the option with this name is not given
+abbrev pub IsNotGiven : Text → List Row → Type 0
+IsNotGiven name rows = first_of name rows ≢ Some (codes "true")
+
+-- none of the options is given that a part of a check has not
+abbrev pub IsPlain : List Row → Type 0
+IsPlain rows = IsNotGiven (codes "quiet") rows × IsNotGiven (codes "bad") rows
+    × IsNotGiven (codes "json") rows
+
 -- the name of the command that does this
 abbrev pub command_of : Action → Text
 command_of (action.Root file json) = codes "root"
 command_of (action.Show torrent json) = codes "show"
 command_of (action.Check asked) = codes "check"
+command_of (action.CheckPart asked) = codes "check"
+command_of (action.Join asked) = codes "join"
 command_of (action.Create asked) = codes "create"
 command_of (action.Replay asked) = codes "replay"
 command_of (action.Convert asked) = codes "convert"
@@ -169,6 +214,13 @@ FindsArguments rows (action.Show torrent json) =
 FindsArguments rows (action.Check asked) =
     IsText (codes "TORRENT") rows asked.torrent × IsText (codes "DIR") rows asked.dir
     × IsFlag (codes "quiet") rows asked.quiet × IsFlag (codes "json") rows asked.json
+    × IsFlag (codes "bad") rows asked.bad × (first_of (codes "part") rows ≡ None)
+FindsArguments rows (action.CheckPart asked) =
+    IsText (codes "TORRENT") rows asked.torrent × IsText (codes "DIR") rows asked.dir
+    × IsPart (codes "part") rows asked.part × IsPlain rows
+FindsArguments rows (action.Join asked) =
+    IsText (codes "TORRENT") rows asked.torrent
+    × AreTexts (codes "REPORT") rows asked.reports.items
 FindsArguments rows (action.Create asked) =
     IsText (codes "DIR") rows asked.dir × IsText (codes "OUT") rows asked.out
     × IsText (codes "name") rows asked.name
@@ -188,8 +240,8 @@ FindsArguments rows (action.Replay asked) =
 abbrev pub Asks : Text → List Row → Action → Type 0
 Asks name rows a = (name ≡ command_of a) × FindsArguments rows a
 
--- what the command of this name asks for; nothing only if there is no such command, or a text that
--- it needs is not found
+-- what the command of this name asks for; nothing only if there is no such command, a text that it
+-- needs is not found, its part is none, or an option is given that a part has not
 abbrev pub IsActionOf : Text → List Row → Option Action → Type 0
 IsActionOf name rows (Some a) = Asks name rows a
 IsActionOf name rows None = (a : Action) → Asks name rows a → ⊥
@@ -216,12 +268,17 @@ IsTaken words = fault_of program words ≡ []
 abbrev pub IsAskedBy : List Text → Action → Type 0
 IsAskedBy words a = IsTaken words × IsFoundIn words a
 
+-- the kinds of an error that says why no action is found in what clap takes
+abbrev pub IsUnaskedKind : ErrorKind → Type 0
+IsUnaskedKind kind =
+    (kind ≡ ValueValidation) ⊎ (kind ≡ ArgumentConflict) ⊎ (kind ≡ MissingSubcommand)
+
 -- Why these words ask for no action: out of memory; or one of the kinds that clap's definition
 -- gives for their first fault, as that help is asked for; or they are taken, and no action is
--- found in them, as if the command were missing.
+-- found in them: the part of `check` is none, or is given with an option that it has not.
 abbrev pub IsRefusalOf : List Text → ErrorKind → Type 0
 IsRefusalOf words kind = ((kind ≡ OutOfMemory) ⊎ IsAmong kind (fault_of program words))
-    ⊎ (IsTaken words × ((a : Action) → IsFoundIn words a → ⊥) × (kind ≡ MissingSubcommand))
+    ⊎ (IsTaken words × ((a : Action) → IsFoundIn words a → ⊥) × IsUnaskedKind kind)
 
 -- ---- what is printed of arguments that ask for no action
 

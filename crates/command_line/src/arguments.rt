@@ -8,14 +8,14 @@ ghost use Rattle.command_line.specs.CommandLine.{IsAskedBy, IsFoundIn, IsRefusal
 
 use crate::command::Action;
 use crate::definition::command;
-use crate::finding::{asked_in, texts_in};
+use crate::finding::{asked_in, texts_in, unasked};
 use clap::Error;
-use clap::error::ErrorKind;
 use std::alloc::Global;
 
 /// Reads the command line, whose first argument is the program's name. The error is `clap`'s, of
 /// one of the kinds that its own definition gives for the arguments: help or the version was asked
-/// for, the first argument that is wrong, or out of memory. `explain` prints it.
+/// for, the first argument that is wrong, or out of memory; or the part of `check` is none, or is
+/// given with an option that it has not. `explain` prints it.
 pub fn action<'a>(alloc: Global, line: &'a [&'a str]) -> Result<Action<'a>, Error>
     ensures asked { IfOk result (IsAskedBy (map (λ s. s.now) line.now)) }
     ensures refused { IfErr result (λ e. IsRefusalOf (map (λ s. s.now) line.now) (kind_of e)) }
@@ -25,8 +25,12 @@ pub fn action<'a>(alloc: Global, line: &'a [&'a str]) -> Result<Action<'a>, Erro
 {
     let matches = command(alloc)?.try_get_matches_from(line)?;
     let exclude = texts_in(alloc, &matches, "exclude")?;
-    match asked_in(&matches, exclude) {
+    let reports = texts_in(alloc, &matches, "REPORT")?;
+    match asked_in(&matches, exclude, reports) {
         Some(action) => Ok(action),
-        None => Err(command(alloc)?.error(ErrorKind::MissingSubcommand, "a command is missing")?),
+        None => {
+            let (kind, message) = unasked(&matches);
+            Err(command(alloc)?.error(kind, message)?)
+        }
     }
 }

@@ -1,4 +1,5 @@
 //! What the program can be asked for.
+ghost use Rattle.std.specs.Prelude.{◌≤◌};
 
 /// What the command line asks for.
 #[derive(Debug, Drop, PartialEq, Eq)]
@@ -19,6 +20,10 @@ pub enum Action<'a> {
     },
     /// Check that a folder holds a torrent's files.
     Check(Check<'a>),
+    /// Check one part of that.
+    CheckPart(CheckPart<'a>),
+    /// Join what all parts of a check reported.
+    Join(Join<'a>),
     /// Make a torrent of a folder.
     Create(Create<'a>),
     /// Replay the messages that peers sent.
@@ -38,6 +43,39 @@ pub struct Check<'a> {
     pub quiet: bool,
     /// Whether its lines are printed as JSON objects.
     pub json: bool,
+    /// Whether the runs of bad pieces of a file are printed after its line.
+    pub bad: bool,
+}
+
+/// Which part of a check is made.
+#[derive(Debug, Drop, PartialEq, Eq)]
+pub struct CheckPart<'a> {
+    /// The torrent file's path.
+    pub torrent: &'a str,
+    /// The folder's path.
+    pub dir: &'a str,
+    /// The part.
+    pub part: Part,
+}
+
+/// One of so many parts of a check. The number is at least 1 and at most the count.
+#[derive(Clone, Copy, Debug, PartialEq, Eq)]
+pub struct Part {
+    /// Its number, from 1.
+    pub number: u64,
+    /// How many parts there are.
+    pub count: u64,
+    ghost some: { 1 ≤ number },
+    ghost there: { number ≤ count },
+}
+
+/// Of what torrent the parts of a check are joined, and what they reported.
+#[derive(Debug, Drop, PartialEq, Eq)]
+pub struct Join<'a> {
+    /// The torrent file's path.
+    pub torrent: &'a str,
+    /// The paths of the reports.
+    pub reports: Vec<&'a str>,
 }
 
 /// Of what a torrent is made, and how.

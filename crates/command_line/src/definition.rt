@@ -2,13 +2,13 @@
 ghost use Rattle.std.specs.Prelude.{[]};
 ghost use Rattle.clap.specs.Simple.{App, Shape, with_subcommand};
 ghost use Rattle.clap.specs.Walk.{Rule};
-ghost use Rattle.command_line.specs.CommandLine.{IsApp, IsArgument, IsLeaf, IsMade, check_command, command, convert_command, create_command, flag, list_option, needed, needed_number, needed_option, option, program, replay_command, root_command, show_command, with_more};
+ghost use Rattle.command_line.specs.CommandLine.{IsApp, IsArgument, IsLeaf, IsMade, check_command, command, convert_command, create_command, flag, join_command, list_option, needed, needed_list, needed_number, needed_option, option, program, replay_command, root_command, show_command, with_more};
 
 use crate::help::{
-    ABOUT, ANSWERS_HELP, CHECK_ABOUT, CHECK_HELP, CONVERT_ABOUT, CONVERT_HELP, CREATE_ABOUT,
-    CREATE_HELP, EXAMPLES, EXCLUDE_HELP, HYBRID_HELP, INFO_ONLY_HELP, JSON_HELP, NAME_HELP,
-    PIECE_LENGTH_HELP, QUIET_HELP, REPLAY_ABOUT, REPLAY_HELP, ROOT_ABOUT, ROOT_HELP, SEED_HELP,
-    SHOW_ABOUT, SHOW_HELP, STATUSES, VERSION,
+    ABOUT, ANSWERS_HELP, BAD_HELP, CHECK_ABOUT, CHECK_HELP, CONVERT_ABOUT, CONVERT_HELP,
+    CREATE_ABOUT, CREATE_HELP, EXAMPLES, EXCLUDE_HELP, HYBRID_HELP, INFO_ONLY_HELP, JOIN_ABOUT,
+    JOIN_HELP, JSON_HELP, NAME_HELP, PART_HELP, PIECE_LENGTH_HELP, QUIET_HELP, REPLAY_ABOUT,
+    REPLAY_HELP, ROOT_ABOUT, ROOT_HELP, SEED_HELP, SHOW_ABOUT, SHOW_HELP, STATUSES, VERSION,
 };
 use clap::{Arg, ArgAction, Command, Error, value_parser};
 use std::alloc::Global;
@@ -26,6 +26,7 @@ pub(crate) fn command<'a>(alloc: Global) -> Result<Command<'a>, Error>
     let command = with_command(Ok(command), root_command(alloc));
     let command = with_command(command, show_command(alloc));
     let command = with_command(command, check_command(alloc));
+    let command = with_command(command, join_command(alloc));
     let command = with_command(command, create_command(alloc));
     let command = with_command(command, replay_command(alloc));
     with_command(command, convert_command(alloc))
@@ -57,7 +58,20 @@ fn check_command<'a>(alloc: Global) -> Result<Command<'a>, Error>
         needed(alloc, "DIR", "The folder that holds the files"),
     );
     let command = with_argument(command, flag(alloc, "quiet", QUIET_HELP));
+    let command = with_argument(command, flag(alloc, "bad", BAD_HELP));
+    let command = with_argument(command, option(alloc, "part", "I/N", PART_HELP));
     with_argument(command, flag(alloc, "json", JSON_HELP))
+}
+
+fn join_command<'a>(alloc: Global) -> Result<Command<'a>, Error>
+    ensures { IsMade (IsLeaf join_command) result }
+{
+    let command = Ok(leaf(alloc, "join", JOIN_ABOUT, JOIN_HELP));
+    let command = with_argument(command, needed(alloc, "TORRENT", "The torrent file"));
+    with_argument(
+        command,
+        needed_list(alloc, "REPORT", "What each part of the check printed"),
+    )
 }
 
 fn create_command<'a>(alloc: Global) -> Result<Command<'a>, Error>
@@ -145,6 +159,13 @@ fn needed<'a>(alloc: Global, name: &'a str, help: &'a str) -> Arg<'a>
         .required(true)
         .action(ArgAction::Set)
         .help(help)
+}
+
+// The same, which may be there many times.
+fn needed_list<'a>(alloc: Global, name: &'a str, help: &'a str) -> Arg<'a>
+    ensures { IsArgument (needed_list name.entry.now) result }
+{
+    needed(alloc, name, help).action(ArgAction::Append)
 }
 
 // An option that is there or not, with what it means.

@@ -1,21 +1,46 @@
 //! What is found in the arguments.
-ghost use Rattle.std.specs.Prelude.{codes, IfOk};
+ghost use Rattle.std.specs.Prelude.{◌↔◌, codes, IfOk, IsFalse, IsTrue};
 ghost use Rattle.clap.specs.Simple.{subcommand_rows_of};
 ghost use Rattle.clap.specs.Walk.{one_of, rows_of};
 ghost use Rattle.clap.specs.Matches.{found_of};
-ghost use Rattle.command_line.specs.CommandLine.{AreTexts, AreTextsIn, IsActionOf, IsAskedOf, IsFlag, IsNumberIfThere, IsTextIfThere};
+ghost use Rattle.command_line.specs.CommandLine.{AreTexts, AreTextsIn, IsActionOf, IsAskedOf, IsFlag, IsNotGiven, IsNumberIfThere, IsPartIfThere, IsPlain, IsTextIfThere, IsUnaskedKind};
 
-use crate::command::{Action, Check, Convert, Create, Replay};
+use crate::command::{Action, Check, CheckPart, Convert, Create, Join, Part, Replay};
 use clap::ArgMatches;
+use clap::error::ErrorKind;
 use std::alloc::{AllocError, Global};
 
-/// What the command that was found asks for, with the texts of `exclude`.
-pub(crate) fn asked_in<'a>(matches: &ArgMatches<'a>, exclude: Vec<&'a str>) -> Option<Action<'a>>
-    requires { AreTextsIn (codes "exclude") (subcommand_rows_of matches.now) exclude.items }
+/// What the command that was found asks for, with the texts of `exclude` and of `REPORT`.
+pub(crate) fn asked_in<'a>(
+    matches: &ArgMatches<'a>,
+    exclude: Vec<&'a str>,
+    reports: Vec<&'a str>,
+) -> Option<Action<'a>>
+    requires exclude { AreTextsIn (codes "exclude") (subcommand_rows_of matches.now)
+        exclude.items }
+    requires reports { AreTextsIn (codes "REPORT") (subcommand_rows_of matches.now) reports.items }
     ensures { IsAskedOf (subcommand_rows_of matches.now) result }
 {
     let (name, found) = matches.subcommand()?;
-    action_of(name, found, exclude)
+    action_of(name, found, exclude, reports)
+}
+
+/// Why nothing is asked for: the kind of the error, and what it says.
+pub(crate) fn unasked(matches: &ArgMatches<'_>) -> (ErrorKind, &'static str)
+    ensures { IsUnaskedKind result.0 }
+{
+    match matches.subcommand() {
+        Some(("check", found)) if is_plain(found) => (
+            ErrorKind::ValueValidation,
+            "invalid value for '--part <I/N>': it is not the number of a part, at least 1, and how \
+             many there are, as in 1/4",
+        ),
+        Some(("check", _)) => (
+            ErrorKind::ArgumentConflict,
+            "the argument '--part <I/N>' cannot be used with '--quiet', '--bad' or '--json'",
+        ),
+        _ => (ErrorKind::MissingSubcommand, "a command is missing"),
+    }
 }
 
 /// The texts that were found under this name, behind whatever command.
@@ -34,14 +59,21 @@ pub(crate) fn texts_in<'a>(
 }
 
 // What the command of this name asks for, with what was found in its arguments.
-fn action_of<'a>(name: &str, found: &ArgMatches<'a>, exclude: Vec<&'a str>) -> Option<Action<'a>>
-    requires { AreTexts (codes "exclude") (rows_of (found_of found.now)) exclude.items }
+fn action_of<'a>(
+    name: &str,
+    found: &ArgMatches<'a>,
+    exclude: Vec<&'a str>,
+    reports: Vec<&'a str>,
+) -> Option<Action<'a>>
+    requires exclude { AreTexts (codes "exclude") (rows_of (found_of found.now)) exclude.items }
+    requires reports { AreTexts (codes "REPORT") (rows_of (found_of found.now)) reports.items }
     ensures { IsActionOf name.now (rows_of (found_of found.now)) result }
 {
     match name {
         "root" => root_of(found),
         "show" => show_of(found),
         "check" => check_of(found),
+        "join" => join_of(found, reports),
         "create" => create_of(found, exclude),
         "replay" => replay_of(found),
         "convert" => convert_of(found),
@@ -77,12 +109,59 @@ fn check_of<'a>(found: &ArgMatches<'a>) -> Option<Action<'a>>
 {
     let torrent = text(found, "TORRENT")?;
     let dir = text(found, "DIR")?;
-    Some(Action::Check(Check {
-        torrent,
-        dir,
-        quiet: is_given(found, "quiet"),
-        json: is_given(found, "json"),
-    }))
+    match text(found, "part") {
+        None => Some(Action::Check(Check {
+            torrent,
+            dir,
+            quiet: is_given(found, "quiet"),
+            json: is_given(found, "json"),
+            bad: is_given(found, "bad"),
+        })),
+        Some(part) if is_plain(found) => {
+            let part = part_in(part)?;
+            Some(Action::CheckPart(CheckPart { torrent, dir, part }))
+        }
+        Some(_) => None,
+    }
+}
+
+// Whether none of the options is given that a part of a check has not.
+fn is_plain(found: &ArgMatches<'_>) -> bool
+    ensures { IsTrue result ↔ IsPlain (rows_of (found_of found.now)) }
+{
+    !(is_true(found, "quiet") || is_true(found, "bad") || is_true(found, "json"))
+}
+
+// Whether the option with this name is given.
+fn is_true(found: &ArgMatches<'_>, name: &str) -> bool
+    ensures { IsFalse result ↔ IsNotGiven name.now (rows_of (found_of found.now)) }
+{
+    text(found, name) == Some("true")
+}
+
+// The part that a text names.
+fn part_in(text: &str) -> Option<Part>
+    ensures { IsPartIfThere text.now result }
+{
+    let (number, count) = text.split_once('/')?;
+    let part = Part {
+        number: number.parse::<u64>().ok()?,
+        count: count.parse::<u64>().ok()?,
+    };
+    if 1 <= part.number && part.number <= part.count {
+        Some(part)
+    } else {
+        None
+    }
+}
+
+// What the arguments after `join` ask for.
+fn join_of<'a>(found: &ArgMatches<'a>, reports: Vec<&'a str>) -> Option<Action<'a>>
+    requires { AreTexts (codes "REPORT") (rows_of (found_of found.now)) reports.items }
+    ensures { IsActionOf (codes "join") (rows_of (found_of found.now)) result }
+{
+    let torrent = text(found, "TORRENT")?;
+    Some(Action::Join(Join { torrent, reports }))
 }
 
 // What the arguments after `create` ask for.

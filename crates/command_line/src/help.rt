@@ -13,6 +13,10 @@ Examples:
   btcheck root movie.mkv                     the length and pieces root of a file
   btcheck show some.torrent                  what a torrent holds
   btcheck check some.torrent Downloads/some  whether a folder holds it
+  btcheck check some.torrent Downloads/some --part 1/4
+                                             the first of four parts of that
+  btcheck join some.torrent part1 part2 part3 part4
+                                             whether all parts together hold it
   btcheck create some some.torrent --name some --piece-length 1048576
                                              makes a torrent of a folder
   btcheck convert record directed            gives each frame of a record its direction
@@ -29,6 +33,14 @@ Faults, and what to do:
   fault: name is not UTF-8            give the file a name in UTF-8
   fault: not a file or folder: PATH   put the file itself in place of the link, pipe or device
   fault: record is truncated: PATH    it ends inside a frame; the frames before are in OUT
+  fault: part I of N is missing       run it, or give its report to `join` too
+  fault: part I is there twice        give one of the two reports
+  fault: no whole report of a part: PATH
+                                      it was cut or changed: run the part again
+  fault: a part of another torrent: PATH
+                                      give the torrent that was checked
+  fault: a report of another number of parts: PATH
+                                      give the reports of one division alone
   fault: no memory                    raise the limit (`ulimit -v`), or run fewer at once
 
 Each refusal has a number and a name; `man btcheck` explains them.";
@@ -55,6 +67,18 @@ printed as soon as the file is done. The files are looked for at their paths dir
 torrent's name adds no folder.";
 
 pub(crate) const QUIET_HELP: &str = "Print only what is not good, and the last line";
+
+pub(crate) const BAD_HELP: &str =
+    "After each file that is bad or of another length, print its runs of bad pieces";
+
+pub(crate) const PART_HELP: &str =
+    "Check part I of N alone, and print what `join` needs of it; 1 is the first";
+
+pub(crate) const JOIN_ABOUT: &str = "Joins the reports of all parts of a check";
+
+pub(crate) const JOIN_HELP: &str = "\
+A REPORT is what `btcheck check TORRENT DIR --part I/N` printed; the reports of all N parts are
+needed, in any order. Prints what one `btcheck check TORRENT DIR` prints, with its status.";
 
 pub(crate) const JSON_HELP: &str = "Print each line as a JSON object";
 

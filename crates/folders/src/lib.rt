@@ -25,7 +25,7 @@ pub use checking::check;
 pub use lines::Lines;
 pub use read_fault::ReadFault;
 pub use report::{FileVerdict, Report, V1Verdict};
-pub use report_lines::{print_report, stream_line, write_verdict};
+pub use report_lines::{print_report, stream_line, write_end, write_verdict, write_wanted};
 pub use reporting::check_onto;
 pub use root::{RootFault, root_line};
 pub use seek_shelf::SeekShelf;

@@ -41,12 +41,9 @@ fn write_report<W: Sink>(
     write_end(report, Lines::All, out)
 }
 
-/// Writes what follows the lines of the files.
-pub(crate) fn write_end<W: Sink>(
-    report: &Report,
-    lines: Lines,
-    out: &mut W,
-) -> Result<(), DeviceFault>
+/// Writes what follows the lines of the files: for a hybrid the line on its version 1 pieces, if it
+/// is wanted, and `yes` or `no`. After a fault a prefix of it went out.
+pub fn write_end<W: Sink>(report: &Report, lines: Lines, out: &mut W) -> Result<(), DeviceFault>
     ensures { Wrote (W.seen out.old) (W.seen out.new) result
         (end_text lines report.now.files.items report.now.v1) }
 {
@@ -69,8 +66,8 @@ fn write_verdicts<W: Sink>(
     Ok(())
 }
 
-/// Writes the line of a file, if it is wanted.
-pub(crate) fn write_wanted<W: Sink>(
+/// Writes the line of a file, if it is wanted. After a fault a prefix of it went out.
+pub fn write_wanted<W: Sink>(
     lines: Lines,
     verdict: FileVerdict,
     file: &File<'_>,

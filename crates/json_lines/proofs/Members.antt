@@ -81,6 +81,8 @@ part_plain : (p : Part) (text : List ℕ) (ms : Members) → IsPlain ms → IfSo
 part_plain (part.Word word) text ms plain = some_if (bytes_eq text word.now) ms plain
 part_plain (part.Number key) text ms plain =
     some_map (number_of text) (λ n. put key.now (number (unsigned n)) ms) (λ n. put_plain key.now (number (unsigned n)) ms refl plain)
+part_plain (part.Start key) text ms plain =
+    some_map (number_of text) (λ n. put key.now (number (unsigned n)) ms) (λ n. put_plain key.now (number (unsigned n)) ms refl plain)
 part_plain (part.Name key) text ms plain = some_if (is_utf8 text) (put key.now (string text) ms) (put_plain key.now (string text) ms refl plain)
 part_plain (part.Text key) text ms plain = text_plain key.now (unescaped text) ms plain
 

@@ -5,7 +5,7 @@ use Rattle.hex.specs.Hex.{encode_lower}
 use Rattle.serde_json.specs.Data.{Data, Members, no_members, number, object, put, string, unsigned}
 use Rattle.json_lines.specs.Escapes.{unescaped}
 use Rattle.json_lines.specs.Numbers.{number_of}
-use Rattle.json_lines.specs.Words.{after_word, first_word}
+use Rattle.json_lines.specs.Words.{after_dash, after_word, before_dash, first_word}
 use Rattle.json_lines.specs.declared.form.Form.{Form}
 use Rattle.json_lines.specs.declared.form.Part.{Part}
 use Rattle.json_lines.specs.declared.form.Part.TheVariants as part
@@ -21,6 +21,7 @@ with_text key text found =
 abbrev pub part_text : Part → List ℕ → List ℕ
 part_text (part.Word word) line = first_word line
 part_text (part.Number key) line = first_word line
+part_text (part.Start key) line = before_dash line
 part_text (part.Name key) line = first_word line
 part_text (part.Text key) line = line
 
@@ -28,6 +29,7 @@ part_text (part.Text key) line = line
 abbrev pub after_part : Part → List ℕ → List ℕ
 after_part (part.Word word) line = after_word line
 after_part (part.Number key) line = after_word line
+after_part (part.Start key) line = after_dash line
 after_part (part.Name key) line = after_word line
 after_part (part.Text key) line = []
 
@@ -35,6 +37,8 @@ after_part (part.Text key) line = []
 abbrev pub with_part : Part → List ℕ → Members → Option Members
 with_part (part.Word word) text found = (if bytes_eq text word.now then Some found else None)
 with_part (part.Number key) text found =
+    option_map (λ n. put key.now (number (unsigned n)) found) (number_of text)
+with_part (part.Start key) text found =
     option_map (λ n. put key.now (number (unsigned n)) found) (number_of text)
 with_part (part.Name key) text found =
     (if is_utf8 text then Some (put key.now (string text) found) else None)

@@ -11,7 +11,7 @@ ghost use Rattle.json_lines.specs.Objects.{after_part, part_text, with_part, wit
 use crate::escapes::unescaped;
 use crate::form::Part;
 use crate::number::number;
-use crate::words::split_word;
+use crate::words::{split_dash, split_word};
 use serde_json::{Map, Value, put};
 use std::alloc::{AllocError, Global};
 use std::str;
@@ -62,6 +62,7 @@ fn split_part<'a>(part: &Part, line: &'a [u8]) -> (&'a [u8], &'a [u8])
 {
     match part {
         Part::Text(_) => (line, &[]),
+        Part::Start(_) => split_dash(line),
         Part::Word(_) | Part::Number(_) | Part::Name(_) => split_word(line),
     }
 }
@@ -79,7 +80,7 @@ fn put_part(
 {
     match part {
         Part::Word(word) => Ok(text == word.as_bytes()),
-        Part::Number(key) => put_number(alloc, key, text, members),
+        Part::Number(key) | Part::Start(key) => put_number(alloc, key, text, members),
         Part::Name(key) => put_name(alloc, key, text, members),
         Part::Text(key) => {
             put_text(alloc, key, &unescaped(alloc, text)?, members)?;

@@ -1,12 +1,14 @@
 //! How the lines of a report are built.
 
-/// A part of a line. One space stands between two parts.
+/// A part of a line. One space stands between two parts, or one dash after a `Start`.
 #[derive(Drop)]
 pub enum Part {
     /// This word.
     Word(&'static str),
     /// A number in decimal that fits 64 bits, under this key.
     Number(&'static str),
+    /// The same, with a dash behind it.
+    Start(&'static str),
     /// A word, under this key.
     Name(&'static str),
     /// All that is left of the line: a path or another text as it is printed, under this key.

@@ -130,6 +130,18 @@ pub const CHECK: &[Form] = &[
         parts: &[Part::Word("bad"), Part::Number("piece"), Part::Text("path")],
     },
     Form {
+        kind: "bad pieces",
+        parts: &[
+            Part::Word("bad"),
+            Part::Word("pieces"),
+            Part::Number("first"),
+            Part::Number("last"),
+            Part::Word("bytes"),
+            Part::Start("from"),
+            Part::Number("to"),
+        ],
+    },
+    Form {
         kind: "v1 good",
         parts: &[Part::Word("v1"), Part::Word("good")],
     },

@@ -1,5 +1,5 @@
 -- What the check of a part told of the first files of a torrent.
-use Rattle.std.proofs.Common.{◌≡◌, ◌⊎◌, inl, inr, ℕ, ◌+◌, ◌-◌, ◌<◌, ◌≤◌, min, List, [], ◌∷◌, ◌++◌, length, take, slice_get, sum_by, Option, Some, None, refl, ap, sym, ◌∙◌, subst, arith}
+use Rattle.std.proofs.Common.{◌≡◌, ◌⊎◌, inl, inr, ℕ, ◌+◌, ◌-◌, ◌<◌, ◌≤◌, min, List, [], ◌∷◌, ◌++◌, length, slice_get, Option, Some, refl, ap, sym, ◌∙◌, subst, arith}
 use Rattle.std.proofs.lemmas.Bool.{cases_lt}
 use Rattle.std.proofs.lemmas.List.{length_push, get_or_push, get_or_append_left}
 use Rattle.std.proofs.lemmas.List.Sums.{sum_by-take-le}
@@ -16,7 +16,7 @@ use Rattle.folders.specs.declared.report.V1Verdict.TheVariants as version1
 use Rattle.folders.proofs.Places.{pieces_before, pieces_next}
 use Rattle.folders.proofs.Visiting.{Extends}
 use Rattle.parts.specs.Finding.{FindsFile, HasPieceIn, IsFileV1}
-use Rattle.parts.specs.Parts.{Holds, IsPartV1, IsPartVerdict, IsPieceAt, IsVersion1Good, piece_count, place_count}
+use Rattle.parts.specs.Parts.{Holds, IsPartV1, IsPartVerdict, IsPieceAt, IsVersion1Good, place_count}
 use Rattle.parts.specs.Worse.{worse_v1}
 use Rattle.parts.specs.declared.places.Places.{Places}
 use Rattle.parts.specs.declared.verdicts.Verdicts.{Verdicts}

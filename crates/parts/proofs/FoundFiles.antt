@@ -1,6 +1,6 @@
 -- What a part found of one file, by how its opening and its reading were answered.
-use Rattle.std.proofs.Common.{◌≡◌, ◌≢◌, ◌⊎◌, ℕ, ◌+◌, ◌*◌, ◌^◌, ◌<◌, ◌≤◌, ◌++◌, Bool, true, false, IsTrue, List, [], length, drop, replicate, slice_get, Option, Some, None}
-use Rattle.std.proofs.Common.{option_map, Result, Ok, Err, IfOk, IfSome, refl, ap, sym, ◌∙◌, subst, drop_at, arith}
+use Rattle.std.proofs.Common.{◌≡◌, ℕ, ◌*◌, ◌++◌, IsTrue, List, length, drop, replicate, slice_get, Option, Some, None}
+use Rattle.std.proofs.Common.{Result, Ok, Err, IfOk, IfSome, refl, ap, sym, ◌∙◌, subst, drop_at, arith}
 use Rattle.std.specs.Option.{unwrap_or}
 use Rattle.std.proofs.lemmas.List.{length-replicate}
 use Rattle.std.proofs.lemmas.Option.{same_Some}
@@ -14,9 +14,9 @@ use Rattle.folders.specs.declared.report.FileVerdict.{FileVerdict}
 use Rattle.folders.specs.declared.report.FileVerdict.TheVariants as file
 use Rattle.folders.specs.declared.report.V1Verdict.{V1Verdict}
 use Rattle.folders.specs.declared.report.V1Verdict.TheVariants as version1
-use Rattle.parts.specs.FilePieces.{AreBelow, AreJudged, FindsPieces, IsBelow, IsFirstBad}
-use Rattle.parts.specs.Finding.{FindsFile, HasPieceIn, IsFileV1}
-use Rattle.parts.specs.Parts.{Holds, IsPartVerdict, IsPieceGood, IsVersion1Good, Touches, last_place, piece_count}
+use Rattle.parts.specs.FilePieces.{AreBelow, FindsPieces, IsBelow, IsFirstBad}
+use Rattle.parts.specs.Finding.{FindsFile, IsFileV1}
+use Rattle.parts.specs.Parts.{IsPartVerdict, IsPieceGood, IsVersion1Good, Touches}
 use Rattle.parts.specs.Saying.{HasSmallPieces, IsSmallFrom, SaysFound, file_says, v1_says}
 use Rattle.parts.specs.Spans.{IsSpan, IsSpanOf}
 use Rattle.parts.specs.declared.file_pieces.Found.{Found}

@@ -1,8 +1,8 @@
 -- The pieces of a file that are among a part's places, by numbers.
-use Rattle.std.proofs.Common.{◌≡◌, ◌⊎◌, inl, inr, ℕ, ◌+◌, ◌-◌, ◌*◌, ◌<◌, ◌≤◌, min, max, Bool, true, false, IsTrue, nat_lt, refl, ap, sym, ◌∙◌, subst, arith}
+use Rattle.std.proofs.Common.{◌≡◌, ℕ, ◌+◌, ◌<◌, ◌≤◌, max, IsTrue, nat_lt, arith}
 use Rattle.opening.specs.Description.{Description, FileEntry}
 use Rattle.parts.specs.Parts.{Holds, Touches, last_place, piece_count}
-use Rattle.parts.specs.Spans.{IsSpan, IsSpanOf, end_in, first_in}
+use Rattle.parts.specs.Spans.{IsSpan, IsSpanOf}
 use Rattle.parts.specs.declared.places.Places.{Places}
 use Rattle.parts.specs.declared.span.Span.{Span}
 

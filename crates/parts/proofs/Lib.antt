@@ -1,3 +1,4 @@
+pub mod BadReports
 pub mod Files
 pub mod CheckedFirst
 pub mod FirstFiles
@@ -12,6 +13,8 @@ pub mod PieceNodes
 pub mod PlaceTests
 pub mod Ranks
 pub mod Rows
+pub mod RunLines
+pub mod Runs
 pub mod SharedPlaces
 pub mod SoFar
 pub mod Streams

@@ -1,16 +1,14 @@
 -- How the check of a part reads an opened file.
-use Rattle.std.proofs.Common.{◌≡◌, ℕ, ◌+◌, ◌-◌, ◌*◌, ◌≤◌, min, IsTrue, Option, Some, None, Result, Ok, Err, refl, ap, ap₂, sym, ◌∙◌, subst, arith}
+use Rattle.std.proofs.Common.{◌≡◌, ℕ, ◌+◌, ◌-◌, ◌*◌, min, IsTrue, Option, Some, None, Result, Ok, Err, refl, ap, ap₂, sym, ◌∙◌, subst}
 use Rattle.benc.specs.Device.{CountsFault, SourceSeen}
 use Rattle.benc.specs.declared.device.DeviceFault.{DeviceFault}
 use Rattle.opening.specs.Description.{Description, FileEntry}
 use Rattle.folders.specs.Shelf.{more}
 use Rattle.folders.specs.TakeAll.{IsReadWithin}
 use Rattle.folders.specs.Verdicts.{fault_count}
-use Rattle.folders.specs.declared.report.FileVerdict.{FileVerdict}
-use Rattle.folders.specs.declared.report.FileVerdict.TheVariants as file
 use Rattle.parts.specs.PartVisits.{IsReadIn}
 use Rattle.parts.specs.Saying.{SaysFound, file_says}
-use Rattle.parts.specs.Spans.{IsSpanOf, bytes_in, end_in, first_in, span_bytes}
+use Rattle.parts.specs.Spans.{IsSpanOf, bytes_in, span_bytes}
 use Rattle.parts.specs.declared.file_pieces.Found.{Found}
 use Rattle.parts.specs.declared.places.Places.{Places}
 use Rattle.parts.specs.declared.span.Span.{Span}

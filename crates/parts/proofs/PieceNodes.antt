@@ -1,11 +1,10 @@
 -- The node over a piece, from the bytes of that piece alone.
-use Rattle.std.proofs.Common.{◌≡◌, ◌⊎◌, inl, inr, ℕ, zero, suc, ◌+◌, ◌-◌, ◌*◌, ◌/◌, ◌^◌, ◌<◌, ◌≤◌, min, List, [], ◌∷◌, ◌++◌, length, take, drop, replicate, get_or, refl, ap, ap₂, sym, ◌∙◌, subst, arith, take-take, append_assoc, take_at, drop_at}
+use Rattle.std.proofs.Common.{◌≡◌, inl, inr, ℕ, suc, ◌+◌, ◌-◌, ◌*◌, ◌^◌, ◌<◌, ◌≤◌, min, List, [], ◌++◌, length, take, drop, replicate, get_or, refl, ap, ap₂, sym, ◌∙◌, subst, arith, take-take, take_at, drop_at}
 use Rattle.std.proofs.lemmas.Bool.{cases_lt}
 use Rattle.std.proofs.lemmas.List.{ext_get_or, get_or-take, get_or-drop, get_or_append_left, get_or-append_right, get_or-replicate, length-append, length-take, length-drop, length-replicate, drop-drop, drop-take}
 use Rattle.std.proofs.lemmas.List.FromFn.{get_or-map-range_with_len}
-use Rattle.std.proofs.lemmas.Nat.{pow_pos}
 use Rattle.sha2.specs.Sha256.{sha256}
-use Rattle.hashtree.specs.Tree.{block, block_count, block_hashes, height, leaves, node, node_over, pad_leaf, root_of, tree, zero_hash}
+use Rattle.hashtree.specs.Tree.{block, block_count, block_hashes, height, leaves, node, pad_leaf, root_of, tree, zero_hash}
 use Rattle.hashtree.proofs.Blocks.{length-block_hashes}
 use Rattle.hashtree.proofs.Heights.{first_pad-fits, first_pad-place, height_enough}
 use Rattle.hashtree.proofs.Nodes.{length-leaves, part_within}

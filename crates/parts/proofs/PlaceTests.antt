@@ -8,7 +8,7 @@ use Rattle.folders.specs.declared.report.FileVerdict.{FileVerdict}
 use Rattle.folders.specs.declared.report.FileVerdict.TheVariants.{Good}
 use Rattle.printing.proofs.Parts.{item_next}
 use Rattle.parts.specs.PartLines.{has_place, held_line, lines_text}
-use Rattle.parts.specs.Parts.{Holds, Touches, last_place}
+use Rattle.parts.specs.Parts.{Touches, last_place}
 use Rattle.parts.specs.declared.places.Places.{Places}
 
 -- two tests that follow from each other are one

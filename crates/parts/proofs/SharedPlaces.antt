@@ -1,5 +1,5 @@
 -- The shares of all parts have all places, and what is counted for them fits.
-use Rattle.std.proofs.Common.{◌≡◌, inl, inr, ℕ, zero, suc, ◌+◌, ◌-◌, ◌*◌, ◌/◌, ◌^◌, ◌<◌, ◌≤◌, List, [], ◌∷◌, length, drop, get_or, map, take, slice_get, sum_by, Bool, true, false, cond, nat_lt, nat_eq, Some, refl, ap, sym, ◌∙◌, subst, arith}
+use Rattle.std.proofs.Common.{◌≡◌, inl, inr, ℕ, zero, suc, ◌+◌, ◌-◌, ◌*◌, ◌/◌, ◌^◌, ◌<◌, ◌≤◌, List, [], ◌∷◌, length, drop, take, slice_get, sum_by, true, false, cond, nat_lt, nat_eq, Some, refl, ap, sym, ◌∙◌, subst, arith}
 use Rattle.std.proofs.Math.Nat.{div-mul-le_self, mul-le-mul, mul-le-mul_left, pow-le-pow_right}
 use Rattle.std.proofs.lemmas.Bool.{cases_lt}
 use Rattle.std.proofs.lemmas.List.{drop_more}
@@ -10,8 +10,8 @@ use Rattle.opening.specs.Sound.{IsSound}
 use Rattle.pieces.specs.Pieces.{pieces_of}
 use Rattle.folders.proofs.Places.{pieces_are_positive, within_pieces}
 use Rattle.parts.specs.Laws.{SharesHaveAllPlaces}
-use Rattle.parts.specs.Parts.{AreAllPlaces, Holds, PartReport, place_count}
-use Rattle.parts.specs.Shares.{all_bytes, place_in, share, start}
+use Rattle.parts.specs.Parts.{Holds, place_count}
+use Rattle.parts.specs.Shares.{all_bytes, place_in, start}
 use Rattle.parts.proofs.Streams.{at_length}
 
 -- ---- all places

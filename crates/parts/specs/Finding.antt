@@ -1,5 +1,5 @@
 -- What the check of a part finds of each file, and of all of them on a shelf.
-use Rattle.std.specs.Prelude.{◌≡◌, ℕ, ◌+◌, ◌<◌, List, Option, Some, None, ⊤}
+use Rattle.std.specs.Prelude.{◌≡◌, ℕ, ◌+◌, ◌<◌, List, Option, Some, ⊤}
 use Rattle.opening.specs.Description.{Description, FileEntry, Version1}
 use Rattle.folders.specs.Folder.{Contents}
 use Rattle.folders.specs.Verdicts.{AgreeWith, Agrees, is_checked, is_whole}

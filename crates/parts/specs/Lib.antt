@@ -1,4 +1,6 @@
 -- What a check in parts finds, and what its parts make together.
+pub mod BadPieces
+pub mod BadReport
 pub mod Collisions
 pub mod FilePieces
 pub mod Finding

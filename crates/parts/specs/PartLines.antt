@@ -1,5 +1,5 @@
 -- What is printed of a part's report.
-use Rattle.std.specs.Prelude.{ℕ, ◌+◌, ◌-◌, max, Bool, true, false, ◌&&◌, nat_le, nat_lt, List, [], ◌∷◌, ◌++◌, codes, decimal, Option, if◌then◌else◌}
+use Rattle.std.specs.Prelude.{ℕ, ◌+◌, max, Bool, true, false, ◌&&◌, nat_le, nat_lt, List, [], ◌∷◌, ◌++◌, codes, decimal, Option, if◌then◌else◌}
 use Rattle.hex.specs.Hex.{encode_lower}
 use Rattle.opening.specs.Description.{Description, FileEntry}
 use Rattle.folders.specs.Printed.{file_verdict_text, stream_words}

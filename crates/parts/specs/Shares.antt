@@ -1,6 +1,6 @@
 -- The places of a torrent, shared out among parts by bytes. The files' bytes are counted one file
 -- after the other, in the torrent's order.
-use Rattle.std.specs.Prelude.{ℕ, ◌+◌, ◌-◌, ◌*◌, ◌/◌, List, [], ◌∷◌, Bool, true, false, nat_lt, nat_eq, if◌then◌else◌, sum_by}
+use Rattle.std.specs.Prelude.{ℕ, ◌+◌, ◌-◌, ◌*◌, ◌/◌, List, [], ◌∷◌, nat_lt, nat_eq, if◌then◌else◌, sum_by}
 use Rattle.opening.specs.Description.{Description, FileEntry}
 use Rattle.parts.specs.Parts.{place_count}
 use Rattle.parts.specs.declared.places.Places.{Places}

@@ -1,5 +1,5 @@
 -- The pieces of a file that are among a part's places.
-use Rattle.std.specs.Prelude.{◌≡◌, ◌↔◌, ℕ, ◌+◌, ◌-◌, ◌*◌, ◌<◌, ◌≤◌, min, max, IsTrue, Option, Some, None}
+use Rattle.std.specs.Prelude.{◌≡◌, ◌↔◌, ℕ, ◌-◌, ◌*◌, ◌<◌, ◌≤◌, min, max, IsTrue, Option, Some, None}
 use Rattle.opening.specs.Description.{Description, FileEntry}
 use Rattle.parts.specs.Parts.{Holds, Touches, last_place, piece_count}
 use Rattle.parts.specs.declared.places.Places.{Places}

@@ -6,7 +6,7 @@ use Rattle.clap.specs.Kinds.{HasKind}
 use Rattle.clap.specs.Takes.{takes}
 use Rattle.clap.specs.Values.{kind_of}
 use Rattle.clap.specs.declared.error.Error.{Error}
-use Rattle.command_line.specs.CommandLine.{IsAskedOf, IsTaken, program}
+use Rattle.command_line.specs.CommandLine.{IsAskedOf, IsTaken, IsUnaskedKind, program}
 use Rattle.command_line.proofs.arguments.action.Goals as goal
 
 -- an error of the command that clap was given is one of the program
@@ -76,5 +76,5 @@ returns-clause-refused c =
     inr (
       taken_in (app_of c.in_ok-command.field-0) words c.in_ok-command.ensures.0 c.in_ok-matches.ensures.kinds,
       none,
-      c.in_ok-error-in-None.ensures.kind,
+      subst IsUnaskedKind (sym c.in_ok-error-in-None.ensures.kind) c.unasked-kind.ensures,
     )

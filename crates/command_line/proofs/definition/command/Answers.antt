@@ -27,6 +27,7 @@ returns c =
     let one = c.with_command-command.ensures bare _ start c.root_command.ensures in
     let two = c.with_command-command-2.ensures _ _ one c.show_command.ensures in
     let three = c.with_command-command-3.ensures _ _ two c.check_command.ensures in
-    let four = c.with_command-command-4.ensures _ _ three c.create_command.ensures in
-    let five = c.with_command-command-5.ensures _ _ four c.replay_command.ensures in
-    c.with_command.ensures _ _ five c.convert_command.ensures
+    let four = c.with_command-command-4.ensures _ _ three c.join_command.ensures in
+    let five = c.with_command-command-5.ensures _ _ four c.create_command.ensures in
+    let six = c.with_command-command-6.ensures _ _ five c.replay_command.ensures in
+    c.with_command.ensures _ _ six c.convert_command.ensures

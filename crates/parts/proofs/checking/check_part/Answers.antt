@@ -1,17 +1,14 @@
-use Rattle.std.proofs.Common.{rules, [], ◌∷◌, ◌++◌, slice_get, refl, ◌≡◌, ◌∙◌, ◌+◌, ◌≤◌, ◌<◌, ◌^◌, ℕ, List, length, map}
+use Rattle.std.proofs.Common.{rules, ◌≡◌, ◌∙◌, ◌+◌, ◌≤◌, ◌<◌, ◌^◌, ℕ, List, length, map}
 use Rattle.std.proofs.Common.{Option, option_map, is_some, ap, sym, subst, Some, None, arith}
-use Rattle.std.specs.List.{list_all}
 use Rattle.std.proofs.lemmas.Option.{same_Some, none-some}
-use Rattle.opening.specs.Description.{Description, FileEntry}
+use Rattle.opening.specs.Description.{Description}
 use Rattle.opening.specs.declared.torrent.File.{File}
-use Rattle.std.proofs.lemmas.List.{length-map, take_all}
+use Rattle.std.proofs.lemmas.List.{length-map}
 use Rattle.std.proofs.lemmas.List.Sums.{count_by-le-length}
 use Rattle.opening.specs.Seen.{file_entry, version1}
-use Rattle.chains.specs.Chain.{Chain}
-use Rattle.folders.specs.Verdicts.{HasVerdicts, is_checked, is_unreadable, is_whole, unreadable_count}
+use Rattle.folders.specs.Verdicts.{is_unreadable, unreadable_count}
 use Rattle.folders.proofs.Counts.{more_none}
 use Rattle.folders.proofs.Places.{file_there}
-use Rattle.parts.specs.PartVisits.{VisitsPart}
 use Rattle.parts.specs.Worse.{worse_v1}
 use Rattle.parts.proofs.CheckedFirst.{IsCheckedFirst, checked_none, checked_one, tells_all}
 use Rattle.parts.proofs.checking.check_part.Goals as goal

@@ -1,4 +1,4 @@
-use Rattle.std.proofs.Common.{◌≡◌, ◌⊎◌, inl, inr, ◌∙◌, ◌+◌, ◌*◌, ◌<◌, ◌≤◌, ℕ, true, List, [], ◌++◌, length, take, Some, None, refl, ap, sym, subst, append-nil, append_assoc, arith}
+use Rattle.std.proofs.Common.{◌≡◌, ◌∙◌, ◌+◌, ◌<◌, true, [], ◌++◌, take, refl, ap, sym, subst, append-nil, append_assoc, arith}
 use Rattle.std.proofs.lemmas.List.{length-append, length-take-le}
 use Rattle.opening.specs.Seen.{file_entry}
 use Rattle.wire.proofs.Giving.{Gave-nil, Gave-take, Gave-trans}

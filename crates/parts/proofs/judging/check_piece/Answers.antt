@@ -1,6 +1,6 @@
-use Rattle.std.proofs.Common.{◌≡◌, ◌∙◌, ◌-◌, ◌*◌, ℕ, min, Option, ap, subst, arith}
+use Rattle.std.proofs.Common.{◌∙◌, ◌-◌, ◌*◌, min, ap, subst, arith}
 use Rattle.opening.specs.Seen.{file_entry}
-use Rattle.parts.specs.OnePiece.{IsPieceRead, ReadsPiece, piece_size}
+use Rattle.parts.specs.OnePiece.{IsPieceRead}
 use Rattle.parts.proofs.GoodPieces.{piece_fits}
 use Rattle.parts.proofs.judging.check_piece.Goals as goal
 

@@ -1,8 +1,6 @@
-use Rattle.std.proofs.Common.{rules, ◌≡◌, ◌∙◌, ◌<◌, ℕ, List, [], length, get_or, slice_get, Some, ap, sym, subst, arith}
+use Rattle.std.proofs.Common.{rules, ◌≡◌, ◌<◌, ℕ, arith}
 use Rattle.std.proofs.lemmas.Option.{slice_get-get_or}
-use Rattle.pieces.specs.Pieces.{pieces_of}
-use Rattle.opening.specs.Seen.{file_entry, tree_entry}
-use Rattle.opening.specs.declared.torrent.TreeInfo.{TreeInfo}
+use Rattle.opening.specs.Seen.{file_entry}
 use Rattle.folders.proofs.Places.{tree_inside, tree_there, pieces_are_positive}
 use Rattle.folders.proofs.Reports.{has_tree}
 use Rattle.parts.proofs.GoodPieces.{by_node, by_root, in_layer, lifted_read, piece_fits}

@@ -1,4 +1,4 @@
-use Rattle.std.proofs.Common.{◌≡◌, ◌∙◌, ◌-◌, ◌*◌, ℕ, min, ◌++◌, [], length, replicate, Some, ap, sym, arith}
+use Rattle.std.proofs.Common.{◌≡◌, ◌∙◌, ◌-◌, ◌*◌, min, ◌++◌, [], length, replicate, Some, ap, sym, arith}
 use Rattle.std.proofs.lemmas.Option.{none-some, slice_get-get_or, slice_get_past}
 use Rattle.sha1.specs.Sha1.{sha1}
 use Rattle.opening.specs.Seen.{version1}

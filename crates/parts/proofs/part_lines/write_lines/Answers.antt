@@ -1,6 +1,5 @@
-use Rattle.std.proofs.Common.{◌<◌, length, refl, arith}
+use Rattle.std.proofs.Common.{refl, arith}
 use Rattle.std.proofs.lemmas.Result.{err_from_is_err_and}
-use Rattle.opening.specs.Seen.{file_entry}
 use Rattle.folders.proofs.Places.{file_there}
 use Rattle.printing.proofs.Parts.{sent_fault, sent_next}
 use Rattle.parts.proofs.PlaceTests.{next_line}

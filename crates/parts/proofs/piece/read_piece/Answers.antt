@@ -1,4 +1,4 @@
-use Rattle.std.proofs.Common.{◌≡◌, ◌+◌, ◌-◌, ◌<◌, ◌++◌, length, take, drop, ◌∙◌, arith, subst}
+use Rattle.std.proofs.Common.{◌≡◌, ◌++◌, take, drop, ◌∙◌, arith, subst}
 use Rattle.std.proofs.lemmas.List.{length-append, length-drop, length-take-le, take-append-le}
 use Rattle.wire.proofs.Giving.{Gave-trans}
 use Rattle.parts.specs.OnePiece.{IsGiven}

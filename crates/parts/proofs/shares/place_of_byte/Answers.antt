@@ -1,4 +1,4 @@
-use Rattle.std.proofs.Common.{◌≡◌, ◌≤◌, ◌/◌, ◌+◌, ℕ, ◌∙◌, ap, sym, arith}
+use Rattle.std.proofs.Common.{◌≤◌, ◌/◌, ◌+◌, ◌∙◌, ap, sym, arith}
 use Rattle.std.proofs.Math.Nat.{div-le_self}
 use Rattle.opening.specs.Seen.{file_entry}
 use Rattle.folders.proofs.Places.{file_there, start_fits}

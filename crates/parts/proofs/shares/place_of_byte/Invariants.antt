@@ -1,4 +1,4 @@
-use Rattle.std.proofs.Common.{◌≡◌, ◌≤◌, drop}
+use Rattle.std.proofs.Common.{◌≡◌, drop}
 use Rattle.parts.specs.Parts.{place_count}
 use Rattle.parts.specs.Shares.{place_in}
 use Rattle.parts.proofs.shares.place_of_byte.Given as goal

@@ -1,10 +1,9 @@
-use Rattle.std.proofs.Common.{◌≡◌, ◌∙◌, ◌+◌, ◌-◌, ℕ, max, refl, ap, arith}
+use Rattle.std.proofs.Common.{◌≡◌, ◌+◌, ◌-◌, ℕ, max, ap, arith}
 use Rattle.std.proofs.lemmas.List.Sums.{sum_by-take-le}
 use Rattle.opening.specs.Description.{FileEntry}
 use Rattle.opening.specs.Seen.{file_entry}
 use Rattle.pieces.specs.Pieces.{pieces_of}
 use Rattle.folders.proofs.Places.{pieces_next}
-use Rattle.parts.specs.Parts.{last_place}
 use Rattle.parts.proofs.HeldPieces.{begins_after, ends_before, first_touches, last_held}
 use Rattle.parts.proofs.span.span_of.Goals as goal
 use Rattle.parts.proofs.span.span_of.Goals.{then-last-first-via-then-last-first, then-last-first-via-else-last-first+then-places-first}
