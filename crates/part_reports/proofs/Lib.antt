@@ -1,3 +1,5 @@
 -- Lemmas on the reports of parts.
+pub mod Fronts
+pub mod Lined
+pub mod ReadLines
 pub mod Reports
-pub mod Taken

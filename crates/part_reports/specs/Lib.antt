@@ -1,4 +1,5 @@
 -- What is read of the reports of parts, and joined.
 pub mod Joined
 pub mod Numbers
-pub mod Taken
+pub mod Reported
+pub mod Scan

@@ -7,7 +7,8 @@ ghost use Rattle.parts.specs.PartLines.{part_text};
 
 use crate::join_fault::JoinFault;
 use crate::numbers::Numbers;
-use crate::reading::{ReportFault, read_part};
+use crate::reading::read_part;
+use crate::report_fault::ReportFault;
 use folders::{FileVerdict, Report, V1Verdict};
 use opening::Torrent;
 use parts::join;

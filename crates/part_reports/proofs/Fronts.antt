@@ -1,0 +1,55 @@
+-- Numbers and lines at the front of a text.
+use Rattle.std.proofs.Common.{◌≡◌, ℕ, ◌-◌, ◌<◌, ◌^◌, true, false, Bool, ◌&&◌, List, [], ◌∷◌, ◌++◌, length, take, drop, decimal, refl, sym, ap, subst, ◌∙◌, append_assoc, arith}
+use Rattle.std.specs.Char.{digit_value, is_ascii_digit}
+use Rattle.std.specs.List.{list_all, prefix_len}
+use Rattle.std.specs.Str.{IsUtf8}
+use Rattle.std.specs.Str.Parse.{AllDigits}
+use Rattle.std.proofs.lemmas.Bool.Decides.{nat_tests}
+use Rattle.std.proofs.lemmas.Fmt.{IsAscii-decimal, decimal_is_IsNumeral}
+use Rattle.std.proofs.lemmas.Str.{IsUtf8-from_ascii}
+use Rattle.std.proofs.lemmas.List.{drop_at, length-drop, take_all, take_at}
+use Rattle.part_reports.specs.Scan.{IsLine, is_in_line, line_feed}
+
+pub both_true : (a b : Bool) → (a && b) ≡ true → (a ≡ true) × (b ≡ true)
+both_true true b is = (refl, is)
+both_true false b is = (let x : ⊥ = cc in absurd x)
+
+-- a run of bytes that pass a test stands before one that does not
+pub front_len : (p : ℕ → Bool) (run : List ℕ) (c : ℕ) (rest : List ℕ) → list_all p run ≡ true → p c ≡ false → prefix_len p (run ++ c ∷ rest) ≡ length run
+front_len p [] c rest all stops = rw stops refl
+front_len p (d ∷ run) c rest all stops =
+    let both = both_true (p d) (list_all p run) all in
+    rw (both.0, front_len p run c rest both.1 stops) (omega arith)
+
+digit_test : (c : ℕ) → digit_value c < 10 → is_ascii_digit c ≡ true
+digit_test c h = grind (arith, nat_tests, h)
+
+all_digits : (run : List ℕ) → AllDigits 10 run → list_all is_ascii_digit run ≡ true
+all_digits [] all = refl
+all_digits (c ∷ cs) all = rw (digit_test c all.0, all_digits cs all.1) refl
+
+pub decimal_digits : (n : ℕ) → n < 2 ^ 64 → list_all is_ascii_digit (decimal n) ≡ true
+decimal_digits n small = all_digits (decimal n) (decimal_is_IsNumeral n small).0.1
+
+-- the digits of a number stand before a byte that is none
+pub decimal_len : (n c : ℕ) (rest : List ℕ) → n < 2 ^ 64 → is_ascii_digit c ≡ false → prefix_len is_ascii_digit (decimal n ++ c ∷ rest) ≡ length (decimal n)
+decimal_len n c rest small stops = front_len is_ascii_digit (decimal n) c rest (decimal_digits n small) stops
+
+pub decimal_utf8 : (n : ℕ) (digits : List ℕ) → n < 2 ^ 64 → digits ≡ decimal n → IsUtf8 digits
+decimal_utf8 n digits small is = subst IsUtf8 (sym is) (IsUtf8-from_ascii (decimal n) (IsAscii-decimal n small))
+
+-- what stands behind a line
+pub behind_line : (text line more : List ℕ) (k : ℕ) → IsLine line → text ≡ line ++ more → k ≡ prefix_len is_in_line text
+    → take (length text - k) (drop k text) ≡ line_feed ∷ more
+behind_line text line more k l is length_is =
+    let whole : text ≡ l.bytes ++ line_feed ∷ more = is ∙ ap (λ x. x ++ more) l.is ∙ append_assoc l.bytes (line_feed ∷ []) more in
+    let len : k ≡ length l.bytes = length_is ∙ ap (prefix_len is_in_line) whole ∙ front_len is_in_line l.bytes line_feed more l.inside refl in
+    take_all (length text - k) (drop k text) (omega (arith, length-drop k text))
+    ∙ ap (drop k) whole ∙ drop_at l.bytes (line_feed ∷ more) k (sym len)
+
+-- the digits of a number, cut off in front of a byte that is none
+pub front_digits : (text : List ℕ) (n c k : ℕ) (more : List ℕ) → n < 2 ^ 64 → is_ascii_digit c ≡ false → text ≡ decimal n ++ c ∷ more
+    → k ≡ prefix_len is_ascii_digit text → (take k text ≡ decimal n) × (drop k text ≡ c ∷ more)
+front_digits text n c k more small stops is length_is =
+    let len : k ≡ length (decimal n) = length_is ∙ ap (prefix_len is_ascii_digit) is ∙ decimal_len n c more small stops in
+    (ap (take k) is ∙ take_at (decimal n) (c ∷ more) k (sym len), ap (drop k) is ∙ drop_at (decimal n) (c ∷ more) k (sym len))
