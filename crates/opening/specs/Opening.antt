@@ -22,7 +22,7 @@ abbrev pub content_rows : ℕ → Pairs → List ListedFile → List TestRow
 content_rows piece_length layers fs =
     count_rows piece_length fs ++ layer_rows piece_length layers (roots_in fs)
 
--- what the keys tell
+-- what the keys say
 pub record AreKeys (v : Bencode) (k : Keys) : Type 0 where
   pub found : get (codes "info") v ≡ Some (view k.info.now)
   pub info : view k.info.now ≡ info_in v

@@ -1,5 +1,5 @@
 -- The tests of a torrent file in their order, each with its answer, and the first that holds. BEP
--- 52 wants the version told before other faults of the info dictionary.
+-- 52 wants the version reported before other faults of the info dictionary.
 use Rattle.std.specs.Prelude.{◌≡◌, ◌≢◌, ℕ, ◌^◌, ◌<◌, ◌≤◌, ◌⊎◌, pos, negsuc, true, List, [], ◌∷◌, ◌++◌, length, map, Option, Some, None, IsTrue, codes}
 use Rattle.std.specs.List.{list_any}
 use Rattle.std.specs.Str.{IsUtf8}

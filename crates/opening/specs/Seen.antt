@@ -3,7 +3,7 @@ use Rattle.std.specs.Prelude.{ℕ, List, Option, map, option_map}
 use Rattle.opening.specs.Description.{Description, FileEntry, TreeEntry, Version1}
 use Rattle.opening.specs.declared.torrent.File.{File}
 use Rattle.opening.specs.declared.torrent.TreeInfo.{TreeInfo}
-use Rattle.pieces.specs.declared.v1.V1.{V1}
+use Rattle.pieces.specs.declared.v1_feed.V1.{V1}
 
 -- a file of a torrent, without where it lies in memory
 abbrev pub file_entry : File → FileEntry

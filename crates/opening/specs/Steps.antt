@@ -1,4 +1,4 @@
--- What the keys of an info dictionary tell. Public clauses do not name these.
+-- What the keys of an info dictionary say. Public clauses do not name these.
 use Rattle.std.specs.Prelude.{◌≡◌, List, Option, None, Some, codes}
 use Rattle.std.specs.Borrow.{Bor}
 use Rattle.benc.specs.Value.{Bencode, int, text, dict, Pairs, no_pairs}

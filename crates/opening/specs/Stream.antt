@@ -135,7 +135,7 @@ abbrev pub version1_of : ℕ → List Part → Bencode → Version1
 version1_of piece_length ps info =
     record { pieces = unwrap_or (cuts_in piece_length ps info) []; total = stream_length ps }
 
--- what a torrent tells of version 1, if it is a hybrid
+-- what a torrent says of version 1, if it is a hybrid
 abbrev pub version1_in : ℕ → List Part → Bencode → Option Version1
 version1_in piece_length ps info =
     if is_hybrid info then Some (version1_of piece_length ps info) else None

@@ -21,7 +21,7 @@ use std::str;
 // The version of BitTorrent that is opened here, as `meta version` states it.
 const META_VERSION: i64 = 2;
 
-/// What the keys of a torrent file tell.
+/// What the keys of a torrent file say.
 pub(crate) struct Keys<'v, 'a> {
     pub(crate) info: &'v Value<'a>,
     pub(crate) tree: &'v [Pair<'a>],
@@ -114,14 +114,14 @@ fn all_present<'v, 'a>(info: &'v Value<'a>) -> Result<Present<'v, 'a>, Refusal>
     })
 }
 
-// What the info dictionary tells beside the version.
+// What the info dictionary says beside the version.
 struct InfoKeys<'v, 'a> {
     tree: &'v [Pair<'a>],
     name: &'a str,
     piece_length: i64,
 }
 
-// What these values tell, each of which has to be of its kind.
+// What these values say, each of which has to be of its kind.
 fn all_of_kind<'v, 'a>(values: Present<'v, 'a>) -> Result<InfoKeys<'v, 'a>, Refusal>
     ensures { (info : Bencode) → ArePresent info values.entry
         → Passes (kind_rows info) (AreOfKind info) result }

@@ -1,7 +1,6 @@
 //! Opening torrents of version 2 and hybrids (BEP 52, BEP 3, BEP 47).
 #![tactic(auto)]
 
-mod block_run;
 mod digests;
 mod info;
 pub mod laws;

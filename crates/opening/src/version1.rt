@@ -49,7 +49,7 @@ pub(crate) fn version1<'a>(
     Ok(Some(V1 { pieces, total }))
 }
 
-// Tells whether the value is this byte string.
+// Whether the value is this byte string.
 fn is_text(value: &Value<'_>, text: &str) -> bool
     ensures { result ≡ is_text (view value.now) text.now }
 {
@@ -59,14 +59,14 @@ fn is_text(value: &Value<'_>, text: &str) -> bool
     }
 }
 
-// Tells whether the entry is a dictionary with a length.
+// Whether the entry is a dictionary with a length.
 fn is_sized(entry: &Value<'_>) -> bool
     ensures { result ≡ is_sized (view entry.now) }
 {
     matches!(entry, Value::Dict(_)) && length(entry).is_some()
 }
 
-// Tells whether the values are exactly these byte strings.
+// Whether the values are exactly these byte strings.
 fn are_texts(values: &[Value<'_>], texts: &[&str]) -> bool
     ensures { result ≡ are_texts (items_view values.now) (map (λ s. s.now) texts.now) }
 {
@@ -83,7 +83,7 @@ fn are_texts(values: &[Value<'_>], texts: &[&str]) -> bool
     next == texts.len()
 }
 
-// Tells whether the value is a list of exactly these byte strings, at least one.
+// Whether the value is a list of exactly these byte strings, at least one.
 fn is_path_value(value: Option<&Value<'_>>, path: &[&str]) -> bool
     ensures { result
         ≡ is_path_value (map (λ s. s.now) path.now) (option_map (λ v. view v.now) value.entry) }
@@ -94,14 +94,14 @@ fn is_path_value(value: Option<&Value<'_>>, path: &[&str]) -> bool
     }
 }
 
-// Tells whether the entry has the length and the path of the file.
+// Whether the entry has the length and the path of the file.
 fn is_entry_of(entry: &Value<'_>, file: &File<'_>) -> bool
     ensures { result ≡ is_entry_of (view entry.now) (file_entry file.now) }
 {
     length(entry) == Some(file.length) && is_path_value(entry.get(b"path"), &file.path.parts())
 }
 
-// Tells whether the entries are dictionaries with a length, and those that are no pads exactly
+// Whether the entries are dictionaries with a length, and those that are no pads exactly
 // these files in their order.
 fn are_same(entries: &[Value<'_>], files: &[File<'_>]) -> bool
     ensures { result ≡ are_same (items_view entries.now) (map file_entry files.now) }
@@ -139,7 +139,7 @@ fn entry_length(entry: &Value<'_>) -> u64
     length(entry).unwrap_or(0)
 }
 
-// Tells whether the entry is a file that is not empty and begins elsewhere than at a piece of its
+// Whether the entry is a file that is not empty and begins elsewhere than at a piece of its
 // own.
 fn is_misplaced(entry: &Value<'_>, ends: Ends) -> bool
     ensures { result ≡ is_misplaced (view entry.now) ends }
@@ -195,7 +195,7 @@ fn aligned_length(entries: &[Value<'_>], piece_length: PieceLength) -> Option<u6
     u64::try_from(ends.stream).ok()
 }
 
-// Tells whether the path is this name alone.
+// Whether the path is this name alone.
 fn is_named(path: &[&str], name: &str) -> bool
     ensures { result ≡ is_named name.now (map (λ s. s.now) path.now) }
 {

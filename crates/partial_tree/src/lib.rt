@@ -7,7 +7,6 @@ mod answering;
 mod bytes;
 mod growing;
 pub mod laws;
-mod limits;
 mod marking;
 mod message;
 mod nodes;

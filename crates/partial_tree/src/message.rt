@@ -12,4 +12,3 @@ mod row;
 mod storing;
 mod taking;
 mod writing;
-mod writing_rows;

@@ -30,7 +30,6 @@ use crate::answering::answer_hashes;
 use crate::bytes::are_hashes;
 use crate::growing::GrownTree;
 use crate::growing::adopting::{agree, carry_marks};
-use crate::limits::MOST_WANTED;
 use crate::message::checks::check_range;
 use crate::nodes::TreeNodes;
 use crate::refusal::HashRefusal;
@@ -39,6 +38,9 @@ use node_maps::NodeMap;
 use std::alloc::Global;
 use std::marker::Model;
 use wire::Ask;
+
+// How many leaves are asked for at once, if the tree has as many.
+const MOST_WANTED: u64 = 512;
 
 /// A tree, by its root and the length of its files, with its known nodes and marked leaves. It is
 /// *good* if what is known is closed and each marked leaf is known.

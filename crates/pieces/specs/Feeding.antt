@@ -2,7 +2,7 @@
 -- `IsFeedGiven` are defined.
 use Rattle.std.specs.Prelude.{◌≡◌, ◌≢◌, ℕ, ◌+◌, ◌*◌, ◌<◌, ◌≤◌, ◌++◌, List, [], length, drop, slice_get, Option, Some, None}
 use Rattle.sha1.specs.Sha1.{sha1}
-use Rattle.pieces.specs.Cuts.{cut}
+use Rattle.pieces.specs.Cuts.{IsComparison, cut, cut_digests}
 use Rattle.pieces.specs.Cutting.{IsCutting}
 use Rattle.pieces.specs.declared.v1_feed.V1Feed.{V1Feed}
 
@@ -60,3 +60,31 @@ pub record FeedsStream (old : V1Feed) (bytes : List ℕ) (new : V1Feed) : Type 0
   pub content : (pieces : List (List ℕ)) (piece_length : ℕ) (content : List ℕ)
       → IsFeedGiven old pieces piece_length content
       → IsFeedGiven new pieces piece_length (content ++ bytes)
+
+-- this many bytes are those of the content that the feed was given
+abbrev pub CountsContent : V1Feed → ℕ → Type 0
+CountsContent f n = (pieces : List (List ℕ)) (piece_length : ℕ) (content : List ℕ)
+    → IsFeedGiven f pieces piece_length content → n ≡ length content
+
+-- the digests of the cuts of what the feed was given, compared with the pieces
+abbrev pub EndsStream : V1Feed → Option ℕ → Type 0
+EndsStream f found = (pieces : List (List ℕ)) (piece_length : ℕ) (content : List ℕ)
+    → IsFeedGiven f pieces piece_length content
+    → IsComparison (cut_digests piece_length content) pieces found
+
+-- the feed holds what it was given, and its running cut has room
+abbrev pub MakesRoom : V1Feed → V1Feed → Type 0
+MakesRoom old new = (pieces : List (List ℕ)) (piece_length : ℕ) (content : List ℕ)
+    → IsFeedGiven old pieces piece_length content → IsFeedAt new pieces piece_length content
+
+-- the running cut took these bytes, unless a cut was bad
+abbrev pub FillsCut : V1Feed → List ℕ → V1Feed → Type 0
+FillsCut old bytes new = (pieces : List (List ℕ)) (piece_length : ℕ) (content : List ℕ)
+    → IsFeedAt old pieces piece_length content → old.bad ≡ None
+    → IsFeedGiven new pieces piece_length (content ++ bytes)
+
+-- the running cut was compared with its digest, unless a cut was bad
+abbrev pub ComparesCut : V1Feed → V1Feed → Type 0
+ComparesCut old new = (pieces : List (List ℕ)) (piece_length : ℕ) (content : List ℕ)
+    → IsFeedAt old pieces piece_length content → old.bad ≡ None
+    → IsFirstBad piece_length pieces content new.cut new.bad

@@ -38,21 +38,21 @@ impl Cutter {
         }
     }
 
-    /// Tells whether the running cut has its full length.
+    /// Whether the running cut has its full length.
     pub(crate) fn is_full(&self) -> bool
         ensures { IsTrue result ↔ (self.now.filled ≡ self.now.piece_length) }
     {
         self.filled == self.piece_length
     }
 
-    /// Tells whether the running cut holds nothing.
+    /// Whether the running cut holds nothing.
     pub(crate) fn is_empty(&self) -> bool
         ensures { IsTrue result ↔ (self.now.filled ≡ 0) }
     {
         self.filled == 0
     }
 
-    /// Takes the first of these bytes, as many as the running cut has room for, and tells how many.
+    /// Takes the first of these bytes, as many as the running cut has room for: how many.
     pub(crate) fn take(&mut self, bytes: &[u8]) -> usize
         ensures taken { result ≡ min (self.old.piece_length - self.old.filled) (length bytes.now) }
         ensures piece_length { self.new.piece_length ≡ self.old.piece_length }

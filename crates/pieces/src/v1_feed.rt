@@ -1,10 +1,18 @@
-//! The version 1 stream of a hybrid, compared with its digests as its bytes come (BEP 3, "pieces").
-
+//! What a hybrid states of its version 1 stream, and the stream compared with that as its bytes
+//! come (BEP 3, "pieces"; BEP 52, "Upgrade Path").
 ghost use Rattle.std.specs.Prelude.{◌≡◌, ℕ, ◌+◌, ◌-◌, ◌*◌, ◌<◌, ◌≤◌, ◌++◌, [], List, length, take, replicate, slice_get, Some, None, is_some, true, IsTrue, ◌↔◌};
-ghost use Rattle.pieces.specs.Cuts.{IsComparison, IsNext, cut_digests};
+ghost use Rattle.pieces.specs.Cuts.{IsNext};
 
 use crate::cutter::{Cutter, ZEROS};
-use crate::v1::V1;
+
+/// The version 1 part of a hybrid.
+#[derive(Clone, Copy, Debug, PartialEq)]
+pub struct V1<'a> {
+    /// The SHA-1 digests of the stream's cuts.
+    pub pieces: &'a [[u8; 20]],
+    /// The length of the stream in bytes.
+    pub total: u64,
+}
 
 /// Compares the version 1 stream with the digests of its pieces, while the stream comes part by
 /// part. After the first bad cut it digests nothing more.
@@ -25,7 +33,7 @@ pub struct V1Feed<'a> {
 
 impl<'a> V1Feed<'a> {
     ghost use Rattle.pieces.specs.Cutting.{IsCutting};
-    ghost use Rattle.pieces.specs.Feeding.{BeginsStream, FeedsStream, IsFeedAt, IsFeedGiven, IsFirstBad, bytes_given, total};
+    ghost use Rattle.pieces.specs.Feeding.{BeginsStream, ComparesCut, CountsContent, EndsStream, FeedsStream, FillsCut, MakesRoom, bytes_given, total};
 
     /// A feed that was given nothing, for a stream of the length that the hybrid states. Condition:
     /// the piece length is above 0.
@@ -55,8 +63,7 @@ impl<'a> V1Feed<'a> {
     pub fn given(&self) -> u64
         ensures value { result ≡ bytes_given self.now }
         ensures bound { result ≤ total self.now }
-        ensures content { (pieces : List (List ℕ)) (piece_length : ℕ) (content : List ℕ)
-            → IsFeedGiven self.now pieces piece_length content → result ≡ length content }
+        ensures content { CountsContent self.now result }
     {
         self.given
     }
@@ -93,9 +100,7 @@ impl<'a> V1Feed<'a> {
     /// The first cut whose SHA-1 digest is not the one in `pieces`, or `None` if the digests of the
     /// cuts are `pieces`.
     pub fn finish(mut self) -> Option<u64>
-        ensures { (pieces : List (List ℕ)) (piece_length : ℕ) (content : List ℕ)
-            → IsFeedGiven self.entry pieces piece_length content
-            → IsComparison (cut_digests piece_length content) pieces result }
+        ensures { EndsStream self.entry result }
     {
         if !self.cutter.is_empty() {
             self.close_cut();
@@ -127,9 +132,7 @@ impl<'a> V1Feed<'a> {
         ensures total { total self.new ≡ total self.old }
         ensures given { bytes_given self.new ≡ bytes_given self.old }
         ensures open { self.new.cutter.filled < self.new.cutter.piece_length }
-        ensures content { (pieces : List (List ℕ)) (piece_length : ℕ) (content : List ℕ)
-            → IsFeedGiven self.old pieces piece_length content
-            → IsFeedAt self.new pieces piece_length content }
+        ensures content { MakesRoom self.old self.new }
     {
         if self.cutter.is_full() {
             self.close_cut();
@@ -145,9 +148,7 @@ impl<'a> V1Feed<'a> {
         ensures bound { result ≤ length bytes.now }
         ensures total { total self.new ≡ total self.old }
         ensures given { bytes_given self.new ≡ bytes_given self.old + result }
-        ensures content { (pieces : List (List ℕ)) (piece_length : ℕ) (content : List ℕ)
-            → IsFeedAt self.old pieces piece_length content → self.old.bad ≡ None
-            → IsFeedGiven self.new pieces piece_length (content ++ take result bytes.now) }
+        ensures content { FillsCut self.old (take result bytes.now) self.new }
     {
         let taken = self.cutter.take(bytes);
         self.given += taken as u64;
@@ -173,9 +174,7 @@ impl<'a> V1Feed<'a> {
         ensures empty { self.new.cutter.filled ≡ 0 }
         ensures running { IsCutting self.new.cutter [] }
         ensures pieces { self.new.pieces ≡ self.old.pieces }
-        ensures bad { (pieces : List (List ℕ)) (piece_length : ℕ) (content : List ℕ)
-            → IsFeedAt self.old pieces piece_length content → self.old.bad ≡ None
-            → IsFirstBad piece_length pieces content self.new.cut self.new.bad }
+        ensures bad { ComparesCut self.old self.new }
     {
         let digest = self.cutter.close();
         self.bad = first_bad(self.bad, self.pieces, self.cut, &digest);
@@ -193,7 +192,7 @@ fn first_bad(bad: Option<u64>, pieces: &[[u8; 20]], cut: u64, digest: &[u8; 20])
     bad
 }
 
-// Tells whether this is the digest that is listed for the cut.
+// Whether this is the digest that is listed for the cut.
 fn is_listed(pieces: &[[u8; 20]], cut: u64, digest: &[u8; 20]) -> bool
     ensures { IsTrue result ↔ (slice_get pieces.now cut ≡ Some digest.now) }
 {

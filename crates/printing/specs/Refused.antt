@@ -6,8 +6,8 @@ use Rattle.filetree.specs.declared.refusal.Refusal.TheVariants as refusals
 use Rattle.filetree.specs.Names.{key_text, refusal_name, refusal_number}
 use Rattle.printing.specs.Text.{path_text}
 
--- what is told beside the name: of bytes that spell no value the first fault and its offset, of a
--- key the key
+-- what is printed beside the name: of bytes that spell no value the first fault and its offset, of
+-- a key the key
 abbrev pub detail_text : Refusal → List ℕ
 detail_text (refusals.NotBencode fault) =
     codes " " ++ (kind_name fault.kind ++ (codes " " ++ decimal fault.offset))

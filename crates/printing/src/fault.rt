@@ -1,4 +1,4 @@
-//! Why a command could not do what it was asked for, and the line that tells it.
+//! Why a command could not do what it was asked for, and the line that says so.
 ghost use Rattle.std.specs.Prelude.{◌≡◌, ◌++◌, OnOk, map, true};
 ghost use Rattle.std.specs.String.{string_bytes};
 ghost use Rattle.benc.specs.Device.{Wrote, WroteAndFlushed};

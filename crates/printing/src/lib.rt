@@ -3,13 +3,11 @@
 #![tactic(auto)]
 
 mod fault;
-mod line;
 mod refused;
 mod showing;
 mod text;
 
 pub use fault::{Fault, fault_line};
-pub use line::Line;
 pub use refused::refusal_line;
 pub use showing::show;
-pub use text::{flush_after, write_escaped, write_line, write_path};
+pub use text::{Line, flush_after, write_escaped, write_line, write_path};

@@ -3,7 +3,7 @@ ghost use Rattle.std.specs.Prelude.{◌≡◌, ◌≢◌, ◌+◌, ◌++◌, ◌
 ghost use Rattle.benc.specs.Device.{Wrote, WroteAndFlushed};
 ghost use Rattle.printing.specs.Refused.{detail_text, path_part, refusal_head, refusal_text};
 
-use crate::line::Line;
+use crate::text::Line;
 use crate::text::{flush_after, write_path};
 use benc::{DeviceFault, Sink, WriteFault, write_all};
 use filetree::Refusal;
@@ -26,7 +26,7 @@ fn write_refusal<W: Sink>(r: &Refusal, path: &[String], out: &mut W) -> Result<(
     ensures { Wrote (W.seen out.old) (W.seen out.new) result
         (refusal_text r.now (map string_bytes path.now)) }
 {
-    write_all(out, told(r).as_slice())?;
+    write_all(out, reason(r).as_slice())?;
     write_path_part(path, out)?;
     write_all(out, b"\n")
 }
@@ -43,8 +43,8 @@ fn write_path_part<W: Sink>(path: &[String], out: &mut W) -> Result<(), DeviceFa
     write_path(out, path)
 }
 
-// What is told of the refusal itself.
-fn told(r: &Refusal) -> Line
+// The refusal itself: its number, its name, and what is printed beside the name.
+fn reason(r: &Refusal) -> Line
     ensures { result ≡ refusal_head r.now ++ detail_text r.now }
 {
     let mut line = head(r);

@@ -6,12 +6,14 @@ ghost use Rattle.partial_tree.specs.declared.refusal.HashRefusal.TheVariants.{Ba
 ghost use Rattle.hashtree.specs.Tree.{zero_hash};
 ghost use Rattle.partial_tree.specs.Claims.{most_span, sibling, top_layer, GoodRange, GoodCount};
 
-use crate::limits::MOST_SPAN;
 use crate::message::evidence::sibling;
 use crate::message::pads::Pads;
 use crate::refusal::HashRefusal;
 use hashtree::Hash;
 use wire::Ask;
+
+// A base range is two to at most this power places long.
+const MOST_SPAN: u32 = 13;
 
 /// The span of a base range that lies in a tree of this height, at a multiple of its length.
 pub(crate) fn check_range(height: u32, ask: &Ask) -> Result<u32, HashRefusal>

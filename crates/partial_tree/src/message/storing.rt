@@ -10,7 +10,6 @@ ghost use Rattle.partial_tree.specs.Claims.{IsAgreed};
 ghost use Rattle.partial_tree.specs.Joins.{Joins};
 ghost use Rattle.partial_tree.specs.Evidence.{claimed_by, claimed_pages, LeadsTo, IsInside, AreClaims, AllHandled, StoreFault};
 
-use crate::limits::{MAX_HEIGHT, MOST_ASKED};
 use crate::message::comparing::trace;
 use crate::message::evidence::Evidence;
 use crate::message::found::Found;
@@ -19,6 +18,12 @@ use crate::refusal::HashRefusal;
 use hashtree::NoMemory;
 use node_maps::NodeMap;
 use std::alloc::Global;
+
+// The longest base range has so many places.
+const MOST_ASKED: usize = 8192;
+
+// The height of the highest tree.
+const MAX_HEIGHT: usize = 32;
 
 // How many claims are listed at most: those of the longest message. They take less than a
 // mebibyte.

@@ -8,7 +8,7 @@ use Rattle.partial_tree.specs.FoldedRows.{IsClaimedRow, place_in}
 use Rattle.partial_tree.proofs.Tracing.{given_claimed}
 use Rattle.partial_tree.proofs.FoldedRows.{base-row, joined-row, joined-rows, left-claimed_row, right-claimed_row}
 use Rattle.partial_tree.proofs.WrittenRows.{IsRowBegun, base-few, base-written, row-done, row-next, rows-written}
-use Rattle.partial_tree.proofs.message.writing_rows.+write_rows.Goals as goal
+use Rattle.partial_tree.proofs.message.writing.+write_rows.Goals as goal
 
 pub write_below_row-base_row-requires-clause-given : goal.write_below_row-base_row-requires-clause-given
 write_below_row-base_row-requires-clause-given g t c =

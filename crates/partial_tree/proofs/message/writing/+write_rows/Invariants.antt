@@ -5,7 +5,7 @@ use Rattle.node_maps.specs.Nodes.{KeepsMarks}
 use Rattle.node_maps.specs.Room.{KeepsRoom}
 use Rattle.partial_tree.specs.Evidence.{claimed_by}
 use Rattle.partial_tree.proofs.WrittenRows.{IsRowBegun}
-use Rattle.partial_tree.proofs.message.writing_rows.+write_rows.Given as goal
+use Rattle.partial_tree.proofs.message.writing.+write_rows.Given as goal
 
 abbrev pub decreases-write_below_row : goal.decreases-write_below_row
 decreases-write_below_row g l = 2 * l.row.layer

@@ -3,10 +3,10 @@ use Rattle.std.specs.Prelude.{Some}
 use Rattle.std.specs.Int.{div_ceil}
 use Rattle.opening.specs.Blocks.{IsBlockRun}
 use Rattle.opening.proofs.Blocks.{cut_is_run, run_is_cut, one_block_run, at_most_seventeen}
-use Rattle.opening.proofs.block_run.run_in.Goals as goal
-use Rattle.opening.proofs.block_run.run_in.Goals.{then-size-eq0-via-then-size-eq0, then-size-eq0-via-else-size-eq0+then-size-left}
-use Rattle.opening.proofs.block_run.run_in.Goals.{then-size-eq0-via-else-size-eq0+else-size-left+then-size-gt-MOST_BYTES}
-use Rattle.opening.proofs.block_run.run_in.Goals.{else-size-ne0-via-then-size-ne0+else-size-left-2, else-size-ne0-via-else-size-ne0}
+use Rattle.opening.proofs.place.run_in.Goals as goal
+use Rattle.opening.proofs.place.run_in.Goals.{then-size-eq0-via-then-size-eq0, then-size-eq0-via-else-size-eq0+then-size-left}
+use Rattle.opening.proofs.place.run_in.Goals.{then-size-eq0-via-else-size-eq0+else-size-left+then-size-gt-MOST_BYTES}
+use Rattle.opening.proofs.place.run_in.Goals.{else-size-ne0-via-then-size-ne0+else-size-left-2, else-size-ne0-via-else-size-ne0}
 
 pub returns-then-size-eq0-clause-only : goal.returns-then-size-eq0-clause-only
 returns-then-size-eq0-clause-only c = λ k run.
