@@ -1,16 +1,16 @@
 -- The reasons of the faults of a join.
-use Rattle.std.proofs.Common.{◌≡◌, ◌≢◌, ℕ, suc, ◌+◌, ◌-◌, ◌<◌, ◌^◌, Bool, true, false, ◌||◌, nat_eq, List, [], ◌∷◌, ◌++◌, length, get_or, slice_get, Option, Some, inl, inr, refl, sym, ap, subst, ◌∙◌, arith}
+use Rattle.std.proofs.Common.{◌≡◌, ◌≢◌, ℕ, suc, ◌+◌, ◌-◌, ◌<◌, ◌^◌, Bool, true, false, ◌||◌, nat_eq, List, [], ◌∷◌, ◌++◌, length, slice_get, Some, inl, inr, refl, sym, ap, subst, ◌∙◌, arith}
 use Rattle.std.specs.List.{list_any}
 use Rattle.std.proofs.lemmas.Bool.Decides.{nat_tests}
-use Rattle.std.proofs.lemmas.Option.{same_Some, slice_get-get_or, slice_get_within}
+use Rattle.std.proofs.lemmas.Option.{same_Some, slice_get_within}
 use Rattle.chains.proofs.Cases.{item_at}
 use Rattle.hex.specs.Hex.{encode_lower}
 use Rattle.opening.proofs.SoundTrees.{push_at}
 use Rattle.opening.specs.Description.{Description}
 use Rattle.parts.specs.PartLines.{end_lines, lines_text}
 use Rattle.parts.specs.Shares.{share}
-use Rattle.part_reports.specs.Heads.{HasHead, HasNoHead, HasOnlyHead}
-use Rattle.part_reports.specs.Reasons.{AreAllReports, AreNamed, AreTwo, HasHeadReason, HasReadReason, HasReason, IsMissing, IsNoReport, IsReport}
+use Rattle.part_reports.specs.Heads.{HasHead, HasOnlyHead}
+use Rattle.part_reports.specs.Reasons.{AreAllReports, AreNamed, AreTwo, HasHeadReason, HasReadReason, HasReason, IsMissing, IsReport}
 use Rattle.part_reports.specs.declared.join_fault.JoinFault.{JoinFault}
 use Rattle.part_reports.specs.declared.join_fault.JoinFault.TheVariants as fault
 use Rattle.part_reports.proofs.Lined.{hex_inside}
