@@ -1,6 +1,7 @@
 -- Numbers and lines at the front of a text.
-use Rattle.std.proofs.Common.{◌≡◌, ℕ, ◌-◌, ◌<◌, ◌^◌, true, false, Bool, ◌&&◌, List, [], ◌∷◌, ◌++◌, length, take, drop, decimal, refl, sym, ap, subst, ◌∙◌, append_assoc, arith}
+use Rattle.std.proofs.Common.{◌≡◌, ℕ, ◌-◌, ◌<◌, ◌^◌, true, false, Bool, ◌&&◌, List, [], ◌∷◌, ◌++◌, length, nat_eq, take, drop, decimal, refl, sym, ap, subst, ◌∙◌, append_assoc, arith}
 use Rattle.std.specs.Char.{digit_value, is_ascii_digit}
+use Rattle.std.specs.Cmp.Lexicographic.{other_text, pointwise}
 use Rattle.std.specs.List.{list_all, prefix_len}
 use Rattle.std.specs.Str.{IsUtf8}
 use Rattle.std.specs.Str.Parse.{AllDigits}
@@ -46,6 +47,20 @@ behind_line text line more k l is length_is =
     let len : k ≡ length l.bytes = length_is ∙ ap (prefix_len is_in_line) whole ∙ front_len is_in_line l.bytes line_feed more l.inside refl in
     take_all (length text - k) (drop k text) (omega (arith, length-drop k text))
     ∙ ap (drop k) whole ∙ drop_at l.bytes (line_feed ∷ more) k (sym len)
+
+pub line_front : (text line more : List ℕ) (k : ℕ) → list_all is_in_line line ≡ true → text ≡ line ++ line_feed ∷ more → k ≡ prefix_len is_in_line text
+    → take k text ≡ line
+line_front text line more k inside is length_is =
+    let len : k ≡ length line = length_is ∙ ap (prefix_len is_in_line) is ∙ front_len is_in_line line line_feed more inside refl in
+    ap (take k) is ∙ take_at line (line_feed ∷ more) k (sym len)
+
+-- a text that begins so, by a test of its front
+pub front_same : (front text more : List ℕ) → text ≡ front ++ more → false ≡ pointwise nat_eq (take (length front) text) front → ⊥
+front_same front text more is differs =
+    other_text (take (length front) text) front differs (ap (take (length front)) is ∙ take_at front more (length front) refl)
+
+pub front_off : (front text more : List ℕ) → text ≡ front ++ more → drop (length front) text ≡ more
+front_off front text more is = ap (drop (length front)) is ∙ drop_at front more (length front) refl
 
 -- the digits of a number, cut off in front of a byte that is none
 pub front_digits : (text : List ℕ) (n c k : ℕ) (more : List ℕ) → n < 2 ^ 64 → is_ascii_digit c ≡ false → text ≡ decimal n ++ c ∷ more

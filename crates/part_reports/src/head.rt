@@ -1,6 +1,13 @@
 //! The first line of a report.
+ghost use Rattle.std.specs.Prelude.{◌≡◌, ℕ, ◌<◌, ◌^◌, List, ◌∷◌, ◌++◌, decimal, option_map, MatchOption, Some, false, true};
+ghost use Rattle.std.specs.Char.{is_ascii_digit};
+ghost use Rattle.std.specs.List.{list_all};
+ghost use Rattle.hex.specs.Hex.{encode_lower};
+ghost use Rattle.part_reports.specs.Heads.{HasHead, HasNoHead, HasOnlyHead};
+ghost use Rattle.part_reports.specs.Scan.{is_in_line, line_feed};
+
+use crate::scan::{first_line, split_number};
 use opening::Torrent;
-use std::str;
 
 /// What the first line of a report says.
 #[derive(Clone, Copy, Drop)]
@@ -10,24 +17,37 @@ pub(crate) struct Head<'a> {
     /// How many parts there are.
     pub(crate) count: u64,
     /// The version 2 info-hash of the torrent, in hexadecimal.
-    pub(crate) hash: &'a str,
+    pub(crate) hash: &'a [u8],
 }
 
 /// What the first line of a text says, if it has the form of a report's first line.
-pub(crate) fn read_head(text: &[u8]) -> Option<Head<'_>> {
-    let line = str::from_utf8(text).ok()?.lines().next()?;
-    let (place, hash) = line.strip_prefix("part ")?.split_once(' ')?;
-    let (number, count) = place.split_once('/')?;
+pub(crate) fn read_head(text: &[u8]) -> Option<Head<'_>>
+    ensures { MatchOption result (HasNoHead text.now)
+        (λ h. HasOnlyHead text.now h.part h.count h.hash.now) }
+{
+    let (number, place) = number_behind(b"part ", text)?;
+    let (count, end) = number_behind(b"/", place)?;
     Some(Head {
-        part: number.parse::<u64>().ok()?.checked_sub(1)?,
-        count: count.parse::<u64>().ok()?,
-        hash,
+        part: number.checked_sub(1)?,
+        count,
+        hash: first_line(end.strip_prefix(b" ")?),
     })
 }
 
 /// The version 2 info-hash of a torrent, in hexadecimal.
-pub(crate) fn hash_text(torrent: &Torrent<'_>) -> [u8; 64] {
+pub(crate) fn hash_text(torrent: &Torrent<'_>) -> [u8; 64]
+    ensures { result ≡ encode_lower torrent.now.info_hash_v2 }
+{
     let mut text = [0u8; 64];
     let _ = hex::encode_to_slice(&torrent.info_hash_v2(), &mut text);
     text
+}
+
+// The number behind these bytes at the front, and what follows it.
+fn number_behind<'a>(front: &[u8], text: &'a [u8]) -> Option<(u64, &'a [u8])>
+    ensures { (n c : ℕ) (more : List ℕ) → n < 2 ^ 64 → is_ascii_digit c ≡ false
+        → text.now ≡ front.now ++ (decimal n ++ c ∷ more)
+        → option_map {U = ℕ × List ℕ} (λ x. (x.0, x.1.now)) result ≡ Some (n, c ∷ more) }
+{
+    split_number(text.strip_prefix(front)?)
 }

@@ -1,8 +1,9 @@
 //! The join of the reports of all parts.
-ghost use Rattle.std.specs.Prelude.{◌≡◌, ◌<◌, length, map, replicate, is_some, IfOk, Some};
+ghost use Rattle.std.specs.Prelude.{◌≡◌, ◌<◌, length, map, replicate, is_some, IfErr, IfOk, Some};
 ghost use Rattle.folders.specs.declared.report.V1Verdict.{V1Verdict as OfV1};
 ghost use Rattle.part_reports.specs.Joined.{AreJoined};
 ghost use Rattle.part_reports.specs.Numbers.{text_count};
+ghost use Rattle.part_reports.specs.Reasons.{AreNamed, HasReadReason, HasReason};
 ghost use Rattle.parts.specs.PartLines.{part_text};
 
 use crate::join_fault::JoinFault;
@@ -18,13 +19,20 @@ use std::alloc::{AllocError, Global};
 /// Joins the reports of all parts of a check of this torrent, which come in any order: each verdict
 /// is the worst of what the parts say. The first lines are read first, in the order of the reports,
 /// and then the reports, in that of their parts: the first fault is answered.
+///
+/// # Errors
+///
+/// Each fault comes only for what it says, so that the reports of all parts, each once, are joined
+/// (`laws::all_reports_are_joined`). `NoMemory`: memory was refused for the numbers of the parts,
+/// for a report or for its text.
 pub fn join_reports(
     alloc: Global,
     torrent: &Torrent<'_>,
     texts: &[&[u8]],
 ) -> Result<Report, JoinFault>
-    ensures { IfOk result (λ r.
+    ensures joined { IfOk result (λ r.
         AreJoined torrent.now (map (λ x. x.now) texts.now) r.files.items r.v1) }
+    ensures reason { IfErr result (HasReason torrent.now (map (λ x. x.now) texts.now)) }
 {
     let numbers = Numbers::of(alloc, torrent, texts)?;
     if numbers.count == 0 {
@@ -42,8 +50,11 @@ fn join_parts(
 ) -> Result<Report, JoinFault>
     requires some { 0 < numbers.now.count }
     requires texts { text_count numbers.now ≡ length texts.now }
-    ensures { IfOk result (λ r.
+    requires named { AreNamed torrent.now (map (λ x. x.now) texts.now) numbers.now.parts.items
+        numbers.now.count }
+    ensures joined { IfOk result (λ r.
         AreJoined torrent.now (map (λ x. x.now) texts.now) r.files.items r.v1) }
+    ensures reason { IfErr result (HasReason torrent.now (map (λ x. x.now) texts.now)) }
 {
     worse_joins();
     shares_have_all_places();
@@ -72,6 +83,7 @@ fn read_at(
     ensures hybrid { IfOk result (λ r. is_some r.v1 ≡ is_some torrent.now.v1) }
     ensures text { IfOk result (λ r.
         text.now ≡ part_text torrent.now part parts r.files.items r.v1) }
+    ensures reason { IfErr result (HasReadReason torrent.now part parts place text.now) }
 {
     match read_part(alloc, torrent, part, parts, text) {
         Ok(report) => Ok(report),

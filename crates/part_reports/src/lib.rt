@@ -4,6 +4,7 @@
 mod head;
 mod join_fault;
 mod joining;
+pub mod laws;
 mod numbers;
 mod printed;
 mod reading;

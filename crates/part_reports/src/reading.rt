@@ -24,8 +24,8 @@ use std::alloc::{AllocError, Global};
 ///
 /// # Errors
 ///
-/// `NoReport`: no verdicts of a part are printed so. `NoMemory`: memory was refused for the report
-/// or for its text.
+/// `NoReport`: it is not what this part prints of verdicts that it can report. `NoMemory`: memory
+/// was refused for the report or for its text.
 pub fn read_part(
     alloc: Global,
     torrent: &Torrent<'_>,

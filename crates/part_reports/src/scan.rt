@@ -1,8 +1,8 @@
 //! Numbers and lines at the front of a text.
-ghost use Rattle.std.specs.Prelude.{◌≡◌, ℕ, ◌<◌, ◌≤◌, ◌^◌, List, ◌∷◌, ◌++◌, length, decimal, option_map, Some, false};
+ghost use Rattle.std.specs.Prelude.{◌≡◌, ℕ, ◌<◌, ◌≤◌, ◌^◌, List, ◌∷◌, ◌++◌, length, decimal, option_map, Some, false, true};
 ghost use Rattle.std.specs.Char.{is_ascii_digit};
-ghost use Rattle.std.specs.List.{prefix_len};
-ghost use Rattle.part_reports.specs.Scan.{IsLine, is_in_line};
+ghost use Rattle.std.specs.List.{list_all, prefix_len};
+ghost use Rattle.part_reports.specs.Scan.{IsLine, is_in_line, line_feed};
 
 use std::str;
 
@@ -25,6 +25,14 @@ pub(crate) fn after_line(text: &[u8]) -> &[u8]
         [_, rest @ ..] => rest,
         [] => &[],
     }
+}
+
+/// The first line without its end.
+pub(crate) fn first_line(text: &[u8]) -> &[u8]
+    ensures { (line more : List ℕ) → list_all is_in_line line ≡ true
+        → text.now ≡ line ++ line_feed ∷ more → result.now ≡ line }
+{
+    &text[..line_length(text)]
 }
 
 // The number that these digits write, if it fits 64 bits.
