@@ -5,7 +5,7 @@ use Rattle.std.specs.Io.KnownBytes.{IsAtEnd}
 use Rattle.benc.specs.Device.{SinkSeen, SourceSeen, Broke, Sent, one_more}
 use Rattle.benc.specs.declared.device.DeviceFault.{DeviceFault}
 use Rattle.benc.specs.declared.device.WriteFault.{WriteFault}
-use Rattle.wire.specs.declared.direction.Direction.TheVariants.{In}
+use Rattle.wire.specs.declared.form.Direction.TheVariants.{In}
 use Rattle.wire.specs.declared.form.Form.TheVariants.{One, Two}
 use Rattle.wire.specs.Conversion.{conversion_bytes, converted}
 use Rattle.wire.specs.Frames.{IsBody, IsPartial, four_bytes, frame}

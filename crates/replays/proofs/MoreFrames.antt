@@ -8,8 +8,8 @@ use Rattle.std.proofs.Math.Bool.{or-false}
 use Rattle.benc.specs.Device.{SinkSeen, Sent, SentAndFlushed, one_more}
 use Rattle.benc.proofs.Known.{Appends-append}
 use Rattle.wire.specs.declared.fault.FrameFault.TheVariants as fault
-use Rattle.replays.specs.declared.frame_report.FrameReport.{FrameReport}
-use Rattle.replays.specs.declared.outcome.Outcome.{Outcome}
+use Rattle.replays.specs.declared.report.FrameReport.{FrameReport}
+use Rattle.replays.specs.declared.report.Outcome.{Outcome}
 use Rattle.replays.specs.ReplayLines.{lines_of}
 use Rattle.replays.specs.Replay.{Handled}
 use Rattle.replays.specs.Replay.{lines_from, reports_of}

@@ -15,13 +15,13 @@ use Rattle.wire.specs.declared.frame.Frame.{Frame}
 use Rattle.wire.specs.declared.form.Form.{Form}
 use Rattle.wire.specs.Records.{Directed}
 use Rattle.session.specs.Session.{SessionSeen}
-use Rattle.replays.specs.declared.frame_report.FrameReport.{FrameReport}
-use Rattle.replays.specs.declared.ending.Ending.{Ending}
-use Rattle.replays.specs.declared.ending.Ending.TheVariants as ending
-use Rattle.replays.specs.declared.outcome.Outcome.{Outcome}
+use Rattle.replays.specs.declared.report.FrameReport.{FrameReport}
+use Rattle.replays.specs.declared.report.Ending.{Ending}
+use Rattle.replays.specs.declared.report.Ending.TheVariants as ending
+use Rattle.replays.specs.declared.report.Outcome.{Outcome}
 use Rattle.replays.specs.Outcome.{is_refusal, is_no_memory, is_fault}
 use Rattle.replays.specs.ReplayLines.{lines_of, ending_line_of}
-use Rattle.replays.specs.declared.frame_report.Reply.{Reply}
+use Rattle.replays.specs.declared.report.Reply.{Reply}
 use Rattle.replays.specs.declared.answering.AnswerFault.TheVariants as failed
 use Rattle.replays.specs.Answering.{Finishes, IfWanted, IsReply, Replies, reply_to}
 use Rattle.replays.specs.Replay.{Answered, Ends, EndsUnanswered, Handled, HandlesButLast, HandlesNext, IsCutAtEnd, IsCutInAnswer}

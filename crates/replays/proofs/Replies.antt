@@ -13,7 +13,7 @@ use Rattle.hashtree.proofs.Heights.{height_least}
 use Rattle.opening.specs.Sound.{IsSound}
 use Rattle.std.specs.Borrow.{Bor}
 use Rattle.wire.specs.Records.{Directed}
-use Rattle.wire.specs.declared.direction.Direction.TheVariants.{In, Out}
+use Rattle.wire.specs.declared.form.Direction.TheVariants.{In, Out}
 use Rattle.wire.specs.declared.form.Form.{Form}
 use Rattle.wire.specs.declared.form.Form.TheVariants.{One, Two}
 use Rattle.wire.specs.declared.frame.Frame.{Frame}
@@ -34,9 +34,9 @@ use Rattle.session.specs.Noted.{StepIn}
 use Rattle.session.specs.declared.verdict.Verdict.{Verdict}
 use Rattle.session.specs.declared.verdict.Verdict.TheVariants as verdict
 use Rattle.session.proofs.Sessions.{mapped}
-use Rattle.replays.specs.declared.frame_report.FrameReport.{FrameReport}
-use Rattle.replays.specs.declared.frame_report.FrameReport.TheVariants as frame_report
-use Rattle.replays.specs.declared.frame_report.Reply.TheVariants as reply
+use Rattle.replays.specs.declared.report.FrameReport.{FrameReport}
+use Rattle.replays.specs.declared.report.FrameReport.TheVariants as frame_report
+use Rattle.replays.specs.declared.report.Reply.TheVariants as reply
 use Rattle.replays.specs.Answering.{Answers, AnswersAsk, HasFewHashes, IfWanted, IsReply, IsWanted, reply_of, reply_to}
 use Rattle.printing.specs.Cut.{BrokeAfter, FailedFlush, Flushed, Unflushed}
 use Rattle.replays.specs.Replay.{Meets, StepsBy}

@@ -19,8 +19,8 @@ use Rattle.wire.specs.Records.{Directed, MayStand}
 use Rattle.chains.specs.Chain.{Chain}
 use Rattle.session.specs.Session.{SessionSeen}
 use Rattle.chains.proofs.Chains.{Chain-more}
-use Rattle.replays.specs.declared.ending.Ending.{Ending}
-use Rattle.replays.specs.declared.ending.Ending.TheVariants as ending
+use Rattle.replays.specs.declared.report.Ending.{Ending}
+use Rattle.replays.specs.declared.report.Ending.TheVariants as ending
 use Rattle.replays.specs.Replay.{GaveRecord, Handled, Handles, HandlesNext}
 use Rattle.replays.specs.Replay.{IsEnding, CountsEnding, Replayed, ReplaySeen, TellsEnding}
 

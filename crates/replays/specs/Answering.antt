@@ -5,7 +5,7 @@ use Rattle.std.specs.Prelude.{◌≡◌, ◌⊎◌, ℕ, ◌≤◌, List, [], le
 use Rattle.std.specs.Borrow.{Bor, MutBor}
 use Rattle.benc.specs.Device.{SinkSeen, Sent, Broke, SentAndFlushed, BrokeOrUnflushed}
 use Rattle.printing.specs.Cut.{FailedFlush, Flushed}
-use Rattle.wire.specs.declared.direction.Direction.TheVariants.{In}
+use Rattle.wire.specs.declared.form.Direction.TheVariants.{In}
 use Rattle.wire.specs.declared.frame.Frame.{Frame}
 use Rattle.wire.specs.declared.frame.Frame.TheVariants as frame
 use Rattle.wire.specs.declared.message.Ask.{Ask}
@@ -23,10 +23,10 @@ use Rattle.session.specs.declared.verdict.Verdict.{Verdict}
 use Rattle.session.specs.declared.verdict.Verdict.TheVariants as verdict
 use Rattle.session.specs.Answers.{IsAnswerTo}
 use Rattle.session.specs.Session.{SessionSeen}
-use Rattle.replays.specs.declared.frame_report.FrameReport.{FrameReport}
-use Rattle.replays.specs.declared.frame_report.FrameReport.TheVariants as frame_report
-use Rattle.replays.specs.declared.frame_report.Reply.{Reply}
-use Rattle.replays.specs.declared.frame_report.Reply.TheVariants as reply
+use Rattle.replays.specs.declared.report.FrameReport.{FrameReport}
+use Rattle.replays.specs.declared.report.FrameReport.TheVariants as frame_report
+use Rattle.replays.specs.declared.report.Reply.{Reply}
+use Rattle.replays.specs.declared.report.Reply.TheVariants as reply
 use Rattle.replays.specs.declared.answering.AnswerFault.{AnswerFault}
 use Rattle.replays.specs.declared.answering.AnswerFault.TheVariants as failed
 

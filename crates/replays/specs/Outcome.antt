@@ -3,11 +3,11 @@ use Rattle.std.specs.Prelude.{ℕ, Bool, true, false, ◌||◌, if◌then◌else
 use Rattle.std.specs.List.{list_any}
 use Rattle.partial_tree.specs.declared.refusal.HashRefusal.TheVariants.{NoMemory}
 use Rattle.session.specs.declared.verdict.Verdict.TheVariants as verdict
-use Rattle.replays.specs.declared.frame_report.FrameReport.{FrameReport}
-use Rattle.replays.specs.declared.frame_report.FrameReport.TheVariants as frame_report
-use Rattle.replays.specs.declared.ending.Ending.{Ending}
-use Rattle.replays.specs.declared.ending.Ending.TheVariants as ending
-use Rattle.replays.specs.declared.outcome.Outcome.{Outcome}
+use Rattle.replays.specs.declared.report.FrameReport.{FrameReport}
+use Rattle.replays.specs.declared.report.FrameReport.TheVariants as frame_report
+use Rattle.replays.specs.declared.report.Ending.{Ending}
+use Rattle.replays.specs.declared.report.Ending.TheVariants as ending
+use Rattle.replays.specs.declared.report.Outcome.{Outcome}
 
 -- a line has `refused` or `bad frame`
 abbrev pub is_refusal : FrameReport → Bool

@@ -8,7 +8,7 @@ use Rattle.printing.specs.Cut.{BrokeAfter, Unflushed}
 use Rattle.wire.specs.declared.fault.FrameFault.TheVariants as fault
 use Rattle.wire.specs.declared.frame.Frame.{Frame}
 use Rattle.wire.specs.declared.frame.Frame.TheVariants as frame
-use Rattle.wire.specs.declared.direction.Direction.TheVariants.{In, Out}
+use Rattle.wire.specs.declared.form.Direction.TheVariants.{In, Out}
 use Rattle.wire.specs.declared.form.Form.{Form}
 use Rattle.wire.specs.declared.form.Form.TheVariants.{One, Two}
 use Rattle.wire.specs.declared.message.Message.{Message}
@@ -21,12 +21,12 @@ use Rattle.chains.specs.Chain.{Chain}
 use Rattle.session.specs.Noted.{IsSafeNotedStep}
 use Rattle.session.specs.SafeStep.{IsSafeStep}
 use Rattle.session.specs.Session.{SessionSeen}
-use Rattle.replays.specs.declared.frame_report.FrameReport.{FrameReport}
-use Rattle.replays.specs.declared.frame_report.FrameReport.TheVariants as frame_report
-use Rattle.replays.specs.declared.frame_report.Reply.{Reply}
-use Rattle.replays.specs.declared.ending.Ending.{Ending}
-use Rattle.replays.specs.declared.ending.Ending.TheVariants as ending
-use Rattle.replays.specs.declared.outcome.Outcome.{Outcome}
+use Rattle.replays.specs.declared.report.FrameReport.{FrameReport}
+use Rattle.replays.specs.declared.report.FrameReport.TheVariants as frame_report
+use Rattle.replays.specs.declared.report.Reply.{Reply}
+use Rattle.replays.specs.declared.report.Ending.{Ending}
+use Rattle.replays.specs.declared.report.Ending.TheVariants as ending
+use Rattle.replays.specs.declared.report.Outcome.{Outcome}
 use Rattle.replays.specs.Answering.{Answers, IfWanted, IsWanted, reply_to}
 use Rattle.replays.specs.Outcome.{outcome_of}
 use Rattle.replays.specs.ReplayLines.{lines_of, ending_line_of}

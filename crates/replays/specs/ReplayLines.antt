@@ -6,10 +6,10 @@ use Rattle.session.specs.Blocks.{BlocksSeen}
 use Rattle.session.specs.declared.verdict.Verdict.{Verdict}
 use Rattle.session.specs.declared.verdict.Verdict.TheVariants as verdict
 use Rattle.wire.specs.declared.fault.FrameFault.TheVariants as fault
-use Rattle.replays.specs.declared.ending.Ending.{Ending}
-use Rattle.replays.specs.declared.ending.Ending.TheVariants as ending
-use Rattle.replays.specs.declared.frame_report.FrameReport.{FrameReport}
-use Rattle.replays.specs.declared.frame_report.FrameReport.TheVariants as frame_report
+use Rattle.replays.specs.declared.report.Ending.{Ending}
+use Rattle.replays.specs.declared.report.Ending.TheVariants as ending
+use Rattle.replays.specs.declared.report.FrameReport.{FrameReport}
+use Rattle.replays.specs.declared.report.FrameReport.TheVariants as frame_report
 
 -- a refusal by its number behind a letter, and its name
 abbrev pub refused_text : List ℕ → ℕ → List ℕ → List ℕ
@@ -39,7 +39,7 @@ frame_text (frame_report.Verdict v) = verdict_text v
 frame_text (frame_report.BadFrame id len) =
     codes "bad frame " ++ decimal id ++ codes " " ++ decimal len
 
--- one line tells all of it: it is no message of blocks
+-- one line says all of it: it is no message of blocks
 abbrev pub IsOneLine : FrameReport → Type 0
 IsOneLine (frame_report.Verdict (verdict.Blocks v)) = ⊥
 IsOneLine t = Unit {0}

@@ -4,7 +4,7 @@ ghost use Rattle.benc.specs.Device.{Wrote};
 ghost use Rattle.session.specs.Answers.{IsAnswerTo};
 ghost use Rattle.replays.specs.Answering.{Flushes, HasFewHashes, IsAnswerFrame, Replies};
 
-use crate::frame_report::Reply;
+use crate::report::Reply;
 use benc::{DeviceFault, Sink, WriteFault};
 use session::{Answer, NodeMap, Session};
 use wire::{Ask, Message, write};

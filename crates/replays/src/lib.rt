@@ -2,12 +2,9 @@
 #![tactic(auto)]
 
 mod answering;
-mod ending;
-mod frame_report;
-mod line_of_frame;
-mod lines_of_blocks;
-mod outcome;
+mod lines_of_frame;
 mod replaying;
+mod report;
 
-pub use outcome::Outcome;
 pub use replaying::replay;
+pub use report::Outcome;

@@ -11,11 +11,8 @@ ghost use Rattle.wire.specs.Records.{form_number};
 ghost use Rattle.wire.specs.declared.form.Form.{Form as FormOf};
 
 use crate::answering::{AnswerFault, Answering, Unwanted};
-use crate::ending::Ending;
-use crate::frame_report::{FrameReport, Reply, Response};
-use crate::line_of_frame::line_of_frame;
-use crate::lines_of_blocks::write_blocks;
-use crate::outcome::Outcome;
+use crate::lines_of_frame::{line_of_frame, write_blocks};
+use crate::report::{Ending, FrameReport, Outcome, Reply, Response};
 use benc::{DeviceFault, Sink, Source, WriteFault, write_all};
 use printing::write_line;
 use session::{NodeMap, Session, Verdict};

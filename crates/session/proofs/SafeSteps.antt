@@ -83,7 +83,7 @@ true_accepted : (S : SessionSeen) → HasClosedTrees S → (ask : Ask) (hashes :
     → AreTrueHashes f tree s ask hashes → IsAccepted tree.length (look s.known) ask hashes ⊎ Collision (whole f) (look s.known)
 true_accepted S closed_trees ask hashes n tree s f at are =
     stored_or_collision tree (whole f) (look s.known) ask hashes (whole-closed f tree are.fits) (closed_trees.closed n tree s at)
-    are.range are.count are.told are.top_known
+    are.range are.count are.from_file are.top_known
 
 pub hashes-stored : (S : SessionSeen) → HasClosedTrees S → HasDistinctRoots S → (ask : Ask) (hashes : List Hash) (r : Result ℕ HashRefusal) (S' : SessionSeen)
     → IfOk r (λ c. IsStored S ask hashes c S') → IfErr r (λ x. IsHashRefused S ask hashes x × (S' ≡ S)) → StoresTrueHashes S ask hashes r

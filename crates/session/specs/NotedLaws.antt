@@ -1,7 +1,7 @@
 -- The laws of sessions that note what they ask for, and of the replay of a conversion.
 use Rattle.std.specs.Prelude.{◌≡◌, ◌≢◌, ◌⊎◌, ℕ, ◌+◌, ◌<◌, ◌≤◌, List, [], ◌∷◌}
 use Rattle.std.specs.List.{All, AllZip, AllByRecursion}
-use Rattle.wire.specs.declared.direction.Direction.TheVariants.{In, Out}
+use Rattle.wire.specs.declared.form.Direction.TheVariants.{In, Out}
 use Rattle.wire.specs.declared.frame.Frame.{Frame as FrameRead}
 use Rattle.wire.specs.declared.message.Ask.{Ask as Asked}
 use Rattle.wire.specs.declared.message.Message.{Message as Sent}

@@ -34,7 +34,7 @@ pub record AreTrueHashes (f : List ℕ) (tree : TreeRoot) (s : TreeState) (ask :
   pub has_root : tree.root ≡ ask.root
   pub range : GoodRange (tree_height tree.length) ask
   pub count : GoodCount (tree_height tree.length) ask hashes
-  pub told : IsToldBy (whole f) ask hashes
+  pub from_file : IsToldBy (whole f) ask hashes
   pub top_known : IsKnown (look s.known) (top_layer ask hashes) (top_index ask hashes)
 
 -- true hashes are stored, unless memory is refused for them or a collision is named

@@ -4,7 +4,6 @@
 
 mod asking;
 mod block_digests;
-mod blocks;
 mod hashes;
 pub mod laws;
 mod marking;
@@ -16,11 +15,10 @@ mod running;
 mod session;
 mod verdict;
 
-pub use blocks::Blocks;
 pub use hashtree::NoMemory;
 pub use node_maps::{Flat, NodeMap, Paged};
 pub use partial_tree::{Answer, BlockRefusal, GrowingTree, GrownTree, HashRefusal};
 pub use pausing::Paused;
 pub use running::has_hashes;
 pub use session::Session;
-pub use verdict::Verdict;
+pub use verdict::{Blocks, Verdict};

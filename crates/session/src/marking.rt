@@ -11,7 +11,7 @@ ghost use Rattle.chains.specs.Chain.{Chain};
 ghost use Rattle.session.specs.SafeStep.{KeepsKnown, VerifiesTrueBlock, VerifiesTrueBlocks};
 
 use crate::block_digests::BlockDigests;
-use crate::blocks::Blocks;
+use crate::verdict::Blocks;
 use crate::session::Session;
 use hashtree::{BLOCK_LENGTH, Hash};
 use node_maps::NodeMap;

@@ -6,7 +6,7 @@ use Rattle.std.proofs.lemmas.Bool.{cases_Bool, false≢true, and_parts, and_from
 use Rattle.std.proofs.lemmas.List.{append-nil, take_at}
 use Rattle.std.proofs.lemmas.List.Elements.{All-cons, All-nil, All-append, All-head, All-tail}
 use Rattle.wire.specs.declared.form.Form.TheVariants.{Two}
-use Rattle.wire.specs.declared.direction.Direction.TheVariants.{In, Out}
+use Rattle.wire.specs.declared.form.Direction.TheVariants.{In, Out}
 use Rattle.wire.specs.declared.frame.Frame.{Frame}
 use Rattle.wire.specs.declared.frame.Frame.TheVariants as frame
 use Rattle.wire.specs.declared.message.Ask.{Ask}

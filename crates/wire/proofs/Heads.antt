@@ -2,8 +2,8 @@
 use Rattle.std.proofs.Common.{◌≡◌, ℕ, ◌+◌, ◌-◌, ◌<◌, ◌≤◌, List, [], ◌∷◌, ◌++◌, length, take, get_or, refl, sym, ap, ◌∙◌, arith, subst, inl, inr}
 use Rattle.std.proofs.lemmas.List.{length-append, length-take-le, take_all}
 use Rattle.wire.specs.declared.kind.Kind.{Kind}
-use Rattle.wire.specs.declared.head.Head.{Head}
-use Rattle.wire.specs.declared.head.Head.TheVariants.{KeepAlive, Kept, BadSize, Other}
+use Rattle.wire.specs.declared.frame.Head.{Head}
+use Rattle.wire.specs.declared.frame.Head.TheVariants.{KeepAlive, Kept, BadSize, Other}
 use Rattle.wire.specs.Kind.{id_of}
 use Rattle.wire.specs.Meaning.{IsRightSize}
 use Rattle.wire.specs.Head.{IsHead, Holds}

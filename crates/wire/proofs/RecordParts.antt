@@ -6,8 +6,8 @@ use Rattle.std.specs.Cmp.Lexicographic.{pointwise, same_text}
 use Rattle.std.proofs.lemmas.Bool.{false≢true}
 use Rattle.std.specs.Io.KnownBytes.{IsAtEnd}
 use Rattle.benc.specs.Device.{SourceSeen}
-use Rattle.wire.specs.declared.direction.Direction.{Direction}
-use Rattle.wire.specs.declared.direction.Direction.TheVariants.{In}
+use Rattle.wire.specs.declared.form.Direction.{Direction}
+use Rattle.wire.specs.declared.form.Direction.TheVariants.{In}
 use Rattle.wire.specs.declared.form.Form.{Form}
 use Rattle.wire.specs.declared.form.Form.TheVariants.{One, Two}
 use Rattle.wire.specs.declared.fault.FrameFault.{FrameFault}

@@ -8,8 +8,8 @@ use Rattle.std.proofs.lemmas.List.Elements.{All-cons, All-nil, All-map, recursio
 use Rattle.byteorder.specs.Endian.{big_number}
 use Rattle.wire.specs.declared.form.Form.{Form}
 use Rattle.wire.specs.declared.form.Form.TheVariants.{One, Two}
-use Rattle.wire.specs.declared.direction.Direction.{Direction}
-use Rattle.wire.specs.declared.direction.Direction.TheVariants.{In, Out}
+use Rattle.wire.specs.declared.form.Direction.{Direction}
+use Rattle.wire.specs.declared.form.Direction.TheVariants.{In, Out}
 use Rattle.wire.specs.Frames.{IsBody, IsPartial, Frames, frame}
 use Rattle.wire.specs.Records.{Directed, header, heading, direction_byte, record_frame, MayStand, HasForm, IsCut, IsBadDirection, IsCutFrame, RecordFrames}
 use Rattle.wire.specs.Records.{came_in}

@@ -3,9 +3,9 @@
 use Rattle.std.specs.Prelude.{ℕ, ◌-◌, ◌%◌, nat_le, ◌==◌, if◌then◌else◌, ◌&&◌, Bool, false, List, [], ◌∷◌, ◌++◌, length, take, drop}
 use Rattle.std.specs.List.{flat_map}
 use Rattle.wire.specs.declared.form.Form.TheVariants.{Two}
-use Rattle.wire.specs.declared.direction.Direction.TheVariants.{In, Out}
+use Rattle.wire.specs.declared.form.Direction.TheVariants.{In, Out}
 use Rattle.wire.specs.declared.frame.Frame.{Frame}
-use Rattle.wire.specs.declared.frame.Frame.TheVariants as told
+use Rattle.wire.specs.declared.frame.Frame.TheVariants as kept
 use Rattle.wire.specs.declared.message.Message.{Message}
 use Rattle.wire.specs.declared.message.Message.TheVariants as message
 use Rattle.wire.specs.Meaning.{ask_size, hashes_id, max_body, request_id}
@@ -48,9 +48,9 @@ converted_message m = (In, m) ∷ []
 abbrev pub converted_messages : List Message → List (Directed Message)
 converted_messages ms = flat_map converted_message ms
 
--- what is told of a frame that came in, after the request that a hashes message answers
+-- what is kept of a frame that came in, after the request that a hashes message answers
 abbrev pub converted_frame : Frame → List (Directed Frame)
-converted_frame (told.Message (message.Hashes ask hashes)) =
-    (Out, told.Message (message.Request ask)) ∷ (In, told.Message (message.Hashes ask hashes)) ∷
+converted_frame (kept.Message (message.Hashes ask hashes)) =
+    (Out, kept.Message (message.Request ask)) ∷ (In, kept.Message (message.Hashes ask hashes)) ∷
     []
 converted_frame f = (In, f) ∷ []

@@ -2,8 +2,8 @@
 use Rattle.std.specs.Prelude.{◌≡◌, ℕ, ◌-◌, List, [], ◌∷◌, length, take}
 use Rattle.wire.specs.Kind.{id_of}
 use Rattle.wire.specs.Meaning.{IsOf, IsKnownId, IsRightSize}
-use Rattle.wire.specs.declared.head.Head.{Head}
-use Rattle.wire.specs.declared.head.Head.TheVariants.{KeepAlive, Kept, BadSize, Other}
+use Rattle.wire.specs.declared.frame.Head.{Head}
+use Rattle.wire.specs.declared.frame.Head.TheVariants.{KeepAlive, Kept, BadSize, Other}
 
 -- the head of a body that has this id and this length
 abbrev pub IsHead : ℕ → ℕ → Head → Type 0

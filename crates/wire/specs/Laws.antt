@@ -4,8 +4,8 @@ use Rattle.std.specs.List.{All, flat_map}
 use Rattle.wire.specs.Frames.{Frames, IsBody, frame}
 use Rattle.wire.specs.Meaning.{Means, MeansMessage, SameFrame}
 use Rattle.wire.specs.declared.message.Message.{Message}
-use Rattle.wire.specs.declared.frame.Frame.TheVariants as told
-use Rattle.wire.specs.declared.frame.Frame.{Frame as Told}
+use Rattle.wire.specs.declared.frame.Frame.TheVariants as kept
+use Rattle.wire.specs.declared.frame.Frame.{Frame as KeptFrame}
 
 -- a stream has one list of frames and one rest
 abbrev pub OneListOfFrames : Type 0
@@ -28,13 +28,13 @@ FramesAfterFrames =
 
 -- a body means one frame
 abbrev pub OneMeaning : Type 0
-OneMeaning = (body : List ℕ) (f g : Told) → Means body f → Means body g → SameFrame f g
+OneMeaning = (body : List ℕ) (f g : KeptFrame) → Means body f → Means body g → SameFrame f g
 
 -- a stream that begins with the frame of a message has that message as its first frame, and the
 -- rest is what follows
 abbrev pub WrittenIsRead : Type 0
 WrittenIsRead =
-    (m : Message) (body rest : List ℕ) (found : Told) (read after : List ℕ) → IsBody body
+    (m : Message) (body rest : List ℕ) (found : KeptFrame) (read after : List ℕ) → IsBody body
     → MeansMessage body m → IsBody read → Means read found
     → frame body ++ rest ≡ frame read ++ after
-    → SameFrame found (told.Message m) × (after ≡ rest)
+    → SameFrame found (kept.Message m) × (after ≡ rest)

@@ -7,7 +7,7 @@ use Rattle.wire.specs.declared.message.Ask.{Ask}
 use Rattle.wire.specs.declared.message.Message.{Message}
 use Rattle.wire.specs.declared.message.Message.TheVariants as message
 use Rattle.wire.specs.declared.frame.Frame.{Frame}
-use Rattle.wire.specs.declared.frame.Frame.TheVariants as told
+use Rattle.wire.specs.declared.frame.Frame.TheVariants as kept
 
 -- the longest body that is kept: 8192 hashes and 32 uncles, with the fields before them
 abbrev pub max_body : ℕ
@@ -113,8 +113,8 @@ MeansMessage body (message.Other id len) = IsOf body id len × ¬ IsKnownId id
 
 -- what a body means: one message, or a message of a known kind with a wrong size
 abbrev pub Means : List ℕ → Frame → Type 0
-Means body (told.Message m) = MeansMessage body m
-Means body (told.BadSize id len) = IsOf body id len × IsKnownId id × ¬ IsRightSize id len
+Means body (kept.Message m) = MeansMessage body m
+Means body (kept.BadSize id len) = IsOf body id len × IsKnownId id × ¬ IsRightSize id len
 
 -- the same message, wherever its block or its hashes lie
 abbrev pub SameMessage : Message → Message → Type 0
@@ -128,6 +128,6 @@ SameMessage _ _ = ⊥
 
 -- the same frame, in that sense
 abbrev pub SameFrame : Frame → Frame → Type 0
-SameFrame (told.Message m) (told.Message n) = SameMessage m n
-SameFrame (told.BadSize i m) (told.BadSize j n) = (i ≡ j) × (m ≡ n)
+SameFrame (kept.Message m) (kept.Message n) = SameMessage m n
+SameFrame (kept.BadSize i m) (kept.BadSize j n) = (i ≡ j) × (m ≡ n)
 SameFrame _ _ = ⊥

@@ -3,7 +3,7 @@ use Rattle.std.specs.Prelude.{◌≡◌, ◌⊎◌, ℕ, ◌<◌, List, [], map}
 use Rattle.std.specs.List.{All, AllZip, flat_map}
 use Rattle.wire.specs.declared.form.Form.{Form}
 use Rattle.wire.specs.declared.form.Form.TheVariants.{One, Two}
-use Rattle.wire.specs.declared.frame.Frame.{Frame as Told}
+use Rattle.wire.specs.declared.frame.Frame.{Frame as KeptFrame}
 use Rattle.wire.specs.Frames.{IsBody, Frames}
 use Rattle.wire.specs.Meaning.{Means}
 use Rattle.wire.specs.Records.{Directed, HasForm, IsCut, IsBadDirection, IsCutFrame, RecordFrames, came_in, MeansDirected}
@@ -39,5 +39,5 @@ ConversionIsRecord = (bodies : List (List ℕ)) → All IsBody bodies
 
 -- what the converted bodies mean is what the bodies mean, and the requests before it
 abbrev pub ConversionMeans : Type 0
-ConversionMeans = (bodies : List (List ℕ)) (frames : List Told) → AllZip Means bodies frames
+ConversionMeans = (bodies : List (List ℕ)) (frames : List KeptFrame) → AllZip Means bodies frames
     → AllZip MeansDirected (conversion bodies) (flat_map converted_frame frames)

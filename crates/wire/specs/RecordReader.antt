@@ -2,12 +2,12 @@
 use Rattle.std.specs.Prelude.{◌≡◌, ℕ, ◌≤◌, Bool, true, false, List, Option, Some, Result, Ok, Err, IfOk, IfSome}
 use Rattle.std.specs.Global.{Vec}
 use Rattle.benc.specs.Device.{SourceSeen}
-use Rattle.wire.specs.declared.direction.Direction.{Direction}
+use Rattle.wire.specs.declared.form.Direction.{Direction}
 use Rattle.wire.specs.declared.fault.FrameFault.{FrameFault}
 use Rattle.wire.specs.declared.fault.FrameFault.TheVariants as fault
 use Rattle.wire.specs.declared.form.Form.{Form}
 use Rattle.wire.specs.declared.frame.Frame.{Frame}
-use Rattle.wire.specs.declared.head.Head.{Head}
+use Rattle.wire.specs.declared.frame.Head.{Head}
 use Rattle.wire.specs.declared.reader.FrameReader.{FrameReader}
 use Rattle.wire.specs.declared.record_reader.RecordReader.{RecordReader}
 use Rattle.wire.specs.Head.{Holds}

@@ -2,7 +2,7 @@
 use Rattle.std.specs.Prelude.{◌≡◌, ◌≢◌, ◌⊎◌, ℕ, ◌^◌, ◌<◌, ◌≤◌, List, [], ◌∷◌, ◌++◌, length, Option, Some, None, MatchOption}
 use Rattle.std.specs.Io.KnownBytes.{IsAtEnd}
 use Rattle.benc.specs.Device.{SourceSeen}
-use Rattle.wire.specs.declared.direction.Direction.{Direction}
+use Rattle.wire.specs.declared.form.Direction.{Direction}
 use Rattle.wire.specs.declared.form.Form.{Form}
 use Rattle.wire.specs.declared.form.Form.TheVariants.{One, Two}
 use Rattle.wire.specs.declared.fault.FrameFault.{FrameFault}
@@ -61,7 +61,7 @@ pub record IsOtherStart (part : List ℕ) : Type 0 where
   pub bad : IsBadDirection part
   pub few : length part ≤ 5
 
--- what was read when this fault came. A byte that is no direction is told before a body is read;
+-- what was read when this fault came. A byte that is no direction is found before a body is read;
 -- out of memory comes after the id of a frame whose body is to be kept
 abbrev pub StopsAt : Form → List ℕ → FrameFault → Type 0
 StopsAt form part fault.Truncated = IsPart form part × (part ≢ [])

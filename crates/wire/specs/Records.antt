@@ -3,12 +3,12 @@
 use Rattle.std.specs.Prelude.{◌≡◌, ◌≢◌, ℕ, List, [], ◌∷◌, ◌++◌, codes, All}
 use Rattle.std.specs.List.{flat_map}
 use Rattle.wire.specs.Frames.{IsBody, IsPartial, frame}
-use Rattle.wire.specs.declared.direction.Direction.{Direction}
-use Rattle.wire.specs.declared.direction.Direction.TheVariants.{In, Out}
+use Rattle.wire.specs.declared.form.Direction.{Direction}
+use Rattle.wire.specs.declared.form.Direction.TheVariants.{In, Out}
 use Rattle.wire.specs.declared.form.Form.{Form}
 use Rattle.wire.specs.declared.form.Form.TheVariants.{One, Two}
 use Rattle.wire.specs.declared.frame.Frame.{Frame}
-use Rattle.wire.specs.declared.frame.Frame.TheVariants as told
+use Rattle.wire.specs.declared.frame.Frame.TheVariants as kept
 use Rattle.wire.specs.declared.message.Message.{Message}
 use Rattle.wire.specs.Meaning.{Means}
 
@@ -17,7 +17,7 @@ abbrev pub form_number : Form → ℕ
 form_number One = 1
 form_number Two = 2
 
--- a direction and what goes in it: a body, a message, or what is told of a frame
+-- a direction and what goes in it: a body, a message, or what is kept of a frame
 abbrev pub Directed : Type 0 → Type 0
 Directed X = Direction × X
 
@@ -91,11 +91,11 @@ MeansDirected d f = (d.0 ≡ f.0) × Means d.1 f.1
 -- the messages among frames: a frame of a wrong size holds none
 abbrev pub messages_in : List Frame → List Message
 messages_in [] = []
-messages_in (told.Message m ∷ fs) = m ∷ messages_in fs
-messages_in (told.BadSize id len ∷ fs) = messages_in fs
+messages_in (kept.Message m ∷ fs) = m ∷ messages_in fs
+messages_in (kept.BadSize id len ∷ fs) = messages_in fs
 
 -- the messages among frames, with their directions
 abbrev pub directed_messages : List (Directed Frame) → List (Directed Message)
 directed_messages [] = []
-directed_messages ((d, told.Message m) ∷ fs) = (d, m) ∷ directed_messages fs
-directed_messages ((d, told.BadSize id len) ∷ fs) = directed_messages fs
+directed_messages ((d, kept.Message m) ∷ fs) = (d, m) ∷ directed_messages fs
+directed_messages ((d, kept.BadSize id len) ∷ fs) = directed_messages fs

@@ -2,7 +2,6 @@
 use Rattle.std.specs.Prelude.{◌≡◌, ◌≢◌, ◌⊎◌, ℕ, ◌<◌, Result, MatchResult}
 use Rattle.wire.specs.Meaning.{max_kept}
 use Rattle.wire.specs.Room.{GrowsToBound}
-use Rattle.wire.specs.declared.fault.FrameFault.{FrameFault}
 use Rattle.wire.specs.declared.fault.FrameFault.TheVariants as fault
 use Rattle.wire.specs.declared.reader.State.{State}
 use Rattle.wire.specs.declared.reader.State.TheVariants.{Open, Failed}

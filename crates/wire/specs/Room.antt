@@ -3,8 +3,8 @@ use Rattle.std.specs.Prelude.{◌≡◌, ◌≢◌, ◌⊎◌, ℕ, max, Option,
 use Rattle.wire.specs.Meaning.{max_kept}
 use Rattle.wire.specs.declared.fault.FrameFault.{FrameFault}
 use Rattle.wire.specs.declared.fault.FrameFault.TheVariants as fault
-use Rattle.wire.specs.declared.head.Head.{Head}
-use Rattle.wire.specs.declared.head.Head.TheVariants.{KeepAlive, Kept, BadSize, Other}
+use Rattle.wire.specs.declared.frame.Head.{Head}
+use Rattle.wire.specs.declared.frame.Head.TheVariants.{KeepAlive, Kept, BadSize, Other}
 
 -- the room holds the longest body that is kept, and has grown no further than that
 abbrev pub GrowsToBound : ℕ → ℕ → Type 0

@@ -1,12 +1,14 @@
-//! Messages out of the bytes of a body, with no copy of a block or of hashes.
-ghost use Rattle.std.specs.Prelude.{◌≡◌, ◌+◌, ◌≤◌, ◌∷◌, ◌++◌, length, drop};
+//! Numbers, hashes and messages out of the bytes of a body, with no copy of a block or of hashes.
+ghost use Rattle.std.specs.Prelude.{◌≡◌, ◌+◌, ◌≤◌, ◌∷◌, ◌++◌, length, drop, take, ◌*◌, ◌%◌, ◌/◌, All};
 ghost use Rattle.wire.specs.Kind.{id_of};
 ghost use Rattle.wire.specs.Meaning.{IsAsk, IsRightSize, MeansMessage, ask_bytes};
+ghost use Rattle.wire.specs.Frames.{four_bytes};
+ghost use Rattle.std.specs.List.{flat_map};
+ghost use Rattle.std.specs.Simd.{first_chunks};
 
-use crate::hashes::hashes_of;
 use crate::kind::{ASK_SIZE, HASH_SIZE, Kind};
 use crate::message::{Ask, Message};
-use crate::number::number_at;
+use byteorder::{BigEndian, ByteOrder};
 
 // The pieces root, the first field of a hash request, in bytes.
 const ROOT: usize = HASH_SIZE as usize;
@@ -49,4 +51,22 @@ fn ask_at(bytes: &[u8]) -> Ask
         length: number_at(&bytes[ROOT + 8..]),
         proof: number_at(&bytes[ROOT + 12..]),
     }
+}
+
+/// The number of the first four bytes, big-endian. Condition: there are four.
+pub fn number_at(bytes: &[u8]) -> u32
+    requires { 4 ≤ length bytes.now }
+    ensures { four_bytes result ≡ take 4 bytes.now }
+{
+    BigEndian::read_u32(bytes)
+}
+
+/// The bytes as hashes of 32 bytes, with no copy.
+pub(crate) fn hashes_of(bytes: &[u8]) -> &[[u8; 32]]
+    requires { length bytes.now % 32 ≡ 0 }
+    ensures chunks { result.now ≡ first_chunks 32 (length bytes.now / 32) bytes.now }
+    ensures joined { flat_map (λ h. h) result.now ≡ bytes.now }
+    ensures each { All (λ h. length h ≡ 32) result.now }
+{
+    bytes.as_chunks::<32>().0
 }

@@ -9,9 +9,8 @@ ghost use Rattle.wire.specs.Rows.{bytes_row};
 ghost use Rattle.wire.specs.contracts.reader.FrameReader.{the_row};
 
 use crate::fault::FrameFault;
-use crate::frame::Frame;
+use crate::frame::{Frame, Head, frame_of};
 use crate::framing::{read_frame, take_room};
-use crate::head::{Head, frame_of};
 use benc::Source;
 use std::alloc::{AllocError as NoMemory, Global};
 

@@ -8,13 +8,11 @@ ghost use Rattle.wire.specs.RecordReading.{GivesNext, GivesStart, StopsInRecord}
 ghost use Rattle.wire.specs.RecordReader.{HoldsFrom};
 ghost use Rattle.wire.specs.Room.{RoomAfterCall, RoomAfterNext};
 
-use crate::bytes::{read_exact, read_length, skip};
-use crate::direction::Direction;
 use crate::fault::FrameFault;
-use crate::form::{Form, HEADER};
-use crate::framing::{read_body, read_frame};
-use crate::head::Head;
-use crate::number::number_at;
+use crate::form::{Direction, Form, HEADER};
+use crate::frame::Head;
+use crate::framing::{read_body, read_exact, read_frame, read_length, skip};
+use crate::parse::number_at;
 use benc::Source;
 
 // The second half of a header. The first half is a length as well.
@@ -23,7 +21,7 @@ const SECOND_HALF: [u8; 4] = [HEADER[4], HEADER[5], HEADER[6], HEADER[7]];
 /// A frame's direction and head, or `None` at the end of the source.
 pub(crate) type Found = Option<(Direction, Head)>;
 
-/// Reads the next frame of a record, whose form is known or is told by its first bytes.
+/// Reads the next frame of a record, whose form is known or is given by its first bytes.
 pub(crate) fn read_next<R: Source>(
     source: &mut R,
     kept: &mut Vec<u8>,

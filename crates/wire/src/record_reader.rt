@@ -9,17 +9,15 @@ ghost use Rattle.wire.specs.Reserving.{Reserves};
 ghost use Rattle.wire.specs.Rows.{bytes_row};
 ghost use Rattle.wire.specs.contracts.record_reader.RecordReader.{the_row};
 
-use crate::direction::Direction;
 use crate::fault::FrameFault;
-use crate::form::Form;
-use crate::frame::Frame;
-use crate::head::{Head, frame_of};
+use crate::form::{Direction, Form};
+use crate::frame::{Frame, Head, frame_of};
 use crate::reader::{State, reserve};
 use crate::record::read_next;
 use benc::Source;
 use std::alloc::{AllocError as NoMemory, Global};
 
-/// Reads the frames of a record, one after the other, with their directions. It tells the form by
+/// Reads the frames of a record, one after the other, with their directions. It finds the form by
 /// the first bytes: a record of form 2 begins with the eight bytes `ffffffff42544832`, and every
 /// other record is of form 1, whose frames all came in. It keeps what a `FrameReader` keeps.
 /// `B` is the type of its buffer; write `RecordReader<'r, R>`.

@@ -1,12 +1,12 @@
 //! Frames to a sink.
-ghost use Rattle.std.specs.Prelude.{◌≡◌, ◌↔◌, ◌≤◌, ◌<◌, ◌++◌, ℕ, List, length, take, IsTrue};
+ghost use Rattle.std.specs.Prelude.{◌≡◌, ◌↔◌, ◌≤◌, ◌<◌, ◌++◌, ℕ, List, All, ◌*◌, length, take, IsTrue};
+ghost use Rattle.std.specs.List.{flat_map};
 ghost use Rattle.benc.specs.Device.{Wrote};
 ghost use Rattle.wire.specs.Frames.{IsBody, frame};
 ghost use Rattle.wire.specs.Meaning.{MeansMessage};
 ghost use Rattle.wire.specs.Writable.{IsWritable};
 
 use crate::fields::{ask_fields, piece_fields};
-use crate::hashes::bytes_of;
 use crate::kind::{ASK_SIZE, HASH_SIZE, Kind, MAX_BODY, MIN_PIECE};
 use crate::message::Message;
 use benc::{Sink, WriteFault, write_all};
@@ -68,4 +68,13 @@ fn put<W: Sink>(out: &mut W, first: &[u8], rest: &[u8]) -> Result<(), WriteFault
     write_all(out, first)?;
     write_all(out, rest)?;
     Ok(())
+}
+
+// The bytes of the hashes, with no copy.
+fn bytes_of(hashes: &[[u8; 32]]) -> &[u8]
+    ensures joined { result.now ≡ flat_map (λ h. h) hashes.now }
+    ensures len { length result.now ≡ length hashes.now * 32 }
+    ensures each { All (λ h. length h ≡ 32) hashes.now }
+{
+    hashes.as_flattened()
 }

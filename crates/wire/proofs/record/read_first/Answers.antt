@@ -1,6 +1,6 @@
 use Rattle.std.proofs.Common.{refl}
 use Rattle.std.proofs.lemmas.Result.{err_from_is_err_and}
-use Rattle.wire.specs.declared.direction.Direction.TheVariants.{In}
+use Rattle.wire.specs.declared.form.Direction.TheVariants.{In}
 use Rattle.wire.proofs.RecordParts.{first_frame, stops_in_body, stops_in_length}
 use Rattle.wire.proofs.Stopping.{device}
 use Rattle.wire.proofs.record.read_first.Goals as goal

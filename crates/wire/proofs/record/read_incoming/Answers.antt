@@ -1,7 +1,7 @@
 use Rattle.std.proofs.Common.{refl}
 use Rattle.std.proofs.lemmas.Result.{err_from_is_err_and}
 use Rattle.wire.proofs.RecordParts.{frame_later, ends_later, stops_later}
-use Rattle.wire.specs.declared.direction.Direction.TheVariants.{In}
+use Rattle.wire.specs.declared.form.Direction.TheVariants.{In}
 use Rattle.wire.specs.declared.form.Form.TheVariants.{One}
 use Rattle.wire.proofs.record.read_incoming.Goals as goal
 

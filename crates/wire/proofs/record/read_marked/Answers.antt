@@ -1,6 +1,6 @@
 use Rattle.std.proofs.Common.{refl, ◌++◌}
 use Rattle.std.proofs.lemmas.Result.{err_from_is_err_and}
-use Rattle.wire.specs.declared.direction.Direction.TheVariants.{In}
+use Rattle.wire.specs.declared.form.Direction.TheVariants.{In}
 use Rattle.wire.proofs.Heads.{Holds-longest}
 use Rattle.wire.proofs.RecordParts.{longest_frame, next_after_header, stops_after_header, stops_behind_half, stops_in_half, gave_header, half_is, half_is_not}
 use Rattle.wire.proofs.Stopping.{device}

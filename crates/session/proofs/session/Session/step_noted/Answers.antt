@@ -1,6 +1,6 @@
 use Rattle.std.proofs.Common.{sym, subst}
-use Rattle.wire.specs.declared.direction.Direction.{Direction}
-use Rattle.wire.specs.declared.direction.Direction.TheVariants.{In, Out}
+use Rattle.wire.specs.declared.form.Direction.{Direction}
+use Rattle.wire.specs.declared.form.Direction.TheVariants.{In, Out}
 use Rattle.session.specs.Noted.{IsSafeNotedStep}
 use Rattle.session.proofs.NotedSteps.{safe_noted_step}
 use Rattle.session.proofs.session.Session.step_noted.Goals as goal
