@@ -2,7 +2,7 @@
 -- these.
 use Rattle.std.specs.Prelude.{ℕ, List, [], ◌∷◌, ◌++◌, Option, None, Some, string_bytes}
 use Rattle.std.specs.declared.alloc.Global.{Global}
-use Rattle.std.specs.declared.rc.Rc.{Rc}
+use Rattle.std.specs.declared.sync.Arc.{Arc}
 use Rattle.filetree.specs.declared.folder.TreeFolder.{TreeFolder, TreeFolder', Held-TreeFolder-above, None', Some'}
 
 abbrev mutual
@@ -13,6 +13,6 @@ abbrev mutual
   names_above None' = []
   names_above (Some' p f) = names_to f
 
-abbrev pub names_of : Option (Rc TreeFolder Global) → List (List ℕ)
+abbrev pub names_of : Option (Arc TreeFolder Global) → List (List ℕ)
 names_of None = []
 names_of (Some f) = names_to f.value

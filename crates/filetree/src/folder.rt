@@ -6,19 +6,19 @@ ghost use Rattle.filetree.specs.Folders.{names_to, names_of};
 use crate::path::Parts;
 use std::alloc::{AllocError, Global};
 use std::marker::Model;
-use std::rc::Rc;
+use std::sync::Arc;
 
 // A folder, and the folders that it lies in, which it shares with those beside it.
 #[derive(Debug, Drop)]
 struct TreeFolder {
-    above: Option<Rc<TreeFolder>>,
+    above: Option<Arc<TreeFolder>>,
     name: String,
 }
 
 /// The folders from the torrent's root down to one of them. Contracts see them as their names.
 #[derive(Debug, Drop)]
 pub(crate) struct Folders {
-    last: Option<Rc<TreeFolder>>,
+    last: Option<Arc<TreeFolder>>,
 }
 
 impl Model for Folders {
@@ -44,7 +44,7 @@ impl Folders {
     {
         let above = shared(&self.last)?;
         let name = String::from_str(alloc, name)?;
-        let last = Rc::new(alloc, TreeFolder { above, name })?;
+        let last = Arc::new(alloc, TreeFolder { above, name })?;
         Ok(Folders { last: Some(last) })
     }
 
@@ -69,7 +69,7 @@ impl Folders {
 }
 
 // One more owner of a folder and those above it.
-fn shared(last: &Option<Rc<TreeFolder>>) -> Result<Option<Rc<TreeFolder>>, AllocError>
+fn shared(last: &Option<Arc<TreeFolder>>) -> Result<Option<Arc<TreeFolder>>, AllocError>
     ensures { IfOk result (λ copy. names_of copy ≡ names_of last.now) }
 {
     match last {
