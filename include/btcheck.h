@@ -12,11 +12,13 @@
  * handle; it may be called on an empty one, and twice.
  *
  * Threads. Different handles may be used by different threads at once. Calls
- * on one handle, also those that only read, must not overlap.
+ * on one handle, also those that only read, must not overlap. A handle may move
+ * to another thread by a lock, or by the start or the end of a thread.
  *
  * Memory. Blocks come from malloc, realloc and free. No call aborts, exits,
- * prints, waits or opens anything. A call that is refused changes nothing, and
- * what it would write through a pointer is written only where it says so.
+ * prints, waits or opens anything. A call that is refused changes nothing. What
+ * it would write through a pointer it writes only at BTCHECK_OK, or where it
+ * says so.
  *
  * Pointers. No pointer may be null, also with a length of 0, and what the
  * pointers of one call lead to must not overlap.
@@ -32,14 +34,14 @@
 extern "C" {
 #endif
 
-/* What every call but ..._free answers. */
+/* What each call but ..._free and btcheck_version returns. */
 typedef uint32_t btcheck_status;
 
 enum {
   BTCHECK_OK = 0,
-  BTCHECK_WRONG_HANDLE = 1, /* it holds nothing, or something else; of new and open: it is full */
+  BTCHECK_WRONG_HANDLE = 1, /* it holds nothing or something else; for new and open: it is full */
   BTCHECK_NO_MEMORY = 2,
-  BTCHECK_TOO_LONG = 3,  /* a file has more than 2^46 bytes, or a body 2^32 or more */
+  BTCHECK_TOO_LONG = 3,  /* more than 2^46 bytes, or than the file has; or a body of 2^32 or more */
   BTCHECK_NO_ROOT = 4,   /* an empty file has none */
   BTCHECK_NO_SUCH = 5,   /* no such tree, block or file */
   BTCHECK_NOTHING = 6,   /* nothing to ask for, nothing to answer with, or not marked */
@@ -228,7 +230,7 @@ enum {
   BTCHECK_REJECTED = 4,    /* a hash request to be rejected */
   BTCHECK_REJECT_NOTED = 5, /* a reject of our request */
   BTCHECK_KEEP_ALIVE = 6,  /* an empty body */
-  BTCHECK_SKIPPED = 7      /* a message of another kind, whose `id` is told */
+  BTCHECK_SKIPPED = 7      /* a message of another kind: `id` says which */
 };
 
 typedef struct btcheck_verdict {
@@ -239,7 +241,7 @@ typedef struct btcheck_verdict {
 
 /* The body of one frame of the peer protocol as it came, without the four bytes of its length: for
    clients that pass messages on. Hashes are taken as by take_hashes, blocks as by take_blocks; a
-   request is not answered, but `kind` tells whether it can be. Only what `kind` says is written.
+   request is not answered, but `kind` says whether it can be. Only what `kind` says is written.
    BTCHECK_BAD_SIZE: a wrong size for its id. BTCHECK_TOO_LONG: 2^32 bytes or more. 201 to 207,
    301 or 302: the message is refused. */
 btcheck_status btcheck_session_frame(btcheck_session *session, const uint8_t *body, size_t len,

@@ -18,7 +18,7 @@ from trees import BLOCK, Tree, blocks_of, layer, root_of
 LIB = f"{TOP}/build/lib"
 HEADER = f"{TOP}/include/btcheck.h"
 SOURCES = f"{TOP}/tests/library"
-PROGRAMS = ["handles", "refused_memory", "replay"]
+PROGRAMS = ["handles", "refused_memory", "replay", "threads"]
 WARNINGS = ["-Wall", "-Wextra", "-pedantic", "-Werror"]
 OF_MEMORY = ["-Wl,--wrap=malloc,--wrap=realloc"]
 
@@ -46,7 +46,7 @@ def compiled(place, name, *flags, compiler="gcc", standard="c99", library=None):
     """A program of tests/library."""
     made()
     program = f"{place}/{name}-{standard}"
-    more = OF_MEMORY if name == "refused_memory" else []
+    more = {"refused_memory": OF_MEMORY, "threads": ["-pthread"]}.get(name, [])
     subprocess.run([compiler, f"-std={standard}", *WARNINGS, *flags, "-I", f"{TOP}/include", "-x", "c++" if "++" in standard else "c",
                     f"{SOURCES}/{name}.c", "-x", "none", library or f"{LIB}/libbtcheck.a", *more, "-o", program], check=True)
     return program
@@ -55,7 +55,8 @@ def compiled(place, name, *flags, compiler="gcc", standard="c99", library=None):
 def arguments(place):
     """What each program but `replay` is run on."""
     torrent = write(f"{place}/t.torrent", TORRENT)
-    return {"handles": [torrent], "refused_memory": [torrent, write(f"{place}/hashes", ROOT + b"".join(LEAVES))]}
+    return {"handles": [torrent], "refused_memory": [torrent, write(f"{place}/hashes", ROOT + b"".join(LEAVES))],
+            "threads": [torrent, write(f"{place}/content", CONTENT)]}
 
 
 def declared():
@@ -89,9 +90,17 @@ def test_symbols():
 def test_handles_and_memory_under_sanitizers():
     with folder() as place:
         for name, given in arguments(place).items():
-            program = compiled(place, name, "-g", "-fsanitize=address,undefined" if name == "handles" else "-fsanitize=undefined")
+            program = compiled(place, name, "-g", "-fsanitize=undefined" if name == "refused_memory" else "-fsanitize=address,undefined")
             done = run(*given, program=program)
             assert (done.returncode, done.stdout, done.stderr) == (0, b"", b""), (name, done)
+
+
+def test_handles_move_between_threads():
+    """No thread races with another one, as the thread sanitizer sees it."""
+    with folder() as place:
+        program = compiled(place, "threads", "-g", "-fsanitize=thread")
+        done = run(*arguments(place)["threads"], program=program)
+        assert (done.returncode, done.stdout, done.stderr) == (0, b"", b""), done
 
 
 def test_handles_under_valgrind():
@@ -305,7 +314,7 @@ def test_frames():
 
 
 def test_version():
-    """The header, the module and the program tell one version."""
+    """The header, the module and the program have one version."""
     version = run("--version").stdout.decode().split()[1]
     with open(HEADER, encoding="utf-8") as file:
         number = int(re.search(r"#define BTCHECK_VERSION (\w+)", file.read())[1], 16)

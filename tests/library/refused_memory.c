@@ -30,24 +30,59 @@ void *__wrap_realloc(void *block, size_t size) { return is_refused() ? NULL : __
 /* The status of a call that has only so many blocks. */
 #define WITH(blocks, call) (left = (blocks), status = (call), left = -1, status)
 
-static uint8_t torrent[1 << 20], hashes[9][32], room[8][32];
+static uint8_t torrent[1 << 20], hashes[9][32], room[8][32], body[1 + 32 + 16 + 8 * 32];
+static size_t len;
+static btcheck_session session = BTCHECK_INIT;
+
+/* Nothing is known but the root. */
+static void want_unchanged(void) {
+  uint64_t known = 0, marked = 0;
+  WANT(btcheck_session_counts(&session, 0, &known, &marked), BTCHECK_OK);
+  CHECK(known == 1 && marked == 0);
+}
+
+static void reopen(void) {
+  btcheck_session_free(&session);
+  WANT(btcheck_session_open(&session, torrent, len, false), BTCHECK_OK);
+}
+
+/* A call has no memory, then one block of it, then two: each time it is refused, until it has enough. */
+#define WANT_EACH(call, refusal)                                              \
+  do {                                                                        \
+    for (long blocks = 0; WITH(blocks, call) != BTCHECK_OK; blocks++) {       \
+      WANT(status, refusal);                                                  \
+      want_unchanged();                                                       \
+      refused++;                                                              \
+    }                                                                         \
+    CHECK(refused > 0);                                                       \
+    refused = 0;                                                              \
+  } while (0)
+
+/* The body of a hashes message: its id, its root, four numbers of 32 bits, and the hashes. */
+static void lay_out(void) {
+  body[0] = 22;
+  memcpy(body + 1, hashes[0], 32);
+  body[1 + 32 + 11] = 8;
+  memcpy(body + 1 + 32 + 16, hashes[1], 8 * 32);
+}
 
 int main(int argc, char **argv) {
-  size_t len = argc == 3 ? whole_file(argv[1], torrent, sizeof torrent) : 0;
+  len = argc == 3 ? whole_file(argv[1], torrent, sizeof torrent) : 0;
   if (!len || whole_file(argv[2], hashes[0], sizeof hashes) != sizeof hashes) return 2;
   const uint8_t(*given)[32] = (const uint8_t(*)[32])(hashes + 1);
   btcheck_ask ask = {{0}, 0, 0, 8, 0};
   memcpy(ask.root, hashes[0], 32);
+  lay_out();
   btcheck_root root = BTCHECK_INIT;
   btcheck_check check = BTCHECK_INIT;
-  btcheck_session session = BTCHECK_INIT;
+  btcheck_verdict verdict;
   uint64_t count = 7, known = 0, marked = 0;
   btcheck_status status;
+  unsigned refused = 0, of_torrent = 0, of_session = 0;
 
   WANT(WITH(0, btcheck_root_new(&root)), BTCHECK_NO_MEMORY);
   WANT(btcheck_root_push(&root, hashes[0], 1), BTCHECK_WRONG_HANDLE);
 
-  unsigned of_torrent = 0, of_session = 0;
   for (long blocks = 0; WITH(blocks, btcheck_session_open(&session, torrent, len, false)) != BTCHECK_OK; blocks++) {
     CHECK(status == BTCHECK_NO_MEMORY || status == BTCHECK_TORRENT_NO_MEMORY);
     if (status == BTCHECK_NO_MEMORY) of_session++;
@@ -58,18 +93,32 @@ int main(int argc, char **argv) {
 
   WANT(WITH(0, btcheck_check_new(&check, &session, 0)), BTCHECK_NO_MEMORY);
   WANT(btcheck_check_push(&check, hashes[0], 1), BTCHECK_WRONG_HANDLE);
-  WANT(WITH(0, btcheck_session_note(&session, &ask)), BTCHECK_NO_MEMORY);
-  WANT(btcheck_session_take_answer(&session, &ask, given, 8, &count), BTCHECK_H8_UNASKED);
-  WANT(btcheck_session_note(&session, &ask), BTCHECK_OK);
+
+  WANT_EACH(btcheck_session_take_hashes(&session, ask.root, 0, 0, 8, 0, given, 8, &count), BTCHECK_H7_NO_MEMORY);
+  CHECK(count == 14);
+  reopen();
+  WANT_EACH(btcheck_session_frame(&session, body, sizeof body, &verdict), BTCHECK_H7_NO_MEMORY);
+  CHECK(verdict.kind == BTCHECK_STORED && verdict.places == 14);
+  reopen();
+  count = 7;
+  WANT_EACH(btcheck_session_note(&session, &ask), BTCHECK_NO_MEMORY);
   WANT(WITH(0, btcheck_session_note(&session, &ask)), BTCHECK_OK);
-  WANT(WITH(0, btcheck_session_take_answer(&session, &ask, given, 8, &count)), BTCHECK_H7_NO_MEMORY);
-  WANT(WITH(0, btcheck_session_take_hashes(&session, ask.root, 0, 0, 8, 0, given, 8, &count)), BTCHECK_H7_NO_MEMORY);
-  WANT(btcheck_session_counts(&session, 0, &known, &marked), BTCHECK_OK);
-  CHECK(known == 1 && marked == 0 && count == 7);
-  WANT(btcheck_session_take_answer(&session, &ask, given, 8, &count), BTCHECK_OK);
+  WANT_EACH(btcheck_session_take_answer(&session, &ask, given, 8, &count), BTCHECK_H7_NO_MEMORY);
+  CHECK(count == 14);
+  count = 7;
   WANT(WITH(0, btcheck_session_answer(&session, &ask, room, 8, &count)), BTCHECK_NO_MEMORY);
+  CHECK(count == 7);
   WANT(btcheck_session_answer(&session, &ask, room, 8, &count), BTCHECK_OK);
   CHECK(count == 8 && !memcmp(room, hashes + 1, sizeof room));
+
+  /* These take no memory. */
+  btcheck_file file;
+  WANT(WITH(0, btcheck_session_can_answer(&session, &ask)), BTCHECK_OK);
+  WANT(WITH(0, btcheck_session_want(&session, 0, 0, &ask)), BTCHECK_NOTHING);
+  WANT(WITH(0, btcheck_session_is_marked(&session, 0, 0)), BTCHECK_NOTHING);
+  WANT(WITH(0, btcheck_session_take_block(&session, 0, 0, body, 1, &known, &marked)), BTCHECK_P2_BAD_SIZE);
+  WANT(WITH(0, btcheck_session_file(&session, 0, &file)), BTCHECK_OK);
+  WANT(WITH(0, btcheck_session_path(&session, 0, body, sizeof body, &count)), BTCHECK_OK);
   btcheck_session_free(&session);
   return 0;
 }

@@ -6,3 +6,4 @@ pub mod Joining
 pub mod Entries
 pub mod FilePieces
 pub mod Starting
+pub mod Moving

@@ -24,6 +24,7 @@ mod session_calls;
 mod slot;
 mod status;
 mod thing;
+mod threads;
 mod verdict_info;
 mod version;
 
@@ -31,4 +32,5 @@ pub use asked::Asked;
 pub use blocks_info::BlocksInfo;
 pub use file_info::FileInfo;
 pub use handle::Handle;
+pub use threads::{handles_may_move, may_move};
 pub use verdict_info::VerdictInfo;

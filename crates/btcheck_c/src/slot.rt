@@ -23,6 +23,9 @@ impl Model for Slot {
     ghost also_owns = { λ s. slot_owns s.alloc s.at s.held };
 }
 
+// The boxed thing may go to another thread, and any thread may free its block.
+unsafe impl Send for Slot {}
+
 impl Slot {
     /// A slot of nothing.
     pub fn empty(alloc: Global) -> Slot

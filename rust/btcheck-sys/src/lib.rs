@@ -4,7 +4,7 @@
 
 use core::ffi::c_void;
 
-/// What every call but `.._free` answers.
+/// What each call but `.._free` and `btcheck_version` returns.
 pub type btcheck_status = u32;
 
 pub const BTCHECK_OK: btcheck_status = 0;
@@ -16,6 +16,8 @@ pub const BTCHECK_NO_SUCH: btcheck_status = 5;
 pub const BTCHECK_NOTHING: btcheck_status = 6;
 pub const BTCHECK_TOO_SMALL: btcheck_status = 7;
 pub const BTCHECK_BAD_SIZE: btcheck_status = 8;
+pub const BTCHECK_TOO_SHORT: btcheck_status = 9;
+pub const BTCHECK_BAD_PIECE: btcheck_status = 10;
 /// Refusals of a torrent are this and the number that `btcheck show` prints.
 pub const BTCHECK_TORRENT: btcheck_status = 100;
 /// Refusals of a hashes message are this and n of Hn.
@@ -52,6 +54,14 @@ pub struct btcheck_root {
 #[repr(C)]
 #[derive(Debug)]
 pub struct btcheck_session {
+    pub full: bool,
+    pub at: *mut c_void,
+}
+
+/// The check of one file's bytes. Zero bytes are a handle that holds nothing.
+#[repr(C)]
+#[derive(Debug)]
+pub struct btcheck_check {
     pub full: bool,
     pub at: *mut c_void,
 }
@@ -112,6 +122,19 @@ extern "C" {
         hash: *mut [u8; 32],
     ) -> btcheck_status;
     pub fn btcheck_root_free(root: *mut btcheck_root);
+
+    pub fn btcheck_check_new(
+        check: *mut btcheck_check,
+        session: *mut btcheck_session,
+        number: usize,
+    ) -> btcheck_status;
+    pub fn btcheck_check_push(
+        check: *mut btcheck_check,
+        bytes: *const u8,
+        len: usize,
+    ) -> btcheck_status;
+    pub fn btcheck_check_finish(check: *mut btcheck_check, piece: *mut u64) -> btcheck_status;
+    pub fn btcheck_check_free(check: *mut btcheck_check);
 
     pub fn btcheck_session_open(
         session: *mut btcheck_session,

@@ -8,7 +8,7 @@ use btcheck_sys as sys;
 pub enum Error {
     /// Memory was refused.
     NoMemory,
-    /// More than 2^46 bytes.
+    /// More than 2^46 bytes, or more than the file has.
     TooLong,
     /// An empty file has no root.
     NoRoot,
@@ -18,6 +18,8 @@ pub enum Error {
     Nothing,
     /// A message has a wrong size for its id.
     BadSize,
+    /// Bytes of the file are still to come.
+    TooShort,
     /// The torrent is refused, by the number that `btcheck show` prints.
     Torrent(u32),
     /// The hashes are refused: n of Hn.
@@ -39,6 +41,7 @@ impl Error {
             sys::BTCHECK_NO_SUCH => Error::NoSuch,
             sys::BTCHECK_NOTHING => Error::Nothing,
             sys::BTCHECK_BAD_SIZE => Error::BadSize,
+            sys::BTCHECK_TOO_SHORT => Error::TooShort,
             101..=199 => Error::Torrent(status - sys::BTCHECK_TORRENT),
             201..=299 => Error::Hashes(status - sys::BTCHECK_H),
             301..=399 => Error::Block(status - sys::BTCHECK_P),
@@ -67,11 +70,12 @@ impl fmt::Display for Error {
     fn fmt(&self, f: &mut fmt::Formatter<'_>) -> fmt::Result {
         match *self {
             Error::NoMemory => f.write_str("memory was refused"),
-            Error::TooLong => f.write_str("more than 2^46 bytes"),
+            Error::TooLong => f.write_str("more than 2^46 bytes, or more than the file has"),
             Error::NoRoot => f.write_str("an empty file has no root"),
             Error::NoSuch => f.write_str("the torrent has no such tree, block or file"),
             Error::Nothing => f.write_str("nothing to ask for or to answer with"),
             Error::BadSize => f.write_str("a message has a wrong size"),
+            Error::TooShort => f.write_str("bytes of the file are still to come"),
             Error::Torrent(number) => write!(f, "the torrent is refused: {number}"),
             Error::Hashes(number) => write!(f, "H{number} {}", name_of(&OF_HASHES, number)),
             Error::Block(number) => write!(f, "P{number} {}", name_of(&OF_BLOCKS, number)),

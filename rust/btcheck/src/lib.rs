@@ -13,6 +13,7 @@
 //! A call that is refused has changed nothing.
 #![warn(missing_docs)]
 
+mod check;
 mod error;
 mod files;
 mod messages;
@@ -20,6 +21,7 @@ mod root;
 mod session;
 
 pub use btcheck_sys::btcheck_ask as Ask;
+pub use check::Check;
 pub use error::Error;
 pub use files::{File, InfoHashes};
 pub use messages::{Blocks, Verdict};

@@ -19,7 +19,7 @@ pub struct FileRoot {
     pub hash: Hash,
 }
 
-// SAFETY: the library keeps no state of a thread; one handle is used by one call at a time, since each takes `&mut self`.
+// SAFETY: it is proved that a handle may move; one handle is in one call at a time, since each takes `&mut self`.
 unsafe impl Send for Root {}
 
 impl Root {

@@ -41,7 +41,7 @@ pub struct Counts {
     pub marked: u64,
 }
 
-// SAFETY: the library keeps no state of a thread, and the torrent's bytes are the session's own.
+// SAFETY: it is proved that a handle may move, and the torrent's bytes are the session's own.
 unsafe impl Send for Session {}
 
 impl Session {

@@ -54,6 +54,25 @@ fn a_root_is_that_of_the_content_however_it_is_cut() {
 }
 
 #[test]
+fn a_check_finds_the_first_bad_piece() {
+    let mut session = opened();
+    assert_eq!(session.check(1000).unwrap_err(), Error::NoSuch);
+    let mut content = file();
+    let mut check = session.check(0).unwrap();
+    assert_eq!(check.finish(), Err(Error::TooShort));
+    for part in content.chunks(1000) {
+        check.push(part).unwrap();
+    }
+    assert_eq!(check.push(b"a"), Err(Error::TooLong));
+    assert_eq!(check.finish(), Ok(None));
+    content[0] ^= 1;
+    check.push(&content).unwrap();
+    assert_eq!(check.finish(), Ok(Some(0)));
+    drop(check);
+    assert_eq!(session.check(0).unwrap().finish(), Err(Error::TooShort));
+}
+
+#[test]
 fn a_torrent_that_is_none_is_refused() {
     assert_eq!(
         Session::open(example("abc.txt"), true).unwrap_err(),

@@ -1,0 +1,39 @@
+-- What a handle holds may move to another thread, as each of its parts may.
+use denote.Ref.{NamedLft}
+use denote.Param.Send.{IsSend, sendable}
+use denote.Param.SendFields.{as_row_send, declared_send, variants_send}
+use Rattle.std.proofs.Crossing as heap
+use Rattle.std.proofs.MapsCrossing as maps
+use Rattle.filetree.proofs.folder.TreeFolder.TheLaws.TheKnot as folder
+use Rattle.filetree.specs.contracts.path.Path as Path
+use Rattle.opening.proofs.torrent.TreeInfo.TheSendSync as tree_info
+use Rattle.opening.specs.contracts.torrent.File as File
+use Rattle.opening.specs.contracts.torrent.Torrent as Torrent
+use Rattle.pieces.proofs.v1.V1.TheSendSync as version1
+use Rattle.pieces.proofs.piece_length.PieceLength.TheSendSync as piece_length
+use Rattle.node_maps.proofs.paged.Paged.TheSendSync as paged
+use Rattle.session.proofs.pausing.Paused.TheSendSync as paused
+use Rattle.hashtree.proofs.root.RootBuilder.TheSendSync as builder
+use Rattle.btcheck_c.proofs.file_check.FileCheck.TheSendSync as check
+use Rattle.btcheck_c.specs.contracts.opened.Opened as Opened
+use Rattle.btcheck_c.specs.contracts.thing.Kind as Kind
+use Rattle.btcheck_c.specs.contracts.thing.Thing as Thing
+
+-- folders are shared by an `Arc`, so each must be one that threads may share
+path : (κ : NamedLft) → IsSend (Path.the_row κ)
+path κ = search (folder.crosses_both, maps.crosses, heap.crosses, sendable) depth 40 fits 100000
+
+file : (κ : NamedLft) → IsSend (File.the_row κ)
+file κ = search (path, sendable) depth 40 fits 100000
+
+torrent : (κ : NamedLft) → IsSend (Torrent.the_row κ)
+torrent κ = search (file, tree_info.the_send, version1.the_send, piece_length.the_send, maps.crosses, heap.crosses, sendable) depth 40 fits 100000
+
+opened : IsSend Opened.the_row
+opened = search (torrent, paused.the_send, paged.the_send, sendable) depth 30 fits 100000
+
+kind : IsSend Kind.the_row
+kind = search (opened, builder.the_field_send, check.the_field_send, variants_send, as_row_send, sendable) depth 30 fits 100000
+
+pub thing : IsSend Thing.the_row
+thing = search (kind, declared_send, sendable) depth 30 fits 100000
