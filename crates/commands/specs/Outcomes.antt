@@ -33,6 +33,13 @@ use Rattle.printing.specs.Refused.{refusal_text}
 use Rattle.replays.specs.Replay.{IsReport, ReplaySeen}
 use Rattle.folders.specs.Shelf.{more, path_bytes}
 use Rattle.folders.specs.Verdicts.{HasVerdicts, TellsFolder, is_yes, unreadable_count}
+use Rattle.folders.specs.declared.lines.Lines.TheVariants as lines
+use Rattle.part_reports.specs.Joined.{AreJoined}
+use Rattle.part_reports.specs.declared.join_fault.JoinFault.{JoinFault}
+use Rattle.part_reports.specs.declared.join_fault.JoinFault.TheVariants as joining
+use Rattle.parts.specs.Finding.{TellsPlaces}
+use Rattle.parts.specs.PartLines.{part_text}
+use Rattle.parts.specs.Shares.{share}
 
 -- ---- statuses
 
@@ -114,6 +121,41 @@ Checks t under Went Broken lines out out' (Err (faults.Write path)) =
     (path.now ≡ codes "-") × Broken
 Checks t under Went Broken lines out out' (Err faults.NoMemory) = out' ≡ out
 Checks t under Went Broken lines out out' (Err fault) = ⊥
+
+-- ---- parts
+
+-- What a part of a check did, by its answer: it went to the shelf so, the report of the part on
+-- what stands under the torrent's paths went out, and the status is that of its last line; or that
+-- report broke off; or memory was refused before it.
+abbrev pub ChecksPart : Description → ℕ → ℕ → (List (List ℕ) → Option (Option (List ℕ)))
+    → (List FileVerdict → Type 0) → SinkSeen → SinkSeen → Result ℕ Fault → Type 0
+ChecksPart t part count under Went out out' (Ok status) = (files : List FileVerdict)
+    × (v1 : Option V1Verdict) × HasVerdicts t files v1
+    × TellsPlaces t (share t part count) under files v1 × Went files
+    × SentAndFlushed out out' (part_text t part count files v1)
+    × (status ≡ answer_status (is_yes files v1))
+ChecksPart t part count under Went out out' (Err (faults.Write path)) = (path.now ≡ codes "-")
+    × (files : List FileVerdict) × (v1 : Option V1Verdict) × HasVerdicts t files v1
+    × TellsPlaces t (share t part count) under files v1 × Went files
+    × BrokeOrUnflushed out out' (part_text t part count files v1)
+ChecksPart t part count under Went out out' (Err faults.NoMemory) = out' ≡ out
+ChecksPart t part count under Went out out' (Err fault) = ⊥
+
+-- What joining reports did, by its answer: what they say together went out as the report of a
+-- check, and the status is that of its last line; or they cannot be joined, and nothing was
+-- printed; or the report broke off; or memory was refused before it.
+abbrev pub JoinsParts : Description → List (List ℕ) → SinkSeen → SinkSeen
+    → Result (Result ℕ JoinFault) Fault → Type 0
+JoinsParts t texts out out' (Ok (Ok status)) = (files : List FileVerdict)
+    × (v1 : Option V1Verdict) × AreJoined t texts files v1
+    × SentAndFlushed out out' (report_text lines.All t.files files v1)
+    × (status ≡ answer_status (is_yes files v1))
+JoinsParts t texts out out' (Ok (Err fault)) = (fault ≢ joining.NoMemory) × (out' ≡ out)
+JoinsParts t texts out out' (Err (faults.Write path)) = (path.now ≡ codes "-")
+    × (files : List FileVerdict) × (v1 : Option V1Verdict) × AreJoined t texts files v1
+    × BrokeOrUnflushed out out' (report_text lines.All t.files files v1)
+JoinsParts t texts out out' (Err faults.NoMemory) = out' ≡ out
+JoinsParts t texts out out' (Err fault) = ⊥
 
 -- ---- seeds, new torrents and conversions
 

@@ -8,12 +8,12 @@ use crate::noted::Noted;
 use crate::offsets::Offsets;
 use crate::system::{Cause, System};
 use benc::{DeviceFault, FromRead, Source};
-use folders::{Shelf, ShelfFault};
+use folders::{SeekShelf, Shelf, ShelfFault};
 use opening::Torrent;
 use progress::{Counted, Progress};
 use std::alloc::{AllocError, Global};
 use std::fs::{self, File, Metadata};
-use std::io::{self, ErrorKind};
+use std::io::{self, ErrorKind, Seek, SeekFrom};
 
 /// The files below a folder. Opening follows symlinks, and fails at what is then no regular file.
 ///
@@ -135,6 +135,18 @@ impl<'a> Folder<'a> {
             Ok(file) => Ok(Some((file, system_path))),
             Err(error) => self.not_opened(error),
         }
+    }
+
+    // The same, to be read from this byte on.
+    fn open_file_at(&self, path: &[&str], offset: u64) -> io::Result<Option<(File, String)>> {
+        let Some((mut file, system_path)) = self.open_file(path)? else {
+            return Ok(None);
+        };
+        if let Err(error) = file.seek(SeekFrom::Start(offset)) {
+            self.system.note(Cause::Error(error));
+            return Err(error);
+        }
+        Ok(Some((file, system_path)))
     }
 
     // What an opening that failed answers: an error, or nothing if the system finds no such name.
@@ -320,5 +332,21 @@ impl<'a> Shelf for Folder<'a> {
 
     fn failures(&self) -> u64 {
         self.faults
+    }
+}
+
+impl SeekShelf for Folder<'_> {
+    ghost opens_at = { λ _ _ _ _ _. ⊤ };
+
+    fn open_at(&mut self, path: &[&str], offset: u64) -> Result<Option<Self::File>, DeviceFault> {
+        let Ok(found) = self.open_file_at(path, offset) else {
+            return Err(self.fault());
+        };
+        let Some((file, name)) = found else {
+            return Ok(None);
+        };
+        let source = FromRead::new(Noted::new(file, self.system));
+        let before = self.progress.read();
+        Ok(Some(Counted::new(source, name, before, self.progress)))
     }
 }

@@ -1,5 +1,5 @@
 //! What each command answers over any devices: what goes out, and the exit status that follows.
-ghost use Rattle.std.specs.Prelude.{◌≡◌, ◌≢◌, ◌^◌, ◌+◌, ◌≤◌, ◌↔◌, ℕ, Bool, IsTrue, List, [], None, Some, Ok, Err, IfErr, IfOk, OnErr, OnOk, String, length, map, not, true, false};
+ghost use Rattle.std.specs.Prelude.{◌≡◌, ◌≢◌, ◌^◌, ◌+◌, ◌-◌, ◌≤◌, ◌↔◌, ℕ, Bool, IsTrue, List, [], None, Some, Ok, Err, IfErr, IfOk, OnErr, OnOk, String, length, map, not, true, false};
 ghost use Rattle.std.specs.String.{string_bytes};
 ghost use Rattle.benc.specs.Device.{BrokeOrUnflushed, SentAndFlushed, WroteAndFlushed};
 ghost use Rattle.chains.specs.Chain.{Chain};
@@ -13,17 +13,23 @@ ghost use Rattle.seeding.specs.Seeding.{IsSeeded, Seeds, shelf_and_session};
 ghost use Rattle.folders.specs.TakeAll.{IsReadWithin};
 ghost use Rattle.folders.specs.Visits.{Visits};
 ghost use Rattle.session.specs.Fresh.{IsFresh};
-ghost use Rattle.commands.specs.Outcomes.{BlamesOne, Checks, ConvertsRecord, EndsRoot, HasTold, IsReplayed, IsToldOfListing, IsToldOfSeeding, IsUnprinted, MakesDraft, NamesOutput, NamesSink, WritesTorrent, answer_status, form_2_text, wanted_draft};
+ghost use Rattle.parts.specs.PartVisits.{VisitsPart};
+ghost use Rattle.parts.specs.Shares.{share};
+ghost use Rattle.commands.specs.Outcomes.{BlamesOne, Checks, ChecksPart, ConvertsRecord, EndsRoot, HasTold, IsReplayed, IsToldOfListing, IsToldOfSeeding, IsUnprinted, JoinsParts, MakesDraft, NamesOutput, NamesSink, WritesTorrent, answer_status, form_2_text, wanted_draft};
 
 use benc::memory::MemSink;
 use benc::{Sink, Source};
-use command_line::command::Create;
+use command_line::command::{Create, Part};
 use conversions::ConvertFault;
 use drafts::Draft;
 use filetree::Refusal;
-use folders::{CheckFault, Lines, RootFault, Shelf, ShelfFault, check_onto, root_line};
+use folders::{
+    CheckFault, Lines, RootFault, SeekShelf, Shelf, ShelfFault, check_onto, print_report, root_line,
+};
 use gathering::GatherFault;
 use opening::Torrent;
+use part_reports::{JoinFault, join_reports};
+use parts::{Places, print_part};
 use printing::{Fault, refusal_line, write_line};
 use seeding::SeedFault;
 use session::{NodeMap, Paged, Session};
@@ -104,6 +110,57 @@ pub fn check<'a, S: Shelf, W: Sink>(
         Ok(report) => Ok(status(report.yes())),
         Err(CheckFault::NoMemory) => Err(Fault::NoMemory),
         Err(CheckFault::Write) => Err(Fault::Write("-")),
+    }
+}
+
+/// Checks one part of the torrent's files on a shelf, and prints what it found: the lines of the
+/// files that have a place in the part. The status is 0 for `part yes` and 1 for `part no`.
+pub fn check_part<'a, S: SeekShelf, W: Sink>(
+    alloc: Global,
+    torrent: &Torrent<'_>,
+    shelf: &mut S,
+    part: Part,
+    out: &mut W,
+) -> Result<u8, Fault<'a>>
+    ensures checks { ChecksPart torrent.now (part.number - 1) part.count
+        (S.Shelf.contents shelf.old).under
+        (λ files. Chain (VisitsPart S.opens_at S.Shelf.closes S.File.seen torrent.now
+        (share torrent.now (part.number - 1) part.count)) shelf.old torrent.now.files files shelf.new
+        × HasTold (S.Shelf.faults shelf.old) (S.Shelf.faults shelf.new) files)
+        (W.seen out.old) (W.seen out.new) result }
+    ensures no_memory { IfErr result (λ f. f ≡ Fault.NoMemory → shelf.new ≡ shelf.old) }
+{
+    let number = part.number - 1;
+    let places = Places::of_part(torrent, number, part.count);
+    let Ok(report) = parts::check_part(alloc, torrent, shelf, places) else {
+        return Err(Fault::NoMemory);
+    };
+    match print_part(&report, torrent, number, part.count, out) {
+        Ok(()) => Ok(status(report.yes())),
+        Err(_) => Err(Fault::Write("-")),
+    }
+}
+
+/// Joins what all parts of a check of this torrent reported, in any order, and prints it as the
+/// report of the whole check. The status is 0 for `yes` and 1 for `no`. If they cannot be joined it
+/// answers why, and prints nothing.
+pub fn join<'a, W: Sink>(
+    alloc: Global,
+    torrent: &Torrent<'_>,
+    texts: &[&[u8]],
+    out: &mut W,
+) -> Result<Result<u8, JoinFault>, Fault<'a>>
+    ensures { JoinsParts torrent.now (map (λ x. x.now) texts.now)
+        (W.seen out.old) (W.seen out.new) result }
+{
+    let report = match join_reports(alloc, torrent, texts) {
+        Ok(report) => report,
+        Err(JoinFault::NoMemory) => return Err(Fault::NoMemory),
+        Err(fault) => return Ok(Err(fault)),
+    };
+    match print_report(&report, torrent, out) {
+        Ok(()) => Ok(Ok(status(report.yes()))),
+        Err(_) => Err(Fault::Write("-")),
     }
 }
 

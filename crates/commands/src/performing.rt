@@ -4,20 +4,23 @@ ghost use Rattle.std.specs.Prelude.{◌≢◌, IfErr};
 use crate::bad_check::check_bad;
 use crate::excluded::refuse_globs;
 use crate::folder::Folder;
+use crate::join_faults::refuse_join;
 use crate::noted::{Noted, Output};
 use crate::outcomes;
 use crate::output::create_output;
+use crate::report_files::read_reports;
 use crate::streams::hold_closed_streams;
 use crate::system::{Cause, System};
 use crate::torrent_file::read_torrent;
 use benc::{FromRead, FromWrite, Sink, Source};
-use command_line::command::{Action, Check, Convert, Create, Replay};
+use command_line::command::{Action, Check, CheckPart, Convert, Create, Join, Replay};
 use drafts::Draft;
 use excluding::{Excluding, regex_of};
 use filetree::Refusal;
 use folders::{Lines, Shelf};
 use json_lines::{CHECK, Form, REPLAY, ROOT, SHOW};
 use opening::Torrent;
+use parts::Places;
 use printing::Fault;
 use progress::{Cleared, Counted, Progress};
 use regex::Regex;
@@ -31,6 +34,8 @@ pub fn perform<'a>(system: &System, action: &Action<'a>) -> Result<u8, Fault<'a>
         Action::Root { file, json } => root(system, file, *json),
         Action::Show { torrent, json } => show(system, torrent, *json),
         Action::Check(asked) => check(system, asked),
+        Action::CheckPart(asked) => check_part(system, asked),
+        Action::Join(asked) => join(system, asked),
         Action::Replay(asked) => replay(system, asked),
         Action::Create(asked) => create(system, asked),
         Action::Convert(asked) => convert(system, asked),
@@ -172,6 +177,73 @@ fn check_folder<'a, W: Sink>(
         return check_bad(system.alloc(), torrent, asked.dir, &mut folder, lines, out);
     }
     outcomes::check(system.alloc(), torrent, &mut folder, lines, out)
+}
+
+fn check_part<'a>(system: &System, asked: &CheckPart<'a>) -> Result<u8, Fault<'a>> {
+    let bytes = read_torrent(system, asked.torrent)?;
+    let mut out = buffered_output(system)?;
+    match open(system, bytes.as_slice()) {
+        Ok(torrent) => check_part_of(system, &torrent, asked, out),
+        Err(refusal) => outcomes::refuse(&refusal, &[], &mut out),
+    }
+}
+
+fn check_part_of<'a, W: Sink + Drop>(
+    system: &System,
+    torrent: &Torrent<'_>,
+    asked: &CheckPart<'a>,
+    out: W,
+) -> Result<u8, Fault<'a>> {
+    let places = Places::of_part(torrent, asked.part.number - 1, asked.part.count);
+    let progress = Progress::new(system.rt(), Some(bytes_in(torrent, places)));
+    let mut folder = Folder::with_torrent(system, asked.dir, torrent, &progress);
+    let mut out = Cleared::new(out, &progress);
+    outcomes::check_part(system.alloc(), torrent, &mut folder, asked.part, &mut out)
+}
+
+// How many bytes the files of a torrent have in these places.
+fn bytes_in(torrent: &Torrent<'_>, places: Places) -> u64 {
+    let mut all: u64 = 0;
+    'files: for file in torrent.files() {
+        let from = bytes_before(torrent, file, places.from);
+        all = all.saturating_add(bytes_before(torrent, file, places.to).saturating_sub(from));
+    }
+    all
+}
+
+// How many bytes of a file stand before this place.
+fn bytes_before(torrent: &Torrent<'_>, file: &opening::File<'_>, place: u64) -> u64 {
+    let pieces = place.saturating_sub(file.first_piece);
+    pieces
+        .saturating_mul(torrent.piece_length())
+        .min(file.length)
+}
+
+// The reports are read once the torrent is taken.
+fn join<'a>(system: &System, asked: &Join<'a>) -> Result<u8, Fault<'a>> {
+    let bytes = read_torrent(system, asked.torrent)?;
+    let mut out = buffered_output(system)?;
+    match open(system, bytes.as_slice()) {
+        Ok(torrent) => join_files(system, &torrent, asked.reports.as_slice(), &mut out),
+        Err(refusal) => outcomes::refuse(&refusal, &[], &mut out),
+    }
+}
+
+fn join_files<'a, W: Sink>(
+    system: &System,
+    torrent: &Torrent<'_>,
+    paths: &[&'a str],
+    out: &mut W,
+) -> Result<u8, Fault<'a>> {
+    let texts = read_reports(system, torrent, paths)?;
+    let slices = texts
+        .iter()
+        .map(|text| text.as_slice())
+        .collect::<Vec<&[u8]>>(system.alloc())?;
+    match outcomes::join(system.alloc(), torrent, slices.as_slice(), out)? {
+        Ok(status) => Ok(status),
+        Err(fault) => refuse_join(system, fault, paths),
+    }
 }
 
 // Prints the refusal of a torrent, as its line or as the object of that.

@@ -1,0 +1,50 @@
+//! What is said of reports that cannot be joined.
+use crate::system::System;
+use benc::{DeviceFault, FromWrite, Sink, write_all};
+use part_reports::JoinFault;
+use printing::{Fault, write_escaped};
+use std::io::Write;
+
+/// Says on standard error, as of other faults, why the reports with these paths are not joined.
+/// Gives the exit status of a fault. What cannot be written is lost.
+pub(crate) fn refuse_join<'a>(
+    system: &System,
+    fault: JoinFault,
+    paths: &[&str],
+) -> Result<u8, Fault<'a>> {
+    let mut out = system.rt().stderr();
+    match fault {
+        JoinFault::NoMemory => return Err(Fault::NoMemory),
+        JoinFault::Missing(number, count) => {
+            let _ = writeln!(out, "fault: part {number} of {count} is missing");
+        }
+        JoinFault::Twice(number) => {
+            let _ = writeln!(out, "fault: part {number} is there twice");
+        }
+        JoinFault::NoReport(place) => blame(system, b"no whole report of a part", paths, place),
+        JoinFault::OtherTorrent(place) => blame(system, b"a part of another torrent", paths, place),
+        JoinFault::OtherCount(place) => blame(
+            system,
+            b"a report of another number of parts",
+            paths,
+            place,
+        ),
+    }
+    Ok(2)
+}
+
+// Says this of the report at this place.
+fn blame(system: &System, words: &[u8], paths: &[&str], place: usize) {
+    let path = paths.get(place).copied().unwrap_or("");
+    let mut out = FromWrite::new(system.rt().stderr());
+    let _ = write_fault(words, path, &mut out);
+    let _ = out.flush();
+}
+
+fn write_fault<W: Sink>(words: &[u8], path: &str, out: &mut W) -> Result<(), DeviceFault> {
+    write_all(out, b"fault: ")?;
+    write_all(out, words)?;
+    write_all(out, b": ")?;
+    write_escaped(out, path.as_bytes())?;
+    write_all(out, b"\n")
+}

@@ -1,0 +1,83 @@
+//! The bytes of reports.
+use crate::system::{Cause, System};
+use benc::{DeviceFault, Sink};
+use folders::{FileVerdict, write_verdict};
+use opening::Torrent;
+use printing::Fault;
+use std::alloc::AllocError;
+use std::io::{self, Read};
+
+/// How many bytes the first line of a report and the lines behind those of its files have at most:
+/// `part `, two numbers and an info-hash with what stands between them and a line feed; `v1 bad `
+/// and a number; and `part yes`.
+const REST: u64 = 5 + 20 + 1 + 20 + 1 + 64 + 1 + 7 + 20 + 1 + 9;
+
+/// The bytes of each of these reports, and of one that is longer than any of this torrent the first
+/// of them, one more than such a report has.
+pub(crate) fn read_reports<'a>(
+    system: &System,
+    torrent: &Torrent<'_>,
+    paths: &[&'a str],
+) -> Result<Vec<Vec<u8>>, Fault<'a>> {
+    let most = longest(torrent);
+    let mut texts = Vec::new(system.alloc());
+    for path in paths {
+        let text = read_report(system, path, most.saturating_add(1))?;
+        texts.push(text).map_err(AllocError::from)?;
+    }
+    Ok(texts)
+}
+
+// The bytes of the file with this path, and of a longer one the first of them.
+fn read_report<'a>(system: &System, path: &'a str, most: u64) -> Result<Vec<u8>, Fault<'a>> {
+    let file = system.open(path)?;
+    let mut bytes = Vec::new(system.alloc());
+    match file.take(most).read_to_end(&mut bytes) {
+        Ok(_) => Ok(bytes),
+        Err(error) if error.kind() == io::ErrorKind::OutOfMemory => Err(Fault::NoMemory),
+        Err(error) => {
+            system.note(Cause::Error(error));
+            Err(Fault::Read(path))
+        }
+    }
+}
+
+// How many bytes the longest report of a part of this torrent has.
+fn longest(torrent: &Torrent<'_>) -> u64 {
+    let mut counter = Counter {
+        count: REST,
+        flushes: 0,
+    };
+    'files: for file in torrent.files() {
+        let _ = write_verdict(FileVerdict::Bad(u64::MAX), file, &mut counter);
+    }
+    counter.count
+}
+
+// A sink that counts what is written.
+#[derive(Drop)]
+struct Counter {
+    count: u64,
+    flushes: u64,
+}
+
+impl Sink for Counter {
+    ghost use Rattle.std.specs.Prelude.{None, true};
+
+    // What was written is not known.
+    ghost seen = { λ s. record { written = None; faults = 0; flushes = s.flushes; is_flushed = true } };
+
+    fn write(&mut self, buf: &[u8]) -> Result<usize, DeviceFault> {
+        self.count = self.count.saturating_add(buf.len() as u64);
+        Ok(buf.len())
+    }
+
+    fn flush(&mut self) -> Result<(), DeviceFault> {
+        self.flushes = self.flushes.wrapping_add(1);
+        Ok(())
+    }
+
+    fn failures(&self) -> u64 {
+        0
+    }
+}
