@@ -19,14 +19,15 @@ LINES = {
     "show": [*REFUSED, r"name: (?P<name>.*)", r"piece length: (?P<bytes>\d+)", r"info hash v[12]: (?P<hash>[0-9a-f]+)",
              r"files: (?P<count>\d+)", r"(?P<length>\d+) - (?P<path>.*)", r"(?P<length>\d+) (?P<root>[0-9a-f]{64}) (?P<path>.*)"],
     "check": [*REFUSED, r"(?:good|missing|unreadable|wrong length) (?P<path>.*)", r"bad (?P<piece>\d+) (?P<path>.*)", r"v1 good|v1 not checked",
+              r"bad pieces (?P<first>\d+) (?P<last>\d+) bytes (?P<from>\d+)-(?P<to>\d+)",
               r"v1 bad (?P<piece>\d+)", r"yes|no"],
     "replay": [*REFUSED, r"(?P<frame>\d+) stored (?P<count>\d+)", r"(?P<frame>\d+) verified (?P<file>\d+) (?P<block>\d+)",
                r"(?P<frame>\d+) refused (?P<code>[HP]\d) (?P<name>\w+)(?: (?P<file>\d+) (?P<block>\d+))?",
                r"(?P<frame>\d+) (?:answered|rejected|reject noted|keep-alive|sent request|sent)", r"(?P<frame>\d+) skipped (?P<id>\d+)",
                r"(?P<frame>\d+) bad frame (?P<id>\d+) (?P<length>\d+)", r"(?:not )?seeded (?P<path>.*)", r"fault (?P<name>\w+)", r"end"],
 }
-NUMBERS = {"length", "number", "offset", "bytes", "count", "piece", "frame", "file", "block", "id"}
-KIND = re.compile(r"not checked|not seeded|wrong length|reject noted|sent request|bad frame|keep-alive|piece length|info hash v[12]|v1 \w+|[a-z]+")
+NUMBERS = {"length", "number", "offset", "bytes", "count", "piece", "frame", "file", "block", "id", "first", "last", "from", "to"}
+KIND = re.compile(r"not checked|not seeded|wrong length|bad pieces|reject noted|sent request|bad frame|keep-alive|piece length|info hash v[12]|v1 \w+|[a-z]+")
 
 
 def unescaped(text):

@@ -1,6 +1,7 @@
 //! What each command of `btcheck` answers over any devices, and what it does on real files.
 #![tactic(auto)]
 
+pub mod bad_check;
 mod excluded;
 mod fault;
 mod folder;

@@ -337,8 +337,8 @@ fn refuse_form_2<'a, W: Sink>(out: &mut W) -> Result<u8, Fault<'a>>
     Ok(status(false))
 }
 
-// The exit status of an answer: 0 for yes or done, 1 for no or a refusal.
-fn status(yes: bool) -> u8
+/// The exit status of an answer: 0 for yes or done, 1 for no or a refusal.
+pub(crate) fn status(yes: bool) -> u8
     ensures { result ≡ answer_status yes }
 {
     if yes { 0 } else { 1 }

@@ -1,6 +1,7 @@
 //! What each command does, on real files.
 ghost use Rattle.std.specs.Prelude.{◌≢◌, IfErr};
 
+use crate::bad_check::check_bad;
 use crate::excluded::refuse_globs;
 use crate::folder::Folder;
 use crate::join_faults::refuse_join;
@@ -172,6 +173,9 @@ fn check_folder<'a, W: Sink>(
     } else {
         Lines::All
     };
+    if asked.bad {
+        return check_bad(system.alloc(), torrent, asked.dir, &mut folder, lines, out);
+    }
     outcomes::check(system.alloc(), torrent, &mut folder, lines, out)
 }
 

@@ -90,8 +90,10 @@ PrintsRuns t f MayHave out out' (Err fault.Read) = WentFirst t f MayHave (Sent o
 PrintsRuns t f MayHave out out' (Err fault.Write) = WentFirst t f MayHave (Broke out out')
 PrintsRuns t f MayHave out out' (Err fault.Gone) = ⊥
 
--- The same of a file of whose path a shelf tells this. If nothing is there, or the opening failed,
--- nothing was printed.
+-- What printing the bad pieces of a file did of whose path a shelf tells this, by its answer: there
+-- is a content, and the lines of all its runs went out; or those of its first ones, before a read
+-- failed, or none, as the opening did; or those of the first ones broke off; or nothing is there,
+-- and nothing was printed.
 abbrev pub PrintsBad : Description → FileEntry → Option (Option (List ℕ)) → SinkSeen → SinkSeen
     → Result (Unit {0}) BadFault → Type 0
 PrintsBad t f told out out' (Ok u) = PrintsRuns t f (λ b. Agrees told (Some b)) out out' (Ok u)

@@ -28,8 +28,8 @@ abbrev pub shelf_and_sink : {S : Type 0} → S → SinkSeen → S × SinkSeen
 shelf_and_sink s out = (s, out)
 
 module _ {S F : Type 0} (shelf : Ghosts S F) (seen : F → SourceSeen) where
-  -- the bad pieces of a file were printed, or this fault came: its path was opened once, and no byte
-  -- after its stated length was read
+  -- the bad pieces of a file were printed, or this fault came: its path was opened once, and no
+  -- byte after its stated length was read
   pub record PrintsBadOf (t : Description) (old : S × SinkSeen) (f : FileEntry)
       (new : S × SinkSeen) (r : Result (Unit {0}) BadFault) : Type 0 where
     pub lines : PrintsBad t f ((shelf.contents old.0).under f.path) old.1 new.1 r
