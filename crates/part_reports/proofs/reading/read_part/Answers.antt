@@ -12,7 +12,8 @@ returns-then-eq-clause-whole c files v1 can is =
     let t = c.args.torrent.now in
     let places = sym c.of_part-places.ensures in
     let lines = lines_text t (share t c.args.part c.args.parts) files t.files ++ end_lines files v1 in
-    let behind = c.after_line.ensures (head_text t c.args.part c.args.parts) lines (head_is_line t c.args.part c.args.parts c.requires c.ranges.parts.fits) is in
+    let head = head_is_line t c.args.part c.args.parts c.requires c.ranges.parts.fits in
+    let behind = c.after_line.ensures (head_text t c.args.part c.args.parts) lines head is in
     c.in_ok-report.ensures.whole files v1 (subst (λ (r : Places). CanReport t r files v1) places can)
     (behind ∙ ap (λ (r : Places). lines_text t r files t.files ++ end_lines files v1) places)
 
@@ -21,7 +22,8 @@ returns-else-eq-clause-whole c files v1 can is =
     let t = c.args.torrent.now in
     let places = sym c.of_part-places.ensures in
     let lines = lines_text t (share t c.args.part c.args.parts) files t.files ++ end_lines files v1 in
-    let behind = c.after_line.ensures (head_text t c.args.part c.args.parts) lines (head_is_line t c.args.part c.args.parts c.requires c.ranges.parts.fits) is in
+    let head = head_is_line t c.args.part c.args.parts c.requires c.ranges.parts.fits in
+    let behind = c.after_line.ensures (head_text t c.args.part c.args.parts) lines head is in
     let read = c.in_ok-report.ensures.whole files v1 (subst (λ (r : Places). CanReport t r files v1) places can)
     (behind ∙ ap (λ (r : Places). lines_text t r files t.files ++ end_lines files v1) places) in
     let printed = c.as_slice.ensures.value ∙ c.in_ok-printed.ensures
