@@ -24,7 +24,7 @@ pub(crate) fn test_path(path: &[&str]) -> Result<(), Refusal>
     Ok(())
 }
 
-// Tells whether a path may have this component.
+// Whether a path may have this component.
 fn is_component(name: &str) -> bool
     ensures { IsTrue result ↔ IsComponent name.now }
 {

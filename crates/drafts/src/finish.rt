@@ -60,7 +60,7 @@ impl Draft {
         }
     }
 
-    // Tells whether the text is within the limit. It writes nothing.
+    // Whether the text is within the limit. It writes nothing.
     fn is_small<W: Sink>(&self, w: &mut W) -> bool
         ensures answer { IsTrue result ↔ (length (spelling (value_of self.now)) ≤ max_torrent) }
         ensures unchanged { W.seen w.new ≡ W.seen w.old }

@@ -17,7 +17,7 @@ use benc::Sink;
 use itoa::Buffer;
 use pieces::PieceLength;
 
-/// Tells whether there is one file, whose path is the torrent's name.
+/// Whether there is one file, whose path is the torrent's name.
 pub(crate) fn is_single(name: &str, files: &[DraftFile]) -> bool
     ensures { result ≡ is_single name.now (map outline_file files.now) }
 {

@@ -1,5 +1,5 @@
 -- What opening a file at a place makes of a shelf in memory.
-use Rattle.std.proofs.Common.{◌≡◌, ℕ, Option, Some, refl, sym, ◌∙◌, subst, ap, drop}
+use Rattle.std.proofs.Common.{◌≡◌, ℕ, Option, Some, refl, sym, ◌∙◌, subst, drop}
 use Rattle.benc.specs.declared.memory.source.MemSource.{MemSource}
 use Rattle.folders.specs.MemShelfCalls.{IsSourceOf}
 use Rattle.folders.specs.MemShelfSeeking.{IsOpenedFrom, IsSourceFrom}

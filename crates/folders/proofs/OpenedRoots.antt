@@ -1,7 +1,6 @@
 -- The root, the first bad piece and the version 1 stream of an opened file.
 use Rattle.std.proofs.Common.{◌≡◌, ◌⊎◌, inl, inr, ℕ, ◌+◌, ◌-◌, ◌*◌, ◌/◌, ◌^◌, ◌<◌, ◌≤◌, leb, if◌then◌else◌, List, [], ◌∷◌, ◌++◌, length}
 use Rattle.std.proofs.Common.{replicate, get_or, Option, Some, None, refl, ap, sym, ◌∙◌, subst, arith}
-use Rattle.std.proofs.Common.{not}
 use Rattle.std.proofs.Math.Nat.{div-mul-le_self, mul-le-mul_left}
 use Rattle.std.proofs.lemmas.Bool.Decides.{nat_tests}
 use Rattle.std.proofs.lemmas.Nat.{pow_pos}
@@ -20,7 +19,6 @@ use Rattle.pieces.specs.Feeding.{bytes_given}
 use Rattle.folders.specs.Content.{HasPlaceFor, IsComparedLayer, part_of}
 use Rattle.folders.specs.Streaming.{FillsTo, HasStreamRoom, StandsAt, Takes}
 use Rattle.folders.specs.Verdicts.{IsFirstBadPiece}
-use Rattle.folders.specs.declared.report.FileVerdict.TheVariants as file
 use Rattle.folders.proofs.Layers.{layer_is_low, layer_of_at, one_at_root, whole_layer}
 use Rattle.hashtree.proofs.Comparing.{length-layer_of}
 use Rattle.hashtree.proofs.Leading.{layers_lead_to_root}

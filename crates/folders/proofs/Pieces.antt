@@ -1,5 +1,5 @@
 -- An opened file, read to its end or to one byte past its length.
-use Rattle.std.proofs.Common.{◌≡◌, ℕ, ◌+◌, ◌-◌, ◌^◌, ◌<◌, ◌≤◌, Bool, true, false, List, [], ◌∷◌, length}
+use Rattle.std.proofs.Common.{◌≡◌, ℕ, ◌+◌, ◌^◌, ◌<◌, ◌≤◌, Bool, true, false, List, [], ◌∷◌, length}
 use Rattle.std.proofs.Common.{Option, Some, None, refl, ap, sym, ◌∙◌, subst, arith}
 use Rattle.std.proofs.Common.{eqb, eq-eqb, eqb-true, is_some, not}
 use Rattle.std.specs.Option.{option_eq}
@@ -19,7 +19,7 @@ use Rattle.folders.specs.TakeAll.{ReadAll, TookAll}
 use Rattle.opening.specs.Description.{Description, FileEntry, TreeEntry}
 use Rattle.opening.specs.Sound.{IsSound, IsSoundTree}
 use Rattle.pieces.specs.declared.v1_feed.V1Feed.{V1Feed}
-use Rattle.folders.specs.declared.stream.Stream.{Stream}
+use Rattle.folders.specs.declared.file_check.Stream.{Stream}
 use Rattle.folders.specs.Content.{HasPlaceFor, IsComparedLayer, IsToldOf}
 use Rattle.folders.specs.Folder.{start_of, tree_entry_of}
 use Rattle.folders.specs.Pass.{IsEmptyContent, IsOpenedVerdict}

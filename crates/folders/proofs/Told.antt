@@ -6,7 +6,7 @@ use Rattle.benc.proofs.Known.{Appends_nothing}
 use Rattle.benc.proofs.Out.{Broke-append, Sent-append}
 use Rattle.opening.specs.Description.{FileEntry}
 use Rattle.folders.specs.Printed.{verdicts_text, wanted_text}
-use Rattle.folders.specs.Telling.{HasBroken, HasSent}
+use Rattle.folders.specs.LinesOut.{HasBroken, HasSent}
 use Rattle.folders.specs.declared.lines.Lines.{Lines}
 use Rattle.folders.specs.declared.report.FileVerdict.{FileVerdict}
 

@@ -1,4 +1,4 @@
--- What comparing the digests of the version 1 stream's cuts with those that are listed told.
+-- What comparing the digests of the version 1 stream's cuts with those that are listed found.
 use Rattle.std.specs.Prelude.{◌≡◌, ℕ, List}
 use Rattle.pieces.specs.Cuts.{IsFirstDifference}
 use Rattle.folders.specs.declared.report.V1Verdict.{V1Verdict}

@@ -1,7 +1,7 @@
 -- The laws of what takes a file's bytes: several parts are one, and leave room for less.
 use Rattle.std.proofs.Common.{ℕ, ◌+◌, ◌≤◌, ◌++◌, List, [], length, Option, Some, None, refl, sym, ◌∙◌, subst, append_assoc, append-nil, arith}
 use Rattle.std.proofs.lemmas.List.{length-append}
-use Rattle.hashtree.specs.RootBuilder.{Feeds, IsFed}
+use Rattle.hashtree.specs.RootBuilder.{Feeds}
 use Rattle.hashtree.specs.declared.RootBuilder.{RootBuilder}
 use Rattle.hashtree.specs.PieceCheck.{IsFedCheck}
 use Rattle.folders.specs.Feeding.{CanBuild, CanFeed, FeedsBoth}
@@ -40,21 +40,7 @@ pub takes_less : (a : Option V1Feed) (m n : ℕ) → HasStreamRoom a n → m ≤
 takes_less None m n room le = tt
 takes_less (Some r) m n room le = omega (arith, room, le)
 
--- ---- a builder of a root
-
-pub built_none : (b : RootBuilder) → Feeds b [] b
-built_none b = record {
-  count = omega arith;
-  fed = λ file fed. subst (IsFed b) (sym (append-nil file)) fed;
-}
-
-pub built_both : (a b c : RootBuilder) (x y : List ℕ)
-    → Feeds a x b → Feeds b y c → Feeds a (x ++ y) c
-built_both a b c x y one two = record {
-  count = omega (arith, one.count, two.count, length-append x y);
-  fed = λ file fed.
-      subst (IsFed c) (append_assoc file x y) (two.fed (file ++ x) (one.fed file fed));
-}
+-- ---- a builder of a root, with `feeds_none` and `feeds_both` of `hashtree`
 
 pub built_room : (a b : RootBuilder) (x : List ℕ) (n : ℕ)
     → Feeds a x b → CanBuild a (length x + n) → CanBuild b n

@@ -1,4 +1,4 @@
--- What the check of a file's tree told, and where the file stands in the version 1 stream.
+-- What the check of a file's tree found, and where the file stands in the version 1 stream.
 use Rattle.std.specs.Prelude.{◌≡◌, ℕ, ◌+◌, ◌-◌, ◌<◌, ◌≤◌, List, [], ◌∷◌, ◌++◌, length, replicate, Option, Some, None, ⊤}
 use Rattle.hashtree.specs.Tree.{block_count, height, layer_of, root_of}
 use Rattle.hashtree.specs.Difference.{IsComparison}
@@ -15,8 +15,8 @@ pub record IsComparedLayer (piece_length : ℕ) (e : TreeEntry) (layer : ℕ) (h
   pub at_pieces : piece_length < e.length
       → (layer ≡ piece_layer piece_length) × (hashes ≡ e.layer)
 
--- what a check of a file told of this content, which has the stated length: its root, and the first
--- place of the compared layer whose node is not the given hash
+-- what a check of a file found of this content, which has the stated length: its root, and the
+-- first place of the compared layer whose node is not the given hash
 pub record IsToldOf (piece_length : ℕ) (e : TreeEntry) (bytes : List ℕ) (root : List ℕ)
     (place : Option ℕ) : Type 0 where
   pub layer : ℕ

@@ -13,7 +13,7 @@ pub mod Streaming
 pub mod Content
 pub mod Pass
 pub mod Printed
-pub mod Telling
+pub mod LinesOut
 pub mod Stopping
 pub mod Visits
 pub mod TakeAll

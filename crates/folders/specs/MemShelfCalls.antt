@@ -36,7 +36,7 @@ seen_of s = record {
   openings = s.opened;
 }
 
--- what stands on it, all of which it tells
+-- what stands on it, all of which is known
 abbrev pub contents_of : MemShelfSeen → ShelfContents
 contents_of s = record {
   under = λ p. Some (content_under s.files p);
@@ -84,11 +84,11 @@ ListsInTurn turn (Err fault.Name) = turn ≢ Some 0
 ListsInTurn turn (Err (fault.Special path)) = turn ≢ Some 0
 ListsInTurn turn (Err fault.NoMemory) = turn ≢ Some 0
 
--- a listing fails exactly in its turn, and else tells what stands there; it takes a turn, its fault
+-- a listing fails exactly in its turn, and else lists what stands there; it takes a turn, its fault
 -- is counted, and all else stays
 pub record Lists (s : MemShelfSeen) (answer : Result (Vec (Vec (String Global))) ShelfFault)
     (s' : MemShelfSeen) : Type 0 where
   pub fails : ListsInTurn s.before_fault answer
-  pub told : IsListed (contents_of s).listing answer
+  pub listed : IsListed (contents_of s).listing answer
   pub counts : CountsListing s.faults s'.faults answer
   pub stays : s' ≡ record s { before_fault = after_call s.before_fault; faults = s'.faults }

@@ -31,12 +31,12 @@ pub record IsOpenedVerdict (t : Description) (f : FileEntry) (source source' : S
   pub readable : is_unreadable v ≡ false
   pub taken : is_whole v ≡ true → IsStreamPart t f gives.bytes old new
 
--- What a check found of a file of whose path a shelf tells this. It has this content, which is the
--- known one; the verdict is true of it; and the stream took its part or has ended.
-pub record FindsVerdict (t : Description) (f : FileEntry) (told : Option (Option (List ℕ)))
+-- What a check found of a file of whose path this is known. It has this content, which is the
+-- one that is known; the verdict is true of it; and the stream took its part or has ended.
+pub record FindsVerdict (t : Description) (f : FileEntry) (known : Option (Option (List ℕ)))
     (old new : Option V1Feed) (v : FileVerdict) : Type 0 where
   pub content : Option (List ℕ)
-  pub agrees : Agrees told content
+  pub agrees : Agrees known content
   pub verdict : IsVerdict t f content v
   pub taken : is_whole v ≡ true
       → (bytes : List ℕ) × (content ≡ Some bytes) × IsStreamPart t f bytes old new

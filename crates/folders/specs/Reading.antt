@@ -1,4 +1,4 @@
--- What reading a source to its end told.
+-- What reading a source to its end found.
 use Rattle.std.specs.Prelude.{◌≡◌, ℕ, ◌^◌, ◌<◌, ◌≤◌, List, [], length}
 use Rattle.hashtree.specs.Tree.{root_of}
 use Rattle.folders.specs.declared.root.Reading.{Reading}
@@ -11,7 +11,7 @@ pub record IsRoot (file : List ℕ) (len : ℕ) (root : List ℕ) : Type 0 where
   pub length_is : len ≡ length file
   pub root_is : root ≡ root_of file
 
--- this is what is told of the file
+-- this is what is reported of the file
 abbrev pub IsReadingOf : List ℕ → Reading → Type 0
 IsReadingOf file Empty = file ≡ []
 IsReadingOf file (Root len root) = IsRoot file len root

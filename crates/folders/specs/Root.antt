@@ -30,8 +30,8 @@ Blames source source' out out' (Err fault.Read) =
 Blames source source' out out' (Err fault.Write) =
     (source'.faults ≡ source.faults) × (out'.faults ≡ one_more out.faults)
 
--- a file, which is what the source tells as far as it does; all of it was taken if it is not above
--- 2^46 bytes
+-- a file, which is the known one if the source's bytes are known; all of it was taken if it is not
+-- above 2^46 bytes
 pub record IsFileOfSource (source source' : SourceSeen) (file : List ℕ) : Type 0 where
   pub agrees : Agrees source.left file
   pub taken : length file ≤ 2 ^ 46 → source'.limit + length file ≡ source.limit

@@ -1,4 +1,4 @@
--- What a shelf of files tells, if it tells it.
+-- What stands on a shelf of files, as far as it is known.
 use Rattle.std.specs.Prelude.{◌≡◌, ℕ, zero, suc, List, [], map, Bool, true, false, if◌then◌else◌, count_by, Option, Some, None, option_map, Result, Ok, Err}
 use Rattle.std.specs.Prelude.{String, string_bytes, ⊤}
 use Rattle.std.specs.Global.{Global, Vec}
@@ -16,13 +16,13 @@ pub record Listing : Type 0 where
   pub has_odd_name : Bool
   pub specials : List (List (List ℕ))
 
--- what stands on a shelf, as far as it tells that: under each path nothing, or a file with these
+-- what stands on a shelf, as far as it is known: under each path nothing, or a file with these
 -- bytes; and the listing
 pub record ShelfContents : Type 0 where
   pub under : List (List ℕ) → Option (Option (List ℕ))
   pub listing : Option Listing
 
--- `open` found this under a path of which the shelf tells what is there: nothing, or a file's bytes
+-- `open` found this under a path of which this is known: nothing there, or a file's bytes
 abbrev pub IsFound : Option (Option (List ℕ)) → Option (Option (List ℕ)) → Type 0
 IsFound None found = ⊤
 IsFound (Some there) found = found ≡ option_map Some there
@@ -57,7 +57,7 @@ IsListingOf there (Err (fault.Special path)) =
     list_any (is_path (path_bytes path)) there.specials ≡ true
 IsListingOf there (Err fault.NoMemory) = ⊤
 
--- what was answered of a shelf that may tell what stands on it
+-- what was answered of a shelf, if what stands on it is known
 abbrev pub IsListed : Option Listing → Result (Vec (Vec (String Global))) ShelfFault → Type 0
 IsListed None result = ⊤
 IsListed (Some there) result = IsListingOf there result

@@ -13,8 +13,8 @@ use Rattle.folders.specs.declared.report.FileVerdict.{FileVerdict}
 use Rattle.folders.specs.declared.report.V1Verdict.{V1Verdict}
 use Rattle.folders.specs.declared.shelf.Shelf.{Ghosts}
 
--- each verdict on these first files is true of what stands at the file's path, as far as the shelf
--- tells that
+-- each verdict on these first files is true of what stands at the file's path, as far as that is
+-- known
 pub record TellsFirst (t : Description) (under : List (List ℕ) → Option (Option (List ℕ)))
     (files : List FileVerdict) : Type 0 where
   pub contents : Contents

@@ -5,7 +5,7 @@ use Rattle.pieces.specs.Feeding.{FeedsStream, IsFeedGiven, bytes_given, total}
 use Rattle.pieces.specs.declared.v1_feed.V1Feed.{V1Feed}
 use Rattle.folders.specs.Compared.{IsDigestVerdict}
 use Rattle.folders.specs.declared.report.V1Verdict.{V1Verdict}
-use Rattle.folders.specs.declared.stream.Stream.{Stream}
+use Rattle.folders.specs.declared.file_check.Stream.{Stream}
 
 -- the stream goes on: every file so far was read whole
 abbrev pub goes_on : Stream → Bool
@@ -48,7 +48,7 @@ abbrev pub FillsTo : Option V1Feed → ℕ → Option V1Feed → Type 0
 FillsTo None place new = Takes None [] new
 FillsTo (Some f) place new = Takes (Some f) (replicate (place - bytes_given f) 0) new
 
--- comparing the stream, filled up with zeros to its end, told this
+-- comparing the stream, filled up with zeros to its end, found this
 abbrev pub IsStreamVerdict : Option V1Feed → V1Verdict → Type 0
 IsStreamVerdict feed verdict =
     (from total : ℕ) (pieces : List (List ℕ)) (piece_length : ℕ) (content : List ℕ)

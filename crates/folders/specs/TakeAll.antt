@@ -2,8 +2,8 @@
 use Rattle.std.specs.Prelude.{◌≡◌, ℕ, ◌+◌, ◌<◌, ◌≤◌, List, length, take, Option, Some, None, Result, Ok, Err}
 use Rattle.std.specs.Io.KnownBytes.{IsAtEnd}
 use Rattle.benc.specs.Device.{SourceSeen, one_more}
-use Rattle.folders.specs.declared.read_fault.ReadFault.{ReadFault}
-use Rattle.folders.specs.declared.read_fault.ReadFault.TheVariants as fault
+use Rattle.folders.specs.declared.taking.ReadFault.{ReadFault}
+use Rattle.folders.specs.declared.taking.ReadFault.TheVariants as fault
 use Rattle.wire.specs.Reading.{Gave}
 
 -- no more bytes than these were read
@@ -38,6 +38,6 @@ ReadAll took old new bound before after None = GaveMore old new bound
 
 -- the count of the source's faults grows by one if it failed, and else stays
 abbrev pub CountsReading : {A : Type 0} → ℕ → ℕ → Result A ReadFault → Type 0
-CountsReading old new (Ok told) = new ≡ old
+CountsReading old new (Ok n) = new ≡ old
 CountsReading old new (Err fault.Device) = new ≡ one_more old
 CountsReading old new (Err fault.NoMemory) = new ≡ old

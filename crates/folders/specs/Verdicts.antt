@@ -37,7 +37,7 @@ pub record IsBad (t : Description) (f : FileEntry) (bytes : List ℕ) (p : ℕ) 
   pub place_is : p ≡ f.first_piece + place
   pub first : IsFirstBadPiece t.piece_length tree bytes place
 
--- a file's content as a verdict tells it; a file that could not be read may have any
+-- a file's content as a verdict states it; a file that could not be read may have any
 abbrev pub IsVerdict : Description → FileEntry → Option (List ℕ) → FileVerdict → Type 0
 IsVerdict t f content file.Missing = content ≡ None
 IsVerdict t f content file.Unreadable = ⊤
@@ -76,7 +76,7 @@ IsFirstBadV1Piece t v contents i =
     (stream : List ℕ) × IsStream t contents v.total stream
     × IsFirstDifference (cut_digests t.piece_length stream) v.pieces i
 
--- the version 1 stream as a verdict tells it: compared if every file was read whole
+-- the version 1 stream as a verdict states it: compared if every file was read whole
 abbrev pub IsV1Verdict : Description → Version1 → Contents → V1Verdict → Type 0
 IsV1Verdict t v contents version1.Good = V1Good t v contents
 IsV1Verdict t v contents (version1.Bad i) = IsFirstBadV1Piece t v contents i
@@ -120,25 +120,25 @@ abbrev pub AreVerdicts : Description → Contents → List FileVerdict → Type 
 AreVerdicts t contents files = (n : ℕ) (f : FileEntry) (v : FileVerdict)
     → slice_get t.files n ≡ Some f → slice_get files n ≡ Some v → IsVerdict t f (contents n) v
 
--- each verdict tells of the contents what it says
+-- each verdict is true of the contents
 pub record TellsContents (t : Description) (contents : Contents) (files : List FileVerdict)
     (v1 : Option V1Verdict) : Type 0 where
   pub each : AreVerdicts t contents files
   pub version1 : (v : Version1) (verdict : V1Verdict) → t.v1 ≡ Some v → v1 ≡ Some verdict
       → IsV1Verdict t v contents verdict
 
--- what a shelf or a source tells, if it does: of a path what stands there, nothing or a file with
--- these bytes; of a source the bytes that it has
+-- what is known of a shelf or a source, if it is: of a path what stands there, nothing or a file
+-- with these bytes; of a source the bytes that it has
 abbrev pub Agrees : {A : Type 0} → Option A → A → Type 0
-Agrees {A} told content = (there : A) → told ≡ Some there → there ≡ content
+Agrees {A} known content = (there : A) → known ≡ Some there → there ≡ content
 
--- the contents of the torrent's files are what a shelf tells of their paths, as far as it does
+-- the contents of the torrent's files are those that are known of a shelf's paths
 abbrev pub AgreeWith : Description → (List (List ℕ) → Option (Option (List ℕ))) → Contents → Type 0
 AgreeWith t under contents = (n : ℕ) (f : FileEntry) → slice_get t.files n ≡ Some f
     → Agrees (under f.path) (contents n)
 
--- What a report says of a shelf that tells this of its paths. There are contents, which are the
--- ones that the shelf tells as far as it does: each verdict is true of them; a yes means that they
+-- What a report says of a shelf of whose paths this is known. There are contents, which are the
+-- known ones where they are known: each verdict is true of them; a yes means that they
 -- are a good folder; and if they are and no file was unreadable, it is a yes.
 pub record TellsFolder (t : Description) (under : List (List ℕ) → Option (Option (List ℕ)))
     (files : List FileVerdict) (v1 : Option V1Verdict) : Type 0 where

@@ -1,6 +1,6 @@
 -- How a path of a shelf is visited: it is opened once, and what was opened is read and handed back.
 -- A check visits each file of a torrent once, in order. `shelf` stands for what the shelf's type
--- tells of its shelves, and `seen` for what its files tell.
+-- says of its shelves, and `seen` for what its files say.
 use Rattle.std.specs.Prelude.{◌≡◌, ◌≢◌, ℕ, ◌+◌, true, false, List, Option, Some, None, Result, Ok, Err, ⊤}
 use Rattle.benc.specs.Device.{SourceSeen}
 use Rattle.benc.specs.declared.device.DeviceFault.{DeviceFault}

@@ -1,28 +1,30 @@
-//! All files of a torrent, checked one after the other, each told as soon as it is done.
+//! All files of a torrent, checked one after the other, each with its line as soon as it is done.
 ghost use Rattle.std.specs.Prelude.{◌≡◌, List, IfErr, IfOk};
 ghost use Rattle.chains.specs.Chain.{Chain};
-ghost use Rattle.folders.specs.Printed.{verdicts_text};
+ghost use Rattle.folders.specs.Printed.{verdicts_text, wanted_text};
 ghost use Rattle.folders.specs.Shelf.{more};
 ghost use Rattle.folders.specs.Stopping.{VisitsFirst};
-ghost use Rattle.folders.specs.Telling.{HasBroken, HasSent};
+ghost use Rattle.folders.specs.LinesOut.{HasBroken, HasSent, WritesText};
 ghost use Rattle.folders.specs.Verdicts.{HasVerdicts, TellsFolder, unreadable_count};
 ghost use Rattle.folders.specs.Visits.{Visits};
 ghost use Rattle.folders.specs.declared.report.FileVerdict.{FileVerdict};
+ghost use Rattle.opening.specs.Seen.{file_entry};
+ghost use Rattle.folders.specs.declared.all_files.CheckFault.TheVariants as fault;
 
-use crate::check_fault::CheckFault;
 use crate::checking::check_file;
-use crate::lines::Lines;
-use crate::report::Report;
+use crate::file_check::Stream;
+use crate::lines::{Lines, write_wanted};
+use crate::report::{FileVerdict, Report};
 use crate::shelf::Shelf;
-use crate::stream::Stream;
 use crate::taking::BUFFER_LENGTH;
-use crate::telling::Telling;
-use opening::Torrent;
-use std::alloc::Global;
+use benc::{DeviceFault, Sink, WriteFault};
+use opening::{File, Torrent};
+use std::alloc::{AllocError, Global};
+use thiserror::Error;
 
-/// Checks each file of a torrent, and tells its line as soon as it is done. Memory is taken for the
-/// report alone, before the first path is opened. A line that breaks off ends the check.
-pub(crate) fn check_files<S: Shelf, T: Telling>(
+/// Checks each file of a torrent, and writes its line as soon as it is done. Memory is taken for
+/// the report alone, before the first path is opened. A line that breaks off ends the check.
+pub(crate) fn check_files<S: Shelf, T: LinesOut>(
     alloc: Global,
     torrent: &Torrent<'_>,
     shelf: &mut S,
@@ -38,7 +40,7 @@ pub(crate) fn check_files<S: Shelf, T: Telling>(
         S.faults shelf.new ≡ more (S.faults shelf.old) (unreadable_count r.files.items)) }
     ensures readable { IfOk result (λ r.
         S.faults shelf.new ≡ S.faults shelf.old → unreadable_count r.files.items ≡ 0) }
-    ensures told { IfOk result (λ r. HasSent (T.seen out.old) (T.seen out.new)
+    ensures sent { IfOk result (λ r. HasSent (T.seen out.old) (T.seen out.new)
         (verdicts_text lines r.files.items torrent.now.files)) }
     ensures cut { IfErr result (λ e. e ≡ CheckFault.Write → (files : List FileVerdict)
         × VisitsFirst S.Shelf S.File.seen torrent.now shelf.old files shelf.new
@@ -57,11 +59,99 @@ pub(crate) fn check_files<S: Shelf, T: Telling>(
     'files: for file in entries {
         let verdict = check_file(shelf, torrent, file, &mut stream, &mut buffer);
         files.push_reserved(verdict);
-        out.tell(lines, verdict, file)?;
+        out.write(lines, verdict, file)?;
     }
     let v1 = match torrent.v1() {
         Some(_) => Some(stream.finish()),
         None => None,
     };
     Ok(Report { files, v1 })
+}
+
+/// Where the lines of files go: to a sink, or nowhere.
+pub(crate) trait LinesOut {
+    ghost use Rattle.std.specs.Prelude.{Option};
+    ghost use Rattle.benc.specs.Device.{SinkSeen};
+
+    // What callers see of the sink, if there is one.
+    ghost seen: { Self → Option SinkSeen };
+
+    /// Writes a file's line, if it is wanted.
+    fn write(
+        &mut self,
+        lines: Lines,
+        verdict: FileVerdict,
+        file: &File<'_>,
+    ) -> Result<(), DeviceFault>
+        ensures { WritesText (seen self.old) (seen self.new)
+            (wanted_text lines verdict (file_entry file.now)) result };
+}
+
+/// No lines are written.
+#[derive(Drop)]
+pub(crate) struct NoLines;
+
+impl LinesOut for NoLines {
+    ghost use Rattle.std.specs.Prelude.{None};
+
+    ghost seen = { λ _. None };
+
+    fn write(
+        &mut self,
+        _lines: Lines,
+        _verdict: FileVerdict,
+        _file: &File<'_>,
+    ) -> Result<(), DeviceFault> {
+        Ok(())
+    }
+}
+
+impl<W: Sink> LinesOut for W {
+    ghost use Rattle.std.specs.Prelude.{Some};
+
+    ghost seen = { λ s. Some (W.seen s) };
+
+    fn write(
+        &mut self,
+        lines: Lines,
+        verdict: FileVerdict,
+        file: &File<'_>,
+    ) -> Result<(), DeviceFault> {
+        write_wanted(lines, verdict, file, self)
+    }
+}
+
+/// Why a check did not end with a whole report.
+#[derive(Clone, Copy, Debug, PartialEq, Eq, Drop, Error)]
+pub enum CheckFault {
+    /// Memory for the report was refused, and no path was opened.
+    #[error("out of memory")]
+    NoMemory,
+    /// The report failed, and a prefix of it went out, or its flush failed.
+    #[error("cannot write")]
+    Write,
+}
+
+impl From<AllocError> for CheckFault {
+    ghost from_gives = { λ _ e. e ≡ fault.NoMemory };
+
+    fn from(_error: AllocError) -> CheckFault {
+        CheckFault::NoMemory
+    }
+}
+
+impl From<DeviceFault> for CheckFault {
+    ghost from_gives = { λ _ e. e ≡ fault.Write };
+
+    fn from(_error: DeviceFault) -> CheckFault {
+        CheckFault::Write
+    }
+}
+
+impl From<WriteFault> for CheckFault {
+    ghost from_gives = { λ _ e. e ≡ fault.Write };
+
+    fn from(_error: WriteFault) -> CheckFault {
+        CheckFault::Write
+    }
 }

@@ -15,15 +15,12 @@ ghost use Rattle.chains.specs.Chain.{Chain};
 ghost use Rattle.folders.specs.Verdicts.{HasVerdicts, IsFileOf, IsVerdict, TellsFolder, fault_count, is_unreadable, is_whole, unreadable_count};
 
 use crate::NoMemory;
-use crate::all_files::check_files;
-use crate::check_fault::CheckFault;
-use crate::file_check::FileCheck;
+use crate::all_files::{CheckFault, NoLines, check_files};
+use crate::file_check::{FileCheck, Stream};
 use crate::lines::Lines;
 use crate::report::{FileVerdict, Report};
 use crate::shelf::Shelf;
-use crate::stream::Stream;
 use crate::taking::take_all;
-use crate::telling::Untold;
 use benc::{DeviceFault, Source};
 use hashtree::{Hash, PieceCheck, Shape};
 use opening::{File, Torrent, TreeInfo};
@@ -55,7 +52,7 @@ pub fn check<S: Shelf>(
     ensures no_memory { OnErr result (shelf.new ≡ shelf.old) }
     ensures stays { S.contents shelf.new ≡ S.contents shelf.old }
 {
-    match check_files(alloc, torrent, shelf, Lines::All, &mut Untold) {
+    match check_files(alloc, torrent, shelf, Lines::All, &mut NoLines) {
         Ok(report) => Ok(report),
         Err(CheckFault::NoMemory) => Err(NoMemory),
         Err(CheckFault::Write) => unreachable!(),
@@ -206,7 +203,7 @@ fn tree_verdict(
 ) -> FileVerdict
     requires file { IsFileOf torrent.now (file_entry file.now) }
     requires tree { tree_entry_of torrent.now (file_entry file.now) ≡ Some (tree_entry tree.now) }
-    requires told { (bytes : List ℕ)
+    requires found { (bytes : List ℕ)
         × IsToldOf torrent.now.piece_length (tree_entry tree.now) bytes root.now place }
     ensures readable { is_unreadable result ≡ false }
     ensures whole { is_whole result ≡ true }

@@ -3,33 +3,26 @@
 #![tactic(auto)]
 
 mod all_files;
-mod check_fault;
 mod checking;
 mod file_check;
 mod lines;
 pub mod memory;
-mod read_fault;
 mod report;
-mod report_lines;
 mod reporting;
 mod root;
 mod seek_shelf;
 mod shelf;
 mod shelf_fault;
-mod stream;
 mod taking;
-mod telling;
 
-pub use check_fault::CheckFault;
+pub use all_files::CheckFault;
 pub use checking::check;
-pub use lines::Lines;
-pub use read_fault::ReadFault;
+pub use lines::{Lines, print_report, stream_line, write_end, write_verdict, write_wanted};
 pub use report::{FileVerdict, Report, V1Verdict};
-pub use report_lines::{print_report, stream_line, write_end, write_verdict, write_wanted};
 pub use reporting::check_onto;
 pub use root::{RootFault, root_line};
 pub use seek_shelf::SeekShelf;
 pub use shelf::Shelf;
 pub use shelf_fault::ShelfFault;
 pub use std::alloc::AllocError as NoMemory;
-pub use taking::{BUFFER_LENGTH, Consumer, fill, take_all};
+pub use taking::{BUFFER_LENGTH, Consumer, ReadFault, fill, take_all};

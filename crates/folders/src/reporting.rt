@@ -8,11 +8,9 @@ ghost use Rattle.folders.specs.Stopping.{BreaksOff};
 ghost use Rattle.folders.specs.Verdicts.{HasVerdicts, TellsFolder, unreadable_count};
 ghost use Rattle.folders.specs.Visits.{Visits};
 
-use crate::all_files::check_files;
-use crate::check_fault::CheckFault;
-use crate::lines::Lines;
+use crate::all_files::{CheckFault, check_files};
+use crate::lines::{Lines, write_end};
 use crate::report::Report;
-use crate::report_lines::write_end;
 use crate::shelf::Shelf;
 use benc::Sink;
 use opening::Torrent;

@@ -100,7 +100,8 @@ fn read_content<R: Source>(source: &mut R) -> Result<Reading, DeviceFault>
 impl Consumer for RootBuilder {
     ghost use Rattle.hashtree.specs.RootBuilder.{Feeds};
     ghost use Rattle.folders.specs.Feeding.{CanBuild};
-    ghost use Rattle.folders.specs.ConsumerLaws.{built_none, built_both, built_room, built_less};
+    ghost use Rattle.folders.specs.ConsumerLaws.{built_room, built_less};
+    ghost use Rattle.hashtree.proofs.Feeding.{feeds_both, feeds_none};
 
     ghost has_room = { CanBuild };
 
@@ -110,9 +111,9 @@ impl Consumer for RootBuilder {
         self.push(part);
     }
 
-    ghost none = { built_none };
+    ghost none = { feeds_none };
 
-    ghost joins = { built_both };
+    ghost joins = { feeds_both };
 
     ghost room_left = { built_room };
 

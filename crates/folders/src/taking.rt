@@ -2,8 +2,11 @@
 ghost use Rattle.std.specs.Prelude.{◌≡◌, ℕ, ◌+◌, ◌-◌, ◌^◌, ◌<◌, ◌≤◌, List, [], ◌++◌, length, IfOk, OnErr};
 ghost use Rattle.benc.specs.Device.{CountsFault};
 ghost use Rattle.folders.specs.TakeAll.{Fills, IsReadWithin, ReadAll};
+ghost use Rattle.folders.specs.declared.taking.ReadFault.TheVariants as fault;
 
 use benc::{DeviceFault, Source};
+use std::alloc::AllocError;
+use thiserror::Error;
 
 /// What takes the bytes of a reading, part by part.
 pub trait Consumer {
@@ -104,4 +107,31 @@ pub fn fill<F: Source>(source: &mut F, buffer: &mut [u8]) -> Result<usize, Devic
         }
     }
     Ok(filled)
+}
+
+/// Why an opened file was not read, or what it holds could not be kept.
+#[derive(Clone, Copy, Debug, PartialEq, Eq, Drop, Error)]
+pub enum ReadFault {
+    /// A read failed.
+    #[error("the file cannot be read")]
+    Device,
+    /// Memory for what is kept of the file was refused.
+    #[error("out of memory")]
+    NoMemory,
+}
+
+impl From<DeviceFault> for ReadFault {
+    ghost from_gives = { λ _ e. e ≡ fault.Device };
+
+    fn from(_error: DeviceFault) -> ReadFault {
+        ReadFault::Device
+    }
+}
+
+impl From<AllocError> for ReadFault {
+    ghost from_gives = { λ _ e. e ≡ fault.NoMemory };
+
+    fn from(_error: AllocError) -> ReadFault {
+        ReadFault::NoMemory
+    }
 }

@@ -11,8 +11,8 @@ use Rattle.gathering.specs.Collecting.{MayFinish}
 use Rattle.gathering.specs.Gathering.{Reads}
 use Rattle.gathering.specs.Hashing.{AreHashesOf, Begins, EndsWithHashes, Hashes, MayEndWithout}
 use Rattle.folders.specs.TakeAll.{CountsReading}
-use Rattle.folders.specs.declared.read_fault.ReadFault.{ReadFault}
-use Rattle.folders.specs.declared.read_fault.ReadFault.TheVariants as fault
+use Rattle.folders.specs.declared.taking.ReadFault.{ReadFault}
+use Rattle.folders.specs.declared.taking.ReadFault.TheVariants as fault
 use Rattle.folders.proofs.Visiting.{agrees_opened}
 use Rattle.gathering.specs.Reading.{ReadsFile, visit_of}
 use Rattle.gathering.specs.Steps.{VisitsFile}

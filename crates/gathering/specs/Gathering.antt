@@ -33,9 +33,9 @@ pub record ListsOnce (there : Listing) (paths : List (List (List ℕ))) : Type 0
   pub each_once : IsEachOnce there.files paths
 
 -- these are the paths that a shelf lists, if they are known, in the order of the file tree
-pub record IsSortedListing (told : Option Listing) (paths : List (List (List ℕ))) : Type 0 where
+pub record IsSortedListing (known : Option Listing) (paths : List (List (List ℕ))) : Type 0 where
   pub in_order : IsSorted (slice_cmp (slice_cmp nat_cmp)) paths
-  pub listed : (there : Listing) → told ≡ Some there → ListsOnce there paths
+  pub listed : (there : Listing) → known ≡ Some there → ListsOnce there paths
 
 -- the shelf was listed, and nothing else: it answered these paths, which here stand in the order of
 -- the file tree, and which are those that it holds, if these are known
@@ -143,7 +143,7 @@ module _ {S F : Type 0} (shelf : Ghosts S F) (seen : F → SourceSeen) where
     pub record IsUnlisted (old new : S) (f : ShelfFault) : Type 0 where
       pub legal : IsPieceLength empty.piece_length
       pub answered : shelf.lists old (Err f) new
-      pub told : IsListed (shelf.contents old).listing (Err f)
+      pub listed : IsListed (shelf.contents old).listing (Err f)
       pub counted : CountsListing (shelf.faults old) (shelf.faults new) (Err f)
 
     -- memory was refused for the components of the longest listed path: the shelf was listed, and

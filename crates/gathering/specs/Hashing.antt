@@ -56,9 +56,9 @@ EndsWithCuts None v1 = ⊤
 EndsWithCuts (Some c) v1 = (cut.HasRefused c → ⊥) × EndsWithFile c v1
 
 -- this follows from what was hashed
-pub record EndsWithHashes (h : Hashing) (told : FileHashes) : Type 0 where
-  pub tree : EndsWithWhole h.tree told.length told.root told.layer.items
-  pub cuts : EndsWithCuts h.cuts told.v1
+pub record EndsWithHashes (h : Hashing) (found : FileHashes) : Type 0 where
+  pub tree : EndsWithWhole h.tree found.length found.root found.layer.items
+  pub cuts : EndsWithCuts h.cuts found.v1
 
 -- memory may be refused to the digests of a hybrid's cuts at the end: after a refusal, or for the
 -- digest of the last cut
@@ -73,9 +73,9 @@ MayEndWithout h = CutsMayLackMemory h.cuts ⊎ MayLackMemory h.tree
 -- ---- a whole file
 
 -- a draft is given this of a content
-pub record AreHashesOf (piece_length : ℕ) (hybrid : Bool) (content : List ℕ) (told : FileHashes)
+pub record AreHashesOf (piece_length : ℕ) (hybrid : Bool) (content : List ℕ) (found : FileHashes)
     : Type 0 where
-  pub length_is : told.length ≡ length content
-  pub root_is : 0 < length content → told.root ≡ root_of content
-  pub layer_is : told.layer.items ≡ piece_hashes piece_length content
-  pub v1_is : hybrid ≡ true → 0 < length content → IsV1File piece_length content told.v1
+  pub length_is : found.length ≡ length content
+  pub root_is : 0 < length content → found.root ≡ root_of content
+  pub layer_is : found.layer.items ≡ piece_hashes piece_length content
+  pub v1_is : hybrid ≡ true → 0 < length content → IsV1File piece_length content found.v1

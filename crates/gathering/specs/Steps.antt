@@ -21,9 +21,9 @@ AreWithin paths room = (n : ℕ) (path : List (List ℕ)) → slice_get paths n 
 module _ {S F : Type 0} (shelf : Ghosts S F) (seen : F → SourceSeen) where
   -- what visiting a path gave of its content
   abbrev pub VisitsFile : ℕ → Bool → S → List (List ℕ) → S → Result FileHashes FileFault → Type 0
-  VisitsFile piece_length hybrid s path s' (Ok told) =
+  VisitsFile piece_length hybrid s path s' (Ok found) =
       (content : List ℕ) × Reads shelf seen s path content s'
-      × (length content ≤ 2 ^ 46) × AreHashesOf piece_length hybrid content told
+      × (length content ≤ 2 ^ 46) × AreHashesOf piece_length hybrid content found
   VisitsFile piece_length hybrid s path s' (Err (file.Refused r)) =
       (r ≡ refusals.Length)
       × (content : List ℕ) × Reads shelf seen s path content s'

@@ -121,7 +121,7 @@ fn cuts_of(alloc: Global, kind: &TorrentKind) -> Option<V1Cuts>
     }
 }
 
-// What the digests of a hybrid's cuts tell, if memory was not refused.
+// The digests of a hybrid's cuts. Fails only if memory was refused.
 fn finish_cuts(alloc: Global, cuts: Option<V1Cuts>) -> Result<V1File, NoMemory>
     ensures gives { IfOk result (EndsWithCuts cuts) }
     ensures memory { OnErr result (CutsMayLackMemory cuts) }

@@ -12,14 +12,14 @@ use Rattle.gathering.specs.Gathered.{DraftAdds, IsDraftFile}
 use Rattle.gathering.specs.Gathering.{AreContentsUnder}
 use Rattle.round_trips.proofs.Made.{AreMade, Made, put_made}
 use Rattle.round_trips.proofs.Good.{good_folder}
-use Rattle.round_trips.specs.RoundTrip.{ChecksGood, IsGatheredFrom, Telling, TellsEach}
+use Rattle.round_trips.specs.RoundTrip.{ChecksGood, IsGatheredFrom, KnownPaths, KnowsEach}
 
 -- what a shelf tells, if it tells something
 told_is : (told : Option (Option (List ℕ))) (c : List ℕ) → Agrees told (Some c) → told ≢ None → told ≡ Some (Some c)
 told_is None c agrees some = absurd (some refl)
 told_is (Some there) c agrees some = ap Some (agrees there refl)
 
-made : (p : ℕ) (hybrid : Bool) (under : Telling) (path : List (List ℕ)) (c : List ℕ) (f : OutlineFile) → IsDraftFile p hybrid path c f
+made : (p : ℕ) (hybrid : Bool) (under : KnownPaths) (path : List (List ℕ)) (c : List ℕ) (f : OutlineFile) → IsDraftFile p hybrid path c f
     → under path ≡ Some (Some c) → Made p hybrid under f c
 made p hybrid under path c f is told = record {
   length_is = is.length_is;
@@ -30,13 +30,13 @@ made p hybrid under path c f is told = record {
 }
 
 -- what a draft of this kind holds was made of these contents
-record AreMadeIn (p : ℕ) (hybrid : Bool) (under : Telling) (d : Outline) : Type 0 where
+record AreMadeIn (p : ℕ) (hybrid : Bool) (under : KnownPaths) (d : Outline) : Type 0 where
   pub contents : List (List ℕ)
   pub length_is : d.piece_length ≡ p
   pub kind_is : d.hybrid ≡ hybrid
   pub made : AreMade p hybrid under d.files contents
 
-one_more : (p : ℕ) (hybrid : Bool) (under : Telling) (d e : Outline) (path : List (List ℕ)) (c : List ℕ) → DraftAdds d path c e → under path ≡ Some (Some c)
+one_more : (p : ℕ) (hybrid : Bool) (under : KnownPaths) (d e : Outline) (path : List (List ℕ)) (c : List ℕ) → DraftAdds d path c e → under path ≡ Some (Some c)
     → AreMadeIn p hybrid under d → AreMadeIn p hybrid under e
 one_more p hybrid under d e path c adds told so =
     let f = adds.file in
@@ -50,8 +50,8 @@ one_more p hybrid under d e path c adds told so =
           (put_made p hybrid under place f c d.files so.contents (made p hybrid under path c f here told) so.made);
     }
 
-all_made : (p : ℕ) (hybrid : Bool) (under : Telling) (d e : Outline) (paths : List (List (List ℕ))) (cs : List (List ℕ)) → Chain DraftAdds d paths cs e
-    → AreContentsUnder under paths cs → TellsEach under paths
+all_made : (p : ℕ) (hybrid : Bool) (under : KnownPaths) (d e : Outline) (paths : List (List (List ℕ))) (cs : List (List ℕ)) → Chain DraftAdds d paths cs e
+    → AreContentsUnder under paths cs → KnowsEach under paths
     → AreMadeIn p hybrid under d → AreMadeIn p hybrid under e
 all_made p hybrid under d e [] [] chain are told so = subst (AreMadeIn p hybrid under) (sym chain) so
 all_made p hybrid under d e [] (c ∷ cs) chain are told so = absurd chain
@@ -60,9 +60,9 @@ all_made p hybrid under d e (q ∷ paths) (c ∷ cs) chain are told so =
     all_made p hybrid under chain.0 e paths cs chain.2 are.1 (λ n r at. told (suc n) r at)
     (one_more p hybrid under d chain.0 q c chain.1 (told_is (under q) c are.0 (told 0 q refl)) so)
 
-pub checks_good : (under : Telling) (d : Outline) → IsOutline d → IsGatheredFrom under d → ChecksGood (torrent_of d) under
+pub checks_good : (under : KnownPaths) (d : Outline) → IsOutline d → IsGatheredFrom under d → ChecksGood (torrent_of d) under
 checks_good under d o from files v1 tells readable =
-    let so = all_made from.piece_length from.hybrid under _ d from.paths from.contents from.gathered from.are from.told
+    let so = all_made from.piece_length from.hybrid under _ d from.paths from.contents from.gathered from.are from.known
     (record { contents = []; length_is = refl; kind_is = refl; made = tt }) in
     let all = subst (λ h. AreMade d.piece_length h under d.files so.contents) (sym so.kind_is) (subst (λ k. AreMade k from.hybrid under d.files so.contents)
     (sym so.length_is) so.made) in

@@ -13,17 +13,17 @@ use Rattle.gathering.specs.Gathering.{AreContentsUnder}
 use Rattle.opening.specs.Describes.{Describes}
 use Rattle.opening.specs.Description.{Description}
 
--- what a shelf tells of its paths: nothing, that no file is there, or a file's bytes
-abbrev pub Telling : Type 0
-Telling = List (List ℕ) → Option (Option (List ℕ))
+-- what is known of a shelf's paths: nothing, that no file is there, or a file's bytes
+abbrev pub KnownPaths : Type 0
+KnownPaths = List (List ℕ) → Option (Option (List ℕ))
 
--- it tells what stands at each of these paths
-abbrev pub TellsEach : Telling → List (List (List ℕ)) → Type 0
-TellsEach under paths = (n : ℕ) (p : List (List ℕ)) → slice_get paths n ≡ Some p → under p ≢ None
+-- what stands at each of these paths is known
+abbrev pub KnowsEach : KnownPaths → List (List (List ℕ)) → Type 0
+KnowsEach under paths = (n : ℕ) (p : List (List ℕ)) → slice_get paths n ≡ Some p → under p ≢ None
 
 -- the files of these paths and contents were gathered in the draft d; the contents are those that
--- this shelf tells
-pub record IsGatheredFrom (under : Telling) (d : Outline) : Type 0 where
+-- are known of this shelf
+pub record IsGatheredFrom (under : KnownPaths) (d : Outline) : Type 0 where
   pub name : List ℕ
   pub piece_length : ℕ
   pub hybrid : Bool
@@ -31,11 +31,11 @@ pub record IsGatheredFrom (under : Telling) (d : Outline) : Type 0 where
   pub contents : List (List ℕ)
   pub gathered : Gathered (empty_outline name piece_length hybrid) paths contents d
   pub are : AreContentsUnder under paths contents
-  pub told : TellsEach under paths
+  pub known : KnowsEach under paths
 
--- each report that a check of this torrent gives of what the shelf tells, if no file was
+-- each report that a check of this torrent gives of what is known of the shelf, if no file was
 -- unreadable, says that all files, and a hybrid's version 1 pieces, are good
-abbrev pub ChecksGood : Description → Telling → Type 0
+abbrev pub ChecksGood : Description → KnownPaths → Type 0
 ChecksGood t under =
     (files : List FileVerdict) (v1 : Option V1Verdict) → TellsFolder t under files v1
     → unreadable_count files ≡ 0 → is_yes files v1 ≡ true
@@ -44,7 +44,7 @@ ChecksGood t under =
 -- that torrent checks good against what the draft was gathered from
 abbrev pub RoundTrips : Outline → Type 0
 RoundTrips d =
-    (under : Telling) → IsGatheredFrom under d → NoneHolds (finish_rows d)
+    (under : KnownPaths) → IsGatheredFrom under d → NoneHolds (finish_rows d)
     → Describes (spelling (value_of d)) (torrent_of d)
     × ((t : Description) → Describes (spelling (value_of d)) t
     → (t ≡ torrent_of d) × ChecksGood t under)

@@ -87,10 +87,10 @@ module _ {S F : Type 0} (shelf : Ghosts S F) (seen : F → SourceSeen) where
 
   -- the first n files were looked for, and their lines went out
   pub record InSeed (old new : S × SessionSeen) (report report' : SinkSeen) (files : List FileEntry) (n : ℕ) : Type 0 where
-    pub told : List Bool
-    pub count : length told ≡ n
-    pub run : SeedsAll shelf seen old (take n files) told new
-    pub sent : Sent report report' (seed_lines (take n files) told)
+    pub each : List Bool
+    pub count : length each ≡ n
+    pub run : SeedsAll shelf seen old (take n files) each new
+    pub sent : Sent report report' (seed_lines (take n files) each)
 
   pub in_seed_more : (old mid new : S × SessionSeen) (report between report' : SinkSeen) (files : List FileEntry) (n : ℕ) (f : FileEntry) (seeded : Bool)
       → slice_get files n ≡ Some f → InSeed old mid report between files n → SeedStep shelf seen mid f seeded new
@@ -99,15 +99,15 @@ module _ {S F : Type 0} (shelf : Ghosts S F) (seen : F → SourceSeen) where
       let inside : n < length files = slice_get_within files n f there in
       let at = get_or_from_slice_get files n f f there in
       let few : n ≤ length files = omega arith in
-      let same : length so_far.told ≡ length (take n files) = so_far.count ∙ sym (length-take-le n files few) in
+      let same : length so_far.each ≡ length (take n files) = so_far.count ∙ sym (length-take-le n files few) in
       let next : take (n + 1) files ≡ take n files ++ f ∷ [] = (let e : n + 1 ≡ suc n = omega arith in ap (λ k. take k files) e) ∙ take-suc files n f inside
       ∙ ap (λ g. take n files ++ g ∷ []) at in
       record {
-        told = so_far.told ++ seeded ∷ [];
-        count = length_push so_far.told seeded ∙ ap (λ k. k + 1) so_far.count;
-        run = Chain-next (SeedStep shelf seen) old mid new files n so_far.told f seeded inside so_far.run
+        each = so_far.each ++ seeded ∷ [];
+        count = length_push so_far.each seeded ∙ ap (λ k. k + 1) so_far.count;
+        run = Chain-next (SeedStep shelf seen) old mid new files n so_far.each f seeded inside so_far.run
             (subst (λ h. SeedStep shelf seen mid h seeded new) (sym at) step);
         sent = subst (Sent report report')
-            (sym (ap (λ fs. seed_lines fs (so_far.told ++ seeded ∷ [])) next ∙ lines_more (take n files) so_far.told f seeded same))
-            (Sent-append report between report' (seed_lines (take n files) so_far.told) (seed_line f seeded) so_far.sent went);
+            (sym (ap (λ fs. seed_lines fs (so_far.each ++ seeded ∷ [])) next ∙ lines_more (take n files) so_far.each f seeded same))
+            (Sent-append report between report' (seed_lines (take n files) so_far.each) (seed_line f seeded) so_far.sent went);
       }

@@ -45,7 +45,7 @@ EndsWithTree l root content (Some t) =
     (root ≡ root_of content) × (t.length ≡ l.tree.length) × (t.leaves ≡ layer_of content 0)
 EndsWithTree l root content None = root ≢ root_of content
 
--- what reading a source told that had this to give: the leaves of its content if that fits the
+-- what reading a source that had this to give found: the leaves of its content if that fits the
 -- tree, and else nothing
 abbrev pub ReadsLeaves : TreeEntry → Option (List ℕ) → Option (List Hash) → Type 0
 ReadsLeaves e left (Some leaves) =

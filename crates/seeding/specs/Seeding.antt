@@ -1,5 +1,5 @@
 -- What seeding a session from a shelf does: to each file of its torrent once, in order. `shelf`
--- stands for what the shelf's type tells of its shelves, and `seen` for what its files tell.
+-- stands for what the shelf's type says of its shelves, and `seen` for what its files say.
 use Rattle.std.specs.Prelude.{◌≡◌, ◌≢◌, ◌⊎◌, ℕ, ◌+◌, ◌++◌, Bool, true, false, List, [], ◌∷◌, take, slice_get, codes, Option, Some, None, Result, Ok}
 use Rattle.std.specs.Prelude.{Err}
 use Rattle.benc.specs.Device.{SourceSeen, SinkSeen, Sent, Broke, SentAndFlushed}
@@ -26,17 +26,17 @@ use Rattle.seeding.specs.declared.seed_fault.SeedFault.TheVariants as fault
 abbrev pub DoesNotFit : TreeEntry → Option (List ℕ) → Type 0
 DoesNotFit e content = (bytes : List ℕ) → content ≡ Some bytes → ¬ FitsTree e bytes
 
--- What was found at a path of which the shelf tells this, with so many faults: the leaves of a
+-- What was found at a path of which this is known, with so many faults: the leaves of a
 -- content that fits the tree; or a content that does not, or a fault.
 abbrev pub Finds : Option (Option (List ℕ)) → TreeEntry → Option (List Hash) → ℕ → Type 0
-Finds told e (Some leaves) faults = (faults ≡ 0) × (bytes : List ℕ) × Agrees told (Some bytes)
+Finds known e (Some leaves) faults = (faults ≡ 0) × (bytes : List ℕ) × Agrees known (Some bytes)
     × FitsTree e bytes × (leaves ≡ layer_of bytes 0)
-Finds told e None faults = (faults ≡ 1)
-    ⊎ ((faults ≡ 0) × (content : Option (List ℕ)) × Agrees told content × DoesNotFit e content)
+Finds known e None faults = (faults ≡ 1)
+    ⊎ ((faults ≡ 0) × (content : Option (List ℕ)) × Agrees known content × DoesNotFit e content)
 
--- what stands at a path of which the shelf tells this fits the tree
+-- what stands at a path of which this is known fits the tree
 abbrev pub HasFitting : Option (Option (List ℕ)) → TreeEntry → Type 0
-HasFitting told e = (bytes : List ℕ) × Agrees told (Some bytes) × FitsTree e bytes
+HasFitting known e = (bytes : List ℕ) × Agrees known (Some bytes) × FitsTree e bytes
 
 -- ---- the session
 
@@ -59,11 +59,11 @@ seed_words false = codes "not seeded "
 abbrev pub seed_line : FileEntry → Bool → List ℕ
 seed_line f seeded = seed_words seeded ++ (path_text f.path ++ codes "\n")
 
--- the lines of files of which this is told
+-- the lines of files, by whether each was seeded
 abbrev pub seed_lines : List FileEntry → List Bool → List ℕ
-seed_lines [] told = []
+seed_lines [] seeded = []
 seed_lines (f ∷ fs) [] = []
-seed_lines (f ∷ fs) (seeded ∷ told) = seed_line f seeded ++ seed_lines fs told
+seed_lines (f ∷ fs) (this ∷ seeded) = seed_line f this ++ seed_lines fs seeded
 
 -- a shelf and a session
 abbrev pub shelf_and_session : {S : Type 0} → S → SessionSeen → S × SessionSeen
@@ -109,52 +109,52 @@ module _ {S F : Type 0} (shelf : Ghosts S F) (seen : F → SourceSeen) where
 
   -- ---- all files
 
-  -- each file was looked for, and this is told of each
+  -- each file was looked for, and these were seeded
   abbrev pub SeedsAll : S × SessionSeen → List FileEntry → List Bool → S × SessionSeen → Type 0
-  SeedsAll old files told new = Chain SeedStep old files told new
+  SeedsAll old files seeded new = Chain SeedStep old files seeded new
 
   -- the lines of the files went out
   pub record SeedsWhole (old new : S × SessionSeen) (report report' : SinkSeen) : Type 0 where
-    pub told : List Bool
-    pub run : SeedsAll old old.1.torrent.files told new
-    pub sent : Sent report report' (seed_lines old.1.torrent.files told)
+    pub each : List Bool
+    pub run : SeedsAll old old.1.torrent.files each new
+    pub sent : Sent report report' (seed_lines old.1.torrent.files each)
 
   -- the lines of the files went out, with one flush
   pub record IsSeeded (old new : S × SessionSeen) (report report' : SinkSeen) : Type 0 where
-    pub told : List Bool
-    pub run : SeedsAll old old.1.torrent.files told new
-    pub sent : SentAndFlushed report report' (seed_lines old.1.torrent.files told)
+    pub each : List Bool
+    pub run : SeedsAll old old.1.torrent.files each new
+    pub sent : SentAndFlushed report report' (seed_lines old.1.torrent.files each)
 
   -- memory was refused for a file, after the lines of those before it
   pub record IsOutOfMemory (old new : S × SessionSeen) (report report' : SinkSeen) : Type 0 where
-    pub told : List Bool
+    pub each : List Bool
     pub count : ℕ
     pub file : FileEntry
     pub file_is : slice_get old.1.torrent.files count ≡ Some file
     pub mid : S × SessionSeen
-    pub run : SeedsAll old (take count old.1.torrent.files) told mid
+    pub run : SeedsAll old (take count old.1.torrent.files) each mid
     pub stops : StopsAtFile mid file new
-    pub sent : Sent report report' (seed_lines (take count old.1.torrent.files) told)
+    pub sent : Sent report report' (seed_lines (take count old.1.torrent.files) each)
 
   -- the line of a file broke off, after those before it
   pub record IsCutInSeedLine (old new : S × SessionSeen) (report report' : SinkSeen) : Type 0 where
-    pub told : List Bool
+    pub each : List Bool
     pub count : ℕ
     pub file : FileEntry
     pub file_is : slice_get old.1.torrent.files count ≡ Some file
     pub seeded : Bool
     pub between : S × SessionSeen
-    pub run : SeedsAll old (take count old.1.torrent.files) told between
+    pub run : SeedsAll old (take count old.1.torrent.files) each between
     pub last : SeedStep between file seeded new
     pub mid : SinkSeen
-    pub sent : Sent report mid (seed_lines (take count old.1.torrent.files) told)
+    pub sent : Sent report mid (seed_lines (take count old.1.torrent.files) each)
     pub broke : Broke mid report' (seed_line file seeded)
 
   -- all lines went out, and the flush failed
   pub record IsCutInSeedFlush (old new : S × SessionSeen) (report report' : SinkSeen) : Type 0 where
-    pub told : List Bool
-    pub run : SeedsAll old old.1.torrent.files told new
-    pub sent : Unflushed (seed_lines old.1.torrent.files told) report report'
+    pub each : List Bool
+    pub run : SeedsAll old old.1.torrent.files each new
+    pub sent : Unflushed (seed_lines old.1.torrent.files each) report report'
 
   -- what `seed` has done before the flush, by its answer
   abbrev pub SeedsFiles : S × SessionSeen → S × SessionSeen → SinkSeen → SinkSeen

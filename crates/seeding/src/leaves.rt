@@ -4,7 +4,7 @@ ghost use Rattle.std.specs.Option.{option_to_list};
 ghost use Rattle.hashtree.specs.Tree.{block_count, root_of};
 ghost use Rattle.opening.specs.Seen.{tree_entry};
 ghost use Rattle.folders.specs.TakeAll.{CountsReading, IsReadWithin};
-ghost use Rattle.folders.specs.declared.read_fault.ReadFault.TheVariants as fault;
+ghost use Rattle.folders.specs.declared.taking.ReadFault.TheVariants as fault;
 ghost use Rattle.seeding.specs.Leaves.{EndsWithTree, HadFitting, HasRefused, IsFedLeaves, IsFull, ReadsLeaves};
 
 use benc::Source;

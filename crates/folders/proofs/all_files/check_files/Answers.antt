@@ -14,7 +14,7 @@ use Rattle.folders.specs.Verdicts.{IsV1Verdict, TellsContents, is_checked, is_un
 use Rattle.folders.proofs.Counts.{more_none}
 use Rattle.folders.proofs.Places.{file_there, pieces_are_positive}
 use Rattle.folders.specs.Printed.{verdicts_text, wanted_text}
-use Rattle.folders.specs.Telling.{HasBroken, HasSent}
+use Rattle.folders.specs.LinesOut.{HasBroken, HasSent}
 use Rattle.folders.specs.declared.lines.Lines.{Lines}
 use Rattle.folders.specs.declared.report.FileVerdict.{FileVerdict}
 use Rattle.folders.proofs.Checked.{IsChecked, checked_one, visits_first}
@@ -57,8 +57,8 @@ files-init g c = record {
           (λ v hybrid. search rules);
     };
   };
-  told = subst (λ vs. HasSent (g.T.Telling.seen c.args.out.now) (g.T.Telling.seen c.args.out.now) (verdicts_text c.args.lines vs c.args.torrent.now.files))
-      (sym c.in_ok-files.ensures.items) (sent_nothing (g.T.Telling.seen c.args.out.now));
+  sent = subst (λ vs. HasSent (g.T.LinesOut.seen c.args.out.now) (g.T.LinesOut.seen c.args.out.now) (verdicts_text c.args.lines vs c.args.torrent.now.files))
+      (sym c.in_ok-files.ensures.items) (sent_nothing (g.T.LinesOut.seen c.args.out.now));
 }
 
 -- the lines with the next one
@@ -83,15 +83,15 @@ files-preserved g c =
       checked = subst
           (λ xs. IsChecked g.S.Shelf g.S.File.Source.seen t c.args.shelf.now (n + 1) xs c.check_file-verdict.new.stream.feed c.check_file-verdict.new.shelf)
           (sym c.push_reserved.ensures.items) checked;
-      told = subst (HasSent (g.T.Telling.seen c.args.out.now) (g.T.Telling.seen c.tell.new.self))
+      sent = subst (HasSent (g.T.LinesOut.seen c.args.out.now) (g.T.LinesOut.seen c.write.new.self))
           (next_text t c.args.lines n c.files.files.items c.push_reserved.new.self.items v f there c.files.invariant.checked.passed.count
           c.push_reserved.ensures.items)
-          (sent_more (g.T.Telling.seen c.args.out.now) (g.T.Telling.seen c.files.out) (g.T.Telling.seen c.tell.new.self)
-          (verdicts_text c.args.lines c.files.files.items t.files) (wanted_text c.args.lines v f) c.files.invariant.told c.in_ok-tell.ensures);
+          (sent_more (g.T.LinesOut.seen c.args.out.now) (g.T.LinesOut.seen c.files.out) (g.T.LinesOut.seen c.write.new.self)
+          (verdicts_text c.args.lines c.files.files.items t.files) (wanted_text c.args.lines v f) c.files.invariant.sent c.in_ok-write.ensures);
     }
 
-pub returns-in_err-tell-clause-cut : goal.returns-in_err-tell-clause-cut
-returns-in_err-tell-clause-cut g c =
+pub returns-in_err-write-clause-cut : goal.returns-in_err-write-clause-cut
+returns-in_err-write-clause-cut g c =
     let t = c.args.torrent.now in
     let n = c.files.file-index in
     let f = file_entry c.file-item.result in
@@ -101,17 +101,17 @@ returns-in_err-tell-clause-cut g c =
     let checked = checked_one g.S.Shelf g.S.File.Source.seen t c.args.shelf.now c.files.shelf c.check_file-verdict.new.shelf n c.files.files.items v f
     c.files.stream.feed c.check_file-verdict.new.stream.feed c.sound.ensures there c.check_file-verdict.ensures.found c.check_file-verdict.ensures.visits
     c.check_file-verdict.ensures.counts c.check_file-verdict.ensures.stays c.files.invariant.checked in
-    let p = err_from_is_err_and c.from_residual-in_err-tell.result c.from_residual-in_err-tell.ensures.1 in
+    let p = err_from_is_err_and c.from_residual-in_err-write.result c.from_residual-in_err-write.ensures.1 in
     rw p.1 (λ _. (
       pushed,
       visits_first g.S.Shelf g.S.File.Source.seen t c.args.shelf.now c.check_file-verdict.new.shelf (n + 1) pushed c.check_file-verdict.new.stream.feed
           (subst
           (λ xs. IsChecked g.S.Shelf g.S.File.Source.seen t c.args.shelf.now (n + 1) xs c.check_file-verdict.new.stream.feed c.check_file-verdict.new.shelf)
           (sym c.push_reserved.ensures.items) checked),
-      subst (HasBroken (g.T.Telling.seen c.args.out.now) (g.T.Telling.seen c.tell.new.self))
+      subst (HasBroken (g.T.LinesOut.seen c.args.out.now) (g.T.LinesOut.seen c.write.new.self))
           (next_text t c.args.lines n c.files.files.items pushed v f there c.files.invariant.checked.passed.count c.push_reserved.ensures.items)
-          (broke_more (g.T.Telling.seen c.args.out.now) (g.T.Telling.seen c.files.out) (g.T.Telling.seen c.tell.new.self)
-          (verdicts_text c.args.lines c.files.files.items t.files) (wanted_text c.args.lines v f) c.files.invariant.told c.in_err-tell.ensures),
+          (broke_more (g.T.LinesOut.seen c.args.out.now) (g.T.LinesOut.seen c.files.out) (g.T.LinesOut.seen c.write.new.self)
+          (verdicts_text c.args.lines c.files.files.items t.files) (wanted_text c.args.lines v f) c.files.invariant.sent c.in_err-write.ensures),
     ))
 
 all_passed : (t : Description) (n : ℕ) (files : List File) → map file_entry files ≡ t.files → length files ≤ n → n ≤ length files → n ≡ length t.files

@@ -1,6 +1,6 @@
 use Rattle.std.proofs.Common.{◌≤◌, length, vec_capacity}
 use Rattle.folders.specs.Printed.{verdicts_text}
-use Rattle.folders.specs.Telling.{HasSent}
+use Rattle.folders.specs.LinesOut.{HasSent}
 use Rattle.folders.proofs.Checked.{IsChecked}
 use Rattle.folders.proofs.all_files.check_files.Given as goal
 
@@ -9,5 +9,5 @@ abbrev pub invariant-files : goal.invariant-files
 invariant-files g l = record {
   room : length l.entries ≤ vec_capacity l.files;
   checked : IsChecked g.S.Shelf g.S.File.Source.seen l.torrent l.fn.shelf l.file-index l.files.items l.stream.feed l.shelf;
-  told : HasSent (g.T.Telling.seen l.fn.out) (g.T.Telling.seen l.out) (verdicts_text l.lines l.files.items l.torrent.files);
+  sent : HasSent (g.T.LinesOut.seen l.fn.out) (g.T.LinesOut.seen l.out) (verdicts_text l.lines l.files.items l.torrent.files);
 }

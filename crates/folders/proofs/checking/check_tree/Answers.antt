@@ -35,8 +35,8 @@ finish-place-requires g c =
     let read = read_whole FeedsBoth _ _ _ _ _ _ _ c.if-ne.false c.ne.ensures c.in_ok-take_all.ensures.read in
     omega (arith, read.taken.tree.count, read.count_is, read.taken.tree.shape, c.piece_check.ensures.count, c.piece_check.ensures.shape, tree.0)
 
-pub tree_verdict-requires-clause-told : goal.tree_verdict-requires-clause-told
-tree_verdict-requires-clause-told g c =
+pub tree_verdict-requires-clause-found : goal.tree_verdict-requires-clause-found
+tree_verdict-requires-clause-found g c =
     let e = tree_entry c.args.tree.now in
     let tree = has_tree c.args.torrent.now c.requires.file.0 (file_entry c.args.file.now) e c.sound.ensures c.requires.file.1 c.requires.tree in
     let read = read_whole FeedsBoth _ _ _ _ _ _ _ c.if-ne.false c.ne.ensures c.in_ok-take_all.ensures.read in (

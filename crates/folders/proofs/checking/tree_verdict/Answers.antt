@@ -21,8 +21,8 @@ overflow_add-result c =
     let t = c.args.torrent.now in
     let f = file_entry c.args.file.now in
     let e = tree_entry c.args.tree.now in
-    let bytes = c.requires.told.0 in
-    let told = subst (IsToldOf t.piece_length e bytes c.args.root.now) c.in-Some.is c.requires.told.1 in
+    let bytes = c.requires.found.0 in
+    let told = subst (IsToldOf t.piece_length e bytes c.args.root.now) c.in-Some.is c.requires.found.1 in
     let small = place_is_small t.piece_length e bytes c.args.root.now c.in-Some.place told (sound_tree t f e c.sound.ensures c.requires.tree).bound in
     let low = start_fits t c.requires.file.0 f c.sound.ensures c.requires.file.1 in
     omega (arith, small, low.0)
@@ -31,8 +31,8 @@ pub unreachable-requires : goal.unreachable-requires
 unreachable-requires c =
     let t = c.args.torrent.now in
     let e = tree_entry c.args.tree.now in
-    let bytes = c.requires.told.0 in
-    let told = subst (IsToldOf t.piece_length e bytes c.args.root.now) c.in-None.is c.requires.told.1 in
+    let bytes = c.requires.found.0 in
+    let told = subst (IsToldOf t.piece_length e bytes c.args.root.now) c.in-None.is c.requires.found.1 in
     let is = root_or_place t.piece_length e bytes c.args.root.now told (sound_tree t (file_entry c.args.file.now) e c.sound.ensures c.requires.tree) in
     true≢false (sym ((bytes_eq-Decides c.args.root.now c.args.tree.now.root).1 is) ∙ sym c.eq.ensures ∙ c.if-eq.false)
 

@@ -26,7 +26,7 @@ returns-in_err-flush_after-clause-cut g c =
     let first = verdicts_text c.args.lines r.files.items t.files in
     let last = end_text c.args.lines r.files.items r.v1 in
     let told = c.in_ok-report.ensures in
-    let sent = told_sink (seen c.args.out.now) (seen c.check_files.new.out) first told.told in
+    let sent = told_sink (seen c.args.out.now) (seen c.check_files.new.out) first told.sent in
     let p = err_from_is_err_and c.from_residual-in_err-flush_after.result c.from_residual-in_err-flush_after.ensures.1 in
     let wrote = Wrote-then c.write_end-written.result (seen c.args.out.now) (seen c.check_files.new.out) (seen c.write_end-written.new.out) first last
     (report_text c.args.lines t.files r.files.items r.v1) refl sent c.write_end-written.ensures in
@@ -50,7 +50,7 @@ returns-clause-report g c =
     let r = c.in_ok-report.report in
     let first = verdicts_text c.args.lines r.files.items t.files in
     let last = end_text c.args.lines r.files.items r.v1 in
-    let sent = told_sink (seen c.args.out.now) (seen c.check_files.new.out) first c.in_ok-report.ensures.told in
+    let sent = told_sink (seen c.args.out.now) (seen c.check_files.new.out) first c.in_ok-report.ensures.sent in
     let wrote = Wrote-then c.write_end-written.result (seen c.args.out.now) (seen c.check_files.new.out) (seen c.write_end-written.new.out) first last
     (report_text c.args.lines t.files r.files.items r.v1) refl sent c.write_end-written.ensures in
     c.in_ok-flush_after.ensures (seen c.args.out.now) (report_text c.args.lines t.files r.files.items r.v1) wrote

@@ -1,4 +1,4 @@
-use Rattle.std.proofs.Common.{◌≡◌, ◌∙◌, sym}
+use Rattle.std.proofs.Common.{◌∙◌}
 use Rattle.folders.proofs.RootLines.{root_read, too_long_file}
 use Rattle.folders.proofs.root.read_content.Goals as goal
 

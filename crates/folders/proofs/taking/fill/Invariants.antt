@@ -1,4 +1,4 @@
-use Rattle.std.proofs.Common.{◌≡◌, ◌≤◌, ◌-◌, length, take}
+use Rattle.std.proofs.Common.{◌≤◌, ◌-◌, length, take}
 use Rattle.wire.specs.Reading.{GaveFaultless}
 use Rattle.folders.proofs.taking.fill.Given as goal
 

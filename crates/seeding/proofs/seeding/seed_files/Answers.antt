@@ -23,7 +23,7 @@ returns-in_err-seeded g c =
     let so_far = c.files.invariant.so_far in
     let p = err_from_is_err_and c.from_residual.result c.from_residual.ensures.1 in
     stopped g.S.Shelf g.S.File.Source.seen _ _ _ _ _ p.0 fault.NoMemory p.1 p.2 (record {
-      told = so_far.told;
+      each = so_far.each;
       count = c.files.file-index;
       file = file_entry c.file-item.result;
       file_is = file_there c.args.session.now.torrent c.files-entries.result.now c.files.file-index c.file-item.result files c.files-test.true c.file-item.is;
@@ -39,7 +39,7 @@ returns-in_err-write_line_of g c =
     let so_far = c.files.invariant.so_far in
     let p = err_from_is_err_and c.from_residual-in_err-write_line_of.result c.from_residual-in_err-write_line_of.ensures.1 in
     stopped g.S.Shelf g.S.File.Source.seen _ _ _ _ _ p.0 fault.Write p.1 p.2 (record {
-      told = so_far.told;
+      each = so_far.each;
       count = c.files.file-index;
       file = file_entry c.file-item.result;
       file_is = file_there c.args.session.now.torrent c.files-entries.result.now c.files.file-index c.file-item.result files c.files-test.true c.file-item.is;

@@ -18,7 +18,7 @@ returns-in_ok-paths_of-in-None-clause-listed c = (
 pub returns-in_ok-owned-in-Some-clause-lists : goal.returns-in_ok-owned-in-Some-clause-lists
 returns-in_ok-owned-in-Some-clause-lists c = record {
   fails = search rules;
-  told = returns-in_ok-owned-in-Some-clause-listed c;
+  listed = returns-in_ok-owned-in-Some-clause-listed c;
   counts = search rules;
   stays = search rules;
 }
@@ -26,7 +26,7 @@ returns-in_ok-owned-in-Some-clause-lists c = record {
 pub returns-in_ok-paths_of-in-None-clause-lists : goal.returns-in_ok-paths_of-in-None-clause-lists
 returns-in_ok-paths_of-in-None-clause-lists c = record {
   fails = search rules;
-  told = returns-in_ok-paths_of-in-None-clause-listed c;
+  listed = returns-in_ok-paths_of-in-None-clause-listed c;
   counts = search rules;
   stays = search rules;
 }

@@ -8,7 +8,7 @@ use Rattle.folders.specs.declared.report.FileVerdict.{FileVerdict}
 use Rattle.folders.specs.declared.report.FileVerdict.TheVariants.{Good}
 use Rattle.folders.specs.Printed.{file_verdict_text, verdicts_text}
 use Rattle.printing.proofs.Parts.{item_next, sent_fault, sent_next}
-use Rattle.folders.proofs.report_lines.write_verdicts.Goals as goal
+use Rattle.folders.proofs.lines.write_verdicts.Goals as goal
 
 -- the line at an index, and those behind it
 next_line : (verdicts : List FileVerdict) (files : List File) (i : ℕ) (file : File) → i < length verdicts → i < length files → file ≡ get_or files i file

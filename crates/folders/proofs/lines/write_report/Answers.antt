@@ -7,7 +7,7 @@ use Rattle.folders.specs.declared.lines.Lines.TheVariants.{All}
 use Rattle.folders.specs.declared.report.FileVerdict.{FileVerdict}
 use Rattle.folders.specs.declared.report.V1Verdict.{V1Verdict}
 use Rattle.folders.specs.Printed.{end_text, report_text, verdicts_text}
-use Rattle.folders.proofs.report_lines.write_report.Goals as goal
+use Rattle.folders.proofs.lines.write_report.Goals as goal
 
 -- all lines from their parts as they were made
 parts : (entries : List FileEntry) (files seen : List FileVerdict) (v1 : Option V1Verdict) → seen ≡ files

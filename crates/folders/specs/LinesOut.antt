@@ -14,6 +14,6 @@ HasBroken None new text = ⊥
 HasBroken (Some old) new text = (seen : SinkSeen) × (new ≡ Some seen) × Broke old seen text
 
 -- the text went out, or broke off at a fault
-abbrev pub Tells : Option SinkSeen → Option SinkSeen → List ℕ → Result (Unit {0}) DeviceFault
+abbrev pub WritesText : Option SinkSeen → Option SinkSeen → List ℕ → Result (Unit {0}) DeviceFault
     → Type 0
-Tells old new text r = MatchResult r (λ _. HasSent old new text) (λ _. HasBroken old new text)
+WritesText old new text r = MatchResult r (λ _. HasSent old new text) (λ _. HasBroken old new text)

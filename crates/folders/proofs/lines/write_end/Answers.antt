@@ -6,7 +6,7 @@ use Rattle.folders.specs.declared.report.FileVerdict.{FileVerdict}
 use Rattle.folders.specs.declared.report.V1Verdict.{V1Verdict}
 use Rattle.folders.specs.Printed.{answer_text, end_text, stream_text}
 use Rattle.folders.specs.Verdicts.{is_yes}
-use Rattle.folders.proofs.report_lines.write_end.Goals as goal
+use Rattle.folders.proofs.lines.write_end.Goals as goal
 
 -- the last lines from their parts as they were made
 parts : (which : Lines) (files : List FileVerdict) (v1 : Option V1Verdict) (stream answer : List ℕ)

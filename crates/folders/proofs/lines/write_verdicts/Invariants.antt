@@ -3,7 +3,7 @@ use Rattle.opening.specs.Seen.{file_entry}
 use Rattle.folders.specs.declared.lines.Lines.TheVariants.{All}
 use Rattle.folders.specs.Printed.{verdicts_text}
 use Rattle.printing.proofs.Parts.{SentBut}
-use Rattle.folders.proofs.report_lines.write_verdicts.Given as goal
+use Rattle.folders.proofs.lines.write_verdicts.Given as goal
 
 -- the lines of some first files went out
 abbrev pub invariant-files : goal.invariant-files

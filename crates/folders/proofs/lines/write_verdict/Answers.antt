@@ -4,7 +4,7 @@ use Rattle.benc.proofs.Out.{Wrote-then, Wrote-part}
 use Rattle.folders.specs.declared.report.FileVerdict.{FileVerdict}
 use Rattle.printing.specs.Text.{path_text}
 use Rattle.folders.specs.Printed.{verdict_words}
-use Rattle.folders.proofs.report_lines.write_verdict.Goals as goal
+use Rattle.folders.proofs.lines.write_verdict.Goals as goal
 
 -- a line from its parts as they were made
 parts : (v : FileVerdict) (path seen : List (List ℕ)) (head : List ℕ) → head ≡ verdict_words v → seen ≡ path
