@@ -334,13 +334,13 @@ def test_one_torrent_in_parts():
     with folder() as place:
         archive = Big(place, slow=True)
         for recipe in BY_PARTS:
-            for _ in range(2):
+            for joins in (1, 2):
                 assert archive.run(in_few(recipe)) == archive.whole, recipe
-                assert len(archive.checked()) == PARTS and archive.parts() == [f"{number + 1}" for number in range(PARTS)]
+                assert len(archive.checked()) == PARTS + joins and archive.parts() == [f"{number + 1}" for number in range(PARTS)]
             # what is lost is run again, alone
             os.remove(f"{place}/parts/2")
             if "xargs" in recipe:
-                assert archive.run(in_few(recipe)) == archive.whole and len(archive.checked()) == PARTS + 1
+                assert archive.run(in_few(recipe)) == archive.whole and len(archive.checked()) == PARTS + 4
             archive.forget_parts()
 
 
