@@ -1,12 +1,14 @@
 # Completion of btcheck for bash.
 
-# Sets `options` to what a command takes, and `kinds` to what its arguments are, in order.
+# Sets `options` to what a command takes, `kinds` to what its arguments are, in order, and `last` if the last of them may
+# be there many times.
 _btcheck_command() {
     options='-h --help'
     case $1 in
         root) options+=' --json' kinds=(file) ;;
         show) options+=' --json' kinds=(torrent) ;;
-        check) options+=' --quiet --json' kinds=(torrent folder) ;;
+        check) options+=' --quiet --bad --part --json' kinds=(torrent folder) ;;
+        join) kinds=(torrent file) last=more ;;
         create) options+=' --name --piece-length --hybrid --exclude' kinds=(folder file) ;;
         convert) kinds=(file file) ;;
         replay) options+=' --info-only --seed --answers --json' kinds=(torrent file) ;;
@@ -20,7 +22,7 @@ _btcheck_value() {
     case $1 in
         --seed) kind=folder ;;
         --answers) kind=file ;;
-        --name | --piece-length | --exclude) kind=text ;;
+        --name | --piece-length | --exclude | --part) kind=text ;;
         *) kind='' ;;
     esac
 }
@@ -29,7 +31,7 @@ _btcheck_value() {
 _btcheck_argument() {
     local text=$2
     case $1 in
-        command) mapfile -t COMPREPLY < <(compgen -W 'root show check create replay convert help' -- "$text") ;;
+        command) mapfile -t COMPREPLY < <(compgen -W 'root show check join create replay convert help' -- "$text") ;;
         folder) mapfile -t COMPREPLY < <(compgen -d -- "$text") ;;
         file) mapfile -t COMPREPLY < <(compgen -f -- "$text") ;;
         torrent)
@@ -41,7 +43,7 @@ _btcheck_argument() {
 }
 
 _btcheck() {
-    local text=${COMP_WORDS[COMP_CWORD]} command='' count=0 ended='' kind='' word at options kinds
+    local text=${COMP_WORDS[COMP_CWORD]} command='' count=0 ended='' kind='' word at options kinds last=''
     COMPREPLY=()
     for ((at = 1; at < COMP_CWORD; at++)); do
         word=${COMP_WORDS[at]}
@@ -66,6 +68,8 @@ _btcheck() {
         mapfile -t COMPREPLY < <(compgen -W "$options" -- "$text")
     elif [ "$count" -lt ${#kinds[@]} ]; then
         _btcheck_argument "${kinds[count]}" "$text"
+    elif [ -n "$last" ]; then
+        _btcheck_argument "${kinds[-1]}" "$text"
     fi
 }
 

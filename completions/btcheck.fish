@@ -1,13 +1,13 @@
 # Completion of btcheck for fish.
 
-set -l commands root show check create replay convert help
+set -l commands root show check join create replay convert help
 set -l none "not __fish_seen_subcommand_from $commands"
 
 # How many arguments stand after the command.
 function __btcheck_arguments
     set -l words (commandline -opc)
     set -l found (string match -v -- '-*' $words)
-    set -l valued (string match -r -- '^--(seed|answers|name|piece-length|exclude)$' $words)
+    set -l valued (string match -r -- '^--(seed|answers|name|piece-length|exclude|part)$' $words)
     math (count $found) - (count $valued) - 2
 end
 
@@ -27,6 +27,13 @@ complete -c btcheck -n '__fish_seen_subcommand_from check; and test (__btcheck_a
 complete -c btcheck -n '__fish_seen_subcommand_from check; and test (__btcheck_arguments) -eq 1' \
     -a '(__fish_complete_directories)'
 complete -c btcheck -n '__fish_seen_subcommand_from check' -l quiet -d 'Print only what is not good'
+complete -c btcheck -n '__fish_seen_subcommand_from check' -l bad -d 'Print the runs of bad pieces'
+complete -c btcheck -n '__fish_seen_subcommand_from check' -l part -x -d 'Check one part alone, as 1/4'
+
+complete -c btcheck -n $none -a join -d 'Join the reports of all parts of a check'
+complete -c btcheck -n '__fish_seen_subcommand_from join; and test (__btcheck_arguments) -eq 0' \
+    -k -a '(__fish_complete_suffix .torrent)'
+complete -c btcheck -n '__fish_seen_subcommand_from join; and test (__btcheck_arguments) -gt 0' -F
 
 complete -c btcheck -n '__fish_seen_subcommand_from root show check replay' -l json -d 'Print each line as a JSON object'
 

@@ -1,4 +1,4 @@
-"""Hostile input drawn at random: torrents, records and folders, each run by the program under limits of time and memory
+"""Hostile input drawn at random: torrents, records, folders and reports of parts, each run by the program under limits of time and memory
 and compared with the plain models."""
 import collections
 import copy
@@ -6,6 +6,7 @@ import functools
 import hashlib
 import os
 import random
+import re
 import shutil
 
 import folder_model
@@ -193,7 +194,7 @@ class Fuzz:
     def __init__(self, place, seed):
         self.place, self.seed = place, seed
         self.cases, self.start = collections.Counter(), seconds_of_processors()
-        self.answers = {kind: collections.Counter() for kind in ("torrent", "record", "conversion", "folder")}
+        self.answers = {kind: collections.Counter() for kind in ("torrent", "record", "conversion", "folder", "join")}
 
     def case(self, kind):
         """Draws a case of this kind and compares it."""
@@ -277,6 +278,114 @@ class Fuzz:
         for path, bytes_of in draw.sample(files, draw.choice([0, 1, 1, 1, min(2, len(files)), len(files)])):
             damage(draw, b"/".join([below, *path]), bytes_of)
         self.compare("folder", folder_model.report(torrent, below), b"check", f"{self.place}/torrent", below)
+
+
+    def join(self, draw):
+        top, files = drawn_torrent(draw)
+        torrent, below = write(f"{self.place}/torrent", torrents.bencoded(top)), os.fsencode(self.place) + b"/folder"
+        shutil.rmtree(below, ignore_errors=True)
+        os.mkdir(below)
+        for path, bytes_of in files:
+            os.makedirs(b"/".join([below, *path[:-1]]), exist_ok=True)
+            write(b"/".join([below, *path]), bytes_of)
+        for path, bytes_of in draw.sample(files, draw.choice([0, 1, min(2, len(files))])):
+            damage(draw, b"/".join([below, *path]), bytes_of)
+        count = draw.choice([1, 2, 3, 5])
+        true = [run(b"check", torrent, below, b"--part", b"%d/%d" % (number + 1, count)).stdout for number in range(count)]
+        given = bent_reports(draw, true)
+        paths = [write(f"{self.place}/report {number}", text) for number, text in enumerate(given)]
+        done = run("join", torrent, *paths, timeout=SECONDS, memory=MEMORY)
+        wanted = joined(true, given)
+        if wanted is None:
+            is_right = (done.returncode, done.stdout) == (2, b"") and JOIN_FAULT.fullmatch(done.stderr)
+        else:
+            is_right = (done.returncode, done.stdout, done.stderr) == (*wanted, b"")
+        if not is_right:
+            raise AssertionError(f"case {self.name}: a join of {given} is to answer {wanted}, and answered {done}")
+        self.answers["join"].update([re.sub(r":? /.*| [0-9].*", "", (done.stdout or done.stderr).decode().splitlines()[-1])])
+
+
+# The lines of a join that is refused.
+JOIN_FAULT = re.compile(rb"fault: (part \d+ of \d+ is missing|part \d+ is there twice|no whole report of a part: .*"
+                        rb"|a part of another torrent: .*|a report of another number of parts: .*)\n")
+VERDICT = re.compile(rb"(good|missing|unreadable|wrong length|bad (0|[1-9][0-9]{0,19})) (.*)", re.S)
+V1_VERDICT = re.compile(rb"v1 (good|not checked|bad (0|[1-9][0-9]{0,19}))")
+BEST_FIRST = [b"good", b"bad", b"wrong length", b"unreadable", b"missing"]
+
+
+def bent_reports(draw, true):
+    """These reports in another order, of which some are changed."""
+    given = draw.sample(true, len(true))
+    for _ in range(draw.choice([0, 1, 1, 2])):
+        at = draw.randrange(len(given)) if given else 0
+        text = given[at] if given else b""
+        lines, words = text.splitlines(True), text.split(b" ")
+        one, other = (draw.randrange(len(lines)) for _ in range(2)) if lines else (0, 0)
+        word = draw.randrange(len(words))
+        instead = draw.choice([b"good", b"missing", b"bad", b"unreadable", b"wrong", b"0", b"1", b"18446744073709551615",
+                               b"18446744073709551616", b"1/1", b"2/2", b"yes\n", b"no\n", b"v1", b""])
+        bent = draw.choice([
+            lambda: text[:draw.randrange(len(text) + 1)],
+            lambda: b"".join(lines[:one] + lines[one + 1:]),
+            lambda: b"".join(lines[:one] + lines[other:other + 1] + lines[one:]),
+            lambda: b" ".join(words[:word] + [instead] + words[word + 1:]),
+            lambda: b"".join(lines[:one] + [draw.choice([b"bad 0", b"bad 7", b"missing", b"unreadable", b"wrong length"])
+                                            + lines[one][4:] if lines[one:one + 1] and lines[one][:5] == b"good " else b""]
+                             + lines[one + 1:]).replace(b"part yes\n", b"part no\n"),
+            lambda: bend_bytes(draw, text) if text else b"x",
+            lambda: text + text,
+            lambda: text.replace(b"part no\n", b"part yes\n"),
+        ])()
+        if given and draw.random() < 0.8:
+            given[at] = bent
+        else:
+            given.insert(at, draw.choice([text, bent]))
+    return given or [b""]
+
+
+def said(text, true):
+    """What a report says of each file and of the version 1 pieces, if it has the form of the true one of its part."""
+    lines, others = text.split(b"\n"), true.split(b"\n")
+    if len(lines) != len(others) or lines[0] != others[0] or lines[-1]:
+        return None
+    says = {}
+    for line, other in zip(lines[1:-2], others[1:-2]):
+        of_file = not other.startswith(b"v1 ")
+        found, wanted = ((VERDICT if of_file else V1_VERDICT).fullmatch(text) for text in (line, other))
+        if not found or of_file and found[3] != wanted[3] or found[2] and int(found[2]) >= 1 << 64:
+            return None
+        says[wanted[3] if of_file else None] = found[1]
+    whole = all(verdict == b"good" for verdict in says.values())
+    return says if lines[-2] == (b"part yes" if whole else b"part no") else None
+
+
+def badness(verdict):
+    """A key by which the worst verdict is the largest."""
+    if verdict == b"not checked":
+        return 5, 0
+    kind, _, piece = verdict.partition(b" ") if verdict.startswith(b"bad") else (verdict, b"", b"")
+    return BEST_FIRST.index(kind), -int(piece or 0)
+
+
+def joined(true, given):
+    """The status and the report of a join, or none if it is refused."""
+    if len(given) != len(true):
+        return None
+    heads = [text.split(b"\n")[0] for text in given]
+    says = {}
+    for text in true:
+        head = text.split(b"\n")[0]
+        if heads.count(head) != 1:
+            return None
+        one = said(given[heads.index(head)], text)
+        if one is None:
+            return None
+        for name, verdict in one.items():
+            says[name] = max(says.get(name, b"good"), verdict, key=badness)
+    v1 = says.pop(None, None)
+    lines = [verdict + b" " + name for name, verdict in says.items()] + ([b"v1 " + v1] if v1 else [])
+    whole = all(verdict == b"good" for verdict in [*says.values(), v1 or b"good"])
+    return (0 if whole else 1), b"".join(line + b"\n" for line in [*lines, b"yes" if whole else b"no"])
 
 
 def damage(draw, path, content):

@@ -87,6 +87,10 @@ int openat(int folder, const char *name, int flags, ...) {
     va_end(more);
     return fails("openat") ? -1 : (int)syscall(SYS_openat, folder, name, flags, mode);
 }
+off64_t lseek64(int file, off64_t offset, int whence) {
+    return fails("seek") ? -1 : syscall(SYS_lseek, file, offset, whence);
+}
+off_t lseek(int file, off_t offset, int whence) { return lseek64(file, offset, whence); }
 ssize_t getdents64(int folder, void *entries, size_t size) {
     if (one_byte && size > LARGEST_ENTRY) size = LARGEST_ENTRY;
     return fails("list") ? -1 : syscall(SYS_getdents64, folder, entries, size);

@@ -5,7 +5,11 @@ import shutil
 
 from support import TOP, expect, run
 
-COMMANDS = ["root", "show", "check", "create", "replay", "convert"]
+COMMANDS = ["root", "show", "check", "join", "create", "replay", "convert"]
+
+# What names no part.
+PARTS = ["", "/", "1", "1/", "/1", "0/1", "2/1", "0/0", "1/0", "-1/2", "1/-2", "1 /2", "1/2/3", "1//2", "a/b", "0x1/2", "1.0/2",
+         "1/18446744073709551616", "18446744073709551616/18446744073709551616", "\u0661/2"]
 
 REFUSED = [
     [],
@@ -26,6 +30,16 @@ REFUSED = [
     ["check", "a", "b", "c"],
     ["check", "a", "b", "--quiet", "--quiet"],
     ["check", "a", "b", "--quiet=yes"],
+    *[["check", "a", "b", "--part", part] for part in PARTS],
+    ["check", "a", "b", "--part"],
+    ["check", "a", "b", "--part", "1/2", "--part", "2/2"],
+    *[["check", "a", "b", "--part", "1/2", option] for option in ("--quiet", "--bad", "--json")],
+    ["check", "a", "b", "--bad", "--bad"],
+    ["check", "--part", "1/2", "a"],
+    ["root", "a", "--part", "1/2"],
+    ["join"],
+    ["join", "a"],
+    ["join", "a", "b", "--json"],
     ["root", "a", "--quiet"],
     ["root", "a", "--json", "--json"],
     ["show", "a", "--json=yes"],
@@ -68,6 +82,21 @@ def test_refused_arguments():
         done = run(*arguments)
         expect(done, 2, b"", None)
         assert done.stderr.startswith(b"error: "), (arguments, done.stderr)
+
+
+def test_what_is_said_of_a_part_that_is_refused():
+    """What the option has in its place is not opened: neither the torrent nor the folder is there."""
+    for part in PARTS:
+        done = run("check", "a", "b", f"--part={part}")
+        expect(done, 2, b"", None)
+        assert done.stderr.startswith(b"error: invalid value for '--part <I/N>'"), (part, done.stderr)
+    for option in ("--quiet", "--bad", "--json"):
+        for arguments in (["--part", "1/2", option], [option, "--part", "1/2"], [option, "--part", "2/1"]):
+            done = run("check", "a", "b", *arguments)
+            expect(done, 2, b"", None)
+            assert done.stderr.startswith(b"error: the argument '--part <I/N>' cannot be used with"), (arguments, done)
+    for part in ("1/1", "+1/+2", "01/02", "18446744073709551615/18446744073709551615"):
+        expect(run("check", "a", "b", "--part", part), 2, b"", "fault: cannot read a\n")
 
 
 # Mistyped arguments, with what clap says of them and what it suggests, if anything is close.

@@ -43,9 +43,12 @@ class World:
         self.a, self.c = write(f"{self.folder}/a", TWO), write(f"{self.folder}/c", b"abc")
         self.commands = {
             "root": (["root", self.long], 0), "show": (["show", self.pair], 0),
-            "check": (["check", self.pair, self.folder], 0), "replay": (["replay", self.abc, self.record], 1),
+            "check": (["check", self.pair, self.folder], 0), "part": (["check", self.pair, self.folder, "--part", "1/1"], 0),
+            "join": (["join", self.pair, f"{place}/report"], 0), "replay": (["replay", self.abc, self.record], 1),
             "seeded": (["replay", self.pair, self.talk, "--seed", self.folder, "--answers", self.answers], 1),
         }
+
+        self.report = write(f"{place}/report", run(*self.commands["part"][0]).stdout)
 
         # Commands that print nothing and write a file: their arguments, what they read, and the file.
         self.made = f"{place}/made"
@@ -53,6 +56,9 @@ class World:
             "create": (["create", self.folder, self.made, "--name", "x", "--piece-length", "32768", "--hybrid"], ["a", "c"]),
             "convert": (["convert", self.record, self.made], [self.record]),
         }
+
+    def report_head(self):
+        return written(self.report).decode().splitlines(True)[0]
 
     def ample(self, command):
         arguments, status = self.commands[command]
@@ -75,6 +81,12 @@ def checks_without(states):
     return 1, "\n".join([*lines, "v1 not checked", "no", ""]), ""
 
 
+def part_without(world, states):
+    """The same of its only part."""
+    status, lines, error = checks_without(states)
+    return status, world.report_head() + lines.removesuffix("no\n") + "part no\n", error
+
+
 def failures(shim, world, command, kind, **more):
     """The runs in which call 1, 2, and so on of this kind fails."""
     arguments, ample = world.ample(command)
@@ -94,8 +106,23 @@ def test_reads_that_fail():
             seen, _ = failures(shim, world, "check", "read", error=error)
             allowed = [cannot_read(world.pair), checks_without({"a": "unreadable"}), checks_without({"c": "unreadable"})]
             assert set(seen) == set(allowed) and sorted(seen, key=allowed.index) == seen, seen
+            seen, _ = failures(shim, world, "part", "read", error=error)
+            allowed[1:] = [part_without(world, {name: "unreadable"}) for name in "ac"]
+            assert set(seen) == set(allowed) and sorted(seen, key=allowed.index) == seen, seen
+            seen, _ = failures(shim, world, "join", "read", error=error)
+            allowed = [cannot_read(world.pair), cannot_read(world.report)]
+            assert set(seen) == set(allowed) and sorted(seen, key=allowed.index) == seen, seen
             seen, _ = failures(shim, world, "replay", "read", error=error)
             assert set(seen) <= {cannot_read(world.abc)} | read_faults() and len(set(seen)) > 1, seen
+
+
+def test_files_that_cannot_be_sought_in():
+    """A part reads a file from its first piece there on: one in which that fails is unreadable."""
+    with shimmed() as (place, shim):
+        world = World(place)
+        for error in (errno.ESPIPE, errno.EIO):
+            seen, _ = failures(shim, world, "part", "seek", error=error)
+            assert seen == [part_without(world, {name: "unreadable"}) for name in "ac"], seen
 
 
 def read_faults():
@@ -139,6 +166,8 @@ def test_files_that_cannot_be_opened():
         for error, verdict in [(errno.EMFILE, "unreadable"), (errno.EACCES, "unreadable"), (errno.ENOENT, "missing")]:
             expected = {"root": [cannot_read(world.long)], "show": [cannot_read(world.pair)],
                         "check": [cannot_read(world.pair), checks_without({"a": verdict}), checks_without({"c": verdict})],
+                        "part": [cannot_read(world.pair), *[part_without(world, {name: verdict}) for name in "ac"]],
+                        "join": [cannot_read(world.pair), cannot_read(world.report)],
                         "replay": [cannot_read(world.abc), cannot_read(world.record)]}
             for command, wanted in expected.items():
                 seen, _ = failures(shim, world, command, "open", error=error)

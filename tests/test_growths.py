@@ -132,6 +132,37 @@ def test_check():
                     assert done.returncode == (0 if done.stdout.endswith(b"\nyes\n") else 1) and not done.stderr, called
 
 
+def whole_of(text):
+    """What a report of a part would be as the report of a check."""
+    lines = text.split(b"\n", 1)
+    return lines[1].replace(b"part yes\n", b"yes\n").replace(b"part no\n", b"no\n")
+
+
+def test_parts_and_their_join():
+    """A part is as a check. A join has one answer, and needs memory for the reports."""
+    with shimmed() as (place, shim):
+        os.mkdir(f"{place}/folder")
+        path = write(f"{place}/torrent", torrent(hybrid()))
+        write(f"{place}/folder/a", TWO)
+        write(f"{place}/folder/c", b"abd")
+        reports = []
+        for number in (1, 2):
+            arguments, ample = ["check", path, f"{place}/folder", "--part", f"{number}/2"], None
+            for called, done in refused_in_turn(shim, f"part {number}", *arguments):
+                ample = ample or done.stdout
+                if outcome(done) != NO_MEMORY:
+                    most = 0 if called == "ample" else 1 if "from" not in called else 2
+                    assert is_report_with_unreadable(whole_of(done.stdout), whole_of(ample), most), (called, outcome(done))
+                    assert done.returncode == (0 if done.stdout.endswith(b"\npart yes\n") else 1) and not done.stderr, called
+            reports.append(write(f"{place}/{number}", ample))
+        for name, given, status in [("both", reports, 1), ("one", reports[:1], 2)]:
+            ample = None
+            for called, done in refused_in_turn(shim, f"join of {name}", "join", path, *given):
+                ample = ample or outcome(done)
+                assert outcome(done) in (ample, NO_MEMORY), (called, outcome(done))
+            assert ample[0] == status, ample
+
+
 def fits(session, record, lines):
     """Each frame carries one block at most, and has one line. Each line is what the model says of its frame in the
     state that the frames before it left, or says that memory was refused for hashes that it would store, which leaves

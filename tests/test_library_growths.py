@@ -211,6 +211,7 @@ def test_folders():
         path = write(f"{place}/torrent", torrent_of([("five", FIVE)], 32768))
         content = write(f"{place}/content", FIVE)
         for call, named in [("gather", {"gather"}), ("check", {"check"}), ("check_onto", {"check_onto"}),
+                            ("parts", {"check_part", "join_reports"}),
                             ("seed", {"new", "seed"})]:
             for map_name in ("flat", "paged") if call == "seed" else ("paged",):
                 name = f"{call} over {map_name}" if call == "seed" else call

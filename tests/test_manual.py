@@ -82,6 +82,7 @@ PRINTED = {
     "Output of check": ["good PATH", "missing PATH", "unreadable PATH", "wrong length PATH", "bad PIECE PATH",
                         "bad pieces FIRST LAST bytes FROM-TO", "v1 good",
                         "v1 bad PIECE", "v1 not checked", "yes", "no"],
+    "Output of a part of a check": ["part I/N HASH", "part yes", "part no"],
     "Output of create": ["refused 6 PieceLength", "refused NUMBER NAME PATH", "refused 13 NoFiles", "refused 1 TooLarge"],
     "Output of convert": ["refused 3 AlreadyForm2"],
     "Output of replay": ["seeded PATH", "not seeded PATH", "N verified FILE BLOCK", "N stored COUNT", "N refused NUMBER NAME",
@@ -90,7 +91,9 @@ PRINTED = {
                          "fault BadDirection", "fault Read", "fault NoMemory"],
     "Faults on standard error": ["fault: cannot read PATH", "fault: cannot write PATH", "fault: name is not UTF-8",
                                  "fault: not a file or folder: PATH", "fault: record is truncated: PATH",
-                                 "fault: no memory", "error: ..."],
+                                 "fault: part I of N is missing", "fault: part I is there twice",
+                                 "fault: no whole report of a part: PATH", "fault: a part of another torrent: PATH",
+                                 "fault: a report of another number of parts: PATH", "fault: no memory", "error: ..."],
     "Refused torrents": ["refused 1 TooLarge", "refused 2 NotBencode KIND OFFSET", "refused 3 Missing KEY",
                          "refused 4 WrongType KEY", "refused 5 Version", "refused 6 PieceLength", "refused 7 Shape",
                          "refused 8 Path", "refused 9 Symlink", "refused 10 Length", "refused 11 Root",
@@ -176,6 +179,7 @@ def test_manual_is_well_formed():
 EXAMPLES = [
     "bad 1 b\nmissing c d\nno\n",
     "not complete:\nbad 1 b\nmissing c d\nno\n",
+    "good a\nbad 1 b\nmissing c d\nno\n",
     "      1 bad\n      1 good\n      1 missing\n      1 no\nbad 1 b\nmissing c d\nno\n",
     "other.torrent:40000 {root} film\nsome.torrent:40000 {root} a\n",
     "40000 {root}\n",
@@ -246,6 +250,7 @@ FILES_FOR = {
     "DIR": {"folder"},
     "RECORD": {"t.torrent", "two words", "folder"},
     "OUT": {"t.torrent", "two words", "folder"},
+    "REPORT": {"t.torrent", "two words", "folder"},
 }
 
 # The options that take a value, and what it can be.
@@ -269,7 +274,8 @@ def test_completion_by_bash():
                 assert completed(place, *given, "") == FILES_FOR[name], (command, name)
                 assert completed(place, *given, "f") == {"folder"} & FILES_FOR[name]
                 given += ["t.torrent"]
-            assert completed(place, *given, "") == set(), command
+            # the last argument of `join` may be there many times
+            assert completed(place, *given, "") == (FILES_FOR["REPORT"] if command == "join" else set()), command
             assert completed(place, "btcheck", "-h", command, "") == FILES_FOR[help_of.arguments[0]]
         for option, name in VALUES.items():
             assert completed(place, "btcheck", "replay", option, "") == FILES_FOR[name], option

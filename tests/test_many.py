@@ -292,3 +292,107 @@ def test_timers():
             fcntl.flock(lock, fcntl.LOCK_EX)
             assert archive.run(line) == (1, []) and not os.path.exists(f"{place}/reports")
         assert archive.run(line) == (1, sorted(LINES + ERRORS))
+
+
+# The recipes for one torrent, of as many parts as a test takes.
+PARTS = 5
+BY_PARTS = [block("seq \"$n\" | parallel"), block("-I {} ./check-part")]
+
+
+class Big(Archive):
+    """An archive with one torrent more, of several files, one of which has a bad piece."""
+
+    def __init__(self, place, slow=False):
+        super().__init__(place, slow)
+        self.script("check-part", block("\n# check-part"))
+        os.mkdir(f"{place}/content/big")
+        files = [(f"file {number}", bytes([number]) * 70_000) for number in range(6)]
+        write(f"{place}/big.torrent", torrents.torrent_of(files, 16384))
+        for name, content in files:
+            write(f"{place}/content/big/{name}", content)
+        write(f"{place}/content/big/file 3", bytes([3]) * 50_000 + bytes(20_000))
+        done = subprocess.run([BTCHECK, "check", f"{place}/big.torrent", f"{place}/content/big"], stdout=subprocess.PIPE)
+        assert done.returncode == 1 and b"bad " in done.stdout, done
+        self.whole = 1, sorted(done.stdout.decode().splitlines())
+
+    def parts(self):
+        """The parts that have a report."""
+        return sorted(name for name in os.listdir(f"{self.place}/parts") if not name.startswith("."))
+
+    def forget_parts(self):
+        subprocess.run(["rm", "-rf", "parts", "parts.log", "checked"], cwd=self.place, check=True)
+
+
+def in_few(recipe):
+    """The recipe in few parts."""
+    lines = recipe.splitlines(True)
+    assert lines[0] in ("n=16\n", "n=64\n"), recipe
+    return f"n={PARTS}\n" + "".join(lines[1:])
+
+
+def test_one_torrent_in_parts():
+    with folder() as place:
+        archive = Big(place, slow=True)
+        for recipe in BY_PARTS:
+            for joins in (1, 2):
+                assert archive.run(in_few(recipe)) == archive.whole, recipe
+                assert len(archive.checked()) == PARTS + joins and archive.parts() == [f"{number + 1}" for number in range(PARTS)]
+            # what is lost is run again, alone
+            os.remove(f"{place}/parts/2")
+            if "xargs" in recipe:
+                assert archive.run(in_few(recipe)) == archive.whole and len(archive.checked()) == PARTS + 4
+            archive.forget_parts()
+
+
+def test_a_part_that_is_stopped_is_run_again():
+    """Whatever stops the run, each part has a whole report or none, and the run goes on."""
+    for recipe in BY_PARTS:
+        with folder() as place:
+            archive = Big(place, slow=True)
+            program, end = archive.start(in_few(recipe)), time.monotonic() + 60
+            while not os.path.exists(f"{place}/checked"):
+                assert time.monotonic() < end, "no part was started"
+                time.sleep(0.01)
+            os.killpg(program.pid, signal.SIGKILL)
+            program.communicate(timeout=60)
+            for name in archive.parts():
+                with open(f"{place}/parts/{name}", "rb") as report:
+                    assert report.read().split(b"\n")[-2] in (b"part yes", b"part no"), name
+            assert archive.run(in_few(recipe)) == archive.whole, recipe
+
+
+def test_a_fault_of_a_part():
+    """No report is kept, nothing is joined, and the run has failed."""
+    with folder() as place:
+        archive = Big(place)
+        os.rename(f"{place}/big.torrent", f"{place}/other.torrent")
+        for recipe in BY_PARTS:
+            status, lines = archive.run(in_few(recipe))
+            assert status != 0 and not lines and not os.listdir(f"{place}/parts"), (recipe, status, lines)
+            archive.forget_parts()
+
+
+def test_one_torrent_on_several_machines():
+    """One of three does not answer: the others check its parts."""
+    with folder() as place:
+        archive = Big(place)
+        write(f"{place}/hosts", b"2/:\n2/alpha\n2/beta\n")
+        recipe = in_few(block("| PARALLEL_SHELL")).replace("/srv/archive", place)
+        assert archive.run(recipe) == archive.whole
+        assert len(archive.parts()) == PARTS
+
+
+def test_a_job_array():
+    """Each task by itself, in any order; and the syntax of what runs them."""
+    with folder() as place:
+        archive = Big(place)
+        script, submitted = block("\n# check-array"), block("sbatch --parsable")
+        for text in (script, submitted):
+            subprocess.run(["bash", "-n"], input=text.encode(), check=True)
+        options = dict(re.findall(r"^#SBATCH --([\w-]+)=(\S+)$", script, re.M))
+        assert options["array"] == "1-64" and options["chdir"] == "/srv/archive", options
+        archive.script("check-array", script)
+        os.mkdir(f"{place}/parts")
+        for task in reversed(range(1, 65)):
+            assert archive.run(f"SLURM_ARRAY_TASK_ID={task} ./check-array") == (0, [])
+        assert archive.run(re.search("--wrap '(.*)'", submitted)[1]) == archive.whole

@@ -4,6 +4,7 @@ use crate::world::World;
 use folders::memory::{MemFile, MemShelf};
 use folders::{FileVerdict, Report, Shelf, ShelfFault, check};
 use gathering::{GatherFault, gather};
+use parts::{Places, check_part};
 use seeding::seed;
 use session::{Flat, Session};
 use std::io;
@@ -12,11 +13,12 @@ use std::io;
 #[derive(Clone, Copy)]
 enum Call {
     Check,
+    CheckPart,
     Seed,
     Gather,
 }
 
-const CALLS: [Call; 3] = [Call::Check, Call::Seed, Call::Gather];
+const CALLS: [Call; 4] = [Call::Check, Call::CheckPart, Call::Seed, Call::Gather];
 
 // Whether the call opens no file after one that failed.
 fn stops(call: Call) -> bool {
@@ -29,6 +31,7 @@ fn stops(call: Call) -> bool {
 fn name(call: Call) -> &'static str {
     match call {
         Call::Check => "check",
+        Call::CheckPart => "check_part",
         Call::Seed => "seed",
         Call::Gather => "gather",
     }
@@ -90,6 +93,10 @@ fn make(
 ) -> io::Result<u64> {
     match call {
         Call::Check => Ok(unreadable(&check(rt.alloc(), world.torrent, shelf)?)),
+        Call::CheckPart => {
+            let places = Places::of_part(world.torrent, 0, 1);
+            Ok(unreadable(&check_part(rt.alloc(), world.torrent, shelf, places)?))
+        }
         Call::Seed => make_seed(rt, world, shelf),
         Call::Gather => Ok(make_gather(rt, shelf)),
     }

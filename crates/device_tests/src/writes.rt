@@ -10,6 +10,7 @@ use filetree::{Key, Refusal};
 use folders::memory::MemShelf;
 use folders::{check, print_report, root_line};
 use gathering::gather;
+use parts::{Places, check_part, print_part};
 use printing::{
     Fault, fault_line, flush_after, refusal_line, show, write_escaped, write_line, write_path,
 };
@@ -34,6 +35,7 @@ enum Call {
     RefusalLine,
     FaultLine,
     PrintReport,
+    PrintPart,
     Seed,
     ReplayReport,
     ReplayAnswers,
@@ -41,7 +43,7 @@ enum Call {
     Convert,
 }
 
-const CALLS: [Call; 17] = [
+const CALLS: [Call; 18] = [
     Call::WriteAll,
     Call::WriteEscaped,
     Call::WritePath,
@@ -54,6 +56,7 @@ const CALLS: [Call; 17] = [
     Call::RefusalLine,
     Call::FaultLine,
     Call::PrintReport,
+    Call::PrintPart,
     Call::Seed,
     Call::ReplayReport,
     Call::ReplayAnswers,
@@ -75,6 +78,7 @@ fn name(call: Call) -> &'static str {
         Call::RefusalLine => "refusal_line",
         Call::FaultLine => "fault_line",
         Call::PrintReport => "print_report",
+        Call::PrintPart => "print_part",
         Call::Seed => "seed",
         Call::ReplayReport => "replay",
         Call::ReplayAnswers => "replay with answers",
@@ -147,6 +151,7 @@ fn make(
         Call::RefusalLine => Ok(refusal_line(&Refusal::Missing(Key::Name), &[], out).is_ok()),
         Call::FaultLine => Ok(fault_line(&Fault::Truncated(ODD), out).is_ok()),
         Call::PrintReport => make_report(rt, world, out),
+        Call::PrintPart => make_part(rt, world, out),
         Call::Seed => make_seed(rt, world, out),
         Call::ReplayReport => make_replay(rt, world, out, &mut sink(rt)?),
         Call::ReplayAnswers => make_replay(rt, world, &mut sink(rt)?, out),
@@ -183,6 +188,14 @@ fn make_report(rt: &HostRuntime, world: &World<'_, '_>, out: &mut MemSink) -> io
         &mut MemShelf::new(rt.alloc(), &files),
     )?;
     Ok(print_report(&report, world.torrent, out).is_ok())
+}
+
+fn make_part(rt: &HostRuntime, world: &World<'_, '_>, out: &mut MemSink) -> io::Result<bool> {
+    let files = world.files();
+    let mut shelf = MemShelf::new(rt.alloc(), &files);
+    let places = Places::of_part(world.torrent, 0, 1);
+    let report = check_part(rt.alloc(), world.torrent, &mut shelf, places)?;
+    Ok(print_part(&report, world.torrent, 0, 1, out).is_ok())
 }
 
 fn make_seed(rt: &HostRuntime, world: &World<'_, '_>, out: &mut MemSink) -> io::Result<bool> {

@@ -10,6 +10,7 @@ mod drafting;
 mod given;
 mod keeping;
 mod messages;
+mod parting;
 mod replaying;
 mod runs;
 mod shelving;
@@ -22,6 +23,7 @@ use drafting::draft_again;
 use messages::take_record;
 use node_maps::{Flat, Paged};
 use opening::Torrent;
+use parting::join_again;
 use replaying::replay_again;
 use session::NodeMap;
 use shelving::{check_again, gather_again, report_again, seed_again};
@@ -41,6 +43,7 @@ fn make_call<N: NodeMap>(
         "gather" => gather_again(rt, record),
         "check" => check_again(rt, torrent, record),
         "check_onto" => report_again(rt, torrent, record),
+        "parts" => join_again(rt, torrent, record),
         "seed" => seed_again::<N>(rt, torrent, record),
         "replay" => replay_again::<N>(rt, torrent, record),
         "span" => span_again(rt, record),

@@ -13,8 +13,8 @@ use seeding::{SeedFault, seed};
 use session::{NodeMap, Session};
 use std::io;
 
-// The path that the torrents of the tests have for their file.
-const PATH: &[&str] = &["five"];
+/// The path that the torrents of the tests have for their file.
+pub(crate) const PATH: &[&str] = &["five"];
 
 /// Gathers a file of this content and an empty one, and prints the torrent.
 pub(crate) fn gather_again(rt: &HostRuntime, content: &[u8]) -> io::Result<()> {
