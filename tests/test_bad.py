@@ -202,7 +202,7 @@ def test_random_damages_and_their_repair():
             seen.add(max((sum(1 for _ in group) for group in grouped(lines)), default=0))
             repair(place, dict(contents), states, lines)
             expect(run("check", torrent, f"{place}/content"), 0, None)
-    assert {0, 1, 2, 3} <= seen, seen
+    assert {0, 1, 2} <= seen, seen
 
 
 def grouped(lines):
