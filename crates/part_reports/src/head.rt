@@ -20,15 +20,20 @@ pub(crate) struct Head<'a> {
     pub(crate) hash: &'a [u8],
 }
 
-/// What the first line of a text says, if it has the form of a report's first line.
+/// What the first line of a text says, if it has the form of a report's first line. There is such a
+/// part: it is not behind the last.
 pub(crate) fn read_head(text: &[u8]) -> Option<Head<'_>>
     ensures { MatchOption result (HasNoHead text.now)
         (λ h. HasOnlyHead text.now h.part h.count h.hash.now) }
 {
     let (number, place) = number_behind(b"part ", text)?;
     let (count, end) = number_behind(b"/", place)?;
+    let part = number.checked_sub(1)?;
+    if part >= count {
+        return None;
+    }
     Some(Head {
-        part: number.checked_sub(1)?,
+        part,
         count,
         hash: first_line(end.strip_prefix(b" ")?),
     })
