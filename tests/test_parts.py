@@ -1,7 +1,8 @@
-"""Checks in parts, by the program itself and its join; and by the program of crates/device_tests, which makes the libraries' calls: it checks a folder in one to
-nine parts, prints what each part found, reads these reports again and joins them. The report must be that of `btcheck
-check`, byte for byte, whatever the number of parts. The program also takes a byte from a report, leaves one out, and
-gives one twice: it prints a line if that is not refused for what it is."""
+"""Checks in parts, by the program itself and its join; and by the program of crates/device_tests, which makes the
+libraries' calls: it checks a folder in one to nine parts, prints what each part found, reads these reports again and
+joins them. The report must be that of `btcheck check`, byte for byte, whatever the number of parts. The program also
+takes a byte from a report, leaves one out, and gives one twice: it prints a line if that is not refused for what it
+is."""
 import os
 import random
 import subprocess
@@ -174,6 +175,8 @@ def test_reports_that_are_refused():
             expect(joined(case, *others, odd), 2, b"", f"fault: a part of another torrent: {place}/{named}\n")
             write(odd, text.replace(b"/4 ", b"/5 "))
             expect(joined(case, *others, odd), 2, b"", f"fault: a report of another number of parts: {place}/{named}\n")
+            write(odd, text.replace(b"part %d/4 " % (number + 1), b"part 5/4 "))
+            expect(joined(case, *reports, odd), 2, b"", f"fault: no whole report of a part: {place}/{named}\n")
         for path in (f"{place}/gone", place):
             expect(joined(case, *reports, path), 2, b"", f"fault: cannot read {path}\n")
         write(odd, b"x")
