@@ -277,8 +277,11 @@ class Fuzz:
             write(b"/".join([below, *path]), bytes_of)
         for path, bytes_of in draw.sample(files, draw.choice([0, 1, 1, 1, min(2, len(files)), len(files)])):
             damage(draw, b"/".join([below, *path]), bytes_of)
-        self.compare("folder", folder_model.report(torrent, below), b"check", f"{self.place}/torrent", below)
-
+        report = folder_model.report(torrent, below)
+        self.compare("folder", report, b"check", f"{self.place}/torrent", below)
+        shown = run(b"check", f"{self.place}/torrent", below, b"--bad")
+        lines = [line for line in shown.stdout.splitlines(True) if not line.startswith(b"bad pieces ")]
+        assert (shown.returncode, b"".join(lines), shown.stderr) == (*report, b""), (report, shown)
 
     def join(self, draw):
         top, files = drawn_torrent(draw)

@@ -132,6 +132,25 @@ def test_check():
                     assert done.returncode == (0 if done.stdout.endswith(b"\nyes\n") else 1) and not done.stderr, called
 
 
+def test_check_of_bad_pieces():
+    """As a check; a file for whose second opening no memory was there ends the report, which names DIR."""
+    with shimmed() as (place, shim):
+        below = f"{place}/folder"
+        os.mkdir(below)
+        path = write(f"{place}/torrent", torrent(hybrid()))
+        write(f"{below}/a", TWO[:-1] + b"x")
+        write(f"{below}/c", b"ab")
+        ample = None
+        for called, done in refused_in_turn(shim, "check --bad", "check", path, below, "--bad"):
+            ample = ample or done.stdout
+            if done.returncode == 2 and done.stderr == f"fault: cannot read {below}\n".encode():
+                assert ample.startswith(done.stdout) and called != "ample", (called, outcome(done))
+            elif outcome(done) != NO_MEMORY:
+                runs = [line for line in ample.splitlines(True) if line.startswith(b"bad pieces ")]
+                assert len(runs) == 2 and done.returncode == 1 and not done.stderr, (called, outcome(done))
+                assert done.stdout == ample or b"unreadable " in done.stdout, (called, outcome(done))
+
+
 def whole_of(text):
     """What a report of a part would be as the report of a check."""
     lines = text.split(b"\n", 1)
