@@ -125,8 +125,8 @@ pub fn check_part<'a, S: SeekShelf, W: Sink>(
     ensures checks { ChecksPart torrent.now (part.number - 1) part.count
         (S.Shelf.contents shelf.old).under
         (λ files. Chain (VisitsPart S.opens_at S.Shelf.closes S.File.seen torrent.now
-        (share torrent.now (part.number - 1) part.count)) shelf.old torrent.now.files files shelf.new
-        × HasTold (S.Shelf.faults shelf.old) (S.Shelf.faults shelf.new) files)
+        (share torrent.now (part.number - 1) part.count)) shelf.old torrent.now.files files
+        shelf.new × HasTold (S.Shelf.faults shelf.old) (S.Shelf.faults shelf.new) files)
         (W.seen out.old) (W.seen out.new) result }
     ensures no_memory { IfErr result (λ f. f ≡ Fault.NoMemory → shelf.new ≡ shelf.old) }
 {

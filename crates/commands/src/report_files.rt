@@ -65,7 +65,12 @@ impl Sink for Counter {
     ghost use Rattle.std.specs.Prelude.{None, true};
 
     // What was written is not known.
-    ghost seen = { λ s. record { written = None; faults = 0; flushes = s.flushes; is_flushed = true } };
+    ghost seen = { λ s. record {
+      written = None;
+      faults = 0;
+      flushes = s.flushes;
+      is_flushed = true;
+    } };
 
     fn write(&mut self, buf: &[u8]) -> Result<usize, DeviceFault> {
         self.count = self.count.saturating_add(buf.len() as u64);
