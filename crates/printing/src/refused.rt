@@ -3,8 +3,7 @@ ghost use Rattle.std.specs.Prelude.{◌≡◌, ◌≢◌, ◌+◌, ◌++◌, ◌
 ghost use Rattle.benc.specs.Device.{Wrote, WroteAndFlushed};
 ghost use Rattle.printing.specs.Refused.{detail_text, path_part, refusal_head, refusal_text};
 
-use crate::text::Line;
-use crate::text::{flush_after, write_path};
+use crate::text::{Line, flush_after, write_path};
 use benc::{DeviceFault, Sink, WriteFault, write_all};
 use filetree::Refusal;
 

@@ -4,8 +4,7 @@ ghost use Rattle.benc.specs.Device.{Wrote, WroteAndFlushed};
 ghost use Rattle.opening.specs.Seen.{file_entry, tree_entry};
 ghost use Rattle.printing.specs.Show.{file_head, file_line, files_text, header_text, hybrid_text, name_text, show_text};
 
-use crate::text::Line;
-use crate::text::{flush_after, write_escaped, write_path};
+use crate::text::{Line, flush_after, write_escaped, write_path};
 use benc::{DeviceFault, Sink, WriteFault, write_all};
 use opening::{File, Torrent, TreeInfo};
 

@@ -11,8 +11,8 @@ ghost use Rattle.chains.specs.Chain.{Chain};
 ghost use Rattle.session.specs.SafeStep.{KeepsKnown, VerifiesTrueBlock, VerifiesTrueBlocks};
 
 use crate::block_digests::BlockDigests;
-use crate::verdict::Blocks;
 use crate::session::Session;
+use crate::verdict::Blocks;
 use hashtree::{BLOCK_LENGTH, Hash};
 use node_maps::NodeMap;
 use partial_tree::BlockRefusal;
