@@ -1,6 +1,6 @@
 //! The calls on a session: opening it, and taking hashes and blocks.
 
-ghost use Rattle.std.specs.Prelude.{◌≡◌, None};
+ghost use Rattle.std.specs.Prelude.{◌≡◌, ◌≢◌, None};
 ghost use Rattle.btcheck_c.specs.SessionCalls.{TakesHashes, TakesBlock, OpensAs, SessionOpened, Counted, TellsIfMarked};
 ghost use Rattle.btcheck_c.specs.Holds.{Fills, Through};
 
@@ -62,8 +62,9 @@ impl Thing {
         file: &mut u64,
         block: &mut u64,
     ) -> u32
-        ensures { TakesBlock index begin bytes.now file.new block.new self.old.kind result
+        ensures done { TakesBlock index begin bytes.now file.new block.new self.old.kind result
             self.new.kind }
+        ensures unwritten { result ≢ 0 → (file.new ≡ file.old) × (block.new ≡ block.old) }
     {
         match &mut self.kind {
             Kind::Root(_) | Kind::Check(_) => WRONG_HANDLE,
@@ -166,8 +167,9 @@ pub extern "C" fn btcheck_session_take_block(
     file: &mut u64,
     block: &mut u64,
 ) -> u32
-    ensures { Through (TakesBlock index begin bytes.now file.new block.new) handle.old.slot.held
-        result handle.new.slot.held }
+    ensures done { Through (TakesBlock index begin bytes.now file.new block.new)
+        handle.old.slot.held result handle.new.slot.held }
+    ensures unwritten { result ≢ 0 → (file.new ≡ file.old) × (block.new ≡ block.old) }
 {
     let Some(mut thing) = handle.take(alloc) else {
         return WRONG_HANDLE;

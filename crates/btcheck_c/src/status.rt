@@ -1,6 +1,6 @@
 //! The numbers that calls answer.
 
-ghost use Rattle.std.specs.Prelude.{◌≡◌, ◌+◌};
+ghost use Rattle.std.specs.Prelude.{◌≡◌, ◌≢◌, ◌+◌};
 ghost use Rattle.partial_tree.specs.Names.{hash_refusal_number, block_refusal_number};
 ghost use Rattle.btcheck_c.specs.Statuses.{HashesTold, BlockTold, ToldIf};
 
@@ -67,7 +67,8 @@ pub fn tell_block(
     file: &mut u64,
     block: &mut u64,
 ) -> u32
-    ensures { BlockTold answer result file.new block.new }
+    ensures done { BlockTold answer result file.new block.new }
+    ensures unwritten { result ≢ 0 → (file.new ≡ file.old) × (block.new ≡ block.old) }
 {
     match answer {
         Ok((in_file, number)) => {
