@@ -16,7 +16,8 @@ use wire::{Ask, Hash};
 
 impl Thing {
     fn counts(&mut self, tree: usize, known: &mut u64, marked: &mut u64) -> u32
-        ensures { Counted tree known.new marked.new self.old.kind result self.new.kind }
+        ensures done { Counted tree known.new marked.new self.old.kind result self.new.kind }
+        ensures unwritten { result ≢ 0 → (known.new ≡ known.old) × (marked.new ≡ marked.old) }
     {
         match &mut self.kind {
             Kind::Root(_) | Kind::Check(_) => WRONG_HANDLE,
@@ -46,7 +47,9 @@ impl Thing {
     }
 
     fn take_hashes(&mut self, ask: &Ask, hashes: &[Hash], places: &mut u64) -> u32
-        ensures { TakesHashes ask.now hashes.now places.new self.old.kind result self.new.kind }
+        ensures done { TakesHashes ask.now hashes.now places.new self.old.kind result
+            self.new.kind }
+        ensures unwritten { result ≢ 0 → places.new ≡ places.old }
     {
         match &mut self.kind {
             Kind::Root(_) | Kind::Check(_) => WRONG_HANDLE,
@@ -136,9 +139,10 @@ pub extern "C" fn btcheck_session_take_hashes(
     hashes: &[[u8; 32]],
     places: &mut u64,
 ) -> u32
-    ensures { Through (TakesHashes
+    ensures done { Through (TakesHashes
         (record { root = root.now; base = base; index = index; length = length; proof = proof })
         hashes.now places.new) handle.old.slot.held result handle.new.slot.held }
+    ensures unwritten { result ≢ 0 → places.new ≡ places.old }
 {
     let Some(mut thing) = handle.take(alloc) else {
         return WRONG_HANDLE;
@@ -189,8 +193,9 @@ pub extern "C" fn btcheck_session_counts(
     known: &mut u64,
     marked: &mut u64,
 ) -> u32
-    ensures { Through (Counted tree known.new marked.new) handle.old.slot.held result
+    ensures done { Through (Counted tree known.new marked.new) handle.old.slot.held result
         handle.new.slot.held }
+    ensures unwritten { result ≢ 0 → (known.new ≡ known.old) × (marked.new ≡ marked.old) }
 {
     let Some(mut thing) = handle.take(alloc) else {
         return WRONG_HANDLE;

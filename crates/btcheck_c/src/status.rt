@@ -50,7 +50,8 @@ const BLOCK: u32 = 300;
 
 /// The status of a hashes message, and how many places are newly known.
 pub fn tell_hashes(answer: Result<u64, HashRefusal>, places: &mut u64) -> u32
-    ensures { HashesTold answer result places.new }
+    ensures done { HashesTold answer result places.new }
+    ensures unwritten { result ≢ 0 → places.new ≡ places.old }
 {
     match answer {
         Ok(count) => {
