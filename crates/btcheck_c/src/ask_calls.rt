@@ -1,6 +1,6 @@
 //! The calls about hash requests: what to ask for, that it was asked, and what answers it.
 
-ghost use Rattle.std.specs.Prelude.{◌≡◌, Option};
+ghost use Rattle.std.specs.Prelude.{◌≡◌, ◌≢◌, Option};
 ghost use Rattle.partial_tree.specs.declared.answer.Answer.{Answer as Given};
 ghost use Rattle.btcheck_c.specs.Asks.{ask_of};
 ghost use Rattle.btcheck_c.specs.AskCalls.{WantTold, Wants, NoteTold, Notes, TakesAnswer, AnswerTold, Answers, TellsIfAnswered};
@@ -18,7 +18,8 @@ use wire::{Ask, Hash};
 
 // The status of what is wanted, and the ask.
 fn tell_want(want: Option<Ask>, asked: &mut Asked) -> u32
-    ensures { WantTold want result asked.new }
+    ensures done { WantTold want result asked.new }
+    ensures unwritten { result ≢ 0 → asked.new ≡ asked.old }
 {
     match want {
         None => NOTHING,
@@ -37,7 +38,9 @@ fn tell_note(done: bool) -> u32
 
 // The status of an answer, whose hashes go to the front of the room, and how many they are.
 fn tell_answer(answer: &Option<Answer>, room: &mut [Hash], count: &mut u64) -> u32
-    ensures { AnswerTold answer.now result room.new count.new }
+    ensures done { AnswerTold answer.now result room.new count.new }
+    ensures unwritten { result ≢ 0 → (room.new ≡ room.old)
+        × (result ≢ 7 → count.new ≡ count.old) }
 {
     match answer {
         None => NO_MEMORY,
@@ -55,7 +58,8 @@ fn tell_answer(answer: &Option<Answer>, room: &mut [Hash], count: &mut u64) -> u
 
 impl Thing {
     fn want(&mut self, tree: usize, block: u64, asked: &mut Asked) -> u32
-        ensures { Wants tree block asked.new self.old.kind result self.new.kind }
+        ensures done { Wants tree block asked.new self.old.kind result self.new.kind }
+        ensures unwritten { result ≢ 0 → asked.new ≡ asked.old }
     {
         match &mut self.kind {
             Kind::Root(_) | Kind::Check(_) => WRONG_HANDLE,
@@ -79,7 +83,9 @@ impl Thing {
     }
 
     fn take_answer(&mut self, ask: &Ask, hashes: &[Hash], places: &mut u64) -> u32
-        ensures { TakesAnswer ask.now hashes.now places.new self.old.kind result self.new.kind }
+        ensures done { TakesAnswer ask.now hashes.now places.new self.old.kind result
+            self.new.kind }
+        ensures unwritten { result ≢ 0 → places.new ≡ places.old }
     {
         match &mut self.kind {
             Kind::Root(_) | Kind::Check(_) => WRONG_HANDLE,
@@ -88,7 +94,9 @@ impl Thing {
     }
 
     fn answer(&mut self, ask: &Ask, room: &mut [Hash], count: &mut u64) -> u32
-        ensures { Answers ask.now room.new count.new self.old.kind result self.new.kind }
+        ensures done { Answers ask.now room.new count.new self.old.kind result self.new.kind }
+        ensures unwritten { result ≢ 0 → (room.new ≡ room.old)
+            × (result ≢ 7 → count.new ≡ count.old) }
     {
         match &mut self.kind {
             Kind::Root(_) | Kind::Check(_) => WRONG_HANDLE,
@@ -117,8 +125,9 @@ pub extern "C" fn btcheck_session_want(
     block: u64,
     asked: &mut Asked,
 ) -> u32
-    ensures { Through (Wants tree block asked.new) handle.old.slot.held result
+    ensures done { Through (Wants tree block asked.new) handle.old.slot.held result
         handle.new.slot.held }
+    ensures unwritten { result ≢ 0 → asked.new ≡ asked.old }
 {
     let Some(mut thing) = handle.take(alloc) else {
         return WRONG_HANDLE;
@@ -153,8 +162,9 @@ pub extern "C" fn btcheck_session_take_answer(
     hashes: &[[u8; 32]],
     places: &mut u64,
 ) -> u32
-    ensures { Through (TakesAnswer (ask_of asked.now) hashes.now places.new)
+    ensures done { Through (TakesAnswer (ask_of asked.now) hashes.now places.new)
         handle.old.slot.held result handle.new.slot.held }
+    ensures unwritten { result ≢ 0 → places.new ≡ places.old }
 {
     let Some(mut thing) = handle.take(alloc) else {
         return WRONG_HANDLE;
@@ -175,8 +185,10 @@ pub extern "C" fn btcheck_session_answer(
     room: &mut [[u8; 32]],
     count: &mut u64,
 ) -> u32
-    ensures { Through (Answers (ask_of asked.now) room.new count.new) handle.old.slot.held result
-        handle.new.slot.held }
+    ensures done { Through (Answers (ask_of asked.now) room.new count.new) handle.old.slot.held
+        result handle.new.slot.held }
+    ensures unwritten { result ≢ 0 → (room.new ≡ room.old)
+        × (result ≢ 7 → count.new ≡ count.old) }
 {
     let Some(mut thing) = handle.take(alloc) else {
         return WRONG_HANDLE;

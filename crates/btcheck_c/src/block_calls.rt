@@ -1,5 +1,6 @@
 //! The call on the blocks of a piece message, which may be several.
 
+ghost use Rattle.std.specs.Prelude.{◌≡◌, ◌≢◌};
 ghost use Rattle.btcheck_c.specs.Blocks.{TakesBlocks};
 ghost use Rattle.btcheck_c.specs.Holds.{Through};
 
@@ -11,7 +12,9 @@ use std::alloc::Global;
 
 impl Thing {
     fn take_blocks(&mut self, index: u32, begin: u32, bytes: &[u8], told: &mut BlocksInfo) -> u32
-        ensures { TakesBlocks index begin bytes.now told.new self.old.kind result self.new.kind }
+        ensures done { TakesBlocks index begin bytes.now told.new self.old.kind result
+            self.new.kind }
+        ensures unwritten { result ≢ 0 → told.new ≡ told.old }
     {
         match &mut self.kind {
             Kind::Root(_) | Kind::Check(_) => WRONG_HANDLE,
@@ -32,8 +35,9 @@ pub extern "C" fn btcheck_session_take_blocks(
     bytes: &[u8],
     told: &mut BlocksInfo,
 ) -> u32
-    ensures { Through (TakesBlocks index begin bytes.now told.new) handle.old.slot.held result
+    ensures done { Through (TakesBlocks index begin bytes.now told.new) handle.old.slot.held result
         handle.new.slot.held }
+    ensures unwritten { result ≢ 0 → told.new ≡ told.old }
 {
     let Some(mut thing) = handle.take(alloc) else {
         return WRONG_HANDLE;

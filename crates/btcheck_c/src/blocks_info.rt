@@ -1,6 +1,6 @@
 //! What a session makes of the blocks of one piece message, as C sees it.
 
-ghost use Rattle.std.specs.Prelude.{◌≡◌, length};
+ghost use Rattle.std.specs.Prelude.{◌≡◌, ◌≢◌, length};
 ghost use Rattle.btcheck_c.specs.Blocks.{entry_status, AreLaidOut, BlocksTold};
 ghost use Rattle.partial_tree.specs.declared.refusal.BlockRefusal.{BlockRefusal as Why};
 
@@ -24,7 +24,8 @@ pub struct BlocksInfo {
 
 /// The status of the blocks of a piece message, and what is made of each.
 pub(crate) fn tell_blocks(answer: Result<Blocks, BlockRefusal>, told: &mut BlocksInfo) -> u32
-    ensures { BlocksTold answer result told.new }
+    ensures done { BlocksTold answer result told.new }
+    ensures unwritten { result ≢ 0 → told.new ≡ told.old }
 {
     match answer {
         Ok(blocks) => {

@@ -1,6 +1,6 @@
 //! The check of one file's bytes, which the caller reads and gives in parts.
 
-ghost use Rattle.std.specs.Prelude.{◌≡◌, None};
+ghost use Rattle.std.specs.Prelude.{◌≡◌, ◌≢◌, None};
 ghost use Rattle.btcheck_c.specs.CheckCalls.{ChecksFile, StartsCheck, CheckStarted, PushesFile, BadPieceTold, EndsCheck};
 ghost use Rattle.btcheck_c.specs.Holds.{Through};
 
@@ -55,7 +55,8 @@ impl Thing {
     }
 
     fn finish_file(&mut self, piece: &mut u64) -> u32
-        ensures { EndsCheck piece.new self.old.kind result self.new.kind }
+        ensures done { EndsCheck piece.new self.old.kind result self.new.kind }
+        ensures unwritten { result ≢ 10 → piece.new ≡ piece.old }
     {
         match &mut self.kind {
             Kind::Root(_) | Kind::Session(_) => WRONG_HANDLE,
@@ -116,7 +117,8 @@ pub extern "C" fn btcheck_check_push(alloc: Global, handle: &mut Handle, bytes: 
 /// the torrent's, and the first such piece of the file is written.
 #[unsafe(no_mangle)]
 pub extern "C" fn btcheck_check_finish(alloc: Global, handle: &mut Handle, piece: &mut u64) -> u32
-    ensures { Through (EndsCheck piece.new) handle.old.slot.held result handle.new.slot.held }
+    ensures done { Through (EndsCheck piece.new) handle.old.slot.held result handle.new.slot.held }
+    ensures unwritten { result ≢ 10 → piece.new ≡ piece.old }
 {
     let Some(mut thing) = handle.take(alloc) else {
         return WRONG_HANDLE;
@@ -128,7 +130,8 @@ pub extern "C" fn btcheck_check_finish(alloc: Global, handle: &mut Handle, piece
 
 // The status of a check, and the first bad piece.
 fn tell_piece(bad: Option<u64>, piece: &mut u64) -> u32
-    ensures { BadPieceTold bad result piece.new }
+    ensures done { BadPieceTold bad result piece.new }
+    ensures unwritten { result ≢ 10 → piece.new ≡ piece.old }
 {
     match bad {
         None => DONE,

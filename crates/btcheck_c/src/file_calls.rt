@@ -1,5 +1,6 @@
 //! The calls that read what a torrent holds: its files with their paths, and its info-hashes.
 
+ghost use Rattle.std.specs.Prelude.{◌≡◌, ◌≢◌};
 ghost use Rattle.btcheck_c.specs.Files.{FilePathTold, TellsCounts, TellsFile, TellsPath, TellsInfoHashes};
 ghost use Rattle.btcheck_c.specs.Holds.{Through};
 
@@ -13,7 +14,9 @@ use std::alloc::Global;
 
 // The status of a file's path, and what is written of it.
 fn tell_path_of(torrent: &Torrent<'_>, number: usize, room: &mut [u8], length: &mut u64) -> u32
-    ensures { FilePathTold torrent.now number result room.old room.new length.new }
+    ensures done { FilePathTold torrent.now number result room.old room.new length.new }
+    ensures unwritten { result ≢ 0 → (room.new ≡ room.old)
+        × (result ≢ 7 → length.new ≡ length.old) }
 {
     match torrent.files().get(number) {
         None => NO_SUCH,
@@ -23,7 +26,8 @@ fn tell_path_of(torrent: &Torrent<'_>, number: usize, room: &mut [u8], length: &
 
 impl Thing {
     fn files(&mut self, files: &mut u64, trees: &mut u64) -> u32
-        ensures { TellsCounts files.new trees.new self.old.kind result self.new.kind }
+        ensures done { TellsCounts files.new trees.new self.old.kind result self.new.kind }
+        ensures unwritten { result ≢ 0 → (files.new ≡ files.old) × (trees.new ≡ trees.old) }
     {
         match &mut self.kind {
             Kind::Root(_) | Kind::Check(_) => WRONG_HANDLE,
@@ -36,7 +40,8 @@ impl Thing {
     }
 
     fn file(&mut self, number: usize, told: &mut FileInfo) -> u32
-        ensures { TellsFile number told.new self.old.kind result self.new.kind }
+        ensures done { TellsFile number told.new self.old.kind result self.new.kind }
+        ensures unwritten { result ≢ 0 → told.new ≡ told.old }
     {
         match &mut self.kind {
             Kind::Root(_) | Kind::Check(_) => WRONG_HANDLE,
@@ -51,8 +56,10 @@ impl Thing {
     }
 
     fn path(&mut self, number: usize, room: &mut [u8], length: &mut u64) -> u32
-        ensures { TellsPath number room.old room.new length.new self.old.kind result
+        ensures done { TellsPath number room.old room.new length.new self.old.kind result
             self.new.kind }
+        ensures unwritten { result ≢ 0 → (room.new ≡ room.old)
+            × (result ≢ 7 → length.new ≡ length.old) }
     {
         match &mut self.kind {
             Kind::Root(_) | Kind::Check(_) => WRONG_HANDLE,
@@ -61,7 +68,8 @@ impl Thing {
     }
 
     fn info_hashes(&mut self, v2: &mut [u8; 32], v1: &mut [u8; 20]) -> u32
-        ensures { TellsInfoHashes v2.new v1.new self.old.kind result self.new.kind }
+        ensures done { TellsInfoHashes v2.new v1.new self.old.kind result self.new.kind }
+        ensures unwritten { result ≢ 0 → (v2.new ≡ v2.old) × (v1.new ≡ v1.old) }
     {
         match &mut self.kind {
             Kind::Root(_) | Kind::Check(_) => WRONG_HANDLE,
@@ -83,8 +91,9 @@ pub extern "C" fn btcheck_session_files(
     files: &mut u64,
     trees: &mut u64,
 ) -> u32
-    ensures { Through (TellsCounts files.new trees.new) handle.old.slot.held result
+    ensures done { Through (TellsCounts files.new trees.new) handle.old.slot.held result
         handle.new.slot.held }
+    ensures unwritten { result ≢ 0 → (files.new ≡ files.old) × (trees.new ≡ trees.old) }
 {
     let Some(mut thing) = handle.take(alloc) else {
         return WRONG_HANDLE;
@@ -103,8 +112,9 @@ pub extern "C" fn btcheck_session_file(
     number: usize,
     told: &mut FileInfo,
 ) -> u32
-    ensures { Through (TellsFile number told.new) handle.old.slot.held result
+    ensures done { Through (TellsFile number told.new) handle.old.slot.held result
         handle.new.slot.held }
+    ensures unwritten { result ≢ 0 → told.new ≡ told.old }
 {
     let Some(mut thing) = handle.take(alloc) else {
         return WRONG_HANDLE;
@@ -125,8 +135,10 @@ pub extern "C" fn btcheck_session_path(
     room: &mut [u8],
     length: &mut u64,
 ) -> u32
-    ensures { Through (TellsPath number room.old room.new length.new) handle.old.slot.held result
-        handle.new.slot.held }
+    ensures done { Through (TellsPath number room.old room.new length.new) handle.old.slot.held
+        result handle.new.slot.held }
+    ensures unwritten { result ≢ 0 → (room.new ≡ room.old)
+        × (result ≢ 7 → length.new ≡ length.old) }
 {
     let Some(mut thing) = handle.take(alloc) else {
         return WRONG_HANDLE;
@@ -145,8 +157,9 @@ pub extern "C" fn btcheck_session_info_hashes(
     v2: &mut [u8; 32],
     v1: &mut [u8; 20],
 ) -> u32
-    ensures { Through (TellsInfoHashes v2.new v1.new) handle.old.slot.held result
+    ensures done { Through (TellsInfoHashes v2.new v1.new) handle.old.slot.held result
         handle.new.slot.held }
+    ensures unwritten { result ≢ 0 → (v2.new ≡ v2.old) × (v1.new ≡ v1.old) }
 {
     let Some(mut thing) = handle.take(alloc) else {
         return WRONG_HANDLE;

@@ -1,5 +1,6 @@
 //! The call on the body of a frame, as it came.
 
+ghost use Rattle.std.specs.Prelude.{◌≡◌, ◌≢◌};
 ghost use Rattle.btcheck_c.specs.Frames.{FrameTaken, TakesFrame};
 ghost use Rattle.btcheck_c.specs.Holds.{Through};
 
@@ -14,7 +15,8 @@ use wire::{Frame, frame_in};
 impl Opened {
     // Takes the message of a body, if it is one.
     fn take_frame(&mut self, body: &[u8], told: &mut VerdictInfo) -> u32
-        ensures { FrameTaken body.now told.new self.old result self.new }
+        ensures done { FrameTaken body.now told.new self.old result self.new }
+        ensures unwritten { result ≢ 0 → told.new ≡ told.old }
     {
         if body.len() > u32::MAX as usize {
             return TOO_LONG;
@@ -28,7 +30,8 @@ impl Opened {
 
 impl Thing {
     fn take_frame(&mut self, body: &[u8], told: &mut VerdictInfo) -> u32
-        ensures { TakesFrame body.now told.new self.old.kind result self.new.kind }
+        ensures done { TakesFrame body.now told.new self.old.kind result self.new.kind }
+        ensures unwritten { result ≢ 0 → told.new ≡ told.old }
     {
         match &mut self.kind {
             Kind::Root(_) | Kind::Check(_) => WRONG_HANDLE,
@@ -48,8 +51,9 @@ pub extern "C" fn btcheck_session_frame(
     body: &[u8],
     told: &mut VerdictInfo,
 ) -> u32
-    ensures { Through (TakesFrame body.now told.new) handle.old.slot.held result
+    ensures done { Through (TakesFrame body.now told.new) handle.old.slot.held result
         handle.new.slot.held }
+    ensures unwritten { result ≢ 0 → told.new ≡ told.old }
 {
     let Some(mut thing) = handle.take(alloc) else {
         return WRONG_HANDLE;

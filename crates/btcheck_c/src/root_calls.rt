@@ -1,6 +1,6 @@
 //! The root of a file that comes in parts.
 
-ghost use Rattle.std.specs.Prelude.{◌≡◌, None};
+ghost use Rattle.std.specs.Prelude.{◌≡◌, ◌≢◌, None};
 ghost use Rattle.btcheck_c.specs.RootCalls.{Pushed, RootMade, Finished};
 ghost use Rattle.btcheck_c.specs.Holds.{Fills, Through};
 
@@ -28,7 +28,8 @@ impl Thing {
     }
 
     fn finish(&mut self, length: &mut u64, root: &mut [u8; 32]) -> u32
-        ensures { Finished length.new root.new self.old.kind result self.new.kind }
+        ensures done { Finished length.new root.new self.old.kind result self.new.kind }
+        ensures unwritten { result ≢ 0 → (length.new ≡ length.old) × (root.new ≡ root.old) }
     {
         match &mut self.kind {
             Kind::Session(_) | Kind::Check(_) => WRONG_HANDLE,
@@ -88,8 +89,9 @@ pub extern "C" fn btcheck_root_finish(
     length: &mut u64,
     root: &mut [u8; 32],
 ) -> u32
-    ensures { Through (Finished length.new root.new) handle.old.slot.held result
+    ensures done { Through (Finished length.new root.new) handle.old.slot.held result
         handle.new.slot.held }
+    ensures unwritten { result ≢ 0 → (length.new ≡ length.old) × (root.new ≡ root.old) }
 {
     let Some(mut thing) = handle.take(alloc) else {
         return WRONG_HANDLE;

@@ -1,6 +1,6 @@
 //! The calls on a session: opening it, and taking hashes and blocks.
 
-ghost use Rattle.std.specs.Prelude.{◌≡◌, None};
+ghost use Rattle.std.specs.Prelude.{◌≡◌, ◌≢◌, None};
 ghost use Rattle.btcheck_c.specs.SessionCalls.{TakesHashes, TakesBlock, OpensAs, SessionOpened, Counted, TellsIfMarked};
 ghost use Rattle.btcheck_c.specs.Holds.{Fills, Through};
 
@@ -16,7 +16,8 @@ use wire::{Ask, Hash};
 
 impl Thing {
     fn counts(&mut self, tree: usize, known: &mut u64, marked: &mut u64) -> u32
-        ensures { Counted tree known.new marked.new self.old.kind result self.new.kind }
+        ensures done { Counted tree known.new marked.new self.old.kind result self.new.kind }
+        ensures unwritten { result ≢ 0 → (known.new ≡ known.old) × (marked.new ≡ marked.old) }
     {
         match &mut self.kind {
             Kind::Root(_) | Kind::Check(_) => WRONG_HANDLE,
@@ -46,7 +47,9 @@ impl Thing {
     }
 
     fn take_hashes(&mut self, ask: &Ask, hashes: &[Hash], places: &mut u64) -> u32
-        ensures { TakesHashes ask.now hashes.now places.new self.old.kind result self.new.kind }
+        ensures done { TakesHashes ask.now hashes.now places.new self.old.kind result
+            self.new.kind }
+        ensures unwritten { result ≢ 0 → places.new ≡ places.old }
     {
         match &mut self.kind {
             Kind::Root(_) | Kind::Check(_) => WRONG_HANDLE,
@@ -62,8 +65,9 @@ impl Thing {
         file: &mut u64,
         block: &mut u64,
     ) -> u32
-        ensures { TakesBlock index begin bytes.now file.new block.new self.old.kind result
+        ensures done { TakesBlock index begin bytes.now file.new block.new self.old.kind result
             self.new.kind }
+        ensures unwritten { result ≢ 0 → (file.new ≡ file.old) × (block.new ≡ block.old) }
     {
         match &mut self.kind {
             Kind::Root(_) | Kind::Check(_) => WRONG_HANDLE,
@@ -135,9 +139,10 @@ pub extern "C" fn btcheck_session_take_hashes(
     hashes: &[[u8; 32]],
     places: &mut u64,
 ) -> u32
-    ensures { Through (TakesHashes
+    ensures done { Through (TakesHashes
         (record { root = root.now; base = base; index = index; length = length; proof = proof })
         hashes.now places.new) handle.old.slot.held result handle.new.slot.held }
+    ensures unwritten { result ≢ 0 → places.new ≡ places.old }
 {
     let Some(mut thing) = handle.take(alloc) else {
         return WRONG_HANDLE;
@@ -166,8 +171,9 @@ pub extern "C" fn btcheck_session_take_block(
     file: &mut u64,
     block: &mut u64,
 ) -> u32
-    ensures { Through (TakesBlock index begin bytes.now file.new block.new) handle.old.slot.held
-        result handle.new.slot.held }
+    ensures done { Through (TakesBlock index begin bytes.now file.new block.new)
+        handle.old.slot.held result handle.new.slot.held }
+    ensures unwritten { result ≢ 0 → (file.new ≡ file.old) × (block.new ≡ block.old) }
 {
     let Some(mut thing) = handle.take(alloc) else {
         return WRONG_HANDLE;
@@ -187,8 +193,9 @@ pub extern "C" fn btcheck_session_counts(
     known: &mut u64,
     marked: &mut u64,
 ) -> u32
-    ensures { Through (Counted tree known.new marked.new) handle.old.slot.held result
+    ensures done { Through (Counted tree known.new marked.new) handle.old.slot.held result
         handle.new.slot.held }
+    ensures unwritten { result ≢ 0 → (known.new ≡ known.old) × (marked.new ≡ marked.old) }
 {
     let Some(mut thing) = handle.take(alloc) else {
         return WRONG_HANDLE;

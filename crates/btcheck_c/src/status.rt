@@ -1,6 +1,6 @@
 //! The numbers that calls answer.
 
-ghost use Rattle.std.specs.Prelude.{◌≡◌, ◌+◌};
+ghost use Rattle.std.specs.Prelude.{◌≡◌, ◌≢◌, ◌+◌};
 ghost use Rattle.partial_tree.specs.Names.{hash_refusal_number, block_refusal_number};
 ghost use Rattle.btcheck_c.specs.Statuses.{HashesTold, BlockTold, ToldIf};
 
@@ -50,7 +50,8 @@ const BLOCK: u32 = 300;
 
 /// The status of a hashes message, and how many places are newly known.
 pub fn tell_hashes(answer: Result<u64, HashRefusal>, places: &mut u64) -> u32
-    ensures { HashesTold answer result places.new }
+    ensures done { HashesTold answer result places.new }
+    ensures unwritten { result ≢ 0 → places.new ≡ places.old }
 {
     match answer {
         Ok(count) => {
@@ -67,7 +68,8 @@ pub fn tell_block(
     file: &mut u64,
     block: &mut u64,
 ) -> u32
-    ensures { BlockTold answer result file.new block.new }
+    ensures done { BlockTold answer result file.new block.new }
+    ensures unwritten { result ≢ 0 → (file.new ≡ file.old) × (block.new ≡ block.old) }
 {
     match answer {
         Ok((in_file, number)) => {

@@ -1,6 +1,6 @@
 //! What a session makes of one message, as C sees it.
 
-ghost use Rattle.std.specs.Prelude.{◌≡◌};
+ghost use Rattle.std.specs.Prelude.{◌≡◌, ◌≢◌};
 ghost use Rattle.btcheck_c.specs.Frames.{VerdictTold};
 
 use crate::blocks_info::{BlocksInfo, lay_out_blocks};
@@ -38,7 +38,8 @@ const SENT: u32 = 9;
 
 /// The status of a message, and what was made of it.
 pub(crate) fn tell_verdict(verdict: &Verdict, told: &mut VerdictInfo) -> u32
-    ensures { VerdictTold verdict.now result told.new }
+    ensures done { VerdictTold verdict.now result told.new }
+    ensures unwritten { result ≢ 0 → told.new ≡ told.old }
 {
     match verdict {
         Verdict::HashRefused(refusal) => return refused_hashes(*refusal),

@@ -1,7 +1,6 @@
-use Rattle.std.proofs.Common.{rules, ◌≡◌, ◌<◌, [], Some, get_or, length, refl, subst, inr}
+use Rattle.std.proofs.Common.{rules, ◌≡◌, [], Some, get_or, refl, subst, inr}
 use Rattle.std.specs.Prelude.{slice_get}
 use Rattle.opening.specs.Seen.{file_entry, tree_entry}
-use Rattle.opening.specs.Sound.{IsSoundFile}
 use Rattle.opening.specs.declared.torrent.TreeInfo.{TreeInfo}
 use Rattle.btcheck_c.specs.FileChecks.{BeginsFile}
 use Rattle.btcheck_c.proofs.Entries.{file_at}

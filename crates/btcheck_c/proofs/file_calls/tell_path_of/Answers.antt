@@ -5,11 +5,11 @@ use Rattle.btcheck_c.proofs.Entries.{file_at}
 use Rattle.btcheck_c.proofs.Joining.{texts}
 use Rattle.btcheck_c.proofs.file_calls.tell_path_of.Goals as goal
 
-pub returns-in-Some : goal.returns-in-Some
-returns-in-Some c = inl (
+pub returns-in-Some-clause-done : goal.returns-in-Some-clause-done
+returns-in-Some-clause-done c = inl (
   file_entry c.in-Some.file.now,
   file_at c.args.torrent.now c.files.result.now c.args.number c.in-Some.file.now c.files.ensures c.in-Some.ensures.lookup.3.0
       (c.in-Some.ensures.lookup.3.1 c.in-Some.file.now),
   subst (λ p. PathTold (path_text p) c.tell_path.result c.args.room.now c.tell_path.new.room c.tell_path.new.length)
-      (ap texts c.deref.ensures.0 ∙ c.parts.ensures) c.tell_path.ensures,
+      (ap texts c.deref.ensures.0 ∙ c.parts.ensures) c.tell_path.ensures.done,
 )

@@ -4,8 +4,8 @@ use Rattle.btcheck_c.specs.declared.thing.Kind.TheVariants as kind
 use Rattle.btcheck_c.specs.RootCalls.{Finished, IsNew}
 use Rattle.btcheck_c.proofs.thing.Thing.finish.Goals as goal
 
-pub returns-else-is_empty : goal.returns-else-is_empty
-returns-else-is_empty c =
+pub returns-else-is_empty-clause-done : goal.returns-else-is_empty-clause-done
+returns-else-is_empty-clause-done c =
     let ended = c.replace-ended.ensures.value in let fresh = c.replace-ended.ensures.after in
     let tree = subst (λ b. EndsWith b c.finish.result.0 c.finish.result.1) ended c.finish.ensures.tree in
     let new : IsNew c.replace-ended.new.dest =

@@ -3,8 +3,8 @@ use Rattle.btcheck_c.specs.declared.thing.Kind.TheVariants as kind
 use Rattle.btcheck_c.specs.SessionCalls.{TakesBlock}
 use Rattle.btcheck_c.proofs.thing.Thing.take_block.Goals as goal
 
-pub returns-in-Session : goal.returns-in-Session
-returns-in-Session c =
+pub returns-in-Session-clause-done : goal.returns-in-Session-clause-done
+returns-in-Session-clause-done c =
     subst (λ k. TakesBlock c.args.index c.args.begin c.args.bytes.now c.tell_block.new.file c.tell_block.new.block k c.tell_block.result
     (kind.Session c.take_block.new.self)) (sym c.in-Session.is)
-    (c.take_block.result, c.tell_block.ensures, (c.take_block.new.self, refl, c.take_block.ensures))
+    (c.take_block.result, c.tell_block.ensures.done, (c.take_block.new.self, refl, c.take_block.ensures))
