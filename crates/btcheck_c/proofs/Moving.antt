@@ -9,7 +9,7 @@ use Rattle.filetree.specs.contracts.path.Path as Path
 use Rattle.opening.proofs.torrent.TreeInfo.TheSendSync as tree_info
 use Rattle.opening.specs.contracts.torrent.File as File
 use Rattle.opening.specs.contracts.torrent.Torrent as Torrent
-use Rattle.pieces.proofs.v1.V1.TheSendSync as version1
+use Rattle.pieces.proofs.v1_feed.V1.TheSendSync as version1
 use Rattle.pieces.proofs.piece_length.PieceLength.TheSendSync as piece_length
 use Rattle.node_maps.proofs.paged.Paged.TheSendSync as paged
 use Rattle.session.proofs.pausing.Paused.TheSendSync as paused
