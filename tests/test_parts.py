@@ -167,12 +167,13 @@ def test_reports_that_are_refused():
             others = reports[:number] + reports[number + 1:]
             for changed in [text[:-1], text[:-5], text.splitlines(True)[0], text + b"\n", text + b"x" * 100_000, text + text, b"", b"\0", b"\xff",
                             text.replace(b"part yes", b"part no") if b"part yes" in text else text.replace(b"part no", b"part yes"),
-                            text.replace(b"a\n", b"b\n", 1), text.replace(b"\n", b"\r\n"), text.upper(), b"part " + text,
+                            text.replace(b"a\n", b"b\n", 1), text.replace(b"\n", b"\r\n").replace(b"\r", b"", 1), text.upper(), b"part " + text,
                             b"".join(text.splitlines(True)[::-1])]:
                 write(odd, changed)
                 expect(joined(case, odd, *others), 2, b"", f"fault: no whole report of a part: {place}/{named}\n")
-            write(odd, text.replace(text.split()[2], b"0" * 64))
-            expect(joined(case, *others, odd), 2, b"", f"fault: a part of another torrent: {place}/{named}\n")
+            for changed in [text.replace(text.split()[2], b"0" * 64), text.replace(b"\n", b"\r\n")]:
+                write(odd, changed)
+                expect(joined(case, *others, odd), 2, b"", f"fault: a part of another torrent: {place}/{named}\n")
             write(odd, text.replace(b"/4 ", b"/5 "))
             expect(joined(case, *others, odd), 2, b"", f"fault: a report of another number of parts: {place}/{named}\n")
             write(odd, text.replace(b"part %d/4 " % (number + 1), b"part 5/4 "))
