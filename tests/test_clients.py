@@ -40,7 +40,7 @@ def test_rust():
         env = {**os.environ, "BTCHECK_LIB_DIR": LIB, "BTCHECK_STATIC": static, "LD_LIBRARY_PATH": LIB,
                "CARGO_TARGET_DIR": f"{TOP}/build/rust", "RUSTFLAGS": "-D warnings", "BTCHECK_SIZES": sizes}
         told = quietly(["cargo", "test", "--offline", "--quiet"], cwd=f"{TOP}/rust", env=env)
-        assert "9 passed; 0 failed" in told and "FAILED" not in told, told
+        assert "10 passed; 0 failed" in told and "FAILED" not in told, told
 
 
 def test_go():
