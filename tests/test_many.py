@@ -201,7 +201,7 @@ def test_several_machines():
         archive = Archive(place)
         hosts = block("4/:", "")
         write(f"{place}/hosts", hosts.replace("archive@beta", "beta").replace("4/:", "2/:").encode())
-        several = block("--workdir").replace("/srv/archive", place)
+        several = block("--sshloginfile hosts --retries 3 --workdir /srv/archive \\\n    --joblog log").replace("/srv/archive", place)
         status, _ = archive.run(BY_PARALLEL.split("parallel ")[0] + several)
         assert status == len(FAULTS), status
         assert archive.reports() == whole_reports()
