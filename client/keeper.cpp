@@ -82,7 +82,7 @@ void Keeper::write(Place place, const uint8_t *bytes, size_t len) {
   written_count_++;
 }
 
-std::string Keeper::told() const {
+std::string Keeper::summary() const {
   std::string text = "written " + std::to_string(written_count_) + " of " + std::to_string(blocks_) +
                      ", again " + std::to_string(again_) + ", waiting " + std::to_string(waiting_.size()) +
                      ", dropped " + std::to_string(dropped_) + ", cut to the file's end " + std::to_string(padded_);

@@ -24,7 +24,7 @@ public:
   void refused_hashes(btcheck_status status) { refused_[status]++; }
 
   bool is_whole() const { return written_count_ == blocks_; }
-  std::string told() const;
+  std::string summary() const;
 
 private:
   static constexpr size_t most_waiting = 4096;

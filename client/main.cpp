@@ -28,7 +28,7 @@ int main(int count, char **words) try {
   }
   std::fflush(stdout);
   relay.run(std::atof(words[3]));
-  std::printf("%s\n", keeper.told().c_str());
+  std::printf("%s\n", keeper.summary().c_str());
   return keeper.is_whole() ? 0 : 1;
 } catch (const std::exception &error) {
   std::fprintf(stderr, "fault: %s\n", error.what());

@@ -63,9 +63,9 @@ std::vector<Gap> gaps_of(Session &session) {
   btcheck_ask ask;
   for (size_t tree = 0; session.want(tree, 0, ask) != BTCHECK_NO_SUCH; tree++) {
     uint64_t block = 0;
-    for (btcheck_status told; (told = session.want(tree, block, ask)) != BTCHECK_NO_SUCH;) {
-      if (told == BTCHECK_OK) gaps.push_back(Gap{tree, block, false, -1, {}});
-      block = told == BTCHECK_OK ? (block / 512 + 1) * 512 : block + 1;
+    for (btcheck_status status; (status = session.want(tree, block, ask)) != BTCHECK_NO_SUCH;) {
+      if (status == BTCHECK_OK) gaps.push_back(Gap{tree, block, false, -1, {}});
+      block = status == BTCHECK_OK ? (block / 512 + 1) * 512 : block + 1;
     }
   }
   return gaps;

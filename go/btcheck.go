@@ -52,7 +52,7 @@ func (status Refused) Error() string {
 	return fmt.Sprintf("status %d", uint32(status))
 }
 
-func told(status C.btcheck_status) error {
+func asError(status C.btcheck_status) error {
 	if status == C.BTCHECK_OK {
 		return nil
 	}
@@ -81,14 +81,14 @@ func Root(content []byte) (Hash, error) {
 	var handle C.btcheck_root
 	var hash Hash
 	var length C.uint64_t
-	if err := told(C.btcheck_root_new(&handle)); err != nil {
+	if err := asError(C.btcheck_root_new(&handle)); err != nil {
 		return hash, err
 	}
 	defer C.btcheck_root_free(&handle)
-	if err := told(C.btcheck_root_push(&handle, pointer(content), C.size_t(len(content)))); err != nil {
+	if err := asError(C.btcheck_root_push(&handle, pointer(content), C.size_t(len(content)))); err != nil {
 		return hash, err
 	}
-	err := told(C.btcheck_root_finish(&handle, &length, (*C.uint8_t)(unsafe.Pointer(&hash[0]))))
+	err := asError(C.btcheck_root_finish(&handle, &length, (*C.uint8_t)(unsafe.Pointer(&hash[0]))))
 	return hash, err
 }
 
@@ -118,7 +118,7 @@ type Session struct {
 func Open(torrent []byte, layers bool) (*Session, error) {
 	// The library reads the bytes until the handle is freed, so they are C's.
 	session := &Session{torrent: C.CBytes(append(torrent[:len(torrent):len(torrent)], 0))}
-	err := told(C.btcheck_session_open(&session.handle, (*C.uint8_t)(session.torrent), C.size_t(len(torrent)), C.bool(layers)))
+	err := asError(C.btcheck_session_open(&session.handle, (*C.uint8_t)(session.torrent), C.size_t(len(torrent)), C.bool(layers)))
 	if err != nil {
 		C.free(session.torrent)
 		return nil, err
@@ -138,7 +138,7 @@ func (session *Session) Close() {
 // TakeBlock takes one block of a piece message (BEP 3), and gives which file's and which of its blocks it is, from 0.
 func (session *Session) TakeBlock(index, begin uint32, block []byte) (file, number uint64, err error) {
 	var inFile, at C.uint64_t
-	err = told(C.btcheck_session_take_block(&session.handle, C.uint32_t(index), C.uint32_t(begin), pointer(block),
+	err = asError(C.btcheck_session_take_block(&session.handle, C.uint32_t(index), C.uint32_t(begin), pointer(block),
 		C.size_t(len(block)), &inFile, &at))
 	return uint64(inFile), uint64(at), err
 }
@@ -147,20 +147,20 @@ func (session *Session) TakeBlock(index, begin uint32, block []byte) (file, numb
 func (session *Session) TakeHashes(ask Ask, hashes []Hash) (uint64, error) {
 	var places C.uint64_t
 	fields := ask.fields()
-	err := told(C.btcheck_session_take_hashes(&session.handle, &fields.root[0], fields.base, fields.index, fields.length,
+	err := asError(C.btcheck_session_take_hashes(&session.handle, &fields.root[0], fields.base, fields.index, fields.length,
 		fields.proof, rows(hashes), C.size_t(len(hashes)), &places))
 	return uint64(places), err
 }
 
 // Note notes that a request was sent: it is open until hashes answer it.
 func (session *Session) Note(ask Ask) error {
-	return told(C.btcheck_session_note(&session.handle, ask.fields()))
+	return asError(C.btcheck_session_note(&session.handle, ask.fields()))
 }
 
 // TakeAnswer is TakeHashes for a message that must answer a noted request, which it then closes.
 func (session *Session) TakeAnswer(ask Ask, hashes []Hash) (uint64, error) {
 	var places C.uint64_t
-	err := told(C.btcheck_session_take_answer(&session.handle, ask.fields(), rows(hashes), C.size_t(len(hashes)), &places))
+	err := asError(C.btcheck_session_take_answer(&session.handle, ask.fields(), rows(hashes), C.size_t(len(hashes)), &places))
 	return uint64(places), err
 }
 
@@ -171,7 +171,7 @@ func (session *Session) Answer(ask Ask) ([]Hash, error) {
 		var count C.uint64_t
 		status := C.btcheck_session_answer(&session.handle, ask.fields(), rows(room), C.size_t(len(room)), &count)
 		if status != C.BTCHECK_TOO_SMALL {
-			return room[:count], told(status)
+			return room[:count], asError(status)
 		}
 		room = make([]Hash, count)
 	}
@@ -180,7 +180,7 @@ func (session *Session) Answer(ask Ask) ([]Hash, error) {
 // Want gives what to ask for next to learn the leaf of a block of a tree. Nothing: the leaf is known.
 func (session *Session) Want(tree int, block uint64) (Ask, error) {
 	var fields C.btcheck_ask
-	if err := told(C.btcheck_session_want(&session.handle, C.size_t(tree), C.uint64_t(block), &fields)); err != nil {
+	if err := asError(C.btcheck_session_want(&session.handle, C.size_t(tree), C.uint64_t(block), &fields)); err != nil {
 		return Ask{}, err
 	}
 	ask := Ask{Base: uint32(fields.base), Index: uint32(fields.index), Length: uint32(fields.length), Proof: uint32(fields.proof)}
@@ -202,7 +202,7 @@ func (session *Session) IsVerified(tree int, block uint64) (bool, error) {
 
 // A status that says no by Nothing.
 func yesOrNo(status C.btcheck_status) (bool, error) {
-	err := told(status)
+	err := asError(status)
 	if err == Nothing {
 		return false, nil
 	}
@@ -220,13 +220,13 @@ type File struct {
 // Files gives the files of the torrent, in its order.
 func (session *Session) Files() ([]File, error) {
 	var count, trees C.uint64_t
-	if err := told(C.btcheck_session_files(&session.handle, &count, &trees)); err != nil {
+	if err := asError(C.btcheck_session_files(&session.handle, &count, &trees)); err != nil {
 		return nil, err
 	}
 	files := make([]File, count)
 	for number := range files {
 		var file C.btcheck_file
-		if err := told(C.btcheck_session_file(&session.handle, C.size_t(number), &file)); err != nil {
+		if err := asError(C.btcheck_session_file(&session.handle, C.size_t(number), &file)); err != nil {
 			return nil, err
 		}
 		path, err := session.path(number)
@@ -250,7 +250,7 @@ func (session *Session) path(number int) (string, error) {
 		var length C.uint64_t
 		status := C.btcheck_session_path(&session.handle, C.size_t(number), pointer(room), C.size_t(len(room)), &length)
 		if status != C.BTCHECK_TOO_SMALL {
-			return string(room[:length]), told(status)
+			return string(room[:length]), asError(status)
 		}
 		room = make([]byte, length)
 	}
@@ -258,7 +258,7 @@ func (session *Session) path(number int) (string, error) {
 
 // InfoHashes gives SHA-256 (BEP 52) and SHA-1 (BEP 3) of the info dictionary.
 func (session *Session) InfoHashes() (v2 Hash, v1 [20]byte, err error) {
-	err = told(C.btcheck_session_info_hashes(&session.handle, (*C.uint8_t)(unsafe.Pointer(&v2[0])),
+	err = asError(C.btcheck_session_info_hashes(&session.handle, (*C.uint8_t)(unsafe.Pointer(&v2[0])),
 		(*C.uint8_t)(unsafe.Pointer(&v1[0]))))
 	return v2, v1, err
 }
@@ -266,13 +266,13 @@ func (session *Session) InfoHashes() (v2 Hash, v1 [20]byte, err error) {
 // Blocks are those of one piece message: consecutive ones of a file, each with nil or why it is not verified.
 type Blocks struct {
 	File, First uint64
-	Told        []error
+	Results     []error
 }
 
 // TakeBlocks takes all blocks of a piece message (BEP 3).
 func (session *Session) TakeBlocks(index, begin uint32, content []byte) (Blocks, error) {
 	var blocks C.btcheck_blocks
-	err := told(C.btcheck_session_take_blocks(&session.handle, C.uint32_t(index), C.uint32_t(begin), pointer(content),
+	err := asError(C.btcheck_session_take_blocks(&session.handle, C.uint32_t(index), C.uint32_t(begin), pointer(content),
 		C.size_t(len(content)), &blocks))
 	if err != nil {
 		return Blocks{}, err
@@ -283,7 +283,7 @@ func (session *Session) TakeBlocks(index, begin uint32, content []byte) (Blocks,
 func blocksOf(blocks *C.btcheck_blocks) Blocks {
 	found := Blocks{File: uint64(blocks.file), First: uint64(blocks.first)}
 	for _, status := range blocks.statuses[:blocks.count] {
-		found.Told = append(found.Told, told(status))
+		found.Results = append(found.Results, asError(status))
 	}
 	return found
 }
@@ -314,7 +314,7 @@ type Verdict struct {
 // Frame takes the body of one frame of the peer protocol as it came, without its length: for clients that pass messages on.
 func (session *Session) Frame(body []byte) (Verdict, error) {
 	var seen C.btcheck_verdict
-	if err := told(C.btcheck_session_frame(&session.handle, pointer(body), C.size_t(len(body)), &seen)); err != nil {
+	if err := asError(C.btcheck_session_frame(&session.handle, pointer(body), C.size_t(len(body)), &seen)); err != nil {
 		return Verdict{}, err
 	}
 	verdict := Verdict{Kind: Kind(seen.kind)}
@@ -338,6 +338,6 @@ func Version() [3]byte {
 // Counts gives how many places of a tree are known, and how many of its blocks are verified.
 func (session *Session) Counts(tree int) (known, verified uint64, err error) {
 	var places, marked C.uint64_t
-	err = told(C.btcheck_session_counts(&session.handle, C.size_t(tree), &places, &marked))
+	err = asError(C.btcheck_session_counts(&session.handle, C.size_t(tree), &places, &marked))
 	return uint64(places), uint64(marked), err
 }

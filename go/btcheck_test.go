@@ -152,7 +152,7 @@ func TestWant(t *testing.T) {
 	see(t, []any{can, err}, []any{true, nil})
 	content[0] ^= 1
 	blocks, err := session.TakeBlocks(0, 0, content)
-	see(t, []any{blocks, err}, []any{Blocks{Told: []error{BadBlock, nil}}, nil})
+	see(t, []any{blocks, err}, []any{Blocks{Results: []error{BadBlock, nil}}, nil})
 	is, err := session.IsVerified(0, 0)
 	see(t, []any{is, err}, []any{false, nil})
 	is, err = session.IsVerified(0, 1)
@@ -172,7 +172,7 @@ func TestFrames(t *testing.T) {
 		{nil, Verdict{Kind: KeepAlive}, nil},
 		{[]byte{4, 0, 0, 0, 0}, Verdict{Kind: Skipped, ID: 4}, nil},
 		{[]byte{7, 0}, Verdict{}, BadSize},
-		{append([]byte{7, 0, 0, 0, 1, 0, 0, 0, 0}, "abc"...), Verdict{Kind: OfBlocks, Blocks: Blocks{File: 1, Told: []error{nil}}}, nil},
+		{append([]byte{7, 0, 0, 0, 1, 0, 0, 0, 0}, "abc"...), Verdict{Kind: OfBlocks, Blocks: Blocks{File: 1, Results: []error{nil}}}, nil},
 		{append([]byte{21}, make([]byte, 48)...), Verdict{Kind: Rejected}, nil},
 		{append([]byte{22}, make([]byte, 80)...), Verdict{}, Refused(201)},
 	} {

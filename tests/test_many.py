@@ -1,6 +1,7 @@
 """The recipes of docs/MANY.md, run on a real archive by xargs and GNU parallel."""
 import configparser
 import fcntl
+import getpass
 import os
 import re
 import signal
@@ -8,7 +9,8 @@ import subprocess
 import time
 
 import torrents
-from support import BTCHECK, TOP, folder, need, write
+from slurm import Cluster
+from support import BTCHECK, TOP, folder, need, write, written
 
 # How many torrents of the archive have which state.
 GOOD = 17
@@ -38,9 +40,11 @@ exec {program} "$@"
 """
 
 
+PAGE = written(f"{TOP}/docs/MANY.md").decode()
+
+
 def blocks():
-    with open(f"{TOP}/docs/MANY.md", encoding="utf-8") as page:
-        return re.findall(r"^```(\w*)\n(.*?)^```$", page.read(), re.M | re.S)
+    return re.findall(r"^```(\w*)\n(.*?)^```$", PAGE, re.M | re.S)
 
 
 def block(text, kind="sh"):
@@ -382,7 +386,48 @@ def test_one_torrent_on_several_machines():
         assert len(archive.parts()) == PARTS
 
 
+class Array(Big):
+    """The archive with the recipe of a job array, whose tasks fail that are in the file `broken`."""
+
+    def __init__(self, place, cluster):
+        super().__init__(place)
+        os.rename(f"{place}/bin/btcheck", f"{place}/bin/whole")
+        self.script("bin/btcheck", f"""#!/bin/sh
+[ -e {place}/broken ] && grep -qx "$5" {place}/broken && exit 2
+exec {place}/bin/whole "$@"
+""")
+        self.script("check-array", block("\n# check-array").replace("/srv/archive", place))
+        self.environment.update(cluster.environment, PATH=f"{place}/bin:{cluster.environment['PATH']}")
+
+    def joined(self):
+        """What the job that joins the parts printed, in order."""
+        with open(f"{self.place}/report", encoding="utf-8") as report:
+            return sorted(report.read().splitlines())
+
+
 def test_a_job_array():
+    """Slurm runs all parts and joins them. If some fail, nothing is joined, and these are run again alone."""
+    with Cluster() as cluster, folder() as place:
+        archive = Array(place, cluster)
+        recipe = block("sbatch --parsable").replace("/srv/archive", place)
+        assert archive.run(recipe)[0] == 0
+        cluster.wait_for_jobs()
+        assert archive.joined() == archive.whole[1] and len(archive.parts()) == 64
+        archive.forget_parts()
+        os.remove(f"{place}/report")
+        write(f"{place}/broken", b"3/64\n17/64\n")
+        assert archive.run(recipe)[0] == 0
+        cluster.wait_for("the join was not given up", lambda: "Never" in cluster.command("squeue", "-h", "-o", "%r"))
+        assert len(archive.parts()) == 62 and not os.path.exists(f"{place}/report")
+        cluster.command("scancel", "--user", getpass.getuser())
+        os.remove(f"{place}/broken")
+        again = re.search(r"`(sbatch --array=3,17 check-array)`", PAGE)[1]
+        assert archive.run(recipe.replace("sbatch --parsable check-array", again.replace("sbatch", "sbatch --parsable")))[0] == 0
+        cluster.wait_for_jobs()
+        assert archive.joined() == archive.whole[1] and len(archive.parts()) == 64
+
+
+def test_a_job_array_without_slurm():
     """Each task by itself, in any order; and the syntax of what runs them."""
     with folder() as place:
         archive = Big(place)

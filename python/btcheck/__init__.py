@@ -389,11 +389,11 @@ class Session(_Owner):
 
     def file(self, number: int) -> File:
         """A file of the torrent, numbered from 0. Raises NoSuch if there are fewer."""
-        told = _File()
-        _file(self._handle, _number(number, 64), told)
-        tree = None if told.tree == 2**64 - 1 else told.tree
-        root = None if tree is None else bytes(told.root)
-        return File(self.path(number), told.length, told.first_piece, tree, root)
+        file = _File()
+        _file(self._handle, _number(number, 64), file)
+        tree = None if file.tree == 2**64 - 1 else file.tree
+        root = None if tree is None else bytes(file.root)
+        return File(self.path(number), file.length, file.first_piece, tree, root)
 
     def path(self, number: int) -> str:
         """A file's path, its components joined by `/`."""

@@ -24,11 +24,11 @@ fn main() {
 }
 
 fn search() {
-    let told = Command::new("pkg-config")
+    let found = Command::new("pkg-config")
         .args(["--libs-only-L", "btcheck"])
         .output();
-    let flags = match told {
-        Ok(told) if told.status.success() => String::from_utf8_lossy(&told.stdout).into_owned(),
+    let flags = match found {
+        Ok(found) if found.status.success() => String::from_utf8_lossy(&found.stdout).into_owned(),
         _ => panic!(
             "pkg-config does not find btcheck: install it, or name its folder by BTCHECK_LIB_DIR"
         ),

@@ -35,7 +35,7 @@ pub block_of : (d : Description) (n b : ℕ) (e : TreeEntry) → slice_get d.tre
 block_of d n b e there (e', there', inside) =
     subst (λ (x : TreeEntry). b < block_count x.length) (same_Some e' e (sym there' ∙ there)) inside
 
--- what is told of the tree at an index
+-- what is written of the tree at an index
 pub tree_there : (d : Description) (infos : List TreeInfo) (n : ℕ) (x : TreeInfo) → map tree_entry infos ≡ d.trees → n < length d.trees
     → (e : TreeEntry) × (slice_get d.trees n ≡ Some e) × ((get_or infos n x).root ≡ e.root)
 tree_there d infos n x are low =

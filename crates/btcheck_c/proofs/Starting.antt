@@ -20,16 +20,16 @@ start_none n (Some t) None o' free none left = absurd (none-some t (sym none))
 start_none n o (Some t) o' free none left = absurd (none-some t (sym free))
 
 -- the thing that was taken out of the other handle is lent to the call, and goes back
-pub start_told : (n : ℕ) (o h h' o' : Option Thing) (t lent t' : Thing) (made : Result FileCheck ℕ) (status : ℕ) → h ≡ None → Some t ≡ o
+pub start_done : (n : ℕ) (o h h' o' : Option Thing) (t lent t' : Thing) (made : Result FileCheck ℕ) (status : ℕ) → h ≡ None → Some t ≡ o
     → o' ≡ Some t' → lent ≡ t → StartsCheck n lent.kind made t'.kind → CheckKept made status h' → CheckStarted n o h status h' o'
-start_told n o None h' o' t lent t' made status free is is' same starts kept =
+start_done n o None h' o' t lent t' made status free is is' same starts kept =
     subst (λ w. CheckStarted n w None status h' o') is
     (made, (t', is', subst (λ (s : Thing). StartsCheck n s.kind made t'.kind) same starts), kept)
-start_told n o (Some u) h' o' t lent t' made status free is is' same starts kept = absurd (none-some u (sym free))
+start_done n o (Some u) h' o' t lent t' made status free is is' same starts kept = absurd (none-some u (sym free))
 
 -- a piece length that was made of a torrent's is it
 pub piece_length_is : (made : Option ℕ) (p n torrents : ℕ) → made ≡ Some p → SomeIff made (IsPieceLength n) n → n ≡ torrents → p ≡ torrents
-piece_length_is made p n torrents is told same = (subst (λ o. SomeIff o (IsPieceLength n) n) is told).1 ∙ same
+piece_length_is made p n torrents is out same = (subst (λ o. SomeIff o (IsPieceLength n) n) is out).1 ∙ same
 
 -- the tree of a file is there, and sound
 pub info_inside : (d : Description) (infos : List TreeInfo) (f : FileEntry) (n : ℕ) → map tree_entry infos ≡ d.trees → IsSoundFile d f → f.tree ≡ Some n

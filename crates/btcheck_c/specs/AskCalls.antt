@@ -9,7 +9,7 @@ use Rattle.session.specs.Session.{SessionSeen, IsAnswered}
 use Rattle.wire.specs.declared.message.Ask.{Ask}
 use Rattle.btcheck_c.specs.Asks.{asked_of}
 use Rattle.btcheck_c.specs.Holds.{IsWrongKind}
-use Rattle.btcheck_c.specs.Statuses.{HashesTold, ToldIf}
+use Rattle.btcheck_c.specs.Statuses.{HasHashes, IsAnswer}
 use Rattle.btcheck_c.specs.Taken.{AnswerTaken, AskNoted, AnswerGiven, HasTreeBlock, WantIs}
 use Rattle.btcheck_c.specs.declared.asked.Asked.{Asked}
 use Rattle.btcheck_c.specs.declared.thing.Kind.{Kind}
@@ -18,35 +18,35 @@ use Rattle.btcheck_c.specs.declared.thing.Kind.TheVariants as kind
 -- ---- what to ask for
 
 -- the ask, or that there is nothing to ask for
-abbrev pub WantTold : Option Ask → ℕ → Asked → Type 0
-WantTold (Some a) status asked = (status ≡ 0) × (asked ≡ asked_of a)
-WantTold None status asked = status ≡ 6
+abbrev pub HasWant : Option Ask → ℕ → Asked → Type 0
+HasWant (Some a) status asked = (status ≡ 0) × (asked ≡ asked_of a)
+HasWant None status asked = status ≡ 6
 
 -- what the session wants to learn the leaf of a block, or that no tree n has this block; and it
 -- stays as it is
 abbrev pub Wants : ℕ → ℕ → Asked → Kind → ℕ → Kind → Type 0
 Wants n b asked (kind.Session S) status k' = (k' ≡ kind.Session S)
     × ((HasTreeBlock S.torrent n b
-    × ((want : Option Ask) × WantTold want status asked × WantIs S n b want))
+    × ((want : Option Ask) × HasWant want status asked × WantIs S n b want))
     ⊎ ((status ≡ 5) × ¬ HasTreeBlock S.torrent n b))
 Wants n b asked k status k' = IsWrongKind k status k'
 
 -- ---- a request of our own
 
-abbrev pub NoteTold : Bool → ℕ → Type 0
-NoteTold true status = status ≡ 0
-NoteTold false status = status ≡ 2
+abbrev pub HasNote : Bool → ℕ → Type 0
+HasNote true status = status ≡ 0
+HasNote false status = status ≡ 2
 
 -- the session notes that a request was sent; or memory was refused
 abbrev pub Notes : Ask → Kind → ℕ → Kind → Type 0
-Notes ask (kind.Session S) status k' = (done : Bool) × NoteTold done status
+Notes ask (kind.Session S) status k' = (done : Bool) × HasNote done status
     × ((S' : SessionSeen) × (k' ≡ kind.Session S') × AskNoted S ask done S')
 Notes ask k status k' = IsWrongKind k status k'
 
--- the session takes hashes that answer an open ask; status and places tell what it says
+-- the session takes hashes that answer an open ask; status and places are its answer
 abbrev pub TakesAnswer : Ask → List Hash → ℕ → Kind → ℕ → Kind → Type 0
 TakesAnswer ask hashes places (kind.Session S) status k' =
-    (answer : Result ℕ HashRefusal) × HashesTold answer status places
+    (answer : Result ℕ HashRefusal) × HasHashes answer status places
     × ((S' : SessionSeen) × (k' ≡ kind.Session S') × AnswerTaken S ask hashes answer S')
 TakesAnswer ask hashes places k status k' = IsWrongKind k status k'
 
@@ -54,21 +54,21 @@ TakesAnswer ask hashes places k status k' = IsWrongKind k status k'
 
 -- the hashes at the front of the room; or how much room they need; or that there are none; or
 -- memory was refused
-abbrev pub AnswerTold : Option Answer → ℕ → List Hash → ℕ → Type 0
-AnswerTold (Some (answer.Hashes hashes)) status room count = (count ≡ length hashes.items)
+abbrev pub HasAnswer : Option Answer → ℕ → List Hash → ℕ → Type 0
+HasAnswer (Some (answer.Hashes hashes)) status room count = (count ≡ length hashes.items)
     × (((status ≡ 0) × (take count room ≡ hashes.items))
     ⊎ ((status ≡ 7) × (length room < count)))
-AnswerTold (Some answer.Reject) status room count = status ≡ 6
-AnswerTold None status room count = status ≡ 2
+HasAnswer (Some answer.Reject) status room count = status ≡ 6
+HasAnswer None status room count = status ≡ 2
 
 -- the session answers a request, and stays as it is
 abbrev pub Answers : Ask → List Hash → ℕ → Kind → ℕ → Kind → Type 0
 Answers ask room count (kind.Session S) status k' = (k' ≡ kind.Session S)
-    × ((given : Option Answer) × AnswerTold given status room count × AnswerGiven S ask given)
+    × ((given : Option Answer) × HasAnswer given status room count × AnswerGiven S ask given)
 Answers ask room count k status k' = IsWrongKind k status k'
 
 -- whether the session can answer a request, and it stays as it is
-abbrev pub TellsIfAnswered : Ask → Kind → ℕ → Kind → Type 0
-TellsIfAnswered ask (kind.Session S) status k' = (k' ≡ kind.Session S)
-    × ((can : Bool) × ToldIf can status × (IsTrue can ↔ IsAnswered S ask))
-TellsIfAnswered ask k status k' = IsWrongKind k status k'
+abbrev pub AnswersIfAnswered : Ask → Kind → ℕ → Kind → Type 0
+AnswersIfAnswered ask (kind.Session S) status k' = (k' ≡ kind.Session S)
+    × ((can : Bool) × IsAnswer can status × (IsTrue can ↔ IsAnswered S ask))
+AnswersIfAnswered ask k status k' = IsWrongKind k status k'

@@ -1,4 +1,4 @@
--- What the calls on the blocks of a piece message tell (BEP 3, "piece").
+-- What the calls on the blocks of a piece message answer (BEP 3, "piece").
 use Rattle.std.specs.Prelude.{◌≡◌, ℕ, ◌+◌, ◌<◌, List, length, map, take, Option, Some, None, Result, Ok, Err}
 use Rattle.partial_tree.specs.Names.{block_refusal_number}
 use Rattle.partial_tree.specs.declared.refusal.BlockRefusal.{BlockRefusal}
@@ -16,20 +16,20 @@ entry_status None = 0
 entry_status (Some r) = 300 + block_refusal_number r
 
 -- the same entries, as C has them
-pub record AreLaidOut (v : BlocksSeen) (told : BlocksInfo) : Type 0 where
-  pub count_is : told.count ≡ length v.refusals
-  pub statuses_are : take (length v.refusals) told.statuses ≡ map entry_status v.refusals
-  pub place_is : 0 < length v.refusals → (told.file ≡ v.file) × (told.first ≡ v.first)
+pub record AreLaidOut (v : BlocksSeen) (out : BlocksInfo) : Type 0 where
+  pub count_is : out.count ≡ length v.refusals
+  pub statuses_are : take (length v.refusals) out.statuses ≡ map entry_status v.refusals
+  pub place_is : 0 < length v.refusals → (out.file ≡ v.file) × (out.first ≡ v.first)
 
 -- 0 and what is made of each block, or the number of the refusal of the whole message
-abbrev pub BlocksTold : Result BlocksSeen BlockRefusal → ℕ → BlocksInfo → Type 0
-BlocksTold (Ok v) status told = (status ≡ 0) × AreLaidOut v told
-BlocksTold (Err r) status told = status ≡ 300 + block_refusal_number r
+abbrev pub HasBlocks : Result BlocksSeen BlockRefusal → ℕ → BlocksInfo → Type 0
+HasBlocks (Ok v) status out = (status ≡ 0) × AreLaidOut v out
+HasBlocks (Err r) status out = status ≡ 300 + block_refusal_number r
 
--- the session takes the blocks of a piece message; status and entries tell its answer
+-- the session takes the blocks of a piece message; status and entries are its answer
 abbrev pub TakesBlocks : ℕ → ℕ → List ℕ → BlocksInfo → Kind → ℕ → Kind → Type 0
-TakesBlocks index begin bytes told (kind.Session S) status k' =
-    (answer : Result BlocksSeen BlockRefusal) × BlocksTold answer status told
+TakesBlocks index begin bytes out (kind.Session S) status k' =
+    (answer : Result BlocksSeen BlockRefusal) × HasBlocks answer status out
     × ((S' : SessionSeen) × (k' ≡ kind.Session S') × BlocksTaken S index begin bytes answer S')
-TakesBlocks index begin bytes told k status k' =
+TakesBlocks index begin bytes out k status k' =
     IsWrongKind k status k'

@@ -60,15 +60,15 @@ PushesFile bytes k status k' = IsWrongKind k status k'
 -- ---- the end
 
 -- each piece is the torrent's, or this is the first that is not
-abbrev pub BadPieceTold : Option ℕ → ℕ → ℕ → Type 0
-BadPieceTold None status piece = status ≡ 0
-BadPieceTold (Some i) status piece = (status ≡ 10) × (piece ≡ i)
+abbrev pub HasBadPiece : Option ℕ → ℕ → ℕ → Type 0
+HasBadPiece None status piece = status ≡ 0
+HasBadPiece (Some i) status piece = (status ≡ 10) × (piece ≡ i)
 
 -- the check of the whole file has this verdict, and begins anew; or bytes are still to come, and it
 -- stays as it is
 abbrev pub EndsCheck : ℕ → Kind → ℕ → Kind → Type 0
 EndsCheck piece (kind.Check c) status k' =
-    ((bytes_left c ≡ 0) × ((bad : Option ℕ) × BadPieceTold bad status piece × (IsFileVerdict c bad
+    ((bytes_left c ≡ 0) × ((bad : Option ℕ) × HasBadPiece bad status piece × (IsFileVerdict c bad
     × ((c' : FileCheck) × (k' ≡ kind.Check c') × BeginsAnew c c'))))
     ⊎ ((status ≡ 9) × ((0 < bytes_left c) × (k' ≡ kind.Check c)))
 EndsCheck piece k status k' = IsWrongKind k status k'

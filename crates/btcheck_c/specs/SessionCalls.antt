@@ -15,7 +15,7 @@ use Rattle.session.specs.Session.{SessionSeen, TreeState}
 use Rattle.session.specs.Fresh.{IsFresh}
 use Rattle.wire.specs.declared.message.Ask.{Ask}
 use Rattle.btcheck_c.specs.Holds.{IsWrongKind}
-use Rattle.btcheck_c.specs.Statuses.{HashesTold, BlockTold, ToldIf}
+use Rattle.btcheck_c.specs.Statuses.{HasHashes, HasBlock, IsAnswer}
 use Rattle.btcheck_c.specs.Taken.{HashesTaken, BlockTaken, HasTreeBlock}
 use Rattle.btcheck_c.specs.declared.thing.Thing.{Thing}
 use Rattle.btcheck_c.specs.declared.thing.Kind.{Kind}
@@ -57,26 +57,26 @@ Counted tree known marked (kind.Session S) status k' = (k' ≡ kind.Session S)
 Counted tree known marked k status k' = IsWrongKind k status k'
 
 -- whether the leaf of a block of tree n is marked, or that no tree n has this block
-abbrev pub TellsIfMarked : ℕ → ℕ → Kind → ℕ → Kind → Type 0
-TellsIfMarked n b (kind.Session S) status k' = (k' ≡ kind.Session S)
-    × ((HasTreeBlock S.torrent n b × ((marked : Bool) × ToldIf marked status
+abbrev pub AnswersIfMarked : ℕ → ℕ → Kind → ℕ → Kind → Type 0
+AnswersIfMarked n b (kind.Session S) status k' = (k' ≡ kind.Session S)
+    × ((HasTreeBlock S.torrent n b × ((marked : Bool) × IsAnswer marked status
     × HasState S n (λ s. marked ≡ set.contains s.marked b)))
     ⊎ ((status ≡ 5) × ¬ HasTreeBlock S.torrent n b))
-TellsIfMarked n b k status k' = IsWrongKind k status k'
+AnswersIfMarked n b k status k' = IsWrongKind k status k'
 
 -- ---- messages
 
--- the session takes a hashes message, and status and places tell its answer
+-- the session takes a hashes message, and status and places are its answer
 abbrev pub TakesHashes : Ask → List Hash → ℕ → Kind → ℕ → Kind → Type 0
 TakesHashes ask hashes places (kind.Session S) status k' =
-    (answer : Result ℕ HashRefusal) × HashesTold answer status places
+    (answer : Result ℕ HashRefusal) × HasHashes answer status places
     × ((S' : SessionSeen) × (k' ≡ kind.Session S') × HashesTaken S ask hashes answer S')
 TakesHashes ask hashes places k status k' = IsWrongKind k status k'
 
--- the session takes a block of a piece message; status, file and block tell its answer
+-- the session takes a block of a piece message; status, file and block are its answer
 abbrev pub TakesBlock : ℕ → ℕ → List ℕ → ℕ → ℕ → Kind → ℕ → Kind → Type 0
 TakesBlock index begin bytes file block (kind.Session S) status k' =
-    (answer : Result (ℕ × ℕ) BlockRefusal) × BlockTold answer status file block
+    (answer : Result (ℕ × ℕ) BlockRefusal) × HasBlock answer status file block
     × ((S' : SessionSeen) × (k' ≡ kind.Session S') × BlockTaken S index begin bytes answer S')
 TakesBlock index begin bytes file block k status k' =
     IsWrongKind k status k'

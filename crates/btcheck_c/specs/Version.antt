@@ -1,4 +1,4 @@
--- How a version is told as one number.
+-- A version as one number.
 use Rattle.std.specs.Prelude.{ℕ, ◌+◌, ◌*◌}
 
 -- a byte for each of its three numbers

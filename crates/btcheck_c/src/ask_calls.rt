@@ -3,13 +3,13 @@
 ghost use Rattle.std.specs.Prelude.{◌≡◌, ◌≢◌, Option};
 ghost use Rattle.partial_tree.specs.declared.answer.Answer.{Answer as Given};
 ghost use Rattle.btcheck_c.specs.Asks.{ask_of};
-ghost use Rattle.btcheck_c.specs.AskCalls.{WantTold, Wants, NoteTold, Notes, TakesAnswer, AnswerTold, Answers, TellsIfAnswered};
+ghost use Rattle.btcheck_c.specs.AskCalls.{HasWant, Wants, HasNote, Notes, TakesAnswer, HasAnswer, Answers, AnswersIfAnswered};
 ghost use Rattle.btcheck_c.specs.Holds.{Through};
 
 use crate::asked::{Asked, lay_out, read_ask};
 use crate::handle::Handle;
 use crate::status::{
-    DONE, NO_MEMORY, NO_SUCH, NOTHING, TOO_SMALL, WRONG_HANDLE, tell_hashes, tell_if,
+    DONE, NO_MEMORY, NO_SUCH, NOTHING, TOO_SMALL, WRONG_HANDLE, status_of_answer, status_of_hashes,
 };
 use crate::thing::{Kind, Thing};
 use partial_tree::Answer;
@@ -17,8 +17,8 @@ use std::alloc::Global;
 use wire::{Ask, Hash};
 
 // The status of what is wanted, and the ask.
-fn tell_want(want: Option<Ask>, asked: &mut Asked) -> u32
-    ensures done { WantTold want result asked.new }
+fn write_want(want: Option<Ask>, asked: &mut Asked) -> u32
+    ensures done { HasWant want result asked.new }
     ensures unwritten { result ≢ 0 → asked.new ≡ asked.old }
 {
     match want {
@@ -30,15 +30,15 @@ fn tell_want(want: Option<Ask>, asked: &mut Asked) -> u32
     }
 }
 
-fn tell_note(done: bool) -> u32
-    ensures { NoteTold done result }
+fn status_of_note(done: bool) -> u32
+    ensures { HasNote done result }
 {
     if done { DONE } else { NO_MEMORY }
 }
 
 // The status of an answer, whose hashes go to the front of the room, and how many they are.
-fn tell_answer(answer: &Option<Answer>, room: &mut [Hash], count: &mut u64) -> u32
-    ensures done { AnswerTold answer.now result room.new count.new }
+fn write_answer(answer: &Option<Answer>, room: &mut [Hash], count: &mut u64) -> u32
+    ensures done { HasAnswer answer.now result room.new count.new }
     ensures unwritten { result ≢ 0 → (room.new ≡ room.old)
         × (result ≢ 7 → count.new ≡ count.old) }
 {
@@ -65,7 +65,7 @@ impl Thing {
             Kind::Root(_) | Kind::Check(_) => WRONG_HANDLE,
             Kind::Session(session) => {
                 if session.has_block(tree, block) {
-                    tell_want(session.want(tree, block), asked)
+                    write_want(session.want(tree, block), asked)
                 } else {
                     NO_SUCH
                 }
@@ -78,7 +78,7 @@ impl Thing {
     {
         match &mut self.kind {
             Kind::Root(_) | Kind::Check(_) => WRONG_HANDLE,
-            Kind::Session(session) => tell_note(session.note(ask)),
+            Kind::Session(session) => status_of_note(session.note(ask)),
         }
     }
 
@@ -89,7 +89,7 @@ impl Thing {
     {
         match &mut self.kind {
             Kind::Root(_) | Kind::Check(_) => WRONG_HANDLE,
-            Kind::Session(session) => tell_hashes(session.take_answer(ask, hashes), places),
+            Kind::Session(session) => status_of_hashes(session.take_answer(ask, hashes), places),
         }
     }
 
@@ -100,16 +100,16 @@ impl Thing {
     {
         match &mut self.kind {
             Kind::Root(_) | Kind::Check(_) => WRONG_HANDLE,
-            Kind::Session(session) => tell_answer(&session.answer(ask), room, count),
+            Kind::Session(session) => write_answer(&session.answer(ask), room, count),
         }
     }
 
     fn can_answer(&mut self, ask: &Ask) -> u32
-        ensures { TellsIfAnswered ask.now self.old.kind result self.new.kind }
+        ensures { AnswersIfAnswered ask.now self.old.kind result self.new.kind }
     {
         match &mut self.kind {
             Kind::Root(_) | Kind::Check(_) => WRONG_HANDLE,
-            Kind::Session(session) => tell_if(session.can_answer(ask)),
+            Kind::Session(session) => status_of_answer(session.can_answer(ask)),
         }
     }
 }
@@ -206,7 +206,7 @@ pub extern "C" fn btcheck_session_can_answer(
     handle: &mut Handle,
     asked: &Asked,
 ) -> u32
-    ensures { Through (TellsIfAnswered (ask_of asked.now)) handle.old.slot.held result
+    ensures { Through (AnswersIfAnswered (ask_of asked.now)) handle.old.slot.held result
         handle.new.slot.held }
 {
     let Some(mut thing) = handle.take(alloc) else {

@@ -4,21 +4,21 @@ ghost use Rattle.std.specs.Prelude.{◌≡◌, ◌≢◌};
 ghost use Rattle.btcheck_c.specs.Blocks.{TakesBlocks};
 ghost use Rattle.btcheck_c.specs.Holds.{Through};
 
-use crate::blocks_info::{BlocksInfo, tell_blocks};
+use crate::blocks_info::{BlocksInfo, write_blocks};
 use crate::handle::Handle;
 use crate::status::WRONG_HANDLE;
 use crate::thing::{Kind, Thing};
 use std::alloc::Global;
 
 impl Thing {
-    fn take_blocks(&mut self, index: u32, begin: u32, bytes: &[u8], told: &mut BlocksInfo) -> u32
-        ensures done { TakesBlocks index begin bytes.now told.new self.old.kind result
+    fn take_blocks(&mut self, index: u32, begin: u32, bytes: &[u8], out: &mut BlocksInfo) -> u32
+        ensures done { TakesBlocks index begin bytes.now out.new self.old.kind result
             self.new.kind }
-        ensures unwritten { result ≢ 0 → told.new ≡ told.old }
+        ensures unwritten { result ≢ 0 → out.new ≡ out.old }
     {
         match &mut self.kind {
             Kind::Root(_) | Kind::Check(_) => WRONG_HANDLE,
-            Kind::Session(session) => tell_blocks(session.take_blocks(index, begin, bytes), told),
+            Kind::Session(session) => write_blocks(session.take_blocks(index, begin, bytes), out),
         }
     }
 }
@@ -33,16 +33,16 @@ pub extern "C" fn btcheck_session_take_blocks(
     index: u32,
     begin: u32,
     bytes: &[u8],
-    told: &mut BlocksInfo,
+    out: &mut BlocksInfo,
 ) -> u32
-    ensures done { Through (TakesBlocks index begin bytes.now told.new) handle.old.slot.held result
+    ensures done { Through (TakesBlocks index begin bytes.now out.new) handle.old.slot.held result
         handle.new.slot.held }
-    ensures unwritten { result ≢ 0 → told.new ≡ told.old }
+    ensures unwritten { result ≢ 0 → out.new ≡ out.old }
 {
     let Some(mut thing) = handle.take(alloc) else {
         return WRONG_HANDLE;
     };
-    let status = thing.take_blocks(index, begin, bytes, told);
+    let status = thing.take_blocks(index, begin, bytes, out);
     handle.put(thing);
     status
 }

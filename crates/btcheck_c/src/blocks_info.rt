@@ -1,7 +1,7 @@
 //! What a session makes of the blocks of one piece message, as C sees it.
 
 ghost use Rattle.std.specs.Prelude.{◌≡◌, ◌≢◌, length};
-ghost use Rattle.btcheck_c.specs.Blocks.{entry_status, AreLaidOut, BlocksTold};
+ghost use Rattle.btcheck_c.specs.Blocks.{entry_status, AreLaidOut, HasBlocks};
 ghost use Rattle.partial_tree.specs.declared.refusal.BlockRefusal.{BlockRefusal as Why};
 
 use crate::status::{DONE, refused_block};
@@ -23,13 +23,13 @@ pub struct BlocksInfo {
 }
 
 /// The status of the blocks of a piece message, and what is made of each.
-pub(crate) fn tell_blocks(answer: Result<Blocks, BlockRefusal>, told: &mut BlocksInfo) -> u32
-    ensures done { BlocksTold answer result told.new }
-    ensures unwritten { result ≢ 0 → told.new ≡ told.old }
+pub(crate) fn write_blocks(answer: Result<Blocks, BlockRefusal>, out: &mut BlocksInfo) -> u32
+    ensures done { HasBlocks answer result out.new }
+    ensures unwritten { result ≢ 0 → out.new ≡ out.old }
 {
     match answer {
         Ok(blocks) => {
-            *told = lay_out_blocks(&blocks);
+            *out = lay_out_blocks(&blocks);
             DONE
         }
         Err(refusal) => refused_block(refusal),

@@ -1,7 +1,7 @@
 //! The check of one file's bytes, which the caller reads and gives in parts.
 
 ghost use Rattle.std.specs.Prelude.{◌≡◌, ◌≢◌, None};
-ghost use Rattle.btcheck_c.specs.CheckCalls.{ChecksFile, StartsCheck, CheckStarted, PushesFile, BadPieceTold, EndsCheck};
+ghost use Rattle.btcheck_c.specs.CheckCalls.{ChecksFile, StartsCheck, CheckStarted, PushesFile, HasBadPiece, EndsCheck};
 ghost use Rattle.btcheck_c.specs.Holds.{Through};
 
 use crate::file_check::FileCheck;
@@ -64,7 +64,7 @@ impl Thing {
                 if check.left() > 0 {
                     return TOO_SHORT;
                 }
-                tell_piece(check.finish(), piece)
+                write_piece(check.finish(), piece)
             }
         }
     }
@@ -129,8 +129,8 @@ pub extern "C" fn btcheck_check_finish(alloc: Global, handle: &mut Handle, piece
 }
 
 // The status of a check, and the first bad piece.
-fn tell_piece(bad: Option<u64>, piece: &mut u64) -> u32
-    ensures done { BadPieceTold bad result piece.new }
+fn write_piece(bad: Option<u64>, piece: &mut u64) -> u32
+    ensures done { HasBadPiece bad result piece.new }
     ensures unwritten { result ≢ 10 → piece.new ≡ piece.old }
 {
     match bad {

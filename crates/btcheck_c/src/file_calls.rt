@@ -1,32 +1,32 @@
 //! The calls that read what a torrent holds: its files with their paths, and its info-hashes.
 
 ghost use Rattle.std.specs.Prelude.{◌≡◌, ◌≢◌};
-ghost use Rattle.btcheck_c.specs.Files.{FilePathTold, TellsCounts, TellsFile, TellsPath, TellsInfoHashes};
+ghost use Rattle.btcheck_c.specs.Files.{HasFilePath, WritesCounts, WritesFile, WritesPath, WritesInfoHashes};
 ghost use Rattle.btcheck_c.specs.Holds.{Through};
 
 use crate::file_info::{FileInfo, file_info};
 use crate::handle::Handle;
-use crate::path_text::tell_path;
+use crate::path_text::write_path;
 use crate::status::{DONE, NO_SUCH, WRONG_HANDLE};
 use crate::thing::{Kind, Thing};
 use opening::Torrent;
 use std::alloc::Global;
 
 // The status of a file's path, and what is written of it.
-fn tell_path_of(torrent: &Torrent<'_>, number: usize, room: &mut [u8], length: &mut u64) -> u32
-    ensures done { FilePathTold torrent.now number result room.old room.new length.new }
+fn write_path_of(torrent: &Torrent<'_>, number: usize, room: &mut [u8], length: &mut u64) -> u32
+    ensures done { HasFilePath torrent.now number result room.old room.new length.new }
     ensures unwritten { result ≢ 0 → (room.new ≡ room.old)
         × (result ≢ 7 → length.new ≡ length.old) }
 {
     match torrent.files().get(number) {
         None => NO_SUCH,
-        Some(file) => tell_path(&file.path.parts(), room, length),
+        Some(file) => write_path(&file.path.parts(), room, length),
     }
 }
 
 impl Thing {
     fn files(&mut self, files: &mut u64, trees: &mut u64) -> u32
-        ensures done { TellsCounts files.new trees.new self.old.kind result self.new.kind }
+        ensures done { WritesCounts files.new trees.new self.old.kind result self.new.kind }
         ensures unwritten { result ≢ 0 → (files.new ≡ files.old) × (trees.new ≡ trees.old) }
     {
         match &mut self.kind {
@@ -39,16 +39,16 @@ impl Thing {
         }
     }
 
-    fn file(&mut self, number: usize, told: &mut FileInfo) -> u32
-        ensures done { TellsFile number told.new self.old.kind result self.new.kind }
-        ensures unwritten { result ≢ 0 → told.new ≡ told.old }
+    fn file(&mut self, number: usize, out: &mut FileInfo) -> u32
+        ensures done { WritesFile number out.new self.old.kind result self.new.kind }
+        ensures unwritten { result ≢ 0 → out.new ≡ out.old }
     {
         match &mut self.kind {
             Kind::Root(_) | Kind::Check(_) => WRONG_HANDLE,
             Kind::Session(session) => match file_info(session.torrent(), number) {
                 None => NO_SUCH,
                 Some(info) => {
-                    *told = info;
+                    *out = info;
                     DONE
                 }
             },
@@ -56,19 +56,19 @@ impl Thing {
     }
 
     fn path(&mut self, number: usize, room: &mut [u8], length: &mut u64) -> u32
-        ensures done { TellsPath number room.old room.new length.new self.old.kind result
+        ensures done { WritesPath number room.old room.new length.new self.old.kind result
             self.new.kind }
         ensures unwritten { result ≢ 0 → (room.new ≡ room.old)
             × (result ≢ 7 → length.new ≡ length.old) }
     {
         match &mut self.kind {
             Kind::Root(_) | Kind::Check(_) => WRONG_HANDLE,
-            Kind::Session(session) => tell_path_of(session.torrent(), number, room, length),
+            Kind::Session(session) => write_path_of(session.torrent(), number, room, length),
         }
     }
 
     fn info_hashes(&mut self, v2: &mut [u8; 32], v1: &mut [u8; 20]) -> u32
-        ensures done { TellsInfoHashes v2.new v1.new self.old.kind result self.new.kind }
+        ensures done { WritesInfoHashes v2.new v1.new self.old.kind result self.new.kind }
         ensures unwritten { result ≢ 0 → (v2.new ≡ v2.old) × (v1.new ≡ v1.old) }
     {
         match &mut self.kind {
@@ -91,7 +91,7 @@ pub extern "C" fn btcheck_session_files(
     files: &mut u64,
     trees: &mut u64,
 ) -> u32
-    ensures done { Through (TellsCounts files.new trees.new) handle.old.slot.held result
+    ensures done { Through (WritesCounts files.new trees.new) handle.old.slot.held result
         handle.new.slot.held }
     ensures unwritten { result ≢ 0 → (files.new ≡ files.old) × (trees.new ≡ trees.old) }
 {
@@ -110,16 +110,16 @@ pub extern "C" fn btcheck_session_file(
     alloc: Global,
     handle: &mut Handle,
     number: usize,
-    told: &mut FileInfo,
+    out: &mut FileInfo,
 ) -> u32
-    ensures done { Through (TellsFile number told.new) handle.old.slot.held result
+    ensures done { Through (WritesFile number out.new) handle.old.slot.held result
         handle.new.slot.held }
-    ensures unwritten { result ≢ 0 → told.new ≡ told.old }
+    ensures unwritten { result ≢ 0 → out.new ≡ out.old }
 {
     let Some(mut thing) = handle.take(alloc) else {
         return WRONG_HANDLE;
     };
-    let status = thing.file(number, told);
+    let status = thing.file(number, out);
     handle.put(thing);
     status
 }
@@ -135,7 +135,7 @@ pub extern "C" fn btcheck_session_path(
     room: &mut [u8],
     length: &mut u64,
 ) -> u32
-    ensures done { Through (TellsPath number room.old room.new length.new) handle.old.slot.held
+    ensures done { Through (WritesPath number room.old room.new length.new) handle.old.slot.held
         result handle.new.slot.held }
     ensures unwritten { result ≢ 0 → (room.new ≡ room.old)
         × (result ≢ 7 → length.new ≡ length.old) }
@@ -157,7 +157,7 @@ pub extern "C" fn btcheck_session_info_hashes(
     v2: &mut [u8; 32],
     v1: &mut [u8; 20],
 ) -> u32
-    ensures done { Through (TellsInfoHashes v2.new v1.new) handle.old.slot.held result
+    ensures done { Through (WritesInfoHashes v2.new v1.new) handle.old.slot.held result
         handle.new.slot.held }
     ensures unwritten { result ≢ 0 → (v2.new ≡ v2.old) × (v1.new ≡ v1.old) }
 {

@@ -1,7 +1,7 @@
-//! What C is told of a torrent's file.
+//! A torrent's file, laid out for C.
 
 ghost use Rattle.std.specs.Prelude.{◌<◌, ◌≤◌, length, IfSome, MatchOption};
-ghost use Rattle.btcheck_c.specs.Files.{IsFileInfo, TreeTold};
+ghost use Rattle.btcheck_c.specs.Files.{IsFileInfo, HasTree};
 
 use hashtree::Hash;
 use opening::Torrent;
@@ -17,7 +17,7 @@ pub struct FileInfo {
     pub root: [u8; 32],
 }
 
-/// What C is told of a file; `None` if the torrent has no such file.
+/// A file, laid out for C; `None` if the torrent has no such file.
 pub(crate) fn file_info(torrent: &Torrent<'_>, number: usize) -> Option<FileInfo>
     ensures { MatchOption result (length torrent.now.files ≤ number)
         (IsFileInfo torrent.now number) }
@@ -26,7 +26,7 @@ pub(crate) fn file_info(torrent: &Torrent<'_>, number: usize) -> Option<FileInfo
     match torrent.files().get(number) {
         None => None,
         Some(file) => {
-            let (tree, root) = told_tree(torrent, file.tree);
+            let (tree, root) = tree_and_root(torrent, file.tree);
             Some(FileInfo {
                 length: file.length,
                 first_piece: file.first_piece,
@@ -38,9 +38,9 @@ pub(crate) fn file_info(torrent: &Torrent<'_>, number: usize) -> Option<FileInfo
 }
 
 // The number of a file's tree, and its root.
-fn told_tree(torrent: &Torrent<'_>, tree: Option<usize>) -> (u64, Hash)
+fn tree_and_root(torrent: &Torrent<'_>, tree: Option<usize>) -> (u64, Hash)
     requires { IfSome tree (λ n. n < length torrent.now.trees) }
-    ensures { TreeTold torrent.now tree result.0 result.1 }
+    ensures { HasTree torrent.now tree result.0 result.1 }
 {
     match tree {
         None => (u64::MAX, [0; 32]),

@@ -8,34 +8,34 @@ use crate::handle::Handle;
 use crate::opened::Opened;
 use crate::status::{BAD_SIZE, TOO_LONG, WRONG_HANDLE};
 use crate::thing::{Kind, Thing};
-use crate::verdict_info::{VerdictInfo, tell_verdict};
+use crate::verdict_info::{VerdictInfo, write_verdict};
 use std::alloc::Global;
 use wire::{Frame, frame_in};
 
 impl Opened {
     // Takes the message of a body, if it is one.
-    fn take_frame(&mut self, body: &[u8], told: &mut VerdictInfo) -> u32
-        ensures done { FrameTaken body.now told.new self.old result self.new }
-        ensures unwritten { result ≢ 0 → told.new ≡ told.old }
+    fn take_frame(&mut self, body: &[u8], out: &mut VerdictInfo) -> u32
+        ensures done { FrameTaken body.now out.new self.old result self.new }
+        ensures unwritten { result ≢ 0 → out.new ≡ out.old }
     {
         if body.len() > u32::MAX as usize {
             return TOO_LONG;
         }
         match frame_in(body) {
             Frame::BadSize { .. } => BAD_SIZE,
-            Frame::Message(message) => tell_verdict(&self.step(&message), told),
+            Frame::Message(message) => write_verdict(&self.step(&message), out),
         }
     }
 }
 
 impl Thing {
-    fn take_frame(&mut self, body: &[u8], told: &mut VerdictInfo) -> u32
-        ensures done { TakesFrame body.now told.new self.old.kind result self.new.kind }
-        ensures unwritten { result ≢ 0 → told.new ≡ told.old }
+    fn take_frame(&mut self, body: &[u8], out: &mut VerdictInfo) -> u32
+        ensures done { TakesFrame body.now out.new self.old.kind result self.new.kind }
+        ensures unwritten { result ≢ 0 → out.new ≡ out.old }
     {
         match &mut self.kind {
             Kind::Root(_) | Kind::Check(_) => WRONG_HANDLE,
-            Kind::Session(session) => session.take_frame(body, told),
+            Kind::Session(session) => session.take_frame(body, out),
         }
     }
 }
@@ -49,16 +49,16 @@ pub extern "C" fn btcheck_session_frame(
     alloc: Global,
     handle: &mut Handle,
     body: &[u8],
-    told: &mut VerdictInfo,
+    out: &mut VerdictInfo,
 ) -> u32
-    ensures done { Through (TakesFrame body.now told.new) handle.old.slot.held result
+    ensures done { Through (TakesFrame body.now out.new) handle.old.slot.held result
         handle.new.slot.held }
-    ensures unwritten { result ≢ 0 → told.new ≡ told.old }
+    ensures unwritten { result ≢ 0 → out.new ≡ out.old }
 {
     let Some(mut thing) = handle.take(alloc) else {
         return WRONG_HANDLE;
     };
-    let status = thing.take_frame(body, told);
+    let status = thing.take_frame(body, out);
     handle.put(thing);
     status
 }

@@ -1,13 +1,14 @@
 //! The calls on a session: opening it, and taking hashes and blocks.
 
 ghost use Rattle.std.specs.Prelude.{◌≡◌, ◌≢◌, None};
-ghost use Rattle.btcheck_c.specs.SessionCalls.{TakesHashes, TakesBlock, OpensAs, SessionOpened, Counted, TellsIfMarked};
+ghost use Rattle.btcheck_c.specs.SessionCalls.{TakesHashes, TakesBlock, OpensAs, SessionOpened, Counted, AnswersIfMarked};
 ghost use Rattle.btcheck_c.specs.Holds.{Fills, Through};
 
 use crate::handle::Handle;
 use crate::opened::Opened;
 use crate::status::{
-    DONE, NO_MEMORY, NO_SUCH, TORRENT, WRONG_HANDLE, tell_block, tell_hashes, tell_if,
+    DONE, NO_MEMORY, NO_SUCH, TORRENT, WRONG_HANDLE, status_of_answer, status_of_block,
+    status_of_hashes,
 };
 use crate::thing::{Kind, Thing};
 use opening::Torrent;
@@ -32,13 +33,13 @@ impl Thing {
     }
 
     fn is_marked(&mut self, tree: usize, block: u64) -> u32
-        ensures { TellsIfMarked tree block self.old.kind result self.new.kind }
+        ensures { AnswersIfMarked tree block self.old.kind result self.new.kind }
     {
         match &mut self.kind {
             Kind::Root(_) | Kind::Check(_) => WRONG_HANDLE,
             Kind::Session(session) => {
                 if session.has_block(tree, block) {
-                    tell_if(session.is_marked(tree, block))
+                    status_of_answer(session.is_marked(tree, block))
                 } else {
                     NO_SUCH
                 }
@@ -53,7 +54,7 @@ impl Thing {
     {
         match &mut self.kind {
             Kind::Root(_) | Kind::Check(_) => WRONG_HANDLE,
-            Kind::Session(session) => tell_hashes(session.take_hashes(ask, hashes), places),
+            Kind::Session(session) => status_of_hashes(session.take_hashes(ask, hashes), places),
         }
     }
 
@@ -72,7 +73,7 @@ impl Thing {
         match &mut self.kind {
             Kind::Root(_) | Kind::Check(_) => WRONG_HANDLE,
             Kind::Session(session) => {
-                tell_block(session.take_block(index, begin, bytes), file, block)
+                status_of_block(session.take_block(index, begin, bytes), file, block)
             }
         }
     }
@@ -215,7 +216,7 @@ pub extern "C" fn btcheck_session_is_marked(
     tree: usize,
     block: u64,
 ) -> u32
-    ensures { Through (TellsIfMarked tree block) handle.old.slot.held result
+    ensures { Through (AnswersIfMarked tree block) handle.old.slot.held result
         handle.new.slot.held }
 {
     let Some(mut thing) = handle.take(alloc) else {

@@ -2,7 +2,7 @@
 
 ghost use Rattle.std.specs.Prelude.{◌≡◌, ◌≢◌, ◌+◌};
 ghost use Rattle.partial_tree.specs.Names.{hash_refusal_number, block_refusal_number};
-ghost use Rattle.btcheck_c.specs.Statuses.{HashesTold, BlockTold, ToldIf};
+ghost use Rattle.btcheck_c.specs.Statuses.{HasHashes, HasBlock, IsAnswer};
 
 use partial_tree::{BlockRefusal, HashRefusal};
 
@@ -24,7 +24,7 @@ pub const NO_ROOT: u32 = 4;
 /// The torrent has no such tree, block or file.
 pub const NO_SUCH: u32 = 5;
 
-/// There is nothing to tell: the leaf is known, or the ask cannot be answered.
+/// There is nothing to write: the leaf is known, or the ask cannot be answered.
 pub const NOTHING: u32 = 6;
 
 /// The caller's room is too small.
@@ -49,8 +49,8 @@ const HASHES: u32 = 200;
 const BLOCK: u32 = 300;
 
 /// The status of a hashes message, and how many places are newly known.
-pub fn tell_hashes(answer: Result<u64, HashRefusal>, places: &mut u64) -> u32
-    ensures done { HashesTold answer result places.new }
+pub fn status_of_hashes(answer: Result<u64, HashRefusal>, places: &mut u64) -> u32
+    ensures done { HasHashes answer result places.new }
     ensures unwritten { result ≢ 0 → places.new ≡ places.old }
 {
     match answer {
@@ -63,12 +63,12 @@ pub fn tell_hashes(answer: Result<u64, HashRefusal>, places: &mut u64) -> u32
 }
 
 /// The status of a block, and which it is.
-pub fn tell_block(
+pub fn status_of_block(
     answer: Result<(usize, u64), BlockRefusal>,
     file: &mut u64,
     block: &mut u64,
 ) -> u32
-    ensures done { BlockTold answer result file.new block.new }
+    ensures done { HasBlock answer result file.new block.new }
     ensures unwritten { result ≢ 0 → (file.new ≡ file.old) × (block.new ≡ block.old) }
 {
     match answer {
@@ -82,8 +82,8 @@ pub fn tell_block(
 }
 
 /// The status of a question: whether it is so.
-pub fn tell_if(holds: bool) -> u32
-    ensures { ToldIf holds result }
+pub fn status_of_answer(holds: bool) -> u32
+    ensures { IsAnswer holds result }
 {
     if holds { DONE } else { NOTHING }
 }

@@ -1,14 +1,14 @@
 //! What a session makes of one message, as C sees it.
 
 ghost use Rattle.std.specs.Prelude.{◌≡◌, ◌≢◌};
-ghost use Rattle.btcheck_c.specs.Frames.{VerdictTold};
+ghost use Rattle.btcheck_c.specs.Frames.{HasVerdict};
 
 use crate::blocks_info::{BlocksInfo, lay_out_blocks};
 use crate::status::{DONE, refused_block, refused_hashes};
 use session::Verdict;
 
-/// What was made of a message: what it was, and what is told of that kind alone, whose other fields
-/// stay as they are.
+/// What was made of a message: its kind, and the fields of that kind. The other fields stay as they
+/// are.
 #[repr(C)]
 #[derive(Clone, Copy)]
 pub struct VerdictInfo {
@@ -37,31 +37,31 @@ const NOTED: u32 = 8;
 const SENT: u32 = 9;
 
 /// The status of a message, and what was made of it.
-pub(crate) fn tell_verdict(verdict: &Verdict, told: &mut VerdictInfo) -> u32
-    ensures done { VerdictTold verdict.now result told.new }
-    ensures unwritten { result ≢ 0 → told.new ≡ told.old }
+pub(crate) fn write_verdict(verdict: &Verdict, out: &mut VerdictInfo) -> u32
+    ensures done { HasVerdict verdict.now result out.new }
+    ensures unwritten { result ≢ 0 → out.new ≡ out.old }
 {
     match verdict {
         Verdict::HashRefused(refusal) => return refused_hashes(*refusal),
         Verdict::BlockRefused(refusal) => return refused_block(*refusal),
         Verdict::Stored(count) => {
-            told.kind = STORED;
-            told.places = *count;
+            out.kind = STORED;
+            out.places = *count;
         }
         Verdict::Blocks(blocks) => {
-            told.kind = BLOCKS;
-            told.blocks = lay_out_blocks(blocks);
+            out.kind = BLOCKS;
+            out.blocks = lay_out_blocks(blocks);
         }
         Verdict::Skipped(id) => {
-            told.kind = SKIPPED;
-            told.id = u32::from(*id);
+            out.kind = SKIPPED;
+            out.id = u32::from(*id);
         }
-        Verdict::Answered => told.kind = ANSWERED,
-        Verdict::Rejected => told.kind = REJECTED,
-        Verdict::RejectNoted => told.kind = REJECT_NOTED,
-        Verdict::KeepAlive => told.kind = KEEP_ALIVE,
-        Verdict::Noted => told.kind = NOTED,
-        Verdict::Sent => told.kind = SENT,
+        Verdict::Answered => out.kind = ANSWERED,
+        Verdict::Rejected => out.kind = REJECTED,
+        Verdict::RejectNoted => out.kind = REJECT_NOTED,
+        Verdict::KeepAlive => out.kind = KEEP_ALIVE,
+        Verdict::Noted => out.kind = NOTED,
+        Verdict::Sent => out.kind = SENT,
     }
     DONE
 }

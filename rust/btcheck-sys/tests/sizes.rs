@@ -13,7 +13,7 @@ fn sizes_are_those_of_c() {
         size_of::<btcheck_verdict>(),
     ];
     if let Ok(wanted) = std::env::var("BTCHECK_SIZES") {
-        let told: Vec<_> = sizes.iter().map(|size| size.to_string()).collect();
-        assert_eq!(told.join(" "), wanted);
+        let texts: Vec<_> = sizes.iter().map(|size| size.to_string()).collect();
+        assert_eq!(texts.join(" "), wanted);
     }
 }

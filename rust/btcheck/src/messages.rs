@@ -10,7 +10,7 @@ pub struct Blocks {
     /// Its block that comes first.
     pub first: u64,
     /// Of each block whether it is verified, or why not.
-    pub told: Vec<Result<(), Error>>,
+    pub results: Vec<Result<(), Error>>,
 }
 
 /// What a message was, and what was made of it.
@@ -35,11 +35,11 @@ pub enum Verdict {
 
 impl Blocks {
     fn of(blocks: &sys::btcheck_blocks) -> Self {
-        let told = blocks.statuses.iter().take(blocks.count as usize);
+        let results = blocks.statuses.iter().take(blocks.count as usize);
         Blocks {
             file: blocks.file,
             first: blocks.first,
-            told: told.map(|&it| Error::of(it)).collect(),
+            results: results.map(|&it| Error::of(it)).collect(),
         }
     }
 }

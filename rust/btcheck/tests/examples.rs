@@ -213,7 +213,7 @@ fn messages_are_taken_as_they_come() {
     let unproved = Blocks {
         file: 0,
         first: 0,
-        told: vec![Err(Error::Block(3)); 2],
+        results: vec![Err(Error::Block(3)); 2],
     };
     assert_eq!(
         session.frame(&piece(&content, 0)),
@@ -232,7 +232,7 @@ fn messages_are_taken_as_they_come() {
     let half = Blocks {
         file: 0,
         first: 0,
-        told: vec![Err(Error::Block(4)), Ok(())],
+        results: vec![Err(Error::Block(4)), Ok(())],
     };
     assert_eq!(
         session.take_blocks(0, 0, &piece(&content, 1)[9..]),
@@ -241,7 +241,7 @@ fn messages_are_taken_as_they_come() {
     let whole = Blocks {
         file: 0,
         first: 0,
-        told: vec![Ok(()), Ok(())],
+        results: vec![Ok(()), Ok(())],
     };
     assert_eq!(
         session.frame(&piece(&content, 0)),

@@ -1,13 +1,13 @@
 use Rattle.std.proofs.Common.{subst}
 use Rattle.btcheck_c.specs.Holds.{Through}
-use Rattle.btcheck_c.specs.AskCalls.{TellsIfAnswered}
+use Rattle.btcheck_c.specs.AskCalls.{AnswersIfAnswered}
 use Rattle.btcheck_c.proofs.Throughs.{through}
 use Rattle.btcheck_c.proofs.ask_calls.btcheck_session_can_answer.Goals as goal
 
 pub returns : goal.returns
 returns c =
     let held = c.args.handle.now.slot.held in let held' = c.put.new.self.slot.held in let status = c.can_answer-status.result in
-    subst (λ ask. Through (TellsIfAnswered ask) held status held') c.read_ask.ensures
-    (through (TellsIfAnswered c.read_ask.result) held held'
+    subst (λ ask. Through (AnswersIfAnswered ask) held status held') c.read_ask.ensures
+    (through (AnswersIfAnswered c.read_ask.result) held held'
     c.in-Some.thing.value c.deref_mut.result.now c.can_answer-status.new.self status
     c.in-Some.ensures.taken c.put.ensures c.deref_mut.ensures.value c.can_answer-status.ensures)

@@ -2,7 +2,7 @@ use Rattle.std.proofs.Common.{refl, sym, subst}
 use Rattle.btcheck_c.specs.CheckCalls.{CheckKept}
 use Rattle.btcheck_c.specs.Holds.{IsFilled}
 use Rattle.btcheck_c.specs.declared.thing.Kind.TheVariants as kind
-use Rattle.btcheck_c.proofs.Starting.{start_none, start_told}
+use Rattle.btcheck_c.proofs.Starting.{start_none, start_done}
 use Rattle.btcheck_c.proofs.Throughs.{holds_nothing}
 use Rattle.btcheck_c.proofs.check_calls.btcheck_check_new.Goals as goal
 
@@ -15,7 +15,7 @@ returns-in_default c =
 pub returns-in-Err : goal.returns-in-Err
 returns-in-Err c =
     let free = holds_nothing c.args.handle.now.slot.held c.is_full.result c.is_full.ensures c.if-is_full.false in
-    start_told c.args.number c.args.session.now.slot.held c.args.handle.now.slot.held c.args.handle.now.slot.held c.put.new.self.slot.held
+    start_done c.args.number c.args.session.now.slot.held c.args.handle.now.slot.held c.args.handle.now.slot.held c.put.new.self.slot.held
     c.in-Some.thing.value c.deref_mut.result.now c.start_check-started.new.self c.start_check-started.result c.in-Err.status free
     c.in-Some.ensures.taken c.put.ensures c.deref_mut.ensures.value c.start_check-started.ensures
     (subst (λ made. CheckKept made c.in-Err.status c.args.handle.now.slot.held) (sym c.in-Err.is) (refl, free))
@@ -23,7 +23,7 @@ returns-in-Err c =
 pub returns-in-Ok : goal.returns-in-Ok
 returns-in-Ok c =
     let free = holds_nothing c.args.handle.now.slot.held c.is_full.result c.is_full.ensures c.if-is_full.false in
-    start_told c.args.number c.args.session.now.slot.held c.args.handle.now.slot.held c.fill.new.self.slot.held c.put.new.self.slot.held
+    start_done c.args.number c.args.session.now.slot.held c.args.handle.now.slot.held c.fill.new.self.slot.held c.put.new.self.slot.held
     c.in-Some.thing.value c.deref_mut.result.now c.start_check-started.new.self c.start_check-started.result c.fill.result free
     c.in-Some.ensures.taken c.put.ensures c.deref_mut.ensures.value c.start_check-started.ensures
     (subst (λ made. CheckKept made c.fill.result c.fill.new.self.slot.held) (sym c.in-Ok.is)

@@ -3,8 +3,8 @@ use Rattle.opening.specs.Seen.{file_entry}
 use Rattle.btcheck_c.proofs.Entries.{file_at, tree_inside}
 use Rattle.btcheck_c.proofs.file_info.file_info.Goals as goal
 
-pub told_tree-tree-requires : goal.told_tree-tree-requires
-told_tree-tree-requires c =
+pub tree_and_root-tree-requires : goal.tree_and_root-tree-requires
+tree_and_root-tree-requires c =
     tree_inside c.args.torrent.now (file_entry c.in-Some.file.now) (c.sound.ensures.files c.args.number (file_entry c.in-Some.file.now)
     (file_at c.args.torrent.now c.files.result.now c.args.number c.in-Some.file.now c.files.ensures c.in-Some.ensures.lookup.3.0
     (c.in-Some.ensures.lookup.3.1 c.in-Some.file.now)))
@@ -16,5 +16,5 @@ returns-in-Some c = record {
       (c.in-Some.ensures.lookup.3.1 c.in-Some.file.now);
   length_is = refl;
   first_is = refl;
-  tree_is = c.told_tree-tree.ensures;
+  tree_is = c.tree_and_root-tree.ensures;
 }

@@ -7,12 +7,12 @@ use Rattle.btcheck_c.proofs.thing.Thing.finish_file.Goals as goal
 pub returns-else-left-gt0-clause-done : goal.returns-else-left-gt0-clause-done
 returns-else-left-gt0-clause-done c =
     let none : bytes_left c.in-Check.check ≡ 0 = omega (arith, c.left.ensures, c.if-left-gt0.false) in
-    subst (λ k. EndsCheck c.tell_piece.new.piece k c.tell_piece.result (kind.Check c.finish.new.self)) (sym c.in-Check.is)
+    subst (λ k. EndsCheck c.write_piece.new.piece k c.write_piece.result (kind.Check c.finish.new.self)) (sym c.in-Check.is)
     (inl (
       none,
       (
         c.finish.result,
-        c.tell_piece.ensures.done,
+        c.write_piece.ensures.done,
         (c.finish.ensures.verdict, (c.finish.new.self, refl, c.finish.ensures.begins)),
       ),
     ))

@@ -5,6 +5,6 @@ use Rattle.btcheck_c.proofs.thing.Thing.note.Goals as goal
 
 pub returns-in-Session : goal.returns-in-Session
 returns-in-Session c =
-    subst (λ k. Notes c.args.ask.now k c.tell_note.result
+    subst (λ k. Notes c.args.ask.now k c.status_of_note.result
     (kind.Session c.note.new.self)) (sym c.in-Session.is)
-    (c.note.result, c.tell_note.ensures, (c.note.new.self, refl, c.note.ensures))
+    (c.note.result, c.status_of_note.ensures, (c.note.new.self, refl, c.note.ensures))

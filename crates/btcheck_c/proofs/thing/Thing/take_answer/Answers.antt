@@ -5,6 +5,6 @@ use Rattle.btcheck_c.proofs.thing.Thing.take_answer.Goals as goal
 
 pub returns-in-Session-clause-done : goal.returns-in-Session-clause-done
 returns-in-Session-clause-done c =
-    subst (λ k. TakesAnswer c.args.ask.now c.args.hashes.now c.tell_hashes.new.places k c.tell_hashes.result
+    subst (λ k. TakesAnswer c.args.ask.now c.args.hashes.now c.status_of_hashes.new.places k c.status_of_hashes.result
     (kind.Session c.take_answer.new.self)) (sym c.in-Session.is)
-    (c.take_answer.result, c.tell_hashes.ensures.done, (c.take_answer.new.self, refl, c.take_answer.ensures))
+    (c.take_answer.result, c.status_of_hashes.ensures.done, (c.take_answer.new.self, refl, c.take_answer.ensures))

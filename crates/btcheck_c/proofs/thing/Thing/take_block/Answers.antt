@@ -5,6 +5,6 @@ use Rattle.btcheck_c.proofs.thing.Thing.take_block.Goals as goal
 
 pub returns-in-Session-clause-done : goal.returns-in-Session-clause-done
 returns-in-Session-clause-done c =
-    subst (λ k. TakesBlock c.args.index c.args.begin c.args.bytes.now c.tell_block.new.file c.tell_block.new.block k c.tell_block.result
+    subst (λ k. TakesBlock c.args.index c.args.begin c.args.bytes.now c.status_of_block.new.file c.status_of_block.new.block k c.status_of_block.result
     (kind.Session c.take_block.new.self)) (sym c.in-Session.is)
-    (c.take_block.result, c.tell_block.ensures.done, (c.take_block.new.self, refl, c.take_block.ensures))
+    (c.take_block.result, c.status_of_block.ensures.done, (c.take_block.new.self, refl, c.take_block.ensures))

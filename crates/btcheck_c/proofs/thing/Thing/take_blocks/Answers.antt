@@ -5,6 +5,6 @@ use Rattle.btcheck_c.proofs.thing.Thing.take_blocks.Goals as goal
 
 pub returns-in-Session-clause-done : goal.returns-in-Session-clause-done
 returns-in-Session-clause-done c =
-    subst (λ k. TakesBlocks c.args.index c.args.begin c.args.bytes.now c.tell_blocks.new.told k c.tell_blocks.result
+    subst (λ k. TakesBlocks c.args.index c.args.begin c.args.bytes.now c.write_blocks.new.out k c.write_blocks.result
     (kind.Session c.take_blocks.new.self)) (sym c.in-Session.is)
-    (c.take_blocks.result, c.tell_blocks.ensures.done, (c.take_blocks.new.self, refl, c.take_blocks.ensures))
+    (c.take_blocks.result, c.write_blocks.ensures.done, (c.take_blocks.new.self, refl, c.take_blocks.ensures))

@@ -5,6 +5,6 @@ use Rattle.btcheck_c.proofs.thing.Thing.take_hashes.Goals as goal
 
 pub returns-in-Session-clause-done : goal.returns-in-Session-clause-done
 returns-in-Session-clause-done c =
-    subst (λ k. TakesHashes c.args.ask.now c.args.hashes.now c.tell_hashes.new.places k c.tell_hashes.result
+    subst (λ k. TakesHashes c.args.ask.now c.args.hashes.now c.status_of_hashes.new.places k c.status_of_hashes.result
     (kind.Session c.take_hashes.new.self)) (sym c.in-Session.is)
-    (c.take_hashes.result, c.tell_hashes.ensures.done, (c.take_hashes.new.self, refl, c.take_hashes.ensures))
+    (c.take_hashes.result, c.status_of_hashes.ensures.done, (c.take_hashes.new.self, refl, c.take_hashes.ensures))

@@ -1,15 +1,15 @@
 use Rattle.std.proofs.Common.{ap, ◌∙◌, subst, inl}
 use Rattle.opening.specs.Seen.{file_entry}
-use Rattle.btcheck_c.specs.Files.{path_text, PathTold}
+use Rattle.btcheck_c.specs.Files.{path_text, HasPath}
 use Rattle.btcheck_c.proofs.Entries.{file_at}
 use Rattle.btcheck_c.proofs.Joining.{texts}
-use Rattle.btcheck_c.proofs.file_calls.tell_path_of.Goals as goal
+use Rattle.btcheck_c.proofs.file_calls.write_path_of.Goals as goal
 
 pub returns-in-Some-clause-done : goal.returns-in-Some-clause-done
 returns-in-Some-clause-done c = inl (
   file_entry c.in-Some.file.now,
   file_at c.args.torrent.now c.files.result.now c.args.number c.in-Some.file.now c.files.ensures c.in-Some.ensures.lookup.3.0
       (c.in-Some.ensures.lookup.3.1 c.in-Some.file.now),
-  subst (λ p. PathTold (path_text p) c.tell_path.result c.args.room.now c.tell_path.new.room c.tell_path.new.length)
-      (ap texts c.deref.ensures.0 ∙ c.parts.ensures) c.tell_path.ensures.done,
+  subst (λ p. HasPath (path_text p) c.write_path.result c.args.room.now c.write_path.new.room c.write_path.new.length)
+      (ap texts c.deref.ensures.0 ∙ c.parts.ensures) c.write_path.ensures.done,
 )
