@@ -2,8 +2,8 @@
 #![tactic(auto)]
 
 use command_line::{ExplainFault, action, explain};
-use commands::{System, perform, print_fault};
 use printing::Fault;
+use real_files::{System, perform, print_fault};
 use std::process::ExitCode;
 use std::{env, io};
 

@@ -1,5 +1,5 @@
 use Rattle.std.proofs.Common.{◌≡◌, map, take, string_bytes}
-use Rattle.commands.proofs.folder.path_in.Given as goal
+use Rattle.real_files.proofs.folder.path_in.Given as goal
 
 -- the components so far
 abbrev pub invariant-parts : goal.invariant-parts

@@ -1,6 +1,6 @@
 use Rattle.std.proofs.Common.{◌+◌, ◌%◌, ◌^◌, ◌<◌, ◌∙◌, ap, sym, arith}
 use Rattle.folders.proofs.Counts.{more_is}
-use Rattle.commands.proofs.folder.FolderShelf.close.Goals as goal
+use Rattle.real_files.proofs.folder.FolderShelf.close.Goals as goal
 
 pub returns-clause-counts : goal.returns-clause-counts
 returns-clause-counts c =

@@ -1,12 +1,10 @@
 //! What each command does, on real files.
 ghost use Rattle.std.specs.Prelude.{◌≢◌, IfErr};
 
-use crate::bad_check::check_bad;
 use crate::excluded::refuse_globs;
 use crate::folder::Folder;
 use crate::join_faults::refuse_join;
 use crate::noted::{Noted, Output};
-use crate::outcomes;
 use crate::output::create_output;
 use crate::report_files::read_reports;
 use crate::streams::hold_closed_streams;
@@ -14,6 +12,8 @@ use crate::system::{Cause, System};
 use crate::torrent_file::read_torrent;
 use benc::{FromRead, FromWrite, Sink, Source};
 use command_line::command::{Action, Check, CheckPart, Convert, Create, Join, Replay};
+use commands::bad_check::check_bad;
+use commands::outcomes;
 use drafts::Draft;
 use excluding::{Excluding, regex_of};
 use filetree::Refusal;

@@ -1,6 +1,6 @@
 use Rattle.std.proofs.Common.{◌≡◌, map, take, string_bytes}
-use Rattle.commands.specs.SystemPaths.{system_path_below}
-use Rattle.commands.proofs.folder.Folder.system_path.Given as goal
+use Rattle.real_files.specs.SystemPaths.{system_path_below}
+use Rattle.real_files.proofs.folder.Folder.system_path.Given as goal
 
 -- the components so far stand behind the folder
 abbrev pub invariant-parts : goal.invariant-parts

@@ -1,6 +1,6 @@
 //! A folder of the file system as a shelf.
 ghost use Rattle.std.specs.Prelude.{◌≡◌, [], ◌∷◌, ◌++◌, None, IfOk, ⊤, map, string_bytes};
-ghost use Rattle.commands.specs.SystemPaths.{system_path_below};
+ghost use Rattle.real_files.specs.SystemPaths.{system_path_below};
 ghost use Rattle.benc.specs.Device.{one_more};
 
 use crate::identity::Identity;

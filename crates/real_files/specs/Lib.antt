@@ -1,0 +1,2 @@
+-- What the program makes of the file system.
+pub mod SystemPaths
