@@ -8,7 +8,7 @@ pub(crate) const MAX_BODY: u32 = 263_217;
 /// The id, the index and the begin of a block of a piece, in bytes.
 pub(crate) const MIN_PIECE: u32 = 9;
 
-/// The size of a hash request, which is its id and its five fields, in bytes (BEP 52, "new messages").
+/// The size of a hash request in bytes: its id and its five fields (BEP 52, "new messages").
 pub const ASK_SIZE: u32 = 49;
 
 /// One hash, in bytes.
