@@ -5,25 +5,19 @@ ghost use Rattle.conversions.specs.Steps.{BeginsHashes, ConvertsHead, IsHeadOf, 
 
 use crate::outgoing::{Outgoing, put};
 use benc::{Sink, WriteFault};
-use wire::{Direction, is_hashes, number_at};
+use wire::{ASK_SIZE, Direction, REQUEST_ID, is_hashes, number_at};
 
 // How many bytes the length of a frame has.
 const LENGTH: usize = 4;
-
-// The id of a hash request.
-const REQUEST_ID: u8 = 21;
-
-// The id and the five fields of a hash request, in bytes.
-const REQUEST_SIZE: u32 = 49;
 
 // The byte of the direction of a frame that went out.
 const WENT_OUT: u8 = 1;
 
 // What stands before the fields of a hash request that went out: a direction, a length and an id.
-const REQUEST: [u8; 6] = [WENT_OUT, 0, 0, 0, REQUEST_SIZE as u8, REQUEST_ID];
+const REQUEST: [u8; 6] = [WENT_OUT, 0, 0, 0, ASK_SIZE as u8, REQUEST_ID];
 
 /// How many bytes a head has at most: a length, and the size of a hash request.
-pub(crate) const LONGEST_HEAD: usize = LENGTH + REQUEST_SIZE as usize;
+pub(crate) const LONGEST_HEAD: usize = LENGTH + ASK_SIZE as usize;
 
 /// How many bytes the head of the frame has that begins here, if they are all there.
 pub(crate) fn head_len(bytes: &[u8]) -> Option<usize>
@@ -34,7 +28,7 @@ pub(crate) fn head_len(bytes: &[u8]) -> Option<usize>
     if bytes.len() < 4 {
         return None;
     }
-    let size = LENGTH + number_at(bytes).min(REQUEST_SIZE) as usize;
+    let size = LENGTH + number_at(bytes).min(ASK_SIZE) as usize;
     if bytes.len() < size { None } else { Some(size) }
 }
 

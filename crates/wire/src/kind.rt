@@ -8,15 +8,16 @@ pub(crate) const MAX_BODY: u32 = 263_217;
 /// The id, the index and the begin of a block of a piece, in bytes.
 pub(crate) const MIN_PIECE: u32 = 9;
 
-/// The id and the five fields of a hash request, in bytes.
-pub(crate) const ASK_SIZE: u32 = 49;
+/// The size of a hash request in bytes: its id and its five fields (BEP 52, "new messages").
+pub const ASK_SIZE: u32 = 49;
 
 /// One hash, in bytes.
 pub(crate) const HASH_SIZE: u32 = 32;
 
 const PIECE_ID: u8 = 7;
 
-const REQUEST_ID: u8 = 21;
+/// The id of a hash request (BEP 52, "hash request").
+pub const REQUEST_ID: u8 = 21;
 
 const HASHES_ID: u8 = 22;
 

@@ -19,6 +19,7 @@ pub use benc::WriteFault;
 pub use fault::FrameFault;
 pub use form::{Direction, HEADER};
 pub use frame::{Frame, frame_in, is_hashes};
+pub use kind::{ASK_SIZE, REQUEST_ID};
 pub use message::{Ask, Hash, Message};
 pub use parse::number_at;
 pub use reader::FrameReader;
