@@ -1,4 +1,5 @@
-"""A cluster of Slurm with one machine, this one, in a folder of its own: its daemons, its key and its state."""
+"""A cluster of Slurm with one machine, this one, in a folder of its own: its daemons, its key and its state. It runs 16
+tasks at once, however many processors there are."""
 import getpass
 import os
 import shutil
@@ -25,13 +26,14 @@ JobAcctGatherType=jobacct_gather/none
 SelectType=select/cons_tres
 SelectTypeParameters=CR_CPU
 SchedulerParameters=sched_min_interval=0
+SlurmdParameters=config_overrides
 SlurmctldPort={ports[0]}
 SlurmdPort={ports[1]}
 StateSaveLocation={place}/state
 SlurmdSpoolDir={place}/spool
 SlurmctldPidFile={place}/slurmctld.pid
 SlurmdPidFile={place}/slurmd.pid
-NodeName={host} NodeAddr=127.0.0.1 CPUs={processors} RealMemory=2000 State=UNKNOWN
+NodeName={host} NodeAddr=127.0.0.1 CPUs=16 RealMemory=2000 State=UNKNOWN
 PartitionName=main Nodes=ALL Default=YES MaxTime=INFINITE State=UP
 """
 
@@ -69,7 +71,7 @@ class Cluster:
             key.write(os.urandom(1024))
         self.host = socket.gethostname().split(".")[0]
         text = CONFIGURATION.format(host=self.host, user=getpass.getuser(), place=self.place,
-                                    ports=free_ports(), processors=os.cpu_count())
+                                    ports=free_ports())
         with open(f"{self.place}/slurm.conf", "w", encoding="utf-8") as configuration:
             configuration.write(text)
         self.environment = {"SLURM_CONF": f"{self.place}/slurm.conf", "PATH": PATH}
