@@ -1,8 +1,8 @@
 -- A row of a tree that grows, place by place.
-use Rattle.std.proofs.Common.{◌≡◌, ◌≢◌, ◌⊎◌, ℕ, ◌+◌, ◌*◌, ◌<◌, ◌≤◌, Option, Some, None, inl, inr, refl, sym, ap, ap₂, ◌∙◌, subst, arith}
+use Rattle.std.proofs.Common.{◌≡◌, ◌≢◌, ◌⊎◌, ℕ, ◌+◌, ◌-◌, ◌*◌, ◌<◌, ◌≤◌, List, [], Option, Some, None, inl, inr, refl, sym, ap, ap₂, ◌∙◌, subst, arith, slice_index_or}
 use Rattle.std.specs.FinMap.{insert, len}
 use Rattle.std.specs.Option.{IsSome}
-use Rattle.std.proofs.lemmas.Bool.{cases_eq}
+use Rattle.std.proofs.lemmas.Bool.{cases_eq, cases_lt}
 use Rattle.std.proofs.lemmas.Option.{same_Some}
 use Rattle.node_maps.specs.Digest.{Hash, join}
 use Rattle.node_maps.specs.Known.{Known, look}
@@ -10,7 +10,7 @@ use Rattle.node_maps.specs.Runs.{AreKnown}
 use Rattle.node_maps.proofs.Known.{look-insert_same, look-insert_other}
 use Rattle.partial_tree.specs.declared.message.found.Claim.{Claim}
 use Rattle.partial_tree.specs.Claims.{join_both}
-use Rattle.partial_tree.specs.Grown.{AddsRow, parents_of}
+use Rattle.partial_tree.specs.Grown.{AddsRow, HasRow, parents_of}
 use Rattle.partial_tree.proofs.Noting.{len-new}
 
 -- a place that was not known is one place more
@@ -66,3 +66,35 @@ taken-out o v x is e = same_Some x v (sym is ∙ e)
 pub parent-of_two : (old : Known) (layer i : ℕ) (left right : Hash) → look old layer (2 * i) ≡ Some left → look old layer (2 * i + 1) ≡ Some right
     → parents_of old layer i ≡ Some (join left right)
 parent-of_two old layer i left right p q = ap₂ join_both p q
+
+-- the children of a row are known while the layer above grows
+pub children-known_row : (old mid : Known) (layer n from count : ℕ) (f : ℕ → Option Hash) → AreKnown (look old layer) 0 count
+    → AddsRow old (layer + 1) 0 n f mid
+    → from + 16 ≤ count
+    → AreKnown (look mid layer) from 16
+children-known_row old mid layer n from count f known adds inside = λ j low.
+    let child = child-known old mid layer n count (from + j) f known adds (omega arith) in
+    (child.0, child.1)
+
+-- the parents of two rows of eight, of which the second follows the first
+pub parents-of_rows : (K : Known) (layer from : ℕ) (left right above : List Hash)
+    → HasRow (look K layer) (2 * from) left
+    → HasRow (look K layer) (2 * from + 8) right
+    → ((j : ℕ) → j < 4 → slice_index_or above j [] ≡ join (slice_index_or left (2 * j) []) (slice_index_or left (2 * j + 1) []))
+    → ((j : ℕ) → j < 4 → slice_index_or above (4 + j) [] ≡ join (slice_index_or right (2 * j) []) (slice_index_or right (2 * j + 1) []))
+    → HasRow (parents_of K layer) from above
+parents-of_rows K layer from left right above first second one two = λ j low. half j low (cases_lt j 4)
+  where
+    half : (j : ℕ) → j < 8 → (j < 4) ⊎ (4 ≤ j) → parents_of K layer (from + j) ≡ Some (slice_index_or above j [])
+    half j low (inl less) =
+        let even : 2 * (from + j) ≡ 2 * from + 2 * j = omega arith in
+        let odd : 2 * (from + j) + 1 ≡ 2 * from + (2 * j + 1) = omega arith in
+        parent-of_two K layer (from + j) _ _ (ap (look K layer) even ∙ first (2 * j) (omega arith)) (ap (look K layer) odd ∙ first (2 * j + 1) (omega arith))
+        ∙ ap Some (sym (one j less))
+    half j low (inr more) =
+        let even : 2 * (from + j) ≡ 2 * from + 8 + 2 * (j - 4) = omega arith in
+        let odd : 2 * (from + j) + 1 ≡ 2 * from + 8 + (2 * (j - 4) + 1) = omega arith in
+        let at : 4 + (j - 4) ≡ j = omega arith in
+        parent-of_two K layer (from + j) _ _ (ap (look K layer) even ∙ second (2 * (j - 4)) (omega arith))
+        (ap (look K layer) odd ∙ second (2 * (j - 4) + 1) (omega arith))
+        ∙ ap Some (sym (two (j - 4) (omega arith)) ∙ ap (λ k. slice_index_or above k []) at)

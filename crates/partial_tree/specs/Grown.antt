@@ -1,5 +1,5 @@
 -- A tree that grows from its leaves, the first one first: BEP 52, "pieces root".
-use Rattle.std.specs.Prelude.{◌≡◌, ◌≢◌, ◌⊎◌, ℕ, ◌+◌, ◌*◌, ◌<◌, ◌≤◌, List, Option, Some, None}
+use Rattle.std.specs.Prelude.{◌≡◌, ◌≢◌, ◌⊎◌, ℕ, ◌+◌, ◌*◌, ◌<◌, ◌≤◌, List, [], Option, Some, None, slice_index_or}
 use Rattle.std.specs.FinMap.{len}
 use Rattle.node_maps.specs.Digest.{Hash}
 use Rattle.node_maps.specs.Known.{Known, look}
@@ -44,6 +44,10 @@ pub record AddsRow (old : Known) (layer from to : ℕ) (f : ℕ → Option Hash)
 -- the join of each two siblings of a layer
 abbrev pub parents_of : Known → ℕ → ℕ → Option Hash
 parents_of K layer i = join_both (look K layer (2 * i)) (look K layer (2 * i + 1))
+
+-- f has these hashes at eight places, from one on
+abbrev pub HasRow : (ℕ → Option Hash) → ℕ → List Hash → Type 0
+HasRow f from hashes = (j : ℕ) → j < 8 → f (from + j) ≡ Some (slice_index_or hashes j [])
 
 -- J and K have one value at a place, if both have one
 abbrev pub AgreeAt : PartialTree → PartialTree → ℕ → ℕ → Type 0

@@ -8,7 +8,7 @@ mod filling;
 mod folding;
 mod found;
 mod pads;
-mod row;
+pub(crate) mod row;
 mod storing;
 mod taking;
 mod writing;

@@ -1,6 +1,6 @@
 //! The rows of a tree that grows: its leaves, the pads after them, and the parents above.
 
-ghost use Rattle.std.specs.Prelude.{◌≡◌, ℕ, suc, ◌+◌, ◌-◌, ◌*◌, ◌^◌, ◌<◌, ◌≤◌, Some, None, OnOk, OnErr};
+ghost use Rattle.std.specs.Prelude.{◌≡◌, ℕ, suc, ◌+◌, ◌-◌, ◌*◌, ◌^◌, ◌<◌, ◌≤◌, [], Some, None, OnOk, OnErr, slice_index_or};
 ghost use Rattle.std.specs.FinMap as finite;
 ghost use Rattle.hashtree.specs.Tree.{pad_leaf};
 ghost use Rattle.node_maps.specs.Digest.{IsHash};
@@ -8,9 +8,10 @@ ghost use Rattle.node_maps.specs.Known.{look};
 ghost use Rattle.node_maps.specs.Nodes.{KeepsMarks, with_node};
 ghost use Rattle.node_maps.specs.Places.{tree_height, IsTreePlace};
 ghost use Rattle.node_maps.specs.Runs.{AreKnown};
-ghost use Rattle.partial_tree.specs.Grown.{AddsRow, parents_of};
+ghost use Rattle.partial_tree.specs.Grown.{AddsRow, HasRow, parents_of};
 
 use crate::bytes::is_hash;
+use crate::message::row::{RowHashes, parents_of_rows};
 use hashtree::{Hash, NoMemory, parent, zero};
 use node_maps::NodeMap;
 
@@ -52,7 +53,8 @@ pub(crate) fn add_pads<N: NodeMap>(map: &mut N, from: u64, to: u64) -> Result<()
     Ok(())
 }
 
-/// Sets the parents of all nodes of a layer, of which there are twice `count`.
+/// Sets the parents of all nodes of a layer, of which there are twice `count`. Eight are computed
+/// side by side, as long as eight are left.
 pub(crate) fn add_parents<N: NodeMap>(map: &mut N, layer: u32, count: u64) -> Result<(), NoMemory>
     requires layer { layer < tree_height (N.seen map.old).length }
     requires low { tree_height (N.seen map.old).length ≤ 32 }
@@ -63,10 +65,61 @@ pub(crate) fn add_parents<N: NodeMap>(map: &mut N, layer: u32, count: u64) -> Re
     ensures added { OnOk result (AddsRow (N.seen map.old).known (layer + 1) 0 count
         (parents_of (N.seen map.old).known layer) (N.seen map.new).known) }
 {
-    'places: for index in 0..count {
+    let rows = count / 8;
+    'rows: for row in 0..rows {
+        let above = parents_above(map, layer, 8 * row);
+        add_row(map, layer + 1, 8 * row, &above)?;
+    }
+    'rest: for index in 8 * rows..count {
         let left = map.get(layer, 2 * index).unwrap();
         let right = map.get(layer, 2 * index + 1).unwrap();
         add(map, layer + 1, index, parent(&left, &right))?;
     }
     Ok(())
+}
+
+// Sets the hashes of eight places, from one on, that are not known.
+fn add_row<N: NodeMap>(
+    map: &mut N,
+    layer: u32,
+    from: u64,
+    hashes: &RowHashes,
+) -> Result<(), NoMemory>
+    requires low { tree_height (N.seen map.old).length ≤ 32 }
+    requires layer { layer ≤ tree_height (N.seen map.old).length }
+    requires inside { from + 8 ≤ 2 ^ (tree_height (N.seen map.old).length - layer) }
+    requires absent { (i : ℕ) → from ≤ i → look (N.seen map.old).known layer i ≡ None }
+    ensures stays { KeepsMarks (N.seen map.old) (N.seen map.new) }
+    ensures added { OnOk result (AddsRow (N.seen map.old).known layer from (from + 8)
+        (λ i. Some (slice_index_or hashes.now (i - from) [])) (N.seen map.new).known) }
+{
+    map.reserve(layer, from, 8)?;
+    'places: for j in 0..8 {
+        map.put(layer, from + j, hashes[j as usize]);
+    }
+    Ok(())
+}
+
+// The parents, from one on, of 16 known places of a layer: eight that are computed side by side.
+fn parents_above<N: NodeMap>(map: &N, layer: u32, from: u64) -> RowHashes
+    requires range { 2 * from + 16 < 2 ^ 64 }
+    requires known { AreKnown (look (N.seen map.now).known layer) (2 * from) 16 }
+    ensures { HasRow (parents_of (N.seen map.now).known layer) from result }
+{
+    let left = known_row(map, layer, 2 * from);
+    let right = known_row(map, layer, 2 * from + 8);
+    parents_of_rows(&left, &right)
+}
+
+// The hashes of eight known places of a layer, from one on.
+fn known_row<N: NodeMap>(map: &N, layer: u32, from: u64) -> RowHashes
+    requires range { from + 8 < 2 ^ 64 }
+    requires known { AreKnown (look (N.seen map.now).known layer) from 8 }
+    ensures { HasRow (look (N.seen map.now).known layer) from result }
+{
+    let mut hashes = [[0; 32]; 8];
+    'places: for j in 0..8 {
+        hashes[j as usize] = map.get(layer, from + j).unwrap();
+    }
+    hashes
 }
