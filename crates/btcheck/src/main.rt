@@ -2,8 +2,9 @@
 #![tactic(auto)]
 
 use command_line::{ExplainFault, action, explain};
+use performing::perform;
 use printing::Fault;
-use real_files::{System, perform, print_fault};
+use real_files::{System, print_fault};
 use std::process::ExitCode;
 use std::{env, io};
 

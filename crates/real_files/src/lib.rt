@@ -1,21 +1,21 @@
-//! Each command of `btcheck` on real files.
+//! What a command of `btcheck` works on: files and folders of the system, the standard streams, and
+//! the progress line.
 #![tactic(auto)]
 
-mod excluded;
 mod fault;
 mod folder;
 mod identity;
-mod join_faults;
 mod noted;
 mod offsets;
 mod output;
-mod performing;
-mod report_files;
+mod progress;
 mod streams;
 mod system;
-mod torrent_file;
 
 pub use fault::print_fault;
 pub use folder::Folder;
-pub use performing::perform;
-pub use system::System;
+pub use noted::{Noted, Output};
+pub use output::create_output;
+pub use progress::{Cleared, Counted, Progress};
+pub use streams::{Placeholders, hold_closed_streams};
+pub use system::{Cause, System};

@@ -3,7 +3,7 @@ use crate::system::{Cause, System};
 use std::io::{self, Printer, Read, Write};
 
 /// Standard output, whose failures are noted.
-pub(crate) type Output<'s> = Noted<'s, Printer<'s, HostRuntime>>;
+pub type Output<'s> = Noted<'s, Printer<'s, HostRuntime>>;
 
 /// A reader or writer whose failures are noted.
 #[derive(Drop)]
@@ -14,7 +14,7 @@ pub struct Noted<'s, T> {
 
 impl<'s, T> Noted<'s, T> {
     /// This reader or writer.
-    pub(crate) fn new(device: T, system: &'s System) -> Noted<'s, T> {
+    pub fn new(device: T, system: &'s System) -> Noted<'s, T> {
         Noted { device, system }
     }
 }

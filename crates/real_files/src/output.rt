@@ -6,7 +6,7 @@ use std::fs::File;
 
 /// Opens the file with this path and empties it, unless it is the same file as one of the inputs,
 /// by whatever paths: then it stays as it is, and the fault is that it cannot be written.
-pub(crate) fn create_output<'a>(
+pub fn create_output<'a>(
     system: &System,
     path: &'a str,
     inputs: &[&str],

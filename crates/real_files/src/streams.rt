@@ -6,7 +6,7 @@ use std::os::fd::AsFd;
 /// What stands in the places of standard streams that were closed when the program began. As long
 /// as it is there, no other file gets such a place, and so no file gets what is printed.
 #[derive(Drop)]
-pub(crate) struct Placeholders {
+pub struct Placeholders {
     _stdin: Option<File>,
     _stdout: Option<File>,
     _stderr: Option<File>,
@@ -14,7 +14,7 @@ pub(crate) struct Placeholders {
 
 /// Takes the places of the standard streams that are closed, in the order of their numbers, since
 /// the system gives a new file the least number that is free.
-pub(crate) fn hold_closed_streams(rt: &HostRuntime) -> Result<Placeholders, Fault<'static>> {
+pub fn hold_closed_streams(rt: &HostRuntime) -> Result<Placeholders, Fault<'static>> {
     Ok(Placeholders {
         _stdin: placeholder(rt, &rt.stdin())?,
         _stdout: placeholder(rt, &rt.stdout())?,

@@ -16,7 +16,7 @@ pub struct System {
 
 /// Why something could not be read or written.
 #[derive(Clone, Copy)]
-pub(crate) enum Cause {
+pub enum Cause {
     /// The system said this.
     Error(io::Error),
     /// It is to be written, and is read too.
@@ -33,27 +33,27 @@ impl System {
     }
 
     /// The system itself.
-    pub(crate) fn rt(&self) -> &HostRuntime {
+    pub fn rt(&self) -> &HostRuntime {
         &self.rt
     }
 
     /// Where memory comes from.
-    pub(crate) fn alloc(&self) -> Global {
+    pub fn alloc(&self) -> Global {
         self.rt.alloc()
     }
 
     /// Why the last call that failed did so, if one did.
-    pub(crate) fn cause(&self) -> Option<Cause> {
+    pub fn cause(&self) -> Option<Cause> {
         self.cause.get()
     }
 
     /// Keeps why a call failed.
-    pub(crate) fn note(&self, cause: Cause) {
+    pub fn note(&self, cause: Cause) {
         self.cause.set(Some(cause));
     }
 
     /// Opens the file with this path to read it.
-    pub(crate) fn open<'a>(&self, path: &'a str) -> Result<File, Fault<'a>> {
+    pub fn open<'a>(&self, path: &'a str) -> Result<File, Fault<'a>> {
         match File::open(&self.rt, path) {
             Ok(file) => Ok(file),
             Err(error) => {
@@ -64,7 +64,7 @@ impl System {
     }
 
     /// Standard output.
-    pub(crate) fn output(&self) -> Output<'_> {
+    pub fn output(&self) -> Output<'_> {
         Noted::new(io::writer(&self.rt), self)
     }
 }

@@ -1,7 +1,7 @@
 //! The devices that move the line.
 ghost use Rattle.std.specs.Prelude.{◌≡◌};
 
-use crate::screen::Progress;
+use crate::progress::screen::Progress;
 use benc::{DeviceFault, Sink, Source};
 use std::convert::AsStr;
 

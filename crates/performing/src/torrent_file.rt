@@ -1,7 +1,7 @@
 //! The bytes of a torrent file.
-use crate::system::{Cause, System};
 use opening::MAX_TORRENT;
 use printing::Fault;
+use real_files::{Cause, System};
 use std::io::{self, Read};
 
 // One byte more than a torrent may have: a longer one is refused by its length, whatever follows.

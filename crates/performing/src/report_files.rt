@@ -1,9 +1,9 @@
 //! The bytes of reports.
-use crate::system::{Cause, System};
 use benc::{DeviceFault, Sink};
 use folders::{FileVerdict, write_verdict};
 use opening::Torrent;
 use printing::Fault;
+use real_files::{Cause, System};
 use std::alloc::AllocError;
 use std::io::{self, Read};
 

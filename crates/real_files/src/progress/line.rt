@@ -2,7 +2,7 @@
 ghost use Rattle.std.specs.Prelude.{◌≤◌, chars, false};
 ghost use Rattle.unicode_width.specs.Width.{str_width};
 
-use crate::amount::{Amount, Span};
+use crate::progress::amount::{Amount, Span};
 use arrayvec::ArrayString;
 use std::fmt::Write;
 use std::time::Duration;

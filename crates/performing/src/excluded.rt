@@ -1,7 +1,7 @@
 //! What is said of globs that are none.
-use crate::system::System;
 use excluding::GlobFault;
 use printing::Fault;
+use real_files::System;
 use std::io::Write;
 
 /// Says on standard error, as of other arguments that are refused, which glob is none, or that they

@@ -3,8 +3,6 @@
 //! It stands on standard error, and only if that is a terminal. The devices of a command show it: a
 //! [`Counted`] source notes what was read, and a [`Cleared`] sink takes the line away before a
 //! command prints. If no line is shown, they do nothing else.
-#![tactic(auto)]
-
 mod amount;
 mod devices;
 mod line;

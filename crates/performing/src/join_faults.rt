@@ -1,8 +1,8 @@
 //! What is said of reports that cannot be joined.
-use crate::system::System;
 use benc::{DeviceFault, FromWrite, Sink, write_all};
 use part_reports::JoinFault;
 use printing::{Fault, write_escaped};
+use real_files::System;
 use std::io::Write;
 
 /// Says on standard error, as of other faults, why the reports with these paths are not joined.

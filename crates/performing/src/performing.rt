@@ -2,13 +2,8 @@
 ghost use Rattle.std.specs.Prelude.{◌≢◌, IfErr};
 
 use crate::excluded::refuse_globs;
-use crate::folder::Folder;
 use crate::join_faults::refuse_join;
-use crate::noted::{Noted, Output};
-use crate::output::create_output;
 use crate::report_files::read_reports;
-use crate::streams::hold_closed_streams;
-use crate::system::{Cause, System};
 use crate::torrent_file::read_torrent;
 use benc::{FromRead, FromWrite, Sink, Source};
 use command_line::command::{Action, Check, CheckPart, Convert, Create, Join, Replay};
@@ -22,7 +17,10 @@ use json_lines::{CHECK, Form, REPLAY, ROOT, SHOW};
 use opening::Torrent;
 use parts::Places;
 use printing::Fault;
-use progress::{Cleared, Counted, Progress};
+use real_files::{
+    Cause, Cleared, Counted, Folder, Noted, Output, Progress, System, create_output,
+    hold_closed_streams,
+};
 use regex::Regex;
 use std::fs::File;
 use std::io::{BufWriter, IsTerminal, LineWriter};

@@ -1,5 +1,5 @@
-use Rattle.progress.proofs.line.line_of.Goals as goal
-use Rattle.progress.proofs.Widths.{nothing_fits}
+use Rattle.real_files.proofs.progress.line.line_of.Goals as goal
+use Rattle.real_files.proofs.Widths.{nothing_fits}
 
 -- without room for the figures the line is empty
 pub returns : goal.returns

@@ -1,6 +1,6 @@
 //! The line on the terminal, from the first time that it is drawn until it is gone.
-use crate::line::{Figures, Text, line_of};
-use crate::terminal::columns;
+use crate::progress::line::{Figures, Text, line_of};
+use crate::progress::terminal::columns;
 use std::cell::Cell;
 use std::io::Write;
 use std::time::{Duration, Instant};

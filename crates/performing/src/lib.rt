@@ -1,0 +1,10 @@
+//! Each command of `btcheck` on real files.
+#![tactic(auto)]
+
+mod excluded;
+mod join_faults;
+mod performing;
+mod report_files;
+mod torrent_file;
+
+pub use performing::perform;
