@@ -22,6 +22,7 @@ use real_files::{
     hold_closed_streams,
 };
 use regex::Regex;
+use session::{Paged, Session};
 use std::fs::File;
 use std::io::{BufWriter, IsTerminal, LineWriter};
 
@@ -439,21 +440,39 @@ fn replay_file<'a, W: Sink>(
     let mut source = FromRead::new(Noted::new(file, system));
     let answers = answers_file(system, torrent, asked, progress)?;
     let mut session = outcomes::new_session(system.alloc(), torrent, asked.info_only)?;
-    if let Some(dir) = asked.seed {
-        let mut folder = Folder::with_torrent(system, dir, torrent, progress);
-        outcomes::seed(system.alloc(), &mut session, &mut folder, out)?;
-    }
-    match answers {
-        None => outcomes::replay(system.alloc(), &mut session, &mut source, out),
-        Some((path, file)) => outcomes::replay_and_answer(
-            system.alloc(),
-            &mut session,
-            &mut source,
-            out,
-            path,
-            &mut FromWrite::new(Noted::new(file, system)),
-        ),
-    }
+    seed(system, torrent, asked, progress, &mut session, out)?;
+    replay_onto(system, &mut session, &mut source, out, answers)
+}
+
+// Fills the session from the folder, if there is one.
+fn seed<'a, W: Sink>(
+    system: &System,
+    torrent: &Torrent<'_>,
+    asked: &Replay<'a>,
+    progress: &Progress,
+    session: &mut Session<'_, Paged>,
+    out: &mut W,
+) -> Result<(), Fault<'a>> {
+    let Some(dir) = asked.seed else {
+        return Ok(());
+    };
+    let mut folder = Folder::with_torrent(system, dir, torrent, progress);
+    outcomes::seed(system.alloc(), session, &mut folder, out)
+}
+
+// Replays the record, and writes the answers to their file, if they are wanted.
+fn replay_onto<'a, R: Source, W: Sink>(
+    system: &System,
+    session: &mut Session<'_, Paged>,
+    source: &mut R,
+    out: &mut W,
+    answers: Option<(&'a str, File)>,
+) -> Result<u8, Fault<'a>> {
+    let Some((path, file)) = answers else {
+        return outcomes::replay(system.alloc(), session, source, out);
+    };
+    let mut answers = FromWrite::new(Noted::new(file, system));
+    outcomes::replay_and_answer(system.alloc(), session, source, out, path, &mut answers)
 }
 
 // The file that takes the answers, emptied, if they are wanted. It is no file that is read.
@@ -466,16 +485,26 @@ fn answers_file<'a>(
     let Some(path) = asked.answers else {
         return Ok(None);
     };
-    if let Some(dir) = asked.seed {
-        if Folder::new(system, dir, progress).holds(torrent, path)? {
-            system.note(Cause::IsInput);
-            return Err(Fault::Write(path));
-        }
+    if is_seed(system, torrent, asked, progress, path)? {
+        system.note(Cause::IsInput);
+        return Err(Fault::Write(path));
     }
-    Ok(Some((
-        path,
-        create_output(system, path, &[asked.torrent, asked.record])?,
-    )))
+    let file = create_output(system, path, &[asked.torrent, asked.record])?;
+    Ok(Some((path, file)))
+}
+
+// Whether this path is that of a file of the torrent below the folder that fills the session.
+fn is_seed<'a>(
+    system: &System,
+    torrent: &Torrent<'_>,
+    asked: &Replay<'a>,
+    progress: &Progress,
+    path: &str,
+) -> Result<bool, Fault<'a>> {
+    match asked.seed {
+        None => Ok(false),
+        Some(dir) => Ok(Folder::new(system, dir, progress).holds(torrent, path)?),
+    }
 }
 
 // Opens a torrent. It writes nothing, so no refusal is that of a sink.
