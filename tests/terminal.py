@@ -1,6 +1,7 @@
 """Runs of the program with a terminal for standard error, and what then stands on the screen."""
 import os
 import pty
+import signal
 import subprocess
 import threading
 import tty
@@ -47,6 +48,22 @@ def drawn(text):
     """The lines that were drawn over one another, without the spaces that hide earlier ones."""
     text = text.replace(NO_WRAP, "").replace(WRAP, "")
     return [line.rstrip(" ") for line in text.split("\r") if line.strip(" \n")]
+
+
+def cut_off(count, *arguments):
+    """Runs the program with a terminal for standard output, which is interrupted once it has printed so many lines. Gives
+    the status, and what was printed."""
+    ours, theirs = pty.openpty()
+    tty.setraw(theirs)
+    program = subprocess.Popen([BTCHECK, *arguments], stdout=theirs, stderr=subprocess.DEVNULL)
+    os.close(theirs)
+    text = b""
+    while text.count(b"\n") < count:
+        text += os.read(ours, 65536)
+    program.send_signal(signal.SIGINT)
+    status = program.wait(timeout=60)
+    os.close(ours)
+    return status, text.decode()
 
 
 def on_terminal(*arguments, columns=None, term="xterm", both=False, output_alone=False, feed=None, **environment):

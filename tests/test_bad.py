@@ -4,9 +4,12 @@ import json
 import os
 import random
 import re
+import signal
 
 from shim import shimmed
 from support import escaped, expect, folder, run, write
+from terminal import cut_off
+from test_progress import torrent_of_zeros, zeros
 from torrents import torrent_of
 
 RUN = re.compile(r"bad pieces (\d+) (\d+) bytes (\d+)-(\d+)")
@@ -281,6 +284,17 @@ def test_reads_that_fail():
                 assert said == lines[:len(said)], done
                 stood.add(len(said))
         assert {0, 1, 2, 4} <= stood and 6 not in stood, stood
+
+
+def test_a_check_that_is_cut_off():
+    """A terminal has the lines of the first file and of its bad pieces while the second is read."""
+    with folder() as place:
+        sizes = {"a": PIECE, "b": 1 << 33}  # some seconds of reading
+        path = write(f"{place}/torrent", torrent_of_zeros(sizes))
+        zeros(place, "b", sizes["b"])
+        write(f"{place}/a", flipped(bytes(PIECE), 5))
+        lines = "bad 0 a\nbad pieces 0 0 bytes 0-16383\n"
+        assert cut_off(2, "check", "--bad", path, place) == (-signal.SIGINT, lines)
 
 
 def test_memory_does_not_grow_with_the_runs():

@@ -3,19 +3,16 @@ is, so that a line is drawn on every machine."""
 import functools
 import math
 import os
-import pty
 import re
 import signal
-import subprocess
 import time
-import tty
 
 import messages
 import record_model
 import torrents
 from shim import shimmed
-from support import BTCHECK, folder, run, write
-from terminal import NO_WRAP, WRAP, drawn, on_terminal, screen, width_of
+from support import folder, run, write
+from terminal import NO_WRAP, WRAP, cut_off, drawn, on_terminal, screen, width_of
 from trees import sha256
 
 MIB, GIB = 1 << 20, 1 << 30
@@ -161,16 +158,7 @@ def test_a_check_that_is_cut_off():
         path = write(f"{place}/torrent", torrent_of_zeros(sizes))
         for name, size in sizes.items():
             zeros(place, name, size)
-        ours, theirs = pty.openpty()
-        tty.setraw(theirs)
-        program = subprocess.Popen([BTCHECK, "check", path, place], stdout=theirs, stderr=subprocess.DEVNULL)
-        os.close(theirs)
-        line = b""
-        while not line.endswith(b"\n"):
-            line += os.read(ours, 65536)
-        program.send_signal(signal.SIGINT)
-        assert program.wait(timeout=60) == -signal.SIGINT and line == b"good a\n", (program.returncode, line)
-        os.close(ours)
+        assert cut_off(1, "check", path, place) == (-signal.SIGINT, "good a\n")
 
 
 def test_seeding():

@@ -63,8 +63,8 @@ pub(crate) const CHECK_ABOUT: &str = "Checks that a folder holds a torrent's fil
 pub(crate) const CHECK_HELP: &str = "\
 Prints for each file `good`, `missing`, `unreadable`, `wrong length` or `bad PIECE`, for a hybrid a
 line on its version 1 pieces, and at last `yes`, status 0, or `no`, status 1. Each file's line is
-printed as soon as the file is done, with `--bad` once all are. The files are looked for at their
-paths directly below DIR; the torrent's name adds no folder.";
+printed as soon as the file is done. The files are looked for at their paths directly below DIR; the
+torrent's name adds no folder.";
 
 pub(crate) const QUIET_HELP: &str = "Print only what is not good, and the last line";
 

@@ -7,14 +7,14 @@ use crate::outcomes::status;
 use benc::Sink;
 use folders::{Lines, Shelf};
 use opening::Torrent;
-use parts::{BadFault, print_report_and_bad_pieces};
+use parts::{BadCheckFault, BadFault, check_with_bad_pieces};
 use printing::Fault;
 use std::alloc::Global;
 
-/// Checks that a shelf holds the torrent's files, as `check` does, and then prints the wanted lines
-/// of what it found, and behind the line of each file that is bad or has another length its runs of
-/// bad pieces. The status is 0 for `yes` and 1 for `no`. If such a file cannot be read again, or is
-/// gone, the fault is that the folder with this path cannot be read.
+/// Checks that a shelf holds the torrent's files, as `check` does, and prints behind the line of each
+/// file that is bad or has another length its runs of bad pieces, before the next file is opened.
+/// The status is 0 for `yes` and 1 for `no`. If such a file cannot be read again, or is gone, the
+/// fault is that the folder with this path cannot be read.
 pub fn check_bad<'a, S: Shelf, W: Sink>(
     alloc: Global,
     torrent: &Torrent<'_>,
@@ -28,12 +28,10 @@ pub fn check_bad<'a, S: Shelf, W: Sink>(
         result }
     ensures stays { S.contents shelf.new ≡ S.contents shelf.old }
 {
-    let Ok(report) = folders::check(alloc, torrent, shelf) else {
-        return Err(Fault::NoMemory);
-    };
-    match print_report_and_bad_pieces(&report, torrent, shelf, lines, out) {
-        Ok(()) => Ok(status(report.yes())),
-        Err(BadFault::Write) => Err(Fault::Write("-")),
-        Err(BadFault::Read | BadFault::Gone) => Err(Fault::Read(dir)),
+    match check_with_bad_pieces(alloc, torrent, shelf, lines, out) {
+        Ok(report) => Ok(status(report.yes())),
+        Err(BadCheckFault::NoMemory) => Err(Fault::NoMemory),
+        Err(BadCheckFault::Stopped(BadFault::Write)) => Err(Fault::Write("-")),
+        Err(BadCheckFault::Stopped(BadFault::Read | BadFault::Gone)) => Err(Fault::Read(dir)),
     }
 }

@@ -1,62 +1,58 @@
 -- A check of a shelf, as far as its first files.
-use Rattle.std.proofs.Common.{◌≡◌, ◌∙◌, ℕ, ◌+◌, List, [], ◌∷◌, ◌++◌, length, slice_get, take, Some, Option, subst, sym, arith}
+use Rattle.std.proofs.Common.{◌≡◌, ◌∙◌, ℕ, ◌+◌, List, [], ◌∷◌, ◌++◌, length, slice_get, take, Some, Option, subst, sym, ap, arith}
 use Rattle.std.proofs.lemmas.Option.{get_or_from_slice_get, slice_get_within}
-use Rattle.std.proofs.lemmas.List.{take_all}
+use Rattle.std.proofs.lemmas.List.{length_push, take_all}
 use Rattle.benc.specs.Device.{SourceSeen}
 use Rattle.chains.specs.Chain.{Chain}
 use Rattle.chains.proofs.Chains.{Chain-next}
 use Rattle.opening.specs.Description.{Description, FileEntry}
 use Rattle.opening.specs.Sound.{IsSound}
-use Rattle.pieces.specs.declared.v1_feed.V1Feed.{V1Feed}
-use Rattle.folders.specs.Pass.{FindsVerdict}
-use Rattle.folders.specs.Shelf.{ShelfContents, more}
+use Rattle.folders.specs.FolderCheck.{HasChecked, verdicts_of}
+use Rattle.folders.specs.Shelf.{more}
 use Rattle.folders.specs.Stopping.{VisitsFirst}
 use Rattle.folders.specs.Verdicts.{HasVerdicts, TellsFolder, fault_count, unreadable_count}
 use Rattle.folders.specs.Visits.{Visits}
+use Rattle.folders.specs.declared.folder_check.FolderCheck.{FolderCheck}
 use Rattle.folders.specs.declared.report.FileVerdict.{FileVerdict}
 use Rattle.folders.specs.declared.report.V1Verdict.{V1Verdict}
 use Rattle.folders.specs.declared.shelf.Shelf.{Ghosts}
 use Rattle.folders.proofs.Counts.{unreadable_push}
-use Rattle.folders.proofs.Passes.{IsPassed, passed_one}
-use Rattle.folders.proofs.Visiting.{HasFound, contents_extend, contents_of, first_agree, found_one}
+use Rattle.folders.proofs.FolderChecks.{told_first}
 
 module _ {S F : Type 0} (shelf : Ghosts S F) (seen : F → SourceSeen) (t : Description) where
-  -- the first n files were visited, for these verdicts
-  pub record IsChecked (s : S) (n : ℕ) (files : List FileVerdict) (running : Option V1Feed) (s' : S) : Type 0 where
-    pub counted : shelf.faults s' ≡ more (shelf.faults s) (unreadable_count files)
-    pub visited : Chain (Visits shelf seen t) s (take n t.files) files s'
+  -- the first n files were visited, for the verdicts of this check
+  pub record IsChecked (s : S) (n : ℕ) (check : FolderCheck) (s' : S) : Type 0 where
+    pub count : length (verdicts_of check) ≡ n
+    pub counted : shelf.faults s' ≡ more (shelf.faults s) (unreadable_count (verdicts_of check))
+    pub visited : Chain (Visits shelf seen t) s (take n t.files) (verdicts_of check) s'
     pub stays : shelf.contents s' ≡ shelf.contents s
-    pub passed : IsPassed t n files running
-    pub found : HasFound t (shelf.contents s).under n files running
+    pub so_far : HasChecked t (shelf.contents s).under check
 
   -- then the next file
-  pub checked_one : (s mid s' : S) (n : ℕ) (files : List FileVerdict) (v : FileVerdict) (f : FileEntry) (old new : Option V1Feed)
-      → IsSound t → slice_get t.files n ≡ Some f → FindsVerdict t f ((shelf.contents mid).under f.path) old new v → Visits shelf seen t mid f v s'
-      → shelf.faults s' ≡ more (shelf.faults mid) (fault_count v) → shelf.contents s' ≡ shelf.contents mid
-      → IsChecked s n files old mid → IsChecked s (n + 1) (files ++ v ∷ []) new s'
-  checked_one s mid s' n files v f old new sound there finds visits counts stays so_far =
-      let found : FindsVerdict t f ((shelf.contents s).under f.path) old new v =
-      subst (λ (on : ShelfContents). FindsVerdict t f (on.under f.path) old new v) so_far.stays finds in
+  pub checked_one : (s mid s' : S) (n : ℕ) (old new : FolderCheck) (v : FileVerdict) (f : FileEntry) → slice_get t.files n ≡ Some f
+      → verdicts_of new ≡ verdicts_of old ++ v ∷ [] → Visits shelf seen t mid f v s' → shelf.faults s' ≡ more (shelf.faults mid) (fault_count v)
+      → shelf.contents s' ≡ shelf.contents mid → HasChecked t (shelf.contents s).under new → IsChecked s n old mid → IsChecked s (n + 1) new s'
+  checked_one s mid s' n old new v f there is visits counts stays next so_far =
+      let pushed : List FileVerdict = verdicts_of old ++ v ∷ [] in
+      let counted : shelf.faults s' ≡ more (shelf.faults s) (unreadable_count pushed) =
+      unreadable_push (shelf.faults s) (shelf.faults mid) (shelf.faults s') (verdicts_of old) v so_far.counted counts in
+      let visited : Chain (Visits shelf seen t) s (take (n + 1) t.files) pushed s' =
+      Chain-next (Visits shelf seen t) s mid s' t.files n (verdicts_of old) f v (slice_get_within t.files n f there) so_far.visited
+      (subst (λ h. Visits shelf seen t mid h v s') (sym (get_or_from_slice_get t.files n f f there)) visits) in
       record {
-        counted = unreadable_push (shelf.faults s) (shelf.faults mid) (shelf.faults s') files v so_far.counted counts;
-        visited = Chain-next (Visits shelf seen t) s mid s' t.files n files f v (slice_get_within t.files n f there) so_far.visited
-            (subst (λ h. Visits shelf seen t mid h v s') (sym (get_or_from_slice_get t.files n f f there)) visits);
+        count = ap length is ∙ length_push (verdicts_of old) v ∙ ap (λ k. k + 1) so_far.count;
+        counted = subst (λ vs. shelf.faults s' ≡ more (shelf.faults s) (unreadable_count vs)) (sym is) counted;
+        visited = subst (λ vs. Chain (Visits shelf seen t) s (take (n + 1) t.files) vs s') (sym is) visited;
         stays = stays ∙ so_far.stays;
-        passed = passed_one t n files v f ((shelf.contents s).under f.path) old new sound there found so_far.passed;
-        found = found_one t (shelf.contents s).under n files v f old new sound there found so_far.passed so_far.found;
+        so_far = next;
       }
 
   -- what callers see of that
-  pub visits_first : (s s' : S) (n : ℕ) (files : List FileVerdict) (running : Option V1Feed)
-      → IsChecked s n files running s' → VisitsFirst shelf seen t s files s'
-  visits_first s s' n files running so_far = record {
-    once = subst (λ k. Chain (Visits shelf seen t) s (take k t.files) files s') (sym so_far.passed.count) so_far.visited;
+  pub visits_first : (s s' : S) (n : ℕ) (check : FolderCheck) → IsSound t → IsChecked s n check s' → VisitsFirst shelf seen t s (verdicts_of check) s'
+  visits_first s s' n check sound so_far = record {
+    once = subst (λ k. Chain (Visits shelf seen t) s (take k t.files) (verdicts_of check) s') (sym so_far.count) so_far.visited;
     counted = so_far.counted;
-    tells = record {
-      contents = contents_of so_far.found.seen;
-      agree = λ k f lt there. first_agree t (shelf.contents s).under n files running so_far.found k f (omega (arith, lt, so_far.passed.count)) there;
-      each = (so_far.found.told (contents_of so_far.found.seen) (contents_extend so_far.found.seen)).each;
-    };
+    tells = told_first t (shelf.contents s).under sound check so_far.so_far;
   }
 
   -- the same, where all files were visited

@@ -13,4 +13,5 @@ pub mod Layers
 pub mod OpenedRoots
 pub mod Pieces
 pub mod Told
+pub mod FolderChecks
 pub mod Checked

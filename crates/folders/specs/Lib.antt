@@ -12,6 +12,7 @@ pub mod Compared
 pub mod Streaming
 pub mod Content
 pub mod Pass
+pub mod FolderCheck
 pub mod Printed
 pub mod LinesOut
 pub mod Stopping

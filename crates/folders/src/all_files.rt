@@ -11,8 +11,7 @@ ghost use Rattle.folders.specs.declared.report.FileVerdict.{FileVerdict};
 ghost use Rattle.opening.specs.Seen.{file_entry};
 ghost use Rattle.folders.specs.declared.all_files.CheckFault.TheVariants as fault;
 
-use crate::checking::check_file;
-use crate::file_check::Stream;
+use crate::folder_check::FolderCheck;
 use crate::lines::{Lines, write_wanted};
 use crate::report::{FileVerdict, Report};
 use crate::shelf::Shelf;
@@ -53,19 +52,13 @@ pub(crate) fn check_files<S: Shelf, T: LinesOut>(
 {
     torrent.sound();
     let entries = torrent.files();
-    let mut files = Vec::with_capacity(alloc, entries.len())?;
-    let mut stream = Stream::of(torrent.v1(), torrent.piece_length());
+    let mut check = FolderCheck::new(alloc, torrent)?;
     let mut buffer = [0u8; BUFFER_LENGTH];
     'files: for file in entries {
-        let verdict = check_file(shelf, torrent, file, &mut stream, &mut buffer);
-        files.push_reserved(verdict);
+        let verdict = check.check_next(torrent, file, shelf, &mut buffer);
         out.write(lines, verdict, file)?;
     }
-    let v1 = match torrent.v1() {
-        Some(_) => Some(stream.finish()),
-        None => None,
-    };
-    Ok(Report { files, v1 })
+    Ok(check.finish(torrent))
 }
 
 /// Where the lines of files go: to a sink, or nowhere.

@@ -5,6 +5,7 @@
 mod all_files;
 mod checking;
 mod file_check;
+mod folder_check;
 mod lines;
 pub mod memory;
 mod report;
@@ -17,6 +18,7 @@ mod taking;
 
 pub use all_files::CheckFault;
 pub use checking::check;
+pub use folder_check::FolderCheck;
 pub use lines::{Lines, print_report, stream_line, write_end, write_verdict, write_wanted};
 pub use report::{FileVerdict, Report, V1Verdict};
 pub use reporting::check_onto;

@@ -1,17 +1,26 @@
--- What printing a report does that has the bad pieces of each file behind the file's line. `shelf`
--- stands for what the shelf's type tells of its shelves, and `seen` for what its files tell.
-use Rattle.std.specs.Prelude.{◌≡◌, ◌⊎◌, ℕ, Bool, true, false, List, take, slice_get, Option, Some, Result, Ok, Err}
+-- What a check does that prints each file's line, and the bad pieces of the file behind it, as soon as
+-- the file is done. `shelf` stands for what the shelf's type says of its shelves, and `seen` for what
+-- its files say.
+use Rattle.std.specs.Prelude.{◌≡◌, ◌⊎◌, ℕ, Bool, true, false, List, [], ◌∷◌, ◌++◌, length, take, slice_get, Option, Some, Result, Ok, Err}
 use Rattle.benc.specs.Device.{Broke, BrokeOrUnflushed, Sent, SentAndFlushed, SinkSeen, SourceSeen}
 use Rattle.chains.specs.Chain.{Chain}
+use Rattle.folders.specs.FolderCheck.{HasChecked, verdicts_of}
 use Rattle.folders.specs.Printed.{end_text, wanted_text}
-use Rattle.folders.specs.Visits.{OpensOnce}
+use Rattle.folders.specs.Shelf.{more}
+use Rattle.folders.specs.Stopping.{TellsFirst}
+use Rattle.folders.specs.Verdicts.{HasVerdicts, TellsFolder, unreadable_count}
+use Rattle.folders.specs.Visits.{OpensOnce, Visits}
+use Rattle.folders.specs.declared.folder_check.FolderCheck.{FolderCheck}
 use Rattle.folders.specs.declared.lines.Lines.{Lines}
 use Rattle.folders.specs.declared.report.FileVerdict.{FileVerdict}
 use Rattle.folders.specs.declared.report.FileVerdict.TheVariants as file
+use Rattle.folders.specs.declared.report.Report.{Report}
 use Rattle.folders.specs.declared.report.V1Verdict.{V1Verdict}
 use Rattle.folders.specs.declared.shelf.Shelf.{Ghosts}
 use Rattle.opening.specs.Description.{Description, FileEntry}
 use Rattle.parts.specs.BadPieces.{CountsBad, PrintsBad}
+use Rattle.parts.specs.declared.bad_fault.BadCheckFault.{BadCheckFault}
+use Rattle.parts.specs.declared.bad_fault.BadCheckFault.TheVariants as stopped
 use Rattle.parts.specs.declared.bad_fault.BadFault.{BadFault}
 use Rattle.parts.specs.declared.bad_fault.BadFault.TheVariants as fault
 
@@ -22,6 +31,11 @@ has_runs file.Missing = false
 has_runs file.Unreadable = false
 has_runs file.WrongLength = true
 has_runs (file.Bad p) = true
+
+-- one failure is counted for each unreadable file, and no file is unreadable if the count stays
+pub record CountsUnreadable (old new : ℕ) (files : List FileVerdict) : Type 0 where
+  pub counted : new ≡ more old (unreadable_count files)
+  pub readable : new ≡ old → unreadable_count files ≡ 0
 
 -- a shelf and a sink
 abbrev pub shelf_and_sink : {S : Type 0} → S → SinkSeen → S × SinkSeen
@@ -68,47 +82,87 @@ module _ {S F : Type 0} (shelf : Ghosts S F) (seen : F → SourceSeen) where
   EndsFile t lines old f v new r =
       PrintsAfterLine t lines old f v new r ⊎ BreaksLine lines old f v new r
 
-  -- the lines of these files and their bad pieces went out, one file after another
-  abbrev pub PrintsFiles : Description → Lines → S × SinkSeen → List FileEntry
-      → List FileVerdict → S × SinkSeen → Type 0
-  PrintsFiles t lines old files verdicts new = Chain (PrintsFile t lines) old files verdicts new
+  -- A file was visited once, for this verdict; then its line went out, if it is wanted, and its bad
+  -- pieces.
+  pub record ChecksFile (t : Description) (lines : Lines) (old : S × SinkSeen) (f : FileEntry)
+      (v : FileVerdict) (new : S × SinkSeen) : Type 0 where
+    pub visited : S
+    pub visits : Visits shelf seen t old.0 f v visited
+    pub prints : PrintsFile t lines (shelf_and_sink visited old.1) f v new
 
-  -- a fault came at a file, after all that those before it print
-  pub record StopsAtOne (t : Description) (lines : Lines) (verdicts : List FileVerdict)
-      (old new : S × SinkSeen) (e : BadFault) : Type 0 where
-    pub number : ℕ
-    pub file : FileEntry
-    pub file_is : slice_get t.files number ≡ Some file
-    pub verdict : FileVerdict
-    pub verdict_is : slice_get verdicts number ≡ Some verdict
+  -- these files were checked and printed, each before the next was opened
+  abbrev pub ChecksFiles : Description → Lines → S × SinkSeen → List FileEntry → List FileVerdict
+      → S × SinkSeen → Type 0
+  ChecksFiles t lines old files verdicts new =
+      Chain (ChecksFile t lines) old files verdicts new
+
+  -- the first files of a torrent were checked and printed, for the verdicts of this check
+  pub record ChecksFirst (t : Description) (lines : Lines) (old : S × SinkSeen)
+      (check : FolderCheck) (new : S × SinkSeen) : Type 0 where
+    pub so_far : HasChecked t (shelf.contents old.0).under check
+    pub files : ChecksFiles t lines old (take (length (verdicts_of check)) t.files)
+        (verdicts_of check) new
+    pub counts : CountsUnreadable (shelf.faults old.0) (shelf.faults new.0) (verdicts_of check)
+    pub stays : shelf.contents new.0 ≡ shelf.contents old.0
+
+  -- After all that the files before it print, a file was visited once, for this verdict; and then a
+  -- fault came. The verdicts are true of what stands at the files' paths.
+  pub record StopsAtOne (t : Description) (lines : Lines) (old new : S × SinkSeen) (e : BadFault)
+      : Type 0 where
+    pub verdicts : List FileVerdict
     pub between : S × SinkSeen
-    pub before : PrintsFiles t lines old (take number t.files) (take number verdicts) between
-    pub stops : EndsFile t lines between file verdict new (Err e)
+    pub before : ChecksFiles t lines old (take (length verdicts) t.files) verdicts between
+    pub file : FileEntry
+    pub file_is : slice_get t.files (length verdicts) ≡ Some file
+    pub verdict : FileVerdict
+    pub visited : S
+    pub visits : Visits shelf seen t between.0 file verdict visited
+    pub tells : TellsFirst t (shelf.contents old.0).under (verdicts ++ verdict ∷ [])
+    pub counts : CountsUnreadable (shelf.faults old.0) (shelf.faults visited)
+        (verdicts ++ verdict ∷ [])
+    pub stops : EndsFile t lines (shelf_and_sink visited between.1) file verdict new (Err e)
 
   -- what was done for all files, by the answer
-  abbrev pub EndsFiles : Description → Lines → List FileVerdict → S × SinkSeen → S × SinkSeen
+  abbrev pub EndsFiles : Description → Lines → S × SinkSeen → FolderCheck → S × SinkSeen
       → Result (Unit {0}) BadFault → Type 0
-  EndsFiles t lines verdicts old new (Ok u) = PrintsFiles t lines old t.files verdicts new
-  EndsFiles t lines verdicts old new (Err e) = StopsAtOne t lines verdicts old new e
+  EndsFiles t lines old check new (Ok u) =
+      ChecksFirst t lines old check new × (length (verdicts_of check) ≡ length t.files)
+  EndsFiles t lines old check new (Err e) = StopsAtOne t lines old new e
 
-  -- all files were printed, and then the end of the report, with one flush
-  pub record PrintsWhole (t : Description) (lines : Lines) (verdicts : List FileVerdict)
+  -- all files were checked and printed, for these verdicts, which are true of what stands at the
+  -- files' paths
+  pub record ChecksAll (t : Description) (lines : Lines) (verdicts : List FileVerdict)
+      (v1 : Option V1Verdict) (old new : S × SinkSeen) : Type 0 where
+    pub has : HasVerdicts t verdicts v1
+    pub tells : TellsFolder t (shelf.contents old.0).under verdicts v1
+    pub files : ChecksFiles t lines old t.files verdicts new
+    pub counts : CountsUnreadable (shelf.faults old.0) (shelf.faults new.0) verdicts
+
+  -- all files were, and then the end of the report went out, with one flush
+  pub record ChecksWhole (t : Description) (lines : Lines) (verdicts : List FileVerdict)
       (v1 : Option V1Verdict) (old new : S × SinkSeen) : Type 0 where
     pub mid : SinkSeen
-    pub files : PrintsFiles t lines old t.files verdicts (shelf_and_sink new.0 mid)
+    pub all : ChecksAll t lines verdicts v1 old (shelf_and_sink new.0 mid)
     pub end : SentAndFlushed mid new.1 (end_text lines verdicts v1)
 
-  -- all files were printed, and the end of the report broke off or was not flushed
-  pub record StopsAtEnd (t : Description) (lines : Lines) (verdicts : List FileVerdict)
-      (v1 : Option V1Verdict) (old new : S × SinkSeen) (e : BadFault) : Type 0 where
+  -- all files were, and the end of the report broke off or was not flushed
+  pub record StopsAtEnd (t : Description) (lines : Lines) (old new : S × SinkSeen) (e : BadFault)
+      : Type 0 where
     pub fault_is : e ≡ fault.Write
+    pub verdicts : List FileVerdict
+    pub v1 : Option V1Verdict
     pub mid : SinkSeen
-    pub files : PrintsFiles t lines old t.files verdicts (shelf_and_sink new.0 mid)
+    pub all : ChecksAll t lines verdicts v1 old (shelf_and_sink new.0 mid)
     pub broke : BrokeOrUnflushed mid new.1 (end_text lines verdicts v1)
 
-  -- what printing the report did, by its answer
-  abbrev pub PrintsReport : Description → Lines → List FileVerdict → Option V1Verdict
-      → S × SinkSeen → S × SinkSeen → Result (Unit {0}) BadFault → Type 0
-  PrintsReport t lines verdicts v1 old new (Ok u) = PrintsWhole t lines verdicts v1 old new
-  PrintsReport t lines verdicts v1 old new (Err e) =
-      StopsAtOne t lines verdicts old new e ⊎ StopsAtEnd t lines verdicts v1 old new e
+  -- a fault came at a file, or behind the last one
+  abbrev pub StopsBad : Description → Lines → S × SinkSeen → S × SinkSeen → BadFault → Type 0
+  StopsBad t lines old new e = StopsAtOne t lines old new e ⊎ StopsAtEnd t lines old new e
+
+  -- what the check did, by its answer
+  abbrev pub ChecksAndPrints : Description → Lines → S × SinkSeen → S × SinkSeen
+      → Result Report BadCheckFault → Type 0
+  ChecksAndPrints t lines old new (Ok report) =
+      ChecksWhole t lines report.files.items report.v1 old new
+  ChecksAndPrints t lines old new (Err (stopped.Stopped e)) = StopsBad t lines old new e
+  ChecksAndPrints t lines old new (Err stopped.NoMemory) = (new.0 ≡ old.0) × (new.1 ≡ old.1)

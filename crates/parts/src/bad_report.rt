@@ -1,66 +1,76 @@
-//! A report with the bad pieces of each file behind its line.
-ghost use Rattle.std.specs.Prelude.{◌≡◌, length, map};
+//! A check that prints the bad pieces of each file behind its line.
+ghost use Rattle.std.specs.Prelude.{◌≡◌, []};
 ghost use Rattle.benc.specs.Device.{Wrote};
+ghost use Rattle.folders.specs.FolderCheck.{HasChecked, verdicts_of};
 ghost use Rattle.folders.specs.Printed.{wanted_text};
 ghost use Rattle.folders.specs.Verdicts.{IsFileOf};
 ghost use Rattle.opening.specs.Seen.{file_entry};
 ghost use Rattle.parts.specs.BadPieces.{CountsBad};
-ghost use Rattle.parts.specs.BadReport.{EndsFile, EndsFiles, PrintsReport, has_runs, shelf_and_sink};
+ghost use Rattle.parts.specs.BadReport.{ChecksAndPrints, EndsFile, EndsFiles, has_runs, shelf_and_sink};
 
-use crate::bad_fault::BadFault;
+use crate::bad_fault::{BadCheckFault, BadFault};
 use crate::bad_pieces::print_bad_pieces;
 use benc::{Sink, WriteFault};
-use folders::{FileVerdict, Lines, Report, Shelf, write_end, write_wanted};
+use folders::{
+    BUFFER_LENGTH, FileVerdict, FolderCheck, Lines, Report, Shelf, write_end, write_wanted,
+};
 use opening::{File, Torrent};
 use printing::flush_after;
+use std::alloc::Global;
 
-/// Writes the lines of a report that are wanted, those of `print_report` less the others, and
-/// behind the line of each file that is bad or has another length the lines of `print_bad_pieces`.
-/// Then it flushes once. Each of these files is opened once, and no other. It takes no memory.
-/// Conditions: the report has a verdict for each file of the torrent.
+/// Checks that a shelf holds the torrent's files, as `check` of `folders` does, and writes the lines
+/// that are wanted: each file's as soon as the file is done, and behind the line of one that is bad
+/// or has another length those of `print_bad_pieces`. Such a file is opened a second time, before
+/// the next; all others are opened once. At last it writes what `print_report` writes behind the
+/// files' lines, and flushes once. Memory is taken for the report alone, before the first path is
+/// opened.
 ///
 /// # Errors
 ///
-/// `Read`, `Gone`: as `print_bad_pieces` has them; no later file was opened. `Write`: the sink
-/// failed. The lines of the files before stand, and a prefix of this file's.
-pub fn print_report_and_bad_pieces<S: Shelf, W: Sink>(
-    report: &Report,
+/// `NoMemory`: nothing was opened or written. `Stopped`: `Read` and `Gone` as `print_bad_pieces` has
+/// them, `Write` if the sink failed. What the files before print went out, and a prefix of what this
+/// file prints; no later file was opened. Or `Write` came behind the last file.
+pub fn check_with_bad_pieces<S: Shelf, W: Sink>(
+    alloc: Global,
     torrent: &Torrent<'_>,
     shelf: &mut S,
     lines: Lines,
     out: &mut W,
-) -> Result<(), BadFault>
-    requires { length report.now.files.items ≡ length torrent.now.files }
-    ensures prints { PrintsReport S.Shelf S.File.seen torrent.now lines report.now.files.items
-        report.now.v1 (shelf_and_sink shelf.old (W.seen out.old))
-        (shelf_and_sink shelf.new (W.seen out.new)) result }
-    ensures counts { CountsBad (S.faults shelf.old) (S.faults shelf.new) result }
-    ensures stays { S.contents shelf.new ≡ S.contents shelf.old }
-{
-    write_files(&report.files, torrent, shelf, lines, out)?;
-    let written = write_end(report, lines, out);
-    flush_after(out, written)?;
-    Ok(())
-}
-
-// Writes what is wanted of each file.
-fn write_files<S: Shelf, W: Sink>(
-    verdicts: &[FileVerdict],
-    torrent: &Torrent<'_>,
-    shelf: &mut S,
-    lines: Lines,
-    out: &mut W,
-) -> Result<(), BadFault>
-    requires { length verdicts.now ≡ length torrent.now.files }
-    ensures prints { EndsFiles S.Shelf S.File.seen torrent.now lines verdicts.now
+) -> Result<Report, BadCheckFault>
+    ensures checks { ChecksAndPrints S.Shelf S.File.seen torrent.now lines
         (shelf_and_sink shelf.old (W.seen out.old)) (shelf_and_sink shelf.new (W.seen out.new))
         result }
-    ensures counts { CountsBad (S.faults shelf.old) (S.faults shelf.new) result }
     ensures stays { S.contents shelf.new ≡ S.contents shelf.old }
 {
-    let files = torrent.files();
-    'files: for i in 0..files.len() {
-        write_file(verdicts[i], torrent, &files[i], shelf, lines, out)?;
+    let mut check = FolderCheck::new(alloc, torrent)?;
+    check_files(&mut check, torrent, shelf, lines, out)?;
+    let report = check.finish(torrent);
+    let written = write_end(&report, lines, out);
+    flush_after(out, written)?;
+    Ok(report)
+}
+
+// Checks all files, and writes what is wanted of each before the next one is opened.
+fn check_files<S: Shelf, W: Sink>(
+    check: &mut FolderCheck<'_>,
+    torrent: &Torrent<'_>,
+    shelf: &mut S,
+    lines: Lines,
+    out: &mut W,
+) -> Result<(), BadFault>
+    requires none { verdicts_of check.old ≡ [] }
+    requires begins { HasChecked torrent.now (S.contents shelf.old).under check.old }
+    ensures checks { EndsFiles S.Shelf S.File.seen torrent.now lines
+        (shelf_and_sink shelf.old (W.seen out.old)) check.new
+        (shelf_and_sink shelf.new (W.seen out.new)) result }
+    ensures stays { S.contents shelf.new ≡ S.contents shelf.old }
+{
+    torrent.sound();
+    let entries = torrent.files();
+    let mut buffer = [0u8; BUFFER_LENGTH];
+    'files: for file in entries {
+        let verdict = check.check_next(torrent, file, shelf, &mut buffer);
+        write_file(verdict, torrent, file, shelf, lines, out)?;
     }
     Ok(())
 }

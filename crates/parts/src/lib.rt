@@ -16,9 +16,9 @@ mod shares;
 mod span;
 mod verdicts;
 
-pub use bad_fault::BadFault;
+pub use bad_fault::{BadCheckFault, BadFault};
 pub use bad_pieces::print_bad_pieces;
-pub use bad_report::print_report_and_bad_pieces;
+pub use bad_report::check_with_bad_pieces;
 pub use checking::check_part;
 pub use joining::{join, worse, worse_v1};
 pub use part_lines::print_part;

@@ -1,4 +1,4 @@
-use Rattle.std.proofs.Common.{◌≤◌, length, vec_capacity}
+use Rattle.folders.specs.FolderCheck.{verdicts_of}
 use Rattle.folders.specs.Printed.{verdicts_text}
 use Rattle.folders.specs.LinesOut.{HasSent}
 use Rattle.folders.proofs.Checked.{IsChecked}
@@ -7,7 +7,6 @@ use Rattle.folders.proofs.all_files.check_files.Given as goal
 -- the first files were checked, and their lines told
 abbrev pub invariant-files : goal.invariant-files
 invariant-files g l = record {
-  room : length l.entries ≤ vec_capacity l.files;
-  checked : IsChecked g.S.Shelf g.S.File.Source.seen l.torrent l.fn.shelf l.file-index l.files.items l.stream.feed l.shelf;
-  sent : HasSent (g.T.LinesOut.seen l.fn.out) (g.T.LinesOut.seen l.out) (verdicts_text l.lines l.files.items l.torrent.files);
+  checked : IsChecked g.S.Shelf g.S.File.Source.seen l.torrent l.fn.shelf l.file-index l.check l.shelf;
+  sent : HasSent (g.T.LinesOut.seen l.fn.out) (g.T.LinesOut.seen l.out) (verdicts_text l.lines (verdicts_of l.check) l.torrent.files);
 }

@@ -1,0 +1,62 @@
+use Rattle.std.proofs.Common.{◌≡◌, ◌∙◌, ◌&&◌, Option, Some, None, option_map, is_some, length, ap, sym, subst}
+use Rattle.std.specs.List.{list_all}
+use Rattle.std.proofs.lemmas.Option.{none-some, same_Some}
+use Rattle.opening.specs.Seen.{version1}
+use Rattle.folders.specs.FolderCheck.{verdicts_of}
+use Rattle.folders.specs.Verdicts.{IsV1Verdict, TellsContents, is_checked, is_whole}
+use Rattle.folders.proofs.FolderChecks.{first_checked}
+use Rattle.folders.proofs.Reports.{good_is_enough, stream_told, yes_is_sure}
+use Rattle.folders.proofs.Visiting.{contents_agree, contents_extend, contents_of}
+use Rattle.folders.proofs.folder_check.FolderCheck.finish.Goals as goal
+use Rattle.folders.proofs.folder_check.FolderCheck.finish.Goals.{in-None, in-Some}
+
+same_some : {A B : Type 0} (f : A → B) (o : Option A) (p : Option B) → option_map f o ≡ p → is_some p ≡ is_some o
+same_some f None p is = ap is_some (sym is)
+same_some f (Some x) p is = ap is_some (sym is)
+
+pub returns-clause-verdicts : goal.returns-clause-verdicts
+returns-clause-verdicts c = λ under checked all.
+    let t = c.args.torrent.now in
+    let first = first_checked t under c.sound.ensures c.args.self checked in
+    let hybrid : is_some t.v1 ≡ is_some c.v1.result = same_some (λ v. version1 v.now) c.v1.result t.v1 c.v1.ensures in
+    record {
+      count = all;
+      hybrid = elim c.match-v1.branch [
+        | in-Some w ↦ ap is_some w.v1-is ∙ sym (hybrid ∙ ap is_some w.in-Some.is)
+        | in-None w ↦ ap is_some w.v1-is ∙ sym (hybrid ∙ ap is_some w.in-None.is)
+      ];
+      checked = λ v found. elim c.match-v1.branch [
+        | in-Some w ↦
+            ap is_checked (same_Some v w.finish.result (sym found ∙ w.v1-is))
+            ∙ w.finish.ensures.checked ∙ first.passed.goes_on
+            ∙ ap (λ b. b && list_all is_whole (verdicts_of c.args.self)) (hybrid ∙ ap is_some w.in-Some.is)
+        | in-None w ↦ absurd (none-some v (sym w.v1-is ∙ found))
+      ];
+    }
+
+pub returns-clause-tells : goal.returns-clause-tells
+returns-clause-tells c = λ under checked all.
+    let t = c.args.torrent.now in
+    let files = verdicts_of c.args.self in
+    let n = length files in
+    let feed = c.args.self.stream.feed in
+    let first = first_checked t under c.sound.ensures c.args.self checked in
+    let contents = contents_of first.found.seen in
+    let told = first.found.told contents (contents_extend first.found.seen) in
+    let tells : TellsContents t contents files c.match-v1.v1 = record {
+      each = told.each;
+      version1 = λ v verdict hybrid is. elim c.match-v1.branch [
+        | in-Some w ↦ subst (IsV1Verdict t v contents) (same_Some w.finish.result verdict (sym w.v1-is ∙ is))
+            (stream_told t contents n files feed v w.finish.result all first.passed told hybrid w.finish.ensures.checked w.finish.ensures.within
+            w.finish.ensures.compared)
+        | in-None w ↦ absurd (none-some verdict (sym w.v1-is ∙ is))
+      ];
+    } in
+    let has = returns-clause-verdicts c under checked all in
+    record {
+      contents = contents;
+      agree = contents_agree t under n files feed all first.found;
+      tells = tells;
+      sure = yes_is_sure t contents files c.match-v1.v1 has tells;
+      enough = good_is_enough t contents files c.match-v1.v1 c.sound.ensures has tells;
+    }
