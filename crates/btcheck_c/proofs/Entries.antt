@@ -1,17 +1,16 @@
--- The statuses of the blocks of a piece message, and whether a torrent has a block.
-use Rattle.std.proofs.Common.{◌≡◌, ℕ, ◌+◌, ◌<◌, List, [], ◌∷◌, ◌++◌, length, map, take, set, get_or, Option, Some, None, refl, sym, ap, ap₂, ◌∙◌, subst, arith}
+-- The statuses of the blocks of a piece message, and the files and trees of a torrent.
+use Rattle.std.proofs.Common.{◌≡◌, ℕ, ◌+◌, ◌<◌, List, [], ◌∷◌, ◌++◌, length, map, take, set, get_or, Option, Some, None, refl, sym, ap, ap₂, ◌∙◌, arith}
 use Rattle.std.specs.Prelude.{IfSome, slice_get, option_map}
 use Rattle.std.proofs.lemmas.List.{length-map, map-append, take_more, take_more_set}
-use Rattle.std.proofs.lemmas.Option.{get_or_from_slice_get, same_Some, slice_get-get_or, slice_get-map, slice_get_within}
-use Rattle.hashtree.specs.Tree.{block_count}
+use Rattle.std.proofs.lemmas.Option.{get_or_from_slice_get, slice_get-get_or, slice_get-map, slice_get_within}
 use Rattle.opening.specs.Description.{Description, FileEntry, TreeEntry}
 use Rattle.opening.specs.Seen.{file_entry, tree_entry}
 use Rattle.opening.specs.Sound.{IsSoundFile}
 use Rattle.opening.specs.declared.torrent.File.{File}
 use Rattle.opening.specs.declared.torrent.TreeInfo.{TreeInfo}
 use Rattle.partial_tree.specs.declared.refusal.BlockRefusal.{BlockRefusal}
+use Rattle.owned_sessions.proofs.Trees.{tree_at}
 use Rattle.btcheck_c.specs.Blocks.{entry_status}
-use Rattle.btcheck_c.specs.Taken.{HasTreeBlock}
 
 -- the status of one more entry goes to its place
 pub statuses_next : (refusals : List (Option BlockRefusal)) (statuses : List ℕ) (m status : ℕ) (r : Option BlockRefusal)
@@ -23,17 +22,6 @@ statuses_next refusals statuses m status r there is room so_far =
     ∙ ap (λ x. take m refusals ++ x ∷ []) (get_or_from_slice_get refusals m r r there) in
     take_more_set statuses m status room ∙ ap₂ (λ xs x. xs ++ x ∷ []) so_far is
     ∙ sym (map-append entry_status (take m refusals) (r ∷ [])) ∙ ap (map entry_status) (sym next)
-
--- the tree at an index
-pub tree_at : (d : Description) (infos : List TreeInfo) (n : ℕ) (info : TreeInfo) → map tree_entry infos ≡ d.trees → slice_get infos n ≡ Some info
-    → slice_get d.trees n ≡ Some (tree_entry info)
-tree_at d infos n info are there =
-    ap (λ ts. slice_get ts n) (sym are) ∙ slice_get-map tree_entry infos n ∙ ap (option_map tree_entry) there
-
--- a block of a tree is one of its only entry
-pub block_of : (d : Description) (n b : ℕ) (e : TreeEntry) → slice_get d.trees n ≡ Some e → HasTreeBlock d n b → b < block_count e.length
-block_of d n b e there (e', there', inside) =
-    subst (λ (x : TreeEntry). b < block_count x.length) (same_Some e' e (sym there' ∙ there)) inside
 
 -- what is written of the tree at an index
 pub tree_there : (d : Description) (infos : List TreeInfo) (n : ℕ) (x : TreeInfo) → map tree_entry infos ≡ d.trees → n < length d.trees

@@ -4,8 +4,8 @@ use Rattle.partial_tree.specs.Names.{block_refusal_number}
 use Rattle.partial_tree.specs.declared.refusal.BlockRefusal.{BlockRefusal}
 use Rattle.session.specs.Blocks.{BlocksSeen}
 use Rattle.session.specs.Session.{SessionSeen}
+use Rattle.owned_sessions.specs.Taken.{BlocksTaken}
 use Rattle.btcheck_c.specs.Holds.{IsWrongKind}
-use Rattle.btcheck_c.specs.Taken.{BlocksTaken}
 use Rattle.btcheck_c.specs.declared.blocks_info.BlocksInfo.{BlocksInfo}
 use Rattle.btcheck_c.specs.declared.thing.Kind.{Kind}
 use Rattle.btcheck_c.specs.declared.thing.Kind.TheVariants as kind

@@ -1,7 +1,6 @@
 -- What C's handles own and hold, and what calls do to what they hold.
 pub mod Owning
 pub mod Holds
-pub mod Taken
 pub mod Statuses
 pub mod RootCalls
 pub mod SessionCalls

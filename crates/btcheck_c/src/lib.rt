@@ -17,7 +17,6 @@ mod file_info;
 mod frame_calls;
 mod handle;
 mod loose;
-mod opened;
 mod path_text;
 mod root_calls;
 mod session_calls;
