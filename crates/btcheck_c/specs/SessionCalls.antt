@@ -17,7 +17,7 @@ use Rattle.wire.specs.declared.message.Ask.{Ask}
 use Rattle.owned_sessions.specs.Taken.{HashesTaken, BlockTaken, HasTreeBlock}
 use Rattle.owned_sessions.specs.TreeStates.{HasState}
 use Rattle.btcheck_c.specs.Holds.{IsWrongKind}
-use Rattle.btcheck_c.specs.Statuses.{HasHashes, HasBlock, IsAnswer}
+use Rattle.c_layouts.specs.Statuses.{HasHashes, HasBlock, IsAnswer}
 use Rattle.btcheck_c.specs.declared.thing.Thing.{Thing}
 use Rattle.btcheck_c.specs.declared.thing.Kind.{Kind}
 use Rattle.btcheck_c.specs.declared.thing.Kind.TheVariants as kind

@@ -5,9 +5,9 @@ ghost use Rattle.btcheck_c.specs.Frames.{FrameTaken, TakesFrame};
 ghost use Rattle.btcheck_c.specs.Holds.{Through};
 
 use crate::handle::Handle;
-use crate::status::{BAD_SIZE, TOO_LONG, WRONG_HANDLE};
 use crate::thing::{Kind, Thing};
-use crate::verdict_info::{VerdictInfo, write_verdict};
+use c_layouts::status::{BAD_SIZE, TOO_LONG, WRONG_HANDLE};
+use c_layouts::verdict_info::{VerdictInfo, write_verdict};
 use owned_sessions::OwnedSession;
 use std::alloc::Global;
 use wire::{Frame, frame_in};

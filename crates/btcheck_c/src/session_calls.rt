@@ -5,11 +5,11 @@ ghost use Rattle.btcheck_c.specs.SessionCalls.{TakesHashes, TakesBlock, OpensAs,
 ghost use Rattle.btcheck_c.specs.Holds.{Fills, Through};
 
 use crate::handle::Handle;
-use crate::status::{
+use crate::thing::{Kind, Thing};
+use c_layouts::status::{
     DONE, NO_MEMORY, NO_SUCH, TORRENT, WRONG_HANDLE, status_of_answer, status_of_block,
     status_of_hashes,
 };
-use crate::thing::{Kind, Thing};
 use opening::Torrent;
 use owned_sessions::OwnedSession;
 use std::alloc::Global;

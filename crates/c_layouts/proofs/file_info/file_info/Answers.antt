@@ -1,7 +1,7 @@
 use Rattle.std.proofs.Common.{refl}
 use Rattle.opening.specs.Seen.{file_entry}
-use Rattle.btcheck_c.proofs.Entries.{file_at, tree_inside}
-use Rattle.btcheck_c.proofs.file_info.file_info.Goals as goal
+use Rattle.c_layouts.proofs.Entries.{file_at, tree_inside}
+use Rattle.c_layouts.proofs.file_info.file_info.Goals as goal
 
 pub tree_and_root-tree-requires : goal.tree_and_root-tree-requires
 tree_and_root-tree-requires c =

@@ -1,7 +1,7 @@
 //! A hash request as C sees it.
 
 ghost use Rattle.std.specs.Prelude.{◌≡◌};
-ghost use Rattle.btcheck_c.specs.Asks.{ask_of, asked_of};
+ghost use Rattle.c_layouts.specs.Asks.{ask_of, asked_of};
 
 use wire::Ask;
 

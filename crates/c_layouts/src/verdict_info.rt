@@ -1,7 +1,7 @@
 //! What a session makes of one message, as C sees it.
 
 ghost use Rattle.std.specs.Prelude.{◌≡◌, ◌≢◌};
-ghost use Rattle.btcheck_c.specs.Frames.{HasVerdict};
+ghost use Rattle.c_layouts.specs.Verdicts.{HasVerdict};
 
 use crate::blocks_info::{BlocksInfo, lay_out_blocks};
 use crate::status::{DONE, refused_block, refused_hashes};
@@ -37,7 +37,7 @@ const NOTED: u32 = 8;
 const SENT: u32 = 9;
 
 /// The status of a message, and what was made of it.
-pub(crate) fn write_verdict(verdict: &Verdict, out: &mut VerdictInfo) -> u32
+pub fn write_verdict(verdict: &Verdict, out: &mut VerdictInfo) -> u32
     ensures done { HasVerdict verdict.now result out.new }
     ensures unwritten { result ≢ 0 → out.new ≡ out.old }
 {

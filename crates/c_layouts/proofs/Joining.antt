@@ -4,7 +4,7 @@ use Rattle.std.specs.List.{flat_map}
 use Rattle.std.proofs.lemmas.List.{append-nil, drop-drop, drop_more, length-drop}
 use Rattle.std.proofs.Math.Seq.{drop-append-add, take-append_seam}
 use Rattle.filetree.specs.FileTree.{slash}
-use Rattle.btcheck_c.specs.Files.{path_text}
+use Rattle.c_layouts.specs.Paths.{path_text}
 
 -- the components after the first one
 abbrev pub tail_text : List (List ℕ) → List ℕ

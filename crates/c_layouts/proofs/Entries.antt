@@ -9,8 +9,7 @@ use Rattle.opening.specs.Sound.{IsSoundFile}
 use Rattle.opening.specs.declared.torrent.File.{File}
 use Rattle.opening.specs.declared.torrent.TreeInfo.{TreeInfo}
 use Rattle.partial_tree.specs.declared.refusal.BlockRefusal.{BlockRefusal}
-use Rattle.owned_sessions.proofs.Trees.{tree_at}
-use Rattle.btcheck_c.specs.Blocks.{entry_status}
+use Rattle.c_layouts.specs.Blocks.{entry_status}
 
 -- the status of one more entry goes to its place
 pub statuses_next : (refusals : List (Option BlockRefusal)) (statuses : List ℕ) (m status : ℕ) (r : Option BlockRefusal)
@@ -28,7 +27,10 @@ pub tree_there : (d : Description) (infos : List TreeInfo) (n : ℕ) (x : TreeIn
     → (e : TreeEntry) × (slice_get d.trees n ≡ Some e) × ((get_or infos n x).root ≡ e.root)
 tree_there d infos n x are low =
     let inside : n < length infos = omega (arith, low, ap length are, length-map infos tree_entry) in
-    (tree_entry (get_or infos n x), tree_at d infos n (get_or infos n x) are (slice_get-get_or infos n x inside), refl)
+    let there : slice_get d.trees n ≡ Some (tree_entry (get_or infos n x)) =
+    ap (λ ts. slice_get ts n) (sym are) ∙ slice_get-map tree_entry infos n
+    ∙ ap (option_map tree_entry) (slice_get-get_or infos n x inside) in
+    (tree_entry (get_or infos n x), there, refl)
 
 -- the file at an index
 pub file_at : (d : Description) (files : List File) (n : ℕ) (file : File) → map file_entry files ≡ d.files → n < length files

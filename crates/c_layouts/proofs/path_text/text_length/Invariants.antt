@@ -1,7 +1,7 @@
 use Rattle.std.proofs.Common.{drop}
-use Rattle.btcheck_c.specs.Files.{path_text}
-use Rattle.btcheck_c.proofs.Joining.{texts, tail_text, IsCounted}
-use Rattle.btcheck_c.proofs.path_text.text_length.Given as goal
+use Rattle.c_layouts.specs.Paths.{path_text}
+use Rattle.c_layouts.proofs.Joining.{texts, tail_text, IsCounted}
+use Rattle.c_layouts.proofs.path_text.text_length.Given as goal
 
 -- some first components were counted
 abbrev pub invariant-parts : goal.invariant-parts

@@ -1,6 +1,6 @@
 use Rattle.std.proofs.Common.{◌≡◌, length, map, take}
-use Rattle.btcheck_c.specs.Blocks.{entry_status}
-use Rattle.btcheck_c.proofs.blocks_info.lay_out_blocks.Given as goal
+use Rattle.c_layouts.specs.Blocks.{entry_status}
+use Rattle.c_layouts.proofs.blocks_info.lay_out_blocks.Given as goal
 
 -- the statuses of the first entries stand in their places
 abbrev pub invariant-entries : goal.invariant-entries

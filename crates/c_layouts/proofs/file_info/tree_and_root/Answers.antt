@@ -1,9 +1,9 @@
 use Rattle.std.proofs.Common.{◌<◌, [], get_or, length, refl, sym, subst}
 use Rattle.std.specs.Prelude.{IfSome}
 use Rattle.opening.specs.declared.torrent.TreeInfo.{TreeInfo}
-use Rattle.btcheck_c.specs.Files.{HasTree}
-use Rattle.btcheck_c.proofs.Entries.{tree_there}
-use Rattle.btcheck_c.proofs.file_info.tree_and_root.Goals as goal
+use Rattle.c_layouts.specs.Files.{HasTree}
+use Rattle.c_layouts.proofs.Entries.{tree_there}
+use Rattle.c_layouts.proofs.file_info.tree_and_root.Goals as goal
 
 pub returns-in-Some : goal.returns-in-Some
 returns-in-Some c =

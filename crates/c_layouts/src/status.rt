@@ -2,7 +2,7 @@
 
 ghost use Rattle.std.specs.Prelude.{◌≡◌, ◌≢◌, ◌+◌};
 ghost use Rattle.partial_tree.specs.Names.{hash_refusal_number, block_refusal_number};
-ghost use Rattle.btcheck_c.specs.Statuses.{HasHashes, HasBlock, IsAnswer};
+ghost use Rattle.c_layouts.specs.Statuses.{HasHashes, HasBlock, IsAnswer};
 
 use partial_tree::{BlockRefusal, HashRefusal};
 

@@ -1,6 +1,6 @@
 use Rattle.std.proofs.Common.{length-set, ◌∙◌, arith}
-use Rattle.btcheck_c.proofs.Entries.{statuses_next}
-use Rattle.btcheck_c.proofs.blocks_info.lay_out_blocks.Goals as goal
+use Rattle.c_layouts.proofs.Entries.{statuses_next}
+use Rattle.c_layouts.proofs.blocks_info.lay_out_blocks.Goals as goal
 
 pub entries-preserved : goal.entries-preserved
 entries-preserved c = (

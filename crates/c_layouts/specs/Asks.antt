@@ -1,6 +1,6 @@
 -- The five fields of a hash request, as C has them.
 use Rattle.wire.specs.declared.message.Ask.{Ask}
-use Rattle.btcheck_c.specs.declared.asked.Asked.{Asked}
+use Rattle.c_layouts.specs.declared.asked.Asked.{Asked}
 
 -- the ask of these fields
 abbrev pub ask_of : Asked → Ask

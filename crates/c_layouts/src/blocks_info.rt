@@ -1,7 +1,7 @@
 //! What a session makes of the blocks of one piece message, as C sees it.
 
 ghost use Rattle.std.specs.Prelude.{◌≡◌, ◌≢◌, length};
-ghost use Rattle.btcheck_c.specs.Blocks.{entry_status, AreLaidOut, HasBlocks};
+ghost use Rattle.c_layouts.specs.Blocks.{entry_status, AreLaidOut, HasBlocks};
 ghost use Rattle.partial_tree.specs.declared.refusal.BlockRefusal.{BlockRefusal as Why};
 
 use crate::status::{DONE, refused_block};
@@ -23,7 +23,7 @@ pub struct BlocksInfo {
 }
 
 /// The status of the blocks of a piece message, and what is made of each.
-pub(crate) fn write_blocks(answer: Result<Blocks, BlockRefusal>, out: &mut BlocksInfo) -> u32
+pub fn write_blocks(answer: Result<Blocks, BlockRefusal>, out: &mut BlocksInfo) -> u32
     ensures done { HasBlocks answer result out.new }
     ensures unwritten { result ≢ 0 → out.new ≡ out.old }
 {
@@ -37,7 +37,7 @@ pub(crate) fn write_blocks(answer: Result<Blocks, BlockRefusal>, out: &mut Block
 }
 
 /// The same entries, for C.
-pub(crate) fn lay_out_blocks(blocks: &Blocks) -> BlocksInfo
+pub fn lay_out_blocks(blocks: &Blocks) -> BlocksInfo
     ensures { AreLaidOut blocks.now result }
 {
     let mut statuses = [DONE; MOST_BLOCKS];

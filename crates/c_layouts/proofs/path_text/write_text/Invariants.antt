@@ -1,7 +1,7 @@
 use Rattle.std.proofs.Common.{drop}
-use Rattle.btcheck_c.specs.Files.{path_text}
-use Rattle.btcheck_c.proofs.Joining.{texts, tail_text, IsWritten}
-use Rattle.btcheck_c.proofs.path_text.write_text.Given as goal
+use Rattle.c_layouts.specs.Paths.{path_text}
+use Rattle.c_layouts.proofs.Joining.{texts, tail_text, IsWritten}
+use Rattle.c_layouts.proofs.path_text.write_text.Given as goal
 
 -- some first components were written
 abbrev pub invariant-parts : goal.invariant-parts

@@ -1,13 +1,13 @@
 //! A path as one text: its components, joined by `/`.
 
 ghost use Rattle.std.specs.Prelude.{◌≡◌, ◌≢◌, ◌-◌, ◌^◌, ◌≤◌, ◌+◌, ◌++◌, drop, length, map, min, take};
-ghost use Rattle.btcheck_c.specs.Files.{path_text, HasPath};
+ghost use Rattle.c_layouts.specs.Paths.{path_text, HasPath};
 
 use crate::status::{DONE, TOO_SMALL};
 
 /// The status of a path, which goes to the front of the room, and how many bytes it has. If the
 /// room has fewer, nothing goes there.
-pub(crate) fn write_path(parts: &[&str], room: &mut [u8], length: &mut u64) -> u32
+pub fn write_path(parts: &[&str], room: &mut [u8], length: &mut u64) -> u32
     ensures done { HasPath (path_text (map (λ s. s.now) parts.now)) result room.old room.new
         length.new }
     ensures unwritten { result ≢ 0 → (room.new ≡ room.old)

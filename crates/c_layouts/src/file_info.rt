@@ -1,7 +1,7 @@
 //! A torrent's file, laid out for C.
 
 ghost use Rattle.std.specs.Prelude.{◌<◌, ◌≤◌, length, IfSome, MatchOption};
-ghost use Rattle.btcheck_c.specs.Files.{IsFileInfo, HasTree};
+ghost use Rattle.c_layouts.specs.Files.{IsFileInfo, HasTree};
 
 use hashtree::Hash;
 use opening::Torrent;
@@ -18,7 +18,7 @@ pub struct FileInfo {
 }
 
 /// A file, laid out for C; `None` if the torrent has no such file.
-pub(crate) fn file_info(torrent: &Torrent<'_>, number: usize) -> Option<FileInfo>
+pub fn file_info(torrent: &Torrent<'_>, number: usize) -> Option<FileInfo>
     ensures { MatchOption result (length torrent.now.files ≤ number)
         (IsFileInfo torrent.now number) }
 {
