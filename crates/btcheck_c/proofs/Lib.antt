@@ -1,9 +1,6 @@
 -- What proofs share.
 pub mod TwoFields
 pub mod Throughs
-pub mod Torrents
-pub mod Joining
-pub mod Entries
 pub mod FilePieces
 pub mod Starting
 pub mod Moving

@@ -14,8 +14,10 @@ use Rattle.pieces.proofs.piece_length.PieceLength.TheSendSync as piece_length
 use Rattle.node_maps.proofs.paged.Paged.TheSendSync as paged
 use Rattle.session.proofs.pausing.Paused.TheSendSync as paused
 use Rattle.hashtree.proofs.root.RootBuilder.TheSendSync as builder
-use Rattle.btcheck_c.proofs.file_check.FileCheck.TheSendSync as check
-use Rattle.btcheck_c.specs.contracts.opened.Opened as Opened
+use Rattle.owned_sessions.specs.contracts.owned_session.OwnedSession as OwnedSession
+use Rattle.btcheck_c.proofs.file_check.ManyPieces.TheSendSync as many
+use Rattle.btcheck_c.specs.contracts.file_check.FileCheck as FileCheck
+use Rattle.btcheck_c.specs.contracts.file_check.OnePiece as OnePiece
 use Rattle.btcheck_c.specs.contracts.thing.Kind as Kind
 use Rattle.btcheck_c.specs.contracts.thing.Thing as Thing
 
@@ -29,11 +31,17 @@ file κ = search (path, sendable) depth 40 fits 100000
 torrent : (κ : NamedLft) → IsSend (Torrent.the_row κ)
 torrent κ = search (file, tree_info.the_send, version1.the_send, piece_length.the_send, maps.crosses, heap.crosses, sendable) depth 40 fits 100000
 
-opened : IsSend Opened.the_row
-opened = search (torrent, paused.the_send, paged.the_send, sendable) depth 30 fits 100000
+session : IsSend OwnedSession.the_row
+session = search (torrent, paused.the_send, paged.the_send, sendable) depth 30 fits 100000
+
+one : IsSend OnePiece.the_row
+one = search (builder.the_field_send, declared_send, as_row_send, sendable) depth 30 fits 100000
+
+check : IsSend FileCheck.the_row
+check = search (one, many.the_field_send, variants_send, as_row_send, sendable) depth 30 fits 100000
 
 kind : IsSend Kind.the_row
-kind = search (opened, builder.the_field_send, check.the_field_send, variants_send, as_row_send, sendable) depth 30 fits 100000
+kind = search (session, builder.the_field_send, check, variants_send, as_row_send, sendable) depth 30 fits 100000
 
 pub thing : IsSend Thing.the_row
 thing = search (kind, declared_send, sendable) depth 30 fits 100000

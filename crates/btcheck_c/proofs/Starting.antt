@@ -8,10 +8,10 @@ use Rattle.opening.specs.Seen.{tree_entry}
 use Rattle.opening.specs.Sound.{IsSound, IsSoundFile, IsSoundTree}
 use Rattle.opening.specs.declared.torrent.TreeInfo.{TreeInfo}
 use Rattle.pieces.specs.Pieces.{IsPieceLength}
+use Rattle.owned_sessions.proofs.Trees.{tree_at}
 use Rattle.btcheck_c.specs.CheckCalls.{CheckKept, CheckStarted, StartsCheck}
 use Rattle.btcheck_c.specs.declared.file_check.FileCheck.{FileCheck}
 use Rattle.btcheck_c.specs.declared.thing.Thing.{Thing}
-use Rattle.btcheck_c.proofs.Entries.{tree_at}
 
 -- the other handle holds nothing
 pub start_none : (n : ℕ) (o h o' : Option Thing) → h ≡ None → o ≡ None → o' ≡ None → CheckStarted n o h 1 h o'

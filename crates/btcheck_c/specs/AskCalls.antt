@@ -7,11 +7,11 @@ use Rattle.partial_tree.specs.declared.answer.Answer.TheVariants as answer
 use Rattle.node_maps.specs.Digest.{Hash}
 use Rattle.session.specs.Session.{SessionSeen, IsAnswered}
 use Rattle.wire.specs.declared.message.Ask.{Ask}
-use Rattle.btcheck_c.specs.Asks.{asked_of}
+use Rattle.owned_sessions.specs.Taken.{AnswerTaken, AskNoted, AnswerGiven, HasTreeBlock, WantIs}
+use Rattle.c_layouts.specs.Asks.{asked_of}
 use Rattle.btcheck_c.specs.Holds.{IsWrongKind}
-use Rattle.btcheck_c.specs.Statuses.{HasHashes, IsAnswer}
-use Rattle.btcheck_c.specs.Taken.{AnswerTaken, AskNoted, AnswerGiven, HasTreeBlock, WantIs}
-use Rattle.btcheck_c.specs.declared.asked.Asked.{Asked}
+use Rattle.c_layouts.specs.Statuses.{HasHashes, IsAnswer}
+use Rattle.c_layouts.specs.declared.asked.Asked.{Asked}
 use Rattle.btcheck_c.specs.declared.thing.Kind.{Kind}
 use Rattle.btcheck_c.specs.declared.thing.Kind.TheVariants as kind
 

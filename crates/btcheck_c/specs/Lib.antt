@@ -1,11 +1,8 @@
 -- What C's handles own and hold, and what calls do to what they hold.
 pub mod Owning
 pub mod Holds
-pub mod Taken
-pub mod Statuses
 pub mod RootCalls
 pub mod SessionCalls
-pub mod Asks
 pub mod AskCalls
 pub mod Files
 pub mod Blocks

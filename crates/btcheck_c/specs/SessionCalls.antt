@@ -1,5 +1,5 @@
 -- What the calls on a session do.
-use Rattle.std.specs.Prelude.{◌≡◌, ◌≢◌, ◌⊎◌, ℕ, ◌+◌, ◌≤◌, Bool, List, length, slice_get, Option, Some, None, Result, Ok, Err}
+use Rattle.std.specs.Prelude.{◌≡◌, ◌≢◌, ◌⊎◌, ℕ, ◌+◌, ◌≤◌, Bool, List, length, Option, Some, None, Result, Ok, Err}
 use Rattle.std.specs.FinMap as finite
 use Rattle.std.specs.FinSet as set
 use Rattle.filetree.specs.Names.{refusal_number}
@@ -11,12 +11,13 @@ use Rattle.opening.specs.Refusals.{RefusesTorrent}
 use Rattle.node_maps.specs.Digest.{Hash}
 use Rattle.partial_tree.specs.declared.refusal.HashRefusal.{HashRefusal}
 use Rattle.partial_tree.specs.declared.refusal.BlockRefusal.{BlockRefusal}
-use Rattle.session.specs.Session.{SessionSeen, TreeState}
+use Rattle.session.specs.Session.{SessionSeen}
 use Rattle.session.specs.Fresh.{IsFresh}
 use Rattle.wire.specs.declared.message.Ask.{Ask}
+use Rattle.owned_sessions.specs.Taken.{HashesTaken, BlockTaken, HasTreeBlock}
+use Rattle.owned_sessions.specs.TreeStates.{HasState}
 use Rattle.btcheck_c.specs.Holds.{IsWrongKind}
-use Rattle.btcheck_c.specs.Statuses.{HasHashes, HasBlock, IsAnswer}
-use Rattle.btcheck_c.specs.Taken.{HashesTaken, BlockTaken, HasTreeBlock}
+use Rattle.c_layouts.specs.Statuses.{HasHashes, HasBlock, IsAnswer}
 use Rattle.btcheck_c.specs.declared.thing.Thing.{Thing}
 use Rattle.btcheck_c.specs.declared.thing.Kind.{Kind}
 use Rattle.btcheck_c.specs.declared.thing.Kind.TheVariants as kind
@@ -43,10 +44,6 @@ SessionOpened input layers status o' =
     × IsSessionOf input layers S))) ⊎ ((o' ≡ None) × IsNoSession input status)
 
 -- ---- what is known
-
--- the state of tree n
-abbrev pub HasState : SessionSeen → ℕ → (TreeState → Type 0) → Type 0
-HasState S n P = (s : TreeState) × (slice_get S.trees n ≡ Some s) × P s
 
 -- how many places of a tree are known, and how many of its leaves are marked
 abbrev pub Counted : ℕ → ℕ → ℕ → Kind → ℕ → Kind → Type 0

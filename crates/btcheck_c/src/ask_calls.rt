@@ -2,16 +2,16 @@
 
 ghost use Rattle.std.specs.Prelude.{◌≡◌, ◌≢◌, Option};
 ghost use Rattle.partial_tree.specs.declared.answer.Answer.{Answer as Given};
-ghost use Rattle.btcheck_c.specs.Asks.{ask_of};
+ghost use Rattle.c_layouts.specs.Asks.{ask_of};
 ghost use Rattle.btcheck_c.specs.AskCalls.{HasWant, Wants, HasNote, Notes, TakesAnswer, HasAnswer, Answers, AnswersIfAnswered};
 ghost use Rattle.btcheck_c.specs.Holds.{Through};
 
-use crate::asked::{Asked, lay_out, read_ask};
 use crate::handle::Handle;
-use crate::status::{
+use crate::thing::{Kind, Thing};
+use c_layouts::asked::{Asked, lay_out, read_ask};
+use c_layouts::status::{
     DONE, NO_MEMORY, NO_SUCH, NOTHING, TOO_SMALL, WRONG_HANDLE, status_of_answer, status_of_hashes,
 };
-use crate::thing::{Kind, Thing};
 use partial_tree::Answer;
 use std::alloc::Global;
 use wire::{Ask, Hash};

@@ -4,10 +4,10 @@ ghost use Rattle.std.specs.Prelude.{◌≡◌, ◌≢◌};
 ghost use Rattle.btcheck_c.specs.Blocks.{TakesBlocks};
 ghost use Rattle.btcheck_c.specs.Holds.{Through};
 
-use crate::blocks_info::{BlocksInfo, write_blocks};
 use crate::handle::Handle;
-use crate::status::WRONG_HANDLE;
 use crate::thing::{Kind, Thing};
+use c_layouts::blocks_info::{BlocksInfo, write_blocks};
+use c_layouts::status::WRONG_HANDLE;
 use std::alloc::Global;
 
 impl Thing {

@@ -6,8 +6,8 @@ ghost use Rattle.btcheck_c.specs.Holds.{Through};
 
 use crate::file_check::FileCheck;
 use crate::handle::Handle;
-use crate::status::{BAD_PIECE, DONE, NO_ROOT, NO_SUCH, TOO_LONG, TOO_SHORT, WRONG_HANDLE};
 use crate::thing::{Kind, Thing};
+use c_layouts::status::{BAD_PIECE, DONE, NO_ROOT, NO_SUCH, TOO_LONG, TOO_SHORT, WRONG_HANDLE};
 use opening::Torrent;
 use pieces::PieceLength;
 use std::alloc::Global;

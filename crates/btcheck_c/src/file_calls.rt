@@ -4,11 +4,11 @@ ghost use Rattle.std.specs.Prelude.{◌≡◌, ◌≢◌};
 ghost use Rattle.btcheck_c.specs.Files.{HasFilePath, WritesCounts, WritesFile, WritesPath, WritesInfoHashes};
 ghost use Rattle.btcheck_c.specs.Holds.{Through};
 
-use crate::file_info::{FileInfo, file_info};
 use crate::handle::Handle;
-use crate::path_text::write_path;
-use crate::status::{DONE, NO_SUCH, WRONG_HANDLE};
 use crate::thing::{Kind, Thing};
+use c_layouts::file_info::{FileInfo, file_info};
+use c_layouts::path_text::write_path;
+use c_layouts::status::{DONE, NO_SUCH, WRONG_HANDLE};
 use opening::Torrent;
 use std::alloc::Global;
 

@@ -5,26 +5,24 @@ ghost use Rattle.btcheck_c.specs.Frames.{FrameTaken, TakesFrame};
 ghost use Rattle.btcheck_c.specs.Holds.{Through};
 
 use crate::handle::Handle;
-use crate::opened::Opened;
-use crate::status::{BAD_SIZE, TOO_LONG, WRONG_HANDLE};
 use crate::thing::{Kind, Thing};
-use crate::verdict_info::{VerdictInfo, write_verdict};
+use c_layouts::status::{BAD_SIZE, TOO_LONG, WRONG_HANDLE};
+use c_layouts::verdict_info::{VerdictInfo, write_verdict};
+use owned_sessions::OwnedSession;
 use std::alloc::Global;
 use wire::{Frame, frame_in};
 
-impl Opened {
-    // Takes the message of a body, if it is one.
-    fn take_frame(&mut self, body: &[u8], out: &mut VerdictInfo) -> u32
-        ensures done { FrameTaken body.now out.new self.old result self.new }
-        ensures unwritten { result ≢ 0 → out.new ≡ out.old }
-    {
-        if body.len() > u32::MAX as usize {
-            return TOO_LONG;
-        }
-        match frame_in(body) {
-            Frame::BadSize { .. } => BAD_SIZE,
-            Frame::Message(message) => write_verdict(&self.step(&message), out),
-        }
+// Takes the message of a body, if it is one.
+fn take_frame(session: &mut OwnedSession, body: &[u8], out: &mut VerdictInfo) -> u32
+    ensures done { FrameTaken body.now out.new session.old result session.new }
+    ensures unwritten { result ≢ 0 → out.new ≡ out.old }
+{
+    if body.len() > u32::MAX as usize {
+        return TOO_LONG;
+    }
+    match frame_in(body) {
+        Frame::BadSize { .. } => BAD_SIZE,
+        Frame::Message(message) => write_verdict(&session.step(&message), out),
     }
 }
 
@@ -35,7 +33,7 @@ impl Thing {
     {
         match &mut self.kind {
             Kind::Root(_) | Kind::Check(_) => WRONG_HANDLE,
-            Kind::Session(session) => session.take_frame(body, out),
+            Kind::Session(session) => take_frame(session, body, out),
         }
     }
 }

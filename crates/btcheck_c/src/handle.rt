@@ -3,8 +3,8 @@
 ghost use Rattle.std.specs.Prelude.{◌≡◌, Some, None, option_map, is_some};
 
 use crate::slot::Slot;
-use crate::status::{DONE, NO_MEMORY};
 use crate::thing::{Kind, Thing};
+use c_layouts::status::{DONE, NO_MEMORY};
 use std::alloc::Global;
 use std::mem::replace;
 

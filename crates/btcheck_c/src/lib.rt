@@ -7,30 +7,19 @@
 #![tactic(auto)]
 
 mod ask_calls;
-mod asked;
 mod block_calls;
-mod blocks_info;
 mod check_calls;
 mod file_calls;
 mod file_check;
-mod file_info;
 mod frame_calls;
 mod handle;
 mod loose;
-mod opened;
-mod path_text;
 mod root_calls;
 mod session_calls;
 mod slot;
-mod status;
 mod thing;
 mod threads;
-mod verdict_info;
 mod version;
 
-pub use asked::Asked;
-pub use blocks_info::BlocksInfo;
-pub use file_info::FileInfo;
 pub use handle::Handle;
 pub use threads::{handles_may_move, may_move};
-pub use verdict_info::VerdictInfo;

@@ -5,8 +5,8 @@ ghost use Rattle.btcheck_c.specs.RootCalls.{Pushed, RootMade, Finished};
 ghost use Rattle.btcheck_c.specs.Holds.{Fills, Through};
 
 use crate::handle::Handle;
-use crate::status::{DONE, NO_MEMORY, NO_ROOT, TOO_LONG, WRONG_HANDLE};
 use crate::thing::{Kind, Thing};
+use c_layouts::status::{DONE, NO_MEMORY, NO_ROOT, TOO_LONG, WRONG_HANDLE};
 use hashtree::{MAX_LENGTH, RootBuilder};
 use std::alloc::Global;
 use std::mem::replace;

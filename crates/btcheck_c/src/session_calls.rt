@@ -5,13 +5,13 @@ ghost use Rattle.btcheck_c.specs.SessionCalls.{TakesHashes, TakesBlock, OpensAs,
 ghost use Rattle.btcheck_c.specs.Holds.{Fills, Through};
 
 use crate::handle::Handle;
-use crate::opened::Opened;
-use crate::status::{
+use crate::thing::{Kind, Thing};
+use c_layouts::status::{
     DONE, NO_MEMORY, NO_SUCH, TORRENT, WRONG_HANDLE, status_of_answer, status_of_block,
     status_of_hashes,
 };
-use crate::thing::{Kind, Thing};
 use opening::Torrent;
+use owned_sessions::OwnedSession;
 use std::alloc::Global;
 use wire::{Ask, Hash};
 
@@ -80,14 +80,14 @@ impl Thing {
 }
 
 // A session of the torrent, or the status.
-fn open_session(alloc: Global, input: &'static [u8], with_layers: bool) -> Result<Opened, u32>
+fn open_session(alloc: Global, input: &'static [u8], with_layers: bool) -> Result<OwnedSession, u32>
     ensures { OpensAs input.now with_layers result }
 {
     let torrent = match Torrent::open(alloc, input) {
         Err(refusal) => return Err(TORRENT + u32::from(refusal.number())),
         Ok(torrent) => torrent,
     };
-    match Opened::new(alloc, torrent, with_layers) {
+    match OwnedSession::new(alloc, torrent, with_layers) {
         Err(_) => Err(NO_MEMORY),
         Ok(session) => Ok(session),
     }

@@ -1,8 +1,8 @@
 //! What a handle of C may hold.
 
 use crate::file_check::FileCheck;
-use crate::opened::Opened;
 use hashtree::RootBuilder;
+use owned_sessions::OwnedSession;
 
 /// What a handle of C may hold. One struct for all kinds, since an export can have no type that is
 /// generic in what a handle holds.
@@ -17,7 +17,7 @@ pub enum Kind {
     /// The builder of a file's root.
     Root(RootBuilder),
     /// A session with its torrent.
-    Session(Opened),
+    Session(OwnedSession),
     /// The check of one file's bytes.
     Check(FileCheck),
 }

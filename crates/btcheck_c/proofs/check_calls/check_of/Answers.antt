@@ -3,7 +3,7 @@ use Rattle.std.specs.Prelude.{slice_get}
 use Rattle.opening.specs.Seen.{file_entry, tree_entry}
 use Rattle.opening.specs.declared.torrent.TreeInfo.{TreeInfo}
 use Rattle.btcheck_c.specs.FileChecks.{BeginsFile}
-use Rattle.btcheck_c.proofs.Entries.{file_at}
+use Rattle.c_layouts.proofs.Entries.{file_at}
 use Rattle.btcheck_c.proofs.Starting.{info_inside, info_sound, info_there, piece_length_is}
 use Rattle.btcheck_c.proofs.check_calls.check_of.Goals as goal
 

@@ -1,8 +1,8 @@
 use Rattle.std.proofs.Common.{ap, ◌∙◌, subst, inl}
 use Rattle.opening.specs.Seen.{file_entry}
-use Rattle.btcheck_c.specs.Files.{path_text, HasPath}
-use Rattle.btcheck_c.proofs.Entries.{file_at}
-use Rattle.btcheck_c.proofs.Joining.{texts}
+use Rattle.c_layouts.specs.Paths.{path_text, HasPath}
+use Rattle.c_layouts.proofs.Entries.{file_at}
+use Rattle.c_layouts.proofs.Joining.{texts}
 use Rattle.btcheck_c.proofs.file_calls.write_path_of.Goals as goal
 
 pub returns-in-Some-clause-done : goal.returns-in-Some-clause-done

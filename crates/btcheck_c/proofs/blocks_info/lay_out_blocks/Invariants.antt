@@ -1,8 +1,0 @@
-use Rattle.std.proofs.Common.{◌≡◌, length, map, take}
-use Rattle.btcheck_c.specs.Blocks.{entry_status}
-use Rattle.btcheck_c.proofs.blocks_info.lay_out_blocks.Given as goal
-
--- the statuses of the first entries stand in their places
-abbrev pub invariant-entries : goal.invariant-entries
-invariant-entries l = (length l.statuses ≡ 17)
-    × (take l.entry l.statuses ≡ map entry_status (take l.entry l.blocks.refusals))

@@ -1,8 +1,0 @@
-use Rattle.std.proofs.Common.{drop}
-use Rattle.btcheck_c.specs.Files.{path_text}
-use Rattle.btcheck_c.proofs.Joining.{texts, tail_text, IsCounted}
-use Rattle.btcheck_c.proofs.path_text.text_length.Given as goal
-
--- some first components were counted
-abbrev pub invariant-parts : goal.invariant-parts
-invariant-parts l = IsCounted (path_text (texts l.fn.parts)) l.count (tail_text (texts (drop l.part-index l.others)))

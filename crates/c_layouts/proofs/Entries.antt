@@ -1,0 +1,48 @@
+-- The statuses of the blocks of a piece message, and the files and trees of a torrent.
+use Rattle.std.proofs.Common.{◌≡◌, ℕ, ◌+◌, ◌<◌, List, [], ◌∷◌, ◌++◌, length, map, take, set, get_or, Option, Some, None, refl, sym, ap, ap₂, ◌∙◌, arith}
+use Rattle.std.specs.Prelude.{IfSome, slice_get, option_map}
+use Rattle.std.proofs.lemmas.List.{length-map, map-append, take_more, take_more_set}
+use Rattle.std.proofs.lemmas.Option.{get_or_from_slice_get, slice_get-get_or, slice_get-map, slice_get_within}
+use Rattle.opening.specs.Description.{Description, FileEntry, TreeEntry}
+use Rattle.opening.specs.Seen.{file_entry, tree_entry}
+use Rattle.opening.specs.Sound.{IsSoundFile}
+use Rattle.opening.specs.declared.torrent.File.{File}
+use Rattle.opening.specs.declared.torrent.TreeInfo.{TreeInfo}
+use Rattle.partial_tree.specs.declared.refusal.BlockRefusal.{BlockRefusal}
+use Rattle.c_layouts.specs.Blocks.{entry_status}
+
+-- the status of one more entry goes to its place
+pub statuses_next : (refusals : List (Option BlockRefusal)) (statuses : List ℕ) (m status : ℕ) (r : Option BlockRefusal)
+    → slice_get refusals m ≡ Some r → status ≡ entry_status r → m < length statuses → take m statuses ≡ map entry_status (take m refusals)
+    → take (m + 1) (set statuses m status) ≡ map entry_status (take (m + 1) refusals)
+statuses_next refusals statuses m status r there is room so_far =
+    let next : take (m + 1) refusals ≡ take m refusals ++ r ∷ [] =
+    take_more refusals m r (slice_get_within refusals m r there)
+    ∙ ap (λ x. take m refusals ++ x ∷ []) (get_or_from_slice_get refusals m r r there) in
+    take_more_set statuses m status room ∙ ap₂ (λ xs x. xs ++ x ∷ []) so_far is
+    ∙ sym (map-append entry_status (take m refusals) (r ∷ [])) ∙ ap (map entry_status) (sym next)
+
+-- what is written of the tree at an index
+pub tree_there : (d : Description) (infos : List TreeInfo) (n : ℕ) (x : TreeInfo) → map tree_entry infos ≡ d.trees → n < length d.trees
+    → (e : TreeEntry) × (slice_get d.trees n ≡ Some e) × ((get_or infos n x).root ≡ e.root)
+tree_there d infos n x are low =
+    let inside : n < length infos = omega (arith, low, ap length are, length-map infos tree_entry) in
+    let there : slice_get d.trees n ≡ Some (tree_entry (get_or infos n x)) =
+    ap (λ ts. slice_get ts n) (sym are) ∙ slice_get-map tree_entry infos n
+    ∙ ap (option_map tree_entry) (slice_get-get_or infos n x inside) in
+    (tree_entry (get_or infos n x), there, refl)
+
+-- the file at an index
+pub file_at : (d : Description) (files : List File) (n : ℕ) (file : File) → map file_entry files ≡ d.files → n < length files
+    → file ≡ get_or files n file → slice_get d.files n ≡ Some (file_entry file)
+file_at d files n file are inside is =
+    ap (λ fs. slice_get fs n) (sym are) ∙ slice_get-map file_entry files n
+    ∙ ap (option_map file_entry) (slice_get-get_or files n file inside ∙ ap Some (sym is))
+
+-- the tree of a file is one of the torrent's
+pub tree_inside : (d : Description) (f : FileEntry) → IsSoundFile d f → IfSome f.tree (λ n. n < length d.trees)
+tree_inside d f sound = inside f.tree refl
+  where
+    inside : (o : Option ℕ) → f.tree ≡ o → IfSome o (λ n. n < length d.trees)
+    inside None is = tt
+    inside (Some n) is = let tree = sound.tree_there n is in slice_get_within d.trees n tree.0 tree.1

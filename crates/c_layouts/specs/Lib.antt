@@ -1,0 +1,7 @@
+-- What C is given of asks, blocks, files, paths and verdicts, and the status of each.
+pub mod Statuses
+pub mod Asks
+pub mod Blocks
+pub mod Files
+pub mod Paths
+pub mod Verdicts

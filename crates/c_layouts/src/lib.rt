@@ -1,0 +1,10 @@
+//! How the C library lays out for C what it is asked and what it answers: structs, statuses, and the
+//! text of a path. It has no export and no handle.
+#![tactic(auto)]
+
+pub mod asked;
+pub mod blocks_info;
+pub mod file_info;
+pub mod path_text;
+pub mod status;
+pub mod verdict_info;
