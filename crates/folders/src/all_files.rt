@@ -23,6 +23,8 @@ use thiserror::Error;
 
 /// Checks each file of a torrent, and writes its line as soon as it is done. Memory is taken for
 /// the report alone, before the first path is opened. A line that breaks off ends the check.
+// It has the buffer in its frame, so it is not inlined.
+#[inline(never)]
 pub(crate) fn check_files<S: Shelf, T: LinesOut>(
     alloc: Global,
     torrent: &Torrent<'_>,

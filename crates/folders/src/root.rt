@@ -78,6 +78,8 @@ fn reading_line(reading: &Reading) -> Line
 }
 
 // Reads the source to its end, or to one byte past the greatest length.
+// It has the buffer in its frame, so it is not inlined.
+#[inline(never)]
 fn read_content<R: Source>(source: &mut R) -> Result<Reading, DeviceFault>
     ensures content { IfOk result (λ reading. (file : List ℕ)
         × IsFileOfSource (R.seen source.old) (R.seen source.new) file × IsReadingOf file reading) }

@@ -90,6 +90,8 @@ fn longest(paths: &[Vec<String>]) -> usize
 }
 
 // Adds the files under these paths. The list has room for the components of each.
+// It has the buffer in its frame, so it is not inlined.
+#[inline(never)]
 fn add_files<'p, S: Shelf>(
     alloc: Global,
     shelf: &mut S,

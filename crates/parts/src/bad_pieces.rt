@@ -29,6 +29,8 @@ use printing::Line;
 ///
 /// `Read`: the opening or a read failed, which the shelf counts. `Gone`: nothing has the file's
 /// name. `Write`: the sink failed. The lines of the first runs, or a prefix of them, went out.
+// It has the buffer in its frame, so it is not inlined.
+#[inline(never)]
 pub fn print_bad_pieces<S: Shelf, W: Sink>(
     torrent: &Torrent<'_>,
     file: &File<'_>,

@@ -51,6 +51,8 @@ pub fn check_with_bad_pieces<S: Shelf, W: Sink>(
 }
 
 // Checks all files, and writes what is wanted of each before the next one is opened.
+// It has the buffer in its frame, so it is not inlined.
+#[inline(never)]
 fn check_files<S: Shelf, W: Sink>(
     check: &mut FolderCheck<'_>,
     torrent: &Torrent<'_>,

@@ -25,6 +25,8 @@ use std::alloc::Global;
 /// It takes memory for the report alone, before the first path is opened: if that is refused, the
 /// shelf stays as it is. A file is unreadable if its opening or one of its own reads failed, and
 /// the shelf's count of failures grows by the number of these files.
+// It has the buffer in its frame, so it is not inlined.
+#[inline(never)]
 pub fn check_part<S: SeekShelf>(
     alloc: Global,
     torrent: &Torrent<'_>,

@@ -49,6 +49,8 @@ pub fn seed<N: NodeMap, S: Shelf, W: Sink>(
 }
 
 // Seeds from each file in turn, and writes its line.
+// It has the buffer in its frame, so it is not inlined.
+#[inline(never)]
 fn seed_files<N: NodeMap, S: Shelf, W: Sink>(
     alloc: Global,
     session: &mut Session<'_, N>,

@@ -88,6 +88,8 @@ impl Progress {
         }
     }
 
+    // Draws the line anew, if it is time to. It has the line in its frame, so it is not inlined.
+    #[inline(never)]
     fn look(&self, screen: &Screen, now: Instant, place: u64, name: &str) {
         let age = now.duration_since(screen.drawn.get());
         if age < Duration::from_millis(MILLISECONDS_BETWEEN_LINES) {
