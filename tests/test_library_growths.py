@@ -209,11 +209,12 @@ def test_drafts():
 def test_folders():
     with shimmed(MEMORY_TESTS) as (place, shim):
         path = write(f"{place}/torrent", torrent_of([("five", FIVE)], 32768))
-        content = write(f"{place}/content", FIVE)
+        whole, bad = write(f"{place}/content", FIVE), write(f"{place}/bad", FIVE[:-1])
         for call, named in [("gather", {"gather"}), ("check", {"check"}), ("check_onto", {"check_onto"}),
-                            ("parts", {"check_part", "join_reports"}),
+                            ("check_with_bad_pieces", {"check_with_bad_pieces"}), ("parts", {"check_part", "join_reports"}),
                             ("seed", {"new", "seed"})]:
             for map_name in ("flat", "paged") if call == "seed" else ("paged",):
                 name = f"{call} over {map_name}" if call == "seed" else call
+                content = bad if call == "check_with_bad_pieces" else whole
                 counts = calls_refused(shim, name, path, content, map_name, call)
                 assert all(counts[of] > 0 for of in named), (call, counts)

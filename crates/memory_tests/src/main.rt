@@ -26,7 +26,7 @@ use opening::Torrent;
 use parting::join_again;
 use replaying::replay_again;
 use session::NodeMap;
-use shelving::{check_again, gather_again, report_again, seed_again};
+use shelving::{bad_again, check_again, gather_again, report_again, seed_again};
 use std::{env, fs, io};
 
 // Makes the call. To a call that takes no messages the record is the content of a file, or what it
@@ -43,6 +43,7 @@ fn make_call<N: NodeMap>(
         "gather" => gather_again(rt, record),
         "check" => check_again(rt, torrent, record),
         "check_onto" => report_again(rt, torrent, record),
+        "check_with_bad_pieces" => bad_again(rt, torrent, record),
         "parts" => join_again(rt, torrent, record),
         "seed" => seed_again::<N>(rt, torrent, record),
         "replay" => replay_again::<N>(rt, torrent, record),

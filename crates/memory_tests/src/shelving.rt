@@ -9,9 +9,10 @@ use folders::memory::{MemFile, MemShelf};
 use folders::{CheckFault, Lines, NoMemory, Report, ShelfFault, check, check_onto};
 use gathering::{GatherFault, gather};
 use opening::Torrent;
+use parts::{BadCheckFault, check_with_bad_pieces};
 use seeding::{SeedFault, seed};
 use session::{NodeMap, Session};
-use std::io;
+use std::{fmt, io};
 
 /// The path that the torrents of the tests have for their file.
 pub(crate) const PATH: &[&str] = &["five"];
@@ -79,9 +80,25 @@ pub(crate) fn report_again(
     print_checked(rt, answer, &out)
 }
 
-fn print_checked(
+/// Checks the same with the bad pieces of the file behind its line, and prints the report.
+pub(crate) fn bad_again(rt: &HostRuntime, torrent: &Torrent<'_>, content: &[u8]) -> io::Result<()> {
+    let files = [MemFile::new(PATH, content)];
+    let mut shelf = MemShelf::new(rt.alloc(), &files);
+    let mut out = MemSink::with_room(rt.alloc(), 256)?;
+    let mut answer = check_with_bad_pieces(rt.alloc(), torrent, &mut shelf, Lines::All, &mut out);
+    if let Err(BadCheckFault::NoMemory) = answer {
+        name_refused(rt, "check_with_bad_pieces")?;
+        if shelf.openings() != 0 || out.flushes() != 0 || !out.written().is_empty() {
+            println!(rt; "changed by check_with_bad_pieces")?;
+        }
+        answer = check_with_bad_pieces(rt.alloc(), torrent, &mut shelf, Lines::All, &mut out);
+    }
+    print_checked(rt, answer, &out)
+}
+
+fn print_checked<E: fmt::Display>(
     rt: &HostRuntime,
-    answer: Result<Report, CheckFault>,
+    answer: Result<Report, E>,
     out: &MemSink,
 ) -> io::Result<()> {
     match answer {
