@@ -1,5 +1,5 @@
-//! How the C library lays out for C what it is asked and what it answers: structs, statuses, and the
-//! text of a path. It has no export and no handle.
+//! How the C library lays out for C what it is asked and what it answers: structs, statuses, and
+//! the text of a path. It has no export and no handle.
 #![tactic(auto)]
 
 pub mod asked;
