@@ -1,6 +1,6 @@
-//! A session that owns its torrent. A [`session::Session`] borrows the torrent that it is of, so no
-//! struct can hold both. An [`OwnedSession`] can be put into one, into a collection, or behind a
-//! handle of C: it stands beside no other value.
+//! A session that owns its torrent. A [`session::Session`] borrows its torrent, so no struct can
+//! hold both. An [`OwnedSession`] has both, so it can be a field, lie in a collection, or stand
+//! behind a handle of C.
 #![tactic(auto)]
 
 mod owned_session;
