@@ -16,10 +16,10 @@ use Rattle.printing.specs.declared.fault.Fault.{Fault}
 use Rattle.printing.specs.declared.fault.Fault.TheVariants as faults
 
 module _ {S F : Type 0} (shelf : Ghosts S F) (seen : F → SourceSeen) where
-  -- What a check of the folder with this path did, by its answer: each file was checked and printed,
-  -- with its bad pieces, before the next, and the status is that of the last line; or the report
-  -- broke off at a file or behind the last one; or a file that had been read could not be read
-  -- again, or was gone; or memory was refused before the first.
+  -- What a check of the folder with this path did, by its answer: each file was checked and
+  -- printed, with its bad pieces, before the next, and the status is that of the last line; or the
+  -- report broke off at a file or behind the last one; or a file that had been read could not be
+  -- read again, or was gone; or memory was refused before the first.
   abbrev pub ChecksBad : Description → Lines → List ℕ → S × SinkSeen → S × SinkSeen
       → Result ℕ Fault → Type 0
   ChecksBad t lines dir old new (Ok status) =

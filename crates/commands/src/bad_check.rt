@@ -11,10 +11,10 @@ use parts::{BadCheckFault, BadFault, check_with_bad_pieces};
 use printing::Fault;
 use std::alloc::Global;
 
-/// Checks that a shelf holds the torrent's files, as `check` does, and prints behind the line of each
-/// file that is bad or has another length its runs of bad pieces, before the next file is opened.
-/// The status is 0 for `yes` and 1 for `no`. If such a file cannot be read again, or is gone, the
-/// fault is that the folder with this path cannot be read.
+/// Checks that a shelf holds the torrent's files, as `check` does, and prints behind the line of
+/// each file that is bad or has another length its runs of bad pieces, before the next file is
+/// opened. The status is 0 for `yes` and 1 for `no`. If such a file cannot be read again, or is
+/// gone, the fault is that the folder with this path cannot be read.
 pub fn check_bad<'a, S: Shelf, W: Sink>(
     alloc: Global,
     torrent: &Torrent<'_>,

@@ -20,8 +20,8 @@ pub record BeginsStream (t : Description) (feed : Option V1Feed) : Type 0 where
   pub ends : (v : Version1) → t.v1 ≡ Some v → StreamEndsAt feed v.total
   pub given : (v : Version1) → t.v1 ≡ Some v → IsStreamGiven feed v.pieces t.piece_length []
 
--- a check found this verdict of a file, on a shelf of whose paths this is known, and its stream took
--- what it takes of the file
+-- a check found this verdict of a file, on a shelf of whose paths this is known, and its stream
+-- took what it takes of the file
 abbrev pub FindsFile : Description → (List (List ℕ) → Option (Option (List ℕ))) → Option V1Feed
     → FileEntry → FileVerdict → Option V1Feed → Type 0
 FindsFile t under old f v new = FindsVerdict t f (under f.path) old new v

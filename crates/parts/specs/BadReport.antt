@@ -1,6 +1,6 @@
--- What a check does that prints each file's line, and the bad pieces of the file behind it, as soon as
--- the file is done. `shelf` stands for what the shelf's type says of its shelves, and `seen` for what
--- its files say.
+-- What a check does that prints each file's line, and the bad pieces of the file behind it, as soon
+-- as the file is done. `shelf` stands for what the shelf's type says of its shelves, and `seen` for
+-- what its files say.
 use Rattle.std.specs.Prelude.{◌≡◌, ◌⊎◌, ℕ, Bool, true, false, List, [], ◌∷◌, ◌++◌, length, take, slice_get, Option, Some, Result, Ok, Err}
 use Rattle.benc.specs.Device.{Broke, BrokeOrUnflushed, Sent, SentAndFlushed, SinkSeen, SourceSeen}
 use Rattle.chains.specs.Chain.{Chain}

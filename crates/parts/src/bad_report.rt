@@ -18,18 +18,18 @@ use opening::{File, Torrent};
 use printing::flush_after;
 use std::alloc::Global;
 
-/// Checks that a shelf holds the torrent's files, as `check` of `folders` does, and writes the lines
-/// that are wanted: each file's as soon as the file is done, and behind the line of one that is bad
-/// or has another length those of `print_bad_pieces`. Such a file is opened a second time, before
-/// the next; all others are opened once. At last it writes what `print_report` writes behind the
-/// files' lines, and flushes once. Memory is taken for the report alone, before the first path is
-/// opened.
+/// Checks that a shelf holds the torrent's files, as `check` of `folders` does, and writes the
+/// lines that are wanted: each file's as soon as the file is done, and behind the line of one that
+/// is bad or has another length those of `print_bad_pieces`. Such a file is opened a second time,
+/// before the next; all others are opened once. At last it writes what `print_report` writes behind
+/// the files' lines, and flushes once. Memory is taken for the report alone, before the first path
+/// is opened.
 ///
 /// # Errors
 ///
-/// `NoMemory`: nothing was opened or written. `Stopped`: `Read` and `Gone` as `print_bad_pieces` has
-/// them, `Write` if the sink failed. What the files before print went out, and a prefix of what this
-/// file prints; no later file was opened. Or `Write` came behind the last file.
+/// `NoMemory`: nothing was opened or written. `Stopped`: `Read` and `Gone` as `print_bad_pieces`
+/// has them, `Write` if the sink failed. What the files before print went out, and a prefix of what
+/// this file prints; no later file was opened. Or `Write` came behind the last file.
 pub fn check_with_bad_pieces<S: Shelf, W: Sink>(
     alloc: Global,
     torrent: &Torrent<'_>,
