@@ -46,6 +46,8 @@ pub fn convert<R: Source, W: Sink>(source: &mut R, out: &mut W) -> Result<(), Co
 }
 
 // The same, without the laws of what went out.
+// It has the buffer in its frame, so it is not inlined.
+#[inline(never)]
 fn convert_record<R: Source, W: Sink>(source: &mut R, out: &mut W) -> Result<(), ConvertFault>
     ensures { ConversionEnds (R.seen source.old) (R.seen source.new)
         (W.seen out.old) (W.seen out.new) result }
