@@ -96,7 +96,7 @@ pub(crate) fn bad_again(rt: &HostRuntime, torrent: &Torrent<'_>, content: &[u8])
     print_checked(rt, answer, &out)
 }
 
-fn print_checked<E: fmt::Display>(
+fn print_checked<E: fmt::Display + Drop>(
     rt: &HostRuntime,
     answer: Result<Report, E>,
     out: &MemSink,
