@@ -1,5 +1,6 @@
 # make                 proves every crate that the program needs, says how far it is, and builds build/btcheck for the
-#                      processor of this machine: x86-64-v3 where it has AVX2, else x86-64-v2
+#                      processor of this machine: x86-64-v3 where it has AVX2, else x86-64-v2; with the C library inside,
+#                      if there are a C compiler and an archive of that library
 # make CPU=x86-64-v2   builds for that kind of processor, over the same proofs; a program says so on a lesser one
 # make check           runs what the merge gate runs: proofs, must-fail edits, all tests
 # make test            runs the built program on real files
@@ -26,6 +27,10 @@ PREFIX ?= /usr/local
 CPU ?=
 KIND := $(or $(CPU),$(shell tools/processor))
 
+# The kit's archives of C code, which a program is linked with, and how it is linked with a static C library.
+KIT_C = $(dir $(realpath $(shell command -v $(RT))))../c
+STATIC = -O2 -static-pie
+
 SOURCES := crates.txt $(shell find crates -name out -prune -o -type f -print)
 
 define need_toolchain
@@ -39,8 +44,14 @@ all: build/btcheck
 
 # The one for this kind: copied anew where it is another. Times do not tell that, since two calls of make may come within
 # one tick of the clock of files.
-build/btcheck: build/$(KIND)/btcheck FORCE
+build/btcheck: build/$(KIND)/alone/btcheck FORCE
 	@cmp -s $< $@ || install -m 755 $< $@
+
+# The same with the C library inside, of which it then takes only what it uses: a third less memory. If the system has no C
+# compiler, or no archive of its C library, it is the program as it is.
+build/x86-64-%/alone/btcheck: build/x86-64-%/btcheck
+	mkdir -p $(@D)
+	$(CC) $(STATIC) -o $@ $<.o $(KIT_C)/libos_c.a $(KIT_C)/liblibc_c.a 2>/dev/null || install -m 755 $< $@
 
 # The program for one kind of processor, and its object. The proofs are the same for each: only the code is made anew.
 # On a lesser machine the program says so and ends with 127.
@@ -63,8 +74,9 @@ check:
 	$(need_toolchain)
 	RT=$(RT) .ci/run
 
-test: build/btcheck build/memory_tests build/device_tests
-	tests/run
+# On the program whose C library stands apart, so that tests can stand before it.
+test: build/$(KIND)/btcheck build/memory_tests build/device_tests
+	BTCHECK=$< tests/run
 
 bench: build/btcheck
 	CPU=$(KIND) bench/run
@@ -96,16 +108,12 @@ uninstall:
 	rm -f $(PROGRAM) $(MANUAL) $(FOR_BASH) $(FOR_ZSH) $(FOR_FISH)
 	rm -rf $(DOCUMENTS)
 
-# The kit's archives of C code, which a program is linked with.
-KIT_C = $(dir $(realpath $(shell command -v $(RT))))../c
-STATIC = $(CC) -O2 -static-pie -o $@ $^ $(KIT_C)/libos_c.a $(KIT_C)/liblibc_c.a
-
 static: build/static/btcheck
 
 build/static/btcheck: build/x86-64-v2/btcheck.o
 	$(need_toolchain)
 	mkdir -p $(@D)
-	$(STATIC)
+	$(CC) $(STATIC) -o $@ $^ $(KIT_C)/libos_c.a $(KIT_C)/liblibc_c.a
 
 both: build/both/btcheck
 
@@ -114,11 +122,11 @@ build/both/%.o: build/x86-64-%/btcheck.o
 	mkdir -p $(@D)
 	objcopy --redefine-sym main=btcheck_$* --keep-global-symbol=btcheck_$* $< $@
 
-.PRECIOUS: build/x86-64-%/btcheck build/x86-64-%/btcheck.o
+.PRECIOUS: build/x86-64-%/btcheck build/x86-64-%/btcheck.o build/x86-64-%/alone/btcheck
 
 build/both/btcheck: packaging/picker.c build/both/v2.o build/both/v3.o
 	$(need_toolchain)
-	$(STATIC)
+	$(CC) $(STATIC) -o $@ $^ $(KIT_C)/libos_c.a $(KIT_C)/liblibc_c.a
 
 # The same bytes for the same program and files, whenever and wherever it is packed.
 RELEASE = btcheck-$(word 2,$(shell build/both/btcheck --version))-linux-x86_64

@@ -11,7 +11,7 @@ import time
 TOP = os.path.dirname(os.path.dirname(os.path.abspath(__file__)))
 # The kind of processor to build for: as CPU says, or what `make` takes; and the program for it.
 CPU = os.environ.get("CPU") or subprocess.check_output([os.path.join(TOP, "tools", "processor")], text=True).strip()
-BTCHECK = os.path.join(TOP, "build", CPU, "btcheck")
+BTCHECK = os.path.join(TOP, "build", CPU, "alone", "btcheck")
 BARE = os.path.join(TOP, "build", CPU, "bare")
 READERS = os.path.join(TOP, "build", CPU, "readers")
 SESSIONS = os.path.join(TOP, "build", CPU, "sessions")

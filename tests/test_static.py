@@ -4,12 +4,18 @@ import os
 import re
 import shutil
 import subprocess
+import sys
 
 from support import BTCHECK, TOP, LeftOut, expect, folder, need, run, write, written
 from trees import root_line
 
+sys.path.append(f"{TOP}/bench")
+
+from measuring import measure  # noqa: E402
+
 KINDS = ["x86-64-v2", "x86-64-v3"]
-OBJECTS = [f"build/{kind}/btcheck.o" for kind in KINDS]
+PROGRAMS = [f"build/{kind}/btcheck" for kind in KINDS]
+OBJECTS = [f"{program}.o" for program in PROGRAMS]
 ARCHIVE = "crates/btcheck_c/out/libbtcheck_c.a"
 STATIC, BOTH = f"{TOP}/build/static/btcheck", f"{TOP}/build/both/btcheck"
 
@@ -28,7 +34,7 @@ def make(target):
     lacking = [it for it in proved if not os.path.exists(f"{TOP}/{it}")]
     if lacking or not shutil.which("rt"):
         raise LeftOut(f"there is no kit here, or no {' '.join(lacking)}")
-    kept = [word for it in [*proved, "build/btcheck"] for word in ("-o", it)]
+    kept = [word for it in [*proved, *PROGRAMS, "build/btcheck"] for word in ("-o", it)]
     subprocess.run(["make", "-s", *kept, target], cwd=TOP, check=True, stdout=subprocess.DEVNULL)
 
 
@@ -79,9 +85,9 @@ def test_processor():
     need("make")
     for words, env, kind in [([], {}, machine()), ([], LESSER, "x86-64-v2"), (["CPU=x86-64-v3"], LESSER, "x86-64-v3"),
                              (["CPU=x86-64-v2"], {}, "x86-64-v2"), (["CPU="], {}, machine())]:
-        told = subprocess.run(["make", "-n", *words, "-o", f"build/{kind}/btcheck", "build/btcheck"], cwd=TOP,
+        told = subprocess.run(["make", "-n", *words, "-o", f"build/{kind}/alone/btcheck", "build/btcheck"], cwd=TOP,
                               env={**os.environ, "CPU": "", **env}, check=True, stdout=subprocess.PIPE, text=True).stdout
-        assert f"cmp -s build/{kind}/btcheck " in told, (words, env, told)
+        assert f"cmp -s build/{kind}/alone/btcheck " in told, (words, env, told)
 
 
 # Calls of the program over the examples; OUT is a file that the call writes.
@@ -105,6 +111,28 @@ def outcomes(program, place, env):
 def large(program, env):
     """The root of more bytes than eight blocks, which eight blocks at a time are hashed of."""
     return run("root", "/dev/stdin", program=program, env=env, input=bytes(range(256)) * 5000 + b"end")
+
+
+def test_alone():
+    """What `make` builds has the C library inside, does the same to the byte, and takes less than 2 MiB of memory."""
+    kind = "x86-64-v2"
+    make(f"build/{kind}/alone/btcheck")
+    program = f"{TOP}/build/{kind}/alone/btcheck"
+    assert b"/ld-linux" not in written(program)
+    with folder() as place:
+        seen = []
+        for way in (BTCHECK, program):
+            os.mkdir(f"{place}/{len(seen)}")
+            seen.append(list(outcomes(way, f"{place}/{len(seen)}", {})))
+        assert seen[0] == seen[1], seen
+        os.mkdir(f"{place}/files")
+        large_file = f"{place}/files/zeros"
+        with open(large_file, "wb") as file:
+            file.truncate(256 << 20)
+        expect(run("create", f"{place}/files", f"{place}/torrent", "--name", "x", "--piece-length", "1048576"), 0)
+        for words in (["root", large_file], ["check", f"{place}/torrent", f"{place}/files"]):
+            _, _, peak = measure([program, *words])
+            assert 0 < peak < 2048, (words, peak)
 
 
 def test_both():
