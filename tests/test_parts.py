@@ -5,9 +5,10 @@ takes a byte from a report, leaves one out, and gives one twice: it prints a lin
 is."""
 import os
 import random
+import re
 import subprocess
 
-from support import BTCHECK, TOP, expect, folder, run, write
+from support import BTCHECK, TOP, expect, folder, need, run, write
 
 DEVICES = os.path.join(TOP, "build", "device_tests")
 ROUNDS = 300
@@ -238,3 +239,30 @@ def test_a_part_opens_only_its_files():
             assert done.returncode == 0 and f"good {name}\n".encode() in done.stdout, done
             reports.append(write(f"{place}/report {name}", done.stdout))
         expect(run("join", f"{place}/torrent", *reports), 0, "good a\ngood b\nyes\n")
+
+
+def instructions(*arguments):
+    """How many instructions the program takes for this, and what it prints."""
+    done = run("--tool=callgrind", "--callgrind-out-file=/dev/null", BTCHECK, *arguments, program="valgrind")
+    return int(re.search(rb"Collected : (\d+)", done.stderr)[1]), done
+
+
+def test_parts_do_no_more_than_a_check():
+    """Four parts take hardly more instructions than one check, and each about a fourth of them; so on four cores that share
+    nothing they take little more than a fourth of the time. `bench/run parts` measures what this machine makes of it. (Of
+    pieces under 128 KiB a part hashes the blocks one by one, which takes up to twice as many.)"""
+    need("valgrind")
+    with folder() as place:
+        os.mkdir(f"{place}/files")
+        write(f"{place}/files/content", random.Random(1).randbytes(1 << 24))
+        for kind in ([], ["--hybrid"]):
+            expect(run("create", f"{place}/files", f"{place}/torrent", "--name", "x", "--piece-length", "1048576", *kind), 0)
+            whole, done = instructions("check", f"{place}/torrent", f"{place}/files")
+            assert done.returncode == 0 and done.stdout.endswith(b"yes\n"), done
+            parts = []
+            for number in range(1, 5):
+                count, done = instructions("check", f"{place}/torrent", f"{place}/files", "--part", f"{number}/4")
+                assert done.returncode == 0 and done.stdout.endswith(b"part yes\n"), done
+                parts.append(count)
+            print(f"instructions of four parts: {sum(parts) / whole:.3f} of one check's, of the largest {max(parts) / whole:.3f}")
+            assert sum(parts) <= 1.05 * whole and max(parts) <= 0.3 * whole, (whole, parts)
