@@ -248,15 +248,15 @@ def instructions(*arguments):
 
 
 def test_parts_do_no_more_than_a_check():
-    """Four parts take hardly more instructions than one check, and each about a fourth of them; so on four cores that share
-    nothing they take little more than a fourth of the time. `bench/run parts` measures what this machine makes of it. (Of
-    pieces under 128 KiB a part hashes the blocks one by one, which takes up to twice as many.)"""
+    """Four parts take hardly more instructions than one check, and each about a fourth of them, however long the pieces are;
+    so on four cores that share nothing they take little more than a fourth of the time. `bench/run parts` measures what
+    this machine makes of it."""
     need("valgrind")
     with folder() as place:
         os.mkdir(f"{place}/files")
         write(f"{place}/files/content", random.Random(1).randbytes(1 << 24))
-        for kind in ([], ["--hybrid"]):
-            expect(run("create", f"{place}/files", f"{place}/torrent", "--name", "x", "--piece-length", "1048576", *kind), 0)
+        for length, kind in ((1 << 20, []), (1 << 20, ["--hybrid"]), (1 << 16, []), (1 << 15, ["--hybrid"]), (1 << 14, [])):
+            expect(run("create", f"{place}/files", f"{place}/torrent", "--name", "x", "--piece-length", str(length), *kind), 0)
             whole, done = instructions("check", f"{place}/torrent", f"{place}/files")
             assert done.returncode == 0 and done.stdout.endswith(b"yes\n"), done
             parts = []
@@ -264,5 +264,5 @@ def test_parts_do_no_more_than_a_check():
                 count, done = instructions("check", f"{place}/torrent", f"{place}/files", "--part", f"{number}/4")
                 assert done.returncode == 0 and done.stdout.endswith(b"part yes\n"), done
                 parts.append(count)
-            print(f"instructions of four parts: {sum(parts) / whole:.3f} of one check's, of the largest {max(parts) / whole:.3f}")
+            print(f"pieces of {length} bytes {kind}: instructions of four parts {sum(parts) / whole:.3f} of one check's, of the largest {max(parts) / whole:.3f}")
             assert sum(parts) <= 1.05 * whole and max(parts) <= 0.3 * whole, (whole, parts)

@@ -36,14 +36,14 @@ map_if f true v t e = ap (λ x. Some x) (sym e)
 map_if f false v t e = refl
 
 -- the bytes of the value under a key that is asked for, where a pair comes at the end
-pub span_push : (asked : Option (List ℕ)) (old told new : Option (Bor (List ℕ))) (ps : List Seen) (k : List ℕ) (v : Bencode) (t : List ℕ)
+pub span_push : (asked : Option (List ℕ)) (old known new : Option (Bor (List ℕ))) (ps : List Seen) (k : List ℕ) (v : Bencode) (t : List ℕ)
     → IfSome asked (λ key. option_copied old ≡ option_map spelling (under key (pairs_of ps)))
-    → IfSome asked (λ key. option_copied told ≡ cond (bytes_eq k key) (Some t) None)
-    → t ≡ spelling v → new ≡ option_or old told
+    → IfSome asked (λ key. option_copied known ≡ cond (bytes_eq k key) (Some t) None)
+    → t ≡ spelling v → new ≡ option_or old known
     → IfSome asked (λ key. option_copied new ≡ option_map spelling (under key (pairs_of (ps ++ (k, v) ∷ []))))
-span_push None old told new ps k v t h g e n = tt
-span_push (Some key) old told new ps k v t h g e n =
-    let joined : option_copied new ≡ option_or (option_copied old) (option_copied told) = ap option_copied n ∙ copied_or old told in
+span_push None old known new ps k v t h g e n = tt
+span_push (Some key) old known new ps k v t h g e n =
+    let joined : option_copied new ≡ option_or (option_copied old) (option_copied known) = ap option_copied n ∙ copied_or old known in
     joined ∙ ap₂ option_or h (g ∙ sym (map_if spelling (bytes_eq k key) v t e)) ∙ sym (map_or spelling (under key (pairs_of ps)) (value_if_key key (k, v)))
     ∙ ap (option_map spelling) (sym (under_push key ps (k, v)))
   where

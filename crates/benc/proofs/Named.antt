@@ -44,9 +44,9 @@ err_choice : {A : Type 0} (b : Bool) (r s : Result A FaultKind) → NamedErr r �
 err_choice true r s m n = m
 err_choice false r s m n = n
 
-told_named : {A : Type 0} (r : Result A FaultKind) → NamedErr r → IsNamed (fault_of r)
-told_named (Ok x) n h = absurd cc
-told_named (Err f) n h = let same : f ≡ NoMemory = cc in n (ap (λ k. Err k) same)
+fault_named : {A : Type 0} (r : Result A FaultKind) → NamedErr r → IsNamed (fault_of r)
+fault_named (Ok x) n h = absurd cc
+fault_named (Err f) n h = let same : f ≡ NoMemory = cc in n (ap (λ k. Err k) same)
 
 integer_of_named : (minus : Bool) (run after : List ℕ) → NamedErr (integer_of minus run after)
 integer_of_named minus run [] = err_named Truncated named_truncated
@@ -76,9 +76,9 @@ key_named before (c ∷ rest) = err_choice _ _ _ (order_named before (string_at 
 value_named : (left : ℕ) (bytes : List ℕ) → IsNamed (value_fault left bytes)
 value_named left [] = named_truncated
 value_named left (c ∷ rest) =
-    named_choice (eqb c 105) _ _ (told_named (integer_at rest) (integer_named rest))
+    named_choice (eqb c 105) _ _ (fault_named (integer_at rest) (integer_named rest))
     (named_choice (eqb c 108 || eqb c 100) _ _ (named_choice (eqb left 0) _ _ named_deep named_none)
-    (named_choice (is_digit c) _ _ (told_named (string_at (c ∷ rest)) (string_named (c ∷ rest))) named_bad_start))
+    (named_choice (is_digit c) _ _ (fault_named (string_at (c ∷ rest)) (string_named (c ∷ rest))) named_bad_start))
 
 end_named : (bytes : List ℕ) (o : Option FaultKind) → IsNamed o → IsNamed (fault_unless_end bytes o)
 end_named [] o n = n
@@ -87,7 +87,7 @@ end_named (c ∷ rest) o n = named_choice (eqb c 101) None o named_none n
 item_named : (due : Due) (left : ℕ) (bytes : List ℕ) → IsNamed (scanned_fault due left bytes)
 item_named a_value left bytes = value_named left bytes
 item_named a_value_or_end left bytes = end_named bytes (value_fault left bytes) (value_named left bytes)
-item_named (a_key_or_end before) left bytes = end_named bytes (fault_of (key_at before bytes)) (told_named (key_at before bytes) (key_named before bytes))
+item_named (a_key_or_end before) left bytes = end_named bytes (fault_of (key_at before bytes)) (fault_named (key_at before bytes) (key_named before bytes))
 
 pub stops_named : (room : ℕ) (bytes : List ℕ) (e : Failed) → Further room a_value bytes e → e.0 ≡ NoMemory → ⊥
 stops_named room bytes e (inl p) same = item_named a_value room bytes (p.1 ∙ ap (λ k. Some k) same)

@@ -82,9 +82,9 @@ two_rows true b f g x = refl
 two_rows false true f g x = refl
 two_rows false false f g x = refl
 
-digits_told : (minus : Bool) (run after : List ℕ) → fault_of (integer_of minus run after) ≡ first_row (digit_rows minus run after)
-digits_told minus run [] = refl
-digits_told minus run (c ∷ rest) =
+digits_scanned : (minus : Bool) (run after : List ℕ) → fault_of (integer_of minus run after) ≡ first_row (digit_rows minus run after)
+digits_scanned minus run [] = refl
+digits_scanned minus run (c ∷ rest) =
     let n = digits_value 10 run in
     let test : (not (eqb c 101) || not (is_plain run) || (minus && eqb (get_or run 0 0) 48)) ≡ (not (eqb c 101) || has_ended run || has_leading_zero
     run || (minus && is_zero run)) =
@@ -93,15 +93,15 @@ digits_told minus run (c ∷ rest) =
     two_rows _ (in_range minus n) BadInteger IntegerRange (signed minus n, rest)
     ∙ ap (λ b. cond b (Some BadInteger) (cond (not (in_range minus n)) (Some IntegerRange) None)) test
 
-integer_told : (bytes : List ℕ) → fault_of (integer_at bytes) ≡ first_row (integer_rows bytes)
-integer_told [] = digits_told false (digits_of_front []) (after_digits [])
-integer_told (c ∷ rest) = by_sign (eqb c 45)
+integer_scanned : (bytes : List ℕ) → fault_of (integer_at bytes) ≡ first_row (integer_rows bytes)
+integer_scanned [] = digits_scanned false (digits_of_front []) (after_digits [])
+integer_scanned (c ∷ rest) = by_sign (eqb c 45)
   where
     by_sign : (m : Bool) → fault_of (cond m (integer_of true (digits_of_front rest) (after_digits rest))
         (integer_of false (digits_of_front (c ∷ rest)) (after_digits (c ∷ rest))))
         ≡ first_row (digit_rows m (digits_of_front (cond m rest (c ∷ rest))) (after_digits (cond m rest (c ∷ rest))))
-    by_sign true = digits_told true (digits_of_front rest) (after_digits rest)
-    by_sign false = digits_told false (digits_of_front (c ∷ rest)) (after_digits (c ∷ rest))
+    by_sign true = digits_scanned true (digits_of_front rest) (after_digits rest)
+    by_sign false = digits_scanned false (digits_of_front (c ∷ rest)) (after_digits (c ∷ rest))
 
 -- the test of a length, whose run is not empty
 length_test : (a s : Bool) (run : List ℕ) → has_ended run ≡ false → (a || not (is_plain run) || s) ≡ (a || has_leading_zero run || s)
@@ -128,20 +128,20 @@ plain_rows true b f g k = refl
 plain_rows false true f g k = refl
 plain_rows false false f g k = refl
 
-string_told : (run after : List ℕ) → has_ended run ≡ false → fault_of (string_of run after) ≡ first_row (length_rows run after)
-string_told run [] some = refl
-string_told run (c ∷ rest) some =
+string_scanned : (run after : List ℕ) → has_ended run ≡ false → fault_of (string_of run after) ≡ first_row (length_rows run after)
+string_scanned run [] some = refl
+string_scanned run (c ∷ rest) some =
     let n = digits_value 10 run in
     plain_rows _ (ltb (length rest) n) BadLength Truncated (take n rest, drop n rest)
     ∙ ap (λ b. cond b (Some BadLength) (cond (ltb (length rest) n) (Some Truncated) None)) (length_test (not (eqb c 58)) (ltb 10 (length run)) run some)
 
-key_told : (run after : List ℕ) (before : Option (List ℕ)) → has_ended run ≡ false
+key_scanned : (run after : List ℕ) (before : Option (List ℕ)) → has_ended run ≡ false
     → fault_of (in_order before (string_of run after)) ≡ first_row (length_rows run after ++ (
       not (is_above (take (digits_value 10 run) (drop 1 after)) before),
       KeyOrder,
     ) ∷ [])
-key_told run [] before some = refl
-key_told run (c ∷ rest) before some =
+key_scanned run [] before some = refl
+key_scanned run (c ∷ rest) before some =
     let n = digits_value 10 run in
     more_rows _ (ltb (length rest) n) BadLength Truncated KeyOrder before (take n rest, drop n rest)
     ∙ ap (λ b. cond b (Some BadLength) (cond (ltb (length rest) n) (Some Truncated) (cond (not (is_above (take n rest) before)) (Some KeyOrder) None)))
@@ -153,9 +153,9 @@ starts c rest d =
     let some : prefix_len is_digit (c ∷ rest) ≡ suc (prefix_len is_digit rest) = rw d (omega arith) in
     rw some refl
 
-value_told : (left : ℕ) (bytes : List ℕ) → value_fault left bytes ≡ first_row (value_rows left bytes)
-value_told left [] = refl
-value_told left (c ∷ rest) = by_i (eqb c 105) (eqb c 108) (eqb c 100) (is_digit c) refl refl refl
+value_scanned : (left : ℕ) (bytes : List ℕ) → value_fault left bytes ≡ first_row (value_rows left bytes)
+value_scanned left [] = refl
+value_scanned left (c ∷ rest) = by_i (eqb c 105) (eqb c 108) (eqb c 100) (is_digit c) refl refl refl
   where
     goal : (i l d m : Bool) → Type 0
     goal i l d m =
@@ -166,26 +166,26 @@ value_told left (c ∷ rest) = by_i (eqb c 105) (eqb c 108) (eqb c 100) (is_digi
     no_digit x e n y = let no : true ≡ false = sym y ∙ ap is_digit (eqb-true c x e) ∙ n in absurd cc
 
     by_i : (i l d m : Bool) → eqb c 108 ≡ l → eqb c 100 ≡ d → is_digit c ≡ m → goal i l d m
-    by_i true l d m p q r = integer_told rest
+    by_i true l d m p q r = integer_scanned rest
     by_i false true d true p q r = absurd (no_digit 108 p refl r)
     by_i false true d false p q r = refl
     by_i false false true true p q r = absurd (no_digit 100 q refl r)
     by_i false false true false p q r = refl
-    by_i false false false true p q r = string_told (digits_of_front (c ∷ rest)) (after_digits (c ∷ rest)) (starts c rest r)
+    by_i false false false true p q r = string_scanned (digits_of_front (c ∷ rest)) (after_digits (c ∷ rest)) (starts c rest r)
     by_i false false false false p q r = refl
 
-keys_told : (before : Option (List ℕ)) (bytes : List ℕ) → fault_of (key_at before bytes) ≡ first_row (key_rows before bytes)
-keys_told before [] = refl
-keys_told before (c ∷ rest) = by_digit (is_digit c) refl
+keys_scanned : (before : Option (List ℕ)) (bytes : List ℕ) → fault_of (key_at before bytes) ≡ first_row (key_rows before bytes)
+keys_scanned before [] = refl
+keys_scanned before (c ∷ rest) = by_digit (is_digit c) refl
   where
     by_digit : (m : Bool) → is_digit c ≡ m → fault_of (cond m (in_order before (string_at (c ∷ rest))) (Err BadStart))
         ≡ first_row ((false, Truncated) ∷ (not m, BadStart) ∷ (string_rows (c ∷ rest) ++ (not (is_above (string_bytes (c ∷ rest)) before), KeyOrder) ∷ []))
-    by_digit true e = key_told (digits_of_front (c ∷ rest)) (after_digits (c ∷ rest)) before (starts c rest e)
+    by_digit true e = key_scanned (digits_of_front (c ∷ rest)) (after_digits (c ∷ rest)) before (starts c rest e)
     by_digit false e = refl
 
-end_told : (bytes : List ℕ) (f : Option FaultKind) (rows : List Row) → f ≡ first_row rows → fault_unless_end bytes f ≡ first_row (unless_end bytes rows)
-end_told [] f rows e = e
-end_told (c ∷ rest) f rows e = by_end (eqb c 101)
+end_scanned : (bytes : List ℕ) (f : Option FaultKind) (rows : List Row) → f ≡ first_row rows → fault_unless_end bytes f ≡ first_row (unless_end bytes rows)
+end_scanned [] f rows e = e
+end_scanned (c ∷ rest) f rows e = by_end (eqb c 101)
   where
     by_end : (b : Bool) → cond b None f ≡ first_row (cond b [] rows)
     by_end true = refl
@@ -193,6 +193,6 @@ end_told (c ∷ rest) f rows e = by_end (eqb c 101)
 
 -- reading fails with the fault that the table has
 pub table_is : (due : Due) (left : ℕ) (bytes : List ℕ) → scanned_fault due left bytes ≡ item_fault due left bytes
-table_is a_value left bytes = value_told left bytes
-table_is a_value_or_end left bytes = end_told bytes (value_fault left bytes) (value_rows left bytes) (value_told left bytes)
-table_is (a_key_or_end before) left bytes = end_told bytes (fault_of (key_at before bytes)) (key_rows before bytes) (keys_told before bytes)
+table_is a_value left bytes = value_scanned left bytes
+table_is a_value_or_end left bytes = end_scanned bytes (value_fault left bytes) (value_rows left bytes) (value_scanned left bytes)
+table_is (a_key_or_end before) left bytes = end_scanned bytes (fault_of (key_at before bytes)) (key_rows before bytes) (keys_scanned before bytes)

@@ -18,9 +18,9 @@ use Rattle.benc.proofs.Values.{lists, dicts, value_is, value_items, value_pairs}
 use Rattle.benc.proofs.Sound.{fine, ok_of}
 use Rattle.benc.proofs.Again.{value_again, spelled_head, digits_head, key_again}
 
-told_fault : {A : Type 0} (r : Result A FaultKind) (k : FaultKind) → fault_of r ≡ Some k → r ≡ Err k
-told_fault (Ok x) k h = absurd cc
-told_fault (Err f) k h = let e : f ≡ k = cc in ap (λ z. Err z) e
+named_fault : {A : Type 0} (r : Result A FaultKind) (k : FaultKind) → fault_of r ≡ Some k → r ≡ Err k
+named_fault (Ok x) k h = absurd cc
+named_fault (Err f) k h = let e : f ≡ k = cc in ap (λ z. Err z) e
 
 has_room : (b : Bool) (k : FaultKind) → b ≡ false → cond b (Some TooDeep) None ≡ Some k → ⊥
 has_room true k e h = absurd cc
@@ -41,7 +41,7 @@ value_fault_reads room (c ∷ rest) k h = value_is room (c ∷ rest) ∙ by_i (e
 
     by_digit : (m : Bool) → cond m (fault_of (string_at (c ∷ rest))) (Some BadStart) ≡ Some k
         → cond {A = Parsed Bencode} m (begun_at (c ∷ rest) (string_at (c ∷ rest)) >>= λ x. Ok (text x.0, x.1)) (Err (BadStart, c ∷ rest)) ≡ Err (k, c ∷ rest)
-    by_digit true g = ap (λ r. begun_at (c ∷ rest) r >>= λ x. Ok (text x.0, x.1)) (told_fault (string_at (c ∷ rest)) k g)
+    by_digit true g = ap (λ r. begun_at (c ∷ rest) r >>= λ x. Ok (text x.0, x.1)) (named_fault (string_at (c ∷ rest)) k g)
     by_digit false g = let f : BadStart ≡ k = cc in ap (λ z. Err (z, c ∷ rest)) f
 
     by_mark : (l d m : Bool) → cond (l || d) (cond (eqb room 0) (Some TooDeep) None) (cond m (fault_of (string_at (c ∷ rest))) (Some BadStart)) ≡ Some k
@@ -57,7 +57,7 @@ value_fault_reads room (c ∷ rest) k h = value_is room (c ∷ rest) ∙ by_i (e
         (cond (eqb c 108) (lists room (c ∷ rest) rest >>= λ x. Ok (list x.0, x.1))
         (cond (eqb c 100) (dicts room (c ∷ rest) rest >>= λ x. Ok (dict x.0, x.1))
         (cond (is_digit c) (begun_at (c ∷ rest) (string_at (c ∷ rest)) >>= λ x. Ok (text x.0, x.1)) (Err (BadStart, c ∷ rest))))) ≡ Err (k, c ∷ rest)
-    by_i true g = ap (λ r. begun_at (c ∷ rest) r >>= λ x. Ok (int x.0, x.1)) (told_fault (integer_at rest) k g)
+    by_i true g = ap (λ r. begun_at (c ∷ rest) r >>= λ x. Ok (int x.0, x.1)) (named_fault (integer_at rest) k g)
     by_i false g = by_mark (eqb c 108) (eqb c 100) (is_digit c) g
 
 end_no : (b : Bool) (f : Option FaultKind) (k : FaultKind) → cond b None f ≡ Some k → (b ≡ false) × (f ≡ Some k)
@@ -79,7 +79,7 @@ pairs_fault room zero before [] k le h = let e : Truncated ≡ k = cc in ap (λ 
 pairs_fault room (suc n) before [] k le h = let e : Truncated ≡ k = cc in ap (λ z. Err (z, [])) e
 pairs_fault room zero before (c ∷ t) k le h = absurd (omega arith)
 pairs_fault room (suc n) before (c ∷ t) k le h = let g = end_no (eqb c 101) (fault_of (key_at before (c ∷ t))) k h in
-    rw (g.0, told_fault (key_at before (c ∷ t)) k g.1) refl
+    rw (g.0, named_fault (key_at before (c ∷ t)) k g.1) refl
 
 -- an item that is not read
 items_no_value : (p : List ℕ → Parsed Bencode) (n c : ℕ) (b t : List ℕ) (e : Failed) → length b ≤ n → b ≡ c ∷ t → c ≢ 101 → p b ≡ Err e → items_at p n b ≡ Err e

@@ -59,5 +59,5 @@ key_at before (c ∷ rest) =
 
 -- what a function of the code returned, seen by view, is what is read
 abbrev pub ReadsAs : {X Y E : Type 0} → (X → Y) → Result X E → Result Y E → Type 0
-ReadsAs view (Ok x) told = told ≡ Ok (view x)
-ReadsAs view (Err e) told = told ≡ Err e
+ReadsAs view (Ok x) known = known ≡ Ok (view x)
+ReadsAs view (Err e) known = known ≡ Err e

@@ -8,7 +8,7 @@ ghost use Rattle.command_line.specs.declared.explaining.ExplainFault.TheVariants
 use clap::Error;
 use clap::error::ErrorKind;
 
-/// Why it could not be told.
+/// Why it could not be printed.
 #[derive(Debug, Drop, thiserror::Error)]
 pub enum ExplainFault {
     /// Out of memory while the arguments were read.

@@ -31,13 +31,13 @@ use Rattle.replays.specs.Outcome.{status_of}
 use Rattle.folders.specs.Printed.{report_text}
 use Rattle.printing.specs.Refused.{refusal_text}
 use Rattle.replays.specs.Replay.{IsReport, ReplaySeen}
-use Rattle.folders.specs.Shelf.{more, path_bytes}
-use Rattle.folders.specs.Verdicts.{HasVerdicts, TellsFolder, is_yes, unreadable_count}
+use Rattle.folders.specs.Shelf.{path_bytes}
+use Rattle.folders.specs.Verdicts.{HasVerdicts, IsTrueOfFolder, is_yes}
 use Rattle.folders.specs.declared.lines.Lines.TheVariants as lines
 use Rattle.part_reports.specs.Joined.{AreJoined}
 use Rattle.part_reports.specs.declared.join_fault.JoinFault.{JoinFault}
 use Rattle.part_reports.specs.declared.join_fault.JoinFault.TheVariants as joining
-use Rattle.parts.specs.Finding.{TellsPlaces}
+use Rattle.parts.specs.Finding.{IsTrueOfPlaces}
 use Rattle.parts.specs.PartLines.{part_text}
 use Rattle.parts.specs.Shares.{share}
 
@@ -81,7 +81,7 @@ BlamesOne name source source' out out' (Err (faults.Write path)) =
     (path.now ≡ codes "-") × Blames source source' out out' (Err root.Write)
 BlamesOne name source source' out out' (Err fault) = ⊥
 
--- the line of a refusal was not printed: it is out of memory, which no line tells, or the line
+-- the line of a refusal was not printed: it is out of memory, which no line says, or the line
 -- broke off
 pub record IsUnprinted (r : Refusal) (text : List ℕ) (out out' : SinkSeen) (f : Fault)
     : Type 0 where
@@ -102,20 +102,14 @@ EndsRoot source source' out out' (Err fault) = ⊥
 
 -- ---- check
 
--- the counts of a shelf's failures before and after a check tell this of its verdicts: one failure
--- for each unreadable file, and no unreadable file if the count stays
-pub record HasTold (old new : ℕ) (files : List FileVerdict) : Type 0 where
-  pub counted : new ≡ more old (unreadable_count files)
-  pub readable : new ≡ old → unreadable_count files ≡ 0
-
 -- What a check did, by its answer: it went to the shelf so, the wanted lines of a report on what
 -- stands under the torrent's paths went out, and the status is that of the last one; or the lines
 -- broke off so; or memory was refused before the first.
 abbrev pub Checks : Description → (List (List ℕ) → Option (Option (List ℕ)))
     → (List FileVerdict → Type 0) → Type 0 → Lines → SinkSeen → SinkSeen → Result ℕ Fault → Type 0
 Checks t under Went Broken lines out out' (Ok status) = (files : List FileVerdict)
-    × (v1 : Option V1Verdict) × HasVerdicts t files v1 × TellsFolder t under files v1 × Went files
-    × SentAndFlushed out out' (report_text lines t.files files v1)
+    × (v1 : Option V1Verdict) × HasVerdicts t files v1 × IsTrueOfFolder t under files v1
+    × Went files × SentAndFlushed out out' (report_text lines t.files files v1)
     × (status ≡ answer_status (is_yes files v1))
 Checks t under Went Broken lines out out' (Err (faults.Write path)) =
     (path.now ≡ codes "-") × Broken
@@ -131,12 +125,12 @@ abbrev pub ChecksPart : Description → ℕ → ℕ → (List (List ℕ) → Opt
     → (List FileVerdict → Type 0) → SinkSeen → SinkSeen → Result ℕ Fault → Type 0
 ChecksPart t part count under Went out out' (Ok status) = (files : List FileVerdict)
     × (v1 : Option V1Verdict) × HasVerdicts t files v1
-    × TellsPlaces t (share t part count) under files v1 × Went files
+    × IsTrueOfPlaces t (share t part count) under files v1 × Went files
     × SentAndFlushed out out' (part_text t part count files v1)
     × (status ≡ answer_status (is_yes files v1))
 ChecksPart t part count under Went out out' (Err (faults.Write path)) = (path.now ≡ codes "-")
     × (files : List FileVerdict) × (v1 : Option V1Verdict) × HasVerdicts t files v1
-    × TellsPlaces t (share t part count) under files v1 × Went files
+    × IsTrueOfPlaces t (share t part count) under files v1 × Went files
     × BrokeOrUnflushed out out' (part_text t part count files v1)
 ChecksPart t part count under Went out out' (Err faults.NoMemory) = out' ≡ out
 ChecksPart t part count under Went out out' (Err fault) = ⊥
@@ -159,37 +153,37 @@ JoinsParts t texts out out' (Err fault) = ⊥
 
 -- ---- seeds, new torrents and conversions
 
--- the fault that is told if a session is not seeded
-abbrev pub IsToldOfSeeding : SeedFault → Fault → Type 0
-IsToldOfSeeding seeding.NoMemory f = f ≡ faults.NoMemory
-IsToldOfSeeding seeding.Write f = NamesOutput f
+-- the fault that is reported if a session is not seeded
+abbrev pub IsSeedingFault : SeedFault → Fault → Type 0
+IsSeedingFault seeding.NoMemory f = f ≡ faults.NoMemory
+IsSeedingFault seeding.Write f = NamesOutput f
 
--- the fault that is told if a folder could not be listed: of its device, the given one
-abbrev pub IsToldOfListing : Fault → ShelfFault → Fault → Type 0
-IsToldOfListing unlisted listing.Device f = f ≡ unlisted
-IsToldOfListing unlisted listing.Name f = f ≡ faults.NotUtf8
-IsToldOfListing unlisted (listing.Special path) f = f ≡ faults.Special path
-IsToldOfListing unlisted listing.NoMemory f = f ≡ faults.NoMemory
+-- the fault that is reported if a folder could not be listed: of its device, the given one
+abbrev pub IsListingFault : Fault → ShelfFault → Fault → Type 0
+IsListingFault unlisted listing.Device f = f ≡ unlisted
+IsListingFault unlisted listing.Name f = f ≡ faults.NotUtf8
+IsListingFault unlisted (listing.Special path) f = f ≡ faults.Special path
+IsListingFault unlisted listing.NoMemory f = f ≡ faults.NoMemory
 
--- the fault that is told if a folder is not gathered into a draft: the path of the file that could
--- not be read or was gone, or why the folder could not be listed
-abbrev pub IsToldOfGathering : Fault → SinkSeen → SinkSeen → GatherFault → Fault → Type 0
-IsToldOfGathering unlisted out out' (gathering.Refused r path) f =
+-- the fault that is reported if a folder is not gathered into a draft: the path of the file that
+-- could not be read or was gone, or why the folder could not be listed
+abbrev pub IsGatheringFault : Fault → SinkSeen → SinkSeen → GatherFault → Fault → Type 0
+IsGatheringFault unlisted out out' (gathering.Refused r path) f =
     IsUnprinted r (refusal_text r (path_bytes path)) out out' f
-IsToldOfGathering unlisted out out' (gathering.Device path) f =
+IsGatheringFault unlisted out out' (gathering.Device path) f =
     (f ≡ faults.ReadBelow path) × (out' ≡ out)
-IsToldOfGathering unlisted out out' (gathering.Changed path) f =
+IsGatheringFault unlisted out out' (gathering.Changed path) f =
     (f ≡ faults.ReadBelow path) × (out' ≡ out)
-IsToldOfGathering unlisted out out' (gathering.List fault) f =
-    IsToldOfListing unlisted fault f × (out' ≡ out)
-IsToldOfGathering unlisted out out' gathering.NoMemory f = (f ≡ faults.NoMemory) × (out' ≡ out)
+IsGatheringFault unlisted out out' (gathering.List fault) f =
+    IsListingFault unlisted fault f × (out' ≡ out)
+IsGatheringFault unlisted out out' gathering.NoMemory f = (f ≡ faults.NoMemory) × (out' ≡ out)
 
 -- a draft of no files, as `create` was asked for it
 abbrev pub wanted_draft : Create → Outline
 wanted_draft asked = empty_outline asked.name.now asked.piece_length asked.hybrid
 
 -- What making a draft of a folder did, by its answer: it gathered all files, and printed nothing;
--- or a refusal, which was printed, with status 1; or what the fault tells.
+-- or a refusal, which was printed, with status 1; or what the fault says.
 abbrev pub MakesDraft : (Result Outline GatherFault → Type 0) → Fault → SinkSeen → SinkSeen
     → Result (Result Outline ℕ) Fault → Type 0
 MakesDraft Gathered unlisted out out' (Ok (Ok draft)) = Gathered (Ok draft) × (out' ≡ out)
@@ -197,7 +191,7 @@ MakesDraft Gathered unlisted out out' (Ok (Err status)) = (status ≡ answer_sta
     × (r : Refusal) × (path : Vec (String Global)) × Gathered (Err (gathering.Refused r path))
     × SentAndFlushed out out' (refusal_text r (path_bytes path))
 MakesDraft Gathered unlisted out out' (Err f) = (g : GatherFault) × Gathered (Err g)
-    × IsToldOfGathering unlisted out out' g f
+    × IsGatheringFault unlisted out out' g f
 
 -- No test of a draft holds, but its torrent with this text broke off. Nothing was printed.
 pub record IsTorrentCut (rows : List TestRow) (text path : List ℕ)
@@ -239,19 +233,19 @@ abbrev pub NamesCutRecord : List ℕ → Fault → Type 0
 NamesCutRecord name (faults.Truncated path) = path.now ≡ name
 NamesCutRecord name fault = ⊥
 
--- the fault that is told if the record with the first path is not converted to the second
-abbrev pub IsToldOfConverting : List ℕ → List ℕ → SinkSeen → SinkSeen → ConvertFault → Fault
+-- the fault that is reported if the record with the first path is not converted to the second
+abbrev pub IsConvertingFault : List ℕ → List ℕ → SinkSeen → SinkSeen → ConvertFault → Fault
     → Type 0
-IsToldOfConverting from path out out' converting.Truncated f =
+IsConvertingFault from path out out' converting.Truncated f =
     NamesCutRecord from f × (out' ≡ out)
-IsToldOfConverting from path out out' converting.Read f = NamesSource from f × (out' ≡ out)
-IsToldOfConverting from path out out' converting.Write f = NamesSink path f × (out' ≡ out)
-IsToldOfConverting from path out out' converting.AlreadyForm2 f =
+IsConvertingFault from path out out' converting.Read f = NamesSource from f × (out' ≡ out)
+IsConvertingFault from path out out' converting.Write f = NamesSink path f × (out' ≡ out)
+IsConvertingFault from path out out' converting.AlreadyForm2 f =
     NamesOutput f × BrokeOrUnflushed out out' form_2_text
 
 -- What converting the record with the first path to the sink with the second did, by its answer:
 -- the conversion went out and nothing was printed, status 0; or the record is of form 2, which was
--- printed, status 1; or what the fault tells.
+-- printed, status 1; or what the fault says.
 abbrev pub ConvertsRecord : List ℕ → List ℕ → SourceSeen → SourceSeen → SinkSeen → SinkSeen
     → SinkSeen → SinkSeen → Result ℕ Fault → Type 0
 ConvertsRecord from path old new to to' out out' (Ok status) =
@@ -259,4 +253,4 @@ ConvertsRecord from path old new to to' out out' (Ok status) =
     ⊎ ((status ≡ answer_status false) × FailsToConvert old new to to' converting.AlreadyForm2
     × SentAndFlushed out out' form_2_text)
 ConvertsRecord from path old new to to' out out' (Err f) = (e : ConvertFault)
-    × FailsToConvert old new to to' e × IsToldOfConverting from path out out' e f
+    × FailsToConvert old new to to' e × IsConvertingFault from path out out' e f

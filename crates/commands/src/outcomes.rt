@@ -11,11 +11,12 @@ ghost use Rattle.folders.specs.Root.{root_line_of};
 ghost use Rattle.folders.specs.Stopping.{BreaksOff};
 ghost use Rattle.seeding.specs.Seeding.{IsSeeded, Seeds, shelf_and_session};
 ghost use Rattle.folders.specs.TakeAll.{IsReadWithin};
+ghost use Rattle.folders.specs.Verdicts.{CountsUnreadable};
 ghost use Rattle.folders.specs.Visits.{Visits};
 ghost use Rattle.session.specs.Fresh.{IsFresh};
 ghost use Rattle.parts.specs.PartVisits.{VisitsPart};
 ghost use Rattle.parts.specs.Shares.{share};
-ghost use Rattle.commands.specs.Outcomes.{BlamesOne, Checks, ChecksPart, ConvertsRecord, EndsRoot, HasTold, IsReplayed, IsToldOfListing, IsToldOfSeeding, IsUnprinted, JoinsParts, MakesDraft, NamesOutput, NamesSink, WritesTorrent, answer_status, form_2_text, wanted_draft};
+ghost use Rattle.commands.specs.Outcomes.{BlamesOne, Checks, ChecksPart, ConvertsRecord, EndsRoot, IsReplayed, IsListingFault, IsSeedingFault, IsUnprinted, JoinsParts, MakesDraft, NamesOutput, NamesSink, WritesTorrent, answer_status, form_2_text, wanted_draft};
 
 use benc::memory::MemSink;
 use benc::{Sink, Source};
@@ -75,7 +76,7 @@ pub fn refuse<'a, W: Sink>(refusal: &Refusal, path: &[String], out: &mut W) -> R
     ensures status { IfOk result (λ s. s ≡ answer_status false) }
     ensures line { OnOk result (SentAndFlushed (W.seen out.old) (W.seen out.new)
         (refusal_text refusal.now (map string_bytes path.now))) }
-    ensures told { OnOk result (refusal.now ≢ Refusal.NoMemory) }
+    ensures known { OnOk result (refusal.now ≢ Refusal.NoMemory) }
     ensures fault { IfErr result (IsUnprinted refusal.now
         (refusal_text refusal.now (map string_bytes path.now))
         (W.seen out.old) (W.seen out.new)) }
@@ -100,7 +101,7 @@ pub fn check<'a, S: Shelf, W: Sink>(
 ) -> Result<u8, Fault<'a>>
     ensures checks { Checks torrent.now (S.contents shelf.old).under
         (λ files. Chain (Visits S.Shelf S.File.seen torrent.now) shelf.old torrent.now.files
-        files shelf.new × HasTold (S.faults shelf.old) (S.faults shelf.new) files)
+        files shelf.new × CountsUnreadable (S.faults shelf.old) (S.faults shelf.new) files)
         (BreaksOff S.Shelf S.File.seen torrent.now shelf.old lines
         (W.seen out.old) (W.seen out.new) shelf.new)
         lines (W.seen out.old) (W.seen out.new) result }
@@ -126,7 +127,7 @@ pub fn check_part<'a, S: SeekShelf, W: Sink>(
         (S.Shelf.contents shelf.old).under
         (λ files. Chain (VisitsPart S.opens_at S.Shelf.closes S.File.seen torrent.now
         (share torrent.now (part.number - 1) part.count)) shelf.old torrent.now.files files
-        shelf.new × HasTold (S.Shelf.faults shelf.old) (S.Shelf.faults shelf.new) files)
+        shelf.new × CountsUnreadable (S.Shelf.faults shelf.old) (S.Shelf.faults shelf.new) files)
         (W.seen out.old) (W.seen out.new) result }
     ensures no_memory { IfErr result (λ f. f ≡ Fault.NoMemory → shelf.new ≡ shelf.old) }
 {
@@ -189,7 +190,7 @@ pub fn seed<'a, N: NodeMap, S: Shelf, W: Sink>(
         (W.seen out.old) (W.seen out.new)) }
     ensures fault { IfErr result (λ f. (e : SeedFault) × Seeds S.Shelf S.File.seen
         (shelf_and_session shelf.old session.old) (shelf_and_session shelf.new session.new)
-        (W.seen out.old) (W.seen out.new) (Err e) × IsToldOfSeeding e f) }
+        (W.seen out.old) (W.seen out.new) (Err e) × IsSeedingFault e f) }
 {
     match seeding::seed(alloc, session, shelf, out) {
         Ok(()) => Ok(()),
@@ -252,7 +253,7 @@ pub fn replay_and_answer<'a, N: NodeMap, R: Source, W: Sink, A: Sink>(
 }
 
 /// Gathers a draft of all files on a shelf. If they cannot be a torrent, it prints the refusal and
-/// answers the exit status, 1. A fault names the file that could not be read, or tells why the
+/// answers the exit status, 1. A fault names the file that could not be read, or says why the
 /// shelf was not listed.
 pub fn gather<'a, S: Shelf, W: Sink>(
     alloc: Global,
@@ -268,7 +269,7 @@ pub fn gather<'a, S: Shelf, W: Sink>(
         Err(GatherFault::Refused(refusal, path)) => Ok(Err(refuse(&refusal, &path, out)?)),
         Err(GatherFault::Device(path)) => Err(Fault::ReadBelow(path)),
         Err(GatherFault::Changed(path)) => Err(Fault::ReadBelow(path)),
-        Err(GatherFault::List(fault)) => Err(listing_fault(fault, asked.dir)),
+        Err(GatherFault::List(fault)) => Err(fault_of_listing(fault, asked.dir)),
         Err(GatherFault::NoMemory) => Err(Fault::NoMemory),
     }
 }
@@ -314,8 +315,8 @@ pub fn convert<'a, R: Source, W: Sink, O: Sink>(
 }
 
 // Why the folder with this path could not be listed.
-fn listing_fault<'a>(fault: ShelfFault, dir: &'a str) -> Fault<'a>
-    ensures { IsToldOfListing (Fault.Read dir.entry) fault result }
+fn fault_of_listing<'a>(fault: ShelfFault, dir: &'a str) -> Fault<'a>
+    ensures { IsListingFault (Fault.Read dir.entry) fault result }
 {
     match fault {
         ShelfFault::Device => Fault::Read(dir),

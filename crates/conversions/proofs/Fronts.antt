@@ -1,4 +1,4 @@
--- The first bytes of a record, and what tests on them tell.
+-- The first bytes of a record, and what tests on them show.
 use Rattle.std.proofs.Common.{◌≡◌, ℕ, ◌+◌, ◌-◌, ◌<◌, ◌≤◌, true, false, nat_eq, List, [], ◌∷◌, ◌++◌, length, take, drop, inl, inr, refl, sym, ap, ◌∙◌, arith}
 use Rattle.std.proofs.Common.{subst}
 use Rattle.std.specs.Cmp.Lexicographic.{pointwise, same_text}
@@ -56,7 +56,7 @@ pub read_none : (a b : SourceSeen) (count : ℕ) (buf : List ℕ) → count ≡ 
 read_none a b count buf none bytes falls faults =
     subst (λ n. GaveFaultless a b (take n buf)) none (Faultless-take a b count buf (omega (arith, none)) bytes falls faults)
 
--- ---- the form that the first bytes tell
+-- ---- the form that the first bytes give
 
 prefix_of_front : (front more rest : List ℕ) → length front ≤ 8 → front ++ more ≡ header ++ rest → IsPrefixOf front header
 prefix_of_front front more rest short e =

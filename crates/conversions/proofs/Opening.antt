@@ -11,7 +11,7 @@ use Rattle.wire.specs.Conversion.{is_hashes_body, request_of}
 use Rattle.wire.specs.Frames.{IsBody, IsPartial, four_bytes, frame}
 use Rattle.wire.specs.Meaning.{IsHashesSize}
 use Rattle.wire.specs.Records.{record_frame}
-use Rattle.wire.proofs.Conversions.{hashes_are, hashes_told}
+use Rattle.wire.proofs.Conversions.{hashes_are, hashes_given}
 use Rattle.wire.proofs.FourBytes.{length-four_bytes, same_from_four_bytes}
 use Rattle.wire.proofs.Meanings.{same_heads}
 use Rattle.wire.proofs.OneReading.{same_from_frame}
@@ -77,7 +77,7 @@ opens_asked len left head fields fits is size forty_eight right = record {
         is_converted = append_assoc (request_head ++ fields) (0 ∷ head) rest
             ∙ ap (λ t. (request_head ++ fields) ++ (0 ∷ t)) as_frame
             ∙ ap (λ t. t ++ (0 ∷ frame body)) (sym (request_frame fields rest forty_eight))
-            ∙ sym (asked_bytes body (hashes_told body (fields ++ rest) refl (subst IsHashesSize (sym whole) right)));
+            ∙ sym (asked_bytes body (hashes_given body (fields ++ rest) refl (subst IsHashesSize (sym whole) right)));
       };
 }
 

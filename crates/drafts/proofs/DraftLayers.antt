@@ -195,12 +195,12 @@ tree_is d o n t at =
       | inl long ↦
           let f = found d o n t at long in
           let mine : (drafted_tree d t).layer ≡ f.hashes = rw long f.kept in
-          let told : (tree_at d.piece_length (pairs_of_layers d.layers) t).layer ≡ f.hashes = rw (long, f.digests) refl in
-          ap (λ (l : List (List ℕ)). record { root = t.root; length = t.length; layer = l }) (mine ∙ sym told)
+          let known : (tree_at d.piece_length (pairs_of_layers d.layers) t).layer ≡ f.hashes = rw (long, f.digests) refl in
+          ap (λ (l : List (List ℕ)). record { root = t.root; length = t.length; layer = l }) (mine ∙ sym known)
       | inr short ↦
           let mine : (drafted_tree d t).layer ≡ [] = rw short refl in
-          let told : (tree_at d.piece_length (pairs_of_layers d.layers) t).layer ≡ [] = rw short refl in
-          ap (λ (l : List (List ℕ)). record { root = t.root; length = t.length; layer = l }) (mine ∙ sym told)
+          let known : (tree_at d.piece_length (pairs_of_layers d.layers) t).layer ≡ [] = rw short refl in
+          ap (λ (l : List (List ℕ)). record { root = t.root; length = t.length; layer = l }) (mine ∙ sym known)
     ]
 
 same_map : {A B : Type 0} (f g : A → B) (xs : List A) → ((n : ℕ) (x : A) → slice_get xs n ≡ Some x → f x ≡ g x) → map f xs ≡ map g xs

@@ -97,9 +97,9 @@ kept_once keep listed paths once p =
     ∙ ap (λ b. pick b 1 0) (sym (any_kept keep p listed))
 
 -- what was listed inside, without what is left out, is listed of what stands there without it
-pub kept_listing : (pattern : Re) (told : Option Listing) (found paths : Vec (Vec (String Global))) → IsListed told (Ok found)
+pub kept_listing : (pattern : Re) (said : Option Listing) (found paths : Vec (Vec (String Global))) → IsListed said (Ok found)
     → map path_bytes paths.items ≡ paths_without pattern (map path_bytes found.items)
-    → IsListed (option_map (listing_without pattern) told) (Ok paths)
+    → IsListed (option_map (listing_without pattern) said) (Ok paths)
 kept_listing pattern None found paths listed same = tt
 kept_listing pattern (Some there) found paths listed same = (
   listed.0,

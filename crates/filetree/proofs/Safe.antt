@@ -110,6 +110,6 @@ pub walks_are_safe : (ps : Pairs) → Fits 126 (dict ps) → is_directory ps ≡
     → IsFilePath w.path
 walks_are_safe ps fits d good n w at =
     let h : Has (walks ps) w = has_at (walks ps) n w at in
-    let told = directory_walk ps w d h in
-    let deep : length w.path + 1 ≤ 125 = leads_deep 125 None ps w.path w.file fits.1 (each_leads 125 None ps w fits.1 h) told.1 in
-    record { some = told.0; short = omega (arith, deep); components = good_walk ps w good h }
+    let known = directory_walk ps w d h in
+    let deep : length w.path + 1 ≤ 125 = leads_deep 125 None ps w.path w.file fits.1 (each_leads 125 None ps w fits.1 h) known.1 in
+    record { some = known.0; short = omega (arith, deep); components = good_walk ps w good h }

@@ -126,8 +126,8 @@ no_fault (k ∷ ks) ps dir d reached fault =
     behind_file [] ps dir is reached fault = no_fault_file dir (subst (λ x. is_file x ≡ true) reached is) fault
     behind_file (k ∷ ks) ps dir is reached fault = both_ways (is_nil k) (file_pair ps k (dict reached.0) is reached.2).0 reached.1
 
-pub shape_is_told : (ps : Pairs) → (is_directory ps ≡ false → IsMisshapen ps) × (IsMisshapen ps → is_directory ps ≡ false)
-shape_is_told ps = (
+pub shape_is_standard : (ps : Pairs) → (is_directory ps ≡ false → IsMisshapen ps) × (IsMisshapen ps → is_directory ps ≡ false)
+shape_is_standard ps = (
   (λ bad. bad_pairs ps ps (λ k v h. h) bad),
   (λ odd. elim (true_or_false (is_directory ps)) [
     | inl d ↦ absurd (elim odd [ inl file ↦ no_file ps file.0 d file.1 | inr fault ↦ no_fault fault.path ps fault.dir d fault.reached fault.fault ])

@@ -25,8 +25,8 @@ WalksAreSafe = (ps : Pairs) → FitsInTorrent ps → is_directory ps ≡ true �
 
 -- a file tree is refused for its shape exactly if its root has the zero-length key, a component's
 -- value is no dictionary, a zero-length key has a sibling, or its value is no dictionary
-abbrev pub ShapeIsTold : Type 0
-ShapeIsTold = (ps : Pairs)
+abbrev pub ShapeIsStandard : Type 0
+ShapeIsStandard = (ps : Pairs)
     → (is_directory ps ≡ false → IsMisshapen ps) × (IsMisshapen ps → is_directory ps ≡ false)
 
 -- a file tree is refused for a path exactly if one of its components is bad, of a file or of a

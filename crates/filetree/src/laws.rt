@@ -1,6 +1,6 @@
 //! What holds of each file tree. A function that calls one of these knows its law.
 
-ghost use Rattle.filetree.specs.TreeLaws.{BadPathIsBadComponent, OrderIsApart, ShapeIsTold, WalksAreAll, WalksAreSafe};
+ghost use Rattle.filetree.specs.TreeLaws.{BadPathIsBadComponent, OrderIsApart, ShapeIsStandard, WalksAreAll, WalksAreSafe};
 
 /// The walks of a file tree are all that lead to a file, each once and in order.
 pub fn walks_are_all()
@@ -21,8 +21,8 @@ pub fn walks_are_safe()
 
 /// The test of the shape is that of the standard: the root has the zero-length key, a component's
 /// value is no dictionary, or a zero-length key has a sibling or a value that is no dictionary.
-pub fn shape_is_told()
-    ensures { ShapeIsTold }
+pub fn shape_is_standard()
+    ensures { ShapeIsStandard }
 {}
 
 /// The test of the components is that of the standard: one of them, of a file or of a directory, is

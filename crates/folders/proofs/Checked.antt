@@ -10,14 +10,14 @@ use Rattle.opening.specs.Sound.{IsSound}
 use Rattle.folders.specs.FolderCheck.{HasChecked, verdicts_of}
 use Rattle.folders.specs.Shelf.{more}
 use Rattle.folders.specs.Stopping.{VisitsFirst}
-use Rattle.folders.specs.Verdicts.{HasVerdicts, TellsFolder, fault_count, unreadable_count}
+use Rattle.folders.specs.Verdicts.{HasVerdicts, IsTrueOfFolder, fault_count, unreadable_count}
 use Rattle.folders.specs.Visits.{Visits}
 use Rattle.folders.specs.declared.folder_check.FolderCheck.{FolderCheck}
 use Rattle.folders.specs.declared.report.FileVerdict.{FileVerdict}
 use Rattle.folders.specs.declared.report.V1Verdict.{V1Verdict}
 use Rattle.folders.specs.declared.shelf.Shelf.{Ghosts}
 use Rattle.folders.proofs.Counts.{unreadable_push}
-use Rattle.folders.proofs.FolderChecks.{told_first}
+use Rattle.folders.proofs.FolderChecks.{first_true}
 
 module _ {S F : Type 0} (shelf : Ghosts S F) (seen : F → SourceSeen) (t : Description) where
   -- the first n files were visited, for the verdicts of this check
@@ -52,18 +52,18 @@ module _ {S F : Type 0} (shelf : Ghosts S F) (seen : F → SourceSeen) (t : Desc
   visits_first s s' n check sound so_far = record {
     once = subst (λ k. Chain (Visits shelf seen t) s (take k t.files) (verdicts_of check) s') (sym so_far.count) so_far.visited;
     counted = so_far.counted;
-    tells = told_first t (shelf.contents s).under sound check so_far.so_far;
+    are_true = first_true t (shelf.contents s).under sound check so_far.so_far;
   }
 
   -- the same, where all files were visited
-  pub visits_all : (s s' : S) (files : List FileVerdict) (v1 : Option V1Verdict) → HasVerdicts t files v1 → TellsFolder t (shelf.contents s).under files v1
+  pub visits_all : (s s' : S) (files : List FileVerdict) (v1 : Option V1Verdict) → HasVerdicts t files v1 → IsTrueOfFolder t (shelf.contents s).under files v1
       → Chain (Visits shelf seen t) s t.files files s' → shelf.faults s' ≡ more (shelf.faults s) (unreadable_count files) → VisitsFirst shelf seen t s files s'
-  visits_all s s' files v1 has tells once counted = record {
+  visits_all s s' files v1 has are_true once counted = record {
     once = subst (λ fs. Chain (Visits shelf seen t) s fs files s') (sym (take_all (length files) t.files (omega (arith, has.count)))) once;
     counted = counted;
-    tells = record {
-      contents = tells.contents;
-      agree = λ k f lt there. tells.agree k f there;
-      each = tells.tells.each;
+    are_true = record {
+      contents = are_true.contents;
+      agree = λ k f lt there. are_true.agree k f there;
+      each = are_true.are_true.each;
     };
   }

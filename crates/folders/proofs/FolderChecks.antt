@@ -10,11 +10,11 @@ use Rattle.opening.specs.Sound.{IsSound}
 use Rattle.pieces.specs.declared.v1_feed.V1Feed.{V1Feed}
 use Rattle.folders.specs.FolderCheck.{BeginsStream, FindsFile, HasChecked, verdicts_of}
 use Rattle.folders.specs.Pass.{FindsVerdict}
-use Rattle.folders.specs.Stopping.{TellsFirst}
+use Rattle.folders.specs.Stopping.{AreTrueOfFirst}
 use Rattle.folders.specs.Streaming.{StandsAt}
 use Rattle.folders.specs.declared.folder_check.FolderCheck.{FolderCheck}
 use Rattle.folders.specs.declared.report.FileVerdict.{FileVerdict}
-use Rattle.folders.proofs.Passes.{IsNotPast, IsPassed, passed_one, told_none}
+use Rattle.folders.proofs.Passes.{IsNotPast, IsPassed, passed_one, none_found}
 use Rattle.folders.proofs.Places.{place_before}
 use Rattle.folders.proofs.Visiting.{HasFound, contents_extend, contents_of, first_agree, found_one}
 
@@ -43,7 +43,7 @@ module _ (t : Description) (under : List (List ℕ) → Option (Option (List ℕ
       seen = [];
       count = refl;
       agree = λ k f content there at. absurd (none-some content at);
-      told = λ contents extends. told_none t contents [] start refl begins.stands begins.given;
+      shown = λ contents extends. none_found t contents [] start refl begins.stands begins.given;
     };
   }
     where
@@ -90,14 +90,14 @@ module _ (t : Description) (under : List (List ℕ) → Option (Option (List ℕ
       checked.found (first_none checked.start checked.begins))
 
   -- what their verdicts say
-  pub told_first : IsSound t → (check : FolderCheck) → HasChecked t under check → TellsFirst t under (verdicts_of check)
-  told_first sound check checked =
+  pub first_true : IsSound t → (check : FolderCheck) → HasChecked t under check → AreTrueOfFirst t under (verdicts_of check)
+  first_true sound check checked =
       let first = first_checked sound check checked in
       let n : ℕ = length (verdicts_of check) in
       record {
         contents = contents_of first.found.seen;
         agree = first_agree t under n (verdicts_of check) check.stream.feed first.found;
-        each = (first.found.told (contents_of first.found.seen) (contents_extend first.found.seen)).each;
+        each = (first.found.shown (contents_of first.found.seen) (contents_extend first.found.seen)).each;
       }
 
   -- before the first file

@@ -12,6 +12,6 @@ pub mod Reports
 pub mod Layers
 pub mod OpenedRoots
 pub mod Pieces
-pub mod Told
+pub mod SentLines
 pub mod FolderChecks
 pub mod Checked

@@ -31,8 +31,8 @@ pub record IsPassed (t : Description) (n : ℕ) (files : List FileVerdict) (runn
   pub not_past : IsNotPast running (place_before t n)
   pub ends : (v : Version1) → t.v1 ≡ Some v → StreamEndsAt running v.total
 
--- what the verdicts of the first n files tell of the contents, and what the stream was given of them
-pub record IsTold (t : Description) (contents : Contents) (n : ℕ) (files : List FileVerdict) (running : Option V1Feed) : Type 0 where
+-- what the verdicts of the first n files say of the contents, and what the stream was given of them
+pub record AreFound (t : Description) (contents : Contents) (n : ℕ) (files : List FileVerdict) (running : Option V1Feed) : Type 0 where
   pub each : AreVerdicts t contents files
   pub stream : (v : Version1) → t.v1 ≡ Some v → is_some running ≡ true
       → (front : List ℕ) × StandsAt running (length front) × IsStreamGiven running v.pieces t.piece_length front × IsStreamPrefix t contents n front
@@ -140,10 +140,10 @@ passed_broken t n files v old new broken stopped passed = record {
     off true false c h = refl
     off false b c h = refl
 
-pub passed_one : (t : Description) (n : ℕ) (files : List FileVerdict) (v : FileVerdict) (f : FileEntry) (told : Option (Option (List ℕ)))
+pub passed_one : (t : Description) (n : ℕ) (files : List FileVerdict) (v : FileVerdict) (f : FileEntry) (shown : Option (Option (List ℕ)))
     (old new : Option V1Feed)
-    → IsSound t → slice_get t.files n ≡ Some f → FindsVerdict t f told old new v → IsPassed t n files old → IsPassed t (n + 1) (files ++ v ∷ []) new
-passed_one t n files v f told old new sound is found passed = elim (true_or_false (is_whole v)) [
+    → IsSound t → slice_get t.files n ≡ Some f → FindsVerdict t f shown old new v → IsPassed t n files old → IsPassed t (n + 1) (files ++ v ∷ []) new
+passed_one t n files v f shown old new sound is found passed = elim (true_or_false (is_whole v)) [
   | inl whole ↦ let part = found.taken whole in passed_whole t n files v f part.0 old new sound is whole part.2 passed
   | inr broken ↦ passed_broken t n files v old new broken (found.stopped broken) passed
 ]
@@ -152,12 +152,12 @@ passed_one t n files v f told old new sound is found passed = elim (true_or_fals
     true_or_false true = inl refl
     true_or_false false = inr refl
 
--- ---- what is told
+-- ---- what is found
 
 -- before the first file
-pub told_none : (t : Description) (contents : Contents) (files : List FileVerdict) (running : Option V1Feed) → files ≡ [] → StandsAt running 0
-    → ((v : Version1) → t.v1 ≡ Some v → IsStreamGiven running v.pieces t.piece_length []) → IsTold t contents 0 files running
-told_none t contents files running none stands given = record {
+pub none_found : (t : Description) (contents : Contents) (files : List FileVerdict) (running : Option V1Feed) → files ≡ [] → StandsAt running 0
+    → ((v : Version1) → t.v1 ≡ Some v → IsStreamGiven running v.pieces t.piece_length []) → AreFound t contents 0 files running
+none_found t contents files running none stands given = record {
   each = λ n f v there at. absurd (none-some v (sym (ap (λ xs. slice_get xs n) none) ∙ at));
   stream = λ v hybrid on. ([], stands, given v hybrid, prefix_none t contents);
 }
@@ -189,12 +189,12 @@ part_begins t contents n f front (b ∷ bytes) is content le so_far =
     (prefix_file t contents n (front ++ replicate gap 0) f (b ∷ bytes) (prefix_zeros t contents n front gap so_far) is content
     (omega (arith, length-append front (replicate gap 0), length-replicate {A = ℕ} gap 0)))
 
-pub told_one : (t : Description) (contents : Contents) (n : ℕ) (files : List FileVerdict) (v : FileVerdict) (f : FileEntry) (shelf : Option (Option (List ℕ)))
+pub one_found : (t : Description) (contents : Contents) (n : ℕ) (files : List FileVerdict) (v : FileVerdict) (f : FileEntry) (shelf : Option (Option (List ℕ)))
     (old new : Option V1Feed)
     → IsSound t → slice_get t.files n ≡ Some f → (found : FindsVerdict t f shelf old new v) → contents n ≡ found.content
-    → IsPassed t n files old → IsTold t contents n files old → IsTold t contents (n + 1) (files ++ v ∷ []) new
-told_one t contents n files v f shelf old new sound is found here passed told = record {
-  each = each_push t contents n files v f passed.count is (subst (λ c. IsVerdict t f c v) (sym here) found.verdict) told.each;
+    → IsPassed t n files old → AreFound t contents n files old → AreFound t contents (n + 1) (files ++ v ∷ []) new
+one_found t contents n files v f shelf old new sound is found here passed shown = record {
+  each = each_push t contents n files v f passed.count is (subst (λ c. IsVerdict t f c v) (sym here) found.verdict) shown.each;
   stream = λ w hybrid on. elim (true_or_false (is_whole v)) [
     | inr broken ↦ let no : ⊥ = gone new (found.stopped broken) on in absurd no
     | inl whole ↦
@@ -202,7 +202,7 @@ told_one t contents n files v f shelf old new sound is found here passed told = 
         let bytes : List ℕ = part.0 in
         let took = takes_part t n f bytes old new sound is passed.not_past part.2 in
         let before : is_some old ≡ true = sym (takes_goes_on old new (part_of took.0 (start_of t f) bytes) took.3) ∙ on in
-        let given = told.stream w hybrid before in
+        let given = shown.stream w hybrid before in
         let at : length given.0 ≤ start_of t f = front_before old (length given.0) (place_before t n) (start_of t f) before given.1 passed.not_past
         (start_is t n f sound is) in
         let more : List ℕ = part_of (length given.0) (start_of t f) bytes in

@@ -20,7 +20,7 @@ use Rattle.opening.specs.Description.{Description, FileEntry, TreeEntry}
 use Rattle.opening.specs.Sound.{IsSound, IsSoundTree}
 use Rattle.pieces.specs.declared.v1_feed.V1Feed.{V1Feed}
 use Rattle.folders.specs.declared.file_check.Stream.{Stream}
-use Rattle.folders.specs.Content.{HasPlaceFor, IsComparedLayer, IsToldOf}
+use Rattle.folders.specs.Content.{HasPlaceFor, IsComparedLayer, IsFoundOf}
 use Rattle.folders.specs.Folder.{start_of, tree_entry_of}
 use Rattle.folders.specs.Pass.{IsEmptyContent, IsOpenedVerdict}
 use Rattle.folders.specs.Streaming.{FillsTo, HasStreamRoom, Takes}
@@ -43,17 +43,17 @@ longer_content None left' bytes gave = (bytes, (let le : length bytes ≤ length
 longer_content (Some file) None bytes gave = absurd gave
 longer_content (Some file) (Some rest) bytes gave = (file, omega (arith, ap length gave, length-append bytes rest), λ known is. same_Some known file (sym is))
 
--- what comparing the count with the stated length told
+-- what comparing the count with the stated length gave
 pub other_count : (r : Option ℕ) (n : ℕ) (b : Bool) → b ≡ true → b ≡ not (option_eq eqb r (Some n)) → r ≡ Some n → ⊥
-other_count None n b differs told is = cc
-other_count (Some k) n b differs told is =
+other_count None n b differs shown is = cc
+other_count (Some k) n b differs shown is =
     let same : eqb k n ≡ true = eq-eqb k n (same_Some k n is) in
-    let no : true ≡ false = sym differs ∙ told ∙ ap not same in
+    let no : true ≡ false = sym differs ∙ shown ∙ ap not same in
     cc
 
 pub same_count : (r : Option ℕ) (n : ℕ) (b : Bool) → b ≡ false → b ≡ not (option_eq eqb r (Some n)) → r ≡ Some n
-same_count None n b equal told = let never : ⊥ = cc in absurd never
-same_count (Some k) n b equal told = ap Some (eqb-true k n (by_test (eqb k n) (sym told ∙ equal)))
+same_count None n b equal shown = let never : ⊥ = cc in absurd never
+same_count (Some k) n b equal shown = ap Some (eqb-true k n (by_test (eqb k n) (sym shown ∙ equal)))
   where
     by_test : (c : Bool) → not c ≡ false → c ≡ true
     by_test true e = refl
@@ -91,8 +91,8 @@ wrong_length t f took source source' before after (Some count) old new read othe
 -- a source was taken whole, and had as many bytes as stated
 pub read_whole : {T : Type 0} (took : T → List ℕ → T → Type 0) (source source' : SourceSeen) (before after : T) (r : Option ℕ) (len : ℕ) (b : Bool)
     → b ≡ false → b ≡ not (option_eq eqb r (Some len)) → ReadAll took source source' len before after r → TookAll took source source' len before after len
-read_whole took source source' before after r len b equal told read =
-    subst (ReadAll took source source' len before after) (same_count r len b equal told) read
+read_whole took source source' before after r len b equal shown read =
+    subst (ReadAll took source source' len before after) (same_count r len b equal shown) read
 
 -- there is room for the file, once the stream is at its start and was handed out
 pub room_for_all : (old mid : Option V1Feed) (out stream : Stream) (start len : ℕ) → HasPlaceFor old start len
@@ -171,14 +171,14 @@ opened_verdict t f source source' bound count before after old mid new v read wh
   };
 }
 
--- what the check told at the end
-pub finished : (pl bound count : ℕ) (e : TreeEntry) (source source' : SourceSeen) (before after : FileCheck) (told : ℕ) (root : List ℕ) (place : Option ℕ)
+-- what the check found at the end
+pub finished : (pl bound count : ℕ) (e : TreeEntry) (source source' : SourceSeen) (before after : FileCheck) (shown : ℕ) (root : List ℕ) (place : Option ℕ)
     → (read : TookAll FeedsBoth source source' bound before after count) → e.length ≡ count
     → IsComparedLayer pl e (chosen_layer before.pieces) (given_hashes before.pieces) → IsFedCheck before.pieces []
     → ((file : List ℕ) → IsFedCheck after.pieces file
-    → (told ≡ length file) × (root ≡ root_of file) × IsFirstBadNode after.pieces file place)
-    → IsToldOf pl e read.bytes root place
-finished pl bound count e source source' before after told root place read same of fresh finish =
+    → (shown ≡ length file) × (root ≡ root_of file) × IsFirstBadNode after.pieces file place)
+    → IsFoundOf pl e read.bytes root place
+finished pl bound count e source source' before after shown root place read same of fresh finish =
     let end = finish read.bytes (read.taken.tree.fed [] fresh) in
     let layer = chosen_layer after.pieces in
     record {
@@ -193,22 +193,22 @@ finished pl bound count e source source' before after told root place read same 
       other = end.2.compared;
     }
 
--- a place was told, or the root is the tree's
-pub root_or_place : (pl : ℕ) (e : TreeEntry) (bytes root : List ℕ) → IsToldOf pl e bytes root None → IsSoundTree pl e → root ≡ e.root
+-- a place was found, or the root is the tree's
+pub root_or_place : (pl : ℕ) (e : TreeEntry) (bytes root : List ℕ) → IsFoundOf pl e bytes root None → IsSoundTree pl e → root ≡ e.root
 root_or_place pl e bytes root end sound = end.root_is ∙ same_root pl e end.layer end.hashes bytes end.of sound end.length_is end.other
 
-pub place_is_small : (pl : ℕ) (e : TreeEntry) (bytes root : List ℕ) (k : ℕ) → IsToldOf pl e bytes root (Some k) → e.length ≤ 2 ^ 46 → k < 2 ^ 33
+pub place_is_small : (pl : ℕ) (e : TreeEntry) (bytes root : List ℕ) (k : ℕ) → IsFoundOf pl e bytes root (Some k) → e.length ≤ 2 ^ 46 → k < 2 ^ 33
 place_is_small pl e bytes root k end bound =
     let other = difference_within (layer_of bytes end.layer) end.hashes k end.size_is end.other in
     omega (arith, other.0, few_nodes bytes end.layer, end.length_is)
 
 pub good_tree : (t : Description) (f : FileEntry) (e : TreeEntry) (bytes root : List ℕ) (place : Option ℕ) → tree_entry_of t f ≡ Some e → 0 < f.length
-    → IsToldOf t.piece_length e bytes root place → root ≡ e.root → IsVerdict t f (Some bytes) file.Good
+    → IsFoundOf t.piece_length e bytes root place → root ≡ e.root → IsVerdict t f (Some bytes) file.Good
 good_tree t f e bytes root place found some end is =
     (bytes, refl, record { empty = λ none. absurd (omega arith); fits = λ _. (e, found, record { length_is = end.length_is; root_is = sym end.root_is ∙ is }) })
 
 pub bad_tree : (t : Description) (f : FileEntry) (e : TreeEntry) (bytes root : List ℕ) (k : ℕ) → IsSound t → tree_entry_of t f ≡ Some e → e.length ≡ f.length
-    → IsSoundTree t.piece_length e → IsToldOf t.piece_length e bytes root (Some k) → (root ≡ e.root → ⊥)
+    → IsSoundTree t.piece_length e → IsFoundOf t.piece_length e bytes root (Some k) → (root ≡ e.root → ⊥)
     → IsVerdict t f (Some bytes) (file.Bad (f.first_piece + k))
 bad_tree t f e bytes root k sound found same tree end differs = (
   bytes,

@@ -15,10 +15,10 @@ use Rattle.pieces.specs.declared.v1_feed.V1Feed.{V1Feed}
 use Rattle.folders.specs.Compared.{IsDigestVerdict}
 use Rattle.folders.specs.Folder.{Contents, GoodFolder, IsGoodFile, IsStream, V1Good, tree_entry_of}
 use Rattle.folders.specs.Streaming.{StreamEndsAt, IsStreamVerdict, StandsAt}
-use Rattle.folders.specs.Verdicts.{HasVerdicts, IsBad, IsV1Verdict, IsVerdict, TellsContents, fault_count, is_checked, is_good, is_unreadable, is_whole, is_yes}
+use Rattle.folders.specs.Verdicts.{HasVerdicts, IsBad, IsV1Verdict, IsVerdict, AreTrueVerdicts, fault_count, is_checked, is_good, is_unreadable, is_whole, is_yes}
 use Rattle.folders.specs.Verdicts.{stream_is_good, unreadable_count}
 use Rattle.folders.proofs.Prefixes.{IsStreamPrefix, prefix_all}
-use Rattle.folders.proofs.Passes.{IsPassed, IsTold}
+use Rattle.folders.proofs.Passes.{IsPassed, AreFound}
 use Rattle.folders.proofs.Streaming.{one_stream}
 use Rattle.chains.proofs.Cases.{item_at}
 
@@ -53,17 +53,17 @@ good_stream t v contents (version1.Bad i) said is = let no : ⊥ = cc in absurd 
 good_stream t v contents version1.NotChecked said is = let no : ⊥ = cc in absurd no
 
 pub yes_is_sure : (t : Description) (contents : Contents) (files : List FileVerdict) (v1 : Option V1Verdict) → HasVerdicts t files v1
-    → TellsContents t contents files v1
+    → AreTrueVerdicts t contents files v1
     → is_yes files v1 ≡ true → GoodFolder t contents
-yes_is_sure t contents files v1 has tells said =
+yes_is_sure t contents files v1 has are_true said =
     let parts = both (list_all is_good files) (stream_is_good v1) said in
     record {
       files = λ n f there.
           let found = item_at files n (omega (arith, slice_get_within t.files n f there, has.count)) in
-          good_verdict t f (contents n) found.0 (all_at is_good files n found.0 parts.0 found.1) (tells.each n f found.0 there found.1);
+          good_verdict t f (contents n) found.0 (all_at is_good files n found.0 parts.0 found.1) (are_true.each n f found.0 there found.1);
       version1 = λ v hybrid.
           let verdict = some_of v1 (has.hybrid ∙ ap is_some hybrid) in
-          good_stream t v contents verdict.0 (subst (λ o. stream_is_good o ≡ true) verdict.1 parts.1) (tells.version1 v verdict.0 hybrid verdict.1);
+          good_stream t v contents verdict.0 (subst (λ o. stream_is_good o ≡ true) verdict.1 parts.1) (are_true.version1 v verdict.0 hybrid verdict.1);
     }
 
 -- ---- a good folder gets a yes
@@ -155,12 +155,12 @@ stream_good t v contents (version1.Bad i) good checked is =
 stream_good t v contents version1.NotChecked good checked is = let no : ⊥ = cc in absurd no
 
 pub good_is_enough : (t : Description) (contents : Contents) (files : List FileVerdict) (v1 : Option V1Verdict) → IsSound t → HasVerdicts t files v1
-    → TellsContents t contents files v1 → GoodFolder t contents → unreadable_count files ≡ 0 → is_yes files v1 ≡ true
-good_is_enough t contents files v1 sound has tells good none =
+    → AreTrueVerdicts t contents files v1 → GoodFolder t contents → unreadable_count files ≡ 0 → is_yes files v1 ≡ true
+good_is_enough t contents files v1 sound has are_true good none =
     let all : list_all is_good files ≡ true = all_from is_good files (λ n v is.
     let file = item_at t.files n (omega (arith, slice_get_within files n v is, has.count)) in
     let there = good.files n file.0 file.1 in
-    no_other t n file.0 (contents n) there.0 v sound file.1 there.1 there.2 (none_unreadable files n v none is) (tells.each n file.0 v file.1 is)) in
+    no_other t n file.0 (contents n) there.0 v sound file.1 there.1 there.2 (none_unreadable files n v none is) (are_true.each n file.0 v file.1 is)) in
     let whole : list_all is_whole files ≡ true = all_from is_whole files (λ n v is. good_is_whole v (all_at is_good files n v all is)) in
     ap (λ b. b && stream_is_good v1) all ∙ by_stream v1 refl whole
   where
@@ -168,7 +168,7 @@ good_is_enough t contents files v1 sound has tells good none =
     by_stream None is whole = ap stream_is_good is
     by_stream (Some verdict) is whole =
         let v = some_of t.v1 (sym has.hybrid ∙ ap is_some is) in
-        ap stream_is_good is ∙ stream_good t v.0 contents verdict (good.version1 v.0 v.1) (has.checked verdict is ∙ whole) (tells.version1 v.0 verdict v.1 is)
+        ap stream_is_good is ∙ stream_good t v.0 contents verdict (good.version1 v.0 v.1) (has.checked verdict is ∙ whole) (are_true.version1 v.0 verdict v.1 is)
 
 -- ---- at the end of a check
 
@@ -176,13 +176,13 @@ good_is_enough t contents files v1 sound has tells good none =
 abbrev IsWithin : Option V1Feed → Type 0
 IsWithin running = (from total : ℕ) → is_some running ≡ true → StandsAt running from → StreamEndsAt running total → from ≤ total
 
--- the stream, once all files have passed whole, and what comparing it told
+-- the stream, once all files have passed whole, and what comparing it gave
 compared_stream : (t : Description) (contents : Contents) (n : ℕ) (files : List FileVerdict) (running : Option V1Feed) (v : Version1) (verdict : V1Verdict)
-    → n ≡ length t.files → IsPassed t n files running → IsTold t contents n files running → t.v1 ≡ Some v → is_some running ≡ true → IsWithin running
+    → n ≡ length t.files → IsPassed t n files running → AreFound t contents n files running → t.v1 ≡ Some v → is_some running ≡ true → IsWithin running
     → IsStreamVerdict running verdict
     → (stream : List ℕ) × IsStream t contents v.total stream × IsDigestVerdict (cut_digests t.piece_length stream) v.pieces verdict
-compared_stream t contents n files running v verdict all passed told hybrid on within compared =
-    let given = told.stream v hybrid on in (
+compared_stream t contents n files running v verdict all passed shown hybrid on within compared =
+    let given = shown.stream v hybrid on in (
       given.0 ++ replicate (v.total - length given.0) 0,
       prefix_all t contents given.0 v.total (subst (λ k. IsStreamPrefix t contents k given.0) all given.3)
           (within (length given.0) v.total on given.1 (passed.ends v hybrid)),
@@ -190,11 +190,11 @@ compared_stream t contents n files running v verdict all passed told hybrid on w
     )
 
 -- the verdict on the version 1 stream, once all files have passed
-pub stream_told : (t : Description) (contents : Contents) (n : ℕ) (files : List FileVerdict) (running : Option V1Feed) (v : Version1) (verdict : V1Verdict)
-    → n ≡ length t.files → IsPassed t n files running → IsTold t contents n files running → t.v1 ≡ Some v → is_checked verdict ≡ is_some running
+pub stream_found : (t : Description) (contents : Contents) (n : ℕ) (files : List FileVerdict) (running : Option V1Feed) (v : Version1) (verdict : V1Verdict)
+    → n ≡ length t.files → IsPassed t n files running → AreFound t contents n files running → t.v1 ≡ Some v → is_checked verdict ≡ is_some running
     → IsWithin running → IsStreamVerdict running verdict → IsV1Verdict t v contents verdict
-stream_told t contents n files running v version1.NotChecked all passed told hybrid checked within compared = tt
-stream_told t contents n files running v version1.Good all passed told hybrid checked within compared =
-    compared_stream t contents n files running v version1.Good all passed told hybrid (sym checked) within compared
-stream_told t contents n files running v (version1.Bad i) all passed told hybrid checked within compared =
-    compared_stream t contents n files running v (version1.Bad i) all passed told hybrid (sym checked) within compared
+stream_found t contents n files running v version1.NotChecked all passed shown hybrid checked within compared = tt
+stream_found t contents n files running v version1.Good all passed shown hybrid checked within compared =
+    compared_stream t contents n files running v version1.Good all passed shown hybrid (sym checked) within compared
+stream_found t contents n files running v (version1.Bad i) all passed shown hybrid checked within compared =
+    compared_stream t contents n files running v (version1.Bad i) all passed shown hybrid (sym checked) within compared

@@ -19,7 +19,7 @@ use Rattle.folders.specs.TakeAll.{IsReadWithin}
 use Rattle.folders.specs.Verdicts.{AgreeWith, Agrees, is_whole}
 use Rattle.folders.specs.Visits.{IsReadFor}
 use Rattle.chains.proofs.Cases.{item_at, last_or_before}
-use Rattle.folders.proofs.Passes.{IsPassed, IsTold, told_one}
+use Rattle.folders.proofs.Passes.{IsPassed, AreFound, one_found}
 
 -- ---- one file
 
@@ -29,17 +29,17 @@ same_content left bytes None gave e = let no : ⊥ = cc in absurd no
 same_content left bytes (Some known) gave e = ap Some (gave known (same_Some left (Some known) e))
 
 -- what an opened file has is what stands at its path
-pub agrees_opened : (told : Option (Option (List ℕ))) (left : Option (List ℕ)) (bytes : List ℕ) → IsFound told (Some left) → Agrees left bytes
-    → Agrees told (Some bytes)
+pub agrees_opened : (shown : Option (Option (List ℕ))) (left : Option (List ℕ)) (bytes : List ℕ) → IsFound shown (Some left) → Agrees left bytes
+    → Agrees shown (Some bytes)
 agrees_opened None left bytes found gave there is = let no : ⊥ = cc in absurd no
 agrees_opened (Some stands) left bytes found gave there is = same_content left bytes there gave (found ∙ ap (option_map Some) (same_Some stands there is))
 
 -- nothing has the name
-pub finds_missing : (t : Description) (f : FileEntry) (told : Option (Option (List ℕ))) (old new : Option V1Feed)
-    → IsFound told None → new ≡ None → FindsVerdict t f told old new file.Missing
-finds_missing t f told old new found stopped = record {
+pub finds_missing : (t : Description) (f : FileEntry) (shown : Option (Option (List ℕ))) (old new : Option V1Feed)
+    → IsFound shown None → new ≡ None → FindsVerdict t f shown old new file.Missing
+finds_missing t f shown old new found stopped = record {
   content = None;
-  agrees = nothing told found;
+  agrees = nothing shown found;
   verdict = refl;
   taken = λ no. let n : ⊥ = cc in absurd n;
   stopped = λ _. stopped;
@@ -49,15 +49,15 @@ finds_missing t f told old new found stopped = record {
     none_of None is = refl
     none_of (Some bytes) is = let no : ⊥ = cc in absurd no
 
-    nothing : (told : Option (Option (List ℕ))) → IsFound told None → Agrees told None
+    nothing : (shown : Option (Option (List ℕ))) → IsFound shown None → Agrees shown None
     nothing None found there is = let no : ⊥ = cc in absurd no
     nothing (Some content) found there is = none_of there (found ∙ ap (option_map Some) (same_Some content there is))
 
 -- the file is unreadable, and may have any content
-pub finds_unreadable : (t : Description) (f : FileEntry) (told : Option (Option (List ℕ))) (old new : Option V1Feed)
-    → new ≡ None → FindsVerdict t f told old new file.Unreadable
-finds_unreadable t f told old new stopped = record {
-  content = unwrap_or told None;
+pub finds_unreadable : (t : Description) (f : FileEntry) (shown : Option (Option (List ℕ))) (old new : Option V1Feed)
+    → new ≡ None → FindsVerdict t f shown old new file.Unreadable
+finds_unreadable t f shown old new stopped = record {
+  content = unwrap_or shown None;
   agrees = λ there is. sym (ap (λ o. unwrap_or o None) is);
   verdict = tt;
   taken = λ no. let n : ⊥ = cc in absurd n;
@@ -65,29 +65,29 @@ finds_unreadable t f told old new stopped = record {
 }
 
 -- the file was opened and read without a fault
-pub finds_opened : (t : Description) (f : FileEntry) (told : Option (Option (List ℕ))) (source source' : SourceSeen) (old new end : Option V1Feed)
+pub finds_opened : (t : Description) (f : FileEntry) (shown : Option (Option (List ℕ))) (source source' : SourceSeen) (old new end : Option V1Feed)
     (v : FileVerdict)
-    → IsFound told (Some source.left) → IsOpenedVerdict t f source source' old new v → (is_whole v ≡ true → end ≡ new) → (is_whole v ≡ false → end ≡ None)
-    → FindsVerdict t f told old end v
-finds_opened t f told source source' old new end v found is goes stopped =
+    → IsFound shown (Some source.left) → IsOpenedVerdict t f source source' old new v → (is_whole v ≡ true → end ≡ new) → (is_whole v ≡ false → end ≡ None)
+    → FindsVerdict t f shown old end v
+finds_opened t f shown source source' old new end v found is goes stopped =
     let bytes = is.gives.bytes in
     record {
       content = Some bytes;
-      agrees = agrees_opened told source.left bytes found is.gives.agrees;
+      agrees = agrees_opened shown source.left bytes found is.gives.agrees;
       verdict = is.gives.verdict;
       taken = λ whole. (bytes, refl, subst (λ o. IsStreamPart t f bytes old o) (sym (goes whole)) (is.taken whole));
       stopped = stopped;
     }
 
 -- the same, of how the reading was answered
-pub finds_read : (t : Description) (f : FileEntry) (told : Option (Option (List ℕ))) (source source' : SourceSeen) (old new end : Option V1Feed)
+pub finds_read : (t : Description) (f : FileEntry) (shown : Option (Option (List ℕ))) (source source' : SourceSeen) (old new end : Option V1Feed)
     (r : Result FileVerdict DeviceFault) (v : FileVerdict)
-    → IsFound told (Some source.left) → IfOk r (IsOpenedVerdict t f source source' old new) → v ≡ result_unwrap_or r file.Unreadable
-    → (is_whole v ≡ true → end ≡ new) → (is_whole v ≡ false → end ≡ None) → FindsVerdict t f told old end v
-finds_read t f told source source' old new end (Ok w) v found is same goes stopped =
-    finds_opened t f told source source' old new end v found (subst (IsOpenedVerdict t f source source' old new) (sym same) is) goes stopped
-finds_read t f told source source' old new end (Err e) v found is same goes stopped =
-    subst (FindsVerdict t f told old end) (sym same) (finds_unreadable t f told old end (stopped (ap is_whole same)))
+    → IsFound shown (Some source.left) → IfOk r (IsOpenedVerdict t f source source' old new) → v ≡ result_unwrap_or r file.Unreadable
+    → (is_whole v ≡ true → end ≡ new) → (is_whole v ≡ false → end ≡ None) → FindsVerdict t f shown old end v
+finds_read t f shown source source' old new end (Ok w) v found is same goes stopped =
+    finds_opened t f shown source source' old new end v found (subst (IsOpenedVerdict t f source source' old new) (sym same) is) goes stopped
+finds_read t f shown source source' old new end (Err e) v found is same goes stopped =
+    subst (FindsVerdict t f shown old end) (sym same) (finds_unreadable t f shown old end (stopped (ap is_whole same)))
 
 -- how an opened file was read for its verdict
 pub read_for : (t : Description) (f : FileEntry) (source source' : SourceSeen) (old new : Option V1Feed) (r : Result FileVerdict DeviceFault) (v : FileVerdict)
@@ -120,13 +120,13 @@ never_broken v b x y is whole broken = let no : true ≡ false = sym whole ∙ i
 abbrev pub Extends : List (Option (List ℕ)) → Contents → Type 0
 Extends seen contents = (k : ℕ) (c : Option (List ℕ)) → slice_get seen k ≡ Some c → contents k ≡ c
 
--- what was found of the first n files, of a shelf that tells this of its paths
+-- what was found of the first n files, on a shelf that holds this
 pub record HasFound (t : Description) (under : List (List ℕ) → Option (Option (List ℕ))) (n : ℕ) (files : List FileVerdict) (running : Option V1Feed) : Type 0
   where
     pub seen : List (Option (List ℕ))
     pub count : length seen ≡ n
     pub agree : (k : ℕ) (f : FileEntry) (c : Option (List ℕ)) → slice_get t.files k ≡ Some f → slice_get seen k ≡ Some c → Agrees (under f.path) c
-    pub told : (contents : Contents) → Extends seen contents → IsTold t contents n files running
+    pub shown : (contents : Contents) → Extends seen contents → AreFound t contents n files running
 
 -- an item of a list that one more was pushed to
 pushed_at : {A : Type 0} (xs : List A) (x y : A) (k : ℕ) → slice_get (xs ++ x ∷ []) k ≡ Some y → (slice_get xs k ≡ Some y) ⊎ ((k ≡ length xs) × (x ≡ y))
@@ -164,10 +164,10 @@ found_one t under n files v f old new sound is found passed so_far = record {
         let same : f ≡ g = same_Some f g (sym is ∙ ap (slice_get t.files) (sym (last.0 ∙ so_far.count)) ∙ there) in
         subst (λ h. Agrees (under h.path) c) same (subst (Agrees (under f.path)) last.1 found.agrees)
   ];
-  told = λ contents extends.
-      told_one t contents n files v f (under f.path) old new sound is found
+  shown = λ contents extends.
+      one_found t contents n files v f (under f.path) old new sound is found
       (extends n found.content (pushed_last so_far.seen found.content n (sym so_far.count)))
-      passed (so_far.told contents (λ k c at. extends k c (pushed_before so_far.seen found.content c k at)));
+      passed (so_far.shown contents (λ k c at. extends k c (pushed_before so_far.seen found.content c k at)));
 }
 
 -- the contents of all files, by number
@@ -177,7 +177,7 @@ contents_of seen k = unwrap_or (slice_get seen k) None
 pub contents_extend : (seen : List (Option (List ℕ))) → Extends seen (contents_of seen)
 contents_extend seen k c is = ap (λ o. unwrap_or o None) is
 
--- those of the first files agree with what the shelf tells
+-- those of the first files agree with what the shelf holds
 pub first_agree : (t : Description) (under : List (List ℕ) → Option (Option (List ℕ))) (n : ℕ) (files : List FileVerdict) (running : Option V1Feed)
     → (found : HasFound t under n files running) → (k : ℕ) (f : FileEntry) → k < n → slice_get t.files k ≡ Some f
     → Agrees (under f.path) (contents_of found.seen k)

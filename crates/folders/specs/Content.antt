@@ -17,7 +17,7 @@ pub record IsComparedLayer (piece_length : ℕ) (e : TreeEntry) (layer : ℕ) (h
 
 -- what a check of a file found of this content, which has the stated length: its root, and the
 -- first place of the compared layer whose node is not the given hash
-pub record IsToldOf (piece_length : ℕ) (e : TreeEntry) (bytes : List ℕ) (root : List ℕ)
+pub record IsFoundOf (piece_length : ℕ) (e : TreeEntry) (bytes : List ℕ) (root : List ℕ)
     (place : Option ℕ) : Type 0 where
   pub layer : ℕ
   pub hashes : List (List ℕ)

@@ -6,7 +6,7 @@ use Rattle.opening.specs.Description.{Description, FileEntry}
 use Rattle.folders.specs.Folder.{Contents}
 use Rattle.folders.specs.Printed.{report_text, verdicts_text}
 use Rattle.folders.specs.Shelf.{more}
-use Rattle.folders.specs.Verdicts.{Agrees, AreVerdicts, HasVerdicts, TellsFolder, unreadable_count}
+use Rattle.folders.specs.Verdicts.{Agrees, AreVerdicts, HasVerdicts, IsTrueOfFolder, unreadable_count}
 use Rattle.folders.specs.Visits.{Visits}
 use Rattle.folders.specs.declared.lines.Lines.{Lines}
 use Rattle.folders.specs.declared.report.FileVerdict.{FileVerdict}
@@ -15,7 +15,7 @@ use Rattle.folders.specs.declared.shelf.Shelf.{Ghosts}
 
 -- each verdict on these first files is true of what stands at the file's path, as far as that is
 -- known
-pub record TellsFirst (t : Description) (under : List (List ℕ) → Option (Option (List ℕ)))
+pub record AreTrueOfFirst (t : Description) (under : List (List ℕ) → Option (Option (List ℕ)))
     (files : List FileVerdict) : Type 0 where
   pub contents : Contents
   pub agree : (n : ℕ) (f : FileEntry) → n < length files → slice_get t.files n ≡ Some f
@@ -26,7 +26,7 @@ pub record TellsFirst (t : Description) (under : List (List ℕ) → Option (Opt
 abbrev pub BreaksAtEnd : Description → (List (List ℕ) → Option (Option (List ℕ))) → Lines
     → List FileVerdict → SinkSeen → SinkSeen → Type 0
 BreaksAtEnd t under lines files out out' = (v1 : Option V1Verdict) × HasVerdicts t files v1
-    × TellsFolder t under files v1
+    × IsTrueOfFolder t under files v1
     × BrokeOrUnflushed out out' (report_text lines t.files files v1)
 
 module _ {S F : Type 0} (shelf : Ghosts S F) (seen : F → SourceSeen) where
@@ -36,7 +36,7 @@ module _ {S F : Type 0} (shelf : Ghosts S F) (seen : F → SourceSeen) where
     where
       pub once : Chain (Visits shelf seen t) s (take (length files) t.files) files s'
       pub counted : shelf.faults s' ≡ more (shelf.faults s) (unreadable_count files)
-      pub tells : TellsFirst t (shelf.contents s).under files
+      pub are_true : AreTrueOfFirst t (shelf.contents s).under files
 
   -- some first files were visited, and the lines of their verdicts broke off, no later file was
   -- visited; or all were, and the report broke off at its end

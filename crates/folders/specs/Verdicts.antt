@@ -7,6 +7,7 @@ use Rattle.opening.specs.Description.{Description, FileEntry, TreeEntry, Version
 use Rattle.opening.specs.Sound.{piece_layer}
 use Rattle.pieces.specs.Cuts.{cut_digests, IsFirstDifference}
 use Rattle.folders.specs.Folder.{Contents, GoodFolder, IsGoodFile, IsStream, V1Good, tree_entry_of}
+use Rattle.folders.specs.Shelf.{more}
 use Rattle.folders.specs.declared.report.FileVerdict.{FileVerdict}
 use Rattle.folders.specs.declared.report.FileVerdict.TheVariants as file
 use Rattle.folders.specs.declared.report.V1Verdict.{V1Verdict}
@@ -103,6 +104,11 @@ is_yes files v1 = list_all is_good files && stream_is_good v1
 abbrev pub unreadable_count : List FileVerdict → ℕ
 unreadable_count files = count_by is_unreadable files
 
+-- one failure is counted for each unreadable file, and no file is unreadable if the count stays
+pub record CountsUnreadable (old new : ℕ) (files : List FileVerdict) : Type 0 where
+  pub counted : new ≡ more old (unreadable_count files)
+  pub readable : new ≡ old → unreadable_count files ≡ 0
+
 -- one fault for a file that could not be read
 abbrev pub fault_count : FileVerdict → ℕ
 fault_count v = (if is_unreadable v then 1 else 0)
@@ -121,7 +127,7 @@ AreVerdicts t contents files = (n : ℕ) (f : FileEntry) (v : FileVerdict)
     → slice_get t.files n ≡ Some f → slice_get files n ≡ Some v → IsVerdict t f (contents n) v
 
 -- each verdict is true of the contents
-pub record TellsContents (t : Description) (contents : Contents) (files : List FileVerdict)
+pub record AreTrueVerdicts (t : Description) (contents : Contents) (files : List FileVerdict)
     (v1 : Option V1Verdict) : Type 0 where
   pub each : AreVerdicts t contents files
   pub version1 : (v : Version1) (verdict : V1Verdict) → t.v1 ≡ Some v → v1 ≡ Some verdict
@@ -140,11 +146,11 @@ AgreeWith t under contents = (n : ℕ) (f : FileEntry) → slice_get t.files n �
 -- What a report says of a shelf of whose paths this is known. There are contents, which are the
 -- known ones where they are known: each verdict is true of them; a yes means that they
 -- are a good folder; and if they are and no file was unreadable, it is a yes.
-pub record TellsFolder (t : Description) (under : List (List ℕ) → Option (Option (List ℕ)))
+pub record IsTrueOfFolder (t : Description) (under : List (List ℕ) → Option (Option (List ℕ)))
     (files : List FileVerdict) (v1 : Option V1Verdict) : Type 0 where
   pub contents : Contents
   pub agree : AgreeWith t under contents
-  pub tells : TellsContents t contents files v1
+  pub are_true : AreTrueVerdicts t contents files v1
   pub sure : is_yes files v1 ≡ true → GoodFolder t contents
   pub enough : GoodFolder t contents → unreadable_count files ≡ 0 → is_yes files v1 ≡ true
 

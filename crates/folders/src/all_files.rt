@@ -5,7 +5,7 @@ ghost use Rattle.folders.specs.Printed.{verdicts_text, wanted_text};
 ghost use Rattle.folders.specs.Shelf.{more};
 ghost use Rattle.folders.specs.Stopping.{VisitsFirst};
 ghost use Rattle.folders.specs.LinesOut.{HasBroken, HasSent, WritesText};
-ghost use Rattle.folders.specs.Verdicts.{HasVerdicts, TellsFolder, unreadable_count};
+ghost use Rattle.folders.specs.Verdicts.{HasVerdicts, IsTrueOfFolder, unreadable_count};
 ghost use Rattle.folders.specs.Visits.{Visits};
 ghost use Rattle.folders.specs.declared.report.FileVerdict.{FileVerdict};
 ghost use Rattle.opening.specs.Seen.{file_entry};
@@ -33,8 +33,8 @@ pub(crate) fn check_files<S: Shelf, T: LinesOut>(
     out: &mut T,
 ) -> Result<Report, CheckFault>
     ensures verdicts { IfOk result (λ r. HasVerdicts torrent.now r.files.items r.v1) }
-    ensures tells { IfOk result (λ r.
-        TellsFolder torrent.now (S.contents shelf.old).under r.files.items r.v1) }
+    ensures are_true { IfOk result (λ r.
+        IsTrueOfFolder torrent.now (S.contents shelf.old).under r.files.items r.v1) }
     ensures once { IfOk result (λ r. Chain (Visits S.Shelf S.File.seen torrent.now) shelf.old
         torrent.now.files r.files.items shelf.new) }
     ensures unreadable { IfOk result (λ r.

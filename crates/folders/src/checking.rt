@@ -5,14 +5,14 @@ ghost use Rattle.benc.specs.Device.{CountsFault};
 ghost use Rattle.hashtree.specs.PieceCheck.{IsFedCheck, byte_count, chosen_layer, chosen_shape, given_hashes};
 ghost use Rattle.opening.specs.Seen.{file_entry, tree_entry};
 ghost use Rattle.opening.specs.Sound.{IsSoundTree};
-ghost use Rattle.folders.specs.Content.{HasPlaceFor, IsComparedLayer, IsToldOf};
+ghost use Rattle.folders.specs.Content.{HasPlaceFor, IsComparedLayer, IsFoundOf};
 ghost use Rattle.folders.specs.Folder.{start_of, tree_entry_of};
 ghost use Rattle.folders.specs.Pass.{FindsVerdict, IsEmptyContent, IsOpenedVerdict};
 ghost use Rattle.folders.specs.Shelf.{more};
 ghost use Rattle.folders.specs.TakeAll.{IsReadWithin};
 ghost use Rattle.folders.specs.Visits.{Visits};
 ghost use Rattle.chains.specs.Chain.{Chain};
-ghost use Rattle.folders.specs.Verdicts.{HasVerdicts, IsFileOf, IsVerdict, TellsFolder, fault_count, is_unreadable, is_whole, unreadable_count};
+ghost use Rattle.folders.specs.Verdicts.{HasVerdicts, IsFileOf, IsVerdict, IsTrueOfFolder, fault_count, is_unreadable, is_whole, unreadable_count};
 
 use crate::NoMemory;
 use crate::all_files::{CheckFault, NoLines, check_files};
@@ -41,8 +41,8 @@ pub fn check<S: Shelf>(
     shelf: &mut S,
 ) -> Result<Report, NoMemory>
     ensures verdicts { IfOk result (λ r. HasVerdicts torrent.now r.files.items r.v1) }
-    ensures tells { IfOk result (λ r.
-        TellsFolder torrent.now (S.contents shelf.old).under r.files.items r.v1) }
+    ensures are_true { IfOk result (λ r.
+        IsTrueOfFolder torrent.now (S.contents shelf.old).under r.files.items r.v1) }
     ensures once { IfOk result (λ r. Chain (Visits S.Shelf S.File.seen torrent.now) shelf.old
         torrent.now.files r.files.items shelf.new) }
     ensures unreadable { IfOk result (λ r.
@@ -204,11 +204,11 @@ fn tree_verdict(
     requires file { IsFileOf torrent.now (file_entry file.now) }
     requires tree { tree_entry_of torrent.now (file_entry file.now) ≡ Some (tree_entry tree.now) }
     requires found { (bytes : List ℕ)
-        × IsToldOf torrent.now.piece_length (tree_entry tree.now) bytes root.now place }
+        × IsFoundOf torrent.now.piece_length (tree_entry tree.now) bytes root.now place }
     ensures readable { is_unreadable result ≡ false }
     ensures whole { is_whole result ≡ true }
     ensures verdict { (bytes : List ℕ)
-        → IsToldOf torrent.now.piece_length (tree_entry tree.now) bytes root.now place
+        → IsFoundOf torrent.now.piece_length (tree_entry tree.now) bytes root.now place
         → IsVerdict torrent.now (file_entry file.now) (Some bytes) result }
 {
     torrent.sound();

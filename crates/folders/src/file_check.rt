@@ -12,11 +12,11 @@ use std::mem;
 
 /// The check of a file's tree and the version 1 stream, fed together.
 #[derive(Drop)]
-pub(crate) struct FileCheck<'t, 'v> {
+pub struct FileCheck<'t, 'v> {
     /// The check of the file's tree.
-    pub(crate) pieces: PieceCheck<'t>,
+    pub pieces: PieceCheck<'t>,
     /// The stream, filled up to the file's start.
-    pub(crate) stream: Stream<'v>,
+    pub stream: Stream<'v>,
 }
 
 impl<'t, 'v> Consumer for FileCheck<'t, 'v> {
@@ -41,18 +41,19 @@ impl<'t, 'v> Consumer for FileCheck<'t, 'v> {
     ghost room_for_less = { fed_less };
 }
 
-/// The version 1 stream, which goes on while each file is read whole. That of a torrent that is not
-/// a hybrid does not begin.
+/// The version 1 stream of a hybrid, compared with the digests of its pieces (BEP 3, "pieces"). It
+/// goes on while each file is read whole. Of a torrent that is not a hybrid there is none.
 #[derive(Drop)]
-pub(crate) struct Stream<'a> {
+pub struct Stream<'a> {
     feed: Option<V1Feed<'a>>,
 }
 
 impl<'a> Stream<'a> {
     ghost use Rattle.folders.specs.Streaming.{StreamEndsAt, FillsTo, HasStreamRoom, IsStreamGiven, CanFillTo, StandsAt, Takes, goes_on};
 
-    /// The stream of a hybrid, at its start.
-    pub(crate) fn of(v1: Option<&V1<'a>>, piece_length: u64) -> Stream<'a>
+    /// The stream of a hybrid, at its start; `None`: there is none. Condition: the piece length is
+    /// above 0.
+    pub fn of(v1: Option<&V1<'a>>, piece_length: u64) -> Stream<'a>
         requires { 0 < piece_length }
         ensures begins { goes_on result ≡ is_some v1.entry }
         ensures stands { StandsAt result.feed 0 }
@@ -100,8 +101,8 @@ impl<'a> Stream<'a> {
         self.feed = None;
     }
 
-    /// Takes zeros to the end, and returns what was found.
-    pub(crate) fn finish(self) -> V1Verdict
+    /// Takes zeros up to the stream's end, and returns whether its pieces are the listed ones.
+    pub fn finish(self) -> V1Verdict
         ensures checked { is_checked result ≡ goes_on self.entry }
         ensures within { (from total : ℕ) → goes_on self.entry ≡ true
             → StandsAt self.entry.feed from → StreamEndsAt self.entry.feed total → from ≤ total }

@@ -2,7 +2,7 @@
 ghost use Rattle.std.specs.Prelude.{◌≡◌, ℕ, ◌<◌, List, [], ◌∷◌, ◌++◌, length, slice_get, Option, Some, IfOk};
 ghost use Rattle.folders.specs.FolderCheck.{HasChecked, verdicts_of};
 ghost use Rattle.folders.specs.Shelf.{more};
-ghost use Rattle.folders.specs.Verdicts.{HasVerdicts, TellsFolder, fault_count};
+ghost use Rattle.folders.specs.Verdicts.{HasVerdicts, IsTrueOfFolder, fault_count};
 ghost use Rattle.folders.specs.Visits.{Visits};
 ghost use Rattle.opening.specs.Seen.{file_entry};
 
@@ -75,10 +75,10 @@ impl<'a> FolderCheck<'a> {
             → HasChecked torrent.now under self.entry
             → length (verdicts_of self.entry) ≡ length torrent.now.files
             → HasVerdicts torrent.now result.files.items result.v1 }
-        ensures tells { (under : List (List ℕ) → Option (Option (List ℕ)))
+        ensures are_true { (under : List (List ℕ) → Option (Option (List ℕ)))
             → HasChecked torrent.now under self.entry
             → length (verdicts_of self.entry) ≡ length torrent.now.files
-            → TellsFolder torrent.now under result.files.items result.v1 }
+            → IsTrueOfFolder torrent.now under result.files.items result.v1 }
     {
         torrent.sound();
         let v1 = match torrent.v1() {

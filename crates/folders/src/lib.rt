@@ -18,6 +18,7 @@ mod taking;
 
 pub use all_files::CheckFault;
 pub use checking::check;
+pub use file_check::{FileCheck, Stream};
 pub use folder_check::FolderCheck;
 pub use lines::{Lines, print_report, stream_line, write_end, write_verdict, write_wanted};
 pub use report::{FileVerdict, Report, V1Verdict};

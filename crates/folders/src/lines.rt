@@ -68,7 +68,7 @@ pub fn write_end<W: Sink>(report: &Report, lines: Lines, out: &mut W) -> Result<
         (end_text lines report.now.files.items report.now.v1) }
 {
     write_all(out, wanted_stream_line(lines, &report.v1).as_slice())?;
-    write_all(out, answer(report.yes()).as_slice())
+    write_all(out, yes_line(report.yes()).as_slice())
 }
 
 fn write_verdicts<W: Sink>(
@@ -164,7 +164,7 @@ pub fn stream_line(v1: &Option<V1Verdict>) -> Line
     line
 }
 
-fn answer(yes: bool) -> Line
+fn yes_line(yes: bool) -> Line
     ensures { result ≡ answer_text yes }
 {
     let mut line = Line::new();

@@ -5,7 +5,7 @@ ghost use Rattle.chains.specs.Chain.{Chain};
 ghost use Rattle.folders.specs.Printed.{report_text};
 ghost use Rattle.folders.specs.Shelf.{more};
 ghost use Rattle.folders.specs.Stopping.{BreaksOff};
-ghost use Rattle.folders.specs.Verdicts.{HasVerdicts, TellsFolder, unreadable_count};
+ghost use Rattle.folders.specs.Verdicts.{HasVerdicts, IsTrueOfFolder, unreadable_count};
 ghost use Rattle.folders.specs.Visits.{Visits};
 
 use crate::all_files::{CheckFault, check_files};
@@ -36,8 +36,8 @@ pub fn check_onto<S: Shelf, W: Sink>(
     out: &mut W,
 ) -> Result<Report, CheckFault>
     ensures verdicts { IfOk result (λ r. HasVerdicts torrent.now r.files.items r.v1) }
-    ensures tells { IfOk result (λ r.
-        TellsFolder torrent.now (S.contents shelf.old).under r.files.items r.v1) }
+    ensures are_true { IfOk result (λ r.
+        IsTrueOfFolder torrent.now (S.contents shelf.old).under r.files.items r.v1) }
     ensures once { IfOk result (λ r. Chain (Visits S.Shelf S.File.seen torrent.now) shelf.old
         torrent.now.files r.files.items shelf.new) }
     ensures unreadable { IfOk result (λ r.

@@ -1,4 +1,4 @@
--- What is told of a file, by what was hashed of it.
+-- What is found of a file, by what was hashed of it.
 use Rattle.std.proofs.Common.{◌≡◌, inl, inr, ℕ, suc, ◌+◌, ◌-◌, ◌*◌, ◌/◌, ◌^◌, ◌<◌, ◌≤◌, Bool, true, false, cond, List, [], length, map, Option, Some, None}
 use Rattle.std.proofs.Common.{refl, sym, ◌∙◌, ap, subst, arith}
 use Rattle.std.specs.List.{range_with_len}
@@ -39,8 +39,8 @@ none_of false n is = refl
 pub no_layer : (layer : ℕ) → layer_of [] layer ≡ []
 no_layer layer = ap (λ count. map (node [] layer) (range_with_len 0 count)) (none_of _ (first_pad 0 layer) (no_pad layer))
 
-pub empty_told : (told : FileHashes) → told.length ≡ 0 → told.layer.items ≡ [] → (piece_length : ℕ) (hybrid : Bool) → AreHashesOf piece_length hybrid [] told
-empty_told told none no_hashes piece_length hybrid = record {
+pub empty_found : (said : FileHashes) → said.length ≡ 0 → said.layer.items ≡ [] → (piece_length : ℕ) (hybrid : Bool) → AreHashesOf piece_length hybrid [] said
+empty_found said none no_hashes piece_length hybrid = record {
   length_is = none;
   root_is = λ some. absurd (omega arith);
   layer_is = no_hashes ∙ sym (no_layer (piece_layer piece_length));
@@ -64,25 +64,25 @@ cut_whole before after content piece_length nothing works cuts = elim cuts.fed [
   | inr fed ↦ fed piece_length [] nothing
 ]
 
-v1_told : (piece_length : ℕ) (hybrid : Bool) (before after : Option V1Cuts) (content : List ℕ) (v1 : V1File) → BeginsCuts piece_length hybrid before
+v1_found : (piece_length : ℕ) (hybrid : Bool) (before after : Option V1Cuts) (content : List ℕ) (v1 : V1File) → BeginsCuts piece_length hybrid before
     → CutsIf before content after
     → EndsWithCuts after v1 → hybrid ≡ true → IsV1File piece_length content v1
-v1_told piece_length hybrid None None content v1 begins takes ends is = let no : false ≡ true = sym begins ∙ is in absurd cc
-v1_told piece_length hybrid None (Some c) content v1 begins takes ends is = absurd takes
-v1_told piece_length hybrid (Some b) None content v1 begins takes ends is = absurd takes
-v1_told piece_length hybrid (Some b) (Some c) content v1 begins takes ends is =
+v1_found piece_length hybrid None None content v1 begins takes ends is = let no : false ≡ true = sym begins ∙ is in absurd cc
+v1_found piece_length hybrid None (Some c) content v1 begins takes ends is = absurd takes
+v1_found piece_length hybrid (Some b) None content v1 begins takes ends is = absurd takes
+v1_found piece_length hybrid (Some b) (Some c) content v1 begins takes ends is =
     ends.1 piece_length content (cut_whole b c content piece_length begins.1 ends.0 takes)
 
-pub told_whole : (piece_length : ℕ) (hybrid : Bool) (before after : Hashing) (content : List ℕ) (told : FileHashes) → Begins piece_length hybrid before
+pub found_whole : (piece_length : ℕ) (hybrid : Bool) (before after : Hashing) (content : List ℕ) (said : FileHashes) → Begins piece_length hybrid before
     → Hashes before content after
-    → EndsWithHashes after told → AreHashesOf piece_length hybrid content told
-told_whole piece_length hybrid before after content told begins hashes ends =
+    → EndsWithHashes after said → AreHashesOf piece_length hybrid content said
+found_whole piece_length hybrid before after content said begins hashes ends =
     let tree = ends.tree.1 content (fed_whole before.tree after.tree content begins.tree.fed ends.tree.0 hashes.tree) in
     record {
       length_is = tree.0;
       root_is = λ _. tree.1;
       layer_is = tree.2 ∙ ap (layer_of content) (hashes.tree.layer ∙ begins.tree.layer_is);
-      v1_is = λ is some. v1_told piece_length hybrid before.cuts after.cuts content told.v1 begins.cuts hashes.cuts ends.cuts is;
+      v1_is = λ is some. v1_found piece_length hybrid before.cuts after.cuts content said.v1 begins.cuts hashes.cuts ends.cuts is;
     }
 
 -- ---- memory

@@ -4,4 +4,4 @@ pub mod Digests
 pub mod Listed
 pub mod Steps
 pub mod Stopped
-pub mod Told
+pub mod Found

@@ -49,10 +49,10 @@ sorted_paths (v ∷ vs) up k d low inside =
     ∙ sym (order_is (get_or all (k + 1) v).items (get_or all k v).items))
     ∙ up k v low next
 
-sorted_listing : (told : Option Listing) (paths : Vec (Vec (String Global))) (sorted : Paths) → IsListed told (Ok paths) → IsPermutation paths.items sorted
+sorted_listing : (said : Option Listing) (paths : Vec (Vec (String Global))) (sorted : Paths) → IsListed said (Ok paths) → IsPermutation paths.items sorted
     → IsSorted (λ v w. slice_cmp (λ a b. slice_cmp nat_cmp (string_bytes a) (string_bytes b)) v.items w.items) sorted
-    → IsSortedListing told (map path_bytes sorted)
-sorted_listing told paths sorted listed moved up = record {
+    → IsSortedListing said (map path_bytes sorted)
+sorted_listing said paths sorted listed moved up = record {
   in_order = sorted_paths sorted up;
   listed = λ there is.
       let these = subst (λ t. IsListed t (Ok paths)) is listed in
@@ -107,15 +107,15 @@ module _ {S F : Type 0} (shelf : Ghosts S F) (seen : F → SourceSeen) (empty : 
             quiet stays all;
       }
 
-  -- what is told of a path at which it stopped
-  told_at : (old new mid : S) (d : Outline) (f : FileFault) (v : Vec (String Global))
+  -- what is found of a path at which it stopped
+  found_at : (old new mid : S) (d : Outline) (f : FileFault) (v : Vec (String Global))
       → ((Why : Outline → S → Type 0) → Why d mid → StopsAtPath shelf seen empty old (path_bytes v) Why)
       → StopsWith shelf seen f d mid (path_bytes v) new → Gathers shelf seen empty old new (Err (at_path f v))
-  told_at old new mid d (why.Refused r) v at stops = inr (at (λ e s. RefusesAt shelf seen e (path_bytes v) r s new) stops)
-  told_at old new mid d why.Device v at stops = at (λ e s. FailsAt shelf seen s (path_bytes v) new) stops
-  told_at old new mid d why.NoMemory v at stops =
+  found_at old new mid d (why.Refused r) v at stops = inr (at (λ e s. RefusesAt shelf seen e (path_bytes v) r s new) stops)
+  found_at old new mid d why.Device v at stops = at (λ e s. FailsAt shelf seen s (path_bytes v) new) stops
+  found_at old new mid d why.NoMemory v at stops =
       inr (inr (path_bytes v, at (λ e s. LacksMemoryAt shelf seen e (path_bytes v) s new) stops))
-  told_at old new mid d why.Changed v at stops = at (λ e s. Misses shelf seen s (path_bytes v) new) stops
+  found_at old new mid d why.Changed v at stops = at (λ e s. Misses shelf seen s (path_bytes v) new) stops
 
   taken : (sorted : Paths) (n : ℕ) (path : List (List ℕ)) (v : Vec (String Global)) → slice_get (map path_bytes sorted) n ≡ Some path → v ≡ get_or sorted n v
       → path ≡ path_bytes v
@@ -123,14 +123,14 @@ module _ {S F : Type 0} (shelf : Ghosts S F) (seen : F → SourceSeen) (empty : 
       let inside : n < length sorted = omega (arith, slice_get_within (map path_bytes sorted) n path there, length-map sorted path_bytes) in
       same_Some path (path_bytes v) (sym there ∙ item_of path_bytes sorted n v inside ∙ ap (λ w. Some (path_bytes w)) (sym is))
 
-  pub stopped_at : (old base new : S) (sorted : Paths) (stop : StoppedAt) (v : Vec (String Global)) (told : GatherFault) → IsPieceLength empty.piece_length
+  pub stopped_at : (old base new : S) (sorted : Paths) (stop : StoppedAt) (v : Vec (String Global)) (said : GatherFault) → IsPieceLength empty.piece_length
       → IsListedAs shelf old (map path_bytes sorted) base → shelf.faults base ≡ shelf.faults old → shelf.contents base ≡ shelf.contents old
-      → StopsBefore shelf seen empty base (map path_bytes sorted) new stop → v ≡ get_or sorted stop.number v → told ≡ at_path stop.fault v
-      → Gathers shelf seen empty old new (Err told)
-  stopped_at old base new sorted stop v told legal listed quiet stays stops is answer =
+      → StopsBefore shelf seen empty base (map path_bytes sorted) new stop → v ≡ get_or sorted stop.number v → said ≡ at_path stop.fault v
+      → Gathers shelf seen empty old new (Err said)
+  stopped_at old base new sorted stop v said legal listed quiet stays stops is answer =
       let path : stops.path ≡ path_bytes v = taken sorted stop.number stops.path v stops.there is in
       subst (λ f. Gathers shelf seen empty old new (Err f)) (sym answer)
-      (told_at old new stops.mid stops.draft stop.fault v (λ Why holds. record {
+      (found_at old new stops.mid stops.draft stop.fault v (λ Why holds. record {
         legal = legal;
         paths = map path_bytes sorted;
         listed = base;

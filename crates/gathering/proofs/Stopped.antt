@@ -19,7 +19,7 @@ module _ {S F : Type 0} (shelf : Ghosts S F) (seen : F → SourceSeen) where
       → IsDraftFile d.piece_length d.hybrid path content file
       → length content ≤ 2 ^ 46 → Reads shelf seen s path content s' → IsRefusal r f → (r ≢ refusals.NoMemory → First (add_rows d file) r)
       → (r ≡ refusals.NoMemory → NoneHolds (add_rows d file)) → StopsWith shelf seen f d s path s'
-  stops_add d s path s' content file r f is short reads told refused memory = elim told [
+  stops_add d s path s' content file r f is short reads said refused memory = elim said [
     | inl lacks ↦ subst (λ x. StopsWith shelf seen x d s path s') (sym lacks.1)
         (record { content = content; reads = reads; short = short; takes = inr (record { file = file; is = is; passes = memory lacks.0 }) })
     | inr other ↦ subst (λ x. StopsWith shelf seen x d s path s') (sym other.1)
@@ -32,10 +32,10 @@ module _ {S F : Type 0} (shelf : Ghosts S F) (seen : F → SourceSeen) where
       → p ≡ path → q ≡ path → IsDraftFile d.piece_length d.hybrid q content file → length content ≤ 2 ^ 46 → Reads shelf seen s p content s'
       → IsRefusal r f → (r ≢ refusals.NoMemory → First (add_rows d file) r) → (r ≡ refusals.NoMemory → NoneHolds (add_rows d file)) → result ≡ Err f
       → AddsPath shelf seen d s path e s' result
-  refused_path d e s s' p q path content file r f result one two is short reads told refused memory at =
+  refused_path d e s s' p q path content file r f result one two is short reads said refused memory at =
       subst (AddsPath shelf seen d s path e s') (sym at)
       (stops_add d s path s' content file r f (subst (λ x. IsDraftFile d.piece_length d.hybrid x content file) two is) short
-      (subst (λ x. Reads shelf seen s x content s') one reads) told refused memory)
+      (subst (λ x. Reads shelf seen s x content s') one reads) said refused memory)
 
   pub added_path : (d e : Outline) (s s' : S) (p q path : List (List ℕ)) (content : List ℕ) → p ≡ path → q ≡ path → Reads shelf seen s p content s'
       → DraftAdds d q content e → AddsPath shelf seen d s path e s' (Ok tt)

@@ -33,7 +33,7 @@ after_part (part.Start key) line = after_dash line
 after_part (part.Name key) line = after_word line
 after_part (part.Text key) line = []
 
--- the members with what this text tells as this part, if it fits
+-- the members with what this text says as this part, if it fits
 abbrev pub with_part : Part → List ℕ → Members → Option Members
 with_part (part.Word word) text found = (if bytes_eq text word.now then Some found else None)
 with_part (part.Number key) text found =
@@ -44,7 +44,7 @@ with_part (part.Name key) text found =
     (if is_utf8 text then Some (put key.now (string text) found) else None)
 with_part (part.Text key) text found = Some (with_text key.now (unescaped text) found)
 
--- the members with what the line tells as these parts, if it fits and nothing follows them
+-- the members with what the line says as these parts, if it fits and nothing follows them
 unfoldable pub with_parts : List Part → List ℕ → Members → Option Members
 with_parts [] [] found = Some found
 with_parts [] (b ∷ bs) found = None

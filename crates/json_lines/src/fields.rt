@@ -1,4 +1,4 @@
-//! What the parts of a line tell, as members of an object.
+//! What the parts of a line say, as members of an object.
 ghost use Rattle.std.specs.Prelude.{◌≡◌, ◌++◌, IfOk, OnOk, Some, None, codes, if◌then◌else◌, option_map};
 ghost use Rattle.std.specs.Str.{is_utf8};
 ghost use Rattle.hex.specs.Hex.{encode_lower};
@@ -16,7 +16,7 @@ use serde_json::{Map, Value, put};
 use std::alloc::{AllocError, Global};
 use std::str;
 
-/// Puts what a line tells as these parts among the members, and says whether it has them and
+/// Puts what a line says as these parts among the members, and says whether it has them and
 /// nothing more.
 pub(crate) fn put_parts(
     alloc: Global,
@@ -67,7 +67,7 @@ fn split_part<'a>(part: &Part, line: &'a [u8]) -> (&'a [u8], &'a [u8])
     }
 }
 
-// Puts what this text tells as this part among the members, and says whether it fits.
+// Puts what this text says as this part among the members, and says whether it fits.
 fn put_part(
     alloc: Global,
     part: &Part,

@@ -18,7 +18,7 @@ pub enum Part {
 /// The lines of one kind: their parts, in order.
 #[derive(Drop)]
 pub struct Form {
-    /// What the lines tell, under the key `kind`.
+    /// What the lines say, under the key `kind`.
     pub kind: &'static str,
     /// Their parts.
     pub parts: &'static [Part],

@@ -14,8 +14,8 @@ use serde_json::{Map, Value, put};
 use std::alloc::{AllocError, Global};
 
 /// The object of a printed line, given without its line feed, of a report with these forms: what
-/// the first form that the line has tells of it, under the form's keys, and the form's kind under
-/// `kind`. A line that has none of the forms is told whole, under `text`. Bytes that are not UTF-8
+/// the first form that the line has says of it, under the form's keys, and the form's kind under
+/// `kind`. A line that has none of the forms is put whole, under `text`. Bytes that are not UTF-8
 /// are in hexadecimal, under a key with `_hex` behind it.
 pub fn object(alloc: Global, forms: &[Form], line: &[u8]) -> Result<Value, AllocError>
     ensures { IfOk result (λ value. view value ≡ line_object forms.now line.now) }

@@ -3,7 +3,7 @@
 
 pub use drafts::laws::{draft_describes, draft_is_outline};
 pub use filetree::laws::{
-    bad_path_is_bad_component, order_is_apart, shape_is_told, walks_are_all, walks_are_safe,
+    bad_path_is_bad_component, order_is_apart, shape_is_standard, walks_are_all, walks_are_safe,
 };
 pub use opening::laws::{
     place_is_block_place, refusal_is_one, torrent_is_not_refused, torrent_is_one,

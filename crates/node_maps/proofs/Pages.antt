@@ -78,9 +78,9 @@ pub on_true : (b : Bool) (P : Type 0) → OnTrue b P → b ≡ true → P
 on_true true P h e = h
 on_true false P h e = absurd (false≢true e)
 
--- ---- directories of directories
+-- ---- nodes of indexes
 
--- a directory whose pages change at one number changes what stands on it at that number
+-- an index whose pages change at one number changes what stands on it at that number
 module _ {D : Type 0} (find : D → Numbered) (key : ℕ → ℕ) (f g : ℕ → Option D) (q : ℕ) (d : Option D) (page : Option Page)
     (is : (r : ℕ) → g r ≡ cond (eqb (key q) r) d (f r)) (below : IsChanged q page (page_within find (f (key q))) (page_within find d)) where
   pub under_changed : IsChanged q page (λ n. page_within find (f (key n)) n) (λ n. page_within find (g (key n)) n)
@@ -146,7 +146,7 @@ changed-twice q o f g h first second n = second n ∙ ap (cond (eqb q n) o) (fir
     twice true = refl
     twice false = refl
 
--- ---- a number whose first bits a search told
+-- ---- a number whose first bits a search found
 
 module _ {D : Type 0} (find : D → Numbered) (ns : List ℕ) (ds : List D) (rising : AreRising ns) (beside : length ds ≡ length ns) (shift q at : ℕ) where
   abbrev key : ℕ
@@ -178,7 +178,7 @@ module _ {D : Type 0} (find : D → Numbered) (ns : List ℕ) (ds : List D) (ris
       (insert-found ns ds rising beside key at gap w)
       (λ n. below n ∙ ap (cond (eqb q n) page) (none n ∙ sym (ap (λ o. page_within find o n) (found_gap ns ds key at gap))))
 
-  -- a directory that is empty is given back
+  -- an index that is empty is given back
   under-remove : IsNumberAt ns (q / 2 ^ shift) at → (d : D) → d ≡ get_or ds at d → ((n : ℕ) → find d n ≡ None)
       → IsChanged q None (find_under find ns ds shift) (find_under find (remove ns at) (remove ds at) shift)
   under-remove is d here none =
@@ -190,7 +190,7 @@ module _ {D : Type 0} (find : D → Numbered) (ns : List ℕ) (ds : List D) (ris
       both true o = refl
       both false o = refl
 
--- a directory whose last page is given back goes with it
+-- an index whose last page is given back goes with it
 pub under-emptied : {D : Type 0} (find : D → Numbered) (ns : List ℕ) (ds : List D) (rising : AreRising ns) (beside : length ds ≡ length ns) (shift q at : ℕ)
     → IsNumberAt ns (q / 2 ^ shift) at → (d w : D) → d ≡ get_or ds at d → IsChanged q None (find d) (find w) → ((n : ℕ) → find w n ≡ None)
     → IsChanged q None (find_under find ns ds shift) (find_under find (remove ns at) (remove (set ds at w) at) shift)

@@ -134,7 +134,7 @@ rising-remove ns at inside rising i j lt in_range =
     let above' : (i : ℕ) → at ≤ i → get_or new i 0 ≡ get_or ns (i + 1) 0 = λ i above. get_or-remove_above ns at 0 i above inside in
     grind (arith, below' i, above' i, below' j, above' j, rising i j, rising i (j + 1), rising (i + 1) (j + 1))
 
--- ---- an item at a number that a search told
+-- ---- an item at a number that a search found
 
 module _ {A : Type 0} (ns : List ℕ) (xs : List A) (rising : AreRising ns) (beside : length xs ≡ length ns) (q at : ℕ) where
   pub stands : IsNumberAt ns q at → (x : A) → x ≡ get_or xs at x → page_numbered ns xs q ≡ Some x

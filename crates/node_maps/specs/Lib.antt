@@ -10,7 +10,7 @@ pub mod Cell
 pub mod Rising
 pub mod Pages
 pub mod Growth
-pub mod Directories
+pub mod PageIndexes
 pub mod PagedRow
 pub mod Held
 pub mod Paged

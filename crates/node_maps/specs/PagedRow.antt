@@ -1,7 +1,7 @@
 -- The pages of one layer.
 use Rattle.std.specs.Prelude.{◌≡◌, ◌≢◌, ℕ, ◌<◌, ◌≤◌, IsSome}
 use Rattle.node_maps.specs.Pages.{Numbered, cell_in}
-use Rattle.node_maps.specs.Directories.{on_rows}
+use Rattle.node_maps.specs.PageIndexes.{on_rows}
 use Rattle.node_maps.specs.declared.page.Cell.{Cell}
 use Rattle.node_maps.specs.Cell.{hash_of}
 use Rattle.node_maps.specs.Runs.{LayerHashes}

@@ -15,18 +15,18 @@ use Rattle.node_maps.specs.Rising.{page_numbered}
 abbrev pub Numbered : Type 0
 Numbered = ℕ → Option Page
 
--- the page of a number in a directory, if there is one
+-- the page of a number in an index, if there is one
 abbrev pub page_within : {D : Type 0} → (D → Numbered) → Option D → Numbered
 page_within find None n = None
 page_within find (Some d) n = find d n
 
--- the page of a number, in the directory of the number's first bits
+-- the page of a number, in the index of the number's first bits
 abbrev pub find_under : {D : Type 0} → (D → Numbered) → List ℕ → List D → ℕ → Numbered
 find_under find ns ds shift n = page_within find (page_numbered ns ds (n / 2 ^ shift)) n
 
--- each directory has an entry, and so has each in it
+-- each index has an entry, and so has each in it
 abbrev pub AreInUse : {D : Type 0} → (D → ℕ) → (D → Type 0) → List D → Type 0
-AreInUse entries in_use directories = All (λ d. (0 < entries d) × in_use d) directories
+AreInUse entries in_use indexes = All (λ d. (0 < entries d) × in_use d) indexes
 
 -- the cell at a place of a page, if there is one
 abbrev pub cell_of : Option Page → ℕ → Cell

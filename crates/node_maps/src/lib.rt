@@ -1,10 +1,10 @@
 //! The known nodes of a hash tree (BEP 52), behind one interface for each way to keep them.
 #![tactic(auto)]
 
-mod directory;
 mod flat;
 mod node_map;
 mod page;
+mod page_index;
 mod paged;
 mod paged_row;
 mod search;

@@ -4,12 +4,12 @@ ghost use Rattle.std.specs.Prelude.{◌≡◌, ◌≢◌, ℕ, ◌+◌, ◌-◌,
 ghost use Rattle.std.specs.Vec.{vec_capacity};
 ghost use Rattle.node_maps.specs.Cell.{page_length, with_hash};
 ghost use Rattle.node_maps.specs.Pages.{Numbered, is_spare, AreAlike, AreSpare, AreCounted};
-ghost use Rattle.node_maps.specs.Directories.{on_rows, AreRowsInUse};
+ghost use Rattle.node_maps.specs.PageIndexes.{on_rows, AreRowsInUse};
 ghost use Rattle.node_maps.specs.Growth.{IsGrown, IsGrownByOne};
 ghost use Rattle.node_maps.specs.Runs.{AreKnown, hashes_from};
 
-use crate::directory::{Directory, PageList, PageLists};
 use crate::page::{Cell, PAGE_LENGTH, Page};
+use crate::page_index::{PageIndex, PageIndexNode, PageList};
 use hashtree::{Hash, NoMemory};
 use std::alloc::Global;
 
@@ -21,7 +21,7 @@ const NUMBER_BITS: u32 = 24;
 #[derive(Drop)]
 pub(crate) struct PagedRow {
     alloc: Global,
-    pages: PageLists<PageLists<PageList>>,
+    pages: PageIndexNode<PageIndexNode<PageList>>,
     fresh: Vec<u64>,
     count: u64,
     ghost counted: { AreCounted (on_rows pages) count },
@@ -40,7 +40,7 @@ impl PagedRow {
     {
         PagedRow {
             alloc,
-            pages: Directory::new(alloc, NUMBER_BITS),
+            pages: PageIndex::new(alloc, NUMBER_BITS),
             fresh: Vec::new(alloc),
             count: 0,
         }

@@ -24,7 +24,7 @@ use Rattle.filetree.specs.declared.refusal.Refusal.{Refusal}
 use Rattle.filetree.specs.declared.refusal.Refusal.TheVariants as refusals
 use Rattle.chains.proofs.Cases.{item_at}
 use Rattle.opening.proofs.Listing.{are_files}
-use Rattle.opening.proofs.Telling.{table_told}
+use Rattle.opening.proofs.EachTest.{table_tested}
 
 none_first : (rows : List TestRow) (r : Refusal) → NoneHolds rows → First rows r → ⊥
 none_first [] r none first = first
@@ -157,8 +157,8 @@ pub opens_only : ((b : List ℕ) (t u : Description) → Describes b t → Descr
     → (b : List ℕ) (t : Description) (result : Result Description Refusal) → IfOk result (λ u. Describes b u)
     → IfErr result (λ r. r ≢ refusals.NoMemory → RefusesTorrent b r)
     → Describes b t → MatchResult result (λ u. u ≡ t) (λ r. r ≡ refusals.NoMemory)
-opens_only one none b t (Ok u) told why described = one b u t told described
-opens_only one none b t (Err r) told why described = elim (memory_or_not r) [ inl is ↦ is | inr other ↦ absurd (none b t r described (why other)) ]
+opens_only one none b t (Ok u) known why described = one b u t known described
+opens_only one none b t (Err r) known why described = elim (memory_or_not r) [ inl is ↦ is | inr other ↦ absurd (none b t r described (why other)) ]
 
 -- what is refused is refused with the one answer
 pub answers_first : ((b : List ℕ) (t : Description) (r : Refusal) → Describes b t → RefusesTorrent b r → ⊥) → ((b : List ℕ) (r s : Refusal) → RefusesTorrent b r
@@ -166,8 +166,8 @@ pub answers_first : ((b : List ℕ) (t : Description) (r : Refusal) → Describe
     → (b : List ℕ) (r : Refusal) (result : Result Description Refusal) → IfOk result (λ u. Describes b u)
     → IfErr result (λ s. s ≢ refusals.NoMemory → RefusesTorrent b s)
     → RefusesTorrent b r → MatchResult result (λ _. ⊥) (λ s. s ≢ refusals.NoMemory → s ≡ r)
-answers_first none one b r (Ok u) told why refused = none b u r told refused
-answers_first none one b r (Err s) told why refused = λ other. one b s r (why other) refused
+answers_first none one b r (Ok u) known why refused = none b u r known refused
+answers_first none one b r (Err s) known why refused = λ other. one b s r (why other) refused
 
 -- the description that a value says
 described_by : (v : Bencode) → (t : Description) × IsDescribed v t
@@ -197,12 +197,12 @@ described_by v =
     )
 
 -- bytes that spell a value describe a torrent, or are refused
-value_told : (b : List ℕ) (v : Bencode) → length b ≤ max_torrent → Spells v b → ((r : Refusal) × First (table v) r) ⊎ NoneHolds (table v)
+value_tested : (b : List ℕ) (v : Bencode) → length b ≤ max_torrent → Spells v b → ((r : Refusal) × First (table v) r) ⊎ NoneHolds (table v)
     → ((t : Description) × Describes b t) ⊎ ((r : Refusal) × RefusesTorrent b r)
-value_told b v small spelled (inl first) = inr (first.0, inr (small, inr (v, spelled, first.1)))
-value_told b v small spelled (inr none) =
-    let told = described_by v in
-    inl (told.0, record { small = small; value = v; spelled = spelled; accepted = none; described = told.1 })
+value_tested b v small spelled (inl first) = inr (first.0, inr (small, inr (v, spelled, first.1)))
+value_tested b v small spelled (inr none) =
+    let known = described_by v in
+    inl (known.0, record { small = small; value = v; spelled = spelled; accepted = none; described = known.1 })
 
 abbrev ValueOrFault : Type 0
 ValueOrFault = (b : List ℕ) → ((v : Bencode) × Spells v b) ⊎ ((kind : FaultKind) × (offset : ℕ) × benc.Fails b kind offset)
@@ -211,7 +211,7 @@ pub torrent_or_refusal : ValueOrFault → (b : List ℕ) → ((t : Description) 
 torrent_or_refusal read b = elim (cases_lt max_torrent (length b)) [
   | inl large ↦ inr (refusals.TooLarge, inl (large, refl))
   | inr small ↦ elim (read b) [
-    | inl spelled ↦ value_told b spelled.0 small spelled.1 (table_told spelled.0).which
+    | inl spelled ↦ value_tested b spelled.0 small spelled.1 (table_tested spelled.0).which
     | inr failed ↦
         let f : Fault = record { kind = failed.0; offset = failed.1 } in
         inr (refusals.NotBencode f, inr (small, inl (f, failed.2, refl)))

@@ -9,8 +9,8 @@ abbrev pub Decided : Type 0 → Type 0
 Decided P = P ⊎ (P → ⊥)
 
 pub by_test : {P : Type 0} (r : Bool) → Decides r P → Decided P
-by_test true tells = inl (tells.0 refl)
-by_test false tells = inr (λ holds. let never : false ≡ true = tells.1 holds in cc)
+by_test true fits = inl (fits.0 refl)
+by_test false fits = inr (λ holds. let never : false ≡ true = fits.1 holds in cc)
 
 pub is_bool : (b c : Bool) → Decided (b ≡ c)
 is_bool true true = inl refl

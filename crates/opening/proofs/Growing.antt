@@ -10,18 +10,18 @@ use Rattle.filetree.specs.declared.refusal.Refusal.TheVariants as refusals
 use Rattle.opening.specs.Description.{Description}
 use Rattle.opening.specs.Refusals.{OpeningTakesMemory, all_key_rows, file_tree_in, max_torrent, plain_rows}
 
--- an answer that no row has is not told
+-- an answer that no row has is not given
 abbrev NoRow : List TestRow → Refusal → Type 0
 NoRow [] r = Unit {0}
 NoRow (t ∷ ts) r = (r ≡ t.answer → ⊥) × NoRow ts r
 
 never : (ts : List TestRow) (r : Refusal) → NoRow ts r → First ts r → ⊥
-never [] r none told = told
-never (t ∷ ts) r none told = elim told [ inl here ↦ none.0 here.1 | inr later ↦ never ts r none.1 later.1 ]
+never [] r none known = known
+never (t ∷ ts) r none known = elim known [ inl here ↦ none.0 here.1 | inr later ↦ never ts r none.1 later.1 ]
 
 -- no test of a key is answered with out of memory
 pub keys_take_none : (v : Bencode) → First (all_key_rows v) refusals.NoMemory → ⊥
-keys_take_none v told = never (all_key_rows v) refusals.NoMemory (
+keys_take_none v known = never (all_key_rows v) refusals.NoMemory (
   (λ e. cc),
   (
     (λ e. cc),
@@ -33,7 +33,7 @@ keys_take_none v told = never (all_key_rows v) refusals.NoMemory (
       ),
     ),
   ),
-) told
+) known
 
 -- the tests of the keys, and of the shape and the paths of this file tree
 pub plain_pass : (v : Bencode) (tree : Pairs) → NoneHolds (all_key_rows v) → tree ≡ file_tree_in v → NoneHolds (shape_rows tree) → NoneHolds (plain_rows v)
@@ -47,5 +47,5 @@ plain_passed v tree keys is rows = plain_pass v tree keys is (rows.0, (rows.1.0,
 pub wants_memory : (b : List ℕ) (v : Bencode) → length b ≤ max_torrent → Spells v b → (result : Result Description Refusal)
     → IfErr result (λ r. r ≡ refusals.NoMemory → NoneHolds (plain_rows v))
     → IfErr result (λ r. r ≡ refusals.NoMemory → OpeningTakesMemory b)
-wants_memory b v small spelled (Ok t) told = told
-wants_memory b v small spelled (Err r) told = λ memory. record { small = small; value = v; spells = spelled; where_taken = inr (told memory) }
+wants_memory b v small spelled (Ok t) known = known
+wants_memory b v small spelled (Err r) known = λ memory. record { small = small; value = v; spells = spelled; where_taken = inr (known memory) }

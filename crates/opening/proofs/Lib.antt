@@ -4,11 +4,13 @@ pub mod Answering
 pub mod Assembling
 pub mod Blocks
 pub mod Deciding
+pub mod EachTest
 pub mod Entries
 pub mod FirstUse
 pub mod Growing
 pub mod Hybrids
 pub mod InStream
+pub mod KeyTests
 pub mod Keys
 pub mod Layering
 pub mod Listing
@@ -18,5 +20,3 @@ pub mod Searching
 pub mod SoundTrees
 pub mod Sounding
 pub mod Streams
-pub mod Telling
-pub mod Told

@@ -261,7 +261,7 @@ search_some p a n xs x h laid lt is low high =
     ap (λ (f : FileEntry). f.first_piece) back.1 in omega (arith, at, first))
     (seen_at xs n x lt ∙ ap (λ f. Some (file_entry f)) (sym is))
 
--- what the file at hand tells
+-- what the file at hand says
 pub some_place : (b : Bool) (x y n : ℕ) (r : Option (ℕ × ℕ)) → Some y ≡ (if b then Some x else None) → r ≡ (if b then numbered n x else None) → numbered n y ≡ r
 some_place true x y n r e is = cc
 some_place false x y n r e is = cc

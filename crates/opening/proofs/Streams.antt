@@ -217,26 +217,26 @@ stream_refused k info pieces name fs r there (inr (is, same, wrong)) = inr ((λ 
 
 pub cuts_refused : (k : ℕ) (info pieces : Bencode) (name : List ℕ) (fs : List ListedFile) (n : ℕ) → get (codes "pieces") info ≡ Some pieces
     → Streamed k fs (parts_in info name) (Ok n) → as_digests 20 (pieces_of k n) pieces ≡ None → First (hybrid_rows k info name fs) refusals.HybridPieces
-cuts_refused k info pieces name fs n there told none =
-    inr ((λ h. told.0 h.1), inr ((λ h. told.1 h.1), inl ((ap is_some there, no_cuts), refl)))
+cuts_refused k info pieces name fs n there known none =
+    inr ((λ h. known.0 h.1), inr ((λ h. known.1 h.1), inl ((ap is_some there, no_cuts), refl)))
   where
     no_cuts : cuts_in k (the_parts (parts_in info name)) info ≡ None
     no_cuts = ap (option_and_then (as_digests 20 (pieces_of k (stream_length (the_parts (parts_in info name)))))) there
-        ∙ ap (λ m. as_digests 20 (pieces_of k m) pieces) (sym told.2) ∙ none
+        ∙ ap (λ m. as_digests 20 (pieces_of k m) pieces) (sym known.2) ∙ none
 
 pub hybrid_read : (k : ℕ) (info pieces : Bencode) (name : List ℕ) (fs : List ListedFile) (n : ℕ) (ds : List (List ℕ)) → get (codes "pieces") info ≡ Some pieces
     → Streamed k fs (parts_in info name) (Ok n) → as_digests 20 (pieces_of k n) pieces ≡ Some ds
     → NoneHolds (hybrid_rows k info name fs) × IsVersion1 k info name (Some (record { pieces = ds; total = n }))
-hybrid_read k info pieces name fs n ds there told some = (
-  ((λ h. told.0 h.1), ((λ h. told.1 h.1), ((λ h. let bad : None ≡ Some ds = sym h.1 ∙ cuts in let no_way : ⊥ = cc in no_way), tt))),
+hybrid_read k info pieces name fs n ds there known some = (
+  ((λ h. known.0 h.1), ((λ h. known.1 h.1), ((λ h. let bad : None ≡ Some ds = sym h.1 ∙ cuts in let no_way : ⊥ = cc in no_way), tt))),
   ap Some part ∙ sym (ap (λ (o : Option Bencode). if is_some o then Some (version1_of k (the_parts (parts_in info name)) info) else None) there),
 )
   where
     cuts : cuts_in k (the_parts (parts_in info name)) info ≡ Some ds
     cuts = ap (option_and_then (as_digests 20 (pieces_of k (stream_length (the_parts (parts_in info name)))))) there
-        ∙ ap (λ m. as_digests 20 (pieces_of k m) pieces) (sym told.2) ∙ some
+        ∙ ap (λ m. as_digests 20 (pieces_of k m) pieces) (sym known.2) ∙ some
 
     part : record { pieces = ds; total = n } ≡ version1_of k (the_parts (parts_in info name)) info
-    part = ap (λ m. let r : Version1 = record { pieces = ds; total = m } in r) told.2
+    part = ap (λ m. let r : Version1 = record { pieces = ds; total = m } in r) known.2
         ∙ ap (λ (o : Option (List (List ℕ))). let r : Version1 = record { pieces = unwrap_or o []; total = stream_length (the_parts (parts_in info name)) } in
         r) (sym cuts)

@@ -133,17 +133,17 @@ abbrev pub piece_length_rows : ℕ → List TestRow
 piece_length_rows n = record { holds = IsPieceLength n → ⊥; answer = refusals.PieceLength } ∷ []
 
 -- the tests of the info dictionary's keys
-abbrev pub told_rows : Bencode → List TestRow
-told_rows info = version_rows info ++ (present_rows info ++ kind_rows info)
+abbrev pub info_rows : Bencode → List TestRow
+info_rows info = version_rows info ++ (present_rows info ++ kind_rows info)
 
 -- the tests of the keys, but for what the piece length is
 abbrev pub head_rows : Bencode → List TestRow
-head_rows v = top_rows v ++ (told_rows (info_in v) ++ layers_rows v)
+head_rows v = top_rows v ++ (info_rows (info_in v) ++ layers_rows v)
 
 -- the tests of all keys
 abbrev pub all_key_rows : Bencode → List TestRow
 all_key_rows v = top_rows v
-    ++ (told_rows (info_in v) ++ (layers_rows v ++ piece_length_rows (piece_length_in v)))
+    ++ (info_rows (info_in v) ++ (layers_rows v ++ piece_length_rows (piece_length_in v)))
 
 -- the tests that take no memory: those of the keys, and of the shape and the paths of the file tree
 abbrev pub plain_rows : Bencode → List TestRow

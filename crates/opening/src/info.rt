@@ -9,7 +9,7 @@ ghost use Rattle.filetree.specs.Dictionary.{as_dict, as_int, as_text, get};
 ghost use Rattle.filetree.specs.Names.{key_text};
 ghost use Rattle.filetree.specs.Tests.{Passes};
 ghost use Rattle.opening.specs.Opening.{AreKeys};
-ghost use Rattle.opening.specs.Refusals.{head_rows, kind_rows, layers_in, layers_rows, number_in, piece_length_rows, present_rows, top_rows, told_rows, version_rows};
+ghost use Rattle.opening.specs.Refusals.{head_rows, kind_rows, layers_in, layers_rows, number_in, piece_length_rows, present_rows, top_rows, info_rows, version_rows};
 ghost use Rattle.opening.specs.Steps.{AreOfKind, ArePresent, pairs_seen};
 ghost use Rattle.pieces.specs.Pieces.{IsPieceLength};
 
@@ -75,7 +75,7 @@ fn info<'v, 'a>(top: &'v Value<'a>) -> Result<&'v Value<'a>, Refusal>
 
 // The keys of the info dictionary, the version first.
 fn read_info<'v, 'a>(info: &'v Value<'a>) -> Result<InfoKeys<'v, 'a>, Refusal>
-    ensures { Passes (told_rows (view info.now)) (AreOfKind (view info.now)) result }
+    ensures { Passes (info_rows (view info.now)) (AreOfKind (view info.now)) result }
 {
     version(info)?;
     let present = all_present(info)?;

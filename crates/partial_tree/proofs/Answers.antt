@@ -1,4 +1,4 @@
--- The answer to an ask that a closed tree gives is told by that tree, and reaches the root where enough proof layers were asked for.
+-- The answer to an ask that a closed tree gives has its hashes, and reaches the root where enough proof layers were asked for.
 use Rattle.std.proofs.Common.{◌≡◌, ◌⊎◌, ℕ, zero, suc, ◌+◌, ◌-◌, ◌*◌, ◌/◌, ◌^◌, ◌<◌, ◌≤◌, List, map, length, get_or, Some, inl, inr, sym, ap, ap₂, ◌∙◌, arith}
 use Rattle.std.proofs.Common.{length-append, shr-shr, div-one}
 use Rattle.std.specs.Prelude.{slice_get}
@@ -13,14 +13,14 @@ use Rattle.node_maps.specs.Places.{tree_height, PartialTree, IsKnown}
 use Rattle.node_maps.specs.Digest.{Hash}
 use Rattle.hashtree.specs.Tree.{pad_leaf}
 use Rattle.partial_tree.specs.Closed.{IsFamily, IsClosed, Collision}
-use Rattle.partial_tree.specs.Claims.{span, cover, above, sibling, base_hash, uncle_hash, top_layer, top_index, GoodCount, IsAccepted, IsToldBy, hash_or_pad}
+use Rattle.partial_tree.specs.Claims.{span, cover, above, sibling, base_hash, uncle_hash, top_layer, top_index, GoodCount, IsAccepted, IsHeldBy, hash_or_pad}
 use Rattle.partial_tree.specs.Claims.{answer_uncles, answer_of, CanAnswer}
 use Rattle.partial_tree.proofs.Powers.{exponent_le, div_small, spans-some}
 use Rattle.partial_tree.proofs.Agree.{left_or_right}
 use Rattle.partial_tree.proofs.ClaimValues.{either, base-read, uncle-read}
 use Rattle.partial_tree.proofs.Stored.{stored_or_collision}
 
--- what a known place has is what is told of it
+-- what a known place has is what the tree has there
 pub value-known : (K : PartialTree) (l i : ℕ) → IsKnown K l i → K l i ≡ Some (hash_or_pad K l i)
 value-known K l i (v, e) = e ∙ ap Some (sym (ap (λ o. unwrap_or o pad_leaf) e))
 
@@ -108,9 +108,9 @@ module _ (t : TreeRoot) (J : PartialTree) (ask : Ask) (closed : IsClosed t J) (c
       let layer : l ≡ ask.base + (l - ask.base) = omega arith in
       (up.0, ap₂ J layer (ap (λ k. k / 2 ^ (l - ask.base)) (sym start)) ∙ up.1)
 
-  pub answer-told : IsToldBy J ask (answer_of (tree_height t.length) J ask)
+  pub answer-said : IsHeldBy J ask (answer_of (tree_height t.length) J ask)
   unfolding base_value uncle_value
-  answer-told l i v e = elim (either (base_hash ask (answer_of (tree_height t.length) J ask) l i) (uncle_hash ask (answer_of (tree_height t.length) J ask) l i)
+  answer-said l i v e = elim (either (base_hash ask (answer_of (tree_height t.length) J ask) l i) (uncle_hash ask (answer_of (tree_height t.length) J ask) l i)
       v e) [
         | inl b ↦
             let (at, low, high, got) = base-read ask (answer_of (tree_height t.length) J ask) l i v b in
@@ -151,5 +151,5 @@ pub answer-stored : (t : TreeRoot) (J K : PartialTree) (ask : Ask) → IsClosed 
     → tree_height t.length - ask.base - 1 ≤ ask.proof → IsAccepted t.length K ask (answer_of (tree_height t.length) J ask) ⊎ Collision J K
 answer-stored t J K ask closed_J closed_K can all =
     stored_or_collision t J K ask (answer_of (tree_height t.length) J ask) closed_J closed_K can.range
-    (answer-count t J ask closed_J can) (answer-told t J ask closed_J can)
+    (answer-count t J ask closed_J can) (answer-said t J ask closed_J can)
     (t.root, ap₂ K (answer-reaches t J ask closed_J can all) (answer-root t J ask closed_J can all) ∙ closed_K.root_known)

@@ -9,7 +9,7 @@ use Rattle.node_maps.specs.Places.{PartialTree, IsKnown}
 use Rattle.node_maps.specs.Known.{Known, look}
 use Rattle.node_maps.proofs.Places.{two_halves}
 use Rattle.partial_tree.specs.declared.message.evidence.Evidence.{Evidence}
-use Rattle.partial_tree.specs.declared.message.found.Found.{Found}
+use Rattle.partial_tree.specs.declared.message.found.NewClaims.{NewClaims}
 use Rattle.partial_tree.specs.declared.message.row.Row.{Row}
 use Rattle.partial_tree.specs.Claims.{base_hash, uncle_hash}
 use Rattle.partial_tree.specs.Evidence.{Grows, IsClaimedPlace, IsHandled, IsNoted, LiesUnder, claimed_by, given_by, hashes_of, range_of}
@@ -203,12 +203,12 @@ joined-rows h e row left right hashes is above three claimed_left claimed_right 
 
 -- ---- what is handled
 
-pub base-handled : (e : Evidence) (K : PartialTree) (found : Found) (row : Row) → row.layer ≡ e.base → BelowRowHandled (claimed_by e) K found row
+pub base-handled : (e : Evidence) (K : PartialTree) (found : NewClaims) (row : Row) → row.layer ≡ e.base → BelowRowHandled (claimed_by e) K found row
 base-handled e K found row at = record {
   at = λ l i under less v is. absurd (claims-below e l i v (omega (arith, less, at)) is);
 }
 
-pub children-handled : (C K : PartialTree) (found : Found) (row : Row) → 1 ≤ row.layer
+pub children-handled : (C K : PartialTree) (found : NewClaims) (row : Row) → 1 ≤ row.layer
     → RowHandled C K found (record { layer = row.layer - 1; depth = row.depth + 1; node = row.node }) → BelowRowHandled C K found row
 children-handled C K found row some handled =
     let same : row.layer + row.depth ≡ row.layer - 1 + (row.depth + 1) = omega (arith, some) in
@@ -216,7 +216,7 @@ children-handled C K found row some handled =
       at = λ l i under less. handled.at l i (subst (λ k. LiesUnder k row.node l i) same under) (omega (arith, less));
     }
 
-pub rows-handled : (C K : PartialTree) (first second : Found) (row : Row) → 1 ≤ row.layer → Grows first second
+pub rows-handled : (C K : PartialTree) (first second : NewClaims) (row : Row) → 1 ≤ row.layer → Grows first second
     → RowHandled C K first (record { layer = row.layer - 1; depth = row.depth; node = 2 * row.node })
     → RowHandled C K second (record { layer = row.layer - 1; depth = row.depth; node = 2 * row.node + 1 })
     → BelowRowHandled C K second row
@@ -230,7 +230,7 @@ rows-handled C K first second row some grows left right =
     }
 
 -- a row is handled if what is below it is, and each of its places
-pub row-handled : (C K : PartialTree) (found : Found) (row : Row) → BelowRowHandled C K found row
+pub row-handled : (C K : PartialTree) (found : NewClaims) (row : Row) → BelowRowHandled C K found row
     → ((j : ℕ) → j < 2 ^ row.depth → IsHandled C K found row.layer (place_in row j)) → RowHandled C K found row
 row-handled C K found row below here = record {
   at = λ l i under le. elim (eq-or-lt_of_le le) [
@@ -246,11 +246,11 @@ row-handled C K found row below here = record {
 }
 
 -- what is handled below a row stays so
-pub below-grows : (C K : PartialTree) (old new : Found) (row : Row) → Grows old new → BelowRowHandled C K old row → BelowRowHandled C K new row
+pub below-grows : (C K : PartialTree) (old new : NewClaims) (row : Row) → Grows old new → BelowRowHandled C K old row → BelowRowHandled C K new row
 below-grows C K old new row grows handled = record { at = λ l i under less. handled-grows C K old new grows l i (handled.at l i under less) }
 
 -- a claim that is known or noted is handled at its place
-pub claim-handled : (C : PartialTree) (m : Known) (found : Found) (l i : ℕ) (h : Hash) → C l i ≡ Some h
+pub claim-handled : (C : PartialTree) (m : Known) (found : NewClaims) (l i : ℕ) (h : Hash) → C l i ≡ Some h
     → (look m l i ≡ Some h) ⊎ ((look m l i ≡ None) × IsNoted found l i h) → IsHandled C (look m) found l i
 claim-handled C m found l i h is (inl known) v claim = inl (known ∙ sym is ∙ claim)
 claim-handled C m found l i h is (inr (none, noted)) v claim = inr (none, subst (λ x. IsNoted found l i x) (same_Some h v (sym is ∙ claim)) noted)

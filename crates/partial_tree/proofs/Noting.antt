@@ -7,7 +7,7 @@ use Rattle.std.proofs.lemmas.Option.{same_Some, none-some}
 use Rattle.std.proofs.lemmas.Bool.{cases_eq}
 use Rattle.std.proofs.lemmas.List.Elements.{All-head, All-tail}
 use Rattle.partial_tree.specs.declared.message.found.Claim.{Claim}
-use Rattle.partial_tree.specs.declared.message.found.Found.{Found}
+use Rattle.partial_tree.specs.declared.message.found.NewClaims.{NewClaims}
 use Rattle.node_maps.specs.Digest.{Hash}
 use Rattle.node_maps.specs.Places.{PartialTree}
 use Rattle.partial_tree.specs.Claims.{joined}
@@ -27,12 +27,12 @@ has_claim-here [] c = inl (refl, refl, refl)
 has_claim-here (x ∷ xs) c = inr (has_claim-here xs c)
 
 -- what a push, or a refusal, leaves noted
-pub noted-here : (found : Found) (cs : List Claim) (c : Claim) → (found.incomplete ≡ true) ⊎ (found.claims.items ≡ cs ++ c ∷ [])
+pub noted-here : (found : NewClaims) (cs : List Claim) (c : Claim) → (found.incomplete ≡ true) ⊎ (found.claims.items ≡ cs ++ c ∷ [])
     → IsNoted found c.layer c.index c.hash
 noted-here found cs c (inl e) = inl e
 noted-here found cs c (inr e) = inr (subst (λ xs. HasClaim xs c.layer c.index c.hash) (sym e) (has_claim-here cs c))
 
-pub noted-grows : (old new : Found) (c : Claim) → (new.incomplete ≡ true)
+pub noted-grows : (old new : NewClaims) (c : Claim) → (new.incomplete ≡ true)
     ⊎ ((new.incomplete ≡ old.incomplete) × (new.claims.items ≡ old.claims.items ++ c ∷ [])) → Grows old new
 noted-grows old new c (inl e) = record { keeps = λ l i v h. inl e }
 noted-grows old new c (inr (same, e)) = record { keeps = λ l i v h. kept l i v h }

@@ -1,4 +1,4 @@
--- A message that a closed tree tells is accepted by each other closed tree that knows its top, or a
+-- A message whose hashes a closed tree has is accepted by each other closed tree that knows its top, or a
 -- collision of the two is named.
 use Rattle.std.proofs.Common.{◌≡◌, ◌⊎◌, ℕ, zero, suc, ◌+◌, ◌-◌, ◌*◌, ◌/◌, ◌^◌, ◌<◌, List, Some, None, inl, inr, sym, ap, ap₂, ◌∙◌, subst, arith, eq-or-lt_of_le}
 use Rattle.std.proofs.lemmas.Option.{same_Some, none-some}
@@ -8,7 +8,7 @@ use Rattle.partial_tree.specs.TreeRoot.{TreeRoot}
 use Rattle.node_maps.specs.Places.{tree_height, PartialTree, IsTreePlace}
 use Rattle.node_maps.specs.Digest.{Hash, join}
 use Rattle.partial_tree.specs.Closed.{IsFamily, IsClosed, Collision}
-use Rattle.partial_tree.specs.Claims.{claims, top_layer, top_index, GoodRange, GoodCount, IsAccepted, IsAgreed, IsToldBy}
+use Rattle.partial_tree.specs.Claims.{claims, top_layer, top_index, GoodRange, GoodCount, IsAccepted, IsAgreed, IsHeldBy}
 use Rattle.partial_tree.proofs.Agree.{agree_or_collision}
 use Rattle.partial_tree.proofs.ClaimValues.{there_or_not, claims-read, claims-zero}
 
@@ -54,9 +54,9 @@ module _ (t : TreeRoot) (J K : PartialTree) (closed_J : IsClosed t J) (closed_K 
       ]
 
 -- the parent of two places that a closed tree has
-told_parent : (t : TreeRoot) (J : PartialTree) → IsClosed t J → (l i : ℕ) (a b : Hash) → J l (2 * i) ≡ Some a → J l (2 * i + 1) ≡ Some b
+given_parent : (t : TreeRoot) (J : PartialTree) → IsClosed t J → (l i : ℕ) (a b : Hash) → J l (2 * i) ≡ Some a → J l (2 * i + 1) ≡ Some b
     → J (suc l) i ≡ Some (join a b)
-told_parent t J closed l i a b p q =
+given_parent t J closed l i a b p q =
     let right : IsTreePlace (tree_height t.length) l (2 * i + 1) = closed.in_tree l (2 * i + 1) b q in
     let below : l < tree_height t.length = below_root l (tree_height t.length) i right in
     let half : 2 * i / 2 ≡ i = omega arith in
@@ -70,30 +70,30 @@ told_parent t J closed l i a b p q =
     ]
 
 -- what is claimed from what a closed tree has is in that tree
-pub told-claims : (t : TreeRoot) (J : PartialTree) (ask : Ask) (hashes : List Hash) → IsClosed t J → IsToldBy J ask hashes
+pub said-claims : (t : TreeRoot) (J : PartialTree) (ask : Ask) (hashes : List Hash) → IsClosed t J → IsHeldBy J ask hashes
     → (l i : ℕ) (v : Hash) → claims ask hashes l i ≡ Some v → J l i ≡ Some v
-told-claims t J ask hashes closed told zero i v e = told zero i v (sym (claims-zero ask hashes i) ∙ e)
-told-claims t J ask hashes closed told (suc l) i v e = elim (claims-read ask hashes l i v e) [
-  | inl g ↦ told (suc l) i v g
+said-claims t J ask hashes closed said zero i v e = said zero i v (sym (claims-zero ask hashes i) ∙ e)
+said-claims t J ask hashes closed said (suc l) i v e = elim (claims-read ask hashes l i v e) [
+  | inl g ↦ said (suc l) i v g
   | inr (none, (a, b, p, q, w)) ↦
-      let left : J l (2 * i) ≡ Some a = told-claims t J ask hashes closed told l (2 * i) a p in
-      let right : J l (2 * i + 1) ≡ Some b = told-claims t J ask hashes closed told l (2 * i + 1) b q in
-      told_parent t J closed l i a b left right ∙ ap Some (sym w)
+      let left : J l (2 * i) ≡ Some a = said-claims t J ask hashes closed said l (2 * i) a p in
+      let right : J l (2 * i + 1) ≡ Some b = said-claims t J ask hashes closed said l (2 * i + 1) b q in
+      given_parent t J closed l i a b left right ∙ ap Some (sym w)
 ]
 
 -- a message with what a closed tree J has, whose top K knows, is accepted, or a collision is named
 pub stored_or_collision : (t : TreeRoot) (J K : PartialTree) (ask : Ask) (hashes : List Hash) → IsClosed t J → IsClosed t K
-    → GoodRange (tree_height t.length) ask → GoodCount (tree_height t.length) ask hashes → IsToldBy J ask hashes
+    → GoodRange (tree_height t.length) ask → GoodCount (tree_height t.length) ask hashes → IsHeldBy J ask hashes
     → ((v : Hash) × (K (top_layer ask hashes) (top_index ask hashes) ≡ Some v))
     → IsAccepted t.length K ask hashes ⊎ Collision J K
-stored_or_collision t J K ask hashes closed_J closed_K range count told top =
+stored_or_collision t J K ask hashes closed_J closed_K range count said top =
     elim (agreed_or_collision t J K closed_J closed_K) [
       | inl same ↦ inl (record {
         range = range;
         count = count;
-        pads = λ l i v e past. closed_J.pads l i v (told l i v e) past;
+        pads = λ l i v e past. closed_J.pads l i v (said l i v e) past;
         top_known = top;
-        agrees = λ l i u v p q. sym (same l i v u (told-claims t J ask hashes closed_J told l i v q) p);
+        agrees = λ l i u v p q. sym (same l i v u (said-claims t J ask hashes closed_J said l i v q) p);
       })
       | inr collision ↦ inr collision
     ]

@@ -7,7 +7,7 @@ use Rattle.std.specs.FinMap.{len}
 use Rattle.std.proofs.lemmas.Bool.{false≢true}
 use Rattle.std.proofs.lemmas.Option.{same_Some, none-some}
 use Rattle.partial_tree.specs.declared.message.evidence.Evidence.{Evidence}
-use Rattle.partial_tree.specs.declared.message.found.Found.{Found}
+use Rattle.partial_tree.specs.declared.message.found.NewClaims.{NewClaims}
 use Rattle.node_maps.specs.Digest.{Hash, join}
 use Rattle.node_maps.specs.Places.{PartialTree, IsKnown, IsTreePlace}
 use Rattle.node_maps.specs.Known.{Known, look}
@@ -84,14 +84,14 @@ under_child layer index l i at below =
     ]
 
 -- what is handled stays handled
-pub handled-grows : (C K : PartialTree) (old new : Found) → Grows old new → (l i : ℕ) → IsHandled C K old l i → IsHandled C K new l i
+pub handled-grows : (C K : PartialTree) (old new : NewClaims) → Grows old new → (l i : ℕ) → IsHandled C K old l i → IsHandled C K new l i
 handled-grows C K old new grows l i handled v is = elim (handled v is) [
   | inl known ↦ inl known
   | inr (none, noted) ↦ inr (none, grows.keeps l i v noted)
 ]
 
 -- both children are handled, one after the other
-pub below-children : (C K : PartialTree) (first second : Found) (layer index : ℕ) → Grows first second
+pub below-children : (C K : PartialTree) (first second : NewClaims) (layer index : ℕ) → Grows first second
     → AllHandled C K first (layer - 1) (2 * index) → AllHandled C K second (layer - 1) (2 * index + 1) → BelowHandled C K second layer index
 below-children C K first second layer index grows left right = record {
   at = λ l i under below. elim (under_child layer index l i under below) [
@@ -110,14 +110,14 @@ pub on_ok : {T E : Type 0} (r : Result T E) (P : Type 0) → OnOk r P → is_err
 on_ok (Ok x) P h e = h
 on_ok (Err x) P h e = absurd (false≢true (sym e))
 
-pub handled-agreed : (e : Evidence) (m : Known) (found : Found) (layer index : ℕ) → LeadsTo e layer index → AllHandled (claimed_by e) (look m) found layer index
+pub handled-agreed : (e : Evidence) (m : Known) (found : NewClaims) (layer index : ℕ) → LeadsTo e layer index → AllHandled (claimed_by e) (look m) found layer index
     → IsAgreed (look m) (claimed_by e)
 handled-agreed e m found layer index leads handled l i u v known claim = elim (handled.at l i (leads.under_top l i v claim) v claim) [
   | inl same ↦ same_Some u v (sym known ∙ same)
   | inr (none, noted) ↦ absurd (none-some u (sym none ∙ known))
 ]
 
-pub handled-joins : (e : Evidence) (m : Known) (found : Found) (layer index c : ℕ) (after : Known) → LeadsTo e layer index
+pub handled-joins : (e : Evidence) (m : Known) (found : NewClaims) (layer index c : ℕ) (after : Known) → LeadsTo e layer index
     → AllHandled (claimed_by e) (look m) found layer index
     → found.incomplete ≡ false → AreClaims (claimed_by e) found.claims.items → after ≡ insert_new m found.claims.items → len after ≡ len m + c
     → Joins (claimed_by e) m after c
@@ -138,12 +138,12 @@ handled-joins e m found layer index c after leads handled ok sound is gained = r
     ]
 
 -- if no claim is noted, what was known has all that is claimed
-pub nothing-joins : (e : Evidence) (m : Known) (found : Found) (layer index : ℕ) → LeadsTo e layer index → AllHandled (claimed_by e) (look m) found layer index
+pub nothing-joins : (e : Evidence) (m : Known) (found : NewClaims) (layer index : ℕ) → LeadsTo e layer index → AllHandled (claimed_by e) (look m) found layer index
     → IsEmpty found → AreClaims (claimed_by e) found.claims.items → Joins (claimed_by e) m m 0
 nothing-joins e m found layer index leads handled empty sound =
     handled-joins e m found layer index 0 m leads handled empty.complete sound (sym (ap (insert_new m) empty.none)) (omega arith)
 
 -- if one is noted, a place is new
-pub new_if_noted : (K C : PartialTree) (found : Found) (b : Bool) → IsTrue b ↔ IsEmpty found → b ≡ false → NotesNew K C found → HasNew K C
+pub new_if_noted : (K C : PartialTree) (found : NewClaims) (b : Bool) → IsTrue b ↔ IsEmpty found → b ≡ false → NotesNew K C found → HasNew K C
 new_if_noted K C found b is some (inl empty) = absurd (false≢true (sym some ∙ is.1 empty))
 new_if_noted K C found b is some (inr new) = new

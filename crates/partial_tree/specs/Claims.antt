@@ -192,5 +192,5 @@ answer_of h K ask =
     (range_with_len 0 (answer_uncles h ask))
 
 -- each hash that the message gives is what J has at its place
-abbrev pub IsToldBy : PartialTree → Ask → List Hash → Type 0
-IsToldBy J ask hashes = (l i : ℕ) (v : Hash) → given ask hashes l i ≡ Some v → J l i ≡ Some v
+abbrev pub IsHeldBy : PartialTree → Ask → List Hash → Type 0
+IsHeldBy J ask hashes = (l i : ℕ) (v : Hash) → given ask hashes l i ≡ Some v → J l i ≡ Some v

@@ -4,7 +4,7 @@ use Rattle.std.specs.List.{All}
 use Rattle.wire.specs.declared.message.Ask.{Ask}
 use Rattle.partial_tree.specs.declared.message.evidence.Evidence.{Evidence}
 use Rattle.partial_tree.specs.declared.message.found.Claim.{Claim}
-use Rattle.partial_tree.specs.declared.message.found.Found.{Found}
+use Rattle.partial_tree.specs.declared.message.found.NewClaims.{NewClaims}
 use Rattle.partial_tree.specs.declared.refusal.HashRefusal.{HashRefusal}
 use Rattle.partial_tree.specs.declared.refusal.HashRefusal.TheVariants.{Mismatch, NoMemory}
 use Rattle.node_maps.specs.Digest.{Hash}
@@ -83,20 +83,20 @@ HasClaim [] l i v = ⊥
 HasClaim (c ∷ cs) l i v = ((c.layer ≡ l) × (c.index ≡ i) × (c.hash ≡ v)) ⊎ HasClaim cs l i v
 
 -- the claim is listed, unless the list is incomplete
-abbrev pub IsNoted : Found → ℕ → ℕ → Hash → Type 0
+abbrev pub IsNoted : NewClaims → ℕ → ℕ → Hash → Type 0
 IsNoted found l i v = (found.incomplete ≡ true) ⊎ HasClaim found.claims.items l i v
 
 -- what is noted stays noted
-pub record Grows (before after : Found) : Type 0 where
+pub record Grows (before after : NewClaims) : Type 0 where
   pub keeps : (l i : ℕ) (v : Hash) → IsNoted before l i v → IsNoted after l i v
 
 -- no claim is noted
-pub record IsEmpty (found : Found) : Type 0 where
+pub record IsEmpty (found : NewClaims) : Type 0 where
   pub complete : found.incomplete ≡ false
   pub none : found.claims.items ≡ []
 
 -- if a claim is noted, C has a value at a place where K has none
-abbrev pub NotesNew : PartialTree → PartialTree → Found → Type 0
+abbrev pub NotesNew : PartialTree → PartialTree → NewClaims → Type 0
 NotesNew K C found = IsEmpty found ⊎ HasNew K C
 
 -- each claim is one of C
@@ -104,20 +104,20 @@ abbrev pub AreClaims : PartialTree → List Claim → Type 0
 AreClaims C cs = All (λ (c : Claim). C c.layer c.index ≡ Some c.hash) cs
 
 -- what C claims at the place is known in K, or is noted and not known
-abbrev pub IsHandled : PartialTree → PartialTree → Found → ℕ → ℕ → Type 0
+abbrev pub IsHandled : PartialTree → PartialTree → NewClaims → ℕ → ℕ → Type 0
 IsHandled C K found l i = (v : Hash) → C l i ≡ Some v → (K l i ≡ Some v)
     ⊎ ((K l i ≡ None) × IsNoted found l i v)
 
 -- so it is at each place from (layer, index) down
-pub record AllHandled (C K : PartialTree) (found : Found) (layer index : ℕ) : Type 0 where
+pub record AllHandled (C K : PartialTree) (found : NewClaims) (layer index : ℕ) : Type 0 where
   pub at : (l i : ℕ) → LiesUnder layer index l i → IsHandled C K found l i
 
 -- and at each place below it
-pub record BelowHandled (C K : PartialTree) (found : Found) (layer index : ℕ) : Type 0 where
+pub record BelowHandled (C K : PartialTree) (found : NewClaims) (layer index : ℕ) : Type 0 where
   pub at : (l i : ℕ) → LiesUnder layer index l i → l < layer → IsHandled C K found l i
 
 -- the claim is known, or is noted and not known
-abbrev pub IsHandledClaim : Known → Found → Claim → Type 0
+abbrev pub IsHandledClaim : Known → NewClaims → Claim → Type 0
 IsHandledClaim m found c = (look m c.layer c.index ≡ Some c.hash)
     ⊎ ((look m c.layer c.index ≡ None) × IsNoted found c.layer c.index c.hash)
 

@@ -3,7 +3,7 @@ use Rattle.std.specs.Prelude.{◌≡◌, ℕ, ◌+◌, ◌*◌, ◌^◌, ◌<◌
 use Rattle.node_maps.specs.Digest.{Hash}
 use Rattle.node_maps.specs.Places.{PartialTree}
 use Rattle.partial_tree.specs.declared.message.evidence.Evidence.{Evidence}
-use Rattle.partial_tree.specs.declared.message.found.Found.{Found}
+use Rattle.partial_tree.specs.declared.message.found.NewClaims.{NewClaims}
 use Rattle.partial_tree.specs.declared.message.row.Row.{Row}
 use Rattle.partial_tree.specs.Evidence.{IsClaimedPlace, IsHandled, LiesUnder, given_by}
 
@@ -25,11 +25,11 @@ AreClaimedIn C row hashes = (j : ℕ) → j < 2 ^ row.depth
     → C row.layer (place_in row j) ≡ Some (slice_index_or hashes j [])
 
 -- what C claims at the row and below is handled
-pub record RowHandled (C K : PartialTree) (found : Found) (row : Row) : Type 0 where
+pub record RowHandled (C K : PartialTree) (found : NewClaims) (row : Row) : Type 0 where
   pub at : (l i : ℕ) → LiesUnder (row.layer + row.depth) row.node l i → l ≤ row.layer
       → IsHandled C K found l i
 
 -- and so is what it claims below
-pub record BelowRowHandled (C K : PartialTree) (found : Found) (row : Row) : Type 0 where
+pub record BelowRowHandled (C K : PartialTree) (found : NewClaims) (row : Row) : Type 0 where
   pub at : (l i : ℕ) → LiesUnder (row.layer + row.depth) row.node l i → l < row.layer
       → IsHandled C K found l i

@@ -7,7 +7,7 @@ use Rattle.node_maps.specs.Digest.{Hash, AreBytes}
 use Rattle.hashtree.specs.Tree.{block, block_count}
 use Rattle.node_maps.specs.Places.{tree_height, PartialTree, IsKnown, IsTreePlace}
 use Rattle.partial_tree.specs.Closed.{IsClosed, Keeps, Collision, BlockCollision, whole}
-use Rattle.partial_tree.specs.Claims.{AreHashes, claims, joined, top_layer, top_index, GoodRange, GoodCount, IsAccepted, IsToldBy, CanAnswer, answer_of}
+use Rattle.partial_tree.specs.Claims.{AreHashes, claims, joined, top_layer, top_index, GoodRange, GoodCount, IsAccepted, IsHeldBy, CanAnswer, answer_of}
 use Rattle.partial_tree.specs.Claims.{Refuses}
 use Rattle.partial_tree.specs.declared.refusal.HashRefusal.{HashRefusal as Refusal}
 use Rattle.partial_tree.specs.Fill.{fill_claims, IsFillAccepted}
@@ -53,7 +53,7 @@ abbrev pub TrueMessageIsAccepted : Type 0
 TrueMessageIsAccepted = (t : Tree) (J K : PartialTree) (ask : Asked) (hashes : List Hash)
     → IsClosed t J → IsClosed t K
     → GoodRange (tree_height t.length) ask → GoodCount (tree_height t.length) ask hashes
-    → IsToldBy J ask hashes
+    → IsHeldBy J ask hashes
     → IsKnown K (top_layer ask hashes) (top_index ask hashes) → IsAccepted t.length K ask hashes
     ⊎ Collision J K
 

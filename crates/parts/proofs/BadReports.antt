@@ -8,8 +8,8 @@ use Rattle.benc.specs.Device.{SinkSeen, SourceSeen}
 use Rattle.chains.proofs.Chains.{Chain-next}
 use Rattle.folders.specs.FolderCheck.{HasChecked, verdicts_of}
 use Rattle.folders.specs.Shelf.{ShelfContents, more}
-use Rattle.folders.specs.Stopping.{TellsFirst}
-use Rattle.folders.specs.Verdicts.{HasVerdicts, TellsFolder, fault_count, is_unreadable, unreadable_count}
+use Rattle.folders.specs.Stopping.{AreTrueOfFirst}
+use Rattle.folders.specs.Verdicts.{CountsUnreadable, HasVerdicts, IsTrueOfFolder, fault_count, is_unreadable, unreadable_count}
 use Rattle.folders.specs.Visits.{Visits}
 use Rattle.folders.specs.declared.folder_check.FolderCheck.{FolderCheck}
 use Rattle.folders.specs.declared.lines.Lines.{Lines}
@@ -17,10 +17,10 @@ use Rattle.folders.specs.declared.report.FileVerdict.{FileVerdict}
 use Rattle.folders.specs.declared.report.V1Verdict.{V1Verdict}
 use Rattle.folders.specs.declared.shelf.Shelf.{Ghosts}
 use Rattle.folders.proofs.Counts.{more_none, unreadable_push}
-use Rattle.folders.proofs.FolderChecks.{told_first}
+use Rattle.folders.proofs.FolderChecks.{first_true}
 use Rattle.opening.specs.Description.{Description, FileEntry}
 use Rattle.opening.specs.Sound.{IsSound}
-use Rattle.parts.specs.BadReport.{ChecksAll, ChecksFile, ChecksFiles, ChecksFirst, CountsUnreadable, EndsFile, EndsFiles, StopsAtOne, shelf_and_sink}
+use Rattle.parts.specs.BadReport.{ChecksAll, ChecksFile, ChecksFiles, ChecksFirst, EndsFile, EndsFiles, StopsAtOne, shelf_and_sink}
 use Rattle.parts.specs.declared.bad_fault.BadFault.{BadFault}
 
 -- an error is no answer
@@ -118,8 +118,8 @@ module _ {S F : Type 0} (shelf : Ghosts S F) (seen : F → SourceSeen) (t : Desc
         verdict = v;
         visited = visited;
         visits = next.visits;
-        tells = subst (TellsFirst t (shelf.contents old.0).under) next.one_more
-            (told_first t (shelf.contents old.0).under sound after (checked_at_start old mid before after f v visited first next));
+        are_true = subst (AreTrueOfFirst t (shelf.contents old.0).under) next.one_more
+            (first_true t (shelf.contents old.0).under sound after (checked_at_start old mid before after f v visited first next));
         counts = subst (CountsUnreadable (shelf.faults old.0) (shelf.faults visited)) next.one_more
             (counts_next old mid before after f v visited first next);
         stops = stops;
@@ -129,14 +129,14 @@ module _ {S F : Type 0} (shelf : Ghosts S F) (seen : F → SourceSeen) (t : Desc
   -- all files
   pub checks_all : (old new : S × SinkSeen) (check : FolderCheck) (verdicts : List FileVerdict) (v1 : Option V1Verdict)
       → ChecksFirst shelf seen t lines old check new → length (verdicts_of check) ≡ length t.files → verdicts ≡ verdicts_of check
-      → HasVerdicts t verdicts v1 → TellsFolder t (shelf.contents old.0).under verdicts v1 → ChecksAll shelf seen t lines verdicts v1 old new
-  checks_all old new check verdicts v1 first all is has tells =
+      → HasVerdicts t verdicts v1 → IsTrueOfFolder t (shelf.contents old.0).under verdicts v1 → ChecksAll shelf seen t lines verdicts v1 old new
+  checks_all old new check verdicts v1 first all is has are_true =
       let files : ChecksFiles shelf seen t lines old t.files (verdicts_of check) new =
       subst (λ fs. ChecksFiles shelf seen t lines old fs (verdicts_of check) new) (take_all (length (verdicts_of check)) t.files (omega (arith, all)))
       first.files in
       record {
         has = has;
-        tells = tells;
+        are_true = are_true;
         files = subst (λ vs. ChecksFiles shelf seen t lines old t.files vs new) (sym is) files;
         counts = subst (CountsUnreadable (shelf.faults old.0) (shelf.faults new.0)) (sym is) first.counts;
       }

@@ -19,7 +19,7 @@ use Rattle.folders.proofs.Counts.{unreadable_push}
 use Rattle.folders.proofs.Visiting.{contents_extend, contents_of}
 use Rattle.chains.proofs.Cases.{item_at}
 use Rattle.opening.specs.Sound.{IsSound}
-use Rattle.parts.specs.Finding.{FindsFile, TellsPlaces}
+use Rattle.parts.specs.Finding.{FindsFile, IsTrueOfPlaces}
 use Rattle.parts.specs.PartVisits.{VisitsPart}
 use Rattle.parts.specs.Worse.{worse_v1}
 use Rattle.parts.specs.declared.places.Places.{Places}
@@ -38,29 +38,29 @@ and_true : (b : Bool) → b && true ≡ b
 and_true true = refl
 and_true false = refl
 
--- the contents of the files are the ones that the shelf tells
+-- the contents of the files are the ones that the shelf holds
 contents_agree : (t : Description) (r : Places) (under : List (List ℕ) → Option (Option (List ℕ))) (n : ℕ) (files : List FileVerdict) (a : V1Verdict)
     → n ≡ length t.files → (found : HasFoundFirst t r under n files a) → AgreeWith t under (contents_of found.seen)
 contents_agree t r under n files a all found k f there =
     let at = item_at found.seen k (omega (arith, slice_get_within t.files k f there, all, found.count)) in
     subst (Agrees (under f.path)) (sym (contents_extend found.seen k at.0 at.1)) (found.agree k f at.0 there at.1)
 
--- what the report of a part tells, where all files were visited
-pub tells_all : (t : Description) (r : Places) (under : List (List ℕ) → Option (Option (List ℕ))) (n : ℕ) (files : List FileVerdict) (a : V1Verdict)
+-- what the report of a part says, where all files were visited
+pub all_true : (t : Description) (r : Places) (under : List (List ℕ) → Option (Option (List ℕ))) (n : ℕ) (files : List FileVerdict) (a : V1Verdict)
     (v1 : Option V1Verdict) → IsSound t → n ≡ length t.files → length files ≡ n → is_checked a ≡ list_all is_whole files → HasFoundFirst t r under n files a
-    → is_some v1 ≡ is_some t.v1 → ((v : V1Verdict) → v1 ≡ Some v → a ≡ v) → TellsPlaces t r under files v1
-tells_all t r under n files a v1 sound all count checked found hybrid is =
+    → is_some v1 ≡ is_some t.v1 → ((v : V1Verdict) → v1 ≡ Some v → a ≡ v) → IsTrueOfPlaces t r under files v1
+all_true t r under n files a v1 sound all count checked found hybrid is =
     let contents = contents_of found.seen in
-    let told = found.told contents (contents_extend found.seen) in
+    let stated = found.stated contents (contents_extend found.seen) in
     record {
       contents = contents;
       agree = contents_agree t r under n files a all found;
-      tells = record {
+      are_true = record {
         count = count ∙ all;
         hybrid = hybrid;
         checked = λ v at. sym (ap is_checked (is v at)) ∙ checked;
-        each = told.each;
-        version1 = λ w v is_v1 at. v1_all t w r contents n v sound all (subst (IsV1SoFar t w r contents n) (is v at) (told.version1 w is_v1));
+        each = stated.each;
+        version1 = λ w v is_v1 at. v1_all t w r contents n v sound all (subst (IsV1SoFar t w r contents n) (is v at) (stated.version1 w is_v1));
       };
     }
 

@@ -1,4 +1,4 @@
--- What the check of a part told of the first files of a torrent.
+-- What the check of a part found of the first files of a torrent.
 use Rattle.std.proofs.Common.{◌≡◌, ◌⊎◌, inl, inr, ℕ, ◌+◌, ◌-◌, ◌<◌, ◌≤◌, min, List, [], ◌∷◌, ◌++◌, length, slice_get, Option, Some, refl, ap, sym, ◌∙◌, subst, arith}
 use Rattle.std.proofs.lemmas.Bool.{cases_lt}
 use Rattle.std.proofs.lemmas.List.{length_push, get_or_push, get_or_append_left}
@@ -43,7 +43,7 @@ pub record IsBadPiece (t : Description) (v : Version1) (r : Places) (contents : 
   pub held : Holds r q
   pub bad : IsVersion1Good t v file bytes piece → ⊥
 
--- what a verdict tells of the version 1 pieces of the first n files
+-- what a verdict says of the version 1 pieces of the first n files
 abbrev pub IsV1SoFar : Description → Version1 → Places → Contents → ℕ → V1Verdict → Type 0
 IsV1SoFar t v r contents n version1.NotChecked = Unit {0}
 IsV1SoFar t v r contents n version1.Good = (bound : ℕ) → AllBefore t v r contents n bound
@@ -63,7 +63,7 @@ before_one t v r contents n bound f there all one p m k g bytes lt at held low =
       }) (omega (arith, at.piece_is, low))
 ]
 
--- what a file's verdict tells of those before this one
+-- what a file's verdict says of those before this one
 before_good : (t : Description) (v : Version1) (r : Places) (f : FileEntry) (content : Option (List ℕ)) (bound : ℕ)
     → IsFileV1 t v r f content version1.Good → FileBefore t v r f content bound
 before_good t v r f content bound good k bytes has low = good k bytes has
@@ -152,17 +152,17 @@ same_file t contents p m n k j f g bytes own sound one other = elim (cases_lt m 
   ]
 ]
 
--- what is told of all files
+-- what is found of all files
 pub v1_all : (t : Description) (v : Version1) (r : Places) (contents : Contents) (n : ℕ) (a : V1Verdict) → IsSound t → n ≡ length t.files
     → IsV1SoFar t v r contents n a → IsPartV1 t v r contents a
-v1_all t v r contents n version1.NotChecked sound all told = tt
-v1_all t v r contents n version1.Good sound all told = λ p m k f bytes at held.
-    told (p + 1) p m k f bytes (omega (arith, all, slice_get_within t.files m f at.there)) at held (let lt : p < p + 1 = omega arith in lt)
-v1_all t v r contents n (version1.Bad q) sound all told = (
-  told.0.held,
-  piece_inside t contents q told.0.number told.0.piece told.0.file told.0.bytes sound told.0.at,
+v1_all t v r contents n version1.NotChecked sound all stated = tt
+v1_all t v r contents n version1.Good sound all stated = λ p m k f bytes at held.
+    stated (p + 1) p m k f bytes (omega (arith, all, slice_get_within t.files m f at.there)) at held (let lt : p < p + 1 = omega arith in lt)
+v1_all t v r contents n (version1.Bad q) sound all stated = (
+  stated.0.held,
+  piece_inside t contents q stated.0.number stated.0.piece stated.0.file stated.0.bytes sound stated.0.at,
   λ m k f bytes at good.
-      let b = told.0 in
+      let b = stated.0 in
       let same : b.number ≡ m = same_file t contents q b.number m b.piece k b.file f b.bytes bytes sound b.at at in
       let f_is : f ≡ b.file = same_Some f b.file (sym at.there ∙ ap (slice_get t.files) (sym same) ∙ b.at.there) in
       let bytes_is : bytes ≡ b.bytes = same_Some bytes b.bytes (sym at.content ∙ ap contents (sym same) ∙ b.at.content) in
@@ -170,7 +170,7 @@ v1_all t v r contents n (version1.Bad q) sound all told = (
       let k_is : k ≡ b.piece = omega (arith, first_is, at.piece_is, b.at.piece_is) in
       b.bad (subst (λ j. IsVersion1Good t v b.file b.bytes j) k_is
       (subst (λ bs. IsVersion1Good t v b.file bs k) bytes_is (subst (λ g. IsVersion1Good t v g bytes k) f_is good))),
-  λ p m k f bytes at held lt. told.1 p m k f bytes (omega (arith, all, slice_get_within t.files m f at.there)) at held lt,
+  λ p m k f bytes at held lt. stated.1 p m k f bytes (omega (arith, all, slice_get_within t.files m f at.there)) at held lt,
 )
   where
     piece_inside : (t : Description) (contents : Contents) (p m k : ℕ) (f : FileEntry) (bytes : List ℕ) → IsSound t → IsPieceAt t contents p m k f bytes
@@ -183,20 +183,20 @@ v1_all t v r contents n (version1.Bad q) sound all told = (
               (m + 1),
         )
 
--- ---- all that is told
+-- ---- all that is found
 
--- what is told of the first n files
-pub record IsToldOfFirst (t : Description) (r : Places) (contents : Contents) (n : ℕ) (files : List FileVerdict) (v1 : V1Verdict) : Type 0 where
+-- what is found of the first n files
+pub record IsFoundOfFirst (t : Description) (r : Places) (contents : Contents) (n : ℕ) (files : List FileVerdict) (v1 : V1Verdict) : Type 0 where
   pub each : (m : ℕ) (f : FileEntry) (v : FileVerdict) → slice_get t.files m ≡ Some f → slice_get files m ≡ Some v → IsPartVerdict t r f (contents m) v
   pub version1 : (v : Version1) → t.v1 ≡ Some v → IsV1SoFar t v r contents n v1
 
--- what was found of them, of a shelf that tells this of its paths
+-- what was found of them, on a shelf that holds this
 pub record HasFoundFirst (t : Description) (r : Places) (under : List (List ℕ) → Option (Option (List ℕ))) (n : ℕ) (files : List FileVerdict) (v1 : V1Verdict)
     : Type 0 where
   pub seen : List (Option (List ℕ))
   pub count : length seen ≡ n
   pub agree : (k : ℕ) (f : FileEntry) (c : Option (List ℕ)) → slice_get t.files k ≡ Some f → slice_get seen k ≡ Some c → Agrees (under f.path) c
-  pub told : (contents : Contents) → Extends seen contents → IsToldOfFirst t r contents n files v1
+  pub stated : (contents : Contents) → Extends seen contents → IsFoundOfFirst t r contents n files v1
 
 -- an item of a list that one more was pushed to
 pub pushed_at : {A : Type 0} (xs : List A) (x y : A) (k : ℕ) → slice_get (xs ++ x ∷ []) k ≡ Some y → (slice_get xs k ≡ Some y) ⊎ ((k ≡ length xs) × (x ≡ y))
@@ -219,10 +219,10 @@ pushed_last : {A : Type 0} (xs : List A) (x : A) (k : ℕ) → k ≡ length xs �
 pushed_last xs x k at =
     slice_get-get_or (xs ++ x ∷ []) k x (omega (arith, length_push xs x)) ∙ ap Some (get_or_push xs x x k (sym at))
 
-told_one : (t : Description) (r : Places) (contents : Contents) (n : ℕ) (files : List FileVerdict) (a : V1Verdict) (f : FileEntry)
-    (told : Option (Option (List ℕ))) (v : Verdicts) → slice_get t.files n ≡ Some f → length files ≡ n → (found : FindsFile t r f told v)
-    → contents n ≡ found.content → IsToldOfFirst t r contents n files a → IsToldOfFirst t r contents (n + 1) (files ++ v.file ∷ []) (worse_v1 a v.v1)
-told_one t r contents n files a f told v there count found is so_far = record {
+one_found : (t : Description) (r : Places) (contents : Contents) (n : ℕ) (files : List FileVerdict) (a : V1Verdict) (f : FileEntry)
+    (stated : Option (Option (List ℕ))) (v : Verdicts) → slice_get t.files n ≡ Some f → length files ≡ n → (found : FindsFile t r f stated v)
+    → contents n ≡ found.content → IsFoundOfFirst t r contents n files a → IsFoundOfFirst t r contents (n + 1) (files ++ v.file ∷ []) (worse_v1 a v.v1)
+one_found t r contents n files a f stated v there count found is so_far = record {
   each = λ m g w at said. elim (pushed_at files v.file w m said) [
     | inl before ↦ so_far.each m g w at before
     | inr last ↦
@@ -249,10 +249,10 @@ found_one t r under n files a f v there count found so_far = record {
         let same : f ≡ g = same_Some f g (sym there ∙ ap (slice_get t.files) (sym (last.0 ∙ so_far.count)) ∙ at) in
         subst (λ h. Agrees (under h.path) c) same (subst (Agrees (under f.path)) last.1 found.agrees)
   ];
-  told = λ contents extends.
-      told_one t r contents n files a f (under f.path) v there count found
+  stated = λ contents extends.
+      one_found t r contents n files a f (under f.path) v there count found
       (extends n found.content (pushed_last so_far.seen found.content n (sym so_far.count)))
-      (so_far.told contents (λ k c at. extends k c (pushed_before so_far.seen found.content c k at)));
+      (so_far.stated contents (λ k c at. extends k c (pushed_before so_far.seen found.content c k at)));
 }
 
 -- none yet
@@ -261,7 +261,7 @@ found_none t r under = record {
   seen = [];
   count = refl;
   agree = λ k f c there at. absurd (let lt = slice_get_within [] k c at in omega (arith, lt));
-  told = λ contents extends. record {
+  stated = λ contents extends. record {
     each = λ m f v there at. absurd (let lt = slice_get_within [] m v at in omega (arith, lt));
     version1 = λ v hybrid bound p m k f bytes lt at held low. absurd (omega (arith, lt));
   };

@@ -28,21 +28,21 @@ use Rattle.parts.proofs.HeldPieces.{between_held, held_between, piece_touches}
 
 -- ---- contents
 
--- what a shelf tells of a path, or nothing
+-- what a shelf holds under a path, or nothing
 abbrev known : Option (Option (List ℕ)) → Option (List ℕ)
-known told = unwrap_or told None
+known stated = unwrap_or stated None
 
-known_agrees : (told : Option (Option (List ℕ))) → Agrees told (known told)
-known_agrees told there is = sym (ap (λ o. unwrap_or o None) is)
+known_agrees : (stated : Option (Option (List ℕ))) → Agrees stated (known stated)
+known_agrees stated there is = sym (ap (λ o. unwrap_or o None) is)
 
--- the content that goes on so from an offset, and is the one that a shelf tells
-pub record GoesOn (told : Option (Option (List ℕ))) (offset : ℕ) (rest : List ℕ) : Type 0 where
+-- the content that goes on so from an offset, and is the one that a shelf holds
+pub record GoesOn (stated : Option (Option (List ℕ))) (offset : ℕ) (rest : List ℕ) : Type 0 where
   pub bytes : List ℕ
-  pub agrees : Agrees told (Some bytes)
+  pub agrees : Agrees stated (Some bytes)
   pub from_there : drop offset bytes ≡ rest
 
-pub goes_on_so : (told : Option (Option (List ℕ))) (offset : ℕ) (left : Option (List ℕ)) (rest : List ℕ) → IsFound (from_offset offset told) (Some left)
-    → Agrees left rest → GoesOn told offset rest
+pub goes_on_so : (stated : Option (Option (List ℕ))) (offset : ℕ) (left : Option (List ℕ)) (rest : List ℕ) → IsFound (from_offset offset stated) (Some left)
+    → Agrees left rest → GoesOn stated offset rest
 goes_on_so None offset left rest found gave = record {
   bytes = replicate offset 0 ++ rest;
   agrees = λ there is. (let no : ⊥ = cc in absurd no);
@@ -57,7 +57,7 @@ goes_on_so (Some (Some there)) offset left rest found gave = record {
 
 -- ---- the verdicts
 
--- the file is as its verdict tells
+-- the file is as its verdict says
 good_or_bad : (t : Description) (r : Places) (f : FileEntry) (s : Span) (bytes : List ℕ) (bad : Option ℕ) → IsSpanOf t r f s
     → (IsTrue s.ends → length bytes ≡ f.length) → IsFirstBad s.from s.to (IsPieceGood t f bytes) bad
     → IsPartVerdict t r f (Some bytes) (file_says f.first_piece bad)
@@ -109,9 +109,9 @@ says_checked first (Some p) (Some q) = refl
 -- ---- what was found
 
 -- the verdicts are these two
-as_both : (t : Description) (r : Places) (f : FileEntry) (told : Option (Option (List ℕ))) (v : Verdicts) (a : FileVerdict) (b : V1Verdict)
-    → v.file ≡ a → v.v1 ≡ b → FindsFile t r f told (record { file = a; v1 = b }) → FindsFile t r f told v
-as_both t r f told v a b at bt found = record {
+as_both : (t : Description) (r : Places) (f : FileEntry) (stated : Option (Option (List ℕ))) (v : Verdicts) (a : FileVerdict) (b : V1Verdict)
+    → v.file ≡ a → v.v1 ≡ b → FindsFile t r f stated (record { file = a; v1 = b }) → FindsFile t r f stated v
+as_both t r f stated v a b at bt found = record {
   content = found.content;
   agrees = found.agrees;
   verdict = subst (IsPartVerdict t r f found.content) (sym at) found.verdict;
@@ -120,52 +120,52 @@ as_both t r f told v a b at bt found = record {
 }
 
 -- the file is unreadable, and may have any content
-pub finds_unreadable : (t : Description) (r : Places) (f : FileEntry) (told : Option (Option (List ℕ))) (v : Verdicts)
-    → v.file ≡ file.Unreadable → v.v1 ≡ version1.NotChecked → FindsFile t r f told v
-finds_unreadable t r f told v at bt = as_both t r f told v file.Unreadable version1.NotChecked at bt (record {
-  content = known told;
-  agrees = known_agrees told;
+pub finds_unreadable : (t : Description) (r : Places) (f : FileEntry) (stated : Option (Option (List ℕ))) (v : Verdicts)
+    → v.file ≡ file.Unreadable → v.v1 ≡ version1.NotChecked → FindsFile t r f stated v
+finds_unreadable t r f stated v at bt = as_both t r f stated v file.Unreadable version1.NotChecked at bt (record {
+  content = known stated;
+  agrees = known_agrees stated;
   verdict = tt;
   version1 = λ w hybrid. tt;
   checked = refl;
 })
 
 -- the file has no place in the part
-pub finds_other : (t : Description) (r : Places) (f : FileEntry) (told : Option (Option (List ℕ))) (v : Verdicts) → (Touches t r f → ⊥)
-    → v.file ≡ file.Good → v.v1 ≡ version1.Good → FindsFile t r f told v
-finds_other t r f told v other at bt = as_both t r f told v file.Good version1.Good at bt (record {
-  content = known told;
-  agrees = known_agrees told;
+pub finds_other : (t : Description) (r : Places) (f : FileEntry) (stated : Option (Option (List ℕ))) (v : Verdicts) → (Touches t r f → ⊥)
+    → v.file ≡ file.Good → v.v1 ≡ version1.Good → FindsFile t r f stated v
+finds_other t r f stated v other at bt = as_both t r f stated v file.Good version1.Good at bt (record {
+  content = known stated;
+  agrees = known_agrees stated;
   verdict = λ touched. absurd (other touched);
   version1 = λ w hybrid k bytes has. absurd (other (piece_touches t r f k has.inside has.held));
   checked = refl;
 })
 
 -- the file was opened at the first of its pieces in the part, and read
-pub finds_read : (t : Description) (r : Places) (f : FileEntry) (s : Span) (told : Option (Option (List ℕ))) (left : Option (List ℕ))
+pub finds_read : (t : Description) (r : Places) (f : FileEntry) (s : Span) (stated : Option (Option (List ℕ))) (left : Option (List ℕ))
     (answer : Result (Option Found) DeviceFault) (v : Verdicts)
-    → IsSpanOf t r f s → IsFound (from_offset (t.piece_length * s.from) told) (Some left) → IfOk answer (FindsPieces t f s left)
-    → SaysFound f.first_piece answer v → FindsFile t r f told v
-finds_read t r f s told left (Ok (Some found)) v span opened read says =
-    let on = goes_on_so told (t.piece_length * s.from) left read.0 opened read.1 in
+    → IsSpanOf t r f s → IsFound (from_offset (t.piece_length * s.from) stated) (Some left) → IfOk answer (FindsPieces t f s left)
+    → SaysFound f.first_piece answer v → FindsFile t r f stated v
+finds_read t r f s stated left (Ok (Some found)) v span opened read says =
+    let on = goes_on_so stated (t.piece_length * s.from) left read.0 opened read.1 in
     let judged = read.2 on.bytes on.from_there in
-    as_both t r f told v (file_says f.first_piece found.bad) (v1_says f.first_piece found.bad_cut) says.0 says.1 (record {
+    as_both t r f stated v (file_says f.first_piece found.bad) (v1_says f.first_piece found.bad_cut) says.0 says.1 (record {
       content = Some on.bytes;
       agrees = on.agrees;
       verdict = good_or_bad t r f s on.bytes found.bad span judged.0 judged.1.0;
       version1 = λ w hybrid. v1_good_or_bad t w r f s on.bytes found.bad_cut span (judged.1.1 w hybrid);
       checked = says_checked f.first_piece found.bad found.bad_cut;
     })
-finds_read t r f s told left (Ok None) v span opened read says =
-    let on = goes_on_so told (t.piece_length * s.from) left read.0 opened read.1 in
-    as_both t r f told v file.WrongLength version1.NotChecked says.0 says.1 (record {
+finds_read t r f s stated left (Ok None) v span opened read says =
+    let on = goes_on_so stated (t.piece_length * s.from) left read.0 opened read.1 in
+    as_both t r f stated v file.WrongLength version1.NotChecked says.0 says.1 (record {
       content = Some on.bytes;
       agrees = on.agrees;
       verdict = (on.bytes, refl, read.2 on.bytes on.from_there);
       version1 = λ w hybrid. tt;
       checked = refl;
     })
-finds_read t r f s told left (Err e) v span opened read says = finds_unreadable t r f told v says.0 says.1
+finds_read t r f s stated left (Err e) v span opened read says = finds_unreadable t r f stated v says.0 says.1
 
 -- ---- numbers
 

@@ -12,6 +12,9 @@ pub mod PartReads
 pub mod PieceNodes
 pub mod PlaceTests
 pub mod Ranks
+pub mod RowCuts
+pub mod RowPieces
+pub mod RowReads
 pub mod Rows
 pub mod RunLines
 pub mod Runs

@@ -135,7 +135,7 @@ one_v1 t v contents version1.NotChecked version1.Good checked a_is b_is = let no
 one_v1 t v contents version1.NotChecked (version1.Bad j) checked a_is b_is = let no : ⊥ = cc in absurd no
 one_v1 t v contents version1.NotChecked version1.NotChecked checked a_is b_is = refl
 
-some_of : {A : Type 0} (o : Option A) → is_some o ≡ true → (x : A) × (o ≡ Some x)
+pub some_of : {A : Type 0} (o : Option A) → is_some o ≡ true → (x : A) × (o ≡ Some x)
 some_of None h = let no : ⊥ = cc in absurd no
 some_of (Some x) h = (x, refl)
 
@@ -149,7 +149,7 @@ same_files t contents files others v1 other_v1 sound one other none none_of = sa
     let w = at_length others n (omega (arith, lt, one.has.count, other.has.count)) in
     get_or_from_slice_get files n v.0 d v.1
     ∙ one_verdict t n f.0 (contents n) v.0 w.0 sound f.1 (none_unreadable files n v.0 none v.1) (none_unreadable others n w.0 none_of w.1)
-    (one.tells.each n f.0 v.0 f.1 v.1) (other.tells.each n f.0 w.0 f.1 w.1)
+    (one.are_true.each n f.0 v.0 f.1 v.1) (other.are_true.each n f.0 w.0 f.1 w.1)
     ∙ sym (get_or_from_slice_get others n w.0 d w.1))
 
 same_v1 : (t : Description) (contents : Contents) (files others : List FileVerdict) (v1 other_v1 : Option V1Verdict)
@@ -166,7 +166,7 @@ same_v1 t contents files others (Some a) None one other same = let no : true ≡
 same_v1 t contents files others (Some a) (Some b) one other same =
     let v = some_of t.v1 (sym one.has.hybrid) in
     ap Some (one_v1 t v.0 contents a b (one.has.checked a refl ∙ ap (list_all is_whole) same ∙ sym (other.has.checked b refl))
-    (one.tells.version1 v.0 a v.1 refl) (other.tells.version1 v.0 b v.1 refl))
+    (one.are_true.version1 v.0 a v.1 refl) (other.are_true.version1 v.0 b v.1 refl))
 
 pub report_is_one : (t : Description) (contents : Contents) (files others : List FileVerdict) (v1 other_v1 : Option V1Verdict) → IsSound t
     → IsReportOf t contents files v1 → IsReportOf t contents others other_v1 → unreadable_count files ≡ 0 → unreadable_count others ≡ 0 → (files ≡ others)

@@ -51,7 +51,7 @@ touch_to_has t r f touched =
     (is_at_most held (last_place t f) (omega (arith, touched.1, touched.2, touched.3.0)))
     (is_below held r.to (omega (arith, touched.1, touched.3.0, touched.3.1)))
 
--- what tells whether the file touches the places is their test
+-- their test says whether the file touches the places
 pub place_test : (t : Description) (r : Places) (f : FileEntry) (b : Bool) → (IsTrue b → Touches t r f) × (Touches t r f → IsTrue b) → b ≡ has_place t r f
 place_test t r f b is =
     one_test b (has_place t r f) (λ on. touch_to_has t r f (is.0 on)) (λ on. is.1 (has_to_touch t r f on))

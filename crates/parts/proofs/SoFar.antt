@@ -8,8 +8,9 @@ use Rattle.std.specs.Io.KnownBytes.{Consumes, IsAtEnd}
 use Rattle.opening.specs.Description.{Description, FileEntry, Version1}
 use Rattle.folders.proofs.Places.{within_pieces}
 use Rattle.folders.specs.Verdicts.{Agrees}
-use Rattle.parts.specs.FilePieces.{AreJudged, IsBelow, first_of}
+use Rattle.parts.specs.FilePieces.{AreJudgedFrom, IsBelow, first_of}
 use Rattle.parts.specs.OnePiece.{IsCutListed, IsJudged, IsRead, piece_size}
+use Rattle.parts.specs.RowChecks.{row_bytes}
 use Rattle.parts.specs.Spans.{IsSpan}
 use Rattle.parts.specs.Parts.{IsPieceGood, IsVersion1Good, piece_count}
 use Rattle.parts.specs.declared.judging.Judged.{Judged}
@@ -18,13 +19,7 @@ use Rattle.parts.proofs.Files.{one_piece}
 use Rattle.parts.proofs.GoodPieces.{first_next}
 use Rattle.parts.proofs.Streams.{in_pieces}
 
--- these bytes were read from the first of the pieces on, and the pieces before this number judged
-pub record JudgedSoFar (t : Description) (f : FileEntry) (from number : ℕ) (given : List ℕ) (bad bad_cut : Option ℕ) : Type 0 where
-  pub count : length given + t.piece_length * from ≡ min (t.piece_length * number) f.length
-  pub judged : (bytes xs : List ℕ) → drop (t.piece_length * from) bytes ≡ given ++ xs → (number ≡ piece_count t f → length bytes ≡ f.length)
-      → AreJudged t f from number bytes bad bad_cut
-
-pub none_so_far : (t : Description) (f : FileEntry) (from : ℕ) → t.piece_length * from ≤ f.length → JudgedSoFar t f from from [] None None
+pub none_so_far : (t : Description) (f : FileEntry) (from : ℕ) → t.piece_length * from ≤ f.length → AreJudgedFrom t f from from [] None None
 none_so_far t f from le = record {
   count = omega (arith, le);
   judged = λ bytes xs is len. (λ k low lt. absurd (omega (arith, low, lt)), λ v hybrid k low lt. absurd (omega (arith, low, lt)));
@@ -85,8 +80,8 @@ read_next t f bytes given own xs from number positive lt count size is end =
 -- one piece more
 pub more_so_far : (t : Description) (f : FileEntry) (from number : ℕ) (given own : List ℕ) (bad bad_cut : Option ℕ) (j : Judged) → 0 < t.piece_length
     → from ≤ number → number < piece_count t f
-    → length own ≡ piece_size t f number → IsJudged t f number own j → JudgedSoFar t f from number given bad bad_cut
-    → JudgedSoFar t f from (number + 1) (given ++ own) (first_of bad number j.good) (first_of bad_cut number j.cut_good)
+    → length own ≡ piece_size t f number → IsJudged t f number own j → AreJudgedFrom t f from number given bad bad_cut
+    → AreJudgedFrom t f from (number + 1) (given ++ own) (first_of bad number j.good) (first_of bad_cut number j.cut_good)
 more_so_far t f from number given own bad bad_cut j positive le lt size is so_far =
     let pl : ℕ = t.piece_length in
     let below : pl * number < f.length = in_pieces pl number f.length positive lt in
@@ -133,18 +128,16 @@ agrees_more (Some xs) (Some ys) bs gave = (ys, λ there is. sym (same_Some xs th
 
 -- ---- the end
 
--- the source ended before a piece did
-pub too_short : (t : Description) (f : FileEntry) (from number : ℕ) (given more bytes : List ℕ) (bad bad_cut : Option ℕ)
-    → JudgedSoFar t f from number given bad bad_cut
-    → t.piece_length * number < f.length → length more < piece_size t f number → drop (t.piece_length * from) bytes ≡ given ++ more → length bytes ≢ f.length
-too_short t f from number given more bytes bad bad_cut so_far below short at len =
-    let lens : length bytes - t.piece_length * from ≡ length given + length more = sym (length-drop (t.piece_length * from) bytes) ∙ ap length at
-    ∙ length-append given more in
-    omega (arith, lens, len, short, below, so_far.count)
+-- the source ended before the pieces did
+pub row_too_short : (t : Description) (f : FileEntry) (from to : ℕ) (more bytes : List ℕ) → length more < row_bytes t f from to
+    → drop (t.piece_length * from) bytes ≡ more → length bytes ≢ f.length
+row_too_short t f from to more bytes short at len =
+    let lens : length bytes - t.piece_length * from ≡ length more = sym (length-drop (t.piece_length * from) bytes) ∙ ap length at in
+    omega (arith, lens, len, short)
 
 -- the source had more
 pub too_long : (t : Description) (f : FileEntry) (from number : ℕ) (given more bytes : List ℕ) (bad bad_cut : Option ℕ)
-    → JudgedSoFar t f from number given bad bad_cut
+    → AreJudgedFrom t f from number given bad bad_cut
     → f.length ≤ t.piece_length * number → 0 < length more → drop (t.piece_length * from) bytes ≡ given ++ more → length bytes ≢ f.length
 too_long t f from number given more bytes bad bad_cut so_far above some at len =
     let lens : length bytes - t.piece_length * from ≡ length given + length more = sym (length-drop (t.piece_length * from) bytes) ∙ ap length at
@@ -153,7 +146,7 @@ too_long t f from number given more bytes bad bad_cut so_far above some at len =
 
 -- the source ended where the file does
 pub as_long : (t : Description) (f : FileEntry) (from number : ℕ) (given bytes : List ℕ) (bad bad_cut : Option ℕ)
-    → JudgedSoFar t f from number given bad bad_cut
+    → AreJudgedFrom t f from number given bad bad_cut
     → f.length ≤ t.piece_length * number → (t.piece_length * from ≡ 0) ⊎ (t.piece_length * from < f.length) → drop
     (t.piece_length * from) bytes ≡ given → length bytes ≡ f.length
 as_long t f from number given bytes bad bad_cut so_far above begins at =

@@ -147,7 +147,7 @@ in_pieces pl k len some lt =
     let more : pl * (k + 1) ≤ pl * pieces_of pl len = mul-le-mul_left pl (let le : k + 1 ≤ pieces_of pl len = omega (arith, lt) in le) in
     omega (arith, low, more, some)
 
-to_pieces : (pl k len : ℕ) → 0 < pl → pl * k < len → k < pieces_of pl len
+pub to_pieces : (pl k len : ℕ) → 0 < pl → pl * k < len → k < pieces_of pl len
 to_pieces pl k len some lt =
     let high : len + (pl - 1) < pieces_of pl len * pl + pl = lt-div-mul-add {a = len + (pl - 1)} {b = pl} some in
     elim (cases_lt k (pieces_of pl len)) [

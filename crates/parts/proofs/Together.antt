@@ -21,7 +21,7 @@ use Rattle.folders.proofs.Reports.{yes_is_sure}
 use Rattle.parts.specs.Collisions.{FileCollides}
 use Rattle.parts.specs.Joins.{IsJoin, NoWorse, NoWorseV1, says_of, says_of_v1}
 use Rattle.parts.specs.Laws.{IsReportOf}
-use Rattle.parts.specs.Parts.{AreAllPlaces, Holds, IsPartV1, IsPieceAt, IsVersion1Good, PartReport, TellsPart}
+use Rattle.parts.specs.Parts.{AreAllPlaces, Holds, IsPartV1, IsPieceAt, IsVersion1Good, PartReport, IsTruePart}
 use Rattle.parts.specs.Parts.{place_count}
 use Rattle.parts.proofs.Joined.{ContentCollides, good_joined, joined}
 use Rattle.parts.proofs.Streams.{AreWhole, at_length, digest_is, has_piece, place_of_piece, stream_there}
@@ -29,17 +29,17 @@ use Rattle.parts.proofs.Worst.{below_or, both, all_at, all_from, one_not, whole_
 use Rattle.parts.proofs.Worst.{few_pieces}
 
 module _ (t : Description) (contents : Contents) (parts : List PartReport) (files : List FileVerdict) (v1 : Option V1Verdict) (sound : IsSound t)
-    (all : AreAllPlaces t parts) (tells : (i : ℕ) (p : PartReport) → slice_get parts i ≡ Some p → TellsPart t contents p) (join : IsJoin t parts files v1) where
+    (all : AreAllPlaces t parts) (are_true : (i : ℕ) (p : PartReport) → slice_get parts i ≡ Some p → IsTruePart t contents p) (join : IsJoin t parts files v1) where
   -- ---- what a part says
 
   says_file : (i : ℕ) (p : PartReport) → slice_get parts i ≡ Some p → (n : ℕ) → n < length t.files → slice_get p.files n ≡ Some (says_of n p)
   says_file i p at n lt =
-      let found = at_length p.files n (omega (arith, lt, (tells i p at).count)) in
+      let found = at_length p.files n (omega (arith, lt, (are_true i p at).count)) in
       found.1 ∙ ap Some (sym (ap (λ o. unwrap_or o file.Good) found.1))
 
   says_v1 : (i : ℕ) (p : PartReport) → slice_get parts i ≡ Some p → is_some t.v1 ≡ true → p.v1 ≡ Some (says_of_v1 p)
   says_v1 i p at hybrid =
-      let found = some_of p.v1 ((tells i p at).hybrid ∙ hybrid) in
+      let found = some_of p.v1 ((are_true i p at).hybrid ∙ hybrid) in
       found.1 ∙ ap Some (sym (ap (λ o. unwrap_or o version1.Good) found.1))
 
   -- ---- files
@@ -72,7 +72,7 @@ module _ (t : Description) (contents : Contents) (parts : List PartReport) (file
           ⊎ ContentCollides t f (contents n)
       one f v there said =
           joined (λ (p : PartReport). p.places) (says_of n) parts t n f (contents n) sound there
-          (λ i p at. (tells i p at).each n f (says_of n p) there (says_file i p at n (slice_get_within t.files n f there)))
+          (λ i p at. (are_true i p at).each n f (says_of n p) there (says_file i p at n (slice_get_within t.files n f there)))
           (λ x from to. all x (place_of_piece t n f x sound there to))
           v (join.each n v said)
 
@@ -84,7 +84,7 @@ module _ (t : Description) (contents : Contents) (parts : List PartReport) (file
     | inr one ↦
         let hybrid : is_some t.v1 ≡ true = sym join.hybrid ∙ ap is_some is in
         let own : is_checked (says_of_v1 one.1) ≡ true = checked_up (says_of_v1 one.1) v ((join.version1 v is).no_worse one.0 one.1 one.2) checked in
-        let each : list_all is_whole one.1.files ≡ true = sym ((tells one.0 one.1 one.2).checked (says_of_v1 one.1) (says_v1 one.0 one.1 one.2 hybrid)) ∙ own in
+        let each : list_all is_whole one.1.files ≡ true = sym ((are_true one.0 one.1 one.2).checked (says_of_v1 one.1) (says_v1 one.0 one.1 one.2 hybrid)) ∙ own in
         ap is_whole (sym one.3)
         ∙ all_at is_whole one.1.files n (says_of n one.1) each
         (says_file one.0 one.1 one.2 n (omega (arith, slice_get_within files n w said, join.count)))
@@ -96,12 +96,12 @@ module _ (t : Description) (contents : Contents) (parts : List PartReport) (file
     | inr one ↦
         let hybrid : is_some t.v1 ≡ true = sym join.hybrid ∙ ap is_some is in
         let off : list_all is_whole one.1.files ≡ false =
-        sym ((tells one.0 one.1 one.2).checked (says_of_v1 one.1) (says_v1 one.0 one.1 one.2 hybrid)) ∙ ap is_checked (one.3 ∙ not) in
+        sym ((are_true one.0 one.1 one.2).checked (says_of_v1 one.1) (says_v1 one.0 one.1 one.2 hybrid)) ∙ ap is_checked (one.3 ∙ not) in
         let broken = one_not is_whole one.1.files off in
         let inside : broken.0 < length files = omega (
           arith,
           slice_get_within one.1.files broken.0 broken.1 broken.2,
-          (tells one.0 one.1 one.2).count,
+          (are_true one.0 one.1 one.2).count,
           join.count,
         ) in
         let w = at_length files broken.0 inside in
@@ -130,8 +130,8 @@ module _ (t : Description) (contents : Contents) (parts : List PartReport) (file
         → (n k : ℕ) (f : FileEntry) (bytes : List ℕ) → IsPieceAt t contents p n k f bytes → IsVersion1Good t v f bytes k
     piece_listed said is whole p lt which n k f bytes at =
         let held = all p (omega (arith, lt)) in
-        let told = (tells held.0 held.1 held.2).version1 v (says_of_v1 held.1) hybrid (says_v1 held.0 held.1 held.2 (ap is_some hybrid)) in
-        by_said (says_of_v1 held.1) held.1 held.3 told (own (says_of_v1 held.1) ((join.version1 said is).no_worse held.0 held.1 held.2) which)
+        let stated = (are_true held.0 held.1 held.2).version1 v (says_of_v1 held.1) hybrid (says_v1 held.0 held.1 held.2 (ap is_some hybrid)) in
+        by_said (says_of_v1 held.1) held.1 held.3 stated (own (says_of_v1 held.1) ((join.version1 said is).no_worse held.0 held.1 held.2) which)
       where
         own : (u : V1Verdict) → NoWorseV1 u said → ((said ≡ version1.Good) ⊎ ((q : ℕ) × (said ≡ version1.Bad q) × (p < q)))
             → (u ≡ version1.Good) ⊎ ((r : ℕ) × (u ≡ version1.Bad r) × (p < r))
@@ -142,8 +142,8 @@ module _ (t : Description) (contents : Contents) (parts : List PartReport) (file
         by_said : (u : V1Verdict) (part : PartReport) → Holds part.places p → IsPartV1 t v part.places contents u → (u ≡ version1.Good)
             ⊎ ((r : ℕ) × (u ≡ version1.Bad r) × (p < r))
             → IsVersion1Good t v f bytes k
-        by_said u part held told (inl good) = (subst (IsPartV1 t v part.places contents) good told) p n k f bytes at held
-        by_said u part held told (inr bad) = (subst (IsPartV1 t v part.places contents) bad.1 told).3 p n k f bytes at held bad.2
+        by_said u part held stated (inl good) = (subst (IsPartV1 t v part.places contents) good stated) p n k f bytes at held
+        by_said u part held stated (inr bad) = (subst (IsPartV1 t v part.places contents) bad.1 stated).3 p n k f bytes at held bad.2
 
     -- the pieces are where the stream has its cuts
     piece_at : AreWhole t contents → (p : ℕ) → p < place_count t - 1 → (n : ℕ) × (k : ℕ) × (f : FileEntry) × (bytes : List ℕ)
@@ -190,12 +190,12 @@ module _ (t : Description) (contents : Contents) (parts : List PartReport) (file
           elim ((join.version1 (version1.Bad q) is).one) [
             | inl best ↦ let no : ⊥ = cc in absurd no
             | inr one ↦
-                let told = subst (IsPartV1 t v one.1.places contents) one.3
-                ((tells one.0 one.1 one.2).version1 v (says_of_v1 one.1) hybrid (says_v1 one.0 one.1 one.2 (ap is_some hybrid))) in
-                let at = piece_at whole q told.1 in
+                let stated = subst (IsPartV1 t v one.1.places contents) one.3
+                ((are_true one.0 one.1 one.2).version1 v (says_of_v1 one.1) hybrid (says_v1 one.0 one.1 one.2 (ap is_some hybrid))) in
+                let at = piece_at whole q stated.1 in
                 record {
-                  same_before = λ p lt. same_digest (version1.Bad q) is whole s.0 s.1 p (omega (arith, lt, told.1)) (inr (q, refl, lt));
-                  differs = λ same. told.2 at.0 at.1 at.2 at.3 at.4
+                  same_before = λ p lt. same_digest (version1.Bad q) is whole s.0 s.1 p (omega (arith, lt, stated.1)) (inr (q, refl, lt));
+                  differs = λ same. stated.2 at.0 at.1 at.2 at.3 at.4
                       (ap (slice_get v.pieces) (sym at.4.piece_is) ∙ sym same ∙ digest_is t contents v s.0 q at.0 at.1 at.2 at.3 sound hybrid whole s.1 at.4);
                 }
           ],
@@ -217,7 +217,7 @@ module _ (t : Description) (contents : Contents) (parts : List PartReport) (file
       let is : w ≡ file.Good = good_verdict w good in
       subst (IsVerdict t f (contents n)) (sym is)
       (good_joined (λ (p : PartReport). p.places) (says_of n) parts t n f (contents n) sound there
-      (λ i p at. (tells i p at).each n f (says_of n p) there (says_file i p at n (slice_get_within t.files n f there)))
+      (λ i p at. (are_true i p at).each n f (says_of n p) there (says_file i p at n (slice_get_within t.files n f there)))
       (λ x from to. all x (place_of_piece t n f x sound there to))
       (subst (λ v. (i : ℕ) (p : PartReport) → slice_get parts i ≡ Some p → NoWorse (says_of n p) v) is (join.each n w said).no_worse))
 
@@ -225,9 +225,9 @@ module _ (t : Description) (contents : Contents) (parts : List PartReport) (file
   yes said =
       let goods = both (list_all is_good files) (stream_is_good v1) said in
       let each : (n : ℕ) (f : FileEntry) (v : FileVerdict) → slice_get t.files n ≡ Some f → slice_get files n ≡ Some v → IsVerdict t f (contents n) v =
-      λ n f v there told. good_file n f v there told (all_at is_good files n v goods.0 told) in
+      λ n f v there stated. good_file n f v there stated (all_at is_good files n v goods.0 stated) in
       yes_is_sure t contents files v1 (record { count = join.count; hybrid = join.hybrid; checked = checked_is })
-      (record { each = each; version1 = λ v told hybrid is. stream_verdict each v hybrid told is }) said
+      (record { each = each; version1 = λ v stated hybrid is. stream_verdict each v hybrid stated is }) said
 
   -- ---- all together
 
@@ -240,6 +240,6 @@ module _ (t : Description) (contents : Contents) (parts : List PartReport) (file
             λ n f v there said. each n (slice_get_within t.files n f there) f v there said in
             inl (record {
               has = record { count = join.count; hybrid = join.hybrid; checked = checked_is };
-              tells = record { each = every; version1 = λ v said hybrid is. stream_verdict every v hybrid said is };
+              are_true = record { each = every; version1 = λ v said hybrid is. stream_verdict every v hybrid said is };
             })
       ]

@@ -90,18 +90,18 @@ PrintsRuns t f MayHave out out' (Err fault.Read) = WentFirst t f MayHave (Sent o
 PrintsRuns t f MayHave out out' (Err fault.Write) = WentFirst t f MayHave (Broke out out')
 PrintsRuns t f MayHave out out' (Err fault.Gone) = ⊥
 
--- What printing the bad pieces of a file did of whose path a shelf tells this, by its answer: there
--- is a content, and the lines of all its runs went out; or those of its first ones, before a read
--- failed, or none, as the opening did; or those of the first ones broke off; or nothing is there,
--- and nothing was printed.
+-- What printing the bad pieces of a file did under whose path a shelf holds this, by its answer:
+-- there is a content, and the lines of all its runs went out; or those of its first ones, before a
+-- read failed, or none, as the opening did; or those of the first ones broke off; or nothing is
+-- there, and nothing was printed.
 abbrev pub PrintsBad : Description → FileEntry → Option (Option (List ℕ)) → SinkSeen → SinkSeen
     → Result (Unit {0}) BadFault → Type 0
-PrintsBad t f told out out' (Ok u) = PrintsRuns t f (λ b. Agrees told (Some b)) out out' (Ok u)
-PrintsBad t f told out out' (Err fault.Read) =
-    (out' ≡ out) ⊎ PrintsRuns t f (λ b. Agrees told (Some b)) out out' (Err fault.Read)
-PrintsBad t f told out out' (Err fault.Write) =
-    PrintsRuns t f (λ b. Agrees told (Some b)) out out' (Err fault.Write)
-PrintsBad t f told out out' (Err fault.Gone) = Agrees told None × (out' ≡ out)
+PrintsBad t f known out out' (Ok u) = PrintsRuns t f (λ b. Agrees known (Some b)) out out' (Ok u)
+PrintsBad t f known out out' (Err fault.Read) =
+    (out' ≡ out) ⊎ PrintsRuns t f (λ b. Agrees known (Some b)) out out' (Err fault.Read)
+PrintsBad t f known out out' (Err fault.Write) =
+    PrintsRuns t f (λ b. Agrees known (Some b)) out out' (Err fault.Write)
+PrintsBad t f known out out' (Err fault.Gone) = Agrees known None × (out' ≡ out)
 
 -- a count of failures grows by one at `Read`, and else stays
 abbrev pub CountsBad : ℕ → ℕ → Result (Unit {0}) BadFault → Type 0

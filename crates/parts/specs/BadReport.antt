@@ -1,14 +1,13 @@
 -- What a check does that prints each file's line, and the bad pieces of the file behind it, as soon
 -- as the file is done. `shelf` stands for what the shelf's type says of its shelves, and `seen` for
 -- what its files say.
-use Rattle.std.specs.Prelude.{◌≡◌, ◌⊎◌, ℕ, Bool, true, false, List, [], ◌∷◌, ◌++◌, length, take, slice_get, Option, Some, Result, Ok, Err}
+use Rattle.std.specs.Prelude.{◌≡◌, ◌⊎◌, Bool, true, false, List, [], ◌∷◌, ◌++◌, length, take, slice_get, Option, Some, Result, Ok, Err}
 use Rattle.benc.specs.Device.{Broke, BrokeOrUnflushed, Sent, SentAndFlushed, SinkSeen, SourceSeen}
 use Rattle.chains.specs.Chain.{Chain}
 use Rattle.folders.specs.FolderCheck.{HasChecked, verdicts_of}
 use Rattle.folders.specs.Printed.{end_text, wanted_text}
-use Rattle.folders.specs.Shelf.{more}
-use Rattle.folders.specs.Stopping.{TellsFirst}
-use Rattle.folders.specs.Verdicts.{HasVerdicts, TellsFolder, unreadable_count}
+use Rattle.folders.specs.Stopping.{AreTrueOfFirst}
+use Rattle.folders.specs.Verdicts.{CountsUnreadable, HasVerdicts, IsTrueOfFolder}
 use Rattle.folders.specs.Visits.{OpensOnce, Visits}
 use Rattle.folders.specs.declared.folder_check.FolderCheck.{FolderCheck}
 use Rattle.folders.specs.declared.lines.Lines.{Lines}
@@ -31,11 +30,6 @@ has_runs file.Missing = false
 has_runs file.Unreadable = false
 has_runs file.WrongLength = true
 has_runs (file.Bad p) = true
-
--- one failure is counted for each unreadable file, and no file is unreadable if the count stays
-pub record CountsUnreadable (old new : ℕ) (files : List FileVerdict) : Type 0 where
-  pub counted : new ≡ more old (unreadable_count files)
-  pub readable : new ≡ old → unreadable_count files ≡ 0
 
 -- a shelf and a sink
 abbrev pub shelf_and_sink : {S : Type 0} → S → SinkSeen → S × SinkSeen
@@ -117,7 +111,7 @@ module _ {S F : Type 0} (shelf : Ghosts S F) (seen : F → SourceSeen) where
     pub verdict : FileVerdict
     pub visited : S
     pub visits : Visits shelf seen t between.0 file verdict visited
-    pub tells : TellsFirst t (shelf.contents old.0).under (verdicts ++ verdict ∷ [])
+    pub are_true : AreTrueOfFirst t (shelf.contents old.0).under (verdicts ++ verdict ∷ [])
     pub counts : CountsUnreadable (shelf.faults old.0) (shelf.faults visited)
         (verdicts ++ verdict ∷ [])
     pub stops : EndsFile t lines (shelf_and_sink visited between.1) file verdict new (Err e)
@@ -134,7 +128,7 @@ module _ {S F : Type 0} (shelf : Ghosts S F) (seen : F → SourceSeen) where
   pub record ChecksAll (t : Description) (lines : Lines) (verdicts : List FileVerdict)
       (v1 : Option V1Verdict) (old new : S × SinkSeen) : Type 0 where
     pub has : HasVerdicts t verdicts v1
-    pub tells : TellsFolder t (shelf.contents old.0).under verdicts v1
+    pub are_true : IsTrueOfFolder t (shelf.contents old.0).under verdicts v1
     pub files : ChecksFiles t lines old t.files verdicts new
     pub counts : CountsUnreadable (shelf.faults old.0) (shelf.faults new.0) verdicts
 

@@ -1,8 +1,8 @@
 -- The pieces of a file in a row, as a part reads and judges them.
-use Rattle.std.specs.Prelude.{◌≡◌, ◌≢◌, ℕ, ◌*◌, ◌<◌, ◌≤◌, List, length, drop, Bool, true, false, IsTrue, Option, Some, None, ⊤}
+use Rattle.std.specs.Prelude.{◌≡◌, ◌≢◌, ℕ, ◌+◌, ◌*◌, ◌<◌, ◌≤◌, min, ◌++◌, List, length, drop, Bool, true, false, IsTrue, Option, Some, None, ⊤}
 use Rattle.opening.specs.Description.{Description, FileEntry, Version1}
 use Rattle.folders.specs.Verdicts.{Agrees}
-use Rattle.parts.specs.Parts.{IsPieceGood, IsVersion1Good}
+use Rattle.parts.specs.Parts.{IsPieceGood, IsVersion1Good, piece_count}
 use Rattle.parts.specs.declared.file_pieces.Found.{Found}
 use Rattle.parts.specs.declared.span.Span.{Span}
 
@@ -24,6 +24,15 @@ abbrev pub AreJudged : Description → FileEntry → ℕ → ℕ → List ℕ �
 AreJudged t f from to bytes bad bad_cut =
     IsFirstBad from to (IsPieceGood t f bytes) bad
     × ((v : Version1) → t.v1 ≡ Some v → IsFirstBad from to (IsVersion1Good t v f bytes) bad_cut)
+
+-- These bytes were read from one of the pieces on, and the pieces before another are judged, for
+-- each content that has these bytes there; if it has no further piece, it is as long as stated.
+pub record AreJudgedFrom (t : Description) (f : FileEntry) (from to : ℕ) (given : List ℕ)
+    (bad bad_cut : Option ℕ) : Type 0 where
+  pub count : length given + t.piece_length * from ≡ min (t.piece_length * to) f.length
+  pub judged : (bytes rest : List ℕ) → drop (t.piece_length * from) bytes ≡ given ++ rest
+      → (to ≡ piece_count t f → length bytes ≡ f.length)
+      → AreJudged t f from to bytes bad bad_cut
 
 -- What was found of a source that is to give a file from one of its pieces on, and had this to
 -- give. It had these bytes, which are the known ones; and what is said is true of each content that

@@ -6,7 +6,7 @@ use Rattle.folders.specs.Verdicts.{AgreeWith, Agrees, is_checked, is_whole}
 use Rattle.folders.specs.declared.report.FileVerdict.{FileVerdict}
 use Rattle.folders.specs.declared.report.V1Verdict.{V1Verdict}
 use Rattle.folders.specs.declared.report.V1Verdict.TheVariants as version1
-use Rattle.parts.specs.Parts.{Holds, IsPartVerdict, IsVersion1Good, TellsPart, piece_count}
+use Rattle.parts.specs.Parts.{Holds, IsPartVerdict, IsVersion1Good, IsTruePart, piece_count}
 use Rattle.parts.specs.declared.places.Places.{Places}
 use Rattle.parts.specs.declared.verdicts.Verdicts.{Verdicts}
 
@@ -17,7 +17,7 @@ pub record HasPieceIn (t : Description) (r : Places) (f : FileEntry) (content : 
   pub inside : k < piece_count t f
   pub held : Holds r (f.first_piece + k)
 
--- the version 1 pieces that begin with a file's pieces among these places, as a verdict tells them
+-- the version 1 pieces that begin with a file's pieces among these places, as a verdict has them
 abbrev pub IsFileV1 : Description → Version1 → Places → FileEntry → Option (List ℕ) → V1Verdict
     → Type 0
 IsFileV1 t v r f content version1.NotChecked = ⊤
@@ -28,21 +28,21 @@ IsFileV1 t v r f content (version1.Bad q) =
     × (IsVersion1Good t v f bytes k → ⊥)
     × ((j : ℕ) → j < k → HasPieceIn t r f content j bytes → IsVersion1Good t v f bytes j)
 
--- What a part found of a file of whose path a shelf tells this. It has this content, which is the
--- known one, and both verdicts are true of it.
+-- What a part found of a file under whose path a shelf holds this. It has this content, which is
+-- the known one, and both verdicts are true of it.
 pub record FindsFile (t : Description) (r : Places) (f : FileEntry)
-    (told : Option (Option (List ℕ))) (found : Verdicts) : Type 0 where
+    (known : Option (Option (List ℕ))) (found : Verdicts) : Type 0 where
   pub content : Option (List ℕ)
-  pub agrees : Agrees told content
+  pub agrees : Agrees known content
   pub verdict : IsPartVerdict t r f content found.file
   pub version1 : (v : Version1) → t.v1 ≡ Some v → IsFileV1 t v r f content found.v1
   pub checked : is_checked found.v1 ≡ is_whole found.file
 
--- What the report of a part says of a shelf that tells this of its paths. There are contents, which
--- are the ones that the shelf tells as far as it does, and each verdict is true of them.
-pub record TellsPlaces (t : Description) (r : Places)
+-- What the report of a part says of a shelf that holds this. There are contents, which are the
+-- shelf's as far as those are known, and each verdict is true of them.
+pub record IsTrueOfPlaces (t : Description) (r : Places)
     (under : List (List ℕ) → Option (Option (List ℕ))) (files : List FileVerdict)
     (v1 : Option V1Verdict) : Type 0 where
   pub contents : Contents
   pub agree : AgreeWith t under contents
-  pub tells : TellsPart t contents (record { places = r; files = files; v1 = v1 })
+  pub are_true : IsTruePart t contents (record { places = r; files = files; v1 = v1 })

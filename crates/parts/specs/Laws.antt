@@ -3,7 +3,7 @@ use Rattle.std.specs.Prelude.{◌≡◌, true, ◌⊎◌, ℕ, ◌<◌, List, []
 use Rattle.opening.specs.Description.{Description}
 use Rattle.opening.specs.Sound.{IsSound}
 use Rattle.folders.specs.Folder.{Contents, GoodFolder}
-use Rattle.folders.specs.Verdicts.{HasVerdicts, TellsContents, is_yes, unreadable_count}
+use Rattle.folders.specs.Verdicts.{HasVerdicts, AreTrueVerdicts, is_yes, unreadable_count}
 use Rattle.folders.specs.declared.report.FileVerdict.{FileVerdict}
 use Rattle.folders.specs.declared.report.V1Verdict.{V1Verdict}
 use Rattle.parts.specs.Collisions.{FileCollides}
@@ -11,33 +11,34 @@ use Rattle.folders.specs.declared.report.FileVerdict.TheVariants as file
 use Rattle.folders.specs.declared.report.V1Verdict.TheVariants as version1
 use Rattle.parts.specs.Joins.{IsJoin, IsWorst, NoWorse, NoWorseV1, says_of, says_of_v1}
 use Rattle.parts.specs.Worse.{worse, worse_v1}
-use Rattle.parts.specs.Parts.{AreAllPlaces, PartReport, TellsPart}
+use Rattle.parts.specs.Parts.{AreAllPlaces, PartReport, IsTruePart}
 use Rattle.parts.specs.Shares.{share}
 
 -- what `check` reports of a folder with these contents
 pub record IsReportOf (t : Description) (contents : Contents) (files : List FileVerdict)
     (v1 : Option V1Verdict) : Type 0 where
   pub has : HasVerdicts t files v1
-  pub tells : TellsContents t contents files v1
+  pub are_true : AreTrueVerdicts t contents files v1
 
 -- The verdicts of the parts make the report: of parts that have all places of the torrent, and that
--- each tell of the same contents, the join is what a check reports of them, or a collision is
+-- are each true of the same contents, the join is what a check reports of them, or a collision is
 -- named.
 abbrev pub PartsMakeTheReport : Type 0
 PartsMakeTheReport =
     (t : Description) (contents : Contents) (parts : List PartReport) (files : List FileVerdict)
     (v1 : Option V1Verdict) → IsSound t → AreAllPlaces t parts
-    → ((i : ℕ) (p : PartReport) → slice_get parts i ≡ Some p → TellsPart t contents p)
+    → ((i : ℕ) (p : PartReport) → slice_get parts i ≡ Some p → IsTruePart t contents p)
     → IsJoin t parts files v1
     → IsReportOf t contents files v1 ⊎ FileCollides t contents
 
--- A yes of the parts is a yes: of parts that have all places of the torrent, and that each tell of
--- the same contents, a join that says yes means that the folder is good. No collision excuses it.
+-- A yes of the parts is a yes: of parts that have all places of the torrent, and that are each true
+-- of the same contents, a join that says yes means that the folder is good. No collision excuses
+-- it.
 abbrev pub YesOfParts : Type 0
 YesOfParts =
     (t : Description) (contents : Contents) (parts : List PartReport) (files : List FileVerdict)
     (v1 : Option V1Verdict) → IsSound t → AreAllPlaces t parts
-    → ((i : ℕ) (p : PartReport) → slice_get parts i ≡ Some p → TellsPart t contents p)
+    → ((i : ℕ) (p : PartReport) → slice_get parts i ≡ Some p → IsTruePart t contents p)
     → IsJoin t parts files v1 → is_yes files v1 ≡ true → GoodFolder t contents
 
 -- contents have one report, if none of the files was unreadable

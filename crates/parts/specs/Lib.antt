@@ -2,6 +2,7 @@
 pub mod BadPieces
 pub mod BadReport
 pub mod Collisions
+pub mod Exactly
 pub mod FilePieces
 pub mod Finding
 pub mod Joins
@@ -10,7 +11,9 @@ pub mod OnePiece
 pub mod Padded
 pub mod PartLines
 pub mod Parts
+pub mod PieceLaws
 pub mod PartVisits
+pub mod RowChecks
 pub mod Saying
 pub mod Shares
 pub mod Spans

@@ -1,12 +1,12 @@
 -- One piece of a file, as a part reads and judges it.
-use Rattle.std.specs.Prelude.{◌≡◌, ℕ, ◌+◌, ◌-◌, ◌*◌, ◌<◌, ◌≤◌, min, ◌++◌, List, length, take, drop, replicate, slice_get, Bool, IsTrue, ◌↔◌, Option, Some, None, is_some, ⊤}
-use Rattle.std.specs.Io.KnownBytes.{IsAtEnd}
+use Rattle.std.specs.Prelude.{◌≡◌, ℕ, ◌+◌, ◌-◌, ◌*◌, ◌^◌, ◌<◌, ◌≤◌, min, ◌++◌, List, length, take, drop, replicate, slice_get, Bool, IsTrue, ◌↔◌, Option, Some, None, is_some, ⊤}
 use Rattle.benc.specs.Device.{SourceSeen}
 use Rattle.sha1.specs.Sha1.{Holds, sha1}
 use Rattle.sha1.specs.declared.Sha1.{Sha1}
 use Rattle.hashtree.specs.RootBuilder.{IsFed, byte_count}
 use Rattle.opening.specs.Description.{Description, FileEntry, Version1}
 use Rattle.wire.specs.Reading.{Gave}
+use Rattle.parts.specs.Exactly.{EndsBefore}
 use Rattle.parts.specs.Parts.{IsPieceGood}
 use Rattle.parts.specs.declared.judging.Judged.{Judged}
 use Rattle.parts.specs.declared.piece.Piece.{Piece}
@@ -22,6 +22,16 @@ pub record IsGiven (p : Piece) (bytes : List ℕ) : Type 0 where
   pub fed : IsFed p.tree bytes
   pub cut : HoldsCut p.cut bytes
 
+-- a piece of at most 2 ^ 46 bytes has room for so many more
+abbrev pub CanTake : Piece → ℕ → Type 0
+CanTake p n = byte_count p.tree + n ≤ 2 ^ 46
+
+-- a piece was given these further bytes
+pub record FeedsPiece (old : Piece) (bytes : List ℕ) (new : Piece) : Type 0 where
+  pub count : byte_count new.tree ≡ byte_count old.tree + length bytes
+  pub given : (file : List ℕ) → IsGiven old file → IsGiven new (file ++ bytes)
+  pub kind : is_some new.cut ≡ is_some old.cut
+
 -- the source gave these bytes, as many as wanted, and the piece has them
 pub record ReadsPiece (old new : SourceSeen) (size : ℕ) (hybrid : Bool) (p : Piece) : Type 0 where
   pub bytes : List ℕ
@@ -29,13 +39,6 @@ pub record ReadsPiece (old new : SourceSeen) (size : ℕ) (hybrid : Bool) (p : P
   pub gave : Gave old new bytes
   pub given : IsGiven p bytes
   pub kind : is_some p.cut ≡ hybrid
-
--- the source has fewer bytes than wanted
-pub record EndsBefore (old new : SourceSeen) (size : ℕ) : Type 0 where
-  pub bytes : List ℕ
-  pub short : length bytes < size
-  pub gave : Gave old new bytes
-  pub ended : IsAtEnd new.left
 
 -- what was read of a piece of this size
 abbrev pub IsPieceRead : SourceSeen → SourceSeen → ℕ → Bool → Option Piece → Type 0

@@ -1,7 +1,7 @@
 -- How the check of a part visits a path: it is opened once, at the first of the file's pieces among
 -- the part's places, and what was opened is read and handed back; a file that has no place there is
--- not opened. `opens_at` and `closes` stand for what the shelf's type tells of its shelves, and
--- `seen` for what its files tell.
+-- not opened. `opens_at` and `closes` stand for what contracts see of the shelf's type, and
+-- `seen` for what they see of its files.
 use Rattle.std.specs.Prelude.{◌≡◌, ℕ, ◌+◌, ◌*◌, List, Option, Some, None, Result, Ok, Err}
 use Rattle.benc.specs.Device.{SourceSeen}
 use Rattle.benc.specs.declared.device.DeviceFault.{DeviceFault}

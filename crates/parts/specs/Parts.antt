@@ -70,7 +70,7 @@ pub record IsBadIn (t : Description) (r : Places) (f : FileEntry) (bytes : List 
     pub same_before : (k : ℕ) → k < place → Holds r (f.first_piece + k) → IsPieceGood t f bytes k
     pub differs : IsPieceGood t f bytes place → ⊥
 
--- a file's content as the verdict of a part tells it; of a file that has no place there, `Good`
+-- a file's content as the verdict of a part has it; of a file that has no place there, `Good`
 -- says nothing
 abbrev pub IsPartVerdict : Description → Places → FileEntry → Option (List ℕ) → FileVerdict → Type 0
 IsPartVerdict t r f content file.Missing = content ≡ None
@@ -105,7 +105,7 @@ pub record IsPieceAt (t : Description) (contents : Contents) (p n k : ℕ) (f : 
   pub inside : k < piece_count t f
   pub piece_is : p ≡ f.first_piece + k
 
--- the version 1 pieces among these places, as the verdict of a part tells them
+-- the version 1 pieces among these places, as the verdict of a part has them
 abbrev pub IsPartV1 : Description → Version1 → Places → Contents → V1Verdict → Type 0
 IsPartV1 t v r contents version1.NotChecked = ⊤
 IsPartV1 t v r contents version1.Good = (p n k : ℕ) (f : FileEntry) (bytes : List ℕ)
@@ -126,9 +126,9 @@ pub record PartReport : Type 0 where
   pub files : List FileVerdict
   pub v1 : Option V1Verdict
 
--- each verdict tells of the contents what it says; the version 1 pieces were compared exactly if no
+-- each verdict is true of the contents; the version 1 pieces were compared exactly if no
 -- file was found that is missing, unreadable, or of another length
-pub record TellsPart (t : Description) (contents : Contents) (p : PartReport) : Type 0 where
+pub record IsTruePart (t : Description) (contents : Contents) (p : PartReport) : Type 0 where
   pub count : length p.files ≡ length t.files
   pub hybrid : is_some p.v1 ≡ is_some t.v1
   pub checked : (v : V1Verdict) → p.v1 ≡ Some v → is_checked v ≡ list_all is_whole p.files

@@ -31,7 +31,7 @@ IsSpanned t r f None = Touches t r f → ⊥
 IsSpanned t r f (Some s) = IsSpanOf t r f s
 
 -- some pieces of a file in a row: from its first one on, or one before its end, and up to its end
--- exactly if its end is told
+-- exactly if its end is checked
 pub record IsSpan (t : Description) (f : FileEntry) (s : Span) : Type 0 where
   pub order : s.from ≤ s.to
   pub inside : s.to ≤ piece_count t f

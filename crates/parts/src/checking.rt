@@ -4,7 +4,7 @@ ghost use Rattle.chains.specs.Chain.{Chain};
 ghost use Rattle.opening.specs.Seen.{file_entry};
 ghost use Rattle.folders.specs.Shelf.{more};
 ghost use Rattle.folders.specs.Verdicts.{HasVerdicts, IsFileOf, fault_count, unreadable_count};
-ghost use Rattle.parts.specs.Finding.{FindsFile, TellsPlaces};
+ghost use Rattle.parts.specs.Finding.{FindsFile, IsTrueOfPlaces};
 ghost use Rattle.parts.specs.PartVisits.{OpensPart, VisitsPart};
 ghost use Rattle.parts.specs.Spans.{IsSpanOf};
 
@@ -34,7 +34,7 @@ pub fn check_part<S: SeekShelf>(
     places: Places,
 ) -> Result<Report, NoMemory>
     ensures verdicts { IfOk result (λ r. HasVerdicts torrent.now r.files.items r.v1) }
-    ensures tells { IfOk result (λ r. TellsPlaces torrent.now places
+    ensures are_true { IfOk result (λ r. IsTrueOfPlaces torrent.now places
         (S.Shelf.contents shelf.old).under r.files.items r.v1) }
     ensures once { IfOk result (λ r.
         Chain (VisitsPart S.opens_at S.Shelf.closes S.File.seen torrent.now places) shelf.old

@@ -94,8 +94,8 @@ fn is_listed(torrent: &Torrent<'_>, file: &File<'_>, number: u64, root: &Hash, s
     lifted(*root, size, piece_layer(torrent)) == info.layer[number as usize]
 }
 
-// The layer in which one node covers a piece.
-fn piece_layer(torrent: &Torrent<'_>) -> u32
+/// The layer in which one node covers a piece.
+pub(crate) fn piece_layer(torrent: &Torrent<'_>) -> u32
     ensures value { result ≡ layer_of_pieces torrent.now.piece_length }
     ensures bound { result ≤ 32 }
 {

@@ -1,8 +1,8 @@
 //! What the parts of a check make together. A function that calls one of these knows its law.
 ghost use Rattle.parts.specs.Laws.{PartsMakeTheReport, ReportIsOne, SharesHaveAllPlaces, WorseJoins, WorseJoinsV1, YesOfParts};
 
-/// Parts that together have all places of a torrent, and tell of the same contents, make the report
-/// that a check gives of them, or a collision is named.
+/// Parts that together have all places of a torrent, and are true of the same contents, make the
+/// report that a check gives of them, or a collision is named.
 pub fn parts_make_the_report()
     ensures { PartsMakeTheReport }
 {}

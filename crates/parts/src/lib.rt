@@ -12,6 +12,8 @@ pub mod laws;
 mod part_lines;
 mod piece;
 mod places;
+mod reading;
+mod row;
 mod shares;
 mod span;
 mod verdicts;

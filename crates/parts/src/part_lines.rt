@@ -129,10 +129,10 @@ fn write_end<W: Sink>(report: &Report, out: &mut W) -> Result<(), DeviceFault>
         (end_lines report.now.files.items report.now.v1) }
 {
     write_all(out, stream_line(&report.v1).as_slice())?;
-    write_all(out, answer(report.yes()).as_slice())
+    write_all(out, yes_line(report.yes()).as_slice())
 }
 
-fn answer(yes: bool) -> Line
+fn yes_line(yes: bool) -> Line
     ensures { result ≡ answer_line yes }
 {
     let mut line = Line::new();

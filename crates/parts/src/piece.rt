@@ -9,8 +9,9 @@ ghost use Rattle.sha1.specs.Sha1.{Holds, sha1};
 ghost use Rattle.parts.specs.OnePiece.{HoldsCut, IsGiven, IsPieceRead};
 ghost use Rattle.parts.specs.Padded.{node_of};
 
+use crate::reading::take_exactly;
 use benc::{DeviceFault, Source};
-use folders::fill;
+use folders::Consumer;
 use hashtree::{BLOCK_LENGTH, Hash, RootBuilder, Shape, parent, zero};
 use sha1::Sha1;
 
@@ -34,18 +35,6 @@ impl Piece {
         }
     }
 
-    fn push(&mut self, bytes: &[u8])
-        requires { byte_count self.old.tree + length bytes.now ≤ 2 ^ 46 }
-        ensures given { (file : List ℕ) → IsGiven self.old file
-            → IsGiven self.new (file ++ bytes.now) }
-        ensures kind { is_some self.new.cut ≡ is_some self.old.cut }
-    {
-        self.tree.push(bytes);
-        if let Some(cut) = &mut self.cut {
-            cut.update(bytes);
-        }
-    }
-
     /// The root of the tree over the piece's own blocks, and what has the version 1 piece so far.
     /// Condition: the piece has a byte.
     pub(crate) fn finish(self) -> (Hash, Option<Sha1>)
@@ -58,6 +47,30 @@ impl Piece {
         let (_, root) = tree.finish();
         (root, cut)
     }
+}
+
+impl Consumer for Piece {
+    ghost use Rattle.parts.specs.OnePiece.{CanTake, FeedsPiece};
+    ghost use Rattle.parts.specs.PieceLaws.{fed_nothing, fed_twice, fed_room, fed_less};
+
+    ghost has_room = { CanTake };
+
+    ghost took = { FeedsPiece };
+
+    fn take(&mut self, part: &[u8]) {
+        self.tree.push(part);
+        if let Some(cut) = &mut self.cut {
+            cut.update(part);
+        }
+    }
+
+    ghost none = { fed_nothing };
+
+    ghost joins = { fed_twice };
+
+    ghost room_left = { fed_room };
+
+    ghost room_for_less = { fed_less };
 }
 
 /// Reads so many bytes of a source as a piece, a full buffer at a time. `None`: it has fewer.
@@ -75,15 +88,8 @@ pub(crate) fn read_piece<F: Source>(
     ensures counts { CountsFault (F.seen source.old).faults (F.seen source.new).faults result }
 {
     let mut piece = Piece::new(hybrid);
-    let mut count: u64 = 0;
-    'parts: while count < size {
-        let room = (size - count).min(buffer.len() as u64) as usize;
-        let taken = fill(source, &mut buffer[..room])?;
-        piece.push(&buffer[..taken]);
-        count += taken as u64;
-        if taken < room {
-            return Ok(None);
-        }
+    if !take_exactly(source, size, buffer, &mut piece)? {
+        return Ok(None);
     }
     Ok(Some(piece))
 }

@@ -273,7 +273,7 @@ fn all_bytes(torrent: &Torrent<'_>) -> u64 {
     all
 }
 
-// Globs that are none are told before anything is read.
+// What is no glob is refused before anything is read.
 fn create<'a>(system: &System, asked: &Create<'a>) -> Result<u8, Fault<'a>> {
     let progress = Progress::new(system.rt(), None);
     let mut folder = Folder::new(system, asked.dir, &progress);

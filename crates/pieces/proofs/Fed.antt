@@ -16,8 +16,8 @@ use Rattle.pieces.proofs.Comparing.{first_bad_append, some_from, there_or_not}
 
 -- a cut that is not empty holds something
 pub some_held : (r : Bool) (k : ℕ) → (r ≡ true → k ≡ 0) × (k ≡ 0 → r ≡ true) → r ≡ false → 0 < k
-some_held r zero tells holds = let never : r ≡ true = tells.1 refl in cc
-some_held r (suc k) tells holds = omega arith
+some_held r zero fits holds = let never : r ≡ true = fits.1 refl in cc
+some_held r (suc k) fits holds = omega arith
 
 -- nothing runs after a bad cut, so a running cut comes before one
 pub no_bad : (f : V1Feed) (pieces : List (List ℕ)) (n : ℕ) (content : List ℕ) → IsFeedAt f pieces n content → 0 < f.cutter.filled → f.bad ≡ None

@@ -207,7 +207,7 @@ impl<'a> Folder<'a> {
     // Why a folder was not listed.
     fn unlisted(&self, error: io::Error) -> ShelfFault {
         self.system.note(Cause::Error(error));
-        listing_fault(error)
+        fault_of_io(error)
     }
 
     // Lists one folder.
@@ -243,7 +243,7 @@ fn path_in(alloc: Global, folder: &[String], name: &str) -> Result<Vec<String>, 
 
 // Why a folder was not listed. An error without a number is not the system's: a name that is no
 // text, or no memory.
-fn listing_fault(error: io::Error) -> ShelfFault {
+fn fault_of_io(error: io::Error) -> ShelfFault {
     match (error.raw_os_error(), error.kind()) {
         (None, ErrorKind::InvalidFilename) => ShelfFault::Name,
         (None, ErrorKind::OutOfMemory) => ShelfFault::NoMemory,

@@ -25,7 +25,7 @@ use Rattle.replays.specs.declared.report.Reply.{Reply}
 use Rattle.replays.specs.declared.answering.AnswerFault.TheVariants as failed
 use Rattle.replays.specs.Answering.{Finishes, IfWanted, IsReply, Replies, reply_to}
 use Rattle.replays.specs.Replay.{Answered, Ends, EndsUnanswered, Handled, HandlesButLast, HandlesNext, IsCutAtEnd, IsCutInAnswer}
-use Rattle.replays.specs.Replay.{IsCutInFlush, IsCutInLine, IsCutReport, IsReport, ReplaySeen, RespondsNext, TellsEnding}
+use Rattle.replays.specs.Replay.{IsCutInFlush, IsCutInLine, IsCutReport, IsReport, ReplaySeen, RespondsNext, FindsEnding}
 use Rattle.replays.specs.Replay.{answers_of, lines_from, reports_of, unanswered}
 use Rattle.replays.proofs.Replies.{broke_after, hashes_answer_requests, meets_more, none_sent, same_wanted, sent_and_flushed, sent_more, sent_unflushed}
 use Rattle.replays.proofs.MoreFrames.{next_lines, any_more, outcome_same, sent_then_flushed}
@@ -197,7 +197,7 @@ in_end_at_once old new o source session refused no_memory = record {
 
 -- the record has ended
 pub in_end_of_record : {old mid new : ReplaySeen} {known : Option Form} {n : ℕ} {o : Outcome} {e : Ending} → InReplay old mid known n o
-    → TellsEnding known mid.source new.source e
+    → FindsEnding known mid.source new.source e
     → new.session ≡ mid.session → InEnd old mid new e o
 in_end_of_record {old} {mid} {new} {known} {n} {o} {e} so_far next stays = record {
   handled = so_far.handled;

@@ -22,7 +22,7 @@ use Rattle.chains.proofs.Chains.{Chain-more}
 use Rattle.replays.specs.declared.report.Ending.{Ending}
 use Rattle.replays.specs.declared.report.Ending.TheVariants as ending
 use Rattle.replays.specs.Replay.{GaveRecord, Handled, Handles, HandlesNext}
-use Rattle.replays.specs.Replay.{IsEnding, CountsEnding, Replayed, ReplaySeen, TellsEnding}
+use Rattle.replays.specs.Replay.{IsEnding, CountsEnding, Replayed, ReplaySeen, FindsEnding}
 
 -- ---- what a source gave
 
@@ -41,7 +41,7 @@ pub record SoFar (wanted : Bool) (known : Option Form) (old now : SourceSeen) (S
 pub so_far_none : (wanted : Bool) (s : SourceSeen) (S : SessionSeen) → SoFar wanted None s s S S []
 so_far_none wanted s S = record { frames = []; read = read_nothing s s refl; run = (refl, refl); counted = refl }
 
--- whichever form the next part tells, the frames so far have it
+-- whichever form the next part has, the frames so far have it
 pub run_at : (wanted : Bool) (known : Option Form) (form : Form) (part : List ℕ) (a b c : SourceSeen) (S S' : SessionSeen) (ds : List (Directed (List ℕ)))
     (hs : List Handled)
     → HasRead a b known ds → GavePart known form part b c → RunsBy wanted known S ds hs S' → Chain (Handles wanted form) S ds hs S'
@@ -122,7 +122,7 @@ so_far_more wanted known form old mid new S S' S'' hs h s next = record {
 
 -- less than a frame, and then the end
 pub replayed_ends : (known : Option Form) (old mid new : ReplaySeen) (hs : List Handled) (e : Ending)
-    → SoFar (is_some old.answers) known old.source mid.source old.session mid.session hs → TellsEnding known mid.source new.source e → new.session ≡ mid.session
+    → SoFar (is_some old.answers) known old.source mid.source old.session mid.session hs → FindsEnding known mid.source new.source e → new.session ≡ mid.session
     → Replayed old new hs (Some e)
 replayed_ends known old mid new hs e s next stays = record {
   form = next.form;
@@ -138,8 +138,8 @@ replayed_ends known old mid new hs e s next stays = record {
 }
 
 -- the end of the source between two frames
-pub tells_end : (known : Option Form) (form : Form) (old new : SourceSeen) → EndsRecord known form old new → TellsEnding known old new ending.End
-tells_end known form old new e = record {
+pub finds_end : (known : Option Form) (form : Form) (old new : SourceSeen) → EndsRecord known form old new → FindsEnding known old new ending.End
+finds_end known form old new e = record {
   form = form;
   part = [];
   gave = e.part;
@@ -160,9 +160,9 @@ ended_fault form new part fault.NoMemory s at_end room = absurd (room refl)
 ended_fault One new part fault.BadDirection s at_end room = absurd s
 ended_fault Two new part fault.BadDirection s at_end room = (refl, s)
 
-pub tells_fault : (known : Option Form) (old new : SourceSeen) (why : FrameFault) → StopsInRecord known old new why → (why ≡ fault.NoMemory → ⊥)
-    → TellsEnding known old new (ending.Fault why)
-tells_fault known old new why stop room = record {
+pub finds_fault : (known : Option Form) (old new : SourceSeen) (why : FrameFault) → StopsInRecord known old new why → (why ≡ fault.NoMemory → ⊥)
+    → FindsEnding known old new (ending.Fault why)
+finds_fault known old new why stop room = record {
   form = stop.form;
   part = stop.rest;
   gave = stop.part;

@@ -102,7 +102,7 @@ RespondsNext known form old new S S' d r = (f : Directed Frame)
     × HandlesNext false known form old new S S' (unanswered f d) × (r ≡ reply_to f d)
 
 -- the source gave less than a frame, and the record ended so
-pub record TellsEnding (known : Option Form) (old new : SourceSeen) (e : Ending) : Type 0 where
+pub record FindsEnding (known : Option Form) (old new : SourceSeen) (e : Ending) : Type 0 where
   pub form : Form
   pub part : List ℕ
   pub gave : GavePart known form part old new

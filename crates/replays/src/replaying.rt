@@ -4,7 +4,7 @@ ghost use Rattle.benc.specs.Device.{Wrote, WroteAndFlushed};
 ghost use Rattle.replays.specs.Answering.{Finishes, reply_to, sink_after, sink_before};
 ghost use Rattle.replays.specs.Outcome.{is_fault};
 ghost use Rattle.replays.specs.ReplayLines.{lines_of, ending_line_of};
-ghost use Rattle.replays.specs.Replay.{IsCutReport, IsReport, Meets, RespondsNext, StepsBy, TellsEnding, replay_seen};
+ghost use Rattle.replays.specs.Replay.{IsCutReport, IsReport, Meets, RespondsNext, StepsBy, FindsEnding, replay_seen};
 ghost use Rattle.wire.specs.Reader.{HasRoom, IsOpen, KeepsSource};
 ghost use Rattle.wire.specs.RecordReader.{form_of, frame_reader, source_of};
 ghost use Rattle.wire.specs.Records.{form_number};
@@ -141,7 +141,7 @@ fn next_response<N: NodeMap, R: Source>(
         session.old session.new r.report r.reply) }
     ensures open { OnOk result (IsOpen (frame_reader reader.new)) }
     ensures room { HasRoom (frame_reader reader.new) }
-    ensures ending { IfErr result (TellsEnding (form_of reader.old) (R.seen (source_of reader.old))
+    ensures ending { IfErr result (FindsEnding (form_of reader.old) (R.seen (source_of reader.old))
         (R.seen (source_of reader.new))) }
     ensures stays { OnErr result (session.new ≡ session.old) }
 {

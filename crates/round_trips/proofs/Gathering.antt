@@ -1,4 +1,4 @@
--- A draft that was gathered was made of the contents that a shelf tells.
+-- A draft that was gathered was made of the contents that a shelf holds.
 use Rattle.std.proofs.Common.{◌≡◌, ◌≢◌, ℕ, suc, ◌<◌, ◌≤◌, Bool, true, List, [], ◌∷◌, ◌++◌, length, take, drop, Option, Some, None, inl, inr, refl, sym, ap}
 use Rattle.std.proofs.Common.{subst, ◌∙◌, arith}
 use Rattle.std.specs.Prelude.{nat_lt}
@@ -14,19 +14,19 @@ use Rattle.round_trips.proofs.Made.{AreMade, Made, put_made}
 use Rattle.round_trips.proofs.Good.{good_folder}
 use Rattle.round_trips.specs.RoundTrip.{ChecksGood, IsGatheredFrom, KnownPaths, KnowsEach}
 
--- what a shelf tells, if it tells something
-told_is : (told : Option (Option (List ℕ))) (c : List ℕ) → Agrees told (Some c) → told ≢ None → told ≡ Some (Some c)
-told_is None c agrees some = absurd (some refl)
-told_is (Some there) c agrees some = ap Some (agrees there refl)
+-- what a shelf is known to hold, if anything is known
+known_is : (said : Option (Option (List ℕ))) (c : List ℕ) → Agrees said (Some c) → said ≢ None → said ≡ Some (Some c)
+known_is None c agrees some = absurd (some refl)
+known_is (Some there) c agrees some = ap Some (agrees there refl)
 
 made : (p : ℕ) (hybrid : Bool) (under : KnownPaths) (path : List (List ℕ)) (c : List ℕ) (f : OutlineFile) → IsDraftFile p hybrid path c f
     → under path ≡ Some (Some c) → Made p hybrid under f c
-made p hybrid under path c f is told = record {
+made p hybrid under path c f is said = record {
   length_is = is.length_is;
   root_is = is.root_is;
   cuts_are = λ both some. let yes : nat_lt 0 (length c) ≡ true = grind (arith, some) in is.cuts_are ∙ rw (both, yes) refl;
   padded_is = is.padded_is;
-  told = ap under is.path_is ∙ told;
+  said = ap under is.path_is ∙ said;
 }
 
 -- what a draft of this kind holds was made of these contents
@@ -38,7 +38,7 @@ record AreMadeIn (p : ℕ) (hybrid : Bool) (under : KnownPaths) (d : Outline) : 
 
 one_more : (p : ℕ) (hybrid : Bool) (under : KnownPaths) (d e : Outline) (path : List (List ℕ)) (c : List ℕ) → DraftAdds d path c e → under path ≡ Some (Some c)
     → AreMadeIn p hybrid under d → AreMadeIn p hybrid under e
-one_more p hybrid under d e path c adds told so =
+one_more p hybrid under d e path c adds said so =
     let f = adds.file in
     let here = subst (λ h. IsDraftFile p h path c f) so.kind_is (subst (λ k. IsDraftFile k d.hybrid path c f) so.length_is adds.is) in
     let place = adds.added.place in
@@ -47,26 +47,26 @@ one_more p hybrid under d e path c adds told so =
       length_is = adds.added.piece_length ∙ so.length_is;
       kind_is = adds.added.hybrid ∙ so.kind_is;
       made = subst (λ fs. AreMade p hybrid under fs (take place so.contents ++ c ∷ drop place so.contents)) (sym adds.added.files)
-          (put_made p hybrid under place f c d.files so.contents (made p hybrid under path c f here told) so.made);
+          (put_made p hybrid under place f c d.files so.contents (made p hybrid under path c f here said) so.made);
     }
 
 all_made : (p : ℕ) (hybrid : Bool) (under : KnownPaths) (d e : Outline) (paths : List (List (List ℕ))) (cs : List (List ℕ)) → Chain DraftAdds d paths cs e
     → AreContentsUnder under paths cs → KnowsEach under paths
     → AreMadeIn p hybrid under d → AreMadeIn p hybrid under e
-all_made p hybrid under d e [] [] chain are told so = subst (AreMadeIn p hybrid under) (sym chain) so
-all_made p hybrid under d e [] (c ∷ cs) chain are told so = absurd chain
-all_made p hybrid under d e (q ∷ paths) [] chain are told so = absurd chain
-all_made p hybrid under d e (q ∷ paths) (c ∷ cs) chain are told so =
-    all_made p hybrid under chain.0 e paths cs chain.2 are.1 (λ n r at. told (suc n) r at)
-    (one_more p hybrid under d chain.0 q c chain.1 (told_is (under q) c are.0 (told 0 q refl)) so)
+all_made p hybrid under d e [] [] chain are said so = subst (AreMadeIn p hybrid under) (sym chain) so
+all_made p hybrid under d e [] (c ∷ cs) chain are said so = absurd chain
+all_made p hybrid under d e (q ∷ paths) [] chain are said so = absurd chain
+all_made p hybrid under d e (q ∷ paths) (c ∷ cs) chain are said so =
+    all_made p hybrid under chain.0 e paths cs chain.2 are.1 (λ n r at. said (suc n) r at)
+    (one_more p hybrid under d chain.0 q c chain.1 (known_is (under q) c are.0 (said 0 q refl)) so)
 
 pub checks_good : (under : KnownPaths) (d : Outline) → IsOutline d → IsGatheredFrom under d → ChecksGood (torrent_of d) under
-checks_good under d o from files v1 tells readable =
+checks_good under d o from files v1 are_true readable =
     let so = all_made from.piece_length from.hybrid under _ d from.paths from.contents from.gathered from.are from.known
     (record { contents = []; length_is = refl; kind_is = refl; made = tt }) in
     let all = subst (λ h. AreMade d.piece_length h under d.files so.contents) (sym so.kind_is) (subst (λ k. AreMade k from.hybrid under d.files so.contents)
     (sym so.length_is) so.made) in
-    tells.enough (good_folder d so.contents under o all tells.contents tells.agree) readable
+    are_true.enough (good_folder d so.contents under o all are_true.contents are_true.agree) readable
 
 pub fits_max_torrent : (n : ℕ) → (max_torrent < n → ⊥) → n ≤ max_torrent
 fits_max_torrent n not = elim (cases_lt max_torrent n) [ inl less ↦ absurd (not less) | inr most ↦ most ]

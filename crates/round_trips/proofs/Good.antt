@@ -70,7 +70,7 @@ module _ (d : Outline) (cs : List (List ℕ)) (under : List (List ℕ) → Optio
   held_is : (n : ℕ) (e : FileEntry) (at : slice_get (torrent_of d).files n ≡ Some e) → held n ≡ Some (is_of n e at).content
   held_is n e at =
       let x = is_of n e at in
-      sym (agree n e at (Some x.content) (ap under x.path ∙ x.made.told))
+      sym (agree n e at (Some x.content) (ap under x.path ∙ x.made.said))
 
   good_file : (n : ℕ) (e : FileEntry) (at : slice_get (torrent_of d).files n ≡ Some e) → IsGoodFile (torrent_of d) e (is_of n e at).content
   good_file n e at =

@@ -15,13 +15,13 @@ use Rattle.pieces.specs.Cuts.{cut, cut_digests, filled_up, last_cut_of}
 use Rattle.pieces.specs.Pieces.{pieces_of}
 use Rattle.round_trips.proofs.CutDigests.{block_digests, block_of, digests_append}
 
--- the file was made of this content, which a shelf tells
+-- the file was made of this content, which a shelf holds
 pub record Made (p : ℕ) (hybrid : Bool) (under : List (List ℕ) → Option (Option (List ℕ))) (f : OutlineFile) (c : List ℕ) : Type 0 where
   pub length_is : f.length ≡ length c
   pub root_is : 0 < length c → f.root ≡ root_of c
   pub cuts_are : hybrid ≡ true → 0 < length c → f.cuts ≡ cut_digests p c
   pub padded_is : hybrid ≡ true → 0 < length c → f.padded ≡ sha1 (filled_up p (last_cut_of p c))
-  pub told : under f.path ≡ Some (Some c)
+  pub said : under f.path ≡ Some (Some c)
 
 module _ (p : ℕ) (hybrid : Bool) (under : List (List ℕ) → Option (Option (List ℕ))) where
   abbrev pub AreMade : List OutlineFile → List (List ℕ) → Type 0

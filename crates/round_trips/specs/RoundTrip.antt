@@ -5,7 +5,7 @@ use Rattle.drafts.specs.Finishing.{finish_rows}
 use Rattle.drafts.specs.Outline.{Outline, empty_outline}
 use Rattle.drafts.specs.Written.{torrent_of, value_of}
 use Rattle.filetree.specs.Tests.{NoneHolds}
-use Rattle.folders.specs.Verdicts.{TellsFolder, is_yes, unreadable_count}
+use Rattle.folders.specs.Verdicts.{IsTrueOfFolder, is_yes, unreadable_count}
 use Rattle.folders.specs.declared.report.FileVerdict.{FileVerdict}
 use Rattle.folders.specs.declared.report.V1Verdict.{V1Verdict}
 use Rattle.gathering.specs.Gathered.{Gathered}
@@ -37,7 +37,7 @@ pub record IsGatheredFrom (under : KnownPaths) (d : Outline) : Type 0 where
 -- unreadable, says that all files, and a hybrid's version 1 pieces, are good
 abbrev pub ChecksGood : Description → KnownPaths → Type 0
 ChecksGood t under =
-    (files : List FileVerdict) (v1 : Option V1Verdict) → TellsFolder t under files v1
+    (files : List FileVerdict) (v1 : Option V1Verdict) → IsTrueOfFolder t under files v1
     → unreadable_count files ≡ 0 → is_yes files v1 ≡ true
 
 -- a draft that was gathered, and may be written, is opened as its torrent, and as no other, and

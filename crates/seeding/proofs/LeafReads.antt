@@ -1,4 +1,4 @@
--- What reading a file for its leaves told.
+-- What reading a file for its leaves gave.
 use Rattle.std.proofs.Common.{◌≡◌, inr, ℕ, List, Option, Some, None, refl, sym, ◌∙◌, ap, subst, arith}
 use Rattle.benc.specs.Device.{SourceSeen}
 use Rattle.opening.specs.Description.{TreeEntry}
@@ -24,17 +24,17 @@ other_length e len took source source' before after (Some count) of read other =
   λ fits. other (ap Some (sym read.count_is ∙ fits.length_is ∙ sym of)),
 )
 
--- ---- what a shelf tells
+-- ---- what a shelf holds
 
 -- a file was opened, read without a fault, and handed back
-pub finds_read : (told : Option (Option (List ℕ))) (left : Option (List ℕ)) (e : TreeEntry) (found : Option (List Hash)) (old mid new own own' : ℕ)
-    → IsFound told (Some left) → ReadsLeaves e left found → mid ≡ old → own ≡ 0 → own' ≡ own → new ≡ more mid own'
-    → (n : ℕ) × (new ≡ more old n) × Finds told e found n
-finds_read told left e (Some leaves) old mid new own own' at (bytes, is, fits, are) same fresh quiet counted =
-    (0, counted ∙ ap (more mid) (quiet ∙ fresh) ∙ same, (refl, bytes, agrees_opened told left bytes at is, fits, are))
-finds_read told left e None old mid new own own' at (bytes, is, not) same fresh quiet counted = (
+pub finds_read : (said : Option (Option (List ℕ))) (left : Option (List ℕ)) (e : TreeEntry) (found : Option (List Hash)) (old mid new own own' : ℕ)
+    → IsFound said (Some left) → ReadsLeaves e left found → mid ≡ old → own ≡ 0 → own' ≡ own → new ≡ more mid own'
+    → (n : ℕ) × (new ≡ more old n) × Finds said e found n
+finds_read said left e (Some leaves) old mid new own own' at (bytes, is, fits, are) same fresh quiet counted =
+    (0, counted ∙ ap (more mid) (quiet ∙ fresh) ∙ same, (refl, bytes, agrees_opened said left bytes at is, fits, are))
+finds_read said left e None old mid new own own' at (bytes, is, not) same fresh quiet counted = (
   0,
   counted ∙ ap (more mid) (quiet ∙ fresh)
       ∙ same,
-  inr (refl, Some bytes, agrees_opened told left bytes at is, λ b known fits. not (subst (FitsTree e) (sym (same_Some bytes b known)) fits)),
+  inr (refl, Some bytes, agrees_opened said left bytes at is, λ b known fits. not (subst (FitsTree e) (sym (same_Some bytes b known)) fits)),
 )

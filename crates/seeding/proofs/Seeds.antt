@@ -18,14 +18,14 @@ use Rattle.seeding.specs.Seeding.{Fills, Finds, HasFitting, SeedStep, SeedsAll, 
 
 -- ---- lines
 
-lines_more : (fs : List FileEntry) (told : List Bool) (f : FileEntry) (b : Bool) → length told ≡ length fs
-    → seed_lines (fs ++ f ∷ []) (told ++ b ∷ []) ≡ seed_lines fs told ++ seed_line f b
+lines_more : (fs : List FileEntry) (said : List Bool) (f : FileEntry) (b : Bool) → length said ≡ length fs
+    → seed_lines (fs ++ f ∷ []) (said ++ b ∷ []) ≡ seed_lines fs said ++ seed_line f b
 lines_more [] [] f b same = append-nil (seed_line f b)
-lines_more [] (c ∷ told) f b same = absurd (omega arith)
+lines_more [] (c ∷ said) f b same = absurd (omega arith)
 lines_more (g ∷ fs) [] f b same = absurd (omega arith)
-lines_more (g ∷ fs) (c ∷ told) f b same =
-    let rest : length told ≡ length fs = omega arith in
-    ap (λ t. seed_line g c ++ t) (lines_more fs told f b rest) ∙ sym (append_assoc (seed_line g c) (seed_lines fs told) (seed_line f b))
+lines_more (g ∷ fs) (c ∷ said) f b same =
+    let rest : length said ≡ length fs = omega arith in
+    ap (λ t. seed_line g c ++ t) (lines_more fs said f b rest) ∙ sym (append_assoc (seed_line g c) (seed_lines fs said) (seed_line f b))
 
 -- ---- one file
 

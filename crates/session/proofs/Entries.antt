@@ -202,15 +202,15 @@ module _ (file : ℕ) where
   pub chain-says : (S : SessionSeen) (cs : List Cut) (rs : List (Option BlockRefusal)) (S' : SessionSeen) → Chain (BlockStep file) S cs rs S'
       → (n : ℕ) (tree : TreeRoot) (s : TreeState) → tree_of S file ≡ Some n → IsTree S n tree s
       → (m : ℕ) (c : Cut) (r : Option BlockRefusal) → slice_get cs m ≡ Some c → slice_get rs m ≡ Some r → Says tree s.known c r
-  chain-says S [] [] S' e n tree s of' at m c r is told = absurd (none-some c is)
-  chain-says S [] (x ∷ rs) S' e n tree s of' at m c r is told = absurd e
-  chain-says S (d ∷ cs) [] S' e n tree s of' at m c r is told = absurd e
-  chain-says S (d ∷ cs) (x ∷ rs) S' (M, step, rest) n tree s of' at zero c r is told =
-      subst₂ (λ y z. Says tree s.known y z) (same_Some d c is) (same_Some x r told) (step-says file S d x M step n tree s of' at)
-  chain-says S (d ∷ cs) (x ∷ rs) S' (M, step, rest) n tree s of' at (suc m) c r is told =
+  chain-says S [] [] S' e n tree s of' at m c r is stated = absurd (none-some c is)
+  chain-says S [] (x ∷ rs) S' e n tree s of' at m c r is stated = absurd e
+  chain-says S (d ∷ cs) [] S' e n tree s of' at m c r is stated = absurd e
+  chain-says S (d ∷ cs) (x ∷ rs) S' (M, step, rest) n tree s of' at zero c r is stated =
+      subst₂ (λ y z. Says tree s.known y z) (same_Some d c is) (same_Some x r stated) (step-says file S d x M step n tree s of' at)
+  chain-says S (d ∷ cs) (x ∷ rs) S' (M, step, rest) n tree s of' at (suc m) c r is stated =
       let a : Later M n tree s = step-known file S d x M step n tree s at in
       let of_later : tree_of M file ≡ Some n = ap (λ t. tree_of (record M { torrent = t }) file) (step-torrent file S d x M step) ∙ of' in
-      subst (λ (K : Known). Says tree K c r) a.known (chain-says M cs rs S' rest n tree a.later of_later a.later_is m c r is told)
+      subst (λ (K : Known). Says tree K c r) a.known (chain-says M cs rs S' rest n tree a.later of_later a.later_is m c r is stated)
 
 -- ---- the cuts of a message
 
@@ -246,19 +246,19 @@ module _ (S : SessionSeen) (closed_trees : HasClosedTrees S) (index begin : ℕ)
   cut_at m = record { number = v.first + m; bytes = block bytes m }
 
   entry-says : (m : ℕ) (r : Option BlockRefusal) → slice_get v.refusals m ≡ Some r → Says h.in_file.tree h.in_file.state.known (cut_at m) r
-  entry-says m r told =
+  entry-says m r stated =
       chain-says v.file S (cuts v.first bytes (length v.refusals)) v.refusals S' h.each h.in_file.tree_number h.in_file.tree h.in_file.state h.in_file.of_file
       h.in_file.is_tree
-      m (cut_at m) r (cuts-at v.first bytes (length v.refusals) m (slice_get_within v.refusals m r told)) told
+      m (cut_at m) r (cuts-at v.first bytes (length v.refusals) m (slice_get_within v.refusals m r stated)) stated
 
   pub taken-blocks : AreBlocks S index begin bytes v
   taken-blocks = record {
     at = h.at;
-    verified = λ m told. says-block S closed_trees v.file (cut_at m) h.in_file.tree_number h.in_file.tree h.in_file.state h.in_file.of_file h.in_file.is_tree
-        (entry-says m None told);
+    verified = λ m stated. says-block S closed_trees v.file (cut_at m) h.in_file.tree_number h.in_file.tree h.in_file.state h.in_file.of_file h.in_file.is_tree
+        (entry-says m None stated);
   }
 
   pub taken-true : VerifiesTrueBlocks S bytes v
-  taken-true = λ m r told.
+  taken-true = λ m r stated.
       says-taken S closed_trees v.file (cut_at m) h.in_file.tree_number h.in_file.tree h.in_file.state r h.in_file.of_file h.in_file.is_tree
-      (entry-says m r told)
+      (entry-says m r stated)

@@ -111,11 +111,11 @@ noted_round S M N S' distinct same_torrent ns ws n tree s b ask f closed_trees c
             let e : Learns N S' n tree d.later = last d.later d.later_is in
             inr (tree, e.later, e.later_is, collision-keeps (whole f) (look d.later.known) (look e.later.known) e.keeps collision)
         | inl ok ↦
-            let told : hashes.now ≡ answer_of (tree_height tree.length) (whole f) (want_ask tree b) = is_answer
+            let stated : hashes.now ≡ answer_of (tree_height tree.length) (whole f) (want_ask tree b) = is_answer
             ∙ ap (answer_of (tree_height tree.length) (whole f)) is in
             let (later, later_is, fewer) = answer-fewer n tree b inside (look s.known) N (asking N.asks S') distinct_N d.later d.later_is tall
             (λ l i u h. d.keeps l i u (a.keeps l i u h)) none hashes
-            (subst (IsAccepted tree.length (look d.later.known) (want_ask tree b)) (sym told) ok) v memory
+            (subst (IsAccepted tree.length (look d.later.known) (want_ask tree b)) (sym stated) ok) v memory
             (subst (λ q. Step N (message.Hashes q hashes) v (asking N.asks S')) is (in_hashes N ask hashes v S' still step)) in
             inl (later, tree_asking S'.asks (asking N.asks S') n tree later later_is, fewer)
       ]

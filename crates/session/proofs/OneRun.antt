@@ -182,9 +182,9 @@ module _ (S : SessionSeen) (index begin : ℕ) (bytes : List ℕ) where
   taken_one : (v w : BlocksSeen) (S' T : SessionSeen) → AreTaken S index begin bytes v S' → AreTaken S index begin bytes w T → (v ≡ w) × (S' ≡ T)
   taken_one v w S' T h k =
       let pair : ◌≡◌ {A = ℕ × ℕ} (w.file, w.first) (v.file, v.first) = same_Some (w.file, w.first) (v.file, v.first) (sym k.at ∙ h.at) in
-      let told : List (Option BlockRefusal) → BlocksSeen = λ rs. record { file = v.file; first = v.first; refusals = rs } in
-      let is : w ≡ told w.refusals = λ j. record { file = (pair j).0; first = (pair j).1; refusals = w.refusals } in
-      let k' : AreTaken S index begin bytes (told w.refusals) T = subst (λ (x : BlocksSeen). AreTaken S index begin bytes x T) is k in
+      let stated : List (Option BlockRefusal) → BlocksSeen = λ rs. record { file = v.file; first = v.first; refusals = rs } in
+      let is : w ≡ stated w.refusals = λ j. record { file = (pair j).0; first = (pair j).1; refusals = w.refusals } in
+      let k' : AreTaken S index begin bytes (stated w.refusals) T = subst (λ (x : BlocksSeen). AreTaken S index begin bytes x T) is k in
       let tree : k'.in_file.tree ≡ h.in_file.tree = same_tree S v.file v.first h.in_file.tree_number h.in_file.tree h.in_file.state h.in_file.of_file
       h.in_file.is_tree k'.in_file in
       let count : length w.refusals ≡ length v.refusals =
@@ -192,7 +192,7 @@ module _ (S : SessionSeen) (index begin : ℕ) (bytes : List ℕ) where
       (subst (λ (tr : TreeRoot). IsBlockRun tr.length v.first (length bytes) (length w.refusals)) tree k'.run) h.run in
       let one = Chain-one (BlockStep v.file) (block_one v.file) S (cuts v.first bytes (length v.refusals)) v.refusals w.refusals S' T h.each
       (subst (λ n. Chain (BlockStep v.file) S (cuts v.first bytes n) w.refusals T) count k'.each) in
-      (ap told one.0 ∙ sym is, one.1)
+      (ap stated one.0 ∙ sym is, one.1)
 
   taken_not_refused : (v : BlocksSeen) (S' : SessionSeen) (r : BlockRefusal) → AreTaken S index begin bytes v S' → AreRefused S index begin bytes r → ⊥
   taken_not_refused v S' BadPlace h none = none-some (v.file, v.first) (sym none ∙ h.at)
@@ -273,12 +273,12 @@ one_run S distinct (m ∷ ms) (v ∷ vs) (w ∷ ws) S' T (M, step, rest) (N, ste
     (subst (λ (U : SessionSeen). Chain Step U ms ws T) (sym one.1) rest') x.1 y.1 in
     (ap₂ (λ u us. u ∷ us) one.0 later.0, later.1)
 
-pub conversion_tells : (S : SessionSeen) → HasDistinctRoots S → (bodies : List (List ℕ)) (fs : List Frame) (gs : List (Directed Frame)) (vs ws : List Verdict)
+pub replay_of_conversion : (S : SessionSeen) → HasDistinctRoots S → (bodies : List (List ℕ)) (fs : List Frame) (gs : List (Directed Frame)) (vs ws : List Verdict)
     (T S' : SessionSeen)
     → AllZip Means bodies fs → AllZip MeansDirected (conversion bodies) gs
     → Chain Step S (messages_in fs) vs T → HadMemory vs → Chain NotedStep S (directed_messages gs) ws S' → HadMemory ws
     → (incoming (directed_messages gs) ws ≡ vs) × (asking S.asks S' ≡ T)
-conversion_tells S distinct bodies fs gs vs ws T S' means converted run had noted_run noted_had =
+replay_of_conversion S distinct bodies fs gs vs ws T S' means converted run had noted_run noted_had =
     one_run S distinct (messages_in fs) (incoming (directed_messages gs) ws) vs (asking S.asks S') T
     (conversion_replays S bodies fs gs ws S' means converted noted_run (memory-noted (directed_messages gs) ws noted_had)) run
     (memory-incoming (directed_messages gs) ws noted_had) had

@@ -16,7 +16,7 @@ use Rattle.chains.proofs.Cases.{both_equal}
 pub ask_total : IsTotalOrder ask_cmp
 ask_total = total-law
 
--- an ask is told by its five fields
+-- an ask is its five fields
 pub ask_antisymmetric : IsAntisymmetric ask_cmp
 ask_antisymmetric a b e =
     let root = both_equal (slice_cmp nat_cmp a.root b.root) _ e in

@@ -4,7 +4,7 @@ use Rattle.std.specs.List.{AllZip, flat_map}
 use Rattle.std.specs.FinSet as set
 use Rattle.wire.specs.declared.form.Direction.TheVariants.{In, Out}
 use Rattle.wire.specs.declared.frame.Frame.{Frame}
-use Rattle.wire.specs.declared.frame.Frame.TheVariants as told
+use Rattle.wire.specs.declared.frame.Frame.TheVariants as stated
 use Rattle.wire.specs.declared.message.Ask.{Ask}
 use Rattle.wire.specs.declared.message.Message.{Message}
 use Rattle.wire.specs.declared.message.Message.TheVariants as message
@@ -139,26 +139,26 @@ form_1_runs S ms vs T run = let c : Converted S ms vs T = run_converted S ms vs 
 abbrev SameSent : Directed Message → Directed Message → Type 0
 SameSent x y = (x.0 ≡ y.0) × SameMessage x.1 y.1
 
-abbrev SameTold : Directed Frame → Directed Frame → Type 0
-SameTold x y = (x.0 ≡ y.0) × SameFrame x.1 y.1
+abbrev SameDirected : Directed Frame → Directed Frame → Type 0
+SameDirected x y = (x.0 ≡ y.0) × SameFrame x.1 y.1
 
-same_told : (ds : List (Directed (List ℕ))) (gs hs : List (Directed Frame)) → AllZip MeansDirected ds gs → AllZip MeansDirected ds hs → AllZip SameTold gs hs
-same_told [] [] [] p q = tt
-same_told [] [] (h ∷ hs) p q = absurd q
-same_told [] (g ∷ gs) hs p q = absurd p
-same_told (d ∷ ds) [] hs p q = absurd p
-same_told (d ∷ ds) (g ∷ gs) [] p q = absurd q
-same_told (d ∷ ds) (g ∷ gs) (h ∷ hs) p q =
-    ((sym p.0.0 ∙ q.0.0, one_meaning d.1 g.1 h.1 p.0.1 q.0.1), same_told ds gs hs p.1 q.1)
+same_directed : (ds : List (Directed (List ℕ))) (gs hs : List (Directed Frame)) → AllZip MeansDirected ds gs → AllZip MeansDirected ds hs → AllZip SameDirected gs hs
+same_directed [] [] [] p q = tt
+same_directed [] [] (h ∷ hs) p q = absurd q
+same_directed [] (g ∷ gs) hs p q = absurd p
+same_directed (d ∷ ds) [] hs p q = absurd p
+same_directed (d ∷ ds) (g ∷ gs) [] p q = absurd q
+same_directed (d ∷ ds) (g ∷ gs) (h ∷ hs) p q =
+    ((sym p.0.0 ∙ q.0.0, one_meaning d.1 g.1 h.1 p.0.1 q.0.1), same_directed ds gs hs p.1 q.1)
 
-same_sent : (gs hs : List (Directed Frame)) → AllZip SameTold gs hs → AllZip SameSent (directed_messages gs) (directed_messages hs)
+same_sent : (gs hs : List (Directed Frame)) → AllZip SameDirected gs hs → AllZip SameSent (directed_messages gs) (directed_messages hs)
 same_sent [] [] p = tt
 same_sent [] (h ∷ hs) p = absurd p
 same_sent (g ∷ gs) [] p = absurd p
-same_sent ((d, told.Message m) ∷ gs) ((e, told.Message n) ∷ hs) p = (p.0, same_sent gs hs p.1)
-same_sent ((d, told.Message m) ∷ gs) ((e, told.BadSize id len) ∷ hs) p = absurd p.0.1
-same_sent ((d, told.BadSize id len) ∷ gs) ((e, told.Message n) ∷ hs) p = absurd p.0.1
-same_sent ((d, told.BadSize id len) ∷ gs) ((e, told.BadSize id' len') ∷ hs) p = same_sent gs hs p.1
+same_sent ((d, stated.Message m) ∷ gs) ((e, stated.Message n) ∷ hs) p = (p.0, same_sent gs hs p.1)
+same_sent ((d, stated.Message m) ∷ gs) ((e, stated.BadSize id len) ∷ hs) p = absurd p.0.1
+same_sent ((d, stated.BadSize id len) ∷ gs) ((e, stated.Message n) ∷ hs) p = absurd p.0.1
+same_sent ((d, stated.BadSize id len) ∷ gs) ((e, stated.BadSize id' len') ∷ hs) p = same_sent gs hs p.1
 
 not_out : In ≡ Out → ⊥
 not_out e = omega (arith, ap direction_byte e)
@@ -228,17 +228,17 @@ noted_same ((Out, m) ∷ xs) ((In, n) ∷ ys) (v ∷ vs) p h = absurd (not_out (
 -- the messages of converted frames are the converted messages
 frames_converted : (fs : List Frame) → directed_messages (flat_map converted_frame fs) ≡ converted_messages (messages_in fs)
 frames_converted [] = refl
-frames_converted (told.BadSize id len ∷ fs) = frames_converted fs
-frames_converted (told.Message (message.Hashes ask hashes) ∷ fs) = ap (λ ms. (Out, message.Request ask) ∷ (In, message.Hashes ask hashes) ∷ ms)
+frames_converted (stated.BadSize id len ∷ fs) = frames_converted fs
+frames_converted (stated.Message (message.Hashes ask hashes) ∷ fs) = ap (λ ms. (Out, message.Request ask) ∷ (In, message.Hashes ask hashes) ∷ ms)
     (frames_converted fs)
-frames_converted (told.Message m ∷ fs) = ap (λ ms. converted_message m ++ ms) (frames_converted fs)
+frames_converted (stated.Message m ∷ fs) = ap (λ ms. converted_message m ++ ms) (frames_converted fs)
 
 pub conversion_replays : (S : SessionSeen) (bodies : List (List ℕ)) (fs : List Frame) (gs : List (Directed Frame)) (vs : List Verdict) (S' : SessionSeen)
     → AllZip Means bodies fs → AllZip MeansDirected (conversion bodies) gs → Chain NotedStep S (directed_messages gs) vs S' → AllNoted (directed_messages gs) vs
     → Chain Step S (messages_in fs) (incoming (directed_messages gs) vs) (asking S.asks S')
 conversion_replays S bodies fs gs vs S' means converted run noted =
     let same : AllZip SameSent (directed_messages gs) (directed_messages (flat_map converted_frame fs)) =
-    same_sent gs (flat_map converted_frame fs) (same_told (conversion bodies) gs (flat_map converted_frame fs) converted (conversion_means bodies fs means)) in
+    same_sent gs (flat_map converted_frame fs) (same_directed (conversion bodies) gs (flat_map converted_frame fs) converted (conversion_means bodies fs means)) in
     let is : directed_messages (flat_map converted_frame fs) ≡ converted_messages (messages_in fs) = frames_converted fs in
     let moved : Chain NotedStep S (converted_messages (messages_in fs)) vs S' = subst (λ ms. Chain NotedStep S ms vs S') is
     (run_same S (directed_messages gs) (directed_messages (flat_map converted_frame fs)) vs S' same run) in

@@ -122,7 +122,7 @@ pub round : (S : SessionSeen) → HasDistinctRoots S → (ms : List Message) (vs
     → (hs : Bor (List Hash)) → hs.now ≡ answer_of (tree_height tree.length) (whole f) (want_ask tree b)
     → (v : Verdict) → v ≢ verdict.HashRefused NoMemory → Step S₁ (message.Hashes (want_ask tree b) hs) v S₂
     → HasFewerGaps S₂ n tree (look s.known) ⊎ ((s₁ : TreeState) × IsTree S₁ n tree s₁ × Collision (whole f) (look s₁.known))
-round S distinct ms vs S₁ S₂ n tree s b f closed_trees all run at in' none fits hs told v memory step =
+round S distinct ms vs S₁ S₂ n tree s b f closed_trees all run at in' none fits hs stated v memory step =
     let learnt : Learns S S₁ n tree s = run-learns S ms vs S₁ run n tree s at in
     let closed : IsClosed tree (look s.known) = closed_trees.closed n tree s at in
     let closed₁ : IsClosed tree (look learnt.later.known) = (run-true S ms vs S₁ closed_trees all run).1.closed n tree learnt.later learnt.later_is in
@@ -133,5 +133,5 @@ round S distinct ms vs S₁ S₂ n tree s b f closed_trees all run at in' none f
     elim (true_answer-accepted tree b tall in' (look learnt.later.known) f closed₁ fits) [
       | inr collision ↦ inr (learnt.later, learnt.later_is, collision)
       | inl ok ↦ inl (answer-fewer n tree b in' (look s.known) S₁ S₂ distinct₁ learnt.later learnt.later_is tall learnt.keeps none hs
-          (subst (IsAccepted tree.length (look learnt.later.known) (want_ask tree b)) (sym told) ok) v memory step)
+          (subst (IsAccepted tree.length (look learnt.later.known) (want_ask tree b)) (sym stated) ok) v memory step)
     ]

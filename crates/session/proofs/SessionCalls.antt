@@ -146,8 +146,8 @@ pub taken_at : (S : SessionSeen) (index begin file first count : ℕ) (bytes : L
     → Chain (BlockStep file) S (cuts first bytes count) v.refusals S' → AreTaken S index begin bytes v S'
 taken_at S index begin file first count bytes v S' at p run file_is first_is count_is each =
     let same : BlocksSeen → BlocksSeen → Type 0 = λ a b. a ≡ b in
-    let told : ℕ → ℕ → BlocksSeen = λ x y. record { file = x; first = y; refusals = v.refusals } in
-    let is : same (told file first) v = sym (ap₂ told file_is first_is) in
+    let stated : ℕ → ℕ → BlocksSeen = λ x y. record { file = x; first = y; refusals = v.refusals } in
+    let is : same (stated file first) v = sym (ap₂ stated file_is first_is) in
     subst (λ w. AreTaken S index begin bytes w S') is (record {
       at = at;
       in_file = p;

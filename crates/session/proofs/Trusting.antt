@@ -103,10 +103,10 @@ module _ (P : List ℕ → Type 0) (none : HasNoCollision P) (S : SessionSeen) (
       → AreBlocks S index begin bytes v → VerifiesTrueBlocks S bytes v → ((m : ℕ) → 16384 * m < length bytes → P (block bytes m))
       → TakesTrustedBlocks P S bytes v
   takes-blocks index begin bytes v S' taken are verifies blocks = record {
-    verified = λ m told. trusted-block v.file (v.first + m) (block bytes m) (are.verified m told)
+    verified = λ m stated. trusted-block v.file (v.first + m) (block bytes m) (are.verified m stated)
         (blocks m (run-begins taken.in_file.tree.length v.first (length bytes) (length v.refusals) m taken.run
-        (slice_get_within v.refusals m None told)));
-    taken = λ m r told. trusted-taken v.file (v.first + m) (block bytes m) r (verifies m r told);
+        (slice_get_within v.refusals m None stated)));
+    taken = λ m r stated. trusted-taken v.file (v.first + m) (block bytes m) r (verifies m r stated);
   }
 
   pub trusted-step : (m : Message) (v : Verdict) (S' : SessionSeen) → IsSafeStep S m v S' → HasBlocksOf P m → TakesTrusted P S m v S'

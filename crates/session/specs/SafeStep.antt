@@ -16,7 +16,7 @@ use Rattle.opening.specs.Description.{Description}
 use Rattle.opening.specs.Blocks.{IsBlockRun}
 use Rattle.partial_tree.specs.TreeRoot.{TreeRoot, Fits}
 use Rattle.partial_tree.specs.Closed.{Keeps, Collision, whole}
-use Rattle.partial_tree.specs.Claims.{top_layer, top_index, GoodRange, GoodCount, IsToldBy, CanAnswer, answer_of}
+use Rattle.partial_tree.specs.Claims.{top_layer, top_index, GoodRange, GoodCount, IsHeldBy, CanAnswer, answer_of}
 use Rattle.session.specs.Session.{SessionSeen, TreeState, IsTree, HasClosedTrees, IsAsked, IsInFile, IsPlaced, Step, IsTrueVerdict}
 use Rattle.session.specs.Blocks.{BlocksSeen}
 use Rattle.session.specs.Wanted.{ClosesOneGap}
@@ -34,7 +34,7 @@ pub record AreTrueHashes (f : List ℕ) (tree : TreeRoot) (s : TreeState) (ask :
   pub has_root : tree.root ≡ ask.root
   pub range : GoodRange (tree_height tree.length) ask
   pub count : GoodCount (tree_height tree.length) ask hashes
-  pub from_file : IsToldBy (whole f) ask hashes
+  pub from_file : IsHeldBy (whole f) ask hashes
   pub top_known : IsKnown (look s.known) (top_layer ask hashes) (top_index ask hashes)
 
 -- true hashes are stored, unless memory is refused for them or a collision is named

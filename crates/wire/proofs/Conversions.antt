@@ -20,8 +20,8 @@ use Rattle.wire.proofs.Written.{length-ask_bytes}
 
 -- ---- which bodies are hashes messages
 
-size_told : (n : ℕ) → IsHashesSize n → is_hashes_size n ≡ true
-size_told n (low, high, whole) =
+size_given : (n : ℕ) → IsHashesSize n → is_hashes_size n ≡ true
+size_given n (low, high, whole) =
     and_from (leb 49 n) _ (le-leb 49 n low) (and_from (leb n max_body) _ (le-leb n max_body high) (eq-eqb ((n - 49) % 32) 0 whole))
 
 size_is : (n : ℕ) → is_hashes_size n ≡ true → IsHashesSize n
@@ -37,9 +37,9 @@ hashes_are (id ∷ rest) e =
     let both = and_parts (eqb id 22) (is_hashes_size (length (id ∷ rest))) e in
     ((rest, ap (λ i. i ∷ rest) (eqb-true id 22 both.0)), size_is (length (id ∷ rest)) both.1)
 
-pub hashes_told : (body rest : List ℕ) → body ≡ 22 ∷ rest → IsHashesSize (length body) → is_hashes_body body ≡ true
-hashes_told body rest is size =
-    ap is_hashes_body is ∙ and_from (eqb 22 22) _ (eq-eqb 22 22 refl) (ap is_hashes_size (ap length (sym is)) ∙ size_told (length body) size)
+pub hashes_given : (body rest : List ℕ) → body ≡ 22 ∷ rest → IsHashesSize (length body) → is_hashes_body body ≡ true
+hashes_given body rest is size =
+    ap is_hashes_body is ∙ and_from (eqb 22 22) _ (eq-eqb 22 22 refl) (ap is_hashes_size (ap length (sym is)) ∙ size_given (length body) size)
 
 other_id : (body : List ℕ) (id : ℕ) (rest : List ℕ) → body ≡ id ∷ rest → id ≢ 22 → is_hashes_body body ≡ true → ⊥
 other_id body id rest is other e =
@@ -68,7 +68,7 @@ pub converted_means : (body : List ℕ) (f : Frame) → Means body f → AllZip 
 converted_means body (frame.Message (message.Hashes ask hashes)) p =
     subst (λ b. AllZip MeansDirected (cond b ((Out, request_of body) ∷ (In, body) ∷ []) ((In, body) ∷ []))
     (converted_frame (frame.Message (message.Hashes ask hashes))))
-    (sym (hashes_told body _ p.bytes p.size)) ((refl, request_means body ask hashes.now p), ((refl, p), tt))
+    (sym (hashes_given body _ p.bytes p.size)) ((refl, request_means body ask hashes.now p), ((refl, p), tt))
 converted_means body (frame.Message message.KeepAlive) p = alone body _ p (λ e. let first = (hashes_are body e).0 in let no : [] ≡ 22 ∷ first.0 = sym p
     ∙ first.1 in cc)
 converted_means body (frame.Message (message.Piece index begin block)) p = alone body _ p (other_id body 7 _ p.bytes (λ e. omega (arith, e)))

@@ -35,7 +35,7 @@ four_bytes-big_number_at bytes enough fits =
 pub big_number-fits : (bytes : List ℕ) → ((i : ℕ) → get_or bytes i 0 < 256) → big_number 4 bytes < 2 ^ 32
 big_number-fits bytes fits = big_from-lt 0 4 bytes fits
 
--- a number's bytes at the front tell the number, and what follows
+-- a number's bytes at the front give the number, and what follows
 pub same_from_four_bytes : (m n : ℕ) (xs ys : List ℕ) → m < 2 ^ 32 → n < 2 ^ 32 → four_bytes m ++ xs ≡ four_bytes n ++ ys → (m ≡ n) × (xs ≡ ys)
 same_from_four_bytes m n xs ys p q e =
     let same : m ≡ n = sym (big_number-four_bytes m xs p) ∙ ap (big_number 4) e ∙ big_number-four_bytes n ys q in

@@ -29,7 +29,7 @@ pub longest : header ≡ four_bytes 4294967295 ++ codes "BTH2"
 unfolding four_bytes
 longest = refl
 
--- what a test of the second half has told
+-- what a test of the second half has shown
 pub half_is : (half : List ℕ) → true ≡ pointwise nat_eq half (codes "BTH2") → half ≡ codes "BTH2"
 half_is half e = same_text half (codes "BTH2") e
 

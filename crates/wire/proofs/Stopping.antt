@@ -89,4 +89,4 @@ StopsInBody-after a b c id xs wanted len why one e right p s = record {
 
 -- another fault than out of memory
 pub device : {A : Type 0} (why : FrameFault) → (IsErrOf {T = A} {E = FrameFault} (Err why) fault.NoMemory → ⊥) → why ≢ fault.NoMemory
-device why told e = told (ap (λ x. Err x) e)
+device why said e = said (ap (λ x. Err x) e)

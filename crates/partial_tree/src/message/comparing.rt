@@ -9,7 +9,7 @@ ghost use Rattle.partial_tree.specs.Evidence.{claimed_by, IsClaimedPlace, AllHan
 
 use crate::message::evidence::Evidence;
 use crate::message::folding::{compare, fold};
-use crate::message::found::{Claim, Found};
+use crate::message::found::{Claim, NewClaims};
 use hashtree::{Hash, parent};
 use node_maps::NodeMap;
 
@@ -19,7 +19,7 @@ use node_maps::NodeMap;
 pub(crate) fn trace<N: NodeMap>(
     map: &N,
     evidence: &Evidence,
-    found: &mut Found,
+    found: &mut NewClaims,
     layer: u32,
     index: u64,
 ) -> Option<Hash>
@@ -49,7 +49,7 @@ pub(crate) fn trace<N: NodeMap>(
 fn derive<N: NodeMap>(
     map: &N,
     evidence: &Evidence,
-    found: &mut Found,
+    found: &mut NewClaims,
     layer: u32,
     index: u64,
 ) -> Option<Hash>

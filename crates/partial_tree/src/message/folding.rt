@@ -10,7 +10,7 @@ ghost use Rattle.partial_tree.specs.Evidence.{claimed_by, given_by, IsClaimedPla
 ghost use Rattle.partial_tree.specs.FoldedRows.{AreClaimedIn, BelowRowHandled, IsClaimedRow, RowHandled};
 
 use crate::message::evidence::Evidence;
-use crate::message::found::{Claim, Found};
+use crate::message::found::{Claim, NewClaims};
 use crate::message::row::{EIGHT_DEPTH, Row, RowHashes, parents_of_row, parents_of_rows};
 use hashtree::Hash;
 use node_maps::NodeMap;
@@ -20,7 +20,7 @@ use node_maps::NodeMap;
 pub(crate) fn fold<N: NodeMap>(
     map: &N,
     evidence: &Evidence,
-    found: &mut Found,
+    found: &mut NewClaims,
     layer: u32,
     index: u64,
 ) -> Option<Hash>
@@ -54,7 +54,7 @@ pub(crate) fn fold<N: NodeMap>(
 fn trace_row<N: NodeMap>(
     map: &N,
     evidence: &Evidence,
-    found: &mut Found,
+    found: &mut NewClaims,
     row: Row,
 ) -> Option<RowHashes>
     requires at { IsClaimedRow (tree_height (N.seen map.now).length) evidence.now row }
@@ -89,7 +89,7 @@ fn trace_row<N: NodeMap>(
 fn derive_row<N: NodeMap>(
     map: &N,
     evidence: &Evidence,
-    found: &mut Found,
+    found: &mut NewClaims,
     row: Row,
 ) -> Option<RowHashes>
     requires at { IsClaimedRow (tree_height (N.seen map.now).length) evidence.now row }
@@ -125,7 +125,7 @@ fn derive_row<N: NodeMap>(
 
 /// Compares the hash that is claimed for a place with the known one, or notes the claim. False if
 /// the two differ.
-pub(crate) fn compare<N: NodeMap>(map: &N, found: &mut Found, claim: Claim) -> bool
+pub(crate) fn compare<N: NodeMap>(map: &N, found: &mut NewClaims, claim: Claim) -> bool
     ensures same { OnTrue result (IsHandledClaim (N.seen map.now).known found.new claim) }
     ensures differs { OnFalse result (DiffersFrom (N.seen map.now).known claim) }
     ensures grows { Grows found.old found.new }

@@ -15,18 +15,18 @@ pub(crate) struct Claim {
 
 /// The claims of places that are not known, as far as there is room to list them.
 #[derive(Drop)]
-pub(crate) struct Found {
+pub(crate) struct NewClaims {
     pub(crate) claims: Vec<Claim>,
     /// A claim is not listed.
     pub(crate) incomplete: bool,
 }
 
-impl Found {
+impl NewClaims {
     ghost use Rattle.partial_tree.specs.Evidence.{IsEmpty, IsNoted, Grows, AreClaims};
     ghost use Rattle.node_maps.specs.Places.{PartialTree};
 
     /// Nothing yet, with room for so many claims, or for none if memory is refused.
-    pub(crate) fn new(alloc: Global, most: usize) -> Found
+    pub(crate) fn new(alloc: Global, most: usize) -> NewClaims
         ensures claims { result.claims.items ≡ [] }
         ensures complete { result.incomplete ≡ false }
     {
@@ -34,7 +34,7 @@ impl Found {
             Ok(claims) => claims,
             Err(_) => Vec::new(alloc),
         };
-        Found {
+        NewClaims {
             claims,
             incomplete: false,
         }

@@ -12,7 +12,7 @@ ghost use Rattle.partial_tree.specs.Evidence.{claimed_by, claimed_pages, LeadsTo
 
 use crate::message::comparing::trace;
 use crate::message::evidence::Evidence;
-use crate::message::found::Found;
+use crate::message::found::NewClaims;
 use crate::message::writing::{put_new, write_claimed};
 use crate::refusal::HashRefusal;
 use hashtree::NoMemory;
@@ -53,7 +53,7 @@ pub(crate) fn store<N: NodeMap>(
         (claimed_by evidence.now) r
         × (N.seen map.new ≡ N.seen map.old)) }
 {
-    let mut found = Found::new(alloc, room_for(evidence));
+    let mut found = NewClaims::new(alloc, room_for(evidence));
     if trace(map, evidence, &mut found, layer, index).is_none() {
         return Err(HashRefusal::Mismatch);
     }
@@ -104,7 +104,7 @@ pub(crate) fn store_agreed<N: NodeMap>(
 fn put_found<N: NodeMap>(
     map: &mut N,
     evidence: &Evidence,
-    found: &Found,
+    found: &NewClaims,
     layer: u32,
     index: u64,
 ) -> u64

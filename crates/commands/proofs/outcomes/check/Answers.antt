@@ -7,7 +7,7 @@ returns-in-Ok-clause-checks g c = (
   c.in-Ok.report.files.items,
   c.in-Ok.report.v1,
   c.in-Ok.ensures.verdicts,
-  c.in-Ok.ensures.tells,
+  c.in-Ok.ensures.are_true,
   (
     c.in-Ok.ensures.once,
     record {

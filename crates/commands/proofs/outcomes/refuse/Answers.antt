@@ -4,6 +4,6 @@ pub returns-in-Ok : goal.returns-in-Ok
 returns-in-Ok g c = record {
   status = c.status.ensures;
   line = c.in-Ok.ensures;
-  told = c.in_default.not-NoMemory;
+  known = c.in_default.not-NoMemory;
   fault = tt;
 }

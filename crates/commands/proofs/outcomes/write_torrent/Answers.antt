@@ -11,7 +11,7 @@ use Rattle.filetree.specs.Tests.{First}
 use Rattle.commands.specs.Outcomes.{IsUnprinted, WritesTorrent, answer_status}
 use Rattle.commands.proofs.outcomes.write_torrent.Goals as goal
 
--- the refusal was told, or its line broke off
+-- the refusal was printed, or its line broke off
 refused : (draft : Outline) (path : List ℕ) (torrent torrent' out out' : SinkSeen) (r : Refusal)
     → First (finish_rows draft) r → torrent' ≡ torrent → r ≢ NoMemory → (answer : Result ℕ Fault)
     → IfOk answer (λ s. s ≡ answer_status false)
@@ -33,6 +33,6 @@ refused draft path torrent torrent' out out' r first unwritten memory (Err f) st
 pub returns-in-Err : goal.returns-in-Err
 returns-in-Err g c =
     let not_write : c.in-Err.refusal ≢ Write = search rules in
-    let told = c.in-Err.ensures.refused not_write in
-    refused _ _ _ _ _ _ _ told.0 told.1 c.in-Err.ensures.no_memory c.refuse.result
+    let known = c.in-Err.ensures.refused not_write in
+    refused _ _ _ _ _ _ _ known.0 known.1 c.in-Err.ensures.no_memory c.refuse.result
     c.refuse.ensures.status c.refuse.ensures.line c.refuse.ensures.fault

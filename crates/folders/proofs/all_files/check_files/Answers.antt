@@ -16,7 +16,7 @@ use Rattle.folders.specs.Shelf.{ShelfContents}
 use Rattle.folders.specs.declared.lines.Lines.{Lines}
 use Rattle.folders.specs.declared.report.FileVerdict.{FileVerdict}
 use Rattle.folders.proofs.Checked.{checked_one, visits_first}
-use Rattle.folders.proofs.Told.{broke_more, sent_more, verdicts_push}
+use Rattle.folders.proofs.SentLines.{broke_more, sent_more, verdicts_push}
 use Rattle.folders.proofs.all_files.check_files.Goals as goal
 
 pub check_next-verdict-requires-clause-next : goal.check_next-verdict-requires-clause-next

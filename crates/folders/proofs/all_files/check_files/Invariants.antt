@@ -4,7 +4,7 @@ use Rattle.folders.specs.LinesOut.{HasSent}
 use Rattle.folders.proofs.Checked.{IsChecked}
 use Rattle.folders.proofs.all_files.check_files.Given as goal
 
--- the first files were checked, and their lines told
+-- the first files were checked, and their lines went out
 abbrev pub invariant-files : goal.invariant-files
 invariant-files g l = record {
   checked : IsChecked g.S.Shelf g.S.File.Source.seen l.torrent l.fn.shelf l.file-index l.check l.shelf;

@@ -14,22 +14,22 @@ returns-then-not-is_whole-clause-found g c =
     let f = file_entry c.args.file.now in
     let old = c.args.stream.now.feed in
     let end = c.stop.new.self.feed in
-    let told = (g.S.Shelf.contents c.args.shelf.now).under c.args.file.now.path in
+    let shown = (g.S.Shelf.contents c.args.shelf.now).under c.args.file.now.path in
     elim c.match-open.branch [
       | in-Ok-Some w ↦
           let source = g.S.File.Source.seen w.in-Ok-Some.source in
-          let there : IsFound told (Some source.left) =
+          let there : IsFound shown (Some source.left) =
           subst (λ p. IsFound ((g.S.Shelf.contents c.args.shelf.now).under p) (Some source.left)) (ap (map (λ s. s.now)) c.deref.ensures.0
           ∙ c.parts.ensures) (rw w.in-Ok-Some.field-0-is at w.in-Ok-Some.ensures.found) in
-          finds_read t f told source _ old w.check_content.new.stream.feed end w.check_content.result c.match-open.verdict there w.check_content.ensures.verdict
+          finds_read t f shown source _ old w.check_content.new.stream.feed end w.check_content.result c.match-open.verdict there w.check_content.ensures.verdict
           (w.verdict-is ∙ w.unwrap_or-verdict.ensures)
           (never_whole c.match-open.verdict c.is_whole.result end w.check_content.new.stream.feed c.is_whole.ensures c.if-not-is_whole.true)
           (λ _. c.stop.ensures)
       | in-Ok-None w ↦
-          let there : IsFound told None = subst (λ p. IsFound ((g.S.Shelf.contents c.args.shelf.now).under p) None) (ap (map (λ s. s.now)) c.deref.ensures.0
+          let there : IsFound shown None = subst (λ p. IsFound ((g.S.Shelf.contents c.args.shelf.now).under p) None) (ap (map (λ s. s.now)) c.deref.ensures.0
           ∙ c.parts.ensures) (rw w.in-Ok-None.field-0-is at w.in-Ok-None.ensures.found) in
-          subst (FindsVerdict t f told old end) (sym w.verdict-is) (finds_missing t f told old end there c.stop.ensures)
-      | in-Err w ↦ subst (FindsVerdict t f told old end) (sym w.verdict-is) (finds_unreadable t f told old end c.stop.ensures)
+          subst (FindsVerdict t f shown old end) (sym w.verdict-is) (finds_missing t f shown old end there c.stop.ensures)
+      | in-Err w ↦ subst (FindsVerdict t f shown old end) (sym w.verdict-is) (finds_unreadable t f shown old end c.stop.ensures)
     ]
 
 pub returns-else-not-is_whole-clause-found : goal.returns-else-not-is_whole-clause-found
@@ -38,24 +38,24 @@ returns-else-not-is_whole-clause-found g c =
     let f = file_entry c.args.file.now in
     let old = c.args.stream.now.feed in
     let end = c.match-open.stream.feed in
-    let told = (g.S.Shelf.contents c.args.shelf.now).under c.args.file.now.path in
+    let shown = (g.S.Shelf.contents c.args.shelf.now).under c.args.file.now.path in
     elim c.match-open.branch [
       | in-Ok-Some w ↦
           let source = g.S.File.Source.seen w.in-Ok-Some.source in
-          let there : IsFound told (Some source.left) =
+          let there : IsFound shown (Some source.left) =
           subst (λ p. IsFound ((g.S.Shelf.contents c.args.shelf.now).under p) (Some source.left)) (ap (map (λ s. s.now)) c.deref.ensures.0
           ∙ c.parts.ensures) (rw w.in-Ok-Some.field-0-is at w.in-Ok-Some.ensures.found) in
-          finds_read t f told source _ old w.check_content.new.stream.feed end w.check_content.result c.match-open.verdict there w.check_content.ensures.verdict
+          finds_read t f shown source _ old w.check_content.new.stream.feed end w.check_content.result c.match-open.verdict there w.check_content.ensures.verdict
           (w.verdict-is ∙ w.unwrap_or-verdict.ensures) (λ _. ap (λ s. s.feed) w.stream-is)
           (never_broken c.match-open.verdict c.is_whole.result end None c.is_whole.ensures c.if-not-is_whole.false)
       | in-Ok-None w ↦
-          let there : IsFound told None = subst (λ p. IsFound ((g.S.Shelf.contents c.args.shelf.now).under p) None) (ap (map (λ s. s.now)) c.deref.ensures.0
+          let there : IsFound shown None = subst (λ p. IsFound ((g.S.Shelf.contents c.args.shelf.now).under p) None) (ap (map (λ s. s.now)) c.deref.ensures.0
           ∙ c.parts.ensures) (rw w.in-Ok-None.field-0-is at w.in-Ok-None.ensures.found) in
-          subst (FindsVerdict t f told old end) (sym w.verdict-is)
-          (finds_missing t f told old end there (never_broken c.match-open.verdict c.is_whole.result end None c.is_whole.ensures c.if-not-is_whole.false
+          subst (FindsVerdict t f shown old end) (sym w.verdict-is)
+          (finds_missing t f shown old end there (never_broken c.match-open.verdict c.is_whole.result end None c.is_whole.ensures c.if-not-is_whole.false
           (ap is_whole w.verdict-is)))
-      | in-Err w ↦ subst (FindsVerdict t f told old end) (sym w.verdict-is)
-          (finds_unreadable t f told old end (never_broken c.match-open.verdict c.is_whole.result end None c.is_whole.ensures c.if-not-is_whole.false
+      | in-Err w ↦ subst (FindsVerdict t f shown old end) (sym w.verdict-is)
+          (finds_unreadable t f shown old end (never_broken c.match-open.verdict c.is_whole.result end None c.is_whole.ensures c.if-not-is_whole.false
           (ap is_whole w.verdict-is)))
     ]
 

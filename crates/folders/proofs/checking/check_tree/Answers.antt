@@ -57,12 +57,12 @@ returns-clause-verdict g c =
     let e = tree_entry c.args.tree.now in
     let tree = has_tree t c.requires.file.0 f e c.sound.ensures c.requires.file.1 c.requires.tree in
     let read = read_whole FeedsBoth _ _ _ _ _ _ _ c.if-ne.false c.ne.ensures c.in_ok-take_all.ensures.read in
-    let told = finished t.piece_length _ _ e _ _ _ _ _ c.finish-place.result.1 c.finish-place.result.2 read tree.0
+    let shown = finished t.piece_length _ _ e _ _ _ _ _ c.finish-place.result.1 c.finish-place.result.2 read tree.0
     c.piece_check.ensures.layer c.piece_check.ensures.content c.finish-place.ensures in
     opened_verdict t f _ _ _ _ _ _ c.args.stream.now.feed c.fill_to.new.self.feed _ _ read refl tree.1 c.tree_verdict.ensures.whole
     (ap (λ s. s.feed) c.take.ensures.taken) refl
     (filled_to c.args.file.now.first_piece _ _ _ _ c.piece_length-piece_length.ensures c.fill_to.ensures)
-    c.tree_verdict.ensures.readable (c.tree_verdict.ensures.verdict read.bytes told)
+    c.tree_verdict.ensures.readable (c.tree_verdict.ensures.verdict read.bytes shown)
 
 pub take_all-requires-clause-small : goal.take_all-requires-clause-small
 take_all-requires-clause-small g c =

@@ -31,4 +31,4 @@ returns g c =
     let last = c.as_slice-2.result.now in
     Wrote-then _ _ _ _ stream last _
     (parts c.args.lines r.files.items r.v1 stream last (c.as_slice.ensures ∙ c.wanted_stream_line.ensures)
-    (c.as_slice-2.ensures ∙ c.answer.ensures ∙ ap answer_text c.yes.ensures)) c.in_ok-write_all.ensures c.write_all-2.ensures
+    (c.as_slice-2.ensures ∙ c.yes_line.ensures ∙ ap answer_text c.yes.ensures)) c.in_ok-write_all.ensures c.write_all-2.ensures

@@ -3,7 +3,7 @@ use Rattle.std.proofs.lemmas.Result.{err_from_is_err_and}
 use Rattle.benc.proofs.Out.{Wrote-then}
 use Rattle.folders.specs.Printed.{end_text, report_text, verdicts_text}
 use Rattle.folders.proofs.Checked.{visits_all}
-use Rattle.folders.proofs.Told.{broke_sink, told_sink}
+use Rattle.folders.proofs.SentLines.{broke_sink, one_sink}
 use Rattle.folders.proofs.reporting.check_onto.Goals as goal
 
 pub returns-in_err-report-clause-cut : goal.returns-in_err-report-clause-cut
@@ -25,19 +25,19 @@ returns-in_err-flush_after-clause-cut g c =
     let r = c.in_ok-report.report in
     let first = verdicts_text c.args.lines r.files.items t.files in
     let last = end_text c.args.lines r.files.items r.v1 in
-    let told = c.in_ok-report.ensures in
-    let sent = told_sink (seen c.args.out.now) (seen c.check_files.new.out) first told.sent in
+    let shown = c.in_ok-report.ensures in
+    let sent = one_sink (seen c.args.out.now) (seen c.check_files.new.out) first shown.sent in
     let p = err_from_is_err_and c.from_residual-in_err-flush_after.result c.from_residual-in_err-flush_after.ensures.1 in
     let wrote = Wrote-then c.write_end-written.result (seen c.args.out.now) (seen c.check_files.new.out) (seen c.write_end-written.new.out) first last
     (report_text c.args.lines t.files r.files.items r.v1) refl sent c.write_end-written.ensures in
     rw p.1 (λ is. record {
       files = r.files.items;
-      visits = visits_all g.S.Shelf g.S.File.Source.seen t c.args.shelf.now c.check_files.new.shelf r.files.items r.v1 told.verdicts told.tells told.once
-          told.unreadable;
+      visits = visits_all g.S.Shelf g.S.File.Source.seen t c.args.shelf.now c.check_files.new.shelf r.files.items r.v1 shown.verdicts shown.are_true shown.once
+          shown.unreadable;
       broke = inr (
         r.v1,
-        told.verdicts,
-        told.tells,
+        shown.verdicts,
+        shown.are_true,
         c.in_err-flush_after.ensures (seen c.args.out.now)
             (report_text c.args.lines t.files r.files.items r.v1) wrote,
       );
@@ -50,7 +50,7 @@ returns-clause-report g c =
     let r = c.in_ok-report.report in
     let first = verdicts_text c.args.lines r.files.items t.files in
     let last = end_text c.args.lines r.files.items r.v1 in
-    let sent = told_sink (seen c.args.out.now) (seen c.check_files.new.out) first c.in_ok-report.ensures.sent in
+    let sent = one_sink (seen c.args.out.now) (seen c.check_files.new.out) first c.in_ok-report.ensures.sent in
     let wrote = Wrote-then c.write_end-written.result (seen c.args.out.now) (seen c.check_files.new.out) (seen c.write_end-written.new.out) first last
     (report_text c.args.lines t.files r.files.items r.v1) refl sent c.write_end-written.ensures in
     c.in_ok-flush_after.ensures (seen c.args.out.now) (report_text c.args.lines t.files r.files.items r.v1) wrote

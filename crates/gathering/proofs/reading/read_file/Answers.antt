@@ -1,7 +1,7 @@
 use Rattle.std.proofs.Common.{◌∙◌, Err, sym, subst}
 use Rattle.std.proofs.lemmas.Result.{err_from_is_err_and}
 use Rattle.gathering.specs.Reading.{ReadsFile}
-use Rattle.gathering.proofs.Told.{empty_read, read_may_finish, refused_read, too_long, whole_read}
+use Rattle.gathering.proofs.Found.{empty_read, read_may_finish, refused_read, too_long, whole_read}
 use Rattle.gathering.proofs.reading.read_file.Goals as goal
 
 pub returns-in_err-finish-in-Some-clause-read : goal.returns-in_err-finish-in-Some-clause-read

@@ -1,6 +1,6 @@
 use Rattle.std.proofs.Common.{sym, subst}
 use Rattle.gathering.specs.Steps.{VisitsFile}
-use Rattle.gathering.proofs.Told.{visited}
+use Rattle.gathering.proofs.Found.{visited}
 use Rattle.gathering.proofs.visiting.hash_file.Goals as goal
 
 pub returns-in-Ok-Some-clause-visits : goal.returns-in-Ok-Some-clause-visits

@@ -27,7 +27,7 @@ use Rattle.opening.proofs.Assembling.{IsReadFrom, files_refused, fits_stream, hy
 use Rattle.opening.proofs.Growing.{keys_take_none, plain_pass, plain_passed}
 use Rattle.opening.proofs.Rooting.{roots_back}
 use Rattle.opening.proofs.Sounding.{sound, tree_paths}
-use Rattle.opening.proofs.Told.{tree_fits}
+use Rattle.opening.proofs.KeyTests.{tree_fits}
 use Rattle.opening.proofs.open.read.Goals as goal
 
 -- what the keys and the file tree gave
@@ -35,14 +35,14 @@ is_read : (v : Bencode) (keys : Keys) (k n : ℕ) (layers : Pairs) (fs : List Li
     → NoneHolds (piece_length_rows n) → k ≡ n → n ≡ piece_length_in v
     → layers ≡ layers_in v → NoneHolds (tree_rows (pairs_view keys.tree.now)) → fs ≡ map listed (walks (pairs_view keys.tree.now))
     → IsReadFrom v k (view keys.info.now) keys.name.now (pairs_view keys.tree.now) layers fs
-is_read v keys k n layers fs head are number length told same trees files = record {
+is_read v keys k n layers fs head are number length known same trees files = record {
   info_is = are.info;
   name_is = are.name;
   tree_is = are.tree;
   layers_is = same;
-  length_is = length ∙ told;
+  length_is = length ∙ known;
   files_are = files;
-  keys = none_both (head_rows v) (piece_length_rows (piece_length_in v)) head (subst (λ m. NoneHolds (piece_length_rows m)) told number);
+  keys = none_both (head_rows v) (piece_length_rows (piece_length_in v)) head (subst (λ m. NoneHolds (piece_length_rows m)) known number);
   trees = trees;
 }
 
@@ -68,8 +68,8 @@ returns-in_err-piece_length-clause-passes c =
     let n = number_in (int c.in_ok-info.piece_length) in
     let same : n ≡ piece_length_in v = ap (λ z. number_in (int z)) (sym c.in_ok-info.piece_length-is) ∙ c.in_ok-info.ensures.1.piece_length in
     let first : First (piece_length_rows n) r = search rules in
-    let told = subst (λ m. First (piece_length_rows m) r) same first in
-    rw (p.1, p.2) (λ _. keys_refused v r (first_behind (head_rows v) (piece_length_rows (piece_length_in v)) r c.in_ok-info.ensures.0 told))
+    let known = subst (λ m. First (piece_length_rows m) r) same first in
+    rw (p.1, p.2) (λ _. keys_refused v r (first_behind (head_rows v) (piece_length_rows (piece_length_in v)) r c.in_ok-info.ensures.0 known))
 
 pub returns-in_err-listed-clause-passes : goal.returns-in_err-listed-clause-passes
 returns-in_err-listed-clause-passes c =
@@ -128,10 +128,10 @@ returns-in_err-v1-clause-passes c =
     let h = is_read v keys k n ls fs c.in_ok-info.ensures.0 c.in_ok-info.ensures.1 passed.0 passed.1.0 same
     (layers_are v keys ls c.in_ok-info.ensures.1 c.of-layers.ensures) c.in_ok-listed.ensures.passes.0 c.in_ok-listed.ensures.passes.1 in
     let content = c.in_ok-files.ensures in
-    let told = c.in_err-v1.ensures fs (fits_stream k fs (map file_entry c.deref.result.now) passed.1.1 content.1.pieces
+    let known = c.in_err-v1.ensures fs (fits_stream k fs (map file_entry c.deref.result.now) passed.1.1 content.1.pieces
     (ap (map file_entry) c.deref.ensures.value ∙ content.1.files)) in
     let p = err_from_is_err_and c.from_residual-in_err-v1.result c.from_residual-in_err-v1.ensures.1 in
-    rw (p.1, p.2) (λ _. hybrid_refused v k (view keys.info.now) keys.name.now (pairs_view keys.tree.now) ls fs c.in_err-v1.field-0.0 h content.0 told)
+    rw (p.1, p.2) (λ _. hybrid_refused v k (view keys.info.now) keys.name.now (pairs_view keys.tree.now) ls fs c.in_err-v1.field-0.0 h content.0 known)
 
 pub new-requires-clause-numbers : goal.new-requires-clause-numbers
 new-requires-clause-numbers c =
@@ -152,14 +152,14 @@ new-requires-clause-sound c =
     let legal = passed.1.1 in
     let content = c.in_ok-files.ensures in
     let rows = c.in_ok-listed.ensures.passes.0 in
-    let told = c.in_ok-v1.ensures fs (fits_stream k fs (map file_entry c.deref.result.now) legal content.1.pieces (ap (map file_entry) c.deref.ensures.value
+    let known = c.in_ok-v1.ensures fs (fits_stream k fs (map file_entry c.deref.result.now) legal content.1.pieces (ap (map file_entry) c.deref.ensures.value
     ∙ content.1.files)) in
     let fits : Fits 126 (dict tree) = subst (λ ps. Fits 126 (dict ps)) (sym c.in_ok-info.ensures.1.tree) (tree_fits v c.requires.canonical) in
     sound k (view keys.info.now) keys.name.now (layer_pairs c.of-layers.result) fs
     (described keys.name.now k c.in_ok-files.field-0.files.items c.in_ok-files.field-0.trees.items c.info_hash_v2-hash_v2.result c.digest-hash_v1.result
     c.in_ok-v1.v1)
     legal refl (tree_paths tree fs fits (not_false (is_directory tree) rows.0) rows.1.0 c.in_ok-listed.ensures.passes.1) content.0.1.0
-    (sizes_of tree fs rows c.in_ok-listed.ensures.passes.1) content.1.roots content.1.pieces content.1.files content.1.trees content.0.1.1.1 told.0 told.1
+    (sizes_of tree fs rows c.in_ok-listed.ensures.passes.1) content.1.roots content.1.pieces content.1.files content.1.trees content.0.1.1.1 known.0 known.1
 
 pub returns-clause-passes : goal.returns-clause-passes
 returns-clause-passes c =
@@ -174,15 +174,15 @@ returns-clause-passes c =
     let h = is_read v keys k n ls fs c.in_ok-info.ensures.0 c.in_ok-info.ensures.1 passed.0 passed.1.0 same
     (layers_are v keys ls c.in_ok-info.ensures.1 c.of-layers.ensures) c.in_ok-listed.ensures.passes.0 c.in_ok-listed.ensures.passes.1 in
     let content = c.in_ok-files.ensures in
-    let told = c.in_ok-v1.ensures fs (fits_stream k fs (map file_entry c.deref.result.now) passed.1.1 content.1.pieces
+    let known = c.in_ok-v1.ensures fs (fits_stream k fs (map file_entry c.deref.result.now) passed.1.1 content.1.pieces
     (ap (map file_entry) c.deref.ensures.value ∙ content.1.files)) in
     let t = described keys.name.now k c.in_ok-files.field-0.files.items c.in_ok-files.field-0.trees.items c.info_hash_v2-hash_v2.result c.digest-hash_v1.result
     c.in_ok-v1.v1 in
     let bytes = c.requires.info (view keys.info.now) c.in_ok-info.ensures.1.found in (
-      none_holds v k (view keys.info.now) keys.name.now (pairs_view keys.tree.now) ls fs h content.0 told.0,
+      none_holds v k (view keys.info.now) keys.name.now (pairs_view keys.tree.now) ls fs h content.0 known.0,
       subst (IsDescribed v) (sym c.new.ensures)
           (is_described v k (view keys.info.now) keys.name.now (pairs_view keys.tree.now) ls fs t h refl refl content.1.files content.1.trees
-          (c.info_hash_v2-hash_v2.ensures ∙ ap sha256 bytes) (c.digest-hash_v1.ensures ∙ ap sha1 bytes) told.1),
+          (c.info_hash_v2-hash_v2.ensures ∙ ap sha256 bytes) (c.digest-hash_v1.ensures ∙ ap sha1 bytes) known.1),
     )
 
 pub returns-in_err-info-clause-memory : goal.returns-in_err-info-clause-memory
@@ -201,9 +201,9 @@ returns-in_err-piece_length-clause-memory c =
     let n = number_in (int c.in_ok-info.piece_length) in
     let same : n ≡ piece_length_in v = ap (λ z. number_in (int z)) (sym c.in_ok-info.piece_length-is) ∙ c.in_ok-info.ensures.1.piece_length in
     let first : First (piece_length_rows n) r = search rules in
-    let told = subst (λ m. First (piece_length_rows m) r) same first in
+    let known = subst (λ m. First (piece_length_rows m) r) same first in
     rw (p.1, p.2) (λ memory. absurd (keys_take_none v (subst (First (all_key_rows v)) memory (first_behind (head_rows v) (piece_length_rows (piece_length_in v))
-    r c.in_ok-info.ensures.0 told))))
+    r c.in_ok-info.ensures.0 known))))
 
 pub returns-in_err-listed-clause-memory : goal.returns-in_err-listed-clause-memory
 returns-in_err-listed-clause-memory c =

@@ -12,10 +12,10 @@ returns-in_err-add c =
     let x = c.file-item.result in
     let p = err_from_is_err_and c.from_residual.result c.from_residual.ensures.1 in
     rw (p.1, p.2) (λ memory. elim c.in_err-add.ensures.there [
-      | inl told ↦ (
-        told.0,
-        reused xs (take i xs) c.files.roots x c.in-Some.root told.1.number told.1.at (taken_in xs i)
-            (item_in xs i x (omega arith) c.file-item.is) c.in-Some.is c.files.invariant told.1.place told.1.there told.1.differs,
+      | inl known ↦ (
+        known.0,
+        reused xs (take i xs) c.files.roots x c.in-Some.root known.1.number known.1.at (taken_in xs i)
+            (item_in xs i x (omega arith) c.file-item.is) c.in-Some.is c.files.invariant known.1.place known.1.there known.1.differs,
       )
       | inr none ↦ absurd (memory none.0)
     ])

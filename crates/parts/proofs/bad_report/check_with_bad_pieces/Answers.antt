@@ -17,7 +17,7 @@ returns-clause-checks g c =
       mid = mid;
       all = checks_all g.S.Shelf g.S.File.Source.seen t c.args.lines old (shelf_and_sink c.check_files.new.shelf mid) c.check_files.new.check
           report.result.files.items report.result.v1 files.0 files.1 report.ensures.files (report.ensures.verdicts under files.0.so_far files.1)
-          (report.ensures.tells under files.0.so_far files.1);
+          (report.ensures.are_true under files.0.so_far files.1);
       end = c.in_ok-flush_after.ensures mid (end_text c.args.lines report.result.files.items report.result.v1) c.write_end-written.ensures;
     }
 
@@ -38,7 +38,7 @@ returns-in_err-flush_after-clause-checks g c =
       mid = mid;
       all = checks_all g.S.Shelf g.S.File.Source.seen t c.args.lines old (shelf_and_sink c.check_files.new.shelf mid) c.check_files.new.check
           report.result.files.items report.result.v1 files.0 files.1 report.ensures.files (report.ensures.verdicts under files.0.so_far files.1)
-          (report.ensures.tells under files.0.so_far files.1);
+          (report.ensures.are_true under files.0.so_far files.1);
       broke = c.in_err-flush_after.ensures mid (end_text c.args.lines report.result.files.items report.result.v1) c.write_end-written.ensures;
     } in
     subst (ChecksAndPrints g.S.Shelf g.S.File.Source.seen t c.args.lines old new) (sym (p.1 ∙ ap Err p.2)) (inr at)

@@ -10,7 +10,7 @@ use Rattle.folders.specs.Verdicts.{is_unreadable, unreadable_count}
 use Rattle.folders.proofs.Counts.{more_none}
 use Rattle.folders.proofs.Places.{file_there}
 use Rattle.parts.specs.Worse.{worse_v1}
-use Rattle.parts.proofs.CheckedFirst.{IsCheckedFirst, checked_none, checked_one, tells_all}
+use Rattle.parts.proofs.CheckedFirst.{IsCheckedFirst, checked_none, checked_one, all_true}
 use Rattle.parts.proofs.checking.check_part.Goals as goal
 use Rattle.parts.proofs.checking.check_part.Goals.{in-Some, in-None}
 
@@ -73,13 +73,13 @@ same_some : {A B : Type 0} (f : A → B) (o : Option A) (p : Option B) → optio
 same_some f None p is = ap is_some (sym is)
 same_some f (Some x) p is = ap is_some (sym is)
 
-pub returns-clause-tells : goal.returns-clause-tells
-returns-clause-tells g c =
+pub returns-clause-are_true : goal.returns-clause-are_true
+returns-clause-are_true g c =
     let t = c.args.torrent.now in
     let checked = c.files.invariant.checked in
     let all = all_passed t c.files.file-index c.files-entries.result.now c.files-entries.ensures c.files-test.false c.files.auto.file-index-end in
     let hybrid : is_some t.v1 ≡ is_some c.v1.result = same_some (λ v. version1 v.now) c.v1.result t.v1 c.v1.ensures in
-    tells_all t c.args.places (g.S.Shelf.contents c.args.shelf.now).under c.files.file-index c.files.files.items c.files.v1 c.match-v1.v1 c.sound.ensures all
+    all_true t c.args.places (g.S.Shelf.contents c.args.shelf.now).under c.files.file-index c.files.files.items c.files.v1 c.match-v1.v1 c.sound.ensures all
     checked.count checked.checked checked.found
     (elim c.match-v1.branch [
       | in-Some w ↦ ap is_some w.v1-is ∙ sym (hybrid ∙ ap is_some w.in-Some.is)

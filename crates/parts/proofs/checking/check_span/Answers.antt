@@ -37,15 +37,15 @@ returns-in-Ok-Some-clause-found g c =
     let s = c.args.span in
     let f = file_entry c.args.file.now in
     let source = g.S.File.Source.seen c.in-Ok-Some.source in
-    let told = (g.S.Shelf.contents c.args.shelf.now).under c.args.file.now.path in
+    let stated = (g.S.Shelf.contents c.args.shelf.now).under c.args.file.now.path in
     let under = (g.S.Shelf.contents c.args.shelf.now).under in
     let path = ap (map (λ s. s.now)) c.deref.ensures.0 ∙ c.parts.ensures in
     let here : IsFound (from_offset (c.piece_length.result * s.from) (under (map (λ s. s.now) c.deref.result.now))) (Some source.left) =
     rw c.in-Ok-Some.field-0-is at c.in-Ok-Some.ensures.found in
-    let there : IsFound (from_offset (t.piece_length * s.from) told) (Some source.left) =
-    subst (λ p. IsFound (from_offset (p * s.from) told) (Some source.left)) c.piece_length.ensures
+    let there : IsFound (from_offset (t.piece_length * s.from) stated) (Some source.left) =
+    subst (λ p. IsFound (from_offset (p * s.from) stated) (Some source.left)) c.piece_length.ensures
     (subst (λ p. IsFound (from_offset (c.piece_length.result * s.from) (under p)) (Some source.left)) path here) in
-    finds_read t r f s told source.left c.check_pieces-found.result c.of_found.result c.requires.span there c.check_pieces-found.ensures.found
+    finds_read t r f s stated source.left c.check_pieces-found.result c.of_found.result c.requires.span there c.check_pieces-found.ensures.found
     c.of_found.ensures
 
 pub returns-in-Ok-Some-clause-visits : goal.returns-in-Ok-Some-clause-visits

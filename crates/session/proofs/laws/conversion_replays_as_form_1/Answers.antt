@@ -1,5 +1,5 @@
 use Rattle.session.proofs.Replayed.{conversion_runs, form_1_runs, conversion_replays}
-use Rattle.session.proofs.OneRun.{one_run, conversion_tells}
+use Rattle.session.proofs.OneRun.{one_run, replay_of_conversion}
 use Rattle.session.proofs.laws.conversion_replays_as_form_1.Goals as goal
 
 pub returns : goal.returns
@@ -8,5 +8,5 @@ returns c = record {
   back = form_1_runs;
   replays = conversion_replays;
   one = one_run;
-  same = conversion_tells;
+  same = replay_of_conversion;
 }

@@ -3,9 +3,9 @@ use Rattle.std.specs.List.{list_all}
 use Rattle.std.proofs.lemmas.Option.{none-some, same_Some}
 use Rattle.opening.specs.Seen.{version1}
 use Rattle.folders.specs.FolderCheck.{verdicts_of}
-use Rattle.folders.specs.Verdicts.{IsV1Verdict, TellsContents, is_checked, is_whole}
+use Rattle.folders.specs.Verdicts.{IsV1Verdict, AreTrueVerdicts, is_checked, is_whole}
 use Rattle.folders.proofs.FolderChecks.{first_checked}
-use Rattle.folders.proofs.Reports.{good_is_enough, stream_told, yes_is_sure}
+use Rattle.folders.proofs.Reports.{good_is_enough, stream_found, yes_is_sure}
 use Rattle.folders.proofs.Visiting.{contents_agree, contents_extend, contents_of}
 use Rattle.folders.proofs.folder_check.FolderCheck.finish.Goals as goal
 use Rattle.folders.proofs.folder_check.FolderCheck.finish.Goals.{in-None, in-Some}
@@ -34,20 +34,20 @@ returns-clause-verdicts c = λ under checked all.
       ];
     }
 
-pub returns-clause-tells : goal.returns-clause-tells
-returns-clause-tells c = λ under checked all.
+pub returns-clause-are_true : goal.returns-clause-are_true
+returns-clause-are_true c = λ under checked all.
     let t = c.args.torrent.now in
     let files = verdicts_of c.args.self in
     let n = length files in
     let feed = c.args.self.stream.feed in
     let first = first_checked t under c.sound.ensures c.args.self checked in
     let contents = contents_of first.found.seen in
-    let told = first.found.told contents (contents_extend first.found.seen) in
-    let tells : TellsContents t contents files c.match-v1.v1 = record {
-      each = told.each;
+    let shown = first.found.shown contents (contents_extend first.found.seen) in
+    let are_true : AreTrueVerdicts t contents files c.match-v1.v1 = record {
+      each = shown.each;
       version1 = λ v verdict hybrid is. elim c.match-v1.branch [
         | in-Some w ↦ subst (IsV1Verdict t v contents) (same_Some w.finish.result verdict (sym w.v1-is ∙ is))
-            (stream_told t contents n files feed v w.finish.result all first.passed told hybrid w.finish.ensures.checked w.finish.ensures.within
+            (stream_found t contents n files feed v w.finish.result all first.passed shown hybrid w.finish.ensures.checked w.finish.ensures.within
             w.finish.ensures.compared)
         | in-None w ↦ absurd (none-some verdict (sym w.v1-is ∙ is))
       ];
@@ -56,7 +56,7 @@ returns-clause-tells c = λ under checked all.
     record {
       contents = contents;
       agree = contents_agree t under n files feed all first.found;
-      tells = tells;
-      sure = yes_is_sure t contents files c.match-v1.v1 has tells;
-      enough = good_is_enough t contents files c.match-v1.v1 c.sound.ensures has tells;
+      are_true = are_true;
+      sure = yes_is_sure t contents files c.match-v1.v1 has are_true;
+      enough = good_is_enough t contents files c.match-v1.v1 c.sound.ensures has are_true;
     }

@@ -1,7 +1,7 @@
 use Rattle.std.proofs.Common.{◌+◌, ◌≤◌, ◌++◌, vec_len, sym, ap, ◌∙◌, append_assoc, arith}
 use Rattle.std.specs.Vec.{vec_capacity}
 use Rattle.node_maps.specs.Cell.{hash_in}
-use Rattle.node_maps.specs.Directories.{on_rows}
+use Rattle.node_maps.specs.PageIndexes.{on_rows}
 use Rattle.node_maps.specs.PagedRow.{pages_of, row_hashes}
 use Rattle.node_maps.specs.Runs.{hashes_from}
 use Rattle.node_maps.proofs.Runs.{known-alike, alike-back, known-part, hashes-alike, hashes-join}

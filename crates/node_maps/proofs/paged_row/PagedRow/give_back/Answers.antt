@@ -1,7 +1,7 @@
 use Rattle.std.proofs.Common.{◌≡◌, ℕ, ◌+◌, ◌-◌, ◌<◌, ◌≤◌, length, true, false, sym, ap, ◌∙◌, arith}
 use Rattle.std.proofs.lemmas.Bool.{false≢true}
 use Rattle.node_maps.specs.Pages.{is_spare}
-use Rattle.node_maps.specs.Directories.{on_rows}
+use Rattle.node_maps.specs.PageIndexes.{on_rows}
 use Rattle.node_maps.specs.PagedRow.{pages_of}
 use Rattle.node_maps.proofs.Pages.{gone-cells, gone-spare, kept-spare, spare-some}
 use Rattle.node_maps.proofs.Numbers.{counted-some, counted-less}

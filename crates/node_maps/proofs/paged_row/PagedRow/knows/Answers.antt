@@ -1,6 +1,6 @@
 use Rattle.std.proofs.Common.{◌+◌, ◌≤◌, sym, ◌∙◌, arith}
 use Rattle.std.proofs.lemmas.Bool.{false≢true}
-use Rattle.node_maps.specs.Directories.{on_rows}
+use Rattle.node_maps.specs.PageIndexes.{on_rows}
 use Rattle.node_maps.specs.PagedRow.{pages_of, row_hashes}
 use Rattle.node_maps.proofs.Runs.{known-alike, alike-back, known-part, known-join}
 use Rattle.node_maps.proofs.Parts.{page-alike, page-there}

@@ -1,4 +1,4 @@
-use Rattle.node_maps.specs.Directories.{on_rows}
+use Rattle.node_maps.specs.PageIndexes.{on_rows}
 use Rattle.node_maps.specs.PagedRow.{pages_of}
 use Rattle.node_maps.proofs.Numbers.{counted-few}
 use Rattle.node_maps.proofs.paged_row.PagedRow.len.Goals as goal

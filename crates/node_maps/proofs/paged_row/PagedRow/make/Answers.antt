@@ -1,6 +1,6 @@
 use Rattle.std.proofs.Common.{◌≡◌, ◌^◌, ◌≤◌, ◌∷◌, [], ◌++◌, None, sym, ap, ◌∙◌, subst, arith}
 use Rattle.node_maps.specs.Pages.{AreSpare}
-use Rattle.node_maps.specs.Directories.{on_rows}
+use Rattle.node_maps.specs.PageIndexes.{on_rows}
 use Rattle.node_maps.specs.PagedRow.{pages_of}
 use Rattle.node_maps.proofs.Pages.{added-cells, added-spare, absent}
 use Rattle.node_maps.proofs.Numbers.{counted-few, counted-more}

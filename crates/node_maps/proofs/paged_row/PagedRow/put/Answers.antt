@@ -1,5 +1,5 @@
 use Rattle.std.proofs.Common.{◌/◌, ◌%◌}
-use Rattle.node_maps.specs.Directories.{on_rows}
+use Rattle.node_maps.specs.PageIndexes.{on_rows}
 use Rattle.node_maps.specs.PagedRow.{pages_of}
 use Rattle.node_maps.proofs.Pages.{put-spare, put-there}
 use Rattle.node_maps.proofs.Numbers.{counted-same}

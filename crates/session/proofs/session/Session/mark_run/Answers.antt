@@ -73,16 +73,16 @@ push-requires g c =
 pub numbers-preserved : goal.numbers-preserved
 numbers-preserved g c =
     let more : List (Option BlockRefusal) = c.numbers.blocks.refusals ++ c.err.result ∷ [] in
-    let told : c.push.new.self.refusals ≡ more = ap (λ (v : BlocksSeen). v.refusals) c.push.ensures in
+    let stated : c.push.new.self.refusals ≡ more = ap (λ (v : BlocksSeen). v.refusals) c.push.ensures in
     let count : length more ≡ c.numbers.number + 1 = omega (arith, length-append c.numbers.blocks.refusals (c.err.result ∷ []), c.numbers.invariant.count) in
     record {
       file = ap (λ (v : BlocksSeen). v.file) c.push.ensures ∙ c.numbers.invariant.file;
       first = ap (λ (v : BlocksSeen). v.first) c.push.ensures ∙ c.numbers.invariant.first;
-      count = ap length told ∙ count;
+      count = ap length stated ∙ count;
       digests = c.hash_ahead.ensures;
       each = subst (λ rs. Chain (BlockStep c.args.file) c.args.self.now (cuts c.args.first c.args.bytes.now (c.numbers.number + 1)) rs
           c.mark_in_file-marked.new.self)
-          (ap (λ r. c.numbers.blocks.refusals ++ r ∷ []) (sym c.err.ensures.value) ∙ sym told)
+          (ap (λ r. c.numbers.blocks.refusals ++ r ∷ []) (sym c.err.ensures.value) ∙ sym stated)
           (next_block c.args.file c.args.self.now c.args.first c.args.bytes.now c.numbers.number c.numbers.blocks.refusals c.numbers.self
           c.numbers.invariant.each
           c.block_of.result.now c.mark_in_file-marked.result c.mark_in_file-marked.new.self c.block_of.ensures

@@ -8,14 +8,14 @@ use Rattle.session.proofs.session.Session.new.Goals as goal
 
 -- the trees are planted at the torrent's piece length
 piece_length_is : (made : Option ℕ) (p n torrents : ℕ) → made ≡ Some p → SomeIff made (IsPieceLength n) n → n ≡ torrents → p ≡ torrents
-piece_length_is made p n torrents is told same = (subst (λ o. SomeIff o (IsPieceLength n) n) is told).1 ∙ same
+piece_length_is made p n torrents is stated same = (subst (λ o. SomeIff o (IsPieceLength n) n) is stated).1 ∙ same
 
 pub infos-init : goal.infos-init
 infos-init g c = record {
   same = ap (map info_of) c.in_ok-trees.ensures.items;
   planted = no_trees c.unwrap-piece_length.result c.args.with_layers (map tree_entry c.trees-infos.result.now) c.in_ok-trees.trees.items
       c.in_ok-trees.ensures.items;
-  told = c.in_ok-trees.ensures.len;
+  stated = c.in_ok-trees.ensures.len;
   room = c.in_ok-trees.ensures.capacity;
 }
 
@@ -29,7 +29,7 @@ planted-requires g c =
 pub infos-preserved : goal.infos-preserved
 infos-preserved g c =
     let b : KeptTree = c.in_ok-planted.field-0 in
-    let count : length c.infos.trees.items ≡ c.infos.info-index = omega (arith, c.infos.trees.ok, c.infos.invariant.told) in
+    let count : length c.infos.trees.items ≡ c.infos.info-index = omega (arith, c.infos.trees.ok, c.infos.invariant.stated) in
     record {
       same = subst (λ (ts : List KeptTree). map info_of ts ≡ take (c.infos.info-index + 1) (map root_of_entry (map tree_entry c.trees-infos.result.now)))
           (sym c.push_reserved.ensures.items)
@@ -39,7 +39,7 @@ infos-preserved g c =
           (sym c.push_reserved.ensures.items)
           (planted_one_more c.unwrap-piece_length.result c.args.with_layers c.trees-infos.result.now c.infos.trees.items c.infos.info-index _ b
           c.infos-test.true count c.in_ok-planted.ensures c.infos.invariant.planted);
-      told = omega (arith, c.push_reserved.ensures.len, c.infos.invariant.told);
+      stated = omega (arith, c.push_reserved.ensures.len, c.infos.invariant.stated);
       room = omega (arith, c.push_reserved.ensures.capacity, c.infos.invariant.room);
     }
 

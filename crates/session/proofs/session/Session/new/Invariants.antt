@@ -10,6 +10,6 @@ abbrev pub invariant-infos : goal.invariant-infos
 invariant-infos g l = record {
   same : map info_of l.trees.items ≡ take l.info-index (map root_of_entry (map tree_entry l.infos));
   planted : ArePlanted l.piece_length l.with_layers (map tree_entry l.infos) l.trees.items;
-  told : vec_len l.trees ≡ l.info-index;
+  stated : vec_len l.trees ≡ l.info-index;
   room : length l.infos ≤ vec_capacity l.trees;
 }

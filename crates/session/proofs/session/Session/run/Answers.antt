@@ -18,7 +18,7 @@ messages-preserved g c = record {
       c.step.result
       c.messages-test.true c.messages.invariant.run c.step.ensures.verified_is_the_block);
   hashes = All-take-more c.args.messages.now c.messages.message-index _ c.messages-test.true c.messages.invariant.hashes c.has_hashes.ensures;
-  told = omega (arith, c.push_reserved.ensures.len, c.messages.invariant.told);
+  stated = omega (arith, c.push_reserved.ensures.len, c.messages.invariant.stated);
   room = omega (arith, c.push_reserved.ensures.capacity, c.messages.invariant.room);
 }
 

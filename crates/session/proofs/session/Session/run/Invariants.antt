@@ -10,6 +10,6 @@ abbrev pub invariant-messages : goal.invariant-messages
 invariant-messages g l = record {
   run : Chain IsSafeStep l.fn.self (take l.message-index l.messages) l.verdicts.items l.self;
   hashes : All HasHashes (take l.message-index l.messages);
-  told : vec_len l.verdicts ≡ l.message-index;
+  stated : vec_len l.verdicts ≡ l.message-index;
   room : length l.messages ≤ vec_capacity l.verdicts;
 }

@@ -10,6 +10,6 @@ abbrev pub invariant-messages : goal.invariant-messages
 invariant-messages g l = record {
   run : Chain IsSafeNotedStep l.fn.self (take l.direction-index l.messages) l.verdicts.items l.self;
   hashes : All HasDirectedHashes (take l.direction-index l.messages);
-  told : vec_len l.verdicts ≡ l.direction-index;
+  stated : vec_len l.verdicts ≡ l.direction-index;
   room : length l.messages ≤ vec_capacity l.verdicts;
 }

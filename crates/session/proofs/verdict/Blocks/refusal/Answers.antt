@@ -7,6 +7,6 @@ use Rattle.session.proofs.verdict.Blocks.refusal.Goals as goal
 
 pub returns : goal.returns
 returns c =
-    let told : List (Option BlockRefusal) = take c.self.inside.count c.self.inside.refusals in
-    subst (λ (v : BlocksSeen). slice_get v.refusals c.args.entry ≡ Some (get_or told c.args.entry None)) c.self.view_is
-    (slice_get-get_or told c.args.entry None (subst (λ (v : BlocksSeen). c.args.entry < length v.refusals) (sym c.self.view_is) c.requires))
+    let stated : List (Option BlockRefusal) = take c.self.inside.count c.self.inside.refusals in
+    subst (λ (v : BlocksSeen). slice_get v.refusals c.args.entry ≡ Some (get_or stated c.args.entry None)) c.self.view_is
+    (slice_get-get_or stated c.args.entry None (subst (λ (v : BlocksSeen). c.args.entry < length v.refusals) (sym c.self.view_is) c.requires))

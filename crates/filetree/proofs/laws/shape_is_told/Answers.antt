@@ -1,5 +1,0 @@
-use Rattle.filetree.proofs.Shaping.{shape_is_told}
-use Rattle.filetree.proofs.laws.shape_is_told.Goals as goal
-
-pub returns : goal.returns
-returns c = shape_is_told

@@ -1,0 +1,61 @@
+use Rattle.std.proofs.Common.{◌≡◌, ℕ, ◌/◌, ◌^◌, Some, length, sym, ap, ◌∙◌, subst}
+use Rattle.std.specs.List.{insert}
+use Rattle.std.proofs.lemmas.Result.{on_ok_weaker, on_err_weaker}
+use Rattle.node_maps.specs.Rising.{AreRising, IsNumberAt, IsGapFor}
+use Rattle.node_maps.specs.Pages.{find_under}
+use Rattle.node_maps.proofs.Rising.{rising-insert, insert-beside}
+use Rattle.node_maps.proofs.Pages.{under_there, under-set, under-alike, under-insert}
+use Rattle.node_maps.proofs.page_index.PageIndexNodePageIndex.add.Goals as goal
+
+pub add-requires : goal.add-requires
+add-requires g c =
+    let s = c.args.self.now in
+    let is = subst (λ ns. IsNumberAt ns (c.args.number / 2 ^ s.shift) c.in-Ok.at) c.deref.ensures.value c.in-Ok.ensures.at in
+    sym (under_there g.D.PageIndex.find s.numbers.items s.lists.items s.rising s.beside s.shift c.args.number c.in-Ok.at is c.index_mut-list.result.now
+    c.index_mut-list.ensures.value) ∙ c.requires
+
+pub invariant_of-self-in-Err : goal.invariant_of-self-in-Err
+invariant_of-self-in-Err g c =
+    let s = c.args.self.now in
+    let key : ℕ = c.args.number / 2 ^ s.shift in
+    let gap = subst (λ ns. IsGapFor ns key c.in-Err.at) c.deref.ensures.value c.in-Err.ensures.gap in
+    let numbers : c.insert_reserved.new.items.items ≡ insert s.numbers.items c.in-Err.at key = c.insert_reserved.ensures.items
+    ∙ ap (λ xs. insert xs c.in-Err.at key) c.make_room.ensures.numbers in
+    let lists : c.insert_reserved-in-Err.new.items.items ≡ insert s.lists.items c.in-Err.at c.add-in-Err.new.self = c.insert_reserved-in-Err.ensures.items
+    ∙ ap (λ xs. insert xs c.in-Err.at c.add-in-Err.new.self) c.make_room.ensures.items in
+    record {
+      low = s.low;
+      rising = subst AreRising (sym numbers) (rising-insert s.numbers.items key c.in-Err.at gap s.rising);
+      beside = ap length lists ∙ insert-beside s.numbers.items s.lists.items s.rising s.beside key c.in-Err.at gap c.add-in-Err.new.self
+          ∙ sym (ap length numbers);
+    }
+
+pub returns-in-Ok-clause-ok : goal.returns-in-Ok-clause-ok
+returns-in-Ok-clause-ok g c =
+    let s = c.args.self.now in
+    let is = subst (λ ns. IsNumberAt ns (c.args.number / 2 ^ s.shift) c.in-Ok.at) c.deref.ensures.value c.in-Ok.ensures.at in
+    on_ok_weaker c.add.result (λ changed. under-set g.D.PageIndex.find s.numbers.items s.lists.items s.rising s.beside s.shift c.args.number c.in-Ok.at is
+    c.index_mut-list.result.now c.add.new.self c.index_mut-list.ensures.value (Some c.args.page) changed) c.add.ensures.ok
+
+pub returns-in-Ok-clause-err : goal.returns-in-Ok-clause-err
+returns-in-Ok-clause-err g c =
+    let s = c.args.self.now in
+    let is = subst (λ ns. IsNumberAt ns (c.args.number / 2 ^ s.shift) c.in-Ok.at) c.deref.ensures.value c.in-Ok.ensures.at in
+    on_err_weaker c.add.result (λ alike. under-alike g.D.PageIndex.find s.numbers.items s.lists.items s.rising s.beside s.shift c.args.number c.in-Ok.at is
+    c.index_mut-list.result.now c.add.new.self c.index_mut-list.ensures.value alike) c.add.ensures.err
+
+pub returns-in_ok-add-in-Err-clause-ok : goal.returns-in_ok-add-in-Err-clause-ok
+returns-in_ok-add-in-Err-clause-ok g c =
+    let s = c.args.self.now in
+    let find = g.D.PageIndex.find in
+    let key : ℕ = c.args.number / 2 ^ s.shift in
+    let gap = subst (λ ns. IsGapFor ns key c.in-Err.at) c.deref.ensures.value c.in-Err.ensures.gap in
+    let numbers : c.insert_reserved.new.items.items ≡ insert s.numbers.items c.in-Err.at key = c.insert_reserved.ensures.items
+    ∙ ap (λ xs. insert xs c.in-Err.at key) c.make_room.ensures.numbers in
+    let lists : c.insert_reserved-in-Err.new.items.items ≡ insert s.lists.items c.in-Err.at c.add-in-Err.new.self = c.insert_reserved-in-Err.ensures.items
+    ∙ ap (λ xs. insert xs c.in-Err.at c.add-in-Err.new.self) c.make_room.ensures.items in
+    λ n. ap (λ xs. find_under find xs c.insert_reserved-in-Err.new.items.items s.shift n) numbers
+    ∙ ap (λ ys. find_under find (insert s.numbers.items c.in-Err.at key) ys s.shift n) lists
+    ∙ under-insert find s.numbers.items s.lists.items s.rising s.beside s.shift c.args.number c.in-Err.at gap (find c.new-list.result) c.new-list.ensures.none
+    c.add-in-Err.new.self (Some c.args.page)
+    c.in_ok-add-in-Err.ensures.ok n
