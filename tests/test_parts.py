@@ -248,9 +248,9 @@ def instructions(*arguments):
 
 
 def test_parts_do_no_more_than_a_check():
-    """Four parts take hardly more instructions than one check, and each about a fourth of them, however long the pieces are;
-    so on four cores that share nothing they take little more than a fourth of the time. `bench/run parts` measures what
-    this machine makes of it."""
+    """Four parts take hardly more instructions than one check and three more openings of the torrent, and each about a
+    fourth of them, however long the pieces are; so on four cores that share nothing they take little more than a fourth of
+    the time. `bench/run parts` measures what this machine makes of it."""
     need("valgrind")
     with folder() as place:
         os.mkdir(f"{place}/files")
@@ -259,10 +259,14 @@ def test_parts_do_no_more_than_a_check():
             expect(run("create", f"{place}/files", f"{place}/torrent", "--name", "x", "--piece-length", str(length), *kind), 0)
             whole, done = instructions("check", f"{place}/torrent", f"{place}/files")
             assert done.returncode == 0 and done.stdout.endswith(b"yes\n"), done
+            opening, _ = instructions("show", f"{place}/torrent")
             parts = []
             for number in range(1, 5):
                 count, done = instructions("check", f"{place}/torrent", f"{place}/files", "--part", f"{number}/4")
                 assert done.returncode == 0 and done.stdout.endswith(b"part yes\n"), done
                 parts.append(count)
-            print(f"pieces of {length} bytes {kind}: instructions of four parts {sum(parts) / whole:.3f} of one check's, of the largest {max(parts) / whole:.3f}")
-            assert sum(parts) <= 1.05 * whole and max(parts) <= 0.3 * whole, (whole, parts)
+            print(
+                f"pieces of {length} bytes {kind}: instructions of four parts {sum(parts) / whole:.3f} of one check's,"
+                f" of the largest {max(parts) / whole:.3f}, of an opening {opening / whole:.3f}"
+            )
+            assert sum(parts) <= 1.02 * whole + 3 * opening and max(parts) <= 0.3 * whole, (whole, opening, parts)
