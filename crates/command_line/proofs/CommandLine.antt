@@ -1,6 +1,5 @@
--- How a command grows, and which texts an action needs.
-use Rattle.std.proofs.Common.{◌≡◌, ◌∙◌, ◌++◌, ◌∷◌, [], ap, codes, false, if◌then◌else◌, List, None, Option, option_map, refl, Some, subst, sym, true, ◌||◌}
-use Rattle.std.proofs.Common.{Bool}
+-- What is found of a command, and which texts an action needs.
+use Rattle.std.proofs.Common.{◌≡◌, ◌∙◌, ◌∷◌, [], ap, codes, false, if◌then◌else◌, List, None, Option, option_map, refl, Some, subst, sym, true, ◌||◌}
 use Rattle.std.specs.List.{list_any}
 use Rattle.std.specs.Prelude.{⊤, Box, Err, Ok, Result, unwrap_or, ◌<◌, ◌^◌, ℕ}
 use Rattle.std.specs.Str.Parse.{IsNumeral, ParsesUnsigned, digits_value, without_leading_plus}
@@ -12,37 +11,11 @@ use Rattle.clap.specs.declared.parser.matches.SubCommand.{SubCommand}
 use Rattle.clap.specs.declared.parser.matches.ArgMatches.TheViews.{out-SubCommand}
 use Rattle.std.specs.Str.{bytes_eq}
 use Rattle.std.proofs.lemmas.Slice.Eq.{bytes_eq-Decides}
-use Rattle.clap.specs.Built.{AddsArg, AddsSubcommand}
-use Rattle.clap.specs.Simple.{App, Shape, app_of, with_rule, with_subcommand}
-use Rattle.clap.specs.Walk.{Row, Rule, Text, first_of, one_of, rule_of}
-use Rattle.clap.specs.declared.builder.arg.Arg.{Arg}
-use Rattle.clap.specs.declared.builder.command.Command.{Command}
-use Rattle.clap.specs.declared.builder.command.Command.TheViews.{out-Command}
+use Rattle.clap.specs.Walk.{Row, Text, first_of, one_of}
 use Rattle.command_line.specs.declared.command.Action.{Action}
 use Rattle.command_line.specs.declared.command.Action.TheVariants as action
 use Rattle.command_line.specs.declared.command.Part.{Part}
-use Rattle.command_line.specs.CommandLine.{AreTexts, AreTextsIn, Asks, FindsArguments, command_of, IsActionOf, IsApp, IsArgument, IsAskedOf, IsLeaf, IsNumberIfThere, IsNumberOf, IsPartText, IsPlain}
-
--- a command with one argument more
-pub with_argument : (old new : Command) (a : Arg) (s : Shape) (r : Rule)
-    → IsLeaf s old → IsArgument r a → AddsArg old a new
-    → IsLeaf (record s { rules = s.rules ++ r ∷ [] }) new
-with_argument old new a s r leaf arg adds = (
-  adds.shape arg.1 ∙ ap (λ (x : App). with_rule x (rule_of a)) leaf.0
-      ∙ ap (λ (x : Rule). with_rule (record { top = s; subs = [] }) x) arg.0,
-  adds.globals ∙ ap (λ (b : Bool). b || a.global) leaf.1 ∙ arg.1,
-)
-
--- a program with one command more
-pub with_command : (old sub new : Command) (app : App) (s : Shape)
-    → IsApp app old → IsLeaf s sub → AddsSubcommand old sub new
-    → IsApp (with_subcommand app s) new
-with_command old sub new app s is leaf adds =
-    let same : app_of new ≡ with_subcommand (app_of old) (app_of sub).top = adds.shape leaf.1 in (
-      same ∙ ap (λ (x : App). with_subcommand x (app_of sub).top) is.0
-          ∙ ap (λ (x : App). with_subcommand app x.top) leaf.0,
-      adds.globals ∙ ap (λ (b : Bool). b || (out-Command sub).has_globals) is.1 ∙ leaf.1,
-    )
+use Rattle.command_line.specs.CommandLine.{AreTexts, AreTextsIn, Asks, FindsArguments, command_of, IsActionOf, IsAskedOf, IsNumberIfThere, IsNumberOf, IsPartText, IsPlain}
 
 -- what is known of the name and of the rows of what was found
 pub both_found : {Z : Type 0} (o : Option (Box SubCommand Z)) (name : Text) (rows : List Row)

@@ -1,2 +1,3 @@
 -- Lemmas on the command line.
+mod Building
 mod CommandLine

@@ -2,7 +2,7 @@
 ghost use Rattle.std.specs.Prelude.{◌≤◌};
 
 /// What the command line asks for.
-#[derive(Debug, Drop)]
+#[derive(Drop)]
 pub enum Action<'a> {
     /// Print a file's length and pieces root.
     Root {
@@ -33,7 +33,7 @@ pub enum Action<'a> {
 }
 
 /// What is checked, and what is printed of it.
-#[derive(Debug, Drop)]
+#[derive(Drop)]
 pub struct Check<'a> {
     /// The torrent file's path.
     pub torrent: &'a str,
@@ -48,7 +48,7 @@ pub struct Check<'a> {
 }
 
 /// Which part of a check is made.
-#[derive(Debug, Drop)]
+#[derive(Drop)]
 pub struct CheckPart<'a> {
     /// The torrent file's path.
     pub torrent: &'a str,
@@ -59,7 +59,7 @@ pub struct CheckPart<'a> {
 }
 
 /// One of so many parts of a check. The number is at least 1 and at most the count.
-#[derive(Clone, Copy, Debug)]
+#[derive(Clone, Copy)]
 pub struct Part {
     /// Its number, from 1.
     pub number: u64,
@@ -70,7 +70,7 @@ pub struct Part {
 }
 
 /// Of what torrent the parts of a check are joined, and what they reported.
-#[derive(Debug, Drop)]
+#[derive(Drop)]
 pub struct Join<'a> {
     /// The torrent file's path.
     pub torrent: &'a str,
@@ -79,7 +79,7 @@ pub struct Join<'a> {
 }
 
 /// Of what a torrent is made, and how.
-#[derive(Debug, Drop)]
+#[derive(Drop)]
 pub struct Create<'a> {
     /// The folder's path.
     pub dir: &'a str,
@@ -96,7 +96,7 @@ pub struct Create<'a> {
 }
 
 /// What is replayed, and how.
-#[derive(Debug, Drop)]
+#[derive(Drop)]
 pub struct Replay<'a> {
     /// The torrent file's path.
     pub torrent: &'a str,
@@ -113,7 +113,7 @@ pub struct Replay<'a> {
 }
 
 /// What is converted.
-#[derive(Debug, Drop)]
+#[derive(Drop)]
 pub struct Convert<'a> {
     /// The record's path.
     pub record: &'a str,

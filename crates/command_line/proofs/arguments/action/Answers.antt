@@ -78,3 +78,9 @@ returns-clause-refused c =
       none,
       subst IsUnaskedKind (sym c.in_ok-error-in-None.ensures.kind) c.unasked-kind.ensures,
     )
+
+pub asked_in-requires-clause-exclude : goal.asked_in-requires-clause-exclude
+asked_in-requires-clause-exclude c = c.in_ok-exclude.ensures
+
+pub asked_in-requires-clause-reports : goal.asked_in-requires-clause-reports
+asked_in-requires-clause-reports c = c.in_ok-reports.ensures

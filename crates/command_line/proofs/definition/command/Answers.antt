@@ -1,30 +1,15 @@
-use Rattle.std.proofs.Common.{◌∙◌, [], ap, codes, true}
-use Rattle.clap.specs.Simple.{App, Shape, app_of_fields, new_shape, on_top}
-use Rattle.clap.specs.declared.builder.command.Command.{Command}
-use Rattle.clap.specs.declared.builder.command.Command.TheOpen.{Command-F}
-use Rattle.command_line.specs.CommandLine.{IsApp}
+use Rattle.command_line.proofs.Building.{set_about, set_after_help, set_after_long_help, set_subcommand_required, set_version}
 use Rattle.command_line.proofs.definition.command.Goals as goal
-
--- the program without its commands
-abbrev bare : App
-bare = record {
-  top = record (new_shape (codes "btcheck")) { has_version = true; subcommand_required = true };
-  subs = [];
-}
 
 pub returns : goal.returns
 returns c =
-    let local = λ (f : Command-F Command). f.has_globals in
-    let versioned = on_top (λ (s : Shape). record s { has_version = true }) in
-    let needing = on_top (λ (s : Shape). record s { subcommand_required = true }) in
-    let start : IsApp bare c.subcommand_required-command.result = (
-      ap app_of_fields c.subcommand_required-command.ensures
-          ∙ ap needing (ap app_of_fields c.after_long_help.ensures ∙ ap app_of_fields c.after_help.ensures
-          ∙ ap app_of_fields c.about.ensures ∙ ap app_of_fields c.version.ensures ∙ ap versioned c.new.ensures.app),
-      ap local c.subcommand_required-command.ensures ∙ ap local c.after_long_help.ensures
-          ∙ ap local c.after_help.ensures ∙ ap local c.about.ensures ∙ ap local c.version.ensures ∙ c.new.ensures.local,
-    ) in
-    let one = c.with_command-command.ensures bare _ start c.root_command.ensures in
+    let version = set_version c.new.result c.version.result _ _ c.version.ensures (c.new.ensures.app, c.new.ensures.local) in
+    let about = set_about c.version.result c.about.result _ _ c.about.ensures version in
+    let help = set_after_help c.about.result c.after_help.result _ _ c.after_help.ensures about in
+    let long_help = set_after_long_help c.after_help.result c.after_long_help.result _ _ c.after_long_help.ensures help in
+    let start = set_subcommand_required c.after_long_help.result c.subcommand_required-command.result _
+    c.subcommand_required-command.ensures long_help in
+    let one = c.with_command-command.ensures _ _ start c.root_command.ensures in
     let two = c.with_command-command-2.ensures _ _ one c.show_command.ensures in
     let three = c.with_command-command-3.ensures _ _ two c.check_command.ensures in
     let four = c.with_command-command-4.ensures _ _ three c.join_command.ensures in

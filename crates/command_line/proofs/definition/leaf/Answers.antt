@@ -1,12 +1,7 @@
-use Rattle.std.proofs.Common.{◌∙◌, ap}
-use Rattle.clap.specs.Simple.{app_of_fields}
-use Rattle.clap.specs.declared.builder.command.Command.{Command}
-use Rattle.clap.specs.declared.builder.command.Command.TheOpen.{Command-F}
+use Rattle.command_line.proofs.Building.{set_about, set_after_help}
 use Rattle.command_line.proofs.definition.leaf.Goals as goal
 
 pub returns : goal.returns
 returns c =
-    let local = λ (f : Command-F Command). f.has_globals in (
-      ap app_of_fields c.after_help.ensures ∙ ap app_of_fields c.about.ensures ∙ c.new.ensures.app,
-      ap local c.after_help.ensures ∙ ap local c.about.ensures ∙ c.new.ensures.local,
-    )
+    let about = set_about c.new.result c.about.result c.args.about _ c.about.ensures (c.new.ensures.app, c.new.ensures.local) in
+    set_after_help c.about.result c.after_help.result c.args.help _ c.after_help.ensures about
