@@ -1,5 +1,5 @@
 //! The leaves so far, as the roots of whole subtrees: at most one a layer.
-ghost use Rattle.std.specs.Prelude.{◌≡◌, ℕ, ◌+◌, ◌-◌, ◌%◌, ◌^◌, ◌<◌, ◌≤◌, ◌∷◌, ◌++◌, [], List, OnSome, length, replicate, ◌*◌};
+ghost use Rattle.std.specs.Prelude.{◌≡◌, ℕ, ◌+◌, ◌-◌, ◌%◌, ◌^◌, ◌<◌, ◌≤◌, ◌∷◌, ◌++◌, [], List, OnSome, length, replicate, take, drop, ◌*◌};
 ghost use Rattle.std.specs.Option.{option_to_list};
 ghost use Rattle.hashtree.specs.Tree.{tree};
 ghost use Rattle.hashtree.specs.Climb.{climb};
@@ -10,8 +10,8 @@ use sha256_lanes::parents;
 // Layers of the highest tree, the root's included.
 const LAYERS: usize = 33;
 
-/// Leaves of a row that [`Peaks::push_row`] takes: those of eight trees of height 5.
-pub(crate) const ROW: usize = 256;
+/// The height of the trees of the longest row that [`Peaks::push_rows`] is given.
+pub(crate) const HIGHEST: u32 = 5;
 
 /// A layer that no tree has: no leaf completes a node of it.
 pub(crate) const ABOVE_ROOT: u32 = LAYERS as u32;
@@ -80,17 +80,43 @@ impl Peaks {
         completed
     }
 
-    /// Takes the next leaves, a whole row, whose nodes are made eight at a time. Condition: only
-    /// rows came before.
-    pub(crate) fn push_row(&mut self, leaves: &[Hash])
-        requires room { self.old.count + 256 < 2 ^ 33 }
-        requires whole { length leaves.now ≡ 256 }
-        requires aligned { self.old.count % 256 ≡ 0 }
-        ensures count { self.new.count ≡ self.old.count + 256 }
+    /// Takes as many of the next leaves as fill rows of eight trees of this height, and returns the
+    /// rest. Condition: the leaves so far fill such trees.
+    pub(crate) fn push_rows<'a>(&mut self, leaves: &'a [Hash], height: u32) -> &'a [Hash]
+        requires above { 0 < height }
+        requires low { height ≤ 5 }
+        requires room { self.old.count + length leaves.now < 2 ^ 33 }
+        requires aligned { self.old.count % 2 ^ height ≡ 0 }
+        ensures grows { self.old.count ≤ self.new.count }
+        ensures aligned { self.new.count % 2 ^ height ≡ 0 }
+        ensures count { self.new.count + length result.now ≡ self.old.count + length leaves.now }
+        ensures rest { result.now ≡ drop (self.new.count - self.old.count) leaves.now }
+        ensures leaves { AddsLeaves self.old self.new
+            (take (self.new.count - self.old.count) leaves.now) }
+    {
+        let size = 8 << height;
+        let mut rest = leaves;
+        'rows: while rest.len() >= size {
+            let (row, after) = rest.split_at(size);
+            self.push_row(row, height);
+            rest = after;
+        }
+        rest
+    }
+
+    // Takes the next leaves, a whole row, whose nodes are made eight at a time.
+    fn push_row(&mut self, leaves: &[Hash], height: u32)
+        requires above { 0 < height }
+        requires low { height ≤ 5 }
+        requires room { self.old.count + length leaves.now < 2 ^ 33 }
+        requires whole { length leaves.now ≡ 8 * 2 ^ height }
+        requires aligned { self.old.count % 2 ^ height ≡ 0 }
+        ensures aligned { self.new.count % 2 ^ height ≡ 0 }
+        ensures count { self.new.count ≡ self.old.count + length leaves.now }
         ensures leaves { AddsLeaves self.old self.new leaves.now }
     {
-        for root in &eight_nodes(leaves, 5) {
-            self.push_tree(*root, 5, ABOVE_ROOT);
+        for root in &eight_nodes(leaves, height) {
+            self.push_tree(*root, height, ABOVE_ROOT);
         }
     }
 
