@@ -30,6 +30,9 @@ pub returns-in_err-check-clause-first : goal.returns-in_err-check-clause-first
 returns-in_err-check-clause-first c kind offset f =
     let found = c.in_ok-v.ensures.spelled in absurd (taken_never_stops c.args.input.now c.in_ok-v.used found.0 kind offset found.1 f)
 
+pub returns-clause-found : goal.returns-clause-found
+returns-clause-found c = c.in_ok-v.ensures.kept c.in_ok-check.ensures
+
 pub returns-clause-only : goal.returns-clause-only
 returns-clause-only c v front rest e s =
     taken_is c.args.input.now c.in_ok-v.used (view c.in_ok-v.v) v front rest c.in_ok-v.ensures.used (c.in_ok-v.ensures.kept c.in_ok-check.ensures) e s

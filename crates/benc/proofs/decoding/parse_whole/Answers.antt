@@ -1,11 +1,9 @@
-use Rattle.std.proofs.Common.{take, drop, refl, sym, inl, inr, arith}
-use Rattle.std.proofs.lemmas.List.{take-append-drop, length-take, length-drop}
+use Rattle.std.proofs.Common.{inl, inr, arith}
 use Rattle.std.proofs.lemmas.Result.{err_from_is_err_and}
 use Rattle.std.specs.Option.{option_copied}
-use Rattle.benc.specs.Fails.{Trails}
 use Rattle.benc.specs.View.{view}
 use Rattle.benc.specs.declared.fault.FaultKind.TheVariants.{Trailing}
-use Rattle.benc.proofs.Fronts.{whole_is, whole_spells}
+use Rattle.benc.proofs.Fronts.{taken_trails, whole_is, whole_spells}
 use Rattle.benc.proofs.Lookups.{spans_stand}
 use Rattle.benc.proofs.Unique.{no_fault, one_fault}
 use Rattle.benc.proofs.decoding.parse_whole.Goals as goal
@@ -22,21 +20,21 @@ returns-in_err-v-clause-first c kind offset f =
     let p = err_from_is_err_and c.from_residual.result c.from_residual.ensures.1 in
     rw (p.1, p.2) (one_fault c.args.input.now fault.kind kind fault.offset offset (inl c.in_err-v.ensures.fault.1) f)
 
+pub returns-in_err-v-clause-fault : goal.returns-in_err-v-clause-fault
+returns-in_err-v-clause-fault c =
+    let p = err_from_is_err_and c.from_residual.result c.from_residual.ensures.1 in rw (p.1, p.2) (λ known. inl c.in_err-v.ensures.fault.1)
+
+pub returns-in_err-v-clause-memory : goal.returns-in_err-v-clause-memory
+returns-in_err-v-clause-memory c =
+    let p = err_from_is_err_and c.from_residual.result c.from_residual.ensures.1 in rw (p.1, p.2) (λ none. absurd (c.in_err-v.ensures.fault.0 none))
+
+pub returns-in_err-v-clause-spelled : goal.returns-in_err-v-clause-spelled
+returns-in_err-v-clause-spelled c =
+    let p = err_from_is_err_and c.from_residual.result c.from_residual.ensures.1 in rw (p.1, p.2) (λ none. absurd (c.in_err-v.ensures.fault.0 none))
+
 pub returns-then-used-input-clause-fault : goal.returns-then-used-input-clause-fault
 returns-then-used-input-clause-fault c known =
-    let input = c.args.input.now in
-    let used = c.in_ok-v.used in
-    let found = c.in_ok-v.ensures.spelled in
-    inr (record {
-      value = found.0;
-      front = take used input;
-      rest = drop used input;
-      parts = sym (take-append-drop used input);
-      place = omega (arith, length-take used input);
-      spells = found.1;
-      more = omega (arith, length-drop used input);
-      is = refl;
-    })
+    let found = c.in_ok-v.ensures.spelled in inr (taken_trails c.args.input.now c.in_ok-v.used found.0 c.if-used-input.true found.1)
 
 pub returns-then-used-input-clause-only : goal.returns-then-used-input-clause-only
 returns-then-used-input-clause-only c v s =
@@ -49,22 +47,25 @@ returns-then-used-input-clause-first c kind offset f =
     let input = c.args.input.now in
     let used = c.in_ok-v.used in
     let found = c.in_ok-v.ensures.spelled in
-    let mine : Trails input Trailing used = record {
-      value = found.0;
-      front = take used input;
-      rest = drop used input;
-      parts = sym (take-append-drop used input);
-      place = omega (arith, length-take used input);
-      spells = found.1;
-      more = omega (arith, length-drop used input);
-      is = refl;
-    } in
-    one_fault input Trailing kind used offset (inr mine) f
+    one_fault input Trailing kind used offset (inr (taken_trails input used found.0 c.if-used-input.true found.1)) f
+
+pub returns-in_err-check-clause-spelled : goal.returns-in_err-check-clause-spelled
+returns-in_err-check-clause-spelled c =
+    let found = c.in_ok-v.ensures.spelled in
+    let p = err_from_is_err_and c.from_residual-in_err-check.result c.from_residual-in_err-check.ensures.1 in
+    rw (p.1, p.2) (λ none. (found.0, whole_spells c.args.input.now c.in_ok-v.used found.0 (omega arith) found.1))
 
 pub returns-in_err-check-clause-first : goal.returns-in_err-check-clause-first
 returns-in_err-check-clause-first c kind offset f =
     let found = c.in_ok-v.ensures.spelled in
     absurd (no_fault c.args.input.now found.0 kind offset (whole_spells c.args.input.now c.in_ok-v.used found.0 (omega arith) found.1) f)
+
+pub returns-clause-found : goal.returns-clause-found
+returns-clause-found c =
+    whole_spells c.args.input.now c.in_ok-v.used (view c.in_ok-v.v) c.if-used-input.false (c.in_ok-v.ensures.kept c.in_ok-check.ensures)
+
+pub returns-clause-span : goal.returns-clause-span
+returns-clause-span c = c.in_ok-v.ensures.span c.in_ok-check.ensures
 
 pub returns-clause-stands : goal.returns-clause-stands
 returns-clause-stands c =
@@ -72,7 +73,7 @@ returns-clause-stands c =
     let v = view c.in_ok-v.v in
     let kept = c.in_ok-check.ensures in
     spans_stand (option_copied c.args.asked) input v (option_copied c.in_ok-v.span)
-    (whole_spells input c.in_ok-v.used v (omega arith) (c.in_ok-v.ensures.kept kept)) (c.in_ok-v.ensures.span kept)
+    (whole_spells input c.in_ok-v.used v c.if-used-input.false (c.in_ok-v.ensures.kept kept)) (c.in_ok-v.ensures.span kept)
 
 pub returns-clause-only : goal.returns-clause-only
 returns-clause-only c v s = (whole_is c.args.input.now c.in_ok-v.used (view c.in_ok-v.v) v c.in_ok-v.ensures.used (c.in_ok-v.ensures.kept c.in_ok-check.ensures)
@@ -81,4 +82,4 @@ returns-clause-only c v s = (whole_is c.args.input.now c.in_ok-v.used (view c.in
 pub returns-clause-first : goal.returns-clause-first
 returns-clause-first c kind offset f =
     let found = c.in_ok-v.ensures.spelled in
-    no_fault c.args.input.now found.0 kind offset (whole_spells c.args.input.now c.in_ok-v.used found.0 (omega arith) found.1) f
+    no_fault c.args.input.now found.0 kind offset (whole_spells c.args.input.now c.in_ok-v.used found.0 c.if-used-input.false found.1) f

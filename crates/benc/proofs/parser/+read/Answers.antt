@@ -242,6 +242,9 @@ pairs-returns-then-first-eq101-clause-kept t c kept =
     c.in-Some.ensures (omega arith)
     ∙ ap (λ ps. Ok (pairs_of ps, c.in-Some.after.now)) (l.invariant.read.2 kept)
 
+pub pairs-returns-then-first-eq101-clause-memory : goal.pairs-returns-then-first-eq101-clause-memory
+pairs-returns-then-first-eq101-clause-memory t c = c.pairs.invariant.refused
+
 pub pairs-returns-in-Err-clause-read : goal.pairs-returns-in-Err-clause-read
 pairs-returns-in-Err-clause-read t c =
     let l = c.pairs in

@@ -1,0 +1,4 @@
+use Rattle.benc.proofs.adapters.FromWriteSink.write.Goals as goal
+
+pub returns-in-Ok-eq0-clause-some : goal.returns-in-Ok-eq0-clause-some
+returns-in-Ok-eq0-clause-some g c = tt
