@@ -10,6 +10,21 @@ pub(crate) fn name_refused(rt: &HostRuntime, call: &str) -> io::Result<()> {
     eprintln!(rt; "refused: {call}")
 }
 
+/// Prints that a call that failed left something behind.
+pub(crate) fn print_changed(rt: &HostRuntime, call: &str) -> io::Result<()> {
+    println!(rt; "changed by {call}")
+}
+
+/// Prints bytes, as numbers.
+pub(crate) fn print_bytes(rt: &HostRuntime, bytes: &[u8]) -> io::Result<()> {
+    println!(rt; "{bytes:?}")
+}
+
+/// Prints the number of a refusal.
+pub(crate) fn print_refusal(rt: &HostRuntime, refusal: &Refusal) -> io::Result<()> {
+    println!(rt; "refused {}", refusal.number())
+}
+
 /// Decodes the bytes, and prints the value.
 pub(crate) fn decode_again(rt: &HostRuntime, bytes: &[u8]) -> io::Result<()> {
     let mut answer = decode(rt.alloc(), bytes);

@@ -5,7 +5,7 @@ ghost use Rattle.pieces.specs.Pieces.{pieces_of};
 ghost use Rattle.opening.specs.Seen.{tree_entry};
 ghost use Rattle.opening.specs.Sound.{IsSoundTree};
 
-use crate::again::name_refused;
+use crate::again::{name_refused, print_bytes, print_changed, print_refusal};
 use benc::memory::MemSink;
 use drafts::Draft;
 use filetree::Refusal;
@@ -22,14 +22,14 @@ pub(crate) fn draft_again(rt: &HostRuntime, torrent: &Torrent<'_>, hybrid: bool)
             add_files(rt, &mut draft, torrent)?;
             print_draft(rt, &draft)
         }
-        Err(refusal) => println!(rt; "refused {}", refusal.number()),
+        Err(refusal) => print_refusal(rt, &refusal),
     }
 }
 
 /// Prints the bytes of the torrent.
 pub(crate) fn print_draft(rt: &HostRuntime, draft: &Draft) -> io::Result<()> {
     let text = text_of(rt, draft)?;
-    println!(rt; "{:?}", text.written())
+    print_bytes(rt, text.written())
 }
 
 // What the draft writes: nothing if it has no file.
@@ -114,12 +114,12 @@ fn add_again(
     if let Err(Refusal::NoMemory) = answer {
         name_refused(rt, "add")?;
         if text_of(rt, draft)?.written() != before.written() {
-            println!(rt; "changed by add")?;
+            print_changed(rt, "add")?;
         }
         answer = draft.add(path, tree.length, tree.root, tree.layer, v1);
     }
     match answer {
         Ok(()) => Ok(()),
-        Err(refusal) => println!(rt; "refused {}", refusal.number()),
+        Err(refusal) => print_refusal(rt, &refusal),
     }
 }

@@ -11,7 +11,7 @@ use wire::{Direction, Hash, Message};
 pub(crate) const OUT_OF_MEMORY: Verdict = Verdict::HashRefused(HashRefusal::NoMemory);
 
 /// The call that takes a message.
-#[derive(Clone, Copy, Debug, PartialEq, Eq)]
+#[derive(Clone, Copy)]
 pub(crate) enum Call {
     /// `step`.
     Step,
@@ -67,20 +67,35 @@ fn fill<N: NodeMap>(session: &mut Session<'_, N>, layer: u32, hashes: &[Hash]) -
 
 /// Messages for a session of a torrent.
 #[derive(Drop)]
-pub(crate) struct Given<'t, 'm> {
+pub(crate) struct Given<'g> {
     /// The torrent.
-    pub(crate) torrent: &'t Torrent<'t>,
+    pub(crate) torrent: &'g Torrent<'g>,
     /// Whether a new session knows the piece layers.
     pub(crate) with_layers: bool,
     /// The call that takes each message.
     pub(crate) call: Call,
     /// The messages.
-    pub(crate) messages: Vec<Directed<'m>>,
+    pub(crate) messages: Vec<Directed<'g>>,
 }
 
-impl<'t, 'm> Given<'t, 'm> {
+impl<'g> Given<'g> {
+    /// These messages, for sessions of a torrent.
+    pub(crate) fn new(
+        torrent: &'g Torrent<'g>,
+        with_layers: bool,
+        call: Call,
+        messages: Vec<Directed<'g>>,
+    ) -> Given<'g> {
+        Given {
+            torrent,
+            with_layers,
+            call,
+            messages,
+        }
+    }
+
     /// No messages, for a session that knows the roots alone.
-    pub(crate) fn nothing(alloc: Global, torrent: &'t Torrent<'t>) -> Given<'t, 'm> {
+    pub(crate) fn nothing(alloc: Global, torrent: &'g Torrent<'g>) -> Given<'g> {
         Given {
             torrent,
             with_layers: false,
@@ -90,7 +105,7 @@ impl<'t, 'm> Given<'t, 'm> {
     }
 
     /// A new session.
-    pub(crate) fn session<N: NodeMap>(&self, rt: &HostRuntime) -> io::Result<Session<'t, N>> {
+    pub(crate) fn session<N: NodeMap>(&self, rt: &HostRuntime) -> io::Result<Session<'g, N>> {
         new_again(rt, self.torrent, self.with_layers)
     }
 
@@ -99,7 +114,7 @@ impl<'t, 'm> Given<'t, 'm> {
         &self,
         alloc: Global,
         count: usize,
-    ) -> Result<Session<'t, N>, NoMemory> {
+    ) -> Result<Session<'g, N>, NoMemory> {
         let mut session = Session::new(alloc, self.torrent, self.with_layers)?;
         for message in self.messages.iter().take(count) {
             let _ = self.call.take(&mut session, message);

@@ -17,7 +17,7 @@ mod shelving;
 mod state;
 mod wanting;
 
-use again::{decode_again, open_again};
+use again::{decode_again, open_again, print_refusal};
 use alone::{cuts_again, layer_again, objects_again, span_again};
 use drafting::draft_again;
 use messages::take_record;
@@ -55,6 +55,31 @@ fn make_call<N: NodeMap>(
     }
 }
 
+// Makes the call over the map of this name.
+fn make_call_over(
+    rt: &HostRuntime,
+    torrent: &Torrent<'_>,
+    record: &[u8],
+    map: &str,
+    call: &str,
+) -> io::Result<()> {
+    match map {
+        "flat" => make_call::<Flat>(rt, torrent, record, call),
+        _ => make_call::<Paged>(rt, torrent, record, call),
+    }
+}
+
+// Reads the files with these paths, and makes the call.
+fn run(rt: &HostRuntime, torrent: &str, record: &str, map: &str, call: &str) -> io::Result<()> {
+    let bytes = fs::read(rt, torrent)?;
+    let record = fs::read(rt, record)?;
+    decode_again(rt, &bytes)?;
+    match open_again(rt, &bytes)? {
+        Ok(torrent) => make_call_over(rt, &torrent, &record, map, call),
+        Err(refusal) => print_refusal(rt, &refusal),
+    }
+}
+
 fn main(rt: HostRuntime) -> io::Result<()> {
     let mut words = env::args(&rt)?.skip(1);
     let (Some(torrent), Some(record), Some(map), Some(call)) = (
@@ -65,14 +90,11 @@ fn main(rt: HostRuntime) -> io::Result<()> {
     ) else {
         return eprintln!(rt; "usage: memory_tests TORRENT RECORD flat|paged CALL");
     };
-    let bytes = fs::read(&rt, torrent.as_str())?;
-    let record = fs::read(&rt, record.as_str())?;
-    decode_again(&rt, &bytes)?;
-    match open_again(&rt, &bytes)? {
-        Ok(torrent) => match map.as_str() {
-            "flat" => make_call::<Flat>(&rt, &torrent, &record, call.as_str()),
-            _ => make_call::<Paged>(&rt, &torrent, &record, call.as_str()),
-        },
-        Err(refusal) => println!(rt; "refused {}", refusal.number()),
-    }
+    run(
+        &rt,
+        torrent.as_str(),
+        record.as_str(),
+        map.as_str(),
+        call.as_str(),
+    )
 }

@@ -2,7 +2,7 @@
 use crate::given::{Call, Given, OUT_OF_MEMORY};
 use crate::keeping::{Directed, keep_messages, lend_messages};
 use crate::runs::run_messages;
-use crate::state::{State, compare};
+use crate::state::{compare, print_state};
 use crate::wanting::want_each;
 use opening::Torrent;
 use session::{Answer, NoMemory, NodeMap, Session};
@@ -17,26 +17,34 @@ pub(crate) fn take_record<N: NodeMap>(
     call: &str,
 ) -> io::Result<()> {
     let kept = keep_messages(rt, record)?;
-    let given = Given {
-        torrent,
-        with_layers: call == "run" || call == "run of all",
-        call: Call::of(call),
-        messages: lend_messages(rt.alloc(), &kept)?,
-    };
+    let messages = lend_messages(rt.alloc(), &kept)?;
+    let given = Given::new(torrent, knows_layers(call), Call::of(call), messages);
+    take_given::<N>(rt, &given, call)
+}
+
+// Whether the session of this call knows the piece layers.
+fn knows_layers(call: &str) -> bool {
     match call {
-        "run" => run_messages::<N>(rt, &given, 1),
-        "want" => want_each::<N>(rt, &given),
-        "run of all" | "run_noted" => run_messages::<N>(rt, &given, usize::MAX),
-        _ => take_messages::<N>(rt, &given),
+        "run" | "run of all" => true,
+        _ => false,
+    }
+}
+
+fn take_given<N: NodeMap>(rt: &HostRuntime, given: &Given<'_>, call: &str) -> io::Result<()> {
+    match call {
+        "run" => run_messages::<N>(rt, given, 1),
+        "want" => want_each::<N>(rt, given),
+        "run of all" | "run_noted" => run_messages::<N>(rt, given, usize::MAX),
+        _ => take_messages::<N>(rt, given),
     }
 }
 
 // Takes each message, and prints what it came to and the session's state.
-fn take_messages<N: NodeMap>(rt: &HostRuntime, given: &Given<'_, '_>) -> io::Result<()> {
+fn take_messages<N: NodeMap>(rt: &HostRuntime, given: &Given<'_>) -> io::Result<()> {
     let mut session: Session<'_, N> = given.session(rt)?;
     for (number, message) in given.messages.iter().enumerate() {
         take_again(rt, &mut session, given, number, message)?;
-        println!(rt; "{:?}", State::of(&session))?;
+        print_state(rt, &session)?;
     }
     Ok(())
 }
@@ -45,7 +53,7 @@ fn take_messages<N: NodeMap>(rt: &HostRuntime, given: &Given<'_, '_>) -> io::Res
 fn take_again<N: NodeMap>(
     rt: &HostRuntime,
     session: &mut Session<'_, N>,
-    given: &Given<'_, '_>,
+    given: &Given<'_>,
     number: usize,
     message: &Directed<'_>,
 ) -> io::Result<()> {
@@ -66,7 +74,7 @@ fn take_again<N: NodeMap>(
 fn answer_again<N: NodeMap>(
     rt: &HostRuntime,
     session: &Session<'_, N>,
-    given: &Given<'_, '_>,
+    given: &Given<'_>,
     number: usize,
     ask: &Ask,
 ) -> io::Result<()> {

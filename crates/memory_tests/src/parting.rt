@@ -2,7 +2,7 @@
 ghost use Rattle.std.specs.Prelude.{◌<◌};
 
 use crate::again::name_refused;
-use crate::shelving::PATH;
+use crate::shelving::{PATH, name_unopened, print_verdicts};
 use benc::memory::MemSink;
 use folders::memory::{MemFile, MemShelf};
 use folders::{NoMemory, Report};
@@ -29,7 +29,7 @@ pub(crate) fn join_again(
         answer = join_reports(rt.alloc(), torrent, &texts);
     }
     match answer {
-        Ok(report) => println!(rt; "{:?}", report.files.as_slice()),
+        Ok(report) => print_verdicts(rt, &report),
         Err(fault) => println!(rt; "{fault:?}"),
     }
 }
@@ -65,10 +65,7 @@ fn check_again(
     match check_part(rt.alloc(), torrent, &mut shelf, places) {
         Ok(report) => Ok(report),
         Err(NoMemory) => {
-            name_refused(rt, "check_part")?;
-            if shelf.openings() != 0 {
-                println!(rt; "changed by check_part")?;
-            }
+            name_unopened(rt, "check_part", &shelf)?;
             Ok(check_part(rt.alloc(), torrent, &mut shelf, places)?)
         }
     }

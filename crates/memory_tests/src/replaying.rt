@@ -1,7 +1,6 @@
 //! The replay of a record, made again if memory was refused.
-use crate::again::{name_refused, new_again};
-use crate::given::Given;
-use crate::state::{State, are_alike, compare};
+use crate::again::{name_refused, new_again, print_bytes, print_changed};
+use crate::state::{are_alike, compare_new, print_state};
 use benc::memory::{MemSink, MemSource};
 use opening::Torrent;
 use replays::{Outcome, replay};
@@ -39,24 +38,30 @@ pub(crate) fn replay_again<N: NodeMap>(
     record: &[u8],
 ) -> io::Result<()> {
     let mut session: Session<'_, N> = new_again(rt, torrent, false)?;
+    let replayed = replay_with_room(rt, torrent, &mut session, record)?;
+    print_bytes(rt, replayed.report.written())?;
+    print_bytes(rt, replayed.answers.written())?;
+    print_state(rt, &session)
+}
+
+// What the replay comes to with ample memory.
+fn replay_with_room<N: NodeMap>(
+    rt: &HostRuntime,
+    torrent: &Torrent<'_>,
+    session: &mut Session<'_, N>,
+    record: &[u8],
+) -> io::Result<Replayed> {
     let mut source = MemSource::new(record);
-    let mut replayed = replay_once(rt, &mut session, &mut source)?;
+    let replayed = replay_once(rt, session, &mut source)?;
     if replayed.is_unread() {
-        compare(
-            rt,
-            "reserve of replay",
-            &session,
-            &Given::nothing(rt.alloc(), torrent),
-            0,
-        )?;
-        replayed = replay_once(rt, &mut session, &mut source)?;
-    } else if replayed.lacks_memory() {
-        name_replay(rt, &replayed)?;
-        replayed = replay_anew(rt, torrent, &mut session, record)?;
+        compare_new(rt, "reserve of replay", session, torrent)?;
+        return replay_once(rt, session, &mut source);
     }
-    println!(rt; "{:?}", replayed.report.written())?;
-    println!(rt; "{:?}", replayed.answers.written())?;
-    println!(rt; "{:?}", State::of(&session))
+    if replayed.lacks_memory() {
+        name_replay(rt, &replayed)?;
+        return replay_anew(rt, torrent, session, record);
+    }
+    Ok(replayed)
 }
 
 fn replay_once<N: NodeMap>(
@@ -88,11 +93,19 @@ fn replay_anew<N: NodeMap>(
     session: &mut Session<'_, N>,
     record: &[u8],
 ) -> io::Result<Replayed> {
-    let _ = replay_once(rt, session, &mut MemSource::new(record))?;
+    let _ = replay_record(rt, session, record)?;
     let mut other: Session<'_, N> = Session::new(rt.alloc(), torrent, false)?;
-    let replayed = replay_once(rt, &mut other, &mut MemSource::new(record))?;
+    let replayed = replay_record(rt, &mut other, record)?;
     if !are_alike(session, &other, &[])? {
-        println!(rt; "changed by replay")?;
+        print_changed(rt, "replay")?;
     }
     Ok(replayed)
+}
+
+fn replay_record<N: NodeMap>(
+    rt: &HostRuntime,
+    session: &mut Session<'_, N>,
+    record: &[u8],
+) -> io::Result<Replayed> {
+    replay_once(rt, session, &mut MemSource::new(record))
 }

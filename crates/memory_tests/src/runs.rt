@@ -1,10 +1,10 @@
 //! Messages that are taken by runs, several at once.
 ghost use Rattle.std.specs.Prelude.{◌<◌};
 
-use crate::again::name_refused;
+use crate::again::{name_refused, print_changed};
 use crate::given::{Call, Given, OUT_OF_MEMORY};
 use crate::keeping::Directed;
-use crate::state::{State, are_alike, compare};
+use crate::state::{are_alike, compare, print_state};
 use session::{NoMemory, NodeMap, Session, Verdict};
 use std::alloc::{AllocError, Global};
 use std::io;
@@ -13,18 +13,18 @@ use wire::Message;
 // The messages of one run, with their directions and without, and how many others stand before
 // them.
 #[derive(Drop)]
-struct Part<'p, 'm> {
+struct Part<'p> {
     before: usize,
-    directed: &'p [Directed<'m>],
-    plain: Vec<Message<'m>>,
+    directed: &'p [Directed<'p>],
+    plain: Vec<Message<'p>>,
 }
 
-impl<'p, 'm> Part<'p, 'm> {
+impl<'p> Part<'p> {
     fn new(
         alloc: Global,
         before: usize,
-        directed: &'p [Directed<'m>],
-    ) -> Result<Part<'p, 'm>, AllocError> {
+        directed: &'p [Directed<'p>],
+    ) -> Result<Part<'p>, AllocError> {
         let mut plain = Vec::with_capacity(alloc, directed.len())?;
         for (_, message) in directed {
             plain.push(*message)?;
@@ -59,7 +59,7 @@ fn name(call: Call) -> &'static str {
 /// state.
 pub(crate) fn run_messages<N: NodeMap>(
     rt: &HostRuntime,
-    given: &Given<'_, '_>,
+    given: &Given<'_>,
     size: usize,
 ) -> io::Result<()>
     requires { 0 < size }
@@ -67,13 +67,28 @@ pub(crate) fn run_messages<N: NodeMap>(
     let mut session: Session<'_, N> = given.session(rt)?;
     let mut before: usize = 0;
     for directed in given.messages.chunks(size) {
-        let part = Part::new(rt.alloc(), before, directed)?;
-        let verdicts = run_again(rt, &mut session, given, &part)?;
-        println!(rt; "{:?}", verdicts.as_slice())?;
-        println!(rt; "{:?}", State::of(&session))?;
+        run_part(rt, &mut session, given, before, directed)?;
         before = before.wrapping_add(directed.len());
     }
     Ok(())
+}
+
+// Takes the messages of one run, and prints the verdicts and the session's state.
+fn run_part<'t, N: NodeMap>(
+    rt: &HostRuntime,
+    session: &mut Session<'t, N>,
+    given: &Given<'t>,
+    before: usize,
+    directed: &[Directed<'_>],
+) -> io::Result<()> {
+    let part = Part::new(rt.alloc(), before, directed)?;
+    let verdicts = run_again(rt, session, given, &part)?;
+    print_verdicts(rt, &verdicts)?;
+    print_state(rt, session)
+}
+
+fn print_verdicts(rt: &HostRuntime, verdicts: &[Verdict]) -> io::Result<()> {
+    println!(rt; "{verdicts:?}")
 }
 
 // The verdicts of a run. If memory is refused for one of its messages, they are those over a
@@ -81,29 +96,42 @@ pub(crate) fn run_messages<N: NodeMap>(
 fn run_again<'t, N: NodeMap>(
     rt: &HostRuntime,
     session: &mut Session<'t, N>,
-    given: &Given<'t, '_>,
-    part: &Part<'_, '_>,
+    given: &Given<'t>,
+    part: &Part<'_>,
 ) -> io::Result<Vec<Verdict>> {
     let verdicts = run_with_room(rt, session, given, part)?;
-    let refused = verdicts
-        .iter()
-        .position(|verdict| *verdict == OUT_OF_MEMORY);
-    match refused {
+    match first_refused(&verdicts) {
         None => Ok(verdicts),
         Some(number) => {
             judge(rt, session, given, part, number, &verdicts)?;
-            *session = given.session_after(rt.alloc(), part.before)?;
-            Ok(part.run(given.call, session)?)
+            Ok(run_anew(rt.alloc(), session, given, part)?)
         }
     }
+}
+
+// The number of the first message for which memory was refused.
+fn first_refused(verdicts: &[Verdict]) -> Option<usize> {
+    verdicts
+        .iter()
+        .position(|verdict| *verdict == OUT_OF_MEMORY)
+}
+
+fn run_anew<'t, N: NodeMap>(
+    alloc: Global,
+    session: &mut Session<'t, N>,
+    given: &Given<'t>,
+    part: &Part<'_>,
+) -> Result<Vec<Verdict>, NoMemory> {
+    *session = given.session_after(alloc, part.before)?;
+    part.run(given.call, session)
 }
 
 // The verdicts of a run, which is made again if memory for them was refused.
 fn run_with_room<N: NodeMap>(
     rt: &HostRuntime,
     session: &mut Session<'_, N>,
-    given: &Given<'_, '_>,
-    part: &Part<'_, '_>,
+    given: &Given<'_>,
+    part: &Part<'_>,
 ) -> io::Result<Vec<Verdict>> {
     match part.run(given.call, session) {
         Ok(verdicts) => Ok(verdicts),
@@ -119,24 +147,35 @@ fn run_with_room<N: NodeMap>(
 fn judge<N: NodeMap>(
     rt: &HostRuntime,
     session: &mut Session<'_, N>,
-    given: &Given<'_, '_>,
-    part: &Part<'_, '_>,
+    given: &Given<'_>,
+    part: &Part<'_>,
     number: usize,
     verdicts: &[Verdict],
 ) -> io::Result<()> {
-    let call = format!(in rt.alloc();
-        "message {} of {}",
-        number.wrapping_add(1),
-        name(given.call)
-    )?;
+    let call = message_of(rt.alloc(), number, given.call)?;
     name_refused(rt, &call)?;
-    let mut other: Session<'_, N> = given.session_after(rt.alloc(), part.before)?;
-    let without_it = are_of_steps(session, &mut other, given, part, verdicts)?;
-    let verdicts = part.run(given.call, session)?;
-    if !without_it || !are_of_steps(session, &mut other, given, part, &verdicts)? {
-        println!(rt; "changed by {call}")?;
+    if !stands_without_it(rt.alloc(), session, given, part, verdicts)? {
+        print_changed(rt, &call)?;
     }
     Ok(())
+}
+
+fn message_of(alloc: Global, number: usize, call: Call) -> Result<String, AllocError> {
+    format!(in alloc; "message {} of {}", number.wrapping_add(1), name(call))
+}
+
+// Whether the others are judged as if the message had not come, and the whole run, made again, too.
+fn stands_without_it<N: NodeMap>(
+    alloc: Global,
+    session: &mut Session<'_, N>,
+    given: &Given<'_>,
+    part: &Part<'_>,
+    verdicts: &[Verdict],
+) -> Result<bool, NoMemory> {
+    let mut other: Session<'_, N> = given.session_after(alloc, part.before)?;
+    let without_it = are_of_steps(session, &mut other, given, part, verdicts)?;
+    let verdicts = part.run(given.call, session)?;
+    Ok(without_it && are_of_steps(session, &mut other, given, part, &verdicts)?)
 }
 
 // Whether the verdicts of a run are those of steps over another session, which leave out a message
@@ -144,8 +183,8 @@ fn judge<N: NodeMap>(
 fn are_of_steps<N: NodeMap>(
     session: &Session<'_, N>,
     other: &mut Session<'_, N>,
-    given: &Given<'_, '_>,
-    part: &Part<'_, '_>,
+    given: &Given<'_>,
+    part: &Part<'_>,
     verdicts: &[Verdict],
 ) -> Result<bool, NoMemory> {
     for (message, verdict) in part.directed.iter().zip(verdicts) {

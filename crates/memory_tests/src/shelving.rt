@@ -1,8 +1,7 @@
 //! Calls on folders, made again if memory was refused.
-use crate::again::{name_refused, new_again};
+use crate::again::{name_refused, new_again, print_bytes, print_changed};
 use crate::drafting::print_draft;
-use crate::given::Given;
-use crate::state::{State, compare};
+use crate::state::{compare_new, print_state};
 use benc::memory::MemSink;
 use drafts::Draft;
 use folders::memory::{MemFile, MemShelf};
@@ -50,13 +49,24 @@ pub(crate) fn check_again(
     let report = match check(rt.alloc(), torrent, &mut shelf) {
         Ok(report) => report,
         Err(NoMemory) => {
-            name_refused(rt, "check")?;
-            if shelf.openings() != 0 {
-                println!(rt; "changed by check")?;
-            }
+            name_unopened(rt, "check", &shelf)?;
             check(rt.alloc(), torrent, &mut shelf)?
         }
     };
+    print_verdicts(rt, &report)
+}
+
+/// Names a call that failed, and prints `changed` if it opened a file.
+pub(crate) fn name_unopened(rt: &HostRuntime, call: &str, shelf: &MemShelf<'_>) -> io::Result<()> {
+    name_refused(rt, call)?;
+    if shelf.openings() != 0 {
+        print_changed(rt, call)?;
+    }
+    Ok(())
+}
+
+/// Prints the verdicts on the files.
+pub(crate) fn print_verdicts(rt: &HostRuntime, report: &Report) -> io::Result<()> {
     println!(rt; "{:?}", report.files.as_slice())
 }
 
@@ -71,10 +81,7 @@ pub(crate) fn report_again(
     let mut out = MemSink::with_room(rt.alloc(), 256)?;
     let mut answer = check_onto(rt.alloc(), torrent, &mut shelf, Lines::All, &mut out);
     if let Err(CheckFault::NoMemory) = answer {
-        name_refused(rt, "check_onto")?;
-        if shelf.openings() != 0 || out.flushes() != 0 || !out.written().is_empty() {
-            println!(rt; "changed by check_onto")?;
-        }
+        name_untouched(rt, "check_onto", &shelf, &out)?;
         answer = check_onto(rt.alloc(), torrent, &mut shelf, Lines::All, &mut out);
     }
     print_checked(rt, answer, &out)
@@ -87,13 +94,24 @@ pub(crate) fn bad_again(rt: &HostRuntime, torrent: &Torrent<'_>, content: &[u8])
     let mut out = MemSink::with_room(rt.alloc(), 256)?;
     let mut answer = check_with_bad_pieces(rt.alloc(), torrent, &mut shelf, Lines::All, &mut out);
     if let Err(BadCheckFault::NoMemory) = answer {
-        name_refused(rt, "check_with_bad_pieces")?;
-        if shelf.openings() != 0 || out.flushes() != 0 || !out.written().is_empty() {
-            println!(rt; "changed by check_with_bad_pieces")?;
-        }
+        name_untouched(rt, "check_with_bad_pieces", &shelf, &out)?;
         answer = check_with_bad_pieces(rt.alloc(), torrent, &mut shelf, Lines::All, &mut out);
     }
     print_checked(rt, answer, &out)
+}
+
+// Names a call that failed, and prints `changed` if it opened a file, or used the sink.
+fn name_untouched(
+    rt: &HostRuntime,
+    call: &str,
+    shelf: &MemShelf<'_>,
+    out: &MemSink,
+) -> io::Result<()> {
+    name_refused(rt, call)?;
+    if shelf.openings() != 0 || out.flushes() != 0 || !out.written().is_empty() {
+        print_changed(rt, call)?;
+    }
+    Ok(())
 }
 
 fn print_checked<E: fmt::Display + Drop>(
@@ -102,10 +120,10 @@ fn print_checked<E: fmt::Display + Drop>(
     out: &MemSink,
 ) -> io::Result<()> {
     match answer {
-        Ok(report) => println!(rt; "{:?}", report.files.as_slice())?,
+        Ok(report) => print_verdicts(rt, &report)?,
         Err(fault) => println!(rt; "{fault}")?,
     }
-    println!(rt; "{:?}", out.written())
+    print_bytes(rt, out.written())
 }
 
 /// Seeds a session from a file of this content, and prints its state.
@@ -116,14 +134,21 @@ pub(crate) fn seed_again<N: NodeMap>(
 ) -> io::Result<()> {
     let mut session: Session<'_, N> = new_again(rt, torrent, false)?;
     if let Err(SeedFault::NoMemory) = seed_file(rt, &mut session, content)? {
-        let nothing = Given::nothing(rt.alloc(), torrent);
-        compare(rt, "seed", &session, &nothing, 0)?;
-        match seed_file(rt, &mut session, content)? {
-            Ok(()) => {}
-            Err(fault) => println!(rt; "{fault}")?,
-        }
+        compare_new(rt, "seed", &session, torrent)?;
+        seed_with_room(rt, &mut session, content)?;
     }
-    println!(rt; "{:?}", State::of(&session))
+    print_state(rt, &session)
+}
+
+fn seed_with_room<N: NodeMap>(
+    rt: &HostRuntime,
+    session: &mut Session<'_, N>,
+    content: &[u8],
+) -> io::Result<()> {
+    match seed_file(rt, session, content)? {
+        Ok(()) => Ok(()),
+        Err(fault) => println!(rt; "{fault}"),
+    }
 }
 
 fn seed_file<N: NodeMap>(

@@ -1,17 +1,17 @@
 //! What a refused call must leave as it was.
 ghost use Rattle.std.specs.Prelude.{◌<◌, length};
 
-use crate::again::name_refused;
+use crate::again::{name_refused, print_changed};
 use crate::given::Given;
 use crate::keeping::Directed;
-use opening::TreeInfo;
+use opening::{Torrent, TreeInfo};
 use session::{Answer, NoMemory, NodeMap, Session};
 use std::io;
 use wire::{Ask, Message};
 
 /// How many places are known, leaves marked, and pages held, in all trees.
 #[derive(Clone, Copy, Debug, PartialEq, Eq)]
-pub(crate) struct State {
+struct State {
     known: u64,
     marked: u64,
     pages: u64,
@@ -19,7 +19,7 @@ pub(crate) struct State {
 
 impl State {
     /// The state of a session.
-    pub(crate) fn of<N: NodeMap>(session: &Session<'_, N>) -> State {
+    fn of<N: NodeMap>(session: &Session<'_, N>) -> State {
         let mut state = State {
             known: 0,
             marked: 0,
@@ -34,21 +34,39 @@ impl State {
     }
 }
 
+/// Prints the state of a session.
+pub(crate) fn print_state<N: NodeMap>(
+    rt: &HostRuntime,
+    session: &Session<'_, N>,
+) -> io::Result<()> {
+    println!(rt; "{:?}", State::of(session))
+}
+
 /// Names a call that failed, and prints `changed` if the session is not as one that took so many of
 /// the messages, and no others.
 pub(crate) fn compare<N: NodeMap>(
     rt: &HostRuntime,
     call: &str,
     session: &Session<'_, N>,
-    given: &Given<'_, '_>,
+    given: &Given<'_>,
     count: usize,
 ) -> io::Result<()> {
     name_refused(rt, call)?;
     let other: Session<'_, N> = given.session_after(rt.alloc(), count)?;
     if !are_alike(session, &other, &given.messages)? {
-        println!(rt; "changed by {call}")?;
+        print_changed(rt, call)?;
     }
     Ok(())
+}
+
+/// The same of a session that was to be as a new one.
+pub(crate) fn compare_new<N: NodeMap>(
+    rt: &HostRuntime,
+    call: &str,
+    session: &Session<'_, N>,
+    torrent: &Torrent<'_>,
+) -> io::Result<()> {
+    compare(rt, call, session, &Given::nothing(rt.alloc(), torrent), 0)
 }
 
 /// Whether two sessions of a torrent have the same state, answer each ask alike, and have the same

@@ -6,7 +6,7 @@ use std::io;
 
 /// Takes the messages, and prints at the start and after each what is wanted for each block of the
 /// torrent's first tree.
-pub(crate) fn want_each<N: NodeMap>(rt: &HostRuntime, given: &Given<'_, '_>) -> io::Result<()> {
+pub(crate) fn want_each<N: NodeMap>(rt: &HostRuntime, given: &Given<'_>) -> io::Result<()> {
     let mut session: Session<'_, N> = given.session(rt)?;
     print_wanted(rt, &session)?;
     for message in given.messages.iter() {
