@@ -1,9 +1,28 @@
-use Rattle.std.proofs.Common.{◌≡◌, arith, inr, Result, Ok, Err, OnErr, ap, sym, ◌∙◌, ◌++◌, length}
+use Rattle.std.proofs.Common.{◌≡◌, arith, inr, true, ap, sym, ◌∙◌, ◌++◌, length}
+use Rattle.std.proofs.lemmas.List.{length-append}
 use Rattle.hashtree.specs.RootBuilder as root
 use Rattle.hashtree.specs.LayerBuilder.{FeedsLayer}
-use Rattle.hashtree.proofs.Fronts.{front_lengths, front_more}
-use Rattle.hashtree.proofs.Keeping.{keeps_part, layer_both, node_takes_memory}
+use Rattle.hashtree.specs.Parts.{rest_of}
+use Rattle.hashtree.proofs.Fronts.{front_all, front_lengths, front_more, front_none}
+use Rattle.hashtree.proofs.Keeping.{keeps_part, layer_both, layer_none, node_takes_memory, on_err}
 use Rattle.hashtree.proofs.layer.LayerBuilder.push.Goals as goal
+
+pub parts-init : goal.parts-init
+parts-init c = record {
+  front = front_none FeedsLayer c.args.self.now c.args.bytes.now _ c.new-parts.ensures
+      (layer_none c.args.self.now (λ refused. (let works = c.if-self.false in (let no : ⊥ = cc in no))));
+  capacity = omega arith;
+}
+
+pub take_part-node-requires-clause-room : goal.take_part-node-requires-clause-room
+take_part-node-requires-clause-room c =
+    let front = c.parts.invariant.front in
+    omega (arith, front.taken.count, ap length front.bytes_are, length-append front.front (rest_of c.parts.parts), c.requires)
+
+pub returns-clause-fed : goal.returns-clause-fed
+returns-clause-fed c =
+    let all : c.is_empty.result ≡ true = let test = c.parts-test.false in cc in
+    front_all FeedsLayer c.args.self.now c.parts.self c.args.bytes.now _ (c.is_empty.ensures.0 all) c.parts.invariant.front
 
 pub parts-preserved : goal.parts-preserved
 parts-preserved c =
@@ -19,10 +38,6 @@ parts-preserved c =
           (λ refused. front.taken.works (sym c.in_ok-keep.ensures.again ∙ refused)));
       capacity = omega (arith, c.in_ok-keep.ensures.capacity, c.parts.invariant.capacity);
     }
-
-on_err : {A E : Type 0} (P : Type 0) (r : Result A E) → P → OnErr r P
-on_err P (Ok x) p = tt
-on_err P (Err e) p = p
 
 pub returns-in_err-keep-clause-refused : goal.returns-in_err-keep-clause-refused
 returns-in_err-keep-clause-refused c =

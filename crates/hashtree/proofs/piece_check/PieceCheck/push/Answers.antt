@@ -1,12 +1,26 @@
-use Rattle.std.proofs.Common.{arith, refl, ap, ◌≡◌, ◌≤◌, ◌++◌, length}
+use Rattle.std.proofs.Common.{arith, true, refl, ap, ◌≡◌, ◌≤◌, ◌++◌, length}
 use Rattle.std.specs.Option.{option_to_list}
 use Rattle.std.proofs.lemmas.List.{length-append}
 use Rattle.hashtree.specs.Complete.{complete_nodes}
+use Rattle.hashtree.specs.Parts.{rest_of}
 use Rattle.hashtree.specs.RootBuilder.{byte_count}
 use Rattle.hashtree.specs.PieceCheck.{FeedsCheck}
-use Rattle.hashtree.proofs.Comparing.{check_both, checked, room_for_nodes}
-use Rattle.hashtree.proofs.Fronts.{front_lengths, front_more}
+use Rattle.hashtree.proofs.Comparing.{check_both, check_none, checked, room_for_nodes}
+use Rattle.hashtree.proofs.Fronts.{front_all, front_lengths, front_more, front_none}
 use Rattle.hashtree.proofs.piece_check.PieceCheck.push.Goals as goal
+
+pub parts-init : goal.parts-init
+parts-init c = front_none FeedsCheck c.args.self.now c.args.bytes.now _ c.new-parts.ensures (check_none c.args.self.now)
+
+pub take_part-node-requires-clause-room : goal.take_part-node-requires-clause-room
+take_part-node-requires-clause-room c =
+    let front = c.parts.invariant in
+    omega (arith, front.taken.count, ap length front.bytes_are, length-append front.front (rest_of c.parts.parts), c.requires, c.args.self.now.in_file)
+
+pub returns : goal.returns
+returns c =
+    let all : c.is_empty.result ≡ true = let test = c.parts-test.false in cc in
+    front_all FeedsCheck c.args.self.now c.parts.self c.args.bytes.now _ (c.is_empty.ensures.0 all) c.parts.invariant
 
 pub parts-preserved : goal.parts-preserved
 parts-preserved c =
