@@ -3,7 +3,8 @@ use Rattle.std.proofs.Common.{[], ap, sym, subst, Some, arith}
 use Rattle.std.proofs.lemmas.Result.{err_from_is_err_and}
 use Rattle.opening.specs.Description.{Description, FileEntry}
 use Rattle.opening.specs.declared.torrent.File.{File}
-use Rattle.std.proofs.lemmas.List.{length-map}
+use Rattle.std.proofs.lemmas.List.{length-map, take_all}
+use Rattle.chains.specs.Chain.{Chain}
 use Rattle.std.proofs.lemmas.List.Sums.{count_by-le-length}
 use Rattle.opening.specs.Seen.{file_entry}
 use Rattle.folders.specs.FolderCheck.{HasChecked, verdicts_of}
@@ -12,7 +13,8 @@ use Rattle.folders.proofs.Counts.{more_none}
 use Rattle.folders.proofs.Places.{file_there}
 use Rattle.folders.specs.Printed.{verdicts_text, wanted_text}
 use Rattle.folders.specs.LinesOut.{HasBroken, HasSent}
-use Rattle.folders.specs.Shelf.{ShelfContents}
+use Rattle.folders.specs.Shelf.{ShelfContents, more}
+use Rattle.folders.specs.Visits.{Visits}
 use Rattle.folders.specs.declared.lines.Lines.{Lines}
 use Rattle.folders.specs.declared.report.FileVerdict.{FileVerdict}
 use Rattle.folders.proofs.Checked.{checked_one, visits_first}
@@ -105,3 +107,29 @@ returns-clause-readable g c = λ same.
     ) in
     ap unreadable_count c.finish.ensures.files
     ∙ more_none (g.S.Shelf.faults c.args.shelf.now) (unreadable_count files) few (sym so_far.counted ∙ same)
+
+pub returns-clause-are_true : goal.returns-clause-are_true
+returns-clause-are_true g c =
+    let so_far = c.files.invariant.checked in
+    let all = all_passed c.args.torrent.now c.files.file-index c.files-entries.result.now c.files-entries.ensures c.files-test.false
+    c.files.auto.file-index-end in
+    c.finish.ensures.are_true (g.S.Shelf.contents c.args.shelf.now).under so_far.so_far (so_far.count ∙ all)
+
+pub returns-clause-once : goal.returns-clause-once
+returns-clause-once g c =
+    let t = c.args.torrent.now in
+    let so_far = c.files.invariant.checked in
+    let visits = Visits g.S.Shelf g.S.File.Source.seen t in
+    let all = all_passed t c.files.file-index c.files-entries.result.now c.files-entries.ensures c.files-test.false c.files.auto.file-index-end in
+    subst (λ vs. Chain visits c.args.shelf.now t.files vs c.files.shelf) (sym c.finish.ensures.files)
+    (subst (λ fs. Chain visits c.args.shelf.now fs (verdicts_of c.files.check) c.files.shelf)
+    (take_all c.files.file-index t.files (omega (arith, all))) so_far.visited)
+
+pub returns-clause-unreadable : goal.returns-clause-unreadable
+returns-clause-unreadable g c =
+    c.files.invariant.checked.counted ∙ ap (λ vs. more (g.S.Shelf.faults c.args.shelf.now) (unreadable_count vs)) (sym c.finish.ensures.files)
+
+pub returns-clause-sent : goal.returns-clause-sent
+returns-clause-sent g c =
+    subst (λ vs. HasSent (g.T.LinesOut.seen c.args.out.now) (g.T.LinesOut.seen c.files.out) (verdicts_text c.args.lines vs c.args.torrent.now.files))
+    (sym c.finish.ensures.files) c.files.invariant.sent
