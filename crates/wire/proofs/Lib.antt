@@ -10,6 +10,7 @@ pub mod OneReading
 pub mod Partial
 pub mod RecordParts
 pub mod RecordReaders
+pub mod Advancing
 pub mod RecordRuns
 pub mod Records
 pub mod Runs

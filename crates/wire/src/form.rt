@@ -6,7 +6,7 @@ ghost use Rattle.wire.specs.Records.{form_number, direction_byte};
 pub const HEADER: [u8; 8] = *b"\xff\xff\xff\xffBTH2";
 
 /// The form of a record.
-#[derive(Clone, Copy, Debug, PartialEq, Eq)]
+#[derive(Clone, Copy)]
 pub(crate) enum Form {
     /// Frames that came in, one after the other.
     One,

@@ -23,7 +23,7 @@ pub enum Frame<'a> {
 }
 
 /// The head of a frame. A length counts the id.
-#[derive(Clone, Copy, Debug)]
+#[derive(Clone, Copy)]
 pub(crate) enum Head {
     /// No body.
     KeepAlive,

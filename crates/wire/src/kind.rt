@@ -24,7 +24,7 @@ const HASHES_ID: u8 = 22;
 const REJECT_ID: u8 = 23;
 
 /// The kind of a message.
-#[derive(Clone, Copy, Debug, PartialEq, Eq)]
+#[derive(Clone, Copy)]
 pub(crate) enum Kind {
     /// A block of a piece.
     Piece,

@@ -15,7 +15,7 @@ use benc::Source;
 use std::alloc::{AllocError as NoMemory, Global};
 
 /// How far a reader has come.
-#[derive(Clone, Copy, Debug)]
+#[derive(Clone, Copy)]
 pub(crate) enum State {
     /// More may come.
     Open,
