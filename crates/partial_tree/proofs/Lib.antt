@@ -1,5 +1,6 @@
 pub mod Digests
 pub mod Powers
+pub mod LowPlaces
 pub mod Trees
 pub mod Whole
 pub mod Agree

@@ -1,6 +1,6 @@
 -- How the claims of evidence follow from one another, from a place down.
 use Rattle.std.proofs.Common.{◌≡◌, ◌⊎◌, ℕ, zero, suc, ◌+◌, ◌-◌, ◌*◌, ◌/◌, ◌^◌, ◌<◌, ◌≤◌, ◌↔◌, Bool, IsTrue, true, false, Option, is_some, Some, None, Result}
-use Rattle.std.proofs.Common.{Ok, Err, inl, inr, sym, ap, ◌∙◌, subst, arith, shr-shr}
+use Rattle.std.proofs.Common.{Ok, Err, inl, inr, sym, ap, ◌∙◌, subst, arith, div-one, eq-or-lt_of_le, shr-shr}
 use Rattle.std.specs.Option.{OnSome}
 use Rattle.std.specs.Result.{OnOk, is_err}
 use Rattle.std.specs.FinMap.{len}
@@ -97,6 +97,19 @@ below-children C K first second layer index grows left right = record {
   at = λ l i under below. elim (under_child layer index l i under below) [
     | inl u ↦ handled-grows C K first second grows l i (left.at l i u)
     | inr u ↦ right.at l i u
+  ];
+}
+
+-- a place is handled from there down if what is below it is, and its own claim
+pub all-handled : (C K : PartialTree) (first second : NewClaims) (layer index : ℕ) → Grows first second → BelowHandled C K first layer index
+    → IsHandled C K second layer index → AllHandled C K second layer index
+all-handled C K first second layer index grows below here = record {
+  at = λ l i under. elim (eq-or-lt_of_le under.0) [
+    | inr less ↦ handled-grows C K first second grows l i (below.at l i under less)
+    | inl same ↦
+        let none : layer - l ≡ 0 = omega (arith, same) in
+        let at : index ≡ i = sym under.1 ∙ ap (λ k. i / 2 ^ k) none ∙ div-one i in
+        subst (λ k. IsHandled C K second k i) (sym same) (subst (IsHandled C K second layer) at here)
   ];
 }
 

@@ -2,7 +2,9 @@ use Rattle.std.proofs.Common.{arith, sym, ap, ◌∙◌, Some}
 use Rattle.node_maps.specs.Places.{tree_height}
 use Rattle.node_maps.specs.Known.{look}
 use Rattle.partial_tree.specs.Evidence.{claimed_by}
-use Rattle.partial_tree.proofs.Tracing.{Opened, rests_on, left_claimed, right_claimed, given_claimed, join_claimed, below-children}
+use Rattle.partial_tree.proofs.Tracing.{Opened, rests_on, left_claimed, right_claimed, given_claimed, all-handled, join_claimed, below-children}
+use Rattle.partial_tree.proofs.FoldedRows.{claim-handled}
+use Rattle.partial_tree.proofs.LowPlaces.{place-low}
 use Rattle.partial_tree.proofs.message.comparing.+trace.Goals as goal
 
 pub derive-returns-in-Some-clause-value : goal.derive-returns-in-Some-clause-value
@@ -60,3 +62,54 @@ trace-returns-then-not-compare-clause-notes_new g t c =
 pub trace-returns-clause-notes_new : goal.trace-returns-clause-notes_new
 trace-returns-clause-notes_new g t c =
     c.compare.ensures.notes_new (claimed_by c.args.evidence.now) c.in_ok-hash.ensures.value c.derive.ensures.notes_new
+
+pub derive-overflow_mul-index : goal.derive-overflow_mul-index
+derive-overflow_mul-index g t c =
+    let low = place-low (tree_height (g.N.NodeMap.seen c.args.map.now).length) c.args.layer c.args.index c.requires.at.low c.requires.at.place in
+    omega (arith, low)
+
+pub derive-overflow_mul-index-in-None : goal.derive-overflow_mul-index-in-None
+derive-overflow_mul-index-in-None g t c =
+    let low = place-low (tree_height (g.N.NodeMap.seen c.args.map.now).length) c.args.layer c.args.index c.requires.at.low c.requires.at.place in
+    omega (arith, low)
+
+pub derive-overflow_add-index : goal.derive-overflow_add-index
+derive-overflow_add-index g t c =
+    let low = place-low (tree_height (g.N.NodeMap.seen c.args.map.now).length) c.args.layer c.args.index c.requires.at.low c.requires.at.place in
+    omega (arith, low)
+
+pub derive-returns-in_err-right-in-None-clause-grows : goal.derive-returns-in_err-right-in-None-clause-grows
+derive-returns-in_err-right-in-None-clause-grows g t c = record {
+  keeps = λ l i v noted. c.trace-in-None.ensures.grows.keeps l i v (c.trace.ensures.grows.keeps l i v noted);
+}
+
+pub derive-returns-in_ok-right-in-None-clause-grows : goal.derive-returns-in_ok-right-in-None-clause-grows
+derive-returns-in_ok-right-in-None-clause-grows g t c = record {
+  keeps = λ l i v noted. c.trace-in-None.ensures.grows.keeps l i v (c.trace.ensures.grows.keeps l i v noted);
+}
+
+pub trace-returns-clause-grows : goal.trace-returns-clause-grows
+trace-returns-clause-grows g t c = record {
+  keeps = λ l i v noted. c.compare.ensures.grows.keeps l i v (c.derive.ensures.grows.keeps l i v noted);
+}
+
+pub trace-returns-then-not-compare-clause-grows : goal.trace-returns-then-not-compare-clause-grows
+trace-returns-then-not-compare-clause-grows g t c = record {
+  keeps = λ l i v noted. c.compare.ensures.grows.keeps l i v (c.derive.ensures.grows.keeps l i v noted);
+}
+
+pub derive-returns-in-Some-clause-handled : goal.derive-returns-in-Some-clause-handled
+derive-returns-in-Some-clause-handled g t c = record {
+  at = λ l i under below v is. absurd (c.requires.at.pruned.below c.args.layer c.args.index l i c.in-Some.hash v (sym c.in-Some.ensures) under below is);
+}
+
+pub derive-fold-requires-clause-not_given : goal.derive-fold-requires-clause-not_given
+derive-fold-requires-clause-not_given g t c = sym c.in-None.ensures
+
+pub trace-returns-clause-handled : goal.trace-returns-clause-handled
+trace-returns-clause-handled g t c =
+    let C = claimed_by c.args.evidence.now in
+    all-handled C (look (g.N.NodeMap.seen c.args.map.now).known) c.derive.new.found c.compare.new.found c.args.layer c.args.index c.compare.ensures.grows
+    c.in_ok-hash.ensures.handled
+    (claim-handled C (g.N.NodeMap.seen c.args.map.now).known c.compare.new.found c.args.layer c.args.index _ c.in_ok-hash.ensures.value
+    c.if-not-compare.ensures.same)

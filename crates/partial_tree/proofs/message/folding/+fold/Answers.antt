@@ -5,7 +5,9 @@ use Rattle.node_maps.specs.Known.{look}
 use Rattle.partial_tree.specs.Evidence.{IsHandled, claimed_by}
 use Rattle.partial_tree.specs.FoldedRows.{place_in}
 use Rattle.partial_tree.proofs.Tracing.{given_claimed, handled-grows}
-use Rattle.partial_tree.proofs.FoldedRows.{base-handled, base-row, below-grows, claim-handled, joined-row, joined-rows, left-claimed_row, right-claimed_row, row-handled, rows-handled}
+use Rattle.partial_tree.proofs.FoldedRows.{base-handled, base-row, below-grows, children-claimed, children-handled, claim-handled}
+use Rattle.partial_tree.proofs.FoldedRows.{joined-row, joined-rows, left-claimed_row, right-claimed_row, row-handled, rows-handled}
+use Rattle.partial_tree.proofs.LowPlaces.{place-low}
 use Rattle.partial_tree.proofs.message.folding.+fold.Goals as goal
 
 pub derive_row-base_row-requires-clause-given : goal.derive_row-base_row-requires-clause-given
@@ -31,6 +33,19 @@ derive_row-returns-then-row-lt-EIGHT_DEPTH-clause-value g t c =
     let above : c.args.evidence.now.base < c.args.row.layer = omega (arith, c.requires.at.from_base, c.if-row-evidence.false) in
     joined-row (tree_height (g.N.NodeMap.seen c.args.map.now).length) c.args.evidence.now c.args.row c.in_ok-below.below c.parents_of_row.result
     c.requires.at above c.in_ok-below.ensures.value (λ j lt. c.parents_of_row.ensures j (omega (arith, lt, c.count.ensures.count)))
+
+pub derive_row-trace_row-requires : goal.derive_row-trace_row-requires
+derive_row-trace_row-requires g t c κs within =
+    let above : c.args.evidence.now.base < c.args.row.layer = omega (arith, c.requires.at.from_base, c.if-row-evidence.false) in
+    let few : c.args.row.depth < 3 = omega (arith, c.if-row-lt-EIGHT_DEPTH.true) in
+    let at = children-claimed (tree_height (g.N.NodeMap.seen c.args.map.now).length) c.args.evidence.now c.args.row c.requires.at above few in
+    (omega (arith, above), (within, (at, (c.requires.sound, c.requires.notes_new))))
+
+pub derive_row-returns-then-row-lt-EIGHT_DEPTH-clause-handled : goal.derive_row-returns-then-row-lt-EIGHT_DEPTH-clause-handled
+derive_row-returns-then-row-lt-EIGHT_DEPTH-clause-handled g t c =
+    let some : 1 ≤ c.args.row.layer = omega (arith, c.requires.at.from_base, c.if-row-evidence.false) in
+    children-handled (claimed_by c.args.evidence.now) (look (g.N.NodeMap.seen c.args.map.now).known) c.trace_row.new.found c.args.row some
+    c.in_ok-below.ensures.handled
 
 pub derive_row-trace_row-requires-2 : goal.derive_row-trace_row-requires-2
 derive_row-trace_row-requires-2 g t c κs within =
@@ -97,3 +112,37 @@ pub trace_row-returns-clause-handled : goal.trace_row-returns-clause-handled
 trace_row-returns-clause-handled g t c =
     row-handled (claimed_by c.args.evidence.now) (look (g.N.NodeMap.seen c.args.map.now).known) c.places.found c.args.row c.places.invariant.below
     (λ j lt. c.places.invariant.here j (omega (arith, lt, c.places-test.false, c.count-j-end.ensures.count)))
+
+pub derive_row-overflow_mul-node : goal.derive_row-overflow_mul-node
+derive_row-overflow_mul-node g t c =
+    let at = c.requires.at.at in
+    let low = place-low (tree_height (g.N.NodeMap.seen c.args.map.now).length) (c.args.row.layer + c.args.row.depth) c.args.row.node at.low at.place in
+    omega (arith, low)
+
+pub derive_row-overflow_mul-node-2 : goal.derive_row-overflow_mul-node-2
+derive_row-overflow_mul-node-2 g t c =
+    let at = c.requires.at.at in
+    let low = place-low (tree_height (g.N.NodeMap.seen c.args.map.now).length) (c.args.row.layer + c.args.row.depth) c.args.row.node at.low at.place in
+    omega (arith, low)
+
+pub derive_row-overflow_add-node : goal.derive_row-overflow_add-node
+derive_row-overflow_add-node g t c =
+    let at = c.requires.at.at in
+    let low = place-low (tree_height (g.N.NodeMap.seen c.args.map.now).length) (c.args.row.layer + c.args.row.depth) c.args.row.node at.low at.place in
+    omega (arith, low)
+
+pub derive_row-base_row-requires-clause-node : goal.derive_row-base_row-requires-clause-node
+derive_row-base_row-requires-clause-node g t c =
+    let at = c.requires.at.at in
+    let low = place-low (tree_height (g.N.NodeMap.seen c.args.map.now).length) (c.args.row.layer + c.args.row.depth) c.args.row.node at.low at.place in
+    omega (arith, low)
+
+pub derive_row-returns-in_err-right-clause-grows : goal.derive_row-returns-in_err-right-clause-grows
+derive_row-returns-in_err-right-clause-grows g t c = record {
+  keeps = λ l i v noted. c.trace_row-3.ensures.grows.keeps l i v (c.trace_row-2.ensures.grows.keeps l i v noted);
+}
+
+pub derive_row-returns-clause-grows : goal.derive_row-returns-clause-grows
+derive_row-returns-clause-grows g t c = record {
+  keeps = λ l i v noted. c.trace_row-3.ensures.grows.keeps l i v (c.trace_row-2.ensures.grows.keeps l i v noted);
+}

@@ -5,6 +5,8 @@ use Rattle.partial_tree.specs.Evidence.{claimed_by, IsClaimedPlace}
 use Rattle.node_maps.proofs.Places.{two_halves}
 use Rattle.partial_tree.proofs.Tracing.{Opened, rests_on, left_claimed, right_claimed, given_claimed, join_claimed}
 use Rattle.partial_tree.proofs.Written.{children-written, here-written}
+use Rattle.partial_tree.proofs.LowPlaces.{place-low}
+use Rattle.partial_tree.proofs.Ranges.{pow_more}
 use Rattle.partial_tree.proofs.message.writing.+write.Goals as goal
 
 pub write_below-overflow_sub-layer : goal.write_below-overflow_sub-layer
@@ -76,3 +78,64 @@ write_claimed-returns-clause-written g t c =
     here-written (claimed_by c.args.evidence.now) (g.N.NodeMap.seen c.args.map.now).known (g.N.NodeMap.seen c.write_below-below.new.map).known
     (g.N.NodeMap.seen c.put_absent-here.new.map).known
     c.args.layer c.args.index _ c.write_below-below.ensures.value c.write_below-below.ensures.written c.put_absent-here.ensures.known
+
+pub write_below-overflow_mul-index : goal.write_below-overflow_mul-index
+write_below-overflow_mul-index g t c =
+    let low = place-low (tree_height (g.N.NodeMap.seen c.args.map.now).length) c.args.layer c.args.index c.requires.at.low c.requires.at.place in
+    omega (arith, low)
+
+pub write_below-overflow_mul-index-in-None : goal.write_below-overflow_mul-index-in-None
+write_below-overflow_mul-index-in-None g t c =
+    let low = place-low (tree_height (g.N.NodeMap.seen c.args.map.now).length) c.args.layer c.args.index c.requires.at.low c.requires.at.place in
+    omega (arith, low)
+
+pub write_below-overflow_add-index : goal.write_below-overflow_add-index
+write_below-overflow_add-index g t c =
+    let low = place-low (tree_height (g.N.NodeMap.seen c.args.map.now).length) c.args.layer c.args.index c.requires.at.low c.requires.at.place in
+    omega (arith, low)
+
+pub write_below-returns-else-layer-evidence-clause-stays : goal.write_below-returns-else-layer-evidence-clause-stays
+write_below-returns-else-layer-evidence-clause-stays g t c =
+    let before = c.write_claimed-before.ensures.stays in
+    let after = c.write_claimed-after.ensures.stays in
+    record { length = after.length ∙ before.length; marked = after.marked ∙ before.marked }
+
+pub write_below-returns-else-layer-evidence-clause-keeps : goal.write_below-returns-else-layer-evidence-clause-keeps
+write_below-returns-else-layer-evidence-clause-keeps g t c = λ l i room.
+    c.write_claimed-after.ensures.keeps l i (c.write_claimed-before.ensures.keeps l i room)
+
+pub write_below-returns-else-layer-evidence-clause-gained : goal.write_below-returns-else-layer-evidence-clause-gained
+write_below-returns-else-layer-evidence-clause-gained g t c = omega (arith, c.write_claimed-before.ensures.gained, c.write_claimed-after.ensures.gained)
+
+pub write_claimed-returns-clause-stays : goal.write_claimed-returns-clause-stays
+write_claimed-returns-clause-stays g t c =
+    let before = c.write_below-below.ensures.stays in
+    let after = c.put_absent-here.ensures.stays in
+    record { length = after.length ∙ before.length; marked = after.marked ∙ before.marked }
+
+pub write_claimed-returns-clause-keeps : goal.write_claimed-returns-clause-keeps
+write_claimed-returns-clause-keeps g t c = λ l i room. c.put_absent-here.ensures.keeps l i (c.write_below-below.ensures.keeps l i room)
+
+pub write_claimed-returns-clause-gained : goal.write_claimed-returns-clause-gained
+write_claimed-returns-clause-gained g t c = omega (arith, c.write_below-below.ensures.gained, c.put_absent-here.ensures.gained)
+
+pub write_claimed-returns-clause-few : goal.write_claimed-returns-clause-few
+write_claimed-returns-clause-few g t c = omega (arith, c.write_below-below.ensures.few, c.put_absent-here.ensures.one)
+
+pub write_below-overflow_add-result : goal.write_below-overflow_add-result
+write_below-overflow_add-result g t c =
+    let at = c.requires.at in
+    let low : suc (c.args.layer - 1) ≤ 33 = omega (arith, at.place.0, at.low) in
+    let wide : 2 ^ suc (c.args.layer - 1) ≤ 2 ^ 33 = pow_more (suc (c.args.layer - 1)) 33 low in
+    omega (arith, wide, c.write_claimed-before.ensures.few, c.write_claimed-after.ensures.few)
+
+pub write_claimed-overflow_add-result : goal.write_claimed-overflow_add-result
+write_claimed-overflow_add-result g t c =
+    let at = c.requires.at in
+    let low : suc c.args.layer ≤ 33 = omega (arith, at.place.0, at.low) in
+    let wide : 2 ^ suc c.args.layer ≤ 2 ^ 33 = pow_more (suc c.args.layer) 33 low in
+    omega (arith, wide, c.write_below-below.ensures.few, c.put_absent-here.ensures.one)
+
+pub write_claimed-put_absent-here-requires : goal.write_claimed-put_absent-here-requires
+write_claimed-put_absent-here-requires g t c =
+    c.write_below-below.ensures.keeps c.args.layer c.args.index (c.requires.room c.args.layer c.args.index (_, c.write_below-below.ensures.value))
