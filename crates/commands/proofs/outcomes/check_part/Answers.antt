@@ -1,0 +1,20 @@
+use Rattle.std.proofs.Common.{◌∙◌, ap, rules}
+use Rattle.commands.specs.Outcomes.{answer_status}
+use Rattle.commands.proofs.outcomes.check_part.Goals as goal
+
+pub returns-in-Ok-print_part-clause-checks : goal.returns-in-Ok-print_part-clause-checks
+returns-in-Ok-print_part-clause-checks g c = (
+  c.in-Ok.report.files.items,
+  c.in-Ok.report.v1,
+  c.in-Ok.ensures.verdicts,
+  search rules,
+  (
+    search rules,
+    record {
+      counted = c.in-Ok.ensures.unreadable;
+      readable = c.in-Ok.ensures.readable;
+    },
+  ),
+  c.in-Ok-print_part.ensures,
+  c.status.ensures ∙ ap answer_status c.yes.ensures,
+)
