@@ -8,6 +8,12 @@ use Rattle.session.proofs.planting.planted.Goals as goal
 use Rattle.session.proofs.planting.planted.Goals.{then-with_layers+then-info-bytes+in_ok-add_layers, else-with_layers}
 use Rattle.session.proofs.planting.planted.Goals.{else-with_layers-via-then-with_layers+else-info-bytes, else-with_layers-via-else-with_layers}
 
+pub unwrap-requires : goal.unwrap-requires
+unwrap-requires g c = c.of.ensures.some.1 (c.requires.some, c.requires.bound)
+
+pub add_layers-requires-clause-longer : goal.add_layers-requires-clause-longer
+add_layers-requires-clause-longer g c = omega (arith, c.if-info-bytes.true, c.bytes.ensures.value)
+
 pub add_layers-requires-clause-planted : goal.add_layers-requires-clause-planted
 add_layers-requires-clause-planted g c =
     let shape : c.unwrap.result ≡ c.args.info.now.length = subst (λ o. IfSome o (λ s. s ≡ c.args.info.now.length)) c.unwrap.ensures c.of.ensures.value in

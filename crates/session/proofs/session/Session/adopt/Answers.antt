@@ -1,4 +1,4 @@
-use Rattle.std.proofs.Common.{◌≡◌, ◌<◌, List, length, set, Some, IfOk, IfErr, sym, subst}
+use Rattle.std.proofs.Common.{◌≡◌, ◌<◌, List, length, set, Some, IfOk, IfErr, sym, subst, arith}
 use Rattle.std.specs.Prelude.{slice_get}
 use Rattle.opening.specs.Description.{Description, TreeEntry}
 use Rattle.partial_tree.specs.Kept.{KeptTree}
@@ -8,6 +8,14 @@ use Rattle.session.proofs.Sessions.{found_at, good_at, kept-after}
 use Rattle.session.proofs.SessionCalls.{filled_all, fill_refused_all, inside_kept, length_at}
 use Rattle.partial_tree.proofs.Keeping.{stays_good_adopted}
 use Rattle.session.proofs.session.Session.adopt.Goals as goal
+
+pub index_mut-requires : goal.index_mut-requires
+index_mut-requires g c =
+    let d : Description = c.self.inside.torrent.now in
+    let ts : List KeptTree = c.self.inside.trees.items in
+    let low : c.args.tree < length d.trees = subst (λ (v : SessionSeen). c.args.tree < length v.torrent.trees) (sym c.self.view_is) c.requires.inside in
+    let inside : c.args.tree < length ts = inside_kept d ts c.self.invariant c.args.tree low in
+    omega (arith, inside, c.self.inside.trees.ok)
 
 pub adopt-requires-clause-good : goal.adopt-requires-clause-good
 adopt-requires-clause-good g c =
@@ -63,3 +71,6 @@ returns-clause-refused g c =
     × (seen d c.self.inside.asks (set ts c.args.tree c.adopt.new.self) ≡ v))) c.self.view_is
     (fill_refused_all d ts c.self.invariant c.self.inside.asks c.args.tree a c.adopt.new.self 0
     c.args.grown.leaves c.adopt.result at c.adopt.ensures.refused)
+
+pub returns-clause-only_mismatch : goal.returns-clause-only_mismatch
+returns-clause-only_mismatch g c = c.adopt.ensures.only_mismatch

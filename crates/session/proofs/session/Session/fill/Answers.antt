@@ -1,4 +1,4 @@
-use Rattle.std.proofs.Common.{◌≡◌, ◌<◌, List, length, set, Some, IfOk, IfErr, sym, subst}
+use Rattle.std.proofs.Common.{◌≡◌, ◌<◌, List, length, set, Some, IfOk, IfErr, sym, subst, arith}
 use Rattle.std.specs.Prelude.{slice_get}
 use Rattle.opening.specs.Description.{Description}
 use Rattle.partial_tree.specs.Kept.{KeptTree}
@@ -8,6 +8,14 @@ use Rattle.partial_tree.proofs.Keeping.{good_after_fill}
 use Rattle.session.proofs.Sessions.{found_at, good_at, kept-after}
 use Rattle.session.proofs.SessionCalls.{filled_all, fill_refused_all, inside_kept}
 use Rattle.session.proofs.session.Session.fill.Goals as goal
+
+pub index_mut-requires : goal.index_mut-requires
+index_mut-requires g c =
+    let d : Description = c.self.inside.torrent.now in
+    let ts : List KeptTree = c.self.inside.trees.items in
+    let low : c.args.tree < length d.trees = subst (λ (v : SessionSeen). c.args.tree < length v.torrent.trees) (sym c.self.view_is) c.requires in
+    let inside : c.args.tree < length ts = inside_kept d ts c.self.invariant c.args.tree low in
+    omega (arith, inside, c.self.inside.trees.ok)
 
 pub fill-requires : goal.fill-requires
 fill-requires g c =

@@ -4,7 +4,7 @@ use Rattle.opening.specs.Blocks.{IsBlockRun}
 use Rattle.opening.specs.Description.{Description}
 use Rattle.opening.specs.Places.{IsBlockPlace, place_of}
 use Rattle.partial_tree.specs.Kept.{KeptTree}
-use Rattle.session.specs.Layouts.{SessionSeen, seen}
+use Rattle.session.specs.Layouts.{SessionSeen, seen, HasRun}
 use Rattle.session.specs.Session.{IsInFile, AreRefused}
 use Rattle.partial_tree.specs.declared.refusal.BlockRefusal.TheVariants.{BadSize}
 use Rattle.session.proofs.SessionCalls.{in_file_of, taken_at}
@@ -43,3 +43,9 @@ returns-in-Some-block_run-clause-taken g c =
     taken_at c.args.self.now c.args.index c.args.begin c.in-Some.file c.in-Some.first c.in-Some-block_run.count c.args.bytes.now c.mark_run.result
     c.mark_run.new.self
     here there.0 there.1 c.mark_run.ensures.file c.mark_run.ensures.first c.mark_run.ensures.count c.mark_run.ensures.each
+
+pub mark_run-requires : goal.mark_run-requires
+mark_run-requires g c =
+    let f : IsBlockPlace c.self.inside.torrent.now c.args.index c.args.begin c.in-Some.file c.in-Some.first = c.in-Some.ensures.found in
+    subst (λ (v : SessionSeen). HasRun v.torrent c.in-Some.file c.in-Some.first (length c.args.bytes.now) c.in-Some-block_run.count) c.self.view_is
+    (f.file, f.there, c.in-Some-block_run.ensures.found f.file f.there)

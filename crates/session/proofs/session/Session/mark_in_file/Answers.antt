@@ -59,6 +59,9 @@ take_hashed-requires-clause-inside g c =
     (sym (same_length d ts c.self.invariant c.sound.ensures c.args.file tr has.0 a has.1 is e)) has.2 in
     low
 
+pub take_hashed-requires-clause-digest : goal.take_hashed-requires-clause-digest
+take_hashed-requires-clause-digest g c = c.requires.digest
+
 pub invariant_of-self : goal.invariant_of-self
 invariant_of-self g c =
     let d : Description = c.self.inside.torrent.now in

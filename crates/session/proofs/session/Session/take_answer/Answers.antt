@@ -32,3 +32,21 @@ returns-in-Ok-clause-closes_one_gap g c = λ was.
     ∙ ap (λ (v : SessionSeen). without_ask v c.args.ask.now) c.self.view_is))
     (closes-asking _ c.args.self.now c.args.ask.now c.args.hashes.now (Ok c.in-Ok.count) c.take_hashes.new.self
     c.in-Ok.ensures.closes_one_gap)
+
+pub returns-in-Ok-clause-stores_true_hashes : goal.returns-in-Ok-clause-stores_true_hashes
+returns-in-Ok-clause-stores_true_hashes g c = λ was. c.in-Ok.ensures.stores_true_hashes
+
+pub returns-in-Ok-clause-stores_answers : goal.returns-in-Ok-clause-stores_answers
+returns-in-Ok-clause-stores_answers g c = λ was. c.in-Ok.ensures.stores_answers
+
+pub returns-in-Err-clause-keeps_known : goal.returns-in-Err-clause-keeps_known
+returns-in-Err-clause-keeps_known g c = c.in-Err.ensures.keeps_known
+
+pub returns-in-Err-clause-stores_true_hashes : goal.returns-in-Err-clause-stores_true_hashes
+returns-in-Err-clause-stores_true_hashes g c = λ was. c.in-Err.ensures.stores_true_hashes
+
+pub returns-in-Err-clause-stores_answers : goal.returns-in-Err-clause-stores_answers
+returns-in-Err-clause-stores_answers g c = λ was. c.in-Err.ensures.stores_answers
+
+pub returns-in-Err-clause-closes_one_gap : goal.returns-in-Err-clause-closes_one_gap
+returns-in-Err-clause-closes_one_gap g c = λ was. c.in-Err.ensures.closes_one_gap
