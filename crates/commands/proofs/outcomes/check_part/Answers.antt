@@ -1,4 +1,4 @@
-use Rattle.std.proofs.Common.{◌∙◌, ap, rules}
+use Rattle.std.proofs.Common.{◌∙◌, ap, refl, rules}
 use Rattle.commands.specs.Outcomes.{answer_status}
 use Rattle.commands.proofs.outcomes.check_part.Goals as goal
 
@@ -17,4 +17,21 @@ returns-in-Ok-print_part-clause-checks g c = (
   ),
   c.in-Ok-print_part.ensures,
   c.status.ensures ∙ ap answer_status c.yes.ensures,
+)
+
+pub returns-clause-checks : goal.returns-clause-checks
+returns-clause-checks g c = (
+  refl,
+  c.in-Ok.report.files.items,
+  c.in-Ok.report.v1,
+  c.in-Ok.ensures.verdicts,
+  search rules,
+  (
+    search rules,
+    record {
+      counted = c.in-Ok.ensures.unreadable;
+      readable = c.in-Ok.ensures.readable;
+    },
+  ),
+  c.in-Err.ensures,
 )
