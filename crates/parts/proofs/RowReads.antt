@@ -20,7 +20,7 @@ use Rattle.folders.specs.Streaming.{HasStreamRoom, IsStreamVerdict, StandsAt, Ta
 use Rattle.folders.specs.Verdicts.{is_checked}
 use Rattle.folders.specs.declared.report.V1Verdict.{V1Verdict}
 use Rattle.folders.specs.declared.report.V1Verdict.TheVariants as version1
-use Rattle.parts.specs.Exactly.{TakesExactly, TookExactly}
+use Rattle.parts.specs.Exactly.{EndsBefore, TakesExactly, TookExactly}
 use Rattle.parts.specs.FilePieces.{AreJudgedFrom, IsBelow}
 use Rattle.parts.specs.Parts.{piece_count}
 use Rattle.parts.specs.RowChecks.{BeginsRow, IsRowStream, bad_cut_of, row_bytes, stream_part}
@@ -33,6 +33,11 @@ use Rattle.parts.proofs.RowPieces.{IsRow, long_file, range_length, row_listed, w
 pub took_exactly : {T : Type 0} (took : T → List ℕ → T → Type 0) (old new : SourceSeen) (size : ℕ) (before after : T) (b : Bool) → b ≡ true
     → TakesExactly took old new size before after b → TookExactly took old new size before after
 took_exactly took old new size before after b is read = subst (TakesExactly took old new size before after) is read
+
+-- they were not
+pub ended_before : {T : Type 0} (took : T → List ℕ → T → Type 0) (old new : SourceSeen) (size : ℕ) (before after : T) (b : Bool) → b ≡ false
+    → TakesExactly took old new size before after b → EndsBefore old new size
+ended_before took old new size before after b none read = subst (TakesExactly took old new size before after) none read
 
 -- the stream has room for the row
 pub row_room : (t : Description) (n : ℕ) (f : FileEntry) (s : Span) (feed : Option V1Feed) → IsSound t → slice_get t.files n ≡ Some f → s.from + 1 < s.to

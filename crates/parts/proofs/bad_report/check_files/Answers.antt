@@ -1,12 +1,37 @@
-use Rattle.std.proofs.Common.{◌∙◌, slice_get, ap, length, arith}
+use Rattle.std.proofs.Common.{◌∙◌, slice_get, ap, sym, subst, length, arith}
 use Rattle.std.proofs.lemmas.List.{length_push}
 use Rattle.std.proofs.lemmas.Result.{err_from_is_err_and}
-use Rattle.folders.specs.FolderCheck.{verdicts_of}
+use Rattle.folders.specs.FolderCheck.{HasChecked, verdicts_of}
+use Rattle.folders.specs.Shelf.{ShelfContents}
 use Rattle.folders.proofs.Places.{file_there}
 use Rattle.opening.specs.Seen.{file_entry}
 use Rattle.parts.specs.BadReport.{shelf_and_sink}
-use Rattle.parts.proofs.BadReports.{ChecksNext, one_more_file, stops_at}
+use Rattle.parts.proofs.BadReports.{ChecksNext, first_none, one_more_file, stops_at}
 use Rattle.parts.proofs.bad_report.check_files.Goals as goal
+
+pub files-init : goal.files-init
+files-init g c = record {
+  count = ap length c.requires.none;
+  first = first_none g.S.Shelf g.S.File.Source.seen c.args.torrent.now c.args.lines c.args.shelf.now (g.W.Sink.seen c.args.out.now) c.args.check.now
+      c.requires.none c.requires.begins;
+}
+
+pub check_next-verdict-requires-clause-next : goal.check_next-verdict-requires-clause-next
+check_next-verdict-requires-clause-next g c =
+    let t = c.args.torrent.now in
+    ap (slice_get t.files) c.files.invariant.count
+    ∙ file_there t c.files-entries.result.now c.files.file-index c.file-item.result c.files-entries.ensures c.files-test.true c.file-item.is
+
+pub check_next-verdict-requires-clause-so_far : goal.check_next-verdict-requires-clause-so_far
+check_next-verdict-requires-clause-so_far g c =
+    let first = c.files.invariant.first in
+    subst (λ (on : ShelfContents). HasChecked c.args.torrent.now on.under c.files.check) (sym first.stays) first.so_far
+
+pub write_file-requires : goal.write_file-requires
+write_file-requires g c = (
+  c.files.file-index,
+  file_there c.args.torrent.now c.files-entries.result.now c.files.file-index c.file-item.result c.files-entries.ensures c.files-test.true c.file-item.is,
+)
 
 pub files-preserved : goal.files-preserved
 files-preserved g c =

@@ -3,12 +3,14 @@ use Rattle.std.proofs.Common.{Option, option_map, is_some, ap, sym, subst, Some,
 use Rattle.std.proofs.lemmas.Option.{same_Some, none-some}
 use Rattle.opening.specs.Description.{Description}
 use Rattle.opening.specs.declared.torrent.File.{File}
-use Rattle.std.proofs.lemmas.List.{length-map}
+use Rattle.std.proofs.lemmas.List.{length-map, take_all}
+use Rattle.chains.specs.Chain.{Chain}
 use Rattle.std.proofs.lemmas.List.Sums.{count_by-le-length}
 use Rattle.opening.specs.Seen.{file_entry, version1}
-use Rattle.folders.specs.Verdicts.{is_unreadable, unreadable_count}
+use Rattle.folders.specs.Verdicts.{is_checked, is_unreadable, unreadable_count}
 use Rattle.folders.proofs.Counts.{more_none}
 use Rattle.folders.proofs.Places.{file_there}
+use Rattle.parts.specs.PartVisits.{VisitsPart}
 use Rattle.parts.specs.Worse.{worse_v1}
 use Rattle.parts.proofs.CheckedFirst.{IsCheckedFirst, checked_none, checked_one, all_true}
 use Rattle.parts.proofs.checking.check_part.Goals as goal
@@ -72,6 +74,39 @@ returns-clause-readable g c = λ same.
 same_some : {A B : Type 0} (f : A → B) (o : Option A) (p : Option B) → option_map f o ≡ p → is_some p ≡ is_some o
 same_some f None p is = ap is_some (sym is)
 same_some f (Some x) p is = ap is_some (sym is)
+
+pub returns-clause-verdicts : goal.returns-clause-verdicts
+returns-clause-verdicts g c =
+    let t = c.args.torrent.now in
+    let checked = c.files.invariant.checked in
+    let all = all_passed t c.files.file-index c.files-entries.result.now c.files-entries.ensures c.files-test.false c.files.auto.file-index-end in
+    let hybrid : is_some t.v1 ≡ is_some c.v1.result = same_some (λ v. version1 v.now) c.v1.result t.v1 c.v1.ensures in
+    record {
+      count = checked.count ∙ all;
+      hybrid = elim c.match-v1.branch [
+        | in-Some w ↦ ap is_some w.v1-is ∙ sym (hybrid ∙ ap is_some w.in-Some.is)
+        | in-None w ↦ ap is_some w.v1-is ∙ sym (hybrid ∙ ap is_some w.in-None.is)
+      ];
+      checked = λ v at. elim c.match-v1.branch [
+        | in-Some w ↦ ap is_checked (sym (same_Some c.files.v1 v (sym w.v1-is ∙ at))) ∙ checked.checked
+        | in-None w ↦ absurd (none-some v (sym w.v1-is ∙ at))
+      ];
+    }
+
+pub returns-clause-once : goal.returns-clause-once
+returns-clause-once g c =
+    let t = c.args.torrent.now in
+    let checked = c.files.invariant.checked in
+    let all = all_passed t c.files.file-index c.files-entries.result.now c.files-entries.ensures c.files-test.false c.files.auto.file-index-end in
+    subst
+    (λ fs. Chain (VisitsPart g.S.SeekShelf.opens_at g.S.Shelf.closes g.S.File.Source.seen t c.args.places) c.args.shelf.now fs c.files.files.items c.files.shelf)
+    (take_all c.files.file-index t.files (omega (arith, all))) checked.visited
+
+pub returns-clause-unreadable : goal.returns-clause-unreadable
+returns-clause-unreadable g c = c.files.invariant.checked.counted
+
+pub returns-clause-stays : goal.returns-clause-stays
+returns-clause-stays g c = c.files.invariant.checked.stays
 
 pub returns-clause-are_true : goal.returns-clause-are_true
 returns-clause-are_true g c =

@@ -1,13 +1,16 @@
-use Rattle.std.proofs.Common.{◌≡◌, ◌∙◌, ℕ, ◌+◌, ◌-◌, ◌*◌, ◌^◌, ◌<◌, ◌≤◌, min, true, [], IfSome, ap, sym, subst, arith}
+use Rattle.std.proofs.Common.{◌≡◌, ◌∙◌, ℕ, ◌+◌, ◌-◌, ◌*◌, ◌^◌, ◌<◌, ◌≤◌, min, true, false, [], IfSome, ap, sym, subst, arith}
 use Rattle.std.specs.Option.{option_map}
 use Rattle.opening.specs.Seen.{file_entry}
 use Rattle.opening.specs.Description.{Description, FileEntry}
 use Rattle.folders.specs.Feeding.{FeedsBoth}
+use Rattle.folders.specs.TakeAll.{IsReadWithin}
 use Rattle.folders.specs.Streaming.{HasStreamRoom}
 use Rattle.parts.specs.FilePieces.{AreJudgedFrom, IsBelow}
 use Rattle.parts.specs.RowChecks.{bad_cut_of, row_bytes}
-use Rattle.parts.proofs.RowPieces.{row_places}
-use Rattle.parts.proofs.RowReads.{bad_within, below_end, if_below, row_judged, row_room, took_exactly}
+use Rattle.folders.proofs.Places.{pieces_are_positive}
+use Rattle.parts.specs.Exactly.{EndsBefore}
+use Rattle.parts.proofs.RowPieces.{row_fits, row_places}
+use Rattle.parts.proofs.RowReads.{bad_within, below_end, ended_before, if_below, row_judged, row_room, took_exactly}
 use Rattle.parts.proofs.row.check_row.Goals as goal
 
 small : (from to place : ℕ) → place ≤ 2 ^ 32 → from ≤ to → to ≤ place → from + (to - from) ≤ 2 ^ 64
@@ -25,6 +28,66 @@ overflow_mul-piece_length g c =
     let low = row_places t file.0 (file_entry c.args.file.now) s.from s.to c.sound.ensures file.1 c.requires.several c.requires.span.inside in
     let same : c.piece_length-piece_length.result * s.to ≡ t.piece_length * s.to = ap (λ p. p * s.to) c.piece_length-piece_length.ensures in
     omega (arith, low.2, same)
+
+pub overflow_mul-size : goal.overflow_mul-size
+overflow_mul-size g c =
+    let t = c.args.torrent.now in
+    let f = file_entry c.args.file.now in
+    let s = c.args.span in
+    let file = c.requires.file in
+    let fits = row_fits t f s.from s.to (pieces_are_positive t c.sound.ensures) c.requires.several c.requires.span.inside in
+    let same : c.piece_length-piece_length.result * s.from ≡ t.piece_length * s.from = ap (λ p. p * s.from) c.piece_length-piece_length.ensures in
+    omega (arith, fits.3, same, (c.sound.ensures.files file.0 f file.1).bound)
+
+pub overflow_sub-size : goal.overflow_sub-size
+overflow_sub-size g c =
+    let t = c.args.torrent.now in
+    let f = file_entry c.args.file.now in
+    let s = c.args.span in
+    let fits = row_fits t f s.from s.to (pieces_are_positive t c.sound.ensures) c.requires.several c.requires.span.inside in
+    omega (
+      arith,
+      fits.3,
+      c.min.ensures,
+      ap (λ p. p * s.to) c.piece_length-piece_length.ensures,
+      ap (λ p. p * s.from) c.piece_length-piece_length.ensures,
+    )
+
+pub piece_check-requires-clause-size : goal.piece_check-requires-clause-size
+piece_check-requires-clause-size g c =
+    row_size c.min.result c.piece_length-piece_length.result c.args.torrent.now (file_entry c.args.file.now) c.args.span.from c.args.span.to
+    c.piece_length-piece_length.ensures c.min.ensures
+
+pub returns-in_err-take_exactly-clause-no_further : goal.returns-in_err-take_exactly-clause-no_further
+returns-in_err-take_exactly-clause-no_further g c =
+    subst (λ n. IsReadWithin n (g.F.Source.seen c.args.source.now) (g.F.Source.seen c.take_exactly.new.source))
+    (row_size c.min.result c.piece_length-piece_length.result c.args.torrent.now (file_entry c.args.file.now) c.args.span.from c.args.span.to
+    c.piece_length-piece_length.ensures c.min.ensures)
+    c.in_err-take_exactly.ensures.no_further
+
+pub returns-then-not-branch-clause-judged : goal.returns-then-not-branch-clause-judged
+returns-then-not-branch-clause-judged g c =
+    let old = g.F.Source.seen c.args.source.now in
+    let new = g.F.Source.seen c.take_exactly.new.source in
+    let none : c.in_ok-take_exactly.field-0 ≡ false = let h = c.if-not-branch.true in cc in
+    subst (EndsBefore old new)
+    (row_size c.min.result c.piece_length-piece_length.result c.args.torrent.now (file_entry c.args.file.now) c.args.span.from c.args.span.to
+    c.piece_length-piece_length.ensures c.min.ensures)
+    (ended_before FeedsBoth old new _ _ _ _ none c.in_ok-take_exactly.ensures.read)
+
+pub returns-then-not-branch-clause-no_further : goal.returns-then-not-branch-clause-no_further
+returns-then-not-branch-clause-no_further g c =
+    subst (λ n. IsReadWithin n (g.F.Source.seen c.args.source.now) (g.F.Source.seen c.take_exactly.new.source))
+    (row_size c.min.result c.piece_length-piece_length.result c.args.torrent.now (file_entry c.args.file.now) c.args.span.from c.args.span.to
+    c.piece_length-piece_length.ensures c.min.ensures)
+    c.in_ok-take_exactly.ensures.no_further
+
+pub returns-clause-no_further : goal.returns-clause-no_further
+returns-clause-no_further g c =
+    subst (λ n. IsReadWithin n (g.F.Source.seen c.args.source.now) (g.F.Source.seen c.take_exactly.new.source))
+    (row_size c.min.result c.piece_length-piece_length.result c.args.torrent.now (file_entry c.args.file.now) c.args.span.from c.args.span.to
+    c.piece_length-piece_length.ensures c.min.ensures)
+    c.in_ok-take_exactly.ensures.no_further
 
 pub take_exactly-requires-clause-room : goal.take_exactly-requires-clause-room
 take_exactly-requires-clause-room g c =
