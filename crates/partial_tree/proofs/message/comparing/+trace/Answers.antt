@@ -113,3 +113,16 @@ trace-returns-clause-handled g t c =
     c.in_ok-hash.ensures.handled
     (claim-handled C (g.N.NodeMap.seen c.args.map.now).known c.compare.new.found c.args.layer c.args.index _ c.in_ok-hash.ensures.value
     c.if-not-compare.ensures.same)
+
+pub trace-returns-then-not-compare-clause-differs : goal.trace-returns-then-not-compare-clause-differs
+trace-returns-then-not-compare-clause-differs g t c =
+    let differs = c.if-not-compare.ensures.differs in
+    record {
+      layer = c.args.layer;
+      index = c.args.index;
+      in_J = differs.0;
+      in_K = _;
+      J_known = differs.1;
+      K_known = c.in_ok-hash.ensures.value;
+      differ = differs.2;
+    }

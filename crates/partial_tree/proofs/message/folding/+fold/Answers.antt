@@ -146,3 +146,20 @@ pub derive_row-returns-clause-grows : goal.derive_row-returns-clause-grows
 derive_row-returns-clause-grows g t c = record {
   keeps = λ l i v noted. c.trace_row-3.ensures.grows.keeps l i v (c.trace_row-2.ensures.grows.keeps l i v noted);
 }
+
+pub trace_row-returns-then-not-compare-clause-differs : goal.trace_row-returns-then-not-compare-clause-differs
+trace_row-returns-then-not-compare-clause-differs g t c =
+    let C = claimed_by c.args.evidence.now in
+    let row = c.args.row in
+    let low : c.places.j < 2 ^ c.args.row.depth = omega (arith, c.places-test.true, c.count-j-end.ensures.count) in
+    let at : row.node * c.count.result + c.places.j ≡ place_in row c.places.j = ap (λ k. row.node * k + c.places.j) c.count.ensures.count in
+    let differs = c.if-not-compare.ensures.differs in
+    record {
+      layer = row.layer;
+      index = row.node * c.count.result + c.places.j;
+      in_J = differs.0;
+      in_K = _;
+      J_known = differs.1;
+      K_known = ap (C row.layer) at ∙ c.in_ok-hashes.ensures.value c.places.j low;
+      differ = differs.2;
+    }
