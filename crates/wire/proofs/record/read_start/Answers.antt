@@ -7,6 +7,18 @@ use Rattle.wire.proofs.RecordParts.{first_byte, stops_at_other, stops_in_start}
 use Rattle.wire.proofs.Stopping.{device}
 use Rattle.wire.proofs.record.read_start.Goals as goal
 
+pub returns-then-count-eq0-clause-bytes : goal.returns-then-count-eq0-clause-bytes
+returns-then-count-eq0-clause-bytes g c =
+    let S = g.R.Source in
+    let e = c.in_ok-count.ensures in
+    let a = S.seen c.args.source.now in
+    let b = S.seen c.read.new.self in
+    let buf = c.read.new.buf in
+    let none = c.if-count-eq0.true in (
+      subst (λ n. GaveFaultless a b (take n buf)) none (Faultless-take a b c.in_ok-count.count buf e.bound e.bytes.0 e.falls e.counts),
+      e.bytes.1 none (omega (arith, c.read.auto.buf)),
+    )
+
 pub returns-in_default-clause-bytes : goal.returns-in_default-clause-bytes
 returns-in_default-clause-bytes g c =
     let S = g.R.Source in
