@@ -1,4 +1,4 @@
-use Rattle.std.proofs.Common.{Ok, sym, ap, ◌∙◌, subst}
+use Rattle.std.proofs.Common.{Ok, true≢false, refl, sym, ap, ◌∙◌, subst}
 use Rattle.session.specs.Asks.{AskSet}
 use Rattle.session.specs.Layouts.{SessionSeen, seen}
 use Rattle.session.specs.Noted.{without_ask}
@@ -7,6 +7,9 @@ use Rattle.session.specs.Wanted.{WantedClosesOneGap}
 use Rattle.session.proofs.OtherAsks.{keeps_asking}
 use Rattle.session.proofs.NotedSteps.{closes-asking}
 use Rattle.session.proofs.session.Session.take_answer.Goals as goal
+
+pub returns-then-not-is_open-clause-refused : goal.returns-then-not-is_open-clause-refused
+returns-then-not-is_open-clause-refused g c = (λ was. true≢false (sym (c.is_open.ensures.1 was) ∙ c.if-not-is_open.true), refl)
 
 pub returns-in-Ok-clause-stored : goal.returns-in-Ok-clause-stored
 returns-in-Ok-clause-stored g c = record {
