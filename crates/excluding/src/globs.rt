@@ -24,7 +24,7 @@ use std::alloc::{AllocError, Global};
 use std::str::Chars;
 
 /// Why globs are no patterns.
-#[derive(Clone, Copy, Debug, PartialEq, Eq, Drop)]
+#[derive(Clone, Copy, Debug, Drop)]
 pub enum GlobFault {
     /// The glob with this number, from 0, is none: it is empty, or it ends in a `\`, in an open
     /// `[..]`, or in a range that runs backwards.
@@ -36,7 +36,7 @@ pub enum GlobFault {
 }
 
 /// Why one glob was not written as a regular expression.
-#[derive(Clone, Copy, Debug, PartialEq, Eq, Drop)]
+#[derive(Drop)]
 pub(crate) enum OneFault {
     /// It is none.
     Malformed,
