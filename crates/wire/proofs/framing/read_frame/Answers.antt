@@ -31,3 +31,17 @@ returns-in_ok-read_body-in-Some-clause-bytes g c =
           front.0 rest.1),
       rest.3,
     )
+
+pub returns-in_err-read_body-in-Some-clause-room : goal.returns-in_err-read_body-in-Some-clause-room
+returns-in_err-read_body-in-Some-clause-room g c =
+    let p = err_from_is_err_and c.from_residual-in_err-read_body-in-Some.result c.from_residual-in_err-read_body-in-Some.ensures.1 in
+    rw (p.1, p.2) c.in_err-read_body-in-Some.ensures.room
+
+pub returns-in_err-read_body-in-Some-clause-enough : goal.returns-in_err-read_body-in-Some-clause-enough
+returns-in_err-read_body-in-Some-clause-enough g c = c.in_err-read_body-in-Some.ensures.enough
+
+pub returns-in_ok-read_body-in-Some-clause-room : goal.returns-in_ok-read_body-in-Some-clause-room
+returns-in_ok-read_body-in-Some-clause-room g c = c.in_ok-read_body-in-Some.ensures.room
+
+pub returns-in_ok-read_body-in-Some-clause-enough : goal.returns-in_ok-read_body-in-Some-clause-enough
+returns-in_ok-read_body-in-Some-clause-enough g c = c.in_ok-read_body-in-Some.ensures.enough
