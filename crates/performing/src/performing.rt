@@ -276,19 +276,38 @@ fn all_bytes(torrent: &Torrent<'_>) -> u64 {
 // What is no glob is refused before anything is read.
 fn create<'a>(system: &System, asked: &Create<'a>) -> Result<u8, Fault<'a>> {
     let progress = Progress::new(system.rt(), None);
-    let mut folder = Folder::new(system, asked.dir, &progress);
     let mut out = Cleared::new(FromWrite::new(system.output()), &progress);
     if asked.exclude.is_empty() {
-        let draft = outcomes::gather(system.alloc(), asked, &mut folder, &mut out)?;
-        return write_gathered(system, asked, draft, &folder, &progress, &mut out);
+        return create_of_all(system, asked, &progress, &mut out);
     }
-    let pattern = match regex_of(system.alloc(), asked.exclude.as_slice()) {
-        Ok(pattern) => pattern,
-        Err(fault) => return refuse_globs(system, asked.exclude.as_slice(), fault),
-    };
-    let shelf = folder.read_in_part();
-    let (draft, folder) = gather_without(system, asked, shelf, &pattern, &mut out)?;
-    write_gathered(system, asked, draft, &folder, &progress, &mut out)
+    match regex_of(system.alloc(), asked.exclude.as_slice()) {
+        Ok(pattern) => create_without(system, asked, &pattern, &progress, &mut out),
+        Err(fault) => refuse_globs(system, asked.exclude.as_slice(), fault),
+    }
+}
+
+fn create_of_all<'a, W: Sink>(
+    system: &System,
+    asked: &Create<'a>,
+    progress: &Progress,
+    out: &mut W,
+) -> Result<u8, Fault<'a>> {
+    let mut folder = Folder::new(system, asked.dir, progress);
+    let draft = outcomes::gather(system.alloc(), asked, &mut folder, out)?;
+    write_gathered(system, asked, draft, &folder, progress, out)
+}
+
+// Leaves out the files in whose paths the pattern is found.
+fn create_without<'a, W: Sink>(
+    system: &System,
+    asked: &Create<'a>,
+    pattern: &Regex,
+    progress: &Progress,
+    out: &mut W,
+) -> Result<u8, Fault<'a>> {
+    let shelf = Folder::new(system, asked.dir, progress).read_in_part();
+    let (draft, folder) = gather_without(system, asked, shelf, pattern, out)?;
+    write_gathered(system, asked, draft, &folder, progress, out)
 }
 
 // Gathers what a shelf lists without the files in whose paths the pattern is found, and gives the
@@ -437,11 +456,10 @@ fn replay_file<'a, W: Sink>(
     out: &mut W,
 ) -> Result<u8, Fault<'a>> {
     let file = system.open(asked.record)?;
-    let mut source = FromRead::new(Noted::new(file, system));
     let answers = answers_file(system, torrent, asked, progress)?;
     let mut session = outcomes::new_session(system.alloc(), torrent, asked.info_only)?;
     seed(system, torrent, asked, progress, &mut session, out)?;
-    replay_onto(system, &mut session, &mut source, out, answers)
+    replay_onto(system, &mut session, file, out, answers)
 }
 
 // Fills the session from the folder, if there is one.
@@ -461,18 +479,28 @@ fn seed<'a, W: Sink>(
 }
 
 // Replays the record, and writes the answers to their file, if they are wanted.
-fn replay_onto<'a, R: Source, W: Sink>(
+fn replay_onto<'a, W: Sink>(
     system: &System,
     session: &mut Session<'_, Paged>,
-    source: &mut R,
+    record: File,
     out: &mut W,
     answers: Option<(&'a str, File)>,
 ) -> Result<u8, Fault<'a>> {
-    let Some((path, file)) = answers else {
-        return outcomes::replay(system.alloc(), session, source, out);
-    };
-    let mut answers = FromWrite::new(Noted::new(file, system));
-    outcomes::replay_and_answer(system.alloc(), session, source, out, path, &mut answers)
+    let mut source = FromRead::new(Noted::new(record, system));
+    match answers {
+        None => outcomes::replay(system.alloc(), session, &mut source, out),
+        Some((path, file)) => {
+            let mut answers = FromWrite::new(Noted::new(file, system));
+            outcomes::replay_and_answer(
+                system.alloc(),
+                session,
+                &mut source,
+                out,
+                path,
+                &mut answers,
+            )
+        }
+    }
 }
 
 // The file that takes the answers, emptied, if they are wanted. It is no file that is read.
