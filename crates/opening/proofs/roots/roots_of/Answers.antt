@@ -1,8 +1,15 @@
-use Rattle.std.proofs.Common.{inl, inr, arith, ◌≤◌, ◌^◌, ◌<◌}
+use Rattle.std.proofs.Common.{◌≡◌, inl, inr, arith, ◌≤◌, ◌^◌, ◌<◌}
 use Rattle.std.proofs.lemmas.Result.{err_from_is_err_and}
+use Rattle.filetree.specs.declared.refusal.Refusal.TheVariants as refusals
 use Rattle.opening.specs.Trees.{pieces_in}
 use Rattle.opening.proofs.Rooting.{none_reused, some_files}
 use Rattle.opening.proofs.roots.roots_of.Goals as goal
+
+no_files_is_other : refusals.NoFiles ≡ refusals.NoMemory → ⊥
+no_files_is_other is = cc
+
+pub returns-then-is_empty-clause-memory : goal.returns-then-is_empty-clause-memory
+returns-then-is_empty-clause-memory c = λ is. absurd (no_files_is_other is)
 
 pub returns-in_err-test_pieces-clause-passes : goal.returns-in_err-test_pieces-clause-passes
 returns-in_err-test_pieces-clause-passes c =
