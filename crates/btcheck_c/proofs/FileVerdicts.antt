@@ -1,5 +1,5 @@
 -- What the check of a file takes, and what it finds at the end.
-use Rattle.std.proofs.Common.{◌≡◌, ◌≢◌, ℕ, ◌+◌, ◌-◌, ◌≤◌, List, [], length, Option, Some, None, refl, sym, ap, ◌∙◌, subst, subst₂, arith}
+use Rattle.std.proofs.Common.{◌≡◌, ◌≢◌, ℕ, ◌+◌, ◌-◌, ◌≤◌, List, [], Option, Some, None, refl, sym, ap, ◌∙◌, subst, subst₂, arith}
 use Rattle.hashtree.specs.Difference.{IsComparison}
 use Rattle.hashtree.specs.PieceCheck.{BeginsCheck, FeedsCheck, IsFedCheck, IsFirstBadNode}
 use Rattle.hashtree.specs.PieceCheck as pieces
