@@ -64,8 +64,8 @@ three Greater = inr (inr refl)
 abbrev pub new : List ℕ → List (List ℕ) → OutlineLayer
 new root hashes = record { root = root; hashes = hashes }
 
-pub layer_back : (r : List ℕ) (hs : List (List ℕ)) (es : List OutlineLayer) (n : ℕ) (x : OutlineLayer) → slice_get (with_layer r hs es) n ≡ Some x → (new r hs ≡ x)
-    ⊎ In es x
+pub layer_back : (r : List ℕ) (hs : List (List ℕ)) (es : List OutlineLayer) (n : ℕ) (x : OutlineLayer)
+    → slice_get (with_layer r hs es) n ≡ Some x → (new r hs ≡ x) ⊎ In es x
 layer_back r hs [] zero x at = inl cc
 layer_back r hs [] (suc n) x at = cc
 layer_back r hs (e ∷ es) n x at =

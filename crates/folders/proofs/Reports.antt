@@ -168,7 +168,8 @@ good_is_enough t contents files v1 sound has are_true good none =
     by_stream None is whole = ap stream_is_good is
     by_stream (Some verdict) is whole =
         let v = some_of t.v1 (sym has.hybrid ∙ ap is_some is) in
-        ap stream_is_good is ∙ stream_good t v.0 contents verdict (good.version1 v.0 v.1) (has.checked verdict is ∙ whole) (are_true.version1 v.0 verdict v.1 is)
+        ap stream_is_good is
+        ∙ stream_good t v.0 contents verdict (good.version1 v.0 v.1) (has.checked verdict is ∙ whole) (are_true.version1 v.0 verdict v.1 is)
 
 -- ---- at the end of a check
 

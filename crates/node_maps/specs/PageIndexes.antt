@@ -25,4 +25,5 @@ AreListsInUse s =
 -- each of these rows has a page list, and each of its page lists a page
 abbrev pub AreRowsInUse : PageIndexNode (PageIndexNode PageList) → Type 0
 AreRowsInUse s =
-    AreInUse (λ (row : PageIndexNode PageList). length row.numbers.items) AreListsInUse s.lists.items
+    AreInUse (λ (row : PageIndexNode PageList). length row.numbers.items) AreListsInUse
+    s.lists.items

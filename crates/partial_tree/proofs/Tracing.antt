@@ -123,8 +123,8 @@ pub on_ok : {T E : Type 0} (r : Result T E) (P : Type 0) → OnOk r P → is_err
 on_ok (Ok x) P h e = h
 on_ok (Err x) P h e = absurd (false≢true (sym e))
 
-pub handled-agreed : (e : Evidence) (m : Known) (found : NewClaims) (layer index : ℕ) → LeadsTo e layer index → AllHandled (claimed_by e) (look m) found layer index
-    → IsAgreed (look m) (claimed_by e)
+pub handled-agreed : (e : Evidence) (m : Known) (found : NewClaims) (layer index : ℕ) → LeadsTo e layer index
+    → AllHandled (claimed_by e) (look m) found layer index → IsAgreed (look m) (claimed_by e)
 handled-agreed e m found layer index leads handled l i u v known claim = elim (handled.at l i (leads.under_top l i v claim) v claim) [
   | inl same ↦ same_Some u v (sym known ∙ same)
   | inr (none, noted) ↦ absurd (none-some u (sym none ∙ known))
@@ -151,8 +151,8 @@ handled-joins e m found layer index c after leads handled ok sound is gained = r
     ]
 
 -- if no claim is noted, what was known has all that is claimed
-pub nothing-joins : (e : Evidence) (m : Known) (found : NewClaims) (layer index : ℕ) → LeadsTo e layer index → AllHandled (claimed_by e) (look m) found layer index
-    → IsEmpty found → AreClaims (claimed_by e) found.claims.items → Joins (claimed_by e) m m 0
+pub nothing-joins : (e : Evidence) (m : Known) (found : NewClaims) (layer index : ℕ) → LeadsTo e layer index
+    → AllHandled (claimed_by e) (look m) found layer index → IsEmpty found → AreClaims (claimed_by e) found.claims.items → Joins (claimed_by e) m m 0
 nothing-joins e m found layer index leads handled empty sound =
     handled-joins e m found layer index 0 m leads handled empty.complete sound (sym (ap (insert_new m) empty.none)) (omega arith)
 

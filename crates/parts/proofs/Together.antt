@@ -29,7 +29,8 @@ use Rattle.parts.proofs.Worst.{below_or, both, all_at, all_from, one_not, whole_
 use Rattle.parts.proofs.Worst.{few_pieces}
 
 module _ (t : Description) (contents : Contents) (parts : List PartReport) (files : List FileVerdict) (v1 : Option V1Verdict) (sound : IsSound t)
-    (all : AreAllPlaces t parts) (are_true : (i : ℕ) (p : PartReport) → slice_get parts i ≡ Some p → IsTruePart t contents p) (join : IsJoin t parts files v1) where
+    (all : AreAllPlaces t parts) (are_true : (i : ℕ) (p : PartReport) → slice_get parts i ≡ Some p → IsTruePart t contents p)
+    (join : IsJoin t parts files v1) where
   -- ---- what a part says
 
   says_file : (i : ℕ) (p : PartReport) → slice_get parts i ≡ Some p → (n : ℕ) → n < length t.files → slice_get p.files n ≡ Some (says_of n p)
@@ -84,7 +85,8 @@ module _ (t : Description) (contents : Contents) (parts : List PartReport) (file
     | inr one ↦
         let hybrid : is_some t.v1 ≡ true = sym join.hybrid ∙ ap is_some is in
         let own : is_checked (says_of_v1 one.1) ≡ true = checked_up (says_of_v1 one.1) v ((join.version1 v is).no_worse one.0 one.1 one.2) checked in
-        let each : list_all is_whole one.1.files ≡ true = sym ((are_true one.0 one.1 one.2).checked (says_of_v1 one.1) (says_v1 one.0 one.1 one.2 hybrid)) ∙ own in
+        let each : list_all is_whole one.1.files ≡ true =
+        sym ((are_true one.0 one.1 one.2).checked (says_of_v1 one.1) (says_v1 one.0 one.1 one.2 hybrid)) ∙ own in
         ap is_whole (sym one.3)
         ∙ all_at is_whole one.1.files n (says_of n one.1) each
         (says_file one.0 one.1 one.2 n (omega (arith, slice_get_within files n w said, join.count)))

@@ -71,8 +71,8 @@ in_replay_none s o refused no_memory no_fault = record {
 abbrev with_answer : Directed Frame → FrameReport → List ℕ → Handled
 with_answer f d bytes = record { frame = f; report = d; answer = bytes }
 
-answer_next : (wanted : Bool) (known : Option Form) (form : Form) (old new : SourceSeen) (S S' : SessionSeen) (f : Directed Frame) (d : FrameReport) (bytes : List ℕ)
-    → HandlesNext false known form old new S S' (unanswered f d) → IsReply wanted S' (reply_to f d) bytes
+answer_next : (wanted : Bool) (known : Option Form) (form : Form) (old new : SourceSeen) (S S' : SessionSeen) (f : Directed Frame)
+    (d : FrameReport) (bytes : List ℕ) → HandlesNext false known form old new S S' (unanswered f d) → IsReply wanted S' (reply_to f d) bytes
     → HandlesNext wanted known form old new S S' (with_answer f d bytes)
 answer_next wanted known form old new S S' f d bytes next replies = record {
   directed = next.directed;
@@ -81,8 +81,8 @@ answer_next wanted known form old new S S' f d bytes next replies = record {
 }
 
 -- one more frame was handled, with this answer
-handled_more : {old mid : ReplaySeen} {known : Option Form} {form : Form} {n : ℕ} {o : Outcome} {d : FrameReport} {r : Reply} (new : ReplaySeen) (bytes : List ℕ)
-    → (at : InReplay old mid known n o)
+handled_more : {old mid : ReplaySeen} {known : Option Form} {form : Form} {n : ℕ} {o : Outcome} {d : FrameReport} {r : Reply} (new : ReplaySeen)
+    (bytes : List ℕ) → (at : InReplay old mid known n o)
     → (next : RespondsNext known form mid.source new.source mid.session new.session d r) → IsReply (is_some mid.answers) new.session r bytes
     → SoFar (is_some old.answers) (Some form) old.source new.source old.session new.session (at.handled ++ with_answer next.0 d bytes ∷ [])
 handled_more {old} {mid} {known} {form} {n} {o} {d} {r} new bytes at next replies =

@@ -86,8 +86,8 @@ no_frames a b ds r = record {
 }
 
 -- a replay that has not ended
-pub replayed_of : (known : Option Form) (old now : ReplaySeen) (hs : List Handled) → SoFar (is_some old.answers) known old.source now.source old.session now.session
-    hs → Replayed old now hs None
+pub replayed_of : (known : Option Form) (old now : ReplaySeen) (hs : List Handled) → SoFar (is_some old.answers) known old.source now.source
+    old.session now.session hs → Replayed old now hs None
 replayed_of None old now hs s = record {
   form = One;
   frames = [];

@@ -273,8 +273,8 @@ one_run S distinct (m ∷ ms) (v ∷ vs) (w ∷ ws) S' T (M, step, rest) (N, ste
     (subst (λ (U : SessionSeen). Chain Step U ms ws T) (sym one.1) rest') x.1 y.1 in
     (ap₂ (λ u us. u ∷ us) one.0 later.0, later.1)
 
-pub replay_of_conversion : (S : SessionSeen) → HasDistinctRoots S → (bodies : List (List ℕ)) (fs : List Frame) (gs : List (Directed Frame)) (vs ws : List Verdict)
-    (T S' : SessionSeen)
+pub replay_of_conversion : (S : SessionSeen) → HasDistinctRoots S → (bodies : List (List ℕ)) (fs : List Frame) (gs : List (Directed Frame))
+    (vs ws : List Verdict) (T S' : SessionSeen)
     → AllZip Means bodies fs → AllZip MeansDirected (conversion bodies) gs
     → Chain Step S (messages_in fs) vs T → HadMemory vs → Chain NotedStep S (directed_messages gs) ws S' → HadMemory ws
     → (incoming (directed_messages gs) ws ≡ vs) × (asking S.asks S' ≡ T)

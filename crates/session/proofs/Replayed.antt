@@ -142,7 +142,8 @@ SameSent x y = (x.0 ≡ y.0) × SameMessage x.1 y.1
 abbrev SameDirected : Directed Frame → Directed Frame → Type 0
 SameDirected x y = (x.0 ≡ y.0) × SameFrame x.1 y.1
 
-same_directed : (ds : List (Directed (List ℕ))) (gs hs : List (Directed Frame)) → AllZip MeansDirected ds gs → AllZip MeansDirected ds hs → AllZip SameDirected gs hs
+same_directed : (ds : List (Directed (List ℕ))) (gs hs : List (Directed Frame)) → AllZip MeansDirected ds gs → AllZip MeansDirected ds hs
+    → AllZip SameDirected gs hs
 same_directed [] [] [] p q = tt
 same_directed [] [] (h ∷ hs) p q = absurd q
 same_directed [] (g ∷ gs) hs p q = absurd p
@@ -238,7 +239,8 @@ pub conversion_replays : (S : SessionSeen) (bodies : List (List ℕ)) (fs : List
     → Chain Step S (messages_in fs) (incoming (directed_messages gs) vs) (asking S.asks S')
 conversion_replays S bodies fs gs vs S' means converted run noted =
     let same : AllZip SameSent (directed_messages gs) (directed_messages (flat_map converted_frame fs)) =
-    same_sent gs (flat_map converted_frame fs) (same_directed (conversion bodies) gs (flat_map converted_frame fs) converted (conversion_means bodies fs means)) in
+    same_sent gs (flat_map converted_frame fs)
+    (same_directed (conversion bodies) gs (flat_map converted_frame fs) converted (conversion_means bodies fs means)) in
     let is : directed_messages (flat_map converted_frame fs) ≡ converted_messages (messages_in fs) = frames_converted fs in
     let moved : Chain NotedStep S (converted_messages (messages_in fs)) vs S' = subst (λ ms. Chain NotedStep S ms vs S') is
     (run_same S (directed_messages gs) (directed_messages (flat_map converted_frame fs)) vs S' same run) in

@@ -21,7 +21,8 @@ returns-then-not-is_whole-clause-found g c =
           let there : IsFound shown (Some source.left) =
           subst (λ p. IsFound ((g.S.Shelf.contents c.args.shelf.now).under p) (Some source.left)) (ap (map (λ s. s.now)) c.deref.ensures.0
           ∙ c.parts.ensures) (rw w.in-Ok-Some.field-0-is at w.in-Ok-Some.ensures.found) in
-          finds_read t f shown source _ old w.check_content.new.stream.feed end w.check_content.result c.match-open.verdict there w.check_content.ensures.verdict
+          finds_read t f shown source _ old w.check_content.new.stream.feed end w.check_content.result c.match-open.verdict there
+          w.check_content.ensures.verdict
           (w.verdict-is ∙ w.unwrap_or-verdict.ensures)
           (never_whole c.match-open.verdict c.is_whole.result end w.check_content.new.stream.feed c.is_whole.ensures c.if-not-is_whole.true)
           (λ _. c.stop.ensures)
@@ -45,7 +46,8 @@ returns-else-not-is_whole-clause-found g c =
           let there : IsFound shown (Some source.left) =
           subst (λ p. IsFound ((g.S.Shelf.contents c.args.shelf.now).under p) (Some source.left)) (ap (map (λ s. s.now)) c.deref.ensures.0
           ∙ c.parts.ensures) (rw w.in-Ok-Some.field-0-is at w.in-Ok-Some.ensures.found) in
-          finds_read t f shown source _ old w.check_content.new.stream.feed end w.check_content.result c.match-open.verdict there w.check_content.ensures.verdict
+          finds_read t f shown source _ old w.check_content.new.stream.feed end w.check_content.result c.match-open.verdict there
+          w.check_content.ensures.verdict
           (w.verdict-is ∙ w.unwrap_or-verdict.ensures) (λ _. ap (λ s. s.feed) w.stream-is)
           (never_broken c.match-open.verdict c.is_whole.result end None c.is_whole.ensures c.if-not-is_whole.false)
       | in-Ok-None w ↦

@@ -85,7 +85,8 @@ returns-in_err-write_run-2-clause-lines g c =
     let judged = subst (JudgesNext t f n old new) c.in-Some.is c.in_ok-judged.ensures.judged in
     let all = Gave-trans start old new s.0 judged.0 s.1 judged.2 in
     let more = agrees_more _ _ (s.0 ++ judged.0) all.given in
-    let good = (judged_so t f n s.0 judged.0 more.0 c.in-Some.judged (pieces_are_positive t c.sound.ensures) lt s.3.count judged.1 judged.3).0 c.if-judged.true in
+    let good =
+    (judged_so t f n s.0 judged.0 more.0 c.in-Some.judged (pieces_are_positive t c.sound.ensures) lt s.3.count judged.1 judged.3).0 c.if-judged.true in
     let same = append_assoc s.0 judged.0 more.0 in
     let so_far = s.3.so_far (judged.0 ++ more.0) in
     let p = err_from_is_err_and c.from_residual-in_err-write_run-2.result c.from_residual-in_err-write_run-2.ensures.1 in

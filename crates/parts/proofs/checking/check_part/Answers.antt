@@ -99,7 +99,8 @@ returns-clause-once g c =
     let checked = c.files.invariant.checked in
     let all = all_passed t c.files.file-index c.files-entries.result.now c.files-entries.ensures c.files-test.false c.files.auto.file-index-end in
     subst
-    (λ fs. Chain (VisitsPart g.S.SeekShelf.opens_at g.S.Shelf.closes g.S.File.Source.seen t c.args.places) c.args.shelf.now fs c.files.files.items c.files.shelf)
+    (λ fs. Chain (VisitsPart g.S.SeekShelf.opens_at g.S.Shelf.closes g.S.File.Source.seen t c.args.places) c.args.shelf.now fs
+    c.files.files.items c.files.shelf)
     (take_all c.files.file-index t.files (omega (arith, all))) checked.visited
 
 pub returns-clause-unreadable : goal.returns-clause-unreadable

@@ -62,5 +62,6 @@ returns c = λ bytes own read len root.
     let long : t.piece_length < f.length = let gt = c.if-file-piece_length.false in omega (arith, gt, c.piece_length.ensures) in
     by_node t f _ bytes own c.lifted.result _ c.args.number c.eq-2.result c.sound.ensures is (has_tree t file.0 f _ c.sound.ensures file.1 is).0
     long read (slice_get-get_or _ c.args.number _ (in_layer t file.0 f _ c.args.number c.sound.ensures file.1 is long c.requires.inside))
-    (lifted_read t f bytes own c.args.root.now c.lifted.result c.args.number c.args.size c.piece_layer.result c.sound.ensures read len root c.piece_layer.ensures.value c.lifted.ensures)
+    (lifted_read t f bytes own c.args.root.now c.lifted.result c.args.number c.args.size c.piece_layer.result c.sound.ensures read len root
+    c.piece_layer.ensures.value c.lifted.ensures)
     c.eq-2.ensures

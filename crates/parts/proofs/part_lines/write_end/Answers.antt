@@ -28,5 +28,6 @@ returns g c =
     let stream = c.as_slice.result.now in
     let last = c.as_slice-2.result.now in
     Wrote-then _ _ _ _ stream last _
-    (parts r.files.items r.v1 stream last (c.as_slice.ensures ∙ c.stream_line.ensures) (c.as_slice-2.ensures ∙ c.yes_line.ensures ∙ ap answer_line c.yes.ensures))
+    (parts r.files.items r.v1 stream last (c.as_slice.ensures ∙ c.stream_line.ensures)
+    (c.as_slice-2.ensures ∙ c.yes_line.ensures ∙ ap answer_line c.yes.ensures))
     c.in_ok-write_all.ensures c.write_all-2.ensures

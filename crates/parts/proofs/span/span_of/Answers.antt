@@ -34,7 +34,8 @@ returns-then-last-first c = λ touched.
     let last = last_is f.first_piece c.piece_count-count.result c.max.result _ c.piece_count-count.ensures c.max.ensures in
     elim c.then-last-first.branch [
       | then-last-first-via-then-last-first w ↦ ends_before t c.args.places f c.max-first.result _ c.max-first.ensures last w.if-last-first.true touched
-      | then-last-first-via-else-last-first+then-places-first w ↦ begins_after t c.args.places f c.max-first.result c.max-first.ensures w.if-places-first.true touched
+      | then-last-first-via-else-last-first+then-places-first w ↦
+          begins_after t c.args.places f c.max-first.result c.max-first.ensures w.if-places-first.true touched
     ]
 
 pub returns : goal.returns
