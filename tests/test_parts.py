@@ -269,4 +269,4 @@ def test_parts_do_no_more_than_a_check():
                 f"pieces of {length} bytes {kind}: instructions of four parts {sum(parts) / whole:.3f} of one check's,"
                 f" of the largest {max(parts) / whole:.3f}, of an opening {opening / whole:.3f}"
             )
-            assert sum(parts) <= 1.02 * whole + 3 * opening and max(parts) <= 0.3 * whole, (whole, opening, parts)
+            assert sum(parts) <= min(1.05 * whole, 1.02 * whole + 3 * opening) and max(parts) <= 0.3 * whole, (whole, opening, parts)
