@@ -52,10 +52,11 @@ def drawn(text):
 
 def cut_off(count, *arguments):
     """Runs the program with a terminal for standard output, which is interrupted once it has printed so many lines. Gives
-    the status, and what was printed."""
+    the status, and what was printed. A shell that runs the tests in the background has them ignore interrupts."""
     ours, theirs = pty.openpty()
     tty.setraw(theirs)
-    program = subprocess.Popen([BTCHECK, *arguments], stdout=theirs, stderr=subprocess.DEVNULL)
+    program = subprocess.Popen([BTCHECK, *arguments], stdout=theirs, stderr=subprocess.DEVNULL,
+                               preexec_fn=lambda: signal.signal(signal.SIGINT, signal.SIG_DFL))
     os.close(theirs)
     text = b""
     while text.count(b"\n") < count:
