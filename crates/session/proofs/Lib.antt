@@ -9,6 +9,7 @@ pub mod RoundRuns
 pub mod OneGap
 pub mod Sessions
 pub mod SessionCalls
+pub mod BlockTrees
 pub mod SafeSteps
 pub mod Numbering
 pub mod FirstTrees
