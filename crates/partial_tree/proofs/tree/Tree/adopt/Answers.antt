@@ -14,9 +14,21 @@ use Rattle.partial_tree.proofs.GrownLeaves.{shifted}
 use Rattle.partial_tree.proofs.tree.Tree.adopt.Goals as goal
 
 -- both trees are of files of one length
-one_length : (n m : ℕ) (root : Hash) (K K' : Known) (M : Marked) (old : KeptTree) (new : GrownTree) → kept root n K M ≡ old
-    → grown m (leaves_in K' (block_count m)) ≡ new → new.length ≡ old.length → m ≡ n
-one_length n m root K K' M old new p q same = ap (λ (t : GrownTree). t.length) q ∙ same ∙ sym (ap (λ (t : KeptTree). t.length) p)
+record AreOfOneLength (n m : ℕ) (K' : Known) (new : GrownTree) : Type 0 where
+  same : m ≡ n
+  new_is : grown n (leaves_in K' (block_count n)) ≡ new
+  follows : FollowsFromLeaves n (block_count n) K'
+
+of_one_length : (n m : ℕ) (root : Hash) (K K' : Known) (M : Marked) (old : KeptTree) (new : GrownTree) → kept root n K M ≡ old
+    → grown m (leaves_in K' (block_count m)) ≡ new → new.length ≡ old.length → FollowsFromLeaves m (block_count m) K'
+    → AreOfOneLength n m K' new
+of_one_length n m root K K' M old new old_is new_is lengths follows =
+    let same : m ≡ n = ap (λ (t : GrownTree). t.length) new_is ∙ lengths ∙ sym (ap (λ (t : KeptTree). t.length) old_is) in
+    record {
+      same = same;
+      new_is = subst (λ n. grown n (leaves_in K' (block_count n)) ≡ new) same new_is;
+      follows = subst (λ n. FollowsFromLeaves n (block_count n) K') same follows;
+    }
 
 pub returns-then-not-agree-clause-refused : goal.returns-then-not-agree-clause-refused
 returns-then-not-agree-clause-refused g c =
@@ -25,14 +37,9 @@ returns-then-not-agree-clause-refused g c =
     let K = old.nodes.known in
     let K' = (g.N.NodeMap.seen new.nodes).known in
     let M = old.nodes.marked in
-    let same : new.shape ≡ old.nodes.length = one_length old.nodes.length new.shape old.root K K' M c.args.self.now c.args.grown c.self.view_is c.grown.view_is
-    c.requires.length in
-    let new_is : grown old.nodes.length (leaves_in K' (block_count old.nodes.length)) ≡ c.args.grown =
-    subst (λ n. grown n (leaves_in K' (block_count n)) ≡ c.args.grown) same
-    c.grown.view_is in
-    let is : FollowsFromLeaves old.nodes.length (block_count old.nodes.length) K' =
-    subst (λ n. FollowsFromLeaves n (block_count n) K') same c.grown.invariant.4 in (
-      not-adopted old.nodes.length old.root K K' M c.args.self.now c.args.grown c.self.view_is new_is c.requires.good is
+    let both = of_one_length old.nodes.length new.shape old.root K K' M c.args.self.now c.args.grown c.self.view_is c.grown.view_is
+    c.requires.length c.grown.invariant.4 in (
+      not-adopted old.nodes.length old.root K K' M c.args.self.now c.args.grown c.self.view_is both.new_is c.requires.good both.follows
           (subst (λ (n : Nodes). IsMismatch (look n.known) (look K')) c.map.ensures c.if-not-agree.ensures.differs),
       refl,
     )
@@ -44,15 +51,10 @@ carry_marks-requires-clause-known g c =
     let K = old.nodes.known in
     let K' = (g.N.NodeMap.seen new.nodes).known in
     let M = old.nodes.marked in
-    let same : new.shape ≡ old.nodes.length = one_length old.nodes.length new.shape old.root K K' M c.args.self.now c.args.grown c.self.view_is c.grown.view_is
-    c.requires.length in
-    let new_is : grown old.nodes.length (leaves_in K' (block_count old.nodes.length)) ≡ c.args.grown =
-    subst (λ n. grown n (leaves_in K' (block_count n)) ≡ c.args.grown) same
-    c.grown.view_is in
-    let is : FollowsFromLeaves old.nodes.length (block_count old.nodes.length) K' =
-    subst (λ n. FollowsFromLeaves n (block_count n) K') same c.grown.invariant.4 in
+    let both = of_one_length old.nodes.length new.shape old.root K K' M c.args.self.now c.args.grown c.self.view_is c.grown.view_is
+    c.requires.length c.grown.invariant.4 in
     let wide = shifted c.height-height.result c.height-height.ensures.low ∙ ap (λ k. 2 ^ k) c.height-height.ensures.value in
-    λ j low. first-known old.nodes.length old.root K K' M c.args.self.now c.args.grown c.self.view_is new_is c.requires.good is j (omega (arith, low, wide))
+    λ j low. first-known old.nodes.length old.root K K' M c.args.self.now c.args.grown c.self.view_is both.new_is c.requires.good both.follows j (omega (arith, low, wide))
 
 pub overflow_sub-gained : goal.overflow_sub-gained
 overflow_sub-gained g c =
@@ -61,14 +63,9 @@ overflow_sub-gained g c =
     let K = old.nodes.known in
     let K' = (g.N.NodeMap.seen new.nodes).known in
     let M = old.nodes.marked in
-    let same : new.shape ≡ old.nodes.length = one_length old.nodes.length new.shape old.root K K' M c.args.self.now c.args.grown c.self.view_is c.grown.view_is
-    c.requires.length in
-    let new_is : grown old.nodes.length (leaves_in K' (block_count old.nodes.length)) ≡ c.args.grown =
-    subst (λ n. grown n (leaves_in K' (block_count n)) ≡ c.args.grown) same
-    c.grown.view_is in
-    let is : FollowsFromLeaves old.nodes.length (block_count old.nodes.length) K' =
-    subst (λ n. FollowsFromLeaves n (block_count n) K') same c.grown.invariant.4 in
-    let most = fewer old.nodes.length old.root K K' M c.args.self.now c.args.grown c.self.view_is new_is c.requires.good is in
+    let both = of_one_length old.nodes.length new.shape old.root K K' M c.args.self.now c.args.grown c.self.view_is c.grown.view_is
+    c.requires.length c.grown.invariant.4 in
+    let most = fewer old.nodes.length old.root K K' M c.args.self.now c.args.grown c.self.view_is both.new_is c.requires.good both.follows in
     let places : 2 * 2 ^ c.height-height.result % 18446744073709551616 ≡ 2 ^ suc (tree_height old.nodes.length) =
     places_of c.height-height.result c.height-height.ensures.low
     ∙ ap (λ h. 2 ^ suc h) c.height-height.ensures.value in
@@ -81,25 +78,20 @@ returns-clause-adopted g c =
     let K = old.nodes.known in
     let K' = (g.N.NodeMap.seen new.nodes).known in
     let M = old.nodes.marked in
-    let same : new.shape ≡ old.nodes.length = one_length old.nodes.length new.shape old.root K K' M c.args.self.now c.args.grown c.self.view_is c.grown.view_is
-    c.requires.length in
-    let new_is : grown old.nodes.length (leaves_in K' (block_count old.nodes.length)) ≡ c.args.grown =
-    subst (λ n. grown n (leaves_in K' (block_count n)) ≡ c.args.grown) same
-    c.grown.view_is in
-    let is : FollowsFromLeaves old.nodes.length (block_count old.nodes.length) K' =
-    subst (λ n. FollowsFromLeaves n (block_count n) K') same c.grown.invariant.4 in
-    let most = fewer old.nodes.length old.root K K' M c.args.self.now c.args.grown c.self.view_is new_is c.requires.good is in
+    let both = of_one_length old.nodes.length new.shape old.root K K' M c.args.self.now c.args.grown c.self.view_is c.grown.view_is
+    c.requires.length c.grown.invariant.4 in
+    let most = fewer old.nodes.length old.root K K' M c.args.self.now c.args.grown c.self.view_is both.new_is c.requires.good both.follows in
     let places : 2 * 2 ^ c.height-height.result % 18446744073709551616 ≡ 2 ^ suc (tree_height old.nodes.length) =
     places_of c.height-height.result c.height-height.ensures.low
     ∙ ap (λ h. 2 ^ suc h) c.height-height.ensures.value in
     let agreed : AgreeInTree (look K) (look K') (tree_height old.nodes.length) = subst (AgreeInTree (look K) (look K')) c.height-height.ensures.value
     (subst (λ (n : Nodes). AgreeInTree (look n.known) (look K') c.height-height.result) c.map.ensures c.if-not-agree.ensures.same) in
-    let all : len K' + 1 ≡ 2 ^ suc (tree_height old.nodes.length) = subst (λ n. len K' + 1 ≡ 2 ^ suc (tree_height n)) same c.grown.invariant.3 in
+    let all : len K' + 1 ≡ 2 ^ suc (tree_height old.nodes.length) = subst (λ n. len K' + 1 ≡ 2 ^ suc (tree_height n)) both.same c.grown.invariant.3 in
     let length_is : c.replace.new.self.length ≡ old.nodes.length = length-of c.replace.ensures ∙ length-of c.carry_marks.ensures.carried ∙ c.grown.invariant.0
-    ∙ same in
+    ∙ both.same in
     subst (λ n. TreeTakesLayer c.args.self.now 0 c.args.grown.leaves (2 * 2 ^ c.height-height.result % 18446744073709551616 - 1 - old.known)
     (kept old.root n c.replace.new.self.known c.replace.new.self.marked)) (sym length_is)
-    (adopted old.nodes.length old.root K K' M c.args.self.now c.args.grown c.self.view_is new_is c.requires.good is
+    (adopted old.nodes.length old.root K K' M c.args.self.now c.args.grown c.self.view_is both.new_is c.requires.good both.follows
     (2 * 2 ^ c.height-height.result % 18446744073709551616 - 1 - old.known) c.replace.new.self.known
     c.replace.new.self.marked agreed (known-of c.replace.ensures ∙ known-of c.carry_marks.ensures.carried)
     (marked-of c.replace.ensures ∙ marked-of c.carry_marks.ensures.carried ∙ marked-of c.map-2.ensures)
@@ -112,13 +104,8 @@ returns-clause-good g c =
     let K = old.nodes.known in
     let K' = (g.N.NodeMap.seen new.nodes).known in
     let M = old.nodes.marked in
-    let same : new.shape ≡ old.nodes.length = one_length old.nodes.length new.shape old.root K K' M c.args.self.now c.args.grown c.self.view_is c.grown.view_is
-    c.requires.length in
-    let new_is : grown old.nodes.length (leaves_in K' (block_count old.nodes.length)) ≡ c.args.grown =
-    subst (λ n. grown n (leaves_in K' (block_count n)) ≡ c.args.grown) same
-    c.grown.view_is in
-    let is : FollowsFromLeaves old.nodes.length (block_count old.nodes.length) K' =
-    subst (λ n. FollowsFromLeaves n (block_count n) K') same c.grown.invariant.4 in
+    let both = of_one_length old.nodes.length new.shape old.root K K' M c.args.self.now c.args.grown c.self.view_is c.grown.view_is
+    c.requires.length c.grown.invariant.4 in
     let end : KeptTree = kept old.root c.replace.new.self.length c.replace.new.self.known c.replace.new.self.marked in
-    good-adopted old.nodes.length old.root K K' M c.args.self.now c.args.grown c.self.view_is new_is c.requires.good is
+    good-adopted old.nodes.length old.root K K' M c.args.self.now c.args.grown c.self.view_is both.new_is c.requires.good both.follows
     (2 * 2 ^ c.height-height.result % 18446744073709551616 - 1 - old.known) end (returns-clause-adopted g c)
