@@ -1,4 +1,4 @@
-use Rattle.std.proofs.Common.{◌≡◌, ◌+◌, ◌-◌, ◌++◌, length, take, drop, ◌∙◌, arith, subst}
+use Rattle.std.proofs.Common.{rules, ◌≡◌, ◌+◌, ◌-◌, ◌++◌, length, take, drop, ◌∙◌, arith, subst}
 use Rattle.std.proofs.lemmas.List.{length-append, length-drop, length-take-le, take-append-le}
 use Rattle.wire.proofs.Giving.{Gave-trans}
 use Rattle.folders.proofs.taking.take_all.Goals as goal
@@ -65,3 +65,6 @@ parts-preserved g c =
       room = g.met.T.Consumer.room_left c.parts.consumer c.take.new.self (take taken new) _ took
           (subst (g.T.Consumer.has_room c.parts.consumer) left c.parts.invariant.room);
     }
+
+pub parts-smaller : goal.parts-smaller
+parts-smaller g c = search rules

@@ -1,4 +1,4 @@
-use Rattle.std.proofs.Common.{◌++◌, sym, ap, subst, ◌∙◌}
+use Rattle.std.proofs.Common.{rules, ◌++◌, sym, ap, subst, ◌∙◌}
 use Rattle.std.specs.Cmp.Lexicographic.{other_text}
 use Rattle.parts.specs.PartLines.{end_lines, head_text, lines_text, part_text}
 use Rattle.parts.specs.Shares.{share}
@@ -30,3 +30,6 @@ returns-else-eq-clause-whole c files v1 can is =
     ∙ ap (λ vs. part_text t c.args.part c.args.parts vs c.in_ok-report.report.v1) read.0
     ∙ ap (part_text t c.args.part c.args.parts files) read.1 ∙ sym is in
     absurd (other_text c.as_slice.result.now c.args.text.now (sym c.if-eq.false ∙ c.eq.ensures) printed)
+
+pub returns-else-eq-clause-text : goal.returns-else-eq-clause-text
+returns-else-eq-clause-text c = search rules

@@ -1,4 +1,4 @@
-use Rattle.std.proofs.Common.{◌≡◌, ◌+◌, ◌-◌, ◌*◌, ◌^◌, ◌<◌, ◌≤◌, ◌∙◌, ℕ, ap, arith}
+use Rattle.std.proofs.Common.{rules, ◌≡◌, ◌+◌, ◌-◌, ◌*◌, ◌^◌, ◌<◌, ◌≤◌, ◌∙◌, ℕ, ap, arith}
 use Rattle.opening.specs.Description.{Description, FileEntry}
 use Rattle.opening.specs.Seen.{file_entry}
 use Rattle.opening.specs.Sound.{IsSound}
@@ -55,3 +55,6 @@ overflow_mul-piece_length-2 c =
     let same = ap (λ p. p * c.args.to) c.piece_length-piece_length.ensures in
     let fit = fits c.args.torrent.now (file_entry c.args.file.now) c.args.from c.args.to c.sound.ensures c.requires.file c.requires.some c.requires.inside in
     omega (arith, same, fit.ends)
+
+pub returns : goal.returns
+returns c = search rules
