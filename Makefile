@@ -59,16 +59,14 @@ build/x86-64-%/btcheck build/x86-64-%/btcheck.o: $(SOURCES)
 	$(need_toolchain)
 	@echo "btcheck for x86-64-$*"
 	@RT="$(RT)" tools/prove btcheck
-	rm -f crates/btcheck/out/btcheck crates/btcheck/out/btcheck.o
-	cd crates/btcheck && $(RT) run --cpu=x86-64-$* -- root /dev/null || [ $$? -eq 127 ]
-	install -D -m 755 crates/btcheck/out/btcheck build/x86-64-$*/btcheck
-	install -m 644 crates/btcheck/out/btcheck.o build/x86-64-$*/btcheck.o
+	@RT="$(RT)" tools/compile btcheck x86-64-$*
 
 # Programs for the tests alone: they make the libraries' calls with memory refused, and over devices that fail.
 build/memory_tests build/device_tests: $(SOURCES)
 	$(need_toolchain)
-	cd crates/$(@F) && $(RT) run --cpu=$(KIND)
-	install -D -m 755 crates/$(@F)/out/$(@F) $@
+	@RT="$(RT)" tools/prove $(@F)
+	@RT="$(RT)" tools/compile $(@F) $(KIND)
+	install -m 755 build/$(KIND)/$(@F) $@
 
 check:
 	$(need_toolchain)

@@ -10,8 +10,8 @@ lib: $(LIB)/libbtcheck.a $(LIB)/libbtcheck.so.0
 $(ARCHIVE): $(SOURCES)
 	$(need_toolchain)
 	@RT="$(RT)" tools/prove btcheck_c
-	cd crates/btcheck_c && $(RT) lib $(if $(CPU),--cpu=$(CPU))
-	touch $@
+	@RT="$(RT)" tools/compile btcheck_c $(or $(CPU),x86-64-v2)
+	install -D -m 644 build/$(or $(CPU),x86-64-v2)/libbtcheck_c.a $@
 
 # One object with the kit's C code inside. Only the names of the header leave it, so that it stands in the way of no
 # other library, and of no allocator that the client brings.

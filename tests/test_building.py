@@ -6,16 +6,26 @@ import subprocess
 
 from support import TOP, folder, need, write, written
 
-# Notes each call, and builds a program that says for which kind of processor it is. In the place of `status` it fails.
-STAND_IN = r"""#!/bin/sh
-name=$(basename "$PWD")
-echo "$1 $name $2" >> "$(dirname "$0")/calls"
-if [ "$name" = "$(cat "$(dirname "$0")/fails")" ]; then echo "fn $name: not proved"; exit 1; fi
-mkdir -p out
-if [ "$1" = run ]; then
-    echo "$2" | tee "out/$name" > "out/$name.o"
-    exit "$(cat "$(dirname "$0")/status")"
-fi
+# The prover's place: notes which crate it is called for, and makes a library, or an object that says for which kind of
+# processor it is. The linker's: hands that on.
+PROVER = r"""#!/bin/sh
+here=$(dirname "$0")
+while [ $# -gt 0 ]; do
+    case $1 in
+    --crate-name) name=$2 ;;
+    --cpu=*) kind=${1#--cpu=} ;;
+    --jobs) jobs=$2 ;;
+    -o) to=$2 ;;
+    esac
+    shift
+done
+echo "$name $kind $jobs" >> "$here/calls"
+if [ "$name" = "$(cat "$here/fails")" ] || [ "$kind" = x86-64-v4 ]; then echo "fn $name: not proved"; exit 1; fi
+if [ -n "$kind" ]; then echo "$kind" > "$to"; else mkdir -p "$to" && echo "$name" > "$to/format"; fi
+"""
+LINKER = r"""#!/bin/sh
+while [ "$1" != -o ]; do shift; done
+cp "$3" "$2"
 """
 
 
@@ -31,10 +41,11 @@ class Copy:
         self.crates = re.findall(r"(?m)^(\w+)", written(f"{TOP}/crates.txt").decode())
         for crate in self.crates:
             os.makedirs(f"{self.place}/crates/{crate}/src")
-        write(f"{self.bin}/rt", STAND_IN.encode())
-        os.chmod(f"{self.bin}/rt", 0o755)
+        for name, text in [("rt", "#!/bin/sh\n"), ("rattle", PROVER), ("rattle-link", LINKER)]:
+            self.set(name, text)
+            os.chmod(f"{self.bin}/{name}", 0o755)
+        write(f"{place}/KIT-ID", b"a kit that proves nothing")
         self.set("fails", "")
-        self.set("status", "0")
 
     def set(self, name, text):
         write(f"{self.bin}/{name}", text.encode())
@@ -49,46 +60,64 @@ class Copy:
     def built(self, name="build/btcheck"):
         return written(f"{self.place}/{name}").decode().strip()
 
+    def lines(self, told):
+        """The libraries whose lines are printed, in their order."""
+        return re.findall(r"(?m)^  \d+ of \d+: (\w+) \(\d+ s; \d+ min in all\)$", told)
+
 
 def test_make_says_how_far_it_is():
-    """At its start how long it may take; then each library by its number, behind those that it uses; and what is not
+    """At its start how long it may take; then each library once it is proved, behind those that it uses; and what is not
     proved, with the status of a failure."""
     need("make")
     with folder() as place:
         copy = Copy(place)
         status, told, calls = copy.make()
         assert status == 0, told
-        libraries = [call.split()[1] for call in calls if call.startswith("lib ")]
-        assert f"proving {len(libraries)} libraries, then btcheck: 15 to 30 minutes the first time" in told, told
-        assert re.findall(r"(?m)^  \d+ of \d+: (\w+) \(\d+ s; \d+ min in all\)$", told) == libraries
+        libraries = [call.split()[0] for call in calls][:-1]
+        assert f"proving {len(libraries)} libraries, then btcheck: some 15 minutes the first time" in told, told
+        assert sorted(copy.lines(told)) == sorted(libraries) and len(libraries) == len({*libraries}), told
         uses = dict(line.split("#")[0].strip().split(":") for line in open(f"{TOP}/crates.txt", encoding="utf-8") if ":" in line)
         for at, library in enumerate(libraries):
-            assert set(uses[library].split()) & set(copy.crates) <= set(libraries[:at]), library
-        assert "last: btcheck" in told
+            assert {*uses[library].split()} & {*copy.crates} <= {*libraries[:at]}, library
+        assert "last: btcheck" in told and calls[-1].startswith("btcheck ")
         shutil.rmtree(f"{copy.place}/build")
+        shutil.rmtree(f"{copy.place}/crates/hashtree/out")
         copy.set("fails", "hashtree")
         status, told, calls = copy.make()
         assert status != 0 and "hashtree is not proved" in told and "fn hashtree: not proved" in told, told
-        assert calls[-1].split()[:2] == ["lib", "hashtree"] and not os.path.exists(f"{copy.place}/build/btcheck")
+        assert [call.split()[0] for call in calls] == ["hashtree"] and not os.path.exists(f"{copy.place}/build/btcheck"), calls
+
+
+def test_make_proves_what_changed():
+    """A library is proved again if one of its files changed, and then each that stands on it, and no other."""
+    need("make")
+    with folder() as place:
+        copy = Copy(place)
+        assert copy.make()[0] == 0
+        write(f"{copy.place}/crates/pieces/src/lib.rt", b"// changed")
+        status, told, calls = copy.make()
+        assert status == 0, told
+        changed = [call.split()[0] for call in calls]
+        assert changed[0] == "pieces" and changed[-1] == "btcheck" and "opening" in changed, changed
+        assert not {"benc", "hashtree", "wire", "chains", "json_lines"} & {*changed}, changed
+        assert len(copy.lines(told)) > len(changed)
 
 
 def test_make_for_each_processor():
-    """One program for each kind, each built once, and build/btcheck is that of the last call; also where this machine is a
-    lesser one, on which the program ends with 127."""
+    """One program for each kind, each built once over the same proofs, and build/btcheck is that of the last call. A kind that
+    the toolchain does not know gives no program."""
     need("make")
     machine = subprocess.run([f"{TOP}/tools/processor"], check=True, stdout=subprocess.PIPE, text=True).stdout.strip()
     with folder() as place:
         copy = Copy(place)
-        copy.set("status", "127")
         for words, kind, times in [(["CPU=x86-64-v3"], "x86-64-v3", 1), (["CPU=x86-64-v2"], "x86-64-v2", 1),
                                    (["CPU=x86-64-v3"], "x86-64-v3", 0), ([], machine, 0)]:
             status, told, calls = copy.make(*words)
             assert status == 0, told
-            assert copy.built() == copy.built(f"build/{kind}/btcheck") == f"--cpu={kind}", (words, copy.built())
-            assert sum(call.startswith("run btcheck ") for call in calls) == times, calls
-        copy.set("status", "2")
+            assert copy.built() == copy.built(f"build/{kind}/btcheck") == kind, (words, copy.built())
+            assert sum(call.startswith("btcheck ") for call in calls) == times, calls
         status, told, _ = copy.make("CPU=x86-64-v4")
-        assert status != 0 and not os.path.exists(f"{copy.place}/build/x86-64-v4"), told
+        assert status != 0 and not os.path.exists(f"{copy.place}/build/x86-64-v4/btcheck"), told
 
 
 def test_make_without_the_toolchain():

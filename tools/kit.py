@@ -1,0 +1,51 @@
+"""The crates of crates.txt, and how the kit's prover is called on one of them."""
+import os
+import shutil
+import subprocess
+
+TOP = os.path.dirname(os.path.dirname(os.path.abspath(__file__)))
+KIT = os.path.dirname(os.path.dirname(os.path.realpath(shutil.which(os.environ.get("RT", "rt")) or "rt")))
+LOGIC = ["--antt-project", f"{KIT}/rattle/logic/antt-project.json", "--logic-built", f"{KIT}/logic_built"]
+
+
+def crates():
+    """What each crate lists in crates.txt, of the repository and of the kit, by its name."""
+    with open(f"{TOP}/crates.txt", encoding="utf-8") as file:
+        lines = [line.split("#")[0].partition(":") for line in file]
+    return {name.split()[0]: used.split() for name, _, used in lines if name.strip()}
+
+
+def below(name, uses):
+    """The repository's libraries below a crate, each behind those that it uses."""
+    found = []
+    for used in uses[name]:
+        if used in uses:
+            found += [it for it in [*below(used, uses), used] if it not in found]
+    return found
+
+
+def rlib(name):
+    """Where a library stands once it is proved."""
+    return f"{TOP}/crates/{name}/out/rlib/{name}.rlib"
+
+
+def command(name, *more):
+    """The command that proves a crate over the libraries below it, and compiles it. What it proves is kept in the crate's out/
+    for the next time."""
+    uses = crates()
+    found = {it: rlib(it) if it in uses else f"{KIT}/rlibs/{it}.rlib" for it in ["std", *uses[name]]}
+    places = [f"{KIT}/rlibs", *(os.path.dirname(rlib(it)) for it in below(name, uses))]
+    return [f"{KIT}/bin/rattle", "build", "--crate-name", name, *(f"--extern={it}={at}" for it, at in found.items()),
+            *(f"-Ldependency={it}" for it in places), *LOGIC, "--links", f"{name}=", "--incremental", "out/incremental", *more]
+
+
+def run(words, name, **how):
+    """Runs a command in a crate's folder."""
+    return subprocess.run(words, cwd=f"{TOP}/crates/{name}", stdin=subprocess.DEVNULL, **how)
+
+
+def lanes():
+    """How many proofs run side by side: one a processor, as far as 4 GiB for each are free."""
+    with open("/proc/meminfo", encoding="ascii") as file:
+        free = next(int(line.split()[1]) for line in file if line.startswith("MemAvailable"))
+    return max(1, min(len(os.sched_getaffinity(0)), free >> 22))
