@@ -162,8 +162,5 @@ fn if_asked<'a>(asked: Option<&[u8]>, name: &[u8], value: &'a [u8]) -> Option<&'
     ensures { IfSome (option_copied asked.entry) (λ key.
         option_copied result ≡ if_key key name.now value.entry.now) }
 {
-    match asked {
-        Some(key) if name == key => Some(value),
-        _ => None,
-    }
+    (name == asked?).then_some(value)
 }

@@ -7,6 +7,11 @@ use Rattle.benc.specs.Spelling.{integer}
 use Rattle.benc.proofs.Out.{Wrote-then, Wrote-part}
 use Rattle.benc.proofs.encoding.write_integer.Goals as goal
 
+pub returns-in_err-write_all : goal.returns-in_err-write_all
+returns-in_err-write_all g c =
+    let p = err_from_is_err_and c.from_residual.result c.from_residual.ensures.1 in
+    Wrote-part _ p.0 _ _ (105 ∷ []) (signed_decimal c.args.n ++ 101 ∷ []) _ refl p.1 c.in_err-write_all.ensures
+
 pub returns-in_err-write_all-2 : goal.returns-in_err-write_all-2
 returns-in_err-write_all-2 g c =
     let digits = c.as_bytes.result.now in
