@@ -1,12 +1,12 @@
 -- What is read is spelled so.
-use Rattle.std.proofs.Common.{◌≡◌, ℕ, zero, suc, ◌-◌, ◌<◌, Bool, true, false, cond, eqb, List, [], ◌∷◌, ◌++◌, length}
+use Rattle.std.proofs.Common.{◌≡◌, ℕ, zero, suc, ◌-◌, ◌<◌, ◌^◌, Bool, true, false, cond, eqb, List, [], ◌∷◌, ◌++◌, length}
 use Rattle.std.proofs.Common.{take, Option, Some, None, Result, Ok, Err, refl, sym, ap, ◌∙◌, subst, append_assoc, arith}
 use Rattle.std.proofs.lemmas.Bool.{eqb-true}
 use Rattle.std.proofs.lemmas.List.{length-append, take_at}
 use Rattle.benc.specs.declared.fault.FaultKind.{FaultKind}
 use Rattle.benc.specs.declared.fault.FaultKind.TheVariants.{BadStart, TooDeep}
 use Rattle.benc.specs.Value.{Bencode, int, text, list, dict, Items, no_items, item, Pairs, no_pairs, pair}
-use Rattle.benc.specs.Spelling.{string, integer, Spelled, SpelledItems, SpelledPairs}
+use Rattle.benc.specs.Spelling.{string, integer, IsAbove, Spelled, SpelledItems, SpelledPairs}
 use Rattle.benc.specs.Digits.{is_digit}
 use Rattle.benc.specs.Items.{integer_at, string_at, key_at}
 use Rattle.benc.specs.Parser.{◌>>=◌, Parsed, Failed, begun_at, items_at, pairs_at, value_with, value_at}
@@ -30,6 +30,14 @@ pub began : {A : Type 0} (start : List ℕ) (r : Result A FaultKind) (x : A) →
 began start (Ok y) x e = ap (λ z. Ok z) (ok_of y x e)
 began start (Err f) x e = absurd cc
 
+-- a first part and the one behind it
+joined : (whole first middle next later : List ℕ) → whole ≡ first ++ middle → middle ≡ next ++ later → whole ≡ (first ++ next) ++ later
+joined whole first middle next later p q = p ∙ ap (λ t. first ++ t) q ∙ sym (append_assoc first next later)
+
+-- a mark, and what stands before the end mark
+marked : (c mark : ℕ) (bytes inner rest : List ℕ) → eqb c mark ≡ true → bytes ≡ inner ++ 101 ∷ rest → c ∷ bytes ≡ (mark ∷ (inner ++ 101 ∷ [])) ++ rest
+marked c mark bytes inner rest m e = ap (λ d. d ∷ bytes) (eqb-true c mark m) ∙ ap (λ z. mark ∷ z) (e ∙ sym (append_assoc inner (101 ∷ []) rest))
+
 module _ (room : ℕ) (read : List ℕ → Parsed Bencode) (sound : (b : List ℕ) (x : Bencode × List ℕ) → read b ≡ Ok x → TakesFront (Spelled room) b x.0 x.1) where
   -- the items, and the end mark behind them
   abbrev Inner : List ℕ → Items × List ℕ → Type 0
@@ -52,12 +60,22 @@ module _ (room : ℕ) (read : List ℕ → Parsed Bencode) (sound : (b : List �
           let rest = again a.0.1 b.0 b.1 in
           subst (λ y. Inner (c ∷ bytes) y) (ok_of (item a.0.0 b.0.0, b.0.1) x b.2) (
             first.0 ++ rest.0,
-            first.1 ∙ ap (λ t. first.0 ++ t) rest.1 ∙ sym (append_assoc first.0 rest.0 (101 ∷ b.0.1)),
+            joined (c ∷ bytes) first.0 a.0.1 rest.0 (101 ∷ b.0.1) first.1 rest.1,
             (first.0, rest.0, refl, first.2, rest.2),
           )
 
   abbrev InnerPairs : Option (List ℕ) → List ℕ → Pairs × List ℕ → Type 0
   InnerPairs before bytes x = (inner : List ℕ) × (bytes ≡ inner ++ 101 ∷ x.1) × SpelledPairs room before x.0 inner
+
+  -- a first pair, and those behind it
+  pair_taken : (before : Option (List ℕ)) (bytes k left next : List ℕ) (v : Bencode) (ps : Pairs) (later : List ℕ) (x : Pairs × List ℕ)
+      → fine (pair k v ps, later) ≡ fine x → (length k < 10 ^ 10) × IsAbove k before × (bytes ≡ string k ++ left) → TakesFront (Spelled room) left v next
+      → InnerPairs (Some k) next (ps, later) → InnerPairs before bytes x
+  pair_taken before bytes k left next v ps later x e name first rest = subst (λ y. InnerPairs before bytes y) (ok_of (pair k v ps, later) x e) (
+    string k ++ (first.0 ++ rest.0),
+    joined bytes (string k) left (first.0 ++ rest.0) (101 ∷ later) name.2 (joined left first.0 next rest.0 (101 ∷ later) first.1 rest.1),
+    (first.0, rest.0, refl, name.0, name.1, first.2, rest.2),
+  )
 
   pairs_take : (n : ℕ) (before : Option (List ℕ)) (bytes : List ℕ) (x : Pairs × List ℕ) → pairs_at read n before bytes ≡ Ok x → InnerPairs before bytes x
   unfolding pairs_at
@@ -78,13 +96,7 @@ module _ (room : ℕ) (read : List ℕ → Parsed Bencode) (sound : (b : List �
           let name = key_takes before (c ∷ bytes) k.0.0 k.0.1 (began (c ∷ bytes) (key_at before (c ∷ bytes)) k.0 k.1) in
           let first = sound k.0.1 a.0 a.1 in
           let rest = again k.0.0 a.0.1 b.0 b.1 in
-          let s = string k.0.0 in
-          subst (λ y. InnerPairs before (c ∷ bytes) y) (ok_of (pair k.0.0 a.0.0 b.0.0, b.0.1) x b.2) (
-            s ++ (first.0 ++ rest.0),
-            name.2 ∙ ap (λ t. s ++ t) (first.1 ∙ ap (λ t. first.0 ++ t) rest.1 ∙ sym (append_assoc first.0 rest.0 (101 ∷ b.0.1)))
-                ∙ sym (append_assoc s (first.0 ++ rest.0) (101 ∷ b.0.1)),
-            (first.0, rest.0, refl, name.0, name.1, first.2, rest.2),
-          )
+          pair_taken before (c ∷ bytes) k.0.0 k.0.1 a.0.1 a.0.0 b.0.0 b.0.1 x b.2 name first rest
 
 -- one level: what lists and dictionaries give is given
 module _ (room : ℕ) (ls : List ℕ → List ℕ → Parsed Items) (ds : List ℕ → List ℕ → Parsed Pairs)
@@ -115,7 +127,7 @@ module _ (room : ℕ) (ls : List ℕ → List ℕ → Parsed Items) (ds : List �
           let t = dict_sound (c ∷ bytes) bytes a.0 a.1 in
           subst (λ (y : Bencode × List ℕ). TakesFront (Spelled room) (c ∷ bytes) y.0 y.1) (ok_of (dict a.0.0, a.0.1) x a.2) (
             100 ∷ (t.1 ++ 101 ∷ []),
-            ap (λ d. d ∷ bytes) (eqb-true c 100 m) ∙ ap (λ z. 100 ∷ z) (t.2 ∙ sym (append_assoc t.1 (101 ∷ []) a.0.1)),
+            marked c 100 bytes t.1 a.0.1 m t.2,
             (t.0, t.1, refl, t.3),
           )
       by_d false m f = by_digit (is_digit c) refl f
@@ -129,7 +141,7 @@ module _ (room : ℕ) (ls : List ℕ → List ℕ → Parsed Items) (ds : List �
           let t = list_sound (c ∷ bytes) bytes a.0 a.1 in
           subst (λ (y : Bencode × List ℕ). TakesFront (Spelled room) (c ∷ bytes) y.0 y.1) (ok_of (list a.0.0, a.0.1) x a.2) (
             108 ∷ (t.1 ++ 101 ∷ []),
-            ap (λ d. d ∷ bytes) (eqb-true c 108 m) ∙ ap (λ z. 108 ∷ z) (t.2 ∙ sym (append_assoc t.1 (101 ∷ []) a.0.1)),
+            marked c 108 bytes t.1 a.0.1 m t.2,
             (t.0, t.1, refl, t.3),
           )
       by_l false m f = by_d (eqb c 100) refl f

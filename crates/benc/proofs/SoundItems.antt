@@ -8,7 +8,7 @@ use Rattle.std.specs.Fmt.{decimal, signed_decimal}
 use Rattle.std.specs.Str.Parse.{digits_value, AllDigits}
 use Rattle.std.proofs.lemmas.Bool.Decides.{nat_tests}
 use Rattle.std.proofs.lemmas.Bool.{ltb-false, eqb-true}
-use Rattle.std.proofs.lemmas.List.{take-append-drop, length-take}
+use Rattle.std.proofs.lemmas.List.{take-append-drop, length-take-le}
 use Rattle.std.proofs.lemmas.Str.Parse.{IsNumeralModel, numerals_by_value, tells_digits, digits_value_short}
 use Rattle.std.proofs.lemmas.Fmt.{decimal-digits_value, decimal_digit}
 use Rattle.benc.specs.declared.fault.FaultKind.{FaultKind}
@@ -114,6 +114,9 @@ integer_takes (c ∷ bytes) z rest e = by_sign (eqb c 45) refl e
     by_sign true s f = let d = digits_take true bytes z rest f in (d.0, spelled (c ∷ bytes) (ap (λ x. x ∷ bytes) (eqb-true c 45 s) ∙ d.1))
     by_sign false s f = let d = digits_take false (c ∷ bytes) z rest f in (d.0, spelled (c ∷ bytes) d.1)
 
+fits_64_bits : (n : ℕ) → n < 10 ^ 10 → n < 2 ^ 64
+fits_64_bits n h = omega arith
+
 string_of_takes : (run after s rest : List ℕ) → IsRun run → string_of run after ≡ Ok (s, rest) → (length s < 10 ^ 10) × (run ≡ decimal (length s))
     × (after ≡ 58 ∷ (s ++ rest))
 string_of_takes run [] s rest h e = absurd cc
@@ -129,8 +132,11 @@ string_of_takes run (c ∷ after) s rest h e =
     let few : length run ≤ 10 = ltb-false _ _ t.2 in
     let enough : n ≤ length after = ltb-false _ _ b.0 in
     let smaller : n < 10 ^ 10 = digits_value_short own run 10 (run_digits run h) few in
-    let len : length s ≡ n = ap length (sym is_s) ∙ omega (arith, length-take n after) in
-    (omega arith, sym (run_decimal run h t.1 (omega arith)) ∙ ap decimal (sym len), rw (is_mark, ← is_s, ← is_rest, take-append-drop n after) refl)
+    let len : length s ≡ n = ap length (sym is_s) ∙ length-take-le n after enough in (
+      subst (λ k. k < 10 ^ 10) (sym len) smaller,
+      sym (run_decimal run h t.1 (fits_64_bits n smaller)) ∙ ap decimal (sym len),
+      rw (is_mark, ← is_s, ← is_rest, take-append-drop n after) refl,
+    )
 
 pub string_takes : (bytes s rest : List ℕ) → string_at bytes ≡ Ok (s, rest) → (length s < 10 ^ 10) × (bytes ≡ string s ++ rest)
 string_takes bytes s rest e =

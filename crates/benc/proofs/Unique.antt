@@ -237,6 +237,9 @@ not_both x d e = absurd cc
 pub read_has_no_fault : (b : List ℕ) (x : Bencode × List ℕ) (kind : FaultKind) (offset : ℕ) → value_at 128 b ≡ Ok x → Stops b kind offset → ⊥
 read_has_no_fault b x kind offset read p = not_both x (kind, p.rest) (sym read ∙ stops_reads b kind offset p)
 
+none_left : (n : ℕ) → 0 ≡ n → 0 < n → ⊥
+none_left n e some = omega arith
+
 pub no_fault : (b : List ℕ) (v : Bencode) (kind : FaultKind) (offset : ℕ) → Spells v b → Fails b kind offset → ⊥
 no_fault b v kind offset s f = by_fault f
   where
@@ -248,7 +251,7 @@ no_fault b v kind offset s f = by_fault f
     by_fault (inr t) =
         let same : fine (v, []) ≡ fine (t.value, t.rest) = sym read ∙ trails_reads b kind offset t in
         let rests : 0 ≡ length t.rest = ap (λ (x : Bencode × List ℕ). length x.1) (ok_of (v, []) (t.value, t.rest) same) in
-        omega (arith, t.more)
+        none_left (length t.rest) rests t.more
 
 -- the offset, by what is left
 place_of : (b front rest : List ℕ) (offset : ℕ) → b ≡ front ++ rest → offset ≡ length front → offset ≡ length b - length rest

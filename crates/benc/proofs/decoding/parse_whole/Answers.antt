@@ -1,8 +1,8 @@
-use Rattle.std.proofs.Common.{inl, inr, arith}
+use Rattle.std.proofs.Common.{◌≡◌, inl, inr, arith}
 use Rattle.std.proofs.lemmas.Result.{err_from_is_err_and}
 use Rattle.std.specs.Option.{option_copied}
 use Rattle.benc.specs.View.{view}
-use Rattle.benc.specs.declared.fault.FaultKind.TheVariants.{Trailing}
+use Rattle.benc.specs.declared.fault.FaultKind.TheVariants.{NoMemory, Trailing}
 use Rattle.benc.proofs.Fronts.{taken_trails, whole_is, whole_spells}
 use Rattle.benc.proofs.Lookups.{spans_stand}
 use Rattle.benc.proofs.Unique.{no_fault, one_fault}
@@ -31,6 +31,15 @@ returns-in_err-v-clause-memory c =
 pub returns-in_err-v-clause-spelled : goal.returns-in_err-v-clause-spelled
 returns-in_err-v-clause-spelled c =
     let p = err_from_is_err_and c.from_residual.result c.from_residual.ensures.1 in rw (p.1, p.2) (λ none. absurd (c.in_err-v.ensures.fault.0 none))
+
+trails : Trailing ≡ NoMemory → ⊥
+trails h = cc
+
+pub returns-then-used-input-clause-memory : goal.returns-then-used-input-clause-memory
+returns-then-used-input-clause-memory c none = absurd (trails none)
+
+pub returns-then-used-input-clause-spelled : goal.returns-then-used-input-clause-spelled
+returns-then-used-input-clause-spelled c none = absurd (trails none)
 
 pub returns-then-used-input-clause-fault : goal.returns-then-used-input-clause-fault
 returns-then-used-input-clause-fault c known =
