@@ -9,4 +9,5 @@ pub mod Parts
 pub mod Growth
 pub mod Numbers
 pub mod Paging
+pub mod Rows
 pub mod Counted

@@ -261,6 +261,17 @@ module _ (f g : Numbered) (q : ℕ) where
       | inr other ↦ ap is_some (changed_other f g q (g q) is n other)
     ]
 
+-- a page more leaves each other there
+pub changed-keeps : (f g : Numbered) (q : ℕ) (p : Page) → IsChanged q (Some p) f g → (n : ℕ) → IsSome (f n) → IsSome (g n)
+changed-keeps f g q p is n was = elim (cases_eq n q) [
+  | inl same ↦ ap (λ k. is_some (g k)) same ∙ ap is_some (changed_here f g q (Some p) is)
+  | inr other ↦ ap is_some (changed_other f g q (Some p) is n other) ∙ was
+]
+
+-- the same pages have the same cells
+pub alike-cells : (f g : Numbered) → AreAlike f g → (i : ℕ) → cell_in g i ≡ cell_in f i
+alike-cells f g alike i = ap (λ o. cell_of o (i % 512)) (alike (i / 512))
+
 -- a number that needs no longer be fresh
 pub kept-spare : (f : Numbered) (q : ℕ) (fresh left : List ℕ) → fresh ≡ left ++ q ∷ [] → is_spare (f q) ≡ false → AreSpare f fresh → AreSpare f left
 kept-spare f q fresh left popped full spare = record {

@@ -1,8 +1,9 @@
-use Rattle.std.proofs.Common.{◌≡◌, ◌^◌, ◌≤◌, ◌∷◌, [], ◌++◌, None, sym, ap, ◌∙◌, subst, arith}
+use Rattle.std.proofs.Common.{◌≡◌, ◌^◌, ◌≤◌, ◌∷◌, [], ◌++◌, Some, None, IsSome, is_some, inl, refl, sym, ap, ◌∙◌, subst, arith}
 use Rattle.node_maps.specs.Pages.{AreSpare}
 use Rattle.node_maps.specs.PageIndexes.{on_rows}
 use Rattle.node_maps.specs.PagedRow.{pages_of}
-use Rattle.node_maps.proofs.Pages.{added-cells, added-spare, absent}
+use Rattle.node_maps.proofs.Pages.{changed_here, changed-keeps, alike-cells, added-cells, added-spare, absent}
+use Rattle.node_maps.proofs.Growth.{added-grown}
 use Rattle.node_maps.proofs.Numbers.{counted-few, counted-more}
 use Rattle.node_maps.proofs.paged_row.PagedRow.make.Goals as goal
 
@@ -33,3 +34,33 @@ returns-clause-cells c =
     let f = on_rows row.pages in
     let none : f c.args.number ≡ None = absent c.page.result (f c.args.number) c.page.ensures (sym c.is_some.ensures ∙ c.if-is_some.false) in
     added-cells f (on_rows c.add.new.self) c.args.number c.in_ok-page.page none c.in_ok-add.ensures.ok c.in_ok-page.ensures
+
+pub returns-clause-keeps : goal.returns-clause-keeps
+unfolding pages_of
+returns-clause-keeps c = changed-keeps (on_rows c.args.self.now.pages) (on_rows c.add.new.self) c.args.number c.in_ok-page.page c.in_ok-add.ensures.ok
+
+pub returns-clause-ok : goal.returns-clause-ok
+unfolding pages_of
+returns-clause-ok c =
+    ap is_some (changed_here (on_rows c.args.self.now.pages) (on_rows c.add.new.self) c.args.number (Some c.in_ok-page.page) c.in_ok-add.ensures.ok)
+
+pub returns-clause-grown : goal.returns-clause-grown
+unfolding pages_of
+returns-clause-grown c =
+    let row = c.args.self.now in
+    let f = on_rows row.pages in
+    let none : f c.args.number ≡ None = absent c.page.result (f c.args.number) c.page.ensures (sym c.is_some.ensures ∙ c.if-is_some.false) in
+    added-grown f (on_rows c.add.new.self) c.args.number c.in_ok-page.page none c.in_ok-add.ensures.ok c.in_ok-page.ensures row.fresh.items row.count
+    c.push_reserved.new.self.items (c.push_reserved.ensures.items ∙ ap (λ xs. xs ++ c.args.number ∷ []) c.reserve.ensures.items)
+
+pub returns-in_err-add-clause-cells : goal.returns-in_err-add-clause-cells
+unfolding pages_of
+returns-in_err-add-clause-cells c = alike-cells (on_rows c.args.self.now.pages) (on_rows c.add.new.self) c.in_err-add.ensures.err
+
+pub returns-in_err-add-clause-keeps : goal.returns-in_err-add-clause-keeps
+unfolding pages_of
+returns-in_err-add-clause-keeps c = λ n was. subst IsSome (sym (c.in_err-add.ensures.err n)) was
+
+pub returns-in_err-add-clause-grown : goal.returns-in_err-add-clause-grown
+unfolding pages_of
+returns-in_err-add-clause-grown c = inl (record { alike = c.in_err-add.ensures.err; noted = c.reserve.ensures.items; counted = refl })
