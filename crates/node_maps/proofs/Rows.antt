@@ -5,14 +5,14 @@ use Rattle.std.specs.Prelude.{slice_get}
 use Rattle.std.specs.Option.{option_and_then, option_map, unwrap_or}
 use Rattle.std.proofs.Math.ListN.{set}
 use Rattle.std.proofs.lemmas.Bool.{false≢true}
-use Rattle.std.proofs.lemmas.Option.{slice_get_past}
+use Rattle.std.proofs.lemmas.Option.{slice_get_past, slice_get_read}
 use Rattle.node_maps.specs.declared.paged_row.PagedRow.{PagedRow}
 use Rattle.node_maps.specs.declared.page.Cell.{Cell}
 use Rattle.node_maps.specs.Cell.{with_hash}
 use Rattle.node_maps.specs.Digest.{Hash}
 use Rattle.node_maps.specs.Pages.{cell_of}
 use Rattle.node_maps.specs.PagedRow.{pages_of, cell_of_row, AreSameRowCells, AreSameRowCellsBut, HasRowPages, KeepsRowPages}
-use Rattle.node_maps.specs.Paged.{page_at, cell_at, AreSamePagedCells, AreSamePagedCellsBut, KeepPages, AreAsMany, AreNotMore, GrowsBy, HasPages}
+use Rattle.node_maps.specs.Paged.{page_at, cell_at, row_pages, held_below, AreSamePagedCells, AreSamePagedCellsBut, KeepPages, AreAsMany, AreNotMore, GrowsBy, HasPages}
 
 -- what holds of the item that is written, and of each that stays, holds at each place
 each_item : {X : Type 0} (P : ℕ → Option X → Option X → Type 0) (xs : List X) (i : ℕ) (x y : X) → i < length xs → x ≡ get_or xs i x
@@ -84,3 +84,20 @@ module _ (rows : List PagedRow) (layer : ℕ) (row new : PagedRow) (low : layer 
     here = this_item (λ o p. count p ≤ count o + more) rows layer row new low is grows;
     others = λ l other. each_item (λ k o p. k ≢ layer → count p ≡ count o) rows layer row new low is (λ other. absurd (other refl)) (λ _ _ _. refl) l other;
   }
+
+-- a row reads as what the rows say of its layer
+pub row_cell-read : (rows : List PagedRow) (layer : ℕ) (row : PagedRow) → layer < length rows → row ≡ get_or rows layer row → (index : ℕ)
+    → cell_at rows layer index ≡ cell_of_row row index
+row_cell-read rows layer row low is index =
+    ap (λ (o : Option PagedRow). cell_of (option_and_then (λ (r : PagedRow). pages_of r (index / 512)) o) (index % 512))
+    (slice_get_read rows (length rows) layer row refl low is)
+
+pub row_pages-read : (rows : List PagedRow) (layer : ℕ) (row : PagedRow) → layer < length rows → row ≡ get_or rows layer row → row_pages rows layer ≡ row.count
+row_pages-read rows layer row low is =
+    ap (λ (o : Option PagedRow). unwrap_or (option_map (λ (r : PagedRow). r.count) o) 0) (slice_get_read rows (length rows) layer row refl low is)
+
+pub held_below-next : (rows : List PagedRow) (l : ℕ) → held_below rows (l + 1) ≡ held_below rows l + row_pages rows l
+held_below-next rows l = ap (held_below rows) next
+  where
+    next : l + 1 ≡ suc l
+    next = omega arith

@@ -64,3 +64,6 @@ returns-in_err-add-clause-keeps c = λ n was. subst IsSome (sym (c.in_err-add.en
 pub returns-in_err-add-clause-grown : goal.returns-in_err-add-clause-grown
 unfolding pages_of
 returns-in_err-add-clause-grown c = inl (record { alike = c.in_err-add.ensures.err; noted = c.reserve.ensures.items; counted = refl })
+
+pub returns-then-is_some-clause-no_memory : goal.returns-then-is_some-clause-no_memory
+returns-then-is_some-clause-no_memory c = λ there. refl
