@@ -1,5 +1,6 @@
 -- Rows of pages in which one row was changed.
-use Rattle.std.proofs.Common.{◌≡◌, ◌≢◌, ◌⊎◌, ℕ, zero, suc, ◌+◌, ◌/◌, ◌%◌, ◌<◌, ◌≤◌, Bool, List, [], ◌∷◌, length, get_or, Option, Some, IsSome, is_some, inl, inr, refl, sym, ap}
+use Rattle.std.proofs.Common.{◌≡◌, ◌≢◌, ◌⊎◌, ℕ, zero, suc, ◌+◌, ◌/◌, ◌%◌, ◌<◌, ◌≤◌, Bool, List, [], ◌∷◌, length, get_or, Option, Some}
+use Rattle.std.proofs.Common.{IsSome, is_some, inl, inr, refl, sym, ap}
 use Rattle.std.proofs.Common.{◌∙◌, subst, arith}
 use Rattle.std.specs.Prelude.{slice_get}
 use Rattle.std.specs.Option.{option_and_then, option_map, unwrap_or}
@@ -12,7 +13,8 @@ use Rattle.node_maps.specs.Cell.{with_hash}
 use Rattle.node_maps.specs.Digest.{Hash}
 use Rattle.node_maps.specs.Pages.{cell_of}
 use Rattle.node_maps.specs.PagedRow.{pages_of, cell_of_row, AreSameRowCells, AreSameRowCellsBut, HasRowPages, KeepsRowPages}
-use Rattle.node_maps.specs.Paged.{page_at, cell_at, row_pages, held_below, AreSamePagedCells, AreSamePagedCellsBut, KeepPages, AreAsMany, AreNotMore, GrowsBy, HasPages}
+use Rattle.node_maps.specs.Paged.{page_at, cell_at, row_pages, held_below, AreSamePagedCells, AreSamePagedCellsBut, KeepPages, AreAsMany}
+use Rattle.node_maps.specs.Paged.{GrowsBy, HasPages}
 
 -- what holds of the item that is written, and of each that stays, holds at each place
 each_item : {X : Type 0} (P : ℕ → Option X → Option X → Type 0) (xs : List X) (i : ℕ) (x y : X) → i < length xs → x ≡ get_or xs i x
@@ -73,10 +75,6 @@ module _ (rows : List PagedRow) (layer : ℕ) (row new : PagedRow) (low : layer 
   pub row-as_many : new.count ≡ row.count → AreAsMany rows (set rows layer new)
   unfolding count
   row-as_many same l = each_item (λ _ o p. count p ≡ count o) rows layer row new low is same (λ _ _. refl) l
-
-  pub row-not_more : new.count ≤ row.count → AreNotMore rows (set rows layer new)
-  unfolding count
-  row-not_more fewer l = each_item (λ _ o p. count p ≤ count o) rows layer row new low is fewer (λ _ o. omega arith) l
 
   pub row-grows : (more : ℕ) → new.count ≤ row.count + more → GrowsBy layer more rows (set rows layer new)
   unfolding count
