@@ -13,7 +13,7 @@ use crate::head::LONGEST_HEAD;
 use crate::outgoing::{Outgoing, READ, ROOM, send};
 use crate::parts::convert_part;
 use benc::{DeviceFault, Sink, Source, WriteFault, write_all};
-use session::laws::conversion_replays_as_form_1;
+use session_laws::conversion_replays_as_form_1;
 use wire::HEADER;
 
 /// Writes the record of form 2 that a record of form 1 is: a header, and then each frame as it

@@ -1,5 +1,5 @@
 -- Each message is accepted, or refused by one first refusal.
-use Rattle.std.proofs.Common.{◌≡◌, ◌⊎◌, ℕ, suc, ◌+◌, ◌-◌, ◌*◌, ◌/◌, ◌%◌, ◌^◌, ◌<◌, ◌≤◌, List, length, Some, inl, inr, sym, ◌∙◌, arith, div-le_self}
+use Rattle.std.proofs.Common.{◌≡◌, ◌⊎◌, ℕ, zero, suc, ◌+◌, ◌-◌, ◌*◌, ◌/◌, ◌%◌, ◌^◌, ◌<◌, ◌≤◌, List, length, Some, inl, inr, sym, ◌∙◌, subst, arith, div-le_self}
 use Rattle.std.proofs.lemmas.Option.{same_Some, none-some, slice_get_within}
 use Rattle.std.proofs.lemmas.Bool.{cases_eq, cases_lt}
 use Rattle.wire.specs.declared.message.Ask.{Ask}
@@ -14,7 +14,19 @@ use Rattle.partial_tree.specs.Claims.{IsMismatch, IsAgreed, IsAccepted, Fault, R
 use Rattle.partial_tree.specs.Names.{hash_refusal_number}
 use Rattle.chains.proofs.Cases.{same_or_not}
 use Rattle.partial_tree.proofs.ClaimValues.{either, there_or_not, base-read, uncle-read}
-use Rattle.partial_tree.proofs.Stored.{each_below}
+
+-- what holds of each number below n, or else a Q is found
+pub each_below : (Q : Type 0) (P : ℕ → Type 0) (n : ℕ) → ((k : ℕ) → k < n → P k ⊎ Q) → ((k : ℕ) → k < n → P k) ⊎ Q
+each_below Q P zero at = inl (λ k h. absurd (omega arith))
+each_below Q P (suc n) at = both (each_below Q P n (λ k h. at k (omega arith))) (at n (omega arith))
+  where
+    both : ((k : ℕ) → k < n → P k) ⊎ Q → P n ⊎ Q → ((k : ℕ) → k < suc n → P k) ⊎ Q
+    both (inr q) here = inr q
+    both (inl below) (inr q) = inr q
+    both (inl below) (inl last) = inl (λ k h. elim (cases_lt k n) [
+      | inl less ↦ below k less
+      | inr more ↦ let e : n ≡ k = omega arith in subst P e last
+    ])
 
 range_or_not : (h : ℕ) (ask : Ask) → GoodRange h ask ⊎ (¬ GoodRange h ask)
 range_or_not h ask = elim (cases_eq (2 ^ span ask) ask.length) [

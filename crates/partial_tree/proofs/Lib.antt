@@ -1,22 +1,13 @@
 pub mod Digests
 pub mod Powers
 pub mod LowPlaces
-pub mod Trees
-pub mod Whole
-pub mod Agree
 pub mod ClaimValues
 pub mod Claimed
 pub mod Joining
-pub mod Stored
-pub mod Headline
-pub mod Answers
-pub mod Gaps
-pub mod Wanted
 pub mod Rows
 pub mod MessagePages
 pub mod Deciding
 pub mod WholeLayers
-pub mod Over
 pub mod Noting
 pub mod Given
 pub mod Tracing
@@ -34,4 +25,3 @@ pub mod AddedRows
 pub mod FromLeaves
 pub mod GrownLeaves
 pub mod Adopted
-pub mod Trusted

@@ -16,9 +16,12 @@ use Rattle.partial_tree.specs.Claims.{HasNew, IsAgreed}
 use Rattle.partial_tree.specs.Evidence.{range_of, hashes_of, given_by, claimed_by, IsClaimedPlace, LiesUnder, IsNoted, Grows, IsHandled, AllHandled}
 use Rattle.partial_tree.specs.Evidence.{BelowHandled, LeadsTo, AreClaims, HasClaim, IsEmpty, NotesNew}
 use Rattle.partial_tree.proofs.Noting.{insert_new-joined}
-use Rattle.partial_tree.proofs.Agree.{left_or_right}
 use Rattle.node_maps.proofs.Places.{place_left, place_right}
 use Rattle.partial_tree.proofs.ClaimValues.{claims-read, claims-zero, claims-given, claims-joined}
+
+-- a place is the left or the right child of its parent
+pub left_or_right : (i : ℕ) → (i ≡ 2 * (i / 2)) ⊎ (i ≡ 2 * (i / 2) + 1)
+left_or_right i = grind arith
 
 -- what a claim that is not given rests on
 pub record Opened (e : Evidence) (l i : ℕ) : Type 0 where

@@ -19,9 +19,11 @@ use Rattle.hashtree.proofs.Heights.{height_enough, pow_split}
 use Rattle.partial_tree.proofs.Powers.{height_pow, div_small}
 use Rattle.hashtree.proofs.Zeros.{zero_hash-zero, zero_hash-suc}
 use Rattle.partial_tree.proofs.Digests.{is_hash}
-use Rattle.partial_tree.proofs.Whole.{pad-is_hash}
 use Rattle.partial_tree.proofs.ClaimValues.{either, there_or_not, first_of_two, second_of_two, base-read, uncle-read, claims-read, claims-zero, claims-given}
 use Rattle.partial_tree.proofs.Joining.{joined-closed_by_parts}
+
+pub pad-is_hash : IsHash pad_leaf
+pad-is_hash = record { size = length-replicate {A = ℕ} 32 0; bytes = All-replicate (λ b. b < 256) 32 0 (omega arith) }
 
 pub zero_hash-is_hash : (m : ℕ) → IsHash (zero_hash m)
 zero_hash-is_hash zero = subst IsHash (sym zero_hash-zero) pad-is_hash

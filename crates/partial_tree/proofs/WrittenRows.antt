@@ -13,7 +13,7 @@ use Rattle.partial_tree.specs.declared.message.found.Claim.{Claim}
 use Rattle.partial_tree.specs.declared.message.row.Row.{Row}
 use Rattle.partial_tree.specs.Claims.{joined}
 use Rattle.partial_tree.specs.Joins.{with_new}
-use Rattle.partial_tree.specs.Evidence.{claimed_by, IsWrittenBelow, LiesUnder}
+use Rattle.partial_tree.specs.Evidence.{claimed_by, LiesUnder}
 use Rattle.partial_tree.specs.FoldedRows.{place_in}
 use Rattle.partial_tree.specs.WrittenRows.{IsBelowRowWritten, IsRowWritten, LiesBelowRow}
 use Rattle.partial_tree.proofs.ClaimValues.{there_or_not}
@@ -77,16 +77,6 @@ rows-written C K first second row some left right =
           out ((below-left top row.node l i (omega (arith, some)) (on_left l i u.0)).1, omega (arith, low, some)));
     }
 
--- what lies below one place
-pub top-written : (C K after : PartialTree) (layer index : ℕ) → IsBelowRowWritten C (record { layer = layer; depth = 0; node = index }) K after
-    → IsWrittenBelow C layer index K after
-top-written C K after layer index written =
-    let same : layer + 0 ≡ layer = omega arith in
-    record {
-      below = λ l i at. written.below l i (subst (λ k. LiesUnder k index l i) (sym same) at.1, at.0);
-      elsewhere = λ l i out. written.elsewhere l i (λ under. out (under.1, subst (λ k. LiesUnder k index l i) same under.0));
-    }
-
 -- ---- the places of a row, one after the other
 
 -- the first n places of the row are written, and all below the row
@@ -94,13 +84,6 @@ pub record IsRowBegun (C : PartialTree) (row : Row) (n : ℕ) (before after : Pa
   pub below : (l i : ℕ) → LiesBelowRow row l i → after l i ≡ joined before C l i
   pub here : (k : ℕ) → k < n → after row.layer (place_in row k) ≡ joined before C row.layer (place_in row k)
   pub rest : (l i : ℕ) → ¬ LiesBelowRow row l i → ((k : ℕ) → k < n → l ≡ row.layer → i ≢ place_in row k) → after l i ≡ before l i
-
-pub row-begun : (C : PartialTree) (r : Row) (before after : PartialTree) → IsBelowRowWritten C r before after → IsRowBegun C r 0 before after
-row-begun C row before after written = record {
-  below = written.below;
-  here = λ k low. absurd (omega (arith, low));
-  rest = λ l i out other. written.elsewhere l i out;
-}
 
 other_place : (row : Row) (j k : ℕ) → k < j → place_in row k ≢ place_in row j
 other_place row j k less same = omega (arith, less, same)

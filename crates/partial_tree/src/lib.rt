@@ -6,7 +6,6 @@ mod answer;
 mod answering;
 mod bytes;
 mod growing;
-pub mod laws;
 mod marking;
 mod message;
 mod nodes;

@@ -16,8 +16,8 @@ use Rattle.partial_tree.specs.Closed.{IsClosed, Collision, whole}
 use Rattle.partial_tree.specs.Kept.{HasBlockSize, RefusesBlock}
 use Rattle.partial_tree.specs.declared.refusal.BlockRefusal.{BlockRefusal}
 use Rattle.partial_tree.specs.declared.refusal.BlockRefusal.TheVariants.{BadPlace, BadSize, Unproved, BadBlock}
-use Rattle.partial_tree.proofs.Keeping.{marked-known}
-use Rattle.partial_tree.proofs.Headline.{block-size, leaf_or_collision, block_or_collision}
+use Rattle.tree_laws.proofs.Keeping.{marked-known}
+use Rattle.tree_laws.proofs.Headline.{block-size, leaf_or_collision, block_or_collision}
 use Rattle.chains.specs.Chain.{Chain}
 use Rattle.session.specs.Blocks.{BlocksSeen, Cut, cuts}
 use Rattle.session.specs.Layouts.{SessionSeen, roots, tree_of}

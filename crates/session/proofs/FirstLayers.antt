@@ -21,7 +21,7 @@ use Rattle.session.specs.Layouts.{root_of_entry}
 use Rattle.session.specs.Fresh.{KnowsRoot, KnowsFrom, IsPlanted}
 use Rattle.partial_tree.proofs.ClaimValues.{either, there_or_not, first_of_two, second_of_two}
 use Rattle.partial_tree.proofs.Keeping.{good_filled}
-use Rattle.partial_tree.proofs.Over.{claims-node, claims-no_more, claims-root_over}
+use Rattle.tree_laws.proofs.Over.{claims-node, claims-no_more, claims-root_over}
 
 module _ (t : TreeRoot) (K : PartialTree) (l : ℕ) (hashes : List Hash) (layer_inside : l ≤ tree_height t.length)
     (right_count : length hashes ≡ pad_from t.length l)

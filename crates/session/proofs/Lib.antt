@@ -19,7 +19,3 @@ pub mod OpenAsks
 pub mod OtherAsks
 pub mod NotedSteps
 pub mod NotedRounds
-pub mod RepeatedRounds
-pub mod Replayed
-pub mod OneRun
-pub mod Trusting

@@ -30,7 +30,7 @@ use Rattle.session.specs.Session.{SessionSeen, TreeState, IsTree, HasClosedTrees
 use Rattle.session.specs.Rounds.{HasNoMoreGaps, Collides}
 use Rattle.session.specs.Noted.{IsOpenAsk, StepOut, NotedStep, KeepsOpen}
 use Rattle.session.specs.NotedRounds.{HasDirectedHashes, IsAskedAt, IsAskedFor, LacksMemoryToNote, NotedRoundLeavesFewer}
-use Rattle.partial_tree.proofs.Wanted.{gaps-fall, gaps-fewer, true_answer-accepted}
+use Rattle.tree_laws.proofs.Wanted.{gaps-fall, gaps-fewer, true_answer-accepted}
 use Rattle.session.proofs.OpenAsks.{opened_contains}
 use Rattle.session.specs.NotedLaws.{asking}
 use Rattle.session.proofs.OtherAsks.{tree_asking}

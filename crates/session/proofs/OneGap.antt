@@ -9,7 +9,7 @@ use Rattle.node_maps.specs.Places.{tree_height}
 use Rattle.partial_tree.specs.Closed.{IsClosed, whole}
 use Rattle.partial_tree.specs.Claims.{IsAccepted, answer_of}
 use Rattle.partial_tree.specs.Gaps.{want_ask}
-use Rattle.partial_tree.proofs.Wanted.{true_answer-accepted}
+use Rattle.tree_laws.proofs.Wanted.{true_answer-accepted}
 use Rattle.session.specs.Session.{SessionSeen, HasClosedTrees, HasDistinctRoots, IsStored, IsHashRefused}
 use Rattle.session.specs.Wanted.{IsWantedAnswer, HasOneGapFewer, WantedClosesOneGap}
 use Rattle.session.proofs.Rounds.{want-tall, stored-one_fewer, only-memory}

@@ -26,9 +26,9 @@ use Rattle.chains.specs.Chain.{Chain}
 use Rattle.chains.proofs.Chains.{LastStep, last_step}
 use Rattle.session.specs.Rounds.{HasNoMoreGaps, RoundLeavesFewer}
 use Rattle.partial_tree.proofs.ClaimValues.{there_or_not}
-use Rattle.partial_tree.proofs.Whole.{whole-closed}
-use Rattle.partial_tree.proofs.Answers.{answer-reaches, answer-root}
-use Rattle.partial_tree.proofs.Wanted.{want-range, whole-can_answer, gaps-fall, gaps-none, gaps-all_known}
+use Rattle.tree_laws.proofs.Whole.{whole-closed}
+use Rattle.tree_laws.proofs.Answers.{answer-reaches, answer-root}
+use Rattle.tree_laws.proofs.Wanted.{want-range, whole-can_answer, gaps-fall, gaps-none, gaps-all_known}
 use Rattle.session.proofs.Runs.{Learns, run-learns}
 use Rattle.opening.specs.Description.{Description}
 use Rattle.session.specs.Layouts.{root_of_entry}

@@ -27,7 +27,7 @@ use Rattle.session.specs.Wanted.{HasOneGapFewer}
 use Rattle.chains.specs.Chain.{Chain}
 use Rattle.hashtree.proofs.Heights.{height_enough}
 use Rattle.partial_tree.proofs.Joining.{accepted-no_fault}
-use Rattle.partial_tree.proofs.Wanted.{true_answer-accepted, want-fewer, want-one_fewer}
+use Rattle.tree_laws.proofs.Wanted.{true_answer-accepted, want-fewer, want-one_fewer}
 use Rattle.session.proofs.Runs.{Learns, run-true, run-learns, run-torrent}
 use Rattle.session.proofs.States.{set-write}
 

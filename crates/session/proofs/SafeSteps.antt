@@ -27,9 +27,9 @@ use Rattle.session.specs.Session.{SessionSeen, TreeState, IsTree, HasClosedTrees
 use Rattle.session.specs.Session.{AreRefused, IsHashRefused, IsBlockRefused, HasDistinctRoots, Step}
 use Rattle.session.specs.Blocks.{BlocksSeen, Cut}
 use Rattle.session.specs.Layouts.{roots, root_of_entry, tree_of}
-use Rattle.partial_tree.proofs.Whole.{whole-closed}
-use Rattle.partial_tree.proofs.Stored.{stored_or_collision}
-use Rattle.partial_tree.proofs.Answers.{answer-stored}
+use Rattle.tree_laws.proofs.Whole.{whole-closed}
+use Rattle.tree_laws.proofs.Stored.{stored_or_collision}
+use Rattle.tree_laws.proofs.Answers.{answer-stored}
 use Rattle.partial_tree.proofs.Joining.{accepted-no_fault}
 use Rattle.partial_tree.specs.Kept.{RefusesBlock}
 use Rattle.opening.specs.Blocks.{IsBlockRun}

@@ -25,7 +25,7 @@ use Rattle.partial_tree.specs.Kept.{TreeRefusesBlock}
 use Rattle.session.specs.Session.{IsTree, HasClosedTrees, HasDistinctRoots, IsStored, IsHashRefused, IsAnswered, IsInFile, IsMarkedBlock, IsUnmarkedBlock}
 use Rattle.session.specs.Asks.{AskSet}
 use Rattle.session.specs.Layouts.{SessionSeen, seen, root_of_entry, tree_number, state_of, AreKept}
-use Rattle.partial_tree.proofs.Keeping.{StaysGood}
+use Rattle.tree_laws.proofs.Keeping.{StaysGood}
 
 abbrev pub with_trees : Description → AskSet → List TreeState → SessionSeen
 with_trees d o states = record { torrent = d; trees = states; asks = o }

@@ -5,7 +5,6 @@
 mod asking;
 mod block_digests;
 mod hashes;
-pub mod laws;
 mod marking;
 mod noting;
 mod open_asks;

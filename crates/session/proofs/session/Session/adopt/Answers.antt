@@ -6,7 +6,7 @@ use Rattle.session.specs.Layouts.{SessionSeen, seen}
 use Rattle.session.specs.Session.{IsFilled, IsFillRefused}
 use Rattle.session.proofs.Sessions.{found_at, good_at, kept-after}
 use Rattle.session.proofs.SessionCalls.{filled_all, fill_refused_all, inside_kept, length_at}
-use Rattle.partial_tree.proofs.Keeping.{stays_good_adopted}
+use Rattle.tree_laws.proofs.Keeping.{stays_good_adopted}
 use Rattle.session.proofs.session.Session.adopt.Goals as goal
 
 pub index_mut-requires : goal.index_mut-requires

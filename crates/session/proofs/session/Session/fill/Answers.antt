@@ -4,7 +4,7 @@ use Rattle.opening.specs.Description.{Description}
 use Rattle.partial_tree.specs.Kept.{KeptTree}
 use Rattle.session.specs.Layouts.{SessionSeen, seen}
 use Rattle.session.specs.Session.{IsFilled, IsFillRefused}
-use Rattle.partial_tree.proofs.Keeping.{good_after_fill}
+use Rattle.tree_laws.proofs.Keeping.{good_after_fill}
 use Rattle.session.proofs.Sessions.{found_at, good_at, kept-after}
 use Rattle.session.proofs.SessionCalls.{filled_all, fill_refused_all, inside_kept}
 use Rattle.session.proofs.session.Session.fill.Goals as goal

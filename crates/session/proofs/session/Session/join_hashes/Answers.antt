@@ -4,7 +4,7 @@ use Rattle.partial_tree.specs.declared.refusal.HashRefusal.TheVariants.{UnknownR
 use Rattle.partial_tree.specs.Kept.{KeptTree}
 use Rattle.session.specs.Session.{IsStored, IsHashRefused}
 use Rattle.session.specs.Layouts.{SessionSeen, seen}
-use Rattle.partial_tree.proofs.Keeping.{good_after_take}
+use Rattle.tree_laws.proofs.Keeping.{good_after_take}
 use Rattle.session.proofs.Numbering.{some_number, no_number}
 use Rattle.session.proofs.Sessions.{found_at, good_at, kept-after, unknown_in, stored_all, refused_all}
 use Rattle.session.proofs.session.Session.join_hashes.Goals as goal

@@ -2,7 +2,7 @@ use Rattle.std.proofs.Common.{◌≡◌, ◌<◌, length, set, IfOk, subst, arit
 use Rattle.std.specs.Prelude.{IfErr}
 use Rattle.session.specs.Session.{IsMarkedBlock, IsUnmarkedBlock}
 use Rattle.session.specs.Layouts.{SessionSeen, seen}
-use Rattle.partial_tree.proofs.Keeping.{good_after_block}
+use Rattle.tree_laws.proofs.Keeping.{good_after_block}
 use Rattle.session.proofs.BlockTrees.{block_in, in_tree, some_tree, tree_within}
 use Rattle.session.proofs.Sessions.{kept-after, marked_all, unmarked_all}
 use Rattle.session.proofs.session.Session.mark_in_file.Goals as goal

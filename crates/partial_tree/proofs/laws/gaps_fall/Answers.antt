@@ -1,5 +1,0 @@
-use Rattle.partial_tree.proofs.Wanted.{gaps-fall, gaps-at_most, gaps-none, gaps-all_known}
-use Rattle.partial_tree.proofs.laws.gaps_fall.Goals as goal
-
-pub returns : goal.returns
-returns c = record { falls = gaps-fall; at_most = gaps-at_most; none = gaps-none; all = gaps-all_known }

@@ -1,5 +1,0 @@
-use Rattle.partial_tree.proofs.Headline.{block_or_collision}
-use Rattle.partial_tree.proofs.laws.known_leaf_names_block.Goals as goal
-
-pub returns : goal.returns
-returns c = λ t K f closed fits i inside. block_or_collision t K f closed fits i inside

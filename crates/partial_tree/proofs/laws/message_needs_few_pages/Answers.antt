@@ -1,5 +1,0 @@
-use Rattle.partial_tree.proofs.MessagePages.{message-few}
-use Rattle.partial_tree.proofs.laws.message_needs_few_pages.Goals as goal
-
-pub returns : goal.returns
-returns c = message-few

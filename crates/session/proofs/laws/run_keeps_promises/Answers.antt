@@ -1,5 +1,0 @@
-use Rattle.session.proofs.Runs.{run-true}
-use Rattle.session.proofs.laws.run_keeps_promises.Goals as goal
-
-pub returns : goal.returns
-returns c = run-true

@@ -1,0 +1,5 @@
+-- The lemmas behind the laws.
+pub mod RepeatedRounds
+pub mod Replayed
+pub mod OneRun
+pub mod Trusting
