@@ -14,7 +14,7 @@ use Rattle.std.proofs.lemmas.Nat.{mod_below}
 use Rattle.hashtree.specs.Tree.{pad_leaf, block_count, zero_hash}
 use Rattle.hashtree.proofs.Zeros.{zero_hash-zero}
 use Rattle.hashtree.proofs.Heights.{height_enough}
-use Rattle.node_maps.specs.Digest.{Hash, IsHash}
+use Rattle.node_maps.specs.Digest.{Hash, IsHash, join}
 use Rattle.node_maps.specs.Known.{Known, look, place_cmp}
 use Rattle.node_maps.specs.Places.{PartialTree, IsTreePlace, IsKnown, tree_height}
 use Rattle.node_maps.specs.Runs.{AreKnown}
@@ -189,7 +189,7 @@ module _ (n : ℕ) (leaves : List Hash) (right_count : length leaves ≡ block_c
       ∙ two_halves (tree_height n - suc k) in
       let left = all-claimed k (2 * i) (omega (arith, at.0), omega (arith, at.1)) in
       let right = all-claimed k (2 * i + 1) (omega (arith, at.0), omega (arith, at.1)) in
-      (_, joined-above k i ∙ ap₂ join_both left.1 right.1)
+      (join left.0 right.0, joined-above k i ∙ ap₂ join_both left.1 right.1)
 
   -- one layer more
   pub layer-more : (layer : ℕ) (K K' : Known) → layer < tree_height n → IsUpTo n leaves layer K

@@ -1,4 +1,4 @@
-use Rattle.std.proofs.Common.{◌∙◌, sym, ap, subst, not}
+use Rattle.std.proofs.Common.{◌∙◌, sym, ap, subst, not, rules}
 use Rattle.node_maps.specs.Known.{Known, look}
 use Rattle.node_maps.proofs.Nodes.{known-of}
 use Rattle.partial_tree.specs.Joins.{Joins}
@@ -37,3 +37,12 @@ returns-then-is_empty-clause-stored g c =
     nothing-joins c.args.evidence.now (g.N.NodeMap.seen c.args.map.now).known c.trace.new.found c.args.layer c.args.index c.requires.leads
     (on_some c.trace.result _ c.trace.ensures.handled (c.is_none.ensures ∙ ap not c.if-is_none.false))
     (c.is_empty.ensures.0 c.if-is_empty.true) c.trace.ensures.sound
+
+pub returns-then-is_none-clause-refused : goal.returns-then-is_none-clause-refused
+returns-then-is_none-clause-refused g c = search rules
+
+pub returns-then-is_none-clause-trimmed : goal.returns-then-is_none-clause-trimmed
+returns-then-is_none-clause-trimmed g c = search rules
+
+pub returns-then-is_none-clause-stays : goal.returns-then-is_none-clause-stays
+returns-then-is_none-clause-stays g c = search rules

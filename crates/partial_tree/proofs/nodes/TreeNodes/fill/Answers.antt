@@ -1,4 +1,4 @@
-use Rattle.std.proofs.Common.{◌≡◌, ◌-◌, ◌≤◌, [], length, sym, subst}
+use Rattle.std.proofs.Common.{◌≡◌, ◌-◌, ◌≤◌, [], length, sym, subst, rules}
 use Rattle.hashtree.specs.Tree.{zero_hash}
 use Rattle.partial_tree.specs.TreeRoot.{TreeRoot}
 use Rattle.node_maps.specs.Places.{tree_height}
@@ -27,3 +27,12 @@ store-requires-clause-leads g c =
     (sym c.zero.ensures)
     (subst (λ h. LeadsTo (record { base = c.args.layer; index = 0; span = h - c.args.layer; hashes = c.args.hashes; pad = zero_hash c.args.layer }) h 0)
     (sym c.self.invariant.1) at)
+
+pub returns-clause-stays : goal.returns-clause-stays
+returns-clause-stays g c = search rules
+
+pub returns-clause-filled : goal.returns-clause-filled
+returns-clause-filled g c = search rules
+
+pub returns-clause-refused : goal.returns-clause-refused
+returns-clause-refused g c = search rules

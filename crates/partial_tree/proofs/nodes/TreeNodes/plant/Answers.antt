@@ -1,4 +1,4 @@
-use Rattle.std.proofs.Common.{◌≡◌, ℕ, suc, ◌*◌, ◌-◌, ◌^◌, ◌<◌, ◌≤◌, [], length, sym, ap, ◌∙◌, subst, arith}
+use Rattle.std.proofs.Common.{◌≡◌, ℕ, suc, ◌*◌, ◌-◌, ◌^◌, ◌<◌, ◌≤◌, [], length, sym, ap, ◌∙◌, subst, arith, rules}
 use Rattle.std.proofs.lemmas.Nat.{one_shl}
 use Rattle.std.proofs.lemmas.Bool.{false≢true}
 use Rattle.hashtree.specs.Tree.{zero_hash}
@@ -74,3 +74,6 @@ returns-clause-no_memory g c =
     (λ known. false≢true (sym c.if-knows.false ∙ c.knows.ensures.1 (subst (λ n. AreKnown (look (g.N.NodeMap.seen c.self.inside.map).known c.args.layer) 0 n)
     (sym (one_shl (c.self.inside.height - c.args.layer) 64 (omega (arith, c.self.invariant.2))
     ∙ ap (λ n. 2 ^ (n - c.args.layer)) c.self.invariant.1)) known))))))
+
+pub returns-then-knows-clause-no_memory : goal.returns-then-knows-clause-no_memory
+returns-then-knows-clause-no_memory g c = search rules

@@ -1,4 +1,4 @@
-use Rattle.std.proofs.Common.{◌≡◌, IfOk, IfErr, [], ◌-◌, ◌/◌, ◌^◌, not, refl, sym, ap, ap₂, ◌∙◌, subst, arith}
+use Rattle.std.proofs.Common.{◌≡◌, IfOk, IfErr, [], ◌-◌, ◌/◌, ◌^◌, not, refl, sym, ap, ap₂, ◌∙◌, subst, arith, rules}
 use Rattle.partial_tree.specs.declared.message.evidence.Evidence.{Evidence}
 use Rattle.partial_tree.specs.TreeRoot.{TreeRoot}
 use Rattle.node_maps.specs.Places.{tree_height, IsTreePlace, IsKnown}
@@ -87,3 +87,6 @@ returns-clause-few g c = on_ok_weaker c.store.result (λ few.
       few-up_to c.args.ask.now.base c.from-2.result c.in_ok-span.span c.in_ok-top.top range.3
           (omega (arith, count.1, count.0.top_inside, c.self.invariant.2)),
     )) c.store.ensures.few
+
+pub returns-then-not-pads_fit-clause-refused : goal.returns-then-not-pads_fit-clause-refused
+returns-then-not-pads_fit-clause-refused g c = search rules

@@ -1,4 +1,4 @@
-use Rattle.std.proofs.Common.{◌^◌, ◌≤◌, sym, subst, arith}
+use Rattle.std.proofs.Common.{◌^◌, ◌≤◌, sym, subst, arith, rules}
 use Rattle.std.specs.FinSet as set
 use Rattle.partial_tree.specs.Kept.{KeptTree, kept, IsGoodTree}
 use Rattle.partial_tree.proofs.Counting.{counted_mark, marks_fit}
@@ -16,3 +16,12 @@ pub invariant_of-self : goal.invariant_of-self
 invariant_of-self g c =
     counted_mark c.self.inside.known c.self.inside.marked c.mark.result c.args.block c.self.inside.nodes c.mark.new.self c.self.invariant
     c.mark.ensures.marked c.mark.ensures.count
+
+pub mark-requires : goal.mark-requires
+mark-requires g c = search rules
+
+pub returns-clause-taken : goal.returns-clause-taken
+returns-clause-taken g c = search rules
+
+pub returns-then-bytes-block_len-clause-refused : goal.returns-then-bytes-block_len-clause-refused
+returns-then-bytes-block_len-clause-refused g c = search rules
