@@ -8,7 +8,8 @@ use Rattle.filetree.proofs.Tables.{none_both}
 use Rattle.filetree.specs.declared.refusal.Refusal.{Refusal}
 use Rattle.filetree.specs.declared.refusal.Refusal.TheVariants as refusals
 use Rattle.opening.specs.Description.{Description}
-use Rattle.opening.specs.Refusals.{OpeningTakesMemory, all_key_rows, file_tree_in, max_torrent, plain_rows}
+use Rattle.opening.specs.Refusals.{OpeningTakesMemory, all_key_rows, file_tree_in, layer_rows, max_torrent, plain_rows}
+use Rattle.opening.specs.declared.roots.Root.{Root}
 
 -- an answer that no row has is not given
 abbrev NoRow : List TestRow → Refusal → Type 0
@@ -34,6 +35,10 @@ keys_take_none v known = never (all_key_rows v) refusals.NoMemory (
     ),
   ),
 ) known
+
+-- nor one of a piece layer
+pub layers_take_none : (k : ℕ) (layers : Pairs) (ts : List Root) → First (layer_rows k layers ts) refusals.NoMemory → ⊥
+layers_take_none k layers ts known = never (layer_rows k layers ts) refusals.NoMemory ((λ e. cc), ((λ e. cc), ((λ e. cc), tt))) known
 
 -- the tests of the keys, and of the shape and the paths of this file tree
 pub plain_pass : (v : Bencode) (tree : Pairs) → NoneHolds (all_key_rows v) → tree ≡ file_tree_in v → NoneHolds (shape_rows tree) → NoneHolds (plain_rows v)

@@ -22,6 +22,7 @@ use std::str;
 const META_VERSION: i64 = 2;
 
 /// What the keys of a torrent file say.
+#[derive(Drop)]
 pub(crate) struct Keys<'v, 'a> {
     pub(crate) info: &'v Value<'a>,
     pub(crate) tree: &'v [Pair<'a>],

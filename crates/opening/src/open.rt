@@ -1,20 +1,23 @@
 //! Opening a torrent file: its tests in their order, and the torrent that it describes (BEP 52,
 //! "metainfo files").
 
-ghost use Rattle.std.specs.Prelude.{◌≡◌, ◌≢◌, ◌≤◌, ◌^◌, Some, All, ◌<◌, IfErr, IfOk, MatchResult, codes};
+ghost use Rattle.std.specs.Prelude.{◌≡◌, ◌≢◌, ◌≤◌, ◌^◌, Some, All, ◌<◌, IfErr, IfOk, MatchResult, codes, map};
 ghost use Rattle.sha2.specs.Sha256.{sha256};
 ghost use Rattle.benc.specs.Text.{IsCanonical, spelling};
 ghost use Rattle.benc.specs.Value.{Bencode};
-ghost use Rattle.benc.specs.View.{view};
+ghost use Rattle.benc.specs.View.{view, pairs_view};
 ghost use Rattle.benc.specs.declared.fault.FaultKind.{FaultKind};
 ghost use Rattle.filetree.specs.Dictionary.{get};
-ghost use Rattle.filetree.specs.Tests.{NoneHolds, PassesUnlessNoMemory};
+ghost use Rattle.filetree.specs.FileTree.{listed, walks};
+ghost use Rattle.filetree.specs.Tests.{First, NoneHolds, PassesUnlessNoMemory};
+ghost use Rattle.filetree.specs.TreeTests.{tree_rows};
 ghost use Rattle.filetree.specs.declared.files.ListedFile.{ListedFile};
 ghost use Rattle.opening.specs.Describes.{Describes, IsDescribed};
 ghost use Rattle.opening.specs.Layered.{layer_pairs};
-ghost use Rattle.opening.specs.Opening.{AreContents, AreFilledIn, content_rows};
-ghost use Rattle.opening.specs.Refusals.{RefusesTorrent, OpeningTakesMemory, layer_rows, plain_rows, table};
+ghost use Rattle.opening.specs.Opening.{AreContents, AreFilledIn, AreKeys, content_rows};
+ghost use Rattle.opening.specs.Refusals.{RefusesTorrent, OpeningTakesMemory, all_key_rows, layer_rows, piece_length_in, plain_rows, table};
 ghost use Rattle.opening.specs.Trees.{IsIn, pieces_in};
+ghost use Rattle.pieces.specs.Pieces.{IsPieceLength};
 
 use crate::info::{self, Keys, read_keys};
 use crate::laws::{refusal_is_one, torrent_is_not_refused, torrent_is_one};
@@ -124,6 +127,34 @@ fn with_layers<'a>(
     })
 }
 
+// What the keys say, the piece length, and the files of the file tree.
+struct Listed<'v, 'a> {
+    keys: Keys<'v, 'a>,
+    piece_length: PieceLength,
+    files: Vec<ListedFile<'a>>,
+}
+
+// Tests the keys and the file tree.
+fn read_listed<'v, 'a>(alloc: Global, top: &'v Value<'a>) -> Result<Listed<'v, 'a>, Refusal>
+    requires { IsCanonical (view top.now) }
+    ensures passes { MatchResult result (λ x. NoneHolds (all_key_rows (view top.now))
+        × AreKeys (view top.now) x.keys × (x.piece_length ≡ piece_length_in (view top.now))
+        × IsPieceLength x.piece_length × NoneHolds (tree_rows (pairs_view x.keys.tree.now))
+        × (x.files.items ≡ map listed (walks (pairs_view x.keys.tree.now))))
+        (λ r. r ≢ Refusal.NoMemory → First (table (view top.now)) r) }
+    ensures memory { IfErr result
+        (λ r. r ≡ Refusal.NoMemory → NoneHolds (plain_rows (view top.now))) }
+{
+    let keys = read_keys(top)?;
+    let piece_length = info::piece_length(keys.piece_length)?;
+    let files = read_tree(alloc, keys.tree)?;
+    Ok(Listed {
+        keys,
+        piece_length,
+        files,
+    })
+}
+
 // The torrent of a canonical value, given the bytes of its info dictionary as found.
 fn read<'a>(alloc: Global, top: &Value<'a>, info_bytes: &[u8]) -> Result<Torrent<'a>, Refusal>
     requires canonical { IsCanonical (view top.now) }
@@ -134,26 +165,22 @@ fn read<'a>(alloc: Global, top: &Value<'a>, info_bytes: &[u8]) -> Result<Torrent
     ensures memory { IfErr result
         (λ r. r ≡ Refusal.NoMemory → NoneHolds (plain_rows (view top.now))) }
 {
-    let Keys {
-        info,
-        tree,
-        name,
-        layers,
+    let Listed {
+        keys,
         piece_length,
-    } = read_keys(top)?;
-    let piece_length = info::piece_length(piece_length)?;
-    let listed = read_tree(alloc, tree)?;
-    let layers = Layers::of(layers);
+        files: listed,
+    } = read_listed(alloc, top)?;
+    let layers = Layers::of(keys.layers);
     let Contents {
         files,
         trees,
         numbers,
     } = read_contents(alloc, listed, &layers, piece_length)?;
-    let v1 = version1(info, name, &files, piece_length)?;
+    let v1 = version1(keys.info, keys.name, &files, piece_length)?;
     let hash_v2 = info_hash_v2(info_bytes);
     let hash_v1 = Sha1::digest(info_bytes);
     Ok(Torrent::new(
-        name,
+        keys.name,
         piece_length,
         files,
         trees,

@@ -1,6 +1,6 @@
 //! The trees of a torrent: the distinct roots of its files (BEP 52, "pieces root").
 
-ghost use Rattle.std.specs.Prelude.{◌≡◌, ◌≢◌, ◌<◌, ◌^◌, [], map, Some, MatchResult, IfErr, IfOk, OnOk, nat_le};
+ghost use Rattle.std.specs.Prelude.{◌≡◌, ◌≢◌, ◌<◌, ◌^◌, [], map, Some, MatchResult, IfErr, IfOk, OnOk, nat_le, option_and_then};
 ghost use Rattle.filetree.specs.Tests.{PassesUnlessNoMemory, Tests};
 ghost use Rattle.opening.specs.Refusals.{count_rows};
 ghost use Rattle.opening.specs.Rooted.{AreNumbers, AreRoots, AreTrees, IsRootAt, IsRootRefused};
@@ -133,20 +133,33 @@ pub(crate) fn place_files<'a>(
     let mut files = Vec::with_capacity(alloc, listed.len())?;
     let mut first_piece = 0;
     'listed: for file in listed {
-        let ListedFile { path, length, root } = file;
-        let tree = match root {
-            Some(root) => roots.number(&root),
-            None => None,
-        };
-        files.push(File {
-            path,
-            length,
-            tree,
-            first_piece,
-        })?;
+        let length = file.length;
+        files.push(placed(file, roots, first_piece))?;
         first_piece += piece_length.pieces(length);
     }
     Ok(files)
+}
+
+// The file with the number of its tree, and with this first piece.
+fn placed<'a>(file: ListedFile<'a>, roots: &Roots, first_piece: u64) -> File<'a>
+    ensures { file_entry result ≡ (record {
+      path = file.entry.path;
+      length = file.entry.length;
+      tree = option_and_then (place_in roots.now) file.entry.root;
+      first_piece = first_piece;
+    }) }
+{
+    let ListedFile { path, length, root } = file;
+    let tree = match root {
+        Some(root) => roots.number(&root),
+        None => None,
+    };
+    File {
+        path,
+        length,
+        tree,
+        first_piece,
+    }
 }
 
 // The distinct roots of the files, each of one length.
