@@ -82,5 +82,11 @@ pub answers : (d e : Outline) (f : OutlineFile) (layer : List (List ℕ)) (r : R
 answers d e f layer (Ok x) none with_it memory same = record { added = (none, with_it); memory = tt; unchanged = tt }
 answers d e f layer (Err x) none with_it memory same = record { added = λ other. absurd (other memory); memory = λ _. none; unchanged = same }
 
+-- the answer of the first test that holds
+pub refuses : (d : Outline) (f : OutlineFile) (layer : List (List ℕ)) (r x : Refusal) (result : Result (Unit {0}) Refusal) → result ≡ Err x → x ≡ r
+    → (r ≡ refusals.NoMemory → ⊥) → First (add_rows d f) r → Adds d f layer d result
+refuses d f layer r x result is same other first =
+    rw (is, same) (record { added = λ _. first; memory = λ memory. absurd (other memory); unchanged = refl })
+
 pub clashes : (d : Outline) (f : OutlineFile) (layer : List (List ℕ)) → Passed d f → Ties f.path (paths_in d) → Adds d f layer d (Err refusals.PathClash)
 clashes d f layer passed tie = record { added = λ _. clash_first d f passed tie; memory = λ is. absurd cc; unchanged = refl }

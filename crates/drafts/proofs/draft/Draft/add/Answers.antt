@@ -1,15 +1,49 @@
-use Rattle.std.proofs.Common.{◌≡◌, ◌∙◌, List, map, length, Err, refl, sym, ap, subst, arith, rules}
+use Rattle.std.proofs.Common.{◌≡◌, ◌∙◌, List, map, length, Err, inl, inr, refl, sym, ap, subst, arith, rules}
 use Rattle.std.proofs.lemmas.Result.{err_from_is_err_and}
 use Rattle.std.specs.List.{All}
 use Rattle.std.specs.Prelude.{OnOk}
 use Rattle.filetree.specs.Tests.{NoneHolds}
+use Rattle.filetree.specs.declared.refusal.Refusal.TheVariants as refusals
 use Rattle.drafts.specs.Adding.{Adds, IsGiven, IsWith, add_rows, given_file}
 use Rattle.drafts.specs.DraftSeen.{outline_file}
 use Rattle.drafts.specs.Orders.{IsPlaceOf, Ties}
 use Rattle.drafts.specs.Outline.{OutlineFile}
 use Rattle.drafts.specs.declared.draft.DraftFile.{DraftFile}
-use Rattle.drafts.proofs.Passing.{Passed, answers, clashes, fits_given, none_holds, paths_in}
+use Rattle.drafts.proofs.Passing.{Passed, answers, clashes, fits_given, none_holds, paths_in, refuses}
 use Rattle.drafts.proofs.draft.Draft.add.Goals as goal
+
+pub returns-in_err-test_path : goal.returns-in_err-test_path
+returns-in_err-test_path c =
+    let f = given_file c.args.self.now (map (λ s. s.now) c.args.path.now) c.args.length c.args.root c.args.v1.now in
+    let p = err_from_is_err_and c.from_residual.result c.from_residual.ensures.1 in
+    refuses c.args.self.now f c.args.layer.now refusals.Path p.0 c.from_residual.result p.1 (p.2 ∙ c.in_err-test_path.ensures.0) (λ e. cc)
+    (inl (c.in_err-test_path.ensures.1, refl))
+
+pub returns-then-length-gt-MAX_LENGTH : goal.returns-then-length-gt-MAX_LENGTH
+returns-then-length-gt-MAX_LENGTH c =
+    let f = given_file c.args.self.now (map (λ s. s.now) c.args.path.now) c.args.length c.args.root c.args.v1.now in
+    refuses c.args.self.now f c.args.layer.now refusals.Length refusals.Length (Err refusals.Length) refl refl (λ e. cc)
+    (inr (λ no. no c.in_ok-test_path.ensures, inl (omega (arith, c.if-length-gt-MAX_LENGTH.true), refl)))
+
+pub returns-in_err-test_root : goal.returns-in_err-test_root
+returns-in_err-test_root c =
+    let f = given_file c.args.self.now (map (λ s. s.now) c.args.path.now) c.args.length c.args.root c.args.v1.now in
+    let p = err_from_is_err_and c.from_residual-in_err-test_root.result c.from_residual-in_err-test_root.ensures.1 in
+    refuses c.args.self.now f c.args.layer.now refusals.RootReused p.0 c.from_residual-in_err-test_root.result p.1 (p.2 ∙ c.in_err-test_root.ensures.0) (λ e. cc)
+    (inr (λ no. no c.in_ok-test_path.ensures, inr (λ more. omega (arith, more, c.if-length-gt-MAX_LENGTH.false), inl (c.in_err-test_root.ensures.1, refl))))
+
+pub returns-in_err-test_pieces : goal.returns-in_err-test_pieces
+returns-in_err-test_pieces c =
+    let f = given_file c.args.self.now (map (λ s. s.now) c.args.path.now) c.args.length c.args.root c.args.v1.now in
+    let p = err_from_is_err_and c.from_residual-in_err-test_pieces.result c.from_residual-in_err-test_pieces.ensures.1 in
+    refuses c.args.self.now f c.args.layer.now refusals.TooManyPieces p.0 c.from_residual-in_err-test_pieces.result p.1 (p.2 ∙ c.in_err-test_pieces.ensures.0) (λ e. cc)
+    (inr (
+      λ no. no c.in_ok-test_path.ensures,
+      inr (
+        λ more. omega (arith, more, c.if-length-gt-MAX_LENGTH.false),
+        inr (c.in_ok-test_root.ensures, inl (c.in_err-test_pieces.ensures.1, refl)),
+      ),
+    ))
 
 pub returns-in_default : goal.returns-in_default
 returns-in_default c =
