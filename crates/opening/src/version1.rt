@@ -2,11 +2,11 @@
 //! "Upgrade Path"): its list of files and pads, how these lie in the stream that their contents
 //! join to, and the digests of the stream's cuts.
 
-ghost use Rattle.std.specs.Prelude.{◌≡◌, ◌+◌, ◌^◌, ◌≤◌, List, map, option_map};
+ghost use Rattle.std.specs.Prelude.{◌≡◌, ◌+◌, ◌^◌, ◌≤◌, ◌&&◌, List, map, option_map};
 ghost use Rattle.benc.specs.View.{view, items_view};
 ghost use Rattle.filetree.specs.Dictionary.{get};
-ghost use Rattle.filetree.specs.FileTree.{length_of};
-ghost use Rattle.opening.specs.Matching.{FitsStream, after_entry, aligned_length, are_same, are_texts, ends_of, many_lengths, one_length, stream_at, is_entry_of, is_misplaced, is_path_value, is_sized, is_text, nowhere};
+ghost use Rattle.filetree.specs.FileTree.{length_at, length_of};
+ghost use Rattle.opening.specs.Matching.{FitsStream, after_entry, aligned_length, are_same, are_texts, ends_of, many_lengths, one_length, stream_at, is_entry_of, is_length, is_misplaced, is_path_value, is_sized, is_text, nowhere};
 ghost use Rattle.filetree.specs.declared.files.ListedFile.{ListedFile};
 ghost use Rattle.opening.specs.Refusals.{hybrid_rows};
 ghost use Rattle.opening.specs.Seen.{file_entry, version1};
@@ -205,14 +205,20 @@ fn is_named(path: &[&str], name: &str) -> bool
     }
 }
 
+// Whether the info dictionary has the length of the file, and the file's path is this name alone.
+fn is_only(info: &Value<'_>, name: &str, file: &File<'_>) -> bool
+    ensures { result ≡ is_length file.now.length (length_at (view info.now))
+        && is_named name.now (file_entry file.now).path }
+{
+    length(info) == Some(file.length) && is_named(&file.path.parts(), name)
+}
+
 // The length of the stream of the one file of `length`, if the file tree has just that.
 fn one_file(info: &Value<'_>, name: &str, files: &[File<'_>]) -> Option<u64>
     ensures { result ≡ one_length (view info.now) name.now (map file_entry files.now) }
 {
     match files {
-        [file] if length(info) == Some(file.length) && is_named(&file.path.parts(), name) => {
-            Some(file.length)
-        }
+        [file] if is_only(info, name, file) => Some(file.length),
         _ => None,
     }
 }
