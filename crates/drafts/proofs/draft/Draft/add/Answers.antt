@@ -29,14 +29,16 @@ pub returns-in_err-test_root : goal.returns-in_err-test_root
 returns-in_err-test_root c =
     let f = given_file c.args.self.now (map (λ s. s.now) c.args.path.now) c.args.length c.args.root c.args.v1.now in
     let p = err_from_is_err_and c.from_residual-in_err-test_root.result c.from_residual-in_err-test_root.ensures.1 in
-    refuses c.args.self.now f c.args.layer.now refusals.RootReused p.0 c.from_residual-in_err-test_root.result p.1 (p.2 ∙ c.in_err-test_root.ensures.0) (λ e. cc)
+    refuses c.args.self.now f c.args.layer.now refusals.RootReused p.0 c.from_residual-in_err-test_root.result p.1
+    (p.2 ∙ c.in_err-test_root.ensures.0) (λ e. cc)
     (inr (λ no. no c.in_ok-test_path.ensures, inr (λ more. omega (arith, more, c.if-length-gt-MAX_LENGTH.false), inl (c.in_err-test_root.ensures.1, refl))))
 
 pub returns-in_err-test_pieces : goal.returns-in_err-test_pieces
 returns-in_err-test_pieces c =
     let f = given_file c.args.self.now (map (λ s. s.now) c.args.path.now) c.args.length c.args.root c.args.v1.now in
     let p = err_from_is_err_and c.from_residual-in_err-test_pieces.result c.from_residual-in_err-test_pieces.ensures.1 in
-    refuses c.args.self.now f c.args.layer.now refusals.TooManyPieces p.0 c.from_residual-in_err-test_pieces.result p.1 (p.2 ∙ c.in_err-test_pieces.ensures.0) (λ e. cc)
+    refuses c.args.self.now f c.args.layer.now refusals.TooManyPieces p.0 c.from_residual-in_err-test_pieces.result p.1
+    (p.2 ∙ c.in_err-test_pieces.ensures.0) (λ e. cc)
     (inr (
       λ no. no c.in_ok-test_path.ensures,
       inr (
