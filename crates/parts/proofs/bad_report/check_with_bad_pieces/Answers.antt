@@ -1,4 +1,4 @@
-use Rattle.std.proofs.Common.{◌∙◌, Err, ap, inr, refl, subst, sym}
+use Rattle.std.proofs.Common.{◌∙◌, Err, ap, inl, inr, refl, subst, sym}
 use Rattle.std.proofs.lemmas.Result.{err_from_is_err_and}
 use Rattle.folders.specs.Printed.{end_text}
 use Rattle.parts.specs.BadReport.{ChecksAndPrints, StopsAtEnd, shelf_and_sink}
@@ -42,3 +42,17 @@ returns-in_err-flush_after-clause-checks g c =
       broke = c.in_err-flush_after.ensures mid (end_text c.args.lines report.result.files.items report.result.v1) c.write_end-written.ensures;
     } in
     subst (ChecksAndPrints g.S.Shelf g.S.File.Source.seen t c.args.lines old new) (sym (p.1 ∙ ap Err p.2)) (inr at)
+
+pub returns-in_err-check-clause-checks : goal.returns-in_err-check-clause-checks
+returns-in_err-check-clause-checks g c =
+    let old = shelf_and_sink c.args.shelf.now (g.W.Sink.seen c.args.out.now) in
+    let p = err_from_is_err_and c.from_residual.result c.from_residual.ensures.1 in
+    subst (ChecksAndPrints g.S.Shelf g.S.File.Source.seen c.args.torrent.now c.args.lines old old) (sym (p.1 ∙ ap Err p.2)) (refl, refl)
+
+pub returns-in_err-check_files-clause-checks : goal.returns-in_err-check_files-clause-checks
+returns-in_err-check_files-clause-checks g c =
+    let old = shelf_and_sink c.args.shelf.now (g.W.Sink.seen c.args.out.now) in
+    let new = shelf_and_sink c.check_files.new.shelf (g.W.Sink.seen c.check_files.new.out) in
+    let p = err_from_is_err_and c.from_residual-in_err-check_files.result c.from_residual-in_err-check_files.ensures.1 in
+    subst (ChecksAndPrints g.S.Shelf g.S.File.Source.seen c.args.torrent.now c.args.lines old new) (sym (p.1 ∙ ap Err p.2))
+    (inl c.in_err-check_files.ensures.checks)

@@ -1,4 +1,4 @@
-use Rattle.std.proofs.Common.{◌≡◌, ◌∙◌, ◌*◌, map, Option, Some, Result, Ok, ap, subst, arith}
+use Rattle.std.proofs.Common.{◌≡◌, ◌∙◌, ◌*◌, map, Option, Some, None, Result, Ok, Err, ap, subst, arith}
 use Rattle.benc.specs.declared.device.DeviceFault.{DeviceFault}
 use Rattle.opening.specs.Seen.{file_entry}
 use Rattle.folders.proofs.Places.{pieces_are_positive}
@@ -81,3 +81,43 @@ pub returns-in-Err-clause-found : goal.returns-in-Err-clause-found
 returns-in-Err-clause-found g c =
     finds_unreadable c.args.torrent.now c.args._places (file_entry c.args.file.now) ((g.S.Shelf.contents c.args.shelf.now).under c.args.file.now.path)
     c.not_whole-in-Err.result c.not_whole-in-Err.ensures.file c.not_whole-in-Err.ensures.v1
+
+pub returns-in-Ok-None-clause-visits : goal.returns-in-Ok-None-clause-visits
+returns-in-Ok-None-clause-visits g c =
+    let t = c.args.torrent.now in
+    let r = c.args._places in
+    let s = c.args.span in
+    let f = file_entry c.args.file.now in
+    let path = ap (map (λ s. s.now)) c.deref.ensures.0 ∙ c.parts.ensures in
+    let at : c.piece_length.result * s.from ≡ t.piece_length * first_in r f =
+    ap (λ p. p * s.from) c.piece_length.ensures ∙ ap (λ k. t.piece_length * k) c.requires.span.from_is in
+    let opens = subst (λ p. g.S.SeekShelf.opens_at c.args.shelf.now p (t.piece_length * first_in r f) c.open_at.result c.open_at.new.self) path
+    (subst (λ o. g.S.SeekShelf.opens_at c.args.shelf.now (map
+    (λ s. s.now) c.deref.result.now) o c.open_at.result c.open_at.new.self) at c.open_at.ensures.opens) in
+    record {
+      answer = Ok None;
+      opened = subst (λ (a : Result (Option g.row.S-File.Denot) DeviceFault).
+          g.S.SeekShelf.opens_at c.args.shelf.now f.path (t.piece_length * first_in r f) a c.open_at.new.self)
+          (c.in-Ok-None.is ∙ ap Ok c.in-Ok-None.field-0-is) opens;
+      follows = c.not_whole.ensures.file;
+    }
+
+pub returns-in-Err-clause-visits : goal.returns-in-Err-clause-visits
+returns-in-Err-clause-visits g c =
+    let t = c.args.torrent.now in
+    let r = c.args._places in
+    let s = c.args.span in
+    let f = file_entry c.args.file.now in
+    let path = ap (map (λ s. s.now)) c.deref.ensures.0 ∙ c.parts.ensures in
+    let at : c.piece_length.result * s.from ≡ t.piece_length * first_in r f =
+    ap (λ p. p * s.from) c.piece_length.ensures ∙ ap (λ k. t.piece_length * k) c.requires.span.from_is in
+    let opens = subst (λ p. g.S.SeekShelf.opens_at c.args.shelf.now p (t.piece_length * first_in r f) c.open_at.result c.open_at.new.self) path
+    (subst (λ o. g.S.SeekShelf.opens_at c.args.shelf.now (map
+    (λ s. s.now) c.deref.result.now) o c.open_at.result c.open_at.new.self) at c.open_at.ensures.opens) in
+    record {
+      answer = Err c.in-Err.field-0;
+      opened = subst (λ (a : Result (Option g.row.S-File.Denot) DeviceFault).
+          g.S.SeekShelf.opens_at c.args.shelf.now f.path (t.piece_length * first_in r f) a c.open_at.new.self)
+          c.in-Err.is opens;
+      follows = c.not_whole-in-Err.ensures.file;
+    }
