@@ -32,9 +32,10 @@ impl<'a> FolderCheck<'a> {
             → HasChecked torrent.now under check) }
     {
         torrent.sound();
+        let stream = Stream::of(torrent.v1(), torrent.piece_length());
         Ok(FolderCheck {
             files: Vec::with_capacity(alloc, torrent.files().len())?,
-            stream: Stream::of(torrent.v1(), torrent.piece_length()),
+            stream,
         })
     }
 

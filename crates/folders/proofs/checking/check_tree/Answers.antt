@@ -68,3 +68,9 @@ pub take_all-requires-clause-small : goal.take_all-requires-clause-small
 take_all-requires-clause-small g c =
     let file = c.requires.file in
     omega (arith, (c.sound.ensures.files file.0 (file_entry c.args.file.now) file.1).bound)
+
+pub returns-then-ne-clause-blamed : goal.returns-then-ne-clause-blamed
+returns-then-ne-clause-blamed g c = tt
+
+pub returns-then-ne-clause-counts : goal.returns-then-ne-clause-counts
+returns-then-ne-clause-counts g c = c.in_ok-take_all.ensures.counts

@@ -28,3 +28,6 @@ returns-clause-so_far g c =
     checked_next c.args.torrent.now (g.S.Shelf.contents c.args.shelf.now).under c.args.self.now
     (record { files = c.push_reserved.new.self; stream = c.check_file-verdict.new.stream }) c.check_file-verdict.result (file_entry c.args.file.now)
     c.requires.next c.check_file-verdict.ensures.found c.push_reserved.ensures.items c.push_reserved.ensures.capacity c.requires.so_far
+
+pub returns-clause-one_more : goal.returns-clause-one_more
+returns-clause-one_more g c = c.push_reserved.ensures.items
