@@ -1,8 +1,8 @@
 //! A check that prints the bad pieces of each file behind its line.
 ghost use Rattle.std.specs.Prelude.{◌≡◌, []};
-ghost use Rattle.benc.specs.Device.{Wrote};
+ghost use Rattle.benc.specs.Device.{Wrote, WroteAndFlushed};
 ghost use Rattle.folders.specs.FolderCheck.{HasChecked, verdicts_of};
-ghost use Rattle.folders.specs.Printed.{wanted_text};
+ghost use Rattle.folders.specs.Printed.{end_text, wanted_text};
 ghost use Rattle.folders.specs.Verdicts.{IsFileOf};
 ghost use Rattle.opening.specs.Seen.{file_entry};
 ghost use Rattle.parts.specs.BadPieces.{CountsBad};
@@ -45,9 +45,17 @@ pub fn check_with_bad_pieces<S: Shelf, W: Sink>(
     let mut check = FolderCheck::new(alloc, torrent)?;
     check_files(&mut check, torrent, shelf, lines, out)?;
     let report = check.finish(torrent);
-    let written = write_end(&report, lines, out);
-    flush_after(out, written)?;
+    write_last(&report, lines, out)?;
     Ok(report)
+}
+
+// Writes what follows the lines of the files, and flushes.
+fn write_last<W: Sink>(report: &Report, lines: Lines, out: &mut W) -> Result<(), WriteFault>
+    ensures { WroteAndFlushed (W.seen out.old) (W.seen out.new) result
+        (end_text lines report.now.files.items report.now.v1) }
+{
+    let written = write_end(report, lines, out);
+    flush_after(out, written)
 }
 
 // Checks all files, and writes what is wanted of each before the next one is opened.

@@ -1,5 +1,5 @@
 //! The check of some of a torrent's places.
-ghost use Rattle.std.specs.Prelude.{◌≡◌, ◌<◌, length, IfOk, OnErr};
+ghost use Rattle.std.specs.Prelude.{◌≡◌, ◌*◌, ◌^◌, ◌<◌, length, IfOk, OnErr};
 ghost use Rattle.chains.specs.Chain.{Chain};
 ghost use Rattle.opening.specs.Seen.{file_entry};
 ghost use Rattle.folders.specs.Shelf.{more};
@@ -88,6 +88,14 @@ fn check_file<S: SeekShelf>(
     }
 }
 
+// The byte of a file at which these pieces begin.
+fn first_byte(torrent: &Torrent<'_>, span: Span) -> u64
+    requires { torrent.now.piece_length * span.from < 2 ^ 64 }
+    ensures { result ≡ torrent.now.piece_length * span.from }
+{
+    torrent.piece_length() * span.from
+}
+
 // Opens a file at the first of these pieces, checks them, and hands it back.
 fn check_span<S: SeekShelf>(
     shelf: &mut S,
@@ -109,7 +117,7 @@ fn check_span<S: SeekShelf>(
     ensures stays { S.Shelf.contents shelf.new ≡ S.Shelf.contents shelf.old }
 {
     torrent.sound();
-    let offset = torrent.piece_length() * span.from;
+    let offset = first_byte(torrent, span);
     match shelf.open_at(&file.path.parts(), offset) {
         Ok(Some(mut source)) => {
             let found = check_pieces(&mut source, torrent, file, span, buffer);

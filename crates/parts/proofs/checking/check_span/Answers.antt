@@ -11,15 +11,14 @@ use Rattle.parts.proofs.PartReads.{read_in}
 use Rattle.parts.proofs.SoFar.{begins, begins_within}
 use Rattle.parts.proofs.checking.check_span.Goals as goal
 
-pub overflow_mul-offset : goal.overflow_mul-offset
-overflow_mul-offset g c =
+pub first_byte-offset-requires : goal.first_byte-offset-requires
+first_byte-offset-requires g c =
     let t = c.args.torrent.now in
     let s = c.args.span in
     let file = c.requires.file in
     let f = file_entry c.args.file.now in
     let low = begins_within _ _ (begins t f s (pieces_are_positive t c.sound.ensures) (span_shape t c.args._places f s c.requires.span)) in
-    let same : c.piece_length.result * s.from ≡ t.piece_length * s.from = ap (λ p. p * s.from) c.piece_length.ensures in
-    omega (arith, low, same, (c.sound.ensures.files file.0 f file.1).bound)
+    omega (arith, low, (c.sound.ensures.files file.0 f file.1).bound)
 
 pub of_found-requires : goal.of_found-requires
 of_found-requires g c =
@@ -40,11 +39,11 @@ returns-in-Ok-Some-clause-found g c =
     let stated = (g.S.Shelf.contents c.args.shelf.now).under c.args.file.now.path in
     let under = (g.S.Shelf.contents c.args.shelf.now).under in
     let path = ap (map (λ s. s.now)) c.deref.ensures.0 ∙ c.parts.ensures in
-    let here : IsFound (from_offset (c.piece_length.result * s.from) (under (map (λ s. s.now) c.deref.result.now))) (Some source.left) =
+    let here : IsFound (from_offset c.first_byte-offset.result (under (map (λ s. s.now) c.deref.result.now))) (Some source.left) =
     rw c.in-Ok-Some.field-0-is at c.in-Ok-Some.ensures.found in
     let there : IsFound (from_offset (t.piece_length * s.from) stated) (Some source.left) =
-    subst (λ p. IsFound (from_offset (p * s.from) stated) (Some source.left)) c.piece_length.ensures
-    (subst (λ p. IsFound (from_offset (c.piece_length.result * s.from) (under p)) (Some source.left)) path here) in
+    subst (λ o. IsFound (from_offset o stated) (Some source.left)) c.first_byte-offset.ensures
+    (subst (λ p. IsFound (from_offset c.first_byte-offset.result (under p)) (Some source.left)) path here) in
     finds_read t r f s stated source.left c.check_pieces-found.result c.of_found.result c.requires.span there c.check_pieces-found.ensures.found
     c.of_found.ensures
 
@@ -57,8 +56,8 @@ returns-in-Ok-Some-clause-visits g c =
     let source = c.in-Ok-Some.source in
     let read = c.check_pieces-found.new.source in
     let path = ap (map (λ s. s.now)) c.deref.ensures.0 ∙ c.parts.ensures in
-    let at : c.piece_length.result * s.from ≡ t.piece_length * first_in r f =
-    ap (λ p. p * s.from) c.piece_length.ensures ∙ ap (λ k. t.piece_length * k) c.requires.span.from_is in
+    let at : c.first_byte-offset.result ≡ t.piece_length * first_in r f =
+    c.first_byte-offset.ensures ∙ ap (λ k. t.piece_length * k) c.requires.span.from_is in
     let opens = subst (λ p. g.S.SeekShelf.opens_at c.args.shelf.now p (t.piece_length * first_in r f) c.open_at.result c.open_at.new.self) path
     (subst (λ o. g.S.SeekShelf.opens_at c.args.shelf.now (map
     (λ s. s.now) c.deref.result.now) o c.open_at.result c.open_at.new.self) at c.open_at.ensures.opens) in
@@ -89,8 +88,8 @@ returns-in-Ok-None-clause-visits g c =
     let s = c.args.span in
     let f = file_entry c.args.file.now in
     let path = ap (map (λ s. s.now)) c.deref.ensures.0 ∙ c.parts.ensures in
-    let at : c.piece_length.result * s.from ≡ t.piece_length * first_in r f =
-    ap (λ p. p * s.from) c.piece_length.ensures ∙ ap (λ k. t.piece_length * k) c.requires.span.from_is in
+    let at : c.first_byte-offset.result ≡ t.piece_length * first_in r f =
+    c.first_byte-offset.ensures ∙ ap (λ k. t.piece_length * k) c.requires.span.from_is in
     let opens = subst (λ p. g.S.SeekShelf.opens_at c.args.shelf.now p (t.piece_length * first_in r f) c.open_at.result c.open_at.new.self) path
     (subst (λ o. g.S.SeekShelf.opens_at c.args.shelf.now (map
     (λ s. s.now) c.deref.result.now) o c.open_at.result c.open_at.new.self) at c.open_at.ensures.opens) in
@@ -109,8 +108,8 @@ returns-in-Err-clause-visits g c =
     let s = c.args.span in
     let f = file_entry c.args.file.now in
     let path = ap (map (λ s. s.now)) c.deref.ensures.0 ∙ c.parts.ensures in
-    let at : c.piece_length.result * s.from ≡ t.piece_length * first_in r f =
-    ap (λ p. p * s.from) c.piece_length.ensures ∙ ap (λ k. t.piece_length * k) c.requires.span.from_is in
+    let at : c.first_byte-offset.result ≡ t.piece_length * first_in r f =
+    c.first_byte-offset.ensures ∙ ap (λ k. t.piece_length * k) c.requires.span.from_is in
     let opens = subst (λ p. g.S.SeekShelf.opens_at c.args.shelf.now p (t.piece_length * first_in r f) c.open_at.result c.open_at.new.self) path
     (subst (λ o. g.S.SeekShelf.opens_at c.args.shelf.now (map
     (λ s. s.now) c.deref.result.now) o c.open_at.result c.open_at.new.self) at c.open_at.ensures.opens) in

@@ -1,5 +1,5 @@
-use Rattle.std.proofs.Common.{rules}
+use Rattle.std.proofs.Common.{refl}
 use Rattle.parts.proofs.row.hashes.Goals as goal
 
 pub returns : goal.returns
-returns c = search rules
+returns c = refl
