@@ -9,3 +9,6 @@ returns-then-numbers-eq0-clause-reason c =
     let texts = map (λ x. x.now) c.args.texts.now in
     let all : length numbers.parts.items ≡ length texts = c.in_ok-numbers.ensures.count ∙ sym (length-map c.args.texts.now (λ x. x.now)) in
     none_there c.args.torrent.now texts numbers.parts.items numbers.count c.in_ok-numbers.ensures.named all c.if-numbers-eq0.true
+
+pub returns-then-numbers-eq0-clause-joined : goal.returns-then-numbers-eq0-clause-joined
+returns-then-numbers-eq0-clause-joined c = tt
