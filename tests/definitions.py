@@ -26,7 +26,7 @@ def imported(text, own):
     """The definitions of this repository's specs/ that a source imports: of each word its crate, file and name."""
     found = {}
     for crate, path, words in GHOST_USE.findall(text):
-        for word in words.split(",") if crate in own else []:
+        for word in words.split(",") if crate in own and not path.startswith("declared.") else []:
             name, _, local = word.strip().partition(" as ")
             place = home(crate, path, name)
             if os.path.exists(file_of(*place[:2])):

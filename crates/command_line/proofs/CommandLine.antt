@@ -12,9 +12,9 @@ use Rattle.clap.specs.declared.parser.matches.ArgMatches.TheViews.{out-SubComman
 use Rattle.std.specs.Str.{bytes_eq}
 use Rattle.std.proofs.lemmas.Slice.Eq.{bytes_eq-Decides}
 use Rattle.clap.specs.Walk.{Row, Text, first_of, one_of}
-use Rattle.command_line.specs.declared.command.Action.{Action}
-use Rattle.command_line.specs.declared.command.Action.TheVariants as action
-use Rattle.command_line.specs.declared.command.Part.{Part}
+use Rattle.actions.specs.declared.command.Action.{Action}
+use Rattle.actions.specs.declared.command.Action.TheVariants as action
+use Rattle.actions.specs.declared.command.Part.{Part}
 use Rattle.command_line.specs.CommandLine.{AreTexts, AreTextsIn, Asks, FindsArguments, command_of, IsActionOf, IsAskedOf, IsNumberIfThere, IsNumberOf, IsPartText, IsPlain}
 
 -- what is known of the name and of the rows of what was found

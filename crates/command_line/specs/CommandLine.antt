@@ -18,9 +18,9 @@ use Rattle.clap.specs.declared.error.kind.ErrorKind.TheVariants.{ArgumentConflic
 use Rattle.clap.specs.declared.builder.action.ArgAction.TheVariants.{Append, Set, SetTrue}
 use Rattle.clap.specs.declared.builder.value_parser.ValueParser.TheVariants as vp
 use Rattle.std.specs.Str.Parse.{IsNumeral, digits_value, without_leading_plus}
-use Rattle.command_line.specs.declared.command.Action.{Action}
-use Rattle.command_line.specs.declared.command.Action.TheVariants as action
-use Rattle.command_line.specs.declared.command.Part.{Part}
+use Rattle.actions.specs.declared.command.Action.{Action}
+use Rattle.actions.specs.declared.command.Action.TheVariants as action
+use Rattle.actions.specs.declared.command.Part.{Part}
 
 -- ---- the command line
 

@@ -3,12 +3,12 @@ ghost use Rattle.std.specs.Prelude.{◌≡◌, IfErr, IfOk, map, true};
 ghost use Rattle.clap.specs.Takes.{takes};
 ghost use Rattle.clap.specs.Values.{kind_of};
 ghost use Rattle.clap.specs.declared.error.kind.ErrorKind.TheVariants.{OutOfMemory};
-ghost use Rattle.command_line.specs.declared.command.Action.{Action};
+ghost use Rattle.actions.specs.declared.command.Action.{Action};
 ghost use Rattle.command_line.specs.CommandLine.{IsAskedBy, IsFoundIn, IsRefusalOf, program};
 
-use crate::command::Action;
 use crate::definition::command;
 use crate::finding::{asked_in, texts_in, unasked};
+use actions::Action;
 use clap::Error;
 use std::alloc::Global;
 

@@ -5,7 +5,7 @@ ghost use Rattle.clap.specs.Walk.{one_of, rows_of};
 ghost use Rattle.clap.specs.Matches.{found_of};
 ghost use Rattle.command_line.specs.CommandLine.{AreTexts, AreTextsIn, IsActionOf, IsAskedOf, IsFlag, IsNotGiven, IsNumberIfThere, IsPartIfThere, IsPlain, IsTextIfThere, IsUnaskedKind};
 
-use crate::command::{Action, Check, CheckPart, Convert, Create, Join, Part, Replay};
+use actions::{Action, Check, CheckPart, Convert, Create, Join, Part, Replay};
 use clap::ArgMatches;
 use clap::error::ErrorKind;
 use std::alloc::{AllocError, Global};

@@ -2,7 +2,6 @@
 #![tactic(auto)]
 
 mod arguments;
-pub mod command;
 mod definition;
 mod explaining;
 mod finding;

@@ -19,7 +19,7 @@ use Rattle.folders.specs.declared.report.FileVerdict.{FileVerdict}
 use Rattle.folders.specs.declared.report.V1Verdict.{V1Verdict}
 use Rattle.printing.specs.declared.fault.Fault.{Fault}
 use Rattle.printing.specs.declared.fault.Fault.TheVariants as faults
-use Rattle.command_line.specs.declared.command.Create.{Create}
+use Rattle.actions.specs.declared.command.Create.{Create}
 use Rattle.opening.specs.Description.{Description}
 use Rattle.drafts.specs.Finishing.{finish_rows}
 use Rattle.drafts.specs.Outline.{Outline, empty_outline}

@@ -18,9 +18,9 @@ ghost use Rattle.parts.specs.PartVisits.{VisitsPart};
 ghost use Rattle.parts.specs.Shares.{share};
 ghost use Rattle.commands.specs.Outcomes.{BlamesOne, Checks, ChecksPart, ConvertsRecord, EndsRoot, IsReplayed, IsListingFault, IsSeedingFault, IsUnprinted, JoinsParts, MakesDraft, NamesOutput, NamesSink, WritesTorrent, answer_status, form_2_text, wanted_draft};
 
+use actions::{Create, Part};
 use benc::memory::MemSink;
 use benc::{Sink, Source};
-use command_line::command::{Create, Part};
 use conversions::ConvertFault;
 use drafts::Draft;
 use filetree::Refusal;
