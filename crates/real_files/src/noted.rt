@@ -1,4 +1,6 @@
 //! Readers and writers of std that say why they failed.
+ghost use Rattle.std.specs.Prelude.{◌≡◌};
+
 use crate::system::{Cause, System};
 use std::io::{self, Printer, Read, Write};
 
@@ -14,7 +16,9 @@ pub struct Noted<'s, T> {
 
 impl<'s, T> Noted<'s, T> {
     /// This reader or writer.
-    pub fn new(device: T, system: &'s System) -> Noted<'s, T> {
+    pub fn new(device: T, system: &'s System) -> Noted<'s, T>
+        ensures { result.device ≡ device }
+    {
         Noted { device, system }
     }
 }

@@ -1,16 +1,16 @@
 //! Files that are written, none of which is an input.
+ghost use Rattle.std.specs.Prelude.{◌≡◌, IfErr};
+
 use crate::identity::Identity;
 use crate::system::{Cause, System};
 use printing::Fault;
 use std::fs::File;
 
 /// Opens the file with this path and empties it, unless it is the same file as one of the inputs,
-/// by whatever paths: then it stays as it is, and the fault is that it cannot be written.
-pub fn create_output<'a>(
-    system: &System,
-    path: &'a str,
-    inputs: &[&str],
-) -> Result<File, Fault<'a>> {
+/// by whatever paths: then it stays as it is. The fault is that this path cannot be written.
+pub fn create_output<'a>(system: &System, path: &'a str, inputs: &[&str]) -> Result<File, Fault<'a>>
+    ensures { IfErr result (λ f. f ≡ Fault.Write path.entry) }
+{
     let output = Identity::at(system.rt(), path);
     if output.is_some()
         && inputs

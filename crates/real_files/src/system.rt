@@ -1,4 +1,6 @@
 //! The system that a command runs on, and why its last call that failed did so.
+ghost use Rattle.std.specs.Prelude.{◌≡◌, IfErr};
+
 use crate::noted::{Noted, Output};
 use printing::Fault;
 use std::alloc::Global;
@@ -52,8 +54,10 @@ impl System {
         self.cause.set(Some(cause));
     }
 
-    /// Opens the file with this path to read it.
-    pub fn open<'a>(&self, path: &'a str) -> Result<File, Fault<'a>> {
+    /// Opens the file with this path to read it. The fault is that this path cannot be read.
+    pub fn open<'a>(&self, path: &'a str) -> Result<File, Fault<'a>>
+        ensures { IfErr result (λ f. f ≡ Fault.Read path.entry) }
+    {
         match File::open(&self.rt, path) {
             Ok(file) => Ok(file),
             Err(error) => {
