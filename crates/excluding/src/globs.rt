@@ -18,6 +18,9 @@
 //! from the top. A `/` at its start only says that, and one at its end that what matches is a
 //! folder.
 
+ghost use Rattle.std.specs.Prelude.{◌≡◌, ◌<◌, ◌⊎◌, ℕ, IfErr, length};
+ghost use Rattle.excluding.specs.declared.globs.GlobFault.TheVariants as fault;
+
 use crate::set::put_set;
 use regex::{Error, Regex};
 use std::alloc::{AllocError, Global};
@@ -51,12 +54,16 @@ impl From<AllocError> for OneFault {
 }
 
 impl From<AllocError> for GlobFault {
+    ghost from_gives = { λ _ f. f ≡ fault.NoMemory };
+
     fn from(_error: AllocError) -> GlobFault {
         GlobFault::NoMemory
     }
 }
 
 impl From<Error> for GlobFault {
+    ghost from_gives = { λ _ f. (f ≡ fault.NoMemory) ⊎ (f ≡ fault.TooLarge) };
+
     fn from(error: Error) -> GlobFault {
         match error {
             Error::OutOfMemory => GlobFault::NoMemory,
@@ -71,7 +78,10 @@ impl From<Error> for GlobFault {
 /// # Errors
 ///
 /// `Malformed`, with the number of the first glob that is none; `TooLarge`; `NoMemory`.
-pub fn regex_of(alloc: Global, globs: &[&str]) -> Result<Regex, GlobFault> {
+pub fn regex_of(alloc: Global, globs: &[&str]) -> Result<Regex, GlobFault>
+    ensures { IfErr result (λ f. (number : ℕ) → f ≡ GlobFault.Malformed number
+        → number < length globs.now) }
+{
     let mut text = String::from_str(alloc, r"(?s)\A(?:")?;
     for number in 0..globs.len() {
         if number > 0 {
