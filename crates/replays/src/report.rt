@@ -19,7 +19,7 @@ pub(crate) struct Response {
 }
 
 /// What a replay reports of one frame of a record.
-#[derive(Clone, Copy, Debug, PartialEq, Eq)]
+#[derive(Clone, Copy)]
 pub(crate) enum FrameReport {
     /// The session's verdict on the frame's message.
     Verdict(Verdict),
@@ -112,7 +112,7 @@ impl Outcome {
 }
 
 /// How the reading of a record ended.
-#[derive(Clone, Copy, Debug, PartialEq, Eq)]
+#[derive(Clone, Copy)]
 pub(crate) enum Ending {
     /// The record ended between two frames.
     End,
