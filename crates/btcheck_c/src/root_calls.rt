@@ -6,7 +6,7 @@ ghost use Rattle.btcheck_c.specs.Holds.{Fills, Through};
 
 use crate::handle::Handle;
 use crate::thing::{Kind, Thing};
-use c_layouts::status::{DONE, NO_MEMORY, NO_ROOT, TOO_LONG, WRONG_HANDLE};
+use c_layouts::status::{DONE, NO_ROOT, TOO_LONG, WRONG_HANDLE};
 use hashtree::{MAX_LENGTH, RootBuilder};
 use std::alloc::Global;
 use std::mem::replace;
@@ -54,16 +54,7 @@ pub extern "C" fn btcheck_root_new(alloc: Global, handle: &mut Handle) -> u32
     if handle.is_full() {
         return WRONG_HANDLE;
     }
-    let made = Thing {
-        kind: Kind::Root(RootBuilder::new()),
-    };
-    match Box::new(alloc, made) {
-        Err(_) => NO_MEMORY,
-        Ok(thing) => {
-            handle.put(thing);
-            DONE
-        }
-    }
+    handle.fill(alloc, Kind::Root(RootBuilder::new()))
 }
 
 /// Takes the file's next bytes. Status 1: the handle holds no builder. Status 3: the file would be

@@ -109,19 +109,9 @@ pub extern "C" fn btcheck_session_open(
     if handle.is_full() {
         return WRONG_HANDLE;
     }
-    let session = match open_session(alloc, input, with_layers) {
-        Err(status) => return status,
-        Ok(session) => session,
-    };
-    let made = Thing {
-        kind: Kind::Session(session),
-    };
-    match Box::new(alloc, made) {
-        Err(_) => NO_MEMORY,
-        Ok(thing) => {
-            handle.put(thing);
-            DONE
-        }
+    match open_session(alloc, input, with_layers) {
+        Err(status) => status,
+        Ok(session) => handle.fill(alloc, Kind::Session(session)),
     }
 }
 

@@ -1,11 +1,12 @@
-use Rattle.std.proofs.Common.{refl, sym, ap, ◌∙◌, subst, inl, Some}
-use Rattle.btcheck_c.specs.Holds.{Fills}
+use Rattle.std.proofs.Common.{refl, inl, inr}
 use Rattle.btcheck_c.specs.SessionCalls.{SessionOpened}
-use Rattle.btcheck_c.proofs.Throughs.{holds_nothing}
+use Rattle.btcheck_c.specs.declared.thing.Kind.TheVariants as kind
+use Rattle.btcheck_c.proofs.Throughs.{filled, holds_nothing}
 use Rattle.btcheck_c.proofs.session_calls.btcheck_session_open.Goals as goal
 
-pub returns : goal.returns
-returns c =
-    let nothing = holds_nothing c.args.handle.now.slot.held c.is_full.result c.is_full.ensures c.if-is_full.false in
-    subst (λ o. Fills (SessionOpened c.args.input.now c.args.with_layers) o 0 c.put.new.self.slot.held) (sym nothing)
-    (inl (refl, (c.in-Ok.session, (c.put.ensures ∙ ap Some c.in-Ok-new.ensures.ok, c.in-Ok.ensures))))
+pub returns-in-Ok : goal.returns-in-Ok
+returns-in-Ok c =
+    filled (SessionOpened c.args.input.now c.args.with_layers) (kind.Session c.in-Ok.session) c.args.handle.now.slot.held
+    c.fill.new.self.slot.held c.fill.result
+    (holds_nothing c.args.handle.now.slot.held c.is_full.result c.is_full.ensures c.if-is_full.false) c.fill.ensures
+    (λ there. inl (refl, (c.in-Ok.session, (there, c.in-Ok.ensures)))) (λ none. inr (none, inr refl))

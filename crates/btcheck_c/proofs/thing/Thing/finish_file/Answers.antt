@@ -4,6 +4,12 @@ use Rattle.btcheck_c.specs.CheckCalls.{EndsCheck}
 use Rattle.btcheck_c.specs.FileChecks.{bytes_left}
 use Rattle.btcheck_c.proofs.thing.Thing.finish_file.Goals as goal
 
+pub returns-then-left-gt0-clause-unwritten : goal.returns-then-left-gt0-clause-unwritten
+returns-then-left-gt0-clause-unwritten c = λ wrote. refl
+
+pub finish-requires : goal.finish-requires
+finish-requires c = omega (arith, c.left.ensures)
+
 pub returns-else-left-gt0-clause-done : goal.returns-else-left-gt0-clause-done
 returns-else-left-gt0-clause-done c =
     let none : bytes_left c.in-Check.check ≡ 0 = omega (arith, c.left.ensures, c.if-left-gt0.false) in
