@@ -1,8 +1,11 @@
-use Rattle.std.proofs.Common.{◌∙◌, ap, map, Some, subst}
+use Rattle.std.proofs.Common.{rules, ◌∙◌, ap, map, Some, subst}
 use Rattle.opening.specs.Seen.{tree_entry}
 use Rattle.folders.specs.Shelf.{IsFound}
 use Rattle.seeding.proofs.LeafReads.{finds_read}
 use Rattle.seeding.proofs.seeding.find_tree.Goals as goal
+
+pub returns-in-Ok-None-clause-no_memory : goal.returns-in-Ok-None-clause-no_memory
+returns-in-Ok-None-clause-no_memory g c = search rules
 
 pub returns-in-Ok-clause-found : goal.returns-in-Ok-clause-found
 returns-in-Ok-clause-found g c =
