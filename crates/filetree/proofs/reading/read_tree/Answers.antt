@@ -26,6 +26,9 @@ passed_tree : {T : Type 0} (rows : List TestRow) (r : Result T Refusal) → None
 passed_tree rows (Ok x) none = tt
 passed_tree rows (Err e) none = λ _. none
 
+pub returns-then-not-is_directory-clause-memory : goal.returns-then-not-is_directory-clause-memory
+returns-then-not-is_directory-clause-memory c = search rules
+
 pub walk-requires : goal.walk-requires
 walk-requires c = record {
   room = 126;
