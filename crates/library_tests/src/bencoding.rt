@@ -36,6 +36,24 @@ fn faults() -> [(&'static [u8], FaultKind, usize); 27] {
     ]
 }
 
+// Whether each call answers this fault. What stands behind a value at the front is left alone.
+fn is_answered(alloc: Global, input: &[u8], fault: Fault) -> bool {
+    let front = match fault.kind {
+        FaultKind::Trailing => Ok(fault.offset),
+        _ => Err(fault),
+    };
+    decode(alloc, input).err() == Some(fault)
+        && span(alloc, input, b"a") == Err(fault)
+        && decode_with_span(alloc, input, b"a").err() == Some(fault)
+        && used_by_front(alloc, input) == front
+}
+
+// Whether a fault is printed as its kind and its place.
+fn is_printed(alloc: Global, fault: Fault) -> Result<bool, AllocError> {
+    let text = format!(in alloc; "{:?} at byte {}", fault.kind, fault.offset)?;
+    Ok(format!(in alloc; "{fault}")? == text)
+}
+
 #[test]
 fn first_faults(rt: HostRuntime) {
     for (input, kind, offset) in faults().iter() {
@@ -43,19 +61,8 @@ fn first_faults(rt: HostRuntime) {
             kind: *kind,
             offset: *offset,
         };
-        assert!(rt; decode(rt.alloc(), input) == Err(fault), "{fault}");
-        assert!(rt; span(rt.alloc(), input, b"a") == Err(fault), "{fault}");
-        assert!(rt;
-            decode_with_span(rt.alloc(), input, b"a") == Err(fault),
-            "{fault}"
-        );
-        // what stands behind a value is left alone
-        let front = if *kind == FaultKind::Trailing {
-            Ok(*offset)
-        } else {
-            Err(fault)
-        };
-        assert!(rt; used_by_front(rt.alloc(), input) == front, "{fault}");
+        assert!(rt; is_answered(rt.alloc(), input, fault), "{fault}");
+        assert!(rt; is_printed(rt.alloc(), fault) == Ok(true));
     }
 }
 
@@ -69,10 +76,22 @@ fn used_by_front(alloc: Global, input: &[u8]) -> Result<usize, Fault> {
 fn stands_at_front(alloc: Global, value: &[u8], rest: &[u8]) -> Result<bool, AllocError> {
     let mut input = Vec::from_slice(alloc, value)?;
     input.extend_from_slice(rest)?;
-    Ok(match (decode(alloc, value), decode_front(alloc, &input)) {
-        (Ok(whole), Ok((front, used))) => front == whole && used == value.len(),
-        _ => false,
+    Ok(match decode(alloc, value) {
+        Ok(whole) => is_front(decode_front(alloc, &input), &whole, value.len()),
+        Err(_) => false,
     })
+}
+
+// Whether this value was found, and takes so many bytes.
+fn is_front<'v>(
+    found: Result<(Value<'v>, usize), Fault>,
+    value: &Value<'v>,
+    length: usize,
+) -> bool {
+    match found {
+        Ok((front, used)) => front == *value && used == length,
+        Err(_) => false,
+    }
 }
 
 #[test]
@@ -123,63 +142,90 @@ fn long_values_at_the_front(rt: HostRuntime) -> Result<(), AllocError> {
 }
 
 #[test]
-fn printed_texts(rt: HostRuntime) -> Result<(), AllocError> {
-    assert!(rt; format!(in rt.alloc(); "{DeviceFault}")?.as_str() == "the device failed");
-    assert!(rt; format!(in rt.alloc(); "{}", WriteFault::Write)?.as_str() == "cannot write");
-    for (_, kind, offset) in faults().iter() {
-        let fault = Fault {
-            kind: *kind,
-            offset: *offset,
-        };
-        let printed = format!(in rt.alloc(); "{fault}")?;
-        assert!(rt;
-            printed == format!(in rt.alloc(); "{kind:?} at byte {offset}")?,
-            "{printed}"
-        );
-    }
-    Ok(())
+fn printed_texts(rt: HostRuntime) {
+    let text = format!(in rt.alloc(); "{DeviceFault}, {}", WriteFault::Write);
+    assert!(rt; text.expect(&rt, "memory").as_str() == "the device failed, cannot write");
+}
+
+// So many lists, one in the other, and what stands behind.
+fn nested(alloc: Global, rest: &[u8]) -> Result<Vec<u8>, AllocError> {
+    let mut text = vec![in alloc; b'l'; 128]?;
+    text.extend_from_slice(rest)?;
+    Ok(text)
 }
 
 #[test]
-fn deepest(rt: HostRuntime) -> Result<(), AllocError> {
-    let mut closed = Vec::from_slice(rt.alloc(), &[b'l'; 128])?;
-    closed.extend_from_slice(&[b'e'; 128])?;
+fn deepest(rt: HostRuntime) {
+    let closed = nested(rt.alloc(), &[b'e'; 128]).expect(&rt, "memory");
     assert!(rt; decode(rt.alloc(), &closed).is_ok());
-    let mut open = Vec::from_slice(rt.alloc(), &[b'l'; 128])?;
-    open.extend_from_slice(b"i1e")?;
+    let open = nested(rt.alloc(), b"i1e").expect(&rt, "memory");
     let fault = Fault {
         kind: FaultKind::Truncated,
         offset: 131,
     };
-    assert!(rt; decode(rt.alloc(), &open) == Err(fault));
-    Ok(())
+    assert!(rt; decode(rt.alloc(), &open).err() == Some(fault));
+}
+
+// Whether the value at the front, and how many bytes it takes, are printed so.
+fn has_front(alloc: Global, input: &[u8], text: &str) -> Result<bool, AllocError> {
+    Ok(format!(in alloc; "{:?}", decode_front(alloc, input))?.as_str() == text)
 }
 
 #[test]
-fn values(rt: HostRuntime) -> Result<(), AllocError> {
-    assert!(rt; decode_front(rt.alloc(), b"i1ei2e") == Ok((Value::Int(1), 3)));
-    let list = vec![in rt.alloc(); Value::Int(1), Value::Bytes(b"a")]?;
-    assert!(rt; decode_front(rt.alloc(), b"li1e1:aee") == Ok((Value::List(list), 8)));
-    let pairs = vec![in rt.alloc();
-        Pair {
-            key: b"k",
-            value: Value::Int(1)
-        },
-    ]?;
-    assert!(rt; decode_front(rt.alloc(), b"d1:ki1eed") == Ok((Value::Dict(pairs), 8)));
-    assert!(rt; decode(rt.alloc(), b"i-9223372036854775808e") == Ok(Value::Int(i64::MIN)));
-    assert!(rt; decode(rt.alloc(), b"0:") == Ok(Value::Bytes(b"")));
-    assert!(rt; decode(rt.alloc(), b"le") == Ok(Value::List(Vec::new(rt.alloc()))));
-    assert!(rt; decode(rt.alloc(), b"de") == Ok(Value::Dict(Vec::new(rt.alloc()))));
-    Ok(())
+fn values(rt: HostRuntime) {
+    for (input, text) in [
+        (b"i1ei2e" as &[u8], "Ok((Int(1), 3))"),
+        (b"li1e1:aee", "Ok((List([Int(1), Bytes([97])]), 8))"),
+        (
+            b"d1:ki1eed",
+            "Ok((Dict([Pair { key: [107], value: Int(1) }]), 8))",
+        ),
+    ] {
+        assert!(rt; has_front(rt.alloc(), input, text) == Ok(true), "{text}");
+    }
+}
+
+// Whether the whole value is printed so.
+fn has_value(alloc: Global, input: &[u8], text: &str) -> Result<bool, AllocError> {
+    Ok(format!(in alloc; "{:?}", decode(alloc, input))?.as_str() == text)
+}
+
+#[test]
+fn whole_values(rt: HostRuntime) {
+    for (input, text) in [
+        (
+            b"i-9223372036854775808e" as &[u8],
+            "Ok(Int(-9223372036854775808))",
+        ),
+        (b"0:", "Ok(Bytes([]))"),
+        (b"le", "Ok(List([]))"),
+        (b"de", "Ok(Dict([]))"),
+    ] {
+        assert!(rt; has_value(rt.alloc(), input, text) == Ok(true), "{text}");
+    }
+}
+
+fn finds_keys(v: &Value<'_>) -> bool {
+    v.is_canonical()
+        && matches!(v.get(b"a"), Some(Value::Int(7)))
+        && v.get(b"b").is_some()
+        && v.get(b"c").is_none()
 }
 
 #[test]
 fn looks_up_keys(rt: HostRuntime) {
     let v = decode(rt.alloc(), b"d1:ai7e1:bdee").expect(&rt, "a dictionary");
-    assert!(rt; v.is_canonical() && v.get(b"a") == Some(&Value::Int(7)));
-    assert!(rt; v.get(b"b").is_some() && v.get(b"c").is_none());
+    assert!(rt; finds_keys(&v));
     assert!(rt; Value::Int(7).get(b"a").is_none());
+}
+
+// Whether both calls find this span of the value under `info`.
+fn has_span(alloc: Global, input: &[u8], want: Option<&[u8]>) -> bool {
+    span(alloc, input, b"info") == Ok(want)
+        && match decode_with_span(alloc, input, b"info") {
+            Ok((_, found)) => found == want,
+            Err(_) => false,
+        }
 }
 
 #[test]
@@ -192,9 +238,7 @@ fn spans(rt: HostRuntime) {
         (b"i7e", None),
     ];
     for (input, want) in table.iter() {
-        assert!(rt; span(rt.alloc(), input, b"info") == Ok(*want));
-        let (_, found) = decode_with_span(rt.alloc(), input, b"info").expect(&rt, "a value");
-        assert!(rt; found == *want);
+        assert!(rt; has_span(rt.alloc(), input, *want));
     }
 }
 
@@ -202,21 +246,29 @@ fn writes(v: &Value<'_>, out: &mut MemSink) -> bool {
     v.is_canonical() && encode(v, out).is_ok()
 }
 
+fn writes_whole(v: &Value<'_>, mut out: MemSink, text: &[u8]) -> bool {
+    writes(v, &mut out) && out.written() == text && out.failures() == 0 && is_flushed_once(out)
+}
+
+// Whether a sink was not flushed, and then is.
+fn is_flushed_once(mut out: MemSink) -> bool {
+    let is_new = !out.is_flushed() && out.flushes() == 0;
+    is_new && out.flush().is_ok() && out.is_flushed() && out.flushes() == 1
+}
+
+fn writes_front(v: &Value<'_>, mut out: MemSink, text: &[u8]) -> bool {
+    !writes(v, &mut out) && out.written() == text
+}
+
 // The spelling that is read is written, by a sink that takes a byte a call, until it is full.
 #[test]
-fn writes_what_was_read(rt: HostRuntime) -> Result<(), AllocError> {
+fn writes_what_was_read(rt: HostRuntime) {
     let text: &[u8] = b"d0:i-12e1:ali0e3:abcdeee";
     let v = decode(rt.alloc(), text).expect(&rt, "a value");
-    assert!(rt; v.is_canonical());
-    let mut whole = MemSink::with_room(rt.alloc(), 64)?.at_most(1);
-    assert!(rt; writes(&v, &mut whole));
-    assert!(rt; whole.written() == text && whole.failures() == 0);
-    assert!(rt; !whole.is_flushed() && whole.flushes() == 0);
-    assert!(rt; whole.flush().is_ok() && whole.is_flushed() && whole.flushes() == 1);
-    let mut small = MemSink::with_room(rt.alloc(), 5)?;
-    assert!(rt; !writes(&v, &mut small));
-    assert!(rt; small.written() == b"d0:i-".as_slice());
-    Ok(())
+    let whole = MemSink::with_room(rt.alloc(), 64).expect(&rt, "memory");
+    assert!(rt; writes_whole(&v, whole.at_most(1), text));
+    let small = MemSink::with_room(rt.alloc(), 5).expect(&rt, "memory");
+    assert!(rt; writes_front(&v, small, b"d0:i-"));
 }
 
 #[test]

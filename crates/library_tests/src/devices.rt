@@ -1,6 +1,5 @@
 use benc::memory::{Calls, MemSink, MemSource};
 use benc::*;
-use std::alloc::AllocError;
 use std::io;
 use std::test::*;
 
@@ -12,6 +11,11 @@ fn sources(rt: HostRuntime) {
     assert!(rt; cut.read(&mut buf) == Err(DeviceFault) && cut.failures() == 1);
     assert!(rt; cut.read(&mut buf) == Ok(2) && buf.starts_with(b"de"));
     assert!(rt; cut.read(&mut buf) == Ok(0) && cut.failures() == 1);
+}
+
+#[test]
+fn a_reader_is_a_source(rt: HostRuntime) {
+    let mut buf = [0u8; 4];
     let mut plain = FromRead::new(&b"xyz"[..]);
     assert!(rt; plain.read(&mut buf[..2]) == Ok(2) && buf.starts_with(b"xy"));
     assert!(rt; plain.into_inner() == b"z".as_slice());
@@ -87,28 +91,53 @@ impl io::Write for Claims {
     }
 }
 
+// What a call of this number comes to, if it moves one byte or fails.
+fn moved_by(failing: &[u64], call: u64) -> Result<usize, DeviceFault> {
+    if failing.contains(&call) {
+        return Err(DeviceFault);
+    }
+    Ok(1)
+}
+
+// Whether six reads fail where they are to, and are each made once.
+fn reads_six(failing: &'static [u64], faults: u64) -> bool {
+    let mut source = FromRead::new(Claims::new(8).at_most(1).failing(failing));
+    let mut counted = 0u64;
+    for call in 1..=6u64 {
+        let moved = moved_by(failing, call);
+        counted = counted.wrapping_add(u64::from(moved.is_err()));
+        if source.read(&mut [0u8; 4]) != moved || source.failures() != counted {
+            return false;
+        }
+    }
+    counted == faults && source.into_inner().calls == 6
+}
+
+// The same of six writes and a flush.
+fn writes_six(failing: &'static [u64], faults: u64) -> bool {
+    let mut sink = FromWrite::new(Claims::new(8).at_most(1).failing(failing));
+    let mut counted = 0u64;
+    for call in 1..=6u64 {
+        let moved = moved_by(failing, call);
+        counted = counted.wrapping_add(u64::from(moved.is_err()));
+        if sink.write(&[0u8; 4]) != moved || sink.failures() != counted {
+            return false;
+        }
+    }
+    counted == faults && flushes_once(sink, faults)
+}
+
+fn flushes_once(mut sink: FromWrite<Claims>, faults: u64) -> bool {
+    let is_right = sink.flush() == Ok(()) && sink.failures() == faults;
+    let writer = sink.into_inner();
+    is_right && writer.calls == 7 && writer.flushes == 1
+}
+
 // A failed call is not made again, and the calls after it succeed, however many have failed.
 #[test]
 fn a_failed_call_is_a_fault(rt: HostRuntime) {
     for (failing, faults) in [(&[2u64] as &[u64], 1u64), (&[1, 2, 3, 4], 4)] {
-        let mut source = FromRead::new(Claims::new(8).at_most(1).failing(failing));
-        let mut sink = FromWrite::new(Claims::new(8).at_most(1).failing(failing));
-        let mut buf = [0u8; 4];
-        let mut counted = 0u64;
-        for call in 1..=6u64 {
-            let moved = if failing.contains(&call) {
-                counted = counted.wrapping_add(1);
-                Err(DeviceFault)
-            } else {
-                Ok(1)
-            };
-            assert!(rt; source.read(&mut buf) == moved && source.failures() == counted);
-            assert!(rt; sink.write(&buf) == moved && sink.failures() == counted);
-        }
-        assert!(rt; counted == faults && source.into_inner().calls == 6);
-        assert!(rt; sink.flush() == Ok(()) && sink.failures() == faults);
-        let writer = sink.into_inner();
-        assert!(rt; writer.calls == 7 && writer.flushes == 1);
+        assert!(rt; reads_six(failing, faults) && writes_six(failing, faults));
     }
 }
 
@@ -123,12 +152,12 @@ fn a_flush_that_fails_is_a_fault(rt: HostRuntime) {
 }
 
 #[test]
-fn a_flush_that_fails_is_counted_too(rt: HostRuntime) -> Result<(), AllocError> {
-    let mut out = MemSink::with_room(rt.alloc(), 4)?.fails_after(1);
+fn a_flush_that_fails_is_counted_too(rt: HostRuntime) {
+    let room = MemSink::with_room(rt.alloc(), 4).expect(&rt, "memory");
+    let mut out = room.fails_after(1);
     assert!(rt; out.write(b"ab") == Ok(2) && out.flush() == Err(DeviceFault));
     assert!(rt; !out.is_flushed() && out.flushes() == 1 && out.failures() == 1);
     assert!(rt; out.flush() == Ok(()) && out.flushes() == 2 && out.written() == b"ab".as_slice());
-    Ok(())
 }
 
 #[test]
@@ -152,7 +181,7 @@ fn writes_of(text: &[u8], at_most: u64) -> Option<u64> {
 }
 
 #[test]
-fn nothing_is_written_by_no_call(rt: HostRuntime) -> Result<(), AllocError> {
+fn nothing_is_written_by_no_call(rt: HostRuntime) {
     for (text, at_most, writes) in [
         (b"" as &[u8], u64::MAX, 0u64),
         (b"a", u64::MAX, 1),
@@ -166,12 +195,13 @@ fn nothing_is_written_by_no_call(rt: HostRuntime) -> Result<(), AllocError> {
             "{at_most} bytes a call"
         );
     }
+}
+
+#[test]
+fn no_value_is_encoded_by_an_empty_call(rt: HostRuntime) {
     let value = decode(rt.alloc(), b"d0:0:1:alde0:ee").expect(&rt, "a value");
-    assert!(rt; value.is_canonical());
     let mut sink = FromWrite::new(Claims::new(u64::MAX));
-    assert!(rt; encodes(&value, &mut sink));
-    assert!(rt; sink.into_inner().empty == 0);
-    Ok(())
+    assert!(rt; encodes(&value, &mut sink) && sink.into_inner().empty == 0);
 }
 
 fn encodes<W: Sink>(value: &Value<'_>, out: &mut W) -> bool {
@@ -194,24 +224,29 @@ fn read_to_end<R: Source>(source: &mut R, buffer: &mut [u8]) -> Result<u64, Devi
 
 // Each read of a source is one of its reader, at the end too.
 #[test]
-fn more_than_four_gib_is_read(rt: HostRuntime) -> Result<(), AllocError> {
-    let mut buffer = vec![in rt.alloc(); 0u8; 1 << 20]?;
+fn more_than_four_gib_is_read(rt: HostRuntime) {
+    let mut buffer = vec![in rt.alloc(); 0u8; 1 << 20].expect(&rt, "memory");
     let mut source = FromRead::new(Claims::new(LONG));
     assert!(rt; read_to_end(&mut source, &mut buffer) == Ok(LONG) && source.failures() == 0);
     assert!(rt; source.into_inner().calls == 5121);
-    Ok(())
+}
+
+// Whether so many writes of these bytes succeed.
+fn writes_often<W: Sink>(sink: &mut W, bytes: &[u8], count: u64) -> bool {
+    for _ in 0..count {
+        if write_all(sink, bytes).is_err() {
+            return false;
+        }
+    }
+    true
 }
 
 // Each write of a sink is one of its writer. One of which nothing is taken is a fault.
 #[test]
-fn more_than_four_gib_is_written(rt: HostRuntime) -> Result<(), AllocError> {
-    let buffer = vec![in rt.alloc(); 0u8; 1 << 20]?;
+fn more_than_four_gib_is_written(rt: HostRuntime) {
+    let buffer = vec![in rt.alloc(); 0u8; 1 << 20].expect(&rt, "memory");
     let mut sink = FromWrite::new(Claims::new(LONG));
-    for _ in 0..5120u64 {
-        assert!(rt; write_all(&mut sink, &buffer) == Ok(()));
-    }
-    assert!(rt; sink.failures() == 0);
+    assert!(rt; writes_often(&mut sink, &buffer, 5120) && sink.failures() == 0);
     assert!(rt; write_all(&mut sink, &buffer) == Err(DeviceFault) && sink.failures() == 1);
     assert!(rt; sink.into_inner().calls == 5121);
-    Ok(())
 }

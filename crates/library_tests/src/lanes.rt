@@ -1,6 +1,6 @@
 use sha2::{Digest, Sha256};
 use sha256_lanes::{digests, parents};
-use std::alloc::AllocError;
+use std::alloc::{AllocError, Global};
 use std::test::*;
 
 // Of the empty message, of the message of 64 bytes below, and of a million letters a (FIPS 180-4).
@@ -91,74 +91,81 @@ impl Random {
     }
 }
 
+// Eight messages: this one in a lane, and as many other bytes in each other lane.
+fn with_lane(alloc: Global, message: &[u8], lane: usize, other: u8) -> Result<Vec<u8>, AllocError> {
+    let mut messages = Vec::new(alloc);
+    for number in 0..8usize {
+        if number == lane {
+            messages.extend_from_slice(message)?;
+        } else {
+            messages.resize(messages.len().wrapping_add(message.len()), other)?;
+        }
+    }
+    Ok(messages)
+}
+
+// The digest that is found of the message in this lane.
+fn digest_in(messages: &[u8], lane: usize) -> Option<[u8; 32]> {
+    digests_of(messages, messages.len() / 8)?.get(lane).copied()
+}
+
 // A known message in one lane has its digest, whatever stands in the others.
 #[test]
-fn known_digests_in_each_lane(rt: HostRuntime) -> Result<(), AllocError> {
+fn known_digests_in_each_lane(rt: HostRuntime) {
     for (message, digest, other) in [
         (&[] as &[u8], &OF_NOTHING, 0u8),
         (&A_BLOCK, &OF_A_BLOCK, 0),
         (&A_BLOCK, &OF_A_BLOCK, 255),
     ] {
         for lane in 0..8usize {
-            let mut messages = Vec::new(rt.alloc());
-            for number in 0..8usize {
-                if number == lane {
-                    messages.extend_from_slice(message)?;
-                } else {
-                    messages.resize(messages.len().wrapping_add(message.len()), other)?;
-                }
-            }
-            let found = digests_of(&messages, message.len());
-            let of_lane = found.as_ref().and_then(|digests| digests.get(lane));
-            assert!(rt;
-                of_lane == Some(digest),
-                "{} bytes in lane {lane}",
-                message.len()
-            );
+            let messages = with_lane(rt.alloc(), message, lane, other).expect(&rt, "memory");
+            let found = digest_in(&messages, lane);
+            assert!(rt; found == Some(*digest), "lane {lane}");
         }
     }
-    Ok(())
 }
 
 #[test]
-fn a_million_letters_in_all_lanes(rt: HostRuntime) -> Result<(), AllocError> {
-    let letters = vec![in rt.alloc(); b'a'; 8_000_000]?;
+fn a_million_letters_in_all_lanes(rt: HostRuntime) {
+    let letters = vec![in rt.alloc(); b'a'; 8_000_000].expect(&rt, "memory");
     assert!(rt; digests_of(&letters, 1_000_000) == Some([OF_A_MILLION; 8]));
-    Ok(())
+}
+
+// Eight messages of so many bytes, of which each is another.
+fn of_each_lane(alloc: Global, size: usize) -> Result<Vec<u8>, AllocError> {
+    let mut messages = Vec::new(alloc);
+    for lane in 0..8u8 {
+        messages.resize(messages.len().wrapping_add(size), lane)?;
+    }
+    Ok(messages)
 }
 
 // Eight equal messages, and eight of which each is another, of each length up to ten blocks and of
 // a block of a file.
 #[test]
-fn equal_and_other_messages(rt: HostRuntime) -> Result<(), AllocError> {
+fn equal_and_other_messages(rt: HostRuntime) {
     for blocks in [0usize, 1, 2, 3, 4, 5, 6, 7, 8, 9, 10, 256] {
         let size = blocks * 64;
-        let equal = vec![in rt.alloc(); 0xa5u8; size * 8]?;
-        assert!(rt; are_of_sha2(&equal, size), "{size} equal bytes");
-        let mut other = Vec::new(rt.alloc());
-        for lane in 0..8u8 {
-            other.resize(other.len().wrapping_add(size), lane)?;
-        }
-        assert!(rt; are_of_sha2(&other, size), "{size} bytes of each lane");
+        let equal = vec![in rt.alloc(); 0xa5u8; size * 8].expect(&rt, "memory");
+        let other = of_each_lane(rt.alloc(), size).expect(&rt, "memory");
+        assert!(rt;
+            are_of_sha2(&equal, size) && are_of_sha2(&other, size),
+            "{size} bytes"
+        );
     }
-    Ok(())
 }
 
 // 10,000 batches of random messages, each of up to four blocks.
 #[test]
-fn random_messages(rt: HostRuntime) -> Result<(), AllocError> {
+fn random_messages(rt: HostRuntime) {
     let mut random = Random::new();
     let mut messages = Vec::new(rt.alloc());
     for batch in 0..10_000u32 {
         let [blocks, ..] = random.next();
         let size = usize::from(blocks % 5) * 64;
-        random.fill(&mut messages, size)?;
-        assert!(rt;
-            are_of_sha2(&messages, size),
-            "batch {batch} of {size} bytes"
-        );
+        random.fill(&mut messages, size).expect(&rt, "memory");
+        assert!(rt; are_of_sha2(&messages, size), "batch {batch}");
     }
-    Ok(())
 }
 
 // 10,000 batches of pairs of hashes, of which each has other bytes than before.

@@ -123,26 +123,38 @@ fn built(
     Ok(Some(builder.finish()?))
 }
 
-// What it is to make of them: nothing of no bytes, and no hashes of a layer above the root.
+// The digest of each block.
+fn leaves_of(alloc: Global, bytes: &[u8]) -> Result<Vec<Hash>, AllocError> {
+    let mut leaves = Vec::new(alloc);
+    for block in bytes.chunks(16384) {
+        leaves.push(Sha256::digest(block))?;
+    }
+    Ok(leaves)
+}
+
+// The root over leaves, and the hashes of a layer: none of a layer above the root.
+fn root_and_layer(
+    alloc: Global,
+    leaves: &[Hash],
+    layer: u32,
+) -> Result<(Hash, Vec<Hash>), AllocError> {
+    let top = height(leaves.len() as u64);
+    let under = if layer <= top { leaves } else { &[] };
+    Ok((node(leaves, top, 0), nodes(alloc, under, layer)?))
+}
+
+// What it is to make of them: nothing of no bytes.
 fn wanted(
     alloc: Global,
     bytes: &[u8],
     layer: u32,
 ) -> Result<Option<(u64, Hash, Vec<Hash>)>, AllocError> {
-    let mut leaves = Vec::new(alloc);
-    for block in bytes.chunks(16384) {
-        leaves.push(Sha256::digest(block))?;
-    }
-    let top = height(leaves.len() as u64);
-    if leaves.is_empty() {
+    if bytes.is_empty() {
         return Ok(None);
     }
-    let hashes = if layer <= top {
-        nodes(alloc, &leaves, layer)?
-    } else {
-        Vec::new(alloc)
-    };
-    Ok(Some((bytes.len() as u64, node(&leaves, top, 0), hashes)))
+    let leaves = leaves_of(alloc, bytes)?;
+    let (root, hashes) = root_and_layer(alloc, &leaves, layer)?;
+    Ok(Some((bytes.len() as u64, root, hashes)))
 }
 
 #[test]
