@@ -52,7 +52,6 @@ fn try_torrent(
 
 // Checks the files that are there in parts.
 fn try_parts(rt: &HostRuntime, torrent: &str, a: &str, c: &str) -> io::Result<()> {
-    let text = fs::read(rt, torrent)?;
     let (a, c) = (content_of(rt, a), content_of(rt, c));
     let mut files = Vec::new(rt.alloc());
     if let Some(a) = &a {
@@ -61,21 +60,46 @@ fn try_parts(rt: &HostRuntime, torrent: &str, a: &str, c: &str) -> io::Result<()
     if let Some(c) = &c {
         files.push(MemFile::new(&["c"], c))?;
     }
+    compare_parts(rt, torrent, &files)
+}
+
+fn compare_parts(rt: &HostRuntime, torrent: &str, files: &[MemFile<'_>]) -> io::Result<()> {
+    let text = fs::read(rt, torrent)?;
     match Torrent::open(rt.alloc(), &text) {
-        Ok(torrent) => compare(rt, &torrent, &files),
+        Ok(torrent) => compare(rt, &torrent, files),
         Err(refusal) => println!(rt; "refused {}", refusal.number()),
     }
 }
 
+// Reads the files with these paths, and tries each call.
+fn try_files(
+    rt: &HostRuntime,
+    torrent: &str,
+    record: &str,
+    a: &str,
+    c: &str,
+    at_most: usize,
+) -> io::Result<()>
+    requires { 0 < at_most }
+{
+    let text = fs::read(rt, torrent)?;
+    let record = fs::read(rt, record)?;
+    let a = fs::read(rt, a)?;
+    let c = fs::read(rt, c)?;
+    try_torrent(rt, &text, &record, &a, &c, at_most)
+}
+
+fn words(rt: &HostRuntime) -> io::Result<Vec<String>> {
+    let mut words = Vec::new(rt.alloc());
+    for word in env::args(rt)?.skip(1) {
+        words.push(word)?;
+    }
+    Ok(words)
+}
+
 fn main(rt: HostRuntime) -> io::Result<()> {
-    let mut arguments = env::args(&rt)?.skip(1);
-    let (Some(torrent), Some(record), Some(a), Some(c), Some(at_most)) = (
-        arguments.next(),
-        arguments.next(),
-        arguments.next(),
-        arguments.next(),
-        arguments.next(),
-    ) else {
+    let words = words(&rt)?;
+    let [torrent, record, a, c, at_most] = words.as_slice() else {
         return eprintln!(rt;
             "usage: device_tests TORRENT RECORD A C BYTES, or device_tests parts TORRENT A C 0"
         );
@@ -83,10 +107,13 @@ fn main(rt: HostRuntime) -> io::Result<()> {
     if torrent.as_str() == "parts" {
         return try_parts(&rt, record.as_str(), a.as_str(), c.as_str());
     }
-    let text = fs::read(&rt, torrent.as_str())?;
-    let record = fs::read(&rt, record.as_str())?;
-    let a = fs::read(&rt, a.as_str())?;
-    let c = fs::read(&rt, c.as_str())?;
     let at_most = at_most.as_str().parse::<usize>().unwrap_or(1).max(1);
-    try_torrent(&rt, &text, &record, &a, &c, at_most)
+    try_files(
+        &rt,
+        torrent.as_str(),
+        record.as_str(),
+        a.as_str(),
+        c.as_str(),
+        at_most,
+    )
 }

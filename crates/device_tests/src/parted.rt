@@ -1,5 +1,8 @@
 //! Checks in parts: what parts report, read again and joined, beside the report of a whole check.
+ghost use Rattle.std.specs.Prelude.{◌<◌};
+
 use crate::trial::sink;
+use benc::memory::MemSink;
 use folders::memory::{MemFile, MemShelf};
 use folders::{Report, check, print_report};
 use opening::Torrent;
@@ -17,35 +20,77 @@ pub(crate) fn compare(
     torrent: &Torrent<'_>,
     files: &[MemFile<'_>],
 ) -> io::Result<()> {
-    let whole = check(rt.alloc(), torrent, &mut MemShelf::new(rt.alloc(), &*files))?;
+    let whole = check(rt.alloc(), torrent, &mut MemShelf::new(rt.alloc(), files))?;
+    let text = printed(rt, torrent, &whole)?;
     for count in 1..=MOST {
-        let texts = texts_of(rt, torrent, files, count)?;
-        if join(rt, torrent, &texts)? != Ok(printed(rt, torrent, &whole)?) {
-            println!(rt; "other in {count} parts")?;
-        }
-        refuse_all(rt, torrent, texts, count)?;
+        join_parts(rt, torrent, files, count, &text)?;
     }
-    print_text(rt, &printed(rt, torrent, &whole)?)
+    print_text(rt, &text)
 }
 
-// What the parts print, the last one first.
-fn texts_of(
+// Checks in so many parts, and joins what they report.
+fn join_parts(
     rt: &HostRuntime,
     torrent: &Torrent<'_>,
     files: &[MemFile<'_>],
     count: u64,
-) -> io::Result<Vec<Vec<u8>>> {
-    let mut texts = Vec::new(rt.alloc());
+    whole: &[u8],
+) -> io::Result<()> {
+    let reports = reports_of(rt, torrent, files, count)?;
+    let texts = texts_of(rt, &reports)?;
+    if !joins_to(rt, torrent, &texts, whole)? {
+        println!(rt; "other in {count} parts")?;
+    }
+    refuse_all(rt, torrent, texts, count)
+}
+
+fn joins_to(
+    rt: &HostRuntime,
+    torrent: &Torrent<'_>,
+    texts: &[&[u8]],
+    whole: &[u8],
+) -> io::Result<bool> {
+    Ok(match join(rt, torrent, texts)? {
+        Ok(text) => text.as_slice() == whole,
+        Err(_) => false,
+    })
+}
+
+// What the parts print, the last one first.
+fn reports_of(
+    rt: &HostRuntime,
+    torrent: &Torrent<'_>,
+    files: &[MemFile<'_>],
+    count: u64,
+) -> io::Result<Vec<MemSink>> {
+    let mut reports = Vec::new(rt.alloc());
     for after in 0..count {
-        let part = count - 1 - after;
-        let places = Places::of_part(torrent, part, count);
-        let mut shelf = MemShelf::new(rt.alloc(), &*files);
-        let report = check_part(rt.alloc(), torrent, &mut shelf, places)?;
-        let mut out = sink(rt)?;
-        let _ = print_part(&report, torrent, part, count, &mut out);
-        let mut text = Vec::new(rt.alloc());
-        text.extend_from_slice(out.written())?;
-        texts.push(text)?;
+        reports.push(report_of(rt, torrent, files, count - 1 - after, count)?)?;
+    }
+    Ok(reports)
+}
+
+fn report_of(
+    rt: &HostRuntime,
+    torrent: &Torrent<'_>,
+    files: &[MemFile<'_>],
+    part: u64,
+    count: u64,
+) -> io::Result<MemSink>
+    requires { part < count }
+{
+    let places = Places::of_part(torrent, part, count);
+    let mut shelf = MemShelf::new(rt.alloc(), files);
+    let report = check_part(rt.alloc(), torrent, &mut shelf, places)?;
+    let mut out = sink(rt)?;
+    let _ = print_part(&report, torrent, part, count, &mut out);
+    Ok(out)
+}
+
+fn texts_of<'r>(rt: &HostRuntime, reports: &'r [MemSink]) -> io::Result<Vec<&'r [u8]>> {
+    let mut texts = Vec::new(rt.alloc());
+    for report in reports {
+        texts.push(report.written())?;
     }
     Ok(texts)
 }
@@ -54,28 +99,22 @@ fn texts_of(
 fn join(
     rt: &HostRuntime,
     torrent: &Torrent<'_>,
-    texts: &[Vec<u8>],
+    texts: &[&[u8]],
 ) -> io::Result<Result<Vec<u8>, JoinFault>> {
-    let mut slices = Vec::new(rt.alloc());
-    for text in texts {
-        slices.push(text.as_slice())?;
-    }
-    match join_reports(rt.alloc(), torrent, &slices) {
+    match join_reports(rt.alloc(), torrent, texts) {
         Ok(report) => Ok(Ok(printed(rt, torrent, &report)?)),
         Err(fault) => Ok(Err(fault)),
     }
 }
 
 fn printed(rt: &HostRuntime, torrent: &Torrent<'_>, report: &Report) -> io::Result<Vec<u8>> {
-    let mut text = Vec::new(rt.alloc());
     let mut out = sink(rt)?;
     if report.files.len() == torrent.files().len()
         && report.v1.is_some() == torrent.v1().is_some()
     {
         let _ = print_report(report, torrent, &mut out);
     }
-    text.extend_from_slice(out.written())?;
-    Ok(text)
+    Ok(Vec::from_slice(rt.alloc(), out.written())?)
 }
 
 fn print_text(rt: &HostRuntime, text: &[u8]) -> io::Result<()> {
@@ -85,44 +124,33 @@ fn print_text(rt: &HostRuntime, text: &[u8]) -> io::Result<()> {
     }
 }
 
-// Takes a byte from a report, leaves one out, or gives one twice: each is refused for what it is.
+// Leaves a report out, takes a byte from it, or gives it twice: each is refused for what it is.
 fn refuse_all(
     rt: &HostRuntime,
     torrent: &Torrent<'_>,
-    mut texts: Vec<Vec<u8>>,
+    mut texts: Vec<&[u8]>,
     count: u64,
 ) -> io::Result<()> {
     let Some(first) = texts.pop() else {
         return Ok(());
     };
-    expect(
-        rt,
-        join(rt, torrent, &texts)?,
-        JoinFault::Missing(1, missing_of(count)),
-    )?;
-    let mut cut = Vec::new(rt.alloc());
-    cut.extend_from_slice(first.split_last().map_or(&[], |(_, front)| front))?;
-    texts.push(cut)?;
-    let place = texts.len() - 1;
-    expect(rt, join(rt, torrent, &texts)?, JoinFault::NoReport(place))?;
+    refuse(rt, torrent, &texts, JoinFault::Missing(1, count))?;
+    let place = texts.len();
+    texts.push(first.split_last().map_or(&[], |(_, front)| front))?;
+    refuse(rt, torrent, &texts, JoinFault::NoReport(place))?;
     texts.truncate(place);
-    let mut again = Vec::new(rt.alloc());
-    again.extend_from_slice(&first)?;
     texts.push(first)?;
-    texts.push(again)?;
-    expect(rt, join(rt, torrent, &texts)?, JoinFault::Twice(1))
+    texts.push(first)?;
+    refuse(rt, torrent, &texts, JoinFault::Twice(1))
 }
 
-// How many parts there are if that of the first is all there was.
-fn missing_of(count: u64) -> u64 {
-    count.max(1)
-}
-
-fn expect(
+fn refuse(
     rt: &HostRuntime,
-    answer: Result<Vec<u8>, JoinFault>,
+    torrent: &Torrent<'_>,
+    texts: &[&[u8]],
     fault: JoinFault,
 ) -> io::Result<()> {
+    let answer = join(rt, torrent, texts)?;
     if answer == Err(fault) {
         return Ok(());
     }

@@ -80,15 +80,18 @@ fn try_call(rt: &HostRuntime, world: &World<'_, '_>, call: Call, at_most: usize)
     };
     for at in 0..u64::MAX {
         let mut source = MemSource::new(content).at_most(at_most).fails_after(at);
-        match make(rt, world, call, &mut source)? {
+        let outcome = make(rt, world, call, &mut source)?;
+        let is_right = match outcome {
             Outcome::Done => {
                 let reads_once = at_most > 1 || at == (content.len() as u64).wrapping_add(1);
-                let is_right = source.failures() == 0 && reads_once;
-                judge(rt, name(call), "the source", at, is_right)?;
-                return count(rt, name(call), "the source", at);
+                source.failures() == 0 && reads_once
             }
-            Outcome::Faulted => judge(rt, name(call), "the source", at, source.failures() == 1)?,
-            Outcome::Wrong => judge(rt, name(call), "the source", at, false)?,
+            Outcome::Faulted => source.failures() == 1,
+            Outcome::Wrong => false,
+        };
+        judge(rt, name(call), "the source", at, is_right)?;
+        if let Outcome::Done = outcome {
+            return count(rt, name(call), "the source", at);
         }
     }
     Ok(())

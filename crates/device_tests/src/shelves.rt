@@ -69,14 +69,9 @@ fn try_file(rt: &HostRuntime, world: &World<'_, '_>, call: Call) -> io::Result<(
         ];
         let mut shelf = MemShelf::new(rt.alloc(), &files).at_most(world.at_most);
         let lost = make(rt, world, call, &mut shelf)?;
-        judge(rt, name(call), "a file", at, lost == shelf.failures())?;
-        judge(
-            rt,
-            name(call),
-            "a file",
-            at,
-            shelf.openings() == 2 || stops(call),
-        )?;
+        let opens_all = shelf.openings() == 2 || stops(call);
+        let is_right = lost == shelf.failures() && opens_all;
+        judge(rt, name(call), "a file", at, is_right)?;
         if lost == 0 {
             return count(rt, name(call), "a file", at);
         }

@@ -105,13 +105,17 @@ fn try_call(rt: &HostRuntime, world: &World<'_, '_>, call: Call, at_most: usize)
     judge(rt, name(call), "the sink", 0, done)?;
     for at in 0..u64::MAX {
         let mut out = sink(rt)?.at_most(at_most).fails_after(at);
-        if make(rt, world, call, &mut out)? {
-            let is_whole = is_written(call, &out, whole.written());
+        let is_done = make(rt, world, call, &mut out)?;
+        let is_right = if is_done {
             let has_none_empty = at_most > 1 || at == bytes_and_flushes(&out);
-            judge(rt, name(call), "the sink", at, is_whole && has_none_empty)?;
+            has_none_empty && is_written(call, &out, whole.written())
+        } else {
+            broke(&out, whole.written())
+        };
+        judge(rt, name(call), "the sink", at, is_right)?;
+        if is_done {
             return count(rt, name(call), "the sink", at);
         }
-        judge(rt, name(call), "the sink", at, broke(&out, whole.written()))?;
     }
     Ok(())
 }
@@ -139,24 +143,38 @@ fn make(
     out: &mut MemSink,
 ) -> io::Result<bool> {
     match call {
-        Call::WriteAll => Ok(write_all(out, world.text).is_ok()),
-        Call::WriteEscaped => Ok(write_escaped(out, ODD.as_bytes()).is_ok()),
-        Call::WritePath => Ok(write_path(out, &["a", ODD, "b"]).is_ok()),
-        Call::WriteLine => Ok(write_line(out, b"a line\n").is_ok()),
-        Call::FlushAfter => Ok(flush_after(out, Ok(())).is_ok()),
-        Call::Encode => make_encode(rt, world, out),
-        Call::WriteMessage => Ok(write(&Message::Reject(ask()), out).is_ok()),
-        Call::RootLine => Ok(root_line(&mut MemSource::new(world.a), out).is_ok()),
-        Call::Show => Ok(show(world.torrent, out).is_ok()),
-        Call::RefusalLine => Ok(refusal_line(&Refusal::Missing(Key::Name), &[], out).is_ok()),
-        Call::FaultLine => Ok(fault_line(&Fault::Truncated(ODD), out).is_ok()),
+        Call::Encode => Ok(make_encode(rt, world, out)),
         Call::PrintReport => make_report(rt, world, out),
         Call::PrintPart => make_part(rt, world, out),
         Call::Seed => make_seed(rt, world, out),
-        Call::ReplayReport => make_replay(rt, world, out, &mut sink(rt)?),
-        Call::ReplayAnswers => make_replay(rt, world, &mut sink(rt)?, out),
-        Call::Finish => make_finish(rt, world, out),
-        Call::Convert => Ok(convert(&mut MemSource::new(world.record), out).is_ok()),
+        Call::ReplayReport | Call::ReplayAnswers => make_replay(rt, world, call, out),
+        Call::Finish => Ok(make_finish(rt, world, out)),
+        _ => Ok(make_line(world, call, out)),
+    }
+}
+
+// A call that takes no memory.
+fn make_line(world: &World<'_, '_>, call: Call, out: &mut MemSink) -> bool {
+    match call {
+        Call::RootLine => root_line(&mut MemSource::new(world.a), out).is_ok(),
+        Call::Show => show(world.torrent, out).is_ok(),
+        Call::RefusalLine => refusal_line(&Refusal::Missing(Key::Name), &[], out).is_ok(),
+        Call::FaultLine => fault_line(&Fault::Truncated(ODD), out).is_ok(),
+        Call::Convert => convert(&mut MemSource::new(world.record), out).is_ok(),
+        _ => make_text(world, call, out),
+    }
+}
+
+// A call that writes what it is given.
+fn make_text(world: &World<'_, '_>, call: Call, out: &mut MemSink) -> bool {
+    match call {
+        Call::WriteAll => write_all(out, world.text).is_ok(),
+        Call::WriteEscaped => write_escaped(out, ODD.as_bytes()).is_ok(),
+        Call::WritePath => write_path(out, &["a", ODD, "b"]).is_ok(),
+        Call::WriteLine => write_line(out, b"a line\n").is_ok(),
+        Call::FlushAfter => flush_after(out, Ok(())).is_ok(),
+        Call::WriteMessage => write(&Message::Reject(ask()), out).is_ok(),
+        _ => false,
     }
 }
 
@@ -173,10 +191,10 @@ fn ask() -> Ask {
     }
 }
 
-fn make_encode(rt: &HostRuntime, world: &World<'_, '_>, out: &mut MemSink) -> io::Result<bool> {
+fn make_encode(rt: &HostRuntime, world: &World<'_, '_>, out: &mut MemSink) -> bool {
     match decode(rt.alloc(), world.text) {
-        Ok(value) if value.is_canonical() => Ok(encode(&value, out).is_ok()),
-        _ => Ok(false),
+        Ok(value) => value.is_canonical() && encode(&value, out).is_ok(),
+        Err(_) => false,
     }
 }
 
@@ -199,35 +217,57 @@ fn make_part(rt: &HostRuntime, world: &World<'_, '_>, out: &mut MemSink) -> io::
 }
 
 fn make_seed(rt: &HostRuntime, world: &World<'_, '_>, out: &mut MemSink) -> io::Result<bool> {
-    let files = world.files();
     let mut session: Session<'_, Flat> = Session::new(rt.alloc(), world.torrent, true)?;
-    let mut shelf = MemShelf::new(rt.alloc(), &files);
-    Ok(seed(rt.alloc(), &mut session, &mut shelf, out).is_ok())
+    Ok(seeds_files(rt, world, &mut session, out))
 }
 
-// Replays the record to a seeded session.
+// Whether a session was seeded from the two files.
+fn seeds_files(
+    rt: &HostRuntime,
+    world: &World<'_, '_>,
+    session: &mut Session<'_, Flat>,
+    out: &mut MemSink,
+) -> bool {
+    let files = world.files();
+    let mut shelf = MemShelf::new(rt.alloc(), &files);
+    seed(rt.alloc(), session, &mut shelf, out).is_ok()
+}
+
+// Replays the record to a seeded session, with the sink for the report or for the answers.
 fn make_replay(
     rt: &HostRuntime,
     world: &World<'_, '_>,
-    report: &mut MemSink,
-    answers: &mut MemSink,
+    call: Call,
+    out: &mut MemSink,
 ) -> io::Result<bool> {
-    let files = world.files();
     let mut session: Session<'_, Flat> = Session::new(rt.alloc(), world.torrent, true)?;
-    let mut shelf = MemShelf::new(rt.alloc(), &files);
-    let mut source = MemSource::new(world.record);
-    if seed(rt.alloc(), &mut session, &mut shelf, &mut sink(rt)?).is_err() {
+    if !seeds_files(rt, world, &mut session, &mut sink(rt)?) {
         return Ok(false);
     }
-    Ok(replay(rt.alloc(), &mut session, &mut source, report, Some(answers)).is_ok())
+    let mut other = sink(rt)?;
+    Ok(match call {
+        Call::ReplayReport => replays_record(rt, world, &mut session, out, &mut other),
+        _ => replays_record(rt, world, &mut session, &mut other, out),
+    })
+}
+
+fn replays_record(
+    rt: &HostRuntime,
+    world: &World<'_, '_>,
+    session: &mut Session<'_, Flat>,
+    report: &mut MemSink,
+    answers: &mut MemSink,
+) -> bool {
+    let mut source = MemSource::new(world.record);
+    replay(rt.alloc(), session, &mut source, report, Some(answers)).is_ok()
 }
 
 // Writes the torrent of the two files.
-fn make_finish(rt: &HostRuntime, world: &World<'_, '_>, out: &mut MemSink) -> io::Result<bool> {
+fn make_finish(rt: &HostRuntime, world: &World<'_, '_>, out: &mut MemSink) -> bool {
     let files = world.files();
     let mut shelf = MemShelf::new(rt.alloc(), &files);
     match gather(rt.alloc(), &mut shelf, "x", 16384, true) {
-        Ok(draft) => Ok(draft.finish(out).is_ok()),
-        Err(_) => Ok(false),
+        Ok(draft) => draft.finish(out).is_ok(),
+        Err(_) => false,
     }
 }
