@@ -113,13 +113,18 @@ fn add_again(
     let mut answer = draft.add(path, tree.length, tree.root, tree.layer, v1);
     if let Err(Refusal::NoMemory) = answer {
         name_refused(rt, "add")?;
-        if text_of(rt, draft)?.written() != before.written() {
-            print_changed(rt, "add")?;
-        }
+        compare_text(rt, draft, before.written())?;
         answer = draft.add(path, tree.length, tree.root, tree.layer, v1);
     }
     match answer {
         Ok(()) => Ok(()),
         Err(refusal) => print_refusal(rt, &refusal),
     }
+}
+
+fn compare_text(rt: &HostRuntime, draft: &Draft, before: &[u8]) -> io::Result<()> {
+    if text_of(rt, draft)?.written() != before {
+        print_changed(rt, "add")?;
+    }
+    Ok(())
 }

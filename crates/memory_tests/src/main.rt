@@ -26,7 +26,7 @@ use opening::Torrent;
 use parting::join_again;
 use replaying::replay_again;
 use session::NodeMap;
-use shelving::{bad_again, check_again, gather_again, report_again, seed_again};
+use shelving::{check_again, gather_again, report_again, seed_again};
 use std::{env, fs, io};
 
 // Makes the call. To a call that takes no messages the record is the content of a file, or what it
@@ -42,8 +42,7 @@ fn make_call<N: NodeMap>(
         "hybrid draft" => draft_again(rt, torrent, true),
         "gather" => gather_again(rt, record),
         "check" => check_again(rt, torrent, record),
-        "check_onto" => report_again(rt, torrent, record),
-        "check_with_bad_pieces" => bad_again(rt, torrent, record),
+        "check_onto" | "check_with_bad_pieces" => report_again(rt, torrent, record, call),
         "parts" => join_again(rt, torrent, record),
         "seed" => seed_again::<N>(rt, torrent, record),
         "replay" => replay_again::<N>(rt, torrent, record),
@@ -80,14 +79,17 @@ fn run(rt: &HostRuntime, torrent: &str, record: &str, map: &str, call: &str) -> 
     }
 }
 
+fn words(rt: &HostRuntime) -> io::Result<Vec<String>> {
+    let mut words = Vec::new(rt.alloc());
+    for word in env::args(rt)?.skip(1) {
+        words.push(word)?;
+    }
+    Ok(words)
+}
+
 fn main(rt: HostRuntime) -> io::Result<()> {
-    let mut words = env::args(&rt)?.skip(1);
-    let (Some(torrent), Some(record), Some(map), Some(call)) = (
-        words.next(),
-        words.next(),
-        words.next(),
-        words.next(),
-    ) else {
+    let words = words(&rt)?;
+    let [torrent, record, map, call] = words.as_slice() else {
         return eprintln!(rt; "usage: memory_tests TORRENT RECORD flat|paged CALL");
     };
     run(

@@ -18,16 +18,21 @@ pub(crate) fn join_again(
     torrent: &Torrent<'_>,
     content: &[u8],
 ) -> io::Result<()> {
-    let (first, second) = (
-        part_again(rt, torrent, content, 0)?,
-        part_again(rt, torrent, content, 1)?,
-    );
-    let texts = [first.written(), second.written()];
-    let mut answer = join_reports(rt.alloc(), torrent, &texts);
+    let first = part_again(rt, torrent, content, 0)?;
+    let second = part_again(rt, torrent, content, 1)?;
+    join_texts(rt, torrent, &[first.written(), second.written()])
+}
+
+fn join_texts(rt: &HostRuntime, torrent: &Torrent<'_>, texts: &[&[u8]]) -> io::Result<()> {
+    let answer = join_reports(rt.alloc(), torrent, texts);
     if let Err(JoinFault::NoMemory) = answer {
         name_refused(rt, "join_reports")?;
-        answer = join_reports(rt.alloc(), torrent, &texts);
+        return print_joined(rt, join_reports(rt.alloc(), torrent, texts));
     }
+    print_joined(rt, answer)
+}
+
+fn print_joined(rt: &HostRuntime, answer: Result<Report, JoinFault>) -> io::Result<()> {
     match answer {
         Ok(report) => print_verdicts(rt, &report),
         Err(fault) => println!(rt; "{fault:?}"),

@@ -11,31 +11,35 @@ use opening::Torrent;
 use parts::{BadCheckFault, check_with_bad_pieces};
 use seeding::{SeedFault, seed};
 use session::{NodeMap, Session};
-use std::{fmt, io};
+use std::io;
 
 /// The path that the torrents of the tests have for their file.
 pub(crate) const PATH: &[&str] = &["five"];
 
 /// Gathers a file of this content and an empty one, and prints the torrent.
 pub(crate) fn gather_again(rt: &HostRuntime, content: &[u8]) -> io::Result<()> {
+    let answer = gather_files(rt, content);
+    if let Err(GatherFault::NoMemory | GatherFault::List(ShelfFault::NoMemory)) = answer {
+        name_refused(rt, "gather")?;
+        return print_gathered(rt, gather_files(rt, content));
+    }
+    print_gathered(rt, answer)
+}
+
+fn gather_files(rt: &HostRuntime, content: &[u8]) -> Result<Draft, GatherFault> {
     let files = [
         MemFile::new(&["a", "b"], content),
         MemFile::new(&["c"], b""),
     ];
-    let mut answer = gather_files(rt, &files);
-    if let Err(GatherFault::NoMemory | GatherFault::List(ShelfFault::NoMemory)) = answer {
-        name_refused(rt, "gather")?;
-        answer = gather_files(rt, &files);
-    }
+    let mut shelf = MemShelf::new(rt.alloc(), &files);
+    gather(rt.alloc(), &mut shelf, "x", 16384, true)
+}
+
+fn print_gathered(rt: &HostRuntime, answer: Result<Draft, GatherFault>) -> io::Result<()> {
     match answer {
         Ok(draft) => print_draft(rt, &draft),
         Err(fault) => println!(rt; "{fault}"),
     }
-}
-
-fn gather_files(rt: &HostRuntime, files: &[MemFile<'_>]) -> Result<Draft, GatherFault> {
-    let mut shelf = MemShelf::new(rt.alloc(), files);
-    gather(rt.alloc(), &mut shelf, "x", 16384, true)
 }
 
 /// Checks that the torrent's file has this content, and prints the verdicts.
@@ -70,34 +74,66 @@ pub(crate) fn print_verdicts(rt: &HostRuntime, report: &Report) -> io::Result<()
     println!(rt; "{:?}", report.files.as_slice())
 }
 
-/// Checks the same with a report as it goes, and prints the report.
+/// Checks the same by `check_onto`, or by the call of this name, with a report as it goes, and
+/// prints the report.
 pub(crate) fn report_again(
     rt: &HostRuntime,
     torrent: &Torrent<'_>,
     content: &[u8],
+    call: &str,
 ) -> io::Result<()> {
     let files = [MemFile::new(PATH, content)];
     let mut shelf = MemShelf::new(rt.alloc(), &files);
     let mut out = MemSink::with_room(rt.alloc(), 256)?;
-    let mut answer = check_onto(rt.alloc(), torrent, &mut shelf, Lines::All, &mut out);
-    if let Err(CheckFault::NoMemory) = answer {
-        name_untouched(rt, "check_onto", &shelf, &out)?;
-        answer = check_onto(rt.alloc(), torrent, &mut shelf, Lines::All, &mut out);
+    if !checks(rt, torrent, &mut shelf, &mut out, call)? {
+        name_untouched(rt, call, &shelf, &out)?;
+        let _ = checks(rt, torrent, &mut shelf, &mut out, call)?;
     }
-    print_checked(rt, answer, &out)
+    print_bytes(rt, out.written())
 }
 
-/// Checks the same with the bad pieces of the file behind its line, and prints the report.
-pub(crate) fn bad_again(rt: &HostRuntime, torrent: &Torrent<'_>, content: &[u8]) -> io::Result<()> {
-    let files = [MemFile::new(PATH, content)];
-    let mut shelf = MemShelf::new(rt.alloc(), &files);
-    let mut out = MemSink::with_room(rt.alloc(), 256)?;
-    let mut answer = check_with_bad_pieces(rt.alloc(), torrent, &mut shelf, Lines::All, &mut out);
-    if let Err(BadCheckFault::NoMemory) = answer {
-        name_untouched(rt, "check_with_bad_pieces", &shelf, &out)?;
-        answer = check_with_bad_pieces(rt.alloc(), torrent, &mut shelf, Lines::All, &mut out);
+// Makes the call, and prints the verdicts or a fault, unless memory was refused. Returns whether
+// it was not.
+fn checks(
+    rt: &HostRuntime,
+    torrent: &Torrent<'_>,
+    shelf: &mut MemShelf<'_>,
+    out: &mut MemSink,
+    call: &str,
+) -> io::Result<bool> {
+    match call {
+        "check_with_bad_pieces" => checks_with_bad_pieces(rt, torrent, shelf, out),
+        _ => checks_onto(rt, torrent, shelf, out),
     }
-    print_checked(rt, answer, &out)
+}
+
+fn checks_onto(
+    rt: &HostRuntime,
+    torrent: &Torrent<'_>,
+    shelf: &mut MemShelf<'_>,
+    out: &mut MemSink,
+) -> io::Result<bool> {
+    match check_onto(rt.alloc(), torrent, shelf, Lines::All, out) {
+        Ok(report) => print_verdicts(rt, &report)?,
+        Err(CheckFault::NoMemory) => return Ok(false),
+        Err(fault) => println!(rt; "{fault}")?,
+    }
+    Ok(true)
+}
+
+// The bad pieces of the file stand behind its line.
+fn checks_with_bad_pieces(
+    rt: &HostRuntime,
+    torrent: &Torrent<'_>,
+    shelf: &mut MemShelf<'_>,
+    out: &mut MemSink,
+) -> io::Result<bool> {
+    match check_with_bad_pieces(rt.alloc(), torrent, shelf, Lines::All, out) {
+        Ok(report) => print_verdicts(rt, &report)?,
+        Err(BadCheckFault::NoMemory) => return Ok(false),
+        Err(fault) => println!(rt; "{fault}")?,
+    }
+    Ok(true)
 }
 
 // Names a call that failed, and prints `changed` if it opened a file, or used the sink.
@@ -112,18 +148,6 @@ fn name_untouched(
         print_changed(rt, call)?;
     }
     Ok(())
-}
-
-fn print_checked<E: fmt::Display + Drop>(
-    rt: &HostRuntime,
-    answer: Result<Report, E>,
-    out: &MemSink,
-) -> io::Result<()> {
-    match answer {
-        Ok(report) => print_verdicts(rt, &report)?,
-        Err(fault) => println!(rt; "{fault}")?,
-    }
-    print_bytes(rt, out.written())
 }
 
 /// Seeds a session from a file of this content, and prints its state.

@@ -101,13 +101,23 @@ fn answer_alike<N: NodeMap>(
                 length: 2,
                 proof: 46,
             };
-            if !are_same(&one.answer(&ask)?, &other.answer(&ask)?) {
+            if !answer_one(one, other, &ask)? {
                 return Ok(false);
             }
         }
         pairs /= 2;
     }
     Ok(true)
+}
+
+// Whether the two answer an ask alike.
+fn answer_one<N: NodeMap>(
+    one: &Session<'_, N>,
+    other: &Session<'_, N>,
+    ask: &Ask,
+) -> Result<bool, NoMemory> {
+    let answer = one.answer(ask)?;
+    Ok(are_same(&answer, &other.answer(ask)?))
 }
 
 fn are_same(one: &Answer, other: &Answer) -> bool {
