@@ -74,7 +74,7 @@ def test_make_says_how_far_it_is():
         status, told, calls = copy.make()
         assert status == 0, told
         libraries = [call.split()[0] for call in calls][:-1]
-        assert f"proving {len(libraries)} libraries, then btcheck: 15 to 20 minutes the first time" in told, told
+        assert f"proving {len(libraries)} libraries, then btcheck: 15 to 30 minutes the first time" in told, told
         assert sorted(copy.lines(told)) == sorted(libraries) and len(libraries) == len({*libraries}), told
         uses = dict(line.split("#")[0].strip().split(":") for line in open(f"{TOP}/crates.txt", encoding="utf-8") if ":" in line)
         for at, library in enumerate(libraries):
