@@ -12,7 +12,8 @@ use benc::{DeviceFault, FromRead, Source};
 use folders::{SeekShelf, Shelf, ShelfFault};
 use opening::Torrent;
 use std::alloc::{AllocError, Global};
-use std::fs::{self, File, Metadata};
+use std::convert::AsStr;
+use std::fs::{self, DirEntry, File, Metadata};
 use std::io::{self, ErrorKind, Seek, SeekFrom};
 
 /// The files below a folder. Opening follows symlinks, and fails at what is then no regular file.
@@ -33,6 +34,9 @@ pub struct Folder<'a> {
     reads_all: bool,
     progress: &'a Progress,
 }
+
+// A file that is read.
+type Reading<'a> = Counted<'a, FromRead<Noted<'a, File>>, String>;
 
 impl<'a> Folder<'a> {
     /// The folder with this path, for files that are listed. It need not be there.
@@ -96,12 +100,17 @@ impl<'a> Folder<'a> {
             return Ok(false);
         }
         'files: for file in torrent.files() {
-            let system_path = self.system_path(file.path.parts().as_slice())?;
-            if Identity::at(self.system.rt(), system_path.as_str()) == wanted {
+            if self.identity(file.path.parts().as_slice())? == wanted {
                 return Ok(true);
             }
         }
         Ok(false)
+    }
+
+    // Which file has these path components here.
+    fn identity(&self, path: &[&str]) -> Result<Option<Identity>, AllocError> {
+        let system_path = self.system_path(path)?;
+        Ok(Identity::at(self.system.rt(), system_path.as_str()))
     }
 
     fn fault(&mut self) -> DeviceFault
@@ -112,14 +121,14 @@ impl<'a> Folder<'a> {
     }
 
     // The file system's path of what has these path components here.
-    fn system_path(&self, path: &[&str]) -> Result<String, AllocError>
+    fn system_path<S: AsStr>(&self, path: &[S]) -> Result<String, AllocError>
         ensures { IfOk result (λ text. string_bytes text
-            ≡ system_path_below self.now.dir.now (map (λ s. s.now) path.now)) }
+            ≡ system_path_below self.now.dir.now (map S.text path.now)) }
     {
         let mut text = String::from_str(self.system.alloc(), self.dir)?;
         'parts: for part in path {
             text.push('/')?;
-            text.push_str(part)?;
+            text.push_str(part.as_str())?;
         }
         Ok(text)
     }
@@ -181,6 +190,14 @@ impl<'a> Folder<'a> {
         }
     }
 
+    // What reads a file, so many bytes of all behind the first one.
+    fn source(&self, file: File, name: String, before: u64) -> Reading<'a>
+        ensures { result.source.faults ≡ 0 }
+    {
+        let source = FromRead::new(Noted::new(file, self.system));
+        Counted::new(source, name, before, self.progress)
+    }
+
     // How many bytes stand before the file with this path.
     fn bytes_before(&mut self, path: &[&str]) -> u64
         ensures { self.new.faults ≡ self.old.faults }
@@ -212,19 +229,24 @@ impl<'a> Folder<'a> {
 
     // Lists one folder.
     fn list_folder(&self, folder: &[String], walk: &mut Walk) -> Result<(), ShelfFault> {
-        let alloc = self.system.alloc();
-        let parts = folder
-            .iter()
-            .map(|part| part.as_str())
-            .collect::<Vec<&str>>(alloc)?;
-        let system_path = self.system_path(parts.as_slice())?;
+        let system_path = self.system_path(folder)?;
         for entry in fs::read_dir(self.system.rt(), system_path).map_err(|e| self.unlisted(e))? {
-            let entry = entry.map_err(|e| self.unlisted(e))?;
-            let path = path_in(alloc, folder, entry.file_name())?;
-            let found = entry.metadata().map_err(|e| self.unlisted(e))?;
-            walk.note(path, &found)?;
+            self.list_entry(folder, entry, walk)?;
         }
         Ok(())
+    }
+
+    // Lists one entry of a folder.
+    fn list_entry(
+        &self,
+        folder: &[String],
+        entry: io::Result<DirEntry>,
+        walk: &mut Walk,
+    ) -> Result<(), ShelfFault> {
+        let entry = entry.map_err(|e| self.unlisted(e))?;
+        let found = entry.metadata().map_err(|e| self.unlisted(e))?;
+        let path = path_in(self.system.alloc(), folder, entry.file_name())?;
+        walk.note(path, &found)
     }
 }
 
@@ -274,20 +296,27 @@ impl Walk {
 
     // Takes up what has this path. Symlinks are not followed.
     fn note(&mut self, path: Vec<String>, found: &Metadata) -> Result<(), ShelfFault> {
+        if !found.is_file() && !found.is_dir() {
+            return Err(ShelfFault::Special(path));
+        }
+        self.put(path, found)?;
+        Ok(())
+    }
+
+    // Takes up a file or a folder.
+    fn put(&mut self, path: Vec<String>, found: &Metadata) -> Result<(), AllocError> {
         if found.is_file() {
             self.bytes = self.bytes.saturating_add(found.len());
-            self.files.push(path).map_err(AllocError::from)?;
-        } else if found.is_dir() {
-            self.folders.push(path).map_err(AllocError::from)?;
+            self.files.push(path)?;
         } else {
-            return Err(ShelfFault::Special(path));
+            self.folders.push(path)?;
         }
         Ok(())
     }
 }
 
 impl<'a> Shelf for Folder<'a> {
-    type File = Counted<'a, FromRead<Noted<'a, File>>, String>;
+    type File = Reading<'a>;
 
     // What the file system holds is not known.
     ghost contents = { λ _. record { under = λ _. None; listing = None } };
@@ -319,8 +348,7 @@ impl<'a> Shelf for Folder<'a> {
             Ok(None) => Ok(None),
             Ok(Some((file, name))) => {
                 self.keep(&file);
-                let source = FromRead::new(Noted::new(file, self.system));
-                Ok(Some(Counted::new(source, name, before, self.progress)))
+                Ok(Some(self.source(file, name, before)))
             }
             Err(_) => Err(self.fault()),
         }
@@ -342,11 +370,9 @@ impl SeekShelf for Folder<'_> {
         let Ok(found) = self.open_file_at(path, offset) else {
             return Err(self.fault());
         };
-        let Some((file, name)) = found else {
-            return Ok(None);
-        };
-        let source = FromRead::new(Noted::new(file, self.system));
-        let before = self.progress.read();
-        Ok(Some(Counted::new(source, name, before, self.progress)))
+        match found {
+            Some((file, name)) => Ok(Some(self.source(file, name, self.progress.read()))),
+            None => Ok(None),
+        }
     }
 }

@@ -12,8 +12,10 @@ pub(crate) struct Identity {
 impl Identity {
     /// The file with this path, if it is a regular one. Symlinks are followed.
     pub(crate) fn at(rt: &HostRuntime, path: &str) -> Option<Identity> {
-        let found = fs::metadata(rt, path).ok()?;
-        Identity::of(&found)
+        match fs::metadata(rt, path) {
+            Ok(found) => Identity::of(&found),
+            Err(_) => None,
+        }
     }
 
     /// What this was found to be, if it is a regular file.

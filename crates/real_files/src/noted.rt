@@ -42,7 +42,7 @@ impl<'s, W: Write> Write for Noted<'s, W> {
 
     fn write(&mut self, buf: &[u8]) -> io::Result<usize> {
         match self.device.write(buf) {
-            Ok(count) => Ok(count),
+            Ok(written) => Ok(written),
             Err(error) => {
                 self.system.note(Cause::Error(error));
                 Err(error)

@@ -11,12 +11,7 @@ use std::fs::File;
 pub fn create_output<'a>(system: &System, path: &'a str, inputs: &[&str]) -> Result<File, Fault<'a>>
     ensures { IfErr result (λ f. f ≡ Fault.Write path.entry) }
 {
-    let output = Identity::at(system.rt(), path);
-    if output.is_some()
-        && inputs
-            .iter()
-            .any(|input| Identity::at(system.rt(), input) == output)
-    {
+    if is_input(system.rt(), path, inputs) {
         system.note(Cause::IsInput);
         return Err(Fault::Write(path));
     }
@@ -27,4 +22,10 @@ pub fn create_output<'a>(system: &System, path: &'a str, inputs: &[&str]) -> Res
             Err(Fault::Write(path))
         }
     }
+}
+
+// Whether what has this path is the same file as one of the inputs.
+fn is_input(rt: &HostRuntime, path: &str, inputs: &[&str]) -> bool {
+    let output = Identity::at(rt, path);
+    output.is_some() && inputs.iter().any(|input| Identity::at(rt, input) == output)
 }

@@ -4,4 +4,4 @@ use Rattle.real_files.proofs.folder.Folder.system_path.Given as goal
 
 -- the components so far stand behind the folder
 abbrev pub invariant-parts : goal.invariant-parts
-invariant-parts l = string_bytes l.text ≡ system_path_below l.self.dir.now (map (λ s. s.now) (take l.part-index l.path))
+invariant-parts g l = string_bytes l.text ≡ system_path_below l.self.dir.now (map g.S.AsStr.text (take l.part-index l.path))
