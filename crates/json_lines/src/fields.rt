@@ -4,6 +4,7 @@ ghost use Rattle.std.specs.Str.{is_utf8};
 ghost use Rattle.hex.specs.Hex.{encode_lower};
 ghost use Rattle.serde_json.specs.Data.{number as number_member, put as with_member, string, unsigned};
 ghost use Rattle.serde_json.specs.View.{members_view};
+ghost use Rattle.json_lines.specs.Escapes.{unescaped};
 ghost use Rattle.json_lines.specs.Fits.{IsPut};
 ghost use Rattle.json_lines.specs.Numbers.{number_of};
 ghost use Rattle.json_lines.specs.Objects.{after_part, part_text, with_part, with_parts, with_text};
@@ -11,7 +12,7 @@ ghost use Rattle.json_lines.specs.Objects.{after_part, part_text, with_part, wit
 use crate::escapes::unescaped;
 use crate::form::Part;
 use crate::number::number;
-use crate::words::{split_dash, split_word};
+use crate::words::split_at_byte;
 use serde_json::{Map, Value, put};
 use std::alloc::{AllocError, Global};
 use std::str;
@@ -38,9 +39,23 @@ pub(crate) fn put_parts(
     put_parts(alloc, others, rest, members)
 }
 
-/// Puts a text under a key, or its bytes in hexadecimal under the key with `_hex` behind it if it
-/// is not UTF-8.
+/// Puts what a printed text stands for under a key, or its bytes in hexadecimal under the key with
+/// `_hex` behind it if it is not UTF-8.
 pub(crate) fn put_text(
+    alloc: Global,
+    key: &str,
+    text: &[u8],
+    members: &mut Map<String, Value>,
+) -> Result<(), AllocError>
+    ensures { OnOk result (members_view members.new.entries
+        ≡ with_text key.now (unescaped text.now) (members_view members.old.entries)) }
+{
+    let bytes = unescaped(alloc, text)?;
+    put_unescaped(alloc, key, &bytes, members)
+}
+
+// The same of the bytes that it stands for.
+fn put_unescaped(
     alloc: Global,
     key: &str,
     text: &[u8],
@@ -62,8 +77,8 @@ fn split_part<'a>(part: &Part, line: &'a [u8]) -> (&'a [u8], &'a [u8])
 {
     match part {
         Part::Text(_) => (line, &[]),
-        Part::Start(_) => split_dash(line),
-        Part::Word(_) | Part::Number(_) | Part::Name(_) => split_word(line),
+        Part::Start(_) => split_at_byte(line, b'-'),
+        Part::Word(_) | Part::Number(_) | Part::Name(_) => split_at_byte(line, b' '),
     }
 }
 
@@ -83,7 +98,7 @@ fn put_part(
         Part::Number(key) | Part::Start(key) => put_number(alloc, key, text, members),
         Part::Name(key) => put_name(alloc, key, text, members),
         Part::Text(key) => {
-            put_text(alloc, key, &unescaped(alloc, text)?, members)?;
+            put_text(alloc, key, text, members)?;
             Ok(true)
         }
     }
@@ -155,5 +170,5 @@ fn put_bytes(
     let mut name = String::from_str(alloc, key)?;
     name.push_str("_hex")?;
     let digits = hex::encode(alloc, bytes)?;
-    put_string(alloc, &name, &digits, members)
+    put(members, alloc, &name, Value::String(digits))
 }

@@ -7,7 +7,6 @@ ghost use Rattle.std.specs.String.{string_bytes};
 ghost use Rattle.json_lines.specs.Objects.{form_members, line_members, line_object};
 ghost use Rattle.json_lines.specs.Lines.{object_text};
 
-use crate::escapes::unescaped;
 use crate::fields::{put_parts, put_string, put_text};
 use crate::form::Form;
 use serde_json::{Map, Value, put};
@@ -68,6 +67,6 @@ fn whole(alloc: Global, line: &[u8]) -> Result<Map<String, Value>, AllocError>
     ensures { IfOk result (λ map. members_view map.entries ≡ line_members [] line.now) }
 {
     let mut map = Map::new(alloc);
-    put_text(alloc, "text", &unescaped(alloc, line)?, &mut map)?;
+    put_text(alloc, "text", line, &mut map)?;
     Ok(map)
 }

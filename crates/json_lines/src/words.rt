@@ -1,27 +1,14 @@
 //! The words of a line.
-ghost use Rattle.std.specs.Prelude.{◌≡◌, ◌≤◌, length};
+ghost use Rattle.std.specs.Prelude.{◌≡◌, ◌≤◌, ◌+◌, ◌==◌, not, length, take, drop};
 ghost use Rattle.std.specs.List.{prefix_len};
-ghost use Rattle.json_lines.specs.Words.{after_dash, after_word, before_dash, first_word, is_before_dash, is_of_line, is_of_word, line_length};
+ghost use Rattle.json_lines.specs.Words.{line_length};
 
-/// The word at the front of a line, and what follows the space behind it.
-pub(crate) fn split_word(line: &[u8]) -> (&[u8], &[u8])
-    ensures word { result.0.now ≡ first_word line.now }
-    ensures rest { result.1.now ≡ after_word line.now }
+/// What stands before the first byte of a line that is this one, and what follows that byte.
+pub(crate) fn split_at_byte(line: &[u8], byte: u8) -> (&[u8], &[u8])
+    ensures before { result.0.now ≡ take (prefix_len (λ b. not (b == byte)) line.now) line.now }
+    ensures rest { result.1.now ≡ drop (prefix_len (λ b. not (b == byte)) line.now + 1) line.now }
 {
-    let end = word_length(line);
-    let (word, rest) = line.split_at(end);
-    match rest {
-        [] => (word, rest),
-        [_, after @ ..] => (word, after),
-    }
-}
-
-/// What stands before the first dash of a line, and what follows the dash.
-pub(crate) fn split_dash(line: &[u8]) -> (&[u8], &[u8])
-    ensures before { result.0.now ≡ before_dash line.now }
-    ensures rest { result.1.now ≡ after_dash line.now }
-{
-    let end = dash_place(line);
+    let end = length_before(line, byte);
     let (before, rest) = line.split_at(end);
     match rest {
         [] => (before, rest),
@@ -34,36 +21,18 @@ pub(crate) fn line_length(text: &[u8]) -> usize
     ensures value { result ≡ line_length text.now }
     ensures bound { result ≤ length text.now }
 {
-    for (i, byte) in text.iter().enumerate() {
-        if *byte == b'\n' {
+    length_before(text, b'\n')
+}
+
+// How many bytes stand before the first one that is this one.
+fn length_before(text: &[u8], byte: u8) -> usize
+    ensures value { result ≡ prefix_len (λ b. not (b == byte)) text.now }
+    ensures bound { result ≤ length text.now }
+{
+    for (i, found) in text.iter().enumerate() {
+        if *found == byte {
             return i;
         }
     }
     text.len()
-}
-
-// How many bytes stand before the first space.
-fn word_length(line: &[u8]) -> usize
-    ensures value { result ≡ prefix_len is_of_word line.now }
-    ensures bound { result ≤ length line.now }
-{
-    for (i, byte) in line.iter().enumerate() {
-        if *byte == b' ' {
-            return i;
-        }
-    }
-    line.len()
-}
-
-// How many bytes stand before the first dash.
-fn dash_place(line: &[u8]) -> usize
-    ensures value { result ≡ prefix_len is_before_dash line.now }
-    ensures bound { result ≤ length line.now }
-{
-    for (i, byte) in line.iter().enumerate() {
-        if *byte == b'-' {
-            return i;
-        }
-    }
-    line.len()
 }

@@ -2,7 +2,7 @@ use Rattle.std.proofs.Common.{◌≡◌, subst}
 use Rattle.std.specs.Prelude.{OnOk}
 use Rattle.serde_json.specs.View.{members_view}
 use Rattle.json_lines.proofs.Utf8.{as_bytes, as_string}
-use Rattle.json_lines.proofs.fields.put_text.Goals as goal
+use Rattle.json_lines.proofs.fields.put_unescaped.Goals as goal
 
 pub returns-in-Ok : goal.returns-in-Ok
 returns-in-Ok c =

@@ -1,7 +1,0 @@
-use Rattle.std.proofs.Common.{◌≡◌, ◌+◌, drop}
-use Rattle.std.specs.List.{prefix_len}
-use Rattle.json_lines.specs.Words.{is_of_word}
-use Rattle.json_lines.proofs.words.word_length.Given as goal
-
-abbrev pub invariant-loop-i : goal.invariant-loop-i
-invariant-loop-i l = prefix_len is_of_word l.line ≡ l.i + prefix_len is_of_word (drop l.i l.line)
