@@ -5,10 +5,11 @@ use Rattle.benc.specs.Device.{SourceSeen}
 use Rattle.drafts.specs.Outline.{Outline}
 use Rattle.filetree.specs.declared.refusal.Refusal.TheVariants as refusals
 use Rattle.gathering.specs.Gathered.{DraftAdds, KeepsDigests}
-use Rattle.gathering.specs.Gathering.{FailsAt, HasGathered, LacksMemoryAt, Misses, Reads, RefusesAt}
+use Rattle.gathering.specs.Gathering.{FailsAt, Gathers, GathersAll, HasGathered, LacksMemoryAt, Misses, Reads, RefusesAt}
 use Rattle.gathering.specs.Hashing.{AreHashesOf}
 use Rattle.gathering.specs.declared.file_fault.FileFault.{FileFault}
 use Rattle.gathering.specs.declared.file_fault.FileFault.TheVariants as file
+use Rattle.gathering.specs.declared.gather_fault.GatherFault.{GatherFault}
 use Rattle.gathering.specs.declared.gathering.StoppedAt.{StoppedAt}
 use Rattle.gathering.specs.declared.hashing.FileHashes.{FileHashes}
 use Rattle.folders.specs.declared.shelf.Shelf.{Ghosts}
@@ -69,3 +70,8 @@ module _ {S F : Type 0} (shelf : Ghosts S F) (seen : F → SourceSeen) where
     AddsAll old paths d new (Ok u) =
         HasGathered shelf seen empty old old paths new d
     AddsAll old paths d new (Err stop) = StopsBefore old paths new stop
+
+    -- all listed files were added, or why not
+    abbrev pub GathersInto : S → S → Outline → Result (Unit {0}) GatherFault → Type 0
+    GathersInto old new d (Ok u) = GathersAll shelf seen empty old new d
+    GathersInto old new d (Err f) = Gathers shelf seen empty old new (Err f)

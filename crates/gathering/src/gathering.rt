@@ -5,14 +5,14 @@ ghost use Rattle.std.specs.Vec.{vec_capacity};
 ghost use Rattle.drafts.specs.Outline.{empty_outline};
 ghost use Rattle.folders.specs.Shelf.{path_bytes};
 ghost use Rattle.gathering.specs.Gathering.{Gathers, HasComponents};
-ghost use Rattle.gathering.specs.Steps.{AddsAll, AddsPath, AreWithin};
+ghost use Rattle.gathering.specs.Steps.{AddsAll, AddsPath, AreWithin, GathersInto};
+ghost use Rattle.pieces.specs.Pieces.{IsPieceLength};
 
 use crate::file_fault::FileFault;
 use crate::gather_fault::GatherFault;
 use crate::kind::TorrentKind;
 use crate::visiting::hash_file;
 use drafts::Draft;
-use filetree::Refusal;
 use folders::{BUFFER_LENGTH, Shelf};
 use hashtree::are_hashes;
 use std::alloc::Global;
@@ -53,13 +53,29 @@ pub fn gather<S: Shelf>(
         shelf.old shelf.new result }
     ensures stays { S.contents shelf.new ≡ S.contents shelf.old }
 {
-    let Some(kind) = TorrentKind::new(piece_length, hybrid) else {
-        return Err(GatherFault::Refused(Refusal::PieceLength, Vec::new(alloc)));
-    };
     let mut draft = match Draft::new(alloc, name, piece_length, hybrid) {
         Ok(draft) => draft,
         Err(refusal) => return Err(FileFault::from(refusal).at(Vec::new(alloc))),
     };
+    let kind = TorrentKind::new(piece_length, hybrid).unwrap();
+    add_listed(alloc, shelf, &mut draft, &kind)?;
+    Ok(draft)
+}
+
+// Lists the shelf, and adds all its files.
+fn add_listed<S: Shelf>(
+    alloc: Global,
+    shelf: &mut S,
+    draft: &mut Draft,
+    kind: &TorrentKind,
+) -> Result<(), GatherFault>
+    requires legal { IsPieceLength draft.old.piece_length }
+    requires piece_length { draft.old.piece_length ≡ kind.now.piece_length }
+    requires hybrid { draft.old.hybrid ≡ kind.now.hybrid }
+    ensures gathers { GathersInto S.Shelf S.File.seen draft.old shelf.old shelf.new draft.new
+        result }
+    ensures stays { S.contents shelf.new ≡ S.contents shelf.old }
+{
     let mut paths = match shelf.list() {
         Ok(paths) => paths,
         Err(fault) => return Err(GatherFault::List(fault)),
@@ -68,8 +84,8 @@ pub fn gather<S: Shelf>(
     let Ok(parts) = Vec::with_capacity(alloc, longest(&paths)) else {
         return Err(GatherFault::NoMemory);
     };
-    match add_files(alloc, shelf, &mut draft, &paths, parts, &kind) {
-        Ok(()) => Ok(draft),
+    match add_files(alloc, shelf, draft, &paths, parts, kind) {
+        Ok(()) => Ok(()),
         Err(stop) => Err(stop.fault.at(paths.swap_remove(stop.number))),
     }
 }
