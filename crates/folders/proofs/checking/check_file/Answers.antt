@@ -1,4 +1,4 @@
-use Rattle.std.proofs.Common.{◌∙◌, ap, sym, subst, map, Option, Some, None, Result, Ok, Err}
+use Rattle.std.proofs.Common.{rules, ◌∙◌, ap, sym, subst, map, Option, Some, None, Result, Ok, Err}
 use Rattle.benc.specs.declared.device.DeviceFault.{DeviceFault}
 use Rattle.opening.specs.Seen.{file_entry}
 use Rattle.folders.specs.Pass.{FindsVerdict}
@@ -144,3 +144,9 @@ returns-else-not-is_whole-clause-visits g c =
         follows = w.verdict-is;
       }
     ]
+
+pub returns-then-not-is_whole-clause-counts : goal.returns-then-not-is_whole-clause-counts
+returns-then-not-is_whole-clause-counts g c = search rules
+
+pub returns-else-not-is_whole-clause-counts : goal.returns-else-not-is_whole-clause-counts
+returns-else-not-is_whole-clause-counts g c = search rules
