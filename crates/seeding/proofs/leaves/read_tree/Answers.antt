@@ -1,4 +1,4 @@
-use Rattle.std.proofs.Common.{◌≡◌, ◌∙◌, refl}
+use Rattle.std.proofs.Common.{rules, ◌≡◌, ◌∙◌, refl}
 use Rattle.opening.specs.Seen.{tree_entry}
 use Rattle.folders.proofs.Layers.{unwrapped}
 use Rattle.folders.proofs.Pieces.{other_count, read_whole}
@@ -30,3 +30,54 @@ returns-in_err-finish-clause-memory g c =
     c.new-leaves.ensures.content (c.new-leaves.ensures.length ∙ shape) c.requires.tree.0
     c.in_err-finish.ensures.no_memory in
     at_err _ c.from_residual-in_err-finish.result (λ why is. fits)
+
+pub returns-in_err-take_all-clause-read : goal.returns-in_err-take_all-clause-read
+returns-in_err-take_all-clause-read g c = search rules
+
+pub returns-in_err-take_all-clause-length : goal.returns-in_err-take_all-clause-length
+returns-in_err-take_all-clause-length g c = search rules
+
+pub returns-in_err-take_all-clause-memory : goal.returns-in_err-take_all-clause-memory
+returns-in_err-take_all-clause-memory g c = search rules
+
+pub returns-in_err-take_all-clause-counts : goal.returns-in_err-take_all-clause-counts
+returns-in_err-take_all-clause-counts g c = search rules
+
+pub returns-in_err-take_all-clause-no_further : goal.returns-in_err-take_all-clause-no_further
+returns-in_err-take_all-clause-no_further g c = search rules
+
+pub returns-then-ne-clause-length : goal.returns-then-ne-clause-length
+returns-then-ne-clause-length g c = search rules
+
+pub returns-then-ne-clause-memory : goal.returns-then-ne-clause-memory
+returns-then-ne-clause-memory g c = search rules
+
+pub returns-then-ne-clause-counts : goal.returns-then-ne-clause-counts
+returns-then-ne-clause-counts g c = search rules
+
+pub returns-then-ne-clause-no_further : goal.returns-then-ne-clause-no_further
+returns-then-ne-clause-no_further g c = search rules
+
+pub returns-in_err-finish-clause-read : goal.returns-in_err-finish-clause-read
+returns-in_err-finish-clause-read g c = search rules
+
+pub returns-in_err-finish-clause-length : goal.returns-in_err-finish-clause-length
+returns-in_err-finish-clause-length g c = search rules
+
+pub returns-in_err-finish-clause-counts : goal.returns-in_err-finish-clause-counts
+returns-in_err-finish-clause-counts g c = search rules
+
+pub returns-in_err-finish-clause-no_further : goal.returns-in_err-finish-clause-no_further
+returns-in_err-finish-clause-no_further g c = search rules
+
+pub returns-clause-length : goal.returns-clause-length
+returns-clause-length g c = search rules
+
+pub returns-clause-memory : goal.returns-clause-memory
+returns-clause-memory g c = search rules
+
+pub returns-clause-counts : goal.returns-clause-counts
+returns-clause-counts g c = search rules
+
+pub returns-clause-no_further : goal.returns-clause-no_further
+returns-clause-no_further g c = search rules
