@@ -48,6 +48,22 @@ too_long_file old new more =
       omega (arith, longer.1, more.2),
     )
 
+-- a source that was taken whole, and is empty
+pub empty_read : (old new : SourceSeen) (before after : RootBuilder) (count : ℕ) → TookAll Feeds old new (2 ^ 46) before after count → count ≡ 0
+    → (file : List ℕ) × IsFileOfSource old new file × (file ≡ [])
+empty_read old new before after count read none = (
+  read.bytes,
+  record {
+    agrees = λ known is. all_given old new read.bytes known read.gave read.ended is;
+    taken = λ short. read.gave.falls;
+  },
+  nothing read.bytes (read.count_is ∙ none),
+)
+  where
+    nothing : (bytes : List ℕ) → length bytes ≡ 0 → bytes ≡ []
+    nothing [] none = refl
+    nothing (b ∷ bs) none = absurd (omega (arith, none))
+
 -- a source that was taken whole, and is not empty
 pub root_read : (old new : SourceSeen) (before after : RootBuilder) (count len : ℕ) (root : List ℕ)
     → TookAll Feeds old new (2 ^ 46) before after count → (count ≡ 0 → ⊥) → byte_count before ≡ 0 → IsFed before []

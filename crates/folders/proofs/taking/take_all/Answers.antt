@@ -68,3 +68,33 @@ parts-preserved g c =
 
 pub parts-smaller : goal.parts-smaller
 parts-smaller g c = search rules
+
+pub returns-in_err-taken-clause-no_further : goal.returns-in_err-taken-clause-no_further
+returns-in_err-taken-clause-no_further g c = search rules
+
+pub returns-in_err-taken-clause-blamed : goal.returns-in_err-taken-clause-blamed
+returns-in_err-taken-clause-blamed g c = search rules
+
+pub returns-in_err-taken-clause-counts : goal.returns-in_err-taken-clause-counts
+returns-in_err-taken-clause-counts g c = search rules
+
+pub returns-in_err-taken-clause-read : goal.returns-in_err-taken-clause-read
+returns-in_err-taken-clause-read g c = search rules
+
+pub returns-then-count-bound-clause-no_further : goal.returns-then-count-bound-clause-no_further
+returns-then-count-bound-clause-no_further g c = search rules
+
+pub returns-then-count-bound-clause-blamed : goal.returns-then-count-bound-clause-blamed
+returns-then-count-bound-clause-blamed g c = search rules
+
+pub returns-then-count-bound-clause-counts : goal.returns-then-count-bound-clause-counts
+returns-then-count-bound-clause-counts g c = search rules
+
+pub returns-then-taken-room-clause-no_further : goal.returns-then-taken-room-clause-no_further
+returns-then-taken-room-clause-no_further g c = search rules
+
+pub returns-then-taken-room-clause-blamed : goal.returns-then-taken-room-clause-blamed
+returns-then-taken-room-clause-blamed g c = search rules
+
+pub returns-then-taken-room-clause-counts : goal.returns-then-taken-room-clause-counts
+returns-then-taken-room-clause-counts g c = search rules
