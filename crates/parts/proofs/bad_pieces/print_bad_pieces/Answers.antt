@@ -1,4 +1,4 @@
-use Rattle.std.proofs.Common.{◌∙◌, map, Option, Some, None, Result, Ok, refl, ap, subst}
+use Rattle.std.proofs.Common.{rules, ◌∙◌, map, Option, Some, None, Result, Ok, refl, ap, subst}
 use Rattle.benc.specs.declared.device.DeviceFault.{DeviceFault}
 use Rattle.opening.specs.Seen.{file_entry}
 use Rattle.folders.specs.Shelf.{IsFound}
@@ -43,3 +43,27 @@ returns-in-Ok-None-clause-lines g c =
     let path = ap (map (λ s. s.now)) c.deref.ensures.0 ∙ c.parts.ensures in
     let here : IsFound (under (map (λ s. s.now) c.deref.result.now)) None = rw c.in-Ok-None.field-0-is at c.in-Ok-None.ensures.found in
     (gone_agrees (under c.args.file.now.path) (subst (λ p. IsFound (under p) None) path here), refl)
+
+pub returns-in-Ok-Some-clause-stays : goal.returns-in-Ok-Some-clause-stays
+returns-in-Ok-Some-clause-stays g c = search rules
+
+pub returns-in-Ok-None-clause-once : goal.returns-in-Ok-None-clause-once
+returns-in-Ok-None-clause-once g c = search rules
+
+pub returns-in-Ok-None-clause-counts : goal.returns-in-Ok-None-clause-counts
+returns-in-Ok-None-clause-counts g c = search rules
+
+pub returns-in-Ok-None-clause-stays : goal.returns-in-Ok-None-clause-stays
+returns-in-Ok-None-clause-stays g c = search rules
+
+pub returns-in-Err-clause-lines : goal.returns-in-Err-clause-lines
+returns-in-Err-clause-lines g c = search rules
+
+pub returns-in-Err-clause-once : goal.returns-in-Err-clause-once
+returns-in-Err-clause-once g c = search rules
+
+pub returns-in-Err-clause-counts : goal.returns-in-Err-clause-counts
+returns-in-Err-clause-counts g c = search rules
+
+pub returns-in-Err-clause-stays : goal.returns-in-Err-clause-stays
+returns-in-Err-clause-stays g c = search rules
