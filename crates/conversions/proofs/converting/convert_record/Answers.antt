@@ -1,4 +1,4 @@
-use Rattle.std.proofs.Common.{take, subst, sym, ◌∙◌}
+use Rattle.std.proofs.Common.{rules, take, subst, sym, ◌∙◌}
 use Rattle.std.proofs.lemmas.Result.{err_from_is_err_and}
 use Rattle.conversions.specs.Steps.{EndsForm1}
 use Rattle.conversions.proofs.Fronts.{one_from_test}
@@ -28,3 +28,18 @@ returns-in_err-flush g c =
     (W.seen c.flush.new.out)
     (subst (λ b. EndsForm1 b (S.seen c.args.source.now) (S.seen c.convert_rest.new.source) (W.seen c.args.out.now) (W.seen c.convert_rest.new.out))
     c.if-not-whole.false e) c.in_err-flush.ensures)
+
+pub returns-in_err-held : goal.returns-in_err-held
+returns-in_err-held g c = search rules
+
+pub returns-then-starts_with : goal.returns-then-starts_with
+returns-then-starts_with g c = search rules
+
+pub returns-in_err-write_header : goal.returns-in_err-write_header
+returns-in_err-write_header g c = search rules
+
+pub returns-in_err-whole : goal.returns-in_err-whole
+returns-in_err-whole g c = search rules
+
+pub returns : goal.returns
+returns g c = search rules

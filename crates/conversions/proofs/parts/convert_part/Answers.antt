@@ -1,4 +1,5 @@
-use Rattle.std.proofs.Common.{◌≡◌, ◌-◌, ◌+◌, ◌++◌, length, take, drop, ap, subst, arith}
+use Rattle.std.proofs.Common.{rules, ◌≡◌, ◌-◌, ◌+◌, ◌++◌, length, take, drop, ap, subst, arith}
+use Rattle.std.proofs.lemmas.Grind.{common_steps}
 use Rattle.std.proofs.lemmas.List.{length-drop, take_rest}
 use Rattle.std.proofs.lemmas.Result.{err_from_is_err_and}
 use Rattle.conversions.specs.Steps.{ConvertsFurther, Reached}
@@ -73,3 +74,21 @@ frames-preserved g c =
             held = e.2;
           };
     }
+
+pub returns-in_err-done-clause-within : goal.returns-in_err-done-clause-within
+returns-in_err-done-clause-within g c = search rules
+
+pub returns-in_err-done-clause-waits : goal.returns-in_err-done-clause-waits
+returns-in_err-done-clause-waits g c = search rules
+
+pub returns-in_default-clause-within : goal.returns-in_default-clause-within
+returns-in_default-clause-within g c = search rules
+
+pub returns-in_default-clause-waits : goal.returns-in_default-clause-waits
+returns-in_default-clause-waits g c = grind (arith, common_steps)
+
+pub returns-in_err-left-clause-within : goal.returns-in_err-left-clause-within
+returns-in_err-left-clause-within g c = search rules
+
+pub returns-in_err-left-clause-waits : goal.returns-in_err-left-clause-waits
+returns-in_err-left-clause-waits g c = search rules
