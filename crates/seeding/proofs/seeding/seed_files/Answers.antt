@@ -1,4 +1,4 @@
-use Rattle.std.proofs.Common.{◌≡◌, ◌∙◌, Result, Err, ap, subst, sym}
+use Rattle.std.proofs.Common.{rules, ◌≡◌, ◌∙◌, Result, Err, ap, subst, sym}
 use Rattle.std.proofs.lemmas.Result.{err_from_is_err_and}
 use Rattle.benc.specs.Device.{SinkSeen, SourceSeen}
 use Rattle.folders.specs.declared.shelf.Shelf.{Ghosts}
@@ -65,3 +65,6 @@ files-preserved g c =
           (file_there c.args.session.now.torrent c.files-entries.result.now c.files.file-index c.file-item.result files c.files-test.true c.file-item.is)
           c.files.invariant.so_far c.in_ok-seeded.ensures.seeds c.in_ok-write_line_of.ensures;
     }
+
+pub files-init : goal.files-init
+files-init g c = search rules
