@@ -1,4 +1,4 @@
-use Rattle.std.proofs.Common.{◌≡◌, ◌+◌, ◌-◌, ◌≤◌, ◌++◌, length, take, drop, ◌∙◌, arith, subst}
+use Rattle.std.proofs.Common.{rules, ◌≡◌, ◌+◌, ◌-◌, ◌≤◌, ◌++◌, length, take, drop, ◌∙◌, arith, subst}
 use Rattle.std.proofs.lemmas.List.{length-append, length-drop, length-take-le, take-append-le}
 use Rattle.wire.proofs.Giving.{Gave-trans}
 use Rattle.parts.proofs.reading.take_exactly.Goals as goal
@@ -64,3 +64,27 @@ parts-preserved g c =
       room = g.met.T.Consumer.room_left c.parts.consumer c.take.new.self (take taken new) _ took
           (subst (g.T.Consumer.has_room c.parts.consumer) left c.parts.invariant.room);
     }
+
+pub returns-in_err-taken-clause-read : goal.returns-in_err-taken-clause-read
+returns-in_err-taken-clause-read g c = search rules
+
+pub returns-in_err-taken-clause-no_further : goal.returns-in_err-taken-clause-no_further
+returns-in_err-taken-clause-no_further g c = search rules
+
+pub returns-in_err-taken-clause-counts : goal.returns-in_err-taken-clause-counts
+returns-in_err-taken-clause-counts g c = search rules
+
+pub returns-then-taken-room-clause-no_further : goal.returns-then-taken-room-clause-no_further
+returns-then-taken-room-clause-no_further g c = search rules
+
+pub returns-then-taken-room-clause-counts : goal.returns-then-taken-room-clause-counts
+returns-then-taken-room-clause-counts g c = search rules
+
+pub returns-clause-read : goal.returns-clause-read
+returns-clause-read g c = search rules
+
+pub returns-clause-no_further : goal.returns-clause-no_further
+returns-clause-no_further g c = search rules
+
+pub returns-clause-counts : goal.returns-clause-counts
+returns-clause-counts g c = search rules
