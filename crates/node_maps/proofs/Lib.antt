@@ -1,4 +1,5 @@
 pub mod Places
+pub mod InUse
 pub mod Known
 pub mod Nodes
 pub mod Runs
@@ -11,3 +12,4 @@ pub mod Numbers
 pub mod Paging
 pub mod Rows
 pub mod Counted
+pub mod FlatRows

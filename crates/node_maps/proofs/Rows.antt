@@ -5,19 +5,19 @@ use Rattle.std.proofs.Common.{◌∙◌, subst, arith}
 use Rattle.std.specs.Prelude.{slice_get}
 use Rattle.std.specs.Option.{option_and_then, option_map, unwrap_or}
 use Rattle.std.proofs.Math.ListN.{set}
-use Rattle.std.proofs.lemmas.Bool.{false≢true}
+use Rattle.std.proofs.lemmas.Bool.{cases_eq, false≢true}
 use Rattle.std.proofs.lemmas.Option.{slice_get_past, slice_get_read}
 use Rattle.node_maps.specs.declared.paged_row.PagedRow.{PagedRow}
 use Rattle.node_maps.specs.declared.page.Cell.{Cell}
 use Rattle.node_maps.specs.Cell.{with_hash}
 use Rattle.node_maps.specs.Digest.{Hash}
-use Rattle.node_maps.specs.Pages.{cell_of}
+use Rattle.node_maps.specs.Pages.{cell_of, AreSpare}
 use Rattle.node_maps.specs.PagedRow.{pages_of, cell_of_row, AreSameRowCells, AreSameRowCellsBut, HasRowPages, KeepsRowPages}
 use Rattle.node_maps.specs.Paged.{page_at, cell_at, row_pages, held_below, AreSamePagedCells, AreSamePagedCellsBut, KeepPages, AreAsMany}
-use Rattle.node_maps.specs.Paged.{GrowsBy, HasPages}
+use Rattle.node_maps.specs.Paged.{AreNotMore, AreTrimmed, GrowsBy, HasPages}
 
 -- what holds of the item that is written, and of each that stays, holds at each place
-each_item : {X : Type 0} (P : ℕ → Option X → Option X → Type 0) (xs : List X) (i : ℕ) (x y : X) → i < length xs → x ≡ get_or xs i x
+pub each_item : {X : Type 0} (P : ℕ → Option X → Option X → Type 0) (xs : List X) (i : ℕ) (x y : X) → i < length xs → x ≡ get_or xs i x
     → P i (Some x) (Some y) → ((l : ℕ) (o : Option X) → P l o o) → (l : ℕ) → P l (slice_get xs l) (slice_get (set xs i y) l)
 each_item P [] i x y low is here stays l = absurd (omega arith)
 each_item P (a ∷ xs) zero x y low is here stays zero = subst (λ o. P zero o (Some y)) (ap Some is) here
@@ -81,6 +81,23 @@ module _ (rows : List PagedRow) (layer : ℕ) (row new : PagedRow) (low : layer 
   row-grows more grows = record {
     here = this_item (λ o p. count p ≤ count o + more) rows layer row new low is grows;
     others = λ l other. each_item (λ k o p. k ≢ layer → count p ≡ count o) rows layer row new low is (λ other. absurd (other refl)) (λ _ _ _. refl) l other;
+  }
+
+  pub row-fewer : new.count ≤ row.count → AreNotMore rows (set rows layer new)
+  unfolding count
+  row-fewer fewer l = each_item (λ _ o p. count p ≤ count o) rows layer row new low is fewer (λ _ _. omega arith) l
+
+  pub row-trimmed : AreSpare (pages_of new) [] → AreTrimmed rows layer → AreTrimmed (set rows layer new) (layer + 1)
+  row-trimmed spare before = record {
+    full = λ l r below there. elim (cases_eq l layer) [
+      | inl same ↦ this_item (λ _ (p : Option PagedRow). p ≡ Some r → AreSpare (pages_of r) []) rows layer row new low is
+          (λ e. (let whole : new ≡ r = cc in subst (λ (x : PagedRow). AreSpare (pages_of x) []) whole spare))
+          (subst (λ k. slice_get (set rows layer new) k ≡ Some r) same there)
+      | inr other ↦
+          let stays : slice_get (set rows layer new) l ≡ slice_get rows l =
+          each_item (λ k (o p : Option PagedRow). k ≢ layer → p ≡ o) rows layer row new low is (λ other. absurd (other refl)) (λ _ _ _. refl) l other in
+          before.full l r (omega arith) (sym stays ∙ there)
+    ];
   }
 
 -- a row reads as what the rows say of its layer

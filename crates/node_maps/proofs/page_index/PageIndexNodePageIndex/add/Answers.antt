@@ -1,9 +1,10 @@
-use Rattle.std.proofs.Common.{◌≡◌, ℕ, ◌/◌, ◌^◌, Some, length, sym, ap, ◌∙◌, subst}
+use Rattle.std.proofs.Common.{◌≡◌, ℕ, ◌/◌, ◌^◌, Some, length, sym, ap, ◌∙◌, subst, arith}
 use Rattle.std.specs.List.{insert}
 use Rattle.std.proofs.lemmas.Result.{on_ok_weaker, on_err_weaker}
 use Rattle.node_maps.specs.Rising.{AreRising, IsNumberAt, IsGapFor}
-use Rattle.node_maps.specs.Pages.{find_under}
-use Rattle.node_maps.proofs.Rising.{rising-insert, insert-beside}
+use Rattle.node_maps.specs.Pages.{find_under, AreInUse}
+use Rattle.node_maps.proofs.Rising.{rising-insert, insert-beside, within_items}
+use Rattle.node_maps.proofs.InUse.{in_use-set, in_use-insert}
 use Rattle.node_maps.proofs.Pages.{under_there, under-set, under-alike, under-insert}
 use Rattle.node_maps.proofs.page_index.PageIndexNodePageIndex.add.Goals as goal
 
@@ -59,3 +60,28 @@ returns-in_ok-add-in-Err-clause-ok g c =
     ∙ under-insert find s.numbers.items s.lists.items s.rising s.beside s.shift c.args.number c.in-Err.at gap (find c.new-list.result) c.new-list.ensures.none
     c.add-in-Err.new.self (Some c.args.page)
     c.in_ok-add-in-Err.ensures.ok n
+
+pub insert_reserved-requires-in-Err-clause-within : goal.insert_reserved-requires-in-Err-clause-within
+insert_reserved-requires-in-Err-clause-within g c =
+    let s = c.args.self.now in
+    let gap = subst (λ ns. IsGapFor ns (c.args.number / 2 ^ s.shift) c.in-Err.at) c.deref.ensures.value c.in-Err.ensures.gap in
+    omega (arith, gap.in_range, s.beside, ap length c.make_room.ensures.items)
+
+pub returns-in-Ok-clause-in_use : goal.returns-in-Ok-clause-in_use
+returns-in-Ok-clause-in_use g c =
+    let s = c.args.self.now in
+    let key : ℕ = c.args.number / 2 ^ s.shift in
+    let is = subst (λ ns. IsNumberAt ns key c.in-Ok.at) c.deref.ensures.value c.in-Ok.ensures.at in
+    in_use-set g.D.PageIndex.entries g.D.PageIndex.in_use s.lists.items c.in-Ok.at c.add.new.self c.index_mut-list.result.now
+    (within_items s.numbers.items s.lists.items s.rising s.beside key c.in-Ok.at is) c.index_mut-list.ensures.value c.add.result c.add.ensures.some
+    c.add.ensures.kept c.add.ensures.in_use
+
+pub returns-in_ok-add-in-Err-clause-in_use : goal.returns-in_ok-add-in-Err-clause-in_use
+returns-in_ok-add-in-Err-clause-in_use g c =
+    let entries = g.D.PageIndex.entries in
+    let in_use = g.D.PageIndex.in_use in
+    let w = c.add-in-Err.new.self in
+    λ used. subst (AreInUse entries in_use)
+    (sym (c.insert_reserved-in-Err.ensures.items ∙ ap (λ xs. insert xs c.in-Err.at w) c.make_room.ensures.items))
+    (in_use-insert entries in_use c.args.self.now.lists.items c.in-Err.at w c.in_ok-add-in-Err.ensures.some (c.add-in-Err.ensures.in_use c.new-list.ensures.in_use)
+    used)

@@ -1,8 +1,9 @@
-use Rattle.std.proofs.Common.{◌≡◌, ◌*◌, ◌/◌, ◌∙◌, IsSome, inl, inr, sym, subst, arith}
+use Rattle.std.proofs.Common.{◌≡◌, ◌⊎◌, ◌+◌, ◌≤◌, ◌*◌, ◌/◌, ◌%◌, ℕ, ◌∙◌, IsSome, ap, inl, inr, sym, subst, vec_len, arith}
 use Rattle.std.proofs.lemmas.Bool.{cases_lt}
 use Rattle.node_maps.specs.Paged.{page_at}
+use Rattle.node_maps.specs.Pages.{cell_of}
 use Rattle.std.proofs.lemmas.Result.{on_ok_weaker, on_err_weaker}
-use Rattle.node_maps.proofs.Paging.{on_err, held-same, held-more, page_span-some}
+use Rattle.node_maps.proofs.Paging.{on_err, same-in_tree, held-same, held-more, page_span-some}
 use Rattle.node_maps.proofs.paged.PagedNodeMap.reserve.Goals as goal
 
 pub returns-in_err-add_rows-clause-refused : goal.returns-in_err-add_rows-clause-refused
@@ -32,3 +33,34 @@ returns-clause-few c = on_ok_weaker c.add_pages.result (λ grows. omega (
   held-same c.args.self.now.rows.items c.add_rows.new.rows.items c.add_rows.ensures.same,
   page_span-some c.args.from c.args.count c.if-count-eq0.false,
 )) c.add_pages.ensures.few
+
+rows_few : (old new layer height : ℕ) → layer ≤ height → old ≤ height + 1 → (new ≤ layer + 1) ⊎ (new ≡ old) → new ≤ height + 1
+rows_few old new layer height low few (inl most) = omega arith
+rows_few old new layer height low few (inr same) = omega arith
+
+pub invariant_of-self : goal.invariant_of-self
+invariant_of-self c =
+    let map = c.args.self.now in
+    let low : c.args.layer ≤ map.height = subst (λ h. c.args.layer ≤ h) (sym map.is_height) c.requires.layer in
+    let rows = c.add_rows.new.rows in
+    record {
+      is_height = map.is_height;
+      low = map.low;
+      few = rows_few (vec_len map.rows) (vec_len rows) c.args.layer map.height low map.few c.add_rows.ensures.most;
+      in_tree = same-in_tree map.height map.rows.items rows.items
+          (λ l i. ap (λ o. cell_of o (i % 512)) (c.add_rows.ensures.pages l (i / 512))) map.in_tree;
+    }
+
+pub invariant_of-self-2 : goal.invariant_of-self-2
+invariant_of-self-2 c =
+    let map = c.args.self.now in
+    let low : c.args.layer ≤ map.height = subst (λ h. c.args.layer ≤ h) (sym map.is_height) c.requires.layer in
+    let rows = c.add_pages.new.rows in
+    let most = rows_few (vec_len map.rows) (vec_len c.add_rows.new.rows) c.args.layer map.height low map.few c.add_rows.ensures.most in
+    record {
+      is_height = map.is_height;
+      low = map.low;
+      few = omega (arith, most, c.add_pages.ensures.len);
+      in_tree = same-in_tree map.height map.rows.items rows.items
+          (λ l i. c.add_pages.ensures.cells l i ∙ ap (λ o. cell_of o (i % 512)) (c.add_rows.ensures.pages l (i / 512))) map.in_tree;
+    }
