@@ -1,10 +1,11 @@
 -- The nodes of a folder, and how deep the values in it may be.
-use Rattle.std.proofs.Common.{◌≡◌, ℕ, ◌+◌, ◌-◌, ◌<◌, true, not, ◌&&◌, List, length, drop, get_or, Option, None, arith, subst, inl, inr}
-use Rattle.benc.specs.Text.{PairsFit}
-use Rattle.benc.specs.Value.{Pairs, pair}
+use Rattle.std.proofs.Common.{◌≡◌, ℕ, ◌+◌, ◌-◌, ◌<◌, Bool, true, false, not, ◌&&◌, ◌||◌, List, [], ◌∷◌, ◌++◌, length, drop, get_or, Option, None, arith, sym, ap, subst, inl, inr}
+use Rattle.std.proofs.lemmas.List.{length-append}
+use Rattle.benc.specs.Text.{Fits, PairsFit}
+use Rattle.benc.specs.Value.{Bencode, Pairs, dict, pair}
 use Rattle.benc.specs.View.{pair_view, pairs_view}
 use Rattle.benc.specs.declared.value.Pair.{Pair}
-use Rattle.filetree.specs.FileTree.{is_directory, is_nil, is_node}
+use Rattle.filetree.specs.FileTree.{HasBadPathIn, is_directory, is_file, is_nil, is_node}
 use Rattle.filetree.specs.Walked.{HasGoodPaths, IsFolderAt, IsNodeBelow}
 use Rattle.filetree.proofs.ComparedKeys.{and_both, not_is}
 use Rattle.filetree.proofs.Views.{pairs_next}
@@ -50,3 +51,18 @@ left_behind path xs i x lt is h =
     let next = next_left path xs i x lt is h in
     let both = and_both (not (is_nil (pair_view x).0) && is_node (pair_view x).1) (is_directory (pairs_view (drop (i + 1) xs))) next.shape in
     record { room = next.room; deep = next.deep; before = _; fits = next.fits.3; shape = both.1; good = record { good = λ bad. next.good.good (inr bad) } }
+
+-- the directory of a node that is no file
+pub folder_at : (path longer : List (List ℕ)) (k : List ℕ) (v : Bencode) (ps : Pairs) → longer ≡ path ++ k ∷ [] → v ≡ dict ps → is_file ps ≡ false
+    → IsNodeBelow path (k, v) → IsFolderAt longer ps
+folder_at path longer k v ps e is other h = record {
+  room = h.room;
+  deep = omega (arith, h.deep, ap length e, length-append path (k ∷ []));
+  fits = subst (Fits h.room) is h.fits;
+  shape = second (is_file ps) (is_directory ps) other (subst (λ w. is_node w ≡ true) is h.shape);
+  good = record { good = λ bad. h.good.good (h.named, inr (subst HasBadPathIn (sym is) bad)) };
+}
+  where
+    second : (a b : Bool) → a ≡ false → (a || b) ≡ true → b ≡ true
+    second true b f either = cc
+    second false b f either = either

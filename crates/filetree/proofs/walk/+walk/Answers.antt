@@ -2,13 +2,14 @@ use Rattle.std.proofs.Common.{◌≡◌, ◌∷◌, [], ◌++◌, ◌+◌, map, 
 use Rattle.benc.specs.Value.{dict, pair, no_pairs}
 use Rattle.benc.specs.View.{view, pairs_view, pair_view, Seen}
 use Rattle.filetree.specs.FileTree.{is_file, is_nil}
-use Rattle.filetree.specs.Walked.{walk_of, IsOnWay, AddsBehind, walks_at}
+use Rattle.filetree.specs.Walked.{walk_of, IsOnWay, IsNodeBelow, AddsBehind, walks_at}
 use Rattle.std.proofs.lemmas.List.{map-append}
 use Rattle.benc.proofs.Values.{view-Pair, view-Dict}
 use Rattle.filetree.proofs.Views.{pairs_next}
-use Rattle.filetree.proofs.Rooms.{all_left, left_behind, node_at}
+use Rattle.filetree.proofs.Rooms.{all_left, folder_at, left_behind, node_at}
 use Rattle.benc.specs.declared.value.Value.{the_lemmas}
 use Rattle.filetree.proofs.Walking.{file_node, walked_file, walked_on, walked_inner}
+use Rattle.std.proofs.lemmas.Grind.{common_steps}
 use Rattle.std.proofs.lemmas.Result.{on_ok_weaker}
 use Rattle.filetree.proofs.walk.+walk.Goals as goal
 
@@ -70,4 +71,18 @@ walk-walk_pair-requires t c = (
   search (rules, the_lemmas),
   node_at c.args.folder.now c.args.pairs.now c.pairs.pair-index c.pair-item.result (omega arith)
       c.pair-item.is c.pairs.invariant.1,
+)
+
+pub walk_pair-walk-requires : goal.walk_pair-walk-requires
+walk_pair-walk-requires t c = (
+  grind (arith, common_steps, the_lemmas),
+  (let x = c.args.pair.now in
+      let path = c.args.folder.now in
+      let inner : view x.value ≡ dict (pairs_view c.deref-2.result.now) = ap view c.in-Dict.is ∙ view-Dict c.in-Dict.inner
+      ∙ ap (λ ps. dict (pairs_view ps)) (sym c.deref-2.ensures.value) in
+      let farther : c.in_ok-below.below ≡ path ++ x.key.now ∷ [] = c.in_ok-below.ensures ∙ ap (λ n. path ++ n ∷ []) c.component-name.ensures in
+      let other : is_file (pairs_view c.deref-2.result.now) ≡ false = ap (λ ps. is_file (pairs_view ps)) (c.deref-2.ensures.value ∙ sym c.deref.ensures.value)
+      ∙ sym c.is_file.ensures ∙ c.if-is_file.false in
+      folder_at path c.in_ok-below.below x.key.now (view x.value) (pairs_view c.deref-2.result.now) farther inner other
+      (subst (IsNodeBelow path) (view-Pair x.key x.value) c.requires)),
 )
