@@ -1,5 +1,7 @@
 use Rattle.std.proofs.Common.{◌+◌, arith, ◌≡◌, ◌∙◌, sym, refl, true, false, drop, inl, subst}
+use Rattle.std.proofs.lemmas.Grind.{common_steps}
 use Rattle.benc.specs.View.{pair_view, pairs_view}
+use Rattle.benc.specs.declared.value.Value.{the_lemmas}
 use Rattle.filetree.specs.Walked.{IsAsBad}
 use Rattle.filetree.proofs.Views.{pairs_next}
 use Rattle.filetree.proofs.Walking.{as_bad}
@@ -19,3 +21,6 @@ has_bad_path-pairs-preserved t c =
     let way = subst (IsAsBad (pairs_view xs)) (pairs_next xs c.pairs.pair-index x (omega arith) c.pair-item.is) c.pairs.invariant in
     as_bad (pairs_view xs) (pairs_view (drop (c.pairs.pair-index + 1) xs)) (pair_view x) way (λ bad. let no = c.if-has_bad_path_at.false in let yes =
     c.has_bad_path_at.ensures.1 bad in let never : true ≡ false = sym yes ∙ no in cc)
+
+pub has_bad_path_in-has_bad_path-requires : goal.has_bad_path_in-has_bad_path-requires
+has_bad_path_in-has_bad_path-requires t c = grind (arith, common_steps, the_lemmas)
