@@ -56,61 +56,59 @@ fn write_answer(answer: &Option<Answer>, room: &mut [Hash], count: &mut u64) -> 
     }
 }
 
-impl Thing {
-    fn want(&mut self, tree: usize, block: u64, asked: &mut Asked) -> u32
-        ensures done { Wants tree block asked.new self.old.kind result self.new.kind }
-        ensures unwritten { result ≢ 0 → asked.new ≡ asked.old }
-    {
-        match &mut self.kind {
-            Kind::Root(_) | Kind::Check(_) => WRONG_HANDLE,
-            Kind::Session(session) => {
-                if session.has_block(tree, block) {
-                    write_want(session.want(tree, block), asked)
-                } else {
-                    NO_SUCH
-                }
+fn want(thing: &mut Thing, tree: usize, block: u64, asked: &mut Asked) -> u32
+    ensures done { Wants tree block asked.new thing.old.kind result thing.new.kind }
+    ensures unwritten { result ≢ 0 → asked.new ≡ asked.old }
+{
+    match &mut thing.kind {
+        Kind::Root(_) | Kind::Check(_) => WRONG_HANDLE,
+        Kind::Session(session) => {
+            if session.has_block(tree, block) {
+                write_want(session.want(tree, block), asked)
+            } else {
+                NO_SUCH
             }
         }
     }
+}
 
-    fn note(&mut self, ask: &Ask) -> u32
-        ensures { Notes ask.now self.old.kind result self.new.kind }
-    {
-        match &mut self.kind {
-            Kind::Root(_) | Kind::Check(_) => WRONG_HANDLE,
-            Kind::Session(session) => status_of_note(session.note(ask)),
-        }
+fn note(thing: &mut Thing, ask: &Ask) -> u32
+    ensures { Notes ask.now thing.old.kind result thing.new.kind }
+{
+    match &mut thing.kind {
+        Kind::Root(_) | Kind::Check(_) => WRONG_HANDLE,
+        Kind::Session(session) => status_of_note(session.note(ask)),
     }
+}
 
-    fn take_answer(&mut self, ask: &Ask, hashes: &[Hash], places: &mut u64) -> u32
-        ensures done { TakesAnswer ask.now hashes.now places.new self.old.kind result
-            self.new.kind }
-        ensures unwritten { result ≢ 0 → places.new ≡ places.old }
-    {
-        match &mut self.kind {
-            Kind::Root(_) | Kind::Check(_) => WRONG_HANDLE,
-            Kind::Session(session) => status_of_hashes(session.take_answer(ask, hashes), places),
-        }
+fn take_answer(thing: &mut Thing, ask: &Ask, hashes: &[Hash], places: &mut u64) -> u32
+    ensures done { TakesAnswer ask.now hashes.now places.new thing.old.kind result
+        thing.new.kind }
+    ensures unwritten { result ≢ 0 → places.new ≡ places.old }
+{
+    match &mut thing.kind {
+        Kind::Root(_) | Kind::Check(_) => WRONG_HANDLE,
+        Kind::Session(session) => status_of_hashes(session.take_answer(ask, hashes), places),
     }
+}
 
-    fn answer(&mut self, ask: &Ask, room: &mut [Hash], count: &mut u64) -> u32
-        ensures done { Answers ask.now room.new count.new self.old.kind result self.new.kind }
-        ensures unwritten { result ≢ 0 → (room.new ≡ room.old)
-            × (result ≢ 7 → count.new ≡ count.old) }
-    {
-        match &mut self.kind {
-            Kind::Root(_) | Kind::Check(_) => WRONG_HANDLE,
-            Kind::Session(session) => write_answer(&session.answer(ask), room, count),
-        }
+fn answer(thing: &mut Thing, ask: &Ask, room: &mut [Hash], count: &mut u64) -> u32
+    ensures done { Answers ask.now room.new count.new thing.old.kind result thing.new.kind }
+    ensures unwritten { result ≢ 0 → (room.new ≡ room.old)
+        × (result ≢ 7 → count.new ≡ count.old) }
+{
+    match &mut thing.kind {
+        Kind::Root(_) | Kind::Check(_) => WRONG_HANDLE,
+        Kind::Session(session) => write_answer(&session.answer(ask), room, count),
     }
+}
 
-    fn can_answer(&mut self, ask: &Ask) -> u32
-        ensures { AnswersIfAnswered ask.now self.old.kind result self.new.kind }
-    {
-        match &mut self.kind {
-            Kind::Root(_) | Kind::Check(_) => WRONG_HANDLE,
-            Kind::Session(session) => status_of_answer(session.can_answer(ask)),
-        }
+fn can_answer(thing: &mut Thing, ask: &Ask) -> u32
+    ensures { AnswersIfAnswered ask.now thing.old.kind result thing.new.kind }
+{
+    match &mut thing.kind {
+        Kind::Root(_) | Kind::Check(_) => WRONG_HANDLE,
+        Kind::Session(session) => status_of_answer(session.can_answer(ask)),
     }
 }
 
@@ -132,7 +130,7 @@ pub extern "C" fn btcheck_session_want(
     let Some(mut thing) = handle.take(alloc) else {
         return WRONG_HANDLE;
     };
-    let status = thing.want(tree, block, asked);
+    let status = want(&mut thing, tree, block, asked);
     handle.put(thing);
     status
 }
@@ -147,7 +145,7 @@ pub extern "C" fn btcheck_session_note(alloc: Global, handle: &mut Handle, asked
     let Some(mut thing) = handle.take(alloc) else {
         return WRONG_HANDLE;
     };
-    let status = thing.note(&read_ask(asked));
+    let status = note(&mut thing, &read_ask(asked));
     handle.put(thing);
     status
 }
@@ -169,7 +167,7 @@ pub extern "C" fn btcheck_session_take_answer(
     let Some(mut thing) = handle.take(alloc) else {
         return WRONG_HANDLE;
     };
-    let status = thing.take_answer(&read_ask(asked), hashes, places);
+    let status = take_answer(&mut thing, &read_ask(asked), hashes, places);
     handle.put(thing);
     status
 }
@@ -193,7 +191,7 @@ pub extern "C" fn btcheck_session_answer(
     let Some(mut thing) = handle.take(alloc) else {
         return WRONG_HANDLE;
     };
-    let status = thing.answer(&read_ask(asked), room, count);
+    let status = answer(&mut thing, &read_ask(asked), room, count);
     handle.put(thing);
     status
 }
@@ -212,7 +210,7 @@ pub extern "C" fn btcheck_session_can_answer(
     let Some(mut thing) = handle.take(alloc) else {
         return WRONG_HANDLE;
     };
-    let status = thing.can_answer(&read_ask(asked));
+    let status = can_answer(&mut thing, &read_ask(asked));
     handle.put(thing);
     status
 }

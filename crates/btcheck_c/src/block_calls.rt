@@ -10,16 +10,14 @@ use c_layouts::blocks_info::{BlocksInfo, write_blocks};
 use c_layouts::status::WRONG_HANDLE;
 use std::alloc::Global;
 
-impl Thing {
-    fn take_blocks(&mut self, index: u32, begin: u32, bytes: &[u8], out: &mut BlocksInfo) -> u32
-        ensures done { TakesBlocks index begin bytes.now out.new self.old.kind result
-            self.new.kind }
-        ensures unwritten { result ≢ 0 → out.new ≡ out.old }
-    {
-        match &mut self.kind {
-            Kind::Root(_) | Kind::Check(_) => WRONG_HANDLE,
-            Kind::Session(session) => write_blocks(session.take_blocks(index, begin, bytes), out),
-        }
+fn take_blocks(thing: &mut Thing, index: u32, begin: u32, bytes: &[u8], out: &mut BlocksInfo) -> u32
+    ensures done { TakesBlocks index begin bytes.now out.new thing.old.kind result
+        thing.new.kind }
+    ensures unwritten { result ≢ 0 → out.new ≡ out.old }
+{
+    match &mut thing.kind {
+        Kind::Root(_) | Kind::Check(_) => WRONG_HANDLE,
+        Kind::Session(session) => write_blocks(session.take_blocks(index, begin, bytes), out),
     }
 }
 
@@ -42,7 +40,7 @@ pub extern "C" fn btcheck_session_take_blocks(
     let Some(mut thing) = handle.take(alloc) else {
         return WRONG_HANDLE;
     };
-    let status = thing.take_blocks(index, begin, bytes, out);
+    let status = take_blocks(&mut thing, index, begin, bytes, out);
     handle.put(thing);
     status
 }

@@ -29,43 +29,41 @@ fn check_of(torrent: &Torrent<'static>, number: usize) -> Result<FileCheck, u32>
     }
 }
 
-impl Thing {
-    fn start_check(&mut self, number: usize) -> Result<FileCheck, u32>
-        ensures { StartsCheck number self.old.kind result self.new.kind }
-    {
-        match &mut self.kind {
-            Kind::Root(_) | Kind::Check(_) => Err(WRONG_HANDLE),
-            Kind::Session(session) => check_of(session.torrent(), number),
+fn start_check(thing: &mut Thing, number: usize) -> Result<FileCheck, u32>
+    ensures { StartsCheck number thing.old.kind result thing.new.kind }
+{
+    match &mut thing.kind {
+        Kind::Root(_) | Kind::Check(_) => Err(WRONG_HANDLE),
+        Kind::Session(session) => check_of(session.torrent(), number),
+    }
+}
+
+fn push_file(thing: &mut Thing, bytes: &[u8]) -> u32
+    ensures { PushesFile bytes.now thing.old.kind result thing.new.kind }
+{
+    match &mut thing.kind {
+        Kind::Root(_) | Kind::Session(_) => WRONG_HANDLE,
+        Kind::Check(check) => {
+            if bytes.len() as u64 > check.left() {
+                return TOO_LONG;
+            }
+            check.push(bytes);
+            DONE
         }
     }
+}
 
-    fn push_file(&mut self, bytes: &[u8]) -> u32
-        ensures { PushesFile bytes.now self.old.kind result self.new.kind }
-    {
-        match &mut self.kind {
-            Kind::Root(_) | Kind::Session(_) => WRONG_HANDLE,
-            Kind::Check(check) => {
-                if bytes.len() as u64 > check.left() {
-                    return TOO_LONG;
-                }
-                check.push(bytes);
-                DONE
+fn finish_file(thing: &mut Thing, piece: &mut u64) -> u32
+    ensures done { EndsCheck piece.new thing.old.kind result thing.new.kind }
+    ensures unwritten { result ≢ 10 → piece.new ≡ piece.old }
+{
+    match &mut thing.kind {
+        Kind::Root(_) | Kind::Session(_) => WRONG_HANDLE,
+        Kind::Check(check) => {
+            if check.left() > 0 {
+                return TOO_SHORT;
             }
-        }
-    }
-
-    fn finish_file(&mut self, piece: &mut u64) -> u32
-        ensures done { EndsCheck piece.new self.old.kind result self.new.kind }
-        ensures unwritten { result ≢ 10 → piece.new ≡ piece.old }
-    {
-        match &mut self.kind {
-            Kind::Root(_) | Kind::Session(_) => WRONG_HANDLE,
-            Kind::Check(check) => {
-                if check.left() > 0 {
-                    return TOO_SHORT;
-                }
-                write_piece(check.finish(), piece)
-            }
+            write_piece(check.finish(), piece)
         }
     }
 }
@@ -90,7 +88,7 @@ pub extern "C" fn btcheck_check_new(
     let Some(mut thing) = session.take(alloc) else {
         return WRONG_HANDLE;
     };
-    let started = thing.start_check(number);
+    let started = start_check(&mut thing, number);
     session.put(thing);
     match started {
         Err(status) => status,
@@ -107,7 +105,7 @@ pub extern "C" fn btcheck_check_push(alloc: Global, handle: &mut Handle, bytes: 
     let Some(mut thing) = handle.take(alloc) else {
         return WRONG_HANDLE;
     };
-    let status = thing.push_file(bytes);
+    let status = push_file(&mut thing, bytes);
     handle.put(thing);
     status
 }
@@ -123,7 +121,7 @@ pub extern "C" fn btcheck_check_finish(alloc: Global, handle: &mut Handle, piece
     let Some(mut thing) = handle.take(alloc) else {
         return WRONG_HANDLE;
     };
-    let status = thing.finish_file(piece);
+    let status = finish_file(&mut thing, piece);
     handle.put(thing);
     status
 }

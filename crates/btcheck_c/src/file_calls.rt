@@ -24,60 +24,58 @@ fn write_path_of(torrent: &Torrent<'_>, number: usize, room: &mut [u8], length: 
     }
 }
 
-impl Thing {
-    fn files(&mut self, files: &mut u64, trees: &mut u64) -> u32
-        ensures done { WritesCounts files.new trees.new self.old.kind result self.new.kind }
-        ensures unwritten { result ≢ 0 → (files.new ≡ files.old) × (trees.new ≡ trees.old) }
-    {
-        match &mut self.kind {
-            Kind::Root(_) | Kind::Check(_) => WRONG_HANDLE,
-            Kind::Session(session) => {
-                *files = session.torrent().files().len() as u64;
-                *trees = session.torrent().trees().len() as u64;
+fn count_files(thing: &mut Thing, files: &mut u64, trees: &mut u64) -> u32
+    ensures done { WritesCounts files.new trees.new thing.old.kind result thing.new.kind }
+    ensures unwritten { result ≢ 0 → (files.new ≡ files.old) × (trees.new ≡ trees.old) }
+{
+    match &mut thing.kind {
+        Kind::Root(_) | Kind::Check(_) => WRONG_HANDLE,
+        Kind::Session(session) => {
+            *files = session.torrent().files().len() as u64;
+            *trees = session.torrent().trees().len() as u64;
+            DONE
+        }
+    }
+}
+
+fn file(thing: &mut Thing, number: usize, out: &mut FileInfo) -> u32
+    ensures done { WritesFile number out.new thing.old.kind result thing.new.kind }
+    ensures unwritten { result ≢ 0 → out.new ≡ out.old }
+{
+    match &mut thing.kind {
+        Kind::Root(_) | Kind::Check(_) => WRONG_HANDLE,
+        Kind::Session(session) => match file_info(session.torrent(), number) {
+            None => NO_SUCH,
+            Some(info) => {
+                *out = info;
                 DONE
             }
-        }
+        },
     }
+}
 
-    fn file(&mut self, number: usize, out: &mut FileInfo) -> u32
-        ensures done { WritesFile number out.new self.old.kind result self.new.kind }
-        ensures unwritten { result ≢ 0 → out.new ≡ out.old }
-    {
-        match &mut self.kind {
-            Kind::Root(_) | Kind::Check(_) => WRONG_HANDLE,
-            Kind::Session(session) => match file_info(session.torrent(), number) {
-                None => NO_SUCH,
-                Some(info) => {
-                    *out = info;
-                    DONE
-                }
-            },
-        }
+fn path(thing: &mut Thing, number: usize, room: &mut [u8], length: &mut u64) -> u32
+    ensures done { WritesPath number room.old room.new length.new thing.old.kind result
+        thing.new.kind }
+    ensures unwritten { result ≢ 0 → (room.new ≡ room.old)
+        × (result ≢ 7 → length.new ≡ length.old) }
+{
+    match &mut thing.kind {
+        Kind::Root(_) | Kind::Check(_) => WRONG_HANDLE,
+        Kind::Session(session) => write_path_of(session.torrent(), number, room, length),
     }
+}
 
-    fn path(&mut self, number: usize, room: &mut [u8], length: &mut u64) -> u32
-        ensures done { WritesPath number room.old room.new length.new self.old.kind result
-            self.new.kind }
-        ensures unwritten { result ≢ 0 → (room.new ≡ room.old)
-            × (result ≢ 7 → length.new ≡ length.old) }
-    {
-        match &mut self.kind {
-            Kind::Root(_) | Kind::Check(_) => WRONG_HANDLE,
-            Kind::Session(session) => write_path_of(session.torrent(), number, room, length),
-        }
-    }
-
-    fn info_hashes(&mut self, v2: &mut [u8; 32], v1: &mut [u8; 20]) -> u32
-        ensures done { WritesInfoHashes v2.new v1.new self.old.kind result self.new.kind }
-        ensures unwritten { result ≢ 0 → (v2.new ≡ v2.old) × (v1.new ≡ v1.old) }
-    {
-        match &mut self.kind {
-            Kind::Root(_) | Kind::Check(_) => WRONG_HANDLE,
-            Kind::Session(session) => {
-                *v2 = session.torrent().info_hash_v2();
-                *v1 = session.torrent().info_hash_v1();
-                DONE
-            }
+fn info_hashes(thing: &mut Thing, v2: &mut [u8; 32], v1: &mut [u8; 20]) -> u32
+    ensures done { WritesInfoHashes v2.new v1.new thing.old.kind result thing.new.kind }
+    ensures unwritten { result ≢ 0 → (v2.new ≡ v2.old) × (v1.new ≡ v1.old) }
+{
+    match &mut thing.kind {
+        Kind::Root(_) | Kind::Check(_) => WRONG_HANDLE,
+        Kind::Session(session) => {
+            *v2 = session.torrent().info_hash_v2();
+            *v1 = session.torrent().info_hash_v1();
+            DONE
         }
     }
 }
@@ -98,7 +96,7 @@ pub extern "C" fn btcheck_session_files(
     let Some(mut thing) = handle.take(alloc) else {
         return WRONG_HANDLE;
     };
-    let status = thing.files(files, trees);
+    let status = count_files(&mut thing, files, trees);
     handle.put(thing);
     status
 }
@@ -119,7 +117,7 @@ pub extern "C" fn btcheck_session_file(
     let Some(mut thing) = handle.take(alloc) else {
         return WRONG_HANDLE;
     };
-    let status = thing.file(number, out);
+    let status = file(&mut thing, number, out);
     handle.put(thing);
     status
 }
@@ -143,7 +141,7 @@ pub extern "C" fn btcheck_session_path(
     let Some(mut thing) = handle.take(alloc) else {
         return WRONG_HANDLE;
     };
-    let status = thing.path(number, room, length);
+    let status = path(&mut thing, number, room, length);
     handle.put(thing);
     status
 }
@@ -164,7 +162,7 @@ pub extern "C" fn btcheck_session_info_hashes(
     let Some(mut thing) = handle.take(alloc) else {
         return WRONG_HANDLE;
     };
-    let status = thing.info_hashes(v2, v1);
+    let status = info_hashes(&mut thing, v2, v1);
     handle.put(thing);
     status
 }

@@ -26,15 +26,13 @@ fn take_frame(session: &mut OwnedSession, body: &[u8], out: &mut VerdictInfo) ->
     }
 }
 
-impl Thing {
-    fn take_frame(&mut self, body: &[u8], out: &mut VerdictInfo) -> u32
-        ensures done { TakesFrame body.now out.new self.old.kind result self.new.kind }
-        ensures unwritten { result ≢ 0 → out.new ≡ out.old }
-    {
-        match &mut self.kind {
-            Kind::Root(_) | Kind::Check(_) => WRONG_HANDLE,
-            Kind::Session(session) => take_frame(session, body, out),
-        }
+fn take_body(thing: &mut Thing, body: &[u8], out: &mut VerdictInfo) -> u32
+    ensures done { TakesFrame body.now out.new thing.old.kind result thing.new.kind }
+    ensures unwritten { result ≢ 0 → out.new ≡ out.old }
+{
+    match &mut thing.kind {
+        Kind::Root(_) | Kind::Check(_) => WRONG_HANDLE,
+        Kind::Session(session) => take_frame(session, body, out),
     }
 }
 
@@ -56,7 +54,7 @@ pub extern "C" fn btcheck_session_frame(
     let Some(mut thing) = handle.take(alloc) else {
         return WRONG_HANDLE;
     };
-    let status = thing.take_frame(body, out);
+    let status = take_body(&mut thing, body, out);
     handle.put(thing);
     status
 }

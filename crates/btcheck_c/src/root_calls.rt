@@ -11,36 +11,34 @@ use hashtree::{MAX_LENGTH, RootBuilder};
 use std::alloc::Global;
 use std::mem::replace;
 
-impl Thing {
-    fn push(&mut self, bytes: &[u8]) -> u32
-        ensures { Pushed bytes.now self.old.kind result self.new.kind }
-    {
-        match &mut self.kind {
-            Kind::Session(_) | Kind::Check(_) => WRONG_HANDLE,
-            Kind::Root(builder) => {
-                if bytes.len() as u64 > MAX_LENGTH - builder.len() {
-                    return TOO_LONG;
-                }
-                builder.push(bytes);
-                DONE
+fn push(thing: &mut Thing, bytes: &[u8]) -> u32
+    ensures { Pushed bytes.now thing.old.kind result thing.new.kind }
+{
+    match &mut thing.kind {
+        Kind::Session(_) | Kind::Check(_) => WRONG_HANDLE,
+        Kind::Root(builder) => {
+            if bytes.len() as u64 > MAX_LENGTH - builder.len() {
+                return TOO_LONG;
             }
+            builder.push(bytes);
+            DONE
         }
     }
+}
 
-    fn finish(&mut self, length: &mut u64, root: &mut [u8; 32]) -> u32
-        ensures done { Finished length.new root.new self.old.kind result self.new.kind }
-        ensures unwritten { result ≢ 0 → (length.new ≡ length.old) × (root.new ≡ root.old) }
-    {
-        match &mut self.kind {
-            Kind::Session(_) | Kind::Check(_) => WRONG_HANDLE,
-            Kind::Root(builder) => {
-                if builder.is_empty() {
-                    return NO_ROOT;
-                }
-                let ended = replace(builder, RootBuilder::new());
-                (*length, *root) = ended.finish();
-                DONE
+fn finish(thing: &mut Thing, length: &mut u64, root: &mut [u8; 32]) -> u32
+    ensures done { Finished length.new root.new thing.old.kind result thing.new.kind }
+    ensures unwritten { result ≢ 0 → (length.new ≡ length.old) × (root.new ≡ root.old) }
+{
+    match &mut thing.kind {
+        Kind::Session(_) | Kind::Check(_) => WRONG_HANDLE,
+        Kind::Root(builder) => {
+            if builder.is_empty() {
+                return NO_ROOT;
             }
+            let ended = replace(builder, RootBuilder::new());
+            (*length, *root) = ended.finish();
+            DONE
         }
     }
 }
@@ -66,7 +64,7 @@ pub extern "C" fn btcheck_root_push(alloc: Global, handle: &mut Handle, bytes: &
     let Some(mut thing) = handle.take(alloc) else {
         return WRONG_HANDLE;
     };
-    let status = thing.push(bytes);
+    let status = push(&mut thing, bytes);
     handle.put(thing);
     status
 }
@@ -87,7 +85,7 @@ pub extern "C" fn btcheck_root_finish(
     let Some(mut thing) = handle.take(alloc) else {
         return WRONG_HANDLE;
     };
-    let status = thing.finish(length, root);
+    let status = finish(&mut thing, length, root);
     handle.put(thing);
     status
 }

@@ -15,66 +15,64 @@ use owned_sessions::OwnedSession;
 use std::alloc::Global;
 use wire::{Ask, Hash};
 
-impl Thing {
-    fn counts(&mut self, tree: usize, known: &mut u64, marked: &mut u64) -> u32
-        ensures done { Counted tree known.new marked.new self.old.kind result self.new.kind }
-        ensures unwritten { result ≢ 0 → (known.new ≡ known.old) × (marked.new ≡ marked.old) }
-    {
-        match &mut self.kind {
-            Kind::Root(_) | Kind::Check(_) => WRONG_HANDLE,
-            Kind::Session(session) => {
-                if tree >= session.torrent().trees().len() {
-                    return NO_SUCH;
-                }
-                (*known, *marked) = session.counts(tree);
-                DONE
+fn counts(thing: &mut Thing, tree: usize, known: &mut u64, marked: &mut u64) -> u32
+    ensures done { Counted tree known.new marked.new thing.old.kind result thing.new.kind }
+    ensures unwritten { result ≢ 0 → (known.new ≡ known.old) × (marked.new ≡ marked.old) }
+{
+    match &mut thing.kind {
+        Kind::Root(_) | Kind::Check(_) => WRONG_HANDLE,
+        Kind::Session(session) => {
+            if tree >= session.torrent().trees().len() {
+                return NO_SUCH;
+            }
+            (*known, *marked) = session.counts(tree);
+            DONE
+        }
+    }
+}
+
+fn is_marked(thing: &mut Thing, tree: usize, block: u64) -> u32
+    ensures { AnswersIfMarked tree block thing.old.kind result thing.new.kind }
+{
+    match &mut thing.kind {
+        Kind::Root(_) | Kind::Check(_) => WRONG_HANDLE,
+        Kind::Session(session) => {
+            if session.has_block(tree, block) {
+                status_of_answer(session.is_marked(tree, block))
+            } else {
+                NO_SUCH
             }
         }
     }
+}
 
-    fn is_marked(&mut self, tree: usize, block: u64) -> u32
-        ensures { AnswersIfMarked tree block self.old.kind result self.new.kind }
-    {
-        match &mut self.kind {
-            Kind::Root(_) | Kind::Check(_) => WRONG_HANDLE,
-            Kind::Session(session) => {
-                if session.has_block(tree, block) {
-                    status_of_answer(session.is_marked(tree, block))
-                } else {
-                    NO_SUCH
-                }
-            }
-        }
+fn take_hashes(thing: &mut Thing, ask: &Ask, hashes: &[Hash], places: &mut u64) -> u32
+    ensures done { TakesHashes ask.now hashes.now places.new thing.old.kind result
+        thing.new.kind }
+    ensures unwritten { result ≢ 0 → places.new ≡ places.old }
+{
+    match &mut thing.kind {
+        Kind::Root(_) | Kind::Check(_) => WRONG_HANDLE,
+        Kind::Session(session) => status_of_hashes(session.take_hashes(ask, hashes), places),
     }
+}
 
-    fn take_hashes(&mut self, ask: &Ask, hashes: &[Hash], places: &mut u64) -> u32
-        ensures done { TakesHashes ask.now hashes.now places.new self.old.kind result
-            self.new.kind }
-        ensures unwritten { result ≢ 0 → places.new ≡ places.old }
-    {
-        match &mut self.kind {
-            Kind::Root(_) | Kind::Check(_) => WRONG_HANDLE,
-            Kind::Session(session) => status_of_hashes(session.take_hashes(ask, hashes), places),
-        }
-    }
-
-    fn take_block(
-        &mut self,
-        index: u32,
-        begin: u32,
-        bytes: &[u8],
-        file: &mut u64,
-        block: &mut u64,
-    ) -> u32
-        ensures done { TakesBlock index begin bytes.now file.new block.new self.old.kind result
-            self.new.kind }
-        ensures unwritten { result ≢ 0 → (file.new ≡ file.old) × (block.new ≡ block.old) }
-    {
-        match &mut self.kind {
-            Kind::Root(_) | Kind::Check(_) => WRONG_HANDLE,
-            Kind::Session(session) => {
-                status_of_block(session.take_block(index, begin, bytes), file, block)
-            }
+fn take_block(
+    thing: &mut Thing,
+    index: u32,
+    begin: u32,
+    bytes: &[u8],
+    file: &mut u64,
+    block: &mut u64,
+) -> u32
+    ensures done { TakesBlock index begin bytes.now file.new block.new thing.old.kind result
+        thing.new.kind }
+    ensures unwritten { result ≢ 0 → (file.new ≡ file.old) × (block.new ≡ block.old) }
+{
+    match &mut thing.kind {
+        Kind::Root(_) | Kind::Check(_) => WRONG_HANDLE,
+        Kind::Session(session) => {
+            status_of_block(session.take_block(index, begin, bytes), file, block)
         }
     }
 }
@@ -145,7 +143,7 @@ pub extern "C" fn btcheck_session_take_hashes(
         length,
         proof,
     };
-    let status = thing.take_hashes(&ask, hashes, places);
+    let status = take_hashes(&mut thing, &ask, hashes, places);
     handle.put(thing);
     status
 }
@@ -169,7 +167,7 @@ pub extern "C" fn btcheck_session_take_block(
     let Some(mut thing) = handle.take(alloc) else {
         return WRONG_HANDLE;
     };
-    let status = thing.take_block(index, begin, bytes, file, block);
+    let status = take_block(&mut thing, index, begin, bytes, file, block);
     handle.put(thing);
     status
 }
@@ -191,7 +189,7 @@ pub extern "C" fn btcheck_session_counts(
     let Some(mut thing) = handle.take(alloc) else {
         return WRONG_HANDLE;
     };
-    let status = thing.counts(tree, known, marked);
+    let status = counts(&mut thing, tree, known, marked);
     handle.put(thing);
     status
 }
@@ -212,7 +210,7 @@ pub extern "C" fn btcheck_session_is_marked(
     let Some(mut thing) = handle.take(alloc) else {
         return WRONG_HANDLE;
     };
-    let status = thing.is_marked(tree, block);
+    let status = is_marked(&mut thing, tree, block);
     handle.put(thing);
     status
 }

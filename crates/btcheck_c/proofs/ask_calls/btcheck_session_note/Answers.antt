@@ -9,5 +9,5 @@ returns c =
     let held = c.args.handle.now.slot.held in let held' = c.put.new.self.slot.held in let status = c.note-status.result in
     subst (λ ask. Through (Notes ask) held status held') c.read_ask.ensures
     (through (Notes c.read_ask.result) held held'
-    c.in-Some.thing.value c.deref_mut.result.now c.note-status.new.self status
+    c.in-Some.thing.value c.deref_mut.result.now c.note-status.new.thing status
     c.in-Some.ensures.taken c.put.ensures c.deref_mut.ensures.value c.note-status.ensures)

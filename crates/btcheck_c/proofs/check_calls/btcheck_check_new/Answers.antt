@@ -16,7 +16,7 @@ pub returns-in-Err : goal.returns-in-Err
 returns-in-Err c =
     let free = holds_nothing c.args.handle.now.slot.held c.is_full.result c.is_full.ensures c.if-is_full.false in
     start_done c.args.number c.args.session.now.slot.held c.args.handle.now.slot.held c.args.handle.now.slot.held c.put.new.self.slot.held
-    c.in-Some.thing.value c.deref_mut.result.now c.start_check-started.new.self c.start_check-started.result c.in-Err.status free
+    c.in-Some.thing.value c.deref_mut.result.now c.start_check-started.new.thing c.start_check-started.result c.in-Err.status free
     c.in-Some.ensures.taken c.put.ensures c.deref_mut.ensures.value c.start_check-started.ensures
     (subst (λ made. CheckKept made c.in-Err.status c.args.handle.now.slot.held) (sym c.in-Err.is) (refl, free))
 
@@ -24,7 +24,7 @@ pub returns-in-Ok : goal.returns-in-Ok
 returns-in-Ok c =
     let free = holds_nothing c.args.handle.now.slot.held c.is_full.result c.is_full.ensures c.if-is_full.false in
     start_done c.args.number c.args.session.now.slot.held c.args.handle.now.slot.held c.fill.new.self.slot.held c.put.new.self.slot.held
-    c.in-Some.thing.value c.deref_mut.result.now c.start_check-started.new.self c.start_check-started.result c.fill.result free
+    c.in-Some.thing.value c.deref_mut.result.now c.start_check-started.new.thing c.start_check-started.result c.fill.result free
     c.in-Some.ensures.taken c.put.ensures c.deref_mut.ensures.value c.start_check-started.ensures
     (subst (λ made. CheckKept made c.fill.result c.fill.new.self.slot.held) (sym c.in-Ok.is)
     (subst (λ o. IsFilled (kind.Check c.in-Ok.check) o c.fill.result c.fill.new.self.slot.held) free c.fill.ensures))

@@ -11,5 +11,5 @@ returns-clause-done c = through (TakesHashes (record {
   proof = c.args.proof;
 }) c.args.hashes.now c.take_hashes-status.new.places)
     c.args.handle.now.slot.held c.put.new.self.slot.held
-    c.in-Some.thing.value c.deref_mut.result.now c.take_hashes-status.new.self c.take_hashes-status.result
+    c.in-Some.thing.value c.deref_mut.result.now c.take_hashes-status.new.thing c.take_hashes-status.result
     c.in-Some.ensures.taken c.put.ensures c.deref_mut.ensures.value c.take_hashes-status.ensures.done
