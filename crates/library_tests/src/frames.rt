@@ -53,18 +53,19 @@ pub(crate) const RECORD: [u8; 31] = [
 
 #[test]
 fn a_record_has_so_many_frames(rt: HostRuntime) {
-    for (record, count) in [
-        (&RECORD[..0], Ok(0)),
-        (&RECORD[..29], Ok(3)),
-        (&RECORD[..30], Err(FrameFault::Truncated)),
+    for (record, count, directed) in [
+        (&RECORD[..0], Ok(0), Ok(0)),
+        (&RECORD[..29], Ok(3), Ok(3)),
+        (
+            &RECORD[..30],
+            Err(FrameFault::Truncated),
+            Err(FrameFault::Truncated),
+        ),
+        (b"\xff\xff\xff\xffBTH2", Err(FrameFault::Truncated), Ok(0)),
     ] {
-        let mut source = MemSource::new(record);
-        assert!(rt; count_frames(rt.alloc(), &mut source) == count);
-        let mut source = MemSource::new(record);
-        assert!(rt; count_directed(rt.alloc(), &mut source) == count);
+        assert!(rt; count_frames(rt.alloc(), &mut MemSource::new(record)) == count);
+        assert!(rt; count_directed(rt.alloc(), &mut MemSource::new(record)) == directed);
     }
-    let mut source = MemSource::new(b"\xff\xff\xff\xffBTH2");
-    assert!(rt; count_directed(rt.alloc(), &mut source) == Ok(0));
 }
 
 // Whether the first frame has a message.
@@ -109,17 +110,19 @@ const ASK: Ask = Ask {
     proof: 9,
 };
 
-// Whether a message is written and read back as it was, however the frame is cut.
-fn comes_back(rt: &impl Abort, alloc: Global, m: Message<'_>, room: usize) -> bool {
+// Whether a message is written, and read back as it was.
+fn comes_back(rt: &impl Abort, alloc: Global, m: &Message<'_>, room: usize) -> bool {
     let mut sink = MemSink::with_room(alloc, room)
         .expect(rt, "memory")
         .at_most(7);
-    if !m.is_writable() || write(&m, &mut sink).is_err() || sink.written().len() != room {
-        return false;
-    }
+    let is_written = m.is_writable() && write(m, &mut sink).is_ok();
+    is_written && sink.written().len() == room && is_read(alloc, sink.written(), m)
+}
+
+// Whether a frame has this message, however it is cut.
+fn is_read(alloc: Global, frame: &[u8], m: &Message<'_>) -> bool {
     for at_most in [1, 7, usize::MAX] {
-        let mut source = MemSource::new(sink.written()).at_most(at_most);
-        if !gives(alloc, &mut source, &m) {
+        if !gives(alloc, &mut MemSource::new(frame).at_most(at_most), m) {
             return false;
         }
     }
@@ -138,22 +141,24 @@ fn gives<R: Source>(alloc: Global, source: &mut R, m: &Message<'_>) -> bool {
 
 #[test]
 fn what_is_written_is_read(rt: HostRuntime) {
-    let hashes = vec![in rt.alloc(); [7u8; 32]; 513].expect(&rt, "memory");
-    let block = vec![in rt.alloc(); 5u8; 100].expect(&rt, "memory");
     let piece = Message::Piece {
         index: 3,
         begin: 16_384,
-        block: &block,
+        block: &[5; 100],
     };
     let answer = Message::Hashes {
         ask: ASK,
-        hashes: &hashes,
+        hashes: &[[7; 32]; 513],
     };
-    assert!(rt; comes_back(&rt, rt.alloc(), Message::KeepAlive, 4));
-    assert!(rt; comes_back(&rt, rt.alloc(), piece, 113));
-    assert!(rt; comes_back(&rt, rt.alloc(), Message::Request(ASK), 53));
-    assert!(rt; comes_back(&rt, rt.alloc(), answer, 16_469));
-    assert!(rt; comes_back(&rt, rt.alloc(), Message::Reject(ASK), 53));
+    for (message, size) in [
+        (&Message::KeepAlive, 4),
+        (&piece, 113),
+        (&Message::Request(ASK), 53),
+        (&answer, 16_469),
+        (&Message::Reject(ASK), 53),
+    ] {
+        assert!(rt; comes_back(&rt, rt.alloc(), message, size), "{size} bytes");
+    }
     assert!(rt; !Message::Other { id: 4, len: 5 }.is_writable());
 }
 
@@ -189,16 +194,14 @@ fn a_request_to_the_byte(rt: HostRuntime) {
 
 #[test]
 fn printed_faults(rt: HostRuntime) {
-    for (fault, text) in [
-        (FrameFault::Truncated, "the input ends inside a frame"),
-        (FrameFault::Read, "the source failed"),
-        (FrameFault::NoMemory, "out of memory"),
-        (
-            FrameFault::BadDirection,
-            "a byte before a frame is no direction",
-        ),
-    ] {
-        let printed = format!(in rt.alloc(); "{fault}").expect(&rt, "memory");
-        assert!(rt; printed.as_str() == text);
-    }
+    let text = format!(in rt.alloc();
+        "{}, {}, {}, {}",
+        FrameFault::Truncated,
+        FrameFault::Read,
+        FrameFault::NoMemory,
+        FrameFault::BadDirection,
+    );
+    let wanted = "the input ends inside a frame, the source failed, out of memory, \
+                  a byte before a frame is no direction";
+    assert!(rt; text.expect(&rt, "memory").as_str() == wanted);
 }

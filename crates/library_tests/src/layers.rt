@@ -81,21 +81,26 @@ fn are_above(
     Ok(levels.as_slice() == layers && top.as_slice() == [root].as_slice())
 }
 
+// The layers of a tree over leaves that differ, from below.
+fn layers(alloc: Global, blocks: u64) -> Result<Vec<Vec<Hash>>, AllocError> {
+    let leaves = leaves(alloc, blocks)?;
+    let mut layers = Vec::new(alloc);
+    for layer in 0..=height(blocks) {
+        layers.push(nodes(alloc, &leaves, layer)?)?;
+    }
+    Ok(layers)
+}
+
 #[test]
-fn each_layer_of_each_shape(rt: HostRuntime) -> Result<(), AllocError> {
+fn each_layer_of_each_shape(rt: HostRuntime) {
     for blocks in [1u64, 2, 3, 5, 7, 8, 9, 15, 16, 17, 31, 33, 64, 100, 257] {
-        let leaves = leaves(rt.alloc(), blocks)?;
-        let mut layers = Vec::new(rt.alloc());
-        for layer in 0..=height(blocks) {
-            layers.push(nodes(rt.alloc(), &leaves, layer)?)?;
-        }
+        let layers = layers(rt.alloc(), blocks).expect(&rt, "memory");
         for layer in 0..=height(blocks) {
             let above = layers.get(layer as usize..).unwrap_or(&[]);
-            let is_right = are_above(rt.alloc(), blocks, layer, above)?;
+            let is_right = are_above(rt.alloc(), blocks, layer, above) == Ok(true);
             assert!(rt; is_right, "layer {layer} over {blocks} blocks");
         }
     }
-    Ok(())
 }
 
 // Gives the bytes in parts of at most so many.
@@ -157,18 +162,24 @@ fn wanted(
     Ok(Some((bytes.len() as u64, root, hashes)))
 }
 
-#[test]
-fn layers_of_bytes_in_parts(rt: HostRuntime) -> Result<(), AllocError> {
-    let mut bytes = Vec::new(rt.alloc());
+// Bytes of which each four differ from the others.
+fn content(alloc: Global) -> Result<Vec<u8>, AllocError> {
+    let mut bytes = Vec::new(alloc);
     for number in 0..36864u32 {
         bytes.extend_from_slice(&number.wrapping_mul(2654435761).to_be_bytes())?;
     }
+    Ok(bytes)
+}
+
+#[test]
+fn layers_of_bytes_in_parts(rt: HostRuntime) {
+    let bytes = content(rt.alloc()).expect(&rt, "memory");
     for length in [0usize, 1, 16383, 16384, 16385, 131072, 131073, 147456] {
         let part = bytes.get(..length).unwrap_or(&[]);
         for layer in 0..6u32 {
-            let wanted = wanted(rt.alloc(), part, layer)?;
+            let wanted = wanted(rt.alloc(), part, layer).expect(&rt, "memory");
             for at_most in [1usize, 7, 16384, usize::MAX] {
-                let built = built(rt.alloc(), part, layer, at_most)?;
+                let built = built(rt.alloc(), part, layer, at_most).expect(&rt, "memory");
                 assert!(rt;
                     built == wanted,
                     "layer {layer} of {length} bytes, {at_most} a part"
@@ -176,5 +187,4 @@ fn layers_of_bytes_in_parts(rt: HostRuntime) -> Result<(), AllocError> {
             }
         }
     }
-    Ok(())
 }
