@@ -1,6 +1,7 @@
 use benc::memory::MemSink;
 use benc::*;
 use std::alloc::{AllocError, Global};
+use std::fmt::Debug;
 use std::test::*;
 
 // Inputs, and the fault that `decode` answers.
@@ -132,41 +133,51 @@ fn long_values_at_the_front(rt: HostRuntime) {
     }
 }
 
-// Whether the whole value, and the one at the front with the bytes that it takes, are printed so.
-fn are_printed(alloc: Global, input: &[u8], text: &str) -> Result<bool, AllocError> {
-    let found = format!(in alloc;
-        "{:?} {:?}",
-        decode(alloc, input),
-        decode_front(alloc, input)
-    )?;
-    Ok(found.as_str() == text)
+// Whether what was found is printed so.
+pub(crate) fn shows<T: Debug>(alloc: Global, found: &T, text: &str) -> Result<bool, AllocError> {
+    Ok(format!(in alloc; "{found:?}")?.as_str() == text)
+}
+
+// What is printed of a whole value, and of the one at the front with the bytes that it takes.
+const PRINTED: &[(&[u8], &str, &str)] = &[
+    (
+        b"i1ei2e",
+        "Err(Fault { kind: Trailing, offset: 3 })",
+        "Ok((Int(1), 3))",
+    ),
+    (
+        b"li1e1:aee",
+        "Err(Fault { kind: Trailing, offset: 8 })",
+        "Ok((List([Int(1), Bytes([97])]), 8))",
+    ),
+    (
+        b"d1:ki1eed",
+        "Err(Fault { kind: Trailing, offset: 8 })",
+        "Ok((Dict([Pair { key: [107], value: Int(1) }]), 8))",
+    ),
+    (
+        b"i-9223372036854775808e",
+        "Ok(Int(-9223372036854775808))",
+        "Ok((Int(-9223372036854775808), 22))",
+    ),
+    (b"0:", "Ok(Bytes([]))", "Ok((Bytes([]), 2))"),
+    (b"le", "Ok(List([]))", "Ok((List([]), 2))"),
+    (b"de", "Ok(Dict([]))", "Ok((Dict([]), 2))"),
+];
+
+fn has_value(alloc: Global, input: &[u8], text: &str) -> Result<bool, AllocError> {
+    shows(alloc, &decode(alloc, input), text)
+}
+
+fn has_front(alloc: Global, input: &[u8], text: &str) -> Result<bool, AllocError> {
+    shows(alloc, &decode_front(alloc, input), text)
 }
 
 #[test]
 fn values(rt: HostRuntime) {
-    for (input, text) in [
-        (
-            b"i1ei2e" as &[u8],
-            "Err(Fault { kind: Trailing, offset: 3 }) Ok((Int(1), 3))",
-        ),
-        (
-            b"li1e1:aee",
-            "Err(Fault { kind: Trailing, offset: 8 }) Ok((List([Int(1), Bytes([97])]), 8))",
-        ),
-        (
-            b"d1:ki1eed",
-            "Err(Fault { kind: Trailing, offset: 8 }) \
-             Ok((Dict([Pair { key: [107], value: Int(1) }]), 8))",
-        ),
-        (
-            b"i-9223372036854775808e",
-            "Ok(Int(-9223372036854775808)) Ok((Int(-9223372036854775808), 22))",
-        ),
-        (b"0:", "Ok(Bytes([])) Ok((Bytes([]), 2))"),
-        (b"le", "Ok(List([])) Ok((List([]), 2))"),
-        (b"de", "Ok(Dict([])) Ok((Dict([]), 2))"),
-    ] {
-        assert!(rt; are_printed(rt.alloc(), input, text) == Ok(true), "{text}");
+    for (input, whole, front) in PRINTED {
+        assert!(rt; has_value(rt.alloc(), input, whole) == Ok(true), "{whole}");
+        assert!(rt; has_front(rt.alloc(), input, front) == Ok(true), "{front}");
     }
 }
 

@@ -133,14 +133,13 @@ fn writes_six(failing: &'static [u64], faults: u64) -> bool {
             return false;
         }
     }
-    let is_flushed = counted == faults && flushes(&mut sink, Ok(()), faults);
-    let writer = sink.into_inner();
-    is_flushed && writer.calls == 7 && writer.flushes == 1
+    counted == faults && flushes_once(sink, faults)
 }
 
-// Whether a flush is answered so, after which so many calls have failed.
-fn flushes<W: Sink>(sink: &mut W, answer: Result<(), DeviceFault>, faults: u64) -> bool {
-    sink.flush() == answer && sink.failures() == faults
+fn flushes_once(mut sink: FromWrite<Claims>, faults: u64) -> bool {
+    let is_right = sink.flush() == Ok(()) && sink.failures() == faults;
+    let writer = sink.into_inner();
+    is_right && writer.calls == 7 && writer.flushes == 1
 }
 
 // A failed call is not made again, and the calls after it succeed, however many have failed.
@@ -154,8 +153,9 @@ fn a_failed_call_is_a_fault(rt: HostRuntime) {
 #[test]
 fn a_flush_that_fails_is_a_fault(rt: HostRuntime) {
     let mut sink = FromWrite::new(Claims::new(8).failing(&[2]));
-    assert!(rt; flushes(&mut sink, Ok(()), 0) && flushes(&mut sink, Err(DeviceFault), 1));
-    assert!(rt; sink.write(b"ab") == Ok(2) && flushes(&mut sink, Ok(()), 1));
+    assert!(rt; sink.flush() == Ok(()) && sink.failures() == 0);
+    assert!(rt; sink.flush() == Err(DeviceFault) && sink.failures() == 1);
+    assert!(rt; sink.write(b"ab") == Ok(2) && sink.flush() == Ok(()) && sink.failures() == 1);
     let writer = sink.into_inner();
     assert!(rt; writer.calls == 4 && writer.flushes == 3 && writer.left == 6);
 }
@@ -164,9 +164,9 @@ fn a_flush_that_fails_is_a_fault(rt: HostRuntime) {
 fn a_flush_that_fails_is_counted_too(rt: HostRuntime) {
     let room = MemSink::with_room(rt.alloc(), 4).expect(&rt, "memory");
     let mut out = room.fails_after(1);
-    assert!(rt; out.write(b"ab") == Ok(2) && flushes(&mut out, Err(DeviceFault), 1));
-    assert!(rt; !out.is_flushed() && out.flushes() == 1 && flushes(&mut out, Ok(()), 1));
-    assert!(rt; out.flushes() == 2 && out.written() == b"ab".as_slice());
+    assert!(rt; out.write(b"ab") == Ok(2) && out.flush() == Err(DeviceFault));
+    assert!(rt; !out.is_flushed() && out.flushes() == 1 && out.failures() == 1);
+    assert!(rt; out.flush() == Ok(()) && out.flushes() == 2 && out.written() == b"ab".as_slice());
 }
 
 #[test]
@@ -194,18 +194,21 @@ fn writes_of(text: &[u8], at_most: u64) -> Option<u64> {
     (writer.empty == 0 && writer.flushes == 0).then_some(writer.calls)
 }
 
+// Texts, how many bytes of them a call takes, and how many calls they take.
+const WRITES: &[(&[u8], u64, u64)] = &[
+    (b"", u64::MAX, 0),
+    (b"a", u64::MAX, 1),
+    (b"abcde", u64::MAX, 1),
+    (b"abcde", 1, 5),
+    (b"abcde", 2, 3),
+    (b"abcdef", 2, 3),
+];
+
 #[test]
 fn nothing_is_written_by_no_call(rt: HostRuntime) {
-    for (text, at_most, writes) in [
-        (b"" as &[u8], u64::MAX, 0u64),
-        (b"a", u64::MAX, 1),
-        (b"abcde", u64::MAX, 1),
-        (b"abcde", 1, 5),
-        (b"abcde", 2, 3),
-        (b"abcdef", 2, 3),
-    ] {
+    for (text, at_most, writes) in WRITES {
         assert!(rt;
-            writes_of(text, at_most) == Some(writes),
+            writes_of(text, *at_most) == Some(*writes),
             "{at_most} bytes a call"
         );
     }

@@ -74,31 +74,34 @@ fn has_message<R: Source>(alloc: Global, source: &mut R) -> bool {
     matches!(reader.next(), Ok(Some(Frame::Message(_))))
 }
 
+// Ids, sizes, and whether a frame with them has a message.
+const SIZES: &[(u8, u32, bool)] = &[
+    (7, 8, false),
+    (7, 9, true),
+    (7, 263_217, true),
+    (7, 263_218, false),
+    (21, 48, false),
+    (21, 49, true),
+    (21, 50, false),
+    (22, 48, false),
+    (22, 49, true),
+    (22, 50, false),
+    (22, 80, false),
+    (22, 81, true),
+    (22, 263_217, true),
+    (22, 263_249, false),
+    (23, 48, false),
+    (23, 49, true),
+    (23, 50, false),
+];
+
 #[test]
 fn each_size_is_right_or_wrong(rt: HostRuntime) {
-    for (id, len, right) in [
-        (7, 8, false),
-        (7, 9, true),
-        (7, 263_217, true),
-        (7, 263_218, false),
-        (21, 48, false),
-        (21, 49, true),
-        (21, 50, false),
-        (22, 48, false),
-        (22, 49, true),
-        (22, 50, false),
-        (22, 80, false),
-        (22, 81, true),
-        (22, 263_217, true),
-        (22, 263_249, false),
-        (23, 48, false),
-        (23, 49, true),
-        (23, 50, false),
-    ] {
-        let bytes = frame(rt.alloc(), id, len).expect(&rt, "memory");
+    for (id, len, right) in SIZES {
+        let bytes = frame(rt.alloc(), *id, *len).expect(&rt, "memory");
         let mut source = MemSource::new(&bytes);
         let is_message = has_message(rt.alloc(), &mut source);
-        assert!(rt; is_message == right, "id {id}, {len} bytes");
+        assert!(rt; is_message == *right, "id {id}, {len} bytes");
     }
 }
 

@@ -109,18 +109,21 @@ fn digest_in(messages: &[u8], lane: usize) -> Option<[u8; 32]> {
     digests_of(messages, messages.len() / 8)?.get(lane).copied()
 }
 
+// Messages, their digests, and a byte for the other lanes.
+const KNOWN: &[(&[u8], &[u8; 32], u8)] = &[
+    (&[], &OF_NOTHING, 0),
+    (&A_BLOCK, &OF_A_BLOCK, 0),
+    (&A_BLOCK, &OF_A_BLOCK, 255),
+];
+
 // A known message in one lane has its digest, whatever stands in the others.
 #[test]
 fn known_digests_in_each_lane(rt: HostRuntime) {
-    for (message, digest, other) in [
-        (&[] as &[u8], &OF_NOTHING, 0u8),
-        (&A_BLOCK, &OF_A_BLOCK, 0),
-        (&A_BLOCK, &OF_A_BLOCK, 255),
-    ] {
+    for (message, digest, other) in KNOWN {
         for lane in 0..8usize {
-            let messages = with_lane(rt.alloc(), message, lane, other).expect(&rt, "memory");
+            let messages = with_lane(rt.alloc(), message, lane, *other).expect(&rt, "memory");
             let found = digest_in(&messages, lane);
-            assert!(rt; found == Some(*digest), "lane {lane}");
+            assert!(rt; found == Some(**digest), "lane {lane}");
         }
     }
 }

@@ -1,3 +1,4 @@
+use crate::bencoding::shows;
 use crate::frames::RECORD;
 use benc::Source;
 use benc::memory::MemSource;
@@ -5,15 +6,6 @@ use std::alloc::{AllocError, Global};
 use std::process::Abort;
 use std::test::*;
 use wire::*;
-
-// Whether the next answer is printed so.
-fn answers<R: Source>(
-    alloc: Global,
-    reader: &mut RecordReader<'_, R>,
-    answer: &str,
-) -> Result<bool, AllocError> {
-    Ok(format!(in alloc; "{:?}", reader.next())?.as_str() == answer)
-}
 
 // Whether these are the answers over a record, and with each this form is known.
 fn gives<R: Source>(
@@ -25,7 +17,7 @@ fn gives<R: Source>(
     let mut reader = RecordReader::new(alloc, source);
     let mut is_right = reader.form() == None;
     for answer in expected {
-        is_right &= answers(alloc, &mut reader, answer)? && reader.form() == form;
+        is_right &= shows(alloc, &reader.next(), answer)? && reader.form() == form;
     }
     Ok(is_right)
 }

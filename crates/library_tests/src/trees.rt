@@ -29,18 +29,21 @@ fn numbers_of(length: u64) -> Option<(u64, u32, u64, u64)> {
     Some((shape.blocks(), shape.height(), last, pad))
 }
 
+// Lengths, and the numbers of their shapes.
+const SHAPES: &[(u64, Option<(u64, u32, u64, u64)>)] = &[
+    (0, None),
+    (1, Some((1, 0, 1, 1))),
+    (16384, Some((1, 0, 16384, 1))),
+    (16385, Some((2, 1, 1, 1))),
+    (40000, Some((3, 2, 7232, 2))),
+    (65636, Some((5, 3, 100, 3))),
+    (1 << 46, Some((1 << 32, 32, 16384, 1 << 31))),
+    ((1 << 46) + 1, None),
+];
+
 #[test]
 fn shapes(rt: HostRuntime) {
-    for (length, shape) in [
-        (0, None),
-        (1, Some((1, 0, 1, 1))),
-        (16384, Some((1, 0, 16384, 1))),
-        (16385, Some((2, 1, 1, 1))),
-        (40000, Some((3, 2, 7232, 2))),
-        (65636, Some((5, 3, 100, 3))),
-        (1 << 46, Some((1 << 32, 32, 16384, 1 << 31))),
-        ((1 << 46) + 1, None),
-    ] {
-        assert!(rt; numbers_of(length) == shape, "{length}");
+    for (length, shape) in SHAPES {
+        assert!(rt; numbers_of(*length) == *shape, "{length}");
     }
 }
