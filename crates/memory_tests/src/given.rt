@@ -116,9 +116,13 @@ impl<'g> Given<'g> {
         count: usize,
     ) -> Result<Session<'g, N>, NoMemory> {
         let mut session = Session::new(alloc, self.torrent, self.with_layers)?;
-        for message in self.messages.iter().take(count) {
-            let _ = self.call.take(&mut session, message);
-        }
+        self.take_first(&mut session, count);
         Ok(session)
+    }
+
+    fn take_first<N: NodeMap>(&self, session: &mut Session<'_, N>, count: usize) {
+        for message in self.messages.iter().take(count) {
+            let _ = self.call.take(session, message);
+        }
     }
 }

@@ -93,7 +93,6 @@ pub(crate) fn lend_messages<'k>(
 
 fn keep_record<R: Source>(rt: &HostRuntime, source: &mut R) -> io::Result<Vec<(Direction, Kept)>> {
     let mut reader = RecordReader::new(rt.alloc(), source);
-    reserve_again(rt, &mut reader)?;
     keep_frames(rt, &mut reader)
 }
 
@@ -109,18 +108,31 @@ fn keep_frames<R: Source>(
     rt: &HostRuntime,
     reader: &mut RecordReader<'_, R>,
 ) -> io::Result<Vec<(Direction, Kept)>> {
+    reserve_again(rt, reader)?;
     let mut kept = Vec::new(rt.alloc());
     for _ in 0..u64::MAX {
-        match reader.advance() {
-            Ok(true) => keep_frame(rt.alloc(), &mut kept, reader.frame())?,
-            Ok(false) => break,
-            Err(fault) => {
-                println!(rt; "{fault}")?;
-                break;
-            }
+        if !keep_next(rt, reader, &mut kept)? {
+            break;
         }
     }
     Ok(kept)
+}
+
+// Keeps the next frame. Returns whether there is one.
+fn keep_next<R: Source>(
+    rt: &HostRuntime,
+    reader: &mut RecordReader<'_, R>,
+    kept: &mut Vec<(Direction, Kept)>,
+) -> io::Result<bool> {
+    match reader.advance() {
+        Ok(true) => keep_frame(rt.alloc(), kept, reader.frame())?,
+        Ok(false) => return Ok(false),
+        Err(fault) => {
+            println!(rt; "{fault}")?;
+            return Ok(false);
+        }
+    }
+    Ok(true)
 }
 
 fn keep_frame(

@@ -72,9 +72,19 @@ fn make_call_over(
 fn run(rt: &HostRuntime, torrent: &str, record: &str, map: &str, call: &str) -> io::Result<()> {
     let bytes = fs::read(rt, torrent)?;
     let record = fs::read(rt, record)?;
-    decode_again(rt, &bytes)?;
-    match open_again(rt, &bytes)? {
-        Ok(torrent) => make_call_over(rt, &torrent, &record, map, call),
+    run_bytes(rt, &bytes, &record, map, call)
+}
+
+fn run_bytes(
+    rt: &HostRuntime,
+    bytes: &[u8],
+    record: &[u8],
+    map: &str,
+    call: &str,
+) -> io::Result<()> {
+    decode_again(rt, bytes)?;
+    match open_again(rt, bytes)? {
+        Ok(torrent) => make_call_over(rt, &torrent, record, map, call),
         Err(refusal) => print_refusal(rt, &refusal),
     }
 }

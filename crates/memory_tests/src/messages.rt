@@ -31,20 +31,24 @@ fn knows_layers(call: &str) -> bool {
 }
 
 fn take_given<N: NodeMap>(rt: &HostRuntime, given: &Given<'_>, call: &str) -> io::Result<()> {
+    let mut session: Session<'_, N> = given.session(rt)?;
     match call {
-        "run" => run_messages::<N>(rt, given, 1),
-        "want" => want_each::<N>(rt, given),
-        "run of all" | "run_noted" => run_messages::<N>(rt, given, usize::MAX),
-        _ => take_messages::<N>(rt, given),
+        "run" => run_messages(rt, &mut session, given, 1),
+        "want" => want_each(rt, &mut session, given),
+        "run of all" | "run_noted" => run_messages(rt, &mut session, given, usize::MAX),
+        _ => take_messages(rt, &mut session, given),
     }
 }
 
 // Takes each message, and prints what it came to and the session's state.
-fn take_messages<N: NodeMap>(rt: &HostRuntime, given: &Given<'_>) -> io::Result<()> {
-    let mut session: Session<'_, N> = given.session(rt)?;
+fn take_messages<'t, N: NodeMap>(
+    rt: &HostRuntime,
+    session: &mut Session<'t, N>,
+    given: &Given<'t>,
+) -> io::Result<()> {
     for (number, message) in given.messages.iter().enumerate() {
-        take_again(rt, &mut session, given, number, message)?;
-        print_state(rt, &session)?;
+        take_again(rt, session, given, number, message)?;
+        print_state(rt, session)?;
     }
     Ok(())
 }

@@ -93,13 +93,31 @@ fn replay_anew<N: NodeMap>(
     session: &mut Session<'_, N>,
     record: &[u8],
 ) -> io::Result<Replayed> {
-    let _ = replay_record(rt, session, record)?;
     let mut other: Session<'_, N> = Session::new(rt.alloc(), torrent, false)?;
-    let replayed = replay_record(rt, &mut other, record)?;
-    if !are_alike(session, &other, &[])? {
-        print_changed(rt, "replay")?;
-    }
+    replay_both(rt, session, &mut other, record)
+}
+
+fn replay_both<N: NodeMap>(
+    rt: &HostRuntime,
+    session: &mut Session<'_, N>,
+    other: &mut Session<'_, N>,
+    record: &[u8],
+) -> io::Result<Replayed> {
+    let _ = replay_record(rt, session, record)?;
+    let replayed = replay_record(rt, other, record)?;
+    compare_replayed(rt, session, other)?;
     Ok(replayed)
+}
+
+fn compare_replayed<N: NodeMap>(
+    rt: &HostRuntime,
+    session: &Session<'_, N>,
+    other: &Session<'_, N>,
+) -> io::Result<()> {
+    if are_alike(session, other, &[])? {
+        return Ok(());
+    }
+    print_changed(rt, "replay")
 }
 
 fn replay_record<N: NodeMap>(

@@ -57,17 +57,17 @@ fn name(call: Call) -> &'static str {
 
 /// Takes the messages by runs of so many, and prints after each the verdicts and the session's
 /// state.
-pub(crate) fn run_messages<N: NodeMap>(
+pub(crate) fn run_messages<'t, N: NodeMap>(
     rt: &HostRuntime,
-    given: &Given<'_>,
+    session: &mut Session<'t, N>,
+    given: &Given<'t>,
     size: usize,
 ) -> io::Result<()>
     requires { 0 < size }
 {
-    let mut session: Session<'_, N> = given.session(rt)?;
     let mut before: usize = 0;
     for directed in given.messages.chunks(size) {
-        run_part(rt, &mut session, given, before, directed)?;
+        run_part(rt, session, given, before, directed)?;
         before = before.wrapping_add(directed.len());
     }
     Ok(())
@@ -173,9 +173,19 @@ fn stands_without_it<N: NodeMap>(
     verdicts: &[Verdict],
 ) -> Result<bool, NoMemory> {
     let mut other: Session<'_, N> = given.session_after(alloc, part.before)?;
-    let without_it = are_of_steps(session, &mut other, given, part, verdicts)?;
+    stands_like(session, &mut other, given, part, verdicts)
+}
+
+fn stands_like<N: NodeMap>(
+    session: &mut Session<'_, N>,
+    other: &mut Session<'_, N>,
+    given: &Given<'_>,
+    part: &Part<'_>,
+    verdicts: &[Verdict],
+) -> Result<bool, NoMemory> {
+    let without_it = are_of_steps(session, other, given, part, verdicts)?;
     let verdicts = part.run(given.call, session)?;
-    Ok(without_it && are_of_steps(session, &mut other, given, part, &verdicts)?)
+    Ok(without_it && are_of_steps(session, other, given, part, &verdicts)?)
 }
 
 // Whether the verdicts of a run are those of steps over another session, which leave out a message

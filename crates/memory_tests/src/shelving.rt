@@ -5,7 +5,7 @@ use crate::state::{compare_new, print_state};
 use benc::memory::MemSink;
 use drafts::Draft;
 use folders::memory::{MemFile, MemShelf};
-use folders::{CheckFault, Lines, NoMemory, Report, ShelfFault, check, check_onto};
+use folders::{CheckFault, Lines, Report, ShelfFault, check, check_onto};
 use gathering::{GatherFault, gather};
 use opening::Torrent;
 use parts::{BadCheckFault, check_with_bad_pieces};
@@ -50,14 +50,19 @@ pub(crate) fn check_again(
 ) -> io::Result<()> {
     let files = [MemFile::new(PATH, content)];
     let mut shelf = MemShelf::new(rt.alloc(), &files);
-    let report = match check(rt.alloc(), torrent, &mut shelf) {
-        Ok(report) => report,
-        Err(NoMemory) => {
-            name_unopened(rt, "check", &shelf)?;
-            check(rt.alloc(), torrent, &mut shelf)?
-        }
-    };
-    print_verdicts(rt, &report)
+    check_shelf(rt, torrent, &mut shelf)
+}
+
+fn check_shelf(
+    rt: &HostRuntime,
+    torrent: &Torrent<'_>,
+    shelf: &mut MemShelf<'_>,
+) -> io::Result<()> {
+    if let Ok(report) = check(rt.alloc(), torrent, shelf) {
+        return print_verdicts(rt, &report);
+    }
+    name_unopened(rt, "check", shelf)?;
+    print_verdicts(rt, &check(rt.alloc(), torrent, shelf)?)
 }
 
 /// Names a call that failed, and prints `changed` if it opened a file.
@@ -85,9 +90,19 @@ pub(crate) fn report_again(
     let files = [MemFile::new(PATH, content)];
     let mut shelf = MemShelf::new(rt.alloc(), &files);
     let mut out = MemSink::with_room(rt.alloc(), 256)?;
-    if !checks(rt, torrent, &mut shelf, &mut out, call)? {
-        name_untouched(rt, call, &shelf, &out)?;
-        let _ = checks(rt, torrent, &mut shelf, &mut out, call)?;
+    report_to(rt, torrent, &mut shelf, &mut out, call)
+}
+
+fn report_to(
+    rt: &HostRuntime,
+    torrent: &Torrent<'_>,
+    shelf: &mut MemShelf<'_>,
+    out: &mut MemSink,
+    call: &str,
+) -> io::Result<()> {
+    if !checks(rt, torrent, shelf, out, call)? {
+        name_untouched(rt, call, shelf, out)?;
+        let _ = checks(rt, torrent, shelf, out, call)?;
     }
     print_bytes(rt, out.written())
 }
@@ -157,11 +172,20 @@ pub(crate) fn seed_again<N: NodeMap>(
     content: &[u8],
 ) -> io::Result<()> {
     let mut session: Session<'_, N> = new_again(rt, torrent, false)?;
-    if let Err(SeedFault::NoMemory) = seed_file(rt, &mut session, content)? {
-        compare_new(rt, "seed", &session, torrent)?;
-        seed_with_room(rt, &mut session, content)?;
+    seed_session(rt, &mut session, torrent, content)
+}
+
+fn seed_session<N: NodeMap>(
+    rt: &HostRuntime,
+    session: &mut Session<'_, N>,
+    torrent: &Torrent<'_>,
+    content: &[u8],
+) -> io::Result<()> {
+    if let Err(SeedFault::NoMemory) = seed_file(rt, session, content)? {
+        compare_new(rt, "seed", session, torrent)?;
+        seed_with_room(rt, session, content)?;
     }
-    print_state(rt, &session)
+    print_state(rt, session)
 }
 
 fn seed_with_room<N: NodeMap>(

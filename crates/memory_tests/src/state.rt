@@ -6,6 +6,7 @@ use crate::given::Given;
 use crate::keeping::Directed;
 use opening::{Torrent, TreeInfo};
 use session::{Answer, NoMemory, NodeMap, Session};
+use std::alloc::Global;
 use std::io;
 use wire::{Ask, Message};
 
@@ -52,11 +53,20 @@ pub(crate) fn compare<N: NodeMap>(
     count: usize,
 ) -> io::Result<()> {
     name_refused(rt, call)?;
-    let other: Session<'_, N> = given.session_after(rt.alloc(), count)?;
-    if !are_alike(session, &other, &given.messages)? {
-        print_changed(rt, call)?;
+    if is_after(rt.alloc(), session, given, count)? {
+        return Ok(());
     }
-    Ok(())
+    print_changed(rt, call)
+}
+
+fn is_after<N: NodeMap>(
+    alloc: Global,
+    session: &Session<'_, N>,
+    given: &Given<'_>,
+    count: usize,
+) -> Result<bool, NoMemory> {
+    let other: Session<'_, N> = given.session_after(alloc, count)?;
+    are_alike(session, &other, &given.messages)
 }
 
 /// The same of a session that was to be as a new one.

@@ -6,12 +6,15 @@ use std::io;
 
 /// Takes the messages, and prints at the start and after each what is wanted for each block of the
 /// torrent's first tree.
-pub(crate) fn want_each<N: NodeMap>(rt: &HostRuntime, given: &Given<'_>) -> io::Result<()> {
-    let mut session: Session<'_, N> = given.session(rt)?;
-    print_wanted(rt, &session)?;
+pub(crate) fn want_each<N: NodeMap>(
+    rt: &HostRuntime,
+    session: &mut Session<'_, N>,
+    given: &Given<'_>,
+) -> io::Result<()> {
+    print_wanted(rt, session)?;
     for message in given.messages.iter() {
-        let _ = given.call.take(&mut session, message);
-        print_wanted(rt, &session)?;
+        let _ = given.call.take(session, message);
+        print_wanted(rt, session)?;
     }
     Ok(())
 }
