@@ -181,23 +181,20 @@ fn values(rt: HostRuntime) {
     }
 }
 
-#[test]
-fn printed_texts(rt: HostRuntime) {
-    let text = format!(in rt.alloc(); "{DeviceFault}, {}", WriteFault::Write);
-    assert!(rt; text.expect(&rt, "memory").as_str() == "the device failed, cannot write");
-}
-
-fn finds_keys(v: &Value<'_>) -> bool {
-    v.is_canonical()
-        && v.get(b"a") == Some(&Value::Int(7))
-        && v.get(b"b").is_some()
-        && v.get(b"c").is_none()
+// Whether a dictionary is canonical, with 7 under `a`, another value under `b`, and none under `c`.
+fn finds_keys(alloc: Global, text: &[u8]) -> Result<bool, Fault> {
+    let v = decode(alloc, text)?;
+    Ok(
+        v.is_canonical()
+            && matches!(v.get(b"a"), Some(Value::Int(7)))
+            && v.get(b"b").is_some()
+            && v.get(b"c").is_none(),
+    )
 }
 
 #[test]
 fn looks_up_keys(rt: HostRuntime) {
-    let v = decode(rt.alloc(), b"d1:ai7e1:bdee").expect(&rt, "a dictionary");
-    assert!(rt; finds_keys(&v));
+    assert!(rt; finds_keys(rt.alloc(), b"d1:ai7e1:bdee") == Ok(true));
     assert!(rt; Value::Int(7).get(b"a").is_none());
 }
 
@@ -207,7 +204,7 @@ fn canonical_or_not(rt: HostRuntime) {
     if let Value::Dict(pairs) = &mut v {
         pairs.reverse();
     }
-    assert!(rt; !v.is_canonical() && v.get(b"a") == Some(&Value::Int(2)));
+    assert!(rt; !v.is_canonical() && matches!(v.get(b"a"), Some(Value::Int(2))));
 }
 
 // Inputs, and the bytes of the value under `info`.

@@ -3,8 +3,8 @@ ghost use Rattle.wire.specs.Frames.{Frames};
 ghost use Rattle.wire.specs.declared.form.Form.{Form as FormOf};
 ghost use Rattle.wire.specs.Records.{Directed, RecordFrames};
 
-use benc::Source;
 use benc::memory::{MemSink, MemSource};
+use benc::{DeviceFault, Source, WriteFault};
 use std::alloc::{AllocError, Global};
 use std::process::Abort;
 use std::test::*;
@@ -198,13 +198,16 @@ fn a_request_to_the_byte(rt: HostRuntime) {
 #[test]
 fn printed_faults(rt: HostRuntime) {
     let text = format!(in rt.alloc();
-        "{}, {}, {}, {}",
+        "{}, {}, {}, {}, {}, {}",
+        DeviceFault,
+        WriteFault::Write,
         FrameFault::Truncated,
         FrameFault::Read,
         FrameFault::NoMemory,
         FrameFault::BadDirection,
     );
-    let wanted = "the input ends inside a frame, the source failed, out of memory, \
+    let wanted = "the device failed, cannot write, the input ends inside a frame, \
+                  the source failed, out of memory, \
                   a byte before a frame is no direction";
     assert!(rt; text.expect(&rt, "memory").as_str() == wanted);
 }
