@@ -1,7 +1,13 @@
 use Rattle.std.proofs.Common.{◌<◌, length, arith}
+use Rattle.std.proofs.lemmas.Option.{slice_get_within}
 use Rattle.session.proofs.BlockTrees.{block_in, some_tree, tree_within}
 use Rattle.session.proofs.MessageBlocks.{has-low}
 use Rattle.session.proofs.session.Session.knows_eight.Goals as goal
+
+pub tree_of-requires : goal.tree_of-requires
+tree_of-requires g c =
+    let has = block_in _ c.args.self.now c.args.file c.args.block c.self.view_is c.requires in
+    slice_get_within c.self.inside.torrent.now.files c.args.file has.0 has.1
 
 pub unwrap-tree-requires : goal.unwrap-tree-requires
 unwrap-tree-requires g c =

@@ -1,7 +1,8 @@
-use Rattle.std.proofs.Common.{◌≡◌, ℕ, List, length, Some, refl, sym, ◌∙◌, subst}
-use Rattle.std.proofs.lemmas.Option.{none-some}
+use Rattle.std.proofs.Common.{◌≡◌, ℕ, ◌<◌, List, length, Some, None, refl, sym, ap, ◌∙◌, subst}
+use Rattle.std.proofs.lemmas.Option.{none-some, same_Some, slice_get_within}
+use Rattle.hashtree.specs.Tree.{block_count}
 use Rattle.opening.specs.Blocks.{IsBlockRun}
-use Rattle.opening.specs.Description.{Description}
+use Rattle.opening.specs.Description.{Description, FileEntry}
 use Rattle.opening.specs.Places.{IsBlockPlace, place_of}
 use Rattle.partial_tree.specs.Kept.{KeptTree}
 use Rattle.session.specs.Layouts.{SessionSeen, seen, HasRun}
@@ -49,3 +50,19 @@ mark_run-requires g c =
     let f : IsBlockPlace c.self.inside.torrent.now c.args.index c.args.begin c.in-Some.file c.in-Some.first = c.in-Some.ensures.found in
     subst (λ (v : SessionSeen). HasRun v.torrent c.in-Some.file c.in-Some.first (length c.args.bytes.now) c.in-Some-block_run.count) c.self.view_is
     (f.file, f.there, c.in-Some-block_run.ensures.found f.file f.there)
+
+pub block_run-requires-clause-there : goal.block_run-requires-clause-there
+block_run-requires-clause-there g c =
+    let f : IsBlockPlace c.self.inside.torrent.now c.args.index c.args.begin c.in-Some.file c.in-Some.first = c.in-Some.ensures.found in
+    slice_get_within c.self.inside.torrent.now.files c.in-Some.file f.file f.there
+
+pub block_run-requires-clause-in_file : goal.block_run-requires-clause-in_file
+block_run-requires-clause-in_file g c =
+    let f : IsBlockPlace c.self.inside.torrent.now c.args.index c.args.begin c.in-Some.file c.in-Some.first = c.in-Some.ensures.found in
+    λ h at. subst (λ (e : FileEntry). c.in-Some.first < block_count e.length) (same_Some f.file h (sym f.there ∙ at)) f.in_file
+
+pub returns-in_default-clause-refused : goal.returns-in_default-clause-refused
+returns-in_default-clause-refused g c =
+    let at : place_of c.args.self.now.torrent c.args.index c.args.begin ≡ None =
+    ap (λ (v : SessionSeen). place_of v.torrent c.args.index c.args.begin) (sym c.self.view_is) ∙ sym c.place.ensures.value ∙ c.in_default.is in
+    (at, refl)

@@ -1,11 +1,17 @@
 use Rattle.std.proofs.Common.{◌≡◌, ◌<◌, length, set, IfOk, subst, arith}
 use Rattle.std.specs.Prelude.{IfErr}
+use Rattle.std.proofs.lemmas.Option.{slice_get_within}
 use Rattle.session.specs.Session.{IsMarkedBlock, IsUnmarkedBlock}
 use Rattle.session.specs.Layouts.{SessionSeen, seen}
 use Rattle.tree_laws.proofs.Keeping.{good_after_block}
 use Rattle.session.proofs.BlockTrees.{block_in, in_tree, some_tree, tree_within}
 use Rattle.session.proofs.Sessions.{kept-after, marked_all, unmarked_all}
 use Rattle.session.proofs.session.Session.mark_in_file.Goals as goal
+
+pub tree_of-requires : goal.tree_of-requires
+tree_of-requires g c =
+    let has = block_in _ c.args.self.now c.args.file c.args.block c.self.view_is c.requires.block in
+    slice_get_within c.self.inside.torrent.now.files c.args.file has.0 has.1
 
 pub unwrap-tree-requires : goal.unwrap-tree-requires
 unwrap-tree-requires g c =
