@@ -1,13 +1,15 @@
 use Rattle.std.proofs.Common.{◌≡◌, ◌∙◌, List, map, length, Err, inl, inr, refl, sym, ap, subst, arith, rules}
 use Rattle.std.proofs.lemmas.Result.{err_from_is_err_and}
+use Rattle.std.proofs.lemmas.List.{length-map}
 use Rattle.std.specs.List.{All}
 use Rattle.std.specs.Prelude.{OnOk}
+use Rattle.filetree.specs.Paths.{IsFilePath, AreInOrder}
 use Rattle.filetree.specs.Tests.{NoneHolds}
 use Rattle.filetree.specs.declared.refusal.Refusal.TheVariants as refusals
 use Rattle.drafts.specs.Adding.{Adds, IsGiven, IsWith, add_rows, given_file}
 use Rattle.drafts.specs.DraftSeen.{outline_file}
 use Rattle.drafts.specs.Orders.{IsPlaceOf, Ties}
-use Rattle.drafts.specs.Outline.{OutlineFile}
+use Rattle.drafts.specs.Outline.{Outline, OutlineFile}
 use Rattle.drafts.specs.declared.draft.DraftFile.{DraftFile}
 use Rattle.drafts.proofs.Passing.{Passed, answers, clashes, fits_given, none_holds, paths_in, refuses}
 use Rattle.drafts.proofs.draft.Draft.add.Goals as goal
@@ -79,6 +81,29 @@ returns-in_err-file c =
     subst (Adds c.args.self.now f c.args.layer.now c.args.self.now) (sym p.1)
     (answers c.args.self.now c.args.self.now f c.args.layer.now (Err p.0) (none_holds c.args.self.now f c.in-Some.place passed
     (subst (λ ps. IsPlaceOf f.path ps c.in-Some.place) paths c.in-Some.ensures.place)) tt (p.2 ∙ c.in_err-file.ensures) refl)
+
+pub place_among-requires : goal.place_among-requires
+place_among-requires c =
+    subst (λ (fs : List DraftFile). AreInOrder (map (λ (g : OutlineFile). g.path) (map outline_file fs))) (sym c.deref.ensures.value)
+    c.self.invariant.outline_is.in_order
+
+pub insert-requires-clause-room : goal.insert-requires-clause-room
+insert-requires-clause-room c =
+    let same : length c.deref.result.now ≡ length c.args.self.now.files =
+    ap length c.deref.ensures.value ∙ sym (length-map c.self.inside.files.items outline_file) ∙ ap (λ (d : Outline). length d.files) c.self.view_is in
+    omega (arith, same, c.in-Some.ensures.bound)
+
+pub insert-requires-clause-place : goal.insert-requires-clause-place
+insert-requires-clause-place c =
+    let f = given_file c.args.self.now (map (λ s. s.now) c.args.path.now) c.args.length c.args.root c.args.v1.now in
+    let paths : map (λ (g : OutlineFile). g.path) (map outline_file c.deref.result.now) ≡ paths_in c.args.self.now =
+    ap (λ (fs : List DraftFile). map (λ (g : OutlineFile). g.path) (map outline_file fs)) c.deref.ensures.value ∙ ap paths_in c.self.view_is
+    in
+    subst (λ (g : OutlineFile). IsPlaceOf g.path (paths_in c.args.self.now) c.in-Some.place) (sym c.in_ok-file.ensures)
+    (subst (λ ps. IsPlaceOf f.path ps c.in-Some.place) paths c.in-Some.ensures.place)
+
+pub insert-requires-clause-path : goal.insert-requires-clause-path
+insert-requires-clause-path c = subst (λ (g : OutlineFile). IsFilePath g.path) (sym c.in_ok-file.ensures) c.in_ok-test_path.ensures
 
 pub insert-requires-clause-tests : goal.insert-requires-clause-tests
 insert-requires-clause-tests c =

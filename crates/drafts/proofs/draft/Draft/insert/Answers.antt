@@ -1,19 +1,53 @@
-use Rattle.std.proofs.Common.{◌≡◌, ◌+◌, length, map, sym, ap, subst, ◌∙◌, arith}
+use Rattle.std.proofs.Common.{◌≡◌, ◌+◌, length, map, Result, Ok, Err, OnErr, sym, ap, subst, subst₂, ◌∙◌, arith}
 use Rattle.std.specs.List.{insert}
 use Rattle.std.specs.String.{string_bytes}
+use Rattle.std.proofs.lemmas.Bool.{false≢true}
 use Rattle.std.proofs.lemmas.List.{length-map}
 use Rattle.filetree.specs.Tests.{NoneHolds}
 use Rattle.drafts.specs.Adding.{IsGiven, IsWith, add_rows}
-use Rattle.drafts.specs.DraftSeen.{outline, outline_file}
+use Rattle.drafts.specs.DraftSeen.{IsKept, outline, outline_file}
 use Rattle.drafts.specs.Orders.{IsPlaceOf}
 use Rattle.drafts.specs.Outline.{Outline, OutlineFile}
 use Rattle.drafts.proofs.Kept.{put_file}
 use Rattle.drafts.proofs.draft.Draft.insert.Goals as goal
 
+-- what holds anyway holds of an error
+on_any_err : {T E P : Type 0} (r : Result T E) → P → OnErr r P
+on_any_err (Ok x) p = tt
+on_any_err (Err e) p = p
+
 pub insert-requires : goal.insert-requires
 insert-requires c =
     let same : length (map outline_file c.self.inside.files.items) ≡ length c.args.self.now.files = ap (λ (d : Outline). length d.files) c.self.view_is in
     omega (arith, c.requires.room, same, length-map c.self.inside.files.items outline_file, c.self.inside.files.ok.0, c.in_ok-reserve.ensures.len)
+
+pub invariant_of-self : goal.invariant_of-self
+invariant_of-self c =
+    let i = c.self.inside in
+    subst (λ fs. IsKept (string_bytes i.name) i.piece_length i.hybrid fs i.roots.entries i.pieces) (sym c.in_err-reserve.ensures.items) c.self.invariant
+
+pub returns-in_err-reserve-clause-unchanged : goal.returns-in_err-reserve-clause-unchanged
+returns-in_err-reserve-clause-unchanged c =
+    let i = c.self.inside in
+    on_any_err c.from_residual.result
+    (ap (λ fs. outline (string_bytes i.name) i.piece_length i.hybrid fs i.roots.entries) c.in_err-reserve.ensures.items ∙ c.self.view_is)
+
+pub invariant_of-self-in_err-keep_root : goal.invariant_of-self-in_err-keep_root
+invariant_of-self-in_err-keep_root c =
+    let i = c.self.inside in
+    subst₂ (λ fs es. IsKept (string_bytes i.name) i.piece_length i.hybrid fs es i.pieces) (sym c.in_ok-reserve.ensures.items)
+    (sym c.in_err-keep_root.ensures.unchanged) c.self.invariant
+
+pub returns-in_err-keep_root-clause-unchanged : goal.returns-in_err-keep_root-clause-unchanged
+returns-in_err-keep_root-clause-unchanged c =
+    let i = c.self.inside in
+    on_any_err c.from_residual-in_err-keep_root.result
+    (ap (λ fs. outline (string_bytes i.name) i.piece_length i.hybrid fs c.keep_root.new.roots.entries) c.in_ok-reserve.ensures.items
+    ∙ ap (λ es. outline (string_bytes i.name) i.piece_length i.hybrid i.files.items es) c.in_err-keep_root.ensures.unchanged ∙ c.self.view_is)
+
+pub invariant_of-self-in_err-insert : goal.invariant_of-self-in_err-insert
+invariant_of-self-in_err-insert c =
+    absurd (false≢true (c.in_err-insert.ensures.succeeds (omega (arith, c.in_ok-reserve.ensures.ok, c.in_ok-reserve.ensures.len))))
 
 pub invariant_of-self-2 : goal.invariant_of-self-2
 invariant_of-self-2 c =
