@@ -1,6 +1,6 @@
-use Rattle.std.proofs.Common.{◌≡◌, ◌+◌, ◌++◌, ◌∷◌, [], map, sym, ap, ◌∙◌, arith}
+use Rattle.std.proofs.Common.{◌≡◌, ◌+◌, List, ◌++◌, ◌∷◌, [], length, map, refl, sym, ap, ◌∙◌, arith}
 use Rattle.std.specs.Vec.Iter.{into_iter_items}
-use Rattle.std.proofs.lemmas.List.{map-append}
+use Rattle.std.proofs.lemmas.List.{append-nil, map-append}
 use Rattle.std.proofs.lemmas.List.Sums.{sum_by-cons}
 use Rattle.filetree.specs.declared.files.ListedFile.{ListedFile}
 use Rattle.opening.specs.Trees.{entries_from}
@@ -9,6 +9,11 @@ use Rattle.opening.specs.Trees.{pieces_in}
 use Rattle.pieces.specs.Pieces.{pieces_of}
 use Rattle.opening.proofs.Rooting.{files_step}
 use Rattle.opening.proofs.roots.place_files.Goals as goal
+
+-- what has no length has no items
+nil_of : {X : Type 0} (xs : List X) → length xs ≡ 0 → xs ≡ []
+nil_of [] e = refl
+nil_of (x ∷ xs) e = absurd (omega arith)
 
 pub listed-preserved : goal.listed-preserved
 listed-preserved c =
@@ -33,3 +38,30 @@ listed-preserved c =
           ∙ ap (λ es. es ++ entries_from p ts (c.listed.first_piece + c.pieces-first_piece.result) rest) (sym after);
       pieces = omega (arith, total, sum, counted);
     }
+
+pub overflow_add-first_piece : goal.overflow_add-first_piece
+overflow_add-first_piece c =
+    let p = c.args.piece_length in
+    let x = c.in-Some.file in
+    let rest = into_iter_items c.next.new.self in
+    let total : c.listed.first_piece + pieces_in p (x ∷ rest) ≡ pieces_in p c.args.listed.items =
+    ap (λ xs. c.listed.first_piece + pieces_in p xs) (sym c.in-Some.ensures.steps.0) ∙ c.listed.invariant.pieces in
+    let sum : pieces_in p (x ∷ rest) ≡ pieces_of p x.length + pieces_in p rest = sum_by-cons (λ (f : ListedFile). pieces_of p f.length) x rest in
+    omega (arith, total, sum, c.requires, c.pieces-first_piece.ensures)
+
+pub listed-init : goal.listed-init
+listed-init c =
+    let p = c.args.piece_length in
+    let ts = c.args.roots.now in
+    let all = c.into_iter-file-iterator.ensures.into_iter_gives.0 in
+    record {
+      entries = sym (ap (λ fs. map file_entry fs ++ entries_from p ts 0 (into_iter_items c.into_iter-file-iterator.result)) c.in_ok-files.ensures.items
+          ∙ ap (λ xs. entries_from p ts 0 xs) all);
+      pieces = omega (arith, ap (λ xs. pieces_in p xs) all);
+    }
+
+pub returns : goal.returns
+returns c =
+    let fs = map file_entry c.listed.files.items in
+    let none = nil_of (into_iter_items c.listed.file-iterator) (omega (arith, c.in-None.ensures.steps.0, c.listed.file-iterator.rest.ok)) in
+    sym (c.listed.invariant.entries ∙ ap (λ xs. fs ++ entries_from c.args.piece_length c.args.roots.now c.listed.first_piece xs) none ∙ append-nil fs)
