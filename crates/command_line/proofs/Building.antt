@@ -1,16 +1,18 @@
 -- How a command and its arguments grow.
-use Rattle.std.proofs.Common.{◌≡◌, ◌∙◌, ◌||◌, [], Bool, Some, ap, true}
+use Rattle.std.proofs.Common.{◌≡◌, ◌+◌, ◌++◌, ◌<◌, ◌∙◌, ◌∷◌, ◌||◌, [], Bool, List, Some, ap, codes, get_or, length, map, refl, subst, sym, take, true, ℕ}
+use Rattle.std.proofs.lemmas.List.{map_more}
 use Rattle.std.specs.Borrow.{Bor}
 use Rattle.clap.specs.Built.{AddsArg, AddsSubcommand}
-use Rattle.clap.specs.Simple.{App, Shape, app_of, app_of_fields, on_top, with_rule, with_subcommand}
+use Rattle.clap.specs.Simple.{App, Shape, app_of, app_of_fields, new_app, on_top, with_rule, with_subcommand}
 use Rattle.clap.specs.Walk.{Rule, Text, rule_of}
 use Rattle.clap.specs.declared.builder.action.ArgAction.{ArgAction}
 use Rattle.clap.specs.declared.builder.arg.Arg.{Arg}
 use Rattle.clap.specs.declared.builder.command.Command.{Command}
 use Rattle.clap.specs.declared.builder.command.Command.TheOpen.{Command-F}
 use Rattle.clap.specs.declared.builder.command.Command.TheViews.{out-Command}
+use Rattle.clap.specs.declared.builder.value_parser.ValueParser.{ValueParser}
 use Rattle.clap.specs.declared.builder.texts.Texts.TheVariants.{One}
-use Rattle.command_line.specs.CommandLine.{IsApp, IsArgument, IsLeaf, with_more}
+use Rattle.command_line.specs.CommandLine.{IsApp, IsArgument, IsLeaf, command, with_more}
 
 -- ---- an argument
 
@@ -36,6 +38,12 @@ pub set_value_name : (old new : Arg) (name : Bor Text) (r : Rule) → new ≡ re
     → IsArgument r old → IsArgument (record r { value_names = 1 }) new
 set_value_name old new name r e is =
     (ap rule_of e ∙ ap (λ (q : Rule). record q { value_names = 1 }) is.0, ap is_global e ∙ is.1)
+
+pub set_parser : (old new : Arg) (given parser : ValueParser) (r : Rule) → new ≡ record old { value_parser = new.value_parser }
+    → new.value_parser ≡ Some given → given ≡ parser → IsArgument r old → IsArgument (record r { parser = Some parser }) new
+set_parser old new given parser r others there same is =
+    let e : new ≡ record old { value_parser = Some parser } = others ∙ ap (λ p. record old { value_parser = p }) (there ∙ ap Some same) in
+    (ap rule_of e ∙ ap (λ (q : Rule). record q { parser = Some parser }) is.0, ap is_global e ∙ is.1)
 
 pub set_help : (old new : Arg) (help : Bor Text) (r : Rule) → new ≡ record old { help = Some help }
     → IsArgument r old → IsArgument r new
@@ -91,3 +99,36 @@ add_command old sub new app s is leaf adds =
           ∙ ap (λ (x : App). with_subcommand app x.top) leaf.0,
       adds.globals ∙ ap (λ (b : Bool). b || (out-Command sub).has_globals) is.1 ∙ leaf.1,
     )
+
+-- ---- the table
+
+-- the program without its commands
+abbrev pub start : App
+start = needing (versioned (new_app (codes "btcheck")))
+
+-- the program with these commands
+abbrev pub with_leaves : App → List Shape → App
+with_leaves app [] = app
+with_leaves app (s ∷ shapes) = with_leaves (with_subcommand app s) shapes
+
+module _ {X : Type 0} (f : X → Shape) where
+  with_leaf_more : (app : App) (shapes : List Shape) (s : Shape) → with_leaves app (shapes ++ s ∷ []) ≡ with_subcommand (with_leaves app shapes) s
+  with_leaf_more app [] s = refl
+  with_leaf_more app (t ∷ shapes) s = with_leaf_more (with_subcommand app t) shapes s
+
+  -- the program with the commands of one row more
+  pub add_leaf : (old sub new : Command) (app : App) (rows : List X) (i : ℕ) (d : X) → i < length rows
+      → IsApp (with_leaves app (map f (take i rows))) old → IsLeaf (f (get_or rows i d)) sub → AddsSubcommand old sub new
+      → IsApp (with_leaves app (map f (take (i + 1) rows))) new
+  add_leaf old sub new app rows i d lt is leaf adds =
+      let more = ap (with_leaves app) (map_more f rows i d lt) ∙ with_leaf_more app (map f (take i rows)) (f (get_or rows i d)) in
+      subst (λ a. IsApp a new) (sym more) (add_command old sub new (with_leaves app (map f (take i rows))) (f (get_or rows i d)) is leaf adds)
+
+module _ {X : Type 0} (f : X → Rule) where
+  -- a command with the argument of one row more
+  pub add_row : (old new : Command) (a : Arg) (name : Text) (rows : List X) (i : ℕ) (d : X) → i < length rows
+      → IsLeaf (command name (map f (take i rows))) old → IsArgument (f (get_or rows i d)) a → AddsArg old a new
+      → IsLeaf (command name (map f (take (i + 1) rows))) new
+  add_row old new a name rows i d lt leaf arg adds =
+      subst (λ rules. IsLeaf (command name rules) new) (sym (map_more f rows i d lt))
+      (add_argument old new a (command name (map f (take i rows))) (f (get_or rows i d)) leaf arg adds)

@@ -1,10 +1,9 @@
 -- What is found of a command, and which texts an action needs.
 use Rattle.std.proofs.Common.{◌≡◌, ◌∙◌, ◌∷◌, [], ap, codes, false, if◌then◌else◌, List, None, Option, option_map, refl, Some, subst, sym, true, ◌||◌}
 use Rattle.std.specs.List.{list_any}
-use Rattle.std.specs.Prelude.{⊤, Box, Err, Ok, Result, unwrap_or, ◌<◌, ◌^◌, ℕ}
+use Rattle.std.specs.Prelude.{⊤, Box, Err, IfOk, Ok, Result, unwrap_or, ◌<◌, ◌^◌, ℕ}
 use Rattle.std.specs.Str.Parse.{IsNumeral, ParsesUnsigned, digits_value, without_leading_plus}
 use Rattle.clap.specs.Matches.{ReadsOne}
-use Rattle.std.specs.Borrow.{Bor}
 use Rattle.std.specs.Box.{box_value}
 use Rattle.clap.specs.Simple.{subcommand_rows}
 use Rattle.clap.specs.declared.parser.matches.SubCommand.{SubCommand}
@@ -15,7 +14,7 @@ use Rattle.clap.specs.Walk.{Row, Text, first_of, one_of}
 use Rattle.actions.specs.declared.command.Action.{Action}
 use Rattle.actions.specs.declared.command.Action.TheVariants as action
 use Rattle.actions.specs.declared.command.Part.{Part}
-use Rattle.command_line.specs.CommandLine.{AreTexts, AreTextsIn, Asks, FindsArguments, command_of, IsActionOf, IsAskedOf, IsNumberIfThere, IsNumberOf, IsPartText, IsPlain}
+use Rattle.command_line.specs.CommandLine.{Asks, FindsArguments, command_of, IsActionOf, IsAskedOf, IsNumberIfThere, IsNumberOf, IsPartText, IsPlain}
 
 -- what is known of the name and of the rows of what was found
 pub both_found : {Z : Type 0} (o : Option (Box SubCommand Z)) (name : Text) (rows : List Row)
@@ -38,25 +37,11 @@ asked_of found name rows None is none = λ a asked.
     AsksIn a None = ⊤
     AsksIn a (Some p) = Asks p.0 p.1 a
 
--- the texts of the rows that were found are those of the command that was found
-pub texts_found : (found : Option (Text × List Row)) (name : Text) (here : List Row) (texts : List (Bor Text))
-    → option_map (λ p. p.1) found ≡ Some here → AreTexts name here texts → AreTextsIn name found texts
-texts_found None name here texts is are =
-    let bad : None ≡ Some here = is in
-    cc
-texts_found (Some p) name here texts is are = λ command rows same.
-    let rows_are : Some rows ≡ Some here = sym (ap (option_map (λ (q : Text × List Row). q.1)) same) ∙ is in
-    subst (λ r. AreTexts name r texts) (sym (ap (λ o. unwrap_or o here) rows_are)) are
-
--- if no command was found, any texts are its
-pub no_texts_found : (found : Option (Text × List Row)) (name : Text) (texts : List (Bor Text)) → option_map (λ p. p.1) found ≡ None
-    → AreTextsIn name found texts
-no_texts_found None name texts is = λ command rows same.
-    let bad : None ≡ Some (command, rows) = same in
-    cc
-no_texts_found (Some p) name texts is =
-    let bad : Some p.1 ≡ None = is in
-    cc
+-- the same of an action if it was found with enough memory
+pub asked_if : {E : Type 0} (found : Option (Text × List Row)) (name : Text) (rows : List Row) (r : Result (Option Action) E)
+    → found ≡ Some (name, rows) → IfOk r (IsActionOf name rows) → IfOk r (IsAskedOf found)
+asked_if found name rows (Ok a) is asks = asked_of found name rows a is asks
+asked_if found name rows (Err e) is asks = tt
 
 -- two names of which one computes that they differ
 differs : (a b : Text) → bytes_eq a b ≡ false → a ≡ b → ⊥

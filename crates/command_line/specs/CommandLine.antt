@@ -144,11 +144,6 @@ texts_of name rows = unwrap_or (all_of name rows) []
 abbrev pub AreTexts : Text → List Row → List (Bor Text) → Type 0
 AreTexts name rows texts = map (λ t. t.now) texts ≡ texts_of name rows
 
--- the same of the command that was found, if one was
-abbrev pub AreTextsIn : Text → Option (Text × List Row) → List (Bor Text) → Type 0
-AreTextsIn name found texts =
-    (command : Text) (rows : List Row) → found ≡ Some (command, rows) → AreTexts name rows texts
-
 -- a number of 64 bits as decimal digits, perhaps behind a plus
 abbrev pub IsNumberText : Text → ℕ → Type 0
 IsNumberText text number = (IsNumeral 10 (without_leading_plus text)
@@ -250,6 +245,10 @@ IsActionOf name rows None = (a : Action) → Asks name rows a → ⊥
 abbrev pub IsAskedIn : Option (Text × List Row) → Action → Type 0
 IsAskedIn found a =
     (name : Text) × (rows : List Row) × (found ≡ Some (name, rows)) × Asks name rows a
+
+-- nothing is asked for
+abbrev pub IsNothing : Option (Text × List Row) → Type 0
+IsNothing found = (a : Action) → IsAskedIn found a → ⊥
 
 -- what was found is this action; nothing only if it is none
 abbrev pub IsAskedOf : Option (Text × List Row) → Option Action → Type 0

@@ -1,2 +1,3 @@
 -- What contracts of the command line cite.
 pub mod CommandLine
+pub mod Table

@@ -1,15 +1,16 @@
 //! From arguments to what they ask for.
-ghost use Rattle.std.specs.Prelude.{◌≡◌, IfErr, IfOk, map, true};
+ghost use Rattle.std.specs.Prelude.{◌≡◌, ◌⊎◌, IfErr, IfOk, IsErrAnd, map, true};
+ghost use Rattle.clap.specs.Simple.{subcommand_rows_of};
 ghost use Rattle.clap.specs.Takes.{takes};
 ghost use Rattle.clap.specs.Values.{kind_of};
 ghost use Rattle.clap.specs.declared.error.kind.ErrorKind.TheVariants.{OutOfMemory};
 ghost use Rattle.actions.specs.declared.command.Action.{Action};
-ghost use Rattle.command_line.specs.CommandLine.{IsAskedBy, IsFoundIn, IsRefusalOf, program};
+ghost use Rattle.command_line.specs.CommandLine.{IsAskedBy, IsAskedIn, IsFoundIn, IsNothing, IsRefusalOf, IsUnaskedKind, program};
 
 use crate::definition::command;
-use crate::finding::{asked_in, texts_in, unasked};
+use crate::finding::{asked_in, unasked};
 use actions::Action;
-use clap::Error;
+use clap::{ArgMatches, Error};
 use std::alloc::Global;
 
 /// Reads the command line, whose first argument is the program's name. The error is `clap`'s, of
@@ -24,13 +25,25 @@ pub fn action<'a>(alloc: Global, line: &'a [&'a str]) -> Result<Action<'a>, Erro
         → kind_of e ≡ OutOfMemory) }
 {
     let matches = command(alloc)?.try_get_matches_from(line)?;
-    let exclude = texts_in(alloc, &matches, "exclude")?;
-    let reports = texts_in(alloc, &matches, "REPORT")?;
-    match asked_in(&matches, exclude, reports) {
+    action_in(alloc, &matches)
+}
+
+// The action that was found, or the error that says why there is none.
+fn action_in<'a>(alloc: Global, matches: &ArgMatches<'a>) -> Result<Action<'a>, Error>
+    ensures asked { IfOk result (IsAskedIn (subcommand_rows_of matches.now)) }
+    ensures refused { IfErr result (λ e. (kind_of e ≡ OutOfMemory)
+        ⊎ (IsUnaskedKind (kind_of e) × IsNothing (subcommand_rows_of matches.now))) }
+{
+    match asked_in(alloc, matches)? {
         Some(action) => Ok(action),
-        None => {
-            let (kind, message) = unasked(&matches);
-            Err(command(alloc)?.error(kind, message)?)
-        }
+        None => unasked_error(alloc, matches),
     }
+}
+
+// The error that says why nothing is asked for.
+fn unasked_error<'a>(alloc: Global, matches: &ArgMatches<'_>) -> Result<Action<'a>, Error>
+    ensures { IsErrAnd result (λ e. (kind_of e ≡ OutOfMemory) ⊎ IsUnaskedKind (kind_of e)) }
+{
+    let (kind, message) = unasked(matches);
+    Err(command(alloc)?.error(kind, message)?)
 }

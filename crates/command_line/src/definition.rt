@@ -1,8 +1,7 @@
 //! The command line, by `clap`.
-ghost use Rattle.std.specs.Prelude.{[]};
-ghost use Rattle.clap.specs.Simple.{App, Shape, with_subcommand};
-ghost use Rattle.clap.specs.Walk.{Rule};
-ghost use Rattle.command_line.specs.CommandLine.{IsApp, IsArgument, IsLeaf, IsMade, check_command, command, convert_command, create_command, flag, join_command, list_option, needed, needed_list, needed_number, needed_option, option, program, replay_command, root_command, show_command, with_more};
+ghost use Rattle.std.specs.Prelude.{◌≡◌};
+ghost use Rattle.command_line.specs.CommandLine.{IsApp, IsArgument, IsLeaf, IsMade, program};
+ghost use Rattle.command_line.specs.Table.{action_for, leaf_of, needs, rule_for};
 
 use crate::help::{
     ABOUT, ANSWERS_HELP, BAD_HELP, CHECK_ABOUT, CHECK_HELP, CONVERT_ABOUT, CONVERT_HELP,
@@ -10,202 +9,192 @@ use crate::help::{
     JOIN_HELP, JSON_HELP, NAME_HELP, PART_HELP, PIECE_LENGTH_HELP, QUIET_HELP, REPLAY_ABOUT,
     REPLAY_HELP, ROOT_ABOUT, ROOT_HELP, SEED_HELP, SHOW_ABOUT, SHOW_HELP, STATUSES, VERSION,
 };
+use Kind::{Flag, Number, Text, Word};
+use Times::{Any, AtLeastOnce, AtMostOnce, Once};
 use clap::{Arg, ArgAction, Command, Error, value_parser};
 use std::alloc::Global;
+
+// A command without commands below it.
+#[derive(Clone, Copy)]
+struct Subcommand<'a> {
+    name: &'a str,
+    // What it does.
+    about: &'a str,
+    // More help on it.
+    help: &'a str,
+    arguments: &'a [Argument<'a>],
+}
+
+// An argument: its name, what it is, how often it is there, and what it means.
+type Argument<'a> = (&'a str, Kind<'a>, Times, &'a str);
+
+// What an argument is. The text is the name of its value in help.
+#[derive(Clone, Copy)]
+enum Kind<'a> {
+    // A word without a name before it.
+    Word,
+    // An option without a value.
+    Flag,
+    // An option with a text.
+    Text(&'a str),
+    // An option with a number of 64 bits.
+    Number(&'a str),
+}
+
+// How often an argument is there.
+#[derive(Clone, Copy)]
+enum Times {
+    AtMostOnce,
+    Once,
+    AtLeastOnce,
+    Any,
+}
+
+// All commands, in the order of help.
+const COMMANDS: &[Subcommand<'static>] = &[
+    Subcommand {
+        name: "root",
+        about: ROOT_ABOUT,
+        help: ROOT_HELP,
+        arguments: &[
+            ("FILE", Word, Once, "The file to hash"),
+            ("json", Flag, AtMostOnce, JSON_HELP),
+        ],
+    },
+    Subcommand {
+        name: "show",
+        about: SHOW_ABOUT,
+        help: SHOW_HELP,
+        arguments: &[
+            ("TORRENT", Word, Once, "The torrent file"),
+            ("json", Flag, AtMostOnce, JSON_HELP),
+        ],
+    },
+    Subcommand {
+        name: "check",
+        about: CHECK_ABOUT,
+        help: CHECK_HELP,
+        arguments: &[
+            ("TORRENT", Word, Once, "The torrent file"),
+            ("DIR", Word, Once, "The folder that holds the files"),
+            ("quiet", Flag, AtMostOnce, QUIET_HELP),
+            ("bad", Flag, AtMostOnce, BAD_HELP),
+            ("part", Text("I/N"), AtMostOnce, PART_HELP),
+            ("json", Flag, AtMostOnce, JSON_HELP),
+        ],
+    },
+    Subcommand {
+        name: "join",
+        about: JOIN_ABOUT,
+        help: JOIN_HELP,
+        arguments: &[
+            ("TORRENT", Word, Once, "The torrent file"),
+            (
+                "REPORT",
+                Word,
+                AtLeastOnce,
+                "What each part of the check printed",
+            ),
+        ],
+    },
+    Subcommand {
+        name: "create",
+        about: CREATE_ABOUT,
+        help: CREATE_HELP,
+        arguments: &[
+            ("DIR", Word, Once, "The folder that holds the files"),
+            ("OUT", Word, Once, "The torrent file that is written"),
+            ("name", Text("N"), Once, NAME_HELP),
+            ("piece-length", Number("K"), Once, PIECE_LENGTH_HELP),
+            ("hybrid", Flag, AtMostOnce, HYBRID_HELP),
+            ("exclude", Text("GLOB"), Any, EXCLUDE_HELP),
+        ],
+    },
+    Subcommand {
+        name: "replay",
+        about: REPLAY_ABOUT,
+        help: REPLAY_HELP,
+        arguments: &[
+            ("TORRENT", Word, Once, "The torrent file"),
+            ("RECORD", Word, Once, "The record, a file or a pipe"),
+            ("info-only", Flag, AtMostOnce, INFO_ONLY_HELP),
+            ("seed", Text("DIR"), AtMostOnce, SEED_HELP),
+            ("answers", Text("OUT"), AtMostOnce, ANSWERS_HELP),
+            ("json", Flag, AtMostOnce, JSON_HELP),
+        ],
+    },
+    Subcommand {
+        name: "convert",
+        about: CONVERT_ABOUT,
+        help: CONVERT_HELP,
+        arguments: &[
+            ("RECORD", Word, Once, "The record, a file or a pipe"),
+            ("OUT", Word, Once, "The record that is written"),
+        ],
+    },
+];
 
 /// The program's command, with its subcommands.
 pub(crate) fn command<'a>(alloc: Global) -> Result<Command<'a>, Error>
     ensures { IsMade (IsApp program) result }
 {
-    let command = Command::new(alloc, "btcheck")
+    let mut command = Command::new(alloc, "btcheck")
         .version(VERSION)
         .about(ABOUT)
         .after_help(STATUSES)
         .after_long_help(EXAMPLES)
         .subcommand_required(true);
-    let command = with_command(Ok(command), root_command(alloc));
-    let command = with_command(command, show_command(alloc));
-    let command = with_command(command, check_command(alloc));
-    let command = with_command(command, join_command(alloc));
-    let command = with_command(command, create_command(alloc));
-    let command = with_command(command, replay_command(alloc));
-    with_command(command, convert_command(alloc))
+    for below in COMMANDS {
+        command = command.subcommand(leaf(alloc, below)?)?;
+    }
+    Ok(command)
 }
 
-fn root_command<'a>(alloc: Global) -> Result<Command<'a>, Error>
-    ensures { IsMade (IsLeaf root_command) result }
+// A command without commands below it.
+fn leaf<'a>(alloc: Global, row: &Subcommand<'a>) -> Result<Command<'a>, Error>
+    ensures { IsMade (IsLeaf (leaf_of row.now)) result }
 {
-    let command = Ok(leaf(alloc, "root", ROOT_ABOUT, ROOT_HELP));
-    let command = with_argument(command, needed(alloc, "FILE", "The file to hash"));
-    with_argument(command, flag(alloc, "json", JSON_HELP))
+    let mut command = Command::new(alloc, row.name)
+        .about(row.about)
+        .after_help(row.help);
+    for &(name, kind, times, help) in row.arguments {
+        command = command.arg(arg(alloc, name, kind, times, help))?;
+    }
+    Ok(command)
 }
 
-fn show_command<'a>(alloc: Global) -> Result<Command<'a>, Error>
-    ensures { IsMade (IsLeaf show_command) result }
+// One argument of a command.
+fn arg<'a>(alloc: Global, name: &'a str, kind: Kind<'a>, times: Times, help: &'a str) -> Arg<'a>
+    ensures { IsArgument (rule_for name.entry.now kind.entry times) result }
 {
-    let command = Ok(leaf(alloc, "show", SHOW_ABOUT, SHOW_HELP));
-    let command = with_argument(command, needed(alloc, "TORRENT", "The torrent file"));
-    with_argument(command, flag(alloc, "json", JSON_HELP))
+    let argument = Arg::new(alloc, name)
+        .required(is_needed(times))
+        .action(action(times))
+        .help(help);
+    match kind {
+        Kind::Word => argument,
+        Kind::Flag => argument.long(name).action(ArgAction::SetTrue),
+        Kind::Text(value) => argument.long(name).value_name(value),
+        Kind::Number(value) => argument
+            .long(name)
+            .value_name(value)
+            .value_parser(value_parser!(u64)),
+    }
 }
 
-fn check_command<'a>(alloc: Global) -> Result<Command<'a>, Error>
-    ensures { IsMade (IsLeaf check_command) result }
+// Whether an argument has to be there.
+fn is_needed(times: Times) -> bool
+    ensures { result ≡ needs times }
 {
-    let command = Ok(leaf(alloc, "check", CHECK_ABOUT, CHECK_HELP));
-    let command = with_argument(command, needed(alloc, "TORRENT", "The torrent file"));
-    let command = with_argument(
-        command,
-        needed(alloc, "DIR", "The folder that holds the files"),
-    );
-    let command = with_argument(command, flag(alloc, "quiet", QUIET_HELP));
-    let command = with_argument(command, flag(alloc, "bad", BAD_HELP));
-    let command = with_argument(command, option(alloc, "part", "I/N", PART_HELP));
-    with_argument(command, flag(alloc, "json", JSON_HELP))
+    matches!(times, Times::Once | Times::AtLeastOnce)
 }
 
-fn join_command<'a>(alloc: Global) -> Result<Command<'a>, Error>
-    ensures { IsMade (IsLeaf join_command) result }
+// What becomes of the values: each use adds one, or there is one alone.
+fn action(times: Times) -> ArgAction
+    ensures { result ≡ action_for times }
 {
-    let command = Ok(leaf(alloc, "join", JOIN_ABOUT, JOIN_HELP));
-    let command = with_argument(command, needed(alloc, "TORRENT", "The torrent file"));
-    with_argument(
-        command,
-        needed_list(alloc, "REPORT", "What each part of the check printed"),
-    )
-}
-
-fn create_command<'a>(alloc: Global) -> Result<Command<'a>, Error>
-    ensures { IsMade (IsLeaf create_command) result }
-{
-    let command = Ok(leaf(alloc, "create", CREATE_ABOUT, CREATE_HELP));
-    let command = with_argument(
-        command,
-        needed(alloc, "DIR", "The folder that holds the files"),
-    );
-    let command = with_argument(
-        command,
-        needed(alloc, "OUT", "The torrent file that is written"),
-    );
-    let command = with_argument(command, needed_option(alloc, "name", "N", NAME_HELP));
-    let command = with_argument(
-        command,
-        needed_number(alloc, "piece-length", "K", PIECE_LENGTH_HELP),
-    );
-    let command = with_argument(command, flag(alloc, "hybrid", HYBRID_HELP));
-    with_argument(command, list_option(alloc, "exclude", "GLOB", EXCLUDE_HELP))
-}
-
-fn replay_command<'a>(alloc: Global) -> Result<Command<'a>, Error>
-    ensures { IsMade (IsLeaf replay_command) result }
-{
-    let command = Ok(leaf(alloc, "replay", REPLAY_ABOUT, REPLAY_HELP));
-    let command = with_argument(command, needed(alloc, "TORRENT", "The torrent file"));
-    let command = with_argument(
-        command,
-        needed(alloc, "RECORD", "The record, a file or a pipe"),
-    );
-    let command = with_argument(command, flag(alloc, "info-only", INFO_ONLY_HELP));
-    let command = with_argument(command, option(alloc, "seed", "DIR", SEED_HELP));
-    let command = with_argument(command, option(alloc, "answers", "OUT", ANSWERS_HELP));
-    with_argument(command, flag(alloc, "json", JSON_HELP))
-}
-
-fn convert_command<'a>(alloc: Global) -> Result<Command<'a>, Error>
-    ensures { IsMade (IsLeaf convert_command) result }
-{
-    let command = Ok(leaf(alloc, "convert", CONVERT_ABOUT, CONVERT_HELP));
-    let command = with_argument(
-        command,
-        needed(alloc, "RECORD", "The record, a file or a pipe"),
-    );
-    with_argument(command, needed(alloc, "OUT", "The record that is written"))
-}
-
-// The command with this command below it. An error goes on, so that no caller has an exit for it.
-fn with_command<'a>(
-    command: Result<Command<'a>, Error>,
-    below: Result<Command<'a>, Error>,
-) -> Result<Command<'a>, Error>
-    ensures { (app : App) → (sub : Shape) → IsMade (IsApp app) command.entry
-        → IsMade (IsLeaf sub) below.entry → IsMade (IsApp (with_subcommand app sub)) result }
-{
-    let command = command?;
-    Ok(command.subcommand(below?)?)
-}
-
-// The command with this argument. An error goes on.
-fn with_argument<'a>(
-    command: Result<Command<'a>, Error>,
-    argument: Arg<'a>,
-) -> Result<Command<'a>, Error>
-    ensures { (shape : Shape) → (rule : Rule) → IsMade (IsLeaf shape) command.entry
-        → IsArgument rule argument.entry → IsMade (IsLeaf (with_more shape rule)) result }
-{
-    Ok(command?.arg(argument)?)
-}
-
-// A command without commands below it, with what it does and more help on it.
-fn leaf<'a>(alloc: Global, name: &'a str, about: &'a str, help: &'a str) -> Command<'a>
-    ensures { IsLeaf (command name.entry.now []) result }
-{
-    Command::new(alloc, name).about(about).after_help(help)
-}
-
-// An argument that has to be there, with what it means.
-fn needed<'a>(alloc: Global, name: &'a str, help: &'a str) -> Arg<'a>
-    ensures { IsArgument (needed name.entry.now) result }
-{
-    Arg::new(alloc, name)
-        .required(true)
-        .action(ArgAction::Set)
-        .help(help)
-}
-
-// The same, which may be there many times.
-fn needed_list<'a>(alloc: Global, name: &'a str, help: &'a str) -> Arg<'a>
-    ensures { IsArgument (needed_list name.entry.now) result }
-{
-    needed(alloc, name, help).action(ArgAction::Append)
-}
-
-// An option that is there or not, with what it means.
-fn flag<'a>(alloc: Global, name: &'a str, help: &'a str) -> Arg<'a>
-    ensures { IsArgument (flag name.entry.now) result }
-{
-    Arg::new(alloc, name)
-        .long(name)
-        .action(ArgAction::SetTrue)
-        .help(help)
-}
-
-// An option with a value, with the value's name and what it means.
-fn option<'a>(alloc: Global, name: &'a str, value: &'a str, help: &'a str) -> Arg<'a>
-    ensures { IsArgument (option name.entry.now) result }
-{
-    Arg::new(alloc, name)
-        .long(name)
-        .value_name(value)
-        .action(ArgAction::Set)
-        .help(help)
-}
-
-// The same, which may be there many times.
-fn list_option<'a>(alloc: Global, name: &'a str, value: &'a str, help: &'a str) -> Arg<'a>
-    ensures { IsArgument (list_option name.entry.now) result }
-{
-    option(alloc, name, value, help).action(ArgAction::Append)
-}
-
-// An option with a value that has to be there.
-fn needed_option<'a>(alloc: Global, name: &'a str, value: &'a str, help: &'a str) -> Arg<'a>
-    ensures { IsArgument (needed_option name.entry.now) result }
-{
-    option(alloc, name, value, help).required(true)
-}
-
-// The same, whose value is a number of 64 bits.
-fn needed_number<'a>(alloc: Global, name: &'a str, value: &'a str, help: &'a str) -> Arg<'a>
-    ensures { IsArgument (needed_number name.entry.now) result }
-{
-    needed_option(alloc, name, value, help).value_parser(value_parser!(u64))
+    match times {
+        Times::AtLeastOnce | Times::Any => ArgAction::Append,
+        _ => ArgAction::Set,
+    }
 }

@@ -3,81 +3,64 @@ ghost use Rattle.std.specs.Prelude.{◌↔◌, codes, IfOk, IsFalse, IsTrue};
 ghost use Rattle.clap.specs.Simple.{subcommand_rows_of};
 ghost use Rattle.clap.specs.Walk.{one_of, rows_of};
 ghost use Rattle.clap.specs.Matches.{found_of};
-ghost use Rattle.command_line.specs.CommandLine.{AreTexts, AreTextsIn, IsActionOf, IsAskedOf, IsFlag, IsNotGiven, IsNumberIfThere, IsPartIfThere, IsPlain, IsTextIfThere, IsUnaskedKind};
+ghost use Rattle.command_line.specs.CommandLine.{AreTexts, IsActionOf, IsAskedOf, IsFlag, IsNotGiven, IsNumberIfThere, IsPartIfThere, IsPlain, IsTextIfThere, IsUnaskedKind};
 
 use actions::{Action, Check, CheckPart, Convert, Create, Join, Part, Replay};
 use clap::ArgMatches;
 use clap::error::ErrorKind;
 use std::alloc::{AllocError, Global};
 
-/// What the command that was found asks for, with the texts of `exclude` and of `REPORT`.
+/// What the command that was found asks for.
 pub(crate) fn asked_in<'a>(
+    alloc: Global,
     matches: &ArgMatches<'a>,
-    exclude: Vec<&'a str>,
-    reports: Vec<&'a str>,
-) -> Option<Action<'a>>
-    requires exclude { AreTextsIn (codes "exclude") (subcommand_rows_of matches.now)
-        exclude.items }
-    requires reports { AreTextsIn (codes "REPORT") (subcommand_rows_of matches.now) reports.items }
-    ensures { IsAskedOf (subcommand_rows_of matches.now) result }
+) -> Result<Option<Action<'a>>, AllocError>
+    ensures { IfOk result (IsAskedOf (subcommand_rows_of matches.now)) }
 {
-    let (name, found) = matches.subcommand()?;
-    action_of(name, found, exclude, reports)
+    match matches.subcommand() {
+        Some((name, found)) => action_of(alloc, name, found),
+        None => Ok(None),
+    }
 }
 
 /// Why nothing is asked for: the kind of the error, and what it says.
 pub(crate) fn unasked(matches: &ArgMatches<'_>) -> (ErrorKind, &'static str)
     ensures { IsUnaskedKind result.0 }
 {
-    match matches.subcommand() {
-        Some(("check", found)) if is_plain(found) => (
+    let Some(("check", found)) = matches.subcommand() else {
+        return (ErrorKind::MissingSubcommand, "a command is missing");
+    };
+    if is_plain(found) {
+        (
             ErrorKind::ValueValidation,
             "invalid value for '--part <I/N>': it is not the number of a part, at least 1, and how \
              many there are, as in 1/4",
-        ),
-        Some(("check", _)) => (
+        )
+    } else {
+        (
             ErrorKind::ArgumentConflict,
             "the argument '--part <I/N>' cannot be used with '--quiet', '--bad' or '--json'",
-        ),
-        _ => (ErrorKind::MissingSubcommand, "a command is missing"),
-    }
-}
-
-/// The texts that were found under this name, behind whatever command.
-pub(crate) fn texts_in<'a>(
-    alloc: Global,
-    matches: &ArgMatches<'a>,
-    name: &str,
-) -> Result<Vec<&'a str>, AllocError>
-    ensures { IfOk result (λ texts. AreTextsIn name.now (subcommand_rows_of matches.now)
-        texts.items) }
-{
-    match matches.subcommand() {
-        Some((_, found)) => Ok(texts(alloc, found, name)?),
-        None => Ok(Vec::new(alloc)),
+        )
     }
 }
 
 // What the command of this name asks for, with what was found in its arguments.
 fn action_of<'a>(
+    alloc: Global,
     name: &str,
     found: &ArgMatches<'a>,
-    exclude: Vec<&'a str>,
-    reports: Vec<&'a str>,
-) -> Option<Action<'a>>
-    requires exclude { AreTexts (codes "exclude") (rows_of (found_of found.now)) exclude.items }
-    requires reports { AreTexts (codes "REPORT") (rows_of (found_of found.now)) reports.items }
-    ensures { IsActionOf name.now (rows_of (found_of found.now)) result }
+) -> Result<Option<Action<'a>>, AllocError>
+    ensures { IfOk result (IsActionOf name.now (rows_of (found_of found.now))) }
 {
     match name {
-        "root" => root_of(found),
-        "show" => show_of(found),
-        "check" => check_of(found),
-        "join" => join_of(found, reports),
-        "create" => create_of(found, exclude),
-        "replay" => replay_of(found),
-        "convert" => convert_of(found),
-        _ => None,
+        "root" => Ok(root_of(found)),
+        "show" => Ok(show_of(found)),
+        "check" => Ok(check_of(found)),
+        "join" => Ok(join_of(found, texts(alloc, found, "REPORT")?)),
+        "create" => Ok(create_of(found, texts(alloc, found, "exclude")?)),
+        "replay" => Ok(replay_of(found)),
+        "convert" => Ok(convert_of(found)),
+        _ => Ok(None),
     }
 }
 

@@ -1,6 +1,0 @@
-use Rattle.command_line.proofs.definition.root_command.Goals as goal
-
-pub returns : goal.returns
-returns c =
-    let one = c.with_argument-command.ensures _ _ c.leaf.ensures c.needed.ensures in
-    c.with_argument.ensures _ _ one c.flag.ensures
