@@ -1,8 +1,9 @@
 -- How a command and its arguments grow.
-use Rattle.std.proofs.Common.{◌≡◌, ◌+◌, ◌++◌, ◌<◌, ◌∙◌, ◌∷◌, ◌||◌, [], Bool, List, Some, ap, codes, get_or, length, map, refl, subst, sym, take, true, ℕ}
+use Rattle.std.proofs.Common.{◌≡◌, ◌+◌, ◌++◌, ◌<◌, ◌∙◌, ◌∷◌, ◌||◌, [], Bool, List, Some, ap, codes, get_or, length, map, subst, sym, take, true, ℕ}
 use Rattle.std.proofs.lemmas.List.{map_more}
+use Rattle.std.specs.List.{AllZip}
 use Rattle.std.specs.Borrow.{Bor}
-use Rattle.clap.specs.Built.{AddsArg, AddsSubcommand}
+use Rattle.clap.specs.Built.{AddsArg, AddsInTurn, AddsSubcommand}
 use Rattle.clap.specs.Simple.{App, Shape, app_of, app_of_fields, new_app, on_top, with_rule, with_subcommand}
 use Rattle.clap.specs.Walk.{Rule, Text, rule_of}
 use Rattle.clap.specs.declared.builder.action.ArgAction.{ArgAction}
@@ -111,18 +112,31 @@ abbrev pub with_leaves : App → List Shape → App
 with_leaves app [] = app
 with_leaves app (s ∷ shapes) = with_leaves (with_subcommand app s) shapes
 
-module _ {X : Type 0} (f : X → Shape) where
-  with_leaf_more : (app : App) (shapes : List Shape) (s : Shape) → with_leaves app (shapes ++ s ∷ []) ≡ with_subcommand (with_leaves app shapes) s
-  with_leaf_more app [] s = refl
-  with_leaf_more app (t ∷ shapes) s = with_leaf_more (with_subcommand app t) shapes s
+-- a program with the commands of these shapes more
+pub add_leaves : (old new : Command) (app : App) (shapes : List Shape) (subs : List Command)
+    → IsApp app old → AllZip IsLeaf shapes subs → AddsInTurn AddsSubcommand old subs new
+    → IsApp (with_leaves app shapes) new
+add_leaves old new app [] [] is all adds = subst (IsApp app) adds is
+add_leaves old new app [] (c ∷ subs) is all adds = absurd all
+add_leaves old new app (s ∷ shapes) [] is all adds = absurd all
+add_leaves old new app (s ∷ shapes) (c ∷ subs) is all adds =
+    add_leaves adds.0 new (with_subcommand app s) shapes subs (add_command old c adds.0 app s is all.0 adds.1) all.1 adds.2
 
-  -- the program with the commands of one row more
-  pub add_leaf : (old sub new : Command) (app : App) (rows : List X) (i : ℕ) (d : X) → i < length rows
-      → IsApp (with_leaves app (map f (take i rows))) old → IsLeaf (f (get_or rows i d)) sub → AddsSubcommand old sub new
-      → IsApp (with_leaves app (map f (take (i + 1) rows))) new
-  add_leaf old sub new app rows i d lt is leaf adds =
-      let more = ap (with_leaves app) (map_more f rows i d lt) ∙ with_leaf_more app (map f (take i rows)) (f (get_or rows i d)) in
-      subst (λ a. IsApp a new) (sym more) (add_command old sub new (with_leaves app (map f (take i rows))) (f (get_or rows i d)) is leaf adds)
+all_zip_push : {A B : Type 0} (R : A → B → Type 0) (xs : List A) (ys : List B) (x : A) (y : B)
+    → AllZip R xs ys → R x y → AllZip R (xs ++ x ∷ []) (ys ++ y ∷ [])
+all_zip_push R [] [] x y all is = (is, tt)
+all_zip_push R [] (v ∷ ys) x y all is = absurd all
+all_zip_push R (u ∷ xs) [] x y all is = absurd all
+all_zip_push R (u ∷ xs) (v ∷ ys) x y all is = (all.0, all_zip_push R xs ys x y all.1 is)
+
+module _ {X : Type 0} (f : X → Shape) where
+  -- the commands of one row more
+  pub more_leaves : (rows : List X) (i : ℕ) (d : X) (leaves : List Command) (leaf : Command) → i < length rows
+      → AllZip IsLeaf (map f (take i rows)) leaves → IsLeaf (f (get_or rows i d)) leaf
+      → AllZip IsLeaf (map f (take (i + 1) rows)) (leaves ++ leaf ∷ [])
+  more_leaves rows i d leaves leaf lt all is =
+      subst (λ shapes. AllZip IsLeaf shapes (leaves ++ leaf ∷ [])) (sym (map_more f rows i d lt))
+      (all_zip_push IsLeaf (map f (take i rows)) leaves (f (get_or rows i d)) leaf all is)
 
 module _ {X : Type 0} (f : X → Rule) where
   -- a command with the argument of one row more

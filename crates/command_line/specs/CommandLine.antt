@@ -1,7 +1,7 @@
 -- What the program's command line is to clap, and what it asks for. Words are the arguments as
 -- texts, the program's name first; rows are what clap's definition of simple commands finds in
 -- them.
-use Rattle.std.specs.Prelude.{◌≡◌, ◌≢◌, ◌⊎◌, ℕ, List, [], ◌∷◌, Bool, true, false, Option, Some, None, codes, eqb, map, option_map, unwrap_or, ◌<◌, ◌≤◌, ◌^◌, ◌++◌, Result, MatchResult}
+use Rattle.std.specs.Prelude.{◌≡◌, ◌≢◌, ◌⊎◌, ℕ, List, [], ◌∷◌, Bool, true, false, Option, Some, None, codes, eqb, map, option_map, unwrap_or, ◌<◌, ◌≤◌, ◌^◌, ◌++◌}
 use Rattle.std.specs.List.{after_first, before_first}
 use Rattle.std.specs.Borrow.{Bor}
 use Rattle.clap.specs.Walk.{Row, Rule, Text, all_of, first_of, one_of, rule_of}
@@ -11,8 +11,6 @@ use Rattle.clap.specs.Faults.{fault_of}
 use Rattle.clap.specs.declared.builder.arg.Arg.{Arg}
 use Rattle.clap.specs.declared.builder.command.Command.{Command}
 use Rattle.clap.specs.declared.builder.command.Command.TheViews.{out-Command}
-use Rattle.clap.specs.Values.{kind_of}
-use Rattle.clap.specs.declared.error.Error.{Error}
 use Rattle.clap.specs.declared.error.kind.ErrorKind.{ErrorKind}
 use Rattle.clap.specs.declared.error.kind.ErrorKind.TheVariants.{ArgumentConflict, DisplayHelp, DisplayVersion, MissingSubcommand, OutOfMemory, ValueValidation}
 use Rattle.clap.specs.declared.builder.action.ArgAction.TheVariants.{Append, Set, SetTrue}
@@ -114,10 +112,6 @@ IsLeaf shape c = IsApp (record { top = shape; subs = [] }) c
 -- the command with this rule for one more argument
 abbrev pub with_more : Shape → Rule → Shape
 with_more shape rule = record shape { rules = shape.rules ++ rule ∷ [] }
-
--- such a command, or memory was refused
-abbrev pub IsMade : (Command → Type 0) → Result Command Error → Type 0
-IsMade Is made = MatchResult made Is (λ e. kind_of e ≡ OutOfMemory)
 
 -- ---- what is asked for
 

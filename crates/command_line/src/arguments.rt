@@ -45,5 +45,8 @@ fn unasked_error<'a>(alloc: Global, matches: &ArgMatches<'_>) -> Result<Action<'
     ensures { IsErrAnd result (λ e. (kind_of e ≡ OutOfMemory) ⊎ IsUnaskedKind (kind_of e)) }
 {
     let (kind, message) = unasked(matches);
-    Err(command(alloc)?.error(kind, message)?)
+    let mut command = command(alloc)?;
+    let error = command.error(kind, message);
+    drop(command);
+    Err(error?)
 }

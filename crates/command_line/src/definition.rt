@@ -1,6 +1,7 @@
 //! The command line, by `clap`.
-ghost use Rattle.std.specs.Prelude.{◌≡◌};
-ghost use Rattle.command_line.specs.CommandLine.{IsApp, IsArgument, IsLeaf, IsMade, program};
+ghost use Rattle.std.specs.List.{AllZip};
+ghost use Rattle.std.specs.Prelude.{◌≡◌, IfOk, map};
+ghost use Rattle.command_line.specs.CommandLine.{IsApp, IsArgument, IsLeaf, program};
 ghost use Rattle.command_line.specs.Table.{action_for, leaf_of, needs, rule_for};
 
 use crate::help::{
@@ -11,8 +12,8 @@ use crate::help::{
 };
 use Kind::{Flag, Number, Text, Word};
 use Times::{Any, AtLeastOnce, AtMostOnce, Once};
-use clap::{Arg, ArgAction, Command, Error, value_parser};
-use std::alloc::Global;
+use clap::{Arg, ArgAction, Command, value_parser};
+use std::alloc::{AllocError, Global};
 
 // A command without commands below it.
 #[derive(Clone, Copy)]
@@ -135,24 +136,40 @@ const COMMANDS: &[Subcommand<'static>] = &[
 ];
 
 /// The program's command, with its subcommands.
-pub(crate) fn command<'a>(alloc: Global) -> Result<Command<'a>, Error>
-    ensures { IsMade (IsApp program) result }
+pub(crate) fn command<'a>(alloc: Global) -> Result<Command<'a>, AllocError>
+    ensures { IfOk result (IsApp program) }
 {
-    let mut command = Command::new(alloc, "btcheck")
+    let leaves = leaves(alloc, rows())?;
+    Command::new(alloc, "btcheck")
         .version(VERSION)
         .about(ABOUT)
         .after_help(STATUSES)
         .after_long_help(EXAMPLES)
-        .subcommand_required(true);
-    for below in COMMANDS {
-        command = command.subcommand(leaf(alloc, below)?)?;
+        .subcommand_required(true)
+        .subcommands(leaves)
+}
+
+// The table, whose rows are the program's commands.
+fn rows() -> &'static [Subcommand<'static>]
+    ensures { map leaf_of result.now ≡ program.subs }
+{
+    COMMANDS
+}
+
+// The commands of these rows.
+fn leaves<'a>(alloc: Global, rows: &[Subcommand<'a>]) -> Result<Vec<Command<'a>>, AllocError>
+    ensures { IfOk result (λ leaves. AllZip IsLeaf (map leaf_of rows.now) leaves.items) }
+{
+    let mut leaves = Vec::with_capacity(alloc, rows.len())?;
+    for row in rows {
+        leaves.push_reserved(leaf(alloc, row)?);
     }
-    Ok(command)
+    Ok(leaves)
 }
 
 // A command without commands below it.
-fn leaf<'a>(alloc: Global, row: &Subcommand<'a>) -> Result<Command<'a>, Error>
-    ensures { IsMade (IsLeaf (leaf_of row.now)) result }
+fn leaf<'a>(alloc: Global, row: &Subcommand<'a>) -> Result<Command<'a>, AllocError>
+    ensures { IfOk result (IsLeaf (leaf_of row.now)) }
 {
     let mut command = Command::new(alloc, row.name)
         .about(row.about)
