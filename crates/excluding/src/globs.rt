@@ -169,17 +169,18 @@ fn put_stars(text: &mut String, starts: bool, rest: &mut Chars<'_>) -> Result<bo
         let _ = rest.next();
         more = true;
     }
-    if !more {
-        text.push_str("[^/]*")?;
-        return Ok(false);
-    }
-    if starts && rest.as_str().starts_with('/') {
+    let in_folders = more && starts && rest.as_str().starts_with('/');
+    if in_folders {
         let _ = rest.next();
-        text.push_str("(?:.*/)?")?;
-        return Ok(true);
     }
-    text.push_str(".*")?;
-    Ok(false)
+    text.push_str(if in_folders {
+        "(?:.*/)?"
+    } else if more {
+        ".*"
+    } else {
+        "[^/]*"
+    })?;
+    Ok(in_folders)
 }
 
 /// The next character. A glob that ends before it is none.

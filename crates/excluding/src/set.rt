@@ -6,12 +6,15 @@ use std::str::Chars;
 /// never `/`.
 pub(crate) fn put_set(text: &mut String, rest: &mut Chars<'_>) -> Result<(), OneFault> {
     let is_other = rest.as_str().starts_with('!') || rest.as_str().starts_with('^');
-    if is_other {
+    let (start, end) = if is_other {
         let _ = rest.next();
-    }
-    text.push_str(if is_other { "[^/" } else { "[" })?;
+        ("[^/", "]")
+    } else {
+        ("[", "&&[^/]]")
+    };
+    text.push_str(start)?;
     put_members(text, rest)?;
-    text.push_str(if is_other { "]" } else { "&&[^/]]" })?;
+    text.push_str(end)?;
     Ok(())
 }
 
@@ -32,11 +35,15 @@ fn put_members(text: &mut String, rest: &mut Chars<'_>) -> Result<(), OneFault> 
 fn put_member(text: &mut String, rest: &mut Chars<'_>) -> Result<(), OneFault> {
     let first = member(rest)?;
     put_letter(text, first)?;
-    if !rest.as_str().starts_with('-') || rest.as_str().starts_with("-]") {
-        return Ok(());
+    if rest.as_str().starts_with('-') && !rest.as_str().starts_with("-]") {
+        let _ = rest.next();
+        put_last(text, first, member(rest)?)?;
     }
-    let _ = rest.next();
-    let last = member(rest)?;
+    Ok(())
+}
+
+// Puts the last character of a range that begins with the first.
+fn put_last(text: &mut String, first: char, last: char) -> Result<(), OneFault> {
     if last < first {
         return Err(OneFault::Malformed);
     }

@@ -1,5 +1,6 @@
-use Rattle.std.proofs.Common.{◌≡◌, ◌∙◌, ◌+◌, ◌<◌, [], ◌∷◌, ◌++◌, ap, arith, drop, drop-set-lt, false, length, map, not, string_bytes, sym, true}
+use Rattle.std.proofs.Common.{◌≡◌, ◌∙◌, ◌+◌, ◌<◌, ◌≤◌, [], ◌∷◌, ◌++◌, ap, arith, drop, drop-set-lt, false, length, map, not, refl, string_bytes, sym, take_all, true}
 use Rattle.std.proofs.lemmas.List.{length-set, map-append}
+use Rattle.std.specs.List.{filter}
 use Rattle.std.specs.Prelude.{vec_len}
 use Rattle.std.specs.Vec.{vec_capacity}
 use Rattle.regex.specs.Strings.{matcher_pattern}
@@ -8,6 +9,17 @@ use Rattle.excluding.specs.Excluding.{is_kept, is_left_out}
 use Rattle.excluding.proofs.Without.{next_kept, next_left_out, rest_next, same_bytes}
 use Rattle.excluding.proofs.shelf.Excluding.kept.Goals as goal
 use Rattle.excluding.proofs.shelf.Excluding.kept.Goals.{then-not-branch, else-not-branch}
+
+pub paths-init : goal.paths-init
+paths-init g c = record {
+  kept = ap (map path_bytes) c.in_ok-kept.ensures.items;
+  rest = refl;
+  len = refl;
+  count = omega (arith, c.in_ok-kept.ensures.len);
+  room = omega (arith, c.in_ok-kept.ensures.exact, c.len.ensures);
+  shelf = refl;
+  pattern = refl;
+}
 
 pub paths-preserved : goal.paths-preserved
 paths-preserved g c =
@@ -56,3 +68,15 @@ paths-preserved g c =
             pattern = c.in_ok-leaves_out.ensures.pattern ∙ c.paths.invariant.pattern;
           }
     ]
+
+pub returns-clause-kept : goal.returns-clause-kept
+returns-clause-kept g c =
+    let over : length c.args.paths.items ≤ c.paths.number = omega arith in
+    c.paths.invariant.kept
+    ∙ ap (λ paths. filter (is_kept (matcher_pattern c.args.self.now.pattern)) (map path_bytes paths)) (take_all c.paths.number c.args.paths.items over)
+
+pub returns-clause-shelf : goal.returns-clause-shelf
+returns-clause-shelf g c = c.paths.invariant.shelf
+
+pub returns-clause-pattern : goal.returns-clause-pattern
+returns-clause-pattern g c = c.paths.invariant.pattern
