@@ -1,4 +1,7 @@
-use Rattle.std.proofs.Common.{◌+◌, length, subst, sym, ap, arith}
+use Rattle.std.proofs.Common.{◌+◌, length, subst, sym, ap, ◌∙◌, arith}
+use Rattle.std.proofs.lemmas.List.{length-map}
+use Rattle.opening.specs.Seen.{file_entry}
+use Rattle.folders.proofs.Places.{file_there}
 use Rattle.folders.specs.Verdicts.{is_yes}
 use Rattle.parts.specs.PartLines.{answer_line}
 use Rattle.part_reports.proofs.ReadLines.{ReadSoFar, read_all, read_next, read_none}
@@ -33,3 +36,21 @@ returns-clause-whole c files v1 can is =
     let all = read_all c.args.torrent.now c.args.places c.files-entries.result.now c.args.lines.now c.files.file-index c.files.files.items c.files.rest.now
     files v1 c.files-entries.ensures (omega (arith, c.files-test.false)) c.files.invariant.read can is in
     (all.0, c.read_v1-v1.ensures.whole v1 (answer_line (is_yes files v1)) can.hybrid can.small_v1 all.1)
+
+pub read_file-verdict-requires : goal.read_file-verdict-requires
+read_file-verdict-requires c = (
+  c.files.file-index,
+  file_there c.args.torrent.now c.files-entries.result.now c.files.file-index c.file-item.result c.files-entries.ensures c.files-test.true
+      c.file-item.is,
+)
+
+pub push_reserved-requires : goal.push_reserved-requires
+push_reserved-requires c = omega (arith, c.files.invariant.room, c.files.invariant.count, c.files-test.true)
+
+pub returns-clause-files : goal.returns-clause-files
+returns-clause-files c =
+    let all = sym (length-map c.files-entries.result.now file_entry) ∙ ap length c.files-entries.ensures in
+    omega (arith, all, c.files.invariant.count, c.files.auto.file-index-end, c.files-test.false)
+
+pub returns-clause-hybrid : goal.returns-clause-hybrid
+returns-clause-hybrid c = c.read_v1-v1.ensures.hybrid
