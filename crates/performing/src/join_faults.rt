@@ -21,11 +21,21 @@ pub(crate) fn refuse_join<'a>(
         JoinFault::Twice(number) => {
             let _ = writeln!(out, "fault: part {number} is there twice");
         }
-        JoinFault::NoReport(place) => blame(system, b"no whole report of a part", paths, place),
-        JoinFault::OtherTorrent(place) => blame(system, b"a part of another torrent", paths, place),
+        JoinFault::NoReport(place) => blame(
+            system,
+            b"fault: no whole report of a part: ",
+            paths,
+            place,
+        ),
+        JoinFault::OtherTorrent(place) => blame(
+            system,
+            b"fault: a part of another torrent: ",
+            paths,
+            place,
+        ),
         JoinFault::OtherCount(place) => blame(
             system,
-            b"a report of another number of parts",
+            b"fault: a report of another number of parts: ",
             paths,
             place,
         ),
@@ -42,9 +52,7 @@ fn blame(system: &System, words: &[u8], paths: &[&str], place: usize) {
 }
 
 fn write_fault<W: Sink>(words: &[u8], path: &str, out: &mut W) -> Result<(), DeviceFault> {
-    write_all(out, b"fault: ")?;
     write_all(out, words)?;
-    write_all(out, b": ")?;
     write_escaped(out, path.as_bytes())?;
     write_all(out, b"\n")
 }

@@ -2,6 +2,7 @@
 #![tactic(auto)]
 
 mod excluded;
+mod file_bytes;
 mod join_faults;
 mod performing;
 mod report_files;

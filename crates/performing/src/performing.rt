@@ -29,6 +29,10 @@ use std::io::{BufWriter, IsTerminal, LineWriter};
 /// Does what was asked for, and gives the exit status.
 pub fn perform<'a>(system: &System, action: &Action<'a>) -> Result<u8, Fault<'a>> {
     let _placeholders = hold_closed_streams(system.rt())?;
+    run(system, action)
+}
+
+fn run<'a>(system: &System, action: &Action<'a>) -> Result<u8, Fault<'a>> {
     match action {
         Action::Root { file, json } => root(system, file, *json),
         Action::Show { torrent, json } => show(system, torrent, *json),

@@ -1,11 +1,11 @@
 //! The bytes of reports.
+use crate::file_bytes::read_bytes;
 use benc::{DeviceFault, Sink};
 use folders::{FileVerdict, write_verdict};
 use opening::Torrent;
 use printing::Fault;
-use real_files::{Cause, System};
+use real_files::System;
 use std::alloc::AllocError;
-use std::io::{self, Read};
 
 /// How many bytes the first line of a report and the lines behind those of its files have at most:
 /// `part `, two numbers and an info-hash with what stands between them and a line feed; `v1 bad `
@@ -22,24 +22,10 @@ pub(crate) fn read_reports<'a>(
     let most = longest(torrent);
     let mut texts = Vec::new(system.alloc());
     for path in paths {
-        let text = read_report(system, path, most.saturating_add(1))?;
+        let text = read_bytes(system, path, most.saturating_add(1))?;
         texts.push(text).map_err(AllocError::from)?;
     }
     Ok(texts)
-}
-
-// The bytes of the file with this path, and of a longer one the first of them.
-fn read_report<'a>(system: &System, path: &'a str, most: u64) -> Result<Vec<u8>, Fault<'a>> {
-    let file = system.open(path)?;
-    let mut bytes = Vec::new(system.alloc());
-    match file.take(most).read_to_end(&mut bytes) {
-        Ok(_) => Ok(bytes),
-        Err(error) if error.kind() == io::ErrorKind::OutOfMemory => Err(Fault::NoMemory),
-        Err(error) => {
-            system.note(Cause::Error(error));
-            Err(Fault::Read(path))
-        }
-    }
 }
 
 // How many bytes the longest report of a part of this torrent has.
