@@ -126,3 +126,6 @@ trace-returns-then-not-compare-clause-differs g t c =
       K_known = c.in_ok-hash.ensures.value;
       differ = differs.2;
     }
+
+pub trace-derive-requires : goal.trace-derive-requires
+trace-derive-requires g t c κs within = (omega arith, (within, (c.requires.at, (c.requires.sound, c.requires.notes_new))))

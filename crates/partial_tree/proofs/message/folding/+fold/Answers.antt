@@ -1,4 +1,4 @@
-use Rattle.std.proofs.Common.{◌≡◌, ◌+◌, ◌*◌, ◌^◌, ◌<◌, ◌≤◌, inl, inr, ap, ◌∙◌, arith, pow_mono, subst}
+use Rattle.std.proofs.Common.{◌≡◌, ◌+◌, ◌*◌, ◌^◌, ◌<◌, ◌≤◌, inl, inr, ap, ◌∙◌, arith, mul-le-mul, pow_mono, subst}
 use Rattle.std.proofs.lemmas.Bool.{cases_lt}
 use Rattle.node_maps.specs.Places.{tree_height}
 use Rattle.node_maps.specs.Known.{look}
@@ -163,3 +163,38 @@ trace_row-returns-then-not-compare-clause-differs g t c =
       K_known = ap (C row.layer) at ∙ c.in_ok-hashes.ensures.value c.places.j low;
       differ = differs.2;
     }
+
+pub trace_row-derive_row-requires : goal.trace_row-derive_row-requires
+trace_row-derive_row-requires g t c κs within = (omega arith, (within, (c.requires.at, (c.requires.sound, c.requires.notes_new))))
+
+pub trace_row-overflow_mul-first : goal.trace_row-overflow_mul-first
+trace_row-overflow_mul-first g t c =
+    let at = c.requires.at.at in
+    let low = place-low (tree_height (g.N.NodeMap.seen c.args.map.now).length) (c.args.row.layer + c.args.row.depth) c.args.row.node at.low at.place in
+    let below : c.args.row.node ≤ 2 ^ 32 = omega (arith, low) in
+    let most : c.args.row.node * c.count.result ≤ 2 ^ 32 * 8 = mul-le-mul below c.count.ensures.few in
+    omega (arith, most)
+
+pub trace_row-overflow_add-index : goal.trace_row-overflow_add-index
+trace_row-overflow_add-index g t c =
+    let at = c.requires.at.at in
+    let low = place-low (tree_height (g.N.NodeMap.seen c.args.map.now).length) (c.args.row.layer + c.args.row.depth) c.args.row.node at.low at.place in
+    let below : c.args.row.node ≤ 2 ^ 32 = omega (arith, low) in
+    let most : c.args.row.node * c.count.result ≤ 2 ^ 32 * 8 = mul-le-mul below c.count.ensures.few in
+    omega (arith, most, c.places-test.true, c.count-j-end.ensures.few)
+
+pub trace_row-bounds-hashes-j : goal.trace_row-bounds-hashes-j
+trace_row-bounds-hashes-j g t c = omega (arith, c.places-test.true, c.count-j-end.ensures.few)
+
+pub trace_row-returns-then-not-compare-clause-grows : goal.trace_row-returns-then-not-compare-clause-grows
+trace_row-returns-then-not-compare-clause-grows g t c = record {
+  keeps = λ l i v noted. c.compare.ensures.grows.keeps l i v (c.places.invariant.grows.keeps l i v noted);
+}
+
+pub trace_row-returns-then-not-compare-clause-notes_new : goal.trace_row-returns-then-not-compare-clause-notes_new
+trace_row-returns-then-not-compare-clause-notes_new g t c =
+    let row = c.args.row in
+    let low : c.places.j < 2 ^ c.args.row.depth = omega (arith, c.places-test.true, c.count-j-end.ensures.count) in
+    let at : row.node * c.count.result + c.places.j ≡ place_in row c.places.j = ap (λ k. row.node * k + c.places.j) c.count.ensures.count in
+    c.compare.ensures.notes_new (claimed_by c.args.evidence.now) (ap (claimed_by c.args.evidence.now row.layer) at ∙ c.in_ok-hashes.ensures.value c.places.j low)
+    c.places.invariant.notes_new

@@ -1,6 +1,8 @@
-use Rattle.std.proofs.Common.{◌∙◌, sym, ap, subst, not, rules}
+use Rattle.std.proofs.Common.{◌≤◌, ◌∙◌, sym, ap, subst, not, rules}
 use Rattle.node_maps.specs.Known.{Known, look}
-use Rattle.node_maps.proofs.Nodes.{known-of}
+use Rattle.node_maps.specs.Nodes.{Nodes}
+use Rattle.node_maps.specs.Places.{IsTreePlace, tree_height}
+use Rattle.node_maps.proofs.Nodes.{known-of, length-of, marked-of}
 use Rattle.partial_tree.specs.Joins.{Joins}
 use Rattle.partial_tree.specs.Evidence.{claimed_by, AllHandled}
 use Rattle.partial_tree.proofs.Tracing.{on_some, on_ok, handled-agreed, new_if_noted, nothing-joins}
@@ -46,3 +48,16 @@ returns-then-is_none-clause-trimmed g c = search rules
 
 pub returns-then-is_none-clause-stays : goal.returns-then-is_none-clause-stays
 returns-then-is_none-clause-stays g c = search rules
+
+pub put_found-gained-requires-clause-low : goal.put_found-gained-requires-clause-low
+put_found-gained-requires-clause-low g c = subst (λ (n : Nodes). tree_height n.length ≤ 32) (sym c.reserve_claimed.ensures.seen) c.requires.low
+
+pub put_found-gained-requires-clause-place : goal.put_found-gained-requires-clause-place
+put_found-gained-requires-clause-place g c =
+    subst (λ (n : Nodes). IsTreePlace (tree_height n.length) c.args.layer c.args.index) (sym c.reserve_claimed.ensures.seen) c.requires.place
+
+pub returns-clause-stays : goal.returns-clause-stays
+returns-clause-stays g c = record {
+  length = length-of c.trim-2.ensures.seen ∙ c.put_found-gained.ensures.stays.length ∙ length-of c.reserve_claimed.ensures.seen;
+  marked = marked-of c.trim-2.ensures.seen ∙ c.put_found-gained.ensures.stays.marked ∙ marked-of c.reserve_claimed.ensures.seen;
+}

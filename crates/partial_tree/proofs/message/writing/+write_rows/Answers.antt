@@ -1,4 +1,4 @@
-use Rattle.std.proofs.Common.{◌≡◌, [], slice_index_or, ◌<◌, ◌≤◌, ◌+◌, ◌-◌, ◌*◌, ◌^◌, suc, sym, ap, ◌∙◌, subst, arith, pow_mono}
+use Rattle.std.proofs.Common.{◌≡◌, [], slice_index_or, ◌<◌, ◌≤◌, ◌+◌, ◌-◌, ◌*◌, ◌^◌, suc, sym, ap, ◌∙◌, subst, arith, mul-le-mul, pow_mono}
 use Rattle.node_maps.specs.Digest.{Hash}
 use Rattle.node_maps.specs.Places.{tree_height}
 use Rattle.node_maps.specs.Known.{look}
@@ -202,3 +202,25 @@ pub write_row-returns-clause-few : goal.write_row-returns-clause-few
 write_row-returns-clause-few g t c =
     let all : c.places.j ≡ 2 ^ c.args.row.depth = omega (arith, c.places-test.false, c.places.auto.j-end, c.count-j-end.ensures.count) in
     omega (arith, all, c.places.invariant.few, c.write_below_row-below.ensures.few, two_halves c.args.row.depth)
+
+pub write_row-write_below_row-below-requires : goal.write_row-write_below_row-below-requires
+write_row-write_below_row-below-requires g t c κs within = (omega arith, (within, (c.requires.at, c.requires.room)))
+
+pub write_row-overflow_mul-first : goal.write_row-overflow_mul-first
+write_row-overflow_mul-first g t c =
+    let at = c.requires.at.at in
+    let low = place-low (tree_height (g.N.NodeMap.seen c.args.map.now).length) (c.args.row.layer + c.args.row.depth) c.args.row.node at.low at.place in
+    let below : c.args.row.node ≤ 2 ^ 32 = omega (arith, low) in
+    let most : c.args.row.node * c.count.result ≤ 2 ^ 32 * 8 = mul-le-mul below c.count.ensures.few in
+    omega (arith, most)
+
+pub write_row-overflow_add-index : goal.write_row-overflow_add-index
+write_row-overflow_add-index g t c =
+    let at = c.requires.at.at in
+    let low = place-low (tree_height (g.N.NodeMap.seen c.args.map.now).length) (c.args.row.layer + c.args.row.depth) c.args.row.node at.low at.place in
+    let below : c.args.row.node ≤ 2 ^ 32 = omega (arith, low) in
+    let most : c.args.row.node * c.count.result ≤ 2 ^ 32 * 8 = mul-le-mul below c.count.ensures.few in
+    omega (arith, most, c.places-test.true, c.count-j-end.ensures.few)
+
+pub write_row-bounds-hashes-j : goal.write_row-bounds-hashes-j
+write_row-bounds-hashes-j g t c = omega (arith, c.places-test.true, c.count-j-end.ensures.few)

@@ -77,3 +77,8 @@ returns-clause-no_memory g c =
 
 pub returns-then-knows-clause-no_memory : goal.returns-then-knows-clause-no_memory
 returns-then-knows-clause-no_memory g c = search rules
+
+pub invariant_of-self : goal.invariant_of-self
+invariant_of-self g c =
+    let same = c.store_agreed.ensures.stays.length in
+    (same ∙ c.self.invariant.0, c.self.invariant.1, c.self.invariant.2, c.store_agreed.ensures.trimmed)

@@ -90,3 +90,8 @@ returns-clause-few g c = on_ok_weaker c.store.result (λ few.
 
 pub returns-then-not-pads_fit-clause-refused : goal.returns-then-not-pads_fit-clause-refused
 returns-then-not-pads_fit-clause-refused g c = search rules
+
+pub invariant_of-self : goal.invariant_of-self
+invariant_of-self g c =
+    let same = c.store.ensures.stays.length in
+    (same ∙ c.self.invariant.0, c.self.invariant.1, c.self.invariant.2, c.store.ensures.trimmed)
