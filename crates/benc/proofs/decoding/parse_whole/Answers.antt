@@ -92,3 +92,16 @@ pub returns-clause-first : goal.returns-clause-first
 returns-clause-first c kind offset f =
     let found = c.in_ok-v.ensures.spelled in
     no_fault c.args.input.now found.0 kind offset (whole_spells c.args.input.now c.in_ok-v.used found.0 c.if-used-input.false found.1) f
+
+pub returns-in_err-check-clause-fault : goal.returns-in_err-check-clause-fault
+returns-in_err-check-clause-fault c =
+    let p = err_from_is_err_and c.from_residual-in_err-check.result c.from_residual-in_err-check.ensures.1 in
+    rw (p.1, p.2) (λ known. absurd (known c.in_err-check.ensures.0))
+
+pub returns-in_err-check-clause-memory : goal.returns-in_err-check-clause-memory
+returns-in_err-check-clause-memory c =
+    let p = err_from_is_err_and c.from_residual-in_err-check.result c.from_residual-in_err-check.ensures.1 in rw (p.1, p.2) (λ none. c.in_err-check.ensures.1)
+
+pub returns-in_err-check-clause-only : goal.returns-in_err-check-clause-only
+returns-in_err-check-clause-only c v s =
+    let p = err_from_is_err_and c.from_residual-in_err-check.result c.from_residual-in_err-check.ensures.1 in rw (p.1, p.2) c.in_err-check.ensures.0

@@ -297,3 +297,24 @@ pairs-pairs-preserved t c =
           (λ there r. pairs_reach room bytes here behind start there last ps k so key r))
           c.push.ensures.refused (λ there same. pairs_grow_here room bytes here behind after start there last ps k v.0 so key v.1 same);
     }
+
+pub items-items-smaller : goal.items-items-smaller
+items-items-smaller t c = omega (arith, c.in_ok-item.ensures.shorter)
+
+pub pairs-pairs-smaller : goal.pairs-pairs-smaller
+pairs-pairs-smaller t c = omega (arith, c.in_ok-item.ensures.shorter, c.in-Ok.ensures.shorter)
+
+pub items-value-requires : goal.items-value-requires
+items-value-requires t c = omega arith
+
+pub pairs-value-requires : goal.pairs-value-requires
+pairs-value-requires t c = omega arith
+
+pub value-items-requires : goal.value-items-requires
+value-items-requires t c = omega (arith, c.if-room-eq0.false)
+
+pub value-pairs-requires : goal.value-pairs-requires
+value-pairs-requires t c = omega (arith, c.if-room-eq0-2.false)
+
+pub pairs-slice_bounds-if_asked-count : goal.pairs-slice_bounds-if_asked-count
+pairs-slice_bounds-if_asked-count t c = omega (arith, c.in_ok-item.ensures.shorter)
