@@ -1,5 +1,6 @@
 use Rattle.std.proofs.Common.{◌≡◌, ◌≤◌, length, arith, ◌∙◌, subst, sym}
 use Rattle.std.proofs.lemmas.Result.{err_from_is_err_and, MatchResult-weaker}
+use Rattle.std.proofs.lemmas.Grind.{common_steps}
 use Rattle.wire.specs.Reading.{GaveFaultless}
 use Rattle.wire.proofs.Giving.{take-written}
 use Rattle.wire.proofs.Stopping.{StopsShort-at_once}
@@ -22,3 +23,18 @@ returns-clause-bytes g c =
     (λ _ gave. subst (GaveFaultless (S.seen c.args.source.now) (S.seen c.fill_front.new.source))
     (sym (take-written c.args.count grown.len new grown.items (omega (arith, c.requires.bounded)) (omega (arith, c.requires.bounded)))) gave)
     (λ _ s. s)
+
+pub returns-clause-fault : goal.returns-clause-fault
+returns-clause-fault g c = grind (arith, common_steps)
+
+pub returns-in_err-take_room-clause-fault : goal.returns-in_err-take_room-clause-fault
+returns-in_err-take_room-clause-fault g c = grind (arith, common_steps)
+
+pub returns-clause-memory : goal.returns-clause-memory
+returns-clause-memory g c = grind (arith, common_steps)
+
+pub returns-clause-grows : goal.returns-clause-grows
+returns-clause-grows g c = grind (arith, common_steps)
+
+pub returns-in_err-take_room-clause-memory : goal.returns-in_err-take_room-clause-memory
+returns-in_err-take_room-clause-memory g c = grind (arith, common_steps)

@@ -1,6 +1,10 @@
-use Rattle.std.proofs.Common.{◌≡◌, ◌≤◌, ◌+◌, ◌-◌, ◌++◌, length, take, arith}
+use Rattle.std.proofs.Common.{◌≡◌, ℕ, ◌≤◌, ◌+◌, ◌-◌, ◌++◌, length, take, refl, arith}
 use Rattle.std.proofs.lemmas.List.{length-append}
 use Rattle.std.proofs.lemmas.Result.{err_from_is_err_and}
+use Rattle.wire.specs.declared.kind.Kind.{Kind}
+use Rattle.wire.specs.declared.frame.Head.{Head}
+use Rattle.wire.specs.declared.frame.Head.TheVariants.{KeepAlive, Kept, BadSize, Other}
+use Rattle.wire.specs.Room.{RoomAfter}
 use Rattle.wire.proofs.Heads.{single, length-kept, Holds-kept, Holds-skipped}
 use Rattle.wire.proofs.Giving.{Faultless-trans}
 use Rattle.wire.proofs.Stopping.{StopsInBody-after, StopsInBody-at_start, device}
@@ -57,3 +61,15 @@ returns-in_ok-skip-in_default-clause-bytes g c =
       omega (arith, size, length-append id rest.0, c.read_exact.auto.buf),
       Holds-skipped _ c.args.len c.of-head.result c.args.kept.now.items id rest.0 one c.of-head.ensures c.in_default.not-Kept size,
     )
+
+pub returns-in_ok-keep-in-Kept-clause-room : goal.returns-in_ok-keep-in-Kept-clause-room
+returns-in_ok-keep-in-Kept-clause-room g c = rw c.in-Kept.is c.in_ok-keep-in-Kept.ensures.grows
+
+room_stays : (head : Head) (room : ℕ) → ((kind : Kind) (n : ℕ) → head ≡ Kept kind n → ⊥) → RoomAfter head room room
+room_stays KeepAlive room not = refl
+room_stays (Kept kind n) room not = absurd (not kind n refl)
+room_stays (BadSize i n) room not = refl
+room_stays (Other i n) room not = refl
+
+pub returns-in_ok-skip-in_default-clause-room : goal.returns-in_ok-skip-in_default-clause-room
+returns-in_ok-skip-in_default-clause-room g c = room_stays c.of-head.result _ c.in_default.not-Kept

@@ -1,6 +1,7 @@
 use Rattle.std.proofs.Common.{◌≡◌, ◌≤◌, ◌-◌, ◌++◌, length, take, drop, arith, sym, subst, ◌∙◌}
 use Rattle.std.proofs.lemmas.List.{length-take, length-drop}
 use Rattle.std.proofs.lemmas.Result.{err_from_is_err_and}
+use Rattle.std.proofs.lemmas.Grind.{common_steps}
 use Rattle.wire.specs.Frames.{four_bytes}
 use Rattle.wire.specs.Reading.{GaveFaultless}
 use Rattle.wire.proofs.Giving.{Faultless-take, Faultless-trans, take-put_all}
@@ -44,3 +45,6 @@ returns-clause-bytes g c =
           (Faultless-take (S.seen c.args.source.now) (S.seen c.read.new.self) first buf fits e.bytes.0 e.falls e.counts) c.in_ok-read_exact.ensures.bytes),
       omega (arith, c.number_at.type_inv),
     )
+
+pub returns-then-first-eq0-clause-bytes : goal.returns-then-first-eq0-clause-bytes
+returns-then-first-eq0-clause-bytes g c = grind (arith, common_steps)
