@@ -48,3 +48,6 @@ returns-clause-bytes g c =
 
 pub returns-then-first-eq0-clause-bytes : goal.returns-then-first-eq0-clause-bytes
 returns-then-first-eq0-clause-bytes g c = grind (arith, common_steps)
+
+pub slice_bounds-number_at-end : goal.slice_bounds-number_at-end
+slice_bounds-number_at-end g c = grind (arith, common_steps)

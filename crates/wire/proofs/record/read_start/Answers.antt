@@ -1,6 +1,7 @@
 use Rattle.std.proofs.Common.{◌≡◌, ◌≤◌, ◌-◌, ◌∷◌, length, take, drop, slice_index_or, arith, subst}
 use Rattle.std.proofs.lemmas.List.{length-take, length-drop}
 use Rattle.std.proofs.lemmas.Result.{err_from_is_err_and}
+use Rattle.std.proofs.lemmas.Grind.{common_steps}
 use Rattle.wire.specs.Reading.{GaveFaultless}
 use Rattle.wire.proofs.Giving.{Faultless-take}
 use Rattle.wire.proofs.RecordParts.{first_byte, stops_at_other, stops_in_start}
@@ -61,3 +62,6 @@ returns-in_err-read_exact-clause-bytes g c =
     ))
     (device _ c.in_err-read_exact.ensures.no_memory)
     (subst (λ n. GaveFaultless a b (n ∷ behind)) c.in-Some.ensures first) c.in_err-read_exact.ensures.bytes)
+
+pub slice_bounds-number_at-end : goal.slice_bounds-number_at-end
+slice_bounds-number_at-end g c = grind (arith, common_steps)
