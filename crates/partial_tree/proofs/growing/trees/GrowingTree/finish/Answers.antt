@@ -1,4 +1,5 @@
 use Rattle.std.proofs.Common.{◌≡◌, ℕ, suc, ◌+◌, ◌-◌, ◌*◌, ◌^◌, ◌<◌, ◌≤◌, Result, Ok, Err, OnErr, sym, ap, ◌∙◌, subst, arith}
+use Rattle.std.proofs.lemmas.Grind.{common_steps}
 use Rattle.hashtree.specs.Tree.{block_count}
 use Rattle.node_maps.specs.Known.{look}
 use Rattle.node_maps.specs.Places.{tree_height}
@@ -82,3 +83,24 @@ returns-in_err-add_pads-clause-no_memory g c =
     λ k fits. height.least k (omega (arith, fits, blocks.value)) in
     on_err _ _ (subst (λ n. 1 < n) same
     (has_pads _ _ blocks.some least height.bound c.in_err-add_pads.ensures.no_memory))
+
+pub add_pads-requires-clause-range : goal.add_pads-requires-clause-range
+add_pads-requires-clause-range g c = grind (arith, common_steps)
+
+pub add_pads-requires-clause-absent : goal.add_pads-requires-clause-absent
+add_pads-requires-clause-absent g c = grind (arith, common_steps)
+
+pub add_parents-requires-clause-absent : goal.add_parents-requires-clause-absent
+add_parents-requires-clause-absent g c = grind (arith, common_steps)
+
+pub add_parents-requires-clause-inside : goal.add_parents-requires-clause-inside
+add_parents-requires-clause-inside g c = grind (arith, common_steps)
+
+pub add_parents-requires-clause-low : goal.add_parents-requires-clause-low
+add_parents-requires-clause-low g c = grind (arith, common_steps)
+
+pub add_pads-requires-clause-inside : goal.add_pads-requires-clause-inside
+add_pads-requires-clause-inside g c = grind (arith, common_steps)
+
+pub returns-in_err-add_parents-clause-no_memory : goal.returns-in_err-add_parents-clause-no_memory
+returns-in_err-add_parents-clause-no_memory g c = grind (arith, common_steps)
