@@ -1,6 +1,7 @@
 use Rattle.std.proofs.Common.{arith, true, refl, ap, ◌≡◌, ◌≤◌, ◌++◌, length}
 use Rattle.std.specs.Option.{option_to_list}
 use Rattle.std.proofs.lemmas.List.{length-append}
+use Rattle.std.proofs.lemmas.Grind.{common_steps}
 use Rattle.hashtree.specs.Complete.{complete_nodes}
 use Rattle.hashtree.specs.Parts.{rest_of}
 use Rattle.hashtree.specs.RootBuilder.{byte_count}
@@ -46,3 +47,12 @@ parts-preserved c =
           (omega (arith, ap length done, at.whole, room, length-append xs (option_to_list c.take_part-node.result))) in
           checked b _ file (file ++ part.part) c.take_part-node.result at more done refl refl refl found;
     })
+
+pub parts-smaller : goal.parts-smaller
+parts-smaller c = grind (arith, common_steps)
+
+pub compare-requires : goal.compare-requires
+compare-requires c = grind (arith, common_steps)
+
+pub invariant_of-self : goal.invariant_of-self
+invariant_of-self c = grind (arith, common_steps)
