@@ -1,4 +1,5 @@
-use Rattle.std.proofs.Common.{◌≤◌, length, subst, sym}
+use Rattle.std.proofs.Common.{◌≤◌, length, subst, sym, arith}
+use Rattle.std.proofs.lemmas.Grind.{common_steps}
 use Rattle.wire.specs.Reading.{GaveFaultless}
 use Rattle.wire.proofs.Giving.{Faultless-trans, Faultless-take, take-put_more, le-length-put}
 use Rattle.wire.proofs.framing.read_exact.Goals as goal
@@ -16,3 +17,12 @@ reads-preserved g c =
           (Faultless-take (S.seen c.reads.source) (S.seen c.read.new.self) count c.read.new.buf fits c.in_ok-count.ensures.bytes.0 c.in_ok-count.ensures.falls
           c.in_ok-count.ensures.counts));
     }
+
+pub overflow_add-filled : goal.overflow_add-filled
+overflow_add-filled g c = grind (arith, common_steps)
+
+pub reads-smaller : goal.reads-smaller
+reads-smaller g c = grind (arith, common_steps)
+
+pub returns-clause-bytes : goal.returns-clause-bytes
+returns-clause-bytes g c = grind (arith, common_steps)
