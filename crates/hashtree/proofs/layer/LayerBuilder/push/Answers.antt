@@ -1,5 +1,6 @@
 use Rattle.std.proofs.Common.{◌≡◌, arith, inr, true, ap, sym, ◌∙◌, ◌++◌, length}
 use Rattle.std.proofs.lemmas.List.{length-append}
+use Rattle.std.proofs.lemmas.Grind.{common_steps}
 use Rattle.hashtree.specs.RootBuilder as root
 use Rattle.hashtree.specs.LayerBuilder.{FeedsLayer}
 use Rattle.hashtree.specs.Parts.{rest_of}
@@ -63,3 +64,9 @@ returns-in_err-keep-clause-refused c =
           c.in_err-keep.ensures.memory front.taken.layer c.parts.invariant.capacity c.in_err-keep.ensures.full
           (omega (arith, part.feeds.count, front.taken.count, size)));
     })
+
+pub parts-smaller : goal.parts-smaller
+parts-smaller c = grind (arith, common_steps)
+
+pub keep-requires : goal.keep-requires
+keep-requires c = grind (arith, common_steps)
