@@ -33,24 +33,21 @@ value-returns-then-room-eq0-2-clause-read t c =
 pub value-returns-in-Ok-clause-kept : goal.value-returns-in-Ok-clause-kept
 value-returns-in-Ok-clause-kept t c kept =
     let bytes = c.args.bytes.now in
-    let rest = c.in-Some.rest.now in
-    let first : bytes ≡ 105 ∷ rest = c.in-Some.ensures ∙ ap (λ x. x ∷ rest) c.in-105.is in
-    value_integer c.args.room bytes rest first ∙ ap (λ r. begun_at bytes r >>= λ x. Ok (int x.0, x.1)) c.in-Ok.ensures.read
+    let first : bytes ≡ 105 ∷ c.in-Some.rest.now = c.in-Some.ensures ∙ ap (λ x. x ∷ c.in-Some.rest.now) c.in-105.is in
+    value_integer c.args.room bytes _ first ∙ ap (λ r. begun_at bytes r >>= λ x. Ok (int x.0, x.1)) c.in-Ok.ensures.read
     ∙ ap (λ v. Ok (v, c.in-Ok.after.now)) (ap int (sym (to_z-of_z w64 c.in-Ok.n c.in-Ok.ensures.fits)) ∙ sym (view-Int _))
 
 pub value-returns-in-Ok-clause-read : goal.value-returns-in-Ok-clause-read
 value-returns-in-Ok-clause-read t c =
     let bytes = c.args.bytes.now in
-    let rest = c.in-Some.rest.now in
-    let first : bytes ≡ 105 ∷ rest = c.in-Some.ensures ∙ ap (λ x. x ∷ rest) c.in-105.is in
-    ap (λ r. r >>= λ y. Ok y.1) (value_integer c.args.room bytes rest first ∙ ap (λ r. begun_at bytes r >>= λ x. Ok (int x.0, x.1)) c.in-Ok.ensures.read)
+    let first : bytes ≡ 105 ∷ c.in-Some.rest.now = c.in-Some.ensures ∙ ap (λ x. x ∷ c.in-Some.rest.now) c.in-105.is in
+    ap (λ r. r >>= λ y. Ok y.1) (value_integer c.args.room bytes _ first ∙ ap (λ r. begun_at bytes r >>= λ x. Ok (int x.0, x.1)) c.in-Ok.ensures.read)
 
 pub value-returns-in-Err-clause-read : goal.value-returns-in-Err-clause-read
 value-returns-in-Err-clause-read t c =
     let bytes = c.args.bytes.now in
-    let rest = c.in-Some.rest.now in
-    let first : bytes ≡ 105 ∷ rest = c.in-Some.ensures ∙ ap (λ x. x ∷ rest) c.in-105.is in
-    value_integer c.args.room bytes rest first ∙ ap (λ r. begun_at bytes r >>= λ x. Ok (int x.0, x.1)) c.in-Err.ensures.read
+    let first : bytes ≡ 105 ∷ c.in-Some.rest.now = c.in-Some.ensures ∙ ap (λ x. x ∷ c.in-Some.rest.now) c.in-105.is in
+    value_integer c.args.room bytes _ first ∙ ap (λ r. begun_at bytes r >>= λ x. Ok (int x.0, x.1)) c.in-Err.ensures.read
 
 pub value-returns-in-Ok-string-clause-kept : goal.value-returns-in-Ok-string-clause-kept
 value-returns-in-Ok-string-clause-kept t c kept =
@@ -83,75 +80,62 @@ pub value-returns-in_ok-found-in-108-clause-read : goal.value-returns-in_ok-foun
 value-returns-in_ok-found-in-108-clause-read t c =
     let bytes = c.args.bytes.now in
     let rest = c.in-Some.rest.now in
-    let room = c.args.room in
     let first : bytes ≡ 108 ∷ rest = c.in-Some.ensures ∙ ap (λ x. x ∷ rest) c.in-108.is in
-    left_mapped (items_behind (room - 1) rest) list (value_at room bytes) c.in_ok-found-in-108.after.now (value_items room bytes rest (omega arith) first)
-    c.in_ok-found-in-108.ensures.read
+    left_mapped (items_behind (c.args.room - 1) rest) list (value_at c.args.room bytes) c.in_ok-found-in-108.after.now
+    (value_items c.args.room bytes rest (omega arith) first) c.in_ok-found-in-108.ensures.read
 
 pub value-returns-in_ok-found-in-108-clause-kept : goal.value-returns-in_ok-found-in-108-clause-kept
 value-returns-in_ok-found-in-108-clause-kept t c kept =
-    let bytes = c.args.bytes.now in
-    let rest = c.in-Some.rest.now in
-    let first : bytes ≡ 108 ∷ rest = c.in-Some.ensures ∙ ap (λ x. x ∷ rest) c.in-108.is in
-    value_items c.args.room bytes rest (omega arith) first ∙ ap (λ r. r >>= λ x. Ok (list x.0, x.1)) (c.in_ok-found-in-108.ensures.kept kept)
+    let first : c.args.bytes.now ≡ 108 ∷ c.in-Some.rest.now = c.in-Some.ensures ∙ ap (λ x. x ∷ c.in-Some.rest.now) c.in-108.is in
+    value_items c.args.room _ _ (omega arith) first ∙ ap (λ r. r >>= λ x. Ok (list x.0, x.1)) (c.in_ok-found-in-108.ensures.kept kept)
     ∙ ap (λ v. Ok (v, c.in_ok-found-in-108.after.now)) (sym (view-List c.in_ok-found-in-108.found))
 
 pub value-returns-in_ok-found-in-108-clause-memory : goal.value-returns-in_ok-found-in-108-clause-memory
 value-returns-in_ok-found-in-108-clause-memory t c =
     let bytes = c.args.bytes.now in
     let rest = c.in-Some.rest.now in
-    let room = c.args.room in
     let first : bytes ≡ 108 ∷ rest = c.in-Some.ensures ∙ ap (λ x. x ∷ rest) c.in-108.is in
-    refused_more _ _ (GrowsForItem (room - 1) bytes rest) (Reaches room bytes) c.in_ok-found-in-108.ensures.memory
-    (λ there r. list_reaches room bytes rest there (omega arith) first r)
+    refused_more _ _ (GrowsForItem (c.args.room - 1) bytes rest) (Reaches c.args.room bytes) c.in_ok-found-in-108.ensures.memory
+    (λ there r. list_reaches c.args.room bytes rest there (omega arith) first r)
 
 pub value-returns-in_ok-found-in-100-clause-read : goal.value-returns-in_ok-found-in-100-clause-read
 value-returns-in_ok-found-in-100-clause-read t c =
     let bytes = c.args.bytes.now in
     let rest = c.in-Some.rest.now in
-    let room = c.args.room in
     let first : bytes ≡ 100 ∷ rest = c.in-Some.ensures ∙ ap (λ x. x ∷ rest) c.in-100.is in
-    left_mapped (pairs_behind (room - 1) rest) dict (value_at room bytes) c.in_ok-found-in-100.after.now (value_pairs room bytes rest (omega arith) first)
-    c.in_ok-found-in-100.ensures.read
+    left_mapped (pairs_behind (c.args.room - 1) rest) dict (value_at c.args.room bytes) c.in_ok-found-in-100.after.now
+    (value_pairs c.args.room bytes rest (omega arith) first) c.in_ok-found-in-100.ensures.read
 
 pub value-returns-in_ok-found-in-100-clause-kept : goal.value-returns-in_ok-found-in-100-clause-kept
 value-returns-in_ok-found-in-100-clause-kept t c kept =
-    let bytes = c.args.bytes.now in
-    let rest = c.in-Some.rest.now in
-    let first : bytes ≡ 100 ∷ rest = c.in-Some.ensures ∙ ap (λ x. x ∷ rest) c.in-100.is in
-    value_pairs c.args.room bytes rest (omega arith) first ∙ ap (λ r. r >>= λ x. Ok (dict x.0, x.1)) (c.in_ok-found-in-100.ensures.kept kept)
+    let first : c.args.bytes.now ≡ 100 ∷ c.in-Some.rest.now = c.in-Some.ensures ∙ ap (λ x. x ∷ c.in-Some.rest.now) c.in-100.is in
+    value_pairs c.args.room _ _ (omega arith) first ∙ ap (λ r. r >>= λ x. Ok (dict x.0, x.1)) (c.in_ok-found-in-100.ensures.kept kept)
     ∙ ap (λ v. Ok (v, c.in_ok-found-in-100.after.now)) (sym (view-Dict c.in_ok-found-in-100.found))
 
 pub value-returns-in_ok-found-in-100-clause-memory : goal.value-returns-in_ok-found-in-100-clause-memory
 value-returns-in_ok-found-in-100-clause-memory t c =
     let bytes = c.args.bytes.now in
     let rest = c.in-Some.rest.now in
-    let room = c.args.room in
     let first : bytes ≡ 100 ∷ rest = c.in-Some.ensures ∙ ap (λ x. x ∷ rest) c.in-100.is in
-    refused_more _ _ (GrowsForPair (room - 1) bytes rest) (Reaches room bytes) c.in_ok-found-in-100.ensures.memory
-    (λ there r. dict_reaches room bytes rest there (omega arith) first r)
+    refused_more _ _ (GrowsForPair (c.args.room - 1) bytes rest) (Reaches c.args.room bytes) c.in_ok-found-in-100.ensures.memory
+    (λ there r. dict_reaches c.args.room bytes rest there (omega arith) first r)
 
 pub value-returns-in_err-found-in-108-clause-read : goal.value-returns-in_err-found-in-108-clause-read
 value-returns-in_err-found-in-108-clause-read t c =
-    let bytes = c.args.bytes.now in
-    let rest = c.in-Some.rest.now in
-    let first : bytes ≡ 108 ∷ rest = c.in-Some.ensures ∙ ap (λ x. x ∷ rest) c.in-108.is in
+    let first : c.args.bytes.now ≡ 108 ∷ c.in-Some.rest.now = c.in-Some.ensures ∙ ap (λ x. x ∷ c.in-Some.rest.now) c.in-108.is in
     let p = err_from_is_err_and c.from_residual.result c.from_residual.ensures.1 in
-    rw (p.1, p.2) (value_items c.args.room bytes rest (omega arith) first ∙ ap (λ r. r >>= λ x. Ok (list x.0, x.1)) c.in_err-found-in-108.ensures.read)
+    rw (p.1, p.2) (value_items c.args.room _ _ (omega arith) first ∙ ap (λ r. r >>= λ x. Ok (list x.0, x.1)) c.in_err-found-in-108.ensures.read)
 
 pub value-returns-in_err-found-in-100-clause-read : goal.value-returns-in_err-found-in-100-clause-read
 value-returns-in_err-found-in-100-clause-read t c =
-    let bytes = c.args.bytes.now in
-    let rest = c.in-Some.rest.now in
-    let first : bytes ≡ 100 ∷ rest = c.in-Some.ensures ∙ ap (λ x. x ∷ rest) c.in-100.is in
+    let first : c.args.bytes.now ≡ 100 ∷ c.in-Some.rest.now = c.in-Some.ensures ∙ ap (λ x. x ∷ c.in-Some.rest.now) c.in-100.is in
     let p = err_from_is_err_and c.from_residual-in_err-found-in-100.result c.from_residual-in_err-found-in-100.ensures.1 in
-    rw (p.1, p.2) (value_pairs c.args.room bytes rest (omega arith) first ∙ ap (λ r. r >>= λ x. Ok (dict x.0, x.1)) c.in_err-found-in-100.ensures.read)
+    rw (p.1, p.2) (value_pairs c.args.room _ _ (omega arith) first ∙ ap (λ r. r >>= λ x. Ok (dict x.0, x.1)) c.in_err-found-in-100.ensures.read)
 
 pub items-items-init : goal.items-items-init
 items-items-init t c = record {
   read = ([], items_begin c.args.room c.args.bytes.now, λ kept. ap (map view) (sym c.new-found.ensures.items));
-  refused =
-      inl refl;
+  refused = inl refl;
 }
 
 pub items-returns-in_default-clause-read : goal.items-returns-in_default-clause-read
@@ -176,8 +160,7 @@ items-returns-in_err-item-clause-read t c =
     let e = c.in_err-item.field-0.0 in
     let p = err_from_is_err_and c.from_residual.result c.from_residual.ensures.1 in
     rw (p.1, p.2) (items_failed c.args.room c.args.bytes.now l.rest.now l.invariant.read.0 c.in-Some.first c.in-Some.after.now (e.kind, e.rest.now)
-    l.invariant.read.1
-    c.in-Some.ensures c.if-first-eq101.false c.in_err-item.ensures.read)
+    l.invariant.read.1 c.in-Some.ensures c.if-first-eq101.false c.in_err-item.ensures.read)
 
 pub items-items-preserved : goal.items-items-preserved
 items-items-preserved t c =
@@ -228,15 +211,13 @@ pub pairs-returns-then-first-eq101-clause-read : goal.pairs-returns-then-first-e
 pairs-returns-then-first-eq101-clause-read t c =
     let l = c.pairs in
     ap (λ r. r >>= λ y. Ok y.1) (pairs_all c.args.room c.args.bytes.now l.rest.now c.in-Some.after.now (option_copied l.before) l.invariant.read.0
-    c.in-Some.first l.invariant.read.1
-    c.in-Some.ensures (omega arith))
+    c.in-Some.first l.invariant.read.1 c.in-Some.ensures (omega arith))
 
 pub pairs-returns-then-first-eq101-clause-kept : goal.pairs-returns-then-first-eq101-clause-kept
 pairs-returns-then-first-eq101-clause-kept t c kept =
     let l = c.pairs in
     pairs_all c.args.room c.args.bytes.now l.rest.now c.in-Some.after.now (option_copied l.before) l.invariant.read.0 c.in-Some.first l.invariant.read.1
-    c.in-Some.ensures (omega arith)
-    ∙ ap (λ ps. Ok (pairs_of ps, c.in-Some.after.now)) (l.invariant.read.2 kept)
+    c.in-Some.ensures (omega arith) ∙ ap (λ ps. Ok (pairs_of ps, c.in-Some.after.now)) (l.invariant.read.2 kept)
 
 pub pairs-returns-then-first-eq101-clause-memory : goal.pairs-returns-then-first-eq101-clause-memory
 pairs-returns-then-first-eq101-clause-memory t c = c.pairs.invariant.refused
@@ -245,8 +226,7 @@ pub pairs-returns-in-Err-clause-read : goal.pairs-returns-in-Err-clause-read
 pairs-returns-in-Err-clause-read t c =
     let l = c.pairs in
     pairs_keyless c.args.room c.args.bytes.now l.rest.now (option_copied l.before) l.invariant.read.0 c.in-Some.first c.in-Some.after.now c.in-Err.kind
-    l.invariant.read.1 c.in-Some.ensures
-    c.if-first-eq101.false c.in-Err.ensures.read
+    l.invariant.read.1 c.in-Some.ensures c.if-first-eq101.false c.in-Err.ensures.read
 
 pub pairs-returns-in_err-item-clause-read : goal.pairs-returns-in_err-item-clause-read
 pairs-returns-in_err-item-clause-read t c =

@@ -52,5 +52,5 @@ returns-in-Number c =
     let valued = set_value_name c.long-in-Number.result c.value_name-in-Number.result c.in-Number.value _ c.value_name-in-Number.ensures long in
     let parser = c.value_parser-in-Number.ensures in
     subst (λ k. IsArgument (rule_for c.args.name.now k c.args.times) c.value_parser-in-Number.result) (sym c.in-Number.is)
-    (set_parser c.value_name-in-Number.result c.value_parser-in-Number.result parser.given.0 (Unsigned 0 18446744073709551615) _ parser.others parser.given.1 (parser.given.2 ∙ c.value_parser.ensures)
-    valued)
+    (set_parser c.value_name-in-Number.result c.value_parser-in-Number.result parser.given.0 (Unsigned 0 18446744073709551615) _ parser.others
+    parser.given.1 (parser.given.2 ∙ c.value_parser.ensures) valued)

@@ -28,7 +28,8 @@ returns-else-zeros-gt0 g c =
     let zeros : c.round_up.result - n ≡ gap c.args.piece_length n = ap (λ m. m - n) c.round_up.ensures.value in
     let nothing = put_none c.args.pen.now (g.W.Sink.seen c.args.w.now) in
     elim c.else-zeros-gt0.branch [
-      | else-zeros-gt0-via-then-zeros-gt0+else-is_followed w ↦ rw (no_second (nat_lt 0 (gap c.args.piece_length n)) c.args.is_followed w.if-is_followed.false) nothing
+      | else-zeros-gt0-via-then-zeros-gt0+else-is_followed w ↦
+          rw (no_second (nat_lt 0 (gap c.args.piece_length n)) c.args.is_followed w.if-is_followed.false) nothing
       | else-zeros-gt0-via-else-zeros-gt0 w ↦
           let none : nat_lt 0 (c.round_up.result - n) ≡ false = grind (arith, w.if-zeros-gt0.false) in
           rw (ap (nat_lt 0) (sym zeros) ∙ none) nothing

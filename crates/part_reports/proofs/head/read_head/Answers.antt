@@ -15,7 +15,8 @@ behind_count hash more = 32 ∷ (hash ++ line_feed ∷ more)
 
 -- what is read behind a front of the text
 abbrev ReadsBehind : List ℕ → List ℕ → Option (ℕ × List ℕ) → Type 0
-ReadsBehind front text read = (n c : ℕ) (more : List ℕ) → n < 2 ^ 64 → is_ascii_digit c ≡ false → text ≡ front ++ (decimal n ++ c ∷ more) → read ≡ Some (n, c ∷ more)
+ReadsBehind front text read =
+    (n c : ℕ) (more : List ℕ) → n < 2 ^ 64 → is_ascii_digit c ≡ false → text ≡ front ++ (decimal n ++ c ∷ more) → read ≡ Some (n, c ∷ more)
 
 abbrev AreRead : ℕ → List ℕ → ℕ → List ℕ → Type 0
 AreRead number place n text = (number ≡ n) × (place ≡ text)
@@ -30,10 +31,11 @@ same_pair a b xs ys same =
     let is = same_Some one other same in
     (ap (λ x. x.0) is, ap (λ x. x.1) is)
 
-part_read : (text : List ℕ) (read : Option (ℕ × List ℕ)) → ReadsBehind (codes "part ") text read → (part count : ℕ) (hash : List ℕ) → (head : HasHead text part count hash)
-    → read ≡ Some (part + 1, behind_part count hash head.more)
+part_read : (text : List ℕ) (read : Option (ℕ × List ℕ)) → ReadsBehind (codes "part ") text read
+    → (part count : ℕ) (hash : List ℕ) → (head : HasHead text part count hash) → read ≡ Some (part + 1, behind_part count hash head.more)
 part_read text read reads part count hash head =
-    reads (part + 1) 47 (decimal count ++ behind_count hash head.more) (omega (arith, head.there, head.small)) refl (head.is ∙ line_is part count hash head.more)
+    reads (part + 1) 47 (decimal count ++ behind_count hash head.more) (omega (arith, head.there, head.small)) refl
+    (head.is ∙ line_is part count hash head.more)
 
 part_is : (text : List ℕ) (number : ℕ) (place : List ℕ) → ReadsBehind (codes "part ") text (Some (number, place))
     → (part count : ℕ) (hash : List ℕ) → (head : HasHead text part count hash) → AreRead number place (part + 1) (behind_part count hash head.more)

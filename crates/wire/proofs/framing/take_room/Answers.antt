@@ -7,4 +7,5 @@ returns-in_ok-reserve_exact-clause-grows c = omega (arith, c.in_ok-reserve_exact
 
 pub returns-in_err-reserve_exact-clause-memory : goal.returns-in_err-reserve_exact-clause-memory
 returns-in_err-reserve_exact-clause-memory c =
-    let p = err_from_is_err_and c.from_residual.result c.from_residual.ensures.1 in rw p.1 (omega (arith, c.in_err-reserve_exact.ensures.full, c.args.kept.now.ok.0))
+    let p = err_from_is_err_and c.from_residual.result c.from_residual.ensures.1 in
+    rw p.1 (omega (arith, c.in_err-reserve_exact.ensures.full, c.args.kept.now.ok.0))

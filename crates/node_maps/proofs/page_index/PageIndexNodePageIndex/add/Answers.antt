@@ -83,5 +83,5 @@ returns-in_ok-add-in-Err-clause-in_use g c =
     let w = c.add-in-Err.new.self in
     λ used. subst (AreInUse entries in_use)
     (sym (c.insert_reserved-in-Err.ensures.items ∙ ap (λ xs. insert xs c.in-Err.at w) c.make_room.ensures.items))
-    (in_use-insert entries in_use c.args.self.now.lists.items c.in-Err.at w c.in_ok-add-in-Err.ensures.some (c.add-in-Err.ensures.in_use c.new-list.ensures.in_use)
-    used)
+    (in_use-insert entries in_use c.args.self.now.lists.items c.in-Err.at w c.in_ok-add-in-Err.ensures.some
+    (c.add-in-Err.ensures.in_use c.new-list.ensures.in_use) used)

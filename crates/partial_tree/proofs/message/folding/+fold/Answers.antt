@@ -196,5 +196,5 @@ trace_row-returns-then-not-compare-clause-notes_new g t c =
     let row = c.args.row in
     let low : c.places.j < 2 ^ c.args.row.depth = omega (arith, c.places-test.true, c.count-j-end.ensures.count) in
     let at : row.node * c.count.result + c.places.j ≡ place_in row c.places.j = ap (λ k. row.node * k + c.places.j) c.count.ensures.count in
-    c.compare.ensures.notes_new (claimed_by c.args.evidence.now) (ap (claimed_by c.args.evidence.now row.layer) at ∙ c.in_ok-hashes.ensures.value c.places.j low)
-    c.places.invariant.notes_new
+    c.compare.ensures.notes_new (claimed_by c.args.evidence.now)
+    (ap (claimed_by c.args.evidence.now row.layer) at ∙ c.in_ok-hashes.ensures.value c.places.j low) c.places.invariant.notes_new

@@ -54,7 +54,8 @@ carry_marks-requires-clause-known g c =
     let both = of_one_length old.nodes.length new.shape old.root K K' M c.args.self.now c.args.grown c.self.view_is c.grown.view_is
     c.requires.length c.grown.invariant.4 in
     let wide = shifted c.height-height.result c.height-height.ensures.low ∙ ap (λ k. 2 ^ k) c.height-height.ensures.value in
-    λ j low. first-known old.nodes.length old.root K K' M c.args.self.now c.args.grown c.self.view_is both.new_is c.requires.good both.follows j (omega (arith, low, wide))
+    λ j low. first-known old.nodes.length old.root K K' M c.args.self.now c.args.grown c.self.view_is both.new_is c.requires.good both.follows j
+    (omega (arith, low, wide))
 
 pub overflow_sub-gained : goal.overflow_sub-gained
 overflow_sub-gained g c =
