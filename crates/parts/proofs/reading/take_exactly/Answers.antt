@@ -1,6 +1,7 @@
 use Rattle.std.proofs.Common.{rules, ◌≡◌, ◌+◌, ◌-◌, ◌≤◌, ◌++◌, length, take, drop, ◌∙◌, arith, subst}
 use Rattle.std.proofs.lemmas.List.{length-append, length-drop, length-take-le, take-append-le}
 use Rattle.wire.proofs.Giving.{Gave-trans}
+use Rattle.parts.specs.Exactly.{EndsBefore}
 use Rattle.parts.proofs.reading.take_exactly.Goals as goal
 
 pub returns-then-taken-room-clause-read : goal.returns-then-taken-room-clause-read
@@ -11,21 +12,24 @@ returns-then-taken-room-clause-read g c =
     let rest = drop c.min-room.result c.parts.buffer in
     let so_far = c.parts.invariant.so_far in
     let S = g.F.Source in
-    record {
-      bytes = so_far.0 ++ take taken new;
-      short = omega (
-        arith,
-        so_far.1,
-        length-append so_far.0 (take taken new),
-        length-take-le taken new e.bound,
-        c.min-room.ensures,
-        c.parts-test.true,
-        c.if-taken-room.true,
-      );
-      gave = Gave-trans (S.seen c.args.source.now) (S.seen c.parts.source) (S.seen c.fill.new.source) so_far.0
-          (take taken new) so_far.2 e.gave;
-      ended = e.ended (omega (arith, c.fill.auto.buffer, length-append new rest, length-drop c.min-room.result c.parts.buffer, c.if-taken-room.true));
-    }
+    let cut : EndsBefore (S.seen c.args.source.now) (S.seen c.fill.new.source) c.args.size =
+      record {
+        bytes = so_far.0 ++ take taken new;
+        short = omega (
+          arith,
+          so_far.1,
+          length-append so_far.0 (take taken new),
+          length-take-le taken new e.bound,
+          c.min-room.ensures,
+          c.parts-test.true,
+          c.if-taken-room.true,
+        );
+        gave = Gave-trans (S.seen c.args.source.now) (S.seen c.parts.source) (S.seen c.fill.new.source) so_far.0
+            (take taken new) so_far.2 e.gave;
+        ended = e.ended (omega (arith, c.fill.auto.buffer, length-append new rest, length-drop c.min-room.result c.parts.buffer,
+            c.if-taken-room.true));
+      } in
+    cut
 
 pub parts-preserved : goal.parts-preserved
 parts-preserved g c =
