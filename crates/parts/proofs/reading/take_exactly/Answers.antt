@@ -13,22 +13,27 @@ returns-then-taken-room-clause-read g c =
     let so_far = c.parts.invariant.so_far in
     let S = g.F.Source in
     let cut : EndsBefore (S.seen c.args.source.now) (S.seen c.fill.new.source) c.args.size =
-      record {
-        bytes = so_far.0 ++ take taken new;
-        short = omega (
-          arith,
-          so_far.1,
-          length-append so_far.0 (take taken new),
-          length-take-le taken new e.bound,
-          c.min-room.ensures,
-          c.parts-test.true,
-          c.if-taken-room.true,
-        );
-        gave = Gave-trans (S.seen c.args.source.now) (S.seen c.parts.source) (S.seen c.fill.new.source) so_far.0
-            (take taken new) so_far.2 e.gave;
-        ended = e.ended (omega (arith, c.fill.auto.buffer, length-append new rest, length-drop c.min-room.result c.parts.buffer,
-            c.if-taken-room.true));
-      } in
+    record {
+      bytes = so_far.0 ++ take taken new;
+      short = omega (
+        arith,
+        so_far.1,
+        length-append so_far.0 (take taken new),
+        length-take-le taken new e.bound,
+        c.min-room.ensures,
+        c.parts-test.true,
+        c.if-taken-room.true,
+      );
+      gave = Gave-trans (S.seen c.args.source.now) (S.seen c.parts.source) (S.seen c.fill.new.source) so_far.0
+          (take taken new) so_far.2 e.gave;
+      ended = e.ended (omega (
+        arith,
+        c.fill.auto.buffer,
+        length-append new rest,
+        length-drop c.min-room.result c.parts.buffer,
+        c.if-taken-room.true,
+      ));
+    } in
     cut
 
 pub parts-preserved : goal.parts-preserved
