@@ -78,7 +78,7 @@ def rows_of(crate, text):
     return [row for section in sections for row in promised(section, 3)]
 
 
-def test_every_clause_is_told():
+def test_every_clause_is_listed():
     """PROVED.md names each label of each public function's clauses in the section of its crate, if that names
     labels."""
     proved, lacking = contracts.text_of(TOP, "docs", "PROVED.md"), []

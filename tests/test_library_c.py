@@ -80,11 +80,11 @@ def test_symbols():
     """Both objects define exactly the calls of the header, and need the C library alone."""
     made()
     for path, flags in ((f"{LIB}/libbtcheck.so.0", ["-D"]), (f"{LIB}/libbtcheck.a", ["-g"])):
-        told = subprocess.run(["nm", *flags, "--defined-only", path], check=True, stdout=subprocess.PIPE, text=True).stdout
-        names = set(re.findall(r"^[0-9a-f]+ \w (\w+)$", told, re.M))
+        printed = subprocess.run(["nm", *flags, "--defined-only", path], check=True, stdout=subprocess.PIPE, text=True).stdout
+        names = set(re.findall(r"^[0-9a-f]+ \w (\w+)$", printed, re.M))
         assert names == declared(), (path, names ^ declared())
-    told = subprocess.run(["readelf", "-d", f"{LIB}/libbtcheck.so.0"], check=True, stdout=subprocess.PIPE, text=True).stdout
-    assert re.findall(r"NEEDED.*\[(.*)\]", told) == ["libc.so.6"] and "SONAME" in told, told
+    printed = subprocess.run(["readelf", "-d", f"{LIB}/libbtcheck.so.0"], check=True, stdout=subprocess.PIPE, text=True).stdout
+    assert re.findall(r"NEEDED.*\[(.*)\]", printed) == ["libc.so.6"] and "SONAME" in printed, printed
 
 
 def test_handles_and_memory_under_sanitizers():
@@ -122,7 +122,7 @@ def module():
     return btcheck
 
 
-def told(call, *given):
+def outcome(call, *given):
     """The status of a call, and what it gives."""
     try:
         return 0, call(*given)
@@ -137,16 +137,16 @@ def expected(cases):
 
 def test_roots():
     with module().Root() as root:
-        assert told(root.finish) == (4, None)
+        assert outcome(root.finish) == (4, None)
         for part in (CONTENT[:7], CONTENT[7:50000], CONTENT[50000:]):
             root.push(part)
         expected([
-            ("the root", told(root.finish), (0, (len(CONTENT), ROOT))),
-            ("it begins anew", told(root.finish), (4, None)),
-            ("bytes", told(root.push, SMALL), (0, None)),
-            ("another root", told(root.finish), (0, (300, root_of(SMALL)))),
+            ("the root", outcome(root.finish), (0, (len(CONTENT), ROOT))),
+            ("it begins anew", outcome(root.finish), (4, None)),
+            ("bytes", outcome(root.push, SMALL), (0, None)),
+            ("another root", outcome(root.finish), (0, (300, root_of(SMALL)))),
             ("freed", root.close(), None),
-            ("closed", told(root.push, b"a"), (1, None)),
+            ("closed", outcome(root.push, b"a"), (1, None)),
             ("freed twice", root.close(), None),
         ])
 
@@ -155,24 +155,24 @@ def test_each_refusal_of_a_message():
     other = [LEAVES[1], LEAVES[0], *LEAVES[2:]]
     with module().Session(TORRENT, layers=False) as session:
         expected([
-            ("at first", told(session.counts, 0), (0, (1, 0))),
-            ("no tree", told(session.counts, 9), (5, None)),
-            ("P1", told(session.take_block, 77, 0, BLOCKS[0]), (301, None)),
-            ("P2", told(session.take_block, 0, 0, BLOCKS[0][:-1]), (302, None)),
-            ("P3", told(session.take_block, 0, 0, BLOCKS[0]), (303, None)),
-            ("H1", told(session.take_hashes, (bytes(32), 0, 0, 8, 0), LEAVES), (201, None)),
-            ("H2", told(session.take_hashes, (ROOT, 0, 1, 4, 0), LEAVES), (202, None)),
-            ("H3", told(session.take_hashes, (ROOT, 0, 0, 8, 0), LEAVES[:3]), (203, None)),
-            ("H4", told(session.take_hashes, (ROOT, 0, 0, 8, 0), [*LEAVES[:-1], b"\1" * 32]), (204, None)),
-            ("H5", told(session.take_hashes, (ROOT, 0, 0, 2, 0), LEAVES[:2]), (205, None)),
-            ("H6", told(session.take_hashes, (ROOT, 0, 0, 8, 0), other), (206, None)),
-            ("H8", told(session.take_answer, (ROOT, 0, 0, 8, 0), LEAVES), (208, None)),
-            ("nothing changed", told(session.counts, 0), (0, (1, 0))),
-            ("stored", told(session.take_hashes, (ROOT, 0, 0, 8, 0), LEAVES), (0, 14)),
-            ("stored again", told(session.take_hashes, (ROOT, 0, 0, 8, 0), LEAVES), (0, 0)),
-            *((f"block {n}", told(session.take_block, n // 2, n % 2 * BLOCK, block), (0, (0, n))) for n, block in enumerate(BLOCKS)),
-            ("P4", told(session.take_block, 0, 0, BLOCKS[1]), (304, None)),
-            ("at last", told(session.counts, 0), (0, (15, 6))),
+            ("at first", outcome(session.counts, 0), (0, (1, 0))),
+            ("no tree", outcome(session.counts, 9), (5, None)),
+            ("P1", outcome(session.take_block, 77, 0, BLOCKS[0]), (301, None)),
+            ("P2", outcome(session.take_block, 0, 0, BLOCKS[0][:-1]), (302, None)),
+            ("P3", outcome(session.take_block, 0, 0, BLOCKS[0]), (303, None)),
+            ("H1", outcome(session.take_hashes, (bytes(32), 0, 0, 8, 0), LEAVES), (201, None)),
+            ("H2", outcome(session.take_hashes, (ROOT, 0, 1, 4, 0), LEAVES), (202, None)),
+            ("H3", outcome(session.take_hashes, (ROOT, 0, 0, 8, 0), LEAVES[:3]), (203, None)),
+            ("H4", outcome(session.take_hashes, (ROOT, 0, 0, 8, 0), [*LEAVES[:-1], b"\1" * 32]), (204, None)),
+            ("H5", outcome(session.take_hashes, (ROOT, 0, 0, 2, 0), LEAVES[:2]), (205, None)),
+            ("H6", outcome(session.take_hashes, (ROOT, 0, 0, 8, 0), other), (206, None)),
+            ("H8", outcome(session.take_answer, (ROOT, 0, 0, 8, 0), LEAVES), (208, None)),
+            ("nothing changed", outcome(session.counts, 0), (0, (1, 0))),
+            ("stored", outcome(session.take_hashes, (ROOT, 0, 0, 8, 0), LEAVES), (0, 14)),
+            ("stored again", outcome(session.take_hashes, (ROOT, 0, 0, 8, 0), LEAVES), (0, 0)),
+            *((f"block {n}", outcome(session.take_block, n // 2, n % 2 * BLOCK, block), (0, (0, n))) for n, block in enumerate(BLOCKS)),
+            ("P4", outcome(session.take_block, 0, 0, BLOCKS[1]), (304, None)),
+            ("at last", outcome(session.counts, 0), (0, (15, 6))),
         ])
 
 
@@ -180,18 +180,18 @@ def test_requests():
     ask, part = (ROOT, 0, 0, 8, 0), (ROOT, 0, 0, 2, 2)
     with module().Session(TORRENT, layers=False) as session:
         expected([
-            ("nothing to answer with", told(session.answer, ask), (6, None)),
-            ("noted", told(session.note, ask), (0, None)),
-            ("noted again", told(session.note, ask), (0, None)),
-            ("another one is not open", told(session.take_answer, (ROOT, 0, 0, 8, 1), LEAVES), (208, None)),
-            ("a refusal leaves it open", told(session.take_answer, ask, LEAVES[:3]), (203, None)),
-            ("answered", told(session.take_answer, ask, LEAVES), (0, 14)),
-            ("closed", told(session.take_answer, ask, LEAVES), (208, None)),
-            ("an answer", told(session.answer, ask), (0, LEAVES)),
-            ("with uncles", told(session.answer, part), (0, TREE.hashes(0, 0, 2, 2))),
-            ("no such range", told(session.answer, (ROOT, 0, 1, 2, 0)), (6, None)),
+            ("nothing to answer with", outcome(session.answer, ask), (6, None)),
+            ("noted", outcome(session.note, ask), (0, None)),
+            ("noted again", outcome(session.note, ask), (0, None)),
+            ("another one is not open", outcome(session.take_answer, (ROOT, 0, 0, 8, 1), LEAVES), (208, None)),
+            ("a refusal leaves it open", outcome(session.take_answer, ask, LEAVES[:3]), (203, None)),
+            ("answered", outcome(session.take_answer, ask, LEAVES), (0, 14)),
+            ("closed", outcome(session.take_answer, ask, LEAVES), (208, None)),
+            ("an answer", outcome(session.answer, ask), (0, LEAVES)),
+            ("with uncles", outcome(session.answer, part), (0, TREE.hashes(0, 0, 2, 2))),
+            ("no such range", outcome(session.answer, (ROOT, 0, 1, 2, 0)), (6, None)),
         ])
-    assert told(session.note, ask) == (1, None)
+    assert outcome(session.note, ask) == (1, None)
 
 
 def test_what_is_wanted():
@@ -199,21 +199,21 @@ def test_what_is_wanted():
     ask = (ROOT, 0, 0, 8, 2)
     with module().Session(TORRENT, layers=False) as session:
         expected([
-            ("no tree", told(session.want, 9, 0), (5, None)),
-            ("no block", told(session.want, 0, len(BLOCKS)), (5, None)),
-            ("all leaves", told(session.want, 0, 5), (0, ask)),
-            ("a leaf that is the root", told(session.want, 1, 0), (0, None)),
-            ("not to be answered", told(session.can_answer, ask), (0, False)),
-            ("of no tree", told(session.can_answer, (bytes(32), 0, 0, 8, 2)), (0, False)),
-            ("taken", told(session.take_hashes, ask, LEAVES), (0, 14)),
-            ("known", told(session.want, 0, 5), (0, None)),
-            ("to be answered", told(session.can_answer, ask), (0, True)),
-            ("not marked", told(session.is_marked, 0, 1), (0, False)),
-            ("a block", told(session.take_block, 0, BLOCK, BLOCKS[1]), (0, (0, 1))),
-            ("marked", told(session.is_marked, 0, 1), (0, True)),
-            ("another block", told(session.is_marked, 0, 2), (0, False)),
-            ("marks of no tree", told(session.is_marked, 9, 0), (5, None)),
-            ("marks of no block", told(session.is_marked, 0, len(BLOCKS)), (5, None)),
+            ("no tree", outcome(session.want, 9, 0), (5, None)),
+            ("no block", outcome(session.want, 0, len(BLOCKS)), (5, None)),
+            ("all leaves", outcome(session.want, 0, 5), (0, ask)),
+            ("a leaf that is the root", outcome(session.want, 1, 0), (0, None)),
+            ("not to be answered", outcome(session.can_answer, ask), (0, False)),
+            ("of no tree", outcome(session.can_answer, (bytes(32), 0, 0, 8, 2)), (0, False)),
+            ("taken", outcome(session.take_hashes, ask, LEAVES), (0, 14)),
+            ("known", outcome(session.want, 0, 5), (0, None)),
+            ("to be answered", outcome(session.can_answer, ask), (0, True)),
+            ("not marked", outcome(session.is_marked, 0, 1), (0, False)),
+            ("a block", outcome(session.take_block, 0, BLOCK, BLOCKS[1]), (0, (0, 1))),
+            ("marked", outcome(session.is_marked, 0, 1), (0, True)),
+            ("another block", outcome(session.is_marked, 0, 2), (0, False)),
+            ("marks of no tree", outcome(session.is_marked, 9, 0), (5, None)),
+            ("marks of no block", outcome(session.is_marked, 0, len(BLOCKS)), (5, None)),
         ])
 
 
@@ -224,11 +224,11 @@ def test_files():
     with module().Session(torrent(dictionary, {ROOT: layer(CONTENT, 2)})) as session:
         expected([
             ("the counts", (session.file_count(), session.tree_count()), (3, 2)),
-            ("all files", told(session.files), (0, [
+            ("all files", outcome(session.files), (0, [
                 ("d/e/f", len(CONTENT), 0, 0, ROOT), ("empty", 0, 3, None, None), ("x", 300, 3, 1, root_of(SMALL))])),
-            ("no file", told(session.file, 3), (5, None)),
-            ("no path", told(session.path, 3), (5, None)),
-            ("the info-hashes", told(session.info_hashes), (0, (hashlib.sha256(spelling).digest(), hashlib.sha1(spelling).digest()))),
+            ("no file", outcome(session.file, 3), (5, None)),
+            ("no path", outcome(session.path, 3), (5, None)),
+            ("the info-hashes", outcome(session.info_hashes), (0, (hashlib.sha256(spelling).digest(), hashlib.sha1(spelling).digest()))),
         ])
     with module().Session(torrent(info({"p" * 255: {"q" * 255: file(SMALL)}}))) as session:
         assert session.path(0) == "p" * 255 + "/" + "q" * 255
@@ -239,23 +239,23 @@ def test_checks_of_files():
     dictionary = info({"a": file(CONTENT), "b": file(SMALL), "c": file(b"")}, 2 * BLOCK)
     kinds, pieces = module(), -(-len(CONTENT) // (2 * BLOCK))
     with kinds.Session(torrent(dictionary, {ROOT: layer(CONTENT, 2)})) as session:
-        assert [told(kinds.Check, session, number)[0] for number in (2, 3)] == [4, 5]
+        assert [outcome(kinds.Check, session, number)[0] for number in (2, 3)] == [4, 5]
         for number, content, bad in ((0, CONTENT, None), (1, SMALL, None), (1, SMALL[:-1] + b"?", 0),
                                      *((0, CONTENT[:at] + bytes([CONTENT[at] ^ 1]) + CONTENT[at + 1:], at // (2 * BLOCK))
                                        for at in (0, 2 * BLOCK - 1, 2 * BLOCK, 4 * BLOCK, len(CONTENT) - 1))):
             for size in (1 << 20, 1000, BLOCK):
                 with kinds.Check(session, number) as check:
                     for at in range(0, len(content), size):
-                        assert told(check.finish) == (9, None)
+                        assert outcome(check.finish) == (9, None)
                         check.push(content[at:at + size])
-                    assert told(check.push, b"x") == (3, None)
+                    assert outcome(check.push, b"x") == (3, None)
                     check.push(b"")
-                    assert told(check.finish) == (0, bad), (number, bad, size)
-                    assert told(check.finish) == (9, None)
+                    assert outcome(check.finish) == (0, bad), (number, bad, size)
+                    assert outcome(check.finish) == (9, None)
         assert bad == pieces - 1
         two = kinds.Check(session, 0)
         two.push(CONTENT)
-    assert told(two.finish) == (0, None)
+    assert outcome(two.finish) == (0, None)
 
 
 def test_rooms():
@@ -264,7 +264,7 @@ def test_rooms():
         for size in range(8):
             room, length = ctypes.create_string_buffer(b"........", 8), ctypes.c_uint64()
             status = 0 if size >= 4 else 7
-            assert told(module()._path, session._handle, 0, room, size, length)[0] == status
+            assert outcome(module()._path, session._handle, 0, room, size, length)[0] == status
             assert (length.value, room.raw) == (4, b"ab/c...." if size >= 4 else b"........"), (size, room.raw)
 
 
@@ -272,23 +272,23 @@ def test_messages_of_several_blocks():
     wrong = BLOCKS[0] + b"\0" * BLOCK + BLOCKS[2]
     with module().Session(TORRENT, layers=False) as session:
         def taken(*given):
-            status, blocks = told(session.take_blocks, *given)
+            status, blocks = outcome(session.take_blocks, *given)
             return status, blocks and (blocks.file, blocks.first, [0 if one is None else one.status for one in blocks.outcomes])
         expected([
             ("P1", taken(77, 0, CONTENT), (301, None)),
             ("P2", taken(0, 0, CONTENT + b"a"), (302, None)),
             ("no bytes", taken(0, 0, b""), (302, None)),
             ("unproved", taken(0, BLOCK, CONTENT[BLOCK:]), (0, (0, 1, [303] * 5))),
-            ("hashes", told(session.take_hashes, (ROOT, 0, 0, 8, 0), LEAVES), (0, 14)),
+            ("hashes", outcome(session.take_hashes, (ROOT, 0, 0, 8, 0), LEAVES), (0, 14)),
             ("one is bad", taken(0, 0, wrong), (0, (0, 0, [0, 304, 0]))),
-            ("marks", [told(session.is_marked, 0, block)[1] for block in range(6)], [True, False, True, False, False, False]),
+            ("marks", [outcome(session.is_marked, 0, block)[1] for block in range(6)], [True, False, True, False, False, False]),
             ("all", taken(0, 0, CONTENT), (0, (0, 0, [0] * 6))),
         ])
     long = random.Random(9).randbytes(18 * BLOCK)
     with module().Session(torrent_of([("a", long)], BLOCK)) as session:
-        status, blocks = told(session.take_blocks, 0, 0, long[:16 * BLOCK])
+        status, blocks = outcome(session.take_blocks, 0, 0, long[:16 * BLOCK])
         assert (status, blocks) == (0, (0, 0, [None] * 16)), (status, blocks)
-        assert told(session.take_blocks, 0, 0, long[:17 * BLOCK]) == (302, None)
+        assert outcome(session.take_blocks, 0, 0, long[:17 * BLOCK]) == (302, None)
 
 
 def test_frames():
@@ -298,18 +298,18 @@ def test_frames():
     with module().Session(TORRENT, layers=False) as session:
         kinds = module()
         expected([
-            ("nothing", told(session.frame, b""), (0, kinds.KeepAlive())),
-            ("another id", told(session.frame, bytes([4, 0, 0])), (0, kinds.Skipped(4))),
-            ("a bad piece", told(session.frame, bytes([7, 0])), (8, None)),
-            ("a bad request", told(session.frame, bytes([21])), (8, None)),
-            ("to be rejected", told(session.frame, body(messages.request(ROOT, 0, 0, 8, 0))), (0, kinds.Rejected())),
-            ("H6", told(session.frame, body(messages.hashes(ROOT, 0, 0, 8, 0, given=LEAVES[1:2] + LEAVES[1:]))), (206, None)),
-            ("stored", told(session.frame, body(messages.hashes(ROOT, 0, 0, 8, 0, given=LEAVES))), (0, kinds.Stored(14))),
-            ("answered", told(session.frame, body(messages.request(ROOT, 0, 0, 8, 0))), (0, kinds.Answered())),
-            ("a reject", told(session.frame, b"\x17" + body(messages.request(ROOT, 0, 0, 8, 0))[1:]), (0, kinds.RejectNoted())),
-            ("P1", told(session.frame, body(messages.piece(77, 0, BLOCKS[0]))), (301, None)),
-            ("blocks", told(session.frame, body(messages.piece(0, 0, CONTENT))), (0, kinds.Blocks(0, 0, [None] * 6))),
-            ("at last", told(session.counts, 0), (0, (15, 6))),
+            ("nothing", outcome(session.frame, b""), (0, kinds.KeepAlive())),
+            ("another id", outcome(session.frame, bytes([4, 0, 0])), (0, kinds.Skipped(4))),
+            ("a bad piece", outcome(session.frame, bytes([7, 0])), (8, None)),
+            ("a bad request", outcome(session.frame, bytes([21])), (8, None)),
+            ("to be rejected", outcome(session.frame, body(messages.request(ROOT, 0, 0, 8, 0))), (0, kinds.Rejected())),
+            ("H6", outcome(session.frame, body(messages.hashes(ROOT, 0, 0, 8, 0, given=LEAVES[1:2] + LEAVES[1:]))), (206, None)),
+            ("stored", outcome(session.frame, body(messages.hashes(ROOT, 0, 0, 8, 0, given=LEAVES))), (0, kinds.Stored(14))),
+            ("answered", outcome(session.frame, body(messages.request(ROOT, 0, 0, 8, 0))), (0, kinds.Answered())),
+            ("a reject", outcome(session.frame, b"\x17" + body(messages.request(ROOT, 0, 0, 8, 0))[1:]), (0, kinds.RejectNoted())),
+            ("P1", outcome(session.frame, body(messages.piece(77, 0, BLOCKS[0]))), (301, None)),
+            ("blocks", outcome(session.frame, body(messages.piece(0, 0, CONTENT))), (0, kinds.Blocks(0, 0, [None] * 6))),
+            ("at last", outcome(session.counts, 0), (0, (15, 6))),
         ])
 
 
@@ -323,7 +323,7 @@ def test_version():
 
 def test_refused_torrents():
     for wrong, status in ((b"abc", 102), (b"de", 103), (b"d4:infod12:meta versioni1eee", 105), (TORRENT[:-1], 102)):
-        assert told(module().Session, wrong) == (status, None), wrong
+        assert outcome(module().Session, wrong) == (status, None), wrong
     assert issubclass(module().NotBencode, module().TorrentRefused)
 
 

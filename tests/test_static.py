@@ -85,9 +85,9 @@ def test_processor():
     need("make")
     for words, env, kind in [([], {}, machine()), ([], LESSER, "x86-64-v2"), (["CPU=x86-64-v3"], LESSER, "x86-64-v3"),
                              (["CPU=x86-64-v2"], {}, "x86-64-v2"), (["CPU="], {}, machine())]:
-        told = subprocess.run(["make", "-n", *words, "-o", f"build/{kind}/alone/btcheck", "build/btcheck"], cwd=TOP,
-                              env={**os.environ, "CPU": "", **env}, check=True, stdout=subprocess.PIPE, text=True).stdout
-        assert f"cmp -s build/{kind}/alone/btcheck " in told, (words, env, told)
+        printed = subprocess.run(["make", "-n", *words, "-o", f"build/{kind}/alone/btcheck", "build/btcheck"], cwd=TOP,
+                                 env={**os.environ, "CPU": "", **env}, check=True, stdout=subprocess.PIPE, text=True).stdout
+        assert f"cmp -s build/{kind}/alone/btcheck " in printed, (words, env, printed)
 
 
 # Calls of the program over the examples; OUT is a file that the call writes.
@@ -260,8 +260,8 @@ def see_library(place):
         subprocess.run(["dpkg-deb", "-x", path_of(package), f"{place}/library"], check=True)
     below = f"{place}/library/usr"
     write(f"{place}/client.c", b"""#include <btcheck.h>
-        int main(void) { btcheck_root root = BTCHECK_INIT; btcheck_status told = btcheck_root_new(&root);
-                         btcheck_root_free(&root); return told != BTCHECK_OK; }""")
+        int main(void) { btcheck_root root = BTCHECK_INIT; btcheck_status status = btcheck_root_new(&root);
+                         btcheck_root_free(&root); return status != BTCHECK_OK; }""")
     paths = {**os.environ, "PKG_CONFIG_PATH": f"{below}/lib/pkgconfig", "LD_LIBRARY_PATH": f"{below}/lib"}
     flags = subprocess.run(["pkg-config", "--cflags", "--libs", "btcheck"], env=paths, check=True, stdout=subprocess.PIPE, text=True)
     subprocess.run(["gcc", f"{place}/client.c", *flags.stdout.split(), "-o", f"{place}/client"], check=True)

@@ -17,7 +17,7 @@ static void want(unsigned got, unsigned wanted, const char *file, int line) {
   exit(1);
 }
 
-/* Reads a file, and tells how many bytes it has. */
+/* Reads a file, and returns how many bytes it has. */
 static size_t whole_file(const char *path, uint8_t *bytes, size_t room) {
   FILE *file = fopen(path, "rb");
   size_t len = file ? fread(bytes, 1, room, file) : 0;
