@@ -7,7 +7,7 @@ from terminal import on_terminal
 
 
 def reasons(place):
-    """Faults of files: the arguments, the line that says the fault, and the reason."""
+    """Faults of files: the arguments, the line that names the fault, and the reason."""
     write(f"{place}/file", b"abc")
     write(f"{place}/torrent", torrents.torrent_of([("file", b"abc")], 16384))
     write(f"{place}/record", b"")
