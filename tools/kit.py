@@ -30,13 +30,12 @@ def rlib(name):
 
 
 def command(name, *more):
-    """The command that proves a crate over the libraries below it, and compiles it. What it proves is kept in the crate's out/
-    for the next time."""
+    """The command that proves a crate over the libraries below it, and compiles it."""
     uses = crates()
     found = {it: rlib(it) if it in uses else f"{KIT}/rlibs/{it}.rlib" for it in ["std", *uses[name]]}
     places = [f"{KIT}/rlibs", *(os.path.dirname(rlib(it)) for it in below(name, uses))]
     return [f"{KIT}/bin/rattle", "build", "--crate-name", name, *(f"--extern={it}={at}" for it, at in found.items()),
-            *(f"-Ldependency={it}" for it in places), *LOGIC, "--links", f"{name}=", "--incremental", "out/incremental", *more]
+            *(f"-Ldependency={it}" for it in places), *LOGIC, "--links", f"{name}=", *more]
 
 
 def run(words, name, **how):
