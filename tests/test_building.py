@@ -21,7 +21,7 @@ while [ $# -gt 0 ]; do
 done
 echo "$name $kind $jobs" >> "$here/calls"
 if [ "$name" = "$(cat "$here/fails")" ] || [ "$kind" = x86-64-v4 ]; then echo "fn $name: not proved"; exit 1; fi
-if [ -n "$kind" ]; then echo "$kind" > "$to"; else mkdir -p "$to" && echo "$name" > "$to/format"; fi
+if [ -n "$kind" ]; then echo "$kind" > "$to"; else mkdir -p "$to" && { echo "$name"; cat "$here/differs"; } > "$to/format"; fi
 """
 LINKER = r"""#!/bin/sh
 while [ "$1" != -o ]; do shift; done
@@ -46,6 +46,7 @@ class Copy:
             os.chmod(f"{self.bin}/{name}", 0o755)
         write(f"{place}/KIT-ID", b"a kit that proves nothing")
         self.set("fails", "")
+        self.set("differs", "")
 
     def set(self, name, text):
         write(f"{self.bin}/{name}", text.encode())
@@ -101,6 +102,23 @@ def test_make_proves_what_changed():
         assert changed[0] == "pieces" and changed[-1] == "btcheck" and "opening" in changed, changed
         assert not {"benc", "hashtree", "wire", "chains", "json_lines"} & {*changed}, changed
         assert len(copy.lines(told)) > len(changed)
+
+
+def test_make_proves_over_what_was_built():
+    """A library that is built again of the same files is the same, and those above it stay; if another build of it differs,
+    they are proved again."""
+    need("make")
+    with folder() as place:
+        copy = Copy(place)
+        assert copy.make()[0] == 0
+        for differs, above in [("", False), ("another build", True)]:
+            copy.set("differs", differs)
+            shutil.rmtree(f"{copy.place}/build")
+            shutil.rmtree(f"{copy.place}/crates/pieces/out")
+            status, told, calls = copy.make()
+            assert status == 0, told
+            proved = [call.split()[0] for call in calls]
+            assert proved[0] == "pieces" and proved[-1] == "btcheck" and ("opening" in proved) == above, proved
 
 
 def test_make_for_each_processor():
